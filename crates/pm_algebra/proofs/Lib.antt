@@ -1,0 +1,6 @@
+pub mod Ring
+pub mod Signs
+pub mod Lists
+pub mod RowLaws
+pub mod ConeLaws
+pub mod Primitive

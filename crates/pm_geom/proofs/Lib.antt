@@ -1,0 +1,14 @@
+pub mod Cuts
+pub mod AddGenerator
+pub mod Generated
+pub mod Polar
+pub mod Extreme
+pub mod Reduce
+pub mod Facets
+pub mod Faces
+pub mod Apart
+pub mod ValidRows
+pub mod ShortRows
+pub mod Square
+pub mod SmallThings
+pub mod Incidence

@@ -1,0 +1,5 @@
+pub mod Cones
+pub mod Things
+pub mod Faces
+pub mod Laws
+pub mod Examples

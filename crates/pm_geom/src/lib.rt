@@ -1,0 +1,79 @@
+// Cones, polytopes and fans: what extreme rays, facet rows, orders and faces are, and the laws that the crates above rest on.
+#![tactic(auto)]
+
+ghost use Rattle.pm_geom.specs.Examples.{EmptyIsRead, HalfLineIsRead, LineIsRead, SquareIsRead};
+ghost use Rattle.pm_geom.specs.Laws.{Bipolar, CutIsGenerated, ExtremesGenerate, FaceOfFacets, FacetRowsCutOut, Farkas, GeneratedIsCut, MembershipDecided, OrderGenerates};
+ghost use Rattle.std.specs.Prelude.{ℕ};
+
+/// What an object describes: a polytope, a cone or a fan.
+#[derive(Clone, Copy, Debug, PartialEq, Eq, PartialOrd, Ord, Hash)]
+pub enum ObjectType {
+    Polytope,
+    Cone,
+    Fan,
+}
+
+/// Every generated cone is cut out by finitely many rows (Ziegler, theorem 1.3).
+pub fn law_generated_is_cut()
+    ensures { GeneratedIsCut }
+{}
+
+/// Every cone that finitely many rows cut out is generated (Ziegler, theorem 1.3).
+pub fn law_cut_is_generated()
+    ensures { CutIsGenerated }
+{}
+
+/// Whether a row is in a cone is decided.
+pub fn law_membership_decided()
+    ensures { MembershipDecided }
+{}
+
+/// A row outside of a cone has a negative product with a row that is valid on it (Farkas; Ziegler, section 1.4).
+pub fn law_farkas()
+    ensures { Farkas }
+{}
+
+/// The rows that are valid on a cone cut it out.
+pub fn law_bipolar()
+    ensures { Bipolar }
+{}
+
+/// A face is an intersection of facets, and such intersections are faces (Ziegler, section 2.2).
+pub fn law_face_of_facets()
+    ensures { FaceOfFacets }
+{}
+
+/// There is an order of the extreme rays, and with the lineality it generates the cone.
+pub fn law_extremes_generate()
+    ensures { ExtremesGenerate }
+{}
+
+/// With any order of its extreme rays, and any rows that span its lineality, a cone is generated.
+pub fn law_order_generates()
+    ensures { OrderGenerates }
+{}
+
+/// There is an order of the facet rows, and with the rows that vanish it cuts out the cone.
+pub fn law_facet_rows_cut_out()
+    ensures { FacetRowsCutOut }
+{}
+
+/// The definitions read on the unit square: its vertices and edges, a midpoint, a sum of two edges' rows, and a list that lacks a vertex.
+pub fn example_square()
+    ensures { SquareIsRead }
+{}
+
+/// The definitions read on the half line from 0, with its one ray and the far face.
+pub fn example_half_line()
+    ensures { HalfLineIsRead }
+{}
+
+/// The definitions read on the empty polytope, with any number of columns.
+pub fn example_empty()
+    ensures { (n : ℕ) → EmptyIsRead n }
+{}
+
+/// The definitions read on a line in the plane, which has a lineality and rows that vanish.
+pub fn example_line()
+    ensures { LineIsRead }
+{}

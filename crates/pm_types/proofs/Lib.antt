@@ -1,0 +1,4 @@
+pub mod Standing
+pub mod Incidence
+pub mod Square
+pub mod Frame

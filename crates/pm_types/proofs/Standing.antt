@@ -1,0 +1,82 @@
+-- Whole rows that stand for the same rows of fractions have the same directions, and products with them vanish together.
+use Rattle.pm_algebra.proofs.Ring.{ring}
+use Rattle.pm_algebra.proofs.RowLaws.{dot-same, dot-times, dot_comm, entry-times}
+use Rattle.pm_algebra.proofs.Signs.{mul_cancel, times_both}
+use Rattle.pm_algebra.specs.Numbers.{Ratio}
+use Rattle.pm_algebra.specs.Rows.{Row, Stands, dot, entry, ratio_at, times}
+use Rattle.pm_geom.specs.Faces.{ray}
+use Rattle.pm_types.specs.Right.{InOrder, StandFor}
+use Rattle.std.proofs.Common.{arith, ap, refl, sym, ◌∙◌}
+use Rattle.std.proofs.lemmas.Int.{ints}
+use Rattle.std.specs.List.{slice_index_or}
+use Rattle.std.specs.Prelude.{List, [], length, suc, zero, ℕ, ◌∷◌, ◌≡◌, ◌<◌, ◌≤◌}
+use lib.IntN.{pos, ℤ, ◌*ℤ◌}
+use lib.Signed.{◌<ℤ◌}
+use native.Mathlib.Decide.{dec_lt}
+
+entry_past : (x : Row) (i : ℕ) → length x ≤ i → entry x i ≡ pos 0
+entry_past [] i l = refl
+entry_past (a ∷ x) zero l = absurd (omega arith)
+entry_past (a ∷ x) (suc i) l = entry_past x i (omega arith)
+
+-- x d = m n and y d = k n with d > 0
+common : (x y d m k n : ℤ) → pos 0 <ℤ d → x *ℤ d ≡ m *ℤ n → y *ℤ d ≡ k *ℤ n → k *ℤ x ≡ m *ℤ y
+common x y d m k n h e f =
+    let p = simp ring at (times_both k e) in
+    let q = simp ring at (times_both m f) in
+    mul_cancel h (simp ring (omega (arith, ints)))
+
+-- two standing rows are multiples of one another
+pub stands_alike : {r : List Ratio} {x y : Row} → (s : Stands r x) → (t : Stands r y) → (i : ℕ) → t.m *ℤ entry x i ≡ s.m *ℤ entry y i
+stands_alike {r} {x} {y} s t i = elim (dec_lt i (length r)) [
+  | yes l ↦ common (entry x i) (entry y i) (ratio_at r i).den s.m t.m (ratio_at r i).num (s.denominators i l) (s.same i l) (t.same i l)
+  | no nl ↦
+      let x0 : entry x i ≡ pos 0 = entry_past x i (let c = s.cols in omega arith) in
+      let y0 : entry y i ≡ pos 0 = entry_past y i (let c = t.cols in omega arith) in
+      simp (x0, y0, ring)
+]
+
+zero_of : (p q z w : ℤ) → pos 0 <ℤ q → p *ℤ z ≡ q *ℤ w → z ≡ pos 0 → w ≡ pos 0
+zero_of p q z w h e z0 = mul_cancel h (sym e ∙ (simp (z0, ring)))
+
+-- a product vanishes with one of them where it does with the other
+pub zero_with_stands : (a : Row) {r : List Ratio} {x y : Row} → Stands r x → Stands r y → dot a x ≡ pos 0 → dot a y ≡ pos 0
+zero_with_stands a {r} {x} {y} s t h =
+    let e : t.m *ℤ dot a x ≡ s.m *ℤ dot a y = simp dot-times at (dot-same a (times t.m x) (times s.m y) (λ i. entry-times t.m x i ∙ stands_alike s t i ∙ sym (entry-times s.m y i))) in
+    zero_of t.m s.m (dot a x) (dot a y) s.positive e h
+
+pub zero_of_stands : {r : List Ratio} {x y : Row} (a : Row) → Stands r x → Stands r y → dot x a ≡ pos 0 → dot y a ≡ pos 0
+zero_of_stands {r} {x} {y} a s t h = dot_comm y a ∙ zero_with_stands a s t (dot_comm a x ∙ h)
+
+-- ---- lists, place by place
+pub no_ratios : List Ratio
+no_ratios = []
+
+abbrev pub ratios_at : List (List Ratio) → ℕ → List Ratio
+ratios_at rows j = slice_index_or rows j []
+
+pub stand_length : (rows : List (List Ratio)) (xs : List Row) → StandFor rows xs → length xs ≡ length rows
+stand_length [] [] h = refl
+stand_length [] (x ∷ xs) h = absurd h
+stand_length (r ∷ rows) [] h = absurd h
+stand_length (r ∷ rows) (x ∷ xs) h = ap suc (stand_length rows xs h.1)
+
+pub stand_at : (rows : List (List Ratio)) (xs : List Row) → StandFor rows xs → (j : ℕ) → j < length xs → Stands (ratios_at rows j) (ray xs j)
+stand_at [] [] h j l = absurd (omega arith)
+stand_at [] (x ∷ xs) h j l = absurd h
+stand_at (r ∷ rows) [] h j l = absurd h
+stand_at (r ∷ rows) (x ∷ xs) h zero l = h.0
+stand_at (r ∷ rows) (x ∷ xs) h (suc j) l = stand_at rows xs h.1 j (omega arith)
+
+pub in_order_length : (R : Row → Row → Type 0) (vs xs : List Row) → InOrder R vs xs → length xs ≡ length vs
+in_order_length R [] [] h = refl
+in_order_length R [] (x ∷ xs) h = absurd h
+in_order_length R (v ∷ vs) [] h = absurd h
+in_order_length R (v ∷ vs) (x ∷ xs) h = ap suc (in_order_length R vs xs h.1)
+
+pub in_order_at : (R : Row → Row → Type 0) (vs xs : List Row) → InOrder R vs xs → (j : ℕ) → j < length vs → R (ray vs j) (ray xs j)
+in_order_at R [] [] h j l = absurd (omega arith)
+in_order_at R [] (x ∷ xs) h j l = absurd h
+in_order_at R (v ∷ vs) [] h j l = absurd h
+in_order_at R (v ∷ vs) (x ∷ xs) h zero l = h.0
+in_order_at R (v ∷ vs) (x ∷ xs) h (suc j) l = in_order_at R vs xs h.1 j (omega arith)

@@ -1,0 +1,4 @@
+pub mod Properties
+pub mod Values
+pub mod Right
+pub mod Examples

@@ -1,0 +1,193 @@
+-- When a value of a property is right for a thing t with orders o. Each property has one line of `Right`; c is the objective of the program that a value belongs to.
+--     InSet t x      x is in the cone of a cone or polytope
+--     InLines t x      x is in the thing's lineality, for a fan the one of all its cones
+--     SameRay t v x, SameFacet t a b      they are alike up to positive scale and lineality, up to positive scale and vanishing rows
+--     StandFor rows xs      each whole row of xs is a positive multiple of the row of fractions at its place
+--     InOrder R vs xs      as many, and R holds at each place
+--     IsBasis n S xs      independent rows of n entries that lie in S and span it
+--     IsIncidence F V rows      row i holds exactly the places j with F_i.V_j = 0
+--     vanishing F v, tight V a      how many rows of F vanish on v, and on how many rows of V the row a vanishes
+--     Solves A E x      x has a non-negative product with each row of A, and the product 0 with each row of E
+--     Generates t P L, CutsOut t A E      the pair of lists describes the thing
+--     Right p v t o c      the value v of the property p is right; a value of another form is never right
+--     RightTogether t x y      two facts that are the halves of one pair (POINTS with INPUT_LINEALITY, INEQUALITIES with EQUATIONS) describe the thing
+--     RightAll facts t o      t is a thing, o are orders of it, each fact is right and each two are right together
+-- A half alone is right where the pair's line would make it so: what generates lies inside, what cuts out is valid.
+use Rattle.std.specs.Prelude.{ℕ, zero, suc, ◌+◌, ◌≡◌, ◌<◌, ◌↔◌, IsTrue, Option, None, Some, List, [], ◌∷◌, length, map}
+use Rattle.std.specs.List.{All, AllPairs, Contains}
+use Rattle.pm_algebra.specs.Numbers.{Ratio}
+use Rattle.pm_algebra.specs.Rows.{Row, entry, dot, HasCols, IsZero, Stands}
+use Rattle.pm_algebra.specs.Cones.{InCone, InSpan, IsIndependent}
+use Rattle.pm_geom.specs.Cones.{CutOut, IsValid, Vanishes, InLineality, SameModulo}
+use Rattle.pm_geom.specs.Faces.{ray}
+use Rattle.pm_geom.specs.Things.{Thing, IsThing, Orders, AreOrders}
+use Rattle.pm_geom.specs.declared.ObjectType.{ObjectType}
+use Rattle.pm_geom.specs.declared.ObjectType.TheVariants.{Polytope, Cone, Fan}
+use Rattle.pm_types.specs.Values.{PropertyValue, matrix, sets, whole, truth, counts, Fact}
+use Rattle.pm_types.specs.declared.property.PropId.{PropId}
+use Rattle.pm_types.specs.declared.property.PropId.TheVariants.{ConeAmbientDim, Points, InputLineality, Inequalities, Equations, Vertices, LinealitySpace, Facets, AffineHull, VerticesInFacets, NVertices, NFacets, Feasible, Bounded, Pointed, Centered, VertexSizes, FacetSizes, FarFace}
+use lib.IntN.{ℤ, pos}
+use lib.Signed.{◌<ℤ◌, ◌≤ℤ◌}
+
+abbrev pub InSet : Thing → Row → Type 0
+InSet t x = InCone t.generators t.lines x
+
+abbrev pub InLinesOf : ObjectType → List Row → List Row → Row → Type 0
+InLinesOf Polytope G L x = InLineality (InCone G L) x
+InLinesOf Cone G L x = InLineality (InCone G L) x
+InLinesOf Fan G L x = InSpan L x
+
+abbrev pub InLines : Thing → Row → Type 0
+InLines t x = InLinesOf t.of t.generators t.lines x
+
+abbrev pub SameRayOf : ObjectType → ℕ → List Row → List Row → Row → Row → Type 0
+SameRayOf Polytope n G L v x = SameModulo n (InCone G L) v x
+SameRayOf Cone n G L v x = SameModulo n (InCone G L) v x
+SameRayOf Fan n G L v x = SameModulo n (InSpan L) v x
+
+abbrev pub SameRay : Thing → Row → Row → Type 0
+SameRay t v x = SameRayOf t.of t.cols t.generators t.lines v x
+
+abbrev pub SameFacet : Thing → Row → Row → Type 0
+SameFacet t a b = SameModulo t.cols (IsValid t.cols t.generators t.lines) a b
+
+abbrev pub StandFor : List (List Ratio) → List Row → Type 0
+StandFor [] [] = Unit {0}
+StandFor [] (x ∷ xs) = ⊥
+StandFor (r ∷ rows) [] = ⊥
+StandFor (r ∷ rows) (x ∷ xs) = Stands r x × StandFor rows xs
+
+abbrev pub InOrder : (Row → Row → Type 0) → List Row → List Row → Type 0
+InOrder R [] [] = Unit {0}
+InOrder R [] (x ∷ xs) = ⊥
+InOrder R (v ∷ vs) [] = ⊥
+InOrder R (v ∷ vs) (x ∷ xs) = R v x × InOrder R vs xs
+
+pub record IsBasis (n : ℕ) (S : Row → Type 0) (xs : List Row) : Type 0 where
+  pub cols : HasCols n xs
+  pub inside : All S xs
+  pub independent : IsIndependent xs
+  pub spans : (x : Row) → length x ≡ n → S x → InSpan xs x
+
+abbrev pub IsIncidence : List Row → List Row → List (List ℕ) → Type 0
+IsIncidence [] V [] = Unit {0}
+IsIncidence [] V (r ∷ rows) = ⊥
+IsIncidence (f ∷ F) V [] = ⊥
+IsIncidence (f ∷ F) V (r ∷ rows) = ((j : ℕ) → Contains r j ↔ ((j < length V) × (dot f (ray V j) ≡ pos 0))) × IsIncidence F V rows
+
+abbrev pub one_if_zero : ℤ → ℕ
+one_if_zero (pos zero) = 1
+one_if_zero k = 0
+
+abbrev pub vanishing : List Row → Row → ℕ
+vanishing [] v = 0
+vanishing (f ∷ F) v = one_if_zero (dot f v) + vanishing F v
+
+abbrev pub tight : List Row → Row → ℕ
+tight [] a = 0
+tight (v ∷ V) a = one_if_zero (dot a v) + tight V a
+
+pub record Solves (A E : List Row) (x : Row) : Type 0 where
+  pub inequalities : CutOut A x
+  pub equations : All (λ e. dot e x ≡ pos 0) E
+
+pub record Generates (t : Thing) (P L : List Row) : Type 0 where
+  pub same : (x : Row) → length x ≡ t.cols → InSet t x ↔ InCone P L x
+
+-- where some solution has a positive first entry, those with no negative first entry are the polytope's cone; else that is {0}
+pub data CutsOutPolytope (n : ℕ) (S : Row → Type 0) (A E : List Row) : Type 0 where
+  proper : (x : Row) → length x ≡ n → Solves A E x → pos 0 <ℤ entry x 0 → ((y : Row) → length y ≡ n → S y ↔ (Solves A E y × (pos 0 ≤ℤ entry y 0))) → CutsOutPolytope n S A E
+  empty : ((x : Row) → length x ≡ n → Solves A E x → ¬ (pos 0 <ℤ entry x 0)) → ((y : Row) → length y ≡ n → S y ↔ IsZero y) → CutsOutPolytope n S A E
+
+abbrev pub CutsOutOf : ObjectType → ℕ → (Row → Type 0) → List Row → List Row → Type 0
+CutsOutOf Polytope n S A E = CutsOutPolytope n S A E
+CutsOutOf Cone n S A E = (x : Row) → length x ≡ n → S x ↔ Solves A E x
+CutsOutOf Fan n S A E = ⊥
+
+abbrev pub CutsOut : Thing → List Row → List Row → Type 0
+CutsOut t A E = CutsOutOf t.of t.cols (InSet t) A E
+
+pub record RowsAre (t : Thing) (S : Row → Type 0) (rows : List (List Ratio)) : Type 0 where
+  pub xs : List Row
+  pub stand : StandFor rows xs
+  pub cols : HasCols t.cols xs
+  pub each : All S xs
+
+pub record RowsAreInOrder (t : Thing) (R : Row → Row → Type 0) (vs : List Row) (rows : List (List Ratio)) : Type 0 where
+  pub xs : List Row
+  pub stand : StandFor rows xs
+  pub cols : HasCols t.cols xs
+  pub order : InOrder R vs xs
+
+pub record RowsAreBasis (t : Thing) (S : Row → Type 0) (rows : List (List Ratio)) : Type 0 where
+  pub xs : List Row
+  pub stand : StandFor rows xs
+  pub basis : IsBasis t.cols S xs
+
+pub record AreFarPlaces (V : List Row) (ks : List ℤ) : Type 0 where
+  pub js : List ℕ
+  pub places : ks ≡ map pos js
+  pub ascending : AllPairs (λ i j. i < j) js
+  pub far : (j : ℕ) → Contains js j ↔ ((j < length V) × (entry (ray V j) 0 ≡ pos 0))
+
+-- (1, 0, .., 0) is in the cone, and each valid row that does not vanish is positive there
+pub record IsCentered (t : Thing) : Type 0 where
+  pub inside : (e : Row) → length e ≡ t.cols → entry e 0 ≡ pos 1 → ((i : ℕ) → entry e (suc i) ≡ pos 0) → InSet t e
+  pub positive : (a : Row) → IsValid t.cols t.generators t.lines a → ¬ (Vanishes t.cols t.generators t.lines a) → pos 0 <ℤ entry a 0
+
+abbrev pub Right : PropId → PropertyValue → Thing → Orders → List Ratio → Type 0
+Right ConeAmbientDim (whole k) t o c = k ≡ pos t.cols
+Right Points (matrix n rows) t o c = RowsAre t (InSet t) rows
+Right InputLineality (matrix n rows) t o c = RowsAre t (InLines t) rows
+Right Inequalities (matrix n rows) t o c = RowsAre t (IsValid t.cols t.generators t.lines) rows
+Right Equations (matrix n rows) t o c = RowsAre t (Vanishes t.cols t.generators t.lines) rows
+Right Vertices (matrix n rows) t o c = RowsAreInOrder t (SameRay t) o.rays rows
+Right LinealitySpace (matrix n rows) t o c = RowsAreBasis t (InLines t) rows
+Right Facets (matrix n rows) t o c = RowsAreInOrder t (SameFacet t) o.facets rows
+Right AffineHull (matrix n rows) t o c = RowsAreBasis t (Vanishes t.cols t.generators t.lines) rows
+Right VerticesInFacets (sets rows n) t o c = (n ≡ length o.rays) × IsIncidence o.facets o.rays rows
+Right NVertices (whole k) t o c = (p : Orders) → AreOrders t p → k ≡ pos (length p.rays)
+Right NFacets (whole k) t o c = (p : Orders) → AreOrders t p → k ≡ pos (length p.facets)
+Right Feasible (truth b) t o c = IsTrue b ↔ ((x : Row) × (length x ≡ t.cols) × InSet t x × ¬ (IsZero x))
+Right Bounded (truth b) t o c = IsTrue b ↔ ((x : Row) → length x ≡ t.cols → InSet t x → entry x 0 ≡ pos 0 → IsZero x)
+Right Pointed (truth b) t o c = IsTrue b ↔ ((x : Row) → length x ≡ t.cols → InLines t x → IsZero x)
+Right Centered (truth b) t o c = IsTrue b ↔ IsCentered t
+Right VertexSizes (counts ks) t o c = (p : Orders) → AreOrders t p → ks ≡ map (λ v. pos (vanishing p.facets v)) o.rays
+Right FacetSizes (counts ks) t o c = (p : Orders) → AreOrders t p → ks ≡ map (λ a. pos (tight p.rays a)) o.facets
+Right FarFace (counts ks) t o c = AreFarPlaces o.rays ks
+Right p v t o c = ⊥
+
+abbrev pub objective_of : Thing → Option ℕ → List Ratio
+objective_of t None = []
+objective_of t (Some s) = t.objective s
+
+abbrev pub RightFact : Fact → Thing → Orders → Type 0
+RightFact f t o = Right f.property f.value t o (objective_of t f.place)
+
+pub record PairGenerates (t : Thing) (points lines : List (List Ratio)) : Type 0 where
+  pub xs : List Row
+  pub ls : List Row
+  pub points_stand : StandFor points xs
+  pub lines_stand : StandFor lines ls
+  pub generates : Generates t xs ls
+
+pub record PairCutsOut (t : Thing) (inequalities equations : List (List Ratio)) : Type 0 where
+  pub as' : List Row
+  pub es : List Row
+  pub inequalities_stand : StandFor inequalities as'
+  pub equations_stand : StandFor equations es
+  pub cuts_out : CutsOut t as' es
+
+abbrev pub RightPair : PropId → PropertyValue → PropId → PropertyValue → Thing → Type 0
+RightPair Points (matrix n rows) InputLineality (matrix m lines) t = PairGenerates t rows lines
+RightPair Inequalities (matrix n rows) Equations (matrix m equations) t = PairCutsOut t rows equations
+RightPair p v q w t = Unit {0}
+
+abbrev pub RightTogether : Thing → Fact → Fact → Type 0
+RightTogether t x y = RightPair x.property x.value y.property y.value t
+
+pub record RightAll (facts : List Fact) (t : Thing) (o : Orders) : Type 0 where
+  pub thing : IsThing t
+  pub orders : AreOrders t o
+  pub each : (f : Fact) → Contains facts f → RightFact f t o
+  pub together : (x y : Fact) → Contains facts x → Contains facts y → RightTogether t x y
