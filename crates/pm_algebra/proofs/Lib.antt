@@ -4,3 +4,4 @@ pub mod Lists
 pub mod RowLaws
 pub mod ConeLaws
 pub mod Primitive
+pub mod Filters

@@ -12,3 +12,4 @@ pub mod ShortRows
 pub mod Square
 pub mod SmallThings
 pub mod Incidence
+pub mod Refusals

@@ -36,7 +36,7 @@ vertex_needed v (there (there (there (there i)))) = elim i [ ]
 vertex_order : IsOrder 3 (InCone square []) square
 vertex_order = order_of_apart 3 square [] square_cols tt (triple 1 0 0) tt tt vertex_needed
 
-midpoint : ¬ (IsExtremeRay 3 square [] (triple 2 1 1))
+pub midpoint : ¬ (IsExtremeRay 3 square [] (triple 2 1 1))
 midpoint e =
     let t = (e.summands (pos 1) (triple 1 0 0) (triple 1 1 1) (lt_z_yes tt) refl refl (in_generator here) (in_generator (there (there (there here)))) (at_three _ _ _ _ _ _ refl refl refl)).0 in
     apart (triple 2 1 1 ∷ []) [] (negsuc 0 ∷ pos 1 ∷ pos 1 ∷ []) (triple 1 0 0) tt tt tt (on_row 3 square [] square_cols tt (triple 1 0 0) tt tt (triple 2 1 1) (triple 1 0 0) t)

@@ -58,3 +58,14 @@ pub record LineIsRead : Type 0 where
   pub rays : IsOrder 3 (InCone (triple 1 0 0 ∷ []) (triple 0 1 0 ∷ [])) (triple 1 0 0 ∷ [])
   pub facets : IsOrder 3 (IsValid 3 (triple 1 0 0 ∷ []) (triple 0 1 0 ∷ [])) (triple 1 0 0 ∷ [])
   pub vanish : (a : Row) → length a ≡ 3 → Vanishes 3 (triple 1 0 0 ∷ []) (triple 0 1 0 ∷ []) a ↔ InSpan (triple 0 0 1 ∷ []) a
+
+abbrev pub segment : List Row
+segment = pair 1 0 ∷ pair 1 2 ∷ []
+
+-- no order has one extreme ray twice, or a row that is not extreme; the midpoint of a segment is no extreme ray, though only its double is a sum of two other whole rows; a ray without a vertex, and a cone with a negative first entry, are over no polytope
+pub record IsRefused : Type 0 where
+  pub twice : ¬ (IsOrder 3 (InCone square []) (triple 2 0 0 ∷ square))
+  pub with_midpoint : ¬ (IsOrder 3 (InCone square []) (triple 2 1 1 ∷ square))
+  pub segment_midpoint : ¬ (IsExtremeRay 2 segment [] (pair 1 1))
+  pub no_vertex : ¬ (IsPolytopeThing 2 (pair 0 1 ∷ []) [])
+  pub behind : ¬ (IsPolytopeThing 2 (pair 1 0 ∷ (negsuc 0 ∷ pos 1 ∷ []) ∷ []) [])

@@ -1,7 +1,7 @@
 // Cones, polytopes and fans: what extreme rays, facet rows, orders and faces are, and the laws that the crates above rest on.
 #![tactic(auto)]
 
-ghost use Rattle.pm_geom.specs.Examples.{EmptyIsRead, HalfLineIsRead, LineIsRead, SquareIsRead};
+ghost use Rattle.pm_geom.specs.Examples.{EmptyIsRead, HalfLineIsRead, IsRefused, LineIsRead, SquareIsRead};
 ghost use Rattle.pm_geom.specs.Laws.{Bipolar, CutIsGenerated, ExtremesGenerate, FaceOfFacets, FacetRowsCutOut, Farkas, GeneratedIsCut, MembershipDecided, OrderGenerates};
 ghost use Rattle.std.specs.Prelude.{ℕ};
 
@@ -76,4 +76,9 @@ pub fn example_empty()
 /// The definitions read on a line in the plane, which has a lineality and rows that vanish.
 pub fn example_line()
     ensures { LineIsRead }
+{}
+
+/// What the definitions refuse: lists that are no order, a row that is not extreme, cones that are over no polytope.
+pub fn example_refusals()
+    ensures { IsRefused }
 {}

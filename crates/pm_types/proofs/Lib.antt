@@ -1,4 +1,9 @@
+pub mod Members
+pub mod NameLemmas
+pub mod NameBytes
 pub mod Standing
 pub mod Incidence
 pub mod Square
 pub mod Frame
+pub mod Numbers
+pub mod Kept

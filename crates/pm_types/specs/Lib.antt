@@ -1,4 +1,10 @@
 pub mod Properties
+pub mod Names
+pub mod Sets
+pub mod Weights
+pub mod Padded
+pub mod Kinds
 pub mod Values
 pub mod Right
 pub mod Examples
+pub mod Runs

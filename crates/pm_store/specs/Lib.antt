@@ -1,0 +1,3 @@
+pub mod MemSink
+pub mod MemSource
+pub mod Outside

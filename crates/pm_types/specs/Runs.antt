@@ -1,0 +1,92 @@
+-- What a client of a kind may read and answer, where an object holds facts. `sub` is the subobject that is asked, if one is.
+--     place_of sub p      where a property stands: in the subobject where it is one of linear programs, else in the object itself
+--     IsPlaced f      the fact stands where its property may stand
+--     Holds facts sub p v      the value v of p is held; seen from the subobject
+--     is_named facts sub p      some value of p is held
+--     shown kind sub facts      what the client may read: the values of its sources
+--     missing sub held answer      what an answer has of properties that are not held
+--     Meets kind t o      what the kind asks for is so of the thing
+--     Keeps kind o p      the orders p are the orders o, but where the kind is fresh in them
+--     MayAnswer of n kind sub read answer      the answer has exactly the targets, and is right wherever what was read is: for every thing of the type with n columns, and all orders, for which what was read is right and the kind's conditions hold, there are orders, the same unless the kind is fresh in them, for which both together are right
+--     MayRun kind sub n held      its sources are held, what it asks for is held so, n is held, and nothing that is held has a tag in which the kind is fresh
+use Rattle.std.specs.Prelude.{ℕ, ◌≡◌, ◌&&◌, Bool, true, false, IsTrue, not, nat_eq, if◌then◌else◌, Option, None, Some, List, [], ◌++◌, filter, map}
+use Rattle.std.specs.List.{All, Contains, list_any}
+use Rattle.pm_geom.specs.Things.{Thing, Orders}
+use Rattle.pm_geom.specs.declared.ObjectType.{ObjectType}
+use Rattle.pm_types.specs.Kinds.{IsFresh}
+use Rattle.pm_types.specs.Properties.{number, has_program, rays_tag, facets_tag, generators_tag, half_spaces_tag}
+use Rattle.pm_types.specs.Right.{Right, RightAll}
+use Rattle.pm_types.specs.Sets.{has, members}
+use Rattle.pm_types.specs.Values.{Fact, PropertyValue, whole, truth}
+use Rattle.pm_types.specs.declared.kind.Kind.{Kind}
+use Rattle.pm_types.specs.declared.property.PropId.{PropId}
+use Rattle.pm_types.specs.declared.property.PropId.TheVariants.{ConeAmbientDim}
+use lib.IntN.{pos}
+
+abbrev pub place_of : Option ℕ → PropId → Option ℕ
+place_of sub p = if has_program p then sub else None
+
+pub record IsPlaced (f : Fact) : Type 0 where
+  pub alone : has_program f.property ≡ false → f.place ≡ None
+
+abbrev pub same_property : PropId → PropId → Bool
+same_property p q = nat_eq (number p) (number q)
+
+abbrev pub same_place : Option ℕ → Option ℕ → Bool
+same_place None None = true
+same_place None (Some s) = false
+same_place (Some s) None = false
+same_place (Some s) (Some r) = nat_eq s r
+
+abbrev pub stands_at : Option ℕ → PropId → Fact → Bool
+stands_at sub p f = same_property p f.property && same_place f.place (place_of sub p)
+
+abbrev pub Holds : List Fact → Option ℕ → PropId → PropertyValue → Type 0
+Holds facts sub p v = Contains facts (record { place = place_of sub p; property = p; value = v })
+
+abbrev pub is_named : List Fact → Option ℕ → PropId → Bool
+is_named facts sub p = list_any (stands_at sub p) facts
+
+abbrev pub shown : Kind → Option ℕ → List Fact → List Fact
+shown kind sub facts = filter (λ f. has kind.sources f.property && same_place f.place (place_of sub f.property)) facts
+
+abbrev pub missing : Option ℕ → List Fact → List Fact → List Fact
+missing sub held answer = filter (λ f. not (is_named held sub f.property)) answer
+
+pub record Meets (kind : Kind) (t : Thing) (o : Orders) : Type 0 where
+  pub must : (p : PropId) → IsTrue (has kind.must p) → Right p (truth true) t o []
+  pub must_not : (p : PropId) → IsTrue (has kind.must_not p) → Right p (truth false) t o []
+
+pub record Keeps (kind : Kind) (o p : Orders) : Type 0 where
+  pub rays : ¬ (IsFresh rays_tag kind) → p.rays ≡ o.rays
+  pub facets : ¬ (IsFresh facets_tag kind) → p.facets ≡ o.facets
+  pub cones : ¬ (IsFresh facets_tag kind) → p.cones ≡ o.cones
+
+pub record RightAnswer (kind : Kind) (read answer : List Fact) (t : Thing) (o : Orders) : Type 0 where
+  pub orders : Orders
+  pub right : RightAll (read ++ answer) t orders
+  pub keeps : Keeps kind o orders
+
+pub record MayAnswer (of : ObjectType) (n : ℕ) (kind : Kind) (sub : Option ℕ) (read answer : List Fact) : Type 0 where
+  pub targets : map (λ f. f.property) answer ≡ members kind.targets
+  pub places : All (λ f. f.place ≡ place_of sub f.property) answer
+  pub sound : (t : Thing) (o : Orders) → t.of ≡ of → t.cols ≡ n → RightAll read t o → Meets kind t o → RightAnswer kind read answer t o
+
+pub record IsFree (tag : PropId → Bool) (kind : Kind) (held : List Fact) : Type 0 where
+  pub none : IsFresh tag kind → (f : Fact) → Contains held f → tag f.property ≡ false
+
+pub record MayRun (kind : Kind) (sub : Option ℕ) (n : ℕ) (held : List Fact) : Type 0 where
+  pub placed : (f : Fact) → Contains held f → IsPlaced f
+  pub ambient : Holds held sub ConeAmbientDim (whole (pos n))
+  pub sources : (p : PropId) → IsTrue (has kind.sources p) → IsTrue (is_named held sub p)
+  pub must : (p : PropId) → IsTrue (has kind.must p) → Holds held sub p (truth true)
+  pub must_not : (p : PropId) → IsTrue (has kind.must_not p) → Holds held sub p (truth false)
+  pub rays : IsFree rays_tag kind held
+  pub facets : IsFree facets_tag kind held
+  pub generators : IsFree generators_tag kind held
+  pub half_spaces : IsFree half_spaces_tag kind held
+
+-- where the held facts are right, so are they with what a client may answer there, in orders that it may choose
+abbrev pub RightAnswerIsKept : Type 0
+RightAnswerIsKept = (of : ObjectType) (n : ℕ) (kind : Kind) (sub : Option ℕ) (held answer : List Fact) → MayRun kind sub n held → MayAnswer of n kind sub (shown kind sub held) answer →
+    (t : Thing) (o : Orders) → t.of ≡ of → RightAll held t o → RightAnswer kind held (missing sub held answer) t o
