@@ -5,3 +5,4 @@ pub mod RowLaws
 pub mod ConeLaws
 pub mod Primitive
 pub mod Filters
+pub mod Divisors

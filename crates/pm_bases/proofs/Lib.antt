@@ -1,0 +1,6 @@
+pub mod Spans
+pub mod Columns
+pub mod Unique
+pub mod Rank
+pub mod Examples
+pub mod Insert

@@ -1,0 +1,6 @@
+use Rattle.std.proofs.Common.{◌≡◌}
+use Rattle.pm_bits.specs.Words.{EachWord}
+use Rattle.pm_bits.proofs.words.compare.Given as goal
+
+abbrev pub invariant-loop-i : goal.invariant-loop-i
+invariant-loop-i l = EachWord (λ x y. x ≡ y) 0 l.i l.a l.b

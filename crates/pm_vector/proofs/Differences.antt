@@ -1,0 +1,69 @@
+-- The differences so far.
+use Rattle.pm_algebra.proofs.Ring.{ring}
+use Rattle.pm_algebra.proofs.RowLaws.{entry-difference, length-difference, row_equal}
+use Rattle.pm_algebra.specs.Numbers.{InRange}
+use Rattle.pm_algebra.specs.Rows.{Row, difference, entry}
+use Rattle.pm_vector.specs.Differences.{DifferenceStays, EntryStays}
+use Rattle.std.proofs.Common.{arith, below_more, inl, inr, length, set, sym, ◌+◌, ◌<◌, ◌≡◌, ◌≢◌, ◌≤◌, ◌∙◌, ℕ, get_or-set_same, get_or-set_other}
+use Rattle.std.proofs.lemmas.Bool.{cases_lt}
+use Rattle.std.proofs.lemmas.Int.{ints}
+use Rattle.std.proofs.lemmas.List.{get_or_default, get_or_past}
+use Rattle.std.specs.Prelude.{All}
+use lib.IntN.{pos, ℤ, ◌*ℤ◌, ◌-ℤ◌}
+
+-- the first n entries stay in the range
+pub record FirstStay (p : ℤ) (v : Row) (q : ℤ) (w : Row) (n : ℕ) : Type 0 where
+  pub at_each : (i : ℕ) → i < n → EntryStays p (entry v i) q (entry w i)
+
+-- the first n entries are differences, and the others as they were
+pub record PartlyWritten (p : ℤ) (v : Row) (q : ℤ) (w : Row) (n : ℕ) (new : Row) : Type 0 where
+  pub written : (i : ℕ) → i < n → entry new i ≡ p *ℤ entry v i -ℤ q *ℤ entry w i
+  pub left : (i : ℕ) → n ≤ i → entry new i ≡ entry v i
+
+module _ (p : ℤ) (v : Row) (q : ℤ) (w : Row) where
+  zeros_stay : EntryStays p (pos 0) q (pos 0)
+  zeros_stay = record {
+    first = simp ring (omega (arith, ints));
+    second = simp ring (omega (arith, ints));
+    difference = simp ring (omega (arith, ints));
+  }
+
+  pub DifferenceStays-from_first : (n : ℕ) → length v ≡ n → length w ≡ n → FirstStay p v q w n → DifferenceStays p v q w
+  DifferenceStays-from_first n all_v all_w s = record {
+    at_each = λ i. elim (cases_lt i n) [
+      | inl below ↦ s.at_each i below
+      | inr past ↦
+          let none_v : entry v i ≡ pos 0 = get_or_past v i (pos 0) (omega arith) in
+          let none_w : entry w i ≡ pos 0 = get_or_past w i (pos 0) (omega arith) in
+          rw (none_v, none_w) zeros_stay
+    ];
+  }
+
+  pub PartlyWritten-more : (i : ℕ) (new : Row) (z : ℤ) → i < length new → PartlyWritten p v q w i new → z ≡ p *ℤ entry new i -ℤ q *ℤ entry w i → PartlyWritten p v q w (i + 1) (set new i z)
+  PartlyWritten-more i new z within s e =
+      let here : z ≡ p *ℤ entry v i -ℤ q *ℤ entry w i = rw (← s.left i (omega arith)) e in
+      record {
+        written = below_more _ i
+            (λ k below. let other : k ≢ i = omega arith in rw get_or-set_other (s.written k below))
+            (rw get_or-set_same here);
+        left = λ k above. let other : k ≢ i = omega arith in rw get_or-set_other (s.left k (omega arith));
+      }
+
+  pub written_all : (n : ℕ) (new : Row) → length new ≡ n → length v ≡ n → length w ≡ n → PartlyWritten p v q w n new → new ≡ difference p v q w
+  written_all n new all_new all_v all_w s =
+      row_equal new (difference p v q w) (all_new ∙ sym (length-difference n p v q w all_v all_w))
+      (record {
+        at = λ i. elim (cases_lt i n) [
+          | inl below ↦ s.written i below ∙ sym (entry-difference p v q w i)
+          | inr past ↦
+              let none_v : entry v i ≡ pos 0 = get_or_past v i (pos 0) (omega arith) in
+              let none_w : entry w i ≡ pos 0 = get_or_past w i (pos 0) (omega arith) in
+              let none : entry new i ≡ pos 0 = get_or_past new i (pos 0) (omega arith) in
+              simp (entry-difference, none, none_v, none_w, ring)
+        ];
+      })
+
+  pub All-written : (n : ℕ) (new : Row) → length new ≡ n → PartlyWritten p v q w n new → DifferenceStays p v q w → All InRange new
+  All-written n new all_new s stays k d below =
+      let e = s.written k (omega arith) in
+      rw (get_or_default new k d (pos 0) below, e) (stays.at_each k).difference

@@ -1,0 +1,5 @@
+pub mod Differences
+pub mod Kept
+pub mod Opposites
+pub mod Products
+pub mod QuotientLaws

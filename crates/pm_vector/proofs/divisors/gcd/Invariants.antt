@@ -1,0 +1,10 @@
+-- What is a greatest common divisor of x and y is one of a and b.
+use Rattle.pm_vector.proofs.divisors.gcd.Given as goal
+use Rattle.std.proofs.Common.{ℕ}
+use Rattle.std.specs.Int.{IsGcd}
+
+abbrev pub invariant-loop-y : goal.invariant-loop-y
+invariant-loop-y l = (g : ℕ) → IsGcd l.x l.y g → IsGcd l.fn.a l.fn.b g
+
+abbrev pub decreases-loop-y : goal.decreases-loop-y
+decreases-loop-y l = l.y

@@ -1,0 +1,11 @@
+-- A row divided by its greatest common divisor.
+--     IsQuotientByGcd v w      v is g times w, for the greatest common divisor g of the entries of v
+use Rattle.pm_algebra.specs.Divisors.{IsGcdOf}
+use Rattle.pm_algebra.specs.Rows.{Row, times}
+use Rattle.std.specs.Prelude.{ℕ, ◌≡◌}
+use lib.IntN.{pos}
+
+pub record IsQuotientByGcd (v w : Row) : Type 0 where
+  pub g : ℕ
+  pub divisor : IsGcdOf v g
+  pub multiple : v ≡ times (pos g) w

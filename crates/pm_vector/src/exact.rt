@@ -1,0 +1,49 @@
+// Exact work on whole numbers of the range.
+
+ghost use Rattle.pm_algebra.specs.Numbers.{InRange};
+ghost use Rattle.std.specs.Prelude.{All, IfOk, IsTrue, OnErr, ◌*ℤ◌, ◌+ℤ◌, ◌-ℤ◌, ◌≡◌, ◌↔◌};
+
+/// A number left the range from -(2^127 - 1) to 2^127 - 1.
+#[derive(Clone, Copy, Debug, PartialEq, Eq)]
+pub struct Wide;
+
+/// Whether a number is in the range: `i128::MIN` alone is not.
+pub fn is_in_range(a: i128) -> bool
+    ensures { IsTrue result ↔ InRange a }
+{
+    a != i128::MIN
+}
+
+/// Whether each entry is in the range.
+pub fn all_in_range(entries: &[i128]) -> bool
+    ensures { IsTrue result ↔ All InRange entries.now }
+{
+    entries.iter().all(|x| is_in_range(*x))
+}
+
+/// The product. `Wide` exactly where it is outside of the range.
+pub fn times(a: i128, b: i128) -> Result<i128, Wide>
+    ensures value { IfOk result (λ r. r ≡ a *ℤ b) }
+    ensures in_range { IfOk result InRange }
+    ensures wide { OnErr result (InRange (a *ℤ b) → ⊥) }
+{
+    a.checked_mul(b).filter(|r| is_in_range(*r)).ok_or(Wide)
+}
+
+/// The sum. `Wide` exactly where it is outside of the range.
+pub fn plus(a: i128, b: i128) -> Result<i128, Wide>
+    ensures value { IfOk result (λ r. r ≡ a +ℤ b) }
+    ensures in_range { IfOk result InRange }
+    ensures wide { OnErr result (InRange (a +ℤ b) → ⊥) }
+{
+    a.checked_add(b).filter(|r| is_in_range(*r)).ok_or(Wide)
+}
+
+/// The difference a - b. `Wide` exactly where it is outside of the range.
+pub fn minus(a: i128, b: i128) -> Result<i128, Wide>
+    ensures value { IfOk result (λ r. r ≡ a -ℤ b) }
+    ensures in_range { IfOk result InRange }
+    ensures wide { OnErr result (InRange (a -ℤ b) → ⊥) }
+{
+    a.checked_sub(b).filter(|r| is_in_range(*r)).ok_or(Wide)
+}
