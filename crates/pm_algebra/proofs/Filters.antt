@@ -1,6 +1,6 @@
 -- Elements of filtered and mapped lists, and tests on some element.
 use Rattle.pm_algebra.proofs.Lists.{Among, here, there}
-use Rattle.std.proofs.Common.{ap, cond, false, filter, refl, subst, sym, true, true≢false, ◌∙◌}
+use Rattle.std.proofs.Common.{cond, false, filter, refl, subst, sym, true, true≢false}
 use Rattle.std.specs.List.{list_any}
 use Rattle.std.specs.Prelude.{Bool, List, [], map, ◌||◌, ◌≡◌, ◌∷◌}
 

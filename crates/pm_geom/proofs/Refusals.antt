@@ -12,7 +12,7 @@ use Rattle.pm_geom.specs.Examples.{IsRefused, pair, segment, square, triple}
 use Rattle.pm_geom.specs.Things.{IsPolytopeThing}
 use Rattle.std.proofs.Common.{arith, inl, inr, refl}
 use Rattle.std.proofs.lemmas.Int.{ints}
-use Rattle.std.specs.Prelude.{List, [], suc, zero, ℕ, ◌∷◌, ◌≡◌}
+use Rattle.std.specs.Prelude.{[], suc, zero, ℕ, ◌∷◌, ◌≡◌}
 use lib.IntN.{negsuc, pos}
 use lib.Signed.{lt_z_yes, ◌≤ℤ◌}
 

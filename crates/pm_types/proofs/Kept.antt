@@ -1,23 +1,23 @@
 -- A right answer leaves all that is held right: where a kind may run on facts, what it may answer can be added to them.
-use Rattle.pm_algebra.proofs.Filters.{among_filter, among_map, any_from, any_to, filter_among, map_among}
-use Rattle.pm_algebra.proofs.Lists.{Among, Contains_among, among_All, among_Contains, among_append, among_append_left, among_append_right, here, there}
+use Rattle.pm_algebra.proofs.Filters.{among_filter, among_map, any_from, any_to, filter_among}
+use Rattle.pm_algebra.proofs.Lists.{Among, Contains_among, among_Contains, among_append, among_append_left, among_append_right, here, there}
 use Rattle.pm_geom.specs.Things.{Orders, Thing}
 use Rattle.pm_geom.specs.declared.ObjectType.{ObjectType}
-use Rattle.pm_types.proofs.Frame.{Agrees, right_in_orders}
+use Rattle.pm_types.proofs.Frame.{right_in_orders}
 use Rattle.pm_types.proofs.Numbers.{number_is, property_at-number}
 use Rattle.pm_types.specs.Kinds.{IsFresh}
 use Rattle.pm_types.specs.Properties.{facets_tag, generators_tag, half_spaces_tag, has_program, number, rays_tag, every_property}
 use Rattle.pm_types.specs.Right.{Right, RightAll, RightFact, RightPair, RightTogether, objective_of}
-use Rattle.pm_types.specs.Runs.{Holds, IsFree, IsPlaced, Keeps, MayAnswer, MayRun, Meets, RightAnswer, is_named, missing, place_of, same_place, same_property, shown, stands_at}
-use Rattle.pm_types.specs.Sets.{has, members}
-use Rattle.pm_types.specs.Values.{Fact, PropertyValue, counts, edges, extended, lattice, matrix, sets, truth, whole}
+use Rattle.pm_types.specs.Runs.{Holds, IsFree, MayAnswer, MayRun, Meets, RightAnswer, is_named, missing, place_of, same_place, same_property, shown, stands_at}
+use Rattle.pm_types.specs.Sets.{has}
+use Rattle.pm_types.specs.Values.{Fact, PropertyValue, matrix, truth}
 use Rattle.pm_types.specs.declared.kind.Kind.{Kind}
 use Rattle.pm_types.specs.declared.property.PropId.{PropId}
-use Rattle.pm_types.specs.declared.property.PropId.TheVariants.{ConeAmbientDim, Points, InputLineality, Inequalities, Equations, Feasible, Bounded, Pointed, Centered}
+use Rattle.pm_types.specs.declared.property.PropId.TheVariants.{Points, InputLineality, Inequalities, Equations, Feasible, Bounded, Pointed, Centered}
 use Rattle.std.proofs.Common.{ap, arith, false, inl, inr, refl, subst, sym, true, true≢false, ◌∙◌}
 use Rattle.std.specs.List.{Contains, list_any}
 use Rattle.std.specs.Option.{is_some}
-use Rattle.std.specs.Prelude.{Bool, List, None, Option, Some, [], if◌then◌else◌, length, map, nat_eq, not, slice_get, suc, zero, ℕ, ◌&&◌, ◌++◌, ◌∷◌, ◌≡◌, ◌⊎◌}
+use Rattle.std.specs.Prelude.{Bool, List, None, Option, Some, [], if◌then◌else◌, nat_eq, not, slice_get, suc, zero, ℕ, ◌&&◌, ◌++◌, ◌∷◌, ◌≡◌, ◌⊎◌}
 use Rattle.pm_algebra.specs.Numbers.{Ratio}
 use Rattle.std.proofs.lemmas.Int.{ints}
 use lib.IntN.{pos}
@@ -100,10 +100,13 @@ among_every p = slice_among every_property (number p) (property_at-number p)
 decide_fresh : (tag : PropId → Bool) (kind : Kind) (p : PropId) → has kind.targets p ≡ true → tag p ≡ true → IsFresh tag kind ⊎ ((s : PropId) × (has kind.sources s ≡ true) × (tag s ≡ true))
 decide_fresh tag kind p h e = elim (decide (list_any (λ q. has kind.sources q && tag q) every_property)) [
   | inl y ↦ inr (let w = any_to (λ q. has kind.sources q && tag q) every_property y in let b = both_true (has kind.sources w.0) (tag w.0) w.2 in (w.0, b.0, b.1))
-  | inr n ↦ inl (record { target = (p, h, e); sources = λ q hq. elim (decide (tag q)) [
-    | inr f ↦ f
-    | inl y ↦ absurd (true≢false (sym (any_from (λ r. has kind.sources r && tag r) (among_every q) (and_true (has kind.sources q) (tag q) hq y)) ∙ n))
-  ] })
+  | inr n ↦ inl (record {
+    target = (p, h, e);
+    sources = λ q hq. elim (decide (tag q)) [
+      | inr f ↦ f
+      | inl y ↦ absurd (true≢false (sym (any_from (λ r. has kind.sources r && tag r) (among_every q) (and_true (has kind.sources q) (tag q) hq y)) ∙ n))
+    ];
+  })
 ]
 
 -- a held fact has not the tag, or the kind is not fresh in it

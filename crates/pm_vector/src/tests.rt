@@ -23,7 +23,7 @@ fn dot_at_the_ends_of_the_range(rt: HostRuntime) {
         ([1 << 64, 0, 0], [-(1 << 63), 0, 0], Err(Wide)),
     ];
     for (a, b, want) in rows {
-        assert_eq!(rt; dot(&a, &b), want, "at {a:?} and {b:?}");
+        assert_eq!(rt; dot(&a, &b), want);
     }
     assert_eq!(rt; dot(&[], &[]), Ok(0));
 }
@@ -83,12 +83,8 @@ fn combine_at_the_ends_of_the_range(rt: HostRuntime) -> Result<(), Fail> {
         let mut v = Ints::from_vec(first.to_vec(alloc)?);
         let w = Ints::from_vec(second.to_vec(alloc)?);
         let answer = combine(p, &mut v, q, &w);
-        assert_eq!(rt; answer, want.map(|_| ()), "at {first:?} and {second:?}");
-        assert_eq!(rt;
-            v.as_slice(),
-            want.unwrap_or(first).as_slice(),
-            "at {first:?} and {second:?}"
-        );
+        assert_eq!(rt; answer, want.map(|_| ()));
+        assert_eq!(rt; v.as_slice(), want.unwrap_or(first).as_slice());
     }
     Ok(())
 }

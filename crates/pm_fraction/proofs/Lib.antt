@@ -1,0 +1,9 @@
+pub mod Bezout
+pub mod Reduced
+pub mod Machine
+pub mod Products
+pub mod Sums
+pub mod Quotients
+pub mod Compared
+pub mod Digits
+pub mod ReadsBack

@@ -1,0 +1,15 @@
+//! Fractions of whole numbers of 128 bits, in lowest terms, with exact arithmetic and order.
+#![tactic(auto)]
+
+mod arithmetic;
+pub mod error;
+pub mod fraction;
+mod order;
+#[cfg(test)]
+mod tests;
+mod text;
+mod whole;
+
+pub use error::NumError;
+pub use fraction::Fraction;
+pub use text::read;

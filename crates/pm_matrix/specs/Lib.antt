@@ -1,0 +1,4 @@
+pub mod FractionRows
+pub mod Matrices
+pub mod Multiples
+pub mod Wideness

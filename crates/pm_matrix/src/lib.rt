@@ -1,0 +1,13 @@
+// Matrices of fractions, and the primitive whole rows of their rows.
+#![tactic(auto)]
+
+mod fails;
+mod matrix;
+mod primitive;
+
+pub use fails::{MatrixFail, RowFail, RowsFail};
+pub use matrix::Matrix;
+pub use primitive::primitive_row;
+
+#[cfg(test)]
+mod tests;

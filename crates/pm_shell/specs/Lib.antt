@@ -1,0 +1,9 @@
+pub mod Lines
+pub mod Matrices
+pub mod Incidence
+pub mod Readings
+pub mod Words
+pub mod Session
+pub mod Replies
+pub mod Right
+pub mod Run

@@ -1,0 +1,56 @@
+// A script from standard input, answered on standard output.
+#![tactic(auto)]
+
+mod incidence;
+mod lines;
+mod matrix;
+mod name;
+mod reading;
+mod reply;
+mod run;
+mod sets;
+mod stage;
+mod words;
+
+pub use run::{SCRIPT_LIMIT, Status, polymake};
+
+#[cfg(test)]
+mod tests;
+
+use pm_store::{StdSink, StdSource};
+use std::alloc::AllocError;
+use std::env;
+use std::env::FillError;
+use std::io::ErrorKind;
+use std::process::ExitCode;
+use std::rt::Env;
+
+/// Whether there is a word after the program's name.
+fn has_word(rt: &impl Env) -> bool {
+    !matches!(rt.arg(1, &mut [0u8; 1]), Err(FillError::NotPresent))
+}
+
+/// The words after the program's name, or the status where they cannot be had.
+/// A word that is no UTF-8 is a bad word as any other; the program's name may be no UTF-8.
+fn words_after_name<R: Env + AllocGlobal>(rt: &R) -> Result<Vec<String>, Status> {
+    let alloc = rt.alloc();
+    match env::args(rt) {
+        Ok(args) => args
+            .skip(1)
+            .collect(alloc)
+            .map_err(|_: AllocError| Status::OutOfMemory),
+        Err(e) if e.kind() == ErrorKind::OutOfMemory => Err(Status::OutOfMemory),
+        Err(_) if has_word(rt) => Err(Status::BadWords),
+        Err(_) => Ok(Vec::new(alloc)),
+    }
+}
+
+fn main(rt: HostRuntime) -> ExitCode {
+    let mut source = StdSource::new(rt.stdin());
+    let mut sink = StdSink::new(rt.stdout());
+    let status = match words_after_name(&rt) {
+        Ok(words) => polymake(rt.alloc(), &words, &mut source, &mut sink),
+        Err(status) => status,
+    };
+    ExitCode::from(status.number())
+}
