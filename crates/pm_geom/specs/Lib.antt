@@ -3,3 +3,4 @@ pub mod Things
 pub mod Faces
 pub mod Laws
 pub mod Examples
+pub mod Evidence

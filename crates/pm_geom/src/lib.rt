@@ -5,6 +5,10 @@ ghost use Rattle.pm_geom.specs.Examples.{EmptyIsRead, HalfLineIsRead, IsRefused,
 ghost use Rattle.pm_geom.specs.Laws.{Bipolar, CutIsGenerated, ExtremesGenerate, FaceOfFacets, FacetRowsCutOut, Farkas, GeneratedIsCut, MembershipDecided, OrderGenerates};
 ghost use Rattle.std.specs.Prelude.{ℕ};
 
+mod evidence;
+
+pub use evidence::Evidence;
+
 /// What an object describes: a polytope, a cone or a fan.
 #[derive(Clone, Copy, Debug, PartialEq, Eq, PartialOrd, Ord, Hash)]
 pub enum ObjectType {

@@ -1,6 +1,7 @@
 -- Least common denominators, one denominator on.
 use Rattle.pm_algebra.specs.Numbers.{IsReduced, Ratio}
-use Rattle.pm_matrix.specs.FractionRows.{IsLeastDenominator, fraction}
+use Rattle.pm_matrix.specs.FractionRows.{IsLeastDenominator}
+use Rattle.pm_algebra.specs.Rows.{ratio_at}
 use Rattle.pm_matrix.specs.Multiples.{IsLcm}
 use Rattle.pm_matrix.specs.Wideness.{DenominatorsStay, IsFirstWideDenominator}
 use Rattle.std.proofs.Common.{arith, below_more, inl, inr, length, pos, refl, ◌*◌, ◌+◌, ◌<◌, ◌^◌, ◌≡◌, ◌≤◌, ℕ}
@@ -18,19 +19,19 @@ least_none : (r : List Ratio) → IsLeastDenominator r 0 1
 least_none r = record { multiples = λ c. (λ h i below. absurd (omega arith), λ h. one-dvd c) }
 
 module _ (r : List Ratio) (k m : ℕ) (so_far : IsLeastDenominator r k m) where
-  least_more : (n : ℕ) → IsLcm m (unsigned_abs (fraction r k).den) n → IsLeastDenominator r (k + 1) n
+  least_more : (n : ℕ) → IsLcm m (unsigned_abs (ratio_at r k).den) n → IsLeastDenominator r (k + 1) n
   least_more n both = record {
     multiples = λ c. (
-      λ h. let w = (both.multiples c).0 h in below_more (λ i. unsigned_abs (fraction r i).den ∣ c) k ((so_far.multiples c).0 w.0) w.1,
+      λ h. let w = (both.multiples c).0 h in below_more (λ i. unsigned_abs (ratio_at r i).den ∣ c) k ((so_far.multiples c).0 w.0) w.1,
       λ f. (both.multiples c).1 ((so_far.multiples c).1 (λ i below. f i (omega arith)), f k (omega arith)),
     );
   }
 
-  least_last : (n : ℕ) → IsLeastDenominator r (k + 1) n → IsLcm m (unsigned_abs (fraction r k).den) n
+  least_last : (n : ℕ) → IsLeastDenominator r (k + 1) n → IsLcm m (unsigned_abs (ratio_at r k).den) n
   least_last n next = record {
     multiples = λ c. (
       λ h. let f = (next.multiples c).0 h in ((so_far.multiples c).1 (λ i below. f i (omega arith)), f k (omega arith)),
-      λ w. (next.multiples c).1 (below_more (λ i. unsigned_abs (fraction r i).den ∣ c) k ((so_far.multiples c).0 w.0) w.1),
+      λ w. (next.multiples c).1 (below_more (λ i. unsigned_abs (ratio_at r i).den ∣ c) k ((so_far.multiples c).0 w.0) w.1),
     );
   }
 
@@ -54,7 +55,7 @@ pub record DenominatorSoFar (r : List Ratio) (k m : ℕ) : Type 0 where
   pub positive : 0 < m
   pub in_range : m < 2 ^ 127
   pub before : DenominatorsStay r k
-  pub reduced : (i : ℕ) → i < k → IsReduced (fraction r i)
+  pub reduced : (i : ℕ) → i < k → IsReduced (ratio_at r i)
 
 stay_at : (r : List Ratio) (k m : ℕ) → IsLeastDenominator r k m → m < 2 ^ 127 → (n : ℕ) → IsLeastDenominator r k n → n < 2 ^ 127
 stay_at r k m least small n other = let e = least_unique r k m n least other in omega arith
@@ -68,13 +69,13 @@ DenominatorSoFar-none r = record {
   reduced = λ i below. absurd (omega arith);
 }
 
-pub DenominatorSoFar-more : (r : List Ratio) (k m n : ℕ) → DenominatorSoFar r k m → IsLcm m (unsigned_abs (fraction r k).den) n → n < 2 ^ 127 → IsReduced (fraction r k) → DenominatorSoFar r (k + 1) n
+pub DenominatorSoFar-more : (r : List Ratio) (k m n : ℕ) → DenominatorSoFar r k m → IsLcm m (unsigned_abs (ratio_at r k).den) n → n < 2 ^ 127 → IsReduced (ratio_at r k) → DenominatorSoFar r (k + 1) n
 DenominatorSoFar-more r k m n s both small reduced =
     let least = least_more r k m s.least n both in
     let positive = reduced.positive in
     record {
       least = least;
-      positive = lcm_positive m (unsigned_abs (fraction r k).den) n s.positive (omega (arith, ints)) both;
+      positive = lcm_positive m (unsigned_abs (ratio_at r k).den) n s.positive (omega (arith, ints)) both;
       in_range = small;
       before = record {
         stay = λ i t below h. elim (cases_lt i (k + 1)) [
@@ -82,10 +83,10 @@ DenominatorSoFar-more r k m n s both small reduced =
           | inr last ↦ let e : i ≡ k + 1 = omega arith in stay_at r (k + 1) n least small t (rw e at h)
         ];
       };
-      reduced = below_more (λ i. IsReduced (fraction r i)) k s.reduced reduced;
+      reduced = below_more (λ i. IsReduced (ratio_at r i)) k s.reduced reduced;
     }
 
-pub first_wide_denominator : (r : List Ratio) (k m : ℕ) → k < length r → DenominatorSoFar r k m → ((n : ℕ) → IsLcm m (unsigned_abs (fraction r k).den) n → 2 ^ 127 ≤ n) → IsFirstWideDenominator r (pos m) (fraction r k).den
+pub first_wide_denominator : (r : List Ratio) (k m : ℕ) → k < length r → DenominatorSoFar r k m → ((n : ℕ) → IsLcm m (unsigned_abs (ratio_at r k).den) n → 2 ^ 127 ≤ n) → IsFirstWideDenominator r (pos m) (ratio_at r k).den
 first_wide_denominator r k m within s f = record {
   k = k;
   m = m;

@@ -4,8 +4,8 @@ use Rattle.pm_algebra.proofs.RowLaws.{entry-times}
 use Rattle.pm_algebra.proofs.Signs.{times_both}
 use Rattle.pm_algebra.specs.Divisors.{IsPrimitive, IsPrimitiveOf}
 use Rattle.pm_algebra.specs.Numbers.{InRange, IsReduced, Ratio}
-use Rattle.pm_algebra.specs.Rows.{IsZero, Row, Same, entry, times}
-use Rattle.pm_matrix.specs.FractionRows.{IsLeastDenominator, IsPositiveMultipleOf, fraction, numerator_over, numerators_over}
+use Rattle.pm_algebra.specs.Rows.{IsZero, Row, Same, entry, ratio_at, times}
+use Rattle.pm_matrix.specs.FractionRows.{IsLeastDenominator, IsPositiveMultipleOf, numerator_over, numerators_over}
 use Rattle.pm_matrix.specs.Wideness.{DenominatorsStay, IsFirstWideNumerator, NumeratorsStay}
 use Rattle.std.proofs.Common.{ap, arith, below_more, inl, inr, length, map, pos, refl, sym, take, ◌++◌, ◌+◌, ◌/◌, ◌<◌, ◌≡◌, ◌∙◌, ◌⊎◌, ℕ, List, [], ◌∷◌}
 use Rattle.std.proofs.Math.Nat.{div-mul_cancel}
@@ -22,13 +22,13 @@ pub record NumeratorsSoFar (r : List Ratio) (m k : ℕ) (x : Row) : Type 0 where
   pub x_is : x ≡ map (numerator_over m) (take k r)
   pub stay : NumeratorsStay r m k
 
-pub NumeratorsSoFar-more : (r : List Ratio) (m k : ℕ) (x : Row) (n : ℤ) → k < length r → NumeratorsSoFar r m k x → n ≡ numerator_over m (fraction r k) → InRange n → NumeratorsSoFar r m (k + 1) (x ++ n ∷ [])
+pub NumeratorsSoFar-more : (r : List Ratio) (m k : ℕ) (x : Row) (n : ℤ) → k < length r → NumeratorsSoFar r m k x → n ≡ numerator_over m (ratio_at r k) → InRange n → NumeratorsSoFar r m (k + 1) (x ++ n ∷ [])
 NumeratorsSoFar-more r m k x n within s e small = record {
   x_is = rw (s.x_is, e) (sym (map_more (numerator_over m) r k (record { num = pos 0; den = pos 1 }) within));
-  stay = record { stay = below_more (λ i. InRange (numerator_over m (fraction r i))) k s.stay.stay (rw e at small) };
+  stay = record { stay = below_more (λ i. InRange (numerator_over m (ratio_at r i))) k s.stay.stay (rw e at small) };
 }
 
-pub first_wide_numerator : (r : List Ratio) (m k : ℕ) → k < length r → IsLeastDenominator r (length r) m → DenominatorsStay r (length r) → NumeratorsStay r m k → (InRange (numerator_over m (fraction r k)) → ⊥) → IsFirstWideNumerator r (fraction r k).num (pos (m / unsigned_abs (fraction r k).den))
+pub first_wide_numerator : (r : List Ratio) (m k : ℕ) → k < length r → IsLeastDenominator r (length r) m → DenominatorsStay r (length r) → NumeratorsStay r m k → (InRange (numerator_over m (ratio_at r k)) → ⊥) → IsFirstWideNumerator r (ratio_at r k).num (pos (m / unsigned_abs (ratio_at r k).den))
 first_wide_numerator r m k within least denominators before wide = record {
   k = k;
   m = m;
@@ -50,13 +50,13 @@ den_times_quotient m (negsuc d) positive h = absurd (omega (arith, ints))
 balanced : (m : ℕ) (f : Ratio) → pos 0 <ℤ f.den → unsigned_abs f.den ∣ m → numerator_over m f *ℤ f.den ≡ pos m *ℤ f.num
 balanced m f positive h = mul_assoc f.num (pos (m / unsigned_abs f.den)) f.den ∙ times_both f.num (den_times_quotient m f.den positive h) ∙ *ℤ_comm f.num (pos m)
 
-module _ (r : List Ratio) (m : ℕ) (least : IsLeastDenominator r (length r) m) (some : 0 < m) (reduced : (i : ℕ) → i < length r → IsReduced (fraction r i)) where
-  entry_is : (i : ℕ) → i < length r → entry (numerators_over m r) i ≡ numerator_over m (fraction r i)
+module _ (r : List Ratio) (m : ℕ) (least : IsLeastDenominator r (length r) m) (some : 0 < m) (reduced : (i : ℕ) → i < length r → IsReduced (ratio_at r i)) where
+  entry_is : (i : ℕ) → i < length r → entry (numerators_over m r) i ≡ numerator_over m (ratio_at r i)
   entry_is i within = get_or-map (numerator_over m) r i (record { num = pos 0; den = pos 1 }) (pos 0) within
 
-  entry_balanced : (i : ℕ) → i < length r → entry (numerators_over m r) i *ℤ (fraction r i).den ≡ pos m *ℤ (fraction r i).num
+  entry_balanced : (i : ℕ) → i < length r → entry (numerators_over m r) i *ℤ (ratio_at r i).den ≡ pos m *ℤ (ratio_at r i).num
   entry_balanced i within =
-      rw (entry_is i within) (balanced m (fraction r i) (reduced i within).positive ((least.multiples m).0 (dvd_refl m) i within))
+      rw (entry_is i within) (balanced m (ratio_at r i) (reduced i within).positive ((least.multiples m).0 (dvd_refl m) i within))
 
   denominator_positive : pos 0 <ℤ pos m
   denominator_positive = omega (arith, ints)
@@ -72,7 +72,8 @@ module _ (r : List Ratio) (m : ℕ) (least : IsLeastDenominator r (length r) m) 
       p_positive = lt_z_yes tt;
       q_positive = denominator_positive;
       cols = cols;
-      same = λ i within. let e = entry_balanced i within in let f : pos 0 *ℤ (fraction r i).den ≡ pos m *ℤ (fraction r i).num = rw (z i) at e in rw (zx i) (simp ring (simp ring at f));
+      denominators = λ i within. (reduced i within).positive;
+      same = λ i within. let e = entry_balanced i within in let f : pos 0 *ℤ (ratio_at r i).den ≡ pos m *ℤ (ratio_at r i).num = rw (z i) at e in rw (zx i) (simp ring (simp ring at f));
     }
 
     of_primitive : (g : ℤ) → pos 0 <ℤ g → Same (numerators_over m r) (times g x) → IsPositiveMultipleOf r x
@@ -82,7 +83,8 @@ module _ (r : List Ratio) (m : ℕ) (least : IsLeastDenominator r (length r) m) 
       p_positive = positive;
       q_positive = denominator_positive;
       cols = cols;
-      same = λ i within. sym (mul_assoc g (entry x i) (fraction r i).den) ∙ (rw (← entry-times g x i, ← same.at i) (entry_balanced i within));
+      denominators = λ i within. (reduced i within).positive;
+      same = λ i within. sym (mul_assoc g (entry x i) (ratio_at r i).den) ∙ (rw (← entry-times g x i, ← same.at i) (entry_balanced i within));
     }
 
     pub IsPositiveMultiple-from_primitive : IsPositiveMultipleOf r x

@@ -1,13 +1,13 @@
 -- Rows of fractions, one row or one entry on. V stands for the type of a row in memory, of which `items` gives the entries.
 use Rattle.pm_algebra.specs.Numbers.{Ratio}
-use Rattle.pm_matrix.specs.FractionRows.{fraction}
+use Rattle.pm_algebra.specs.Rows.{ratio_at}
 use Rattle.pm_matrix.specs.Matrices.{FractionMatrix, IsFraction, IsMatrix, IsTransposeOf}
 use Rattle.std.proofs.Common.{All, ap, arith, below_more, get_or, length, map, pos, refl, sym, take, ◌++◌, ◌+◌, ◌<◌, ◌≡◌, ◌∙◌, ℕ, List, [], ◌∷◌}
 use Rattle.std.proofs.lemmas.List.Elements.{All-push}
 use Rattle.std.proofs.lemmas.List.{get_or-map, get_or_append_left, get_or_push, get_or_read, length-map, length_push, map_more, map_push, take_more}
 
 -- the value that is read at a place
-pub fraction_read : (r : List Ratio) (i : ℕ) (x : Ratio) → i < length r → x ≡ get_or r i x → x ≡ fraction r i
+pub fraction_read : (r : List Ratio) (i : ℕ) (x : Ratio) → i < length r → x ≡ get_or r i x → x ≡ ratio_at r i
 fraction_read r i x within e = get_or_read r i x within e (record { num = pos 0; den = pos 1 })
 
 -- ---- copies
@@ -15,10 +15,10 @@ pub copy_more : (r copy : List Ratio) (i : ℕ) (x : Ratio) → i < length r →
 copy_more r copy i x within e so_far = rw (so_far, take_more r i x within, ← e) refl
 
 pub column_more : (rows : List (List Ratio)) (i j : ℕ) (column row : List Ratio) (x : Ratio) → i < length rows → row ≡ get_or rows i [] → j < length row → x ≡ get_or row j x
-    → column ≡ map (λ r. fraction r j) (take i rows) → column ++ x ∷ [] ≡ map (λ r. fraction r j) (take (i + 1) rows)
+    → column ≡ map (λ r. ratio_at r j) (take i rows) → column ++ x ∷ [] ≡ map (λ r. ratio_at r j) (take (i + 1) rows)
 column_more rows i j column row x within is in_row e so_far =
-    let read : x ≡ fraction (get_or rows i []) j = fraction_read row j x in_row e ∙ (rw is refl) in
-    rw (so_far, map_more (λ r. fraction r j) rows i [] within, read) refl
+    let read : x ≡ ratio_at (get_or rows i []) j = fraction_read row j x in_row e ∙ (rw is refl) in
+    rw (so_far, map_more (λ r. ratio_at r j) rows i [] within, read) refl
 
 -- ---- rows in memory
 module _ {V : Type 0} (items : V → List Ratio) (cols : ℕ) (rows : List V) where
@@ -39,16 +39,16 @@ module _ {V : Type 0} (items : V → List Ratio) (cols : ℕ) (rows : List V) wh
 pub record TransposedSoFar (a : FractionMatrix) (j : ℕ) (t : List (List Ratio)) : Type 0 where
   pub matrix : IsMatrix (record { cols = length a.rows; rows = t })
   pub count : length t ≡ j
-  pub columns : (k : ℕ) → k < j → get_or t k [] ≡ map (λ r. fraction r k) a.rows
+  pub columns : (k : ℕ) → k < j → get_or t k [] ≡ map (λ r. ratio_at r k) a.rows
 
-pub TransposedSoFar-more : (a : FractionMatrix) (j : ℕ) (t : List (List Ratio)) (column : List Ratio) → TransposedSoFar a j t → column ≡ map (λ r. fraction r j) a.rows → All IsFraction column → TransposedSoFar a (j + 1) (t ++ column ∷ [])
+pub TransposedSoFar-more : (a : FractionMatrix) (j : ℕ) (t : List (List Ratio)) (column : List Ratio) → TransposedSoFar a j t → column ≡ map (λ r. ratio_at r j) a.rows → All IsFraction column → TransposedSoFar a (j + 1) (t ++ column ∷ [])
 TransposedSoFar-more a j t column s is entries = record {
   matrix = record {
     shape = All-push (λ r. length r ≡ length a.rows) t column s.matrix.shape (rw (is, length-map) refl);
     entries = All-push (All IsFraction) t column s.matrix.entries entries;
   };
   count = length_push t column ∙ (rw s.count refl);
-  columns = below_more (λ k. get_or (t ++ column ∷ []) k [] ≡ map (λ r. fraction r k) a.rows) j
+  columns = below_more (λ k. get_or (t ++ column ∷ []) k [] ≡ map (λ r. ratio_at r k) a.rows) j
       (λ k below. let in_t : k < length t = (let n = s.count in omega arith) in get_or_append_left t (column ∷ []) [] k in_t ∙ s.columns k below)
       (get_or_push t column [] j s.count ∙ is);
 }
@@ -57,5 +57,5 @@ pub IsTransposeOf-columns : (a : FractionMatrix) (t : List (List Ratio)) → Tra
 IsTransposeOf-columns a t s = record {
   cols = refl;
   rows = s.count;
-  entries = λ i j in_rows in_cols. rw (s.columns j in_cols) (get_or-map (λ r. fraction r j) a.rows i [] (record { num = pos 0; den = pos 1 }) in_rows);
+  entries = λ i j in_rows in_cols. rw (s.columns j in_cols) (get_or-map (λ r. ratio_at r j) a.rows i [] (record { num = pos 0; den = pos 1 }) in_rows);
 }

@@ -5,7 +5,7 @@
 --     at a i j      the entry in row i and column j, and 0/1 outside
 --     IsTransposeOf a t      the rows of t are the columns of a
 use Rattle.pm_algebra.specs.Numbers.{InRangeRatio, IsReduced, Ratio}
-use Rattle.pm_matrix.specs.FractionRows.{fraction}
+use Rattle.pm_algebra.specs.Rows.{ratio_at}
 use Rattle.std.specs.List.{All, slice_index_or}
 use Rattle.std.specs.Prelude.{List, [], length, ℕ, ◌<◌, ◌≡◌}
 
@@ -22,7 +22,7 @@ pub record IsMatrix (a : FractionMatrix) : Type 0 where
   pub entries : All (All IsFraction) a.rows
 
 abbrev pub at : FractionMatrix → ℕ → ℕ → Ratio
-at a i j = fraction (slice_index_or a.rows i []) j
+at a i j = ratio_at (slice_index_or a.rows i []) j
 
 pub record IsTransposeOf (a t : FractionMatrix) : Type 0 where
   pub cols : t.cols ≡ length a.rows

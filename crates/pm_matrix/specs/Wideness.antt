@@ -11,7 +11,8 @@
 --     RowsStay rows n      so it is for each of the first n rows
 --     IsFirstWideRow rows i a b, IsWideRow rows e      row i is the first that leaves the range, by a and b; what an error says of rows
 use Rattle.pm_algebra.specs.Numbers.{InRange, Ratio}
-use Rattle.pm_matrix.specs.FractionRows.{IsLeastDenominator, fraction, numerator_over}
+use Rattle.pm_matrix.specs.FractionRows.{IsLeastDenominator, numerator_over}
+use Rattle.pm_algebra.specs.Rows.{ratio_at}
 use Rattle.pm_matrix.specs.declared.fails.RowFail.TheVariants.{Memory, Wide}
 use Rattle.pm_matrix.specs.declared.fails.RowFail.{RowFail}
 use Rattle.pm_matrix.specs.declared.fails.RowsFail.TheVariants.{Memory as NoMemory, Wide as WideRow}
@@ -24,7 +25,7 @@ pub record DenominatorsStay (r : List Ratio) (k : ℕ) : Type 0 where
   pub stay : (i m : ℕ) → i ≤ k → IsLeastDenominator r i m → InRange (pos m)
 
 pub record NumeratorsStay (r : List Ratio) (m k : ℕ) : Type 0 where
-  pub stay : (i : ℕ) → i < k → InRange (numerator_over m (fraction r i))
+  pub stay : (i : ℕ) → i < k → InRange (numerator_over m (ratio_at r i))
 
 pub record RowStays (r : List Ratio) : Type 0 where
   pub denominator : ℕ
@@ -37,7 +38,7 @@ pub record IsFirstWideDenominator (r : List Ratio) (a b : ℤ) : Type 0 where
   pub m : ℕ
   pub within : k < length r
   pub a_is : a ≡ pos m
-  pub b_is : b ≡ (fraction r k).den
+  pub b_is : b ≡ (ratio_at r k).den
   pub so_far : IsLeastDenominator r k m
   pub before : DenominatorsStay r k
   pub wide : (n : ℕ) → IsLeastDenominator r (k + 1) n → InRange (pos n) → ⊥
@@ -47,8 +48,8 @@ pub record IsFirstWideNumerator (r : List Ratio) (a b : ℤ) : Type 0 where
   pub m : ℕ
   pub within : k < length r
   pub least : IsLeastDenominator r (length r) m
-  pub a_is : a ≡ (fraction r k).num
-  pub b_is : b ≡ pos (m / unsigned_abs (fraction r k).den)
+  pub a_is : a ≡ (ratio_at r k).num
+  pub b_is : b ≡ pos (m / unsigned_abs (ratio_at r k).den)
   pub denominators : DenominatorsStay r (length r)
   pub before : NumeratorsStay r m k
   pub wide : InRange (a *ℤ b) → ⊥

@@ -1,7 +1,8 @@
 // Matrices of fractions.
 
 ghost use Rattle.pm_algebra.specs.Numbers.{Ratio};
-ghost use Rattle.pm_matrix.specs.FractionRows.{ArePrimitiveRowsOf, fraction};
+ghost use Rattle.pm_matrix.specs.FractionRows.{ArePrimitiveRowsOf};
+ghost use Rattle.pm_algebra.specs.Rows.{ratio_at};
 ghost use Rattle.pm_matrix.specs.Matrices.{FractionMatrix, IsFraction, IsMatrix, IsTransposeOf};
 ghost use Rattle.pm_matrix.specs.Wideness.{IsWideRow, RowsStay};
 ghost use Rattle.std.specs.Prelude.{All, IfErr, IfOk, IsErrOf, OnErr, OnOk, [], length, map, slice_index_or, ◌++◌, ◌^◌, ◌<◌, ◌∷◌, ◌≡◌, ◌≢◌, ◌↔◌};
@@ -127,7 +128,7 @@ impl Matrix {
     /// The entries of a column.
     fn column(&self, alloc: Global, j: usize) -> Result<Vec<Fraction>, AllocError>
         requires { j < self.now.cols }
-        ensures value { IfOk result (λ v. v.items ≡ map (λ r. fraction r j) self.now.rows) }
+        ensures value { IfOk result (λ v. v.items ≡ map (λ r. ratio_at r j) self.now.rows) }
         ensures entries { IfOk result (λ v. All IsFraction v.items) }
     {
         let mut column = Vec::new(alloc);

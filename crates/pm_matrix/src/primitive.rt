@@ -2,8 +2,8 @@
 
 ghost use Rattle.pm_algebra.specs.Divisors.{IsPrimitive};
 ghost use Rattle.pm_algebra.specs.Numbers.{InRange, IsReduced, Ratio};
-ghost use Rattle.pm_algebra.specs.Rows.{IsZero};
-ghost use Rattle.pm_matrix.specs.FractionRows.{IsLeastDenominator, IsPositiveMultipleOf, IsPrimitiveRowOf, fraction, numerator_over, numerators_over};
+ghost use Rattle.pm_algebra.specs.Rows.{IsZero, ratio_at};
+ghost use Rattle.pm_matrix.specs.FractionRows.{IsLeastDenominator, IsPositiveMultipleOf, IsPrimitiveRowOf, numerator_over, numerators_over};
 ghost use Rattle.pm_matrix.specs.Multiples.{IsLcm};
 ghost use Rattle.pm_matrix.specs.Wideness.{DenominatorsStay, IsWideAt, IsWideInRow, NumeratorsStay, RowStays};
 ghost use Rattle.std.specs.Prelude.{IfErr, IfNone, IfOk, IfSome, OnOk, length, pos, unsigned_abs, ℕ, ◌/◌, ◌^◌, ◌<◌, ◌≡◌, ◌≤◌, ◌⊎◌};
@@ -55,7 +55,7 @@ fn next_denominator(least: u128, f: Fraction) -> Result<u128, RowFail>
 fn common_denominator(row: &[Fraction]) -> Result<u128, RowFail>
     ensures least { IfOk result (IsLeastDenominator row.now (length row.now)) }
     ensures positive { IfOk result (λ m. 0 < m) }
-    ensures reduced { OnOk result ((i : ℕ) → i < length row.now → IsReduced (fraction row.now i)) }
+    ensures reduced { OnOk result ((i : ℕ) → i < length row.now → IsReduced (ratio_at row.now i)) }
     ensures in_range { IfOk result (λ m. m < 2 ^ 127) }
     ensures stays { OnOk result (DenominatorsStay row.now (length row.now)) }
     ensures wide { IfErr result (IsWideAt row.now) }

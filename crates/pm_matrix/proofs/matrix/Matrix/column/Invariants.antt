@@ -1,4 +1,4 @@
-use Rattle.pm_matrix.specs.FractionRows.{fraction}
+use Rattle.pm_algebra.specs.Rows.{ratio_at}
 use Rattle.pm_matrix.specs.Matrices.{IsFraction}
 use Rattle.pm_matrix.proofs.matrix.Matrix.column.Given as goal
 use Rattle.std.proofs.Common.{map, take, ◌≡◌}
@@ -6,6 +6,6 @@ use Rattle.std.specs.Prelude.{All}
 
 abbrev pub invariant-loop-i : goal.invariant-loop-i
 invariant-loop-i l = record {
-  items : l.column.items ≡ map (λ r. fraction r l.j) (take l.i l.self.rows);
+  items : l.column.items ≡ map (λ r. ratio_at r l.j) (take l.i l.self.rows);
   entries : All IsFraction l.column.items;
 }

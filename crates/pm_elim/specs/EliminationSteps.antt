@@ -1,0 +1,15 @@
+-- One step of an elimination, as evidence names it.
+--     list      which list of rows is eliminated
+--     front, basis      how many rows were taken, and their echelon basis
+--     part, by, column      the row that is reduced, the place of the basis row by which (or how many there are, for the next row), and a column
+use Rattle.pm_algebra.specs.Rows.{Row}
+use Rattle.pm_elim.specs.declared.evidence.ElimList.{ElimList}
+use Rattle.std.specs.Prelude.{List, ℕ}
+
+pub record EliminationStep : Type 0 where
+  pub list : ElimList
+  pub front : ℕ
+  pub basis : List Row
+  pub part : Row
+  pub by : ℕ
+  pub column : ℕ

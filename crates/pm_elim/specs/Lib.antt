@@ -1,0 +1,10 @@
+pub mod Bases
+pub mod Steps
+pub mod EliminationSteps
+pub mod Rounds
+pub mod Evidence
+pub mod NullSpaces
+pub mod Duals
+pub mod Refusals
+pub mod ExtendedLists
+pub mod Totals

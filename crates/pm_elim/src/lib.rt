@@ -1,0 +1,29 @@
+// Elimination of whole rows: echelon bases, ranks, null spaces and dual rows, each exact or with evidence that a step leaves the range.
+#![tactic(auto)]
+
+mod basis;
+mod duals;
+mod elimination;
+mod evidence;
+mod extended;
+mod factors;
+mod modulo;
+mod nulls;
+mod older;
+mod pivot;
+mod reduction;
+mod refusal;
+mod round;
+mod rows;
+mod sign;
+mod step;
+
+pub use basis::Echelon;
+pub use duals::{dual_basis, law_dual_basis_is_unique};
+pub use elimination::{echelon, rank};
+pub use evidence::{DualFail, ElimEvidence, ElimFail, ElimList};
+pub use modulo::reduce;
+pub use nulls::null_space;
+
+#[cfg(test)]
+mod tests;
