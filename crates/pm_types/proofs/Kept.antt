@@ -9,7 +9,7 @@ use Rattle.pm_types.specs.Kinds.{IsFresh}
 use Rattle.pm_types.specs.Properties.{facets_tag, generators_tag, half_spaces_tag, has_program, number, rays_tag, every_property}
 use Rattle.pm_types.specs.Right.{Right, RightAll, RightFact, RightPair, RightTogether, objective_of}
 use Rattle.pm_types.specs.Runs.{Holds, IsFree, MayAnswer, MayRun, Meets, RightAnswer, is_named, missing, place_of, same_place, same_property, shown, stands_at}
-use Rattle.pm_types.specs.Sets.{has}
+use Rattle.pm_types.specs.Sets.{has, members}
 use Rattle.pm_types.specs.Values.{Fact, PropertyValue, matrix, truth}
 use Rattle.pm_types.specs.declared.kind.Kind.{Kind}
 use Rattle.pm_types.specs.declared.property.PropId.{PropId}
@@ -76,7 +76,7 @@ named_to sub held p h =
 pub shown_among : (kind : Kind) (sub : Option ℕ) (held : List Fact) {f : Fact} → Among f (shown kind sub held) → Among f held
 shown_among kind sub held i = (filter_among (λ f. has kind.sources f.property && same_place f.place (place_of sub f.property)) held i).0
 
-among_shown : (kind : Kind) (sub : Option ℕ) (held : List Fact) {f : Fact} → Among f held → has kind.sources f.property ≡ true → f.place ≡ place_of sub f.property → Among f (shown kind sub held)
+pub among_shown : (kind : Kind) (sub : Option ℕ) (held : List Fact) {f : Fact} → Among f held → has kind.sources f.property ≡ true → f.place ≡ place_of sub f.property → Among f (shown kind sub held)
 among_shown kind sub held {f} i h e =
     among_filter (λ g. has kind.sources g.property && same_place g.place (place_of sub g.property)) i
     (and_true (has kind.sources f.property) (same_place f.place (place_of sub f.property)) h (subst (λ r. same_place f.place r ≡ true) e (same_place_refl f.place)))
@@ -155,6 +155,7 @@ halves_only t p v q w g h = tt
 
 module _ (of : ObjectType) (n : ℕ) (kind : Kind) (sub : Option ℕ) (held answer : List Fact) (may : MayRun kind sub n held) (says : MayAnswer of n kind sub (shown kind sub held) answer) where
   target_of : {f : Fact} → Among f answer → has kind.targets f.property ≡ true
+  unfolding members
   target_of {f} i = (filter_among (has kind.targets) every_property (subst (λ ps. Among f.property ps) says.targets (among_map (λ g. g.property) i))).1
 
   -- a held half whose other half is added was read

@@ -1,9 +1,12 @@
 pub mod Members
+pub mod Every
 pub mod NameLemmas
 pub mod NameBytes
+pub mod CostOrder
 pub mod Standing
 pub mod Incidence
 pub mod Square
 pub mod Frame
 pub mod Numbers
 pub mod Kept
+pub mod Copies

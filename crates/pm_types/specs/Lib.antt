@@ -8,3 +8,6 @@ pub mod Values
 pub mod Right
 pub mod Examples
 pub mod Runs
+pub mod Views
+pub mod Forms
+pub mod Canonical

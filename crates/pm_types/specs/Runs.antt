@@ -7,12 +7,14 @@
 --     missing sub held answer      what an answer has of properties that are not held
 --     Meets kind t o      what the kind asks for is so of the thing
 --     Keeps kind o p      the orders p are the orders o, but where the kind is fresh in them
---     MayAnswer of n kind sub read answer      the answer has exactly the targets, and is right wherever what was read is: for every thing of the type with n columns, and all orders, for which what was read is right and the kind's conditions hold, there are orders, the same unless the kind is fresh in them, for which both together are right
+--     MayAnswer of n kind sub read answer      the answer has exactly the targets, each in its form with n columns and canonical, and is right wherever what was read is: for every thing of the type with n columns, and all orders, for which what was read is right and the kind's conditions hold, there are orders, the same unless the kind is fresh in them, for which both together are right
 --     MayRun kind sub n held      its sources are held, what it asks for is held so, n is held, and nothing that is held has a tag in which the kind is fresh
 use Rattle.std.specs.Prelude.{ℕ, ◌≡◌, ◌&&◌, Bool, true, false, IsTrue, not, nat_eq, if◌then◌else◌, Option, None, Some, List, [], ◌++◌, filter, map}
 use Rattle.std.specs.List.{All, Contains, list_any}
 use Rattle.pm_geom.specs.Things.{Thing, Orders}
 use Rattle.pm_geom.specs.declared.ObjectType.{ObjectType}
+use Rattle.pm_types.specs.Canonical.{IsCanonical}
+use Rattle.pm_types.specs.Forms.{FormsIn}
 use Rattle.pm_types.specs.Kinds.{IsFresh}
 use Rattle.pm_types.specs.Properties.{number, has_program, rays_tag, facets_tag, generators_tag, half_spaces_tag}
 use Rattle.pm_types.specs.Right.{Right, RightAll}
@@ -70,7 +72,9 @@ pub record RightAnswer (kind : Kind) (read answer : List Fact) (t : Thing) (o : 
 pub record MayAnswer (of : ObjectType) (n : ℕ) (kind : Kind) (sub : Option ℕ) (read answer : List Fact) : Type 0 where
   pub targets : map (λ f. f.property) answer ≡ members kind.targets
   pub places : All (λ f. f.place ≡ place_of sub f.property) answer
+  pub formed : All (λ f. FormsIn of n f.property f.value) answer
   pub sound : (t : Thing) (o : Orders) → t.of ≡ of → t.cols ≡ n → RightAll read t o → Meets kind t o → RightAnswer kind read answer t o
+  pub canonical : (t : Thing) (o : Orders) → t.of ≡ of → t.cols ≡ n → RightAll read t o → Meets kind t o → All (λ f. IsCanonical kind f.property f.value t) answer
 
 pub record IsFree (tag : PropId → Bool) (kind : Kind) (held : List Fact) : Type 0 where
   pub none : IsFresh tag kind → (f : Fact) → Contains held f → tag f.property ≡ false

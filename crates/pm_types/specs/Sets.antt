@@ -4,8 +4,9 @@
 --     union s t, intersection s t, difference s t      the properties in one of them, in both, in s and not in t
 --     set_of ps      the properties of a list
 --     IsSubset s t      t has what s has
+--     IsWithin s t      the same, as an equation: what both have is s
 --     members s      the properties of the set, in the order of their numbers
-use Rattle.std.specs.Prelude.{ℕ, ◌^◌, Bool, IsTrue, nat_eq, List, filter, fold, bit_and, bit_or, bit_xor}
+use Rattle.std.specs.Prelude.{◌≡◌, ℕ, ◌^◌, Bool, IsTrue, nat_eq, List, filter, fold, bit_and, bit_or, bit_xor}
 use Rattle.std.specs.Int.{bit_at}
 use Rattle.pm_types.specs.declared.property.PropId.{PropId}
 use Rattle.pm_types.specs.Properties.{number, every_property}
@@ -31,5 +32,8 @@ set_of ps = fold (λ s p. union s (only p)) 0 ps
 abbrev pub IsSubset : ℕ → ℕ → Type 0
 IsSubset s t = (p : PropId) → IsTrue (has s p) → IsTrue (has t p)
 
-abbrev pub members : ℕ → List PropId
+abbrev pub IsWithin : ℕ → ℕ → Type 0
+IsWithin s t = intersection s t ≡ s
+
+unfoldable pub members : ℕ → List PropId
 members s = filter (has s) every_property

@@ -67,6 +67,13 @@ impl ClientName {
     {
         &self.bytes[..self.len]
     }
+
+    /// The name as a text.
+    pub fn as_str(&self) -> &str
+        ensures { result.now ≡ self.now }
+    {
+        str::from_utf8(self.as_bytes()).unwrap()
+    }
 }
 
 impl PartialEq for ClientName {

@@ -5,10 +5,14 @@ ghost use Rattle.pm_types.specs.Examples.{SquareSetsAreRead};
 ghost use Rattle.pm_types.specs.Runs.{RightAnswerIsKept};
 
 mod client_name;
+mod forms;
 mod kind;
 mod names;
 mod property;
 mod set;
+#[cfg(test)]
+mod tests;
+mod value;
 mod weight;
 
 pub use client_name::ClientName;
@@ -16,6 +20,7 @@ pub use kind::{Kind, RuleId, standard_kinds};
 pub use pm_geom::ObjectType;
 pub use property::{PropId, ValueKind};
 pub use set::PropSet;
+pub use value::{Rows, Sets, Value};
 pub use weight::{Cost, Weight};
 
 /// What is right for VERTICES_IN_FACETS of the unit square, and what is not.

@@ -99,7 +99,8 @@ impl PropSet {
 
     /// Whether all properties of this set are in the other.
     pub fn is_subset(self, other: PropSet) -> bool
-        ensures { IsTrue result ↔ IsSubset self other }
+        ensures subset { IsTrue result ↔ IsSubset self other }
+        ensures value { result ≡ nat_eq (intersection self other) self }
     {
         self.bits & other.bits == self.bits
     }
@@ -121,6 +122,7 @@ impl PropSet {
     }
 
     /// The properties of the set, in the order of their numbers.
+    #[tactic(auto, unfolding(crate::specs::Sets::members))]
     pub fn to_list(self, alloc: Global) -> Result<Vec<PropId>, AllocError>
         ensures { IfOk result (λ v. v.items ≡ members self) }
     {

@@ -1,0 +1,171 @@
+-- Which properties commands accept so far, and which values have the form of their property.
+--     is_built p      commands accept the property; a book may name every property
+--     is_columned p      its matrices have the thing's n columns
+--     stated_cols p v      the column count of an n-column matrix that has rows or a stated one, 0 for other values
+--     is_formed p v      the value has the form of a value of p, and keeps the limits:
+--         a matrix has at most 2,048 rows of one length from 1 to 33; without rows it may state no column count, 0
+--         an entry is a whole number from -2^53 to 2^53
+--         at most 2,048 sets, each ascending, of indices below a column count of at most 2,048
+--         CONE_AMBIENT_DIM is from 1 to 33, other whole numbers have 64 bits
+--         values of further kinds have no form yet
+--     agrees_with n p v      the value's columns, or the dimension that it states, do not differ from n
+--     is_row of p r, are_rows of p v      the row, each row of the value, passes the tests of rows of that property
+--     FormsIn of n p v      a value that an object of this type with n columns may hold
+use Rattle.std.specs.Prelude.{ℕ, zero, suc, ◌||◌, ◌&&◌, ◌^◌, Bool, true, false, not, IsTrue, List, [], ◌∷◌, length, nat_eq, nat_le, nat_lt, if◌then◌else◌, unsigned_abs}
+use Rattle.std.specs.List.{list_all}
+use Rattle.pm_algebra.specs.Numbers.{Ratio}
+use Rattle.pm_geom.specs.declared.ObjectType.{ObjectType}
+use Rattle.pm_geom.specs.declared.ObjectType.TheVariants.{Polytope}
+use Rattle.pm_types.specs.Properties.{value_kind}
+use Rattle.pm_types.specs.Values.{PropertyValue, matrix, sets, whole, truth}
+use Rattle.pm_types.specs.declared.property.PropId.{PropId}
+use Rattle.pm_types.specs.declared.property.PropId.TheVariants.{ConeAmbientDim, Points, InputLineality, Inequalities, Equations, Vertices, LinealitySpace, Facets, AffineHull, VerticesInFacets, LinearObjective, MaximalDual, MinimalDual}
+use Rattle.pm_types.specs.declared.property.ValueKind.{ValueKind}
+use Rattle.pm_types.specs.declared.property.ValueKind.TheVariants as kind
+use lib.IntN.{ℤ, pos, negsuc}
+
+abbrev pub is_built : PropId → Bool
+is_built ConeAmbientDim = true
+is_built Vertices = true
+is_built LinealitySpace = true
+is_built Facets = true
+is_built AffineHull = true
+is_built VerticesInFacets = true
+is_built p = false
+
+-- ---- forms
+abbrev pub is_of_matrices : ValueKind → Bool
+is_of_matrices kind.Mat = true
+is_of_matrices k = false
+
+abbrev pub is_of_sets : ValueKind → Bool
+is_of_sets kind.Sets = true
+is_of_sets k = false
+
+abbrev pub is_of_whole_numbers : ValueKind → Bool
+is_of_whole_numbers kind.Int = true
+is_of_whole_numbers k = false
+
+abbrev pub is_of_truth_values : ValueKind → Bool
+is_of_truth_values kind.Bool = true
+is_of_truth_values k = false
+
+abbrev pub is_one : ℤ → Bool
+is_one (pos n) = nat_eq n 1
+is_one (negsuc n) = false
+
+abbrev pub is_entry : Ratio → Bool
+is_entry q = is_one q.den && nat_le (unsigned_abs q.num) (2 ^ 53)
+
+-- a row of n entries
+abbrev pub is_row_of_entries : ℕ → List Ratio → Bool
+is_row_of_entries n r = nat_eq (length r) n && list_all is_entry r
+
+-- rows need columns
+abbrev pub is_column_count : List (List Ratio) → ℕ → Bool
+is_column_count [] n = nat_le n 33
+is_column_count (r ∷ rows) n = nat_le 1 n && nat_le n 33
+
+abbrev pub is_matrix_form : ℕ → List (List Ratio) → Bool
+is_matrix_form n rows = nat_le (length rows) 2048 && is_column_count rows n && list_all (is_row_of_entries n) rows
+
+-- ascending indices from `low` on, below n
+abbrev pub are_indices : ℕ → ℕ → List ℕ → Bool
+are_indices n low [] = true
+are_indices n low (j ∷ js) = nat_le low j && nat_lt j n && are_indices n (suc j) js
+
+abbrev pub is_sets_form : List (List ℕ) → ℕ → Bool
+is_sets_form rows n = nat_le (length rows) 2048 && nat_le n 2048 && list_all (are_indices n 0) rows
+
+abbrev pub is_dimension : ℤ → Bool
+is_dimension (pos n) = nat_le 1 n && nat_le n 33
+is_dimension (negsuc n) = false
+
+abbrev pub has_64_bits : ℤ → Bool
+has_64_bits (pos n) = nat_lt n (2 ^ 63)
+has_64_bits (negsuc n) = nat_lt n (2 ^ 63)
+
+abbrev pub is_formed : PropId → PropertyValue → Bool
+is_formed p (matrix n rows) = is_of_matrices (value_kind p) && is_matrix_form n rows
+is_formed p (sets rows n) = is_of_sets (value_kind p) && is_sets_form rows n
+is_formed ConeAmbientDim (whole k) = is_dimension k
+is_formed p (whole k) = is_of_whole_numbers (value_kind p) && has_64_bits k
+is_formed p (truth b) = is_of_truth_values (value_kind p)
+is_formed p v = false
+
+-- ---- columns
+abbrev pub is_columned : PropId → Bool
+is_columned Points = true
+is_columned InputLineality = true
+is_columned Inequalities = true
+is_columned Equations = true
+is_columned Vertices = true
+is_columned LinealitySpace = true
+is_columned Facets = true
+is_columned AffineHull = true
+is_columned LinearObjective = true
+is_columned MaximalDual = true
+is_columned MinimalDual = true
+is_columned p = false
+
+abbrev pub cols_in : PropertyValue → ℕ
+cols_in (matrix n rows) = n
+cols_in v = 0
+
+abbrev pub stated_cols : PropId → PropertyValue → ℕ
+stated_cols p v = if is_columned p then cols_in v else 0
+
+abbrev pub is_number : ℤ → ℕ → Bool
+is_number (pos k) n = nat_eq k n
+is_number (negsuc k) n = false
+
+-- the property that states the dimension
+abbrev pub is_ambient : PropId → Bool
+is_ambient ConeAmbientDim = true
+is_ambient p = false
+
+abbrev pub states : ℕ → PropertyValue → Bool
+states n (whole k) = is_number k n
+states n v = true
+
+abbrev pub agrees_with : ℕ → PropId → PropertyValue → Bool
+agrees_with n p v = if is_ambient p then states n v else nat_eq (stated_cols p v) 0 || nat_eq (stated_cols p v) n
+
+-- ---- the tests of rows
+abbrev pub is_nought : ℤ → Bool
+is_nought (pos zero) = true
+is_nought k = false
+
+abbrev pub is_below_nought : ℤ → Bool
+is_below_nought (pos n) = false
+is_below_nought (negsuc n) = true
+
+abbrev pub is_zero_row : List Ratio → Bool
+is_zero_row r = list_all (λ q. is_nought q.num) r
+
+abbrev pub first_is_nought : List Ratio → Bool
+first_is_nought [] = true
+first_is_nought (q ∷ r) = is_nought q.num
+
+abbrev pub first_is_below : List Ratio → Bool
+first_is_below [] = false
+first_is_below (q ∷ r) = is_below_nought q.num
+
+-- points of a polytope do not lie behind, its lines have first coordinate 0, and no ray or facet row is zero
+abbrev pub is_row : ObjectType → PropId → List Ratio → Bool
+is_row Polytope Points r = not (first_is_below r)
+is_row Polytope Vertices r = not (first_is_below r) && not (is_zero_row r)
+is_row Polytope InputLineality r = first_is_nought r
+is_row Polytope LinealitySpace r = first_is_nought r
+is_row of Vertices r = not (is_zero_row r)
+is_row of Facets r = not (is_zero_row r)
+is_row of p r = true
+
+abbrev pub are_rows : ObjectType → PropId → PropertyValue → Bool
+are_rows of p (matrix n rows) = list_all (is_row of p) rows
+are_rows of p v = true
+
+pub record FormsIn (of : ObjectType) (n : ℕ) (p : PropId) (v : PropertyValue) : Type 0 where
+  pub formed : IsTrue (is_formed p v)
+  pub columns : IsTrue (agrees_with n p v)
+  pub rows : IsTrue (are_rows of p v)

@@ -1,0 +1,20 @@
+-- The code's values as values of properties: a whole number is a fraction over 1.
+use Rattle.std.specs.Prelude.{List, map}
+use Rattle.pm_algebra.specs.Numbers.{Ratio}
+use Rattle.pm_algebra.specs.Rows.{Row}
+use Rattle.pm_types.specs.Values.{PropertyValue, matrix, sets, whole, truth}
+use Rattle.pm_types.specs.declared.value.Value.{Value}
+use Rattle.pm_types.specs.declared.value.Value.TheVariants as value
+use lib.IntN.{ℤ, pos}
+
+abbrev pub over_one : ℤ → Ratio
+over_one k = record { num = k; den = pos 1 }
+
+abbrev pub ratios : Row → List Ratio
+ratios x = map over_one x
+
+abbrev pub view_of : Value → PropertyValue
+view_of (value.Mat m) = matrix m.cols (map ratios m.rows)
+view_of (value.Sets s) = sets s.rows s.cols
+view_of (value.Int k) = whole k
+view_of (value.Bool b) = truth b
