@@ -1,0 +1,25 @@
+-- What a claim says, and what a table does for it at one row.
+--     Holds book names barred held asked claim      the claim is true of all chains, also of those with rules that are not useful
+--     GoesOn rows claim step weight row      where the step can be made from a row within the claim, it leads out of the claim or to a row that costs no more
+use Rattle.std.specs.Prelude.{List, ◌⊎◌}
+use Rattle.pm_types.specs.declared.set.PropSet.{PropSet}
+use Rattle.pm_types.specs.declared.kind.RuleId.{RuleId}
+use Rattle.pm_types.specs.declared.weight.Weight.{Weight}
+use Rattle.pm_types.specs.Sets.{union}
+use Rattle.pm_types.specs.Weights.{plus, IsAtMost}
+use Rattle.pm_rules.specs.declared.rule.Rule.{Rule}
+use Rattle.pm_rules.specs.declared.step.Step.{Step}
+use Rattle.pm_rules.specs.declared.table.TableRow.{TableRow}
+use Rattle.pm_rules.specs.declared.table.Claim.{Claim}
+use Rattle.pm_rules.specs.declared.table.Claim.TheVariants.{Least, NoChain}
+use Rattle.pm_rules.specs.Steps.{IsOpen}
+use Rattle.pm_rules.specs.Chains.{weigh, LeadsTo, HasNoChain}
+use Rattle.pm_rules.specs.Certificates.{Within, EndsClaim, HasRow}
+
+abbrev pub Holds : List Rule → PropSet → List RuleId → PropSet → PropSet → Claim → Type 0
+Holds book names barred held asked (Least least) = (chain : List RuleId) → LeadsTo book names barred held asked chain → IsAtMost least (weigh book chain)
+Holds book names barred held asked NoChain = HasNoChain book names barred held asked
+
+pub record GoesOn (rows : List TableRow) (claim : Claim) (step : Step) (weight : Weight) (row : TableRow) : Type 0 where
+  pub onward : Within claim row.cost → IsOpen step row.set
+      → EndsClaim claim (plus row.cost weight) ⊎ HasRow rows (union row.set step.targets) (plus row.cost weight)

@@ -1,0 +1,154 @@
+// Checks that the table of a plan proves what it claims.
+#![tactic(auto)]
+
+ghost use Rattle.std.specs.Prelude.{◌≡◌, ◌≤◌, ◌↔◌, IsTrue, Some, length, All, Contains};
+ghost use Rattle.pm_types.specs.Sets.{IsSubset};
+ghost use Rattle.pm_types.specs.Weights.{no_cost, plus, IsAtMost};
+ghost use Rattle.pm_rules.specs.Rules.{rule_at};
+ghost use Rattle.pm_rules.specs.Books.{most_rules};
+ghost use Rattle.pm_rules.specs.Steps.{step_of};
+ghost use Rattle.pm_rules.specs.Useful.{FindsOne};
+ghost use Rattle.pm_rules.specs.Certificates.{Within, EndsClaim, HasRow, IsCertificate};
+ghost use Rattle.pm_cert.specs.Claims.{Holds, GoesOn};
+
+use pm_rules::{Book, Claim, Cost, PropSet, Rule, RuleId, Step, Table, TableRow, Weight, needed};
+
+#[cfg(test)]
+mod random_tables;
+#[cfg(test)]
+mod tests;
+
+/// Whether the table is a certificate for the claim. If so, the claim holds of all chains, also of those with rules
+/// that are not useful.
+pub fn verify(
+    b: &Book,
+    names: PropSet,
+    held: PropSet,
+    barred: &[RuleId],
+    asked: PropSet,
+    t: &Table,
+    c: Claim,
+) -> bool
+    ensures exact { IsTrue result ↔ IsCertificate b.now names barred.now held asked c t.now.rows.items }
+    ensures claim { IsTrue result → Holds b.now names barred.now held asked c }
+{
+    proves(b.rules(), names, held, barred, asked, t.rows.as_slice(), c)
+}
+
+// The same for the rules of a book and the rows of a table.
+fn proves(
+    rules: &[Rule],
+    names: PropSet,
+    held: PropSet,
+    barred: &[RuleId],
+    asked: PropSet,
+    rows: &[TableRow],
+    c: Claim,
+) -> bool
+    requires { length rules.now ≤ most_rules }
+    ensures { IsTrue result ↔ IsCertificate rules.now names barred.now held asked c rows.now }
+{
+    let needed = needed(rules, names, barred, asked);
+    has_start(rows, held, c)
+        & ends_nowhere(rows, asked, c)
+        & is_closed(rules, names, barred, needed, rows, c)
+}
+
+// Whether a row with this cost has to be looked at.
+fn is_within(c: Claim, cost: Cost) -> bool
+    ensures { IsTrue result ↔ Within c cost }
+{
+    match c {
+        Claim::Least(least) => cost.is_below(least),
+        Claim::NoChain => true,
+    }
+}
+
+// Whether the table has a row for the names held at the start, if it needs one.
+fn has_start(rows: &[TableRow], held: PropSet, c: Claim) -> bool
+    ensures { IsTrue result ↔ (Within c no_cost → Contains rows.now (record { set = held; cost = no_cost })) }
+{
+    let start = TableRow {
+        set: held,
+        cost: Cost::none(),
+    };
+    !is_within(c, start.cost) | rows.contains(&start)
+}
+
+// Whether no row within the claim holds all asked names.
+fn ends_nowhere(rows: &[TableRow], asked: PropSet, c: Claim) -> bool
+    ensures { IsTrue result ↔ All (λ row. Within c row.cost → IsSubset asked row.set → ⊥) rows.now }
+{
+    rows.iter()
+        .all(|row| !(is_within(c, row.cost) & asked.is_subset(row.set)))
+}
+
+// Whether the rules that find a needed name lead from each row within the claim on to a row, or out of the claim.
+fn is_closed(
+    rules: &[Rule],
+    names: PropSet,
+    barred: &[RuleId],
+    needed: PropSet,
+    rows: &[TableRow],
+    c: Claim,
+) -> bool
+    requires { length rules.now ≤ most_rules }
+    ensures { IsTrue result ↔ ((id : RuleId) (rule : Rule) → rule_at rules.now id ≡ Some rule → FindsOne names barred.now needed id rule
+        → All (GoesOn rows.now c (step_of rule) rule.weight) rows.now) }
+{
+    for (i, rule) in rules.iter().enumerate() {
+        if rule.finds_one(names, barred, needed, RuleId(i as u16))
+            && !all_go_on(rows, c, rule.step(), rule.weight)
+        {
+            return false;
+        }
+    }
+    true
+}
+
+// Whether a step of this weight leads from each row on, where it can be made.
+fn all_go_on(rows: &[TableRow], c: Claim, step: Step, weight: Weight) -> bool
+    ensures { IsTrue result ↔ All (GoesOn rows.now c step weight) rows.now }
+{
+    rows.iter().all(|row| goes_on(rows, c, step, weight, *row))
+}
+
+// The same, from one row.
+fn goes_on(rows: &[TableRow], c: Claim, step: Step, weight: Weight, row: TableRow) -> bool
+    ensures { IsTrue result ↔ GoesOn rows.now c step weight row }
+{
+    let TableRow { set, cost } = row;
+    let next = set.union(step.targets);
+    if is_within(c, cost) && step.is_open(set) {
+        ends_claim(c, cost, weight) || has_row(rows, next, cost, weight)
+    } else {
+        true
+    }
+}
+
+// Whether the cost with the weight is not within the claim.
+fn ends_claim(c: Claim, cost: Cost, weight: Weight) -> bool
+    ensures { IsTrue result ↔ EndsClaim c (plus cost weight) }
+{
+    match c {
+        Claim::Least(least) => is_at_most_sum(least, cost, weight),
+        Claim::NoChain => false,
+    }
+}
+
+// Whether a row with this set costs at most the cost with the weight.
+fn has_row(rows: &[TableRow], set: PropSet, cost: Cost, weight: Weight) -> bool
+    ensures { IsTrue result ↔ HasRow rows.now set (plus cost weight) }
+{
+    rows.iter().any(|row| row.set == set && is_at_most_sum(row.cost, cost, weight))
+}
+
+// Whether a cost is at most another with a weight. The sums may not fit a cost.
+fn is_at_most_sum(a: Cost, cost: Cost, weight: Weight) -> bool
+    ensures { IsTrue result ↔ IsAtMost a (plus cost weight) }
+{
+    let class = u128::from(cost.class) + u128::from(weight.class);
+    let minor = u128::from(cost.minor) + u128::from(weight.minor);
+    let own = u128::from(a.class);
+    own < class || (own == class && u128::from(a.minor) <= minor)
+}

@@ -1,0 +1,13 @@
+pub mod Options
+pub mod Order
+pub mod Places
+pub mod Settling
+pub mod Reaching
+pub mod Collected
+pub mod Expanding
+pub mod Exploring
+pub mod Walks
+pub mod Backward
+pub mod Reached
+pub mod Planning
+pub mod Crowding

@@ -1,0 +1,4 @@
+pub mod Moves
+pub mod Tracks
+pub mod Searches
+pub mod Plans

@@ -1,0 +1,16 @@
+// Least chains of rules.
+#![tactic(auto)]
+
+mod answer;
+mod moves;
+mod planner;
+mod search;
+mod track;
+
+pub use answer::{Plan, PlanEnd};
+pub use planner::plan;
+
+#[cfg(test)]
+mod random_books;
+#[cfg(test)]
+mod tests;

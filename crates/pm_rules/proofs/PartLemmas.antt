@@ -1,0 +1,67 @@
+-- How lists of names and of conditions are read, one after the other.
+use Rattle.std.proofs.Common.{◌≡◌, ℕ, Bool, true, false, Ok, Err, List, [], ◌∷◌, map, length, refl, sym, ap, ◌∙◌, arith}
+use Rattle.pm_types.specs.declared.property.PropId.{PropId}
+use Rattle.pm_types.specs.declared.set.PropSet.{PropSet}
+use Rattle.pm_types.specs.Sets.{only, union}
+use Rattle.pm_rules.specs.declared.token.Token.{Token as CodeToken}
+use Rattle.pm_rules.specs.declared.fail.BookFail.{BookFail}
+use Rattle.pm_rules.specs.declared.fail.BookFail.TheVariants.{Syntax}
+use Rattle.pm_rules.specs.Tokens.{Token}
+use Rattle.pm_rules.specs.Seen.{seen}
+use Rattle.pm_rules.specs.Gives.{IsBehindComma, HasNoComma, HasCondition}
+use Rattle.pm_rules.specs.Reading.{name_of, names_from, Conditions, condition_of, with_condition, conditions_from}
+use Rattle.pm_rules.specs.Reading.Due.{condition, comma}
+
+-- ---- names
+pub names_none : (set : PropSet) (end : ℕ) (ts : List CodeToken) → length ts ≡ 0 → names_from true set end (map seen ts) ≡ Err (Syntax end)
+unfolding names_from
+names_none set end [] e = refl
+names_none set end (t ∷ ts) e = absurd (omega arith)
+
+pub names_fault : (set : PropSet) (end : ℕ) (t : Token) (ts : List Token) (e : BookFail) → name_of set t ≡ Err e → names_from true set end (t ∷ ts) ≡ Err e
+unfolding names_from
+names_fault set end t ts e h = rw h refl
+
+comma_last : (set : PropSet) (end : ℕ) (ts : List Token) → HasNoComma ts → names_from false set end ts ≡ Ok (set, ts)
+unfolding names_from
+comma_last set end [] h = refl
+comma_last set end (t ∷ ts) h = rw h refl
+
+comma_next : (set : PropSet) (end : ℕ) (ts rest : List Token) → IsBehindComma ts rest → names_from false set end ts ≡ names_from true set end rest
+unfolding names_from
+comma_next set end [] rest h = absurd h
+comma_next set end (t ∷ ts) rest h = rw (h.0, h.1) refl
+
+names_one : (set : PropSet) (end : ℕ) (t : Token) (ts : List Token) (p : PropId) → name_of set t ≡ Ok p → names_from true set end (t ∷ ts) ≡ names_from false (union set (only p)) end ts
+unfolding names_from
+names_one set end t ts p h = rw h refl
+
+pub names_last : (set more : PropSet) (end : ℕ) (t : Token) (ts : List Token) (p : PropId) → name_of set t ≡ Ok p → more ≡ union set (only p) → HasNoComma ts
+    → names_from true set end (t ∷ ts) ≡ Ok (more, ts)
+names_last set more end t ts p h e last = names_one set end t ts p h ∙ comma_last (union set (only p)) end ts last ∙ ap (λ s. Ok (s, ts)) (sym e)
+
+pub names_next : (set more : PropSet) (end : ℕ) (t : Token) (ts rest : List Token) (p : PropId) → name_of set t ≡ Ok p → more ≡ union set (only p) → IsBehindComma ts rest
+    → names_from true set end (t ∷ ts) ≡ names_from true more end rest
+names_next set more end t ts rest p h e next =
+    names_one set end t ts p h ∙ comma_next (union set (only p)) end ts rest next ∙ ap (λ s. names_from true s end rest) (sym e)
+
+-- ---- conditions
+conditions_last : (found : Conditions) (end : ℕ) (ts : List Token) → HasNoComma ts → conditions_from comma found end ts ≡ Ok (found, ts)
+unfolding conditions_from
+conditions_last found end [] h = refl
+conditions_last found end (t ∷ ts) h = rw h refl
+
+conditions_next : (found : Conditions) (end : ℕ) (ts rest : List Token) → IsBehindComma ts rest → conditions_from comma found end ts ≡ conditions_from condition found end rest
+unfolding conditions_from
+conditions_next found end [] rest h = absurd h
+conditions_next found end (t ∷ ts) rest h = rw (h.0, h.1) refl
+
+pub condition_last : (found more : Conditions) (end : ℕ) (ts behind : List Token) (negated : Bool) (t : Token) (p : PropId) → HasCondition ts negated t behind → condition_of found t ≡ Ok p
+    → more ≡ with_condition found negated p → HasNoComma behind → conditions_from condition found end ts ≡ Ok (more, behind)
+condition_last found more end ts behind negated t p has h e last =
+    has found end ∙ (rw h (conditions_last (with_condition found negated p) end behind last)) ∙ ap (λ f. Ok (f, behind)) (sym e)
+
+pub condition_next : (found more : Conditions) (end : ℕ) (ts behind rest : List Token) (negated : Bool) (t : Token) (p : PropId) → HasCondition ts negated t behind → condition_of found t ≡ Ok p
+    → more ≡ with_condition found negated p → IsBehindComma behind rest → conditions_from condition found end ts ≡ conditions_from condition more end rest
+condition_next found more end ts behind rest negated t p has h e next =
+    has found end ∙ (rw h (conditions_next (with_condition found negated p) end behind rest next)) ∙ ap (λ f. conditions_from condition f end rest) (sym e)

@@ -1,0 +1,94 @@
+// Books of rules.
+
+ghost use Rattle.std.specs.Prelude.{◌≡◌, ◌==◌, IfOk, length};
+ghost use Rattle.std.specs.Option.{option_copied};
+ghost use Rattle.pm_rules.specs.Rules.{rule_at};
+ghost use Rattle.pm_rules.specs.Books.{IsBook, incidence_rule, standard_rules};
+
+use crate::rule::Rule;
+use pm_types::{ClientName, Kind, PropSet, RuleId, Weight};
+use std::alloc::{AllocError, Global};
+use std::marker::Model;
+
+/// The greatest number of rules in a book.
+pub const MOST_RULES: usize = 256;
+
+/// A list of at most 256 rules with different labels. Contracts see it as that list.
+#[derive(Debug, Drop)]
+pub struct Book {
+    rules: Vec<Rule>,
+}
+
+impl Model for Book {
+    ghost use Rattle.std.specs.Prelude.{List};
+    ghost use Rattle.pm_rules.specs.declared.rule.Rule.{Rule};
+
+    ghost Value = { List Rule };
+
+    ghost use Rattle.pm_rules.specs.Books.{IsBook};
+
+    ghost view = { λ b. b.rules.items };
+
+    ghost invariant = { λ b. IsBook b.rules.items };
+}
+
+impl Book {
+    // The book of these rules.
+    pub(crate) fn of_rules(rules: Vec<Rule>) -> Book
+        requires { IsBook rules.items }
+        ensures { result ≡ rules.items }
+    {
+        Book { rules }
+    }
+
+    /// The rules, in order.
+    pub fn rules(&self) -> &[Rule]
+        ensures value { result.now ≡ self.now }
+        ensures book { IsBook result.now }
+    {
+        self.rules.as_slice()
+    }
+
+    /// How many rules the book has.
+    pub fn len(&self) -> usize
+        ensures { result ≡ length self.now }
+    {
+        self.rules.len()
+    }
+
+    /// Whether the book has no rule.
+    pub fn is_empty(&self) -> bool
+        ensures { result ≡ (length self.now == 0) }
+    {
+        self.rules.is_empty()
+    }
+
+    /// The rule of this number, if the book has so many.
+    pub fn rule(&self, id: RuleId) -> Option<&Rule>
+        ensures { option_copied result ≡ rule_at self.now id }
+    {
+        self.rules.get(usize::from(id.0))
+    }
+}
+
+/// The rules that are built, under the labels of their clients.
+pub fn standard_book(alloc: Global) -> Result<Book, AllocError>
+    ensures { IfOk result (λ b. b ≡ standard_rules) }
+{
+    let mut rules = Vec::new(alloc);
+    rules.push(incidence())?;
+    Ok(Book { rules })
+}
+
+// The rule of the client `incidence`.
+fn incidence() -> Rule
+    ensures { result ≡ incidence_rule }
+{
+    Rule {
+        label: ClientName::new("incidence").unwrap(),
+        kind: Kind::incidence(),
+        weight: Weight { class: 0, minor: 5 },
+        must: PropSet::empty(),
+        must_not: PropSet::empty(),
+    }
+}

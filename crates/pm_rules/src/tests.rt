@@ -1,0 +1,278 @@
+// Books read and printed, and the places of faults.
+
+use crate::{BookFail, Claim, Cost, Step, Tag, book_text, is_barred, read_book, standard_book};
+use pm_types::{ClientName, Kind, PropId, PropSet, RuleId};
+use std::alloc::{AllocError, Global};
+use std::process::Abort;
+
+fn kind(name: &str, targets: &[PropId], sources: &[PropId]) -> Option<Kind> {
+    let name = ClientName::new(name)?;
+    Some(Kind {
+        name,
+        targets: PropSet::of_list(targets),
+        sources: PropSet::of_list(sources),
+        must: PropSet::empty(),
+        must_not: PropSet::empty(),
+    })
+}
+
+fn kinds(alloc: Global) -> Result<Vec<Kind>, AllocError> {
+    let mut list = Vec::new(alloc);
+    if let Some(found) = kind(
+        "cone_dim_v",
+        &[PropId::ConeDim],
+        &[PropId::Vertices, PropId::LinealitySpace],
+    ) {
+        list.push(found)?;
+    }
+    if let Some(found) = kind(
+        "h_vector",
+        &[PropId::HVector],
+        &[PropId::FVector, PropId::CombinatorialDim],
+    ) {
+        let demanding = Kind {
+            must: PropSet::of_list(&[PropId::Bounded, PropId::Simplicial]),
+            ..found
+        };
+        list.push(demanding)?;
+    }
+    if let Some(found) = kind(
+        "lp_max_face",
+        &[PropId::MaximalFace],
+        &[
+            PropId::Vertices,
+            PropId::MaximalValue,
+            PropId::LinearObjective,
+        ],
+    ) {
+        list.push(found)?;
+    }
+    Ok(list)
+}
+
+fn fault(rt: &(impl Abort + AllocGlobal), text: &str) -> Option<BookFail> {
+    let list = kinds(rt.alloc()).expect(rt, "the kinds");
+    match read_book(rt.alloc(), text, list.as_slice()) {
+        Ok(_) => None,
+        Err(fail) => Some(fail),
+    }
+}
+
+#[test]
+fn faults_have_their_places(rt: HostRuntime) {
+    for (text, want) in [
+        ("", None),
+        ("# nothing but a comment", None),
+        (
+            "a : rule CONE_DIM : VERTICES { nosuch } weight 1;",
+            Some(BookFail::UnknownClient(31)),
+        ),
+        (
+            "a : rule CONE_DIM : VERTICES { cone_dim_v } weight 1;",
+            Some(BookFail::SignatureMismatch(53)),
+        ),
+        (
+            "a : rule CONE_DIM : VERTICES { cone_dim_v } weight 0;",
+            Some(BookFail::WeightRange(51)),
+        ),
+        ("a : rule CONE_DIM : V", Some(BookFail::UnknownProperty(20))),
+        ("a : rule CONE_DIM : ", Some(BookFail::Syntax(20))),
+        (
+            "a : rule CONE_DIM : VERTICES, LINEALITY_SPACE { cone_dim_v } weight 0.0;",
+            Some(BookFail::WeightRange(68)),
+        ),
+        (
+            "a : rule CONE_DIM : VERTICES, LINEALITY_SPACE { cone_dim_v } weight 1000001;",
+            Some(BookFail::WeightRange(68)),
+        ),
+        (
+            "a : rule CONE_DIM : VERTICES, LINEALITY_SPACE { cone_dim_v } weight 18446744073709551617;",
+            Some(BookFail::WeightRange(68)),
+        ),
+        (
+            "a : rule CONE_DIM : VERTICES, LINEALITY_SPACE { cone_dim_v } weight 007.1000000;",
+            None,
+        ),
+        (
+            "a : rule CONE_DIM : VERTICES, LINEALITY_SPACE { cone_dim_v } weight 1.;",
+            Some(BookFail::Syntax(69)),
+        ),
+        (
+            "a : rule CONE_DIM : VERTICES, LINEALITY_SPACE { cone_dim_v } weight 1 .5;",
+            Some(BookFail::Syntax(70)),
+        ),
+        (
+            "a : rule CONE_DIM : VERTICES, RAYS { cone_dim_v } weight 1;",
+            Some(BookFail::Syntax(30)),
+        ),
+        (
+            "a : rule NOSUCH : VERTICES { cone_dim_v } weight 1;",
+            Some(BookFail::UnknownProperty(9)),
+        ),
+        (
+            "a.b : rule CONE_DIM : VERTICES { cone_dim_v } weight 1;",
+            Some(BookFail::Syntax(0)),
+        ),
+        (
+            "precondition : rule CONE_DIM : VERTICES { cone_dim_v } weight 1;",
+            Some(BookFail::Syntax(0)),
+        ),
+        (
+            "abcdefghijklmnopqrstuvwxyz0123456 : rule CONE_DIM : VERTICES { cone_dim_v } weight 1;",
+            Some(BookFail::Syntax(0)),
+        ),
+        // what stands right behind a rule comes before its signature only where it can begin no rule
+        (
+            "a : rule CONE_DIM : VERTICES { cone_dim_v } weight 1;;",
+            Some(BookFail::Syntax(53)),
+        ),
+        (
+            "a : rule CONE_DIM : VERTICES { cone_dim_v } weight 1; ;",
+            Some(BookFail::SignatureMismatch(53)),
+        ),
+        (
+            "a : rule CONE_DIM : VERTICES { cone_dim_v } weight 1;a : rule",
+            Some(BookFail::SignatureMismatch(53)),
+        ),
+        (
+            "a : rule H_VECTOR : F_VECTOR, COMBINATORIAL_DIM { h_vector } weight 2; precondition : BOUNDED, N_FACETS;",
+            Some(BookFail::Syntax(95)),
+        ),
+        (
+            "a : rule H_VECTOR : F_VECTOR, COMBINATORIAL_DIM { h_vector } weight 2; precondition : BOUNDED, ! BOUNDED;",
+            Some(BookFail::Syntax(97)),
+        ),
+        (
+            "a : rule H_VECTOR : F_VECTOR, COMBINATORIAL_DIM { h_vector } weight 2; precondition : BOUNDED;",
+            Some(BookFail::SignatureMismatch(94)),
+        ),
+        (
+            "a : rule H_VECTOR : F_VECTOR, COMBINATORIAL_DIM { h_vector } weight 2; precondition : BOUNDED, SIMPLICIAL;",
+            None,
+        ),
+        (
+            "a : rule H_VECTOR : F_VECTOR, COMBINATORIAL_DIM { h_vector } weight 2; precondition : BOUNDED, ! SIMPLICIAL;",
+            Some(BookFail::SignatureMismatch(108)),
+        ),
+        (
+            "a : rule CONE_DIM : RAYS, LINEALITY_SPACE {cone_dim_v}weight 1;a : rule",
+            Some(BookFail::SameLabel(63)),
+        ),
+        ("\u{e9}", Some(BookFail::Syntax(0))),
+        ("# \u{e9}\n@", Some(BookFail::Syntax(5))),
+    ] {
+        assert_eq!(rt; fault(&rt, text), want, "{text}");
+    }
+}
+
+#[test]
+fn a_book_is_read_printed_and_read_back(rt: HostRuntime) {
+    let list = kinds(rt.alloc()).expect(&rt, "the kinds");
+    let text =
+        "# rules\nh : rule H_VECTOR : COMBINATORIAL_DIM,F_VECTOR{h_vector}weight 2.03;precondition : ! POINTED , SIMPLICIAL, BOUNDED;#end\n\tdim:rule CONE_DIM\r\n: LINEALITY_SPACE, RAYS { cone_dim_v } weight 0.7 ; face : rule LP.MAXIMAL_FACE : RAYS, LP.LINEAR_OBJECTIVE, LP.MAXIMAL_VALUE { lp_max_face } weight 1000000.0;";
+    let want =
+        "h : rule H_VECTOR : COMBINATORIAL_DIM, F_VECTOR { h_vector } weight 2.3; precondition : BOUNDED, ! POINTED, SIMPLICIAL;\ndim : rule CONE_DIM : VERTICES, LINEALITY_SPACE { cone_dim_v } weight 7;\nface : rule LP.MAXIMAL_FACE : VERTICES, LP.LINEAR_OBJECTIVE, LP.MAXIMAL_VALUE { lp_max_face } weight 1000000.0;\n";
+    let book = match read_book(rt.alloc(), text, list.as_slice()) {
+        Ok(book) => book,
+        Err(fail) => panic!(rt; "{fail:?}"),
+    };
+    assert_eq!(rt; book.len(), 3);
+    let printed = book_text(rt.alloc(), &book).expect(&rt, "the text");
+    assert_eq!(rt; printed.as_str(), want);
+    let again = match read_book(rt.alloc(), printed.as_str(), list.as_slice()) {
+        Ok(book) => book,
+        Err(fail) => panic!(rt; "{fail:?}"),
+    };
+    assert_eq!(rt; again.rules(), book.rules());
+}
+
+#[test]
+fn the_standard_book_is_printed(rt: HostRuntime) {
+    let book = standard_book(rt.alloc()).expect(&rt, "the book");
+    let printed = book_text(rt.alloc(), &book).expect(&rt, "the text");
+    let want = "incidence : rule VERTICES_IN_FACETS : VERTICES, FACETS { incidence } weight 5;\n";
+    assert_eq!(rt; printed.as_str(), want);
+    assert!(rt; !book.is_empty());
+}
+
+// A cone with both descriptions: incidences can be found, once, and not where facets are missing.
+#[test]
+fn rules_are_enabled(rt: HostRuntime) {
+    let book = standard_book(rt.alloc()).expect(&rt, "the book");
+    let Some(rule) = book.rule(RuleId(0)) else {
+        panic!(rt; "no rule");
+    };
+    let both = PropSet::of_list(&[PropId::Vertices, PropId::Facets]);
+    let all = both.with(PropId::VerticesInFacets);
+    assert!(rt; rule.is_enabled(all, &[], both, RuleId(0)));
+    assert!(rt; !rule.is_enabled(both, &[], both, RuleId(0)));
+    assert!(rt; !rule.is_enabled(all, &[RuleId(0)], both, RuleId(0)));
+    assert!(rt; !rule.is_enabled(all, &[], all, RuleId(0)));
+    assert!(rt; !rule.is_enabled(all, &[], PropSet::of(PropId::Vertices), RuleId(0)));
+    assert!(rt; is_barred(&[RuleId(2), RuleId(0)], RuleId(0)));
+    // a rule whose targets alone speak of the order of the rays waits until nothing does
+    let fresh = Step {
+        targets: PropSet::of(PropId::Vertices),
+        inputs: PropSet::of(PropId::Points),
+        blocked: PropSet::of(PropId::Graph),
+    };
+    assert!(rt; fresh.is_open(PropSet::of(PropId::Points)));
+    assert!(rt; !fresh.is_open(PropSet::of(PropId::Points).with(PropId::Graph)));
+    assert!(rt; Tag::Facets.is_in(both) && !Tag::Generators.is_in(both));
+    assert!(rt; Claim::Least(Cost::none()) != Claim::NoChain);
+}
+
+fn push_rule(rt: &(impl Abort + AllocGlobal), text: &mut String, number: u32) {
+    let line = format!(in rt.alloc();
+        "r{number} : rule CONE_DIM : VERTICES, LINEALITY_SPACE {{ cone_dim_v }} weight 1;\r\n"
+    ).expect(rt, "the line");
+    text.push_str(line.as_str()).expect(rt, "the text");
+}
+
+#[test]
+fn a_book_has_at_most_256_rules(rt: HostRuntime) {
+    let mut text = String::new(rt.alloc());
+    for number in 0..256 {
+        push_rule(&rt, &mut text, number);
+    }
+    assert_eq!(rt; fault(&rt, text.as_str()), None);
+    let place = text.len();
+    push_rule(&rt, &mut text, 256);
+    assert_eq!(rt;
+        fault(&rt, text.as_str()),
+        Some(BookFail::TooManyRules(place))
+    );
+}
+
+// Of a rule that is one too many the label is looked at first.
+#[test]
+fn an_old_label_is_found_first(rt: HostRuntime) {
+    let mut text = String::new(rt.alloc());
+    for number in 0..256 {
+        push_rule(&rt, &mut text, number);
+    }
+    let place = text.len();
+    push_rule(&rt, &mut text, 0);
+    assert_eq!(rt; fault(&rt, text.as_str()), Some(BookFail::SameLabel(place)));
+}
+
+#[test]
+fn classes_are_read_and_printed(rt: HostRuntime) {
+    let mut list = Vec::new(rt.alloc());
+    for (name, sources) in [
+        ("cone_dim_points", [PropId::Points, PropId::InputLineality]),
+        ("cone_dim_span", [PropId::AffineHull, PropId::AffineHull]),
+    ] {
+        if let Some(found) = kind(name, &[PropId::ConeDim], &sources) {
+            list.push(found).expect(&rt, "the kinds");
+        }
+    }
+    let text =
+        "a : rule CONE_DIM : POINTS, INPUT_LINEALITY { cone_dim_points } weight 1.0;\nb : rule CONE_DIM : AFFINE_HULL { cone_dim_span } weight 999999;\n";
+    let book = match read_book(rt.alloc(), text, list.as_slice()) {
+        Ok(book) => book,
+        Err(fail) => panic!(rt; "{fail:?}"),
+    };
+    let printed = book_text(rt.alloc(), &book).expect(&rt, "the text");
+    assert_eq!(rt; printed.as_str(), text);
+}

@@ -1,0 +1,57 @@
+// Which names are needed to find the asked ones, and which rules are useful for that.
+
+ghost use Rattle.std.specs.Prelude.{◌≡◌, ◌≤◌, ◌↔◌, IsTrue, Some, length};
+ghost use Rattle.pm_types.specs.declared.property.PropId.{PropId};
+ghost use Rattle.pm_types.specs.Sets.{has, IsSubset};
+ghost use Rattle.pm_rules.specs.Books.{most_rules};
+ghost use Rattle.pm_rules.specs.Rules.{rule_at, inputs};
+ghost use Rattle.pm_rules.specs.Chains.{Needed};
+ghost use Rattle.pm_rules.specs.Useful.{FindsOne, AllNeeded};
+
+use crate::rule::Rule;
+use crate::step::is_barred;
+use pm_types::{PropSet, RuleId};
+
+/// The names that are needed to find the asked ones by the rules: these names, and all that useful rules read.
+pub fn needed(rules: &[Rule], names: PropSet, barred: &[RuleId], asked: PropSet) -> PropSet
+    requires { length rules.now ≤ most_rules }
+    ensures { (p : PropId) → IsTrue (has result p) ↔ Needed rules.now names barred.now asked p }
+{
+    let mut needed = asked;
+    'grow: loop {
+        let more = with_read(rules, names, barred, needed);
+        if more.bits() == needed.bits() {
+            return needed;
+        }
+        needed = more;
+    }
+}
+
+impl Rule {
+    /// Whether the rule of this number is in use, not barred, and finds one of these names. Of the needed names this
+    /// says whether the rule is useful.
+    pub fn finds_one(&self, names: PropSet, barred: &[RuleId], of: PropSet, id: RuleId) -> bool
+        ensures { IsTrue result ↔ FindsOne names barred.now of id self.now }
+    {
+        self.is_in_use(names)
+            & !is_barred(barred, id)
+            & !self.kind.targets.intersection(of).is_empty()
+    }
+}
+
+// The set with all that the rules read which find one of it.
+fn with_read(rules: &[Rule], names: PropSet, barred: &[RuleId], set: PropSet) -> PropSet
+    requires { length rules.now ≤ most_rules }
+    ensures number { set ≤ result }
+    ensures grows { IsSubset set result }
+    ensures sound { (asked : PropSet) → AllNeeded rules.now names barred.now asked set → AllNeeded rules.now names barred.now asked result }
+    ensures closed { (id : RuleId) (rule : Rule) → rule_at rules.now id ≡ Some rule → FindsOne names barred.now set id rule → IsSubset (inputs rule) result }
+{
+    let mut more = set;
+    for (i, rule) in rules.iter().enumerate() {
+        if rule.finds_one(names, barred, set, RuleId(i as u16)) {
+            more = more.union(rule.inputs());
+        }
+    }
+    more
+}
