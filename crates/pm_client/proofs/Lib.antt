@@ -1,0 +1,4 @@
+pub mod Columns
+pub mod OneTarget
+pub mod SameKind
+pub mod Started

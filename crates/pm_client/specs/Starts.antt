@@ -1,0 +1,45 @@
+-- Clients in order, each seen as its kind with the count of its starts.
+--     next_count n      one more, unless it stands at the greatest number of 64 bits
+--     same_kind a b      the two kinds have one name and the same properties in each place
+--     place_in kind n clients      the place of the first client of the kind, counted from n
+--     kind_at place clients      the kind of the client at the place
+--     has_client kind clients      some client is of the kind
+--     started_at place clients      the client at the place was started once more
+--     after_start kind clients      the first client of the kind was started once more
+use Rattle.std.specs.Prelude.{ℕ, zero, suc, ◌+◌, ◌-◌, ◌^◌, ◌&&◌, min, Bool, nat_eq, if◌then◌else◌, Option, Some, None, List, [], ◌∷◌}
+use Rattle.std.specs.Option.{is_some}
+use Rattle.std.specs.Str.{bytes_eq}
+use Rattle.pm_types.specs.declared.kind.Kind.{Kind}
+
+abbrev pub Clients : Type 0
+Clients = List (Kind × ℕ)
+
+abbrev pub next_count : ℕ → ℕ
+next_count n = min (n + 1) (2 ^ 64 - 1)
+
+abbrev pub same_kind : Kind → Kind → Bool
+same_kind a b = bytes_eq a.name b.name && (nat_eq a.targets b.targets && (nat_eq a.sources b.sources && (nat_eq a.must b.must && nat_eq a.must_not b.must_not)))
+
+abbrev pub place_in : Kind → ℕ → Clients → Option ℕ
+place_in kind n [] = None
+place_in kind n ((first, starts) ∷ rest) = if same_kind first kind then Some n else place_in kind (suc n) rest
+
+abbrev pub kind_at : ℕ → Clients → Option Kind
+kind_at place [] = None
+kind_at zero ((kind, starts) ∷ rest) = Some kind
+kind_at (suc place) (first ∷ rest) = kind_at place rest
+
+abbrev pub has_client : Kind → Clients → Bool
+has_client kind clients = is_some (place_in kind 0 clients)
+
+abbrev pub started_at : ℕ → Clients → Clients
+started_at place [] = []
+started_at zero ((kind, starts) ∷ rest) = (kind, next_count starts) ∷ rest
+started_at (suc place) (first ∷ rest) = first ∷ started_at place rest
+
+abbrev pub after_start_at : Option ℕ → Clients → Clients
+after_start_at None clients = clients
+after_start_at (Some place) clients = started_at place clients
+
+abbrev pub after_start : Kind → Clients → Clients
+after_start kind clients = after_start_at (place_in kind 0 clients) clients

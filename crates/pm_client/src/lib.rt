@@ -1,0 +1,65 @@
+// Clients, which answer properties of an object from others, and running the first client of a kind.
+#![tactic(auto)]
+
+ghost use Rattle.pm_client.specs.Sound.{FailsRightly, IsSound};
+ghost use Rattle.pm_client.specs.Starts.{next_count};
+ghost use Rattle.std.specs.Prelude.{IfErr, OnOk, [], ℕ, ◌≡◌};
+
+use pm_geom::Evidence;
+use pm_object::{Draft, View};
+use pm_types::Kind;
+use std::alloc::{AllocError, Global};
+
+mod boxes;
+#[cfg(test)]
+mod tests;
+mod values;
+
+pub use boxes::{place_of, run_first};
+pub use values::{matrix_of, put_value};
+
+/// Why a client did not answer.
+#[derive(Debug, Drop)]
+pub enum ClientFail {
+    /// Memory was wanting.
+    Memory,
+    /// The evidence shows why it cannot answer.
+    Failed(Evidence),
+}
+
+impl From<AllocError> for ClientFail {
+    ghost use Rattle.pm_client.specs.declared.ClientFail.TheVariants.{Memory};
+
+    ghost from_gives = { λ _ e. e ≡ Memory };
+
+    fn from(_error: AllocError) -> ClientFail {
+        ClientFail::Memory
+    }
+}
+
+/// A client: it answers the targets of its kind from the sources, and counts its starts.
+pub trait Client: Drop {
+    ghost use Rattle.pm_types.specs.declared.kind.Kind.{Kind};
+
+    ghost kind_of: { Self → Kind };
+
+    ghost starts_of: { Self → ℕ };
+
+    /// What it answers, and from what.
+    fn kind(&self) -> Kind
+        ensures { result ≡ kind_of self.now };
+
+    /// How often it was started, up to the greatest number of 64 bits.
+    fn starts(&self) -> u64
+        ensures { result ≡ starts_of self.now };
+
+    /// Puts the targets into an empty draft, or says why not.
+    fn run(&mut self, alloc: Global, view: &View, draft: &mut Draft) -> Result<(), ClientFail>
+        requires kind { view.now.kind ≡ kind_of self.old }
+        requires empty { draft.old ≡ record { kind = view.now.kind; values = [] } }
+        ensures kind { kind_of self.new ≡ kind_of self.old }
+        ensures starts { starts_of self.new ≡ next_count (starts_of self.old) }
+        ensures draft { draft.new.kind ≡ draft.old.kind }
+        ensures sound { OnOk result (IsSound view.now draft.new) }
+        ensures failed { IfErr result (λ e. FailsRightly view.now e) };
+}

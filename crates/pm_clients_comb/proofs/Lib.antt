@@ -1,0 +1,4 @@
+pub mod ShortRows
+pub mod Places
+pub mod Answered
+pub mod Sources

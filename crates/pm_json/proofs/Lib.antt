@@ -1,0 +1,5 @@
+pub mod Readings
+pub mod Parts
+pub mod MatrixLimits
+pub mod SetLimits
+pub mod Formed

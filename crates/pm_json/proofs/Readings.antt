@@ -1,0 +1,64 @@
+-- Rows, matrices and sets of JSON, an item at a time.
+use Rattle.std.proofs.Common.{refl, sym, ap, ◌∙◌, ◌≡◌, ◌<◌, ℕ, suc, List, [], ◌∷◌, ◌++◌, length, Some, Ok, Err, false, String, Global, append_assoc, length-append, arith, eqb}
+use Rattle.std.proofs.lemmas.Bool.{true≢false, lt-ltb, ne_eqb}
+use Rattle.std.proofs.lemmas.Option.{none-some, same_Some}
+use Rattle.serde_json.specs.Data.{Data, null, boolean, number, string, array, object, Items, item}
+use Rattle.serde_json.specs.Find.{as_object}
+use Rattle.serde_json.specs.View.{items_view, members_view}
+use Rattle.serde_json.specs.declared.value.Value.{Value}
+use Rattle.pm_algebra.specs.Rows.{Row}
+use Rattle.pm_json.specs.Readings.{Read, and_then, before, entry_of, later_row_from, has_one_member, SetsSeen, before_sets, stated_last}
+use Rattle.pm_json.specs.declared.fail.ValueFail.TheVariants.{Shape}
+use lib.IntN.{ℤ}
+
+abbrev pub Entry : Type 0
+Entry = String Global × Value
+
+-- what was read, and what is read after it
+abbrev pub with_front : {A : Type 0} → List A → Read (List A) → Read (List A)
+with_front front others = and_then others (λ as'. Ok (front ++ as'))
+
+abbrev pub with_front_sets : List (List ℕ) → Read SetsSeen → Read SetsSeen
+with_front_sets front others = and_then others (λ s. Ok (record s { rows = front ++ s.rows }))
+
+pub with_front-before : {A : Type 0} (front : List A) (a : A) (others : Read (List A)) → with_front front (before a others) ≡ with_front (front ++ a ∷ []) others
+with_front-before front a (Ok others) = ap (λ x. Ok x) (sym (append_assoc front (a ∷ []) others))
+with_front-before front a (Err fault) = refl
+
+pub with_front_sets-before : (front : List (List ℕ)) (set : List ℕ) (others : Read SetsSeen) → with_front_sets front (before_sets set others) ≡ with_front_sets (front ++ set ∷ []) others
+with_front_sets-before front set (Ok s) = ap (λ x. Ok (record s { rows = x })) (sym (append_assoc front (set ∷ []) s.rows))
+with_front_sets-before front set (Err fault) = refl
+
+pub with_front-nil : {A : Type 0} (others : Read (List A)) → with_front [] others ≡ others
+with_front-nil (Ok others) = refl
+with_front-nil (Err fault) = refl
+
+pub with_front_sets-nil : (others : Read SetsSeen) → with_front_sets [] others ≡ others
+with_front_sets-nil (Ok s) = refl
+with_front_sets-nil (Err fault) = refl
+
+-- a later row, an entry at a time
+pub later_row_from-item : (n : ℕ) (front : Row) (z : ℤ) (d : Data) (ds : Items) → length front < n → entry_of d ≡ Ok z
+    → with_front front (later_row_from n (length front) (item d ds)) ≡ with_front (front ++ z ∷ []) (later_row_from n (length (front ++ z ∷ [])) ds)
+later_row_from-item n front z d ds room is =
+    let one : suc (length front) ≡ length (front ++ z ∷ []) = omega (arith, length-append front (z ∷ [])) in
+    rw (lt-ltb (length front) n room, is) (with_front-before front z (later_row_from n (suc (length front)) ds) ∙ ap (λ k. with_front (front ++ z ∷ []) (later_row_from n k ds)) one)
+
+-- an object with one member
+one_member : (es : List Entry) → eqb (length es) 1 ≡ has_one_member (object (members_view es))
+one_member [] = refl
+one_member (e ∷ []) = refl
+one_member (e ∷ f ∷ es) = ne_eqb (length (e ∷ f ∷ es)) 1 (λ h. omega arith)
+
+pub has_one_member-length : (d : Data) (es : List Entry) → Some (members_view es) ≡ as_object d → eqb (length es) 1 ≡ has_one_member d
+has_one_member-length (object ms) es e = one_member es ∙ ap (λ m. has_one_member (object m)) (same_Some (members_view es) ms e)
+has_one_member-length null es e = absurd (none-some (members_view es) (sym e))
+has_one_member-length (boolean b) es e = absurd (none-some (members_view es) (sym e))
+has_one_member-length (number n) es e = absurd (none-some (members_view es) (sym e))
+has_one_member-length (string s) es e = absurd (none-some (members_view es) (sym e))
+has_one_member-length (array ds) es e = absurd (none-some (members_view es) (sym e))
+
+-- nothing may stand behind the column count
+pub stated_last-more : (n : ℕ) (vs : List Value) → eqb (length vs) 0 ≡ false → stated_last n (items_view vs) ≡ Err Shape
+stated_last-more n [] h = absurd (true≢false h)
+stated_last-more n (v ∷ vs) h = refl

@@ -1,0 +1,184 @@
+-- What a JSON value is, as a value of a property, so far.
+--     matrices      an array of at most 2,048 rows, which are arrays of one length from 1 to 33 of whole JSON numbers from -2^53 to 2^53
+--     sets      an array of at most 2,048 sets, which are arrays of indices below 2,048, in any order and none twice; after the sets maybe {"cols":n},
+--         n at most 2,048 and above every index; without it the column count is one more than the greatest index, or 0
+--     whole numbers, truth values      a whole JSON number of 64 bits, for CONE_AMBIENT_DIM from 1 to 33; true or false
+-- Values of further kinds are not read yet, and F2_VECTOR and LP.LINEAR_OBJECTIVE will have forms of their own.
+-- Of several faults the first in reading order counts, which goes through the elements from the first to the last. At one element it is the first of
+--     Shape      a JSON value of another form; an element that makes a row longer than the first; an index that its set has already
+--     Number      a number, or in matrices a text, that is not allowed there
+--     Index      an index that is negative, or not below the column count
+--     Limit      a count beyond its bound
+-- A count that is too large is a fault of the first element too many; a row that is too short is one of its end. Indices are held against the column count
+-- after the last element.
+--     reading p d      the value of p that the JSON value d is, or the fault
+use Rattle.std.specs.Prelude.{ℕ, suc, ◌==◌, ◌^◌, ◌∷◌, Bool, true, false, List, [], length, map, max, nat_le, nat_lt, Option, Some, None, is_some, Result, Ok, Err, codes, if◌then◌else◌, unsigned_abs}
+use Rattle.std.specs.List.{list_any}
+use Rattle.pm_algebra.specs.Rows.{Row}
+use Rattle.pm_types.specs.Forms.{is_dimension}
+use Rattle.pm_types.specs.Properties.{value_kind}
+use Rattle.pm_types.specs.Values.{PropertyValue, matrix, sets, whole, truth}
+use Rattle.pm_types.specs.Views.{ratios}
+use Rattle.pm_types.specs.declared.property.PropId.{PropId}
+use Rattle.pm_types.specs.declared.property.PropId.TheVariants.{ConeAmbientDim}
+use Rattle.pm_types.specs.declared.property.ValueKind.{ValueKind}
+use Rattle.pm_types.specs.declared.property.ValueKind.TheVariants as kind
+use Rattle.serde_json.specs.Data.{Data, object, Items, no_items, item, no_members, member}
+use Rattle.serde_json.specs.Find.{get, as_array, as_bool, as_i64, as_integer, as_number, as_object, as_str}
+use Rattle.pm_json.specs.declared.fail.ValueFail.{ValueFail}
+use Rattle.pm_json.specs.declared.fail.ValueFail.TheVariants.{Shape, Number, Index, Limit}
+use lib.IntN.{ℤ, pos, negsuc}
+
+-- what is read, or the fault
+abbrev pub Read : Type 0 → Type 0
+Read A = Result A ValueFail
+
+-- reads on, unless there was a fault
+abbrev pub and_then : {A B : Type 0} → Read A → (A → Read B) → Read B
+and_then (Ok a) next = next a
+and_then (Err fault) next = Err fault
+
+-- what was read, before what is read after it
+abbrev pub before : {A : Type 0} → A → Read (List A) → Read (List A)
+before a others = and_then others (λ as'. Ok (a ∷ as'))
+
+-- the fault where there is none
+abbrev pub or_fault : {A : Type 0} → ValueFail → Option A → Read A
+or_fault fault None = Err fault
+or_fault fault (Some a) = Ok a
+
+abbrev pub items_of : Data → Read Items
+items_of d = or_fault Shape (as_array d)
+
+-- ---- matrices
+abbrev pub small : ℤ → Read ℤ
+small z = if nat_le (unsigned_abs z) (2 ^ 53) then Ok z else Err Number
+
+abbrev pub entry_of : Data → Read ℤ
+entry_of d = if is_some (as_str d) then Err Number else and_then (or_fault Shape (as_number d)) (λ n. and_then (or_fault Number (as_i64 n)) small)
+
+-- the entries of a first row, of which k came before
+abbrev pub first_row_from : ℕ → Items → Read Row
+first_row_from k no_items = if k == 0 then Err Limit else Ok []
+first_row_from k (item d ds) = and_then (entry_of d) (λ z. if nat_lt k 33 then before z (first_row_from (suc k) ds) else Err Limit)
+
+-- the entries of a later row, which has to have n, of which k came before
+abbrev pub later_row_from : ℕ → ℕ → Items → Read Row
+later_row_from n k no_items = if k == n then Ok [] else Err Shape
+later_row_from n k (item d ds) = if nat_lt k n then and_then (entry_of d) (λ z. before z (later_row_from n (suc k) ds)) else Err Shape
+
+-- a row, before which k rows came, the last of length n
+abbrev pub row_of : ℕ → ℕ → Items → Read Row
+row_of n k es = if k == 0 then first_row_from 0 es else later_row_from n 0 es
+
+-- the rows, of which k came before, the last of length n
+abbrev pub rows_from : ℕ → ℕ → Items → Read (List Row)
+rows_from n k no_items = Ok []
+rows_from n k (item d ds) = and_then (items_of d) (λ es. if nat_lt k 2048 then and_then (row_of n k es) (λ r. before r (rows_from (length r) (suc k) ds)) else Err Limit)
+
+abbrev pub cols_of : List Row → ℕ
+cols_of [] = 0
+cols_of (r ∷ rows) = length r
+
+abbrev pub matrix_of_rows : List Row → PropertyValue
+matrix_of_rows rows = matrix (cols_of rows) (map ratios rows)
+
+abbrev pub matrix_of : Data → Read PropertyValue
+matrix_of d = and_then (items_of d) (λ ds. and_then (rows_from 0 0 ds) (λ rows. Ok (matrix_of_rows rows)))
+
+-- ---- sets
+abbrev pub whole_number_of : Data → Read ℤ
+whole_number_of d = and_then (or_fault Shape (as_number d)) (λ n. or_fault Number (as_integer n))
+
+abbrev pub index_below_2048 : ℤ → Read ℕ
+index_below_2048 (pos j) = if nat_lt j 2048 then Ok j else Err Limit
+index_below_2048 (negsuc j) = Err Index
+
+abbrev pub index_of : Data → Read ℕ
+index_of d = and_then (whole_number_of d) index_below_2048
+
+-- an ascending set with one index more
+abbrev pub with_index : ℕ → List ℕ → List ℕ
+with_index j [] = j ∷ []
+with_index j (k ∷ set) = if nat_lt j k then j ∷ k ∷ set else k ∷ with_index j set
+
+abbrev pub has_index : ℕ → List ℕ → Bool
+has_index j set = list_any (λ k. k == j) set
+
+-- the set, with the indices from here on
+abbrev pub set_from : List ℕ → Items → Read (List ℕ)
+set_from set no_items = Ok set
+set_from set (item d ds) = and_then (index_of d) (λ j. if has_index j set then Err Shape else set_from (with_index j set) ds)
+
+abbrev pub count_up_to_2048 : ℤ → Read ℕ
+count_up_to_2048 (pos n) = if nat_le n 2048 then Ok n else Err Limit
+count_up_to_2048 (negsuc n) = Err Limit
+
+abbrev pub count_of : Data → Read ℕ
+count_of d = and_then (whole_number_of d) count_up_to_2048
+
+abbrev pub has_one_member : Data → Bool
+has_one_member (object (member key d no_members)) = true
+has_one_member d = false
+
+-- the n of {"cols":n}
+abbrev pub stated_of : Data → Read ℕ
+stated_of d = if has_one_member d then and_then (or_fault Shape (get (codes "cols") d)) count_of else Err Shape
+
+-- sets, and the column count that is stated behind them, if one is
+pub record SetsSeen : Type 0 where
+  pub rows : List (List ℕ)
+  pub stated : Option ℕ
+
+abbrev pub before_sets : List ℕ → Read SetsSeen → Read SetsSeen
+before_sets set others = and_then others (λ s. Ok (record s { rows = set ∷ s.rows }))
+
+-- nothing stands behind the column count
+abbrev pub stated_last : ℕ → Items → Read SetsSeen
+stated_last n no_items = Ok (record { rows = []; stated = Some n })
+stated_last n (item d ds) = Err Shape
+
+-- the sets, of which k came before
+abbrev pub sets_from : ℕ → Items → Read SetsSeen
+sets_from k no_items = Ok (record { rows = []; stated = None })
+sets_from k (item d ds) =
+    if is_some (as_object d) then and_then (stated_of d) (λ n. stated_last n ds)
+    else and_then (items_of d) (λ es. if nat_lt k 2048 then and_then (set_from [] es) (λ set. before_sets set (sets_from (suc k) ds)) else Err Limit)
+
+-- the least number above each index of a set, of each set
+abbrev pub above_set : List ℕ → ℕ
+above_set [] = 0
+above_set (j ∷ set) = max (suc j) (above_set set)
+
+abbrev pub above_sets : List (List ℕ) → ℕ
+above_sets [] = 0
+above_sets (set ∷ rows) = max (above_set set) (above_sets rows)
+
+abbrev pub sets_with : List (List ℕ) → Option ℕ → Read PropertyValue
+sets_with rows None = Ok (sets rows (above_sets rows))
+sets_with rows (Some n) = if nat_le (above_sets rows) n then Ok (sets rows n) else Err Index
+
+abbrev pub sets_of : Data → Read PropertyValue
+sets_of d = and_then (items_of d) (λ ds. and_then (sets_from 0 ds) (λ s. sets_with s.rows s.stated))
+
+-- ---- whole numbers and truth values
+abbrev pub whole_value : PropId → ℤ → Read PropertyValue
+whole_value ConeAmbientDim k = if is_dimension k then Ok (whole k) else Err Limit
+whole_value p k = Ok (whole k)
+
+abbrev pub whole_of : PropId → Data → Read PropertyValue
+whole_of p d = and_then (or_fault Shape (as_number d)) (λ n. and_then (or_fault Number (as_i64 n)) (whole_value p))
+
+abbrev pub truth_of : Data → Read PropertyValue
+truth_of d = and_then (or_fault Shape (as_bool d)) (λ b. Ok (truth b))
+
+-- ---- values
+abbrev pub reading_of : ValueKind → PropId → Data → Read PropertyValue
+reading_of kind.Mat p d = matrix_of d
+reading_of kind.Sets p d = sets_of d
+reading_of kind.Int p d = whole_of p d
+reading_of kind.Bool p d = truth_of d
+reading_of k p d = Err Shape
+
+abbrev pub reading : PropId → Data → Read PropertyValue
+reading p d = reading_of (value_kind p) p d

@@ -1,0 +1,65 @@
+// Values of properties from JSON.
+
+ghost use Rattle.pm_json.specs.Readings.{reading, truth_of, whole_of};
+ghost use Rattle.pm_types.specs.Forms.{is_built, is_dimension, is_formed};
+ghost use Rattle.pm_types.specs.Views.{view_of};
+ghost use Rattle.serde_json.specs.View.{view};
+ghost use Rattle.std.specs.Prelude.{IfErr, IfOk, IsTrue, ◌≡◌, ◌≢◌};
+
+use crate::fail::ValueFail;
+use crate::matrix::read_matrix;
+use crate::sets::read_sets;
+use pm_types::{PropId, Value as PropertyValue, ValueKind};
+use serde_json::Value;
+use std::alloc::Global;
+
+/// Whether this is a column count: from 1 to 33.
+fn is_dimension(k: i64) -> bool
+    ensures { result ≡ is_dimension k }
+{
+    1 <= k && k <= 33
+}
+
+/// A whole number of 64 bits.
+fn read_whole(p: PropId, v: &Value) -> Result<PropertyValue, ValueFail>
+    ensures ok { IfOk result (λ value. whole_of p (view v.now) ≡ Ok (view_of value)) }
+    ensures fault { IfErr result (λ e. whole_of p (view v.now) ≡ Err e) }
+{
+    let Some(number) = v.as_number() else {
+        return Err(ValueFail::Shape);
+    };
+    let Some(k) = number.as_i64() else {
+        return Err(ValueFail::Number);
+    };
+    if matches!(p, PropId::ConeAmbientDim) && !is_dimension(k) {
+        return Err(ValueFail::Limit);
+    }
+    Ok(PropertyValue::Int(k))
+}
+
+/// A truth value.
+fn read_truth(v: &Value) -> Result<PropertyValue, ValueFail>
+    ensures ok { IfOk result (λ value. truth_of (view v.now) ≡ Ok (view_of value)) }
+    ensures fault { IfErr result (λ e. truth_of (view v.now) ≡ Err e) }
+{
+    match v.as_bool() {
+        Some(b) => Ok(PropertyValue::Bool(b)),
+        None => Err(ValueFail::Shape),
+    }
+}
+
+/// The value of a property that a JSON value is, or the first fault in reading order.
+pub fn read_value(alloc: Global, p: PropId, v: &Value) -> Result<PropertyValue, ValueFail>
+    requires built { IsTrue (is_built p) }
+    ensures ok { IfOk result (λ value. reading p (view v.now) ≡ Ok (view_of value)) }
+    ensures formed { IfOk result (λ value. IsTrue (is_formed p (view_of value))) }
+    ensures fault { IfErr result (λ e. e ≢ ValueFail.Memory → reading p (view v.now) ≡ Err e) }
+{
+    match p.value_kind() {
+        ValueKind::Mat => read_matrix(alloc, v),
+        ValueKind::Sets => read_sets(alloc, v),
+        ValueKind::Int => read_whole(p, v),
+        ValueKind::Bool => read_truth(v),
+        _ => Err(ValueFail::Shape),
+    }
+}

@@ -1,0 +1,294 @@
+-- Values that are added leave all values of an object in their forms, with one column count.
+use Rattle.pm_algebra.proofs.Lists.{Among, Contains_among, among_Contains, among_append, here, there}
+use Rattle.pm_geom.specs.declared.ObjectType.{ObjectType}
+use Rattle.pm_object.specs.Formed.{IsFormedIn, IsFormed}
+use Rattle.pm_object.specs.declared.held.Held.{Held as HeldOf}
+use Rattle.pm_object.specs.State.{HeldValue, State, agrees, ambient_in, cols_of, first_cols, is_held, is_sealed, or_else, value_of, with_held}
+use Rattle.pm_types.proofs.Kept.{same_property_is, same_property_refl}
+use Rattle.pm_types.specs.Forms.{agrees_with, is_ambient, is_dimension, is_formed, stated_cols, states}
+use Rattle.pm_types.specs.Runs.{same_property}
+use Rattle.pm_types.specs.Values.{PropertyValue, matrix, sets, whole, truth, extended, edges, lattice, counts}
+use Rattle.pm_types.specs.declared.property.PropId.{PropId}
+use Rattle.pm_types.specs.declared.property.PropId.TheVariants.{ConeAmbientDim}
+use Rattle.std.proofs.Common.{ap, arith, false, inl, inr, refl, subst, sym, true, true≢false, ◌∙◌}
+use Rattle.std.specs.List.{Contains}
+use Rattle.std.specs.Option.{is_some}
+use Rattle.std.specs.Prelude.{Bool, IsTrue, List, map, None, Option, Some, [], if◌then◌else◌, nat_eq, zero, suc, ℕ, ◌++◌, ◌||◌, ◌≤◌, ◌≡◌, ◌⊎◌, ◌∷◌}
+use lib.IntN.{pos, negsuc}
+
+decide : (b : Bool) → (b ≡ true) ⊎ (b ≡ false)
+decide true = inl refl
+decide false = inr refl
+
+pub ambient_is : (p : PropId) → is_ambient p ≡ same_property ConeAmbientDim p
+ambient_is ConeAmbientDim = refl
+ambient_is p = refl
+
+-- an element of a list of one
+pub only : {X : Type 0} {x y : X} → Among x (y ∷ []) → x ≡ y
+only here = refl
+only (there k) = elim k [ ]
+
+-- ---- looking up in a longer list
+pub value_stays : (p : PropId) (xs ys : List HeldValue) (v : PropertyValue) → value_of p xs ≡ Some v → value_of p (xs ++ ys) ≡ Some v
+value_stays p [] ys v e = absurd (true≢false (sym (ap is_some e)))
+value_stays p (x ∷ xs) ys v e = by (same_property p x.property) (λ h. value_stays p xs ys v h) e
+  where
+    by : (t : Bool) → (value_of p xs ≡ Some v → value_of p (xs ++ ys) ≡ Some v) → (if t then Some x.value else value_of p xs) ≡ Some v → (if t then Some x.value else value_of p (xs ++ ys)) ≡ Some v
+    by true rest h = h
+    by false rest h = rest h
+
+pub value_later : (p : PropId) (xs ys : List HeldValue) → value_of p xs ≡ None → value_of p (xs ++ ys) ≡ value_of p ys
+value_later p [] ys e = refl
+value_later p (x ∷ xs) ys e = by (same_property p x.property) (λ h. value_later p xs ys h) e
+  where
+    by : (t : Bool) → (value_of p xs ≡ None → value_of p (xs ++ ys) ≡ value_of p ys) → (if t then Some x.value else value_of p xs) ≡ None → (if t then Some x.value else value_of p (xs ++ ys)) ≡ value_of p ys
+    by true rest h = absurd (true≢false (ap is_some h))
+    by false rest h = rest h
+
+pub value_among : (p : PropId) (xs : List HeldValue) (v : PropertyValue) → value_of p xs ≡ Some v → (h : HeldValue) × Among h xs × (h.property ≡ p) × (h.value ≡ v)
+value_among p [] v e = absurd (true≢false (sym (ap is_some e)))
+value_among p (x ∷ xs) v e = by (same_property p x.property) (λ h. value_among p xs v h) refl e
+  where
+    by : (t : Bool) → (value_of p xs ≡ Some v → (h : HeldValue) × Among h xs × (h.property ≡ p) × (h.value ≡ v)) → same_property p x.property ≡ t → (if t then Some x.value else value_of p xs) ≡ Some v → (h : HeldValue) × Among h (x ∷ xs) × (h.property ≡ p) × (h.value ≡ v)
+    by true rest s h = (x, here, sym (same_property_is p x.property s), some_is x.value v h)
+      where
+        some_is : (a b : PropertyValue) → Some a ≡ Some b → a ≡ b
+        some_is a b h = cc
+    by false rest s h = let (y, i, p', v') = rest h in (y, there i, p', v')
+
+-- what is not held is nobody's property
+not_first : (p : PropId) (x : HeldValue) (xs : List HeldValue) → value_of p (x ∷ xs) ≡ None → (same_property p x.property ≡ false) × (value_of p xs ≡ None)
+not_first p x xs e = by (same_property p x.property) refl e
+  where
+    by : (t : Bool) → same_property p x.property ≡ t → (if t then Some x.value else value_of p xs) ≡ None → (same_property p x.property ≡ false) × (value_of p xs ≡ None)
+    by true s k = absurd (true≢false (ap is_some k))
+    by false s k = (s, k)
+
+pub nobody : (p : PropId) (xs : List HeldValue) {h : HeldValue} → value_of p xs ≡ None → Among h xs → same_property p h.property ≡ false
+nobody p [] e i = elim i [ ]
+nobody p (x ∷ xs) e here = (not_first p x xs e).0
+nobody p (x ∷ xs) e (there i) = nobody p xs (not_first p x xs e).1 i
+
+-- ---- the first column count
+pub first_stays : (xs ys : List HeldValue) (n : ℕ) → first_cols xs ≡ Some n → first_cols (xs ++ ys) ≡ Some n
+first_stays [] ys n e = absurd (true≢false (sym (ap is_some e)))
+first_stays (x ∷ xs) ys n e = by (nat_eq (stated_cols x.property x.value) 0) (λ h. first_stays xs ys n h) e
+  where
+    by : (t : Bool) → (first_cols xs ≡ Some n → first_cols (xs ++ ys) ≡ Some n) → (if t then first_cols xs else Some (stated_cols x.property x.value)) ≡ Some n → (if t then first_cols (xs ++ ys) else Some (stated_cols x.property x.value)) ≡ Some n
+    by true rest h = rest h
+    by false rest h = h
+
+pub first_later : (xs ys : List HeldValue) → first_cols xs ≡ None → first_cols (xs ++ ys) ≡ first_cols ys
+first_later [] ys e = refl
+first_later (x ∷ xs) ys e = by (nat_eq (stated_cols x.property x.value) 0) (λ h. first_later xs ys h) e
+  where
+    by : (t : Bool) → (first_cols xs ≡ None → first_cols (xs ++ ys) ≡ first_cols ys) → (if t then first_cols xs else Some (stated_cols x.property x.value)) ≡ None → (if t then first_cols (xs ++ ys) else Some (stated_cols x.property x.value)) ≡ first_cols ys
+    by true rest h = rest h
+    by false rest h = absurd (true≢false (ap is_some h))
+
+not_first_stated : (x : HeldValue) (xs : List HeldValue) → first_cols (x ∷ xs) ≡ None → (nat_eq (stated_cols x.property x.value) 0 ≡ true) × (first_cols xs ≡ None)
+not_first_stated x xs e = by (nat_eq (stated_cols x.property x.value) 0) refl e
+  where
+    by : (t : Bool) → nat_eq (stated_cols x.property x.value) 0 ≡ t → (if t then first_cols xs else Some (stated_cols x.property x.value)) ≡ None → (nat_eq (stated_cols x.property x.value) 0 ≡ true) × (first_cols xs ≡ None)
+    by true s k = (s, k)
+    by false s k = absurd (true≢false (ap is_some k))
+
+pub none_stated : (xs : List HeldValue) {h : HeldValue} → first_cols xs ≡ None → Among h xs → nat_eq (stated_cols h.property h.value) 0 ≡ true
+none_stated [] e i = elim i [ ]
+none_stated (x ∷ xs) e here = (not_first_stated x xs e).0
+none_stated (x ∷ xs) e (there i) = none_stated xs (not_first_stated x xs e).1 i
+
+-- ---- the dimension
+pub record IsDimension (v : PropertyValue) : Type 0 where
+  pub n : ℕ
+  pub value : v ≡ whole (pos n)
+  pub range : is_dimension (pos n) ≡ true
+
+pub dimension_of : (v : PropertyValue) → is_formed ConeAmbientDim v ≡ true → IsDimension v
+dimension_of (matrix n rows) e = absurd (true≢false (sym e))
+dimension_of (sets rows n) e = absurd (true≢false (sym e))
+dimension_of (whole (pos n)) e = record { n = n; value = refl; range = e }
+dimension_of (whole (negsuc n)) e = absurd (true≢false (sym e))
+dimension_of (truth b) e = absurd (true≢false (sym e))
+dimension_of (extended x) e = absurd (true≢false (sym e))
+dimension_of (edges rows) e = absurd (true≢false (sym e))
+dimension_of (lattice ranks) e = absurd (true≢false (sym e))
+dimension_of (counts ks) e = absurd (true≢false (sym e))
+
+-- ---- agreeing
+abbrev agrees_at : Bool → ℕ → PropertyValue → ℕ → Bool
+agrees_at a n v k = if a then states n v else nat_eq k 0 || nat_eq k n
+
+or_left : (a b : Bool) → a ≡ true → (a || b) ≡ true
+or_left true b h = refl
+or_left false b h = absurd (true≢false (sym h))
+
+or_right : (a b : Bool) → b ≡ true → (a || b) ≡ true
+or_right true b h = refl
+or_right false b h = h
+
+same_number : (n : ℕ) → nat_eq n n ≡ true
+same_number n = grind arith
+
+-- a value that states no columns agrees with all
+pub agrees_free : (n : ℕ) (p : PropId) (v : PropertyValue) → same_property ConeAmbientDim p ≡ false → nat_eq (stated_cols p v) 0 ≡ true → agrees_with n p v ≡ true
+agrees_free n p v e h = by (is_ambient p) (ambient_is p ∙ e)
+  where
+    by : (a : Bool) → a ≡ false → agrees_at a n v (stated_cols p v) ≡ true
+    by true k = absurd (true≢false k)
+    by false k = or_left (nat_eq (stated_cols p v) 0) (nat_eq (stated_cols p v) n) h
+
+-- it agrees with the columns that it states
+pub agrees_itself : (p : PropId) (v : PropertyValue) → same_property ConeAmbientDim p ≡ false → agrees_with (stated_cols p v) p v ≡ true
+agrees_itself p v e = by (is_ambient p) (ambient_is p ∙ e)
+  where
+    by : (a : Bool) → a ≡ false → agrees_at a (stated_cols p v) v (stated_cols p v) ≡ true
+    by true k = absurd (true≢false k)
+    by false k = or_right (nat_eq (stated_cols p v) 0) (nat_eq (stated_cols p v) (stated_cols p v)) (same_number (stated_cols p v))
+
+-- ---- one value more
+some_is : (a b : ℕ) → Some a ≡ Some b → a ≡ b
+some_is a b h = cc
+
+number_agrees : (m n : ℕ) → states n (whole (pos m)) ≡ true → m ≡ n
+number_agrees m n h = grind arith
+
+abbrev pub Each : ObjectType → Option ℕ → List HeldValue → Type 0
+Each of n held = (h : HeldValue) → Among h held → IsFormedIn of n h
+
+-- the value of the dimension, if it is held
+pub held_dimension : (of : ObjectType) (n : Option ℕ) (held : List HeldValue) (v : PropertyValue) → Each of n held → value_of ConeAmbientDim held ≡ Some v → IsDimension v
+held_dimension of n held v each e =
+    let (h, i, p, is) = value_among ConeAmbientDim held v e in
+    dimension_of v (subst (λ q. is_formed q v ≡ true) p (subst (λ w. is_formed h.property w ≡ true) is (each h i).formed))
+
+-- a new value that states the dimension n states no other one
+agrees_dimension : (n m : ℕ) (h : HeldValue) → same_property ConeAmbientDim h.property ≡ true → h.value ≡ whole (pos m) → agrees_with n h.property h.value ≡ true → m ≡ n
+agrees_dimension n m h e v a = by (is_ambient h.property) (ambient_is h.property ∙ e) a
+  where
+    by : (t : Bool) → t ≡ true → agrees_at t n h.value (stated_cols h.property h.value) ≡ true → m ≡ n
+    by true k g = number_agrees m n (subst (λ w. states n w ≡ true) v g)
+    by false k g = absurd (true≢false (sym k))
+
+-- where the column count is known it stays
+pub cols_stay : (of : ObjectType) (held : List HeldValue) (h : HeldValue) (n : ℕ) → Each of (cols_of held) held → IsFormedIn of (cols_of held) h
+    → cols_of held ≡ Some n → cols_of (held ++ h ∷ []) ≡ Some n
+cols_stay of held h n each fits e = by (value_of ConeAmbientDim held) refl
+  where
+    new : (v : Option PropertyValue) → value_of ConeAmbientDim held ≡ None → value_of ConeAmbientDim (held ++ h ∷ []) ≡ v → or_else (ambient_in v) (first_cols (held ++ h ∷ [])) ≡ Some n
+    new v none is = at (same_property ConeAmbientDim h.property) refl
+      where
+        first : first_cols held ≡ Some n
+        first = ap (λ w. or_else (ambient_in w) (first_cols held)) (sym none) ∙ e
+
+        found : value_of ConeAmbientDim (held ++ h ∷ []) ≡ value_of ConeAmbientDim (h ∷ [])
+        found = value_later ConeAmbientDim held (h ∷ []) none
+
+        at : (t : Bool) → same_property ConeAmbientDim h.property ≡ t → or_else (ambient_in v) (first_cols (held ++ h ∷ [])) ≡ Some n
+        at true s =
+            let p : h.property ≡ ConeAmbientDim = sym (same_property_is ConeAmbientDim h.property s) in
+            let d = dimension_of h.value (subst (λ q. is_formed q h.value ≡ true) p fits.formed) in
+            let m : d.n ≡ n = agrees_dimension n d.n h s d.value (subst (λ c. agrees c h.property h.value ≡ true) e fits.columns) in
+            let here' : v ≡ Some (whole (pos d.n)) = sym is ∙ found ∙ ap (λ t. if t then Some h.value else None) s ∙ ap Some d.value in
+            ap (λ w. or_else (ambient_in w) (first_cols (held ++ h ∷ []))) here' ∙ ap Some m
+        at false s =
+            let none' : v ≡ None = sym is ∙ found ∙ ap (λ t. if t then Some h.value else None) s in
+            ap (λ w. or_else (ambient_in w) (first_cols (held ++ h ∷ []))) none' ∙ first_stays held (h ∷ []) n first
+
+    by : (v : Option PropertyValue) → value_of ConeAmbientDim held ≡ v → cols_of (held ++ h ∷ []) ≡ Some n
+    by None is = new (value_of ConeAmbientDim (held ++ h ∷ [])) is refl
+    by (Some v) is =
+        let d = held_dimension of (cols_of held) held v each is in
+        let old : or_else (ambient_in (Some (whole (pos d.n)))) (first_cols held) ≡ Some n = ap (λ w. or_else (ambient_in w) (first_cols held)) (sym (is ∙ ap Some d.value)) ∙ e in
+        ap (λ w. or_else (ambient_in w) (first_cols (held ++ h ∷ []))) (value_stays ConeAmbientDim held (h ∷ []) v is ∙ ap Some d.value) ∙ old
+
+-- where it is unknown all agree with what the new value states
+agrees_then : (of : ObjectType) (held : List HeldValue) (h : HeldValue) → Each of (cols_of held) held → IsFormedIn of (cols_of held) h → cols_of held ≡ None
+    → (g : HeldValue) → Among g (held ++ h ∷ []) → agrees (cols_of (held ++ h ∷ [])) g.property g.value ≡ true
+agrees_then of held h each fits e g i = by (value_of ConeAmbientDim held) refl
+  where
+    by : (v : Option PropertyValue) → value_of ConeAmbientDim held ≡ v → agrees (cols_of (held ++ h ∷ [])) g.property g.value ≡ true
+    by (Some v) is =
+        let d = held_dimension of (cols_of held) held v each is in
+        let old : Some d.n ≡ None = ap (λ w. or_else (ambient_in w) (first_cols held)) (sym (is ∙ ap Some d.value)) ∙ e in
+        absurd (true≢false (ap is_some old))
+    by None none = at (same_property ConeAmbientDim h.property) refl
+      where
+        first : first_cols held ≡ None
+        first = ap (λ w. or_else (ambient_in w) (first_cols held)) (sym none) ∙ e
+
+        found : value_of ConeAmbientDim (held ++ h ∷ []) ≡ value_of ConeAmbientDim (h ∷ [])
+        found = value_later ConeAmbientDim held (h ∷ []) none
+
+        firsts : first_cols (held ++ h ∷ []) ≡ first_cols (h ∷ [])
+        firsts = first_later held (h ∷ []) first
+
+        old : (c : Option ℕ) → Among g held → agrees c g.property g.value ≡ true
+        old None j = refl
+        old (Some n) j = agrees_free n g.property g.value (nobody ConeAmbientDim held none j) (none_stated held first j)
+
+        cols_at : Bool → Option ℕ
+        cols_at t = if t then None else Some (stated_cols h.property h.value)
+
+        itself : (t : Bool) → nat_eq (stated_cols h.property h.value) 0 ≡ t → same_property ConeAmbientDim h.property ≡ false → agrees (if t then None else Some (stated_cols h.property h.value)) h.property h.value ≡ true
+        itself true z s = refl
+        itself false z s = agrees_itself h.property h.value s
+
+        at : (t : Bool) → same_property ConeAmbientDim h.property ≡ t → agrees (cols_of (held ++ h ∷ [])) g.property g.value ≡ true
+        at true s =
+            let p : h.property ≡ ConeAmbientDim = sym (same_property_is ConeAmbientDim h.property s) in
+            let d = dimension_of h.value (subst (λ q. is_formed q h.value ≡ true) p fits.formed) in
+            let here' : value_of ConeAmbientDim (held ++ h ∷ []) ≡ Some (whole (pos d.n)) = found ∙ ap (λ t. if t then Some h.value else None) s ∙ ap Some d.value in
+            let cols : cols_of (held ++ h ∷ []) ≡ Some d.n = ap (λ w. or_else (ambient_in w) (first_cols (held ++ h ∷ []))) here' in
+            subst (λ c. agrees c g.property g.value ≡ true) (sym cols) (elim (among_append held (h ∷ []) i) [ inl j ↦ old (Some d.n) j | inr j ↦ last d.n p d.value j ])
+          where
+            last : (n : ℕ) → h.property ≡ ConeAmbientDim → h.value ≡ whole (pos n) → Among g (h ∷ []) → agrees_with n g.property g.value ≡ true
+            last n p v k = subst (λ z. agrees_with n z.property z.value ≡ true) (sym (only k)) (subst (λ q. agrees_with n q h.value ≡ true) (sym p) (subst (λ w. agrees_with n ConeAmbientDim w ≡ true) (sym v) (same_number n)))
+        at false s =
+            let none' : value_of ConeAmbientDim (held ++ h ∷ []) ≡ None = found ∙ ap (λ t. if t then Some h.value else None) s in
+            let cols : cols_of (held ++ h ∷ []) ≡ first_cols (h ∷ []) = ap (λ w. or_else (ambient_in w) (first_cols (held ++ h ∷ []))) none' ∙ firsts in
+            subst (λ c. agrees c g.property g.value ≡ true) (sym cols) (elim (among_append held (h ∷ []) i) [ inl j ↦ old (first_cols (h ∷ [])) j | inr j ↦ last j ])
+          where
+            last : Among g (h ∷ []) → agrees (first_cols (h ∷ [])) g.property g.value ≡ true
+            last k = subst (λ z. agrees (first_cols (h ∷ [])) z.property z.value ≡ true) (sym (only k)) (itself (nat_eq (stated_cols h.property h.value) 0) refl s)
+
+pub each_push : (of : ObjectType) (held : List HeldValue) (h : HeldValue) → Each of (cols_of held) held → IsFormedIn of (cols_of held) h → Each of (cols_of (held ++ h ∷ [])) (held ++ h ∷ [])
+each_push of held h each fits = by (cols_of held) refl
+  where
+    part : (g : HeldValue) → Among g (held ++ h ∷ []) → IsFormedIn of (cols_of held) g
+    part g i = elim (among_append held (h ∷ []) i) [ inl j ↦ each g j | inr j ↦ last g j ]
+      where
+        last : (g : HeldValue) → Among g (h ∷ []) → IsFormedIn of (cols_of held) g
+        last g k = subst (λ z. IsFormedIn of (cols_of held) z) (sym (only k)) fits
+
+    by : (c : Option ℕ) → cols_of held ≡ c → Each of (cols_of (held ++ h ∷ [])) (held ++ h ∷ [])
+    by (Some n) e g i =
+        let p = part g i in
+        record { formed = p.formed; columns = subst (λ c. agrees c g.property g.value ≡ true) (e ∙ sym (cols_stay of held h n each fits e)) p.columns; rows = p.rows }
+    by None e g i = let p = part g i in record { formed = p.formed; columns = agrees_then of held h each fits e g i; rows = p.rows }
+
+-- what is held stays held
+pub held_stays : (p : PropId) (xs ys : List HeldValue) → is_held p xs ≡ true → is_held p (xs ++ ys) ≡ true
+held_stays p xs ys e = by (value_of p xs) refl e
+  where
+    by : (v : Option PropertyValue) → value_of p xs ≡ v → is_some v ≡ true → is_held p (xs ++ ys) ≡ true
+    by None is k = absurd (true≢false (sym k))
+    by (Some v) is k = ap is_some (value_stays p xs ys v is)
+
+-- an object with one value more, which was in its form
+pub formed_push : (o : State) (h : HeldValue) → IsFormed o → IsFormedIn o.of (cols_of o.held) h → IsFormed (with_held o (h ∷ []))
+formed_push o h f fits = record {
+  each = λ g i. each_push o.of o.held h (λ k j. f.each k (Contains_among j)) fits g (among_Contains (o.held ++ h ∷ []) i);
+  dimension = λ s. held_stays ConeAmbientDim o.held (h ∷ []) (f.dimension s);
+}
+
+pub map_push : {A B : Type 0} (f : A → B) (xs : List A) (x : A) → map f (xs ++ x ∷ []) ≡ map f xs ++ f x ∷ []
+map_push f [] x = refl
+map_push f (y ∷ ys) x = ap (λ t. f y ∷ t) (map_push f ys x)
+
+-- the same, of the code's lists
+pub formed_pushed : (o : State) (f : HeldOf → HeldValue) (xs ys : List HeldOf) (x : HeldOf) → o.held ≡ map f xs → ys ≡ xs ++ x ∷ [] → IsFormed o → IsFormedIn o.of (cols_of o.held) (f x) → IsFormed (record o { held = map f ys })
+formed_pushed o f xs ys x is e formed fits =
+    let same : map f ys ≡ o.held ++ f x ∷ [] = ap (λ t. map f t) e ∙ map_push f xs x ∙ ap (λ t. t ++ f x ∷ []) (sym is) in
+    subst (λ z. IsFormed (record o { held = z })) (sym same) (formed_push o (f x) formed fits)

@@ -1,0 +1,140 @@
+-- An object stays honest.
+use Rattle.pm_algebra.proofs.Filters.{among_filter, among_map, any_to, filter_among, map_among}
+use Rattle.pm_algebra.proofs.Lists.{Among, Contains_among, among_All, among_Contains, among_append, here, there}
+use Rattle.pm_geom.specs.Things.{Orders, Thing}
+use Rattle.pm_geom.specs.declared.ObjectType.{ObjectType}
+use Rattle.pm_object.specs.Honest.{HonestAnswer, IsHonest, IsKept, based, facts, has_tag, is_given}
+use Rattle.pm_object.specs.Laws.{computed}
+use Rattle.pm_object.specs.State.{HeldValue, State, cols_of, empty_object, is_sealed, names_to_settle, settled, settling, settling_names, with_held}
+use Rattle.pm_object.specs.declared.held.Origin.{Origin}
+use Rattle.pm_object.specs.declared.held.Origin.TheVariants.{Given, Computed}
+use Rattle.pm_types.proofs.Kept.{kept}
+use Rattle.pm_types.specs.Kinds.{IsFresh}
+use Rattle.pm_types.specs.Properties.{facets_tag, has_program, rays_tag}
+use Rattle.pm_types.specs.Right.{RightAll}
+use Rattle.pm_types.specs.Runs.{IsFree, MayAnswer, MayRun, missing, place_of, shown}
+use Rattle.pm_types.specs.Values.{Fact}
+use Rattle.pm_types.specs.declared.kind.Kind.{Kind}
+use Rattle.pm_types.specs.declared.property.PropId.{PropId}
+use Rattle.std.proofs.Common.{ap, append-nil, arith, false, inl, inr, refl, subst, sym, true, true≢false, ◌∙◌}
+use Rattle.std.specs.List.{All, Contains, list_any}
+use Rattle.std.specs.Option.{unwrap_or}
+use Rattle.std.specs.Prelude.{Bool, IsTrue, List, None, Option, Some, suc, [], if◌then◌else◌, filter, length, map, nat_eq, not, ℕ, ◌++◌, ◌∷◌, ◌≡◌, ◌⊎◌}
+
+fact_of_held : HeldValue → Fact
+fact_of_held h = record { place = None; property = h.property; value = h.value }
+
+facts_append : (xs ys : List HeldValue) → facts (xs ++ ys) ≡ facts xs ++ facts ys
+facts_append [] ys = refl
+facts_append (x ∷ xs) ys = ap (λ t. record { place = None; property = x.property; value = x.value } ∷ t) (facts_append xs ys)
+
+place_none : (p : PropId) → place_of None p ≡ None
+place_none p = by (has_program p)
+  where
+    none : Option ℕ
+    none = None
+
+    by : (t : Bool) → (if t then none else None) ≡ none
+    by true = refl
+    by false = refl
+
+-- an answer whose facts are of the object itself is what was computed
+facts_computed : (xs : List Fact) → ((f : Fact) → Among f xs → f.place ≡ None) → facts (computed xs) ≡ xs
+facts_computed [] h = refl
+facts_computed (x ∷ xs) h =
+    ap (λ t. t ∷ facts (computed xs)) (ap (λ r. record { place = r; property = x.property; value = x.value }) (sym (h x here)))
+    ∙ ap (λ t. x ∷ t) (facts_computed xs (λ f i. h f (there i)))
+
+based_computed : (xs : List HeldValue) (ys : List Fact) → based (xs ++ computed ys) ≡ based xs
+based_computed [] [] = refl
+based_computed [] (y ∷ ys) = based_computed [] ys
+based_computed (x ∷ xs) ys = ap (λ t. if is_given x.origin then x ∷ t else t) (based_computed xs ys)
+
+based_given : (xs : List HeldValue) → ((h : HeldValue) → Among h xs → h.origin ≡ Given) → based xs ≡ xs
+based_given [] h = refl
+based_given (x ∷ xs) h =
+    ap (λ r. if is_given r then x ∷ based xs else based xs) (h x here) ∙ ap (λ t. x ∷ t) (based_given xs (λ g i. h g (there i)))
+
+-- an order of which a given value speaks stays
+tag_stays : {A : Type 0} (tag : PropId → Bool) (kind : Kind) (held : List HeldValue) (first mid last : A) → IsFree tag kind (facts held)
+    → (¬ (IsFresh tag kind) → last ≡ mid) → (has_tag tag (based held) ≡ true → mid ≡ first) → has_tag tag (based held) ≡ true → last ≡ first
+tag_stays tag kind held first mid last free keeps before h =
+    let (x, i, e) = any_to (λ g. tag g.property) (based held) h in
+    let j = (filter_among (λ g. is_given g.origin) held i).0 in
+    keeps (λ fresh. true≢false (sym e ∙ free.none fresh (record { place = None; property = x.property; value = x.value }) (Contains_among (among_map (λ g. record { place = None; property = g.property; value = g.value }) j))))
+    ∙ before h
+
+pub commit_is_honest : (o : State) (kind : Kind) (n : ℕ) (answer : List Fact) → MayRun kind None n (facts o.held) → MayAnswer o.of n kind None (shown kind None (facts o.held)) answer
+    → IsHonest o → IsHonest (with_held o (computed (missing None (facts o.held) answer)))
+commit_is_honest o kind n answer run may honest = record { answer = λ t p of right. made t p of right }
+  where
+    added : List Fact
+    added = missing None (facts o.held) answer
+
+    same_based : based (o.held ++ computed added) ≡ based o.held
+    same_based = based_computed o.held added
+
+    placed : (f : Fact) → Among f added → f.place ≡ None
+    placed f i = among_All (λ g. g.place ≡ place_of None g.property) (filter_among _ answer i).0 may.places ∙ place_none f.property
+
+    same_facts : facts (o.held ++ computed added) ≡ facts o.held ++ added
+    same_facts = facts_append o.held (computed added) ∙ ap (λ t. facts o.held ++ t) (facts_computed added placed)
+
+    made : (t : Thing) (p : Orders) → t.of ≡ o.of → RightAll (facts (based (o.held ++ computed added))) t p → HonestAnswer (o.held ++ computed added) t p
+    made t p of right =
+        let old = honest.answer t p of (subst (λ z. RightAll (facts z) t p) same_based right) in
+        let new = kept o.of n kind None (facts o.held) answer run may t old.orders of old.right in
+        let tagged : (tag : PropId → Bool) → has_tag tag (based (o.held ++ computed added)) ≡ true → has_tag tag (based o.held) ≡ true = λ tag e. sym (ap (λ z. has_tag tag z) same_based) ∙ e in
+        record {
+          orders = new.orders;
+          right = subst (λ z. RightAll z t new.orders) (sym same_facts) new.right;
+          rays = λ e. tag_stays rays_tag kind o.held p.rays old.orders.rays new.orders.rays run.rays new.keeps.rays old.rays (tagged rays_tag e);
+          facets = λ e. tag_stays facets_tag kind o.held p.facets old.orders.facets new.orders.facets run.facets new.keeps.facets old.facets (tagged facets_tag e);
+          cones = λ e. tag_stays facets_tag kind o.held p.cones old.orders.cones new.orders.cones run.facets new.keeps.cones old.cones (tagged facets_tag e);
+        }
+
+-- ---- given values
+given_is_honest : (o : State) → ((h : HeldValue) → Among h o.held → h.origin ≡ Given) → IsHonest o
+given_is_honest o all = record {
+  answer = λ t p of right. record { orders = p; right = subst (λ z. RightAll (facts z) t p) (based_given o.held all) right; rays = λ e. refl; facets = λ e. refl; cones = λ e. refl };
+}
+
+pub empty_is_kept : (of : ObjectType) → IsKept (empty_object of)
+empty_is_kept of = record { honest = given_is_honest (empty_object of) (λ h i. elim i [ ]); given = λ e h i. elim (among_Contains [] i) [ ] }
+
+pub given_is_kept : (o : State) (more : List HeldValue) → o.rounds ≡ [] → ((h : HeldValue) → Contains more h → h.origin ≡ Given) → IsKept o → IsKept (with_held o more)
+given_is_kept o more none given is = record { honest = given_is_honest (with_held o more) all; given = λ e h i. all h (among_Contains (o.held ++ more) i) }
+  where
+    all : (h : HeldValue) → Among h (o.held ++ more) → h.origin ≡ Given
+    all h i = elim (among_append o.held more i) [
+      | inl j ↦ is.given none h (Contains_among j)
+      | inr j ↦ given h (Contains_among j)
+    ]
+
+more_than_0 : (n : ℕ) → nat_eq (suc n) 0 ≡ false
+more_than_0 n = grind arith
+
+not_sealed : (o : State) → is_sealed o ≡ false → o.rounds ≡ []
+not_sealed o e = by o.rounds e
+  where
+    by : {X : Type 0} (rounds : List X) → not (nat_eq (length rounds) 0) ≡ false → rounds ≡ []
+    by [] e = refl
+    by (r ∷ rounds) e = absurd (true≢false (sym (ap not (more_than_0 (length rounds))) ∙ e))
+
+pub settled_is_kept : (o : State) → IsKept o → IsKept (with_held o (settling o))
+settled_is_kept o is = by (is_sealed o) refl
+  where
+    n : ℕ
+    n = unwrap_or (cols_of o.held) 1
+
+    by : (t : Bool) → is_sealed o ≡ t → IsKept (with_held o (settling o))
+    by true e = subst IsKept (ap (λ z. record o { held = z }) (sym (ap (λ z. o.held ++ map (settled n) z) (ap (λ b. if b then [] else names_to_settle o.held) e) ∙ append-nil o.held))) is
+    by false e = given_is_kept o (settling o) (not_sealed o e) (λ h i. given h (among_Contains (settling o) i)) is
+      where
+        given : (h : HeldValue) → Among h (settling o) → h.origin ≡ Given
+        given h i = let (p, j, is) = map_among (settled n) (settling_names o) i in ap (λ z. z.origin) is
+
+pub honesty_is_of_values : (o p : State) → p.of ≡ o.of → p.held ≡ o.held → IsHonest o → IsHonest p
+honesty_is_of_values o p of held honest = record {
+  answer = λ t q is right. subst (λ z. HonestAnswer z t q) (sym held) (honest.answer t q (is ∙ of) (subst (λ z. RightAll (facts (based z)) t q) held right));
+}

@@ -1,0 +1,18 @@
+-- What is so of the values of every object.
+--     IsFormedIn of n h      a held value of an object of this type, whose column count is n if it is known: it has the form of its property, agrees with n, and its rows pass their tests
+--     IsFormed o      all held values are so, and an object for which a round was started knows its dimension
+use Rattle.std.specs.Prelude.{ℕ, ◌≡◌, true, IsTrue, Option}
+use Rattle.std.specs.List.{Contains}
+use Rattle.pm_geom.specs.declared.ObjectType.{ObjectType}
+use Rattle.pm_types.specs.Forms.{is_formed, are_rows}
+use Rattle.pm_types.specs.declared.property.PropId.TheVariants.{ConeAmbientDim}
+use Rattle.pm_object.specs.State.{HeldValue, State, agrees, cols_of, is_held, is_sealed}
+
+pub record IsFormedIn (of : ObjectType) (n : Option ℕ) (h : HeldValue) : Type 0 where
+  pub formed : IsTrue (is_formed h.property h.value)
+  pub columns : IsTrue (agrees n h.property h.value)
+  pub rows : IsTrue (are_rows of h.property h.value)
+
+pub record IsFormed (o : State) : Type 0 where
+  pub each : (h : HeldValue) → Contains o.held h → IsFormedIn o.of (cols_of o.held) h
+  pub dimension : is_sealed o ≡ true → IsTrue (is_held ConeAmbientDim o.held)

@@ -1,0 +1,31 @@
+-- The laws of honesty: an object stays honest where it gains values that were given while no round was started, what goes without saying, or what a client may answer.
+--     computed answer      the facts of an answer as computed values
+use Rattle.std.specs.Prelude.{ℕ, ◌≡◌, None, List, [], map}
+use Rattle.std.specs.List.{Contains}
+use Rattle.pm_geom.specs.declared.ObjectType.{ObjectType}
+use Rattle.pm_types.specs.Runs.{MayAnswer, MayRun, missing, shown}
+use Rattle.pm_types.specs.Values.{Fact}
+use Rattle.pm_types.specs.declared.kind.Kind.{Kind}
+use Rattle.pm_object.specs.Honest.{IsHonest, IsKept, facts}
+use Rattle.pm_object.specs.State.{HeldValue, State, empty_object, settling, with_held}
+use Rattle.pm_object.specs.declared.held.Origin.TheVariants.{Given, Computed}
+
+abbrev pub computed : List Fact → List HeldValue
+computed answer = map (λ f. record { property = f.property; value = f.value; origin = Computed }) answer
+
+abbrev pub EmptyIsKept : Type 0
+EmptyIsKept = (of : ObjectType) → IsKept (empty_object of)
+
+abbrev pub GivenIsKept : Type 0
+GivenIsKept = (o : State) (more : List HeldValue) → o.rounds ≡ [] → ((h : HeldValue) → Contains more h → h.origin ≡ Given) → IsKept o → IsKept (with_held o more)
+
+abbrev pub SettledIsKept : Type 0
+SettledIsKept = (o : State) → IsKept o → IsKept (with_held o (settling o))
+
+abbrev pub CommitIsHonest : Type 0
+CommitIsHonest = (o : State) (kind : Kind) (n : ℕ) (answer : List Fact) → MayRun kind None n (facts o.held) → MayAnswer o.of n kind None (shown kind None (facts o.held)) answer
+    → IsHonest o → IsHonest (with_held o (computed (missing None (facts o.held) answer)))
+
+-- honesty is of the type and the held values alone
+abbrev pub HonestyIsOfValues : Type 0
+HonestyIsOfValues = (o p : State) → p.of ≡ o.of → p.held ≡ o.held → IsHonest o → IsHonest p

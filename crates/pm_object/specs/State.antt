@@ -1,0 +1,140 @@
+-- An object, as contracts see it.
+--     HeldValue      a property, its value, and how the value came to be held
+--     RoundSeen      a round: the subobject that was asked, the weight, the chain's rules, and how it ended
+--     State      the object's type, its held values in order, the excluded rules, the rounds, and the disabled labels
+--     value_of p held, is_held p held      the value of a property, if it is held
+--     names_of held      the names that are held
+--     is_sealed o      a round was started for the object
+--     cols_of held      CONE_AMBIENT_DIM if it is held, else the first column count that a held value states; None where none does
+--     agrees n p v      the value's columns, or its ambient dimension, do not differ from n
+--     take_refusal o p v      the first reason not to take the value, in the order in which it is asked
+--     settling_names o      what goes without saying of an object without rounds, where it is not held
+--     settling o      these, as given values: the column count (1 where it is unknown), and matrices without rows
+use Rattle.std.specs.Prelude.{ℕ, zero, suc, ◌≡◌, ◌||◌, ◌&&◌, Bool, true, false, not, Option, Some, None, List, [], ◌∷◌, ◌++◌, length, map, nat_eq, if◌then◌else◌}
+use Rattle.std.specs.List.{list_all}
+use Rattle.std.specs.Str.{bytes_eq}
+use Rattle.std.specs.Option.{is_some, unwrap_or}
+use Rattle.pm_algebra.specs.Numbers.{Ratio}
+use Rattle.pm_geom.specs.declared.ObjectType.{ObjectType}
+use Rattle.pm_geom.specs.declared.ObjectType.TheVariants.{Polytope, Cone, Fan}
+use Rattle.pm_types.specs.Forms.{stated_cols, agrees_with, are_rows}
+use Rattle.pm_types.specs.Properties.{has}
+use Rattle.pm_types.specs.Runs.{same_property}
+use Rattle.pm_types.specs.Sets.{set_of}
+use Rattle.pm_types.specs.declared.set.PropSet.{PropSet}
+use Rattle.pm_types.specs.Values.{PropertyValue, matrix, whole}
+use Rattle.pm_types.specs.declared.property.PropId.{PropId}
+use Rattle.pm_types.specs.declared.property.PropId.TheVariants.{ConeAmbientDim, Points, InputLineality, Inequalities, Equations, Vertices, LinealitySpace, Facets, AffineHull, LinearObjective, MaximalDual, MinimalDual}
+use Rattle.pm_types.specs.declared.kind.RuleId.{RuleId}
+use Rattle.pm_types.specs.declared.weight.Cost.{Cost}
+use Rattle.pm_object.specs.declared.held.Origin.{Origin}
+use Rattle.pm_object.specs.declared.held.Origin.TheVariants.{Given, Computed}
+use Rattle.pm_object.specs.declared.held.Excluded.{Excluded}
+use Rattle.pm_object.specs.declared.held.RoundEnd.{RoundEnd}
+use Rattle.pm_object.specs.declared.held.TakeFail.{TakeFail}
+use Rattle.pm_object.specs.declared.held.TakeFail.TheVariants as refused
+use lib.IntN.{ℤ, pos, negsuc}
+
+pub record HeldValue : Type 0 where
+  pub property : PropId
+  pub value : PropertyValue
+  pub origin : Origin
+
+pub record RoundSeen : Type 0 where
+  pub sub : Option ℕ
+  pub weight : Cost
+  pub chain : List RuleId
+  pub end : RoundEnd
+
+pub record State : Type 0 where
+  pub of : ObjectType
+  pub held : List HeldValue
+  pub excluded : List Excluded
+  pub rounds : List RoundSeen
+  pub disabled : List (List ℕ)
+
+abbrev pub empty_object : ObjectType → State
+empty_object of = record { of = of; held = []; excluded = []; rounds = []; disabled = [] }
+
+abbrev pub value_of : PropId → List HeldValue → Option PropertyValue
+value_of p [] = None
+value_of p (h ∷ held) = if same_property p h.property then Some h.value else value_of p held
+
+abbrev pub is_held : PropId → List HeldValue → Bool
+is_held p held = is_some (value_of p held)
+
+abbrev pub names_of : List HeldValue → PropSet
+names_of held = set_of (map (λ h. h.property) held)
+
+abbrev pub is_sealed : State → Bool
+is_sealed o = not (nat_eq (length o.rounds) 0)
+
+abbrev pub is_disabled : List ℕ → List (List ℕ) → Bool
+is_disabled label [] = false
+is_disabled label (other ∷ labels) = bytes_eq other label || is_disabled label labels
+
+-- the dimension that a value of CONE_AMBIENT_DIM states
+abbrev pub ambient_in : Option PropertyValue → Option ℕ
+ambient_in (Some (whole (pos n))) = Some n
+ambient_in v = None
+
+abbrev pub first_cols : List HeldValue → Option ℕ
+first_cols [] = None
+first_cols (h ∷ held) = if nat_eq (stated_cols h.property h.value) 0 then first_cols held else Some (stated_cols h.property h.value)
+
+abbrev pub or_else : Option ℕ → Option ℕ → Option ℕ
+or_else None other = other
+or_else (Some n) other = Some n
+
+abbrev pub cols_of : List HeldValue → Option ℕ
+cols_of held = or_else (ambient_in (value_of ConeAmbientDim held)) (first_cols held)
+
+abbrev pub agrees : Option ℕ → PropId → PropertyValue → Bool
+agrees None p v = true
+agrees (Some n) p v = agrees_with n p v
+
+abbrev pub take_refusal : State → PropId → PropertyValue → Option TakeFail
+take_refusal o p v = if is_held p o.held then Some refused.AlreadyHeld
+    else if is_sealed o then Some refused.Sealed
+    else if not (has o.of p) then Some refused.NotOfType
+    else if not (agrees (cols_of o.held) p v) then Some refused.Columns
+    else if not (are_rows o.of p v) then Some refused.NotAThing
+    else None
+
+-- ---- the object with more; all else as it was
+abbrev pub with_held : State → List HeldValue → State
+with_held o more = record o { held = o.held ++ more }
+
+abbrev pub with_round : State → RoundSeen → State
+with_round o r = record o { rounds = o.rounds ++ r ∷ [] }
+
+abbrev pub with_excluded : State → Excluded → State
+with_excluded o e = record o { excluded = o.excluded ++ e ∷ [] }
+
+abbrev pub with_disabled : State → List ℕ → State
+with_disabled o label = record o { disabled = o.disabled ++ label ∷ [] }
+
+-- ---- settling
+abbrev pub only_if : Bool → PropId → List PropId
+only_if b p = if b then p ∷ [] else []
+
+abbrev pub names_to_settle : List HeldValue → List PropId
+names_to_settle held =
+    only_if (not (is_held ConeAmbientDim held)) ConeAmbientDim
+    ++ only_if (is_held Points held && not (is_held InputLineality held)) InputLineality
+    ++ only_if (is_held Inequalities held && not (is_held Equations held)) Equations
+    ++ only_if (is_held Vertices held && not (is_held Points held) && not (is_held Inequalities held) && not (is_held Facets held && is_held AffineHull held) && not (is_held LinealitySpace held)) LinealitySpace
+    ++ only_if (is_held Facets held && not (is_held Points held) && not (is_held Inequalities held) && not (is_held Vertices held) && not (is_held AffineHull held)) AffineHull
+
+abbrev pub settling_names : State → List PropId
+settling_names o = if is_sealed o then [] else names_to_settle o.held
+
+abbrev pub settled_value : ℕ → PropId → PropertyValue
+settled_value n ConeAmbientDim = whole (pos n)
+settled_value n p = matrix 0 []
+
+abbrev pub settled : ℕ → PropId → HeldValue
+settled n p = record { property = p; value = settled_value n p; origin = Given }
+
+abbrev pub settling : State → List HeldValue
+settling o = map (settled (unwrap_or (cols_of o.held) 1)) (settling_names o)

@@ -1,0 +1,28 @@
+// Laws of honesty.
+
+ghost use Rattle.pm_object.specs.Laws.{CommitIsHonest, EmptyIsKept, GivenIsKept, HonestyIsOfValues, SettledIsKept};
+
+/// An object that holds nothing is honest.
+pub fn law_empty_is_kept()
+    ensures { EmptyIsKept }
+{}
+
+/// An object without rounds stays honest with more given values.
+pub fn law_given_is_kept()
+    ensures { GivenIsKept }
+{}
+
+/// Settling leaves an object honest.
+pub fn law_settled_is_kept()
+    ensures { SettledIsKept }
+{}
+
+/// An honest object stays honest with what a client may answer on it.
+pub fn law_commit_is_honest()
+    ensures { CommitIsHonest }
+{}
+
+/// Rounds, exclusions and disabled labels do not touch honesty.
+pub fn law_honesty_is_of_values()
+    ensures { HonestyIsOfValues }
+{}

@@ -1,0 +1,20 @@
+// Objects: the values that they hold, the rules that were excluded, the rounds that were started. A held value never changes.
+#![tactic(auto)]
+
+mod copies;
+mod draft;
+mod held;
+mod laws;
+mod object;
+mod settled;
+mod tests_of_values;
+mod view;
+
+pub use draft::Draft;
+pub use held::{Excluded, Held, Origin, Round, RoundEnd, TakeFail, Why};
+pub use laws::{
+    law_commit_is_honest, law_empty_is_kept, law_given_is_kept, law_honesty_is_of_values,
+    law_settled_is_kept,
+};
+pub use object::Object;
+pub use view::View;

@@ -1,0 +1,389 @@
+// The calls of an object.
+
+ghost use Rattle.pm_types.specs.Values.{whole};
+ghost use Rattle.pm_types.specs.declared.property.PropId.TheVariants.{ConeAmbientDim};
+ghost use Rattle.pm_object.specs.State.{State, agrees, ambient_in, cols_of, empty_object, is_disabled, is_held, is_sealed, names_of, names_to_settle, settling, settling_names, take_refusal, value_of, with_disabled, with_excluded, with_held, with_round};
+ghost use Rattle.pm_types.specs.Forms.{are_rows, is_formed};
+ghost use Rattle.pm_object.specs.Formed.{IsFormed, IsFormedIn};
+ghost use Rattle.pm_object.specs.Views.{held_seen, round_seen};
+ghost use Rattle.pm_object.specs.declared.held.Origin.TheVariants.{Computed, Given};
+ghost use Rattle.pm_types.specs.Views.{view_of};
+ghost use Rattle.pm_object.specs.Reading.{view_for};
+ghost use Rattle.pm_types.specs.Sets.{has};
+ghost use Rattle.pm_types.specs.declared.property.PropId.{PropId};
+ghost use Rattle.std.specs.Option.{is_some, option_map, unwrap_or};
+ghost use Rattle.std.specs.Prelude.{IfErr, IfOk, IfSome, IsTrue, false, if◌then◌else◌, None, OnErr, OnOk, Some, [], map, string_bytes, ◌++◌, ◌<◌, ◌^◌, ◌∷◌, ◌≡◌, ◌≢◌};
+
+use crate::copies::{copy_excluded, copy_held, copy_labels, copy_rounds};
+use crate::held::{Excluded, Held, Origin, Round, TakeFail};
+use crate::settled::{push_if, settled_values};
+use crate::tests_of_values::{agrees, are_rows, first_cols};
+use crate::view::View;
+use pm_geom::ObjectType;
+use pm_types::{Kind, PropId, PropSet, Value};
+use std::alloc::{AllocError, Global};
+use std::marker::Model;
+
+/// An object: a polytope, cone or fan with what is known of it.
+#[derive(Debug, Drop)]
+pub struct Object {
+    of: ObjectType,
+    held: Vec<Held>,
+    excluded: Vec<Excluded>,
+    rounds: Vec<Round>,
+    disabled: Vec<String>,
+}
+
+impl Model for Object {
+    ghost use Rattle.pm_object.specs.State.{State};
+    ghost use Rattle.pm_types.specs.Forms.{are_rows, is_formed};
+    ghost use Rattle.pm_object.specs.Views.{held_seen, round_seen};
+    ghost use Rattle.std.specs.Prelude.{map, string_bytes};
+
+    ghost Value = { State };
+
+    ghost view = { λ o. record { of = o.of; held = map held_seen o.held.items; excluded = o.excluded.items; rounds = map round_seen o.rounds.items; disabled = map string_bytes o.disabled.items } };
+
+    ghost use Rattle.pm_object.specs.Formed.{IsFormed};
+
+    ghost invariant = { λ o. IsFormed (record { of = o.of; held = map held_seen o.held.items; excluded = o.excluded.items; rounds = map round_seen o.rounds.items; disabled = map string_bytes o.disabled.items }) };
+}
+
+impl Object {
+    /// An object of this type that holds nothing.
+    pub fn new(alloc: Global, of: ObjectType) -> Object
+        ensures { result ≡ empty_object of }
+    {
+        Object {
+            of,
+            held: Vec::new(alloc),
+            excluded: Vec::new(alloc),
+            rounds: Vec::new(alloc),
+            disabled: Vec::new(alloc),
+        }
+    }
+
+    /// The object's type.
+    pub fn of(&self) -> ObjectType
+        ensures value { result ≡ self.now.of }
+        ensures formed { IsFormed self.now }
+    {
+        self.of
+    }
+
+    /// The values that it holds, in the order in which they came. They have their forms, and one column count.
+    pub fn held(&self) -> &[Held]
+        ensures value { map held_seen result.now ≡ self.now.held }
+        ensures formed { IsFormed self.now }
+    {
+        &self.held
+    }
+
+    /// The rounds that were started for it.
+    pub fn rounds(&self) -> &[Round]
+        ensures { map round_seen result.now ≡ self.now.rounds }
+    {
+        &self.rounds
+    }
+
+    /// The rules that were excluded.
+    pub fn excluded(&self) -> &[Excluded]
+        ensures { result.now ≡ self.now.excluded }
+    {
+        &self.excluded
+    }
+
+    /// Whether a round was started for it.
+    pub fn is_sealed(&self) -> bool
+        ensures { result ≡ is_sealed self.now }
+    {
+        !self.rounds.is_empty()
+    }
+
+    /// The held value of a property; None exactly where it is not held.
+    pub fn lookup(&self, p: PropId) -> Option<&Value>
+        ensures value { option_map (λ v. view_of v.now) result ≡ value_of p self.now.held }
+        ensures formed { IsFormed self.now }
+    {
+        find(&self.held, p)
+    }
+
+    /// Whether a property is held.
+    pub fn holds(&self, p: PropId) -> bool
+        ensures { result ≡ is_held p self.now.held }
+    {
+        self.lookup(p).is_some()
+    }
+
+    /// The names that are held.
+    pub fn names(&self) -> PropSet
+        ensures value { result ≡ names_of self.now.held }
+        ensures members { (p : PropId) → has result p ≡ is_held p self.now.held }
+    {
+        names_of(&self.held)
+    }
+
+    /// The column count n; None exactly where it is unknown.
+    pub fn cols(&self) -> Option<usize>
+        ensures value { result ≡ cols_of self.now.held }
+        ensures fits { IfSome result (λ n. n < 2 ^ 63) }
+        ensures formed { IsFormed self.now }
+    {
+        match self.ambient() {
+            Some(n) => Some(n),
+            None => first_cols(&self.held),
+        }
+    }
+
+    // The dimension that CONE_AMBIENT_DIM states, if it is held.
+    fn ambient(&self) -> Option<usize>
+        ensures value { result ≡ ambient_in (value_of ConeAmbientDim self.now.held) }
+        ensures fits { IfSome result (λ n. n < 2 ^ 63) }
+        ensures formed { IsFormed self.now }
+    {
+        match self.lookup(PropId::ConeAmbientDim) {
+            Some(Value::Int(k)) => whole_number(*k),
+            _ => None,
+        }
+    }
+
+    /// Adds a given value, unless the first of these holds: the property is held (`AlreadyHeld`), a round was started
+    /// (`Sealed`), the type's table has no such property (`NotOfType`), the columns differ from n (`Columns`), a row
+    /// fails the tests of its property (`NotAThing`). Nothing changes where the answer is not Ok.
+    pub fn take(&mut self, p: PropId, v: Value) -> Result<(), TakeFail>
+        requires formed { IsTrue (is_formed p (view_of v)) }
+        ensures ok { OnOk result (take_refusal self.old p (view_of v) ≡ None) }
+        ensures added { OnOk result (self.new ≡ with_held self.old (record { property = p; value = view_of v; origin = Given } ∷ [])) }
+        ensures refused { IfErr result (λ e. e ≢ TakeFail.Memory → take_refusal self.old p (view_of v) ≡ Some e) }
+        ensures unchanged { OnErr result (self.new ≡ self.old) }
+    {
+        if self.holds(p) {
+            return Err(TakeFail::AlreadyHeld);
+        }
+        if self.is_sealed() {
+            return Err(TakeFail::Sealed);
+        }
+        if !p.is_in(self.of) {
+            return Err(TakeFail::NotOfType);
+        }
+        if !agrees(self.cols(), p, &v) {
+            return Err(TakeFail::Columns);
+        }
+        if !are_rows(self.of, p, &v) {
+            return Err(TakeFail::NotAThing);
+        }
+        let given = Held {
+            id: p,
+            value: v,
+            origin: Origin::Given,
+        };
+        if self.held.push(given).is_err() {
+            return Err(TakeFail::Memory);
+        }
+        Ok(())
+    }
+
+    /// Whether this label was disabled.
+    pub fn is_disabled(&self, label: &str) -> bool
+        ensures { result ≡ is_disabled label.now self.now.disabled }
+    {
+        is_among(&self.disabled, label)
+    }
+
+    /// Disables a label; one that is disabled stays so, once.
+    pub fn disable(&mut self, alloc: Global, label: &str) -> Result<(), AllocError>
+        ensures ok { OnOk result (self.new ≡ (if is_disabled label.now self.old.disabled then self.old else with_disabled self.old label.now)) }
+        ensures err { OnErr result (self.new ≡ self.old) }
+    {
+        if self.is_disabled(label) {
+            return Ok(());
+        }
+        let copy = String::from_str(alloc, label)?;
+        self.disabled.push(copy)?;
+        Ok(())
+    }
+
+    /// Adds what goes without saying, of an object without rounds. Then the object knows its dimension.
+    pub fn settle(&mut self, alloc: Global) -> Result<(), AllocError>
+        ensures ok { OnOk result (self.new ≡ with_held self.old (settling self.old)) }
+        ensures dimension { OnOk result (IsTrue (is_held ConeAmbientDim self.new.held)) }
+        ensures err { OnErr result (self.new ≡ self.old) }
+    {
+        let mut more = self.settling(alloc)?;
+        self.held.append(&mut more)?;
+        Ok(())
+    }
+
+    // The values that settling adds.
+    fn settling(&self, alloc: Global) -> Result<Vec<Held>, AllocError>
+        ensures { IfOk result (λ v. map held_seen v.items ≡ settling self.now) }
+    {
+        let names = self.settling_names(alloc)?;
+        settled_values(alloc, self.dimension(), &names)
+    }
+
+    // The properties that settling adds.
+    fn settling_names(&self, alloc: Global) -> Result<Vec<PropId>, AllocError>
+        ensures { IfOk result (λ v. v.items ≡ settling_names self.now) }
+    {
+        if self.is_sealed() {
+            Ok(Vec::new(alloc))
+        } else {
+            self.names_to_settle(alloc)
+        }
+    }
+
+    fn names_to_settle(&self, alloc: Global) -> Result<Vec<PropId>, AllocError>
+        ensures { IfOk result (λ v. v.items ≡ names_to_settle self.now.held) }
+    {
+        let points = self.holds(PropId::Points);
+        let inequalities = self.holds(PropId::Inequalities);
+        let vertices = self.holds(PropId::Vertices);
+        let facets = self.holds(PropId::Facets);
+        let hull = self.holds(PropId::AffineHull);
+        let mut names = Vec::new(alloc);
+        push_if(
+            &mut names,
+            !self.holds(PropId::ConeAmbientDim),
+            PropId::ConeAmbientDim,
+        )?;
+        push_if(
+            &mut names,
+            points & !self.holds(PropId::InputLineality),
+            PropId::InputLineality,
+        )?;
+        push_if(
+            &mut names,
+            inequalities & !self.holds(PropId::Equations),
+            PropId::Equations,
+        )?;
+        push_if(
+            &mut names,
+            vertices
+                & !points
+                & !inequalities
+                & !(facets & hull)
+                & !self.holds(PropId::LinealitySpace),
+            PropId::LinealitySpace,
+        )?;
+        push_if(
+            &mut names,
+            facets & !points & !inequalities & !vertices & !hull,
+            PropId::AffineHull,
+        )?;
+        Ok(names)
+    }
+
+    // The column count, or 1 where it is unknown.
+    fn dimension(&self) -> usize
+        ensures value { result ≡ unwrap_or (cols_of self.now.held) 1 }
+        ensures fits { result < 2 ^ 63 }
+    {
+        match self.cols() {
+            Some(n) => n,
+            None => 1,
+        }
+    }
+
+    /// An object that holds the same, with the same exclusions, rounds and disabled labels.
+    pub fn copy(&self, alloc: Global) -> Result<Object, AllocError>
+        ensures { IfOk result (λ o. o ≡ self.now) }
+    {
+        Ok(Object {
+            of: self.of,
+            held: copy_held(alloc, &self.held)?,
+            excluded: copy_excluded(alloc, &self.excluded)?,
+            rounds: copy_rounds(alloc, &self.rounds)?,
+            disabled: copy_labels(alloc, &self.disabled)?,
+        })
+    }
+
+    /// Adds a round, of an object that knows its dimension.
+    pub fn add_round(&mut self, r: Round) -> Result<(), AllocError>
+        requires dimension { IsTrue (is_held ConeAmbientDim self.old.held) }
+        ensures ok { OnOk result (self.new ≡ with_round self.old (round_seen r)) }
+        ensures err { OnErr result (self.new ≡ self.old) }
+    {
+        self.rounds.push(r)?;
+        Ok(())
+    }
+
+    /// Excludes a rule.
+    pub fn exclude(&mut self, e: Excluded) -> Result<(), AllocError>
+        ensures ok { OnOk result (self.new ≡ with_excluded self.old e) }
+        ensures err { OnErr result (self.new ≡ self.old) }
+    {
+        self.excluded.push(e)?;
+        Ok(())
+    }
+
+    /// What a client of this kind may read, of an object that knows its column count and holds the kind's sources.
+    pub fn view(&self, kind: &Kind) -> View<'_>
+        requires known { IsTrue (is_some (cols_of self.now.held)) }
+        requires sources { (p : PropId) → IsTrue (has kind.now.sources p) → IsTrue (is_held p self.now.held) }
+        ensures { result ≡ view_for self.now kind.now (unwrap_or (cols_of self.now.held) 1) }
+    {
+        let Some(cols) = self.cols() else {
+            unreachable!()
+        };
+        View::new(self, *kind, cols)
+    }
+
+    /// Adds a computed value of a property that is not held.
+    pub fn add_computed(&mut self, p: PropId, v: Value) -> Result<(), AllocError>
+        requires missing { is_held p self.old.held ≡ false }
+        requires formed { IsFormedIn self.old.of (cols_of self.old.held) (record { property = p; value = view_of v; origin = Computed }) }
+        ensures ok { OnOk result (self.new ≡ with_held self.old (record { property = p; value = view_of v; origin = Computed } ∷ [])) }
+        ensures err { OnErr result (self.new ≡ self.old) }
+    {
+        self.held.push(Held {
+            id: p,
+            value: v,
+            origin: Origin::Computed,
+        })?;
+        Ok(())
+    }
+}
+
+// Whether a label stands in the list.
+fn is_among(labels: &[String], label: &str) -> bool
+    ensures { result ≡ is_disabled label.now (map string_bytes labels.now) }
+{
+    for other in labels {
+        if other.as_str() == label {
+            return true;
+        }
+    }
+    false
+}
+
+// A number that is not negative.
+fn whole_number(k: i64) -> Option<usize>
+    ensures value { result ≡ ambient_in (Some (whole k)) }
+    ensures fits { IfSome result (λ n. n < 2 ^ 63) }
+{
+    if k >= 0 { Some(k as usize) } else { None }
+}
+
+// The names of a list of values.
+fn names_of(held: &[Held]) -> PropSet
+    ensures { result ≡ names_of (map held_seen held.now) }
+{
+    let mut names = PropSet::empty();
+    for h in held {
+        names = names.with(h.id);
+    }
+    names
+}
+
+/// The value of a property in a list.
+fn find(held: &[Held], p: PropId) -> Option<&Value>
+    ensures { option_map (λ v. view_of v.now) result ≡ value_of p (map held_seen held.now) }
+{
+    for h in held {
+        if h.id == p {
+            return Some(&h.value);
+        }
+    }
+    None
+}

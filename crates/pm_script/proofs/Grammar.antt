@@ -1,0 +1,264 @@
+-- A line is read as a command exactly where it speaks that command.
+use Rattle.std.proofs.Common.{refl, sym, ap, subst, ◌∙◌, ◌≡◌, inl, inr, ℕ, Bool, true, false, List, [], ◌∷◌, ◌++◌, length, Option, Some, None, option_map, option_and_then, codes, append_assoc, length-append, arith, cond, eqb, leb, ◌&&◌, not}
+use Rattle.std.proofs.lemmas.Bool.{and_parts, and_from, cases_Bool, cond-true, false≢true, le-leb}
+use Rattle.std.proofs.lemmas.List.Folds.{list_all-append}
+use Rattle.std.proofs.lemmas.Option.{none-some, same_Some, cond_some, option_and_then_some}
+use Rattle.std.proofs.lemmas.Slice.Eq.{bytes_eq-Decides}
+use Rattle.std.proofs.lemmas.Str.{IsUtf8-from_is_utf8, is_utf8-from_IsUtf8}
+use Rattle.std.specs.Char.{is_ascii_alphabetic}
+use Rattle.std.specs.List.{list_all, before_first, after_first}
+use Rattle.std.specs.Str.{IsUtf8, is_utf8, bytes_eq}
+use Rattle.pm_script.proofs.Splits.{lacks, before_first-lacks, after_first-lacks, split_first, other_byte, lacks-passes}
+use Rattle.pm_script.specs.Commands.{RefSeen, Spoken, blank, new_object, take_value, give_value, look_up, part_of, ref_of, property_of, type_of, json_of, of_both, new_line, take_line, give_line, lookup_line, line_of, command_of}
+use Rattle.pm_script.specs.Grammar.{part_text, ref_text, is_sub, is_ref, Speaks}
+use Rattle.pm_script.specs.Lines.{is_silent}
+use Rattle.pm_script.specs.Words.{is_dot, first_word, rest, is_name_byte, is_name, is_property_byte, is_property_word, is_type_word}
+
+-- ---- words
+name_lacks : (c : ℕ) (w : List ℕ) → is_ascii_alphabetic c ≡ false → is_name_byte c ≡ false → is_name w ≡ true → lacks c w ≡ true
+name_lacks c [] a n h = refl
+name_lacks c (b ∷ w) a n h =
+    let p = and_parts (is_ascii_alphabetic b && list_all is_name_byte w) (leb (length (b ∷ w)) 32) h in
+    let q = and_parts (is_ascii_alphabetic b) (list_all is_name_byte w) p.0 in
+    and_from (not (eqb b c)) (lacks c w) (rw (other_byte is_ascii_alphabetic c b a q.0) refl) (lacks-passes is_name_byte c w n q.1)
+
+property_lacks_space : (w : List ℕ) → is_property_word w ≡ true → lacks 32 w ≡ true
+property_lacks_space w h =
+    lacks-passes is_property_byte 32 w refl (and_parts (leb 1 (length w) && leb (length w) 32) (list_all is_property_byte w) h).1
+
+lacks-append : (c : ℕ) (v w : List ℕ) → lacks c v ≡ true → lacks c w ≡ true → lacks c (v ++ w) ≡ true
+lacks-append c v w a b = list_all-append (λ x. not (eqb x c)) v w ∙ and_from (lacks c v) (lacks c w) a b
+
+part_lacks_space : (name : List ℕ) (sub : Option (List ℕ)) → is_name name ≡ true → is_sub sub ≡ true → lacks 32 (part_text name sub) ≡ true
+part_lacks_space name None n s = name_lacks 32 name refl refl n
+part_lacks_space name (Some sub) n s =
+    lacks-append 32 (name ++ codes ".") sub (lacks-append 32 name (codes ".") (name_lacks 32 name refl refl n) refl) (name_lacks 32 sub refl refl s)
+
+ref_lacks_space : (r : RefSeen) → is_ref r ≡ true → lacks 32 (ref_text r) ≡ true
+ref_lacks_space r h = let p = and_parts (is_name r.name) (is_sub r.sub) h in part_lacks_space r.name r.sub p.0 p.1
+
+-- ---- a REF is its text
+dotted_is_no_name : (name sub : List ℕ) → is_name (name ++ 46 ∷ sub) ≡ false
+dotted_is_no_name name sub = elim (cases_Bool (is_name (name ++ 46 ∷ sub))) [
+  | inl h ↦
+      let all = sym (list_all-append (λ x. not (eqb x 46)) name (46 ∷ sub)) ∙ name_lacks 46 (name ++ 46 ∷ sub) refl refl h in
+      absurd (false≢true (and_parts (lacks 46 name) (lacks 46 (46 ∷ sub)) all).1)
+  | inr h ↦ h
+]
+
+ref_of-part : (name : List ℕ) (sub : Option (List ℕ)) → is_name name ≡ true → is_sub sub ≡ true → ref_of (part_text name sub) ≡ Some (record { name = name; sub = sub })
+ref_of-part name None n s = rw n refl
+ref_of-part name (Some sub) n s =
+    let whole : name ++ codes "." ++ sub ≡ name ++ 46 ∷ sub = append_assoc name (codes ".") sub in
+    let clear = name_lacks 46 name refl refl n in
+    rw whole (rw (dotted_is_no_name name sub, before_first-lacks 46 name sub refl clear, after_first-lacks 46 name sub refl clear, n, s) refl)
+
+ref_of-text : (r : RefSeen) → is_ref r ≡ true → ref_of (ref_text r) ≡ Some r
+ref_of-text r h = let p = and_parts (is_name r.name) (is_sub r.sub) h in ref_of-part r.name r.sub p.0 p.1
+
+abbrev IsRefText : List ℕ → RefSeen → Type 0
+IsRefText w r = (w ≡ ref_text r) × (is_ref r ≡ true)
+
+sub_is_some : (name sub : List ℕ) → is_name sub ≡ true → sub ≡ [] → ⊥
+sub_is_some name sub h e = false≢true (subst (λ w. is_name w ≡ true) e h)
+
+part_is_text : (w : List ℕ) (r : RefSeen) → part_of (before_first is_dot w) (after_first is_dot w) ≡ Some r → IsRefText w r
+part_is_text w r e =
+    let name : List ℕ = before_first is_dot w in
+    let sub : List ℕ = after_first is_dot w in
+    let p = cond_some (is_name name && is_name sub) (record { name = name; sub = Some sub }) r e in
+    let q = and_parts (is_name name) (is_name sub) p.0 in
+    elim (split_first 46 w) as (λ _. IsRefText w r) [
+      | inl none ↦ absurd (sub_is_some name sub q.1 none)
+      | inr split ↦ subst (IsRefText w) p.1 (split ∙ sym (append_assoc name (codes ".") sub), and_from (is_name name) (is_name sub) q.0 q.1)
+    ]
+
+cond_either : {A P : Type 0} (b : Bool) (x y : A) (z : A) → cond b x y ≡ z → (b ≡ true → x ≡ z → P) → (b ≡ false → y ≡ z → P) → P
+cond_either true x y z e f g = f refl e
+cond_either false x y z e f g = g refl e
+
+ref_is_text : (w : List ℕ) (r : RefSeen) → ref_of w ≡ Some r → IsRefText w r
+ref_is_text w r e =
+    cond_either (is_name w) (Some (record { name = w; sub = None })) (part_of (before_first is_dot w) (after_first is_dot w)) (Some r) e
+    (λ n f. subst (IsRefText w) (same_Some (record { name = w; sub = None }) r f) (refl, and_from (is_name w) true n refl))
+    (λ _ f. part_is_text w r f)
+
+-- ---- lines as they are spoken
+first_of_two : (r : RefSeen) (w : List ℕ) → is_ref r ≡ true → first_word (ref_text r ++ 32 ∷ w) ≡ ref_text r
+first_of_two r w h = before_first-lacks 32 (ref_text r) w refl (ref_lacks_space r h)
+
+rest_of_two : (r : RefSeen) (w : List ℕ) → is_ref r ≡ true → rest (ref_text r ++ 32 ∷ w) ≡ w
+rest_of_two r w h = after_first-lacks 32 (ref_text r) w refl (ref_lacks_space r h)
+
+both_spoken : (speak : RefSeen → List ℕ → Spoken) (kind : List ℕ → Option (List ℕ)) (r : RefSeen) (w : List ℕ) → is_ref r ≡ true → kind w ≡ Some w
+    → of_both speak (ref_of (first_word (ref_text r ++ 32 ∷ w))) (kind (rest (ref_text r ++ 32 ∷ w))) ≡ Some (speak r w)
+both_spoken speak kind r w h k = rw (first_of_two r w h, rest_of_two r w h, ref_of-text r h, k) refl
+
+json_is_some : (json : List ℕ) → leb 1 (length json) ≡ true → json_of json ≡ Some json
+json_is_some [] h = absurd (false≢true h)
+json_is_some (b ∷ json) h = refl
+
+take_spoken : (r : RefSeen) (p json : List ℕ) → is_ref r ≡ true → is_property_word p ≡ true → leb 1 (length json) ≡ true → take_line (ref_text r ++ 32 ∷ (p ++ 32 ∷ json)) ≡ Some (take_value r p json)
+take_spoken r p json h k j =
+    let clear = property_lacks_space p k in
+    rw (first_of_two r (p ++ 32 ∷ json) h, rest_of_two r (p ++ 32 ∷ json) h, ref_of-text r h, before_first-lacks 32 p json refl clear, after_first-lacks 32 p json refl clear, k, json_is_some json j) refl
+
+property_is_some : (w : List ℕ) → is_property_word w ≡ true → property_of w ≡ Some w
+property_is_some w h = cond-true (is_property_word w) (Some w) None h
+
+type_is_some : (w : List ℕ) → is_type_word w ≡ true → type_of w ≡ Some w
+type_is_some w h = cond-true (is_type_word w) (Some w) None h
+
+-- a line that is not silent
+heard : (text : List ℕ) → is_silent text ≡ false → IsUtf8 text → command_of text ≡ line_of (first_word text) (rest text)
+heard text h u = rw (h, is_utf8-from_IsUtf8 text u) refl
+
+regroup : (front v w : List ℕ) → front ++ v ++ codes " " ++ w ≡ front ++ (v ++ 32 ∷ w)
+regroup front v w = simp append_assoc
+
+regroup_take : (front v w x : List ℕ) → front ++ v ++ codes " " ++ w ++ codes " " ++ x ≡ front ++ (v ++ 32 ∷ (w ++ 32 ∷ x))
+regroup_take front v w x = simp append_assoc
+
+pub spoken_is_read : (text : List ℕ) (s : Spoken) → Speaks text s → command_of text ≡ Some s
+spoken_is_read text blank h = rw h refl
+spoken_is_read text (new_object r of) h =
+    let p = and_parts (is_ref r) (is_type_word of) h.allowed in
+    let e = h.same ∙ regroup (codes "new ") (ref_text r) of in
+    rw e (heard (codes "new " ++ (ref_text r ++ 32 ∷ of)) refl (subst IsUtf8 e h.utf8) ∙ both_spoken new_object type_of r of p.0 (type_is_some of p.1))
+spoken_is_read text (give_value r w) h =
+    let p = and_parts (is_ref r) (is_property_word w) h.allowed in
+    let e = h.same ∙ regroup (codes "give ") (ref_text r) w in
+    rw e (heard (codes "give " ++ (ref_text r ++ 32 ∷ w)) refl (subst IsUtf8 e h.utf8) ∙ both_spoken give_value property_of r w p.0 (property_is_some w p.1))
+spoken_is_read text (look_up r w) h =
+    let p = and_parts (is_ref r) (is_property_word w) h.allowed in
+    let e = h.same ∙ regroup (codes "lookup ") (ref_text r) w in
+    rw e (heard (codes "lookup " ++ (ref_text r ++ 32 ∷ w)) refl (subst IsUtf8 e h.utf8) ∙ both_spoken look_up property_of r w p.0 (property_is_some w p.1))
+spoken_is_read text (take_value r w json) h =
+    let p = and_parts (is_ref r && is_property_word w) (leb 1 (length json)) h.allowed in
+    let q = and_parts (is_ref r) (is_property_word w) p.0 in
+    let e = h.same ∙ regroup_take (codes "take ") (ref_text r) w json in
+    rw e (heard (codes "take " ++ (ref_text r ++ 32 ∷ (w ++ 32 ∷ json))) refl (subst IsUtf8 e h.utf8) ∙ take_spoken r w json q.0 q.1 p.1)
+
+-- ---- lines as they are read
+-- what stands behind the first word, where that is something
+behind : (text : List ℕ) → (rest text ≡ [] → ⊥) → text ≡ first_word text ++ 32 ∷ rest text
+behind text some = elim (split_first 32 text) as (λ _. text ≡ first_word text ++ 32 ∷ rest text) [ inl none ↦ absurd (some none) | inr split ↦ split ]
+
+record Both (speak : RefSeen → List ℕ → Spoken) (good : List ℕ → Bool) (words : List ℕ) (s : Spoken) : Type 0 where
+  obj : RefSeen
+  word : List ℕ
+  line : words ≡ ref_text obj ++ 32 ∷ word
+  are : (is_ref obj && good word) ≡ true
+  is : speak obj word ≡ s
+
+option_map_some : {A B : Type 0} (f : A → B) (o : Option A) (y : B) → option_map f o ≡ Some y → (x : A) × (o ≡ Some x) × (f x ≡ y)
+option_map_some f None y e = absurd (none-some y e)
+option_map_some f (Some x) y e = (x, refl, same_Some (f x) y e)
+
+both_read : (speak : RefSeen → List ℕ → Spoken) (good : List ℕ → Bool) (words : List ℕ) (s : Spoken) → good [] ≡ false
+    → of_both speak (ref_of (first_word words)) (cond (good (rest words)) (Some (rest words)) None) ≡ Some s → Both speak good words s
+both_read speak good words s empty e =
+    option_and_then_some (λ o. option_map (speak o) (cond (good (rest words)) (Some (rest words)) None)) (ref_of (first_word words)) s e
+    (λ r is f. let p = option_map_some (speak r) (cond (good (rest words)) (Some (rest words)) None) s f in
+    let q = cond_some (good (rest words)) (rest words) p.0 p.1 in
+    let text = ref_is_text (first_word words) r is in
+    record {
+      obj = r;
+      word = rest words;
+      line = behind words (λ none. false≢true (sym empty ∙ subst (λ w. good w ≡ true) none q.0)) ∙ ap (λ w. w ++ 32 ∷ rest words) text.0;
+      are = and_from (is_ref r) (good (rest words)) text.1 q.0;
+      is = ap (speak r) q.1 ∙ p.2;
+    })
+
+record TakeRead (words : List ℕ) (s : Spoken) : Type 0 where
+  obj : RefSeen
+  prop : List ℕ
+  json : List ℕ
+  line : words ≡ ref_text obj ++ 32 ∷ (prop ++ 32 ∷ json)
+  are : (is_ref obj && is_property_word prop && leb 1 (length json)) ≡ true
+  is : take_value obj prop json ≡ s
+
+json_some : (json j : List ℕ) → json_of json ≡ Some j → (leb 1 (length json) ≡ true) × (json ≡ j)
+json_some [] j e = absurd (none-some j e)
+json_some (b ∷ json) j e = (le-leb 1 (length (b ∷ json)) (omega arith), same_Some (b ∷ json) j e)
+
+json_is_not_empty : (json : List ℕ) → leb 1 (length json) ≡ true → json ≡ [] → ⊥
+json_is_not_empty json h none = false≢true (subst (λ w. leb 1 (length w) ≡ true) none h)
+
+take_read : (words : List ℕ) (s : Spoken) → take_line words ≡ Some s → TakeRead words s
+take_read words s e =
+    let others : List ℕ = rest words in
+    option_and_then_some (λ o. option_and_then (λ p. option_map (take_value o p) (json_of (rest others))) (property_of (first_word others))) (ref_of (first_word words)) s e
+    (λ r is f. option_and_then_some (λ p. option_map (take_value r p) (json_of (rest others))) (property_of (first_word others)) s f
+    (λ p hp g. let j = option_map_some (take_value r p) (json_of (rest others)) s g in
+    let k = json_some (rest others) j.0 j.1 in
+    let q = cond_some (is_property_word (first_word others)) (first_word others) p hp in
+    let text = ref_is_text (first_word words) r is in
+    let inner = behind others (json_is_not_empty (rest others) k.0) in
+    let some : others ≡ [] → ⊥ = λ none. false≢true (subst (λ w. is_property_word (first_word w) ≡ true) none q.0) in
+    record {
+      obj = r;
+      prop = first_word others;
+      json = rest others;
+      line = behind words some ∙ ap (λ w. w ++ 32 ∷ others) text.0 ∙ ap (λ w. ref_text r ++ 32 ∷ w) inner;
+      are = and_from (is_ref r && is_property_word (first_word others)) (leb 1 (length (rest others))) (and_from (is_ref r) (is_property_word (first_word others)) text.1 q.0) k.0;
+      is = ap (λ w. take_value r w (rest others)) q.1 ∙ ap (take_value r p) k.1 ∙ j.2;
+    }))
+
+same_bytes : (a b : List ℕ) → bytes_eq a b ≡ true → a ≡ b
+same_bytes a b e = (bytes_eq-Decides a b).0 e
+
+split_is_some : (words v w : List ℕ) → words ≡ v ++ 32 ∷ w → words ≡ [] → ⊥
+split_is_some words v w e none = let l = ap length e in let n = ap length none in let a = length-append v (32 ∷ w) in omega arith
+
+-- the line, from its first word and what was read behind it
+whole_line : (text first v w : List ℕ) → first_word text ≡ first → rest text ≡ v ++ 32 ∷ w → text ≡ first ++ 32 ∷ (v ++ 32 ∷ w)
+whole_line text first v w f e = behind text (split_is_some (rest text) v w e) ∙ ap (λ x. x ++ 32 ∷ rest text) f ∙ ap (λ x. first ++ 32 ∷ x) e
+
+new_read : (text : List ℕ) (s : Spoken) → IsUtf8 text → first_word text ≡ codes "new" → new_line (rest text) ≡ Some s → Speaks text s
+new_read text s u f e =
+    let b = both_read new_object is_type_word (rest text) s refl e in
+    subst (Speaks text) b.is (record { utf8 = u; same = whole_line text (codes "new") (ref_text b.obj) b.word f b.line ∙ sym (regroup (codes "new ") (ref_text b.obj) b.word); allowed = b.are })
+
+give_read : (text : List ℕ) (s : Spoken) → IsUtf8 text → first_word text ≡ codes "give" → give_line (rest text) ≡ Some s → Speaks text s
+give_read text s u f e =
+    let b = both_read give_value is_property_word (rest text) s refl e in
+    subst (Speaks text) b.is (record { utf8 = u; same = whole_line text (codes "give") (ref_text b.obj) b.word f b.line ∙ sym (regroup (codes "give ") (ref_text b.obj) b.word); allowed = b.are })
+
+lookup_read : (text : List ℕ) (s : Spoken) → IsUtf8 text → first_word text ≡ codes "lookup" → lookup_line (rest text) ≡ Some s → Speaks text s
+lookup_read text s u f e =
+    let b = both_read look_up is_property_word (rest text) s refl e in
+    subst (Speaks text) b.is (record { utf8 = u; same = whole_line text (codes "lookup") (ref_text b.obj) b.word f b.line ∙ sym (regroup (codes "lookup ") (ref_text b.obj) b.word); allowed = b.are })
+
+taken_read : (text : List ℕ) (s : Spoken) → IsUtf8 text → first_word text ≡ codes "take" → take_line (rest text) ≡ Some s → Speaks text s
+taken_read text s u f e =
+    let b = take_read (rest text) s e in
+    subst (Speaks text) b.is (record {
+      utf8 = u;
+      same = whole_line text (codes "take") (ref_text b.obj) (b.prop ++ 32 ∷ b.json) f b.line ∙ sym (regroup_take (codes "take ") (ref_text b.obj) b.prop b.json);
+      allowed = b.are;
+    })
+
+line_read : (text : List ℕ) (s : Spoken) → IsUtf8 text → line_of (first_word text) (rest text) ≡ Some s → Speaks text s
+line_read text s u e =
+    let first : List ℕ = first_word text in
+    let words : List ℕ = rest text in
+    let lookup : Option Spoken = cond (bytes_eq first (codes "lookup")) (lookup_line words) None in
+    let give : Option Spoken = cond (bytes_eq first (codes "give")) (give_line words) lookup in
+    let take : Option Spoken = cond (bytes_eq first (codes "take")) (take_line words) give in
+    cond_either (bytes_eq first (codes "new")) (new_line words) take (Some s) e (λ is f. new_read text s u (same_bytes first (codes "new") is) f)
+    (λ _ f. cond_either (bytes_eq first (codes "take")) (take_line words) give (Some s) f (λ is g. taken_read text s u (same_bytes first (codes "take") is) g)
+    (λ _ g. cond_either (bytes_eq first (codes "give")) (give_line words) lookup (Some s) g (λ is h. give_read text s u (same_bytes first (codes "give") is) h)
+    (λ _ h. cond_either (bytes_eq first (codes "lookup")) (lookup_line words) None (Some s) h (λ is k. lookup_read text s u (same_bytes first (codes "lookup") is) k)
+    (λ _ k. absurd (none-some s k)))))
+
+pub read_is_spoken : (text : List ℕ) (s : Spoken) → command_of text ≡ Some s → Speaks text s
+read_is_spoken text s e =
+    cond_either (is_silent text) (Some blank) (cond (is_utf8 text) (line_of (first_word text) (rest text)) None) (Some s) e
+    (λ silent f. subst (Speaks text) (same_Some blank s f) silent)
+    (λ _ f. cond_either (is_utf8 text) (line_of (first_word text) (rest text)) None (Some s) f (λ utf8 g. line_read text s (IsUtf8-from_is_utf8 text utf8) g)
+    (λ _ g. absurd (none-some s g)))
+
+-- where nothing is read, nothing is spoken
+pub none_is_spoken : (text : List ℕ) → command_of text ≡ None → (s : Spoken) → Speaks text s → ⊥
+none_is_spoken text e s h = none-some s (sym e ∙ spoken_is_read text s h)

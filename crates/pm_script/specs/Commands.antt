@@ -1,0 +1,87 @@
+-- The commands that lines speak. A REF is NAME, or NAME.SUB for the part SUB of an object.
+--     new REF TYPE          makes an object
+--     take REF PROP JSON    gives it a value: the JSON text is all that stands after the third space, one byte at least
+--     give REF PROP         asks for a value
+--     lookup REF PROP       asks for a value that is held
+-- A line of spaces and tabs alone, or whose first byte is #, is blank. Any other line is no command, and so is one that is no UTF-8.
+--     RefSeen, Spoken      a REF, and a command, by the bytes of its words
+--     ref_of word      the REF that the word is
+--     command_of text      the command that the line speaks
+--     spoken c      what the code's command says
+use Rattle.std.specs.Prelude.{ℕ, ◌&&◌, List, [], ◌∷◌, string_bytes, Option, Some, None, option_map, option_and_then, if◌then◌else◌, codes}
+use Rattle.std.specs.List.{before_first, after_first}
+use Rattle.std.specs.Str.{is_utf8, bytes_eq}
+use Rattle.pm_script.specs.Lines.{is_silent}
+use Rattle.pm_script.specs.Words.{is_dot, first_word, rest, is_name, is_property_word, is_type_word}
+use Rattle.pm_script.specs.declared.command.Ref.{Ref}
+use Rattle.pm_script.specs.declared.command.Command.{Command}
+use Rattle.pm_script.specs.declared.command.Command.TheVariants.{Blank, New, Take, Give, Lookup}
+
+pub record RefSeen : Type 0 where
+  pub name : List ℕ
+  pub sub : Option (List ℕ)
+
+pub data Spoken : Type 0 where
+  blank : Spoken
+  new_object : RefSeen → List ℕ → Spoken
+  take_value : RefSeen → List ℕ → List ℕ → Spoken
+  give_value : RefSeen → List ℕ → Spoken
+  look_up : RefSeen → List ℕ → Spoken
+
+abbrev pub part_of : List ℕ → List ℕ → Option RefSeen
+part_of name sub = if is_name name && is_name sub then Some (record { name = name; sub = Some sub }) else None
+
+abbrev pub ref_of : List ℕ → Option RefSeen
+ref_of word = if is_name word then Some (record { name = word; sub = None }) else part_of (before_first is_dot word) (after_first is_dot word)
+
+abbrev pub property_of : List ℕ → Option (List ℕ)
+property_of word = if is_property_word word then Some word else None
+
+abbrev pub type_of : List ℕ → Option (List ℕ)
+type_of word = if is_type_word word then Some word else None
+
+abbrev pub json_of : List ℕ → Option (List ℕ)
+json_of [] = None
+json_of (b ∷ json) = Some (b ∷ json)
+
+-- what is spoken of a REF and another word, where both are such
+abbrev pub of_both : (RefSeen → List ℕ → Spoken) → Option RefSeen → Option (List ℕ) → Option Spoken
+of_both speak obj word = option_and_then (λ o. option_map (speak o) word) obj
+
+abbrev pub of_three : Option RefSeen → Option (List ℕ) → Option (List ℕ) → Option Spoken
+of_three obj prop json = option_and_then (λ o. option_and_then (λ p. option_map (take_value o p) json) prop) obj
+
+abbrev pub new_line : List ℕ → Option Spoken
+new_line words = of_both new_object (ref_of (first_word words)) (type_of (rest words))
+
+abbrev pub take_line : List ℕ → Option Spoken
+take_line words = of_three (ref_of (first_word words)) (property_of (first_word (rest words))) (json_of (rest (rest words)))
+
+abbrev pub give_line : List ℕ → Option Spoken
+give_line words = of_both give_value (ref_of (first_word words)) (property_of (rest words))
+
+abbrev pub lookup_line : List ℕ → Option Spoken
+lookup_line words = of_both look_up (ref_of (first_word words)) (property_of (rest words))
+
+-- the command, from its first word and what stands after it
+abbrev pub line_of : List ℕ → List ℕ → Option Spoken
+line_of first words =
+    if bytes_eq first (codes "new") then new_line words
+    else (if bytes_eq first (codes "take") then take_line words
+    else (if bytes_eq first (codes "give") then give_line words
+    else (if bytes_eq first (codes "lookup") then lookup_line words
+    else None)))
+
+abbrev pub command_of : List ℕ → Option Spoken
+command_of text = if is_silent text then Some blank else (if is_utf8 text then line_of (first_word text) (rest text) else None)
+
+-- ---- the code's commands
+abbrev pub seen_ref : Ref → RefSeen
+seen_ref r = record { name = string_bytes r.name; sub = option_map string_bytes r.sub }
+
+abbrev pub spoken : Command → Spoken
+spoken Blank = blank
+spoken (New obj of) = new_object (seen_ref obj) (string_bytes of)
+spoken (Take obj prop json) = take_value (seen_ref obj) (string_bytes prop) (string_bytes json)
+spoken (Give obj prop) = give_value (seen_ref obj) (string_bytes prop)
+spoken (Lookup obj prop) = look_up (seen_ref obj) (string_bytes prop)

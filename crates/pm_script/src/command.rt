@@ -1,0 +1,223 @@
+// Commands.
+
+ghost use Rattle.pm_script.specs.Commands.{Spoken, ref_of, part_of, property_of, type_of, json_of, new_line, take_line, give_line, lookup_line, line_of, command_of, seen_ref, spoken};
+ghost use Rattle.pm_script.specs.Grammar.{Speaks};
+ghost use Rattle.pm_script.specs.declared.command.LineFail.TheVariants.{Memory};
+ghost use Rattle.std.specs.Prelude.{IfErr, IfOk, None, Some, string_bytes, ◌≡◌};
+
+use crate::lines::is_silent;
+use crate::words::{is_name, is_property_word, is_type_word, split_dot, split_word};
+use std::alloc::{AllocError, Global};
+use std::str;
+use thiserror::Error;
+
+/// The name of an object, or of a part of one: NAME or NAME.SUB.
+#[derive(Debug, Drop)]
+pub struct Ref {
+    pub name: String,
+    pub sub: Option<String>,
+}
+
+/// A command, by its words.
+#[derive(Debug, Drop)]
+pub enum Command {
+    /// Nothing is asked, and nothing is replied.
+    Blank,
+    /// `new REF TYPE`
+    New {
+        obj: Ref,
+        of: String,
+    },
+    /// `take REF PROP JSON`
+    Take {
+        obj: Ref,
+        prop: String,
+        json: String,
+    },
+    /// `give REF PROP`
+    Give {
+        obj: Ref,
+        prop: String,
+    },
+    /// `lookup REF PROP`
+    Lookup {
+        obj: Ref,
+        prop: String,
+    },
+}
+
+/// Why a line gives no command.
+#[derive(Clone, Copy, Debug, PartialEq, Eq, Error)]
+pub enum LineFail {
+    /// The line speaks no command.
+    #[error("the line is no command")]
+    BadCommand,
+    /// There is not enough memory.
+    #[error("out of memory")]
+    Memory,
+}
+
+impl From<AllocError> for LineFail {
+    ghost from_gives = { λ _ e. e ≡ Memory };
+
+    fn from(_e: AllocError) -> LineFail {
+        LineFail::Memory
+    }
+}
+
+/// The part NAME.SUB of an object.
+fn read_part(alloc: Global, name: &str, sub: &str) -> Result<Ref, LineFail>
+    ensures ok { IfOk result (λ r. part_of name.now sub.now ≡ Some (seen_ref r)) }
+    ensures refused { IfErr result (λ e. e ≡ LineFail.BadCommand → part_of name.now sub.now ≡ None) }
+{
+    if is_name(name) && is_name(sub) {
+        Ok(Ref {
+            name: String::from_str(alloc, name)?,
+            sub: Some(String::from_str(alloc, sub)?),
+        })
+    } else {
+        Err(LineFail::BadCommand)
+    }
+}
+
+/// The REF that a word is.
+fn read_ref(alloc: Global, word: &str) -> Result<Ref, LineFail>
+    ensures ok { IfOk result (λ r. ref_of word.now ≡ Some (seen_ref r)) }
+    ensures refused { IfErr result (λ e. e ≡ LineFail.BadCommand → ref_of word.now ≡ None) }
+{
+    if is_name(word) {
+        Ok(Ref {
+            name: String::from_str(alloc, word)?,
+            sub: None,
+        })
+    } else {
+        let (name, sub) = split_dot(word);
+        read_part(alloc, name, sub)
+    }
+}
+
+/// The property word that a word is.
+fn read_property(alloc: Global, word: &str) -> Result<String, LineFail>
+    ensures ok { IfOk result (λ p. property_of word.now ≡ Some (string_bytes p)) }
+    ensures refused { IfErr result (λ e. e ≡ LineFail.BadCommand → property_of word.now ≡ None) }
+{
+    if is_property_word(word) {
+        Ok(String::from_str(alloc, word)?)
+    } else {
+        Err(LineFail::BadCommand)
+    }
+}
+
+/// The type word that a word is.
+fn read_type(alloc: Global, word: &str) -> Result<String, LineFail>
+    ensures ok { IfOk result (λ t. type_of word.now ≡ Some (string_bytes t)) }
+    ensures refused { IfErr result (λ e. e ≡ LineFail.BadCommand → type_of word.now ≡ None) }
+{
+    if is_type_word(word) {
+        Ok(String::from_str(alloc, word)?)
+    } else {
+        Err(LineFail::BadCommand)
+    }
+}
+
+/// The JSON text, which is not empty.
+fn read_json(alloc: Global, text: &str) -> Result<String, LineFail>
+    ensures ok { IfOk result (λ j. json_of text.now ≡ Some (string_bytes j)) }
+    ensures refused { IfErr result (λ e. e ≡ LineFail.BadCommand → json_of text.now ≡ None) }
+{
+    if text.is_empty() {
+        Err(LineFail::BadCommand)
+    } else {
+        Ok(String::from_str(alloc, text)?)
+    }
+}
+
+/// The words after `new`.
+fn read_new(alloc: Global, words: &str) -> Result<Command, LineFail>
+    ensures ok { IfOk result (λ c. new_line words.now ≡ Some (spoken c)) }
+    ensures refused { IfErr result (λ e. e ≡ LineFail.BadCommand → new_line words.now ≡ None) }
+{
+    let (word, of) = split_word(words);
+    let obj = read_ref(alloc, word)?;
+    let of = read_type(alloc, of)?;
+    Ok(Command::New { obj, of })
+}
+
+/// The words after `take`.
+fn read_take(alloc: Global, words: &str) -> Result<Command, LineFail>
+    ensures ok { IfOk result (λ c. take_line words.now ≡ Some (spoken c)) }
+    ensures refused { IfErr result (λ e. e ≡ LineFail.BadCommand → take_line words.now ≡ None) }
+{
+    let (word, others) = split_word(words);
+    let (prop, json) = split_word(others);
+    let obj = read_ref(alloc, word)?;
+    let prop = read_property(alloc, prop)?;
+    let json = read_json(alloc, json)?;
+    Ok(Command::Take { obj, prop, json })
+}
+
+/// The words after `give`.
+fn read_give(alloc: Global, words: &str) -> Result<Command, LineFail>
+    ensures ok { IfOk result (λ c. give_line words.now ≡ Some (spoken c)) }
+    ensures refused { IfErr result (λ e. e ≡ LineFail.BadCommand → give_line words.now ≡ None) }
+{
+    let (word, prop) = split_word(words);
+    let obj = read_ref(alloc, word)?;
+    let prop = read_property(alloc, prop)?;
+    Ok(Command::Give { obj, prop })
+}
+
+/// The words after `lookup`.
+fn read_lookup(alloc: Global, words: &str) -> Result<Command, LineFail>
+    ensures ok { IfOk result (λ c. lookup_line words.now ≡ Some (spoken c)) }
+    ensures refused { IfErr result (λ e. e ≡ LineFail.BadCommand → lookup_line words.now ≡ None) }
+{
+    let (word, prop) = split_word(words);
+    let obj = read_ref(alloc, word)?;
+    let prop = read_property(alloc, prop)?;
+    Ok(Command::Lookup { obj, prop })
+}
+
+/// The command of this first word, with these words after it.
+fn read_words(alloc: Global, first: &str, words: &str) -> Result<Command, LineFail>
+    ensures ok { IfOk result (λ c. line_of first.now words.now ≡ Some (spoken c)) }
+    ensures refused { IfErr result (λ e. e ≡ LineFail.BadCommand → line_of first.now words.now ≡ None) }
+{
+    if first == "new" {
+        read_new(alloc, words)
+    } else if first == "take" {
+        read_take(alloc, words)
+    } else if first == "give" {
+        read_give(alloc, words)
+    } else if first == "lookup" {
+        read_lookup(alloc, words)
+    } else {
+        Err(LineFail::BadCommand)
+    }
+}
+
+/// The command of a line.
+fn read_command(alloc: Global, line: &[u8]) -> Result<Command, LineFail>
+    ensures ok { IfOk result (λ c. command_of line.now ≡ Some (spoken c)) }
+    ensures refused { IfErr result (λ e. e ≡ LineFail.BadCommand → command_of line.now ≡ None) }
+{
+    if is_silent(line) {
+        return Ok(Command::Blank);
+    }
+    let Ok(text) = str::from_utf8(line) else {
+        return Err(LineFail::BadCommand);
+    };
+    let (first, words) = split_word(text);
+    read_words(alloc, first, words)
+}
+
+/// The command that a line speaks, whose bytes are given without its line end.
+/// `BadCommand` exactly where it speaks none.
+pub fn read_line(alloc: Global, line: &[u8]) -> Result<Command, LineFail>
+    ensures ok { IfOk result (λ c. command_of line.now ≡ Some (spoken c)) }
+    ensures refused { IfErr result (λ e. e ≡ LineFail.BadCommand → command_of line.now ≡ None) }
+    ensures spoken { IfOk result (λ c. Speaks line.now (spoken c)) }
+    ensures unspoken { IfErr result (λ e. e ≡ LineFail.BadCommand → (s : Spoken) → Speaks line.now s → ⊥) }
+{
+    read_command(alloc, line)
+}

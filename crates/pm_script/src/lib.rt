@@ -1,0 +1,17 @@
+// Scripts: their lines, the commands that lines speak, and the texts of replies.
+#![tactic(auto)]
+
+mod command;
+mod lines;
+mod refusal;
+mod reply;
+mod value_text;
+mod words;
+
+pub use command::{Command, LineFail, Ref, read_line};
+pub use lines::{Line, is_silent, split_line};
+pub use refusal::{Refusal, ValueWhy};
+pub use reply::{Reply, reply_bytes};
+
+#[cfg(test)]
+mod tests;

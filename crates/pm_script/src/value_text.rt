@@ -1,0 +1,137 @@
+// Values as JSON texts.
+
+ghost use Rattle.pm_algebra.specs.Numbers.{Ratio};
+ghost use Rattle.pm_script.specs.Values.{array_text, cols_text, each_then_comma, matrix_text, more_pieces, quoted, ratio_text, row_text, set_text, sets_text, truth_text, value_text, with_commas};
+ghost use Rattle.pm_types.specs.Views.{over_one, ratios, view_of};
+ghost use Rattle.std.specs.Fmt.{signed_decimal};
+ghost use Rattle.std.specs.Prelude.{OnOk, [], codes, decimal, map, string_bytes, ◌++◌, ◌∷◌, ◌≡◌};
+
+use pm_types::{Rows, Sets, Value};
+use pm_vector::Ints;
+use std::alloc::AllocError;
+use std::fmt::Write;
+
+/// Writes the entries that follow the first of a row.
+fn push_more_entries(text: &mut String, entries: &[i128]) -> Result<(), AllocError>
+    ensures { OnOk result (string_bytes text.new ≡ string_bytes text.old ++ more_pieces (map (λ q. quoted (ratio_text q)) (ratios entries.now))) }
+{
+    for k in entries {
+        write!(text, ",\"{k}\"")?;
+    }
+    Ok(())
+}
+
+/// Writes a row of a matrix.
+fn push_row(text: &mut String, entries: &[i128]) -> Result<(), AllocError>
+    ensures { OnOk result (string_bytes text.new ≡ string_bytes text.old ++ row_text (ratios entries.now)) }
+{
+    text.push_str("[")?;
+    if let Some((first, others)) = entries.split_first() {
+        write!(text, "\"{first}\"")?;
+        push_more_entries(text, others)?;
+    }
+    text.push_str("]")
+}
+
+/// Writes the rows that follow the first of a matrix.
+fn push_more_rows(text: &mut String, rows: &[Ints]) -> Result<(), AllocError>
+    ensures { OnOk result (string_bytes text.new ≡ string_bytes text.old ++ more_pieces (map row_text (map ratios rows.now))) }
+{
+    for row in rows {
+        text.push_str(",")?;
+        push_row(text, row.as_slice())?;
+    }
+    Ok(())
+}
+
+/// Writes a matrix.
+fn push_matrix(text: &mut String, m: &Rows) -> Result<(), AllocError>
+    ensures { OnOk result (string_bytes text.new ≡ string_bytes text.old ++ matrix_text m.now.cols (map ratios m.now.rows)) }
+{
+    match m.rows().split_first() {
+        Some((first, others)) => {
+            text.push_str("[")?;
+            push_row(text, first.as_slice())?;
+            push_more_rows(text, others)?;
+            text.push_str("]")
+        }
+        None => push_columns_alone(text, m.cols()),
+    }
+}
+
+/// Writes a matrix without rows.
+fn push_columns_alone(text: &mut String, cols: u32) -> Result<(), AllocError>
+    ensures { OnOk result (string_bytes text.new ≡ string_bytes text.old ++ matrix_text cols []) }
+{
+    if cols == 0 {
+        text.push_str("[]")
+    } else {
+        text.push_str("[")?;
+        push_cols(text, cols)?;
+        text.push_str("]")
+    }
+}
+
+/// Writes the indices that follow the first of a set.
+fn push_more_indices(text: &mut String, set: &[u32]) -> Result<(), AllocError>
+    ensures { OnOk result (string_bytes text.new ≡ string_bytes text.old ++ more_pieces (map decimal set.now)) }
+{
+    for j in set {
+        write!(text, ",{j}")?;
+    }
+    Ok(())
+}
+
+/// Writes a set.
+fn push_set(text: &mut String, set: &[u32]) -> Result<(), AllocError>
+    ensures { OnOk result (string_bytes text.new ≡ string_bytes text.old ++ set_text set.now) }
+{
+    text.push_str("[")?;
+    if let Some((first, others)) = set.split_first() {
+        write!(text, "{first}")?;
+        push_more_indices(text, others)?;
+    }
+    text.push_str("]")
+}
+
+/// Writes sets, each with a comma after it.
+fn push_set_list(text: &mut String, rows: &[Vec<u32>]) -> Result<(), AllocError>
+    ensures { OnOk result (string_bytes text.new ≡ string_bytes text.old ++ each_then_comma (map set_text (map (λ r. r.items) rows.now))) }
+{
+    for row in rows {
+        push_set(text, row)?;
+        text.push_str(",")?;
+    }
+    Ok(())
+}
+
+/// Writes a column count.
+fn push_cols(text: &mut String, cols: u32) -> Result<(), AllocError>
+    ensures { OnOk result (string_bytes text.new ≡ string_bytes text.old ++ cols_text cols) }
+{
+    write!(text, "{{\"cols\":{cols}}}")
+}
+
+/// Writes sets and their column count.
+fn push_sets(text: &mut String, sets: &Sets) -> Result<(), AllocError>
+    ensures { OnOk result (string_bytes text.new ≡ string_bytes text.old ++ sets_text sets.now.rows sets.now.cols) }
+{
+    text.push_str("[")?;
+    push_set_list(text, sets.rows())?;
+    push_cols(text, sets.cols())?;
+    text.push_str("]")?;
+    Ok(())
+}
+
+/// Writes a value.
+pub fn push_value(text: &mut String, value: &Value) -> Result<(), AllocError>
+    ensures { OnOk result (string_bytes text.new ≡ string_bytes text.old ++ value_text (view_of value.now)) }
+{
+    match value {
+        Value::Mat(m) => push_matrix(text, m),
+        Value::Sets(sets) => push_sets(text, sets),
+        Value::Int(k) => write!(text, "{k}"),
+        Value::Bool(true) => text.push_str("true"),
+        Value::Bool(false) => text.push_str("false"),
+    }
+}
