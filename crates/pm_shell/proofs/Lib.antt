@@ -1,8 +1,3 @@
-pub mod Breaks
-pub mod Prefixes
-pub mod Readings
-pub mod ShortRows
-pub mod Stays
-pub mod Sent
+pub mod OneLine
 pub mod Runs
-pub mod Rightness
+pub mod Shown

@@ -1,9 +1,3 @@
-pub mod Lines
-pub mod Matrices
-pub mod Incidence
-pub mod Readings
-pub mod Words
-pub mod Session
-pub mod Replies
-pub mod Right
 pub mod Run
+pub mod Shown
+pub mod Ends

@@ -1,18 +1,55 @@
--- The end of a run.
---     number_of s      the number of a status
---     GainsFirst old new bytes      to what was told to be taken, if it was, some first bytes of these were added, maybe all or none
-use Rattle.std.specs.Prelude.{ℕ, ◌≡◌, List, ◌++◌, take, Option, Some, IfSome}
-use Rattle.pm_shell.specs.declared.run.Status.{Status}
-use Rattle.pm_shell.specs.declared.run.Status.TheVariants.{Answered, SomeRefused, BadWords, SourceFault, SinkFault, OutOfMemory, TooLong}
+-- A run of the machine over the lines of a script.
+--     command_at line      the command that the line speaks, if it speaks one; a line that is too long speaks none
+--     Answers book old line reply new      to the line the machine old may reply so, and it goes on as new: a line that speaks no command is refused, a blank one has no reply, and both change nothing; each other one is a step
+--     Run book old lines replies new      it answers so to the lines, one after another
+--     replies_text replies      the texts of the replies, one after another
+--     any_refused replies      some reply is a refusal
+--     Starts clients m      the machine has no object, and these clients
+use Rattle.std.specs.Prelude.{ℕ, ◌≡◌, ◌||◌, Bool, false, if◌then◌else◌, Option, Some, None, List, [], ◌∷◌, ◌++◌}
+use Rattle.pm_client.specs.Starts.{Clients}
+use Rattle.pm_machine.specs.Steps.{Machine, Step}
+use Rattle.pm_rules.specs.declared.rule.Rule.{Rule}
+use Rattle.pm_script.specs.Commands.{Spoken, blank, command_of}
+use Rattle.pm_script.specs.Lines.{Line, is_too_long, text_of}
+use Rattle.pm_script.specs.Replies.{ReplySeen, is_refusal, refused, reply_text}
+use Rattle.pm_script.specs.declared.refusal.Refusal.TheVariants.{BadCommand}
 
-abbrev pub number_of : Status → ℕ
-number_of Answered = 0
-number_of SomeRefused = 1
-number_of BadWords = 2
-number_of SourceFault = 3
-number_of SinkFault = 4
-number_of OutOfMemory = 5
-number_of TooLong = 6
+abbrev pub command_at : Line → Option Spoken
+command_at line = if is_too_long line then None else command_of (text_of line)
 
-abbrev pub GainsFirst : Option (List ℕ) → Option (List ℕ) → List ℕ → Type 0
-GainsFirst old new bytes = IfSome old (λ had. (n : ℕ) × (new ≡ Some (had ++ take n bytes)))
+abbrev pub AnswersTo : List Rule → Machine → Option Spoken → Option ReplySeen → Machine → Type 0
+AnswersTo book old (Some command) (Some reply) new = Step book old command reply new
+AnswersTo book old (Some blank) None new = new ≡ old
+AnswersTo book old (Some command) None new = ⊥
+AnswersTo book old None (Some (refused BadCommand)) new = new ≡ old
+AnswersTo book old None reply new = ⊥
+
+abbrev pub Answers : List Rule → Machine → Line → Option ReplySeen → Machine → Type 0
+Answers book old line reply new = AnswersTo book old (command_at line) reply new
+
+abbrev pub Run : List Rule → Machine → List Line → List (Option ReplySeen) → Machine → Type 0
+Run book old [] [] new = new ≡ old
+Run book old (line ∷ lines) (reply ∷ replies) new = (mid : Machine) × Answers book old line reply mid × Run book mid lines replies new
+Run book old [] (reply ∷ replies) new = ⊥
+Run book old (line ∷ lines) [] new = ⊥
+
+abbrev pub text_if : Option ReplySeen → List ℕ
+text_if None = []
+text_if (Some reply) = reply_text reply
+
+abbrev pub replies_text : List (Option ReplySeen) → List ℕ
+replies_text [] = []
+replies_text (reply ∷ replies) = text_if reply ++ replies_text replies
+
+abbrev pub is_refused : Option ReplySeen → Bool
+is_refused None = false
+is_refused (Some reply) = is_refusal reply
+
+abbrev pub any_refused : List (Option ReplySeen) → Bool
+any_refused [] = false
+any_refused (reply ∷ replies) = is_refused reply || any_refused replies
+
+pub record Starts (clients : Clients) (m : Machine) : Type 0 where
+  pub none : (q : List ℕ) → m.object q ≡ None
+  pub count : m.count ≡ 0
+  pub has : m.clients ≡ clients

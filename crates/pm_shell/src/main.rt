@@ -1,22 +1,17 @@
 // A script from standard input, answered on standard output.
 #![tactic(auto)]
 
-mod incidence;
-mod lines;
-mod matrix;
-mod name;
-mod reading;
-mod reply;
+ghost use Rattle.std.specs.Prelude.{IfErr, ◌≡◌, ◌⊎◌};
+
 mod run;
-mod sets;
-mod stage;
-mod words;
 
 pub use run::{SCRIPT_LIMIT, Status, polymake};
 
 #[cfg(test)]
 mod tests;
 
+use pm_client::Client;
+use pm_clients_comb::SetsClient;
 use pm_store::{StdSink, StdSource};
 use std::alloc::AllocError;
 use std::env;
@@ -32,7 +27,9 @@ fn has_word(rt: &impl Env) -> bool {
 
 /// The words after the program's name, or the status where they cannot be had.
 /// A word that is no UTF-8 is a bad word as any other; the program's name may be no UTF-8.
-fn words_after_name<R: Env + AllocGlobal>(rt: &R) -> Result<Vec<String>, Status> {
+fn words_after_name<R: Env + AllocGlobal>(rt: &R) -> Result<Vec<String>, Status>
+    ensures { IfErr result (λ s. (s ≡ Status.BadWords) ⊎ (s ≡ Status.OutOfMemory)) }
+{
     let alloc = rt.alloc();
     match env::args(rt) {
         Ok(args) => args
@@ -46,10 +43,20 @@ fn words_after_name<R: Env + AllocGlobal>(rt: &R) -> Result<Vec<String>, Status>
 }
 
 fn main(rt: HostRuntime) -> ExitCode {
+    let alloc = rt.alloc();
+    let mut clients: Vec<Box<dyn Client>> = Vec::new(alloc);
+    for k in 0..SetsClient::COUNT {
+        let Ok(client) = Box::new(alloc, SetsClient::new(k)) else {
+            return ExitCode::from(Status::OutOfMemory.number());
+        };
+        if clients.push(client).is_err() {
+            return ExitCode::from(Status::OutOfMemory.number());
+        }
+    }
     let mut source = StdSource::new(rt.stdin());
     let mut sink = StdSink::new(rt.stdout());
     let status = match words_after_name(&rt) {
-        Ok(words) => polymake(rt.alloc(), &words, &mut source, &mut sink),
+        Ok(words) => polymake(alloc, &words, &mut clients, &mut source, &mut sink),
         Err(status) => status,
     };
     ExitCode::from(status.number())

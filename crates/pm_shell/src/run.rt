@@ -1,19 +1,26 @@
 // A run of the program: a script from bytes to bytes.
 
-ghost use Rattle.pm_shell.specs.Lines.{lines_of};
-ghost use Rattle.pm_shell.specs.Replies.{any_refused, is_refusal, replies_text, reply_text};
-ghost use Rattle.pm_shell.specs.Right.{AnswersAreRight};
-ghost use Rattle.pm_shell.specs.Run.{GainsFirst, number_of};
-ghost use Rattle.pm_shell.specs.Session.{HasFit, answer_line};
+ghost use Rattle.pm_client.specs.Starts.{Clients};
+ghost use Rattle.pm_machine.specs.Sessions.{book_of, machine_of};
+ghost use Rattle.pm_machine.specs.Steps.{Machine};
+ghost use Rattle.pm_rules.specs.Books.{standard_rules};
+ghost use Rattle.pm_script.specs.Lines.{lines_of};
+ghost use Rattle.pm_script.specs.Replies.{ReplySeen, refused, reply_text, seen};
+ghost use Rattle.pm_script.specs.declared.refusal.Refusal.TheVariants.{BadCommand};
+ghost use Rattle.pm_shell.specs.Ends.{AnswersAll, AnswersFirst, AnswersOne, BreaksOff, FromNoObjects, HasLeft, number_of};
+ghost use Rattle.pm_shell.specs.Run.{Answers};
+ghost use Rattle.pm_shell.specs.Shown.{ShownAreRight};
 ghost use Rattle.pm_shell.specs.declared.run.RunFail.TheVariants.{Memory, SinkFault};
-ghost use Rattle.pm_store.specs.Outside.{Gains, GainsPart, Rose, Stays};
-ghost use Rattle.std.specs.Prelude.{IfOk, IfSome, IsErrOf, OnErr, OnOk, Some, [], false, length, true, ◌<◌, ◌≤◌, ◌≡◌, ◌≢◌, ◌↔◌, ◌⊎◌};
+ghost use Rattle.pm_store.specs.Outside.{GainsPart, Rose};
+ghost use Rattle.std.specs.Option.{option_map};
+ghost use Rattle.std.specs.Prelude.{IfOk, IfSome, IsErrOf, List, Some, [], false, length, map, true, ℕ, ◌<◌, ◌≤◌, ◌≡◌, ◌≢◌, ◌↔◌, ◌⊎◌};
 
-use crate::lines::{Line, split_line};
-use crate::stage::{Answer, Stage, answer_line};
+use pm_client::Client;
+use pm_machine::Session;
+use pm_rules::standard_book;
+use pm_script::{Command, Line, LineFail, Refusal, Reply, read_line, reply_bytes, split_line};
 use pm_store::{Failed, ReadFail, Sink, Source, read_up_to, write_all};
 use std::alloc::{AllocError, Global};
-use thiserror::Error;
 
 /// The most bytes of a script.
 pub const SCRIPT_LIMIT: usize = 16_777_216;
@@ -55,11 +62,9 @@ impl Status {
 }
 
 /// Why not all lines were answered.
-#[derive(Clone, Copy, Debug, PartialEq, Eq, Error)]
+#[derive(Clone, Copy)]
 enum RunFail {
-    #[error("the sink failed")]
     SinkFault,
-    #[error("out of memory")]
     Memory,
 }
 
@@ -79,64 +84,128 @@ impl From<Failed> for RunFail {
     }
 }
 
-/// Answers a line, and writes the reply. Second: whether the reply is a refusal.
+/// The reply to a line, if it has one.
+fn answer_line(
+    alloc: Global,
+    session: &mut Session,
+    clients: &mut Vec<Box<dyn Client>>,
+    line: &Line<'_>,
+) -> Result<Option<Reply>, AllocError>
+    ensures answers { IfOk result (λ r. Answers (book_of session.old) (machine_of session.old (map (λ b. (kind_of b, starts_of b)) clients.old.items)) line.now (option_map seen r)
+        (machine_of session.new (map (λ b. (kind_of b, starts_of b)) clients.new.items))) }
+    ensures book { book_of session.new ≡ book_of session.old }
+{
+    if line.is_too_long() {
+        return Ok(Some(bad_command()));
+    }
+    match read_line(alloc, line.text()) {
+        Ok(Command::Blank) => Ok(None),
+        Ok(command) => Ok(Some(session.step(alloc, command, clients)?)),
+        Err(LineFail::BadCommand) => Ok(Some(bad_command())),
+        Err(LineFail::Memory) => Err(AllocError),
+    }
+}
+
+/// The reply to a line that speaks no command.
+fn bad_command() -> Reply
+    ensures { seen result ≡ refused BadCommand }
+{
+    Reply::Refused {
+        why: Refusal::BadCommand,
+    }
+}
+
+/// Answers a line, and writes the reply. Whether it is a refusal.
 fn answer_next<K: Sink>(
     alloc: Global,
-    stage: Stage,
+    session: &mut Session,
+    clients: &mut Vec<Box<dyn Client>>,
     line: &Line<'_>,
     sink: &mut K,
-) -> Result<(Stage, bool), RunFail>
-    requires { HasFit stage }
-    ensures stage { IfOk result (λ r. r.0 ≡ (answer_line stage line.now).stage) }
-    ensures fit { IfOk result (λ r. HasFit r.0) }
-    ensures refused { IfOk result (λ r. r.1 ≡ is_refusal (answer_line stage line.now).reply) }
-    ensures told { OnOk result (Gains (K.taken sink.old) (K.taken sink.new) (reply_text (answer_line stage line.now).reply)) }
-    ensures part { IsErrOf result RunFail.SinkFault → GainsPart (K.taken sink.old) (K.taken sink.new) (reply_text (answer_line stage line.now).reply) }
+) -> Result<bool, RunFail>
+    ensures told { IfOk result (λ r. AnswersOne (book_of session.old) (machine_of session.old (map (λ b. (kind_of b, starts_of b)) clients.old.items)) line.now r (K.taken sink.old) (K.taken sink.new)
+        (machine_of session.new (map (λ b. (kind_of b, starts_of b)) clients.new.items))) }
+    ensures part { IsErrOf result RunFail.SinkFault → (reply : ReplySeen) × Answers (book_of session.old) (machine_of session.old (map (λ b. (kind_of b, starts_of b)) clients.old.items)) line.now (Some reply)
+        (machine_of session.new (map (λ b. (kind_of b, starts_of b)) clients.new.items)) × GainsPart (K.taken sink.old) (K.taken sink.new) (reply_text reply) }
     ensures fault { IsErrOf result RunFail.SinkFault → Rose (K.faults sink.old) (K.faults sink.new) }
     ensures memory { IsErrOf result RunFail.Memory → sink.new ≡ sink.old }
+    ensures book { book_of session.new ≡ book_of session.old }
     ensures never_falls { K.faults sink.old ≤ K.faults sink.new }
 {
-    let Answer { stage, reply } = answer_line(alloc, stage, line)?;
-    let text = reply.text(alloc)?;
-    write_all(sink, text.as_bytes())?;
-    Ok((stage, reply.is_refusal()))
+    let Some(reply) = answer_line(alloc, session, clients, line)? else {
+        return Ok(false);
+    };
+    let text = reply_bytes(alloc, &reply)?;
+    write_all(sink, &text)?;
+    Ok(reply.is_refusal())
 }
 
 /// Answers each line, and writes its reply before the next one. True: some reply is a refusal.
-fn answer_lines<K: Sink>(alloc: Global, script: &[u8], sink: &mut K) -> Result<bool, RunFail>
-    ensures told { OnOk result (Gains (K.taken sink.old) (K.taken sink.new) (replies_text Stage.Start (lines_of script.now))) }
-    ensures refused { IfOk result (λ r. r ≡ any_refused Stage.Start (lines_of script.now)) }
-    ensures part { IsErrOf result RunFail.SinkFault → GainsPart (K.taken sink.old) (K.taken sink.new) (replies_text Stage.Start (lines_of script.now)) }
+fn answer_lines<K: Sink>(
+    alloc: Global,
+    session: &mut Session,
+    clients: &mut Vec<Box<dyn Client>>,
+    script: &[u8],
+    sink: &mut K,
+) -> Result<bool, RunFail>
+    ensures told { IfOk result (λ r. AnswersAll (book_of session.old) (machine_of session.old (map (λ b. (kind_of b, starts_of b)) clients.old.items)) (lines_of script.now) r (K.taken sink.old) (K.taken sink.new)
+        (machine_of session.new (map (λ b. (kind_of b, starts_of b)) clients.new.items))) }
+    ensures part { IsErrOf result RunFail.SinkFault → BreaksOff (book_of session.old) (machine_of session.old (map (λ b. (kind_of b, starts_of b)) clients.old.items)) (lines_of script.now) (K.taken sink.old) (K.taken sink.new)
+        (machine_of session.new (map (λ b. (kind_of b, starts_of b)) clients.new.items)) }
     ensures fault { IsErrOf result RunFail.SinkFault → Rose (K.faults sink.old) (K.faults sink.new) }
-    ensures memory { IsErrOf result RunFail.Memory → GainsFirst (K.taken sink.old) (K.taken sink.new) (replies_text Stage.Start (lines_of script.now)) }
+    ensures memory { IsErrOf result RunFail.Memory → (mid : Machine) × AnswersFirst (book_of session.old) (machine_of session.old (map (λ b. (kind_of b, starts_of b)) clients.old.items)) (lines_of script.now) (K.taken sink.old) (K.taken sink.new) mid }
     ensures never_falls { K.faults sink.old ≤ K.faults sink.new }
 {
-    let mut stage = Stage::Start;
     let mut some_refused = false;
     let mut rest = script;
     while !rest.is_empty() {
         let (line, after) = split_line(rest);
-        let (next, refused) = answer_next(alloc, stage, &line, sink)?;
+        let refused = answer_next(alloc, session, clients, &line, sink)?;
         some_refused = some_refused | refused;
-        stage = next;
         rest = after;
     }
     Ok(some_refused)
 }
 
+/// Answers the lines of a script, from no object on.
+fn run_script<K: Sink>(
+    alloc: Global,
+    clients: &mut Vec<Box<dyn Client>>,
+    script: &[u8],
+    sink: &mut K,
+) -> Result<bool, RunFail>
+    ensures told { IfOk result (λ r. FromNoObjects (map (λ b. (kind_of b, starts_of b)) clients.old.items) (map (λ b. (kind_of b, starts_of b)) clients.new.items)
+        (λ start end. AnswersAll standard_rules start (lines_of script.now) r (K.taken sink.old) (K.taken sink.new) end)) }
+    ensures part { IsErrOf result RunFail.SinkFault → FromNoObjects (map (λ b. (kind_of b, starts_of b)) clients.old.items) (map (λ b. (kind_of b, starts_of b)) clients.new.items)
+        (λ start end. BreaksOff standard_rules start (lines_of script.now) (K.taken sink.old) (K.taken sink.new) end) }
+    ensures fault { IsErrOf result RunFail.SinkFault → Rose (K.faults sink.old) (K.faults sink.new) }
+    ensures memory { IsErrOf result RunFail.Memory → (after : Clients) × FromNoObjects (map (λ b. (kind_of b, starts_of b)) clients.old.items) after
+        (λ start end. AnswersFirst standard_rules start (lines_of script.now) (K.taken sink.old) (K.taken sink.new) end) }
+    ensures never_falls { K.faults sink.old ≤ K.faults sink.new }
+{
+    let mut session = Session::new(alloc, standard_book(alloc)?);
+    answer_lines(alloc, &mut session, clients, script, sink)
+}
+
 /// Reads the script whole, and answers its lines.
-fn answer_script<S: Source, K: Sink>(alloc: Global, source: &mut S, sink: &mut K) -> Status
+fn answer_script<S: Source, K: Sink>(
+    alloc: Global,
+    clients: &mut Vec<Box<dyn Client>>,
+    source: &mut S,
+    sink: &mut K,
+) -> Status
     ensures words { result ≢ Status.BadWords }
-    ensures text { (result ≡ Status.Answered) → IfSome (S.left source.old) (λ script.
-        Gains (K.taken sink.old) (K.taken sink.new) (replies_text Stage.Start (lines_of script)) × (any_refused Stage.Start (lines_of script) ≡ false)) }
-    ensures text_refused { (result ≡ Status.SomeRefused) → IfSome (S.left source.old) (λ script.
-        Gains (K.taken sink.old) (K.taken sink.new) (replies_text Stage.Start (lines_of script)) × (any_refused Stage.Start (lines_of script) ≡ true)) }
-    ensures source_fault { (result ≡ Status.SourceFault) → Rose (S.faults source.old) (S.faults source.new) × (sink.new ≡ sink.old) }
+    ensures text { (result ≡ Status.Answered) → (script : List ℕ) × HasLeft (S.left source.old) script × FromNoObjects (map (λ b. (kind_of b, starts_of b)) clients.old.items) (map (λ b. (kind_of b, starts_of b)) clients.new.items)
+        (λ start end. AnswersAll standard_rules start (lines_of script) false (K.taken sink.old) (K.taken sink.new) end) }
+    ensures text_refused { (result ≡ Status.SomeRefused) → (script : List ℕ) × HasLeft (S.left source.old) script × FromNoObjects (map (λ b. (kind_of b, starts_of b)) clients.old.items) (map (λ b. (kind_of b, starts_of b)) clients.new.items)
+        (λ start end. AnswersAll standard_rules start (lines_of script) true (K.taken sink.old) (K.taken sink.new) end) }
     ensures sink_fault { (result ≡ Status.SinkFault) → Rose (K.faults sink.old) (K.faults sink.new)
-        × IfSome (S.left source.old) (λ script. GainsPart (K.taken sink.old) (K.taken sink.new) (replies_text Stage.Start (lines_of script))) }
-    ensures out_of_memory { (result ≡ Status.OutOfMemory) → IfSome (S.left source.old) (λ script.
-        GainsFirst (K.taken sink.old) (K.taken sink.new) (replies_text Stage.Start (lines_of script))) }
-    ensures too_long { (result ≡ Status.TooLong) → (sink.new ≡ sink.old) × IfSome (S.left source.old) (λ script. SCRIPT_LIMIT < length script) }
+        × ((script : List ℕ) × HasLeft (S.left source.old) script × FromNoObjects (map (λ b. (kind_of b, starts_of b)) clients.old.items) (map (λ b. (kind_of b, starts_of b)) clients.new.items)
+        (λ start end. BreaksOff standard_rules start (lines_of script) (K.taken sink.old) (K.taken sink.new) end)) }
+    ensures out_of_memory { (result ≡ Status.OutOfMemory) → (script : List ℕ) × (after : Clients) × HasLeft (S.left source.old) script × FromNoObjects (map (λ b. (kind_of b, starts_of b)) clients.old.items) after
+        (λ start end. AnswersFirst standard_rules start (lines_of script) (K.taken sink.old) (K.taken sink.new) end) }
+    ensures source_fault { (result ≡ Status.SourceFault) → Rose (S.faults source.old) (S.faults source.new) × (sink.new ≡ sink.old) × (clients.new ≡ clients.old) }
+    ensures too_long { (result ≡ Status.TooLong) → (sink.new ≡ sink.old) × (clients.new ≡ clients.old) × IfSome (S.left source.old) (λ script. SCRIPT_LIMIT < length script) }
     ensures read_whole { (result ≡ Status.Answered) ⊎ ((result ≡ Status.SomeRefused) ⊎ (result ≡ Status.SinkFault)) → IfSome (S.left source.old) (λ script.
         (length script ≤ SCRIPT_LIMIT) × (S.left source.new ≡ Some [])) }
     ensures source_count { S.faults source.old ≤ S.faults source.new }
@@ -148,7 +217,7 @@ fn answer_script<S: Source, K: Sink>(alloc: Global, source: &mut S, sink: &mut K
         Err(ReadFail::TooLong) => return Status::TooLong,
         Err(ReadFail::Memory) => return Status::OutOfMemory,
     };
-    match answer_lines(alloc, &script, sink) {
+    match run_script(alloc, clients, &script, sink) {
         Ok(false) => Status::Answered,
         Ok(true) => Status::SomeRefused,
         Err(RunFail::SinkFault) => Status::SinkFault,
@@ -156,40 +225,45 @@ fn answer_script<S: Source, K: Sink>(alloc: Global, source: &mut S, sink: &mut K
     }
 }
 
-/// Reads the script whole, and answers its lines, each before the next one is looked at.
+/// Reads the script whole, and answers its lines by steps of the machine, each before the next one is looked at.
 ///
-/// The clauses on the script and on what was written speak of a source that tells what it has left, and of a sink that tells what it took.
+/// The script is what the source has left, where it tells that, and the text is what the sink takes, where it tells that.
 pub fn polymake<S: Source, K: Sink>(
     alloc: Global,
     words: &[String],
+    clients: &mut Vec<Box<dyn Client>>,
     source: &mut S,
     sink: &mut K,
 ) -> Status
     // The program takes no words.
     ensures words { (result ≡ Status.BadWords) ↔ (0 < length words.now) }
-    ensures untouched { result ≡ Status.BadWords → (source.new ≡ source.old) × (sink.new ≡ sink.old) }
+    ensures untouched { result ≡ Status.BadWords → (source.new ≡ source.old) × (sink.new ≡ sink.old) × (clients.new ≡ clients.old) }
 
-    // The text is the replies to the lines of the script, which was read to its end.
-    ensures text { (result ≡ Status.Answered) → IfSome (S.left source.old) (λ script.
-        Gains (K.taken sink.old) (K.taken sink.new) (replies_text Stage.Start (lines_of script)) × (any_refused Stage.Start (lines_of script) ≡ false)) }
-    ensures text_refused { (result ≡ Status.SomeRefused) → IfSome (S.left source.old) (λ script.
-        Gains (K.taken sink.old) (K.taken sink.new) (replies_text Stage.Start (lines_of script)) × (any_refused Stage.Start (lines_of script) ≡ true)) }
-    ensures right { AnswersAreRight }
+    // The machine, with the standard book, ran over the lines of the script, which was read to its end; the text is its replies.
+    ensures text { (result ≡ Status.Answered) → (script : List ℕ) × HasLeft (S.left source.old) script × FromNoObjects (map (λ b. (kind_of b, starts_of b)) clients.old.items) (map (λ b. (kind_of b, starts_of b)) clients.new.items)
+        (λ start end. AnswersAll standard_rules start (lines_of script) false (K.taken sink.old) (K.taken sink.new) end) }
+    ensures text_refused { (result ≡ Status.SomeRefused) → (script : List ℕ) × HasLeft (S.left source.old) script × FromNoObjects (map (λ b. (kind_of b, starts_of b)) clients.old.items) (map (λ b. (kind_of b, starts_of b)) clients.new.items)
+        (λ start end. AnswersAll standard_rules start (lines_of script) true (K.taken sink.old) (K.taken sink.new) end) }
+    ensures right { ShownAreRight }
 
-    // What else may happen.
-    ensures source_fault { (result ≡ Status.SourceFault) → Rose (S.faults source.old) (S.faults source.new) × (sink.new ≡ sink.old) }
+    // It ran over first lines alone.
     ensures sink_fault { (result ≡ Status.SinkFault) → Rose (K.faults sink.old) (K.faults sink.new)
-        × IfSome (S.left source.old) (λ script. GainsPart (K.taken sink.old) (K.taken sink.new) (replies_text Stage.Start (lines_of script))) }
-    ensures out_of_memory { (result ≡ Status.OutOfMemory) → IfSome (S.left source.old) (λ script.
-        GainsFirst (K.taken sink.old) (K.taken sink.new) (replies_text Stage.Start (lines_of script))) }
-    ensures too_long { (result ≡ Status.TooLong) → (sink.new ≡ sink.old) × IfSome (S.left source.old) (λ script. SCRIPT_LIMIT < length script) }
+        × ((script : List ℕ) × HasLeft (S.left source.old) script × FromNoObjects (map (λ b. (kind_of b, starts_of b)) clients.old.items) (map (λ b. (kind_of b, starts_of b)) clients.new.items)
+        (λ start end. BreaksOff standard_rules start (lines_of script) (K.taken sink.old) (K.taken sink.new) end)) }
+    ensures out_of_memory { (result ≡ Status.OutOfMemory) → (script : List ℕ) × (after : Clients) × HasLeft (S.left source.old) script × FromNoObjects (map (λ b. (kind_of b, starts_of b)) clients.old.items) after
+        (λ start end. AnswersFirst standard_rules start (lines_of script) (K.taken sink.old) (K.taken sink.new) end) }
+
+    // It did not run.
+    ensures source_fault { (result ≡ Status.SourceFault) → Rose (S.faults source.old) (S.faults source.new) × (sink.new ≡ sink.old) × (clients.new ≡ clients.old) }
+    ensures too_long { (result ≡ Status.TooLong) → (sink.new ≡ sink.old) × (clients.new ≡ clients.old) × IfSome (S.left source.old) (λ script. SCRIPT_LIMIT < length script) }
+
     ensures read_whole { (result ≡ Status.Answered) ⊎ ((result ≡ Status.SomeRefused) ⊎ (result ≡ Status.SinkFault)) → IfSome (S.left source.old) (λ script.
         (length script ≤ SCRIPT_LIMIT) × (S.left source.new ≡ Some [])) }
     ensures source_count { S.faults source.old ≤ S.faults source.new }
     ensures sink_count { K.faults sink.old ≤ K.faults sink.new }
 {
     if words.is_empty() {
-        answer_script(alloc, source, sink)
+        answer_script(alloc, clients, source, sink)
     } else {
         Status::BadWords
     }

@@ -1,8 +1,10 @@
-// What no clause says: that calls succeed while memory is there, and the bytes of whole runs.
+// What no clause says: that calls succeed while memory is there, the bytes of whole runs, and how often a client is started.
 
 ghost use Rattle.std.specs.Prelude.{◌<◌};
 
 use crate::{SCRIPT_LIMIT, Status, polymake};
+use pm_client::Client;
+use pm_clients_comb::SetsClient;
 use pm_store::{MemSink, MemSource};
 use std::alloc::{AllocError, Global};
 use std::test::Fail;
@@ -14,25 +16,51 @@ const REPLIES: &str = "ok\nok\nok\ns VERTICES_IN_FACETS [[0],[1],{\"cols\":2}]\n
 
 const NO_WORDS: [String; 0] = [];
 
-/// A run over memory in pieces, with calls that fail.
+/// What a run leaves: its status, what was written, and how often the client was started.
+#[derive(Drop)]
+struct Ran {
+    status: Status,
+    text: Vec<u8>,
+    starts: u64,
+}
+
+/// A run over memory in pieces, with words, and with calls that fail.
 fn run_in_pieces(
     alloc: Global,
+    words: &[String],
     script: &[u8],
     piece: usize,
     failing_reads: Vec<u64>,
     failing_writes: Vec<u64>,
-) -> Result<(Status, Vec<u8>), AllocError>
+) -> Result<Ran, AllocError>
     requires { 0 < piece }
 {
+    let mut clients: Vec<Box<dyn Client>> = Vec::new(alloc);
+    clients.push(Box::new(alloc, SetsClient::new(0))?)?;
     let mut source = MemSource::new(script.to_vec(alloc)?, piece, failing_reads);
     let mut sink = MemSink::new(alloc, 100_000, failing_writes)?;
-    let status = polymake(alloc, &NO_WORDS, &mut source, &mut sink);
+    let status = polymake(alloc, words, &mut clients, &mut source, &mut sink);
     let text = sink.bytes().to_vec(alloc)?;
-    Ok((status, text))
+    let mut starts = 0;
+    for client in &clients {
+        starts = client.starts();
+    }
+    Ok(Ran {
+        status,
+        text,
+        starts,
+    })
 }
 
-fn run(alloc: Global, script: &[u8]) -> Result<(Status, Vec<u8>), AllocError> {
-    run_in_pieces(alloc, script, 4096, Vec::new(alloc), Vec::new(alloc))
+fn run(alloc: Global, script: &[u8]) -> Result<Ran, AllocError> {
+    run_in_pieces(
+        alloc,
+        &NO_WORDS,
+        script,
+        4096,
+        Vec::new(alloc),
+        Vec::new(alloc),
+    )
 }
 
 #[test]
@@ -40,62 +68,156 @@ fn answers_the_four_lines(rt: HostRuntime) -> Result<(), Fail> {
     let alloc = rt.alloc();
     for piece in [1usize, 3, 100_000] {
         assert!(rt; piece > 0);
-        let (status, text) = run_in_pieces(
+        let ran = run_in_pieces(
             alloc,
+            &NO_WORDS,
             SCRIPT.as_bytes(),
             piece,
             Vec::new(alloc),
             Vec::new(alloc),
         )?;
-        assert_eq!(rt; status, Status::Answered, "in pieces of {piece}");
-        assert_eq!(rt; text.as_slice(), REPLIES.as_bytes(), "in pieces of {piece}");
+        assert_eq!(rt; ran.status, Status::Answered, "in pieces of {piece}");
+        assert_eq!(rt;
+            ran.text.as_slice(),
+            REPLIES.as_bytes(),
+            "in pieces of {piece}"
+        );
+        assert_eq!(rt; ran.starts, 1, "in pieces of {piece}");
     }
     Ok(())
 }
 
-// Whole scripts: the replies, and whether some reply is a refusal.
+// Lines after the four: the replies to them, and how often the client is started in all.
+#[test]
+fn answers_lines_after_the_four(rt: HostRuntime) -> Result<(), Fail> {
+    let alloc = rt.alloc();
+    for (line, reply, starts) in [
+        ("take s FACETS [[0,1]]", "no 7 AlreadyHeld\n", 1u64),
+        ("take s AFFINE_HULL []", "no 8 Sealed\n", 1),
+        ("lookup s LINEALITY_SPACE", "s LINEALITY_SPACE []\n", 1),
+        ("new s Polytope", "no 3 NameTaken\n", 1),
+        ("give t FACETS", "no 2 UnknownName\n", 1),
+        ("give s.x FACETS", "no 2 UnknownName\n", 1),
+        ("new c Cone", "no 4 UnknownType\n", 1),
+        ("take s N_VERTICES 3", "no 5 UnknownProperty\n", 1),
+        ("lookup s FACES", "no 5 UnknownProperty\n", 1),
+        (
+            "give s FACETS",
+            "s FACETS [[\"0\",\"1\"],[\"1\",\"-1\"]]\n",
+            1,
+        ),
+        (
+            "give s VERTICES_IN_FACETS",
+            "s VERTICES_IN_FACETS [[0],[1],{\"cols\":2}]\n",
+            1,
+        ),
+        (
+            "lookup s VERTICES_IN_FACETS",
+            "s VERTICES_IN_FACETS [[0],[1],{\"cols\":2}]\n",
+            1,
+        ),
+        ("new t Polytope\nlookup t VERTICES", "ok\nundef\n", 1),
+        ("ensure s FACETS", "no 1 BadCommand\n", 1),
+        // A second object starts the client once more.
+        (
+            "new t Polytope\ntake t FACETS [[1,0]]\ntake t VERTICES [[1,0],[2,1]]\ngive t VERTICES_IN_FACETS\ngive t VERTICES_IN_FACETS",
+            "ok\nok\nok\nt VERTICES_IN_FACETS [[],{\"cols\":2}]\nt VERTICES_IN_FACETS [[],{\"cols\":2}]\n",
+            2,
+        ),
+    ] {
+        let script = format!(in alloc; "{SCRIPT}{line}\n")?;
+        let replies = format!(in alloc; "{REPLIES}{reply}")?;
+        let ran = run(alloc, script.as_bytes())?;
+        assert_eq!(rt; ran.text.as_slice(), replies.as_bytes(), "to {line}");
+        assert_eq!(rt; ran.starts, starts, "at {line}");
+        let wanted = if reply.starts_with("no ") {
+            Status::SomeRefused
+        } else {
+            Status::Answered
+        };
+        assert_eq!(rt; ran.status, wanted, "at {line}");
+    }
+    Ok(())
+}
+
+// Whole scripts: the replies, whether some reply is a refusal, and how often the client is started.
 #[test]
 fn answers_scripts(rt: HostRuntime) -> Result<(), Fail> {
     let alloc = rt.alloc();
-    for (script, replies, status) in [
-        ("", "", Status::Answered),
-        ("# a comment\n\n \t\n\r\n", "", Status::Answered),
+    for (script, replies, status, starts) in [
+        ("", "", Status::Answered, 0u64),
+        ("# a comment\n\n \t\n\r\n", "", Status::Answered, 0),
         (
-            "new s Polytope\ntake s VERTICES [[1,0],[1,1]]\ntake s FACETS [[\"0\",1]]\ntake s FACETS [[0,1],[1,-1]]\n",
-            "ok\nok\nno 6 BadValue shape\nok\n",
+            "new s Polytope\ntake s VERTICES [[1,0],[1,1]]\ntake s FACETS [[\"0\",\"1\"]]\ntake s FACETS [[0,1],[1,-1]]\n",
+            "ok\nok\nno 6 BadValue number\nok\n",
             Status::SomeRefused,
+            0,
+        ),
+        // No chain leads to the sets from the facets alone.
+        (
+            "new s Polytope\ntake s FACETS [[0,1],[1,-1]]\ngive s VERTICES_IN_FACETS\ntake s VERTICES [[1,0],[1,1]]\ngive s VERTICES_IN_FACETS\n",
+            "ok\nok\nno 10 NoChain\nok\ns VERTICES_IN_FACETS [[0],[1],{\"cols\":2}]\n",
+            Status::SomeRefused,
+            1,
         ),
         // The last line counts without its LF, and there a CR is not dropped.
-        ("new s Polytope\r\n# no LF", "ok\n", Status::Answered),
-        ("new s Polytope", "ok\n", Status::Answered),
-        ("new s Polytope\r", "no 1 BadCommand\n", Status::SomeRefused),
-        // A square, and matrices with no rows.
+        ("new s Polytope\r\n# no LF", "ok\n", Status::Answered, 0),
+        ("new s Polytope", "ok\n", Status::Answered, 0),
+        (
+            "new s Polytope\r",
+            "no 1 BadCommand\n",
+            Status::SomeRefused,
+            0,
+        ),
+        // A square.
         (
             "new a_1 Polytope\ntake a_1 VERTICES [[1,0,0],[1,1,0],[1,0,1],[1,1,1]]\ntake a_1 FACETS [[0,1,0],[0,0,1],[1,-1,0],[1,0,-1]]\ngive a_1 VERTICES_IN_FACETS\n",
             "ok\nok\nok\na_1 VERTICES_IN_FACETS [[0,2],[0,1],[1,3],[2,3],{\"cols\":4}]\n",
             Status::Answered,
-        ),
-        (
-            "new s Polytope\ntake s VERTICES []\ntake s FACETS [[1,0]]\ngive s VERTICES_IN_FACETS\n",
-            "ok\nok\nok\ns VERTICES_IN_FACETS [[],{\"cols\":0}]\n",
-            Status::Answered,
-        ),
-        (
-            "new s Polytope\ntake s VERTICES [[1,0]]\ntake s FACETS []\ngive s VERTICES_IN_FACETS\ngive s VERTICES_IN_FACETS\n",
-            "ok\nok\nok\ns VERTICES_IN_FACETS [{\"cols\":1}]\nno 1 BadCommand\n",
-            Status::SomeRefused,
+            1,
         ),
         // Facets with another number of columns; then those that fit.
         (
             "new s Polytope\ntake s VERTICES [[1,0]]\ntake s FACETS [[1,0,0]]\ntake s FACETS [[0,1]]\n",
-            "ok\nok\nno 6 BadValue shape\nok\n",
+            "ok\nok\nno 6 BadValue columns\nok\n",
             Status::SomeRefused,
+            0,
+        ),
+        // Other reasons why a value is refused.
+        (
+            "new s Polytope\ntake s VERTICES [[1,0]\ntake s VERTICES 7\ntake s VERTICES [[0,0]]\n",
+            "ok\nno 6 BadValue json\nno 6 BadValue shape\nno 6 BadValue row\n",
+            Status::SomeRefused,
+            0,
         ),
     ] {
-        let (found, text) = run(alloc, script.as_bytes())?;
-        assert_eq!(rt; text.as_slice(), replies.as_bytes(), "of {script}");
-        assert_eq!(rt; found, status, "of {script}");
+        let ran = run(alloc, script.as_bytes())?;
+        assert_eq!(rt; ran.text.as_slice(), replies.as_bytes(), "of {script}");
+        assert_eq!(rt; ran.status, status, "of {script}");
+        assert_eq!(rt; ran.starts, starts, "of {script}");
     }
+    Ok(())
+}
+
+// 32 objects are made, and no more.
+#[test]
+fn refuses_an_object_too_many(rt: HostRuntime) -> Result<(), Fail> {
+    let alloc = rt.alloc();
+    let mut script = String::new(alloc);
+    let mut replies = String::new(alloc);
+    for i in 0..32 {
+        let line = format!(in alloc; "new s{i} Polytope\n")?;
+        script.push_str(&line)?;
+        replies.push_str("ok\n")?;
+    }
+    let ran = run(alloc, script.as_bytes())?;
+    assert_eq!(rt; ran.text.as_slice(), replies.as_bytes());
+    assert_eq!(rt; ran.status, Status::Answered);
+    script.push_str("new s32 Polytope\n")?;
+    replies.push_str("no 9 ObjectsFull\n")?;
+    let ran = run(alloc, script.as_bytes())?;
+    assert_eq!(rt; ran.text.as_slice(), replies.as_bytes());
+    assert_eq!(rt; ran.status, Status::SomeRefused);
     Ok(())
 }
 
@@ -103,142 +225,36 @@ fn answers_scripts(rt: HostRuntime) -> Result<(), Fail> {
 #[test]
 fn knows_names(rt: HostRuntime) -> Result<(), Fail> {
     let alloc = rt.alloc();
-    for (line, is_taken) in [
-        ("new Z_9 Polytope", true),
-        ("new abcdefghijklmnopqrstuvwxyz_12345 Polytope", true),
-        ("new abcdefghijklmnopqrstuvwxyz_123456 Polytope", false),
-        ("new _a Polytope", false),
-        ("new 9 Polytope", false),
-        ("new a-b Polytope", false),
-        ("new  Polytope", false),
-        ("new s  Polytope", false),
-        ("new s Polytope ", false),
-        (" new s Polytope", false),
-        ("new s Cone", false),
-        ("new s", false),
-        ("take s VERTICES [[1]]", false),
-    ] {
-        let (_, text) = run(alloc, line.as_bytes())?;
-        let reply: &[u8] = if is_taken {
-            b"ok\n"
-        } else {
-            b"no 1 BadCommand\n"
-        };
-        assert_eq!(rt; text.as_slice(), reply, "to {line}");
-    }
-    Ok(())
-}
-
-// Texts that are taken as vertices, as facets after a vertex with two columns, or else why they are not.
-#[test]
-fn knows_matrices(rt: HostRuntime) -> Result<(), Fail> {
-    let alloc = rt.alloc();
-    for (json, as_vertices, as_facets) in [
-        ("[[1,0]]", "ok", "ok"),
-        (" [ [1, -3] ,\t[0,1] ] ", "ok", "ok"),
-        ("[[9007199254740992,-9007199254740992]]", "ok", "ok"),
-        ("[[9007199254740993,0]]", "shape", "shape"),
-        ("[[0,-9007199254740993]]", "shape", "shape"),
-        ("[[18446744073709551616,0]]", "shape", "shape"),
-        ("[[-1,0]]", "shape", "ok"),
-        ("[[0,-1]]", "ok", "ok"),
-        ("[[0,0]]", "shape", "shape"),
-        ("[[1,0],[0,0]]", "shape", "shape"),
-        ("[[1,0],[1]]", "shape", "shape"),
-        ("[[]]", "shape", "shape"),
-        ("[[1.0,0]]", "shape", "shape"),
-        ("[[1,0.5]]", "shape", "shape"),
-        ("[[1,-0]]", "shape", "shape"),
-        ("[[1,\"0\"]]", "shape", "shape"),
-        ("[1,0]", "shape", "shape"),
-        ("{}", "shape", "shape"),
-        ("7", "shape", "shape"),
-        ("[[1,0]", "json", "json"),
-        ("[[1,0]]]", "json", "json"),
-        ("[[01,0]]", "json", "json"),
-        ("x", "json", "json"),
-        ("", "command", "command"),
-    ] {
-        for (start, outcome) in [
-            ("new s Polytope\ntake s VERTICES ", as_vertices),
-            (
-                "new s Polytope\ntake s VERTICES [[1,0]]\ntake s FACETS ",
-                as_facets,
-            ),
-        ] {
-            let script = format!(in alloc; "{start}{json}\n")?;
-            let (_, text) = run(alloc, script.as_bytes())?;
-            let reply = match outcome {
-                "ok" => "ok\n",
-                "json" => "no 6 BadValue json\n",
-                "shape" => "no 6 BadValue shape\n",
-                _ => "no 1 BadCommand\n",
-            };
-            assert!(rt; text.ends_with(reply.as_bytes()), "to {script}");
-        }
-    }
-    Ok(())
-}
-
-// Two lines, the second one with many times the same piece.
-fn lines_with(
-    alloc: Global,
-    start: &str,
-    piece: &str,
-    count: usize,
-    end: &str,
-) -> Result<String, AllocError> {
-    let mut line = String::from_str(alloc, "new s Polytope\n")?;
-    line.push_str(start)?;
-    for _ in 0..count {
-        line.push_str(piece)?;
-    }
-    line.push_str(end)?;
-    Ok(line)
-}
-
-#[test]
-fn keeps_the_limits_of_matrices(rt: HostRuntime) -> Result<(), Fail> {
-    let alloc = rt.alloc();
-    for (start, piece, count, end, reply) in [
-        ("take s VERTICES [", "[1],", 2047usize, "[1]]", "ok\n"),
+    for (line, reply) in [
+        ("new Z_9 Polytope", "ok\n"),
+        ("new abcdefghijklmnopqrstuvwxyz_12345 Polytope", "ok\n"),
         (
-            "take s VERTICES [",
-            "[1],",
-            2048,
-            "[1]]",
-            "no 6 BadValue shape\n",
+            "new abcdefghijklmnopqrstuvwxyz_123456 Polytope",
+            "no 1 BadCommand\n",
         ),
-        ("take s VERTICES [[", "1,", 32, "1]]", "ok\n"),
-        (
-            "take s VERTICES [[",
-            "1,",
-            33,
-            "1]]",
-            "no 6 BadValue shape\n",
-        ),
-        ("take s VERTICES ", "[", 128, "", "no 6 BadValue json\n"),
+        ("new _a Polytope", "no 1 BadCommand\n"),
+        ("new a-b Polytope", "no 1 BadCommand\n"),
+        ("new  Polytope", "no 1 BadCommand\n"),
+        ("new s  Polytope", "no 1 BadCommand\n"),
+        ("new s Polytope ", "no 1 BadCommand\n"),
+        (" new s Polytope", "no 1 BadCommand\n"),
+        ("new s", "no 1 BadCommand\n"),
+        ("new s.t Polytope", "no 4 UnknownType\n"),
+        ("take s VERTICES [[1]]", "no 2 UnknownName\n"),
+        ("take s VERTICES", "no 1 BadCommand\n"),
     ] {
-        let script = lines_with(alloc, start, piece, count, end)?;
-        let (_, text) = run(alloc, script.as_bytes())?;
-        let replies = format!(in alloc; "ok\n{reply}")?;
-        assert_eq!(rt; text.as_slice(), replies.as_bytes(), "at {count}");
+        let ran = run(alloc, line.as_bytes())?;
+        assert_eq!(rt; ran.text.as_slice(), reply.as_bytes(), "to {line}");
     }
-    let mut nested = lines_with(alloc, "take s VERTICES ", "[", 127, "")?;
-    for _ in 0..127 {
-        nested.push_str("]")?;
-    }
-    let (_, text) = run(alloc, nested.as_bytes())?;
-    assert_eq!(rt; text.as_slice(), b"ok\nno 6 BadValue shape\n".as_slice());
     Ok(())
 }
 
 #[test]
 fn refuses_what_is_no_text(rt: HostRuntime) -> Result<(), Fail> {
     let alloc = rt.alloc();
-    let (status, text) = run(alloc, b"new s\xff Polytope\n# \xff\nnew s Polytope\n")?;
-    assert_eq!(rt; text.as_slice(), b"no 1 BadCommand\nok\n".as_slice());
-    assert_eq!(rt; status, Status::SomeRefused);
+    let ran = run(alloc, b"new s\xff Polytope\n# \xff\nnew s Polytope\n")?;
+    assert_eq!(rt; ran.text.as_slice(), b"no 1 BadCommand\nok\n".as_slice());
+    assert_eq!(rt; ran.status, Status::SomeRefused);
     Ok(())
 }
 
@@ -247,11 +263,11 @@ fn refuses_what_is_no_text(rt: HostRuntime) -> Result<(), Fail> {
 fn refuses_long_lines(rt: HostRuntime) -> Result<(), Fail> {
     let alloc = rt.alloc();
     let mut line: Vec<u8> = vec![in alloc; b'#'; 1_048_576]?;
-    assert_eq!(rt; run(alloc, &line)?.1.as_slice(), b"".as_slice());
+    assert_eq!(rt; run(alloc, &line)?.text.as_slice(), b"".as_slice());
     line.push(b'\r')?;
     line.push(b'\n')?;
     assert_eq!(rt;
-        run(alloc, &line)?.1.as_slice(),
+        run(alloc, &line)?.text.as_slice(),
         b"no 1 BadCommand\n".as_slice()
     );
     Ok(())
@@ -271,13 +287,13 @@ fn refuses_a_script_with_one_byte_more(rt: HostRuntime) -> Result<(), Fail> {
     script[0] = b'\n';
     script[1] = b'x';
     script[2] = b'\n';
-    let (status, text) = run(alloc, &script)?;
-    assert_eq!(rt; status, Status::SomeRefused);
-    assert_eq!(rt; text.as_slice(), b"no 1 BadCommand\n".as_slice());
+    let ran = run(alloc, &script)?;
+    assert_eq!(rt; ran.status, Status::SomeRefused);
+    assert_eq!(rt; ran.text.as_slice(), b"no 1 BadCommand\n".as_slice());
     script.push(b'#')?;
-    let (status, text) = run(alloc, &script)?;
-    assert_eq!(rt; status, Status::TooLong);
-    assert_eq!(rt; text.as_slice(), b"".as_slice());
+    let ran = run(alloc, &script)?;
+    assert_eq!(rt; ran.status, Status::TooLong);
+    assert_eq!(rt; ran.text.as_slice(), b"".as_slice());
     Ok(())
 }
 
@@ -287,32 +303,48 @@ fn stops_at_a_failing_source(rt: HostRuntime) -> Result<(), Fail> {
     let alloc = rt.alloc();
     for number in 0..5u64 {
         let failing = vec![in alloc; number]?;
-        let (status, text) = run_in_pieces(alloc, SCRIPT.as_bytes(), 50, failing, Vec::new(alloc))?;
-        let (wanted, written) = if number < 3 {
-            (Status::SourceFault, "")
+        let ran = run_in_pieces(
+            alloc,
+            &NO_WORDS,
+            SCRIPT.as_bytes(),
+            50,
+            failing,
+            Vec::new(alloc),
+        )?;
+        let (wanted, written, starts) = if number < 3 {
+            (Status::SourceFault, "", 0)
         } else {
-            (Status::Answered, REPLIES)
+            (Status::Answered, REPLIES, 1)
         };
-        assert_eq!(rt; status, wanted, "at call {number}");
-        assert_eq!(rt; text.as_slice(), written.as_bytes(), "at call {number}");
+        assert_eq!(rt; ran.status, wanted, "at call {number}");
+        assert_eq!(rt; ran.text.as_slice(), written.as_bytes(), "at call {number}");
+        assert_eq!(rt; ran.starts, starts, "at call {number}");
     }
     Ok(())
 }
 
-// Each reply is one call of the sink.
+// Each reply is one call of the sink. The client was started also where its reply cannot be written.
 #[test]
 fn stops_at_a_failing_sink(rt: HostRuntime) -> Result<(), Fail> {
     let alloc = rt.alloc();
-    for (number, written) in [
-        (0u64, ""),
-        (1, "ok\n"),
-        (2, "ok\nok\n"),
-        (3, "ok\nok\nok\n"),
+    for (number, written, starts) in [
+        (0u64, "", 0u64),
+        (1, "ok\n", 0),
+        (2, "ok\nok\n", 0),
+        (3, "ok\nok\nok\n", 1),
     ] {
         let failing = vec![in alloc; number]?;
-        let (status, text) = run_in_pieces(alloc, SCRIPT.as_bytes(), 50, Vec::new(alloc), failing)?;
-        assert_eq!(rt; status, Status::SinkFault, "at call {number}");
-        assert_eq!(rt; text.as_slice(), written.as_bytes(), "at call {number}");
+        let ran = run_in_pieces(
+            alloc,
+            &NO_WORDS,
+            SCRIPT.as_bytes(),
+            50,
+            Vec::new(alloc),
+            failing,
+        )?;
+        assert_eq!(rt; ran.status, Status::SinkFault, "at call {number}");
+        assert_eq!(rt; ran.text.as_slice(), written.as_bytes(), "at call {number}");
+        assert_eq!(rt; ran.starts, starts, "at call {number}");
     }
     Ok(())
 }
@@ -321,16 +353,17 @@ fn stops_at_a_failing_sink(rt: HostRuntime) -> Result<(), Fail> {
 fn takes_no_words(rt: HostRuntime) -> Result<(), Fail> {
     let alloc = rt.alloc();
     let words = [String::from_str(alloc, "--help")?];
-    let mut source = MemSource::new(SCRIPT.as_bytes().to_vec(alloc)?, 50, Vec::new(alloc));
-    let mut sink = MemSink::new(alloc, 1000, Vec::new(alloc))?;
-    let status = polymake(alloc, &words, &mut source, &mut sink);
-    assert_eq!(rt; status, Status::BadWords);
-    assert_eq!(rt; sink.bytes(), b"".as_slice());
-    assert_eq!(rt;
-        polymake(alloc, &NO_WORDS, &mut source, &mut sink),
-        Status::Answered
-    );
-    assert_eq!(rt; sink.bytes(), REPLIES.as_bytes());
+    let ran = run_in_pieces(
+        alloc,
+        &words,
+        SCRIPT.as_bytes(),
+        50,
+        Vec::new(alloc),
+        Vec::new(alloc),
+    )?;
+    assert_eq!(rt; ran.status, Status::BadWords);
+    assert_eq!(rt; ran.text.as_slice(), b"".as_slice());
+    assert_eq!(rt; ran.starts, 0);
     Ok(())
 }
 

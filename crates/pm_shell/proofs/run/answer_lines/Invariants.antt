@@ -1,17 +1,18 @@
--- The replies to the lines that are left are what is left to send.
-use Rattle.std.proofs.Common.{length, ◌≡◌, ◌≤◌, ◌||◌}
-use Rattle.pm_shell.proofs.Sent.{Sent}
-use Rattle.pm_shell.specs.Lines.{lines_of}
-use Rattle.pm_shell.specs.Replies.{any_refused, replies_text}
-use Rattle.pm_shell.specs.Session.{HasFit}
-use Rattle.pm_shell.specs.declared.stage.Stage.TheVariants.{Start}
+-- The lines before those that are left are answered, and each reply is told.
+use Rattle.std.proofs.Common.{length, ◌≡◌, ◌≤◌}
+use Rattle.std.specs.Prelude.{map}
+use Rattle.pm_machine.specs.Sessions.{book_of, machine_of}
+use Rattle.pm_script.specs.Lines.{lines_of}
+use Rattle.pm_shell.proofs.Runs.{SoFar}
 use Rattle.pm_shell.proofs.run.answer_lines.Given as goal
 
 abbrev pub invariant-loop-rest : goal.invariant-loop-rest
 invariant-loop-rest g l = record {
-  fit : HasFit l.stage;
-  sent : Sent (g.K.Sink.taken l.fn.sink) (g.K.Sink.taken l.sink) (replies_text Start (lines_of l.fn.script)) (replies_text l.stage (lines_of l.rest));
-  refused : any_refused Start (lines_of l.fn.script) ≡ (l.some_refused || any_refused l.stage (lines_of l.rest));
+  book : book_of l.session ≡ book_of l.fn.session;
+  so_far : SoFar (book_of l.fn.session)
+      (machine_of l.fn.session (map (λ b. ((goal.Client-dyn g (b.vtable, b.value)).kind_of b.value, (goal.Client-dyn g (b.vtable, b.value)).starts_of b.value)) l.fn.clients.items))
+      (lines_of l.fn.script) (lines_of l.rest) l.some_refused (g.K.Sink.taken l.fn.sink) (g.K.Sink.taken l.sink)
+      (machine_of l.session (map (λ b. ((goal.Client-dyn g (b.vtable, b.value)).kind_of b.value, (goal.Client-dyn g (b.vtable, b.value)).starts_of b.value)) l.clients.items));
   rises : g.K.Sink.faults l.fn.sink ≤ g.K.Sink.faults l.sink;
 }
 

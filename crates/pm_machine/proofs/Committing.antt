@@ -1,0 +1,264 @@
+-- Adding what a client answered, one target after another.
+use Rattle.pm_algebra.proofs.Lists.{Among, Contains_among, among_append_right, here, there}
+use Rattle.pm_machine.specs.Commits.{FitsObject, added, computed_one}
+use Rattle.pm_object.proofs.Formed.{Each, cols_stay, value_later, value_stays}
+use Rattle.pm_object.specs.Formed.{IsFormed, IsFormedIn}
+use Rattle.pm_object.specs.Honest.{facts}
+use Rattle.pm_object.specs.Laws.{computed}
+use Rattle.pm_object.specs.Reading.{Put, answer_at, drafted, fact_at, without}
+use Rattle.pm_object.specs.State.{HeldValue, State, cols_of, is_held, value_of, with_held}
+use Rattle.pm_types.proofs.Kept.{same_property_is}
+use Rattle.pm_types.specs.Properties.{every_property, has_program, number}
+use Rattle.pm_types.specs.Runs.{is_named, missing, place_of, same_place, same_property, stands_at}
+use Rattle.pm_types.specs.Sets.{has, members}
+use Rattle.pm_types.specs.Values.{Fact, PropertyValue}
+use Rattle.pm_types.specs.declared.property.PropId.{PropId}
+use Rattle.std.proofs.Common.{ap, append-nil, arith, drop, false, get_or, inl, inr, refl, subst, sym, true, true≢false, ◌∙◌}
+use Rattle.std.specs.List.{Contains, list_any}
+use Rattle.std.specs.Option.{is_some}
+use Rattle.std.specs.Prelude.{Bool, IfSome, IsTrue, List, None, Option, Some, [], if◌then◌else◌, filter, length, map, nat_eq, nat_le, not, suc, zero, ℕ, ◌&&◌, ◌+◌, ◌++◌, ◌<◌, ◌≤◌, ◌∷◌, ◌||◌, ◌≡◌, ◌⊎◌}
+
+decide : (b : Bool) → (b ≡ true) ⊎ (b ≡ false)
+decide true = inl refl
+decide false = inr refl
+
+-- ---- the targets differ
+abbrev pub ascends : ℕ → List PropId → Bool
+ascends n [] = true
+ascends n (p ∷ ps) = nat_le n (number p) && ascends (suc (number p)) ps
+
+both : (a b : Bool) → (a && b) ≡ true → (a ≡ true) × (b ≡ true)
+both true b h = (refl, h)
+both false b h = absurd (true≢false (sym h))
+
+and_true : (a b : Bool) → a ≡ true → b ≡ true → (a && b) ≡ true
+and_true a b h k = cc
+
+le_from : (m n k : ℕ) → n ≤ m → nat_le m k ≡ true → nat_le n k ≡ true
+le_from m n k h e = grind arith
+
+weaker : (m n : ℕ) (ps : List PropId) → n ≤ m → ascends m ps ≡ true → ascends n ps ≡ true
+weaker m n [] h e = refl
+weaker m n (p ∷ ps) h e = let (a, b) = both (nat_le m (number p)) (ascends (suc (number p)) ps) e in and_true _ _ (le_from m n (number p) h a) b
+
+le_suc : (n k : ℕ) → nat_le n k ≡ true → n ≤ suc k
+le_suc n k h = grind arith
+
+filtered : (f : PropId → Bool) (n : ℕ) (ps : List PropId) → ascends n ps ≡ true → ascends n (filter f ps) ≡ true
+filtered f n [] e = refl
+filtered f n (p ∷ ps) e =
+    let (a, b) = both (nat_le n (number p)) (ascends (suc (number p)) ps) e in
+    by (f p) a (filtered f (suc (number p)) ps b)
+  where
+    by : (t : Bool) → nat_le n (number p) ≡ true → ascends (suc (number p)) (filter f ps) ≡ true → ascends n (if t then p ∷ filter f ps else filter f ps) ≡ true
+    by true a rest = and_true _ _ a rest
+    by false a rest = weaker (suc (number p)) n (filter f ps) (le_suc n (number p) a) rest
+
+pub members_ascend : (s : ℕ) → ascends 0 (members s) ≡ true
+unfolding members
+members_ascend s = filtered (has s) 0 every_property refl
+
+lt_apart : (a b : ℕ) → nat_le (suc a) b ≡ true → nat_eq a b ≡ false
+lt_apart a b h = grind arith
+
+lt_apart_back : (a b : ℕ) → nat_le (suc a) b ≡ true → nat_eq b a ≡ false
+lt_apart_back a b h = grind arith
+
+above : (n : ℕ) (ps : List PropId) {q : PropId} → ascends n ps ≡ true → Among q ps → nat_le n (number q) ≡ true
+above n [] e i = elim i [ ]
+above n (p ∷ ps) e here = (both (nat_le n (number p)) (ascends (suc (number p)) ps) e).0
+above n (p ∷ ps) {q} e (there i) =
+    let (a, b) = both (nat_le n (number p)) (ascends (suc (number p)) ps) e in
+    above n ps (weaker (suc (number p)) n ps (le_suc n (number p) a) b) i
+
+-- ---- what is held and drafted of other properties
+one_more : (q p : PropId) (held : List HeldValue) (v : PropertyValue) → same_property q p ≡ false → value_of q (held ++ computed_one p v ∷ []) ≡ value_of q held
+one_more q p held v e = by (value_of q held) refl
+  where
+    by : (w : Option PropertyValue) → value_of q held ≡ w → value_of q (held ++ computed_one p v ∷ []) ≡ value_of q held
+    by (Some w) is = value_stays q held (computed_one p v ∷ []) w is ∙ sym is
+    by None is = value_later q held (computed_one p v ∷ []) is ∙ ap (λ t. if t then Some v else None) e ∙ sym is
+
+pub held_still : (q p : PropId) (held : List HeldValue) (b : Bool) (d : Option PropertyValue) → same_property q p ≡ false → is_held q (held ++ added p b d) ≡ is_held q held
+held_still q p held true d e = ap (λ t. is_held q t) (append-nil held)
+held_still q p held false None e = ap (λ t. is_held q t) (append-nil held)
+held_still q p held false (Some v) e = ap is_some (one_more q p held v e)
+
+pub drafted_still : (q p : PropId) (values : List Put) → same_property q p ≡ false → drafted q (without p values) ≡ drafted q values
+drafted_still q p [] e = refl
+drafted_still q p (x ∷ values) e = by (same_property p x.property) refl (drafted_still q p values e)
+  where
+    is_same : (t : Bool) → same_property p x.property ≡ t → t ≡ true → same_property q x.property ≡ false
+    is_same t s k = subst (λ r. same_property q r ≡ false) (same_property_is p x.property (s ∙ k)) e
+
+    by : (t : Bool) → same_property p x.property ≡ t → drafted q (without p values) ≡ drafted q values → drafted q (if t then values else x ∷ without p values) ≡ drafted q (x ∷ values)
+    by true s rest = sym (ap (λ t. if t then Some x.value else drafted q values) (is_same true s refl))
+    by false s rest = ap (λ t. if same_property q x.property then Some x.value else t) rest
+
+pub answer_still : (p : PropId) (ps : List PropId) (values : List Put) → ((q : PropId) → Among q ps → same_property q p ≡ false) → answer_at None ps (without p values) ≡ answer_at None ps values
+answer_still p [] values h = refl
+answer_still p (q ∷ ps) values h =
+    ap (λ d. fact_at None q d ++ answer_at None ps (without p values)) (drafted_still q p values (h q here))
+    ∙ ap (λ t. fact_at None q (drafted q values) ++ t) (answer_still p ps values (λ r i. h r (there i)))
+
+-- ---- what is missing
+place_none : (p : PropId) → place_of None p ≡ None
+place_none p = by (has_program p)
+  where
+    none : Option ℕ
+    none = None
+
+    by : (t : Bool) → (if t then none else None) ≡ none
+    by true = refl
+    by false = refl
+
+and_right_true : (a b : Bool) → b ≡ true → (a && b) ≡ a
+and_right_true true b h = h
+and_right_true false b h = refl
+
+pub named_held : (held : List HeldValue) (p : PropId) → is_named (facts held) None p ≡ is_held p held
+named_held [] p = refl
+named_held (h ∷ held) p =
+    ap (λ t. t || is_named (facts held) None p) (and_right_true (same_property p h.property) (same_place None (place_of None p)) (ap (λ z. same_place None z) (place_none p)))
+    ∙ ap (λ t. same_property p h.property || t) (named_held held p)
+    ∙ by (same_property p h.property)
+  where
+    by : (t : Bool) → (t || is_held p held) ≡ is_some (if t then Some h.value else value_of p held)
+    by true = refl
+    by false = refl
+
+pub missing_one : (held : List HeldValue) (p : PropId) (d : Option PropertyValue) → computed (missing None (facts held) (fact_at None p d)) ≡ added p (is_held p held) d
+missing_one held p None = by (is_held p held)
+  where
+    by : (t : Bool) → [] ≡ added p t None
+    by true = refl
+    by false = refl
+missing_one held p (Some v) =
+    ap (λ t. computed (if not t then record { place = place_of None p; property = p; value = v } ∷ [] else [])) (named_held held p) ∙ by (is_held p held)
+  where
+    by : (t : Bool) → computed (if not t then record { place = place_of None p; property = p; value = v } ∷ [] else []) ≡ added p t (Some v)
+    by true = refl
+    by false = refl
+
+filter_append : {X : Type 0} (f : X → Bool) (xs ys : List X) → filter f (xs ++ ys) ≡ filter f xs ++ filter f ys
+filter_append f [] ys = refl
+filter_append f (x ∷ xs) ys = by (f x) (filter_append f xs ys)
+  where
+    by : (t : Bool) → filter f (xs ++ ys) ≡ filter f xs ++ filter f ys → (if t then x ∷ filter f (xs ++ ys) else filter f (xs ++ ys)) ≡ (if t then x ∷ filter f xs else filter f xs) ++ filter f ys
+    by true e = ap (λ t. x ∷ t) e
+    by false e = e
+
+computed_append : (xs ys : List Fact) → computed (xs ++ ys) ≡ computed xs ++ computed ys
+computed_append [] ys = refl
+computed_append (x ∷ xs) ys = ap (λ t. computed_one x.property x.value ∷ t) (computed_append xs ys)
+
+append_assoc : {X : Type 0} (xs ys zs : List X) → (xs ++ ys) ++ zs ≡ xs ++ (ys ++ zs)
+append_assoc [] ys zs = refl
+append_assoc (x ∷ xs) ys zs = ap (λ t. x ∷ t) (append_assoc xs ys zs)
+
+-- the first target, and then the others
+pub split_first : (now : State) (held : List HeldValue) (p : PropId) (ps : List PropId) (values : List Put) →
+    with_held now (computed (missing None (facts held) (answer_at None (p ∷ ps) values)))
+    ≡ with_held (with_held now (added p (is_held p held) (drafted p values))) (computed (missing None (facts held) (answer_at None ps values)))
+split_first now held p ps values =
+    let first = fact_at None p (drafted p values) in
+    let others = answer_at None ps values in
+    ap (λ t. record now { held = now.held ++ t })
+    (ap computed (filter_append (λ f. not (is_named (facts held) None f.property)) first others)
+    ∙ computed_append (missing None (facts held) first) (missing None (facts held) others)
+    ∙ ap (λ t. t ++ computed (missing None (facts held) others)) (missing_one held p (drafted p values)))
+    ∙ ap (λ t. record now { held = t }) (sym (append_assoc now.held (added p (is_held p held) (drafted p values)) (computed (missing None (facts held) others))))
+
+-- ---- the loop
+pub record StillToCommit (o : State) (values0 : List Put) (targets : List PropId) (now : State) (values : List Put) (i : ℕ) : Type 0 where
+  pub ascending : ascends 0 (drop i targets) ≡ true
+  pub rest : with_held now (computed (missing None (facts o.held) (answer_at None (drop i targets) values))) ≡ with_held o (computed (missing None (facts o.held) (answer_at None targets values0)))
+  pub held : (p : PropId) → Among p (drop i targets) → is_held p now.held ≡ is_held p o.held
+  pub cols : cols_of now.held ≡ cols_of o.held
+  pub of : now.of ≡ o.of
+  pub drafts : (p : PropId) → Among p (drop i targets) → drafted p values ≡ drafted p values0
+
+pub start_to_commit : (o : State) (values : List Put) (s : ℕ) → StillToCommit o values (members s) o values 0
+start_to_commit o values s = record { ascending = members_ascend s; rest = refl; held = λ p i. refl; cols = refl; of = refl; drafts = λ p i. refl }
+
+pub drop_at : {X : Type 0} (xs : List X) (i : ℕ) (x : X) → i < length xs → x ≡ get_or xs i x → drop i xs ≡ x ∷ drop (i + 1) xs
+drop_at [] i x h e = absurd (omega arith)
+drop_at (y ∷ ys) zero x h e = ap (λ z. z ∷ ys) (sym e)
+drop_at (y ∷ ys) (suc i) x h e = let k : suc i + 1 ≡ suc (i + 1) = omega arith in rw k (drop_at ys i x (omega arith) e)
+
+pub next_to_commit : (o : State) (values0 : List Put) (targets : List PropId) (now : State) (values : List Put) (i : ℕ) (p : PropId) (new : State) (left : List Put)
+    → drop i targets ≡ p ∷ drop (i + 1) targets
+    → new ≡ with_held now (added p (is_held p now.held) (drafted p values)) → cols_of new.held ≡ cols_of now.held → left ≡ without p values
+    → StillToCommit o values0 targets now values i → StillToCommit o values0 targets new left (i + 1)
+next_to_commit o values0 targets now values i p new left first is cols out s =
+    let all : ascends 0 (p ∷ drop (i + 1) targets) ≡ true = subst (λ t. ascends 0 t ≡ true) first s.ascending in
+    let (low, high) = both (nat_le 0 (number p)) (ascends (suc (number p)) (drop (i + 1) targets)) all in
+    let same_held : is_held p now.held ≡ is_held p o.held = s.held p (subst (λ t. Among p t) (sym first) here) in
+    let differs : (q : PropId) → Among q (drop (i + 1) targets) → same_property q p ≡ false = λ q j. lt_apart_back (number p) (number q) (above (suc (number p)) (drop (i + 1) targets) high j) in
+    let later : (q : PropId) → Among q (drop (i + 1) targets) → Among q (drop i targets) = λ q j. subst (λ t. Among q t) (sym first) (there j) in
+    let others = answer_at None (drop (i + 1) targets) values in
+    record {
+      ascending = weaker (suc (number p)) 0 (drop (i + 1) targets) (omega arith) high;
+      rest =
+          ap (λ t. with_held t (computed (missing None (facts o.held) (answer_at None (drop (i + 1) targets) left)))) is
+          ∙ ap (λ t. with_held (with_held now (added p (is_held p now.held) (drafted p values))) (computed (missing None (facts o.held) t)))
+          (ap (λ t. answer_at None (drop (i + 1) targets) t) out ∙ answer_still p (drop (i + 1) targets) values differs)
+          ∙ ap (λ t. with_held (with_held now (added p t (drafted p values))) (computed (missing None (facts o.held) others))) same_held
+          ∙ sym (split_first now o.held p (drop (i + 1) targets) values)
+          ∙ ap (λ t. with_held now (computed (missing None (facts o.held) (answer_at None t values)))) (sym first)
+          ∙ s.rest;
+      held = λ q j. ap (λ t. is_held q t.held) is ∙ held_still q p now.held (is_held p now.held) (drafted p values) (differs q j) ∙ s.held q (later q j);
+      cols = cols ∙ s.cols;
+      of = ap (λ t. t.of) is ∙ s.of;
+      drafts = λ q j. ap (λ t. drafted q t) out ∙ drafted_still q p values (differs q j) ∙ s.drafts q (later q j);
+    }
+
+-- ---- forms
+answer_among : (ps : List PropId) (values : List Put) {p : PropId} (v : PropertyValue) → Among p ps → drafted p values ≡ Some v → Among (record { place = place_of None p; property = p; value = v }) (answer_at None ps values)
+answer_among [] values v i e = elim i [ ]
+answer_among (p ∷ ps) values v here e = subst (λ d. Among (record { place = place_of None p; property = p; value = v }) (fact_at None p d ++ answer_at None ps values)) (sym e) here
+answer_among (q ∷ ps) values {p} v (there i) e = among_append_right (fact_at None q (drafted q values)) (answer_among ps values v i e)
+
+pub fits_at : (o : State) (values0 : List Put) (targets : List PropId) (now : State) (values : List Put) (i : ℕ) (p : PropId) → drop i targets ≡ p ∷ drop (i + 1) targets
+    → Among p targets → FitsObject o (answer_at None targets values0) → StillToCommit o values0 targets now values i
+    → IfSome (drafted p values) (λ v. IsFormedIn now.of (cols_of now.held) (computed_one p v))
+fits_at o values0 targets now values i p first in_targets fits s = by (drafted p values) refl
+  where
+    by : (d : Option PropertyValue) → drafted p values ≡ d → IfSome d (λ v. IsFormedIn now.of (cols_of now.held) (computed_one p v))
+    by None e = tt
+    by (Some v) e =
+        let old : drafted p values0 ≡ Some v = sym (s.drafts p (subst (λ t. Among p t) (sym first) here)) ∙ e in
+        subst (λ c. IsFormedIn now.of c (computed_one p v)) (sym s.cols) (subst (λ t. IsFormedIn t (cols_of o.held) (computed_one p v)) (sym s.of)
+        (fits.each (record { place = place_of None p; property = p; value = v }) (Contains_among (answer_among targets values0 v in_targets old))))
+
+-- the column count stays
+pub cols_same : (o : State) (h : HeldValue) → IsFormed o → IsFormedIn o.of (cols_of o.held) h → is_some (cols_of o.held) ≡ true → cols_of (o.held ++ h ∷ []) ≡ cols_of o.held
+cols_same o h f fits known = by (cols_of o.held) refl known
+  where
+    by : (c : Option ℕ) → cols_of o.held ≡ c → is_some c ≡ true → cols_of (o.held ++ h ∷ []) ≡ cols_of o.held
+    by None e k = absurd (true≢false (sym k))
+    by (Some n) e k = cols_stay o.of o.held h n (λ g i. f.each g (Contains_among i)) fits e ∙ sym e
+
+pub no_more : (o : State) → with_held o [] ≡ o
+no_more o = ap (λ t. record o { held = t }) (append-nil o.held)
+
+-- ---- places in the list of targets
+pub at_any : {X : Type 0} (xs : List X) (i : ℕ) (d : X) → i < length xs → get_or xs i d ≡ get_or xs i (get_or xs i d)
+at_any [] i d h = absurd (omega arith)
+at_any (x ∷ xs) zero d h = refl
+at_any (x ∷ xs) (suc i) d h = at_any xs i d (omega arith)
+
+pub among_at : {X : Type 0} (xs : List X) (i : ℕ) (d : X) → i < length xs → Among (get_or xs i d) xs
+among_at [] i d h = absurd (omega arith)
+among_at (x ∷ xs) zero d h = here
+among_at (x ∷ xs) (suc i) d h = there (among_at xs i d (omega arith))
+
+drop_all : {X : Type 0} (xs : List X) → drop (length xs) xs ≡ []
+drop_all [] = refl
+drop_all (x ∷ xs) = drop_all xs
+
+pub all_committed : (o : State) (values0 : List Put) (targets : List PropId) (now : State) (values : List Put) (i : ℕ) → i ≡ length targets → StillToCommit o values0 targets now values i
+    → now ≡ with_held o (computed (missing None (facts o.held) (answer_at None targets values0)))
+all_committed o values0 targets now values i e s =
+    let none : drop i targets ≡ [] = ap (λ k. drop k targets) e ∙ drop_all targets in
+    sym (no_more now) ∙ sym (ap (λ t. with_held now (computed (missing None (facts o.held) (answer_at None t values)))) none) ∙ s.rest

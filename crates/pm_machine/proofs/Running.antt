@@ -1,0 +1,228 @@
+-- From a rule that is enabled to a run that may be, and from a run to a round.
+use Rattle.pm_algebra.proofs.Filters.{map_among, among_map}
+use Rattle.pm_algebra.proofs.Lists.{Among, All_among, Contains_among, among_All, among_Contains, here, there}
+use Rattle.pm_client.specs.Sound.{HoldsOf, IsSound}
+use Rattle.pm_machine.proofs.Committing.{named_held}
+use Rattle.pm_machine.specs.Chains.{AreBarred, is_barred_on, is_truth, is_wrong, some_wrong, table}
+use Rattle.pm_machine.specs.Commits.{FitsObject, computed_one}
+use Rattle.pm_machine.specs.Rounds.{Commits}
+use Rattle.pm_machine.specs.Running.{FailedRun, RoundOf, RunsRule}
+use Rattle.pm_object.proofs.Formed.{dimension_of, held_stays, value_among}
+use Rattle.pm_object.proofs.Names.{names_held}
+use Rattle.pm_object.specs.Formed.{IsFormed, IsFormedIn}
+use Rattle.pm_object.specs.Honest.{facts}
+use Rattle.pm_object.specs.Reading.{DraftSeen, ViewSeen, answer_of, view_for}
+use Rattle.pm_object.specs.State.{HeldValue, State, agrees, ambient_in, cols_of, first_cols, is_held, names_of, or_else, value_of, with_held}
+use Rattle.pm_object.specs.declared.held.RoundEnd.{RoundEnd}
+use Rattle.pm_object.specs.declared.held.RoundEnd.TheVariants as end
+use Rattle.pm_rules.specs.Books.{IsRule}
+use Rattle.pm_rules.specs.Rules.{IsEnabled, conditions, inputs, is_barred, rule_at}
+use Rattle.pm_rules.specs.declared.rule.Rule.{Rule}
+use Rattle.pm_types.proofs.Kept.{among_every, named_from}
+use Rattle.pm_types.proofs.Members.{has-intersection, has-union}
+use Rattle.pm_types.specs.Forms.{FormsIn, has_64_bits, is_formed, is_matrix_form, is_of_matrices, is_of_sets, is_of_whole_numbers, is_sets_form}
+use Rattle.pm_types.specs.Kinds.{IsFresh}
+use Rattle.pm_types.specs.Properties.{every_property, has_program, value_kind}
+use Rattle.pm_types.specs.Runs.{Holds, IsFree, IsPlaced, MayAnswer, MayRun, is_named, missing, place_of, shown}
+use Rattle.pm_types.specs.Sets.{has, intersection, union}
+use Rattle.pm_types.specs.Values.{Fact, PropertyValue, matrix, sets, whole, truth, extended, edges, lattice, counts}
+use Rattle.pm_types.specs.declared.kind.Kind.{Kind}
+use Rattle.pm_types.specs.declared.kind.RuleId.{RuleId}
+use Rattle.pm_types.specs.declared.property.PropId.{PropId}
+use Rattle.pm_types.specs.declared.property.PropId.TheVariants.{ConeAmbientDim}
+use Rattle.pm_types.specs.declared.property.ValueKind.TheVariants as form
+use Rattle.pm_types.specs.declared.set.PropSet.{PropSet}
+use Rattle.std.proofs.Common.{ap, false, inl, inr, refl, subst, sym, true, true≢false, ◌∙◌}
+use Rattle.std.specs.List.{Contains, list_any}
+use Rattle.std.specs.Option.{is_some, unwrap_or}
+use Rattle.std.specs.Prelude.{Bool, IsTrue, List, None, Option, Some, [], if◌then◌else◌, not, ℕ, ◌&&◌, ◌||◌, ◌≡◌, ◌∷◌, ◌⊎◌}
+use lib.IntN.{ℤ, pos}
+
+decide : (b : Bool) → (b ≡ true) ⊎ (b ≡ false)
+decide true = inl refl
+decide false = inr refl
+
+or_parts : (a b : Bool) → (a || b) ≡ false → (a ≡ false) × (b ≡ false)
+or_parts true b h = absurd (true≢false h)
+or_parts false b h = (refl, h)
+
+or_left : (a b : Bool) → a ≡ true → (a || b) ≡ true
+or_left a b h = cc
+
+or_right : (a b : Bool) → b ≡ true → (a || b) ≡ true
+or_right true b h = refl
+or_right false b h = h
+
+and_false : (a b : Bool) → a ≡ true → (a && b) ≡ false → b ≡ false
+and_false a b h k = cc
+
+place_none : (p : PropId) → place_of None p ≡ None
+place_none p = by (has_program p)
+  where
+    none : Option ℕ
+    none = None
+
+    by : (t : Bool) → (if t then none else None) ≡ none
+    by true = refl
+    by false = refl
+
+-- no element passes where none of the list does
+any_false : {X : Type 0} (test : X → Bool) (xs : List X) {x : X} → list_any test xs ≡ false → Among x xs → test x ≡ false
+any_false test [] e i = elim i [ ]
+any_false test (x ∷ xs) e here = (or_parts (test x) (list_any test xs) e).0
+any_false test (x ∷ xs) e (there i) = any_false test xs (or_parts (test x) (list_any test xs) e).1 i
+
+pub none_wrong : (rule : Rule) (held : List HeldValue) (p : PropId) → some_wrong rule held ≡ false → is_wrong rule held p ≡ false
+none_wrong rule held p e = any_false (is_wrong rule held) every_property e (among_every p)
+
+-- the parts of not being barred
+four_parts : (a b c d : Bool) → (((a || b) || c) || d) ≡ false → (b ≡ false) × (d ≡ false)
+four_parts a b c d h = let (l, r) = or_parts ((a || b) || c) d h in ((or_parts a b (or_parts (a || b) c l).0).1, r)
+
+-- ---- truth values
+not_matrices : (p : PropId) → value_kind p ≡ form.Bool → is_of_matrices (value_kind p) ≡ false
+not_matrices p k = ap is_of_matrices k
+
+not_sets : (p : PropId) → value_kind p ≡ form.Bool → is_of_sets (value_kind p) ≡ false
+not_sets p k = ap is_of_sets k
+
+and_left : (a b : Bool) → (a && b) ≡ true → a ≡ true
+and_left true b h = refl
+and_left false b h = absurd (true≢false (sym h))
+
+-- whole numbers are no truth values
+whole_apart : (p : PropId) (n : ℤ) → value_kind p ≡ form.Bool → is_formed p (whole n) ≡ true → ⊥
+whole_apart ConeAmbientDim n k f = true≢false (ap is_of_whole_numbers k)
+whole_apart p n k f = true≢false (sym (and_left (is_of_whole_numbers (value_kind p)) (has_64_bits n) f) ∙ ap is_of_whole_numbers k)
+
+pub is_truth_value : (p : PropId) (v : PropertyValue) → value_kind p ≡ form.Bool → is_formed p v ≡ true → (b : Bool) × (v ≡ truth b)
+is_truth_value p (matrix n rows) k f = absurd (true≢false (sym (and_left (is_of_matrices (value_kind p)) (is_matrix_form n rows) f) ∙ not_matrices p k))
+is_truth_value p (sets rows n) k f = absurd (true≢false (sym (and_left (is_of_sets (value_kind p)) (is_sets_form rows n) f) ∙ not_sets p k))
+is_truth_value p (whole n) k f = absurd (whole_apart p n k f)
+is_truth_value p (truth b) k f = (b, refl)
+is_truth_value p (extended x) k f = absurd (true≢false (sym f))
+is_truth_value p (edges rows) k f = absurd (true≢false (sym f))
+is_truth_value p (lattice ranks) k f = absurd (true≢false (sym f))
+is_truth_value p (counts ks) k f = absurd (true≢false (sym f))
+
+-- ---- facts
+fact_of : HeldValue → Fact
+fact_of h = record { place = None; property = h.property; value = h.value }
+
+pub held_fact : (held : List HeldValue) (p : PropId) (v : PropertyValue) → value_of p held ≡ Some v → Holds (facts held) None p v
+held_fact held p v e =
+    let (h, i, q, w) = value_among p held v e in
+    Contains_among (subst (λ r. Among (record { place = r; property = p; value = v }) (facts held)) (sym (place_none p))
+    (subst (λ z. Among (record { place = None; property = p; value = z }) (facts held)) w
+    (subst (λ z. Among (record { place = None; property = z; value = h.value }) (facts held)) q
+    (among_map (λ g. record { place = None; property = g.property; value = g.value }) i))))
+
+pub fact_held : (held : List HeldValue) (f : Fact) → Among f (facts held) → (h : HeldValue) × Among h held × (f.property ≡ h.property) × (f.place ≡ None)
+fact_held held f i = let (h, j, is) = map_among (λ g. record { place = None; property = g.property; value = g.value }) held i in (h, j, ap (λ z. z.property) is, ap (λ z. z.place) is)
+
+is_held_of : (held : List HeldValue) (h : HeldValue) → Among h held → is_held h.property held ≡ true
+is_held_of held h i = sym (named_held held h.property) ∙ named_from None (facts held) (record { place = None; property = h.property; value = h.value })
+    (among_map (λ g. record { place = None; property = g.property; value = g.value }) i) (sym (place_none h.property))
+
+-- ---- a rule that is enabled and not barred may run
+some_is : {X : Type 0} (a b : X) → Some a ≡ Some b → a ≡ b
+some_is a b h = cc
+
+ambient_fact : (o : State) (n : ℕ) → IsFormed o → cols_of o.held ≡ Some n → is_held ConeAmbientDim o.held ≡ true → Holds (facts o.held) None ConeAmbientDim (whole (pos n))
+ambient_fact o n formed known dimension = by (value_of ConeAmbientDim o.held) refl dimension
+  where
+    by : (v : Option PropertyValue) → value_of ConeAmbientDim o.held ≡ v → is_some v ≡ true → Holds (facts o.held) None ConeAmbientDim (whole (pos n))
+    by None e k = absurd (true≢false (sym k))
+    by (Some v) e k =
+        let (h, i, q, w) = value_among ConeAmbientDim o.held v e in
+        let each = formed.each h (Contains_among i) in
+        let d = dimension_of v (subst (λ z. is_formed z v ≡ true) q (subst (λ z. is_formed h.property z ≡ true) w each.formed)) in
+        let cols : Some d.n ≡ Some n = ap (λ z. or_else (ambient_in z) (first_cols o.held)) (sym (e ∙ ap Some d.value)) ∙ known in
+        held_fact o.held ConeAmbientDim (whole (pos n)) (e ∙ ap Some d.value ∙ ap (λ k. Some (whole (pos k))) (some_is d.n n cols))
+
+-- a condition that is held, and not with the wrong value, is held so
+condition_held : (o : State) (p : PropId) (b : Bool) → IsFormed o → value_kind p ≡ form.Bool → is_held p o.held ≡ true → is_truth (not b) (value_of p o.held) ≡ false → Holds (facts o.held) None p (truth b)
+condition_held o p b formed kind held wrong = by (value_of p o.held) refl held wrong
+  where
+    same : (b c : Bool) → (if not b then c else not c) ≡ false → c ≡ b
+    same true true e = refl
+    same true false e = absurd (true≢false e)
+    same false true e = absurd (true≢false e)
+    same false false e = refl
+
+    by : (v : Option PropertyValue) → value_of p o.held ≡ v → is_some v ≡ true → is_truth (not b) v ≡ false → Holds (facts o.held) None p (truth b)
+    by None e k w = absurd (true≢false (sym k))
+    by (Some v) e k w =
+        let (h, i, q, is) = value_among p o.held v e in
+        let f = subst (λ z. is_formed z v ≡ true) q (subst (λ z. is_formed h.property z ≡ true) is (formed.each h (Contains_among i)).formed) in
+        let (c, t) = is_truth_value p v kind f in
+        let c_is : c ≡ b = same b c (subst (λ z. is_truth (not b) (Some z) ≡ false) t w) in
+        held_fact o.held p (truth b) (e ∙ ap Some t ∙ ap (λ z. Some (truth z)) c_is)
+
+within : (s t : ℕ) (p : PropId) → intersection s t ≡ s → has s p ≡ true → has t p ≡ true
+within s t p e h = and_second (has s p) (has t p) (sym (has-intersection s t p) ∙ ap (λ z. has z p) e ∙ h)
+  where
+    and_second : (a b : Bool) → (a && b) ≡ true → b ≡ true
+    and_second true b k = k
+    and_second false b k = absurd (true≢false (sym k))
+
+-- what a rule reads are its kind's sources and its conditions
+reads_source : (rule : Rule) (p : PropId) → has rule.kind.sources p ≡ true → has (inputs rule) p ≡ true
+reads_source rule p h = has-union rule.kind.sources (conditions rule) p ∙ or_left (has rule.kind.sources p) (has (conditions rule) p) h
+
+reads_must : (rule : Rule) (p : PropId) → has rule.must p ≡ true → has (conditions rule) p ≡ true
+reads_must rule p h = has-union rule.must rule.must_not p ∙ or_left (has rule.must p) (has rule.must_not p) h
+
+reads_must_not : (rule : Rule) (p : PropId) → has rule.must_not p ≡ true → has (conditions rule) p ≡ true
+reads_must_not rule p h = has-union rule.must rule.must_not p ∙ or_right (has rule.must p) (has rule.must_not p) h
+
+reads_condition : (rule : Rule) (p : PropId) → has (conditions rule) p ≡ true → has (inputs rule) p ≡ true
+reads_condition rule p h = has-union rule.kind.sources (conditions rule) p ∙ or_right (has rule.kind.sources p) (has (conditions rule) p) h
+
+free_facts : (tag : PropId → Bool) (kind : Kind) (held : List HeldValue) → (IsFresh tag kind → (p : PropId) → is_held p held ≡ true → tag p ≡ false) → IsFree tag kind (facts held)
+free_facts tag kind held h = record {
+  none = λ fresh f i.
+      let (g, j, p, r) = fact_held held f (among_Contains (facts held) i) in
+      ap tag p ∙ h fresh g.property (is_held_of held g j);
+}
+
+pub may_run : (o : State) (n : ℕ) (barred : List RuleId) (id : RuleId) (rule : Rule) → IsFormed o → cols_of o.held ≡ Some n → is_held ConeAmbientDim o.held ≡ true → IsRule rule
+    → IsEnabled (table o.of) barred (names_of o.held) id rule → some_wrong rule o.held ≡ false → MayRun rule.kind None n (facts o.held)
+may_run o n barred id rule formed known dimension is_rule enabled right = record {
+  placed = λ f i. record { alone = λ e. (fact_held o.held f (among_Contains (facts o.held) i)).3 };
+  ambient = ambient_fact o n formed known dimension;
+  sources = λ p h. named_held o.held p ∙ given p (reads_source rule p h);
+  must = λ p h.
+      let own = within rule.kind.must rule.must p is_rule.must h in
+      condition_held o p true formed (is_rule.flags p (reads_must rule p own)) (given p (reads_condition rule p (reads_must rule p own)))
+      (and_false (has rule.must p) (is_truth false (value_of p o.held)) own (or_parts (has rule.must p && is_truth false (value_of p o.held)) (has rule.must_not p && is_truth true (value_of p o.held)) (none_wrong rule o.held p right)).0);
+  must_not = λ p h.
+      let own = within rule.kind.must_not rule.must_not p is_rule.must_not h in
+      condition_held o p false formed (is_rule.flags p (reads_must_not rule p own)) (given p (reads_condition rule p (reads_must_not rule p own)))
+      (and_false (has rule.must_not p) (is_truth true (value_of p o.held)) own (or_parts (has rule.must p && is_truth false (value_of p o.held)) (has rule.must_not p && is_truth true (value_of p o.held)) (none_wrong rule o.held p right)).1);
+  rays = free_facts _ rule.kind o.held (λ fresh p h. enabled.fresh.0 fresh p (names_held o.held p ∙ h));
+  facets = free_facts _ rule.kind o.held (λ fresh p h. enabled.fresh.1 fresh p (names_held o.held p ∙ h));
+  generators = free_facts _ rule.kind o.held (λ fresh p h. enabled.fresh.2 fresh p (names_held o.held p ∙ h));
+  half_spaces = free_facts _ rule.kind o.held (λ fresh p h. enabled.fresh.3 fresh p (names_held o.held p ∙ h));
+}
+  where
+    given : (p : PropId) → has (inputs rule) p ≡ true → is_held p o.held ≡ true
+    given p h = sym (names_held o.held p) ∙ enabled.given p h
+
+-- ---- what was answered fits the object
+pub fits_object : (o : State) (kind : Kind) (n : ℕ) (answer : List Fact) → cols_of o.held ≡ Some n → MayAnswer o.of n kind None (shown kind None (facts o.held)) answer → FitsObject o answer
+fits_object o kind n answer known may = record {
+  each = λ f i.
+      let forms = among_All (λ g. FormsIn o.of n g.property g.value) (among_Contains answer i) may.formed in
+      record { formed = forms.formed; columns = subst (λ c. agrees c f.property f.value ≡ true) (sym known) forms.columns; rows = forms.rows };
+}
+
+-- a run leaves what is held
+pub runs_hold : (id : RuleId) (kind : Kind) (old new : State) (e : RoundEnd) (p : PropId) → RunsRule id kind old e new → is_held p old.held ≡ true → is_held p new.held ≡ true
+runs_hold id kind old new end.Done p c h = subst (λ z. is_held p z.held ≡ true) (sym c.added) (held_stays p old.held _ h)
+runs_hold id kind old new (end.Failed rule k) p f h = subst (λ z. is_held p z.held ≡ true) (sym f.excluded) h
+runs_hold id kind old new (end.False rule q) p f h = absurd f
+
+pub known_is : (c : Option ℕ) → is_some c ≡ true → c ≡ Some (unwrap_or c 1)
+known_is None e = absurd (true≢false (sym e))
+known_is (Some n) e = refl

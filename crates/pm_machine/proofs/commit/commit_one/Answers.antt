@@ -1,0 +1,17 @@
+use Rattle.std.proofs.Common.{Some, ap, subst, sym, ◌∙◌, ◌≡◌}
+use Rattle.std.specs.Option.{option_map}
+use Rattle.std.specs.Prelude.{IfSome}
+use Rattle.pm_machine.proofs.Committing.{cols_same}
+use Rattle.pm_machine.specs.Commits.{computed_one}
+use Rattle.pm_object.specs.Formed.{IsFormedIn}
+use Rattle.pm_object.specs.Reading.{drafted}
+use Rattle.pm_object.specs.State.{State, cols_of}
+use Rattle.pm_types.specs.Views.{view_of}
+use Rattle.pm_machine.proofs.commit.commit_one.Goals as goal
+
+pub returns-clause-cols : goal.returns-clause-cols
+returns-clause-cols c =
+    let old = c.args.object.now in
+    let is : drafted c.args.p c.args.draft.now.values ≡ Some (view_of c.in-Some.value) = sym c.take_out.ensures.value ∙ ap (λ r. option_map view_of r) c.in-Some.is in
+    let fits = subst (λ d. IfSome d (λ v. IsFormedIn old.of (cols_of old.held) (computed_one c.args.p v))) is c.requires.fits in
+    ap (λ (z : State). cols_of z.held) c.in_ok-add_computed.ensures.ok ∙ cols_same old (computed_one c.args.p (view_of c.in-Some.value)) c.lookup.ensures.formed fits c.requires.known

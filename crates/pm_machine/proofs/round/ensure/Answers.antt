@@ -1,0 +1,36 @@
+use Rattle.std.proofs.Common.{rules, ◌≡◌}
+use Rattle.pm_machine.proofs.Progress.{ends_found, ends_none, keeps, less_to_do, on_err, start_progress, started_holds, step_progress}
+use Rattle.pm_machine.specs.Rounds.{AllHeld}
+use Rattle.pm_machine.specs.Running.{KeepsKept}
+use Rattle.pm_types.specs.declared.property.PropId.TheVariants.{ConeAmbientDim}
+use Rattle.pm_machine.proofs.round.ensure.Goals as goal
+
+pub loop-rules-init : goal.loop-rules-init
+loop-rules-init g c = record {
+  rules = c.rules-rules.ensures.value;
+  book = c.rules-rules.ensures.book;
+  progress = rw c.in_ok-settle.ensures.ok (start_progress _ _ _ _);
+  dimension = c.in_ok-settle.ensures.dimension;
+}
+
+pub returns-in_err-next_round-clause-err : goal.returns-in_err-next_round-clause-err
+returns-in_err-next_round-clause-err g c = on_err {P = KeepsKept c.args.object.now c.next_round.new.object} _ (rw c.in_err-next_round.ensures.err (keeps _ _ _ _ _ _ c.loop-rules.invariant.progress))
+
+pub returns-then-not-branch-clause-ok : goal.returns-then-not-branch-clause-ok
+returns-then-not-branch-clause-ok g c =
+    rw (← c.loop-rules.invariant.rules) (ends_none _ _ _ _ _ _ _ _ c.loop-rules.invariant.progress (rw c.if-not-branch.true at c.in_ok-next_round.ensures.ok))
+
+pub loop-rules-smaller : goal.loop-rules-smaller
+loop-rules-smaller g c =
+    let some : AllHeld c.args.asked c.loop-rules.object → ⊥ = search rules in
+    less_to_do _ _ _ _ _ _ some (rw c.if-not-branch.false at c.in_ok-next_round.ensures.ok)
+
+pub loop-rules-preserved : goal.loop-rules-preserved
+loop-rules-preserved g c =
+    let some : AllHeld c.args.asked c.loop-rules.object → ⊥ = search rules in
+    record {
+      rules = c.loop-rules.invariant.rules;
+      book = c.loop-rules.invariant.book;
+      progress = step_progress _ _ _ _ _ _ _ _ c.loop-rules.invariant.progress some (rw c.if-not-branch.false at c.in_ok-next_round.ensures.ok);
+      dimension = started_holds _ _ _ _ _ _ ConeAmbientDim (rw c.if-not-branch.false at c.in_ok-next_round.ensures.ok) c.loop-rules.invariant.dimension;
+    }

@@ -1,0 +1,24 @@
+use Rattle.std.proofs.Common.{Option, Some, ap, arith, cond, is_some, refl, rules, sym, ◌+◌, ◌∙◌, ◌≡◌}
+use Rattle.std.proofs.lemmas.Map.Text.{text_keys}
+use Rattle.std.specs.HashMap.{get_by_text}
+use Rattle.std.specs.Option.{option_map}
+use Rattle.std.specs.Prelude.{None, string_bytes}
+use Rattle.indexmap.specs.IndexMap.{index_map_len}
+use Rattle.pm_machine.proofs.Names.{map_some}
+use Rattle.pm_object.specs.State.{State}
+use Rattle.pm_machine.proofs.session.Session.do_new.Goals as goal
+
+pub returns-clause-step : goal.returns-clause-step
+returns-clause-step g c =
+    let none : get_by_text c.args.self.now.objects (string_bytes c.args.name) ≡ None = search rules in (
+      c.in-Some.of,
+      sym (c.type_named.ensures (option_map string_bytes c.args.sub) (map_some string_bytes c.args.sub ∙ sym c.is_some.ensures)) ∙ c.in-Some.is,
+      none,
+      search rules,
+      record {
+        object = c.in_ok-insert.ensures.updates.1 ∙ ap Some c.new.ensures;
+        others = grind (arith, text_keys);
+        count = c.in_ok-insert.ensures.len ∙ ap (λ (z : Option State). index_map_len c.args.self.now.objects + cond (is_some z) 0 1) (c.in_ok-insert.ensures.old ∙ none);
+        clients = refl;
+      },
+    )

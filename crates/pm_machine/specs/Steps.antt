@@ -1,0 +1,183 @@
+-- The machine: what each command may answer, and what it changes. Each refusal comes exactly where its line says, and the lines of one command exclude each other.
+--     Machine      the object of each name, how many objects there are, and the clients as kinds with counts of their starts
+--     Stays old new      nothing changes
+--     Becomes name o started old new      the object of the name becomes o, and clients of these kinds were started; all else stays
+--     object_at m ref      the object that a REF names; so far no object has parts
+--     type_named text ref      the type of a new object, if the word names one that is built; a part of an object is of none of these
+--     property_named text of      the property, if the table of the type has it and it is built
+--     Given, given_by p data      what a JSON text gives for a property: no JSON, a fault in reading order, or a value
+--     TakeValue o p g why v      the object takes the value v, or refuses it for this reason
+--     NewStep, TakeStep, GiveStep, LookupStep, Step      from the machine old the reply may be given, and it goes on as new
+--     AllKept m      each object is honest, and while it has no round each of its values was given
+use Rattle.std.specs.Prelude.{ℕ, ◌≡◌, ◌≢◌, true, false, ◌+◌, ◌<◌, ◌≤◌, List, [], ◌∷◌, Option, Some, None, option_and_then, IfSome, if◌then◌else◌, codes}
+use Rattle.std.specs.Prelude.{Result, Ok, Err}
+use Rattle.std.specs.Str.{bytes_eq}
+use Rattle.serde_json.specs.Data.{Data}
+use Rattle.serde_json.specs.Read.{read}
+use Rattle.pm_client.specs.Starts.{Clients}
+use Rattle.pm_geom.specs.declared.ObjectType.{ObjectType}
+use Rattle.pm_geom.specs.declared.ObjectType.TheVariants.{Polytope}
+use Rattle.pm_json.specs.Readings.{reading}
+use Rattle.pm_json.specs.declared.fail.ValueFail.{ValueFail}
+use Rattle.pm_json.specs.declared.fail.ValueFail.TheVariants as fault
+use Rattle.pm_machine.specs.Rounds.{Ensures, after_runs, found, no_chain}
+use Rattle.pm_object.specs.Honest.{IsKept}
+use Rattle.pm_object.specs.State.{HeldValue, State, empty_object, is_held, is_sealed, take_refusal, value_of, with_held}
+use Rattle.pm_object.specs.declared.held.Origin.TheVariants.{Given as Given'}
+use Rattle.pm_object.specs.declared.held.TakeFail.TheVariants as fail
+use Rattle.pm_rules.specs.declared.rule.Rule.{Rule}
+use Rattle.pm_script.specs.Commands.{RefSeen, Spoken, blank, new_object, take_value, give_value, look_up}
+use Rattle.pm_script.specs.Replies.{ReplySeen, done, shows, undef, refused}
+use Rattle.pm_script.specs.declared.refusal.Refusal.{Refusal}
+use Rattle.pm_script.specs.declared.refusal.Refusal.TheVariants.{UnknownName, NameTaken, UnknownType, UnknownProperty, BadValue, AlreadyHeld, Sealed, ObjectsFull, NoChain}
+use Rattle.pm_script.specs.declared.refusal.ValueWhy.{ValueWhy}
+use Rattle.pm_script.specs.declared.refusal.ValueWhy.TheVariants as value_why
+use Rattle.pm_types.specs.Forms.{is_built}
+use Rattle.pm_types.specs.Names.{property_named_in}
+use Rattle.pm_types.specs.Sets.{only}
+use Rattle.pm_types.specs.Values.{PropertyValue}
+use Rattle.pm_types.specs.declared.kind.Kind.{Kind}
+use Rattle.pm_types.specs.declared.property.PropId.{PropId}
+
+pub record Machine : Type 0 where
+  pub object : List ℕ → Option State
+  pub count : ℕ
+  pub clients : Clients
+
+-- the greatest number of objects
+abbrev pub most_objects : ℕ
+most_objects = 32
+
+abbrev pub OthersStay : List ℕ → Machine → Machine → Type 0
+OthersStay name old new = (q : List ℕ) → q ≢ name → new.object q ≡ old.object q
+
+pub record Stays (old new : Machine) : Type 0 where
+  pub objects : (q : List ℕ) → new.object q ≡ old.object q
+  pub count : new.count ≡ old.count
+  pub clients : new.clients ≡ old.clients
+
+pub record Becomes (name : List ℕ) (o : State) (started : List Kind) (old new : Machine) : Type 0 where
+  pub object : new.object name ≡ Some o
+  pub others : OthersStay name old new
+  pub count : new.count ≡ old.count
+  pub clients : new.clients ≡ after_runs started old.clients
+
+-- one object more, of a new name
+pub record Gains (name : List ℕ) (o : State) (old new : Machine) : Type 0 where
+  pub object : new.object name ≡ Some o
+  pub others : OthersStay name old new
+  pub count : new.count ≡ old.count + 1
+  pub clients : new.clients ≡ old.clients
+
+abbrev pub whole_of : Option (List ℕ) → Option State → Option State
+whole_of None o = o
+whole_of (Some sub) o = None
+
+abbrev pub object_at : Machine → RefSeen → Option State
+object_at m ref = whole_of ref.sub (m.object ref.name)
+
+abbrev pub type_word : Option (List ℕ) → List ℕ → Option ObjectType
+type_word None text = if bytes_eq text (codes "Polytope") then Some Polytope else None
+type_word (Some sub) text = None
+
+abbrev pub type_named : RefSeen → List ℕ → Option ObjectType
+type_named ref text = type_word ref.sub text
+
+abbrev pub built_one : PropId → Option PropId
+built_one p = if is_built p then Some p else None
+
+abbrev pub property_named : ObjectType → List ℕ → Option PropId
+property_named of text = option_and_then built_one (property_named_in of text)
+
+-- the reason of a fault in reading order; want of memory is no fault of a value
+abbrev pub why_of : ValueFail → Option ValueWhy
+why_of fault.Shape = Some value_why.Shape
+why_of fault.Number = Some value_why.Number
+why_of fault.Index = Some value_why.Index
+why_of fault.Limit = Some value_why.Limit
+why_of fault.Memory = None
+
+-- `new REF TYPE`
+abbrev pub NewStep : Machine → RefSeen → List ℕ → ReplySeen → Machine → Type 0
+NewStep old ref text (refused UnknownType) new = (type_named ref text ≡ None) × Stays old new
+NewStep old ref text (refused NameTaken) new = (type_named ref text ≢ None) × (old.object ref.name ≢ None) × Stays old new
+NewStep old ref text (refused ObjectsFull) new = (type_named ref text ≢ None) × (old.object ref.name ≡ None) × (most_objects ≤ old.count) × Stays old new
+NewStep old ref text done new = (of : ObjectType) × (type_named ref text ≡ Some of) × (old.object ref.name ≡ None) × (old.count < most_objects) × Gains ref.name (empty_object of) old new
+NewStep old ref text reply new = ⊥
+
+pub data Given : Type 0 where
+  no_json : Given
+  faulty : ValueFail → Given
+  value : PropertyValue → Given
+
+abbrev pub given_of : Result PropertyValue ValueFail → Given
+given_of (Ok v) = value v
+given_of (Err e) = faulty e
+
+abbrev pub given_by : PropId → Option Data → Given
+given_by p None = no_json
+given_by p (Some d) = given_of (reading p d)
+
+-- The object takes the value that the text gives, unless the first of these holds: it is held, the object is sealed, the text is no JSON, a fault of the value in reading order, its columns differ, a row fails its test.
+abbrev pub TakeValue : State → PropId → Given → Option Refusal → Option PropertyValue → Type 0
+TakeValue o p g (Some AlreadyHeld) v = is_held p o.held ≡ true
+TakeValue o p g (Some Sealed) v = (is_held p o.held ≡ false) × (is_sealed o ≡ true)
+TakeValue o p no_json (Some (BadValue value_why.Json)) v = (is_held p o.held ≡ false) × (is_sealed o ≡ false)
+TakeValue o p (faulty e) (Some (BadValue why)) v = (is_held p o.held ≡ false) × (is_sealed o ≡ false) × (why_of e ≡ Some why)
+TakeValue o p (value w) (Some (BadValue value_why.Columns)) v = take_refusal o p w ≡ Some fail.Columns
+TakeValue o p (value w) (Some (BadValue value_why.Row)) v = take_refusal o p w ≡ Some fail.NotAThing
+TakeValue o p (value w) None v = (v ≡ Some w) × (take_refusal o p w ≡ None)
+TakeValue o p g why v = ⊥
+
+abbrev pub given_value : PropId → PropertyValue → HeldValue
+given_value p v = record { property = p; value = v; origin = Given' }
+
+-- what taking does to the object: it takes the value, or it stays and there is a reason
+abbrev pub Taken : State → PropId → Given → Option Refusal → State → Type 0
+Taken o p g (Some why) new = TakeValue o p g (Some why) None × (new ≡ o)
+Taken o p g None new = (v : PropertyValue) × TakeValue o p g None (Some v) × (new ≡ with_held o (given_value p v ∷ []))
+
+-- the value is not taken for this reason
+abbrev pub TakeRefuses : Machine → RefSeen → List ℕ → List ℕ → Refusal → Machine → Type 0
+TakeRefuses old ref text json why new = (o : State) × (object_at old ref ≡ Some o) × (p : PropId) × (property_named o.of text ≡ Some p)
+    × TakeValue o p (given_by p (read json)) (Some why) None × Stays old new
+
+-- `take REF PROP JSON`
+abbrev pub TakeStep : Machine → RefSeen → List ℕ → List ℕ → ReplySeen → Machine → Type 0
+TakeStep old ref text json (refused UnknownName) new = (object_at old ref ≡ None) × Stays old new
+TakeStep old ref text json (refused UnknownProperty) new = (o : State) × (object_at old ref ≡ Some o) × (property_named o.of text ≡ None) × Stays old new
+TakeStep old ref text json (refused AlreadyHeld) new = TakeRefuses old ref text json AlreadyHeld new
+TakeStep old ref text json (refused Sealed) new = TakeRefuses old ref text json Sealed new
+TakeStep old ref text json (refused (BadValue why)) new = TakeRefuses old ref text json (BadValue why) new
+TakeStep old ref text json done new = (o : State) × (object_at old ref ≡ Some o) × (p : PropId) × (property_named o.of text ≡ Some p)
+    × (v : PropertyValue) × TakeValue o p (given_by p (read json)) None (Some v) × Becomes ref.name (with_held o (given_value p v ∷ [])) [] old new
+TakeStep old ref text json reply new = ⊥
+
+-- `give REF PROP`
+abbrev pub GiveStep : List Rule → Machine → RefSeen → List ℕ → ReplySeen → Machine → Type 0
+GiveStep book old ref text (refused UnknownName) new = (object_at old ref ≡ None) × Stays old new
+GiveStep book old ref text (refused UnknownProperty) new = (o : State) × (object_at old ref ≡ Some o) × (property_named o.of text ≡ None) × Stays old new
+GiveStep book old ref text (refused NoChain) new = (o : State) × (object_at old ref ≡ Some o) × (p : PropId) × (property_named o.of text ≡ Some p)
+    × (o' : State) × (started : List Kind) × Ensures book old.clients (only p) no_chain o o' started × Becomes ref.name o' started old new
+GiveStep book old ref text (shows name of p v) new = (o : State) × (object_at old ref ≡ Some o) × (property_named o.of text ≡ Some p) × (name ≡ ref.name) × (of ≡ o.of)
+    × (o' : State) × (started : List Kind) × Ensures book old.clients (only p) found o o' started × Becomes ref.name o' started old new × (value_of p o'.held ≡ Some v)
+GiveStep book old ref text reply new = ⊥
+
+-- `lookup REF PROP`
+abbrev pub LookupStep : Machine → RefSeen → List ℕ → ReplySeen → Machine → Type 0
+LookupStep old ref text (refused UnknownName) new = (object_at old ref ≡ None) × Stays old new
+LookupStep old ref text (refused UnknownProperty) new = (o : State) × (object_at old ref ≡ Some o) × (property_named o.of text ≡ None) × Stays old new
+LookupStep old ref text undef new = (o : State) × (object_at old ref ≡ Some o) × (p : PropId) × (property_named o.of text ≡ Some p) × (value_of p o.held ≡ None) × Stays old new
+LookupStep old ref text (shows name of p v) new = (o : State) × (object_at old ref ≡ Some o) × (property_named o.of text ≡ Some p) × (name ≡ ref.name) × (of ≡ o.of)
+    × (value_of p o.held ≡ Some v) × Stays old new
+LookupStep old ref text reply new = ⊥
+
+abbrev pub Step : List Rule → Machine → Spoken → ReplySeen → Machine → Type 0
+Step book old blank reply new = ⊥
+Step book old (new_object ref text) reply new = NewStep old ref text reply new
+Step book old (take_value ref text json) reply new = TakeStep old ref text json reply new
+Step book old (give_value ref text) reply new = GiveStep book old ref text reply new
+Step book old (look_up ref text) reply new = LookupStep old ref text reply new
+
+pub record AllKept (m : Machine) : Type 0 where
+  pub each : (q : List ℕ) → IfSome (m.object q) IsKept

@@ -1,0 +1,178 @@
+// Rules on an object: which are barred, and which chain is least.
+
+ghost use Rattle.pm_client.specs.Starts.{has_client};
+ghost use Rattle.pm_machine.specs.Chains.{AreBarred, HasNoChainSo, IsLeastSo, Serves, is_barred_on, is_truth, is_wrong, table};
+ghost use Rattle.pm_machine.specs.Best.{BestBefore, better, cost_of};
+ghost use Rattle.pm_object.specs.State.{value_of};
+ghost use Rattle.pm_rules.specs.Books.{most_rules};
+ghost use Rattle.pm_types.specs.Properties.{has as has_in};
+ghost use Rattle.pm_types.specs.Sets.{set_of};
+ghost use Rattle.pm_types.specs.declared.property.PropId.{PropId};
+ghost use Rattle.std.specs.List.{list_any};
+ghost use Rattle.std.specs.Prelude.{IfNone, IfOk, IfSome, IsTrue, [], filter, length, map, nat_eq, ◌≡◌, ◌≤◌, ◌↔◌, ◌∷◌};
+
+use pm_client::{Client, place_of};
+use pm_geom::ObjectType;
+use pm_object::{Excluded, Object};
+use pm_rules::Rule;
+use pm_types::{Cost, PropId, PropSet, RuleId, Value};
+use std::alloc::{AllocError, Global};
+
+/// The names in use for an object of a type.
+pub fn table(of: ObjectType) -> PropSet
+    ensures { result ≡ table of }
+{
+    names_in(of, &PropId::every())
+}
+
+// Those of the properties that the table of the type has.
+fn names_in(of: ObjectType, properties: &[PropId]) -> PropSet
+    ensures { result ≡ set_of (filter (has_in of) properties.now) }
+{
+    let mut names = PropSet::empty();
+    for p in properties {
+        if p.is_in(of) {
+            names = names.with(*p);
+        }
+    }
+    names
+}
+
+// Whether the property is held with this truth value.
+fn is_held_as(object: &Object, p: PropId, b: bool) -> bool
+    ensures { result ≡ is_truth b (value_of p object.now.held) }
+{
+    match object.lookup(p) {
+        Some(Value::Bool(c)) => *c == b,
+        Some(Value::Mat(_)) => false,
+        Some(Value::Sets(_)) => false,
+        Some(Value::Int(_)) => false,
+        None => false,
+    }
+}
+
+// Whether a precondition of the rule is held with the wrong value.
+fn is_wrong(rule: &Rule, object: &Object, p: PropId) -> bool
+    ensures { result ≡ is_wrong rule.now object.now.held p }
+{
+    (rule.must.contains(p) & is_held_as(object, p, false))
+        | (rule.must_not.contains(p) & is_held_as(object, p, true))
+}
+
+// Whether one of these preconditions is held with the wrong value.
+fn some_is_wrong(rule: &Rule, object: &Object, properties: &[PropId]) -> bool
+    ensures { result ≡ list_any (is_wrong rule.now object.now.held) properties.now }
+{
+    properties.iter().any(|p| is_wrong(rule, object, *p))
+}
+
+// Whether the rule of this number was excluded.
+fn is_excluded(excluded: &[Excluded], id: RuleId) -> bool
+    ensures { result ≡ list_any (λ e. nat_eq e.rule.0 id.0) excluded.now }
+{
+    excluded.iter().any(|e| e.rule.0 == id.0)
+}
+
+// Whether the rule of this number is barred on the object.
+fn is_barred_on(clients: &[Box<dyn Client>], object: &Object, id: RuleId, rule: &Rule) -> bool
+    ensures { result ≡ is_barred_on (map (λ b. (kind_of b, starts_of b)) clients.now) object.now id rule.now }
+{
+    is_excluded(object.excluded(), id)
+        | some_is_wrong(rule, object, &PropId::every())
+        | object.is_disabled(rule.label.as_str())
+        | place_of(clients, rule.kind).is_none()
+}
+
+/// The rules of the book that are barred on the object.
+pub fn barred_rules(
+    alloc: Global,
+    rules: &[Rule],
+    clients: &[Box<dyn Client>],
+    object: &Object,
+) -> Result<Vec<RuleId>, AllocError>
+    requires { length rules.now ≤ most_rules }
+    ensures { IfOk result (λ v. AreBarred rules.now (map (λ b. (kind_of b, starts_of b)) clients.now) object.now v.items) }
+{
+    let mut barred = Vec::new(alloc);
+    for (i, rule) in rules.iter().enumerate() {
+        let id = RuleId(i as u16);
+        if is_barred_on(clients, object, id, rule) {
+            barred.push(id)?;
+        }
+    }
+    Ok(barred)
+}
+
+/// What a chain goes from and to: the names in use, the barred rules, the names held and those asked.
+#[derive(Clone, Copy)]
+pub struct Search<'a> {
+    pub names: PropSet,
+    pub barred: &'a [RuleId],
+    pub held: PropSet,
+    pub asked: PropSet,
+}
+
+// A rule that serves, and what it costs.
+#[derive(Clone, Copy)]
+struct Best {
+    id: RuleId,
+    cost: Cost,
+}
+
+/// What a chain of this rule alone costs.
+pub fn cost_of(rule: &Rule) -> Cost
+    ensures { result ≡ cost_of rule.now }
+{
+    Cost {
+        class: u64::from(rule.weight.class),
+        minor: u64::from(rule.weight.minor),
+    }
+}
+
+// The cheaper of both, the first where they cost the same.
+fn better(best: Option<Best>, new: Best) -> Best
+    ensures { result ≡ better best new }
+{
+    match best {
+        Some(old) if old.cost.is_at_most(new.cost) => old,
+        _ => new,
+    }
+}
+
+impl<'a> Search<'a> {
+    // Whether the rule alone leads from the held names to the asked ones.
+    fn is_served(&self, id: RuleId, rule: &Rule) -> bool
+        ensures { IsTrue result ↔ Serves self.now.names self.now.barred.now self.now.held self.now.asked id rule.now }
+    {
+        rule.is_enabled(self.names, self.barred, self.held, id)
+            & self.asked.is_subset(self.held.union(rule.kind.targets))
+    }
+
+    // The best of the rules.
+    fn best(&self, rules: &[Rule]) -> Option<Best>
+        requires { length rules.now ≤ most_rules }
+        ensures { BestBefore rules.now self.now.names self.now.barred.now self.now.held self.now.asked (length rules.now) result }
+    {
+        let mut best = None;
+        for (i, rule) in rules.iter().enumerate() {
+            let id = RuleId(i as u16);
+            if self.is_served(id, rule) {
+                let cost = cost_of(rule);
+                best = Some(better(best, Best { id, cost }));
+            }
+        }
+        best
+    }
+
+    /// The rule of least weight that alone leads from the held names to the asked ones; None exactly where none does.
+    pub fn best_rule(&self, rules: &[Rule]) -> Option<RuleId>
+        requires { length rules.now ≤ most_rules }
+        ensures some { IfSome result (λ id. IsLeastSo rules.now self.now.names self.now.barred.now self.now.held self.now.asked (id ∷ [])) }
+        ensures none { IfNone result (HasNoChainSo rules.now self.now.names self.now.barred.now self.now.held self.now.asked) }
+    {
+        match self.best(rules) {
+            Some(best) => Some(best.id),
+            None => None,
+        }
+    }
+}

@@ -1,0 +1,12 @@
+// The machine: a session of named objects, and its steps.
+#![tactic(auto)]
+
+mod chain;
+mod commit;
+mod laws;
+mod round;
+mod session;
+mod taking;
+
+pub use laws::law_steps_keep;
+pub use session::Session;

@@ -1,0 +1,297 @@
+// A session: named objects, the book, and its steps.
+
+ghost use Rattle.pm_client.specs.Starts.{Clients};
+ghost use Rattle.pm_machine.specs.Running.{KeepsKept};
+ghost use Rattle.pm_machine.specs.Sessions.{Gives, book_of, is_spent, machine_of};
+ghost use Rattle.pm_machine.specs.Steps.{AllKept, GiveStep, LookupStep, NewStep, Stays, Step, TakeStep, object_at, type_word};
+ghost use Rattle.pm_object.specs.State.{State};
+ghost use Rattle.pm_script.specs.Commands.{RefSeen, blank, seen_ref, spoken};
+ghost use Rattle.pm_script.specs.Replies.{seen, shows};
+ghost use Rattle.pm_types.specs.Views.{view_of};
+ghost use Rattle.std.specs.Option.{is_some, option_map};
+ghost use Rattle.std.specs.Prelude.{IfOk, List, None, OnErr, OnOk, Option, [], false, map, string_bytes, true, ℕ, ◌≡◌, ◌≢◌};
+
+use crate::round::ensure;
+use crate::taking::{property_named, take_text};
+use indexmap::IndexMap;
+use pm_client::Client;
+use pm_geom::ObjectType;
+use pm_object::Object;
+use pm_rules::Book;
+use pm_script::{Command, Ref, Refusal, Reply};
+use pm_types::{PropId, PropSet, Value};
+use std::alloc::{AllocError, Global};
+
+/// The greatest number of objects.
+pub const MOST_OBJECTS: usize = 32;
+
+/// Objects by name, in the order in which they came, and the book of rules.
+#[derive(Drop)]
+pub struct Session {
+    book: Book,
+    objects: IndexMap<String, Object>,
+    spent: bool,
+}
+
+// The reply that shows a value.
+fn show(
+    alloc: Global,
+    name: &str,
+    of: ObjectType,
+    prop: PropId,
+    v: &Value,
+) -> Result<Reply, AllocError>
+    ensures { IfOk result (λ r. seen r ≡ shows name.now of prop (view_of v.now)) }
+{
+    Ok(Reply::Value {
+        name: String::from_str(alloc, name)?,
+        of,
+        prop,
+        value: v.copy(alloc)?,
+    })
+}
+
+// The type of a new object; a part of an object is of none.
+fn type_named(is_part: bool, text: &str) -> Option<ObjectType>
+    ensures { (sub : Option (List ℕ)) → is_some sub ≡ is_part → result ≡ type_word sub text.now }
+{
+    if !is_part & (text == "Polytope") {
+        Some(ObjectType::Polytope)
+    } else {
+        None
+    }
+}
+
+// Ensures a property, and shows its value.
+fn give_value(
+    alloc: Global,
+    object: &mut Object,
+    book: &Book,
+    p: PropId,
+    name: &str,
+    clients: &mut Vec<Box<dyn Client>>,
+) -> Result<Reply, AllocError>
+    ensures gives { IfOk result (λ r. Gives book.now (map (λ b. (kind_of b, starts_of b)) clients.old.items) (map (λ b. (kind_of b, starts_of b)) clients.new.items) name.now p object.old object.new (seen r)) }
+    ensures err { OnErr result (KeepsKept object.old object.new) }
+{
+    let of = object.of();
+    if !ensure(alloc, object, book, PropSet::of(p), clients)? {
+        return Ok(Reply::Refused {
+            why: Refusal::NoChain,
+        });
+    }
+    let Some(v) = object.lookup(p) else {
+        unreachable!()
+    };
+    show(alloc, name, of, p, v)
+}
+
+impl Session {
+    /// A session without objects.
+    pub fn new(alloc: Global, book: Book) -> Session
+        ensures book { book_of result ≡ book }
+        ensures none { (q : List ℕ) → (machine_of result []).object q ≡ None }
+        ensures count { (machine_of result []).count ≡ 0 }
+        ensures ready { is_spent result ≡ false }
+    {
+        Session {
+            book,
+            objects: IndexMap::new(alloc),
+            spent: false,
+        }
+    }
+
+    /// The object of a name.
+    pub fn object(&self, name: &str) -> Option<&Object>
+        ensures { option_map (λ o. o.now) result ≡ (machine_of self.now []).object name.now }
+    {
+        self.objects.get(name)
+    }
+
+    // The object that a REF names; so far no object has parts.
+    fn find(&self, obj: &Ref) -> Option<&Object>
+        ensures { option_map (λ o. o.now) result ≡ object_at (machine_of self.now []) (seen_ref obj.now) }
+    {
+        match &obj.sub {
+            Some(_) => None,
+            None => self.objects.get(obj.name.as_str()),
+        }
+    }
+
+    // `lookup REF PROP`
+    fn do_lookup(
+        &self,
+        alloc: Global,
+        obj: &Ref,
+        prop: &str,
+        clients: &[Box<dyn Client>],
+    ) -> Result<Reply, AllocError>
+        ensures { IfOk result (λ r. LookupStep (machine_of self.now (map (λ b. (kind_of b, starts_of b)) clients.now)) (seen_ref obj.now) prop.now (seen r) (machine_of self.now (map (λ b. (kind_of b, starts_of b)) clients.now))) }
+    {
+        let Some(object) = self.find(obj) else {
+            return Ok(Reply::Refused {
+                why: Refusal::UnknownName,
+            });
+        };
+        let Some(p) = property_named(object.of(), prop) else {
+            return Ok(Reply::Refused {
+                why: Refusal::UnknownProperty,
+            });
+        };
+        match object.lookup(p) {
+            Some(v) => show(alloc, obj.name.as_str(), object.of(), p, v),
+            None => Ok(Reply::Undef),
+        }
+    }
+
+    // `new REF TYPE`
+    fn do_new(
+        &mut self,
+        alloc: Global,
+        name: String,
+        sub: Option<String>,
+        of: &str,
+        clients: &[Box<dyn Client>],
+    ) -> Result<Reply, AllocError>
+        ensures step { IfOk result (λ r. NewStep (machine_of self.old (map (λ b. (kind_of b, starts_of b)) clients.now)) (record { name = string_bytes name; sub = option_map string_bytes sub }) of.now (seen r) (machine_of self.new (map (λ b. (kind_of b, starts_of b)) clients.now))) }
+        ensures err { OnErr result ((q : List ℕ) → (machine_of self.new []).object q ≡ (machine_of self.old []).object q) }
+        ensures book { book_of self.new ≡ book_of self.old }
+        ensures spent { is_spent self.new ≡ is_spent self.old }
+    {
+        let Some(of) = type_named(sub.is_some(), of) else {
+            return Ok(Reply::Refused {
+                why: Refusal::UnknownType,
+            });
+        };
+        if self.objects.get(&name).is_some() {
+            return Ok(Reply::Refused {
+                why: Refusal::NameTaken,
+            });
+        }
+        if self.objects.len() >= MOST_OBJECTS {
+            return Ok(Reply::Refused {
+                why: Refusal::ObjectsFull,
+            });
+        }
+        self.objects.insert(name, Object::new(alloc, of))?;
+        Ok(Reply::Done)
+    }
+
+    // `take REF PROP JSON`
+    fn do_take(
+        &mut self,
+        alloc: Global,
+        obj: &Ref,
+        prop: &str,
+        json: &str,
+        clients: &[Box<dyn Client>],
+    ) -> Result<Reply, AllocError>
+        ensures step { IfOk result (λ r. TakeStep (machine_of self.old (map (λ b. (kind_of b, starts_of b)) clients.now)) (seen_ref obj.now) prop.now json.now (seen r) (machine_of self.new (map (λ b. (kind_of b, starts_of b)) clients.now))) }
+        ensures err { OnErr result ((q : List ℕ) → (machine_of self.new []).object q ≡ (machine_of self.old []).object q) }
+        ensures book { book_of self.new ≡ book_of self.old }
+        ensures spent { is_spent self.new ≡ is_spent self.old }
+    {
+        if obj.sub.is_some() {
+            return Ok(Reply::Refused {
+                why: Refusal::UnknownName,
+            });
+        }
+        let Some(object) = self.objects.get_mut(obj.name.as_str()) else {
+            return Ok(Reply::Refused {
+                why: Refusal::UnknownName,
+            });
+        };
+        let Some(p) = property_named(object.of(), prop) else {
+            return Ok(Reply::Refused {
+                why: Refusal::UnknownProperty,
+            });
+        };
+        match take_text(alloc, object, p, json)? {
+            Some(why) => Ok(Reply::Refused { why }),
+            None => Ok(Reply::Done),
+        }
+    }
+
+    // `give REF PROP`
+    fn do_give(
+        &mut self,
+        alloc: Global,
+        obj: &Ref,
+        prop: &str,
+        clients: &mut Vec<Box<dyn Client>>,
+    ) -> Result<Reply, AllocError>
+        ensures step { IfOk result (λ r. GiveStep (book_of self.old) (machine_of self.old (map (λ b. (kind_of b, starts_of b)) clients.old.items)) (seen_ref obj.now) prop.now (seen r) (machine_of self.new (map (λ b. (kind_of b, starts_of b)) clients.new.items))) }
+        ensures kept { OnErr result (AllKept (machine_of self.old []) → AllKept (machine_of self.new [])) }
+        ensures book { book_of self.new ≡ book_of self.old }
+        ensures spent { is_spent self.new ≡ is_spent self.old }
+    {
+        if obj.sub.is_some() {
+            return Ok(Reply::Refused {
+                why: Refusal::UnknownName,
+            });
+        }
+        let Some(object) = self.objects.get_mut(obj.name.as_str()) else {
+            return Ok(Reply::Refused {
+                why: Refusal::UnknownName,
+            });
+        };
+        let Some(p) = property_named(object.of(), prop) else {
+            return Ok(Reply::Refused {
+                why: Refusal::UnknownProperty,
+            });
+        };
+        give_value(alloc, object, &self.book, p, obj.name.as_str(), clients)
+    }
+
+    // The command's own step.
+    fn do_step(
+        &mut self,
+        alloc: Global,
+        c: Command,
+        clients: &mut Vec<Box<dyn Client>>,
+    ) -> Result<Reply, AllocError>
+        requires spoken { spoken c ≢ blank }
+        ensures step { IfOk result (λ r. Step (book_of self.old) (machine_of self.old (map (λ b. (kind_of b, starts_of b)) clients.old.items)) (spoken c) (seen r)
+            (machine_of self.new (map (λ b. (kind_of b, starts_of b)) clients.new.items))) }
+        ensures kept { OnErr result (AllKept (machine_of self.old []) → AllKept (machine_of self.new [])) }
+        ensures book { book_of self.new ≡ book_of self.old }
+        ensures spent { is_spent self.new ≡ is_spent self.old }
+    {
+        match c {
+            Command::Blank => unreachable!(),
+            Command::New { obj, of } => self.do_new(alloc, obj.name, obj.sub, &of, clients),
+            Command::Take { obj, prop, json } => self.do_take(alloc, &obj, &prop, &json, clients),
+            Command::Give { obj, prop } => self.do_give(alloc, &obj, &prop, clients),
+            Command::Lookup { obj, prop } => self.do_lookup(alloc, &obj, &prop, clients),
+        }
+    }
+
+    /// One step of the machine. After want of memory the session answers nothing else, and changes nothing.
+    pub fn step(
+        &mut self,
+        alloc: Global,
+        c: Command,
+        clients: &mut Vec<Box<dyn Client>>,
+    ) -> Result<Reply, AllocError>
+        requires spoken { spoken c ≢ blank }
+        ensures step { IfOk result (λ r. Step (book_of self.old) (machine_of self.old (map (λ b. (kind_of b, starts_of b)) clients.old.items)) (spoken c) (seen r)
+            (machine_of self.new (map (λ b. (kind_of b, starts_of b)) clients.new.items))) }
+        ensures kept { AllKept (machine_of self.old (map (λ b. (kind_of b, starts_of b)) clients.old.items)) → AllKept (machine_of self.new (map (λ b. (kind_of b, starts_of b)) clients.new.items)) }
+        ensures book { book_of self.new ≡ book_of self.old }
+        ensures ready { OnOk result (is_spent self.old ≡ false) }
+        ensures still { OnOk result (is_spent self.new ≡ false) }
+        ensures spent { OnErr result (is_spent self.new ≡ true) }
+        ensures nothing { is_spent self.old ≡ true → Stays (machine_of self.old (map (λ b. (kind_of b, starts_of b)) clients.old.items)) (machine_of self.new (map (λ b. (kind_of b, starts_of b)) clients.new.items)) }
+    {
+        if self.spent {
+            return Err(AllocError);
+        }
+        match self.do_step(alloc, c, clients) {
+            Ok(reply) => Ok(reply),
+            Err(e) => {
+                self.spent = true;
+                Err(e)
+            }
+        }
+    }
+}

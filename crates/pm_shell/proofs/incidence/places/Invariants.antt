@@ -1,7 +1,0 @@
--- The places of the vertices that are left follow those found.
-use Rattle.std.proofs.Common.{◌≡◌, ◌++◌, drop}
-use Rattle.pm_shell.specs.Incidence.{places_from}
-use Rattle.pm_shell.proofs.incidence.places.Given as goal
-
-abbrev pub invariant-loop-j : goal.invariant-loop-j
-invariant-loop-j l = places_from 0 l.facet l.vertices ≡ l.places.items ++ places_from l.j l.facet (drop l.j l.vertices)
