@@ -13,3 +13,7 @@ pub mod Square
 pub mod SmallThings
 pub mod Incidence
 pub mod Refusals
+pub mod Spans
+pub mod Lineality
+pub mod Independent
+pub mod Dimension

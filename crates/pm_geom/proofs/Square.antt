@@ -42,7 +42,7 @@ midpoint e =
     apart (triple 2 1 1 ∷ []) [] (negsuc 0 ∷ pos 1 ∷ pos 1 ∷ []) (triple 1 0 0) tt tt tt (on_row 3 square [] square_cols tt (triple 1 0 0) tt tt (triple 2 1 1) (triple 1 0 0) t)
 
 -- the cone of the square is pointed
-pointed : (x : Row) → length x ≡ 3 → InLineality (InCone square []) x ↔ InCone [] [] x
+pub pointed : (x : Row) → length x ≡ 3 → InLineality (InCone square []) x ↔ InCone [] [] x
 pointed x l = (
   lineality_spanned 3 square [] square_cols tt (triple 1 0 0) tt tt x l,
   λ h. record { inside = in_of square [] [] (λ g i. elim i [ ]) h; opposed = in_of square [] [] (λ g i. elim i [ ]) (lines_opposite [] x h) },

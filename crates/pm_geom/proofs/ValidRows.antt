@@ -15,7 +15,7 @@ use Rattle.std.specs.Prelude.{List, [], length, ℕ, ◌↔◌, ◌∷◌, ◌�
 use lib.IntN.{pos, ℤ}
 
 -- a row that is 0 on the generators and the lines is 0 on the cone
-null_in : (a : Row) (G L : List Row) → ((g : Row) → Among g G → dot a g ≡ pos 0) → ((l : Row) → Among l L → dot a l ≡ pos 0) → {x : Row} → InCone G L x → dot a x ≡ pos 0
+pub null_in : (a : Row) (G L : List Row) → ((g : Row) → Among g G → dot a g ≡ pos 0) → ((l : Row) → Among l L → dot a l ≡ pos 0) → {x : Row} → InCone G L x → dot a x ≡ pos 0
 null_in a G L f e h =
     let p = dot_in a G L (λ g i. let q = f g i in omega (arith, ints)) e h in
     let r = rw opposite-dot at (dot_in (opposite a) G L (λ g i. let q = f g i in rw opposite-dot (omega (arith, ints))) (λ l i. let q = e l i in rw opposite-dot (omega (arith, ints))) h) in

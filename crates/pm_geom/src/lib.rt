@@ -2,7 +2,7 @@
 #![tactic(auto)]
 
 ghost use Rattle.pm_geom.specs.Examples.{EmptyIsRead, HalfLineIsRead, IsRefused, LineIsRead, SquareIsRead};
-ghost use Rattle.pm_geom.specs.Laws.{Bipolar, CutIsGenerated, ExtremesGenerate, FaceOfFacets, FacetRowsCutOut, Farkas, GeneratedIsCut, MembershipDecided, OrderGenerates};
+ghost use Rattle.pm_geom.specs.Laws.{Bipolar, CutIsGenerated, ExtremesGenerate, FaceOfFacets, FacetOrderCutsOut, FacetRowsCutOut, Farkas, GeneratedIsCut, GeneratorsSpan, LinealityIsNull, MembershipDecided, NotZeroByRank, OrderGenerates, OrderSpans, RankExists, RankIsLeft, SpanIsDifferences, VanishingIsNull};
 ghost use Rattle.std.specs.Prelude.{ℕ};
 
 mod evidence;
@@ -60,6 +60,51 @@ pub fn law_order_generates()
 /// There is an order of the facet rows, and with the rows that vanish it cuts out the cone.
 pub fn law_facet_rows_cut_out()
     ensures { FacetRowsCutOut }
+{}
+
+/// The span of a cone is the rows that are differences of two of its rows.
+pub fn law_span_is_differences()
+    ensures { SpanIsDifferences }
+{}
+
+/// Rows that generate a cone have its span.
+pub fn law_generators_span()
+    ensures { GeneratorsSpan }
+{}
+
+/// Any order of the extreme rays, with any rows that span the lineality, has the span of the cone.
+pub fn law_order_spans()
+    ensures { OrderSpans }
+{}
+
+/// A row vanishes on a cone exactly where it has product 0 with rows that span the cone's span.
+pub fn law_vanishing_is_null()
+    ensures { VanishingIsNull }
+{}
+
+/// Any order of the facet rows, with any rows that span those that vanish, generates the valid rows and cuts out the cone.
+pub fn law_facet_order_cuts_out()
+    ensures { FacetOrderCutsOut }
+{}
+
+/// A row is in the lineality exactly where it has product 0 with the facet rows and with the rows that vanish.
+pub fn law_lineality_is_null()
+    ensures { LinealityIsNull }
+{}
+
+/// Rows of one length have a rank (Hoffman and Kunze, section 2.3).
+pub fn law_rank_exists()
+    ensures { RankExists }
+{}
+
+/// The dimensions of a cone's span and of the rows that vanish on it add up to the number of columns (Hoffman and Kunze, section 3.1).
+pub fn law_rank_is_left()
+    ensures { RankIsLeft }
+{}
+
+/// A cone is not {0} exactly where the dimension of its span is not 0.
+pub fn law_not_zero_by_rank()
+    ensures { NotZeroByRank }
 {}
 
 /// The definitions read on the unit square: its vertices and edges, a midpoint, a sum of two edges' rows, and a list that lacks a vertex.

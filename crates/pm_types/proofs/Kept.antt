@@ -13,7 +13,7 @@ use Rattle.pm_types.specs.Sets.{has, members}
 use Rattle.pm_types.specs.Values.{Fact, PropertyValue, matrix, truth}
 use Rattle.pm_types.specs.declared.kind.Kind.{Kind}
 use Rattle.pm_types.specs.declared.property.PropId.{PropId}
-use Rattle.pm_types.specs.declared.property.PropId.TheVariants.{Points, InputLineality, Inequalities, Equations, Feasible, Bounded, Pointed, Centered}
+use Rattle.pm_types.specs.declared.property.PropId.TheVariants.{Points, InputLineality, Inequalities, Equations, Feasible, Bounded, Pointed, FullDim, Centered}
 use Rattle.std.proofs.Common.{ap, arith, false, inl, inr, refl, subst, sym, true, true≢false, ◌∙◌}
 use Rattle.std.specs.List.{Contains, list_any}
 use Rattle.std.specs.Option.{is_some}
@@ -209,6 +209,7 @@ module _ (of : ObjectType) (n : ℕ) (kind : Kind) (sub : Option ℕ) (held answ
           truth_alone Feasible b c r = r
           truth_alone Bounded b c r = r
           truth_alone Pointed b c r = r
+          truth_alone FullDim b c r = r
           truth_alone Centered b c r = r
           truth_alone p b c r = absurd r
 

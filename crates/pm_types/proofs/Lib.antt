@@ -10,3 +10,8 @@ pub mod Frame
 pub mod Numbers
 pub mod Kept
 pub mod Copies
+pub mod StandingSpans
+pub mod Spans
+pub mod Dimensions
+pub mod DimensionExamples
+pub mod Found

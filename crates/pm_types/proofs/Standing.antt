@@ -6,10 +6,11 @@ use Rattle.pm_algebra.specs.Numbers.{Ratio}
 use Rattle.pm_algebra.specs.Rows.{Row, Stands, dot, entry, ratio_at, times}
 use Rattle.pm_geom.specs.Faces.{ray}
 use Rattle.pm_types.specs.Right.{InOrder, StandFor}
+use Rattle.pm_types.specs.Views.{over_one, ratios}
 use Rattle.std.proofs.Common.{arith, ap, refl, sym, ◌∙◌}
 use Rattle.std.proofs.lemmas.Int.{ints}
 use Rattle.std.specs.List.{slice_index_or}
-use Rattle.std.specs.Prelude.{List, [], length, suc, zero, ℕ, ◌∷◌, ◌≡◌, ◌<◌, ◌≤◌}
+use Rattle.std.specs.Prelude.{List, [], length, map, suc, zero, ℕ, ◌∷◌, ◌≡◌, ◌<◌, ◌≤◌}
 use lib.IntN.{pos, ℤ, ◌*ℤ◌}
 use lib.Signed.{◌<ℤ◌}
 use native.Mathlib.Decide.{dec_lt}
@@ -80,3 +81,26 @@ in_order_at R [] (x ∷ xs) h j l = absurd h
 in_order_at R (v ∷ vs) [] h j l = absurd h
 in_order_at R (v ∷ vs) (x ∷ xs) h zero l = h.0
 in_order_at R (v ∷ vs) (x ∷ xs) h (suc j) l = in_order_at R vs xs h.1 j (omega arith)
+
+-- ---- whole numbers over 1
+ratio_at_ratios : (x : Row) (i : ℕ) → ratio_at (ratios x) i ≡ over_one (entry x i)
+ratio_at_ratios [] i = refl
+ratio_at_ratios (a ∷ x) zero = refl
+ratio_at_ratios (a ∷ x) (suc i) = ratio_at_ratios x i
+
+length_ratios : (x : Row) → length x ≡ length (ratios x)
+length_ratios [] = refl
+length_ratios (a ∷ x) = ap suc (length_ratios x)
+
+stands_ratios : (x : Row) → Stands (ratios x) x
+stands_ratios x = record {
+  m = pos 1;
+  positive = omega (arith, ints);
+  cols = length_ratios x;
+  denominators = λ i h. rw (ratio_at_ratios x i) (omega (arith, ints));
+  same = λ i h. rw (ratio_at_ratios x i) (omega (arith, ints));
+}
+
+pub stand_for_ratios : (X : List Row) → StandFor (map ratios X) X
+stand_for_ratios [] = tt
+stand_for_ratios (x ∷ X) = (stands_ratios x, stand_for_ratios X)

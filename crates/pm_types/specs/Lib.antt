@@ -11,3 +11,4 @@ pub mod Runs
 pub mod Views
 pub mod Forms
 pub mod Canonical
+pub mod Laws

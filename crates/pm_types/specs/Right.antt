@@ -5,6 +5,10 @@
 --     StandFor rows xs      each whole row of xs is a positive multiple of the row of fractions at its place
 --     InOrder R vs xs      as many, and R holds at each place
 --     IsBasis n S xs      independent rows of n entries that lie in S and span it
+--     IsConeDim t d      the generators and lines of a cone or polytope span a space of dimension d
+--     HasDimension n S d      some basis of the rows of n entries in S has d rows
+--     IsLinealityDim t d      the lineality has dimension d
+--     IsCombinatorialDim t k      k is the first less the second, less 1
 --     IsIncidence F V rows      row i holds exactly the places j with F_i.V_j = 0
 --     vanishing F v, tight V a      how many rows of F vanish on v, and on how many rows of V the row a vanishes
 --     Solves A E x      x has a non-negative product with each row of A, and the product 0 with each row of E
@@ -13,11 +17,12 @@
 --     RightTogether t x y      two facts that are the halves of one pair (POINTS with INPUT_LINEALITY, INEQUALITIES with EQUATIONS) describe the thing
 --     RightAll facts t o      t is a thing, o are orders of it, each fact is right and each two are right together
 -- A half alone is right where the pair's line would make it so: what generates lies inside, what cuts out is valid.
-use Rattle.std.specs.Prelude.{ℕ, zero, suc, ◌+◌, ◌≡◌, ◌<◌, ◌↔◌, IsTrue, Option, None, Some, List, [], ◌∷◌, length, map}
+use Rattle.std.specs.Prelude.{ℕ, zero, suc, ◌+◌, ◌≡◌, ◌<◌, ◌↔◌, IsTrue, Option, None, Some, List, [], ◌∷◌, ◌++◌, length, map}
 use Rattle.std.specs.List.{All, AllPairs, Contains}
 use Rattle.pm_algebra.specs.Numbers.{Ratio}
 use Rattle.pm_algebra.specs.Rows.{Row, entry, dot, HasCols, IsZero, Stands}
 use Rattle.pm_algebra.specs.Cones.{InCone, InSpan, IsIndependent}
+use Rattle.pm_bases.specs.Bases.{IsRank}
 use Rattle.pm_geom.specs.Cones.{CutOut, IsValid, Vanishes, InLineality, SameModulo}
 use Rattle.pm_geom.specs.Faces.{ray}
 use Rattle.pm_geom.specs.Things.{Thing, IsThing, Orders, AreOrders}
@@ -25,8 +30,8 @@ use Rattle.pm_geom.specs.declared.ObjectType.{ObjectType}
 use Rattle.pm_geom.specs.declared.ObjectType.TheVariants.{Polytope, Cone, Fan}
 use Rattle.pm_types.specs.Values.{PropertyValue, matrix, sets, whole, truth, counts, Fact}
 use Rattle.pm_types.specs.declared.property.PropId.{PropId}
-use Rattle.pm_types.specs.declared.property.PropId.TheVariants.{ConeAmbientDim, Points, InputLineality, Inequalities, Equations, Vertices, LinealitySpace, Facets, AffineHull, VerticesInFacets, NVertices, NFacets, Feasible, Bounded, Pointed, Centered, VertexSizes, FacetSizes, FarFace}
-use lib.IntN.{ℤ, pos}
+use Rattle.pm_types.specs.declared.property.PropId.TheVariants.{ConeAmbientDim, Points, InputLineality, Inequalities, Equations, Vertices, LinealitySpace, Facets, AffineHull, VerticesInFacets, ConeDim, LinealityDim, CombinatorialDim, NVertices, NFacets, Feasible, Bounded, Pointed, FullDim, Centered, VertexSizes, FacetSizes, FarFace}
+use lib.IntN.{ℤ, pos, ◌-ℤ◌}
 use lib.Signed.{◌<ℤ◌, ◌≤ℤ◌}
 
 abbrev pub InSet : Thing → Row → Type 0
@@ -68,6 +73,24 @@ pub record IsBasis (n : ℕ) (S : Row → Type 0) (xs : List Row) : Type 0 where
   pub inside : All S xs
   pub independent : IsIndependent xs
   pub spans : (x : Row) → length x ≡ n → S x → InSpan xs x
+
+abbrev pub IsConeDim : Thing → ℕ → Type 0
+IsConeDim t d = IsRank (t.generators ++ t.lines) d
+
+pub record HasDimension (n : ℕ) (S : Row → Type 0) (d : ℕ) : Type 0 where
+  pub rows : List Row
+  pub basis : IsBasis n S rows
+  pub as_many : length rows ≡ d
+
+abbrev pub IsLinealityDim : Thing → ℕ → Type 0
+IsLinealityDim t d = HasDimension t.cols (InLines t) d
+
+pub record IsCombinatorialDim (t : Thing) (k : ℤ) : Type 0 where
+  pub cone : ℕ
+  pub lineality : ℕ
+  pub is_cone : IsConeDim t cone
+  pub is_lineality : IsLinealityDim t lineality
+  pub less : k ≡ pos cone -ℤ pos lineality -ℤ pos 1
 
 abbrev pub IsIncidence : List Row → List Row → List (List ℕ) → Type 0
 IsIncidence [] V [] = Unit {0}
@@ -146,11 +169,15 @@ Right LinealitySpace (matrix n rows) t o c = RowsAreBasis t (InLines t) rows
 Right Facets (matrix n rows) t o c = RowsAreInOrder t (SameFacet t) o.facets rows
 Right AffineHull (matrix n rows) t o c = RowsAreBasis t (Vanishes t.cols t.generators t.lines) rows
 Right VerticesInFacets (sets rows n) t o c = (n ≡ length o.rays) × IsIncidence o.facets o.rays rows
+Right ConeDim (whole k) t o c = (d : ℕ) × (k ≡ pos d) × IsConeDim t d
+Right LinealityDim (whole k) t o c = (d : ℕ) × (k ≡ pos d) × IsLinealityDim t d
+Right CombinatorialDim (whole k) t o c = IsCombinatorialDim t k
 Right NVertices (whole k) t o c = (p : Orders) → AreOrders t p → k ≡ pos (length p.rays)
 Right NFacets (whole k) t o c = (p : Orders) → AreOrders t p → k ≡ pos (length p.facets)
 Right Feasible (truth b) t o c = IsTrue b ↔ ((x : Row) × (length x ≡ t.cols) × InSet t x × ¬ (IsZero x))
 Right Bounded (truth b) t o c = IsTrue b ↔ ((x : Row) → length x ≡ t.cols → InSet t x → entry x 0 ≡ pos 0 → IsZero x)
 Right Pointed (truth b) t o c = IsTrue b ↔ ((x : Row) → length x ≡ t.cols → InLines t x → IsZero x)
+Right FullDim (truth b) t o c = IsTrue b ↔ IsConeDim t t.cols
 Right Centered (truth b) t o c = IsTrue b ↔ IsCentered t
 Right VertexSizes (counts ks) t o c = (p : Orders) → AreOrders t p → ks ≡ map (λ v. pos (vanishing p.facets v)) o.rays
 Right FacetSizes (counts ks) t o c = (p : Orders) → AreOrders t p → ks ≡ map (λ a. pos (tight p.rays a)) o.facets
