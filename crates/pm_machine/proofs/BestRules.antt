@@ -1,6 +1,6 @@
 -- The best rule, and the least chain of one rule.
 use Rattle.pm_machine.specs.Best.{BestBefore, IsBest, at_most, better, cost_of}
-use Rattle.pm_machine.specs.Chains.{HasNoChainSo, IsLeastSo, LeadsSo, Serves}
+use Rattle.pm_machine.specs.Chains.{HasNoChainByOne, IsLeastByOne, LeadsByOne, Serves}
 use Rattle.pm_machine.specs.declared.chain.Best.{Best}
 use Rattle.pm_rules.specs.Chains.{LeadsTo, reached, targets_at, weigh, weight_at}
 use Rattle.pm_rules.specs.Rules.{IsEnabled, rule_at}
@@ -131,18 +131,18 @@ module _ (book : List Rule) (names : PropSet) (barred : List RuleId) (held asked
       plain : (w : Weight) → cost_and w ≡ cost_at w
       plain w = cost_is (0 + w.class) (0 + w.minor) w.class w.minor (omega arith) (omega arith)
 
-  leads_from : (id : RuleId) (rule : Rule) → rule_at book id ≡ Some rule → ServesAt id rule → LeadsSo book names barred held asked (id ∷ [])
+  leads_from : (id : RuleId) (rule : Rule) → rule_at book id ≡ Some rule → ServesAt id rule → LeadsByOne book names barred held asked (id ∷ [])
   leads_from id rule e s = (record { enabled = (rule, e, s.enabled, tt); ends = subst (λ z. IsSubset asked z) (sym (one_reached id rule e)) s.ends }, refl)
 
   -- a chain of one rule is a rule that serves
-  leads_to : (chain : List RuleId) → LeadsSo book names barred held asked chain → (id : RuleId) × (rule : Rule) × (chain ≡ id ∷ []) × (rule_at book id ≡ Some rule) × ServesAt id rule
+  leads_to : (chain : List RuleId) → LeadsByOne book names barred held asked chain → (id : RuleId) × (rule : Rule) × (chain ≡ id ∷ []) × (rule_at book id ≡ Some rule) × ServesAt id rule
   leads_to [] (l, n) = absurd (omega arith)
   leads_to (id ∷ []) (l, n) =
       let (rule, e, enabled, rest) = l.enabled in
       (id, rule, refl, e, record { enabled = enabled; ends = subst (λ z. IsSubset asked z) (one_reached id rule e) l.ends })
   leads_to (id ∷ next ∷ rest) (l, n) = absurd (omega arith)
 
-  pub least_is : (best : Best) → IsBest book names barred held asked (length book) best → IsLeastSo book names barred held asked (best.id ∷ [])
+  pub least_is : (best : Best) → IsBest book names barred held asked (length book) best → IsLeastByOne book names barred held asked (best.id ∷ [])
   least_is best b = record {
     leads = leads_from best.id b.rule b.is_rule b.serves;
     least = λ other l.
@@ -153,5 +153,5 @@ module _ (book : List Rule) (names : PropSet) (barred : List RuleId) (held asked
         (subst (λ z. IsAtMost z (cost_of rule)) b.cost (b.least id rule (slice_get_within book id.0 rule at) at serves))));
   }
 
-  pub none_leads : BestBefore book names barred held asked (length book) None → HasNoChainSo book names barred held asked
+  pub none_leads : BestBefore book names barred held asked (length book) None → HasNoChainByOne book names barred held asked
   none_leads b chain l = let (id, rule, is, at, serves) = leads_to chain l in b id rule (slice_get_within book id.0 rule at) at serves

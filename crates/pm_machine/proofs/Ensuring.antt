@@ -5,9 +5,9 @@ use Rattle.pm_client.specs.Starts.{Clients, after_start, after_start_at, has_cli
 use Rattle.pm_machine.proofs.BestRules.{one_reached, one_weighs}
 use Rattle.pm_machine.proofs.Committing.{named_held}
 use Rattle.pm_machine.specs.Best.{cost_of}
-use Rattle.pm_machine.specs.Chains.{AreBarred, HasNoChainSo, IsLeastSo, is_barred_on, some_wrong, table}
+use Rattle.pm_machine.specs.Chains.{AreBarred, HasNoChainByOne, IsLeastByOne, is_barred_on, some_wrong, table}
 use Rattle.pm_machine.specs.Rounds.{AllHeld, Commits, CommitsAll, Ended, Ends, Ensures, FailsAt, IsRound, NoneLeads, Rounds, after_runs, found, kind_at, kinds_of, no_chain, still_missing}
-use Rattle.pm_machine.specs.Running.{EnsuresSo, Excludes, FailedRun, NextRound, NoRound, Progress, RoundOf, RoundStarted, RunsRule, is_excluded, unexcluded}
+use Rattle.pm_machine.specs.Running.{EnsuresWith, Excludes, FailedRun, NextRound, NoRound, Progress, RoundOf, RoundStarted, RunsRule, is_excluded, unexcluded}
 use Rattle.pm_object.proofs.Formed.{held_dimension, held_stays}
 use Rattle.pm_object.specs.Formed.{IsFormed}
 use Rattle.pm_object.proofs.Names.{names_held}
@@ -50,7 +50,7 @@ with_nothing_more old m X r e =
     (ap (λ t. record { of = old.of; held = old.held ++ X; excluded = t; rounds = old.rounds ++ r ∷ []; disabled = old.disabled }) (sym (append-nil old.excluded)))
 
 pub round_is : (book : List Rule) (clients : Clients) (asked : PropSet) (barred : List RuleId) (id : RuleId) (rule : Rule) (old new : State)
-    → AreBarred book clients old barred → rule_at book id ≡ Some rule → IsLeastSo book (table old.of) barred (names_of old.held) asked (id ∷ [])
+    → AreBarred book clients old barred → rule_at book id ≡ Some rule → IsLeastByOne book (table old.of) barred (names_of old.held) asked (id ∷ [])
     → RoundOf id rule old new → (r : RoundSeen) × IsRound book clients asked r old new (rule.kind ∷ [])
 round_is book clients asked barred id rule old new are at least round = (seen round.end, by round.end round.mid round.runs round.becomes)
   where
@@ -132,7 +132,7 @@ or_parts true b h = inl refl
 or_parts false b h = inr h
 
 pub all_held : (book : List Rule) (barred : List RuleId) (asked : PropSet) (id : RuleId) (rule : Rule) (old new : State) → rule_at book id ≡ Some rule
-    → IsLeastSo book (table old.of) barred (names_of old.held) (still_missing asked old) (id ∷ []) → Commits rule.kind old new → AllHeld asked new
+    → IsLeastByOne book (table old.of) barred (names_of old.held) (still_missing asked old) (id ∷ []) → Commits rule.kind old new → AllHeld asked new
 all_held book barred asked id rule old new at least c = λ p h. names_held new.held p ∙ elim (decide (is_held p old.held)) [
   | inl y ↦ subst (λ (z : State). is_held p z.held ≡ true) (sym c.added) (held_stays p old.held _ y)
   | inr n ↦
@@ -146,19 +146,19 @@ all_held book barred asked id rule old new at least c = λ p h. names_held new.h
 ]
 
 -- ---- the rule that is chosen
-pub chosen : (book : List Rule) (names : PropSet) (barred : List RuleId) (held asked : PropSet) (id : RuleId) → IsLeastSo book names barred held asked (id ∷ [])
+pub chosen : (book : List Rule) (names : PropSet) (barred : List RuleId) (held asked : PropSet) (id : RuleId) → IsLeastByOne book names barred held asked (id ∷ [])
     → (rule : Rule) × (rule_at book id ≡ Some rule) × IsEnabled names barred held id rule
 chosen book names barred held asked id least = let (rule, at, enabled, rest) = least.leads.0.enabled in (rule, at, enabled)
 
 pub least_at : (book : List Rule) (barred chain : List RuleId) (o : State) (asked n h a : PropSet) → n ≡ table o.of → h ≡ names_of o.held → a ≡ still_missing asked o
-    → IsLeastSo book n barred h a chain → IsLeastSo book (table o.of) barred (names_of o.held) (still_missing asked o) chain
+    → IsLeastByOne book n barred h a chain → IsLeastByOne book (table o.of) barred (names_of o.held) (still_missing asked o) chain
 least_at book barred chain o asked n h a e f g least =
-    subst (λ z. IsLeastSo book (table o.of) barred (names_of o.held) z chain) g (subst (λ z. IsLeastSo book (table o.of) barred z a chain) f (subst (λ z. IsLeastSo book z barred h a chain) e least))
+    subst (λ z. IsLeastByOne book (table o.of) barred (names_of o.held) z chain) g (subst (λ z. IsLeastByOne book (table o.of) barred z a chain) f (subst (λ z. IsLeastByOne book z barred h a chain) e least))
 
 pub none_at : (book : List Rule) (barred : List RuleId) (o : State) (asked n h a : PropSet) → n ≡ table o.of → h ≡ names_of o.held → a ≡ still_missing asked o
-    → HasNoChainSo book n barred h a → HasNoChainSo book (table o.of) barred (names_of o.held) (still_missing asked o)
+    → HasNoChainByOne book n barred h a → HasNoChainByOne book (table o.of) barred (names_of o.held) (still_missing asked o)
 none_at book barred o asked n h a e f g none =
-    subst (λ z. HasNoChainSo book (table o.of) barred (names_of o.held) z) g (subst (λ z. HasNoChainSo book (table o.of) barred z a) f (subst (λ z. HasNoChainSo book z barred h a) e none))
+    subst (λ z. HasNoChainByOne book (table o.of) barred (names_of o.held) z) g (subst (λ z. HasNoChainByOne book (table o.of) barred z a) f (subst (λ z. HasNoChainByOne book z barred h a) e none))
 
 or_false : (a b : Bool) → (a || b) ≡ false → (a ≡ false) × (b ≡ false)
 or_false true b h = absurd (true≢false h)
@@ -205,7 +205,7 @@ known_from o formed h = by (value_of ConeAmbientDim o.held) refl h
 
 -- ---- the next round
 pub round_started : (book : List Rule) (clients : Clients) (asked : PropSet) (barred : List RuleId) (id : RuleId) (rule : Rule) (old new : State) (after : Clients)
-    → AreBarred book clients old barred → rule_at book id ≡ Some rule → IsLeastSo book (table old.of) barred (names_of old.held) (still_missing asked old) (id ∷ [])
+    → AreBarred book clients old barred → rule_at book id ≡ Some rule → IsLeastByOne book (table old.of) barred (names_of old.held) (still_missing asked old) (id ∷ [])
     → RoundOf id rule old new → after ≡ after_start rule.kind clients → RoundStarted book clients asked old new after
 round_started book clients asked barred id rule old new after are at least round ran =
     let (r, is_round) = round_is book clients (still_missing asked old) barred id rule old new are at least round in

@@ -1,7 +1,7 @@
 -- Objects by name.
 use Rattle.pm_machine.specs.Steps.{AllKept, Becomes, Given, GiveStep, Machine, Stays, Step, TakeStep, TakeValue, Taken, faulty, given_by, no_json, object_at, property_named, value, whole_of}
 use Rattle.pm_machine.specs.Rounds.{Ensures, after_runs, found, no_chain}
-use Rattle.pm_machine.specs.Running.{EnsuresSo}
+use Rattle.pm_machine.specs.Running.{EnsuresWith}
 use Rattle.pm_machine.specs.Sessions.{Gives}
 use Rattle.pm_client.specs.Starts.{Clients}
 use Rattle.pm_machine.proofs.Kept.{kept_ensures, steps_keep}
@@ -184,19 +184,19 @@ give_step view (Ok x) book old new n m clients after name sub text o o' p called
     by (refused ObjectsFull) e = absurd e
 
 pub gives_shown : {F E : Type 0} (view : F → ReplySeen) (r : Result F E) (book : List Rule) (clients after : Clients) (name : List ℕ) (p : PropId) (asked : PropSet) (o o' : State) (of : ObjectType) (v : PropertyValue)
-    → asked ≡ only p → of ≡ o.of → value_of p o'.held ≡ Some v → EnsuresSo book clients asked true o o' after → IfOk r (λ x. view x ≡ shows name of p v)
+    → asked ≡ only p → of ≡ o.of → value_of p o'.held ≡ Some v → EnsuresWith book clients asked true o o' after → IfOk r (λ x. view x ≡ shows name of p v)
     → IfOk r (λ x. Gives book clients after name p o o' (view x))
 gives_shown view (Err x) book clients after name p asked o o' of v one type held e s = tt
 gives_shown view (Ok x) book clients after name p asked o o' of v one type held e s =
-    subst (λ z. Gives book clients after name p o o' z) (sym s) (refl, type, refl, held, subst (λ z. EnsuresSo book clients z true o o' after) one e)
+    subst (λ z. Gives book clients after name p o o' z) (sym s) (refl, type, refl, held, subst (λ z. EnsuresWith book clients z true o o' after) one e)
 
-pub gives_none : (book : List Rule) (clients after : Clients) (p : PropId) (asked : PropSet) (o o' : State) → asked ≡ only p → EnsuresSo book clients asked false o o' after → EnsuresSo book clients (only p) false o o' after
-gives_none book clients after p asked o o' one e = subst (λ z. EnsuresSo book clients z false o o' after) one e
+pub gives_none : (book : List Rule) (clients after : Clients) (p : PropId) (asked : PropSet) (o o' : State) → asked ≡ only p → EnsuresWith book clients asked false o o' after → EnsuresWith book clients (only p) false o o' after
+gives_none book clients after p asked o o' one e = subst (λ z. EnsuresWith book clients z false o o' after) one e
 
 same_number : (n k : ℕ) → n ≡ k → eqb n k ≡ true
 same_number n k e = grind arith
 
-pub found_held : (book : List Rule) (clients after : Clients) (asked : PropSet) (o o' : State) (p : PropId) → asked ≡ only p → EnsuresSo book clients asked true o o' after → is_held p o'.held ≡ true
+pub found_held : (book : List Rule) (clients after : Clients) (asked : PropSet) (o o' : State) (p : PropId) → asked ≡ only p → EnsuresWith book clients asked true o o' after → is_held p o'.held ≡ true
 found_held book clients after asked o o' p one e =
     sym (names_held o'.held p) ∙ e.ensures.ended p (ap (λ z. has z p) one ∙ has-only p p ∙ same_number (number p) (number p) refl)
 
@@ -204,7 +204,7 @@ pub kept_with : (old new : List ℕ → Option State) (n m : ℕ) (clients : Cli
     → ((q : List ℕ) → q ≢ name → new q ≡ old q) → AllKept (machine_with old n clients) → AllKept (machine_with new m clients)
 kept_with old new n m clients name o o' was is keeps others all = record { each = kept_all old new name o o' was is keeps others all.each }
 
-pub keeps_found : (book : List Rule) (clients after : Clients) (asked : PropSet) (o o' : State) → EnsuresSo book clients asked true o o' after → IsKept o → IsKept o'
+pub keeps_found : (book : List Rule) (clients after : Clients) (asked : PropSet) (o o' : State) → EnsuresWith book clients asked true o o' after → IsKept o → IsKept o'
 keeps_found book clients after asked o o' e kept = kept_ensures book clients asked found o o' e.started e.ensures kept
 
 pub kept_if_err : {F E : Type 0} (r : Result F E) (old new : List ℕ → Option State) (n m : ℕ) (clients : Clients) (name : List ℕ) (o o' : State) → old name ≡ Some o → new name ≡ Some o' → OnErr r (IsKept o → IsKept o')

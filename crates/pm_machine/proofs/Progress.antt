@@ -5,7 +5,7 @@ use Rattle.pm_client.specs.Starts.{Clients, after_start, after_start_at, has_cli
 use Rattle.pm_machine.proofs.Kept.{kept_rounds}
 use Rattle.pm_machine.specs.Chains.{AreBarred, is_barred_on, some_wrong}
 use Rattle.pm_machine.specs.Rounds.{AllHeld, Commits, CommitsAll, Ensures, IsRound, NoneLeads, Rounds, after_runs, found, no_chain, still_missing}
-use Rattle.pm_machine.specs.Running.{EnsuresSo, Excludes, KeepsKept, NoRound, Progress, RoundStarted, is_excluded, unexcluded}
+use Rattle.pm_machine.specs.Running.{EnsuresWith, Excludes, KeepsKept, NoRound, Progress, RoundStarted, is_excluded, unexcluded}
 use Rattle.pm_object.proofs.Formed.{held_stays}
 use Rattle.pm_object.proofs.Honesty.{settled_is_kept}
 use Rattle.pm_object.proofs.Names.{names_held}
@@ -106,11 +106,11 @@ step_progress book clients after later asked s old new p some next = record {
 
 -- ---- endings
 pub ends_found : (book : List Rule) (clients after : Clients) (asked : PropSet) (o new : State) → Progress book clients asked (with_held o (settling o)) new after → AllHeld asked new
-    → EnsuresSo book clients asked true o new after
+    → EnsuresWith book clients asked true o new after
 ends_found book clients after asked o new p held = record { started = p.started; ensures = record { rounds = p.rounds; all = p.all; ended = held }; ran = p.ran }
 
 pub ends_none : (book : List Rule) (clients after later : Clients) (asked : PropSet) (o old new : State) → Progress book clients asked (with_held o (settling o)) old after → NoRound book after asked old new later
-    → EnsuresSo book clients asked false o new later
+    → EnsuresWith book clients asked false o new later
 ends_none book clients after later asked o old new p n = record {
   started = p.started;
   ensures = record {

@@ -5,7 +5,7 @@
 --     is_barred_on clients o id rule      the rule of this number is barred on the object: it was excluded there, a precondition is held with the wrong value, its label was disabled, or no client has its kind
 --     AreBarred book clients o barred      the list has exactly the numbers of the rules of the book that are barred on the object
 --     Serves names barred held asked id rule      the rule alone leads from the held names to the asked ones
---     LeadsSo, IsLeastSo, HasNoChainSo      so far a chain is a list of exactly one rule
+--     LeadsByOne, IsLeastByOne, HasNoChainByOne      so far a chain is a list of exactly one rule
 use Rattle.std.specs.Prelude.{ℕ, ◌≡◌, ◌||◌, ◌&&◌, Bool, false, true, not, Option, Some, List, length, filter, nat_eq, if◌then◌else◌}
 use Rattle.std.specs.List.{list_any}
 use Rattle.pm_geom.specs.declared.ObjectType.{ObjectType}
@@ -41,15 +41,15 @@ is_barred_on clients o id rule = list_any (λ e. nat_eq e.rule.0 id.0) o.exclude
 pub record AreBarred (book : List Rule) (clients : Clients) (o : State) (barred : List RuleId) : Type 0 where
   pub each : (id : RuleId) (rule : Rule) → rule_at book id ≡ Some rule → is_barred barred id ≡ is_barred_on clients o id rule
 
-abbrev pub LeadsSo : List Rule → PropSet → List RuleId → PropSet → PropSet → List RuleId → Type 0
-LeadsSo book names barred held asked chain = LeadsTo book names barred held asked chain × (length chain ≡ 1)
+abbrev pub LeadsByOne : List Rule → PropSet → List RuleId → PropSet → PropSet → List RuleId → Type 0
+LeadsByOne book names barred held asked chain = LeadsTo book names barred held asked chain × (length chain ≡ 1)
 
-pub record IsLeastSo (book : List Rule) (names : PropSet) (barred : List RuleId) (held asked : PropSet) (chain : List RuleId) : Type 0 where
-  pub leads : LeadsSo book names barred held asked chain
-  pub least : (other : List RuleId) → LeadsSo book names barred held asked other → IsAtMost (weigh book chain) (weigh book other)
+pub record IsLeastByOne (book : List Rule) (names : PropSet) (barred : List RuleId) (held asked : PropSet) (chain : List RuleId) : Type 0 where
+  pub leads : LeadsByOne book names barred held asked chain
+  pub least : (other : List RuleId) → LeadsByOne book names barred held asked other → IsAtMost (weigh book chain) (weigh book other)
 
-abbrev pub HasNoChainSo : List Rule → PropSet → List RuleId → PropSet → PropSet → Type 0
-HasNoChainSo book names barred held asked = (chain : List RuleId) → LeadsSo book names barred held asked chain → ⊥
+abbrev pub HasNoChainByOne : List Rule → PropSet → List RuleId → PropSet → PropSet → Type 0
+HasNoChainByOne book names barred held asked = (chain : List RuleId) → LeadsByOne book names barred held asked chain → ⊥
 
 -- the rule alone leads from the held names to the asked ones
 pub record Serves (names : PropSet) (barred : List RuleId) (held asked : PropSet) (id : RuleId) (rule : Rule) : Type 0 where

@@ -13,7 +13,7 @@ use Rattle.pm_client.specs.Sound.{HoldsOf}
 use Rattle.pm_client.specs.Starts.{Clients, after_start}
 use Rattle.pm_geom.specs.declared.evidence.Evidence.{Evidence}
 use Rattle.pm_geom.specs.Evidence.{evidence_number}
-use Rattle.pm_machine.specs.Chains.{AreBarred, HasNoChainSo, IsLeastSo, is_wrong, table}
+use Rattle.pm_machine.specs.Chains.{AreBarred, HasNoChainByOne, IsLeastByOne, is_wrong, table}
 use Rattle.pm_object.specs.Honest.{facts}
 use Rattle.pm_object.specs.Laws.{computed}
 use Rattle.pm_object.specs.Reading.{view_for}
@@ -84,7 +84,7 @@ pub record IsRound (book : List Rule) (clients : Clients) (asked : PropSet) (r :
   pub are_barred : AreBarred book clients old barred
   pub done : List RuleId
   pub left : List RuleId
-  pub least : IsLeastSo book (table old.of) barred (names_of old.held) asked (done ++ left)
+  pub least : IsLeastByOne book (table old.of) barred (names_of old.held) asked (done ++ left)
   pub chain : r.chain ≡ done ++ left
   pub weight : r.weight ≡ weigh book (done ++ left)
   pub sub : r.sub ≡ None
@@ -117,7 +117,7 @@ pub record NoneLeads (book : List Rule) (clients : Clients) (asked : PropSet) (o
   pub barred : List RuleId
   pub are_barred : AreBarred book clients o barred
   pub missing : AllHeld asked o → ⊥
-  pub none : HasNoChainSo book (table o.of) barred (names_of o.held) (still_missing asked o)
+  pub none : HasNoChainByOne book (table o.of) barred (names_of o.held) (still_missing asked o)
 
 abbrev pub Ended : List Rule → Clients → PropSet → Ending → State → Type 0
 Ended book clients asked found o = AllHeld asked o

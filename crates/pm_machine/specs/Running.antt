@@ -2,7 +2,7 @@
 --     RunsRule id kind old end new      the client of the kind ran: its answer is committed, or the rule of this number is excluded with its evidence
 --     RoundOf id rule old new      a round of this rule alone
 --     Progress book clients asked old new after      some rounds were started, and the clients are as they are after these
---     EnsuresSo book clients asked found old new after      the object ensures what is asked, or there is no chain; so are the clients after
+--     EnsuresWith book clients asked found old new after      the object ensures what is asked, or there is no chain; so are the clients after
 --     KeepsKept old new      an object that is kept stays so
 use Rattle.std.specs.Prelude.{ℕ, suc, ◌+◌, ◌++◌, ◌≡◌, ◌⊎◌, Bool, true, false, None, Some, List, [], ◌∷◌, if◌then◌else◌, nat_eq}
 use Rattle.std.specs.List.{list_any}
@@ -54,7 +54,7 @@ abbrev pub ending_of : Bool → Ending
 ending_of true = found
 ending_of false = no_chain
 
-pub record EnsuresSo (book : List Rule) (clients : Clients) (asked : PropSet) (found : Bool) (old new : State) (after : Clients) : Type 0 where
+pub record EnsuresWith (book : List Rule) (clients : Clients) (asked : PropSet) (found : Bool) (old new : State) (after : Clients) : Type 0 where
   pub started : List Kind
   pub ensures : Ensures book clients asked (ending_of found) old new started
   pub ran : after ≡ after_runs started clients

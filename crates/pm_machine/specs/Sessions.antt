@@ -7,7 +7,7 @@ use Rattle.indexmap.specs.IndexMap.{index_map_len}
 use Rattle.std.specs.HashMap.{get_by_text}
 use Rattle.std.specs.Prelude.{ℕ, ◌≡◌, Bool, true, false, Some, List}
 use Rattle.pm_client.specs.Starts.{Clients}
-use Rattle.pm_machine.specs.Running.{EnsuresSo}
+use Rattle.pm_machine.specs.Running.{EnsuresWith}
 use Rattle.pm_machine.specs.Steps.{Machine}
 use Rattle.pm_machine.specs.declared.session.Session.{Session}
 use Rattle.pm_object.specs.State.{State, value_of}
@@ -27,6 +27,6 @@ abbrev pub is_spent : Session → Bool
 is_spent s = s.spent
 
 abbrev pub Gives : List Rule → Clients → Clients → List ℕ → PropId → State → State → ReplySeen → Type 0
-Gives book clients after name p old new (refused NoChain) = EnsuresSo book clients (only p) false old new after
-Gives book clients after name p old new (shows n of q v) = (n ≡ name) × (of ≡ old.of) × (q ≡ p) × (value_of p new.held ≡ Some v) × EnsuresSo book clients (only p) true old new after
+Gives book clients after name p old new (refused NoChain) = EnsuresWith book clients (only p) false old new after
+Gives book clients after name p old new (shows n of q v) = (n ≡ name) × (of ≡ old.of) × (q ≡ p) × (value_of p new.held ≡ Some v) × EnsuresWith book clients (only p) true old new after
 Gives book clients after name p old new reply = ⊥

@@ -1,7 +1,7 @@
 // Rules on an object: which are barred, and which chain is least.
 
 ghost use Rattle.pm_client.specs.Starts.{has_client};
-ghost use Rattle.pm_machine.specs.Chains.{AreBarred, HasNoChainSo, IsLeastSo, Serves, is_barred_on, is_truth, is_wrong, table};
+ghost use Rattle.pm_machine.specs.Chains.{AreBarred, HasNoChainByOne, IsLeastByOne, Serves, is_barred_on, is_truth, is_wrong, table};
 ghost use Rattle.pm_machine.specs.Best.{BestBefore, better, cost_of};
 ghost use Rattle.pm_object.specs.State.{value_of};
 ghost use Rattle.pm_rules.specs.Books.{most_rules};
@@ -167,8 +167,8 @@ impl<'a> Search<'a> {
     /// The rule of least weight that alone leads from the held names to the asked ones; None exactly where none does.
     pub fn best_rule(&self, rules: &[Rule]) -> Option<RuleId>
         requires { length rules.now ≤ most_rules }
-        ensures some { IfSome result (λ id. IsLeastSo rules.now self.now.names self.now.barred.now self.now.held self.now.asked (id ∷ [])) }
-        ensures none { IfNone result (HasNoChainSo rules.now self.now.names self.now.barred.now self.now.held self.now.asked) }
+        ensures some { IfSome result (λ id. IsLeastByOne rules.now self.now.names self.now.barred.now self.now.held self.now.asked (id ∷ [])) }
+        ensures none { IfNone result (HasNoChainByOne rules.now self.now.names self.now.barred.now self.now.held self.now.asked) }
     {
         match self.best(rules) {
             Some(best) => Some(best.id),

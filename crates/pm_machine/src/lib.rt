@@ -10,3 +10,6 @@ mod taking;
 
 pub use laws::law_steps_keep;
 pub use session::Session;
+
+#[cfg(test)]
+mod tests;

@@ -2,9 +2,9 @@
 
 ghost use Rattle.pm_client.specs.Starts.{after_start, has_client};
 ghost use Rattle.pm_machine.specs.Best.{cost_of};
-ghost use Rattle.pm_machine.specs.Chains.{AreBarred, IsLeastSo};
+ghost use Rattle.pm_machine.specs.Chains.{AreBarred, IsLeastByOne};
 ghost use Rattle.pm_machine.specs.Rounds.{AllHeld};
-ghost use Rattle.pm_machine.specs.Running.{EnsuresSo, KeepsKept, NextRound, RoundOf, RunsRule};
+ghost use Rattle.pm_machine.specs.Running.{EnsuresWith, KeepsKept, NextRound, RoundOf, RunsRule};
 ghost use Rattle.pm_object.specs.Honest.{facts};
 ghost use Rattle.pm_object.specs.State.{cols_of, is_held};
 ghost use Rattle.pm_rules.specs.Books.{IsBook};
@@ -125,7 +125,7 @@ pub fn ensure(
     asked: PropSet,
     clients: &mut Vec<Box<dyn Client>>,
 ) -> Result<bool, AllocError>
-    ensures ok { IfOk result (λ found. EnsuresSo book.now (map (λ b. (kind_of b, starts_of b)) clients.old.items) asked found object.old object.new (map (λ b. (kind_of b, starts_of b)) clients.new.items)) }
+    ensures ok { IfOk result (λ found. EnsuresWith book.now (map (λ b. (kind_of b, starts_of b)) clients.old.items) asked found object.old object.new (map (λ b. (kind_of b, starts_of b)) clients.new.items)) }
     ensures err { OnErr result (KeepsKept object.old object.new) }
 {
     object.settle(alloc)?;

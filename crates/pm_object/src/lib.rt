@@ -7,6 +7,8 @@ mod held;
 mod laws;
 mod object;
 mod settled;
+#[cfg(test)]
+mod tests;
 mod tests_of_values;
 mod view;
 

@@ -2,6 +2,9 @@
 
 ghost use Rattle.std.specs.Prelude.{◌<◌};
 
+mod own_client;
+mod table;
+
 use crate::{SCRIPT_LIMIT, Status, polymake};
 use pm_client::Client;
 use pm_clients_comb::SetsClient;

@@ -4,7 +4,7 @@ use Rattle.std.specs.Option.{unwrap_or}
 use Rattle.std.specs.Prelude.{slice_get}
 use Rattle.pm_machine.proofs.Ensuring.{at_place, barred_to, chosen, client_there, known_from, least_at, none_at, round_started, rule_of_book, unbarred}
 use Rattle.pm_machine.proofs.Running.{known_is, may_run}
-use Rattle.pm_machine.specs.Chains.{AreBarred, IsLeastSo, table}
+use Rattle.pm_machine.specs.Chains.{AreBarred, IsLeastByOne, table}
 use Rattle.pm_machine.specs.Rounds.{still_missing}
 use Rattle.pm_object.specs.State.{cols_of, names_of}
 use Rattle.pm_rules.specs.Rules.{is_barred, rule_at}

@@ -1,0 +1,74 @@
+// What no clause says: that steps succeed while memory is there, and replies to whole lines.
+
+use crate::Session;
+use pm_client::Client;
+use pm_rules::standard_book;
+use pm_script::{Command, read_line, reply_bytes};
+use std::alloc::Global;
+use std::test::Fail;
+
+// The text of the reply to a line, in a session without clients.
+fn answer(alloc: Global, session: &mut Session, line: &str) -> Result<String, Fail> {
+    let mut clients: Vec<Box<dyn Client>> = Vec::new(alloc);
+    let reply = match read_line(alloc, line.as_bytes())? {
+        Command::Blank => return Ok(String::from_str(alloc, "blank")?),
+        command => session.step(alloc, command, &mut clients)?,
+    };
+    Ok(String::from_utf8(reply_bytes(alloc, &reply)?)?)
+}
+
+#[test]
+fn objects_take_values(rt: HostRuntime) -> Result<(), Fail> {
+    let alloc = rt.alloc();
+    let mut session = Session::new(alloc, standard_book(alloc)?);
+    assert!(rt; session.object("s").is_none());
+    for (line, want) in [
+        ("new s Polytope", "ok\n"),
+        ("new s Polytope", "no 3 NameTaken\n"),
+        ("new c Cone", "no 4 UnknownType\n"),
+        ("new s.lp Polytope", "no 4 UnknownType\n"),
+        ("take s VERTICES [[1,0],[1,1]]", "ok\n"),
+        ("take s VERTICES [[1,0],[1,1]]", "no 7 AlreadyHeld\n"),
+        ("take s N_VERTICES 3", "no 5 UnknownProperty\n"),
+        ("take s.lp FACETS [[0,1]]", "no 2 UnknownName\n"),
+        ("take s FACETS [[1,", "no 6 BadValue json\n"),
+        ("take s FACETS 3", "no 6 BadValue shape\n"),
+        ("take s FACETS [[\"0\",\"1\"]]", "no 6 BadValue number\n"),
+        ("take s FACETS [[0,1,1]]", "no 6 BadValue columns\n"),
+        ("take s FACETS [[0,0]]", "no 6 BadValue row\n"),
+        ("take s FACETS [[0,1],[1,-1]]", "ok\n"),
+        (
+            "lookup s FACETS",
+            "s FACETS [[\"0\",\"1\"],[\"1\",\"-1\"]]\n",
+        ),
+    ] {
+        let text = answer(alloc, &mut session, line)?;
+        assert_eq!(rt; text.as_str(), want, "at {line}");
+    }
+    assert!(rt; session.object("s").is_some());
+    assert!(rt; session.object("c").is_none());
+    Ok(())
+}
+
+#[test]
+fn without_clients_no_chain_leads_anywhere(rt: HostRuntime) -> Result<(), Fail> {
+    let alloc = rt.alloc();
+    let mut session = Session::new(alloc, standard_book(alloc)?);
+    for (line, want) in [
+        ("new s Polytope", "ok\n"),
+        ("take s VERTICES [[1,0],[1,1]]", "ok\n"),
+        ("lookup s CONE_AMBIENT_DIM", "undef\n"),
+        ("lookup s AFFINE_HULL", "undef\n"),
+        ("give s VERTICES_IN_FACETS", "no 10 NoChain\n"),
+        ("lookup s VERTICES_IN_FACETS", "undef\n"),
+        ("lookup s CONE_AMBIENT_DIM", "s CONE_AMBIENT_DIM 2\n"),
+        ("give s CONE_AMBIENT_DIM", "s CONE_AMBIENT_DIM 2\n"),
+        ("take s FACETS [[0,1],[1,-1]]", "ok\n"),
+        ("give t FACETS", "no 2 UnknownName\n"),
+        ("give s N_VERTICES", "no 5 UnknownProperty\n"),
+    ] {
+        let text = answer(alloc, &mut session, line)?;
+        assert_eq!(rt; text.as_str(), want, "at {line}");
+    }
+    Ok(())
+}
