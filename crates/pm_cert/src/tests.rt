@@ -114,18 +114,18 @@ fn the_standard_book(rt: HostRuntime) -> Result<(), Fail> {
     let held = PropSet::of_list(&[PropId::Vertices, PropId::Facets]);
     let asked = PropSet::of(PropId::VerticesInFacets);
     let table = start_alone(rt.alloc(), held)?;
-    assert!(rt; verify(&book, names_of_cones(), held, &[], asked, &table, least(5)));
-    assert!(rt; !verify(&book, names_of_cones(), held, &[], asked, &table, least(6)));
-    assert!(rt;
-        !verify(
-            &book,
-            names_of_cones(),
-            held,
-            &[],
-            asked,
-            &table,
-            Claim::NoChain
-        )
-    );
+    let no_rule: [RuleId; 0] = [];
+    for (barred, claim, want) in [
+        (no_rule.as_slice(), least(5), true),
+        (no_rule.as_slice(), least(6), false),
+        (no_rule.as_slice(), Claim::NoChain, false),
+        ([RuleId(12)].as_slice(), Claim::NoChain, true),
+        ([RuleId(0)].as_slice(), Claim::NoChain, false),
+    ] {
+        assert_eq!(rt;
+            verify(&book, names_of_cones(), held, barred, asked, &table, claim),
+            want
+        );
+    }
     Ok(())
 }

@@ -1,5 +1,6 @@
 pub mod Readings
 pub mod Parts
+pub mod FractionTexts
 pub mod MatrixLimits
 pub mod SetLimits
 pub mod Formed

@@ -6,17 +6,12 @@ use Rattle.serde_json.specs.Data.{Data, null, boolean, number, string, array, ob
 use Rattle.serde_json.specs.Find.{as_object}
 use Rattle.serde_json.specs.View.{items_view, members_view}
 use Rattle.serde_json.specs.declared.value.Value.{Value}
-use Rattle.pm_algebra.specs.Rows.{Row}
-use Rattle.pm_json.specs.Readings.{Read, and_then, before, entry_of, later_row_from, has_one_member, SetsSeen, before_sets, stated_last}
+use Rattle.pm_algebra.specs.Numbers.{Ratio}
+use Rattle.pm_json.specs.Readings.{Read, and_then, before, entry_of, items_of, later_row_from, later_rows_from, has_one_member, SetsSeen, before_sets, stated_last, with_front}
 use Rattle.pm_json.specs.declared.fail.ValueFail.TheVariants.{Shape}
-use lib.IntN.{ℤ}
 
 abbrev pub Entry : Type 0
 Entry = String Global × Value
-
--- what was read, and what is read after it
-abbrev pub with_front : {A : Type 0} → List A → Read (List A) → Read (List A)
-with_front front others = and_then others (λ as'. Ok (front ++ as'))
 
 abbrev pub with_front_sets : List (List ℕ) → Read SetsSeen → Read SetsSeen
 with_front_sets front others = and_then others (λ s. Ok (record s { rows = front ++ s.rows }))
@@ -38,11 +33,18 @@ with_front_sets-nil (Ok s) = refl
 with_front_sets-nil (Err fault) = refl
 
 -- a later row, an entry at a time
-pub later_row_from-item : (n : ℕ) (front : Row) (z : ℤ) (d : Data) (ds : Items) → length front < n → entry_of d ≡ Ok z
+pub later_row_from-item : (n : ℕ) (front : List Ratio) (z : Ratio) (d : Data) (ds : Items) → length front < n → entry_of d ≡ Ok z
     → with_front front (later_row_from n (length front) (item d ds)) ≡ with_front (front ++ z ∷ []) (later_row_from n (length (front ++ z ∷ [])) ds)
 later_row_from-item n front z d ds room is =
     let one : suc (length front) ≡ length (front ++ z ∷ []) = omega (arith, length-append front (z ∷ [])) in
     rw (lt-ltb (length front) n room, is) (with_front-before front z (later_row_from n (suc (length front)) ds) ∙ ap (λ k. with_front (front ++ z ∷ []) (later_row_from n k ds)) one)
+
+-- the later rows, a row at a time
+pub later_rows_from-item : (n : ℕ) (front : List (List Ratio)) (r : List Ratio) (d : Data) (es ds : Items) → length front < 2048 → items_of d ≡ Ok es → later_row_from n 0 es ≡ Ok r
+    → with_front front (later_rows_from n (length front) (item d ds)) ≡ with_front (front ++ r ∷ []) (later_rows_from n (length (front ++ r ∷ [])) ds)
+later_rows_from-item n front r d es ds room listed is =
+    let one : suc (length front) ≡ length (front ++ r ∷ []) = omega (arith, length-append front (r ∷ [])) in
+    rw (listed, lt-ltb (length front) 2048 room, is) (with_front-before front r (later_rows_from n (suc (length front)) ds) ∙ ap (λ k. with_front (front ++ r ∷ []) (later_rows_from n k ds)) one)
 
 -- an object with one member
 one_member : (es : List Entry) → eqb (length es) 1 ≡ has_one_member (object (members_view es))

@@ -1,5 +1,6 @@
 -- What a JSON value is, as a value of a property, so far.
---     matrices      an array of at most 2,048 rows, which are arrays of one length from 1 to 33 of whole JSON numbers from -2^53 to 2^53
+--     matrices      an array of at most 2,048 rows, which are arrays of one length from 1 to 33 of fractions: a fraction is a text of a fraction, an optional `-`,
+--         digits, and optionally `/` and digits that do not write 0, none of them above 2^127 - 1, or a whole JSON number from -2^63 to 2^64 - 1
 --     sets      an array of at most 2,048 sets, which are arrays of indices below 2,048, in any order and none twice; after the sets maybe {"cols":n},
 --         n at most 2,048 and above every index; without it the column count is one more than the greatest index, or 0
 --     whole numbers, truth values      a whole JSON number of 64 bits, for CONE_AMBIENT_DIM from 1 to 33; true or false
@@ -12,18 +13,22 @@
 -- A count that is too large is a fault of the first element too many; a row that is too short is one of its end. Indices are held against the column count
 -- after the last element.
 --     reading p d      the value of p that the JSON value d is, or the fault
-use Rattle.std.specs.Prelude.{ℕ, suc, ◌==◌, ◌^◌, ◌∷◌, Bool, true, false, List, [], length, map, max, nat_le, nat_lt, Option, Some, None, is_some, Result, Ok, Err, codes, if◌then◌else◌, unsigned_abs}
-use Rattle.std.specs.List.{list_any}
-use Rattle.pm_algebra.specs.Rows.{Row}
+use Rattle.std.specs.Prelude.{ℕ, zero, suc, ◌==◌, ◌%◌, ◌/◌, ◌^◌, ◌&&◌, ◌++◌, ◌∷◌, Bool, true, false, List, [], length, max, nat_le, nat_lt, Option, Some, None, is_some, Result, Ok, Err, codes, if◌then◌else◌}
+use Rattle.std.specs.Char.{is_ascii_digit}
+use Rattle.std.specs.List.{list_all, list_any}
+use Rattle.std.specs.Str.Parse.{digits_value, starts_with_minus}
+use Rattle.pm_algebra.specs.Numbers.{Ratio}
+use Rattle.pm_fraction.specs.Fractions.{ratio_of, signed}
+use Rattle.pm_fraction.specs.Text.{bottom_text, top_text}
 use Rattle.pm_types.specs.Forms.{is_dimension}
 use Rattle.pm_types.specs.Properties.{value_kind}
 use Rattle.pm_types.specs.Values.{PropertyValue, matrix, sets, whole, truth}
-use Rattle.pm_types.specs.Views.{ratios}
+use Rattle.pm_types.specs.Views.{over_one}
 use Rattle.pm_types.specs.declared.property.PropId.{PropId}
 use Rattle.pm_types.specs.declared.property.PropId.TheVariants.{ConeAmbientDim}
 use Rattle.pm_types.specs.declared.property.ValueKind.{ValueKind}
 use Rattle.pm_types.specs.declared.property.ValueKind.TheVariants as kind
-use Rattle.serde_json.specs.Data.{Data, object, Items, no_items, item, no_members, member}
+use Rattle.serde_json.specs.Data.{Data, Num, object, Items, no_items, item, no_members, member}
 use Rattle.serde_json.specs.Find.{get, as_array, as_bool, as_i64, as_integer, as_number, as_object, as_str}
 use Rattle.pm_json.specs.declared.fail.ValueFail.{ValueFail}
 use Rattle.pm_json.specs.declared.fail.ValueFail.TheVariants.{Shape, Number, Index, Limit}
@@ -42,6 +47,10 @@ and_then (Err fault) next = Err fault
 abbrev pub before : {A : Type 0} → A → Read (List A) → Read (List A)
 before a others = and_then others (λ as'. Ok (a ∷ as'))
 
+-- what was read, and what is read after it
+abbrev pub with_front : {A : Type 0} → List A → Read (List A) → Read (List A)
+with_front front others = and_then others (λ as'. Ok (front ++ as'))
+
 -- the fault where there is none
 abbrev pub or_fault : {A : Type 0} → ValueFail → Option A → Read A
 or_fault fault None = Err fault
@@ -50,41 +59,64 @@ or_fault fault (Some a) = Ok a
 abbrev pub items_of : Data → Read Items
 items_of d = or_fault Shape (as_array d)
 
+-- ---- fractions
+-- one digit or more, and nothing else, of a number in the range
+abbrev pub is_literal : List ℕ → Bool
+is_literal ds = nat_lt 0 (length ds) && list_all is_ascii_digit ds && nat_lt (digits_value 10 ds) (2 ^ 127)
+
+abbrev pub divides_both : ℕ → ℕ → ℕ → Bool
+divides_both m a b = (a % m) == 0 && (b % m) == 0
+
+-- the greatest number up to the bound that divides both, 0 where there is none
+abbrev pub divisor_up_to : ℕ → ℕ → ℕ → ℕ
+divisor_up_to zero a b = 0
+divisor_up_to (suc k) a b = if divides_both (suc k) a b then suc k else divisor_up_to k a b
+
+-- top / bottom or -top / bottom in lowest terms
+abbrev pub lowest_terms : Bool → ℕ → ℕ → Ratio
+lowest_terms is_negative top bottom = let g = divisor_up_to bottom top bottom in ratio_of (signed is_negative (top / g)) (pos (bottom / g))
+
+abbrev pub is_fraction_text : List ℕ → Bool
+is_fraction_text bs = is_literal (top_text bs) && is_literal (bottom_text bs) && nat_lt 0 (digits_value 10 (bottom_text bs))
+
+abbrev pub ratio_of_text : List ℕ → Read Ratio
+ratio_of_text bs = if is_fraction_text bs then Ok (lowest_terms (starts_with_minus bs) (digits_value 10 (top_text bs)) (digits_value 10 (bottom_text bs))) else Err Number
+
+abbrev pub whole_fraction_of : Num → Read Ratio
+whole_fraction_of n = and_then (or_fault Number (as_integer n)) (λ k. Ok (over_one k))
+
+abbrev pub number_of : Data → Read Ratio
+number_of d = and_then (or_fault Shape (as_number d)) whole_fraction_of
+
+abbrev pub entry_by : Option (List ℕ) → Data → Read Ratio
+entry_by (Some text) d = ratio_of_text text
+entry_by None d = number_of d
+
+abbrev pub entry_of : Data → Read Ratio
+entry_of d = entry_by (as_str d) d
+
 -- ---- matrices
-abbrev pub small : ℤ → Read ℤ
-small z = if nat_le (unsigned_abs z) (2 ^ 53) then Ok z else Err Number
-
-abbrev pub entry_of : Data → Read ℤ
-entry_of d = if is_some (as_str d) then Err Number else and_then (or_fault Shape (as_number d)) (λ n. and_then (or_fault Number (as_i64 n)) small)
-
 -- the entries of a first row, of which k came before
-abbrev pub first_row_from : ℕ → Items → Read Row
+abbrev pub first_row_from : ℕ → Items → Read (List Ratio)
 first_row_from k no_items = if k == 0 then Err Limit else Ok []
-first_row_from k (item d ds) = and_then (entry_of d) (λ z. if nat_lt k 33 then before z (first_row_from (suc k) ds) else Err Limit)
+first_row_from k (item d ds) = and_then (entry_of d) (λ q. if nat_lt k 33 then before q (first_row_from (suc k) ds) else Err Limit)
 
 -- the entries of a later row, which has to have n, of which k came before
-abbrev pub later_row_from : ℕ → ℕ → Items → Read Row
+abbrev pub later_row_from : ℕ → ℕ → Items → Read (List Ratio)
 later_row_from n k no_items = if k == n then Ok [] else Err Shape
-later_row_from n k (item d ds) = if nat_lt k n then and_then (entry_of d) (λ z. before z (later_row_from n (suc k) ds)) else Err Shape
+later_row_from n k (item d ds) = if nat_lt k n then and_then (entry_of d) (λ q. before q (later_row_from n (suc k) ds)) else Err Shape
 
--- a row, before which k rows came, the last of length n
-abbrev pub row_of : ℕ → ℕ → Items → Read Row
-row_of n k es = if k == 0 then first_row_from 0 es else later_row_from n 0 es
+-- the rows of n entries, of which k came before
+abbrev pub later_rows_from : ℕ → ℕ → Items → Read (List (List Ratio))
+later_rows_from n k no_items = Ok []
+later_rows_from n k (item d ds) = and_then (items_of d) (λ es. if nat_lt k 2048 then and_then (later_row_from n 0 es) (λ r. before r (later_rows_from n (suc k) ds)) else Err Limit)
 
--- the rows, of which k came before, the last of length n
-abbrev pub rows_from : ℕ → ℕ → Items → Read (List Row)
-rows_from n k no_items = Ok []
-rows_from n k (item d ds) = and_then (items_of d) (λ es. if nat_lt k 2048 then and_then (row_of n k es) (λ r. before r (rows_from (length r) (suc k) ds)) else Err Limit)
-
-abbrev pub cols_of : List Row → ℕ
-cols_of [] = 0
-cols_of (r ∷ rows) = length r
-
-abbrev pub matrix_of_rows : List Row → PropertyValue
-matrix_of_rows rows = matrix (cols_of rows) (map ratios rows)
+abbrev pub matrix_from : Items → Read PropertyValue
+matrix_from no_items = Ok (matrix 0 [])
+matrix_from (item d ds) = and_then (items_of d) (λ es. and_then (first_row_from 0 es) (λ r. and_then (before r (later_rows_from (length r) 1 ds)) (λ rows. Ok (matrix (length r) rows))))
 
 abbrev pub matrix_of : Data → Read PropertyValue
-matrix_of d = and_then (items_of d) (λ ds. and_then (rows_from 0 0 ds) (λ rows. Ok (matrix_of_rows rows)))
+matrix_of d = and_then (items_of d) matrix_from
 
 -- ---- sets
 abbrev pub whole_number_of : Data → Read ℤ

@@ -1,14 +1,17 @@
 // Matrices from JSON.
 
-ghost use Rattle.pm_json.specs.Readings.{cols_of, first_row_from, later_row_from, matrix_of, row_of, rows_from};
+ghost use Rattle.pm_json.specs.Readings.{first_row_from, later_row_from, later_rows_from, matrix_from, matrix_of, with_front};
+ghost use Rattle.pm_json.specs.declared.fail.ValueFail.TheVariants.{Memory};
+ghost use Rattle.pm_types.specs.Values.{matrix};
 ghost use Rattle.pm_types.specs.Views.{view_of};
 ghost use Rattle.serde_json.specs.View.{items_view, view};
-ghost use Rattle.std.specs.Prelude.{IfErr, IfOk, ◌≡◌, ◌≢◌};
+ghost use Rattle.std.specs.Prelude.{IfErr, IfOk, OnErr, OnOk, [], length, ◌++◌, ◌∷◌, ◌≡◌, ◌≢◌};
 
 use crate::fail::ValueFail;
 use crate::number::{read_entry, read_items};
-use pm_types::{Rows, Value as PropertyValue};
-use pm_vector::Ints;
+use pm_fraction::Fraction;
+use pm_matrix::Matrix;
+use pm_types::Value as PropertyValue;
 use serde_json::Value;
 use std::alloc::Global;
 
@@ -17,11 +20,11 @@ const ROW_LIMIT: usize = 2048;
 const COL_LIMIT: usize = 33;
 
 /// The first row, from 1 to 33 entries.
-fn read_first_row(alloc: Global, items: &[Value]) -> Result<Ints, ValueFail>
-    ensures ok { IfOk result (λ row. first_row_from 0 (items_view items.now) ≡ Ok row) }
+fn read_first_row(alloc: Global, items: &[Value]) -> Result<Vec<Fraction>, ValueFail>
+    ensures ok { IfOk result (λ row. first_row_from 0 (items_view items.now) ≡ Ok row.items) }
     ensures fault { IfErr result (λ e. e ≢ ValueFail.Memory → first_row_from 0 (items_view items.now) ≡ Err e) }
 {
-    let mut row = Ints::new(alloc);
+    let mut row = Vec::new(alloc);
     for item in items {
         let entry = read_entry(item)?;
         if row.len() >= COL_LIMIT {
@@ -29,18 +32,19 @@ fn read_first_row(alloc: Global, items: &[Value]) -> Result<Ints, ValueFail>
         }
         row.push(entry)?;
     }
-    if row.len() == 0 {
+    if row.is_empty() {
         return Err(ValueFail::Limit);
     }
     Ok(row)
 }
 
 /// A later row, of so many entries.
-fn read_later_row(alloc: Global, cols: usize, items: &[Value]) -> Result<Ints, ValueFail>
-    ensures ok { IfOk result (λ row. later_row_from cols 0 (items_view items.now) ≡ Ok row) }
+fn read_later_row(alloc: Global, cols: usize, items: &[Value]) -> Result<Vec<Fraction>, ValueFail>
+    ensures ok { IfOk result (λ row. later_row_from cols 0 (items_view items.now) ≡ Ok row.items) }
+    ensures len { IfOk result (λ row. length row.items ≡ cols) }
     ensures fault { IfErr result (λ e. e ≢ ValueFail.Memory → later_row_from cols 0 (items_view items.now) ≡ Err e) }
 {
-    let mut row = Ints::new(alloc);
+    let mut row = Vec::new(alloc);
     for item in items {
         if row.len() >= cols {
             return Err(ValueFail::Shape);
@@ -55,45 +59,50 @@ fn read_later_row(alloc: Global, cols: usize, items: &[Value]) -> Result<Ints, V
     }
 }
 
-/// A row, before which `place` rows came, the last of them of so many entries.
-fn read_row(alloc: Global, cols: usize, place: usize, items: &[Value]) -> Result<Ints, ValueFail>
-    ensures ok { IfOk result (λ row. row_of cols place (items_view items.now) ≡ Ok row) }
-    ensures fault { IfErr result (λ e. e ≢ ValueFail.Memory → row_of cols place (items_view items.now) ≡ Err e) }
+/// Puts a row of the matrix's columns below its rows.
+fn push_row(matrix: &mut Matrix, row: &[Fraction]) -> Result<(), ValueFail>
+    requires { length row.now ≡ matrix.old.cols }
+    ensures ok { OnOk result (matrix.new ≡ record matrix.old { rows = matrix.old.rows ++ row.now ∷ [] }) }
+    ensures fault { IfErr result (λ e. e ≡ Memory) }
+    ensures unchanged { OnErr result (matrix.new ≡ matrix.old) }
 {
-    if place == 0 {
-        read_first_row(alloc, items)
-    } else {
-        read_later_row(alloc, cols, items)
+    match matrix.push_row(row) {
+        Ok(()) => Ok(()),
+        Err(_) => Err(ValueFail::Memory),
     }
 }
 
-/// The rows.
-fn read_rows(alloc: Global, items: &[Value]) -> Result<Vec<Ints>, ValueFail>
-    ensures ok { IfOk result (λ rows. rows_from 0 0 (items_view items.now) ≡ Ok rows.items) }
-    ensures fault { IfErr result (λ e. e ≢ ValueFail.Memory → rows_from 0 0 (items_view items.now) ≡ Err e) }
+/// Reads the rows behind those of the matrix.
+fn read_later_rows(alloc: Global, matrix: &mut Matrix, items: &[Value]) -> Result<(), ValueFail>
+    ensures cols { matrix.new.cols ≡ matrix.old.cols }
+    ensures ok { OnOk result (with_front matrix.old.rows (later_rows_from matrix.old.cols (length matrix.old.rows) (items_view items.now)) ≡ Ok matrix.new.rows) }
+    ensures fault { IfErr result (λ e. e ≢ ValueFail.Memory → with_front matrix.old.rows (later_rows_from matrix.old.cols (length matrix.old.rows) (items_view items.now)) ≡ Err e) }
 {
-    let mut rows = Vec::new(alloc);
-    let mut cols = 0;
     for item in items {
         let entries = read_items(item)?;
-        if rows.len() >= ROW_LIMIT {
+        if matrix.rows() >= ROW_LIMIT {
             return Err(ValueFail::Limit);
         }
-        let row = read_row(alloc, cols, rows.len(), entries)?;
-        cols = row.len();
-        rows.push(row)?;
+        let row = read_later_row(alloc, matrix.cols(), entries)?;
+        push_row(matrix, &row)?;
     }
-    Ok(rows)
+    Ok(())
 }
 
-/// The length of the first row, 0 where there is none.
-fn cols_of(rows: &[Ints]) -> usize
-    ensures { result ≡ cols_of rows.now }
+/// The matrix that elements of an array are.
+fn read_rows(alloc: Global, items: &[Value]) -> Result<Matrix, ValueFail>
+    ensures ok { IfOk result (λ m. matrix_from (items_view items.now) ≡ Ok (matrix m.cols m.rows)) }
+    ensures fault { IfErr result (λ e. e ≢ ValueFail.Memory → matrix_from (items_view items.now) ≡ Err e) }
 {
-    match rows {
-        [] => 0,
-        [row, ..] => row.len(),
-    }
+    let Some((first, others)) = items.split_first() else {
+        return Ok(Matrix::new(alloc, 0));
+    };
+    let entries = read_items(first)?;
+    let row = read_first_row(alloc, entries)?;
+    let mut matrix = Matrix::new(alloc, row.len());
+    push_row(&mut matrix, &row)?;
+    read_later_rows(alloc, &mut matrix, others)?;
+    Ok(matrix)
 }
 
 /// The matrix that a JSON value is.
@@ -102,7 +111,6 @@ pub fn read_matrix(alloc: Global, v: &Value) -> Result<PropertyValue, ValueFail>
     ensures fault { IfErr result (λ e. e ≢ ValueFail.Memory → matrix_of (view v.now) ≡ Err e) }
 {
     let items = read_items(v)?;
-    let rows = read_rows(alloc, items)?;
-    let cols = cols_of(&rows) as u32;
-    Ok(PropertyValue::Mat(Rows::from_vec(rows, cols)))
+    let matrix = read_rows(alloc, items)?;
+    Ok(PropertyValue::Mat(matrix))
 }

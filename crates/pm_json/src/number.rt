@@ -1,14 +1,14 @@
 // Numbers from JSON.
 
 ghost use Rattle.pm_algebra.specs.Numbers.{InRange};
-ghost use Rattle.pm_json.specs.Readings.{count_of, entry_of, index_of, items_of, whole_number_of};
-ghost use Rattle.serde_json.specs.View.{items_view, view};
+ghost use Rattle.pm_json.specs.Readings.{count_of, entry_of, index_of, items_of, number_of, ratio_of_text, whole_fraction_of, whole_number_of};
+ghost use Rattle.pm_types.specs.Views.{over_one};
+ghost use Rattle.serde_json.specs.View.{items_view, number_view, view};
 ghost use Rattle.std.specs.Prelude.{IfErr, IfOk, ◌≡◌};
 
 use crate::fail::ValueFail;
-use serde_json::Value;
-
-const ENTRY_LIMIT: u64 = 9_007_199_254_740_992;
+use pm_fraction::{Fraction, read};
+use serde_json::{Number, Value};
 
 const COUNT_LIMIT: i128 = 2048;
 
@@ -23,20 +23,57 @@ pub fn read_items(v: &Value) -> Result<&[Value], ValueFail>
     }
 }
 
-/// An entry of a matrix: a whole number from -2^53 to 2^53.
-pub fn read_entry(v: &Value) -> Result<i128, ValueFail>
-    ensures value { result ≡ entry_of (view v.now) }
-    ensures in_range { IfOk result (λ k. InRange k) }
+/// A whole number as a fraction.
+fn fraction_of(k: i128) -> Fraction
+    requires { InRange k }
+    ensures { result ≡ over_one k }
 {
-    if v.is_string() {
-        return Err(ValueFail::Number);
+    match Fraction::from_whole(k) {
+        Ok(fraction) => fraction,
+        Err(_) => unreachable!(),
     }
-    let Some(number) = v.as_number() else {
-        return Err(ValueFail::Shape);
-    };
-    match number.as_i64() {
-        Some(k) if k.unsigned_abs() <= ENTRY_LIMIT => Ok(i128::from(k)),
-        _ => Err(ValueFail::Number),
+}
+
+/// The fraction that a number is, where it is whole.
+fn read_fraction(number: &Number) -> Result<Fraction, ValueFail>
+    ensures { result ≡ whole_fraction_of (number_view number.now) }
+{
+    if let Some(k) = number.as_i64() {
+        return Ok(fraction_of(i128::from(k)));
+    }
+    match number.as_u64() {
+        Some(k) => Ok(fraction_of(i128::from(k))),
+        None => Err(ValueFail::Number),
+    }
+}
+
+/// The fraction that a JSON number is.
+fn read_number(v: &Value) -> Result<Fraction, ValueFail>
+    ensures { result ≡ number_of (view v.now) }
+{
+    match v.as_number() {
+        Some(number) => read_fraction(number),
+        None => Err(ValueFail::Shape),
+    }
+}
+
+/// The fraction that a text writes.
+fn read_text(text: &str) -> Result<Fraction, ValueFail>
+    ensures { result ≡ ratio_of_text text.now }
+{
+    match read(text) {
+        Ok(fraction) => Ok(fraction),
+        Err(_) => Err(ValueFail::Number),
+    }
+}
+
+/// An entry of a matrix: a text that writes a fraction, or a whole number.
+pub fn read_entry(v: &Value) -> Result<Fraction, ValueFail>
+    ensures { result ≡ entry_of (view v.now) }
+{
+    match v.as_str() {
+        Some(text) => read_text(text),
+        None => read_number(v),
     }
 }
 

@@ -6,7 +6,7 @@ use serde_json::Value;
 use std::alloc::{AllocError, Global};
 use std::test::Fail;
 
-// The rows of a value with bars around its column count, or the fault.
+// The column count of a value and its rows, or the fault.
 fn shown(alloc: Global, p: PropId, text: &str) -> Result<String, AllocError> {
     let Ok(json) = Value::from_str(alloc, text) else {
         return format!(in alloc; "no JSON");
@@ -18,9 +18,11 @@ fn shown(alloc: Global, p: PropId, text: &str) -> Result<String, AllocError> {
         Ok(PropertyValue::Mat(m)) => {
             let cols = m.cols();
             let mut shown = format!(in alloc; "{cols}")?;
-            for row in m.rows() {
-                let row = row.as_slice();
-                shown.push_str(format!(in alloc; " {row:?}")?.as_str())?;
+            for i in 0..m.rows() {
+                shown.push_str(" |")?;
+                for entry in m.row(i) {
+                    shown.push_str(format!(in alloc; " {entry}")?.as_str())?;
+                }
             }
             Ok(shown)
         }
@@ -41,15 +43,36 @@ fn small_values_are_read(rt: HostRuntime) -> Result<(), Fail> {
     for (p, text, want) in [
         (
             PropId::Facets,
-            "[[1,0],[9007199254740992,-9007199254740992]]",
-            "2 [1, 0] [9007199254740992, -9007199254740992]",
+            "[[1,0],[18446744073709551615,-9223372036854775808]]",
+            "2 | 1 0 | 18446744073709551615 -9223372036854775808",
         ),
+        (
+            PropId::Facets,
+            "[[\"-6/4\",\"0/5\"],[\"007\",\"-0\"]]",
+            "2 | -3/2 0 | 7 0",
+        ),
+        (
+            PropId::Facets,
+            "[[\"170141183460469231731687303715884105727\",\"1\"]]",
+            "2 | 170141183460469231731687303715884105727 1",
+        ),
+        (PropId::Points, "[[\"1/2\",1]]", "2 | 1/2 1"),
         (PropId::AffineHull, "[]", "0"),
-        (PropId::Facets, "[[\"0\",1]]", "number"),
-        (PropId::Facets, "[[9007199254740993]]", "number"),
-        (PropId::Facets, "[[-9007199254740993]]", "number"),
+        (
+            PropId::Facets,
+            "[[\"170141183460469231731687303715884105728\",\"1\"]]",
+            "number",
+        ),
+        (PropId::Facets, "[[\"1/0\"]]", "number"),
+        (PropId::Facets, "[[\"x\"]]", "number"),
+        (PropId::Facets, "[[\"1.0\"]]", "number"),
+        (PropId::Facets, "[[\"\"]]", "number"),
+        (PropId::Facets, "[[\"1/-2\"]]", "number"),
         (PropId::Facets, "[[1.0]]", "number"),
-        (PropId::Facets, "[[99999999999999999999]]", "number"),
+        (PropId::Facets, "[[1.5]]", "number"),
+        (PropId::Facets, "[[-0]]", "number"),
+        (PropId::Facets, "[[18446744073709551616]]", "number"),
+        (PropId::Facets, "[[-9223372036854775809]]", "number"),
         (PropId::Facets, "[[true]]", "shape"),
         (PropId::Facets, "[[[1]]]", "shape"),
         (PropId::Facets, "[[null]]", "shape"),
@@ -112,6 +135,15 @@ fn small_values_are_read(rt: HostRuntime) -> Result<(), Fail> {
         (PropId::ConeAmbientDim, "9223372036854775808", "number"),
         (PropId::ConeAmbientDim, "\"2\"", "shape"),
         (PropId::ConeAmbientDim, "true", "shape"),
+        (PropId::ConeDim, "0", "0"),
+        (
+            PropId::LinealityDim,
+            "9223372036854775807",
+            "9223372036854775807",
+        ),
+        (PropId::Feasible, "false", "false"),
+        (PropId::Pointed, "true", "true"),
+        (PropId::FullDim, "1", "shape"),
     ] {
         assert_eq!(rt; shown(alloc, p, text)?.as_str(), want, "of {text}");
     }
@@ -178,7 +210,14 @@ fn great_values_are_read(rt: HostRuntime) -> Result<(), Fail> {
     let Ok(PropertyValue::Mat(m)) = read_value(alloc, PropId::LinealitySpace, &json) else {
         return Err("no matrix".into());
     };
-    assert_eq!(rt; m.rows().len(), 2048);
+    assert_eq!(rt; m.rows(), 2048);
+    let row = repeated(alloc, "1", 32, "\"1/2\"")?;
+    let rows = repeated(alloc, &row, 1, &row)?;
+    let json = Value::from_str(alloc, &rows)?;
+    let Ok(PropertyValue::Mat(m)) = read_value(alloc, PropId::Inequalities, &json) else {
+        return Err("no matrix".into());
+    };
+    assert_eq!(rt; (m.rows(), m.cols()), (2, 33));
     let sets = repeated(alloc, "[2,1]", 2047, "[2,1]")?;
     let json = Value::from_str(alloc, &sets)?;
     let Ok(PropertyValue::Sets(s)) = read_value(alloc, PropId::VerticesInFacets, &json) else {

@@ -2,6 +2,7 @@
 
 ghost use Rattle.pm_json.specs.Readings.{reading, truth_of, whole_of};
 ghost use Rattle.pm_types.specs.Forms.{is_built, is_dimension, is_formed};
+ghost use Rattle.pm_types.specs.Properties.{value_kind};
 ghost use Rattle.pm_types.specs.Views.{view_of};
 ghost use Rattle.serde_json.specs.View.{view};
 ghost use Rattle.std.specs.Prelude.{IfErr, IfOk, IsTrue, ◌≡◌, ◌≢◌};
@@ -22,7 +23,9 @@ fn is_dimension(k: i64) -> bool
 
 /// A whole number of 64 bits.
 fn read_whole(p: PropId, v: &Value) -> Result<PropertyValue, ValueFail>
+    requires { value_kind p ≡ ValueKind.Int }
     ensures ok { IfOk result (λ value. whole_of p (view v.now) ≡ Ok (view_of value)) }
+    ensures formed { IfOk result (λ value. IsTrue (is_formed p (view_of value))) }
     ensures fault { IfErr result (λ e. whole_of p (view v.now) ≡ Err e) }
 {
     let Some(number) = v.as_number() else {

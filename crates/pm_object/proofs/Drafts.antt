@@ -3,10 +3,10 @@ use Rattle.pm_object.specs.Reading.{Put, drafted, place_in, without}
 use Rattle.pm_types.proofs.Kept.{same_property_is, same_property_refl}
 use Rattle.pm_types.specs.Runs.{same_property}
 use Rattle.pm_types.specs.declared.property.PropId.{PropId}
-use Rattle.std.proofs.Common.{arith, drop, false, get_or, refl, sym, ap, true, true≢false, ◌≢◌, ◌∙◌, take}
-use Rattle.std.specs.List.{remove, slice_index_or}
+use Rattle.std.proofs.Common.{arith, drop, false, get_or, refl, sym, ap, true, true≢false, ◌≢◌, ◌∙◌}
+use Rattle.std.specs.List.{remove}
 use Rattle.std.specs.Option.{is_some}
-use Rattle.std.specs.Prelude.{Bool, List, None, Option, Some, [], if◌then◌else◌, length, map, suc, zero, ℕ, ◌+◌, ◌<◌, ◌∷◌, ◌≡◌}
+use Rattle.std.specs.Prelude.{Bool, List, None, Some, [], if◌then◌else◌, length, map, suc, zero, ℕ, ◌+◌, ◌<◌, ◌∷◌, ◌≡◌}
 
 apart : (p q : PropId) → q ≢ p → same_property p q ≡ false
 apart p q n = by (same_property p q) refl

@@ -3,17 +3,16 @@ use Rattle.pm_algebra.proofs.Lists.{Among, Contains_among, among_Contains, among
 use Rattle.pm_geom.specs.declared.ObjectType.{ObjectType}
 use Rattle.pm_object.specs.Formed.{IsFormedIn, IsFormed}
 use Rattle.pm_object.specs.declared.held.Held.{Held as HeldOf}
-use Rattle.pm_object.specs.State.{HeldValue, State, agrees, ambient_in, cols_of, first_cols, is_held, is_sealed, or_else, value_of, with_held}
-use Rattle.pm_types.proofs.Kept.{same_property_is, same_property_refl}
+use Rattle.pm_object.specs.State.{HeldValue, State, agrees, ambient_in, cols_of, first_cols, is_held, or_else, value_of, with_held}
+use Rattle.pm_types.proofs.Kept.{same_property_is}
 use Rattle.pm_types.specs.Forms.{agrees_with, is_ambient, is_dimension, is_formed, stated_cols, states}
 use Rattle.pm_types.specs.Runs.{same_property}
 use Rattle.pm_types.specs.Values.{PropertyValue, matrix, sets, whole, truth, extended, edges, lattice, counts}
 use Rattle.pm_types.specs.declared.property.PropId.{PropId}
 use Rattle.pm_types.specs.declared.property.PropId.TheVariants.{ConeAmbientDim}
 use Rattle.std.proofs.Common.{ap, arith, false, inl, inr, refl, subst, sym, true, true≢false, ◌∙◌}
-use Rattle.std.specs.List.{Contains}
 use Rattle.std.specs.Option.{is_some}
-use Rattle.std.specs.Prelude.{Bool, IsTrue, List, map, None, Option, Some, [], if◌then◌else◌, nat_eq, zero, suc, ℕ, ◌++◌, ◌||◌, ◌≤◌, ◌≡◌, ◌⊎◌, ◌∷◌}
+use Rattle.std.specs.Prelude.{Bool, List, map, None, Option, Some, [], if◌then◌else◌, nat_eq, ℕ, ◌++◌, ◌||◌, ◌≡◌, ◌⊎◌, ◌∷◌}
 use lib.IntN.{pos, negsuc}
 
 decide : (b : Bool) → (b ≡ true) ⊎ (b ≡ false)
@@ -265,8 +264,8 @@ each_push of held h each fits = by (cols_of held) refl
     by : (c : Option ℕ) → cols_of held ≡ c → Each of (cols_of (held ++ h ∷ [])) (held ++ h ∷ [])
     by (Some n) e g i =
         let p = part g i in
-        record { formed = p.formed; columns = subst (λ c. agrees c g.property g.value ≡ true) (e ∙ sym (cols_stay of held h n each fits e)) p.columns; rows = p.rows }
-    by None e g i = let p = part g i in record { formed = p.formed; columns = agrees_then of held h each fits e g i; rows = p.rows }
+        record { formed = p.formed; columns = subst (λ c. agrees c g.property g.value ≡ true) (e ∙ sym (cols_stay of held h n each fits e)) p.columns; rows = p.rows; entries = p.entries; primitive = p.primitive }
+    by None e g i = let p = part g i in record { formed = p.formed; columns = agrees_then of held h each fits e g i; rows = p.rows; entries = p.entries; primitive = p.primitive }
 
 -- what is held stays held
 pub held_stays : (p : PropId) (xs ys : List HeldValue) → is_held p xs ≡ true → is_held p (xs ++ ys) ≡ true

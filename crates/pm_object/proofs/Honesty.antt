@@ -1,13 +1,12 @@
 -- An object stays honest.
-use Rattle.pm_algebra.proofs.Filters.{among_filter, among_map, any_to, filter_among, map_among}
+use Rattle.pm_algebra.proofs.Filters.{among_map, any_to, filter_among, map_among}
 use Rattle.pm_algebra.proofs.Lists.{Among, Contains_among, among_All, among_Contains, among_append, here, there}
 use Rattle.pm_geom.specs.Things.{Orders, Thing}
 use Rattle.pm_geom.specs.declared.ObjectType.{ObjectType}
 use Rattle.pm_object.specs.Honest.{HonestAnswer, IsHonest, IsKept, based, facts, has_tag, is_given}
 use Rattle.pm_object.specs.Laws.{computed}
 use Rattle.pm_object.specs.State.{HeldValue, State, cols_of, empty_object, is_sealed, names_to_settle, settled, settling, settling_names, with_held}
-use Rattle.pm_object.specs.declared.held.Origin.{Origin}
-use Rattle.pm_object.specs.declared.held.Origin.TheVariants.{Given, Computed}
+use Rattle.pm_object.specs.declared.held.Origin.TheVariants.{Given}
 use Rattle.pm_types.proofs.Kept.{kept}
 use Rattle.pm_types.specs.Kinds.{IsFresh}
 use Rattle.pm_types.specs.Properties.{facets_tag, has_program, rays_tag}
@@ -17,9 +16,9 @@ use Rattle.pm_types.specs.Values.{Fact}
 use Rattle.pm_types.specs.declared.kind.Kind.{Kind}
 use Rattle.pm_types.specs.declared.property.PropId.{PropId}
 use Rattle.std.proofs.Common.{ap, append-nil, arith, false, inl, inr, refl, subst, sym, true, true≢false, ◌∙◌}
-use Rattle.std.specs.List.{All, Contains, list_any}
+use Rattle.std.specs.List.{Contains}
 use Rattle.std.specs.Option.{unwrap_or}
-use Rattle.std.specs.Prelude.{Bool, IsTrue, List, None, Option, Some, suc, [], if◌then◌else◌, filter, length, map, nat_eq, not, ℕ, ◌++◌, ◌∷◌, ◌≡◌, ◌⊎◌}
+use Rattle.std.specs.Prelude.{Bool, List, None, Option, suc, [], if◌then◌else◌, length, map, nat_eq, not, ℕ, ◌++◌, ◌∷◌, ◌≡◌}
 
 fact_of_held : HeldValue → Fact
 fact_of_held h = record { place = None; property = h.property; value = h.value }

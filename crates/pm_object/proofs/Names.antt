@@ -6,7 +6,7 @@ use Rattle.pm_types.specs.Runs.{same_property}
 use Rattle.pm_types.specs.Sets.{has, only, union}
 use Rattle.pm_types.specs.declared.property.PropId.{PropId}
 use Rattle.pm_types.specs.declared.set.PropSet.{PropSet}
-use Rattle.std.proofs.Common.{ap, arith, eqb, false, refl, sym, true, ◌∙◌}
+use Rattle.std.proofs.Common.{ap, arith, eqb, false, refl, true, ◌∙◌}
 use Rattle.std.specs.Option.{is_some}
 use Rattle.std.specs.Prelude.{Bool, List, Some, [], fold, if◌then◌else◌, map, nat_eq, ℕ, ◌∷◌, ◌||◌, ◌≡◌}
 

@@ -1,20 +1,23 @@
 -- What goes without saying leaves all values of an object in their forms.
-use Rattle.pm_algebra.proofs.Lists.{Among, Contains_among, all_append, here, there}
-use Rattle.pm_object.proofs.Formed.{IsDimension, Each, formed_push, held_dimension, held_stays, value_among, value_later, value_stays}
+use Rattle.pm_algebra.proofs.Lists.{Contains_among, all_append, here, there}
+use Rattle.pm_object.proofs.Formed.{Each, formed_push, held_dimension, held_stays, value_later, value_stays}
 use Rattle.pm_object.specs.Formed.{IsFormedIn, IsFormed}
 use Rattle.pm_object.specs.declared.held.Held.{Held as HeldOf}
 use Rattle.pm_algebra.specs.Numbers.{Ratio}
-use Rattle.pm_object.specs.State.{HeldValue, State, agrees, ambient_in, cols_of, first_cols, is_held, is_sealed, names_to_settle, only_if, or_else, settled, settling, settling_names, value_of, with_held}
-use Rattle.pm_types.specs.Forms.{cols_in, is_column_count, is_columned, is_dimension, is_formed, is_matrix_form, is_of_matrices, stated_cols}
+use Rattle.pm_object.specs.State.{HeldValue, State, agrees, ambient_in, cols_of, first_cols, is_held, is_sealed, names_to_settle, only_if, or_else, settled, settling, value_of, with_held}
+use Rattle.pm_matrix.specs.Matrices.{IsFraction}
+use Rattle.pm_types.specs.Forms.{HasPrimitiveRow, cols_in, is_column_count, is_columned, is_dimension, is_formed, is_matrix_form, is_of_matrices, stated_cols}
 use Rattle.pm_types.specs.Properties.{value_kind}
 use Rattle.pm_types.specs.Values.{PropertyValue, matrix, sets, whole, truth, extended, edges, lattice, counts}
 use Rattle.pm_types.specs.declared.property.PropId.{PropId}
 use Rattle.pm_types.specs.declared.property.PropId.TheVariants.{ConeAmbientDim, InputLineality, Equations, LinealitySpace, AffineHull}
 use Rattle.pm_geom.specs.declared.ObjectType.{ObjectType}
-use Rattle.std.proofs.Common.{ap, append-nil, arith, false, inl, inr, refl, subst, sym, true, true≢false, ◌∙◌}
-use Rattle.std.specs.List.{AllByRecursion, Contains}
+use Rattle.std.proofs.Common.{ap, append-nil, arith, false, refl, subst, sym, true, true≢false, ◌∙◌}
+use Rattle.std.proofs.lemmas.Bool.{leb-true}
+use Rattle.std.proofs.lemmas.List.Elements.{All-nil}
+use Rattle.std.specs.List.{All, AllByRecursion}
 use Rattle.std.specs.Option.{is_some, unwrap_or}
-use Rattle.std.specs.Prelude.{Bool, IsTrue, List, None, Option, Some, [], if◌then◌else◌, map, nat_eq, nat_le, not, zero, suc, ℕ, ◌&&◌, ◌++◌, ◌≡◌, ◌∷◌}
+use Rattle.std.specs.Prelude.{Bool, IfSome, List, None, Option, Some, [], if◌then◌else◌, map, nat_eq, nat_le, not, ℕ, ◌&&◌, ◌++◌, ◌^◌, ◌<◌, ◌≡◌, ◌∷◌}
 use lib.IntN.{pos}
 
 -- the properties that are settled as matrices without rows
@@ -32,10 +35,10 @@ no_rows_agree (Some n) space = refl
 no_rows_agree (Some n) hull = refl
 
 plain_formed : (of : ObjectType) (c : Option ℕ) (n : ℕ) {p : PropId} → Plain p → IsFormedIn of c (settled n p)
-plain_formed of c n lineality = record { formed = refl; columns = no_rows_agree c lineality; rows = refl }
-plain_formed of c n equations = record { formed = refl; columns = no_rows_agree c equations; rows = refl }
-plain_formed of c n space = record { formed = refl; columns = no_rows_agree c space; rows = refl }
-plain_formed of c n hull = record { formed = refl; columns = no_rows_agree c hull; rows = refl }
+plain_formed of c n lineality = record { formed = refl; columns = no_rows_agree c lineality; rows = refl; entries = All-nil (All IsFraction); primitive = All-nil HasPrimitiveRow }
+plain_formed of c n equations = record { formed = refl; columns = no_rows_agree c equations; rows = refl; entries = All-nil (All IsFraction); primitive = All-nil HasPrimitiveRow }
+plain_formed of c n space = record { formed = refl; columns = no_rows_agree c space; rows = refl; entries = All-nil (All IsFraction); primitive = All-nil HasPrimitiveRow }
+plain_formed of c n hull = record { formed = refl; columns = no_rows_agree c hull; rows = refl; entries = All-nil (All IsFraction); primitive = All-nil HasPrimitiveRow }
 
 append_more : (xs : List HeldValue) (h : HeldValue) (ys : List HeldValue) → (xs ++ h ∷ []) ++ ys ≡ xs ++ h ∷ ys
 append_more [] h ys = refl
@@ -109,6 +112,13 @@ cols_range of held n each e = by (value_of ConeAmbientDim held) refl
         let old : Some d.n ≡ Some n = ap (λ w. or_else (ambient_in w) (first_cols held)) (sym (is ∙ ap Some d.value)) ∙ e in
         subst (λ k. is_dimension (pos k) ≡ true) (some_is _ _ old) d.range
 
+pub cols_fit : (o : State) (c : Option ℕ) → IsFormed o → c ≡ cols_of o.held → IfSome c (λ n. n < 2 ^ 63)
+cols_fit o None f e = tt
+cols_fit o (Some n) f e =
+    let range : is_dimension (pos n) ≡ true = cols_range o.of o.held n (λ g i. f.each g (Contains_among i)) (sym e) in
+    let few = leb-true n 33 (and_right (nat_le 1 n) (nat_le n 33) range) in
+    omega arith
+
 -- the dimension that is settled
 dimension_fits : (of : ObjectType) (held : List HeldValue) → Each of (cols_of held) held → IsFormedIn of (cols_of held) (settled (unwrap_or (cols_of held) 1) ConeAmbientDim)
 dimension_fits of held each = by (cols_of held) refl
@@ -117,8 +127,8 @@ dimension_fits of held each = by (cols_of held) refl
     same_number n = grind arith
 
     by : (c : Option ℕ) → cols_of held ≡ c → IsFormedIn of c (settled (unwrap_or c 1) ConeAmbientDim)
-    by None e = record { formed = refl; columns = refl; rows = refl }
-    by (Some n) e = record { formed = cols_range of held n each e; columns = same_number n; rows = refl }
+    by None e = record { formed = refl; columns = refl; rows = refl; entries = All-nil (All IsFraction); primitive = All-nil HasPrimitiveRow }
+    by (Some n) e = record { formed = cols_range of held n each e; columns = same_number n; rows = refl; entries = All-nil (All IsFraction); primitive = All-nil HasPrimitiveRow }
 
 -- the names after the dimension: b, c, d, e say which of them are settled
 plain_names : (b c d e : Bool) → AllByRecursion Plain (only_if b InputLineality ++ only_if c Equations ++ only_if d LinealitySpace ++ only_if e AffineHull)

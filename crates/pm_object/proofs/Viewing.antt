@@ -1,12 +1,12 @@
 -- What stands in a view.
 use Rattle.pm_algebra.proofs.Filters.{among_map, map_among}
-use Rattle.pm_algebra.proofs.Lists.{Among, Contains_among, among_Contains, here, there}
+use Rattle.pm_algebra.proofs.Lists.{Among, Contains_among, among_Contains}
 use Rattle.pm_object.proofs.Formed.{value_among}
 use Rattle.pm_object.proofs.Settling.{cols_range}
 use Rattle.pm_object.specs.Formed.{IsFormed}
 use Rattle.pm_object.specs.Honest.{facts}
 use Rattle.pm_object.specs.Reading.{IsView, IsViewed, fact_of, view_for}
-use Rattle.pm_object.specs.State.{HeldValue, State, agrees, cols_of, is_held, value_of}
+use Rattle.pm_object.specs.State.{HeldValue, State, agrees, cols_of, value_of}
 use Rattle.pm_types.proofs.Kept.{among_shown, named_from, same_property_is, shown_among}
 use Rattle.pm_types.specs.Forms.{FormsIn, is_dimension}
 use Rattle.pm_types.specs.Properties.{has_program}
@@ -16,9 +16,8 @@ use Rattle.pm_types.specs.Values.{Fact, PropertyValue}
 use Rattle.pm_types.specs.declared.kind.Kind.{Kind}
 use Rattle.pm_types.specs.declared.property.PropId.{PropId}
 use Rattle.std.proofs.Common.{ap, false, refl, subst, sym, true, true≢false, ◌∙◌}
-use Rattle.std.specs.List.{Contains}
 use Rattle.std.specs.Option.{is_some, option_map}
-use Rattle.std.specs.Prelude.{Bool, IfSome, IsTrue, List, None, Option, Some, [], if◌then◌else◌, filter, nat_le, ℕ, ◌&&◌, ◌≡◌, ◌∷◌}
+use Rattle.std.specs.Prelude.{Bool, IfSome, IsTrue, List, None, Option, Some, [], if◌then◌else◌, nat_le, ℕ, ◌&&◌, ◌≡◌, ◌∷◌}
 use lib.IntN.{pos}
 
 place_none : (p : PropId) → place_of None p ≡ None
@@ -78,7 +77,7 @@ fact_among held h i = among_map (λ g. record { place = None; property = g.prope
 forms_of : (o : State) (n : ℕ) → IsFormed o → cols_of o.held ≡ Some n → (h : HeldValue) → Among h o.held → FormsIn o.of n h.property h.value
 forms_of o n f e h i =
     let each = f.each h (Contains_among i) in
-    record { formed = each.formed; columns = subst (λ c. agrees c h.property h.value ≡ true) e each.columns; rows = each.rows }
+    record { formed = each.formed; columns = subst (λ c. agrees c h.property h.value ≡ true) e each.columns; rows = each.rows; entries = each.entries; primitive = each.primitive }
 
 -- the value of a held property has its form
 pub value_forms : (o : State) (n : ℕ) (p : PropId) (v : PropertyValue) → IsFormed o → cols_of o.held ≡ Some n → value_of p o.held ≡ Some v → FormsIn o.of n p v
@@ -92,6 +91,7 @@ is_view o kind n f viewed = record {
   few_cols = and_right (nat_le 1 n) (nat_le n 33) range;
   sources = λ p h. named p h (value_of p o.held) refl (viewed.sources p h);
   forms = λ g i. formed g (shown_among kind None (facts o.held) (among_Contains (shown kind None (facts o.held)) i));
+  in_use = viewed.in_use;
 }
   where
     range : is_dimension (pos n) ≡ true

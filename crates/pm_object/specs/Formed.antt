@@ -1,10 +1,10 @@
 -- What is so of the values of every object.
---     IsFormedIn of n h      a held value of an object of this type, whose column count is n if it is known: it has the form of its property, agrees with n, and its rows pass their tests
+--     IsFormedIn of n h      a held value of an object of this type, whose column count is n if it is known: it has the form of its property, agrees with n, its rows pass their tests, its entries are fractions, and its primitive rows are made within the range
 --     IsFormed o      all held values are so, and an object for which a round was started knows its dimension
 use Rattle.std.specs.Prelude.{ℕ, ◌≡◌, true, IsTrue, Option}
 use Rattle.std.specs.List.{Contains}
 use Rattle.pm_geom.specs.declared.ObjectType.{ObjectType}
-use Rattle.pm_types.specs.Forms.{is_formed, are_rows}
+use Rattle.pm_types.specs.Forms.{AreFractions, HavePrimitiveRows, is_formed, are_rows}
 use Rattle.pm_types.specs.declared.property.PropId.TheVariants.{ConeAmbientDim}
 use Rattle.pm_object.specs.State.{HeldValue, State, agrees, cols_of, is_held, is_sealed}
 
@@ -12,6 +12,8 @@ pub record IsFormedIn (of : ObjectType) (n : Option ℕ) (h : HeldValue) : Type 
   pub formed : IsTrue (is_formed h.property h.value)
   pub columns : IsTrue (agrees n h.property h.value)
   pub rows : IsTrue (are_rows of h.property h.value)
+  pub entries : AreFractions h.value
+  pub primitive : HavePrimitiveRows h.value
 
 pub record IsFormed (o : State) : Type 0 where
   pub each : (h : HeldValue) → Contains o.held h → IsFormedIn o.of (cols_of o.held) h

@@ -10,6 +10,7 @@ use Rattle.std.specs.List.{Contains}
 use Rattle.pm_geom.specs.declared.ObjectType.{ObjectType}
 use Rattle.pm_types.specs.Runs.{place_of, same_property, shown, is_named}
 use Rattle.pm_types.specs.Forms.{FormsIn}
+use Rattle.pm_types.specs.Kinds.{IsKindOf}
 use Rattle.pm_types.specs.Sets.{has, members}
 use Rattle.pm_types.specs.Values.{Fact, PropertyValue}
 use Rattle.pm_types.specs.declared.kind.Kind.{Kind}
@@ -31,13 +32,15 @@ view_for o kind n = record { of = o.of; cols = n; kind = kind; sub = None; facts
 pub record IsViewed (o : State) (kind : Kind) (n : ℕ) : Type 0 where
   pub cols : cols_of o.held ≡ Some n
   pub sources : (p : PropId) → IsTrue (has kind.sources p) → IsTrue (is_held p o.held)
+  pub in_use : IsKindOf o.of kind
 
--- what is so of every view: n is from 1 to 33, all sources are there, and the values have their forms
+-- what is so of every view: n is from 1 to 33, all sources are there, the values have their forms, and the type's table has all names of the kind
 pub record IsView (v : ViewSeen) : Type 0 where
   pub some_cols : IsTrue (nat_le 1 v.cols)
   pub few_cols : IsTrue (nat_le v.cols 33)
   pub sources : (p : PropId) → IsTrue (has v.kind.sources p) → IsTrue (is_named v.facts v.sub p)
   pub forms : (f : Fact) → Contains v.facts f → FormsIn v.of v.cols f.property f.value
+  pub in_use : IsKindOf v.of v.kind
 
 abbrev pub fact_of : PropId → List Fact → Option PropertyValue
 fact_of p [] = None

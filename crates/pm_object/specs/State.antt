@@ -7,33 +7,32 @@
 --     is_sealed o      a round was started for the object
 --     cols_of held      CONE_AMBIENT_DIM if it is held, else the first column count that a held value states; None where none does
 --     agrees n p v      the value's columns, or its ambient dimension, do not differ from n
---     take_refusal o p v      the first reason not to take the value, in the order in which it is asked
+--     take_refusal o p v      the first reason not to take the value, in the order in which it is asked, before its primitive rows are asked for
+--     CanTake o p v      there is none, and the primitive rows are made within the range
+--     CannotTake o p v e      e is that reason; where there is none the value is no such thing, as some primitive row is not made within the range
 --     settling_names o      what goes without saying of an object without rounds, where it is not held
 --     settling o      these, as given values: the column count (1 where it is unknown), and matrices without rows
-use Rattle.std.specs.Prelude.{ℕ, zero, suc, ◌≡◌, ◌||◌, ◌&&◌, Bool, true, false, not, Option, Some, None, List, [], ◌∷◌, ◌++◌, length, map, nat_eq, if◌then◌else◌}
-use Rattle.std.specs.List.{list_all}
+use Rattle.std.specs.Prelude.{ℕ, ◌≡◌, ◌⊎◌, ◌||◌, ◌&&◌, Bool, true, false, not, Option, Some, None, List, [], ◌∷◌, ◌++◌, length, map, nat_eq, if◌then◌else◌}
 use Rattle.std.specs.Str.{bytes_eq}
 use Rattle.std.specs.Option.{is_some, unwrap_or}
-use Rattle.pm_algebra.specs.Numbers.{Ratio}
 use Rattle.pm_geom.specs.declared.ObjectType.{ObjectType}
-use Rattle.pm_geom.specs.declared.ObjectType.TheVariants.{Polytope, Cone, Fan}
-use Rattle.pm_types.specs.Forms.{stated_cols, agrees_with, are_rows}
+use Rattle.pm_types.specs.Forms.{HavePrimitiveRows, stated_cols, agrees_with, are_rows}
 use Rattle.pm_types.specs.Properties.{has}
 use Rattle.pm_types.specs.Runs.{same_property}
 use Rattle.pm_types.specs.Sets.{set_of}
 use Rattle.pm_types.specs.declared.set.PropSet.{PropSet}
 use Rattle.pm_types.specs.Values.{PropertyValue, matrix, whole}
 use Rattle.pm_types.specs.declared.property.PropId.{PropId}
-use Rattle.pm_types.specs.declared.property.PropId.TheVariants.{ConeAmbientDim, Points, InputLineality, Inequalities, Equations, Vertices, LinealitySpace, Facets, AffineHull, LinearObjective, MaximalDual, MinimalDual}
+use Rattle.pm_types.specs.declared.property.PropId.TheVariants.{ConeAmbientDim, Points, InputLineality, Inequalities, Equations, Vertices, LinealitySpace, Facets, AffineHull}
 use Rattle.pm_types.specs.declared.kind.RuleId.{RuleId}
 use Rattle.pm_types.specs.declared.weight.Cost.{Cost}
 use Rattle.pm_object.specs.declared.held.Origin.{Origin}
-use Rattle.pm_object.specs.declared.held.Origin.TheVariants.{Given, Computed}
+use Rattle.pm_object.specs.declared.held.Origin.TheVariants.{Given}
 use Rattle.pm_object.specs.declared.held.Excluded.{Excluded}
 use Rattle.pm_object.specs.declared.held.RoundEnd.{RoundEnd}
 use Rattle.pm_object.specs.declared.held.TakeFail.{TakeFail}
 use Rattle.pm_object.specs.declared.held.TakeFail.TheVariants as refused
-use lib.IntN.{ℤ, pos, negsuc}
+use lib.IntN.{pos}
 
 pub record HeldValue : Type 0 where
   pub property : PropId
@@ -100,6 +99,13 @@ take_refusal o p v = if is_held p o.held then Some refused.AlreadyHeld
     else if not (agrees (cols_of o.held) p v) then Some refused.Columns
     else if not (are_rows o.of p v) then Some refused.NotAThing
     else None
+
+abbrev pub CanTake : State → PropId → PropertyValue → Type 0
+CanTake o p v = (take_refusal o p v ≡ None) × HavePrimitiveRows v
+
+abbrev pub CannotTake : State → PropId → PropertyValue → TakeFail → Type 0
+CannotTake o p v refused.NotAThing = (take_refusal o p v ≡ Some refused.NotAThing) ⊎ ((take_refusal o p v ≡ None) × ¬ (HavePrimitiveRows v))
+CannotTake o p v e = take_refusal o p v ≡ Some e
 
 -- ---- the object with more; all else as it was
 abbrev pub with_held : State → List HeldValue → State

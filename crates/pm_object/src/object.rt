@@ -2,13 +2,14 @@
 
 ghost use Rattle.pm_types.specs.Values.{whole};
 ghost use Rattle.pm_types.specs.declared.property.PropId.TheVariants.{ConeAmbientDim};
-ghost use Rattle.pm_object.specs.State.{State, agrees, ambient_in, cols_of, empty_object, is_disabled, is_held, is_sealed, names_of, names_to_settle, settling, settling_names, take_refusal, value_of, with_disabled, with_excluded, with_held, with_round};
+ghost use Rattle.pm_object.specs.State.{CanTake, CannotTake, State, agrees, ambient_in, cols_of, empty_object, is_disabled, is_held, is_sealed, names_of, names_to_settle, settling, settling_names, value_of, with_disabled, with_excluded, with_held, with_round};
 ghost use Rattle.pm_types.specs.Forms.{are_rows, is_formed};
 ghost use Rattle.pm_object.specs.Formed.{IsFormed, IsFormedIn};
 ghost use Rattle.pm_object.specs.Views.{held_seen, round_seen};
 ghost use Rattle.pm_object.specs.declared.held.Origin.TheVariants.{Computed, Given};
 ghost use Rattle.pm_types.specs.Views.{view_of};
 ghost use Rattle.pm_object.specs.Reading.{view_for};
+ghost use Rattle.pm_types.specs.Kinds.{IsKindOf};
 ghost use Rattle.pm_types.specs.Sets.{has};
 ghost use Rattle.pm_types.specs.declared.property.PropId.{PropId};
 ghost use Rattle.std.specs.Option.{is_some, option_map, unwrap_or};
@@ -17,7 +18,7 @@ ghost use Rattle.std.specs.Prelude.{IfErr, IfOk, IfSome, IsTrue, false, if◌the
 use crate::copies::{copy_excluded, copy_held, copy_labels, copy_rounds};
 use crate::held::{Excluded, Held, Origin, Round, TakeFail};
 use crate::settled::{push_if, settled_values};
-use crate::tests_of_values::{agrees, are_rows, first_cols};
+use crate::tests_of_values::{agrees, are_rows, first_cols, require_primitive_rows};
 use crate::view::View;
 use pm_geom::ObjectType;
 use pm_types::{Kind, PropId, PropSet, Value};
@@ -149,12 +150,12 @@ impl Object {
 
     /// Adds a given value, unless the first of these holds: the property is held (`AlreadyHeld`), a round was started
     /// (`Sealed`), the type's table has no such property (`NotOfType`), the columns differ from n (`Columns`), a row
-    /// fails the tests of its property (`NotAThing`). Nothing changes where the answer is not Ok.
+    /// fails the tests of its property, or its primitive row is not made within the range (`NotAThing`). Nothing changes where the answer is not Ok.
     pub fn take(&mut self, p: PropId, v: Value) -> Result<(), TakeFail>
         requires formed { IsTrue (is_formed p (view_of v)) }
-        ensures ok { OnOk result (take_refusal self.old p (view_of v) ≡ None) }
+        ensures ok { OnOk result (CanTake self.old p (view_of v)) }
         ensures added { OnOk result (self.new ≡ with_held self.old (record { property = p; value = view_of v; origin = Given } ∷ [])) }
-        ensures refused { IfErr result (λ e. e ≢ TakeFail.Memory → take_refusal self.old p (view_of v) ≡ Some e) }
+        ensures refused { IfErr result (λ e. e ≢ TakeFail.Memory → CannotTake self.old p (view_of v) e) }
         ensures unchanged { OnErr result (self.new ≡ self.old) }
     {
         if self.holds(p) {
@@ -172,6 +173,7 @@ impl Object {
         if !are_rows(self.of, p, &v) {
             return Err(TakeFail::NotAThing);
         }
+        require_primitive_rows(*self.held.allocator(), p, &v)?;
         let given = Held {
             id: p,
             value: v,
@@ -317,10 +319,11 @@ impl Object {
         Ok(())
     }
 
-    /// What a client of this kind may read, of an object that knows its column count and holds the kind's sources.
+    /// What a client of this kind may read, of an object that knows its column count and holds the kind's sources. The type's table has all names of the kind.
     pub fn view(&self, kind: &Kind) -> View<'_>
         requires known { IsTrue (is_some (cols_of self.now.held)) }
         requires sources { (p : PropId) → IsTrue (has kind.now.sources p) → IsTrue (is_held p self.now.held) }
+        requires in_use { IsKindOf self.now.of kind.now }
         ensures { result ≡ view_for self.now kind.now (unwrap_or (cols_of self.now.held) 1) }
     {
         let Some(cols) = self.cols() else {

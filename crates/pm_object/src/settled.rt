@@ -6,7 +6,8 @@ ghost use Rattle.pm_types.specs.Views.{view_of};
 ghost use Rattle.std.specs.Prelude.{IfOk, OnOk, map, ◌++◌, ◌<◌, ◌^◌, ◌≡◌};
 
 use crate::held::{Held, Origin};
-use pm_types::{PropId, Rows, Value};
+use pm_matrix::Matrix;
+use pm_types::{PropId, Value};
 use std::alloc::{AllocError, Global};
 
 /// Puts a property behind the others, where the condition holds.
@@ -48,6 +49,6 @@ fn settled_value(alloc: Global, n: usize, p: PropId) -> Value
 {
     match p {
         PropId::ConeAmbientDim => Value::Int(n as i64),
-        _ => Value::Mat(Rows::new(alloc, 0)),
+        _ => Value::Mat(Matrix::new(alloc, 0)),
     }
 }

@@ -1,31 +1,39 @@
 // Objects with memory at hand: what is taken and what is not, what goes without saying, copies, and what a client reads.
 
-ghost use Rattle.std.specs.Prelude.{IfOk, [], ◌∷◌, ◌≡◌};
+ghost use Rattle.pm_types.specs.Forms.{is_matrix_form};
+ghost use Rattle.std.specs.Prelude.{IfOk, IsTrue};
 
 use crate::{Draft, Excluded, Object, Origin, Round, RoundEnd, TakeFail, Why};
+use pm_fraction::Fraction;
 use pm_geom::{Evidence, ObjectType};
-use pm_types::{Cost, Kind, PropId, PropSet, Rows, RuleId, Sets, Value};
+use pm_matrix::Matrix;
+use pm_types::{Cost, PropId, PropSet, RuleId, Sets, StandardClient, Value};
 use pm_vector::Ints;
 use std::alloc::{AllocError, Global};
 use std::test::Fail;
 
-fn pair(alloc: Global, first: i8, second: i8) -> Result<Ints, AllocError>
-    ensures { IfOk result (λ r. r ≡ first ∷ second ∷ []) }
-{
+fn pair(alloc: Global, first: i8, second: i8) -> Result<Ints, AllocError> {
     let mut entries = Vec::new(alloc);
     entries.push(first as i128)?;
     entries.push(second as i128)?;
     Ok(Ints::from_vec(entries))
 }
 
+fn row(x: (i8, i8)) -> Result<[Fraction; 2], Fail> {
+    Ok([
+        Fraction::from_whole(x.0 as i128)?,
+        Fraction::from_whole(x.1 as i128)?,
+    ])
+}
+
 // Two rows of two entries.
-fn two_rows(alloc: Global, x: (i8, i8), y: (i8, i8)) -> Result<Rows, AllocError>
-    ensures { IfOk result (λ r. r ≡ record { rows = (x.0 ∷ x.1 ∷ []) ∷ (y.0 ∷ y.1 ∷ []) ∷ []; cols = 2 }) }
+fn two_rows(alloc: Global, x: (i8, i8), y: (i8, i8)) -> Result<Matrix, Fail>
+    ensures { IfOk result (λ m. IsTrue (is_matrix_form m.cols m.rows)) }
 {
-    let mut rows = Vec::new(alloc);
-    rows.push(pair(alloc, x.0, x.1)?)?;
-    rows.push(pair(alloc, y.0, y.1)?)?;
-    Ok(Rows::from_vec(rows, 2))
+    let mut matrix = Matrix::new(alloc, 2);
+    matrix.push_row(&row(x)?)?;
+    matrix.push_row(&row(y)?)?;
+    Ok(matrix)
 }
 
 // The segment from 0 to 1, by its vertices and facets.
@@ -40,7 +48,7 @@ fn segment(alloc: Global) -> Result<Object, Fail> {
 
 fn is_without_rows(value: Option<&Value>) -> bool {
     match value {
-        Some(Value::Mat(rows)) => rows.rows().is_empty() && rows.cols() == 0,
+        Some(Value::Mat(rows)) => rows.rows() == 0 && rows.cols() == 0,
         _ => false,
     }
 }
@@ -88,7 +96,7 @@ fn what_is_not_taken(rt: HostRuntime) -> Result<(), Fail> {
         Err(TakeFail::AlreadyHeld)
     );
     assert_eq!(rt;
-        object.take(PropId::Vertices, Value::Mat(Rows::new(alloc, 3))),
+        object.take(PropId::Vertices, Value::Mat(Matrix::new(alloc, 3))),
         Err(TakeFail::Columns)
     );
     let zero = two_rows(alloc, (1, 0), (0, 0))?;
@@ -109,7 +117,7 @@ fn what_is_not_taken(rt: HostRuntime) -> Result<(), Fail> {
         end: RoundEnd::Done,
     })?;
     assert_eq!(rt;
-        object.take(PropId::Facets, Value::Mat(Rows::new(alloc, 2))),
+        object.take(PropId::Facets, Value::Mat(Matrix::new(alloc, 2))),
         Err(TakeFail::Sealed)
     );
     assert!(rt; object.is_sealed() && object.names() == PropSet::of(PropId::ConeAmbientDim));
@@ -162,9 +170,10 @@ fn a_client_reads_the_sources_and_answers(rt: HostRuntime) -> Result<(), Fail> {
     let alloc = rt.alloc();
     let mut object = segment(alloc)?;
     object.settle(alloc)?;
-    let kind = Kind::incidence();
+    let kind = StandardClient::Incidence.kind();
     assert!(rt; object.cols().is_some());
     assert!(rt; kind.sources.is_subset(object.names()));
+    assert!(rt; kind.is_of(object.of()));
     let view = object.view(&kind);
     assert_eq!(rt;
         (view.of(), view.cols(), view.kind()),
@@ -174,7 +183,7 @@ fn a_client_reads_the_sources_and_answers(rt: HostRuntime) -> Result<(), Fail> {
     let Some(Value::Mat(facets)) = view.value(PropId::Facets) else {
         panic!(rt; "the facets are a source");
     };
-    assert_eq!(rt; facets.rows().len(), 2);
+    assert_eq!(rt; facets.rows(), 2);
     let mut draft = Draft::new(alloc, &kind);
     assert!(rt; draft.kind().targets.contains(PropId::VerticesInFacets));
     let sets = Sets::from_vec(Vec::new(alloc), 2);

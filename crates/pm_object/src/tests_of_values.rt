@@ -1,27 +1,29 @@
 // What is asked of a value before it is taken: its columns and its rows.
 
 ghost use Rattle.pm_object.specs.State.{agrees, first_cols};
-ghost use Rattle.pm_types.specs.Forms.{agrees_with, are_rows, first_is_below, first_is_nought, is_nought, is_number, is_row, is_ambient, is_zero_row, stated_cols, states};
+ghost use Rattle.pm_matrix.specs.Matrices.{IsFraction};
+ghost use Rattle.pm_types.specs.Forms.{AreFractions, HasPrimitiveRow, HavePrimitiveRows, agrees_with, are_rows, first_is_below, first_is_nought, is_below_nought, is_formed, is_nought, is_number, is_row, is_ambient, is_zero_row, stated_cols, states};
 ghost use Rattle.pm_object.specs.Views.{held_seen};
-ghost use Rattle.pm_types.specs.Views.{ratios, view_of};
+ghost use Rattle.pm_types.specs.Views.{view_of};
 ghost use Rattle.std.specs.List.{list_all};
-ghost use Rattle.std.specs.Prelude.{IfSome, map, ◌<◌, ◌^◌, ◌≡◌};
+ghost use Rattle.std.specs.Prelude.{All, IfErr, IsTrue, OnOk, length, map, ◌≡◌, ◌≢◌, ◌≤◌};
 
-use crate::held::Held;
+use crate::held::{Held, TakeFail};
+use pm_fraction::Fraction;
 use pm_geom::ObjectType;
+use pm_matrix::{Matrix, RowsFail};
 use pm_types::{PropId, Value};
-use pm_vector::Ints;
+use std::alloc::Global;
 
 /// The column count that a value states, 0 where it states none.
 pub fn stated_cols(p: PropId, v: &Value) -> usize
-    ensures value { result ≡ stated_cols p (view_of v.now) }
-    ensures fits { result < 2 ^ 32 }
+    ensures { result ≡ stated_cols p (view_of v.now) }
 {
     if !p.is_columned() {
         return 0;
     }
     match v {
-        Value::Mat(rows) => rows.cols() as usize,
+        Value::Mat(matrix) => matrix.cols(),
         Value::Sets(_) => 0,
         Value::Int(_) => 0,
         Value::Bool(_) => 0,
@@ -30,8 +32,7 @@ pub fn stated_cols(p: PropId, v: &Value) -> usize
 
 /// The first column count that a held value states.
 pub fn first_cols(held: &[Held]) -> Option<usize>
-    ensures value { result ≡ first_cols (map held_seen held.now) }
-    ensures fits { IfSome result (λ n. n < 2 ^ 32) }
+    ensures { result ≡ first_cols (map held_seen held.now) }
 {
     for h in held {
         let n = stated_cols(h.id, &h.value);
@@ -84,26 +85,26 @@ pub fn are_rows(of: ObjectType, p: PropId, v: &Value) -> bool
     ensures { result ≡ are_rows of p (view_of v.now) }
 {
     match v {
-        Value::Mat(rows) => all_are_rows(of, p, rows.rows()),
+        Value::Mat(matrix) => all_are_rows(of, p, matrix),
         Value::Sets(_) => true,
         Value::Int(_) => true,
         Value::Bool(_) => true,
     }
 }
 
-fn all_are_rows(of: ObjectType, p: PropId, rows: &[Ints]) -> bool
-    ensures { result ≡ list_all (is_row of p) (map ratios rows.now) }
+fn all_are_rows(of: ObjectType, p: PropId, matrix: &Matrix) -> bool
+    ensures { result ≡ list_all (is_row of p) matrix.now.rows }
 {
-    for row in rows {
-        if !is_row(of, p, row) {
+    for i in 0..matrix.rows() {
+        if !is_row(of, p, matrix.row(i)) {
             return false;
         }
     }
     true
 }
 
-fn is_row(of: ObjectType, p: PropId, row: &Ints) -> bool
-    ensures { result ≡ is_row of p (ratios row.now) }
+fn is_row(of: ObjectType, p: PropId, row: &[Fraction]) -> bool
+    ensures { result ≡ is_row of p row.now }
 {
     match (of, p) {
         (ObjectType::Polytope, PropId::Points) => !first_is_below(row),
@@ -116,31 +117,72 @@ fn is_row(of: ObjectType, p: PropId, row: &Ints) -> bool
     }
 }
 
-fn is_zero_row(row: &Ints) -> bool
-    ensures { result ≡ is_zero_row (ratios row.now) }
+fn is_zero_row(row: &[Fraction]) -> bool
+    ensures { result ≡ is_zero_row row.now }
 {
-    for x in row.as_slice() {
-        if !is_nought(*x) {
+    for q in row {
+        if !is_nought(q.num()) {
             return false;
         }
     }
     true
 }
 
-fn is_nought(x: i128) -> bool
-    ensures { result ≡ is_nought x }
+fn is_nought(k: i128) -> bool
+    ensures { result ≡ is_nought k }
 {
-    x == 0
+    k == 0
 }
 
-fn first_is_nought(row: &Ints) -> bool
-    ensures { result ≡ first_is_nought (ratios row.now) }
+fn is_below_nought(k: i128) -> bool
+    ensures { result ≡ is_below_nought k }
 {
-    row.is_empty() || row.get(0) == 0
+    k < 0
 }
 
-fn first_is_below(row: &Ints) -> bool
-    ensures { result ≡ first_is_below (ratios row.now) }
+fn first_is_nought(row: &[Fraction]) -> bool
+    ensures { result ≡ first_is_nought row.now }
 {
-    !row.is_empty() && row.get(0) < 0
+    match row.first() {
+        Some(q) => is_nought(q.num()),
+        None => true,
+    }
+}
+
+fn first_is_below(row: &[Fraction]) -> bool
+    ensures { result ≡ first_is_below row.now }
+{
+    match row.first() {
+        Some(q) => is_below_nought(q.num()),
+        None => false,
+    }
+}
+
+/// Whether the primitive row of each row of a matrix is made within the range: `NotAThing` where one is not.
+pub fn require_primitive_rows(alloc: Global, p: PropId, v: &Value) -> Result<(), TakeFail>
+    requires { IsTrue (is_formed p (view_of v.now)) }
+    ensures ok { OnOk result (HavePrimitiveRows (view_of v.now)) }
+    ensures entries { OnOk result (AreFractions (view_of v.now)) }
+    ensures refused { IfErr result (λ e. e ≢ TakeFail.Memory → (e ≡ TakeFail.NotAThing) × ¬ (HavePrimitiveRows (view_of v.now))) }
+{
+    match v {
+        Value::Mat(matrix) => require_primitive_matrix(alloc, matrix),
+        Value::Sets(_) => Ok(()),
+        Value::Int(_) => Ok(()),
+        Value::Bool(_) => Ok(()),
+    }
+}
+
+fn require_primitive_matrix(alloc: Global, matrix: &Matrix) -> Result<(), TakeFail>
+    requires { length matrix.now.rows ≤ 2048 }
+    ensures ok { OnOk result (All HasPrimitiveRow matrix.now.rows) }
+    ensures entries { All (All IsFraction) matrix.now.rows }
+    ensures refused { IfErr result (λ e. e ≢ TakeFail.Memory → (e ≡ TakeFail.NotAThing) × ¬ (All HasPrimitiveRow matrix.now.rows)) }
+{
+    let _ = matrix.rows();
+    match matrix.to_primitive_rows(alloc) {
+        Ok(_) => Ok(()),
+        Err(RowsFail::Wide { .. }) => Err(TakeFail::NotAThing),
+        Err(RowsFail::Memory) => Err(TakeFail::Memory),
+    }
 }

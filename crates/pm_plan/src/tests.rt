@@ -49,6 +49,17 @@ fn names_of_cones() -> PropSet {
     names
 }
 
+// Every name that a polytope may have.
+fn names_of_polytopes() -> PropSet {
+    let mut names = PropSet::empty();
+    for p in PropId::every() {
+        if p.is_of_polytopes() {
+            names = names.with(p);
+        }
+    }
+    names
+}
+
 // The first of the sides, each from property 0 at weight 1, and property 25 from all of these at a great weight.
 fn many_sets(alloc: Global, count: usize) -> Result<Vec<Rule>, AllocError> {
     let mut sides = Vec::new(alloc);
@@ -234,7 +245,26 @@ fn the_standard_book(rt: HostRuntime) -> Result<(), Fail> {
     let held = PropSet::of_list(&[PropId::Vertices, PropId::Facets]);
     let asked = PropSet::of(PropId::VerticesInFacets);
     let p = plan(rt.alloc(), &book, names_of_cones(), held, &[], asked)?;
-    assert_eq!(rt; p.chain.as_slice(), [RuleId(0)].as_slice());
+    assert_eq!(rt; p.chain.as_slice(), [RuleId(12)].as_slice());
     assert_eq!(rt; p.weight, minor(5));
+    assert!(rt; is_start_alone(p.table.rows.as_slice(), 0xa0));
+    Ok(())
+}
+
+// The dimension of a polytope from its vertices: `cone_dim_v` and `lineality_dim`, in either order, before
+// `combinatorial_dim`.
+#[test]
+fn a_chain_of_the_standard_book(rt: HostRuntime) -> Result<(), Fail> {
+    let book = standard_book(rt.alloc())?;
+    let held = PropSet::of_list(&[PropId::Vertices, PropId::LinealitySpace]);
+    let asked = PropSet::of(PropId::CombinatorialDim);
+    let p = plan(rt.alloc(), &book, names_of_polytopes(), held, &[], asked)?;
+    assert_eq!(rt; p.weight, minor(6));
+    assert_eq!(rt; p.chain.len(), 3);
+    for rule in [RuleId(4), RuleId(7), RuleId(8)] {
+        assert!(rt; p.chain.iter().any(|id| *id == rule), "{rule:?}");
+    }
+    // below 6 there are CONE_DIM, LINEALITY_DIM, both, AFFINE_HULL, and POINTS with INPUT_LINEALITY
+    assert_eq!(rt; p.table.rows.len(), 6);
     Ok(())
 }

@@ -7,7 +7,7 @@ use Rattle.pm_types.specs.declared.set.PropSet.{PropSet}
 use Rattle.pm_types.specs.Properties.{number, every_property, first_name}
 use Rattle.pm_types.specs.Sets.{has, only, union, members}
 use Rattle.pm_types.proofs.Members.{has-empty, has-only, has-union, number_below, only_below, union_below, same_members}
-use Rattle.pm_types.proofs.Every.{same_number}
+use Rattle.pm_types.proofs.Numbers.{number_is}
 use Rattle.pm_rules.specs.declared.rule.Rule.{Rule}
 use Rattle.pm_rules.specs.Rules.{conditions}
 use Rattle.pm_rules.specs.Books.{IsNamed, IsRule}
@@ -42,7 +42,7 @@ others k p q s set at e up =
 up_in : (k : ℕ) (p : PropId) (s set : PropSet) → number p ≡ k → has set p ≡ true → UpTo k s set → UpTo (k + 1) (union s (only p)) set
 up_in k p s set at there up = λ q. has-union s (only p) q ∙ (elim (cases_Bool (eqb (number p) (number q))) [
   | inl e ↦ (
-      let same : p ≡ q = same_number p q (eqb-true (number p) (number q) e) in
+      let same : p ≡ q = number_is p q (eqb-true (number p) (number q) e) in
       let below : number q < k + 1 = omega (arith, at, ap number same) in
       or_right (has s q) (has (only p) q) (has-only p q ∙ e) ∙ sym (and_from (has set q) (ltb (number q) (k + 1)) (ap (λ r. has set r) (sym same) ∙ there) (lt-ltb (number q) (k + 1) below))
       )
@@ -52,7 +52,7 @@ up_in k p s set at there up = λ q. has-union s (only p) q ∙ (elim (cases_Bool
 up_out : (k : ℕ) (p : PropId) (s set : PropSet) → number p ≡ k → has set p ≡ false → UpTo k s set → UpTo (k + 1) s set
 up_out k p s set at none up = λ q. elim (cases_Bool (eqb (number p) (number q))) [
   | inl e ↦ (
-      let absent : has set q ≡ false = ap (λ r. has set r) (sym (same_number p q (eqb-true (number p) (number q) e))) ∙ none in
+      let absent : has set q ≡ false = ap (λ r. has set r) (sym (number_is p q (eqb-true (number p) (number q) e))) ∙ none in
       up q ∙ and_left (has set q) (ltb (number q) k) absent ∙ sym (and_left (has set q) (ltb (number q) (k + 1)) absent)
       )
   | inr e ↦ others k p q s set at e up

@@ -9,7 +9,7 @@ use Rattle.pm_types.specs.Properties.{number, value_kind}
 use Rattle.pm_types.specs.Sets.{has, only, union}
 use Rattle.pm_types.specs.Names.{property_named}
 use Rattle.pm_types.proofs.Members.{has-empty, has-only, has-union, only_below, union_below}
-use Rattle.pm_types.proofs.Every.{same_number}
+use Rattle.pm_types.proofs.Numbers.{number_is}
 use Rattle.pm_rules.specs.declared.fail.BookFail.{BookFail}
 use Rattle.pm_rules.specs.declared.fail.BookFail.TheVariants.{Syntax}
 use Rattle.pm_rules.specs.Words.{is_word}
@@ -64,7 +64,7 @@ pub has-only_itself : (p : PropId) → has (only p) p ≡ true
 has-only_itself p = has-only p p ∙ (let e : eqb (number p) (number p) ≡ true = grind arith in e)
 
 only_one : (p q : PropId) → has (only p) q ≡ true → p ≡ q
-only_one p q h = same_number p q (eqb-true (number p) (number q) (sym (has-only p q) ∙ h))
+only_one p q h = number_is p q (eqb-true (number p) (number q) (sym (has-only p q) ∙ h))
 
 pub names_are_named : (due : Bool) (set : PropSet) (end : ℕ) (ts : List Token) (x : PropSet × List Token) → names_from due set end ts ≡ Ok x → set < 2 ^ 48 → (due ≡ false → 0 < set) → IsNamed x.0
 unfolding names_from

@@ -2,8 +2,11 @@
 --     IsRule rule      what holds of each rule of a book
 --     IsBook rules      what holds of a book: at most 256 rules, no label twice
 --     FirstKinds kinds rules      the kind of each rule is the first of its name among these
+--     standard_weight c      what the rule of a standard client weighs, of class 0
+--     rule_of minor kind      the rule of a kind, under its name and without preconditions
+--     standard_rule c      the rule of a standard client
 --     standard_rules      the rules of the standard book that are built
-use Rattle.std.specs.Prelude.{◌≡◌, ◌≢◌, ℕ, ◌^◌, ◌<◌, ◌≤◌, false, IsTrue, List, [], ◌∷◌, Some, length, find, All, AllPairs, codes}
+use Rattle.std.specs.Prelude.{◌≡◌, ◌≢◌, ℕ, ◌^◌, ◌<◌, ◌≤◌, false, IsTrue, List, Some, length, find, map, All, AllPairs}
 use Rattle.std.specs.Str.{bytes_eq}
 use Rattle.pm_types.specs.declared.property.PropId.{PropId}
 use Rattle.pm_types.specs.declared.property.ValueKind.TheVariants as value
@@ -11,7 +14,9 @@ use Rattle.pm_types.specs.declared.set.PropSet.{PropSet}
 use Rattle.pm_types.specs.declared.kind.Kind.{Kind}
 use Rattle.pm_types.specs.Properties.{value_kind}
 use Rattle.pm_types.specs.Sets.{has, IsWithin}
-use Rattle.pm_types.specs.Kinds.{incidence_kind}
+use Rattle.pm_types.specs.Kinds.{standard_clients, standard_kind}
+use Rattle.pm_types.specs.declared.standard.StandardClient.{StandardClient}
+use Rattle.pm_types.specs.declared.standard.StandardClient.TheVariants as client
 use Rattle.pm_types.specs.Weights.{IsWeight}
 use Rattle.pm_rules.specs.declared.rule.Rule.{Rule}
 use Rattle.pm_rules.specs.Rules.{conditions}
@@ -48,14 +53,32 @@ pub record IsBook (rules : List Rule) : Type 0 where
 abbrev pub FirstKinds : List Kind → List Rule → Type 0
 FirstKinds kinds rules = All (λ rule. find (λ kind. bytes_eq kind.name rule.kind.name) kinds ≡ Some rule.kind) rules
 
-abbrev pub incidence_rule : Rule
-incidence_rule = record {
-  label = codes "incidence";
-  kind = incidence_kind;
-  weight = record { class = 0; minor = 5 };
+abbrev pub standard_weight : StandardClient → ℕ
+standard_weight client.PointsFromVertices = 5
+standard_weight client.InequalitiesFromFacets = 5
+standard_weight client.LinealityFromFacets = 5
+standard_weight client.HullFromVertices = 5
+standard_weight client.ConeDimV = 4
+standard_weight client.ConeDimSpan = 1
+standard_weight client.ConeDimPoints = 8
+standard_weight client.LinealityDim = 1
+standard_weight client.CombinatorialDim = 1
+standard_weight client.Feasible = 1
+standard_weight client.Pointed = 1
+standard_weight client.FullDim = 1
+standard_weight client.Incidence = 5
+
+abbrev pub rule_of : ℕ → Kind → Rule
+rule_of minor kind = record {
+  label = kind.name;
+  kind = kind;
+  weight = record { class = 0; minor = minor };
   must = 0;
   must_not = 0;
 }
 
+abbrev pub standard_rule : StandardClient → Rule
+standard_rule c = rule_of (standard_weight c) (standard_kind c)
+
 abbrev pub standard_rules : List Rule
-standard_rules = incidence_rule ∷ []
+standard_rules = map standard_rule standard_clients

@@ -3,10 +3,10 @@
 ghost use Rattle.std.specs.Prelude.{◌≡◌, ◌==◌, IfOk, length};
 ghost use Rattle.std.specs.Option.{option_copied};
 ghost use Rattle.pm_rules.specs.Rules.{rule_at};
-ghost use Rattle.pm_rules.specs.Books.{IsBook, incidence_rule, standard_rules};
+ghost use Rattle.pm_rules.specs.Books.{IsBook, standard_rule, standard_rules, standard_weight};
 
 use crate::rule::Rule;
-use pm_types::{ClientName, Kind, PropSet, RuleId, Weight};
+use pm_types::{PropSet, RuleId, StandardClient, Weight};
 use std::alloc::{AllocError, Global};
 use std::marker::Model;
 
@@ -75,20 +75,47 @@ impl Book {
 pub fn standard_book(alloc: Global) -> Result<Book, AllocError>
     ensures { IfOk result (λ b. b ≡ standard_rules) }
 {
-    let mut rules = Vec::new(alloc);
-    rules.push(incidence())?;
+    let rules = StandardClient::every()
+        .iter()
+        .map(|client| standard_rule(*client))
+        .collect(alloc)?;
     Ok(Book { rules })
 }
 
-// The rule of the client `incidence`.
-fn incidence() -> Rule
-    ensures { result ≡ incidence_rule }
+// The rule of a standard client.
+fn standard_rule(client: StandardClient) -> Rule
+    ensures { result ≡ standard_rule client }
 {
+    let kind = client.kind();
     Rule {
-        label: ClientName::new("incidence").unwrap(),
-        kind: Kind::incidence(),
-        weight: Weight { class: 0, minor: 5 },
+        label: kind.name,
+        kind,
+        weight: Weight {
+            class: 0,
+            minor: standard_weight(client),
+        },
         must: PropSet::empty(),
         must_not: PropSet::empty(),
+    }
+}
+
+// What the rule of a standard client weighs.
+fn standard_weight(client: StandardClient) -> u32
+    ensures { result ≡ standard_weight client }
+{
+    match client {
+        StandardClient::PointsFromVertices => 5,
+        StandardClient::InequalitiesFromFacets => 5,
+        StandardClient::LinealityFromFacets => 5,
+        StandardClient::HullFromVertices => 5,
+        StandardClient::ConeDimV => 4,
+        StandardClient::ConeDimSpan => 1,
+        StandardClient::ConeDimPoints => 8,
+        StandardClient::LinealityDim => 1,
+        StandardClient::CombinatorialDim => 1,
+        StandardClient::Feasible => 1,
+        StandardClient::Pointed => 1,
+        StandardClient::FullDim => 1,
+        StandardClient::Incidence => 5,
     }
 }

@@ -1,7 +1,7 @@
 // Books read and printed, and the places of faults.
 
 use crate::{BookFail, Claim, Cost, Step, Tag, book_text, is_barred, read_book, standard_book};
-use pm_types::{ClientName, Kind, PropId, PropSet, RuleId};
+use pm_types::{ClientName, Kind, PropId, PropSet, RuleId, standard_kinds};
 use std::alloc::{AllocError, Global};
 use std::process::Abort;
 
@@ -190,26 +190,46 @@ fn a_book_is_read_printed_and_read_back(rt: HostRuntime) {
 fn the_standard_book_is_printed(rt: HostRuntime) {
     let book = standard_book(rt.alloc()).expect(&rt, "the book");
     let printed = book_text(rt.alloc(), &book).expect(&rt, "the text");
-    let want = "incidence : rule VERTICES_IN_FACETS : VERTICES, FACETS { incidence } weight 5;\n";
+    let want =
+        "points_from_vertices : rule POINTS, INPUT_LINEALITY : VERTICES, LINEALITY_SPACE { points_from_vertices } weight 5;\n\
+        inequalities_from_facets : rule INEQUALITIES, EQUATIONS : FACETS, AFFINE_HULL { inequalities_from_facets } weight 5;\n\
+        lineality_from_facets : rule LINEALITY_SPACE : FACETS, AFFINE_HULL { lineality_from_facets } weight 5;\n\
+        hull_from_vertices : rule AFFINE_HULL : VERTICES, LINEALITY_SPACE { hull_from_vertices } weight 5;\n\
+        cone_dim_v : rule CONE_DIM : VERTICES, LINEALITY_SPACE { cone_dim_v } weight 4;\n\
+        cone_dim_span : rule CONE_DIM : AFFINE_HULL { cone_dim_span } weight 1;\n\
+        cone_dim_points : rule CONE_DIM : POINTS, INPUT_LINEALITY { cone_dim_points } weight 8;\n\
+        lineality_dim : rule LINEALITY_DIM : LINEALITY_SPACE { lineality_dim } weight 1;\n\
+        combinatorial_dim : rule COMBINATORIAL_DIM : CONE_DIM, LINEALITY_DIM { combinatorial_dim } weight 1;\n\
+        feasible : rule FEASIBLE : CONE_DIM { feasible } weight 1;\n\
+        pointed : rule POINTED : LINEALITY_DIM { pointed } weight 1;\n\
+        full_dim : rule FULL_DIM : CONE_DIM { full_dim } weight 1;\n\
+        incidence : rule VERTICES_IN_FACETS : VERTICES, FACETS { incidence } weight 5;\n";
     assert_eq!(rt; printed.as_str(), want);
+    assert_eq!(rt; book.len(), 13);
     assert!(rt; !book.is_empty());
+    let list = standard_kinds(rt.alloc()).expect(&rt, "the kinds");
+    let again = match read_book(rt.alloc(), want, list.as_slice()) {
+        Ok(book) => book,
+        Err(fail) => panic!(rt; "{fail:?}"),
+    };
+    assert_eq!(rt; again.rules(), book.rules());
 }
 
 // A cone with both descriptions: incidences can be found, once, and not where facets are missing.
 #[test]
 fn rules_are_enabled(rt: HostRuntime) {
     let book = standard_book(rt.alloc()).expect(&rt, "the book");
-    let Some(rule) = book.rule(RuleId(0)) else {
+    let Some(rule) = book.rule(RuleId(12)) else {
         panic!(rt; "no rule");
     };
     let both = PropSet::of_list(&[PropId::Vertices, PropId::Facets]);
     let all = both.with(PropId::VerticesInFacets);
-    assert!(rt; rule.is_enabled(all, &[], both, RuleId(0)));
-    assert!(rt; !rule.is_enabled(both, &[], both, RuleId(0)));
-    assert!(rt; !rule.is_enabled(all, &[RuleId(0)], both, RuleId(0)));
-    assert!(rt; !rule.is_enabled(all, &[], all, RuleId(0)));
-    assert!(rt; !rule.is_enabled(all, &[], PropSet::of(PropId::Vertices), RuleId(0)));
-    assert!(rt; is_barred(&[RuleId(2), RuleId(0)], RuleId(0)));
+    assert!(rt; rule.is_enabled(all, &[], both, RuleId(12)));
+    assert!(rt; !rule.is_enabled(both, &[], both, RuleId(12)));
+    assert!(rt; !rule.is_enabled(all, &[RuleId(12)], both, RuleId(12)));
+    assert!(rt; !rule.is_enabled(all, &[], all, RuleId(12)));
+    assert!(rt; !rule.is_enabled(all, &[], PropSet::of(PropId::Vertices), RuleId(12)));
+    assert!(rt; is_barred(&[RuleId(2), RuleId(12)], RuleId(12)));
     // a rule whose targets alone speak of the order of the rays waits until nothing does
     let fresh = Step {
         targets: PropSet::of(PropId::Vertices),

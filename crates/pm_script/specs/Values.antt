@@ -1,12 +1,11 @@
 -- Values as JSON texts, without spaces.
 --     array_text pieces      [..] of these pieces, with commas between them
 --     cols_text n      {"cols":n}
---     ratio_text q      n, or n/d where the denominator is not 1
 --     value_text v      the value: fractions and infinities as texts; a matrix with its column count only where it has no rows and a stated one; sets always with their column count; whole numbers and truth values as they are
-use Rattle.std.specs.Prelude.{ℕ, zero, suc, List, [], ◌∷◌, ◌++◌, Bool, true, false, map, codes, decimal, if◌then◌else◌}
+use Rattle.std.specs.Prelude.{ℕ, zero, suc, List, [], ◌∷◌, ◌++◌, Bool, true, false, map, codes, decimal}
 use Rattle.std.specs.Fmt.{signed_decimal}
 use Rattle.pm_algebra.specs.Numbers.{Ratio}
-use Rattle.pm_types.specs.Forms.{is_one}
+use Rattle.pm_fraction.specs.Text.{text_of}
 use Rattle.pm_types.specs.Values.{PropertyValue, matrix, sets, whole, truth, extended, edges, lattice, counts, Extended, finite, plus_infinity, minus_infinity}
 
 -- each with a comma before it
@@ -32,11 +31,8 @@ quoted text = codes "\"" ++ text ++ codes "\""
 abbrev pub cols_text : ℕ → List ℕ
 cols_text n = codes "{\"cols\":" ++ decimal n ++ codes "}"
 
-abbrev pub ratio_text : Ratio → List ℕ
-ratio_text q = if is_one q.den then signed_decimal q.num else signed_decimal q.num ++ codes "/" ++ signed_decimal q.den
-
 abbrev pub row_text : List Ratio → List ℕ
-row_text r = array_text (map (λ q. quoted (ratio_text q)) r)
+row_text r = array_text (map (λ q. quoted (text_of q)) r)
 
 abbrev pub matrix_text : ℕ → List (List Ratio) → List ℕ
 matrix_text zero [] = array_text []
@@ -57,7 +53,7 @@ truth_text true = codes "true"
 truth_text false = codes "false"
 
 abbrev pub extended_text : Extended → List ℕ
-extended_text (finite q) = ratio_text q
+extended_text (finite q) = text_of q
 extended_text plus_infinity = codes "inf"
 extended_text minus_infinity = codes "-inf"
 

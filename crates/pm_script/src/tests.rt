@@ -3,8 +3,9 @@
 use crate::{
     Command, LineFail, Ref, Refusal, Reply, ValueWhy, is_silent, read_line, reply_bytes, split_line,
 };
-use pm_types::{ObjectType, PropId, Rows, Sets, Value};
-use pm_vector::Ints;
+use pm_fraction::Fraction;
+use pm_matrix::Matrix;
+use pm_types::{ObjectType, PropId, Sets, Value};
 use std::alloc::{AllocError, Global};
 use std::test::Fail;
 
@@ -130,26 +131,26 @@ fn shown_value(alloc: Global, prop: PropId, value: Value) -> Result<Reply, Alloc
 #[test]
 fn values_are_written(rt: HostRuntime) -> Result<(), Fail> {
     let alloc = rt.alloc();
-    let mut rows = Vec::new(alloc);
-    rows.push(Ints::from_vec(vec![in alloc; 1, -2]?))?;
-    rows.push(Ints::from_vec(vec![in alloc; 0, 9_007_199_254_740_992]?))?;
+    let mut rays = Matrix::new(alloc, 2);
+    rays.push_row(&[Fraction::one(), Fraction::new(-2, 4)?])?;
+    rays.push_row(&[Fraction::zero(), Fraction::from_whole(i128::MAX)?])?;
     let mut sets = Vec::new(alloc);
     sets.push(vec![in alloc; 0, 12]?)?;
     sets.push(Vec::new(alloc))?;
     for (prop, value, want) in [
         (
             PropId::Vertices,
-            Value::Mat(Rows::from_vec(rows, 2)),
-            "c RAYS [[\"1\",\"-2\"],[\"0\",\"9007199254740992\"]]\n",
+            Value::Mat(rays),
+            "c RAYS [[\"1\",\"-1/2\"],[\"0\",\"170141183460469231731687303715884105727\"]]\n",
         ),
         (
             PropId::Facets,
-            Value::Mat(Rows::new(alloc, 0)),
+            Value::Mat(Matrix::new(alloc, 0)),
             "c FACETS []\n",
         ),
         (
             PropId::Facets,
-            Value::Mat(Rows::new(alloc, 3)),
+            Value::Mat(Matrix::new(alloc, 3)),
             "c FACETS [{\"cols\":3}]\n",
         ),
         (

@@ -1,29 +1,29 @@
 // Values as JSON texts.
 
-ghost use Rattle.pm_algebra.specs.Numbers.{Ratio};
-ghost use Rattle.pm_script.specs.Values.{array_text, cols_text, each_then_comma, matrix_text, more_pieces, quoted, ratio_text, row_text, set_text, sets_text, truth_text, value_text, with_commas};
-ghost use Rattle.pm_types.specs.Views.{over_one, ratios, view_of};
-ghost use Rattle.std.specs.Fmt.{signed_decimal};
-ghost use Rattle.std.specs.Prelude.{OnOk, [], codes, decimal, map, string_bytes, ◌++◌, ◌∷◌, ◌≡◌};
+ghost use Rattle.pm_fraction.specs.Text.{text_of};
+ghost use Rattle.pm_script.specs.Values.{array_text, cols_text, each_then_comma, matrix_text, more_pieces, quoted, row_text, set_text, sets_text, truth_text, value_text, with_commas};
+ghost use Rattle.pm_types.specs.Views.{view_of};
+ghost use Rattle.std.specs.Prelude.{OnOk, [], codes, decimal, drop, map, string_bytes, ◌++◌, ◌∷◌, ◌≡◌};
 
-use pm_types::{Rows, Sets, Value};
-use pm_vector::Ints;
+use pm_fraction::Fraction;
+use pm_matrix::Matrix;
+use pm_types::{Sets, Value};
 use std::alloc::AllocError;
 use std::fmt::Write;
 
 /// Writes the entries that follow the first of a row.
-fn push_more_entries(text: &mut String, entries: &[i128]) -> Result<(), AllocError>
-    ensures { OnOk result (string_bytes text.new ≡ string_bytes text.old ++ more_pieces (map (λ q. quoted (ratio_text q)) (ratios entries.now))) }
+fn push_more_entries(text: &mut String, entries: &[Fraction]) -> Result<(), AllocError>
+    ensures { OnOk result (string_bytes text.new ≡ string_bytes text.old ++ more_pieces (map (λ q. quoted (text_of q)) entries.now)) }
 {
-    for k in entries {
-        write!(text, ",\"{k}\"")?;
+    for q in entries {
+        write!(text, ",\"{q}\"")?;
     }
     Ok(())
 }
 
 /// Writes a row of a matrix.
-fn push_row(text: &mut String, entries: &[i128]) -> Result<(), AllocError>
-    ensures { OnOk result (string_bytes text.new ≡ string_bytes text.old ++ row_text (ratios entries.now)) }
+fn push_row(text: &mut String, entries: &[Fraction]) -> Result<(), AllocError>
+    ensures { OnOk result (string_bytes text.new ≡ string_bytes text.old ++ row_text entries.now) }
 {
     text.push_str("[")?;
     if let Some((first, others)) = entries.split_first() {
@@ -34,33 +34,31 @@ fn push_row(text: &mut String, entries: &[i128]) -> Result<(), AllocError>
 }
 
 /// Writes the rows that follow the first of a matrix.
-fn push_more_rows(text: &mut String, rows: &[Ints]) -> Result<(), AllocError>
-    ensures { OnOk result (string_bytes text.new ≡ string_bytes text.old ++ more_pieces (map row_text (map ratios rows.now))) }
+fn push_more_rows(text: &mut String, m: &Matrix) -> Result<(), AllocError>
+    ensures { OnOk result (string_bytes text.new ≡ string_bytes text.old ++ more_pieces (map row_text (drop 1 m.now.rows))) }
 {
-    for row in rows {
+    for i in 1..m.rows() {
         text.push_str(",")?;
-        push_row(text, row.as_slice())?;
+        push_row(text, m.row(i))?;
     }
     Ok(())
 }
 
 /// Writes a matrix.
-fn push_matrix(text: &mut String, m: &Rows) -> Result<(), AllocError>
-    ensures { OnOk result (string_bytes text.new ≡ string_bytes text.old ++ matrix_text m.now.cols (map ratios m.now.rows)) }
+fn push_matrix(text: &mut String, m: &Matrix) -> Result<(), AllocError>
+    ensures { OnOk result (string_bytes text.new ≡ string_bytes text.old ++ matrix_text m.now.cols m.now.rows) }
 {
-    match m.rows().split_first() {
-        Some((first, others)) => {
-            text.push_str("[")?;
-            push_row(text, first.as_slice())?;
-            push_more_rows(text, others)?;
-            text.push_str("]")
-        }
-        None => push_columns_alone(text, m.cols()),
+    if m.rows() == 0 {
+        return push_columns_alone(text, m.cols());
     }
+    text.push_str("[")?;
+    push_row(text, m.row(0))?;
+    push_more_rows(text, m)?;
+    text.push_str("]")
 }
 
 /// Writes a matrix without rows.
-fn push_columns_alone(text: &mut String, cols: u32) -> Result<(), AllocError>
+fn push_columns_alone(text: &mut String, cols: usize) -> Result<(), AllocError>
     ensures { OnOk result (string_bytes text.new ≡ string_bytes text.old ++ matrix_text cols []) }
 {
     if cols == 0 {
@@ -106,7 +104,7 @@ fn push_set_list(text: &mut String, rows: &[Vec<u32>]) -> Result<(), AllocError>
 }
 
 /// Writes a column count.
-fn push_cols(text: &mut String, cols: u32) -> Result<(), AllocError>
+fn push_cols(text: &mut String, cols: usize) -> Result<(), AllocError>
     ensures { OnOk result (string_bytes text.new ≡ string_bytes text.old ++ cols_text cols) }
 {
     write!(text, "{{\"cols\":{cols}}}")
@@ -118,7 +116,7 @@ fn push_sets(text: &mut String, sets: &Sets) -> Result<(), AllocError>
 {
     text.push_str("[")?;
     push_set_list(text, sets.rows())?;
-    push_cols(text, sets.cols())?;
+    push_cols(text, sets.cols() as usize)?;
     text.push_str("]")?;
     Ok(())
 }

@@ -1,123 +1,30 @@
 -- Every property stands in the list of all, so a test of that list is a test of all properties; sets made of lists.
-use Rattle.std.proofs.Common.{◌≡◌, ℕ, Bool, true, false, not, ◌&&◌, ◌||◌, ◌⊎◌, Some, List, [], ◌∷◌, eqb, fold, filter, refl, sym, ap, ◌∙◌, inl, inr, ◌↔◌, IsTrue}
+use Rattle.std.proofs.Common.{◌≡◌, zero, suc, true≢false, ℕ, Bool, true, false, not, ◌&&◌, ◌||◌, ◌⊎◌, Some, List, [], ◌∷◌, eqb, fold, filter, refl, sym, ap, ◌∙◌, inl, inr, ◌↔◌, IsTrue}
+use Rattle.std.specs.Prelude.{slice_get}
 use Rattle.std.specs.List.{list_any}
+use Rattle.std.specs.Option.{is_some}
 use Rattle.std.proofs.lemmas.Bool.{cases_Bool, and_parts, and_cases, not-true, not-false, or_cases, or_left, or_right, eqb-true, eq-eqb, false_from_ne_true, both_ways}
 use Rattle.pm_types.specs.declared.property.PropId.{PropId}
-use Rattle.pm_types.specs.declared.property.PropId.TheVariants.{ConeAmbientDim, Points, InputLineality, Inequalities, Equations, Vertices, LinealitySpace, Facets, AffineHull, VerticesInFacets, ConeDim, LinealityDim, CombinatorialDim, NVertices, NFacets, Feasible, Bounded, Pointed, FullDim, Centered, Simple, Simplicial, VertexSizes, FacetSizes, HasseDiagram, FVector, F2Vector, HVector, Graph, DualGraph, Diameter, DualDiameter, NEdges, NRidges, VertexDegrees, FarFace, MaximalCones, NMaximalCones, MaximalConesDims, FanDim, Pure, LinearObjective, MaximalValue, MinimalValue, MaximalFace, MinimalFace, MaximalDual, MinimalDual}
-use Rattle.pm_types.specs.Properties.{number, every_property, property_at}
+use Rattle.pm_types.specs.Properties.{number, every_property}
 use Rattle.pm_types.specs.Sets.{has, only, union, set_of, IsSubset}
 use Rattle.pm_types.proofs.Members.{has-empty, has-only, has-union}
+use Rattle.pm_types.proofs.Numbers.{number_is, property_at-number}
+
+some_same : {X : Type 0} (x y : X) → Some x ≡ Some y → x ≡ y
+some_same x y e = cc
 
 -- x stands in the list
 abbrev pub IsAmong : {X : Type 0} → X → List X → Type 0
 IsAmong x [] = ⊥
 IsAmong x (y ∷ ys) = (x ≡ y) ⊎ IsAmong x ys
 
+among_get : {X : Type 0} (xs : List X) (k : ℕ) {x : X} → slice_get xs k ≡ Some x → IsAmong x xs
+among_get [] k h = absurd (true≢false (sym (ap is_some h)))
+among_get (y ∷ ys) zero h = inl (some_same _ _ (sym h))
+among_get (y ∷ ys) (suc k) h = inr (among_get ys k h)
+
 pub every_IsAmong : (p : PropId) → IsAmong p every_property
-every_IsAmong ConeAmbientDim = inl refl
-every_IsAmong Points = inr (inl refl)
-every_IsAmong InputLineality = inr (inr (inl refl))
-every_IsAmong Inequalities = inr (inr (inr (inl refl)))
-every_IsAmong Equations = inr (inr (inr (inr (inl refl))))
-every_IsAmong Vertices = inr (inr (inr (inr (inr (inl refl)))))
-every_IsAmong LinealitySpace = inr (inr (inr (inr (inr (inr (inl refl))))))
-every_IsAmong Facets = inr (inr (inr (inr (inr (inr (inr (inl refl)))))))
-every_IsAmong AffineHull = inr (inr (inr (inr (inr (inr (inr (inr (inl refl))))))))
-every_IsAmong VerticesInFacets = inr (inr (inr (inr (inr (inr (inr (inr (inr (inl refl)))))))))
-every_IsAmong ConeDim = inr (inr (inr (inr (inr (inr (inr (inr (inr (inr (inl refl))))))))))
-every_IsAmong LinealityDim = inr (inr (inr (inr (inr (inr (inr (inr (inr (inr (inr (inl refl)))))))))))
-every_IsAmong CombinatorialDim = inr (inr (inr (inr (inr (inr (inr (inr (inr (inr (inr (inr (inl refl))))))))))))
-every_IsAmong NVertices = inr (inr (inr (inr (inr (inr (inr (inr (inr (inr (inr (inr (inr (inl refl)))))))))))))
-every_IsAmong NFacets = inr (inr (inr (inr (inr (inr (inr (inr (inr (inr (inr (inr (inr (inr (inl refl))))))))))))))
-every_IsAmong Feasible = inr (inr (inr (inr (inr (inr (inr (inr (inr (inr (inr (inr (inr (inr (inr (inl refl)))))))))))))))
-every_IsAmong Bounded = inr (inr (inr (inr (inr (inr (inr (inr (inr (inr (inr (inr (inr (inr (inr (inr (inl refl))))))))))))))))
-every_IsAmong Pointed = inr (inr (inr (inr (inr (inr (inr (inr (inr (inr (inr (inr (inr (inr (inr (inr (inr (inl refl)))))))))))))))))
-every_IsAmong FullDim = inr (inr (inr (inr (inr (inr (inr (inr (inr (inr (inr (inr (inr (inr (inr (inr (inr (inr (inl refl))))))))))))))))))
-every_IsAmong Centered = inr (inr (inr (inr (inr (inr (inr (inr (inr (inr (inr (inr (inr (inr (inr (inr (inr (inr (inr (inl refl)))))))))))))))))))
-every_IsAmong Simple = inr (inr (inr (inr (inr (inr (inr (inr (inr (inr (inr (inr (inr (inr (inr (inr (inr (inr (inr (inr (inl refl))))))))))))))))))))
-every_IsAmong Simplicial = inr (inr (inr (inr (inr (inr (inr (inr (inr (inr (inr (inr (inr (inr (inr (inr (inr (inr (inr (inr (inr (inl refl)))))))))))))))))))))
-every_IsAmong VertexSizes = inr (inr (inr (inr (inr (inr (inr (inr (inr (inr (inr (inr (inr (inr (inr (inr (inr (inr (inr (inr (inr (inr (inl refl))))))))))))))))))))))
-every_IsAmong FacetSizes = inr (inr (inr (inr (inr (inr (inr (inr (inr (inr (inr (inr (inr (inr (inr (inr (inr (inr (inr (inr (inr (inr (inr (inl refl)))))))))))))))))))))))
-every_IsAmong HasseDiagram = inr (inr (inr (inr (inr (inr (inr (inr (inr (inr (inr (inr (inr (inr (inr (inr (inr (inr (inr (inr (inr (inr (inr (inr (inl refl))))))))))))))))))))))))
-every_IsAmong FVector = inr (inr (inr (inr (inr (inr (inr (inr (inr (inr (inr (inr (inr (inr (inr (inr (inr (inr (inr (inr (inr (inr (inr (inr (inr (inl refl)))))))))))))))))))))))))
-every_IsAmong F2Vector = inr (inr (inr (inr (inr (inr (inr (inr (inr (inr (inr (inr (inr (inr (inr (inr (inr (inr (inr (inr (inr (inr (inr (inr (inr (inr (inl refl))))))))))))))))))))))))))
-every_IsAmong HVector = inr (inr (inr (inr (inr (inr (inr (inr (inr (inr (inr (inr (inr (inr (inr (inr (inr (inr (inr (inr (inr (inr (inr (inr (inr (inr (inr (inl refl)))))))))))))))))))))))))))
-every_IsAmong Graph = inr (inr (inr (inr (inr (inr (inr (inr (inr (inr (inr (inr (inr (inr (inr (inr (inr (inr (inr (inr (inr (inr (inr (inr (inr (inr (inr (inr (inl refl))))))))))))))))))))))))))))
-every_IsAmong DualGraph = inr (inr (inr (inr (inr (inr (inr (inr (inr (inr (inr (inr (inr (inr (inr (inr (inr (inr (inr (inr (inr (inr (inr (inr (inr (inr (inr (inr (inr (inl refl)))))))))))))))))))))))))))))
-every_IsAmong Diameter = inr (inr (inr (inr (inr (inr (inr (inr (inr (inr (inr (inr (inr (inr (inr (inr (inr (inr (inr (inr (inr (inr (inr (inr (inr (inr (inr (inr (inr (inr (inl refl))))))))))))))))))))))))))))))
-every_IsAmong DualDiameter = inr (inr (inr (inr (inr (inr (inr (inr (inr (inr (inr (inr (inr (inr (inr (inr (inr (inr (inr (inr (inr (inr (inr (inr (inr (inr (inr (inr (inr (inr (inr (inl refl)))))))))))))))))))))))))))))))
-every_IsAmong NEdges = inr (inr (inr (inr (inr (inr (inr (inr (inr (inr (inr (inr (inr (inr (inr (inr (inr (inr (inr (inr (inr (inr (inr (inr (inr (inr (inr (inr (inr (inr (inr (inr (inl refl))))))))))))))))))))))))))))))))
-every_IsAmong NRidges = inr (inr (inr (inr (inr (inr (inr (inr (inr (inr (inr (inr (inr (inr (inr (inr (inr (inr (inr (inr (inr (inr (inr (inr (inr (inr (inr (inr (inr (inr (inr (inr (inr (inl refl)))))))))))))))))))))))))))))))))
-every_IsAmong VertexDegrees = inr (inr (inr (inr (inr (inr (inr (inr (inr (inr (inr (inr (inr (inr (inr (inr (inr (inr (inr (inr (inr (inr (inr (inr (inr (inr (inr (inr (inr (inr (inr (inr (inr (inr (inl refl))))))))))))))))))))))))))))))))))
-every_IsAmong FarFace = inr (inr (inr (inr (inr (inr (inr (inr (inr (inr (inr (inr (inr (inr (inr (inr (inr (inr (inr (inr (inr (inr (inr (inr (inr (inr (inr (inr (inr (inr (inr (inr (inr (inr (inr (inl refl)))))))))))))))))))))))))))))))))))
-every_IsAmong MaximalCones = inr (inr (inr (inr (inr (inr (inr (inr (inr (inr (inr (inr (inr (inr (inr (inr (inr (inr (inr (inr (inr (inr (inr (inr (inr (inr (inr (inr (inr (inr (inr (inr (inr (inr (inr (inr (inl refl))))))))))))))))))))))))))))))))))))
-every_IsAmong NMaximalCones = inr (inr (inr (inr (inr (inr (inr (inr (inr (inr (inr (inr (inr (inr (inr (inr (inr (inr (inr (inr (inr (inr (inr (inr (inr (inr (inr (inr (inr (inr (inr (inr (inr (inr (inr (inr (inr (inl refl)))))))))))))))))))))))))))))))))))))
-every_IsAmong MaximalConesDims = inr (inr (inr (inr (inr (inr (inr (inr (inr (inr (inr (inr (inr (inr (inr (inr (inr (inr (inr (inr (inr (inr (inr (inr (inr (inr (inr (inr (inr (inr (inr (inr (inr (inr (inr (inr (inr (inr (inl refl))))))))))))))))))))))))))))))))))))))
-every_IsAmong FanDim = inr (inr (inr (inr (inr (inr (inr (inr (inr (inr (inr (inr (inr (inr (inr (inr (inr (inr (inr (inr (inr (inr (inr (inr (inr (inr (inr (inr (inr (inr (inr (inr (inr (inr (inr (inr (inr (inr (inr (inl refl)))))))))))))))))))))))))))))))))))))))
-every_IsAmong Pure = inr (inr (inr (inr (inr (inr (inr (inr (inr (inr (inr (inr (inr (inr (inr (inr (inr (inr (inr (inr (inr (inr (inr (inr (inr (inr (inr (inr (inr (inr (inr (inr (inr (inr (inr (inr (inr (inr (inr (inr (inl refl))))))))))))))))))))))))))))))))))))))))
-every_IsAmong LinearObjective = inr (inr (inr (inr (inr (inr (inr (inr (inr (inr (inr (inr (inr (inr (inr (inr (inr (inr (inr (inr (inr (inr (inr (inr (inr (inr (inr (inr (inr (inr (inr (inr (inr (inr (inr (inr (inr (inr (inr (inr (inr (inl refl)))))))))))))))))))))))))))))))))))))))))
-every_IsAmong MaximalValue = inr (inr (inr (inr (inr (inr (inr (inr (inr (inr (inr (inr (inr (inr (inr (inr (inr (inr (inr (inr (inr (inr (inr (inr (inr (inr (inr (inr (inr (inr (inr (inr (inr (inr (inr (inr (inr (inr (inr (inr (inr (inr (inl refl))))))))))))))))))))))))))))))))))))))))))
-every_IsAmong MinimalValue = inr (inr (inr (inr (inr (inr (inr (inr (inr (inr (inr (inr (inr (inr (inr (inr (inr (inr (inr (inr (inr (inr (inr (inr (inr (inr (inr (inr (inr (inr (inr (inr (inr (inr (inr (inr (inr (inr (inr (inr (inr (inr (inr (inl refl)))))))))))))))))))))))))))))))))))))))))))
-every_IsAmong MaximalFace = inr (inr (inr (inr (inr (inr (inr (inr (inr (inr (inr (inr (inr (inr (inr (inr (inr (inr (inr (inr (inr (inr (inr (inr (inr (inr (inr (inr (inr (inr (inr (inr (inr (inr (inr (inr (inr (inr (inr (inr (inr (inr (inr (inr (inl refl))))))))))))))))))))))))))))))))))))))))))))
-every_IsAmong MinimalFace = inr (inr (inr (inr (inr (inr (inr (inr (inr (inr (inr (inr (inr (inr (inr (inr (inr (inr (inr (inr (inr (inr (inr (inr (inr (inr (inr (inr (inr (inr (inr (inr (inr (inr (inr (inr (inr (inr (inr (inr (inr (inr (inr (inr (inr (inl refl)))))))))))))))))))))))))))))))))))))))))))))
-every_IsAmong MaximalDual = inr (inr (inr (inr (inr (inr (inr (inr (inr (inr (inr (inr (inr (inr (inr (inr (inr (inr (inr (inr (inr (inr (inr (inr (inr (inr (inr (inr (inr (inr (inr (inr (inr (inr (inr (inr (inr (inr (inr (inr (inr (inr (inr (inr (inr (inr (inl refl))))))))))))))))))))))))))))))))))))))))))))))
-every_IsAmong MinimalDual = inr (inr (inr (inr (inr (inr (inr (inr (inr (inr (inr (inr (inr (inr (inr (inr (inr (inr (inr (inr (inr (inr (inr (inr (inr (inr (inr (inr (inr (inr (inr (inr (inr (inr (inr (inr (inr (inr (inr (inr (inr (inr (inr (inr (inr (inr (inr (inl refl)))))))))))))))))))))))))))))))))))))))))))))))
-
-property_at-number : (p : PropId) → property_at (number p) ≡ Some p
-property_at-number ConeAmbientDim = refl
-property_at-number Points = refl
-property_at-number InputLineality = refl
-property_at-number Inequalities = refl
-property_at-number Equations = refl
-property_at-number Vertices = refl
-property_at-number LinealitySpace = refl
-property_at-number Facets = refl
-property_at-number AffineHull = refl
-property_at-number VerticesInFacets = refl
-property_at-number ConeDim = refl
-property_at-number LinealityDim = refl
-property_at-number CombinatorialDim = refl
-property_at-number NVertices = refl
-property_at-number NFacets = refl
-property_at-number Feasible = refl
-property_at-number Bounded = refl
-property_at-number Pointed = refl
-property_at-number FullDim = refl
-property_at-number Centered = refl
-property_at-number Simple = refl
-property_at-number Simplicial = refl
-property_at-number VertexSizes = refl
-property_at-number FacetSizes = refl
-property_at-number HasseDiagram = refl
-property_at-number FVector = refl
-property_at-number F2Vector = refl
-property_at-number HVector = refl
-property_at-number Graph = refl
-property_at-number DualGraph = refl
-property_at-number Diameter = refl
-property_at-number DualDiameter = refl
-property_at-number NEdges = refl
-property_at-number NRidges = refl
-property_at-number VertexDegrees = refl
-property_at-number FarFace = refl
-property_at-number MaximalCones = refl
-property_at-number NMaximalCones = refl
-property_at-number MaximalConesDims = refl
-property_at-number FanDim = refl
-property_at-number Pure = refl
-property_at-number LinearObjective = refl
-property_at-number MaximalValue = refl
-property_at-number MinimalValue = refl
-property_at-number MaximalFace = refl
-property_at-number MinimalFace = refl
-property_at-number MaximalDual = refl
-property_at-number MinimalDual = refl
-
-some_same : {X : Type 0} (x y : X) → Some x ≡ Some y → x ≡ y
-some_same x y e = cc
-
-pub same_number : (p q : PropId) → number p ≡ number q → p ≡ q
-same_number p q e = some_same p q (sym (property_at-number p) ∙ ap property_at e ∙ property_at-number q)
+every_IsAmong p = among_get every_property (number p) (property_at-number p)
 
 -- ---- some property passes a test
 list_any_there : {X : Type 0} (test : X → Bool) (xs : List X) (x : X) → IsAmong x xs → test x ≡ true → list_any test xs ≡ true
@@ -196,5 +103,5 @@ has-set_of_filter test p = has-set_of (filter test every_property) p ∙ (elim (
   | inl t ↦ list_any_there (λ q. eqb (number q) (number p)) (filter test every_property) p (among_filter test every_property p (every_IsAmong p) t) (eq-eqb (number p) (number p) refl) ∙ sym t
   | inr t ↦ false_from_ne_true (list_any (λ q. eqb (number q) (number p)) (filter test every_property)) (λ h.
       let found = list_any_where (λ q. eqb (number q) (number p)) (filter test every_property) h in
-      both_ways (test p) t (ap test (sym (same_number found.0 p (eqb-true (number found.0) (number p) found.2))) ∙ filter_passes test every_property found.0 found.1)) ∙ sym t
+      both_ways (test p) t (ap test (sym (number_is found.0 p (eqb-true (number found.0) (number p) found.2))) ∙ filter_passes test every_property found.0 found.1)) ∙ sym t
 ])

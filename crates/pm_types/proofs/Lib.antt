@@ -3,6 +3,7 @@ pub mod Every
 pub mod NameLemmas
 pub mod NameBytes
 pub mod CostOrder
+pub mod PrimitiveRows
 pub mod Standing
 pub mod Incidence
 pub mod Square
@@ -15,3 +16,7 @@ pub mod Spans
 pub mod Dimensions
 pub mod DimensionExamples
 pub mod Found
+pub mod KindLemmas
+pub mod PrimitiveStanding
+pub mod WholeRows
+pub mod Twins

@@ -41,7 +41,7 @@ lineality_span G L K f {x} h = record {
   opposed = in_through G L [] K (λ g i. elim i [ ]) (λ k i. let s = f k i in (s.inside, s.opposed)) (lines_opposite K x h);
 }
 
-basis_lineality : (n : ℕ) (G L K : List Row) → IsBasis n (InLineality (InCone G L)) K → (x : Row) → length x ≡ n → InLineality (InCone G L) x ↔ InSpan K x
+pub basis_lineality : (n : ℕ) (G L K : List Row) → IsBasis n (InLineality (InCone G L)) K → (x : Row) → length x ≡ n → InLineality (InCone G L) x ↔ InSpan K x
 basis_lineality n G L K b x lx = (b.spans x lx, lineality_span G L K (λ k i. among_All (λ y. InLineality (InCone G L) y) i b.inside))
 
 -- ---- VERTICES with LINEALITY_SPACE

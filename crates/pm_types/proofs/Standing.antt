@@ -83,12 +83,12 @@ in_order_at R (v ∷ vs) (x ∷ xs) h zero l = h.0
 in_order_at R (v ∷ vs) (x ∷ xs) h (suc j) l = in_order_at R vs xs h.1 j (omega arith)
 
 -- ---- whole numbers over 1
-ratio_at_ratios : (x : Row) (i : ℕ) → ratio_at (ratios x) i ≡ over_one (entry x i)
+pub ratio_at_ratios : (x : Row) (i : ℕ) → ratio_at (ratios x) i ≡ over_one (entry x i)
 ratio_at_ratios [] i = refl
 ratio_at_ratios (a ∷ x) zero = refl
 ratio_at_ratios (a ∷ x) (suc i) = ratio_at_ratios x i
 
-length_ratios : (x : Row) → length x ≡ length (ratios x)
+pub length_ratios : (x : Row) → length x ≡ length (ratios x)
 length_ratios [] = refl
 length_ratios (a ∷ x) = ap suc (length_ratios x)
 

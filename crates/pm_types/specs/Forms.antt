@@ -4,33 +4,50 @@
 --     stated_cols p v      the column count of an n-column matrix that has rows or a stated one, 0 for other values
 --     is_formed p v      the value has the form of a value of p, and keeps the limits:
 --         a matrix has at most 2,048 rows of one length from 1 to 33; without rows it may state no column count, 0
---         an entry is a whole number from -2^53 to 2^53
 --         at most 2,048 sets, each ascending, of indices below a column count of at most 2,048
 --         CONE_AMBIENT_DIM is from 1 to 33, other whole numbers have 64 bits
 --         values of further kinds have no form yet
 --     agrees_with n p v      the value's columns, or the dimension that it states, do not differ from n
 --     is_row of p r, are_rows of p v      the row, each row of the value, passes the tests of rows of that property
+--     HasPrimitiveRow r      the primitive row of r is made within the range: so is, column by column, each least common multiple of the denominators so far,
+--         and then, column by column, each numerator over the last of these
+--     rows_in v      the rows of a matrix; none of other values
+--     AreFractions v      each entry is in lowest terms, with both parts in the range
+--     HavePrimitiveRows v      so is it for each row
 --     FormsIn of n p v      a value that an object of this type with n columns may hold
-use Rattle.std.specs.Prelude.{ℕ, zero, suc, ◌||◌, ◌&&◌, ◌^◌, Bool, true, false, not, IsTrue, List, [], ◌∷◌, length, nat_eq, nat_le, nat_lt, if◌then◌else◌, unsigned_abs}
-use Rattle.std.specs.List.{list_all}
+use Rattle.std.specs.Prelude.{ℕ, zero, suc, ◌||◌, ◌&&◌, ◌^◌, Bool, true, false, not, IsTrue, List, [], ◌∷◌, length, nat_eq, nat_le, nat_lt, if◌then◌else◌}
+use Rattle.std.specs.List.{All, list_all}
 use Rattle.pm_algebra.specs.Numbers.{Ratio}
 use Rattle.pm_geom.specs.declared.ObjectType.{ObjectType}
 use Rattle.pm_geom.specs.declared.ObjectType.TheVariants.{Polytope}
+use Rattle.pm_matrix.specs.FractionRows.{IsLeastDenominator}
+use Rattle.pm_matrix.specs.Matrices.{IsFraction}
+use Rattle.pm_matrix.specs.Wideness.{DenominatorsStay, NumeratorsStay}
 use Rattle.pm_types.specs.Properties.{value_kind}
 use Rattle.pm_types.specs.Values.{PropertyValue, matrix, sets, whole, truth}
 use Rattle.pm_types.specs.declared.property.PropId.{PropId}
-use Rattle.pm_types.specs.declared.property.PropId.TheVariants.{ConeAmbientDim, Points, InputLineality, Inequalities, Equations, Vertices, LinealitySpace, Facets, AffineHull, VerticesInFacets, LinearObjective, MaximalDual, MinimalDual}
+use Rattle.pm_types.specs.declared.property.PropId.TheVariants.{ConeAmbientDim, Points, InputLineality, Inequalities, Equations, Vertices, LinealitySpace, Facets, AffineHull, VerticesInFacets, ConeDim, LinealityDim, CombinatorialDim, Feasible, Pointed, FullDim, LinearObjective, MaximalDual, MinimalDual}
 use Rattle.pm_types.specs.declared.property.ValueKind.{ValueKind}
 use Rattle.pm_types.specs.declared.property.ValueKind.TheVariants as kind
 use lib.IntN.{ℤ, pos, negsuc}
 
 abbrev pub is_built : PropId → Bool
 is_built ConeAmbientDim = true
+is_built Points = true
+is_built InputLineality = true
+is_built Inequalities = true
+is_built Equations = true
 is_built Vertices = true
 is_built LinealitySpace = true
 is_built Facets = true
 is_built AffineHull = true
 is_built VerticesInFacets = true
+is_built ConeDim = true
+is_built LinealityDim = true
+is_built CombinatorialDim = true
+is_built Feasible = true
+is_built Pointed = true
+is_built FullDim = true
 is_built p = false
 
 -- ---- forms
@@ -50,16 +67,9 @@ abbrev pub is_of_truth_values : ValueKind → Bool
 is_of_truth_values kind.Bool = true
 is_of_truth_values k = false
 
-abbrev pub is_one : ℤ → Bool
-is_one (pos n) = nat_eq n 1
-is_one (negsuc n) = false
-
-abbrev pub is_entry : Ratio → Bool
-is_entry q = is_one q.den && nat_le (unsigned_abs q.num) (2 ^ 53)
-
 -- a row of n entries
 abbrev pub is_row_of_entries : ℕ → List Ratio → Bool
-is_row_of_entries n r = nat_eq (length r) n && list_all is_entry r
+is_row_of_entries n r = nat_eq (length r) n
 
 -- rows need columns
 abbrev pub is_column_count : List (List Ratio) → ℕ → Bool
@@ -165,7 +175,23 @@ abbrev pub are_rows : ObjectType → PropId → PropertyValue → Bool
 are_rows of p (matrix n rows) = list_all (is_row of p) rows
 are_rows of p v = true
 
+pub record HasPrimitiveRow (r : List Ratio) : Type 0 where
+  pub denominators : DenominatorsStay r (length r)
+  pub numerators : (m : ℕ) → IsLeastDenominator r (length r) m → NumeratorsStay r m (length r)
+
+abbrev pub rows_in : PropertyValue → List (List Ratio)
+rows_in (matrix n rows) = rows
+rows_in v = []
+
+abbrev pub AreFractions : PropertyValue → Type 0
+AreFractions v = All (All IsFraction) (rows_in v)
+
+abbrev pub HavePrimitiveRows : PropertyValue → Type 0
+HavePrimitiveRows v = All HasPrimitiveRow (rows_in v)
+
 pub record FormsIn (of : ObjectType) (n : ℕ) (p : PropId) (v : PropertyValue) : Type 0 where
   pub formed : IsTrue (is_formed p v)
   pub columns : IsTrue (agrees_with n p v)
   pub rows : IsTrue (are_rows of p v)
+  pub entries : AreFractions v
+  pub primitive : HavePrimitiveRows v

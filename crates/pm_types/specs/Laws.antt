@@ -8,12 +8,12 @@ use Rattle.pm_elim.specs.NullSpaces.{IsNullBasis}
 use Rattle.pm_geom.specs.Things.{Thing, IsThing, Orders, AreOrders}
 use Rattle.pm_geom.specs.declared.ObjectType.TheVariants.{Fan}
 use Rattle.pm_types.specs.Canonical.{IsCanonical, IsEchelonBasisOf, Vanishing}
-use Rattle.pm_types.specs.Right.{InLines, PairGenerates, Right, StandFor}
+use Rattle.pm_types.specs.Right.{InLines, PairCutsOut, PairGenerates, Right, StandFor}
 use Rattle.pm_types.specs.Values.{PropertyValue, matrix, truth, whole}
 use Rattle.pm_types.specs.Views.{ratios}
 use Rattle.pm_types.specs.declared.kind.Kind.{Kind}
 use Rattle.pm_types.specs.declared.property.PropId.{PropId}
-use Rattle.pm_types.specs.declared.property.PropId.TheVariants.{Points, InputLineality, Vertices, LinealitySpace, Facets, AffineHull, ConeDim, LinealityDim, CombinatorialDim, Feasible, Pointed, FullDim}
+use Rattle.pm_types.specs.declared.property.PropId.TheVariants.{Points, InputLineality, Inequalities, Equations, Vertices, LinealitySpace, Facets, AffineHull, ConeDim, LinealityDim, CombinatorialDim, Feasible, Pointed, FullDim}
 use lib.IntN.{ℤ, pos, ◌-ℤ◌}
 
 abbrev pub OneValue : PropId → Thing → Type 0
@@ -73,3 +73,13 @@ abbrev pub EchelonIsRight : Type 0
 EchelonIsRight = (t : Thing) (o : Orders) (kind : Kind) (n : ℕ) (c : List Ratio) (N : List Row) (P : List ℕ) →
     (IsEchelonBasisOf t.cols (Vanishing t) N P → Right AffineHull (matrix n (map ratios N)) t o c × IsCanonical kind AffineHull (matrix n (map ratios N)) t) ×
     (IsEchelonBasisOf t.cols (InLines t) N P → Right LinealitySpace (matrix n (map ratios N)) t o c × IsCanonical kind LinealitySpace (matrix n (map ratios N)) t)
+
+-- right VERTICES and LINEALITY_SPACE of a cone or polytope are right POINTS and INPUT_LINEALITY, each alone and both together
+abbrev pub VerticesGenerate : Type 0
+VerticesGenerate = (t : Thing) (o : Orders) → IsThing t → AreOrders t o → ¬ (t.of ≡ Fan) → (n m : ℕ) (rays lines : List (List Ratio)) (c d : List Ratio) → Right Vertices (matrix n rays) t o c → Right LinealitySpace (matrix m lines) t o d →
+    Right Points (matrix n rays) t o c × Right InputLineality (matrix m lines) t o d × PairGenerates t rays lines
+
+-- right FACETS and AFFINE_HULL of a cone or polytope are right INEQUALITIES and EQUATIONS, each alone and both together
+abbrev pub FacetsCutOut : Type 0
+FacetsCutOut = (t : Thing) (o : Orders) → IsThing t → AreOrders t o → ¬ (t.of ≡ Fan) → (n m : ℕ) (facets hull : List (List Ratio)) (c d : List Ratio) → Right Facets (matrix n facets) t o c → Right AffineHull (matrix m hull) t o d →
+    Right Inequalities (matrix n facets) t o c × Right Equations (matrix m hull) t o d × PairCutsOut t facets hull

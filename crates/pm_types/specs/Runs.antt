@@ -7,7 +7,8 @@
 --     missing sub held answer      what an answer has of properties that are not held
 --     Meets kind t o      what the kind asks for is so of the thing
 --     Keeps kind o p      the orders p are the orders o, but where the kind is fresh in them
---     MayAnswer of n kind sub read answer      the answer has exactly the targets, each in its form with n columns and canonical, and is right wherever what was read is: for every thing of the type with n columns, and all orders, for which what was read is right and the kind's conditions hold, there are orders, the same unless the kind is fresh in them, for which both together are right
+--     states_rows v      where it is a matrix without rows it states no column count
+--     MayAnswer of n kind sub read answer      the answer has exactly the targets, each in its form with n columns (none stated without rows) and canonical, and is right wherever what was read is: for every thing of the type with n columns, and all orders, for which what was read is right and the kind's conditions hold, there are orders, the same unless the kind is fresh in them, for which both together are right
 --     MayRun kind sub n held      its sources are held, what it asks for is held so, n is held, and nothing that is held has a tag in which the kind is fresh
 use Rattle.std.specs.Prelude.{ℕ, ◌≡◌, ◌&&◌, Bool, true, false, IsTrue, not, nat_eq, if◌then◌else◌, Option, None, Some, List, [], ◌++◌, filter, map}
 use Rattle.std.specs.List.{All, Contains, list_any}
@@ -19,7 +20,7 @@ use Rattle.pm_types.specs.Kinds.{IsFresh}
 use Rattle.pm_types.specs.Properties.{number, has_program, rays_tag, facets_tag, generators_tag, half_spaces_tag}
 use Rattle.pm_types.specs.Right.{Right, RightAll}
 use Rattle.pm_types.specs.Sets.{has, members}
-use Rattle.pm_types.specs.Values.{Fact, PropertyValue, whole, truth}
+use Rattle.pm_types.specs.Values.{Fact, PropertyValue, matrix, whole, truth}
 use Rattle.pm_types.specs.declared.kind.Kind.{Kind}
 use Rattle.pm_types.specs.declared.property.PropId.{PropId}
 use Rattle.pm_types.specs.declared.property.PropId.TheVariants.{ConeAmbientDim}
@@ -69,10 +70,15 @@ pub record RightAnswer (kind : Kind) (read answer : List Fact) (t : Thing) (o : 
   pub right : RightAll (read ++ answer) t orders
   pub keeps : Keeps kind o orders
 
+abbrev pub states_rows : PropertyValue → Bool
+states_rows (matrix n []) = nat_eq n 0
+states_rows v = true
+
 pub record MayAnswer (of : ObjectType) (n : ℕ) (kind : Kind) (sub : Option ℕ) (read answer : List Fact) : Type 0 where
   pub targets : map (λ f. f.property) answer ≡ members kind.targets
   pub places : All (λ f. f.place ≡ place_of sub f.property) answer
   pub formed : All (λ f. FormsIn of n f.property f.value) answer
+  pub stated : All (λ f. IsTrue (states_rows f.value)) answer
   pub sound : (t : Thing) (o : Orders) → t.of ≡ of → t.cols ≡ n → RightAll read t o → Meets kind t o → RightAnswer kind read answer t o
   pub canonical : (t : Thing) (o : Orders) → t.of ≡ of → t.cols ≡ n → RightAll read t o → Meets kind t o → All (λ f. IsCanonical kind f.property f.value t) answer
 

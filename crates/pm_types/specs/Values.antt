@@ -8,15 +8,10 @@
 --     counts ks      a list of whole numbers
 use Rattle.std.specs.Prelude.{ℕ, Bool, List, Option}
 use Rattle.pm_algebra.specs.Numbers.{Ratio}
-use Rattle.pm_algebra.specs.Rows.{Row}
 use Rattle.pm_types.specs.declared.property.PropId.{PropId}
 use lib.IntN.{ℤ}
 
--- rows of whole numbers with a column count, and sets of indices with one
-pub record WholeRows : Type 0 where
-  pub rows : List Row
-  pub cols : ℕ
-
+-- sets of indices, with a column count
 pub record IndexSets : Type 0 where
   pub rows : List (List ℕ)
   pub cols : ℕ

@@ -1,4 +1,6 @@
--- The code's values as values of properties: a whole number is a fraction over 1.
+-- The code's values as values of properties, and whole numbers as fractions over 1.
+--     over_one k, ratios x      k/1, and so for each entry of a row
+--     view_of v      the value
 use Rattle.std.specs.Prelude.{List, map}
 use Rattle.pm_algebra.specs.Numbers.{Ratio}
 use Rattle.pm_algebra.specs.Rows.{Row}
@@ -14,7 +16,7 @@ abbrev pub ratios : Row → List Ratio
 ratios x = map over_one x
 
 abbrev pub view_of : Value → PropertyValue
-view_of (value.Mat m) = matrix m.cols (map ratios m.rows)
+view_of (value.Mat m) = matrix m.cols m.rows
 view_of (value.Sets s) = sets s.rows s.cols
 view_of (value.Int k) = whole k
 view_of (value.Bool b) = truth b

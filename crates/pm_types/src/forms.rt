@@ -13,11 +13,21 @@ impl PropId {
         matches!(
             self,
             PropId::ConeAmbientDim
+                | PropId::Points
+                | PropId::InputLineality
+                | PropId::Inequalities
+                | PropId::Equations
                 | PropId::Vertices
                 | PropId::LinealitySpace
                 | PropId::Facets
                 | PropId::AffineHull
                 | PropId::VerticesInFacets
+                | PropId::ConeDim
+                | PropId::LinealityDim
+                | PropId::CombinatorialDim
+                | PropId::Feasible
+                | PropId::Pointed
+                | PropId::FullDim
         )
     }
 

@@ -1,12 +1,14 @@
 // Kinds of clients, and the numbers of rules.
 
-ghost use Rattle.std.specs.Prelude.{◌≡◌, IfOk};
-ghost use Rattle.pm_types.specs.Kinds.{conditions_of, names_of, incidence_kind, standard_kinds_list};
+ghost use Rattle.std.specs.Prelude.{IsTrue, ◌≡◌, ◌≤◌, ◌↔◌, length};
+ghost use Rattle.std.specs.List.{list_all};
+ghost use Rattle.std.specs.Str.{IsAscii};
+ghost use Rattle.pm_types.specs.Kinds.{IsKindOf, conditions_of, finding, is_in_or_unnamed, names_of};
 
 use crate::client_name::ClientName;
 use crate::property::PropId;
 use crate::set::PropSet;
-use std::alloc::{AllocError, Global};
+use pm_geom::ObjectType;
 
 /// The signature of a client: its name, and the properties that it finds, that it reads, that must be true and that
 /// must be false.
@@ -43,25 +45,32 @@ impl Kind {
         self.targets.union(self.sources.union(self.conditions()))
     }
 
-    /// The kind of `incidence`: VERTICES_IN_FACETS from VERTICES and FACETS.
-    pub fn incidence() -> Kind
-        ensures { result ≡ incidence_kind }
+    /// Whether the table of the type has all properties that the kind names.
+    pub fn is_of(&self, of: ObjectType) -> bool
+        ensures { IsTrue result ↔ IsKindOf of self.now }
+    {
+        are_in(of, self.names(), &PropId::every())
+    }
+
+    // The kind of a client that finds these properties from those, under no condition.
+    pub(crate) fn finding(name: &str, targets: &[PropId], sources: &[PropId]) -> Kind
+        requires short { length name.now ≤ 32 }
+        requires ascii { IsAscii name.now }
+        ensures { result ≡ finding name.now targets.now sources.now }
     {
         Kind {
-            name: ClientName::new("incidence").unwrap(),
-            targets: PropSet::of_list(&[PropId::VerticesInFacets]),
-            sources: PropSet::of_list(&[PropId::Vertices, PropId::Facets]),
+            name: ClientName::new(name).unwrap(),
+            targets: PropSet::of_list(targets),
+            sources: PropSet::of_list(sources),
             must: PropSet::empty(),
             must_not: PropSet::empty(),
         }
     }
 }
 
-/// The kinds of the clients that are built.
-pub fn standard_kinds(alloc: Global) -> Result<Vec<Kind>, AllocError>
-    ensures { IfOk result (λ v. v.items ≡ standard_kinds_list) }
+// Whether the table of the type has those of the properties that are in the set.
+fn are_in(of: ObjectType, names: PropSet, properties: &[PropId]) -> bool
+    ensures { result ≡ list_all (is_in_or_unnamed of names) properties.now }
 {
-    let mut kinds = Vec::new(alloc);
-    kinds.push(Kind::incidence())?;
-    Ok(kinds)
+    properties.iter().all(|p| !names.contains(*p) | p.is_in(of))
 }

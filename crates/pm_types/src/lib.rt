@@ -2,7 +2,7 @@
 #![tactic(auto)]
 
 ghost use Rattle.pm_types.specs.Examples.{EmptyDimensionsAreRead, SquareDimensionsAreRead, SquareSetsAreRead};
-ghost use Rattle.pm_types.specs.Laws.{CombinatorialDimIsFound, ConeDimIsFound, ConeDimIsLeft, DimensionsAreDetermined, DimensionsExist, EchelonIsRight, FeasibleIsFound, FullDimIsFound, HullIsFound, LinealityDimIsFound, LinealityIsFound, PairSpans, PointedIsFound, VerticesSpan};
+ghost use Rattle.pm_types.specs.Laws.{CombinatorialDimIsFound, ConeDimIsFound, ConeDimIsLeft, DimensionsAreDetermined, DimensionsExist, EchelonIsRight, FacetsCutOut, FeasibleIsFound, FullDimIsFound, HullIsFound, LinealityDimIsFound, LinealityIsFound, PairSpans, PointedIsFound, VerticesGenerate, VerticesSpan};
 ghost use Rattle.pm_types.specs.Runs.{RightAnswerIsKept};
 
 mod client_name;
@@ -11,17 +11,19 @@ mod kind;
 mod names;
 mod property;
 mod set;
+mod standard;
 #[cfg(test)]
 mod tests;
 mod value;
 mod weight;
 
 pub use client_name::ClientName;
-pub use kind::{Kind, RuleId, standard_kinds};
+pub use kind::{Kind, RuleId};
 pub use pm_geom::{Evidence, ObjectType};
 pub use property::{PropId, ValueKind};
 pub use set::PropSet;
-pub use value::{Rows, Sets, Value};
+pub use standard::{StandardClient, standard_kinds};
+pub use value::{Sets, Value};
 pub use weight::{Cost, Weight};
 
 /// What is right for VERTICES_IN_FACETS of the unit square, and what is not.
@@ -107,6 +109,16 @@ pub fn law_echelon_is_right()
 /// The echelon basis of the null space of right FACETS and AFFINE_HULL is that of the lineality.
 pub fn law_lineality_is_found()
     ensures { LinealityIsFound }
+{}
+
+/// Right VERTICES and LINEALITY_SPACE of a cone or polytope are right as POINTS and INPUT_LINEALITY.
+pub fn law_vertices_generate()
+    ensures { VerticesGenerate }
+{}
+
+/// Right FACETS and AFFINE_HULL of a cone or polytope are right as INEQUALITIES and EQUATIONS.
+pub fn law_facets_cut_out()
+    ensures { FacetsCutOut }
 {}
 
 /// Where the facts that an object holds are right, so are they with what a client may answer, in orders that the client

@@ -1,6 +1,12 @@
-// Names, sets, weights and the standard kinds.
+// Names, sets, weights, the standard kinds and values.
 
-use crate::{ClientName, Cost, ObjectType, PropId, PropSet, RuleId, Weight, standard_kinds};
+use crate::{
+    ClientName, Cost, ObjectType, PropId, PropSet, RuleId, Sets, StandardClient, Value, Weight,
+    standard_kinds,
+};
+use pm_fraction::Fraction;
+use pm_matrix::Matrix;
+use std::test::Fail;
 
 #[test]
 fn properties_are_found_by_their_names(rt: HostRuntime) {
@@ -91,14 +97,94 @@ fn weights_are_printed(rt: HostRuntime) {
 #[test]
 fn the_standard_kinds(rt: HostRuntime) {
     let kinds = standard_kinds(rt.alloc()).expect(&rt, "the kinds");
-    assert_eq!(rt; kinds.len(), 1);
-    for kind in &kinds {
-        assert_eq!(rt; kind.name.as_str(), "incidence");
-        assert_eq!(rt;
-            kind.names(),
-            PropSet::of_list(&[PropId::VerticesInFacets, PropId::Facets, PropId::Vertices])
-        );
+    let names = [
+        "points_from_vertices",
+        "inequalities_from_facets",
+        "lineality_from_facets",
+        "hull_from_vertices",
+        "cone_dim_v",
+        "cone_dim_span",
+        "cone_dim_points",
+        "lineality_dim",
+        "combinatorial_dim",
+        "feasible",
+        "pointed",
+        "full_dim",
+        "incidence",
+    ];
+    assert_eq!(rt; kinds.len(), 13);
+    for (kind, name) in kinds.iter().zip(names) {
+        assert_eq!(rt; kind.name.as_str(), name);
         assert!(rt; kind.conditions().is_empty());
     }
     assert!(rt; RuleId(1) < RuleId(2));
+}
+
+#[test]
+fn kinds_name_properties(rt: HostRuntime) {
+    for (client, names) in [
+        (
+            StandardClient::PointsFromVertices,
+            [
+                PropId::Points,
+                PropId::InputLineality,
+                PropId::Vertices,
+                PropId::LinealitySpace,
+            ]
+            .as_slice(),
+        ),
+        (
+            StandardClient::ConeDimSpan,
+            [PropId::ConeDim, PropId::AffineHull].as_slice(),
+        ),
+        (
+            StandardClient::CombinatorialDim,
+            [
+                PropId::CombinatorialDim,
+                PropId::ConeDim,
+                PropId::LinealityDim,
+            ]
+            .as_slice(),
+        ),
+        (
+            StandardClient::Incidence,
+            [PropId::VerticesInFacets, PropId::Facets, PropId::Vertices].as_slice(),
+        ),
+    ] {
+        let kind = client.kind();
+        assert_eq!(rt; kind.names(), PropSet::of_list(names), "{client:?}");
+        assert!(rt; kind.is_of(ObjectType::Cone), "{client:?}");
+    }
+    // FEASIBLE is of polytopes alone, and fans have no facets
+    let feasible = StandardClient::Feasible.kind();
+    assert!(rt; feasible.is_of(ObjectType::Polytope) && !feasible.is_of(ObjectType::Cone));
+    assert!(rt; !StandardClient::Incidence.kind().is_of(ObjectType::Fan));
+    assert!(rt; StandardClient::Pointed.kind().is_of(ObjectType::Fan));
+}
+
+#[test]
+fn values_are_copied(rt: HostRuntime) -> Result<(), Fail> {
+    let alloc = rt.alloc();
+    let row = [Fraction::one(), Fraction::new(1, 2)?];
+    let mut matrix = Matrix::new(alloc, 2);
+    matrix.push_row(&row)?;
+    let value = Value::Mat(matrix);
+    let Value::Mat(copy) = value.copy(alloc)? else {
+        panic!(rt; "another kind of value");
+    };
+    assert_eq!(rt; copy.cols(), 2);
+    assert_eq!(rt; copy.rows(), 1);
+    assert_eq!(rt; copy.row(0), row.as_slice());
+    let mut sets = Vec::new(alloc);
+    sets.push(vec![in alloc; 0, 2]?)?;
+    let value = Value::Sets(Sets::from_vec(sets, 3));
+    let Value::Sets(copy) = value.copy(alloc)? else {
+        panic!(rt; "another kind of value");
+    };
+    assert_eq!(rt; copy.cols(), 3);
+    assert_eq!(rt; copy.rows().len(), 1);
+    for set in copy.rows() {
+        assert_eq!(rt; set.as_slice(), [0, 2].as_slice());
+    }
+    Ok(())
 }

@@ -1,74 +1,12 @@
 // Values of properties.
 
-ghost use Rattle.pm_types.specs.Values.{WholeRows, IndexSets};
+ghost use Rattle.pm_types.specs.Values.{IndexSets};
 ghost use Rattle.pm_types.specs.Views.{view_of};
 ghost use Rattle.std.specs.Prelude.{IfOk, List, OnErr, OnOk, [], length, map, ℕ, ◌++◌, ◌∷◌, ◌≡◌};
 
-use pm_vector::Ints;
+use pm_matrix::Matrix;
 use std::alloc::{AllocError, Global};
 use std::marker::Model;
-
-/// Rows of whole numbers, with their column count; 0 columns of no rows state none.
-#[derive(Debug, Drop)]
-pub struct Rows {
-    rows: Vec<Ints>,
-    cols: u32,
-}
-
-impl Model for Rows {
-    ghost use Rattle.pm_types.specs.Values.{WholeRows};
-
-    ghost Value = { WholeRows };
-
-    ghost view = { λ m. record { rows = m.rows.items; cols = m.cols } };
-}
-
-impl Rows {
-    /// No rows, of this column count.
-    pub fn new(alloc: Global, cols: u32) -> Rows
-        ensures { result ≡ record { rows = []; cols = cols } }
-    {
-        Rows {
-            rows: Vec::new(alloc),
-            cols,
-        }
-    }
-
-    /// The rows of a list, of this column count. Takes no memory.
-    pub fn from_vec(rows: Vec<Ints>, cols: u32) -> Rows
-        ensures { result ≡ record { rows = rows.items; cols = cols } }
-    {
-        Rows { rows, cols }
-    }
-
-    /// The column count.
-    pub fn cols(&self) -> u32
-        ensures { result ≡ self.now.cols }
-    {
-        self.cols
-    }
-
-    /// The rows.
-    pub fn rows(&self) -> &[Ints]
-        ensures { result.now ≡ self.now.rows }
-    {
-        &self.rows
-    }
-
-    /// The same rows.
-    pub fn copy(&self, alloc: Global) -> Result<Rows, AllocError>
-        ensures { IfOk result (λ r. r ≡ self.now) }
-    {
-        let mut rows = Vec::new(alloc);
-        for row in &self.rows {
-            rows.push(row.copy(alloc)?)?;
-        }
-        Ok(Rows {
-            rows,
-            cols: self.cols,
-        })
-    }
-}
 
 /// Ascending rows of indices below a column count.
 #[derive(Debug, Drop)]
@@ -126,8 +64,8 @@ impl Sets {
 /// A value of a property.
 #[derive(Debug, Drop)]
 pub enum Value {
-    /// Rows of numbers.
-    Mat(Rows),
+    /// Rows of fractions.
+    Mat(Matrix),
     /// Sets of indices.
     Sets(Sets),
     /// A whole number.
@@ -142,7 +80,7 @@ impl Value {
         ensures { IfOk result (λ v. view_of v ≡ view_of self.now) }
     {
         match self {
-            Value::Mat(rows) => Ok(Value::Mat(rows.copy(alloc)?)),
+            Value::Mat(matrix) => Ok(Value::Mat(matrix.copy(alloc)?)),
             Value::Sets(sets) => Ok(Value::Sets(sets.copy(alloc)?)),
             Value::Int(k) => Ok(Value::Int(*k)),
             Value::Bool(b) => Ok(Value::Bool(*b)),

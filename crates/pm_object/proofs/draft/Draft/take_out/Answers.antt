@@ -1,4 +1,4 @@
-use Rattle.std.proofs.Common.{rules, ap, refl, sym, None, Some, ◌≡◌, ◌∙◌}
+use Rattle.std.proofs.Common.{rules, ap, sym, None, Some, ◌≡◌}
 use Rattle.std.specs.Prelude.{map}
 use Rattle.pm_object.proofs.Drafts.{nothing_out, not_placed, out}
 use Rattle.pm_object.specs.Reading.{place_in}

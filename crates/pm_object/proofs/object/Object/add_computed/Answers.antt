@@ -1,4 +1,4 @@
-use Rattle.std.proofs.Common.{refl, rules, subst, sym, ◌++◌, ◌∷◌, ◌≡◌, []}
+use Rattle.std.proofs.Common.{refl, rules, subst, sym}
 use Rattle.pm_object.proofs.Formed.{formed_pushed}
 use Rattle.pm_object.specs.Formed.{IsFormedIn}
 use Rattle.pm_object.specs.State.{State, cols_of}

@@ -1,5 +1,4 @@
 use Rattle.std.proofs.Common.{rules, refl, ◌≡◌, ◌++◌}
-use Rattle.std.specs.Prelude.{map}
 use Rattle.pm_object.proofs.Settling.{formed_settled, settled_dimension_of}
 use Rattle.pm_object.specs.Views.{held_seen}
 use Rattle.pm_object.proofs.object.Object.settle.Goals as goal
