@@ -4,6 +4,8 @@ use Rattle.pm_client.specs.Sound.{IsSound}
 use Rattle.pm_object.specs.Reading.{DraftSeen, IsView, ViewSeen}
 use Rattle.pm_types.proofs.Every.{has-set_of}
 use Rattle.pm_types.proofs.Members.{has-empty}
+use Rattle.pm_matrix.specs.Matrices.{IsFraction}
+use Rattle.pm_types.specs.Forms.{HasPrimitiveRow}
 use Rattle.pm_types.specs.Sets.{has, members, only, set_of, union}
 use Rattle.pm_types.specs.Values.{whole}
 use Rattle.pm_types.specs.declared.kind.Kind.{Kind}
@@ -12,6 +14,8 @@ use Rattle.pm_types.specs.declared.property.PropId.TheVariants.{ConeAmbientDim}
 use Rattle.std.proofs.Common.{ap, arith, refl, sym, to_z, true, true≢false, w64, ◌∙◌, ◌<◌, ◌^◌}
 use Rattle.std.proofs.lemmas.Bool.{leb-true}
 use Rattle.std.proofs.lemmas.Int.{to_z_pos}
+use Rattle.std.proofs.lemmas.List.Elements.{All-nil}
+use Rattle.std.specs.List.{All}
 use Rattle.std.specs.Prelude.{IsTrue, [], nat_eq, nat_le, ℕ, ◌++◌, ◌∷◌, ◌≡◌, codes}
 use lib.IntN.{pos}
 
@@ -33,7 +37,8 @@ right_answer v kind view = record {
   targets = ap (λ z. members z.targets) kind ∙ one_target;
   generators = refl;
   half_spaces = refl;
-  formed = record { formed = rw (view.some_cols, view.few_cols) refl; columns = same_number v.cols; rows = refl };
+  formed = record { formed = rw (view.some_cols, view.few_cols) refl; columns = same_number v.cols; rows = refl; entries = All-nil (All IsFraction); primitive = All-nil HasPrimitiveRow };
+  stated = refl;
   right = λ t o of cols right. ap pos (sym cols);
   canonical = λ t. tt;
 }

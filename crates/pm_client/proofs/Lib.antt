@@ -2,3 +2,5 @@ pub mod Columns
 pub mod OneTarget
 pub mod SameKind
 pub mod Started
+pub mod ReadValues
+pub mod TwoTargets

@@ -8,7 +8,7 @@ use Rattle.pm_types.specs.Canonical.{IsCanonical}
 use Rattle.pm_types.specs.Forms.{FormsIn}
 use Rattle.pm_types.specs.Properties.{generators_tag, half_spaces_tag}
 use Rattle.pm_types.specs.Right.{Right, RightAll, RightFact, RightPair, RightTogether, objective_of}
-use Rattle.pm_types.specs.Runs.{MayAnswer, place_of}
+use Rattle.pm_types.specs.Runs.{MayAnswer, place_of, states_rows}
 use Rattle.pm_types.specs.Sets.{members}
 use Rattle.pm_types.specs.Values.{Fact, PropertyValue, matrix}
 use Rattle.pm_types.specs.declared.kind.Kind.{Kind}
@@ -16,7 +16,7 @@ use Rattle.pm_types.specs.declared.property.PropId.{PropId}
 use Rattle.pm_types.specs.declared.property.PropId.TheVariants.{Equations, Inequalities, InputLineality, Points}
 use Rattle.std.proofs.Common.{ap, false, inl, inr, refl, subst, sym, true≢false, ◌∙◌}
 use Rattle.std.specs.List.{All, Contains}
-use Rattle.std.specs.Prelude.{List, Option, [], ℕ, ◌++◌, ◌∷◌, ◌≡◌}
+use Rattle.std.specs.Prelude.{IsTrue, List, Option, [], ℕ, ◌++◌, ◌∷◌, ◌≡◌}
 
 abbrev pub draft_of : Kind → PropId → PropertyValue → DraftSeen
 draft_of kind p x = record { kind = kind; values = record { property = p; value = x } ∷ [] }
@@ -70,32 +70,59 @@ right_with read f t o g h right value = record { thing = right.thing; orders = r
       ]
     ]
 
--- what a client with one target shows of its answer
-pub record IsRightAnswer (v : ViewSeen) (p : PropId) (x : PropertyValue) : Type 0 where
+-- what a client with one target shows of its answer, which has a canonical form
+pub record IsFoundAnswer (v : ViewSeen) (p : PropId) (x : PropertyValue) : Type 0 where
   pub targets : members v.kind.targets ≡ p ∷ []
   pub generators : generators_tag p ≡ false
   pub half_spaces : half_spaces_tag p ≡ false
   pub formed : FormsIn v.of v.cols p x
+  pub stated : IsTrue (states_rows x)
   pub right : (t : Thing) (o : Orders) → t.of ≡ v.of → t.cols ≡ v.cols → RightAll v.facts t o → Right p x t o (objective_of t (place_of v.sub p))
-  pub canonical : (t : Thing) → IsCanonical v.kind p x t
+  pub canonical : (t : Thing) (o : Orders) → t.of ≡ v.of → t.cols ≡ v.cols → RightAll v.facts t o → IsCanonical v.kind p x t
 
-may_answer : (v : ViewSeen) (p : PropId) (x : PropertyValue) → IsRightAnswer v p x → MayAnswer v.of v.cols v.kind v.sub v.facts (fact_of v.sub p x ∷ [])
+may_answer : (v : ViewSeen) (p : PropId) (x : PropertyValue) → IsFoundAnswer v p x → MayAnswer v.of v.cols v.kind v.sub v.facts (fact_of v.sub p x ∷ [])
 may_answer v p x h = record {
   targets = sym h.targets;
   places = all_one (λ f. f.place ≡ place_of v.sub f.property) (fact_of v.sub p x) refl;
   formed = all_one (λ f. FormsIn v.of v.cols f.property f.value) (fact_of v.sub p x) h.formed;
+  stated = all_one (λ f. IsTrue (states_rows f.value)) (fact_of v.sub p x) h.stated;
   sound = λ t o of cols right meets. record {
     orders = o;
     right = right_with v.facts (fact_of v.sub p x) t o h.generators h.half_spaces right (h.right t o of cols right);
     keeps = record { rays = λ n. refl; facets = λ n. refl; cones = λ n. refl };
   };
-  canonical = λ t o of cols right meets. all_one (λ f. IsCanonical v.kind f.property f.value t) (fact_of v.sub p x) (h.canonical t);
+  canonical = λ t o of cols right meets. all_one (λ f. IsCanonical v.kind f.property f.value t) (fact_of v.sub p x) (h.canonical t o of cols right);
 }
 
 -- an empty draft into which this value was put is sound
-pub sound_put : (v : ViewSeen) (p : PropId) (x : PropertyValue) (old new : DraftSeen) → IsRightAnswer v p x → old ≡ record { kind = v.kind; values = [] }
+pub sound_found : (v : ViewSeen) (p : PropId) (x : PropertyValue) (old new : DraftSeen) → IsFoundAnswer v p x → old ≡ record { kind = v.kind; values = [] }
     → new ≡ record old { values = old.values ++ record { property = p; value = x } ∷ [] } → IsSound v new
-sound_put v p x old new h empty put =
+sound_found v p x old new h empty put =
     let answer : answer_of v.sub new ≡ fact_of v.sub p x ∷ [] =
     ap (λ d. answer_of v.sub d) put ∙ ap (λ d. answer_of v.sub (record d { values = d.values ++ record { property = p; value = x } ∷ [] })) empty ∙ answer_one v.sub v.kind p x h.targets in
     subst (λ a. MayAnswer v.of v.cols v.kind v.sub v.facts a) (sym answer) (may_answer v p x h)
+
+-- what it shows where its answer is canonical for every thing
+pub record IsRightAnswer (v : ViewSeen) (p : PropId) (x : PropertyValue) : Type 0 where
+  pub targets : members v.kind.targets ≡ p ∷ []
+  pub generators : generators_tag p ≡ false
+  pub half_spaces : half_spaces_tag p ≡ false
+  pub formed : FormsIn v.of v.cols p x
+  pub stated : IsTrue (states_rows x)
+  pub right : (t : Thing) (o : Orders) → t.of ≡ v.of → t.cols ≡ v.cols → RightAll v.facts t o → Right p x t o (objective_of t (place_of v.sub p))
+  pub canonical : (t : Thing) → IsCanonical v.kind p x t
+
+found_answer : (v : ViewSeen) (p : PropId) (x : PropertyValue) → IsRightAnswer v p x → IsFoundAnswer v p x
+found_answer v p x h = record {
+  targets = h.targets;
+  generators = h.generators;
+  half_spaces = h.half_spaces;
+  formed = h.formed;
+  stated = h.stated;
+  right = h.right;
+  canonical = λ t o of cols right. h.canonical t;
+}
+
+pub sound_put : (v : ViewSeen) (p : PropId) (x : PropertyValue) (old new : DraftSeen) → IsRightAnswer v p x → old ≡ record { kind = v.kind; values = [] }
+    → new ≡ record old { values = old.values ++ record { property = p; value = x } ∷ [] } → IsSound v new
+sound_put v p x old new h empty put = sound_found v p x old new (found_answer v p x h) empty put

@@ -1,19 +1,32 @@
 -- When a run of a client is sound.
 --     is_generator p      the rows of p lie in the thing
 --     is_half_space p      the rows of p are valid on the thing
---     IsRowOf v of_kind x      x is the primitive whole row that stands for a row of a value of the view, of a property of that kind
---     HoldsOf e v      the evidence holds of the view: the product of a generator's row with a half-space's row leaves the range. So far no client eliminates rows, so no other evidence holds of a view
+--     IsRowOf v of_kind x      x is the primitive whole row in the direction of a row of a value of the view, of a property of that kind
+--     Reads v p n rows      the view has the matrix of these rows and the stated column count n as its value of p
+--     are_parts p q      p and q are the two parts of a row list, in this order: lines and then points or rays, or equations and then inequalities or facets
+--     added_rows of n q      a polytope's INEQUALITIES have x0 >= 0 added to them
+--     IsListOf v first second X      X are the primitive whole rows of the values of both properties, one after the other, and what is added
+--     IsRowList v X      X is the list of two parts that the view reads
+--     HoldsOf e v      the evidence holds of the view: a step of the elimination of its row list leaves the range, or the product of a generator's row with a half-space's row does
 --     IsSound v draft      the draft has a value for each target of the view's kind, in its form and canonical, and they are right wherever what was read is
+--     fail_of f      the failure of a client whose elimination was given up
 --     FailsRightly v e      a client fails for want of memory, or with evidence that holds of the view
-use Rattle.std.specs.Prelude.{ℕ, ◌≡◌, Bool, true, false, IsTrue, List}
+use Rattle.std.specs.Prelude.{ℕ, ◌≡◌, ◌++◌, Bool, true, false, IsTrue, List, [], ◌∷◌, Some}
 use Rattle.std.specs.List.{Contains}
 use Rattle.pm_algebra.specs.Divisors.{IsPrimitive}
 use Rattle.pm_algebra.specs.Numbers.{Ratio}
-use Rattle.pm_algebra.specs.Rows.{Row, Stands}
+use Rattle.pm_algebra.specs.Rows.{Row}
+use Rattle.pm_elim.specs.EliminationSteps.{EliminationStep}
+use Rattle.pm_elim.specs.Evidence.{IsEvidence, unit}
+use Rattle.pm_elim.specs.declared.evidence.ElimFail.{ElimFail}
+use Rattle.pm_elim.specs.declared.evidence.ElimFail.TheVariants as elimination
 use Rattle.pm_geom.specs.Evidence.{IsWideProduct}
+use Rattle.pm_geom.specs.declared.ObjectType.{ObjectType}
+use Rattle.pm_geom.specs.declared.ObjectType.TheVariants.{Polytope}
 use Rattle.pm_geom.specs.declared.evidence.Evidence.{Evidence}
 use Rattle.pm_geom.specs.declared.evidence.Evidence.TheVariants.{E1, E4}
-use Rattle.pm_object.specs.Reading.{DraftSeen, ViewSeen, answer_of}
+use Rattle.pm_matrix.specs.FractionRows.{ArePrimitiveRowsOf, IsPositiveMultipleOf}
+use Rattle.pm_object.specs.Reading.{DraftSeen, ViewSeen, answer_of, fact_of}
 use Rattle.pm_types.specs.Runs.{MayAnswer}
 use Rattle.pm_types.specs.Values.{Fact, matrix}
 use Rattle.pm_types.specs.declared.property.PropId.{PropId}
@@ -44,11 +57,49 @@ pub record IsRowOf (v : ViewSeen) (of_kind : PropId → Bool) (x : Row) : Type 0
   pub value : fact.value ≡ matrix n rows
   pub row : List Ratio
   pub listed : Contains rows row
-  pub stands : Stands row x
+  pub multiple : IsPositiveMultipleOf row x
   pub primitive : IsPrimitive x
 
+abbrev pub Reads : ViewSeen → PropId → ℕ → List (List Ratio) → Type 0
+Reads v p n rows = fact_of p v.facts ≡ Some (matrix n rows)
+
+abbrev pub are_parts : PropId → PropId → Bool
+are_parts InputLineality Points = true
+are_parts LinealitySpace Vertices = true
+are_parts Equations Inequalities = true
+are_parts AffineHull Facets = true
+are_parts p q = false
+
+abbrev pub added_rows : ObjectType → ℕ → PropId → List Row
+added_rows Polytope n Inequalities = unit n 0 ∷ []
+added_rows of n q = []
+
+pub record IsListOf (v : ViewSeen) (first second : PropId) (X : List Row) : Type 0 where
+  pub first_cols : ℕ
+  pub second_cols : ℕ
+  pub first_rows : List (List Ratio)
+  pub second_rows : List (List Ratio)
+  pub reads_first : Reads v first first_cols first_rows
+  pub reads_second : Reads v second second_cols second_rows
+  pub xs : List Row
+  pub ys : List Row
+  pub first_primitive : ArePrimitiveRowsOf first_rows xs
+  pub second_primitive : ArePrimitiveRowsOf second_rows ys
+  pub listed : X ≡ xs ++ ys ++ added_rows v.of v.cols second
+
+pub record IsRowList (v : ViewSeen) (X : List Row) : Type 0 where
+  pub first : PropId
+  pub second : PropId
+  pub parts : IsTrue (are_parts first second)
+  pub list : IsListOf v first second X
+
+pub record IsWideElimination (v : ViewSeen) (e : EliminationStep) : Type 0 where
+  pub rows : List Row
+  pub listed : IsRowList v rows
+  pub shown : IsEvidence v.cols rows e
+
 abbrev pub HoldsOf : Evidence → ViewSeen → Type 0
-HoldsOf (E1 e) v = ⊥
+HoldsOf (E1 e) v = IsWideElimination v e
 HoldsOf (E4 first second) v = IsRowOf v is_generator first × IsRowOf v is_half_space second × IsWideProduct first second
 
 abbrev pub IsSound : ViewSeen → DraftSeen → Type 0
@@ -57,3 +108,7 @@ IsSound v draft = MayAnswer v.of v.cols v.kind v.sub v.facts (answer_of v.sub dr
 abbrev pub FailsRightly : ViewSeen → ClientFail → Type 0
 FailsRightly v Memory = Unit {0}
 FailsRightly v (Failed e) = HoldsOf e v
+
+abbrev pub fail_of : ElimFail → ClientFail
+fail_of (elimination.Wide e) = Failed (E1 e)
+fail_of elimination.Memory = Memory

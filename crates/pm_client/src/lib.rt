@@ -5,10 +5,11 @@ ghost use Rattle.pm_client.specs.Sound.{FailsRightly, IsSound};
 ghost use Rattle.pm_client.specs.Starts.{next_count};
 ghost use Rattle.std.specs.Prelude.{IfErr, OnOk, [], ℕ, ◌≡◌};
 
+use pm_elim::ElimFail;
 use pm_geom::Evidence;
 use pm_object::{Draft, View};
 use pm_types::Kind;
-use std::alloc::{AllocError, Global};
+use std::alloc::{AllocError, AllocFailed, Global};
 
 mod boxes;
 #[cfg(test)]
@@ -16,7 +17,7 @@ mod tests;
 mod values;
 
 pub use boxes::{place_of, run_first};
-pub use values::{matrix_of, put_value};
+pub use values::{matrix_of, primitive_rows, put_value, whole_of};
 
 /// Why a client did not answer.
 #[derive(Debug, Drop)]
@@ -27,12 +28,36 @@ pub enum ClientFail {
     Failed(Evidence),
 }
 
+impl From<ElimFail> for ClientFail {
+    ghost use Rattle.pm_client.specs.Sound.{fail_of};
+    ghost use Rattle.std.specs.Prelude.{◌≡◌};
+
+    ghost from_gives = { λ f e. e ≡ fail_of f };
+
+    fn from(fail: ElimFail) -> ClientFail {
+        match fail {
+            ElimFail::Wide(step) => ClientFail::Failed(Evidence::E1(step)),
+            ElimFail::Memory => ClientFail::Memory,
+        }
+    }
+}
+
 impl From<AllocError> for ClientFail {
     ghost use Rattle.pm_client.specs.declared.ClientFail.TheVariants.{Memory};
 
     ghost from_gives = { λ _ e. e ≡ Memory };
 
     fn from(_error: AllocError) -> ClientFail {
+        ClientFail::Memory
+    }
+}
+
+impl<T: Drop> From<AllocFailed<T>> for ClientFail {
+    ghost use Rattle.pm_client.specs.declared.ClientFail.TheVariants.{Memory};
+
+    ghost from_gives = { λ _ e. e ≡ Memory };
+
+    fn from(_error: AllocFailed<T>) -> ClientFail {
         ClientFail::Memory
     }
 }

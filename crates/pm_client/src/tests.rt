@@ -7,7 +7,7 @@ ghost use Rattle.pm_types.specs.declared.property.PropId.TheVariants.{ConeAmbien
 use crate::{Client, ClientFail, place_of, put_value, run_first};
 use pm_geom::ObjectType;
 use pm_object::{Draft, Object, View};
-use pm_types::{ClientName, Kind, PropId, PropSet, Value};
+use pm_types::{ClientName, Kind, PropId, PropSet, StandardClient, Value};
 use std::alloc::Global;
 use std::test::Fail;
 
@@ -65,13 +65,14 @@ fn the_first_client_of_the_kind_is_run(rt: HostRuntime) -> Result<(), Fail> {
         clients.push(Box::new(alloc, Columns { starts: 0 })?)?;
     }
     let kind = columns_kind();
-    assert!(rt; place_of(&clients, Kind::incidence()).is_none());
+    assert!(rt; place_of(&clients, StandardClient::Incidence.kind()).is_none());
     let Some(0) = place_of(&clients, kind) else {
         panic!(rt; "the first client is not found");
     };
     let mut object = Object::new(alloc, ObjectType::Polytope);
     object.take(PropId::ConeAmbientDim, Value::Int(2))?;
     assert!(rt; object.cols().is_some());
+    assert!(rt; kind.is_of(object.of()));
     let view = object.view(&kind);
     let mut draft = Draft::new(alloc, &kind);
     run_first(alloc, &mut clients, &view, &mut draft)?;

@@ -1,29 +1,60 @@
 // Reading the values of sources, and putting those of targets.
 
 ghost use Rattle.pm_client.specs.declared.ClientFail.TheVariants.{Memory};
+ghost use Rattle.pm_matrix.specs.FractionRows.{ArePrimitiveRowsOf};
 ghost use Rattle.pm_object.specs.Reading.{drafted, fact_of};
-ghost use Rattle.pm_types.specs.Forms.{FormsIn, is_of_matrices};
+ghost use Rattle.pm_types.specs.Forms.{FormsIn, HasPrimitiveRow, is_of_matrices, is_of_whole_numbers};
 ghost use Rattle.pm_types.specs.Properties.{value_kind};
 ghost use Rattle.pm_types.specs.Sets.{has};
-ghost use Rattle.pm_types.specs.Values.{matrix};
-ghost use Rattle.pm_types.specs.Views.{ratios, view_of};
-ghost use Rattle.std.specs.Prelude.{IfErr, IsTrue, None, OnErr, OnOk, Some, [], map, ◌++◌, ◌∷◌, ◌≡◌};
+ghost use Rattle.pm_types.specs.Values.{matrix, whole};
+ghost use Rattle.pm_types.specs.Views.{view_of};
+ghost use Rattle.std.specs.Prelude.{All, IfErr, IfOk, IsTrue, None, OnErr, OnOk, Some, [], length, ◌++◌, ◌∷◌, ◌≡◌, ◌≤◌};
 
 use crate::ClientFail;
+use pm_matrix::{Matrix, RowsFail};
 use pm_object::{Draft, View};
-use pm_types::{PropId, Rows, Value};
+use pm_types::{PropId, Value};
+use pm_vector::Ints;
+use std::alloc::Global;
 
 /// The rows of a source whose values are matrices.
-pub fn matrix_of<'b>(view: &'b View<'_>, p: PropId) -> &'b Rows
+pub fn matrix_of<'b>(view: &'b View<'_>, p: PropId) -> &'b Matrix
     requires source { IsTrue (has view.now.kind.sources p) }
     requires matrix { IsTrue (is_of_matrices (value_kind p)) }
-    ensures value { fact_of p view.now.facts ≡ Some (matrix result.now.cols (map ratios result.now.rows)) }
-    ensures forms { FormsIn view.now.of view.now.cols p (matrix result.now.cols (map ratios result.now.rows)) }
+    ensures value { fact_of p view.now.facts ≡ Some (matrix result.now.cols result.now.rows) }
+    ensures forms { FormsIn view.now.of view.now.cols p (matrix result.now.cols result.now.rows) }
 {
-    let Some(Value::Mat(rows)) = view.value(p) else {
+    let Some(Value::Mat(matrix)) = view.value(p) else {
         unreachable!()
     };
-    rows
+    matrix
+}
+
+/// The whole number of a source whose values are whole numbers.
+pub fn whole_of(view: &View, p: PropId) -> i64
+    requires source { IsTrue (has view.now.kind.sources p) }
+    requires whole { IsTrue (is_of_whole_numbers (value_kind p)) }
+    ensures value { fact_of p view.now.facts ≡ Some (whole result) }
+    ensures forms { FormsIn view.now.of view.now.cols p (whole result) }
+{
+    let Some(Value::Int(k)) = view.value(p) else {
+        unreachable!()
+    };
+    *k
+}
+
+/// The primitive whole rows of a matrix, of which each is made within the range. Want of memory alone ends it.
+pub fn primitive_rows(alloc: Global, matrix: &Matrix) -> Result<Vec<Ints>, ClientFail>
+    requires few { length matrix.now.rows ≤ 2048 }
+    requires stay { All HasPrimitiveRow matrix.now.rows }
+    ensures rows { IfOk result (λ v. ArePrimitiveRowsOf matrix.now.rows v.items) }
+    ensures failed { IfErr result (λ e. e ≡ Memory) }
+{
+    match matrix.to_primitive_rows(alloc) {
+        Ok(rows) => Ok(rows),
+        Err(RowsFail::Memory) => Err(ClientFail::Memory),
+        Err(RowsFail::Wide { .. }) => unreachable!(),
+    }
 }
 
 /// Puts the value of a target that was not put yet. It fails only for want of memory; then nothing changes.

@@ -1,108 +1,127 @@
--- The sets that the client puts are right.
-use Rattle.pm_algebra.proofs.Lists.{Among, Contains_among, here, there}
-use Rattle.pm_algebra.specs.Rows.{Row, Stands, entry, ratio_at}
+-- The sets that the client puts are right, and where it fails a product of rows that it read leaves the range.
+use Rattle.pm_algebra.proofs.Lists.{Contains_among}
+use Rattle.pm_algebra.specs.Divisors.{IsPrimitive}
+use Rattle.pm_algebra.specs.Numbers.{Ratio}
+use Rattle.pm_algebra.specs.Rows.{IsZero, Row}
 use Rattle.pm_client.proofs.OneTarget.{IsRightAnswer, sound_put}
-use Rattle.pm_client.specs.Sound.{IsSound}
+use Rattle.pm_client.proofs.ReadValues.{all_length, found, primitive_length, read_right}
+use Rattle.pm_client.specs.Sound.{FailsRightly, IsRowOf, IsSound, is_generator, is_half_space}
+use Rattle.pm_client.specs.declared.ClientFail.TheVariants.{Failed, Memory}
+use Rattle.pm_client.specs.declared.ClientFail.{ClientFail}
+use Rattle.pm_geom.specs.declared.evidence.Evidence.TheVariants.{E1, E4}
+use Rattle.pm_matrix.specs.FractionRows.{ArePrimitiveRowsOf, IsPositiveMultipleOf, IsPrimitiveRowOf}
+use Rattle.pm_matrix.specs.Matrices.{IsFraction}
 use Rattle.pm_clients_comb.proofs.Places.{incidence_form, incidence_is}
-use Rattle.pm_clients_comb.proofs.ShortRows.{few_rows, short_rows}
-use Rattle.pm_clients_comb.specs.Incidence.{AreShort, incidence}
-use Rattle.pm_geom.specs.Things.{Orders, Thing}
+use Rattle.pm_clients_comb.proofs.Multiples.{incidence_multiples}
+use Rattle.pm_clients_comb.proofs.Products.{stays_turned, zero_stays}
+use Rattle.pm_clients_comb.specs.Incidence.{IsWideFor, incidence}
 use Rattle.pm_object.specs.Reading.{DraftSeen, ViewSeen, fact_of}
 use Rattle.pm_types.proofs.Every.{has-set_of}
 use Rattle.pm_types.proofs.Incidence.{incidence_is_right}
-use Rattle.pm_types.proofs.Kept.{same_property_is}
-use Rattle.pm_types.specs.Forms.{FormsIn}
+use Rattle.pm_types.proofs.PrimitiveRows.{few_rows}
+use Rattle.pm_types.proofs.PrimitiveStanding.{standing}
+use Rattle.pm_types.specs.Forms.{FormsIn, HasPrimitiveRow}
 use Rattle.pm_types.specs.Kinds.{incidence_kind}
-use Rattle.pm_types.specs.Right.{Right, RightAll, StandFor, objective_of}
-use Rattle.pm_types.specs.Runs.{same_property}
+use Rattle.pm_types.specs.Right.{Right, objective_of}
+use Rattle.pm_types.specs.Runs.{place_of}
 use Rattle.pm_types.specs.Sets.{has, members, only, set_of, union}
-use Rattle.pm_types.specs.Values.{Fact, IndexSets, PropertyValue, matrix, sets}
-use Rattle.pm_types.specs.Views.{over_one, ratios}
+use Rattle.pm_types.specs.Values.{IndexSets, matrix, sets}
 use Rattle.pm_types.specs.declared.kind.Kind.{Kind}
 use Rattle.pm_types.specs.declared.property.PropId.{PropId}
 use Rattle.pm_types.specs.declared.property.PropId.TheVariants.{Facets, Vertices, VerticesInFacets}
-use Rattle.std.proofs.Common.{ap, arith, false, refl, subst, suc, sym, true, true≢false, zero, ◌∙◌}
-use Rattle.std.proofs.lemmas.Int.{ints}
-use Rattle.std.specs.Option.{is_some}
-use Rattle.std.specs.Prelude.{Bool, IsTrue, List, Option, Some, [], if◌then◌else◌, length, map, ℕ, ◌++◌, ◌∷◌, ◌≡◌, ◌≤◌}
-use lib.IntN.{pos}
-
--- ---- whole numbers over 1
-ratio_at_ratios : (x : Row) (i : ℕ) → ratio_at (ratios x) i ≡ over_one (entry x i)
-ratio_at_ratios [] i = refl
-ratio_at_ratios (a ∷ x) zero = refl
-ratio_at_ratios (a ∷ x) (suc i) = ratio_at_ratios x i
-
-length_ratios : (x : Row) → length x ≡ length (ratios x)
-length_ratios [] = refl
-length_ratios (a ∷ x) = ap suc (length_ratios x)
-
-stands_ratios : (x : Row) → Stands (ratios x) x
-stands_ratios x = record {
-  m = pos 1;
-  positive = omega (arith, ints);
-  cols = length_ratios x;
-  denominators = λ i h. rw (ratio_at_ratios x i) (omega (arith, ints));
-  same = λ i h. rw (ratio_at_ratios x i) (omega (arith, ints));
-}
-
-stand_for_ratios : (X : List Row) → StandFor (map ratios X) X
-stand_for_ratios [] = tt
-stand_for_ratios (x ∷ X) = (stands_ratios x, stand_for_ratios X)
-
--- ---- what was read
-some_is : {X : Type 0} {x y : X} → Some x ≡ Some y → x ≡ y
-some_is h = cc
-
-found : (p : PropId) (facts : List Fact) (x : PropertyValue) → fact_of p facts ≡ Some x → (f : Fact) × Among f facts × (f.property ≡ p) × (f.value ≡ x)
-found p [] x h = absurd (true≢false (sym (ap is_some h)))
-found p (f ∷ facts) x h = by (same_property p f.property) refl (λ k. found p facts x k) h
-  where
-    by : (t : Bool) → same_property p f.property ≡ t → (fact_of p facts ≡ Some x → (g : Fact) × Among g facts × (g.property ≡ p) × (g.value ≡ x)) → (if t then Some f.value else fact_of p facts) ≡ Some x → (g : Fact) × Among g (f ∷ facts) × (g.property ≡ p) × (g.value ≡ x)
-    by true e more k = (f, here, sym (same_property_is p f.property e), some_is k)
-    by false e more k = let (g, i, q, w) = more k in (g, there i, q, w)
-
--- a fact that was read is right
-read_right : (p : PropId) (facts : List Fact) (x : PropertyValue) (t : Thing) (o : Orders) → fact_of p facts ≡ Some x → RightAll facts t o → (s : Option ℕ) × Right p x t o (objective_of t s)
-read_right p facts x t o h right =
-    let (f, i, q, w) = found p facts x h in
-    (f.place, subst (λ z. Right p z t o (objective_of t f.place)) w (subst (λ z. Right z f.value t o (objective_of t f.place)) q (right.each f (Contains_among i))))
+use Rattle.std.proofs.Common.{ap, arith, get_or, inl, inr, refl, subst, sym, ◌∙◌}
+use Rattle.std.proofs.lemmas.List.{get_or_default}
+use Rattle.std.proofs.lemmas.List.Elements.{All-nil, Contains-get_or}
+use Rattle.std.specs.List.{All, Contains}
+use Rattle.std.specs.Prelude.{Bool, IsTrue, List, Some, [], length, ℕ, ◌++◌, ◌∷◌, ◌≡◌}
 
 one_target : members (set_of (VerticesInFacets ∷ [])) ≡ VerticesInFacets ∷ []
 unfolding members has only union
 one_target = refl
 
-pub short_vertices : (v : ViewSeen) (m : ℕ) (V : List Row) → FormsIn v.of v.cols Vertices (matrix m (map ratios V)) → AreShort v.cols V × (length V ≤ 2048)
-short_vertices v m V h = (short_rows m v.cols V h.formed h.columns, few_rows m V h.formed)
-
-pub short_facets : (v : ViewSeen) (m : ℕ) (F : List Row) → FormsIn v.of v.cols Facets (matrix m (map ratios F)) → AreShort v.cols F × (length F ≤ 2048)
-short_facets v m F h = (short_rows m v.cols F h.formed h.columns, few_rows m F h.formed)
-
--- the view has these matrices
-pub record Reads (v : ViewSeen) (m k : ℕ) (F V : List Row) : Type 0 where
+-- the view has these matrices, and these are the primitive rows of theirs
+pub record Reads (v : ViewSeen) (m k : ℕ) (facets vertices : List (List Ratio)) (F V : List Row) : Type 0 where
   pub kind : v.kind ≡ incidence_kind
-  pub facets : fact_of Facets v.facts ≡ Some (matrix m (map ratios F))
-  pub vertices : fact_of Vertices v.facts ≡ Some (matrix k (map ratios V))
-  pub facets_form : FormsIn v.of v.cols Facets (matrix m (map ratios F))
-  pub vertices_form : FormsIn v.of v.cols Vertices (matrix k (map ratios V))
+  pub facets_read : fact_of Facets v.facts ≡ Some (matrix m facets)
+  pub vertices_read : fact_of Vertices v.facts ≡ Some (matrix k vertices)
+  pub facets_form : FormsIn v.of v.cols Facets (matrix m facets)
+  pub vertices_form : FormsIn v.of v.cols Vertices (matrix k vertices)
+  pub facet_rows : ArePrimitiveRowsOf facets F
+  pub vertex_rows : ArePrimitiveRowsOf vertices V
 
-right_answer : (v : ViewSeen) (m k : ℕ) (F V : List Row) → Reads v m k F V → IsRightAnswer v VerticesInFacets (sets (incidence F V) (length V))
-right_answer v m k F V h = record {
+pub vertex_lengths : (v : ViewSeen) (m k : ℕ) (facets vertices : List (List Ratio)) (F V : List Row) → FormsIn v.of v.cols Facets (matrix m facets) → FormsIn v.of v.cols Vertices (matrix k vertices)
+    → ArePrimitiveRowsOf facets F → ArePrimitiveRowsOf vertices V → All (λ f. All (λ x. length x ≡ length f) V) F
+vertex_lengths v m k facets vertices F V g h p q = λ i d below.
+    let own : length (get_or F i d) ≡ v.cols = all_length v.cols F (primitive_length m v.cols facets F g.formed g.columns p) i d below in
+    subst (λ n. All (λ x. length x ≡ n) V) (sym own) (all_length v.cols V (primitive_length k v.cols vertices V h.formed h.columns q))
+
+-- ---- the answer
+right_answer : (v : ViewSeen) (m k : ℕ) (facets vertices : List (List Ratio)) (F V : List Row) → Reads v m k facets vertices F V → IsRightAnswer v VerticesInFacets (sets (incidence F V) (length V))
+right_answer v m k facets vertices F V h = record {
   targets = ap (λ z. members z.targets) h.kind ∙ one_target;
   generators = refl;
   half_spaces = refl;
-  formed = record { formed = incidence_form F V (short_facets v m F h.facets_form).1 (short_vertices v k V h.vertices_form).1; columns = refl; rows = refl };
+  formed = record {
+    formed = incidence_form F V
+        (let few = few_rows m facets h.facets_form.formed in let count = h.facet_rows.count in omega arith)
+        (let few = few_rows k vertices h.vertices_form.formed in let count = h.vertex_rows.count in omega arith);
+    columns = refl;
+    rows = refl;
+    entries = All-nil (All IsFraction);
+    primitive = All-nil HasPrimitiveRow;
+  };
+  stated = refl;
   right = λ t o of cols right.
-      let (s, rv) = read_right Vertices v.facts (matrix k (map ratios V)) t o h.vertices right in
-      let (r, rf) = read_right Facets v.facts (matrix m (map ratios F)) t o h.facets right in
-      incidence_is_right t o right.orders k m (map ratios V) (map ratios F) V F (incidence F V) rv rf (stand_for_ratios V) (stand_for_ratios F) (incidence_is F V);
+      let (s, rv) = read_right Vertices v.facts (matrix k vertices) t o h.vertices_read right in
+      let (r, rf) = read_right Facets v.facts (matrix m facets) t o h.facets_read right in
+      let W = standing vertices V h.vertex_rows in
+      let G = standing facets F h.facet_rows in
+      subst (λ n. Right VerticesInFacets (sets (incidence F V) n) t o (objective_of t (place_of v.sub VerticesInFacets))) W.count
+      (incidence_is_right t o right.orders k m vertices facets W.ys G.ys (incidence F V) rv rf W.stand G.stand (incidence_multiples F G.ys V W.ys (incidence F V) G.multiples W.multiples (incidence_is F V)));
   canonical = λ t. tt;
 }
 
-pub sets_sound : (v : ViewSeen) (m k : ℕ) (F V : List Row) (s : IndexSets) (old new : DraftSeen) → Reads v m k F V → s ≡ record { rows = incidence F V; cols = length V } → old ≡ record { kind = v.kind; values = [] }
+pub sets_sound : (v : ViewSeen) (m k : ℕ) (facets vertices : List (List Ratio)) (F V : List Row) (s : IndexSets) (old new : DraftSeen) → Reads v m k facets vertices F V → s ≡ record { rows = incidence F V; cols = length V } → old ≡ record { kind = v.kind; values = [] }
     → new ≡ record old { values = old.values ++ record { property = VerticesInFacets; value = sets s.rows s.cols } ∷ [] } → IsSound v new
-sets_sound v m k F V s old new h e empty put =
-    sound_put v VerticesInFacets (sets (incidence F V) (length V)) old new (right_answer v m k F V h) empty (put ∙ ap (λ z. record old { values = old.values ++ record { property = VerticesInFacets; value = sets z.rows z.cols } ∷ [] }) e)
+sets_sound v m k facets vertices F V s old new h e empty put =
+    sound_put v VerticesInFacets (sets (incidence F V) (length V)) old new (right_answer v m k facets vertices F V h) empty (put ∙ ap (λ z. record old { values = old.values ++ record { property = VerticesInFacets; value = sets z.rows z.cols } ∷ [] }) e)
+
+-- ---- the evidence
+primitive_unless : (r : List Ratio) (x : Row) → IsPrimitiveRowOf r x → (IsZero x → ⊥) → IsPrimitive x
+primitive_unless r x h some = elim h.primitive.divided [ inl z ↦ absurd (some z.1) | inr w ↦ w.3 ]
+
+row_of : (v : ViewSeen) (of_kind : PropId → Bool) (p : PropId) (n : ℕ) (rows : List (List Ratio)) (xs : List Row) (x : Row) → fact_of p v.facts ≡ Some (matrix n rows) → IsTrue (of_kind p) → ArePrimitiveRowsOf rows xs → Contains xs x → (IsZero x → ⊥) → IsRowOf v of_kind x
+row_of v of_kind p n rows xs x read kind h c some =
+    let (f, i, q, w) = found p v.facts (matrix n rows) read in
+    let j = c.0 in
+    let below = c.1 in
+    let count = h.count in
+    let is : get_or xs j [] ≡ x = get_or_default xs j [] x below ∙ c.2 in
+    record {
+      fact = f;
+      read = Contains_among i;
+      property = subst (λ z. IsTrue (of_kind z)) (sym q) kind;
+      n = n;
+      rows = rows;
+      value = w;
+      row = get_or rows j [];
+      listed = Contains-get_or rows j [] (omega arith);
+      multiple = subst (λ z. IsPositiveMultipleOf (get_or rows j []) z) is (h.multiple j (omega arith));
+      primitive = primitive_unless (get_or rows j []) x (subst (λ z. IsPrimitiveRowOf (get_or rows j []) z) is (h.each j (omega arith))) some;
+    }
+
+pub fails_rightly : (v : ViewSeen) (m k : ℕ) (facets vertices : List (List Ratio)) (F V : List Row) (e : ClientFail) → fact_of Facets v.facts ≡ Some (matrix m facets) → fact_of Vertices v.facts ≡ Some (matrix k vertices)
+    → ArePrimitiveRowsOf facets F → ArePrimitiveRowsOf vertices V → IsWideFor F V e → FailsRightly v e
+fails_rightly v m k facets vertices F V Memory g h p q w = tt
+fails_rightly v m k facets vertices F V (Failed (E1 e)) g h p q w = absurd w
+fails_rightly v m k facets vertices F V (Failed (E4 a x)) g h p q w = (
+  row_of v is_generator Vertices k vertices V a h refl q w.0 (λ z. w.2 (zero_stays a x z)),
+  row_of v is_half_space Facets m facets F x g refl p w.1 (λ z. w.2 (stays_turned x a (zero_stays x a z))),
+  w.2,
+)
+
+pub memory_rightly : (v : ViewSeen) (e : ClientFail) → e ≡ Memory → FailsRightly v e
+memory_rightly v e h = rw h tt
 
 -- ---- the kind
 pub has_target : (k : Kind) → k ≡ incidence_kind → IsTrue (has k.targets VerticesInFacets)

@@ -1,4 +1,4 @@
-pub mod ShortRows
+pub mod Multiples
+pub mod Products
 pub mod Places
 pub mod Answered
-pub mod Sources

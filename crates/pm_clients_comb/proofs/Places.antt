@@ -5,11 +5,12 @@ use Rattle.pm_clients_comb.specs.Incidence.{incidence, places_from}
 use Rattle.pm_geom.specs.Faces.{ray}
 use Rattle.pm_types.specs.Forms.{are_indices, is_sets_form}
 use Rattle.pm_types.specs.Right.{IsIncidence}
-use Rattle.std.proofs.Common.{add-zero, ap, arith, eqb, inl, inr, refl, subst, suc, sym, true, zero, ◌+◌, ◌<◌, ◌∙◌, ◌≡◌, ◌≤◌, ◌⊎◌}
+use Rattle.std.proofs.Common.{add-one, add-zero, ap, append_assoc, arith, cond, drop, drop-cons, eqb, false, get_or, map, inl, inr, refl, subst, suc, sym, true, zero, ◌+◌, ◌++◌, ◌<◌, ◌∙◌, ◌≡◌, ◌≤◌, ◌⊎◌}
 use Rattle.std.proofs.lemmas.Bool.{cases_Bool, eq-eqb, eqb-true}
+use Rattle.std.proofs.lemmas.List.{map-append}
 use Rattle.std.proofs.lemmas.Int.{ints}
 use Rattle.std.specs.List.{Contains, list_all}
-use Rattle.std.specs.Prelude.{List, [], length, nat_le, nat_lt, unsigned_abs, ℕ, ◌↔◌, ◌∷◌}
+use Rattle.std.specs.Prelude.{Bool, List, [], length, nat_le, nat_lt, unsigned_abs, ℕ, ◌↔◌, ◌∷◌}
 use lib.IntN.{pos, ℤ}
 
 zero_from_test : (z : ℤ) → eqb (unsigned_abs z) 0 ≡ true → z ≡ pos 0
@@ -94,3 +95,25 @@ incidence_form F V h k = rw (rows, cols, all_indices F V) refl
 
     cols : nat_le (length V) 2048 ≡ true
     cols = grind arith
+
+-- ---- one vertex on, one facet on
+rest_at : (V : List Row) (j : ℕ) (v : Row) → j < length V → v ≡ get_or V j v → drop j V ≡ v ∷ drop (suc j) V
+rest_at V j v within is = drop-cons V j v within ∙ ap (λ y. y ∷ drop (suc j) V) (sym is)
+
+pub places_next : (f : Row) (V : List Row) (j : ℕ) (v : Row) (all found more : List ℕ) (t : Bool) → j < length V → v ≡ get_or V j v → t ≡ eqb (unsigned_abs (dot f v)) 0 → all ≡ found ++ places_from j f (drop j V)
+    → more ≡ cond t (found ++ j ∷ []) found → all ≡ more ++ places_from (j + 1) f (drop (j + 1) V)
+places_next f V j v all found more t within is test h e =
+    let rest = places_from (suc j) f (drop (suc j) V) in
+    rw (add-one, e) (h ∙ ap (λ vs. found ++ places_from j f vs) (rest_at V j v within is) ∙ ap (λ z. found ++ cond z (j ∷ rest) rest) (sym test) ∙ joined t rest)
+  where
+    joined : (t : Bool) (rest : List ℕ) → found ++ cond t (j ∷ rest) rest ≡ cond t (found ++ j ∷ []) found ++ rest
+    joined true rest = sym (append_assoc found (j ∷ []) rest)
+    joined false rest = refl
+
+pub incidence_next : {X : Type 0} (items : X → List ℕ) (F V : List Row) (i : ℕ) (f : Row) (rows more : List X) (x : X) → i < length F → f ≡ get_or F i f → incidence F V ≡ map items rows ++ incidence (drop i F) V → more ≡ rows ++ x ∷ [] → items x ≡ places_from 0 f V
+    → incidence F V ≡ map items more ++ incidence (drop (i + 1) F) V
+incidence_next items F V i f rows more x within is h e found =
+    let rest = incidence (drop (suc i) F) V in
+    rw (add-one, e)
+    (h ∙ ap (λ G. map items rows ++ incidence G V) (rest_at F i f within is) ∙ ap (λ r. map items rows ++ r ∷ rest) (sym found) ∙ sym (append_assoc (map items rows) (items x ∷ []) rest)
+    ∙ ap (λ z. z ++ rest) (sym (map-append items rows (x ∷ []))))

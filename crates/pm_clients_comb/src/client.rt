@@ -1,15 +1,19 @@
 // The clients that find sets.
 
+ghost use Rattle.pm_client.specs.Sound.{FailsRightly, IsSound};
+ghost use Rattle.pm_client.specs.Starts.{next_count};
+ghost use Rattle.pm_clients_comb.specs.Incidence.{StaysInRange};
 ghost use Rattle.pm_types.specs.Kinds.{incidence_kind};
-ghost use Rattle.std.specs.Prelude.{◌<◌, ◌≡◌};
+ghost use Rattle.std.specs.Prelude.{IfErr, OnOk, [], ◌<◌, ◌≡◌};
 
 use crate::incidence::incidence;
-use pm_client::{Client, ClientFail, matrix_of, put_value};
+use pm_client::{Client, ClientFail, matrix_of, primitive_rows, put_value};
 use pm_object::{Draft, View};
-use pm_types::{Kind, PropId, Value};
+use pm_types::{Kind, PropId, StandardClient, Value};
 use std::alloc::Global;
 
-/// A client that finds sets: VERTICES_IN_FACETS from VERTICES and FACETS.
+/// A client that finds sets: VERTICES_IN_FACETS from VERTICES and FACETS. It fails exactly where a product of their
+/// primitive whole rows leaves the range.
 #[derive(Debug, Drop)]
 pub struct SetsClient {
     starts: u64,
@@ -37,18 +41,26 @@ impl Client for SetsClient {
     ghost starts_of = { λ c. c.starts };
 
     fn kind(&self) -> Kind {
-        Kind::incidence()
+        StandardClient::Incidence.kind()
     }
 
     fn starts(&self) -> u64 {
         self.starts
     }
 
-    fn run(&mut self, alloc: Global, view: &View, draft: &mut Draft) -> Result<(), ClientFail> {
+    fn run(&mut self, alloc: Global, view: &View, draft: &mut Draft) -> Result<(), ClientFail>
+        requires kind { view.now.kind ≡ incidence_kind }
+        requires empty { draft.old ≡ record { kind = view.now.kind; values = [] } }
+        ensures starts { self.new.starts ≡ next_count self.old.starts }
+        ensures draft { draft.new.kind ≡ draft.old.kind }
+        ensures sound { OnOk result (IsSound view.now draft.new) }
+        ensures failed { IfErr result (λ e. FailsRightly view.now e) }
+        ensures stays { OnOk result (StaysInRange view.now) }
+    {
         self.starts = self.starts.saturating_add(1);
-        let facets = matrix_of(view, PropId::Facets);
-        let vertices = matrix_of(view, PropId::Vertices);
-        let sets = incidence(alloc, view.cols(), facets, vertices)?;
+        let facets = primitive_rows(alloc, matrix_of(view, PropId::Facets))?;
+        let vertices = primitive_rows(alloc, matrix_of(view, PropId::Vertices))?;
+        let sets = incidence(alloc, &facets, &vertices)?;
         put_value(draft, PropId::VerticesInFacets, Value::Sets(sets))?;
         Ok(())
     }

@@ -1,56 +1,68 @@
 // Which vertices lie on which facets.
 
 ghost use Rattle.pm_algebra.specs.Rows.{dot};
-ghost use Rattle.pm_clients_comb.specs.Incidence.{AreShort, IsShort, incidence, places_from};
-ghost use Rattle.std.specs.Prelude.{IfOk, length, unsigned_abs, ◌==◌, ◌≡◌, ◌≤◌, ◌^◌};
+ghost use Rattle.pm_clients_comb.specs.Incidence.{AllStay, IsWideFor, incidence, places_from};
+ghost use Rattle.pm_client.specs.declared.ClientFail.TheVariants.{Memory};
+ghost use Rattle.pm_matrix.specs.FractionRows.{ArePrimitiveRowsOf};
+ghost use Rattle.pm_types.specs.Forms.{HasPrimitiveRow};
+ghost use Rattle.std.specs.Prelude.{All, IfErr, IfOk, OnOk, [], length, unsigned_abs, ◌==◌, ◌∷◌, ◌≡◌, ◌≤◌};
 
-use pm_types::{Rows, Sets};
-use pm_vector::{Ints, dot};
-use std::alloc::{AllocError, Global};
+use pm_client::ClientFail;
+use pm_geom::Evidence;
+use pm_matrix::{Matrix, RowsFail};
+use pm_types::Sets;
+use pm_vector::{Ints, Wide, dot};
+use std::alloc::Global;
 
-// Whether the product of two rows is 0.
-fn vanishes(facet: &Ints, vertex: &Ints) -> bool
-    requires facet { IsShort (length facet.now) facet.now }
-    requires vertex { IsShort (length facet.now) vertex.now }
-    ensures { result ≡ (unsigned_abs (dot facet.now vertex.now) == 0) }
+// Whether the product of two rows of one length is 0.
+fn vanishes(alloc: Global, facet: &Ints, vertex: &Ints) -> Result<bool, ClientFail>
+    requires { length facet.now ≡ length vertex.now }
+    ensures value { IfOk result (λ b. b ≡ (unsigned_abs (dot facet.now vertex.now) == 0)) }
+    ensures stays { OnOk result (AllStay (facet.now ∷ []) (vertex.now ∷ [])) }
+    ensures failed { IfErr result (IsWideFor (facet.now ∷ []) (vertex.now ∷ [])) }
 {
-    let Ok(product) = dot(facet.as_slice(), vertex.as_slice()) else {
-        unreachable!()
-    };
-    product == 0
+    match dot(facet.as_slice(), vertex.as_slice()) {
+        Ok(product) => Ok(product == 0),
+        Err(Wide) => Err(ClientFail::Failed(Evidence::E4 {
+            first: vertex.copy(alloc)?,
+            second: facet.copy(alloc)?,
+        })),
+    }
 }
 
 // The places of the vertices on a facet.
-fn places(alloc: Global, facet: &Ints, vertices: &[Ints]) -> Result<Vec<u32>, AllocError>
-    requires facet { IsShort (length facet.now) facet.now }
-    requires vertices { AreShort (length facet.now) vertices.now }
+fn places(alloc: Global, facet: &Ints, vertices: &[Ints]) -> Result<Vec<u32>, ClientFail>
+    requires cols { All (λ v. length v ≡ length facet.now) vertices.now }
     requires few { length vertices.now ≤ 2048 }
-    ensures { IfOk result (λ r. r.items ≡ places_from 0 facet.now vertices.now) }
+    ensures ok { IfOk result (λ r. r.items ≡ places_from 0 facet.now vertices.now) }
+    ensures stays { OnOk result (AllStay (facet.now ∷ []) vertices.now) }
+    ensures failed { IfErr result (IsWideFor (facet.now ∷ []) vertices.now) }
 {
     let mut places = Vec::new(alloc);
     for (j, vertex) in vertices.iter().enumerate() {
-        if vanishes(facet, vertex) {
+        let on = vanishes(alloc, facet, vertex)?;
+        if on {
             places.push(j as u32)?;
         }
     }
     Ok(places)
 }
 
-// For each facet the places of the vertices on it, of matrices whose rows have n entries.
+// For each facet the places of the vertices on it, of rows of one length. It fails where a product leaves the range.
 pub(crate) fn incidence(
     alloc: Global,
-    cols: usize,
-    facets: &Rows,
-    vertices: &Rows,
-) -> Result<Sets, AllocError>
-    requires facets { AreShort cols facets.now.rows }
-    requires vertices { AreShort cols vertices.now.rows }
-    requires few { length vertices.now.rows ≤ 2048 }
-    ensures { IfOk result (λ r. r ≡ record { rows = incidence facets.now.rows vertices.now.rows; cols = length vertices.now.rows }) }
+    facets: &[Ints],
+    vertices: &[Ints],
+) -> Result<Sets, ClientFail>
+    requires cols { All (λ f. All (λ v. length v ≡ length f) vertices.now) facets.now }
+    requires few { length vertices.now ≤ 2048 }
+    ensures ok { IfOk result (λ r. r ≡ record { rows = incidence facets.now vertices.now; cols = length vertices.now }) }
+    ensures stays { OnOk result (AllStay facets.now vertices.now) }
+    ensures failed { IfErr result (IsWideFor facets.now vertices.now) }
 {
     let mut rows = Vec::new(alloc);
-    for facet in facets.rows() {
-        rows.push(places(alloc, facet, vertices.rows())?)?;
+    for facet in facets {
+        rows.push(places(alloc, facet, vertices)?)?;
     }
-    Ok(Sets::from_vec(rows, vertices.rows().len() as u32))
+    Ok(Sets::from_vec(rows, vertices.len() as u32))
 }

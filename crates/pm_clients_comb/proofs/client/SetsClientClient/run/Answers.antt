@@ -1,30 +1,56 @@
-use Rattle.pm_clients_comb.proofs.Answered.{has_facets, has_target, has_vertices, sets_sound, short_facets, short_vertices}
+use Rattle.pm_clients_comb.proofs.Answered.{fails_rightly, has_facets, has_target, has_vertices, sets_sound, vertex_lengths}
 use Rattle.pm_clients_comb.proofs.client.SetsClientClient.run.Goals as goal
-use Rattle.pm_clients_comb.specs.Incidence.{AreShort}
-use Rattle.std.proofs.Common.{ap, subst, sym, ◌∙◌}
+use Rattle.std.proofs.Common.{ap, ◌∙◌}
+use Rattle.std.proofs.lemmas.Result.{err_from_is_err_and}
 
-pub matrix_of-facets-requires-clause-source : goal.matrix_of-facets-requires-clause-source
-matrix_of-facets-requires-clause-source c = has_facets c.args.view.now.kind c.requires.kind
+pub matrix_of-requires-clause-source : goal.matrix_of-requires-clause-source
+matrix_of-requires-clause-source c = has_facets c.args.view.now.kind c.requires.kind
 
-pub matrix_of-vertices-requires-clause-source : goal.matrix_of-vertices-requires-clause-source
-matrix_of-vertices-requires-clause-source c = has_vertices c.args.view.now.kind c.requires.kind
+pub matrix_of-requires-2-clause-source : goal.matrix_of-requires-2-clause-source
+matrix_of-requires-2-clause-source c = has_vertices c.args.view.now.kind c.requires.kind
 
-pub incidence-requires-clause-facets : goal.incidence-requires-clause-facets
-incidence-requires-clause-facets c =
-    subst (λ n. AreShort n c.matrix_of-facets.result.now.rows) (sym c.cols.ensures.value)
-    (short_facets c.args.view.now c.matrix_of-facets.result.now.cols c.matrix_of-facets.result.now.rows c.matrix_of-facets.ensures.forms).0
-
-pub incidence-requires-clause-vertices : goal.incidence-requires-clause-vertices
-incidence-requires-clause-vertices c =
-    subst (λ n. AreShort n c.matrix_of-vertices.result.now.rows) (sym c.cols.ensures.value)
-    (short_vertices c.args.view.now c.matrix_of-vertices.result.now.cols c.matrix_of-vertices.result.now.rows c.matrix_of-vertices.ensures.forms).0
+pub incidence-requires-clause-cols : goal.incidence-requires-clause-cols
+incidence-requires-clause-cols c =
+    rw (c.deref.ensures.value, c.deref-2.ensures.value)
+    (vertex_lengths c.args.view.now c.matrix_of.result.now.cols c.matrix_of-2.result.now.cols c.matrix_of.result.now.rows c.matrix_of-2.result.now.rows c.in_ok-facets.facets.items c.in_ok-vertices.vertices.items
+    c.matrix_of.ensures.forms c.matrix_of-2.ensures.forms c.in_ok-facets.ensures.rows c.in_ok-vertices.ensures.rows)
 
 pub put_value-requires-clause-target : goal.put_value-requires-clause-target
 put_value-requires-clause-target c = has_target c.args.draft.now.kind (ap (λ d. d.kind) c.requires.empty ∙ c.requires.kind)
 
+pub returns-in_err-sets-clause-failed : goal.returns-in_err-sets-clause-failed
+returns-in_err-sets-clause-failed c =
+    let w = fails_rightly c.args.view.now c.matrix_of.result.now.cols c.matrix_of-2.result.now.cols c.matrix_of.result.now.rows c.matrix_of-2.result.now.rows c.in_ok-facets.facets.items c.in_ok-vertices.vertices.items
+    c.in_err-sets.field-0.0 c.matrix_of.ensures.value c.matrix_of-2.ensures.value c.in_ok-facets.ensures.rows c.in_ok-vertices.ensures.rows (rw (c.deref.ensures.value, c.deref-2.ensures.value) at c.in_err-sets.ensures.failed) in
+    let p = err_from_is_err_and c.from_residual-in_err-sets.result c.from_residual-in_err-sets.ensures.1 in
+    rw (p.1, p.2) w
+
 pub returns-clause-sound : goal.returns-clause-sound
 returns-clause-sound c =
-    sets_sound c.args.view.now c.matrix_of-facets.result.now.cols c.matrix_of-vertices.result.now.cols c.matrix_of-facets.result.now.rows c.matrix_of-vertices.result.now.rows
+    sets_sound c.args.view.now c.matrix_of.result.now.cols c.matrix_of-2.result.now.cols c.matrix_of.result.now.rows c.matrix_of-2.result.now.rows c.in_ok-facets.facets.items c.in_ok-vertices.vertices.items
     c.in_ok-sets.sets c.args.draft.now c.put_value.new.draft
-    (record { kind = c.requires.kind; facets = c.matrix_of-facets.ensures.value; vertices = c.matrix_of-vertices.ensures.value; facets_form = c.matrix_of-facets.ensures.forms; vertices_form = c.matrix_of-vertices.ensures.forms })
-    c.in_ok-sets.ensures c.requires.empty c.in_ok-put_value.ensures.ok
+    (record {
+      kind = c.requires.kind;
+      facets_read = c.matrix_of.ensures.value;
+      vertices_read = c.matrix_of-2.ensures.value;
+      facets_form = c.matrix_of.ensures.forms;
+      vertices_form = c.matrix_of-2.ensures.forms;
+      facet_rows = c.in_ok-facets.ensures.rows;
+      vertex_rows = c.in_ok-vertices.ensures.rows;
+    })
+    (rw (c.deref.ensures.value, c.deref-2.ensures.value) at c.in_ok-sets.ensures.ok) c.requires.empty c.in_ok-put_value.ensures.ok
+
+pub returns-clause-stays : goal.returns-clause-stays
+returns-clause-stays c = record {
+  facet_cols = c.matrix_of.result.now.cols;
+  vertex_cols = c.matrix_of-2.result.now.cols;
+  facets = c.matrix_of.result.now.rows;
+  vertices = c.matrix_of-2.result.now.rows;
+  reads_facets = c.matrix_of.ensures.value;
+  reads_vertices = c.matrix_of-2.ensures.value;
+  F = c.in_ok-facets.facets.items;
+  V = c.in_ok-vertices.vertices.items;
+  facet_rows = c.in_ok-facets.ensures.rows;
+  vertex_rows = c.in_ok-vertices.ensures.rows;
+  stay = rw (c.deref.ensures.value, c.deref-2.ensures.value) at c.in_ok-sets.ensures.stays;
+}

@@ -1,0 +1,10 @@
+use Rattle.pm_clients_comb.proofs.Places.{incidence_next}
+use Rattle.pm_clients_comb.proofs.Products.{AllStay-list}
+use Rattle.pm_clients_comb.proofs.incidence.incidence.Goals as goal
+
+pub loop-facet-preserved : goal.loop-facet-preserved
+loop-facet-preserved c = (
+  incidence_next (λ r. r.items) c.args.facets.now c.args.vertices.now c.loop-facet.facet-index c.facet-item.result c.loop-facet.rows.items c.push.new.self.items c.in_ok-places.field-0 c.loop-facet-test.true c.facet-item.is c.loop-facet.invariant.0
+      c.in_ok-push.ensures.items c.in_ok-places.ensures.ok,
+  AllStay-list c.args.facets.now c.args.vertices.now c.loop-facet.facet-index c.facet-item.result c.loop-facet-test.true c.facet-item.is c.loop-facet.invariant.1 c.in_ok-places.ensures.stays,
+)

@@ -1,0 +1,141 @@
+-- The null space of a row list, as a value.
+use Rattle.pm_algebra.proofs.Lists.{All_among, all_at, among_All}
+use Rattle.pm_algebra.specs.Numbers.{InRange}
+use Rattle.pm_algebra.specs.Rows.{Row, entry}
+use Rattle.pm_client.proofs.OneTarget.{IsFoundAnswer, sound_found}
+use Rattle.pm_client.proofs.ReadValues.{read_right}
+use Rattle.pm_client.specs.Sound.{IsListOf, IsSound, added_rows}
+use Rattle.pm_clients_geom.proofs.PutMatrices.{hull_forms, lineality_forms, put_states, ratios_columned}
+use Rattle.pm_clients_geom.proofs.RowLists.{IsColumned}
+use Rattle.pm_clients_geom.proofs.RowsKinds.{hull_targets, lineality_targets}
+use Rattle.pm_clients_geom.specs.Matrices.{MayBeLines, as_put, cols_over}
+use Rattle.pm_elim.proofs.PrefixLaws.{at_most_columns}
+use Rattle.pm_elim.specs.NullSpaces.{IsNullBasis}
+use Rattle.pm_geom.specs.Things.{Orders, Thing}
+use Rattle.pm_geom.specs.declared.ObjectType.TheVariants.{Cone, Fan, Polytope}
+use Rattle.pm_geom.specs.declared.ObjectType.{ObjectType}
+use Rattle.pm_matrix.specs.Matrices.{FractionMatrix}
+use Rattle.pm_object.specs.Reading.{DraftSeen, IsView, ViewSeen}
+use Rattle.pm_types.proofs.Found.{echelon_is_right}
+use Rattle.pm_types.proofs.PrimitiveStanding.{hull_primitive, lineality_primitive}
+use Rattle.pm_types.proofs.WholeRows.{polytope_lineality_first}
+use Rattle.pm_types.specs.Canonical.{IsCanonical, IsEchelonBasisOf, Vanishing}
+use Rattle.pm_types.specs.Kinds.{standard_kind}
+use Rattle.pm_types.specs.Right.{InLines, Right, RightAll, objective_of}
+use Rattle.pm_types.specs.Runs.{place_of}
+use Rattle.pm_types.specs.Sets.{members}
+use Rattle.pm_types.specs.Values.{matrix}
+use Rattle.pm_types.specs.Views.{ratios}
+use Rattle.pm_types.specs.declared.property.PropId.TheVariants.{AffineHull, Facets, LinealitySpace, Vertices}
+use Rattle.pm_types.specs.declared.standard.StandardClient.TheVariants as client
+use Rattle.std.proofs.Common.{ap, arith, false, inl, inr, refl, subst, sym, true, true≢false, ◌∙◌}
+use Rattle.std.proofs.lemmas.Bool.{leb-true}
+use Rattle.std.proofs.lemmas.List.Elements.{All-nil}
+use Rattle.std.specs.List.{All}
+use Rattle.std.specs.Prelude.{Bool, List, [], length, map, nat_le, ℕ, ◌++◌, ◌↔◌, ◌∷◌, ◌≡◌, ◌≤◌, ◌⊎◌}
+use lib.IntN.{pos}
+
+-- ---- nothing is added to these lists
+no_vertex_added : (of : ObjectType) (n : ℕ) → added_rows of n Vertices ≡ []
+no_vertex_added Polytope n = refl
+no_vertex_added Cone n = refl
+no_vertex_added Fan n = refl
+
+no_facet_added : (of : ObjectType) (n : ℕ) → added_rows of n Facets ≡ []
+no_facet_added Polytope n = refl
+no_facet_added Cone n = refl
+no_facet_added Fan n = refl
+
+-- ---- a basis, or no row in its place
+few_rows : (n k : ℕ) → nat_le n 33 ≡ true → k ≤ n → k ≤ 2048
+few_rows n k few h = let l = leb-true n 33 few in omega arith
+
+module _ (v : ViewSeen) (view : IsView v) where
+  basis_columned : (X N : List Row) (P : List ℕ) → IsNullBasis v.cols X N P → IsColumned v.cols (cols_over v.cols (map ratios N)) (map ratios N)
+  basis_columned X N P null = ratios_columned v.cols N view.some_cols view.few_cols (few_rows v.cols (length N) view.few_cols (at_most_columns v.cols N P null.echelon)) null.echelon.cols
+
+  none_columned : IsColumned v.cols (cols_over v.cols []) []
+  none_columned = (refl, refl)
+
+-- the rows M that are put for rows N: these, or none where they cannot be lines
+pub record PutLines (of : ObjectType) (N M : List Row) : Type 0 where
+  pub lines : MayBeLines of M
+  pub kept : MayBeLines of N → M ≡ N
+  pub either : (M ≡ N) ⊎ (M ≡ [])
+
+pub put_lines : (of : ObjectType) (N M : List Row) (b : Bool) → (b ≡ true) ↔ MayBeLines of N → ((b ≡ true) × (M ≡ N)) ⊎ ((b ≡ false) × (M ≡ [])) → PutLines of N M
+put_lines of N M b test (inl (e, same)) = record { lines = subst (MayBeLines of) (sym same) (test.0 e); kept = λ h. same; either = inl same }
+put_lines of N M b test (inr (e, none)) = record { lines = subst (MayBeLines of) (sym none) (λ p. All-nil (λ (x : Row). entry x 0 ≡ pos 0)); kept = λ h. absurd (true≢false (sym (test.1 h) ∙ e)); either = inr none }
+
+-- ---- AFFINE_HULL
+module _ (v : ViewSeen) (view : IsView v) (no_fan : ¬ (v.of ≡ Fan)) (X N : List Row) (P : List ℕ) (list : IsListOf v LinealitySpace Vertices X) (null : IsNullBasis v.cols X N P) where
+  hull_echelon : (t : Thing) (o : Orders) → t.of ≡ v.of → t.cols ≡ v.cols → RightAll v.facts t o → IsEchelonBasisOf t.cols (Vanishing t) N P
+  hull_echelon t o of cols right =
+      let (s, rl) = read_right LinealitySpace v.facts (matrix list.first_cols list.first_rows) t o list.reads_first right in
+      let (r, rv) = read_right Vertices v.facts (matrix list.second_cols list.second_rows) t o list.reads_second right in
+      hull_primitive t o right.thing right.orders (λ e. no_fan (sym of ∙ e)) list.second_cols list.first_cols list.second_rows list.first_rows (objective_of t r) (objective_of t s) rv rl list.ys list.xs X N P
+      list.second_primitive list.first_primitive (rw no_vertex_added at list.listed) (subst (λ n. IsNullBasis n X N P) (sym cols) null)
+
+  hull_values : (t : Thing) (o : Orders) → t.of ≡ v.of → t.cols ≡ v.cols → RightAll v.facts t o → (k : ℕ) → Right AffineHull (matrix k (map ratios N)) t o (objective_of t (place_of v.sub AffineHull)) × IsCanonical v.kind AffineHull (matrix k (map ratios N)) t
+  hull_values t o of cols right k = (echelon_is_right t o v.kind k (objective_of t (place_of v.sub AffineHull)) N P).0 (hull_echelon t o of cols right)
+
+  hull_answer : v.kind ≡ standard_kind client.HullFromVertices → All (All InRange) N → IsFoundAnswer v AffineHull (matrix (cols_over v.cols (map ratios N)) (map ratios N))
+  hull_answer kind range = record {
+    targets = ap (λ z. members z.targets) kind ∙ hull_targets;
+    generators = refl;
+    half_spaces = refl;
+    formed = hull_forms v.of v.cols N (basis_columned v view X N P null) range;
+    stated = put_states v.cols (map ratios N);
+    right = λ t o of cols right. (hull_values t o of cols right (cols_over v.cols (map ratios N))).0;
+    canonical = λ t o of cols right. (hull_values t o of cols right (cols_over v.cols (map ratios N))).1;
+  }
+
+  pub hull_sound : (a : FractionMatrix) (old new : DraftSeen) → v.kind ≡ standard_kind client.HullFromVertices → All (All InRange) N → a ≡ as_put v.cols (map ratios N) → old ≡ record { kind = v.kind; values = [] }
+      → new ≡ record old { values = old.values ++ record { property = AffineHull; value = matrix a.cols a.rows } ∷ [] } → IsSound v new
+  hull_sound a old new kind range same empty put =
+      sound_found v AffineHull (matrix a.cols a.rows) old new (subst (λ z. IsFoundAnswer v AffineHull (matrix z.cols z.rows)) (sym same) (hull_answer kind range)) empty put
+
+-- ---- LINEALITY_SPACE
+module _ (v : ViewSeen) (view : IsView v) (no_fan : ¬ (v.of ≡ Fan)) (X N : List Row) (P : List ℕ) (list : IsListOf v AffineHull Facets X) (null : IsNullBasis v.cols X N P) where
+  lineality_echelon : (t : Thing) (o : Orders) → t.of ≡ v.of → t.cols ≡ v.cols → RightAll v.facts t o → IsEchelonBasisOf t.cols (InLines t) N P
+  lineality_echelon t o of cols right =
+      let (s, rh) = read_right AffineHull v.facts (matrix list.first_cols list.first_rows) t o list.reads_first right in
+      let (r, rf) = read_right Facets v.facts (matrix list.second_cols list.second_rows) t o list.reads_second right in
+      lineality_primitive t o right.thing right.orders (λ e. no_fan (sym of ∙ e)) list.second_cols list.first_cols list.second_rows list.first_rows (objective_of t r) (objective_of t s) rf rh list.ys list.xs X N P
+      list.second_primitive list.first_primitive (rw no_facet_added at list.listed) (subst (λ n. IsNullBasis n X N P) (sym cols) null)
+
+  -- where what was read is right, the basis may be lines
+  may_be : (t : Thing) (o : Orders) → t.of ≡ v.of → t.cols ≡ v.cols → RightAll v.facts t o → MayBeLines v.of N
+  may_be t o of cols right e =
+      let b = lineality_echelon t o of cols right in
+      All_among (λ (x : Row). entry x 0 ≡ pos 0) N (λ x i. polytope_lineality_first t right.thing (of ∙ e) x (all_at (λ (y : Row). length y ≡ t.cols) i b.basis.cols) (among_All (InLines t) i b.basis.inside))
+
+  -- the rows M that are put in its place
+  module _ (M : List Row) (put : PutLines v.of N M) (range : All (All InRange) M) where
+    lines_columned : IsColumned v.cols (cols_over v.cols (map ratios M)) (map ratios M)
+    lines_columned = elim put.either [
+      | inl e ↦ subst (λ Z. IsColumned v.cols (cols_over v.cols (map ratios Z)) (map ratios Z)) (sym e) (basis_columned v view X N P null)
+      | inr e ↦ subst (λ Z. IsColumned v.cols (cols_over v.cols (map ratios Z)) (map ratios Z)) (sym e) (none_columned v view)
+    ]
+
+    lineality_values : (t : Thing) (o : Orders) → t.of ≡ v.of → t.cols ≡ v.cols → RightAll v.facts t o → (k : ℕ)
+        → Right LinealitySpace (matrix k (map ratios M)) t o (objective_of t (place_of v.sub LinealitySpace)) × IsCanonical v.kind LinealitySpace (matrix k (map ratios M)) t
+    lineality_values t o of cols right k =
+        subst (λ Z. Right LinealitySpace (matrix k (map ratios Z)) t o (objective_of t (place_of v.sub LinealitySpace)) × IsCanonical v.kind LinealitySpace (matrix k (map ratios Z)) t) (sym (put.kept (may_be t o of cols right)))
+        ((echelon_is_right t o v.kind k (objective_of t (place_of v.sub LinealitySpace)) N P).1 (lineality_echelon t o of cols right))
+
+    lineality_answer : v.kind ≡ standard_kind client.LinealityFromFacets → IsFoundAnswer v LinealitySpace (matrix (cols_over v.cols (map ratios M)) (map ratios M))
+    lineality_answer kind = record {
+      targets = ap (λ z. members z.targets) kind ∙ lineality_targets;
+      generators = refl;
+      half_spaces = refl;
+      formed = lineality_forms v.of v.cols M lines_columned range put.lines;
+      stated = put_states v.cols (map ratios M);
+      right = λ t o of cols right. (lineality_values t o of cols right (cols_over v.cols (map ratios M))).0;
+      canonical = λ t o of cols right. (lineality_values t o of cols right (cols_over v.cols (map ratios M))).1;
+    }
+
+    pub lineality_sound : (a : FractionMatrix) (old new : DraftSeen) → v.kind ≡ standard_kind client.LinealityFromFacets → a ≡ as_put v.cols (map ratios M) → old ≡ record { kind = v.kind; values = [] }
+        → new ≡ record old { values = old.values ++ record { property = LinealitySpace; value = matrix a.cols a.rows } ∷ [] } → IsSound v new
+    lineality_sound a old new kind same empty put =
+        sound_found v LinealitySpace (matrix a.cols a.rows) old new (subst (λ z. IsFoundAnswer v LinealitySpace (matrix z.cols z.rows)) (sym same) (lineality_answer kind)) empty put

@@ -1,0 +1,42 @@
+-- The parts of a row list have the columns of the view, and so has the list.
+use Rattle.pm_algebra.proofs.Lists.{all_append, all_from, among_All}
+use Rattle.pm_algebra.specs.Numbers.{Ratio}
+use Rattle.pm_algebra.specs.Rows.{HasCols, Row}
+use Rattle.pm_client.proofs.ReadValues.{all_length, primitive_length}
+use Rattle.pm_client.specs.Sound.{are_parts}
+use Rattle.pm_geom.specs.declared.ObjectType.{ObjectType}
+use Rattle.pm_matrix.specs.FractionRows.{ArePrimitiveRowsOf}
+use Rattle.pm_types.specs.Forms.{FormsIn, is_matrix_form}
+use Rattle.pm_types.specs.Values.{matrix}
+use Rattle.pm_types.specs.declared.property.PropId.TheVariants.{AffineHull, Equations, Facets, Inequalities, InputLineality, LinealitySpace, Points, Vertices}
+use Rattle.pm_types.specs.declared.property.PropId.{PropId}
+use Rattle.std.proofs.Common.{subst, sym, true, true≢false}
+use Rattle.std.specs.Prelude.{IsTrue, List, length, nat_eq, ℕ, ◌++◌, ◌||◌, ◌≡◌}
+
+-- a matrix whose rows, if it has some, have n entries
+abbrev pub IsColumned : ℕ → ℕ → List (List Ratio) → Type 0
+IsColumned n m rows = (is_matrix_form m rows ≡ true) × ((nat_eq m 0 || nat_eq m n) ≡ true)
+
+module _ (of : ObjectType) (n m : ℕ) (rows : List (List Ratio)) where
+  first_columned : (p q : PropId) → IsTrue (are_parts p q) → FormsIn of n p (matrix m rows) → IsColumned n m rows
+  first_columned InputLineality q h f = (f.formed, f.columns)
+  first_columned LinealitySpace q h f = (f.formed, f.columns)
+  first_columned Equations q h f = (f.formed, f.columns)
+  first_columned AffineHull q h f = (f.formed, f.columns)
+  first_columned p q h f = absurd (true≢false (sym h))
+
+  second_columned : (p q : PropId) → IsTrue (are_parts p q) → FormsIn of n q (matrix m rows) → IsColumned n m rows
+  second_columned InputLineality Points h f = (f.formed, f.columns)
+  second_columned LinealitySpace Vertices h f = (f.formed, f.columns)
+  second_columned Equations Inequalities h f = (f.formed, f.columns)
+  second_columned AffineHull Facets h f = (f.formed, f.columns)
+  second_columned p q h f = absurd (true≢false (sym h))
+
+  primitive_cols : (xs : List Row) → IsColumned n m rows → ArePrimitiveRowsOf rows xs → HasCols n xs
+  primitive_cols xs h p = all_from (λ (x : Row). length x ≡ n) xs (λ x i. among_All (λ (y : Row). length y ≡ n) i (all_length n xs (primitive_length m n rows xs h.0 h.1 p)))
+
+-- the primitive whole rows of both parts, one after the other
+pub list_cols : (of : ObjectType) (n m k : ℕ) (first second : PropId) (lines rows : List (List Ratio)) (ls xs X : List Row) → IsTrue (are_parts first second) → FormsIn of n first (matrix m lines) → FormsIn of n second (matrix k rows)
+    → ArePrimitiveRowsOf lines ls → ArePrimitiveRowsOf rows xs → X ≡ ls ++ xs → HasCols n X
+list_cols of n m k first second lines rows ls xs X parts f g p q e =
+    subst (HasCols n) (sym e) (all_append (λ (x : Row). length x ≡ n) ls xs (primitive_cols of n m lines ls (first_columned of n m lines first second parts f) p) (primitive_cols of n k rows xs (second_columned of n k rows first second parts g) q))

@@ -1,0 +1,43 @@
+-- What is so of a view: it is of no fan where the kind names a property that fans do not have, and it has no fact of a property that it has no value of.
+use Rattle.pm_algebra.proofs.Lists.{Among, among_Contains, here, there}
+use Rattle.pm_geom.specs.declared.ObjectType.TheVariants.{Fan}
+use Rattle.pm_object.specs.Reading.{IsView, ViewSeen, fact_of}
+use Rattle.pm_types.proofs.Kept.{same_property_refl}
+use Rattle.pm_types.proofs.Members.{has-union}
+use Rattle.pm_types.specs.Kinds.{conditions_of, names_of}
+use Rattle.pm_types.specs.Properties.{has as has_in, has_fan}
+use Rattle.pm_types.specs.Runs.{same_property}
+use Rattle.pm_types.specs.Sets.{has, union}
+use Rattle.pm_types.specs.Values.{Fact}
+use Rattle.pm_types.specs.declared.kind.Kind.{Kind}
+use Rattle.pm_types.specs.declared.property.PropId.{PropId}
+use Rattle.std.proofs.Common.{ap, false, refl, sym, true, true≢false, ◌∙◌}
+use Rattle.std.specs.List.{Contains}
+use Rattle.std.specs.Option.{is_some}
+use Rattle.std.specs.Prelude.{Bool, List, None, Some, if◌then◌else◌, ◌||◌, ◌≡◌}
+
+or_right : (a b : Bool) → b ≡ true → (a || b) ≡ true
+or_right true b h = refl
+or_right false b h = h
+
+pub target_named : (kind : Kind) (p : PropId) → has kind.targets p ≡ true → has (names_of kind) p ≡ true
+target_named kind p h = has-union kind.targets (union kind.sources (conditions_of kind)) p ∙ ap (λ b. b || has (union kind.sources (conditions_of kind)) p) h
+
+pub source_named : (kind : Kind) (p : PropId) → has kind.sources p ≡ true → has (names_of kind) p ≡ true
+source_named kind p h =
+    has-union kind.targets (union kind.sources (conditions_of kind)) p
+    ∙ or_right (has kind.targets p) (has (union kind.sources (conditions_of kind)) p) (has-union kind.sources (conditions_of kind) p ∙ ap (λ b. b || has (conditions_of kind) p) h)
+
+pub not_fan : (v : ViewSeen) (p : PropId) → IsView v → has (names_of v.kind) p ≡ true → has_fan p ≡ false → ¬ (v.of ≡ Fan)
+not_fan v p view named absent e = true≢false (sym (view.in_use p named) ∙ ap (λ of. has_in of p) e ∙ absent)
+
+some_among : {f : Fact} {facts : List Fact} (p : PropId) → Among f facts → f.property ≡ p → is_some (fact_of p facts) ≡ true
+some_among {f} p (here {xs}) e = let same : same_property p f.property ≡ true = ap (λ q. same_property p q) e ∙ same_property_refl p in rw same refl
+some_among {f} p (there {y = g} {xs} i) e = by (same_property p g.property) (some_among p i e)
+  where
+    by : (t : Bool) → is_some (fact_of p xs) ≡ true → is_some (if t then Some g.value else fact_of p xs) ≡ true
+    by true h = refl
+    by false h = h
+
+pub none_among : (p : PropId) (facts : List Fact) → fact_of p facts ≡ None → (f : Fact) → Contains facts f → ¬ (f.property ≡ p)
+none_among p facts h f c e = true≢false (sym (some_among p (among_Contains facts c) e) ∙ ap is_some h)

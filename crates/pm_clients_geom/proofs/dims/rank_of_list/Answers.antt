@@ -1,0 +1,12 @@
+use Rattle.pm_clients_geom.proofs.FoundDims.{rank_at_most}
+use Rattle.pm_clients_geom.proofs.dims.rank_of_list.Goals as goal
+
+pub returns-clause-few : goal.returns-clause-few
+returns-clause-few c = rank_at_most c.deref.result.now c.in_ok-rank.rank 4096 c.in_ok-rank.ensures.rank (rw c.deref.ensures.value c.in_ok-rows.ensures.few)
+
+pub returns-clause-stays : goal.returns-clause-stays
+returns-clause-stays c = record {
+  rows = c.in_ok-rows.rows.items;
+  listed = c.in_ok-rows.ensures.listed;
+  stays = rw (← c.deref.ensures.value, ← c.cols.ensures.value) c.in_ok-rank.ensures.never_wide;
+}

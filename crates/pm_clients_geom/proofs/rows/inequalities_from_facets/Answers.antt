@@ -1,0 +1,42 @@
+use Rattle.pm_clients_geom.proofs.Halves.{inequalities_sound}
+use Rattle.pm_clients_geom.proofs.RowsKinds.{source_of, target_of}
+use Rattle.pm_clients_geom.proofs.rows.inequalities_from_facets.Goals as goal
+use Rattle.pm_types.specs.declared.property.PropId.TheVariants.{Facets, AffineHull, Inequalities, Equations}
+use Rattle.pm_types.specs.declared.property.PropId.{PropId}
+use Rattle.pm_types.specs.declared.standard.StandardClient.TheVariants as client
+use Rattle.std.proofs.Common.{ap, refl, ◌∙◌}
+use Rattle.std.specs.Prelude.{List, [], ◌∷◌}
+
+abbrev sources : List PropId
+sources = Facets ∷ AffineHull ∷ []
+
+abbrev targets : List PropId
+targets = Inequalities ∷ Equations ∷ []
+
+pub reads_no_half-requires-clause-target : goal.reads_no_half-requires-clause-target
+reads_no_half-requires-clause-target c = target_of c.args.view.now.kind client.InequalitiesFromFacets targets Inequalities c.requires.kind refl
+
+pub reads_no_half-requires-clause-no_first : goal.reads_no_half-requires-clause-no_first
+reads_no_half-requires-clause-no_first c = source_of c.args.view.now.kind client.InequalitiesFromFacets sources Inequalities c.requires.kind refl
+
+pub reads_no_half-requires-clause-no_second : goal.reads_no_half-requires-clause-no_second
+reads_no_half-requires-clause-no_second c = source_of c.args.view.now.kind client.InequalitiesFromFacets sources Equations c.requires.kind refl
+
+pub matrix_of-requires-clause-source : goal.matrix_of-requires-clause-source
+matrix_of-requires-clause-source c = source_of c.args.view.now.kind client.InequalitiesFromFacets sources Facets c.requires.kind refl
+
+pub matrix_of-requires-2-clause-source : goal.matrix_of-requires-2-clause-source
+matrix_of-requires-2-clause-source c = source_of c.args.view.now.kind client.InequalitiesFromFacets sources AffineHull c.requires.kind refl
+
+pub put_value-requires-clause-target : goal.put_value-requires-clause-target
+put_value-requires-clause-target c = target_of c.args.draft.now.kind client.InequalitiesFromFacets targets Inequalities (ap (λ d. d.kind) c.requires.empty ∙ c.requires.kind) refl
+
+pub put_value-requires-2-clause-target : goal.put_value-requires-2-clause-target
+put_value-requires-2-clause-target c = target_of c.put_value.new.draft.kind client.InequalitiesFromFacets targets Equations (ap (λ d. d.kind) c.in_ok-put_value.ensures.ok ∙ ap (λ d. d.kind) c.requires.empty ∙ c.requires.kind) refl
+
+pub returns-clause-sound : goal.returns-clause-sound
+returns-clause-sound c =
+    inequalities_sound c.args.view.now c.matrix_of.result.now.cols c.matrix_of-2.result.now.cols c.matrix_of.result.now.rows c.matrix_of-2.result.now.rows
+    (record { first_read = c.matrix_of.ensures.value; second_read = c.matrix_of-2.ensures.value; first_forms = c.matrix_of.ensures.forms; second_forms = c.matrix_of-2.ensures.forms }) c.reads_no_half.ensures
+    c.in_ok-inequalities.inequalities c.in_ok-equations.equations c.args.draft.now c.put_value.new.draft c.put_value-2.new.draft c.requires.kind c.in_ok-inequalities.ensures.rows c.in_ok-equations.ensures.rows c.requires.empty
+    c.in_ok-put_value.ensures.ok c.in_ok-put_value-2.ensures.ok

@@ -1,0 +1,44 @@
+use Rattle.pm_clients_geom.proofs.NullMatrices.{lineality_sound, put_lines}
+use Rattle.pm_clients_geom.proofs.RowsKinds.{source_of, target_of}
+use Rattle.pm_clients_geom.proofs.ViewLaws.{not_fan, source_named}
+use Rattle.pm_clients_geom.proofs.rows.lineality_from_facets.Goals as goal
+use Rattle.pm_clients_geom.proofs.rows.lineality_from_facets.Goals.{else-may_be_lines, then-may_be_lines}
+use Rattle.pm_types.specs.declared.property.PropId.TheVariants.{AffineHull, Facets, LinealitySpace}
+use Rattle.pm_types.specs.declared.property.PropId.{PropId}
+use Rattle.pm_types.specs.declared.standard.StandardClient.TheVariants as client
+use Rattle.std.proofs.Common.{ap, false, inl, inr, refl, rules, true, ◌∙◌}
+use Rattle.std.specs.Prelude.{List, [], ◌∷◌, ◌≡◌, ◌⊎◌}
+
+abbrev sources : List PropId
+sources = Facets ∷ AffineHull ∷ []
+
+abbrev targets : List PropId
+targets = LinealitySpace ∷ []
+
+pub row_list-requires-clause-first : goal.row_list-requires-clause-first
+row_list-requires-clause-first c = source_of c.args.view.now.kind client.LinealityFromFacets sources AffineHull c.requires.kind refl
+
+pub row_list-requires-clause-second : goal.row_list-requires-clause-second
+row_list-requires-clause-second c = source_of c.args.view.now.kind client.LinealityFromFacets sources Facets c.requires.kind refl
+
+pub put_value-requires-clause-target : goal.put_value-requires-clause-target
+put_value-requires-clause-target c = target_of c.args.draft.now.kind client.LinealityFromFacets targets LinealitySpace (ap (λ d. d.kind) c.requires.empty ∙ c.requires.kind) refl
+
+pub returns-clause-sound : goal.returns-clause-sound
+returns-clause-sound c =
+    let null = rw (c.deref.ensures.value, c.cols.ensures.value) at c.in_ok-null.ensures.null in
+    let no_fan = not_fan c.args.view.now Facets c.cols.ensures.view (source_named c.args.view.now.kind Facets (source_of c.args.view.now.kind client.LinealityFromFacets sources Facets c.requires.kind refl)) refl in
+    let put : ((c.may_be_lines.result ≡ true) × (c.if-may_be_lines.lines.items ≡ c.in_ok-null.null.items)) ⊎ ((c.may_be_lines.result ≡ false) × (c.if-may_be_lines.lines.items ≡ [])) = elim c.if-may_be_lines.branch [
+      | then-may_be_lines w ↦ inl (w.if-may_be_lines.true, ap (λ r. r.items) w.lines-is)
+      | else-may_be_lines w ↦ inr (w.if-may_be_lines.false, search rules)
+    ] in
+    lineality_sound c.args.view.now c.cols.ensures.view no_fan c.in_ok-rows.rows.items c.in_ok-null.null.items null.0 c.in_ok-rows.ensures.listed null.1 c.if-may_be_lines.lines.items
+    (put_lines c.args.view.now.of c.in_ok-null.null.items c.if-may_be_lines.lines.items c.may_be_lines.result (rw (c.of.ensures.value, c.deref-2.ensures.value) at c.may_be_lines.ensures) put)
+    (rw c.deref-3.ensures.value at c.in_ok-lineality.ensures.in_range) c.in_ok-lineality.lineality c.args.draft.now c.put_value.new.draft c.requires.kind
+    (rw (c.deref-3.ensures.value, c.cols-2.ensures.value) at c.in_ok-lineality.ensures.rows) c.requires.empty c.in_ok-put_value.ensures.ok
+
+pub returns-clause-stays : goal.returns-clause-stays
+returns-clause-stays c = record { rows = c.in_ok-rows.rows.items; listed = c.in_ok-rows.ensures.listed; stays = rw (c.deref.ensures.value, c.cols.ensures.value) at c.in_ok-null.ensures.never_wide }
+
+pub returns-clause-stays_extended : goal.returns-clause-stays_extended
+returns-clause-stays_extended c = record { rows = c.in_ok-rows.rows.items; listed = c.in_ok-rows.ensures.listed; stays = rw (c.deref.ensures.value, c.cols.ensures.value) at c.in_ok-null.ensures.never_wide_extended }

@@ -1,0 +1,17 @@
+use Rattle.pm_clients_geom.proofs.FoundTruths.{pointed_follows}
+use Rattle.pm_clients_geom.proofs.Puts.{named}
+use Rattle.pm_clients_geom.proofs.truths.pointed.Goals as goal
+use Rattle.pm_types.specs.declared.property.PropId.TheVariants.{LinealityDim, Pointed}
+use Rattle.std.proofs.Common.{[], ap, refl, ◌∙◌, ◌∷◌}
+
+pub whole_of-is_pointed-requires-clause-source : goal.whole_of-is_pointed-requires-clause-source
+whole_of-is_pointed-requires-clause-source c = named _ (LinealityDim ∷ []) LinealityDim (ap (λ k. k.sources) c.requires.kind) refl
+
+pub put_value-requires-clause-target : goal.put_value-requires-clause-target
+put_value-requires-clause-target c = named _ (Pointed ∷ []) Pointed (ap (λ d. d.kind.targets) c.requires.empty ∙ ap (λ k. k.targets) c.requires.kind) refl
+
+pub returns-clause-sound : goal.returns-clause-sound
+returns-clause-sound c =
+    pointed_follows c.args.view.now c.whole_of-is_pointed.result c.args.draft.now c.put_value.new.draft c.whole_of-is_pointed.ensures.value
+    c.whole_of-is_pointed.ensures.forms
+    (record { targets = ap (λ k. k.targets) c.requires.kind; empty = c.requires.empty; put = c.in_ok-put_value.ensures.ok })

@@ -1,0 +1,6 @@
+pub mod Kinds
+pub mod Lists
+pub mod Ranks
+pub mod Stays
+pub mod Matrices
+pub mod Pairs

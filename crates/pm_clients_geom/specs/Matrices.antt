@@ -1,0 +1,22 @@
+-- Matrices that a client puts, and rows that may span a lineality.
+--     cols_over n rows      the column count that a matrix of these rows states: n, but none without rows
+--     as_put n rows      the matrix of these rows
+--     MayBeLines of rows      rows of the lineality of a polytope have first entry 0
+use Rattle.pm_algebra.specs.Numbers.{Ratio}
+use Rattle.pm_algebra.specs.Rows.{Row, entry}
+use Rattle.pm_geom.specs.declared.ObjectType.{ObjectType}
+use Rattle.pm_geom.specs.declared.ObjectType.TheVariants.{Polytope}
+use Rattle.pm_matrix.specs.Matrices.{FractionMatrix}
+use Rattle.std.specs.List.{All}
+use Rattle.std.specs.Prelude.{List, [], ℕ, ◌∷◌, ◌≡◌}
+use lib.IntN.{pos}
+
+abbrev pub cols_over : ℕ → List (List Ratio) → ℕ
+cols_over n [] = 0
+cols_over n (r ∷ rows) = n
+
+abbrev pub as_put : ℕ → List (List Ratio) → FractionMatrix
+as_put n rows = record { cols = cols_over n rows; rows = rows }
+
+abbrev pub MayBeLines : ObjectType → List Row → Type 0
+MayBeLines of rows = of ≡ Polytope → All (λ x. entry x 0 ≡ pos 0) rows

@@ -1,0 +1,215 @@
+// The clients that find dimensions.
+
+ghost use Rattle.pm_client.specs.Sound.{FailsRightly, IsSound, added_rows, are_parts};
+ghost use Rattle.pm_client.specs.declared.ClientFail.TheVariants.{Memory};
+ghost use Rattle.pm_clients_geom.specs.Kinds.{all_dims, dim_kind, dim_kinds};
+ghost use Rattle.pm_client.specs.Starts.{next_count};
+ghost use Rattle.pm_clients_geom.specs.Lists.{StaysInRange};
+ghost use Rattle.pm_clients_geom.specs.Stays.{DimFails, DimStays};
+ghost use Rattle.pm_clients_geom.specs.Ranks.{IsListRank};
+ghost use Rattle.pm_elim.specs.declared.evidence.ElimList.TheVariants as list;
+ghost use Rattle.pm_object.specs.Reading.{IsView};
+ghost use Rattle.pm_types.specs.Kinds.{standard_kind};
+ghost use Rattle.pm_types.specs.Sets.{has};
+ghost use Rattle.pm_types.specs.declared.property.PropId.TheVariants as property;
+ghost use Rattle.pm_types.specs.declared.standard.StandardClient.TheVariants as client;
+ghost use Rattle.std.specs.Prelude.{IfErr, IfOk, IsTrue, OnOk, Some, [], slice_get, ◌<◌, ◌≡◌, ◌≤◌};
+
+use crate::lists::row_list;
+use pm_client::{Client, ClientFail, matrix_of, put_value, whole_of};
+use pm_elim::rank;
+use pm_object::{Draft, View};
+use pm_types::{Kind, PropId, StandardClient, Value};
+use std::alloc::Global;
+
+// What such a client finds its dimension from.
+#[derive(Clone, Copy, Debug)]
+enum Dim {
+    OfVertices,
+    OfSpan,
+    OfPoints,
+    OfLineality,
+    Combinatorial,
+}
+
+impl Dim {
+    // These clients, in the order of the standard book.
+    fn every() -> [Dim; 5]
+        ensures { result ≡ all_dims }
+    {
+        [
+            Dim::OfVertices,
+            Dim::OfSpan,
+            Dim::OfPoints,
+            Dim::OfLineality,
+            Dim::Combinatorial,
+        ]
+    }
+
+    fn kind(self) -> Kind
+        ensures { result ≡ dim_kind self }
+    {
+        match self {
+            Dim::OfVertices => StandardClient::ConeDimV.kind(),
+            Dim::OfSpan => StandardClient::ConeDimSpan.kind(),
+            Dim::OfPoints => StandardClient::ConeDimPoints.kind(),
+            Dim::OfLineality => StandardClient::LinealityDim.kind(),
+            Dim::Combinatorial => StandardClient::CombinatorialDim.kind(),
+        }
+    }
+}
+
+/// A client that finds a dimension: number 0 is `cone_dim_v`, 1 `cone_dim_span`, 2 `cone_dim_points`, 3 `lineality_dim`, 4 `combinatorial_dim`.
+/// `cone_dim_v` and `cone_dim_points` fail exactly where the rank of their row list is Wide, the others never.
+#[derive(Debug, Drop)]
+pub struct DimClient {
+    client: Dim,
+    starts: u64,
+}
+
+impl DimClient {
+    /// How many such clients there are.
+    pub const COUNT: u8 = 5;
+
+    /// The client of that number, below `COUNT`, which was never started.
+    pub fn new(number: u8) -> DimClient
+        requires { number < 5 }
+        ensures kind { slice_get dim_kinds number ≡ Some (⟦<DimClient as Client>⟧.kind_of result) }
+        ensures starts { ⟦<DimClient as Client>⟧.starts_of result ≡ 0 }
+    {
+        DimClient {
+            client: Dim::every()[usize::from(number)],
+            starts: 0,
+        }
+    }
+}
+
+impl Client for DimClient {
+    ghost use Rattle.pm_clients_geom.specs.Kinds.{dim_kind};
+
+    ghost kind_of = { λ c. dim_kind c.client };
+
+    ghost starts_of = { λ c. c.starts };
+
+    fn kind(&self) -> Kind {
+        self.client.kind()
+    }
+
+    fn starts(&self) -> u64 {
+        self.starts
+    }
+
+    fn run(&mut self, alloc: Global, view: &View, draft: &mut Draft) -> Result<(), ClientFail>
+        requires kind { view.now.kind ≡ dim_kind self.old.client }
+        requires empty { draft.old ≡ record { kind = view.now.kind; values = [] } }
+        ensures kind { dim_kind self.new.client ≡ dim_kind self.old.client }
+        ensures starts { self.new.starts ≡ next_count self.old.starts }
+        ensures draft { draft.new.kind ≡ draft.old.kind }
+        ensures sound { OnOk result (IsSound view.now draft.new) }
+        ensures failed { IfErr result (λ e. FailsRightly view.now e) }
+        ensures stays { OnOk result (DimStays self.old.client view.now) }
+        ensures fails { IfErr result (λ e. DimFails self.old.client view.now e) }
+    {
+        self.starts = self.starts.saturating_add(1);
+        match self.client {
+            Dim::OfVertices => cone_dim_v(alloc, view, draft),
+            Dim::OfSpan => cone_dim_span(view, draft),
+            Dim::OfPoints => cone_dim_points(alloc, view, draft),
+            Dim::OfLineality => lineality_dim(view, draft),
+            Dim::Combinatorial => combinatorial_dim(view, draft),
+        }
+    }
+}
+
+// The rank of the row list of two parts, to which nothing is added. It fails for want of memory, or where the elimination of the list leaves the range.
+fn rank_of_list(
+    alloc: Global,
+    view: &View,
+    first: PropId,
+    second: PropId,
+) -> Result<usize, ClientFail>
+    requires first { IsTrue (has view.now.kind.sources first) }
+    requires second { IsTrue (has view.now.kind.sources second) }
+    requires parts { IsTrue (are_parts first second) }
+    requires nothing_added { added_rows view.now.of view.now.cols second ≡ [] }
+    ensures rank { IfOk result (λ k. IsListRank view.now first second k) }
+    ensures few { IfOk result (λ k. k ≤ 4096) }
+    ensures view { OnOk result (IsView view.now) }
+    ensures stays { OnOk result (StaysInRange view.now first second list.Rows) }
+    ensures failed { IfErr result (λ e. FailsRightly view.now e) }
+{
+    let rows = row_list(alloc, view, first, second)?;
+    let rank = rank(alloc, &rows, view.cols())?;
+    Ok(rank)
+}
+
+// CONE_DIM: the rank of the rows of LINEALITY_SPACE and VERTICES.
+fn cone_dim_v(alloc: Global, view: &View, draft: &mut Draft) -> Result<(), ClientFail>
+    requires kind { view.now.kind ≡ standard_kind client.ConeDimV }
+    requires empty { draft.old ≡ record { kind = view.now.kind; values = [] } }
+    ensures draft { draft.new.kind ≡ draft.old.kind }
+    ensures sound { OnOk result (IsSound view.now draft.new) }
+    ensures stays { OnOk result (StaysInRange view.now property.LinealitySpace property.Vertices list.Rows) }
+    ensures failed { IfErr result (λ e. FailsRightly view.now e) }
+{
+    let dim = rank_of_list(alloc, view, PropId::LinealitySpace, PropId::Vertices)?;
+    put_value(draft, PropId::ConeDim, Value::Int(dim as i64))?;
+    Ok(())
+}
+
+// CONE_DIM: n less the number of rows of AFFINE_HULL.
+fn cone_dim_span(view: &View, draft: &mut Draft) -> Result<(), ClientFail>
+    requires kind { view.now.kind ≡ standard_kind client.ConeDimSpan }
+    requires empty { draft.old ≡ record { kind = view.now.kind; values = [] } }
+    ensures draft { draft.new.kind ≡ draft.old.kind }
+    ensures sound { OnOk result (IsSound view.now draft.new) }
+    ensures failed { IfErr result (λ e. e ≡ Memory) }
+{
+    let hull = matrix_of(view, PropId::AffineHull);
+    let dim = view.cols() as i64 - hull.rows() as i64;
+    put_value(draft, PropId::ConeDim, Value::Int(dim))?;
+    Ok(())
+}
+
+// CONE_DIM: the rank of the rows of INPUT_LINEALITY and POINTS.
+fn cone_dim_points(alloc: Global, view: &View, draft: &mut Draft) -> Result<(), ClientFail>
+    requires kind { view.now.kind ≡ standard_kind client.ConeDimPoints }
+    requires empty { draft.old ≡ record { kind = view.now.kind; values = [] } }
+    ensures draft { draft.new.kind ≡ draft.old.kind }
+    ensures sound { OnOk result (IsSound view.now draft.new) }
+    ensures stays { OnOk result (StaysInRange view.now property.InputLineality property.Points list.Rows) }
+    ensures failed { IfErr result (λ e. FailsRightly view.now e) }
+{
+    let dim = rank_of_list(alloc, view, PropId::InputLineality, PropId::Points)?;
+    put_value(draft, PropId::ConeDim, Value::Int(dim as i64))?;
+    Ok(())
+}
+
+// LINEALITY_DIM: the number of rows of LINEALITY_SPACE.
+fn lineality_dim(view: &View, draft: &mut Draft) -> Result<(), ClientFail>
+    requires kind { view.now.kind ≡ standard_kind client.LinealityDim }
+    requires empty { draft.old ≡ record { kind = view.now.kind; values = [] } }
+    ensures draft { draft.new.kind ≡ draft.old.kind }
+    ensures sound { OnOk result (IsSound view.now draft.new) }
+    ensures failed { IfErr result (λ e. e ≡ Memory) }
+{
+    let lineality = matrix_of(view, PropId::LinealitySpace);
+    let dim = lineality.rows() as i64;
+    put_value(draft, PropId::LinealityDim, Value::Int(dim))?;
+    Ok(())
+}
+
+// COMBINATORIAL_DIM: CONE_DIM less LINEALITY_DIM, less 1. Two dimensions are never so far apart that this leaves 64 bits.
+fn combinatorial_dim(view: &View, draft: &mut Draft) -> Result<(), ClientFail>
+    requires kind { view.now.kind ≡ standard_kind client.CombinatorialDim }
+    requires empty { draft.old ≡ record { kind = view.now.kind; values = [] } }
+    ensures draft { draft.new.kind ≡ draft.old.kind }
+    ensures sound { OnOk result (IsSound view.now draft.new) }
+    ensures failed { IfErr result (λ e. e ≡ Memory) }
+{
+    let cone = whole_of(view, PropId::ConeDim);
+    let lineality = whole_of(view, PropId::LinealityDim);
+    let dim = cone.saturating_sub(lineality).saturating_sub(1);
+    put_value(draft, PropId::CombinatorialDim, Value::Int(dim))?;
+    Ok(())
+}

@@ -1,0 +1,13 @@
+// Clients that find dimensions, truth values, null spaces, and one description from its twin.
+#![tactic(auto)]
+
+mod dims;
+mod lists;
+mod rows;
+#[cfg(test)]
+mod tests;
+mod truths;
+
+pub use dims::DimClient;
+pub use rows::RowsClient;
+pub use truths::TestClient;

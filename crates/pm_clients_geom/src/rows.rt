@@ -1,0 +1,266 @@
+// The clients that find rows: null spaces, and one description of a thing from its twin.
+
+ghost use Rattle.pm_algebra.specs.Numbers.{InRange};
+ghost use Rattle.pm_algebra.specs.Rows.{HasCols};
+ghost use Rattle.pm_client.specs.Sound.{FailsRightly, IsSound};
+ghost use Rattle.pm_client.specs.declared.ClientFail.TheVariants.{Memory};
+ghost use Rattle.pm_clients_geom.specs.Kinds.{all_rows, rows_kind, rows_kinds};
+ghost use Rattle.pm_client.specs.Starts.{next_count};
+ghost use Rattle.pm_clients_geom.specs.Lists.{StaysInRange};
+ghost use Rattle.pm_clients_geom.specs.Stays.{RowsFail, RowsStay};
+ghost use Rattle.pm_clients_geom.specs.Matrices.{MayBeLines, as_put};
+ghost use Rattle.pm_clients_geom.specs.Pairs.{LacksPair};
+ghost use Rattle.pm_elim.specs.declared.evidence.ElimList.TheVariants as list;
+ghost use Rattle.pm_types.specs.Kinds.{standard_kind};
+ghost use Rattle.pm_types.specs.declared.property.PropId.TheVariants as property;
+ghost use Rattle.pm_types.specs.declared.standard.StandardClient.TheVariants as client;
+ghost use Rattle.pm_types.specs.Properties.{has_fan};
+ghost use Rattle.pm_types.specs.Sets.{has};
+ghost use Rattle.pm_types.specs.Views.{ratios};
+ghost use Rattle.std.specs.Prelude.{All, false, IfErr, IfOk, IsTrue, OnOk, Some, [], length, map, slice_get, ◌<◌, ◌≡◌, ◌↔◌};
+
+use crate::lists::row_list;
+use pm_client::{Client, ClientFail, matrix_of, put_value};
+use pm_elim::null_space;
+use pm_fraction::Fraction;
+use pm_geom::ObjectType;
+use pm_matrix::{Matrix, MatrixFail};
+use pm_object::{Draft, View};
+use pm_types::{Kind, PropId, StandardClient, Value};
+use pm_vector::Ints;
+use std::alloc::Global;
+
+// What such a client finds.
+#[derive(Clone, Copy, Debug)]
+enum Rows {
+    Points,
+    Inequalities,
+    Lineality,
+    Hull,
+}
+
+impl Rows {
+    // These clients, in the order of the standard book.
+    fn every() -> [Rows; 4]
+        ensures { result ≡ all_rows }
+    {
+        [
+            Rows::Points,
+            Rows::Inequalities,
+            Rows::Lineality,
+            Rows::Hull,
+        ]
+    }
+
+    fn kind(self) -> Kind
+        ensures { result ≡ rows_kind self }
+    {
+        match self {
+            Rows::Points => StandardClient::PointsFromVertices.kind(),
+            Rows::Inequalities => StandardClient::InequalitiesFromFacets.kind(),
+            Rows::Lineality => StandardClient::LinealityFromFacets.kind(),
+            Rows::Hull => StandardClient::HullFromVertices.kind(),
+        }
+    }
+}
+
+/// A client that finds rows: number 0 is `points_from_vertices`, 1 `inequalities_from_facets`, 2 `lineality_from_facets`, 3 `hull_from_vertices`.
+/// The last two fail exactly where the null space of their row list is Wide, the others never.
+#[derive(Debug, Drop)]
+pub struct RowsClient {
+    client: Rows,
+    starts: u64,
+}
+
+impl RowsClient {
+    /// How many such clients there are.
+    pub const COUNT: u8 = 4;
+
+    /// The client of that number, below `COUNT`, which was never started.
+    pub fn new(number: u8) -> RowsClient
+        requires { number < 4 }
+        ensures kind { slice_get rows_kinds number ≡ Some (⟦<RowsClient as Client>⟧.kind_of result) }
+        ensures starts { ⟦<RowsClient as Client>⟧.starts_of result ≡ 0 }
+    {
+        RowsClient {
+            client: Rows::every()[usize::from(number)],
+            starts: 0,
+        }
+    }
+}
+
+impl Client for RowsClient {
+    ghost use Rattle.pm_clients_geom.specs.Kinds.{rows_kind};
+
+    ghost kind_of = { λ c. rows_kind c.client };
+
+    ghost starts_of = { λ c. c.starts };
+
+    fn kind(&self) -> Kind {
+        self.client.kind()
+    }
+
+    fn starts(&self) -> u64 {
+        self.starts
+    }
+
+    fn run(&mut self, alloc: Global, view: &View, draft: &mut Draft) -> Result<(), ClientFail>
+        requires kind { view.now.kind ≡ rows_kind self.old.client }
+        requires empty { draft.old ≡ record { kind = view.now.kind; values = [] } }
+        ensures kind { rows_kind self.new.client ≡ rows_kind self.old.client }
+        ensures starts { self.new.starts ≡ next_count self.old.starts }
+        ensures draft { draft.new.kind ≡ draft.old.kind }
+        ensures sound { OnOk result (IsSound view.now draft.new) }
+        ensures failed { IfErr result (λ e. FailsRightly view.now e) }
+        ensures stays { OnOk result (RowsStay self.old.client view.now) }
+        ensures fails { IfErr result (λ e. RowsFail self.old.client view.now e) }
+    {
+        self.starts = self.starts.saturating_add(1);
+        match self.client {
+            Rows::Points => points_from_vertices(alloc, view, draft),
+            Rows::Inequalities => inequalities_from_facets(alloc, view, draft),
+            Rows::Lineality => lineality_from_facets(alloc, view, draft),
+            Rows::Hull => hull_from_vertices(alloc, view, draft),
+        }
+    }
+}
+
+// POINTS and INPUT_LINEALITY: the rows of VERTICES and LINEALITY_SPACE.
+fn points_from_vertices(alloc: Global, view: &View, draft: &mut Draft) -> Result<(), ClientFail>
+    requires kind { view.now.kind ≡ standard_kind client.PointsFromVertices }
+    requires empty { draft.old ≡ record { kind = view.now.kind; values = [] } }
+    ensures draft { draft.new.kind ≡ draft.old.kind }
+    ensures sound { OnOk result (IsSound view.now draft.new) }
+    ensures failed { IfErr result (λ e. e ≡ Memory) }
+{
+    reads_no_half(view, PropId::Points, PropId::InputLineality);
+    let points = same_rows(alloc, matrix_of(view, PropId::Vertices))?;
+    let lines = same_rows(alloc, matrix_of(view, PropId::LinealitySpace))?;
+    put_value(draft, PropId::Points, Value::Mat(points))?;
+    put_value(draft, PropId::InputLineality, Value::Mat(lines))?;
+    Ok(())
+}
+
+// INEQUALITIES and EQUATIONS: the rows of FACETS and AFFINE_HULL.
+fn inequalities_from_facets(alloc: Global, view: &View, draft: &mut Draft) -> Result<(), ClientFail>
+    requires kind { view.now.kind ≡ standard_kind client.InequalitiesFromFacets }
+    requires empty { draft.old ≡ record { kind = view.now.kind; values = [] } }
+    ensures draft { draft.new.kind ≡ draft.old.kind }
+    ensures sound { OnOk result (IsSound view.now draft.new) }
+    ensures failed { IfErr result (λ e. e ≡ Memory) }
+{
+    reads_no_half(view, PropId::Inequalities, PropId::Equations);
+    let inequalities = same_rows(alloc, matrix_of(view, PropId::Facets))?;
+    let equations = same_rows(alloc, matrix_of(view, PropId::AffineHull))?;
+    put_value(draft, PropId::Inequalities, Value::Mat(inequalities))?;
+    put_value(draft, PropId::Equations, Value::Mat(equations))?;
+    Ok(())
+}
+
+// LINEALITY_SPACE: the null space of the rows of AFFINE_HULL and FACETS.
+fn lineality_from_facets(alloc: Global, view: &View, draft: &mut Draft) -> Result<(), ClientFail>
+    requires kind { view.now.kind ≡ standard_kind client.LinealityFromFacets }
+    requires empty { draft.old ≡ record { kind = view.now.kind; values = [] } }
+    ensures draft { draft.new.kind ≡ draft.old.kind }
+    ensures sound { OnOk result (IsSound view.now draft.new) }
+    ensures stays { OnOk result (StaysInRange view.now property.AffineHull property.Facets list.Rows) }
+    ensures stays_extended { OnOk result (StaysInRange view.now property.AffineHull property.Facets list.Extended) }
+    ensures failed { IfErr result (λ e. FailsRightly view.now e) }
+{
+    let rows = row_list(alloc, view, PropId::AffineHull, PropId::Facets)?;
+    let null = null_space(alloc, &rows, view.cols())?;
+    let lines = if may_be_lines(view.of(), &null) {
+        null
+    } else {
+        Vec::new(alloc)
+    };
+    let lineality = matrix_over_one(alloc, &lines, view.cols())?;
+    put_value(draft, PropId::LinealitySpace, Value::Mat(lineality))?;
+    Ok(())
+}
+
+// AFFINE_HULL: the null space of the rows of LINEALITY_SPACE and VERTICES.
+fn hull_from_vertices(alloc: Global, view: &View, draft: &mut Draft) -> Result<(), ClientFail>
+    requires kind { view.now.kind ≡ standard_kind client.HullFromVertices }
+    requires empty { draft.old ≡ record { kind = view.now.kind; values = [] } }
+    ensures draft { draft.new.kind ≡ draft.old.kind }
+    ensures sound { OnOk result (IsSound view.now draft.new) }
+    ensures stays { OnOk result (StaysInRange view.now property.LinealitySpace property.Vertices list.Rows) }
+    ensures stays_extended { OnOk result (StaysInRange view.now property.LinealitySpace property.Vertices list.Extended) }
+    ensures failed { IfErr result (λ e. FailsRightly view.now e) }
+{
+    let rows = row_list(alloc, view, PropId::LinealitySpace, PropId::Vertices)?;
+    let null = null_space(alloc, &rows, view.cols())?;
+    let hull = matrix_over_one(alloc, &null, view.cols())?;
+    put_value(draft, PropId::AffineHull, Value::Mat(hull))?;
+    Ok(())
+}
+
+// A client that finds both halves of a pair is run on no fan, and reads neither.
+fn reads_no_half(view: &View, first: PropId, second: PropId)
+    requires target { IsTrue (has view.now.kind.targets first) }
+    requires no_fan { has_fan first ≡ false }
+    requires no_first { has view.now.kind.sources first ≡ false }
+    requires no_second { has view.now.kind.sources second ≡ false }
+    ensures { LacksPair view.now first second }
+{
+    prove!(view.of() != ObjectType::Fan);
+    prove!(view.value(first).is_none());
+    prove!(view.value(second).is_none());
+}
+
+// The same rows; without rows it states no column count. Want of memory alone ends it.
+fn same_rows(alloc: Global, matrix: &Matrix) -> Result<Matrix, ClientFail>
+    ensures rows { IfOk result (λ a. a ≡ as_put matrix.now.cols matrix.now.rows) }
+    ensures failed { IfErr result (λ e. e ≡ Memory) }
+{
+    if matrix.rows() == 0 {
+        Ok(Matrix::new(alloc, 0))
+    } else {
+        Ok(matrix.copy(alloc)?)
+    }
+}
+
+// Whether rows may span the lineality of a thing of that type.
+fn may_be_lines(of: ObjectType, rows: &[Ints]) -> bool
+    requires { All (λ x. 0 < length x) rows.now }
+    ensures { IsTrue result ↔ MayBeLines of rows.now }
+{
+    of != ObjectType::Polytope || rows.iter().all(|row| row.get(0) == 0)
+}
+
+// A row of whole numbers as fractions over 1. Want of memory alone ends it.
+fn row_over_one(alloc: Global, row: &Ints) -> Result<Vec<Fraction>, ClientFail>
+    ensures value { IfOk result (λ v. v.items ≡ ratios row.now) }
+    ensures in_range { All InRange row.now }
+    ensures failed { IfErr result (λ e. e ≡ Memory) }
+{
+    let mut fractions = Vec::new(alloc);
+    let entries = row.as_slice();
+    for x in entries {
+        let Ok(fraction) = Fraction::from_whole(*x) else {
+            unreachable!()
+        };
+        fractions.push(fraction)?;
+    }
+    Ok(fractions)
+}
+
+// Rows of whole numbers as a matrix of fractions over 1; without rows it states no column count. Want of memory alone ends it.
+fn matrix_over_one(alloc: Global, rows: &[Ints], cols: usize) -> Result<Matrix, ClientFail>
+    requires { HasCols cols rows.now }
+    ensures rows { IfOk result (λ a. a ≡ as_put cols (map ratios rows.now)) }
+    ensures in_range { OnOk result (All (All InRange) rows.now) }
+    ensures failed { IfErr result (λ e. e ≡ Memory) }
+{
+    let mut matrix = Matrix::new(alloc, if rows.is_empty() { 0 } else { cols });
+    for row in rows {
+        let fractions = row_over_one(alloc, row)?;
+        match matrix.push_row(&fractions) {
+            Ok(()) => {}
+            Err(MatrixFail::Ragged) => unreachable!(),
+            Err(MatrixFail::Memory) => return Err(ClientFail::Memory),
+        }
+    }
+    Ok(matrix)
+}
