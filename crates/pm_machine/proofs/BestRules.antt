@@ -2,8 +2,8 @@
 use Rattle.pm_machine.specs.Best.{BestBefore, IsBest, at_most, better, cost_of}
 use Rattle.pm_machine.specs.Chains.{HasNoChainByOne, IsLeastByOne, LeadsByOne, Serves}
 use Rattle.pm_machine.specs.declared.chain.Best.{Best}
-use Rattle.pm_rules.specs.Chains.{LeadsTo, reached, targets_at, weigh, weight_at}
-use Rattle.pm_rules.specs.Rules.{IsEnabled, rule_at}
+use Rattle.pm_rules.specs.Chains.{reached, weigh}
+use Rattle.pm_rules.specs.Rules.{rule_at}
 use Rattle.pm_rules.specs.declared.rule.Rule.{Rule}
 use Rattle.pm_types.specs.Sets.{IsSubset, union}
 use Rattle.pm_types.specs.Weights.{IsAtMost}
@@ -11,11 +11,11 @@ use Rattle.pm_types.specs.declared.kind.RuleId.{RuleId}
 use Rattle.pm_types.specs.declared.set.PropSet.{PropSet}
 use Rattle.pm_types.specs.declared.weight.Cost.{Cost}
 use Rattle.pm_types.specs.declared.weight.Weight.{Weight}
-use Rattle.std.proofs.Common.{ap, arith, false, inl, inr, refl, subst, sym, true, true≢false, ◌∙◌}
+use Rattle.std.proofs.Common.{ap, arith, false, inl, inr, refl, subst, sym, true, ◌∙◌}
 use Rattle.std.proofs.lemmas.Bool.{cases_lt}
 use Rattle.std.proofs.lemmas.Option.{slice_get_within}
 use Rattle.std.specs.Option.{option_map, unwrap_or}
-use Rattle.std.specs.Prelude.{Bool, List, None, Option, Some, [], if◌then◌else◌, length, nat_eq, nat_le, nat_lt, slice_get, suc, ℕ, ◌+◌, ◌&&◌, ◌<◌, ◌≤◌, ◌∷◌, ◌||◌, ◌≡◌, ◌⊎◌}
+use Rattle.std.specs.Prelude.{Bool, List, None, Option, Some, [], if◌then◌else◌, length, nat_lt, slice_get, ℕ, ◌+◌, ◌<◌, ◌∷◌, ◌≡◌, ◌⊎◌}
 
 -- ---- costs
 decide : (b : Bool) → (b ≡ true) ⊎ (b ≡ false)

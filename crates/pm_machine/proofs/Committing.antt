@@ -1,7 +1,7 @@
 -- Adding what a client answered, one target after another.
 use Rattle.pm_algebra.proofs.Lists.{Among, Contains_among, among_append_right, here, there}
 use Rattle.pm_machine.specs.Commits.{FitsObject, added, computed_one}
-use Rattle.pm_object.proofs.Formed.{Each, cols_stay, value_later, value_stays}
+use Rattle.pm_object.proofs.Formed.{cols_stay, value_later, value_stays}
 use Rattle.pm_object.specs.Formed.{IsFormed, IsFormedIn}
 use Rattle.pm_object.specs.Honest.{facts}
 use Rattle.pm_object.specs.Laws.{computed}
@@ -9,14 +9,13 @@ use Rattle.pm_object.specs.Reading.{Put, answer_at, drafted, fact_at, without}
 use Rattle.pm_object.specs.State.{HeldValue, State, cols_of, is_held, value_of, with_held}
 use Rattle.pm_types.proofs.Kept.{same_property_is}
 use Rattle.pm_types.specs.Properties.{every_property, has_program, number}
-use Rattle.pm_types.specs.Runs.{is_named, missing, place_of, same_place, same_property, stands_at}
+use Rattle.pm_types.specs.Runs.{is_named, missing, place_of, same_place, same_property}
 use Rattle.pm_types.specs.Sets.{has, members}
 use Rattle.pm_types.specs.Values.{Fact, PropertyValue}
 use Rattle.pm_types.specs.declared.property.PropId.{PropId}
 use Rattle.std.proofs.Common.{ap, append-nil, arith, drop, false, get_or, inl, inr, refl, subst, sym, true, true≢false, ◌∙◌}
-use Rattle.std.specs.List.{Contains, list_any}
 use Rattle.std.specs.Option.{is_some}
-use Rattle.std.specs.Prelude.{Bool, IfSome, IsTrue, List, None, Option, Some, [], if◌then◌else◌, filter, length, map, nat_eq, nat_le, not, suc, zero, ℕ, ◌&&◌, ◌+◌, ◌++◌, ◌<◌, ◌≤◌, ◌∷◌, ◌||◌, ◌≡◌, ◌⊎◌}
+use Rattle.std.specs.Prelude.{Bool, IfSome, List, None, Option, Some, [], if◌then◌else◌, filter, length, nat_eq, nat_le, not, suc, zero, ℕ, ◌&&◌, ◌+◌, ◌++◌, ◌<◌, ◌≤◌, ◌∷◌, ◌||◌, ◌≡◌, ◌⊎◌}
 
 decide : (b : Bool) → (b ≡ true) ⊎ (b ≡ false)
 decide true = inl refl

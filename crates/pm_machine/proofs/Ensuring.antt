@@ -1,43 +1,40 @@
 -- From runs to rounds, and from rounds to what an object ensures.
 use Rattle.pm_algebra.proofs.Filters.{among_filter, among_map, map_among}
-use Rattle.pm_algebra.proofs.Lists.{Among, Contains_among, among_All, among_Contains, among_append_right, here, there}
-use Rattle.pm_client.specs.Starts.{Clients, after_start, after_start_at, has_client, place_in, started_at}
+use Rattle.pm_algebra.proofs.Lists.{Among, Contains_among, among_All, among_append_right, here, there}
+use Rattle.pm_client.specs.Starts.{Clients, after_start, has_client}
 use Rattle.pm_machine.proofs.BestRules.{one_reached, one_weighs}
 use Rattle.pm_machine.proofs.Committing.{named_held}
 use Rattle.pm_machine.specs.Best.{cost_of}
-use Rattle.pm_machine.specs.Chains.{AreBarred, HasNoChainByOne, IsLeastByOne, is_barred_on, some_wrong, table}
-use Rattle.pm_machine.specs.Rounds.{AllHeld, Commits, CommitsAll, Ended, Ends, Ensures, FailsAt, IsRound, NoneLeads, Rounds, after_runs, found, kind_at, kinds_of, no_chain, still_missing}
-use Rattle.pm_machine.specs.Running.{EnsuresWith, Excludes, FailedRun, NextRound, NoRound, Progress, RoundOf, RoundStarted, RunsRule, is_excluded, unexcluded}
+use Rattle.pm_machine.specs.Chains.{AreBarred, HasNoChainByOne, IsLeastByOne, some_wrong, table}
+use Rattle.pm_machine.specs.Rounds.{AllHeld, Commits, IsRound, kind_at, kinds_of, still_missing}
+use Rattle.pm_machine.specs.Running.{Excludes, RoundOf, RoundStarted, RunsRule, is_excluded}
 use Rattle.pm_object.proofs.Formed.{held_dimension, held_stays}
 use Rattle.pm_object.specs.Formed.{IsFormed}
 use Rattle.pm_object.proofs.Names.{names_held}
 use Rattle.pm_object.specs.Honest.{facts}
 use Rattle.pm_object.specs.Laws.{computed}
-use Rattle.pm_object.specs.State.{HeldValue, RoundSeen, State, ambient_in, cols_of, first_cols, is_disabled, is_held, names_of, or_else, value_of, with_excluded, with_held, with_round}
-use Rattle.pm_object.specs.declared.held.Excluded.{Excluded}
+use Rattle.pm_object.specs.State.{HeldValue, RoundSeen, State, ambient_in, cols_of, first_cols, is_disabled, is_held, names_of, or_else, value_of, with_held, with_round}
 use Rattle.pm_object.specs.declared.held.Origin.TheVariants.{Computed}
 use Rattle.pm_object.specs.declared.held.RoundEnd.{RoundEnd}
 use Rattle.pm_object.specs.declared.held.RoundEnd.TheVariants as end
 use Rattle.pm_object.specs.declared.held.Why.TheVariants as why
 use Rattle.pm_rules.specs.Books.{IsBook, IsRule}
-use Rattle.pm_rules.specs.Chains.{reached, weigh}
+use Rattle.pm_rules.specs.Chains.{weigh}
 use Rattle.pm_rules.specs.Rules.{IsEnabled, is_barred, rule_at}
 use Rattle.pm_rules.specs.declared.rule.Rule.{Rule}
 use Rattle.pm_types.proofs.Kept.{among_every, same_property_refl}
 use Rattle.pm_types.proofs.Members.{has-difference, has-union}
-use Rattle.pm_types.specs.Properties.{every_property}
 use Rattle.pm_types.specs.Runs.{is_named, missing, same_property}
-use Rattle.pm_types.specs.Sets.{IsSubset, difference, has, members, union}
+use Rattle.pm_types.specs.Sets.{difference, has, members, union}
 use Rattle.pm_types.specs.Values.{Fact, PropertyValue}
 use Rattle.pm_types.specs.declared.kind.Kind.{Kind}
 use Rattle.pm_types.specs.declared.kind.RuleId.{RuleId}
 use Rattle.pm_types.specs.declared.property.PropId.{PropId}
 use Rattle.pm_types.specs.declared.property.PropId.TheVariants.{ConeAmbientDim}
 use Rattle.pm_types.specs.declared.set.PropSet.{PropSet}
-use Rattle.std.proofs.Common.{ap, append-nil, arith, false, get_or, inl, inr, refl, subst, sym, true, true≢false, ◌∙◌}
-use Rattle.std.specs.List.{Contains, list_any}
+use Rattle.std.proofs.Common.{ap, append-nil, false, get_or, inl, inr, refl, subst, sym, true, true≢false, ◌∙◌}
 use Rattle.std.specs.Option.{is_some}
-use Rattle.std.specs.Prelude.{Bool, IsTrue, List, None, Option, Some, [], if◌then◌else◌, filter, length, map, nat_eq, not, slice_get, suc, zero, ℕ, ◌&&◌, ◌+◌, ◌++◌, ◌<◌, ◌≤◌, ◌∷◌, ◌||◌, ◌≡◌, ◌⊎◌}
+use Rattle.std.specs.Prelude.{Bool, List, None, Option, Some, [], if◌then◌else◌, map, not, slice_get, suc, zero, ℕ, ◌&&◌, ◌++◌, ◌∷◌, ◌||◌, ◌≡◌, ◌⊎◌}
 
 decide : (b : Bool) → (b ≡ true) ⊎ (b ≡ false)
 decide true = inl refl
@@ -94,7 +91,7 @@ round_is book clients asked barred id rule old new are at least round = (seen ro
       commits = refl;
       more = record { rule = id; sub = None; why = why.Failed f.evidence } ∷ [];
       last = rule.kind ∷ [];
-      ends = (f.same, record { rule = rule; is_rule = at; evidence = f.evidence; n = f.n; holds = f.holds; named = f.named; excluded = refl; ran = refl });
+      ends = (f.same, record { rule = rule; is_rule = at; evidence = f.evidence; n = f.n; known = f.known; holds = f.holds; named = f.named; excluded = refl; ran = refl });
       ran = refl;
       becomes = is ∙ ap (λ (z : State). with_round z (seen (end.Failed other k))) f.excluded;
     }

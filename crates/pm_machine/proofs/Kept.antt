@@ -1,12 +1,11 @@
 -- A step leaves each object honest: by the definitions alone.
-use Rattle.pm_algebra.proofs.Lists.{among_Contains, here}
+use Rattle.pm_algebra.proofs.Lists.{among_Contains}
 use Rattle.pm_client.specs.Starts.{Clients}
-use Rattle.pm_machine.specs.Rounds.{AllHeld, Commits, CommitsAll, Ended, Ending, Ensures, IsRound, Rounds, after_runs, found, no_chain, still_missing}
-use Rattle.pm_machine.specs.Steps.{AllKept, Becomes, Gains, Given, GiveStep, LookupStep, Machine, NewStep, Stays, Step, TakeStep, TakeValue, given_by, given_value, object_at, whole_of, no_json, faulty, value}
+use Rattle.pm_machine.specs.Rounds.{Commits, CommitsAll, Ending, Ensures, IsRound, Rounds, found, no_chain}
+use Rattle.pm_machine.specs.Steps.{AllKept, Becomes, Given, GiveStep, LookupStep, Machine, NewStep, Stays, Step, TakeStep, TakeValue, given_value, object_at, whole_of, no_json, faulty, value}
 use Rattle.pm_object.proofs.Formed.{only}
 use Rattle.pm_object.proofs.Honesty.{commit_is_honest, empty_is_kept, given_is_kept, honesty_is_of_values, settled_is_kept}
 use Rattle.pm_object.specs.Honest.{IsHonest, IsKept}
-use Rattle.pm_object.specs.Laws.{computed}
 use Rattle.pm_object.specs.State.{HeldValue, RoundSeen, State, is_held, is_sealed, settling, take_refusal, with_held}
 use Rattle.pm_object.specs.declared.held.Origin.TheVariants.{Given as Given'}
 use Rattle.pm_object.specs.declared.held.TakeFail.{TakeFail}
@@ -14,11 +13,7 @@ use Rattle.pm_object.specs.declared.held.TakeFail.TheVariants as fail
 use Rattle.pm_rules.specs.declared.rule.Rule.{Rule}
 use Rattle.pm_script.specs.Commands.{RefSeen, Spoken, blank, new_object, take_value, give_value, look_up}
 use Rattle.pm_script.specs.Replies.{ReplySeen, done, shows, undef, refused}
-use Rattle.pm_script.specs.declared.refusal.Refusal.{Refusal}
-use Rattle.pm_script.specs.declared.refusal.Refusal.TheVariants.{BadCommand, UnknownName, NameTaken, UnknownType, UnknownProperty, BadValue, AlreadyHeld, Sealed, ObjectsFull, NoChain}
-use Rattle.pm_types.specs.Properties.{has as has_in}
-use Rattle.pm_types.specs.Forms.{are_rows}
-use Rattle.pm_types.specs.Runs.{missing}
+use Rattle.pm_script.specs.declared.refusal.Refusal.TheVariants.{UnknownName, NameTaken, UnknownType, UnknownProperty, BadValue, AlreadyHeld, Sealed, ObjectsFull, NoChain}
 use Rattle.pm_types.specs.Sets.{only as only_property}
 use Rattle.pm_types.specs.Values.{PropertyValue}
 use Rattle.pm_types.specs.declared.kind.Kind.{Kind}
@@ -144,7 +139,7 @@ refusal_unsealed o p v e = by _ (is_held p o.held) (is_sealed o) e
 taken_unsealed : (o : State) (p : PropId) (g : Given) (v : PropertyValue) → TakeValue o p g None (Some v) → is_sealed o ≡ false
 taken_unsealed o p no_json v h = absurd h
 taken_unsealed o p (faulty e) v h = absurd h
-taken_unsealed o p (value w) v h = refusal_unsealed o p w h.1
+taken_unsealed o p (value w) v h = refusal_unsealed o p w h.1.0
 
 one_given : (p : PropId) (v : PropertyValue) (h : HeldValue) → Contains (given_value p v ∷ []) h → h.origin ≡ Given'
 one_given p v h i = ap (λ (z : HeldValue). z.origin) (only (among_Contains (given_value p v ∷ []) i))

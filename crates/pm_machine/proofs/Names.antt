@@ -1,6 +1,6 @@
 -- Objects by name.
-use Rattle.pm_machine.specs.Steps.{AllKept, Becomes, Given, GiveStep, Machine, Stays, Step, TakeStep, TakeValue, Taken, faulty, given_by, no_json, object_at, property_named, value, whole_of}
-use Rattle.pm_machine.specs.Rounds.{Ensures, after_runs, found, no_chain}
+use Rattle.pm_machine.specs.Steps.{AllKept, Becomes, Given, GiveStep, Machine, Stays, Step, TakeStep, TakeValue, Taken, faulty, given_by, no_json, property_named, value, whole_of}
+use Rattle.pm_machine.specs.Rounds.{Ensures, after_runs, found}
 use Rattle.pm_machine.specs.Running.{EnsuresWith}
 use Rattle.pm_machine.specs.Sessions.{Gives}
 use Rattle.pm_client.specs.Starts.{Clients}
@@ -25,7 +25,7 @@ use Rattle.serde_json.specs.Read.{read}
 use Rattle.std.proofs.Common.{ap, arith, bytes_eq, eqb, false, inl, inr, refl, subst, sym, true, true≢false, ◌∙◌, ◌≢◌}
 use Rattle.std.proofs.lemmas.Slice.Eq.{bytes_eq-Decides}
 use Rattle.std.specs.Option.{is_some, option_map}
-use Rattle.std.specs.Prelude.{Bool, Err, IfOk, IfSome, List, None, Ok, OnErr, Option, Result, Some, [], ℕ, ◌≡◌, ◌⊎◌}
+use Rattle.std.specs.Prelude.{Bool, Err, IfOk, IfSome, List, None, Ok, OnErr, Option, Result, Some, ℕ, ◌≡◌, ◌⊎◌}
 
 decide : (b : Bool) → (b ≡ true) ⊎ (b ≡ false)
 decide true = inl refl

@@ -1,18 +1,15 @@
 -- Rounds one after another, until what is asked is held or no chain leads there.
-use Rattle.pm_algebra.proofs.Filters.{among_map}
 use Rattle.pm_algebra.proofs.Lists.{Among, here, there}
-use Rattle.pm_client.specs.Starts.{Clients, after_start, after_start_at, has_client, next_count, place_in, same_kind, started_at}
+use Rattle.pm_client.specs.Starts.{Clients, after_start, after_start_at, has_client, place_in, same_kind, started_at}
 use Rattle.pm_machine.proofs.Kept.{kept_rounds}
-use Rattle.pm_machine.specs.Chains.{AreBarred, is_barred_on, some_wrong}
-use Rattle.pm_machine.specs.Rounds.{AllHeld, Commits, CommitsAll, Ensures, IsRound, NoneLeads, Rounds, after_runs, found, no_chain, still_missing}
-use Rattle.pm_machine.specs.Running.{EnsuresWith, Excludes, KeepsKept, NoRound, Progress, RoundStarted, is_excluded, unexcluded}
+use Rattle.pm_machine.specs.Chains.{AreBarred, some_wrong}
+use Rattle.pm_machine.specs.Rounds.{AllHeld, CommitsAll, IsRound, NoneLeads, Rounds, after_runs, still_missing}
+use Rattle.pm_machine.specs.Running.{EnsuresWith, KeepsKept, NoRound, Progress, RoundStarted, is_excluded, unexcluded}
 use Rattle.pm_object.proofs.Formed.{held_stays}
 use Rattle.pm_object.proofs.Honesty.{settled_is_kept}
 use Rattle.pm_object.proofs.Names.{names_held}
-use Rattle.pm_object.specs.Honest.{IsKept}
-use Rattle.pm_object.specs.State.{HeldValue, RoundSeen, State, is_disabled, is_held, names_of, settling, with_held}
+use Rattle.pm_object.specs.State.{HeldValue, RoundSeen, State, is_disabled, is_held, settling, with_held}
 use Rattle.pm_object.specs.declared.held.Excluded.{Excluded}
-use Rattle.pm_rules.specs.Rules.{rule_at}
 use Rattle.pm_rules.specs.declared.rule.Rule.{Rule}
 use Rattle.pm_types.proofs.Kept.{among_every}
 use Rattle.pm_types.specs.Properties.{every_property}
@@ -24,7 +21,7 @@ use Rattle.pm_types.specs.declared.set.PropSet.{PropSet}
 use Rattle.std.proofs.Common.{ap, append-nil, arith, false, inl, inr, refl, subst, sym, true, true≢false, ◌∙◌}
 use Rattle.std.specs.List.{list_all, list_any}
 use Rattle.std.specs.Option.{is_some}
-use Rattle.std.specs.Prelude.{Bool, Err, IsTrue, List, None, Ok, OnErr, Option, Result, Some, [], if◌then◌else◌, length, nat_eq, not, slice_get, suc, zero, ℕ, ◌&&◌, ◌+◌, ◌++◌, ◌<◌, ◌≤◌, ◌∷◌, ◌||◌, ◌≡◌, ◌⊎◌}
+use Rattle.std.specs.Prelude.{Bool, Err, List, None, Ok, OnErr, Option, Result, Some, [], if◌then◌else◌, nat_eq, not, slice_get, suc, zero, ℕ, ◌&&◌, ◌+◌, ◌++◌, ◌<◌, ◌≤◌, ◌∷◌, ◌||◌, ◌≡◌, ◌⊎◌}
 
 decide : (b : Bool) → (b ≡ true) ⊎ (b ≡ false)
 decide true = inl refl

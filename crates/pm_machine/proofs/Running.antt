@@ -1,29 +1,27 @@
 -- From a rule that is enabled to a run that may be, and from a run to a round.
 use Rattle.pm_algebra.proofs.Filters.{map_among, among_map}
-use Rattle.pm_algebra.proofs.Lists.{Among, All_among, Contains_among, among_All, among_Contains, here, there}
-use Rattle.pm_client.specs.Sound.{HoldsOf, IsSound}
+use Rattle.pm_algebra.proofs.Lists.{Among, Contains_among, among_All, among_Contains, here, there}
 use Rattle.pm_machine.proofs.Committing.{named_held}
-use Rattle.pm_machine.specs.Chains.{AreBarred, is_barred_on, is_truth, is_wrong, some_wrong, table}
-use Rattle.pm_machine.specs.Commits.{FitsObject, computed_one}
-use Rattle.pm_machine.specs.Rounds.{Commits}
-use Rattle.pm_machine.specs.Running.{FailedRun, RoundOf, RunsRule}
+use Rattle.pm_machine.specs.Chains.{is_truth, is_wrong, some_wrong, table}
+use Rattle.pm_machine.specs.Commits.{FitsObject}
+use Rattle.pm_machine.specs.Running.{RunsRule}
 use Rattle.pm_object.proofs.Formed.{dimension_of, held_stays, value_among}
 use Rattle.pm_object.proofs.Names.{names_held}
-use Rattle.pm_object.specs.Formed.{IsFormed, IsFormedIn}
+use Rattle.pm_object.specs.Formed.{IsFormed}
 use Rattle.pm_object.specs.Honest.{facts}
-use Rattle.pm_object.specs.Reading.{DraftSeen, ViewSeen, answer_of, view_for}
-use Rattle.pm_object.specs.State.{HeldValue, State, agrees, ambient_in, cols_of, first_cols, is_held, names_of, or_else, value_of, with_held}
+use Rattle.pm_object.specs.State.{HeldValue, State, agrees, ambient_in, cols_of, first_cols, is_held, names_of, or_else, value_of}
 use Rattle.pm_object.specs.declared.held.RoundEnd.{RoundEnd}
 use Rattle.pm_object.specs.declared.held.RoundEnd.TheVariants as end
 use Rattle.pm_rules.specs.Books.{IsRule}
-use Rattle.pm_rules.specs.Rules.{IsEnabled, conditions, inputs, is_barred, rule_at}
+use Rattle.pm_rules.specs.Rules.{IsEnabled, conditions, inputs, names_of_rule}
 use Rattle.pm_rules.specs.declared.rule.Rule.{Rule}
+use Rattle.pm_types.proofs.Every.{has-set_of_filter}
 use Rattle.pm_types.proofs.Kept.{among_every, named_from}
 use Rattle.pm_types.proofs.Members.{has-intersection, has-union}
 use Rattle.pm_types.specs.Forms.{FormsIn, has_64_bits, is_formed, is_matrix_form, is_of_matrices, is_of_sets, is_of_whole_numbers, is_sets_form}
-use Rattle.pm_types.specs.Kinds.{IsFresh}
-use Rattle.pm_types.specs.Properties.{every_property, has_program, value_kind}
-use Rattle.pm_types.specs.Runs.{Holds, IsFree, IsPlaced, MayAnswer, MayRun, is_named, missing, place_of, shown}
+use Rattle.pm_types.specs.Kinds.{IsFresh, IsKindOf, names_of as names_of_kind}
+use Rattle.pm_types.specs.Properties.{every_property, has as has_in, has_program, value_kind}
+use Rattle.pm_types.specs.Runs.{Holds, IsFree, MayAnswer, MayRun, place_of, shown}
 use Rattle.pm_types.specs.Sets.{has, intersection, union}
 use Rattle.pm_types.specs.Values.{Fact, PropertyValue, matrix, sets, whole, truth, extended, edges, lattice, counts}
 use Rattle.pm_types.specs.declared.kind.Kind.{Kind}
@@ -31,11 +29,10 @@ use Rattle.pm_types.specs.declared.kind.RuleId.{RuleId}
 use Rattle.pm_types.specs.declared.property.PropId.{PropId}
 use Rattle.pm_types.specs.declared.property.PropId.TheVariants.{ConeAmbientDim}
 use Rattle.pm_types.specs.declared.property.ValueKind.TheVariants as form
-use Rattle.pm_types.specs.declared.set.PropSet.{PropSet}
 use Rattle.std.proofs.Common.{ap, false, inl, inr, refl, subst, sym, true, true≢false, ◌∙◌}
-use Rattle.std.specs.List.{Contains, list_any}
+use Rattle.std.specs.List.{list_any}
 use Rattle.std.specs.Option.{is_some, unwrap_or}
-use Rattle.std.specs.Prelude.{Bool, IsTrue, List, None, Option, Some, [], if◌then◌else◌, not, ℕ, ◌&&◌, ◌||◌, ◌≡◌, ◌∷◌, ◌⊎◌}
+use Rattle.std.specs.Prelude.{Bool, List, None, Option, Some, [], if◌then◌else◌, not, ℕ, ◌&&◌, ◌||◌, ◌≡◌, ◌∷◌, ◌⊎◌}
 use lib.IntN.{ℤ, pos}
 
 decide : (b : Bool) → (b ≡ true) ⊎ (b ≡ false)
@@ -209,12 +206,38 @@ may_run o n barred id rule formed known dimension is_rule enabled right = record
     given : (p : PropId) → has (inputs rule) p ≡ true → is_held p o.held ≡ true
     given p h = sym (names_held o.held p) ∙ enabled.given p h
 
+-- the type's table has all names of the kind of a rule that is enabled
+in_either : (a b c d : Bool) → (a || (b || (c || d))) ≡ true → ((a ≡ true) ⊎ (b ≡ true)) ⊎ ((c ≡ true) ⊎ (d ≡ true))
+in_either true b c d h = inl (inl refl)
+in_either false true c d h = inl (inr refl)
+in_either false false true d h = inr (inl refl)
+in_either false false false d h = inr (inr h)
+
+pub kind_in_use : (o : State) (barred : List RuleId) (id : RuleId) (rule : Rule) → IsRule rule → IsEnabled (table o.of) barred (names_of o.held) id rule → IsKindOf o.of rule.kind
+kind_in_use o barred id rule is_rule enabled p named = sym (has-set_of_filter (has_in o.of) p) ∙ enabled.in_use.known p (named_by (split named))
+  where
+    split : has (names_of_kind rule.kind) p ≡ true → ((has rule.kind.targets p ≡ true) ⊎ (has rule.kind.sources p ≡ true)) ⊎ ((has rule.kind.must p ≡ true) ⊎ (has rule.kind.must_not p ≡ true))
+    split h =
+        in_either (has rule.kind.targets p) (has rule.kind.sources p) (has rule.kind.must p) (has rule.kind.must_not p)
+        (sym (has-union rule.kind.targets (union rule.kind.sources (union rule.kind.must rule.kind.must_not)) p
+        ∙ ap (λ b. has rule.kind.targets p || b) (has-union rule.kind.sources (union rule.kind.must rule.kind.must_not) p
+        ∙ ap (λ b. has rule.kind.sources p || b) (has-union rule.kind.must rule.kind.must_not p))) ∙ h)
+
+    read : has (inputs rule) p ≡ true → has (names_of_rule rule) p ≡ true
+    read h = has-union rule.kind.targets (inputs rule) p ∙ or_right (has rule.kind.targets p) (has (inputs rule) p) h
+
+    named_by : ((has rule.kind.targets p ≡ true) ⊎ (has rule.kind.sources p ≡ true)) ⊎ ((has rule.kind.must p ≡ true) ⊎ (has rule.kind.must_not p ≡ true)) → has (names_of_rule rule) p ≡ true
+    named_by (inl (inl h)) = has-union rule.kind.targets (inputs rule) p ∙ or_left (has rule.kind.targets p) (has (inputs rule) p) h
+    named_by (inl (inr h)) = read (reads_source rule p h)
+    named_by (inr (inl h)) = read (reads_condition rule p (reads_must rule p (within rule.kind.must rule.must p is_rule.must h)))
+    named_by (inr (inr h)) = read (reads_condition rule p (reads_must_not rule p (within rule.kind.must_not rule.must_not p is_rule.must_not h)))
+
 -- ---- what was answered fits the object
 pub fits_object : (o : State) (kind : Kind) (n : ℕ) (answer : List Fact) → cols_of o.held ≡ Some n → MayAnswer o.of n kind None (shown kind None (facts o.held)) answer → FitsObject o answer
 fits_object o kind n answer known may = record {
   each = λ f i.
       let forms = among_All (λ g. FormsIn o.of n g.property g.value) (among_Contains answer i) may.formed in
-      record { formed = forms.formed; columns = subst (λ c. agrees c f.property f.value ≡ true) (sym known) forms.columns; rows = forms.rows };
+      record { formed = forms.formed; columns = subst (λ c. agrees c f.property f.value ≡ true) (sym known) forms.columns; rows = forms.rows; entries = forms.entries; primitive = forms.primitive };
 }
 
 -- a run leaves what is held

@@ -2,7 +2,7 @@
 --     cost_of rule      what a chain of this rule alone costs
 --     better best new      the cheaper one, the first where they cost the same
 --     BestBefore book names barred held asked n best      of the first n rules that serve, it is one of least cost, if one serves
-use Rattle.std.specs.Prelude.{ℕ, ◌≡◌, ◌<◌, ◌≤◌, ◌||◌, ◌&&◌, Option, Some, None, List, if◌then◌else◌, nat_eq, nat_le, nat_lt, Bool}
+use Rattle.std.specs.Prelude.{ℕ, ◌≡◌, ◌<◌, ◌||◌, ◌&&◌, Option, Some, None, List, if◌then◌else◌, nat_eq, nat_le, nat_lt, Bool}
 use Rattle.pm_machine.specs.Chains.{Serves}
 use Rattle.pm_machine.specs.declared.chain.Best.{Best}
 use Rattle.pm_rules.specs.Rules.{rule_at}

@@ -6,7 +6,7 @@
 --     AreBarred book clients o barred      the list has exactly the numbers of the rules of the book that are barred on the object
 --     Serves names barred held asked id rule      the rule alone leads from the held names to the asked ones
 --     LeadsByOne, IsLeastByOne, HasNoChainByOne      so far a chain is a list of exactly one rule
-use Rattle.std.specs.Prelude.{ℕ, ◌≡◌, ◌||◌, ◌&&◌, Bool, false, true, not, Option, Some, List, length, filter, nat_eq, if◌then◌else◌}
+use Rattle.std.specs.Prelude.{◌≡◌, ◌||◌, ◌&&◌, Bool, false, true, not, Option, Some, List, length, filter, nat_eq, if◌then◌else◌}
 use Rattle.std.specs.List.{list_any}
 use Rattle.pm_geom.specs.declared.ObjectType.{ObjectType}
 use Rattle.pm_client.specs.Starts.{Clients, has_client}

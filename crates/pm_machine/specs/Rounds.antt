@@ -8,7 +8,7 @@
 --     Ending      what was asked is held; no chain leads there; or the planner met too many sets, which cannot be so with chains of one rule
 --     Ensures book clients asked ending old new started      the object is settled, and rounds follow until the ending
 --     after_runs started clients      the clients after those of these kinds were started, each the first of its kind
-use Rattle.std.specs.Prelude.{ℕ, ◌≡◌, ◌≤◌, Bool, true, false, IsTrue, Option, Some, None, List, [], ◌∷◌, ◌++◌}
+use Rattle.std.specs.Prelude.{ℕ, ◌≡◌, ◌≤◌, IsTrue, Option, Some, None, List, [], ◌∷◌, ◌++◌}
 use Rattle.pm_client.specs.Sound.{HoldsOf}
 use Rattle.pm_client.specs.Starts.{Clients, after_start}
 use Rattle.pm_geom.specs.declared.evidence.Evidence.{Evidence}
@@ -17,7 +17,7 @@ use Rattle.pm_machine.specs.Chains.{AreBarred, HasNoChainByOne, IsLeastByOne, is
 use Rattle.pm_object.specs.Honest.{facts}
 use Rattle.pm_object.specs.Laws.{computed}
 use Rattle.pm_object.specs.Reading.{view_for}
-use Rattle.pm_object.specs.State.{RoundSeen, State, names_of, settling, with_held}
+use Rattle.pm_object.specs.State.{RoundSeen, State, cols_of, names_of, settling, with_held}
 use Rattle.pm_object.specs.declared.held.Excluded.{Excluded}
 use Rattle.pm_object.specs.declared.held.RoundEnd.{RoundEnd}
 use Rattle.pm_object.specs.declared.held.RoundEnd.TheVariants as end
@@ -59,6 +59,7 @@ pub record FailsAt (book : List Rule) (id : RuleId) (s : State) (k : ℕ) (more 
   pub is_rule : rule_at book id ≡ Some rule
   pub evidence : Evidence
   pub n : ℕ
+  pub known : cols_of s.held ≡ Some n
   pub holds : HoldsOf evidence (view_for s rule.kind n)
   pub named : k ≡ evidence_number evidence
   pub excluded : more ≡ record { rule = id; sub = None; why = why.Failed evidence } ∷ []

@@ -14,7 +14,7 @@ use Rattle.pm_machine.specs.Best.{cost_of}
 use Rattle.pm_machine.specs.Rounds.{AllHeld, Commits, Ending, Ensures, IsRound, NoneLeads, Rounds, after_runs, found, no_chain, still_missing}
 use Rattle.pm_object.specs.Honest.{IsKept}
 use Rattle.pm_object.specs.Reading.{view_for}
-use Rattle.pm_object.specs.State.{RoundSeen, State, with_excluded, with_round}
+use Rattle.pm_object.specs.State.{RoundSeen, State, cols_of, with_excluded, with_round}
 use Rattle.pm_object.specs.declared.held.Excluded.{Excluded}
 use Rattle.pm_object.specs.declared.held.RoundEnd.{RoundEnd}
 use Rattle.pm_object.specs.declared.held.RoundEnd.TheVariants as end
@@ -29,6 +29,7 @@ pub record FailedRun (id : RuleId) (kind : Kind) (old : State) (rule : RuleId) (
   pub same : rule ≡ id
   pub evidence : Evidence
   pub n : ℕ
+  pub known : cols_of old.held ≡ Some n
   pub holds : HoldsOf evidence (view_for old kind n)
   pub named : k ≡ evidence_number evidence
   pub excluded : new ≡ with_excluded old (record { rule = id; sub = None; why = why.Failed evidence })

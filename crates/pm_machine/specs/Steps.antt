@@ -16,13 +16,13 @@ use Rattle.serde_json.specs.Data.{Data}
 use Rattle.serde_json.specs.Read.{read}
 use Rattle.pm_client.specs.Starts.{Clients}
 use Rattle.pm_geom.specs.declared.ObjectType.{ObjectType}
-use Rattle.pm_geom.specs.declared.ObjectType.TheVariants.{Polytope}
+use Rattle.pm_geom.specs.declared.ObjectType.TheVariants.{Polytope, Cone}
 use Rattle.pm_json.specs.Readings.{reading}
 use Rattle.pm_json.specs.declared.fail.ValueFail.{ValueFail}
 use Rattle.pm_json.specs.declared.fail.ValueFail.TheVariants as fault
 use Rattle.pm_machine.specs.Rounds.{Ensures, after_runs, found, no_chain}
 use Rattle.pm_object.specs.Honest.{IsKept}
-use Rattle.pm_object.specs.State.{HeldValue, State, empty_object, is_held, is_sealed, take_refusal, value_of, with_held}
+use Rattle.pm_object.specs.State.{CanTake, CannotTake, HeldValue, State, empty_object, is_held, is_sealed, value_of, with_held}
 use Rattle.pm_object.specs.declared.held.Origin.TheVariants.{Given as Given'}
 use Rattle.pm_object.specs.declared.held.TakeFail.TheVariants as fail
 use Rattle.pm_rules.specs.declared.rule.Rule.{Rule}
@@ -77,7 +77,7 @@ abbrev pub object_at : Machine → RefSeen → Option State
 object_at m ref = whole_of ref.sub (m.object ref.name)
 
 abbrev pub type_word : Option (List ℕ) → List ℕ → Option ObjectType
-type_word None text = if bytes_eq text (codes "Polytope") then Some Polytope else None
+type_word None text = if bytes_eq text (codes "Polytope") then Some Polytope else if bytes_eq text (codes "Cone") then Some Cone else None
 type_word (Some sub) text = None
 
 abbrev pub type_named : RefSeen → List ℕ → Option ObjectType
@@ -118,15 +118,15 @@ abbrev pub given_by : PropId → Option Data → Given
 given_by p None = no_json
 given_by p (Some d) = given_of (reading p d)
 
--- The object takes the value that the text gives, unless the first of these holds: it is held, the object is sealed, the text is no JSON, a fault of the value in reading order, its columns differ, a row fails its test.
+-- The object takes the value that the text gives, unless the first of these holds: it is held, the object is sealed, the text is no JSON, a fault of the value in reading order, its columns differ, a row fails its test or has no primitive row within the range.
 abbrev pub TakeValue : State → PropId → Given → Option Refusal → Option PropertyValue → Type 0
 TakeValue o p g (Some AlreadyHeld) v = is_held p o.held ≡ true
 TakeValue o p g (Some Sealed) v = (is_held p o.held ≡ false) × (is_sealed o ≡ true)
 TakeValue o p no_json (Some (BadValue value_why.Json)) v = (is_held p o.held ≡ false) × (is_sealed o ≡ false)
 TakeValue o p (faulty e) (Some (BadValue why)) v = (is_held p o.held ≡ false) × (is_sealed o ≡ false) × (why_of e ≡ Some why)
-TakeValue o p (value w) (Some (BadValue value_why.Columns)) v = take_refusal o p w ≡ Some fail.Columns
-TakeValue o p (value w) (Some (BadValue value_why.Row)) v = take_refusal o p w ≡ Some fail.NotAThing
-TakeValue o p (value w) None v = (v ≡ Some w) × (take_refusal o p w ≡ None)
+TakeValue o p (value w) (Some (BadValue value_why.Columns)) v = CannotTake o p w fail.Columns
+TakeValue o p (value w) (Some (BadValue value_why.Row)) v = CannotTake o p w fail.NotAThing
+TakeValue o p (value w) None v = (v ≡ Some w) × CanTake o p w
 TakeValue o p g why v = ⊥
 
 abbrev pub given_value : PropId → PropertyValue → HeldValue

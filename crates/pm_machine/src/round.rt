@@ -8,6 +8,7 @@ ghost use Rattle.pm_machine.specs.Running.{EnsuresWith, KeepsKept, NextRound, Ro
 ghost use Rattle.pm_object.specs.Honest.{facts};
 ghost use Rattle.pm_object.specs.State.{cols_of, is_held};
 ghost use Rattle.pm_rules.specs.Books.{IsBook};
+ghost use Rattle.pm_types.specs.Kinds.{IsKindOf};
 ghost use Rattle.pm_types.specs.Runs.{MayRun};
 ghost use Rattle.pm_types.specs.declared.property.PropId.TheVariants.{ConeAmbientDim};
 ghost use Rattle.std.specs.Option.{is_some, unwrap_or};
@@ -31,6 +32,7 @@ fn run_rule(
 ) -> Result<RoundEnd, AllocError>
     requires there { IsTrue (has_client kind (map (λ b. (kind_of b, starts_of b)) clients.old.items)) }
     requires known { IsTrue (is_some (cols_of object.old.held)) }
+    requires in_use { IsKindOf object.old.of kind }
     requires may { MayRun kind None (unwrap_or (cols_of object.old.held) 1) (facts object.old.held) }
     ensures started { map (λ b. (kind_of b, starts_of b)) clients.new.items ≡ after_start kind (map (λ b. (kind_of b, starts_of b)) clients.old.items) }
     ensures ok { IfOk result (λ end. RunsRule id kind object.old end object.new) }
@@ -67,6 +69,7 @@ fn start_round(
     requires there { IsTrue (has_client rule.now.kind (map (λ b. (kind_of b, starts_of b)) clients.old.items)) }
     requires known { IsTrue (is_some (cols_of object.old.held)) }
     requires dimension { IsTrue (is_held ConeAmbientDim object.old.held) }
+    requires in_use { IsKindOf object.old.of rule.now.kind }
     requires may { MayRun rule.now.kind None (unwrap_or (cols_of object.old.held) 1) (facts object.old.held) }
     ensures started { OnOk result (map (λ b. (kind_of b, starts_of b)) clients.new.items ≡ after_start rule.now.kind (map (λ b. (kind_of b, starts_of b)) clients.old.items)) }
     ensures ok { OnOk result (RoundOf id rule.now object.old object.new) }

@@ -55,10 +55,13 @@ fn show(
 fn type_named(is_part: bool, text: &str) -> Option<ObjectType>
     ensures { (sub : Option (List ℕ)) → is_some sub ≡ is_part → result ≡ type_word sub text.now }
 {
-    if !is_part & (text == "Polytope") {
-        Some(ObjectType::Polytope)
-    } else {
-        None
+    if is_part {
+        return None;
+    }
+    match text {
+        "Polytope" => Some(ObjectType::Polytope),
+        "Cone" => Some(ObjectType::Cone),
+        _ => None,
     }
 }
 

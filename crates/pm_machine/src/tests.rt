@@ -25,7 +25,14 @@ fn objects_take_values(rt: HostRuntime) -> Result<(), Fail> {
     for (line, want) in [
         ("new s Polytope", "ok\n"),
         ("new s Polytope", "no 3 NameTaken\n"),
-        ("new c Cone", "no 4 UnknownType\n"),
+        ("new f Fan", "no 4 UnknownType\n"),
+        ("new c Cone", "ok\n"),
+        ("take c INPUT_RAYS [[\"1/2\",1]]", "ok\n"),
+        ("lookup c INPUT_RAYS", "c INPUT_RAYS [[\"1/2\",\"1\"]]\n"),
+        ("take c POINTS [[1,1]]", "no 5 UnknownProperty\n"),
+        ("take c FEASIBLE true", "no 5 UnknownProperty\n"),
+        ("take c CONE_DIM 1", "ok\n"),
+        ("take c FULL_DIM 1", "no 6 BadValue shape\n"),
         ("new s.lp Polytope", "no 4 UnknownType\n"),
         ("take s VERTICES [[1,0],[1,1]]", "ok\n"),
         ("take s VERTICES [[1,0],[1,1]]", "no 7 AlreadyHeld\n"),
@@ -33,7 +40,7 @@ fn objects_take_values(rt: HostRuntime) -> Result<(), Fail> {
         ("take s.lp FACETS [[0,1]]", "no 2 UnknownName\n"),
         ("take s FACETS [[1,", "no 6 BadValue json\n"),
         ("take s FACETS 3", "no 6 BadValue shape\n"),
-        ("take s FACETS [[\"0\",\"1\"]]", "no 6 BadValue number\n"),
+        ("take s FACETS [[\"0\",\"x\"]]", "no 6 BadValue number\n"),
         ("take s FACETS [[0,1,1]]", "no 6 BadValue columns\n"),
         ("take s FACETS [[0,0]]", "no 6 BadValue row\n"),
         ("take s FACETS [[0,1],[1,-1]]", "ok\n"),
@@ -46,7 +53,7 @@ fn objects_take_values(rt: HostRuntime) -> Result<(), Fail> {
         assert_eq!(rt; text.as_str(), want, "at {line}");
     }
     assert!(rt; session.object("s").is_some());
-    assert!(rt; session.object("c").is_none());
+    assert!(rt; session.object("f").is_none());
     Ok(())
 }
 

@@ -12,6 +12,7 @@ mod tests;
 
 use pm_client::Client;
 use pm_clients_comb::SetsClient;
+use pm_clients_geom::{DimClient, RowsClient, TestClient};
 use pm_store::{StdSink, StdSource};
 use std::alloc::AllocError;
 use std::env;
@@ -45,6 +46,30 @@ fn words_after_name<R: Env + AllocGlobal>(rt: &R) -> Result<Vec<String>, Status>
 fn main(rt: HostRuntime) -> ExitCode {
     let alloc = rt.alloc();
     let mut clients: Vec<Box<dyn Client>> = Vec::new(alloc);
+    for k in 0..RowsClient::COUNT {
+        let Ok(client) = Box::new(alloc, RowsClient::new(k)) else {
+            return ExitCode::from(Status::OutOfMemory.number());
+        };
+        if clients.push(client).is_err() {
+            return ExitCode::from(Status::OutOfMemory.number());
+        }
+    }
+    for k in 0..DimClient::COUNT {
+        let Ok(client) = Box::new(alloc, DimClient::new(k)) else {
+            return ExitCode::from(Status::OutOfMemory.number());
+        };
+        if clients.push(client).is_err() {
+            return ExitCode::from(Status::OutOfMemory.number());
+        }
+    }
+    for k in 0..TestClient::COUNT {
+        let Ok(client) = Box::new(alloc, TestClient::new(k)) else {
+            return ExitCode::from(Status::OutOfMemory.number());
+        };
+        if clients.push(client).is_err() {
+            return ExitCode::from(Status::OutOfMemory.number());
+        }
+    }
     for k in 0..SetsClient::COUNT {
         let Ok(client) = Box::new(alloc, SetsClient::new(k)) else {
             return ExitCode::from(Status::OutOfMemory.number());

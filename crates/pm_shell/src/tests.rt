@@ -2,6 +2,7 @@
 
 ghost use Rattle.std.specs.Prelude.{◌<◌};
 
+mod descriptions;
 mod own_client;
 mod table;
 
@@ -101,7 +102,7 @@ fn answers_lines_after_the_four(rt: HostRuntime) -> Result<(), Fail> {
         ("new s Polytope", "no 3 NameTaken\n", 1),
         ("give t FACETS", "no 2 UnknownName\n", 1),
         ("give s.x FACETS", "no 2 UnknownName\n", 1),
-        ("new c Cone", "no 4 UnknownType\n", 1),
+        ("new f Fan", "no 4 UnknownType\n", 1),
         ("take s N_VERTICES 3", "no 5 UnknownProperty\n", 1),
         ("lookup s FACES", "no 5 UnknownProperty\n", 1),
         (
@@ -151,7 +152,7 @@ fn answers_scripts(rt: HostRuntime) -> Result<(), Fail> {
         ("", "", Status::Answered, 0u64),
         ("# a comment\n\n \t\n\r\n", "", Status::Answered, 0),
         (
-            "new s Polytope\ntake s VERTICES [[1,0],[1,1]]\ntake s FACETS [[\"0\",\"1\"]]\ntake s FACETS [[0,1],[1,-1]]\n",
+            "new s Polytope\ntake s VERTICES [[1,0],[1,1]]\ntake s FACETS [[\"0/0\",\"1\"]]\ntake s FACETS [[\"0\",1],[\"1\",\"-1\"]]\n",
             "ok\nok\nno 6 BadValue number\nok\n",
             Status::SomeRefused,
             0,
@@ -183,6 +184,41 @@ fn answers_scripts(rt: HostRuntime) -> Result<(), Fail> {
         (
             "new s Polytope\ntake s VERTICES [[1,0]]\ntake s FACETS [[1,0,0]]\ntake s FACETS [[0,1]]\n",
             "ok\nok\nno 6 BadValue columns\nok\n",
+            Status::SomeRefused,
+            0,
+        ),
+        // Fractions: the segment from 0 to 1/2, with facets that are multiples of whole rows.
+        (
+            "new s Polytope\ntake s VERTICES [[1,0],[\"1\",\"1/2\"]]\ntake s FACETS [[0,\"6/4\"],[\"2/6\",\"-2/3\"]]\ngive s FACETS\ngive s VERTICES_IN_FACETS\n",
+            "ok\nok\nok\ns FACETS [[\"0\",\"3/2\"],[\"1/3\",\"-2/3\"]]\ns VERTICES_IN_FACETS [[0],[1],{\"cols\":2}]\n",
+            Status::Answered,
+            1,
+        ),
+        // The greatest number, and one more.
+        (
+            "new s Polytope\ntake s FACETS [[\"170141183460469231731687303715884105728\",\"1\"]]\ntake s FACETS [[\"170141183460469231731687303715884105727\",\"1\"]]\n",
+            "ok\nno 6 BadValue number\nok\n",
+            Status::SomeRefused,
+            0,
+        ),
+        // A row whose primitive row leaves the range: the numerators over the common denominator, or the denominator.
+        (
+            "new s Polytope\ntake s FACETS [[\"170141183460469231731687303715884105727\",\"1/2\"]]\ntake s FACETS [[\"1/170141183460469231731687303715884105727\",\"1/2\"]]\n",
+            "ok\nno 6 BadValue row\nno 6 BadValue row\n",
+            Status::SomeRefused,
+            0,
+        ),
+        // A product of a vertex and a facet leaves the range: the client fails, and no other chain is left.
+        (
+            "new s Polytope\ntake s VERTICES [[1,0],[1,9223372036854775807]]\ntake s FACETS [[0,1],[\"170141183460469231731687303715884105727\",2]]\ngive s VERTICES_IN_FACETS\n",
+            "ok\nok\nok\nno 10 NoChain\n",
+            Status::SomeRefused,
+            1,
+        ),
+        // 33 columns and 34.
+        (
+            "new s Polytope\ntake s FACETS [[1,1,1,1,1,1,1,1,1,1,1,1,1,1,1,1,1,1,1,1,1,1,1,1,1,1,1,1,1,1,1,1,1,1]]\ntake s FACETS [[1,1,1,1,1,1,1,1,1,1,1,1,1,1,1,1,1,1,1,1,1,1,1,1,1,1,1,1,1,1,1,1,1]]\n",
+            "ok\nno 6 BadValue limit\nok\n",
             Status::SomeRefused,
             0,
         ),

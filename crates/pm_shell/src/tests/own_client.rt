@@ -8,7 +8,7 @@ use pm_client::{Client, ClientFail};
 use pm_clients_comb::SetsClient;
 use pm_object::{Draft, View};
 use pm_store::{MemSink, MemSource};
-use pm_types::Kind;
+use pm_types::{Kind, StandardClient};
 use std::alloc::Global;
 use std::test::Fail;
 
@@ -26,7 +26,7 @@ impl Client for Starved {
     ghost starts_of = { λ c. c.starts };
 
     fn kind(&self) -> Kind {
-        Kind::incidence()
+        StandardClient::Incidence.kind()
     }
 
     fn starts(&self) -> u64 {

@@ -11,8 +11,8 @@ fn first_lines() -> [(&'static str, &'static str); 25] {
         ("new s Polytope", "ok\n"),
         ("# a comment between", ""),
         ("new s Polytope", "no 3 NameTaken\n"),
-        ("new s Cone", "no 4 UnknownType\n"),
-        ("new t Cone", "no 4 UnknownType\n"),
+        ("new s Cone", "no 3 NameTaken\n"),
+        ("new t Fan", "no 4 UnknownType\n"),
         ("new t.lp LP", "no 4 UnknownType\n"),
         ("new s.lp LP", "no 4 UnknownType\n"),
         ("new 9t Polytope", "no 1 BadCommand\n"),
@@ -35,7 +35,7 @@ fn first_lines() -> [(&'static str, &'static str); 25] {
             "no 6 BadValue shape\n",
         ),
         (
-            "take s VERTICES [[1,0,0],[1,2,0],[1,0,2],[1,2,\"2\"]]",
+            "take s VERTICES [[1,0,0],[1,2,0],[1,0,2],[1,2,\"x\"]]",
             "no 6 BadValue number\n",
         ),
         ("take s VERTICES [[1,0,0],[1,2,0],[1,0,2],[1,2,2]]", "ok\n"),
@@ -75,8 +75,8 @@ fn second_lines() -> [(&'static str, &'static str); 25] {
             "take s VERTICES_IN_FACETS [[0,2],[0,1],[1,3],[2,3]]",
             "no 7 AlreadyHeld\n",
         ),
-        ("take s INEQUALITIES [[1,0,0]]", "no 5 UnknownProperty\n"),
-        ("give s INEQUALITIES", "no 5 UnknownProperty\n"),
+        ("take s INEQUALITIES [[1,0,0]]", "no 8 Sealed\n"),
+        ("give s INEQUALITIES", "no 10 NoChain\n"),
         (
             "give s VERTICES",
             "s VERTICES [[\"1\",\"0\",\"0\"],[\"1\",\"2\",\"0\"],[\"1\",\"0\",\"2\"],[\"1\",\"2\",\"2\"]]\n",
@@ -107,7 +107,7 @@ fn third_lines() -> [(&'static str, &'static str); 25] {
         ("give t FACETS", "no 10 NoChain\n"),
         ("give t VERTICES", "no 10 NoChain\n"),
         ("take t AFFINE_HULL []", "ok\n"),
-        ("take t POINTS [[1,0]]", "no 5 UnknownProperty\n"),
+        ("take t POINTS [[1,0]]", "no 6 BadValue columns\n"),
         ("lookup t LINEALITY_SPACE", "undef\n"),
         ("lookup t CONE_AMBIENT_DIM", "t CONE_AMBIENT_DIM 1\n"),
         ("take t CONE_AMBIENT_DIM 2", "no 7 AlreadyHeld\n"),
@@ -163,7 +163,7 @@ fn fourth_lines() -> [(&'static str, &'static str); 25] {
         ("take w FACETS [[9007199254740993,0]]", "no 7 AlreadyHeld\n"),
         ("new x Polytope", "ok\n"),
         (
-            "take x FACETS [[9007199254740993,0]]",
+            "take x FACETS [[9007199254740993.5,0]]",
             "no 6 BadValue number\n",
         ),
         (

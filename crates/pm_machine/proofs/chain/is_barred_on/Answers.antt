@@ -1,6 +1,5 @@
 use Rattle.std.proofs.Common.{ap, ◌∙◌}
 use Rattle.std.specs.List.{list_any}
-use Rattle.std.specs.Option.{is_some}
 use Rattle.std.specs.Prelude.{nat_eq}
 use Rattle.pm_object.specs.State.{is_disabled}
 use Rattle.pm_machine.proofs.Barred.{four, none_is}

@@ -1,4 +1,4 @@
-use Rattle.std.proofs.Common.{ap, arith, length, refl, subst, sym, ◌∙◌, ◌≡◌}
+use Rattle.std.proofs.Common.{ap, arith, subst, sym, ◌∙◌, ◌≡◌}
 use Rattle.std.specs.Option.{is_some}
 use Rattle.std.specs.Prelude.{None, true}
 use Rattle.pm_machine.proofs.Committing.{StillToCommit, all_committed, among_at, at_any, drop_at, fits_at, next_to_commit, start_to_commit}

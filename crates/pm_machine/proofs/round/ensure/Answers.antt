@@ -1,5 +1,5 @@
-use Rattle.std.proofs.Common.{rules, ◌≡◌}
-use Rattle.pm_machine.proofs.Progress.{ends_found, ends_none, keeps, less_to_do, on_err, start_progress, started_holds, step_progress}
+use Rattle.std.proofs.Common.{rules}
+use Rattle.pm_machine.proofs.Progress.{ends_none, keeps, less_to_do, on_err, start_progress, started_holds, step_progress}
 use Rattle.pm_machine.specs.Rounds.{AllHeld}
 use Rattle.pm_machine.specs.Running.{KeepsKept}
 use Rattle.pm_types.specs.declared.property.PropId.TheVariants.{ConeAmbientDim}

@@ -1,10 +1,9 @@
-use Rattle.std.proofs.Common.{Some, arith, ap, length, false, refl, rules, subst, sym, [], ◌<◌, ◌∙◌, ◌≡◌, ◌∷◌}
-use Rattle.std.proofs.lemmas.Option.{slice_get_read, slice_get_within}
+use Rattle.std.proofs.Common.{Some, ap, false, refl, rules, subst, sym, [], ◌∙◌, ◌≡◌, ◌∷◌}
+use Rattle.std.proofs.lemmas.Option.{slice_get_within}
 use Rattle.std.specs.Option.{unwrap_or}
-use Rattle.std.specs.Prelude.{slice_get}
 use Rattle.pm_machine.proofs.Ensuring.{at_place, barred_to, chosen, client_there, known_from, least_at, none_at, round_started, rule_of_book, unbarred}
-use Rattle.pm_machine.proofs.Running.{known_is, may_run}
-use Rattle.pm_machine.specs.Chains.{AreBarred, IsLeastByOne, table}
+use Rattle.pm_machine.proofs.Running.{kind_in_use, known_is, may_run}
+use Rattle.pm_machine.specs.Chains.{table}
 use Rattle.pm_machine.specs.Rounds.{still_missing}
 use Rattle.pm_object.specs.State.{cols_of, names_of}
 use Rattle.pm_rules.specs.Rules.{is_barred, rule_at}
@@ -41,6 +40,16 @@ start_round-requires-clause-there g c =
 
 pub start_round-requires-clause-known : goal.start_round-requires-clause-known
 start_round-requires-clause-known g c = known_from c.args.object.now c.of.ensures.formed c.requires.dimension
+
+pub start_round-requires-clause-in_use : goal.start_round-requires-clause-in_use
+start_round-requires-clause-in_use g c =
+    let o = c.args.object.now in
+    let names : c.table.result ≡ table o.of = c.table.ensures ∙ ap table c.of.ensures.value in
+    let missing : c.difference.result ≡ still_missing c.args.asked o = c.difference.ensures.value ∙ ap (λ z. difference c.args.asked z) c.names-held.ensures.value in
+    let least = least_at c.args.rules.now c.deref-2.result.now (c.in-Some.id ∷ []) o c.args.asked c.table.result c.names-held.result c.difference.result names c.names-held.ensures.value missing c.in-Some.ensures.some in
+    let (rule, at, enabled) = chosen c.args.rules.now (table o.of) c.deref-2.result.now (names_of o.held) (still_missing c.args.asked o) c.in-Some.id least in
+    let same : c.index-rules-from.result ≡ rule = at_place c.args.rules.now c.from.result c.in-Some.id.0 c.index-rules-from.result rule c.from.ensures c.index-rules-from.is at in
+    rw same (kind_in_use o c.deref-2.result.now c.in-Some.id rule (rule_of_book c.args.rules.now c.in-Some.id rule c.requires.book at) enabled)
 
 pub start_round-requires-clause-may : goal.start_round-requires-clause-may
 start_round-requires-clause-may g c =

@@ -1,4 +1,4 @@
-use Rattle.std.proofs.Common.{ap, subst, ◌≡◌}
+use Rattle.std.proofs.Common.{subst}
 use Rattle.pm_machine.proofs.Running.{runs_hold}
 use Rattle.pm_machine.specs.Running.{RunsRule}
 use Rattle.pm_object.specs.State.{State}

@@ -1,4 +1,4 @@
-use Rattle.std.proofs.Common.{Some, ap, rules, sym, true, true≢false, ◌∙◌, ◌≡◌}
+use Rattle.std.proofs.Common.{Some, ap, rules, sym, true≢false, ◌∙◌, ◌≡◌}
 use Rattle.std.specs.Option.{is_some}
 use Rattle.std.specs.Prelude.{None}
 use Rattle.pm_machine.proofs.Names.{found_held, gives_none, gives_shown, keeps_found, on_err_of}

@@ -1,7 +1,7 @@
-use Rattle.std.proofs.Common.{List, Some, ap, arith, false, refl, rules, sym, ℕ, ◌∙◌, ◌≡◌, ◌≢◌}
+use Rattle.std.proofs.Common.{List, Some, ap, arith, refl, rules, sym, ℕ, ◌∙◌, ◌≡◌, ◌≢◌}
 use Rattle.std.proofs.lemmas.Map.Text.{text_keys}
 use Rattle.std.specs.HashMap.{get_by_text}
-use Rattle.std.specs.Option.{is_some, option_map}
+use Rattle.std.specs.Option.{option_map}
 use Rattle.std.specs.Prelude.{None, string_bytes}
 use Rattle.serde_json.specs.Read.{read}
 use Rattle.pm_machine.proofs.Names.{map_some, on_err_of, same_all, take_done, take_refused, take_unknown}

@@ -1,0 +1,407 @@
+// Cones and polytopes by each of their descriptions: the dimensions, truth values and rows that all standard clients find.
+
+use crate::{Status, polymake};
+use pm_client::Client;
+use pm_clients_comb::SetsClient;
+use pm_clients_geom::{DimClient, RowsClient, TestClient};
+use pm_store::{MemSink, MemSource};
+use std::alloc::{AllocError, Global};
+use std::process::Abort;
+use std::test::Fail;
+
+/// What a run of the program over all standard clients leaves: its status, what was written, and how many runs were started.
+#[derive(Drop)]
+struct Ran {
+    status: Status,
+    text: Vec<u8>,
+    starts: u64,
+}
+
+fn run(alloc: Global, script: &str) -> Result<Ran, AllocError> {
+    let words: [String; 0] = [];
+    let mut clients: Vec<Box<dyn Client>> = Vec::new(alloc);
+    for k in 0..RowsClient::COUNT {
+        clients.push(Box::new(alloc, RowsClient::new(k))?)?;
+    }
+    for k in 0..DimClient::COUNT {
+        clients.push(Box::new(alloc, DimClient::new(k))?)?;
+    }
+    for k in 0..TestClient::COUNT {
+        clients.push(Box::new(alloc, TestClient::new(k))?)?;
+    }
+    for k in 0..SetsClient::COUNT {
+        clients.push(Box::new(alloc, SetsClient::new(k))?)?;
+    }
+    let mut source = MemSource::new(script.as_bytes().to_vec(alloc)?, 4096, Vec::new(alloc));
+    let mut sink = MemSink::new(alloc, 100_000, Vec::new(alloc))?;
+    let status = polymake(alloc, &words, &mut clients, &mut source, &mut sink);
+    let text = sink.bytes().to_vec(alloc)?;
+    let mut starts = 0u64;
+    for client in &clients {
+        starts = starts.saturating_add(client.starts());
+    }
+    Ok(Ran {
+        status,
+        text,
+        starts,
+    })
+}
+
+// Runs a script, and compares what it writes and how many runs it starts.
+fn answers(
+    rt: &(impl Abort + AllocGlobal),
+    lines: &[(&str, &str)],
+    wanted: Status,
+    starts: u64,
+) -> Result<(), Fail> {
+    let alloc = rt.alloc();
+    let mut script = String::new(alloc);
+    let mut replies = String::new(alloc);
+    for (line, reply) in lines {
+        script.push_str(line)?;
+        script.push_str("\n")?;
+        replies.push_str(reply)?;
+        replies.push_str("\n")?;
+    }
+    let ran = run(alloc, script.as_str())?;
+    let text = String::from_utf8(ran.text)?;
+    assert_eq!(rt; text.as_str(), replies.as_str(), "of {script}");
+    assert_eq!(rt; ran.status, wanted, "of {script}");
+    assert_eq!(rt; ran.starts, starts, "of {script}");
+    Ok(())
+}
+
+// A cone by the rows that generate it.
+#[test]
+fn a_cone_by_rays_of_one_direction(rt: HostRuntime) -> Result<(), Fail> {
+    answers(
+        &rt,
+        &[
+            ("new c Cone", "ok"),
+            ("take c INPUT_RAYS [[1,2],[2,4]]", "ok"),
+            ("give c CONE_DIM", "c CONE_DIM 1"),
+            ("give c FULL_DIM", "c FULL_DIM false"),
+            ("lookup c INPUT_LINEALITY", "c INPUT_LINEALITY []"),
+            ("give c FEASIBLE", "no 5 UnknownProperty"),
+            ("give c LINEAR_SPAN", "no 10 NoChain"),
+        ],
+        Status::SomeRefused,
+        2,
+    )
+}
+
+// A segment by its vertices: its dimensions, its affine hull, and the points of which it is the hull.
+#[test]
+fn a_segment_by_vertices(rt: HostRuntime) -> Result<(), Fail> {
+    answers(
+        &rt,
+        &[
+            ("new q Polytope", "ok"),
+            ("take q VERTICES [[1,0],[1,1]]", "ok"),
+            ("give q COMBINATORIAL_DIM", "no 10 NoChain"),
+            ("take q FULL_DIM 1", "no 6 BadValue shape"),
+            ("give q CONE_DIM", "q CONE_DIM 2"),
+            ("give q COMBINATORIAL_DIM", "no 10 NoChain"),
+            ("give q LINEALITY_DIM", "q LINEALITY_DIM 0"),
+            ("give q COMBINATORIAL_DIM", "q COMBINATORIAL_DIM 1"),
+            ("give q FEASIBLE", "q FEASIBLE true"),
+            ("give q POINTED", "q POINTED true"),
+            ("give q FULL_DIM", "q FULL_DIM true"),
+            ("give q AFFINE_HULL", "q AFFINE_HULL []"),
+            ("give q POINTS", "q POINTS [[\"1\",\"0\"],[\"1\",\"1\"]]"),
+            ("lookup q INPUT_LINEALITY", "q INPUT_LINEALITY []"),
+            ("give q INEQUALITIES", "no 10 NoChain"),
+        ],
+        Status::SomeRefused,
+        8,
+    )
+}
+
+// A point in the plane that is no whole number, and the rows that vanish on it.
+#[test]
+fn a_point_by_a_fraction(rt: HostRuntime) -> Result<(), Fail> {
+    answers(
+        &rt,
+        &[
+            ("new p Polytope", "ok"),
+            ("take p VERTICES [[\"2/3\",\"1/3\"]]", "ok"),
+            ("give p AFFINE_HULL", "p AFFINE_HULL [[\"1\",\"-2\"]]"),
+            ("give p CONE_DIM", "p CONE_DIM 1"),
+            ("give p FULL_DIM", "p FULL_DIM false"),
+            ("give p POINTS", "p POINTS [[\"2/3\",\"1/3\"]]"),
+        ],
+        Status::Answered,
+        4,
+    )
+}
+
+// A line in space by points and lines, with rows that are zero or no further direction.
+#[test]
+fn a_line_by_points(rt: HostRuntime) -> Result<(), Fail> {
+    answers(
+        &rt,
+        &[
+            ("new l Polytope", "ok"),
+            ("take l POINTS [[1,0,0,0],[0,0,0,0],[2,0,0,0]]", "ok"),
+            (
+                "take l INPUT_LINEALITY [[0,1,0,0],[0,0,0,0],[0,-2,0,0]]",
+                "ok",
+            ),
+            ("give l CONE_DIM", "l CONE_DIM 2"),
+            ("give l FEASIBLE", "l FEASIBLE true"),
+            ("give l FULL_DIM", "l FULL_DIM false"),
+            ("give l LINEALITY_DIM", "no 10 NoChain"),
+        ],
+        Status::SomeRefused,
+        3,
+    )
+}
+
+// A segment by its facets alone: it is full-dimensional.
+#[test]
+fn a_segment_by_facets(rt: HostRuntime) -> Result<(), Fail> {
+    answers(
+        &rt,
+        &[
+            ("new s Polytope", "ok"),
+            ("take s FACETS [[\"0\",\"1/2\"],[1,-1]]", "ok"),
+            ("give s LINEALITY_SPACE", "s LINEALITY_SPACE []"),
+            ("give s CONE_DIM", "s CONE_DIM 2"),
+            ("give s LINEALITY_DIM", "s LINEALITY_DIM 0"),
+            ("give s COMBINATORIAL_DIM", "s COMBINATORIAL_DIM 1"),
+            (
+                "give s INEQUALITIES",
+                "s INEQUALITIES [[\"0\",\"1/2\"],[\"1\",\"-1\"]]",
+            ),
+            ("lookup s EQUATIONS", "s EQUATIONS []"),
+            ("give s VERTICES", "no 10 NoChain"),
+        ],
+        Status::SomeRefused,
+        5,
+    )
+}
+
+// What goes without saying depends on what is held.
+#[test]
+fn what_goes_without_saying(rt: HostRuntime) -> Result<(), Fail> {
+    answers(
+        &rt,
+        &[
+            ("new i Polytope", "ok"),
+            ("take i INEQUALITIES [[0,1],[1,-1],[0,0]]", "ok"),
+            ("give i VERTICES", "no 10 NoChain"),
+            ("lookup i EQUATIONS", "i EQUATIONS []"),
+            ("lookup i CONE_AMBIENT_DIM", "i CONE_AMBIENT_DIM 2"),
+            ("take i VERTICES [[1,0],[1,1]]", "ok"),
+            ("give i CONE_DIM", "no 10 NoChain"),
+            ("lookup i LINEALITY_SPACE", "undef"),
+            ("take i LINEALITY_SPACE []", "ok"),
+            ("give i CONE_DIM", "i CONE_DIM 2"),
+            ("new b Cone", "ok"),
+            ("take b RAYS [[1,0,0]]", "ok"),
+            ("take b LINEAR_SPAN [[0,0,1]]", "ok"),
+            ("take b FACETS [[1,0,0]]", "ok"),
+            ("give b CONE_DIM", "b CONE_DIM 2"),
+            ("lookup b LINEALITY_SPACE", "undef"),
+            (
+                "give b LINEALITY_SPACE",
+                "b LINEALITY_SPACE [[\"0\",\"1\",\"0\"]]",
+            ),
+            (
+                "give b RAYS_IN_FACETS",
+                "b RAYS_IN_FACETS [[],{\"cols\":1}]",
+            ),
+        ],
+        Status::SomeRefused,
+        4,
+    )
+}
+
+// A half space, as a cone: its lineality is a plane.
+#[test]
+fn a_half_space_by_its_facet(rt: HostRuntime) -> Result<(), Fail> {
+    answers(
+        &rt,
+        &[
+            ("new h Cone", "ok"),
+            ("take h FACETS [[2,0,-2]]", "ok"),
+            (
+                "give h LINEALITY_SPACE",
+                "h LINEALITY_SPACE [[\"1\",\"0\",\"1\"],[\"0\",\"1\",\"0\"]]",
+            ),
+            ("give h LINEALITY_DIM", "h LINEALITY_DIM 2"),
+            ("give h POINTED", "h POINTED false"),
+            ("give h CONE_DIM", "h CONE_DIM 3"),
+            ("give h COMBINATORIAL_DIM", "h COMBINATORIAL_DIM 0"),
+            ("give h FULL_DIM", "h FULL_DIM true"),
+            ("give h RAYS", "no 10 NoChain"),
+        ],
+        Status::SomeRefused,
+        6,
+    )
+}
+
+// The cone {0} by no rays, and a plane by no facets but an equation.
+#[test]
+fn matrices_without_rows(rt: HostRuntime) -> Result<(), Fail> {
+    answers(
+        &rt,
+        &[
+            ("new z Cone", "ok"),
+            ("take z CONE_AMBIENT_DIM 2", "ok"),
+            ("take z RAYS [{\"cols\":2}]", "no 6 BadValue shape"),
+            ("take z RAYS []", "ok"),
+            ("give z CONE_DIM", "z CONE_DIM 0"),
+            (
+                "give z LINEAR_SPAN",
+                "z LINEAR_SPAN [[\"1\",\"0\"],[\"0\",\"1\"]]",
+            ),
+            ("give z LINEALITY_DIM", "z LINEALITY_DIM 0"),
+            ("give z COMBINATORIAL_DIM", "z COMBINATORIAL_DIM -1"),
+            ("give z POINTED", "z POINTED true"),
+            ("give z FULL_DIM", "z FULL_DIM false"),
+            ("lookup z RAYS", "z RAYS []"),
+            ("give z INPUT_RAYS", "z INPUT_RAYS []"),
+            ("new e Polytope", "ok"),
+            ("take e CONE_AMBIENT_DIM 2", "ok"),
+            ("take e VERTICES []", "ok"),
+            ("give e CONE_DIM", "e CONE_DIM 0"),
+            ("give e FEASIBLE", "e FEASIBLE false"),
+            ("new p Cone", "ok"),
+            ("take p FACETS []", "ok"),
+            ("take p LINEAR_SPAN [[\"1/2\",\"1/3\",0]]", "ok"),
+            (
+                "give p LINEALITY_SPACE",
+                "p LINEALITY_SPACE [[\"2\",\"-3\",\"0\"],[\"0\",\"0\",\"1\"]]",
+            ),
+            ("give p CONE_DIM", "p CONE_DIM 2"),
+            ("give p INEQUALITIES", "p INEQUALITIES []"),
+            (
+                "lookup p EQUATIONS",
+                "p EQUATIONS [[\"1/2\",\"1/3\",\"0\"]]",
+            ),
+        ],
+        Status::SomeRefused,
+        12,
+    )
+}
+
+// What the object held before is the given dimension: the rules take it as it is.
+#[test]
+fn a_given_dimension(rt: HostRuntime) -> Result<(), Fail> {
+    answers(
+        &rt,
+        &[
+            ("new c Cone", "ok"),
+            ("take c CONE_AMBIENT_DIM 4", "ok"),
+            ("take c CONE_DIM 4", "ok"),
+            ("take c LINEALITY_DIM 1", "ok"),
+            ("give c COMBINATORIAL_DIM", "c COMBINATORIAL_DIM 2"),
+            ("give c FULL_DIM", "c FULL_DIM true"),
+            ("give c POINTED", "c POINTED false"),
+            ("take c POINTED false", "no 7 AlreadyHeld"),
+            ("take c RAYS []", "no 8 Sealed"),
+        ],
+        Status::SomeRefused,
+        3,
+    )
+}
+
+// Eliminations that leave the range: 2^120 times 2^120 does. The client that fails is not tried again.
+#[test]
+fn eliminations_that_leave_the_range(rt: HostRuntime) -> Result<(), Fail> {
+    answers(
+        &rt,
+        &[
+            ("new c Cone", "ok"),
+            (
+                "take c INPUT_RAYS [[\"1329227995784915872903807060280344576\",-1],[-1,\"1329227995784915872903807060280344576\"]]",
+                "ok",
+            ),
+            ("give c CONE_DIM", "no 10 NoChain"),
+            ("give c CONE_DIM", "no 10 NoChain"),
+            ("lookup c CONE_DIM", "undef"),
+            ("take c LINEAR_SPAN []", "no 8 Sealed"),
+            ("new d Cone", "ok"),
+            (
+                "take d RAYS [[\"1329227995784915872903807060280344576\",-1],[-1,\"1329227995784915872903807060280344576\"]]",
+                "ok",
+            ),
+            ("give d CONE_DIM", "no 10 NoChain"),
+            ("give d LINEAR_SPAN", "no 10 NoChain"),
+            ("lookup d LINEALITY_SPACE", "d LINEALITY_SPACE []"),
+            ("give d LINEALITY_DIM", "d LINEALITY_DIM 0"),
+            ("new e Cone", "ok"),
+            (
+                "take e FACETS [[\"1329227995784915872903807060280344576\",-1],[-1,\"1329227995784915872903807060280344576\"]]",
+                "ok",
+            ),
+            ("give e LINEALITY_SPACE", "no 10 NoChain"),
+            ("give e CONE_DIM", "e CONE_DIM 2"),
+        ],
+        Status::SomeRefused,
+        6,
+    )
+}
+
+// A dimension that a failed client leaves open is found in another way.
+#[test]
+fn another_rule_finds_it(rt: HostRuntime) -> Result<(), Fail> {
+    answers(
+        &rt,
+        &[
+            ("new c Cone", "ok"),
+            ("take c RAYS [[0,0,1]]", "ok"),
+            (
+                "take c LINEALITY_SPACE [[\"1329227995784915872903807060280344576\",-1,0],[-1,\"1329227995784915872903807060280344576\",0]]",
+                "ok",
+            ),
+            ("take c INPUT_RAYS [[0,0,1]]", "ok"),
+            ("take c INPUT_LINEALITY [[1,0,0],[0,1,0]]", "ok"),
+            ("give c CONE_DIM", "c CONE_DIM 3"),
+        ],
+        Status::Answered,
+        2,
+    )
+}
+
+// The first fault in reading order, then columns, then rows.
+#[test]
+fn values_that_are_refused(rt: HostRuntime) -> Result<(), Fail> {
+    answers(
+        &rt,
+        &[
+            ("new a Cone", "ok"),
+            (
+                "take a INPUT_RAYS [[\"170141183460469231731687303715884105728\",\"1\"]]",
+                "no 6 BadValue number",
+            ),
+            (
+                "take a INPUT_RAYS [[\"170141183460469231731687303715884105727\",\"1\"]]",
+                "ok",
+            ),
+            ("new b Cone", "ok"),
+            (
+                "take b INPUT_RAYS [[1,1,1,1,1,1,1,1,1,1,1,1,1,1,1,1,1,1,1,1,1,1,1,1,1,1,1,1,1,1,1,1,1,1]]",
+                "no 6 BadValue limit",
+            ),
+            (
+                "take b INPUT_RAYS [[1,1,1,1,1,1,1,1,1,1,1,1,1,1,1,1,1,1,1,1,1,1,1,1,1,1,1,1,1,1,1,1,1]]",
+                "ok",
+            ),
+            ("new p Polytope", "ok"),
+            ("take p POINTS [[-1,0]]", "no 6 BadValue row"),
+            ("take p POINTS [[1,0],[1]]", "no 6 BadValue shape"),
+            ("take p POINTS [[1,0.5]]", "no 6 BadValue number"),
+            ("take p POINTS [[1,", "no 6 BadValue json"),
+            ("take p INPUT_LINEALITY [[1,0]]", "no 6 BadValue row"),
+            ("take p CONE_DIM 1.5", "no 6 BadValue number"),
+            ("take p CONE_DIM true", "no 6 BadValue shape"),
+            ("take p FEASIBLE 1", "no 6 BadValue shape"),
+            ("take p FEASIBLE true", "ok"),
+            ("lookup p FEASIBLE", "p FEASIBLE true"),
+        ],
+        Status::SomeRefused,
+        0,
+    )
+}
