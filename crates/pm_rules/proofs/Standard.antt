@@ -1,6 +1,7 @@
 -- The standard book is a book.
 use Rattle.std.proofs.Common.{◌≡◌, ◌≢◌, ℕ, ◌^◌, ◌<◌, Bool, true, not, ◌&&◌, eqb, leb, ltb, IsTrue, List, [], ◌∷◌, length, refl, sym, subst, arith, lit<, lit≤}
-use Rattle.std.specs.List.{list_all, AllPairs}
+use Rattle.std.specs.List.{list_all, AllPairs, slice_index_or}
+use Rattle.std.specs.Prelude.{Some, find}
 use Rattle.std.specs.Str.{bytes_eq}
 use Rattle.std.proofs.lemmas.Bool.{and_parts, both_ways, eqb-true, leb-true, ltb-true, not-true}
 use Rattle.std.proofs.lemmas.List.Elements.{All-map, All-weaker}
@@ -10,13 +11,14 @@ use Rattle.std.proofs.lemmas.Slice.Eq.{bytes_eq-Decides}
 use Rattle.pm_types.specs.declared.property.PropId.{PropId}
 use Rattle.pm_types.specs.declared.kind.Kind.{Kind}
 use Rattle.pm_types.specs.declared.standard.StandardClient.{StandardClient}
-use Rattle.pm_types.specs.Kinds.{standard_clients, standard_kind}
+use Rattle.pm_types.specs.Kinds.{standard_clients, standard_kind, standard_kinds_list}
+use Rattle.pm_types.specs.declared.standard.StandardClient.TheVariants as client
 use Rattle.pm_types.specs.Sets.{has, only, union, intersection, IsWithin}
 use Rattle.pm_types.specs.Weights.{most}
 use Rattle.pm_types.proofs.Members.{has-empty}
 use Rattle.pm_rules.specs.declared.rule.Rule.{Rule}
 use Rattle.pm_rules.specs.Words.{is_word, is_label, precondition_word}
-use Rattle.pm_rules.specs.Books.{IsNamed, IsRule, IsBook, rule_of, standard_rule, standard_rules, standard_weight}
+use Rattle.pm_rules.specs.Books.{FirstKinds, IsNamed, IsRule, IsBook, rule_of, standard_rule, standard_rules, standard_weight}
 
 -- ---- each rule
 nothing_in : (p : PropId) → IsTrue (has 0 p) → ⊥
@@ -100,3 +102,22 @@ standard_IsBook = record {
       (All-weaker (λ c. makes_plain c ≡ true) (λ c. IsRule (standard_rule c)) (λ c. plain_IsRule (standard_weight c) (standard_kind c)) standard_clients
       (AllPass-from_list_all makes_plain standard_clients standard_are_plain));
 }
+
+-- ---- kinds by their names
+is_first : (c : StandardClient) → find (λ (k : Kind). bytes_eq k.name (standard_rule c).kind.name) standard_kinds_list ≡ Some (standard_rule c).kind
+is_first client.PointsFromVertices = refl
+is_first client.InequalitiesFromFacets = refl
+is_first client.LinealityFromFacets = refl
+is_first client.HullFromVertices = refl
+is_first client.ConeDimV = refl
+is_first client.ConeDimSpan = refl
+is_first client.ConeDimPoints = refl
+is_first client.LinealityDim = refl
+is_first client.CombinatorialDim = refl
+is_first client.Feasible = refl
+is_first client.Pointed = refl
+is_first client.FullDim = refl
+is_first client.Incidence = refl
+
+pub standard_first : FirstKinds standard_kinds_list standard_rules
+standard_first = All-map (λ (r : Rule). find (λ (k : Kind). bytes_eq k.name r.kind.name) standard_kinds_list ≡ Some r.kind) standard_rule standard_clients (λ i d below. is_first (slice_index_or standard_clients i d))

@@ -19,7 +19,9 @@ mod write;
 
 pub use book::{Book, standard_book};
 pub use fail::BookFail;
-pub use laws::{law_certificate_bounds, law_certificate_excludes, law_useful_part};
+pub use laws::{
+    law_certificate_bounds, law_certificate_excludes, law_standard_kinds_are_first, law_useful_part,
+};
 pub use pm_types::{ClientName, Cost, Kind, PropId, PropSet, RuleId, Weight};
 pub use read::read_book;
 pub use rule::Rule;
