@@ -7,8 +7,6 @@
 mod order;
 mod row;
 mod table;
-#[cfg(test)]
-mod tests;
 mod words;
 
 pub use row::BitRow;

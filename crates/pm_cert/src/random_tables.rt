@@ -185,6 +185,15 @@ fn take(rows: &mut Vec<TableRow>, row: TableRow) -> Result<(), AllocError> {
     Ok(())
 }
 
+// The step and the weight of a rule, if it is useful.
+fn useful_step(case: &Case, needed: PropSet, id: RuleId, rule: &Rule) -> Option<(Step, Weight)> {
+    if rule.finds_one(case.names, &case.barred, needed, id) {
+        Some((rule.step(), rule.weight))
+    } else {
+        None
+    }
+}
+
 // The steps and weights of the useful rules.
 fn useful_steps(
     rt: &impl Abort,
@@ -195,8 +204,8 @@ fn useful_steps(
     let needed = needed(&case.rules, case.names, &case.barred, case.asked);
     let mut steps = Vec::new(alloc);
     for (i, rule) in case.rules.iter().enumerate() {
-        if rule.finds_one(case.names, &case.barred, needed, RuleId((i % 256) as u16)) {
-            steps.push((rule.step(), rule.weight))?;
+        if let Some(step) = useful_step(case, needed, RuleId((i % 256) as u16), rule) {
+            steps.push(step)?;
         }
     }
     Ok(steps)

@@ -3,7 +3,7 @@
 use super::*;
 use pm_rules::{ClientName, Kind, PropId, read_book, standard_book};
 use std::alloc::{AllocError, Global};
-use std::test::Fail;
+use std::process::Abort;
 
 // Every name that a cone may have.
 fn names_of_cones() -> PropSet {
@@ -36,9 +36,15 @@ fn kind(name: ClientName, targets: &[PropId], sources: &[PropId]) -> Kind {
     }
 }
 
-// The claim that no chain weighs less than this minor.
-fn least(minor: u64) -> Claim {
-    Claim::Least(Cost { class: 0, minor })
+// A class and a minor, than which no chain weighs less, or none if there is no chain.
+type Least = Option<(u64, u64)>;
+
+// The claim of it.
+fn claim_of(least: Least) -> Claim {
+    match least {
+        Some((class, minor)) => Claim::Least(Cost { class, minor }),
+        None => Claim::NoChain,
+    }
 }
 
 // The table of the held names at no cost alone.
@@ -51,42 +57,71 @@ fn start_alone(alloc: Global, held: PropSet) -> Result<Table, AllocError> {
     Ok(Table { rows })
 }
 
-#[test]
-fn one_rule_of_weight_forty(rt: HostRuntime) -> Result<(), Fail> {
+// A book of one rule of weight 40.
+fn book_of_forty(rt: &(impl Abort + AllocGlobal)) -> Book {
     let text =
         "d : rule VERTICES, LINEALITY_SPACE : INEQUALITIES, EQUATIONS { dd_vertices } weight 40;";
-    let name = ClientName::new("dd_vertices").unwrap();
+    let name = ClientName::new("dd_vertices").expect(rt, "a name");
     let targets = [PropId::Vertices, PropId::LinealitySpace];
     let sources = [PropId::Inequalities, PropId::Equations];
-    let book = read_book(rt.alloc(), text, &[kind(name, &targets, &sources)])?;
+    read_book(rt.alloc(), text, &[kind(name, &targets, &sources)]).expect(rt, "a book")
+}
+
+// Rules that are barred, what is claimed, and whether a table proves it.
+type Asked = (&'static [RuleId], Least, bool);
+
+const WITH_START: &[Asked] = &[
+    (&[], Some((0, 40)), true),
+    (&[], Some((0, 41)), false),
+    (&[], None, false),
+    (&[RuleId(0)], None, true),
+];
+
+const WITHOUT_ROWS: &[Asked] = &[
+    (&[], Some((0, 40)), false),
+    (&[], Some((0, 0)), true),
+    (&[RuleId(0)], None, false),
+];
+
+// That the table proves what it should, and no more.
+fn check_claims(
+    rt: &impl Abort,
+    book: &Book,
+    held: PropSet,
+    asked: PropId,
+    table: &Table,
+    claims: &[Asked],
+) {
     let names = names_of_cones();
-    let asked = PropSet::of(PropId::Vertices);
-    let start = start_alone(rt.alloc(), held())?;
-    let empty = Table {
-        rows: Vec::new(rt.alloc()),
-    };
-    let no_rule: [RuleId; 0] = [];
-    for (barred, table, claim, want) in [
-        (no_rule.as_slice(), &start, least(40), true),
-        (no_rule.as_slice(), &start, least(41), false),
-        (no_rule.as_slice(), &empty, least(40), false),
-        (no_rule.as_slice(), &empty, least(0), true),
-        (no_rule.as_slice(), &start, Claim::NoChain, false),
-        ([RuleId(0)].as_slice(), &start, Claim::NoChain, true),
-        ([RuleId(0)].as_slice(), &empty, Claim::NoChain, false),
-    ] {
+    let asked = PropSet::of(asked);
+    for (barred, least, want) in claims {
         assert_eq!(rt;
-            verify(&book, names, held(), barred, asked, table, claim),
-            want
+            verify(book, names, held, barred, asked, table, claim_of(*least)),
+            *want
         );
     }
-    Ok(())
 }
 
 #[test]
-fn classes_count_first(rt: HostRuntime) -> Result<(), Fail> {
-    let points = ClientName::new("cone_dim_points").unwrap();
-    let span = ClientName::new("cone_dim_span").unwrap();
+fn one_rule_of_weight_forty(rt: HostRuntime) {
+    let book = book_of_forty(&rt);
+    let start = start_alone(rt.alloc(), held()).expect(&rt, "a table");
+    check_claims(&rt, &book, held(), PropId::Vertices, &start, WITH_START);
+}
+
+#[test]
+fn no_row_for_the_start(rt: HostRuntime) {
+    let book = book_of_forty(&rt);
+    let empty = Table {
+        rows: Vec::new(rt.alloc()),
+    };
+    check_claims(&rt, &book, held(), PropId::Vertices, &empty, WITHOUT_ROWS);
+}
+
+// A book with a rule of class 1, and one of class 0.
+fn book_of_classes(rt: &(impl Abort + AllocGlobal)) -> Book {
+    let points = ClientName::new("cone_dim_points").expect(rt, "a name");
+    let span = ClientName::new("cone_dim_span").expect(rt, "a name");
     let generators = [PropId::Points, PropId::InputLineality];
     let kinds = [
         kind(points, &[PropId::ConeDim], &generators),
@@ -94,38 +129,40 @@ fn classes_count_first(rt: HostRuntime) -> Result<(), Fail> {
     ];
     let text =
         "a : rule CONE_DIM : POINTS, INPUT_LINEALITY { cone_dim_points } weight 1.0; b : rule CONE_DIM : AFFINE_HULL { cone_dim_span } weight 999999;";
-    let book = read_book(rt.alloc(), text, &kinds)?;
-    let names = names_of_cones();
-    let held = PropSet::of_list(&generators)
-        .with(PropId::ConeAmbientDim)
-        .with(PropId::AffineHull);
-    let asked = PropSet::of(PropId::ConeDim);
-    let table = start_alone(rt.alloc(), held)?;
-    let one_class = Claim::Least(Cost { class: 1, minor: 0 });
-    assert!(rt; verify(&book, names, held, &[], asked, &table, least(999_999)));
-    assert!(rt; !verify(&book, names, held, &[], asked, &table, one_class));
-    assert!(rt; verify(&book, names, held, &[RuleId(1)], asked, &table, one_class));
-    Ok(())
+    read_book(rt.alloc(), text, &kinds).expect(rt, "a book")
+}
+
+const CLASSES: &[Asked] = &[
+    (&[], Some((0, 999_999)), true),
+    (&[], Some((1, 0)), false),
+    (&[RuleId(1)], Some((1, 0)), true),
+];
+
+const STANDARD: &[Asked] = &[
+    (&[], Some((0, 5)), true),
+    (&[], Some((0, 6)), false),
+    (&[], None, false),
+    (&[RuleId(12)], None, true),
+    (&[RuleId(0)], None, false),
+];
+
+#[test]
+fn classes_count_first(rt: HostRuntime) {
+    let book = book_of_classes(&rt);
+    let held = PropSet::of_list(&[
+        PropId::ConeAmbientDim,
+        PropId::Points,
+        PropId::InputLineality,
+        PropId::AffineHull,
+    ]);
+    let start = start_alone(rt.alloc(), held).expect(&rt, "a table");
+    check_claims(&rt, &book, held, PropId::ConeDim, &start, CLASSES);
 }
 
 #[test]
-fn the_standard_book(rt: HostRuntime) -> Result<(), Fail> {
-    let book = standard_book(rt.alloc())?;
+fn the_standard_book(rt: HostRuntime) {
+    let book = standard_book(rt.alloc()).expect(&rt, "the book");
     let held = PropSet::of_list(&[PropId::Vertices, PropId::Facets]);
-    let asked = PropSet::of(PropId::VerticesInFacets);
-    let table = start_alone(rt.alloc(), held)?;
-    let no_rule: [RuleId; 0] = [];
-    for (barred, claim, want) in [
-        (no_rule.as_slice(), least(5), true),
-        (no_rule.as_slice(), least(6), false),
-        (no_rule.as_slice(), Claim::NoChain, false),
-        ([RuleId(12)].as_slice(), Claim::NoChain, true),
-        ([RuleId(0)].as_slice(), Claim::NoChain, false),
-    ] {
-        assert_eq!(rt;
-            verify(&book, names_of_cones(), held, barred, asked, &table, claim),
-            want
-        );
-    }
-    Ok(())
+    let start = start_alone(rt.alloc(), held).expect(&rt, "a table");
+    check_claims(&rt, &book, held, PropId::VerticesInFacets, &start, STANDARD);
 }

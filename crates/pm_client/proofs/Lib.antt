@@ -1,4 +1,3 @@
-pub mod Columns
 pub mod OneTarget
 pub mod SameKind
 pub mod Started

@@ -12,8 +12,6 @@ use pm_types::Kind;
 use std::alloc::{AllocError, AllocFailed, Global};
 
 mod boxes;
-#[cfg(test)]
-mod tests;
 mod values;
 
 pub use boxes::{place_of, run_first};

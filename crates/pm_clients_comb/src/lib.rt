@@ -3,7 +3,5 @@
 
 mod client;
 mod incidence;
-#[cfg(test)]
-mod tests;
 
 pub use client::SetsClient;

@@ -4,8 +4,6 @@
 mod dims;
 mod lists;
 mod rows;
-#[cfg(test)]
-mod tests;
 mod truths;
 
 pub use dims::DimClient;

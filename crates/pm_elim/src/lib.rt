@@ -24,6 +24,3 @@ pub use elimination::{echelon, rank};
 pub use evidence::{DualFail, ElimEvidence, ElimFail, ElimList};
 pub use modulo::reduce;
 pub use nulls::null_space;
-
-#[cfg(test)]
-mod tests;

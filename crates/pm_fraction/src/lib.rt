@@ -5,8 +5,6 @@ mod arithmetic;
 pub mod error;
 pub mod fraction;
 mod order;
-#[cfg(test)]
-mod tests;
 mod text;
 mod whole;
 

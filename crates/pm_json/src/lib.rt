@@ -9,6 +9,3 @@ mod value;
 
 pub use fail::ValueFail;
 pub use value::read_value;
-
-#[cfg(test)]
-mod tests;

@@ -10,6 +10,3 @@ mod taking;
 
 pub use laws::law_steps_keep;
 pub use session::Session;
-
-#[cfg(test)]
-mod tests;

@@ -8,6 +8,3 @@ mod primitive;
 pub use fails::{MatrixFail, RowFail, RowsFail};
 pub use matrix::Matrix;
 pub use primitive::primitive_row;
-
-#[cfg(test)]
-mod tests;

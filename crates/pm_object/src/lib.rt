@@ -7,8 +7,6 @@ mod held;
 mod laws;
 mod object;
 mod settled;
-#[cfg(test)]
-mod tests;
 mod tests_of_values;
 mod view;
 

@@ -3,12 +3,11 @@
 use crate::answer::{Plan, PlanEnd};
 use crate::planner::{plan, plan_by};
 use pm_rules::{
-    ClientName, Cost, Kind, PropId, PropSet, Rule, RuleId, Table, TableRow, Weight, read_book,
-    standard_book,
+    Book, ClientName, Cost, Kind, PropId, PropSet, Rule, RuleId, Table, TableRow, Weight,
+    read_book, standard_book,
 };
 use std::alloc::{AllocError, Global};
 use std::process::Abort;
-use std::test::Fail;
 
 // The properties beside 0 and 25 in the books with many sets: of cones, and no two speak of one order.
 const SIDES: [u8; 17] = [
@@ -76,23 +75,21 @@ fn many_sets(alloc: Global, count: usize) -> Result<Vec<Rule>, AllocError> {
     Ok(rules)
 }
 
-// The plan by these rules for one property of a cone.
+// The plan by these rules from one property of a cone to another.
 fn planned(
-    rt: &impl Abort,
-    alloc: Global,
+    rt: &(impl Abort + AllocGlobal),
     rules: &[Rule],
-    held: &[PropId],
-    barred: &[RuleId],
+    held: PropId,
     asked: PropId,
 ) -> Result<Plan, PlanEnd> {
     assert!(rt; rules.len() <= 256);
     assert!(rt; rules.iter().all(|rule| rule.weight.is_weight()));
     plan_by(
-        alloc,
+        rt.alloc(),
         rules,
         names_of_cones(),
-        PropSet::of_list(held),
-        barred,
+        PropSet::of(held),
+        &[],
         PropSet::of(asked),
     )
 }
@@ -130,56 +127,80 @@ fn minor(minor: u64) -> Cost {
     Cost { class: 0, minor }
 }
 
-#[test]
-fn one_rule_of_weight_forty(rt: HostRuntime) -> Result<(), Fail> {
-    let name = ClientName::new("dd_vertices").unwrap();
+// That a plan has this chain and this weight.
+fn assert_plan(rt: &impl Abort, plan: &Plan, chain: &[RuleId], weight: Cost) {
+    assert_eq!(rt; plan.chain.as_slice(), chain);
+    assert_eq!(rt; plan.weight, weight);
+}
+
+// A book of one rule of weight 40.
+fn book_of_forty(rt: &(impl Abort + AllocGlobal)) -> Book {
+    let name = ClientName::new("dd_vertices").expect(rt, "a name");
     let targets = [PropId::Vertices, PropId::LinealitySpace];
     let sources = [PropId::Inequalities, PropId::Equations];
     let text =
         "d : rule VERTICES, LINEALITY_SPACE : INEQUALITIES, EQUATIONS { dd_vertices } weight 40;";
-    let book = read_book(rt.alloc(), text, &[kind(name, &targets, &sources)])?;
-    let names = names_of_cones();
-    let held = PropSet::of_list(&sources).with(PropId::ConeAmbientDim);
-    let asked = PropSet::of(PropId::Vertices);
-    let p = plan(rt.alloc(), &book, names, held, &[], asked)?;
-    assert_eq!(rt; p.chain.as_slice(), [RuleId(0)].as_slice());
-    assert_eq!(rt; p.weight, minor(40));
-    assert!(rt; is_start_alone(p.table.rows.as_slice(), 0x19));
-    let barred = plan(rt.alloc(), &book, names, held, &[RuleId(0)], asked);
-    let table = table_without_chain(barred).ok_or("a chain")?;
-    assert!(rt; is_start_alone(table.rows.as_slice(), 0x19));
-    let p = plan(
-        rt.alloc(),
-        &book,
-        names,
-        held,
-        &[],
-        PropSet::of(PropId::Equations),
-    )?;
-    assert!(rt; p.chain.is_empty() && p.table.rows.is_empty() && p.weight == minor(0));
-    Ok(())
+    read_book(rt.alloc(), text, &[kind(name, &targets, &sources)]).expect(rt, "a book")
+}
+
+// The answer of that book for one property of a cone of inequalities.
+fn answer_of_forty(
+    rt: &(impl Abort + AllocGlobal),
+    barred: &[RuleId],
+    asked: PropId,
+) -> Result<Plan, PlanEnd> {
+    let book = book_of_forty(rt);
+    let held = PropSet::of_list(&[
+        PropId::ConeAmbientDim,
+        PropId::Inequalities,
+        PropId::Equations,
+    ]);
+    let asked = PropSet::of(asked);
+    plan(rt.alloc(), &book, names_of_cones(), held, barred, asked)
 }
 
 #[test]
-fn two_rules_are_cheaper_than_one(rt: HostRuntime) -> Result<(), Fail> {
-    let rules = [
+fn one_rule_of_weight_forty(rt: HostRuntime) {
+    let p = answer_of_forty(&rt, &[], PropId::Vertices).expect(&rt, "a plan");
+    assert_plan(&rt, &p, &[RuleId(0)], minor(40));
+    assert!(rt; is_start_alone(p.table.rows.as_slice(), 0x19));
+}
+
+#[test]
+fn no_chain_without_the_rule(rt: HostRuntime) {
+    let barred = answer_of_forty(&rt, &[RuleId(0)], PropId::Vertices);
+    let table = table_without_chain(barred).expect(&rt, "a table");
+    assert!(rt; is_start_alone(table.rows.as_slice(), 0x19));
+}
+
+#[test]
+fn what_is_held_needs_no_rule(rt: HostRuntime) {
+    let p = answer_of_forty(&rt, &[], PropId::Equations).expect(&rt, "a plan");
+    assert!(rt; p.chain.is_empty() && p.table.rows.is_empty() && p.weight == minor(0));
+}
+
+// Four rules, of which two in a chain are cheaper than one.
+fn cheaper_in_two() -> [Rule; 4] {
+    [
         rule(&[PropId::FVector], &[PropId::ConeAmbientDim], 0, 10),
         rule(&[PropId::ConeDim], &[PropId::ConeAmbientDim], 0, 4),
         rule(&[PropId::FVector], &[PropId::ConeDim], 0, 5),
         rule(&[PropId::NFacets], &[PropId::ConeDim], 0, 1),
-    ];
-    let held = [PropId::ConeAmbientDim];
-    let p = planned(&rt, rt.alloc(), &rules, &held, &[], PropId::FVector)?;
-    assert_eq!(rt; p.chain.as_slice(), [RuleId(1), RuleId(2)].as_slice());
-    assert_eq!(rt; p.weight, minor(9));
-    assert_eq!(rt; p.table.rows.len(), 2);
-    Ok(())
+    ]
 }
 
 #[test]
-fn classes_count_first(rt: HostRuntime) -> Result<(), Fail> {
-    let points = ClientName::new("cone_dim_points").unwrap();
-    let span = ClientName::new("cone_dim_span").unwrap();
+fn two_rules_are_cheaper_than_one(rt: HostRuntime) {
+    let rules = cheaper_in_two();
+    let p = planned(&rt, &rules, PropId::ConeAmbientDim, PropId::FVector).expect(&rt, "a plan");
+    assert_plan(&rt, &p, &[RuleId(1), RuleId(2)], minor(9));
+    assert_eq!(rt; p.table.rows.len(), 2);
+}
+
+// A book with a rule of class 1, and one of class 0.
+fn book_of_classes(rt: &(impl Abort + AllocGlobal)) -> Book {
+    let points = ClientName::new("cone_dim_points").expect(rt, "a name");
+    let span = ClientName::new("cone_dim_span").expect(rt, "a name");
     let generators = [PropId::Points, PropId::InputLineality];
     let kinds = [
         kind(points, &[PropId::ConeDim], &generators),
@@ -187,84 +208,91 @@ fn classes_count_first(rt: HostRuntime) -> Result<(), Fail> {
     ];
     let text =
         "a : rule CONE_DIM : POINTS, INPUT_LINEALITY { cone_dim_points } weight 1.0; b : rule CONE_DIM : AFFINE_HULL { cone_dim_span } weight 999999;";
-    let book = read_book(rt.alloc(), text, &kinds)?;
+    read_book(rt.alloc(), text, &kinds).expect(rt, "a book")
+}
+
+// Rules that are barred, and the rule and the cost of the plan.
+const CLASSES: &[(&[RuleId], RuleId, Cost)] = &[
+    (
+        &[],
+        RuleId(1),
+        Cost {
+            class: 0,
+            minor: 999_999,
+        },
+    ),
+    (&[RuleId(1)], RuleId(0), Cost { class: 1, minor: 0 }),
+];
+
+#[test]
+fn classes_count_first(rt: HostRuntime) {
+    let book = book_of_classes(&rt);
     let names = names_of_cones();
-    let held = PropSet::of_list(&generators)
-        .with(PropId::ConeAmbientDim)
-        .with(PropId::AffineHull);
+    let held = PropSet::of_list(&[
+        PropId::ConeAmbientDim,
+        PropId::Points,
+        PropId::InputLineality,
+        PropId::AffineHull,
+    ]);
     let asked = PropSet::of(PropId::ConeDim);
-    let p = plan(rt.alloc(), &book, names, held, &[], asked)?;
-    assert_eq!(rt; p.chain.as_slice(), [RuleId(1)].as_slice());
-    assert_eq!(rt; p.weight, minor(999_999));
-    assert!(rt; is_start_alone(p.table.rows.as_slice(), 0x107));
-    let p = plan(rt.alloc(), &book, names, held, &[RuleId(1)], asked)?;
-    assert_eq!(rt; p.chain.as_slice(), [RuleId(0)].as_slice());
-    assert_eq!(rt; p.weight, Cost { class: 1, minor: 0 });
-    assert!(rt; is_start_alone(p.table.rows.as_slice(), 0x107));
-    Ok(())
+    for (barred, rule, weight) in CLASSES {
+        let p = plan(rt.alloc(), &book, names, held, barred, asked).expect(&rt, "a plan");
+        assert_plan(&rt, &p, &[*rule], *weight);
+        assert!(rt; is_start_alone(p.table.rows.as_slice(), 0x107));
+    }
+}
+
+// The answer of a book with so many sides.
+fn answer_of_many(rt: &(impl Abort + AllocGlobal), count: usize) -> Result<Plan, PlanEnd> {
+    let rules = many_sets(rt.alloc(), count).expect(rt, "the rules");
+    planned(rt, &rules, PropId::ConeAmbientDim, PropId::FVector)
 }
 
 #[test]
-fn as_many_rows_as_a_table_may_have(rt: HostRuntime) -> Result<(), Fail> {
-    let rules = many_sets(rt.alloc(), 16)?;
-    let held = [PropId::ConeAmbientDim];
-    let p = planned(
-        &rt,
-        rt.alloc(),
-        rules.as_slice(),
-        &held,
-        &[],
-        PropId::FVector,
-    )?;
+fn as_many_rows_as_a_table_may_have(rt: HostRuntime) {
+    let p = answer_of_many(&rt, 16).expect(&rt, "a plan");
     assert_eq!(rt; p.weight, minor(1_000_016));
     assert_eq!(rt; p.chain.len(), 17);
     assert_eq!(rt; p.table.rows.len(), 65_536);
-    Ok(())
 }
 
 #[test]
-fn one_row_too_many(rt: HostRuntime) -> Result<(), Fail> {
-    let rules = many_sets(rt.alloc(), 17)?;
-    let held = [PropId::ConeAmbientDim];
-    let answer = planned(
-        &rt,
-        rt.alloc(),
-        rules.as_slice(),
-        &held,
-        &[],
-        PropId::FVector,
-    );
-    let table = crowded_table(answer).ok_or("not crowded")?;
+fn one_row_too_many(rt: HostRuntime) {
+    let table = crowded_table(answer_of_many(&rt, 17)).expect(&rt, "a crowded table");
     assert_eq!(rt; table.rows.len(), 65_536);
-    Ok(())
+}
+
+// The plan of the standard book from these properties.
+fn standard_plan(
+    rt: &(impl Abort + AllocGlobal),
+    names: PropSet,
+    held: &[PropId],
+    asked: PropId,
+) -> Plan {
+    let book = standard_book(rt.alloc()).expect(rt, "the book");
+    let held = PropSet::of_list(held);
+    plan(rt.alloc(), &book, names, held, &[], PropSet::of(asked)).expect(rt, "a plan")
 }
 
 #[test]
-fn the_standard_book(rt: HostRuntime) -> Result<(), Fail> {
-    let book = standard_book(rt.alloc())?;
-    let held = PropSet::of_list(&[PropId::Vertices, PropId::Facets]);
-    let asked = PropSet::of(PropId::VerticesInFacets);
-    let p = plan(rt.alloc(), &book, names_of_cones(), held, &[], asked)?;
-    assert_eq!(rt; p.chain.as_slice(), [RuleId(12)].as_slice());
-    assert_eq!(rt; p.weight, minor(5));
+fn the_standard_book(rt: HostRuntime) {
+    let held = [PropId::Vertices, PropId::Facets];
+    let p = standard_plan(&rt, names_of_cones(), &held, PropId::VerticesInFacets);
+    assert_plan(&rt, &p, &[RuleId(12)], minor(5));
     assert!(rt; is_start_alone(p.table.rows.as_slice(), 0xa0));
-    Ok(())
 }
 
 // The dimension of a polytope from its vertices: `cone_dim_v` and `lineality_dim`, in either order, before
 // `combinatorial_dim`.
 #[test]
-fn a_chain_of_the_standard_book(rt: HostRuntime) -> Result<(), Fail> {
-    let book = standard_book(rt.alloc())?;
-    let held = PropSet::of_list(&[PropId::Vertices, PropId::LinealitySpace]);
-    let asked = PropSet::of(PropId::CombinatorialDim);
-    let p = plan(rt.alloc(), &book, names_of_polytopes(), held, &[], asked)?;
+fn a_chain_of_the_standard_book(rt: HostRuntime) {
+    let held = [PropId::Vertices, PropId::LinealitySpace];
+    let p = standard_plan(&rt, names_of_polytopes(), &held, PropId::CombinatorialDim);
     assert_eq!(rt; p.weight, minor(6));
     assert_eq!(rt; p.chain.len(), 3);
     for rule in [RuleId(4), RuleId(7), RuleId(8)] {
-        assert!(rt; p.chain.iter().any(|id| *id == rule), "{rule:?}");
+        assert!(rt; p.chain.contains(&rule), "{rule:?}");
     }
     // below 6 there are CONE_DIM, LINEALITY_DIM, both, AFFINE_HULL, and POINTS with INPUT_LINEALITY
     assert_eq!(rt; p.table.rows.len(), 6);
-    Ok(())
 }

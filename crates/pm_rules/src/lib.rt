@@ -10,8 +10,6 @@ mod read;
 mod rule;
 mod step;
 mod table;
-#[cfg(test)]
-mod tests;
 mod token;
 mod useful;
 mod word;

@@ -12,6 +12,3 @@ pub use command::{Command, LineFail, Ref, read_line};
 pub use lines::{Line, is_silent, split_line};
 pub use refusal::{Refusal, ValueWhy};
 pub use reply::{Reply, reply_bytes};
-
-#[cfg(test)]
-mod tests;

@@ -11,6 +11,7 @@ use pm_client::Client;
 use pm_clients_comb::SetsClient;
 use pm_store::{MemSink, MemSource};
 use std::alloc::{AllocError, Global};
+use std::process::Abort;
 use std::test::Fail;
 
 const SCRIPT: &str =
@@ -20,7 +21,7 @@ const REPLIES: &str = "ok\nok\nok\ns VERTICES_IN_FACETS [[0],[1],{\"cols\":2}]\n
 
 const NO_WORDS: [String; 0] = [];
 
-/// What a run leaves: its status, what was written, and how often the client was started.
+/// What a run leaves: its status, what was written, and how many runs of clients were started.
 #[derive(Drop)]
 struct Ran {
     status: Status,
@@ -28,7 +29,38 @@ struct Ran {
     starts: u64,
 }
 
-/// A run over memory in pieces, with words, and with calls that fail.
+// How many runs of these clients were started.
+fn starts_of(clients: &[Box<dyn Client>]) -> u64 {
+    let mut starts = 0u64;
+    for client in clients {
+        starts = starts.saturating_add(client.starts());
+    }
+    starts
+}
+
+/// A run over memory in pieces, with words, with these clients, and with calls that fail.
+fn run_with(
+    alloc: Global,
+    words: &[String],
+    clients: &mut Vec<Box<dyn Client>>,
+    script: &[u8],
+    piece: usize,
+    failing_reads: Vec<u64>,
+    failing_writes: Vec<u64>,
+) -> Result<Ran, AllocError>
+    requires { 0 < piece }
+{
+    let mut source = MemSource::new(script.to_vec(alloc)?, piece, failing_reads);
+    let mut sink = MemSink::new(alloc, 100_000, failing_writes)?;
+    let status = polymake(alloc, words, clients, &mut source, &mut sink);
+    Ok(Ran {
+        status,
+        text: sink.bytes().to_vec(alloc)?,
+        starts: starts_of(clients),
+    })
+}
+
+/// The same with the client of the sets alone.
 fn run_in_pieces(
     alloc: Global,
     words: &[String],
@@ -41,19 +73,15 @@ fn run_in_pieces(
 {
     let mut clients: Vec<Box<dyn Client>> = Vec::new(alloc);
     clients.push(Box::new(alloc, SetsClient::new(0))?)?;
-    let mut source = MemSource::new(script.to_vec(alloc)?, piece, failing_reads);
-    let mut sink = MemSink::new(alloc, 100_000, failing_writes)?;
-    let status = polymake(alloc, words, &mut clients, &mut source, &mut sink);
-    let text = sink.bytes().to_vec(alloc)?;
-    let mut starts = 0;
-    for client in &clients {
-        starts = client.starts();
-    }
-    Ok(Ran {
-        status,
-        text,
-        starts,
-    })
+    run_with(
+        alloc,
+        words,
+        &mut clients,
+        script,
+        piece,
+        failing_reads,
+        failing_writes,
+    )
 }
 
 fn run(alloc: Global, script: &[u8]) -> Result<Ran, AllocError> {
@@ -67,173 +95,180 @@ fn run(alloc: Global, script: &[u8]) -> Result<Ran, AllocError> {
     )
 }
 
+// Asks for a status, for what is written, and for how many runs are started.
+fn check(rt: &impl Abort, ran: &Ran, status: Status, text: &str, starts: u64, of: &str) {
+    assert_eq!(rt; ran.status, status, "of {of}");
+    assert_eq!(rt; ran.text.as_slice(), text.as_bytes(), "of {of}");
+    assert_eq!(rt; ran.starts, starts, "of {of}");
+}
+
+const PIECES: &[(usize, &str)] = &[
+    (1, "single bytes"),
+    (3, "three bytes at a time"),
+    (100_000, "the whole script at once"),
+];
+
 #[test]
 fn answers_the_four_lines(rt: HostRuntime) -> Result<(), Fail> {
     let alloc = rt.alloc();
-    for piece in [1usize, 3, 100_000] {
-        assert!(rt; piece > 0);
+    for (piece, of) in PIECES {
+        assert!(rt; *piece > 0);
         let ran = run_in_pieces(
             alloc,
             &NO_WORDS,
             SCRIPT.as_bytes(),
-            piece,
+            *piece,
             Vec::new(alloc),
             Vec::new(alloc),
         )?;
-        assert_eq!(rt; ran.status, Status::Answered, "in pieces of {piece}");
-        assert_eq!(rt;
-            ran.text.as_slice(),
-            REPLIES.as_bytes(),
-            "in pieces of {piece}"
-        );
-        assert_eq!(rt; ran.starts, 1, "in pieces of {piece}");
+        check(&rt, &ran, Status::Answered, REPLIES, 1, of);
     }
     Ok(())
 }
+
+const AFTER_THE_FOUR: &[(&str, &str, u64)] = &[
+    ("take s FACETS [[0,1]]", "no 7 AlreadyHeld\n", 1u64),
+    ("take s AFFINE_HULL []", "no 8 Sealed\n", 1),
+    ("lookup s LINEALITY_SPACE", "s LINEALITY_SPACE []\n", 1),
+    ("new s Polytope", "no 3 NameTaken\n", 1),
+    ("give t FACETS", "no 2 UnknownName\n", 1),
+    ("give s.x FACETS", "no 2 UnknownName\n", 1),
+    ("new f Fan", "no 4 UnknownType\n", 1),
+    ("take s N_VERTICES 3", "no 5 UnknownProperty\n", 1),
+    ("lookup s FACES", "no 5 UnknownProperty\n", 1),
+    (
+        "give s FACETS",
+        "s FACETS [[\"0\",\"1\"],[\"1\",\"-1\"]]\n",
+        1,
+    ),
+    (
+        "give s VERTICES_IN_FACETS",
+        "s VERTICES_IN_FACETS [[0],[1],{\"cols\":2}]\n",
+        1,
+    ),
+    (
+        "lookup s VERTICES_IN_FACETS",
+        "s VERTICES_IN_FACETS [[0],[1],{\"cols\":2}]\n",
+        1,
+    ),
+    ("new t Polytope\nlookup t VERTICES", "ok\nundef\n", 1),
+    ("ensure s FACETS", "no 1 BadCommand\n", 1),
+    // A second object starts the client once more.
+    (
+        "new t Polytope\ntake t FACETS [[1,0]]\ntake t VERTICES [[1,0],[2,1]]\ngive t VERTICES_IN_FACETS\ngive t VERTICES_IN_FACETS",
+        "ok\nok\nok\nt VERTICES_IN_FACETS [[],{\"cols\":2}]\nt VERTICES_IN_FACETS [[],{\"cols\":2}]\n",
+        2,
+    ),
+];
 
 // Lines after the four: the replies to them, and how often the client is started in all.
 #[test]
 fn answers_lines_after_the_four(rt: HostRuntime) -> Result<(), Fail> {
     let alloc = rt.alloc();
-    for (line, reply, starts) in [
-        ("take s FACETS [[0,1]]", "no 7 AlreadyHeld\n", 1u64),
-        ("take s AFFINE_HULL []", "no 8 Sealed\n", 1),
-        ("lookup s LINEALITY_SPACE", "s LINEALITY_SPACE []\n", 1),
-        ("new s Polytope", "no 3 NameTaken\n", 1),
-        ("give t FACETS", "no 2 UnknownName\n", 1),
-        ("give s.x FACETS", "no 2 UnknownName\n", 1),
-        ("new f Fan", "no 4 UnknownType\n", 1),
-        ("take s N_VERTICES 3", "no 5 UnknownProperty\n", 1),
-        ("lookup s FACES", "no 5 UnknownProperty\n", 1),
-        (
-            "give s FACETS",
-            "s FACETS [[\"0\",\"1\"],[\"1\",\"-1\"]]\n",
-            1,
-        ),
-        (
-            "give s VERTICES_IN_FACETS",
-            "s VERTICES_IN_FACETS [[0],[1],{\"cols\":2}]\n",
-            1,
-        ),
-        (
-            "lookup s VERTICES_IN_FACETS",
-            "s VERTICES_IN_FACETS [[0],[1],{\"cols\":2}]\n",
-            1,
-        ),
-        ("new t Polytope\nlookup t VERTICES", "ok\nundef\n", 1),
-        ("ensure s FACETS", "no 1 BadCommand\n", 1),
-        // A second object starts the client once more.
-        (
-            "new t Polytope\ntake t FACETS [[1,0]]\ntake t VERTICES [[1,0],[2,1]]\ngive t VERTICES_IN_FACETS\ngive t VERTICES_IN_FACETS",
-            "ok\nok\nok\nt VERTICES_IN_FACETS [[],{\"cols\":2}]\nt VERTICES_IN_FACETS [[],{\"cols\":2}]\n",
-            2,
-        ),
-    ] {
+    for (line, reply, starts) in AFTER_THE_FOUR {
         let script = format!(in alloc; "{SCRIPT}{line}\n")?;
         let replies = format!(in alloc; "{REPLIES}{reply}")?;
         let ran = run(alloc, script.as_bytes())?;
-        assert_eq!(rt; ran.text.as_slice(), replies.as_bytes(), "to {line}");
-        assert_eq!(rt; ran.starts, starts, "at {line}");
-        let wanted = if reply.starts_with("no ") {
+        let status = if reply.starts_with("no ") {
             Status::SomeRefused
         } else {
             Status::Answered
         };
-        assert_eq!(rt; ran.status, wanted, "at {line}");
+        check(&rt, &ran, status, replies.as_str(), *starts, line);
     }
     Ok(())
 }
+
+const SCRIPTS: &[(&str, &str, Status, u64)] = &[
+    ("", "", Status::Answered, 0u64),
+    ("# a comment\n\n \t\n\r\n", "", Status::Answered, 0),
+    (
+        "new s Polytope\ntake s VERTICES [[1,0],[1,1]]\ntake s FACETS [[\"0/0\",\"1\"]]\ntake s FACETS [[\"0\",1],[\"1\",\"-1\"]]\n",
+        "ok\nok\nno 6 BadValue number\nok\n",
+        Status::SomeRefused,
+        0,
+    ),
+    // No chain leads to the sets from the facets alone.
+    (
+        "new s Polytope\ntake s FACETS [[0,1],[1,-1]]\ngive s VERTICES_IN_FACETS\ntake s VERTICES [[1,0],[1,1]]\ngive s VERTICES_IN_FACETS\n",
+        "ok\nok\nno 10 NoChain\nok\ns VERTICES_IN_FACETS [[0],[1],{\"cols\":2}]\n",
+        Status::SomeRefused,
+        1,
+    ),
+    // The last line counts without its LF, and there a CR is not dropped.
+    ("new s Polytope\r\n# no LF", "ok\n", Status::Answered, 0),
+    ("new s Polytope", "ok\n", Status::Answered, 0),
+    (
+        "new s Polytope\r",
+        "no 1 BadCommand\n",
+        Status::SomeRefused,
+        0,
+    ),
+    // A square.
+    (
+        "new a_1 Polytope\ntake a_1 VERTICES [[1,0,0],[1,1,0],[1,0,1],[1,1,1]]\ntake a_1 FACETS [[0,1,0],[0,0,1],[1,-1,0],[1,0,-1]]\ngive a_1 VERTICES_IN_FACETS\n",
+        "ok\nok\nok\na_1 VERTICES_IN_FACETS [[0,2],[0,1],[1,3],[2,3],{\"cols\":4}]\n",
+        Status::Answered,
+        1,
+    ),
+    // Facets with another number of columns; then those that fit.
+    (
+        "new s Polytope\ntake s VERTICES [[1,0]]\ntake s FACETS [[1,0,0]]\ntake s FACETS [[0,1]]\n",
+        "ok\nok\nno 6 BadValue columns\nok\n",
+        Status::SomeRefused,
+        0,
+    ),
+    // Fractions: the segment from 0 to 1/2, with facets that are multiples of whole rows.
+    (
+        "new s Polytope\ntake s VERTICES [[1,0],[\"1\",\"1/2\"]]\ntake s FACETS [[0,\"6/4\"],[\"2/6\",\"-2/3\"]]\ngive s FACETS\ngive s VERTICES_IN_FACETS\n",
+        "ok\nok\nok\ns FACETS [[\"0\",\"3/2\"],[\"1/3\",\"-2/3\"]]\ns VERTICES_IN_FACETS [[0],[1],{\"cols\":2}]\n",
+        Status::Answered,
+        1,
+    ),
+    // The greatest number, and one more.
+    (
+        "new s Polytope\ntake s FACETS [[\"170141183460469231731687303715884105728\",\"1\"]]\ntake s FACETS [[\"170141183460469231731687303715884105727\",\"1\"]]\n",
+        "ok\nno 6 BadValue number\nok\n",
+        Status::SomeRefused,
+        0,
+    ),
+    // A row whose primitive row leaves the range: the numerators over the common denominator, or the denominator.
+    (
+        "new s Polytope\ntake s FACETS [[\"170141183460469231731687303715884105727\",\"1/2\"]]\ntake s FACETS [[\"1/170141183460469231731687303715884105727\",\"1/2\"]]\n",
+        "ok\nno 6 BadValue row\nno 6 BadValue row\n",
+        Status::SomeRefused,
+        0,
+    ),
+    // A product of a vertex and a facet leaves the range: the client fails, and no other chain is left.
+    (
+        "new s Polytope\ntake s VERTICES [[1,0],[1,9223372036854775807]]\ntake s FACETS [[0,1],[\"170141183460469231731687303715884105727\",2]]\ngive s VERTICES_IN_FACETS\n",
+        "ok\nok\nok\nno 10 NoChain\n",
+        Status::SomeRefused,
+        1,
+    ),
+    // 33 columns and 34.
+    (
+        "new s Polytope\ntake s FACETS [[1,1,1,1,1,1,1,1,1,1,1,1,1,1,1,1,1,1,1,1,1,1,1,1,1,1,1,1,1,1,1,1,1,1]]\ntake s FACETS [[1,1,1,1,1,1,1,1,1,1,1,1,1,1,1,1,1,1,1,1,1,1,1,1,1,1,1,1,1,1,1,1,1]]\n",
+        "ok\nno 6 BadValue limit\nok\n",
+        Status::SomeRefused,
+        0,
+    ),
+    // Other reasons why a value is refused.
+    (
+        "new s Polytope\ntake s VERTICES [[1,0]\ntake s VERTICES 7\ntake s VERTICES [[0,0]]\n",
+        "ok\nno 6 BadValue json\nno 6 BadValue shape\nno 6 BadValue row\n",
+        Status::SomeRefused,
+        0,
+    ),
+];
 
 // Whole scripts: the replies, whether some reply is a refusal, and how often the client is started.
 #[test]
 fn answers_scripts(rt: HostRuntime) -> Result<(), Fail> {
     let alloc = rt.alloc();
-    for (script, replies, status, starts) in [
-        ("", "", Status::Answered, 0u64),
-        ("# a comment\n\n \t\n\r\n", "", Status::Answered, 0),
-        (
-            "new s Polytope\ntake s VERTICES [[1,0],[1,1]]\ntake s FACETS [[\"0/0\",\"1\"]]\ntake s FACETS [[\"0\",1],[\"1\",\"-1\"]]\n",
-            "ok\nok\nno 6 BadValue number\nok\n",
-            Status::SomeRefused,
-            0,
-        ),
-        // No chain leads to the sets from the facets alone.
-        (
-            "new s Polytope\ntake s FACETS [[0,1],[1,-1]]\ngive s VERTICES_IN_FACETS\ntake s VERTICES [[1,0],[1,1]]\ngive s VERTICES_IN_FACETS\n",
-            "ok\nok\nno 10 NoChain\nok\ns VERTICES_IN_FACETS [[0],[1],{\"cols\":2}]\n",
-            Status::SomeRefused,
-            1,
-        ),
-        // The last line counts without its LF, and there a CR is not dropped.
-        ("new s Polytope\r\n# no LF", "ok\n", Status::Answered, 0),
-        ("new s Polytope", "ok\n", Status::Answered, 0),
-        (
-            "new s Polytope\r",
-            "no 1 BadCommand\n",
-            Status::SomeRefused,
-            0,
-        ),
-        // A square.
-        (
-            "new a_1 Polytope\ntake a_1 VERTICES [[1,0,0],[1,1,0],[1,0,1],[1,1,1]]\ntake a_1 FACETS [[0,1,0],[0,0,1],[1,-1,0],[1,0,-1]]\ngive a_1 VERTICES_IN_FACETS\n",
-            "ok\nok\nok\na_1 VERTICES_IN_FACETS [[0,2],[0,1],[1,3],[2,3],{\"cols\":4}]\n",
-            Status::Answered,
-            1,
-        ),
-        // Facets with another number of columns; then those that fit.
-        (
-            "new s Polytope\ntake s VERTICES [[1,0]]\ntake s FACETS [[1,0,0]]\ntake s FACETS [[0,1]]\n",
-            "ok\nok\nno 6 BadValue columns\nok\n",
-            Status::SomeRefused,
-            0,
-        ),
-        // Fractions: the segment from 0 to 1/2, with facets that are multiples of whole rows.
-        (
-            "new s Polytope\ntake s VERTICES [[1,0],[\"1\",\"1/2\"]]\ntake s FACETS [[0,\"6/4\"],[\"2/6\",\"-2/3\"]]\ngive s FACETS\ngive s VERTICES_IN_FACETS\n",
-            "ok\nok\nok\ns FACETS [[\"0\",\"3/2\"],[\"1/3\",\"-2/3\"]]\ns VERTICES_IN_FACETS [[0],[1],{\"cols\":2}]\n",
-            Status::Answered,
-            1,
-        ),
-        // The greatest number, and one more.
-        (
-            "new s Polytope\ntake s FACETS [[\"170141183460469231731687303715884105728\",\"1\"]]\ntake s FACETS [[\"170141183460469231731687303715884105727\",\"1\"]]\n",
-            "ok\nno 6 BadValue number\nok\n",
-            Status::SomeRefused,
-            0,
-        ),
-        // A row whose primitive row leaves the range: the numerators over the common denominator, or the denominator.
-        (
-            "new s Polytope\ntake s FACETS [[\"170141183460469231731687303715884105727\",\"1/2\"]]\ntake s FACETS [[\"1/170141183460469231731687303715884105727\",\"1/2\"]]\n",
-            "ok\nno 6 BadValue row\nno 6 BadValue row\n",
-            Status::SomeRefused,
-            0,
-        ),
-        // A product of a vertex and a facet leaves the range: the client fails, and no other chain is left.
-        (
-            "new s Polytope\ntake s VERTICES [[1,0],[1,9223372036854775807]]\ntake s FACETS [[0,1],[\"170141183460469231731687303715884105727\",2]]\ngive s VERTICES_IN_FACETS\n",
-            "ok\nok\nok\nno 10 NoChain\n",
-            Status::SomeRefused,
-            1,
-        ),
-        // 33 columns and 34.
-        (
-            "new s Polytope\ntake s FACETS [[1,1,1,1,1,1,1,1,1,1,1,1,1,1,1,1,1,1,1,1,1,1,1,1,1,1,1,1,1,1,1,1,1,1]]\ntake s FACETS [[1,1,1,1,1,1,1,1,1,1,1,1,1,1,1,1,1,1,1,1,1,1,1,1,1,1,1,1,1,1,1,1,1]]\n",
-            "ok\nno 6 BadValue limit\nok\n",
-            Status::SomeRefused,
-            0,
-        ),
-        // Other reasons why a value is refused.
-        (
-            "new s Polytope\ntake s VERTICES [[1,0]\ntake s VERTICES 7\ntake s VERTICES [[0,0]]\n",
-            "ok\nno 6 BadValue json\nno 6 BadValue shape\nno 6 BadValue row\n",
-            Status::SomeRefused,
-            0,
-        ),
-    ] {
+    for (script, replies, status, starts) in SCRIPTS {
         let ran = run(alloc, script.as_bytes())?;
-        assert_eq!(rt; ran.text.as_slice(), replies.as_bytes(), "of {script}");
-        assert_eq!(rt; ran.status, status, "of {script}");
-        assert_eq!(rt; ran.starts, starts, "of {script}");
+        check(&rt, &ran, *status, replies, *starts, script);
     }
     Ok(())
 }
@@ -250,38 +285,52 @@ fn refuses_an_object_too_many(rt: HostRuntime) -> Result<(), Fail> {
         replies.push_str("ok\n")?;
     }
     let ran = run(alloc, script.as_bytes())?;
-    assert_eq!(rt; ran.text.as_slice(), replies.as_bytes());
-    assert_eq!(rt; ran.status, Status::Answered);
+    check(
+        &rt,
+        &ran,
+        Status::Answered,
+        replies.as_str(),
+        0,
+        "32 objects",
+    );
     script.push_str("new s32 Polytope\n")?;
     replies.push_str("no 9 ObjectsFull\n")?;
     let ran = run(alloc, script.as_bytes())?;
-    assert_eq!(rt; ran.text.as_slice(), replies.as_bytes());
-    assert_eq!(rt; ran.status, Status::SomeRefused);
+    check(
+        &rt,
+        &ran,
+        Status::SomeRefused,
+        replies.as_str(),
+        0,
+        "33 objects",
+    );
     Ok(())
 }
+
+const FIRST_LINES: &[(&str, &str)] = &[
+    ("new Z_9 Polytope", "ok\n"),
+    ("new abcdefghijklmnopqrstuvwxyz_12345 Polytope", "ok\n"),
+    (
+        "new abcdefghijklmnopqrstuvwxyz_123456 Polytope",
+        "no 1 BadCommand\n",
+    ),
+    ("new _a Polytope", "no 1 BadCommand\n"),
+    ("new a-b Polytope", "no 1 BadCommand\n"),
+    ("new  Polytope", "no 1 BadCommand\n"),
+    ("new s  Polytope", "no 1 BadCommand\n"),
+    ("new s Polytope ", "no 1 BadCommand\n"),
+    (" new s Polytope", "no 1 BadCommand\n"),
+    ("new s", "no 1 BadCommand\n"),
+    ("new s.t Polytope", "no 4 UnknownType\n"),
+    ("take s VERTICES [[1]]", "no 2 UnknownName\n"),
+    ("take s VERTICES", "no 1 BadCommand\n"),
+];
 
 // First lines, and what is replied to them.
 #[test]
 fn knows_names(rt: HostRuntime) -> Result<(), Fail> {
     let alloc = rt.alloc();
-    for (line, reply) in [
-        ("new Z_9 Polytope", "ok\n"),
-        ("new abcdefghijklmnopqrstuvwxyz_12345 Polytope", "ok\n"),
-        (
-            "new abcdefghijklmnopqrstuvwxyz_123456 Polytope",
-            "no 1 BadCommand\n",
-        ),
-        ("new _a Polytope", "no 1 BadCommand\n"),
-        ("new a-b Polytope", "no 1 BadCommand\n"),
-        ("new  Polytope", "no 1 BadCommand\n"),
-        ("new s  Polytope", "no 1 BadCommand\n"),
-        ("new s Polytope ", "no 1 BadCommand\n"),
-        (" new s Polytope", "no 1 BadCommand\n"),
-        ("new s", "no 1 BadCommand\n"),
-        ("new s.t Polytope", "no 4 UnknownType\n"),
-        ("take s VERTICES [[1]]", "no 2 UnknownName\n"),
-        ("take s VERTICES", "no 1 BadCommand\n"),
-    ] {
+    for (line, reply) in FIRST_LINES {
         let ran = run(alloc, line.as_bytes())?;
         assert_eq!(rt; ran.text.as_slice(), reply.as_bytes(), "to {line}");
     }
@@ -292,8 +341,14 @@ fn knows_names(rt: HostRuntime) -> Result<(), Fail> {
 fn refuses_what_is_no_text(rt: HostRuntime) -> Result<(), Fail> {
     let alloc = rt.alloc();
     let ran = run(alloc, b"new s\xff Polytope\n# \xff\nnew s Polytope\n")?;
-    assert_eq!(rt; ran.text.as_slice(), b"no 1 BadCommand\nok\n".as_slice());
-    assert_eq!(rt; ran.status, Status::SomeRefused);
+    check(
+        &rt,
+        &ran,
+        Status::SomeRefused,
+        "no 1 BadCommand\nok\n",
+        0,
+        "no text",
+    );
     Ok(())
 }
 
@@ -302,12 +357,18 @@ fn refuses_what_is_no_text(rt: HostRuntime) -> Result<(), Fail> {
 fn refuses_long_lines(rt: HostRuntime) -> Result<(), Fail> {
     let alloc = rt.alloc();
     let mut line: Vec<u8> = vec![in alloc; b'#'; 1_048_576]?;
-    assert_eq!(rt; run(alloc, &line)?.text.as_slice(), b"".as_slice());
+    let ran = run(alloc, &line)?;
+    check(&rt, &ran, Status::Answered, "", 0, "a long line");
     line.push(b'\r')?;
     line.push(b'\n')?;
-    assert_eq!(rt;
-        run(alloc, &line)?.text.as_slice(),
-        b"no 1 BadCommand\n".as_slice()
+    let ran = run(alloc, &line)?;
+    check(
+        &rt,
+        &ran,
+        Status::SomeRefused,
+        "no 1 BadCommand\n",
+        0,
+        "a line too long",
     );
     Ok(())
 }
@@ -327,21 +388,34 @@ fn refuses_a_script_with_one_byte_more(rt: HostRuntime) -> Result<(), Fail> {
     script[1] = b'x';
     script[2] = b'\n';
     let ran = run(alloc, &script)?;
-    assert_eq!(rt; ran.status, Status::SomeRefused);
-    assert_eq!(rt; ran.text.as_slice(), b"no 1 BadCommand\n".as_slice());
+    check(
+        &rt,
+        &ran,
+        Status::SomeRefused,
+        "no 1 BadCommand\n",
+        0,
+        "the longest script",
+    );
     script.push(b'#')?;
     let ran = run(alloc, &script)?;
-    assert_eq!(rt; ran.status, Status::TooLong);
-    assert_eq!(rt; ran.text.as_slice(), b"".as_slice());
+    check(&rt, &ran, Status::TooLong, "", 0, "one byte more");
     Ok(())
 }
 
 // The script's 100 bytes are read in two calls, and a third finds the end.
+const FAILING_READS: &[(u64, Status, &str, u64, &str)] = &[
+    (0, Status::SourceFault, "", 0, "the first read"),
+    (1, Status::SourceFault, "", 0, "the second read"),
+    (2, Status::SourceFault, "", 0, "the read at the end"),
+    (3, Status::Answered, REPLIES, 1, "a read that is not made"),
+    (4, Status::Answered, REPLIES, 1, "another one"),
+];
+
 #[test]
 fn stops_at_a_failing_source(rt: HostRuntime) -> Result<(), Fail> {
     let alloc = rt.alloc();
-    for number in 0..5u64 {
-        let failing = vec![in alloc; number]?;
+    for (number, status, text, starts, of) in FAILING_READS {
+        let failing = vec![in alloc; *number]?;
         let ran = run_in_pieces(
             alloc,
             &NO_WORDS,
@@ -350,29 +424,24 @@ fn stops_at_a_failing_source(rt: HostRuntime) -> Result<(), Fail> {
             failing,
             Vec::new(alloc),
         )?;
-        let (wanted, written, starts) = if number < 3 {
-            (Status::SourceFault, "", 0)
-        } else {
-            (Status::Answered, REPLIES, 1)
-        };
-        assert_eq!(rt; ran.status, wanted, "at call {number}");
-        assert_eq!(rt; ran.text.as_slice(), written.as_bytes(), "at call {number}");
-        assert_eq!(rt; ran.starts, starts, "at call {number}");
+        check(&rt, &ran, *status, text, *starts, of);
     }
     Ok(())
 }
 
 // Each reply is one call of the sink. The client was started also where its reply cannot be written.
+const FAILING_WRITES: &[(u64, &str, u64, &str)] = &[
+    (0, "", 0, "the first write"),
+    (1, "ok\n", 0, "the second write"),
+    (2, "ok\nok\n", 0, "the third write"),
+    (3, "ok\nok\nok\n", 1, "the fourth write"),
+];
+
 #[test]
 fn stops_at_a_failing_sink(rt: HostRuntime) -> Result<(), Fail> {
     let alloc = rt.alloc();
-    for (number, written, starts) in [
-        (0u64, "", 0u64),
-        (1, "ok\n", 0),
-        (2, "ok\nok\n", 0),
-        (3, "ok\nok\nok\n", 1),
-    ] {
-        let failing = vec![in alloc; number]?;
+    for (number, text, starts, of) in FAILING_WRITES {
+        let failing = vec![in alloc; *number]?;
         let ran = run_in_pieces(
             alloc,
             &NO_WORDS,
@@ -381,9 +450,7 @@ fn stops_at_a_failing_sink(rt: HostRuntime) -> Result<(), Fail> {
             Vec::new(alloc),
             failing,
         )?;
-        assert_eq!(rt; ran.status, Status::SinkFault, "at call {number}");
-        assert_eq!(rt; ran.text.as_slice(), written.as_bytes(), "at call {number}");
-        assert_eq!(rt; ran.starts, starts, "at call {number}");
+        check(&rt, &ran, Status::SinkFault, text, *starts, of);
     }
     Ok(())
 }
@@ -400,9 +467,7 @@ fn takes_no_words(rt: HostRuntime) -> Result<(), Fail> {
         Vec::new(alloc),
         Vec::new(alloc),
     )?;
-    assert_eq!(rt; ran.status, Status::BadWords);
-    assert_eq!(rt; ran.text.as_slice(), b"".as_slice());
-    assert_eq!(rt; ran.starts, 0);
+    check(&rt, &ran, Status::BadWords, "", 0, "a word");
     Ok(())
 }
 

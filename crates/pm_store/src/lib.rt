@@ -64,6 +64,3 @@ pub use mem_source::MemSource;
 pub use std_sink::StdSink;
 pub use std_source::StdSource;
 pub use whole::{ReadFail, read_up_to, write_all};
-
-#[cfg(test)]
-mod tests;

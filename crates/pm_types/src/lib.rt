@@ -12,8 +12,6 @@ mod names;
 mod property;
 mod set;
 mod standard;
-#[cfg(test)]
-mod tests;
 mod value;
 mod weight;
 

@@ -1,24 +1,16 @@
 // Cones and polytopes by each of their descriptions: the dimensions, truth values and rows that all standard clients find.
 
-use crate::{Status, polymake};
+use super::{NO_WORDS, Ran, check, run_with};
+use crate::Status;
 use pm_client::Client;
 use pm_clients_comb::SetsClient;
 use pm_clients_geom::{DimClient, RowsClient, TestClient};
-use pm_store::{MemSink, MemSource};
 use std::alloc::{AllocError, Global};
 use std::process::Abort;
 use std::test::Fail;
 
-/// What a run of the program over all standard clients leaves: its status, what was written, and how many runs were started.
-#[derive(Drop)]
-struct Ran {
-    status: Status,
-    text: Vec<u8>,
-    starts: u64,
-}
-
+/// A run of the program over all standard clients.
 fn run(alloc: Global, script: &str) -> Result<Ran, AllocError> {
-    let words: [String; 0] = [];
     let mut clients: Vec<Box<dyn Client>> = Vec::new(alloc);
     for k in 0..RowsClient::COUNT {
         clients.push(Box::new(alloc, RowsClient::new(k))?)?;
@@ -32,19 +24,15 @@ fn run(alloc: Global, script: &str) -> Result<Ran, AllocError> {
     for k in 0..SetsClient::COUNT {
         clients.push(Box::new(alloc, SetsClient::new(k))?)?;
     }
-    let mut source = MemSource::new(script.as_bytes().to_vec(alloc)?, 4096, Vec::new(alloc));
-    let mut sink = MemSink::new(alloc, 100_000, Vec::new(alloc))?;
-    let status = polymake(alloc, &words, &mut clients, &mut source, &mut sink);
-    let text = sink.bytes().to_vec(alloc)?;
-    let mut starts = 0u64;
-    for client in &clients {
-        starts = starts.saturating_add(client.starts());
-    }
-    Ok(Ran {
-        status,
-        text,
-        starts,
-    })
+    run_with(
+        alloc,
+        &NO_WORDS,
+        &mut clients,
+        script.as_bytes(),
+        4096,
+        Vec::new(alloc),
+        Vec::new(alloc),
+    )
 }
 
 // Runs a script, and compares what it writes and how many runs it starts.
@@ -64,10 +52,7 @@ fn answers(
         replies.push_str("\n")?;
     }
     let ran = run(alloc, script.as_str())?;
-    let text = String::from_utf8(ran.text)?;
-    assert_eq!(rt; text.as_str(), replies.as_str(), "of {script}");
-    assert_eq!(rt; ran.status, wanted, "of {script}");
-    assert_eq!(rt; ran.starts, starts, "of {script}");
+    check(rt, &ran, wanted, replies.as_str(), starts, script.as_str());
     Ok(())
 }
 

@@ -1,16 +1,12 @@
 // A client of the tests' own beside the standard one.
 
-ghost use Rattle.std.specs.Prelude.{◌<◌};
-
-use super::{NO_WORDS, REPLIES, SCRIPT};
-use crate::{Status, polymake};
+use super::{NO_WORDS, REPLIES, Ran, SCRIPT, check, run_with};
+use crate::Status;
 use pm_client::{Client, ClientFail};
 use pm_clients_comb::SetsClient;
 use pm_object::{Draft, View};
-use pm_store::{MemSink, MemSource};
 use pm_types::{Kind, StandardClient};
-use std::alloc::Global;
-use std::test::Fail;
+use std::alloc::{AllocError, Global};
 
 // Of the kind `incidence`; it never has the memory that it wants.
 #[derive(Drop)]
@@ -39,32 +35,47 @@ impl Client for Starved {
     }
 }
 
+// A run over two clients of one kind, of which one or the other comes first, and which of them were started.
+fn run_two(alloc: Global, starved_first: bool) -> Result<(Ran, [u64; 2]), AllocError> {
+    let mut clients: Vec<Box<dyn Client>> = Vec::new(alloc);
+    if starved_first {
+        clients.push(Box::new(alloc, Starved { starts: 0 })?)?;
+    }
+    clients.push(Box::new(alloc, SetsClient::new(0))?)?;
+    if !starved_first {
+        clients.push(Box::new(alloc, Starved { starts: 0 })?)?;
+    }
+    let ran = run_with(
+        alloc,
+        &NO_WORDS,
+        &mut clients,
+        SCRIPT.as_bytes(),
+        4096,
+        Vec::new(alloc),
+        Vec::new(alloc),
+    )?;
+    let mut starts = [0u64; 2];
+    for (client, number) in clients.iter().zip(starts.iter_mut()) {
+        *number = client.starts();
+    }
+    Ok((ran, starts))
+}
+
 // The first client of the kind that the rule names is run, and no other.
 #[test]
-fn the_first_client_of_its_kind_is_run(rt: HostRuntime) -> Result<(), Fail> {
-    let alloc = rt.alloc();
-    for (first, wanted, written) in [
-        (false, Status::Answered, REPLIES),
-        (true, Status::OutOfMemory, "ok\nok\nok\n"),
-    ] {
-        let mut clients: Vec<Box<dyn Client>> = Vec::new(alloc);
-        if first {
-            clients.push(Box::new(alloc, Starved { starts: 0 })?)?;
-        }
-        clients.push(Box::new(alloc, SetsClient::new(0))?)?;
-        if !first {
-            clients.push(Box::new(alloc, Starved { starts: 0 })?)?;
-        }
-        let mut source = MemSource::new(SCRIPT.as_bytes().to_vec(alloc)?, 4096, Vec::new(alloc));
-        let mut sink = MemSink::new(alloc, 100_000, Vec::new(alloc))?;
-        let status = polymake(alloc, &NO_WORDS, &mut clients, &mut source, &mut sink);
-        assert_eq!(rt; status, wanted, "first: {first}");
-        assert_eq!(rt; sink.bytes(), written.as_bytes(), "first: {first}");
-        let mut starts: Vec<u64> = Vec::new(alloc);
-        for client in &clients {
-            starts.push(client.starts())?;
-        }
-        assert_eq!(rt; starts.as_slice(), [1u64, 0].as_slice(), "first: {first}");
-    }
+fn the_first_client_of_its_kind_is_run(rt: HostRuntime) -> Result<(), AllocError> {
+    let (ran, starts) = run_two(rt.alloc(), false)?;
+    check(&rt, &ran, Status::Answered, REPLIES, 1, "the standard one");
+    assert_eq!(rt; starts, [1, 0]);
+    let (ran, starts) = run_two(rt.alloc(), true)?;
+    check(
+        &rt,
+        &ran,
+        Status::OutOfMemory,
+        "ok\nok\nok\n",
+        1,
+        "the starved one",
+    );
+    assert_eq!(rt; starts, [1, 0]);
     Ok(())
 }

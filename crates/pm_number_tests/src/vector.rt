@@ -1,0 +1,171 @@
+use pm_vector::{
+    Ints, Wide, all_in_range, combine, dot, first_wide_place, gcd, gcd_of, lex_cmp, negate,
+    primitive,
+};
+use std::alloc::{AllocError, Global};
+use std::cmp::Ordering;
+use std::process::Abort;
+use std::test::Fail;
+
+const HIGH: i128 = i128::MAX;
+
+const PRODUCTS: &[(&[i128], &[i128], Result<i128, Wide>)] = &[
+    (&[1, 2, 3], &[4, -5, 6], Ok(12)),
+    (&[HIGH, 0, 0], &[1, 1, 1], Ok(HIGH)),
+    (&[HIGH, 0, 0], &[-1, 1, 1], Ok(-HIGH)),
+    (&[HIGH, -1, 1], &[1, 1, 1], Ok(HIGH)),
+    (&[HIGH, 1, -2], &[1, 1, 1], Err(Wide)),
+    (&[-HIGH, -1, 2], &[1, 1, 1], Err(Wide)),
+    (&[HIGH, 0, 0], &[2, 1, 1], Err(Wide)),
+    (&[1 << 126, 1 << 126, -1], &[1, 1, 1], Err(Wide)),
+    (&[1 << 126, (1 << 126) - 1, 0], &[1, 1, 1], Ok(HIGH)),
+    (&[1 << 64, 0, 0], &[1 << 63, 0, 0], Err(Wide)),
+    (&[1 << 64, 0, 0], &[-(1 << 63), 0, 0], Err(Wide)),
+    (&[], &[], Ok(0)),
+];
+
+#[test]
+fn dot_at_the_ends_of_the_range(rt: HostRuntime) {
+    for (a, b, want) in PRODUCTS {
+        assert!(rt; a.len() == b.len());
+        assert_eq!(rt; dot(a, b), *want);
+    }
+}
+
+/// A row of these entries.
+fn row_of(rt: &impl Abort, alloc: Global, entries: &[i128]) -> Result<Ints, AllocError> {
+    assert!(rt; all_in_range(entries));
+    Ok(Ints::from_vec(entries.to_vec(alloc)?))
+}
+
+#[test]
+fn rows_hold_entries(rt: HostRuntime) -> Result<(), Fail> {
+    let mut row = Ints::new(rt.alloc());
+    assert!(rt; row.is_empty());
+    assert!(rt; !all_in_range(&[HIGH, -HIGH, i128::MIN]));
+    row.push(HIGH)?;
+    row.push(-HIGH)?;
+    assert_eq!(rt; row.len(), 2);
+    assert_eq!(rt; row.get(1), -HIGH);
+    let copy = row.copy(rt.alloc())?;
+    assert_eq!(rt; copy, row);
+    assert_eq!(rt;
+        Ints::from_vec(copy.into_vec()).as_slice(),
+        [HIGH, -HIGH].as_slice()
+    );
+    Ok(())
+}
+
+const UNSORTED: &[&[i128]] = &[&[1, -2], &[1], &[-3, 9], &[1, -7, 4]];
+
+/// Rows in order, which stood in another one.
+fn sorted_rows(rt: &impl Abort, alloc: Global) -> Result<Vec<Ints>, AllocError> {
+    let mut rows = Vec::new(alloc);
+    for entries in UNSORTED {
+        rows.push(row_of(rt, alloc, entries)?)?;
+    }
+    rows.sort()?;
+    Ok(rows)
+}
+
+#[test]
+fn rows_sort(rt: HostRuntime) -> Result<(), AllocError> {
+    let rows = sorted_rows(&rt, rt.alloc())?;
+    let shown = format!(in rt.alloc(); "{rows:?}")?;
+    let sorted =
+        "[Ints { entries: [-3, 9] }, Ints { entries: [1] }, Ints { entries: [1, -7, 4] }, Ints { entries: [1, -2] }]";
+    assert_eq!(rt; shown.as_str(), sorted);
+    Ok(())
+}
+
+#[test]
+fn sorted_rows_compare(rt: HostRuntime) -> Result<(), AllocError> {
+    let rows = sorted_rows(&rt, rt.alloc())?;
+    assert_eq!(rt; rows.len(), 4);
+    assert_eq!(rt; lex_cmp(&rows[1], &rows[2]), Ordering::Less);
+    assert!(rt; rows[3] > rows[2]);
+    Ok(())
+}
+
+const COMBINATIONS: &[(i128, &[i128], i128, &[i128], Result<&[i128], Wide>)] = &[
+    (2, &[1, -2], 3, &[4, 5], Ok(&[-10, -19])),
+    (1, &[HIGH, 0], 0, &[7, 7], Ok(&[HIGH, 0])),
+    (1, &[HIGH, 0], -1, &[-1, 1], Ok(&[HIGH - 1, 1])),
+    (1, &[0, HIGH], 1, &[0, -1], Err(Wide)),
+    (-1, &[0, HIGH], 1, &[0, 1], Err(Wide)),
+    (-1, &[0, HIGH], 0, &[0, 1], Ok(&[0, -HIGH])),
+    (2, &[HIGH, 0], 1, &[HIGH, 0], Err(Wide)),
+    (1, &[5, 3], 2, &[1, HIGH], Err(Wide)),
+];
+
+/// Asks for p v - q w, where v and w have these entries.
+fn check_combination(
+    rt: &impl Abort,
+    alloc: Global,
+    (p, first): (i128, &[i128]),
+    (q, second): (i128, &[i128]),
+    want: Result<&[i128], Wide>,
+) -> Result<(), AllocError> {
+    let mut v = row_of(rt, alloc, first)?;
+    let w = row_of(rt, alloc, second)?;
+    assert!(rt; v.len() == w.len());
+    let answer = combine(p, &mut v, q, &w);
+    assert_eq!(rt; answer.is_ok(), want.is_ok());
+    assert_eq!(rt; v.as_slice(), want.unwrap_or(first));
+    Ok(())
+}
+
+#[test]
+fn combine_at_the_ends_of_the_range(rt: HostRuntime) -> Result<(), AllocError> {
+    for (p, first, q, second, want) in COMBINATIONS {
+        check_combination(&rt, rt.alloc(), (*p, first), (*q, second), *want)?;
+    }
+    Ok(())
+}
+
+#[test]
+fn first_place_out_of_the_range(rt: HostRuntime) {
+    assert_eq!(rt;
+        first_wide_place(1, &[5, HIGH, HIGH], 1, &[5, -1, -1]),
+        Some(1)
+    );
+    assert_eq!(rt;
+        first_wide_place(2, &[5, 6, HIGH], 1, &[5, -1, HIGH]),
+        Some(2)
+    );
+    assert_eq!(rt; first_wide_place(1, &[5, HIGH], 1, &[5, 1]), None);
+}
+
+const PRIMITIVE_ROWS: &[(&[i128], &[i128])] = &[
+    (&[4, -6, 0], &[2, -3, 0]),
+    (&[0, 0, 0], &[0, 0, 0]),
+    (&[-5, 0, 0], &[-1, 0, 0]),
+    (&[6, 10, 15], &[6, 10, 15]),
+    (&[-HIGH, HIGH, 0], &[-1, 1, 0]),
+];
+
+#[test]
+fn primitive_rows(rt: HostRuntime) -> Result<(), AllocError> {
+    for (entries, want) in PRIMITIVE_ROWS {
+        let mut row = row_of(&rt, rt.alloc(), entries)?;
+        primitive(&mut row);
+        assert_eq!(rt; row.as_slice(), *want);
+    }
+    Ok(())
+}
+
+#[test]
+fn opposite_row(rt: HostRuntime) -> Result<(), AllocError> {
+    let mut row = row_of(&rt, rt.alloc(), &[3, -HIGH, 0])?;
+    negate(&mut row);
+    assert_eq!(rt; row.as_slice(), [-3, HIGH, 0].as_slice());
+    Ok(())
+}
+
+#[test]
+fn common_divisors(rt: HostRuntime) {
+    assert_eq!(rt; gcd(0, 0), 0);
+    assert_eq!(rt; gcd(0, 12), 12);
+    assert_eq!(rt; gcd(1 << 127, 96), 32);
+    assert_eq!(rt; gcd_of(&[12, -18, 30]), 6);
+}

@@ -1,0 +1,273 @@
+// What no clause says: texts of replies, and lines as they are read, with memory at hand.
+
+use pm_fraction::Fraction;
+use pm_matrix::Matrix;
+use pm_script::{
+    Command, LineFail, Ref, Refusal, Reply, ValueWhy, is_silent, read_line, reply_bytes, split_line,
+};
+use pm_types::{ObjectType, PropId, Sets, Value};
+use std::alloc::{AllocError, Global};
+use std::process::Abort;
+use std::test::Fail;
+
+// A name, and the part's name behind a bar.
+fn shown_ref(alloc: Global, obj: &Ref) -> Result<String, AllocError> {
+    let name = obj.name.as_str();
+    match &obj.sub {
+        Some(sub) => format!(in alloc; "{name}|{sub}"),
+        None => format!(in alloc; "{name}"),
+    }
+}
+
+// A word, a name, and the words behind it.
+fn words(
+    alloc: Global,
+    verb: &str,
+    obj: &Ref,
+    prop: &str,
+    json: Option<&str>,
+) -> Result<String, AllocError> {
+    let obj = shown_ref(alloc, obj)?;
+    match json {
+        Some(json) => format!(in alloc; "{verb} {obj} {prop} {json}"),
+        None => format!(in alloc; "{verb} {obj} {prop}"),
+    }
+}
+
+// The words of a command.
+fn command_text(alloc: Global, command: &Command) -> Result<String, AllocError> {
+    match command {
+        Command::Blank => String::from_str(alloc, "blank"),
+        Command::New { obj, of } => words(alloc, "new", obj, of, None),
+        Command::Take { obj, prop, json } => words(alloc, "take", obj, prop, Some(json)),
+        Command::Give { obj, prop } => words(alloc, "give", obj, prop, None),
+        Command::Lookup { obj, prop } => words(alloc, "lookup", obj, prop, None),
+    }
+}
+
+// The words of a line, or `-` where it speaks no command.
+fn shown(rt: &(impl Abort + AllocGlobal), line: &[u8]) -> String {
+    let text = match read_line(rt.alloc(), line) {
+        Ok(command) => command_text(rt.alloc(), &command),
+        Err(fail) => {
+            assert_eq!(rt; fail, LineFail::BadCommand);
+            String::from_str(rt.alloc(), "-")
+        }
+    };
+    text.expect(rt, "the text")
+}
+
+// Lines and their words.
+const LINES: &[(&str, &str)] = &[
+    ("", "blank"),
+    (" \t ", "blank"),
+    ("# new s Polytope", "blank"),
+    (" # new s Polytope", "-"),
+    ("\r", "-"),
+    ("new s Polytope", "new s Polytope"),
+    ("new Z_9.lp0 LP", "new Z_9|lp0 LP"),
+    ("new s Poly2", "-"),
+    ("new s", "-"),
+    ("new s ", "-"),
+    (" new s Polytope", "-"),
+    ("new  s Polytope", "-"),
+    ("new s Polytope ", "-"),
+    ("new s\tPolytope", "-"),
+    ("new _s Polytope", "-"),
+    ("new 9s Polytope", "-"),
+    ("new s. LP", "-"),
+    ("new .s LP", "-"),
+    ("new s.a.b LP", "-"),
+    (
+        "new abcdefghijklmnopqrstuvwxyz_12345 Fan",
+        "new abcdefghijklmnopqrstuvwxyz_12345 Fan",
+    ),
+    ("new abcdefghijklmnopqrstuvwxyz_123456 Fan", "-"),
+    ("take s FACETS [[\"0\",1]]", "take s FACETS [[\"0\",1]]"),
+    ("take s FACETS  [ ] ", "take s FACETS  [ ] "),
+    ("take s FACETS \u{e9}", "take s FACETS \u{e9}"),
+    ("take s FACETS ", "-"),
+    ("take s FACETS", "-"),
+    ("take s facets []", "-"),
+    ("take s LP.MAXIMAL_VALUE 1", "-"),
+    (
+        "take s.a LINEAR_OBJECTIVE [1]",
+        "take s|a LINEAR_OBJECTIVE [1]",
+    ),
+    ("give s F2_VECTOR", "give s F2_VECTOR"),
+    ("give s F2_VECTOR FACETS", "-"),
+    (
+        "give s ABCDEFGHIJKLMNOPQRSTUVWXYZ_12345",
+        "give s ABCDEFGHIJKLMNOPQRSTUVWXYZ_12345",
+    ),
+    ("give s ABCDEFGHIJKLMNOPQRSTUVWXYZ_123456", "-"),
+    ("lookup s FACETS", "lookup s FACETS"),
+    ("Lookup s FACETS", "-"),
+    ("rules", "-"),
+];
+
+#[test]
+fn lines_are_read(rt: HostRuntime) {
+    for (line, want) in LINES {
+        assert_eq!(rt; shown(&rt, line.as_bytes()).as_str(), *want, "in {line}");
+    }
+}
+
+// Lines that are no UTF-8, and their words.
+const LINES_OF_BYTES: &[(&[u8], &str)] = &[(&[35, 255], "blank"), (&[116, 255], "-")];
+
+#[test]
+fn lines_of_any_bytes_are_read(rt: HostRuntime) {
+    for (line, want) in LINES_OF_BYTES {
+        assert_eq!(rt; shown(&rt, line).as_str(), *want);
+    }
+}
+
+#[test]
+fn lines_are_split(rt: HostRuntime) {
+    let text: &[u8] = "give\r\n#\nlast\r".as_bytes();
+    assert!(rt; !text.is_empty());
+    let (first, after) = split_line(text);
+    assert!(rt;
+        first.text() == "give".as_bytes() && !first.is_too_long() && !is_silent(first.text())
+    );
+    assert!(rt; !after.is_empty());
+    let (second, after) = split_line(after);
+    assert!(rt; second.text() == "#".as_bytes() && is_silent(second.text()));
+    assert!(rt; !after.is_empty());
+    let (third, after) = split_line(after);
+    assert!(rt; third.text() == "last\r".as_bytes() && after.is_empty());
+}
+
+fn check_reply(
+    rt: &impl Abort,
+    alloc: Global,
+    reply: &Reply,
+    is_refusal: bool,
+    want: &str,
+) -> Result<(), Fail> {
+    let text = reply_bytes(alloc, reply)?;
+    assert_eq!(rt; text.as_slice(), want.as_bytes(), "for {want}");
+    assert!(rt; reply.is_refusal() == is_refusal, "for {want}");
+    Ok(())
+}
+
+// A value of a cone is written as a text.
+fn check_written(
+    rt: &impl Abort,
+    alloc: Global,
+    prop: PropId,
+    value: Value,
+    want: &str,
+) -> Result<(), Fail> {
+    let reply = Reply::Value {
+        name: String::from_str(alloc, "c")?,
+        of: ObjectType::Cone,
+        prop,
+        value,
+    };
+    check_reply(rt, alloc, &reply, false, want)
+}
+
+#[test]
+fn matrices_are_written(rt: HostRuntime) -> Result<(), Fail> {
+    let alloc = rt.alloc();
+    let mut rays = Matrix::new(alloc, 2);
+    rays.push_row(&[Fraction::one(), Fraction::new(-2, 4)?])?;
+    rays.push_row(&[Fraction::zero(), Fraction::from_whole(i128::MAX)?])?;
+    check_written(
+        &rt,
+        alloc,
+        PropId::Vertices,
+        Value::Mat(rays),
+        "c RAYS [[\"1\",\"-1/2\"],[\"0\",\"170141183460469231731687303715884105727\"]]\n",
+    )?;
+    let empty = Value::Mat(Matrix::new(alloc, 0));
+    check_written(&rt, alloc, PropId::Facets, empty, "c FACETS []\n")?;
+    let empty = Value::Mat(Matrix::new(alloc, 3));
+    check_written(
+        &rt,
+        alloc,
+        PropId::Facets,
+        empty,
+        "c FACETS [{\"cols\":3}]\n",
+    )
+}
+
+#[test]
+fn sets_are_written(rt: HostRuntime) -> Result<(), Fail> {
+    let alloc = rt.alloc();
+    let mut sets = Vec::new(alloc);
+    sets.push(vec![in alloc; 0, 12]?)?;
+    sets.push(Vec::new(alloc))?;
+    check_written(
+        &rt,
+        alloc,
+        PropId::VerticesInFacets,
+        Value::Sets(Sets::from_vec(sets, 13)),
+        "c RAYS_IN_FACETS [[0,12],[],{\"cols\":13}]\n",
+    )?;
+    check_written(
+        &rt,
+        alloc,
+        PropId::VerticesInFacets,
+        Value::Sets(Sets::from_vec(Vec::new(alloc), 0)),
+        "c RAYS_IN_FACETS [{\"cols\":0}]\n",
+    )
+}
+
+#[test]
+fn numbers_and_truth_values_are_written(rt: HostRuntime) -> Result<(), Fail> {
+    let alloc = rt.alloc();
+    check_written(
+        &rt,
+        alloc,
+        PropId::ConeAmbientDim,
+        Value::Int(-33),
+        "c CONE_AMBIENT_DIM -33\n",
+    )?;
+    let (yes, no) = (Value::Bool(true), Value::Bool(false));
+    check_written(&rt, alloc, PropId::Pointed, yes, "c POINTED true\n")?;
+    check_written(&rt, alloc, PropId::Simple, no, "c SIMPLE false\n")
+}
+
+// Refusals and their lines.
+const REFUSALS: &[(Refusal, &str)] = &[
+    (Refusal::BadCommand, "no 1 BadCommand\n"),
+    (Refusal::UnknownName, "no 2 UnknownName\n"),
+    (Refusal::NameTaken, "no 3 NameTaken\n"),
+    (Refusal::UnknownType, "no 4 UnknownType\n"),
+    (Refusal::UnknownProperty, "no 5 UnknownProperty\n"),
+    (Refusal::BadValue(ValueWhy::Json), "no 6 BadValue json\n"),
+    (Refusal::BadValue(ValueWhy::Shape), "no 6 BadValue shape\n"),
+    (
+        Refusal::BadValue(ValueWhy::Number),
+        "no 6 BadValue number\n",
+    ),
+    (Refusal::BadValue(ValueWhy::Index), "no 6 BadValue index\n"),
+    (Refusal::BadValue(ValueWhy::Limit), "no 6 BadValue limit\n"),
+    (
+        Refusal::BadValue(ValueWhy::Computed),
+        "no 6 BadValue computed\n",
+    ),
+    (
+        Refusal::BadValue(ValueWhy::Columns),
+        "no 6 BadValue columns\n",
+    ),
+    (Refusal::BadValue(ValueWhy::Row), "no 6 BadValue row\n"),
+    (Refusal::AlreadyHeld, "no 7 AlreadyHeld\n"),
+    (Refusal::Sealed, "no 8 Sealed\n"),
+    (Refusal::ObjectsFull, "no 9 ObjectsFull\n"),
+    (Refusal::NoChain, "no 10 NoChain\n"),
+];
+
+#[test]
+fn replies_are_written(rt: HostRuntime) -> Result<(), Fail> {
+    let alloc = rt.alloc();
+    check_reply(&rt, alloc, &Reply::Done, false, "ok\n")?;
+    check_reply(&rt, alloc, &Reply::Undef, false, "undef\n")?;
+    for (why, want) in REFUSALS {
+        check_reply(&rt, alloc, &Reply::Refused { why: *why }, true, want)?;
+    }
+    Ok(())
+}

@@ -1,0 +1,188 @@
+ghost use Rattle.std.specs.Prelude.{◌≡◌, IfOk, length};
+
+use pm_bits::{BitRow, BitTable};
+use std::alloc::{AllocError, Global};
+use std::cmp::Ordering;
+use std::collections::BTreeMap;
+use std::process::Abort;
+use std::test::Fail;
+
+// Members at the ends of words and of chunks of four words, below ROW_LEN.
+const PLACES: [usize; 7] = [0, 63, 64, 127, 128, 255, 256];
+
+const ROW_LEN: usize = 257;
+
+const SUBSETS: u32 = 128;
+
+// The row of those of the numbers that are below the length.
+fn row_of(alloc: Global, len: usize, members: &[usize]) -> Result<BitRow, AllocError>
+    ensures { IfOk result (λ row. length row ≡ len) }
+{
+    let mut row = BitRow::with_len(alloc, len)?;
+    for member in members {
+        if *member < len {
+            row.set(*member);
+        }
+    }
+    Ok(row)
+}
+
+// The row of the numbers below `end`, of a length.
+fn row_below(alloc: Global, len: usize, end: usize) -> Result<BitRow, AllocError>
+    ensures { IfOk result (λ row. length row ≡ len) }
+{
+    let mut row = BitRow::with_len(alloc, len)?;
+    for member in 0..len {
+        if member < end {
+            row.set(member);
+        }
+    }
+    Ok(row)
+}
+
+// The row of the places whose bit is set in `subset`.
+fn row_of_subset(alloc: Global, subset: u32) -> Result<BitRow, AllocError>
+    ensures { IfOk result (λ row. length row ≡ ROW_LEN) }
+{
+    let mut row = BitRow::with_len(alloc, ROW_LEN)?;
+    let mut rest = subset;
+    for place in PLACES {
+        if rest % 2 == 1 && place < ROW_LEN {
+            row.set(place);
+        }
+        rest /= 2;
+    }
+    Ok(row)
+}
+
+// How two subsets compare: whichever has the first place that only one of them has comes first.
+fn order_of_subsets(one: u32, other: u32) -> Ordering {
+    let mut x = one;
+    let mut y = other;
+    for _ in PLACES {
+        if x % 2 != y % 2 {
+            return if x % 2 == 1 {
+                Ordering::Less
+            } else {
+                Ordering::Greater
+            };
+        }
+        x /= 2;
+        y /= 2;
+    }
+    Ordering::Equal
+}
+
+// Whether all that is asked of two rows is what it is of the subsets that they were made of.
+fn rows_agree(x: &BitRow, y: &BitRow, one: u32, other: u32) -> bool
+    requires { length x.now ≡ length y.now }
+{
+    let order = order_of_subsets(one, other);
+    (x.cmp_lanes(y) == order)
+        & (x.cmp(y) == order)
+        & ((x == y) == (one == other))
+        & (x.eq_lanes(y) == (one == other))
+        & (x.contains(y) == (one & other == other))
+}
+
+// How many members two rows share.
+fn shared_count(alloc: Global, x: &BitRow, y: &BitRow) -> Result<usize, AllocError>
+    requires { length x.now ≡ length y.now }
+{
+    let mut both = row_below(alloc, x.len(), x.len())?;
+    x.meet_into(y, &mut both);
+    Ok(both.count())
+}
+
+#[test]
+fn counts_two_members_of_seventy(rt: HostRuntime) -> Result<(), Fail> {
+    let row = row_of(rt.alloc(), 70, &[3, 69])?;
+    assert!(rt; row.count() == 2);
+    assert!(rt; row.get(3) & row.get(69) & !row.get(5) & !row.get(67));
+    let mut table = BitTable::new(rt.alloc(), 70);
+    assert!(rt; table.push(row).is_ok());
+    assert!(rt; table.len() == 1);
+    assert!(rt; table.row(0).count() == 2);
+    Ok(())
+}
+
+fn check_full_row(rt: &impl Abort, alloc: Global, len: usize) -> Result<(), AllocError> {
+    let full = row_below(alloc, len, len)?;
+    let most = row_below(alloc, len, len.saturating_sub(1))?;
+    assert!(rt; full.count() == len, "at length {len}");
+    assert!(rt; full.contains(&most), "at length {len}");
+    assert!(rt; most.contains(&full) == (len == 0), "at length {len}");
+    assert!(rt;
+        shared_count(alloc, &full, &most)? == len.saturating_sub(1),
+        "at length {len}"
+    );
+    Ok(())
+}
+
+#[test]
+fn tells_a_full_row_from_all_but_its_last_number(rt: HostRuntime) -> Result<(), AllocError> {
+    for len in 0..201 {
+        check_full_row(&rt, rt.alloc(), len)?;
+    }
+    Ok(())
+}
+
+#[test]
+fn compares_all_subsets_of_a_few_places(rt: HostRuntime) -> Result<(), Fail> {
+    for one in 0..SUBSETS {
+        let x = row_of_subset(rt.alloc(), one)?;
+        for other in 0..SUBSETS {
+            let y = row_of_subset(rt.alloc(), other)?;
+            assert!(rt; rows_agree(&x, &y, one, other));
+            assert!(rt; shared_count(rt.alloc(), &x, &y)? == (one & other).count_ones() as usize);
+        }
+    }
+    Ok(())
+}
+
+#[test]
+fn rows_are_keys_of_a_map(rt: HostRuntime) -> Result<(), Fail> {
+    let mut names = BTreeMap::new(rt.alloc());
+    for (len, member, name) in [(70, 69, 'c'), (70, 3, 'x'), (69, 0, 'a'), (70, 3, 'b')] {
+        names.insert(row_of(rt.alloc(), len, &[member])?, name)?;
+    }
+    let mut in_order = String::new(rt.alloc());
+    for name in names.values() {
+        in_order.push(*name)?;
+    }
+    assert!(rt; in_order.as_str() == "abc");
+    let key = row_of(rt.alloc(), 70, &[3])?;
+    assert!(rt; names.get(&key) == Some(&'b'));
+    Ok(())
+}
+
+// The table of these rows, of length 300.
+fn table_of(rt: &impl Abort, alloc: Global, rows: &[&[usize]]) -> Result<BitTable, AllocError> {
+    let mut table = BitTable::new(alloc, 300);
+    for members in rows {
+        let row = row_of(alloc, 300, members)?;
+        assert!(rt; row.len() == table.row_len());
+        assert!(rt; table.push(row).is_ok());
+    }
+    Ok(table)
+}
+
+#[test]
+fn looks_for_another_row(rt: HostRuntime) -> Result<(), AllocError> {
+    let table = table_of(&rt, rt.alloc(), &[&[64, 299], &[5, 299], &[64, 299]])?;
+    let part = row_of(rt.alloc(), 300, &[64])?;
+    assert!(rt; part.len() == table.row_len());
+    for (i, j, is_found) in [
+        (0, 2, false),
+        (2, 0, false),
+        (0, 1, true),
+        (1, 2, true),
+        (1, 1, true),
+    ] {
+        assert!(rt;
+            table.other_contains(&part, i, j) == is_found,
+            "but {i} and {j}"
+        );
+    }
+    Ok(())
+}

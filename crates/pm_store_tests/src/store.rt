@@ -1,0 +1,175 @@
+// What no clause says: that calls succeed while memory is there, and the bytes of whole runs.
+
+ghost use Rattle.std.specs.Prelude.{Some};
+
+use pm_store::{
+    Failed, MemSink, MemSource, ReadFail, Sink, Source, StdSink, StdSource, read_up_to, write_all,
+};
+use std::alloc::{AllocError, Global};
+use std::io;
+use std::io::{Cursor, ErrorKind, Read};
+use std::process::Abort;
+
+const TEXT: &[u8] = b"new p Polytope\nshow p\n";
+
+// Reads the text in pieces of this size from a source that fails at these calls.
+fn read_text(
+    rt: &impl Abort,
+    alloc: Global,
+    piece: usize,
+    fail: &[u64],
+    limit: usize,
+) -> Result<Vec<u8>, ReadFail> {
+    assert!(rt; piece > 0);
+    let mut source = MemSource::new(TEXT.to_vec(alloc)?, piece, fail.to_vec(alloc)?);
+    read_up_to(alloc, &mut source, limit)
+}
+
+#[test]
+fn reads_the_same_in_pieces_of_any_size(rt: HostRuntime) -> Result<(), ReadFail> {
+    for piece in [1usize, 3, 1000] {
+        let bytes = read_text(&rt, rt.alloc(), piece, &[], 1000)?;
+        assert_eq!(rt; bytes.as_slice(), TEXT, "in pieces of {piece}");
+    }
+    Ok(())
+}
+
+#[test]
+fn reads_up_to_the_limit_and_no_further(rt: HostRuntime) -> Result<(), ReadFail> {
+    let bytes = read_text(&rt, rt.alloc(), 5, &[], TEXT.len())?;
+    assert_eq!(rt; bytes.as_slice(), TEXT);
+    let refused = read_text(&rt, rt.alloc(), 5, &[], TEXT.len() - 1).err();
+    assert_eq!(rt; refused, Some(ReadFail::TooLong));
+    Ok(())
+}
+
+// 22 bytes in pieces of 5 are five calls, and a sixth finds the end.
+#[test]
+fn hands_on_a_fault_of_each_call(rt: HostRuntime) {
+    for number in 0..8u64 {
+        let answer = read_text(&rt, rt.alloc(), 5, &[number], 1000);
+        let wanted = if number < 6 {
+            Some(ReadFail::Fault)
+        } else {
+            None
+        };
+        assert_eq!(rt; answer.err(), wanted, "at call {number}");
+    }
+}
+
+#[test]
+fn takes_what_there_is_room_for(rt: HostRuntime) -> Result<(), AllocError> {
+    let pieces: &[(&[u8], Result<usize, Failed>)] = &[
+        (b"abc", Ok(3)),
+        (b"def", Ok(2)),
+        (b"f", Err(Failed)),
+        (b"", Ok(0)),
+    ];
+    let mut sink = MemSink::new(rt.alloc(), 5, Vec::new(rt.alloc()))?;
+    for (piece, want) in pieces {
+        assert_eq!(rt; sink.write(piece), *want, "{piece:?}");
+    }
+    assert_eq!(rt; sink.bytes(), b"abcde".as_slice());
+    Ok(())
+}
+
+// Writes all of each piece, or fails at it.
+fn check_writes(rt: &impl Abort, sink: &mut impl Sink, pieces: &[(&[u8], Result<(), Failed>)]) {
+    for (piece, want) in pieces {
+        assert_eq!(rt; write_all(sink, piece), *want, "{piece:?}");
+    }
+}
+
+#[test]
+fn fails_at_the_listed_call(rt: HostRuntime) -> Result<(), AllocError> {
+    let mut sink = MemSink::new(rt.alloc(), 100, [1].to_vec(rt.alloc())?)?;
+    check_writes(
+        &rt,
+        &mut sink,
+        &[
+            (b"ok\n", Ok(())),
+            (b"no\n", Err(Failed)),
+            (b"yes\n", Ok(())),
+        ],
+    );
+    assert_eq!(rt; sink.bytes(), b"ok\nyes\n".as_slice());
+    Ok(())
+}
+
+// Passes on at most one byte a call.
+#[derive(Drop)]
+struct Narrow {
+    inner: MemSink,
+}
+
+impl Sink for Narrow {
+    ghost taken = { λ s. Some s.inner.taken };
+
+    ghost faults = { λ s. s.inner.faults };
+
+    fn write(&mut self, piece: &[u8]) -> Result<usize, Failed> {
+        self.inner.write(&piece[..piece.len().min(1)])
+    }
+}
+
+#[test]
+fn writes_all_byte_by_byte(rt: HostRuntime) -> Result<(), AllocError> {
+    let inner = MemSink::new(rt.alloc(), 100, [5].to_vec(rt.alloc())?)?;
+    let mut sink = Narrow { inner };
+    check_writes(&rt, &mut sink, &[(b"abc", Ok(())), (b"defg", Err(Failed))]);
+    assert_eq!(rt; sink.inner.bytes(), b"abcde".as_slice());
+    Ok(())
+}
+
+// Fails once, and then is at its end.
+#[derive(Drop)]
+struct Broken {
+    has_failed: bool,
+}
+
+impl Read for Broken {
+    fn read(&mut self, _buf: &mut [u8]) -> io::Result<usize> {
+        if self.has_failed {
+            return Ok(0);
+        }
+        self.has_failed = true;
+        Err(io::Error::from(ErrorKind::Interrupted))
+    }
+}
+
+#[test]
+fn reads_through_std(rt: HostRuntime) -> Result<(), ReadFail> {
+    let mut source = StdSource::new(Cursor::new(TEXT));
+    let bytes = read_up_to(rt.alloc(), &mut source, 1000)?;
+    assert_eq!(rt; bytes.as_slice(), TEXT);
+    Ok(())
+}
+
+#[test]
+fn hands_on_a_fault_of_std(rt: HostRuntime) {
+    let mut broken = StdSource::new(Broken { has_failed: false });
+    let answer = read_up_to(rt.alloc(), &mut broken, 1000).err();
+    assert_eq!(rt; answer, Some(ReadFail::Fault));
+}
+
+#[test]
+fn writes_through_std(rt: HostRuntime) {
+    let mut out = [b'.'; 3];
+    let mut sink = StdSink::new(out.as_mut_slice());
+    check_writes(&rt, &mut sink, &[(b"ab", Ok(())), (b"cd", Err(Failed))]);
+    drop(sink);
+    assert_eq!(rt; out, *b"abc");
+}
+
+#[test]
+fn names_its_errors(rt: HostRuntime) -> Result<(), AllocError> {
+    let texts: &[(ReadFail, &str)] = &[
+        (ReadFail::Fault, "the source failed"),
+        (ReadFail::TooLong, "the source is too long"),
+        (ReadFail::Memory, "out of memory"),
+    ];
+    for (fail, text) in texts {
+        assert_eq!(rt; format!(in rt.alloc(); "{fail}")?.as_str(), *text);
+    }
+    Ok(())
+}
