@@ -5,6 +5,7 @@ use Rattle.pm_bases.proofs.Spans.{at_place, same_span_refl, same_span_sym, same_
 use Rattle.pm_bases.proofs.Unique.{echelon_is_unique}
 use Rattle.pm_bases.specs.Bases.{IsEchelonBasis, SameSpan, row_at}
 use Rattle.pm_elim.proofs.RoundLaws.{span_with_row}
+use Rattle.pm_elim.specs.Bases.{IsSomeEchelonBasis}
 use Rattle.pm_elim.specs.Evidence.{IfWide, IsBasisOf, IsWideRound, IsWideStep}
 use Rattle.pm_elim.specs.Refusals.{IfWideStep, IsFailOf, TellsOf}
 use Rattle.pm_elim.specs.EliminationSteps.{EliminationStep}
@@ -15,6 +16,7 @@ use Rattle.pm_elim.specs.declared.refusal.Refusal.{Refusal}
 use Rattle.pm_elim.specs.declared.refusal.Refusal.TheVariants.{Memory as StepMemory, Wide as StepWide}
 use Rattle.pm_elim.specs.declared.refusal.WideStep.{WideStep}
 use Rattle.std.proofs.Common.{arith, inl, inr, refl, subst}
+use Rattle.std.proofs.Math.Seq.{take-length}
 use Rattle.std.proofs.lemmas.Bool.{cases_lt}
 use Rattle.std.proofs.lemmas.List.{take_more}
 use Rattle.std.specs.Prelude.{List, [], length, take, ℕ, ◌++◌, ◌+◌, ◌<◌, ◌∷◌, ◌≡◌, ◌≤◌, ◌^◌}
@@ -43,6 +45,9 @@ pub record BasisSoFar (n : ℕ) (X : List Row) (i : ℕ) (B : List Row) (P : Lis
 
 pub BasisSoFar-none : (n : ℕ) (X : List Row) → BasisSoFar n X 0 [] []
 BasisSoFar-none n X = record { basis = record { echelon = empty_basis n; span = same_span_refl [] }; never_wide = λ e l w. absurd (omega arith) }
+
+pub BasisSoFar-whole : (n : ℕ) (X : List Row) (i : ℕ) (B : List Row) (P : List ℕ) → BasisSoFar n X i B P → i ≡ length X → IsBasisOf n X B P
+BasisSoFar-whole n X i B P s all = rw (all, take-length) at s.basis
 
 module _ (n : ℕ) (X : List Row) (i : ℕ) (B : List Row) (P : List ℕ) (so_far : BasisSoFar n X i B P) (within : i < length X) where
   -- the evidence of this round speaks of this basis
@@ -76,6 +81,20 @@ module _ (n : ℕ) (X : List Row) (i : ℕ) (B : List Row) (P : List ℕ) (so_fa
   fail_is_wide list StepMemory (Wide e) B' w u t = absurd t
   fail_is_wide list StepMemory Memory B' w u t = tt
 
+pub fail_list : (list : ElimList) (r : Refusal) (f : ElimFail) (i : ℕ) (B : List Row) → IsFailOf r list i B f → IfWide f (λ e. e.list ≡ list)
+fail_list list (StepWide s) (Wide e) i B t = t.list_is
+fail_list list (StepWide s) Memory i B t = tt
+fail_list list StepMemory (Wide e) i B t = absurd t
+fail_list list StepMemory Memory i B t = tt
+
 pub small_step : (n : ℕ) (B : List Row) (P : List ℕ) (next : Row) (r : Refusal) → length B < 2 ^ 32 → n < 2 ^ 32 → IfWideStep r (λ s. IsWideRound B P next s.part s.by s.column) → IfWideStep r (λ s. s.column < n) → IfWideStep r (λ s. (s.by < 2 ^ 32) × (s.column < 2 ^ 32))
 small_step n B P next (StepWide s) few m w l = (let k = round_by B P next s.part s.by s.column w in omega arith, omega arith)
 small_step n B P next StepMemory few m w l = tt
+
+-- a basis of some rows, whose number of entries is known another way (where there is no row, any number is right)
+pub with_cols : (n : ℕ) (R : List Row) (P : List ℕ) → IsSomeEchelonBasis R P → HasCols n R → IsEchelonBasis n R P
+with_cols n R P e cols = record {
+  basis = record { cols = cols; as_many = e.1.as_many; positive = e.1.positive; reduced = e.1.reduced; primitive = e.1.primitive };
+  ascending = e.1.ascending;
+  before = e.1.before;
+}

@@ -10,11 +10,14 @@ use Rattle.pm_bases.specs.Bases.{IsEchelonBasis, SameSpan, column}
 use Rattle.pm_elim.proofs.PivotLaws.{Proportional, pivot_column_unique, pivot_keeps_zero, pivot_length, pivot_primitive, pivot_proportional, pivot_row_unique}
 use Rattle.pm_elim.proofs.ReductionLaws.{reduced_length, reduced_modulo, reduced_unique, reduced_zero}
 use Rattle.pm_elim.specs.Evidence.{IsWideOnNext, IsWideRound}
-use Rattle.pm_elim.specs.Rounds.{AllStay, IsNewRow}
+use Rattle.pm_elim.specs.Refusals.{IfWideStep}
+use Rattle.pm_elim.specs.Rounds.{AllStay, IsNewRow, IsWideOnSome}
 use Rattle.pm_elim.specs.Steps.{IsPivotRow, ReducedBy, ReductionStays, SameDirectionModulo}
-use Rattle.std.proofs.Common.{arith, inl, inr, ◌∙◌}
+use Rattle.pm_elim.specs.declared.refusal.Refusal.{Refusal}
+use Rattle.pm_elim.specs.declared.refusal.Refusal.TheVariants.{Memory, Wide}
+use Rattle.std.proofs.Common.{arith, inl, inr, refl, ◌∙◌}
 use Rattle.std.proofs.lemmas.Int.{ints}
-use Rattle.std.specs.Prelude.{List, [], length, ℕ, ◌++◌, ◌<◌, ◌∷◌, ◌≡◌}
+use Rattle.std.specs.Prelude.{List, [], length, ℕ, ◌++◌, ◌+◌, ◌<◌, ◌∷◌, ◌≡◌, ◌≤◌}
 use lib.IntN.{pos, ℤ, ◌*ℤ◌}
 use lib.Signed.{◌<ℤ◌}
 
@@ -79,3 +82,25 @@ module _ (B : List Row) (P : List ℕ) (row rest : Row) (stays : ReductionStays 
       let c_same = pivot_column_unique q p in
       let x_same = pivot_row_unique (rw c_same at q) p in
       all w.wide.place w.wide.within i (rw (w.wide.older, c_same, x_same) at w.wide.wide)
+
+-- ---- the refusal of a round
+module _ (B : List Row) (P : List ℕ) (row : Row) where
+  pub round_of_next : (r : Refusal) → IfWideStep r (λ s. IsWideOnNext B P row s.part s.by s.column) → IfWideStep r (λ s. IsWideRound B P row s.part s.by s.column)
+  round_of_next (Wide s) w = inl w
+  round_of_next Memory w = tt
+
+  pub round_of_some : (rest : Row) → ReducedBy B P row rest → (c : ℕ) (x : Row) → IsPivotRow rest c x → (r : Refusal) → IfWideStep r (λ s. IsWideOnSome B x c s.part s.by s.column) → IfWideStep r (λ s. IsWideRound B P row s.part s.by s.column)
+  round_of_some rest h c x p (Wide s) w = inr (record { rest = rest; new_column = c; new = x; reduced = h; pivot = p; wide = w })
+  round_of_some rest h c x p Memory w = tt
+
+-- what is left as it was
+pub still : {A : Type 0} (r : Refusal) (x : A) → IfWideStep r (λ s. x ≡ x)
+still (Wide s) x = refl
+still Memory x = tt
+
+-- ---- the number of rows
+pub at_most_one_more : (m n : ℕ) → m ≡ n + 1 → m ≤ n + 1
+at_most_one_more m n e = omega arith
+
+pub none_more : (n : ℕ) → n ≤ n + 1
+none_more n = omega arith

@@ -7,3 +7,4 @@ pub mod Quotients
 pub mod Compared
 pub mod Digits
 pub mod ReadsBack
+pub mod WideProducts

@@ -1,4 +1,6 @@
 pub mod Readings
+pub mod RowEnds
+pub mod SetTurns
 pub mod Parts
 pub mod FractionTexts
 pub mod MatrixLimits

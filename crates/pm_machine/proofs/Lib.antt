@@ -6,3 +6,4 @@ pub mod Running
 pub mod Ensuring
 pub mod Progress
 pub mod Names
+pub mod Refused

@@ -23,13 +23,42 @@ use Rattle.pm_types.specs.declared.set.PropSet.{PropSet}
 use Rattle.pm_types.specs.declared.property.PropId.{PropId}
 use Rattle.serde_json.specs.Read.{read}
 use Rattle.std.proofs.Common.{ap, arith, bytes_eq, eqb, false, inl, inr, refl, subst, sym, true, true≢false, ◌∙◌, ◌≢◌}
+use Rattle.std.proofs.lemmas.Map.Text.{hash_map_updates_text}
 use Rattle.std.proofs.lemmas.Slice.Eq.{bytes_eq-Decides}
-use Rattle.std.specs.Option.{is_some, option_map}
-use Rattle.std.specs.Prelude.{Bool, Err, IfOk, IfSome, List, None, Ok, OnErr, Option, Result, Some, ℕ, ◌≡◌, ◌⊎◌}
+use Rattle.std.specs.HashMap.{HashMap, UpdatesBy, get_by_text}
+use Rattle.std.specs.Option.{IsSome, is_some, option_map}
+use Rattle.std.specs.String.{string_eq}
+use Rattle.std.specs.Prelude.{Bool, String, Err, IfOk, IfSome, List, None, Ok, OnErr, Option, Result, Some, cond, string_bytes, ℕ, ◌≡◌, ◌⊎◌}
 
 decide : (b : Bool) → (b ≡ true) ⊎ (b ≡ false)
 decide true = inl refl
 decide false = inr refl
+
+else_of : {W : Type 0} (b : Bool) (x y : W) → b ≡ false → cond b x y ≡ y
+else_of true x y e = absurd (true≢false e)
+else_of false x y e = refl
+
+apart : (name q : List ℕ) → q ≢ name → bytes_eq name q ≡ false
+apart name q other = elim (decide (bytes_eq name q)) [
+  | inl e ↦ absurd (other (sym ((bytes_eq-Decides name q).0 e)))
+  | inr e ↦ e
+]
+
+-- what was at the other texts after a change at one
+pub others_stay : {Y X S : Type 0} (m n : HashMap (String Y) X S) (text : List ℕ) (w : Option X) → UpdatesBy string_eq (λ k. bytes_eq text (string_bytes k)) m n w
+    → (q : List ℕ) → q ≢ text → get_by_text n q ≡ get_by_text m q
+others_stay m n text w h q other = hash_map_updates_text text m n w h q ∙ else_of _ _ _ (apart text q other)
+
+-- a map in which the value at a text became another
+pub written : {Y X S : Type 0} (m n : HashMap (String Y) X S) (text name : List ℕ) (o o' : X) → text ≡ name → Some o ≡ get_by_text m text
+    → (IsSome (get_by_text m text) → UpdatesBy string_eq (λ k. bytes_eq text (string_bytes k)) m n (Some o'))
+    → (get_by_text m name ≡ Some o) × (get_by_text n name ≡ Some o') × ((q : List ℕ) → q ≢ name → get_by_text n q ≡ get_by_text m q)
+written m n text name o o' same was updates =
+    let h : UpdatesBy string_eq (λ k. bytes_eq text (string_bytes k)) m n (Some o') = updates (sym (ap is_some was)) in (
+      ap (get_by_text m) (sym same) ∙ sym was,
+      ap (get_by_text n) (sym same) ∙ h.1,
+      λ q other. others_stay m n text (Some o') h q (λ e. other (e ∙ same)),
+    )
 
 -- what agrees at a name and at the others agrees
 pub same_all : (old new : List ℕ → Option State) (name : List ℕ) (o o' : State) → old name ≡ Some o → new name ≡ Some o' → o' ≡ o
@@ -50,6 +79,11 @@ kept_all old new name o o' was is keeps others all q = elim (decide (bytes_eq q 
 
 pub kept_same : (old new : List ℕ → Option State) → ((q : List ℕ) → new q ≡ old q) → ((q : List ℕ) → IfSome (old q) IsKept) → (q : List ℕ) → IfSome (new q) IsKept
 kept_same old new same all q = subst (λ z. IfSome z IsKept) (sym (same q)) (all q)
+
+-- what changes no object on an error keeps all then
+pub kept_unless : {F E : Type 0} (r : Result F E) (old new : Machine) → OnErr r ((q : List ℕ) → new.object q ≡ old.object q) → OnErr r (AllKept old → AllKept new)
+kept_unless (Ok x) old new same = tt
+kept_unless (Err x) old new same = λ all. record { each = kept_same old.object new.object same all.each }
 
 pub kept_step : {E : Type 0} {F : Type 0} (view : F → ReplySeen) (book : List Rule) (old new : Machine) (command : Spoken) (r : Result F E) → IfOk r (λ x. Step book old command (view x) new)
     → OnErr r (AllKept old → AllKept new) → AllKept old → AllKept new

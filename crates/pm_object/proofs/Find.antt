@@ -10,6 +10,15 @@ use Rattle.pm_types.specs.declared.property.PropId.{PropId}
 use Rattle.std.specs.List.{list_all}
 use Rattle.std.proofs.Common.{Bool, Some, arith, drop, false, get_or, refl, sym, true, ◌≢◌}
 use Rattle.std.specs.Prelude.{List, [], length, map, nat_eq, suc, zero, ℕ, ◌+◌, ◌<◌, ◌∷◌, ◌≡◌}
+use Rattle.pm_types.specs.contracts.property.PropId.{the_type}
+use denote.Enum.Bare.{sameb, same_false, same_true}
+
+-- the answer of `==` on two properties
+pub is_property : (p q : PropId) → sameb the_type p q ≡ true → p ≡ q
+is_property p q e = same_true the_type tt p q e
+
+pub is_other : (p q : PropId) → sameb the_type p q ≡ false → p ≢ q
+is_other p q e = same_false the_type p q e
 
 apart : (p q : PropId) → q ≢ p → same_property p q ≡ false
 apart p q n = by (same_property p q) refl

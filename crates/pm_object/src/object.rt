@@ -158,22 +158,7 @@ impl Object {
         ensures refused { IfErr result (λ e. e ≢ TakeFail.Memory → CannotTake self.old p (view_of v) e) }
         ensures unchanged { OnErr result (self.new ≡ self.old) }
     {
-        if self.holds(p) {
-            return Err(TakeFail::AlreadyHeld);
-        }
-        if self.is_sealed() {
-            return Err(TakeFail::Sealed);
-        }
-        if !p.is_in(self.of) {
-            return Err(TakeFail::NotOfType);
-        }
-        if !agrees(self.cols(), p, &v) {
-            return Err(TakeFail::Columns);
-        }
-        if !are_rows(self.of, p, &v) {
-            return Err(TakeFail::NotAThing);
-        }
-        require_primitive_rows(*self.held.allocator(), p, &v)?;
+        self.may_take(p, &v)?;
         let given = Held {
             id: p,
             value: v,
@@ -183,6 +168,31 @@ impl Object {
             return Err(TakeFail::Memory);
         }
         Ok(())
+    }
+
+    // The first reason not to take a given value, if there is one.
+    fn may_take(&self, p: PropId, v: &Value) -> Result<(), TakeFail>
+        requires formed { IsTrue (is_formed p (view_of v.now)) }
+        ensures ok { OnOk result (CanTake self.now p (view_of v.now)) }
+        ensures fits { OnOk result (IsFormedIn self.now.of (cols_of self.now.held) (record { property = p; value = view_of v.now; origin = Given })) }
+        ensures refused { IfErr result (λ e. e ≢ TakeFail.Memory → CannotTake self.now p (view_of v.now) e) }
+    {
+        if self.holds(p) {
+            return Err(TakeFail::AlreadyHeld);
+        }
+        if self.is_sealed() {
+            return Err(TakeFail::Sealed);
+        }
+        if !p.is_in(self.of) {
+            return Err(TakeFail::NotOfType);
+        }
+        if !agrees(self.cols(), p, v) {
+            return Err(TakeFail::Columns);
+        }
+        if !are_rows(self.of, p, v) {
+            return Err(TakeFail::NotAThing);
+        }
+        require_primitive_rows(*self.held.allocator(), p, v)
     }
 
     /// Whether this label was disabled.

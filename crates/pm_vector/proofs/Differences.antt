@@ -39,6 +39,12 @@ module _ (p : ℤ) (v : Row) (q : ℤ) (w : Row) where
     ];
   }
 
+  pub FirstStay-none : FirstStay p v q w 0
+  FirstStay-none = record { at_each = λ i below. absurd (omega arith) }
+
+  pub FirstStay-more : (i : ℕ) → FirstStay p v q w i → EntryStays p (entry v i) q (entry w i) → FirstStay p v q w (i + 1)
+  FirstStay-more i s here = record { at_each = below_more _ i s.at_each here }
+
   pub PartlyWritten-more : (i : ℕ) (new : Row) (z : ℤ) → i < length new → PartlyWritten p v q w i new → z ≡ p *ℤ entry new i -ℤ q *ℤ entry w i → PartlyWritten p v q w (i + 1) (set new i z)
   PartlyWritten-more i new z within s e =
       let here : z ≡ p *ℤ entry v i -ℤ q *ℤ entry w i = rw (← s.left i (omega arith)) e in

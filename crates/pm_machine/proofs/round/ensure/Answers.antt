@@ -1,5 +1,6 @@
+-- Rounds go on until what is asked is held, or no chain leads there.
 use Rattle.std.proofs.Common.{rules}
-use Rattle.pm_machine.proofs.Progress.{ends_none, keeps, less_to_do, on_err, start_progress, started_holds, step_progress}
+use Rattle.pm_machine.proofs.Progress.{ends_found, ends_none, keeps, less_to_do, on_err, start_progress, started_holds, step_progress}
 use Rattle.pm_machine.specs.Rounds.{AllHeld}
 use Rattle.pm_machine.specs.Running.{KeepsKept}
 use Rattle.pm_types.specs.declared.property.PropId.TheVariants.{ConeAmbientDim}
@@ -34,3 +35,7 @@ loop-rules-preserved g c =
       progress = step_progress _ _ _ _ _ _ _ _ c.loop-rules.invariant.progress some (rw c.if-not-branch.false at c.in_ok-next_round.ensures.ok);
       dimension = started_holds _ _ _ _ _ _ ConeAmbientDim (rw c.if-not-branch.false at c.in_ok-next_round.ensures.ok) c.loop-rules.invariant.dimension;
     }
+
+pub returns-clause-ok : goal.returns-clause-ok
+returns-clause-ok g c =
+    rw (← c.loop-rules.invariant.rules) (ends_found _ _ _ _ _ _ c.loop-rules.invariant.progress (rw c.names.ensures.value at (c.is_subset.ensures.subset.0 c.loop-rules-test.false)))

@@ -1,4 +1,6 @@
+-- A value is shown where what was asked is found; on an error the object stays kept.
 use Rattle.std.proofs.Common.{Some, ap, rules, sym, true≢false, ◌∙◌, ◌≡◌}
+use Rattle.std.proofs.lemmas.Result.{err_from_is_err_and}
 use Rattle.std.specs.Option.{is_some}
 use Rattle.std.specs.Prelude.{None}
 use Rattle.pm_machine.proofs.Names.{found_held, gives_none, gives_shown, keeps_found, on_err_of}
@@ -22,3 +24,9 @@ returns-clause-gives g c =
 
 pub returns-clause-err : goal.returns-clause-err
 returns-clause-err g c = on_err_of _ (keeps_found _ _ _ _ _ _ (rw c.if-not-branch.false at c.in_ok-ensure.ensures.ok))
+
+pub returns-in_err-ensure-clause-gives : goal.returns-in_err-ensure-clause-gives
+returns-in_err-ensure-clause-gives g c = rw (err_from_is_err_and c.from_residual.result c.from_residual.ensures.1).1 tt
+
+pub returns-in_err-ensure-clause-err : goal.returns-in_err-ensure-clause-err
+returns-in_err-ensure-clause-err g c = on_err_of c.from_residual.result c.in_err-ensure.ensures.err

@@ -1,0 +1,32 @@
+-- The reading of a row an item at a time, and where it ends: behind the last item, and at the first that has a fault.
+use Rattle.std.proofs.Common.{refl, sym, ap, ◌∙◌, ◌≡◌, ◌≢◌, ◌≤◌, ◌<◌, ℕ, suc, List, [], ◌∷◌, ◌++◌, length, drop, drop-cons, Ok, Err, append-nil, length-append, arith}
+use Rattle.std.proofs.lemmas.Bool.{lt-ltb, le-ltb, eq-eqb, ne_eqb}
+use Rattle.serde_json.specs.Data.{Data, Items, no_items, item}
+use Rattle.pm_algebra.specs.Numbers.{Ratio}
+use Rattle.pm_json.specs.Readings.{entry_of, first_row_from, later_row_from, with_front}
+use Rattle.pm_json.specs.declared.fail.ValueFail.TheVariants.{Shape, Limit}
+use Rattle.pm_json.proofs.Readings.{with_front-before}
+use Rattle.serde_json.specs.View.{items_view}
+use Rattle.serde_json.specs.declared.value.Value.{Value}
+
+-- the item that is read next, before those that follow
+pub next_item : (vs : List Value) (i : ℕ) (v : Value) → i < length vs → v ≡ lib.ListN.get_or vs i v → drop i vs ≡ v ∷ drop (suc i) vs
+next_item vs i v within is = drop-cons vs i v within ∙ ap (λ w. w ∷ drop (suc i) vs) (sym is)
+
+pub later_row_from-long : (n : ℕ) (front : List Ratio) (d : Data) (ds : Items) → n ≤ length front → with_front front (later_row_from n (length front) (item d ds)) ≡ Err Shape
+later_row_from-long n front d ds full = rw (le-ltb (length front) n full) refl
+
+pub later_row_from-whole : (n : ℕ) (front : List Ratio) → length front ≡ n → with_front front (later_row_from n (length front) no_items) ≡ Ok front
+later_row_from-whole n front whole = rw (eq-eqb (length front) n whole) (ap (λ l. Ok l) (append-nil front))
+
+pub later_row_from-short : (n : ℕ) (front : List Ratio) → length front ≢ n → with_front front (later_row_from n (length front) no_items) ≡ Err Shape
+later_row_from-short n front short = rw (ne_eqb (length front) n short) refl
+
+pub first_row_from-item : (front : List Ratio) (z : Ratio) (d : Data) (ds : Items) → length front < 33 → entry_of d ≡ Ok z
+    → with_front front (first_row_from (length front) (item d ds)) ≡ with_front (front ++ z ∷ []) (first_row_from (length (front ++ z ∷ [])) ds)
+first_row_from-item front z d ds room is =
+    let one : suc (length front) ≡ length (front ++ z ∷ []) = omega (arith, length-append front (z ∷ [])) in
+    rw (is, lt-ltb (length front) 33 room) (with_front-before front z (first_row_from (suc (length front)) ds) ∙ ap (λ k. with_front (front ++ z ∷ []) (first_row_from k ds)) one)
+
+pub first_row_from-long : (front : List Ratio) (z : Ratio) (d : Data) (ds : Items) → 33 ≤ length front → entry_of d ≡ Ok z → with_front front (first_row_from (length front) (item d ds)) ≡ Err Limit
+first_row_from-long front z d ds full is = rw (is, le-ltb (length front) 33 full) refl

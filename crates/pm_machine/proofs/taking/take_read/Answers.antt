@@ -1,0 +1,19 @@
+-- Each answer of the object's own call is the answer here.
+use Rattle.std.proofs.Common.{refl}
+use Rattle.pm_types.specs.Views.{view_of}
+use Rattle.pm_machine.proofs.Refused.{columns, not_a_thing}
+use Rattle.pm_machine.proofs.taking.take_read.Goals as goal
+
+pub take-requires : goal.take-requires
+take-requires c = record { formed = c.requires.formed }
+
+pub returns-in-Ok-clause-ok : goal.returns-in-Ok-clause-ok
+returns-in-Ok-clause-ok c = (view_of c.args.v, (refl, c.in-Ok.ensures.ok), c.in-Ok.ensures.added)
+
+pub returns-in-Err-Columns-clause-ok : goal.returns-in-Err-Columns-clause-ok
+returns-in-Err-Columns-clause-ok c =
+    (columns c.args.object.now c.args.p (view_of c.args.v) c.in-Err-Columns.field-0 c.in-Err-Columns.field-0-is c.in-Err-Columns.ensures.refused, c.in-Err-Columns.ensures.unchanged)
+
+pub returns-in-Err-NotAThing-clause-ok : goal.returns-in-Err-NotAThing-clause-ok
+returns-in-Err-NotAThing-clause-ok c =
+    (not_a_thing c.args.object.now c.args.p (view_of c.args.v) c.in-Err-NotAThing.field-0 c.in-Err-NotAThing.field-0-is c.in-Err-NotAThing.ensures.refused, c.in-Err-NotAThing.ensures.unchanged)

@@ -1,0 +1,19 @@
+-- What a line speaks, by its first word.
+use Rattle.std.proofs.Common.{List, bytes_eq, codes, false, refl, true, ℕ, ◌≡◌}
+use Rattle.std.specs.Prelude.{None}
+use Rattle.pm_script.specs.Commands.{give_line, line_of, lookup_line, new_line, take_line}
+
+pub is_new : (first words : List ℕ) → bytes_eq first (codes "new") ≡ true → line_of first words ≡ new_line words
+is_new first words a = rw (a) refl
+
+pub is_take : (first words : List ℕ) → bytes_eq first (codes "new") ≡ false → bytes_eq first (codes "take") ≡ true → line_of first words ≡ take_line words
+is_take first words a b = rw (a, b) refl
+
+pub is_give : (first words : List ℕ) → bytes_eq first (codes "new") ≡ false → bytes_eq first (codes "take") ≡ false → bytes_eq first (codes "give") ≡ true → line_of first words ≡ give_line words
+is_give first words a b d = rw (a, b, d) refl
+
+pub is_lookup : (first words : List ℕ) → bytes_eq first (codes "new") ≡ false → bytes_eq first (codes "take") ≡ false → bytes_eq first (codes "give") ≡ false → bytes_eq first (codes "lookup") ≡ true → line_of first words ≡ lookup_line words
+is_lookup first words a b d e = rw (a, b, d, e) refl
+
+pub is_none : (first words : List ℕ) → bytes_eq first (codes "new") ≡ false → bytes_eq first (codes "take") ≡ false → bytes_eq first (codes "give") ≡ false → bytes_eq first (codes "lookup") ≡ false → line_of first words ≡ None
+is_none first words a b d e = rw (a, b, d, e) refl
