@@ -13,11 +13,6 @@ ghost use Rattle.pm_cert.specs.Claims.{Holds, GoesOn};
 
 use pm_rules::{Book, Claim, Cost, PropSet, Rule, RuleId, Step, Table, TableRow, Weight, needed};
 
-#[cfg(test)]
-mod random_tables;
-#[cfg(test)]
-mod tests;
-
 /// Whether the table is a certificate for the claim. If so, the claim holds of all chains, also of those with rules
 /// that are not useful.
 pub fn verify(
@@ -32,11 +27,11 @@ pub fn verify(
     ensures exact { IsTrue result ↔ IsCertificate b.now names barred.now held asked c t.now.rows.items }
     ensures claim { IsTrue result → Holds b.now names barred.now held asked c }
 {
-    proves(b.rules(), names, held, barred, asked, t.rows.as_slice(), c)
+    verify_by_rules(b.rules(), names, held, barred, asked, t.rows.as_slice(), c)
 }
 
-// The same for the rules of a book and the rows of a table.
-fn proves(
+/// The same by rules that need not be those of a book, their labels play no part in chains, and the rows of a table.
+pub fn verify_by_rules(
     rules: &[Rule],
     names: PropSet,
     held: PropSet,

@@ -8,9 +8,4 @@ mod search;
 mod track;
 
 pub use answer::{Plan, PlanEnd};
-pub use planner::plan;
-
-#[cfg(test)]
-mod random_books;
-#[cfg(test)]
-mod tests;
+pub use planner::{plan, plan_by_rules};

@@ -24,11 +24,11 @@ pub fn plan(
     ensures plan { IfOk result (λ p. IsPlan b.now names barred.now held asked p.chain.items p.weight p.table.rows.items) }
     ensures why { IfErr result (SaysWhy b.now names barred.now held asked) }
 {
-    plan_by(alloc, b.rules(), names, held, barred, asked)
+    plan_by_rules(alloc, b.rules(), names, held, barred, asked)
 }
 
-/// The same for the rules of a book.
-pub fn plan_by(
+/// The same by rules that need not be those of a book: their labels play no part in chains.
+pub fn plan_by_rules(
     alloc: Global,
     rules: &[Rule],
     names: PropSet,

@@ -1,5 +1,5 @@
 use Rattle.pm_cert.proofs.Closed.{certificate_exactly}
-use Rattle.pm_cert.proofs.proves.Goals as goal
+use Rattle.pm_cert.proofs.verify_by_rules.Goals as goal
 
 pub returns : goal.returns
 returns c =

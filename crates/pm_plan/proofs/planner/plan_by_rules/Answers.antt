@@ -1,6 +1,6 @@
 use Rattle.pm_plan.proofs.Planning.{moves_weighed, plan_right, no_plan_right, goal_goes_back}
 use Rattle.pm_plan.proofs.Crowding.{crowded_right}
-use Rattle.pm_plan.proofs.planner.plan_by.Goals as goal
+use Rattle.pm_plan.proofs.planner.plan_by_rules.Goals as goal
 
 pub explore-requires : goal.explore-requires
 explore-requires c =

@@ -1,20 +1,13 @@
 // The answers on small books.
 
-use super::*;
-use pm_rules::{ClientName, Kind, PropId, read_book, standard_book};
+use crate::kinds::{kind, names_of_cones};
+use pm_cert::verify;
+use pm_rules::{
+    Book, Claim, ClientName, Cost, PropId, PropSet, RuleId, Table, TableRow, read_book,
+    standard_book,
+};
 use std::alloc::{AllocError, Global};
 use std::process::Abort;
-
-// Every name that a cone may have.
-fn names_of_cones() -> PropSet {
-    let mut names = PropSet::empty();
-    for p in PropId::every() {
-        if p.is_of_cones() {
-            names = names.with(p);
-        }
-    }
-    names
-}
 
 // INEQUALITIES, EQUATIONS and the ambient dimension.
 fn held() -> PropSet {
@@ -23,17 +16,6 @@ fn held() -> PropSet {
         PropId::Inequalities,
         PropId::Equations,
     ])
-}
-
-// A kind without preconditions.
-fn kind(name: ClientName, targets: &[PropId], sources: &[PropId]) -> Kind {
-    Kind {
-        name,
-        targets: PropSet::of_list(targets),
-        sources: PropSet::of_list(sources),
-        must: PropSet::empty(),
-        must_not: PropSet::empty(),
-    }
 }
 
 // A class and a minor, than which no chain weighs less, or none if there is no chain.

@@ -1,10 +1,10 @@
 // The answers on small books, and on books with many sets.
 
-use crate::answer::{Plan, PlanEnd};
-use crate::planner::{plan, plan_by};
+use crate::kinds::{kind, names_of_cones, names_of_polytopes};
+use pm_plan::{Plan, PlanEnd, plan, plan_by_rules};
 use pm_rules::{
-    Book, ClientName, Cost, Kind, PropId, PropSet, Rule, RuleId, Table, TableRow, Weight,
-    read_book, standard_book,
+    Book, ClientName, Cost, PropId, PropSet, Rule, RuleId, Table, TableRow, Weight, read_book,
+    standard_book,
 };
 use std::alloc::{AllocError, Global};
 use std::process::Abort;
@@ -13,17 +13,6 @@ use std::process::Abort;
 const SIDES: [u8; 17] = [
     6, 8, 10, 11, 12, 13, 14, 17, 18, 20, 21, 26, 30, 31, 32, 33, 7,
 ];
-
-// A kind without preconditions.
-fn kind(name: ClientName, targets: &[PropId], sources: &[PropId]) -> Kind {
-    Kind {
-        name,
-        targets: PropSet::of_list(targets),
-        sources: PropSet::of_list(sources),
-        must: PropSet::empty(),
-        must_not: PropSet::empty(),
-    }
-}
 
 // A rule without preconditions.
 fn rule(targets: &[PropId], sources: &[PropId], class: u32, minor: u32) -> Rule {
@@ -35,28 +24,6 @@ fn rule(targets: &[PropId], sources: &[PropId], class: u32, minor: u32) -> Rule 
         must: PropSet::empty(),
         must_not: PropSet::empty(),
     }
-}
-
-// Every name that a cone may have.
-fn names_of_cones() -> PropSet {
-    let mut names = PropSet::empty();
-    for p in PropId::every() {
-        if p.is_of_cones() {
-            names = names.with(p);
-        }
-    }
-    names
-}
-
-// Every name that a polytope may have.
-fn names_of_polytopes() -> PropSet {
-    let mut names = PropSet::empty();
-    for p in PropId::every() {
-        if p.is_of_polytopes() {
-            names = names.with(p);
-        }
-    }
-    names
 }
 
 // The first of the sides, each from property 0 at weight 1, and property 25 from all of these at a great weight.
@@ -84,7 +51,7 @@ fn planned(
 ) -> Result<Plan, PlanEnd> {
     assert!(rt; rules.len() <= 256);
     assert!(rt; rules.iter().all(|rule| rule.weight.is_weight()));
-    plan_by(
+    plan_by_rules(
         rt.alloc(),
         rules,
         names_of_cones(),
