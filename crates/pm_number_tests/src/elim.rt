@@ -1,50 +1,42 @@
 ghost use Rattle.pm_algebra.specs.Rows.{HasCols};
-ghost use Rattle.std.specs.Prelude.{IfOk, OnOk, length, ◌<◌, ◌^◌};
+ghost use Rattle.std.specs.Prelude.{length, ◌≡◌, ◌<◌, ◌^◌};
 
-use pm_elim::{DualFail, ElimEvidence, ElimFail, dual_basis, echelon, null_space, rank, reduce};
+use pm_elim::{
+    DualFail, Echelon, ElimEvidence, ElimFail, dual_basis, echelon, null_space, rank, reduce,
+};
 use pm_vector::{Ints, all_in_range};
-use std::alloc::{AllocError, Global};
+use std::alloc::Global;
 use std::process::Abort;
-use std::test::Fail;
 
 const HUGE: i128 = 1 << 126;
 
 /// Puts a row of these entries behind the others.
-fn push_row(
-    rt: &impl Abort,
-    rows: &mut Vec<Ints>,
-    cols: usize,
-    entries: Vec<i128>,
-) -> Result<(), AllocError>
+fn push_row(rt: &impl Abort, rows: &mut Vec<Ints>, cols: usize, entries: Vec<i128>)
     requires { HasCols cols rows.old.items }
-    ensures { OnOk result (HasCols cols rows.new.items) }
+    ensures { HasCols cols rows.new.items }
 {
     assert!(rt; entries.len() == cols);
     assert!(rt; all_in_range(&entries));
-    rows.push(Ints::from_vec(entries))?;
-    Ok(())
+    rows.push(Ints::from_vec(entries))
+        .expect(rt, "room for a row");
 }
 
 /// Rows with these entries.
-fn rows_of(
-    rt: &impl Abort,
-    alloc: Global,
-    cols: usize,
-    table: &[&[i128]],
-) -> Result<Vec<Ints>, AllocError>
-    ensures cols { IfOk result (λ v. HasCols cols v.items) }
-    ensures few { IfOk result (λ v. length v.items < 2 ^ 30) }
+fn rows_of(rt: &impl Abort, alloc: Global, cols: usize, table: &[&[i128]]) -> Vec<Ints>
+    ensures cols { HasCols cols result.items }
+    ensures few { length result.items < 2 ^ 30 }
 {
     let mut rows = Vec::new(alloc);
     for entries in table {
-        push_row(rt, &mut rows, cols, entries.to_vec(alloc)?)?;
+        let copied = entries.to_vec(alloc).expect(rt, "room for the entries");
+        push_row(rt, &mut rows, cols, copied);
     }
     assert!(rt; rows.len() < 1000);
-    Ok(rows)
+    rows
 }
 
 /// All answers on rows, printed.
-fn answers(alloc: Global, rows: &[Ints], cols: usize) -> Result<String, AllocError>
+fn answers(rt: &impl Abort, alloc: Global, rows: &[Ints], cols: usize) -> String
     requires columns { HasCols cols rows.now }
     requires few_rows { length rows.now < 2 ^ 30 }
     requires few_columns { cols < 2 ^ 30 }
@@ -53,82 +45,75 @@ fn answers(alloc: Global, rows: &[Ints], cols: usize) -> Result<String, AllocErr
     let number = rank(alloc, rows, cols);
     let null = null_space(alloc, rows, cols);
     let duals = dual_basis(alloc, rows, cols);
-    format!(in alloc; "{basis:?} {number:?} {null:?} {duals:?}")
+    format!(in alloc; "{basis:?} {number:?} {null:?} {duals:?}").expect(rt, "room for a text")
 }
 
-fn check_answers(
-    rt: &impl Abort,
-    alloc: Global,
-    cols: usize,
-    table: &[&[i128]],
-    want: &str,
-) -> Result<(), AllocError>
+fn check_answers(rt: &impl Abort, alloc: Global, cols: usize, table: &[&[i128]], want: &str)
     requires { cols < 2 ^ 30 }
 {
-    let rows = rows_of(rt, alloc, cols, table)?;
-    let text = answers(alloc, &rows, cols)?;
+    let rows = rows_of(rt, alloc, cols, table);
+    let text = answers(rt, alloc, &rows, cols);
     let shown = text.as_str();
     assert!(rt; shown == want, "{shown}");
-    Ok(())
 }
 
 #[test]
-fn rows_that_span_the_plane(rt: HostRuntime) -> Result<(), AllocError> {
+fn rows_that_span_the_plane(rt: HostRuntime) {
     let want =
         "Ok(Echelon { rows: [Ints { entries: [1, 0] }, Ints { entries: [0, 1] }], pivots: [0, 1] }) Ok(2) Ok([]) Ok([Ints { entries: [3, -1] }, Ints { entries: [-2, 1] }])";
-    check_answers(&rt, rt.alloc(), 2, &[&[2, 4], &[1, 3]], want)
+    check_answers(&rt, rt.alloc(), 2, &[&[2, 4], &[1, 3]], want);
 }
 
 #[test]
-fn one_row(rt: HostRuntime) -> Result<(), AllocError> {
+fn one_row(rt: HostRuntime) {
     let want =
         "Ok(Echelon { rows: [Ints { entries: [1, 1, 1] }], pivots: [0] }) Ok(1) Ok([Ints { entries: [1, 0, -1] }, Ints { entries: [0, 1, -1] }]) Ok([Ints { entries: [0, 0, 1] }])";
-    check_answers(&rt, rt.alloc(), 3, &[&[1, 1, 1]], want)
+    check_answers(&rt, rt.alloc(), 3, &[&[1, 1, 1]], want);
 }
 
 #[test]
-fn slanted_rows(rt: HostRuntime) -> Result<(), AllocError> {
+fn slanted_rows(rt: HostRuntime) {
     let want =
         "Ok(Echelon { rows: [Ints { entries: [1, 0] }, Ints { entries: [0, 1] }], pivots: [0, 1] }) Ok(2) Ok([]) Ok([Ints { entries: [1, -1] }, Ints { entries: [0, 1] }])";
-    check_answers(&rt, rt.alloc(), 2, &[&[1, 0], &[1, 1]], want)
+    check_answers(&rt, rt.alloc(), 2, &[&[1, 0], &[1, 1]], want);
 }
 
 #[test]
-fn parallel_rows(rt: HostRuntime) -> Result<(), AllocError> {
+fn parallel_rows(rt: HostRuntime) {
     let want =
         "Ok(Echelon { rows: [Ints { entries: [1, 0] }], pivots: [0] }) Ok(1) Ok([Ints { entries: [0, 1] }]) Err(Dependent)";
-    check_answers(&rt, rt.alloc(), 2, &[&[1, 0], &[2, 0]], want)
+    check_answers(&rt, rt.alloc(), 2, &[&[1, 0], &[2, 0]], want);
 }
 
 #[test]
-fn no_rows(rt: HostRuntime) -> Result<(), AllocError> {
+fn no_rows(rt: HostRuntime) {
     let want =
         "Ok(Echelon { rows: [], pivots: [] }) Ok(0) Ok([Ints { entries: [1, 0] }, Ints { entries: [0, 1] }]) Ok([])";
-    check_answers(&rt, rt.alloc(), 2, &[], want)
+    check_answers(&rt, rt.alloc(), 2, &[], want);
 }
 
 #[test]
-fn zero_rows_alone(rt: HostRuntime) -> Result<(), AllocError> {
+fn zero_rows_alone(rt: HostRuntime) {
     let want =
         "Ok(Echelon { rows: [], pivots: [] }) Ok(0) Ok([Ints { entries: [1, 0] }, Ints { entries: [0, 1] }]) Err(Dependent)";
-    check_answers(&rt, rt.alloc(), 2, &[&[0, 0], &[0, 0]], want)
+    check_answers(&rt, rt.alloc(), 2, &[&[0, 0], &[0, 0]], want);
 }
 
 #[test]
-fn no_columns(rt: HostRuntime) -> Result<(), AllocError> {
+fn no_columns(rt: HostRuntime) {
     let want = "Ok(Echelon { rows: [], pivots: [] }) Ok(0) Ok([]) Err(Dependent)";
-    check_answers(&rt, rt.alloc(), 0, &[&[], &[]], want)
+    check_answers(&rt, rt.alloc(), 0, &[&[], &[]], want);
 }
 
 #[test]
-fn next_row_is_wide(rt: HostRuntime) -> Result<(), AllocError> {
+fn next_row_is_wide(rt: HostRuntime) {
     let want =
         "Err(Wide(ElimEvidence { list: Rows, front: 1, basis: [Ints { entries: [3, 85070591730234615865843651857942052864] }], part: Ints { entries: [5, 1] }, by: 0, column: 1 })) Err(Wide(ElimEvidence { list: Rows, front: 1, basis: [Ints { entries: [3, 85070591730234615865843651857942052864] }], part: Ints { entries: [5, 1] }, by: 0, column: 1 })) Err(Wide(ElimEvidence { list: Rows, front: 1, basis: [Ints { entries: [3, 85070591730234615865843651857942052864] }], part: Ints { entries: [5, 1] }, by: 0, column: 1 })) Err(Wide(ElimEvidence { list: Rows, front: 1, basis: [Ints { entries: [3, 85070591730234615865843651857942052864] }], part: Ints { entries: [5, 1] }, by: 0, column: 1 }))";
-    check_answers(&rt, rt.alloc(), 2, &[&[3, HUGE], &[5, 1]], want)
+    check_answers(&rt, rt.alloc(), 2, &[&[3, HUGE], &[5, 1]], want);
 }
 
 #[test]
-fn older_row_is_wide(rt: HostRuntime) -> Result<(), AllocError> {
+fn older_row_is_wide(rt: HostRuntime) {
     let want =
         "Err(Wide(ElimEvidence { list: Rows, front: 2, basis: [Ints { entries: [1, 3, 85070591730234615865843651857942052864] }], part: Ints { entries: [1, 3, 85070591730234615865843651857942052864] }, by: 1, column: 2 })) Err(Wide(ElimEvidence { list: Rows, front: 2, basis: [Ints { entries: [1, 3, 85070591730234615865843651857942052864] }], part: Ints { entries: [1, 3, 85070591730234615865843651857942052864] }, by: 1, column: 2 })) Err(Wide(ElimEvidence { list: Rows, front: 2, basis: [Ints { entries: [1, 3, 85070591730234615865843651857942052864] }], part: Ints { entries: [1, 3, 85070591730234615865843651857942052864] }, by: 1, column: 2 })) Err(Wide(ElimEvidence { list: Rows, front: 2, basis: [Ints { entries: [1, 3, 85070591730234615865843651857942052864] }], part: Ints { entries: [1, 3, 85070591730234615865843651857942052864] }, by: 1, column: 2 }))";
     check_answers(
@@ -137,18 +122,18 @@ fn older_row_is_wide(rt: HostRuntime) -> Result<(), AllocError> {
         3,
         &[&[0, 0, 0], &[1, 3, HUGE], &[0, -5, 1]],
         want,
-    )
+    );
 }
 
 #[test]
-fn extended_list_is_wide(rt: HostRuntime) -> Result<(), AllocError> {
+fn extended_list_is_wide(rt: HostRuntime) {
     let want =
         "Ok(Echelon { rows: [Ints { entries: [85070591730234615865843651857942052865, 85070591730234615865843651857942052863] }], pivots: [0] }) Ok(1) Err(Wide(ElimEvidence { list: Extended, front: 1, basis: [Ints { entries: [85070591730234615865843651857942052865, 1, 0] }], part: Ints { entries: [85070591730234615865843651857942052863, 0, 1] }, by: 0, column: 0 })) Err(Wide(ElimEvidence { list: Extended, front: 1, basis: [Ints { entries: [85070591730234615865843651857942052865, 1, 0] }], part: Ints { entries: [85070591730234615865843651857942052863, 0, 1] }, by: 0, column: 0 }))";
-    check_answers(&rt, rt.alloc(), 2, &[&[HUGE + 1, HUGE - 1]], want)
+    check_answers(&rt, rt.alloc(), 2, &[&[HUGE + 1, HUGE - 1]], want);
 }
 
 #[test]
-fn rows_without_the_first_are_wide(rt: HostRuntime) -> Result<(), AllocError> {
+fn rows_without_the_first_are_wide(rt: HostRuntime) {
     let want =
         "Ok(Echelon { rows: [Ints { entries: [1, 0, 0] }, Ints { entries: [0, 1, 0] }, Ints { entries: [0, 0, 1] }], pivots: [0, 1, 2] }) Ok(3) Ok([]) Err(Wide(ElimEvidence { list: Without(0), front: 1, basis: [Ints { entries: [3, 85070591730234615865843651857942052864, 0] }], part: Ints { entries: [5, 1, 1] }, by: 0, column: 1 }))";
     check_answers(
@@ -157,86 +142,92 @@ fn rows_without_the_first_are_wide(rt: HostRuntime) -> Result<(), AllocError> {
         3,
         &[&[1, 0, 0], &[3, HUGE, 0], &[5, 1, 1]],
         want,
-    )
+    );
 }
 
 #[test]
-fn extended_list_without_the_second_is_wide(rt: HostRuntime) -> Result<(), AllocError> {
+fn extended_list_without_the_second_is_wide(rt: HostRuntime) {
     let want =
         "Ok(Echelon { rows: [Ints { entries: [1, 0] }, Ints { entries: [0, 1] }], pivots: [0, 1] }) Ok(2) Ok([]) Err(Wide(ElimEvidence { list: ExtendedWithout(1), front: 1, basis: [Ints { entries: [85070591730234615865843651857942052865, 1, 0] }], part: Ints { entries: [85070591730234615865843651857942052863, 0, 1] }, by: 0, column: 0 }))";
-    check_answers(&rt, rt.alloc(), 2, &[&[HUGE + 1, HUGE - 1], &[0, 1]], want)
+    check_answers(&rt, rt.alloc(), 2, &[&[HUGE + 1, HUGE - 1], &[0, 1]], want);
 }
 
 #[test]
-fn large_products_keep_their_signs(rt: HostRuntime) -> Result<(), AllocError> {
+fn large_products_keep_their_signs(rt: HostRuntime) {
     let want =
         "Ok(Echelon { rows: [Ints { entries: [1, 0] }, Ints { entries: [0, 1] }], pivots: [0, 1] }) Ok(2) Ok([]) Ok([Ints { entries: [-1, 1048576] }, Ints { entries: [1073741824, -1] }])";
-    check_answers(&rt, rt.alloc(), 2, &[&[1 << 96, HUGE], &[1 << 20, 1]], want)
+    check_answers(&rt, rt.alloc(), 2, &[&[1 << 96, HUGE], &[1 << 20, 1]], want);
+}
+
+/// The echelon basis of rows of two entries.
+fn basis_of(rt: &impl Abort, alloc: Global, table: &[&[i128]]) -> Echelon
+    ensures { HasCols 2 result.rows }
+{
+    let rows = rows_of(rt, alloc, 2, table);
+    echelon(alloc, &rows, 2).expect(rt, "a basis")
+}
+
+/// A row of two entries.
+fn row_of(rt: &impl Abort, alloc: Global, entries: &[i128]) -> Ints
+    ensures { length result ≡ 2 }
+{
+    assert!(rt; entries.len() == 2);
+    assert!(rt; all_in_range(entries));
+    Ints::from_vec(entries.to_vec(alloc).expect(rt, "room for the entries"))
 }
 
 /// Reduces a row by the echelon basis of one row, and prints the answer and the row.
-fn reduced(
-    rt: &impl Abort,
-    alloc: Global,
-    basis: &[&[i128]],
-    entries: &[i128],
-) -> Result<String, Fail> {
-    let rows = rows_of(rt, alloc, 2, basis)?;
-    let basis = echelon(alloc, &rows, 2)?;
-    assert!(rt; entries.len() == 2);
-    assert!(rt; all_in_range(entries));
-    let mut row = Ints::from_vec(entries.to_vec(alloc)?);
+fn reduced(rt: &impl Abort, alloc: Global, table: &[&[i128]], entries: &[i128]) -> String {
+    let basis = basis_of(rt, alloc, table);
+    let mut row = row_of(rt, alloc, entries);
     let answer = reduce(alloc, &basis, &mut row);
-    Ok(format!(in alloc; "{answer:?} {row:?}")?)
+    format!(in alloc; "{answer:?} {row:?}").expect(rt, "room for a text")
 }
 
 #[test]
-fn a_row_is_reduced(rt: HostRuntime) -> Result<(), Fail> {
-    let text = reduced(&rt, rt.alloc(), &[&[1, 0]], &[3, 1])?;
+fn a_row_is_reduced(rt: HostRuntime) {
+    let text = reduced(&rt, rt.alloc(), &[&[1, 0]], &[3, 1]);
     assert_eq!(rt; text.as_str(), "Ok(()) Ints { entries: [0, 1] }");
-    Ok(())
 }
 
 #[test]
-fn a_refused_reduction_leaves_the_row(rt: HostRuntime) -> Result<(), Fail> {
-    let text = reduced(&rt, rt.alloc(), &[&[3, HUGE]], &[5, 1])?;
+fn a_refused_reduction_leaves_the_row(rt: HostRuntime) {
+    let text = reduced(&rt, rt.alloc(), &[&[3, HUGE]], &[5, 1]);
     let want =
         "Err(Wide(ElimEvidence { list: Rows, front: 1, basis: [Ints { entries: [3, 85070591730234615865843651857942052864] }], part: Ints { entries: [5, 1] }, by: 0, column: 1 })) Ints { entries: [5, 1] }";
     assert_eq!(rt; text.as_str(), want);
-    Ok(())
 }
 
 /// The evidence that a rank is refused with.
-fn evidence_of_rank(
-    rt: &impl Abort,
-    alloc: Global,
-    table: &[&[i128]],
-) -> Result<ElimEvidence, AllocError> {
-    let rows = rows_of(rt, alloc, 2, table)?;
+fn evidence_of_rank(rt: &impl Abort, alloc: Global, table: &[&[i128]]) -> ElimEvidence {
+    let rows = rows_of(rt, alloc, 2, table);
     match rank(alloc, &rows, 2) {
-        Err(ElimFail::Wide(evidence)) => Ok(evidence),
+        Err(ElimFail::Wide(evidence)) => evidence,
         _ => panic!(rt; "no evidence"),
     }
 }
 
-#[test]
-fn evidence_is_copied(rt: HostRuntime) -> Result<(), AllocError> {
-    let evidence = evidence_of_rank(&rt, rt.alloc(), &[&[3, HUGE], &[5, 1]])?;
-    let copied = evidence.copy(rt.alloc())?;
-    let text = format!(in rt.alloc(); "{copied:?}")?;
-    let want =
-        "ElimEvidence { list: Rows, front: 1, basis: [Ints { entries: [3, 85070591730234615865843651857942052864] }], part: Ints { entries: [5, 1] }, by: 0, column: 1 }";
-    assert_eq!(rt; text.as_str(), want);
-    Ok(())
+/// A copy of that evidence.
+fn copied_evidence(rt: &impl Abort, alloc: Global, table: &[&[i128]]) -> ElimEvidence {
+    let evidence = evidence_of_rank(rt, alloc, table);
+    evidence.copy(alloc).expect(rt, "a copy")
 }
 
 #[test]
-fn refusals_are_printed(rt: HostRuntime) -> Result<(), AllocError> {
+fn evidence_is_copied(rt: HostRuntime) {
+    let copied = copied_evidence(&rt, rt.alloc(), &[&[3, HUGE], &[5, 1]]);
+    let text = format!(in rt.alloc(); "{copied:?}").expect(&rt, "room for a text");
+    let want =
+        "ElimEvidence { list: Rows, front: 1, basis: [Ints { entries: [3, 85070591730234615865843651857942052864] }], part: Ints { entries: [5, 1] }, by: 0, column: 1 }";
+    assert_eq!(rt; text.as_str(), want);
+}
+
+#[test]
+fn refusals_are_printed(rt: HostRuntime) {
     let memory = ElimFail::Memory;
     let dependent = DualFail::Dependent;
-    let text = format!(in rt.alloc(); "{memory}, {dependent}")?;
+    let text = format!(in rt.alloc(); "{memory}, {dependent}").expect(&rt, "room for a text");
     assert_eq!(rt; text.as_str(), "out of memory, the rows are dependent");
-    Ok(())
 }
 
 // ---- pseudo-random rows
@@ -254,18 +245,20 @@ fn draw(state: &mut u64, bound: u64) -> u64
 
 /// Entries between -bound/2 and bound/2.
 fn random_entries(
+    rt: &impl Abort,
     alloc: Global,
     state: &mut u64,
     cols: usize,
     bound: u64,
-) -> Result<Vec<i128>, AllocError>
+) -> Vec<i128>
     requires { 0 < bound }
 {
     let mut entries = Vec::new(alloc);
     for _ in 0..cols {
-        entries.push(i128::from(draw(state, bound)) - i128::from(bound / 2))?;
+        let entry = i128::from(draw(state, bound)) - i128::from(bound / 2);
+        entries.push(entry).expect(rt, "room for an entry");
     }
-    Ok(entries)
+    entries
 }
 
 /// Rows of such entries.
@@ -276,22 +269,18 @@ fn random_rows(
     count: u64,
     cols: usize,
     bound: u64,
-) -> Result<Vec<Ints>, AllocError>
+) -> Vec<Ints>
     requires { 0 < bound }
-    ensures cols { IfOk result (λ v. HasCols cols v.items) }
-    ensures few { IfOk result (λ v. length v.items < 2 ^ 30) }
+    ensures cols { HasCols cols result.items }
+    ensures few { length result.items < 2 ^ 30 }
 {
     let mut rows = Vec::new(alloc);
     for _ in 0..count {
-        push_row(
-            rt,
-            &mut rows,
-            cols,
-            random_entries(alloc, state, cols, bound)?,
-        )?;
+        let entries = random_entries(rt, alloc, state, cols, bound);
+        push_row(rt, &mut rows, cols, entries);
     }
     assert!(rt; rows.len() < 1000);
-    Ok(rows)
+    rows
 }
 
 /// A checksum and a further number.
@@ -312,39 +301,47 @@ fn mix_rows(sum: u64, rows: &[Ints]) -> u64 {
 }
 
 /// The checksum of all answers on rows: their echelon basis with its pivot columns, their rank, their null space, and their dual basis, or 999 where they are dependent.
-fn checksum(alloc: Global, rows: &[Ints], cols: usize) -> Result<u64, Fail>
+fn checksum(rt: &impl Abort, alloc: Global, rows: &[Ints], cols: usize) -> u64
     requires columns { HasCols cols rows.now }
     requires few_rows { length rows.now < 2 ^ 30 }
     requires few_columns { cols < 2 ^ 30 }
 {
-    let basis = echelon(alloc, rows, cols)?;
-    let mut sum = mix_rows(7, &basis.rows);
-    for pivot in &basis.pivots {
-        sum = mix(sum, *pivot as u64);
-    }
-    sum = mix(sum, rank(alloc, rows, cols)? as u64);
-    sum = mix_rows(sum, &null_space(alloc, rows, cols)?);
+    let basis = echelon(alloc, rows, cols).expect(rt, "a basis");
+    let mut sum = mix_basis(7, &basis);
+    sum = mix(sum, rank(alloc, rows, cols).expect(rt, "a rank") as u64);
+    let null = null_space(alloc, rows, cols).expect(rt, "a null space");
+    sum = mix_rows(sum, &null);
     match dual_basis(alloc, rows, cols) {
-        Err(DualFail::Dependent) => Ok(mix(sum, 999)),
-        answer => Ok(mix_rows(sum, &answer?)),
+        Err(DualFail::Dependent) => mix(sum, 999),
+        answer => mix_rows(sum, &answer.expect(rt, "a dual basis")),
     }
 }
 
+/// A checksum, the rows of a basis and its pivot columns.
+fn mix_basis(sum: u64, basis: &Echelon) -> u64 {
+    let mut mixed = mix_rows(sum, &basis.rows);
+    for pivot in &basis.pivots {
+        mixed = mix(mixed, *pivot as u64);
+    }
+    mixed
+}
+
+/// The checksum of the next pseudo-random list.
+fn checksum_of_next(rt: &impl Abort, alloc: Global, state: &mut u64) -> u64 {
+    let count = draw(state, 7);
+    let cols = 1 + draw(state, 8) as usize;
+    let bound = 2 + draw(state, 9);
+    let rows = random_rows(rt, alloc, state, count, cols, bound);
+    checksum(rt, alloc, &rows, cols)
+}
+
 #[test]
-fn random_lists(rt: HostRuntime) -> Result<(), Fail> {
+fn random_lists(rt: HostRuntime) {
     let mut state = 1u64;
     for (case, want) in CHECKSUMS.iter().enumerate() {
-        let count = draw(&mut state, 7);
-        let cols = 1 + draw(&mut state, 8) as usize;
-        let bound = 2 + draw(&mut state, 9);
-        let rows = random_rows(&rt, rt.alloc(), &mut state, count, cols, bound)?;
-        assert_eq!(rt;
-            checksum(rt.alloc(), &rows, cols)? >> 32,
-            *want,
-            "at list {case}"
-        );
+        let sum = checksum_of_next(&rt, rt.alloc(), &mut state);
+        assert_eq!(rt; sum >> 32, *want, "at list {case}");
     }
-    Ok(())
 }
 
 /// The upper halves of the checksums of 200 lists of up to 6 rows with up to 8 entries, 148 of them independent: computed with fractions, by Gauss-Jordan elimination and by solving equations for the dual rows.

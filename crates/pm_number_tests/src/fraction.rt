@@ -9,15 +9,15 @@ use std::process::Abort;
 use std::test::Fail;
 
 // The text of an answer, or a letter for an error.
-fn shown(alloc: Global, answer: Result<Fraction, NumError>) -> Result<String, Fail> {
+fn shown(rt: &impl Abort, alloc: Global, answer: Result<Fraction, NumError>) -> String {
     let letter = match answer {
-        Ok(p) => return Ok(p.text(alloc)?),
+        Ok(p) => return p.text(alloc).expect(rt, "room for a fraction"),
         Err(NumError::Wide) => "W",
         Err(NumError::DivideByZero) => "Z",
         Err(NumError::ZeroDenominator) => "D",
         Err(NumError::NotANumber) => "N",
     };
-    Ok(String::from_str(alloc, letter)?)
+    String::from_str(alloc, letter).expect(rt, "room for a letter")
 }
 
 fn sign_of(order: Ordering) -> &'static str {
@@ -29,59 +29,67 @@ fn sign_of(order: Ordering) -> &'static str {
 }
 
 // The row of p and q.
-fn row_of(alloc: Global, p: Fraction, q: Fraction) -> Result<String, Fail> {
-    let sum = shown(alloc, p.add(q))?;
-    let difference = shown(alloc, p.sub(q))?;
-    let product = shown(alloc, p.mul(q))?;
-    let quotient = shown(alloc, p.div(q))?;
+fn row_of(rt: &impl Abort, alloc: Global, p: Fraction, q: Fraction) -> String {
+    let sum = shown(rt, alloc, p.add(q));
+    let difference = shown(rt, alloc, p.sub(q));
+    let product = shown(rt, alloc, p.mul(q));
+    let quotient = shown(rt, alloc, p.div(q));
     let order = sign_of(p.cmp(&q));
-    Ok(format!(in alloc; "{p} {q} {sum} {difference} {product} {quotient} {order}")?)
+    format!(in alloc; "{p} {q} {sum} {difference} {product} {quotient} {order}").expect(
+        rt,
+        "room for a row",
+    )
 }
 
-fn check_row(rt: &impl Abort, alloc: Global, row: &str) -> Result<(), Fail> {
+fn check_row(rt: &impl Abort, alloc: Global, row: &str) {
     let mut words = row.split(' ');
-    let p = read(words.next().ok_or("the first")?)?;
-    let q = read(words.next().ok_or("the second")?)?;
-    assert_eq!(rt; row_of(alloc, p, q)?.as_str(), row);
-    Ok(())
+    let p = read(words.next().expect(rt, "the first")).expect(rt, "the first");
+    let q = read(words.next().expect(rt, "the second")).expect(rt, "the second");
+    assert_eq!(rt; row_of(rt, alloc, p, q).as_str(), row);
 }
 
 #[test]
-fn table(rt: HostRuntime) -> Result<(), Fail> {
+fn table(rt: HostRuntime) {
     let mut count = 0u32;
     for row in rows().lines() {
-        check_row(&rt, rt.alloc(), row)?;
+        check_row(&rt, rt.alloc(), row);
         count = count.saturating_add(1);
     }
     assert_eq!(rt; count, 1000);
-    Ok(())
+}
+
+fn whole(rt: &impl Abort, word: Option<&str>) -> i128 {
+    let digits = word.expect(rt, "a word");
+    digits.parse::<i128>().expect(rt, "a whole number")
+}
+
+fn check_shown(
+    rt: &impl Abort,
+    alloc: Global,
+    row: &str,
+    answer: Result<Fraction, NumError>,
+    wanted: &str,
+) {
+    assert_eq!(rt; shown(rt, alloc, answer).as_str(), wanted, "in {row}");
 }
 
 #[test]
-fn new_at_the_ends(rt: HostRuntime) -> Result<(), Fail> {
-    let alloc = rt.alloc();
+fn new_at_the_ends(rt: HostRuntime) {
     for row in pairs().lines() {
         let mut words = row.split(' ');
-        let n = words.next().ok_or("the numerator")?.parse::<i128>()?;
-        let d = words.next().ok_or("the denominator")?.parse::<i128>()?;
-        let wanted = words.next().ok_or("the fraction")?;
-        assert_eq!(rt;
-            shown(alloc, Fraction::new(n, d))?.as_str(),
-            wanted,
-            "in {row}"
-        );
+        let n = whole(&rt, words.next());
+        let d = whole(&rt, words.next());
+        let wanted = words.next().expect(&rt, "the fraction");
+        check_shown(&rt, rt.alloc(), row, Fraction::new(n, d), wanted);
     }
-    Ok(())
 }
 
 #[test]
-fn reads(rt: HostRuntime) -> Result<(), Fail> {
-    let alloc = rt.alloc();
+fn reads(rt: HostRuntime) {
     for row in texts().lines() {
-        let (text, wanted) = row.split_once('|').ok_or("no bar")?;
-        assert_eq!(rt; shown(alloc, read(text))?.as_str(), wanted, "in {row}");
+        let (text, wanted) = row.split_once('|').expect(&rt, "a bar");
+        check_shown(&rt, rt.alloc(), row, read(text), wanted);
     }
-    Ok(())
 }
 
 #[test]

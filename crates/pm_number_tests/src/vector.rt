@@ -2,10 +2,9 @@ use pm_vector::{
     Ints, Wide, all_in_range, combine, dot, first_wide_place, gcd, gcd_of, lex_cmp, negate,
     primitive,
 };
-use std::alloc::{AllocError, Global};
+use std::alloc::Global;
 use std::cmp::Ordering;
 use std::process::Abort;
-use std::test::Fail;
 
 const HIGH: i128 = i128::MAX;
 
@@ -33,58 +32,62 @@ fn dot_at_the_ends_of_the_range(rt: HostRuntime) {
 }
 
 /// A row of these entries.
-fn row_of(rt: &impl Abort, alloc: Global, entries: &[i128]) -> Result<Ints, AllocError> {
+fn row_of(rt: &impl Abort, alloc: Global, entries: &[i128]) -> Ints {
     assert!(rt; all_in_range(entries));
-    Ok(Ints::from_vec(entries.to_vec(alloc)?))
+    Ints::from_vec(entries.to_vec(alloc).expect(rt, "room for the entries"))
 }
 
 #[test]
-fn rows_hold_entries(rt: HostRuntime) -> Result<(), Fail> {
+fn rows_hold_entries(rt: HostRuntime) {
     let mut row = Ints::new(rt.alloc());
     assert!(rt; row.is_empty());
-    assert!(rt; !all_in_range(&[HIGH, -HIGH, i128::MIN]));
-    row.push(HIGH)?;
-    row.push(-HIGH)?;
+    row.push(HIGH).expect(&rt, "room for an entry");
+    row.push(-HIGH).expect(&rt, "room for an entry");
     assert_eq!(rt; row.len(), 2);
     assert_eq!(rt; row.get(1), -HIGH);
-    let copy = row.copy(rt.alloc())?;
-    assert_eq!(rt; copy, row);
-    assert_eq!(rt;
-        Ints::from_vec(copy.into_vec()).as_slice(),
-        [HIGH, -HIGH].as_slice()
-    );
-    Ok(())
+    check_copy(&rt, rt.alloc(), &row, &[HIGH, -HIGH]);
+}
+
+/// Asks for the entries of a copy of a row.
+fn check_copy(rt: &impl Abort, alloc: Global, row: &Ints, entries: &[i128]) {
+    let copy = row.copy(alloc).expect(rt, "a copy");
+    assert_eq!(rt; copy, *row);
+    assert_eq!(rt; Ints::from_vec(copy.into_vec()).as_slice(), entries);
+}
+
+#[test]
+fn the_least_number_is_out_of_the_range(rt: HostRuntime) {
+    assert!(rt; !all_in_range(&[HIGH, -HIGH, i128::MIN]));
 }
 
 const UNSORTED: &[&[i128]] = &[&[1, -2], &[1], &[-3, 9], &[1, -7, 4]];
 
 /// Rows in order, which stood in another one.
-fn sorted_rows(rt: &impl Abort, alloc: Global) -> Result<Vec<Ints>, AllocError> {
+fn sorted_rows(rt: &impl Abort, alloc: Global) -> Vec<Ints> {
     let mut rows = Vec::new(alloc);
     for entries in UNSORTED {
-        rows.push(row_of(rt, alloc, entries)?)?;
+        let row = row_of(rt, alloc, entries);
+        rows.push(row).expect(rt, "room for a row");
     }
-    rows.sort()?;
-    Ok(rows)
+    rows.sort().expect(rt, "room to sort");
+    rows
 }
 
 #[test]
-fn rows_sort(rt: HostRuntime) -> Result<(), AllocError> {
-    let rows = sorted_rows(&rt, rt.alloc())?;
-    let shown = format!(in rt.alloc(); "{rows:?}")?;
+fn rows_sort(rt: HostRuntime) {
+    let rows = sorted_rows(&rt, rt.alloc());
+    let shown = format!(in rt.alloc(); "{rows:?}").expect(&rt, "room for a text");
     let sorted =
         "[Ints { entries: [-3, 9] }, Ints { entries: [1] }, Ints { entries: [1, -7, 4] }, Ints { entries: [1, -2] }]";
     assert_eq!(rt; shown.as_str(), sorted);
-    Ok(())
 }
 
 #[test]
-fn sorted_rows_compare(rt: HostRuntime) -> Result<(), AllocError> {
-    let rows = sorted_rows(&rt, rt.alloc())?;
+fn sorted_rows_compare(rt: HostRuntime) {
+    let rows = sorted_rows(&rt, rt.alloc());
     assert_eq!(rt; rows.len(), 4);
     assert_eq!(rt; lex_cmp(&rows[1], &rows[2]), Ordering::Less);
     assert!(rt; rows[3] > rows[2]);
-    Ok(())
 }
 
 const COMBINATIONS: &[(i128, &[i128], i128, &[i128], Result<&[i128], Wide>)] = &[
@@ -105,22 +108,32 @@ fn check_combination(
     (p, first): (i128, &[i128]),
     (q, second): (i128, &[i128]),
     want: Result<&[i128], Wide>,
-) -> Result<(), AllocError> {
-    let mut v = row_of(rt, alloc, first)?;
-    let w = row_of(rt, alloc, second)?;
-    assert!(rt; v.len() == w.len());
-    let answer = combine(p, &mut v, q, &w);
-    assert_eq!(rt; answer.is_ok(), want.is_ok());
+) {
+    let mut v = row_of(rt, alloc, first);
+    let is_in_range = is_combined(rt, alloc, p, &mut v, q, second);
+    assert_eq!(rt; is_in_range, want.is_ok());
     assert_eq!(rt; v.as_slice(), want.unwrap_or(first));
-    Ok(())
+}
+
+/// Whether v becomes p v - q w, where w has these entries.
+fn is_combined(
+    rt: &impl Abort,
+    alloc: Global,
+    p: i128,
+    v: &mut Ints,
+    q: i128,
+    second: &[i128],
+) -> bool {
+    let w = row_of(rt, alloc, second);
+    assert!(rt; v.len() == w.len());
+    combine(p, v, q, &w).is_ok()
 }
 
 #[test]
-fn combine_at_the_ends_of_the_range(rt: HostRuntime) -> Result<(), AllocError> {
+fn combine_at_the_ends_of_the_range(rt: HostRuntime) {
     for (p, first, q, second, want) in COMBINATIONS {
-        check_combination(&rt, rt.alloc(), (*p, first), (*q, second), *want)?;
+        check_combination(&rt, rt.alloc(), (*p, first), (*q, second), *want);
     }
-    Ok(())
 }
 
 #[test]
@@ -145,21 +158,19 @@ const PRIMITIVE_ROWS: &[(&[i128], &[i128])] = &[
 ];
 
 #[test]
-fn primitive_rows(rt: HostRuntime) -> Result<(), AllocError> {
+fn primitive_rows(rt: HostRuntime) {
     for (entries, want) in PRIMITIVE_ROWS {
-        let mut row = row_of(&rt, rt.alloc(), entries)?;
+        let mut row = row_of(&rt, rt.alloc(), entries);
         primitive(&mut row);
         assert_eq!(rt; row.as_slice(), *want);
     }
-    Ok(())
 }
 
 #[test]
-fn opposite_row(rt: HostRuntime) -> Result<(), AllocError> {
-    let mut row = row_of(&rt, rt.alloc(), &[3, -HIGH, 0])?;
+fn opposite_row(rt: HostRuntime) {
+    let mut row = row_of(&rt, rt.alloc(), &[3, -HIGH, 0]);
     negate(&mut row);
     assert_eq!(rt; row.as_slice(), [-3, HIGH, 0].as_slice());
-    Ok(())
 }
 
 #[test]

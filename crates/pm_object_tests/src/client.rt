@@ -10,7 +10,7 @@ use pm_geom::ObjectType;
 use pm_object::{Draft, Object, View};
 use pm_types::{ClientName, Kind, PropId, PropSet, StandardClient, Value};
 use std::alloc::Global;
-use std::test::Fail;
+use std::process::Abort;
 
 // Answers CONE_AMBIENT_DIM, by the columns of the view.
 #[derive(Drop)]
@@ -58,21 +58,46 @@ impl Client for Columns {
     }
 }
 
-#[test]
-fn the_first_client_of_the_kind_is_run(rt: HostRuntime) -> Result<(), Fail> {
-    let alloc = rt.alloc();
-    let mut clients: Vec<Box<dyn Client>> = Vec::new(alloc);
+// Two clients of the kind.
+fn two_clients(rt: &(impl Abort + AllocGlobal)) -> Vec<Box<dyn Client>> {
+    let mut clients: Vec<Box<dyn Client>> = Vec::new(rt.alloc());
     for _ in 0..2 {
-        clients.push(Box::new(alloc, Columns { starts: 0 })?)?;
+        let client = Box::new(rt.alloc(), Columns { starts: 0 }).expect(rt, "a client");
+        clients.push(client).expect(rt, "a client");
     }
-    let kind = columns_kind();
+    clients
+}
+
+#[test]
+fn clients_have_places(rt: HostRuntime) {
+    let clients = two_clients(&rt);
     assert!(rt; place_of(&clients, StandardClient::Incidence.kind()).is_none());
-    assert_eq!(rt; place_of(&clients, kind), Some(0));
-    let mut object = Object::new(alloc, ObjectType::Polytope);
-    object.take(PropId::ConeAmbientDim, Value::Int(2))?;
+    assert_eq!(rt; place_of(&clients, columns_kind()), Some(0));
+}
+
+// A polytope of which the columns alone are given, two.
+fn of_two_columns(rt: &(impl Abort + AllocGlobal)) -> Object {
+    let mut object = Object::new(rt.alloc(), ObjectType::Polytope);
+    object
+        .take(PropId::ConeAmbientDim, Value::Int(2))
+        .expect(rt, "the dimension is taken");
+    object
+}
+
+fn number_in(answer: Result<Value, ClientFail>) -> Option<i64> {
+    match answer {
+        Ok(Value::Int(number)) => Some(number),
+        _ => None,
+    }
+}
+
+#[test]
+fn the_first_client_of_the_kind_is_run(rt: HostRuntime) {
+    let object = of_two_columns(&rt);
+    let mut clients = two_clients(&rt);
+    let kind = columns_kind();
     let answer = answer_of(&rt, &mut clients, kind, &object, PropId::ConeAmbientDim);
-    assert!(rt; matches!(answer, Ok(Value::Int(2))));
+    assert_eq!(rt; number_in(answer), Some(2));
     assert_eq!(rt; clients.len(), 2);
     assert_eq!(rt; (clients[0].starts(), clients[1].starts()), (1, 0));
-    Ok(())
 }

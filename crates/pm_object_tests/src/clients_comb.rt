@@ -29,11 +29,17 @@ fn polytope_of(rt: &(impl Abort + AllocGlobal), vertices: Matrix, facets: Matrix
     object
 }
 
-// What the client in a box answers, or why it fails; it is started once.
-fn run_alone(rt: &(impl Abort + AllocGlobal), object: &Object) -> Result<Value, ClientFail> {
+// The client in a box, alone.
+fn one_client(rt: &(impl Abort + AllocGlobal)) -> Vec<Box<dyn Client>> {
     let mut clients: Vec<Box<dyn Client>> = Vec::new(rt.alloc());
     let client = Box::new(rt.alloc(), SetsClient::new(0)).expect(rt, "a client");
     clients.push(client).expect(rt, "a client");
+    clients
+}
+
+// What the client in a box answers, or why it fails; it is started once.
+fn run_alone(rt: &(impl Abort + AllocGlobal), object: &Object) -> Result<Value, ClientFail> {
+    let mut clients = one_client(rt);
     let kind = StandardClient::Incidence.kind();
     let answer = answer_of(rt, &mut clients, kind, object, PropId::VerticesInFacets);
     assert_eq!(rt; clients.len(), 1);
@@ -54,13 +60,17 @@ fn sets_of(rt: &(impl Abort + AllocGlobal), object: &Object) -> Sets {
     sets_in(value).expect(rt, "sets")
 }
 
+// From 0 to 1/2.
+fn segment(rt: &(impl Abort + AllocGlobal)) -> Object {
+    let (zero, one) = (Fraction::zero(), Fraction::one());
+    let vertices = two_rows(rt, &[one, zero], &[one, number(rt, 1, 2)]);
+    let facets = two_rows(rt, &[zero, one], &[number(rt, 1, 3), number(rt, -2, 3)]);
+    polytope_of(rt, vertices, facets)
+}
+
 #[test]
 fn a_segment_has_two_vertices_on_two_facets(rt: HostRuntime) {
-    let (zero, one) = (Fraction::zero(), Fraction::one());
-    let vertices = two_rows(&rt, &[one, zero], &[one, number(&rt, 1, 2)]);
-    let facets = two_rows(&rt, &[zero, one], &[number(&rt, 1, 3), number(&rt, -2, 3)]);
-    let segment = polytope_of(&rt, vertices, facets);
-    let sets = sets_of(&rt, &segment);
+    let sets = sets_of(&rt, &segment(&rt));
     assert_eq!(rt; sets.cols(), 2);
     let [first, second] = sets.rows() else {
         panic!(rt; "two facets");
@@ -87,7 +97,9 @@ fn without_vertices_the_sets_are_empty(rt: HostRuntime) {
     let sets = sets_of(&rt, &object);
     assert_eq!(rt; sets.cols(), 0);
     assert_eq!(rt; sets.rows().len(), 2);
-    assert!(rt; sets.rows().iter().all(|set| set.is_empty()));
+    for set in sets.rows() {
+        assert!(rt; set.is_empty());
+    }
 }
 
 // The rows whose product leaves the range.
@@ -98,14 +110,19 @@ fn wide_product(evidence: Evidence) -> Option<(Ints, Ints)> {
     }
 }
 
+// From 0 to 2^100.
+fn wide_segment(rt: &(impl Abort + AllocGlobal)) -> Object {
+    let (zero, one) = (Fraction::zero(), Fraction::one());
+    let great = number(rt, 1 << 100, 1);
+    let vertices = two_rows(rt, &[one, zero], &[one, great]);
+    let facets = two_rows(rt, &[zero, one], &[one, great.neg()]);
+    polytope_of(rt, vertices, facets)
+}
+
 #[test]
 fn a_product_leaves_the_range(rt: HostRuntime) {
-    let (zero, one) = (Fraction::zero(), Fraction::one());
-    let great = number(&rt, 1 << 100, 1);
-    let vertices = two_rows(&rt, &[one, zero], &[one, great]);
-    let facets = two_rows(&rt, &[zero, one], &[one, great.neg()]);
-    let object = polytope_of(&rt, vertices, facets);
-    let evidence = evidence_in(run_alone(&rt, &object)).expect(&rt, "the evidence");
+    let answer = run_alone(&rt, &wide_segment(&rt));
+    let evidence = evidence_in(answer).expect(&rt, "the evidence");
     let (first, second) = wide_product(evidence).expect(&rt, "two rows");
     assert_eq!(rt; first.as_slice(), [1, 1 << 100].as_slice());
     assert_eq!(rt; second.as_slice(), [1, -(1 << 100)].as_slice());

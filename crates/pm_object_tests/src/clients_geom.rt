@@ -12,7 +12,6 @@ use pm_geom::{Evidence, ObjectType};
 use pm_matrix::Matrix;
 use pm_object::Object;
 use pm_types::{PropId, StandardClient, Value};
-use std::alloc::{AllocError, Global};
 use std::process::Abort;
 
 // A cone by its rays, with what goes without saying.
@@ -42,27 +41,42 @@ fn wide_step(evidence: Evidence) -> Option<ElimEvidence> {
     }
 }
 
-fn rows_clients(alloc: Global) -> Result<Vec<Box<dyn Client>>, AllocError> {
-    let mut clients: Vec<Box<dyn Client>> = Vec::new(alloc);
+fn rows_clients(rt: &(impl Abort + AllocGlobal)) -> Vec<Box<dyn Client>> {
+    let mut clients: Vec<Box<dyn Client>> = Vec::new(rt.alloc());
     for k in 0..RowsClient::COUNT {
-        clients.push(Box::new(alloc, RowsClient::new(k))?)?;
+        let client = Box::new(rt.alloc(), RowsClient::new(k)).expect(rt, "a client");
+        clients.push(client).expect(rt, "a client");
     }
-    Ok(clients)
+    clients
+}
+
+// The cone of one ray, which is given twice.
+fn ray_given_twice(rt: &(impl Abort + AllocGlobal)) -> Object {
+    let rays = two_rows(
+        rt,
+        &[number(rt, 1, 2), number(rt, -1, 3)],
+        &[number(rt, 3, 1), number(rt, -2, 1)],
+    );
+    cone_of(rt, rays)
+}
+
+// The rows that a client answers as the span of a cone.
+fn span_of(
+    rt: &(impl Abort + AllocGlobal),
+    clients: &mut Vec<Box<dyn Client>>,
+    cone: &Object,
+) -> Matrix {
+    let kind = StandardClient::HullFromVertices.kind();
+    let answer = answer_of(rt, clients, kind, cone, PropId::AffineHull);
+    let value = answer.expect(rt, "the client answers");
+    matrix_in(value).expect(rt, "a matrix")
 }
 
 #[test]
 fn a_span_is_found(rt: HostRuntime) {
-    let mut clients = rows_clients(rt.alloc()).expect(&rt, "the clients");
-    let rays = two_rows(
-        &rt,
-        &[number(&rt, 1, 2), number(&rt, -1, 3)],
-        &[number(&rt, 3, 1), number(&rt, -2, 1)],
-    );
-    let cone = cone_of(&rt, rays);
-    let kind = StandardClient::HullFromVertices.kind();
-    let answer = answer_of(&rt, &mut clients, kind, &cone, PropId::AffineHull);
-    let value = answer.expect(&rt, "the client answers");
-    let span = matrix_in(value).expect(&rt, "a matrix");
+    let cone = ray_given_twice(&rt);
+    let mut clients = rows_clients(&rt);
+    let span = span_of(&rt, &mut clients, &cone);
     assert_eq!(rt; (span.rows(), span.cols()), (1, 2));
     assert_eq!(rt;
         span.row(0),
@@ -72,26 +86,35 @@ fn a_span_is_found(rt: HostRuntime) {
     assert_eq!(rt; (clients[0].starts(), clients[3].starts()), (0, 1));
 }
 
-fn dim_clients(alloc: Global) -> Result<Vec<Box<dyn Client>>, AllocError> {
-    let mut clients: Vec<Box<dyn Client>> = Vec::new(alloc);
+fn dim_clients(rt: &(impl Abort + AllocGlobal)) -> Vec<Box<dyn Client>> {
+    let mut clients: Vec<Box<dyn Client>> = Vec::new(rt.alloc());
     for k in 0..DimClient::COUNT {
-        clients.push(Box::new(alloc, DimClient::new(k))?)?;
+        let client = Box::new(rt.alloc(), DimClient::new(k)).expect(rt, "a client");
+        clients.push(client).expect(rt, "a client");
     }
-    Ok(clients)
+    clients
 }
 
 // (2^100, -1) and (-1, 2^100): the second row, reduced by the first, has 2^200 in its second column.
+fn wide_cone(rt: &(impl Abort + AllocGlobal)) -> Object {
+    let great = number(rt, 1 << 100, 1);
+    let less = Fraction::one().neg();
+    let rays = two_rows(rt, &[great, less], &[less, great]);
+    cone_of(rt, rays)
+}
+
+// The step that leaves the range when the dimension of a cone is found.
+fn wide_step_of(rt: &(impl Abort + AllocGlobal), cone: &Object) -> ElimEvidence {
+    let mut clients = dim_clients(rt);
+    let kind = StandardClient::ConeDimV.kind();
+    let answer = answer_of(rt, &mut clients, kind, cone, PropId::ConeDim);
+    let evidence = evidence_in(answer).expect(rt, "the evidence");
+    wide_step(evidence).expect(rt, "a step")
+}
+
 #[test]
 fn a_rank_leaves_the_range(rt: HostRuntime) {
-    let mut clients = dim_clients(rt.alloc()).expect(&rt, "the clients");
-    let great = number(&rt, 1 << 100, 1);
-    let less = Fraction::one().neg();
-    let rays = two_rows(&rt, &[great, less], &[less, great]);
-    let cone = cone_of(&rt, rays);
-    let kind = StandardClient::ConeDimV.kind();
-    let answer = answer_of(&rt, &mut clients, kind, &cone, PropId::ConeDim);
-    let evidence = evidence_in(answer).expect(&rt, "the evidence");
-    let step = wide_step(evidence).expect(&rt, "a step");
+    let step = wide_step_of(&rt, &wide_cone(&rt));
     assert_eq!(rt; step.list, ElimList::Rows);
     assert_eq!(rt; (step.front, step.by, step.column), (1, 0, 1));
     assert_eq!(rt; step.part.as_slice(), [-1, 1 << 100].as_slice());

@@ -161,11 +161,15 @@ const SMALL: &[(PropId, &str, &str)] = &[
     (PropId::FullDim, "1", "shape"),
 ];
 
+fn check_values(rt: &(impl Abort + AllocGlobal), rows: &[(PropId, &str, &str)]) {
+    for (p, text, want) in rows {
+        assert_eq!(rt; shown(rt, *p, text).as_str(), *want, "of {text}");
+    }
+}
+
 #[test]
 fn small_values_are_read(rt: HostRuntime) {
-    for (p, text, want) in SMALL {
-        assert_eq!(rt; shown(&rt, *p, text).as_str(), *want, "of {text}");
-    }
+    check_values(&rt, SMALL);
 }
 
 // The text [X,X,..,X,LAST] of so many X.
@@ -200,15 +204,22 @@ const LONG: &[(PropId, &str, u32, &str, &str)] = &[
     ),
 ];
 
+fn long_value(
+    rt: &(impl Abort + AllocGlobal),
+    p: PropId,
+    item: &str,
+    count: u32,
+    last: &str,
+) -> String {
+    let text = repeated(rt, item, count, last);
+    shown(rt, p, &text)
+}
+
 #[test]
 fn long_values_are_read(rt: HostRuntime) {
     for (p, item, count, last, want) in LONG {
-        let text = repeated(&rt, item, *count, last);
-        assert_eq!(rt;
-            shown(&rt, *p, &text).as_str(),
-            *want,
-            "of {count} {item} and {last}"
-        );
+        let shown = long_value(&rt, *p, item, *count, last);
+        assert_eq!(rt; shown.as_str(), *want, "of {count} {item} and {last}");
     }
 }
 
@@ -223,12 +234,8 @@ const LONG_ROWS: &[(u32, &str, &str)] = &[
 fn long_rows_are_read(rt: HostRuntime) {
     for (count, last, want) in LONG_ROWS {
         let row = repeated(&rt, "1", *count, last);
-        let text = repeated(&rt, &row, 0, &row);
-        assert_eq!(rt;
-            shown(&rt, PropId::Vertices, &text).as_str(),
-            *want,
-            "of {count} and {last}"
-        );
+        let shown = long_value(&rt, PropId::Vertices, &row, 0, &row);
+        assert_eq!(rt; shown.as_str(), *want, "of {count} and {last}");
     }
 }
 

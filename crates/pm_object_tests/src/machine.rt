@@ -4,35 +4,40 @@ use pm_client::Client;
 use pm_machine::Session;
 use pm_rules::standard_book;
 use pm_script::{Command, Reply, read_line, reply_bytes};
-use std::alloc::Global;
 use std::process::Abort;
-use std::test::Fail;
 
-fn text_of(alloc: Global, reply: &Reply) -> Result<String, Fail> {
-    Ok(String::from_utf8(reply_bytes(alloc, reply)?)?)
+fn text_of(rt: &(impl Abort + AllocGlobal), reply: &Reply) -> String {
+    let bytes = reply_bytes(rt.alloc(), reply).expect(rt, "the bytes");
+    String::from_utf8(bytes).expect(rt, "a text")
+}
+
+fn command_of(rt: &(impl Abort + AllocGlobal), line: &str) -> Command {
+    read_line(rt.alloc(), line.as_bytes()).expect(rt, "a command")
 }
 
 // The text of the reply to a line, in a session without clients.
-fn answer(alloc: Global, session: &mut Session, line: &str) -> Result<String, Fail> {
-    let mut clients: Vec<Box<dyn Client>> = Vec::new(alloc);
-    let reply = match read_line(alloc, line.as_bytes())? {
-        Command::Blank => return Ok(String::from_str(alloc, "blank")?),
-        command => session.step(alloc, command, &mut clients)?,
+fn answer(rt: &(impl Abort + AllocGlobal), session: &mut Session, line: &str) -> String {
+    let mut clients: Vec<Box<dyn Client>> = Vec::new(rt.alloc());
+    let reply = match command_of(rt, line) {
+        Command::Blank => panic!(rt; "a blank line"),
+        command => session
+            .step(rt.alloc(), command, &mut clients)
+            .expect(rt, "a reply"),
     };
-    text_of(alloc, &reply)
+    text_of(rt, &reply)
 }
 
-fn check_replies(
-    rt: &impl Abort,
-    alloc: Global,
-    session: &mut Session,
-    lines: &[(&str, &str)],
-) -> Result<(), Fail> {
+fn check_replies(rt: &(impl Abort + AllocGlobal), session: &mut Session, lines: &[(&str, &str)]) {
     for (line, want) in lines {
-        let text = answer(alloc, session, line)?;
+        let text = answer(rt, session, line);
         assert_eq!(rt; text.as_str(), *want, "at {line}");
     }
-    Ok(())
+}
+
+// A session over the standard book.
+fn session(rt: &(impl Abort + AllocGlobal)) -> Session {
+    let book = standard_book(rt.alloc()).expect(rt, "the book");
+    Session::new(rt.alloc(), book)
 }
 
 // Lines and the replies to them.
@@ -65,14 +70,12 @@ const TAKING: &[(&str, &str)] = &[
 ];
 
 #[test]
-fn objects_take_values(rt: HostRuntime) -> Result<(), Fail> {
-    let alloc = rt.alloc();
-    let mut session = Session::new(alloc, standard_book(alloc)?);
+fn objects_take_values(rt: HostRuntime) {
+    let mut session = session(&rt);
     assert!(rt; session.object("s").is_none());
-    check_replies(&rt, alloc, &mut session, TAKING)?;
+    check_replies(&rt, &mut session, TAKING);
     assert!(rt; session.object("s").is_some());
     assert!(rt; session.object("f").is_none());
-    Ok(())
 }
 
 // Lines and the replies to them.
@@ -91,9 +94,7 @@ const ASKING: &[(&str, &str)] = &[
 ];
 
 #[test]
-fn without_clients_no_chain_leads_anywhere(rt: HostRuntime) -> Result<(), Fail> {
-    let alloc = rt.alloc();
-    let mut session = Session::new(alloc, standard_book(alloc)?);
-    check_replies(&rt, alloc, &mut session, ASKING)?;
-    Ok(())
+fn without_clients_no_chain_leads_anywhere(rt: HostRuntime) {
+    let mut session = session(&rt);
+    check_replies(&rt, &mut session, ASKING);
 }

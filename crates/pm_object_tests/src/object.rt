@@ -10,7 +10,6 @@ use pm_object::{Draft, Excluded, Object, Origin, Round, RoundEnd, TakeFail, Why}
 use pm_types::{Cost, PropId, PropSet, RuleId, Sets, StandardClient, Value};
 use pm_vector::Ints;
 use std::process::Abort;
-use std::test::Fail;
 
 fn pair(rt: &(impl Abort + AllocGlobal), first: i8, second: i8) -> Ints {
     let entries = vec![in rt.alloc(); first as i128, second as i128].expect(rt, "the entries");
@@ -63,101 +62,118 @@ fn is_of_two_rows(value: Option<&Value>) -> bool {
     }
 }
 
+fn is_number(value: Option<&Value>, number: i64) -> bool {
+    match value {
+        Some(Value::Int(held)) => *held == number,
+        _ => false,
+    }
+}
+
+// The segment, with what goes without saying.
+fn settled_segment(rt: &(impl Abort + AllocGlobal)) -> Object {
+    let mut object = segment(rt);
+    object.settle(rt.alloc()).expect(rt, "it is settled");
+    object
+}
+
 #[test]
-fn what_goes_without_saying(rt: HostRuntime) -> Result<(), Fail> {
-    let alloc = rt.alloc();
+fn what_goes_without_saying(rt: HostRuntime) {
     let mut object = segment(&rt);
     let given = PropSet::of_list(&[PropId::Vertices, PropId::Facets]);
     assert_eq!(rt; (object.names(), object.cols()), (given, Some(2)));
-    object.settle(alloc)?;
+    object.settle(rt.alloc()).expect(&rt, "it is settled");
     let added = PropSet::of_list(&[PropId::ConeAmbientDim, PropId::LinealitySpace]);
     assert_eq!(rt; object.names(), given.union(added));
-    Ok(())
 }
 
 #[test]
-fn values_that_go_without_saying(rt: HostRuntime) -> Result<(), Fail> {
-    let alloc = rt.alloc();
-    let mut object = segment(&rt);
-    object.settle(alloc)?;
-    assert!(rt; matches!(object.lookup(PropId::ConeAmbientDim), Some(Value::Int(2))));
+fn values_that_go_without_saying(rt: HostRuntime) {
+    let mut object = settled_segment(&rt);
+    assert!(rt; is_number(object.lookup(PropId::ConeAmbientDim), 2));
     assert!(rt; is_without_rows(object.lookup(PropId::LinealitySpace)));
-    assert!(rt; object.held().iter().all(|h| h.origin == Origin::Given));
-    object.settle(alloc)?;
+    for held in object.held() {
+        assert!(rt; held.origin == Origin::Given);
+    }
+    object.settle(rt.alloc()).expect(&rt, "it is settled");
     assert_eq!(rt; object.held().len(), 4);
-    Ok(())
 }
 
 #[test]
-fn a_cone_without_values_has_one_column(rt: HostRuntime) -> Result<(), Fail> {
-    let alloc = rt.alloc();
-    let mut cone = Object::new(alloc, ObjectType::Cone);
-    cone.settle(alloc)?;
-    assert!(rt; matches!(cone.lookup(PropId::ConeAmbientDim), Some(Value::Int(1))));
+fn a_cone_without_values_has_one_column(rt: HostRuntime) {
+    let mut cone = Object::new(rt.alloc(), ObjectType::Cone);
+    cone.settle(rt.alloc()).expect(&rt, "it is settled");
+    assert!(rt; is_number(cone.lookup(PropId::ConeAmbientDim), 1));
     assert_eq!(rt; cone.names(), PropSet::of(PropId::ConeAmbientDim));
-    Ok(())
 }
 
 #[test]
-fn cones_by_facets_are_of_the_whole_space(rt: HostRuntime) -> Result<(), Fail> {
-    let alloc = rt.alloc();
-    let mut cone = Object::new(alloc, ObjectType::Cone);
+fn cones_by_facets_are_of_the_whole_space(rt: HostRuntime) {
+    let mut cone = Object::new(rt.alloc(), ObjectType::Cone);
     let facets = two_rows(&rt, (0, 1), (1, 0));
-    cone.take(PropId::Facets, Value::Mat(facets))?;
-    cone.settle(alloc)?;
+    cone.take(PropId::Facets, Value::Mat(facets))
+        .expect(&rt, "the facets are taken");
+    cone.settle(rt.alloc()).expect(&rt, "it is settled");
     assert!(rt; is_without_rows(cone.lookup(PropId::AffineHull)));
     assert!(rt; !cone.holds(PropId::LinealitySpace));
-    Ok(())
 }
 
 #[test]
-fn facets_of_fans_are_not_taken(rt: HostRuntime) -> Result<(), Fail> {
-    let alloc = rt.alloc();
-    let mut object = Object::new(alloc, ObjectType::Fan);
+fn facets_of_fans_are_not_taken(rt: HostRuntime) {
+    let mut object = Object::new(rt.alloc(), ObjectType::Fan);
     let facets = two_rows(&rt, (0, 1), (1, -1));
-    assert_eq!(rt;
-        object.take(PropId::Facets, Value::Mat(facets)),
-        Err(TakeFail::NotOfType)
-    );
-    Ok(())
+    let taken = object.take(PropId::Facets, Value::Mat(facets));
+    assert_eq!(rt; taken, Err(TakeFail::NotOfType));
+}
+
+// A polytope of which the columns alone are given, two.
+fn of_two_columns(rt: &(impl Abort + AllocGlobal)) -> Object {
+    let mut object = Object::new(rt.alloc(), ObjectType::Polytope);
+    object
+        .take(PropId::ConeAmbientDim, Value::Int(2))
+        .expect(rt, "the dimension is taken");
+    object
 }
 
 #[test]
-fn what_is_not_taken(rt: HostRuntime) -> Result<(), Fail> {
-    let alloc = rt.alloc();
-    let mut object = Object::new(alloc, ObjectType::Polytope);
-    object.take(PropId::ConeAmbientDim, Value::Int(2))?;
-    assert_eq!(rt;
-        object.take(PropId::ConeAmbientDim, Value::Int(3)),
-        Err(TakeFail::AlreadyHeld)
-    );
-    assert_eq!(rt;
-        object.take(PropId::Vertices, Value::Mat(Matrix::new(alloc, 3))),
-        Err(TakeFail::Columns)
-    );
-    let zero = two_rows(&rt, (1, 0), (0, 0));
-    assert_eq!(rt;
-        object.take(PropId::Facets, Value::Mat(zero)),
-        Err(TakeFail::NotAThing)
-    );
-    let behind = two_rows(&rt, (1, 0), (-1, 0));
-    assert_eq!(rt;
-        object.take(PropId::Vertices, Value::Mat(behind)),
-        Err(TakeFail::NotAThing)
-    );
+fn what_is_not_taken(rt: HostRuntime) {
+    let mut object = of_two_columns(&rt);
+    let again = object.take(PropId::ConeAmbientDim, Value::Int(3));
+    assert_eq!(rt; again, Err(TakeFail::AlreadyHeld));
+    let wide = Matrix::new(rt.alloc(), 3);
+    let taken = object.take(PropId::Vertices, Value::Mat(wide));
+    assert_eq!(rt; taken, Err(TakeFail::Columns));
     assert!(rt; object.holds(PropId::ConeAmbientDim) && !object.is_sealed());
-    object.add_round(Round {
+    assert!(rt; object.names() == PropSet::of(PropId::ConeAmbientDim));
+}
+
+#[test]
+fn rows_that_are_not_taken(rt: HostRuntime) {
+    let mut object = of_two_columns(&rt);
+    let zero = two_rows(&rt, (1, 0), (0, 0));
+    let taken = object.take(PropId::Facets, Value::Mat(zero));
+    assert_eq!(rt; taken, Err(TakeFail::NotAThing));
+    let behind = two_rows(&rt, (1, 0), (-1, 0));
+    let taken = object.take(PropId::Vertices, Value::Mat(behind));
+    assert_eq!(rt; taken, Err(TakeFail::NotAThing));
+    assert!(rt; object.holds(PropId::ConeAmbientDim) && !object.is_sealed());
+    assert!(rt; object.names() == PropSet::of(PropId::ConeAmbientDim));
+}
+
+#[test]
+fn nothing_is_taken_after_a_round(rt: HostRuntime) {
+    let mut object = of_two_columns(&rt);
+    assert!(rt; object.holds(PropId::ConeAmbientDim) && !object.is_sealed());
+    let round = Round {
         sub: None,
         weight: Cost::none(),
-        chain: Vec::new(alloc),
+        chain: Vec::new(rt.alloc()),
         end: RoundEnd::Done,
-    })?;
-    assert_eq!(rt;
-        object.take(PropId::Facets, Value::Mat(Matrix::new(alloc, 2))),
-        Err(TakeFail::Sealed)
-    );
+    };
+    object.add_round(round).expect(&rt, "it is added");
+    let facets = Matrix::new(rt.alloc(), 2);
+    let taken = object.take(PropId::Facets, Value::Mat(facets));
+    assert_eq!(rt; taken, Err(TakeFail::Sealed));
     assert!(rt; object.is_sealed() && object.names() == PropSet::of(PropId::ConeAmbientDim));
-    Ok(())
 }
 
 // A rule that failed with evidence.
@@ -183,8 +199,7 @@ fn failed_round(rt: &(impl Abort + AllocGlobal)) -> Round {
 
 // An object that a round has left: its last rule failed.
 fn left_by_a_round(rt: &(impl Abort + AllocGlobal)) -> Object {
-    let mut object = segment(rt);
-    object.settle(rt.alloc()).expect(rt, "it is settled");
+    let mut object = settled_segment(rt);
     object
         .disable(rt.alloc(), "slow")
         .expect(rt, "it is disabled");
@@ -198,47 +213,46 @@ fn left_by_a_round(rt: &(impl Abort + AllocGlobal)) -> Object {
 }
 
 #[test]
-fn copies_hold_the_same(rt: HostRuntime) -> Result<(), Fail> {
-    let alloc = rt.alloc();
+fn copies_hold_the_same(rt: HostRuntime) {
     let object = left_by_a_round(&rt);
-    let copy = object.copy(alloc)?;
+    let copy = object.copy(rt.alloc()).expect(&rt, "the copy");
     assert!(rt; copy.is_disabled("slow") && !copy.is_disabled("slo"));
     assert_eq!(rt; (copy.of(), copy.names()), (object.of(), object.names()));
-    Ok(())
+}
+
+fn copy_of_one_left_by_a_round(rt: &(impl Abort + AllocGlobal)) -> Object {
+    left_by_a_round(rt).copy(rt.alloc()).expect(rt, "the copy")
+}
+
+// The number of the evidence, where a client failed.
+fn evidence_number(why: &Why) -> Option<u8> {
+    match why {
+        Why::Failed(evidence) => Some(evidence.number()),
+        _ => None,
+    }
 }
 
 #[test]
-fn copies_have_the_same_exclusions(rt: HostRuntime) -> Result<(), Fail> {
-    let alloc = rt.alloc();
-    let copy = left_by_a_round(&rt).copy(alloc)?;
-    let [exclusion] = copy.excluded() else {
-        panic!(rt; "one exclusion");
-    };
-    assert_eq!(rt; exclusion.rule, RuleId(3));
-    let Why::Failed(evidence) = &exclusion.why else {
-        panic!(rt; "a client failed");
-    };
-    assert_eq!(rt; evidence.number(), 4);
-    Ok(())
+fn copies_have_the_same_exclusions(rt: HostRuntime) {
+    let copy = copy_of_one_left_by_a_round(&rt);
+    let excluded = copy.excluded();
+    assert!(rt; excluded.len() == 1);
+    assert_eq!(rt; excluded[0].rule, RuleId(3));
+    assert_eq!(rt; evidence_number(&excluded[0].why), Some(4));
 }
 
 #[test]
-fn copies_have_the_same_rounds(rt: HostRuntime) -> Result<(), Fail> {
-    let alloc = rt.alloc();
-    let copy = left_by_a_round(&rt).copy(alloc)?;
-    let [round] = copy.rounds() else {
-        panic!(rt; "one round");
-    };
-    assert_eq!(rt; round.chain.as_slice(), [RuleId(3), RuleId(5)].as_slice());
-    assert_eq!(rt; round.end, RoundEnd::Failed(RuleId(3), 4));
-    Ok(())
+fn copies_have_the_same_rounds(rt: HostRuntime) {
+    let copy = copy_of_one_left_by_a_round(&rt);
+    let rounds = copy.rounds();
+    assert!(rt; rounds.len() == 1);
+    assert_eq!(rt; rounds[0].chain.as_slice(), &[RuleId(3), RuleId(5)][..]);
+    assert_eq!(rt; rounds[0].end, RoundEnd::Failed(RuleId(3), 4));
 }
 
 #[test]
-fn a_client_reads_the_sources(rt: HostRuntime) -> Result<(), Fail> {
-    let alloc = rt.alloc();
-    let mut object = segment(&rt);
-    object.settle(alloc)?;
+fn a_client_reads_the_sources(rt: HostRuntime) {
+    let object = settled_segment(&rt);
     let kind = StandardClient::Incidence.kind();
     assert!(rt; object.cols().is_some());
     assert!(rt; kind.sources.is_subset(object.names()));
@@ -248,28 +262,24 @@ fn a_client_reads_the_sources(rt: HostRuntime) -> Result<(), Fail> {
     assert!(rt; view.kind() == kind);
     assert!(rt; view.value(PropId::ConeAmbientDim).is_none());
     assert!(rt; is_of_two_rows(view.value(PropId::Facets)));
-    Ok(())
+}
+
+fn are_sets(value: Option<Value>) -> bool {
+    match value {
+        Some(Value::Sets(_)) => true,
+        _ => false,
+    }
 }
 
 #[test]
-fn a_client_puts_its_answer(rt: HostRuntime) -> Result<(), Fail> {
-    let alloc = rt.alloc();
+fn a_client_puts_its_answer(rt: HostRuntime) {
     let kind = StandardClient::Incidence.kind();
-    let mut draft = Draft::new(alloc, &kind);
+    let mut draft = Draft::new(rt.alloc(), &kind);
     assert!(rt; draft.kind().targets.contains(PropId::VerticesInFacets));
-    let sets = Sets::from_vec(Vec::new(alloc), 2);
-    assert!(rt;
-        draft
-            .put(PropId::VerticesInFacets, Value::Sets(sets))
-            .is_ok()
-    );
+    let sets = Sets::from_vec(Vec::new(rt.alloc()), 2);
+    let put = draft.put(PropId::VerticesInFacets, Value::Sets(sets));
+    assert!(rt; put.is_ok());
     assert!(rt; draft.take_out(PropId::Facets).is_none());
-    assert!(rt;
-        matches!(
-            draft.take_out(PropId::VerticesInFacets),
-            Some(Value::Sets(_))
-        )
-    );
+    assert!(rt; are_sets(draft.take_out(PropId::VerticesInFacets)));
     assert!(rt; draft.take_out(PropId::VerticesInFacets).is_none());
-    Ok(())
 }

@@ -8,7 +8,6 @@ use pm_script::{
 use pm_types::{ObjectType, PropId, Sets, Value};
 use std::alloc::{AllocError, Global};
 use std::process::Abort;
-use std::test::Fail;
 
 // A name, and the part's name behind a bar.
 fn shown_ref(alloc: Global, obj: &Ref) -> Result<String, AllocError> {
@@ -106,11 +105,15 @@ const LINES: &[(&str, &str)] = &[
     ("rules", "-"),
 ];
 
+fn check_lines(rt: &(impl Abort + AllocGlobal), lines: &[(&str, &str)]) {
+    for (line, want) in lines {
+        assert_eq!(rt; shown(rt, line.as_bytes()).as_str(), *want, "in {line}");
+    }
+}
+
 #[test]
 fn lines_are_read(rt: HostRuntime) {
-    for (line, want) in LINES {
-        assert_eq!(rt; shown(&rt, line.as_bytes()).as_str(), *want, "in {line}");
-    }
+    check_lines(&rt, LINES);
 }
 
 // Lines that are no UTF-8, and their words.
@@ -139,96 +142,85 @@ fn lines_are_split(rt: HostRuntime) {
     assert!(rt; third.text() == "last\r".as_bytes() && after.is_empty());
 }
 
-fn check_reply(
-    rt: &impl Abort,
-    alloc: Global,
-    reply: &Reply,
-    is_refusal: bool,
-    want: &str,
-) -> Result<(), Fail> {
-    let text = reply_bytes(alloc, reply)?;
+fn check_reply(rt: &(impl Abort + AllocGlobal), reply: &Reply, is_refusal: bool, want: &str) {
+    let text = reply_bytes(rt.alloc(), reply).expect(rt, "the text");
     assert_eq!(rt; text.as_slice(), want.as_bytes(), "for {want}");
     assert!(rt; reply.is_refusal() == is_refusal, "for {want}");
-    Ok(())
 }
 
 // A value of a cone is written as a text.
-fn check_written(
-    rt: &impl Abort,
-    alloc: Global,
-    prop: PropId,
-    value: Value,
-    want: &str,
-) -> Result<(), Fail> {
+fn check_written(rt: &(impl Abort + AllocGlobal), prop: PropId, value: Value, want: &str) {
+    let name = String::from_str(rt.alloc(), "c").expect(rt, "a name");
     let reply = Reply::Value {
-        name: String::from_str(alloc, "c")?,
+        name,
         of: ObjectType::Cone,
         prop,
         value,
     };
-    check_reply(rt, alloc, &reply, false, want)
+    check_reply(rt, &reply, false, want);
 }
 
 #[test]
-fn matrices_are_written(rt: HostRuntime) -> Result<(), Fail> {
-    let alloc = rt.alloc();
-    let mut rays = Matrix::new(alloc, 2);
-    rays.push_row(&[Fraction::one(), Fraction::new(-2, 4)?])?;
-    rays.push_row(&[Fraction::zero(), Fraction::from_whole(i128::MAX)?])?;
+fn matrices_are_written(rt: HostRuntime) {
+    let half = Fraction::new(-2, 4).expect(&rt, "a number");
+    let great = Fraction::from_whole(i128::MAX).expect(&rt, "a number");
+    let mut rays = Matrix::new(rt.alloc(), 2);
+    rays.push_row(&[Fraction::one(), half]).expect(&rt, "a row");
+    rays.push_row(&[Fraction::zero(), great])
+        .expect(&rt, "a row");
     check_written(
         &rt,
-        alloc,
         PropId::Vertices,
         Value::Mat(rays),
         "c RAYS [[\"1\",\"-1/2\"],[\"0\",\"170141183460469231731687303715884105727\"]]\n",
-    )?;
-    let empty = Value::Mat(Matrix::new(alloc, 0));
-    check_written(&rt, alloc, PropId::Facets, empty, "c FACETS []\n")?;
-    let empty = Value::Mat(Matrix::new(alloc, 3));
-    check_written(
-        &rt,
-        alloc,
-        PropId::Facets,
-        empty,
-        "c FACETS [{\"cols\":3}]\n",
-    )
+    );
 }
 
 #[test]
-fn sets_are_written(rt: HostRuntime) -> Result<(), Fail> {
-    let alloc = rt.alloc();
-    let mut sets = Vec::new(alloc);
-    sets.push(vec![in alloc; 0, 12]?)?;
-    sets.push(Vec::new(alloc))?;
+fn matrices_without_rows_are_written(rt: HostRuntime) {
+    let empty = Value::Mat(Matrix::new(rt.alloc(), 0));
+    check_written(&rt, PropId::Facets, empty, "c FACETS []\n");
+    let empty = Value::Mat(Matrix::new(rt.alloc(), 3));
+    check_written(&rt, PropId::Facets, empty, "c FACETS [{\"cols\":3}]\n");
+}
+
+// Two sets, the second empty.
+fn two_sets(rt: &(impl Abort + AllocGlobal)) -> Value {
+    let mut sets = Vec::new(rt.alloc());
+    let first = vec![in rt.alloc(); 0, 12].expect(rt, "a set");
+    sets.push(first).expect(rt, "the sets");
+    sets.push(Vec::new(rt.alloc())).expect(rt, "the sets");
+    Value::Sets(Sets::from_vec(sets, 13))
+}
+
+#[test]
+fn sets_are_written(rt: HostRuntime) {
     check_written(
         &rt,
-        alloc,
         PropId::VerticesInFacets,
-        Value::Sets(Sets::from_vec(sets, 13)),
+        two_sets(&rt),
         "c RAYS_IN_FACETS [[0,12],[],{\"cols\":13}]\n",
-    )?;
+    );
+    let none = Sets::from_vec(Vec::new(rt.alloc()), 0);
     check_written(
         &rt,
-        alloc,
         PropId::VerticesInFacets,
-        Value::Sets(Sets::from_vec(Vec::new(alloc), 0)),
+        Value::Sets(none),
         "c RAYS_IN_FACETS [{\"cols\":0}]\n",
-    )
+    );
 }
 
 #[test]
-fn numbers_and_truth_values_are_written(rt: HostRuntime) -> Result<(), Fail> {
-    let alloc = rt.alloc();
+fn numbers_and_truth_values_are_written(rt: HostRuntime) {
+    let number = Value::Int(-33);
     check_written(
         &rt,
-        alloc,
         PropId::ConeAmbientDim,
-        Value::Int(-33),
+        number,
         "c CONE_AMBIENT_DIM -33\n",
-    )?;
-    let (yes, no) = (Value::Bool(true), Value::Bool(false));
-    check_written(&rt, alloc, PropId::Pointed, yes, "c POINTED true\n")?;
-    check_written(&rt, alloc, PropId::Simple, no, "c SIMPLE false\n")
+    );
+    check_written(&rt, PropId::Pointed, Value::Bool(true), "c POINTED true\n");
+    check_written(&rt, PropId::Simple, Value::Bool(false), "c SIMPLE false\n");
 }
 
 // Refusals and their lines.
@@ -262,12 +254,10 @@ const REFUSALS: &[(Refusal, &str)] = &[
 ];
 
 #[test]
-fn replies_are_written(rt: HostRuntime) -> Result<(), Fail> {
-    let alloc = rt.alloc();
-    check_reply(&rt, alloc, &Reply::Done, false, "ok\n")?;
-    check_reply(&rt, alloc, &Reply::Undef, false, "undef\n")?;
+fn replies_are_written(rt: HostRuntime) {
+    check_reply(&rt, &Reply::Done, false, "ok\n");
+    check_reply(&rt, &Reply::Undef, false, "undef\n");
     for (why, want) in REFUSALS {
-        check_reply(&rt, alloc, &Reply::Refused { why: *why }, true, want)?;
+        check_reply(&rt, &Reply::Refused { why: *why }, true, want);
     }
-    Ok(())
 }

@@ -6,7 +6,6 @@ use pm_rules::{
 use pm_types::{ClientName, Kind, PropId, PropSet, RuleId, standard_kinds};
 use std::alloc::{AllocError, Global};
 use std::process::Abort;
-use std::test::Fail;
 
 fn kind(name: &str, targets: &[PropId], sources: &[PropId]) -> Option<Kind> {
     let name = ClientName::new(name)?;
@@ -182,18 +181,29 @@ fn faults_have_their_places(rt: HostRuntime) {
     }
 }
 
+const BOOK: &str =
+    "# rules\nh : rule H_VECTOR : COMBINATORIAL_DIM,F_VECTOR{h_vector}weight 2.03;precondition : ! POINTED , SIMPLICIAL, BOUNDED;#end\n\tdim:rule CONE_DIM\r\n: LINEALITY_SPACE, RAYS { cone_dim_v } weight 0.7 ; face : rule LP.MAXIMAL_FACE : RAYS, LP.LINEAR_OBJECTIVE, LP.MAXIMAL_VALUE { lp_max_face } weight 1000000.0;";
+
+const BOOK_AS_PRINTED: &str =
+    "h : rule H_VECTOR : COMBINATORIAL_DIM, F_VECTOR { h_vector } weight 2.3; precondition : BOUNDED, ! POINTED, SIMPLICIAL;\ndim : rule CONE_DIM : VERTICES, LINEALITY_SPACE { cone_dim_v } weight 7;\nface : rule LP.MAXIMAL_FACE : VERTICES, LP.LINEAR_OBJECTIVE, LP.MAXIMAL_VALUE { lp_max_face } weight 1000000.0;\n";
+
+// The book that a text spells, over the kinds above.
+fn book_of(rt: &(impl Abort + AllocGlobal), text: &str) -> Book {
+    let list = kinds(rt.alloc()).expect(rt, "the kinds");
+    read(rt, text, &list)
+}
+
 #[test]
-fn a_book_is_read_printed_and_read_back(rt: HostRuntime) {
-    let list = kinds(rt.alloc()).expect(&rt, "the kinds");
-    let text =
-        "# rules\nh : rule H_VECTOR : COMBINATORIAL_DIM,F_VECTOR{h_vector}weight 2.03;precondition : ! POINTED , SIMPLICIAL, BOUNDED;#end\n\tdim:rule CONE_DIM\r\n: LINEALITY_SPACE, RAYS { cone_dim_v } weight 0.7 ; face : rule LP.MAXIMAL_FACE : RAYS, LP.LINEAR_OBJECTIVE, LP.MAXIMAL_VALUE { lp_max_face } weight 1000000.0;";
-    let want =
-        "h : rule H_VECTOR : COMBINATORIAL_DIM, F_VECTOR { h_vector } weight 2.3; precondition : BOUNDED, ! POINTED, SIMPLICIAL;\ndim : rule CONE_DIM : VERTICES, LINEALITY_SPACE { cone_dim_v } weight 7;\nface : rule LP.MAXIMAL_FACE : VERTICES, LP.LINEAR_OBJECTIVE, LP.MAXIMAL_VALUE { lp_max_face } weight 1000000.0;\n";
-    let book = read(&rt, text, &list);
+fn a_book_is_read_and_printed(rt: HostRuntime) {
+    let book = book_of(&rt, BOOK);
     assert_eq!(rt; book.len(), 3);
-    let printed = printed(&rt, &book);
-    assert_eq!(rt; printed.as_str(), want);
-    let again = read(&rt, &printed, &list);
+    assert_eq!(rt; printed(&rt, &book).as_str(), BOOK_AS_PRINTED);
+}
+
+#[test]
+fn a_printed_book_is_read_back(rt: HostRuntime) {
+    let book = book_of(&rt, BOOK);
+    let again = book_of(&rt, BOOK_AS_PRINTED);
     assert_eq!(rt; again.rules(), book.rules());
 }
 
@@ -212,9 +222,13 @@ const STANDARD_BOOK: &str =
     full_dim : rule FULL_DIM : CONE_DIM { full_dim } weight 1;\n\
     incidence : rule VERTICES_IN_FACETS : VERTICES, FACETS { incidence } weight 5;\n";
 
+fn standard(rt: &(impl Abort + AllocGlobal)) -> Book {
+    standard_book(rt.alloc()).expect(rt, "the book")
+}
+
 #[test]
 fn the_standard_book_is_printed(rt: HostRuntime) {
-    let book = standard_book(rt.alloc()).expect(&rt, "the book");
+    let book = standard(&rt);
     assert_eq!(rt; printed(&rt, &book).as_str(), STANDARD_BOOK);
     assert_eq!(rt; book.len(), 13);
     assert!(rt; !book.is_empty());
@@ -222,26 +236,39 @@ fn the_standard_book_is_printed(rt: HostRuntime) {
 
 #[test]
 fn the_standard_book_is_read_back(rt: HostRuntime) {
-    let book = standard_book(rt.alloc()).expect(&rt, "the book");
     let list = standard_kinds(rt.alloc()).expect(&rt, "the kinds");
     let again = read(&rt, STANDARD_BOOK, &list);
+    let book = standard(&rt);
     assert_eq!(rt; again.rules(), book.rules());
+}
+
+// Whether the standard book's rule for incidences is enabled, for these names and for what is barred and held.
+fn is_enabled(
+    rt: &(impl Abort + AllocGlobal),
+    names: PropSet,
+    barred: &[RuleId],
+    held: PropSet,
+) -> bool {
+    let book = standard(rt);
+    let rule = book.rule(RuleId(12)).expect(rt, "the rule");
+    rule.is_enabled(names, barred, held, RuleId(12))
 }
 
 // A cone with both descriptions: incidences can be found, once, and not where facets are missing.
 #[test]
 fn rules_are_enabled(rt: HostRuntime) {
-    let book = standard_book(rt.alloc()).expect(&rt, "the book");
-    let Some(rule) = book.rule(RuleId(12)) else {
-        panic!(rt; "no rule");
-    };
     let both = PropSet::of_list(&[PropId::Vertices, PropId::Facets]);
     let all = both.with(PropId::VerticesInFacets);
-    assert!(rt; rule.is_enabled(all, &[], both, RuleId(12)));
-    assert!(rt; !rule.is_enabled(both, &[], both, RuleId(12)));
-    assert!(rt; !rule.is_enabled(all, &[RuleId(12)], both, RuleId(12)));
-    assert!(rt; !rule.is_enabled(all, &[], all, RuleId(12)));
-    assert!(rt; !rule.is_enabled(all, &[], PropSet::of(PropId::Vertices), RuleId(12)));
+    assert!(rt; is_enabled(&rt, all, &[], both));
+    assert!(rt; !is_enabled(&rt, both, &[], both));
+    assert!(rt; !is_enabled(&rt, all, &[RuleId(12)], both));
+    assert!(rt; !is_enabled(&rt, all, &[], all));
+    assert!(rt; !is_enabled(&rt, all, &[], PropSet::of(PropId::Vertices)));
+}
+
+#[test]
+fn rules_are_barred(rt: HostRuntime) {
+    let both = PropSet::of_list(&[PropId::Vertices, PropId::Facets]);
     assert!(rt; is_barred(&[RuleId(2), RuleId(12)], RuleId(12)));
     assert!(rt; Tag::Facets.is_in(both) && !Tag::Generators.is_in(both));
 }
@@ -272,35 +299,37 @@ fn push_rule(alloc: Global, text: &mut String, number: u32) -> Result<(), AllocE
 }
 
 // A book of 256 rules.
-fn full_book(alloc: Global) -> Result<String, AllocError> {
-    let mut text = String::new(alloc);
+fn full_book(rt: &(impl Abort + AllocGlobal)) -> String {
+    let mut text = String::new(rt.alloc());
     for number in 0..256 {
-        push_rule(alloc, &mut text, number)?;
+        push_rule(rt.alloc(), &mut text, number).expect(rt, "a rule");
     }
-    Ok(text)
+    text
+}
+
+// A book of 256 rules, and another one, of that number.
+fn book_with_one_too_many(rt: &(impl Abort + AllocGlobal), number: u32) -> String {
+    let mut text = full_book(rt);
+    push_rule(rt.alloc(), &mut text, number).expect(rt, "a rule");
+    text
 }
 
 #[test]
-fn a_book_has_at_most_256_rules(rt: HostRuntime) -> Result<(), Fail> {
-    let mut text = full_book(rt.alloc())?;
+fn a_book_has_at_most_256_rules(rt: HostRuntime) {
+    let text = full_book(&rt);
     assert_eq!(rt; fault(&rt, text.as_str()), None);
-    let place = text.len();
-    push_rule(rt.alloc(), &mut text, 256)?;
-    assert_eq!(rt;
-        fault(&rt, text.as_str()),
-        Some(BookFail::TooManyRules(place))
-    );
-    Ok(())
+    let longer = book_with_one_too_many(&rt, 256);
+    let want = Some(BookFail::TooManyRules(text.len()));
+    assert_eq!(rt; fault(&rt, longer.as_str()), want);
 }
 
 // Of a rule that is one too many the label is looked at first.
 #[test]
-fn an_old_label_is_found_first(rt: HostRuntime) -> Result<(), Fail> {
-    let mut text = full_book(rt.alloc())?;
-    let place = text.len();
-    push_rule(rt.alloc(), &mut text, 0)?;
-    assert_eq!(rt; fault(&rt, text.as_str()), Some(BookFail::SameLabel(place)));
-    Ok(())
+fn an_old_label_is_found_first(rt: HostRuntime) {
+    let place = full_book(&rt).len();
+    let longer = book_with_one_too_many(&rt, 0);
+    let want = Some(BookFail::SameLabel(place));
+    assert_eq!(rt; fault(&rt, longer.as_str()), want);
 }
 
 // Two kinds that find CONE_DIM.

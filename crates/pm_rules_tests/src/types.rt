@@ -1,13 +1,15 @@
 // Names, sets, weights, the standard kinds and values.
 
+ghost use Rattle.std.specs.Prelude.{length, ◌≡◌};
+
 use pm_fraction::Fraction;
 use pm_matrix::Matrix;
 use pm_types::{
-    ClientName, Cost, ObjectType, PropId, PropSet, RuleId, Sets, StandardClient, Value, Weight,
-    standard_kinds,
+    ClientName, Cost, Kind, ObjectType, PropId, PropSet, RuleId, Sets, StandardClient, Value,
+    Weight, standard_kinds,
 };
 use std::alloc::{AllocError, Global};
-use std::test::Fail;
+use std::process::Abort;
 
 // Properties by their names.
 const NAMES: &[(&str, Option<PropId>)] = &[
@@ -37,21 +39,21 @@ const NAMES_IN_PROGRAMS: &[(&str, Option<PropId>)] = &[
 #[test]
 fn properties_are_found_by_their_names(rt: HostRuntime) {
     for (text, want) in NAMES {
-        assert_eq!(rt; PropId::named(text), *want, "{text}");
+        assert!(rt; PropId::named(text) == *want, "{text}");
     }
 }
 
 #[test]
 fn properties_are_found_by_their_names_in_a_type(rt: HostRuntime) {
     for (of, text, want) in NAMES_IN_TYPES {
-        assert_eq!(rt; PropId::named_in(*of, text), *want, "{of:?} {text}");
+        assert!(rt; PropId::named_in(*of, text) == *want, "{of:?} {text}");
     }
 }
 
 #[test]
 fn properties_of_programs_are_found_by_their_names(rt: HostRuntime) {
     for (text, want) in NAMES_IN_PROGRAMS {
-        assert_eq!(rt; PropId::program_named(text), *want, "{text}");
+        assert!(rt; PropId::program_named(text) == *want, "{text}");
     }
 }
 
@@ -81,15 +83,16 @@ fn sets_hold_properties(rt: HostRuntime) {
     assert!(rt; set.difference(more).is_empty() && set.contains(PropId::Points));
 }
 
+// What is no name: 33 bytes, and a letter of two.
+const NO_NAMES: &[&str] = &["abcdefghijklmnopqrstuvwxyz_123456", "\u{e9}"];
+
 #[test]
 fn names_of_clients_are_short(rt: HostRuntime) {
     let longest = "abcdefghijklmnopqrstuvwxyz_12345";
-    let Some(name) = ClientName::new(longest) else {
-        panic!(rt; "32 bytes are no name");
-    };
+    let name = ClientName::new(longest).expect(&rt, "32 bytes are a name");
     assert_eq!(rt; name.as_str(), longest);
     assert!(rt; ClientName::new("incidence") != Some(name));
-    for text in ["abcdefghijklmnopqrstuvwxyz_123456", "\u{e9}"] {
+    for text in NO_NAMES {
         assert!(rt; ClientName::new(text).is_none(), "{text}");
     }
 }
@@ -148,17 +151,30 @@ full_dim
 incidence
 ";
 
+// The names of kinds, a line each.
+fn names_of(alloc: Global, kinds: &[Kind]) -> Result<String, AllocError> {
+    let mut names = String::new(alloc);
+    for kind in kinds {
+        names.push_str(kind.name.as_str())?;
+        names.push_str("\n")?;
+    }
+    Ok(names)
+}
+
 #[test]
-fn the_standard_kinds(rt: HostRuntime) {
+fn the_standard_kinds_have_names(rt: HostRuntime) {
+    let kinds = standard_kinds(rt.alloc()).expect(&rt, "the kinds");
+    let names = names_of(rt.alloc(), &kinds).expect(&rt, "the names");
+    assert_eq!(rt; names.as_str(), STANDARD_NAMES);
+}
+
+#[test]
+fn the_standard_kinds_have_no_conditions(rt: HostRuntime) {
     let kinds = standard_kinds(rt.alloc()).expect(&rt, "the kinds");
     assert_eq!(rt; kinds.len(), 13);
-    let mut names = String::new(rt.alloc());
     for kind in kinds.iter() {
         assert!(rt; kind.conditions().is_empty());
-        names.push_str(kind.name.as_str()).expect(&rt, "the names");
-        names.push_str("\n").expect(&rt, "the names");
     }
-    assert_eq!(rt; names.as_str(), STANDARD_NAMES);
     assert!(rt; RuleId(1) < RuleId(2));
 }
 
@@ -198,6 +214,10 @@ fn kinds_name_properties(rt: HostRuntime) {
         assert_eq!(rt; kind.names(), PropSet::of_list(names), "{client:?}");
         assert!(rt; kind.is_of(ObjectType::Cone), "{client:?}");
     }
+}
+
+#[test]
+fn kinds_are_of_types(rt: HostRuntime) {
     // FEASIBLE is of polytopes alone, and fans have no facets
     let feasible = StandardClient::Feasible.kind();
     assert!(rt; feasible.is_of(ObjectType::Polytope) && !feasible.is_of(ObjectType::Cone));
@@ -205,38 +225,56 @@ fn kinds_name_properties(rt: HostRuntime) {
     assert!(rt; StandardClient::Pointed.kind().is_of(ObjectType::Fan));
 }
 
-fn copied(alloc: Global, value: Value) -> Result<Value, AllocError> {
-    value.copy(alloc)
+fn copied(rt: &(impl Abort + AllocGlobal), value: Value) -> Value {
+    value.copy(rt.alloc()).expect(rt, "the copy")
 }
 
-#[test]
-fn matrices_are_copied(rt: HostRuntime) -> Result<(), Fail> {
-    let alloc = rt.alloc();
-    let row = [Fraction::one(), Fraction::new(1, 2)?];
-    let mut matrix = Matrix::new(alloc, 2);
-    matrix.push_row(&row)?;
-    let Value::Mat(copy) = copied(alloc, Value::Mat(matrix))? else {
-        panic!(rt; "another kind of value");
-    };
-    assert_eq!(rt; copy.cols(), 2);
-    assert_eq!(rt; copy.rows(), 1);
-    assert_eq!(rt; copy.row(0), row.as_slice());
-    Ok(())
-}
-
-#[test]
-fn sets_are_copied(rt: HostRuntime) -> Result<(), Fail> {
-    let alloc = rt.alloc();
-    let mut sets = Vec::new(alloc);
-    sets.push(vec![in alloc; 0, 2]?)?;
-    let value = Value::Sets(Sets::from_vec(sets, 3));
-    let Value::Sets(copy) = copied(alloc, value)? else {
-        panic!(rt; "another kind of value");
-    };
-    assert_eq!(rt; copy.cols(), 3);
-    assert_eq!(rt; copy.rows().len(), 1);
-    for set in copy.rows() {
-        assert_eq!(rt; set.as_slice(), [0, 2].as_slice());
+fn matrix_in(value: Value) -> Option<Matrix> {
+    match value {
+        Value::Mat(matrix) => Some(matrix),
+        _ => None,
     }
-    Ok(())
+}
+
+// A matrix of one row of two entries.
+fn matrix_of(rt: &(impl Abort + AllocGlobal), row: &[Fraction]) -> Matrix
+    requires { length row.now ≡ 2 }
+{
+    let mut matrix = Matrix::new(rt.alloc(), 2);
+    matrix.push_row(row).expect(rt, "a row");
+    matrix
+}
+
+#[test]
+fn matrices_are_copied(rt: HostRuntime) {
+    let half = Fraction::new(1, 2).expect(&rt, "a number");
+    let row = [Fraction::one(), half];
+    let matrix = Value::Mat(matrix_of(&rt, &row));
+    let copy = matrix_in(copied(&rt, matrix)).expect(&rt, "a matrix");
+    assert_eq!(rt; (copy.rows(), copy.cols()), (1, 2));
+    assert_eq!(rt; copy.row(0), row.as_slice());
+}
+
+fn sets_in(value: Value) -> Option<Sets> {
+    match value {
+        Value::Sets(sets) => Some(sets),
+        _ => None,
+    }
+}
+
+// The set of 0 and 2, alone.
+fn one_set(rt: &(impl Abort + AllocGlobal)) -> Sets {
+    let set = vec![in rt.alloc(); 0, 2].expect(rt, "a set");
+    let sets = vec![in rt.alloc(); set].expect(rt, "the sets");
+    Sets::from_vec(sets, 3)
+}
+
+#[test]
+fn sets_are_copied(rt: HostRuntime) {
+    let sets = Value::Sets(one_set(&rt));
+    let copy = sets_in(copied(&rt, sets)).expect(&rt, "sets");
+    assert_eq!(rt; (copy.rows().len(), copy.cols()), (1, 3));
+    for set in copy.rows() {
+        assert_eq!(rt; set.as_slice(), &[0, 2][..]);
+    }
 }

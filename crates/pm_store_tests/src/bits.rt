@@ -5,7 +5,6 @@ use std::alloc::{AllocError, Global};
 use std::cmp::Ordering;
 use std::collections::BTreeMap;
 use std::process::Abort;
-use std::test::Fail;
 
 // Members at the ends of words and of chunks of four words, below ROW_LEN.
 const PLACES: [usize; 7] = [0, 63, 64, 127, 128, 255, 256];
@@ -95,94 +94,121 @@ fn shared_count(alloc: Global, x: &BitRow, y: &BitRow) -> Result<usize, AllocErr
 }
 
 #[test]
-fn counts_two_members_of_seventy(rt: HostRuntime) -> Result<(), Fail> {
-    let row = row_of(rt.alloc(), 70, &[3, 69])?;
+fn counts_two_members_of_seventy(rt: HostRuntime) {
+    let row = row_of(rt.alloc(), 70, &[3, 69]).expect(&rt, "a row");
     assert!(rt; row.count() == 2);
     assert!(rt; row.get(3) & row.get(69) & !row.get(5) & !row.get(67));
     let mut table = BitTable::new(rt.alloc(), 70);
     assert!(rt; table.push(row).is_ok());
     assert!(rt; table.len() == 1);
     assert!(rt; table.row(0).count() == 2);
-    Ok(())
 }
 
-fn check_full_row(rt: &impl Abort, alloc: Global, len: usize) -> Result<(), AllocError> {
-    let full = row_below(alloc, len, len)?;
-    let most = row_below(alloc, len, len.saturating_sub(1))?;
+fn check_full_row(rt: &impl Abort, alloc: Global, len: usize) {
+    let full = row_below(alloc, len, len).expect(rt, "a full row");
+    let most = row_below(alloc, len, len.saturating_sub(1)).expect(rt, "most of it");
+    check_most(rt, len, &full, &most);
+    let shared = shared_count(alloc, &full, &most).expect(rt, "what both have");
+    assert!(rt; shared == len.saturating_sub(1), "at length {len}");
+}
+
+// Asks for a full row and another without its last number.
+fn check_most(rt: &impl Abort, len: usize, full: &BitRow, most: &BitRow)
+    requires { length full.now ≡ length most.now }
+{
     assert!(rt; full.count() == len, "at length {len}");
-    assert!(rt; full.contains(&most), "at length {len}");
-    assert!(rt; most.contains(&full) == (len == 0), "at length {len}");
-    assert!(rt;
-        shared_count(alloc, &full, &most)? == len.saturating_sub(1),
-        "at length {len}"
-    );
-    Ok(())
+    assert!(rt; full.contains(most), "at length {len}");
+    assert!(rt; most.contains(full) == (len == 0), "at length {len}");
 }
 
 #[test]
-fn tells_a_full_row_from_all_but_its_last_number(rt: HostRuntime) -> Result<(), AllocError> {
+fn tells_a_full_row_from_all_but_its_last_number(rt: HostRuntime) {
     for len in 0..201 {
-        check_full_row(&rt, rt.alloc(), len)?;
+        check_full_row(&rt, rt.alloc(), len);
     }
-    Ok(())
+}
+
+// Compares the row of a subset with those of all subsets.
+fn check_subset(rt: &impl Abort, alloc: Global, one: u32, x: &BitRow)
+    requires { length x.now ≡ ROW_LEN }
+{
+    for other in 0..SUBSETS {
+        let y = row_of_subset(alloc, other).expect(rt, "a row");
+        assert!(rt; rows_agree(x, &y, one, other));
+        let shared = shared_count(alloc, x, &y).expect(rt, "what both have");
+        assert!(rt; shared == (one & other).count_ones() as usize);
+    }
 }
 
 #[test]
-fn compares_all_subsets_of_a_few_places(rt: HostRuntime) -> Result<(), Fail> {
+fn compares_all_subsets_of_a_few_places(rt: HostRuntime) {
     for one in 0..SUBSETS {
-        let x = row_of_subset(rt.alloc(), one)?;
-        for other in 0..SUBSETS {
-            let y = row_of_subset(rt.alloc(), other)?;
-            assert!(rt; rows_agree(&x, &y, one, other));
-            assert!(rt; shared_count(rt.alloc(), &x, &y)? == (one & other).count_ones() as usize);
-        }
+        let x = row_of_subset(rt.alloc(), one).expect(&rt, "a row");
+        check_subset(&rt, rt.alloc(), one, &x);
     }
-    Ok(())
+}
+
+const NAMED: &[(usize, usize, char)] = &[(70, 69, 'c'), (70, 3, 'x'), (69, 0, 'a'), (70, 3, 'b')];
+
+// The names of rows of a length with one member.
+fn names_of_rows(rt: &impl Abort, alloc: Global) -> BTreeMap<BitRow, char> {
+    let mut names = BTreeMap::new(alloc);
+    for (len, member, name) in NAMED {
+        let row = row_of(alloc, *len, &[*member]).expect(rt, "a row");
+        let inserted: Result<_, _> = names.insert(row, *name);
+        inserted.expect(rt, "room for a name");
+    }
+    names
+}
+
+fn check_order(rt: &impl Abort, alloc: Global, names: &BTreeMap<BitRow, char>, want: &str) {
+    let mut in_order = String::new(alloc);
+    for name in names.values() {
+        in_order.push(*name).expect(rt, "room for a name");
+    }
+    assert!(rt; in_order.as_str() == want);
 }
 
 #[test]
-fn rows_are_keys_of_a_map(rt: HostRuntime) -> Result<(), Fail> {
-    let mut names = BTreeMap::new(rt.alloc());
-    for (len, member, name) in [(70, 69, 'c'), (70, 3, 'x'), (69, 0, 'a'), (70, 3, 'b')] {
-        names.insert(row_of(rt.alloc(), len, &[member])?, name)?;
-    }
-    let mut in_order = String::new(rt.alloc());
-    for name in names.values() {
-        in_order.push(*name)?;
-    }
-    assert!(rt; in_order.as_str() == "abc");
-    let key = row_of(rt.alloc(), 70, &[3])?;
+fn rows_are_keys_of_a_map(rt: HostRuntime) {
+    let names = names_of_rows(&rt, rt.alloc());
+    check_order(&rt, rt.alloc(), &names, "abc");
+    let key = row_of(rt.alloc(), 70, &[3]).expect(&rt, "a row");
     assert!(rt; names.get(&key) == Some(&'b'));
-    Ok(())
 }
 
 // The table of these rows, of length 300.
-fn table_of(rt: &impl Abort, alloc: Global, rows: &[&[usize]]) -> Result<BitTable, AllocError> {
+fn table_of(rt: &impl Abort, alloc: Global, rows: &[&[usize]]) -> BitTable {
     let mut table = BitTable::new(alloc, 300);
     for members in rows {
-        let row = row_of(alloc, 300, members)?;
+        let row = row_of(alloc, 300, members).expect(rt, "a row");
         assert!(rt; row.len() == table.row_len());
         assert!(rt; table.push(row).is_ok());
     }
-    Ok(table)
+    table
 }
 
-#[test]
-fn looks_for_another_row(rt: HostRuntime) -> Result<(), AllocError> {
-    let table = table_of(&rt, rt.alloc(), &[&[64, 299], &[5, 299], &[64, 299]])?;
-    let part = row_of(rt.alloc(), 300, &[64])?;
+const OTHERS: &[(usize, usize, bool)] = &[
+    (0, 2, false),
+    (2, 0, false),
+    (0, 1, true),
+    (1, 2, true),
+    (1, 1, true),
+];
+
+fn check_others(rt: &impl Abort, table: &BitTable, part: &BitRow) {
     assert!(rt; part.len() == table.row_len());
-    for (i, j, is_found) in [
-        (0, 2, false),
-        (2, 0, false),
-        (0, 1, true),
-        (1, 2, true),
-        (1, 1, true),
-    ] {
+    for (i, j, is_found) in OTHERS {
         assert!(rt;
-            table.other_contains(&part, i, j) == is_found,
+            table.other_contains(part, *i, *j) == *is_found,
             "but {i} and {j}"
         );
     }
-    Ok(())
+}
+
+#[test]
+fn looks_for_another_row(rt: HostRuntime) {
+    let table = table_of(&rt, rt.alloc(), &[&[64, 299], &[5, 299], &[64, 299]]);
+    let part = row_of(rt.alloc(), 300, &[64]).expect(&rt, "a row");
+    check_others(&rt, &table, &part);
 }

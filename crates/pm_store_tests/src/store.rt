@@ -5,7 +5,7 @@ ghost use Rattle.std.specs.Prelude.{Some};
 use pm_store::{
     Failed, MemSink, MemSource, ReadFail, Sink, Source, StdSink, StdSource, read_up_to, write_all,
 };
-use std::alloc::{AllocError, Global};
+use std::alloc::Global;
 use std::io;
 use std::io::{Cursor, ErrorKind, Read};
 use std::process::Abort;
@@ -26,21 +26,19 @@ fn read_text(
 }
 
 #[test]
-fn reads_the_same_in_pieces_of_any_size(rt: HostRuntime) -> Result<(), ReadFail> {
+fn reads_the_same_in_pieces_of_any_size(rt: HostRuntime) {
     for piece in [1usize, 3, 1000] {
-        let bytes = read_text(&rt, rt.alloc(), piece, &[], 1000)?;
+        let bytes = read_text(&rt, rt.alloc(), piece, &[], 1000).expect(&rt, "the text");
         assert_eq!(rt; bytes.as_slice(), TEXT, "in pieces of {piece}");
     }
-    Ok(())
 }
 
 #[test]
-fn reads_up_to_the_limit_and_no_further(rt: HostRuntime) -> Result<(), ReadFail> {
-    let bytes = read_text(&rt, rt.alloc(), 5, &[], TEXT.len())?;
+fn reads_up_to_the_limit_and_no_further(rt: HostRuntime) {
+    let bytes = read_text(&rt, rt.alloc(), 5, &[], TEXT.len()).expect(&rt, "the text");
     assert_eq!(rt; bytes.as_slice(), TEXT);
     let refused = read_text(&rt, rt.alloc(), 5, &[], TEXT.len() - 1).err();
     assert_eq!(rt; refused, Some(ReadFail::TooLong));
-    Ok(())
 }
 
 // 22 bytes in pieces of 5 are five calls, and a sixth finds the end.
@@ -58,19 +56,30 @@ fn hands_on_a_fault_of_each_call(rt: HostRuntime) {
 }
 
 #[test]
-fn takes_what_there_is_room_for(rt: HostRuntime) -> Result<(), AllocError> {
-    let pieces: &[(&[u8], Result<usize, Failed>)] = &[
-        (b"abc", Ok(3)),
-        (b"def", Ok(2)),
-        (b"f", Err(Failed)),
-        (b"", Ok(0)),
-    ];
-    let mut sink = MemSink::new(rt.alloc(), 5, Vec::new(rt.alloc()))?;
-    for (piece, want) in pieces {
+fn takes_what_there_is_room_for(rt: HostRuntime) {
+    let mut sink = mem_sink(&rt, rt.alloc(), 5, &[]);
+    check_takes(&rt, &mut sink);
+    assert_eq!(rt; sink.bytes(), b"abcde".as_slice());
+}
+
+const PIECES: &[(&[u8], Result<usize, Failed>)] = &[
+    (b"abc", Ok(3)),
+    (b"def", Ok(2)),
+    (b"f", Err(Failed)),
+    (b"", Ok(0)),
+];
+
+// Writes as much of each piece as there is room for.
+fn check_takes(rt: &impl Abort, sink: &mut MemSink) {
+    for (piece, want) in PIECES {
         assert_eq!(rt; sink.write(piece), *want, "{piece:?}");
     }
-    assert_eq!(rt; sink.bytes(), b"abcde".as_slice());
-    Ok(())
+}
+
+// A sink with room for so many bytes, which fails at these calls.
+fn mem_sink(rt: &impl Abort, alloc: Global, room: usize, fail: &[u64]) -> MemSink {
+    let calls = fail.to_vec(alloc).expect(rt, "the calls");
+    MemSink::new(alloc, room, calls).expect(rt, "a sink")
 }
 
 // Writes all of each piece, or fails at it.
@@ -81,8 +90,8 @@ fn check_writes(rt: &impl Abort, sink: &mut impl Sink, pieces: &[(&[u8], Result<
 }
 
 #[test]
-fn fails_at_the_listed_call(rt: HostRuntime) -> Result<(), AllocError> {
-    let mut sink = MemSink::new(rt.alloc(), 100, [1].to_vec(rt.alloc())?)?;
+fn fails_at_the_listed_call(rt: HostRuntime) {
+    let mut sink = mem_sink(&rt, rt.alloc(), 100, &[1]);
     check_writes(
         &rt,
         &mut sink,
@@ -93,7 +102,6 @@ fn fails_at_the_listed_call(rt: HostRuntime) -> Result<(), AllocError> {
         ],
     );
     assert_eq!(rt; sink.bytes(), b"ok\nyes\n".as_slice());
-    Ok(())
 }
 
 // Passes on at most one byte a call.
@@ -113,12 +121,11 @@ impl Sink for Narrow {
 }
 
 #[test]
-fn writes_all_byte_by_byte(rt: HostRuntime) -> Result<(), AllocError> {
-    let inner = MemSink::new(rt.alloc(), 100, [5].to_vec(rt.alloc())?)?;
+fn writes_all_byte_by_byte(rt: HostRuntime) {
+    let inner = mem_sink(&rt, rt.alloc(), 100, &[5]);
     let mut sink = Narrow { inner };
     check_writes(&rt, &mut sink, &[(b"abc", Ok(())), (b"defg", Err(Failed))]);
     assert_eq!(rt; sink.inner.bytes(), b"abcde".as_slice());
-    Ok(())
 }
 
 // Fails once, and then is at its end.
@@ -138,11 +145,10 @@ impl Read for Broken {
 }
 
 #[test]
-fn reads_through_std(rt: HostRuntime) -> Result<(), ReadFail> {
+fn reads_through_std(rt: HostRuntime) {
     let mut source = StdSource::new(Cursor::new(TEXT));
-    let bytes = read_up_to(rt.alloc(), &mut source, 1000)?;
+    let bytes = read_up_to(rt.alloc(), &mut source, 1000).expect(&rt, "the text");
     assert_eq!(rt; bytes.as_slice(), TEXT);
-    Ok(())
 }
 
 #[test]
@@ -162,14 +168,19 @@ fn writes_through_std(rt: HostRuntime) {
 }
 
 #[test]
-fn names_its_errors(rt: HostRuntime) -> Result<(), AllocError> {
-    let texts: &[(ReadFail, &str)] = &[
-        (ReadFail::Fault, "the source failed"),
-        (ReadFail::TooLong, "the source is too long"),
-        (ReadFail::Memory, "out of memory"),
-    ];
-    for (fail, text) in texts {
-        assert_eq!(rt; format!(in rt.alloc(); "{fail}")?.as_str(), *text);
+fn names_its_errors(rt: HostRuntime) {
+    for (fail, text) in ERROR_TEXTS {
+        check_text(&rt, rt.alloc(), *fail, text);
     }
-    Ok(())
+}
+
+const ERROR_TEXTS: &[(ReadFail, &str)] = &[
+    (ReadFail::Fault, "the source failed"),
+    (ReadFail::TooLong, "the source is too long"),
+    (ReadFail::Memory, "out of memory"),
+];
+
+fn check_text(rt: &impl Abort, alloc: Global, fail: ReadFail, text: &str) {
+    let shown = format!(in alloc; "{fail}").expect(rt, "room for a text");
+    assert_eq!(rt; shown.as_str(), text);
 }
