@@ -30,7 +30,7 @@ pub fn verify(
     verify_by_rules(b.rules(), names, held, barred, asked, t.rows.as_slice(), c)
 }
 
-/// The same by rules that need not be those of a book, their labels play no part in chains, and the rows of a table.
+/// The same of the rows of a table and of rules that need not be those of a book: their labels play no part in chains.
 pub fn verify_by_rules(
     rules: &[Rule],
     names: PropSet,
@@ -41,7 +41,8 @@ pub fn verify_by_rules(
     c: Claim,
 ) -> bool
     requires { length rules.now ≤ most_rules }
-    ensures { IsTrue result ↔ IsCertificate rules.now names barred.now held asked c rows.now }
+    ensures exact { IsTrue result ↔ IsCertificate rules.now names barred.now held asked c rows.now }
+    ensures claim { IsTrue result → Holds rules.now names barred.now held asked c }
 {
     let needed = needed(rules, names, barred, asked);
     has_start(rows, held, c)

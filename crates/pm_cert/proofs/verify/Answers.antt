@@ -1,7 +1,5 @@
-use Rattle.pm_cert.proofs.Closed.{claim_holds}
+-- What is said of the rules and rows is said of the book and its table.
 use Rattle.pm_cert.proofs.verify.Goals as goal
 
 pub returns-clause-claim : goal.returns-clause-claim
-returns-clause-claim c =
-    let exact = rw (c.rules.ensures.value, c.as_slice.ensures.value) at c.verify_by_rules.ensures in
-    λ h. claim_holds c.args.b.now c.args.names c.args.barred.now c.args.held c.args.asked c.args.c c.args.t.now.rows.items (exact.0 h)
+returns-clause-claim c = rw c.rules.ensures.value at c.verify_by_rules.ensures.claim
