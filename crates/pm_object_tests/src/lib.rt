@@ -4,10 +4,6 @@
 #[cfg(test)]
 mod client;
 #[cfg(test)]
-mod clients_comb;
-#[cfg(test)]
-mod clients_geom;
-#[cfg(test)]
 mod json;
 #[cfg(test)]
 mod machine;

@@ -1,37 +1,40 @@
-// What no clause says: that steps succeed while memory is there, and replies to whole lines.
+// What no clause says: that steps succeed while memory is there, the replies to whole scripts, and how often clients are started.
 
+mod descriptions;
+mod lines;
+mod scripts;
+
+use descriptions::{FIRST_DESCRIPTIONS, MORE_DESCRIPTIONS};
+use lines::HUNDRED_LINES;
 use pm_client::Client;
+use pm_clients_comb::SetsClient;
+use pm_clients_geom::{DimClient, RowsClient, TestClient};
 use pm_machine::Session;
 use pm_rules::standard_book;
-use pm_script::{Command, Reply, read_line, reply_bytes};
+use pm_script::{Command, read_line, reply_bytes};
+use scripts::SCRIPTS;
+use std::alloc::{AllocError, Global};
 use std::process::Abort;
 
-fn text_of(rt: &(impl Abort + AllocGlobal), reply: &Reply) -> String {
-    let bytes = reply_bytes(rt.alloc(), reply).expect(rt, "the bytes");
-    String::from_utf8(bytes).expect(rt, "a text")
-}
+/// A script: its name, its lines with the replies to them (a blank line has none), and how many runs of clients it starts.
+type Script = (&'static str, &'static [(&'static str, &'static str)], u64);
 
-fn command_of(rt: &(impl Abort + AllocGlobal), line: &str) -> Command {
-    read_line(rt.alloc(), line.as_bytes()).expect(rt, "a command")
-}
-
-// The text of the reply to a line, in a session without clients.
-fn answer(rt: &(impl Abort + AllocGlobal), session: &mut Session, line: &str) -> String {
-    let mut clients: Vec<Box<dyn Client>> = Vec::new(rt.alloc());
-    let reply = match command_of(rt, line) {
-        Command::Blank => panic!(rt; "a blank line"),
-        command => session
-            .step(rt.alloc(), command, &mut clients)
-            .expect(rt, "a reply"),
-    };
-    text_of(rt, &reply)
-}
-
-fn check_replies(rt: &(impl Abort + AllocGlobal), session: &mut Session, lines: &[(&str, &str)]) {
-    for (line, want) in lines {
-        let text = answer(rt, session, line);
-        assert_eq!(rt; text.as_str(), *want, "at {line}");
+// One boxed client for each standard rule, as the program hands them in.
+fn standard_clients(alloc: Global) -> Result<Vec<Box<dyn Client>>, AllocError> {
+    let mut clients: Vec<Box<dyn Client>> = Vec::new(alloc);
+    for k in 0..RowsClient::COUNT {
+        clients.push(Box::new(alloc, RowsClient::new(k))?)?;
     }
+    for k in 0..DimClient::COUNT {
+        clients.push(Box::new(alloc, DimClient::new(k))?)?;
+    }
+    for k in 0..TestClient::COUNT {
+        clients.push(Box::new(alloc, TestClient::new(k))?)?;
+    }
+    for k in 0..SetsClient::COUNT {
+        clients.push(Box::new(alloc, SetsClient::new(k))?)?;
+    }
+    Ok(clients)
 }
 
 // A session over the standard book.
@@ -40,61 +43,148 @@ fn session(rt: &(impl Abort + AllocGlobal)) -> Session {
     Session::new(rt.alloc(), book)
 }
 
-// Lines and the replies to them.
+// The text of the reply to a line; a blank line has none.
+fn answer(
+    rt: &(impl Abort + AllocGlobal),
+    session: &mut Session,
+    clients: &mut Vec<Box<dyn Client>>,
+    line: &str,
+) -> String {
+    match read_line(rt.alloc(), line.as_bytes()) {
+        Ok(Command::Blank) => String::new(rt.alloc()),
+        Ok(command) => {
+            let reply = session
+                .step(rt.alloc(), command, clients)
+                .expect(rt, "a reply");
+            let bytes = reply_bytes(rt.alloc(), &reply).expect(rt, "the bytes");
+            String::from_utf8(bytes).expect(rt, "a text")
+        }
+        Err(_) => String::from_str(rt.alloc(), "no 1 BadCommand\n").expect(rt, "a text"),
+    }
+}
+
+fn check_lines(
+    rt: &(impl Abort + AllocGlobal),
+    session: &mut Session,
+    clients: &mut Vec<Box<dyn Client>>,
+    lines: &[(&str, &str)],
+) {
+    for (line, want) in lines {
+        let text = answer(rt, session, clients, line);
+        assert_eq!(rt; text.trim_end(), *want, "to {line}");
+    }
+}
+
+// How many runs of these clients were started.
+fn starts_of(clients: &[Box<dyn Client>]) -> u64 {
+    let mut starts = 0u64;
+    for client in clients {
+        starts = starts.saturating_add(client.starts());
+    }
+    starts
+}
+
+fn check_script(rt: &(impl Abort + AllocGlobal), lines: &[(&str, &str)], starts: u64, of: &str) {
+    let mut clients = standard_clients(rt.alloc()).expect(rt, "the clients");
+    let mut session = session(rt);
+    check_lines(rt, &mut session, &mut clients, lines);
+    assert_eq!(rt; starts_of(&clients), starts, "in {of}");
+}
+
+fn check_scripts(rt: &(impl Abort + AllocGlobal), scripts: &[Script]) {
+    for (of, lines, starts) in scripts {
+        check_script(rt, lines, *starts, of);
+    }
+}
+
+#[test]
+fn scripts_are_answered(rt: HostRuntime) {
+    check_scripts(&rt, SCRIPTS);
+}
+
+#[test]
+fn descriptions_are_answered(rt: HostRuntime) {
+    check_scripts(&rt, FIRST_DESCRIPTIONS);
+}
+
+#[test]
+fn more_descriptions_are_answered(rt: HostRuntime) {
+    check_scripts(&rt, MORE_DESCRIPTIONS);
+}
+
+#[test]
+fn a_hundred_lines_are_answered(rt: HostRuntime) {
+    let (of, lines, starts) = HUNDRED_LINES;
+    check_script(&rt, lines, starts, of);
+}
+
+// 32 objects are made, and no more.
+#[test]
+fn an_object_too_many_is_refused(rt: HostRuntime) {
+    let mut clients: Vec<Box<dyn Client>> = Vec::new(rt.alloc());
+    let mut session = session(&rt);
+    for i in 0..33 {
+        let line = format!(in rt.alloc(); "new s{i} Polytope").expect(&rt, "a line");
+        let text = answer(&rt, &mut session, &mut clients, &line);
+        let want = if i < 32 { "ok" } else { "no 9 ObjectsFull" };
+        assert_eq!(rt; text.trim_end(), want, "to {line}");
+    }
+}
+
+// Lines and the replies to them, in a session without clients.
 const TAKING: &[(&str, &str)] = &[
-    ("new s Polytope", "ok\n"),
-    ("new s Polytope", "no 3 NameTaken\n"),
-    ("new f Fan", "no 4 UnknownType\n"),
-    ("new c Cone", "ok\n"),
-    ("take c INPUT_RAYS [[\"1/2\",1]]", "ok\n"),
-    ("lookup c INPUT_RAYS", "c INPUT_RAYS [[\"1/2\",\"1\"]]\n"),
-    ("take c POINTS [[1,1]]", "no 5 UnknownProperty\n"),
-    ("take c FEASIBLE true", "no 5 UnknownProperty\n"),
-    ("take c CONE_DIM 1", "ok\n"),
-    ("take c FULL_DIM 1", "no 6 BadValue shape\n"),
-    ("new s.lp Polytope", "no 4 UnknownType\n"),
-    ("take s VERTICES [[1,0],[1,1]]", "ok\n"),
-    ("take s VERTICES [[1,0],[1,1]]", "no 7 AlreadyHeld\n"),
-    ("take s N_VERTICES 3", "no 5 UnknownProperty\n"),
-    ("take s.lp FACETS [[0,1]]", "no 2 UnknownName\n"),
-    ("take s FACETS [[1,", "no 6 BadValue json\n"),
-    ("take s FACETS 3", "no 6 BadValue shape\n"),
-    ("take s FACETS [[\"0\",\"x\"]]", "no 6 BadValue number\n"),
-    ("take s FACETS [[0,1,1]]", "no 6 BadValue columns\n"),
-    ("take s FACETS [[0,0]]", "no 6 BadValue row\n"),
-    ("take s FACETS [[0,1],[1,-1]]", "ok\n"),
-    (
-        "lookup s FACETS",
-        "s FACETS [[\"0\",\"1\"],[\"1\",\"-1\"]]\n",
-    ),
+    ("new s Polytope", "ok"),
+    ("new s Polytope", "no 3 NameTaken"),
+    ("new f Fan", "no 4 UnknownType"),
+    ("new c Cone", "ok"),
+    ("take c INPUT_RAYS [[\"1/2\",1]]", "ok"),
+    ("lookup c INPUT_RAYS", "c INPUT_RAYS [[\"1/2\",\"1\"]]"),
+    ("take c POINTS [[1,1]]", "no 5 UnknownProperty"),
+    ("take c FEASIBLE true", "no 5 UnknownProperty"),
+    ("take c CONE_DIM 1", "ok"),
+    ("take c FULL_DIM 1", "no 6 BadValue shape"),
+    ("new s.lp Polytope", "no 4 UnknownType"),
+    ("take s VERTICES [[1,0],[1,1]]", "ok"),
+    ("take s VERTICES [[1,0],[1,1]]", "no 7 AlreadyHeld"),
+    ("take s N_VERTICES 3", "no 5 UnknownProperty"),
+    ("take s.lp FACETS [[0,1]]", "no 2 UnknownName"),
+    ("take s FACETS [[1,", "no 6 BadValue json"),
+    ("take s FACETS 3", "no 6 BadValue shape"),
+    ("take s FACETS [[\"0\",\"x\"]]", "no 6 BadValue number"),
+    ("take s FACETS [[0,1,1]]", "no 6 BadValue columns"),
+    ("take s FACETS [[0,0]]", "no 6 BadValue row"),
+    ("take s FACETS [[0,1],[1,-1]]", "ok"),
+    ("lookup s FACETS", "s FACETS [[\"0\",\"1\"],[\"1\",\"-1\"]]"),
 ];
 
 #[test]
 fn objects_take_values(rt: HostRuntime) {
+    let mut clients: Vec<Box<dyn Client>> = Vec::new(rt.alloc());
     let mut session = session(&rt);
     assert!(rt; session.object("s").is_none());
-    check_replies(&rt, &mut session, TAKING);
+    check_lines(&rt, &mut session, &mut clients, TAKING);
     assert!(rt; session.object("s").is_some());
     assert!(rt; session.object("f").is_none());
 }
 
 // Lines and the replies to them.
 const ASKING: &[(&str, &str)] = &[
-    ("new s Polytope", "ok\n"),
-    ("take s VERTICES [[1,0],[1,1]]", "ok\n"),
-    ("lookup s CONE_AMBIENT_DIM", "undef\n"),
-    ("lookup s AFFINE_HULL", "undef\n"),
-    ("give s VERTICES_IN_FACETS", "no 10 NoChain\n"),
-    ("lookup s VERTICES_IN_FACETS", "undef\n"),
-    ("lookup s CONE_AMBIENT_DIM", "s CONE_AMBIENT_DIM 2\n"),
-    ("give s CONE_AMBIENT_DIM", "s CONE_AMBIENT_DIM 2\n"),
-    ("take s FACETS [[0,1],[1,-1]]", "ok\n"),
-    ("give t FACETS", "no 2 UnknownName\n"),
-    ("give s N_VERTICES", "no 5 UnknownProperty\n"),
+    ("new s Polytope", "ok"),
+    ("take s VERTICES [[1,0],[1,1]]", "ok"),
+    ("lookup s CONE_AMBIENT_DIM", "undef"),
+    ("lookup s AFFINE_HULL", "undef"),
+    ("give s VERTICES_IN_FACETS", "no 10 NoChain"),
+    ("lookup s VERTICES_IN_FACETS", "undef"),
+    ("lookup s CONE_AMBIENT_DIM", "s CONE_AMBIENT_DIM 2"),
+    ("give s CONE_AMBIENT_DIM", "s CONE_AMBIENT_DIM 2"),
+    ("take s FACETS [[0,1],[1,-1]]", "ok"),
+    ("give t FACETS", "no 2 UnknownName"),
+    ("give s N_VERTICES", "no 5 UnknownProperty"),
 ];
 
 #[test]
 fn without_clients_no_chain_leads_anywhere(rt: HostRuntime) {
+    let mut clients: Vec<Box<dyn Client>> = Vec::new(rt.alloc());
     let mut session = session(&rt);
-    check_replies(&rt, &mut session, ASKING);
+    check_lines(&rt, &mut session, &mut clients, ASKING);
 }

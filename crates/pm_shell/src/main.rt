@@ -5,15 +5,11 @@ ghost use Rattle.std.specs.Prelude.{IfErr, ◌≡◌, ◌⊎◌};
 
 mod run;
 
-pub use run::{SCRIPT_LIMIT, Status, polymake};
-
-#[cfg(test)]
-mod tests;
-
 use pm_client::Client;
 use pm_clients_comb::SetsClient;
 use pm_clients_geom::{DimClient, RowsClient, TestClient};
 use pm_store::{StdSink, StdSource};
+use run::{Status, polymake};
 use std::alloc::AllocError;
 use std::env;
 use std::env::FillError;

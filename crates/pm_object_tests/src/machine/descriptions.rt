@@ -1,66 +1,11 @@
 // Cones and polytopes by each of their descriptions: the dimensions, truth values and rows that all standard clients find.
 
-use super::{NO_WORDS, Ran, check, run_with};
-use crate::Status;
-use pm_client::Client;
-use pm_clients_comb::SetsClient;
-use pm_clients_geom::{DimClient, RowsClient, TestClient};
-use std::alloc::{AllocError, Global};
-use std::process::Abort;
-use std::test::Fail;
+use super::Script;
 
-/// A run of the program over all standard clients.
-fn run(alloc: Global, script: &str) -> Result<Ran, AllocError> {
-    let mut clients: Vec<Box<dyn Client>> = Vec::new(alloc);
-    for k in 0..RowsClient::COUNT {
-        clients.push(Box::new(alloc, RowsClient::new(k))?)?;
-    }
-    for k in 0..DimClient::COUNT {
-        clients.push(Box::new(alloc, DimClient::new(k))?)?;
-    }
-    for k in 0..TestClient::COUNT {
-        clients.push(Box::new(alloc, TestClient::new(k))?)?;
-    }
-    for k in 0..SetsClient::COUNT {
-        clients.push(Box::new(alloc, SetsClient::new(k))?)?;
-    }
-    run_with(
-        alloc,
-        &NO_WORDS,
-        &mut clients,
-        script.as_bytes(),
-        4096,
-        Vec::new(alloc),
-        Vec::new(alloc),
-    )
-}
-
-// Runs a script, and compares what it writes and how many runs it starts.
-fn answers(
-    rt: &(impl Abort + AllocGlobal),
-    lines: &[(&str, &str)],
-    wanted: Status,
-    starts: u64,
-) -> Result<(), Fail> {
-    let alloc = rt.alloc();
-    let mut script = String::new(alloc);
-    let mut replies = String::new(alloc);
-    for (line, reply) in lines {
-        script.push_str(line)?;
-        script.push_str("\n")?;
-        replies.push_str(reply)?;
-        replies.push_str("\n")?;
-    }
-    let ran = run(alloc, script.as_str())?;
-    check(rt, &ran, wanted, replies.as_str(), starts, script.as_str());
-    Ok(())
-}
-
-// A cone by the rows that generate it.
-#[test]
-fn a_cone_by_rays_of_one_direction(rt: HostRuntime) -> Result<(), Fail> {
-    answers(
-        &rt,
+pub const FIRST_DESCRIPTIONS: &[Script] = &[
+    // A cone by the rows that generate it.
+    (
+        "a cone by rays of one direction",
         &[
             ("new c Cone", "ok"),
             ("take c INPUT_RAYS [[1,2],[2,4]]", "ok"),
@@ -70,16 +15,11 @@ fn a_cone_by_rays_of_one_direction(rt: HostRuntime) -> Result<(), Fail> {
             ("give c FEASIBLE", "no 5 UnknownProperty"),
             ("give c LINEAR_SPAN", "no 10 NoChain"),
         ],
-        Status::SomeRefused,
-        2,
-    )
-}
-
-// A segment by its vertices: its dimensions, its affine hull, and the points of which it is the hull.
-#[test]
-fn a_segment_by_vertices(rt: HostRuntime) -> Result<(), Fail> {
-    answers(
-        &rt,
+        2u64,
+    ),
+    // A segment by its vertices: its dimensions, its affine hull, and the points of which it is the hull.
+    (
+        "a segment by vertices",
         &[
             ("new q Polytope", "ok"),
             ("take q VERTICES [[1,0],[1,1]]", "ok"),
@@ -97,16 +37,11 @@ fn a_segment_by_vertices(rt: HostRuntime) -> Result<(), Fail> {
             ("lookup q INPUT_LINEALITY", "q INPUT_LINEALITY []"),
             ("give q INEQUALITIES", "no 10 NoChain"),
         ],
-        Status::SomeRefused,
         8,
-    )
-}
-
-// A point in the plane that is no whole number, and the rows that vanish on it.
-#[test]
-fn a_point_by_a_fraction(rt: HostRuntime) -> Result<(), Fail> {
-    answers(
-        &rt,
+    ),
+    // A point in the plane that is no whole number, and the rows that vanish on it.
+    (
+        "a point by a fraction",
         &[
             ("new p Polytope", "ok"),
             ("take p VERTICES [[\"2/3\",\"1/3\"]]", "ok"),
@@ -115,16 +50,11 @@ fn a_point_by_a_fraction(rt: HostRuntime) -> Result<(), Fail> {
             ("give p FULL_DIM", "p FULL_DIM false"),
             ("give p POINTS", "p POINTS [[\"2/3\",\"1/3\"]]"),
         ],
-        Status::Answered,
         4,
-    )
-}
-
-// A line in space by points and lines, with rows that are zero or no further direction.
-#[test]
-fn a_line_by_points(rt: HostRuntime) -> Result<(), Fail> {
-    answers(
-        &rt,
+    ),
+    // A line in space by points and lines, with rows that are zero or no further direction.
+    (
+        "a line by points",
         &[
             ("new l Polytope", "ok"),
             ("take l POINTS [[1,0,0,0],[0,0,0,0],[2,0,0,0]]", "ok"),
@@ -137,16 +67,11 @@ fn a_line_by_points(rt: HostRuntime) -> Result<(), Fail> {
             ("give l FULL_DIM", "l FULL_DIM false"),
             ("give l LINEALITY_DIM", "no 10 NoChain"),
         ],
-        Status::SomeRefused,
         3,
-    )
-}
-
-// A segment by its facets alone: it is full-dimensional.
-#[test]
-fn a_segment_by_facets(rt: HostRuntime) -> Result<(), Fail> {
-    answers(
-        &rt,
+    ),
+    // A segment by its facets alone: it is full-dimensional.
+    (
+        "a segment by facets",
         &[
             ("new s Polytope", "ok"),
             ("take s FACETS [[\"0\",\"1/2\"],[1,-1]]", "ok"),
@@ -161,16 +86,11 @@ fn a_segment_by_facets(rt: HostRuntime) -> Result<(), Fail> {
             ("lookup s EQUATIONS", "s EQUATIONS []"),
             ("give s VERTICES", "no 10 NoChain"),
         ],
-        Status::SomeRefused,
         5,
-    )
-}
-
-// What goes without saying depends on what is held.
-#[test]
-fn what_goes_without_saying(rt: HostRuntime) -> Result<(), Fail> {
-    answers(
-        &rt,
+    ),
+    // What goes without saying depends on what is held.
+    (
+        "what goes without saying",
         &[
             ("new i Polytope", "ok"),
             ("take i INEQUALITIES [[0,1],[1,-1],[0,0]]", "ok"),
@@ -197,16 +117,14 @@ fn what_goes_without_saying(rt: HostRuntime) -> Result<(), Fail> {
                 "b RAYS_IN_FACETS [[],{\"cols\":1}]",
             ),
         ],
-        Status::SomeRefused,
         4,
-    )
-}
+    ),
+];
 
-// A half space, as a cone: its lineality is a plane.
-#[test]
-fn a_half_space_by_its_facet(rt: HostRuntime) -> Result<(), Fail> {
-    answers(
-        &rt,
+pub const MORE_DESCRIPTIONS: &[Script] = &[
+    // A half space, as a cone: its lineality is a plane.
+    (
+        "a half space by its facet",
         &[
             ("new h Cone", "ok"),
             ("take h FACETS [[2,0,-2]]", "ok"),
@@ -221,16 +139,11 @@ fn a_half_space_by_its_facet(rt: HostRuntime) -> Result<(), Fail> {
             ("give h FULL_DIM", "h FULL_DIM true"),
             ("give h RAYS", "no 10 NoChain"),
         ],
-        Status::SomeRefused,
-        6,
-    )
-}
-
-// The cone {0} by no rays, and a plane by no facets but an equation.
-#[test]
-fn matrices_without_rows(rt: HostRuntime) -> Result<(), Fail> {
-    answers(
-        &rt,
+        6u64,
+    ),
+    // The cone {0} by no rays, and a plane by no facets but an equation.
+    (
+        "matrices without rows",
         &[
             ("new z Cone", "ok"),
             ("take z CONE_AMBIENT_DIM 2", "ok"),
@@ -266,16 +179,11 @@ fn matrices_without_rows(rt: HostRuntime) -> Result<(), Fail> {
                 "p EQUATIONS [[\"1/2\",\"1/3\",\"0\"]]",
             ),
         ],
-        Status::SomeRefused,
         12,
-    )
-}
-
-// What the object held before is the given dimension: the rules take it as it is.
-#[test]
-fn a_given_dimension(rt: HostRuntime) -> Result<(), Fail> {
-    answers(
-        &rt,
+    ),
+    // What the object held before is the given dimension: the rules take it as it is.
+    (
+        "a given dimension",
         &[
             ("new c Cone", "ok"),
             ("take c CONE_AMBIENT_DIM 4", "ok"),
@@ -287,16 +195,11 @@ fn a_given_dimension(rt: HostRuntime) -> Result<(), Fail> {
             ("take c POINTED false", "no 7 AlreadyHeld"),
             ("take c RAYS []", "no 8 Sealed"),
         ],
-        Status::SomeRefused,
         3,
-    )
-}
-
-// Eliminations that leave the range: 2^120 times 2^120 does. The client that fails is not tried again.
-#[test]
-fn eliminations_that_leave_the_range(rt: HostRuntime) -> Result<(), Fail> {
-    answers(
-        &rt,
+    ),
+    // Eliminations that leave the range: 2^120 times 2^120 does. The client that fails is not tried again.
+    (
+        "eliminations that leave the range",
         &[
             ("new c Cone", "ok"),
             (
@@ -324,16 +227,11 @@ fn eliminations_that_leave_the_range(rt: HostRuntime) -> Result<(), Fail> {
             ("give e LINEALITY_SPACE", "no 10 NoChain"),
             ("give e CONE_DIM", "e CONE_DIM 2"),
         ],
-        Status::SomeRefused,
         6,
-    )
-}
-
-// A dimension that a failed client leaves open is found in another way.
-#[test]
-fn another_rule_finds_it(rt: HostRuntime) -> Result<(), Fail> {
-    answers(
-        &rt,
+    ),
+    // A dimension that a failed client leaves open is found in another way.
+    (
+        "another rule finds it",
         &[
             ("new c Cone", "ok"),
             ("take c RAYS [[0,0,1]]", "ok"),
@@ -345,16 +243,11 @@ fn another_rule_finds_it(rt: HostRuntime) -> Result<(), Fail> {
             ("take c INPUT_LINEALITY [[1,0,0],[0,1,0]]", "ok"),
             ("give c CONE_DIM", "c CONE_DIM 3"),
         ],
-        Status::Answered,
         2,
-    )
-}
-
-// The first fault in reading order, then columns, then rows.
-#[test]
-fn values_that_are_refused(rt: HostRuntime) -> Result<(), Fail> {
-    answers(
-        &rt,
+    ),
+    // The first fault in reading order, then columns, then rows.
+    (
+        "values that are refused",
         &[
             ("new a Cone", "ok"),
             (
@@ -390,7 +283,6 @@ fn values_that_are_refused(rt: HostRuntime) -> Result<(), Fail> {
             ("take s FACETS [[\"0\",1]]", "ok"),
             ("take s FACETS [[0,1],[1,-1]]", "no 7 AlreadyHeld"),
         ],
-        Status::SomeRefused,
         0,
-    )
-}
+    ),
+];
