@@ -4,11 +4,12 @@ ghost use Rattle.pm_client.specs.Starts.{Clients};
 ghost use Rattle.pm_machine.specs.Sessions.{book_of, machine_of};
 ghost use Rattle.pm_machine.specs.Steps.{Machine};
 ghost use Rattle.pm_rules.specs.Books.{standard_rules};
+ghost use Rattle.pm_script.specs.Commands.{spoken};
 ghost use Rattle.pm_script.specs.Lines.{lines_of};
 ghost use Rattle.pm_script.specs.Replies.{ReplySeen, refused, reply_text, seen};
 ghost use Rattle.pm_script.specs.declared.refusal.Refusal.TheVariants.{BadCommand};
 ghost use Rattle.pm_shell.specs.Ends.{AnswersAll, AnswersFirst, AnswersOne, BreaksOff, FromNoObjects, HasLeft, number_of};
-ghost use Rattle.pm_shell.specs.Run.{Answers};
+ghost use Rattle.pm_shell.specs.Run.{Answers, command_at};
 ghost use Rattle.pm_shell.specs.Shown.{ShownAreRight};
 ghost use Rattle.pm_shell.specs.declared.run.RunFail.TheVariants.{Memory, SinkFault};
 ghost use Rattle.pm_store.specs.Outside.{GainsPart, Rose};
@@ -84,6 +85,20 @@ impl From<Failed> for RunFail {
     }
 }
 
+/// The command that a line speaks, if it speaks one; a line that is too long speaks none.
+fn command_at(alloc: Global, line: &Line<'_>) -> Result<Option<Command>, AllocError>
+    ensures { IfOk result (λ c. command_at line.now ≡ option_map spoken c) }
+{
+    if line.is_too_long() {
+        return Ok(None);
+    }
+    match read_line(alloc, line.text()) {
+        Ok(command) => Ok(Some(command)),
+        Err(LineFail::BadCommand) => Ok(None),
+        Err(LineFail::Memory) => Err(AllocError),
+    }
+}
+
 /// The reply to a line, if it has one.
 fn answer_line(
     alloc: Global,
@@ -95,14 +110,10 @@ fn answer_line(
         (machine_of session.new (map (λ b. (kind_of b, starts_of b)) clients.new.items))) }
     ensures book { book_of session.new ≡ book_of session.old }
 {
-    if line.is_too_long() {
-        return Ok(Some(bad_command()));
-    }
-    match read_line(alloc, line.text()) {
-        Ok(Command::Blank) => Ok(None),
-        Ok(command) => Ok(Some(session.step(alloc, command, clients)?)),
-        Err(LineFail::BadCommand) => Ok(Some(bad_command())),
-        Err(LineFail::Memory) => Err(AllocError),
+    match command_at(alloc, line)? {
+        None => Ok(Some(bad_command())),
+        Some(Command::Blank) => Ok(None),
+        Some(command) => Ok(Some(session.step(alloc, command, clients)?)),
     }
 }
 
@@ -140,6 +151,14 @@ fn answer_next<K: Sink>(
     Ok(reply.is_refusal())
 }
 
+/// Whether a line is left: a last one without its end counts too.
+fn has_line(rest: &[u8]) -> bool
+    ensures none { result ≡ false → rest.now ≡ [] }
+    ensures some { result ≡ true → 0 < length rest.now }
+{
+    !rest.is_empty()
+}
+
 /// Answers each line, and writes its reply before the next one. True: some reply is a refusal.
 fn answer_lines<K: Sink>(
     alloc: Global,
@@ -158,7 +177,7 @@ fn answer_lines<K: Sink>(
 {
     let mut some_refused = false;
     let mut rest = script;
-    while !rest.is_empty() {
+    while has_line(rest) {
         let (line, after) = split_line(rest);
         let refused = answer_next(alloc, session, clients, &line, sink)?;
         some_refused = some_refused | refused;

@@ -1,0 +1,8 @@
+use Rattle.std.proofs.Common.{ap, sym, ◌∙◌}
+use Rattle.pm_script.specs.Commands.{command_of}
+use Rattle.pm_shell.proofs.OneLine.{command_at-short}
+use Rattle.pm_shell.proofs.run.command_at.Goals as goal
+
+pub returns-in-Err-BadCommand : goal.returns-in-Err-BadCommand
+returns-in-Err-BadCommand c =
+    command_at-short c.args.line.now _ (sym c.is_too_long.ensures ∙ c.if-is_too_long.false) (sym (ap command_of c.text.ensures) ∙ c.in-Err-BadCommand.ensures.refused c.in-Err-BadCommand.field-0-is)
