@@ -68,8 +68,11 @@ barred_same book test n item barred there bars first = record {
 }
 
 -- ---- the tests of one rule, put together
-pub four : (a a' b b' c c' d d' : Bool) → a ≡ a' → b ≡ b' → c ≡ c' → d ≡ d' → (((a || b) || c) || d) ≡ (((a' || b') || c') || d')
-four a a' b b' c c' d d' h k l m = cc
+pub two : (a a' b b' : Bool) → a ≡ a' → b ≡ b' → (a || b) ≡ (a' || b')
+two a a' b b' h k = cc
+
+pub three : (a a' b b' c c' : Bool) → a ≡ a' → b ≡ b' → c ≡ c' → ((a || b) || c) ≡ ((a' || b') || c')
+three a a' b b' c c' h k l = cc
 
 pub none_is : {r w : Option ℕ} {n : Bool} → is_some r ≡ not n → r ≡ w → n ≡ not (is_some w)
 none_is {r} {w} {n} h k = twice n ∙ ap not (sym h ∙ ap is_some k)

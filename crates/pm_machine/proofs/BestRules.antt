@@ -31,6 +31,19 @@ at_most_is a b h = grind arith
 pub above_is : (a b : Cost) → at_most a b ≡ false → IsAtMost b a
 above_is a b h = grind arith
 
+at_most_so : (a b : Cost) → IsAtMost a b → at_most a b ≡ true
+at_most_so a b h = grind arith
+
+pub better_old : (old new : Best) → IsAtMost old.cost new.cost → better (Some old) new ≡ old
+better_old old new h = ap (λ t. if t then old else new) (at_most_so old.cost new.cost h)
+
+pub better_new : (old new : Best) → (IsAtMost old.cost new.cost → ⊥) → better (Some old) new ≡ new
+better_new old new h = by (at_most old.cost new.cost) (at_most_is old.cost new.cost)
+  where
+    by : (t : Bool) → (t ≡ true → IsAtMost old.cost new.cost) → (if t then old else new) ≡ new
+    by true k = absurd (h (k refl))
+    by false k = refl
+
 pub at_most_trans : (a b c : Cost) → IsAtMost a b → IsAtMost b c → IsAtMost a c
 at_most_trans a b c h k = grind arith
 

@@ -1,15 +1,15 @@
 // Rules on an object: which are barred, and which chain is least.
 
 ghost use Rattle.pm_client.specs.Starts.{has_client};
-ghost use Rattle.pm_machine.specs.Chains.{AreBarred, HasNoChainByOne, IsLeastByOne, Serves, is_barred_on, is_truth, is_wrong, table};
+ghost use Rattle.pm_machine.specs.Chains.{AreBarred, HasNoChainByOne, IsLeastByOne, Serves, is_barred_on, is_truth, is_wrong, some_wrong, table};
 ghost use Rattle.pm_machine.specs.Best.{BestBefore, better, cost_of};
-ghost use Rattle.pm_object.specs.State.{value_of};
+ghost use Rattle.pm_object.specs.State.{is_disabled, value_of};
 ghost use Rattle.pm_rules.specs.Books.{most_rules};
 ghost use Rattle.pm_types.specs.Properties.{has as has_in};
 ghost use Rattle.pm_types.specs.Sets.{set_of};
 ghost use Rattle.pm_types.specs.declared.property.PropId.{PropId};
 ghost use Rattle.std.specs.List.{list_any};
-ghost use Rattle.std.specs.Prelude.{IfNone, IfOk, IfSome, IsTrue, [], filter, length, map, nat_eq, ◌≡◌, ◌≤◌, ◌↔◌, ◌∷◌};
+ghost use Rattle.std.specs.Prelude.{IfNone, IfOk, IfSome, IsTrue, [], filter, length, map, nat_eq, ◌||◌, ◌≡◌, ◌≤◌, ◌↔◌, ◌∷◌};
 
 use pm_client::{Client, place_of};
 use pm_geom::ObjectType;
@@ -73,14 +73,20 @@ fn is_excluded(excluded: &[Excluded], id: RuleId) -> bool
     excluded.iter().any(|e| e.rule.0 == id.0)
 }
 
-// Whether the rule of this number is barred on the object.
-fn is_barred_on(clients: &[Box<dyn Client>], object: &Object, id: RuleId, rule: &Rule) -> bool
-    ensures { result ≡ is_barred_on (map (λ b. (kind_of b, starts_of b)) clients.now) object.now id rule.now }
+// Whether the object bars the rule of this number, whatever the clients.
+fn is_barred_by(object: &Object, id: RuleId, rule: &Rule) -> bool
+    ensures { result ≡ (list_any (λ e. nat_eq e.rule.0 id.0) object.now.excluded || some_wrong rule.now object.now.held || is_disabled rule.now.label object.now.disabled) }
 {
     is_excluded(object.excluded(), id)
         | some_is_wrong(rule, object, &PropId::every())
         | object.is_disabled(rule.label.as_str())
-        | place_of(clients, rule.kind).is_none()
+}
+
+// Whether the rule of this number is barred on the object.
+fn is_barred_on(clients: &[Box<dyn Client>], object: &Object, id: RuleId, rule: &Rule) -> bool
+    ensures { result ≡ is_barred_on (map (λ b. (kind_of b, starts_of b)) clients.now) object.now id rule.now }
+{
+    is_barred_by(object, id, rule) | place_of(clients, rule.kind).is_none()
 }
 
 /// The rules of the book that are barred on the object.

@@ -3,13 +3,13 @@
 ghost use Rattle.pm_client.specs.Starts.{Clients};
 ghost use Rattle.pm_machine.specs.Running.{KeepsKept};
 ghost use Rattle.pm_machine.specs.Sessions.{Gives, book_of, is_spent, machine_of};
-ghost use Rattle.pm_machine.specs.Steps.{AllKept, GiveStep, LookupStep, NewStep, Stays, Step, TakeStep, object_at, type_word};
-ghost use Rattle.pm_object.specs.State.{State};
+ghost use Rattle.pm_machine.specs.Steps.{AllKept, GiveStep, LookupStep, NewStep, OthersStay, Stays, Step, TakeStep, object_at, type_word};
+ghost use Rattle.pm_object.specs.State.{State, empty_object};
 ghost use Rattle.pm_script.specs.Commands.{RefSeen, blank, seen_ref, spoken};
 ghost use Rattle.pm_script.specs.Replies.{seen, shows};
 ghost use Rattle.pm_types.specs.Views.{view_of};
 ghost use Rattle.std.specs.Option.{is_some, option_map};
-ghost use Rattle.std.specs.Prelude.{IfOk, List, None, OnErr, OnOk, Option, [], false, map, string_bytes, true, ℕ, ◌≡◌, ◌≢◌};
+ghost use Rattle.std.specs.Prelude.{IfOk, List, None, OnErr, OnOk, Option, Some, [], false, map, string_bytes, true, ℕ, ◌+◌, ◌≡◌, ◌≢◌};
 
 use crate::round::ensure;
 use crate::taking::{property_named, take_text};
@@ -147,6 +147,20 @@ impl Session {
         }
     }
 
+    // Adds an empty object of a new name.
+    fn add(&mut self, alloc: Global, name: String, of: ObjectType) -> Result<(), AllocError>
+        requires { (machine_of self.old []).object (string_bytes name) ≡ None }
+        ensures object { OnOk result ((machine_of self.new []).object (string_bytes name) ≡ Some (empty_object of)) }
+        ensures others { OnOk result (OthersStay (string_bytes name) (machine_of self.old []) (machine_of self.new [])) }
+        ensures count { OnOk result ((machine_of self.new []).count ≡ (machine_of self.old []).count + 1) }
+        ensures err { OnErr result ((q : List ℕ) → (machine_of self.new []).object q ≡ (machine_of self.old []).object q) }
+        ensures book { book_of self.new ≡ book_of self.old }
+        ensures spent { is_spent self.new ≡ is_spent self.old }
+    {
+        self.objects.insert(name, Object::new(alloc, of))?;
+        Ok(())
+    }
+
     // `new REF TYPE`
     fn do_new(
         &mut self,
@@ -176,7 +190,7 @@ impl Session {
                 why: Refusal::ObjectsFull,
             });
         }
-        self.objects.insert(name, Object::new(alloc, of))?;
+        self.add(alloc, name, of)?;
         Ok(Reply::Done)
     }
 

@@ -1,12 +1,12 @@
 // Taking a value from a JSON text.
 
-ghost use Rattle.pm_machine.specs.Steps.{Taken, given_by, property_named, value, why_of};
+ghost use Rattle.pm_machine.specs.Steps.{Given, TakeValue, Taken, given_by, property_named, value, why_of};
 ghost use Rattle.pm_object.specs.State.{is_held, is_sealed};
 ghost use Rattle.pm_types.specs.Forms.{is_built, is_formed};
 ghost use Rattle.pm_types.specs.Properties.{has};
 ghost use Rattle.pm_types.specs.Views.{view_of};
 ghost use Rattle.serde_json.specs.Read.{read};
-ghost use Rattle.std.specs.Prelude.{IfOk, IfSome, IsTrue, OnErr, false, ◌≡◌};
+ghost use Rattle.std.specs.Prelude.{IfNone, IfOk, IfSome, IsTrue, None, OnErr, Some, false, ◌≡◌};
 
 use pm_geom::ObjectType;
 use pm_json::{ValueFail, read_value};
@@ -58,6 +58,21 @@ fn take_read(object: &mut Object, p: PropId, v: Value) -> Result<Option<Refusal>
     }
 }
 
+// Why the object takes no value of a property at all; None where it may take one.
+fn takes_none(object: &Object, p: PropId) -> Option<Refusal>
+    ensures some { IfSome result (λ why. (g : Given) → TakeValue object.now p g (Some why) None) }
+    ensures missing { IfNone result (is_held p object.now.held ≡ false) }
+    ensures open { IfNone result (is_sealed object.now ≡ false) }
+{
+    if object.holds(p) {
+        return Some(Refusal::AlreadyHeld);
+    }
+    if object.is_sealed() {
+        return Some(Refusal::Sealed);
+    }
+    None
+}
+
 /// Takes the value of a property that a JSON text gives, or says why not; then nothing changes.
 pub fn take_text(
     alloc: Global,
@@ -70,11 +85,8 @@ pub fn take_text(
     ensures ok { IfOk result (λ why. Taken object.old p (given_by p (read json.now)) why object.new) }
     ensures err { OnErr result (object.new ≡ object.old) }
 {
-    if object.holds(p) {
-        return Ok(Some(Refusal::AlreadyHeld));
-    }
-    if object.is_sealed() {
-        return Ok(Some(Refusal::Sealed));
+    if let Some(why) = takes_none(object, p) {
+        return Ok(Some(why));
     }
     let data = match serde_json::Value::from_str(alloc, json) {
         Ok(data) => data,

@@ -1,5 +1,6 @@
 -- Rounds go on until what is asked is held, or no chain leads there.
 use Rattle.std.proofs.Common.{rules}
+use Rattle.std.proofs.lemmas.Result.{err_from_is_err_and}
 use Rattle.pm_machine.proofs.Progress.{ends_found, ends_none, keeps, less_to_do, on_err, start_progress, started_holds, step_progress}
 use Rattle.pm_machine.specs.Rounds.{AllHeld}
 use Rattle.pm_machine.specs.Running.{KeepsKept}
@@ -39,3 +40,16 @@ loop-rules-preserved g c =
 pub returns-clause-ok : goal.returns-clause-ok
 returns-clause-ok g c =
     rw (← c.loop-rules.invariant.rules) (ends_found _ _ _ _ _ _ c.loop-rules.invariant.progress (rw c.names.ensures.value at (c.is_subset.ensures.subset.0 c.loop-rules-test.false)))
+
+pub next_round-requires-clause-book : goal.next_round-requires-clause-book
+next_round-requires-clause-book g c = c.loop-rules.invariant.book
+
+pub next_round-requires-clause-dimension : goal.next_round-requires-clause-dimension
+next_round-requires-clause-dimension g c = c.loop-rules.invariant.dimension
+
+pub returns-in_err-settle-clause-ok : goal.returns-in_err-settle-clause-ok
+returns-in_err-settle-clause-ok g c = rw (err_from_is_err_and c.from_residual.result c.from_residual.ensures.1).1 tt
+
+pub returns-in_err-next_round-clause-ok : goal.returns-in_err-next_round-clause-ok
+returns-in_err-next_round-clause-ok g c =
+    rw (err_from_is_err_and c.from_residual-in_err-next_round.result c.from_residual-in_err-next_round.ensures.1).1 tt

@@ -1,7 +1,7 @@
 -- Each answer of the object's own call is the answer here.
 use Rattle.std.proofs.Common.{refl}
 use Rattle.pm_types.specs.Views.{view_of}
-use Rattle.pm_machine.proofs.Refused.{columns, not_a_thing}
+use Rattle.pm_machine.proofs.Refused.{columns, not_a_thing, not_held, not_sealed}
 use Rattle.pm_machine.proofs.taking.take_read.Goals as goal
 
 pub take-requires : goal.take-requires
@@ -17,3 +17,13 @@ returns-in-Err-Columns-clause-ok c =
 pub returns-in-Err-NotAThing-clause-ok : goal.returns-in-Err-NotAThing-clause-ok
 returns-in-Err-NotAThing-clause-ok c =
     (not_a_thing c.args.object.now c.args.p (view_of c.args.v) c.in-Err-NotAThing.field-0 c.in-Err-NotAThing.field-0-is c.in-Err-NotAThing.ensures.refused, c.in-Err-NotAThing.ensures.unchanged)
+
+pub unreachable-requires : goal.unreachable-requires
+unreachable-requires c =
+    not_held c.args.object.now c.args.p (view_of c.args.v)
+    c.in-Err-AlreadyHeld.field-0 c.in-Err-AlreadyHeld.field-0-is c.in-Err-AlreadyHeld.ensures.refused c.requires.missing
+
+pub unreachable-requires-in-Err-Sealed : goal.unreachable-requires-in-Err-Sealed
+unreachable-requires-in-Err-Sealed c =
+    not_sealed c.args.object.now c.args.p (view_of c.args.v)
+    c.in-Err-Sealed.field-0 c.in-Err-Sealed.field-0-is c.in-Err-Sealed.ensures.refused c.requires.open

@@ -12,3 +12,6 @@ pub returns-in-None-clause-none : goal.returns-in-None-clause-none
 returns-in-None-clause-none c =
     let s = c.args.self.now in
     none_leads c.args.rules.now s.names s.barred.now s.held s.asked (subst (λ z. BestBefore c.args.rules.now s.names s.barred.now s.held s.asked (length c.args.rules.now) z) c.in-None.is c.best.ensures)
+
+pub returns-in-Some-clause-none : goal.returns-in-Some-clause-none
+returns-in-Some-clause-none c = tt

@@ -1,11 +1,9 @@
--- The object of a new name is added; the others stay.
-use Rattle.std.proofs.Common.{Option, Some, ap, cond, is_some, refl, rules, sym, ◌+◌, ◌∙◌, ◌≡◌}
+-- The object of a new name is added.
+use Rattle.std.proofs.Common.{refl, rules, sym, ◌∙◌, ◌≡◌}
 use Rattle.std.specs.HashMap.{get_by_text}
 use Rattle.std.specs.Option.{option_map}
 use Rattle.std.specs.Prelude.{None, string_bytes}
-use Rattle.indexmap.specs.IndexMap.{index_map_len}
-use Rattle.pm_machine.proofs.Names.{map_some, others_stay}
-use Rattle.pm_object.specs.State.{State}
+use Rattle.pm_machine.proofs.Names.{map_some}
 use Rattle.pm_machine.proofs.session.Session.do_new.Goals as goal
 
 pub returns-clause-step : goal.returns-clause-step
@@ -15,12 +13,7 @@ returns-clause-step g c =
       sym (c.type_named.ensures (option_map string_bytes c.args.sub) (map_some string_bytes c.args.sub ∙ sym c.is_some.ensures)) ∙ c.in-Some.is,
       none,
       search rules,
-      record {
-        object = c.in_ok-insert.ensures.updates.1 ∙ ap Some c.new.ensures;
-        others = others_stay c.args.self.now.objects c.insert.new.self _ _ c.in_ok-insert.ensures.updates;
-        count = c.in_ok-insert.ensures.len ∙ ap (λ (z : Option State). index_map_len c.args.self.now.objects + cond (is_some z) 0 1) (c.in_ok-insert.ensures.old ∙ none);
-        clients = refl;
-      },
+      record { object = c.in_ok-add.ensures.object; others = c.in_ok-add.ensures.others; count = c.in_ok-add.ensures.count; clients = refl },
     )
 
 pub returns-in_default-clause-step : goal.returns-in_default-clause-step

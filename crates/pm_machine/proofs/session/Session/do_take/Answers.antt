@@ -1,5 +1,6 @@
 -- The object of the name is written through its reference; the others stay.
 use Rattle.std.proofs.Common.{List, Some, ap, refl, rules, sym, ℕ, ◌∙◌, ◌≡◌}
+use Rattle.std.proofs.lemmas.Result.{err_from_is_err_and}
 use Rattle.std.specs.HashMap.{get_by_text}
 use Rattle.std.specs.Option.{option_map}
 use Rattle.std.specs.Prelude.{None, string_bytes}
@@ -47,3 +48,12 @@ returns-in-None-clause-step g c =
     let taken : Taken o c.in-Some-property_named.p (given_by c.in-Some-property_named.p (read c.args.json.now)) None o' = search rules in
     take_done (get_by_text c.args.self.now.objects) (get_by_text (c.get_mut.follows.lender o')) _ _ _ name (option_map string_bytes c.args.obj.now.sub) c.args.prop.now c.args.json.now o o' c.in-Some-property_named.p
     (map_some string_bytes c.args.obj.now.sub ∙ sym c.is_some.ensures ∙ c.if-is_some.false) w.0 named taken w.1 w.2 (c.get_mut.follows.holds o').2
+
+pub take_text-requires-clause-built : goal.take_text-requires-clause-built
+take_text-requires-clause-built g c = c.in-Some-property_named.ensures.built
+
+pub take_text-requires-clause-table : goal.take_text-requires-clause-table
+take_text-requires-clause-table g c = rw c.of.ensures.value at c.in-Some-property_named.ensures.table
+
+pub returns-in_err-why-clause-step : goal.returns-in_err-why-clause-step
+returns-in_err-why-clause-step g c = rw (err_from_is_err_and c.from_residual.result c.from_residual.ensures.1).1 tt
