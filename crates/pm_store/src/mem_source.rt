@@ -1,6 +1,6 @@
 // A source in memory, for tests and for proofs about whole runs.
 
-ghost use Rattle.std.specs.Prelude.{◌≡◌, ◌↔◌, ◌+◌, ◌<◌, ◌≤◌, ◌^◌, Some, IfOk, OnErr, IsErr, MatchResult, Contains, length, drop, vec_len};
+ghost use Rattle.std.specs.Prelude.{◌≡◌, ◌↔◌, ◌+◌, ◌++◌, ◌<◌, ◌≤◌, ◌^◌, Some, IfOk, OnErr, IsErr, MatchResult, Contains, length, drop, vec_len};
 ghost use Rattle.pm_store.specs.Outside.{Rose, Stays, Moves, IsAtEnd};
 ghost use Rattle.pm_store.specs.MemSource.{SourceState, given, after_giving, after_fault};
 
@@ -90,8 +90,17 @@ impl Source for MemSource {
         let left = self.bytes.len() - self.at;
         let count = left.min(self.piece).min(buf.len());
         let end = self.at + count;
-        buf[..count].copy_from_slice(&self.bytes[self.at..end]);
+        put_front(buf, &self.bytes[self.at..end]);
         self.at = end;
         Ok(count)
     }
+}
+
+// Copies the bytes to the front of the buffer.
+fn put_front(buf: &mut [u8], bytes: &[u8])
+    requires { length bytes.now ≤ length buf.old }
+    ensures { buf.new ≡ bytes.now ++ drop (length bytes.now) buf.old }
+{
+    let count = bytes.len();
+    buf[..count].copy_from_slice(&bytes[..count]);
 }
