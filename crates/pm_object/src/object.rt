@@ -13,7 +13,7 @@ ghost use Rattle.pm_types.specs.Kinds.{IsKindOf};
 ghost use Rattle.pm_types.specs.Sets.{has};
 ghost use Rattle.pm_types.specs.declared.property.PropId.{PropId};
 ghost use Rattle.std.specs.Option.{is_some, option_map, unwrap_or};
-ghost use Rattle.std.specs.Prelude.{IfErr, IfOk, IfSome, IsTrue, false, if◌then◌else◌, None, OnErr, OnOk, Some, [], map, string_bytes, ◌++◌, ◌<◌, ◌^◌, ◌∷◌, ◌≡◌, ◌≢◌};
+ghost use Rattle.std.specs.Prelude.{IfErr, IfOk, IfSome, IsTrue, false, if◌then◌else◌, None, OnErr, OnOk, Some, [], map, not, string_bytes, ◌&&◌, ◌++◌, ◌<◌, ◌^◌, ◌∷◌, ◌≡◌, ◌≢◌};
 
 use crate::copies::{copy_excluded, copy_held, copy_labels, copy_rounds};
 use crate::held::{Excluded, Held, Origin, Round, TakeFail};
@@ -256,17 +256,17 @@ impl Object {
         let mut names = Vec::new(alloc);
         push_if(
             &mut names,
-            !self.holds(PropId::ConeAmbientDim),
+            self.lacks(PropId::ConeAmbientDim),
             PropId::ConeAmbientDim,
         )?;
         push_if(
             &mut names,
-            points & !self.holds(PropId::InputLineality),
+            points & self.lacks(PropId::InputLineality),
             PropId::InputLineality,
         )?;
         push_if(
             &mut names,
-            inequalities & !self.holds(PropId::Equations),
+            inequalities & self.lacks(PropId::Equations),
             PropId::Equations,
         )?;
         push_if(
@@ -275,15 +275,22 @@ impl Object {
                 & !points
                 & !inequalities
                 & !(facets & hull)
-                & !self.holds(PropId::LinealitySpace),
+                & self.lacks(PropId::LinealitySpace),
             PropId::LinealitySpace,
         )?;
         push_if(
             &mut names,
-            facets & !points & !inequalities & !vertices & !hull,
+            are_alone(facets, points, inequalities, vertices, hull),
             PropId::AffineHull,
         )?;
         Ok(names)
+    }
+
+    // Whether a property is not held.
+    fn lacks(&self, p: PropId) -> bool
+        ensures { result ≡ not (is_held p self.now.held) }
+    {
+        !self.holds(p)
     }
 
     // The column count, or 1 where it is unknown.
@@ -356,6 +363,13 @@ impl Object {
         })?;
         Ok(())
     }
+}
+
+// Whether facets are held without what else is given or found first, and without an affine hull.
+fn are_alone(facets: bool, points: bool, inequalities: bool, vertices: bool, hull: bool) -> bool
+    ensures { result ≡ (facets && not points && not inequalities && not vertices && not hull) }
+{
+    facets & !points & !inequalities & !vertices & !hull
 }
 
 // Whether a label stands in the list.
