@@ -120,9 +120,6 @@ fails_rightly v m k facets vertices F V (Failed (E4 a x)) g h p q w = (
   w.2,
 )
 
-pub memory_rightly : (v : ViewSeen) (e : ClientFail) → e ≡ Memory → FailsRightly v e
-memory_rightly v e h = rw h tt
-
 -- ---- the kind
 pub has_target : (k : Kind) → k ≡ incidence_kind → IsTrue (has k.targets VerticesInFacets)
 has_target k e = ap (λ z. has z.targets VerticesInFacets) e ∙ has-set_of (VerticesInFacets ∷ []) VerticesInFacets

@@ -50,15 +50,6 @@ only_one {X} {x} {y} c = by (among_Contains (y ∷ []) c)
 itself : {X : Type 0} (x : X) → Contains (x ∷ []) x
 itself x = (0, omega arith, refl)
 
-pub AllStay-one : (f v : Row) → ProductsStay f v → AllStay (f ∷ []) (v ∷ [])
-AllStay-one f v h = record { stay = λ g w c d. subst (λ y. ProductsStay g y) (sym (only_one d)) (subst (λ y. ProductsStay y v) (sym (only_one c)) h) }
-
-pub AllStay-no_row : (F : List Row) → AllStay F []
-AllStay-no_row F = record { stay = λ f v c d. absurd (let l = d.1 in omega arith) }
-
-pub AllStay-none : (V : List Row) → AllStay [] V
-AllStay-none V = record { stay = λ f v c d. absurd (let l = c.1 in omega arith) }
-
 pub AllStay-row : (F V : List Row) (j : ℕ) (v : Row) → j < length V → v ≡ get_or V j v → AllStay F (take j V) → AllStay F (v ∷ []) → AllStay F (take (j + 1) V)
 AllStay-row F V j v within is so_far last =
     let more : take (j + 1) V ≡ take j V ++ v ∷ [] = rw (take_more V j v within, ← is) refl in
@@ -95,6 +86,3 @@ pub wide_in_list : (F V : List Row) (f : Row) (e : ClientFail) → Contains F f 
 wide_in_list F V f Memory c h = tt
 wide_in_list F V f (Failed (E1 e)) c h = absurd h
 wide_in_list F V f (Failed (E4 a x)) c h = (h.0, subst (Contains F) (sym (only_one h.1)) c, h.2)
-
-pub wide_memory : (F V : List Row) (e : ClientFail) → e ≡ Memory → IsWideFor F V e
-wide_memory F V e h = rw h tt

@@ -31,6 +31,13 @@ impl SetsClient {
     {
         SetsClient { starts: 0 }
     }
+
+    // Counts one start more.
+    fn count_start(&mut self)
+        ensures { self.new.starts ≡ next_count self.old.starts }
+    {
+        self.starts = self.starts.saturating_add(1);
+    }
 }
 
 impl Client for SetsClient {
@@ -57,7 +64,7 @@ impl Client for SetsClient {
         ensures failed { IfErr result (λ e. FailsRightly view.now e) }
         ensures stays { OnOk result (StaysInRange view.now) }
     {
-        self.starts = self.starts.saturating_add(1);
+        self.count_start();
         let facets = primitive_rows(alloc, matrix_of(view, PropId::Facets))?;
         let vertices = primitive_rows(alloc, matrix_of(view, PropId::Vertices))?;
         let sets = incidence(alloc, &facets, &vertices)?;

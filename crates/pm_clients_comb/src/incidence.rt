@@ -5,6 +5,7 @@ ghost use Rattle.pm_clients_comb.specs.Incidence.{AllStay, IsWideFor, incidence,
 ghost use Rattle.pm_client.specs.declared.ClientFail.TheVariants.{Memory};
 ghost use Rattle.pm_matrix.specs.FractionRows.{ArePrimitiveRowsOf};
 ghost use Rattle.pm_types.specs.Forms.{HasPrimitiveRow};
+ghost use Rattle.pm_vector.specs.Products.{ProductsStay};
 ghost use Rattle.std.specs.Prelude.{All, IfErr, IfOk, OnOk, [], length, unsigned_abs, ◌==◌, ◌∷◌, ◌≡◌, ◌≤◌};
 
 use pm_client::ClientFail;
@@ -12,7 +13,7 @@ use pm_geom::Evidence;
 use pm_matrix::{Matrix, RowsFail};
 use pm_types::Sets;
 use pm_vector::{Ints, Wide, dot};
-use std::alloc::Global;
+use std::alloc::{AllocError, Global};
 
 // Whether the product of two rows of one length is 0.
 fn vanishes(alloc: Global, facet: &Ints, vertex: &Ints) -> Result<bool, ClientFail>
@@ -22,12 +23,26 @@ fn vanishes(alloc: Global, facet: &Ints, vertex: &Ints) -> Result<bool, ClientFa
     ensures failed { IfErr result (IsWideFor (facet.now ∷ []) (vertex.now ∷ [])) }
 {
     match dot(facet.as_slice(), vertex.as_slice()) {
-        Ok(product) => Ok(product == 0),
-        Err(Wide) => Err(ClientFail::Failed(Evidence::E4 {
-            first: vertex.copy(alloc)?,
-            second: facet.copy(alloc)?,
-        })),
+        Ok(product) => Ok(is_nought(product)),
+        Err(Wide) => Err(wide(alloc, facet, vertex)?),
     }
+}
+
+fn is_nought(k: i128) -> bool
+    ensures { result ≡ (unsigned_abs k == 0) }
+{
+    k == 0
+}
+
+// The evidence of two rows whose product leaves the range.
+fn wide(alloc: Global, facet: &Ints, vertex: &Ints) -> Result<ClientFail, AllocError>
+    requires { ProductsStay facet.now vertex.now → ⊥ }
+    ensures { IfOk result (IsWideFor (facet.now ∷ []) (vertex.now ∷ [])) }
+{
+    Ok(ClientFail::Failed(Evidence::E4 {
+        first: vertex.copy(alloc)?,
+        second: facet.copy(alloc)?,
+    }))
 }
 
 // The places of the vertices on a facet.

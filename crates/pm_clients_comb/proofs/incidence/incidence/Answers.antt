@@ -1,5 +1,7 @@
 use Rattle.pm_clients_comb.proofs.Places.{incidence_next}
 use Rattle.pm_clients_comb.proofs.Products.{AllStay-list}
+use Rattle.std.proofs.Common.{append-nil, drop, ◌≡◌, []}
+use Rattle.std.proofs.lemmas.List.{drop_all}
 use Rattle.pm_clients_comb.proofs.incidence.incidence.Goals as goal
 
 pub loop-facet-preserved : goal.loop-facet-preserved
@@ -8,3 +10,8 @@ loop-facet-preserved c = (
       c.in_ok-push.ensures.items c.in_ok-places.ensures.ok,
   AllStay-list c.args.facets.now c.args.vertices.now c.loop-facet.facet-index c.facet-item.result c.loop-facet-test.true c.facet-item.is c.loop-facet.invariant.1 c.in_ok-places.ensures.stays,
 )
+
+pub returns-clause-ok : goal.returns-clause-ok
+returns-clause-ok c =
+    let none : drop c.loop-facet.facet-index c.args.facets.now ≡ [] = drop_all c.loop-facet.facet-index c.args.facets.now c.loop-facet-test.false in
+    rw (c.loop-facet.invariant.0, none, append-nil) c.from_vec.ensures
