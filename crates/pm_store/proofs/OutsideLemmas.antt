@@ -29,7 +29,8 @@ pub Moves-front : (items buf piece new : List ℕ) (at k : ℕ) → k ≤ length
     → Moves (Some (drop at items)) (Some (drop (at + k) items)) k new
 Moves-front items buf piece new at k room p e =
     let long : length piece ≡ k = ap length p ∙ length-take-le k (drop at items) room in
-    (room, ap (λ (t : List ℕ). take k t) e ∙ take_at piece (drop (length piece) buf) k long ∙ p, ap (λ (t : List ℕ). Some t) (sym (drop-drop k at items)))
+    let front : take k new ≡ take k (drop at items) = ap (λ (t : List ℕ). take k t) e ∙ take_at piece (drop (length piece) buf) k long ∙ p in
+    (room, front, ap (λ (t : List ℕ). Some t) (sym (drop-drop k at items)))
 
 -- what was read so far and what is left make up all that there was
 abbrev pub SoFar : Option (List ℕ) → Option (List ℕ) → List ℕ → Type 0
@@ -48,15 +49,18 @@ SoFar-loses (Some all) mid new got buf k h m =
     (length got + k, moved.2 ∙ ap (λ (t : List ℕ). Some t) (drop-drop k (length got) all))
 
 -- after a read that found the end
-pub SoFar-ends : (old mid new : Option (List ℕ)) (got buf : List ℕ) (k : ℕ) → SoFar old mid got → Moves mid new k buf → IsAtEnd mid → IfSome old (λ all. (got ≡ all) × (new ≡ Some []))
+pub SoFar-ends : (old mid new : Option (List ℕ)) (got buf : List ℕ) (k : ℕ) → SoFar old mid got → Moves mid new k buf
+    → IsAtEnd mid → IfSome old (λ all. (got ≡ all) × (new ≡ Some []))
 SoFar-ends None mid new got buf k h m e = tt
 SoFar-ends (Some all) mid new got buf k h m e =
     let moved = rw h.1 at m in
     let none : drop (length got) all ≡ [] = rw h.1 at e in
-    (sym (h.0 ∙ ap (λ (t : List ℕ). got ++ t) none ∙ append-nil got), moved.2 ∙ ap (λ (t : List ℕ). Some (drop k t)) none ∙ ap (λ (t : List ℕ). Some t) (drop_all k [] (omega arith)))
+    let all_read : got ≡ all = sym (h.0 ∙ ap (λ (t : List ℕ). got ++ t) none ∙ append-nil got) in
+    (all_read, moved.2 ∙ ap (λ (t : List ℕ). Some (drop k t)) none ∙ ap (λ (t : List ℕ). Some t) (drop_all k [] (omega arith)))
 
 -- after a read of more than the limit
-pub SoFar-passes : (old mid new : Option (List ℕ)) (got buf : List ℕ) (k limit : ℕ) → SoFar old mid got → Moves mid new k buf → limit < length got + k → IfSome old (λ all. limit < length all)
+pub SoFar-passes : (old mid new : Option (List ℕ)) (got buf : List ℕ) (k limit : ℕ) → SoFar old mid got → Moves mid new k buf
+    → limit < length got + k → IfSome old (λ all. limit < length all)
 SoFar-passes None mid new got buf k limit h m more = tt
 SoFar-passes (Some all) mid new got buf k limit h m more =
     let moved = rw h.1 at m in
@@ -64,7 +68,8 @@ SoFar-passes (Some all) mid new got buf k limit h m more =
     omega (arith, ap length h.0, length-append got (drop (length got) all))
 
 -- with the bytes of a read behind the others
-pub SoFar-more : (old mid new : Option (List ℕ)) (got more buf : List ℕ) (k : ℕ) → SoFar old mid got → Moves mid new k buf → more ≡ got ++ take k buf → SoFar old new more
+pub SoFar-more : (old mid new : Option (List ℕ)) (got more buf : List ℕ) (k : ℕ) → SoFar old mid got → Moves mid new k buf
+    → more ≡ got ++ take k buf → SoFar old new more
 SoFar-more None mid new got more buf k h m e = tt
 SoFar-more (Some all) mid new got more buf k h m e =
     let moved = rw h.1 at m in
