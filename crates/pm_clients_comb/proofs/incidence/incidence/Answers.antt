@@ -1,7 +1,7 @@
 use Rattle.pm_clients_comb.proofs.Places.{incidence_next}
 use Rattle.pm_clients_comb.proofs.Products.{AllStay-list}
 use Rattle.std.proofs.Common.{append-nil, drop, ◌≡◌, []}
-use Rattle.std.proofs.lemmas.List.{drop_all}
+use Rattle.std.proofs.lemmas.List.{drop_all, take_all}
 use Rattle.pm_clients_comb.proofs.incidence.incidence.Goals as goal
 
 pub loop-facet-preserved : goal.loop-facet-preserved
@@ -15,3 +15,6 @@ pub returns-clause-ok : goal.returns-clause-ok
 returns-clause-ok c =
     let none : drop c.loop-facet.facet-index c.args.facets.now ≡ [] = drop_all c.loop-facet.facet-index c.args.facets.now c.loop-facet-test.false in
     rw (c.loop-facet.invariant.0, none, append-nil) c.from_vec.ensures
+
+pub returns-clause-stays : goal.returns-clause-stays
+returns-clause-stays c = rw (take_all c.loop-facet.facet-index c.args.facets.now c.loop-facet-test.false) at c.loop-facet.invariant.1

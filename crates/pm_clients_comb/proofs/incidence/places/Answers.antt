@@ -8,7 +8,7 @@ use Rattle.std.proofs.Common.{cond, rules, [], ◌∷◌, ◌++◌, ◌≡◌}
 pub loop-j-preserved : goal.loop-j-preserved
 loop-j-preserved c =
     let more : c.if-on.places.items ≡ cond c.in_ok-on.on (c.loop-j.places.items ++ c.loop-j.j ∷ []) c.loop-j.places.items = elim c.if-on.branch [
-      | then-on+in_ok-push w ↦ rw w.if-on.true (search rules)
+      | then-on+in_ok-push w ↦ rw (w.if-on.true, w.places-is) w.in_ok-push.ensures.items
       | else-on w ↦ rw w.if-on.false (search rules)
     ] in (
       places_next c.args.facet.now c.args.vertices.now c.loop-j.j c.index-vertices-j.result (places_from 0 c.args.facet.now c.args.vertices.now) c.loop-j.places.items c.if-on.places.items c.in_ok-on.on c.loop-j-test.true c.index-vertices-j.is
