@@ -1,6 +1,7 @@
 use Rattle.pm_clients_comb.proofs.Places.{incidence_next}
-use Rattle.pm_clients_comb.proofs.Products.{AllStay-list}
+use Rattle.pm_clients_comb.proofs.Products.{AllStay-list, listed, wide_in_list}
 use Rattle.std.proofs.Common.{append-nil, drop, ◌≡◌, []}
+use Rattle.std.proofs.lemmas.Result.{err_from_is_err_and}
 use Rattle.std.proofs.lemmas.List.{drop_all, take_all}
 use Rattle.pm_clients_comb.proofs.incidence.incidence.Goals as goal
 
@@ -18,3 +19,11 @@ returns-clause-ok c =
 
 pub returns-clause-stays : goal.returns-clause-stays
 returns-clause-stays c = rw (take_all c.loop-facet.facet-index c.args.facets.now c.loop-facet-test.false) at c.loop-facet.invariant.1
+
+pub returns-in_err-places-clause-failed : goal.returns-in_err-places-clause-failed
+returns-in_err-places-clause-failed c =
+    let facets = c.args.facets.now in
+    let facet = c.facet-item.result in
+    let p = err_from_is_err_and c.from_residual.result c.from_residual.ensures.1 in
+    let has = listed facets c.loop-facet.facet-index facet c.loop-facet-test.true c.facet-item.is in
+    rw (p.1, p.2) (wide_in_list facets c.args.vertices.now facet c.in_err-places.field-0.0 has c.in_err-places.ensures.failed)

@@ -1,8 +1,9 @@
 use Rattle.pm_clients_comb.proofs.Places.{places_next}
-use Rattle.pm_clients_comb.proofs.Products.{AllStay-row}
+use Rattle.pm_clients_comb.proofs.Products.{AllStay-row, listed, wide_in_row}
 use Rattle.pm_clients_comb.specs.Incidence.{places_from}
 use Rattle.pm_clients_comb.proofs.incidence.places.Goals as goal
 use Rattle.pm_clients_comb.proofs.incidence.places.Goals.{then-on+in_ok-push, else-on}
+use Rattle.std.proofs.lemmas.Result.{err_from_is_err_and}
 use Rattle.std.proofs.Common.{cond, rules, [], ◌∷◌, ◌++◌, ◌≡◌}
 
 pub loop-j-preserved : goal.loop-j-preserved
@@ -15,3 +16,11 @@ loop-j-preserved c =
           c.in_ok-on.ensures.value c.loop-j.invariant.0 more,
       AllStay-row (c.args.facet.now ∷ []) c.args.vertices.now c.loop-j.j c.index-vertices-j.result c.loop-j-test.true c.index-vertices-j.is c.loop-j.invariant.1 c.in_ok-on.ensures.stays,
     )
+
+pub returns-in_err-on-clause-failed : goal.returns-in_err-on-clause-failed
+returns-in_err-on-clause-failed c =
+    let vertices = c.args.vertices.now in
+    let vertex = c.index-vertices-j.result in
+    let p = err_from_is_err_and c.from_residual.result c.from_residual.ensures.1 in
+    let has = listed vertices c.loop-j.j vertex c.loop-j-test.true c.index-vertices-j.is in
+    rw (p.1, p.2) (wide_in_row (c.args.facet.now ∷ []) vertices vertex c.in_err-on.field-0.0 has c.in_err-on.ensures.failed)
