@@ -6,12 +6,15 @@ use Rattle.pm_client.proofs.ReadValues.{all_length, primitive_length}
 use Rattle.pm_client.specs.Sound.{are_parts}
 use Rattle.pm_geom.specs.declared.ObjectType.{ObjectType}
 use Rattle.pm_matrix.specs.FractionRows.{ArePrimitiveRowsOf}
-use Rattle.pm_types.specs.Forms.{FormsIn, is_matrix_form}
+use Rattle.pm_types.proofs.PrimitiveRows.{few_rows}
+use Rattle.pm_types.specs.Forms.{FormsIn, is_matrix_form, is_of_matrices}
+use Rattle.pm_types.specs.Properties.{value_kind}
 use Rattle.pm_types.specs.Values.{matrix}
 use Rattle.pm_types.specs.declared.property.PropId.TheVariants.{AffineHull, Equations, Facets, Inequalities, InputLineality, LinealitySpace, Points, Vertices}
 use Rattle.pm_types.specs.declared.property.PropId.{PropId}
-use Rattle.std.proofs.Common.{subst, sym, true, true≢false}
-use Rattle.std.specs.Prelude.{IsTrue, List, length, nat_eq, ℕ, ◌++◌, ◌||◌, ◌≡◌}
+use Rattle.std.proofs.Common.{ap, arith, refl, subst, sym, true, true≢false, ◌∙◌}
+use Rattle.std.proofs.lemmas.List.{length-append}
+use Rattle.std.specs.Prelude.{IsTrue, List, length, nat_eq, ℕ, ◌++◌, ◌||◌, ◌≡◌, ◌≤◌}
 
 -- a matrix whose rows, if it has some, have n entries
 abbrev pub IsColumned : ℕ → ℕ → List (List Ratio) → Type 0
@@ -40,3 +43,28 @@ pub list_cols : (of : ObjectType) (n m k : ℕ) (first second : PropId) (lines r
     → ArePrimitiveRowsOf lines ls → ArePrimitiveRowsOf rows xs → X ≡ ls ++ xs → HasCols n X
 list_cols of n m k first second lines rows ls xs X parts f g p q e =
     subst (HasCols n) (sym e) (all_append (λ (x : Row). length x ≡ n) ls xs (primitive_cols of n m lines ls (first_columned of n m lines first second parts f) p) (primitive_cols of n k rows xs (second_columned of n k rows first second parts g) q))
+
+-- both parts have matrices as their values, of few rows
+pub first_of_matrices : (p q : PropId) → IsTrue (are_parts p q) → IsTrue (is_of_matrices (value_kind p))
+first_of_matrices InputLineality q h = refl
+first_of_matrices LinealitySpace q h = refl
+first_of_matrices Equations q h = refl
+first_of_matrices AffineHull q h = refl
+first_of_matrices p q h = absurd (true≢false (sym h))
+
+pub second_of_matrices : (p q : PropId) → IsTrue (are_parts p q) → IsTrue (is_of_matrices (value_kind q))
+second_of_matrices InputLineality Points h = refl
+second_of_matrices LinealitySpace Vertices h = refl
+second_of_matrices Equations Inequalities h = refl
+second_of_matrices AffineHull Facets h = refl
+second_of_matrices p q h = absurd (true≢false (sym h))
+
+module _ (of : ObjectType) (n m : ℕ) (rows : List (List Ratio)) (first second : PropId) (parts : IsTrue (are_parts first second)) where
+  pub few_first : FormsIn of n first (matrix m rows) → length rows ≤ 2048
+  few_first f = few_rows m rows (first_columned of n m rows first second parts f).0
+
+  pub few_second : FormsIn of n second (matrix m rows) → length rows ≤ 2048
+  few_second f = few_rows m rows (second_columned of n m rows first second parts f).0
+
+pub few_listed : (lines rows : List (List Ratio)) (ls xs X : List Row) → length lines ≤ 2048 → length rows ≤ 2048 → ArePrimitiveRowsOf lines ls → ArePrimitiveRowsOf rows xs → X ≡ ls ++ xs → length X ≤ 4096
+few_listed lines rows ls xs X few more p q e = let all = ap length e ∙ length-append ls xs in let a = p.count in let b = q.count in omega arith

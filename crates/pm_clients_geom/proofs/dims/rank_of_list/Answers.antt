@@ -1,8 +1,21 @@
 use Rattle.pm_clients_geom.proofs.FoundDims.{rank_at_most}
 use Rattle.pm_clients_geom.proofs.dims.rank_of_list.Goals as goal
 
+pub rank-requires-clause-columns : goal.rank-requires-clause-columns
+rank-requires-clause-columns c = rw (c.deref.ensures.value, c.cols.ensures.value) c.in_ok-rows.ensures.cols
+
+pub returns-clause-rank : goal.returns-clause-rank
+returns-clause-rank c = record {
+  rows = c.in_ok-rows.rows.items;
+  listed = c.in_ok-rows.ensures.listed;
+  rank = rw (← c.deref.ensures.value) c.in_ok-rank.ensures.rank;
+}
+
 pub returns-clause-few : goal.returns-clause-few
 returns-clause-few c = rank_at_most c.deref.result.now c.in_ok-rank.rank 4096 c.in_ok-rank.ensures.rank (rw c.deref.ensures.value c.in_ok-rows.ensures.few)
+
+pub returns-clause-view : goal.returns-clause-view
+returns-clause-view c = c.cols.ensures.view
 
 pub returns-clause-stays : goal.returns-clause-stays
 returns-clause-stays c = record {
@@ -10,3 +23,6 @@ returns-clause-stays c = record {
   listed = c.in_ok-rows.ensures.listed;
   stays = rw (← c.deref.ensures.value, ← c.cols.ensures.value) c.in_ok-rank.ensures.never_wide;
 }
+
+pub returns-clause-failed : goal.returns-clause-failed
+returns-clause-failed c = tt

@@ -20,6 +20,12 @@ row_list-requires-clause-first c = source_of c.args.view.now.kind client.HullFro
 pub row_list-requires-clause-second : goal.row_list-requires-clause-second
 row_list-requires-clause-second c = source_of c.args.view.now.kind client.HullFromVertices sources Vertices c.requires.kind refl
 
+pub null_space-requires-clause-columns : goal.null_space-requires-clause-columns
+null_space-requires-clause-columns c = rw (c.deref.ensures.value, c.cols.ensures.value) c.in_ok-rows.ensures.cols
+
+pub matrix_over_one-requires : goal.matrix_over_one-requires
+matrix_over_one-requires c = rw (c.deref-2.ensures.value, c.cols-2.ensures.value, ← c.cols.ensures.value) c.in_ok-null.ensures.null.1.echelon.cols
+
 pub put_value-requires-clause-target : goal.put_value-requires-clause-target
 put_value-requires-clause-target c = target_of c.args.draft.now.kind client.HullFromVertices targets AffineHull (ap (λ d. d.kind) c.requires.empty ∙ c.requires.kind) refl
 
