@@ -7,12 +7,12 @@ use Rattle.pm_algebra.specs.Divisors.{IsPrimitive, IsPrimitiveOf}
 use Rattle.pm_algebra.specs.Rows.{Row, Same, entry, opposite, times}
 use Rattle.pm_elim.proofs.StepLaws.{Multiple, primitive_multiple}
 use Rattle.pm_elim.specs.Steps.{IsPivotRow}
-use Rattle.std.proofs.Common.{arith, inl, inr, ◌∙◌}
+use Rattle.std.proofs.Common.{Bool, IsTrue, T, arith, false, inl, inr, refl, subst, sym, true, ◌∙◌}
 use Rattle.std.proofs.lemmas.Bool.{cases_lt}
 use Rattle.std.proofs.lemmas.Int.{ints}
-use Rattle.std.specs.Prelude.{length, ℕ, ◌<◌, ◌≡◌, ◌⊎◌}
+use Rattle.std.specs.Prelude.{length, ℕ, ◌<◌, ◌≡◌, ◌↔◌, ◌⊎◌}
 use lib.IntN.{neg_ℤ, pos, ℤ}
-use lib.Signed.{◌<ℤ◌}
+use lib.Signed.{lt_z, lt_z_yes, ◌<ℤ◌}
 
 -- ---- the entry at the pivot
 same_sign : {v w : Row} → Multiple v w → (c : ℕ) → pos 0 <ℤ entry v c → pos 0 <ℤ entry w c
@@ -86,3 +86,11 @@ module _ {r : Row} {c : ℕ} {x : Row} (p : IsPivotRow r c x) where
       of : {v : Row} → ((((i : ℕ) → entry v i ≡ pos 0) × ((i : ℕ) → entry x i ≡ pos 0)) ⊎ ((g : ℤ) × (pos 0 <ℤ g) × Same v (times g x) × IsPrimitive x)) → IsPrimitive x
       of (inl z) = absurd (let h = p.positive in let e = z.1 c in omega (arith, ints))
       of (inr d) = d.3
+
+-- a test of two numbers says which is less
+holds : (b : Bool) → T b → b ≡ true
+holds true h = refl
+holds false h = absurd h
+
+pub lt_z_reads : (a b : ℤ) → IsTrue (lt_z a b) ↔ (a <ℤ b)
+lt_z_reads a b = (λ e. lt_z_yes (subst T (sym e) tt), λ l. holds (lt_z a b) l.lt)

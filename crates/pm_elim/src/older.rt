@@ -42,8 +42,8 @@ fn reduce_each(rows: &mut [Ints], new: &Ints, pivot: usize)
     requires stays { AllStay rows.old new.now pivot }
     ensures { AllReducedOnce rows.old new.now pivot rows.new }
 {
-    for i in 0..rows.len() {
-        let Ok(()) = reduce_once(&mut rows[i], new, pivot) else {
+    for place in 0..rows.len() {
+        let Ok(()) = reduce_once(&mut rows[place], new, pivot) else {
             unreachable!()
         };
     }

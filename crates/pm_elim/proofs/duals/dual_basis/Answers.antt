@@ -6,11 +6,23 @@ use Rattle.pm_elim.specs.Duals.{IsDualBasis}
 use Rattle.std.proofs.Common.{ap, arith, length, ◌+◌, ◌≡◌, ◌∙◌, ℕ}
 use Rattle.std.proofs.lemmas.List.{length_push}
 
+pub returns-then-len-rows-clause-dual : goal.returns-then-len-rows-clause-dual
+returns-then-len-rows-clause-dual c = tt
+
+pub returns-then-len-rows-clause-independent : goal.returns-then-len-rows-clause-independent
+returns-then-len-rows-clause-independent c = tt
+
 pub returns-then-len-rows-clause-dependent : goal.returns-then-len-rows-clause-dependent
 returns-then-len-rows-clause-dependent c =
     let count = c.len.ensures in
     let whole = c.in_ok-basis.basis.rows.ok.0 in
     dependent_of_fewer c.args.cols c.args.rows.now c.in_ok-basis.basis.rows.items c.in_ok-basis.basis.pivots.items c.in_ok-basis.ensures.basis (omega arith)
+
+pub dual_row-requires-clause-count : goal.dual_row-requires-clause-count
+dual_row-requires-clause-count c =
+    let independent = c.len.ensures in
+    let null = c.in_ok-null.ensures.count in
+    omega arith
 
 pub dual_row-requires-clause-is_null : goal.dual_row-requires-clause-is_null
 dual_row-requires-clause-is_null c = null_basis_of_span c.args.cols c.in_ok-basis.basis.rows.items c.args.rows.now c.in_ok-null.null.rows.items c.in_ok-null.null.pivots.items c.in_ok-basis.ensures.basis.span c.in_ok-null.ensures.null

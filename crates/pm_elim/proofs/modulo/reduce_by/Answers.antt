@@ -1,7 +1,7 @@
 use Rattle.pm_elim.proofs.PrefixLaws.{at_most_columns, fail_is_evidence, never_at_end, small_reduction}
 use Rattle.pm_elim.proofs.ReductionLaws.{reduced_modulo, reduced_zero}
 use Rattle.pm_elim.proofs.modulo.reduce_by.Goals as goal
-use Rattle.std.proofs.Common.{arith, length}
+use Rattle.std.proofs.Common.{arith, length, refl}
 
 pub reduction_fail-requires-clause-few_rows : goal.reduction_fail-requires-clause-few_rows
 reduction_fail-requires-clause-few_rows c =
@@ -22,3 +22,6 @@ returns-in-Ok-clause-never_wide c = never_at_end (length c.args.row.now) c.args.
 
 pub returns-in-Err-clause-wide : goal.returns-in-Err-clause-wide
 returns-in-Err-clause-wide c = fail_is_evidence (length c.args.row.now) c.args.rows.now c.args.pivots.now c.requires.is_basis c.args.row.now c.in-Err.refusal c.reduction_fail.result c.in-Err.ensures.wide c.reduction_fail.ensures
+
+pub returns-in-Err-clause-unchanged : goal.returns-in-Err-clause-unchanged
+returns-in-Err-clause-unchanged c = refl
