@@ -3,7 +3,7 @@ use Rattle.pm_algebra.specs.Numbers.{Ratio}
 use Rattle.pm_algebra.specs.Rows.{ratio_at}
 use Rattle.pm_matrix.specs.Matrices.{FractionMatrix, IsFraction, IsMatrix, IsTransposeOf}
 use Rattle.std.proofs.Common.{All, ap, arith, below_more, get_or, length, map, pos, refl, sym, take, ◌++◌, ◌+◌, ◌<◌, ◌≡◌, ◌∙◌, ℕ, List, [], ◌∷◌}
-use Rattle.std.proofs.lemmas.List.Elements.{All-push}
+use Rattle.std.proofs.lemmas.List.Elements.{All-nil, All-push}
 use Rattle.std.proofs.lemmas.List.{get_or-map, get_or_append_left, get_or_push, get_or_read, length-map, length_push, map_more, map_push, take_more}
 
 -- the value that is read at a place
@@ -40,6 +40,13 @@ pub record TransposedSoFar (a : FractionMatrix) (j : ℕ) (t : List (List Ratio)
   pub matrix : IsMatrix (record { cols = length a.rows; rows = t })
   pub count : length t ≡ j
   pub columns : (k : ℕ) → k < j → get_or t k [] ≡ map (λ r. ratio_at r k) a.rows
+
+pub TransposedSoFar-none : (a : FractionMatrix) → TransposedSoFar a 0 []
+TransposedSoFar-none a = record {
+  matrix = record { shape = All-nil (λ r. length r ≡ length a.rows); entries = All-nil (All IsFraction) };
+  count = refl;
+  columns = λ k below. absurd (omega arith);
+}
 
 pub TransposedSoFar-more : (a : FractionMatrix) (j : ℕ) (t : List (List Ratio)) (column : List Ratio) → TransposedSoFar a j t → column ≡ map (λ r. ratio_at r j) a.rows → All IsFraction column → TransposedSoFar a (j + 1) (t ++ column ∷ [])
 TransposedSoFar-more a j t column s is entries = record {
