@@ -23,6 +23,14 @@ one_more P rows n xs x count all last =
     (λ i below. let within : i < length xs = omega arith in rw (get_or_append_left xs (x ∷ []) [] i within) (all i below))
     (rw (get_or_push xs x [] n count) last)
 
+pub PrimitiveSoFar-none : (rows : List (List Ratio)) → PrimitiveSoFar rows 0 []
+PrimitiveSoFar-none rows = record {
+  count = refl;
+  each = λ i below. absurd (omega arith);
+  multiple = λ i below. absurd (omega arith);
+  stay = record { stay = λ i below. absurd (omega arith) };
+}
+
 pub PrimitiveSoFar-more : (rows : List (List Ratio)) (n : ℕ) (xs : List Row) (x : Row) → PrimitiveSoFar rows n xs → IsPrimitiveRowOf (get_or rows n []) x → IsPositiveMultipleOf (get_or rows n []) x → RowStays (get_or rows n []) → PrimitiveSoFar rows (n + 1) (xs ++ x ∷ [])
 PrimitiveSoFar-more rows n xs x s primitive multiple stays = record {
   count = length_push xs x ∙ (rw s.count refl);
