@@ -1,7 +1,7 @@
 -- The null space of a row list, as a value.
 use Rattle.pm_algebra.proofs.Lists.{All_among, all_at, among_All}
 use Rattle.pm_algebra.specs.Numbers.{InRange}
-use Rattle.pm_algebra.specs.Rows.{Row, entry}
+use Rattle.pm_algebra.specs.Rows.{HasCols, Row, entry}
 use Rattle.pm_client.proofs.OneTarget.{IsFoundAnswer, sound_found}
 use Rattle.pm_client.proofs.ReadValues.{read_right}
 use Rattle.pm_client.specs.Sound.{IsListOf, IsSound, added_rows}
@@ -32,7 +32,7 @@ use Rattle.std.proofs.Common.{ap, arith, false, inl, inr, refl, subst, sym, true
 use Rattle.std.proofs.lemmas.Bool.{leb-true}
 use Rattle.std.proofs.lemmas.List.Elements.{All-nil}
 use Rattle.std.specs.List.{All}
-use Rattle.std.specs.Prelude.{Bool, List, [], length, map, nat_le, ℕ, ◌++◌, ◌↔◌, ◌∷◌, ◌≡◌, ◌≤◌, ◌⊎◌}
+use Rattle.std.specs.Prelude.{Bool, List, [], length, map, nat_le, ℕ, ◌++◌, ◌<◌, ◌↔◌, ◌∷◌, ◌≡◌, ◌≤◌, ◌⊎◌}
 use lib.IntN.{pos}
 
 -- ---- nothing is added to these lists
@@ -139,3 +139,8 @@ module _ (v : ViewSeen) (view : IsView v) (no_fan : ¬ (v.of ≡ Fan)) (X N : Li
         → new ≡ record old { values = old.values ++ record { property = LinealitySpace; value = matrix a.cols a.rows } ∷ [] } → IsSound v new
     lineality_sound a old new kind same empty put =
         sound_found v LinealitySpace (matrix a.cols a.rows) old new (subst (λ z. IsFoundAnswer v LinealitySpace (matrix z.cols z.rows)) (sym same) (lineality_answer kind)) empty put
+
+-- rows of some columns have a first entry
+pub some_entries : (n : ℕ) (N : List Row) → nat_le 1 n ≡ true → HasCols n N → All (λ x. 0 < length x) N
+some_entries n N some cols =
+    All_among (λ (x : Row). 0 < length x) N (λ x i. let l = leb-true 1 n some in let e = all_at (λ (y : Row). length y ≡ n) i cols in omega arith)

@@ -1,4 +1,4 @@
-use Rattle.pm_clients_geom.proofs.NullMatrices.{lineality_sound, put_lines}
+use Rattle.pm_clients_geom.proofs.NullMatrices.{lineality_sound, put_lines, some_entries}
 use Rattle.pm_clients_geom.proofs.RowsKinds.{source_of, target_of}
 use Rattle.pm_clients_geom.proofs.ViewLaws.{not_fan, source_named}
 use Rattle.pm_clients_geom.proofs.rows.lineality_from_facets.Goals as goal
@@ -6,7 +6,7 @@ use Rattle.pm_clients_geom.proofs.rows.lineality_from_facets.Goals.{else-may_be_
 use Rattle.pm_types.specs.declared.property.PropId.TheVariants.{AffineHull, Facets, LinealitySpace}
 use Rattle.pm_types.specs.declared.property.PropId.{PropId}
 use Rattle.pm_types.specs.declared.standard.StandardClient.TheVariants as client
-use Rattle.std.proofs.Common.{ap, false, inl, inr, refl, rules, true, ◌∙◌}
+use Rattle.std.proofs.Common.{ap, false, inl, inr, refl, true, ◌∙◌}
 use Rattle.std.specs.Prelude.{List, [], ◌∷◌, ◌≡◌, ◌⊎◌}
 
 abbrev sources : List PropId
@@ -21,6 +21,22 @@ row_list-requires-clause-first c = source_of c.args.view.now.kind client.Lineali
 pub row_list-requires-clause-second : goal.row_list-requires-clause-second
 row_list-requires-clause-second c = source_of c.args.view.now.kind client.LinealityFromFacets sources Facets c.requires.kind refl
 
+pub null_space-requires-clause-columns : goal.null_space-requires-clause-columns
+null_space-requires-clause-columns c = rw (c.deref.ensures.value, c.cols.ensures.value) c.in_ok-rows.ensures.cols
+
+pub may_be_lines-requires : goal.may_be_lines-requires
+may_be_lines-requires c =
+    let cols = c.in_ok-null.ensures.null.1.echelon.cols in
+    rw c.deref-2.ensures.value (some_entries c.args.view.now.cols c.in_ok-null.null.items c.cols.ensures.view.some_cols (rw c.cols.ensures.value at cols))
+
+pub matrix_over_one-requires : goal.matrix_over_one-requires
+matrix_over_one-requires c =
+    rw (c.deref-3.ensures.value, c.cols-2.ensures.value)
+    (elim c.if-may_be_lines.branch [
+      | then-may_be_lines w ↦ rw (w.lines-is, ← c.cols.ensures.value) c.in_ok-null.ensures.null.1.echelon.cols
+      | else-may_be_lines w ↦ rw (w.lines-is, w.new-lines.ensures.items) tt
+    ])
+
 pub put_value-requires-clause-target : goal.put_value-requires-clause-target
 put_value-requires-clause-target c = target_of c.args.draft.now.kind client.LinealityFromFacets targets LinealitySpace (ap (λ d. d.kind) c.requires.empty ∙ c.requires.kind) refl
 
@@ -30,7 +46,7 @@ returns-clause-sound c =
     let no_fan = not_fan c.args.view.now Facets c.cols.ensures.view (source_named c.args.view.now.kind Facets (source_of c.args.view.now.kind client.LinealityFromFacets sources Facets c.requires.kind refl)) refl in
     let put : ((c.may_be_lines.result ≡ true) × (c.if-may_be_lines.lines.items ≡ c.in_ok-null.null.items)) ⊎ ((c.may_be_lines.result ≡ false) × (c.if-may_be_lines.lines.items ≡ [])) = elim c.if-may_be_lines.branch [
       | then-may_be_lines w ↦ inl (w.if-may_be_lines.true, ap (λ r. r.items) w.lines-is)
-      | else-may_be_lines w ↦ inr (w.if-may_be_lines.false, search rules)
+      | else-may_be_lines w ↦ inr (w.if-may_be_lines.false, ap (λ r. r.items) w.lines-is ∙ w.new-lines.ensures.items)
     ] in
     lineality_sound c.args.view.now c.cols.ensures.view no_fan c.in_ok-rows.rows.items c.in_ok-null.null.items null.0 c.in_ok-rows.ensures.listed null.1 c.if-may_be_lines.lines.items
     (put_lines c.args.view.now.of c.in_ok-null.null.items c.if-may_be_lines.lines.items c.may_be_lines.result (rw (c.of.ensures.value, c.deref-2.ensures.value) at c.may_be_lines.ensures) put)
