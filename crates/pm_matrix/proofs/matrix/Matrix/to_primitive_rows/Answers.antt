@@ -11,8 +11,8 @@ pub loop-i-preserved : goal.loop-i-preserved
 loop-i-preserved c =
     let row = c.in_ok-primitive_row_at.ensures in
     rw c.in_ok-push.ensures.items
-    (PrimitiveSoFar-more c.args.self.now.rows c.loop-i.i c.loop-i.rows.items c.in_ok-primitive_row_at.field-0 c.loop-i.invariant (rw c.row.ensures.value at row.value) (rw c.row.ensures.value at row.multiple)
-    (rw c.row.ensures.value at row.stays))
+    (PrimitiveSoFar-more c.args.self.now.rows c.loop-i.i c.loop-i.rows.items c.in_ok-primitive_row_at.field-0 c.loop-i.invariant
+    (rw c.row.ensures.value at row.value) (rw c.row.ensures.value at row.multiple) (rw c.row.ensures.value at row.stays))
 
 all_rows : (c : After-loop-i) → PrimitiveSoFar c.args.self.now.rows (length c.args.self.now.rows) c.loop-i.rows.items
 all_rows c =
@@ -31,4 +31,6 @@ returns-in_err-primitive_row_at-clause-wide c =
     let p = err_from_is_err_and c.from_residual.result c.from_residual.ensures.1 in
     let count = c.rows-i-end.ensures.value in
     let within : c.loop-i.i < length c.args.self.now.rows = omega arith in
-    rw (p.1, p.2) (IsWideRow-first c.args.self.now.rows c.loop-i.i c.in_err-primitive_row_at.field-0.0 within c.loop-i.invariant.stay (rw c.row.ensures.value at c.in_err-primitive_row_at.ensures.wide))
+    rw (p.1, p.2)
+    (IsWideRow-first c.args.self.now.rows c.loop-i.i c.in_err-primitive_row_at.field-0.0 within c.loop-i.invariant.stay
+    (rw c.row.ensures.value at c.in_err-primitive_row_at.ensures.wide))
