@@ -66,5 +66,7 @@ module _ (of : ObjectType) (n m : ℕ) (rows : List (List Ratio)) (first second 
   pub few_second : FormsIn of n second (matrix m rows) → length rows ≤ 2048
   few_second f = few_rows m rows (second_columned of n m rows first second parts f).0
 
-pub few_listed : (lines rows : List (List Ratio)) (ls xs X : List Row) → length lines ≤ 2048 → length rows ≤ 2048 → ArePrimitiveRowsOf lines ls → ArePrimitiveRowsOf rows xs → X ≡ ls ++ xs → length X ≤ 4096
-few_listed lines rows ls xs X few more p q e = let all = ap length e ∙ length-append ls xs in let a = p.count in let b = q.count in omega arith
+pub few_listed : (lines rows : List (List Ratio)) (ls xs X : List Row) → length lines ≤ 2048 → length rows ≤ 2048
+    → ArePrimitiveRowsOf lines ls → ArePrimitiveRowsOf rows xs → X ≡ ls ++ xs → length X ≤ 4096
+few_listed lines rows ls xs X few more p q e =
+    let all = ap length e ∙ length-append ls xs in let a = p.count in let b = q.count in omega arith

@@ -10,11 +10,13 @@ matrix_of-requires-2-clause-matrix c = second_of_matrices c.args.first c.args.se
 
 pub primitive_rows-requires-clause-few : goal.primitive_rows-requires-clause-few
 primitive_rows-requires-clause-few c =
-    few_first c.args.view.now.of c.args.view.now.cols c.matrix_of.result.now.cols c.matrix_of.result.now.rows c.args.first c.args.second c.requires.parts c.matrix_of.ensures.forms
+    few_first c.args.view.now.of c.args.view.now.cols c.matrix_of.result.now.cols c.matrix_of.result.now.rows
+    c.args.first c.args.second c.requires.parts c.matrix_of.ensures.forms
 
 pub primitive_rows-requires-2-clause-few : goal.primitive_rows-requires-2-clause-few
 primitive_rows-requires-2-clause-few c =
-    few_second c.args.view.now.of c.args.view.now.cols c.matrix_of-2.result.now.cols c.matrix_of-2.result.now.rows c.args.first c.args.second c.requires.parts c.matrix_of-2.ensures.forms
+    few_second c.args.view.now.of c.args.view.now.cols c.matrix_of-2.result.now.cols c.matrix_of-2.result.now.rows
+    c.args.first c.args.second c.requires.parts c.matrix_of-2.ensures.forms
 
 pub returns-clause-listed : goal.returns-clause-listed
 returns-clause-listed c = record {
@@ -39,6 +41,8 @@ returns-clause-cols c =
 pub returns-clause-few : goal.returns-clause-few
 returns-clause-few c =
     few_listed c.matrix_of.result.now.rows c.matrix_of-2.result.now.rows c.in_ok-rows.rows.items c.in_ok-more.more.items c.append.new.self.items
-    (few_first c.args.view.now.of c.args.view.now.cols c.matrix_of.result.now.cols c.matrix_of.result.now.rows c.args.first c.args.second c.requires.parts c.matrix_of.ensures.forms)
-    (few_second c.args.view.now.of c.args.view.now.cols c.matrix_of-2.result.now.cols c.matrix_of-2.result.now.rows c.args.first c.args.second c.requires.parts c.matrix_of-2.ensures.forms)
+    (few_first c.args.view.now.of c.args.view.now.cols c.matrix_of.result.now.cols c.matrix_of.result.now.rows
+    c.args.first c.args.second c.requires.parts c.matrix_of.ensures.forms)
+    (few_second c.args.view.now.of c.args.view.now.cols c.matrix_of-2.result.now.cols c.matrix_of-2.result.now.rows
+    c.args.first c.args.second c.requires.parts c.matrix_of-2.ensures.forms)
     c.in_ok-rows.ensures.rows c.in_ok-more.ensures.rows c.in_ok-append.ensures.items
