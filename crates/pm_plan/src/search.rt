@@ -175,10 +175,7 @@ pub fn explore(
     ensures full { IfOk result (λ r. r.1 ≡ false → IsFull r.0) }
 {
     let mut search = Search::new(alloc);
-    let start = TableRow {
-        set: held,
-        cost: Cost::none(),
-    };
+    let start = start_of(held);
     search.offer(asked, &start, None)?;
     'settle: while let Some((row, link)) = search.next() {
         let from = search.rows.len();
@@ -189,6 +186,16 @@ pub fn explore(
         search.expand(moves, asked, &row, from)?;
     }
     Ok((search, true))
+}
+
+// The row of the names held at the start.
+fn start_of(held: PropSet) -> TableRow
+    ensures { result ≡ record { set = held; cost = no_cost } }
+{
+    TableRow {
+        set: held,
+        cost: Cost::none(),
+    }
 }
 
 // Makes a set wait, and no longer at the cost that it had.
