@@ -1,5 +1,8 @@
 -- How lists of names and of conditions are read, one after the other.
-use Rattle.std.proofs.Common.{◌≡◌, ℕ, Bool, true, false, Ok, Err, List, [], ◌∷◌, map, length, refl, sym, ap, ◌∙◌, arith}
+use Rattle.std.proofs.Common.{◌≡◌, ℕ, Bool, true, false, Ok, Err, List, [], ◌∷◌, map, length, refl, sym, ap, ◌∙◌, ◌<◌, MatchBool, arith}
+use Rattle.std.specs.List.{AllWithin, HoldsAt, list_any}
+use Rattle.std.proofs.lemmas.List.Elements.{All-from_all_within}
+use Rattle.std.proofs.lemmas.List.Folds.{list_any_at, list_any_none}
 use Rattle.pm_types.specs.declared.property.PropId.{PropId}
 use Rattle.pm_types.specs.declared.set.PropSet.{PropSet}
 use Rattle.pm_types.specs.Sets.{only, union}
@@ -65,3 +68,10 @@ pub condition_next : (found more : Conditions) (end : ℕ) (ts behind rest : Lis
     → more ≡ with_condition found negated p → IsBehindComma behind rest → conditions_from condition found end ts ≡ conditions_from condition more end rest
 condition_next found more end ts behind rest negated t p has h e next =
     has found end ∙ (rw h (conditions_next (with_condition found negated p) end behind rest next)) ∙ ap (λ f. conditions_from condition f end rest) (sym e)
+
+-- what a search for an element says
+pub any_from_cases : {X : Type 0} (p : X → Bool) (xs : List X) (r : Bool)
+    → MatchBool r ((k : ℕ) × (k < length xs) × HoldsAt (λ x. p x ≡ true) xs k) (AllWithin (λ x. p x ≡ false) xs 0 (length xs)) → r ≡ list_any p xs
+any_from_cases p [] true h = absurd (omega (arith, h.1))
+any_from_cases p (x ∷ xs) true h = sym (list_any_at p (x ∷ xs) h.0 x h.1 (h.2 x))
+any_from_cases p xs false h = sym (list_any_none p xs (All-from_all_within (λ x. p x ≡ false) xs h))
