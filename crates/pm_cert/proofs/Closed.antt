@@ -29,6 +29,10 @@ FirstGoOn rules names barred needed rows claim n = (id : RuleId) (rule : Rule) �
 some_same : {X : Type 0} (x y : X) → Some x ≡ Some y → x ≡ y
 some_same x y e = cc
 
+-- two tests in one
+pub both_tests : {P Q : Type 0} (a b : Bool) → IsTrue a ↔ P → IsTrue b ↔ Q → IsTrue (a && b) ↔ (P × Q)
+both_tests a b p q = ((λ h. let parts = and_parts a b h in (p.0 parts.0, q.0 parts.1)), (λ h. and_from a b (p.1 h.0) (q.1 h.1)))
+
 module _ (rules : List Rule) (names : PropSet) (barred : List RuleId) (needed : PropSet) (rows : List TableRow) (claim : Claim) where
   pub first_more : (i : ℕ) (item : Rule) → slice_get rules i ≡ Some item
       → (FindsOne names barred needed (record { 0 = i }) item → All (GoesOn rows claim (step_of item) item.weight) rows)

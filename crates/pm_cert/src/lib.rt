@@ -6,7 +6,7 @@ ghost use Rattle.pm_types.specs.Sets.{IsSubset};
 ghost use Rattle.pm_types.specs.Weights.{no_cost, plus, IsAtMost};
 ghost use Rattle.pm_rules.specs.Rules.{rule_at};
 ghost use Rattle.pm_rules.specs.Books.{most_rules};
-ghost use Rattle.pm_rules.specs.Steps.{step_of};
+ghost use Rattle.pm_rules.specs.Steps.{IsOpen, step_of};
 ghost use Rattle.pm_rules.specs.Useful.{FindsOne};
 ghost use Rattle.pm_rules.specs.Certificates.{Within, EndsClaim, HasRow, IsCertificate};
 ghost use Rattle.pm_cert.specs.Claims.{Holds, GoesOn};
@@ -115,11 +115,18 @@ fn goes_on(rows: &[TableRow], c: Claim, step: Step, weight: Weight, row: TableRo
 {
     let TableRow { set, cost } = row;
     let next = set.union(step.targets);
-    if is_within(c, cost) && step.is_open(set) {
+    if leads_on(c, step, row) {
         ends_claim(c, cost, weight) || has_row(rows, next, cost, weight)
     } else {
         true
     }
+}
+
+// Whether the row is within the claim and the step can be made from it.
+fn leads_on(c: Claim, step: Step, row: TableRow) -> bool
+    ensures { IsTrue result ↔ (Within c row.cost × IsOpen step row.set) }
+{
+    is_within(c, row.cost) & step.is_open(row.set)
 }
 
 // Whether the cost with the weight is not within the claim.
