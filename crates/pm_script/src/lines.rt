@@ -1,7 +1,7 @@
 // The lines of a script.
 
 ghost use Rattle.pm_script.specs.Lines.{Line as LineOf, lines_of, without_last_cr, text_of, is_too_long, is_silent, is_blank};
-ghost use Rattle.std.specs.Prelude.{ℕ, ◌∷◌, ◌<◌, ◌≤◌, ◌≡◌, ◌≢◌, length, slice_index};
+ghost use Rattle.std.specs.Prelude.{ℕ, ◌∷◌, ◌==◌, ◌<◌, ◌≤◌, ◌≡◌, ◌≢◌, length, slice_index};
 
 use std::marker::Model;
 
@@ -93,12 +93,19 @@ fn is_blank(text: &[u8]) -> bool
     text.iter().all(|b| *b == b' ' || *b == b'\t')
 }
 
+/// Whether a line that begins with this byte is a comment.
+fn begins_comment(first: u8) -> bool
+    ensures { result ≡ (first == 35) }
+{
+    first == b'#'
+}
+
 /// Whether a line with this text has no reply.
 pub fn is_silent(text: &[u8]) -> bool
     ensures { result ≡ is_silent text.now }
 {
     match text {
         [] => true,
-        [first, ..] => *first == b'#' || is_blank(text),
+        [first, ..] => begins_comment(*first) || is_blank(text),
     }
 }

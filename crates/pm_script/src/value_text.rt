@@ -3,7 +3,7 @@
 ghost use Rattle.pm_fraction.specs.Text.{text_of};
 ghost use Rattle.pm_script.specs.Values.{array_text, cols_text, each_then_comma, matrix_text, more_pieces, quoted, row_text, set_text, sets_text, truth_text, value_text, with_commas};
 ghost use Rattle.pm_types.specs.Views.{view_of};
-ghost use Rattle.std.specs.Prelude.{OnOk, [], codes, decimal, drop, map, string_bytes, ◌++◌, ◌∷◌, ◌≡◌};
+ghost use Rattle.std.specs.Prelude.{◌==◌, OnOk, [], codes, decimal, drop, map, string_bytes, ◌++◌, ◌∷◌, ◌≡◌};
 
 use pm_fraction::Fraction;
 use pm_matrix::Matrix;
@@ -57,11 +57,18 @@ fn push_matrix(text: &mut String, m: &Matrix) -> Result<(), AllocError>
     text.push_str("]")
 }
 
+/// Whether there is no column.
+fn has_no_columns(cols: usize) -> bool
+    ensures { result ≡ (cols == 0) }
+{
+    cols == 0
+}
+
 /// Writes a matrix without rows.
 fn push_columns_alone(text: &mut String, cols: usize) -> Result<(), AllocError>
     ensures { OnOk result (string_bytes text.new ≡ string_bytes text.old ++ matrix_text cols []) }
 {
-    if cols == 0 {
+    if has_no_columns(cols) {
         text.push_str("[]")
     } else {
         text.push_str("[")?;
