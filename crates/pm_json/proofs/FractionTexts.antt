@@ -8,14 +8,10 @@ use Rattle.pm_fraction.specs.Fractions.{IsLowestTermsOf, ratio_of, signed}
 use Rattle.pm_fraction.specs.Text.{AreLiteralsInRange, CannotBeRead, IsFractionText, IsReadAs, bottom_text, top_text}
 use Rattle.pm_fraction.specs.declared.error.NumError.TheVariants.{DivideByZero, NotANumber, Wide, ZeroDenominator}
 use Rattle.pm_fraction.specs.declared.error.NumError.{NumError}
-use Rattle.pm_json.specs.Readings.{Read, divides_both, divisor_up_to, is_fraction_text, is_literal, lowest_terms, ratio_of_text, whole_fraction_of}
+use Rattle.pm_json.specs.Readings.{Read, divides_both, divisor_up_to, is_fraction_text, is_literal, lowest_terms, ratio_of_text}
 use Rattle.pm_json.specs.declared.fail.ValueFail.TheVariants.{Number}
-use Rattle.pm_types.specs.Views.{over_one}
-use Rattle.serde_json.specs.Data.{Num, unsigned, negative, float}
-use Rattle.serde_json.specs.Find.{as_i64, as_integer, as_u64}
-use Rattle.std.proofs.Common.{ap, arith, cond, eqb, inl, inr, length, ltb, refl, subst, sym, ◌&&◌, ◌<◌, ◌^◌, ◌≡◌, ◌≤◌, ◌∙◌, ℕ, zero, suc, Bool, true, false, List, Some, None, Ok, Err}
+use Rattle.std.proofs.Common.{ap, arith, cond, eqb, inl, inr, length, ltb, refl, subst, sym, ◌&&◌, ◌<◌, ◌^◌, ◌≡◌, ◌≤◌, ◌∙◌, ℕ, zero, suc, Bool, true, false, List, Ok, Err}
 use Rattle.std.proofs.lemmas.Bool.{and_from, and_parts, cases_Bool, cases_lt, cond-false, cond-true, eq-eqb, eqb-true, lt-ltb, ltb-true, true≢false}
-use Rattle.std.proofs.lemmas.Option.{none-some, same_Some}
 use Rattle.std.proofs.lemmas.Nat.Gcd.{dvd-zero, dvd_antisymm, dvd_of_mod-eq-zero, le_of_dvd, mod-eq-zero_of_dvd}
 use Rattle.std.proofs.Math.Nat.{one-dvd}
 use Rattle.std.specs.Char.{is_ascii_digit}
@@ -23,7 +19,7 @@ use Rattle.std.specs.Int.{IsGcd, ◌∣◌}
 use Rattle.std.specs.List.{list_all}
 use Rattle.std.specs.Prelude.{◌%◌}
 use Rattle.std.specs.Str.Parse.{IsNumeral, digits_value, starts_with_minus}
-use lib.IntN.{pos, ℤ}
+use lib.IntN.{pos}
 
 -- ---- the greatest common divisor
 record IsDivisorUpTo (k a b d : ℕ) : Type 0 where
@@ -143,32 +139,3 @@ text_refused bs e h = elim (cases_Bool (is_fraction_text bs)) [
   | inl t ↦ absurd (not_read bs e h t)
   | inr f ↦ sym (cond-false (is_fraction_text bs) (Ok (lowest_terms (starts_with_minus bs) (digits_value 10 (top_text bs)) (digits_value 10 (bottom_text bs)))) (Err Number) f)
 ]
-
--- ---- whole numbers
-integer_of_i64 : (n : Num) (k : ℤ) → as_i64 n ≡ Some k → as_integer n ≡ Some k
-integer_of_i64 (unsigned n) k e = by (ltb n (2 ^ 63)) e
-  where
-    by : (t : Bool) → cond t (Some (pos n)) None ≡ Some k → Some (pos n) ≡ Some k
-    by true h = h
-    by false h = absurd (none-some k h)
-integer_of_i64 (negative z) k e = e
-integer_of_i64 (float x) k e = e
-
-integer_of_u64 : (n : Num) (k : ℕ) → as_u64 n ≡ Some k → as_integer n ≡ Some (pos k)
-integer_of_u64 (unsigned n) k e = ap (λ m. Some (pos m)) (same_Some n k e)
-integer_of_u64 (negative z) k e = absurd (none-some k e)
-integer_of_u64 (float x) k e = absurd (none-some k e)
-
-no_integer : (n : Num) → as_i64 n ≡ None → as_u64 n ≡ None → as_integer n ≡ None
-no_integer (unsigned n) e f = absurd (none-some n (sym f))
-no_integer (negative z) e f = absurd (none-some z (sym e))
-no_integer (float x) e f = refl
-
-pub fraction_by_i64 : (n : Num) (k : ℤ) → as_i64 n ≡ Some k → (let r : Read Ratio = Ok (over_one k) in r) ≡ whole_fraction_of n
-fraction_by_i64 n k e = rw (integer_of_i64 n k e) refl
-
-pub fraction_by_u64 : (n : Num) (k : ℕ) → as_u64 n ≡ Some k → (let r : Read Ratio = Ok (over_one (pos k)) in r) ≡ whole_fraction_of n
-fraction_by_u64 n k e = rw (integer_of_u64 n k e) refl
-
-pub no_fraction : (n : Num) → as_i64 n ≡ None → as_u64 n ≡ None → (let r : Read Ratio = Err Number in r) ≡ whole_fraction_of n
-no_fraction n e f = rw (no_integer n e f) refl

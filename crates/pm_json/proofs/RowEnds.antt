@@ -6,7 +6,6 @@ use Rattle.pm_algebra.specs.Numbers.{Ratio}
 use Rattle.pm_json.specs.Readings.{entry_of, first_row_from, later_row_from, with_front}
 use Rattle.pm_json.specs.declared.fail.ValueFail.TheVariants.{Shape, Limit}
 use Rattle.pm_json.proofs.Readings.{with_front-before}
-use Rattle.serde_json.specs.View.{items_view}
 use Rattle.serde_json.specs.declared.value.Value.{Value}
 
 -- the item that is read next, before those that follow

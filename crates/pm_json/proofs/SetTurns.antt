@@ -1,12 +1,30 @@
--- The reading of a set, and of a list of sets, an item at a time.
-use Rattle.std.proofs.Common.{refl, sym, ap, ◌∙◌, ◌≡◌, ◌<◌, ℕ, suc, List, [], ◌∷◌, ◌++◌, length, Ok, false, length-append, map, arith}
+-- Indices, and the reading of a set and of a list of sets, an item at a time.
+use Rattle.std.proofs.Common.{refl, sym, ap, ◌∙◌, ◌≡◌, ◌<◌, ℕ, suc, List, [], ◌∷◌, ◌++◌, length, Ok, Bool, true, false, MatchBool, length-append, map, arith}
+use Rattle.std.specs.List.{AllWithin, HoldsAt, list_any}
+use Rattle.std.proofs.lemmas.List.Elements.{All-from_all_within}
+use Rattle.std.proofs.lemmas.List.Folds.{list_any_at, list_any_none}
 use Rattle.std.proofs.lemmas.List.{map-append}
 use Rattle.std.proofs.lemmas.Bool.{lt-ltb}
 use Rattle.std.specs.Prelude.{is_some}
 use Rattle.serde_json.specs.Data.{Data, Items, item}
 use Rattle.serde_json.specs.Find.{as_object}
-use Rattle.pm_json.specs.Readings.{has_index, index_of, items_of, set_from, sets_from, with_index}
+use lib.IntN.{ℤ, pos, negsuc, nat_abs}
+use lib.Signed.{lt_z}
+use Rattle.std.proofs.lemmas.Bool.{true≢false}
+use Rattle.pm_json.specs.Readings.{Read, index_below_2048, has_index, index_of, items_of, set_from, sets_from, with_index}
 use Rattle.pm_json.proofs.Readings.{with_front_sets, with_front_sets-before}
+
+-- what a search for an index says
+pub any_from_cases : {X : Type 0} (p : X → Bool) (xs : List X) (r : Bool)
+    → MatchBool r ((k : ℕ) × (k < length xs) × HoldsAt (λ x. p x ≡ true) xs k) (AllWithin (λ x. p x ≡ false) xs 0 (length xs)) → r ≡ list_any p xs
+any_from_cases p [] true h = absurd (omega (arith, h.1))
+any_from_cases p (x ∷ xs) true h = sym (list_any_at p (x ∷ xs) h.0 x h.1 (h.2 x))
+any_from_cases p xs false h = sym (list_any_none p xs (All-from_all_within (λ x. p x ≡ false) xs h))
+
+-- an index below the limit
+pub index_small : (k : ℤ) → lt_z k (pos 0) ≡ false → lt_z k (pos 2048) ≡ true → (let r : Read ℕ = Ok (nat_abs k) in r) ≡ index_below_2048 k
+index_small (pos j) from below = rw below refl
+index_small (negsuc j) from below = absurd (true≢false from)
 
 pub set_from-item : (set : List ℕ) (j : ℕ) (d : Data) (ds : Items) → index_of d ≡ Ok j → has_index j set ≡ false → set_from set (item d ds) ≡ set_from (with_index j set) ds
 set_from-item set j d ds is new = rw (is, new) refl

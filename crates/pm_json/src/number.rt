@@ -1,7 +1,7 @@
 // Numbers from JSON.
 
 ghost use Rattle.pm_algebra.specs.Numbers.{InRange};
-ghost use Rattle.pm_json.specs.Readings.{count_of, entry_of, index_of, items_of, number_of, ratio_of_text, whole_fraction_of, whole_number_of};
+ghost use Rattle.pm_json.specs.Readings.{count_of, entry_of, index_below_2048, index_of, items_of, number_of, ratio_of_text, whole_fraction_of, whole_number_of};
 ghost use Rattle.pm_types.specs.Views.{over_one};
 ghost use Rattle.serde_json.specs.View.{items_view, number_view, view};
 ghost use Rattle.std.specs.Prelude.{IfErr, IfOk, ◌≡◌};
@@ -11,6 +11,8 @@ use pm_fraction::{Fraction, read};
 use serde_json::{Number, Value};
 
 const COUNT_LIMIT: i128 = 2048;
+
+const INDEX_LIMIT: i128 = 2048;
 
 /// The elements of an array.
 pub fn read_items(v: &Value) -> Result<&[Value], ValueFail>
@@ -90,18 +92,24 @@ fn read_whole_number(v: &Value) -> Result<i128, ValueFail>
     }
 }
 
-/// An index below 2,048.
-pub fn read_index(v: &Value) -> Result<u32, ValueFail>
-    ensures { result ≡ index_of (view v.now) }
+/// A number as an index, where it is one.
+fn index_below_limit(k: i128) -> Result<u32, ValueFail>
+    ensures { result ≡ index_below_2048 k }
 {
-    let k = read_whole_number(v)?;
     if k < 0 {
         Err(ValueFail::Index)
-    } else if k < COUNT_LIMIT {
+    } else if k < INDEX_LIMIT {
         Ok(k as u32)
     } else {
         Err(ValueFail::Limit)
     }
+}
+
+/// An index below 2,048.
+pub fn read_index(v: &Value) -> Result<u32, ValueFail>
+    ensures { result ≡ index_of (view v.now) }
+{
+    index_below_limit(read_whole_number(v)?)
 }
 
 /// A count of at most 2,048.

@@ -28,13 +28,20 @@ fn has_index(j: u32, set: &[u32]) -> bool
     set.iter().any(|k| *k == j)
 }
 
+/// Whether an index stands before another in a set.
+fn stands_before(j: u32, k: u32) -> bool
+    ensures { result ≡ nat_lt j k }
+{
+    j < k
+}
+
 /// Where an index is to be put into an ascending set.
 fn place_of(j: u32, set: &[u32]) -> usize
     ensures place { insert set.now result j ≡ with_index j set.now }
     ensures within { result ≤ length set.now }
 {
     for (i, k) in set.iter().enumerate() {
-        if j < *k {
+        if stands_before(j, *k) {
             return i;
         }
     }

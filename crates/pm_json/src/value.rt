@@ -5,7 +5,7 @@ ghost use Rattle.pm_types.specs.Forms.{is_built, is_dimension, is_formed};
 ghost use Rattle.pm_types.specs.Properties.{value_kind};
 ghost use Rattle.pm_types.specs.Views.{view_of};
 ghost use Rattle.serde_json.specs.View.{view};
-ghost use Rattle.std.specs.Prelude.{IfErr, IfOk, IsTrue, ◌≡◌, ◌≢◌};
+ghost use Rattle.std.specs.Prelude.{IfErr, IfOk, IsTrue, ◌≡◌, ◌≢◌, ◌↔◌};
 
 use crate::fail::ValueFail;
 use crate::matrix::read_matrix;
@@ -21,6 +21,16 @@ fn is_dimension(k: i64) -> bool
     1 <= k && k <= 33
 }
 
+/// Whether a whole number has to be a column count.
+fn counts_columns(p: PropId) -> bool
+    ensures { IsTrue result ↔ p ≡ PropId.ConeAmbientDim }
+{
+    match p {
+        PropId::ConeAmbientDim => true,
+        _ => false,
+    }
+}
+
 /// A whole number of 64 bits.
 fn read_whole(p: PropId, v: &Value) -> Result<PropertyValue, ValueFail>
     requires { value_kind p ≡ ValueKind.Int }
@@ -34,7 +44,7 @@ fn read_whole(p: PropId, v: &Value) -> Result<PropertyValue, ValueFail>
     let Some(k) = number.as_i64() else {
         return Err(ValueFail::Number);
     };
-    if matches!(p, PropId::ConeAmbientDim) && !is_dimension(k) {
+    if counts_columns(p) && !is_dimension(k) {
         return Err(ValueFail::Limit);
     }
     Ok(PropertyValue::Int(k))

@@ -1,5 +1,5 @@
 -- Each turn puts the next entry behind the others, or ends at the first fault.
-use Rattle.std.proofs.Common.{add-one, ap, arith, drop, length, suc, sym, ◌∙◌, ◌<◌, ◌≡◌, ◌++◌, ◌∷◌, ℕ, List, []}
+use Rattle.std.proofs.Common.{add-one, ap, arith, drop, length, suc, sym, ◌∙◌, ◌<◌, List}
 use Rattle.pm_json.proofs.RowEnds.{first_row_from-item, first_row_from-long, next_item}
 use Rattle.pm_json.specs.Readings.{Read, first_row_from, with_front}
 use Rattle.pm_algebra.specs.Numbers.{Ratio}

@@ -1,5 +1,5 @@
 -- Each turn puts the next entry behind the others, or ends at the first fault.
-use Rattle.std.proofs.Common.{add-one, ap, arith, drop, length, suc, sym, ◌∙◌, ◌<◌, ◌≡◌, ◌++◌, ◌∷◌, ℕ, List, []}
+use Rattle.std.proofs.Common.{add-one, ap, arith, drop, length, suc, sym, ◌∙◌, ◌<◌, ℕ, List}
 use Rattle.std.proofs.lemmas.List.{drop_all}
 use Rattle.pm_json.proofs.Readings.{later_row_from-item}
 use Rattle.pm_json.proofs.RowEnds.{later_row_from-long, later_row_from-short, later_row_from-whole, next_item}

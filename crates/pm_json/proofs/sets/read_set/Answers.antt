@@ -1,5 +1,5 @@
 -- Each turn puts the next index into the set.
-use Rattle.std.proofs.Common.{add-one, ap, drop, suc, sym, ◌∙◌, ◌≡◌, ◌∷◌, ℕ, List, Bool, false}
+use Rattle.std.proofs.Common.{add-one, ap, drop, suc, sym, ◌∙◌, ◌≡◌, false}
 use Rattle.pm_json.proofs.RowEnds.{next_item}
 use Rattle.pm_json.proofs.SetTurns.{set_from-item}
 use Rattle.pm_json.specs.Readings.{has_index, set_from}

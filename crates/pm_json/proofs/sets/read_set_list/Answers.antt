@@ -1,5 +1,5 @@
 -- Each turn puts the next set below the others.
-use Rattle.std.proofs.Common.{add-one, ap, arith, drop, length, map, suc, sym, ◌∙◌, ◌<◌, ◌≡◌, ◌∷◌, ◌++◌, [], ℕ, List, Bool, false}
+use Rattle.std.proofs.Common.{add-one, ap, arith, drop, length, map, suc, sym, ◌∙◌, ◌<◌, ◌≡◌, false}
 use Rattle.pm_json.proofs.RowEnds.{next_item}
 use Rattle.pm_json.proofs.Readings.{with_front_sets}
 use Rattle.pm_json.proofs.SetTurns.{sets_below, sets_from-item}
