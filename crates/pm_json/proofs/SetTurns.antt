@@ -1,16 +1,17 @@
 -- Indices, and the reading of a set and of a list of sets, an item at a time.
-use Rattle.std.proofs.Common.{refl, sym, ap, ◌∙◌, ◌≡◌, ◌<◌, ℕ, suc, List, [], ◌∷◌, ◌++◌, length, Ok, Bool, true, false, MatchBool, length-append, map, arith}
+use Rattle.std.proofs.Common.{refl, sym, ap, ◌∙◌, ◌≡◌, ◌<◌, ◌≤◌, ℕ, suc, List, [], ◌∷◌, ◌++◌, length, Ok, Bool, true, false, MatchBool, Err, length-append, map, arith}
 use Rattle.std.specs.List.{AllWithin, HoldsAt, list_any}
 use Rattle.std.proofs.lemmas.List.Elements.{All-from_all_within}
 use Rattle.std.proofs.lemmas.List.Folds.{list_any_at, list_any_none}
 use Rattle.std.proofs.lemmas.List.{map-append}
-use Rattle.std.proofs.lemmas.Bool.{lt-ltb}
+use Rattle.std.proofs.lemmas.Bool.{lt-ltb, le-ltb}
 use Rattle.std.specs.Prelude.{is_some}
 use Rattle.serde_json.specs.Data.{Data, Items, item}
 use Rattle.serde_json.specs.Find.{as_object}
 use lib.IntN.{ℤ, pos, negsuc, nat_abs}
 use lib.Signed.{lt_z}
 use Rattle.std.proofs.lemmas.Bool.{true≢false}
+use Rattle.pm_json.specs.declared.fail.ValueFail.TheVariants.{Limit}
 use Rattle.pm_json.specs.Readings.{Read, index_below_2048, has_index, index_of, items_of, set_from, sets_from, with_index}
 use Rattle.pm_json.proofs.Readings.{with_front_sets, with_front_sets-before}
 
@@ -32,6 +33,10 @@ set_from-item set j d ds is new = rw (is, new) refl
 pub sets_from-item : (front : List (List ℕ)) (set : List ℕ) (k : ℕ) (d : Data) (es ds : Items) → is_some (as_object d) ≡ false → items_of d ≡ Ok es → k < 2048 → set_from [] es ≡ Ok set
     → with_front_sets front (sets_from k (item d ds)) ≡ with_front_sets (front ++ set ∷ []) (sets_from (suc k) ds)
 sets_from-item front set k d es ds listed items room is = rw (listed, items, lt-ltb k 2048 room, is) (with_front_sets-before front set (sets_from (suc k) ds))
+
+-- a set too many
+pub sets_from-full : (front : List (List ℕ)) (k : ℕ) (d : Data) (es ds : Items) → is_some (as_object d) ≡ false → items_of d ≡ Ok es → 2048 ≤ k → with_front_sets front (sets_from k (item d ds)) ≡ Err Limit
+sets_from-full front k d es ds listed items full = rw (listed, items, le-ltb k 2048 full) refl
 
 -- the rows with one more below them
 pub sets_below : {A : Type 0} (f : A → List ℕ) (rows new : List A) (r : A) (ds : Items) → new ≡ rows ++ r ∷ []
