@@ -1,4 +1,4 @@
--- Texts that write fractions, and whole numbers.
+-- Texts that write fractions.
 use Rattle.pm_algebra.proofs.Divisors.{common_divisor}
 use Rattle.pm_algebra.specs.Numbers.{Ratio}
 use Rattle.pm_fraction.proofs.Digits.{own_digits}
