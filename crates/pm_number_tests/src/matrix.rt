@@ -27,67 +27,36 @@ fn matrix_of(rt: &impl Abort, alloc: Global, table: &[&[(i128, i128)]]) -> Matri
 
 const ONE_AND_HALF: &[(i128, i128)] = &[(1, 1), (1, 2)];
 
-/// The matrix with the row 1, 1/2, after it refused a shorter one.
-fn matrix_of_a_row(rt: &impl Abort, alloc: Global) -> Matrix {
-    let mut matrix = matrix_of(rt, alloc, &[ONE_AND_HALF]);
-    refuse_a_shorter_row(rt, alloc, &mut matrix);
-    matrix
-}
-
-fn refuse_a_shorter_row(rt: &impl Abort, alloc: Global, matrix: &mut Matrix) {
-    let shorter = fractions(rt, alloc, &[(1, 1)]);
-    assert_eq!(rt; matrix.push_row(&shorter), Err(MatrixFail::Ragged));
-}
-
-/// Asks for the rows of a matrix.
-fn check_rows(rt: &impl Abort, alloc: Global, matrix: &Matrix, table: &[&[(i128, i128)]]) {
-    assert_eq!(rt; matrix.rows(), table.len());
-    for i in 0..matrix.rows() {
-        assert!(rt; table[i].len() == matrix.cols(), "in row {i}");
-        check_row(rt, alloc, i, matrix.row(i), table[i]);
-    }
-}
-
-/// Asks for the entries of a row.
-fn check_row(rt: &impl Abort, alloc: Global, i: usize, row: &[Fraction], parts: &[(i128, i128)]) {
-    let want = fractions(rt, alloc, parts);
-    assert_eq!(rt; row, want.as_slice(), "in row {i}");
-}
-
-/// Asks for the columns of a matrix.
-fn check_columns(rt: &impl Abort, alloc: Global, matrix: &Matrix, table: &[&[(i128, i128)]]) {
-    let transposed = matrix.transpose(alloc).expect(rt, "the columns");
-    check_rows(rt, alloc, &transposed, table);
+#[test]
+fn a_shorter_row_is_refused(rt: HostRuntime) {
+    let mut matrix = matrix_of(&rt, rt.alloc(), &[ONE_AND_HALF]);
+    let shorter = fractions(&rt, rt.alloc(), &[(1, 1)]);
+    assert!(rt; matrix.push_row(&shorter) == Err(MatrixFail::Ragged));
 }
 
 #[test]
-fn a_row_of_a_matrix(rt: HostRuntime) {
-    let matrix = matrix_of_a_row(&rt, rt.alloc());
-    assert_eq!(rt; matrix.cols(), 2);
-    check_rows(&rt, rt.alloc(), &matrix, &[ONE_AND_HALF]);
-}
-
-#[test]
-fn columns_of_a_copy(rt: HostRuntime) {
-    let matrix = matrix_of_a_row(&rt, rt.alloc());
+fn a_matrix_is_copied_and_transposed(rt: HostRuntime) {
+    let matrix = matrix_of(&rt, rt.alloc(), &[ONE_AND_HALF]);
     let copy = matrix.copy(rt.alloc()).expect(&rt, "a copy");
-    check_rows(&rt, rt.alloc(), &copy, &[ONE_AND_HALF]);
-    check_columns(&rt, rt.alloc(), &copy, &[&[(1, 1)], &[(1, 2)]]);
+    let transposed = copy.transpose(rt.alloc()).expect(&rt, "the columns");
+    assert!(rt; transposed.rows() == 2);
 }
 
-/// The primitive whole rows of a matrix with few rows.
-fn primitive_rows_of(rt: &impl Abort, alloc: Global, matrix: &Matrix) -> Vec<Ints> {
-    assert!(rt; matrix.rows() < 1000);
-    matrix.to_primitive_rows(alloc).expect(rt, "whole rows")
-}
+// Rows of matrices with two columns; without rows there is no primitive row.
+const MATRICES: &[&[&[(i128, i128)]]] = &[&[], &[ONE_AND_HALF], &[ONE_AND_HALF, ONE_AND_HALF]];
 
 #[test]
-fn primitive_row_of_a_matrix(rt: HostRuntime) {
-    let matrix = matrix_of_a_row(&rt, rt.alloc());
-    assert_eq!(rt; matrix.rows(), 1);
-    let rows = primitive_rows_of(&rt, rt.alloc(), &matrix);
-    assert_eq!(rt; rows.len(), 1);
-    assert_eq!(rt; rows[0].as_slice(), [2, 1].as_slice());
+fn primitive_rows_of_matrices(rt: HostRuntime) {
+    for table in MATRICES {
+        let matrix = matrix_of(&rt, rt.alloc(), table);
+        assert!(rt; matrix.rows() < 1000);
+        let rows = matrix
+            .to_primitive_rows(rt.alloc())
+            .expect(&rt, "whole rows");
+        for row in &rows {
+            assert!(rt; row.as_slice() == [2, 1].as_slice());
+        }
+    }
 }
 
 const PRIMITIVE_ROWS: &[(&[(i128, i128)], Result<&[i128], RowFail>)] = &[
@@ -120,19 +89,12 @@ const PRIMITIVE_ROWS: &[(&[(i128, i128)], Result<&[i128], RowFail>)] = &[
     ),
 ];
 
-fn check_primitive_row(
-    rt: &impl Abort,
-    alloc: Global,
-    row: &[Fraction],
-    want: Result<&[i128], RowFail>,
-) {
-    let answer = primitive_row(alloc, row);
-    match want {
-        Ok(entries) => {
-            let whole = answer.expect(rt, "a whole row");
-            assert_eq!(rt; whole.as_slice(), entries);
-        }
-        Err(expected) => assert_eq!(rt; answer.expect_err(rt, "a refusal"), expected),
+// Whether an answer is the one that is wanted.
+fn is_wanted(answer: &Result<Ints, RowFail>, want: Result<&[i128], RowFail>) -> bool {
+    match (answer, want) {
+        (Ok(whole), Ok(entries)) => whole.as_slice() == entries,
+        (Err(fail), Err(expected)) => *fail == expected,
+        _ => false,
     }
 }
 
@@ -140,7 +102,8 @@ fn check_primitive_row(
 fn primitive_rows_of_fractions(rt: HostRuntime) {
     for (parts, want) in PRIMITIVE_ROWS {
         let row = fractions(&rt, rt.alloc(), parts);
-        check_primitive_row(&rt, rt.alloc(), &row, *want);
+        let answer = primitive_row(rt.alloc(), &row);
+        assert!(rt; is_wanted(&answer, *want), "{parts:?}");
     }
 }
 
@@ -167,20 +130,4 @@ fn a_wide_row_is_printed(rt: HostRuntime) -> Result<(), AllocError> {
         "85070591730234615865843651857942052864 and 3 make a number that is too wide, in row 1"
     );
     Ok(())
-}
-
-#[test]
-fn no_rows(rt: HostRuntime) {
-    let matrix = Matrix::new(rt.alloc(), 3);
-    assert_eq!(rt; primitive_rows_of(&rt, rt.alloc(), &matrix).len(), 0);
-}
-
-#[test]
-fn no_columns(rt: HostRuntime) {
-    let matrix = Matrix::new(rt.alloc(), 3);
-    let transposed = matrix.transpose(rt.alloc()).expect(&rt, "the columns");
-    assert_eq!(rt; transposed.cols(), 0);
-    assert_eq!(rt; transposed.rows(), 3);
-    assert_eq!(rt; transposed.row(2).len(), 0);
-    assert_eq!(rt; primitive_rows_of(&rt, rt.alloc(), &transposed).len(), 3);
 }
