@@ -23,12 +23,12 @@ fn vanishes(alloc: Global, facet: &Ints, vertex: &Ints) -> Result<bool, ClientFa
     ensures failed { IfErr result (IsWideFor (facet.now ∷ []) (vertex.now ∷ [])) }
 {
     match dot(facet.as_slice(), vertex.as_slice()) {
-        Ok(product) => Ok(is_nought(product)),
+        Ok(product) => Ok(is_zero(product)),
         Err(Wide) => Err(wide(alloc, facet, vertex)?),
     }
 }
 
-fn is_nought(k: i128) -> bool
+fn is_zero(k: i128) -> bool
     ensures { result ≡ (unsigned_abs k == 0) }
 {
     k == 0
