@@ -16,8 +16,8 @@ use scripts::SCRIPTS;
 use std::alloc::{AllocError, Global};
 use std::process::Abort;
 
-/// A script: its name, its lines with the replies to them (a blank line has none), and how many runs of clients it starts.
-type Script = (&'static str, &'static [(&'static str, &'static str)], u64);
+/// Ends a script of a table, beside the number of runs of clients that it has started; what follows begins anew.
+const END: &str = "end";
 
 // One boxed client for each standard rule, as the program hands them in.
 fn standard_clients(alloc: Global) -> Result<Vec<Box<dyn Client>>, AllocError> {
@@ -38,7 +38,7 @@ fn standard_clients(alloc: Global) -> Result<Vec<Box<dyn Client>>, AllocError> {
 }
 
 // A session over the standard book.
-fn session(rt: &(impl Abort + AllocGlobal)) -> Session {
+fn new_session(rt: &(impl Abort + AllocGlobal)) -> Session {
     let book = standard_book(rt.alloc()).expect(rt, "the book");
     Session::new(rt.alloc(), book)
 }
@@ -63,37 +63,47 @@ fn answer(
     }
 }
 
-fn check_lines(
+fn check_line(
     rt: &(impl Abort + AllocGlobal),
     session: &mut Session,
     clients: &mut Vec<Box<dyn Client>>,
-    lines: &[(&str, &str)],
+    line: &str,
+    want: &str,
 ) {
+    let text = answer(rt, session, clients, line);
+    assert!(rt; text.trim_end() == want, "to {line}: {text}");
+}
+
+// Runs lines over no clients.
+fn check_lines(rt: &(impl Abort + AllocGlobal), session: &mut Session, lines: &[(&str, &str)]) {
+    let mut clients: Vec<Box<dyn Client>> = Vec::new(rt.alloc());
     for (line, want) in lines {
-        let text = answer(rt, session, clients, line);
-        assert_eq!(rt; text.trim_end(), *want, "to {line}");
+        check_line(rt, session, &mut clients, line, want);
     }
 }
 
-// How many runs of these clients were started.
-fn starts_of(clients: &[Box<dyn Client>]) -> u64 {
+// Asks how many runs of these clients were started.
+fn check_starts(rt: &(impl Abort + AllocGlobal), clients: &[Box<dyn Client>], want: &str) {
     let mut starts = 0u64;
     for client in clients {
         starts = starts.saturating_add(client.starts());
     }
-    starts
+    let text = starts.to_string(rt.alloc()).expect(rt, "a text");
+    assert!(rt; text.as_str() == want, "{text} runs are started");
 }
 
-fn check_script(rt: &(impl Abort + AllocGlobal), lines: &[(&str, &str)], starts: u64, of: &str) {
+// Runs scripts one after another: lines with the replies to them; a blank line has none.
+fn check_scripts(rt: &(impl Abort + AllocGlobal), rows: &[(&str, &str)]) {
     let mut clients = standard_clients(rt.alloc()).expect(rt, "the clients");
-    let mut session = session(rt);
-    check_lines(rt, &mut session, &mut clients, lines);
-    assert_eq!(rt; starts_of(&clients), starts, "in {of}");
-}
-
-fn check_scripts(rt: &(impl Abort + AllocGlobal), scripts: &[Script]) {
-    for (of, lines, starts) in scripts {
-        check_script(rt, lines, *starts, of);
+    let mut session = new_session(rt);
+    for (line, want) in rows {
+        if *line == END {
+            check_starts(rt, &clients, want);
+            clients = standard_clients(rt.alloc()).expect(rt, "the clients");
+            session = new_session(rt);
+        } else {
+            check_line(rt, &mut session, &mut clients, line, want);
+        }
     }
 }
 
@@ -114,20 +124,18 @@ fn more_descriptions_are_answered(rt: HostRuntime) {
 
 #[test]
 fn a_hundred_lines_are_answered(rt: HostRuntime) {
-    let (of, lines, starts) = HUNDRED_LINES;
-    check_script(&rt, lines, starts, of);
+    check_scripts(&rt, HUNDRED_LINES);
 }
 
 // 32 objects are made, and no more.
 #[test]
 fn an_object_too_many_is_refused(rt: HostRuntime) {
     let mut clients: Vec<Box<dyn Client>> = Vec::new(rt.alloc());
-    let mut session = session(&rt);
+    let mut session = new_session(&rt);
     for i in 0..33 {
         let line = format!(in rt.alloc(); "new s{i} Polytope").expect(&rt, "a line");
-        let text = answer(&rt, &mut session, &mut clients, &line);
         let want = if i < 32 { "ok" } else { "no 9 ObjectsFull" };
-        assert_eq!(rt; text.trim_end(), want, "to {line}");
+        check_line(&rt, &mut session, &mut clients, &line, want);
     }
 }
 
@@ -159,10 +167,9 @@ const TAKING: &[(&str, &str)] = &[
 
 #[test]
 fn objects_take_values(rt: HostRuntime) {
-    let mut clients: Vec<Box<dyn Client>> = Vec::new(rt.alloc());
-    let mut session = session(&rt);
+    let mut session = new_session(&rt);
     assert!(rt; session.object("s").is_none());
-    check_lines(&rt, &mut session, &mut clients, TAKING);
+    check_lines(&rt, &mut session, TAKING);
     assert!(rt; session.object("s").is_some());
     assert!(rt; session.object("f").is_none());
 }
@@ -184,7 +191,6 @@ const ASKING: &[(&str, &str)] = &[
 
 #[test]
 fn without_clients_no_chain_leads_anywhere(rt: HostRuntime) {
-    let mut clients: Vec<Box<dyn Client>> = Vec::new(rt.alloc());
-    let mut session = session(&rt);
-    check_lines(&rt, &mut session, &mut clients, ASKING);
+    let mut session = new_session(&rt);
+    check_lines(&rt, &mut session, ASKING);
 }
