@@ -1,19 +1,23 @@
 -- Indices, and the reading of a set and of a list of sets, an item at a time.
-use Rattle.std.proofs.Common.{refl, sym, ap, ◌∙◌, ◌≡◌, ◌<◌, ◌≤◌, ℕ, suc, List, [], ◌∷◌, ◌++◌, length, Ok, Bool, true, false, MatchBool, Err, length-append, map, arith}
+use Rattle.std.proofs.Common.{refl, sym, ap, ◌∙◌, ◌≡◌, ◌<◌, ◌≤◌, ℕ, suc, List, [], ◌∷◌, ◌++◌, length, Ok, Bool, true, false, MatchBool, Err, length-append, append-nil, drop, map, arith, Some, None}
 use Rattle.std.specs.List.{AllWithin, HoldsAt, list_any}
 use Rattle.std.proofs.lemmas.List.Elements.{All-from_all_within}
 use Rattle.std.proofs.lemmas.List.Folds.{list_any_at, list_any_none}
 use Rattle.std.proofs.lemmas.List.{map-append}
 use Rattle.std.proofs.lemmas.Bool.{lt-ltb, le-ltb}
 use Rattle.std.specs.Prelude.{is_some}
-use Rattle.serde_json.specs.Data.{Data, Items, item}
+use Rattle.serde_json.specs.Data.{Data, Items, no_items, item}
 use Rattle.serde_json.specs.Find.{as_object}
+use Rattle.serde_json.specs.View.{items_view, view}
+use Rattle.serde_json.specs.declared.value.Value.{Value}
 use lib.IntN.{ℤ, pos, negsuc, nat_abs}
 use lib.Signed.{lt_z}
 use Rattle.std.proofs.lemmas.Bool.{true≢false}
+use Rattle.pm_json.specs.declared.fail.ValueFail.{ValueFail}
 use Rattle.pm_json.specs.declared.fail.ValueFail.TheVariants.{Limit}
-use Rattle.pm_json.specs.Readings.{Read, index_below_2048, has_index, index_of, items_of, set_from, sets_from, with_index}
+use Rattle.pm_json.specs.Readings.{Read, SetsSeen, and_then, index_below_2048, has_index, index_of, items_of, set_from, sets_from, stated_last, stated_of, with_index}
 use Rattle.pm_json.proofs.Readings.{with_front_sets, with_front_sets-before}
+use Rattle.pm_json.proofs.RowEnds.{next_item}
 
 -- what a search for an index says
 pub any_from_cases : {X : Type 0} (p : X → Bool) (xs : List X) (r : Bool)
@@ -34,7 +38,32 @@ pub sets_from-item : (front : List (List ℕ)) (set : List ℕ) (k : ℕ) (d : D
     → with_front_sets front (sets_from k (item d ds)) ≡ with_front_sets (front ++ set ∷ []) (sets_from (suc k) ds)
 sets_from-item front set k d es ds listed items room is = rw (listed, items, lt-ltb k 2048 room, is) (with_front_sets-before front set (sets_from (suc k) ds))
 
--- a set too many
+-- the item that is read next, before those that follow
+pub sets_from-next : {all : Read SetsSeen} (front : List (List ℕ)) (k : ℕ) (vs : List Value) (i : ℕ) (v : Value) → i < length vs → v ≡ lib.ListN.get_or vs i v
+    → all ≡ with_front_sets front (sets_from k (items_view (drop i vs))) → all ≡ with_front_sets front (sets_from k (item (view v) (items_view (drop (suc i) vs))))
+sets_from-next front k vs i v within is e = e ∙ ap (λ w. with_front_sets front (sets_from k (items_view w))) (next_item vs i v within is)
+
+-- the end, with and without a column count
+pub sets_from-end : (front : List (List ℕ)) (k : ℕ) → with_front_sets front (sets_from k no_items) ≡ Ok (record { rows = front; stated = None })
+sets_from-end front k = ap (λ sets. Ok (record { rows = sets; stated = None })) (append-nil front)
+
+pub sets_from-stated : (front : List (List ℕ)) (k n : ℕ) (d : Data) (ds : Items) → is_some (as_object d) ≡ true
+    → and_then (stated_of d) (λ m. stated_last m ds) ≡ Ok (record { rows = []; stated = Some n }) → with_front_sets front (sets_from k (item d ds)) ≡ Ok (record { rows = front; stated = Some n })
+sets_from-stated front k n d ds object is = rw (object, is) (ap (λ sets. Ok (record { rows = sets; stated = Some n })) (append-nil front))
+
+-- the faults: of the column count, of an item that is no array, of a set, and a set too many
+pub sets_from-not_stated : (front : List (List ℕ)) (k : ℕ) (d : Data) (ds : Items) (fault : ValueFail) → is_some (as_object d) ≡ true
+    → and_then (stated_of d) (λ m. stated_last m ds) ≡ Err fault → with_front_sets front (sets_from k (item d ds)) ≡ Err fault
+sets_from-not_stated front k d ds fault object is = rw (object, is) refl
+
+pub sets_from-no_items : (front : List (List ℕ)) (k : ℕ) (d : Data) (ds : Items) (fault : ValueFail) → is_some (as_object d) ≡ false → items_of d ≡ Err fault
+    → with_front_sets front (sets_from k (item d ds)) ≡ Err fault
+sets_from-no_items front k d ds fault listed is = rw (listed, is) refl
+
+pub sets_from-no_set : (front : List (List ℕ)) (k : ℕ) (d : Data) (es ds : Items) (fault : ValueFail) → is_some (as_object d) ≡ false → items_of d ≡ Ok es → k < 2048 → set_from [] es ≡ Err fault
+    → with_front_sets front (sets_from k (item d ds)) ≡ Err fault
+sets_from-no_set front k d es ds fault listed items room is = rw (listed, items, lt-ltb k 2048 room, is) refl
+
 pub sets_from-full : (front : List (List ℕ)) (k : ℕ) (d : Data) (es ds : Items) → is_some (as_object d) ≡ false → items_of d ≡ Ok es → 2048 ≤ k → with_front_sets front (sets_from k (item d ds)) ≡ Err Limit
 sets_from-full front k d es ds listed items full = rw (listed, items, le-ltb k 2048 full) refl
 
