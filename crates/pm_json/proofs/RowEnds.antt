@@ -1,9 +1,10 @@
 -- The reading of a row an item at a time, and where it ends: behind the last item, and at the first that has a fault.
-use Rattle.std.proofs.Common.{refl, sym, ap, ◌∙◌, ◌≡◌, ◌≢◌, ◌≤◌, ◌<◌, ℕ, suc, List, [], ◌∷◌, ◌++◌, length, drop, drop-cons, Ok, Err, append-nil, length-append, arith}
+use Rattle.std.proofs.Common.{refl, sym, ap, ◌∙◌, ◌≡◌, ◌≢◌, ◌≤◌, ◌<◌, ℕ, suc, List, [], ◌∷◌, ◌++◌, length, drop, drop-cons, Ok, Err, append-nil, length-append, arith, eqb, true, false}
 use Rattle.std.proofs.lemmas.Bool.{lt-ltb, le-ltb, eq-eqb, ne_eqb}
 use Rattle.serde_json.specs.Data.{Data, Items, no_items, item}
 use Rattle.pm_algebra.specs.Numbers.{Ratio}
 use Rattle.pm_json.specs.Readings.{entry_of, first_row_from, later_row_from, with_front}
+use Rattle.pm_json.specs.declared.fail.ValueFail.{ValueFail}
 use Rattle.pm_json.specs.declared.fail.ValueFail.TheVariants.{Shape, Limit}
 use Rattle.pm_json.proofs.Readings.{with_front-before}
 use Rattle.serde_json.specs.declared.value.Value.{Value}
@@ -29,3 +30,14 @@ first_row_from-item front z d ds room is =
 
 pub first_row_from-long : (front : List Ratio) (z : Ratio) (d : Data) (ds : Items) → 33 ≤ length front → entry_of d ≡ Ok z → with_front front (first_row_from (length front) (item d ds)) ≡ Err Limit
 first_row_from-long front z d ds full is = rw (is, le-ltb (length front) 33 full) refl
+
+-- an entry that is a fault
+pub first_row_from-no_entry : (front : List Ratio) (k : ℕ) (d : Data) (ds : Items) (fault : ValueFail) → entry_of d ≡ Err fault → with_front front (first_row_from k (item d ds)) ≡ Err fault
+first_row_from-no_entry front k d ds fault is = rw is refl
+
+-- the end of a first row, which has an entry
+pub first_row_from-none : (front : List Ratio) → eqb (length front) 0 ≡ true → with_front front (first_row_from (length front) no_items) ≡ Err Limit
+first_row_from-none front none = rw none refl
+
+pub first_row_from-end : (front : List Ratio) → eqb (length front) 0 ≡ false → with_front front (first_row_from (length front) no_items) ≡ Ok front
+first_row_from-end front some = rw some (ap (λ l. Ok l) (append-nil front))

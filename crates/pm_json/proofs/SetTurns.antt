@@ -14,7 +14,7 @@ use lib.IntN.{ℤ, pos, negsuc, nat_abs}
 use lib.Signed.{lt_z}
 use Rattle.std.proofs.lemmas.Bool.{true≢false}
 use Rattle.pm_json.specs.declared.fail.ValueFail.{ValueFail}
-use Rattle.pm_json.specs.declared.fail.ValueFail.TheVariants.{Limit}
+use Rattle.pm_json.specs.declared.fail.ValueFail.TheVariants.{Limit, Shape}
 use Rattle.pm_json.specs.Readings.{Read, SetsSeen, and_then, index_below_2048, has_index, index_of, items_of, set_from, sets_from, stated_last, stated_of, with_index}
 use Rattle.pm_json.proofs.Readings.{with_front_sets, with_front_sets-before}
 use Rattle.pm_json.proofs.RowEnds.{next_item}
@@ -33,6 +33,13 @@ index_small (negsuc j) from below = absurd (true≢false from)
 
 pub set_from-item : (set : List ℕ) (j : ℕ) (d : Data) (ds : Items) → index_of d ≡ Ok j → has_index j set ≡ false → set_from set (item d ds) ≡ set_from (with_index j set) ds
 set_from-item set j d ds is new = rw (is, new) refl
+
+-- the faults of a set: an index that is none, and one that it has already
+pub set_from-no_index : (set : List ℕ) (d : Data) (ds : Items) (fault : ValueFail) → index_of d ≡ Err fault → set_from set (item d ds) ≡ Err fault
+set_from-no_index set d ds fault is = rw is refl
+
+pub set_from-again : (set : List ℕ) (j : ℕ) (d : Data) (ds : Items) → index_of d ≡ Ok j → has_index j set ≡ true → set_from set (item d ds) ≡ Err Shape
+set_from-again set j d ds is again = rw (is, again) refl
 
 pub sets_from-item : (front : List (List ℕ)) (set : List ℕ) (k : ℕ) (d : Data) (es ds : Items) → is_some (as_object d) ≡ false → items_of d ≡ Ok es → k < 2048 → set_from [] es ≡ Ok set
     → with_front_sets front (sets_from k (item d ds)) ≡ with_front_sets (front ++ set ∷ []) (sets_from (suc k) ds)
