@@ -32,7 +32,12 @@ pub first_row_from-long : (front : List Ratio) (z : Ratio) (d : Data) (ds : Item
 first_row_from-long front z d ds full is = rw (is, le-ltb (length front) 33 full) refl
 
 -- an entry that is a fault
-pub first_row_from-no_entry : (front : List Ratio) (k : ℕ) (d : Data) (ds : Items) (fault : ValueFail) → entry_of d ≡ Err fault → with_front front (first_row_from k (item d ds)) ≡ Err fault
+pub later_row_from-no_entry : (n : ℕ) (front : List Ratio) (d : Data) (ds : Items) (fault : ValueFail) → length front < n → entry_of d ≡ Err fault
+    → with_front front (later_row_from n (length front) (item d ds)) ≡ Err fault
+later_row_from-no_entry n front d ds fault room is = rw (lt-ltb (length front) n room, is) refl
+
+pub first_row_from-no_entry : (front : List Ratio) (k : ℕ) (d : Data) (ds : Items) (fault : ValueFail) → entry_of d ≡ Err fault
+    → with_front front (first_row_from k (item d ds)) ≡ Err fault
 first_row_from-no_entry front k d ds fault is = rw is refl
 
 -- the end of a first row, which has an entry

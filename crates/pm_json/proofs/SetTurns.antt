@@ -47,7 +47,8 @@ sets_from-item front set k d es ds listed items room is = rw (listed, items, lt-
 
 -- the item that is read next, before those that follow
 pub sets_from-next : {all : Read SetsSeen} (front : List (List ℕ)) (k : ℕ) (vs : List Value) (i : ℕ) (v : Value) → i < length vs → v ≡ lib.ListN.get_or vs i v
-    → all ≡ with_front_sets front (sets_from k (items_view (drop i vs))) → all ≡ with_front_sets front (sets_from k (item (view v) (items_view (drop (suc i) vs))))
+    → all ≡ with_front_sets front (sets_from k (items_view (drop i vs)))
+    → all ≡ with_front_sets front (sets_from k (item (view v) (items_view (drop (suc i) vs))))
 sets_from-next front k vs i v within is e = e ∙ ap (λ w. with_front_sets front (sets_from k (items_view w))) (next_item vs i v within is)
 
 -- the end, with and without a column count
@@ -55,7 +56,8 @@ pub sets_from-end : (front : List (List ℕ)) (k : ℕ) → with_front_sets fron
 sets_from-end front k = ap (λ sets. Ok (record { rows = sets; stated = None })) (append-nil front)
 
 pub sets_from-stated : (front : List (List ℕ)) (k n : ℕ) (d : Data) (ds : Items) → is_some (as_object d) ≡ true
-    → and_then (stated_of d) (λ m. stated_last m ds) ≡ Ok (record { rows = []; stated = Some n }) → with_front_sets front (sets_from k (item d ds)) ≡ Ok (record { rows = front; stated = Some n })
+    → and_then (stated_of d) (λ m. stated_last m ds) ≡ Ok (record { rows = []; stated = Some n })
+    → with_front_sets front (sets_from k (item d ds)) ≡ Ok (record { rows = front; stated = Some n })
 sets_from-stated front k n d ds object is = rw (object, is) (ap (λ sets. Ok (record { rows = sets; stated = Some n })) (append-nil front))
 
 -- the faults: of the column count, of an item that is no array, of a set, and a set too many
@@ -67,8 +69,8 @@ pub sets_from-no_items : (front : List (List ℕ)) (k : ℕ) (d : Data) (ds : It
     → with_front_sets front (sets_from k (item d ds)) ≡ Err fault
 sets_from-no_items front k d ds fault listed is = rw (listed, is) refl
 
-pub sets_from-no_set : (front : List (List ℕ)) (k : ℕ) (d : Data) (es ds : Items) (fault : ValueFail) → is_some (as_object d) ≡ false → items_of d ≡ Ok es → k < 2048 → set_from [] es ≡ Err fault
-    → with_front_sets front (sets_from k (item d ds)) ≡ Err fault
+pub sets_from-no_set : (front : List (List ℕ)) (k : ℕ) (d : Data) (es ds : Items) (fault : ValueFail) → is_some (as_object d) ≡ false → items_of d ≡ Ok es → k < 2048
+    → set_from [] es ≡ Err fault → with_front_sets front (sets_from k (item d ds)) ≡ Err fault
 sets_from-no_set front k d es ds fault listed items room is = rw (listed, items, lt-ltb k 2048 room, is) refl
 
 pub sets_from-full : (front : List (List ℕ)) (k : ℕ) (d : Data) (es ds : Items) → is_some (as_object d) ≡ false → items_of d ≡ Ok es → 2048 ≤ k → with_front_sets front (sets_from k (item d ds)) ≡ Err Limit

@@ -34,7 +34,8 @@ returns-then-is_object-clause-ok c =
     let d = c.index-items-i.result in
     let object : is_some (as_object (view d)) ≡ true = sym c.is_object.ensures ∙ c.if-is_object.true in
     sets_from-next sets k vs c.loop-i.i d c.loop-i-test.true c.index-items-i.is c.loop-i.invariant
-    ∙ sets_from-stated sets k c.in_ok-n.n (view d) (items_view (drop (suc c.loop-i.i) vs)) object (rw (add-one, take_rest vs (suc c.loop-i.i)) at c.in_ok-n.ensures.ok)
+    ∙ sets_from-stated sets k c.in_ok-n.n (view d) (items_view (drop (suc c.loop-i.i) vs)) object
+    (rw (add-one, take_rest vs (suc c.loop-i.i)) at c.in_ok-n.ensures.ok)
 
 pub returns-then-is_object-clause-fault : goal.returns-then-is_object-clause-fault
 returns-then-is_object-clause-fault c = tt
@@ -49,7 +50,8 @@ returns-in_err-n-clause-fault c =
     let object : is_some (as_object (view d)) ≡ true = sym c.is_object.ensures ∙ c.if-is_object.true in
     let p = err_from_is_err_and c.from_residual.result c.from_residual.ensures.1 in
     rw (p.1, p.2) (λ memory. sets_from-next sets k vs c.loop-i.i d c.loop-i-test.true c.index-items-i.is c.loop-i.invariant
-    ∙ sets_from-not_stated sets k (view d) (items_view (drop (suc c.loop-i.i) vs)) fault object (rw (add-one, take_rest vs (suc c.loop-i.i)) at c.in_err-n.ensures.fault))
+    ∙ sets_from-not_stated sets k (view d) (items_view (drop (suc c.loop-i.i) vs)) fault object
+    (rw (add-one, take_rest vs (suc c.loop-i.i)) at c.in_err-n.ensures.fault))
 
 pub returns-in_err-indices-clause-fault : goal.returns-in_err-indices-clause-fault
 returns-in_err-indices-clause-fault c =
@@ -87,7 +89,8 @@ returns-in_err-set-clause-fault c =
     let room : k < 2048 = omega (arith, c.len.ensures, c.loop-i.rows.ok, c.if-len-ge-SET_LIMIT.false) in
     let p = err_from_is_err_and c.from_residual-in_err-set.result c.from_residual-in_err-set.ensures.1 in
     rw (p.1, p.2) (λ memory. sets_from-next sets k vs c.loop-i.i d c.loop-i-test.true c.index-items-i.is c.loop-i.invariant
-    ∙ sets_from-no_set sets k (view d) (items_view c.in_ok-indices.indices.now) ds fault listed c.in_ok-indices.ensures.ok room (c.in_err-set.ensures.fault memory))
+    ∙ sets_from-no_set sets k (view d) (items_view c.in_ok-indices.indices.now) ds fault listed c.in_ok-indices.ensures.ok room
+    (c.in_err-set.ensures.fault memory))
 
 pub returns-clause-ok : goal.returns-clause-ok
 returns-clause-ok c =
