@@ -4,11 +4,10 @@ ghost use Rattle.std.specs.Prelude.{codes, [], ◌∷◌, ◌≡◌};
 ghost use Rattle.pm_types.specs.Sets.{set_of};
 ghost use Rattle.pm_types.specs.declared.property.PropId.TheVariants.{ConeAmbientDim};
 
-use crate::running::answer_of;
-use pm_client::{Client, ClientFail, place_of, put_value};
+use pm_client::{Client, ClientFail, place_of, put_value, run_first};
 use pm_geom::ObjectType;
 use pm_object::{Draft, Object, View};
-use pm_types::{ClientName, Kind, PropId, PropSet, StandardClient, Value};
+use pm_types::{ClientName, Kind, PropId, PropSet, Value};
 use std::alloc::Global;
 use std::process::Abort;
 
@@ -58,21 +57,12 @@ impl Client for Columns {
     }
 }
 
-// Two clients of the kind.
-fn two_clients(rt: &(impl Abort + AllocGlobal)) -> Vec<Box<dyn Client>> {
+// A client of the kind.
+fn one_client(rt: &(impl Abort + AllocGlobal)) -> Vec<Box<dyn Client>> {
     let mut clients: Vec<Box<dyn Client>> = Vec::new(rt.alloc());
-    for _ in 0..2 {
-        let client = Box::new(rt.alloc(), Columns { starts: 0 }).expect(rt, "a client");
-        clients.push(client).expect(rt, "a client");
-    }
+    let client = Box::new(rt.alloc(), Columns { starts: 0 }).expect(rt, "a client");
+    clients.push(client).expect(rt, "a place for a client");
     clients
-}
-
-#[test]
-fn clients_have_places(rt: HostRuntime) {
-    let clients = two_clients(&rt);
-    assert!(rt; place_of(&clients, StandardClient::Incidence.kind()).is_none());
-    assert_eq!(rt; place_of(&clients, columns_kind()), Some(0));
 }
 
 // A polytope of which the columns alone are given, two.
@@ -84,20 +74,41 @@ fn of_two_columns(rt: &(impl Abort + AllocGlobal)) -> Object {
     object
 }
 
-fn number_in(answer: Result<Value, ClientFail>) -> Option<i64> {
-    match answer {
-        Ok(Value::Int(number)) => Some(number),
-        _ => None,
+// What a client of the kind may read of an object.
+fn view_for<'a>(rt: &impl Abort, object: &'a Object, kind: Kind) -> View<'a>
+    ensures { result.kind ≡ kind }
+{
+    assert!(rt; object.cols().is_some());
+    assert!(rt; kind.is_of(object.of()));
+    assert!(rt; kind.sources.is_subset(object.names()));
+    object.view(&kind)
+}
+
+// What the first client of the kind drafts from a view.
+fn draft_from(
+    rt: &(impl Abort + AllocGlobal),
+    clients: &mut Vec<Box<dyn Client>>,
+    view: &View,
+) -> Draft {
+    let kind = view.kind();
+    assert!(rt; place_of(clients, kind).is_some());
+    let mut draft = Draft::new(rt.alloc(), &kind);
+    assert!(rt; run_first(rt.alloc(), clients, view, &mut draft).is_ok());
+    draft
+}
+
+fn is_two(value: Option<Value>) -> bool {
+    match value {
+        Some(Value::Int(number)) => number == 2,
+        _ => false,
     }
 }
 
 #[test]
-fn the_first_client_of_the_kind_is_run(rt: HostRuntime) {
+fn a_client_of_the_kind_is_run(rt: HostRuntime) {
     let object = of_two_columns(&rt);
-    let mut clients = two_clients(&rt);
-    let kind = columns_kind();
-    let answer = answer_of(&rt, &mut clients, kind, &object, PropId::ConeAmbientDim);
-    assert_eq!(rt; number_in(answer), Some(2));
-    assert_eq!(rt; clients.len(), 2);
-    assert_eq!(rt; (clients[0].starts(), clients[1].starts()), (1, 0));
+    let mut clients = one_client(&rt);
+    let view = view_for(&rt, &object, columns_kind());
+    let mut draft = draft_from(&rt, &mut clients, &view);
+    assert!(rt; is_two(draft.take_out(PropId::ConeAmbientDim)));
 }

@@ -1,22 +1,11 @@
 // What no clause says: values and faults as they are read, with memory at hand.
 
-use pm_json::{ValueFail, read_value};
+use crate::values::read;
+use pm_json::ValueFail;
 use pm_matrix::Matrix;
-use pm_types::{PropId, Sets, Value as PropertyValue};
-use serde_json::Value;
+use pm_types::{PropId, Sets, Value};
 use std::alloc::{AllocError, Global};
 use std::process::Abort;
-
-// The value of a property that a text spells, or the fault.
-fn read(
-    rt: &(impl Abort + AllocGlobal),
-    p: PropId,
-    text: &str,
-) -> Result<PropertyValue, ValueFail> {
-    let json = Value::from_str(rt.alloc(), text).expect(rt, "JSON");
-    assert!(rt; p.is_built());
-    read_value(rt.alloc(), p, &json)
-}
 
 // The column count of a matrix and its rows.
 fn matrix_text(alloc: Global, m: &Matrix) -> Result<String, AllocError> {
@@ -36,12 +25,12 @@ fn sets_text(alloc: Global, s: &Sets) -> Result<String, AllocError> {
     format!(in alloc; "{rows:?} of {cols}")
 }
 
-fn value_text(alloc: Global, value: &PropertyValue) -> Result<String, AllocError> {
+fn value_text(alloc: Global, value: &Value) -> Result<String, AllocError> {
     match value {
-        PropertyValue::Mat(m) => matrix_text(alloc, m),
-        PropertyValue::Sets(s) => sets_text(alloc, s),
-        PropertyValue::Int(k) => k.to_string(alloc),
-        PropertyValue::Bool(b) => b.to_string(alloc),
+        Value::Mat(m) => matrix_text(alloc, m),
+        Value::Sets(s) => sets_text(alloc, s),
+        Value::Int(k) => k.to_string(alloc),
+        Value::Bool(b) => b.to_string(alloc),
     }
 }
 
@@ -172,105 +161,115 @@ fn small_values_are_read(rt: HostRuntime) {
     check_values(&rt, SMALL);
 }
 
-// The text [X,X,..,X,LAST] of so many X.
-fn try_repeated(alloc: Global, item: &str, count: u32, last: &str) -> Result<String, AllocError> {
-    let mut text = String::from_str(alloc, "[")?;
-    for _ in 0..count {
-        text.push_str(item)?;
-        text.push_str(",")?;
-    }
-    text.push_str(last)?;
-    text.push_str("]")?;
-    Ok(text)
-}
-
-fn repeated(rt: &(impl Abort + AllocGlobal), item: &str, count: u32, last: &str) -> String {
-    try_repeated(rt.alloc(), item, count, last).expect(rt, "the text")
-}
-
-// The item, how often it stands, the last item, and what is read.
-const LONG: &[(PropId, &str, u32, &str, &str)] = &[
-    (PropId::Facets, "[1]", 2048, "[\"x\"]", "limit"),
-    (PropId::Facets, "[1]", 2048, "0", "shape"),
-    (PropId::Facets, "[1]", 2047, "[\"x\"]", "number"),
-    (PropId::VerticesInFacets, "[1]", 2048, "[-1]", "limit"),
-    (PropId::VerticesInFacets, "[1]", 2048, "0", "shape"),
-    (
-        PropId::VerticesInFacets,
-        "[1]",
-        2048,
-        "{\"cols\":1}",
-        "index",
-    ),
-];
-
-fn long_value(
-    rt: &(impl Abort + AllocGlobal),
-    p: PropId,
+// The first text, the second so many times, and the last.
+fn repeated(
+    alloc: Global,
+    first: &str,
     item: &str,
     count: u32,
     last: &str,
-) -> String {
-    let text = repeated(rt, item, count, last);
-    shown(rt, p, &text)
-}
-
-#[test]
-fn long_values_are_read(rt: HostRuntime) {
-    for (p, item, count, last, want) in LONG {
-        let shown = long_value(&rt, *p, item, *count, last);
-        assert_eq!(rt; shown.as_str(), *want, "of {count} {item} and {last}");
+) -> Result<String, AllocError> {
+    let mut text = String::from_str(alloc, first)?;
+    for _ in 0..count {
+        text.push_str(item)?;
     }
+    text.push_str(last)?;
+    Ok(text)
 }
 
-// How often a 1 stands, the last entry, and what is read.
-const LONG_ROWS: &[(u32, &str, &str)] = &[
-    (33, "1", "limit"),
-    (33, "\"x\"", "number"),
-    (32, "\"x\"", "number"),
+// How a text begins, what is repeated and how often, how it ends, and the fault.
+const LONG: &[(PropId, &str, &str, u32, &str, Option<ValueFail>)] = &[
+    (
+        PropId::Facets,
+        "[",
+        "[1],",
+        2048,
+        "[\"x\"]]",
+        Some(ValueFail::Limit),
+    ),
+    (
+        PropId::Facets,
+        "[",
+        "[1],",
+        2048,
+        "0]",
+        Some(ValueFail::Shape),
+    ),
+    (
+        PropId::Facets,
+        "[",
+        "[1],",
+        2047,
+        "[\"x\"]]",
+        Some(ValueFail::Number),
+    ),
+    (PropId::LinealitySpace, "[", "[1],", 2047, "[1]]", None),
+    (
+        PropId::VerticesInFacets,
+        "[",
+        "[1],",
+        2048,
+        "[-1]]",
+        Some(ValueFail::Limit),
+    ),
+    (
+        PropId::VerticesInFacets,
+        "[",
+        "[1],",
+        2048,
+        "0]",
+        Some(ValueFail::Shape),
+    ),
+    (
+        PropId::VerticesInFacets,
+        "[",
+        "[1],",
+        2048,
+        "{\"cols\":1}]",
+        Some(ValueFail::Index),
+    ),
+    (
+        PropId::VerticesInFacets,
+        "[",
+        "[2,1],",
+        2047,
+        "[2,1]]",
+        None,
+    ),
+    (
+        PropId::Vertices,
+        "[[",
+        "1,",
+        33,
+        "1]]",
+        Some(ValueFail::Limit),
+    ),
+    (
+        PropId::Vertices,
+        "[[",
+        "1,",
+        33,
+        "\"x\"]]",
+        Some(ValueFail::Number),
+    ),
+    (
+        PropId::Vertices,
+        "[[",
+        "1,",
+        32,
+        "\"x\"]]",
+        Some(ValueFail::Number),
+    ),
+    (PropId::Inequalities, "[[", "1,", 32, "\"1/2\"]]", None),
 ];
 
 #[test]
-fn long_rows_are_read(rt: HostRuntime) {
-    for (count, last, want) in LONG_ROWS {
-        let row = repeated(&rt, "1", *count, last);
-        let shown = long_value(&rt, PropId::Vertices, &row, 0, &row);
-        assert_eq!(rt; shown.as_str(), *want, "of {count} and {last}");
+fn long_values_are_read(rt: HostRuntime) {
+    for (p, first, item, count, last, want) in LONG {
+        let text = repeated(rt.alloc(), first, item, *count, last).expect(&rt, "the text");
+        assert!(rt;
+            read(&rt, *p, &text).err() == *want,
+            "of {count} {item} and {last}"
+        );
     }
-}
-
-fn read_matrix(rt: &(impl Abort + AllocGlobal), p: PropId, text: &str) -> Matrix {
-    match read(rt, p, text) {
-        Ok(PropertyValue::Mat(m)) => m,
-        _ => panic!(rt; "no matrix"),
-    }
-}
-
-fn read_sets(rt: &(impl Abort + AllocGlobal), p: PropId, text: &str) -> Sets {
-    match read(rt, p, text) {
-        Ok(PropertyValue::Sets(s)) => s,
-        _ => panic!(rt; "no sets"),
-    }
-}
-
-#[test]
-fn many_rows_are_read(rt: HostRuntime) {
-    let rows = repeated(&rt, "[1]", 2047, "[1]");
-    let m = read_matrix(&rt, PropId::LinealitySpace, &rows);
-    assert_eq!(rt; m.rows(), 2048);
-}
-
-#[test]
-fn wide_rows_are_read(rt: HostRuntime) {
-    let row = repeated(&rt, "1", 32, "\"1/2\"");
-    let rows = repeated(&rt, &row, 1, &row);
-    let m = read_matrix(&rt, PropId::Inequalities, &rows);
-    assert_eq!(rt; (m.rows(), m.cols()), (2, 33));
-}
-
-#[test]
-fn many_sets_are_read(rt: HostRuntime) {
-    let sets = repeated(&rt, "[2,1]", 2047, "[2,1]");
-    let s = read_sets(&rt, PropId::VerticesInFacets, &sets);
-    assert_eq!(rt; (s.rows().len(), s.cols()), (2048, 3));
 }

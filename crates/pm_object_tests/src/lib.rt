@@ -10,6 +10,6 @@ mod machine;
 #[cfg(test)]
 mod object;
 #[cfg(test)]
-mod running;
-#[cfg(test)]
 mod script;
+#[cfg(test)]
+mod values;

@@ -1,11 +1,11 @@
 // What no clause says: texts of replies, and lines as they are read, with memory at hand.
 
-use pm_fraction::Fraction;
+use crate::values::value_of;
 use pm_matrix::Matrix;
 use pm_script::{
     Command, LineFail, Ref, Refusal, Reply, ValueWhy, is_silent, read_line, reply_bytes, split_line,
 };
-use pm_types::{ObjectType, PropId, Sets, Value};
+use pm_types::{ObjectType, PropId, Value};
 use std::alloc::{AllocError, Global};
 use std::process::Abort;
 
@@ -105,41 +105,38 @@ const LINES: &[(&str, &str)] = &[
     ("rules", "-"),
 ];
 
-fn check_lines(rt: &(impl Abort + AllocGlobal), lines: &[(&str, &str)]) {
-    for (line, want) in lines {
-        assert_eq!(rt; shown(rt, line.as_bytes()).as_str(), *want, "in {line}");
-    }
+// Lines that are no UTF-8, and their words.
+const LINES_OF_BYTES: &[(&[u8], &str)] = &[(&[35, 255], "blank"), (&[116, 255], "-")];
+
+fn check_line(rt: &(impl Abort + AllocGlobal), line: &[u8], want: &str) {
+    assert!(rt; shown(rt, line).as_str() == want, "for {want}");
 }
 
 #[test]
 fn lines_are_read(rt: HostRuntime) {
-    check_lines(&rt, LINES);
-}
-
-// Lines that are no UTF-8, and their words.
-const LINES_OF_BYTES: &[(&[u8], &str)] = &[(&[35, 255], "blank"), (&[116, 255], "-")];
-
-#[test]
-fn lines_of_any_bytes_are_read(rt: HostRuntime) {
+    for (line, want) in LINES {
+        check_line(&rt, line.as_bytes(), want);
+    }
     for (line, want) in LINES_OF_BYTES {
-        assert_eq!(rt; shown(&rt, line).as_str(), *want);
+        check_line(&rt, line, want);
     }
 }
 
+// Texts, their first lines, whether these are silent, and the rest.
+const SPLIT: &[(&[u8], &[u8], bool, &[u8])] = &[
+    (b"give\r\n#\nlast\r", b"give", false, b"#\nlast\r"),
+    (b"#\nlast\r", b"#", true, b"last\r"),
+    (b"last\r", b"last\r", false, b""),
+];
+
 #[test]
 fn lines_are_split(rt: HostRuntime) {
-    let text: &[u8] = "give\r\n#\nlast\r".as_bytes();
-    assert!(rt; !text.is_empty());
-    let (first, after) = split_line(text);
-    assert!(rt;
-        first.text() == "give".as_bytes() && !first.is_too_long() && !is_silent(first.text())
-    );
-    assert!(rt; !after.is_empty());
-    let (second, after) = split_line(after);
-    assert!(rt; second.text() == "#".as_bytes() && is_silent(second.text()));
-    assert!(rt; !after.is_empty());
-    let (third, after) = split_line(after);
-    assert!(rt; third.text() == "last\r".as_bytes() && after.is_empty());
+    for (text, want, is_first_silent, rest) in SPLIT {
+        assert!(rt; !text.is_empty());
+        let (first, after) = split_line(text);
+        assert!(rt; first.text() == *want && after == *rest);
+        assert!(rt; is_silent(first.text()) == *is_first_silent);
+    }
 }
 
 fn check_reply(rt: &(impl Abort + AllocGlobal), reply: &Reply, is_refusal: bool, want: &str) {
@@ -160,67 +157,41 @@ fn check_written(rt: &(impl Abort + AllocGlobal), prop: PropId, value: Value, wa
     check_reply(rt, &reply, false, want);
 }
 
-#[test]
-fn matrices_are_written(rt: HostRuntime) {
-    let half = Fraction::new(-2, 4).expect(&rt, "a number");
-    let great = Fraction::from_whole(i128::MAX).expect(&rt, "a number");
-    let mut rays = Matrix::new(rt.alloc(), 2);
-    rays.push_row(&[Fraction::one(), half]).expect(&rt, "a row");
-    rays.push_row(&[Fraction::zero(), great])
-        .expect(&rt, "a row");
-    check_written(
-        &rt,
+// Values as they are read, and as they are written.
+const WRITTEN: &[(PropId, &str, &str)] = &[
+    (
         PropId::Vertices,
-        Value::Mat(rays),
+        "[[1,\"-2/4\"],[0,\"170141183460469231731687303715884105727\"]]",
         "c RAYS [[\"1\",\"-1/2\"],[\"0\",\"170141183460469231731687303715884105727\"]]\n",
-    );
+    ),
+    (PropId::Facets, "[]", "c FACETS []\n"),
+    (
+        PropId::VerticesInFacets,
+        "[[0,12],[]]",
+        "c RAYS_IN_FACETS [[0,12],[],{\"cols\":13}]\n",
+    ),
+    (
+        PropId::VerticesInFacets,
+        "[]",
+        "c RAYS_IN_FACETS [{\"cols\":0}]\n",
+    ),
+    (PropId::ConeAmbientDim, "33", "c CONE_AMBIENT_DIM 33\n"),
+    (PropId::LinealityDim, "-33", "c LINEALITY_DIM -33\n"),
+    (PropId::Pointed, "true", "c POINTED true\n"),
+    (PropId::FullDim, "false", "c FULL_DIM false\n"),
+];
+
+#[test]
+fn values_are_written(rt: HostRuntime) {
+    for (prop, text, want) in WRITTEN {
+        check_written(&rt, *prop, value_of(&rt, *prop, text), want);
+    }
 }
 
 #[test]
-fn matrices_without_rows_are_written(rt: HostRuntime) {
-    let empty = Value::Mat(Matrix::new(rt.alloc(), 0));
-    check_written(&rt, PropId::Facets, empty, "c FACETS []\n");
+fn columns_of_no_rows_are_written(rt: HostRuntime) {
     let empty = Value::Mat(Matrix::new(rt.alloc(), 3));
     check_written(&rt, PropId::Facets, empty, "c FACETS [{\"cols\":3}]\n");
-}
-
-// Two sets, the second empty.
-fn two_sets(rt: &(impl Abort + AllocGlobal)) -> Value {
-    let mut sets = Vec::new(rt.alloc());
-    let first = vec![in rt.alloc(); 0, 12].expect(rt, "a set");
-    sets.push(first).expect(rt, "the sets");
-    sets.push(Vec::new(rt.alloc())).expect(rt, "the sets");
-    Value::Sets(Sets::from_vec(sets, 13))
-}
-
-#[test]
-fn sets_are_written(rt: HostRuntime) {
-    check_written(
-        &rt,
-        PropId::VerticesInFacets,
-        two_sets(&rt),
-        "c RAYS_IN_FACETS [[0,12],[],{\"cols\":13}]\n",
-    );
-    let none = Sets::from_vec(Vec::new(rt.alloc()), 0);
-    check_written(
-        &rt,
-        PropId::VerticesInFacets,
-        Value::Sets(none),
-        "c RAYS_IN_FACETS [{\"cols\":0}]\n",
-    );
-}
-
-#[test]
-fn numbers_and_truth_values_are_written(rt: HostRuntime) {
-    let number = Value::Int(-33);
-    check_written(
-        &rt,
-        PropId::ConeAmbientDim,
-        number,
-        "c CONE_AMBIENT_DIM -33\n",
-    );
-    check_written(&rt, PropId::Pointed, Value::Bool(true), "c POINTED true\n");
-    check_written(&rt, PropId::Simple, Value::Bool(false), "c SIMPLE false\n");
 }
 
 // Refusals and their lines.
