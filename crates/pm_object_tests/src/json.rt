@@ -263,13 +263,23 @@ const LONG: &[(PropId, &str, &str, u32, &str, Option<ValueFail>)] = &[
     (PropId::Inequalities, "[[", "1,", 32, "\"1/2\"]]", None),
 ];
 
+// The fault of such a text.
+fn fault_of(
+    rt: &(impl Abort + AllocGlobal),
+    p: PropId,
+    first: &str,
+    item: &str,
+    count: u32,
+    last: &str,
+) -> Option<ValueFail> {
+    let text = repeated(rt.alloc(), first, item, count, last).expect(rt, "the text");
+    read(rt, p, &text).err()
+}
+
 #[test]
 fn long_values_are_read(rt: HostRuntime) {
     for (p, first, item, count, last, want) in LONG {
-        let text = repeated(rt.alloc(), first, item, *count, last).expect(&rt, "the text");
-        assert!(rt;
-            read(&rt, *p, &text).err() == *want,
-            "of {count} {item} and {last}"
-        );
+        let fault = fault_of(&rt, *p, first, item, *count, last);
+        assert!(rt; fault == *want, "with {last} behind {count}");
     }
 }

@@ -104,13 +104,23 @@ fn settled(
     object
 }
 
+fn check_settled(
+    rt: &impl Abort,
+    object: &Object,
+    dimension: i64,
+    without_rows: &[PropId],
+    names: &[PropId],
+) {
+    check_is_number(rt, object.lookup(PropId::ConeAmbientDim), dimension);
+    check_without_rows(rt, object, without_rows);
+    assert!(rt; object.names() == PropSet::of_list(names));
+}
+
 #[test]
 fn values_are_taken_and_go_without_saying(rt: HostRuntime) {
     for (of, given, dimension, without_rows, names) in SETTLED {
         let object = settled(&rt, *of, given);
-        check_is_number(&rt, object.lookup(PropId::ConeAmbientDim), *dimension);
-        check_without_rows(&rt, &object, without_rows);
-        assert!(rt; object.names() == PropSet::of_list(names));
+        check_settled(&rt, &object, *dimension, without_rows, names);
     }
 }
 
