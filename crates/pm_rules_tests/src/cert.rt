@@ -1,11 +1,8 @@
 // The answers on small books.
 
-use crate::kinds::{kind, names_of_cones};
+use crate::kinds::{book_of_classes, book_of_forty, names_of_cones};
 use pm_cert::verify;
-use pm_rules::{
-    Book, Claim, ClientName, Cost, PropId, PropSet, RuleId, Table, TableRow, read_book,
-    standard_book,
-};
+use pm_rules::{Book, Claim, Cost, PropId, PropSet, RuleId, Table, TableRow, standard_book};
 use std::alloc::{AllocError, Global};
 use std::process::Abort;
 
@@ -39,16 +36,6 @@ fn start_alone(alloc: Global, held: PropSet) -> Result<Table, AllocError> {
     Ok(Table { rows })
 }
 
-// A book of one rule of weight 40.
-fn book_of_forty(rt: &(impl Abort + AllocGlobal)) -> Book {
-    let text =
-        "d : rule VERTICES, LINEALITY_SPACE : INEQUALITIES, EQUATIONS { dd_vertices } weight 40;";
-    let name = ClientName::new("dd_vertices").expect(rt, "a name");
-    let targets = [PropId::Vertices, PropId::LinealitySpace];
-    let sources = [PropId::Inequalities, PropId::Equations];
-    read_book(rt.alloc(), text, &[kind(name, &targets, &sources)]).expect(rt, "a book")
-}
-
 // Rules that are barred, what is claimed, and whether a table proves it.
 type Asked = (&'static [RuleId], Least, bool);
 
@@ -65,7 +52,14 @@ const WITHOUT_ROWS: &[Asked] = &[
     (&[RuleId(0)], None, false),
 ];
 
-// That the table proves what it should, and no more.
+// Whether the table proves what it should, and no more.
+fn is_right(book: &Book, held: PropSet, asked: PropId, table: &Table, claim: &Asked) -> bool {
+    let (barred, least, want) = claim;
+    let names = names_of_cones();
+    let asked = PropSet::of(asked);
+    verify(book, names, held, barred, asked, table, claim_of(*least)) == *want
+}
+
 fn check_claims(
     rt: &impl Abort,
     book: &Book,
@@ -74,21 +68,27 @@ fn check_claims(
     table: &Table,
     claims: &[Asked],
 ) {
-    let names = names_of_cones();
-    let asked = PropSet::of(asked);
-    for (barred, least, want) in claims {
-        assert_eq!(rt;
-            verify(book, names, held, barred, asked, table, claim_of(*least)),
-            *want
-        );
+    for claim in claims {
+        assert!(rt; is_right(book, held, asked, table, claim));
     }
+}
+
+// The same of the table of the held names alone.
+fn check_start(
+    rt: &(impl Abort + AllocGlobal),
+    book: &Book,
+    held: PropSet,
+    asked: PropId,
+    claims: &[Asked],
+) {
+    let start = start_alone(rt.alloc(), held).expect(rt, "a table");
+    check_claims(rt, book, held, asked, &start, claims);
 }
 
 #[test]
 fn one_rule_of_weight_forty(rt: HostRuntime) {
     let book = book_of_forty(&rt);
-    let start = start_alone(rt.alloc(), held()).expect(&rt, "a table");
-    check_claims(&rt, &book, held(), PropId::Vertices, &start, WITH_START);
+    check_start(&rt, &book, held(), PropId::Vertices, WITH_START);
 }
 
 #[test]
@@ -98,20 +98,6 @@ fn no_row_for_the_start(rt: HostRuntime) {
         rows: Vec::new(rt.alloc()),
     };
     check_claims(&rt, &book, held(), PropId::Vertices, &empty, WITHOUT_ROWS);
-}
-
-// A book with a rule of class 1, and one of class 0.
-fn book_of_classes(rt: &(impl Abort + AllocGlobal)) -> Book {
-    let points = ClientName::new("cone_dim_points").expect(rt, "a name");
-    let span = ClientName::new("cone_dim_span").expect(rt, "a name");
-    let generators = [PropId::Points, PropId::InputLineality];
-    let kinds = [
-        kind(points, &[PropId::ConeDim], &generators),
-        kind(span, &[PropId::ConeDim], &[PropId::AffineHull]),
-    ];
-    let text =
-        "a : rule CONE_DIM : POINTS, INPUT_LINEALITY { cone_dim_points } weight 1.0; b : rule CONE_DIM : AFFINE_HULL { cone_dim_span } weight 999999;";
-    read_book(rt.alloc(), text, &kinds).expect(rt, "a book")
 }
 
 const CLASSES: &[Asked] = &[
@@ -137,14 +123,12 @@ fn classes_count_first(rt: HostRuntime) {
         PropId::InputLineality,
         PropId::AffineHull,
     ]);
-    let start = start_alone(rt.alloc(), held).expect(&rt, "a table");
-    check_claims(&rt, &book, held, PropId::ConeDim, &start, CLASSES);
+    check_start(&rt, &book, held, PropId::ConeDim, CLASSES);
 }
 
 #[test]
 fn the_standard_book(rt: HostRuntime) {
     let book = standard_book(rt.alloc()).expect(&rt, "the book");
     let held = PropSet::of_list(&[PropId::Vertices, PropId::Facets]);
-    let start = start_alone(rt.alloc(), held).expect(&rt, "a table");
-    check_claims(&rt, &book, held, PropId::VerticesInFacets, &start, STANDARD);
+    check_start(&rt, &book, held, PropId::VerticesInFacets, STANDARD);
 }

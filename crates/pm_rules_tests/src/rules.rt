@@ -1,74 +1,45 @@
 // Books read and printed, and the places of faults.
 
+use crate::kinds::{CLASSES, book_of_classes, kind};
 use pm_rules::{
     Book, BookFail, Claim, Cost, Step, Tag, book_text, is_barred, read_book, standard_book,
 };
-use pm_types::{ClientName, Kind, PropId, PropSet, RuleId, standard_kinds};
+use pm_types::{ClientName, Kind, PropId, PropSet, RuleId, StandardClient, standard_kinds};
 use std::alloc::{AllocError, Global};
 use std::process::Abort;
 
-fn kind(name: &str, targets: &[PropId], sources: &[PropId]) -> Option<Kind> {
-    let name = ClientName::new(name)?;
-    Some(Kind {
-        name,
-        targets: PropSet::of_list(targets),
-        sources: PropSet::of_list(sources),
-        must: PropSet::empty(),
-        must_not: PropSet::empty(),
-    })
-}
-
-fn kinds(alloc: Global) -> Result<Vec<Kind>, AllocError> {
-    let mut list = Vec::new(alloc);
-    if let Some(found) = kind(
-        "cone_dim_v",
-        &[PropId::ConeDim],
-        &[PropId::Vertices, PropId::LinealitySpace],
-    ) {
-        list.push(found)?;
-    }
-    if let Some(found) = kind(
-        "h_vector",
-        &[PropId::HVector],
-        &[PropId::FVector, PropId::CombinatorialDim],
-    ) {
-        let demanding = Kind {
-            must: PropSet::of_list(&[PropId::Bounded, PropId::Simplicial]),
-            ..found
-        };
-        list.push(demanding)?;
-    }
-    if let Some(found) = kind(
-        "lp_max_face",
-        &[PropId::MaximalFace],
-        &[
-            PropId::Vertices,
-            PropId::MaximalValue,
-            PropId::LinearObjective,
-        ],
-    ) {
-        list.push(found)?;
-    }
-    Ok(list)
-}
-
-fn read(rt: &(impl Abort + AllocGlobal), text: &str, list: &[Kind]) -> Book {
-    match read_book(rt.alloc(), text, list) {
-        Ok(book) => book,
-        Err(fail) => panic!(rt; "{fail:?} in {text}"),
+// A kind under a condition.
+fn kind_of_h_vectors() -> Kind {
+    let name = ClientName::new("h_vector").unwrap();
+    let sources = &[PropId::FVector, PropId::CombinatorialDim];
+    Kind {
+        must: PropSet::of_list(&[PropId::Bounded, PropId::Simplicial]),
+        ..kind(name, &[PropId::HVector], sources)
     }
 }
 
-fn printed(rt: &(impl Abort + AllocGlobal), book: &Book) -> String {
-    book_text(rt.alloc(), book).expect(rt, "the text")
+// A kind that finds a property of linear programs.
+fn kind_of_programs() -> Kind {
+    let name = ClientName::new("lp_max_face").unwrap();
+    let sources = &[
+        PropId::Vertices,
+        PropId::MaximalValue,
+        PropId::LinearObjective,
+    ];
+    kind(name, &[PropId::MaximalFace], sources)
 }
 
-fn fault(rt: &(impl Abort + AllocGlobal), text: &str) -> Option<BookFail> {
-    let list = kinds(rt.alloc()).expect(rt, "the kinds");
-    match read_book(rt.alloc(), text, list.as_slice()) {
-        Ok(_) => None,
-        Err(fail) => Some(fail),
-    }
+fn kinds() -> [Kind; 3] {
+    [
+        StandardClient::ConeDimV.kind(),
+        kind_of_h_vectors(),
+        kind_of_programs(),
+    ]
+}
+
+// Whether this is the fault of a text over these kinds.
+fn has_fault(alloc: Global, text: &str, want: Option<BookFail>) -> bool {
+    read_book(alloc, text, &kinds()).err() == want
 }
 
 // Books and their faults.
@@ -177,7 +148,7 @@ const FAULTS: &[(&str, Option<BookFail>)] = &[
 #[test]
 fn faults_have_their_places(rt: HostRuntime) {
     for (text, want) in FAULTS {
-        assert_eq!(rt; fault(&rt, text), *want, "{text}");
+        assert!(rt; has_fault(rt.alloc(), text, *want), "{text}");
     }
 }
 
@@ -187,24 +158,35 @@ const BOOK: &str =
 const BOOK_AS_PRINTED: &str =
     "h : rule H_VECTOR : COMBINATORIAL_DIM, F_VECTOR { h_vector } weight 2.3; precondition : BOUNDED, ! POINTED, SIMPLICIAL;\ndim : rule CONE_DIM : VERTICES, LINEALITY_SPACE { cone_dim_v } weight 7;\nface : rule LP.MAXIMAL_FACE : VERTICES, LP.LINEAR_OBJECTIVE, LP.MAXIMAL_VALUE { lp_max_face } weight 1000000.0;\n";
 
-// The book that a text spells, over the kinds above.
-fn book_of(rt: &(impl Abort + AllocGlobal), text: &str) -> Book {
-    let list = kinds(rt.alloc()).expect(rt, "the kinds");
-    read(rt, text, &list)
+// Whether the book has this text.
+fn has_text(alloc: Global, book: &Book, want: &str) -> bool {
+    match book_text(alloc, book) {
+        Ok(text) => text.as_str() == want,
+        Err(_) => false,
+    }
+}
+
+// Whether a book is read from a text, and has another one when it is printed.
+fn is_read(alloc: Global, text: &str, kinds: &[Kind], want: &str) -> bool {
+    match read_book(alloc, text, kinds) {
+        Ok(book) => has_text(alloc, &book, want),
+        Err(_) => false,
+    }
 }
 
 #[test]
 fn a_book_is_read_and_printed(rt: HostRuntime) {
-    let book = book_of(&rt, BOOK);
-    assert_eq!(rt; book.len(), 3);
-    assert_eq!(rt; printed(&rt, &book).as_str(), BOOK_AS_PRINTED);
+    assert!(rt; is_read(rt.alloc(), BOOK, &kinds(), BOOK_AS_PRINTED));
 }
 
 #[test]
 fn a_printed_book_is_read_back(rt: HostRuntime) {
-    let book = book_of(&rt, BOOK);
-    let again = book_of(&rt, BOOK_AS_PRINTED);
-    assert_eq!(rt; again.rules(), book.rules());
+    assert!(rt; is_read(rt.alloc(), BOOK_AS_PRINTED, &kinds(), BOOK_AS_PRINTED));
+}
+
+#[test]
+fn classes_are_read_and_printed(rt: HostRuntime) {
+    assert!(rt; has_text(rt.alloc(), &book_of_classes(&rt), CLASSES));
 }
 
 const STANDARD_BOOK: &str =
@@ -228,42 +210,48 @@ fn standard(rt: &(impl Abort + AllocGlobal)) -> Book {
 
 #[test]
 fn the_standard_book_is_printed(rt: HostRuntime) {
-    let book = standard(&rt);
-    assert_eq!(rt; printed(&rt, &book).as_str(), STANDARD_BOOK);
-    assert_eq!(rt; book.len(), 13);
-    assert!(rt; !book.is_empty());
+    assert!(rt; has_text(rt.alloc(), &standard(&rt), STANDARD_BOOK));
 }
 
 #[test]
 fn the_standard_book_is_read_back(rt: HostRuntime) {
     let list = standard_kinds(rt.alloc()).expect(&rt, "the kinds");
-    let again = read(&rt, STANDARD_BOOK, &list);
-    let book = standard(&rt);
-    assert_eq!(rt; again.rules(), book.rules());
+    assert!(rt; is_read(rt.alloc(), STANDARD_BOOK, &list, STANDARD_BOOK));
 }
 
-// Whether the standard book's rule for incidences is enabled, for these names and for what is barred and held.
-fn is_enabled(
-    rt: &(impl Abort + AllocGlobal),
-    names: PropSet,
-    barred: &[RuleId],
-    held: PropSet,
-) -> bool {
-    let book = standard(rt);
-    let rule = book.rule(RuleId(12)).expect(rt, "the rule");
-    rule.is_enabled(names, barred, held, RuleId(12))
+// The rule for incidences, and properties of a cone with both descriptions.
+const INCIDENCE: RuleId = RuleId(12);
+
+const BOTH: &[PropId] = &[PropId::Vertices, PropId::Facets];
+
+const ALL: &[PropId] = &[PropId::Vertices, PropId::Facets, PropId::VerticesInFacets];
+
+// Names, what is barred and held, and whether the rule is enabled: once, and not where facets are missing.
+const ENABLED: &[(&[PropId], &[RuleId], &[PropId], bool)] = &[
+    (ALL, &[], BOTH, true),
+    (BOTH, &[], BOTH, false),
+    (ALL, &[INCIDENCE], BOTH, false),
+    (ALL, &[], ALL, false),
+    (ALL, &[], &[PropId::Vertices], false),
+];
+
+// Whether the book's rule for incidences is enabled.
+fn is_enabled(book: &Book, names: &[PropId], barred: &[RuleId], held: &[PropId]) -> bool {
+    match book.rule(INCIDENCE) {
+        Some(rule) => {
+            let held = PropSet::of_list(held);
+            rule.is_enabled(PropSet::of_list(names), barred, held, INCIDENCE)
+        }
+        None => false,
+    }
 }
 
-// A cone with both descriptions: incidences can be found, once, and not where facets are missing.
 #[test]
 fn rules_are_enabled(rt: HostRuntime) {
-    let both = PropSet::of_list(&[PropId::Vertices, PropId::Facets]);
-    let all = both.with(PropId::VerticesInFacets);
-    assert!(rt; is_enabled(&rt, all, &[], both));
-    assert!(rt; !is_enabled(&rt, both, &[], both));
-    assert!(rt; !is_enabled(&rt, all, &[RuleId(12)], both));
-    assert!(rt; !is_enabled(&rt, all, &[], all));
-    assert!(rt; !is_enabled(&rt, all, &[], PropSet::of(PropId::Vertices)));
+    let book = standard(&rt);
+    for (names, barred, held, want) in ENABLED {
+        assert!(rt; is_enabled(&book, names, barred, held) == *want);
+    }
 }
 
 #[test]
@@ -298,61 +286,38 @@ fn push_rule(alloc: Global, text: &mut String, number: u32) -> Result<(), AllocE
     text.push_str(line.as_str())
 }
 
-// A book of 256 rules.
-fn full_book(rt: &(impl Abort + AllocGlobal)) -> String {
-    let mut text = String::new(rt.alloc());
-    for number in 0..256 {
-        push_rule(rt.alloc(), &mut text, number).expect(rt, "a rule");
+// A book of so many rules, and another one of this number.
+fn long_book(alloc: Global, count: u32, last: u32) -> Result<String, AllocError> {
+    let mut text = String::new(alloc);
+    for number in 0..count {
+        push_rule(alloc, &mut text, number)?;
     }
-    text
+    push_rule(alloc, &mut text, last)?;
+    Ok(text)
 }
 
-// A book of 256 rules, and another one, of that number.
-fn book_with_one_too_many(rt: &(impl Abort + AllocGlobal), number: u32) -> String {
-    let mut text = full_book(rt);
-    push_rule(rt.alloc(), &mut text, number).expect(rt, "a rule");
-    text
+// Whether this is the fault of such a book.
+fn has_long_fault(alloc: Global, count: u32, last: u32, want: Option<BookFail>) -> bool {
+    match long_book(alloc, count, last) {
+        Ok(text) => has_fault(alloc, text.as_str(), want),
+        Err(_) => false,
+    }
 }
+
+// The numbers of such books, and their faults: a book has at most 256 rules, and of a rule that is one too many the
+// label is looked at first.
+const LONG_BOOKS: &[(u32, u32, Option<BookFail>)] = &[
+    (255, 255, None),
+    (256, 256, Some(BookFail::TooManyRules(19_090))),
+    (256, 0, Some(BookFail::SameLabel(19_090))),
+];
 
 #[test]
 fn a_book_has_at_most_256_rules(rt: HostRuntime) {
-    let text = full_book(&rt);
-    assert_eq!(rt; fault(&rt, text.as_str()), None);
-    let longer = book_with_one_too_many(&rt, 256);
-    let want = Some(BookFail::TooManyRules(text.len()));
-    assert_eq!(rt; fault(&rt, longer.as_str()), want);
-}
-
-// Of a rule that is one too many the label is looked at first.
-#[test]
-fn an_old_label_is_found_first(rt: HostRuntime) {
-    let place = full_book(&rt).len();
-    let longer = book_with_one_too_many(&rt, 0);
-    let want = Some(BookFail::SameLabel(place));
-    assert_eq!(rt; fault(&rt, longer.as_str()), want);
-}
-
-// Two kinds that find CONE_DIM.
-fn kinds_of_dimensions(alloc: Global) -> Result<Vec<Kind>, AllocError> {
-    let mut list = Vec::new(alloc);
-    if let Some(found) = kind(
-        "cone_dim_points",
-        &[PropId::ConeDim],
-        &[PropId::Points, PropId::InputLineality],
-    ) {
-        list.push(found)?;
+    for (count, last, want) in LONG_BOOKS {
+        assert!(rt;
+            has_long_fault(rt.alloc(), *count, *last, *want),
+            "{count}, {last}"
+        );
     }
-    if let Some(found) = kind("cone_dim_span", &[PropId::ConeDim], &[PropId::AffineHull]) {
-        list.push(found)?;
-    }
-    Ok(list)
-}
-
-#[test]
-fn classes_are_read_and_printed(rt: HostRuntime) {
-    let list = kinds_of_dimensions(rt.alloc()).expect(&rt, "the kinds");
-    let text =
-        "a : rule CONE_DIM : POINTS, INPUT_LINEALITY { cone_dim_points } weight 1.0;\nb : rule CONE_DIM : AFFINE_HULL { cone_dim_span } weight 999999;\n";
-    let book = read(&rt, text, &list);
-    assert_eq!(rt; printed(&rt, &book).as_str(), text);
 }

@@ -1,15 +1,9 @@
 // Names, sets, weights, the standard kinds and values.
 
-ghost use Rattle.std.specs.Prelude.{length, ◌≡◌};
-
-use pm_fraction::Fraction;
-use pm_matrix::Matrix;
 use pm_types::{
-    ClientName, Cost, Kind, ObjectType, PropId, PropSet, Sets, StandardClient, Value, Weight,
-    standard_kinds,
+    ClientName, Cost, ObjectType, PropId, PropSet, Sets, StandardClient, Value, Weight,
 };
 use std::alloc::{AllocError, Global};
-use std::process::Abort;
 
 // Properties by their names.
 const NAMES: &[(&str, Option<PropId>)] = &[
@@ -46,7 +40,7 @@ fn properties_are_found_by_their_names(rt: HostRuntime) {
 #[test]
 fn properties_are_found_by_their_names_in_a_type(rt: HostRuntime) {
     for (of, text, want) in NAMES_IN_TYPES {
-        assert!(rt; PropId::named_in(*of, text) == *want, "{of:?} {text}");
+        assert!(rt; PropId::named_in(*of, text) == *want, "{text}");
     }
 }
 
@@ -57,88 +51,86 @@ fn properties_of_programs_are_found_by_their_names(rt: HostRuntime) {
     }
 }
 
-// The list of a set, in the order of the properties.
+// Properties, and the list of their set: in the order of the properties.
+const GIVEN: &[PropId] = &[PropId::MinimalDual, PropId::Points, PropId::ConeAmbientDim];
+
 const LISTED: &[PropId] = &[PropId::ConeAmbientDim, PropId::Points, PropId::MinimalDual];
 
-#[test]
-fn sets_are_listed(rt: HostRuntime) {
-    let set = PropSet::of_list(&[PropId::MinimalDual, PropId::Points, PropId::ConeAmbientDim]);
-    let list = set.to_list(rt.alloc()).expect(&rt, "the list");
-    assert_eq!(rt; list.as_slice(), LISTED);
-}
-
-// What is no name: 33 bytes, and a letter of two.
-const NO_NAMES: &[&str] = &["abcdefghijklmnopqrstuvwxyz_123456", "\u{e9}"];
-
-#[test]
-fn names_of_clients_are_short(rt: HostRuntime) {
-    let longest = "abcdefghijklmnopqrstuvwxyz_12345";
-    let name = ClientName::new(longest).expect(&rt, "32 bytes are a name");
-    assert_eq!(rt; name.as_str(), longest);
-    assert!(rt; ClientName::new("incidence") != Some(name));
-    for text in NO_NAMES {
-        assert!(rt; ClientName::new(text).is_none(), "{text}");
+// Whether this is the list of the set.
+fn is_list(alloc: Global, set: PropSet, want: &[PropId]) -> bool {
+    match set.to_list(alloc) {
+        Ok(list) => list.as_slice() == want,
+        Err(_) => false,
     }
 }
 
-// The class and the minor part of a weight, and its text.
-const WEIGHTS: &[(u32, u32, &str)] = &[
-    (0, 5, "5"),
-    (1, 0, "1.0"),
-    (2, 30, "2.30"),
-    (0, 1_000_000, "1000000"),
+#[test]
+fn sets_are_listed(rt: HostRuntime) {
+    assert!(rt; is_list(rt.alloc(), PropSet::of_list(GIVEN), LISTED));
+}
+
+// Texts, and whether they are names: 32 bytes, 33, and a letter of two.
+const NAMES_OF_CLIENTS: &[(&str, bool)] = &[
+    ("incidence", true),
+    ("abcdefghijklmnopqrstuvwxyz_12345", true),
+    ("abcdefghijklmnopqrstuvwxyz_123456", false),
+    ("\u{e9}", false),
 ];
 
 #[test]
+fn names_of_clients_are_short(rt: HostRuntime) {
+    for (text, want) in NAMES_OF_CLIENTS {
+        assert!(rt; ClientName::new(text).is_some() == *want, "{text}");
+    }
+}
+
+// Weights and their texts.
+const WEIGHTS: &[(Weight, &str)] = &[
+    (Weight { class: 0, minor: 5 }, "5"),
+    (Weight { class: 1, minor: 0 }, "1.0"),
+    (
+        Weight {
+            class: 2,
+            minor: 30,
+        },
+        "2.30",
+    ),
+    (
+        Weight {
+            class: 0,
+            minor: 1_000_000,
+        },
+        "1000000",
+    ),
+];
+
+// Whether this is the text of the weight.
+fn is_printed(alloc: Global, weight: Weight, want: &str) -> bool {
+    match weight.to_string(alloc) {
+        Ok(text) => text.as_str() == want,
+        Err(_) => false,
+    }
+}
+
+#[test]
 fn weights_are_printed(rt: HostRuntime) {
-    for (class, minor, want) in WEIGHTS {
-        let weight = Weight {
-            class: *class,
-            minor: *minor,
-        };
-        let printed = weight.to_string(rt.alloc()).expect(&rt, "the text");
-        assert_eq!(rt; printed.as_str(), *want);
+    for (weight, want) in WEIGHTS {
+        assert!(rt; is_printed(rt.alloc(), *weight, want), "{want}");
+    }
+}
+
+// Whether this is the text of the cost.
+fn is_cost_printed(alloc: Global, cost: Cost, want: &str) -> bool {
+    match cost.to_string(alloc) {
+        Ok(text) => text.as_str() == want,
+        Err(_) => false,
     }
 }
 
 #[test]
 fn costs_are_printed(rt: HostRuntime) {
-    let cost = Cost::none().plus(Weight { class: 1, minor: 2 });
-    let printed = cost.to_string(rt.alloc()).expect(&rt, "the text");
-    assert_eq!(rt; printed.as_str(), "1.2");
-}
-
-const STANDARD_NAMES: &str = "\
-points_from_vertices
-inequalities_from_facets
-lineality_from_facets
-hull_from_vertices
-cone_dim_v
-cone_dim_span
-cone_dim_points
-lineality_dim
-combinatorial_dim
-feasible
-pointed
-full_dim
-incidence
-";
-
-// The names of kinds, a line each.
-fn names_of(alloc: Global, kinds: &[Kind]) -> Result<String, AllocError> {
-    let mut names = String::new(alloc);
-    for kind in kinds {
-        names.push_str(kind.name.as_str())?;
-        names.push_str("\n")?;
-    }
-    Ok(names)
-}
-
-#[test]
-fn the_standard_kinds_have_names(rt: HostRuntime) {
-    let kinds = standard_kinds(rt.alloc()).expect(&rt, "the kinds");
-    let names = names_of(rt.alloc(), &kinds).expect(&rt, "the names");
-    assert_eq!(rt; names.as_str(), STANDARD_NAMES);
+    let cost = Cost { class: 1, minor: 2 };
+    assert!(rt; is_cost_printed(rt.alloc(), cost, "1.2"));
 }
 
 // Standard clients, and the properties that their kinds name.
@@ -170,12 +162,16 @@ const NAMED: &[(StandardClient, &[PropId])] = &[
     ),
 ];
 
+// Whether the client's kind is of cones, and names these properties.
+fn has_names(client: StandardClient, names: &[PropId]) -> bool {
+    let kind = client.kind();
+    kind.is_of(ObjectType::Cone) && kind.names() == PropSet::of_list(names)
+}
+
 #[test]
 fn kinds_name_properties(rt: HostRuntime) {
     for (client, names) in NAMED {
-        let kind = client.kind();
-        assert_eq!(rt; kind.names(), PropSet::of_list(names), "{client:?}");
-        assert!(rt; kind.is_of(ObjectType::Cone), "{client:?}");
+        assert!(rt; has_names(*client, names), "{client:?}");
     }
 }
 
@@ -188,36 +184,21 @@ fn kinds_are_of_types(rt: HostRuntime) {
     assert!(rt; StandardClient::Pointed.kind().is_of(ObjectType::Fan));
 }
 
-fn copied(rt: &(impl Abort + AllocGlobal), value: Value) -> Value {
-    value.copy(rt.alloc()).expect(rt, "the copy")
-}
-
-// A matrix of one row of two entries.
-fn matrix_of(rt: &(impl Abort + AllocGlobal), row: &[Fraction]) -> Matrix
-    requires { length row.now ≡ 2 }
-{
-    let mut matrix = Matrix::new(rt.alloc(), 2);
-    matrix.push_row(row).expect(rt, "a row");
-    matrix
-}
-
-#[test]
-fn matrices_are_copied(rt: HostRuntime) {
-    let half = Fraction::new(1, 2).expect(&rt, "a number");
-    let matrix = matrix_of(&rt, &[Fraction::one(), half]);
-    let copy = copied(&rt, Value::Mat(matrix));
-    assert!(rt; matches!(copy, Value::Mat(_)));
-}
-
 // The set of 0 and 2, alone.
-fn one_set(rt: &(impl Abort + AllocGlobal)) -> Sets {
-    let set = vec![in rt.alloc(); 0, 2].expect(rt, "a set");
-    let sets = vec![in rt.alloc(); set].expect(rt, "the sets");
-    Sets::from_vec(sets, 3)
+fn one_set(alloc: Global) -> Result<Value, AllocError> {
+    let set = vec![in alloc; 0, 2]?;
+    let sets = vec![in alloc; set]?;
+    Ok(Value::Sets(Sets::from_vec(sets, 3)))
 }
 
+// Whether memory suffices for a copy.
+fn is_copied(alloc: Global, value: &Value) -> bool {
+    value.copy(alloc).is_ok()
+}
+
+// Copies of matrices are tested with the objects that hold them.
 #[test]
 fn sets_are_copied(rt: HostRuntime) {
-    let copy = copied(&rt, Value::Sets(one_set(&rt)));
-    assert!(rt; matches!(copy, Value::Sets(_)));
+    let value = one_set(rt.alloc()).expect(&rt, "the sets");
+    assert!(rt; is_copied(rt.alloc(), &value));
 }
