@@ -5,49 +5,44 @@ use pm_types::{
 };
 use std::alloc::{AllocError, Global};
 
+// The names among which one is looked up: those of all properties, of one type of objects, and of linear programs.
+enum Among {
+    All,
+    Of(ObjectType),
+    Programs,
+}
+
 // Properties by their names.
-const NAMES: &[(&str, Option<PropId>)] = &[
-    ("VERTICES", Some(PropId::Vertices)),
-    ("RAYS", Some(PropId::Vertices)),
-    ("FAN_AMBIENT_DIM", Some(PropId::ConeAmbientDim)),
-    ("LP.MAXIMAL_FACE", Some(PropId::MaximalFace)),
-    ("MAXIMAL_FACE", None),
-    ("rays", None),
-    ("", None),
+const NAMES: &[(Among, &str, Option<PropId>)] = &[
+    (Among::All, "VERTICES", Some(PropId::Vertices)),
+    (Among::All, "RAYS", Some(PropId::Vertices)),
+    (Among::All, "FAN_AMBIENT_DIM", Some(PropId::ConeAmbientDim)),
+    (Among::All, "LP.MAXIMAL_FACE", Some(PropId::MaximalFace)),
+    (Among::All, "MAXIMAL_FACE", None),
+    (Among::All, "rays", None),
+    (Among::All, "", None),
+    (Among::Of(ObjectType::Cone), "RAYS", Some(PropId::Vertices)),
+    (Among::Of(ObjectType::Polytope), "RAYS", None),
+    (Among::Of(ObjectType::Fan), "FACETS", None),
+    (Among::Programs, "MAXIMAL_FACE", Some(PropId::MaximalFace)),
+    (Among::Programs, "LP.MAXIMAL_FACE", None),
+    (Among::Programs, "FACETS", None),
 ];
 
-// Those of one type of objects.
-const NAMES_IN_TYPES: &[(ObjectType, &str, Option<PropId>)] = &[
-    (ObjectType::Cone, "RAYS", Some(PropId::Vertices)),
-    (ObjectType::Polytope, "RAYS", None),
-    (ObjectType::Fan, "FACETS", None),
-];
-
-// Those of linear programs.
-const NAMES_IN_PROGRAMS: &[(&str, Option<PropId>)] = &[
-    ("MAXIMAL_FACE", Some(PropId::MaximalFace)),
-    ("LP.MAXIMAL_FACE", None),
-    ("FACETS", None),
-];
+// Whether this is the property of that name, or there is none.
+fn is_named(among: &Among, text: &str, want: Option<PropId>) -> bool {
+    let found = match among {
+        Among::All => PropId::named(text),
+        Among::Of(of) => PropId::named_in(*of, text),
+        Among::Programs => PropId::program_named(text),
+    };
+    found == want
+}
 
 #[test]
 fn properties_are_found_by_their_names(rt: HostRuntime) {
-    for (text, want) in NAMES {
-        assert!(rt; PropId::named(text) == *want, "{text}");
-    }
-}
-
-#[test]
-fn properties_are_found_by_their_names_in_a_type(rt: HostRuntime) {
-    for (of, text, want) in NAMES_IN_TYPES {
-        assert!(rt; PropId::named_in(*of, text) == *want, "{text}");
-    }
-}
-
-#[test]
-fn properties_of_programs_are_found_by_their_names(rt: HostRuntime) {
-    for (text, want) in NAMES_IN_PROGRAMS {
-        assert!(rt; PropId::program_named(text) == *want, "{text}");
+    for (among, text, want) in NAMES {
+        assert!(rt; is_named(among, text, *want), "{text}");
     }
 }
 
@@ -133,8 +128,9 @@ fn costs_are_printed(rt: HostRuntime) {
     assert!(rt; is_cost_printed(rt.alloc(), cost, "1.2"));
 }
 
-// Standard clients, and the properties that their kinds name.
-const NAMED: &[(StandardClient, &[PropId])] = &[
+// Standard clients, the properties that their kinds name, a type, and whether the kind is of it: FEASIBLE is of
+// polytopes alone, and fans have no facets.
+const NAMED: &[(StandardClient, &[PropId], ObjectType, bool)] = &[
     (
         StandardClient::PointsFromVertices,
         &[
@@ -143,10 +139,14 @@ const NAMED: &[(StandardClient, &[PropId])] = &[
             PropId::Vertices,
             PropId::LinealitySpace,
         ],
+        ObjectType::Cone,
+        true,
     ),
     (
         StandardClient::ConeDimSpan,
         &[PropId::ConeDim, PropId::AffineHull],
+        ObjectType::Cone,
+        true,
     ),
     (
         StandardClient::CombinatorialDim,
@@ -155,33 +155,52 @@ const NAMED: &[(StandardClient, &[PropId])] = &[
             PropId::ConeDim,
             PropId::LinealityDim,
         ],
+        ObjectType::Cone,
+        true,
     ),
     (
         StandardClient::Incidence,
         &[PropId::VerticesInFacets, PropId::Facets, PropId::Vertices],
+        ObjectType::Cone,
+        true,
+    ),
+    (
+        StandardClient::Incidence,
+        &[PropId::VerticesInFacets, PropId::Facets, PropId::Vertices],
+        ObjectType::Fan,
+        false,
+    ),
+    (
+        StandardClient::Feasible,
+        &[PropId::Feasible, PropId::ConeDim],
+        ObjectType::Polytope,
+        true,
+    ),
+    (
+        StandardClient::Feasible,
+        &[PropId::Feasible, PropId::ConeDim],
+        ObjectType::Cone,
+        false,
+    ),
+    (
+        StandardClient::Pointed,
+        &[PropId::Pointed, PropId::LinealityDim],
+        ObjectType::Fan,
+        true,
     ),
 ];
 
-// Whether the client's kind is of cones, and names these properties.
-fn has_names(client: StandardClient, names: &[PropId]) -> bool {
+// Whether the client's kind names these properties, and is of the type or not.
+fn is_kind(client: StandardClient, names: &[PropId], of: ObjectType, want: bool) -> bool {
     let kind = client.kind();
-    kind.is_of(ObjectType::Cone) && kind.names() == PropSet::of_list(names)
+    kind.names() == PropSet::of_list(names) && kind.is_of(of) == want
 }
 
 #[test]
 fn kinds_name_properties(rt: HostRuntime) {
-    for (client, names) in NAMED {
-        assert!(rt; has_names(*client, names), "{client:?}");
+    for (client, names, of, want) in NAMED {
+        assert!(rt; is_kind(*client, names, *of, *want), "{client:?}");
     }
-}
-
-#[test]
-fn kinds_are_of_types(rt: HostRuntime) {
-    // FEASIBLE is of polytopes alone, and fans have no facets
-    let feasible = StandardClient::Feasible.kind();
-    assert!(rt; feasible.is_of(ObjectType::Polytope) && !feasible.is_of(ObjectType::Cone));
-    assert!(rt; !StandardClient::Incidence.kind().is_of(ObjectType::Fan));
-    assert!(rt; StandardClient::Pointed.kind().is_of(ObjectType::Fan));
 }
 
 // The set of 0 and 2, alone.
