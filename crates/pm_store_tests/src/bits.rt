@@ -26,19 +26,6 @@ fn row_of(alloc: Global, len: usize, members: &[usize]) -> Result<BitRow, AllocE
     Ok(row)
 }
 
-// The row of the numbers below `end`, of a length.
-fn row_below(alloc: Global, len: usize, end: usize) -> Result<BitRow, AllocError>
-    ensures { IfOk result (λ row. length row ≡ len) }
-{
-    let mut row = BitRow::with_len(alloc, len)?;
-    for member in 0..len {
-        if member < end {
-            row.set(member);
-        }
-    }
-    Ok(row)
-}
-
 // The row of the places whose bit is set in `subset`.
 fn row_of_subset(alloc: Global, subset: u32) -> Result<BitRow, AllocError>
     ensures { IfOk result (λ row. length row ≡ ROW_LEN) }
@@ -88,33 +75,9 @@ fn rows_agree(x: &BitRow, y: &BitRow, one: u32, other: u32) -> bool
 fn shared_count(alloc: Global, x: &BitRow, y: &BitRow) -> Result<usize, AllocError>
     requires { length x.now ≡ length y.now }
 {
-    let mut both = row_below(alloc, x.len(), x.len())?;
+    let mut both = BitRow::with_len(alloc, x.len())?;
     x.meet_into(y, &mut both);
     Ok(both.count())
-}
-
-fn check_full_row(rt: &impl Abort, alloc: Global, len: usize) {
-    let full = row_below(alloc, len, len).expect(rt, "a full row");
-    let most = row_below(alloc, len, len.saturating_sub(1)).expect(rt, "most of it");
-    check_most(rt, len, &full, &most);
-    let shared = shared_count(alloc, &full, &most).expect(rt, "what both have");
-    assert!(rt; shared == len.saturating_sub(1), "at length {len}");
-}
-
-// Asks for a full row and another without its last number.
-fn check_most(rt: &impl Abort, len: usize, full: &BitRow, most: &BitRow)
-    requires { length full.now ≡ length most.now }
-{
-    assert!(rt; full.count() == len, "at length {len}");
-    assert!(rt; full.contains(most), "at length {len}");
-    assert!(rt; most.contains(full) == (len == 0), "at length {len}");
-}
-
-#[test]
-fn tells_a_full_row_from_all_but_its_last_number(rt: HostRuntime) {
-    for len in 0..201 {
-        check_full_row(&rt, rt.alloc(), len);
-    }
 }
 
 // Compares the row of a subset with those of all subsets.

@@ -1,7 +1,5 @@
 // What no clause says: that calls succeed while memory is there, and the bytes of whole runs.
 
-ghost use Rattle.std.specs.Prelude.{Some};
-
 use pm_store::{
     Failed, MemSink, MemSource, ReadFail, Sink, Source, StdSink, StdSource, read_up_to, write_all,
 };
@@ -50,27 +48,6 @@ fn reads_a_text_or_hands_on_a_fault(rt: HostRuntime) {
     }
 }
 
-#[test]
-fn takes_what_there_is_room_for(rt: HostRuntime) {
-    let mut sink = mem_sink(&rt, rt.alloc(), 5, &[]);
-    check_takes(&rt, &mut sink);
-    assert_eq!(rt; sink.bytes(), b"abcde".as_slice());
-}
-
-const PIECES: &[(&[u8], Result<usize, Failed>)] = &[
-    (b"abc", Ok(3)),
-    (b"def", Ok(2)),
-    (b"f", Err(Failed)),
-    (b"", Ok(0)),
-];
-
-// Writes as much of each piece as there is room for.
-fn check_takes(rt: &impl Abort, sink: &mut MemSink) {
-    for (piece, want) in PIECES {
-        assert_eq!(rt; sink.write(piece), *want, "{piece:?}");
-    }
-}
-
 // A sink with room for so many bytes, which fails at these calls.
 fn mem_sink(rt: &impl Abort, alloc: Global, room: usize, fail: &[u64]) -> MemSink {
     let calls = fail.to_vec(alloc).expect(rt, "the calls");
@@ -84,43 +61,38 @@ fn check_writes(rt: &impl Abort, sink: &mut impl Sink, pieces: &[(&[u8], Result<
     }
 }
 
-#[test]
-fn fails_at_the_listed_call(rt: HostRuntime) {
-    let mut sink = mem_sink(&rt, rt.alloc(), 100, &[1]);
-    check_writes(
-        &rt,
-        &mut sink,
+// The room, the call that fails, the pieces, and all that is written.
+const WRITES: &[(usize, &[u64], &[(&[u8], Result<(), Failed>)], &[u8])] = &[
+    (
+        100,
+        &[1],
         &[
             (b"ok\n", Ok(())),
             (b"no\n", Err(Failed)),
             (b"yes\n", Ok(())),
         ],
-    );
-    assert_eq!(rt; sink.bytes(), b"ok\nyes\n".as_slice());
-}
-
-// Passes on at most one byte a call.
-#[derive(Drop)]
-struct Narrow {
-    inner: MemSink,
-}
-
-impl Sink for Narrow {
-    ghost taken = { λ s. Some s.inner.taken };
-
-    ghost faults = { λ s. s.inner.faults };
-
-    fn write(&mut self, piece: &[u8]) -> Result<usize, Failed> {
-        self.inner.write(&piece[..piece.len().min(1)])
-    }
-}
+        b"ok\nyes\n",
+    ),
+    (
+        5,
+        &[],
+        &[
+            (b"abc", Ok(())),
+            (b"def", Err(Failed)),
+            (b"f", Err(Failed)),
+            (b"", Ok(())),
+        ],
+        b"abcde",
+    ),
+];
 
 #[test]
-fn writes_all_byte_by_byte(rt: HostRuntime) {
-    let inner = mem_sink(&rt, rt.alloc(), 100, &[5]);
-    let mut sink = Narrow { inner };
-    check_writes(&rt, &mut sink, &[(b"abc", Ok(())), (b"defg", Err(Failed))]);
-    assert_eq!(rt; sink.inner.bytes(), b"abcde".as_slice());
+fn writes_what_there_is_room_for(rt: HostRuntime) {
+    for (room, fail, pieces, bytes) in WRITES {
+        let mut sink = mem_sink(&rt, rt.alloc(), *room, fail);
+        check_writes(&rt, &mut sink, pieces);
+        assert!(rt; sink.bytes() == *bytes);
+    }
 }
 
 // Fails once, and then is at its end.
