@@ -7,13 +7,14 @@ use Rattle.pm_algebra.specs.Numbers.{InRange, IsReduced, Ratio}
 use Rattle.pm_algebra.specs.Rows.{IsZero, Row, Same, entry, ratio_at, times}
 use Rattle.pm_matrix.specs.FractionRows.{IsLeastDenominator, IsPositiveMultipleOf, numerator_over, numerators_over}
 use Rattle.pm_matrix.specs.Wideness.{DenominatorsStay, IsFirstWideNumerator, NumeratorsStay}
-use Rattle.std.proofs.Common.{ap, arith, below_more, inl, inr, length, map, pos, refl, sym, take, ◌++◌, ◌+◌, ◌/◌, ◌<◌, ◌≡◌, ◌∙◌, ◌⊎◌, ℕ, List, [], ◌∷◌}
+use Rattle.pm_vector.proofs.Kept.{kept}
+use Rattle.std.proofs.Common.{ap, arith, below_more, inl, inr, length, map, of_z, pos, refl, sym, take, to_z, ◌++◌, ◌+◌, ◌/◌, ◌<◌, ◌≡◌, ◌∙◌, ◌⊎◌, ℕ, List, [], ◌∷◌}
 use Rattle.std.proofs.Math.Nat.{div-mul_cancel}
-use Rattle.std.proofs.lemmas.Int.{ints}
+use Rattle.std.proofs.lemmas.Int.{fits_signed_from_abs, ints, to_z_pos}
 use Rattle.std.proofs.lemmas.List.{get_or-map, length-map, map_more}
 use Rattle.std.proofs.lemmas.Nat.Gcd.{dvd_refl}
-use Rattle.std.specs.Int.{◌∣◌}
-use Rattle.std.specs.Prelude.{unsigned_abs}
+use Rattle.std.specs.Int.{w128, ◌∣◌}
+use Rattle.std.specs.Prelude.{FitsSigned, unsigned_abs, ◌^◌}
 use lib.IntN.{*ℤ_comm, negsuc, ℤ, ◌*ℤ◌}
 use lib.Signed.{lt_z_yes, ◌<ℤ◌}
 
@@ -40,6 +41,16 @@ first_wide_numerator r m k within least denominators before wide = record {
   before = before;
   wide = wide;
 }
+
+-- ---- a factor goes through 128 bits unchanged
+factor_small : (m d : ℕ) → m < 2 ^ 127 → m / d < 2 ^ 127
+factor_small m d small = grind arith
+
+pub factor_fits : (m d : ℕ) → m < 2 ^ 127 → FitsSigned w128 (pos (m / d))
+factor_fits m d small = fits_signed_from_abs w128 (pos (m / d)) (factor_small m d small)
+
+pub factor_is : (m : ℕ) (f : Ratio) (den : ℤ) (size : ℕ) → m < 2 ^ 127 → den ≡ f.den → InRange f.den → size ≡ unsigned_abs (to_z w128 (of_z w128 den)) → to_z w128 (m / size) ≡ pos (m / unsigned_abs f.den)
+factor_is m f den size small den_is in_range size_is = rw (size_is, den_is, kept f.den in_range) (to_z_pos w128 (m / unsigned_abs f.den) (factor_small m (unsigned_abs f.den) small))
 
 -- ---- the direction of the row
 -- a denominator times the quotient by it
