@@ -1,67 +1,56 @@
-// What no clause says: values and faults as they are read, with memory at hand.
+// What no clause says: values and faults as they are read and written, with memory at hand.
 
-use crate::values::read;
+use crate::values::{line_of, read};
 use pm_json::ValueFail;
-use pm_matrix::Matrix;
-use pm_types::{PropId, Sets, Value};
+use pm_types::PropId;
 use std::alloc::{AllocError, Global};
 use std::process::Abort;
 
-// The column count of a matrix and its rows.
-fn matrix_text(alloc: Global, m: &Matrix) -> Result<String, AllocError> {
-    let mut text = m.cols().to_string(alloc)?;
-    for i in 0..m.rows() {
-        text.push_str(" |")?;
-        for entry in m.row(i) {
-            text.push_str(" ")?;
-            text.push_str(entry.to_string(alloc)?.as_str())?;
+// The line of the value that a text spells, or the fault.
+fn shown(rt: &(impl Abort + AllocGlobal), p: PropId, text: &str) -> Vec<u8> {
+    match read(rt, p, text) {
+        Ok(value) => line_of(rt, p, value),
+        Err(fault) => {
+            let text = fault.to_string(rt.alloc()).expect(rt, "the text");
+            text.into_bytes()
         }
     }
-    Ok(text)
 }
 
-fn sets_text(alloc: Global, s: &Sets) -> Result<String, AllocError> {
-    let (rows, cols) = (s.rows(), s.cols());
-    format!(in alloc; "{rows:?} of {cols}")
-}
-
-fn value_text(alloc: Global, value: &Value) -> Result<String, AllocError> {
-    match value {
-        Value::Mat(m) => matrix_text(alloc, m),
-        Value::Sets(s) => sets_text(alloc, s),
-        Value::Int(k) => k.to_string(alloc),
-        Value::Bool(b) => b.to_string(alloc),
-    }
-}
-
-// The text of a value, or the fault.
-fn shown(rt: &(impl Abort + AllocGlobal), p: PropId, text: &str) -> String {
-    let shown = match read(rt, p, text) {
-        Ok(value) => value_text(rt.alloc(), &value),
-        Err(fault) => fault.to_string(rt.alloc()),
-    };
-    shown.expect(rt, "the text")
-}
-
-// Texts, and what is read.
+// Texts, and the lines of what is read, or the faults.
 const SMALL: &[(PropId, &str, &str)] = &[
+    (
+        PropId::Vertices,
+        "[[1,\"-2/4\"],[0,\"170141183460469231731687303715884105727\"]]",
+        "c RAYS [[\"1\",\"-1/2\"],[\"0\",\"170141183460469231731687303715884105727\"]]\n",
+    ),
+    (PropId::Facets, "[]", "c FACETS []\n"),
+    (
+        PropId::VerticesInFacets,
+        "[[0,12],[]]",
+        "c RAYS_IN_FACETS [[0,12],[],{\"cols\":13}]\n",
+    ),
     (
         PropId::Facets,
         "[[1,0],[18446744073709551615,-9223372036854775808]]",
-        "2 | 1 0 | 18446744073709551615 -9223372036854775808",
+        "c FACETS [[\"1\",\"0\"],[\"18446744073709551615\",\"-9223372036854775808\"]]\n",
     ),
     (
         PropId::Facets,
         "[[\"-6/4\",\"0/5\"],[\"007\",\"-0\"]]",
-        "2 | -3/2 0 | 7 0",
+        "c FACETS [[\"-3/2\",\"0\"],[\"7\",\"0\"]]\n",
     ),
     (
         PropId::Facets,
         "[[\"170141183460469231731687303715884105727\",\"1\"]]",
-        "2 | 170141183460469231731687303715884105727 1",
+        "c FACETS [[\"170141183460469231731687303715884105727\",\"1\"]]\n",
     ),
-    (PropId::Points, "[[\"1/2\",1]]", "2 | 1/2 1"),
-    (PropId::AffineHull, "[]", "0"),
+    (
+        PropId::Points,
+        "[[\"1/2\",1]]",
+        "c INPUT_RAYS [[\"1/2\",\"1\"]]\n",
+    ),
+    (PropId::AffineHull, "[]", "c LINEAR_SPAN []\n"),
     (
         PropId::Facets,
         "[[\"170141183460469231731687303715884105728\",\"1\"]]",
@@ -94,20 +83,36 @@ const SMALL: &[(PropId, &str, &str)] = &[
     (
         PropId::VerticesInFacets,
         "[[2,0],[],[1]]",
-        "[[0, 2], [], [1]] of 3",
+        "c RAYS_IN_FACETS [[0,2],[],[1],{\"cols\":3}]\n",
     ),
     (
         PropId::VerticesInFacets,
         "[[2,0],{\"cols\":2048}]",
-        "[[0, 2]] of 2048",
+        "c RAYS_IN_FACETS [[0,2],{\"cols\":2048}]\n",
     ),
-    (PropId::VerticesInFacets, "[]", "[] of 0"),
-    (PropId::VerticesInFacets, "[[]]", "[[]] of 0"),
-    (PropId::VerticesInFacets, "[{\"cols\":3}]", "[] of 3"),
+    (
+        PropId::VerticesInFacets,
+        "[]",
+        "c RAYS_IN_FACETS [{\"cols\":0}]\n",
+    ),
+    (
+        PropId::VerticesInFacets,
+        "[[]]",
+        "c RAYS_IN_FACETS [[],{\"cols\":0}]\n",
+    ),
+    (
+        PropId::VerticesInFacets,
+        "[{\"cols\":3}]",
+        "c RAYS_IN_FACETS [{\"cols\":3}]\n",
+    ),
     (PropId::VerticesInFacets, "[[0,1],{\"cols\":1}]", "index"),
     (PropId::VerticesInFacets, "[[-1]]", "index"),
     (PropId::VerticesInFacets, "[[2048]]", "limit"),
-    (PropId::VerticesInFacets, "[[2047]]", "[[2047]] of 2048"),
+    (
+        PropId::VerticesInFacets,
+        "[[2047]]",
+        "c RAYS_IN_FACETS [[2047],{\"cols\":2048}]\n",
+    ),
     (PropId::VerticesInFacets, "[[1,0,1,-1]]", "shape"),
     (PropId::VerticesInFacets, "[[1,-1,1]]", "index"),
     (PropId::VerticesInFacets, "[[0.5]]", "number"),
@@ -129,8 +134,8 @@ const SMALL: &[(PropId, &str, &str)] = &[
         "[[5],{\"cols\":2049},[0]]",
         "limit",
     ),
-    (PropId::ConeAmbientDim, "1", "1"),
-    (PropId::ConeAmbientDim, "33", "33"),
+    (PropId::ConeAmbientDim, "1", "c CONE_AMBIENT_DIM 1\n"),
+    (PropId::ConeAmbientDim, "33", "c CONE_AMBIENT_DIM 33\n"),
     (PropId::ConeAmbientDim, "0", "limit"),
     (PropId::ConeAmbientDim, "34", "limit"),
     (PropId::ConeAmbientDim, "-1", "limit"),
@@ -139,20 +144,25 @@ const SMALL: &[(PropId, &str, &str)] = &[
     (PropId::ConeAmbientDim, "9223372036854775808", "number"),
     (PropId::ConeAmbientDim, "\"2\"", "shape"),
     (PropId::ConeAmbientDim, "true", "shape"),
-    (PropId::ConeDim, "0", "0"),
+    (PropId::ConeDim, "0", "c CONE_DIM 0\n"),
     (
         PropId::LinealityDim,
         "9223372036854775807",
-        "9223372036854775807",
+        "c LINEALITY_DIM 9223372036854775807\n",
     ),
-    (PropId::Feasible, "false", "false"),
-    (PropId::Pointed, "true", "true"),
+    (PropId::LinealityDim, "-33", "c LINEALITY_DIM -33\n"),
+    (PropId::FullDim, "false", "c FULL_DIM false\n"),
+    (PropId::Feasible, "false", "c FEASIBLE false\n"),
+    (PropId::Pointed, "true", "c POINTED true\n"),
     (PropId::FullDim, "1", "shape"),
 ];
 
 fn check_values(rt: &(impl Abort + AllocGlobal), rows: &[(PropId, &str, &str)]) {
     for (p, text, want) in rows {
-        assert_eq!(rt; shown(rt, *p, text).as_str(), *want, "of {text}");
+        assert!(rt;
+            shown(rt, *p, text).as_slice() == want.as_bytes(),
+            "of {text}"
+        );
     }
 }
 

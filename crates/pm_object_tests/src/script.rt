@@ -1,11 +1,11 @@
 // What no clause says: texts of replies, and lines as they are read, with memory at hand.
 
-use crate::values::value_of;
+use crate::values::line_of;
 use pm_matrix::Matrix;
 use pm_script::{
     Command, LineFail, Ref, Refusal, Reply, ValueWhy, is_silent, read_line, reply_bytes, split_line,
 };
-use pm_types::{ObjectType, PropId, Value};
+use pm_types::{PropId, Value};
 use std::alloc::{AllocError, Global};
 use std::process::Abort;
 
@@ -146,53 +146,11 @@ fn check_reply(rt: &(impl Abort + AllocGlobal), reply: &Reply, is_refusal: bool,
     assert!(rt; reply.is_refusal() == is_refusal, "for {want}");
 }
 
-// A value of a cone is written as a text.
-fn check_written(rt: &(impl Abort + AllocGlobal), prop: PropId, value: Value, want: &str) {
-    let name = String::from_str(rt.alloc(), "c").expect(rt, "a name");
-    let reply = Reply::Value {
-        name,
-        of: ObjectType::Cone,
-        prop,
-        value,
-    };
-    check_reply(rt, &reply, false, want);
-}
-
-// Values as they are read, and as they are written.
-const WRITTEN: &[(PropId, &str, &str)] = &[
-    (
-        PropId::Vertices,
-        "[[1,\"-2/4\"],[0,\"170141183460469231731687303715884105727\"]]",
-        "c RAYS [[\"1\",\"-1/2\"],[\"0\",\"170141183460469231731687303715884105727\"]]\n",
-    ),
-    (PropId::Facets, "[]", "c FACETS []\n"),
-    (
-        PropId::VerticesInFacets,
-        "[[0,12],[]]",
-        "c RAYS_IN_FACETS [[0,12],[],{\"cols\":13}]\n",
-    ),
-    (
-        PropId::VerticesInFacets,
-        "[]",
-        "c RAYS_IN_FACETS [{\"cols\":0}]\n",
-    ),
-    (PropId::ConeAmbientDim, "33", "c CONE_AMBIENT_DIM 33\n"),
-    (PropId::LinealityDim, "-33", "c LINEALITY_DIM -33\n"),
-    (PropId::Pointed, "true", "c POINTED true\n"),
-    (PropId::FullDim, "false", "c FULL_DIM false\n"),
-];
-
-#[test]
-fn values_are_written(rt: HostRuntime) {
-    for (prop, text, want) in WRITTEN {
-        check_written(&rt, *prop, value_of(&rt, *prop, text), want);
-    }
-}
-
 #[test]
 fn columns_of_no_rows_are_written(rt: HostRuntime) {
     let empty = Value::Mat(Matrix::new(rt.alloc(), 3));
-    check_written(&rt, PropId::Facets, empty, "c FACETS [{\"cols\":3}]\n");
+    let line = line_of(&rt, PropId::Facets, empty);
+    assert!(rt; line.as_slice() == "c FACETS [{\"cols\":3}]\n".as_bytes());
 }
 
 // Refusals and their lines.
