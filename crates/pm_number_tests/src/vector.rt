@@ -71,12 +71,20 @@ fn rows_sort(rt: HostRuntime) {
     assert_eq!(rt; shown.as_str(), sorted);
 }
 
+// Rows of one length or several, and how the first compares with the second.
+const COMPARED: &[(&[i128], &[i128], Ordering)] = &[
+    (&[1], &[1, -7, 4], Ordering::Less),
+    (&[1, -2], &[1, -7, 4], Ordering::Greater),
+    (&[-3, 9], &[-3, 9], Ordering::Equal),
+];
+
 #[test]
-fn sorted_rows_compare(rt: HostRuntime) {
-    let rows = sorted_rows(&rt, rt.alloc());
-    assert_eq!(rt; rows.len(), 4);
-    assert_eq!(rt; lex_cmp(&rows[1], &rows[2]), Ordering::Less);
-    assert!(rt; rows[3] > rows[2]);
+fn rows_compare(rt: HostRuntime) {
+    for (first, second, want) in COMPARED {
+        let v = row_of(&rt, rt.alloc(), first);
+        let w = row_of(&rt, rt.alloc(), second);
+        assert!(rt; lex_cmp(&v, &w) == *want, "{first:?} {second:?}");
+    }
 }
 
 const COMBINATIONS: &[(i128, &[i128], i128, &[i128], Result<&[i128], Wide>)] = &[
@@ -90,38 +98,28 @@ const COMBINATIONS: &[(i128, &[i128], i128, &[i128], Result<&[i128], Wide>)] = &
     (1, &[5, 3], 2, &[1, HIGH], Err(Wide)),
 ];
 
-/// Asks for p v - q w, where v and w have these entries.
-fn check_combination(
+/// Whether p v - q w, where v and w have these entries, is the row that is wanted; a refusal leaves v.
+fn is_combined(
     rt: &impl Abort,
     alloc: Global,
     (p, first): (i128, &[i128]),
     (q, second): (i128, &[i128]),
     want: Result<&[i128], Wide>,
-) {
-    let mut v = row_of(rt, alloc, first);
-    let is_in_range = is_combined(rt, alloc, p, &mut v, q, second);
-    assert_eq!(rt; is_in_range, want.is_ok());
-    assert_eq!(rt; v.as_slice(), want.unwrap_or(first));
-}
-
-/// Whether v becomes p v - q w, where w has these entries.
-fn is_combined(
-    rt: &impl Abort,
-    alloc: Global,
-    p: i128,
-    v: &mut Ints,
-    q: i128,
-    second: &[i128],
 ) -> bool {
+    let mut v = row_of(rt, alloc, first);
     let w = row_of(rt, alloc, second);
     assert!(rt; v.len() == w.len());
-    combine(p, v, q, &w).is_ok()
+    let is_in_range = combine(p, &mut v, q, &w).is_ok();
+    is_in_range == want.is_ok() && v.as_slice() == want.unwrap_or(first)
 }
 
 #[test]
 fn combine_at_the_ends_of_the_range(rt: HostRuntime) {
     for (p, first, q, second, want) in COMBINATIONS {
-        check_combination(&rt, rt.alloc(), (*p, first), (*q, second), *want);
+        assert!(rt;
+            is_combined(&rt, rt.alloc(), (*p, first), (*q, second), *want),
+            "{first:?}"
+        );
     }
 }
 
