@@ -109,10 +109,3 @@ fn sorts(rt: HostRuntime) -> Result<(), Fail> {
     assert_eq!(rt; all.pop(), Some(Fraction::zero()));
     Ok(())
 }
-
-#[test]
-fn whole_numbers(rt: HostRuntime) -> Result<(), Fail> {
-    assert_eq!(rt; Fraction::from_whole(1)?, Fraction::one());
-    assert_eq!(rt; Fraction::from_whole(i128::MIN), Err(NumError::Wide));
-    Ok(())
-}

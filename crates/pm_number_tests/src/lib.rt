@@ -1,11 +1,15 @@
-//! The tests of whole rows, fractions, matrices and elimination, over their public calls.
+//! The tests of whole rows, fractions, matrices, elimination and bit rows, and of where bytes come from and go, over their public calls.
 #![tactic(auto)]
 
+#[cfg(test)]
+mod bits;
 #[cfg(test)]
 mod elim;
 #[cfg(test)]
 mod fraction;
 #[cfg(test)]
 mod matrix;
+#[cfg(test)]
+mod store;
 #[cfg(test)]
 mod vector;

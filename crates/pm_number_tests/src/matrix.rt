@@ -1,5 +1,5 @@
 use pm_fraction::Fraction;
-use pm_matrix::{Matrix, MatrixFail, RowFail, RowsFail, primitive_row};
+use pm_matrix::{Matrix, RowFail, RowsFail, primitive_row};
 use pm_vector::Ints;
 use std::alloc::{AllocError, Global};
 use std::process::Abort;
@@ -26,13 +26,6 @@ fn matrix_of(rt: &impl Abort, alloc: Global, table: &[&[(i128, i128)]]) -> Matri
 }
 
 const ONE_AND_HALF: &[(i128, i128)] = &[(1, 1), (1, 2)];
-
-#[test]
-fn a_shorter_row_is_refused(rt: HostRuntime) {
-    let mut matrix = matrix_of(&rt, rt.alloc(), &[ONE_AND_HALF]);
-    let shorter = fractions(&rt, rt.alloc(), &[(1, 1)]);
-    assert!(rt; matrix.push_row(&shorter) == Err(MatrixFail::Ragged));
-}
 
 #[test]
 fn a_matrix_is_copied_and_transposed(rt: HostRuntime) {

@@ -1,5 +1,5 @@
 use pm_vector::{
-    Ints, Wide, all_in_range, combine, dot, first_wide_place, gcd_of, lex_cmp, negate, primitive,
+    Ints, Wide, all_in_range, combine, dot, first_wide_place, gcd_of, lex_cmp, primitive,
 };
 use std::alloc::Global;
 use std::cmp::Ordering;
@@ -42,11 +42,6 @@ fn rows_hold_entries(rt: HostRuntime) {
     row.push(HIGH).expect(&rt, "room for an entry");
     let copy = row.copy(rt.alloc()).expect(&rt, "a copy");
     assert!(rt; copy == row);
-}
-
-#[test]
-fn the_least_number_is_out_of_the_range(rt: HostRuntime) {
-    assert!(rt; !all_in_range(&[HIGH, -HIGH, i128::MIN]));
 }
 
 const UNSORTED: &[&[i128]] = &[&[1, -2], &[1], &[-3, 9], &[1, -7, 4]];
@@ -153,13 +148,6 @@ fn primitive_rows(rt: HostRuntime) {
         primitive(&mut row);
         assert_eq!(rt; row.as_slice(), *want);
     }
-}
-
-#[test]
-fn opposite_row(rt: HostRuntime) {
-    let mut row = row_of(&rt, rt.alloc(), &[3, -HIGH, 0]);
-    negate(&mut row);
-    assert_eq!(rt; row.as_slice(), [-3, HIGH, 0].as_slice());
 }
 
 // Rows and their greatest common divisors.
