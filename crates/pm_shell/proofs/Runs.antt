@@ -1,5 +1,5 @@
 -- Runs go on line by line, and keep every object honest.
-use Rattle.std.proofs.Common.{ap, refl, subst, IfOk, Ok, Err, Result, sym, ◌∙◌, ◌≡◌, ◌||◌, ℕ, Bool, true, false, List, [], ◌∷◌, ◌++◌, Option, Some, None, append_assoc, append-nil}
+use Rattle.std.proofs.Common.{ap, refl, subst, IfOk, IfSome, Ok, Err, Result, sym, ◌∙◌, ◌≡◌, ◌||◌, ℕ, Bool, true, false, List, [], ◌∷◌, ◌++◌, Option, Some, None, append_assoc, append-nil}
 use Rattle.pm_client.specs.Starts.{Clients}
 use Rattle.pm_machine.proofs.Kept.{steps_keep}
 use Rattle.pm_machine.specs.Sessions.{book_of, machine_of}
@@ -9,7 +9,7 @@ use Rattle.pm_rules.specs.Books.{standard_rules}
 use Rattle.pm_rules.specs.declared.rule.Rule.{Rule}
 use Rattle.pm_script.specs.Commands.{Spoken, blank}
 use Rattle.pm_script.specs.Lines.{Line, lines_of}
-use Rattle.pm_script.specs.Replies.{ReplySeen, refused, reply_text}
+use Rattle.pm_script.specs.Replies.{ReplySeen, is_refusal, refused, reply_text}
 use Rattle.pm_script.specs.declared.refusal.Refusal.TheVariants.{BadCommand}
 use Rattle.pm_shell.specs.Ends.{AnswersAll, AnswersFirst, AnswersOne, BreaksOff, FromNoObjects, GainsWithin, HasLeft}
 use Rattle.pm_shell.specs.Run.{Answers, AnswersTo, Run, Starts, any_refused, command_at, is_refused, replies_text, text_if}
@@ -182,3 +182,14 @@ pub not_read : (left : Option (List ℕ)) (before : Clients) (had : Option (List
     → (script : List ℕ) × (after : Clients) × HasLeft left script × FromNoObjects before after (λ start end. AnswersFirst standard_rules start (lines_of script) had had end)
 not_read None before had = ([], before, tt, came_not before (lines_of []) had)
 not_read (Some all) before had = (all, before, refl, came_not before (lines_of all) had)
+
+-- ---- a reply
+pub one_told : (book : List Rule) (old new : Machine) (line : Line) (reply : ReplySeen) (had has : Option (List ℕ)) (r : Result Bool RunFail)
+    → Answers book old line (Some reply) new → IfOk r (λ b. Gains had has (reply_text reply) × (b ≡ is_refusal reply)) → IfOk r (λ b. AnswersOne book old line b had has new)
+one_told book old new line reply had has (Ok b) answers told = record { reply = Some reply; answers = answers; told = told.0; refusal = told.1 }
+one_told book old new line reply had has (Err e) answers told = tt
+
+-- ---- the script
+pub had_left : (left now : Option (List ℕ)) (script : List ℕ) → IfSome left (λ all. (script ≡ all) × (now ≡ Some [])) → HasLeft left script
+had_left None now script h = tt
+had_left (Some all) now script h = sym h.0

@@ -6,15 +6,15 @@ ghost use Rattle.pm_machine.specs.Steps.{Machine};
 ghost use Rattle.pm_rules.specs.Books.{standard_rules};
 ghost use Rattle.pm_script.specs.Commands.{spoken};
 ghost use Rattle.pm_script.specs.Lines.{lines_of};
-ghost use Rattle.pm_script.specs.Replies.{ReplySeen, refused, reply_text, seen};
+ghost use Rattle.pm_script.specs.Replies.{ReplySeen, is_refusal, refused, reply_text, seen};
 ghost use Rattle.pm_script.specs.declared.refusal.Refusal.TheVariants.{BadCommand};
 ghost use Rattle.pm_shell.specs.Ends.{AnswersAll, AnswersFirst, AnswersOne, BreaksOff, FromNoObjects, HasLeft, number_of};
 ghost use Rattle.pm_shell.specs.Run.{Answers, command_at};
 ghost use Rattle.pm_shell.specs.Shown.{ShownAreRight};
 ghost use Rattle.pm_shell.specs.declared.run.RunFail.TheVariants.{Memory, SinkFault};
-ghost use Rattle.pm_store.specs.Outside.{GainsPart, Rose};
+ghost use Rattle.pm_store.specs.Outside.{Gains, GainsPart, Rose};
 ghost use Rattle.std.specs.Option.{option_map};
-ghost use Rattle.std.specs.Prelude.{IfOk, IfSome, IsErrOf, List, Some, [], false, length, map, true, ℕ, ◌<◌, ◌≤◌, ◌≡◌, ◌≢◌, ◌↔◌, ◌⊎◌};
+ghost use Rattle.std.specs.Prelude.{Err, IfOk, IfSome, IsErrOf, List, Ok, Some, [], false, length, map, true, ℕ, ◌<◌, ◌≤◌, ◌≡◌, ◌≢◌, ◌↔◌, ◌⊎◌};
 
 use pm_client::Client;
 use pm_machine::Session;
@@ -143,10 +143,21 @@ fn answer_next<K: Sink>(
     ensures book { book_of session.new ≡ book_of session.old }
     ensures never_falls { K.faults sink.old ≤ K.faults sink.new }
 {
-    let Some(reply) = answer_line(alloc, session, clients, line)? else {
-        return Ok(false);
-    };
-    let text = reply_bytes(alloc, &reply)?;
+    match answer_line(alloc, session, clients, line)? {
+        None => Ok(false),
+        Some(reply) => write_reply(alloc, &reply, sink),
+    }
+}
+
+/// Writes a reply. Whether it is a refusal.
+fn write_reply<K: Sink>(alloc: Global, reply: &Reply, sink: &mut K) -> Result<bool, RunFail>
+    ensures told { IfOk result (λ r. Gains (K.taken sink.old) (K.taken sink.new) (reply_text (seen reply.now)) × (r ≡ is_refusal (seen reply.now))) }
+    ensures part { IsErrOf result RunFail.SinkFault → GainsPart (K.taken sink.old) (K.taken sink.new) (reply_text (seen reply.now)) }
+    ensures fault { IsErrOf result RunFail.SinkFault → Rose (K.faults sink.old) (K.faults sink.new) }
+    ensures memory { IsErrOf result RunFail.Memory → sink.new ≡ sink.old }
+    ensures never_falls { K.faults sink.old ≤ K.faults sink.new }
+{
+    let text = reply_bytes(alloc, reply)?;
     write_all(sink, &text)?;
     Ok(reply.is_refusal())
 }
@@ -236,7 +247,18 @@ fn answer_script<S: Source, K: Sink>(
         Err(ReadFail::TooLong) => return Status::TooLong,
         Err(ReadFail::Memory) => return Status::OutOfMemory,
     };
-    match run_script(alloc, clients, &script, sink) {
+    ended(run_script(alloc, clients, &script, sink))
+}
+
+/// The status of a run over all lines of a script.
+fn ended(outcome: Result<bool, RunFail>) -> Status
+    ensures answered { result ≡ Status.Answered → outcome ≡ Ok false }
+    ensures refused { result ≡ Status.SomeRefused → outcome ≡ Ok true }
+    ensures sink_fault { result ≡ Status.SinkFault → outcome ≡ Err RunFail.SinkFault }
+    ensures out_of_memory { result ≡ Status.OutOfMemory → outcome ≡ Err RunFail.Memory }
+    ensures was_read { (result ≢ Status.BadWords) × (result ≢ Status.SourceFault) × (result ≢ Status.TooLong) }
+{
+    match outcome {
         Ok(false) => Status::Answered,
         Ok(true) => Status::SomeRefused,
         Err(RunFail::SinkFault) => Status::SinkFault,

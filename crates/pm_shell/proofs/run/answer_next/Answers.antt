@@ -1,11 +1,6 @@
-use Rattle.std.proofs.Common.{Some}
 use Rattle.pm_script.specs.Replies.{seen}
+use Rattle.pm_shell.proofs.Runs.{one_told}
 use Rattle.pm_shell.proofs.run.answer_next.Goals as goal
 
-pub returns-clause-told : goal.returns-clause-told
-returns-clause-told g c = record {
-  reply = Some (seen c.in-Some.reply);
-  answers = rw c.in-Some.is at c.in_ok-reply.ensures.answers;
-  told = rw (c.deref.ensures.value, c.in_ok-text.ensures) at c.in_ok-write_all.ensures.ok;
-  refusal = c.is_refusal.ensures;
-}
+pub returns-in-Some-clause-told : goal.returns-in-Some-clause-told
+returns-in-Some-clause-told g c = one_told _ _ _ _ (seen c.in-Some.reply) _ _ c.write_reply.result (rw c.in-Some.is at c.in_ok-answer_line.ensures.answers) c.write_reply.ensures.told
