@@ -25,11 +25,11 @@ fn push_more_entries(text: &mut String, entries: &[Fraction]) -> Result<(), Allo
 fn push_row(text: &mut String, entries: &[Fraction]) -> Result<(), AllocError>
     ensures { OnOk result (string_bytes text.new ≡ string_bytes text.old ++ row_text entries.now) }
 {
-    text.push_str("[")?;
-    if let Some((first, others)) = entries.split_first() {
-        write!(text, "\"{first}\"")?;
-        push_more_entries(text, others)?;
-    }
+    let Some((first, others)) = entries.split_first() else {
+        return text.push_str("[]");
+    };
+    write!(text, "[\"{first}\"")?;
+    push_more_entries(text, others)?;
     text.push_str("]")
 }
 
@@ -91,11 +91,11 @@ fn push_more_indices(text: &mut String, set: &[u32]) -> Result<(), AllocError>
 fn push_set(text: &mut String, set: &[u32]) -> Result<(), AllocError>
     ensures { OnOk result (string_bytes text.new ≡ string_bytes text.old ++ set_text set.now) }
 {
-    text.push_str("[")?;
-    if let Some((first, others)) = set.split_first() {
-        write!(text, "{first}")?;
-        push_more_indices(text, others)?;
-    }
+    let Some((first, others)) = set.split_first() else {
+        return text.push_str("[]");
+    };
+    write!(text, "[{first}")?;
+    push_more_indices(text, others)?;
     text.push_str("]")
 }
 
@@ -124,8 +124,7 @@ fn push_sets(text: &mut String, sets: &Sets) -> Result<(), AllocError>
     text.push_str("[")?;
     push_set_list(text, sets.rows())?;
     push_cols(text, sets.cols() as usize)?;
-    text.push_str("]")?;
-    Ok(())
+    text.push_str("]")
 }
 
 /// Writes a value.

@@ -1,11 +1,35 @@
+use Rattle.pm_algebra.specs.Cones.{IsIndependent}
+use Rattle.pm_elim.proofs.EvidenceLaws.{wide_is_extended_evidence}
+use Rattle.pm_elim.specs.Evidence.{IfWide, IsEvidence}
+use Rattle.pm_elim.specs.EliminationSteps.{EliminationStep}
+use Rattle.pm_elim.specs.declared.evidence.DualFail.{DualFail}
+use Rattle.pm_elim.specs.declared.evidence.DualFail.TheVariants.{Dependent, Memory as DualMemory, Wide as DualWide}
+use Rattle.pm_elim.specs.declared.evidence.ElimFail.{ElimFail}
+use Rattle.pm_elim.specs.declared.evidence.ElimFail.TheVariants.{Memory, Wide}
+use Rattle.std.proofs.lemmas.Result.{err_from_is_err_and}
 use Rattle.pm_elim.proofs.DualLaws.{dependent_of_fewer, duals_more, independent_of_duals}
 use Rattle.pm_elim.proofs.NullLaws.{null_basis_of_span}
 use Rattle.pm_elim.proofs.duals.dual_basis.Goals as goal
 use Rattle.pm_elim.proofs.duals.dual_basis.Goals.{After-drop-basis-3}
-use Rattle.pm_elim.specs.Duals.{IsDualBasis}
-use Rattle.std.proofs.Common.{ap, arith, length, ◌+◌, ◌≡◌, ◌∙◌, ℕ}
+use Rattle.pm_elim.specs.Duals.{IfDependent, IfDualWide, IsDualBasis, dual_fail_of}
+use Rattle.std.proofs.Common.{ap, arith, length, refl, ◌+◌, ◌≡◌, ◌∙◌, ℕ}
 use Rattle.std.proofs.lemmas.List.{length_push}
 
+-- ---- refusals
+wide_as_dual : (f : ElimFail) (Q : EliminationStep → Type 0) → IfWide f Q → IfDualWide (dual_fail_of f) Q
+wide_as_dual (Wide e) Q w = w
+wide_as_dual Memory Q w = tt
+
+never_dependent : (f : ElimFail) (Q : Type 0) → IfDependent (dual_fail_of f) Q
+never_dependent (Wide e) Q = tt
+never_dependent Memory Q = tt
+
+dependent_of_none : (f : DualFail) (Q : Type 0) → IfDependent f ⊥ → IfDependent f Q
+dependent_of_none Dependent Q h = absurd h
+dependent_of_none (DualWide e) Q h = tt
+dependent_of_none DualMemory Q h = tt
+
+-- ---- the goals
 pub returns-then-len-rows-clause-dual : goal.returns-then-len-rows-clause-dual
 returns-then-len-rows-clause-dual c = tt
 
@@ -52,3 +76,53 @@ returns-clause-dual c = is_dual_basis (goal.at.returns-clause-dual c).After-drop
 
 pub returns-clause-independent : goal.returns-clause-independent
 returns-clause-independent c = independent_of_duals c.args.cols c.args.rows.now c.loop-j.duals.items (is_dual_basis (goal.at.returns-clause-independent c).After-drop-basis-3)
+
+pub null_of-requires-clause-is_basis : goal.null_of-requires-clause-is_basis
+null_of-requires-clause-is_basis c = c.in_ok-basis.ensures.basis.echelon
+
+pub returns-in_err-basis-clause-wide : goal.returns-in_err-basis-clause-wide
+returns-in_err-basis-clause-wide c =
+    let p = err_from_is_err_and c.from_residual.result c.from_residual.ensures.1 in
+    rw (p.1, p.2) (wide_as_dual c.in_err-basis.field-0.0 (λ e. IsEvidence c.args.cols c.args.rows.now e) c.in_err-basis.ensures.wide)
+
+pub returns-in_err-basis-clause-dependent : goal.returns-in_err-basis-clause-dependent
+returns-in_err-basis-clause-dependent c =
+    let p = err_from_is_err_and c.from_residual.result c.from_residual.ensures.1 in
+    rw (p.1, p.2) (never_dependent c.in_err-basis.field-0.0 (¬ (IsIndependent c.args.rows.now)))
+
+pub returns-in_err-null-clause-wide : goal.returns-in_err-null-clause-wide
+returns-in_err-null-clause-wide c =
+    let p = err_from_is_err_and c.from_residual-in_err-null.result c.from_residual-in_err-null.ensures.1 in
+    rw (p.1, p.2) (wide_as_dual c.in_err-null.field-0.0 (λ e. IsEvidence c.args.cols c.args.rows.now e)
+    (wide_is_extended_evidence c.args.cols c.args.rows.now c.in_ok-basis.basis.rows.items c.in_ok-basis.basis.pivots.items c.in_ok-basis.ensures.basis c.in_err-null.field-0.0 c.in_err-null.ensures.wide c.in_err-null.ensures.list))
+
+pub returns-in_err-null-clause-dependent : goal.returns-in_err-null-clause-dependent
+returns-in_err-null-clause-dependent c =
+    let p = err_from_is_err_and c.from_residual-in_err-null.result c.from_residual-in_err-null.ensures.1 in
+    rw (p.1, p.2) (never_dependent c.in_err-null.field-0.0 (¬ (IsIndependent c.args.rows.now)))
+
+pub returns-in_err-dual-clause-wide : goal.returns-in_err-dual-clause-wide
+returns-in_err-dual-clause-wide c =
+    let p = err_from_is_err_and c.from_residual-in_err-dual.result c.from_residual-in_err-dual.ensures.1 in
+    rw (p.1, p.2) c.in_err-dual.ensures.wide
+
+pub returns-in_err-dual-clause-dependent : goal.returns-in_err-dual-clause-dependent
+returns-in_err-dual-clause-dependent c =
+    let p = err_from_is_err_and c.from_residual-in_err-dual.result c.from_residual-in_err-dual.ensures.1 in
+    rw (p.1, p.2) (dependent_of_none c.in_err-dual.field-0.0 (¬ (IsIndependent c.args.rows.now)) c.in_err-dual.ensures.dependent)
+
+pub returns-in_err-push-clause-wide : goal.returns-in_err-push-clause-wide
+returns-in_err-push-clause-wide c =
+    let p = err_from_is_err_and c.from_residual-in_err-push.result c.from_residual-in_err-push.ensures.1 in
+    rw (p.1, p.2) tt
+
+pub returns-in_err-push-clause-dependent : goal.returns-in_err-push-clause-dependent
+returns-in_err-push-clause-dependent c =
+    let p = err_from_is_err_and c.from_residual-in_err-push.result c.from_residual-in_err-push.ensures.1 in
+    rw (p.1, p.2) tt
+
+pub dual_row-requires-clause-within : goal.dual_row-requires-clause-within
+dual_row-requires-clause-within c = c.loop-j-test.true
+
+pub loop-j-init : goal.loop-j-init
+loop-j-init c = rw c.new-duals.ensures.items (record { as_many = refl; each = λ i l. absurd (omega arith) })

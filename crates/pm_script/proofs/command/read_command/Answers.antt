@@ -16,3 +16,14 @@ returns-clause-ok c =
     let heard : is_silent c.args.line.now ≡ false = sym c.is_silent.ensures ∙ c.if-is_silent.false in
     let utf8 : is_utf8 c.args.line.now ≡ true = is_utf8-from_IsUtf8 c.args.line.now c.in-Ok.ensures.cases.1 in
     rw (heard, utf8) (rw (c.split_word.ensures.word, c.split_word.ensures.rest, c.in-Ok.ensures.cases.0) at c.read_words.ensures.ok)
+
+pub returns-clause-refused : goal.returns-clause-refused
+returns-clause-refused c =
+    let heard : is_silent c.args.line.now ≡ false = sym c.is_silent.ensures ∙ c.if-is_silent.false in
+    let utf8 : is_utf8 c.args.line.now ≡ true = is_utf8-from_IsUtf8 c.args.line.now c.in-Ok.ensures.cases.1 in
+    rw (heard, utf8) (rw (c.split_word.ensures.word, c.split_word.ensures.rest, c.in-Ok.ensures.cases.0) at c.read_words.ensures.refused)
+
+pub returns-then-is_silent-clause-ok : goal.returns-then-is_silent-clause-ok
+returns-then-is_silent-clause-ok c =
+    let silent : is_silent c.args.line.now ≡ true = sym c.is_silent.ensures ∙ c.if-is_silent.true in
+    rw silent refl
