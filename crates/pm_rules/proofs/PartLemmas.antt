@@ -11,8 +11,8 @@ use Rattle.pm_rules.specs.declared.fail.BookFail.{BookFail}
 use Rattle.pm_rules.specs.declared.fail.BookFail.TheVariants.{Syntax}
 use Rattle.pm_rules.specs.Tokens.{Token}
 use Rattle.pm_rules.specs.Seen.{seen}
-use Rattle.pm_rules.specs.Gives.{IsBehindComma, HasNoComma, HasCondition}
-use Rattle.pm_rules.specs.Reading.{name_of, names_from, Conditions, condition_of, with_condition, conditions_from}
+use Rattle.pm_rules.specs.Gives.{IsBehindComma, HasNoComma, EndsBefore, HasCondition}
+use Rattle.pm_rules.specs.Reading.{name_of, names_from, is_not, Conditions, condition_of, with_condition, conditions_from}
 use Rattle.pm_rules.specs.Reading.Due.{condition, comma}
 
 -- ---- names
@@ -68,6 +68,25 @@ pub condition_next : (found more : Conditions) (end : ℕ) (ts behind rest : Lis
     → more ≡ with_condition found negated p → IsBehindComma behind rest → conditions_from condition found end ts ≡ conditions_from condition more end rest
 condition_next found more end ts behind rest negated t p has h e next =
     has found end ∙ (rw h (conditions_next (with_condition found negated p) end behind rest next)) ∙ ap (λ f. conditions_from condition f end rest) (sym e)
+
+-- what comes next: no condition, one, or one behind `!`
+pub ends_here : (ts : List CodeToken) → length ts ≡ 0 → EndsBefore (map seen ts)
+unfolding conditions_from
+ends_here [] e = λ found end. refl
+ends_here (t ∷ ts) e = absurd (omega arith)
+
+pub ends_behind : (t : Token) (ts : List CodeToken) → true ≡ is_not t → length ts ≡ 0 → EndsBefore (t ∷ map seen ts)
+unfolding conditions_from
+ends_behind t [] h e = λ found end. rw (sym h) refl
+ends_behind t (u ∷ ts) h e = absurd (omega arith)
+
+pub condition_here : (t : Token) (ts : List Token) → false ≡ is_not t → HasCondition (t ∷ ts) false t ts
+unfolding conditions_from
+condition_here t ts h = λ found end. rw (sym h) refl
+
+pub condition_behind : (t u : Token) (ts : List Token) → true ≡ is_not t → HasCondition (t ∷ u ∷ ts) true u ts
+unfolding conditions_from
+condition_behind t u ts h = λ found end. rw (sym h) refl
 
 -- what a search for an element says
 pub any_from_cases : {X : Type 0} (p : X → Bool) (xs : List X) (r : Bool)

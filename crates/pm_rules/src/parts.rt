@@ -168,12 +168,15 @@ fn next_condition<'t, 'a>(tokens: &'t [Token<'a>]) -> Option<(bool, &'t Token<'a
     ensures some { IfSome result (λ x. HasCondition (map seen tokens.now) x.0 (seen x.1.now) (seen_rest x.2)) }
     ensures shorter { IfSome result (λ x. length x.2.now < length tokens.now) }
 {
-    let (first, behind) = tokens.split_first()?;
-    if is_not(first) {
-        let (second, rest) = behind.split_first()?;
-        Some((true, second, rest))
-    } else {
-        Some((false, first, behind))
+    let Some((first, behind)) = tokens.split_first() else {
+        return None;
+    };
+    if !is_not(first) {
+        return Some((false, first, behind));
+    }
+    match behind.split_first() {
+        None => None,
+        Some((second, rest)) => Some((true, second, rest)),
     }
 }
 

@@ -1,6 +1,6 @@
 // Books read from texts.
 
-ghost use Rattle.std.specs.Prelude.{◌≡◌, ◌-◌, IfOk, Ok, List, map, length, find, IsTrue};
+ghost use Rattle.std.specs.Prelude.{◌≡◌, ◌-◌, true, IfOk, Ok, List, map, length, find, IsTrue};
 ghost use Rattle.std.specs.List.{list_any};
 ghost use Rattle.std.specs.Str.{bytes_eq};
 ghost use Rattle.pm_rules.specs.Words.{is_label};
@@ -10,7 +10,7 @@ ghost use Rattle.pm_rules.specs.SeenParts.{head_seen, body_seen, tail_seen};
 ghost use Rattle.pm_rules.specs.Grammar.{IsBookText};
 ghost use Rattle.pm_rules.specs.Gives.{Reads, Gives};
 ghost use Rattle.pm_rules.specs.declared.rule.Rule.{Rule};
-ghost use Rattle.pm_rules.specs.Reading.{label_from, kind_from, weight_from, close_from, head_from, body_from, preconditions_from, tail_from, begins_with, agrees, mismatch, rule_from, rules_from, book_of};
+ghost use Rattle.pm_rules.specs.Reading.{◌>>=◌ as read_on, after, names_from, label_from, kind_from, weight_from, close_from, head_from, body_from, preconditions_from, tail_from, begins_with, agrees, mismatch, rule_from, rules_from, book_of};
 
 use crate::book::Book;
 use crate::fail::BookFail;
@@ -155,6 +155,31 @@ pub struct Tail<'t, 'a> {
     pub rest: &'t [Token<'a>],
 }
 
+// What comes behind two tokens with these texts.
+fn after_both<'t, 'a>(
+    first: &[u8],
+    second: &[u8],
+    end: usize,
+    tokens: &'t [Token<'a>],
+) -> Result<&'t [Token<'a>], BookFail>
+    ensures { Reads seen_rest result (read_on (after first.now end (map seen tokens.now)) (after second.now end)) }
+{
+    let behind = after(first, end, tokens)?;
+    after(second, end, behind)
+}
+
+// Names, behind a token with this text.
+fn names_behind<'t, 'a>(
+    text: &[u8],
+    end: usize,
+    tokens: &'t [Token<'a>],
+) -> Result<(PropSet, &'t [Token<'a>]), BookFail>
+    ensures { Reads (λ x. (x.0, seen_rest x.1)) result (read_on (after text.now end (map seen tokens.now)) (names_from true 0 end)) }
+{
+    let behind = after(text, end, tokens)?;
+    names(end, behind)
+}
+
 #[tactic(auto, unfolding(crate::specs::Reading::head_from))]
 fn head_from<'t, 'a>(
     had: &[Rule],
@@ -168,13 +193,11 @@ fn head_from<'t, 'a>(
         Err(fail) => return Err(fail),
     };
     let begun = after(":".as_bytes(), end, behind)?;
-    let named = after("rule".as_bytes(), end, begun)?;
-    let (targets, behind) = match names(end, named) {
+    let (targets, behind) = match names_behind("rule".as_bytes(), end, begun) {
         Ok(found) => found,
         Err(fail) => return Err(fail),
     };
-    let parted = after(":".as_bytes(), end, behind)?;
-    let (sources, rest) = match names(end, parted) {
+    let (sources, rest) = match names_behind(":".as_bytes(), end, behind) {
         Ok(found) => found,
         Err(fail) => return Err(fail),
     };
@@ -199,8 +222,7 @@ fn body_from<'t, 'a>(
         Ok(found) => found,
         Err(fail) => return Err(fail),
     };
-    let closed = after("}".as_bytes(), end, behind)?;
-    let weighed = after("weight".as_bytes(), end, closed)?;
+    let weighed = after_both("}".as_bytes(), "weight".as_bytes(), end, behind)?;
     let (weight, rest) = match weight_from(end, weighed) {
         Ok(found) => found,
         Err(fail) => return Err(fail),
@@ -222,8 +244,7 @@ fn begins_with(text: &[u8], tokens: &[Token]) -> bool
 fn preconditions_from<'t, 'a>(end: usize, tokens: &'t [Token<'a>]) -> Result<Tail<'t, 'a>, BookFail>
     ensures { Reads tail_seen result (preconditions_from end (map seen tokens.now)) }
 {
-    let begun = after("precondition".as_bytes(), end, tokens)?;
-    let listed = after(":".as_bytes(), end, begun)?;
+    let listed = after_both("precondition".as_bytes(), ":".as_bytes(), end, tokens)?;
     let (conditions, behind) = match all_conditions(end, listed) {
         Ok(found) => found,
         Err(fail) => return Err(fail),
