@@ -1,4 +1,3 @@
-use Rattle.pm_elim.proofs.BasisLaws.{row_length}
 use Rattle.pm_bases.specs.Bases.{row_at}
 use Rattle.pm_elim.proofs.older.wide_older.Goals as goal
 use Rattle.pm_elim.specs.Steps.{StepStays}
@@ -14,25 +13,3 @@ loop-i-preserved c =
 
 pub returns-clause-stays : goal.returns-clause-stays
 returns-clause-stays c = λ i l. c.loop-i.invariant i (omega arith)
-
-pub wide_column-requires-clause-same_length : goal.wide_column-requires-clause-same_length
-wide_column-requires-clause-same_length c =
-    let within : c.loop-i.i < length c.args.rows.now = omega arith in
-    let here : c.index-rows-i.result ≡ row_at c.args.rows.now c.loop-i.i = get_or_read c.args.rows.now c.loop-i.i c.index-rows-i.result within c.index-rows-i.is _ in
-    rw here (row_length (length c.args.new.now) c.args.rows.now c.loop-i.i c.requires.cols within)
-
-pub wide_column-requires-clause-within : goal.wide_column-requires-clause-within
-wide_column-requires-clause-within c =
-    let within : c.loop-i.i < length c.args.rows.now = omega arith in
-    let here : c.index-rows-i.result ≡ row_at c.args.rows.now c.loop-i.i = get_or_read c.args.rows.now c.loop-i.i c.index-rows-i.result within c.index-rows-i.is _ in
-    let same = row_length (length c.args.new.now) c.args.rows.now c.loop-i.i c.requires.cols within in
-    rw here (omega arith)
-
-pub returns-in-Some-clause-wide : goal.returns-in-Some-clause-wide
-returns-in-Some-clause-wide c =
-    let within : c.loop-i.i < length c.args.rows.now = omega arith in
-    let here : c.index-rows-i.result ≡ row_at c.args.rows.now c.loop-i.i = get_or_read c.args.rows.now c.loop-i.i c.index-rows-i.result within c.index-rows-i.is _ in
-    rw here at c.in-Some.ensures.wide
-
-pub returns-in-Some-clause-place : goal.returns-in-Some-clause-place
-returns-in-Some-clause-place c = c.loop-i-test.true
