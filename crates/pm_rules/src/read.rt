@@ -192,12 +192,12 @@ fn head_from<'t, 'a>(
         Ok(found) => found,
         Err(fail) => return Err(fail),
     };
-    let begun = after(":".as_bytes(), end, behind)?;
-    let (targets, behind) = match names_behind("rule".as_bytes(), end, begun) {
+    let begun = after(b":", end, behind)?;
+    let (targets, behind) = match names_behind(b"rule", end, begun) {
         Ok(found) => found,
         Err(fail) => return Err(fail),
     };
-    let (sources, rest) = match names_behind(":".as_bytes(), end, behind) {
+    let (sources, rest) = match names_behind(b":", end, behind) {
         Ok(found) => found,
         Err(fail) => return Err(fail),
     };
@@ -217,12 +217,12 @@ fn body_from<'t, 'a>(
 ) -> Result<Body<'t, 'a>, BookFail>
     ensures { Reads body_seen result (body_from kinds.now end (map seen tokens.now)) }
 {
-    let opened = after("{".as_bytes(), end, tokens)?;
+    let opened = after(b"{", end, tokens)?;
     let (kind, behind) = match kind_from(kinds, end, opened) {
         Ok(found) => found,
         Err(fail) => return Err(fail),
     };
-    let weighed = after_both("}".as_bytes(), "weight".as_bytes(), end, behind)?;
+    let weighed = after_both(b"}", b"weight", end, behind)?;
     let (weight, rest) = match weight_from(end, weighed) {
         Ok(found) => found,
         Err(fail) => return Err(fail),
@@ -244,7 +244,7 @@ fn begins_with(text: &[u8], tokens: &[Token]) -> bool
 fn preconditions_from<'t, 'a>(end: usize, tokens: &'t [Token<'a>]) -> Result<Tail<'t, 'a>, BookFail>
     ensures { Reads tail_seen result (preconditions_from end (map seen tokens.now)) }
 {
-    let listed = after_both("precondition".as_bytes(), ":".as_bytes(), end, tokens)?;
+    let listed = after_both(b"precondition", b":", end, tokens)?;
     let (conditions, behind) = match all_conditions(end, listed) {
         Ok(found) => found,
         Err(fail) => return Err(fail),
@@ -268,7 +268,7 @@ fn tail_from<'t, 'a>(end: usize, tokens: &'t [Token<'a>]) -> Result<Tail<'t, 'a>
         Ok(found) => found,
         Err(fail) => return Err(fail),
     };
-    if begins_with("precondition".as_bytes(), rest) {
+    if begins_with(b"precondition", rest) {
         preconditions_from(end, rest)
     } else {
         Ok(Tail {
