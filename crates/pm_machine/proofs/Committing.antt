@@ -15,11 +15,16 @@ use Rattle.pm_types.specs.Values.{Fact, PropertyValue}
 use Rattle.pm_types.specs.declared.property.PropId.{PropId}
 use Rattle.std.proofs.Common.{ap, append-nil, arith, drop, false, get_or, inl, inr, refl, subst, sym, true, true≢false, ◌∙◌}
 use Rattle.std.specs.Option.{is_some}
-use Rattle.std.specs.Prelude.{Bool, IfSome, List, None, Option, Some, [], if◌then◌else◌, filter, length, nat_eq, nat_le, not, suc, zero, ℕ, ◌&&◌, ◌+◌, ◌++◌, ◌<◌, ◌≤◌, ◌∷◌, ◌||◌, ◌≡◌, ◌⊎◌}
+use Rattle.std.specs.Prelude.{Bool, Err, IfSome, List, None, Ok, OnOk, Option, Result, Some, [], if◌then◌else◌, filter, length, nat_eq, nat_le, not, suc, zero, ℕ, ◌&&◌, ◌+◌, ◌++◌, ◌<◌, ◌≤◌, ◌∷◌, ◌||◌, ◌≡◌, ◌⊎◌}
 
 decide : (b : Bool) → (b ≡ true) ⊎ (b ≡ false)
 decide true = inl refl
 decide false = inr refl
+
+-- what follows from what holds on success
+pub on_ok_of : {T E P Q : Type 0} (r : Result T E) → (P → Q) → OnOk r P → OnOk r Q
+on_ok_of (Ok x) f p = f p
+on_ok_of (Err e) f p = tt
 
 -- ---- the targets differ
 abbrev pub ascends : ℕ → List PropId → Bool
@@ -56,9 +61,6 @@ filtered f n (p ∷ ps) e =
 pub members_ascend : (s : ℕ) → ascends 0 (members s) ≡ true
 unfolding members
 members_ascend s = filtered (has s) 0 every_property refl
-
-lt_apart : (a b : ℕ) → nat_le (suc a) b ≡ true → nat_eq a b ≡ false
-lt_apart a b h = grind arith
 
 lt_apart_back : (a b : ℕ) → nat_le (suc a) b ≡ true → nat_eq b a ≡ false
 lt_apart_back a b h = grind arith

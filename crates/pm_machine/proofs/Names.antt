@@ -28,7 +28,7 @@ use Rattle.std.proofs.lemmas.Slice.Eq.{bytes_eq-Decides}
 use Rattle.std.specs.HashMap.{HashMap, UpdatesBy, get_by_text}
 use Rattle.std.specs.Option.{IsSome, is_some, option_map}
 use Rattle.std.specs.String.{string_eq}
-use Rattle.std.specs.Prelude.{Bool, String, Err, IfOk, IfSome, List, None, Ok, OnErr, Option, Result, Some, cond, string_bytes, ℕ, ◌≡◌, ◌⊎◌}
+use Rattle.std.specs.Prelude.{Bool, String, Err, IfOk, IfSome, List, None, Ok, OnErr, Option, Result, Some, [], cond, string_bytes, ℕ, ◌≡◌, ◌⊎◌}
 
 decide : (b : Bool) → (b ≡ true) ⊎ (b ≡ false)
 decide true = inl refl
@@ -85,14 +85,12 @@ pub kept_unless : {F E : Type 0} (r : Result F E) (old new : Machine) → OnErr 
 kept_unless (Ok x) old new same = tt
 kept_unless (Err x) old new same = λ all. record { each = kept_same old.object new.object same all.each }
 
-pub kept_step : {E : Type 0} {F : Type 0} (view : F → ReplySeen) (book : List Rule) (old new : Machine) (command : Spoken) (r : Result F E) → IfOk r (λ x. Step book old command (view x) new)
-    → OnErr r (AllKept old → AllKept new) → AllKept old → AllKept new
-kept_step view book old new command (Ok x) s e all = steps_keep book old new command (view x) s all
-kept_step view book old new command (Err x) s e all = e all
-
 pub map_some : {A B : Type 0} (f : A → B) (x : Option A) → is_some (option_map f x) ≡ is_some x
 map_some f None = refl
 map_some f (Some a) = refl
+
+pub none_mapped : {A B : Type 0} (f : A → B) (x : Option A) (y : Option B) → x ≡ None → option_map f x ≡ y → y ≡ None
+none_mapped f x y is same = sym same ∙ ap (option_map f) is
 
 -- the refusals with which a value is not taken
 abbrev is_of_taking : Refusal → Bool
@@ -134,9 +132,19 @@ machine_with object count clients = record { object = object; count = count; cli
 abbrev pub ref_with : List ℕ → Option (List ℕ) → RefSeen
 ref_with name sub = record { name = name; sub = sub }
 
+pub kept_step : {E F : Type 0} (view : F → ReplySeen) (book : List Rule) (old new : List ℕ → Option State) (n m : ℕ) (clients after : Clients) (command : Spoken) (r : Result F E)
+    → IfOk r (λ x. Step book (machine_with old n clients) command (view x) (machine_with new m after))
+    → OnErr r (AllKept (machine_with old n []) → AllKept (machine_with new m [])) → AllKept (machine_with old n clients) → AllKept (machine_with new m after)
+kept_step view book old new n m clients after command (Ok x) s e all = steps_keep book _ _ command (view x) s all
+kept_step view book old new n m clients after command (Err x) s e all = record { each = (e (record { each = all.each })).each }
+
 pub at_whole : (sub : Option (List ℕ)) (x : Option State) (o : State) → is_some sub ≡ false → x ≡ Some o → whole_of sub x ≡ Some o
 at_whole None x o e is = is
 at_whole (Some s) x o e is = absurd (true≢false e)
+
+pub at_part : (sub : Option (List ℕ)) (x : Option State) → is_some sub ≡ true → whole_of sub x ≡ None
+at_part None x e = absurd (true≢false (sym e))
+at_part (Some s) x e = refl
 
 pub stays_with : (old new : List ℕ → Option State) (n m : ℕ) (clients : Clients) (name : List ℕ) (o o' : State) → old name ≡ Some o → new name ≡ Some o' → o' ≡ o → ((q : List ℕ) → q ≢ name → new q ≡ old q) → m ≡ n
     → Stays (machine_with old n clients) (machine_with new m clients)

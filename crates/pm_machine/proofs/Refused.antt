@@ -41,3 +41,18 @@ not_held o p v e is refused missing =
 pub not_sealed : (o : State) (p : PropId) (v : PropertyValue) (e : TakeFail) → e ≡ Sealed → (e ≢ Memory → CannotTake o p v e) → is_sealed o ≡ false → ⊥
 not_sealed o p v e is refused unsealed =
     true≢false (sym (second_of (is_held p o.held) (is_sealed o) (has o.of p) (agrees (cols_of o.held) p v) (are_rows o.of p v) (sealed o p v e is refused)) ∙ unsealed)
+
+third_of : (a b c d e : Bool) → take_order a b c d e ≡ Some NotOfType → c ≡ false
+third_of a b false d e h = refl
+third_of true b true d e h = absurd cc
+third_of false true true d e h = absurd cc
+third_of false false true false e h = absurd cc
+third_of false false true true false h = absurd cc
+third_of false false true true true h = absurd cc
+
+not_of : (o : State) (p : PropId) (v : PropertyValue) (e : TakeFail) → e ≡ NotOfType → (e ≢ Memory → CannotTake o p v e) → CannotTake o p v NotOfType
+not_of o p v e is refused = search rules
+
+pub not_outside : (o : State) (p : PropId) (v : PropertyValue) (e : TakeFail) → e ≡ NotOfType → (e ≢ Memory → CannotTake o p v e) → has o.of p ≡ true → ⊥
+not_outside o p v e is refused inside =
+    true≢false (sym inside ∙ third_of (is_held p o.held) (is_sealed o) (has o.of p) (agrees (cols_of o.held) p v) (are_rows o.of p v) (not_of o p v e is refused))

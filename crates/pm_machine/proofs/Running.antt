@@ -1,15 +1,14 @@
 -- From a rule that is enabled to a run that may be, and from a run to a round.
 use Rattle.pm_algebra.proofs.Filters.{map_among, among_map}
-use Rattle.pm_algebra.proofs.Lists.{Among, Contains_among, among_All, among_Contains, here, there}
+use Rattle.pm_algebra.proofs.Lists.{Among, Contains_among, among_Contains, here, there}
 use Rattle.pm_machine.proofs.Committing.{named_held}
 use Rattle.pm_machine.specs.Chains.{is_truth, is_wrong, some_wrong, table}
-use Rattle.pm_machine.specs.Commits.{FitsObject}
 use Rattle.pm_machine.specs.Running.{RunsRule}
 use Rattle.pm_object.proofs.Formed.{dimension_of, held_stays, value_among}
 use Rattle.pm_object.proofs.Names.{names_held}
 use Rattle.pm_object.specs.Formed.{IsFormed}
 use Rattle.pm_object.specs.Honest.{facts}
-use Rattle.pm_object.specs.State.{HeldValue, State, agrees, ambient_in, cols_of, first_cols, is_held, names_of, or_else, value_of}
+use Rattle.pm_object.specs.State.{HeldValue, State, ambient_in, cols_of, first_cols, is_held, names_of, or_else, value_of}
 use Rattle.pm_object.specs.declared.held.RoundEnd.{RoundEnd}
 use Rattle.pm_object.specs.declared.held.RoundEnd.TheVariants as end
 use Rattle.pm_rules.specs.Books.{IsRule}
@@ -18,10 +17,10 @@ use Rattle.pm_rules.specs.declared.rule.Rule.{Rule}
 use Rattle.pm_types.proofs.Every.{has-set_of_filter}
 use Rattle.pm_types.proofs.Kept.{among_every, named_from}
 use Rattle.pm_types.proofs.Members.{has-intersection, has-union}
-use Rattle.pm_types.specs.Forms.{FormsIn, has_64_bits, is_formed, is_matrix_form, is_of_matrices, is_of_sets, is_of_whole_numbers, is_sets_form}
+use Rattle.pm_types.specs.Forms.{has_64_bits, is_formed, is_matrix_form, is_of_matrices, is_of_sets, is_of_whole_numbers, is_sets_form}
 use Rattle.pm_types.specs.Kinds.{IsFresh, IsKindOf, names_of as names_of_kind}
 use Rattle.pm_types.specs.Properties.{every_property, has as has_in, has_program, value_kind}
-use Rattle.pm_types.specs.Runs.{Holds, IsFree, MayAnswer, MayRun, place_of, shown}
+use Rattle.pm_types.specs.Runs.{Holds, IsFree, MayRun, place_of}
 use Rattle.pm_types.specs.Sets.{has, intersection, union}
 use Rattle.pm_types.specs.Values.{Fact, PropertyValue, matrix, sets, whole, truth, extended, edges, lattice, counts}
 use Rattle.pm_types.specs.declared.kind.Kind.{Kind}
@@ -71,10 +70,6 @@ any_false test (x ∷ xs) e (there i) = any_false test xs (or_parts (test x) (li
 
 pub none_wrong : (rule : Rule) (held : List HeldValue) (p : PropId) → some_wrong rule held ≡ false → is_wrong rule held p ≡ false
 none_wrong rule held p e = any_false (is_wrong rule held) every_property e (among_every p)
-
--- the parts of not being barred
-four_parts : (a b c d : Bool) → (((a || b) || c) || d) ≡ false → (b ≡ false) × (d ≡ false)
-four_parts a b c d h = let (l, r) = or_parts ((a || b) || c) d h in ((or_parts a b (or_parts (a || b) c l).0).1, r)
 
 -- ---- truth values
 not_matrices : (p : PropId) → value_kind p ≡ form.Bool → is_of_matrices (value_kind p) ≡ false
@@ -231,14 +226,6 @@ kind_in_use o barred id rule is_rule enabled p named = sym (has-set_of_filter (h
     named_by (inl (inr h)) = read (reads_source rule p h)
     named_by (inr (inl h)) = read (reads_condition rule p (reads_must rule p (within rule.kind.must rule.must p is_rule.must h)))
     named_by (inr (inr h)) = read (reads_condition rule p (reads_must_not rule p (within rule.kind.must_not rule.must_not p is_rule.must_not h)))
-
--- ---- what was answered fits the object
-pub fits_object : (o : State) (kind : Kind) (n : ℕ) (answer : List Fact) → cols_of o.held ≡ Some n → MayAnswer o.of n kind None (shown kind None (facts o.held)) answer → FitsObject o answer
-fits_object o kind n answer known may = record {
-  each = λ f i.
-      let forms = among_All (λ g. FormsIn o.of n g.property g.value) (among_Contains answer i) may.formed in
-      record { formed = forms.formed; columns = subst (λ c. agrees c f.property f.value ≡ true) (sym known) forms.columns; rows = forms.rows; entries = forms.entries; primitive = forms.primitive };
-}
 
 -- a run leaves what is held
 pub runs_hold : (id : RuleId) (kind : Kind) (old new : State) (e : RoundEnd) (p : PropId) → RunsRule id kind old e new → is_held p old.held ≡ true → is_held p new.held ≡ true

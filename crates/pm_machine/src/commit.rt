@@ -29,8 +29,7 @@ fn commit_one(object: &mut Object, draft: &mut Draft, p: PropId) -> Result<(), A
     if held {
         return Ok(());
     }
-    object.add_computed(p, value)?;
-    Ok(())
+    object.add_computed(p, value)
 }
 
 /// Adds the values of the draft that the object does not hold, in the order of their numbers.

@@ -223,9 +223,10 @@ impl Session {
                 why: Refusal::UnknownProperty,
             });
         };
-        match take_text(alloc, object, p, json)? {
-            Some(why) => Ok(Reply::Refused { why }),
-            None => Ok(Reply::Done),
+        match take_text(alloc, object, p, json) {
+            Ok(Some(why)) => Ok(Reply::Refused { why }),
+            Ok(None) => Ok(Reply::Done),
+            Err(fail) => Err(fail),
         }
     }
 
@@ -303,12 +304,8 @@ impl Session {
         if self.spent {
             return Err(AllocError);
         }
-        match self.do_step(alloc, c, clients) {
-            Ok(reply) => Ok(reply),
-            Err(e) => {
-                self.spent = true;
-                Err(e)
-            }
-        }
+        let ran = self.do_step(alloc, c, clients);
+        self.spent = ran.is_err();
+        ran
     }
 }

@@ -1,7 +1,7 @@
 -- Each answer of the object's own call is the answer here.
 use Rattle.std.proofs.Common.{refl}
 use Rattle.pm_types.specs.Views.{view_of}
-use Rattle.pm_machine.proofs.Refused.{columns, not_a_thing, not_held, not_sealed}
+use Rattle.pm_machine.proofs.Refused.{columns, not_a_thing, not_held, not_outside, not_sealed}
 use Rattle.pm_machine.proofs.taking.take_read.Goals as goal
 
 pub take-requires : goal.take-requires
@@ -27,3 +27,8 @@ pub unreachable-requires-in-Err-Sealed : goal.unreachable-requires-in-Err-Sealed
 unreachable-requires-in-Err-Sealed c =
     not_sealed c.args.object.now c.args.p (view_of c.args.v)
     c.in-Err-Sealed.field-0 c.in-Err-Sealed.field-0-is c.in-Err-Sealed.ensures.refused c.requires.open
+
+pub unreachable-requires-in-Err-NotOfType : goal.unreachable-requires-in-Err-NotOfType
+unreachable-requires-in-Err-NotOfType c =
+    not_outside c.args.object.now c.args.p (view_of c.args.v)
+    c.in-Err-NotOfType.field-0 c.in-Err-NotOfType.field-0-is c.in-Err-NotOfType.ensures.refused c.requires.table

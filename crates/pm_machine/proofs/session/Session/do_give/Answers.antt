@@ -3,7 +3,7 @@ use Rattle.std.proofs.Common.{Some, ap, refl, sym, ◌∙◌, ◌≡◌}
 use Rattle.std.specs.HashMap.{get_by_text}
 use Rattle.std.specs.Option.{option_map}
 use Rattle.std.specs.Prelude.{None, string_bytes}
-use Rattle.pm_machine.proofs.Names.{give_step, give_unknown, kept_if_err, map_some, written}
+use Rattle.pm_machine.proofs.Names.{at_part, give_step, give_unknown, kept_if_err, map_some, written}
 use Rattle.pm_machine.specs.Steps.{property_named}
 use Rattle.pm_script.specs.Replies.{seen}
 use Rattle.pm_machine.proofs.session.Session.do_give.Goals as goal
@@ -34,3 +34,9 @@ returns-clause-kept g c =
     let o' = c.give_value.new.object in
     let w = written c.args.self.now.objects (c.get_mut.follows.lender o') _ name o o' c.as_str.ensures.value c.in-Some.ensures.value (c.get_mut.follows.holds o').3 in
     kept_if_err c.give_value.result (get_by_text c.args.self.now.objects) (get_by_text (c.get_mut.follows.lender o')) _ _ _ name o o' w.0 w.1 c.give_value.ensures.err w.2
+
+pub returns-then-is_some-clause-step : goal.returns-then-is_some-clause-step
+returns-then-is_some-clause-step g c = (
+  at_part (option_map string_bytes c.args.obj.now.sub) _ (map_some string_bytes c.args.obj.now.sub ∙ sym c.is_some.ensures ∙ c.if-is_some.true),
+  record { objects = λ q. refl; count = refl; clients = refl },
+)

@@ -12,3 +12,6 @@ returns-in-Take-clause-kept g c = kept_unless c.do_take.result (machine_of c.arg
 
 pub returns-in-Lookup-clause-kept : goal.returns-in-Lookup-clause-kept
 returns-in-Lookup-clause-kept g c = on_err_of c.do_lookup.result (λ all. all)
+
+pub returns-in-Give-clause-kept : goal.returns-in-Give-clause-kept
+returns-in-Give-clause-kept g c = c.do_give.ensures.kept
