@@ -20,9 +20,6 @@ use lib.Signed.{lt_z_yes, ◌<ℤ◌}
 pub abs-zero : (z : ℤ) → unsigned_abs z ≡ 0 → z ≡ pos 0
 abs-zero z h = omega (arith, ints)
 
-pub zero-abs : (z : ℤ) → z ≡ pos 0 → unsigned_abs z ≡ 0
-zero-abs z h = rw h
-
 zero_from_zero-dvd : (n : ℕ) → 0 ∣ n → n ≡ 0
 zero_from_zero-dvd n h = sym (dvd_antisymm h (dvd-zero n))
 

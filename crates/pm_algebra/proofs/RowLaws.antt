@@ -110,8 +110,5 @@ length-opposite l = length-times (negsuc 0) l
 pub same_sym : {x y : Row} → Same x y → Same y x
 same_sym s = record { at = λ i. sym (s.at i) }
 
-pub same_trans : {x y z : Row} → Same x y → Same y z → Same x z
-same_trans s t = record { at = λ i. s.at i ∙ t.at i }
-
 pub row_equal : (x y : Row) → length x ≡ length y → Same x y → x ≡ y
 row_equal x y l s = ext_get_or (pos 0) x y l (λ i li. s.at i)

@@ -1,13 +1,10 @@
--- Signs of products, cancellation of a positive factor, and comparison by cross products.
+-- Signs of products, and cancellation of a positive factor.
 use Rattle.pm_algebra.proofs.Ring.{ring}
-use Rattle.std.proofs.Common.{ap, arith, inl, inr}
+use Rattle.std.proofs.Common.{ap, arith}
 use Rattle.std.proofs.lemmas.Int.{by_lt_z, ints}
-use Rattle.std.specs.Prelude.{suc, zero, ◌≡◌, ◌⊎◌}
+use Rattle.std.specs.Prelude.{suc, zero, ◌≡◌}
 use lib.IntN.{neg_ℤ, negsuc, pos, ℤ, ◌*ℤ◌, ◌-ℤ◌}
 use lib.Signed.{◌<ℤ◌, ◌≤ℤ◌}
-
-pub le_or_lt : (a b : ℤ) → (a ≤ℤ b) ⊎ (b <ℤ a)
-le_or_lt a b = by_lt_z b a (λ h. inr h) (λ h. inl h)
 
 pub mul_nonneg : {a b : ℤ} → pos 0 ≤ℤ a → pos 0 ≤ℤ b → pos 0 ≤ℤ (a *ℤ b)
 mul_nonneg {a = pos m} {b = pos n} h k = omega (arith, ints)
@@ -62,15 +59,6 @@ mul_cancel {a} {b} {c} h e =
     let r = le_cancel h p in
     let s = le_cancel h q in
     omega (arith, ints)
-
--- p/q ≤ r/s and r/s ≤ t/u, by cross products, for positive q, s, u
-pub cross_trans : (p q r s t u : ℤ) → pos 0 <ℤ q → pos 0 <ℤ s → pos 0 <ℤ u → (p *ℤ s) ≤ℤ (r *ℤ q) → (r *ℤ u) ≤ℤ (t *ℤ s) → (p *ℤ u) ≤ℤ (t *ℤ q)
-cross_trans p q r s t u hq hs hu h k =
-    let q0 : pos 0 ≤ℤ q = omega (arith, ints) in
-    let u0 : pos 0 ≤ℤ u = omega (arith, ints) in
-    let a = simp ring at (mul_le u0 h) in
-    let b = simp ring at (mul_le q0 k) in
-    le_cancel {a = s} {b = p *ℤ u} {c = t *ℤ q} hs (simp ring (omega (arith, ints)))
 
 pub weaken : {a b : ℤ} → a <ℤ b → a ≤ℤ b
 weaken {a} {b} h = omega (arith, ints)

@@ -1,6 +1,6 @@
 -- The span of rows: what it is closed under, and which changes of the rows keep it.
 use Rattle.pm_algebra.proofs.ConeLaws.{in_divide, in_line, in_plus, in_same, in_through, in_times, in_zero, lines_opposite}
-use Rattle.pm_algebra.proofs.Lists.{Among, Contains_among, among_Contains, among_append, among_append_left, among_append_right, here, there}
+use Rattle.pm_algebra.proofs.Lists.{Among, among_append, among_append_left, among_append_right, here, there}
 use Rattle.pm_algebra.proofs.Ring.{ring}
 use Rattle.pm_algebra.proofs.RowLaws.{entry-difference, entry-opposite, entry-plus, entry-times, same_sym}
 use Rattle.pm_algebra.specs.Cones.{InSpan}
@@ -9,9 +9,7 @@ use Rattle.pm_bases.specs.Bases.{SameSpan, row_at}
 use Rattle.pm_bases.specs.Laws.{SpanIsKept}
 use Rattle.std.proofs.Common.{arith, inl, inr, refl, subst, sym}
 use Rattle.std.proofs.lemmas.Int.{by_lt_z, ints}
-use Rattle.std.proofs.lemmas.List.Sorted.{Contains-permutation, IsPermutation-sym}
 use Rattle.std.proofs.lemmas.List.{get_or-set_other, get_or-set_same, length-set}
-use Rattle.std.specs.List.Sorted.{IsPermutation}
 use Rattle.std.specs.Prelude.{List, [], length, slice_set, suc, zero, ℕ, ◌++◌, ◌<◌, ◌∷◌, ◌≡◌}
 use lib.IntN.{neg_ℤ, pos, ℤ}
 use lib.Signed.{◌<ℤ◌, ◌≤ℤ◌}
@@ -63,13 +61,6 @@ same_span_sym s = record { same = λ x. (λ h. (s.same x).1 h, λ h. (s.same x).
 
 pub same_span_trans : {R S T : List Row} → SameSpan R S → SameSpan S T → SameSpan R T
 same_span_trans s t = record { same = λ x. (λ h. (t.same x).0 ((s.same x).0 h), λ h. (s.same x).1 ((t.same x).1 h)) }
-
--- the order of the rows does not matter
-pub same_span_permutation : (R R' : List Row) → IsPermutation R R' → SameSpan R R'
-same_span_permutation R R' p =
-    same_span R R'
-    (λ r i. in_line (among_Contains R' (Contains-permutation R R' r p (Contains_among i))))
-    (λ r i. in_line (among_Contains R (Contains-permutation R' R r (IsPermutation-sym R R' p) (Contains_among i))))
 
 -- ---- a row is replaced
 pub place_of : {x : Row} {R : List Row} → Among x R → (k : ℕ) × (k < length R) × (row_at R k ≡ x)

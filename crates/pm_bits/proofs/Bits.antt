@@ -9,9 +9,6 @@ use Rattle.pm_bits.specs.Words.{has_bit, EachWord, IsWithin, AreMet}
 
 -- ---- one word
 
-test_of_bit : (n : ℕ) → n < 2 → (n == 1) ≡ true → n ≡ 1
-test_of_bit n small h = eqb-true n 1 h
-
 -- two bits are the same where their tests are
 pub same_bits : (m n : ℕ) → m < 2 → n < 2 → (m == 1) ≡ (n == 1) → m ≡ n
 same_bits m n small_m small_n e = elim (cases_Bool (n == 1)) [

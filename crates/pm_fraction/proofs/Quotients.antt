@@ -107,11 +107,6 @@ sizes_same (pos zero) (negsuc m) = simp ring
 sizes_same (pos (suc n)) (negsuc m) = rw (suc_above n) refl
 sizes_same (negsuc n) (negsuc m) = refl
 
-pub some_abs : (d : ℤ) → d ≢ pos 0 → 0 < unsigned_abs d
-some_abs (pos zero) e = absurd (e refl)
-some_abs (pos (suc n)) e = omega arith
-some_abs (negsuc n) e = omega arith
-
 -- ---- p / q is p times the inverse of q
 pub quotient_same : (p q : Ratio) → SameRatio (product_of p (inverse_of q)) (quotient_of p q)
 quotient_same p q = by_sign (int_lt q.num (pos 0)) p.num p.den q.num q.den

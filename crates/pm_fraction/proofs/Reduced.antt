@@ -51,10 +51,6 @@ same_reduced p q hp hq s =
     let nums = same_num p.num p.den q.num q.den hp.positive dens s in
     ap₂ ratio_of nums dens
 
--- ---- n / d, both divided by their greatest common divisor g
-pub quotients_reduced : (n d g u v : ℤ) → pos 0 <ℤ g → n ≡ g *ℤ u → d ≡ g *ℤ v → Bezout n d g → Bezout u v (pos 1)
-quotients_reduced n d g u v h e f w = cancel g u v n d h e f w
-
 -- ---- the product, where g divides n1 and d2, and h divides n2 and d1
 pub product_reduced : (n1 d1 n2 d2 g h u1 v1 u2 v2 : ℤ) → pos 0 <ℤ g → pos 0 <ℤ h
     → n1 ≡ g *ℤ u1 → d2 ≡ g *ℤ v2 → n2 ≡ h *ℤ u2 → d1 ≡ h *ℤ v1

@@ -1,13 +1,11 @@
 -- What is read has the form of its property.
-use Rattle.std.proofs.Common.{ap, refl, subst, ◌∙◌, ◌≡◌, true, Ok, ◌&&◌}
-use lib.IntN.{ℤ}
+use Rattle.std.proofs.Common.{ap, subst, ◌∙◌, ◌≡◌, true, Ok, ◌&&◌}
 use Rattle.serde_json.specs.Data.{Data}
-use Rattle.pm_types.specs.Forms.{has_64_bits, is_dimension, is_formed, is_matrix_form, is_of_matrices, is_of_sets, is_of_whole_numbers, is_sets_form}
+use Rattle.pm_types.specs.Forms.{is_formed, is_matrix_form, is_of_matrices, is_of_sets, is_sets_form}
 use Rattle.pm_types.specs.Properties.{value_kind}
 use Rattle.pm_types.specs.declared.property.ValueKind.TheVariants as kind
-use Rattle.pm_types.specs.Values.{PropertyValue, whole}
+use Rattle.pm_types.specs.Values.{PropertyValue}
 use Rattle.pm_types.specs.declared.property.PropId.{PropId}
-use Rattle.pm_types.specs.declared.property.PropId.TheVariants.{ConeAmbientDim}
 use Rattle.pm_json.proofs.Parts.{and_then-ok}
 use Rattle.pm_json.proofs.MatrixLimits.{matrix_keeps_limits}
 use Rattle.pm_json.proofs.SetLimits.{sets_keep_limits}
@@ -23,8 +21,3 @@ sets_formed p is d v e =
     and_then-ok (items_of d) (λ ds. and_then (sets_from 0 ds) (λ s. sets_with s.rows s.stated)) v e
     (λ ds _ f. and_then-ok (sets_from 0 ds) (λ s. sets_with s.rows s.stated) v f
     (λ s which g. let k = sets_keep_limits ds s v which g in rw k.2 (ap (λ z. is_of_sets z && is_sets_form k.0 k.1) is ∙ k.3)))
-
--- a number of 64 bits; the ambient dimension is from 1 to 33 besides
-pub whole_formed : (p : PropId) (k : ℤ) → value_kind p ≡ kind.Int → has_64_bits k ≡ true → (p ≡ ConeAmbientDim → is_dimension k ≡ true) → is_formed p (whole k) ≡ true
-whole_formed ConeAmbientDim k is bits dimension = dimension refl
-whole_formed p k is bits dimension = ap (λ z. is_of_whole_numbers z && has_64_bits k) is ∙ bits

@@ -20,9 +20,6 @@ use Rattle.std.specs.List.{Contains}
 use Rattle.std.specs.Option.{unwrap_or}
 use Rattle.std.specs.Prelude.{Bool, List, None, Option, suc, [], if◌then◌else◌, length, map, nat_eq, not, ℕ, ◌++◌, ◌∷◌, ◌≡◌}
 
-fact_of_held : HeldValue → Fact
-fact_of_held h = record { place = None; property = h.property; value = h.value }
-
 facts_append : (xs ys : List HeldValue) → facts (xs ++ ys) ≡ facts xs ++ facts ys
 facts_append [] ys = refl
 facts_append (x ∷ xs) ys = ap (λ t. record { place = None; property = x.property; value = x.value } ∷ t) (facts_append xs ys)

@@ -8,10 +8,6 @@ use Rattle.std.proofs.lemmas.Option.{slice_get_read, slice_get_within, get_or_fr
 pub same_some : {X : Type 0} (x y : X) → Some x ≡ Some y → x ≡ y
 same_some x y e = cc
 
-pub some_parts : {X : Type 0} (o : Option X) → IsSome o → (x : X) × (o ≡ Some x)
-some_parts None h = absurd (false≢true h)
-some_parts (Some x) h = (x, refl)
-
 pub some_from : {X : Type 0} (o : Option X) (x : X) → o ≡ Some x → IsSome o
 some_from None x e = cc
 some_from (Some y) x e = refl

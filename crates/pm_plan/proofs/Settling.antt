@@ -145,9 +145,6 @@ offers_renewed asked old new row link r dearer opened = record {
   sound = λ moves start h links above. renewed_sound moves start asked old new row link h r dearer opened links above;
 }
 
-pub offers_known : (asked : PropSet) (s : Search) (row : TableRow) (link : Option Link) → Offered asked s row → Offers asked s s row link
-offers_known asked s row link h = record { rows = refl; links = refl; offered = h; keeps = λ other k. k; sound = λ moves start k links above. k }
-
 abbrev pub with_goal : Search → Goal → Search
 with_goal s g = record s { goal = Some g }
 

@@ -146,10 +146,6 @@ body_found kinds end ts body h =
 FoundTail : List Token → Tail → Type 0
 FoundTail ts tail = (cs : List Condition) × AddConditions cs no_conditions tail.conditions × (texts ts ≡ codes ";" ∷ (precondition_words cs ++ texts tail.rest))
 
-begins_text : (text : List ℕ) (ts : List Token) → begins_with text ts ≡ true → (rest : List Token) × (texts ts ≡ text ∷ texts rest)
-begins_text text [] h = cc
-begins_text text (t ∷ ts) h = (ts, ap (λ w. w ∷ texts ts) ((bytes_eq-Decides t.text text).0 h))
-
 tail_found : (end : ℕ) (ts : List Token) (tail : Tail) → tail_from end ts ≡ Ok tail → FoundTail ts tail
 unfolding tail_from preconditions_from FoundTail
 tail_found end ts tail h =

@@ -58,11 +58,6 @@ tokens_more total (suc n) bytes begun e some h =
     first ∙ ap (λ (ts : List Token). record { place = total - length rest; text = take here rest } ∷ ts) (enough total n (length (drop here rest)) (drop here rest) (omega arith) (omega arith))
     ∙ ap (λ (r : List ℕ). record { place = total - length r; text = take (token_len r) r } ∷ tokens_left total (length (drop (token_len r) r)) (drop (token_len r) r)) (sym e)
 
--- no token is left where only white space and comments are
-pub tokens_end : (total n : ℕ) (bytes begun : List ℕ) → begun ≡ after_gap false bytes → eqb (length begun) 0 ≡ true → tokens_left total n bytes ≡ []
-tokens_end total zero bytes begun e none = refl
-tokens_end total (suc n) bytes begun e none = let none' : eqb (length (after_gap false bytes)) 0 ≡ true = (rw e at none) in rw none' refl
-
 -- a token more among those found
 pub tokens_step : (total : ℕ) (old new all : List Token) (bytes begun front after : List ℕ) (here : ℕ) → old ++ tokens_left total (length bytes) bytes ≡ all
     → begun ≡ after_gap false bytes → eqb (length begun) 0 ≡ false → here ≡ token_len begun → front ≡ take here begun → after ≡ drop here begun

@@ -50,9 +50,6 @@ pub zero_of_stands : {r : List Ratio} {x y : Row} (a : Row) → Stands r x → S
 zero_of_stands {r} {x} {y} a s t h = dot_comm y a ∙ zero_with_stands a s t (dot_comm a x ∙ h)
 
 -- ---- lists, place by place
-pub no_ratios : List Ratio
-no_ratios = []
-
 abbrev pub ratios_at : List (List Ratio) → ℕ → List Ratio
 ratios_at rows j = slice_index_or rows j []
 

@@ -5,7 +5,7 @@ use Rattle.pm_vector.specs.Products.{ProductsStay}
 use Rattle.std.proofs.Common.{add-one, arith, below_more, length, suc, take, zero, ◌+◌, ◌<◌, ◌≡◌, ℕ}
 use Rattle.std.proofs.lemmas.Int.{ints}
 use Rattle.std.specs.Prelude.{[], ◌∷◌}
-use lib.IntN.{pos, ℤ, ◌*ℤ◌, ◌+ℤ◌}
+use lib.IntN.{ℤ, ◌*ℤ◌, ◌+ℤ◌}
 
 pub dot-take_more : (a b : Row) (i : ℕ) → i < length a → i < length b → dot (take (suc i) a) (take (suc i) b) ≡ dot (take i a) (take i b) +ℤ entry a i *ℤ entry b i
 dot-take_more [] b i h k = absurd (omega arith)
@@ -18,13 +18,6 @@ pub record SumOfFirst (a b : Row) (n : ℕ) (sum : ℤ) : Type 0 where
   pub sum_is : sum ≡ dot (take n a) (take n b)
   pub products : (k : ℕ) → k < n → InRange (entry a k *ℤ entry b k)
   pub sums : (k : ℕ) → k < n + 1 → InRange (dot (take k a) (take k b))
-
-pub SumOfFirst-none : (a b : Row) → SumOfFirst a b 0 (pos 0)
-SumOfFirst-none a b = record {
-  sum_is = omega (arith, ints);
-  products = λ k h. absurd (omega arith);
-  sums = λ k h. let z : k ≡ 0 = omega arith in rw z (omega (arith, ints));
-}
 
 module _ (a b : Row) (i : ℕ) (sum : ℤ) (in_a : i < length a) (in_b : i < length b) where
   pub SumOfFirst-more : (next : ℤ) → SumOfFirst a b i sum → next ≡ sum +ℤ entry a i *ℤ entry b i → InRange (entry a i *ℤ entry b i) → InRange next → SumOfFirst a b (i + 1) next

@@ -1,4 +1,4 @@
-use Rattle.std.proofs.Common.{◌≡◌, ◌∷◌, map, ap, sym, ◌∙◌, length, arith}
+use Rattle.std.proofs.Common.{map, sym, ◌∙◌}
 use Rattle.pm_rules.specs.Seen.{seen}
 use Rattle.pm_rules.proofs.PartLemmas.{ends_here, ends_behind, condition_here, condition_behind}
 use Rattle.pm_rules.proofs.parts.next_condition.Goals as goal
