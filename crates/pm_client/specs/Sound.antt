@@ -101,6 +101,7 @@ pub record IsWideElimination (v : ViewSeen) (e : EliminationStep) : Type 0 where
 abbrev pub HoldsOf : Evidence → ViewSeen → Type 0
 HoldsOf (E1 e) v = IsWideElimination v e
 HoldsOf (E4 first second) v = IsRowOf v is_generator first × IsRowOf v is_half_space second × IsWideProduct first second
+HoldsOf e v = ⊥
 
 abbrev pub IsSound : ViewSeen → DraftSeen → Type 0
 IsSound v draft = MayAnswer v.of v.cols v.kind v.sub v.facts (answer_of v.sub draft)

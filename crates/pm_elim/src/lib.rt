@@ -24,3 +24,4 @@ pub use elimination::{echelon, rank};
 pub use evidence::{DualFail, ElimEvidence, ElimFail, ElimList};
 pub use modulo::reduce;
 pub use nulls::null_space;
+pub use rows::copies;

@@ -5,8 +5,8 @@ ghost use Rattle.std.specs.Prelude.{IfOk, ◌≡◌};
 use pm_vector::Ints;
 use std::alloc::{AllocError, Global};
 
-/// Copies of rows.
-pub(crate) fn copies(alloc: Global, rows: &[Ints]) -> Result<Vec<Ints>, AllocError>
+/// Copies of the rows.
+pub fn copies(alloc: Global, rows: &[Ints]) -> Result<Vec<Ints>, AllocError>
     ensures { IfOk result (λ v. v.items ≡ rows.now) }
 {
     let mut made = Vec::new(alloc);

@@ -17,3 +17,4 @@ pub mod Spans
 pub mod Lineality
 pub mod Independent
 pub mod Dimension
+pub mod Copies

@@ -6,8 +6,10 @@ ghost use Rattle.pm_geom.specs.Laws.{Bipolar, CutIsGenerated, ExtremesGenerate, 
 ghost use Rattle.std.specs.Prelude.{ℕ};
 
 mod evidence;
+mod lists;
 
 pub use evidence::Evidence;
+pub use lists::{PlaceSets, Places, RowList, copy_sets};
 
 /// What an object describes: a polytope, a cone or a fan.
 #[derive(Clone, Copy, Debug, PartialEq, Eq, PartialOrd, Ord, Hash)]

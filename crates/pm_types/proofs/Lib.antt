@@ -10,7 +10,6 @@ pub mod Square
 pub mod Frame
 pub mod Numbers
 pub mod Kept
-pub mod Copies
 pub mod StandingSpans
 pub mod Spans
 pub mod Dimensions

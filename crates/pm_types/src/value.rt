@@ -4,6 +4,7 @@ ghost use Rattle.pm_types.specs.Values.{IndexSets};
 ghost use Rattle.pm_types.specs.Views.{view_of};
 ghost use Rattle.std.specs.Prelude.{IfOk, List, OnErr, OnOk, [], length, map, ℕ, ◌++◌, ◌∷◌, ◌≡◌};
 
+use pm_geom::copy_sets;
 use pm_matrix::Matrix;
 use std::alloc::{AllocError, Global};
 use std::marker::Model;
@@ -50,12 +51,8 @@ impl Sets {
     pub fn copy(&self, alloc: Global) -> Result<Sets, AllocError>
         ensures { IfOk result (λ r. r ≡ self.now) }
     {
-        let mut rows = Vec::new(alloc);
-        for row in &self.rows {
-            rows.push(Vec::from_slice(alloc, row)?)?;
-        }
         Ok(Sets {
-            rows,
+            rows: copy_sets(alloc, &self.rows)?,
             cols: self.cols,
         })
     }

@@ -1,5 +1,5 @@
 -- Each turn adds one more.
-use Rattle.pm_types.proofs.Copies.{copied}
+use Rattle.pm_geom.proofs.Copies.{copied}
 use Rattle.pm_object.specs.Views.{round_seen}
 use Rattle.pm_object.proofs.copies.copy_rounds.Goals as goal
 use Rattle.std.proofs.Common.{ap, arith, ◌∙◌}

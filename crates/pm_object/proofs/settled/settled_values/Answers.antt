@@ -1,5 +1,5 @@
 -- Each turn adds one more.
-use Rattle.pm_types.proofs.Copies.{made}
+use Rattle.pm_geom.proofs.Copies.{made}
 use Rattle.pm_object.specs.State.{settled}
 use Rattle.pm_object.specs.Views.{held_seen}
 use Rattle.pm_object.proofs.settled.settled_values.Goals as goal
