@@ -40,7 +40,7 @@ rank_at_most X k n h l =
 no_fan : (v : ViewSeen) (t : Thing) → IsView v → v.kind.targets ≡ set_of (ConeDim ∷ []) → t.of ≡ v.of → t.of ≡ Fan → ⊥
 no_fan v t view targets of e =
     let target : has v.kind.targets ConeDim ≡ true = named v.kind.targets (ConeDim ∷ []) ConeDim targets refl in
-    not_fan v ConeDim view (target_named v.kind ConeDim target) refl (sym of ∙ e)
+    not_fan v ConeDim view (target_named v.kind ConeDim target) refl refl (sym of ∙ e)
 
 no_vertices_added : (of : ObjectType) (n : ℕ) → added_rows of n Vertices ≡ []
 no_vertices_added Polytope n = refl

@@ -4,8 +4,8 @@ use Rattle.pm_geom.specs.declared.ObjectType.TheVariants.{Fan}
 use Rattle.pm_object.specs.Reading.{IsView, ViewSeen, fact_of}
 use Rattle.pm_types.proofs.Kept.{same_property_refl}
 use Rattle.pm_types.proofs.Members.{has-union}
-use Rattle.pm_types.specs.Kinds.{conditions_of, names_of}
-use Rattle.pm_types.specs.Properties.{has as has_in, has_fan}
+use Rattle.pm_types.specs.Kinds.{conditions_of, is_in_use, names_of}
+use Rattle.pm_types.specs.Properties.{has_fan, has_program}
 use Rattle.pm_types.specs.Runs.{same_property}
 use Rattle.pm_types.specs.Sets.{has, union}
 use Rattle.pm_types.specs.Values.{Fact}
@@ -14,7 +14,7 @@ use Rattle.pm_types.specs.declared.property.PropId.{PropId}
 use Rattle.std.proofs.Common.{ap, false, refl, sym, true, true≢false, ◌∙◌}
 use Rattle.std.specs.List.{Contains}
 use Rattle.std.specs.Option.{is_some}
-use Rattle.std.specs.Prelude.{Bool, List, None, Some, if◌then◌else◌, ◌||◌, ◌≡◌}
+use Rattle.std.specs.Prelude.{Bool, List, None, Some, if◌then◌else◌, ◌&&◌, ◌||◌, ◌≡◌}
 
 or_right : (a b : Bool) → b ≡ true → (a || b) ≡ true
 or_right true b h = refl
@@ -28,8 +28,16 @@ source_named kind p h =
     has-union kind.targets (union kind.sources (conditions_of kind)) p
     ∙ or_right (has kind.targets p) (has (union kind.sources (conditions_of kind)) p) (has-union kind.sources (conditions_of kind) p ∙ ap (λ b. b || has (conditions_of kind) p) h)
 
-pub not_fan : (v : ViewSeen) (p : PropId) → IsView v → has (names_of v.kind) p ≡ true → has_fan p ≡ false → ¬ (v.of ≡ Fan)
-not_fan v p view named absent e = true≢false (sym (view.in_use p named) ∙ ap (λ of. has_in of p) e ∙ absent)
+pub not_fan : (v : ViewSeen) (p : PropId) → IsView v → has (names_of v.kind) p ≡ true → has_fan p ≡ false → has_program p ≡ false → ¬ (v.of ≡ Fan)
+not_fan v p view named absent alone e =
+    true≢false (sym (view.in_use p named) ∙ ap (λ of. is_in_use v.sub of p) e ∙ neither (has_fan p) (is_some v.sub) (has_program p) absent alone)
+  where
+    neither : (a b c : Bool) → a ≡ false → c ≡ false → (a || b && c) ≡ false
+    neither a b c e k = rw (e, k) (no b)
+      where
+        no : (b : Bool) → (false || b && false) ≡ false
+        no true = refl
+        no false = refl
 
 some_among : {f : Fact} {facts : List Fact} (p : PropId) → Among f facts → f.property ≡ p → is_some (fact_of p facts) ≡ true
 some_among {f} p (here {xs}) e = let same : same_property p f.property ≡ true = ap (λ q. same_property p q) e ∙ same_property_refl p in rw same refl

@@ -14,7 +14,7 @@ ghost use Rattle.pm_elim.specs.declared.evidence.ElimList.TheVariants as list;
 ghost use Rattle.pm_types.specs.Kinds.{standard_kind};
 ghost use Rattle.pm_types.specs.declared.property.PropId.TheVariants as property;
 ghost use Rattle.pm_types.specs.declared.standard.StandardClient.TheVariants as client;
-ghost use Rattle.pm_types.specs.Properties.{has_fan};
+ghost use Rattle.pm_types.specs.Properties.{has_fan, has_program};
 ghost use Rattle.pm_types.specs.Sets.{has};
 ghost use Rattle.pm_types.specs.Views.{ratios};
 ghost use Rattle.std.specs.Prelude.{All, false, IfErr, IfOk, IsTrue, OnOk, Some, [], length, map, slice_get, ◌<◌, ◌≡◌, ◌↔◌};
@@ -200,6 +200,7 @@ fn hull_from_vertices(alloc: Global, view: &View, draft: &mut Draft) -> Result<(
 fn reads_no_half(view: &View, first: PropId, second: PropId)
     requires target { IsTrue (has view.now.kind.targets first) }
     requires no_fan { has_fan first ≡ false }
+    requires no_program { has_program first ≡ false }
     requires no_first { has view.now.kind.sources first ≡ false }
     requires no_second { has view.now.kind.sources second ≡ false }
     ensures { LacksPair view.now first second }

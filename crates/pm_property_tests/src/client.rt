@@ -79,7 +79,7 @@ fn view_for<'a>(rt: &impl Abort, object: &'a Object, kind: Kind) -> View<'a>
     ensures { result.kind ≡ kind }
 {
     assert!(rt; object.cols().is_some());
-    assert!(rt; kind.is_of(object.of()));
+    assert!(rt; kind.is_of(None, object.of()));
     assert!(rt; kind.sources.is_subset(object.names()));
     object.view(&kind)
 }

@@ -193,7 +193,7 @@ const NAMED: &[(StandardClient, &[PropId], ObjectType, bool)] = &[
 // Whether the client's kind names these properties, and is of the type or not.
 fn is_kind(client: StandardClient, names: &[PropId], of: ObjectType, want: bool) -> bool {
     let kind = client.kind();
-    kind.names() == PropSet::of_list(names) && kind.is_of(of) == want
+    kind.names() == PropSet::of_list(names) && kind.is_of(None, of) == want
 }
 
 #[test]

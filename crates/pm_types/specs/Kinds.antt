@@ -1,17 +1,19 @@
 -- Kinds of clients: what a client of a kind finds from what, and under which conditions.
 --     conditions_of kind      the properties that must be true or must be false
 --     names_of kind      all properties that the kind names
---     IsKindOf of kind      the table of the type has all of these
---     is_in_or_unnamed of names p      so it is as far as p goes
+--     is_in_use sub of p      whether the property is in use for an object of the type: its table has it, or a program is asked and the table of programs has it
+--     IsKindOf sub of kind      all names of the kind are in use
+--     is_in_or_unnamed sub of names p      so it is as far as p goes
 --     IsFresh tag kind      some target has the tag, and no source has it
 --     finding name targets sources      the kind of a client that finds these from those, under no condition
 --     standard_kind client      the kind of a standard client
 --     incidence_kind      that of the client `incidence`
 --     standard_clients      the standard clients that are built, in the order of the standard book
 --     standard_kinds_list      their kinds
-use Rattle.std.specs.Prelude.{◌≡◌, ◌||◌, ℕ, Bool, false, not, List, [], ◌∷◌, IsTrue, codes, map}
+use Rattle.std.specs.Prelude.{◌≡◌, ◌||◌, ◌&&◌, ℕ, Bool, false, not, Option, List, [], ◌∷◌, IsTrue, codes, map}
+use Rattle.std.specs.Option.{is_some}
 use Rattle.pm_geom.specs.declared.ObjectType.{ObjectType}
-use Rattle.pm_types.specs.Properties.{has as has_in}
+use Rattle.pm_types.specs.Properties.{has as has_in, has_program}
 use Rattle.pm_types.specs.declared.property.PropId.{PropId}
 use Rattle.pm_types.specs.declared.property.PropId.TheVariants.{Points, InputLineality, Inequalities, Equations, Vertices, LinealitySpace, Facets, AffineHull, VerticesInFacets, ConeDim, LinealityDim, CombinatorialDim, Feasible, Pointed, FullDim}
 use Rattle.pm_types.specs.declared.set.PropSet.{PropSet}
@@ -26,11 +28,14 @@ conditions_of kind = union kind.must kind.must_not
 abbrev pub names_of : Kind → PropSet
 names_of kind = union kind.targets (union kind.sources (conditions_of kind))
 
-abbrev pub IsKindOf : ObjectType → Kind → Type 0
-IsKindOf of kind = (p : PropId) → IsTrue (has (names_of kind) p) → IsTrue (has_in of p)
+abbrev pub is_in_use : Option ℕ → ObjectType → PropId → Bool
+is_in_use sub of p = has_in of p || is_some sub && has_program p
 
-abbrev pub is_in_or_unnamed : ObjectType → PropSet → PropId → Bool
-is_in_or_unnamed of names p = not (has names p) || has_in of p
+abbrev pub IsKindOf : Option ℕ → ObjectType → Kind → Type 0
+IsKindOf sub of kind = (p : PropId) → IsTrue (has (names_of kind) p) → IsTrue (is_in_use sub of p)
+
+abbrev pub is_in_or_unnamed : Option ℕ → ObjectType → PropSet → PropId → Bool
+is_in_or_unnamed sub of names p = not (has names p) || is_in_use sub of p
 
 pub record IsFresh (tag : PropId → Bool) (kind : Kind) : Type 0 where
   pub target : (p : PropId) × IsTrue (has kind.targets p) × IsTrue (tag p)

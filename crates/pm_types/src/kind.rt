@@ -45,11 +45,11 @@ impl Kind {
         self.targets.union(self.sources.union(self.conditions()))
     }
 
-    /// Whether the table of the type has all properties that the kind names.
-    pub fn is_of(&self, of: ObjectType) -> bool
-        ensures { IsTrue result ↔ IsKindOf of self.now }
+    /// Whether all properties that the kind names are in use for an object of the type, of which this program is asked if one is.
+    pub fn is_of(&self, sub: Option<u8>, of: ObjectType) -> bool
+        ensures { IsTrue result ↔ IsKindOf sub of self.now }
     {
-        are_in(of, self.names(), &PropId::every())
+        are_in(sub, of, self.names(), &PropId::every())
     }
 
     // The kind of a client that finds these properties from those, under no condition.
@@ -68,9 +68,11 @@ impl Kind {
     }
 }
 
-// Whether the table of the type has those of the properties that are in the set.
-fn are_in(of: ObjectType, names: PropSet, properties: &[PropId]) -> bool
-    ensures { result ≡ list_all (is_in_or_unnamed of names) properties.now }
+// Whether those of the properties that are in the set are in use.
+fn are_in(sub: Option<u8>, of: ObjectType, names: PropSet, properties: &[PropId]) -> bool
+    ensures { result ≡ list_all (is_in_or_unnamed sub of names) properties.now }
 {
-    properties.iter().all(|p| !names.contains(*p) | p.is_in(of))
+    properties
+        .iter()
+        .all(|p| !names.contains(*p) | p.is_in_use(sub, of))
 }

@@ -1,5 +1,7 @@
 // The properties of objects: their numbers, names, kinds of value, tables and tags.
 
+ghost use Rattle.pm_types.specs.Kinds.{is_in_use};
+ghost use Rattle.pm_types.specs.Runs.{place_of};
 ghost use Rattle.pm_types.specs.Properties.{number, every_property, property_at, value_kind, has, has_polytope, has_cone, has_fan, has_program, rays_tag, facets_tag, generators_tag, half_spaces_tag, first_name, cone_name, fan_name, name_in};
 ghost use Rattle.std.specs.Prelude.{◌≡◌, ◌<◌, slice_get};
 
@@ -762,6 +764,20 @@ impl PropId {
             ObjectType::Cone => self.is_of_cones(),
             ObjectType::Fan => self.is_of_fans(),
         }
+    }
+
+    /// Whether the property is in use for an object of the type, of which this program is asked if one is: then the table of programs counts too.
+    pub fn is_in_use(self, sub: Option<u8>, of: ObjectType) -> bool
+        ensures { result ≡ is_in_use sub of self }
+    {
+        self.is_in(of) || (sub.is_some() && self.is_of_programs())
+    }
+
+    /// Where a value of the property stands, for who asks this program if any: at the program where the table of programs has the property, else in the object itself.
+    pub fn place(self, sub: Option<u8>) -> Option<u8>
+        ensures { result ≡ place_of sub self }
+    {
+        if self.is_of_programs() { sub } else { None }
     }
 
     /// The property's first name: that of polytopes, or of fans or linear programs where only these have it.

@@ -32,7 +32,7 @@ put_value-requires-clause-target c = target_of c.args.draft.now.kind client.Hull
 pub returns-clause-sound : goal.returns-clause-sound
 returns-clause-sound c =
     let null = rw (c.deref.ensures.value, c.cols.ensures.value) at c.in_ok-null.ensures.null in
-    let no_fan = not_fan c.args.view.now AffineHull c.cols.ensures.view (target_named c.args.view.now.kind AffineHull (target_of c.args.view.now.kind client.HullFromVertices targets AffineHull c.requires.kind refl)) refl in
+    let no_fan = not_fan c.args.view.now AffineHull c.cols.ensures.view (target_named c.args.view.now.kind AffineHull (target_of c.args.view.now.kind client.HullFromVertices targets AffineHull c.requires.kind refl)) refl refl in
     hull_sound c.args.view.now c.cols.ensures.view no_fan c.in_ok-rows.rows.items c.in_ok-null.null.items null.0 c.in_ok-rows.ensures.listed null.1 c.in_ok-hull.hull c.args.draft.now c.put_value.new.draft c.requires.kind
     (rw c.deref-2.ensures.value at c.in_ok-hull.ensures.in_range) (rw (c.deref-2.ensures.value, c.cols-2.ensures.value) at c.in_ok-hull.ensures.rows) c.requires.empty c.in_ok-put_value.ensures.ok
 

@@ -43,7 +43,7 @@ put_value-requires-clause-target c = target_of c.args.draft.now.kind client.Line
 pub returns-clause-sound : goal.returns-clause-sound
 returns-clause-sound c =
     let null = rw (c.deref.ensures.value, c.cols.ensures.value) at c.in_ok-null.ensures.null in
-    let no_fan = not_fan c.args.view.now Facets c.cols.ensures.view (source_named c.args.view.now.kind Facets (source_of c.args.view.now.kind client.LinealityFromFacets sources Facets c.requires.kind refl)) refl in
+    let no_fan = not_fan c.args.view.now Facets c.cols.ensures.view (source_named c.args.view.now.kind Facets (source_of c.args.view.now.kind client.LinealityFromFacets sources Facets c.requires.kind refl)) refl refl in
     let put : ((c.may_be_lines.result ≡ true) × (c.if-may_be_lines.lines.items ≡ c.in_ok-null.null.items)) ⊎ ((c.may_be_lines.result ≡ false) × (c.if-may_be_lines.lines.items ≡ [])) = elim c.if-may_be_lines.branch [
       | then-may_be_lines w ↦ inl (w.if-may_be_lines.true, ap (λ r. r.items) w.lines-is)
       | else-may_be_lines w ↦ inr (w.if-may_be_lines.false, ap (λ r. r.items) w.lines-is ∙ w.new-lines.ensures.items)
