@@ -1,25 +1,22 @@
 -- The first client of a kind, found place by place, and a client that was started once more.
 use Rattle.pm_client.proofs.SameKind.{same_kind_apart, same_kind_refl}
-use Rattle.pm_client.specs.Starts.{kind_at, next_count, place_in, same_kind, started_at}
+use Rattle.pm_client.specs.Starts.{kind_at, next_count, place_in, same_kind, started_at, started_once}
 use Rattle.pm_types.specs.declared.kind.Kind.{Kind}
 use Rattle.std.proofs.Common.{ap, arith, drop, get_or, length, refl, sym, true, ◌∙◌, ◌≢◌}
 use Rattle.std.proofs.Math.ListN.{set}
 use Rattle.std.specs.Prelude.{List, Some, [], map, suc, zero, ℕ, ◌+◌, ◌<◌, ◌∷◌, ◌≡◌}
-
-pair_is : (p q : Kind × ℕ) → p.0 ≡ q.0 → p.1 ≡ q.1 → p ≡ q
-pair_is (a, b) (c, d) h k = cc
 
 started_head : (p : Kind × ℕ) (rest : List (Kind × ℕ)) → started_at 0 (p ∷ rest) ≡ (p.0, next_count p.1) ∷ rest
 started_head (a, b) rest = refl
 
 -- the client at a place was replaced by itself, started once more
 pub started_set : {B : Type 0} (f : B → Kind × ℕ) (xs : List B) (i : ℕ) (old new : B) → i < length xs → old ≡ get_or xs i old
-    → (f new).0 ≡ (f old).0 → (f new).1 ≡ next_count (f old).1 → map f (set xs i new) ≡ started_at i (map f xs)
-started_set f [] i old new h is k n = absurd (omega arith)
-started_set f (x ∷ xs) zero old new h is k n =
-    let same : f new ≡ ((f x).0, next_count (f x).1) = rw (← is) (pair_is (f new) ((f old).0, next_count (f old).1) k n) in
+    → f new ≡ started_once (f old) → map f (set xs i new) ≡ started_at i (map f xs)
+started_set f [] i old new h is k = absurd (omega arith)
+started_set f (x ∷ xs) zero old new h is k =
+    let same : f new ≡ ((f x).0, next_count (f x).1) = rw (← is) k in
     rw (same, started_head) refl
-started_set f (x ∷ xs) (suc i) old new h is k n = ap (λ (t : List (Kind × ℕ)). f x ∷ t) (started_set f xs i old new (omega arith) is k n)
+started_set f (x ∷ xs) (suc i) old new h is k = ap (λ (t : List (Kind × ℕ)). f x ∷ t) (started_set f xs i old new (omega arith) is k)
 
 place_yes : (kind : Kind) (n : ℕ) (p : Kind × ℕ) (rest : List (Kind × ℕ)) → same_kind p.0 kind ≡ true → place_in kind n (p ∷ rest) ≡ Some n
 place_yes kind n (a, b) rest e = rw e refl

@@ -7,7 +7,10 @@
 --     added_rows of n q      a polytope's INEQUALITIES have x0 >= 0 added to them
 --     IsListOf v first second X      X are the primitive whole rows of the values of both properties, one after the other, and what is added
 --     IsRowList v X      X is the list of two parts that the view reads
---     HoldsOf e v      the evidence holds of the view: a step of the elimination of its row list leaves the range, or the product of a generator's row with a half-space's row does
+--     Eliminated      which lists of rows a client may eliminate: the row list
+--     eliminated_by name      those that the client of this name eliminates; so far each client that eliminates takes the row list
+--     IsEliminated list v X      X is this list of the view
+--     HoldsOf e v      the evidence holds of the view: a step of the elimination of a list of its client leaves the range, or the product of a generator's row with a half-space's row does; evidence of another kind holds of no view so far
 --     IsSound v draft      the draft has a value for each target of the view's kind, in its form and canonical, and they are right wherever what was read is
 --     fail_of f      the failure of a client whose elimination was given up
 --     FailsRightly v e      a client fails for want of memory, or with evidence that holds of the view
@@ -93,9 +96,20 @@ pub record IsRowList (v : ViewSeen) (X : List Row) : Type 0 where
   pub parts : IsTrue (are_parts first second)
   pub list : IsListOf v first second X
 
+pub data Eliminated : Type 0 where
+  row_list : Eliminated
+
+abbrev pub eliminated_by : List ℕ → List Eliminated
+eliminated_by name = row_list ∷ []
+
+abbrev pub IsEliminated : Eliminated → ViewSeen → List Row → Type 0
+IsEliminated row_list v X = IsRowList v X
+
 pub record IsWideElimination (v : ViewSeen) (e : EliminationStep) : Type 0 where
+  pub list : Eliminated
+  pub named : Contains (eliminated_by v.kind.name) list
   pub rows : List Row
-  pub listed : IsRowList v rows
+  pub listed : IsEliminated list v rows
   pub shown : IsEvidence v.cols rows e
 
 abbrev pub HoldsOf : Evidence → ViewSeen → Type 0

@@ -6,6 +6,7 @@
 --     has_client kind clients      some client is of the kind
 --     started_at place clients      the client at the place was started once more
 --     after_start kind clients      the first client of the kind was started once more
+--     started_once tally      the tally of a client that was started once more
 use Rattle.std.specs.Prelude.{ℕ, zero, suc, ◌+◌, ◌-◌, ◌^◌, ◌&&◌, min, Bool, nat_eq, if◌then◌else◌, Option, Some, None, List, [], ◌∷◌}
 use Rattle.std.specs.Option.{is_some}
 use Rattle.std.specs.Str.{bytes_eq}
@@ -16,6 +17,9 @@ Clients = List (Kind × ℕ)
 
 abbrev pub next_count : ℕ → ℕ
 next_count n = min (n + 1) (2 ^ 64 - 1)
+
+abbrev pub started_once : Kind × ℕ → Kind × ℕ
+started_once tally = (tally.0, next_count tally.1)
 
 abbrev pub same_kind : Kind → Kind → Bool
 same_kind a b = bytes_eq a.name b.name && (nat_eq a.targets b.targets && (nat_eq a.sources b.sources && (nat_eq a.must b.must && nat_eq a.must_not b.must_not)))

@@ -1,7 +1,7 @@
 // Boxed clients, and running the first one of a kind.
 
 ghost use Rattle.pm_client.specs.Sound.{FailsRightly, IsSound};
-ghost use Rattle.pm_client.specs.Starts.{after_start, has_client, kind_at, next_count, place_in, started_at};
+ghost use Rattle.pm_client.specs.Starts.{after_start, has_client, kind_at, place_in, started_at, started_once};
 ghost use Rattle.std.specs.Prelude.{IfErr, IfSome, IsTrue, OnOk, Some, [], length, map, ◌<◌, ◌≡◌};
 
 use crate::{Client, ClientFail};
@@ -11,7 +11,7 @@ use std::alloc::Global;
 
 // The kind of a boxed client.
 fn kind_of_box(client: &Box<dyn Client>) -> Kind
-    ensures { result ≡ kind_of client.now }
+    ensures { result ≡ (tally client.now).0 }
 {
     client.kind()
 }
@@ -23,22 +23,21 @@ fn run_box(
     view: &View,
     draft: &mut Draft,
 ) -> Result<(), ClientFail>
-    requires kind { view.now.kind ≡ kind_of client.old }
+    requires kind { view.now.kind ≡ (tally client.old).0 }
     requires empty { draft.old ≡ record { kind = view.now.kind; values = [] } }
-    ensures kind { kind_of client.new ≡ kind_of client.old }
-    ensures starts { starts_of client.new ≡ next_count (starts_of client.old) }
+    ensures started { tally client.new ≡ started_once (tally client.old) }
     ensures draft { draft.new.kind ≡ draft.old.kind }
     ensures sound { OnOk result (IsSound view.now draft.new) }
-    ensures failed { IfErr result (λ e. FailsRightly view.now e) }
+    ensures failed { IfErr result (FailsRightly view.now) }
 {
     client.run(alloc, view, draft)
 }
 
 /// The place of the first client of a kind.
 pub fn place_of(clients: &[Box<dyn Client>], kind: Kind) -> Option<usize>
-    ensures place { result ≡ place_in kind 0 (map (λ b. (kind_of b, starts_of b)) clients.now) }
+    ensures place { result ≡ place_in kind 0 (map tally clients.now) }
     ensures within { IfSome result (λ i. i < length clients.now) }
-    ensures kind { IfSome result (λ i. kind_at i (map (λ b. (kind_of b, starts_of b)) clients.now) ≡ Some kind) }
+    ensures kind { IfSome result (λ i. kind_at i (map tally clients.now) ≡ Some kind) }
 {
     for (i, client) in clients.iter().enumerate() {
         if kind_of_box(client) == kind {
@@ -57,12 +56,12 @@ fn run_at(
     draft: &mut Draft,
 ) -> Result<(), ClientFail>
     requires place { place < length clients.old.items }
-    requires kind { kind_at place (map (λ b. (kind_of b, starts_of b)) clients.old.items) ≡ Some view.now.kind }
+    requires kind { kind_at place (map tally clients.old.items) ≡ Some view.now.kind }
     requires empty { draft.old ≡ record { kind = view.now.kind; values = [] } }
-    ensures started { map (λ b. (kind_of b, starts_of b)) clients.new.items ≡ started_at place (map (λ b. (kind_of b, starts_of b)) clients.old.items) }
+    ensures started { map tally clients.new.items ≡ started_at place (map tally clients.old.items) }
     ensures draft { draft.new.kind ≡ draft.old.kind }
     ensures sound { OnOk result (IsSound view.now draft.new) }
-    ensures failed { IfErr result (λ e. FailsRightly view.now e) }
+    ensures failed { IfErr result (FailsRightly view.now) }
 {
     run_box(&mut clients[place], alloc, view, draft)
 }
@@ -74,12 +73,14 @@ pub fn run_first(
     view: &View,
     draft: &mut Draft,
 ) -> Result<(), ClientFail>
-    requires there { IsTrue (has_client view.now.kind (map (λ b. (kind_of b, starts_of b)) clients.old.items)) }
+    requires there { IsTrue (has_client view.now.kind (map tally clients.old.items)) }
     requires empty { draft.old ≡ record { kind = view.now.kind; values = [] } }
-    ensures started { map (λ b. (kind_of b, starts_of b)) clients.new.items ≡ after_start view.now.kind (map (λ b. (kind_of b, starts_of b)) clients.old.items) }
+    ensures started {
+        map tally clients.new.items ≡ after_start view.now.kind (map tally clients.old.items)
+    }
     ensures draft { draft.new.kind ≡ draft.old.kind }
     ensures sound { OnOk result (IsSound view.now draft.new) }
-    ensures failed { IfErr result (λ e. FailsRightly view.now e) }
+    ensures failed { IfErr result (FailsRightly view.now) }
 {
     let Some(place) = place_of(clients, view.kind()) else {
         unreachable!()

@@ -2,7 +2,7 @@
 #![tactic(auto)]
 
 ghost use Rattle.pm_client.specs.Sound.{FailsRightly, IsSound};
-ghost use Rattle.pm_client.specs.Starts.{next_count};
+ghost use Rattle.pm_client.specs.Starts.{started_once};
 ghost use Rattle.std.specs.Prelude.{IfErr, OnOk, [], ℕ, ◌≡◌};
 
 use pm_elim::ElimFail;
@@ -64,25 +64,23 @@ impl<T: Drop> From<AllocFailed<T>> for ClientFail {
 pub trait Client: Drop {
     ghost use Rattle.pm_types.specs.declared.kind.Kind.{Kind};
 
-    ghost kind_of: { Self → Kind };
-
-    ghost starts_of: { Self → ℕ };
+    // Its kind, and how often it was started.
+    ghost tally: { Self → Kind × ℕ };
 
     /// What it answers, and from what.
     fn kind(&self) -> Kind
-        ensures { result ≡ kind_of self.now };
+        ensures { result ≡ (tally self.now).0 };
 
     /// How often it was started, up to the greatest number of 64 bits.
     fn starts(&self) -> u64
-        ensures { result ≡ starts_of self.now };
+        ensures { result ≡ (tally self.now).1 };
 
     /// Puts the targets into an empty draft, or says why not.
     fn run(&mut self, alloc: Global, view: &View, draft: &mut Draft) -> Result<(), ClientFail>
-        requires kind { view.now.kind ≡ kind_of self.old }
+        requires kind { view.now.kind ≡ (tally self.old).0 }
         requires empty { draft.old ≡ record { kind = view.now.kind; values = [] } }
-        ensures kind { kind_of self.new ≡ kind_of self.old }
-        ensures starts { starts_of self.new ≡ next_count (starts_of self.old) }
+        ensures started { tally self.new ≡ started_once (tally self.old) }
         ensures draft { draft.new.kind ≡ draft.old.kind }
         ensures sound { OnOk result (IsSound view.now draft.new) }
-        ensures failed { IfErr result (λ e. FailsRightly view.now e) };
+        ensures failed { IfErr result (FailsRightly view.now) };
 }

@@ -113,12 +113,12 @@ row_of v of_kind p n rows xs x read kind h c some =
 pub fails_rightly : (v : ViewSeen) (m k : ℕ) (facets vertices : List (List Ratio)) (F V : List Row) (e : ClientFail) → fact_of Facets v.facts ≡ Some (matrix m facets) → fact_of Vertices v.facts ≡ Some (matrix k vertices)
     → ArePrimitiveRowsOf facets F → ArePrimitiveRowsOf vertices V → IsWideFor F V e → FailsRightly v e
 fails_rightly v m k facets vertices F V Memory g h p q w = tt
-fails_rightly v m k facets vertices F V (Failed (E1 e)) g h p q w = absurd w
 fails_rightly v m k facets vertices F V (Failed (E4 a x)) g h p q w = (
   row_of v is_generator Vertices k vertices V a h refl q w.0 (λ z. w.2 (zero_stays a x z)),
   row_of v is_half_space Facets m facets F x g refl p w.1 (λ z. w.2 (stays_turned x a (zero_stays x a z))),
   w.2,
 )
+fails_rightly v m k facets vertices F V (Failed e) g h p q w = absurd w
 
 -- ---- the kind
 pub has_target : (k : Kind) → k ≡ incidence_kind → IsTrue (has k.targets VerticesInFacets)

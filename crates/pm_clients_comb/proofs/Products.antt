@@ -6,7 +6,7 @@ use Rattle.pm_algebra.specs.Rows.{IsZero, Row, dot, entry}
 use Rattle.pm_client.specs.declared.ClientFail.TheVariants.{Failed, Memory}
 use Rattle.pm_client.specs.declared.ClientFail.{ClientFail}
 use Rattle.pm_clients_comb.specs.Incidence.{AllStay, IsWideFor}
-use Rattle.pm_geom.specs.declared.evidence.Evidence.TheVariants.{E1, E4}
+use Rattle.pm_geom.specs.declared.evidence.Evidence.TheVariants.{E4}
 use Rattle.pm_vector.specs.Products.{ProductsStay}
 use Rattle.std.proofs.Common.{arith, get_or, inl, inr, length, refl, subst, suc, sym, take, zero, ◌+◌, ◌<◌, ◌≡◌}
 use Rattle.std.proofs.lemmas.Int.{ints}
@@ -79,10 +79,10 @@ wide_one f v a x p q h = rw (p, q) (itself v, itself f, λ s. h (stays_turned v 
 
 pub wide_in_row : (F V : List Row) (v : Row) (e : ClientFail) → Contains V v → IsWideFor F (v ∷ []) e → IsWideFor F V e
 wide_in_row F V v Memory c h = tt
-wide_in_row F V v (Failed (E1 e)) c h = absurd h
 wide_in_row F V v (Failed (E4 a x)) c h = (subst (Contains V) (sym (only_one h.0)) c, h.1, h.2)
+wide_in_row F V v (Failed e) c h = absurd h
 
 pub wide_in_list : (F V : List Row) (f : Row) (e : ClientFail) → Contains F f → IsWideFor (f ∷ []) V e → IsWideFor F V e
 wide_in_list F V f Memory c h = tt
-wide_in_list F V f (Failed (E1 e)) c h = absurd h
 wide_in_list F V f (Failed (E4 a x)) c h = (h.0, subst (Contains F) (sym (only_one h.1)) c, h.2)
+wide_in_list F V f (Failed e) c h = absurd h

@@ -12,7 +12,7 @@ use Rattle.pm_client.specs.Sound.{Reads}
 use Rattle.pm_client.specs.declared.ClientFail.{ClientFail}
 use Rattle.pm_client.specs.declared.ClientFail.TheVariants.{Memory, Failed}
 use Rattle.pm_geom.specs.Evidence.{IsWideProduct}
-use Rattle.pm_geom.specs.declared.evidence.Evidence.TheVariants.{E1, E4}
+use Rattle.pm_geom.specs.declared.evidence.Evidence.TheVariants.{E4}
 use Rattle.pm_matrix.specs.FractionRows.{ArePrimitiveRowsOf}
 use Rattle.pm_object.specs.Reading.{ViewSeen}
 use Rattle.pm_types.specs.declared.property.PropId.TheVariants.{Facets, Vertices}
@@ -43,5 +43,5 @@ pub record StaysInRange (v : ViewSeen) : Type 0 where
 
 abbrev pub IsWideFor : List Row → List Row → ClientFail → Type 0
 IsWideFor F V Memory = Unit {0}
-IsWideFor F V (Failed (E1 e)) = ⊥
 IsWideFor F V (Failed (E4 first second)) = Contains V first × Contains F second × IsWideProduct first second
+IsWideFor F V (Failed e) = ⊥

@@ -1,7 +1,7 @@
 // The clients that find sets.
 
 ghost use Rattle.pm_client.specs.Sound.{FailsRightly, IsSound};
-ghost use Rattle.pm_client.specs.Starts.{next_count};
+ghost use Rattle.pm_client.specs.Starts.{next_count, started_once};
 ghost use Rattle.pm_clients_comb.specs.Incidence.{StaysInRange};
 ghost use Rattle.pm_types.specs.Kinds.{incidence_kind};
 ghost use Rattle.std.specs.Prelude.{IfErr, OnOk, [], ◌<◌, ◌≡◌};
@@ -26,8 +26,8 @@ impl SetsClient {
     /// The client of that number, below `COUNT`, which was never started. Number 0 is `incidence`.
     pub fn new(_number: u8) -> SetsClient
         requires { _number < 1 }
-        ensures kind { ⟦<SetsClient as Client>⟧.kind_of result ≡ incidence_kind }
-        ensures starts { ⟦<SetsClient as Client>⟧.starts_of result ≡ 0 }
+        ensures kind { (⟦<SetsClient as Client>⟧.tally result).0 ≡ incidence_kind }
+        ensures starts { (⟦<SetsClient as Client>⟧.tally result).1 ≡ 0 }
     {
         SetsClient { starts: 0 }
     }
@@ -43,9 +43,7 @@ impl SetsClient {
 impl Client for SetsClient {
     ghost use Rattle.pm_types.specs.Kinds.{incidence_kind};
 
-    ghost kind_of = { λ _. incidence_kind };
-
-    ghost starts_of = { λ c. c.starts };
+    ghost tally = { λ c. (incidence_kind, c.starts) };
 
     fn kind(&self) -> Kind {
         StandardClient::Incidence.kind()
@@ -58,10 +56,10 @@ impl Client for SetsClient {
     fn run(&mut self, alloc: Global, view: &View, draft: &mut Draft) -> Result<(), ClientFail>
         requires kind { view.now.kind ≡ incidence_kind }
         requires empty { draft.old ≡ record { kind = view.now.kind; values = [] } }
-        ensures starts { self.new.starts ≡ next_count self.old.starts }
+        ensures started { (incidence_kind, self.new.starts) ≡ started_once (incidence_kind, self.old.starts) }
         ensures draft { draft.new.kind ≡ draft.old.kind }
         ensures sound { OnOk result (IsSound view.now draft.new) }
-        ensures failed { IfErr result (λ e. FailsRightly view.now e) }
+        ensures failed { IfErr result (FailsRightly view.now) }
         ensures stays { OnOk result (StaysInRange view.now) }
     {
         self.count_start();

@@ -3,7 +3,7 @@
 ghost use Rattle.pm_client.specs.Sound.{FailsRightly, IsSound, added_rows, are_parts};
 ghost use Rattle.pm_client.specs.declared.ClientFail.TheVariants.{Memory};
 ghost use Rattle.pm_clients_geom.specs.Kinds.{all_dims, dim_kind, dim_kinds};
-ghost use Rattle.pm_client.specs.Starts.{next_count};
+ghost use Rattle.pm_client.specs.Starts.{started_once};
 ghost use Rattle.pm_clients_geom.specs.Lists.{StaysInRange};
 ghost use Rattle.pm_clients_geom.specs.Stays.{DimFails, DimStays};
 ghost use Rattle.pm_clients_geom.specs.Ranks.{IsListRank};
@@ -74,8 +74,8 @@ impl DimClient {
     /// The client of that number, below `COUNT`, which was never started.
     pub fn new(number: u8) -> DimClient
         requires { number < 5 }
-        ensures kind { slice_get dim_kinds number ≡ Some (⟦<DimClient as Client>⟧.kind_of result) }
-        ensures starts { ⟦<DimClient as Client>⟧.starts_of result ≡ 0 }
+        ensures kind { slice_get dim_kinds number ≡ Some (⟦<DimClient as Client>⟧.tally result).0 }
+        ensures starts { (⟦<DimClient as Client>⟧.tally result).1 ≡ 0 }
     {
         DimClient {
             client: Dim::every()[usize::from(number)],
@@ -87,9 +87,7 @@ impl DimClient {
 impl Client for DimClient {
     ghost use Rattle.pm_clients_geom.specs.Kinds.{dim_kind};
 
-    ghost kind_of = { λ c. dim_kind c.client };
-
-    ghost starts_of = { λ c. c.starts };
+    ghost tally = { λ c. (dim_kind c.client, c.starts) };
 
     fn kind(&self) -> Kind {
         self.client.kind()
@@ -102,11 +100,10 @@ impl Client for DimClient {
     fn run(&mut self, alloc: Global, view: &View, draft: &mut Draft) -> Result<(), ClientFail>
         requires kind { view.now.kind ≡ dim_kind self.old.client }
         requires empty { draft.old ≡ record { kind = view.now.kind; values = [] } }
-        ensures kind { dim_kind self.new.client ≡ dim_kind self.old.client }
-        ensures starts { self.new.starts ≡ next_count self.old.starts }
+        ensures started { (dim_kind self.new.client, self.new.starts) ≡ started_once (dim_kind self.old.client, self.old.starts) }
         ensures draft { draft.new.kind ≡ draft.old.kind }
         ensures sound { OnOk result (IsSound view.now draft.new) }
-        ensures failed { IfErr result (λ e. FailsRightly view.now e) }
+        ensures failed { IfErr result (FailsRightly view.now) }
         ensures stays { OnOk result (DimStays self.old.client view.now) }
         ensures fails { IfErr result (λ e. DimFails self.old.client view.now e) }
     {
@@ -136,7 +133,7 @@ fn rank_of_list(
     ensures few { IfOk result (λ k. k ≤ 4096) }
     ensures view { OnOk result (IsView view.now) }
     ensures stays { OnOk result (StaysInRange view.now first second list.Rows) }
-    ensures failed { IfErr result (λ e. FailsRightly view.now e) }
+    ensures failed { IfErr result (FailsRightly view.now) }
 {
     let rows = row_list(alloc, view, first, second)?;
     let rank = rank(alloc, &rows, view.cols())?;
@@ -150,7 +147,7 @@ fn cone_dim_v(alloc: Global, view: &View, draft: &mut Draft) -> Result<(), Clien
     ensures draft { draft.new.kind ≡ draft.old.kind }
     ensures sound { OnOk result (IsSound view.now draft.new) }
     ensures stays { OnOk result (StaysInRange view.now property.LinealitySpace property.Vertices list.Rows) }
-    ensures failed { IfErr result (λ e. FailsRightly view.now e) }
+    ensures failed { IfErr result (FailsRightly view.now) }
 {
     let dim = rank_of_list(alloc, view, PropId::LinealitySpace, PropId::Vertices)?;
     put_value(draft, PropId::ConeDim, Value::Int(dim as i64))?;
@@ -178,7 +175,7 @@ fn cone_dim_points(alloc: Global, view: &View, draft: &mut Draft) -> Result<(), 
     ensures draft { draft.new.kind ≡ draft.old.kind }
     ensures sound { OnOk result (IsSound view.now draft.new) }
     ensures stays { OnOk result (StaysInRange view.now property.InputLineality property.Points list.Rows) }
-    ensures failed { IfErr result (λ e. FailsRightly view.now e) }
+    ensures failed { IfErr result (FailsRightly view.now) }
 {
     let dim = rank_of_list(alloc, view, PropId::InputLineality, PropId::Points)?;
     put_value(draft, PropId::ConeDim, Value::Int(dim as i64))?;

@@ -5,7 +5,7 @@ ghost use Rattle.pm_algebra.specs.Rows.{HasCols};
 ghost use Rattle.pm_client.specs.Sound.{FailsRightly, IsSound};
 ghost use Rattle.pm_client.specs.declared.ClientFail.TheVariants.{Memory};
 ghost use Rattle.pm_clients_geom.specs.Kinds.{all_rows, rows_kind, rows_kinds};
-ghost use Rattle.pm_client.specs.Starts.{next_count};
+ghost use Rattle.pm_client.specs.Starts.{started_once};
 ghost use Rattle.pm_clients_geom.specs.Lists.{StaysInRange};
 ghost use Rattle.pm_clients_geom.specs.Stays.{RowsFail, RowsStay};
 ghost use Rattle.pm_clients_geom.specs.Matrices.{MayBeLines, as_put};
@@ -79,8 +79,8 @@ impl RowsClient {
     /// The client of that number, below `COUNT`, which was never started.
     pub fn new(number: u8) -> RowsClient
         requires { number < 4 }
-        ensures kind { slice_get rows_kinds number ≡ Some (⟦<RowsClient as Client>⟧.kind_of result) }
-        ensures starts { ⟦<RowsClient as Client>⟧.starts_of result ≡ 0 }
+        ensures kind { slice_get rows_kinds number ≡ Some (⟦<RowsClient as Client>⟧.tally result).0 }
+        ensures starts { (⟦<RowsClient as Client>⟧.tally result).1 ≡ 0 }
     {
         RowsClient {
             client: Rows::every()[usize::from(number)],
@@ -92,9 +92,7 @@ impl RowsClient {
 impl Client for RowsClient {
     ghost use Rattle.pm_clients_geom.specs.Kinds.{rows_kind};
 
-    ghost kind_of = { λ c. rows_kind c.client };
-
-    ghost starts_of = { λ c. c.starts };
+    ghost tally = { λ c. (rows_kind c.client, c.starts) };
 
     fn kind(&self) -> Kind {
         self.client.kind()
@@ -107,11 +105,10 @@ impl Client for RowsClient {
     fn run(&mut self, alloc: Global, view: &View, draft: &mut Draft) -> Result<(), ClientFail>
         requires kind { view.now.kind ≡ rows_kind self.old.client }
         requires empty { draft.old ≡ record { kind = view.now.kind; values = [] } }
-        ensures kind { rows_kind self.new.client ≡ rows_kind self.old.client }
-        ensures starts { self.new.starts ≡ next_count self.old.starts }
+        ensures started { (rows_kind self.new.client, self.new.starts) ≡ started_once (rows_kind self.old.client, self.old.starts) }
         ensures draft { draft.new.kind ≡ draft.old.kind }
         ensures sound { OnOk result (IsSound view.now draft.new) }
-        ensures failed { IfErr result (λ e. FailsRightly view.now e) }
+        ensures failed { IfErr result (FailsRightly view.now) }
         ensures stays { OnOk result (RowsStay self.old.client view.now) }
         ensures fails { IfErr result (λ e. RowsFail self.old.client view.now e) }
     {
@@ -165,7 +162,7 @@ fn lineality_from_facets(alloc: Global, view: &View, draft: &mut Draft) -> Resul
     ensures sound { OnOk result (IsSound view.now draft.new) }
     ensures stays { OnOk result (StaysInRange view.now property.AffineHull property.Facets list.Rows) }
     ensures stays_extended { OnOk result (StaysInRange view.now property.AffineHull property.Facets list.Extended) }
-    ensures failed { IfErr result (λ e. FailsRightly view.now e) }
+    ensures failed { IfErr result (FailsRightly view.now) }
 {
     let rows = row_list(alloc, view, PropId::AffineHull, PropId::Facets)?;
     let null = null_space(alloc, &rows, view.cols())?;
@@ -187,7 +184,7 @@ fn hull_from_vertices(alloc: Global, view: &View, draft: &mut Draft) -> Result<(
     ensures sound { OnOk result (IsSound view.now draft.new) }
     ensures stays { OnOk result (StaysInRange view.now property.LinealitySpace property.Vertices list.Rows) }
     ensures stays_extended { OnOk result (StaysInRange view.now property.LinealitySpace property.Vertices list.Extended) }
-    ensures failed { IfErr result (λ e. FailsRightly view.now e) }
+    ensures failed { IfErr result (FailsRightly view.now) }
 {
     let rows = row_list(alloc, view, PropId::LinealitySpace, PropId::Vertices)?;
     let null = null_space(alloc, &rows, view.cols())?;

@@ -2,7 +2,7 @@
 
 ghost use Rattle.pm_client.specs.Sound.{FailsRightly, IsSound};
 ghost use Rattle.pm_client.specs.declared.ClientFail.TheVariants.{Memory};
-ghost use Rattle.pm_client.specs.Starts.{next_count};
+ghost use Rattle.pm_client.specs.Starts.{started_once};
 ghost use Rattle.pm_clients_geom.specs.Kinds.{all_tests, test_kind, test_kinds};
 ghost use Rattle.pm_types.specs.Kinds.{standard_kind};
 ghost use Rattle.pm_types.specs.declared.standard.StandardClient.TheVariants as client;
@@ -54,8 +54,8 @@ impl TestClient {
     /// The client of that number, below `COUNT`, which was never started.
     pub fn new(number: u8) -> TestClient
         requires { number < 3 }
-        ensures kind { slice_get test_kinds number ≡ Some (⟦<TestClient as Client>⟧.kind_of result) }
-        ensures starts { ⟦<TestClient as Client>⟧.starts_of result ≡ 0 }
+        ensures kind { slice_get test_kinds number ≡ Some (⟦<TestClient as Client>⟧.tally result).0 }
+        ensures starts { (⟦<TestClient as Client>⟧.tally result).1 ≡ 0 }
     {
         TestClient {
             client: Test::every()[usize::from(number)],
@@ -67,9 +67,7 @@ impl TestClient {
 impl Client for TestClient {
     ghost use Rattle.pm_clients_geom.specs.Kinds.{test_kind};
 
-    ghost kind_of = { λ c. test_kind c.client };
-
-    ghost starts_of = { λ c. c.starts };
+    ghost tally = { λ c. (test_kind c.client, c.starts) };
 
     fn kind(&self) -> Kind {
         self.client.kind()
@@ -82,11 +80,10 @@ impl Client for TestClient {
     fn run(&mut self, _alloc: Global, view: &View, draft: &mut Draft) -> Result<(), ClientFail>
         requires kind { view.now.kind ≡ test_kind self.old.client }
         requires empty { draft.old ≡ record { kind = view.now.kind; values = [] } }
-        ensures kind { test_kind self.new.client ≡ test_kind self.old.client }
-        ensures starts { self.new.starts ≡ next_count self.old.starts }
+        ensures started { (test_kind self.new.client, self.new.starts) ≡ started_once (test_kind self.old.client, self.old.starts) }
         ensures draft { draft.new.kind ≡ draft.old.kind }
         ensures sound { OnOk result (IsSound view.now draft.new) }
-        ensures failed { IfErr result (λ e. FailsRightly view.now e) }
+        ensures failed { IfErr result (FailsRightly view.now) }
         ensures memory { IfErr result (λ e. e ≡ Memory) }
     {
         self.starts = self.starts.saturating_add(1);

@@ -264,8 +264,8 @@ each_push of held h each fits = by (cols_of held) refl
     by : (c : Option ℕ) → cols_of held ≡ c → Each of (cols_of (held ++ h ∷ [])) (held ++ h ∷ [])
     by (Some n) e g i =
         let p = part g i in
-        record { formed = p.formed; columns = subst (λ c. agrees c g.property g.value ≡ true) (e ∙ sym (cols_stay of held h n each fits e)) p.columns; rows = p.rows; entries = p.entries; primitive = p.primitive }
-    by None e g i = let p = part g i in record { formed = p.formed; columns = agrees_then of held h each fits e g i; rows = p.rows; entries = p.entries; primitive = p.primitive }
+        record { formed = p.formed; columns = subst (λ c. agrees c g.property g.value ≡ true) (e ∙ sym (cols_stay of held h n each fits e)) p.columns; rows = p.rows; entries = p.entries; primitive = p.primitive; placed = p.placed }
+    by None e g i = let p = part g i in record { formed = p.formed; columns = agrees_then of held h each fits e g i; rows = p.rows; entries = p.entries; primitive = p.primitive; placed = p.placed }
 
 -- what is held stays held
 pub held_stays : (p : PropId) (xs ys : List HeldValue) → is_held p xs ≡ true → is_held p (xs ++ ys) ≡ true

@@ -22,24 +22,11 @@ use Rattle.std.specs.Prelude.{Bool, List, None, Option, suc, [], if◌then◌els
 
 facts_append : (xs ys : List HeldValue) → facts (xs ++ ys) ≡ facts xs ++ facts ys
 facts_append [] ys = refl
-facts_append (x ∷ xs) ys = ap (λ t. record { place = None; property = x.property; value = x.value } ∷ t) (facts_append xs ys)
+facts_append (x ∷ xs) ys = ap (λ t. record { place = x.place; property = x.property; value = x.value } ∷ t) (facts_append xs ys)
 
-place_none : (p : PropId) → place_of None p ≡ None
-place_none p = by (has_program p)
-  where
-    none : Option ℕ
-    none = None
-
-    by : (t : Bool) → (if t then none else None) ≡ none
-    by true = refl
-    by false = refl
-
--- an answer whose facts are of the object itself is what was computed
-facts_computed : (xs : List Fact) → ((f : Fact) → Among f xs → f.place ≡ None) → facts (computed xs) ≡ xs
-facts_computed [] h = refl
-facts_computed (x ∷ xs) h =
-    ap (λ t. t ∷ facts (computed xs)) (ap (λ r. record { place = r; property = x.property; value = x.value }) (sym (h x here)))
-    ∙ ap (λ t. x ∷ t) (facts_computed xs (λ f i. h f (there i)))
+facts_computed : (xs : List Fact) → facts (computed xs) ≡ xs
+facts_computed [] = refl
+facts_computed (x ∷ xs) = ap (λ t. x ∷ t) (facts_computed xs)
 
 based_computed : (xs : List HeldValue) (ys : List Fact) → based (xs ++ computed ys) ≡ based xs
 based_computed [] [] = refl
@@ -57,29 +44,26 @@ tag_stays : {A : Type 0} (tag : PropId → Bool) (kind : Kind) (held : List Held
 tag_stays tag kind held first mid last free keeps before h =
     let (x, i, e) = any_to (λ g. tag g.property) (based held) h in
     let j = (filter_among (λ g. is_given g.origin) held i).0 in
-    keeps (λ fresh. true≢false (sym e ∙ free.none fresh (record { place = None; property = x.property; value = x.value }) (Contains_among (among_map (λ g. record { place = None; property = g.property; value = g.value }) j))))
+    keeps (λ fresh. true≢false (sym e ∙ free.none fresh (record { place = x.place; property = x.property; value = x.value }) (Contains_among (among_map (λ g. record { place = g.place; property = g.property; value = g.value }) j))))
     ∙ before h
 
-pub commit_is_honest : (o : State) (kind : Kind) (n : ℕ) (answer : List Fact) → MayRun kind None n (facts o.held) → MayAnswer o.of n kind None (shown kind None (facts o.held)) answer
-    → IsHonest o → IsHonest (with_held o (computed (missing None (facts o.held) answer)))
-commit_is_honest o kind n answer run may honest = record { answer = λ t p of right. made t p of right }
+pub commit_is_honest : (o : State) (sub : Option ℕ) (kind : Kind) (n : ℕ) (answer : List Fact) → MayRun kind sub n (facts o.held) → MayAnswer o.of n kind sub (shown kind sub (facts o.held)) answer
+    → IsHonest o → IsHonest (with_held o (computed (missing sub (facts o.held) answer)))
+commit_is_honest o sub kind n answer run may honest = record { answer = λ t p of right. made t p of right }
   where
     added : List Fact
-    added = missing None (facts o.held) answer
+    added = missing sub (facts o.held) answer
 
     same_based : based (o.held ++ computed added) ≡ based o.held
     same_based = based_computed o.held added
 
-    placed : (f : Fact) → Among f added → f.place ≡ None
-    placed f i = among_All (λ g. g.place ≡ place_of None g.property) (filter_among _ answer i).0 may.places ∙ place_none f.property
-
     same_facts : facts (o.held ++ computed added) ≡ facts o.held ++ added
-    same_facts = facts_append o.held (computed added) ∙ ap (λ t. facts o.held ++ t) (facts_computed added placed)
+    same_facts = facts_append o.held (computed added) ∙ ap (λ t. facts o.held ++ t) (facts_computed added)
 
     made : (t : Thing) (p : Orders) → t.of ≡ o.of → RightAll (facts (based (o.held ++ computed added))) t p → HonestAnswer (o.held ++ computed added) t p
     made t p of right =
         let old = honest.answer t p of (subst (λ z. RightAll (facts z) t p) same_based right) in
-        let new = kept o.of n kind None (facts o.held) answer run may t old.orders of old.right in
+        let new = kept o.of n kind sub (facts o.held) answer run may t old.orders of old.right in
         let tagged : (tag : PropId → Bool) → has_tag tag (based (o.held ++ computed added)) ≡ true → has_tag tag (based o.held) ≡ true = λ tag e. sym (ap (λ z. has_tag tag z) same_based) ∙ e in
         record {
           orders = new.orders;

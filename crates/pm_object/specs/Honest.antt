@@ -1,10 +1,10 @@
 -- When an object is honest.
---     facts held      the held values as facts of the object itself
+--     facts held      the held values as facts at their places
 --     based held      the values that honesty starts from: those that were given
 --     has_tag tag facts      some property has the tag
 --     IsHonest o      for every thing of the object's type, and all orders, for which the given values are right, there are orders for which all held values are right; an order of which a given value speaks stays
 --     IsKept o      the object is honest, and while it has no round each of its values was given
-use Rattle.std.specs.Prelude.{◌≡◌, Bool, true, false, None, List, [], filter, map}
+use Rattle.std.specs.Prelude.{◌≡◌, Bool, true, false, List, [], filter, map}
 use Rattle.std.specs.List.{Contains, list_any}
 use Rattle.pm_geom.specs.Things.{Thing, Orders}
 use Rattle.pm_types.specs.Properties.{rays_tag, facets_tag}
@@ -16,7 +16,7 @@ use Rattle.pm_object.specs.declared.held.Origin.{Origin}
 use Rattle.pm_object.specs.declared.held.Origin.TheVariants.{Given, Computed}
 
 abbrev pub facts : List HeldValue → List Fact
-facts held = map (λ h. record { place = None; property = h.property; value = h.value }) held
+facts held = map (λ h. record { place = h.place; property = h.property; value = h.value }) held
 
 abbrev pub is_given : Origin → Bool
 is_given Given = true

@@ -1,17 +1,22 @@
 -- The laws of honesty: an object stays honest where it gains values that were given while no round was started, what goes without saying, or what a client may answer.
---     computed answer      the facts of an answer as computed values
-use Rattle.std.specs.Prelude.{ℕ, ◌≡◌, None, List, [], map}
+--     computed answer      the facts of an answer as computed values, at their places
+use Rattle.std.specs.Prelude.{ℕ, ◌≡◌, Option, List, [], map}
 use Rattle.std.specs.List.{Contains}
 use Rattle.pm_geom.specs.declared.ObjectType.{ObjectType}
-use Rattle.pm_types.specs.Runs.{MayAnswer, MayRun, missing, shown}
-use Rattle.pm_types.specs.Values.{Fact}
+use Rattle.pm_types.specs.Runs.{MayAnswer, MayRun, missing, place_of, shown}
+use Rattle.pm_types.specs.Values.{Fact, PropertyValue}
+use Rattle.pm_types.specs.declared.property.PropId.{PropId}
 use Rattle.pm_types.specs.declared.kind.Kind.{Kind}
 use Rattle.pm_object.specs.Honest.{IsHonest, IsKept, facts}
 use Rattle.pm_object.specs.State.{HeldValue, State, empty_object, settling, with_held}
 use Rattle.pm_object.specs.declared.held.Origin.TheVariants.{Given, Computed}
 
+-- a computed value of a property, where it stands for who asks this program, if one is asked
+abbrev pub computed_at : Option ℕ → PropId → PropertyValue → HeldValue
+computed_at sub p v = record { place = place_of sub p; property = p; value = v; origin = Computed }
+
 abbrev pub computed : List Fact → List HeldValue
-computed answer = map (λ f. record { property = f.property; value = f.value; origin = Computed }) answer
+computed answer = map (λ f. record { place = f.place; property = f.property; value = f.value; origin = Computed }) answer
 
 abbrev pub EmptyIsKept : Type 0
 EmptyIsKept = (of : ObjectType) → IsKept (empty_object of)
@@ -23,8 +28,9 @@ abbrev pub SettledIsKept : Type 0
 SettledIsKept = (o : State) → IsKept o → IsKept (with_held o (settling o))
 
 abbrev pub CommitIsHonest : Type 0
-CommitIsHonest = (o : State) (kind : Kind) (n : ℕ) (answer : List Fact) → MayRun kind None n (facts o.held) → MayAnswer o.of n kind None (shown kind None (facts o.held)) answer
-    → IsHonest o → IsHonest (with_held o (computed (missing None (facts o.held) answer)))
+CommitIsHonest = (o : State) (sub : Option ℕ) (kind : Kind) (n : ℕ) (answer : List Fact)
+    → MayRun kind sub n (facts o.held) → MayAnswer o.of n kind sub (shown kind sub (facts o.held)) answer
+    → IsHonest o → IsHonest (with_held o (computed (missing sub (facts o.held) answer)))
 
 -- honesty is of the type and the held values alone
 abbrev pub HonestyIsOfValues : Type 0

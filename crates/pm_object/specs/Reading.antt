@@ -1,6 +1,6 @@
 -- What a client may read, and what it answers.
---     ViewSeen      the type and the column count of an object, the kind of a client, the subobject that is asked (so far none), and the values of the kind's sources
---     view_for o kind n      the view of the object, of n columns, for a client of the kind
+--     ViewSeen      the type and the column count of an object, the kind of a client, the program that is asked if one is, and the values of the kind's sources
+--     view_for o sub kind n      the view of the object, of n columns, for a client of the kind, where this program is asked if one is
 --     fact_of p facts      the value of the first fact of the property
 --     DraftSeen      the kind that a draft is for, and the values that were put, in order
 --     drafted p values      the value that was put for the property
@@ -16,7 +16,7 @@ use Rattle.pm_types.specs.Values.{Fact, PropertyValue}
 use Rattle.pm_types.specs.declared.kind.Kind.{Kind}
 use Rattle.pm_types.specs.declared.property.PropId.{PropId}
 use Rattle.pm_object.specs.Honest.{facts}
-use Rattle.pm_object.specs.State.{State, cols_of, is_held}
+use Rattle.pm_object.specs.State.{State, cols_of, is_held, read_at}
 
 pub record ViewSeen : Type 0 where
   pub of : ObjectType
@@ -25,22 +25,22 @@ pub record ViewSeen : Type 0 where
   pub sub : Option ℕ
   pub facts : List Fact
 
-abbrev pub view_for : State → Kind → ℕ → ViewSeen
-view_for o kind n = record { of = o.of; cols = n; kind = kind; sub = None; facts = shown kind None (facts o.held) }
+abbrev pub view_for : State → Option ℕ → Kind → ℕ → ViewSeen
+view_for o sub kind n = record { of = o.of; cols = n; kind = kind; sub = sub; facts = shown kind sub (facts o.held) }
 
 -- what an object must hold to be viewed by a client of the kind
-pub record IsViewed (o : State) (kind : Kind) (n : ℕ) : Type 0 where
+pub record IsViewed (o : State) (sub : Option ℕ) (kind : Kind) (n : ℕ) : Type 0 where
   pub cols : cols_of o.held ≡ Some n
-  pub sources : (p : PropId) → IsTrue (has kind.sources p) → IsTrue (is_held p o.held)
-  pub in_use : IsKindOf o.of kind
+  pub sources : (p : PropId) → IsTrue (has kind.sources p) → IsTrue (is_held p (read_at sub o.held))
+  pub in_use : IsKindOf sub o.of kind
 
--- what is so of every view: n is from 1 to 33, all sources are there, the values have their forms, and the type's table has all names of the kind
+-- what is so of every view: n is from 1 to 33, all sources are there, the values have their forms, and all names of the kind are in use
 pub record IsView (v : ViewSeen) : Type 0 where
   pub some_cols : IsTrue (nat_le 1 v.cols)
   pub few_cols : IsTrue (nat_le v.cols 33)
   pub sources : (p : PropId) → IsTrue (has v.kind.sources p) → IsTrue (is_named v.facts v.sub p)
   pub forms : (f : Fact) → Contains v.facts f → FormsIn v.of v.cols f.property f.value
-  pub in_use : IsKindOf v.of v.kind
+  pub in_use : IsKindOf v.sub v.of v.kind
 
 abbrev pub fact_of : PropId → List Fact → Option PropertyValue
 fact_of p [] = None

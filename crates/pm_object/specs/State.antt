@@ -1,7 +1,9 @@
--- An object, as contracts see it.
---     HeldValue      a property, its value, and how the value came to be held
---     RoundSeen      a round: the subobject that was asked, the weight, the chain's rules, and how it ended
+-- An object, as contracts see it. A place is None for the object itself, and the number of a linear program for that program of it.
+--     HeldValue      a place, a property, its value, and how the value came to be held
+--     RoundSeen      a round: the place that was asked, the weight, the chain's rules, and how it ended
 --     State      the object's type, its held values in order, the excluded rules, the rounds, and the disabled labels
+--     ObjectSeen      the state, and for how many values more the object has memory
+--     read_at sub held      the values that are read by who asks this program, if one is asked: the object's own, and that program's
 --     value_of p held, is_held p held      the value of a property, if it is held
 --     names_of held      the names that are held
 --     is_sealed o      a round was started for the object
@@ -12,13 +14,13 @@
 --     CannotTake o p v e      e is that reason; where there is none the value is no such thing, as some primitive row is not made within the range
 --     settling_names o      what goes without saying of an object without rounds, where it is not held
 --     settling o      these, as given values: the column count (1 where it is unknown), and matrices without rows
-use Rattle.std.specs.Prelude.{ℕ, ◌≡◌, ◌⊎◌, ◌||◌, ◌&&◌, Bool, true, false, not, Option, Some, None, List, [], ◌∷◌, ◌++◌, length, map, nat_eq, if◌then◌else◌}
+use Rattle.std.specs.Prelude.{ℕ, ◌≡◌, ◌⊎◌, ◌||◌, ◌&&◌, Bool, true, false, not, Option, Some, None, List, [], ◌∷◌, ◌++◌, filter, length, map, nat_eq, if◌then◌else◌}
 use Rattle.std.specs.Str.{bytes_eq}
 use Rattle.std.specs.Option.{is_some, unwrap_or}
 use Rattle.pm_geom.specs.declared.ObjectType.{ObjectType}
 use Rattle.pm_types.specs.Forms.{HavePrimitiveRows, stated_cols, agrees_with, are_rows}
 use Rattle.pm_types.specs.Properties.{has}
-use Rattle.pm_types.specs.Runs.{same_property}
+use Rattle.pm_types.specs.Runs.{place_of, same_place, same_property}
 use Rattle.pm_types.specs.Sets.{set_of}
 use Rattle.pm_types.specs.declared.set.PropSet.{PropSet}
 use Rattle.pm_types.specs.Values.{PropertyValue, matrix, whole}
@@ -35,6 +37,7 @@ use Rattle.pm_object.specs.declared.held.TakeFail.TheVariants as refused
 use lib.IntN.{pos}
 
 pub record HeldValue : Type 0 where
+  pub place : Option ℕ
   pub property : PropId
   pub value : PropertyValue
   pub origin : Origin
@@ -52,8 +55,15 @@ pub record State : Type 0 where
   pub rounds : List RoundSeen
   pub disabled : List (List ℕ)
 
+pub record ObjectSeen : Type 0 where
+  pub state : State
+  pub spare : ℕ
+
 abbrev pub empty_object : ObjectType → State
 empty_object of = record { of = of; held = []; excluded = []; rounds = []; disabled = [] }
+
+abbrev pub read_at : Option ℕ → List HeldValue → List HeldValue
+read_at sub held = filter (λ h. same_place h.place (place_of sub h.property)) held
 
 abbrev pub value_of : PropId → List HeldValue → Option PropertyValue
 value_of p [] = None
@@ -93,7 +103,7 @@ agrees None p v = true
 agrees (Some n) p v = agrees_with n p v
 
 abbrev pub take_refusal : State → PropId → PropertyValue → Option TakeFail
-take_refusal o p v = if is_held p o.held then Some refused.AlreadyHeld
+take_refusal o p v = if is_held p (read_at None o.held) then Some refused.AlreadyHeld
     else if is_sealed o then Some refused.Sealed
     else if not (has o.of p) then Some refused.NotOfType
     else if not (agrees (cols_of o.held) p v) then Some refused.Columns
@@ -140,7 +150,7 @@ settled_value n ConeAmbientDim = whole (pos n)
 settled_value n p = matrix 0 []
 
 abbrev pub settled : ℕ → PropId → HeldValue
-settled n p = record { property = p; value = settled_value n p; origin = Given }
+settled n p = record { place = None; property = p; value = settled_value n p; origin = Given }
 
 abbrev pub settling : State → List HeldValue
 settling o = map (settled (unwrap_or (cols_of o.held) 1)) (settling_names o)

@@ -8,7 +8,7 @@ use Rattle.pm_object.specs.declared.held.Held.{Held}
 use Rattle.pm_object.specs.declared.held.Round.{Round}
 
 abbrev pub held_seen : Held → HeldValue
-held_seen h = record { property = h.id; value = view_of h.value; origin = h.origin }
+held_seen h = record { place = h.place; property = h.id; value = view_of h.value; origin = h.origin }
 
 abbrev pub round_seen : Round → RoundSeen
 round_seen r = record { sub = r.sub; weight = r.weight; chain = r.chain.items; end = r.end }

@@ -21,6 +21,7 @@ fn copy_value(alloc: Global, h: &Held) -> Result<Held, AllocError>
     ensures { IfOk result (λ c. held_seen c ≡ held_seen h.now) }
 {
     Ok(Held {
+        place: h.place,
         id: h.id,
         value: h.value.copy(alloc)?,
         origin: h.origin,

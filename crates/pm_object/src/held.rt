@@ -18,6 +18,8 @@ pub enum Origin {
 /// A value that is held.
 #[derive(Debug, Drop)]
 pub struct Held {
+    /// The linear program that it belongs to; None: the object itself.
+    pub place: Option<u8>,
     /// Its property.
     pub id: PropId,
     /// The value.
@@ -40,7 +42,7 @@ pub enum Why {
 pub struct Excluded {
     /// The rule.
     pub rule: RuleId,
-    /// The subobject for which it was tried, if one was asked.
+    /// The linear program for which it is not tried; None: the object, and with it all of its programs.
     pub sub: Option<u8>,
     /// Why.
     pub why: Why,
@@ -60,7 +62,7 @@ pub enum RoundEnd {
 /// A chain that was started.
 #[derive(Debug, Drop)]
 pub struct Round {
-    /// The subobject that was asked, if one was.
+    /// The linear program that was asked, if one was.
     pub sub: Option<u8>,
     /// The chain's weight.
     pub weight: Cost,

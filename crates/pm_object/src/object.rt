@@ -2,18 +2,20 @@
 
 ghost use Rattle.pm_types.specs.Values.{whole};
 ghost use Rattle.pm_types.specs.declared.property.PropId.TheVariants.{ConeAmbientDim};
-ghost use Rattle.pm_object.specs.State.{CanTake, CannotTake, State, agrees, ambient_in, cols_of, empty_object, is_disabled, is_held, is_sealed, names_of, names_to_settle, settling, settling_names, value_of, with_disabled, with_excluded, with_held, with_round};
+ghost use Rattle.pm_object.specs.State.{CanTake, CannotTake, State, agrees, ambient_in, cols_of, empty_object, is_disabled, is_held, is_sealed, names_of, names_to_settle, read_at, settling, settling_names, value_of, with_disabled, with_excluded, with_held, with_round};
 ghost use Rattle.pm_types.specs.Forms.{are_rows, is_formed};
 ghost use Rattle.pm_object.specs.Formed.{IsFormed, IsFormedIn};
 ghost use Rattle.pm_object.specs.Views.{held_seen, round_seen};
-ghost use Rattle.pm_object.specs.declared.held.Origin.TheVariants.{Computed, Given};
+ghost use Rattle.pm_object.specs.Laws.{computed_at};
+ghost use Rattle.pm_object.specs.declared.held.Origin.TheVariants.{Given};
+ghost use Rattle.pm_types.specs.Runs.{place_of, same_place};
 ghost use Rattle.pm_types.specs.Views.{view_of};
 ghost use Rattle.pm_object.specs.Reading.{view_for};
 ghost use Rattle.pm_types.specs.Kinds.{IsKindOf};
 ghost use Rattle.pm_types.specs.Sets.{has};
 ghost use Rattle.pm_types.specs.declared.property.PropId.{PropId};
 ghost use Rattle.std.specs.Option.{is_some, option_map, unwrap_or};
-ghost use Rattle.std.specs.Prelude.{IfErr, IfOk, IfSome, IsTrue, false, if◌then◌else◌, None, OnErr, OnOk, Some, [], map, not, string_bytes, ◌&&◌, ◌++◌, ◌<◌, ◌^◌, ◌∷◌, ◌≡◌, ◌≢◌};
+ghost use Rattle.std.specs.Prelude.{IfErr, IfOk, IfSome, IsTrue, false, if◌then◌else◌, None, OnErr, OnOk, Some, [], map, not, string_bytes, ◌&&◌, ◌+◌, ◌++◌, ◌<◌, ◌≤◌, ◌^◌, ◌∷◌, ◌≡◌, ◌≢◌};
 
 use crate::copies::{copy_excluded, copy_held, copy_labels, copy_rounds};
 use crate::held::{Excluded, Held, Origin, Round, TakeFail};
@@ -36,16 +38,17 @@ pub struct Object {
 }
 
 impl Model for Object {
-    ghost use Rattle.pm_object.specs.State.{State};
-    ghost use Rattle.pm_types.specs.Forms.{are_rows, is_formed};
-    ghost use Rattle.pm_object.specs.Views.{held_seen, round_seen};
-    ghost use Rattle.std.specs.Prelude.{map, string_bytes};
-
-    ghost Value = { State };
-
-    ghost view = { λ o. record { of = o.of; held = map held_seen o.held.items; excluded = o.excluded.items; rounds = map round_seen o.rounds.items; disabled = map string_bytes o.disabled.items } };
-
     ghost use Rattle.pm_object.specs.Formed.{IsFormed};
+    ghost use Rattle.pm_object.specs.State.{ObjectSeen};
+    ghost use Rattle.pm_object.specs.Views.{held_seen, round_seen};
+    ghost use Rattle.std.specs.Prelude.{map, string_bytes, vec_capacity, vec_len, ◌-◌};
+
+    ghost Value = { ObjectSeen };
+
+    ghost view = { λ o. record {
+        state = record { of = o.of; held = map held_seen o.held.items; excluded = o.excluded.items; rounds = map round_seen o.rounds.items; disabled = map string_bytes o.disabled.items };
+        spare = vec_capacity o.held - vec_len o.held;
+    } };
 
     ghost invariant = { λ o. IsFormed (record { of = o.of; held = map held_seen o.held.items; excluded = o.excluded.items; rounds = map round_seen o.rounds.items; disabled = map string_bytes o.disabled.items }) };
 }
@@ -53,7 +56,7 @@ impl Model for Object {
 impl Object {
     /// An object of this type that holds nothing.
     pub fn new(alloc: Global, of: ObjectType) -> Object
-        ensures { result ≡ empty_object of }
+        ensures { result.state ≡ empty_object of }
     {
         Object {
             of,
@@ -66,69 +69,76 @@ impl Object {
 
     /// The object's type.
     pub fn of(&self) -> ObjectType
-        ensures value { result ≡ self.now.of }
-        ensures formed { IsFormed self.now }
+        ensures value { result ≡ self.now.state.of }
+        ensures formed { IsFormed self.now.state }
     {
         self.of
     }
 
     /// The values that it holds, in the order in which they came. They have their forms, and one column count.
     pub fn held(&self) -> &[Held]
-        ensures value { map held_seen result.now ≡ self.now.held }
-        ensures formed { IsFormed self.now }
+        ensures value { map held_seen result.now ≡ self.now.state.held }
+        ensures formed { IsFormed self.now.state }
     {
         &self.held
     }
 
     /// The rounds that were started for it.
     pub fn rounds(&self) -> &[Round]
-        ensures { map round_seen result.now ≡ self.now.rounds }
+        ensures { map round_seen result.now ≡ self.now.state.rounds }
     {
         &self.rounds
     }
 
     /// The rules that were excluded.
     pub fn excluded(&self) -> &[Excluded]
-        ensures { result.now ≡ self.now.excluded }
+        ensures { result.now ≡ self.now.state.excluded }
     {
         &self.excluded
     }
 
     /// Whether a round was started for it.
     pub fn is_sealed(&self) -> bool
-        ensures { result ≡ is_sealed self.now }
+        ensures { result ≡ is_sealed self.now.state }
     {
         !self.rounds.is_empty()
     }
 
-    /// The held value of a property; None exactly where it is not held.
-    pub fn lookup(&self, p: PropId) -> Option<&Value>
-        ensures value { option_map (λ v. view_of v.now) result ≡ value_of p self.now.held }
-        ensures formed { IsFormed self.now }
+    /// The value of a property that is read by who asks this program, if one is asked; None exactly where none is held.
+    pub fn lookup(&self, sub: Option<u8>, p: PropId) -> Option<&Value>
+        ensures value { option_map (λ v. view_of v.now) result ≡ value_of p (read_at sub self.now.state.held) }
+        ensures formed { IsFormed self.now.state }
     {
-        find(&self.held, p)
+        find_at(&self.held, sub, p)
     }
 
-    /// Whether a property is held.
-    pub fn holds(&self, p: PropId) -> bool
-        ensures { result ≡ is_held p self.now.held }
+    /// Whether a property is held, for who asks this program, if one is asked.
+    pub fn holds(&self, sub: Option<u8>, p: PropId) -> bool
+        ensures { result ≡ is_held p (read_at sub self.now.state.held) }
     {
-        self.lookup(p).is_some()
+        self.lookup(sub, p).is_some()
     }
 
-    /// The names that are held.
-    pub fn names(&self) -> PropSet
-        ensures value { result ≡ names_of self.now.held }
-        ensures members { (p : PropId) → has result p ≡ is_held p self.now.held }
+    // Whether a property of which the object itself has the only value is held.
+    fn has(&self, p: PropId) -> bool
+        ensures { result ≡ is_held p self.now.state.held }
     {
-        names_of(&self.held)
+        find(&self.held, p).is_some()
+    }
+
+    /// The names that are held, for who asks this program, if one is asked.
+    pub fn names(&self, sub: Option<u8>) -> PropSet
+        ensures value { result ≡ names_of (read_at sub self.now.state.held) }
+        ensures members { (p : PropId) → has result p ≡ is_held p (read_at sub self.now.state.held) }
+    {
+        names_of(&self.held, sub)
     }
 
     /// The column count n; None exactly where it is unknown.
     pub fn cols(&self) -> Option<usize>
-        ensures value { result ≡ cols_of self.now.held }
+        ensures value { result ≡ cols_of self.now.state.held }
         ensures fits { IfSome result (λ n. n < 2 ^ 63) }
-        ensures formed { IsFormed self.now }
+        ensures formed { IsFormed self.now.state }
     {
         match self.ambient() {
             Some(n) => Some(n),
@@ -138,11 +148,11 @@ impl Object {
 
     // The dimension that CONE_AMBIENT_DIM states, if it is held.
     fn ambient(&self) -> Option<usize>
-        ensures value { result ≡ ambient_in (value_of ConeAmbientDim self.now.held) }
+        ensures value { result ≡ ambient_in (value_of ConeAmbientDim self.now.state.held) }
         ensures fits { IfSome result (λ n. n < 2 ^ 63) }
-        ensures formed { IsFormed self.now }
+        ensures formed { IsFormed self.now.state }
     {
-        match self.lookup(PropId::ConeAmbientDim) {
+        match find(&self.held, PropId::ConeAmbientDim) {
             Some(Value::Int(k)) => whole_number(*k),
             _ => None,
         }
@@ -153,13 +163,14 @@ impl Object {
     /// fails the tests of its property, or its primitive row is not made within the range (`NotAThing`). Nothing changes where the answer is not Ok.
     pub fn take(&mut self, p: PropId, v: Value) -> Result<(), TakeFail>
         requires formed { IsTrue (is_formed p (view_of v)) }
-        ensures ok { OnOk result (CanTake self.old p (view_of v)) }
-        ensures added { OnOk result (self.new ≡ with_held self.old (record { property = p; value = view_of v; origin = Given } ∷ [])) }
-        ensures refused { IfErr result (λ e. e ≢ TakeFail.Memory → CannotTake self.old p (view_of v) e) }
-        ensures unchanged { OnErr result (self.new ≡ self.old) }
+        ensures ok { OnOk result (CanTake self.old.state p (view_of v)) }
+        ensures added { OnOk result (self.new.state ≡ with_held self.old.state (record { place = None; property = p; value = view_of v; origin = Given } ∷ [])) }
+        ensures refused { IfErr result (λ e. e ≢ TakeFail.Memory → CannotTake self.old.state p (view_of v) e) }
+        ensures unchanged { OnErr result (self.new.state ≡ self.old.state) }
     {
         self.may_take(p, &v)?;
         let given = Held {
+            place: None,
             id: p,
             value: v,
             origin: Origin::Given,
@@ -173,11 +184,11 @@ impl Object {
     // The first reason not to take a given value, if there is one.
     fn may_take(&self, p: PropId, v: &Value) -> Result<(), TakeFail>
         requires formed { IsTrue (is_formed p (view_of v.now)) }
-        ensures ok { OnOk result (CanTake self.now p (view_of v.now)) }
-        ensures fits { OnOk result (IsFormedIn self.now.of (cols_of self.now.held) (record { property = p; value = view_of v.now; origin = Given })) }
-        ensures refused { IfErr result (λ e. e ≢ TakeFail.Memory → CannotTake self.now p (view_of v.now) e) }
+        ensures ok { OnOk result (CanTake self.now.state p (view_of v.now)) }
+        ensures fits { OnOk result (IsFormedIn self.now.state.of (cols_of self.now.state.held) (record { place = None; property = p; value = view_of v.now; origin = Given })) }
+        ensures refused { IfErr result (λ e. e ≢ TakeFail.Memory → CannotTake self.now.state p (view_of v.now) e) }
     {
-        if self.holds(p) {
+        if self.holds(None, p) {
             return Err(TakeFail::AlreadyHeld);
         }
         if self.is_sealed() {
@@ -197,15 +208,15 @@ impl Object {
 
     /// Whether this label was disabled.
     pub fn is_disabled(&self, label: &str) -> bool
-        ensures { result ≡ is_disabled label.now self.now.disabled }
+        ensures { result ≡ is_disabled label.now self.now.state.disabled }
     {
         is_among(&self.disabled, label)
     }
 
     /// Disables a label; one that is disabled stays so, once.
     pub fn disable(&mut self, alloc: Global, label: &str) -> Result<(), AllocError>
-        ensures ok { OnOk result (self.new ≡ (if is_disabled label.now self.old.disabled then self.old else with_disabled self.old label.now)) }
-        ensures err { OnErr result (self.new ≡ self.old) }
+        ensures ok { OnOk result (self.new.state ≡ (if is_disabled label.now self.old.state.disabled then self.old.state else with_disabled self.old.state label.now)) }
+        ensures err { OnErr result (self.new.state ≡ self.old.state) }
     {
         if self.is_disabled(label) {
             return Ok(());
@@ -217,9 +228,9 @@ impl Object {
 
     /// Adds what goes without saying, of an object without rounds. Then the object knows its dimension.
     pub fn settle(&mut self, alloc: Global) -> Result<(), AllocError>
-        ensures ok { OnOk result (self.new ≡ with_held self.old (settling self.old)) }
-        ensures dimension { OnOk result (IsTrue (is_held ConeAmbientDim self.new.held)) }
-        ensures err { OnErr result (self.new ≡ self.old) }
+        ensures ok { OnOk result (self.new.state ≡ with_held self.old.state (settling self.old.state)) }
+        ensures dimension { OnOk result (IsTrue (is_held ConeAmbientDim self.new.state.held)) }
+        ensures err { OnErr result (self.new.state ≡ self.old.state) }
     {
         let mut more = self.settling(alloc)?;
         self.held.append(&mut more)?;
@@ -228,7 +239,7 @@ impl Object {
 
     // The values that settling adds.
     fn settling(&self, alloc: Global) -> Result<Vec<Held>, AllocError>
-        ensures { IfOk result (λ v. map held_seen v.items ≡ settling self.now) }
+        ensures { IfOk result (λ v. map held_seen v.items ≡ settling self.now.state) }
     {
         let names = self.settling_names(alloc)?;
         settled_values(alloc, self.dimension(), &names)
@@ -236,7 +247,7 @@ impl Object {
 
     // The properties that settling adds.
     fn settling_names(&self, alloc: Global) -> Result<Vec<PropId>, AllocError>
-        ensures { IfOk result (λ v. v.items ≡ settling_names self.now) }
+        ensures { IfOk result (λ v. v.items ≡ settling_names self.now.state) }
     {
         if self.is_sealed() {
             Ok(Vec::new(alloc))
@@ -246,13 +257,13 @@ impl Object {
     }
 
     fn names_to_settle(&self, alloc: Global) -> Result<Vec<PropId>, AllocError>
-        ensures { IfOk result (λ v. v.items ≡ names_to_settle self.now.held) }
+        ensures { IfOk result (λ v. v.items ≡ names_to_settle self.now.state.held) }
     {
-        let points = self.holds(PropId::Points);
-        let inequalities = self.holds(PropId::Inequalities);
-        let vertices = self.holds(PropId::Vertices);
-        let facets = self.holds(PropId::Facets);
-        let hull = self.holds(PropId::AffineHull);
+        let points = self.has(PropId::Points);
+        let inequalities = self.has(PropId::Inequalities);
+        let vertices = self.has(PropId::Vertices);
+        let facets = self.has(PropId::Facets);
+        let hull = self.has(PropId::AffineHull);
         let mut names = Vec::new(alloc);
         push_if(
             &mut names,
@@ -288,14 +299,14 @@ impl Object {
 
     // Whether a property is not held.
     fn lacks(&self, p: PropId) -> bool
-        ensures { result ≡ not (is_held p self.now.held) }
+        ensures { result ≡ not (is_held p self.now.state.held) }
     {
-        !self.holds(p)
+        !self.has(p)
     }
 
     // The column count, or 1 where it is unknown.
     fn dimension(&self) -> usize
-        ensures value { result ≡ unwrap_or (cols_of self.now.held) 1 }
+        ensures value { result ≡ unwrap_or (cols_of self.now.state.held) 1 }
         ensures fits { result < 2 ^ 63 }
     {
         match self.cols() {
@@ -306,7 +317,7 @@ impl Object {
 
     /// An object that holds the same, with the same exclusions, rounds and disabled labels.
     pub fn copy(&self, alloc: Global) -> Result<Object, AllocError>
-        ensures { IfOk result (λ o. o ≡ self.now) }
+        ensures { IfOk result (λ o. o.state ≡ self.now.state) }
     {
         Ok(Object {
             of: self.of,
@@ -319,9 +330,9 @@ impl Object {
 
     /// Adds a round, of an object that knows its dimension.
     pub fn add_round(&mut self, r: Round) -> Result<(), AllocError>
-        requires dimension { IsTrue (is_held ConeAmbientDim self.old.held) }
-        ensures ok { OnOk result (self.new ≡ with_round self.old (round_seen r)) }
-        ensures err { OnErr result (self.new ≡ self.old) }
+        requires dimension { IsTrue (is_held ConeAmbientDim self.old.state.held) }
+        ensures ok { OnOk result (self.new.state ≡ with_round self.old.state (round_seen r)) }
+        ensures err { OnErr result (self.new.state ≡ self.old.state) }
     {
         self.rounds.push(r)?;
         Ok(())
@@ -329,39 +340,51 @@ impl Object {
 
     /// Excludes a rule.
     pub fn exclude(&mut self, e: Excluded) -> Result<(), AllocError>
-        ensures ok { OnOk result (self.new ≡ with_excluded self.old e) }
-        ensures err { OnErr result (self.new ≡ self.old) }
+        ensures ok { OnOk result (self.new.state ≡ with_excluded self.old.state e) }
+        ensures err { OnErr result (self.new.state ≡ self.old.state) }
     {
         self.excluded.push(e)?;
         Ok(())
     }
 
-    /// What a client of this kind may read, of an object that knows its column count and holds the kind's sources. The type's table has all names of the kind.
-    pub fn view(&self, kind: &Kind) -> View<'_>
-        requires known { IsTrue (is_some (cols_of self.now.held)) }
-        requires sources { (p : PropId) → IsTrue (has kind.now.sources p) → IsTrue (is_held p self.now.held) }
-        requires in_use { IsKindOf self.now.of kind.now }
-        ensures { result ≡ view_for self.now kind.now (unwrap_or (cols_of self.now.held) 1) }
+    /// What a client of this kind may read for who asks this program, if one is asked: of an object that knows its column count and holds the kind's sources, with all names of the kind in use.
+    pub fn view(&self, sub: Option<u8>, kind: &Kind) -> View<'_>
+        requires known { IsTrue (is_some (cols_of self.now.state.held)) }
+        requires sources { (p : PropId) → IsTrue (has kind.now.sources p) → IsTrue (is_held p (read_at sub self.now.state.held)) }
+        requires in_use { IsKindOf sub self.now.state.of kind.now }
+        ensures { result ≡ view_for self.now.state sub kind.now (unwrap_or (cols_of self.now.state.held) 1) }
     {
         let Some(cols) = self.cols() else {
             unreachable!()
         };
-        View::new(self, *kind, cols)
+        View::new(self, sub, *kind, cols)
     }
 
-    /// Adds a computed value of a property that is not held.
-    pub fn add_computed(&mut self, p: PropId, v: Value) -> Result<(), AllocError>
-        requires missing { is_held p self.old.held ≡ false }
-        requires formed { IsFormedIn self.old.of (cols_of self.old.held) (record { property = p; value = view_of v; origin = Computed }) }
-        ensures ok { OnOk result (self.new ≡ with_held self.old (record { property = p; value = view_of v; origin = Computed } ∷ [])) }
-        ensures err { OnErr result (self.new ≡ self.old) }
+    /// Makes room for this many values more; nothing else changes.
+    pub fn reserve(&mut self, more: usize) -> Result<(), AllocError>
+        ensures state { self.new.state ≡ self.old.state }
+        ensures ok { OnOk result (more ≤ self.new.spare) }
     {
-        self.held.push(Held {
+        self.held.reserve(more)
+    }
+
+    /// Adds a computed value of a property that is not held there, of an object with room for it. Takes no memory.
+    pub fn add_computed(&mut self, sub: Option<u8>, p: PropId, v: Value)
+        requires room { 0 < self.old.spare }
+        requires missing { is_held p (read_at sub self.old.state.held) ≡ false }
+        requires formed { IsFormedIn self.old.state.of (cols_of self.old.state.held) (computed_at sub p (view_of v)) }
+        ensures added { self.new.state ≡ with_held self.old.state (computed_at sub p (view_of v) ∷ []) }
+        ensures spare { self.old.spare ≤ self.new.spare + 1 }
+    {
+        let computed = Held {
+            place: p.place(sub),
             id: p,
             value: v,
             origin: Origin::Computed,
-        })?;
-        Ok(())
+        };
+        let Ok(()) = self.held.push(computed) else {
+            unreachable!()
+        };
     }
 }
 
@@ -392,15 +415,49 @@ fn whole_number(k: i64) -> Option<usize>
     if k >= 0 { Some(k as usize) } else { None }
 }
 
-// The names of a list of values.
-fn names_of(held: &[Held]) -> PropSet
-    ensures { result ≡ names_of (map held_seen held.now) }
+// Whether two places are the same.
+fn are_same(a: Option<u8>, b: Option<u8>) -> bool
+    ensures { result ≡ same_place a b }
+{
+    match (a, b) {
+        (None, None) => true,
+        (Some(i), Some(j)) => i == j,
+        _ => false,
+    }
+}
+
+impl Held {
+    // Whether the value is read by who asks this program, if one is asked.
+    fn is_read_at(&self, sub: Option<u8>) -> bool
+        ensures { result ≡ same_place self.now.place (place_of sub self.now.id) }
+    {
+        are_same(self.place, self.id.place(sub))
+    }
+}
+
+// The names of the values that are read there.
+fn names_of(held: &[Held], sub: Option<u8>) -> PropSet
+    ensures { result ≡ names_of (read_at sub (map held_seen held.now)) }
 {
     let mut names = PropSet::empty();
     for h in held {
-        names = names.with(h.id);
+        if h.is_read_at(sub) {
+            names = names.with(h.id);
+        }
     }
     names
+}
+
+// The value of a property that is read there.
+fn find_at(held: &[Held], sub: Option<u8>, p: PropId) -> Option<&Value>
+    ensures { option_map (λ v. view_of v.now) result ≡ value_of p (read_at sub (map held_seen held.now)) }
+{
+    for h in held {
+        if h.is_read_at(sub) && h.id == p {
+            return Some(&h.value);
+        }
+    }
+    None
 }
 
 /// The value of a property in a list.

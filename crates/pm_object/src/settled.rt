@@ -37,6 +37,7 @@ fn settled_at(alloc: Global, n: usize, p: PropId) -> Held
     ensures { held_seen result ≡ settled n p }
 {
     Held {
+        place: None,
         id: p,
         value: settled_value(alloc, n, p),
         origin: Origin::Given,

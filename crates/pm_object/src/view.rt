@@ -16,6 +16,7 @@ use std::marker::Model;
 #[derive(Drop)]
 pub struct View<'a> {
     object: &'a Object,
+    sub: Option<u8>,
     kind: Kind,
     cols: usize,
 }
@@ -25,19 +26,24 @@ impl<'a> Model for View<'a> {
 
     ghost Value = { ViewSeen };
 
-    ghost view = { λ v. view_for v.object.now v.kind v.cols };
+    ghost view = { λ v. view_for v.object.now.state v.sub v.kind v.cols };
 
-    ghost invariant = { λ v. IsViewed v.object.now v.kind v.cols × IsView (view_for v.object.now v.kind v.cols) };
+    ghost invariant = { λ v. IsViewed v.object.now.state v.sub v.kind v.cols × IsView (view_for v.object.now.state v.sub v.kind v.cols) };
 }
 
 impl<'a> View<'a> {
     // The view of an object of n columns that holds the sources.
-    pub(crate) fn new(object: &'a Object, kind: Kind, cols: usize) -> View<'a>
-        requires viewed { IsViewed object.now kind cols }
-        requires view { IsView (view_for object.now kind cols) }
-        ensures { result ≡ view_for object.now kind cols }
+    pub(crate) fn new(object: &'a Object, sub: Option<u8>, kind: Kind, cols: usize) -> View<'a>
+        requires viewed { IsViewed object.now.state sub kind cols }
+        requires view { IsView (view_for object.now.state sub kind cols) }
+        ensures { result ≡ view_for object.now.state sub kind cols }
     {
-        View { object, kind, cols }
+        View {
+            object,
+            sub,
+            kind,
+            cols,
+        }
     }
 
     /// The object's type.
@@ -70,7 +76,7 @@ impl<'a> View<'a> {
         ensures forms { IfSome result (λ v. FormsIn self.now.of self.now.cols p (view_of v.now)) }
     {
         if self.kind.sources.contains(p) {
-            self.object.lookup(p)
+            self.object.lookup(self.sub, p)
         } else {
             None
         }

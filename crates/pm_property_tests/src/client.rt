@@ -34,9 +34,7 @@ impl Client for Columns {
     ghost use Rattle.pm_types.specs.Sets.{set_of};
     ghost use Rattle.pm_types.specs.declared.property.PropId.TheVariants.{ConeAmbientDim};
 
-    ghost kind_of = { λ _. record { name = codes "columns"; targets = set_of (ConeAmbientDim ∷ []); sources = 0; must = 0; must_not = 0 } };
-
-    ghost starts_of = { λ c. c.starts };
+    ghost tally = { λ c. (record { name = codes "columns"; targets = set_of (ConeAmbientDim ∷ []); sources = 0; must = 0; must_not = 0 }, c.starts) };
 
     fn kind(&self) -> Kind {
         columns_kind()

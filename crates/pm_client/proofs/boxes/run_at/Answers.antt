@@ -8,4 +8,4 @@ run_box-requires-clause-kind g c =
 
 pub returns-clause-started : goal.returns-clause-started
 returns-clause-started g c =
-    started_set _ c.args.clients.now.items c.args.place _ _ c.requires.place c.index_mut.ensures.value c.run_box.ensures.kind c.run_box.ensures.starts
+    started_set _ c.args.clients.now.items c.args.place _ _ c.requires.place c.index_mut.ensures.value c.run_box.ensures.started

@@ -1,13 +1,27 @@
-use Rattle.std.proofs.Common.{refl, rules, subst, sym}
-use Rattle.pm_object.proofs.Formed.{formed_pushed}
+-- The object with a computed value more: all its values have their forms, and the push had room.
+use Rattle.std.proofs.Common.{ap, refl, rules, subst, sym, ◌++◌, ◌∷◌, ◌≡◌, []}
+use Rattle.pm_object.proofs.Formed.{formed_pushed, map_push}
 use Rattle.pm_object.specs.Formed.{IsFormedIn}
-use Rattle.pm_object.specs.State.{State, cols_of}
+use Rattle.pm_object.specs.Laws.{computed_at}
+use Rattle.pm_object.specs.State.{ObjectSeen, State, cols_of}
 use Rattle.pm_object.specs.Views.{held_seen}
+use Rattle.pm_object.specs.declared.held.Held.{Held}
 use Rattle.pm_object.specs.declared.held.Origin.TheVariants.{Computed}
 use Rattle.pm_types.specs.Views.{view_of}
 use Rattle.pm_object.proofs.object.Object.add_computed.Goals as goal
+use Rattle.pm_object.proofs.object.Object.add_computed.Goals.{In-Ok}
 
-pub invariant_of-self-2 : goal.invariant_of-self-2
-invariant_of-self-2 c =
-    formed_pushed _ held_seen c.self.inside.held.items c.push.new.self.items (record { id = c.args.p; value = c.args.v; origin = Computed }) refl (search rules) c.self.invariant
-    (subst (λ (z : State). IsFormedIn z.of (cols_of z.held) (record { property = c.args.p; value = view_of c.args.v; origin = Computed })) (sym c.self.view_is) c.requires.formed)
+abbrev made : In-Ok → Held
+made c = record { place = c.place.result; id = c.args.p; value = c.args.v; origin = Computed }
+
+pushed : (c : In-Ok) → c.push.new.self.items ≡ c.self.inside.held.items ++ made c ∷ []
+pushed c = search rules
+
+pub invariant_of-self : goal.invariant_of-self
+invariant_of-self c =
+    formed_pushed _ held_seen c.self.inside.held.items c.push.new.self.items (made c) refl (pushed c) c.self.invariant
+    (rw c.place.ensures (subst (λ (z : ObjectSeen). IsFormedIn z.state.of (cols_of z.state.held) (computed_at c.args.sub c.args.p (view_of c.args.v))) (sym c.self.view_is) c.requires.formed))
+
+pub returns-clause-added : goal.returns-clause-added
+returns-clause-added c =
+    rw (← c.self.view_is, pushed c, map_push held_seen c.self.inside.held.items (made c), c.place.ensures) refl

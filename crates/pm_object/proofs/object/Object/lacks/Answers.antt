@@ -3,4 +3,4 @@ use Rattle.std.specs.Prelude.{not}
 use Rattle.pm_object.proofs.object.Object.lacks.Goals as goal
 
 pub returns : goal.returns
-returns c = ap not c.holds.ensures
+returns c = ap not c.has.ensures

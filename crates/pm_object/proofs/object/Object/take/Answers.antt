@@ -1,8 +1,8 @@
 -- The object with a value that it may take: it has one value more, and all its values have their forms.
-use Rattle.std.proofs.Common.{rules, refl, sym, subst, ◌≡◌, ◌++◌, ◌∷◌, []}
+use Rattle.std.proofs.Common.{None, ap, rules, refl, sym, subst, ◌≡◌, ◌++◌, ◌∷◌, []}
 use Rattle.pm_object.proofs.Formed.{formed_pushed, map_push}
 use Rattle.pm_object.specs.Formed.{IsFormedIn}
-use Rattle.pm_object.specs.State.{State, cols_of}
+use Rattle.pm_object.specs.State.{ObjectSeen, State, cols_of}
 use Rattle.pm_object.specs.Views.{held_seen}
 use Rattle.pm_object.specs.declared.held.Held.{Held}
 use Rattle.pm_object.specs.declared.held.Origin.TheVariants.{Given}
@@ -11,7 +11,7 @@ use Rattle.pm_object.proofs.object.Object.take.Goals as goal
 use Rattle.pm_object.proofs.object.Object.take.Goals.{Else-is_err}
 
 abbrev given : Else-is_err → Held
-given c = record { id = c.args.p; value = c.args.v; origin = Given }
+given c = record { place = None; id = c.args.p; value = c.args.v; origin = Given }
 
 pushed : (c : Else-is_err) → c.push.new.self.items ≡ c.self.inside.held.items ++ given c ∷ []
 pushed c = search rules
@@ -19,7 +19,7 @@ pushed c = search rules
 pub invariant_of-self-2 : goal.invariant_of-self-2
 invariant_of-self-2 c =
     formed_pushed _ held_seen c.self.inside.held.items c.push.new.self.items (given c) refl (pushed c) c.self.invariant
-    (subst (λ (z : State). IsFormedIn z.of (cols_of z.held) (record { property = c.args.p; value = view_of c.args.v; origin = Given })) (sym c.self.view_is) c.in_ok-may_take.ensures.fits)
+    (subst (λ (z : State). IsFormedIn z.of (cols_of z.held) (record { place = None; property = c.args.p; value = view_of c.args.v; origin = Given })) (sym (ap (λ (z : ObjectSeen). z.state) c.self.view_is)) c.in_ok-may_take.ensures.fits)
 
 pub returns-clause-ok : goal.returns-clause-ok
 returns-clause-ok c = c.in_ok-may_take.ensures.ok
