@@ -3,3 +3,4 @@ pub mod SameKind
 pub mod Started
 pub mod ReadValues
 pub mod TwoTargets
+pub mod Failing

@@ -1,3 +1,7 @@
+use Rattle.std.proofs.Common.{subst, sym}
+use Rattle.std.proofs.lemmas.Result.{err_from_is_err_and}
+use Rattle.pm_client.proofs.Failing.{fails_by_list}
+use Rattle.pm_client.specs.Sound.{FailsRightly}
 use Rattle.pm_clients_geom.proofs.FoundDims.{rank_at_most}
 use Rattle.pm_clients_geom.proofs.dims.rank_of_list.Goals as goal
 
@@ -26,3 +30,9 @@ returns-clause-stays c = record {
 
 pub returns-clause-failed : goal.returns-clause-failed
 returns-clause-failed c = tt
+
+pub returns-in_err-rank-clause-failed : goal.returns-in_err-rank-clause-failed
+returns-in_err-rank-clause-failed c =
+    let w = err_from_is_err_and c.from_residual-in_err-rank.result c.from_residual-in_err-rank.ensures.1 in
+    rw w.1 (subst (FailsRightly c.args.view.now) (sym w.2)
+    (fails_by_list c.args.view.now c.in_ok-rows.rows.items c.in_err-rank.field-0.0 (record { first = c.args.first; second = c.args.second; parts = c.requires.parts; list = c.in_ok-rows.ensures.listed }) (rw (← c.deref.ensures.value, ← c.cols.ensures.value) c.in_err-rank.ensures.wide)))

@@ -1,3 +1,6 @@
+use Rattle.std.proofs.lemmas.Result.{err_from_is_err_and}
+use Rattle.pm_client.proofs.Failing.{fails_by_list}
+use Rattle.pm_client.specs.Sound.{FailsRightly}
 use Rattle.pm_clients_geom.proofs.NullMatrices.{hull_sound}
 use Rattle.pm_clients_geom.proofs.RowsKinds.{source_of, target_of}
 use Rattle.pm_clients_geom.proofs.ViewLaws.{not_fan, target_named}
@@ -5,7 +8,7 @@ use Rattle.pm_clients_geom.proofs.rows.hull_from_vertices.Goals as goal
 use Rattle.pm_types.specs.declared.property.PropId.TheVariants.{AffineHull, LinealitySpace, Vertices}
 use Rattle.pm_types.specs.declared.property.PropId.{PropId}
 use Rattle.pm_types.specs.declared.standard.StandardClient.TheVariants as client
-use Rattle.std.proofs.Common.{ap, refl, ◌∙◌}
+use Rattle.std.proofs.Common.{ap, refl, ◌∙◌, subst, sym}
 use Rattle.std.specs.Prelude.{List, [], ◌∷◌}
 
 abbrev sources : List PropId
@@ -41,3 +44,9 @@ returns-clause-stays c = record { rows = c.in_ok-rows.rows.items; listed = c.in_
 
 pub returns-clause-stays_extended : goal.returns-clause-stays_extended
 returns-clause-stays_extended c = record { rows = c.in_ok-rows.rows.items; listed = c.in_ok-rows.ensures.listed; stays = rw (c.deref.ensures.value, c.cols.ensures.value) at c.in_ok-null.ensures.never_wide_extended }
+
+pub returns-in_err-null-clause-failed : goal.returns-in_err-null-clause-failed
+returns-in_err-null-clause-failed c =
+    let w = err_from_is_err_and c.from_residual-in_err-null.result c.from_residual-in_err-null.ensures.1 in
+    rw w.1 (subst (FailsRightly c.args.view.now) (sym w.2)
+    (fails_by_list c.args.view.now c.in_ok-rows.rows.items c.in_err-null.field-0.0 (record { first = LinealitySpace; second = Vertices; parts = refl; list = c.in_ok-rows.ensures.listed }) (rw (← c.deref.ensures.value, ← c.cols.ensures.value) c.in_err-null.ensures.wide)))
