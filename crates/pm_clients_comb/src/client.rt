@@ -56,7 +56,8 @@ impl Client for SetsClient {
     fn run(&mut self, alloc: Global, view: &View, draft: &mut Draft) -> Result<(), ClientFail>
         requires kind { view.now.kind ≡ incidence_kind }
         requires empty { draft.old ≡ record { kind = view.now.kind; values = [] } }
-        ensures started { (incidence_kind, self.new.starts) ≡ started_once (incidence_kind, self.old.starts) }
+        ensures started { (incidence_kind, self.new.starts)
+            ≡ started_once (incidence_kind, self.old.starts) }
         ensures draft { draft.new.kind ≡ draft.old.kind }
         ensures sound { OnOk result (IsSound view.now draft.new) }
         ensures failed { IfErr result (FailsRightly view.now) }

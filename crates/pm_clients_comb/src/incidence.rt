@@ -71,7 +71,8 @@ pub(crate) fn incidence(
 ) -> Result<Sets, ClientFail>
     requires cols { All (λ f. All (λ v. length v ≡ length f) vertices.now) facets.now }
     requires few { length vertices.now ≤ 2048 }
-    ensures ok { IfOk result (λ r. r ≡ record { rows = incidence facets.now vertices.now; cols = length vertices.now }) }
+    ensures ok { IfOk result (λ r. r
+        ≡ record { rows = incidence facets.now vertices.now; cols = length vertices.now }) }
     ensures stays { OnOk result (AllStay facets.now vertices.now) }
     ensures failed { IfErr result (IsWideFor facets.now vertices.now) }
 {

@@ -100,7 +100,8 @@ impl Client for DimClient {
     fn run(&mut self, alloc: Global, view: &View, draft: &mut Draft) -> Result<(), ClientFail>
         requires kind { view.now.kind ≡ dim_kind self.old.client }
         requires empty { draft.old ≡ record { kind = view.now.kind; values = [] } }
-        ensures started { (dim_kind self.new.client, self.new.starts) ≡ started_once (dim_kind self.old.client, self.old.starts) }
+        ensures started { (dim_kind self.new.client, self.new.starts)
+            ≡ started_once (dim_kind self.old.client, self.old.starts) }
         ensures draft { draft.new.kind ≡ draft.old.kind }
         ensures sound { OnOk result (IsSound view.now draft.new) }
         ensures failed { IfErr result (FailsRightly view.now) }
@@ -146,7 +147,8 @@ fn cone_dim_v(alloc: Global, view: &View, draft: &mut Draft) -> Result<(), Clien
     requires empty { draft.old ≡ record { kind = view.now.kind; values = [] } }
     ensures draft { draft.new.kind ≡ draft.old.kind }
     ensures sound { OnOk result (IsSound view.now draft.new) }
-    ensures stays { OnOk result (StaysInRange view.now property.LinealitySpace property.Vertices list.Rows) }
+    ensures stays { OnOk result (StaysInRange view.now property.LinealitySpace
+        property.Vertices list.Rows) }
     ensures failed { IfErr result (FailsRightly view.now) }
 {
     let dim = rank_of_list(alloc, view, PropId::LinealitySpace, PropId::Vertices)?;
@@ -174,7 +176,8 @@ fn cone_dim_points(alloc: Global, view: &View, draft: &mut Draft) -> Result<(), 
     requires empty { draft.old ≡ record { kind = view.now.kind; values = [] } }
     ensures draft { draft.new.kind ≡ draft.old.kind }
     ensures sound { OnOk result (IsSound view.now draft.new) }
-    ensures stays { OnOk result (StaysInRange view.now property.InputLineality property.Points list.Rows) }
+    ensures stays { OnOk result (StaysInRange view.now property.InputLineality
+        property.Points list.Rows) }
     ensures failed { IfErr result (FailsRightly view.now) }
 {
     let dim = rank_of_list(alloc, view, PropId::InputLineality, PropId::Points)?;

@@ -79,7 +79,8 @@ impl RowsClient {
     /// The client of that number, below `COUNT`, which was never started.
     pub fn new(number: u8) -> RowsClient
         requires { number < 4 }
-        ensures kind { slice_get rows_kinds number ≡ Some (⟦<RowsClient as Client>⟧.tally result).0 }
+        ensures kind { slice_get rows_kinds number
+            ≡ Some (⟦<RowsClient as Client>⟧.tally result).0 }
         ensures starts { (⟦<RowsClient as Client>⟧.tally result).1 ≡ 0 }
     {
         RowsClient {
@@ -105,7 +106,8 @@ impl Client for RowsClient {
     fn run(&mut self, alloc: Global, view: &View, draft: &mut Draft) -> Result<(), ClientFail>
         requires kind { view.now.kind ≡ rows_kind self.old.client }
         requires empty { draft.old ≡ record { kind = view.now.kind; values = [] } }
-        ensures started { (rows_kind self.new.client, self.new.starts) ≡ started_once (rows_kind self.old.client, self.old.starts) }
+        ensures started { (rows_kind self.new.client, self.new.starts)
+            ≡ started_once (rows_kind self.old.client, self.old.starts) }
         ensures draft { draft.new.kind ≡ draft.old.kind }
         ensures sound { OnOk result (IsSound view.now draft.new) }
         ensures failed { IfErr result (FailsRightly view.now) }
@@ -160,8 +162,10 @@ fn lineality_from_facets(alloc: Global, view: &View, draft: &mut Draft) -> Resul
     requires empty { draft.old ≡ record { kind = view.now.kind; values = [] } }
     ensures draft { draft.new.kind ≡ draft.old.kind }
     ensures sound { OnOk result (IsSound view.now draft.new) }
-    ensures stays { OnOk result (StaysInRange view.now property.AffineHull property.Facets list.Rows) }
-    ensures stays_extended { OnOk result (StaysInRange view.now property.AffineHull property.Facets list.Extended) }
+    ensures stays { OnOk result (StaysInRange view.now property.AffineHull
+        property.Facets list.Rows) }
+    ensures stays_extended { OnOk result (StaysInRange view.now property.AffineHull
+        property.Facets list.Extended) }
     ensures failed { IfErr result (FailsRightly view.now) }
 {
     let rows = row_list(alloc, view, PropId::AffineHull, PropId::Facets)?;
@@ -182,8 +186,10 @@ fn hull_from_vertices(alloc: Global, view: &View, draft: &mut Draft) -> Result<(
     requires empty { draft.old ≡ record { kind = view.now.kind; values = [] } }
     ensures draft { draft.new.kind ≡ draft.old.kind }
     ensures sound { OnOk result (IsSound view.now draft.new) }
-    ensures stays { OnOk result (StaysInRange view.now property.LinealitySpace property.Vertices list.Rows) }
-    ensures stays_extended { OnOk result (StaysInRange view.now property.LinealitySpace property.Vertices list.Extended) }
+    ensures stays { OnOk result (StaysInRange view.now property.LinealitySpace
+        property.Vertices list.Rows) }
+    ensures stays_extended { OnOk result (StaysInRange view.now property.LinealitySpace
+        property.Vertices list.Extended) }
     ensures failed { IfErr result (FailsRightly view.now) }
 {
     let rows = row_list(alloc, view, PropId::LinealitySpace, PropId::Vertices)?;

@@ -54,7 +54,8 @@ impl TestClient {
     /// The client of that number, below `COUNT`, which was never started.
     pub fn new(number: u8) -> TestClient
         requires { number < 3 }
-        ensures kind { slice_get test_kinds number ≡ Some (⟦<TestClient as Client>⟧.tally result).0 }
+        ensures kind { slice_get test_kinds number
+            ≡ Some (⟦<TestClient as Client>⟧.tally result).0 }
         ensures starts { (⟦<TestClient as Client>⟧.tally result).1 ≡ 0 }
     {
         TestClient {
@@ -80,7 +81,8 @@ impl Client for TestClient {
     fn run(&mut self, _alloc: Global, view: &View, draft: &mut Draft) -> Result<(), ClientFail>
         requires kind { view.now.kind ≡ test_kind self.old.client }
         requires empty { draft.old ≡ record { kind = view.now.kind; values = [] } }
-        ensures started { (test_kind self.new.client, self.new.starts) ≡ started_once (test_kind self.old.client, self.old.starts) }
+        ensures started { (test_kind self.new.client, self.new.starts)
+            ≡ started_once (test_kind self.old.client, self.old.starts) }
         ensures draft { draft.new.kind ≡ draft.old.kind }
         ensures sound { OnOk result (IsSound view.now draft.new) }
         ensures failed { IfErr result (FailsRightly view.now) }

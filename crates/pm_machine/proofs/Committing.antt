@@ -1,18 +1,19 @@
 -- Adding what a client answered, one target after another.
 use Rattle.pm_algebra.proofs.Lists.{Among, Contains_among, among_append_right, here, there}
-use Rattle.pm_machine.specs.Commits.{FitsObject, added, computed_one}
+use Rattle.pm_machine.specs.Commits.{FitsObject, added}
 use Rattle.pm_object.proofs.Formed.{cols_stay, value_later, value_stays}
 use Rattle.pm_object.specs.Formed.{IsFormed, IsFormedIn}
 use Rattle.pm_object.specs.Honest.{facts}
-use Rattle.pm_object.specs.Laws.{computed}
+use Rattle.pm_object.specs.Laws.{computed, computed_at}
 use Rattle.pm_object.specs.Reading.{Put, answer_at, drafted, fact_at, without}
-use Rattle.pm_object.specs.State.{HeldValue, State, cols_of, is_held, value_of, with_held}
-use Rattle.pm_types.proofs.Kept.{same_property_is}
-use Rattle.pm_types.specs.Properties.{every_property, has_program, number}
+use Rattle.pm_object.specs.State.{HeldValue, State, cols_of, is_held, read_at, value_of, with_held}
+use Rattle.pm_types.proofs.Kept.{same_place_refl, same_property_is}
+use Rattle.pm_types.specs.Properties.{every_property, number}
 use Rattle.pm_types.specs.Runs.{is_named, missing, place_of, same_place, same_property}
 use Rattle.pm_types.specs.Sets.{has, members}
 use Rattle.pm_types.specs.Values.{Fact, PropertyValue}
 use Rattle.pm_types.specs.declared.property.PropId.{PropId}
+use Rattle.pm_object.specs.declared.held.Origin.TheVariants.{Computed}
 use Rattle.std.proofs.Common.{ap, append-nil, arith, drop, false, get_or, inl, inr, refl, subst, sym, true, true≢false, ◌∙◌}
 use Rattle.std.specs.Option.{is_some}
 use Rattle.std.specs.Prelude.{Bool, Err, IfSome, List, None, Ok, OnOk, Option, Result, Some, [], if◌then◌else◌, filter, length, nat_eq, nat_le, not, suc, zero, ℕ, ◌&&◌, ◌+◌, ◌++◌, ◌<◌, ◌≤◌, ◌∷◌, ◌||◌, ◌≡◌, ◌⊎◌}
@@ -72,18 +73,34 @@ above n (p ∷ ps) {q} e (there i) =
     let (a, b) = both (nat_le n (number p)) (ascends (suc (number p)) ps) e in
     above n ps (weaker (suc (number p)) n ps (le_suc n (number p) a) b) i
 
--- ---- what is held and drafted of other properties
-one_more : (q p : PropId) (held : List HeldValue) (v : PropertyValue) → same_property q p ≡ false → value_of q (held ++ computed_one p v ∷ []) ≡ value_of q held
-one_more q p held v e = by (value_of q held) refl
+-- ---- what is read and drafted of other properties
+filter_append : {X : Type 0} (f : X → Bool) (xs ys : List X) → filter f (xs ++ ys) ≡ filter f xs ++ filter f ys
+filter_append f [] ys = refl
+filter_append f (x ∷ xs) ys = by (f x) (filter_append f xs ys)
   where
-    by : (w : Option PropertyValue) → value_of q held ≡ w → value_of q (held ++ computed_one p v ∷ []) ≡ value_of q held
-    by (Some w) is = value_stays q held (computed_one p v ∷ []) w is ∙ sym is
-    by None is = value_later q held (computed_one p v ∷ []) is ∙ ap (λ t. if t then Some v else None) e ∙ sym is
+    by : (t : Bool) → filter f (xs ++ ys) ≡ filter f xs ++ filter f ys → (if t then x ∷ filter f (xs ++ ys) else filter f (xs ++ ys)) ≡ (if t then x ∷ filter f xs else filter f xs) ++ filter f ys
+    by true e = ap (λ t. x ∷ t) e
+    by false e = e
 
-pub held_still : (q p : PropId) (held : List HeldValue) (b : Bool) (d : Option PropertyValue) → same_property q p ≡ false → is_held q (held ++ added p b d) ≡ is_held q held
-held_still q p held true d e = ap (λ t. is_held q t) (append-nil held)
-held_still q p held false None e = ap (λ t. is_held q t) (append-nil held)
-held_still q p held false (Some v) e = ap is_some (one_more q p held v e)
+pub read_append : (sub : Option ℕ) (xs ys : List HeldValue) → read_at sub (xs ++ ys) ≡ read_at sub xs ++ read_at sub ys
+read_append sub xs ys = filter_append (λ h. same_place h.place (place_of sub h.property)) xs ys
+
+read_more : (sub : Option ℕ) (held : List HeldValue) (p : PropId) (v : PropertyValue) → read_at sub (held ++ computed_at sub p v ∷ []) ≡ read_at sub held ++ computed_at sub p v ∷ []
+read_more sub held p v =
+    read_append sub held (computed_at sub p v ∷ [])
+    ∙ ap (λ t. read_at sub held ++ (if t then computed_at sub p v ∷ [] else [])) (same_place_refl (place_of sub p))
+
+one_more : (sub : Option ℕ) (q p : PropId) (held : List HeldValue) (v : PropertyValue) → same_property q p ≡ false → value_of q (read_at sub (held ++ computed_at sub p v ∷ [])) ≡ value_of q (read_at sub held)
+one_more sub q p held v e = ap (λ t. value_of q t) (read_more sub held p v) ∙ by (value_of q (read_at sub held)) refl
+  where
+    by : (w : Option PropertyValue) → value_of q (read_at sub held) ≡ w → value_of q (read_at sub held ++ computed_at sub p v ∷ []) ≡ value_of q (read_at sub held)
+    by (Some w) is = value_stays q (read_at sub held) (computed_at sub p v ∷ []) w is ∙ sym is
+    by None is = value_later q (read_at sub held) (computed_at sub p v ∷ []) is ∙ ap (λ t. if t then Some v else None) e ∙ sym is
+
+pub held_still : (sub : Option ℕ) (q p : PropId) (held : List HeldValue) (b : Bool) (d : Option PropertyValue) → same_property q p ≡ false → is_held q (read_at sub (held ++ added sub p b d)) ≡ is_held q (read_at sub held)
+held_still sub q p held true d e = ap (λ t. is_held q (read_at sub t)) (append-nil held)
+held_still sub q p held false None e = ap (λ t. is_held q (read_at sub t)) (append-nil held)
+held_still sub q p held false (Some v) e = ap is_some (one_more sub q p held v e)
 
 pub drafted_still : (q p : PropId) (values : List Put) → same_property q p ≡ false → drafted q (without p values) ≡ drafted q values
 drafted_still q p [] e = refl
@@ -96,141 +113,122 @@ drafted_still q p (x ∷ values) e = by (same_property p x.property) refl (draft
     by true s rest = sym (ap (λ t. if t then Some x.value else drafted q values) (is_same true s refl))
     by false s rest = ap (λ t. if same_property q x.property then Some x.value else t) rest
 
-pub answer_still : (p : PropId) (ps : List PropId) (values : List Put) → ((q : PropId) → Among q ps → same_property q p ≡ false) → answer_at None ps (without p values) ≡ answer_at None ps values
-answer_still p [] values h = refl
-answer_still p (q ∷ ps) values h =
-    ap (λ d. fact_at None q d ++ answer_at None ps (without p values)) (drafted_still q p values (h q here))
-    ∙ ap (λ t. fact_at None q (drafted q values) ++ t) (answer_still p ps values (λ r i. h r (there i)))
+pub answer_still : (sub : Option ℕ) (p : PropId) (ps : List PropId) (values : List Put) → ((q : PropId) → Among q ps → same_property q p ≡ false) → answer_at sub ps (without p values) ≡ answer_at sub ps values
+answer_still sub p [] values h = refl
+answer_still sub p (q ∷ ps) values h =
+    ap (λ d. fact_at sub q d ++ answer_at sub ps (without p values)) (drafted_still q p values (h q here))
+    ∙ ap (λ t. fact_at sub q (drafted q values) ++ t) (answer_still sub p ps values (λ r i. h r (there i)))
 
 -- ---- what is missing
-place_none : (p : PropId) → place_of None p ≡ None
-place_none p = by (has_program p)
+pub named_held : (sub : Option ℕ) (held : List HeldValue) (p : PropId) → is_named (facts held) sub p ≡ is_held p (read_at sub held)
+named_held sub [] p = refl
+named_held sub (h ∷ held) p = by (same_property p h.property) refl (same_place h.place (place_of sub h.property)) refl (named_held sub held p)
   where
-    none : Option ℕ
-    none = None
+    same : same_property p h.property ≡ true → (k : Bool) → same_place h.place (place_of sub h.property) ≡ k → same_place h.place (place_of sub p) ≡ k
+    same e k q = ap (λ z. same_place h.place (place_of sub z)) (same_property_is p h.property e) ∙ q
 
-    by : (t : Bool) → (if t then none else None) ≡ none
+    by : (s : Bool) → same_property p h.property ≡ s → (k : Bool) → same_place h.place (place_of sub h.property) ≡ k → is_named (facts held) sub p ≡ is_held p (read_at sub held)
+        → ((s && same_place h.place (place_of sub p)) || is_named (facts held) sub p) ≡ is_some (value_of p (if k then h ∷ read_at sub held else read_at sub held))
+    by true e true q r = ap (λ t. t || is_named (facts held) sub p) (same e true q) ∙ sym (ap (λ t. is_some (if t then Some h.value else value_of p (read_at sub held))) e)
+    by true e false q r = ap (λ t. t || is_named (facts held) sub p) (same e false q) ∙ r
+    by false e true q r = r ∙ sym (ap (λ t. is_some (if t then Some h.value else value_of p (read_at sub held))) e)
+    by false e false q r = r
+
+pub missing_one : (sub : Option ℕ) (held : List HeldValue) (p : PropId) (d : Option PropertyValue) → computed (missing sub (facts held) (fact_at sub p d)) ≡ added sub p (is_held p (read_at sub held)) d
+missing_one sub held p None = by (is_held p (read_at sub held))
+  where
+    by : (t : Bool) → [] ≡ added sub p t None
     by true = refl
     by false = refl
-
-and_right_true : (a b : Bool) → b ≡ true → (a && b) ≡ a
-and_right_true true b h = h
-and_right_true false b h = refl
-
-pub named_held : (held : List HeldValue) (p : PropId) → is_named (facts held) None p ≡ is_held p held
-named_held [] p = refl
-named_held (h ∷ held) p =
-    ap (λ t. t || is_named (facts held) None p) (and_right_true (same_property p h.property) (same_place None (place_of None p)) (ap (λ z. same_place None z) (place_none p)))
-    ∙ ap (λ t. same_property p h.property || t) (named_held held p)
-    ∙ by (same_property p h.property)
+missing_one sub held p (Some v) =
+    ap (λ t. computed (if not t then record { place = place_of sub p; property = p; value = v } ∷ [] else [])) (named_held sub held p) ∙ by (is_held p (read_at sub held))
   where
-    by : (t : Bool) → (t || is_held p held) ≡ is_some (if t then Some h.value else value_of p held)
+    by : (t : Bool) → computed (if not t then record { place = place_of sub p; property = p; value = v } ∷ [] else []) ≡ added sub p t (Some v)
     by true = refl
     by false = refl
-
-pub missing_one : (held : List HeldValue) (p : PropId) (d : Option PropertyValue) → computed (missing None (facts held) (fact_at None p d)) ≡ added p (is_held p held) d
-missing_one held p None = by (is_held p held)
-  where
-    by : (t : Bool) → [] ≡ added p t None
-    by true = refl
-    by false = refl
-missing_one held p (Some v) =
-    ap (λ t. computed (if not t then record { place = place_of None p; property = p; value = v } ∷ [] else [])) (named_held held p) ∙ by (is_held p held)
-  where
-    by : (t : Bool) → computed (if not t then record { place = place_of None p; property = p; value = v } ∷ [] else []) ≡ added p t (Some v)
-    by true = refl
-    by false = refl
-
-filter_append : {X : Type 0} (f : X → Bool) (xs ys : List X) → filter f (xs ++ ys) ≡ filter f xs ++ filter f ys
-filter_append f [] ys = refl
-filter_append f (x ∷ xs) ys = by (f x) (filter_append f xs ys)
-  where
-    by : (t : Bool) → filter f (xs ++ ys) ≡ filter f xs ++ filter f ys → (if t then x ∷ filter f (xs ++ ys) else filter f (xs ++ ys)) ≡ (if t then x ∷ filter f xs else filter f xs) ++ filter f ys
-    by true e = ap (λ t. x ∷ t) e
-    by false e = e
 
 computed_append : (xs ys : List Fact) → computed (xs ++ ys) ≡ computed xs ++ computed ys
 computed_append [] ys = refl
-computed_append (x ∷ xs) ys = ap (λ t. computed_one x.property x.value ∷ t) (computed_append xs ys)
+computed_append (x ∷ xs) ys = ap (λ t. record { place = x.place; property = x.property; value = x.value; origin = Computed } ∷ t) (computed_append xs ys)
 
 append_assoc : {X : Type 0} (xs ys zs : List X) → (xs ++ ys) ++ zs ≡ xs ++ (ys ++ zs)
 append_assoc [] ys zs = refl
 append_assoc (x ∷ xs) ys zs = ap (λ t. x ∷ t) (append_assoc xs ys zs)
 
 -- the first target, and then the others
-pub split_first : (now : State) (held : List HeldValue) (p : PropId) (ps : List PropId) (values : List Put) →
-    with_held now (computed (missing None (facts held) (answer_at None (p ∷ ps) values)))
-    ≡ with_held (with_held now (added p (is_held p held) (drafted p values))) (computed (missing None (facts held) (answer_at None ps values)))
-split_first now held p ps values =
-    let first = fact_at None p (drafted p values) in
-    let others = answer_at None ps values in
+pub split_first : (sub : Option ℕ) (now : State) (held : List HeldValue) (p : PropId) (ps : List PropId) (values : List Put) →
+    with_held now (computed (missing sub (facts held) (answer_at sub (p ∷ ps) values)))
+    ≡ with_held (with_held now (added sub p (is_held p (read_at sub held)) (drafted p values))) (computed (missing sub (facts held) (answer_at sub ps values)))
+split_first sub now held p ps values =
+    let first = fact_at sub p (drafted p values) in
+    let others = answer_at sub ps values in
     ap (λ t. record now { held = now.held ++ t })
-    (ap computed (filter_append (λ f. not (is_named (facts held) None f.property)) first others)
-    ∙ computed_append (missing None (facts held) first) (missing None (facts held) others)
-    ∙ ap (λ t. t ++ computed (missing None (facts held) others)) (missing_one held p (drafted p values)))
-    ∙ ap (λ t. record now { held = t }) (sym (append_assoc now.held (added p (is_held p held) (drafted p values)) (computed (missing None (facts held) others))))
+    (ap computed (filter_append (λ f. not (is_named (facts held) sub f.property)) first others)
+    ∙ computed_append (missing sub (facts held) first) (missing sub (facts held) others)
+    ∙ ap (λ t. t ++ computed (missing sub (facts held) others)) (missing_one sub held p (drafted p values)))
+    ∙ ap (λ t. record now { held = t }) (sym (append_assoc now.held (added sub p (is_held p (read_at sub held)) (drafted p values)) (computed (missing sub (facts held) others))))
 
 -- ---- the loop
-pub record StillToCommit (o : State) (values0 : List Put) (targets : List PropId) (now : State) (values : List Put) (i : ℕ) : Type 0 where
+pub record StillToCommit (sub : Option ℕ) (o : State) (values0 : List Put) (targets : List PropId) (now : State) (values : List Put) (i : ℕ) : Type 0 where
   pub ascending : ascends 0 (drop i targets) ≡ true
-  pub rest : with_held now (computed (missing None (facts o.held) (answer_at None (drop i targets) values))) ≡ with_held o (computed (missing None (facts o.held) (answer_at None targets values0)))
-  pub held : (p : PropId) → Among p (drop i targets) → is_held p now.held ≡ is_held p o.held
+  pub rest : with_held now (computed (missing sub (facts o.held) (answer_at sub (drop i targets) values))) ≡ with_held o (computed (missing sub (facts o.held) (answer_at sub targets values0)))
+  pub held : (p : PropId) → Among p (drop i targets) → is_held p (read_at sub now.held) ≡ is_held p (read_at sub o.held)
   pub cols : cols_of now.held ≡ cols_of o.held
   pub of : now.of ≡ o.of
   pub drafts : (p : PropId) → Among p (drop i targets) → drafted p values ≡ drafted p values0
 
-pub start_to_commit : (o : State) (values : List Put) (s : ℕ) → StillToCommit o values (members s) o values 0
-start_to_commit o values s = record { ascending = members_ascend s; rest = refl; held = λ p i. refl; cols = refl; of = refl; drafts = λ p i. refl }
+pub start_to_commit : (sub : Option ℕ) (o : State) (values : List Put) (s : ℕ) → StillToCommit sub o values (members s) o values 0
+start_to_commit sub o values s = record { ascending = members_ascend s; rest = refl; held = λ p i. refl; cols = refl; of = refl; drafts = λ p i. refl }
 
 pub drop_at : {X : Type 0} (xs : List X) (i : ℕ) (x : X) → i < length xs → x ≡ get_or xs i x → drop i xs ≡ x ∷ drop (i + 1) xs
 drop_at [] i x h e = absurd (omega arith)
 drop_at (y ∷ ys) zero x h e = ap (λ z. z ∷ ys) (sym e)
 drop_at (y ∷ ys) (suc i) x h e = let k : suc i + 1 ≡ suc (i + 1) = omega arith in rw k (drop_at ys i x (omega arith) e)
 
-pub next_to_commit : (o : State) (values0 : List Put) (targets : List PropId) (now : State) (values : List Put) (i : ℕ) (p : PropId) (new : State) (left : List Put)
+pub next_to_commit : (sub : Option ℕ) (o : State) (values0 : List Put) (targets : List PropId) (now : State) (values : List Put) (i : ℕ) (p : PropId) (new : State) (left : List Put)
     → drop i targets ≡ p ∷ drop (i + 1) targets
-    → new ≡ with_held now (added p (is_held p now.held) (drafted p values)) → cols_of new.held ≡ cols_of now.held → left ≡ without p values
-    → StillToCommit o values0 targets now values i → StillToCommit o values0 targets new left (i + 1)
-next_to_commit o values0 targets now values i p new left first is cols out s =
+    → new ≡ with_held now (added sub p (is_held p (read_at sub now.held)) (drafted p values)) → cols_of new.held ≡ cols_of now.held → left ≡ without p values
+    → StillToCommit sub o values0 targets now values i → StillToCommit sub o values0 targets new left (i + 1)
+next_to_commit sub o values0 targets now values i p new left first is cols out s =
     let all : ascends 0 (p ∷ drop (i + 1) targets) ≡ true = subst (λ t. ascends 0 t ≡ true) first s.ascending in
     let (low, high) = both (nat_le 0 (number p)) (ascends (suc (number p)) (drop (i + 1) targets)) all in
-    let same_held : is_held p now.held ≡ is_held p o.held = s.held p (subst (λ t. Among p t) (sym first) here) in
+    let same_held : is_held p (read_at sub now.held) ≡ is_held p (read_at sub o.held) = s.held p (subst (λ t. Among p t) (sym first) here) in
     let differs : (q : PropId) → Among q (drop (i + 1) targets) → same_property q p ≡ false = λ q j. lt_apart_back (number p) (number q) (above (suc (number p)) (drop (i + 1) targets) high j) in
     let later : (q : PropId) → Among q (drop (i + 1) targets) → Among q (drop i targets) = λ q j. subst (λ t. Among q t) (sym first) (there j) in
-    let others = answer_at None (drop (i + 1) targets) values in
+    let others = answer_at sub (drop (i + 1) targets) values in
     record {
       ascending = weaker (suc (number p)) 0 (drop (i + 1) targets) (omega arith) high;
       rest =
-          ap (λ t. with_held t (computed (missing None (facts o.held) (answer_at None (drop (i + 1) targets) left)))) is
-          ∙ ap (λ t. with_held (with_held now (added p (is_held p now.held) (drafted p values))) (computed (missing None (facts o.held) t)))
-          (ap (λ t. answer_at None (drop (i + 1) targets) t) out ∙ answer_still p (drop (i + 1) targets) values differs)
-          ∙ ap (λ t. with_held (with_held now (added p t (drafted p values))) (computed (missing None (facts o.held) others))) same_held
-          ∙ sym (split_first now o.held p (drop (i + 1) targets) values)
-          ∙ ap (λ t. with_held now (computed (missing None (facts o.held) (answer_at None t values)))) (sym first)
+          ap (λ t. with_held t (computed (missing sub (facts o.held) (answer_at sub (drop (i + 1) targets) left)))) is
+          ∙ ap (λ t. with_held (with_held now (added sub p (is_held p (read_at sub now.held)) (drafted p values))) (computed (missing sub (facts o.held) t)))
+          (ap (λ t. answer_at sub (drop (i + 1) targets) t) out ∙ answer_still sub p (drop (i + 1) targets) values differs)
+          ∙ ap (λ t. with_held (with_held now (added sub p t (drafted p values))) (computed (missing sub (facts o.held) others))) same_held
+          ∙ sym (split_first sub now o.held p (drop (i + 1) targets) values)
+          ∙ ap (λ t. with_held now (computed (missing sub (facts o.held) (answer_at sub t values)))) (sym first)
           ∙ s.rest;
-      held = λ q j. ap (λ t. is_held q t.held) is ∙ held_still q p now.held (is_held p now.held) (drafted p values) (differs q j) ∙ s.held q (later q j);
+      held = λ q j. ap (λ t. is_held q (read_at sub t.held)) is ∙ held_still sub q p now.held (is_held p (read_at sub now.held)) (drafted p values) (differs q j) ∙ s.held q (later q j);
       cols = cols ∙ s.cols;
       of = ap (λ t. t.of) is ∙ s.of;
       drafts = λ q j. ap (λ t. drafted q t) out ∙ drafted_still q p values (differs q j) ∙ s.drafts q (later q j);
     }
 
 -- ---- forms
-answer_among : (ps : List PropId) (values : List Put) {p : PropId} (v : PropertyValue) → Among p ps → drafted p values ≡ Some v → Among (record { place = place_of None p; property = p; value = v }) (answer_at None ps values)
-answer_among [] values v i e = elim i [ ]
-answer_among (p ∷ ps) values v here e = subst (λ d. Among (record { place = place_of None p; property = p; value = v }) (fact_at None p d ++ answer_at None ps values)) (sym e) here
-answer_among (q ∷ ps) values {p} v (there i) e = among_append_right (fact_at None q (drafted q values)) (answer_among ps values v i e)
+answer_among : (sub : Option ℕ) (ps : List PropId) (values : List Put) {p : PropId} (v : PropertyValue) → Among p ps → drafted p values ≡ Some v → Among (record { place = place_of sub p; property = p; value = v }) (answer_at sub ps values)
+answer_among sub [] values v i e = elim i [ ]
+answer_among sub (p ∷ ps) values v here e = subst (λ d. Among (record { place = place_of sub p; property = p; value = v }) (fact_at sub p d ++ answer_at sub ps values)) (sym e) here
+answer_among sub (q ∷ ps) values {p} v (there i) e = among_append_right (fact_at sub q (drafted q values)) (answer_among sub ps values v i e)
 
-pub fits_at : (o : State) (values0 : List Put) (targets : List PropId) (now : State) (values : List Put) (i : ℕ) (p : PropId) → drop i targets ≡ p ∷ drop (i + 1) targets
-    → Among p targets → FitsObject o (answer_at None targets values0) → StillToCommit o values0 targets now values i
-    → IfSome (drafted p values) (λ v. IsFormedIn now.of (cols_of now.held) (computed_one p v))
-fits_at o values0 targets now values i p first in_targets fits s = by (drafted p values) refl
+pub fits_at : (sub : Option ℕ) (o : State) (values0 : List Put) (targets : List PropId) (now : State) (values : List Put) (i : ℕ) (p : PropId) → drop i targets ≡ p ∷ drop (i + 1) targets
+    → Among p targets → FitsObject o (answer_at sub targets values0) → StillToCommit sub o values0 targets now values i
+    → IfSome (drafted p values) (λ v. IsFormedIn now.of (cols_of now.held) (computed_at sub p v))
+fits_at sub o values0 targets now values i p first in_targets fits s = by (drafted p values) refl
   where
-    by : (d : Option PropertyValue) → drafted p values ≡ d → IfSome d (λ v. IsFormedIn now.of (cols_of now.held) (computed_one p v))
+    by : (d : Option PropertyValue) → drafted p values ≡ d → IfSome d (λ v. IsFormedIn now.of (cols_of now.held) (computed_at sub p v))
     by None e = tt
     by (Some v) e =
         let old : drafted p values0 ≡ Some v = sym (s.drafts p (subst (λ t. Among p t) (sym first) here)) ∙ e in
-        subst (λ c. IsFormedIn now.of c (computed_one p v)) (sym s.cols) (subst (λ t. IsFormedIn t (cols_of o.held) (computed_one p v)) (sym s.of)
-        (fits.each (record { place = place_of None p; property = p; value = v }) (Contains_among (answer_among targets values0 v in_targets old))))
+        subst (λ c. IsFormedIn now.of c (computed_at sub p v)) (sym s.cols) (subst (λ t. IsFormedIn t (cols_of o.held) (computed_at sub p v)) (sym s.of)
+        (fits.each (record { place = place_of sub p; property = p; value = v }) (Contains_among (answer_among sub targets values0 v in_targets old))))
 
 -- the column count stays
 pub cols_same : (o : State) (h : HeldValue) → IsFormed o → IsFormedIn o.of (cols_of o.held) h → is_some (cols_of o.held) ≡ true → cols_of (o.held ++ h ∷ []) ≡ cols_of o.held
@@ -258,8 +256,8 @@ drop_all : {X : Type 0} (xs : List X) → drop (length xs) xs ≡ []
 drop_all [] = refl
 drop_all (x ∷ xs) = drop_all xs
 
-pub all_committed : (o : State) (values0 : List Put) (targets : List PropId) (now : State) (values : List Put) (i : ℕ) → i ≡ length targets → StillToCommit o values0 targets now values i
-    → now ≡ with_held o (computed (missing None (facts o.held) (answer_at None targets values0)))
-all_committed o values0 targets now values i e s =
+pub all_committed : (sub : Option ℕ) (o : State) (values0 : List Put) (targets : List PropId) (now : State) (values : List Put) (i : ℕ) → i ≡ length targets → StillToCommit sub o values0 targets now values i
+    → now ≡ with_held o (computed (missing sub (facts o.held) (answer_at sub targets values0)))
+all_committed sub o values0 targets now values i e s =
     let none : drop i targets ≡ [] = ap (λ k. drop k targets) e ∙ drop_all targets in
-    sym (no_more now) ∙ sym (ap (λ t. with_held now (computed (missing None (facts o.held) (answer_at None t values)))) none) ∙ s.rest
+    sym (no_more now) ∙ sym (ap (λ t. with_held now (computed (missing sub (facts o.held) (answer_at sub t values)))) none) ∙ s.rest

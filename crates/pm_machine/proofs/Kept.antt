@@ -1,12 +1,13 @@
 -- A step leaves each object honest: by the definitions alone.
 use Rattle.pm_algebra.proofs.Lists.{among_Contains}
-use Rattle.pm_client.specs.Starts.{Clients}
-use Rattle.pm_machine.specs.Rounds.{Commits, CommitsAll, Ending, Ensures, IsRound, Rounds, found, no_chain}
+use Rattle.pm_machine.proofs.Traces.{ensuring_in_part_keeps, reaching_keeps}
+use Rattle.pm_machine.specs.Events.{Configuration, Ending, Ensured, at_rest, configuration, found, no_chain, unsettled}
+use Rattle.pm_machine.specs.Parts.{AllHonest, GaveInPart, StepInPart}
 use Rattle.pm_machine.specs.Steps.{AllKept, Becomes, Given, GiveStep, LookupStep, Machine, NewStep, Stays, Step, TakeStep, TakeValue, given_value, object_at, whole_of, no_json, faulty, value}
 use Rattle.pm_object.proofs.Formed.{only}
-use Rattle.pm_object.proofs.Honesty.{commit_is_honest, empty_is_kept, given_is_kept, honesty_is_of_values, settled_is_kept}
+use Rattle.pm_object.proofs.Honesty.{empty_is_kept, given_is_kept}
 use Rattle.pm_object.specs.Honest.{IsHonest, IsKept}
-use Rattle.pm_object.specs.State.{HeldValue, RoundSeen, State, is_held, is_sealed, settling, take_refusal, with_held}
+use Rattle.pm_object.specs.State.{HeldValue, State, is_held, is_sealed, read_at, take_refusal}
 use Rattle.pm_object.specs.declared.held.Origin.TheVariants.{Given as Given'}
 use Rattle.pm_object.specs.declared.held.TakeFail.{TakeFail}
 use Rattle.pm_object.specs.declared.held.TakeFail.TheVariants as fail
@@ -16,8 +17,6 @@ use Rattle.pm_script.specs.Replies.{ReplySeen, done, shows, undef, refused}
 use Rattle.pm_script.specs.declared.refusal.Refusal.TheVariants.{UnknownName, NameTaken, UnknownType, UnknownProperty, BadValue, AlreadyHeld, Sealed, ObjectsFull, NoChain}
 use Rattle.pm_types.specs.Sets.{only as only_property}
 use Rattle.pm_types.specs.Values.{PropertyValue}
-use Rattle.pm_types.specs.declared.kind.Kind.{Kind}
-use Rattle.pm_types.specs.declared.kind.RuleId.{RuleId}
 use Rattle.pm_types.specs.declared.property.PropId.{PropId}
 use Rattle.pm_types.specs.declared.set.PropSet.{PropSet}
 use Rattle.std.proofs.Common.{ap, arith, bytes_eq, false, inl, inr, refl, subst, sym, true, true≢false, ◌∙◌, ◌≢◌}
@@ -29,60 +28,6 @@ use Rattle.std.specs.Prelude.{Bool, IfSome, List, None, Option, Some, [], if◌t
 decide : (b : Bool) → (b ≡ true) ⊎ (b ≡ false)
 decide true = inl refl
 decide false = inr refl
-
--- ---- commits
-pub honest_commit : (kind : Kind) (old new : State) → Commits kind old new → IsHonest old → IsHonest new
-honest_commit kind old new c honest = subst IsHonest (sym c.added) (commit_is_honest old kind c.n c.answer c.may_run c.may_answer honest)
-
-pub honest_commits : (book : List Rule) (chain : List RuleId) (old new : State) → CommitsAll book chain old new → IsHonest old → IsHonest new
-honest_commits book [] old new is honest = subst IsHonest (sym is) honest
-honest_commits book (id ∷ chain) old new (rule, mid, at, first, rest) honest = honest_commits book chain mid new rest (honest_commit rule.kind old mid first honest)
-
--- ---- rounds
-pub honest_round : (book : List Rule) (clients : Clients) (asked : PropSet) (r : RoundSeen) (old new : State) (started : List Kind)
-    → IsRound book clients asked r old new started → IsHonest old → IsHonest new
-honest_round book clients asked r old new started round honest =
-    subst IsHonest (sym round.becomes)
-    (honesty_is_of_values round.committed (record round.committed { excluded = old.excluded ++ round.more; rounds = old.rounds ++ r ∷ [] }) refl refl
-    (honest_commits book round.done old round.committed round.commits honest))
-
-pub honest_rounds : (book : List Rule) (clients : Clients) (asked : PropSet) (rounds : List RoundSeen) (old new : State) (started : List Kind)
-    → Rounds book clients asked rounds old new started → IsHonest old → IsHonest new
-honest_rounds book clients asked [] old new started (is, none) honest = subst IsHonest (sym is) honest
-honest_rounds book clients asked (r ∷ rest) old new started (mid, first, more, some, round, after, ran) honest =
-    honest_rounds book clients asked rest mid new more after (honest_round book clients _ r old mid first round honest)
-
-not_empty : {X : Type 0} (xs : List X) (x : X) → xs ++ x ∷ [] ≡ [] → ⊥
-not_empty {X} xs x e = by (length (xs ++ x ∷ [])) (more xs x) (ap (λ (t : List X). length t) e)
-  where
-    by : (n : ℕ) → (n ≡ 0 → ⊥) → n ≡ length {A = X} [] → ⊥
-    by n h k = h k
-
-    more : {X : Type 0} (xs : List X) (x : X) → length (xs ++ x ∷ []) ≡ 0 → ⊥
-    more [] x e = absurd (omega arith)
-    more (y ∷ ys) x e = absurd (omega arith)
-
-seals : (book : List Rule) (clients : Clients) (asked : PropSet) (r : RoundSeen) (old new : State) (started : List Kind)
-    → IsRound book clients asked r old new started → new.rounds ≡ [] → ⊥
-seals book clients asked r old new started round e = not_empty old.rounds r (sym (ap (λ (s : State). s.rounds) round.becomes) ∙ e)
-
-seals_all : (book : List Rule) (clients : Clients) (asked : PropSet) (r : RoundSeen) (rest : List RoundSeen) (old new : State) (started : List Kind)
-    → Rounds book clients asked (r ∷ rest) old new started → new.rounds ≡ [] → ⊥
-seals_all book clients asked r [] old new started (mid, first, more, some, round, (is, none), ran) e =
-    seals book clients _ r old mid first round (sym (ap (λ (s : State). s.rounds) is) ∙ e)
-seals_all book clients asked r (q ∷ rest) old new started (mid, first, more, some, round, after, ran) e =
-    seals_all book clients asked q rest mid new more after e
-
-pub kept_rounds : (book : List Rule) (clients : Clients) (asked : PropSet) (rounds : List RoundSeen) (old new : State) (started : List Kind)
-    → Rounds book clients asked rounds old new started → IsKept old → IsKept new
-kept_rounds book clients asked [] old new started (is, none) kept = subst IsKept (sym is) kept
-kept_rounds book clients asked (r ∷ rest) old new started h kept =
-    record { honest = honest_rounds book clients asked (r ∷ rest) old new started h kept.honest; given = λ e. absurd (seals_all book clients asked r rest old new started h e) }
-
-pub kept_ensures : (book : List Rule) (clients : Clients) (asked : PropSet) (ending : Ending) (old new : State) (started : List Kind)
-    → Ensures book clients asked ending old new started → IsKept old → IsKept new
-kept_ensures book clients asked ending old new started e kept =
-    kept_rounds book clients asked e.rounds (with_held old (settling old)) new started e.all (settled_is_kept old kept)
 
 -- ---- steps
 same_bytes : (q name : List ℕ) → bytes_eq q name ≡ true → q ≡ name
@@ -99,8 +44,11 @@ with_one name o old new is others kept all = record {
   ];
 }
 
-becomes_kept : (name : List ℕ) (o : State) (started : List Kind) (old new : Machine) → Becomes name o started old new → IsKept o → AllKept old → AllKept new
-becomes_kept name o started old new b kept all = with_one name o old new b.object b.others kept all
+becomes_kept : (name : List ℕ) (c : Configuration) (old new : Machine) → Becomes name c old new → IsKept c.object → AllKept old → AllKept new
+becomes_kept name c old new b kept all = with_one name c.object old new b.object b.others kept all
+
+ensured_kept : (book : List Rule) (asked : PropSet) (ending : Ending) (old new : Configuration) → Ensured book None asked ending old new → IsKept old.object → IsKept new.object
+ensured_kept book asked ending old new e kept = reaching_keeps book None asked unsettled at_rest old new e.reaches kept
 
 stays_kept : (old new : Machine) → Stays old new → AllKept old → AllKept new
 stays_kept old new s all = record { each = λ q. subst (λ z. IfSome z IsKept) (sym (s.objects q)) (all.each q) }
@@ -115,7 +63,7 @@ object_is m ref o e = by ref.sub e
     by None h = h
     by (Some s) h = absurd (some_not_none (sym h))
 
-kept_at : (m : Machine) (ref : RefSeen) (o : State) → object_at m ref ≡ Some o → AllKept m → IsKept o
+pub kept_at : (m : Machine) (ref : RefSeen) (o : State) → object_at m ref ≡ Some o → AllKept m → IsKept o
 kept_at m ref o e all = subst (λ z. IfSome z IsKept) (object_is m ref o e) (all.each ref.name)
 
 more_than_0 : (n : ℕ) → nat_eq (suc n) 0 ≡ false
@@ -129,7 +77,7 @@ not_sealed o e = by o.rounds e
     by (r ∷ rounds) e = absurd (true≢false (sym (ap not (more_than_0 (length rounds))) ∙ e))
 
 refusal_unsealed : (o : State) (p : PropId) (v : PropertyValue) → take_refusal o p v ≡ None → is_sealed o ≡ false
-refusal_unsealed o p v e = by _ (is_held p o.held) (is_sealed o) e
+refusal_unsealed o p v e = by _ (is_held p (read_at None o.held)) (is_sealed o) e
   where
     by : (x : Option TakeFail) (a b : Bool) → (if a then Some fail.AlreadyHeld else (if b then Some fail.Sealed else x)) ≡ None → b ≡ false
     by x true b h = absurd (some_not_none h)
@@ -155,7 +103,7 @@ take_keeps : (old new : Machine) (ref : RefSeen) (text json : List ℕ) (reply :
 take_keeps old new ref text json (refused UnknownName) (h, s) all = stays_kept old new s all
 take_keeps old new ref text json (refused UnknownProperty) (o, h, k, s) all = stays_kept old new s all
 take_keeps old new ref text json done (o, at, p, named, v, taken, becomes) all =
-    becomes_kept ref.name _ [] old new becomes
+    becomes_kept ref.name _ old new becomes
     (given_is_kept o (given_value p v ∷ []) (not_sealed o (taken_unsealed o p _ v taken)) (one_given p v) (kept_at old ref o at all)) all
 take_keeps old new ref text json (refused AlreadyHeld) (o, at, p, named, taken, s) all = stays_kept old new s all
 take_keeps old new ref text json (refused Sealed) (o, at, p, named, taken, s) all = stays_kept old new s all
@@ -165,10 +113,10 @@ take_keeps old new ref text json reply h all = absurd h
 give_keeps : (book : List Rule) (old new : Machine) (ref : RefSeen) (text : List ℕ) (reply : ReplySeen) → GiveStep book old ref text reply new → AllKept old → AllKept new
 give_keeps book old new ref text (refused UnknownName) (h, s) all = stays_kept old new s all
 give_keeps book old new ref text (refused UnknownProperty) (o, h, k, s) all = stays_kept old new s all
-give_keeps book old new ref text (refused NoChain) (o, at, p, named, o', started, ensures, becomes) all =
-    becomes_kept ref.name o' started old new becomes (kept_ensures book old.clients (only_property p) no_chain o o' started ensures (kept_at old ref o at all)) all
-give_keeps book old new ref text (shows name of p v) (o, at, named, n, t, o', started, ensures, becomes, held) all =
-    becomes_kept ref.name o' started old new becomes (kept_ensures book old.clients (only_property p) found o o' started ensures (kept_at old ref o at all)) all
+give_keeps book old new ref text (refused NoChain) (o, at, p, named, c, ensured, becomes) all =
+    becomes_kept ref.name c old new becomes (ensured_kept book (only_property p) no_chain (configuration o old.clients) c ensured (kept_at old ref o at all)) all
+give_keeps book old new ref text (shows name of p v) (o, at, named, n, t, c, ensured, becomes, held) all =
+    becomes_kept ref.name c old new becomes (ensured_kept book (only_property p) found (configuration o old.clients) c ensured (kept_at old ref o at all)) all
 give_keeps book old new ref text reply h all = absurd h
 
 lookup_keeps : (old new : Machine) (ref : RefSeen) (text : List ℕ) (reply : ReplySeen) → LookupStep old ref text reply new → AllKept old → AllKept new
@@ -184,3 +132,31 @@ steps_keep book old new (new_object ref text) reply h all = new_keeps old new re
 steps_keep book old new (take_value ref text json) reply h all = take_keeps old new ref text json reply h all
 steps_keep book old new (give_value ref text) reply h all = give_keeps book old new ref text reply h all
 steps_keep book old new (look_up ref text) reply h all = lookup_keeps old new ref text reply h all
+
+-- ---- a step that was broken off
+honest_of : (x : Option State) → IfSome x IsKept → IfSome x IsHonest
+honest_of None h = tt
+honest_of (Some o) h = h.honest
+
+pub all_honest : (m : Machine) → AllKept m → AllHonest m
+all_honest m all = record { each = λ q. honest_of (m.object q) (all.each q) }
+
+pub stays_honest : (old new : Machine) → Stays old new → AllKept old → AllHonest new
+stays_honest old new s all = record { each = λ q. subst (λ z. IfSome z IsHonest) (sym (s.objects q)) (honest_of (old.object q) (all.each q)) }
+
+gave_honest : (book : List Rule) (old new : Machine) (ref : RefSeen) (text : List ℕ) → GaveInPart book old ref text new → AllKept old → AllHonest new
+gave_honest book old new ref text g all = record {
+  each = λ q. elim (decide (bytes_eq q ref.name)) [
+    | inl e ↦ subst (λ z. IfSome z IsHonest) (sym (ap new.object (same_bytes q ref.name e) ∙ g.becomes.object))
+        (ensuring_in_part_keeps book None (only_property g.property) _ g.now g.ensured (kept_at old ref g.object g.named all))
+    | inr e ↦ subst (λ z. IfSome z IsHonest) (sym (g.becomes.others q (other_bytes q ref.name e))) (honest_of (old.object q) (all.each q))
+  ];
+}
+
+pub steps_in_part_keep : (book : List Rule) (old new : Machine) (command : Spoken) → StepInPart book old command new → AllKept old → AllHonest new
+steps_in_part_keep book old new (give_value ref text) (inl s) all = stays_honest old new s all
+steps_in_part_keep book old new (give_value ref text) (inr g) all = gave_honest book old new ref text g all
+steps_in_part_keep book old new blank s all = stays_honest old new s all
+steps_in_part_keep book old new (new_object ref text) s all = stays_honest old new s all
+steps_in_part_keep book old new (take_value ref text json) s all = stays_honest old new s all
+steps_in_part_keep book old new (look_up ref text) s all = stays_honest old new s all

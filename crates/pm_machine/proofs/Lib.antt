@@ -1,9 +1,11 @@
+pub mod Traces
 pub mod Kept
 pub mod Barred
 pub mod BestRules
 pub mod Committing
 pub mod Running
 pub mod Ensuring
-pub mod Progress
+pub mod Measure
+pub mod RoundTraces
 pub mod Names
 pub mod Refused

@@ -1,34 +1,36 @@
--- Objects by name.
-use Rattle.pm_machine.specs.Steps.{AllKept, Becomes, Given, GiveStep, Machine, Stays, Step, TakeStep, TakeValue, Taken, faulty, given_by, no_json, property_named, value, whole_of}
-use Rattle.pm_machine.specs.Rounds.{Ensures, after_runs, found}
-use Rattle.pm_machine.specs.Running.{EnsuresWith}
-use Rattle.pm_machine.specs.Sessions.{Gives}
+-- Objects by name, and the steps that change one.
 use Rattle.pm_client.specs.Starts.{Clients}
-use Rattle.pm_machine.proofs.Kept.{kept_ensures, steps_keep}
-use Rattle.pm_object.specs.Honest.{IsKept}
-use Rattle.pm_object.specs.State.{State, is_held, value_of}
+use Rattle.pm_geom.specs.declared.ObjectType.{ObjectType}
+use Rattle.pm_machine.proofs.Kept.{all_honest, steps_in_part_keep, steps_keep}
+use Rattle.pm_machine.specs.Events.{Configuration, Ending, Ensured, EnsuredInPart, at_rest, configuration, found, no_chain}
+use Rattle.pm_machine.specs.Parts.{AllHonest, GaveInPart, StepInPart}
+use Rattle.pm_machine.specs.Sessions.{Gives, no_files}
+use Rattle.pm_machine.specs.Steps.{AllKept, Becomes, Gains, Given, GiveStep, Machine, Stays, Step, TakeStep, TakeValue, Taken, faulty, given_by, no_json, property_named, value, whole_of}
+use Rattle.pm_object.proofs.Names.{names_held}
+use Rattle.pm_object.specs.State.{ObjectSeen, State, is_held, read_at, value_of}
 use Rattle.pm_rules.specs.declared.rule.Rule.{Rule}
-use Rattle.pm_script.specs.Commands.{RefSeen, Spoken}
+use Rattle.pm_script.specs.Commands.{RefSeen, Spoken, blank, new_object, take_value, give_value, look_up}
 use Rattle.pm_script.specs.Replies.{ReplySeen, done, refused, shows, undef}
 use Rattle.pm_script.specs.declared.refusal.Refusal.{Refusal}
 use Rattle.pm_script.specs.declared.refusal.Refusal.TheVariants.{BadCommand, UnknownName, NameTaken, UnknownType, UnknownProperty, BadValue, AlreadyHeld, Sealed, ObjectsFull, NoChain}
-use Rattle.pm_geom.specs.declared.ObjectType.{ObjectType}
-use Rattle.pm_object.proofs.Names.{names_held}
 use Rattle.pm_types.proofs.Members.{has-only}
 use Rattle.pm_types.specs.Properties.{number}
 use Rattle.pm_types.specs.Sets.{has, only}
 use Rattle.pm_types.specs.Values.{PropertyValue}
-use Rattle.pm_types.specs.declared.kind.Kind.{Kind}
-use Rattle.pm_types.specs.declared.set.PropSet.{PropSet}
 use Rattle.pm_types.specs.declared.property.PropId.{PropId}
+use Rattle.pm_types.specs.declared.set.PropSet.{PropSet}
 use Rattle.serde_json.specs.Read.{read}
 use Rattle.std.proofs.Common.{ap, arith, bytes_eq, eqb, false, inl, inr, refl, subst, sym, true, true≢false, ◌∙◌, ◌≢◌}
 use Rattle.std.proofs.lemmas.Map.Text.{hash_map_updates_text}
 use Rattle.std.proofs.lemmas.Slice.Eq.{bytes_eq-Decides}
-use Rattle.std.specs.HashMap.{HashMap, UpdatesBy, get_by_text}
+use Rattle.indexmap.proofs.CallerLemmas.{insert_entry-new}
+use Rattle.indexmap.specs.IndexMap.{insert_entry}
+use Rattle.std.proofs.lemmas.List.{map-append}
+use Rattle.std.specs.HashMap.{HashMap, UpdatesBy, get, get_by_text, keys}
+use Rattle.std.specs.Map.{keys_of}
 use Rattle.std.specs.Option.{IsSome, is_some, option_map}
 use Rattle.std.specs.String.{string_eq}
-use Rattle.std.specs.Prelude.{Bool, String, Err, IfOk, IfSome, List, None, Ok, OnErr, Option, Result, Some, [], cond, string_bytes, ℕ, ◌≡◌, ◌⊎◌}
+use Rattle.std.specs.Prelude.{Bool, String, Err, IfOk, List, None, Ok, OnErr, OnOk, Option, Result, Some, [], cond, map, string_bytes, ℕ, ◌++◌, ◌∷◌, ◌≡◌, ◌⊎◌}
 
 decide : (b : Bool) → (b ≡ true) ⊎ (b ≡ false)
 decide true = inl refl
@@ -49,41 +51,62 @@ pub others_stay : {Y X S : Type 0} (m n : HashMap (String Y) X S) (text : List �
     → (q : List ℕ) → q ≢ text → get_by_text n q ≡ get_by_text m q
 others_stay m n text w h q other = hash_map_updates_text text m n w h q ∙ else_of _ _ _ (apart text q other)
 
--- a map in which the value at a text became another
-pub written : {Y X S : Type 0} (m n : HashMap (String Y) X S) (text name : List ℕ) (o o' : X) → text ≡ name → Some o ≡ get_by_text m text
-    → (IsSome (get_by_text m text) → UpdatesBy string_eq (λ k. bytes_eq text (string_bytes k)) m n (Some o'))
-    → (get_by_text m name ≡ Some o) × (get_by_text n name ≡ Some o') × ((q : List ℕ) → q ≢ name → get_by_text n q ≡ get_by_text m q)
-written m n text name o o' same was updates =
-    let h : UpdatesBy string_eq (λ k. bytes_eq text (string_bytes k)) m n (Some o') = updates (sym (ap is_some was)) in (
-      ap (get_by_text m) (sym same) ∙ sym was,
-      ap (get_by_text n) (sym same) ∙ h.1,
-      λ q other. others_stay m n text (Some o') h q (λ e. other (e ∙ same)),
-    )
+-- the state of the object of each name, and the names in their order
+abbrev pub objects_of : {Y S : Type 0} → HashMap (String Y) ObjectSeen S → List ℕ → Option State
+objects_of m q = option_map (λ o. o.state) (get_by_text m q)
+
+abbrev pub names_in : {Y S : Type 0} → HashMap (String Y) ObjectSeen S → List (List ℕ)
+names_in m = map string_bytes (keys m)
+
+-- the machine of such objects
+abbrev pub machine_with : List (List ℕ) → (List ℕ → Option State) → Clients → Machine
+machine_with names object clients = record { names = names; object = object; clients = clients; store = no_files }
+
+-- the object of a name became another
+pub record IsWritten (ns ms : List (List ℕ)) (old new : List ℕ → Option State) (name : List ℕ) (o o' : State) : Type 0 where
+  pub was : old name ≡ Some o
+  pub is : new name ≡ Some o'
+  pub others : (q : List ℕ) → q ≢ name → new q ≡ old q
+  pub names : ms ≡ ns
+
+pub written : {Y S : Type 0} (m n : HashMap (String Y) ObjectSeen S) (text name : List ℕ) (o o' : ObjectSeen) → text ≡ name → Some o ≡ get_by_text m text → keys n ≡ keys m
+    → (IsSome (get_by_text m text) → UpdatesBy string_eq (λ k. bytes_eq text (string_bytes k)) m n (Some o')) → IsWritten (names_in m) (names_in n) (objects_of m) (objects_of n) name o.state o'.state
+written m n text name o o' same was same_keys updates =
+    let h : UpdatesBy string_eq (λ k. bytes_eq text (string_bytes k)) m n (Some o') = updates (sym (ap is_some was)) in record {
+      was = ap (objects_of m) (sym same) ∙ ap (option_map (λ (z : ObjectSeen). z.state)) (sym was);
+      is = ap (objects_of n) (sym same) ∙ ap (option_map (λ (z : ObjectSeen). z.state)) h.1;
+      others = λ q other. ap (option_map (λ (z : ObjectSeen). z.state)) (others_stay m n text (Some o') h q (λ e. other (e ∙ same)));
+      names = ap (map string_bytes) same_keys;
+    }
+
+-- ---- one object more
+not_mapped : {A B : Type 0} (f : A → B) (x : Option A) → option_map f x ≡ None → x ≡ None
+not_mapped f None e = refl
+not_mapped f (Some a) e = absurd (true≢false (ap is_some e))
+
+named_last : {Y S : Type 0} (m n : HashMap (String Y) ObjectSeen S) (k : String Y) (o : ObjectSeen) → get string_eq m k ≡ None → n.entries ≡ insert_entry string_eq m.entries k o
+    → names_in n ≡ names_in m ++ string_bytes k ∷ []
+named_last m n k o none e =
+    ap (λ es. map string_bytes (keys_of es)) (e ∙ insert_entry-new string_eq m k o none) ∙ ap (map string_bytes) (map-append (λ p. p.0) m.entries ((k, o) ∷ [])) ∙ map-append string_bytes (keys m) (k ∷ [])
+
+pub gains_one : {Y S : Type 0} (m n : HashMap (String Y) ObjectSeen S) (k : String Y) (o : ObjectSeen) (made : State) (clients : Clients) → objects_of m (string_bytes k) ≡ None → n.entries ≡ insert_entry string_eq m.entries k o
+    → UpdatesBy string_eq (λ q. bytes_eq (string_bytes k) (string_bytes q)) m n (Some o) → o.state ≡ made
+    → Gains (string_bytes k) made (machine_with (names_in m) (objects_of m) clients) (machine_with (names_in n) (objects_of n) clients)
+gains_one m n k o made clients none e updates is = record {
+  names = named_last m n k o (not_mapped (λ (z : ObjectSeen). z.state) (get_by_text m (string_bytes k)) none) e;
+  object = ap (option_map (λ (z : ObjectSeen). z.state)) updates.1 ∙ ap Some is;
+  others = λ q other. ap (option_map (λ (z : ObjectSeen). z.state)) (others_stay m n (string_bytes k) (Some o) updates q other);
+  clients = refl;
+  store = refl;
+}
 
 -- what agrees at a name and at the others agrees
-pub same_all : (old new : List ℕ → Option State) (name : List ℕ) (o o' : State) → old name ≡ Some o → new name ≡ Some o' → o' ≡ o
+same_all : (old new : List ℕ → Option State) (name : List ℕ) (o o' : State) → old name ≡ Some o → new name ≡ Some o' → o' ≡ o
     → ((q : List ℕ) → q ≢ name → new q ≡ old q) → (q : List ℕ) → new q ≡ old q
 same_all old new name o o' was is same others q = elim (decide (bytes_eq q name)) [
   | inl e ↦ (let at : q ≡ name = (bytes_eq-Decides q name).0 e in ap new at ∙ is ∙ ap Some same ∙ sym was ∙ ap old (sym at))
   | inr e ↦ others q (λ f. true≢false (sym ((bytes_eq-Decides q name).1 f) ∙ e))
 ]
-
--- where one object became another that is kept as the first was, all are kept
-pub kept_all : (old new : List ℕ → Option State) (name : List ℕ) (o o' : State) → old name ≡ Some o → new name ≡ Some o' → (IsKept o → IsKept o')
-    → ((q : List ℕ) → q ≢ name → new q ≡ old q) → ((q : List ℕ) → IfSome (old q) IsKept) → (q : List ℕ) → IfSome (new q) IsKept
-kept_all old new name o o' was is keeps others all q = elim (decide (bytes_eq q name)) [
-  | inl e ↦ (let at : q ≡ name = (bytes_eq-Decides q name).0 e in
-      subst (λ z. IfSome z IsKept) (sym (ap new at ∙ is)) (keeps (subst (λ z. IfSome z IsKept) was (all name))))
-  | inr e ↦ subst (λ z. IfSome z IsKept) (sym (others q (λ f. true≢false (sym ((bytes_eq-Decides q name).1 f) ∙ e)))) (all q)
-]
-
-pub kept_same : (old new : List ℕ → Option State) → ((q : List ℕ) → new q ≡ old q) → ((q : List ℕ) → IfSome (old q) IsKept) → (q : List ℕ) → IfSome (new q) IsKept
-kept_same old new same all q = subst (λ z. IfSome z IsKept) (sym (same q)) (all q)
-
--- what changes no object on an error keeps all then
-pub kept_unless : {F E : Type 0} (r : Result F E) (old new : Machine) → OnErr r ((q : List ℕ) → new.object q ≡ old.object q) → OnErr r (AllKept old → AllKept new)
-kept_unless (Ok x) old new same = tt
-kept_unless (Err x) old new same = λ all. record { each = kept_same old.object new.object same all.each }
 
 pub map_some : {A B : Type 0} (f : A → B) (x : Option A) → is_some (option_map f x) ≡ is_some x
 map_some f None = refl
@@ -125,20 +148,11 @@ not_taken o p NoChain no_json e h = h
 not_taken o p NoChain (faulty f) e h = h
 not_taken o p NoChain (value v) e h = h
 
--- ---- steps of the machine whose objects and counts are given
-abbrev pub machine_with : (List ℕ → Option State) → ℕ → Clients → Machine
-machine_with object count clients = record { object = object; count = count; clients = clients }
-
+-- ---- steps of the machine whose objects are given
 abbrev pub ref_with : List ℕ → Option (List ℕ) → RefSeen
 ref_with name sub = record { name = name; sub = sub }
 
-pub kept_step : {E F : Type 0} (view : F → ReplySeen) (book : List Rule) (old new : List ℕ → Option State) (n m : ℕ) (clients after : Clients) (command : Spoken) (r : Result F E)
-    → IfOk r (λ x. Step book (machine_with old n clients) command (view x) (machine_with new m after))
-    → OnErr r (AllKept (machine_with old n []) → AllKept (machine_with new m [])) → AllKept (machine_with old n clients) → AllKept (machine_with new m after)
-kept_step view book old new n m clients after command (Ok x) s e all = steps_keep book _ _ command (view x) s all
-kept_step view book old new n m clients after command (Err x) s e all = record { each = (e (record { each = all.each })).each }
-
-pub at_whole : (sub : Option (List ℕ)) (x : Option State) (o : State) → is_some sub ≡ false → x ≡ Some o → whole_of sub x ≡ Some o
+at_whole : (sub : Option (List ℕ)) (x : Option State) (o : State) → is_some sub ≡ false → x ≡ Some o → whole_of sub x ≡ Some o
 at_whole None x o e is = is
 at_whole (Some s) x o e is = absurd (true≢false e)
 
@@ -146,110 +160,138 @@ pub at_part : (sub : Option (List ℕ)) (x : Option State) → is_some sub ≡ t
 at_part None x e = absurd (true≢false (sym e))
 at_part (Some s) x e = refl
 
-pub stays_with : (old new : List ℕ → Option State) (n m : ℕ) (clients : Clients) (name : List ℕ) (o o' : State) → old name ≡ Some o → new name ≡ Some o' → o' ≡ o → ((q : List ℕ) → q ≢ name → new q ≡ old q) → m ≡ n
-    → Stays (machine_with old n clients) (machine_with new m clients)
-stays_with old new n m clients name o o' was is same others count = record { objects = same_all old new name o o' was is same others; count = count; clients = refl }
+module _ {ns ms : List (List ℕ)} {old new : List ℕ → Option State} {name : List ℕ} {o o' : State} (w : IsWritten ns ms old new name o o') where
+  pub stays_with : (clients : Clients) → o' ≡ o → Stays (machine_with ns old clients) (machine_with ms new clients)
+  stays_with clients same = record { names = w.names; objects = same_all old new name o o' w.was w.is same w.others; clients = refl; store = refl }
 
-pub take_unknown : (old new : List ℕ → Option State) (n m : ℕ) (clients : Clients) (name : List ℕ) (sub : Option (List ℕ)) (text json : List ℕ) (o o' : State)
-    → is_some sub ≡ false → old name ≡ Some o → property_named o.of text ≡ None → new name ≡ Some o' → o' ≡ o → ((q : List ℕ) → q ≢ name → new q ≡ old q) → m ≡ n
-    → TakeStep (machine_with old n clients) (ref_with name sub) text json (refused UnknownProperty) (machine_with new m clients)
-take_unknown old new n m clients name sub text json o o' whole was none is same others count =
-    (o, at_whole sub (old name) o whole was, none, stays_with old new n m clients name o o' was is same others count)
+  pub stays_if_err : {T E : Type 0} (r : Result T E) (clients : Clients) → OnErr r (o' ≡ o) → OnErr r (Stays (machine_with ns old clients) (machine_with ms new clients))
+  stays_if_err (Ok x) clients same = tt
+  stays_if_err (Err e) clients same = stays_with clients same
 
-pub take_refused : (old new : List ℕ → Option State) (n m : ℕ) (clients : Clients) (name : List ℕ) (sub : Option (List ℕ)) (text json : List ℕ) (o o' : State) (p : PropId) (why : Refusal)
-    → is_some sub ≡ false → old name ≡ Some o → property_named o.of text ≡ Some p → Taken o p (given_by p (read json)) (Some why) o'
-    → new name ≡ Some o' → ((q : List ℕ) → q ≢ name → new q ≡ old q) → m ≡ n
-    → TakeStep (machine_with old n clients) (ref_with name sub) text json (refused why) (machine_with new m clients)
-take_refused old new n m clients name sub text json o o' p why whole was named t is others count = by why t.0
-  where
+  module _ (sub : Option (List ℕ)) (text : List ℕ) (whole : is_some sub ≡ false) where
     at : whole_of sub (old name) ≡ Some o
-    at = at_whole sub (old name) o whole was
+    at = at_whole sub (old name) o whole w.was
 
-    stays : Stays (machine_with old n clients) (machine_with new m clients)
-    stays = stays_with old new n m clients name o o' was is t.1 others count
+    pub take_unknown : (clients : Clients) (json : List ℕ) → property_named o.of text ≡ None → o' ≡ o
+        → TakeStep (machine_with ns old clients) (ref_with name sub) text json (refused UnknownProperty) (machine_with ms new clients)
+    take_unknown clients json none same = (o, at, none, stays_with clients same)
 
-    by : (w : Refusal) → TakeValue o p (given_by p (read json)) (Some w) None → TakeStep (machine_with old n clients) (ref_with name sub) text json (refused w) (machine_with new m clients)
-    by AlreadyHeld h = (o, at, p, named, h, stays)
-    by Sealed h = (o, at, p, named, h, stays)
-    by (BadValue v) h = (o, at, p, named, h, stays)
-    by BadCommand h = absurd (not_taken o p BadCommand (given_by p (read json)) refl h)
-    by UnknownName h = absurd (not_taken o p UnknownName (given_by p (read json)) refl h)
-    by NameTaken h = absurd (not_taken o p NameTaken (given_by p (read json)) refl h)
-    by UnknownType h = absurd (not_taken o p UnknownType (given_by p (read json)) refl h)
-    by UnknownProperty h = absurd (not_taken o p UnknownProperty (given_by p (read json)) refl h)
-    by ObjectsFull h = absurd (not_taken o p ObjectsFull (given_by p (read json)) refl h)
-    by NoChain h = absurd (not_taken o p NoChain (given_by p (read json)) refl h)
+    pub take_refused : (clients : Clients) (json : List ℕ) (p : PropId) (why : Refusal) → property_named o.of text ≡ Some p → Taken o p (given_by p (read json)) (Some why) o'
+        → TakeStep (machine_with ns old clients) (ref_with name sub) text json (refused why) (machine_with ms new clients)
+    take_refused clients json p why named t = by why t.0
+      where
+        stays : Stays (machine_with ns old clients) (machine_with ms new clients)
+        stays = stays_with clients t.1
 
-pub take_done : (old new : List ℕ → Option State) (n m : ℕ) (clients : Clients) (name : List ℕ) (sub : Option (List ℕ)) (text json : List ℕ) (o o' : State) (p : PropId)
-    → is_some sub ≡ false → old name ≡ Some o → property_named o.of text ≡ Some p → Taken o p (given_by p (read json)) None o'
-    → new name ≡ Some o' → ((q : List ℕ) → q ≢ name → new q ≡ old q) → m ≡ n
-    → TakeStep (machine_with old n clients) (ref_with name sub) text json done (machine_with new m clients)
-take_done old new n m clients name sub text json o o' p whole was named (v, t, same) is others count =
-    (o, at_whole sub (old name) o whole was, p, named, v, t, record { object = is ∙ ap Some same; others = others; count = count; clients = refl })
+        by : (y : Refusal) → TakeValue o p (given_by p (read json)) (Some y) None → TakeStep (machine_with ns old clients) (ref_with name sub) text json (refused y) (machine_with ms new clients)
+        by AlreadyHeld h = (o, at, p, named, h, stays)
+        by Sealed h = (o, at, p, named, h, stays)
+        by (BadValue v) h = (o, at, p, named, h, stays)
+        by BadCommand h = absurd (not_taken o p BadCommand (given_by p (read json)) refl h)
+        by UnknownName h = absurd (not_taken o p UnknownName (given_by p (read json)) refl h)
+        by NameTaken h = absurd (not_taken o p NameTaken (given_by p (read json)) refl h)
+        by UnknownType h = absurd (not_taken o p UnknownType (given_by p (read json)) refl h)
+        by UnknownProperty h = absurd (not_taken o p UnknownProperty (given_by p (read json)) refl h)
+        by ObjectsFull h = absurd (not_taken o p ObjectsFull (given_by p (read json)) refl h)
+        by NoChain h = absurd (not_taken o p NoChain (given_by p (read json)) refl h)
 
-pub on_err_of : {T E P : Type 0} (r : Result T E) → P → OnErr r P
-on_err_of (Ok x) p = tt
-on_err_of (Err e) p = p
+    pub take_done : (clients : Clients) (json : List ℕ) (p : PropId) → property_named o.of text ≡ Some p → Taken o p (given_by p (read json)) None o'
+        → TakeStep (machine_with ns old clients) (ref_with name sub) text json done (machine_with ms new clients)
+    take_done clients json p named (v, t, same) =
+        (o, at, p, named, v, t, record { names = w.names; object = w.is ∙ ap Some same; others = w.others; clients = refl; store = refl })
 
-pub give_unknown : (book : List Rule) (old new : List ℕ → Option State) (n m : ℕ) (clients : Clients) (name : List ℕ) (sub : Option (List ℕ)) (text : List ℕ) (o o' : State)
-    → is_some sub ≡ false → old name ≡ Some o → property_named o.of text ≡ None → new name ≡ Some o' → o' ≡ o → ((q : List ℕ) → q ≢ name → new q ≡ old q) → m ≡ n
-    → GiveStep book (machine_with old n clients) (ref_with name sub) text (refused UnknownProperty) (machine_with new m clients)
-give_unknown book old new n m clients name sub text o o' whole was none is same others count =
-    (o, at_whole sub (old name) o whole was, none, stays_with old new n m clients name o o' was is same others count)
+    pub give_unknown : (book : List Rule) (clients : Clients) → property_named o.of text ≡ None → o' ≡ o
+        → GiveStep book (machine_with ns old clients) (ref_with name sub) text (refused UnknownProperty) (machine_with ms new clients)
+    give_unknown book clients none same = (o, at, none, stays_with clients same)
 
-pub give_step : {F E : Type 0} (view : F → ReplySeen) (r : Result F E) (book : List Rule) (old new : List ℕ → Option State) (n m : ℕ) (clients after : Clients) (name : List ℕ) (sub : Option (List ℕ)) (text : List ℕ) (o o' : State) (p : PropId) (called : List ℕ)
-    → is_some sub ≡ false → old name ≡ Some o → property_named o.of text ≡ Some p → new name ≡ Some o' → ((q : List ℕ) → q ≢ name → new q ≡ old q) → m ≡ n → called ≡ name
-    → IfOk r (λ x. Gives book clients after called p o o' (view x)) → IfOk r (λ x. GiveStep book (machine_with old n clients) (ref_with name sub) text (view x) (machine_with new m after))
-give_step view (Err x) book old new n m clients after name sub text o o' p called whole was named is others count call g = tt
-give_step view (Ok x) book old new n m clients after name sub text o o' p called whole was named is others count call g = by (view x) g
-  where
-    at : whole_of sub (old name) ≡ Some o
-    at = at_whole sub (old name) o whole was
+    becomes : (clients after : Clients) → Becomes name (configuration o' after) (machine_with ns old clients) (machine_with ms new after)
+    becomes clients after = record { names = w.names; object = w.is; others = w.others; clients = refl; store = refl }
 
-    becomes : (started : List Kind) → after ≡ after_runs started clients → Becomes name o' started (machine_with old n clients) (machine_with new m after)
-    becomes started ran = record { object = is; others = others; count = count; clients = ran }
+    pub give_step : {F E : Type 0} (view : F → ReplySeen) (r : Result F E) (book : List Rule) (clients after : Clients) (p : PropId) (called : List ℕ) → property_named o.of text ≡ Some p → called ≡ name
+        → IfOk r (λ x. Gives book (configuration o clients) (configuration o' after) called p (view x))
+        → IfOk r (λ x. GiveStep book (machine_with ns old clients) (ref_with name sub) text (view x) (machine_with ms new after))
+    give_step view (Err x) book clients after p called named call g = tt
+    give_step view (Ok x) book clients after p called named call g = by (view x) g
+      where
+        by : (reply : ReplySeen) → Gives book (configuration o clients) (configuration o' after) called p reply → GiveStep book (machine_with ns old clients) (ref_with name sub) text reply (machine_with ms new after)
+        by (refused NoChain) e = (o, at, p, named, configuration o' after, e, becomes clients after)
+        by (shows s of q v) (same, type, one, held, e) = (
+          o,
+          at,
+          named ∙ ap Some (sym one),
+          same ∙ call,
+          type,
+          configuration o' after,
+          subst (λ z. Ensured book None (only z) found (configuration o clients) (configuration o' after)) (sym one) e,
+          becomes clients after,
+          subst (λ z. value_of z (read_at None o'.held) ≡ Some v) (sym one) held,
+        )
+        by done e = absurd e
+        by undef e = absurd e
+        by (refused BadCommand) e = absurd e
+        by (refused UnknownName) e = absurd e
+        by (refused NameTaken) e = absurd e
+        by (refused UnknownType) e = absurd e
+        by (refused UnknownProperty) e = absurd e
+        by (refused (BadValue y)) e = absurd e
+        by (refused AlreadyHeld) e = absurd e
+        by (refused Sealed) e = absurd e
+        by (refused ObjectsFull) e = absurd e
 
-    by : (reply : ReplySeen) → Gives book clients after called p o o' reply → GiveStep book (machine_with old n clients) (ref_with name sub) text reply (machine_with new m after)
-    by (refused NoChain) e = (o, at, p, named, o', e.started, e.ensures, becomes e.started e.ran)
-    by (shows s of q v) (same, type, one, held, e) =
-        (o, at, named ∙ ap Some (sym one), same ∙ call, type, o', e.started, subst (λ z. Ensures book clients (only z) found o o' e.started) (sym one) e.ensures, becomes e.started e.ran, subst (λ z. value_of z o'.held ≡ Some v) (sym one) held)
-    by done e = absurd e
-    by undef e = absurd e
-    by (refused BadCommand) e = absurd e
-    by (refused UnknownName) e = absurd e
-    by (refused NameTaken) e = absurd e
-    by (refused UnknownType) e = absurd e
-    by (refused UnknownProperty) e = absurd e
-    by (refused (BadValue w)) e = absurd e
-    by (refused AlreadyHeld) e = absurd e
-    by (refused Sealed) e = absurd e
-    by (refused ObjectsFull) e = absurd e
+    pub gave_in_part : {T E : Type 0} (r : Result T E) (book : List Rule) (clients after : Clients) (p : PropId) → property_named o.of text ≡ Some p
+        → OnErr r (EnsuredInPart book None (only p) (configuration o clients) (configuration o' after))
+        → OnErr r (StepInPart book (machine_with ns old clients) (give_value (ref_with name sub) text) (machine_with ms new after))
+    gave_in_part (Ok x) book clients after p named e = tt
+    gave_in_part (Err x) book clients after p named e =
+        inr (record { object = o; named = at; property = p; is_property = named; now = configuration o' after; ensured = e; becomes = becomes clients after })
 
-pub gives_shown : {F E : Type 0} (view : F → ReplySeen) (r : Result F E) (book : List Rule) (clients after : Clients) (name : List ℕ) (p : PropId) (asked : PropSet) (o o' : State) (of : ObjectType) (v : PropertyValue)
-    → asked ≡ only p → of ≡ o.of → value_of p o'.held ≡ Some v → EnsuresWith book clients asked true o o' after → IfOk r (λ x. view x ≡ shows name of p v)
-    → IfOk r (λ x. Gives book clients after name p o o' (view x))
-gives_shown view (Err x) book clients after name p asked o o' of v one type held e s = tt
-gives_shown view (Ok x) book clients after name p asked o o' of v one type held e s =
-    subst (λ z. Gives book clients after name p o o' z) (sym s) (refl, type, refl, held, subst (λ z. EnsuresWith book clients z true o o' after) one e)
+-- ---- what is ensured is shown
+pub gives_shown : {F E : Type 0} (view : F → ReplySeen) (r : Result F E) (book : List Rule) (old new : Configuration) (name : List ℕ) (p : PropId) (asked : PropSet) (of : ObjectType) (v : PropertyValue)
+    → asked ≡ only p → of ≡ old.object.of → value_of p (read_at None new.object.held) ≡ Some v → Ensured book None asked found old new → IfOk r (λ x. view x ≡ shows name of p v)
+    → IfOk r (λ x. Gives book old new name p (view x))
+gives_shown view (Err x) book old new name p asked of v one type held e s = tt
+gives_shown view (Ok x) book old new name p asked of v one type held e s =
+    subst (λ z. Gives book old new name p z) (sym s) (refl, type, refl, held, subst (λ z. Ensured book None z found old new) one e)
 
-pub gives_none : (book : List Rule) (clients after : Clients) (p : PropId) (asked : PropSet) (o o' : State) → asked ≡ only p → EnsuresWith book clients asked false o o' after → EnsuresWith book clients (only p) false o o' after
-gives_none book clients after p asked o o' one e = subst (λ z. EnsuresWith book clients z false o o' after) one e
+pub gives_none : (book : List Rule) (old new : Configuration) (p : PropId) (asked : PropSet) → asked ≡ only p → Ensured book None asked no_chain old new → Ensured book None (only p) no_chain old new
+gives_none book old new p asked one e = subst (λ z. Ensured book None z no_chain old new) one e
 
 same_number : (n k : ℕ) → n ≡ k → eqb n k ≡ true
 same_number n k e = grind arith
 
-pub found_held : (book : List Rule) (clients after : Clients) (asked : PropSet) (o o' : State) (p : PropId) → asked ≡ only p → EnsuresWith book clients asked true o o' after → is_held p o'.held ≡ true
-found_held book clients after asked o o' p one e =
-    sym (names_held o'.held p) ∙ e.ensures.ended p (ap (λ z. has z p) one ∙ has-only p p ∙ same_number (number p) (number p) refl)
+pub found_held : (book : List Rule) (old new : Configuration) (asked : PropSet) (p : PropId) → asked ≡ only p → Ensured book None asked found old new → is_held p (read_at None new.object.held) ≡ true
+found_held book old new asked p one e =
+    sym (names_held (read_at None new.object.held) p) ∙ e.ends p (ap (λ z. has z p) one ∙ has-only p p ∙ same_number (number p) (number p) refl)
 
-pub kept_with : (old new : List ℕ → Option State) (n m : ℕ) (clients : Clients) (name : List ℕ) (o o' : State) → old name ≡ Some o → new name ≡ Some o' → (IsKept o → IsKept o')
-    → ((q : List ℕ) → q ≢ name → new q ≡ old q) → AllKept (machine_with old n clients) → AllKept (machine_with new m clients)
-kept_with old new n m clients name o o' was is keeps others all = record { each = kept_all old new name o o' was is keeps others all.each }
+-- what was ensured wholly was ensured in part
+pub whole_is_part : {T E : Type 0} (r : Result T E) (book : List Rule) (asked : PropSet) (p : PropId) (ending : Ending) (old new : Configuration) → asked ≡ only p
+    → Ensured book None asked ending old new → OnErr r (EnsuredInPart book None (only p) old new)
+whole_is_part (Ok x) book asked p ending old new is e = tt
+whole_is_part (Err x) book asked p ending old new is e = subst (λ z. EnsuredInPart book None z old new) is (at_rest, e.reaches)
 
-pub keeps_found : (book : List Rule) (clients after : Clients) (asked : PropSet) (o o' : State) → EnsuresWith book clients asked true o o' after → IsKept o → IsKept o'
-keeps_found book clients after asked o o' e kept = kept_ensures book clients asked found o o' e.started e.ensures kept
+pub part_of : {T E : Type 0} (r : Result T E) (book : List Rule) (asked : PropSet) (p : PropId) (old new : Configuration) → asked ≡ only p
+    → EnsuredInPart book None asked old new → OnErr r (EnsuredInPart book None (only p) old new)
+part_of (Ok x) book asked p old new is e = tt
+part_of (Err x) book asked p old new is e = subst (λ z. EnsuredInPart book None z old new) is e
 
-pub kept_if_err : {F E : Type 0} (r : Result F E) (old new : List ℕ → Option State) (n m : ℕ) (clients : Clients) (name : List ℕ) (o o' : State) → old name ≡ Some o → new name ≡ Some o' → OnErr r (IsKept o → IsKept o')
-    → ((q : List ℕ) → q ≢ name → new q ≡ old q) → OnErr r (AllKept (machine_with old n clients) → AllKept (machine_with new m clients))
-kept_if_err (Ok x) old new n m clients name o o' was is keeps others = tt
-kept_if_err (Err x) old new n m clients name o o' was is keeps others = λ all. kept_with old new n m clients name o o' was is keeps others all
+-- ---- a step that answered, and one that did not
+pub stays_in_part : (book : List Rule) (old new : Machine) (command : Spoken) → Stays old new → StepInPart book old command new
+stays_in_part book old new (give_value ref text) s = inl s
+stays_in_part book old new blank s = s
+stays_in_part book old new (new_object ref text) s = s
+stays_in_part book old new (take_value ref text json) s = s
+stays_in_part book old new (look_up ref text) s = s
+
+pub kept_if_ok : {E F : Type 0} (view : F → ReplySeen) (book : List Rule) (old new : Machine) (command : Spoken) (r : Result F E)
+    → IfOk r (λ x. Step book old command (view x) new) → OnOk r (AllKept old → AllKept new)
+kept_if_ok view book old new command (Ok x) s = steps_keep book old new command (view x) s
+kept_if_ok view book old new command (Err x) s = tt
+
+pub honest_step : {E F : Type 0} (view : F → ReplySeen) (book : List Rule) (old new : Machine) (command : Spoken) (r : Result F E)
+    → IfOk r (λ x. Step book old command (view x) new) → OnErr r (StepInPart book old command new) → AllKept old → AllHonest new
+honest_step view book old new command (Ok x) s p all = all_honest new (steps_keep book old new command (view x) s all)
+honest_step view book old new command (Err x) s p all = steps_in_part_keep book old new command p all
+
+pub on_err_of : {T E P : Type 0} (r : Result T E) → P → OnErr r P
+on_err_of (Ok x) p = tt
+on_err_of (Err e) p = p

@@ -1,7 +1,7 @@
 -- Why an object does not take a value, for the reasons that are told.
 use Rattle.std.specs.Prelude.{Bool, None, Option, Some, if◌then◌else◌, not}
 use Rattle.std.proofs.Common.{arith, false, refl, rules, sym, true, true≢false, ◌∙◌, ◌≡◌, ◌≢◌}
-use Rattle.pm_object.specs.State.{State, CannotTake, agrees, cols_of, is_held, is_sealed}
+use Rattle.pm_object.specs.State.{State, CannotTake, agrees, cols_of, is_held, is_sealed, read_at}
 use Rattle.pm_object.specs.declared.held.TakeFail.{TakeFail}
 use Rattle.pm_object.specs.declared.held.TakeFail.TheVariants.{AlreadyHeld, Columns, Memory, NotAThing, NotOfType, Sealed}
 use Rattle.pm_types.specs.Forms.{are_rows}
@@ -34,13 +34,13 @@ already o p v e is refused = search rules
 sealed : (o : State) (p : PropId) (v : PropertyValue) (e : TakeFail) → e ≡ Sealed → (e ≢ Memory → CannotTake o p v e) → CannotTake o p v Sealed
 sealed o p v e is refused = search rules
 
-pub not_held : (o : State) (p : PropId) (v : PropertyValue) (e : TakeFail) → e ≡ AlreadyHeld → (e ≢ Memory → CannotTake o p v e) → is_held p o.held ≡ false → ⊥
+pub not_held : (o : State) (p : PropId) (v : PropertyValue) (e : TakeFail) → e ≡ AlreadyHeld → (e ≢ Memory → CannotTake o p v e) → is_held p (read_at None o.held) ≡ false → ⊥
 not_held o p v e is refused missing =
-    true≢false (sym (first_of (is_held p o.held) (is_sealed o) (has o.of p) (agrees (cols_of o.held) p v) (are_rows o.of p v) (already o p v e is refused)) ∙ missing)
+    true≢false (sym (first_of (is_held p (read_at None o.held)) (is_sealed o) (has o.of p) (agrees (cols_of o.held) p v) (are_rows o.of p v) (already o p v e is refused)) ∙ missing)
 
 pub not_sealed : (o : State) (p : PropId) (v : PropertyValue) (e : TakeFail) → e ≡ Sealed → (e ≢ Memory → CannotTake o p v e) → is_sealed o ≡ false → ⊥
 not_sealed o p v e is refused unsealed =
-    true≢false (sym (second_of (is_held p o.held) (is_sealed o) (has o.of p) (agrees (cols_of o.held) p v) (are_rows o.of p v) (sealed o p v e is refused)) ∙ unsealed)
+    true≢false (sym (second_of (is_held p (read_at None o.held)) (is_sealed o) (has o.of p) (agrees (cols_of o.held) p v) (are_rows o.of p v) (sealed o p v e is refused)) ∙ unsealed)
 
 third_of : (a b c d e : Bool) → take_order a b c d e ≡ Some NotOfType → c ≡ false
 third_of a b false d e h = refl
@@ -55,4 +55,4 @@ not_of o p v e is refused = search rules
 
 pub not_outside : (o : State) (p : PropId) (v : PropertyValue) (e : TakeFail) → e ≡ NotOfType → (e ≢ Memory → CannotTake o p v e) → has o.of p ≡ true → ⊥
 not_outside o p v e is refused inside =
-    true≢false (sym inside ∙ third_of (is_held p o.held) (is_sealed o) (has o.of p) (agrees (cols_of o.held) p v) (are_rows o.of p v) (not_of o p v e is refused))
+    true≢false (sym inside ∙ third_of (is_held p (read_at None o.held)) (is_sealed o) (has o.of p) (agrees (cols_of o.held) p v) (are_rows o.of p v) (not_of o p v e is refused))

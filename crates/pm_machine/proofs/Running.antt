@@ -2,25 +2,25 @@
 use Rattle.pm_algebra.proofs.Filters.{map_among, among_map}
 use Rattle.pm_algebra.proofs.Lists.{Among, Contains_among, among_Contains, here, there}
 use Rattle.pm_machine.proofs.Committing.{named_held}
-use Rattle.pm_machine.specs.Chains.{is_truth, is_wrong, some_wrong, table}
+use Rattle.pm_machine.specs.Chains.{held_names, is_truth, is_wrong, some_wrong, table}
 use Rattle.pm_machine.specs.Running.{RunsRule}
 use Rattle.pm_object.proofs.Formed.{dimension_of, held_stays, value_among}
 use Rattle.pm_object.proofs.Names.{names_held}
 use Rattle.pm_object.specs.Formed.{IsFormed}
 use Rattle.pm_object.specs.Honest.{facts}
-use Rattle.pm_object.specs.State.{HeldValue, State, ambient_in, cols_of, first_cols, is_held, names_of, or_else, value_of}
+use Rattle.pm_object.specs.State.{HeldValue, State, ambient_in, cols_of, first_cols, is_held, names_of, or_else, read_at, value_of}
 use Rattle.pm_object.specs.declared.held.RoundEnd.{RoundEnd}
 use Rattle.pm_object.specs.declared.held.RoundEnd.TheVariants as end
 use Rattle.pm_rules.specs.Books.{IsRule}
 use Rattle.pm_rules.specs.Rules.{IsEnabled, conditions, inputs, names_of_rule}
 use Rattle.pm_rules.specs.declared.rule.Rule.{Rule}
 use Rattle.pm_types.proofs.Every.{has-set_of_filter}
-use Rattle.pm_types.proofs.Kept.{among_every, named_from}
+use Rattle.pm_types.proofs.Kept.{among_every, same_property_refl}
 use Rattle.pm_types.proofs.Members.{has-intersection, has-union}
 use Rattle.pm_types.specs.Forms.{has_64_bits, is_formed, is_matrix_form, is_of_matrices, is_of_sets, is_of_whole_numbers, is_sets_form}
-use Rattle.pm_types.specs.Kinds.{IsFresh, IsKindOf, names_of as names_of_kind}
-use Rattle.pm_types.specs.Properties.{every_property, has as has_in, has_program, value_kind}
-use Rattle.pm_types.specs.Runs.{Holds, IsFree, MayRun, place_of}
+use Rattle.pm_types.specs.Kinds.{IsFresh, IsKindOf, is_in_use, names_of as names_of_kind}
+use Rattle.pm_types.specs.Properties.{every_property, has_program, value_kind}
+use Rattle.pm_types.specs.Runs.{Holds, IsFree, MayRun, place_of, same_place, same_property}
 use Rattle.pm_types.specs.Sets.{has, intersection, union}
 use Rattle.pm_types.specs.Values.{Fact, PropertyValue, matrix, sets, whole, truth, extended, edges, lattice, counts}
 use Rattle.pm_types.specs.declared.kind.Kind.{Kind}
@@ -97,24 +97,39 @@ is_truth_value p (edges rows) k f = absurd (true≢false (sym f))
 is_truth_value p (lattice ranks) k f = absurd (true≢false (sym f))
 is_truth_value p (counts ks) k f = absurd (true≢false (sym f))
 
--- ---- facts
-fact_of : HeldValue → Fact
-fact_of h = record { place = None; property = h.property; value = h.value }
+-- ---- facts of an object without programs
+abbrev pub AreOwn : List HeldValue → Type 0
+AreOwn held = (h : HeldValue) → Among h held → h.place ≡ None
 
-pub held_fact : (held : List HeldValue) (p : PropId) (v : PropertyValue) → value_of p held ≡ Some v → Holds (facts held) None p v
-held_fact held p v e =
+pub own_of : (o : State) → IsFormed o → AreOwn o.held
+own_of o formed h i = (formed.each h (Contains_among i)).placed
+
+-- what is read is what is held
+pub read_own : (held : List HeldValue) → AreOwn held → read_at None held ≡ held
+read_own [] own = refl
+read_own (h ∷ held) own =
+    ap (λ t. if t then h ∷ read_at None held else read_at None held) (ap (λ z. same_place z (place_of None h.property)) (own h here) ∙ ap (same_place None) (place_none h.property))
+    ∙ ap (λ t. h ∷ t) (read_own held (λ g i. own g (there i)))
+
+held_fact : (held : List HeldValue) (p : PropId) (v : PropertyValue) → AreOwn held → value_of p held ≡ Some v → Holds (facts held) None p v
+held_fact held p v own e =
     let (h, i, q, w) = value_among p held v e in
-    Contains_among (subst (λ r. Among (record { place = r; property = p; value = v }) (facts held)) (sym (place_none p))
-    (subst (λ z. Among (record { place = None; property = p; value = z }) (facts held)) w
-    (subst (λ z. Among (record { place = None; property = z; value = h.value }) (facts held)) q
-    (among_map (λ g. record { place = None; property = g.property; value = g.value }) i))))
+    Contains_among (subst (λ r. Among (record { place = r; property = p; value = v }) (facts held)) (own h i ∙ sym (place_none p))
+    (subst (λ z. Among (record { place = h.place; property = p; value = z }) (facts held)) w
+    (subst (λ z. Among (record { place = h.place; property = z; value = h.value }) (facts held)) q
+    (among_map (λ g. record { place = g.place; property = g.property; value = g.value }) i))))
 
-pub fact_held : (held : List HeldValue) (f : Fact) → Among f (facts held) → (h : HeldValue) × Among h held × (f.property ≡ h.property) × (f.place ≡ None)
-fact_held held f i = let (h, j, is) = map_among (λ g. record { place = None; property = g.property; value = g.value }) held i in (h, j, ap (λ z. z.property) is, ap (λ z. z.place) is)
+fact_held : (held : List HeldValue) (f : Fact) → Among f (facts held) → (h : HeldValue) × Among h held × (f.property ≡ h.property) × (f.place ≡ h.place)
+fact_held held f i = let (h, j, is) = map_among (λ g. record { place = g.place; property = g.property; value = g.value }) held i in (h, j, ap (λ z. z.property) is, ap (λ z. z.place) is)
 
 is_held_of : (held : List HeldValue) (h : HeldValue) → Among h held → is_held h.property held ≡ true
-is_held_of held h i = sym (named_held held h.property) ∙ named_from None (facts held) (record { place = None; property = h.property; value = h.value })
-    (among_map (λ g. record { place = None; property = g.property; value = g.value }) i) (sym (place_none h.property))
+is_held_of (x ∷ held) h here = ap (λ t. is_some (if t then Some x.value else value_of x.property held)) (same_property_refl x.property)
+is_held_of (x ∷ held) h (there i) = by (same_property h.property x.property) (is_held_of held h i)
+  where
+    by : (t : Bool) → is_held h.property held ≡ true → is_some (if t then Some x.value else value_of h.property held) ≡ true
+    by true e = refl
+    by false e = e
+is_held_of [] h i = elim i [ ]
 
 -- ---- a rule that is enabled and not barred may run
 some_is : {X : Type 0} (a b : X) → Some a ≡ Some b → a ≡ b
@@ -130,7 +145,7 @@ ambient_fact o n formed known dimension = by (value_of ConeAmbientDim o.held) re
         let each = formed.each h (Contains_among i) in
         let d = dimension_of v (subst (λ z. is_formed z v ≡ true) q (subst (λ z. is_formed h.property z ≡ true) w each.formed)) in
         let cols : Some d.n ≡ Some n = ap (λ z. or_else (ambient_in z) (first_cols o.held)) (sym (e ∙ ap Some d.value)) ∙ known in
-        held_fact o.held ConeAmbientDim (whole (pos n)) (e ∙ ap Some d.value ∙ ap (λ k. Some (whole (pos k))) (some_is d.n n cols))
+        held_fact o.held ConeAmbientDim (whole (pos n)) (own_of o formed) (e ∙ ap Some d.value ∙ ap (λ k. Some (whole (pos k))) (some_is d.n n cols))
 
 -- a condition that is held, and not with the wrong value, is held so
 condition_held : (o : State) (p : PropId) (b : Bool) → IsFormed o → value_kind p ≡ form.Bool → is_held p o.held ≡ true → is_truth (not b) (value_of p o.held) ≡ false → Holds (facts o.held) None p (truth b)
@@ -149,7 +164,7 @@ condition_held o p b formed kind held wrong = by (value_of p o.held) refl held w
         let f = subst (λ z. is_formed z v ≡ true) q (subst (λ z. is_formed h.property z ≡ true) is (formed.each h (Contains_among i)).formed) in
         let (c, t) = is_truth_value p v kind f in
         let c_is : c ≡ b = same b c (subst (λ z. is_truth (not b) (Some z) ≡ false) t w) in
-        held_fact o.held p (truth b) (e ∙ ap Some t ∙ ap (λ z. Some (truth z)) c_is)
+        held_fact o.held p (truth b) (own_of o formed) (e ∙ ap Some t ∙ ap (λ z. Some (truth z)) c_is)
 
 within : (s t : ℕ) (p : PropId) → intersection s t ≡ s → has s p ≡ true → has t p ≡ true
 within s t p e h = and_second (has s p) (has t p) (sym (has-intersection s t p) ∙ ap (λ z. has z p) e ∙ h)
@@ -178,12 +193,13 @@ free_facts tag kind held h = record {
       ap tag p ∙ h fresh g.property (is_held_of held g j);
 }
 
-pub may_run : (o : State) (n : ℕ) (barred : List RuleId) (id : RuleId) (rule : Rule) → IsFormed o → cols_of o.held ≡ Some n → is_held ConeAmbientDim o.held ≡ true → IsRule rule
-    → IsEnabled (table o.of) barred (names_of o.held) id rule → some_wrong rule o.held ≡ false → MayRun rule.kind None n (facts o.held)
-may_run o n barred id rule formed known dimension is_rule enabled right = record {
-  placed = λ f i. record { alone = λ e. (fact_held o.held f (among_Contains (facts o.held) i)).3 };
+-- where all is the object's own
+may_run_own : (o : State) (n : ℕ) (barred : List RuleId) (id : RuleId) (rule : Rule) → IsFormed o → cols_of o.held ≡ Some n → is_held ConeAmbientDim o.held ≡ true → IsRule rule
+    → IsEnabled (table None o.of) barred (names_of o.held) id rule → some_wrong rule o.held ≡ false → MayRun rule.kind None n (facts o.held)
+may_run_own o n barred id rule formed known dimension is_rule enabled right = record {
+  placed = λ f i. record { alone = λ e. let (h, j, p, r) = fact_held o.held f (among_Contains (facts o.held) i) in r ∙ own_of o formed h j };
   ambient = ambient_fact o n formed known dimension;
-  sources = λ p h. named_held o.held p ∙ given p (reads_source rule p h);
+  sources = λ p h. named_held None o.held p ∙ ap (is_held p) (read_own o.held (own_of o formed)) ∙ given p (reads_source rule p h);
   must = λ p h.
       let own = within rule.kind.must rule.must p is_rule.must h in
       condition_held o p true formed (is_rule.flags p (reads_must rule p own)) (given p (reads_condition rule p (reads_must rule p own)))
@@ -201,15 +217,21 @@ may_run o n barred id rule formed known dimension is_rule enabled right = record
     given : (p : PropId) → has (inputs rule) p ≡ true → is_held p o.held ≡ true
     given p h = sym (names_held o.held p) ∙ enabled.given p h
 
--- the type's table has all names of the kind of a rule that is enabled
+pub may_run : (o : State) (n : ℕ) (barred : List RuleId) (id : RuleId) (rule : Rule) → IsFormed o → cols_of o.held ≡ Some n → is_held ConeAmbientDim o.held ≡ true → IsRule rule
+    → IsEnabled (table None o.of) barred (held_names None o) id rule → some_wrong rule (read_at None o.held) ≡ false → MayRun rule.kind None n (facts o.held)
+may_run o n barred id rule formed known dimension is_rule enabled right =
+    let own = read_own o.held (own_of o formed) in
+    may_run_own o n barred id rule formed known dimension is_rule (subst (λ z. IsEnabled (table None o.of) barred (names_of z) id rule) own enabled) (subst (λ z. some_wrong rule z ≡ false) own right)
+
+-- all names of the kind of a rule that is enabled are in use
 in_either : (a b c d : Bool) → (a || (b || (c || d))) ≡ true → ((a ≡ true) ⊎ (b ≡ true)) ⊎ ((c ≡ true) ⊎ (d ≡ true))
 in_either true b c d h = inl (inl refl)
 in_either false true c d h = inl (inr refl)
 in_either false false true d h = inr (inl refl)
 in_either false false false d h = inr (inr h)
 
-pub kind_in_use : (o : State) (barred : List RuleId) (id : RuleId) (rule : Rule) → IsRule rule → IsEnabled (table o.of) barred (names_of o.held) id rule → IsKindOf o.of rule.kind
-kind_in_use o barred id rule is_rule enabled p named = sym (has-set_of_filter (has_in o.of) p) ∙ enabled.in_use.known p (named_by (split named))
+pub kind_in_use : (o : State) (sub : Option ℕ) (barred : List RuleId) (id : RuleId) (rule : Rule) → IsRule rule → IsEnabled (table sub o.of) barred (held_names sub o) id rule → IsKindOf sub o.of rule.kind
+kind_in_use o sub barred id rule is_rule enabled p named = sym (has-set_of_filter (is_in_use sub o.of) p) ∙ enabled.in_use.known p (named_by (split named))
   where
     split : has (names_of_kind rule.kind) p ≡ true → ((has rule.kind.targets p ≡ true) ⊎ (has rule.kind.sources p ≡ true)) ⊎ ((has rule.kind.must p ≡ true) ⊎ (has rule.kind.must_not p ≡ true))
     split h =
@@ -228,10 +250,10 @@ kind_in_use o barred id rule is_rule enabled p named = sym (has-set_of_filter (h
     named_by (inr (inr h)) = read (reads_condition rule p (reads_must_not rule p (within rule.kind.must_not rule.must_not p is_rule.must_not h)))
 
 -- a run leaves what is held
-pub runs_hold : (id : RuleId) (kind : Kind) (old new : State) (e : RoundEnd) (p : PropId) → RunsRule id kind old e new → is_held p old.held ≡ true → is_held p new.held ≡ true
-runs_hold id kind old new end.Done p c h = subst (λ z. is_held p z.held ≡ true) (sym c.added) (held_stays p old.held _ h)
-runs_hold id kind old new (end.Failed rule k) p f h = subst (λ z. is_held p z.held ≡ true) (sym f.excluded) h
-runs_hold id kind old new (end.False rule q) p f h = absurd f
+pub runs_hold : (sub : Option ℕ) (id : RuleId) (rule : Rule) (old new : State) (e : RoundEnd) (p : PropId) → RunsRule sub id rule old e new → is_held p old.held ≡ true → is_held p new.held ≡ true
+runs_hold sub id rule old new end.Done p c h = subst (λ z. is_held p z.held ≡ true) (sym c.added) (held_stays p old.held _ h)
+runs_hold sub id rule old new (end.Failed other k) p f h = subst (λ z. is_held p z.held ≡ true) (sym f.excluded) h
+runs_hold sub id rule old new (end.False other q) p f h = absurd f
 
 pub known_is : (c : Option ℕ) → is_some c ≡ true → c ≡ Some (unwrap_or c 1)
 known_is None e = absurd (true≢false (sym e))

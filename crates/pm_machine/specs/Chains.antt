@@ -1,53 +1,77 @@
--- Chains on an object.
---     table of      the names in use for an object of a type
---     is_truth b v      the value is the truth value b
---     some_wrong rule held      a precondition of the rule is held with the wrong value
---     is_barred_on clients o id rule      the rule of this number is barred on the object: it was excluded there, a precondition is held with the wrong value, its label was disabled, or no client has its kind
---     AreBarred book clients o barred      the list has exactly the numbers of the rules of the book that are barred on the object
---     Serves names barred held asked id rule      the rule alone leads from the held names to the asked ones
---     LeadsByOne, IsLeastByOne, HasNoChainByOne      so far a chain is a list of exactly one rule
-use Rattle.std.specs.Prelude.{◌≡◌, ◌||◌, ◌&&◌, Bool, false, true, not, Option, Some, List, length, filter, nat_eq, if◌then◌else◌}
+-- Chains on an object. Who asks names a linear program of it, or none; what is read and barred then is what stands at that place.
+use Rattle.std.specs.Prelude.{◌≡◌, ◌||◌, ◌&&◌, Bool, false, true, not, ℕ, Option, None, Some, List, length, filter, nat_eq, if◌then◌else◌}
 use Rattle.std.specs.List.{list_any}
 use Rattle.pm_geom.specs.declared.ObjectType.{ObjectType}
 use Rattle.pm_client.specs.Starts.{Clients, has_client}
-use Rattle.pm_object.specs.State.{HeldValue, State, is_disabled, value_of}
+use Rattle.pm_object.specs.State.{HeldValue, State, is_disabled, names_of, read_at, value_of}
 use Rattle.pm_rules.specs.Chains.{LeadsTo, weigh}
 use Rattle.pm_rules.specs.Rules.{IsEnabled, is_barred, rule_at}
 use Rattle.pm_rules.specs.declared.rule.Rule.{Rule}
-use Rattle.pm_types.specs.Properties.{every_property, has as has_in}
-use Rattle.pm_types.specs.Sets.{IsSubset, has, set_of, union}
+use Rattle.pm_types.specs.Kinds.{is_in_use, names_of as names_of_kind}
+use Rattle.pm_types.specs.Properties.{every_property, has_program}
+use Rattle.pm_types.specs.Runs.{same_place}
+use Rattle.pm_types.specs.Sets.{IsSubset, difference, has, set_of, union}
 use Rattle.pm_types.specs.Values.{PropertyValue, truth}
 use Rattle.pm_types.specs.Weights.{IsAtMost}
 use Rattle.pm_types.specs.declared.kind.RuleId.{RuleId}
 use Rattle.pm_types.specs.declared.property.PropId.{PropId}
 use Rattle.pm_types.specs.declared.set.PropSet.{PropSet}
 
-abbrev pub table : ObjectType → PropSet
-table of = set_of (filter (has_in of) every_property)
+-- the names in use for an object of a type: its table, and that of programs where one is asked
+abbrev pub table : Option ℕ → ObjectType → PropSet
+table sub of = set_of (filter (is_in_use sub of) every_property)
 
+-- the names that are held at the place
+abbrev pub held_names : Option ℕ → State → PropSet
+held_names sub o = names_of (read_at sub o.held)
+
+-- all that is asked is held at the place
+abbrev pub AllHeld : Option ℕ → PropSet → State → Type 0
+AllHeld sub asked o = IsSubset asked (held_names sub o)
+
+-- what is asked and not held there
+abbrev pub still_missing : Option ℕ → PropSet → State → PropSet
+still_missing sub asked o = difference asked (held_names sub o)
+
+-- the value is the truth value b
 abbrev pub is_truth : Bool → Option PropertyValue → Bool
 is_truth b (Some (truth c)) = if b then c else not c
 is_truth b v = false
 
+-- the property is a precondition of the rule, and what is read has it with the wrong value
 abbrev pub is_wrong : Rule → List HeldValue → PropId → Bool
-is_wrong rule held p = has rule.must p && is_truth false (value_of p held) || has rule.must_not p && is_truth true (value_of p held)
+is_wrong rule read p = has rule.must p && is_truth false (value_of p read) || has rule.must_not p && is_truth true (value_of p read)
 
+-- some precondition of the rule is
 abbrev pub some_wrong : Rule → List HeldValue → Bool
-some_wrong rule held = list_any (is_wrong rule held) every_property
+some_wrong rule read = list_any (is_wrong rule read) every_property
 
-abbrev pub is_barred_on : Clients → State → RuleId → Rule → Bool
-is_barred_on clients o id rule = list_any (λ e. nat_eq e.rule.0 id.0) o.excluded || some_wrong rule o.held || is_disabled rule.label o.disabled || not (has_client rule.kind clients)
+-- where an exclusion of the rule stands: with the program that is asked if the rule names a property of programs, else with the object, for all of its programs
+abbrev pub place_of_rule : Option ℕ → Rule → Option ℕ
+place_of_rule sub rule = if list_any (λ p. has (names_of_kind rule.kind) p && has_program p) every_property then sub else None
 
-pub record AreBarred (book : List Rule) (clients : Clients) (o : State) (barred : List RuleId) : Type 0 where
-  pub each : (id : RuleId) (rule : Rule) → rule_at book id ≡ Some rule → is_barred barred id ≡ is_barred_on clients o id rule
+-- the rule of this number was excluded there
+abbrev pub is_excluded : State → Option ℕ → RuleId → Rule → Bool
+is_excluded o sub id rule = list_any (λ e. nat_eq e.rule.0 id.0 && same_place e.sub (place_of_rule sub rule)) o.excluded
 
+-- the rule is barred there: it was excluded, a precondition is held with the wrong value, its label was disabled, or no client has its kind
+abbrev pub is_barred_on : Clients → State → Option ℕ → RuleId → Rule → Bool
+is_barred_on clients o sub id rule = is_excluded o sub id rule || some_wrong rule (read_at sub o.held) || is_disabled rule.label o.disabled || not (has_client rule.kind clients)
+
+-- the list has exactly the numbers of the rules of the book that are barred there
+pub record AreBarred (book : List Rule) (clients : Clients) (o : State) (sub : Option ℕ) (barred : List RuleId) : Type 0 where
+  pub each : (id : RuleId) (rule : Rule) → rule_at book id ≡ Some rule → is_barred barred id ≡ is_barred_on clients o sub id rule
+
+-- so far a chain is a list of exactly one rule
 abbrev pub LeadsByOne : List Rule → PropSet → List RuleId → PropSet → PropSet → List RuleId → Type 0
 LeadsByOne book names barred held asked chain = LeadsTo book names barred held asked chain × (length chain ≡ 1)
 
+-- of these the chain is one of least weight
 pub record IsLeastByOne (book : List Rule) (names : PropSet) (barred : List RuleId) (held asked : PropSet) (chain : List RuleId) : Type 0 where
   pub leads : LeadsByOne book names barred held asked chain
   pub least : (other : List RuleId) → LeadsByOne book names barred held asked other → IsAtMost (weigh book chain) (weigh book other)
 
+-- there is none
 abbrev pub HasNoChainByOne : List Rule → PropSet → List RuleId → PropSet → PropSet → Type 0
 HasNoChainByOne book names barred held asked = (chain : List RuleId) → LeadsByOne book names barred held asked chain → ⊥
 

@@ -1,21 +1,19 @@
 -- What a commit adds.
---     added p held v      the value that was drafted for p, as a computed one, where p is not held
---     FitsObject o answer      each value of the answer has its form, agrees with the object's column count, and passes the tests of rows
-use Rattle.std.specs.Prelude.{Bool, true, false, Option, Some, None, List, [], ◌∷◌}
+use Rattle.std.specs.Prelude.{ℕ, Bool, true, false, Option, Some, None, List, [], ◌∷◌}
 use Rattle.std.specs.List.{Contains}
 use Rattle.pm_object.specs.Formed.{IsFormedIn}
+use Rattle.pm_object.specs.Laws.{computed_at}
 use Rattle.pm_object.specs.State.{HeldValue, State, cols_of}
 use Rattle.pm_object.specs.declared.held.Origin.TheVariants.{Computed}
 use Rattle.pm_types.specs.Values.{Fact, PropertyValue}
 use Rattle.pm_types.specs.declared.property.PropId.{PropId}
 
-abbrev pub computed_one : PropId → PropertyValue → HeldValue
-computed_one p v = record { property = p; value = v; origin = Computed }
+-- the value that was drafted for a property, as a computed one, where it is not held
+abbrev pub added : Option ℕ → PropId → Bool → Option PropertyValue → List HeldValue
+added sub p true v = []
+added sub p false None = []
+added sub p false (Some v) = computed_at sub p v ∷ []
 
-abbrev pub added : PropId → Bool → Option PropertyValue → List HeldValue
-added p true v = []
-added p false None = []
-added p false (Some v) = computed_one p v ∷ []
-
+-- each value of the answer has its form, agrees with the object's column count, passes the tests of rows, and stands where it may
 pub record FitsObject (o : State) (answer : List Fact) : Type 0 where
-  pub each : (f : Fact) → Contains answer f → IsFormedIn o.of (cols_of o.held) (computed_one f.property f.value)
+  pub each : (f : Fact) → Contains answer f → IsFormedIn o.of (cols_of o.held) (record { place = f.place; property = f.property; value = f.value; origin = Computed })

@@ -1,8 +1,9 @@
 pub mod Chains
 pub mod Best
 pub mod Commits
-pub mod Rounds
+pub mod Events
 pub mod Running
 pub mod Steps
+pub mod Parts
 pub mod Sessions
 pub mod Laws

@@ -1,15 +1,5 @@
 -- The machine: what each command may answer, and what it changes. Each refusal comes exactly where its line says, and the lines of one command exclude each other.
---     Machine      the object of each name, how many objects there are, and the clients as kinds with counts of their starts
---     Stays old new      nothing changes
---     Becomes name o started old new      the object of the name becomes o, and clients of these kinds were started; all else stays
---     object_at m ref      the object that a REF names; so far no object has parts
---     type_named text ref      the type of a new object, if the word names one that is built; a part of an object is of none of these
---     property_named text of      the property, if the table of the type has it and it is built
---     Given, given_by p data      what a JSON text gives for a property: no JSON, a fault in reading order, or a value
---     TakeValue o p g why v      the object takes the value v, or refuses it for this reason
---     NewStep, TakeStep, GiveStep, LookupStep, Step      from the machine old the reply may be given, and it goes on as new
---     AllKept m      each object is honest, and while it has no round each of its values was given
-use Rattle.std.specs.Prelude.{ℕ, ◌≡◌, ◌≢◌, true, false, ◌+◌, ◌<◌, ◌≤◌, List, [], ◌∷◌, Option, Some, None, option_and_then, IfSome, if◌then◌else◌, codes}
+use Rattle.std.specs.Prelude.{ℕ, ◌≡◌, ◌≢◌, true, false, ◌++◌, ◌<◌, ◌≤◌, List, [], ◌∷◌, length, Option, Some, None, option_and_then, IfSome, if◌then◌else◌, codes}
 use Rattle.std.specs.Prelude.{Result, Ok, Err}
 use Rattle.std.specs.Str.{bytes_eq}
 use Rattle.serde_json.specs.Data.{Data}
@@ -20,9 +10,9 @@ use Rattle.pm_geom.specs.declared.ObjectType.TheVariants.{Polytope, Cone}
 use Rattle.pm_json.specs.Readings.{reading}
 use Rattle.pm_json.specs.declared.fail.ValueFail.{ValueFail}
 use Rattle.pm_json.specs.declared.fail.ValueFail.TheVariants as fault
-use Rattle.pm_machine.specs.Rounds.{Ensures, after_runs, found, no_chain}
+use Rattle.pm_machine.specs.Events.{Configuration, Ensured, configuration, found, no_chain}
 use Rattle.pm_object.specs.Honest.{IsKept}
-use Rattle.pm_object.specs.State.{CanTake, CannotTake, HeldValue, State, empty_object, is_held, is_sealed, value_of, with_held}
+use Rattle.pm_object.specs.State.{CanTake, CannotTake, HeldValue, State, empty_object, is_held, is_sealed, read_at, value_of, with_held}
 use Rattle.pm_object.specs.declared.held.Origin.TheVariants.{Given as Given'}
 use Rattle.pm_object.specs.declared.held.TakeFail.TheVariants as fail
 use Rattle.pm_rules.specs.declared.rule.Rule.{Rule}
@@ -36,56 +26,74 @@ use Rattle.pm_types.specs.Forms.{is_built}
 use Rattle.pm_types.specs.Names.{property_named_in}
 use Rattle.pm_types.specs.Sets.{only}
 use Rattle.pm_types.specs.Values.{PropertyValue}
-use Rattle.pm_types.specs.declared.kind.Kind.{Kind}
 use Rattle.pm_types.specs.declared.property.PropId.{PropId}
 
+-- what stands outside: the files, each with its name, where a store tells them, and how many faults it counted
+pub record Store : Type 0 where
+  pub files : Option (List (List ℕ × List ℕ))
+  pub faults : ℕ
+
+-- the names of the objects in the order in which they came, the object of each name, the clients as kinds with counts of their starts, and what stands outside
 pub record Machine : Type 0 where
+  pub names : List (List ℕ)
   pub object : List ℕ → Option State
-  pub count : ℕ
   pub clients : Clients
+  pub store : Store
 
 -- the greatest number of objects
 abbrev pub most_objects : ℕ
 most_objects = 32
 
+-- the objects of other names stay
 abbrev pub OthersStay : List ℕ → Machine → Machine → Type 0
 OthersStay name old new = (q : List ℕ) → q ≢ name → new.object q ≡ old.object q
 
+-- nothing changes
 pub record Stays (old new : Machine) : Type 0 where
+  pub names : new.names ≡ old.names
   pub objects : (q : List ℕ) → new.object q ≡ old.object q
-  pub count : new.count ≡ old.count
   pub clients : new.clients ≡ old.clients
+  pub store : new.store ≡ old.store
 
-pub record Becomes (name : List ℕ) (o : State) (started : List Kind) (old new : Machine) : Type 0 where
-  pub object : new.object name ≡ Some o
+-- the object of the name and the clients become those of the configuration; all else stays
+pub record Becomes (name : List ℕ) (c : Configuration) (old new : Machine) : Type 0 where
+  pub names : new.names ≡ old.names
+  pub object : new.object name ≡ Some c.object
   pub others : OthersStay name old new
-  pub count : new.count ≡ old.count
-  pub clients : new.clients ≡ after_runs started old.clients
+  pub clients : new.clients ≡ c.clients
+  pub store : new.store ≡ old.store
 
--- one object more, of a new name
+-- one object more, of a new name, which comes last; all else stays
 pub record Gains (name : List ℕ) (o : State) (old new : Machine) : Type 0 where
+  pub names : new.names ≡ old.names ++ name ∷ []
   pub object : new.object name ≡ Some o
   pub others : OthersStay name old new
-  pub count : new.count ≡ old.count + 1
   pub clients : new.clients ≡ old.clients
+  pub store : new.store ≡ old.store
 
+-- what a REF names: so far no object has parts
 abbrev pub whole_of : Option (List ℕ) → Option State → Option State
 whole_of None o = o
 whole_of (Some sub) o = None
 
+-- the object that a REF names
 abbrev pub object_at : Machine → RefSeen → Option State
 object_at m ref = whole_of ref.sub (m.object ref.name)
 
+-- the type that a word names, if it is built; a part of an object is of none of these
 abbrev pub type_word : Option (List ℕ) → List ℕ → Option ObjectType
 type_word None text = if bytes_eq text (codes "Polytope") then Some Polytope else if bytes_eq text (codes "Cone") then Some Cone else None
 type_word (Some sub) text = None
 
+-- the type of a new object
 abbrev pub type_named : RefSeen → List ℕ → Option ObjectType
 type_named ref text = type_word ref.sub text
 
+-- the property, if it is built
 abbrev pub built_one : PropId → Option PropId
 built_one p = if is_built p then Some p else None
 
+-- the property that a word names in the table of the type, if it is built
 abbrev pub property_named : ObjectType → List ℕ → Option PropId
 property_named of text = option_and_then built_one (property_named_in of text)
 
@@ -101,10 +109,11 @@ why_of fault.Memory = None
 abbrev pub NewStep : Machine → RefSeen → List ℕ → ReplySeen → Machine → Type 0
 NewStep old ref text (refused UnknownType) new = (type_named ref text ≡ None) × Stays old new
 NewStep old ref text (refused NameTaken) new = (type_named ref text ≢ None) × (old.object ref.name ≢ None) × Stays old new
-NewStep old ref text (refused ObjectsFull) new = (type_named ref text ≢ None) × (old.object ref.name ≡ None) × (most_objects ≤ old.count) × Stays old new
-NewStep old ref text done new = (of : ObjectType) × (type_named ref text ≡ Some of) × (old.object ref.name ≡ None) × (old.count < most_objects) × Gains ref.name (empty_object of) old new
+NewStep old ref text (refused ObjectsFull) new = (type_named ref text ≢ None) × (old.object ref.name ≡ None) × (most_objects ≤ length old.names) × Stays old new
+NewStep old ref text done new = (of : ObjectType) × (type_named ref text ≡ Some of) × (old.object ref.name ≡ None) × (length old.names < most_objects) × Gains ref.name (empty_object of) old new
 NewStep old ref text reply new = ⊥
 
+-- what a JSON text gives for a property: no JSON, a fault in reading order, or a value
 pub data Given : Type 0 where
   no_json : Given
   faulty : ValueFail → Given
@@ -120,17 +129,17 @@ given_by p (Some d) = given_of (reading p d)
 
 -- The object takes the value that the text gives, unless the first of these holds: it is held, the object is sealed, the text is no JSON, a fault of the value in reading order, its columns differ, a row fails its test or has no primitive row within the range.
 abbrev pub TakeValue : State → PropId → Given → Option Refusal → Option PropertyValue → Type 0
-TakeValue o p g (Some AlreadyHeld) v = is_held p o.held ≡ true
-TakeValue o p g (Some Sealed) v = (is_held p o.held ≡ false) × (is_sealed o ≡ true)
-TakeValue o p no_json (Some (BadValue value_why.Json)) v = (is_held p o.held ≡ false) × (is_sealed o ≡ false)
-TakeValue o p (faulty e) (Some (BadValue why)) v = (is_held p o.held ≡ false) × (is_sealed o ≡ false) × (why_of e ≡ Some why)
+TakeValue o p g (Some AlreadyHeld) v = is_held p (read_at None o.held) ≡ true
+TakeValue o p g (Some Sealed) v = (is_held p (read_at None o.held) ≡ false) × (is_sealed o ≡ true)
+TakeValue o p no_json (Some (BadValue value_why.Json)) v = (is_held p (read_at None o.held) ≡ false) × (is_sealed o ≡ false)
+TakeValue o p (faulty e) (Some (BadValue why)) v = (is_held p (read_at None o.held) ≡ false) × (is_sealed o ≡ false) × (why_of e ≡ Some why)
 TakeValue o p (value w) (Some (BadValue value_why.Columns)) v = CannotTake o p w fail.Columns
 TakeValue o p (value w) (Some (BadValue value_why.Row)) v = CannotTake o p w fail.NotAThing
 TakeValue o p (value w) None v = (v ≡ Some w) × CanTake o p w
 TakeValue o p g why v = ⊥
 
 abbrev pub given_value : PropId → PropertyValue → HeldValue
-given_value p v = record { property = p; value = v; origin = Given' }
+given_value p v = record { place = None; property = p; value = v; origin = Given' }
 
 -- what taking does to the object: it takes the value, or it stays and there is a reason
 abbrev pub Taken : State → PropId → Given → Option Refusal → State → Type 0
@@ -150,7 +159,7 @@ TakeStep old ref text json (refused AlreadyHeld) new = TakeRefuses old ref text 
 TakeStep old ref text json (refused Sealed) new = TakeRefuses old ref text json Sealed new
 TakeStep old ref text json (refused (BadValue why)) new = TakeRefuses old ref text json (BadValue why) new
 TakeStep old ref text json done new = (o : State) × (object_at old ref ≡ Some o) × (p : PropId) × (property_named o.of text ≡ Some p)
-    × (v : PropertyValue) × TakeValue o p (given_by p (read json)) None (Some v) × Becomes ref.name (with_held o (given_value p v ∷ [])) [] old new
+    × (v : PropertyValue) × TakeValue o p (given_by p (read json)) None (Some v) × Becomes ref.name (configuration (with_held o (given_value p v ∷ [])) old.clients) old new
 TakeStep old ref text json reply new = ⊥
 
 -- `give REF PROP`
@@ -158,20 +167,21 @@ abbrev pub GiveStep : List Rule → Machine → RefSeen → List ℕ → ReplySe
 GiveStep book old ref text (refused UnknownName) new = (object_at old ref ≡ None) × Stays old new
 GiveStep book old ref text (refused UnknownProperty) new = (o : State) × (object_at old ref ≡ Some o) × (property_named o.of text ≡ None) × Stays old new
 GiveStep book old ref text (refused NoChain) new = (o : State) × (object_at old ref ≡ Some o) × (p : PropId) × (property_named o.of text ≡ Some p)
-    × (o' : State) × (started : List Kind) × Ensures book old.clients (only p) no_chain o o' started × Becomes ref.name o' started old new
+    × (c : Configuration) × Ensured book None (only p) no_chain (configuration o old.clients) c × Becomes ref.name c old new
 GiveStep book old ref text (shows name of p v) new = (o : State) × (object_at old ref ≡ Some o) × (property_named o.of text ≡ Some p) × (name ≡ ref.name) × (of ≡ o.of)
-    × (o' : State) × (started : List Kind) × Ensures book old.clients (only p) found o o' started × Becomes ref.name o' started old new × (value_of p o'.held ≡ Some v)
+    × (c : Configuration) × Ensured book None (only p) found (configuration o old.clients) c × Becomes ref.name c old new × (value_of p (read_at None c.object.held) ≡ Some v)
 GiveStep book old ref text reply new = ⊥
 
 -- `lookup REF PROP`
 abbrev pub LookupStep : Machine → RefSeen → List ℕ → ReplySeen → Machine → Type 0
 LookupStep old ref text (refused UnknownName) new = (object_at old ref ≡ None) × Stays old new
 LookupStep old ref text (refused UnknownProperty) new = (o : State) × (object_at old ref ≡ Some o) × (property_named o.of text ≡ None) × Stays old new
-LookupStep old ref text undef new = (o : State) × (object_at old ref ≡ Some o) × (p : PropId) × (property_named o.of text ≡ Some p) × (value_of p o.held ≡ None) × Stays old new
+LookupStep old ref text undef new = (o : State) × (object_at old ref ≡ Some o) × (p : PropId) × (property_named o.of text ≡ Some p) × (value_of p (read_at None o.held) ≡ None) × Stays old new
 LookupStep old ref text (shows name of p v) new = (o : State) × (object_at old ref ≡ Some o) × (property_named o.of text ≡ Some p) × (name ≡ ref.name) × (of ≡ o.of)
-    × (value_of p o.held ≡ Some v) × Stays old new
+    × (value_of p (read_at None o.held) ≡ Some v) × Stays old new
 LookupStep old ref text reply new = ⊥
 
+-- from the machine old the reply to the command may be given, and it goes on as new
 abbrev pub Step : List Rule → Machine → Spoken → ReplySeen → Machine → Type 0
 Step book old blank reply new = ⊥
 Step book old (new_object ref text) reply new = NewStep old ref text reply new
@@ -179,5 +189,6 @@ Step book old (take_value ref text json) reply new = TakeStep old ref text json 
 Step book old (give_value ref text) reply new = GiveStep book old ref text reply new
 Step book old (look_up ref text) reply new = LookupStep old ref text reply new
 
+-- each object is honest, and while it has no round each of its values was given
 pub record AllKept (m : Machine) : Type 0 where
   pub each : (q : List ℕ) → IfSome (m.object q) IsKept

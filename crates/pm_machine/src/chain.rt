@@ -1,15 +1,17 @@
 // Rules on an object: which are barred, and which chain is least.
 
 ghost use Rattle.pm_client.specs.Starts.{has_client};
-ghost use Rattle.pm_machine.specs.Chains.{AreBarred, HasNoChainByOne, IsLeastByOne, Serves, is_barred_on, is_truth, is_wrong, some_wrong, table};
+ghost use Rattle.pm_machine.specs.Chains.{AreBarred, HasNoChainByOne, IsLeastByOne, Serves, is_barred_on, is_excluded, is_truth, is_wrong, place_of_rule, some_wrong, table};
 ghost use Rattle.pm_machine.specs.Best.{BestBefore, better, cost_of};
-ghost use Rattle.pm_object.specs.State.{is_disabled, value_of};
+ghost use Rattle.pm_object.specs.State.{is_disabled, read_at, value_of};
 ghost use Rattle.pm_rules.specs.Books.{most_rules};
-ghost use Rattle.pm_types.specs.Properties.{has as has_in};
-ghost use Rattle.pm_types.specs.Sets.{set_of};
+ghost use Rattle.pm_types.specs.Kinds.{is_in_use, names_of};
+ghost use Rattle.pm_types.specs.Properties.{has_program};
+ghost use Rattle.pm_types.specs.Runs.{same_place};
+ghost use Rattle.pm_types.specs.Sets.{has, set_of};
 ghost use Rattle.pm_types.specs.declared.property.PropId.{PropId};
 ghost use Rattle.std.specs.List.{list_any};
-ghost use Rattle.std.specs.Prelude.{IfNone, IfOk, IfSome, IsTrue, [], filter, length, map, nat_eq, ◌||◌, ◌≡◌, ◌≤◌, ◌↔◌, ◌∷◌};
+ghost use Rattle.std.specs.Prelude.{IfNone, IfOk, IfSome, IsTrue, [], filter, length, map, nat_eq, ◌&&◌, ◌||◌, ◌≡◌, ◌≤◌, ◌↔◌, ◌∷◌};
 
 use pm_client::{Client, place_of};
 use pm_geom::ObjectType;
@@ -18,31 +20,31 @@ use pm_rules::Rule;
 use pm_types::{Cost, PropId, PropSet, RuleId, Value};
 use std::alloc::{AllocError, Global};
 
-/// The names in use for an object of a type.
-pub fn table(of: ObjectType) -> PropSet
-    ensures { result ≡ table of }
+/// The names in use for an object of a type, of which this program is asked if one is.
+pub fn table(sub: Option<u8>, of: ObjectType) -> PropSet
+    ensures { result ≡ table sub of }
 {
-    names_in(of, &PropId::every())
+    names_in(sub, of, &PropId::every())
 }
 
-// Those of the properties that the table of the type has.
-fn names_in(of: ObjectType, properties: &[PropId]) -> PropSet
-    ensures { result ≡ set_of (filter (has_in of) properties.now) }
+// Those of the properties that are in use.
+fn names_in(sub: Option<u8>, of: ObjectType, properties: &[PropId]) -> PropSet
+    ensures { result ≡ set_of (filter (is_in_use sub of) properties.now) }
 {
     let mut names = PropSet::empty();
     for p in properties {
-        if p.is_in(of) {
+        if p.is_in_use(sub, of) {
             names = names.with(*p);
         }
     }
     names
 }
 
-// Whether the property is held with this truth value.
-fn is_held_as(object: &Object, p: PropId, b: bool) -> bool
-    ensures { result ≡ is_truth b (value_of p object.now.held) }
+// Whether the property is held there with this truth value.
+fn is_held_as(object: &Object, sub: Option<u8>, p: PropId, b: bool) -> bool
+    ensures { result ≡ is_truth b (value_of p (read_at sub object.now.state.held)) }
 {
-    match object.lookup(p) {
+    match object.lookup(sub, p) {
         Some(Value::Bool(c)) => *c == b,
         Some(Value::Mat(_)) => false,
         Some(Value::Sets(_)) => false,
@@ -51,58 +53,109 @@ fn is_held_as(object: &Object, p: PropId, b: bool) -> bool
     }
 }
 
-// Whether a precondition of the rule is held with the wrong value.
-fn is_wrong(rule: &Rule, object: &Object, p: PropId) -> bool
-    ensures { result ≡ is_wrong rule.now object.now.held p }
+// Whether a precondition of the rule is held there with the wrong value.
+fn is_wrong(rule: &Rule, object: &Object, sub: Option<u8>, p: PropId) -> bool
+    ensures { result ≡ is_wrong rule.now (read_at sub object.now.state.held) p }
 {
-    (rule.must.contains(p) & is_held_as(object, p, false))
-        | (rule.must_not.contains(p) & is_held_as(object, p, true))
+    (rule.must.contains(p) & is_held_as(object, sub, p, false))
+        | (rule.must_not.contains(p) & is_held_as(object, sub, p, true))
 }
 
-// Whether one of these preconditions is held with the wrong value.
-fn some_is_wrong(rule: &Rule, object: &Object, properties: &[PropId]) -> bool
-    ensures { result ≡ list_any (is_wrong rule.now object.now.held) properties.now }
+// Whether one of these preconditions is held there with the wrong value.
+fn some_is_wrong(rule: &Rule, object: &Object, sub: Option<u8>, properties: &[PropId]) -> bool
+    ensures { result ≡ list_any
+        (is_wrong rule.now (read_at sub object.now.state.held)) properties.now }
 {
-    properties.iter().any(|p| is_wrong(rule, object, *p))
+    properties.iter().any(|p| is_wrong(rule, object, sub, *p))
 }
 
-// Whether the rule of this number was excluded.
-fn is_excluded(excluded: &[Excluded], id: RuleId) -> bool
-    ensures { result ≡ list_any (λ e. nat_eq e.rule.0 id.0) excluded.now }
+// Whether one of these properties is a name of the rule's kind, and of programs.
+fn names_program(rule: &Rule, properties: &[PropId]) -> bool
+    ensures { result ≡ list_any (λ p.
+        has (names_of rule.now.kind) p && has_program p) properties.now }
 {
-    excluded.iter().any(|e| e.rule.0 == id.0)
+    let names = rule.kind.names();
+    properties
+        .iter()
+        .any(|p| names.contains(*p) & p.is_of_programs())
 }
 
-// Whether the object bars the rule of this number, whatever the clients.
-fn is_barred_by(object: &Object, id: RuleId, rule: &Rule) -> bool
-    ensures { result ≡ (list_any (λ e. nat_eq e.rule.0 id.0) object.now.excluded || some_wrong rule.now object.now.held || is_disabled rule.now.label object.now.disabled) }
+/// Where an exclusion of the rule stands.
+pub fn place_of_rule(sub: Option<u8>, rule: &Rule) -> Option<u8>
+    ensures { result ≡ place_of_rule sub rule.now }
 {
-    is_excluded(object.excluded(), id)
-        | some_is_wrong(rule, object, &PropId::every())
+    if names_program(rule, &PropId::every()) {
+        sub
+    } else {
+        None
+    }
+}
+
+// Whether two places are the same.
+fn are_same(a: Option<u8>, b: Option<u8>) -> bool
+    ensures { result ≡ same_place a b }
+{
+    match (a, b) {
+        (None, None) => true,
+        (Some(i), Some(j)) => i == j,
+        _ => false,
+    }
+}
+
+// Whether the exclusion is of the rule of this number, at this place.
+fn excludes(e: &Excluded, id: RuleId, place: Option<u8>) -> bool
+    ensures { result ≡ (nat_eq e.now.rule.0 id.0 && same_place e.now.sub place) }
+{
+    (e.rule.0 == id.0) & are_same(e.sub, place)
+}
+
+// Whether the rule of this number was excluded at this place.
+fn is_excluded(excluded: &[Excluded], id: RuleId, place: Option<u8>) -> bool
+    ensures { result ≡ list_any (λ e. nat_eq e.rule.0 id.0 && same_place e.sub place) excluded.now }
+{
+    excluded.iter().any(|e| excludes(e, id, place))
+}
+
+// Whether the object bars the rule of this number there, whatever the clients.
+fn is_barred_by(object: &Object, sub: Option<u8>, id: RuleId, rule: &Rule) -> bool
+    ensures { result ≡ (is_excluded object.now.state sub id rule.now
+        || some_wrong rule.now (read_at sub object.now.state.held)
+        || is_disabled rule.now.label object.now.state.disabled) }
+{
+    is_excluded(object.excluded(), id, place_of_rule(sub, rule))
+        | some_is_wrong(rule, object, sub, &PropId::every())
         | object.is_disabled(rule.label.as_str())
 }
 
-// Whether the rule of this number is barred on the object.
-fn is_barred_on(clients: &[Box<dyn Client>], object: &Object, id: RuleId, rule: &Rule) -> bool
-    ensures { result ≡ is_barred_on (map (λ b. (kind_of b, starts_of b)) clients.now) object.now id rule.now }
+// Whether the rule of this number is barred there.
+fn is_barred_on(
+    clients: &[Box<dyn Client>],
+    object: &Object,
+    sub: Option<u8>,
+    id: RuleId,
+    rule: &Rule,
+) -> bool
+    ensures { result ≡ is_barred_on (map tally clients.now) object.now.state sub id rule.now }
 {
-    is_barred_by(object, id, rule) | place_of(clients, rule.kind).is_none()
+    is_barred_by(object, sub, id, rule) | place_of(clients, rule.kind).is_none()
 }
 
-/// The rules of the book that are barred on the object.
+/// The rules of the book that are barred on the object, for who asks this program, if one is asked.
 pub fn barred_rules(
     alloc: Global,
     rules: &[Rule],
     clients: &[Box<dyn Client>],
     object: &Object,
+    sub: Option<u8>,
 ) -> Result<Vec<RuleId>, AllocError>
     requires { length rules.now ≤ most_rules }
-    ensures { IfOk result (λ v. AreBarred rules.now (map (λ b. (kind_of b, starts_of b)) clients.now) object.now v.items) }
+    ensures { IfOk result (λ v. AreBarred rules.now
+        (map tally clients.now) object.now.state sub v.items) }
 {
     let mut barred = Vec::new(alloc);
     for (i, rule) in rules.iter().enumerate() {
         let id = RuleId(i as u16);
-        if is_barred_on(clients, object, id, rule) {
+        if is_barred_on(clients, object, sub, id, rule) {
             barred.push(id)?;
         }
     }
@@ -148,7 +201,8 @@ fn better(best: Option<Best>, new: Best) -> Best
 impl<'a> Search<'a> {
     // Whether the rule alone leads from the held names to the asked ones.
     fn is_served(&self, id: RuleId, rule: &Rule) -> bool
-        ensures { IsTrue result ↔ Serves self.now.names self.now.barred.now self.now.held self.now.asked id rule.now }
+        ensures { IsTrue result ↔ Serves self.now.names self.now.barred.now
+            self.now.held self.now.asked id rule.now }
     {
         rule.is_enabled(self.names, self.barred, self.held, id)
             & self.asked.is_subset(self.held.union(rule.kind.targets))
@@ -157,7 +211,8 @@ impl<'a> Search<'a> {
     // The best of the rules.
     fn best(&self, rules: &[Rule]) -> Option<Best>
         requires { length rules.now ≤ most_rules }
-        ensures { BestBefore rules.now self.now.names self.now.barred.now self.now.held self.now.asked (length rules.now) result }
+        ensures { BestBefore rules.now self.now.names self.now.barred.now
+            self.now.held self.now.asked (length rules.now) result }
     {
         let mut best = None;
         for (i, rule) in rules.iter().enumerate() {
@@ -173,8 +228,10 @@ impl<'a> Search<'a> {
     /// The rule of least weight that alone leads from the held names to the asked ones; None exactly where none does.
     pub fn best_rule(&self, rules: &[Rule]) -> Option<RuleId>
         requires { length rules.now ≤ most_rules }
-        ensures some { IfSome result (λ id. IsLeastByOne rules.now self.now.names self.now.barred.now self.now.held self.now.asked (id ∷ [])) }
-        ensures none { IfNone result (HasNoChainByOne rules.now self.now.names self.now.barred.now self.now.held self.now.asked) }
+        ensures some { IfSome result (λ id. IsLeastByOne rules.now self.now.names
+            self.now.barred.now self.now.held self.now.asked (id ∷ [])) }
+        ensures none { IfNone result (HasNoChainByOne rules.now self.now.names
+            self.now.barred.now self.now.held self.now.asked) }
     {
         match self.best(rules) {
             Some(best) => Some(best.id),

@@ -1,8 +1,19 @@
-// The law of honesty.
+// The laws of honesty.
 
-ghost use Rattle.pm_machine.specs.Laws.{StepsKeep};
+ghost use Rattle.pm_machine.specs.Events.{EventsKeep};
+ghost use Rattle.pm_machine.specs.Laws.{StepsInPartKeep, StepsKeep};
+
+/// Each event leaves an object honest, and kept where no round is under way: for chains of any length, whatever the clients answer.
+pub fn law_events_keep()
+    ensures { EventsKeep }
+{}
 
 /// Whatever a step answers, each object stays honest.
 pub fn law_steps_keep()
     ensures { StepsKeep }
+{}
+
+/// Whatever part of a step happened, each object is honest.
+pub fn law_steps_in_part_keep()
+    ensures { StepsInPartKeep }
 {}

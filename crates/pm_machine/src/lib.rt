@@ -8,5 +8,5 @@ mod round;
 mod session;
 mod taking;
 
-pub use laws::law_steps_keep;
+pub use laws::{law_events_keep, law_steps_in_part_keep, law_steps_keep};
 pub use session::Session;

@@ -2,10 +2,9 @@
 
 ghost use Rattle.pm_client.specs.Sound.{FailsRightly, IsSound};
 ghost use Rattle.pm_client.specs.Starts.{after_start, has_client};
-ghost use Rattle.pm_machine.specs.Best.{cost_of};
-ghost use Rattle.pm_machine.specs.Chains.{AreBarred, IsLeastByOne};
-ghost use Rattle.pm_machine.specs.Rounds.{AllHeld};
-ghost use Rattle.pm_machine.specs.Running.{EnsuresWith, KeepsKept, NextRound, RoundOf, RunsRule};
+ghost use Rattle.pm_machine.specs.Chains.{AllHeld};
+ghost use Rattle.pm_machine.specs.Events.{Ensured, EnsuredInPart, ReachesInPart, at_rest, configuration};
+ghost use Rattle.pm_machine.specs.Running.{BrokenOff, NextRound, RoundOf, RunsRule, ending_of};
 ghost use Rattle.pm_object.specs.Honest.{facts};
 ghost use Rattle.pm_object.specs.Reading.{view_for};
 ghost use Rattle.pm_object.specs.State.{cols_of, is_held};
@@ -16,7 +15,7 @@ ghost use Rattle.pm_types.specs.declared.property.PropId.TheVariants.{ConeAmbien
 ghost use Rattle.std.specs.Option.{is_some, unwrap_or};
 ghost use Rattle.std.specs.Prelude.{IfErr, IfOk, IsTrue, None, OnErr, OnOk, [], map, ◌≡◌};
 
-use crate::chain::{Search, barred_rules, cost_of, table};
+use crate::chain::{Search, barred_rules, cost_of, place_of_rule, table};
 use crate::commit::commit;
 use pm_client::{Client, ClientFail, run_first};
 use pm_object::{Draft, Excluded, Object, Round, RoundEnd, Why};
@@ -28,41 +27,53 @@ use std::alloc::{AllocError, Global};
 fn run_client(
     alloc: Global,
     object: &Object,
+    sub: Option<u8>,
     kind: Kind,
     clients: &mut Vec<Box<dyn Client>>,
     draft: &mut Draft,
 ) -> Result<(), ClientFail>
-    requires there { IsTrue (has_client kind (map (λ b. (kind_of b, starts_of b)) clients.old.items)) }
-    requires known { IsTrue (is_some (cols_of object.now.held)) }
-    requires in_use { IsKindOf object.now.of kind }
-    requires may { MayRun kind None (unwrap_or (cols_of object.now.held) 1) (facts object.now.held) }
+    requires there { IsTrue (has_client kind (map tally clients.old.items)) }
+    requires known { IsTrue (is_some (cols_of object.now.state.held)) }
+    requires in_use { IsKindOf sub object.now.state.of kind }
+    requires may { MayRun kind sub (unwrap_or (cols_of object.now.state.held) 1)
+        (facts object.now.state.held) }
     requires empty { draft.old ≡ record { kind = kind; values = [] } }
-    ensures started { map (λ b. (kind_of b, starts_of b)) clients.new.items ≡ after_start kind (map (λ b. (kind_of b, starts_of b)) clients.old.items) }
-    ensures sound { OnOk result (IsSound (view_for object.now kind (unwrap_or (cols_of object.now.held) 1)) draft.new) }
-    ensures failed { IfErr result (λ e. FailsRightly (view_for object.now kind (unwrap_or (cols_of object.now.held) 1)) e) }
+    ensures started { map tally clients.new.items ≡ after_start kind (map tally clients.old.items) }
+    ensures sound { OnOk result (IsSound
+        (view_for object.now.state sub kind
+            (unwrap_or (cols_of object.now.state.held) 1)) draft.new) }
+    ensures failed { IfErr result (FailsRightly
+        (view_for object.now.state sub kind (unwrap_or (cols_of object.now.state.held) 1))) }
 {
-    let view = object.view(&kind);
+    let view = object.view(sub, &kind);
     run_first(alloc, clients, &view, draft)
 }
 
-// Commits what the client of a kind answered, or excludes the rule with its evidence.
+// Commits what the client of a rule answered, or excludes the rule with its evidence; nothing changes where memory is wanting.
 fn end_run(
     alloc: Global,
     object: &mut Object,
     id: RuleId,
-    kind: Kind,
+    rule: &Rule,
     draft: &mut Draft,
     ran: Result<(), ClientFail>,
 ) -> Result<RoundEnd, AllocError>
-    requires known { IsTrue (is_some (cols_of object.old.held)) }
-    requires may { MayRun kind None (unwrap_or (cols_of object.old.held) 1) (facts object.old.held) }
-    requires sound { OnOk ran (IsSound (view_for object.old kind (unwrap_or (cols_of object.old.held) 1)) draft.old) }
-    requires failed { IfErr ran (λ e. FailsRightly (view_for object.old kind (unwrap_or (cols_of object.old.held) 1)) e) }
-    ensures { IfOk result (λ end. RunsRule id kind object.old end object.new) }
+    requires known { IsTrue (is_some (cols_of object.old.state.held)) }
+    requires may { MayRun rule.now.kind None (unwrap_or (cols_of object.old.state.held) 1)
+        (facts object.old.state.held) }
+    requires sound { OnOk ran (IsSound
+        (view_for object.old.state None rule.now.kind
+            (unwrap_or (cols_of object.old.state.held) 1)) draft.old) }
+    requires failed { IfErr ran (FailsRightly
+        (view_for object.old.state None rule.now.kind
+            (unwrap_or (cols_of object.old.state.held) 1))) }
+    ensures ok { IfOk result (λ end. RunsRule None id rule.now object.old.state end
+        object.new.state) }
+    ensures err { OnErr result (object.new.state ≡ object.old.state) }
 {
     match ran {
         Ok(()) => {
-            commit(alloc, object, draft)?;
+            commit(alloc, object, None, draft)?;
             Ok(RoundEnd::Done)
         }
         Err(ClientFail::Memory) => Err(AllocError),
@@ -70,7 +81,7 @@ fn end_run(
             let number = evidence.number();
             let excluded = Excluded {
                 rule: id,
-                sub: None,
+                sub: place_of_rule(None, rule),
                 why: Why::Failed(evidence),
             };
             object.exclude(excluded)?;
@@ -79,27 +90,31 @@ fn end_run(
     }
 }
 
-// Runs the client of a kind, and commits what it answers, or excludes the rule with its evidence.
+// Runs the client of a rule, and commits what it answers, or excludes the rule with its evidence.
 fn run_rule(
     alloc: Global,
     object: &mut Object,
     id: RuleId,
-    kind: Kind,
+    rule: &Rule,
     clients: &mut Vec<Box<dyn Client>>,
 ) -> Result<RoundEnd, AllocError>
-    requires there { IsTrue (has_client kind (map (λ b. (kind_of b, starts_of b)) clients.old.items)) }
-    requires known { IsTrue (is_some (cols_of object.old.held)) }
-    requires in_use { IsKindOf object.old.of kind }
-    requires may { MayRun kind None (unwrap_or (cols_of object.old.held) 1) (facts object.old.held) }
-    ensures started { map (λ b. (kind_of b, starts_of b)) clients.new.items ≡ after_start kind (map (λ b. (kind_of b, starts_of b)) clients.old.items) }
-    ensures ok { IfOk result (λ end. RunsRule id kind object.old end object.new) }
+    requires there { IsTrue (has_client rule.now.kind (map tally clients.old.items)) }
+    requires known { IsTrue (is_some (cols_of object.old.state.held)) }
+    requires in_use { IsKindOf None object.old.state.of rule.now.kind }
+    requires may { MayRun rule.now.kind None (unwrap_or (cols_of object.old.state.held) 1)
+        (facts object.old.state.held) }
+    ensures started { map tally clients.new.items ≡ after_start rule.now.kind
+        (map tally clients.old.items) }
+    ensures ok { IfOk result (λ end. RunsRule None id rule.now object.old.state end
+        object.new.state) }
+    ensures err { OnErr result (object.new.state ≡ object.old.state) }
 {
-    let mut draft = Draft::new(alloc, &kind);
-    let ran = run_client(alloc, object, kind, clients, &mut draft);
-    end_run(alloc, object, id, kind, &mut draft, ran)
+    let mut draft = Draft::new(alloc, &rule.kind);
+    let ran = run_client(alloc, object, None, rule.kind, clients, &mut draft);
+    end_run(alloc, object, id, rule, &mut draft, ran)
 }
 
-/// Starts a round of one rule: on a copy of the object, which then takes its place.
+// A round of one rule, and its writing down.
 fn start_round(
     alloc: Global,
     object: &mut Object,
@@ -107,17 +122,18 @@ fn start_round(
     rule: &Rule,
     clients: &mut Vec<Box<dyn Client>>,
 ) -> Result<(), AllocError>
-    requires there { IsTrue (has_client rule.now.kind (map (λ b. (kind_of b, starts_of b)) clients.old.items)) }
-    requires known { IsTrue (is_some (cols_of object.old.held)) }
-    requires dimension { IsTrue (is_held ConeAmbientDim object.old.held) }
-    requires in_use { IsKindOf object.old.of rule.now.kind }
-    requires may { MayRun rule.now.kind None (unwrap_or (cols_of object.old.held) 1) (facts object.old.held) }
-    ensures started { OnOk result (map (λ b. (kind_of b, starts_of b)) clients.new.items ≡ after_start rule.now.kind (map (λ b. (kind_of b, starts_of b)) clients.old.items)) }
-    ensures ok { OnOk result (RoundOf id rule.now object.old object.new) }
-    ensures err { OnErr result (object.new ≡ object.old) }
+    requires there { IsTrue (has_client rule.now.kind (map tally clients.old.items)) }
+    requires known { IsTrue (is_some (cols_of object.old.state.held)) }
+    requires dimension { IsTrue (is_held ConeAmbientDim object.old.state.held) }
+    requires in_use { IsKindOf None object.old.state.of rule.now.kind }
+    requires may { MayRun rule.now.kind None (unwrap_or (cols_of object.old.state.held) 1)
+        (facts object.old.state.held) }
+    ensures started { map tally clients.new.items ≡ after_start rule.now.kind
+        (map tally clients.old.items) }
+    ensures ok { OnOk result (RoundOf None id rule.now object.old.state object.new.state) }
+    ensures err { OnErr result (BrokenOff None id rule.now object.old.state object.new.state) }
 {
-    let mut next = object.copy(alloc)?;
-    let end = run_rule(alloc, &mut next, id, rule.kind, clients)?;
+    let end = run_rule(alloc, object, id, rule, clients)?;
     let mut chain = Vec::new(alloc);
     chain.push(id)?;
     let round = Round {
@@ -126,8 +142,7 @@ fn start_round(
         chain,
         end,
     };
-    next.add_round(round)?;
-    *object = next;
+    object.add_round(round)?;
     Ok(())
 }
 
@@ -140,15 +155,19 @@ fn next_round(
     clients: &mut Vec<Box<dyn Client>>,
 ) -> Result<bool, AllocError>
     requires book { IsBook rules.now }
-    requires dimension { IsTrue (is_held ConeAmbientDim object.old.held) }
-    requires missing { AllHeld asked object.old → ⊥ }
-    ensures ok { IfOk result (λ started. NextRound rules.now (map (λ b. (kind_of b, starts_of b)) clients.old.items) asked started object.old object.new (map (λ b. (kind_of b, starts_of b)) clients.new.items)) }
-    ensures err { OnErr result (object.new ≡ object.old) }
+    requires dimension { IsTrue (is_held ConeAmbientDim object.old.state.held) }
+    requires missing { AllHeld None asked object.old.state → ⊥ }
+    ensures ok { IfOk result (λ started. NextRound rules.now (map tally clients.old.items) None
+        asked
+        started object.old.state object.new.state (map tally clients.new.items)) }
+    ensures err { OnErr result (ReachesInPart rules.now None asked at_rest
+        (configuration object.old.state (map tally clients.old.items))
+        (configuration object.new.state (map tally clients.new.items))) }
 {
-    let barred = barred_rules(alloc, rules, clients, object)?;
-    let held = object.names();
+    let barred = barred_rules(alloc, rules, clients, object, None)?;
+    let held = object.names(None);
     let search = Search {
-        names: table(object.of()),
+        names: table(None, object.of()),
         barred: &barred,
         held,
         asked: asked.difference(held),
@@ -169,12 +188,16 @@ pub fn ensure(
     asked: PropSet,
     clients: &mut Vec<Box<dyn Client>>,
 ) -> Result<bool, AllocError>
-    ensures ok { IfOk result (λ found. EnsuresWith book.now (map (λ b. (kind_of b, starts_of b)) clients.old.items) asked found object.old object.new (map (λ b. (kind_of b, starts_of b)) clients.new.items)) }
-    ensures err { OnErr result (KeepsKept object.old object.new) }
+    ensures ok { IfOk result (λ found. Ensured book.now None asked (ending_of found)
+        (configuration object.old.state (map tally clients.old.items))
+        (configuration object.new.state (map tally clients.new.items))) }
+    ensures err { OnErr result (EnsuredInPart book.now None asked
+        (configuration object.old.state (map tally clients.old.items))
+        (configuration object.new.state (map tally clients.new.items))) }
 {
     object.settle(alloc)?;
     let rules = book.rules();
-    while !asked.is_subset(object.names()) {
+    while !asked.is_subset(object.names(None)) {
         if !next_round(alloc, object, rules, asked, clients)? {
             return Ok(false);
         }

@@ -1,15 +1,16 @@
 // A session: named objects, the book, and its steps.
 
-ghost use Rattle.pm_client.specs.Starts.{Clients};
-ghost use Rattle.pm_machine.specs.Running.{KeepsKept};
+ghost use Rattle.pm_machine.specs.Events.{EnsuredInPart, configuration};
+ghost use Rattle.pm_machine.specs.Parts.{AllHonest, StepInPart};
 ghost use Rattle.pm_machine.specs.Sessions.{Gives, book_of, is_spent, machine_of};
-ghost use Rattle.pm_machine.specs.Steps.{AllKept, GiveStep, LookupStep, NewStep, OthersStay, Stays, Step, TakeStep, object_at, type_word};
-ghost use Rattle.pm_object.specs.State.{State, empty_object};
-ghost use Rattle.pm_script.specs.Commands.{RefSeen, blank, seen_ref, spoken};
+ghost use Rattle.pm_machine.specs.Steps.{AllKept, Gains, GiveStep, LookupStep, NewStep, Stays, Step, TakeStep, object_at, type_word};
+ghost use Rattle.pm_object.specs.State.{empty_object};
+ghost use Rattle.pm_script.specs.Commands.{blank, give_value, seen_ref, spoken};
 ghost use Rattle.pm_script.specs.Replies.{seen, shows};
+ghost use Rattle.pm_types.specs.Sets.{only};
 ghost use Rattle.pm_types.specs.Views.{view_of};
 ghost use Rattle.std.specs.Option.{is_some, option_map};
-ghost use Rattle.std.specs.Prelude.{IfOk, List, None, OnErr, OnOk, Option, Some, [], false, map, string_bytes, true, ℕ, ◌+◌, ◌≡◌, ◌≢◌};
+ghost use Rattle.std.specs.Prelude.{IfOk, List, None, OnErr, OnOk, Option, Some, [], false, map, string_bytes, true, ℕ, ◌⊎◌, ◌+◌, ◌≡◌, ◌≢◌};
 
 use crate::round::ensure;
 use crate::taking::{property_named, take_text};
@@ -74,8 +75,12 @@ fn give_value(
     name: &str,
     clients: &mut Vec<Box<dyn Client>>,
 ) -> Result<Reply, AllocError>
-    ensures gives { IfOk result (λ r. Gives book.now (map (λ b. (kind_of b, starts_of b)) clients.old.items) (map (λ b. (kind_of b, starts_of b)) clients.new.items) name.now p object.old object.new (seen r)) }
-    ensures err { OnErr result (KeepsKept object.old object.new) }
+    ensures gives { IfOk result (λ r. Gives book.now
+        (configuration object.old.state (map tally clients.old.items))
+        (configuration object.new.state (map tally clients.new.items)) name.now p (seen r)) }
+    ensures err { OnErr result (EnsuredInPart book.now None (only p)
+        (configuration object.old.state (map tally clients.old.items))
+        (configuration object.new.state (map tally clients.new.items))) }
 {
     let of = object.of();
     if !ensure(alloc, object, book, PropSet::of(p), clients)? {
@@ -83,7 +88,7 @@ fn give_value(
             why: Refusal::NoChain,
         });
     }
-    let Some(v) = object.lookup(p) else {
+    let Some(v) = object.lookup(None, p) else {
         unreachable!()
     };
     show(alloc, name, of, p, v)
@@ -94,7 +99,7 @@ impl Session {
     pub fn new(alloc: Global, book: Book) -> Session
         ensures book { book_of result ≡ book }
         ensures none { (q : List ℕ) → (machine_of result []).object q ≡ None }
-        ensures count { (machine_of result []).count ≡ 0 }
+        ensures names { (machine_of result []).names ≡ [] }
         ensures ready { is_spent result ≡ false }
     {
         Session {
@@ -106,14 +111,15 @@ impl Session {
 
     /// The object of a name.
     pub fn object(&self, name: &str) -> Option<&Object>
-        ensures { option_map (λ o. o.now) result ≡ (machine_of self.now []).object name.now }
+        ensures { option_map (λ o. o.now.state) result ≡ (machine_of self.now []).object name.now }
     {
         self.objects.get(name)
     }
 
     // The object that a REF names; so far no object has parts.
     fn find(&self, obj: &Ref) -> Option<&Object>
-        ensures { option_map (λ o. o.now) result ≡ object_at (machine_of self.now []) (seen_ref obj.now) }
+        ensures { option_map (λ o. o.now.state) result
+            ≡ object_at (machine_of self.now []) (seen_ref obj.now) }
     {
         match &obj.sub {
             Some(_) => None,
@@ -129,7 +135,9 @@ impl Session {
         prop: &str,
         clients: &[Box<dyn Client>],
     ) -> Result<Reply, AllocError>
-        ensures { IfOk result (λ r. LookupStep (machine_of self.now (map (λ b. (kind_of b, starts_of b)) clients.now)) (seen_ref obj.now) prop.now (seen r) (machine_of self.now (map (λ b. (kind_of b, starts_of b)) clients.now))) }
+        ensures { IfOk result (λ r. LookupStep
+            (machine_of self.now (map tally clients.now)) (seen_ref obj.now) prop.now (seen r)
+            (machine_of self.now (map tally clients.now))) }
     {
         let Some(object) = self.find(obj) else {
             return Ok(Reply::Refused {
@@ -141,7 +149,7 @@ impl Session {
                 why: Refusal::UnknownProperty,
             });
         };
-        match object.lookup(p) {
+        match object.lookup(None, p) {
             Some(v) => show(alloc, obj.name.as_str(), object.of(), p, v),
             None => Ok(Reply::Undef),
         }
@@ -150,10 +158,9 @@ impl Session {
     // Adds an empty object of a new name.
     fn add(&mut self, alloc: Global, name: String, of: ObjectType) -> Result<(), AllocError>
         requires { (machine_of self.old []).object (string_bytes name) ≡ None }
-        ensures object { OnOk result ((machine_of self.new []).object (string_bytes name) ≡ Some (empty_object of)) }
-        ensures others { OnOk result (OthersStay (string_bytes name) (machine_of self.old []) (machine_of self.new [])) }
-        ensures count { OnOk result ((machine_of self.new []).count ≡ (machine_of self.old []).count + 1) }
-        ensures err { OnErr result ((q : List ℕ) → (machine_of self.new []).object q ≡ (machine_of self.old []).object q) }
+        ensures gains { OnOk result (Gains (string_bytes name) (empty_object of)
+            (machine_of self.old []) (machine_of self.new [])) }
+        ensures err { OnErr result (Stays (machine_of self.old []) (machine_of self.new [])) }
         ensures book { book_of self.new ≡ book_of self.old }
         ensures spent { is_spent self.new ≡ is_spent self.old }
     {
@@ -170,8 +177,12 @@ impl Session {
         of: &str,
         clients: &[Box<dyn Client>],
     ) -> Result<Reply, AllocError>
-        ensures step { IfOk result (λ r. NewStep (machine_of self.old (map (λ b. (kind_of b, starts_of b)) clients.now)) (record { name = string_bytes name; sub = option_map string_bytes sub }) of.now (seen r) (machine_of self.new (map (λ b. (kind_of b, starts_of b)) clients.now))) }
-        ensures err { OnErr result ((q : List ℕ) → (machine_of self.new []).object q ≡ (machine_of self.old []).object q) }
+        ensures step { IfOk result (λ r. NewStep
+            (machine_of self.old (map tally clients.now))
+            (record { name = string_bytes name; sub = option_map string_bytes sub }) of.now (seen r)
+            (machine_of self.new (map tally clients.now))) }
+        ensures err { OnErr result (Stays (machine_of self.old (map tally clients.now))
+            (machine_of self.new (map tally clients.now))) }
         ensures book { book_of self.new ≡ book_of self.old }
         ensures spent { is_spent self.new ≡ is_spent self.old }
     {
@@ -203,8 +214,12 @@ impl Session {
         json: &str,
         clients: &[Box<dyn Client>],
     ) -> Result<Reply, AllocError>
-        ensures step { IfOk result (λ r. TakeStep (machine_of self.old (map (λ b. (kind_of b, starts_of b)) clients.now)) (seen_ref obj.now) prop.now json.now (seen r) (machine_of self.new (map (λ b. (kind_of b, starts_of b)) clients.now))) }
-        ensures err { OnErr result ((q : List ℕ) → (machine_of self.new []).object q ≡ (machine_of self.old []).object q) }
+        ensures step { IfOk result (λ r. TakeStep
+            (machine_of self.old (map tally clients.now)) (seen_ref obj.now) prop.now json.now
+                (seen r)
+            (machine_of self.new (map tally clients.now))) }
+        ensures err { OnErr result (Stays (machine_of self.old (map tally clients.now))
+            (machine_of self.new (map tally clients.now))) }
         ensures book { book_of self.new ≡ book_of self.old }
         ensures spent { is_spent self.new ≡ is_spent self.old }
     {
@@ -238,8 +253,13 @@ impl Session {
         prop: &str,
         clients: &mut Vec<Box<dyn Client>>,
     ) -> Result<Reply, AllocError>
-        ensures step { IfOk result (λ r. GiveStep (book_of self.old) (machine_of self.old (map (λ b. (kind_of b, starts_of b)) clients.old.items)) (seen_ref obj.now) prop.now (seen r) (machine_of self.new (map (λ b. (kind_of b, starts_of b)) clients.new.items))) }
-        ensures kept { OnErr result (AllKept (machine_of self.old []) → AllKept (machine_of self.new [])) }
+        ensures step { IfOk result (λ r. GiveStep (book_of self.old)
+            (machine_of self.old (map tally clients.old.items)) (seen_ref obj.now) prop.now (seen r)
+            (machine_of self.new (map tally clients.new.items))) }
+        ensures part { OnErr result (StepInPart (book_of self.old)
+            (machine_of self.old (map tally clients.old.items)) (give_value
+                (seen_ref obj.now) prop.now)
+            (machine_of self.new (map tally clients.new.items))) }
         ensures book { book_of self.new ≡ book_of self.old }
         ensures spent { is_spent self.new ≡ is_spent self.old }
     {
@@ -269,9 +289,12 @@ impl Session {
         clients: &mut Vec<Box<dyn Client>>,
     ) -> Result<Reply, AllocError>
         requires spoken { spoken c ≢ blank }
-        ensures step { IfOk result (λ r. Step (book_of self.old) (machine_of self.old (map (λ b. (kind_of b, starts_of b)) clients.old.items)) (spoken c) (seen r)
-            (machine_of self.new (map (λ b. (kind_of b, starts_of b)) clients.new.items))) }
-        ensures kept { OnErr result (AllKept (machine_of self.old []) → AllKept (machine_of self.new [])) }
+        ensures step { IfOk result (λ r. Step (book_of self.old)
+            (machine_of self.old (map tally clients.old.items)) (spoken c) (seen r)
+            (machine_of self.new (map tally clients.new.items))) }
+        ensures part { OnErr result (StepInPart (book_of self.old)
+            (machine_of self.old (map tally clients.old.items)) (spoken c)
+            (machine_of self.new (map tally clients.new.items))) }
         ensures book { book_of self.new ≡ book_of self.old }
         ensures spent { is_spent self.new ≡ is_spent self.old }
     {
@@ -284,7 +307,8 @@ impl Session {
         }
     }
 
-    /// One step of the machine. After want of memory the session answers nothing else, and changes nothing.
+    /// One step of the machine. Where memory is wanting a first part of its events occurred, maybe none or all; then the
+    /// session answers nothing else, and changes nothing.
     pub fn step(
         &mut self,
         alloc: Global,
@@ -292,14 +316,23 @@ impl Session {
         clients: &mut Vec<Box<dyn Client>>,
     ) -> Result<Reply, AllocError>
         requires spoken { spoken c ≢ blank }
-        ensures step { IfOk result (λ r. Step (book_of self.old) (machine_of self.old (map (λ b. (kind_of b, starts_of b)) clients.old.items)) (spoken c) (seen r)
-            (machine_of self.new (map (λ b. (kind_of b, starts_of b)) clients.new.items))) }
-        ensures kept { AllKept (machine_of self.old (map (λ b. (kind_of b, starts_of b)) clients.old.items)) → AllKept (machine_of self.new (map (λ b. (kind_of b, starts_of b)) clients.new.items)) }
+        ensures step { IfOk result (λ r. Step (book_of self.old)
+            (machine_of self.old (map tally clients.old.items)) (spoken c) (seen r)
+            (machine_of self.new (map tally clients.new.items))) }
+        ensures part { OnErr result (StepInPart (book_of self.old)
+            (machine_of self.old (map tally clients.old.items)) (spoken c)
+            (machine_of self.new (map tally clients.new.items))) }
+        ensures kept { OnOk result (AllKept (machine_of self.old (map tally clients.old.items))
+            → AllKept (machine_of self.new (map tally clients.new.items))) }
+        ensures honest { AllKept (machine_of self.old (map tally clients.old.items))
+            → AllHonest (machine_of self.new (map tally clients.new.items)) }
         ensures book { book_of self.new ≡ book_of self.old }
         ensures ready { OnOk result (is_spent self.old ≡ false) }
         ensures still { OnOk result (is_spent self.new ≡ false) }
         ensures spent { OnErr result (is_spent self.new ≡ true) }
-        ensures nothing { is_spent self.old ≡ true → Stays (machine_of self.old (map (λ b. (kind_of b, starts_of b)) clients.old.items)) (machine_of self.new (map (λ b. (kind_of b, starts_of b)) clients.new.items)) }
+        ensures nothing { is_spent self.old ≡ true → Stays
+            (machine_of self.old (map tally clients.old.items))
+            (machine_of self.new (map tally clients.new.items)) }
     {
         if self.spent {
             return Err(AllocError);

@@ -1,7 +1,7 @@
 // Taking a value from a JSON text.
 
 ghost use Rattle.pm_machine.specs.Steps.{Given, TakeValue, Taken, given_by, property_named, value, why_of};
-ghost use Rattle.pm_object.specs.State.{is_held, is_sealed};
+ghost use Rattle.pm_object.specs.State.{is_held, is_sealed, read_at};
 ghost use Rattle.pm_types.specs.Forms.{is_built, is_formed};
 ghost use Rattle.pm_types.specs.Properties.{has};
 ghost use Rattle.pm_types.specs.Views.{view_of};
@@ -41,11 +41,12 @@ fn why_of(fail: ValueFail) -> Option<ValueWhy>
 // Takes a value that was read, or says why not.
 fn take_read(object: &mut Object, p: PropId, v: Value) -> Result<Option<Refusal>, AllocError>
     requires formed { IsTrue (is_formed p (view_of v)) }
-    requires table { IsTrue (has object.old.of p) }
-    requires missing { is_held p object.old.held ≡ false }
-    requires open { is_sealed object.old ≡ false }
-    ensures ok { IfOk result (λ why. Taken object.old p (value (view_of v)) why object.new) }
-    ensures err { OnErr result (object.new ≡ object.old) }
+    requires table { IsTrue (has object.old.state.of p) }
+    requires missing { is_held p (read_at None object.old.state.held) ≡ false }
+    requires open { is_sealed object.old.state ≡ false }
+    ensures ok { IfOk result (λ why. Taken object.old.state p (value (view_of v)) why
+        object.new.state) }
+    ensures err { OnErr result (object.new.state ≡ object.old.state) }
 {
     match object.take(p, v) {
         Ok(()) => Ok(None),
@@ -60,11 +61,12 @@ fn take_read(object: &mut Object, p: PropId, v: Value) -> Result<Option<Refusal>
 
 // Why the object takes no value of a property at all; None where it may take one.
 fn takes_none(object: &Object, p: PropId) -> Option<Refusal>
-    ensures some { IfSome result (λ why. (g : Given) → TakeValue object.now p g (Some why) None) }
-    ensures missing { IfNone result (is_held p object.now.held ≡ false) }
-    ensures open { IfNone result (is_sealed object.now ≡ false) }
+    ensures some { IfSome result (λ why. (g : Given) →
+        TakeValue object.now.state p g (Some why) None) }
+    ensures missing { IfNone result (is_held p (read_at None object.now.state.held) ≡ false) }
+    ensures open { IfNone result (is_sealed object.now.state ≡ false) }
 {
-    if object.holds(p) {
+    if object.holds(None, p) {
         return Some(Refusal::AlreadyHeld);
     }
     if object.is_sealed() {
@@ -81,9 +83,10 @@ pub fn take_text(
     json: &str,
 ) -> Result<Option<Refusal>, AllocError>
     requires built { IsTrue (is_built p) }
-    requires table { IsTrue (has object.old.of p) }
-    ensures ok { IfOk result (λ why. Taken object.old p (given_by p (read json.now)) why object.new) }
-    ensures err { OnErr result (object.new ≡ object.old) }
+    requires table { IsTrue (has object.old.state.of p) }
+    ensures ok { IfOk result (λ why. Taken object.old.state p (given_by p (read json.now)) why
+        object.new.state) }
+    ensures err { OnErr result (object.new.state ≡ object.old.state) }
 {
     if let Some(why) = takes_none(object, p) {
         return Ok(Some(why));

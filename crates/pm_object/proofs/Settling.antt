@@ -35,10 +35,10 @@ no_rows_agree (Some n) space = refl
 no_rows_agree (Some n) hull = refl
 
 plain_formed : (of : ObjectType) (c : Option ℕ) (n : ℕ) {p : PropId} → Plain p → IsFormedIn of c (settled n p)
-plain_formed of c n lineality = record { formed = refl; columns = no_rows_agree c lineality; rows = refl; entries = All-nil (All IsFraction); primitive = All-nil HasPrimitiveRow; placed = λ e. refl }
-plain_formed of c n equations = record { formed = refl; columns = no_rows_agree c equations; rows = refl; entries = All-nil (All IsFraction); primitive = All-nil HasPrimitiveRow; placed = λ e. refl }
-plain_formed of c n space = record { formed = refl; columns = no_rows_agree c space; rows = refl; entries = All-nil (All IsFraction); primitive = All-nil HasPrimitiveRow; placed = λ e. refl }
-plain_formed of c n hull = record { formed = refl; columns = no_rows_agree c hull; rows = refl; entries = All-nil (All IsFraction); primitive = All-nil HasPrimitiveRow; placed = λ e. refl }
+plain_formed of c n lineality = record { formed = refl; columns = no_rows_agree c lineality; rows = refl; entries = All-nil (All IsFraction); primitive = All-nil HasPrimitiveRow; placed = refl }
+plain_formed of c n equations = record { formed = refl; columns = no_rows_agree c equations; rows = refl; entries = All-nil (All IsFraction); primitive = All-nil HasPrimitiveRow; placed = refl }
+plain_formed of c n space = record { formed = refl; columns = no_rows_agree c space; rows = refl; entries = All-nil (All IsFraction); primitive = All-nil HasPrimitiveRow; placed = refl }
+plain_formed of c n hull = record { formed = refl; columns = no_rows_agree c hull; rows = refl; entries = All-nil (All IsFraction); primitive = All-nil HasPrimitiveRow; placed = refl }
 
 append_more : (xs : List HeldValue) (h : HeldValue) (ys : List HeldValue) → (xs ++ h ∷ []) ++ ys ≡ xs ++ h ∷ ys
 append_more [] h ys = refl
@@ -127,8 +127,8 @@ dimension_fits of held each = by (cols_of held) refl
     same_number n = grind arith
 
     by : (c : Option ℕ) → cols_of held ≡ c → IsFormedIn of c (settled (unwrap_or c 1) ConeAmbientDim)
-    by None e = record { formed = refl; columns = refl; rows = refl; entries = All-nil (All IsFraction); primitive = All-nil HasPrimitiveRow; placed = λ e. refl }
-    by (Some n) e = record { formed = cols_range of held n each e; columns = same_number n; rows = refl; entries = All-nil (All IsFraction); primitive = All-nil HasPrimitiveRow; placed = λ e. refl }
+    by None e = record { formed = refl; columns = refl; rows = refl; entries = All-nil (All IsFraction); primitive = All-nil HasPrimitiveRow; placed = refl }
+    by (Some n) e = record { formed = cols_range of held n each e; columns = same_number n; rows = refl; entries = All-nil (All IsFraction); primitive = All-nil HasPrimitiveRow; placed = refl }
 
 -- the names after the dimension: b, c, d, e say which of them are settled
 plain_names : (b c d e : Bool) → AllByRecursion Plain (only_if b InputLineality ++ only_if c Equations ++ only_if d LinealitySpace ++ only_if e AffineHull)

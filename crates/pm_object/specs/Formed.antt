@@ -1,11 +1,10 @@
 -- What is so of the values of every object.
---     IsFormedIn of n h      a held value of an object of this type, whose column count is n if it is known: it has the form of its property, agrees with n, its rows pass their tests, its entries are fractions, its primitive rows are made within the range, and it stands in the object itself unless it is of programs
+--     IsFormedIn of n h      a held value of an object of this type, whose column count is n if it is known: it has the form of its property, agrees with n, its rows pass their tests, its entries are fractions, its primitive rows are made within the range, and it stands in the object itself, since so far no object has programs
 --     IsFormed o      all held values are so, and an object for which a round was started knows its dimension
-use Rattle.std.specs.Prelude.{ℕ, ◌≡◌, false, true, IsTrue, None, Option}
+use Rattle.std.specs.Prelude.{ℕ, ◌≡◌, true, IsTrue, None, Option}
 use Rattle.std.specs.List.{Contains}
 use Rattle.pm_geom.specs.declared.ObjectType.{ObjectType}
 use Rattle.pm_types.specs.Forms.{AreFractions, HavePrimitiveRows, is_formed, are_rows}
-use Rattle.pm_types.specs.Properties.{has_program}
 use Rattle.pm_types.specs.declared.property.PropId.TheVariants.{ConeAmbientDim}
 use Rattle.pm_object.specs.State.{HeldValue, State, agrees, cols_of, is_held, is_sealed}
 
@@ -15,7 +14,7 @@ pub record IsFormedIn (of : ObjectType) (n : Option ℕ) (h : HeldValue) : Type 
   pub rows : IsTrue (are_rows of h.property h.value)
   pub entries : AreFractions h.value
   pub primitive : HavePrimitiveRows h.value
-  pub placed : has_program h.property ≡ false → h.place ≡ None
+  pub placed : h.place ≡ None
 
 pub record IsFormed (o : State) : Type 0 where
   pub each : (h : HeldValue) → Contains o.held h → IsFormedIn o.of (cols_of o.held) h

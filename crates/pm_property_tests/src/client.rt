@@ -78,8 +78,8 @@ fn view_for<'a>(rt: &impl Abort, object: &'a Object, kind: Kind) -> View<'a>
 {
     assert!(rt; object.cols().is_some());
     assert!(rt; kind.is_of(None, object.of()));
-    assert!(rt; kind.sources.is_subset(object.names()));
-    object.view(&kind)
+    assert!(rt; kind.sources.is_subset(object.names(None)));
+    object.view(None, &kind)
 }
 
 // What the first client of the kind drafts from a view.

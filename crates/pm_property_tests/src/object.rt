@@ -88,7 +88,7 @@ const SETTLED: &[(
 
 fn check_without_rows(rt: &impl Abort, object: &Object, names: &[PropId]) {
     for name in names {
-        assert!(rt; is_without_rows(object.lookup(*name)));
+        assert!(rt; is_without_rows(object.lookup(None, *name)));
     }
 }
 
@@ -111,9 +111,9 @@ fn check_settled(
     without_rows: &[PropId],
     names: &[PropId],
 ) {
-    check_is_number(rt, object.lookup(PropId::ConeAmbientDim), dimension);
+    check_is_number(rt, object.lookup(None, PropId::ConeAmbientDim), dimension);
     check_without_rows(rt, object, without_rows);
-    assert!(rt; object.names() == PropSet::of_list(names));
+    assert!(rt; object.names(None) == PropSet::of_list(names));
 }
 
 #[test]

@@ -1,3 +1,4 @@
 pub mod OneLine
-pub mod Runs
 pub mod Shown
+pub mod Runs
+pub mod Outcomes

@@ -1,23 +1,21 @@
--- How runs end, and what the sink took until then.
---     number_of s      the number of a status
---     HasLeft left script      what the source tells to have left, if it tells, is this script
---     GainsWithin old new front piece      to what was told to be taken, if it was, all of the front was added, and then some first bytes of the piece, not all of them
---     AnswersOne book old line some_refused had has new      the line is answered, and its reply, if it has one, is told
---     AnswersAll book old lines some_refused had has new      all lines are answered, and each reply is told
---     BreaksOff book old lines had has new      the sink failed in a reply: the replies before it are told, and no line after it was answered
---     AnswersFirst book old lines had has new      first lines are answered, maybe none or all, and each reply to them is told
---     FromNoObjects before after Ran      a machine without objects over the clients before ran so; at the end every object is honest, and these are the clients
-use Rattle.std.specs.Prelude.{ℕ, ◌≡◌, ◌<◌, Bool, Option, Some, IfSome, List, [], ◌∷◌, ◌++◌, length, take}
+-- How a run of the program ended, and what the sink took until then.
+use Rattle.std.specs.Prelude.{ℕ, ◌≡◌, ◌<◌, ◌≤◌, ◌⊎◌, Bool, true, false, Option, Some, IfSome, List, [], ◌∷◌, ◌++◌, length, take, Result, Ok, Err}
 use Rattle.pm_client.specs.Starts.{Clients}
-use Rattle.pm_machine.specs.Steps.{AllKept, Machine}
+use Rattle.pm_machine.specs.Parts.{AllHonest, StepInPart}
+use Rattle.pm_machine.specs.Steps.{Machine, Stays}
 use Rattle.pm_rules.specs.declared.rule.Rule.{Rule}
-use Rattle.pm_script.specs.Lines.{Line}
+use Rattle.pm_script.specs.Commands.{Spoken}
+use Rattle.pm_script.specs.Lines.{Line, lines_of}
 use Rattle.pm_script.specs.Replies.{ReplySeen, reply_text}
-use Rattle.pm_shell.specs.Run.{Answers, Run, Starts, any_refused, is_refused, replies_text, text_if}
+use Rattle.pm_shell.specs.Run.{Answers, Run, Starts, any_refused, command_at, is_refused, replies_text, text_if}
+use Rattle.pm_shell.specs.Shown.{Shows}
+use Rattle.pm_shell.specs.declared.run.RunFail.{RunFail}
+use Rattle.pm_shell.specs.declared.run.RunFail.TheVariants as why
 use Rattle.pm_shell.specs.declared.run.Status.{Status}
 use Rattle.pm_shell.specs.declared.run.Status.TheVariants.{Answered, SomeRefused, BadWords, SourceFault, SinkFault, OutOfMemory, TooLong}
 use Rattle.pm_store.specs.Outside.{Gains}
 
+-- the number of a status
 abbrev pub number_of : Status → ℕ
 number_of Answered = 0
 number_of SomeRefused = 1
@@ -27,25 +25,35 @@ number_of SinkFault = 4
 number_of OutOfMemory = 5
 number_of TooLong = 6
 
-abbrev pub HasLeft : Option (List ℕ) → List ℕ → Type 0
-HasLeft left script = IfSome left (λ all. all ≡ script)
+-- the status of an outcome over all lines
+abbrev pub status_of : Result Bool RunFail → Status
+status_of (Ok false) = Answered
+status_of (Ok true) = SomeRefused
+status_of (Err why.SinkFault) = SinkFault
+status_of (Err why.Memory) = OutOfMemory
 
+-- had and has: what the sink tells to have taken before and after, where it tells that
+
+-- all of the front was taken, and then some first bytes of the piece, not all of them
 abbrev pub GainsWithin : Option (List ℕ) → Option (List ℕ) → List ℕ → List ℕ → Type 0
 GainsWithin old new front piece = IfSome old (λ had. (n : ℕ) × (n < length piece) × (new ≡ Some (had ++ front ++ take n piece)))
 
-pub record AnswersOne (book : List Rule) (old : Machine) (line : Line) (some_refused : Bool) (had has : Option (List ℕ)) (new : Machine) : Type 0 where
+-- the line is answered, its reply is told if it has one, and whether that is a refusal
+pub record AnswersOne (book : List Rule) (had has : Option (List ℕ)) (old : Machine) (line : Line) (some_refused : Bool) (new : Machine) : Type 0 where
   pub reply : Option ReplySeen
   pub answers : Answers book old line reply new
   pub told : Gains had has (text_if reply)
   pub refusal : some_refused ≡ is_refused reply
 
-pub record AnswersAll (book : List Rule) (old : Machine) (lines : List Line) (some_refused : Bool) (had has : Option (List ℕ)) (new : Machine) : Type 0 where
+-- all lines are answered, each reply is told, and whether some is a refusal
+pub record AnsweredAll (book : List Rule) (had has : Option (List ℕ)) (some_refused : Bool) (old : Machine) (lines : List Line) (new : Machine) : Type 0 where
   pub replies : List (Option ReplySeen)
   pub run : Run book old lines replies new
   pub told : Gains had has (replies_text replies)
   pub refusal : some_refused ≡ any_refused replies
 
-pub record BreaksOff (book : List Rule) (old : Machine) (lines : List Line) (had has : Option (List ℕ)) (new : Machine) : Type 0 where
+-- the sink failed in a reply: the replies before it are told, and no line after it was answered
+pub record BrokeOff (book : List Rule) (had has : Option (List ℕ)) (old : Machine) (lines : List Line) (new : Machine) : Type 0 where
   pub first : List Line
   pub line : Line
   pub others : List Line
@@ -55,18 +63,81 @@ pub record BreaksOff (book : List Rule) (old : Machine) (lines : List Line) (had
   pub run : Run book old (first ++ line ∷ []) (replies ++ Some reply ∷ []) new
   pub told : GainsWithin had has (replies_text replies) (reply_text reply)
 
-pub record AnswersFirst (book : List Rule) (old : Machine) (lines : List Line) (had has : Option (List ℕ)) (new : Machine) : Type 0 where
+-- the line is answered in part: first events of its command occurred; or wholly, and its reply is not told
+abbrev pub InHand : List Rule → Machine → Line → Machine → Type 0
+InHand book old line new = ((command : Spoken) × (command_at line ≡ Some command) × StepInPart book old command new) ⊎ ((reply : ReplySeen) × Answers book old line (Some reply) new)
+
+-- nothing more happened, or the next line was in hand
+abbrev pub NextInHand : List Rule → Machine → List Line → Machine → Type 0
+NextInHand book old [] new = Stays old new
+NextInHand book old (line ∷ others) new = Stays old new ⊎ InHand book old line new
+
+-- memory ran out: first lines are answered, maybe none or all, and each reply to them is told; the next line was in hand
+pub record Stopped (book : List Rule) (had has : Option (List ℕ)) (old : Machine) (lines : List Line) (new : Machine) : Type 0 where
   pub first : List Line
   pub others : List Line
   pub whole : lines ≡ first ++ others
   pub replies : List (Option ReplySeen)
-  pub run : Run book old first replies new
+  pub mid : Machine
+  pub run : Run book old first replies mid
   pub told : Gains had has (replies_text replies)
+  pub hand : NextInHand book mid others new
 
+-- the lines came to this outcome
+abbrev pub HasOutcome : List Rule → Option (List ℕ) → Option (List ℕ) → Machine → List Line → Result Bool RunFail → Machine → Type 0
+HasOutcome book had has old lines (Ok some_refused) new = AnsweredAll book had has some_refused old lines new
+HasOutcome book had has old lines (Err why.SinkFault) new = BrokeOff book had has old lines new
+HasOutcome book had has old lines (Err why.Memory) new = Stopped book had has old lines new
+
+-- a machine without objects over the clients before ran so; at its end every object is honest, and these are the clients
 pub record FromNoObjects (before after : Clients) (Ran : Machine → Machine → Type 0) : Type 0 where
   pub start : Machine
   pub end : Machine
   pub starts : Starts before start
   pub ran : Ran start end
-  pub kept : AllKept end
+  pub honest : AllHonest end
   pub left : end.clients ≡ after
+
+-- the script that the source told to have left; what the sink told to have taken before and after; the clients before and after
+pub record World : Type 0 where
+  pub script : Option (List ℕ)
+  pub had : Option (List ℕ)
+  pub has : Option (List ℕ)
+  pub before : Clients
+  pub after : Clients
+
+-- from a machine without objects the lines of the script came to this outcome
+abbrev pub Ran : List Rule → World → Result Bool RunFail → Type 0
+Ran book w outcome = (script : List ℕ) × IfSome w.script (λ all. all ≡ script)
+    × FromNoObjects w.before w.after (λ start end. HasOutcome book w.had w.has start (lines_of script) outcome end)
+
+-- nothing was told, and no client was started
+abbrev pub DidNotRun : World → Type 0
+DidNotRun w = (w.has ≡ w.had) × (w.after ≡ w.before)
+
+abbrev pub most_bytes : ℕ
+most_bytes = 16777216
+
+-- so a run with this status ended
+abbrev pub Ended : List Rule → Status → World → Type 0
+Ended book Answered w = Ran book w (Ok false)
+Ended book SomeRefused w = Ran book w (Ok true)
+Ended book SinkFault w = Ran book w (Err why.SinkFault)
+Ended book OutOfMemory w = Ran book w (Err why.Memory)
+Ended book TooLong w = DidNotRun w × IfSome w.script (λ script. most_bytes < length script)
+Ended book SourceFault w = DidNotRun w
+Ended book BadWords w = DidNotRun w
+
+-- with this status it did not run
+abbrev pub IsUnrun : Status → Type 0
+IsUnrun BadWords = Unit {0}
+IsUnrun SourceFault = Unit {0}
+IsUnrun TooLong = Unit {0}
+IsUnrun status = ⊥
+
+-- the script was read whole
+abbrev pub WasRead : Status → Option (List ℕ) → Option (List ℕ) → Type 0
+WasRead Answered old new = IfSome old (λ script. (length script ≤ most_bytes) × (new ≡ Some []))
+WasRead SomeRefused old new = IfSome old (λ script. (length script ≤ most_bytes) × (new ≡ Some []))
+WasRead SinkFault old new = IfSome old (λ script. (length script ≤ most_bytes) × (new ≡ Some []))
+WasRead status old new = Unit {0}

@@ -1,3 +1,3 @@
-pub mod Run
 pub mod Shown
+pub mod Run
 pub mod Ends

@@ -1,22 +1,20 @@
 -- A run of the machine over the lines of a script.
---     command_at line      the command that the line speaks, if it speaks one; a line that is too long speaks none
---     Answers book old line reply new      to the line the machine old may reply so, and it goes on as new: a line that speaks no command is refused, a blank one has no reply, and both change nothing; each other one is a step
---     Run book old lines replies new      it answers so to the lines, one after another
---     replies_text replies      the texts of the replies, one after another
---     any_refused replies      some reply is a refusal
---     Starts clients m      the machine has no object, and these clients
 use Rattle.std.specs.Prelude.{ℕ, ◌≡◌, ◌||◌, Bool, false, if◌then◌else◌, Option, Some, None, List, [], ◌∷◌, ◌++◌}
 use Rattle.pm_client.specs.Starts.{Clients}
+use Rattle.pm_machine.specs.Sessions.{no_files}
 use Rattle.pm_machine.specs.Steps.{Machine, Step}
 use Rattle.pm_rules.specs.declared.rule.Rule.{Rule}
 use Rattle.pm_script.specs.Commands.{Spoken, blank, command_of}
 use Rattle.pm_script.specs.Lines.{Line, is_too_long, text_of}
 use Rattle.pm_script.specs.Replies.{ReplySeen, is_refusal, refused, reply_text}
 use Rattle.pm_script.specs.declared.refusal.Refusal.TheVariants.{BadCommand}
+use Rattle.pm_shell.specs.Shown.{Shows}
 
+-- the command that the line speaks, if it speaks one; a line that is too long speaks none
 abbrev pub command_at : Line → Option Spoken
 command_at line = if is_too_long line then None else command_of (text_of line)
 
+-- a line that speaks no command is refused, a blank one has no reply, and both change nothing; each other one is a step
 abbrev pub AnswersTo : List Rule → Machine → Option Spoken → Option ReplySeen → Machine → Type 0
 AnswersTo book old (Some command) (Some reply) new = Step book old command reply new
 AnswersTo book old (Some blank) None new = new ≡ old
@@ -24,32 +22,40 @@ AnswersTo book old (Some command) None new = ⊥
 AnswersTo book old None (Some (refused BadCommand)) new = new ≡ old
 AnswersTo book old None reply new = ⊥
 
+-- from the machine old the reply to the line may be this one, and it goes on as new
 abbrev pub Answers : List Rule → Machine → Line → Option ReplySeen → Machine → Type 0
 Answers book old line reply new = AnswersTo book old (command_at line) reply new
 
+-- it answers so to the lines, one after another, and each value that it shows is right when it is shown
 abbrev pub Run : List Rule → Machine → List Line → List (Option ReplySeen) → Machine → Type 0
 Run book old [] [] new = new ≡ old
-Run book old (line ∷ lines) (reply ∷ replies) new = (mid : Machine) × Answers book old line reply mid × Run book mid lines replies new
+Run book old (line ∷ lines) (reply ∷ replies) new = (mid : Machine) × Answers book old line reply mid × Shows reply mid × Run book mid lines replies new
 Run book old [] (reply ∷ replies) new = ⊥
 Run book old (line ∷ lines) [] new = ⊥
 
+-- the text of a reply, where there is one
 abbrev pub text_if : Option ReplySeen → List ℕ
 text_if None = []
 text_if (Some reply) = reply_text reply
 
+-- the texts of the replies, one after another
 abbrev pub replies_text : List (Option ReplySeen) → List ℕ
 replies_text [] = []
 replies_text (reply ∷ replies) = text_if reply ++ replies_text replies
 
+-- the reply is a refusal
 abbrev pub is_refused : Option ReplySeen → Bool
 is_refused None = false
 is_refused (Some reply) = is_refusal reply
 
+-- some reply is one
 abbrev pub any_refused : List (Option ReplySeen) → Bool
 any_refused [] = false
 any_refused (reply ∷ replies) = is_refused reply || any_refused replies
 
+-- the machine has no object, no file, and these clients
 pub record Starts (clients : Clients) (m : Machine) : Type 0 where
   pub none : (q : List ℕ) → m.object q ≡ None
-  pub count : m.count ≡ 0
+  pub names : m.names ≡ []
   pub has : m.clients ≡ clients
+  pub store : m.store ≡ no_files

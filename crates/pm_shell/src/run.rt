@@ -1,20 +1,18 @@
 // A run of the program: a script from bytes to bytes.
 
-ghost use Rattle.pm_client.specs.Starts.{Clients};
 ghost use Rattle.pm_machine.specs.Sessions.{book_of, machine_of};
-ghost use Rattle.pm_machine.specs.Steps.{Machine};
+ghost use Rattle.pm_machine.specs.Steps.{AllKept, Stays};
 ghost use Rattle.pm_rules.specs.Books.{standard_rules};
 ghost use Rattle.pm_script.specs.Commands.{spoken};
 ghost use Rattle.pm_script.specs.Lines.{lines_of};
 ghost use Rattle.pm_script.specs.Replies.{ReplySeen, is_refusal, refused, reply_text, seen};
 ghost use Rattle.pm_script.specs.declared.refusal.Refusal.TheVariants.{BadCommand};
-ghost use Rattle.pm_shell.specs.Ends.{AnswersAll, AnswersFirst, AnswersOne, BreaksOff, FromNoObjects, HasLeft, number_of};
+ghost use Rattle.pm_shell.specs.Ends.{AnswersOne, DidNotRun, Ended, FromNoObjects, HasOutcome, InHand, IsUnrun, WasRead, number_of, status_of};
 ghost use Rattle.pm_shell.specs.Run.{Answers, command_at};
-ghost use Rattle.pm_shell.specs.Shown.{ShownAreRight};
 ghost use Rattle.pm_shell.specs.declared.run.RunFail.TheVariants.{Memory, SinkFault};
 ghost use Rattle.pm_store.specs.Outside.{Gains, GainsPart, Rose};
 ghost use Rattle.std.specs.Option.{option_map};
-ghost use Rattle.std.specs.Prelude.{Err, IfOk, IfSome, IsErrOf, List, Ok, Some, [], false, length, map, true, ℕ, ◌<◌, ◌≤◌, ◌≡◌, ◌≢◌, ◌↔◌, ◌⊎◌};
+ghost use Rattle.std.specs.Prelude.{Err, IfOk, IfSome, IsErrOf, List, Ok, OnErr, Some, [], false, length, map, true, ℕ, ◌<◌, ◌≤◌, ◌≡◌, ◌≢◌, ◌↔◌, ◌⊎◌};
 
 use pm_client::Client;
 use pm_machine::Session;
@@ -106,8 +104,15 @@ fn answer_line(
     clients: &mut Vec<Box<dyn Client>>,
     line: &Line<'_>,
 ) -> Result<Option<Reply>, AllocError>
-    ensures answers { IfOk result (λ r. Answers (book_of session.old) (machine_of session.old (map (λ b. (kind_of b, starts_of b)) clients.old.items)) line.now (option_map seen r)
-        (machine_of session.new (map (λ b. (kind_of b, starts_of b)) clients.new.items))) }
+    ensures answers { IfOk result (λ r. Answers (book_of session.old)
+        (machine_of session.old (map tally clients.old.items)) line.now (option_map seen r)
+        (machine_of session.new (map tally clients.new.items))) }
+    ensures part { OnErr result (
+        Stays (machine_of session.old (map tally clients.old.items))
+            (machine_of session.new (map tally clients.new.items))
+        ⊎ InHand (book_of session.old)
+            (machine_of session.old (map tally clients.old.items)) line.now
+            (machine_of session.new (map tally clients.new.items))) }
     ensures book { book_of session.new ≡ book_of session.old }
 {
     match command_at(alloc, line)? {
@@ -134,12 +139,24 @@ fn answer_next<K: Sink>(
     line: &Line<'_>,
     sink: &mut K,
 ) -> Result<bool, RunFail>
-    ensures told { IfOk result (λ r. AnswersOne (book_of session.old) (machine_of session.old (map (λ b. (kind_of b, starts_of b)) clients.old.items)) line.now r (K.taken sink.old) (K.taken sink.new)
-        (machine_of session.new (map (λ b. (kind_of b, starts_of b)) clients.new.items))) }
-    ensures part { IsErrOf result RunFail.SinkFault → (reply : ReplySeen) × Answers (book_of session.old) (machine_of session.old (map (λ b. (kind_of b, starts_of b)) clients.old.items)) line.now (Some reply)
-        (machine_of session.new (map (λ b. (kind_of b, starts_of b)) clients.new.items)) × GainsPart (K.taken sink.old) (K.taken sink.new) (reply_text reply) }
-    ensures fault { IsErrOf result RunFail.SinkFault → Rose (K.faults sink.old) (K.faults sink.new) }
+    ensures told { IfOk result (λ r. AnswersOne (book_of session.old)
+        (K.taken sink.old) (K.taken sink.new)
+        (machine_of session.old (map tally clients.old.items)) line.now r
+        (machine_of session.new (map tally clients.new.items))) }
+    ensures part { IsErrOf result RunFail.SinkFault → (reply : ReplySeen)
+        × Answers (book_of session.old)
+            (machine_of session.old (map tally clients.old.items)) line.now (Some reply)
+            (machine_of session.new (map tally clients.new.items))
+        × GainsPart (K.taken sink.old) (K.taken sink.new) (reply_text reply) }
+    ensures fault { IsErrOf result RunFail.SinkFault →
+        Rose (K.faults sink.old) (K.faults sink.new) }
     ensures memory { IsErrOf result RunFail.Memory → sink.new ≡ sink.old }
+    ensures hand { IsErrOf result RunFail.Memory →
+        Stays (machine_of session.old (map tally clients.old.items))
+            (machine_of session.new (map tally clients.new.items))
+        ⊎ InHand (book_of session.old)
+            (machine_of session.old (map tally clients.old.items)) line.now
+            (machine_of session.new (map tally clients.new.items)) }
     ensures book { book_of session.new ≡ book_of session.old }
     ensures never_falls { K.faults sink.old ≤ K.faults sink.new }
 {
@@ -151,9 +168,13 @@ fn answer_next<K: Sink>(
 
 /// Writes a reply. Whether it is a refusal.
 fn write_reply<K: Sink>(alloc: Global, reply: &Reply, sink: &mut K) -> Result<bool, RunFail>
-    ensures told { IfOk result (λ r. Gains (K.taken sink.old) (K.taken sink.new) (reply_text (seen reply.now)) × (r ≡ is_refusal (seen reply.now))) }
-    ensures part { IsErrOf result RunFail.SinkFault → GainsPart (K.taken sink.old) (K.taken sink.new) (reply_text (seen reply.now)) }
-    ensures fault { IsErrOf result RunFail.SinkFault → Rose (K.faults sink.old) (K.faults sink.new) }
+    ensures told { IfOk result (λ r.
+        Gains (K.taken sink.old) (K.taken sink.new) (reply_text (seen reply.now))
+        × (r ≡ is_refusal (seen reply.now))) }
+    ensures part { IsErrOf result RunFail.SinkFault →
+        GainsPart (K.taken sink.old) (K.taken sink.new) (reply_text (seen reply.now)) }
+    ensures fault { IsErrOf result RunFail.SinkFault →
+        Rose (K.faults sink.old) (K.faults sink.new) }
     ensures memory { IsErrOf result RunFail.Memory → sink.new ≡ sink.old }
     ensures never_falls { K.faults sink.old ≤ K.faults sink.new }
 {
@@ -178,12 +199,12 @@ fn answer_lines<K: Sink>(
     script: &[u8],
     sink: &mut K,
 ) -> Result<bool, RunFail>
-    ensures told { IfOk result (λ r. AnswersAll (book_of session.old) (machine_of session.old (map (λ b. (kind_of b, starts_of b)) clients.old.items)) (lines_of script.now) r (K.taken sink.old) (K.taken sink.new)
-        (machine_of session.new (map (λ b. (kind_of b, starts_of b)) clients.new.items))) }
-    ensures part { IsErrOf result RunFail.SinkFault → BreaksOff (book_of session.old) (machine_of session.old (map (λ b. (kind_of b, starts_of b)) clients.old.items)) (lines_of script.now) (K.taken sink.old) (K.taken sink.new)
-        (machine_of session.new (map (λ b. (kind_of b, starts_of b)) clients.new.items)) }
-    ensures fault { IsErrOf result RunFail.SinkFault → Rose (K.faults sink.old) (K.faults sink.new) }
-    ensures memory { IsErrOf result RunFail.Memory → (mid : Machine) × AnswersFirst (book_of session.old) (machine_of session.old (map (λ b. (kind_of b, starts_of b)) clients.old.items)) (lines_of script.now) (K.taken sink.old) (K.taken sink.new) mid }
+    requires kept { AllKept (machine_of session.old (map tally clients.old.items)) }
+    ensures outcome { HasOutcome (book_of session.old) (K.taken sink.old) (K.taken sink.new)
+        (machine_of session.old (map tally clients.old.items)) (lines_of script.now) result
+        (machine_of session.new (map tally clients.new.items)) }
+    ensures fault { IsErrOf result RunFail.SinkFault →
+        Rose (K.faults sink.old) (K.faults sink.new) }
     ensures never_falls { K.faults sink.old ≤ K.faults sink.new }
 {
     let mut some_refused = false;
@@ -204,13 +225,11 @@ fn run_script<K: Sink>(
     script: &[u8],
     sink: &mut K,
 ) -> Result<bool, RunFail>
-    ensures told { IfOk result (λ r. FromNoObjects (map (λ b. (kind_of b, starts_of b)) clients.old.items) (map (λ b. (kind_of b, starts_of b)) clients.new.items)
-        (λ start end. AnswersAll standard_rules start (lines_of script.now) r (K.taken sink.old) (K.taken sink.new) end)) }
-    ensures part { IsErrOf result RunFail.SinkFault → FromNoObjects (map (λ b. (kind_of b, starts_of b)) clients.old.items) (map (λ b. (kind_of b, starts_of b)) clients.new.items)
-        (λ start end. BreaksOff standard_rules start (lines_of script.now) (K.taken sink.old) (K.taken sink.new) end) }
-    ensures fault { IsErrOf result RunFail.SinkFault → Rose (K.faults sink.old) (K.faults sink.new) }
-    ensures memory { IsErrOf result RunFail.Memory → (after : Clients) × FromNoObjects (map (λ b. (kind_of b, starts_of b)) clients.old.items) after
-        (λ start end. AnswersFirst standard_rules start (lines_of script.now) (K.taken sink.old) (K.taken sink.new) end) }
+    ensures outcome { FromNoObjects (map tally clients.old.items) (map tally clients.new.items)
+        (λ start end. HasOutcome standard_rules (K.taken sink.old) (K.taken sink.new)
+            start (lines_of script.now) result end) }
+    ensures fault { IsErrOf result RunFail.SinkFault →
+        Rose (K.faults sink.old) (K.faults sink.new) }
     ensures never_falls { K.faults sink.old ≤ K.faults sink.new }
 {
     let mut session = Session::new(alloc, standard_book(alloc)?);
@@ -225,19 +244,20 @@ fn answer_script<S: Source, K: Sink>(
     sink: &mut K,
 ) -> Status
     ensures words { result ≢ Status.BadWords }
-    ensures text { (result ≡ Status.Answered) → (script : List ℕ) × HasLeft (S.left source.old) script × FromNoObjects (map (λ b. (kind_of b, starts_of b)) clients.old.items) (map (λ b. (kind_of b, starts_of b)) clients.new.items)
-        (λ start end. AnswersAll standard_rules start (lines_of script) false (K.taken sink.old) (K.taken sink.new) end) }
-    ensures text_refused { (result ≡ Status.SomeRefused) → (script : List ℕ) × HasLeft (S.left source.old) script × FromNoObjects (map (λ b. (kind_of b, starts_of b)) clients.old.items) (map (λ b. (kind_of b, starts_of b)) clients.new.items)
-        (λ start end. AnswersAll standard_rules start (lines_of script) true (K.taken sink.old) (K.taken sink.new) end) }
-    ensures sink_fault { (result ≡ Status.SinkFault) → Rose (K.faults sink.old) (K.faults sink.new)
-        × ((script : List ℕ) × HasLeft (S.left source.old) script × FromNoObjects (map (λ b. (kind_of b, starts_of b)) clients.old.items) (map (λ b. (kind_of b, starts_of b)) clients.new.items)
-        (λ start end. BreaksOff standard_rules start (lines_of script) (K.taken sink.old) (K.taken sink.new) end)) }
-    ensures out_of_memory { (result ≡ Status.OutOfMemory) → (script : List ℕ) × (after : Clients) × HasLeft (S.left source.old) script × FromNoObjects (map (λ b. (kind_of b, starts_of b)) clients.old.items) after
-        (λ start end. AnswersFirst standard_rules start (lines_of script) (K.taken sink.old) (K.taken sink.new) end) }
-    ensures source_fault { (result ≡ Status.SourceFault) → Rose (S.faults source.old) (S.faults source.new) × (sink.new ≡ sink.old) × (clients.new ≡ clients.old) }
-    ensures too_long { (result ≡ Status.TooLong) → (sink.new ≡ sink.old) × (clients.new ≡ clients.old) × IfSome (S.left source.old) (λ script. SCRIPT_LIMIT < length script) }
-    ensures read_whole { (result ≡ Status.Answered) ⊎ ((result ≡ Status.SomeRefused) ⊎ (result ≡ Status.SinkFault)) → IfSome (S.left source.old) (λ script.
-        (length script ≤ SCRIPT_LIMIT) × (S.left source.new ≡ Some [])) }
+    ensures run { Ended standard_rules result (record {
+        script = S.left source.old;
+        had = K.taken sink.old;
+        has = K.taken sink.new;
+        before = map tally clients.old.items;
+        after = map tally clients.new.items;
+    }) }
+    ensures read { WasRead result (S.left source.old) (S.left source.new) }
+    ensures untouched { IsUnrun result →
+        (sink.new ≡ sink.old) × (clients.new ≡ clients.old) }
+    ensures source_fault { result ≡ Status.SourceFault →
+        Rose (S.faults source.old) (S.faults source.new) }
+    ensures sink_fault { result ≡ Status.SinkFault →
+        Rose (K.faults sink.old) (K.faults sink.new) }
     ensures source_count { S.faults source.old ≤ S.faults source.new }
     ensures sink_count { K.faults sink.old ≤ K.faults sink.new }
 {
@@ -252,11 +272,7 @@ fn answer_script<S: Source, K: Sink>(
 
 /// The status of a run over all lines of a script.
 fn ended(outcome: Result<bool, RunFail>) -> Status
-    ensures answered { result ≡ Status.Answered → outcome ≡ Ok false }
-    ensures refused { result ≡ Status.SomeRefused → outcome ≡ Ok true }
-    ensures sink_fault { result ≡ Status.SinkFault → outcome ≡ Err RunFail.SinkFault }
-    ensures out_of_memory { result ≡ Status.OutOfMemory → outcome ≡ Err RunFail.Memory }
-    ensures was_read { (result ≢ Status.BadWords) × (result ≢ Status.SourceFault) × (result ≢ Status.TooLong) }
+    ensures { result ≡ status_of outcome }
 {
     match outcome {
         Ok(false) => Status::Answered,
@@ -276,30 +292,22 @@ pub fn polymake<S: Source, K: Sink>(
     source: &mut S,
     sink: &mut K,
 ) -> Status
-    // The program takes no words.
     ensures words { (result ≡ Status.BadWords) ↔ (0 < length words.now) }
-    ensures untouched { result ≡ Status.BadWords → (source.new ≡ source.old) × (sink.new ≡ sink.old) × (clients.new ≡ clients.old) }
-
-    // The machine, with the standard book, ran over the lines of the script, which was read to its end; the text is its replies.
-    ensures text { (result ≡ Status.Answered) → (script : List ℕ) × HasLeft (S.left source.old) script × FromNoObjects (map (λ b. (kind_of b, starts_of b)) clients.old.items) (map (λ b. (kind_of b, starts_of b)) clients.new.items)
-        (λ start end. AnswersAll standard_rules start (lines_of script) false (K.taken sink.old) (K.taken sink.new) end) }
-    ensures text_refused { (result ≡ Status.SomeRefused) → (script : List ℕ) × HasLeft (S.left source.old) script × FromNoObjects (map (λ b. (kind_of b, starts_of b)) clients.old.items) (map (λ b. (kind_of b, starts_of b)) clients.new.items)
-        (λ start end. AnswersAll standard_rules start (lines_of script) true (K.taken sink.old) (K.taken sink.new) end) }
-    ensures right { ShownAreRight }
-
-    // It ran over first lines alone.
-    ensures sink_fault { (result ≡ Status.SinkFault) → Rose (K.faults sink.old) (K.faults sink.new)
-        × ((script : List ℕ) × HasLeft (S.left source.old) script × FromNoObjects (map (λ b. (kind_of b, starts_of b)) clients.old.items) (map (λ b. (kind_of b, starts_of b)) clients.new.items)
-        (λ start end. BreaksOff standard_rules start (lines_of script) (K.taken sink.old) (K.taken sink.new) end)) }
-    ensures out_of_memory { (result ≡ Status.OutOfMemory) → (script : List ℕ) × (after : Clients) × HasLeft (S.left source.old) script × FromNoObjects (map (λ b. (kind_of b, starts_of b)) clients.old.items) after
-        (λ start end. AnswersFirst standard_rules start (lines_of script) (K.taken sink.old) (K.taken sink.new) end) }
-
-    // It did not run.
-    ensures source_fault { (result ≡ Status.SourceFault) → Rose (S.faults source.old) (S.faults source.new) × (sink.new ≡ sink.old) × (clients.new ≡ clients.old) }
-    ensures too_long { (result ≡ Status.TooLong) → (sink.new ≡ sink.old) × (clients.new ≡ clients.old) × IfSome (S.left source.old) (λ script. SCRIPT_LIMIT < length script) }
-
-    ensures read_whole { (result ≡ Status.Answered) ⊎ ((result ≡ Status.SomeRefused) ⊎ (result ≡ Status.SinkFault)) → IfSome (S.left source.old) (λ script.
-        (length script ≤ SCRIPT_LIMIT) × (S.left source.new ≡ Some [])) }
+    ensures run { Ended standard_rules result (record {
+        script = S.left source.old;
+        had = K.taken sink.old;
+        has = K.taken sink.new;
+        before = map tally clients.old.items;
+        after = map tally clients.new.items;
+    }) }
+    ensures read { WasRead result (S.left source.old) (S.left source.new) }
+    ensures unread { result ≡ Status.BadWords → source.new ≡ source.old }
+    ensures untouched { IsUnrun result →
+        (sink.new ≡ sink.old) × (clients.new ≡ clients.old) }
+    ensures source_fault { result ≡ Status.SourceFault →
+        Rose (S.faults source.old) (S.faults source.new) }
+    ensures sink_fault { result ≡ Status.SinkFault →
+        Rose (K.faults sink.old) (K.faults sink.new) }
     ensures source_count { S.faults source.old ≤ S.faults source.new }
     ensures sink_count { K.faults sink.old ≤ K.faults sink.new }
 {

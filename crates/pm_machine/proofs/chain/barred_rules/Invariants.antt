@@ -4,4 +4,4 @@ use Rattle.pm_machine.proofs.Barred.{FirstBarred}
 use Rattle.pm_machine.proofs.chain.barred_rules.Given as goal
 
 abbrev pub invariant-loop-i : goal.invariant-loop-i
-invariant-loop-i g l = FirstBarred l.rules (λ id rule. is_barred_on (map (λ b. ((goal.Client-dyn g (b.vtable, b.value)).kind_of b.value, (goal.Client-dyn g (b.vtable, b.value)).starts_of b.value)) l.clients) l.object id rule) l.i l.barred.items
+invariant-loop-i g l = FirstBarred l.rules (λ id rule. is_barred_on (map (λ b. (goal.Client-dyn g (b.vtable, b.value)).tally b.value) l.clients) l.object.state l.sub id rule) l.i l.barred.items

@@ -31,4 +31,7 @@ pub returns-clause-started : goal.returns-clause-started
 returns-clause-started g c = c.run_client-ran.ensures.started
 
 pub returns-clause-ok : goal.returns-clause-ok
-returns-clause-ok g c = c.end_run.ensures
+returns-clause-ok g c = c.end_run.ensures.ok
+
+pub returns-clause-err : goal.returns-clause-err
+returns-clause-err g c = c.end_run.ensures.err

@@ -1,6 +1,7 @@
--- A round of one rule, run on a copy; on an error nothing is asked of the round.
+-- A round of one rule; where it is broken off nothing is asked of it.
 use Rattle.std.proofs.lemmas.Result.{err_from_is_err_and}
-use Rattle.std.proofs.Common.{subst}
+use Rattle.std.proofs.Common.{inl, inr, subst}
+use Rattle.pm_machine.proofs.Names.{on_err_of}
 use Rattle.pm_machine.proofs.Running.{runs_hold}
 use Rattle.pm_machine.specs.Running.{RunsRule}
 use Rattle.pm_object.specs.State.{State}
@@ -9,29 +10,23 @@ use Rattle.pm_machine.proofs.round.start_round.Goals as goal
 
 pub add_round-requires : goal.add_round-requires
 add_round-requires g c =
-    let runs = subst (λ (z : State). RunsRule c.args.id c.args.rule.now.kind z c.in_ok-end.end c.run_rule.new.object) c.in_ok-next.ensures c.in_ok-end.ensures.ok in
-    record { dimension = runs_hold c.args.id c.args.rule.now.kind c.args.object.now c.run_rule.new.object c.in_ok-end.end ConeAmbientDim runs c.requires.dimension }
-
-pub returns-in_err-next-clause-started : goal.returns-in_err-next-clause-started
-returns-in_err-next-clause-started g c = rw (err_from_is_err_and c.from_residual.result c.from_residual.ensures.1).1 tt
-
-pub returns-in_err-next-clause-ok : goal.returns-in_err-next-clause-ok
-returns-in_err-next-clause-ok g c = rw (err_from_is_err_and c.from_residual.result c.from_residual.ensures.1).1 tt
-
-pub returns-in_err-end-clause-started : goal.returns-in_err-end-clause-started
-returns-in_err-end-clause-started g c = rw (err_from_is_err_and c.from_residual-in_err-end.result c.from_residual-in_err-end.ensures.1).1 tt
+    record { dimension = runs_hold _ c.args.id c.args.rule.now c.args.object.now.state c.run_rule.new.object.state c.in_ok-end.end ConeAmbientDim c.in_ok-end.ensures.ok c.requires.dimension }
 
 pub returns-in_err-end-clause-ok : goal.returns-in_err-end-clause-ok
-returns-in_err-end-clause-ok g c = rw (err_from_is_err_and c.from_residual-in_err-end.result c.from_residual-in_err-end.ensures.1).1 tt
+returns-in_err-end-clause-ok g c = rw (err_from_is_err_and c.from_residual.result c.from_residual.ensures.1).1 tt
 
-pub returns-in_err-push-clause-started : goal.returns-in_err-push-clause-started
-returns-in_err-push-clause-started g c = rw (err_from_is_err_and c.from_residual-in_err-push.result c.from_residual-in_err-push.ensures.1).1 tt
+pub returns-in_err-end-clause-err : goal.returns-in_err-end-clause-err
+returns-in_err-end-clause-err g c = on_err_of _ (inl c.in_err-end.ensures.err)
 
 pub returns-in_err-push-clause-ok : goal.returns-in_err-push-clause-ok
 returns-in_err-push-clause-ok g c = rw (err_from_is_err_and c.from_residual-in_err-push.result c.from_residual-in_err-push.ensures.1).1 tt
 
-pub returns-in_err-add_round-clause-started : goal.returns-in_err-add_round-clause-started
-returns-in_err-add_round-clause-started g c = rw (err_from_is_err_and c.from_residual-in_err-add_round.result c.from_residual-in_err-add_round.ensures.1).1 tt
+pub returns-in_err-push-clause-err : goal.returns-in_err-push-clause-err
+returns-in_err-push-clause-err g c = on_err_of _ (inr (c.in_ok-end.end, c.in_ok-end.ensures.ok))
 
 pub returns-in_err-add_round-clause-ok : goal.returns-in_err-add_round-clause-ok
 returns-in_err-add_round-clause-ok g c = rw (err_from_is_err_and c.from_residual-in_err-add_round.result c.from_residual-in_err-add_round.ensures.1).1 tt
+
+pub returns-in_err-add_round-clause-err : goal.returns-in_err-add_round-clause-err
+returns-in_err-add_round-clause-err g c =
+    on_err_of _ (inr (c.in_ok-end.end, rw c.in_err-add_round.ensures.err c.in_ok-end.ensures.ok))

@@ -9,10 +9,10 @@ use Rattle.pm_shell.proofs.run.answer_lines.Given as goal
 abbrev pub invariant-loop-rest : goal.invariant-loop-rest
 invariant-loop-rest g l = record {
   book : book_of l.session ≡ book_of l.fn.session;
-  so_far : SoFar (book_of l.fn.session)
-      (machine_of l.fn.session (map (λ b. ((goal.Client-dyn g (b.vtable, b.value)).kind_of b.value, (goal.Client-dyn g (b.vtable, b.value)).starts_of b.value)) l.fn.clients.items))
-      (lines_of l.fn.script) (lines_of l.rest) l.some_refused (g.K.Sink.taken l.fn.sink) (g.K.Sink.taken l.sink)
-      (machine_of l.session (map (λ b. ((goal.Client-dyn g (b.vtable, b.value)).kind_of b.value, (goal.Client-dyn g (b.vtable, b.value)).starts_of b.value)) l.clients.items));
+  so_far : SoFar (book_of l.fn.session) (g.K.Sink.taken l.fn.sink) (g.K.Sink.taken l.sink)
+      (machine_of l.fn.session (map (λ b. (goal.Client-dyn g (b.vtable, b.value)).tally b.value) l.fn.clients.items))
+      (lines_of l.fn.script) (lines_of l.rest) l.some_refused
+      (machine_of l.session (map (λ b. (goal.Client-dyn g (b.vtable, b.value)).tally b.value) l.clients.items));
   rises : g.K.Sink.faults l.fn.sink ≤ g.K.Sink.faults l.sink;
 }
 

@@ -1,6 +1,10 @@
+use Rattle.std.proofs.Common.{inr}
 use Rattle.pm_script.specs.Replies.{seen}
-use Rattle.pm_shell.proofs.Runs.{one_told}
+use Rattle.pm_shell.proofs.Outcomes.{one_told}
 use Rattle.pm_shell.proofs.run.answer_next.Goals as goal
 
 pub returns-in-Some-clause-told : goal.returns-in-Some-clause-told
 returns-in-Some-clause-told g c = one_told _ _ _ _ (seen c.in-Some.reply) _ _ c.write_reply.result (rw c.in-Some.is at c.in_ok-answer_line.ensures.answers) c.write_reply.ensures.told
+
+pub returns-in-Some-clause-hand : goal.returns-in-Some-clause-hand
+returns-in-Some-clause-hand g c = λ h. inr (inr (seen c.in-Some.reply, rw c.in-Some.is at c.in_ok-answer_line.ensures.answers))

@@ -1,9 +1,10 @@
--- Objects that are kept stay so: by the step, or by the call that failed.
-use Rattle.std.specs.HashMap.{get_by_text}
-use Rattle.pm_machine.proofs.Names.{kept_step}
+-- What stands after a step, and after one that did not answer.
+use Rattle.pm_machine.proofs.Names.{honest_step, kept_if_ok}
 use Rattle.pm_script.specs.Replies.{seen}
 use Rattle.pm_machine.proofs.session.Session.step.Goals as goal
 
 pub returns-clause-kept : goal.returns-clause-kept
-returns-clause-kept g c =
-    kept_step seen _ (get_by_text c.args.self.now.objects) (get_by_text c.do_step-ran.new.self.objects) _ _ _ _ _ c.do_step-ran.result c.do_step-ran.ensures.step c.do_step-ran.ensures.kept
+returns-clause-kept g c = kept_if_ok seen _ _ _ _ c.do_step-ran.result c.do_step-ran.ensures.step
+
+pub returns-clause-honest : goal.returns-clause-honest
+returns-clause-honest g c = honest_step seen _ _ _ _ c.do_step-ran.result c.do_step-ran.ensures.step c.do_step-ran.ensures.part

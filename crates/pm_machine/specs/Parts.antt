@@ -1,0 +1,29 @@
+-- What stands where memory ran out in a command: a first part of its events, maybe none or all.
+use Rattle.std.specs.Prelude.{◌≡◌, ◌⊎◌, List, ℕ, None, Option, Some, IfSome}
+use Rattle.pm_machine.specs.Events.{Configuration, EnsuredInPart, configuration}
+use Rattle.pm_machine.specs.Steps.{AllKept, Becomes, Machine, Stays, object_at, property_named}
+use Rattle.pm_object.specs.Honest.{IsHonest}
+use Rattle.pm_object.specs.State.{State}
+use Rattle.pm_rules.specs.declared.rule.Rule.{Rule}
+use Rattle.pm_script.specs.Commands.{RefSeen, Spoken, give_value}
+use Rattle.pm_types.specs.Sets.{only}
+use Rattle.pm_types.specs.declared.property.PropId.{PropId}
+
+-- the object that REF names is ensured the property in part
+pub record GaveInPart (book : List Rule) (old : Machine) (ref : RefSeen) (text : List ℕ) (new : Machine) : Type 0 where
+  pub object : State
+  pub named : object_at old ref ≡ Some object
+  pub property : PropId
+  pub is_property : property_named object.of text ≡ Some property
+  pub now : Configuration
+  pub ensured : EnsuredInPart book None (only property) (configuration object old.clients) now
+  pub becomes : Becomes ref.name now old new
+
+-- of the events of the command first ones occurred: those of `new`, `take` and `lookup` are all or none
+abbrev pub StepInPart : List Rule → Machine → Spoken → Machine → Type 0
+StepInPart book old (give_value ref text) new = Stays old new ⊎ GaveInPart book old ref text new
+StepInPart book old command new = Stays old new
+
+-- each object is honest
+pub record AllHonest (m : Machine) : Type 0 where
+  pub each : (q : List ℕ) → IfSome (m.object q) IsHonest
