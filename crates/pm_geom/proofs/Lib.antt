@@ -18,3 +18,5 @@ pub mod Lineality
 pub mod Independent
 pub mod Dimension
 pub mod Copies
+pub mod SmallGraphs
+pub mod SmallCounts

@@ -4,3 +4,6 @@ pub mod Faces
 pub mod Laws
 pub mod Examples
 pub mod Evidence
+pub mod Graphs
+pub mod FaceCounts
+pub mod GraphExamples

@@ -2,6 +2,7 @@
 #![tactic(auto)]
 
 ghost use Rattle.pm_geom.specs.Examples.{EmptyIsRead, HalfLineIsRead, IsRefused, LineIsRead, SquareIsRead};
+ghost use Rattle.pm_geom.specs.GraphExamples.{CountsAreRead, DiagramsAreRead, HVectorsAreRead, IndexListsAreRead, SmallGraphsAreRead, SquareGraphIsRead};
 ghost use Rattle.pm_geom.specs.Laws.{Bipolar, CutIsGenerated, ExtremesGenerate, FaceOfFacets, FacetOrderCutsOut, FacetRowsCutOut, Farkas, GeneratedIsCut, GeneratorsSpan, LinealityIsNull, MembershipDecided, NotZeroByRank, OrderGenerates, OrderSpans, RankExists, RankIsLeft, SpanIsDifferences, VanishingIsNull};
 ghost use Rattle.std.specs.Prelude.{ℕ};
 
@@ -132,4 +133,34 @@ pub fn example_line()
 /// What the definitions refuse: lists that are no order, a row that is not extreme, cones that are over no polytope.
 pub fn example_refusals()
     ensures { IsRefused }
+{}
+
+/// Sets of indices as lists: members, lists that do not rise, and lexicographic order.
+pub fn example_index_lists()
+    ensures { IndexListsAreRead }
+{}
+
+/// The graph of the unit square: sides and diagonals, walks, distances, and the diameter 2.
+pub fn example_square_graph()
+    ensures { SquareGraphIsRead }
+{}
+
+/// Graphs of no node, of one, and of two that nothing joins.
+pub fn example_small_graphs()
+    ensures { SmallGraphsAreRead }
+{}
+
+/// The f-vectors and f2-vectors of the cone {0}, a ray, a segment, the square and the octahedron.
+pub fn example_counts()
+    ensures { CountsAreRead }
+{}
+
+/// The h-vectors of the octahedron, the square, a segment and a point, and one with a negative number.
+pub fn example_h_vectors()
+    ensures { HVectorsAreRead }
+{}
+
+/// All faces of the cone {0} and of a ray, and lists that lack the least face or the whole.
+pub fn example_diagrams()
+    ensures { DiagramsAreRead }
 {}
