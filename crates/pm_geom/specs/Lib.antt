@@ -6,4 +6,5 @@ pub mod Examples
 pub mod Evidence
 pub mod Graphs
 pub mod FaceCounts
+pub mod Meets
 pub mod GraphExamples
