@@ -8,3 +8,6 @@ pub mod Graphs
 pub mod FaceCounts
 pub mod Meets
 pub mod GraphExamples
+pub mod Generators
+pub mod StatedOrder
+pub mod RayEvidence

@@ -6,6 +6,7 @@ ghost use Rattle.pm_geom.specs.GraphExamples.{CountsAreRead, DiagramsAreRead, HV
 ghost use Rattle.pm_geom.specs.Laws.{Bipolar, CutIsGenerated, ExtremesGenerate, FaceOfFacets, FacetOrderCutsOut, FacetRowsCutOut, Farkas, GeneratedIsCut, GeneratorsSpan, LinealityIsNull, MembershipDecided, NotZeroByRank, OrderGenerates, OrderSpans, RankExists, RankIsLeft, SpanIsDifferences, VanishingIsNull};
 ghost use Rattle.std.specs.Prelude.{ℕ};
 
+pub mod descriptions;
 mod evidence;
 mod lists;
 
