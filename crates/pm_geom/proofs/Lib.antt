@@ -20,3 +20,5 @@ pub mod Dimension
 pub mod Copies
 pub mod SmallGraphs
 pub mod SmallCounts
+pub mod Duality
+pub mod ProgramExamples

@@ -11,3 +11,6 @@ pub mod GraphExamples
 pub mod Generators
 pub mod StatedOrder
 pub mod RayEvidence
+pub mod Programs
+pub mod Duality
+pub mod ProgramExamples
