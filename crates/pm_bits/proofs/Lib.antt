@@ -5,3 +5,4 @@ pub mod Marks
 pub mod Members
 pub mod Counts
 pub mod Differences
+pub mod MemberLists

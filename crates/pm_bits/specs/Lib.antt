@@ -1,4 +1,5 @@
 pub mod Laws
+pub mod Examples
 pub mod Sets
 pub mod Table
 pub mod Words

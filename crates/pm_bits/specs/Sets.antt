@@ -1,7 +1,7 @@
 -- What a row of bits says of a set of numbers. A row is seen as the list of its bits: the bit at i tells
 -- whether the number i is a member, and the list's length is the row's.
 use Rattle.std.specs.Prelude.{◌≡◌, ℕ, ◌<◌, ◌&&◌, Bool, false, IsTrue, List, length, slice_index_or, count_by}
-use Rattle.std.specs.List.{range_with_len}
+use Rattle.std.specs.List.{filter, range_with_len}
 use Rattle.std.specs.declared.cmp.Ordering.{Ordering}
 use Rattle.std.specs.Ordering.{nat_cmp, bool_cmp, flip_args, on, then_cmp}
 use Rattle.std.specs.Cmp.Lexicographic.{slice_cmp}
@@ -29,6 +29,10 @@ SameMembers one other = (i : ℕ) → has one i ≡ has other i
 -- how many of the numbers below the length are members
 abbrev pub member_count : List Bool → ℕ
 member_count row = count_by (has row) (range_with_len 0 (length row))
+
+-- the members, ascending
+abbrev pub members : List Bool → List ℕ
+members row = filter (has row) (range_with_len 0 (length row))
 
 -- the least number that is a member of only one of the two rows is a member of the first
 abbrev pub HasFirstDifference : List Bool → List Bool → Type 0

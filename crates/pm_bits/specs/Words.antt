@@ -1,7 +1,7 @@
 -- How the bits of a row stand in words of 64 bits: the bit of the number i is bit i % 64 of word i / 64.
 use Rattle.std.specs.Prelude.{◌≡◌, ℕ, ◌+◌, ◌*◌, ◌/◌, ◌%◌, ◌^◌, ◌<◌, ◌≤◌, ◌==◌, Bool, false, IsTrue, List, length, map, slice_index, bit_and, count_by}
 use Rattle.std.specs.Int.{bit_at}
-use Rattle.std.specs.List.{range_with_len}
+use Rattle.std.specs.List.{filter, range_with_len}
 
 -- the bit of the number i
 abbrev pub has_bit : List ℕ → ℕ → Bool
@@ -22,6 +22,10 @@ pub record Holds (words : List ℕ) (n : ℕ) : Type 0 where
 -- how many bits are set
 abbrev pub bit_count : List ℕ → ℕ
 bit_count words = count_by (has_bit words) (range_with_len 0 (length words * 64))
+
+-- the numbers whose bits are set, ascending
+abbrev pub set_bits : List ℕ → List ℕ
+set_bits words = filter (has_bit words) (range_with_len 0 (length words * 64))
 
 -- R relates the words of two rows at each place from one on and below another
 abbrev pub EachWord : (ℕ → ℕ → Type 0) → ℕ → ℕ → List ℕ → List ℕ → Type 0

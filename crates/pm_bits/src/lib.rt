@@ -4,6 +4,8 @@
 // (`has`), and the list's length is the row's. The words and lanes below that are seen nowhere else.
 #![tactic(auto)]
 
+ghost use Rattle.pm_bits.specs.Examples.{MembersAreRead};
+
 mod order;
 mod row;
 mod table;
@@ -11,3 +13,8 @@ mod words;
 
 pub use row::BitRow;
 pub use table::BitTable;
+
+/// The members of small rows as lists.
+pub fn example_members()
+    ensures { MembersAreRead }
+{}

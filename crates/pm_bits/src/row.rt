@@ -1,6 +1,6 @@
 // A set of numbers below a length.
-ghost use Rattle.std.specs.Prelude.{◌≡◌, ◌≢◌, ℕ, ◌<◌, ◌↔◌, IsTrue, IfOk, true, length};
-ghost use Rattle.pm_bits.specs.Sets.{has, IsEmpty, IsSubset, IsIntersection, SameMembers, member_count, HasFirstDifference};
+ghost use Rattle.std.specs.Prelude.{◌≡◌, ◌≢◌, ℕ, ◌^◌, ◌<◌, ◌↔◌, IsTrue, IfOk, true, length};
+ghost use Rattle.pm_bits.specs.Sets.{has, IsEmpty, IsSubset, IsIntersection, SameMembers, member_count, members, HasFirstDifference};
 
 use crate::words;
 use std::alloc::{AllocError, Global};
@@ -77,6 +77,14 @@ impl BitRow {
         ensures members { IsIntersection out.new self.now o.now }
     {
         words::meet(&self.words, &o.words, &mut out.words);
+    }
+
+    /// The members, ascending, found word by word.
+    pub fn members(&self, alloc: Global) -> Result<Vec<u32>, AllocError>
+        requires { length self.now < 2 ^ 32 }
+        ensures { IfOk result (λ list. list.items ≡ members self.now) }
+    {
+        words::members(alloc, &self.words)
     }
 
     /// How many members there are, counted word by word.

@@ -3,7 +3,7 @@
 ghost use Rattle.std.specs.Prelude.{◌≡◌, ℕ, ◌+◌, ◌*◌, ◌/◌, ◌<◌, ◌≤◌, ◌↔◌, ◌&&◌, IsTrue, IfOk, replicate, length, bit_and, true, ◌≢◌, ◌^◌};
 ghost use Rattle.std.specs.Ordering.{MatchOrdering};
 ghost use Rattle.std.specs.Simd.Lanes.{chunk, zip2, put_chunk};
-ghost use Rattle.pm_bits.specs.Words.{has_bit, bit_count, EachWord, IsWithin, AreMet, StayAsTheyWere, HasFirstBit, HasLowestBit};
+ghost use Rattle.pm_bits.specs.Words.{has_bit, bit_count, set_bits, EachWord, IsWithin, AreMet, StayAsTheyWere, HasFirstBit, HasLowestBit};
 
 use std::alloc::{AllocError, Global};
 use std::cmp::Ordering;
@@ -168,6 +168,26 @@ pub(crate) fn meet(a: &[u64], b: &[u64], out: &mut [u64])
 {
     meet_chunks(a, b, out);
     meet_rest(a, b, out, a.len() / LANES * LANES);
+}
+
+/// The numbers whose bits are set, ascending. A word without a bit is passed over.
+pub(crate) fn members(alloc: Global, words: &[u64]) -> Result<Vec<u32>, AllocError>
+    requires { length words.now ≤ 2 ^ 26 }
+    ensures { IfOk result (λ list. list.items ≡ set_bits words.now) }
+{
+    let mut list = Vec::new(alloc);
+    for k in 0..words.len() {
+        let word = words[k];
+        if word == 0 {
+            continue;
+        }
+        for bit in 0..64 {
+            if (word >> bit) & 1 == 1 {
+                list.push((k * 64 + bit) as u32)?;
+            }
+        }
+    }
+    Ok(list)
 }
 
 /// How many bits are set, word by word.

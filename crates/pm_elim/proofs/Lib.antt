@@ -17,3 +17,4 @@ pub mod NullLaws
 pub mod CountLaws
 pub mod SignLaws
 pub mod DualLaws
+pub mod EnlargingLaws

@@ -49,8 +49,11 @@ module _ (n : ℕ) (B : List Row) (P : List ℕ) (e : IsEchelonBasis n B P) (row
   pub rest_zero : (i : ℕ) → i < length B → entry rest (column P i) ≡ pos 0
   rest_zero i l = reduced_zero B P row rest e.reduced h i l
 
+  pub inside_unless_zero : IsZero rest → InSpan B row
+  inside_unless_zero z = inside_of_zero B row rest (reduced_modulo B P row rest h) z
+
   pub span_unless_zero : IsZero rest → SameSpan B (B ++ row ∷ [])
-  span_unless_zero z = same_span_appended B row (inside_of_zero B row rest (reduced_modulo B P row rest h) z)
+  span_unless_zero z = same_span_appended B row (inside_unless_zero z)
 
   module _ (c : ℕ) (x : Row) (p : IsPivotRow rest c x) where
     pub is_new_row : IsNewRow n B P x c

@@ -8,3 +8,4 @@ pub mod Duals
 pub mod Refusals
 pub mod ExtendedLists
 pub mod Totals
+pub mod Enlarging

@@ -1,5 +1,6 @@
 // One round of an elimination: a further row is taken into the basis.
 
+ghost use Rattle.pm_algebra.specs.Cones.{InSpan};
 ghost use Rattle.pm_algebra.specs.Rows.{HasCols, Row, entry};
 ghost use Rattle.pm_bases.specs.Bases.{IsEchelonBasis, SameSpan, column};
 ghost use Rattle.pm_elim.specs.Evidence.{IsWideOnNext, IsWideRound};
@@ -89,6 +90,7 @@ pub(crate) fn take_in(alloc: Global, basis: &mut Growing, row: &Ints) -> Result<
     ensures is_basis { OnOk result (IsEchelonBasis (length row.now) basis.new.rows.items basis.new.pivots.items) }
     ensures span { OnOk result (SameSpan basis.new.rows.items (basis.old.rows.items ++ row.now ∷ [])) }
     ensures count { OnOk result (vec_len basis.new.rows ≤ vec_len basis.old.rows + 1) }
+    ensures spanned { OnOk result (vec_len basis.new.rows ≤ vec_len basis.old.rows → InSpan basis.old.rows.items row.now) }
     ensures never_wide { OnOk result ((part : Row) (by i : ℕ) → IsWideRound basis.old.rows.items basis.old.pivots.items row.now part by i → ⊥) }
     ensures wide { IfErr result (λ f. IfWideStep f (λ s. IsWideRound basis.old.rows.items basis.old.pivots.items row.now s.part s.by s.column)) }
     ensures within { IfErr result (λ f. IfWideStep f (λ s. s.column < length row.now)) }

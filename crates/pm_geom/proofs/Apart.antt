@@ -68,7 +68,7 @@ unfoldable pub without : {v : Row} {V : List Row} → Among v V → List Row
 without (here {xs = V}) = V
 without (there {y = y} i) = y ∷ without i
 
-without_back : {v y : Row} {V : List Row} (i : Among v V) → Among y (v ∷ without i) → Among y V
+pub without_back : {v y : Row} {V : List Row} (i : Among v V) → Among y (v ∷ without i) → Among y V
 unfolding without
 without_back here j = j
 without_back (there i) here = there (without_back i here)
@@ -79,7 +79,7 @@ past : {v : Row} (z : Row) {y : Row} {W : List Row} → Among y (v ∷ W) → Am
 past z here = here
 past z (there i) = there (there i)
 
-without_to : {v y : Row} {V : List Row} (i : Among v V) → Among y V → Among y (v ∷ without i)
+pub without_to : {v y : Row} {V : List Row} (i : Among v V) → Among y V → Among y (v ∷ without i)
 unfolding without
 without_to here j = j
 without_to (there i) here = there here

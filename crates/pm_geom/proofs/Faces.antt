@@ -25,8 +25,8 @@ zero_parts p q x y z hp hq hy hz e ex =
     let b = mul_nonneg (weaken hq) hy in
     (mul_cancel hq (simp ring (omega (arith, ints))), omega (arith, ints))
 
-less-dot : (p : ℤ) (a : Row) (q : ℤ) (g x : Row) → dot (difference p a q g) x ≡ p *ℤ dot a x -ℤ q *ℤ dot g x
-less-dot p a q g x = dot_comm (difference p a q g) x ∙ dot-difference x p a q g ∙ ap (λ z. p *ℤ z -ℤ q *ℤ dot x g) (dot_comm x a) ∙ ap (λ z. p *ℤ dot a x -ℤ q *ℤ z) (dot_comm x g)
+pub difference-dot : (p : ℤ) (a : Row) (q : ℤ) (g x : Row) → dot (difference p a q g) x ≡ p *ℤ dot a x -ℤ q *ℤ dot g x
+difference-dot p a q g x = dot_comm (difference p a q g) x ∙ dot-difference x p a q g ∙ ap (λ z. p *ℤ z -ℤ q *ℤ dot x g) (dot_comm x a) ∙ ap (λ z. p *ℤ dot a x -ℤ q *ℤ z) (dot_comm x g)
 
 zero_whole : (p q x y z : ℤ) → pos 0 <ℤ p → z ≡ p *ℤ x -ℤ q *ℤ y → y ≡ pos 0 → z ≡ pos 0 → x ≡ pos 0
 zero_whole p q x y z hp e ey ez = let a = simp (ey, ez, ring) at e in mul_cancel hp (simp ring (omega (arith, ints)))
@@ -58,7 +58,7 @@ module _ (n : ℕ) (G L : List Row) where
 
         down_more : (x : Row) → length x ≡ n → InCone G L x → dot a x ≡ pos 0 → (b : Row) → Among b (g ∷ r.rows) → dot b x ≡ pos 0
         down_more x lx hx e b i =
-            let z = zero_parts t.p t.q (dot a x) (dot g x) (dot (difference t.p a t.q g) x) t.positive up (vg.holds x lx hx) (not_below W f (difference t.p a t.q g) t.rest x lx hx) (less-dot t.p a t.q g x) e in
+            let z = zero_parts t.p t.q (dot a x) (dot g x) (dot (difference t.p a t.q g) x) t.positive up (vg.holds x lx hx) (not_below W f (difference t.p a t.q g) t.rest x lx hx) (difference-dot t.p a t.q g x) e in
             at_each z b i
           where
             at_each : (dot g x ≡ pos 0) × (dot (difference t.p a t.q g) x ≡ pos 0) → (b : Row) → Among b (g ∷ r.rows) → dot b x ≡ pos 0
@@ -66,7 +66,7 @@ module _ (n : ℕ) (G L : List Row) where
             at_each z b (there i) = r.down x lx hx z.1 b i
 
         back_more : (x : Row) → length x ≡ n → InCone G L x → ((b : Row) → Among b (g ∷ r.rows) → dot b x ≡ pos 0) → dot a x ≡ pos 0
-        back_more x lx hx k = zero_whole t.p t.q (dot a x) (dot g x) (dot (difference t.p a t.q g) x) t.positive (less-dot t.p a t.q g x) (k g here) (r.back x lx hx (λ b i. k b (there i)))
+        back_more x lx hx k = zero_whole t.p t.q (dot a x) (dot g x) (dot (difference t.p a t.q g) x) t.positive (difference-dot t.p a t.q g x) (k g here) (r.back x lx hx (λ b i. k b (there i)))
 
     tight_same : (W : List Row) (g a : Row) → (t : After (InCone W E) g a) → t.q ≤ℤ pos 0 → Tight W (difference t.p a t.q g) → Tight (g ∷ W) a
     tight_same W g a t none r =
@@ -75,8 +75,8 @@ module _ (n : ℕ) (G L : List Row) where
         record {
           rows = r.rows;
           some = λ b i. there (r.some b i);
-          down = λ x lx hx e. r.down x lx hx (less-dot t.p a t.q g x ∙ simp (e, z, ring));
-          back = λ x lx hx k. let e = sym (less-dot t.p a t.q g x) ∙ r.back x lx hx k in mul_cancel t.positive (let y = simp (z, ring) at e in simp ring (omega (arith, ints)));
+          down = λ x lx hx e. r.down x lx hx (difference-dot t.p a t.q g x ∙ simp (e, z, ring));
+          back = λ x lx hx k. let e = sym (difference-dot t.p a t.q g x) ∙ r.back x lx hx k in mul_cancel t.positive (let y = simp (z, ring) at e in simp ring (omega (arith, ints)));
         }
 
     tight : (W : List Row) → ((b : Row) → Among b W → IsValid n G L b) → (a : Row) → InCone W E a → Tight W a
@@ -87,16 +87,16 @@ module _ (n : ℕ) (G L : List Row) where
         by_lt_z (pos 0) t.q (λ up. tight_more W g a (f g here) (λ b i. f b (there i)) t up r) (λ none. tight_same W g a t none r)
 
   -- the sum of rows
-  total : List Row → Row
+  pub total : List Row → Row
   total [] = zeros n
   total (b ∷ J) = plus b (total J)
 
-  total_cols : (J : List Row) → ((b : Row) → Among b J → IsValid n G L b) → length (total J) ≡ n
+  pub total_cols : (J : List Row) → ((b : Row) → Among b J → IsValid n G L b) → length (total J) ≡ n
   unfolding total
   total_cols [] f = length-zeros n
   total_cols (b ∷ J) f = length-plus n b (total J) (f b here).cols (total_cols J (λ y i. f y (there i)))
 
-  total_not_below : (J : List Row) → ((b : Row) → Among b J → IsValid n G L b) → (x : Row) → length x ≡ n → InCone G L x → pos 0 ≤ℤ dot (total J) x
+  pub total_not_below : (J : List Row) → ((b : Row) → Among b J → IsValid n G L b) → (x : Row) → length x ≡ n → InCone G L x → pos 0 ≤ℤ dot (total J) x
   unfolding total
   total_not_below [] f x lx hx = simp dot-zeros (omega (arith, ints))
   total_not_below (b ∷ J) f x lx hx =
@@ -104,7 +104,7 @@ module _ (n : ℕ) (G L : List Row) where
       let q = total_not_below J (λ y i. f y (there i)) x lx hx in
       simp plus-dot (omega (arith, ints))
 
-  total_down : (J : List Row) → ((b : Row) → Among b J → IsValid n G L b) → (x : Row) → length x ≡ n → InCone G L x → dot (total J) x ≡ pos 0 → (b : Row) → Among b J → dot b x ≡ pos 0
+  pub total_down : (J : List Row) → ((b : Row) → Among b J → IsValid n G L b) → (x : Row) → length x ≡ n → InCone G L x → dot (total J) x ≡ pos 0 → (b : Row) → Among b J → dot b x ≡ pos 0
   unfolding total
   total_down [] f x lx hx e b i = elim i [ ]
   total_down (c ∷ J) f x lx hx e b here =
@@ -119,7 +119,7 @@ module _ (n : ℕ) (G L : List Row) where
       let w : dot (total J) x ≡ pos 0 = omega (arith, ints) in
       total_down J (λ y i. f y (there i)) x lx hx w b i
 
-  total_back : (J : List Row) → (x : Row) → ((b : Row) → Among b J → dot b x ≡ pos 0) → dot (total J) x ≡ pos 0
+  pub total_back : (J : List Row) → (x : Row) → ((b : Row) → Among b J → dot b x ≡ pos 0) → dot (total J) x ≡ pos 0
   unfolding total
   total_back [] x f = dot-zeros n x
   total_back (b ∷ J) x f =
@@ -127,7 +127,7 @@ module _ (n : ℕ) (G L : List Row) where
       let q = total_back J x (λ y i. f y (there i)) in
       simp (plus-dot, p, q)
 
-  total_valid : (J : List Row) → ((b : Row) → Among b J → IsValid n G L b) → IsValid n G L (total J)
+  pub total_valid : (J : List Row) → ((b : Row) → Among b J → IsValid n G L b) → IsValid n G L (total J)
   total_valid J f = record { cols = total_cols J f; holds = total_not_below J f }
 
 -- ---- the theorem

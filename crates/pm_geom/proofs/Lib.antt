@@ -18,3 +18,7 @@ pub mod Lineality
 pub mod Independent
 pub mod Dimension
 pub mod Copies
+pub mod SmallGraphs
+pub mod SmallCounts
+pub mod Duality
+pub mod ProgramExamples

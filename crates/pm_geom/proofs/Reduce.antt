@@ -224,6 +224,20 @@ module _ (n : ℕ) (G L : List Row) (hg : HasCols n G) (hl : HasCols n L) where
     once = final.once;
   }
 
+  -- an order of the extreme rays whose rows are generators, and lines that with it generate the cone
+  pub record Generators : Type 0 where
+    pub rows : List Row
+    pub lines : List Row
+    pub some : (g : Row) → Among g rows → Among g G
+    pub order : IsOrder n (InCone G L) rows
+    pub cols : HasCols n lines
+    pub both_ways : (k : Row) → Among k lines → InCone G L k × InCone G L (opposite k)
+    pub enough : (x : Row) → InCone G L x → InCone rows lines x
+
+  pub generators : Generators
+  unfolding parts
+  generators = record { rows = final.rows; lines = K; some = λ g i. (parts.others_are g (final.some g i)).0; order = order; cols = K_cols; both_ways = K_lines; enough = final.enough }
+
   lineality : (x : Row) → length x ≡ n → InLineality (InCone G L) x ↔ InCone [] K x
   lineality x l = (spanned x l, λ h. record { inside = inner [] (λ g i. elim i [ ]) x h; opposed = inner [] (λ g i. elim i [ ]) (opposite x) (lines_opposite K x h) })
 

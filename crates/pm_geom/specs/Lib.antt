@@ -4,3 +4,13 @@ pub mod Faces
 pub mod Laws
 pub mod Examples
 pub mod Evidence
+pub mod Graphs
+pub mod FaceCounts
+pub mod Meets
+pub mod GraphExamples
+pub mod Generators
+pub mod StatedOrder
+pub mod RayEvidence
+pub mod Programs
+pub mod Duality
+pub mod ProgramExamples

@@ -1,10 +1,14 @@
 // Cones, polytopes and fans: what extreme rays, facet rows, orders and faces are, and the laws that the crates above rest on.
 #![tactic(auto)]
 
+ghost use Rattle.pm_geom.specs.Duality.{DirectionIsWithoutBound, InfeasibleExcludes, InfeasibleHasNoPoint, OptimumIsMaximum, WeakDuality};
 ghost use Rattle.pm_geom.specs.Examples.{EmptyIsRead, HalfLineIsRead, IsRefused, LineIsRead, SquareIsRead};
+ghost use Rattle.pm_geom.specs.GraphExamples.{CountsAreRead, DiagramsAreRead, HVectorsAreRead, IndexListsAreRead, SmallGraphsAreRead, SquareGraphIsRead};
 ghost use Rattle.pm_geom.specs.Laws.{Bipolar, CutIsGenerated, ExtremesGenerate, FaceOfFacets, FacetOrderCutsOut, FacetRowsCutOut, Farkas, GeneratedIsCut, GeneratorsSpan, LinealityIsNull, MembershipDecided, NotZeroByRank, OrderGenerates, OrderSpans, RankExists, RankIsLeft, SpanIsDifferences, VanishingIsNull};
+ghost use Rattle.pm_geom.specs.ProgramExamples.{ProgramsAreRead};
 ghost use Rattle.std.specs.Prelude.{ℕ};
 
+pub mod descriptions;
 mod evidence;
 mod lists;
 
@@ -132,4 +136,62 @@ pub fn example_line()
 /// What the definitions refuse: lists that are no order, a row that is not extreme, cones that are over no polytope.
 pub fn example_refusals()
     ensures { IsRefused }
+{}
+
+/// Sets of indices as lists: members, lists that do not rise, and lexicographic order.
+pub fn example_index_lists()
+    ensures { IndexListsAreRead }
+{}
+
+/// The graph of the unit square: sides and diagonals, walks, distances, and the diameter 2.
+pub fn example_square_graph()
+    ensures { SquareGraphIsRead }
+{}
+
+/// Graphs of no node, of one, and of two that nothing joins.
+pub fn example_small_graphs()
+    ensures { SmallGraphsAreRead }
+{}
+
+/// The f-vectors and f2-vectors of the cone {0}, a ray, a segment, the square and the octahedron.
+pub fn example_counts()
+    ensures { CountsAreRead }
+{}
+
+/// The h-vectors of the octahedron, the square, a segment and a point, and one with a negative number.
+pub fn example_h_vectors()
+    ensures { HVectorsAreRead }
+{}
+
+/// All faces of the cone {0} and of a ray, and lists that lack the least face or the whole.
+pub fn example_diagrams()
+    ensures { DiagramsAreRead }
+/// No point of a linear program exceeds the value of a dual (Chvatal, Linear Programming, chapter 5).
+pub fn law_weak_duality()
+    ensures { WeakDuality }
+{}
+
+/// Multipliers of infeasibility exclude a point.
+pub fn law_infeasible_excludes()
+    ensures { InfeasibleExcludes }
+{}
+
+/// The value of an optimum with its dual is the greatest value at the solutions.
+pub fn law_optimum_is_maximum()
+    ensures { OptimumIsMaximum }
+{}
+
+/// A point and an improving direction show that the objective has no bound.
+pub fn law_direction_is_without_bound()
+    ensures { DirectionIsWithoutBound }
+{}
+
+/// Multipliers of infeasibility leave no solution with a positive first entry.
+pub fn law_infeasible_has_no_point()
+    ensures { InfeasibleHasNoPoint }
+{}
+
+/// The definitions of linear programs read on small programs.
+pub fn example_programs()
+    ensures { ProgramsAreRead }
 {}

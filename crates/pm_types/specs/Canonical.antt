@@ -1,8 +1,6 @@
 -- When a value that a client found is canonical for a thing. VERTICES, LINEALITY_SPACE, FACETS and AFFINE_HULL have a canonical form; each right value of another property is canonical.
 --     IsEchelonBasisOf n S R P      R, with pivot columns P, is the echelon basis of the rows in S
---     VanishAt P x      x is 0 at each of these columns
 --     IsRayRow t r x      the row r of fractions stands for the primitive whole row x: for a polytope divided so that the first coordinate is 1 where that is not 0, else as it is
---     IsBefore x y      x comes before y in lexicographic order
 --     AreCanonical n S is_row IsFreshOrder rows      the rows stand for primitive whole rows with zeros at the pivot columns of the echelon basis of S (the lineality, or the rows that vanish), ascending where their order is fresh
 --     IsEchelonMatrix n S rows      the rows are the echelon basis of S
 --     IsCanonical kind p v t      a value v of p that a client of this kind found
@@ -13,6 +11,7 @@ use Rattle.pm_algebra.specs.Numbers.{Ratio}
 use Rattle.pm_algebra.specs.Rows.{Row, entry, ratio_at, Stands}
 use Rattle.pm_bases.specs.Bases.{IsEchelonBasis}
 use Rattle.pm_geom.specs.Cones.{Vanishes}
+use Rattle.pm_geom.specs.Generators.{IsBefore, VanishAt}
 use Rattle.pm_geom.specs.Things.{Thing}
 use Rattle.pm_geom.specs.declared.ObjectType.TheVariants.{Polytope}
 use Rattle.pm_types.specs.Kinds.{IsFresh}
@@ -24,14 +23,10 @@ use Rattle.pm_types.specs.declared.kind.Kind.{Kind}
 use Rattle.pm_types.specs.declared.property.PropId.{PropId}
 use Rattle.pm_types.specs.declared.property.PropId.TheVariants.{Vertices, LinealitySpace, Facets, AffineHull}
 use lib.IntN.{pos}
-use lib.Signed.{◌<ℤ◌}
 
 pub record IsEchelonBasisOf (n : ℕ) (S : Row → Type 0) (R : List Row) (P : List ℕ) : Type 0 where
   pub basis : IsBasis n S R
   pub echelon : IsEchelonBasis n R P
-
-abbrev pub VanishAt : List ℕ → Row → Type 0
-VanishAt P x = All (λ c. entry x c ≡ pos 0) P
 
 pub record IsDivided (t : Thing) (x : Row) : Type 0 where
   pub polytope : t.of ≡ Polytope
@@ -41,12 +36,6 @@ pub record IsRayRow (t : Thing) (r : List Ratio) (x : Row) : Type 0 where
   pub stands : Stands r x
   pub divided : IsDivided t x → ratio_at r 0 ≡ over_one (pos 1)
   pub whole : ¬ (IsDivided t x) → r ≡ ratios x
-
-pub record IsBefore (x y : Row) : Type 0 where
-  pub place : ℕ
-  pub within : place < length x
-  pub same : (i : ℕ) → i < place → entry x i ≡ entry y i
-  pub below : entry x place <ℤ entry y place
 
 -- as many, and R holds at each place
 abbrev pub EachIs : (List Ratio → Row → Type 0) → List (List Ratio) → List Row → Type 0

@@ -4,6 +4,7 @@ pub mod Sets
 pub mod Weights
 pub mod Padded
 pub mod Kinds
+pub mod Lists
 pub mod Values
 pub mod Right
 pub mod Examples

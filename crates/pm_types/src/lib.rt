@@ -8,6 +8,7 @@ ghost use Rattle.pm_types.specs.Runs.{RightAnswerIsKept};
 mod client_name;
 mod forms;
 mod kind;
+mod lattice;
 mod names;
 mod property;
 mod set;
@@ -17,6 +18,7 @@ mod weight;
 
 pub use client_name::ClientName;
 pub use kind::{Kind, RuleId};
+pub use lattice::Lattice;
 pub use pm_geom::{Evidence, ObjectType};
 pub use property::{PropId, ValueKind};
 pub use set::PropSet;
