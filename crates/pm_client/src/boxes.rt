@@ -75,9 +75,8 @@ pub fn run_first(
 ) -> Result<(), ClientFail>
     requires there { IsTrue (has_client view.now.kind (map tally clients.old.items)) }
     requires empty { draft.old ≡ record { kind = view.now.kind; values = [] } }
-    ensures started {
-        map tally clients.new.items ≡ after_start view.now.kind (map tally clients.old.items)
-    }
+    ensures started { map tally clients.new.items
+        ≡ after_start view.now.kind (map tally clients.old.items) }
     ensures draft { draft.new.kind ≡ draft.old.kind }
     ensures sound { OnOk result (IsSound view.now draft.new) }
     ensures failed { IfErr result (FailsRightly view.now) }

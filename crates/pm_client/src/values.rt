@@ -62,7 +62,8 @@ pub fn put_value(draft: &mut Draft, p: PropId, v: Value) -> Result<(), ClientFai
     requires target { IsTrue (has draft.old.kind.targets p) }
     requires missing { drafted p draft.old.values ≡ None }
     ensures ok { OnOk result (draft.new ≡ record draft.old {
-        values = draft.old.values ++ record { property = p; value = view_of v } ∷ [] }) }
+      values = draft.old.values ++ record { property = p; value = view_of v } ∷ [];
+    }) }
     ensures memory { IfErr result (λ e. e ≡ Memory) }
     ensures err { OnErr result (draft.new ≡ draft.old) }
 {

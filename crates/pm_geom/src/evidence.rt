@@ -31,13 +31,23 @@ pub enum Evidence {
         column: u32,
     },
     /// Two rows whose product leaves the range: the first of generators, the second of half-spaces.
-    E4 { first: Ints, second: Ints },
+    E4 {
+        first: Ints,
+        second: Ints,
+    },
     /// More than 2,048 extreme rays of the cone that the first `front` rows cut out.
-    E5Rays { front: u32, rays: RowList },
+    E5Rays {
+        front: u32,
+        rays: RowList,
+    },
     /// The places of more than 2,048 facet rows among half-spaces.
-    E5Rows { rows: Places },
+    E5Rows {
+        rows: Places,
+    },
     /// Faces that are more than 65,536, or have more than 4,000,000 indices.
-    E5Faces { faces: PlaceSets },
+    E5Faces {
+        faces: PlaceSets,
+    },
 }
 
 impl Evidence {

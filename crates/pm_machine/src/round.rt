@@ -41,7 +41,7 @@ fn run_client(
     ensures started { map tally clients.new.items ≡ after_start kind (map tally clients.old.items) }
     ensures sound { OnOk result (IsSound
         (view_for object.now.state sub kind
-            (unwrap_or (cols_of object.now.state.held) 1)) draft.new) }
+        (unwrap_or (cols_of object.now.state.held) 1)) draft.new) }
     ensures failed { IfErr result (FailsRightly
         (view_for object.now.state sub kind (unwrap_or (cols_of object.now.state.held) 1))) }
 {
@@ -63,10 +63,10 @@ fn end_run(
         (facts object.old.state.held) }
     requires sound { OnOk ran (IsSound
         (view_for object.old.state None rule.now.kind
-            (unwrap_or (cols_of object.old.state.held) 1)) draft.old) }
+        (unwrap_or (cols_of object.old.state.held) 1)) draft.old) }
     requires failed { IfErr ran (FailsRightly
         (view_for object.old.state None rule.now.kind
-            (unwrap_or (cols_of object.old.state.held) 1))) }
+        (unwrap_or (cols_of object.old.state.held) 1))) }
     ensures ok { IfOk result (λ end. RunsRule None id rule.now object.old.state end
         object.new.state) }
     ensures err { OnErr result (object.new.state ≡ object.old.state) }

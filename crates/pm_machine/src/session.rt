@@ -216,7 +216,7 @@ impl Session {
     ) -> Result<Reply, AllocError>
         ensures step { IfOk result (λ r. TakeStep
             (machine_of self.old (map tally clients.now)) (seen_ref obj.now) prop.now json.now
-                (seen r)
+            (seen r)
             (machine_of self.new (map tally clients.now))) }
         ensures err { OnErr result (Stays (machine_of self.old (map tally clients.now))
             (machine_of self.new (map tally clients.now))) }
@@ -258,7 +258,7 @@ impl Session {
             (machine_of self.new (map tally clients.new.items))) }
         ensures part { OnErr result (StepInPart (book_of self.old)
             (machine_of self.old (map tally clients.old.items)) (give_value
-                (seen_ref obj.now) prop.now)
+            (seen_ref obj.now) prop.now)
             (machine_of self.new (map tally clients.new.items))) }
         ensures book { book_of self.new ≡ book_of self.old }
         ensures spent { is_spent self.new ≡ is_spent self.old }

@@ -46,8 +46,8 @@ impl Model for Object {
     ghost Value = { ObjectSeen };
 
     ghost view = { λ o. record {
-        state = record { of = o.of; held = map held_seen o.held.items; excluded = o.excluded.items; rounds = map round_seen o.rounds.items; disabled = map string_bytes o.disabled.items };
-        spare = vec_capacity o.held - vec_len o.held;
+      state = record { of = o.of; held = map held_seen o.held.items; excluded = o.excluded.items; rounds = map round_seen o.rounds.items; disabled = map string_bytes o.disabled.items };
+      spare = vec_capacity o.held - vec_len o.held;
     } };
 
     ghost invariant = { λ o. IsFormed (record { of = o.of; held = map held_seen o.held.items; excluded = o.excluded.items; rounds = map round_seen o.rounds.items; disabled = map string_bytes o.disabled.items }) };

@@ -109,10 +109,10 @@ fn answer_line(
         (machine_of session.new (map tally clients.new.items))) }
     ensures part { OnErr result (
         Stays (machine_of session.old (map tally clients.old.items))
-            (machine_of session.new (map tally clients.new.items))
+        (machine_of session.new (map tally clients.new.items))
         ⊎ InHand (book_of session.old)
-            (machine_of session.old (map tally clients.old.items)) line.now
-            (machine_of session.new (map tally clients.new.items))) }
+        (machine_of session.old (map tally clients.old.items)) line.now
+        (machine_of session.new (map tally clients.new.items))) }
     ensures book { book_of session.new ≡ book_of session.old }
 {
     match command_at(alloc, line)? {
@@ -145,18 +145,18 @@ fn answer_next<K: Sink>(
         (machine_of session.new (map tally clients.new.items))) }
     ensures part { IsErrOf result RunFail.SinkFault → (reply : ReplySeen)
         × Answers (book_of session.old)
-            (machine_of session.old (map tally clients.old.items)) line.now (Some reply)
-            (machine_of session.new (map tally clients.new.items))
+        (machine_of session.old (map tally clients.old.items)) line.now (Some reply)
+        (machine_of session.new (map tally clients.new.items))
         × GainsPart (K.taken sink.old) (K.taken sink.new) (reply_text reply) }
     ensures fault { IsErrOf result RunFail.SinkFault →
         Rose (K.faults sink.old) (K.faults sink.new) }
     ensures memory { IsErrOf result RunFail.Memory → sink.new ≡ sink.old }
     ensures hand { IsErrOf result RunFail.Memory →
         Stays (machine_of session.old (map tally clients.old.items))
-            (machine_of session.new (map tally clients.new.items))
+        (machine_of session.new (map tally clients.new.items))
         ⊎ InHand (book_of session.old)
-            (machine_of session.old (map tally clients.old.items)) line.now
-            (machine_of session.new (map tally clients.new.items)) }
+        (machine_of session.old (map tally clients.old.items)) line.now
+        (machine_of session.new (map tally clients.new.items)) }
     ensures book { book_of session.new ≡ book_of session.old }
     ensures never_falls { K.faults sink.old ≤ K.faults sink.new }
 {
@@ -227,7 +227,7 @@ fn run_script<K: Sink>(
 ) -> Result<bool, RunFail>
     ensures outcome { FromNoObjects (map tally clients.old.items) (map tally clients.new.items)
         (λ start end. HasOutcome standard_rules (K.taken sink.old) (K.taken sink.new)
-            start (lines_of script.now) result end) }
+        start (lines_of script.now) result end) }
     ensures fault { IsErrOf result RunFail.SinkFault →
         Rose (K.faults sink.old) (K.faults sink.new) }
     ensures never_falls { K.faults sink.old ≤ K.faults sink.new }
@@ -245,11 +245,11 @@ fn answer_script<S: Source, K: Sink>(
 ) -> Status
     ensures words { result ≢ Status.BadWords }
     ensures run { Ended standard_rules result (record {
-        script = S.left source.old;
-        had = K.taken sink.old;
-        has = K.taken sink.new;
-        before = map tally clients.old.items;
-        after = map tally clients.new.items;
+      script = S.left source.old;
+      had = K.taken sink.old;
+      has = K.taken sink.new;
+      before = map tally clients.old.items;
+      after = map tally clients.new.items;
     }) }
     ensures read { WasRead result (S.left source.old) (S.left source.new) }
     ensures untouched { IsUnrun result →
@@ -294,11 +294,11 @@ pub fn polymake<S: Source, K: Sink>(
 ) -> Status
     ensures words { (result ≡ Status.BadWords) ↔ (0 < length words.now) }
     ensures run { Ended standard_rules result (record {
-        script = S.left source.old;
-        had = K.taken sink.old;
-        has = K.taken sink.new;
-        before = map tally clients.old.items;
-        after = map tally clients.new.items;
+      script = S.left source.old;
+      had = K.taken sink.old;
+      has = K.taken sink.new;
+      before = map tally clients.old.items;
+      after = map tally clients.new.items;
     }) }
     ensures read { WasRead result (S.left source.old) (S.left source.new) }
     ensures unread { result ≡ Status.BadWords → source.new ≡ source.old }
