@@ -9,3 +9,4 @@ pub mod Measure
 pub mod RoundTraces
 pub mod Names
 pub mod Refused
+pub mod Examples

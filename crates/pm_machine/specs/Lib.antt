@@ -7,3 +7,4 @@ pub mod Steps
 pub mod Parts
 pub mod Sessions
 pub mod Laws
+pub mod Examples

@@ -1,6 +1,7 @@
-// The laws of honesty.
+// The laws of honesty, and examples.
 
 ghost use Rattle.pm_machine.specs.Events.{EventsKeep};
+ghost use Rattle.pm_machine.specs.Examples.{EventsAreRead, ExclusionsAreRead};
 ghost use Rattle.pm_machine.specs.Laws.{StepsInPartKeep, StepsKeep};
 
 /// Each event leaves an object honest, and kept where no round is under way: for chains of any length, whatever the clients answer.
@@ -16,4 +17,14 @@ pub fn law_steps_keep()
 /// Whatever part of a step happened, each object is honest.
 pub fn law_steps_in_part_keep()
     ensures { StepsInPartKeep }
+{}
+
+/// Which phase comes after events, and which events may not occur in a phase.
+pub fn example_events()
+    ensures { EventsAreRead }
+{}
+
+/// For whom an exclusion bars a rule.
+pub fn example_exclusions()
+    ensures { ExclusionsAreRead }
 {}

@@ -8,5 +8,7 @@ mod round;
 mod session;
 mod taking;
 
-pub use laws::{law_events_keep, law_steps_in_part_keep, law_steps_keep};
+pub use laws::{
+    example_events, example_exclusions, law_events_keep, law_steps_in_part_keep, law_steps_keep,
+};
 pub use session::Session;
