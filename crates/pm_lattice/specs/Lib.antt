@@ -1,0 +1,6 @@
+pub mod Parts
+pub mod Closures
+pub mod Ranks
+pub mod Lattices
+pub mod Laws
+pub mod Examples

@@ -1,0 +1,150 @@
+// All intersections of rows of bits.
+ghost use Rattle.pm_bits.specs.Sets.{IsSubset, has};
+ghost use Rattle.pm_lattice.specs.Closures.{IsClosureOf};
+ghost use Rattle.pm_lattice.specs.Parts.{Covers, IsPartOf, Opens, both};
+ghost use Rattle.std.specs.List.{All, Any, Contains};
+ghost use Rattle.std.specs.Prelude.{ℕ, List, Bool, ◌^◌, ◌<◌, ◌≡◌, ◌↔◌, IfOk, IsTrue, OnOk, length};
+
+use pm_bits::{BitRow, BitTable};
+use std::alloc::{AllocError, Global};
+use std::collections::BTreeSet;
+use std::mem;
+
+/// The most faces that a lattice may have.
+pub(crate) const MAX_FACES: usize = 65_536;
+
+/// The most places that a lattice may have.
+pub(crate) const MAX_PLACES: usize = 4_000_000;
+
+/// All intersections of rows with the set of all places, each once and in the order of rows of bits; or so many of them that they are no lattice.
+#[derive(Drop)]
+pub(crate) enum Closure {
+    All(Vec<BitRow>),
+    Many(Vec<BitRow>),
+}
+
+// The set of all numbers below `len`.
+pub(crate) fn full_row(alloc: Global, len: usize) -> Result<BitRow, AllocError>
+    ensures len { IfOk result (λ row. length row ≡ len) }
+    ensures full { IfOk result (λ row. (j : ℕ) → j < len → IsTrue (has row j)) }
+{
+    let mut row = BitRow::with_len(alloc, len)?;
+    for j in 0..len {
+        row.set(j);
+    }
+    Ok(row)
+}
+
+// Whether one of the rows contains s.
+fn any_contains(list: &[BitRow], s: &BitRow) -> bool
+    requires { All (λ c. length c ≡ length s.now) list.now }
+    ensures { IsTrue result ↔ Any (λ c. IsSubset s.now c) list.now }
+{
+    for row in list {
+        if row.contains(s) {
+            return true;
+        }
+    }
+    false
+}
+
+// Takes away the rows of a list that a set contains.
+fn drop_within(parts: &mut Vec<BitRow>, set: &BitRow)
+    requires { All (λ p. length p ≡ length set.now) parts.old.items }
+    ensures { (p : List Bool) → Contains parts.new.items p → Contains parts.old.items p }
+{
+    let mut i = 0;
+    while i < parts.len() {
+        if set.contains(&parts[i]) {
+            drop(parts.swap_remove(i));
+            continue;
+        }
+        i += 1;
+    }
+}
+
+// The parts of a face that rows open: what it shares with a row that does not contain it. A row opens nothing
+// where an earlier row has what it shares, or where the earlier rows that contain the face share more: so each
+// face is opened once, from one face alone. `whole` is the set of all places.
+fn parts_of(
+    alloc: Global,
+    rows: &BitTable,
+    whole: &BitRow,
+    face: &BitRow,
+) -> Result<Vec<BitRow>, AllocError>
+    requires face_len { length face.now ≡ rows.now.row_len }
+    requires whole_len { length whole.now ≡ rows.now.row_len }
+    ensures each { IfOk result (λ opened. All (IsPartOf rows.now.rows face.now) opened.items) }
+    ensures covers { IfOk result (λ opened. Covers rows.now.row_len rows.now.rows opened.items face.now) }
+{
+    let mut opened = Vec::new(alloc);
+    let mut parts = Vec::new(alloc);
+    let mut hull = BitRow::with_len(alloc, face.len())?;
+    whole.meet_into(whole, &mut hull);
+    let mut meet = BitRow::with_len(alloc, face.len())?;
+    for i in 0..rows.len() {
+        let row = rows.row(i);
+        if row.contains(face) {
+            row.meet_into(&hull, &mut meet);
+            mem::swap(&mut hull, &mut meet);
+            continue;
+        }
+        row.meet_into(face, &mut meet);
+        if any_contains(&parts, &meet) {
+            continue;
+        }
+        drop_within(&mut parts, &meet);
+        let next = BitRow::with_len(alloc, face.len())?;
+        parts.push(mem::replace(&mut meet, next))?;
+        if !face.contains(&hull) {
+            continue;
+        }
+        let mut part = BitRow::with_len(alloc, face.len())?;
+        row.meet_into(face, &mut part);
+        opened.push(part)?;
+    }
+    Ok(opened)
+}
+
+// Opens the parts of a face.
+fn open_parts(
+    alloc: Global,
+    rows: &BitTable,
+    whole: &BitRow,
+    face: &BitRow,
+    pending: &mut BTreeSet<BitRow>,
+) -> Result<(), AllocError>
+    requires face_len { length face.now ≡ rows.now.row_len }
+    requires whole_len { length whole.now ≡ rows.now.row_len }
+    ensures { OnOk result (Opens rows.now.row_len rows.now.rows face.now pending.old.keys pending.new.keys) }
+{
+    let mut parts = parts_of(alloc, rows, whole, face)?;
+    while let Some(part) = parts.pop() {
+        pending.insert(part)?;
+    }
+    Ok(())
+}
+
+/// Closes the rows of a table under intersection: from the set of all places on, the first open face is settled and its parts are opened.
+pub(crate) fn close(alloc: Global, rows: &BitTable) -> Result<Closure, AllocError>
+    requires { rows.now.row_len < 2 ^ 32 }
+    ensures { IfOk result (IsClosureOf rows.now) }
+{
+    let mut pending = BTreeSet::new(alloc);
+    let whole = full_row(alloc, rows.row_len())?;
+    pending.insert(full_row(alloc, rows.row_len())?)?;
+    let mut faces = Vec::new(alloc);
+    let mut place_count = 0;
+    for _turn in 0..MAX_FACES + 1 {
+        let Some(face) = pending.pop_first() else {
+            return Ok(Closure::All(faces));
+        };
+        open_parts(alloc, rows, &whole, &face, &mut pending)?;
+        place_count += face.count();
+        faces.push(face)?;
+        if place_count > MAX_PLACES {
+            return Ok(Closure::Many(faces));
+        }
+    }
+    Ok(Closure::Many(faces))
+}
