@@ -1,5 +1,4 @@
 pub mod Chains
-pub mod Drops
 pub mod Sizes
 pub mod Subsets
 pub mod Reached

@@ -5,7 +5,6 @@ use Rattle.pm_geom.specs.FaceCounts.{SamePlaces}
 use Rattle.pm_lattice.specs.Parts.{Covers, IsOpening, IsPartOf, both, row_of}
 use Rattle.pm_geom.specs.Faces.{IsStrictlyIn}
 use Rattle.pm_lattice.proofs.Chains.{and_both, and_left, and_right, in_or_outside}
-use Rattle.pm_lattice.proofs.Drops.{all_still}
 use Rattle.pm_lattice.proofs.Subsets.{below_length, subset_from_in}
 use Rattle.std.proofs.Common.{ap, arith, inl, inr, refl, subst, sym, ◌∙◌}
 use Rattle.std.proofs.lemmas.List.Elements.{All-push}
@@ -37,16 +36,11 @@ part_strict m rows f c e p = elim (in_or_outside m (has f) (has p.row)) [
 ]
 
 -- ---- what the loop over the rows keeps
--- an earlier row that does not contain the face contains the part
-pub record Earlier (rows : List (List Bool)) (f : List Bool) (i : ℕ) (p : List Bool) : Type 0 where
-  pub k : ℕ
-  pub below : k < i
-  pub not_in : ¬ (IsSubset f (row_of rows k))
-  pub part : IsSubset p (row_of rows k)
-
-pub record Passing (m : ℕ) (rows : List (List Bool)) (f : List Bool) (i : ℕ) (hull : List Bool) (parts opened : List (List Bool)) : Type 0 where
+-- the parts that the rows before i open are there; the hull is in each row before i that contains the face; and at the places outside stand rows before i that do not contain it
+pub record Passing (m : ℕ) (rows : List (List Bool)) (f : List Bool) (i : ℕ) (hull : List Bool) (outside : List ℕ) (opened : List (List Bool)) : Type 0 where
   pub each : All (IsPartOf rows f) opened
-  pub earlier : All (Earlier rows f i) parts
+  pub before : All (λ k. k < i) outside
+  pub not_in : All (λ k. ¬ (IsSubset f (row_of rows k))) outside
   pub under : (x : ℕ) → IsTrue (has hull x) → (k : ℕ) → k < i → IsSubset f (row_of rows k) → IsTrue (has (row_of rows k) x)
   pub covers : (j : ℕ) → j < i → IsOpening m rows f j → Any (λ c. SamePlaces m (both (has f) (has (row_of rows j))) (has c)) opened
 
@@ -57,71 +51,65 @@ below_next P i h p k l = elim (cases k i l) [ inl s ↦ h k s | inr e ↦ subst 
     cases k i l = grind arith
 
 pub passing_start : (m : ℕ) (rows : List (List Bool)) (f hull : List Bool) → Passing m rows f 0 hull [] []
-passing_start m rows f hull = record { each = λ k d l. absurd (omega arith); earlier = λ k d l. absurd (omega arith); under = λ x t k l. absurd (omega arith); covers = λ j l. absurd (omega arith) }
+passing_start m rows f hull = record { each = λ k d l. absurd (omega arith); before = λ k d l. absurd (omega arith); not_in = λ k d l. absurd (omega arith); under = λ x t k l. absurd (omega arith); covers = λ j l. absurd (omega arith) }
 
-module _ (m : ℕ) (rows : List (List Bool)) (f : List Bool) (i : ℕ) (hull : List Bool) (parts opened : List (List Bool)) (p : Passing m rows f i hull parts opened) (r : List Bool) (er : r ≡ row_of rows i) where
-  later : (q : List Bool) → Earlier rows f i q → Earlier rows f (i + 1) q
-  later q e = record { k = e.k; below = (let l = e.below in omega arith); not_in = e.not_in; part = e.part }
+module _ (m : ℕ) (rows : List (List Bool)) (f : List Bool) (i : ℕ) (hull : List Bool) (outside : List ℕ) (opened : List (List Bool)) (p : Passing m rows f i hull outside opened) (r : List Bool) (er : r ≡ row_of rows i) where
+  abbrev IsOpened : List (List Bool) → ℕ → Type 0
+  IsOpened list j = IsOpening m rows f j → Any (λ c. SamePlaces m (both (has f) (has (row_of rows j))) (has c)) list
 
-  all_later : All (Earlier rows f (i + 1)) parts
-  all_later = All_among (Earlier rows f (i + 1)) parts (λ q n. later q (among_All (Earlier rows f i) n p.earlier))
+  all_before : All (λ k. k < i + 1) outside
+  all_before = All_among (λ k. k < i + 1) outside (λ k n. let l = among_All (λ k. k < i) n p.before in omega arith)
 
   -- a row that contains the face opens nothing, and is met with the hull
-  pub pass_containing : (next : List Bool) → IsSubset f r → IsIntersection next r hull → Passing m rows f (i + 1) next parts opened
+  pub pass_containing : (next : List Bool) → IsSubset f r → IsIntersection next r hull → Passing m rows f (i + 1) next outside opened
   pass_containing next s w = record {
     each = p.each;
-    earlier = all_later;
+    before = all_before;
+    not_in = p.not_in;
     under = λ x t. below_next (λ k. IsSubset f (row_of rows k) → IsTrue (has (row_of rows k) x)) i (p.under x (and_right (has r x) (has hull x) (sym (w x) ∙ t))) (λ q. subst (λ z. IsTrue (has z x)) er (and_left (has r x) (has hull x) (sym (w x) ∙ t)));
-    covers = below_next (λ j. IsOpening m rows f j → Any (λ c. SamePlaces m (both (has f) (has (row_of rows j))) (has c)) opened) i p.covers (λ o. absurd (o.not_in (subst (λ z. IsSubset f z) er s)));
+    covers = below_next (IsOpened opened) i p.covers (λ o. absurd (o.not_in (subst (λ z. IsSubset f z) er s)));
   }
 
-  module _ (out : ¬ (IsSubset f r)) where
+  module _ (out : ¬ (IsSubset f r)) (next : List ℕ) (en : next ≡ outside ++ i ∷ []) where
     out_at : ¬ (IsSubset f (row_of rows i))
     out_at = subst (λ z. ¬ (IsSubset f z)) er out
 
     still_under : (x : ℕ) → IsTrue (has hull x) → (k : ℕ) → k < i + 1 → IsSubset f (row_of rows k) → IsTrue (has (row_of rows k) x)
     still_under x t = below_next (λ k. IsSubset f (row_of rows k) → IsTrue (has (row_of rows k) x)) i (p.under x t) (λ q. absurd (out_at q))
 
-    no_opening : ¬ (IsOpening m rows f i) → (j : ℕ) → j < i + 1 → IsOpening m rows f j → Any (λ c. SamePlaces m (both (has f) (has (row_of rows j))) (has c)) opened
-    no_opening n = below_next (λ j. IsOpening m rows f j → Any (λ c. SamePlaces m (both (has f) (has (row_of rows j))) (has c)) opened) i p.covers (λ o. absurd (n o))
+    next_before : All (λ k. k < i + 1) next
+    next_before = subst (λ ks. All (λ k. k < i + 1) ks) (sym en) (All-push (λ k. k < i + 1) outside i all_before (omega arith))
 
-    shared_at : (c : List Bool) → IsIntersection c r f → (x : ℕ) → IsTrue (both (has f) (has (row_of rows i)) x) → IsTrue (has c x)
-    shared_at c w x t = w x ∙ and_both (has r x) (has f x) (subst (λ z. IsTrue (has z x)) (sym er) (and_right (has f x) (has (row_of rows i) x) t)) (and_left (has f x) (has (row_of rows i) x) t)
+    next_not_in : All (λ k. ¬ (IsSubset f (row_of rows k))) next
+    next_not_in = subst (λ ks. All (λ k. ¬ (IsSubset f (row_of rows k))) ks) (sym en) (All-push (λ k. ¬ (IsSubset f (row_of rows k))) outside i p.not_in out_at)
 
-    -- what lies in an earlier part opens nothing
-    pub pass_inside : (c : List Bool) → IsIntersection c r f → Any (λ q. IsSubset c q) parts → Passing m rows f (i + 1) hull parts opened
-    pass_inside c w a =
-        let q = any_among (λ q. IsSubset c q) parts a in
-        let e = among_All (Earlier rows f i) q.1 p.earlier in
-        record {
-          each = p.each;
-          earlier = all_later;
-          under = still_under;
-          covers = no_opening (λ o. e.not_in (o.first e.k e.below (λ x l t. e.part x (q.2 x (shared_at c w x t)))));
-        }
+    passed_over : ¬ (IsOpening m rows f i) → Passing m rows f (i + 1) hull next opened
+    passed_over n = record { each = p.each; before = next_before; not_in = next_not_in; under = still_under; covers = below_next (IsOpened opened) i p.covers (λ o. absurd (n o)) }
 
-    module _ (c : List Bool) (w : IsIntersection c r f) (next : List (List Bool)) (en : next ≡ parts ++ c ∷ []) where
-      new_earlier : All (Earlier rows f (i + 1)) next
-      new_earlier = subst (λ ps. All (Earlier rows f (i + 1)) ps) (sym en) (All-push (Earlier rows f (i + 1)) parts c all_later (record { k = i; below = omega arith; not_in = out_at; part = λ x t. subst (λ z. IsTrue (has z x)) er (and_left (has r x) (has f x) (sym (w x) ∙ t)) }))
+    -- where the earlier rows share more than the face, nothing is opened
+    pub pass_wide : ¬ (IsSubset hull f) → m ≡ length hull → Passing m rows f (i + 1) hull next opened
+    pass_wide n e = passed_over (λ o. n (λ x t. o.hull x (below_length hull m x (sym e) t) (λ k l s. p.under x t k l s)))
 
-      -- where the earlier rows share more than the face, nothing is opened
-      pub pass_wide : ¬ (IsSubset hull f) → (m ≡ length hull) → Passing m rows f (i + 1) hull next opened
-      pass_wide n e = record {
-        each = p.each;
-        earlier = new_earlier;
+    module _ (c : List Bool) (w : IsIntersection c r f) where
+      -- what lies in an earlier row that does not contain the face opens nothing
+      pub pass_inside : Any (λ k. IsSubset c (row_of rows k)) outside → Passing m rows f (i + 1) hull next opened
+      pass_inside a =
+          let q = any_among (λ k. IsSubset c (row_of rows k)) outside a in
+          passed_over (λ o. among_All (λ k. ¬ (IsSubset f (row_of rows k))) q.1 p.not_in (o.first q.0 (among_All (λ k. k < i) q.1 p.before) (λ x l t. q.2 x (w x ∙ shared x t))))
+        where
+          shared : (x : ℕ) → IsTrue (both (has f) (has (row_of rows i)) x) → IsTrue (has r x && has f x)
+          shared x t = and_both (has r x) (has f x) (subst (λ z. IsTrue (has z x)) (sym er) (and_right (has f x) (has (row_of rows i) x) t)) (and_left (has f x) (has (row_of rows i) x) t)
+
+      -- else the part is opened
+      pub pass_opened : i < length rows → length c ≡ length f → (grown : List (List Bool)) → grown ≡ opened ++ c ∷ [] → Passing m rows f (i + 1) hull next grown
+      pass_opened li lc grown eg = subst (λ os. Passing m rows f (i + 1) hull next os) (sym eg) (record {
+        each = All-push (IsPartOf rows f) opened c p.each (record { row = r; among = subst (λ z. Contains rows z) (sym er) (row_there rows i li); not_in = out; len = lc; shared = w });
+        before = next_before;
+        not_in = next_not_in;
         under = still_under;
-        covers = no_opening (λ o. n (λ x t. o.hull x (below_length hull m x (sym e) t) (λ k l s. p.under x t k l s)));
-      }
-
-      -- else a part is opened
-      pub pass_opened : (li : i < length rows) (d : List Bool) (grown : List (List Bool)) → IsIntersection d r f → length d ≡ length f → grown ≡ opened ++ d ∷ [] → Passing m rows f (i + 1) hull next grown
-      pass_opened li d grown wd ld eg = subst (λ os. Passing m rows f (i + 1) hull next os) (sym eg) (record {
-        each = All-push (IsPartOf rows f) opened d p.each (record { row = r; among = subst (λ z. Contains rows z) (sym er) (row_there rows i li); not_in = out; len = ld; shared = wd });
-        earlier = new_earlier;
-        under = still_under;
-        covers = below_next (λ j. IsOpening m rows f j → Any (λ c. SamePlaces m (both (has f) (has (row_of rows j))) (has c)) (opened ++ d ∷ [])) i
-            (λ j l o. any_more (λ c. SamePlaces m (both (has f) (has (row_of rows j))) (has c)) opened (d ∷ []) (p.covers j l o))
-            (λ o. any_last (λ c. SamePlaces m (both (has f) (has (row_of rows i))) (has c)) opened d (λ x l. ap (λ z. has f x && has z x) (sym er) ∙ and_turned (has f x) (has r x) ∙ sym (wd x)));
+        covers = below_next (IsOpened (opened ++ c ∷ [])) i
+            (λ j l o. any_more (λ c. SamePlaces m (both (has f) (has (row_of rows j))) (has c)) opened (c ∷ []) (p.covers j l o))
+            (λ o. any_last (λ c. SamePlaces m (both (has f) (has (row_of rows i))) (has c)) opened c (λ x l. ap (λ z. has f x && has z x) (sym er) ∙ and_turned (has f x) (has r x) ∙ sym (w x)));
       })
         where
           and_turned : (a b : Bool) → (a && b) ≡ (b && a)
@@ -135,11 +123,7 @@ module _ (m : ℕ) (rows : List (List Bool)) (f : List Bool) (i : ℕ) (hull : L
           row_there (q ∷ rows) zero l = (0, omega arith, refl)
           row_there (q ∷ rows) (suc i) l = let w = row_there rows i (omega arith) in (suc w.0, (let b = w.1 in omega arith), w.2)
 
-pub passed : (m : ℕ) (rows : List (List Bool)) (f : List Bool) (i : ℕ) (hull : List Bool) (parts opened : List (List Bool)) → i ≡ length rows → Passing m rows f i hull parts opened → Covers m rows opened f
-passed m rows f i hull parts opened e p j o =
+pub passed : (m : ℕ) (rows : List (List Bool)) (f : List Bool) (i : ℕ) (hull : List Bool) (outside : List ℕ) (opened : List (List Bool)) → i ≡ length rows → Passing m rows f i hull outside opened → Covers m rows opened f
+passed m rows f i hull outside opened e p j o =
     let w = any_among (λ c. SamePlaces m (both (has f) (has (row_of rows j))) (has c)) opened (p.covers j (let l = o.inside in omega arith) o) in
     (w.0, Contains_among w.1, w.2)
-
--- fewer parts will do
-pub passing_fewer : (m : ℕ) (rows : List (List Bool)) (f : List Bool) (i : ℕ) (hull : List Bool) (parts opened less : List (List Bool)) → ((p : List Bool) → Contains less p → Contains parts p) → Passing m rows f i hull parts opened → Passing m rows f i hull less opened
-passing_fewer m rows f i hull parts opened less h p = record { each = p.each; earlier = all_still (Earlier rows f i) parts less h p.earlier; under = p.under; covers = p.covers }

@@ -1,7 +1,8 @@
 // All intersections of rows of bits.
 ghost use Rattle.pm_bits.specs.Sets.{IsSubset, has};
+ghost use Rattle.pm_bits.specs.Table.{row_at};
 ghost use Rattle.pm_lattice.specs.Closures.{IsClosureOf};
-ghost use Rattle.pm_lattice.specs.Parts.{Covers, IsPartOf, Opens, both};
+ghost use Rattle.pm_lattice.specs.Parts.{Covers, IsPartOf, Opens};
 ghost use Rattle.std.specs.List.{All, Any, Contains};
 ghost use Rattle.std.specs.Prelude.{ℕ, List, Bool, ◌^◌, ◌<◌, ◌≡◌, ◌↔◌, IfOk, IsTrue, OnOk, length};
 
@@ -35,37 +36,23 @@ pub(crate) fn full_row(alloc: Global, len: usize) -> Result<BitRow, AllocError>
     Ok(row)
 }
 
-// Whether one of the rows contains s.
-fn any_contains(list: &[BitRow], s: &BitRow) -> bool
-    requires { All (λ c. length c ≡ length s.now) list.now }
-    ensures { IsTrue result ↔ Any (λ c. IsSubset s.now c) list.now }
+// Whether a row at one of the places contains s.
+fn one_contains(rows: &BitTable, places: &[usize], s: &BitRow) -> bool
+    requires places { All (λ k. k < length rows.now.rows) places.now }
+    requires len { length s.now ≡ rows.now.row_len }
+    ensures { IsTrue result ↔ Any (λ k. IsSubset s.now (row_at rows.now k)) places.now }
 {
-    for row in list {
-        if row.contains(s) {
+    for place in places {
+        if rows.row(*place).contains(s) {
             return true;
         }
     }
     false
 }
 
-// Takes away the rows of a list that a set contains.
-fn drop_within(parts: &mut Vec<BitRow>, set: &BitRow)
-    requires { All (λ p. length p ≡ length set.now) parts.old.items }
-    ensures { (p : List Bool) → Contains parts.new.items p → Contains parts.old.items p }
-{
-    let mut i = 0;
-    while i < parts.len() {
-        if set.contains(&parts[i]) {
-            drop(parts.swap_remove(i));
-            continue;
-        }
-        i += 1;
-    }
-}
-
-// The parts of a face that rows open: what it shares with a row that does not contain it. A row opens nothing
-// where an earlier row has what it shares, or where the earlier rows that contain the face share more: so each
-// face is opened once, from one face alone. `whole` is the set of all places.
+// The parts of a face that rows open: what it shares with a row that does not contain it. A row opens nothing where
+// an earlier row that does not contain the face has what it shares, or where the earlier rows that contain the face
+// share more than the face: so each face is opened from one face alone, by one row. `whole` is the set of all places.
 fn parts_of(
     alloc: Global,
     rows: &BitTable,
@@ -78,7 +65,7 @@ fn parts_of(
     ensures covers { IfOk result (λ opened. Covers rows.now.row_len rows.now.rows opened.items face.now) }
 {
     let mut opened = Vec::new(alloc);
-    let mut parts = Vec::new(alloc);
+    let mut outside = Vec::new(alloc);
     let mut hull = BitRow::with_len(alloc, face.len())?;
     whole.meet_into(whole, &mut hull);
     let mut meet = BitRow::with_len(alloc, face.len())?;
@@ -89,19 +76,14 @@ fn parts_of(
             mem::swap(&mut hull, &mut meet);
             continue;
         }
-        row.meet_into(face, &mut meet);
-        if any_contains(&parts, &meet) {
-            continue;
+        if face.contains(&hull) {
+            row.meet_into(face, &mut meet);
+            if !one_contains(rows, &outside, &meet) {
+                let next = BitRow::with_len(alloc, face.len())?;
+                opened.push(mem::replace(&mut meet, next))?;
+            }
         }
-        drop_within(&mut parts, &meet);
-        let next = BitRow::with_len(alloc, face.len())?;
-        parts.push(mem::replace(&mut meet, next))?;
-        if !face.contains(&hull) {
-            continue;
-        }
-        let mut part = BitRow::with_len(alloc, face.len())?;
-        row.meet_into(face, &mut part);
-        opened.push(part)?;
+        outside.push(i)?;
     }
     Ok(opened)
 }

@@ -18,7 +18,7 @@ loop-turn-preserved c = record {
   closing = closing_turn c.args.rows.now.row_len c.args.rows.now.rows c.loop-turn.faces.items c.loop-turn.pending.keys c.in-Some.face c.pop_first.new.self.keys c.open_parts.new.pending.keys c.push.new.self.items c.in-Some.ensures.removal c.in_ok-push.ensures.items c.loop-turn.invariant.closing c.in-Some.ensures.all_above c.in_ok-open_parts.ensures;
   turns = omega (arith, ap (length {A = List Bool}) c.in_ok-push.ensures.items, length_push c.loop-turn.faces.items c.in-Some.face);
   sum = omega (arith, c.count.ensures, c.loop-turn.invariant.sum, place_count_pushed c.loop-turn.faces.items c.push.new.self.items c.in-Some.face c.in_ok-push.ensures.items);
-  few = c.if-place_count-gt-MAX_PLACES.false;
+  few = omega (arith, c.if-place_count-gt-MAX_PLACES.false);
 }
 
 pub returns-in_default : goal.returns-in_default
