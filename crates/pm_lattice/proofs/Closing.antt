@@ -2,7 +2,7 @@
 use Rattle.pm_algebra.proofs.Lists.{All_among, Among, Contains_among, among_All, among_Contains, among_append, among_append_left, among_append_right, here, there}
 use Rattle.pm_bits.specs.Sets.{has, member_count}
 use Rattle.pm_geom.specs.Meets.{IsMeet}
-use Rattle.pm_lattice.specs.Closures.{AreMany, IsBefore, IsClosed, AreManyMeets, place_count, bit_sets}
+use Rattle.pm_lattice.specs.Closures.{AreMeets, IsBefore, IsClosed, bit_sets, place_count}
 use Rattle.pm_lattice.specs.Parts.{Covers, IsPartOf, Opens, both}
 use Rattle.pm_lattice.proofs.Chains.{meet_more}
 use Rattle.pm_lattice.proofs.Keys.{before_trans, part_after}
@@ -149,12 +149,11 @@ module _ (m : ℕ) (rows : List (List Bool)) where
       let lengths = subst (λ ks. All (λ g. length g ≡ m) (faces ++ ks)) e c.lengths in
       among_All (λ g. length g ≡ m) (among_append_right faces i) lengths
 
-  pub closing_many : (faces keys : List (List Bool)) → AreMany faces → Closing m rows faces keys → AreManyMeets m rows faces
-  closing_many faces keys many c = record {
+  pub closing_many : (faces keys : List (List Bool)) → Closing m rows faces keys → AreMeets m rows faces
+  closing_many faces keys c = record {
     each = All_among (λ f. IsMeet m (bit_sets rows) (has f)) faces (λ f i. among_All (λ f. IsMeet m (bit_sets rows) (has f)) (among_append_left keys i) c.meets);
     lengths = All_among (λ f. length f ≡ m) faces (λ f i. among_All (λ f. length f ≡ m) (among_append_left keys i) c.lengths);
     ordered = c.ordered;
-    many = many;
   }
 
 pub member_count_le : (row : List Bool) → member_count row ≤ length row

@@ -3,7 +3,7 @@ use Rattle.pm_algebra.proofs.Lists.{All_among, Among, among_All, here, there}
 use Rattle.pm_bits.specs.Sets.{has, member_count, members}
 use Rattle.pm_geom.specs.Graphs.{IsAscending, holds, sets_of}
 use Rattle.pm_geom.specs.Meets.{AreTooManyMeets, HasMeetChain, HasMeetRank, IsMeet, IsSmallLattice}
-use Rattle.pm_lattice.specs.Closures.{AreFew, IsBefore, IsClosed, AreManyMeets, place_count, bit_sets}
+use Rattle.pm_lattice.specs.Closures.{AreFew, IsBefore, IsClosed, AreMany, AreMeets, place_count, bit_sets}
 use Rattle.pm_lattice.specs.Lattices.{IsFaceLattice}
 use Rattle.pm_lattice.specs.Ranks.{AreRanksFrom, face_at, level_of, rank_at}
 use Rattle.pm_lattice.proofs.Closing.{whole_meet}
@@ -53,8 +53,8 @@ map_at [] i d l = absurd (omega arith)
 map_at (f ∷ faces) zero d l = refl
 map_at (f ∷ faces) (suc i) d l = map_at faces i d (omega arith)
 
-pub too_many : (s : IndexSets) (m : ℕ) (rows faces : List (List Bool)) (lists : List (List ℕ)) → m ≡ s.cols → bit_sets rows ≡ sets_of s.rows → lists ≡ map members faces → AreManyMeets m rows faces → AreTooManyMeets s.cols (sets_of s.rows) lists
-too_many s m rows faces lists em same e t = subst (λ ls. AreTooManyMeets s.cols (sets_of s.rows) ls) (sym e) (record {
+pub too_many : (s : IndexSets) (m : ℕ) (rows faces : List (List Bool)) (lists : List (List ℕ)) → m ≡ s.cols → bit_sets rows ≡ sets_of s.rows → lists ≡ map members faces → AreMeets m rows faces → AreMany faces → AreTooManyMeets s.cols (sets_of s.rows) lists
+too_many s m rows faces lists em same e t much = subst (λ ls. AreTooManyMeets s.cols (sets_of s.rows) ls) (sym e) (record {
   each = All_among (λ xs. IsAscending s.cols xs × IsMeet s.cols (sets_of s.rows) (holds xs)) (map members faces) (λ xs i.
       let w = among_map faces xs i in
       let len : length w.0 ≡ s.cols = among_All (λ f. length f ≡ m) w.1 t.lengths ∙ em in
@@ -70,7 +70,7 @@ too_many s m rows faces lists em same e t = subst (λ ls. AreTooManyMeets s.cols
       let eq = sym (map_at faces i d li) ∙ q ∙ map_at faces j d lj in
       let rows_equal = same_members m (get_or faces i []) (get_or faces j []) (t.lengths i [] li) (t.lengths j [] lj) eq in
       before_not (get_or faces j []) (subst (λ x. IsBefore x (get_or faces j [])) rows_equal (t.ordered i j [] l lj));
-  many = elim t.many [
+  many = elim much [
     | inl h ↦ inl (let n = length-map faces members in omega arith)
     | inr h ↦ inr (let n = place_count_sum faces in omega arith)
   ];

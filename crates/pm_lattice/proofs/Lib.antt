@@ -10,6 +10,8 @@ pub mod Places
 pub mod RankTurns
 pub mod Heights
 pub mod MemberLists
+pub mod Sorted
+pub mod Duality
 pub mod Levels
 pub mod ListTurns
 pub mod Ends

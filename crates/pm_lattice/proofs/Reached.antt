@@ -33,12 +33,12 @@ pub both_ways : (m : ℕ) (f g : ℕ → Bool) → IsIn m f g → IsIn m g f →
 both_ways m f g h k j l = same_bool (f j) (g j) (h j l) (k j l)
 
 -- the row at a place, and that a row stands at one
-row_among : (rows : List (List Bool)) (j : ℕ) → j < length rows → Among (row_of rows j) rows
+pub row_among : (rows : List (List Bool)) (j : ℕ) → j < length rows → Among (row_of rows j) rows
 row_among [] j l = absurd (omega arith)
 row_among (r ∷ rows) zero l = here
 row_among (r ∷ rows) (suc j) l = there (row_among rows j (omega arith))
 
-among_row : (rows : List (List Bool)) (r : List Bool) → Among r rows → (j : ℕ) × (j < length rows) × (row_of rows j ≡ r)
+pub among_row : (rows : List (List Bool)) (r : List Bool) → Among r rows → (j : ℕ) × (j < length rows) × (row_of rows j ≡ r)
 among_row [] r i = elim i [ ]
 among_row (q ∷ rows) r here = (zero, omega arith, refl)
 among_row (q ∷ rows) r (there i) = let w = among_row rows r i in (suc w.0, (let l = w.1 in omega arith), w.2)

@@ -36,14 +36,13 @@ AreFew faces = (length faces ≤ 65536) × (place_count faces ≤ 4000000)
 abbrev pub AreMany : List (List Bool) → Type 0
 AreMany faces = (65536 < length faces) ⊎ (4000000 < place_count faces)
 
--- different meets of the rows, in order, and more than a lattice may have
-pub record AreManyMeets (m : ℕ) (rows faces : List (List Bool)) : Type 0 where
+-- the faces are meets of the rows, each once and in order
+pub record AreMeets (m : ℕ) (rows faces : List (List Bool)) : Type 0 where
   pub each : All (λ f. IsMeet m (bit_sets rows) (has f)) faces
   pub lengths : All (λ f. length f ≡ m) faces
   pub ordered : AllPairs IsBefore faces
-  pub many : AreMany faces
 
--- all meets of a table's rows, or too many of them
+-- all meets of a table's rows, at most 65,536, or more than so many of them
 abbrev pub IsClosureOf : Table → Closure → Type 0
-IsClosureOf t (closure.All faces) = IsClosed t.row_len t.rows faces.items × AreFew faces.items
-IsClosureOf t (closure.Many faces) = AreManyMeets t.row_len t.rows faces.items
+IsClosureOf t (closure.All faces) = IsClosed t.row_len t.rows faces.items × (length faces.items ≤ 65536)
+IsClosureOf t (closure.Many faces) = AreMeets t.row_len t.rows faces.items × (65536 < length faces.items)

@@ -1,5 +1,6 @@
 pub mod Parts
 pub mod Closures
+pub mod Turned
 pub mod Ranks
 pub mod Lattices
 pub mod Laws

@@ -4,7 +4,7 @@ ghost use Rattle.pm_bits.specs.Table.{row_at};
 ghost use Rattle.pm_lattice.specs.Closures.{IsClosureOf};
 ghost use Rattle.pm_lattice.specs.Parts.{Covers, IsPartOf, Opens};
 ghost use Rattle.std.specs.List.{All, Any, Contains};
-ghost use Rattle.std.specs.Prelude.{ℕ, List, Bool, ◌^◌, ◌<◌, ◌≡◌, ◌↔◌, IfOk, IsTrue, OnOk, length};
+ghost use Rattle.std.specs.Prelude.{ℕ, List, Bool, ◌<◌, ◌≡◌, ◌↔◌, IfOk, IsTrue, OnOk, length};
 
 use pm_bits::{BitRow, BitTable};
 use std::alloc::{AllocError, Global};
@@ -14,10 +14,8 @@ use std::mem;
 /// The most faces that a lattice may have.
 pub(crate) const MAX_FACES: usize = 65_536;
 
-/// The most places that a lattice may have.
-pub(crate) const MAX_PLACES: usize = 4_000_000;
-
-/// All intersections of rows with the set of all places, each once and in the order of rows of bits; or so many of them that they are no lattice.
+/// All intersections of rows with the set of all places, each once and in the order of rows of bits; or more of them
+/// than a lattice may have.
 #[derive(Drop)]
 pub(crate) enum Closure {
     All(Vec<BitRow>),
@@ -107,26 +105,21 @@ fn open_parts(
     Ok(())
 }
 
-/// Closes the rows of a table under intersection: from the set of all places on, the first open face is settled and its parts are opened.
+/// Closes the rows of a table under intersection: from the set of all places on, the first open face is settled and
+/// its parts are opened.
 pub(crate) fn close(alloc: Global, rows: &BitTable) -> Result<Closure, AllocError>
-    requires { rows.now.row_len < 2 ^ 32 }
     ensures { IfOk result (IsClosureOf rows.now) }
 {
     let mut pending = BTreeSet::new(alloc);
     let whole = full_row(alloc, rows.row_len())?;
     pending.insert(full_row(alloc, rows.row_len())?)?;
     let mut faces = Vec::new(alloc);
-    let mut place_count = 0;
     for _turn in 0..MAX_FACES + 1 {
         let Some(face) = pending.pop_first() else {
             return Ok(Closure::All(faces));
         };
         open_parts(alloc, rows, &whole, &face, &mut pending)?;
-        place_count += face.count();
         faces.push(face)?;
-        if place_count > MAX_PLACES {
-            return Ok(Closure::Many(faces));
-        }
     }
     Ok(Closure::Many(faces))
 }

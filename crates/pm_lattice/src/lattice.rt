@@ -2,19 +2,23 @@
 ghost use Rattle.pm_bits.specs.Sets.{has};
 ghost use Rattle.pm_geom.specs.Graphs.{sets_of};
 ghost use Rattle.pm_geom.specs.Meets.{IsSmallLattice};
-ghost use Rattle.pm_lattice.specs.Closures.{AreFew, IsClosed, bit_sets};
+ghost use Rattle.pm_lattice.specs.Closures.{AreFew, AreMany, AreMeets, IsClosed, bit_sets, place_count};
 ghost use Rattle.pm_lattice.specs.Lattices.{IsFaceLattice, IsShown};
 ghost use Rattle.pm_types.specs.Values.{IndexSets};
 ghost use Rattle.std.specs.List.{All};
-ghost use Rattle.std.specs.Prelude.{◌^◌, ◌<◌, ◌≡◌, IfOk, IfErr, map};
+ghost use Rattle.std.specs.Prelude.{◌^◌, ◌<◌, ◌≤◌, ◌≡◌, length, IfOk, IfErr, map};
 
-use crate::closure::{Closure, close};
+use crate::closure::Closure;
 use crate::lists::{by_rank, member_lists, table_of};
 use crate::ranks::ranks_of;
+use crate::turned::close_either;
 use pm_bits::{BitRow, BitTable};
 use pm_geom::PlaceSets;
 use pm_types::{Evidence, Lattice, Sets};
 use std::alloc::{AllocError, Global};
+
+// The most places that the faces of a lattice may have together.
+const MAX_PLACES: usize = 4_000_000;
 
 /// Why there is no lattice.
 #[derive(Debug, Drop)]
@@ -47,6 +51,32 @@ fn lattice_of(alloc: Global, rows: &BitTable, faces: &[BitRow]) -> Result<Lattic
     Ok(Lattice::from_vec(by_rank(alloc, faces, &ranks, ranks[0])?))
 }
 
+// How many places all faces have together.
+fn place_count(faces: &[BitRow], len: usize) -> usize
+    requires few { length faces.now ≤ 65536 }
+    requires short { len < 2 ^ 32 }
+    requires lengths { All (λ f. length f ≡ len) faces.now }
+    ensures { result ≡ place_count faces.now }
+{
+    let mut places = 0;
+    for face in faces {
+        places += face.count();
+    }
+    places
+}
+
+// The refusal that shows these faces.
+fn too_many(alloc: Global, rows: &BitTable, faces: &[BitRow]) -> Result<LatticeFail, AllocError>
+    requires few { rows.now.row_len < 2 ^ 32 }
+    requires meets { AreMeets rows.now.row_len rows.now.rows faces.now }
+    requires many { AreMany faces.now }
+    ensures { IfOk result (λ fail. (s : IndexSets) → s.cols ≡ rows.now.row_len → bit_sets rows.now.rows ≡ sets_of s.rows → IsShown s fail) }
+{
+    Ok(LatticeFail::Many(Evidence::E5Faces {
+        faces: PlaceSets::from_vec(member_lists(alloc, faces)?),
+    }))
+}
+
 /// All intersections of the sets and the set of all indices, each once, by rank: the rank of a face is the greatest
 /// number of strict inclusions of faces below it. Faces of one rank are in lexicographic order.
 ///
@@ -59,10 +89,13 @@ pub fn faces(alloc: Global, s: &Sets) -> Result<Lattice, LatticeFail>
     ensures fail { IfErr result (IsShown s.now) }
 {
     let rows = table_of(alloc, s)?;
-    match close(alloc, &rows)? {
-        Closure::All(faces) => Ok(lattice_of(alloc, &rows, &faces)?),
-        Closure::Many(faces) => Err(LatticeFail::Many(Evidence::E5Faces {
-            faces: PlaceSets::from_vec(member_lists(alloc, &faces)?),
-        })),
+    match close_either(alloc, &rows)? {
+        Closure::All(faces) => {
+            if place_count(&faces, rows.row_len()) > MAX_PLACES {
+                return Err(too_many(alloc, &rows, &faces)?);
+            }
+            Ok(lattice_of(alloc, &rows, &faces)?)
+        }
+        Closure::Many(faces) => Err(too_many(alloc, &rows, &faces)?),
     }
 }

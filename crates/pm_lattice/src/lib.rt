@@ -1,7 +1,7 @@
 //! All intersections of sets of places, by rank: the face lattice of a polytope or cone from the vertices of its facets.
 //!
-//! `faces` closes the sets under intersection, each face once (`closure`), finds the rank of each (`ranks`), and lists
-//! them (`lists`). The sets need not come from a polytope: the answer is right for any sets.
+//! `faces` closes the sets under intersection, each face once (`closure`; `turned`, where the sets are more than the
+//! indices), finds the rank of each (`ranks`), and lists them (`lists`). The sets need not come from a polytope: the answer is right for any sets.
 #![tactic(auto)]
 
 ghost use Rattle.pm_lattice.specs.Examples.{NoSetsAreRead, PointIsRead, SquareIsRead, UnevenIsRead};
@@ -11,6 +11,7 @@ mod closure;
 mod lattice;
 mod lists;
 mod ranks;
+mod turned;
 
 pub use lattice::{LatticeFail, faces};
 pub use pm_types::Lattice;
