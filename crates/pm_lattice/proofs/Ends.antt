@@ -2,21 +2,22 @@
 use Rattle.pm_algebra.proofs.Lists.{All_among, Among, among_All, here, there}
 use Rattle.pm_bits.specs.Sets.{has, member_count, members}
 use Rattle.pm_geom.specs.Graphs.{IsAscending, holds, sets_of}
-use Rattle.pm_geom.specs.Meets.{AreTooManyMeets, HasMeetChain, HasMeetRank, IsMeet, IsSmallLattice}
+use Rattle.pm_geom.specs.Meets.{AreMeetsByRank, AreTooManyMeets, HasMeetChain, HasMeetRank, IsMeet, IsSmallLattice}
 use Rattle.pm_lattice.specs.Closures.{AreFew, IsBefore, IsClosed, AreMany, AreMeets, place_count, bit_sets}
-use Rattle.pm_lattice.specs.Lattices.{IsFaceLattice}
-use Rattle.pm_lattice.specs.Ranks.{AreRanksFrom, face_at, level_of, rank_at}
+use Rattle.pm_lattice.specs.Lattices.{IsFaceLattice, ShowsTooMany}
+use Rattle.pm_lattice.specs.Ranks.{AreRanksFrom, face_at, levels_to, rank_at}
 use Rattle.pm_lattice.proofs.Closing.{whole_meet}
-use Rattle.pm_lattice.proofs.Levels.{is_lattice, same_test, top_ranks}
+use Rattle.pm_lattice.proofs.Levels.{is_lattice, same_test, top_rank}
 use Rattle.pm_lattice.proofs.Totals.{few_levels}
 use Rattle.pm_lattice.proofs.MemberLists.{holds_members, length-members, members_ascend}
 use Rattle.pm_lattice.proofs.Ranking.{before_not}
 use Rattle.pm_lattice.proofs.Sizes.{size, size_le, size_less}
+use Rattle.pm_geom.specs.declared.evidence.Evidence.{Evidence}
 use Rattle.pm_types.specs.Values.{IndexSets}
 use Rattle.std.proofs.Common.{ap, arith, get_or, inl, inr, refl, subst, sym, ◌∙◌}
 use Rattle.std.proofs.lemmas.List.{ext_get_or, get_or_default, length-map}
 use Rattle.std.proofs.lemmas.List.Sums.{sum_by-cons}
-use Rattle.std.specs.List.{All, range_with_len, sum_by}
+use Rattle.std.specs.List.{All, sum_by}
 use Rattle.std.specs.Prelude.{Bool, List, [], false, length, map, suc, true, zero, ℕ, ◌+◌, ◌^◌, ◌<◌, ◌≤◌, ◌∷◌, ◌≡◌}
 
 -- ---- ranks are small
@@ -53,15 +54,15 @@ map_at [] i d l = absurd (omega arith)
 map_at (f ∷ faces) zero d l = refl
 map_at (f ∷ faces) (suc i) d l = map_at faces i d (omega arith)
 
-pub too_many : (s : IndexSets) (m : ℕ) (rows faces : List (List Bool)) (lists : List (List ℕ)) → m ≡ s.cols → bit_sets rows ≡ sets_of s.rows → lists ≡ map members faces → AreMeets m rows faces → AreMany faces → AreTooManyMeets s.cols (sets_of s.rows) lists
-too_many s m rows faces lists em same e t much = subst (λ ls. AreTooManyMeets s.cols (sets_of s.rows) ls) (sym e) (record {
-  each = All_among (λ xs. IsAscending s.cols xs × IsMeet s.cols (sets_of s.rows) (holds xs)) (map members faces) (λ xs i.
+pub too_many : (m : ℕ) (rows faces : List (List Bool)) (lists : List (List ℕ)) → lists ≡ map members faces → AreMeets m rows faces → AreMany faces → AreTooManyMeets m (bit_sets rows) lists
+too_many m rows faces lists e t much = subst (λ ls. AreTooManyMeets m (bit_sets rows) ls) (sym e) (record {
+  each = All_among (λ xs. IsAscending m xs × IsMeet m (bit_sets rows) (holds xs)) (map members faces) (λ xs i.
       let w = among_map faces xs i in
-      let len : length w.0 ≡ s.cols = among_All (λ f. length f ≡ m) w.1 t.lengths ∙ em in
-      let meet = subst (λ n. IsMeet n (bit_sets rows) (has w.0)) em (among_All (λ f. IsMeet m (bit_sets rows) (has f)) w.1 t.each) in
-      subst (λ ys. IsAscending s.cols ys × IsMeet s.cols (sets_of s.rows) (holds ys)) (sym w.2) (
-        members_ascend s.cols w.0 len,
-        subst (λ rs. IsMeet s.cols rs (holds (members w.0))) same (subst (λ f. IsMeet s.cols (bit_sets rows) f) (sym (same_test w.0)) meet),
+      let len : length w.0 ≡ m = among_All (λ f. length f ≡ m) w.1 t.lengths in
+      let meet = among_All (λ f. IsMeet m (bit_sets rows) (has f)) w.1 t.each in
+      subst (λ ys. IsAscending m ys × IsMeet m (bit_sets rows) (holds ys)) (sym w.2) (
+        members_ascend m w.0 len,
+        subst (λ f. IsMeet m (bit_sets rows) f) (sym (same_test w.0)) meet,
       ));
   different = λ i j d l k q.
       let n = length-map faces members in
@@ -77,9 +78,6 @@ too_many s m rows faces lists em same e t much = subst (λ ls. AreTooManyMeets s
 })
 
 -- ---- the lattice
-pub lattice_of : (s : IndexSets) (m : ℕ) (rows faces : List (List Bool)) (ranks : List ℕ) (levels : List (List (List ℕ))) → s.cols ≡ m → bit_sets rows ≡ sets_of s.rows → IsClosed m rows faces → AreRanksFrom m rows faces ranks 0 → length ranks ≡ length faces → levels ≡ map (λ k. level_of k faces ranks) (range_with_len 0 (rank_at ranks 0 + 1)) → IsFaceLattice s levels
-lattice_of s m rows faces ranks levels em same closed known as_many e = is_lattice s rows faces ranks same (subst (λ n. IsClosed n rows faces) (sym em) closed) (subst (λ n. AreRanksFrom n rows faces ranks 0) (sym em) known) as_many levels e
-
 pub some_face : (m : ℕ) (rows faces : List (List Bool)) → IsClosed m rows faces → 0 < length faces
 some_face m rows faces closed = let f = closed.all (λ j. true) (whole_meet m rows (λ j. true) (λ j l. refl)) in let l = f.1.1 in omega arith
 
@@ -92,15 +90,22 @@ short_rows m faces l h k d lk = let e = h k d lk in omega arith
 pub top_is : (ranks : List ℕ) (n top : ℕ) → 0 < n → length ranks ≡ n → top ≡ get_or ranks 0 top → top ≡ rank_at ranks 0
 top_is ranks n top l e h = h ∙ get_or_default ranks 0 top 0 (omega arith)
 
-pub lattice_at : (s : IndexSets) (m : ℕ) (rows faces : List (List Bool)) (ranks slice : List ℕ) (top : ℕ) (levels : List (List (List ℕ))) → IsClosed m rows faces → AreRanksFrom m rows faces ranks 0 → length ranks ≡ length faces → slice ≡ ranks → top ≡ get_or ranks 0 top
-    → levels ≡ map (λ k. level_of k faces slice) (range_with_len 0 (top + 1)) → s.cols ≡ m → bit_sets rows ≡ sets_of s.rows → IsFaceLattice s levels
-lattice_at s m rows faces ranks slice top levels closed known as_many es et e em same =
+pub lattice_at : (m : ℕ) (rows faces : List (List Bool)) (ranks slice : List ℕ) (top : ℕ) (levels : List (List (List ℕ))) → IsClosed m rows faces → AreRanksFrom m rows faces ranks 0 → length ranks ≡ length faces → slice ≡ ranks → top ≡ get_or ranks 0 top
+    → levels ≡ levels_to top faces slice → AreMeetsByRank m (bit_sets rows) levels
+lattice_at m rows faces ranks slice top levels closed known as_many es et e =
     let t : top ≡ rank_at ranks 0 = top_is ranks (length faces) top (some_face m rows faces closed) as_many et in
-    lattice_of s m rows faces ranks levels em same closed known as_many (subst (λ rs. levels ≡ map (λ k. level_of k faces rs) (range_with_len 0 (rank_at ranks 0 + 1))) es (subst (λ t. levels ≡ map (λ k. level_of k faces slice) (range_with_len 0 (t + 1))) t e))
+    is_lattice m rows faces ranks closed known as_many levels (subst (λ rs. levels ≡ levels_to (rank_at ranks 0) faces rs) es (subst (λ t. levels ≡ levels_to t faces slice) t e))
 
 pub few_at : (m : ℕ) (rows faces : List (List Bool)) (ranks slice : List ℕ) (top : ℕ) (levels : List (List (List ℕ))) → IsClosed m rows faces → AreRanksFrom m rows faces ranks 0 → length ranks ≡ length faces → slice ≡ ranks → top ≡ get_or ranks 0 top
-    → levels ≡ map (λ k. level_of k faces slice) (range_with_len 0 (top + 1)) → AreFew faces → IsSmallLattice levels
+    → levels ≡ levels_to top faces slice → AreFew faces → IsSmallLattice levels
 few_at m rows faces ranks slice top levels closed known as_many es et e few =
     let t : top ≡ rank_at ranks 0 = top_is ranks (length faces) top (some_face m rows faces closed) as_many et in
-    few_levels (top + 1) faces ranks levels (subst (λ rs. levels ≡ map (λ k. level_of k faces rs) (range_with_len 0 (top + 1))) es e) as_many
-    (λ i l. let b = (top_ranks m rows faces ranks closed known as_many).1 i l in omega arith) few
+    few_levels (top + 1) faces ranks levels (subst (λ rs. levels ≡ levels_to top faces rs) es e) as_many
+    (λ i l. let b = (top_rank m rows faces ranks closed known as_many).1 i l in omega arith) few
+
+-- ---- a table in place of its sets
+pub of_sets : (s : IndexSets) (m : ℕ) (sets : List (ℕ → Bool)) (ranks : List (List (List ℕ))) → m ≡ s.cols → sets ≡ sets_of s.rows → AreMeetsByRank m sets ranks → IsFaceLattice s ranks
+of_sets s m sets ranks em es w = subst (λ rs. AreMeetsByRank s.cols rs ranks) es (subst (λ n. AreMeetsByRank n sets ranks) em w)
+
+pub shown_of_sets : (s : IndexSets) (m : ℕ) (sets : List (ℕ → Bool)) (e : Evidence) → m ≡ s.cols → sets ≡ sets_of s.rows → ShowsTooMany m sets e → ShowsTooMany s.cols (sets_of s.rows) e
+shown_of_sets s m sets e em es w = subst (λ rs. ShowsTooMany s.cols rs e) es (subst (λ n. ShowsTooMany n sets e) em w)

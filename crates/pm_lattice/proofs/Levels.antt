@@ -2,22 +2,20 @@
 use Rattle.pm_algebra.proofs.Lists.{AllPairs_cons, Among, Contains_among, among_Contains, here, there}
 use Rattle.pm_bits.specs.Sets.{HasFirstDifference, first_difference_cmp, has, members, row_cmp}
 use Rattle.pm_geom.specs.FaceCounts.{IsLexBefore, SamePlaces, at_rank}
-use Rattle.pm_geom.specs.Graphs.{IsAscending, holds, sets_of}
-use Rattle.pm_geom.specs.Meets.{HasMeetChain, HasMeetRank, IsMeet}
+use Rattle.pm_geom.specs.Graphs.{IsAscending, holds}
+use Rattle.pm_geom.specs.Meets.{AreMeetsByRank, HasMeetChain, HasMeetRank, IsMeet}
 use Rattle.pm_lattice.specs.Closures.{IsBefore, IsClosed, bit_sets}
-use Rattle.pm_lattice.specs.Lattices.{IsFaceLattice}
 use Rattle.pm_lattice.specs.Ranks.{AreRanksFrom, face_at, level_of, rank_at}
 use Rattle.pm_lattice.proofs.Chains.{chain_less, chain_up, one_rank, rank_same, same_rank_apart}
 use Rattle.pm_lattice.proofs.Closing.{whole_meet}
 use Rattle.pm_lattice.proofs.Subsets.{below_length}
 use Rattle.pm_lattice.proofs.MemberLists.{holds_members, lex_of_first, members_ascend}
-use Rattle.std.proofs.Common.{ap₂, arith, inl, inr, refl, subst, sym, ◌∙◌}
+use Rattle.std.proofs.Common.{arith, inl, inr, refl, subst, sym, ◌∙◌}
 use Rattle.std.proofs.lemmas.Bool.{cases_eq, cases_lt, eq-eqb, ne_eqb}
 use Rattle.std.proofs.lemmas.Cmp.{nat_cmp_total, tied_itself}
 use Rattle.std.proofs.lemmas.List.FromFn.{get_or-map-range_with_len, length-map-range_with_len}
 use Rattle.std.proofs.lemmas.List.{get_or_default, get_or_past}
 use Rattle.std.specs.declared.cmp.Ordering.TheVariants.{Less}
-use Rattle.pm_types.specs.Values.{IndexSets}
 use Rattle.std.specs.List.{AllPairs, Contains, range_with_len}
 use Rattle.std.specs.Prelude.{Bool, List, [], false, length, map, suc, true, zero, ℕ, ◌+◌, ◌-◌, ◌<◌, ◌==◌, ◌≤◌, ◌∷◌, ◌≡◌}
 use mathlib.Core.Path.{fun_ext}
@@ -99,64 +97,64 @@ first_from_less (false ∷ xs) (false ∷ ys) e h = let w = first_from_less xs y
 first_before : (m : ℕ) (a b : List Bool) → length a ≡ m → length b ≡ m → IsBefore a b → HasFirstDifference a b
 first_before m a b ea eb h = first_from_less a b (ea ∙ sym eb) (sym (row_as a b (ea ∙ sym eb)) ∙ h)
 
-module _ (s : IndexSets) (rows faces : List (List Bool)) (ranks : List ℕ) (same : bit_sets rows ≡ sets_of s.rows) (closed : IsClosed s.cols rows faces) (known : AreRanksFrom s.cols rows faces ranks 0) (as_many : length ranks ≡ length faces) where
-  face_len : (i : ℕ) → i < length faces → length (face_at faces i) ≡ s.cols
+module _ (n : ℕ) (rows faces : List (List Bool)) (ranks : List ℕ) (closed : IsClosed n rows faces) (known : AreRanksFrom n rows faces ranks 0) (as_many : length ranks ≡ length faces) where
+  face_len : (i : ℕ) → i < length faces → length (face_at faces i) ≡ n
   face_len i l = closed.lengths i [] l
 
-  rank_of_face : (i : ℕ) → i < length faces → HasMeetRank s.cols (bit_sets rows) (has (face_at faces i)) (rank_at ranks i)
+  rank_of_face : (i : ℕ) → i < length faces → HasMeetRank n (bit_sets rows) (has (face_at faces i)) (rank_at ranks i)
   rank_of_face i l = known i (omega arith) l
 
   pub lists_ordered : (k i j : ℕ) → i < j → j < length faces → rank_at ranks i ≡ k → rank_at ranks j ≡ k → IsLexBefore (members (face_at faces i)) (members (face_at faces j))
   lists_ordered k i j l m a b =
       let li : i < length faces = omega arith in
-      lex_of_first s.cols (face_at faces i) (face_at faces j) (face_len i li) (face_len j m) (first_before s.cols (face_at faces i) (face_at faces j) (face_len i li) (face_len j m) (closed.ordered i j [] l m))
-      (same_rank_apart s.cols (bit_sets rows) (has (face_at faces i)) (has (face_at faces j)) k (subst (λ r. HasMeetRank s.cols (bit_sets rows) (has (face_at faces i)) r) a (rank_of_face i li)) (subst (λ r. HasMeetRank s.cols (bit_sets rows) (has (face_at faces j)) r) b (rank_of_face j m)))
+      lex_of_first n (face_at faces i) (face_at faces j) (face_len i li) (face_len j m) (first_before n (face_at faces i) (face_at faces j) (face_len i li) (face_len j m) (closed.ordered i j [] l m))
+      (same_rank_apart n (bit_sets rows) (has (face_at faces i)) (has (face_at faces j)) k (subst (λ r. HasMeetRank n (bit_sets rows) (has (face_at faces i)) r) a (rank_of_face i li)) (subst (λ r. HasMeetRank n (bit_sets rows) (has (face_at faces j)) r) b (rank_of_face j m)))
 
-  place_of_meet : (g : ℕ → Bool) → IsMeet s.cols (bit_sets rows) g → (i : ℕ) × (i < length faces) × SamePlaces s.cols g (has (face_at faces i))
+  place_of_meet : (g : ℕ → Bool) → IsMeet n (bit_sets rows) g → (i : ℕ) × (i < length faces) × SamePlaces n g (has (face_at faces i))
   place_of_meet g w =
       let f = closed.all g w in
       let e : face_at faces f.1.0 ≡ f.0 = get_or_default faces f.1.0 [] f.0 f.1.1 ∙ f.1.2 in
-      (f.1.0, f.1.1, subst (λ x. SamePlaces s.cols g (has x)) (sym e) f.2)
+      (f.1.0, f.1.1, subst (λ x. SamePlaces n g (has x)) (sym e) f.2)
 
   -- an intersection of each smaller rank
-  rank_below : (f : ℕ → Bool) (k : ℕ) → HasMeetRank s.cols (bit_sets rows) f (suc k) → (g : ℕ → Bool) × HasMeetRank s.cols (bit_sets rows) g k
+  rank_below : (f : ℕ → Bool) (k : ℕ) → HasMeetRank n (bit_sets rows) f (suc k) → (g : ℕ → Bool) × HasMeetRank n (bit_sets rows) g k
   rank_below f k r = let (g, w, i, c) = r.chain in (g, record { meet = w; chain = c; greatest = λ x. r.greatest (g, w, i, x) })
 
-  each_rank : (n : ℕ) (f : ℕ → Bool) (k : ℕ) → HasMeetRank s.cols (bit_sets rows) f (n + k) → (g : ℕ → Bool) × HasMeetRank s.cols (bit_sets rows) g k
-  each_rank zero f k r = (f, subst (λ q. HasMeetRank s.cols (bit_sets rows) f q) (let e : zero + k ≡ k = omega arith in e) r)
-  each_rank (suc n) f k r =
-      let b = rank_below f (n + k) (subst (λ q. HasMeetRank s.cols (bit_sets rows) f q) (let e : suc n + k ≡ suc (n + k) = omega arith in e) r) in
-      each_rank n b.0 k b.1
+  each_rank : (b : ℕ) (f : ℕ → Bool) (k : ℕ) → HasMeetRank n (bit_sets rows) f (b + k) → (g : ℕ → Bool) × HasMeetRank n (bit_sets rows) g k
+  each_rank zero f k r = (f, subst (λ q. HasMeetRank n (bit_sets rows) f q) (let e : zero + k ≡ k = omega arith in e) r)
+  each_rank (suc b) f k r =
+      let w = rank_below f (b + k) (subst (λ q. HasMeetRank n (bit_sets rows) f q) (let e : suc b + k ≡ suc (b + k) = omega arith in e) r) in
+      each_rank b w.0 k w.1
 
   -- no rank is greater than that of the first face, which is the set of all places
-  top_place : (i : ℕ) → i < length faces → SamePlaces s.cols (λ j. true) (has (face_at faces i)) → i ≡ 0
+  top_place : (i : ℕ) → i < length faces → SamePlaces n (λ j. true) (has (face_at faces i)) → i ≡ 0
   top_place zero l e = refl
   top_place (suc i) l e =
-      let d = first_before s.cols (face_at faces 0) (face_at faces (suc i)) (face_len 0 (omega arith)) (face_len (suc i) l) (closed.ordered 0 (suc i) [] (omega arith) l) in
-      let t = e d.0 (below_length (face_at faces 0) s.cols d.0 (face_len 0 (omega arith)) d.1) in
+      let d = first_before n (face_at faces 0) (face_at faces (suc i)) (face_len 0 (omega arith)) (face_len (suc i) l) (closed.ordered 0 (suc i) [] (omega arith) l) in
+      let t = e d.0 (below_length (face_at faces 0) n d.0 (face_len 0 (omega arith)) d.1) in
       absurd (let x : true ≡ false = t ∙ d.2 in cc)
 
   pub top_rank : (0 < length faces) × ((i : ℕ) → i < length faces → rank_at ranks i ≤ rank_at ranks 0)
   top_rank =
-      let w = place_of_meet (λ j. true) (whole_meet s.cols rows (λ j. true) (λ j l. refl)) in
+      let w = place_of_meet (λ j. true) (whole_meet n rows (λ j. true) (λ j l. refl)) in
       let z = top_place w.0 w.1 w.2 in
       let lz : 0 < length faces = (let l = w.1 in omega arith) in (
         lz,
         λ i l.
             let r = rank_of_face i l in
-            let up : HasMeetChain s.cols (bit_sets rows) (rank_at ranks i) (has (face_at faces 0)) = chain_up s.cols (bit_sets rows) (rank_at ranks i) (has (face_at faces i)) (has (face_at faces 0)) (λ j lj t. sym (subst (λ q. SamePlaces s.cols (λ j. true) (has (face_at faces q))) z w.2 j lj)) r.chain in
+            let up : HasMeetChain n (bit_sets rows) (rank_at ranks i) (has (face_at faces 0)) = chain_up n (bit_sets rows) (rank_at ranks i) (has (face_at faces i)) (has (face_at faces 0)) (λ j lj t. sym (subst (λ q. SamePlaces n (λ j. true) (has (face_at faces q))) z w.2 j lj)) r.chain in
             elim (cases_lt (rank_at ranks 0) (rank_at ranks i)) [
-              | inl b ↦ absurd ((rank_of_face 0 lz).greatest (chain_less s.cols (bit_sets rows) (suc (rank_at ranks 0)) (rank_at ranks i) (has (face_at faces 0)) (omega arith) up))
+              | inl b ↦ absurd ((rank_of_face 0 lz).greatest (chain_less n (bit_sets rows) (suc (rank_at ranks 0)) (rank_at ranks i) (has (face_at faces 0)) (omega arith) up))
               | inr b ↦ b
             ],
       )
 
   pub level_full : (k : ℕ) → k ≤ rank_at ranks 0 → ¬ (level_of k faces ranks ≡ [])
   level_full k l e =
-      let n : rank_at ranks 0 - k + k ≡ rank_at ranks 0 = omega arith in
-      let g = each_rank (rank_at ranks 0 - k) (has (face_at faces 0)) k (subst (λ q. HasMeetRank s.cols (bit_sets rows) (has (face_at faces 0)) q) (sym n) (rank_of_face 0 top_rank.0)) in
+      let whole : rank_at ranks 0 - k + k ≡ rank_at ranks 0 = omega arith in
+      let g = each_rank (rank_at ranks 0 - k) (has (face_at faces 0)) k (subst (λ q. HasMeetRank n (bit_sets rows) (has (face_at faces 0)) q) (sym whole) (rank_of_face 0 top_rank.0)) in
       let p = place_of_meet g.0 g.1.meet in
-      let same_rank = one_rank s.cols (bit_sets rows) (has (face_at faces p.0)) (rank_at ranks p.0) k (rank_of_face p.0 p.1) (rank_same s.cols (bit_sets rows) g.0 (has (face_at faces p.0)) k p.2 g.1) in
+      let same_rank = one_rank n (bit_sets rows) (has (face_at faces p.0)) (rank_at ranks p.0) k (rank_of_face p.0 p.1) (rank_same n (bit_sets rows) g.0 (has (face_at faces p.0)) k p.2 g.1) in
       none (members (face_at faces p.0)) (subst (λ xs. Among (members (face_at faces p.0)) xs) e (in_level k faces ranks as_many p.0 p.1 same_rank))
     where
       none : (xs : List ℕ) → Among xs [] → ⊥
@@ -180,26 +178,26 @@ module _ (s : IndexSets) (rows faces : List (List Bool)) (ranks : List ℕ) (sam
     | inr l ↦ subst (λ xs. AllPairs IsLexBefore xs) (sym (level_at k l)) (level_ordered k faces ranks (lists_ordered k))
   ]
 
-  face_of : (k : ℕ) (xs : List ℕ) → Among xs (at_rank all_levels k) → IsAscending s.cols xs × HasMeetRank s.cols (sets_of s.rows) (holds xs) k
+  face_of : (k : ℕ) (xs : List ℕ) → Among xs (at_rank all_levels k) → IsAscending n xs × HasMeetRank n (bit_sets rows) (holds xs) k
   face_of k xs c = elim (cases_lt (rank_at ranks 0) k) [
     | inl l ↦ absurd (none (subst (λ ls. Among xs ls) (level_past k l) c))
     | inr l ↦ (
         let p = from_level k faces ranks xs (subst (λ ls. Among xs ls) (level_at k l) c) in
-        let r = subst (λ q. HasMeetRank s.cols (bit_sets rows) (has (face_at faces p.place)) q) p.rank (rank_of_face p.place p.inside) in
-        subst (λ ys. IsAscending s.cols ys × HasMeetRank s.cols (sets_of s.rows) (holds ys) k) (sym p.list) (
-          members_ascend s.cols (face_at faces p.place) (face_len p.place p.inside),
-          subst (λ rs. HasMeetRank s.cols rs (holds (members (face_at faces p.place))) k) same (subst (λ f. HasMeetRank s.cols (bit_sets rows) f k) (sym (same_test (face_at faces p.place))) r),
+        let r = subst (λ q. HasMeetRank n (bit_sets rows) (has (face_at faces p.place)) q) p.rank (rank_of_face p.place p.inside) in
+        subst (λ ys. IsAscending n ys × HasMeetRank n (bit_sets rows) (holds ys) k) (sym p.list) (
+          members_ascend n (face_at faces p.place) (face_len p.place p.inside),
+          subst (λ f. HasMeetRank n (bit_sets rows) f k) (sym (same_test (face_at faces p.place))) r,
         ))
   ]
     where
       none : Among xs [] → ⊥
       none i = elim i [ ]
 
-  pub is_lattice : (levels : List (List (List ℕ))) → levels ≡ map (λ k. level_of k faces ranks) (range_with_len 0 (rank_at ranks 0 + 1)) → IsFaceLattice s levels
-  is_lattice levels e = subst (λ ls. IsFaceLattice s ls) (sym e) (record {
+  pub is_lattice : (levels : List (List (List ℕ))) → levels ≡ map (λ k. level_of k faces ranks) (range_with_len 0 (rank_at ranks 0 + 1)) → AreMeetsByRank n (bit_sets rows) levels
+  is_lattice levels e = subst (λ ls. AreMeetsByRank n (bit_sets rows) ls) (sym e) (record {
     each = λ k xs c. face_of k xs (among_Contains (at_rank all_levels k) c);
     all = λ g w.
-        let p = place_of_meet g (subst (λ rs. IsMeet s.cols rs g) (sym same) w) in
+        let p = place_of_meet g w in
         let low = top_rank.1 p.0 p.1 in (
           rank_at ranks p.0,
           members (face_at faces p.0),
@@ -211,11 +209,3 @@ module _ (s : IndexSets) (rows faces : List (List Bool)) (ranks : List ℕ) (sam
         let low : k ≤ rank_at ranks 0 = (let e = levels_len in omega arith) in
         subst (λ xs. ¬ (xs ≡ [])) (sym (get_or_default all_levels k d [] l ∙ level_at k low)) (level_full k low);
   })
-
--- the same of any table: its sets as lists
-pub top_ranks : (m : ℕ) (rows faces : List (List Bool)) (ranks : List ℕ) → IsClosed m rows faces → AreRanksFrom m rows faces ranks 0 → length ranks ≡ length faces → (0 < length faces) × ((i : ℕ) → i < length faces → rank_at ranks i ≤ rank_at ranks 0)
-top_ranks m rows faces ranks closed known as_many = top_rank (record { rows = map members rows; cols = m }) rows faces ranks (sets_as rows) closed known as_many
-  where
-    sets_as : (rows : List (List Bool)) → bit_sets rows ≡ sets_of (map members rows)
-    sets_as [] = refl
-    sets_as (r ∷ rows) = ap₂ (λ x xs. x ∷ xs) (sym (same_test r)) (sets_as rows)

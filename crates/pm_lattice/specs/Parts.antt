@@ -1,5 +1,6 @@
 -- Parts of faces. Rows and faces are rows of bits of one length m.
 use Rattle.pm_bits.specs.Sets.{IsSubset, has}
+use Rattle.pm_bits.specs.Table.{Table}
 use Rattle.pm_geom.specs.FaceCounts.{SamePlaces}
 use Rattle.std.specs.List.{Contains, slice_index_or}
 use Rattle.std.specs.Prelude.{ℕ, ◌≡◌, ◌<◌, ◌&&◌, ◌⊎◌, Bool, IsTrue, List, [], length}
@@ -40,3 +41,10 @@ pub record Opens (m : ℕ) (rows : List (List Bool)) (f : List Bool) (old new : 
   pub kept : (k : List Bool) → Contains old k → Contains new k
   pub added : (k : List Bool) → Contains new k → Contains old k ⊎ IsPartOf rows f k
   pub covers : Covers m rows new f
+
+-- the same over the rows of a table
+abbrev pub HasParts : Table → List Bool → List (List Bool) → Type 0
+HasParts t f faces = Covers t.row_len t.rows faces f
+
+abbrev pub OpensParts : Table → List Bool → List (List Bool) → List (List Bool) → Type 0
+OpensParts t f old new = Opens t.row_len t.rows f old new

@@ -2,7 +2,7 @@
 ghost use Rattle.pm_bits.specs.Sets.{IsSubset, has};
 ghost use Rattle.pm_bits.specs.Table.{row_at};
 ghost use Rattle.pm_lattice.specs.Closures.{IsClosureOf};
-ghost use Rattle.pm_lattice.specs.Parts.{Covers, IsPartOf, Opens};
+ghost use Rattle.pm_lattice.specs.Parts.{HasParts, IsPartOf, OpensParts};
 ghost use Rattle.std.specs.List.{All, Any, Contains};
 ghost use Rattle.std.specs.Prelude.{ℕ, List, Bool, ◌<◌, ◌≡◌, ◌↔◌, IfOk, IsTrue, OnOk, length};
 
@@ -14,8 +14,8 @@ use std::mem;
 /// The most faces that a lattice may have.
 pub(crate) const MAX_FACES: usize = 65_536;
 
-/// All intersections of rows with the set of all places, each once and in the order of rows of bits; or more of them
-/// than a lattice may have.
+/// All intersections of rows with the set of all places, each once and in the order of rows of bits;
+/// or more of them than a lattice may have.
 #[derive(Drop)]
 pub(crate) enum Closure {
     All(Vec<BitRow>),
@@ -48,9 +48,10 @@ fn one_contains(rows: &BitTable, places: &[usize], s: &BitRow) -> bool
     false
 }
 
-// The parts of a face that rows open: what it shares with a row that does not contain it. A row opens nothing where
-// an earlier row that does not contain the face has what it shares, or where the earlier rows that contain the face
-// share more than the face: so each face is opened from one face alone, by one row. `whole` is the set of all places.
+// The parts of a face that rows open: what it shares with a row that does not contain it. A row opens
+// nothing where an earlier row that does not contain the face has what it shares, or where the earlier
+// rows that contain the face share more than the face: so each face is opened from one face alone, by
+// one row. `whole` is the set of all places.
 fn parts_of(
     alloc: Global,
     rows: &BitTable,
@@ -60,7 +61,7 @@ fn parts_of(
     requires face_len { length face.now ≡ rows.now.row_len }
     requires whole_len { length whole.now ≡ rows.now.row_len }
     ensures each { IfOk result (λ opened. All (IsPartOf rows.now.rows face.now) opened.items) }
-    ensures covers { IfOk result (λ opened. Covers rows.now.row_len rows.now.rows opened.items face.now) }
+    ensures covers { IfOk result (λ opened. HasParts rows.now face.now opened.items) }
 {
     let mut opened = Vec::new(alloc);
     let mut outside = Vec::new(alloc);
@@ -96,7 +97,7 @@ fn open_parts(
 ) -> Result<(), AllocError>
     requires face_len { length face.now ≡ rows.now.row_len }
     requires whole_len { length whole.now ≡ rows.now.row_len }
-    ensures { OnOk result (Opens rows.now.row_len rows.now.rows face.now pending.old.keys pending.new.keys) }
+    ensures { OnOk result (OpensParts rows.now face.now pending.old.keys pending.new.keys) }
 {
     let mut parts = parts_of(alloc, rows, whole, face)?;
     while let Some(part) = parts.pop() {
@@ -105,8 +106,8 @@ fn open_parts(
     Ok(())
 }
 
-/// Closes the rows of a table under intersection: from the set of all places on, the first open face is settled and
-/// its parts are opened.
+/// Closes the rows of a table under intersection: from the set of all places on, the first open face is
+/// settled and its parts are opened.
 pub(crate) fn close(alloc: Global, rows: &BitTable) -> Result<Closure, AllocError>
     ensures { IfOk result (IsClosureOf rows.now) }
 {

@@ -1,10 +1,8 @@
 // The face lattice of sets of indices.
-ghost use Rattle.pm_bits.specs.Sets.{has};
-ghost use Rattle.pm_geom.specs.Graphs.{sets_of};
-ghost use Rattle.pm_geom.specs.Meets.{IsSmallLattice};
-ghost use Rattle.pm_lattice.specs.Closures.{AreFew, AreMany, AreMeets, IsClosed, bit_sets, place_count};
-ghost use Rattle.pm_lattice.specs.Lattices.{IsFaceLattice, IsShown};
-ghost use Rattle.pm_types.specs.Values.{IndexSets};
+ghost use Rattle.pm_geom.specs.Meets.{AreMeetsByRank, IsSmallLattice};
+ghost use Rattle.pm_lattice.specs.Closures.{AreFew, AreMany, AreMeets, IsClosed, bit_sets};
+ghost use Rattle.pm_lattice.specs.Closures.{place_count};
+ghost use Rattle.pm_lattice.specs.Lattices.{IsFaceLattice, IsShown, ShowsTooMany};
 ghost use Rattle.std.specs.List.{All};
 ghost use Rattle.std.specs.Prelude.{◌^◌, ◌<◌, ◌≤◌, ◌≡◌, length, IfOk, IfErr, map};
 
@@ -23,7 +21,8 @@ const MAX_PLACES: usize = 4_000_000;
 /// Why there is no lattice.
 #[derive(Debug, Drop)]
 pub enum LatticeFail {
-    /// There are more than 65,536 faces, or they have more than 4,000,000 indices together: E5 shows so many of them.
+    /// There are more than 65,536 faces, or they have more than 4,000,000 indices together: E5 shows
+    /// so many of them.
     Many(Evidence),
     /// Memory is lacking.
     Memory,
@@ -45,7 +44,7 @@ fn lattice_of(alloc: Global, rows: &BitTable, faces: &[BitRow]) -> Result<Lattic
     requires closed { IsClosed rows.now.row_len rows.now.rows faces.now }
     requires limits { AreFew faces.now }
     ensures small { IfOk result IsSmallLattice }
-    ensures lattice { IfOk result (λ lattice. (s : IndexSets) → s.cols ≡ rows.now.row_len → bit_sets rows.now.rows ≡ sets_of s.rows → IsFaceLattice s lattice) }
+    ensures lattice { IfOk result (AreMeetsByRank rows.now.row_len (bit_sets rows.now.rows)) }
 {
     let ranks = ranks_of(alloc, rows, faces)?;
     Ok(Lattice::from_vec(by_rank(alloc, faces, &ranks, ranks[0])?))
@@ -65,23 +64,24 @@ fn place_count(faces: &[BitRow], len: usize) -> usize
     places
 }
 
-// The refusal that shows these faces.
-fn too_many(alloc: Global, rows: &BitTable, faces: &[BitRow]) -> Result<LatticeFail, AllocError>
+// The faces as evidence.
+fn evidence_of(alloc: Global, rows: &BitTable, faces: &[BitRow]) -> Result<Evidence, AllocError>
     requires few { rows.now.row_len < 2 ^ 32 }
     requires meets { AreMeets rows.now.row_len rows.now.rows faces.now }
     requires many { AreMany faces.now }
-    ensures { IfOk result (λ fail. (s : IndexSets) → s.cols ≡ rows.now.row_len → bit_sets rows.now.rows ≡ sets_of s.rows → IsShown s fail) }
+    ensures { IfOk result (ShowsTooMany rows.now.row_len (bit_sets rows.now.rows)) }
 {
-    Ok(LatticeFail::Many(Evidence::E5Faces {
+    Ok(Evidence::E5Faces {
         faces: PlaceSets::from_vec(member_lists(alloc, faces)?),
-    }))
+    })
 }
 
-/// All intersections of the sets and the set of all indices, each once, by rank: the rank of a face is the greatest
-/// number of strict inclusions of faces below it. Faces of one rank are in lexicographic order.
+/// All intersections of the sets and the set of all indices, each once, by rank: the rank of a face is
+/// the greatest number of strict inclusions of faces below it. Faces of one rank are in lexicographic
+/// order.
 ///
-/// Where the sets hold the vertices of the facets of a polytope, these are its faces. `Many` comes only with evidence of too
-/// many faces, and `Memory` only where memory is lacking.
+/// Where the sets hold the vertices of the facets of a polytope, these are its faces. `Many` comes only
+/// with evidence of too many faces, and `Memory` only where memory is lacking.
 pub fn faces(alloc: Global, s: &Sets) -> Result<Lattice, LatticeFail>
     requires { All (λ row. All (λ j. j < s.now.cols) row) s.now.rows }
     ensures lattice { IfOk result (IsFaceLattice s.now) }
@@ -92,10 +92,10 @@ pub fn faces(alloc: Global, s: &Sets) -> Result<Lattice, LatticeFail>
     match close_either(alloc, &rows)? {
         Closure::All(faces) => {
             if place_count(&faces, rows.row_len()) > MAX_PLACES {
-                return Err(too_many(alloc, &rows, &faces)?);
+                return Err(LatticeFail::Many(evidence_of(alloc, &rows, &faces)?));
             }
             Ok(lattice_of(alloc, &rows, &faces)?)
         }
-        Closure::Many(faces) => Err(too_many(alloc, &rows, &faces)?),
+        Closure::Many(faces) => Err(LatticeFail::Many(evidence_of(alloc, &rows, &faces)?)),
     }
 }

@@ -1,7 +1,9 @@
-//! All intersections of sets of places, by rank: the face lattice of a polytope or cone from the vertices of its facets.
+//! All intersections of sets of places, by rank: the face lattice of a polytope or cone from the vertices
+//! of its facets.
 //!
-//! `faces` closes the sets under intersection, each face once (`closure`; `turned`, where the sets are more than the
-//! indices), finds the rank of each (`ranks`), and lists them (`lists`). The sets need not come from a polytope: the answer is right for any sets.
+//! `faces` closes the sets under intersection, each face once (`closure`; `turned`, where the sets are
+//! more than the indices), finds the rank of each (`ranks`), and lists them (`lists`). The sets need not
+//! come from a polytope: the answer is right for any sets.
 #![tactic(auto)]
 
 ghost use Rattle.pm_lattice.specs.Examples.{NoSetsAreRead, PointIsRead, SquareIsRead, UnevenIsRead};
@@ -16,12 +18,14 @@ mod turned;
 pub use lattice::{LatticeFail, faces};
 pub use pm_types::Lattice;
 
-/// Where sets hold exactly the places at which the facet rows vanish, their meets are exactly the faces, and have their ranks.
+/// Where sets hold exactly the places at which the facet rows vanish, their meets are exactly the faces,
+/// and have their ranks.
 pub fn law_meets_are_faces()
     ensures { MeetsAreFaces }
 {}
 
-/// Where sets hold exactly the places at which the facet rows vanish, their meets by rank are the faces by rank.
+/// Where sets hold exactly the places at which the facet rows vanish, their meets by rank are the faces
+/// by rank.
 pub fn law_lattice_is_hasse_diagram()
     ensures { LatticeIsHasseDiagram }
 {}
@@ -31,7 +35,8 @@ pub fn law_edges_by_others()
     ensures { EdgesByOthers }
 {}
 
-/// The definitions read on the unit square: corners, an edge and the square with their ranks, and a diagonal.
+/// The definitions read on the unit square: corners, an edge and the square with their ranks, and a
+/// diagonal.
 pub fn example_square()
     ensures { SquareIsRead }
 {}

@@ -2,10 +2,10 @@
 ghost use Rattle.pm_bits.specs.Sets.{has, members};
 ghost use Rattle.pm_geom.specs.Graphs.{holds, sets_of};
 ghost use Rattle.pm_lattice.specs.Closures.{bit_sets};
-ghost use Rattle.pm_lattice.specs.Ranks.{level_of};
+ghost use Rattle.pm_lattice.specs.Ranks.{level_of, levels_to};
 ghost use Rattle.pm_types.specs.Lists.{lists_of};
-ghost use Rattle.std.specs.List.{All, range_with_len};
-ghost use Rattle.std.specs.Prelude.{ℕ, ◌^◌, ◌+◌, ◌<◌, ◌≡◌, IfOk, length, map};
+ghost use Rattle.std.specs.List.{All};
+ghost use Rattle.std.specs.Prelude.{ℕ, ◌^◌, ◌<◌, ◌≡◌, IfOk, length, map};
 
 use pm_bits::{BitRow, BitTable};
 use pm_types::Sets;
@@ -41,7 +41,7 @@ pub(crate) fn by_rank(
     requires as_many { length ranks.now ≡ length faces.now }
     requires few { All (λ f. length f < 2 ^ 32) faces.now }
     requires top { top < 2 ^ 32 }
-    ensures { IfOk result (λ levels. map lists_of levels.items ≡ map (λ k. level_of k faces.now ranks.now) (range_with_len 0 (top + 1))) }
+    ensures { IfOk result (λ levels. map lists_of levels.items ≡ levels_to top faces.now ranks.now) }
 {
     let mut levels = Vec::new(alloc);
     for rank in 0..top + 1 {

@@ -1,10 +1,8 @@
 // The ranks of faces.
-ghost use Rattle.pm_bits.specs.Sets.{has, member_count};
-ghost use Rattle.pm_geom.specs.Meets.{HasMeetRank};
-ghost use Rattle.pm_lattice.specs.Closures.{IsBefore, IsClosed, bit_sets};
-ghost use Rattle.pm_lattice.specs.Ranks.{AreHeights, AreRanksFrom, face_at, is_seen, rank_at};
+ghost use Rattle.pm_lattice.specs.Closures.{IsBefore, IsClosed};
+ghost use Rattle.pm_lattice.specs.Ranks.{AreHeights, AreRanks, AreRanksFrom, AreSeen, HasRankIn, Rise, face_at};
 ghost use Rattle.std.specs.List.{All, AllPairs, Contains};
-ghost use Rattle.std.specs.Prelude.{ℕ, ◌^◌, ◌+◌, ◌<◌, ◌≤◌, ◌≡◌, IfOk, IsTrue, false, length};
+ghost use Rattle.std.specs.Prelude.{◌^◌, ◌+◌, ◌<◌, ◌≡◌, IfOk, length};
 
 use pm_bits::{BitRow, BitTable};
 use std::alloc::{AllocError, Global};
@@ -31,8 +29,8 @@ fn place_of(faces: &[BitRow], face: &BitRow) -> usize
     unreachable!()
 }
 
-// The rank of the face at a place, where those after it have theirs. A rank that reaches the height of the
-// face's size is the greatest, and a part whose height is too small cannot raise it.
+// The rank of the face at a place, where those after it have theirs. A rank that reaches the height of
+// the face's size is the greatest, and a part whose height is too small cannot raise it.
 fn rank_of(
     rows: &BitTable,
     faces: &[BitRow],
@@ -49,7 +47,7 @@ fn rank_of(
     requires known { AreRanksFrom rows.now.row_len rows.now.rows faces.now ranks.now (place + 1) }
     requires part_len { length part.old ≡ rows.now.row_len }
     ensures part_len { length part.new ≡ rows.now.row_len }
-    ensures rank { HasMeetRank rows.now.row_len (bit_sets rows.now.rows) (has (face_at faces.now place)) result }
+    ensures rank { HasRankIn rows.now (face_at faces.now place) result }
 {
     let face = &faces[place];
     let height = heights[face.count()];
@@ -80,7 +78,7 @@ fn sizes_of(alloc: Global, faces: &[BitRow], len: usize) -> Result<Vec<bool>, Al
     requires few { len < 2 ^ 32 }
     requires lengths { All (λ f. length f ≡ len) faces.now }
     ensures len { IfOk result (λ seen. length seen.items ≡ len + 1) }
-    ensures seen { IfOk result (λ seen. All (λ f. IsTrue (is_seen seen.items (member_count f))) faces.now) }
+    ensures seen { IfOk result (λ seen. AreSeen faces.now seen.items) }
 {
     let mut seen = vec![in alloc; false; len + 1]?;
     for face in faces {
@@ -92,9 +90,7 @@ fn sizes_of(alloc: Global, faces: &[BitRow], len: usize) -> Result<Vec<bool>, Al
 // For each size, how many sizes below it are seen.
 fn heights_of(alloc: Global, seen: &[bool]) -> Result<Vec<usize>, AllocError>
     requires { length seen.now < 2 ^ 33 }
-    ensures len { IfOk result (λ heights. length heights.items ≡ length seen.now) }
-    ensures small { IfOk result (λ heights. (s : ℕ) → s < length seen.now → rank_at heights.items s ≤ s) }
-    ensures rise { IfOk result (λ heights. (s t : ℕ) → s < t → t < length seen.now → IsTrue (is_seen seen.now s) → rank_at heights.items s < rank_at heights.items t) }
+    ensures { IfOk result (λ heights. Rise seen.now heights.items) }
 {
     let mut heights = Vec::new(alloc);
     let mut height = 0;
@@ -116,7 +112,7 @@ pub(crate) fn ranks_of(
     requires few { rows.now.row_len < 2 ^ 32 }
     requires closed { IsClosed rows.now.row_len rows.now.rows faces.now }
     ensures len { IfOk result (λ ranks. length ranks.items ≡ length faces.now) }
-    ensures ranks { IfOk result (λ ranks. AreRanksFrom rows.now.row_len rows.now.rows faces.now ranks.items 0) }
+    ensures ranks { IfOk result (λ ranks. AreRanks rows.now faces.now ranks.items) }
 {
     let seen = sizes_of(alloc, faces, rows.row_len())?;
     let heights = heights_of(alloc, &seen)?;

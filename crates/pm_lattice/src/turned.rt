@@ -65,8 +65,8 @@ fn faces_of(alloc: Global, columns: &BitTable, sets: &[BitRow]) -> Result<Vec<Bi
     Ok(faces)
 }
 
-/// Closes the rows of a table under intersection: by the sets of rows that contain a face, where the rows are more
-/// than the places.
+/// Closes the rows of a table under intersection: by the sets of rows that contain a face, where the
+/// rows are more than the places.
 pub(crate) fn close_either(alloc: Global, rows: &BitTable) -> Result<Closure, AllocError>
     ensures { IfOk result (IsClosureOf rows.now) }
 {

@@ -14,7 +14,7 @@ by_rank-requires-clause-top c = omega (
 )
 
 pub returns-clause-lattice : goal.returns-clause-lattice
-returns-clause-lattice c = λ s. lattice_at s c.args.rows.now.row_len c.args.rows.now.rows c.args.faces.now c.in_ok-ranks.ranks.items c.deref.result.now c.index.result.now c.from_vec.result
+returns-clause-lattice c = lattice_at c.args.rows.now.row_len c.args.rows.now.rows c.args.faces.now c.in_ok-ranks.ranks.items c.deref.result.now c.index.result.now c.from_vec.result
     c.requires.closed c.in_ok-ranks.ensures.ranks c.in_ok-ranks.ensures.len c.deref.ensures.value c.index.ensures (c.from_vec.ensures ∙ c.in_ok-by_rank.ensures)
 
 pub returns-clause-small : goal.returns-clause-small
