@@ -1,0 +1,7 @@
+pub mod Parts
+pub mod Closures
+pub mod Turned
+pub mod Ranks
+pub mod Lattices
+pub mod Laws
+pub mod Examples
