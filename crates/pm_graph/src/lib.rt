@@ -1,0 +1,11 @@
+//! Graphs of the vertices and of the facets of a polytope, their diameters, and the numbers of its faces.
+//!
+//! All is combinatorics of index sets; the laws at the end say what it means for the sets of a cone.
+#![tactic(auto)]
+
+mod bits;
+mod distances;
+mod graphs;
+
+pub use distances::diameter;
+pub use graphs::{dual_graph, graph_of_sets};
