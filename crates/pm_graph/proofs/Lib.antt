@@ -5,3 +5,5 @@ pub mod Holds
 pub mod Turns
 pub mod Neighbours
 pub mod EdgeReadings
+pub mod Binomials
+pub mod HNumbers

@@ -6,6 +6,8 @@
 mod bits;
 mod distances;
 mod graphs;
+mod h_numbers;
 
 pub use distances::diameter;
 pub use graphs::{dual_graph, graph_of_sets};
+pub use h_numbers::h_vector;
