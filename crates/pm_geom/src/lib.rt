@@ -166,6 +166,8 @@ pub fn example_h_vectors()
 /// All faces of the cone {0} and of a ray, and lists that lack the least face or the whole.
 pub fn example_diagrams()
     ensures { DiagramsAreRead }
+{}
+
 /// No point of a linear program exceeds the value of a dual (Chvatal, Linear Programming, chapter 5).
 pub fn law_weak_duality()
     ensures { WeakDuality }
