@@ -7,3 +7,5 @@ pub mod Neighbours
 pub mod EdgeReadings
 pub mod Binomials
 pub mod HNumbers
+pub mod CountTurns
+pub mod PlaceCounts

@@ -41,3 +41,16 @@ none_of (x ∷ xs) n e t = absurd (let z = eqb-true n 0 (sym t) in omega arith)
 pub some_of : (xs : List ℕ) (n : ℕ) → n ≡ length xs → false ≡ (n == 0) → 0 < length xs
 some_of [] n e f = absurd (let t : true ≡ false = sym (eq-eqb n 0 e) ∙ sym f in cc)
 some_of (x ∷ xs) n e f = omega arith
+
+-- the same of any view
+pub view_in : {X Y : Type 0} (f : X → Y) (xs : List X) (k : ℕ) (x : X) (d : Y) → k < length xs → x ≡ get_or xs k x → f x ≡ slice_index_or (map f xs) k d
+view_in f [] k x d l e = absurd (omega arith)
+view_in f (y ∷ xs) zero x d l e = ap f e
+view_in f (y ∷ xs) (suc k) x d l e = view_in f xs k x d (omega arith) e
+
+pub all_in_view : {X Y : Type 0} (P : Y → Type 0) (f : X → Y) (xs : List X) (k : ℕ) (x : X) → k < length xs → x ≡ get_or xs k x → All P (map f xs) → P (f x)
+all_in_view P f xs k x l e h = subst P (sym (view_in f xs k x (f x) l e)) (h k (f x) (let n = length_map xs f in omega arith))
+  where
+    length_map : {X Y : Type 0} (xs : List X) (f : X → Y) → length (map f xs) ≡ length xs
+    length_map [] f = refl
+    length_map (x ∷ xs) f = ap suc (length_map xs f)

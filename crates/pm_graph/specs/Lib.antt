@@ -2,3 +2,4 @@ pub mod Levels
 pub mod Tables
 pub mod Edges
 pub mod HVectors
+pub mod Counts

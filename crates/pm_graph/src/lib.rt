@@ -4,10 +4,13 @@
 #![tactic(auto)]
 
 mod bits;
+mod counts;
 mod distances;
 mod graphs;
 mod h_numbers;
+mod inclusions;
 
+pub use counts::f_vector;
 pub use distances::diameter;
 pub use graphs::{dual_graph, graph_of_sets};
 pub use h_numbers::h_vector;
