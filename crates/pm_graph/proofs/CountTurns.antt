@@ -1,9 +1,9 @@
 -- The turns of the loops that count.
 use Rattle.pm_geom.specs.FaceCounts.{f_of, inner}
-use Rattle.std.proofs.Common.{ap, arith, refl, subst, sym, ◌∙◌}
+use Rattle.std.proofs.Common.{ap, arith, sym, ◌∙◌}
 use Rattle.std.proofs.lemmas.List.{drop-map, length-map, take-map, take_all}
 use Rattle.std.proofs.lemmas.Simd.{map-map}
-use Rattle.std.specs.Prelude.{List, [], drop, length, map, take, ℕ, ◌-◌, ◌∷◌, ◌≡◌, ◌≤◌}
+use Rattle.std.specs.Prelude.{List, drop, length, map, take, ℕ, ◌-◌, ◌≡◌, ◌≤◌}
 use lib.IntN.{pos, ℤ}
 
 pub inner_of : {X : Type 0} (L : X → List (List ℕ)) (xs : List X) → map L (take (length xs - 1 - 1) (drop 1 xs)) ≡ inner (map L xs)

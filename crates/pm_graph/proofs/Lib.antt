@@ -9,3 +9,5 @@ pub mod Binomials
 pub mod HNumbers
 pub mod CountTurns
 pub mod PlaceCounts
+pub mod Bounds
+pub mod TableRows

@@ -3,16 +3,16 @@ use Rattle.pm_algebra.proofs.Lists.{Among, among_All, here, there}
 use Rattle.pm_bits.specs.Sets.{has, member_count}
 use Rattle.pm_geom.specs.FaceCounts.{inclusion_count, is_within}
 use Rattle.pm_geom.specs.Graphs.{holds}
-use Rattle.pm_graph.specs.Counts.{IsMeetOfColumns, lower_count, lower_counts, place_count}
+use Rattle.pm_graph.specs.Counts.{IsMeetOfColumns, lower_count, place_count}
 use Rattle.pm_graph.specs.Levels.{AreBelow}
 use Rattle.pm_graph.specs.Tables.{AreColumnsOf}
-use Rattle.std.proofs.Common.{ap, ap₂, arith, get_or, refl, subst, sym, ◌∙◌}
+use Rattle.std.proofs.Common.{ap, ap₂, arith, get_or, refl, sym, ◌∙◌}
 use Rattle.std.proofs.lemmas.Bool.Decides.{nat_tests}
-use Rattle.std.proofs.lemmas.List.{get_or_default}
+use Rattle.std.proofs.lemmas.List.{map-append}
 use Rattle.std.proofs.lemmas.List.FromFn.{map-range_with_len_more}
 use Rattle.std.proofs.lemmas.List.Sums.{count_by-le-length, sum_by-cons, sum_by_more}
 use Rattle.std.specs.List.{All, count_by, list_all, range_with_len, slice_index_or, sum_by}
-use Rattle.std.specs.Prelude.{Bool, List, [], cond, false, length, map, nat_lt, suc, take, true, zero, ℕ, ◌*◌, ◌+◌, ◌++◌, ◌<◌, ◌&&◌, ◌^◌, ◌∷◌, ◌≡◌, ◌≤◌}
+use Rattle.std.specs.Prelude.{Bool, List, [], cond, false, length, map, nat_lt, suc, take, true, zero, ℕ, ◌+◌, ◌++◌, ◌<◌, ◌&&◌, ◌∷◌, ◌≡◌, ◌≤◌}
 
 -- ---- sums and counts of what is equal at each element
 sum_agrees : {X : Type 0} (f g : X → ℕ) (xs : List X) → ((x : X) → Among x xs → f x ≡ g x) → sum_by f xs ≡ sum_by g xs
@@ -26,7 +26,7 @@ all_agrees : {X : Type 0} (p q : X → Bool) (xs : List X) → ((x : X) → Amon
 all_agrees p q [] h = refl
 all_agrees p q (x ∷ xs) h = ap₂ (λ a b. a && b) (h x here) (all_agrees p q xs (λ y i. h y (there i)))
 
-range_among : (a n : ℕ) {x : ℕ} → Among x (range_with_len a n) → (a ≤ x) × (x < a + n)
+pub range_among : (a n : ℕ) {x : ℕ} → Among x (range_with_len a n) → (a ≤ x) × (x < a + n)
 range_among a zero i = elim i [ ]
 range_among a (suc n) here = (omega arith, omega arith)
 range_among a (suc n) (there i) = let w = range_among (a + 1) n i in ((let l = w.0 in omega arith), (let l = w.1 in omega arith))
@@ -63,7 +63,7 @@ count_bound row n e = let a = count_by-le-length (has row) (range_with_len 0 (le
 pub places_are_faces : (columns : List (List Bool)) (upper lower : List (List ℕ)) (len : ℕ) → AreColumnsOf len upper columns → AreBelow len lower → place_count columns (length upper) lower ≡ inclusion_count lower upper
 places_are_faces columns upper lower len a b = sum_agrees (λ face. count_by (λ x. list_all (λ j. has (slice_index_or columns j []) x) face) (range_with_len 0 (length upper))) (λ g. count_by (is_within g) upper) lower (λ face i.
     count_agrees (λ x. list_all (λ j. has (slice_index_or columns j []) x) face) (λ x. is_within face (slice_index_or upper x [])) (range_with_len 0 (length upper))
-        (λ x q. all_agrees (λ j. has (slice_index_or columns j []) x) (holds (slice_index_or upper x [])) face (λ j r. a.bits x j (among_All (λ j. j < len) r (among_All (λ row. All (λ j. j < len) row) i b))))
+    (λ x q. all_agrees (λ j. has (slice_index_or columns j []) x) (holds (slice_index_or upper x [])) face (λ j r. a.bits x j (among_All (λ j. j < len) r (among_All (λ row. All (λ j. j < len) row) i b))))
     ∙ count_of_list (is_within face) (λ x. slice_index_or upper x []) upper 0 [] (λ i l. let e : 0 + i ≡ i = omega arith in ap (λ k. slice_index_or upper k []) e))
 
 below_is : (i k : ℕ) → i < k → nat_lt i k ≡ true
@@ -86,3 +86,6 @@ pub counts_turn : (lists : List (List (List ℕ))) (k i len cnt n : ℕ) (column
     upper ≡ slice_index_or lists k [] → lower ≡ slice_index_or lists i [] → n ≡ place_count seen cnt lower → n ≡ lower_count lists k i
 counts_turn lists k i len cnt n columns seen upper lower l es ec a b eu el en =
     en ∙ ap (λ cs. place_count cs cnt lower) es ∙ ap (λ m. place_count columns m lower) ec ∙ places_are_faces columns upper lower len a b ∙ ap₂ (λ xs ys. inclusion_count xs ys) el eu ∙ sym (lower_count_below lists k i l)
+
+pub mapped_more : {X Y : Type 0} (f : X → Y) (g : ℕ → Y) (k : ℕ) (old new : List X) (x : X) → new ≡ old ++ x ∷ [] → f x ≡ g k → map f old ≡ map g (range_with_len 0 k) → map f new ≡ map g (range_with_len 0 (k + 1))
+mapped_more f g k old new x n e h = ap (map f) n ∙ map-append f old (x ∷ []) ∙ ap₂ (λ xs y. xs ++ y ∷ []) h e ∙ sym (map-range_with_len_more g 0 k k (omega arith))

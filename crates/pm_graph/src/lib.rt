@@ -14,3 +14,4 @@ pub use counts::f_vector;
 pub use distances::diameter;
 pub use graphs::{dual_graph, graph_of_sets};
 pub use h_numbers::h_vector;
+pub use inclusions::f2_vector;

@@ -4,7 +4,7 @@ use Rattle.pm_graph.proofs.inclusions.counts_below.Goals as goal
 use Rattle.pm_graph.specs.Counts.{lower_count}
 use Rattle.pm_graph.specs.Levels.{AreBelow}
 use Rattle.pm_types.specs.Lists.{lists_of}
-use Rattle.std.proofs.Common.{[], ap, arith, length, map, refl, rules, slice_index_or, subst, sym, ◌<◌, ◌^◌, ◌≡◌, ◌∙◌}
+use Rattle.std.proofs.Common.{[], ap, arith, length, map, subst, sym, ◌<◌, ◌^◌, ◌≡◌, ◌∙◌}
 use Rattle.std.proofs.lemmas.List.Elements.{All-push}
 use Rattle.std.specs.List.{All, range_with_len}
 
@@ -23,9 +23,9 @@ loop-i-preserved c =
     let l : c.loop-i.i < length c.args.ranks.now = (let a = c.requires.within in omega arith) in
     let below = subst (λ xs. AreBelow c.args.len (map (λ set. set.items) xs)) (sym c.deref-in-loop-i.ensures.value) (all_in_view (AreBelow c.args.len) lists_of c.args.ranks.now c.loop-i.i c.index-ranks-i.result l c.index-ranks-i.is c.requires.below) in
     let e = counts_turn (map lists_of c.args.ranks.now) c.args.k c.loop-i.i c.args.len c.len.result c.in_ok-inclusions.field-0 c.in_ok-columns.columns.items c.deref-in-loop-i-2.result.now (map (λ set. set.items) c.deref.result.now) (map (λ face. face.items) c.deref-in-loop-i.result.now) lk c.deref-in-loop-i-2.ensures.value (let v = length_view (λ set. set.items) c.deref.result.now in let d = ap length c.deref.ensures.value in omega (arith, c.len.ensures)) c.in_ok-columns.ensures.columns below
-        (ap (map (λ set. set.items)) c.deref.ensures.value ∙ view_in lists_of c.args.ranks.now c.args.k c.index-ranks-k.result [] c.requires.within c.index-ranks-k.is)
-        (ap (map (λ set. set.items)) c.deref-in-loop-i.ensures.value ∙ view_in lists_of c.args.ranks.now c.loop-i.i c.index-ranks-i.result [] l c.index-ranks-i.is)
-        c.in_ok-inclusions.ensures.count in
+    (ap (map (λ set. set.items)) c.deref.ensures.value ∙ view_in lists_of c.args.ranks.now c.args.k c.index-ranks-k.result [] c.requires.within c.index-ranks-k.is)
+    (ap (map (λ set. set.items)) c.deref-in-loop-i.ensures.value ∙ view_in lists_of c.args.ranks.now c.loop-i.i c.index-ranks-i.result [] l c.index-ranks-i.is)
+    c.in_ok-inclusions.ensures.count in
     record {
       counts = one_count_more (lower_count (map lists_of c.args.ranks.now) c.args.k) c.loop-i.i c.loop-i.counts.items c.push.new.self.items c.in_ok-inclusions.field-0 c.in_ok-push.ensures.items e c.loop-i.invariant.counts;
       small = subst (λ xs. All (λ n. n < 2 ^ 126) xs) (sym c.in_ok-push.ensures.items) (All-push (λ n. n < 2 ^ 126) c.loop-i.counts.items c.in_ok-inclusions.field-0 c.loop-i.invariant.small c.in_ok-inclusions.ensures.small);

@@ -2,7 +2,7 @@ use Rattle.pm_graph.proofs.PlaceCounts.{count_bound, place_count_more}
 use Rattle.pm_graph.proofs.Views.{length_view, slice_below, view_at}
 use Rattle.pm_graph.proofs.inclusions.inclusions.Goals as goal
 use Rattle.pm_graph.specs.Counts.{IsMeetOfColumns}
-use Rattle.std.proofs.Common.{ap, arith, length, map, refl, subst, ◌<◌, ◌≡◌, ◌∙◌}
+use Rattle.std.proofs.Common.{arith, length, map, refl, subst, ◌<◌, ◌≡◌, ◌∙◌}
 
 pub meet_columns-requires-clause-below : goal.meet_columns-requires-clause-below
 meet_columns-requires-clause-below c = slice_below (λ face. face.items) c.args.lower.now (length c.args.columns.now) (length c.args.columns.now) c.loop-face.face-index c.face-item.result c.deref.result.now c.loop-face-test.true c.face-item.is c.deref.ensures.value refl c.requires.below
