@@ -11,3 +11,4 @@ pub mod CountTurns
 pub mod PlaceCounts
 pub mod Bounds
 pub mod TableRows
+pub mod Pairs

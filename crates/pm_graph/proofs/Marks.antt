@@ -50,7 +50,7 @@ seen_replicate (suc n) zero t = cc
 seen_replicate (suc n) (suc j) t = seen_replicate n j t
 
 -- one element more of a list
-pub contains_more : (row : List ℕ) (k x : ℕ) → k < length row → x ≡ get_or row k x → (j : ℕ) → Contains (take (k + 1) row) j ↔ (Contains (take k row) j ⊎ (x ≡ j))
+pub contains_more : {X : Type 0} (row : List X) (k : ℕ) (x : X) → k < length row → x ≡ get_or row k x → (j : X) → Contains (take (k + 1) row) j ↔ (Contains (take k row) j ⊎ (x ≡ j))
 contains_more row k x l e j = subst (λ xs. Contains xs j ↔ (Contains (take k row) j ⊎ (x ≡ j))) (sym (take_more row k x l ∙ ap (λ y. take k row ++ y ∷ []) (sym e))) (
   Contains-push_cases (take k row) x j,
   λ w. elim w [ inl c ↦ Contains-append_left (take k row) (x ∷ []) j c | inr q ↦ subst (λ y. Contains (take k row ++ x ∷ []) y) q (Contains-push (take k row) x) ],

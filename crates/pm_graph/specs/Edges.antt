@@ -4,7 +4,7 @@ use Rattle.pm_bits.specs.Table.{Table, row_at}
 use Rattle.pm_geom.specs.FaceCounts.{at_rank}
 use Rattle.pm_types.specs.Values.{IndexSets}
 use Rattle.std.specs.List.{AllPairs, Any, Contains, slice_index_or}
-use Rattle.std.specs.Prelude.{ℕ, ◌-◌, ◌<◌, ◌≡◌, ◌↔◌, ◌⊎◌, IsTrue, List, [], ◌∷◌, length}
+use Rattle.std.specs.Prelude.{ℕ, ◌-◌, ◌<◌, ◌≡◌, ◌↔◌, ◌⊎◌, Bool, IsTrue, List, [], ◌∷◌, length}
 
 -- no third row has all that the rows at i and k share
 abbrev pub NoThirdRow : Table → ℕ → ℕ → Type 0
@@ -61,3 +61,19 @@ pub record IsFaceEdge (ranks : List (List (List ℕ))) (i j : ℕ) : Type 0 wher
   pub second : j < length (whole_of ranks)
   pub apart : ¬ (i ≡ j)
   pub face : HasFace ranks (i ∷ j ∷ []) ⊎ HasFace ranks (j ∷ i ∷ [])
+
+-- the face has the different indices i and j below n alone
+abbrev pub IsPairOf : ℕ → List ℕ → ℕ → ℕ → Type 0
+IsPairOf n face i j = (i < n) × (j < n) × ¬ (i ≡ j) × ((face ≡ i ∷ j ∷ []) ⊎ (face ≡ j ∷ i ∷ []))
+
+-- one of the faces has them alone
+abbrev pub IsPairAmong : ℕ → List (List ℕ) → ℕ → ℕ → Type 0
+IsPairAmong n faces i j = (face : List ℕ) × Contains faces face × IsPairOf n face i j
+
+-- a face of one of the ranks has them alone
+abbrev pub IsPairInRanks : ℕ → List (List (List ℕ)) → ℕ → ℕ → Type 0
+IsPairInRanks n ranks i j = (faces : List (List ℕ)) × Contains ranks faces × IsPairAmong n faces i j
+
+-- the rows have what they had, and now the bit j in row i wherever E joins i and j
+abbrev pub Joins : (ℕ → ℕ → Type 0) → List (List Bool) → List (List Bool) → Type 0
+Joins E old new = (i j : ℕ) → i < length old → IsTrue (has (slice_index_or new i []) j) ↔ (IsTrue (has (slice_index_or old i []) j) ⊎ E i j)
