@@ -12,3 +12,4 @@ pub mod PlaceCounts
 pub mod Bounds
 pub mod TableRows
 pub mod Pairs
+pub mod RightGraphs

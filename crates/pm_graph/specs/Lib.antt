@@ -3,3 +3,4 @@ pub mod Tables
 pub mod Edges
 pub mod HVectors
 pub mod Counts
+pub mod Laws
