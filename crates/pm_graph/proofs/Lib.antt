@@ -1,0 +1,15 @@
+pub mod Views
+pub mod Marks
+pub mod LevelWalks
+pub mod Holds
+pub mod Turns
+pub mod Neighbours
+pub mod EdgeReadings
+pub mod Binomials
+pub mod HNumbers
+pub mod CountTurns
+pub mod PlaceCounts
+pub mod Bounds
+pub mod TableRows
+pub mod Pairs
+pub mod RightGraphs

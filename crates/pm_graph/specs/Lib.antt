@@ -1,0 +1,6 @@
+pub mod Levels
+pub mod Tables
+pub mod Edges
+pub mod HVectors
+pub mod Counts
+pub mod Laws

@@ -1,0 +1,96 @@
+// Distances in a graph, level by level from one node.
+ghost use Rattle.pm_geom.specs.Graphs.{AreNeighbours, IsGreatestDistance};
+ghost use Rattle.pm_graph.specs.Levels.{AreBelow, AreNew, IsEccentricity, IsSeen, MarksNeighbours, unseen_count};
+ghost use Rattle.std.specs.List.{All, Contains};
+ghost use Rattle.std.specs.Prelude.{IfOk, OnOk, [], length, map, pos, ℕ, ◌+◌, ◌<◌, ◌^◌, ◌≡◌, ◌↔◌, ◌⊎◌};
+
+use pm_types::Sets;
+use std::alloc::{AllocError, Global};
+use std::mem;
+
+// Marks the nodes of a list, and puts those that were not marked at the end of `next`.
+fn visit(row: &[u32], seen: &mut [bool], next: &mut Vec<u32>) -> Result<(), AllocError>
+    requires { All (λ j. j < length seen.old) row.now }
+    ensures seen { OnOk result ((j : ℕ) → IsSeen seen.new j ↔ (IsSeen seen.old j ⊎ Contains row.now j)) }
+    ensures next { OnOk result ((j : ℕ) → Contains next.new.items j ↔ (Contains next.old.items j ⊎ (Contains row.now j × ¬ (IsSeen seen.old j)))) }
+    ensures count { OnOk result (unseen_count seen.new + length next.new.items ≡ unseen_count seen.old + length next.old.items) }
+{
+    for node in row {
+        let place = *node as usize;
+        if !seen[place] {
+            next.push(*node)?;
+            seen[place] = true;
+        }
+    }
+    Ok(())
+}
+
+// Marks the neighbours of the nodes of `front`, and puts those that were not marked into `next`. It ends as
+// soon as all are marked; `left` are not as it begins.
+fn next_level(
+    rows: &[Vec<u32>],
+    front: &[u32],
+    left: usize,
+    seen: &mut [bool],
+    next: &mut Vec<u32>,
+) -> Result<(), AllocError>
+    requires nodes { length seen.old ≡ length rows.now }
+    requires neighbours { AreBelow (length rows.now) (map (λ row. row.items) rows.now) }
+    requires front { All (λ u. u < length rows.now) front.now }
+    requires left { unseen_count seen.old ≡ left }
+    requires empty { next.old.items ≡ [] }
+    ensures marks { OnOk result (MarksNeighbours (map (λ row. row.items) rows.now) front.now seen.old seen.new) }
+    ensures new { OnOk result (AreNew seen.old seen.new next.new.items) }
+    ensures count { OnOk result (unseen_count seen.new + length next.new.items ≡ left) }
+{
+    for node in front {
+        if next.len() == left {
+            return Ok(());
+        }
+        visit(&rows[*node as usize], seen, next)?;
+    }
+    Ok(())
+}
+
+// The greatest distance from a node.
+fn eccentricity(alloc: Global, rows: &[Vec<u32>], start: u32) -> Result<usize, AllocError>
+    requires neighbours { AreBelow (length rows.now) (map (λ row. row.items) rows.now) }
+    requires start { start < length rows.now }
+    ensures small { IfOk result (λ far. far < length rows.now) }
+    ensures farthest { IfOk result (IsEccentricity (length rows.now) (AreNeighbours (map (λ row. row.items) rows.now)) start) }
+{
+    let mut seen = vec![in alloc; false; rows.len()]?;
+    seen[start as usize] = true;
+    let mut left = rows.len() - 1;
+    let mut front = vec![in alloc; start]?;
+    let mut next = Vec::new(alloc);
+    let mut far = 0;
+    loop {
+        next_level(rows, &front, left, &mut seen, &mut next)?;
+        if next.is_empty() {
+            return Ok(far);
+        }
+        left -= next.len();
+        far += 1;
+        mem::swap(&mut front, &mut next);
+        next.clear();
+    }
+}
+
+/// The greatest distance of two nodes of a graph, as the lists of neighbours of its nodes, that a walk joins: for a connected graph
+/// its diameter, and 0 where there are fewer than two nodes.
+pub fn diameter(alloc: Global, g: &Sets) -> Result<i64, AllocError>
+    requires neighbours { AreBelow (length g.now.rows) g.now.rows }
+    requires few { length g.now.rows < 2 ^ 32 }
+    ensures { IfOk result (λ k. (d : ℕ) × (k ≡ pos d) × IsGreatestDistance (length g.now.rows) (AreNeighbours g.now.rows) d) }
+{
+    let rows = g.rows();
+    let mut greatest = 0;
+    for start in 0..rows.len() {
+        let far = eccentricity(alloc, rows, start as u32)?;
+        if far > greatest {
+            greatest = far;
+        }
+    }
+    Ok(greatest as i64)
+}

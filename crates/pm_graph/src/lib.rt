@@ -1,0 +1,41 @@
+//! Graphs of the vertices and of the facets of a polytope, their diameters, and the numbers of its faces.
+//!
+//! All is combinatorics of index sets; the laws at the end say what it means for the sets of a cone.
+#![tactic(auto)]
+
+ghost use Rattle.pm_graph.specs.Laws.{DualGreatestDistanceIsDiameter, GreatestDistanceIsDiameter, IndexEdgesAreEdges, SetEdgesAreRidges};
+
+mod bits;
+mod counts;
+mod distances;
+mod face_graph;
+mod graphs;
+mod h_numbers;
+mod inclusions;
+
+pub use counts::f_vector;
+pub use distances::diameter;
+pub use face_graph::graph_of_faces;
+pub use graphs::{dual_graph, graph_of_sets};
+pub use h_numbers::h_vector;
+pub use inclusions::f2_vector;
+
+/// Where each set holds the rays in its facet, the edges of the indices are the edges of the rays.
+pub fn law_index_edges_are_edges()
+    ensures { IndexEdgesAreEdges }
+{}
+
+/// Where each set holds the rays in its facet, the edges of the sets are the ridges of the facets.
+pub fn law_set_edges_are_ridges()
+    ensures { SetEdgesAreRidges }
+{}
+
+/// The greatest distance in the graph of the rays is its diameter.
+pub fn law_greatest_distance_is_diameter()
+    ensures { GreatestDistanceIsDiameter }
+{}
+
+/// The greatest distance in the graph of the facets is its diameter.
+pub fn law_dual_greatest_distance_is_diameter()
+    ensures { DualGreatestDistanceIsDiameter }
+{}

@@ -1,0 +1,4 @@
+pub mod Chosen
+pub mod Thirds
+pub mod Laws
+pub mod Examples
