@@ -1,0 +1,40 @@
+use Rattle.pm_dd.proofs.Answered.{generators_answered}
+use Rattle.pm_dd.proofs.Arranged.{equation_cols, first_cols, first_few, first_free, first_length, front_spans_all, rank_of_taken, row_cols}
+use Rattle.pm_dd.proofs.extreme.stated_rays.Goals as goal
+use Rattle.std.proofs.Common.{arith}
+
+pub start_rays-requires-clause-cols : goal.start_rays-requires-clause-cols
+start_rays-requires-clause-cols c = rw (c.deref-4.ensures.value, c.deref-5.ensures.value) (first_cols c.args.cols c.args.rows.now c.in_ok-order.order.equations.items c.in_ok-order.order.rows.items c.in_ok-order.order.start c.requires.columns c.in_ok-order.ensures.arranged)
+
+pub start_rays-requires-clause-few_rows : goal.start_rays-requires-clause-few_rows
+start_rays-requires-clause-few_rows c = let f = first_few c.args.cols c.args.rows.now c.in_ok-order.order.equations.items c.in_ok-order.order.rows.items c.in_ok-order.order.start c.requires.columns c.in_ok-order.ensures.arranged in omega arith
+
+pub start_rays-requires-clause-independent : goal.start_rays-requires-clause-independent
+start_rays-requires-clause-independent c = rw (c.deref-4.ensures.value, c.deref-5.ensures.value) (first_free c.args.cols c.args.rows.now c.in_ok-order.order.equations.items c.in_ok-order.order.rows.items c.in_ok-order.order.start c.requires.columns c.in_ok-order.ensures.arranged)
+
+pub all_rays-requires-clause-equation_cols : goal.all_rays-requires-clause-equation_cols
+all_rays-requires-clause-equation_cols c = rw (c.deref-7.ensures.value) (equation_cols c.args.cols c.args.rows.now c.in_ok-order.order.equations.items c.in_ok-order.order.rows.items c.in_ok-order.order.start c.requires.columns c.in_ok-order.ensures.arranged)
+
+pub all_rays-requires-clause-row_cols : goal.all_rays-requires-clause-row_cols
+all_rays-requires-clause-row_cols c = rw (c.deref-8.ensures.value) (row_cols c.args.cols c.args.rows.now c.in_ok-order.order.equations.items c.in_ok-order.order.rows.items c.in_ok-order.order.start c.requires.columns c.in_ok-order.ensures.arranged)
+
+pub all_rays-requires-clause-spans : goal.all_rays-requires-clause-spans
+all_rays-requires-clause-spans c = rw (c.deref-7.ensures.value, c.deref-8.ensures.value) (front_spans_all c.args.cols c.args.rows.now c.in_ok-order.order.equations.items c.in_ok-order.order.rows.items c.in_ok-order.order.start c.requires.columns c.in_ok-order.ensures.arranged)
+
+pub all_rays-requires-clause-rank : goal.all_rays-requires-clause-rank
+all_rays-requires-clause-rank c = rw (c.deref-7.ensures.value, c.deref-8.ensures.value) (rank_of_taken c.args.cols c.args.rows.now c.in_ok-order.order.equations.items c.in_ok-order.order.rows.items c.in_ok-order.order.start c.requires.columns c.in_ok-order.ensures.arranged)
+
+pub lineality_of-requires-clause-columns : goal.lineality_of-requires-clause-columns
+lineality_of-requires-clause-columns c = rw (c.deref-3.ensures.value, c.in_ok-independent.ensures, c.deref.ensures.value, c.deref-2.ensures.value) (first_cols c.args.cols c.args.rows.now c.in_ok-order.order.equations.items c.in_ok-order.order.rows.items c.in_ok-order.order.start c.requires.columns c.in_ok-order.ensures.arranged)
+
+pub lineality_of-requires-clause-few_rows : goal.lineality_of-requires-clause-few_rows
+lineality_of-requires-clause-few_rows c =
+    let f = first_few c.args.cols c.args.rows.now c.in_ok-order.order.equations.items c.in_ok-order.order.rows.items c.in_ok-order.order.start c.requires.columns c.in_ok-order.ensures.arranged in
+    let l = first_length c.args.cols c.args.rows.now c.in_ok-order.order.equations.items c.in_ok-order.order.rows.items c.in_ok-order.order.start c.requires.columns c.in_ok-order.ensures.arranged in
+    rw (c.deref-3.ensures.value, c.in_ok-independent.ensures, c.deref.ensures.value, c.deref-2.ensures.value) (omega arith)
+
+pub returns-clause-generators : goal.returns-clause-generators
+returns-clause-generators c =
+    let null = rw (c.deref-3.ensures.value, c.in_ok-independent.ensures, c.deref.ensures.value, c.deref-2.ensures.value) at c.in_ok-lineality.ensures.null in
+    generators_answered c.args.cols c.args.rows.now c.in_ok-order.order.equations.items c.in_ok-order.order.rows.items c.in_ok-order.order.start c.requires.columns c.in_ok-order.ensures.arranged c.in_ok-all.all.rows.items c.sort.new.self.items c.in_ok-lineality.lineality.items null.0
+    (rw (c.deref-7.ensures.value, c.deref-8.ensures.value) at c.in_ok-all.ensures.order) (rw (c.deref-7.ensures.value, c.deref-8.ensures.value) at c.in_ok-all.ensures.reduced) c.in_ok-sort.ensures.permutation c.in_ok-sort.ensures.sorted null.1

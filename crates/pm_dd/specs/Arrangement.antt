@@ -1,0 +1,13 @@
+-- In which order the rows of a list are taken.
+use Rattle.std.specs.Prelude.{ℕ, ◌≡◌, ◌≤◌, Bool, true, false, List, ◌++◌, drop, length, map, take}
+use Rattle.pm_algebra.specs.Rows.{Row, opposite}
+use Rattle.pm_elim.specs.Enlarging.{MarkEnlarging}
+use Rattle.pm_geom.specs.StatedOrder.{rows_marked}
+
+-- the stated order of X is the equations E, the first `start` rows of J, the opposites of E, and the other rows of J
+pub record IsArrangement (X E J : List Row) (start : ℕ) : Type 0 where
+  pub marks : List Bool
+  pub enlarging : MarkEnlarging X marks
+  pub within : start ≤ length J
+  pub first : rows_marked true marks X ≡ E ++ take start J
+  pub others : rows_marked false marks X ≡ map opposite E ++ drop start J

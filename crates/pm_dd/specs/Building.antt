@@ -1,0 +1,89 @@
+-- The rays of the next front, while they are made.
+use Rattle.std.specs.Prelude.{ℕ, suc, ◌≡◌, ◌<◌, ◌⊎◌, ◌↔◌, IsTrue, Bool, List, ◌∷◌, length, get_or, take}
+use Rattle.pm_algebra.specs.Divisors.{IsPrimitiveOf}
+use Rattle.pm_algebra.specs.Numbers.{InRange}
+use Rattle.pm_algebra.specs.Rows.{Row, difference, dot, entry}
+use Rattle.pm_bases.specs.Bases.{row_at}
+use Rattle.pm_bits.specs.Sets.{has, IsIntersection, member_count}
+use Rattle.pm_bits.specs.Table.{Table, OtherContains}
+use Rattle.pm_elim.specs.Steps.{IsFactors}
+use Rattle.pm_geom.specs.Cones.{SameModulo}
+use Rattle.pm_geom.specs.Faces.{ray}
+use Rattle.pm_dd.specs.Description.{Source, kept, pair, IsSource, source_row}
+use Rattle.pm_dd.specs.Form.{KeepsForm}
+use Rattle.pm_dd.specs.Fronts.{HalfSpaces}
+use Rattle.pm_dd.specs.Tables.{IsZeroSet, zero_set}
+use lib.IntN.{ℤ, pos}
+
+-- y is the zero set z, with the bit f set where v is 0
+pub record NextZeros (z : List Bool) (f : ℕ) (v : ℤ) (y : List Bool) : Type 0 where
+  pub as_many : length y ≡ length z
+  pub on : v ≡ pos 0 → IsTrue (has y f)
+  pub others : (p : ℕ) → (p ≡ f → ¬ (v ≡ pos 0)) → has y p ≡ has z p
+
+-- v has the product of a with each row of V
+pub record AreProducts (a : Row) (V : List Row) (v : List ℤ) : Type 0 where
+  pub as_many : length v ≡ length V
+  pub each : (i : ℕ) → i < length V → entry v i ≡ dot a (ray V i)
+  pub in_range : (i : ℕ) → i < length V → InRange (entry v i)
+
+-- the cone of the equations E, the first f rows of J, and the next one
+abbrev pub NextSet : List Row → List Row → ℕ → Row → Type 0
+NextSet E J f = HalfSpaces E (row_at J f ∷ take f J)
+
+-- w is like the ray that the source s gives, and y is its zero set
+pub record IsMade (n : ℕ) (E J : List Row) (f : ℕ) (V : List Row) (s : Source) (w : Row) (y : List Bool) : Type 0 where
+  pub source : IsSource (take f J) (row_at J f) V s
+  pub cols : length w ≡ n
+  pub alike : SameModulo n (NextSet E J f) (source_row (row_at J f) V s) w
+  pub inside : NextSet E J f w
+  pub form : KeepsForm V w
+  pub zeros : IsZeroSet J (suc f) w y
+
+-- W has one such row for each source that was seen, and Y their zero sets
+pub record IsBuilt (n : ℕ) (E J : List Row) (f : ℕ) (V : List Row) (seen : Source → Type 0) (W : List Row) (Y : List (List Bool)) : Type 0 where
+  pub sources : List Source
+  pub as_many : length sources ≡ length W
+  pub zeros_many : length Y ≡ length W
+  pub made : (k : ℕ) → k < length W → IsMade n E J f V (get_or sources k (kept 0)) (ray W k) (zero_set Y k)
+  pub only : (k : ℕ) → k < length W → seen (get_or sources k (kept 0))
+  pub every : (s : Source) → IsSource (take f J) (row_at J f) V s → seen s → (k : ℕ) × (k < length W) × (get_or sources k (kept 0) ≡ s)
+  pub once : (i j : ℕ) → i < j → j < length W → ¬ (get_or sources i (kept 0) ≡ get_or sources j (kept 0))
+
+-- the kept rays before i
+abbrev pub SeenKept : ℕ → Source → Type 0
+SeenKept i (kept k) = k < i
+SeenKept i (pair k l) = ⊥
+
+-- all kept rays, and the pairs before (i, j)
+abbrev pub SeenPairs : ℕ → ℕ → Source → Type 0
+SeenPairs i j (kept k) = Unit {0}
+SeenPairs i j (pair k l) = (k < i) ⊎ ((k ≡ i) × (l < j))
+
+-- w is (p/g) s - (q/g) r made primitive, where g is the greatest common divisor of |q| and p
+pub record IsCombination (r : Row) (p : ℤ) (s : Row) (q : ℤ) (w : Row) : Type 0 where
+  pub a : ℤ
+  pub b : ℤ
+  pub factors : IsFactors q p a b
+  pub result : IsPrimitiveOf (difference a s b r) w
+
+-- too few members of both zero sets, or another zero set has all of them
+pub record IsNoPair (table : Table) (i j need : ℕ) : Type 0 where
+  pub both : List Bool
+  pub cols : length both ≡ table.row_len
+  pub meet : IsIntersection both (zero_set table.rows i) (zero_set table.rows j)
+  pub dropped : (member_count both < need) ⊎ OtherContains table both i j
+
+-- the combination of an adjacent pair, with its zero set for the next front
+pub record IsPairRay (V : List Row) (table : Table) (v : List ℤ) (i j f : ℕ) (w : Row) (y : List Bool) : Type 0 where
+  pub both : List Bool
+  pub cols : length both ≡ table.row_len
+  pub meet : IsIntersection both (zero_set table.rows i) (zero_set table.rows j)
+  pub alone : ¬ (OtherContains table both i j)
+  pub combination : IsCombination (ray V i) (entry v i) (ray V j) (entry v j) w
+  pub zeros : NextZeros both f (pos 0) y
+
+-- a row of m bits in which those before `start` are set, but the one at k
+pub record AllBut (m start k : ℕ) (z : List Bool) : Type 0 where
+  pub as_many : length z ≡ m
+  pub exact : (p : ℕ) → IsTrue (has z p) ↔ ((p < start) × ¬ (p ≡ k))

@@ -1,0 +1,12 @@
+pub mod Description
+pub mod Filters
+pub mod Fronts
+pub mod Tables
+pub mod Building
+pub mod Stated
+pub mod StepFails
+pub mod Form
+pub mod Refusals
+pub mod Arrangement
+pub mod Tame
+pub mod Mixed

@@ -1,0 +1,73 @@
+-- What the refusal of one step shows.
+use Rattle.std.specs.Prelude.{ℕ, suc, ◌≡◌, ◌<◌, Bool, List, length, take}
+use Rattle.std.specs.List.{All, AllPairs}
+use Rattle.pm_algebra.specs.Rows.{Row, entry}
+use Rattle.pm_bases.specs.Bases.{row_at}
+use Rattle.pm_bits.specs.Sets.{IsIntersection}
+use Rattle.pm_bits.specs.Table.{Table, OtherContains}
+use Rattle.pm_elim.specs.Steps.{IsFactors}
+use Rattle.pm_geom.specs.Cones.{IsExtreme, SameModulo}
+use Rattle.pm_geom.specs.Faces.{ray}
+use Rattle.pm_vector.specs.Differences.{EntryStays}
+use Rattle.pm_vector.specs.Products.{ProductsStay}
+use Rattle.pm_dd.specs.Description.{IsSource, pair}
+use Rattle.pm_geom.specs.RayEvidence.{IsWideCombination}
+use Rattle.pm_dd.specs.Fronts.{HalfSpaces}
+use Rattle.pm_dd.specs.Tables.{zero_set}
+use Rattle.pm_dd.specs.declared.fails.CombinationFail.{CombinationFail}
+use Rattle.pm_dd.specs.declared.fails.CombinationFail.TheVariants.{Column, NoMemory}
+use Rattle.pm_dd.specs.declared.fails.StepFail.{StepFail}
+use Rattle.pm_dd.specs.declared.fails.StepFail.TheVariants.{Product, Pair, Many, Memory}
+use lib.IntN.{ℤ}
+
+-- in the column c a product or the difference of (p/g) s - (q/g) r leaves the range, where g is the greatest common divisor of |q| and p
+pub record IsWideFactors (r : Row) (p : ℤ) (s : Row) (q : ℤ) (c : ℕ) : Type 0 where
+  pub a : ℤ
+  pub b : ℤ
+  pub factors : IsFactors q p a b
+  pub within : c < length s
+  pub wide : ¬ (EntryStays a (entry s c) b (entry r c))
+
+-- Q holds of the column of the refusal of a combination, where it has one
+abbrev pub IfColumn : CombinationFail → (ℕ → Type 0) → Type 0
+IfColumn (Column c) Q = Q c
+IfColumn NoMemory Q = Unit {0}
+
+-- no other zero set has what those of the rays at i and at j both have, and their combination leaves the range in the column c
+pub record IsWideTablePair (V : List Row) (table : Table) (v : List ℤ) (i j c : ℕ) : Type 0 where
+  pub both : List Bool
+  pub meet : IsIntersection both (zero_set table.rows i) (zero_set table.rows j)
+  pub alone : ¬ (OtherContains table both i j)
+  pub wide : IsWideFactors (ray V i) (entry v i) (ray V j) (entry v j) c
+
+-- the refusal names i and j and such a column, or is want of memory
+abbrev pub IsPairFailOf : List Row → Table → List ℤ → ℕ → ℕ → StepFail → Type 0
+IsPairFailOf V table v i j (Product k) = ⊥
+IsPairFailOf V table v i j (Pair k l c) = (k ≡ i) × (l ≡ j) × IsWideTablePair V table v i j c
+IsPairFailOf V table v i j (Many W) = ⊥
+IsPairFailOf V table v i j Memory = Unit {0}
+
+-- the rays at i and at j are a pair that is combined for the next row, and their combination leaves the range in the column c
+pub record IsWideSource (J : List Row) (f : ℕ) (V : List Row) (i j c : ℕ) : Type 0 where
+  pub source : IsSource (take f J) (row_at J f) V (pair i j)
+  pub combination : IsWideCombination (row_at J f) (ray V i) (ray V j) c
+
+-- Q holds of the ray that the refusal names, or it is want of memory
+abbrev pub IfProduct : StepFail → (ℕ → Type 0) → Type 0
+IfProduct (Product k) Q = Q k
+IfProduct (Pair i j c) Q = ⊥
+IfProduct (Many W) Q = ⊥
+IfProduct Memory Q = Unit {0}
+
+-- more than 2,048 extreme rows of S, no two alike
+pub record AreTooMany (n : ℕ) (S : Row → Type 0) (W : List Row) : Type 0 where
+  pub extreme : All (IsExtreme n S) W
+  pub apart : AllPairs (λ v w. ¬ (SameModulo n S v w)) W
+  pub many : 2048 < length W
+
+-- the refusal names a ray whose product with the next row leaves the range, an adjacent pair with a column in which its combination does, or too many extreme rays of the next cone
+abbrev pub IsStepFail : ℕ → List Row → List Row → ℕ → List Row → StepFail → Type 0
+IsStepFail n E J f V (Product k) = (k < length V) × ¬ (ProductsStay (row_at J f) (ray V k))
+IsStepFail n E J f V (Pair i j c) = IsWideSource J f V i j c
+IsStepFail n E J f V (Many W) = AreTooMany n (HalfSpaces E (take (suc f) J)) W.items
+IsStepFail n E J f V Memory = Unit {0}

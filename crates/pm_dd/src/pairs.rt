@@ -1,0 +1,134 @@
+// The combinations of adjacent pairs of rays.
+
+ghost use Rattle.pm_algebra.specs.Cones.{InSpan};
+ghost use Rattle.pm_algebra.specs.Numbers.{InRange};
+ghost use Rattle.pm_algebra.specs.Rows.{HasCols, entry};
+ghost use Rattle.pm_bases.specs.Bases.{IsRank, row_at};
+ghost use Rattle.pm_dd.specs.Building.{AreProducts, IsBuilt, IsNoPair, IsPairRay, SeenKept};
+ghost use Rattle.pm_dd.specs.Form.{KeepForm};
+ghost use Rattle.pm_dd.specs.StepFails.{IsPairFailOf, IsStepFail};
+ghost use Rattle.pm_dd.specs.Tables.{IsRayTable};
+ghost use Rattle.pm_geom.specs.Faces.{ray};
+ghost use Rattle.std.specs.Prelude.{IfErr, IfNone, IfOk, IfSome, length, pos, take, ◌++◌, ◌+◌, ◌-◌, ◌<ℤ◌, ◌<◌, ◌≡◌, ◌≤◌};
+
+use crate::combination::combination_of;
+use crate::fails::{CombinationFail, StepFail};
+use crate::rays::{Ray, Rays};
+use pm_bits::BitRow;
+use pm_vector::Ints;
+use std::alloc::Global;
+
+/// The most extreme rays that a cone on the way may have.
+pub(crate) const MOST_RAYS: usize = 2048;
+
+/// The number of rows that an adjacent pair needs in common beyond the leading equations: the rank less these and 2.
+fn needed(rank: usize, equations: usize) -> usize
+    ensures { result ≡ rank - equations - 2 }
+{
+    rank.saturating_sub(equations).saturating_sub(2)
+}
+
+/// The combination of a pair of rays with what their zero sets have in common, if the pair is adjacent.
+pub(crate) fn pair_ray(
+    alloc: Global,
+    rays: &Rays,
+    i: usize,
+    j: usize,
+    values: &[i128],
+    front: usize,
+    need: usize,
+    both: &mut BitRow,
+) -> Result<Option<Ray>, StepFail>
+    requires first { i < length rays.now.rows.items }
+    requires second { j < length rays.now.rows.items }
+    requires as_many { length rays.now.rows.items ≡ length rays.now.zeros.rows }
+    requires values { length values.now ≡ length rays.now.rows.items }
+    requires up_in_range { InRange (entry values.now i) }
+    requires down_in_range { InRange (entry values.now j) }
+    requires up { pos 0 <ℤ entry values.now i }
+    requires cols { length (ray rays.now.rows.items j) ≡ length (ray rays.now.rows.items i) }
+    requires front { front < rays.now.zeros.row_len }
+    requires both { length both.old ≡ rays.now.zeros.row_len }
+    ensures both { length both.new ≡ length both.old }
+    ensures none { IfOk result (λ o. IfNone o (IsNoPair rays.now.zeros i j need)) }
+    ensures some { IfOk result (λ o. IfSome o (λ r. IsPairRay rays.now.rows.items rays.now.zeros values.now i j front r.row r.zeros)) }
+    ensures wide { IfErr result (λ f. IsPairFailOf rays.now.rows.items rays.now.zeros values.now i j f) }
+{
+    rays.zeros.row(i).meet_into(rays.zeros.row(j), both);
+    if both.count() < need {
+        return Ok(None);
+    }
+    if rays.zeros.other_contains(both, i, j) {
+        return Ok(None);
+    }
+    let row = match combination_of(alloc, &rays.rows[i], values[i], &rays.rows[j], values[j]) {
+        Ok(row) => row,
+        Err(CombinationFail::Column(column)) => return Err(StepFail::Pair {
+            first: i,
+            second: j,
+            column,
+        }),
+        Err(CombinationFail::NoMemory) => return Err(StepFail::Memory),
+    };
+    let mut zeros = BitRow::with_len(alloc, both.len())?;
+    both.meet_into(both, &mut zeros);
+    zeros.set(front);
+    Ok(Some(Ray { row, zeros }))
+}
+
+/// The rays of the next front: kept ones, and the combinations of all adjacent pairs.
+pub(crate) fn paired_rays(
+    alloc: Global,
+    cols: usize,
+    equations: &[Ints],
+    rows: &[Ints],
+    front: usize,
+    rank: usize,
+    rays: &Rays,
+    values: &[i128],
+    made: Rays,
+) -> Result<Rays, StepFail>
+    requires equation_cols { HasCols cols equations.now }
+    requires row_cols { HasCols cols rows.now }
+    requires within { front < length rows.now }
+    requires spanned { InSpan (equations.now ++ take front rows.now) (row_at rows.now front) }
+    requires rank { IsRank (equations.now ++ take front rows.now) rank }
+    requires table { IsRayTable cols equations.now rows.now front rays.now.rows.items rays.now.zeros.rows }
+    requires old_len { rays.now.zeros.row_len ≡ length rows.now }
+    requires products { AreProducts (row_at rows.now front) rays.now.rows.items values.now }
+    requires new_len { made.zeros.row_len ≡ length rows.now }
+    requires kept { IsBuilt cols equations.now rows.now front rays.now.rows.items (SeenKept (length rays.now.rows.items)) made.rows.items made.zeros.rows }
+    requires few { length made.rows.items ≤ MOST_RAYS }
+    ensures row_len { IfOk result (λ r. r.zeros.row_len ≡ length rows.now) }
+    ensures few { IfOk result (λ r. length r.rows.items ≤ MOST_RAYS) }
+    ensures form { IfOk result (λ r. KeepForm rays.now.rows.items r.rows.items) }
+    ensures table { IfOk result (λ r. IsRayTable cols equations.now rows.now (front + 1) r.rows.items r.zeros.rows) }
+    ensures wide { IfErr result (λ f. IsStepFail cols equations.now rows.now front rays.now.rows.items f) }
+{
+    let need = needed(rank, equations.len());
+    let mut both = BitRow::with_len(alloc, rows.len())?;
+    let mut next = made.rows;
+    let mut zeros = made.zeros;
+    for i in 0..rays.rows.len() {
+        if values[i] <= 0 {
+            continue;
+        }
+        for j in 0..rays.rows.len() {
+            if values[j] >= 0 {
+                continue;
+            }
+            let ray = match pair_ray(alloc, rays, i, j, values, front, need, &mut both)? {
+                Some(ray) => ray,
+                None => continue,
+            };
+            next.push(ray.row)?;
+            let Ok(()) = zeros.push(ray.zeros) else {
+                return Err(StepFail::Memory);
+            };
+            if next.len() > MOST_RAYS {
+                return Err(StepFail::Many(next));
+            }
+        }
+    }
+    Ok(Rays { rows: next, zeros })
+}

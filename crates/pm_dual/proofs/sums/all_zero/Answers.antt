@@ -1,0 +1,7 @@
+use Rattle.pm_algebra.specs.Rows.{dot}
+use Rattle.pm_dual.proofs.RowSums.{all_places}
+use Rattle.pm_dual.proofs.sums.all_zero.Goals as goal
+use Rattle.std.proofs.Common.{arith, pos, ◌≡◌}
+
+pub returns : goal.returns
+returns c e = all_places (λ b. dot b c.args.x.now ≡ pos 0) c.args.rows.now (λ i li. c.loop-i.invariant i (omega arith))

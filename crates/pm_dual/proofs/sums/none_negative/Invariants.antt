@@ -1,0 +1,8 @@
+use Rattle.pm_algebra.specs.Rows.{dot}
+use Rattle.pm_bases.specs.Bases.{row_at}
+use Rattle.pm_dual.proofs.sums.none_negative.Given as goal
+use Rattle.std.proofs.Common.{pos, ℕ, ◌<◌}
+use lib.Signed.{◌≤ℤ◌}
+
+abbrev pub invariant-loop-i : goal.invariant-loop-i
+invariant-loop-i l = (k : ℕ) → k < l.i → pos 0 ≤ℤ dot (row_at l.rows k) l.x

@@ -1,0 +1,10 @@
+use Rattle.pm_algebra.specs.Rows.{entry, ratio_at}
+use Rattle.pm_dual.proofs.whole.quotients.Given as goal
+use Rattle.pm_fraction.specs.Fractions.{IsLowestTermsOf, ratio_of}
+use Rattle.std.proofs.Common.{length, ℕ, ◌<◌, ◌≡◌}
+
+abbrev pub invariant-loop-i : goal.invariant-loop-i
+invariant-loop-i l = record {
+  count : length l.row.items ≡ l.i;
+  each : (k : ℕ) → k < l.i → IsLowestTermsOf (ratio_of (entry l.x k) l.d) (ratio_at l.row.items k);
+}

@@ -1,0 +1,10 @@
+use Rattle.pm_simplex.proofs.ProgramRows.{primitive_cols}
+use Rattle.pm_simplex.proofs.linear.primitive_rows.Goals as goal
+use Rattle.pm_types.proofs.PrimitiveRows.{no_wide_row}
+
+pub unreachable-requires : goal.unreachable-requires
+unreachable-requires c =
+    let k = c.in-Err-Wide in no_wide_row c.args.matrix.now.rows k.field-0-0 k.field-0-1 k.field-0-2 c.requires.stay (rw k.field-0-is at k.ensures.wide)
+
+pub returns-in-Ok-clause-cols : goal.returns-in-Ok-clause-cols
+returns-in-Ok-clause-cols c = primitive_cols c.args.matrix.now c.in-Ok.rows.items c.cols.ensures.matrix c.in-Ok.ensures.rows

@@ -1,0 +1,15 @@
+pub mod Fails
+pub mod Sizes
+pub mod States
+pub mod Comparisons
+pub mod Running
+pub mod Ends
+pub mod ProgramLaws
+pub mod Solutions
+pub mod Evidence
+pub mod Phases
+pub mod StateExample
+pub mod Starts
+pub mod Systems
+pub mod StartLaws
+pub mod Answers
