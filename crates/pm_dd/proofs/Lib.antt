@@ -18,3 +18,4 @@ pub mod Answered
 pub mod TameLaws
 pub mod MixedLaws
 pub mod Outcomes
+pub mod LeadingLaws

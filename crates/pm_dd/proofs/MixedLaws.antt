@@ -80,6 +80,12 @@ ends_all X W i s l = record { same = λ x. (λ c. go x (among_Contains X c), λ 
 pub same_permuted : (X Y W : List Row) → IsPermutation X Y → HaveSameRows Y W → HaveSameRows X W
 same_permuted X Y W p s = record { same = λ x. (λ c. (s.same x).0 (Contains-permutation X Y x p c), λ c. Contains-permutation Y X x (IsPermutation-sym X Y p) ((s.same x).1 c)) }
 
+pub same_joined : (A Y W : List Row) → HaveSameRows Y W → HaveSameRows (A ++ Y) (A ++ W)
+same_joined A Y W s = record { same = λ x. (λ c. Contains_among (go Y W (λ z i. among_Contains W ((s.same z).0 (Contains_among i))) x (among_Contains (A ++ Y) c)), λ c. Contains_among (go W Y (λ z i. among_Contains Y ((s.same z).1 (Contains_among i))) x (among_Contains (A ++ W) c))) }
+  where
+    go : (P Q : List Row) → ((z : Row) → Among z P → Among z Q) → (x : Row) → Among x (A ++ P) → Among x (A ++ Q)
+    go P Q f x i = elim (among_append A P i) [ inl j ↦ among_append_left Q j | inr j ↦ among_append_right A (f x j) ]
+
 -- ---- the cone of the same rows
 pub same_cols : (n : ℕ) (X Y : List Row) → HaveSameRows X Y → HasCols n X → HasCols n Y
 same_cols n X Y s h = all_from (λ (x : Row). length x ≡ n) Y (λ x i. cols_at (among_Contains X ((s.same x).1 (Contains_among i))) h)

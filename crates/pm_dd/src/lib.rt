@@ -13,6 +13,7 @@ mod combination;
 mod extreme;
 mod fails;
 mod first;
+mod leading;
 mod mixed;
 mod order;
 mod pairs;

@@ -1,8 +1,9 @@
 // An order of the rows that keeps the cones on the way small where the stated one often does not.
 
 ghost use Rattle.pm_dd.specs.Mixed.{HaveSameRows};
-ghost use Rattle.std.specs.Prelude.{IfOk, length, ◌≤◌};
+ghost use Rattle.std.specs.Prelude.{IfOk, length, ◌++◌, ◌≡◌, ◌≤◌};
 
+use crate::leading::leading_pairs;
 use pm_elim::copies;
 use pm_vector::Ints;
 use std::alloc::{AllocError, Global};
@@ -23,12 +24,26 @@ fn from_both_ends(alloc: Global, rows: &[Ints]) -> Result<Vec<Ints>, AllocError>
     Ok(made)
 }
 
-/// The rows in lexicographic order, taken alternately from both ends.
+/// Copies of rows, put behind others.
+fn add_copies(alloc: Global, rows: &[Ints], others: Vec<Ints>) -> Result<Vec<Ints>, AllocError>
+    ensures { IfOk result (λ v. v.items ≡ others.items ++ rows.now) }
+{
+    let mut made = others;
+    for row in rows {
+        made.push(row.copy(alloc)?)?;
+    }
+    Ok(made)
+}
+
+/// The rows that lead with their opposites as they stand, and after them the others in lexicographic order, taken alternately from both ends.
 pub(crate) fn mixed_order(alloc: Global, rows: &[Ints]) -> Result<Vec<Ints>, AllocError>
     ensures same { IfOk result (λ v. HaveSameRows rows.now v.items) }
     ensures count { IfOk result (λ v. length v.items ≤ length rows.now) }
 {
-    let mut sorted = copies(alloc, rows)?;
+    let lead = 2 * leading_pairs(alloc, rows)?;
+    let head = copies(alloc, &rows[..lead])?;
+    let mut sorted = copies(alloc, &rows[lead..])?;
     sorted.sort()?;
-    from_both_ends(alloc, &sorted)
+    let mixed = from_both_ends(alloc, &sorted)?;
+    add_copies(alloc, &mixed, head)
 }

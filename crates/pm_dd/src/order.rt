@@ -7,6 +7,7 @@ ghost use Rattle.pm_geom.specs.StatedOrder.{rows_marked};
 ghost use Rattle.std.specs.Prelude.{IfErr, IfOk, [], length, ◌++◌, ◌<◌, ◌^◌, ◌≡◌, ◌≤◌};
 
 use crate::fails::DdFail;
+use crate::leading::{leading_equations, leading_pairs};
 use pm_elim::enlarging;
 use pm_vector::Ints;
 use std::alloc::{AllocError, Global};
@@ -39,7 +40,7 @@ fn add_marked(
     Ok(made)
 }
 
-/// The rows in the stated order: first those that enlarge the span of those before them.
+/// The rows in the stated order: first those that enlarge the span of those before them. Rows that lead with their opposites are taken as equations.
 pub(crate) fn arranged(alloc: Global, rows: &[Ints], cols: usize) -> Result<Arrangement, DdFail>
     requires columns { HasCols cols rows.now }
     requires few_rows { length rows.now < 2 ^ 30 }
@@ -50,11 +51,14 @@ pub(crate) fn arranged(alloc: Global, rows: &[Ints], cols: usize) -> Result<Arra
     ensures shown { IfErr result (λ f. IsShown cols rows.now f) }
 {
     let marks = enlarging(alloc, rows, cols)?;
-    let first = add_marked(alloc, rows, &marks, true, Vec::new(alloc))?;
+    let pairs = leading_pairs(alloc, rows)?;
+    let equations = leading_equations(alloc, rows, &marks, pairs)?;
+    let lead = 2 * equations.len();
+    let first = add_marked(alloc, &rows[lead..], &marks[lead..], true, Vec::new(alloc))?;
     let start = first.len();
-    let ordered = add_marked(alloc, rows, &marks, false, first)?;
+    let ordered = add_marked(alloc, &rows[lead..], &marks[lead..], false, first)?;
     Ok(Arrangement {
-        equations: Vec::new(alloc),
+        equations,
         rows: ordered,
         start,
     })
