@@ -3,7 +3,10 @@ use Rattle.pm_bits.specs.Sets.{has, member_count, members}
 use Rattle.pm_bits.specs.Table.{Table}
 use Rattle.pm_geom.specs.Meets.{HasMeetRank}
 use Rattle.pm_lattice.specs.Closures.{bit_sets}
-use Rattle.std.specs.List.{All, Contains, range_with_len, slice_index_or}
+use Rattle.pm_lattice.specs.declared.ranks.SizeRank.{SizeRank}
+use Rattle.pm_lattice.specs.declared.ranks.SizeRank.TheVariants.{All, Mixed, Unseen}
+use Rattle.std.specs.List.{Contains, range_with_len, slice_index_or}
+use Rattle.std.specs.List as list
 use Rattle.std.specs.Prelude.{ℕ, ◌≡◌, ◌+◌, ◌<◌, ◌==◌, ◌≤◌, Bool, IsTrue, false, List, [], ◌∷◌, cond, length, map}
 
 -- the face at a place, of which the list has one
@@ -44,7 +47,7 @@ levels_to top faces ranks = map (λ k. level_of k faces ranks) (range_with_len 0
 
 -- each size that a face has is marked
 abbrev pub AreSeen : List (List Bool) → List Bool → Type 0
-AreSeen faces seen = All (λ f. IsTrue (is_seen seen (member_count f))) faces
+AreSeen faces seen = list.All (λ f. IsTrue (is_seen seen (member_count f))) faces
 
 -- a number for each size, no greater than the size, and rising after each size that is marked
 pub record Rise (seen : List Bool) (heights : List ℕ) : Type 0 where
@@ -55,3 +58,18 @@ pub record Rise (seen : List Bool) (heights : List ℕ) : Type 0 where
 -- the face has this rank among the meets of a table's rows
 abbrev pub HasRankIn : Table → List Bool → ℕ → Type 0
 HasRankIn t f k = HasMeetRank t.row_len (bit_sets t.rows) (has f) k
+
+-- a face of a size may have the rank k, as far as is known of the size
+abbrev pub Allows : SizeRank → ℕ → Type 0
+Allows Unseen k = ⊥
+Allows (All rank) k = k ≡ rank
+Allows Mixed k = Unit {0}
+
+-- each face from the place i on has a rank that its size allows
+abbrev pub AreAllowedFrom : List (List Bool) → List ℕ → List SizeRank → ℕ → Type 0
+AreAllowedFrom faces ranks sizes i = (k : ℕ) → i ≤ k → k < length faces → Allows (slice_index_or sizes (member_count (face_at faces k)) Unseen) (rank_at ranks k)
+
+-- the face is one of the list, and stands after a place
+pub record StandsAfter (faces : List (List Bool)) (place : ℕ) (f : List Bool) : Type 0 where
+  pub there : Contains faces f
+  pub later : (k : ℕ) → k < length faces → face_at faces k ≡ f → place < k
