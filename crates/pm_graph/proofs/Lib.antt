@@ -13,3 +13,5 @@ pub mod Bounds
 pub mod TableRows
 pub mod Pairs
 pub mod RightGraphs
+pub mod Rising
+pub mod RightFaces

@@ -2,10 +2,11 @@
 use Rattle.pm_algebra.specs.Cones.{InCone}
 use Rattle.pm_algebra.specs.Rows.{HasCols, Row}
 use Rattle.pm_geom.specs.Cones.{IsOrder, IsValid}
+use Rattle.pm_geom.specs.FaceCounts.{IsHasseDiagram}
 use Rattle.pm_geom.specs.Graphs.{AreNeighbours, IsDiameter, IsEdge, IsGraph, IsGreatestDistance, IsRidge}
-use Rattle.pm_graph.specs.Edges.{IsIndexEdge, IsSetEdge}
+use Rattle.pm_graph.specs.Edges.{IsFaceEdge, IsIndexEdge, IsSetEdge, whole_of}
 use Rattle.pm_types.specs.Right.{IsIncidence}
-use Rattle.std.specs.Prelude.{ℕ, ◌↔◌, List, length}
+use Rattle.std.specs.Prelude.{ℕ, ◌↔◌, ◌≡◌, List, length}
 
 -- where row i holds exactly the rays in the facet at i, the edges of the indices are those of the rays
 abbrev pub IndexEdgesAreEdges : Type 0
@@ -26,3 +27,8 @@ GreatestDistanceIsDiameter = (n : ℕ) (G L : List Row) → HasCols n G → HasC
 abbrev pub DualGreatestDistanceIsDiameter : Type 0
 DualGreatestDistanceIsDiameter = (n : ℕ) (G L : List Row) → HasCols n G → HasCols n L → (V F : List Row) → IsOrder n (InCone G L) V → IsOrder n (IsValid n G L) F →
     (rows : List (List ℕ)) → IsGraph (length F) (IsRidge n G L V F) rows → (k : ℕ) → IsGreatestDistance (length rows) (AreNeighbours rows) k → IsDiameter (length F) (IsRidge n G L V F) k
+
+-- the whole set of a list of all faces has each ray, and its edges are the edges of the rays
+abbrev pub FaceEdgesAreEdges : Type 0
+FaceEdgesAreEdges = (n : ℕ) (G L : List Row) → HasCols n G → HasCols n L → (V : List Row) → IsOrder n (InCone G L) V →
+    (ranks : List (List (List ℕ))) → IsHasseDiagram n G L V ranks → (length (whole_of ranks) ≡ length V) × ((i j : ℕ) → IsFaceEdge ranks i j ↔ IsEdge n G L V i j)

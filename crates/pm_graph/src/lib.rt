@@ -3,7 +3,7 @@
 //! All is combinatorics of index sets; the laws at the end say what it means for the sets of a cone.
 #![tactic(auto)]
 
-ghost use Rattle.pm_graph.specs.Laws.{DualGreatestDistanceIsDiameter, GreatestDistanceIsDiameter, IndexEdgesAreEdges, SetEdgesAreRidges};
+ghost use Rattle.pm_graph.specs.Laws.{DualGreatestDistanceIsDiameter, FaceEdgesAreEdges, GreatestDistanceIsDiameter, IndexEdgesAreEdges, SetEdgesAreRidges};
 
 mod bits;
 mod counts;
@@ -38,4 +38,9 @@ pub fn law_greatest_distance_is_diameter()
 /// The greatest distance in the graph of the facets is its diameter.
 pub fn law_dual_greatest_distance_is_diameter()
     ensures { DualGreatestDistanceIsDiameter }
+{}
+
+/// Where the lists are all faces by rank, the edges of the whole set are the edges of the rays.
+pub fn law_face_edges_are_edges()
+    ensures { FaceEdgesAreEdges }
 {}

@@ -22,3 +22,4 @@ pub mod GraphWalks
 pub mod Diameter
 pub mod Square
 pub mod Line
+pub mod Diagrams

@@ -21,6 +21,10 @@ use Rattle.std.proofs.Common.{arith, inl, inr, refl, subst}
 use Rattle.std.proofs.lemmas.Int.{ints}
 use Rattle.std.specs.Prelude.{Bool, IsTrue, List, length, true, ℕ, ◌++◌, ◌+◌, ◌<◌, ◌↔◌, ◌≡◌}
 
+-- the whole is a face: the row of zeros vanishes on it
+pub whole_is_face : (n : ℕ) (G L V : List Row) → IsFace n G L V (λ j. true)
+whole_is_face n G L V = record { a = zeros n; valid = record { cols = length-zeros n; holds = λ x lx h. simp dot-zeros (omega (arith, ints)) }; places = λ j l. (λ t. dot-zeros n (ray V j), λ e. refl) }
+
 module _ (n : ℕ) (G L : List Row) (hg : HasCols n G) (hl : HasCols n L) (V K : List Row) (hk : HasCols n K) (o : IsOrder n (InCone G L) V) (line : (x : Row) → length x ≡ n → InLineality (InCone G L) x ↔ InSpan K x) where
   pub cone_to : (x : Row) → length x ≡ n → InCone G L x → InCone V K x
   cone_to x lx = (order_generates n G L hg hl V K hk o line x lx).0

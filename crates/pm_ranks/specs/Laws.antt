@@ -3,6 +3,7 @@ use Rattle.pm_algebra.specs.Cones.{InCone, InSpan}
 use Rattle.pm_algebra.specs.Rows.{HasCols, Row, dot}
 use Rattle.pm_bases.specs.Bases.{IsRank}
 use Rattle.pm_geom.specs.Cones.{InLineality, IsOrder, IsValid}
+use Rattle.pm_geom.specs.FaceCounts.{IsHasseDiagram, f_of}
 use Rattle.pm_geom.specs.Faces.{HasRank, IsFace, IsStrictlyIn, ray}
 use Rattle.pm_geom.specs.Graphs.{IsDiameter, IsEdge, IsGraph, IsRidge, IsWalk}
 use Rattle.pm_ranks.specs.Chosen.{chosen}
@@ -85,3 +86,13 @@ GraphHasDiameter = (n : ℕ) (G L : List Row) → HasCols n G → HasCols n L �
 abbrev pub DualGraphHasDiameter : Type 0
 DualGraphHasDiameter = (n : ℕ) (G L : List Row) → HasCols n G → HasCols n L → (V F : List Row) → IsOrder n (InCone G L) V → IsOrder n (IsValid n G L) F →
     (rows : List (List ℕ)) → IsGraph (length F) (IsRidge n G L V F) rows → (k : ℕ) × IsDiameter (length F) (IsRidge n G L V F) k
+
+-- a list of all faces by rank ends at the rank of the whole
+abbrev pub DiagramsEndAtWhole : Type 0
+DiagramsEndAtWhole = (n : ℕ) (G L V : List Row) (ranks : List (List (List ℕ))) → IsHasseDiagram n G L V ranks →
+    (t : ℕ) → HasRank n G L V (λ j. true) t → length ranks ≡ suc t
+
+-- where the whole has rank d + 1, as for a polytope of dimension d, an f-vector has d entries
+abbrev pub FVectorsHaveDimension : Type 0
+FVectorsHaveDimension = (n : ℕ) (G L V : List Row) (ranks : List (List (List ℕ))) → IsHasseDiagram n G L V ranks →
+    (d : ℕ) → HasRank n G L V (λ j. true) (suc d) → length (f_of ranks) ≡ d

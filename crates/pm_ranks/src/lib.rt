@@ -4,7 +4,7 @@
 #![tactic(auto)]
 
 ghost use Rattle.pm_ranks.specs.Examples.{LineHasRanks, SquareHasGraphs, SquareHasRanks};
-ghost use Rattle.pm_ranks.specs.Laws.{DualGraphHasDiameter, DualGraphIsConnected, EachHasRank, EdgesByFacets, FacetsAreHighest, FacetsDiffer, FirstRank, GraphHasDiameter, GraphIsConnected, RanksAreDimensions, RanksDescend, RanksRise, RidgesByFacets, SecondRank, WholeHasRank};
+ghost use Rattle.pm_ranks.specs.Laws.{DiagramsEndAtWhole, DualGraphHasDiameter, DualGraphIsConnected, EachHasRank, EdgesByFacets, FacetsAreHighest, FacetsDiffer, FVectorsHaveDimension, FirstRank, GraphHasDiameter, GraphIsConnected, RanksAreDimensions, RanksDescend, RanksRise, RidgesByFacets, SecondRank, WholeHasRank};
 
 /// The rank of a face is the dimension of its span less that of the lineality (Ziegler, theorem 2.7).
 pub fn law_ranks_are_dimensions()
@@ -79,6 +79,16 @@ pub fn law_graph_has_diameter()
 /// The graph of the facets has a diameter.
 pub fn law_dual_graph_has_diameter()
     ensures { DualGraphHasDiameter }
+{}
+
+/// A list of all faces by rank ends at the rank of the whole.
+pub fn law_diagrams_end_at_whole()
+    ensures { DiagramsEndAtWhole }
+{}
+
+/// The f-vector of a polytope has as many entries as the polytope has dimensions.
+pub fn law_f_vectors_have_dimension()
+    ensures { FVectorsHaveDimension }
 {}
 
 /// Ranks of faces of the unit square, and the rows at chosen places.
