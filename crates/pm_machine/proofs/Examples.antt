@@ -1,6 +1,7 @@
 -- The examples, by what the definitions say.
 use Rattle.std.proofs.Common.{refl}
 use Rattle.pm_machine.specs.Examples.{EventsAreRead, ExclusionsAreRead}
+use Rattle.pm_types.specs.Sets.{has, only, union}
 
 pub events_are_read : EventsAreRead
 events_are_read = record {
@@ -21,6 +22,7 @@ events_are_read = record {
 }
 
 pub exclusions_are_read : ExclusionsAreRead
+unfolding has union only
 exclusions_are_read = record {
   with_its_program = λ rule. refl;
   with_no_other = λ rule. refl;
