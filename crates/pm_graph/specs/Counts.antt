@@ -3,7 +3,9 @@ use Rattle.pm_algebra.specs.Numbers.{Ratio}
 use Rattle.pm_fraction.specs.Fractions.{ratio_of}
 use Rattle.pm_bits.specs.Sets.{has}
 use Rattle.pm_geom.specs.FaceCounts.{f2_of, inclusion_count, inner}
+use Rattle.pm_graph.specs.Slices.{ranks_of, rows_of}
 use Rattle.pm_matrix.specs.Matrices.{FractionMatrix}
+use Rattle.std.specs.Global.{Vec}
 use Rattle.std.specs.List.{All, count_by, list_all, range_with_len, slice_index_or, sum_by}
 use Rattle.std.specs.Prelude.{ℕ, ◌+◌, ◌<◌, ◌^◌, ◌≡◌, Bool, List, [], cond, length, map, nat_lt}
 use lib.IntN.{pos}
@@ -35,6 +37,18 @@ lower_counts lists k = map (lower_count lists k) (range_with_len 0 (k + 1))
 -- the entry (i, k) of a symmetric table of which each row k has the entries up to k
 abbrev pub mirrored : List (List ℕ) → ℕ → ℕ → ℕ
 mirrored rows i k = cond (nat_lt k i) (slice_index_or (slice_index_or rows i []) k 0) (slice_index_or (slice_index_or rows k []) i 0)
+
+-- the rows are these numbers for each rank
+abbrev pub HaveLowerCounts : List (Vec (Vec ℕ)) → List (List ℕ) → Type 0
+HaveLowerCounts ranks rows = rows ≡ map (lower_counts (ranks_of ranks)) (range_with_len 0 (length ranks))
+
+-- each number is below 2^126
+abbrev pub AreSmall : List (List ℕ) → Type 0
+AreSmall rows = All (All (λ n. n < 2 ^ 126)) rows
+
+-- the row at i of the symmetric table, as fractions
+abbrev pub mirrored_row : List (Vec ℕ) → ℕ → List Ratio
+mirrored_row rows i = map (λ k. whole (mirrored (rows_of rows) i k)) (range_with_len 0 (length rows))
 
 -- each row k has the entries up to k, all below 2^126
 pub record IsTriangle (rows : List (List ℕ)) : Type 0 where

@@ -2,6 +2,7 @@
 use Rattle.pm_bits.specs.Sets.{has}
 use Rattle.pm_bits.specs.Table.{Table, row_at}
 use Rattle.pm_geom.specs.FaceCounts.{at_rank}
+use Rattle.pm_geom.specs.Graphs.{IsGraph}
 use Rattle.pm_types.specs.Values.{IndexSets}
 use Rattle.std.specs.List.{AllPairs, Any, Contains, slice_index_or}
 use Rattle.std.specs.Prelude.{ℕ, ◌-◌, ◌<◌, ◌≡◌, ◌↔◌, ◌⊎◌, Bool, IsTrue, List, [], ◌∷◌, length}
@@ -22,6 +23,14 @@ pub record IsRowEdge (t : Table) (i k : ℕ) : Type 0 where
 pub record AreRowNeighbours (t : Table) (i n : ℕ) (list : List ℕ) : Type 0 where
   pub members : (k : ℕ) → Contains list k ↔ ((k < n) × ¬ (k ≡ i) × NoThirdRow t i k)
   pub ascending : AllPairs (λ j k. j < k) list
+
+-- and they are all of them
+abbrev pub AreAllNeighbours : Table → ℕ → List ℕ → Type 0
+AreAllNeighbours t i list = AreRowNeighbours t i (length t.rows) list
+
+-- the graph of the rows
+abbrev pub IsTableGraph : Table → List (List ℕ) → Type 0
+IsTableGraph t rows = IsGraph (length t.rows) (IsRowEdge t) rows
 
 -- no third index is in each set that has both i and j
 abbrev pub NoThirdIndex : IndexSets → ℕ → ℕ → Type 0
@@ -61,6 +70,10 @@ pub record IsFaceEdge (ranks : List (List (List ℕ))) (i j : ℕ) : Type 0 wher
   pub second : j < length (whole_of ranks)
   pub apart : ¬ (i ≡ j)
   pub face : HasFace ranks (i ∷ j ∷ []) ⊎ HasFace ranks (j ∷ i ∷ [])
+
+-- the graph of the places of the whole set
+abbrev pub IsFaceGraph : List (List (List ℕ)) → List (List ℕ) → Type 0
+IsFaceGraph ranks rows = IsGraph (length (whole_of ranks)) (IsFaceEdge ranks) rows
 
 -- the face has the different indices i and j below n alone
 abbrev pub IsPairOf : ℕ → List ℕ → ℕ → ℕ → Type 0

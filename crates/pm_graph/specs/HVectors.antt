@@ -16,6 +16,14 @@ pub record HasHVector (f : List ℤ) (d : ℕ) : Type 0 where
   pub entries : length f ≡ d
   pub fit : HaveFit f d
 
+-- the numbers are the h-vector of dimension d, where there is one
+abbrev pub AreHNumbers : List ℤ → ℤ → List ℤ → Type 0
+AreHNumbers f d h = (n : ℕ) → d ≡ pos n → HasHVector f n → h ≡ h_of f n
+
+-- there is none of dimension d
+abbrev pub HasNoHVector : List ℤ → ℤ → Type 0
+HasNoHVector f d = (n : ℕ) → d ≡ pos n → ¬ (HasHVector f n)
+
 -- the term of i in h_k without its sign
 abbrev pub plain_term : List ℤ → ℕ → ℕ → ℕ → ℤ
 plain_term f d k i = pos (binom (d - i) (d - k)) *ℤ f_before f i

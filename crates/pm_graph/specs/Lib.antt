@@ -1,3 +1,4 @@
+pub mod Slices
 pub mod Levels
 pub mod Tables
 pub mod Edges

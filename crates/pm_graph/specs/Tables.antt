@@ -19,6 +19,10 @@ pub record AreColumnsOf (len : ℕ) (sets : List (List ℕ)) (rows : List (List 
   pub count : length rows ≡ len
   pub bits : (i j : ℕ) → j < len → has (slice_index_or rows j []) i ≡ holds (slice_index_or sets i []) j
 
+-- each row is as long as it was
+abbrev pub KeepLengths : List (List Bool) → List (List Bool) → Type 0
+KeepLengths old new = (j : ℕ) → length (slice_index_or new j []) ≡ length (slice_index_or old j [])
+
 -- the place is now in the rows of the indices of the set too
 abbrev pub IsMarked : List ℕ → ℕ → List (List Bool) → List (List Bool) → Type 0
 IsMarked set place old new = (i j : ℕ) → j < length old → IsTrue (has (slice_index_or new j []) i) ↔ (IsTrue (has (slice_index_or old j []) i) ⊎ ((i ≡ place) × Contains set j))

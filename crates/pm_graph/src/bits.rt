@@ -2,9 +2,10 @@
 ghost use Rattle.pm_bits.specs.Sets.{has};
 ghost use Rattle.pm_geom.specs.Graphs.{holds};
 ghost use Rattle.pm_graph.specs.Levels.{AreBelow};
-ghost use Rattle.pm_graph.specs.Tables.{AreColumnsOf, HaveLength, IsMarked, IsTableOf};
+ghost use Rattle.pm_graph.specs.Slices.{rows_of};
+ghost use Rattle.pm_graph.specs.Tables.{AreColumnsOf, HaveLength, IsMarked, IsTableOf, KeepLengths};
 ghost use Rattle.std.specs.List.{All};
-ghost use Rattle.std.specs.Prelude.{IfOk, OnOk, [], length, map, slice_index_or, ℕ, ◌++◌, ◌<◌, ◌∷◌, ◌≡◌};
+ghost use Rattle.std.specs.Prelude.{IfOk, OnOk, [], length, ℕ, ◌++◌, ◌<◌, ◌∷◌, ◌≡◌};
 
 use pm_bits::{BitRow, BitTable};
 use std::alloc::{AllocError, Global};
@@ -36,9 +37,9 @@ fn push_row(table: &mut BitTable, row: BitRow) -> Result<(), AllocError>
 
 /// A row of bits of length `len` for each set.
 pub(crate) fn table_of(alloc: Global, sets: &[Vec<u32>], len: usize) -> Result<BitTable, AllocError>
-    requires { AreBelow len (map (λ set. set.items) sets.now) }
+    requires { AreBelow len (rows_of sets.now) }
     ensures row_len { IfOk result (λ table. table.row_len ≡ len) }
-    ensures rows { IfOk result (IsTableOf (map (λ set. set.items) sets.now)) }
+    ensures rows { IfOk result (IsTableOf (rows_of sets.now)) }
 {
     let mut table = BitTable::new(alloc, len);
     for set in sets {
@@ -51,7 +52,7 @@ pub(crate) fn table_of(alloc: Global, sets: &[Vec<u32>], len: usize) -> Result<B
 fn mark(rows: &mut [BitRow], set: &[u32], place: usize)
     requires below { All (λ j. j < length rows.old) set.now }
     requires lengths { All (λ row. place < length row) rows.old }
-    ensures lengths { (j : ℕ) → length (slice_index_or rows.new j []) ≡ length (slice_index_or rows.old j []) }
+    ensures lengths { KeepLengths rows.old rows.new }
     ensures marked { IsMarked set.now place rows.old rows.new }
 {
     for j in set {
@@ -65,9 +66,9 @@ pub(crate) fn columns_of(
     sets: &[Vec<u32>],
     len: usize,
 ) -> Result<Vec<BitRow>, AllocError>
-    requires { AreBelow len (map (λ set. set.items) sets.now) }
+    requires { AreBelow len (rows_of sets.now) }
     ensures lengths { IfOk result (λ rows. HaveLength (length sets.now) rows.items) }
-    ensures columns { IfOk result (λ rows. AreColumnsOf len (map (λ set. set.items) sets.now) rows.items) }
+    ensures columns { IfOk result (λ rows. AreColumnsOf len (rows_of sets.now) rows.items) }
 {
     let mut rows = Vec::new(alloc);
     for _index in 0..len {

@@ -1,12 +1,12 @@
 // The numbers of faces by rank.
 ghost use Rattle.pm_bits.specs.Sets.{has};
-ghost use Rattle.pm_geom.specs.FaceCounts.{f2_entry, f_of, inclusion_count, inner};
-ghost use Rattle.pm_graph.specs.Counts.{IsMeetOfColumns, f2_matrix};
-ghost use Rattle.pm_graph.specs.Levels.{AreBelow};
-ghost use Rattle.pm_graph.specs.Tables.{AreColumnsOf, HaveLength};
+ghost use Rattle.pm_geom.specs.FaceCounts.{f_of, inner};
+ghost use Rattle.pm_graph.specs.Counts.{IsMeetOfColumns};
+ghost use Rattle.pm_graph.specs.Slices.{ranks_of};
+ghost use Rattle.pm_graph.specs.Tables.{HaveLength};
 ghost use Rattle.pm_types.specs.Lists.{lists_of};
 ghost use Rattle.std.specs.List.{All};
-ghost use Rattle.std.specs.Prelude.{IfOk, IsTrue, [], length, map, pos, ℕ, ◌<◌, ◌≤◌, ◌*◌, ◌^◌, ◌≡◌};
+ghost use Rattle.std.specs.Prelude.{IfOk, IsTrue, length, map, pos, ℕ, ◌<◌, ◌≡◌};
 
 use crate::bits::columns_of;
 use pm_bits::BitRow;
@@ -16,7 +16,7 @@ use std::mem;
 
 // The ranks but the first and the last.
 pub(crate) fn inner_ranks(ranks: &[Vec<Vec<u32>>]) -> &[Vec<Vec<u32>>]
-    ensures { map lists_of result.now ≡ inner (map lists_of ranks.now) }
+    ensures { map lists_of result.now ≡ inner (ranks_of ranks.now) }
 {
     if ranks.len() < 2 {
         return &[];

@@ -1,8 +1,8 @@
 // Distances in a graph, level by level from one node.
-ghost use Rattle.pm_geom.specs.Graphs.{AreNeighbours, IsGreatestDistance};
-ghost use Rattle.pm_graph.specs.Levels.{AreBelow, AreNew, IsEccentricity, IsSeen, MarksNeighbours, unseen_count};
-ghost use Rattle.std.specs.List.{All, Contains};
-ghost use Rattle.std.specs.Prelude.{IfOk, OnOk, [], length, map, pos, ℕ, ◌+◌, ◌<◌, ◌^◌, ◌≡◌, ◌↔◌, ◌⊎◌};
+ghost use Rattle.pm_graph.specs.Levels.{AddsUnseen, AreBelow, AreNew, HasGreatestDistance, IsEccentricityIn, KeepsCount, MarksNeighbours, MarksRow, unseen_and_new, unseen_count};
+ghost use Rattle.pm_graph.specs.Slices.{rows_of};
+ghost use Rattle.std.specs.List.{All};
+ghost use Rattle.std.specs.Prelude.{IfOk, OnOk, [], length, ◌<◌, ◌^◌, ◌≡◌};
 
 use pm_types::Sets;
 use std::alloc::{AllocError, Global};
@@ -11,9 +11,9 @@ use std::mem;
 // Marks the nodes of a list, and puts those that were not marked at the end of `next`.
 fn visit(row: &[u32], seen: &mut [bool], next: &mut Vec<u32>) -> Result<(), AllocError>
     requires { All (λ j. j < length seen.old) row.now }
-    ensures seen { OnOk result ((j : ℕ) → IsSeen seen.new j ↔ (IsSeen seen.old j ⊎ Contains row.now j)) }
-    ensures next { OnOk result ((j : ℕ) → Contains next.new.items j ↔ (Contains next.old.items j ⊎ (Contains row.now j × ¬ (IsSeen seen.old j)))) }
-    ensures count { OnOk result (unseen_count seen.new + length next.new.items ≡ unseen_count seen.old + length next.old.items) }
+    ensures seen { OnOk result (MarksRow row.now seen.old seen.new) }
+    ensures next { OnOk result (AddsUnseen row.now seen.old next.old.items next.new.items) }
+    ensures count { OnOk result (KeepsCount seen.old next.old.items seen.new next.new.items) }
 {
     for node in row {
         let place = *node as usize;
@@ -35,13 +35,13 @@ fn next_level(
     next: &mut Vec<u32>,
 ) -> Result<(), AllocError>
     requires nodes { length seen.old ≡ length rows.now }
-    requires neighbours { AreBelow (length rows.now) (map (λ row. row.items) rows.now) }
+    requires neighbours { AreBelow (length rows.now) (rows_of rows.now) }
     requires front { All (λ u. u < length rows.now) front.now }
     requires left { unseen_count seen.old ≡ left }
     requires empty { next.old.items ≡ [] }
-    ensures marks { OnOk result (MarksNeighbours (map (λ row. row.items) rows.now) front.now seen.old seen.new) }
+    ensures marks { OnOk result (MarksNeighbours (rows_of rows.now) front.now seen.old seen.new) }
     ensures new { OnOk result (AreNew seen.old seen.new next.new.items) }
-    ensures count { OnOk result (unseen_count seen.new + length next.new.items ≡ left) }
+    ensures count { OnOk result (unseen_and_new seen.new next.new.items ≡ left) }
 {
     for node in front {
         if next.len() == left {
@@ -54,10 +54,10 @@ fn next_level(
 
 // The greatest distance from a node.
 fn eccentricity(alloc: Global, rows: &[Vec<u32>], start: u32) -> Result<usize, AllocError>
-    requires neighbours { AreBelow (length rows.now) (map (λ row. row.items) rows.now) }
+    requires neighbours { AreBelow (length rows.now) (rows_of rows.now) }
     requires start { start < length rows.now }
     ensures small { IfOk result (λ far. far < length rows.now) }
-    ensures farthest { IfOk result (IsEccentricity (length rows.now) (AreNeighbours (map (λ row. row.items) rows.now)) start) }
+    ensures farthest { IfOk result (IsEccentricityIn rows.now start) }
 {
     let mut seen = vec![in alloc; false; rows.len()]?;
     seen[start as usize] = true;
@@ -82,7 +82,7 @@ fn eccentricity(alloc: Global, rows: &[Vec<u32>], start: u32) -> Result<usize, A
 pub fn diameter(alloc: Global, g: &Sets) -> Result<i64, AllocError>
     requires neighbours { AreBelow (length g.now.rows) g.now.rows }
     requires few { length g.now.rows < 2 ^ 32 }
-    ensures { IfOk result (λ k. (d : ℕ) × (k ≡ pos d) × IsGreatestDistance (length g.now.rows) (AreNeighbours g.now.rows) d) }
+    ensures { IfOk result (HasGreatestDistance g.now.rows) }
 {
     let rows = g.rows();
     let mut greatest = 0;

@@ -1,9 +1,8 @@
 // The graph of a lattice of faces: its faces of two elements.
 ghost use Rattle.pm_bits.specs.Sets.{members};
-ghost use Rattle.pm_geom.specs.Graphs.{IsGraph};
-ghost use Rattle.pm_graph.specs.Edges.{IsFaceEdge, IsPairAmong, IsPairOf, Joins, whole_of};
+ghost use Rattle.pm_graph.specs.Edges.{IsFaceGraph, IsPairAmong, IsPairOf, Joins, whole_of};
+ghost use Rattle.pm_graph.specs.Slices.{ranks_of, rows_of};
 ghost use Rattle.pm_graph.specs.Tables.{HaveLength};
-ghost use Rattle.pm_types.specs.Lists.{lists_of};
 ghost use Rattle.std.specs.Prelude.{IfOk, length, map, ◌<◌, ◌^◌, ◌≡◌};
 
 use pm_bits::BitRow;
@@ -32,7 +31,7 @@ fn join(rows: &mut [BitRow], face: &[u32])
 fn join_all(rows: &mut [BitRow], faces: &[Vec<u32>])
     requires { HaveLength (length rows.old) rows.old }
     ensures lengths { HaveLength (length rows.old) rows.new }
-    ensures joined { Joins (IsPairAmong (length rows.old) (map (λ face. face.items) faces.now)) rows.old rows.new }
+    ensures joined { Joins (IsPairAmong (length rows.old) (rows_of faces.now)) rows.old rows.new }
 {
     for face in faces {
         join(rows, face);
@@ -41,7 +40,7 @@ fn join_all(rows: &mut [BitRow], faces: &[Vec<u32>])
 
 // How many indices the whole set has, the first face of the last rank.
 fn whole_len(ranks: &[Vec<Vec<u32>>]) -> usize
-    ensures { result ≡ length (whole_of (map lists_of ranks.now)) }
+    ensures { result ≡ length (whole_of (ranks_of ranks.now)) }
 {
     if ranks.is_empty() {
         return 0;
@@ -54,7 +53,7 @@ fn whole_len(ranks: &[Vec<Vec<u32>>]) -> usize
 fn member_lists(alloc: Global, rows: &[BitRow], len: usize) -> Result<Vec<Vec<u32>>, AllocError>
     requires lengths { HaveLength len rows.now }
     requires few { len < 2 ^ 32 }
-    ensures { IfOk result (λ lists. map (λ list. list.items) lists.items ≡ map members rows.now) }
+    ensures { IfOk result (λ lists. rows_of lists.items ≡ map members rows.now) }
 {
     let mut lists = Vec::new(alloc);
     for row in rows {
@@ -67,7 +66,7 @@ fn member_lists(alloc: Global, rows: &[BitRow], len: usize) -> Result<Vec<Vec<u3
 /// elements. Row i holds the neighbours of i, ascending.
 pub fn graph_of_faces(alloc: Global, l: &Lattice) -> Result<Sets, AllocError>
     requires { length (whole_of l.now) < 2 ^ 32 }
-    ensures graph { IfOk result (λ g. IsGraph (length (whole_of l.now)) (IsFaceEdge l.now) g.rows) }
+    ensures graph { IfOk result (λ g. IsFaceGraph l.now g.rows) }
     ensures cols { IfOk result (λ g. g.cols ≡ length (whole_of l.now)) }
 {
     let len = whole_len(l.ranks());

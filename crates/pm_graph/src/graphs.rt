@@ -1,9 +1,9 @@
 // Graphs of index sets.
-ghost use Rattle.pm_bits.specs.Table.{OtherContains, row_at};
 ghost use Rattle.pm_geom.specs.Graphs.{IsGraph};
-ghost use Rattle.pm_graph.specs.Edges.{AreRowNeighbours, IsIndexEdge, IsRowEdge, IsSetEdge};
+ghost use Rattle.pm_graph.specs.Edges.{AreAllNeighbours, IsIndexEdge, IsSetEdge, IsTableGraph};
 ghost use Rattle.pm_graph.specs.Levels.{AreBelow};
-ghost use Rattle.std.specs.Prelude.{IfOk, length, map, ◌<◌, ◌^◌, ◌≡◌};
+ghost use Rattle.pm_graph.specs.Slices.{rows_of};
+ghost use Rattle.std.specs.Prelude.{IfOk, length, ◌<◌, ◌^◌, ◌≡◌};
 
 use crate::bits::{columns_of, table_from, table_of};
 use pm_bits::{BitRow, BitTable};
@@ -21,7 +21,7 @@ fn neighbours(
     requires inside { i < length table.now.rows }
     requires meet_len { length meet.old ≡ table.now.row_len }
     ensures meet_len { length meet.new ≡ table.now.row_len }
-    ensures neighbours { IfOk result (λ list. AreRowNeighbours table.now i (length table.now.rows) list.items) }
+    ensures neighbours { IfOk result (λ list. AreAllNeighbours table.now i list.items) }
 {
     let mut list = Vec::new(alloc);
     for k in 0..table.len() {
@@ -40,7 +40,7 @@ fn neighbours(
 // The graph of the rows of a table, as lists of neighbours.
 fn graph_of_table(alloc: Global, table: &BitTable) -> Result<Vec<Vec<u32>>, AllocError>
     requires { length table.now.rows < 2 ^ 32 }
-    ensures { IfOk result (λ rows. IsGraph (length table.now.rows) (IsRowEdge table.now) (map (λ row. row.items) rows.items)) }
+    ensures { IfOk result (λ rows. IsTableGraph table.now (rows_of rows.items)) }
 {
     let mut meet = BitRow::with_len(alloc, table.row_len())?;
     let mut rows = Vec::new(alloc);

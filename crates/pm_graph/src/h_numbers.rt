@@ -1,7 +1,7 @@
 // The h-vector of an f-vector.
 ghost use Rattle.pm_geom.specs.FaceCounts.{binom, f_before, h_entry, h_of};
-ghost use Rattle.pm_graph.specs.HVectors.{HasHVector, HaveFit, plain_term};
-ghost use Rattle.std.specs.Prelude.{IfOk, [], length, neg_ℤ, pos, ℕ, ◌≤◌, ◌≤ℤ◌, ◌^◌, ◌≡◌};
+ghost use Rattle.pm_graph.specs.HVectors.{AreHNumbers, HasNoHVector, HaveFit, plain_term};
+ghost use Rattle.std.specs.Prelude.{IfOk, [], length, neg_ℤ, pos, ◌^◌, ◌≡◌, ◌≤◌, ◌≤ℤ◌};
 
 use std::alloc::{AllocError, Global};
 
@@ -75,8 +75,8 @@ fn numbers(alloc: Global, f: &[i64], d: usize) -> Result<Vec<i64>, AllocError>
 /// The h-vector of an f-vector of dimension d: d + 1 numbers. It has no entries where d is not from 0 to 32, where f has not d
 /// entries, and where one of the numbers does not fit 64 bits.
 pub fn h_vector(alloc: Global, f: &[i64], d: i64) -> Result<Vec<i64>, AllocError>
-    ensures numbers { IfOk result (λ h. (n : ℕ) → d ≡ pos n → HasHVector f.now n → h.items ≡ h_of f.now n) }
-    ensures none { IfOk result (λ h. ((n : ℕ) → d ≡ pos n → ¬ (HasHVector f.now n)) → h.items ≡ []) }
+    ensures numbers { IfOk result (λ h. AreHNumbers f.now d h.items) }
+    ensures none { IfOk result (λ h. HasNoHVector f.now d → h.items ≡ []) }
 {
     match usize::try_from(d) {
         Ok(dim) if dim <= 32 && f.len() == dim => numbers(alloc, f, dim),

@@ -1,14 +1,11 @@
 // How many pairs of faces there are, one included in the other. The places of the faces of the upper rank that hold an index are a
 // row of bits, and those of the faces that include a lower face are the meet of the rows of its indices.
-ghost use Rattle.pm_algebra.specs.Numbers.{Ratio};
-ghost use Rattle.pm_fraction.specs.Fractions.{ratio_of};
-ghost use Rattle.pm_geom.specs.FaceCounts.{f2_entry, inner};
-ghost use Rattle.pm_graph.specs.Counts.{IsTriangle, f2_matrix, lower_counts, mirrored, place_count, whole};
+ghost use Rattle.pm_graph.specs.Counts.{AreSmall, HaveLowerCounts, IsTriangle, f2_matrix, lower_counts, mirrored, mirrored_row, place_count, whole};
 ghost use Rattle.pm_graph.specs.Levels.{AreBelow};
+ghost use Rattle.pm_graph.specs.Slices.{ranks_of, rows_of};
 ghost use Rattle.pm_graph.specs.Tables.{HaveLength};
-ghost use Rattle.pm_types.specs.Lists.{lists_of};
-ghost use Rattle.std.specs.List.{All, range_with_len};
-ghost use Rattle.std.specs.Prelude.{IfOk, OnOk, [], length, map, pos, ℕ, ◌++◌, ◌<◌, ◌≤◌, ◌∷◌, ◌^◌, ◌≡◌};
+ghost use Rattle.std.specs.List.{All};
+ghost use Rattle.std.specs.Prelude.{IfOk, OnOk, [], length, ◌++◌, ◌<◌, ◌^◌, ◌∷◌, ◌≡◌, ◌≤◌};
 
 use crate::bits::columns_of;
 use crate::counts::{full_row, inner_ranks, meet_columns};
@@ -25,9 +22,9 @@ fn inclusions(
     columns: &[BitRow],
     count: usize,
 ) -> Result<u128, AllocError>
-    requires below { AreBelow (length columns.now) (map (λ face. face.items) lower.now) }
+    requires below { AreBelow (length columns.now) (rows_of lower.now) }
     requires columns_len { HaveLength count columns.now }
-    ensures count { IfOk result (λ n. n ≡ place_count columns.now count (map (λ face. face.items) lower.now)) }
+    ensures count { IfOk result (λ n. n ≡ place_count columns.now count (rows_of lower.now)) }
     ensures small { IfOk result (λ n. n < 2 ^ 126) }
 {
     let full = full_row(alloc, count)?;
@@ -50,8 +47,8 @@ fn counts_below(
     len: usize,
 ) -> Result<Vec<u128>, AllocError>
     requires within { k < length ranks.now }
-    requires below { All (AreBelow len) (map lists_of ranks.now) }
-    ensures counts { IfOk result (λ counts. counts.items ≡ lower_counts (map lists_of ranks.now) k) }
+    requires below { All (AreBelow len) (ranks_of ranks.now) }
+    ensures counts { IfOk result (λ counts. counts.items ≡ lower_counts (ranks_of ranks.now) k) }
     ensures small { IfOk result (λ counts. All (λ n. n < 2 ^ 126) counts.items) }
 {
     let upper = &ranks[k];
@@ -70,9 +67,9 @@ fn all_counts(
     ranks: &[Vec<Vec<u32>>],
     len: usize,
 ) -> Result<Vec<Vec<u128>>, AllocError>
-    requires { All (AreBelow len) (map lists_of ranks.now) }
-    ensures counts { IfOk result (λ rows. map (λ row. row.items) rows.items ≡ map (lower_counts (map lists_of ranks.now)) (range_with_len 0 (length ranks.now))) }
-    ensures small { IfOk result (λ rows. All (All (λ n. n < 2 ^ 126)) (map (λ row. row.items) rows.items)) }
+    requires { All (AreBelow len) (ranks_of ranks.now) }
+    ensures counts { IfOk result (λ rows. HaveLowerCounts ranks.now (rows_of rows.items)) }
+    ensures small { IfOk result (λ rows. AreSmall (rows_of rows.items)) }
 {
     let mut rows = Vec::new(alloc);
     for k in 0..ranks.len() {
@@ -95,7 +92,7 @@ fn face_bound(face: &[u32], bound: usize) -> usize
 
 // A number above each index of some faces, and at least `bound`.
 fn faces_bound(faces: &[Vec<u32>], bound: usize) -> usize
-    ensures above { AreBelow result (map (λ face. face.items) faces.now) }
+    ensures above { AreBelow result (rows_of faces.now) }
     ensures least { bound ≤ result }
 {
     let mut bound = bound;
@@ -107,7 +104,7 @@ fn faces_bound(faces: &[Vec<u32>], bound: usize) -> usize
 
 // A number above each index of faces by rank.
 fn index_bound(ranks: &[Vec<Vec<u32>>]) -> usize
-    ensures { All (AreBelow result) (map lists_of ranks.now) }
+    ensures { All (AreBelow result) (ranks_of ranks.now) }
 {
     let mut bound = 0;
     for faces in ranks {
@@ -131,8 +128,8 @@ fn fraction(n: u128) -> Fraction
 fn entry(counts: &[Vec<u128>], i: usize, k: usize) -> u128
     requires i_within { i < length counts.now }
     requires k_within { k < length counts.now }
-    requires triangle { IsTriangle (map (λ row. row.items) counts.now) }
-    ensures value { result ≡ mirrored (map (λ row. row.items) counts.now) i k }
+    requires triangle { IsTriangle (rows_of counts.now) }
+    ensures value { result ≡ mirrored (rows_of counts.now) i k }
     ensures small { result < 2 ^ 126 }
 {
     if k < i { counts[i][k] } else { counts[k][i] }
@@ -141,8 +138,8 @@ fn entry(counts: &[Vec<u128>], i: usize, k: usize) -> u128
 // The row at i of the symmetric table.
 fn table_row(alloc: Global, counts: &[Vec<u128>], i: usize) -> Result<Vec<Fraction>, AllocError>
     requires within { i < length counts.now }
-    requires triangle { IsTriangle (map (λ row. row.items) counts.now) }
-    ensures { IfOk result (λ row. row.items ≡ map (λ k. whole (mirrored (map (λ row. row.items) counts.now) i k)) (range_with_len 0 (length counts.now))) }
+    requires triangle { IsTriangle (rows_of counts.now) }
+    ensures { IfOk result (λ row. row.items ≡ mirrored_row counts.now i) }
 {
     let mut row = Vec::new(alloc);
     for k in 0..counts.len() {
