@@ -3,7 +3,7 @@ use Rattle.pm_client.specs.Starts.{Clients}
 use Rattle.pm_geom.specs.declared.ObjectType.{ObjectType}
 use Rattle.pm_machine.proofs.Kept.{all_honest, steps_in_part_keep, steps_keep}
 use Rattle.pm_machine.specs.Events.{Configuration, Ending, Ensured, EnsuredInPart, at_rest, configuration, found, no_chain}
-use Rattle.pm_machine.specs.Parts.{AllHonest, GaveInPart, StepInPart}
+use Rattle.pm_machine.specs.Parts.{AllHonest, StepInPart}
 use Rattle.pm_machine.specs.Sessions.{Gives, no_files}
 use Rattle.pm_machine.specs.Steps.{AllKept, Becomes, Gains, Given, GiveStep, Machine, Stays, Step, TakeStep, TakeValue, Taken, faulty, given_by, no_json, property_named, value, whole_of}
 use Rattle.pm_object.proofs.Names.{names_held}

@@ -1,13 +1,12 @@
 -- From what the functions of a round do to traces of events.
 use Rattle.pm_client.specs.Starts.{Clients, after_start}
-use Rattle.pm_geom.specs.Evidence.{evidence_number}
 use Rattle.pm_machine.proofs.BestRules.{one_weighs}
 use Rattle.pm_machine.proofs.Traces.{reaches_by, reaches_itself, reaches_through}
 use Rattle.pm_machine.specs.Best.{cost_of}
 use Rattle.pm_machine.specs.Chains.{AllHeld, AreBarred, IsLeastByOne, held_names, place_of_rule, some_wrong, still_missing, table}
-use Rattle.pm_machine.specs.Events.{Ending, Ensured, EnsuredInPart, EndsIn, NoneLeads, Phase, Configuration, Reaches, ReachesInPart, after_event, at_rest, begun, committed, configuration, excluded, found, no_chain, over, running, settled, started, turn, unsettled, written}
+use Rattle.pm_machine.specs.Events.{Ensured, EnsuredInPart, NoneLeads, Phase, Configuration, Reaches, ReachesInPart, after_event, at_rest, begun, committed, configuration, excluded, found, no_chain, over, running, settled, started, turn, unsettled, written}
 use Rattle.pm_machine.specs.Running.{BrokenOff, NoRound, RoundOf, RunsRule}
-use Rattle.pm_object.specs.State.{RoundSeen, State, read_at, settling, with_held, with_round}
+use Rattle.pm_object.specs.State.{State, read_at, settling, with_held, with_round}
 use Rattle.pm_object.specs.declared.held.Excluded.{Excluded}
 use Rattle.pm_object.specs.declared.held.RoundEnd.{RoundEnd}
 use Rattle.pm_object.specs.declared.held.RoundEnd.TheVariants as end
@@ -17,7 +16,7 @@ use Rattle.pm_rules.specs.declared.rule.Rule.{Rule}
 use Rattle.pm_types.specs.declared.kind.RuleId.{RuleId}
 use Rattle.pm_types.specs.declared.set.PropSet.{PropSet}
 use Rattle.pm_types.specs.declared.weight.Cost.{Cost}
-use Rattle.std.proofs.Common.{ap, false, inl, inr, refl, subst, sym, ◌∙◌}
+use Rattle.std.proofs.Common.{ap, false, inl, inr, refl, subst, sym}
 use Rattle.std.specs.Prelude.{Err, List, Ok, OnErr, Option, Result, Some, [], ℕ, ◌∷◌, ◌≡◌}
 
 -- ---- a round of one rule

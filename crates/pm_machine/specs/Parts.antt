@@ -1,7 +1,7 @@
 -- What stands where memory ran out in a command: a first part of its events, maybe none or all.
-use Rattle.std.specs.Prelude.{◌≡◌, ◌⊎◌, List, ℕ, None, Option, Some, IfSome}
+use Rattle.std.specs.Prelude.{◌≡◌, ◌⊎◌, List, ℕ, None, Some, IfSome}
 use Rattle.pm_machine.specs.Events.{Configuration, EnsuredInPart, configuration}
-use Rattle.pm_machine.specs.Steps.{AllKept, Becomes, Machine, Stays, object_at, property_named}
+use Rattle.pm_machine.specs.Steps.{Becomes, Machine, Stays, object_at, property_named}
 use Rattle.pm_object.specs.Honest.{IsHonest}
 use Rattle.pm_object.specs.State.{State}
 use Rattle.pm_rules.specs.declared.rule.Rule.{Rule}

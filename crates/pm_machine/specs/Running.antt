@@ -2,7 +2,7 @@
 use Rattle.std.specs.Prelude.{ℕ, suc, ◌+◌, ◌++◌, ◌≡◌, ◌⊎◌, ◌&&◌, Bool, true, false, Option, Some, List, [], ◌∷◌, if◌then◌else◌, nat_eq}
 use Rattle.std.specs.List.{list_any}
 use Rattle.pm_client.specs.Sound.{HoldsOf}
-use Rattle.pm_client.specs.Starts.{Clients, after_start}
+use Rattle.pm_client.specs.Starts.{Clients}
 use Rattle.pm_geom.specs.Evidence.{evidence_number}
 use Rattle.pm_geom.specs.declared.evidence.Evidence.{Evidence}
 use Rattle.pm_machine.specs.Best.{cost_of}

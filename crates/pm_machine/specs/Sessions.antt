@@ -4,10 +4,10 @@ use Rattle.std.specs.HashMap.{get_by_text}
 use Rattle.std.specs.Option.{option_map}
 use Rattle.std.specs.Prelude.{ℕ, ◌≡◌, Bool, None, Some, List, [], map, string_bytes}
 use Rattle.pm_client.specs.Starts.{Clients}
-use Rattle.pm_machine.specs.Events.{Configuration, Ensured, configuration, found, no_chain}
+use Rattle.pm_machine.specs.Events.{Configuration, Ensured, found, no_chain}
 use Rattle.pm_machine.specs.Steps.{Machine, Store}
 use Rattle.pm_machine.specs.declared.session.Session.{Session}
-use Rattle.pm_object.specs.State.{State, read_at, value_of}
+use Rattle.pm_object.specs.State.{read_at, value_of}
 use Rattle.pm_rules.specs.declared.rule.Rule.{Rule}
 use Rattle.pm_script.specs.Replies.{ReplySeen, refused, shows}
 use Rattle.pm_script.specs.declared.refusal.Refusal.TheVariants.{NoChain}

@@ -1,6 +1,5 @@
 -- What an outcome over the lines gives for a whole run.
-use Rattle.std.proofs.Common.{ap, inl, inr, refl, subst, sym, ◌∙◌, ◌≡◌, ◌≢◌, ◌⊎◌, ℕ, Bool, true, false, IfSome, List, [], ◌∷◌, ◌++◌, Option, Some, None, Result, Ok, Err, OnErr, IfOk, length}
-use Rattle.std.specs.Prelude.{◌<◌, ◌≤◌}
+use Rattle.std.proofs.Common.{inl, inr, refl, subst, sym, ◌≡◌, ◌⊎◌, ℕ, Bool, true, false, IfSome, List, [], ◌∷◌, ◌++◌, Option, Some, None, Result, Ok, Err, OnErr, IfOk}
 use Rattle.pm_client.specs.Starts.{Clients}
 use Rattle.pm_machine.proofs.Kept.{all_honest, stays_honest, steps_in_part_keep}
 use Rattle.pm_machine.specs.Parts.{AllHonest, StepInPart}
@@ -11,14 +10,12 @@ use Rattle.pm_rules.specs.declared.rule.Rule.{Rule}
 use Rattle.pm_script.specs.Commands.{Spoken}
 use Rattle.pm_script.specs.Lines.{Line, lines_of}
 use Rattle.pm_script.specs.Replies.{ReplySeen, is_refusal, reply_text}
-use Rattle.pm_shell.proofs.Runs.{Gains-none, kept_run, kept_start}
+use Rattle.pm_shell.proofs.Runs.{Gains-none, kept_run}
 use Rattle.pm_shell.proofs.Shown.{kept_to}
-use Rattle.pm_shell.specs.Ends.{AnsweredAll, AnswersOne, DidNotRun, Ended, FromNoObjects, HasOutcome, InHand, IsUnrun, NextInHand, Ran, WasRead, World, most_bytes, status_of}
+use Rattle.pm_shell.specs.Ends.{AnswersOne, Ended, FromNoObjects, HasOutcome, InHand, NextInHand, Ran, World, status_of}
 use Rattle.pm_shell.specs.Run.{Answers, Starts, command_at}
 use Rattle.pm_shell.specs.declared.run.RunFail.{RunFail}
 use Rattle.pm_shell.specs.declared.run.RunFail.TheVariants as why
-use Rattle.pm_shell.specs.declared.run.Status.{Status}
-use Rattle.pm_shell.specs.declared.run.Status.TheVariants as status
 use Rattle.pm_store.specs.Outside.{Gains}
 
 -- ---- at its end every object is honest

@@ -1,5 +1,5 @@
 -- Runs go on line by line, keep every object honest, and show right values.
-use Rattle.std.proofs.Common.{ap, refl, subst, sym, ◌∙◌, ◌≡◌, ◌||◌, ◌⊎◌, ℕ, Bool, true, false, List, [], ◌∷◌, ◌++◌, Option, Some, None, Result, Err, append_assoc, append-nil}
+use Rattle.std.proofs.Common.{ap, refl, subst, sym, ◌∙◌, ◌≡◌, ◌||◌, ◌⊎◌, ℕ, Bool, true, false, List, [], ◌∷◌, ◌++◌, Option, Some, None, Err, append_assoc, append-nil}
 use Rattle.pm_client.specs.Starts.{Clients}
 use Rattle.pm_machine.specs.Steps.{AllKept, Machine, Stays}
 use Rattle.pm_rules.specs.declared.rule.Rule.{Rule}

@@ -1,9 +1,8 @@
 -- A value that is shown stands in an honest object.
 use Rattle.std.proofs.Common.{ap, subst, sym, refl, ◌∙◌, ◌≡◌, ℕ, IfSome, List, [], ◌∷◌, Option, Some, None}
-use Rattle.pm_client.specs.Starts.{Clients}
 use Rattle.pm_geom.specs.declared.ObjectType.{ObjectType}
 use Rattle.pm_machine.proofs.Kept.{steps_keep}
-use Rattle.pm_machine.specs.Events.{Configuration, Ending, Ensured, Event, after_event, after_events, begun, committed, configuration, excluded, found, no_chain, settled, started, written}
+use Rattle.pm_machine.specs.Events.{Configuration, Ending, Ensured, Event, after_event, after_events, begun, committed, configuration, excluded, found, settled, started, written}
 use Rattle.pm_machine.specs.Steps.{AllKept, Machine, Step, whole_of}
 use Rattle.pm_object.specs.Honest.{IsKept}
 use Rattle.pm_object.specs.State.{State, read_at, value_of}

@@ -8,7 +8,6 @@ use Rattle.pm_script.specs.Commands.{Spoken}
 use Rattle.pm_script.specs.Lines.{Line, lines_of}
 use Rattle.pm_script.specs.Replies.{ReplySeen, reply_text}
 use Rattle.pm_shell.specs.Run.{Answers, Run, Starts, any_refused, command_at, is_refused, replies_text, text_if}
-use Rattle.pm_shell.specs.Shown.{Shows}
 use Rattle.pm_shell.specs.declared.run.RunFail.{RunFail}
 use Rattle.pm_shell.specs.declared.run.RunFail.TheVariants as why
 use Rattle.pm_shell.specs.declared.run.Status.{Status}

@@ -1,10 +1,8 @@
 -- A round of one rule; where it is broken off nothing is asked of it.
 use Rattle.std.proofs.lemmas.Result.{err_from_is_err_and}
-use Rattle.std.proofs.Common.{inl, inr, subst}
+use Rattle.std.proofs.Common.{inl, inr}
 use Rattle.pm_machine.proofs.Names.{on_err_of}
 use Rattle.pm_machine.proofs.Running.{runs_hold}
-use Rattle.pm_machine.specs.Running.{RunsRule}
-use Rattle.pm_object.specs.State.{State}
 use Rattle.pm_types.specs.declared.property.PropId.TheVariants.{ConeAmbientDim}
 use Rattle.pm_machine.proofs.round.start_round.Goals as goal
 

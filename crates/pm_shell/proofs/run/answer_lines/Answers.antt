@@ -2,7 +2,7 @@ use Rattle.std.proofs.Common.{ap, arith, refl, ◌∙◌}
 use Rattle.std.proofs.lemmas.Result.{err_from_is_err_and}
 use Rattle.pm_machine.specs.Sessions.{book_of}
 use Rattle.pm_script.specs.Lines.{lines_of}
-use Rattle.pm_shell.proofs.Runs.{so_far_fails, so_far_next, so_far_start, so_far_whole}
+use Rattle.pm_shell.proofs.Runs.{so_far_fails, so_far_next, so_far_start}
 use Rattle.pm_shell.proofs.run.answer_lines.Goals as goal
 
 pub loop-rest-init : goal.loop-rest-init

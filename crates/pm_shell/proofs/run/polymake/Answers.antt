@@ -1,1 +1,0 @@
-use Rattle.pm_shell.proofs.run.polymake.Goals as goal

@@ -2,7 +2,7 @@ use Rattle.std.proofs.Common.{◌∙◌}
 use Rattle.std.proofs.lemmas.Result.{err_from_is_err_and}
 use Rattle.pm_rules.specs.Books.{standard_rules}
 use Rattle.pm_script.specs.Lines.{lines_of}
-use Rattle.pm_shell.proofs.Outcomes.{came, came_not, new_kept}
+use Rattle.pm_shell.proofs.Outcomes.{came, came_not}
 use Rattle.pm_shell.proofs.run.run_script.Goals as goal
 
 pub returns-clause-outcome : goal.returns-clause-outcome
