@@ -19,3 +19,5 @@ pub mod TameLaws
 pub mod MixedLaws
 pub mod Outcomes
 pub mod LeadingLaws
+pub mod ZeroRows
+pub mod Examples

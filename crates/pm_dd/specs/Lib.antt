@@ -10,3 +10,4 @@ pub mod Refusals
 pub mod Arrangement
 pub mod Tame
 pub mod Mixed
+pub mod Examples

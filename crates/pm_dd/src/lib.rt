@@ -2,6 +2,7 @@
 #![tactic(auto)]
 
 ghost use Rattle.pm_dd.specs.Description.{DualIsOrder, ExtremeIsMaximal, NextIsOrder, StepIsComplete};
+ghost use Rattle.pm_dd.specs.Examples.{QuadrantIsRead};
 ghost use Rattle.pm_dd.specs.Fronts.{DdStep, DualWithEquations, NextWithEquations, SignsCutOut, StepWithEquations};
 ghost use Rattle.pm_dd.specs.Stated.{AdjacentInAll, StatedOrderSpans, StepFailShows};
 ghost use Rattle.pm_dd.specs.Filters.{AdjacentNeedRank, FewHaveThird};
@@ -118,4 +119,9 @@ pub fn law_adjacent_in_all()
 /// The refusal of a step at a front of the stated order, whose rays are canonical, is evidence on the list.
 pub fn law_step_fail_shows()
     ensures { StepFailShows }
+{}
+
+/// The definitions read on the quadrant, on a list with a row that does not enlarge the span, and on a list in two orders.
+pub fn example_quadrant()
+    ensures { QuadrantIsRead }
 {}

@@ -4,20 +4,19 @@ use Rattle.std.specs.List.{Any}
 use Rattle.std.proofs.Common.{arith, inl, inr, refl, subst, sym, ◌∙◌}
 use Rattle.std.proofs.lemmas.Int.{by_lt_z, ints}
 use Rattle.std.proofs.lemmas.List.{append_assoc, drop_more, length-append, length-replicate, length-set}
-use Rattle.pm_algebra.specs.Cones.{InCone, InSpan}
-use Rattle.pm_algebra.specs.Rows.{HasCols, IsZero, Row, dot, entry, opposite, times}
-use Rattle.pm_algebra.proofs.ConeLaws.{combination_none, dot_in, in_generator, in_line, in_line_opposite, in_zero}
+use Rattle.pm_algebra.specs.Cones.{InCone}
+use Rattle.pm_algebra.specs.Rows.{HasCols, IsZero, Row, dot, entry, opposite}
+use Rattle.pm_algebra.proofs.ConeLaws.{dot_in, in_generator, in_line, in_line_opposite, in_zero}
 use Rattle.pm_algebra.proofs.Lists.{Any_among, all_append, all_at, all_from, among_All, append_all}
-use Rattle.pm_algebra.proofs.RowLaws.{dot-same, dot-times, dot_comm, entry-opposite, entry-plus, entry-times, length-opposite}
-use Rattle.pm_algebra.proofs.Ring.{ring}
-use Rattle.pm_algebra.proofs.Signs.{mul_cancel}
-use Rattle.pm_bases.specs.Bases.{IsEchelonBasis, row_at}
+use Rattle.pm_algebra.proofs.RowLaws.{dot_comm, entry-opposite, length-opposite}
+use Rattle.pm_bases.specs.Bases.{row_at}
 use Rattle.pm_bases.proofs.Rank.{independent_are_few}
 use Rattle.pm_bases.proofs.Columns.{basis_is_independent}
 use Rattle.pm_bases.proofs.Spans.{same_span_sym, span_at, span_to}
 use Rattle.pm_dd.specs.Fronts.{HalfSpaces, both_signs}
 use Rattle.pm_dd.proofs.Fronts.{signs_cut_out}
 use Rattle.pm_dd.proofs.MixedLaws.{generators_as}
+use Rattle.pm_dd.proofs.ZeroRows.{dot_zero, no_basis, zero_of_span}
 use Rattle.pm_elim.specs.Evidence.{IsBasisOf, unit}
 use Rattle.pm_elim.proofs.DotLaws.{dot-unit, null_of_span}
 use Rattle.pm_geom.specs.Cones.{CutOut, InLineality, IsExtreme, IsValid}
@@ -77,17 +76,6 @@ module _ (n : ℕ) (G L : List Row) (hG : HasCols n G) (hL : HasCols n L) where
 
   pub facets_of : {F H : List Row} → AreGenerators n (HalfSpaces L G) F H → AreGenerators n (IsValid n G L) F H
   facets_of g = generators_as n (HalfSpaces L G) (IsValid n G L) valid_of valid_to g
-
--- ---- the zero row
-dot_zero : (b x : Row) → IsZero x → dot b x ≡ pos 0
-dot_zero b x z = dot-same b x (times (pos 0) x) (λ i. let q = z i in simp (entry-times, q, ring)) ∙ dot-times b (pos 0) x ∙ simp ring
-
-no_basis : (n : ℕ) → IsEchelonBasis n [] []
-no_basis n = record {
-  basis = record { cols = tt; as_many = refl; positive = λ i l. absurd (omega arith); reduced = λ i j l m ne. absurd (omega arith); primitive = λ i l. absurd (omega arith) };
-  ascending = λ i j l m. absurd (omega arith);
-  before = λ i c l m. absurd (omega arith);
-}
 
 -- ---- the cone over a polytope
 pub unit-dot : (n : ℕ) (x : Row) → length x ≡ n → dot (unit n 0) x ≡ entry x 0
@@ -149,9 +137,6 @@ module _ (n : ℕ) (A E : List Row) where
         let o = opposite-dot (unit n 0) p.point in
         let q = p.positive in
         omega (arith, ints)
-
-    zero_of_span : (x : Row) → InSpan [] x → IsZero x
-    zero_of_span x h i = let a = combination_none h.c i in let b = combination_none h.d i in mul_cancel h.positive (simp (entry-times, entry-plus, a, b) at (h.same.at i) ∙ simp ring)
 
     -- the cone is {0}, which has no ray and no line
     pub empty_generators : ¬ (HasPoint n A E) → AreGenerators n (InPolytopeCone n A E) [] []

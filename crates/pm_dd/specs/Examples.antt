@@ -1,0 +1,31 @@
+-- The definitions read on the quadrant x >= 0, y >= 0 and on small lists: what holds of them, and what does not.
+use Rattle.std.specs.Prelude.{[], ◌∷◌, List}
+use Rattle.pm_algebra.specs.Rows.{Row}
+use Rattle.pm_bases.specs.Examples.{pair}
+use Rattle.pm_geom.specs.Cones.{CutOut}
+use Rattle.pm_geom.specs.Generators.{AreGenerators, IsBefore}
+use Rattle.pm_geom.specs.StatedOrder.{IsStatedOrder}
+use Rattle.pm_dd.specs.Mixed.{HaveSameRows}
+
+-- the rows y >= 0 and x >= 0
+abbrev pub quadrant : List Row
+quadrant = pair 0 1 ∷ pair 1 0 ∷ []
+
+pub record QuadrantIsRead : Type 0 where
+  -- (0,1) comes before (1,0), not after it, and no row before itself
+  pub before : IsBefore (pair 0 1) (pair 1 0)
+  pub not_before : ¬ (IsBefore (pair 1 0) (pair 0 1))
+  pub not_itself : ¬ (IsBefore (pair 1 0) (pair 1 0))
+  -- the extreme rays are (0,1) and (1,0), and there is no line
+  pub generators : AreGenerators 2 (CutOut quadrant) (pair 0 1 ∷ pair 1 0 ∷ []) []
+  -- not in descending order, not with a row that is not primitive, not with one ray alone, and not with a line
+  pub descending : ¬ (AreGenerators 2 (CutOut quadrant) (pair 1 0 ∷ pair 0 1 ∷ []) [])
+  pub doubled : ¬ (AreGenerators 2 (CutOut quadrant) (pair 0 2 ∷ pair 1 0 ∷ []) [])
+  pub one_ray : ¬ (AreGenerators 2 (CutOut quadrant) (pair 0 1 ∷ []) [])
+  pub with_line : ¬ (AreGenerators 2 (CutOut quadrant) (pair 0 1 ∷ pair 1 0 ∷ []) (pair 1 0 ∷ []))
+  -- of (1,0), (2,0), (0,1) the second does not enlarge the span, so it comes last
+  pub stated : IsStatedOrder (pair 1 0 ∷ pair 2 0 ∷ pair 0 1 ∷ []) (pair 1 0 ∷ pair 0 1 ∷ pair 2 0 ∷ [])
+  pub not_stated : ¬ (IsStatedOrder (pair 1 0 ∷ pair 2 0 ∷ pair 0 1 ∷ []) (pair 1 0 ∷ pair 2 0 ∷ pair 0 1 ∷ []))
+  -- another order has the same rows, and a list without one of them has not
+  pub turned : HaveSameRows (pair 0 1 ∷ pair 1 0 ∷ []) (pair 1 0 ∷ pair 0 1 ∷ [])
+  pub one_less : ¬ (HaveSameRows (pair 0 1 ∷ pair 1 0 ∷ []) (pair 1 0 ∷ []))
