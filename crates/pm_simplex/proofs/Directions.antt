@@ -7,11 +7,11 @@ use Rattle.pm_algebra.specs.Rows.{Row, dot, entry, ratio_at, times}
 use Rattle.pm_bases.specs.Bases.{column, row_at}
 use Rattle.pm_fraction.specs.Fractions.{ratio_of}
 use Rattle.pm_simplex.proofs.KeyColumns.{length_upward, upward_at}
+use Rattle.pm_simplex.proofs.Points.{all_places, append_left, append_right, slack_is_signed}
 use Rattle.pm_simplex.proofs.Readings.{objective_reading, residual_reading, slack_reading}
 use Rattle.pm_simplex.proofs.Solutions.{at_basic, at_own, column_solves, positive_at, sorted, value_at, length_is}
 use Rattle.pm_simplex.specs.Comparisons.{IsApart, direction, rows_of}
 use Rattle.pm_programs.specs.Dictionaries.{at}
-use Rattle.pm_programs.specs.Lex.{IsLexPositive, keys}
 use Rattle.pm_simplex.specs.ProgramLaws.{IsSystem}
 use Rattle.pm_geom.specs.Programs.{HasValue, IsDirection, IsTimes, Solves}
 use Rattle.pm_simplex.specs.Running.{IsFreeColumn, IsSlackColumn, IsState, IsUnboundedAt}
@@ -20,34 +20,12 @@ use Rattle.pm_simplex.specs.States.{auxiliary, columns_of, is_signed, objective_
 use Rattle.pm_simplex.specs.declared.dictionary.Dictionary.{Dictionary}
 use Rattle.pm_simplex.specs.declared.entering.Entering.{Entering}
 use Rattle.pm_simplex.specs.declared.layout.Layout.{Layout}
-use Rattle.std.proofs.Common.{ap, arith, inl, inr, refl, subst, sym, take, ◌∙◌}
-use Rattle.std.proofs.lemmas.Grind.{common_steps}
+use Rattle.std.proofs.Common.{ap, arith, inl, inr, subst, sym, take, ◌∙◌}
 use Rattle.std.proofs.lemmas.Int.{by_lt_z, ints}
 use Rattle.std.proofs.lemmas.List.{get_or-map, get_or-take, length-append, length-map, length-take-le}
-use Rattle.std.specs.List.{AllByRecursion}
-use Rattle.std.specs.Prelude.{Bool, IsTrue, List, [], length, suc, true, zero, ℕ, ◌+◌, ◌++◌, ◌<◌, ◌∷◌, ◌≡◌, ◌≤◌, ◌⊎◌}
-use lib.IntN.{neg_ℤ, pos, ℤ, ◌*ℤ◌, ◌-ℤ◌}
+use Rattle.std.specs.Prelude.{Bool, IsTrue, List, [], length, true, ℕ, ◌+◌, ◌++◌, ◌<◌, ◌∷◌, ◌≡◌, ◌≤◌, ◌⊎◌}
+use lib.IntN.{pos, ℤ, ◌*ℤ◌, ◌-ℤ◌}
 use lib.Signed.{◌<ℤ◌, ◌≤ℤ◌}
-
-all_places : (P : Row → Type 0) (X : List Row) → ((i : ℕ) → i < length X → P (row_at X i)) → AllByRecursion P X
-all_places P [] f = tt
-all_places P (x ∷ X) f = (f 0 (omega arith), all_places P X (λ i l. f (suc i) (omega arith)))
-
-append_left : (X Y : List Row) (i : ℕ) → i < length X → row_at (X ++ Y) i ≡ row_at X i
-append_left [] Y i l = absurd (omega arith)
-append_left (x ∷ X) Y zero l = refl
-append_left (x ∷ X) Y (suc i) l = append_left X Y i (omega arith)
-
-append_right : (X Y : List Row) (i : ℕ) → row_at (X ++ Y) (length X + i) ≡ row_at Y i
-append_right [] Y i = ap (row_at Y) (omega arith)
-append_right (x ∷ X) Y i = ap (row_at ((x ∷ X) ++ Y)) (let e : suc (length X) + i ≡ suc (length X + i) = omega arith in e) ∙ append_right X Y i
-
-slack_is_signed : (y : Layout) (i : ℕ) → i < y.slacks → IsTrue (is_signed y (y.cols + i))
-slack_is_signed y i l = let a : y.cols ≤ y.cols + i = omega arith in let b : y.cols + i < y.cols + y.slacks = omega arith in grind (arith, common_steps)
-
-first_up : (K : List ℕ) (x : Row) → IsLexPositive (keys (0 ∷ K) x) → pos 0 ≤ℤ neg_ℤ (entry x 0)
-first_up K x (inl h) = omega (arith, ints)
-first_up K x (inr h) = let e = h.0 in omega (arith, ints)
 
 later_place : (y : Layout) (c : ℕ) (up : Bool) → (IsFreeColumn y c ⊎ (IsSlackColumn y c × (up ≡ true))) → 0 < c
 later_place y c up (inl f) = f.0

@@ -30,19 +30,19 @@ pub all_places : (P : Row → Type 0) (X : List Row) → ((i : ℕ) → i < leng
 all_places P [] f = tt
 all_places P (x ∷ X) f = (f 0 (omega arith), all_places P X (λ i l. f (suc i) (omega arith)))
 
-append_left : (X Y : List Row) (i : ℕ) → i < length X → row_at (X ++ Y) i ≡ row_at X i
+pub append_left : (X Y : List Row) (i : ℕ) → i < length X → row_at (X ++ Y) i ≡ row_at X i
 append_left [] Y i l = absurd (omega arith)
 append_left (x ∷ X) Y zero l = refl
 append_left (x ∷ X) Y (suc i) l = append_left X Y i (omega arith)
 
-append_right : (X Y : List Row) (i : ℕ) → row_at (X ++ Y) (length X + i) ≡ row_at Y i
+pub append_right : (X Y : List Row) (i : ℕ) → row_at (X ++ Y) (length X + i) ≡ row_at Y i
 append_right [] Y i = ap (row_at Y) (omega arith)
 append_right (x ∷ X) Y i = ap (row_at ((x ∷ X) ++ Y)) (let e : suc (length X) + i ≡ suc (length X + i) = omega arith in e) ∙ append_right X Y i
 
-slack_is_signed : (y : Layout) (i : ℕ) → i < y.slacks → IsTrue (is_signed y (y.cols + i))
+pub slack_is_signed : (y : Layout) (i : ℕ) → i < y.slacks → IsTrue (is_signed y (y.cols + i))
 slack_is_signed y i l = let a : y.cols ≤ y.cols + i = omega arith in let b : y.cols + i < y.cols + y.slacks = omega arith in grind (arith, common_steps)
 
-first_up : (K : List ℕ) (x : Row) → IsLexPositive (keys (0 ∷ K) x) → pos 0 ≤ℤ neg_ℤ (entry x 0)
+pub first_up : (K : List ℕ) (x : Row) → IsLexPositive (keys (0 ∷ K) x) → pos 0 ≤ℤ neg_ℤ (entry x 0)
 first_up K x (inl h) = omega (arith, ints)
 first_up K x (inr h) = let e = h.0 in omega (arith, ints)
 
