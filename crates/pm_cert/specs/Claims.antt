@@ -2,11 +2,11 @@
 --     Holds book names barred held asked claim      the claim is true of all chains, also of those with rules that are not useful
 --     GoesOn rows claim step weight row      where the step can be made from a row within the claim, it leads out of the claim or to a row that costs no more
 use Rattle.std.specs.Prelude.{List, ◌⊎◌}
-use Rattle.pm_types.specs.declared.set.PropSet.{PropSet}
-use Rattle.pm_types.specs.declared.kind.RuleId.{RuleId}
-use Rattle.pm_types.specs.declared.weight.Weight.{Weight}
-use Rattle.pm_types.specs.Sets.{union}
-use Rattle.pm_types.specs.Weights.{plus, IsAtMost}
+use Rattle.pm_props.specs.declared.set.PropSet.{PropSet}
+use Rattle.pm_props.specs.declared.kind.RuleId.{RuleId}
+use Rattle.pm_props.specs.declared.weight.Weight.{Weight}
+use Rattle.pm_props.specs.Sets.{union}
+use Rattle.pm_props.specs.Weights.{plus, IsAtMost}
 use Rattle.pm_rules.specs.declared.rule.Rule.{Rule}
 use Rattle.pm_rules.specs.declared.step.Step.{Step}
 use Rattle.pm_rules.specs.declared.table.TableRow.{TableRow}

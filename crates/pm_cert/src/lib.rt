@@ -2,8 +2,8 @@
 #![tactic(auto)]
 
 ghost use Rattle.std.specs.Prelude.{◌≡◌, ◌≤◌, ◌↔◌, IsTrue, Some, length, All, Contains};
-ghost use Rattle.pm_types.specs.Sets.{IsSubset};
-ghost use Rattle.pm_types.specs.Weights.{no_cost, plus, IsAtMost};
+ghost use Rattle.pm_props.specs.Sets.{IsSubset};
+ghost use Rattle.pm_props.specs.Weights.{no_cost, plus, IsAtMost};
 ghost use Rattle.pm_rules.specs.Rules.{rule_at};
 ghost use Rattle.pm_rules.specs.Books.{most_rules};
 ghost use Rattle.pm_rules.specs.Steps.{IsOpen, step_of};

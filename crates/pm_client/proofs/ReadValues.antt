@@ -3,14 +3,15 @@ use Rattle.pm_algebra.proofs.Lists.{Among, Contains_among, here, there}
 use Rattle.pm_algebra.specs.Numbers.{Ratio}
 use Rattle.pm_algebra.specs.Rows.{Row}
 use Rattle.pm_matrix.specs.FractionRows.{ArePrimitiveRowsOf}
-use Rattle.pm_geom.specs.Things.{Orders, Thing}
+use Rattle.pm_geom.specs.Things.{Orders}
+use Rattle.pm_types.specs.Things.{Thing}
 use Rattle.pm_object.specs.Reading.{fact_of}
-use Rattle.pm_types.proofs.Kept.{same_property_is}
+use Rattle.pm_props.proofs.Places.{same_property_is}
 use Rattle.pm_types.specs.Forms.{is_column_count, is_matrix_form, is_row_of_entries}
 use Rattle.pm_types.specs.Right.{Right, RightAll, objective_of}
-use Rattle.pm_types.specs.Runs.{same_property}
+use Rattle.pm_props.specs.Places.{same_property}
 use Rattle.pm_types.specs.Values.{Fact, PropertyValue}
-use Rattle.pm_types.specs.declared.property.PropId.{PropId}
+use Rattle.pm_props.specs.declared.property.PropId.{PropId}
 use Rattle.std.proofs.Common.{ap, arith, false, get_or, refl, subst, suc, sym, true, true≢false, zero, ◌∙◌}
 use Rattle.std.proofs.lemmas.Bool.{and_parts, eqb-true, leb-true}
 use Rattle.std.proofs.lemmas.List.{get_or_default}

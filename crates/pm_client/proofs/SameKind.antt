@@ -1,6 +1,6 @@
 -- Kinds are the same exactly where their names and sets are.
 use Rattle.pm_client.specs.Starts.{same_kind}
-use Rattle.pm_types.specs.declared.kind.Kind.{Kind}
+use Rattle.pm_props.specs.declared.kind.Kind.{Kind}
 use Rattle.std.proofs.Common.{ap, eqb, false, refl, sym, true, true≢false, ◌&&◌, ◌≡◌, ◌≢◌, ◌∙◌}
 use Rattle.std.proofs.lemmas.Bool.{and_parts, eq-eqb, eqb-true}
 use Rattle.std.proofs.lemmas.Slice.Eq.{bytes_eq-Decides}

@@ -1,7 +1,7 @@
 -- The first client of a kind, found place by place, and a client that was started once more.
 use Rattle.pm_client.proofs.SameKind.{same_kind_apart, same_kind_refl}
 use Rattle.pm_client.specs.Starts.{kind_at, next_count, place_in, same_kind, started_at, started_once}
-use Rattle.pm_types.specs.declared.kind.Kind.{Kind}
+use Rattle.pm_props.specs.declared.kind.Kind.{Kind}
 use Rattle.std.proofs.Common.{ap, arith, drop, get_or, length, refl, sym, true, ◌∙◌, ◌≢◌}
 use Rattle.std.proofs.Math.ListN.{set}
 use Rattle.std.specs.Prelude.{List, Some, [], map, suc, zero, ℕ, ◌+◌, ◌<◌, ◌∷◌, ◌≡◌}

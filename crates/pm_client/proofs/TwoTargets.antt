@@ -2,18 +2,20 @@
 use Rattle.pm_algebra.proofs.Lists.{All_among, Among, Contains_among, among_Contains, among_append, here, there}
 use Rattle.pm_client.proofs.OneTarget.{fact_of}
 use Rattle.pm_client.specs.Sound.{IsSound}
-use Rattle.pm_geom.specs.Things.{Orders, Thing}
+use Rattle.pm_geom.specs.Things.{Orders}
+use Rattle.pm_types.specs.Things.{Thing}
 use Rattle.pm_object.specs.Reading.{DraftSeen, ViewSeen, answer_at, answer_of}
-use Rattle.pm_types.proofs.Kept.{same_property_refl}
+use Rattle.pm_props.proofs.Places.{same_property_refl}
 use Rattle.pm_types.specs.Canonical.{IsCanonical}
 use Rattle.pm_types.specs.Forms.{FormsIn}
 use Rattle.pm_types.specs.Right.{Right, RightAll, RightFact, RightPair, RightTogether, objective_of}
-use Rattle.pm_types.specs.Runs.{MayAnswer, place_of, same_property, states_rows}
-use Rattle.pm_types.specs.Sets.{members}
+use Rattle.pm_types.specs.Runs.{MayAnswer, states_rows}
+use Rattle.pm_props.specs.Places.{place_of, same_property}
+use Rattle.pm_props.specs.Sets.{members}
 use Rattle.pm_types.specs.Values.{Fact, PropertyValue, matrix}
-use Rattle.pm_types.specs.declared.kind.Kind.{Kind}
-use Rattle.pm_types.specs.declared.property.PropId.{PropId}
-use Rattle.pm_types.specs.declared.property.PropId.TheVariants.{Inequalities, Points}
+use Rattle.pm_props.specs.declared.kind.Kind.{Kind}
+use Rattle.pm_props.specs.declared.property.PropId.{PropId}
+use Rattle.pm_props.specs.declared.property.PropId.TheVariants.{Inequalities, Points}
 use Rattle.std.proofs.Common.{ap, false, inl, inr, refl, subst, sym, ◌∙◌}
 use Rattle.std.specs.List.{All, Contains}
 use Rattle.std.specs.Prelude.{IsTrue, List, Option, [], ℕ, ◌++◌, ◌∷◌, ◌≡◌, ◌⊎◌}

@@ -24,16 +24,16 @@ use Rattle.pm_elim.specs.Evidence.{IsEvidence, unit}
 use Rattle.pm_elim.specs.declared.evidence.ElimFail.{ElimFail}
 use Rattle.pm_elim.specs.declared.evidence.ElimFail.TheVariants as elimination
 use Rattle.pm_geom.specs.Evidence.{IsWideProduct}
-use Rattle.pm_geom.specs.declared.ObjectType.{ObjectType}
-use Rattle.pm_geom.specs.declared.ObjectType.TheVariants.{Polytope}
+use Rattle.pm_props.specs.declared.object_type.ObjectType.{ObjectType}
+use Rattle.pm_props.specs.declared.object_type.ObjectType.TheVariants.{Polytope}
 use Rattle.pm_geom.specs.declared.evidence.Evidence.{Evidence}
 use Rattle.pm_geom.specs.declared.evidence.Evidence.TheVariants.{E1, E4}
 use Rattle.pm_matrix.specs.FractionRows.{ArePrimitiveRowsOf, IsPositiveMultipleOf}
 use Rattle.pm_object.specs.Reading.{DraftSeen, ViewSeen, answer_of, fact_of}
 use Rattle.pm_types.specs.Runs.{MayAnswer}
 use Rattle.pm_types.specs.Values.{Fact, matrix}
-use Rattle.pm_types.specs.declared.property.PropId.{PropId}
-use Rattle.pm_types.specs.declared.property.PropId.TheVariants.{Points, InputLineality, Inequalities, Equations, Vertices, LinealitySpace, Facets, AffineHull}
+use Rattle.pm_props.specs.declared.property.PropId.{PropId}
+use Rattle.pm_props.specs.declared.property.PropId.TheVariants.{Points, InputLineality, Inequalities, Equations, Vertices, LinealitySpace, Facets, AffineHull}
 use Rattle.pm_client.specs.declared.ClientFail.{ClientFail}
 use Rattle.pm_client.specs.declared.ClientFail.TheVariants.{Memory, Failed}
 

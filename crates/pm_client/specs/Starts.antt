@@ -10,7 +10,7 @@
 use Rattle.std.specs.Prelude.{ℕ, zero, suc, ◌+◌, ◌-◌, ◌^◌, ◌&&◌, min, Bool, nat_eq, if◌then◌else◌, Option, Some, None, List, [], ◌∷◌}
 use Rattle.std.specs.Option.{is_some}
 use Rattle.std.specs.Str.{bytes_eq}
-use Rattle.pm_types.specs.declared.kind.Kind.{Kind}
+use Rattle.pm_props.specs.declared.kind.Kind.{Kind}
 
 abbrev pub Clients : Type 0
 Clients = List (Kind × ℕ)

@@ -62,7 +62,7 @@ impl<T: Drop> From<AllocFailed<T>> for ClientFail {
 
 /// A client: it answers the targets of its kind from the sources, and counts its starts.
 pub trait Client: Drop {
-    ghost use Rattle.pm_types.specs.declared.kind.Kind.{Kind};
+    ghost use Rattle.pm_props.specs.declared.kind.Kind.{Kind};
 
     // Its kind, and how often it was started.
     ghost tally: { Self → Kind × ℕ };

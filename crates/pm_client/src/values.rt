@@ -3,9 +3,10 @@
 ghost use Rattle.pm_client.specs.declared.ClientFail.TheVariants.{Memory};
 ghost use Rattle.pm_matrix.specs.FractionRows.{ArePrimitiveRowsOf};
 ghost use Rattle.pm_object.specs.Reading.{drafted, fact_of};
-ghost use Rattle.pm_types.specs.Forms.{FormsIn, HasPrimitiveRow, is_of_matrices, is_of_whole_numbers};
-ghost use Rattle.pm_types.specs.Properties.{value_kind};
-ghost use Rattle.pm_types.specs.Sets.{has};
+ghost use Rattle.pm_types.specs.Forms.{FormsIn, HasPrimitiveRow};
+ghost use Rattle.pm_props.specs.Properties.{is_of_matrices, is_of_whole_numbers};
+ghost use Rattle.pm_props.specs.Properties.{value_kind};
+ghost use Rattle.pm_props.specs.Sets.{has};
 ghost use Rattle.pm_types.specs.Values.{matrix, whole};
 ghost use Rattle.pm_types.specs.Views.{view_of};
 ghost use Rattle.std.specs.Prelude.{All, IfErr, IfOk, IsTrue, None, OnErr, OnOk, Some, [], length, ◌++◌, ◌∷◌, ◌≡◌, ◌≤◌};

@@ -16,19 +16,19 @@ use Rattle.pm_clients_comb.proofs.Multiples.{incidence_multiples}
 use Rattle.pm_clients_comb.proofs.Products.{stays_turned, zero_stays}
 use Rattle.pm_clients_comb.specs.Incidence.{IsWideFor, incidence}
 use Rattle.pm_object.specs.Reading.{DraftSeen, ViewSeen, fact_of}
-use Rattle.pm_types.proofs.Every.{has-set_of}
-use Rattle.pm_types.proofs.Incidence.{incidence_is_right}
+use Rattle.pm_props.proofs.Every.{has-set_of}
+use Rattle.pm_relations.proofs.Incidence.{incidence_is_right}
 use Rattle.pm_types.proofs.PrimitiveRows.{few_rows}
-use Rattle.pm_types.proofs.PrimitiveStanding.{standing}
+use Rattle.pm_relations.proofs.PrimitiveStanding.{standing}
 use Rattle.pm_types.specs.Forms.{FormsIn, HasPrimitiveRow}
-use Rattle.pm_types.specs.Kinds.{incidence_kind}
+use Rattle.pm_props.specs.Kinds.{incidence_kind}
 use Rattle.pm_types.specs.Right.{Right, objective_of}
-use Rattle.pm_types.specs.Runs.{place_of}
-use Rattle.pm_types.specs.Sets.{has, members, only, set_of, union}
+use Rattle.pm_props.specs.Places.{place_of}
+use Rattle.pm_props.specs.Sets.{has, members, only, set_of, union}
 use Rattle.pm_types.specs.Values.{IndexSets, matrix, sets}
-use Rattle.pm_types.specs.declared.kind.Kind.{Kind}
-use Rattle.pm_types.specs.declared.property.PropId.{PropId}
-use Rattle.pm_types.specs.declared.property.PropId.TheVariants.{Facets, Vertices, VerticesInFacets}
+use Rattle.pm_props.specs.declared.kind.Kind.{Kind}
+use Rattle.pm_props.specs.declared.property.PropId.{PropId}
+use Rattle.pm_props.specs.declared.property.PropId.TheVariants.{Facets, Vertices, VerticesInFacets}
 use Rattle.std.proofs.Common.{ap, arith, get_or, inl, inr, refl, subst, sym, ◌∙◌}
 use Rattle.std.proofs.lemmas.List.{get_or_default}
 use Rattle.std.proofs.lemmas.List.Elements.{All-nil, Contains-get_or}

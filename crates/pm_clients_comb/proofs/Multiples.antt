@@ -1,7 +1,7 @@
 -- Incidences of rows are those of positive multiples of them.
 use Rattle.pm_algebra.specs.Rows.{Row}
 use Rattle.pm_geom.specs.Faces.{ray}
-use Rattle.pm_types.proofs.PrimitiveStanding.{AreMultiples, ray_multiple, same_count, vanish_together}
+use Rattle.pm_relations.proofs.PrimitiveStanding.{AreMultiples, ray_multiple, same_count, vanish_together}
 use Rattle.pm_types.specs.Right.{IsIncidence}
 use Rattle.std.proofs.Common.{arith, length, ◌<◌}
 use Rattle.std.specs.Prelude.{List, [], ℕ, ◌∷◌}

@@ -15,7 +15,7 @@ use Rattle.pm_geom.specs.Evidence.{IsWideProduct}
 use Rattle.pm_geom.specs.declared.evidence.Evidence.TheVariants.{E4}
 use Rattle.pm_matrix.specs.FractionRows.{ArePrimitiveRowsOf}
 use Rattle.pm_object.specs.Reading.{ViewSeen}
-use Rattle.pm_types.specs.declared.property.PropId.TheVariants.{Facets, Vertices}
+use Rattle.pm_props.specs.declared.property.PropId.TheVariants.{Facets, Vertices}
 use Rattle.pm_vector.specs.Products.{ProductsStay}
 
 abbrev pub places_from : ℕ → Row → List Row → List ℕ

@@ -3,7 +3,7 @@
 ghost use Rattle.pm_client.specs.Sound.{FailsRightly, IsSound};
 ghost use Rattle.pm_client.specs.Starts.{next_count, started_once};
 ghost use Rattle.pm_clients_comb.specs.Incidence.{StaysInRange};
-ghost use Rattle.pm_types.specs.Kinds.{incidence_kind};
+ghost use Rattle.pm_props.specs.Kinds.{incidence_kind};
 ghost use Rattle.std.specs.Prelude.{IfErr, OnOk, [], ◌<◌, ◌≡◌};
 
 use crate::incidence::incidence;
@@ -41,7 +41,7 @@ impl SetsClient {
 }
 
 impl Client for SetsClient {
-    ghost use Rattle.pm_types.specs.Kinds.{incidence_kind};
+    ghost use Rattle.pm_props.specs.Kinds.{incidence_kind};
 
     ghost tally = { λ c. (incidence_kind, c.starts) };
 

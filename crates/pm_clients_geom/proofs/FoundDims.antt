@@ -11,18 +11,19 @@ use Rattle.pm_clients_geom.proofs.Machine.{bits_below, cast_back, cast_differenc
 use Rattle.pm_clients_geom.proofs.Puts.{Follows, IsPut, combinatorial_dim_sound, cone_dim_sound, few_columns, lineality_dim_sound, named}
 use Rattle.pm_clients_geom.proofs.ViewLaws.{not_fan, target_named}
 use Rattle.pm_clients_geom.specs.Ranks.{IsListRank}
-use Rattle.pm_geom.specs.Things.{Orders, Thing}
-use Rattle.pm_geom.specs.declared.ObjectType.TheVariants.{Cone, Fan, Polytope}
-use Rattle.pm_geom.specs.declared.ObjectType.{ObjectType}
+use Rattle.pm_geom.specs.Things.{Orders}
+use Rattle.pm_types.specs.Things.{Thing}
+use Rattle.pm_props.specs.declared.object_type.ObjectType.TheVariants.{Cone, Fan, Polytope}
+use Rattle.pm_props.specs.declared.object_type.ObjectType.{ObjectType}
 use Rattle.pm_object.specs.Reading.{DraftSeen, IsView, ViewSeen, fact_of}
-use Rattle.pm_types.proofs.Dimensions.{cone_dim_is_found, cone_dim_is_left, lineality_dim_is_found}
+use Rattle.pm_relations.proofs.Dimensions.{cone_dim_is_found, cone_dim_is_left, lineality_dim_is_found}
 use Rattle.pm_types.proofs.PrimitiveRows.{few_rows}
-use Rattle.pm_types.proofs.PrimitiveStanding.{pair_primitive_span, vertices_primitive_span}
+use Rattle.pm_relations.proofs.PrimitiveStanding.{pair_primitive_span, vertices_primitive_span}
 use Rattle.pm_types.specs.Forms.{FormsIn, has_64_bits}
 use Rattle.pm_types.specs.Right.{PairGenerates, RightAll, RightPair, objective_of}
-use Rattle.pm_types.specs.Sets.{has, set_of}
+use Rattle.pm_props.specs.Sets.{has, set_of}
 use Rattle.pm_types.specs.Values.{matrix, whole}
-use Rattle.pm_types.specs.declared.property.PropId.TheVariants.{AffineHull, CombinatorialDim, ConeDim, InputLineality, LinealityDim, LinealitySpace, Points, Vertices}
+use Rattle.pm_props.specs.declared.property.PropId.TheVariants.{AffineHull, CombinatorialDim, ConeDim, InputLineality, LinealityDim, LinealitySpace, Points, Vertices}
 use Rattle.std.proofs.Common.{ap, arith, of_z, refl, subst, sym, to_z, true, w64, ◌∙◌}
 use Rattle.std.proofs.lemmas.Int.{to_z_pos}
 use Rattle.std.specs.Int.{saturate_signed}

@@ -4,11 +4,11 @@ use Rattle.pm_clients_geom.proofs.Machine.{same_bits}
 use Rattle.pm_clients_geom.proofs.Puts.{IsPut, feasible_sound, few_columns, full_dim_sound, pointed_sound}
 use Rattle.pm_client.specs.Sound.{IsSound}
 use Rattle.pm_object.specs.Reading.{DraftSeen, IsView, ViewSeen, fact_of}
-use Rattle.pm_types.proofs.Dimensions.{feasible_is_found, full_dim_is_found, pointed_is_found}
+use Rattle.pm_relations.proofs.Dimensions.{feasible_is_found, full_dim_is_found, pointed_is_found}
 use Rattle.pm_types.specs.Forms.{FormsIn}
 use Rattle.pm_types.specs.Right.{objective_of}
 use Rattle.pm_types.specs.Values.{truth, whole}
-use Rattle.pm_types.specs.declared.property.PropId.TheVariants.{ConeDim, Feasible, FullDim, LinealityDim, Pointed}
+use Rattle.pm_props.specs.declared.property.PropId.TheVariants.{ConeDim, Feasible, FullDim, LinealityDim, Pointed}
 use Rattle.std.proofs.Common.{arith, eqb, of_z, w64}
 use Rattle.std.proofs.lemmas.Bool.Decides.{Decides-not}
 use Rattle.std.specs.Prelude.{Some, not, ℕ, ◌≡◌}

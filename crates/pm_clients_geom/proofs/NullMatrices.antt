@@ -11,23 +11,24 @@ use Rattle.pm_clients_geom.proofs.RowsKinds.{hull_targets, lineality_targets}
 use Rattle.pm_clients_geom.specs.Matrices.{MayBeLines, as_put, cols_over}
 use Rattle.pm_elim.proofs.PrefixLaws.{at_most_columns}
 use Rattle.pm_elim.specs.NullSpaces.{IsNullBasis}
-use Rattle.pm_geom.specs.Things.{Orders, Thing}
-use Rattle.pm_geom.specs.declared.ObjectType.TheVariants.{Cone, Fan, Polytope}
-use Rattle.pm_geom.specs.declared.ObjectType.{ObjectType}
+use Rattle.pm_geom.specs.Things.{Orders}
+use Rattle.pm_types.specs.Things.{Thing}
+use Rattle.pm_props.specs.declared.object_type.ObjectType.TheVariants.{Cone, Fan, Polytope}
+use Rattle.pm_props.specs.declared.object_type.ObjectType.{ObjectType}
 use Rattle.pm_matrix.specs.Matrices.{FractionMatrix}
 use Rattle.pm_object.specs.Reading.{DraftSeen, IsView, ViewSeen}
-use Rattle.pm_types.proofs.Found.{echelon_is_right}
-use Rattle.pm_types.proofs.PrimitiveStanding.{hull_primitive, lineality_primitive}
-use Rattle.pm_types.proofs.WholeRows.{polytope_lineality_first}
+use Rattle.pm_relations.proofs.Found.{echelon_is_right}
+use Rattle.pm_relations.proofs.PrimitiveStanding.{hull_primitive, lineality_primitive}
+use Rattle.pm_relations.proofs.WholeRows.{polytope_lineality_first}
 use Rattle.pm_types.specs.Canonical.{IsCanonical, IsEchelonBasisOf, Vanishing}
-use Rattle.pm_types.specs.Kinds.{standard_kind}
+use Rattle.pm_props.specs.Kinds.{standard_kind}
 use Rattle.pm_types.specs.Right.{InLines, Right, RightAll, objective_of}
-use Rattle.pm_types.specs.Runs.{place_of}
-use Rattle.pm_types.specs.Sets.{members}
+use Rattle.pm_props.specs.Places.{place_of}
+use Rattle.pm_props.specs.Sets.{members}
 use Rattle.pm_types.specs.Values.{matrix}
 use Rattle.pm_types.specs.Views.{ratios}
-use Rattle.pm_types.specs.declared.property.PropId.TheVariants.{AffineHull, Facets, LinealitySpace, Vertices}
-use Rattle.pm_types.specs.declared.standard.StandardClient.TheVariants as client
+use Rattle.pm_props.specs.declared.property.PropId.TheVariants.{AffineHull, Facets, LinealitySpace, Vertices}
+use Rattle.pm_props.specs.declared.standard.StandardClient.TheVariants as client
 use Rattle.std.proofs.Common.{ap, arith, false, inl, inr, refl, subst, sym, true, true≢false, ◌∙◌}
 use Rattle.std.proofs.lemmas.Bool.{leb-true}
 use Rattle.std.proofs.lemmas.List.Elements.{All-nil}

@@ -2,20 +2,22 @@
 use Rattle.pm_algebra.specs.Numbers.{Ratio}
 use Rattle.pm_client.proofs.OneTarget.{IsRightAnswer, sound_put}
 use Rattle.pm_client.specs.Sound.{IsSound}
-use Rattle.pm_geom.specs.Things.{Orders, Thing}
-use Rattle.pm_geom.specs.declared.ObjectType.{ObjectType}
+use Rattle.pm_geom.specs.Things.{Orders}
+use Rattle.pm_types.specs.Things.{Thing}
+use Rattle.pm_props.specs.declared.object_type.ObjectType.{ObjectType}
 use Rattle.pm_matrix.specs.Matrices.{IsFraction}
 use Rattle.pm_object.specs.Reading.{DraftSeen, IsView, ViewSeen}
-use Rattle.pm_types.proofs.Every.{has-set_of}
+use Rattle.pm_props.proofs.Every.{has-set_of}
 use Rattle.pm_types.specs.Canonical.{IsCanonical}
 use Rattle.pm_types.specs.Forms.{FormsIn, HasPrimitiveRow, agrees_with, has_64_bits, is_formed}
-use Rattle.pm_types.specs.Properties.{generators_tag, half_spaces_tag, number}
+use Rattle.pm_props.specs.Properties.{generators_tag, half_spaces_tag, number}
 use Rattle.pm_types.specs.Right.{Right, RightAll, objective_of}
-use Rattle.pm_types.specs.Runs.{place_of, states_rows}
-use Rattle.pm_types.specs.Sets.{has, members, only, set_of, union}
+use Rattle.pm_props.specs.Places.{place_of}
+use Rattle.pm_types.specs.Runs.{states_rows}
+use Rattle.pm_props.specs.Sets.{has, members, only, set_of, union}
 use Rattle.pm_types.specs.Values.{PropertyValue, truth, whole}
-use Rattle.pm_types.specs.declared.property.PropId.TheVariants.{CombinatorialDim, ConeDim, Feasible, FullDim, LinealityDim, Pointed}
-use Rattle.pm_types.specs.declared.property.PropId.{PropId}
+use Rattle.pm_props.specs.declared.property.PropId.TheVariants.{CombinatorialDim, ConeDim, Feasible, FullDim, LinealityDim, Pointed}
+use Rattle.pm_props.specs.declared.property.PropId.{PropId}
 use Rattle.std.proofs.Common.{ap, arith, eqb, false, refl, subst, true, ◌∙◌}
 use Rattle.std.proofs.lemmas.Bool.{leb-true}
 use Rattle.std.proofs.lemmas.List.Elements.{All-nil}

@@ -4,14 +4,15 @@ use Rattle.pm_algebra.specs.Numbers.{Ratio}
 use Rattle.pm_algebra.specs.Rows.{HasCols, Row}
 use Rattle.pm_client.proofs.ReadValues.{all_length, primitive_length}
 use Rattle.pm_client.specs.Sound.{are_parts}
-use Rattle.pm_geom.specs.declared.ObjectType.{ObjectType}
+use Rattle.pm_props.specs.declared.object_type.ObjectType.{ObjectType}
 use Rattle.pm_matrix.specs.FractionRows.{ArePrimitiveRowsOf}
 use Rattle.pm_types.proofs.PrimitiveRows.{few_rows}
-use Rattle.pm_types.specs.Forms.{FormsIn, is_matrix_form, is_of_matrices}
-use Rattle.pm_types.specs.Properties.{value_kind}
+use Rattle.pm_types.specs.Forms.{FormsIn, is_matrix_form}
+use Rattle.pm_props.specs.Properties.{is_of_matrices}
+use Rattle.pm_props.specs.Properties.{value_kind}
 use Rattle.pm_types.specs.Values.{matrix}
-use Rattle.pm_types.specs.declared.property.PropId.TheVariants.{AffineHull, Equations, Facets, Inequalities, InputLineality, LinealitySpace, Points, Vertices}
-use Rattle.pm_types.specs.declared.property.PropId.{PropId}
+use Rattle.pm_props.specs.declared.property.PropId.TheVariants.{AffineHull, Equations, Facets, Inequalities, InputLineality, LinealitySpace, Points, Vertices}
+use Rattle.pm_props.specs.declared.property.PropId.{PropId}
 use Rattle.std.proofs.Common.{ap, arith, refl, subst, sym, true, true≢false, ◌∙◌}
 use Rattle.std.proofs.lemmas.List.{length-append}
 use Rattle.std.specs.Prelude.{IsTrue, List, length, nat_eq, ℕ, ◌++◌, ◌||◌, ◌≡◌, ◌≤◌}

@@ -1,13 +1,13 @@
 -- Sources and targets of the clients that find rows.
-use Rattle.pm_types.proofs.Every.{has-set_of}
-use Rattle.pm_types.specs.Kinds.{standard_kind}
-use Rattle.pm_types.specs.Properties.{number}
-use Rattle.pm_types.specs.Sets.{has, members, only, set_of, union}
-use Rattle.pm_types.specs.declared.kind.Kind.{Kind}
-use Rattle.pm_types.specs.declared.property.PropId.TheVariants.{AffineHull, Equations, Inequalities, InputLineality, LinealitySpace, Points}
-use Rattle.pm_types.specs.declared.property.PropId.{PropId}
-use Rattle.pm_types.specs.declared.standard.StandardClient.TheVariants as client
-use Rattle.pm_types.specs.declared.standard.StandardClient.{StandardClient}
+use Rattle.pm_props.proofs.Every.{has-set_of}
+use Rattle.pm_props.specs.Kinds.{standard_kind}
+use Rattle.pm_props.specs.Properties.{number}
+use Rattle.pm_props.specs.Sets.{has, members, only, set_of, union}
+use Rattle.pm_props.specs.declared.kind.Kind.{Kind}
+use Rattle.pm_props.specs.declared.property.PropId.TheVariants.{AffineHull, Equations, Inequalities, InputLineality, LinealitySpace, Points}
+use Rattle.pm_props.specs.declared.property.PropId.{PropId}
+use Rattle.pm_props.specs.declared.standard.StandardClient.TheVariants as client
+use Rattle.pm_props.specs.declared.standard.StandardClient.{StandardClient}
 use Rattle.std.proofs.Common.{ap, eqb, refl, ◌∙◌}
 use Rattle.std.specs.List.{list_any}
 use Rattle.std.specs.Prelude.{List, [], ◌∷◌, ◌≡◌}

@@ -1,16 +1,16 @@
 -- What is so of a view: it is of no fan where the kind names a property that fans do not have, and it has no fact of a property that it has no value of.
 use Rattle.pm_algebra.proofs.Lists.{Among, among_Contains, here, there}
-use Rattle.pm_geom.specs.declared.ObjectType.TheVariants.{Fan}
+use Rattle.pm_props.specs.declared.object_type.ObjectType.TheVariants.{Fan}
 use Rattle.pm_object.specs.Reading.{IsView, ViewSeen, fact_of}
-use Rattle.pm_types.proofs.Kept.{same_property_refl}
-use Rattle.pm_types.proofs.Members.{has-union}
-use Rattle.pm_types.specs.Kinds.{conditions_of, is_in_use, names_of}
-use Rattle.pm_types.specs.Properties.{has_fan, has_program}
-use Rattle.pm_types.specs.Runs.{same_property}
-use Rattle.pm_types.specs.Sets.{has, union}
+use Rattle.pm_props.proofs.Places.{same_property_refl}
+use Rattle.pm_props.proofs.Members.{has-union}
+use Rattle.pm_props.specs.Kinds.{conditions_of, is_in_use, names_of}
+use Rattle.pm_props.specs.Properties.{has_fan, has_program}
+use Rattle.pm_props.specs.Places.{same_property}
+use Rattle.pm_props.specs.Sets.{has, union}
 use Rattle.pm_types.specs.Values.{Fact}
-use Rattle.pm_types.specs.declared.kind.Kind.{Kind}
-use Rattle.pm_types.specs.declared.property.PropId.{PropId}
+use Rattle.pm_props.specs.declared.kind.Kind.{Kind}
+use Rattle.pm_props.specs.declared.property.PropId.{PropId}
 use Rattle.std.proofs.Common.{ap, false, refl, sym, true, true≢false, ◌∙◌}
 use Rattle.std.specs.List.{Contains}
 use Rattle.std.specs.Option.{is_some}

@@ -8,9 +8,9 @@ use Rattle.pm_clients_geom.specs.declared.rows.Rows.{Rows}
 use Rattle.pm_clients_geom.specs.declared.rows.Rows.TheVariants as rows
 use Rattle.pm_clients_geom.specs.declared.truths.Test.{Test}
 use Rattle.pm_clients_geom.specs.declared.truths.Test.TheVariants as test
-use Rattle.pm_types.specs.Kinds.{standard_kind}
-use Rattle.pm_types.specs.declared.kind.Kind.{Kind}
-use Rattle.pm_types.specs.declared.standard.StandardClient.TheVariants as client
+use Rattle.pm_props.specs.Kinds.{standard_kind}
+use Rattle.pm_props.specs.declared.kind.Kind.{Kind}
+use Rattle.pm_props.specs.declared.standard.StandardClient.TheVariants as client
 use Rattle.std.specs.Prelude.{List, [], ◌∷◌}
 
 abbrev pub rows_kinds : List Kind

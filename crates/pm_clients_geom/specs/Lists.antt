@@ -5,7 +5,7 @@ use Rattle.pm_client.specs.Sound.{IsListOf}
 use Rattle.pm_elim.specs.Evidence.{NoEvidence}
 use Rattle.pm_elim.specs.declared.evidence.ElimList.{ElimList}
 use Rattle.pm_object.specs.Reading.{ViewSeen}
-use Rattle.pm_types.specs.declared.property.PropId.{PropId}
+use Rattle.pm_props.specs.declared.property.PropId.{PropId}
 use Rattle.std.specs.Prelude.{List}
 
 pub record StaysInRange (v : ViewSeen) (first second : PropId) (list : ElimList) : Type 0 where

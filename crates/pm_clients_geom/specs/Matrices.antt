@@ -4,8 +4,8 @@
 --     MayBeLines of rows      rows of the lineality of a polytope have first entry 0
 use Rattle.pm_algebra.specs.Numbers.{Ratio}
 use Rattle.pm_algebra.specs.Rows.{Row, entry}
-use Rattle.pm_geom.specs.declared.ObjectType.{ObjectType}
-use Rattle.pm_geom.specs.declared.ObjectType.TheVariants.{Polytope}
+use Rattle.pm_props.specs.declared.object_type.ObjectType.{ObjectType}
+use Rattle.pm_props.specs.declared.object_type.ObjectType.TheVariants.{Polytope}
 use Rattle.pm_matrix.specs.Matrices.{FractionMatrix}
 use Rattle.std.specs.List.{All}
 use Rattle.std.specs.Prelude.{List, [], ℕ, ◌∷◌, ◌≡◌}

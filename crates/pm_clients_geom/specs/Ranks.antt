@@ -4,7 +4,7 @@ use Rattle.pm_algebra.specs.Rows.{Row}
 use Rattle.pm_bases.specs.Bases.{IsRank}
 use Rattle.pm_client.specs.Sound.{IsListOf}
 use Rattle.pm_object.specs.Reading.{ViewSeen}
-use Rattle.pm_types.specs.declared.property.PropId.{PropId}
+use Rattle.pm_props.specs.declared.property.PropId.{PropId}
 use Rattle.std.specs.Prelude.{List, ℕ}
 
 pub record IsListRank (v : ViewSeen) (first second : PropId) (k : ℕ) : Type 0 where

@@ -11,7 +11,7 @@ use Rattle.pm_clients_geom.specs.declared.rows.Rows.{Rows}
 use Rattle.pm_clients_geom.specs.declared.rows.Rows.TheVariants as rows
 use Rattle.pm_elim.specs.declared.evidence.ElimList.TheVariants as list
 use Rattle.pm_object.specs.Reading.{ViewSeen}
-use Rattle.pm_types.specs.declared.property.PropId.TheVariants.{AffineHull, Facets, InputLineality, LinealitySpace, Points, Vertices}
+use Rattle.pm_props.specs.declared.property.PropId.TheVariants.{AffineHull, Facets, InputLineality, LinealitySpace, Points, Vertices}
 use Rattle.std.specs.Prelude.{◌≡◌}
 
 abbrev pub DimStays : Dim → ViewSeen → Type 0

@@ -9,10 +9,10 @@ ghost use Rattle.pm_clients_geom.specs.Stays.{DimFails, DimStays};
 ghost use Rattle.pm_clients_geom.specs.Ranks.{IsListRank};
 ghost use Rattle.pm_elim.specs.declared.evidence.ElimList.TheVariants as list;
 ghost use Rattle.pm_object.specs.Reading.{IsView};
-ghost use Rattle.pm_types.specs.Kinds.{standard_kind};
-ghost use Rattle.pm_types.specs.Sets.{has};
-ghost use Rattle.pm_types.specs.declared.property.PropId.TheVariants as property;
-ghost use Rattle.pm_types.specs.declared.standard.StandardClient.TheVariants as client;
+ghost use Rattle.pm_props.specs.Kinds.{standard_kind};
+ghost use Rattle.pm_props.specs.Sets.{has};
+ghost use Rattle.pm_props.specs.declared.property.PropId.TheVariants as property;
+ghost use Rattle.pm_props.specs.declared.standard.StandardClient.TheVariants as client;
 ghost use Rattle.std.specs.Prelude.{IfErr, IfOk, IsTrue, OnOk, Some, [], slice_get, ◌<◌, ◌≡◌, ◌≤◌};
 
 use crate::lists::row_list;

@@ -3,7 +3,7 @@
 ghost use Rattle.pm_algebra.specs.Rows.{HasCols};
 ghost use Rattle.pm_client.specs.Sound.{IsListOf, added_rows, are_parts};
 ghost use Rattle.pm_client.specs.declared.ClientFail.TheVariants.{Memory};
-ghost use Rattle.pm_types.specs.Sets.{has};
+ghost use Rattle.pm_props.specs.Sets.{has};
 ghost use Rattle.std.specs.Prelude.{IfErr, IfOk, IsTrue, [], length, ◌≡◌, ◌≤◌};
 
 use pm_client::{ClientFail, matrix_of, primitive_rows};

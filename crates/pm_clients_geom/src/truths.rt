@@ -4,8 +4,8 @@ ghost use Rattle.pm_client.specs.Sound.{FailsRightly, IsSound};
 ghost use Rattle.pm_client.specs.declared.ClientFail.TheVariants.{Memory};
 ghost use Rattle.pm_client.specs.Starts.{started_once};
 ghost use Rattle.pm_clients_geom.specs.Kinds.{all_tests, test_kind, test_kinds};
-ghost use Rattle.pm_types.specs.Kinds.{standard_kind};
-ghost use Rattle.pm_types.specs.declared.standard.StandardClient.TheVariants as client;
+ghost use Rattle.pm_props.specs.Kinds.{standard_kind};
+ghost use Rattle.pm_props.specs.declared.standard.StandardClient.TheVariants as client;
 ghost use Rattle.std.specs.Prelude.{IfErr, OnOk, Some, [], slice_get, ◌<◌, ◌≡◌};
 
 use pm_client::{Client, ClientFail, put_value, whole_of};

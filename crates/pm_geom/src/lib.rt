@@ -15,14 +15,6 @@ mod lists;
 pub use evidence::Evidence;
 pub use lists::{PlaceSets, Places, RowList, copy_sets};
 
-/// What an object describes: a polytope, a cone or a fan.
-#[derive(Clone, Copy, Debug, PartialEq, Eq, PartialOrd, Ord, Hash)]
-pub enum ObjectType {
-    Polytope,
-    Cone,
-    Fan,
-}
-
 /// Every generated cone is cut out by finitely many rows (Ziegler, theorem 1.3).
 pub fn law_generated_is_cut()
     ensures { GeneratedIsCut }

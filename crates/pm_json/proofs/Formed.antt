@@ -1,11 +1,12 @@
 -- What is read has the form of its property.
 use Rattle.std.proofs.Common.{ap, subst, ◌∙◌, ◌≡◌, true, Ok, ◌&&◌}
 use Rattle.serde_json.specs.Data.{Data}
-use Rattle.pm_types.specs.Forms.{is_formed, is_matrix_form, is_of_matrices, is_of_sets, is_sets_form}
-use Rattle.pm_types.specs.Properties.{value_kind}
-use Rattle.pm_types.specs.declared.property.ValueKind.TheVariants as kind
+use Rattle.pm_types.specs.Forms.{is_formed, is_matrix_form, is_sets_form}
+use Rattle.pm_props.specs.Properties.{is_of_matrices, is_of_sets}
+use Rattle.pm_props.specs.Properties.{value_kind}
+use Rattle.pm_props.specs.declared.property.ValueKind.TheVariants as kind
 use Rattle.pm_types.specs.Values.{PropertyValue}
-use Rattle.pm_types.specs.declared.property.PropId.{PropId}
+use Rattle.pm_props.specs.declared.property.PropId.{PropId}
 use Rattle.pm_json.proofs.Parts.{and_then-ok}
 use Rattle.pm_json.proofs.MatrixLimits.{matrix_keeps_limits}
 use Rattle.pm_json.proofs.SetLimits.{sets_keep_limits}

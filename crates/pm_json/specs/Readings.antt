@@ -21,13 +21,13 @@ use Rattle.pm_algebra.specs.Numbers.{Ratio}
 use Rattle.pm_fraction.specs.Fractions.{ratio_of, signed}
 use Rattle.pm_fraction.specs.Text.{bottom_text, top_text}
 use Rattle.pm_types.specs.Forms.{is_dimension}
-use Rattle.pm_types.specs.Properties.{value_kind}
+use Rattle.pm_props.specs.Properties.{value_kind}
 use Rattle.pm_types.specs.Values.{PropertyValue, matrix, sets, whole, truth}
 use Rattle.pm_types.specs.Views.{over_one}
-use Rattle.pm_types.specs.declared.property.PropId.{PropId}
-use Rattle.pm_types.specs.declared.property.PropId.TheVariants.{ConeAmbientDim}
-use Rattle.pm_types.specs.declared.property.ValueKind.{ValueKind}
-use Rattle.pm_types.specs.declared.property.ValueKind.TheVariants as kind
+use Rattle.pm_props.specs.declared.property.PropId.{PropId}
+use Rattle.pm_props.specs.declared.property.PropId.TheVariants.{ConeAmbientDim}
+use Rattle.pm_props.specs.declared.property.ValueKind.{ValueKind}
+use Rattle.pm_props.specs.declared.property.ValueKind.TheVariants as kind
 use Rattle.serde_json.specs.Data.{Data, Num, object, Items, no_items, item, no_members, member}
 use Rattle.serde_json.specs.Find.{get, as_array, as_bool, as_i64, as_integer, as_number, as_object, as_str}
 use Rattle.pm_json.specs.declared.fail.ValueFail.{ValueFail}

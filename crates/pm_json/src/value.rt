@@ -1,8 +1,9 @@
 // Values of properties from JSON.
 
 ghost use Rattle.pm_json.specs.Readings.{reading, truth_of, whole_of};
-ghost use Rattle.pm_types.specs.Forms.{is_built, is_dimension, is_formed};
-ghost use Rattle.pm_types.specs.Properties.{value_kind};
+ghost use Rattle.pm_props.specs.Properties.{is_built};
+ghost use Rattle.pm_types.specs.Forms.{is_dimension, is_formed};
+ghost use Rattle.pm_props.specs.Properties.{value_kind};
 ghost use Rattle.pm_types.specs.Views.{view_of};
 ghost use Rattle.serde_json.specs.View.{view};
 ghost use Rattle.std.specs.Prelude.{IfErr, IfOk, IsTrue, ◌≡◌, ◌≢◌, ◌↔◌};
@@ -68,7 +69,7 @@ pub fn read_value(alloc: Global, p: PropId, v: &Value) -> Result<PropertyValue, 
     ensures formed { IfOk result (λ value. IsTrue (is_formed p (view_of value))) }
     ensures fault { IfErr result (λ e. e ≢ ValueFail.Memory → reading p (view v.now) ≡ Err e) }
 {
-    match p.value_kind() {
+    match p.row().kind {
         ValueKind::Mat => read_matrix(alloc, v),
         ValueKind::Sets => read_sets(alloc, v),
         ValueKind::Int => read_whole(p, v),

@@ -1,7 +1,7 @@
 -- The barred rules, collected in order.
 use Rattle.pm_rules.specs.Rules.{is_barred, rule_at}
 use Rattle.pm_rules.specs.declared.rule.Rule.{Rule}
-use Rattle.pm_types.specs.declared.kind.RuleId.{RuleId}
+use Rattle.pm_props.specs.declared.kind.RuleId.{RuleId}
 use Rattle.std.proofs.Common.{ap, arith, false, inl, inr, refl, subst, sym, true, ◌∙◌}
 use Rattle.std.proofs.lemmas.Bool.{cases_lt}
 use Rattle.std.specs.List.{list_any}

@@ -5,12 +5,12 @@ use Rattle.pm_machine.specs.declared.chain.Best.{Best}
 use Rattle.pm_rules.specs.Chains.{reached, weigh}
 use Rattle.pm_rules.specs.Rules.{rule_at}
 use Rattle.pm_rules.specs.declared.rule.Rule.{Rule}
-use Rattle.pm_types.specs.Sets.{IsSubset, union}
-use Rattle.pm_types.specs.Weights.{IsAtMost}
-use Rattle.pm_types.specs.declared.kind.RuleId.{RuleId}
-use Rattle.pm_types.specs.declared.set.PropSet.{PropSet}
-use Rattle.pm_types.specs.declared.weight.Cost.{Cost}
-use Rattle.pm_types.specs.declared.weight.Weight.{Weight}
+use Rattle.pm_props.specs.Sets.{IsSubset, union}
+use Rattle.pm_props.specs.Weights.{IsAtMost}
+use Rattle.pm_props.specs.declared.kind.RuleId.{RuleId}
+use Rattle.pm_props.specs.declared.set.PropSet.{PropSet}
+use Rattle.pm_props.specs.declared.weight.Cost.{Cost}
+use Rattle.pm_props.specs.declared.weight.Weight.{Weight}
 use Rattle.std.proofs.Common.{ap, arith, false, inl, inr, refl, subst, sym, true, ◌∙◌}
 use Rattle.std.proofs.lemmas.Bool.{cases_lt}
 use Rattle.std.proofs.lemmas.Option.{slice_get_within}

@@ -7,12 +7,13 @@ use Rattle.pm_object.specs.Honest.{facts}
 use Rattle.pm_object.specs.Laws.{computed, computed_at}
 use Rattle.pm_object.specs.Reading.{Put, answer_at, drafted, fact_at, without}
 use Rattle.pm_object.specs.State.{HeldValue, State, cols_of, is_held, read_at, value_of, with_held}
-use Rattle.pm_types.proofs.Kept.{same_place_refl, same_property_is}
-use Rattle.pm_types.specs.Properties.{every_property, number}
-use Rattle.pm_types.specs.Runs.{is_named, missing, place_of, same_place, same_property}
-use Rattle.pm_types.specs.Sets.{has, members}
+use Rattle.pm_props.proofs.Places.{same_place_refl, same_property_is}
+use Rattle.pm_props.specs.Properties.{every_property, number}
+use Rattle.pm_types.specs.Runs.{is_named, missing}
+use Rattle.pm_props.specs.Places.{place_of, same_place, same_property}
+use Rattle.pm_props.specs.Sets.{has, members}
 use Rattle.pm_types.specs.Values.{Fact, PropertyValue}
-use Rattle.pm_types.specs.declared.property.PropId.{PropId}
+use Rattle.pm_props.specs.declared.property.PropId.{PropId}
 use Rattle.pm_object.specs.declared.held.Origin.TheVariants.{Computed}
 use Rattle.std.proofs.Common.{ap, append-nil, arith, drop, false, get_or, inl, inr, refl, subst, sym, true, true≢false, ◌∙◌}
 use Rattle.std.specs.Option.{is_some}

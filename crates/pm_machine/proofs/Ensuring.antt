@@ -21,16 +21,18 @@ use Rattle.pm_object.specs.declared.held.Why.TheVariants as why
 use Rattle.pm_rules.specs.Books.{IsBook, IsRule}
 use Rattle.pm_rules.specs.Rules.{IsEnabled, is_barred, rule_at}
 use Rattle.pm_rules.specs.declared.rule.Rule.{Rule}
-use Rattle.pm_types.proofs.Kept.{among_every, same_place_refl, same_property_refl}
-use Rattle.pm_types.proofs.Members.{has-difference, has-union}
-use Rattle.pm_types.specs.Runs.{is_named, missing, place_of, same_place, same_property}
-use Rattle.pm_types.specs.Sets.{difference, has, members, union}
+use Rattle.pm_props.proofs.Every.{among_every}
+use Rattle.pm_props.proofs.Places.{same_place_refl, same_property_refl}
+use Rattle.pm_props.proofs.Members.{has-difference, has-union}
+use Rattle.pm_types.specs.Runs.{is_named, missing}
+use Rattle.pm_props.specs.Places.{place_of, same_place, same_property}
+use Rattle.pm_props.specs.Sets.{difference, has, members, union}
 use Rattle.pm_types.specs.Values.{Fact, PropertyValue}
-use Rattle.pm_types.specs.declared.kind.Kind.{Kind}
-use Rattle.pm_types.specs.declared.kind.RuleId.{RuleId}
-use Rattle.pm_types.specs.declared.property.PropId.{PropId}
-use Rattle.pm_types.specs.declared.property.PropId.TheVariants.{ConeAmbientDim}
-use Rattle.pm_types.specs.declared.set.PropSet.{PropSet}
+use Rattle.pm_props.specs.declared.kind.Kind.{Kind}
+use Rattle.pm_props.specs.declared.kind.RuleId.{RuleId}
+use Rattle.pm_props.specs.declared.property.PropId.{PropId}
+use Rattle.pm_props.specs.declared.property.PropId.TheVariants.{ConeAmbientDim}
+use Rattle.pm_props.specs.declared.set.PropSet.{PropSet}
 use Rattle.std.proofs.Common.{ap, false, get_or, inl, inr, refl, subst, sym, true, true≢false, ◌∙◌}
 use Rattle.std.specs.Option.{is_some}
 use Rattle.std.specs.Prelude.{Bool, List, None, Option, Some, [], if◌then◌else◌, map, not, slice_get, suc, zero, ℕ, ◌&&◌, ◌++◌, ◌∷◌, ◌||◌, ◌≡◌, ◌⊎◌}

@@ -1,7 +1,7 @@
 -- The examples, by what the definitions say.
 use Rattle.std.proofs.Common.{refl}
 use Rattle.pm_machine.specs.Examples.{EventsAreRead, ExclusionsAreRead}
-use Rattle.pm_types.specs.Sets.{has, only, union}
+use Rattle.pm_props.specs.Sets.{has, only, union}
 
 pub events_are_read : EventsAreRead
 events_are_read = record {

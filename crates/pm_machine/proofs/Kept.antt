@@ -15,10 +15,10 @@ use Rattle.pm_rules.specs.declared.rule.Rule.{Rule}
 use Rattle.pm_script.specs.Commands.{RefSeen, Spoken, blank, new_object, take_value, give_value, look_up}
 use Rattle.pm_script.specs.Replies.{ReplySeen, done, shows, undef, refused}
 use Rattle.pm_script.specs.declared.refusal.Refusal.TheVariants.{UnknownName, NameTaken, UnknownType, UnknownProperty, BadValue, AlreadyHeld, Sealed, ObjectsFull, NoChain}
-use Rattle.pm_types.specs.Sets.{only as only_property}
+use Rattle.pm_props.specs.Sets.{only as only_property}
 use Rattle.pm_types.specs.Values.{PropertyValue}
-use Rattle.pm_types.specs.declared.property.PropId.{PropId}
-use Rattle.pm_types.specs.declared.set.PropSet.{PropSet}
+use Rattle.pm_props.specs.declared.property.PropId.{PropId}
+use Rattle.pm_props.specs.declared.set.PropSet.{PropSet}
 use Rattle.std.proofs.Common.{ap, arith, bytes_eq, false, inl, inr, refl, subst, sym, true, true≢false, ◌∙◌, ◌≢◌}
 use Rattle.std.proofs.lemmas.Slice.Eq.{bytes_eq-Decides}
 use Rattle.std.specs.List.{Contains}

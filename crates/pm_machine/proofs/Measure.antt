@@ -7,12 +7,13 @@ use Rattle.pm_object.proofs.Names.{names_held}
 use Rattle.pm_object.specs.State.{HeldValue, State, is_held, read_at}
 use Rattle.pm_object.specs.declared.held.Excluded.{Excluded}
 use Rattle.pm_rules.specs.declared.rule.Rule.{Rule}
-use Rattle.pm_types.proofs.Kept.{among_every, same_place_refl}
-use Rattle.pm_types.specs.Properties.{every_property}
-use Rattle.pm_types.specs.Runs.{same_place}
-use Rattle.pm_types.specs.Sets.{has}
-use Rattle.pm_types.specs.declared.property.PropId.{PropId}
-use Rattle.pm_types.specs.declared.set.PropSet.{PropSet}
+use Rattle.pm_props.proofs.Every.{among_every}
+use Rattle.pm_props.proofs.Places.{same_place_refl}
+use Rattle.pm_props.specs.Properties.{every_property}
+use Rattle.pm_props.specs.Places.{same_place}
+use Rattle.pm_props.specs.Sets.{has}
+use Rattle.pm_props.specs.declared.property.PropId.{PropId}
+use Rattle.pm_props.specs.declared.set.PropSet.{PropSet}
 use Rattle.std.proofs.Common.{ap, arith, false, inl, inr, refl, subst, sym, true, true≢false, ◌∙◌}
 use Rattle.std.specs.List.{list_all, list_any}
 use Rattle.std.specs.Option.{is_some}

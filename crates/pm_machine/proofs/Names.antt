@@ -1,6 +1,6 @@
 -- Objects by name, and the steps that change one.
 use Rattle.pm_client.specs.Starts.{Clients}
-use Rattle.pm_geom.specs.declared.ObjectType.{ObjectType}
+use Rattle.pm_props.specs.declared.object_type.ObjectType.{ObjectType}
 use Rattle.pm_machine.proofs.Kept.{all_honest, steps_in_part_keep, steps_keep}
 use Rattle.pm_machine.specs.Events.{Configuration, Ending, Ensured, EnsuredInPart, at_rest, configuration, found, no_chain}
 use Rattle.pm_machine.specs.Parts.{AllHonest, StepInPart}
@@ -13,12 +13,12 @@ use Rattle.pm_script.specs.Commands.{RefSeen, Spoken, blank, new_object, take_va
 use Rattle.pm_script.specs.Replies.{ReplySeen, done, refused, shows, undef}
 use Rattle.pm_script.specs.declared.refusal.Refusal.{Refusal}
 use Rattle.pm_script.specs.declared.refusal.Refusal.TheVariants.{BadCommand, UnknownName, NameTaken, UnknownType, UnknownProperty, BadValue, AlreadyHeld, Sealed, ObjectsFull, NoChain}
-use Rattle.pm_types.proofs.Members.{has-only}
-use Rattle.pm_types.specs.Properties.{number}
-use Rattle.pm_types.specs.Sets.{has, only}
+use Rattle.pm_props.proofs.Members.{has-only}
+use Rattle.pm_props.specs.Properties.{number}
+use Rattle.pm_props.specs.Sets.{has, only}
 use Rattle.pm_types.specs.Values.{PropertyValue}
-use Rattle.pm_types.specs.declared.property.PropId.{PropId}
-use Rattle.pm_types.specs.declared.set.PropSet.{PropSet}
+use Rattle.pm_props.specs.declared.property.PropId.{PropId}
+use Rattle.pm_props.specs.declared.set.PropSet.{PropSet}
 use Rattle.serde_json.specs.Read.{read}
 use Rattle.std.proofs.Common.{ap, arith, bytes_eq, eqb, false, inl, inr, refl, subst, sym, true, true≢false, ◌∙◌, ◌≢◌}
 use Rattle.std.proofs.lemmas.Map.Text.{hash_map_updates_text}

@@ -5,9 +5,9 @@ use Rattle.pm_object.specs.State.{State, CannotTake, agrees, cols_of, is_held, i
 use Rattle.pm_object.specs.declared.held.TakeFail.{TakeFail}
 use Rattle.pm_object.specs.declared.held.TakeFail.TheVariants.{AlreadyHeld, Columns, Memory, NotAThing, NotOfType, Sealed}
 use Rattle.pm_types.specs.Forms.{are_rows}
-use Rattle.pm_types.specs.Properties.{has}
+use Rattle.pm_props.specs.Properties.{has}
 use Rattle.pm_types.specs.Values.{PropertyValue}
-use Rattle.pm_types.specs.declared.property.PropId.{PropId}
+use Rattle.pm_props.specs.declared.property.PropId.{PropId}
 
 -- the reasons in the order in which they are asked
 abbrev take_order : Bool → Bool → Bool → Bool → Bool → Option TakeFail

@@ -13,9 +13,9 @@ use Rattle.pm_object.specs.declared.held.RoundEnd.TheVariants as end
 use Rattle.pm_object.specs.declared.held.Why.TheVariants as why
 use Rattle.pm_rules.specs.Rules.{rule_at}
 use Rattle.pm_rules.specs.declared.rule.Rule.{Rule}
-use Rattle.pm_types.specs.declared.kind.RuleId.{RuleId}
-use Rattle.pm_types.specs.declared.set.PropSet.{PropSet}
-use Rattle.pm_types.specs.declared.weight.Cost.{Cost}
+use Rattle.pm_props.specs.declared.kind.RuleId.{RuleId}
+use Rattle.pm_props.specs.declared.set.PropSet.{PropSet}
+use Rattle.pm_props.specs.declared.weight.Cost.{Cost}
 use Rattle.std.proofs.Common.{ap, false, inl, inr, refl, subst, sym}
 use Rattle.std.specs.Prelude.{Err, List, Ok, OnErr, Option, Result, Some, [], ℕ, ◌∷◌, ◌≡◌}
 

@@ -14,20 +14,23 @@ use Rattle.pm_object.specs.declared.held.RoundEnd.TheVariants as end
 use Rattle.pm_rules.specs.Books.{IsRule}
 use Rattle.pm_rules.specs.Rules.{IsEnabled, conditions, inputs, names_of_rule}
 use Rattle.pm_rules.specs.declared.rule.Rule.{Rule}
-use Rattle.pm_types.proofs.Every.{has-set_of_filter}
-use Rattle.pm_types.proofs.Kept.{among_every, same_property_refl}
-use Rattle.pm_types.proofs.Members.{has-intersection, has-union}
-use Rattle.pm_types.specs.Forms.{has_64_bits, is_formed, is_matrix_form, is_of_matrices, is_of_sets, is_of_whole_numbers, is_sets_form}
-use Rattle.pm_types.specs.Kinds.{IsFresh, IsKindOf, is_in_use, names_of as names_of_kind}
-use Rattle.pm_types.specs.Properties.{every_property, has_program, value_kind}
-use Rattle.pm_types.specs.Runs.{Holds, IsFree, MayRun, place_of, same_place, same_property}
-use Rattle.pm_types.specs.Sets.{has, intersection, union}
+use Rattle.pm_props.proofs.Every.{has-set_of_filter}
+use Rattle.pm_props.proofs.Every.{among_every}
+use Rattle.pm_props.proofs.Places.{same_property_refl}
+use Rattle.pm_props.proofs.Members.{has-intersection, has-union}
+use Rattle.pm_types.specs.Forms.{has_64_bits, is_formed, is_matrix_form, is_sets_form}
+use Rattle.pm_props.specs.Properties.{is_of_matrices, is_of_sets, is_of_whole_numbers}
+use Rattle.pm_props.specs.Kinds.{IsFresh, IsKindOf, is_in_use, names_of as names_of_kind}
+use Rattle.pm_props.specs.Properties.{every_property, has_program, value_kind}
+use Rattle.pm_types.specs.Runs.{Holds, IsFree, MayRun}
+use Rattle.pm_props.specs.Places.{place_of, same_place, same_property}
+use Rattle.pm_props.specs.Sets.{has, intersection, union}
 use Rattle.pm_types.specs.Values.{Fact, PropertyValue, matrix, sets, whole, truth, extended, edges, lattice, counts}
-use Rattle.pm_types.specs.declared.kind.Kind.{Kind}
-use Rattle.pm_types.specs.declared.kind.RuleId.{RuleId}
-use Rattle.pm_types.specs.declared.property.PropId.{PropId}
-use Rattle.pm_types.specs.declared.property.PropId.TheVariants.{ConeAmbientDim}
-use Rattle.pm_types.specs.declared.property.ValueKind.TheVariants as form
+use Rattle.pm_props.specs.declared.kind.Kind.{Kind}
+use Rattle.pm_props.specs.declared.kind.RuleId.{RuleId}
+use Rattle.pm_props.specs.declared.property.PropId.{PropId}
+use Rattle.pm_props.specs.declared.property.PropId.TheVariants.{ConeAmbientDim}
+use Rattle.pm_props.specs.declared.property.ValueKind.TheVariants as form
 use Rattle.std.proofs.Common.{ap, false, inl, inr, refl, subst, sym, true, true≢false, ◌∙◌}
 use Rattle.std.specs.List.{list_any}
 use Rattle.std.specs.Option.{is_some, unwrap_or}

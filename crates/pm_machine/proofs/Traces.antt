@@ -5,9 +5,9 @@ use Rattle.pm_object.proofs.Honesty.{commit_is_honest, honesty_is_of_values, set
 use Rattle.pm_object.specs.Honest.{IsHonest, IsKept}
 use Rattle.pm_object.specs.State.{State, is_held, with_round}
 use Rattle.pm_rules.specs.declared.rule.Rule.{Rule}
-use Rattle.pm_types.specs.declared.kind.RuleId.{RuleId}
-use Rattle.pm_types.specs.declared.property.PropId.{PropId}
-use Rattle.pm_types.specs.declared.set.PropSet.{PropSet}
+use Rattle.pm_props.specs.declared.kind.RuleId.{RuleId}
+use Rattle.pm_props.specs.declared.property.PropId.{PropId}
+use Rattle.pm_props.specs.declared.set.PropSet.{PropSet}
 use Rattle.std.proofs.Common.{ap, arith, refl, subst, sym, ◌∙◌}
 use Rattle.std.specs.Prelude.{List, Option, [], length, true, ℕ, ◌++◌, ◌∷◌, ◌≡◌}
 

@@ -7,10 +7,10 @@ use Rattle.pm_machine.specs.Chains.{Serves}
 use Rattle.pm_machine.specs.declared.chain.Best.{Best}
 use Rattle.pm_rules.specs.Rules.{rule_at}
 use Rattle.pm_rules.specs.declared.rule.Rule.{Rule}
-use Rattle.pm_types.specs.Weights.{IsAtMost}
-use Rattle.pm_types.specs.declared.kind.RuleId.{RuleId}
-use Rattle.pm_types.specs.declared.set.PropSet.{PropSet}
-use Rattle.pm_types.specs.declared.weight.Cost.{Cost}
+use Rattle.pm_props.specs.Weights.{IsAtMost}
+use Rattle.pm_props.specs.declared.kind.RuleId.{RuleId}
+use Rattle.pm_props.specs.declared.set.PropSet.{PropSet}
+use Rattle.pm_props.specs.declared.weight.Cost.{Cost}
 
 abbrev pub cost_of : Rule → Cost
 cost_of rule = record { class = rule.weight.class; minor = rule.weight.minor }

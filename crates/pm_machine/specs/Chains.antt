@@ -1,21 +1,21 @@
 -- Chains on an object. Who asks names a linear program of it, or none; what is read and barred then is what stands at that place.
 use Rattle.std.specs.Prelude.{◌≡◌, ◌||◌, ◌&&◌, Bool, false, true, not, ℕ, Option, None, Some, List, length, filter, nat_eq, if◌then◌else◌}
 use Rattle.std.specs.List.{list_any}
-use Rattle.pm_geom.specs.declared.ObjectType.{ObjectType}
+use Rattle.pm_props.specs.declared.object_type.ObjectType.{ObjectType}
 use Rattle.pm_client.specs.Starts.{Clients, has_client}
 use Rattle.pm_object.specs.State.{HeldValue, State, is_disabled, names_of, read_at, value_of}
 use Rattle.pm_rules.specs.Chains.{LeadsTo, weigh}
 use Rattle.pm_rules.specs.Rules.{IsEnabled, is_barred, rule_at}
 use Rattle.pm_rules.specs.declared.rule.Rule.{Rule}
-use Rattle.pm_types.specs.Kinds.{is_in_use, names_of as names_of_kind}
-use Rattle.pm_types.specs.Properties.{every_property, has_program}
-use Rattle.pm_types.specs.Runs.{same_place}
-use Rattle.pm_types.specs.Sets.{IsSubset, difference, has, set_of, union}
+use Rattle.pm_props.specs.Kinds.{is_in_use, names_of as names_of_kind}
+use Rattle.pm_props.specs.Properties.{every_property, has_program}
+use Rattle.pm_props.specs.Places.{same_place}
+use Rattle.pm_props.specs.Sets.{IsSubset, difference, has, set_of, union}
 use Rattle.pm_types.specs.Values.{PropertyValue, truth}
-use Rattle.pm_types.specs.Weights.{IsAtMost}
-use Rattle.pm_types.specs.declared.kind.RuleId.{RuleId}
-use Rattle.pm_types.specs.declared.property.PropId.{PropId}
-use Rattle.pm_types.specs.declared.set.PropSet.{PropSet}
+use Rattle.pm_props.specs.Weights.{IsAtMost}
+use Rattle.pm_props.specs.declared.kind.RuleId.{RuleId}
+use Rattle.pm_props.specs.declared.property.PropId.{PropId}
+use Rattle.pm_props.specs.declared.set.PropSet.{PropSet}
 
 -- the names in use for an object of a type: its table, and that of programs where one is asked
 abbrev pub table : Option ℕ → ObjectType → PropSet

@@ -6,7 +6,7 @@ use Rattle.pm_object.specs.Laws.{computed_at}
 use Rattle.pm_object.specs.State.{HeldValue, State, cols_of}
 use Rattle.pm_object.specs.declared.held.Origin.TheVariants.{Computed}
 use Rattle.pm_types.specs.Values.{Fact, PropertyValue}
-use Rattle.pm_types.specs.declared.property.PropId.{PropId}
+use Rattle.pm_props.specs.declared.property.PropId.{PropId}
 
 -- the value that was drafted for a property, as a computed one, where it is not held
 abbrev pub added : Option ℕ → PropId → Bool → Option PropertyValue → List HeldValue

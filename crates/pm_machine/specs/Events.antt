@@ -17,13 +17,13 @@ use Rattle.pm_object.specs.declared.held.Why.TheVariants as why
 use Rattle.pm_rules.specs.Chains.{weigh}
 use Rattle.pm_rules.specs.Rules.{rule_at}
 use Rattle.pm_rules.specs.declared.rule.Rule.{Rule}
-use Rattle.pm_types.specs.Properties.{number}
+use Rattle.pm_props.specs.Properties.{number}
 use Rattle.pm_types.specs.Runs.{MayAnswer, MayRun, missing, shown}
 use Rattle.pm_types.specs.Values.{Fact}
-use Rattle.pm_types.specs.declared.kind.Kind.{Kind}
-use Rattle.pm_types.specs.declared.kind.RuleId.{RuleId}
-use Rattle.pm_types.specs.declared.property.PropId.{PropId}
-use Rattle.pm_types.specs.declared.set.PropSet.{PropSet}
+use Rattle.pm_props.specs.declared.kind.Kind.{Kind}
+use Rattle.pm_props.specs.declared.kind.RuleId.{RuleId}
+use Rattle.pm_props.specs.declared.property.PropId.{PropId}
+use Rattle.pm_props.specs.declared.set.PropSet.{PropSet}
 
 -- an object, and the clients as kinds with counts of their starts
 pub record Configuration : Type 0 where

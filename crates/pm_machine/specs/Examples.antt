@@ -1,7 +1,7 @@
 -- The definitions of phases, events and exclusions read on small things: what holds of them and what does not.
 use Rattle.std.specs.Prelude.{ℕ, ◌≡◌, true, false, Option, Some, None, List, [], ◌∷◌}
 use Rattle.pm_geom.specs.declared.evidence.Evidence.TheVariants.{E4}
-use Rattle.pm_geom.specs.declared.ObjectType.TheVariants.{Polytope}
+use Rattle.pm_props.specs.declared.object_type.ObjectType.TheVariants.{Polytope}
 use Rattle.pm_machine.specs.Chains.{is_excluded}
 use Rattle.pm_machine.specs.Events.{Configuration, MayOccur, at_rest, begun, committed, excluded, over, phase_after_all, running, settled, started, turn, unsettled, written}
 use Rattle.pm_object.specs.State.{RoundSeen, State, empty_object}
@@ -9,13 +9,13 @@ use Rattle.pm_object.specs.declared.held.Excluded.{Excluded}
 use Rattle.pm_object.specs.declared.held.RoundEnd.TheVariants as end
 use Rattle.pm_object.specs.declared.held.Why.TheVariants as why
 use Rattle.pm_rules.specs.declared.rule.Rule.{Rule}
-use Rattle.pm_types.specs.Sets.{set_of}
+use Rattle.pm_props.specs.Sets.{set_of}
 use Rattle.pm_types.specs.Values.{Fact}
-use Rattle.pm_types.specs.declared.kind.Kind.{Kind}
-use Rattle.pm_types.specs.declared.kind.RuleId.{RuleId}
-use Rattle.pm_types.specs.declared.property.PropId.{PropId}
-use Rattle.pm_types.specs.declared.property.PropId.TheVariants.{ConeDim, MaximalValue}
-use Rattle.pm_types.specs.declared.set.PropSet.{PropSet}
+use Rattle.pm_props.specs.declared.kind.Kind.{Kind}
+use Rattle.pm_props.specs.declared.kind.RuleId.{RuleId}
+use Rattle.pm_props.specs.declared.property.PropId.{PropId}
+use Rattle.pm_props.specs.declared.property.PropId.TheVariants.{ConeDim, MaximalValue}
+use Rattle.pm_props.specs.declared.set.PropSet.{PropSet}
 
 abbrev pub third : RuleId
 third = record { 0 = 3 }

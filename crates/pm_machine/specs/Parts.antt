@@ -6,8 +6,8 @@ use Rattle.pm_object.specs.Honest.{IsHonest}
 use Rattle.pm_object.specs.State.{State}
 use Rattle.pm_rules.specs.declared.rule.Rule.{Rule}
 use Rattle.pm_script.specs.Commands.{RefSeen, Spoken, give_value}
-use Rattle.pm_types.specs.Sets.{only}
-use Rattle.pm_types.specs.declared.property.PropId.{PropId}
+use Rattle.pm_props.specs.Sets.{only}
+use Rattle.pm_props.specs.declared.property.PropId.{PropId}
 
 -- the object that REF names is ensured the property in part
 pub record GaveInPart (book : List Rule) (old : Machine) (ref : RefSeen) (text : List ℕ) (new : Machine) : Type 0 where

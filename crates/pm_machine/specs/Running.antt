@@ -18,11 +18,12 @@ use Rattle.pm_object.specs.declared.held.RoundEnd.TheVariants as end
 use Rattle.pm_object.specs.declared.held.Why.TheVariants as why
 use Rattle.pm_rules.specs.Rules.{rule_at}
 use Rattle.pm_rules.specs.declared.rule.Rule.{Rule}
-use Rattle.pm_types.specs.Runs.{MayAnswer, MayRun, missing, shown, same_place}
+use Rattle.pm_types.specs.Runs.{MayAnswer, MayRun, missing, shown}
+use Rattle.pm_props.specs.Places.{same_place}
 use Rattle.pm_types.specs.Values.{Fact}
-use Rattle.pm_types.specs.declared.kind.Kind.{Kind}
-use Rattle.pm_types.specs.declared.kind.RuleId.{RuleId}
-use Rattle.pm_types.specs.declared.set.PropSet.{PropSet}
+use Rattle.pm_props.specs.declared.kind.Kind.{Kind}
+use Rattle.pm_props.specs.declared.kind.RuleId.{RuleId}
+use Rattle.pm_props.specs.declared.set.PropSet.{PropSet}
 
 -- the answer of a client of the kind is added
 pub record Commits (sub : Option ℕ) (kind : Kind) (old new : State) : Type 0 where

@@ -11,8 +11,8 @@ use Rattle.pm_object.specs.State.{read_at, value_of}
 use Rattle.pm_rules.specs.declared.rule.Rule.{Rule}
 use Rattle.pm_script.specs.Replies.{ReplySeen, refused, shows}
 use Rattle.pm_script.specs.declared.refusal.Refusal.TheVariants.{NoChain}
-use Rattle.pm_types.specs.Sets.{only}
-use Rattle.pm_types.specs.declared.property.PropId.{PropId}
+use Rattle.pm_props.specs.Sets.{only}
+use Rattle.pm_props.specs.declared.property.PropId.{PropId}
 
 -- the rules of its book
 abbrev pub book_of : Session → List Rule

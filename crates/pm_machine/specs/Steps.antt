@@ -5,8 +5,8 @@ use Rattle.std.specs.Str.{bytes_eq}
 use Rattle.serde_json.specs.Data.{Data}
 use Rattle.serde_json.specs.Read.{read}
 use Rattle.pm_client.specs.Starts.{Clients}
-use Rattle.pm_geom.specs.declared.ObjectType.{ObjectType}
-use Rattle.pm_geom.specs.declared.ObjectType.TheVariants.{Polytope, Cone}
+use Rattle.pm_props.specs.declared.object_type.ObjectType.{ObjectType}
+use Rattle.pm_props.specs.declared.object_type.ObjectType.TheVariants.{Polytope, Cone}
 use Rattle.pm_json.specs.Readings.{reading}
 use Rattle.pm_json.specs.declared.fail.ValueFail.{ValueFail}
 use Rattle.pm_json.specs.declared.fail.ValueFail.TheVariants as fault
@@ -22,11 +22,11 @@ use Rattle.pm_script.specs.declared.refusal.Refusal.{Refusal}
 use Rattle.pm_script.specs.declared.refusal.Refusal.TheVariants.{UnknownName, NameTaken, UnknownType, UnknownProperty, BadValue, AlreadyHeld, Sealed, ObjectsFull, NoChain}
 use Rattle.pm_script.specs.declared.refusal.ValueWhy.{ValueWhy}
 use Rattle.pm_script.specs.declared.refusal.ValueWhy.TheVariants as value_why
-use Rattle.pm_types.specs.Forms.{is_built}
-use Rattle.pm_types.specs.Names.{property_named_in}
-use Rattle.pm_types.specs.Sets.{only}
+use Rattle.pm_props.specs.Properties.{is_built}
+use Rattle.pm_props.specs.Names.{property_named_in}
+use Rattle.pm_props.specs.Sets.{only}
 use Rattle.pm_types.specs.Values.{PropertyValue}
-use Rattle.pm_types.specs.declared.property.PropId.{PropId}
+use Rattle.pm_props.specs.declared.property.PropId.{PropId}
 
 -- what stands outside: the files, each with its name, where a store tells them, and how many faults it counted
 pub record Store : Type 0 where

@@ -5,16 +5,16 @@ ghost use Rattle.pm_machine.specs.Chains.{AreBarred, HasNoChainByOne, IsLeastByO
 ghost use Rattle.pm_machine.specs.Best.{BestBefore, better, cost_of};
 ghost use Rattle.pm_object.specs.State.{is_disabled, read_at, value_of};
 ghost use Rattle.pm_rules.specs.Books.{most_rules};
-ghost use Rattle.pm_types.specs.Kinds.{is_in_use, names_of};
-ghost use Rattle.pm_types.specs.Properties.{has_program};
-ghost use Rattle.pm_types.specs.Runs.{same_place};
-ghost use Rattle.pm_types.specs.Sets.{has, set_of};
-ghost use Rattle.pm_types.specs.declared.property.PropId.{PropId};
+ghost use Rattle.pm_props.specs.Kinds.{is_in_use, names_of};
+ghost use Rattle.pm_props.specs.Properties.{has_program};
+ghost use Rattle.pm_props.specs.Places.{same_place};
+ghost use Rattle.pm_props.specs.Sets.{has, set_of};
+ghost use Rattle.pm_props.specs.declared.property.PropId.{PropId};
 ghost use Rattle.std.specs.List.{list_any};
 ghost use Rattle.std.specs.Prelude.{IfNone, IfOk, IfSome, IsTrue, [], filter, length, map, nat_eq, ◌&&◌, ◌||◌, ◌≡◌, ◌≤◌, ◌↔◌, ◌∷◌};
 
 use pm_client::{Client, place_of};
-use pm_geom::ObjectType;
+use pm_types::ObjectType;
 use pm_object::{Excluded, Object};
 use pm_rules::Rule;
 use pm_types::{Cost, PropId, PropSet, RuleId, Value};

@@ -9,9 +9,9 @@ ghost use Rattle.pm_object.specs.Honest.{facts};
 ghost use Rattle.pm_object.specs.Reading.{view_for};
 ghost use Rattle.pm_object.specs.State.{cols_of, is_held};
 ghost use Rattle.pm_rules.specs.Books.{IsBook};
-ghost use Rattle.pm_types.specs.Kinds.{IsKindOf};
+ghost use Rattle.pm_props.specs.Kinds.{IsKindOf};
 ghost use Rattle.pm_types.specs.Runs.{MayRun};
-ghost use Rattle.pm_types.specs.declared.property.PropId.TheVariants.{ConeAmbientDim};
+ghost use Rattle.pm_props.specs.declared.property.PropId.TheVariants.{ConeAmbientDim};
 ghost use Rattle.std.specs.Option.{is_some, unwrap_or};
 ghost use Rattle.std.specs.Prelude.{IfErr, IfOk, IsTrue, None, OnErr, OnOk, [], map, ◌≡◌};
 

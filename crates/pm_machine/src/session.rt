@@ -7,7 +7,7 @@ ghost use Rattle.pm_machine.specs.Steps.{AllKept, Gains, GiveStep, LookupStep, N
 ghost use Rattle.pm_object.specs.State.{empty_object};
 ghost use Rattle.pm_script.specs.Commands.{blank, give_value, seen_ref, spoken};
 ghost use Rattle.pm_script.specs.Replies.{seen, shows};
-ghost use Rattle.pm_types.specs.Sets.{only};
+ghost use Rattle.pm_props.specs.Sets.{only};
 ghost use Rattle.pm_types.specs.Views.{view_of};
 ghost use Rattle.std.specs.Option.{is_some, option_map};
 ghost use Rattle.std.specs.Prelude.{IfOk, List, None, OnErr, OnOk, Option, Some, [], false, map, string_bytes, true, ℕ, ◌⊎◌, ◌+◌, ◌≡◌, ◌≢◌};
@@ -16,7 +16,7 @@ use crate::round::ensure;
 use crate::taking::{property_named, take_text};
 use indexmap::IndexMap;
 use pm_client::Client;
-use pm_geom::ObjectType;
+use pm_types::ObjectType;
 use pm_object::Object;
 use pm_rules::Book;
 use pm_script::{Command, Ref, Refusal, Reply};

@@ -2,13 +2,14 @@
 
 ghost use Rattle.pm_machine.specs.Steps.{Given, TakeValue, Taken, given_by, property_named, value, why_of};
 ghost use Rattle.pm_object.specs.State.{is_held, is_sealed, read_at};
-ghost use Rattle.pm_types.specs.Forms.{is_built, is_formed};
-ghost use Rattle.pm_types.specs.Properties.{has};
+ghost use Rattle.pm_props.specs.Properties.{is_built};
+ghost use Rattle.pm_types.specs.Forms.{is_formed};
+ghost use Rattle.pm_props.specs.Properties.{has};
 ghost use Rattle.pm_types.specs.Views.{view_of};
 ghost use Rattle.serde_json.specs.Read.{read};
 ghost use Rattle.std.specs.Prelude.{IfNone, IfOk, IfSome, IsTrue, None, OnErr, Some, false, ◌≡◌};
 
-use pm_geom::ObjectType;
+use pm_types::ObjectType;
 use pm_json::{ValueFail, read_value};
 use pm_object::{Object, TakeFail};
 use pm_script::{Refusal, ValueWhy};
@@ -22,7 +23,7 @@ pub fn property_named(of: ObjectType, text: &str) -> Option<PropId>
     ensures built { IfSome result (λ p. IsTrue (is_built p)) }
 {
     let p = PropId::named_in(of, text)?;
-    if p.is_built() { Some(p) } else { None }
+    if p.row().is_accepted { Some(p) } else { None }
 }
 
 // The reason of a fault in reading order.

@@ -1,8 +1,8 @@
 -- Looking a value of a draft up, and taking it out.
 use Rattle.pm_object.specs.Reading.{Put, drafted, place_in, without}
-use Rattle.pm_types.proofs.Kept.{same_property_is, same_property_refl}
-use Rattle.pm_types.specs.Runs.{same_property}
-use Rattle.pm_types.specs.declared.property.PropId.{PropId}
+use Rattle.pm_props.proofs.Places.{same_property_is, same_property_refl}
+use Rattle.pm_props.specs.Places.{same_property}
+use Rattle.pm_props.specs.declared.property.PropId.{PropId}
 use Rattle.std.proofs.Common.{arith, drop, false, get_or, refl, sym, ap, true, true≢false, ◌≢◌, ◌∙◌}
 use Rattle.std.specs.List.{remove}
 use Rattle.std.specs.Option.{is_some}

@@ -3,10 +3,10 @@ use Rattle.pm_object.specs.State.{first_cols, read_at, value_of}
 use Rattle.pm_types.specs.Forms.{stated_cols}
 use Rattle.pm_object.specs.Views.{held_seen}
 use Rattle.pm_object.specs.declared.held.Held.{Held}
-use Rattle.pm_types.proofs.Kept.{same_property_is, same_property_refl}
-use Rattle.pm_types.specs.Runs.{place_of, same_place, same_property}
+use Rattle.pm_props.proofs.Places.{same_property_is, same_property_refl}
+use Rattle.pm_props.specs.Places.{place_of, same_place, same_property}
 use Rattle.pm_types.specs.Views.{view_of}
-use Rattle.pm_types.specs.declared.property.PropId.{PropId}
+use Rattle.pm_props.specs.declared.property.PropId.{PropId}
 use Rattle.std.specs.List.{list_all}
 use Rattle.std.proofs.Common.{Bool, Some, arith, drop, false, get_or, refl, sym, true, ◌≢◌}
 use Rattle.std.specs.Prelude.{List, Option, [], length, map, nat_eq, suc, zero, ℕ, ◌+◌, ◌<◌, ◌∷◌, ◌≡◌}

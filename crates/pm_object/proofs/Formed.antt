@@ -1,15 +1,16 @@
 -- Values that are added leave all values of an object in their forms, with one column count.
 use Rattle.pm_algebra.proofs.Lists.{Among, Contains_among, among_Contains, among_append, here, there}
-use Rattle.pm_geom.specs.declared.ObjectType.{ObjectType}
+use Rattle.pm_props.specs.declared.object_type.ObjectType.{ObjectType}
 use Rattle.pm_object.specs.Formed.{IsFormedIn, IsFormed}
 use Rattle.pm_object.specs.declared.held.Held.{Held as HeldOf}
 use Rattle.pm_object.specs.State.{HeldValue, State, agrees, ambient_in, cols_of, first_cols, is_held, or_else, value_of, with_held}
-use Rattle.pm_types.proofs.Kept.{same_property_is}
-use Rattle.pm_types.specs.Forms.{agrees_with, is_ambient, is_dimension, is_formed, stated_cols, states}
-use Rattle.pm_types.specs.Runs.{same_property}
+use Rattle.pm_props.proofs.Places.{same_property_is}
+use Rattle.pm_types.specs.Forms.{agrees_with, is_dimension, is_formed, stated_cols, states}
+use Rattle.pm_props.specs.Properties.{is_ambient}
+use Rattle.pm_props.specs.Places.{same_property}
 use Rattle.pm_types.specs.Values.{PropertyValue, matrix, sets, whole, truth, extended, edges, lattice, counts}
-use Rattle.pm_types.specs.declared.property.PropId.{PropId}
-use Rattle.pm_types.specs.declared.property.PropId.TheVariants.{ConeAmbientDim}
+use Rattle.pm_props.specs.declared.property.PropId.{PropId}
+use Rattle.pm_props.specs.declared.property.PropId.TheVariants.{ConeAmbientDim}
 use Rattle.std.proofs.Common.{ap, arith, false, inl, inr, refl, subst, sym, true, true≢false, ◌∙◌}
 use Rattle.std.specs.Option.{is_some}
 use Rattle.std.specs.Prelude.{Bool, List, map, None, Option, Some, [], if◌then◌else◌, nat_eq, ℕ, ◌++◌, ◌||◌, ◌≡◌, ◌⊎◌, ◌∷◌}

@@ -1,11 +1,11 @@
 -- Which names are held.
 use Rattle.pm_object.specs.State.{HeldValue, is_held, names_of, value_of}
-use Rattle.pm_types.proofs.Members.{has-empty, has-only, has-union}
-use Rattle.pm_types.specs.Properties.{number}
-use Rattle.pm_types.specs.Runs.{same_property}
-use Rattle.pm_types.specs.Sets.{has, only, union}
-use Rattle.pm_types.specs.declared.property.PropId.{PropId}
-use Rattle.pm_types.specs.declared.set.PropSet.{PropSet}
+use Rattle.pm_props.proofs.Members.{has-empty, has-only, has-union}
+use Rattle.pm_props.specs.Properties.{number}
+use Rattle.pm_props.specs.Places.{same_property}
+use Rattle.pm_props.specs.Sets.{has, only, union}
+use Rattle.pm_props.specs.declared.property.PropId.{PropId}
+use Rattle.pm_props.specs.declared.set.PropSet.{PropSet}
 use Rattle.std.proofs.Common.{ap, arith, eqb, false, refl, true, ◌∙◌}
 use Rattle.std.specs.Option.{is_some}
 use Rattle.std.specs.Prelude.{Bool, List, Some, [], fold, if◌then◌else◌, map, nat_eq, ℕ, ◌∷◌, ◌||◌, ◌≡◌}

@@ -6,12 +6,13 @@ use Rattle.pm_object.specs.declared.held.Held.{Held as HeldOf}
 use Rattle.pm_algebra.specs.Numbers.{Ratio}
 use Rattle.pm_object.specs.State.{HeldValue, State, agrees, ambient_in, cols_of, first_cols, is_held, is_sealed, names_to_settle, only_if, or_else, settled, settling, value_of, with_held}
 use Rattle.pm_matrix.specs.Matrices.{IsFraction}
-use Rattle.pm_types.specs.Forms.{HasPrimitiveRow, cols_in, is_column_count, is_columned, is_dimension, is_formed, is_matrix_form, is_of_matrices, stated_cols}
-use Rattle.pm_types.specs.Properties.{value_kind}
+use Rattle.pm_types.specs.Forms.{HasPrimitiveRow, cols_in, is_column_count, is_dimension, is_formed, is_matrix_form, stated_cols}
+use Rattle.pm_props.specs.Properties.{is_columned, is_of_matrices}
+use Rattle.pm_props.specs.Properties.{value_kind}
 use Rattle.pm_types.specs.Values.{PropertyValue, matrix, sets, whole, truth, extended, edges, lattice, counts}
-use Rattle.pm_types.specs.declared.property.PropId.{PropId}
-use Rattle.pm_types.specs.declared.property.PropId.TheVariants.{ConeAmbientDim, InputLineality, Equations, LinealitySpace, AffineHull}
-use Rattle.pm_geom.specs.declared.ObjectType.{ObjectType}
+use Rattle.pm_props.specs.declared.property.PropId.{PropId}
+use Rattle.pm_props.specs.declared.property.PropId.TheVariants.{ConeAmbientDim, InputLineality, Equations, LinealitySpace, AffineHull}
+use Rattle.pm_props.specs.declared.object_type.ObjectType.{ObjectType}
 use Rattle.std.proofs.Common.{ap, append-nil, arith, false, refl, subst, sym, true, true≢false, ◌∙◌}
 use Rattle.std.proofs.lemmas.Bool.{leb-true}
 use Rattle.std.proofs.lemmas.List.Elements.{All-nil}

@@ -7,13 +7,15 @@ use Rattle.pm_object.specs.Formed.{IsFormed}
 use Rattle.pm_object.specs.Honest.{facts}
 use Rattle.pm_object.specs.Reading.{IsView, IsViewed, fact_of, view_for}
 use Rattle.pm_object.specs.State.{HeldValue, State, agrees, cols_of, read_at, value_of}
-use Rattle.pm_types.proofs.Kept.{among_shown, named_from, same_place_is, same_property_is, shown_among}
+use Rattle.pm_types.proofs.Kept.{among_shown, named_from, shown_among}
+use Rattle.pm_props.proofs.Places.{same_place_is, same_property_is}
 use Rattle.pm_types.specs.Forms.{FormsIn, is_dimension}
-use Rattle.pm_types.specs.Runs.{is_named, place_of, same_place, same_property, shown}
-use Rattle.pm_types.specs.Sets.{has}
+use Rattle.pm_types.specs.Runs.{is_named, shown}
+use Rattle.pm_props.specs.Places.{place_of, same_place, same_property}
+use Rattle.pm_props.specs.Sets.{has}
 use Rattle.pm_types.specs.Values.{Fact, PropertyValue}
-use Rattle.pm_types.specs.declared.kind.Kind.{Kind}
-use Rattle.pm_types.specs.declared.property.PropId.{PropId}
+use Rattle.pm_props.specs.declared.kind.Kind.{Kind}
+use Rattle.pm_props.specs.declared.property.PropId.{PropId}
 use Rattle.std.proofs.Common.{ap, false, refl, subst, sym, true, true≢false, ◌∙◌}
 use Rattle.std.specs.Option.{is_some, option_map}
 use Rattle.std.specs.Prelude.{Bool, IfSome, IsTrue, List, None, Option, Some, [], if◌then◌else◌, nat_le, ℕ, ◌&&◌, ◌≡◌, ◌∷◌}

@@ -3,9 +3,9 @@
 --     IsFormed o      all held values are so, and an object for which a round was started knows its dimension
 use Rattle.std.specs.Prelude.{ℕ, ◌≡◌, true, IsTrue, None, Option}
 use Rattle.std.specs.List.{Contains}
-use Rattle.pm_geom.specs.declared.ObjectType.{ObjectType}
+use Rattle.pm_props.specs.declared.object_type.ObjectType.{ObjectType}
 use Rattle.pm_types.specs.Forms.{AreFractions, HavePrimitiveRows, is_formed, are_rows}
-use Rattle.pm_types.specs.declared.property.PropId.TheVariants.{ConeAmbientDim}
+use Rattle.pm_props.specs.declared.property.PropId.TheVariants.{ConeAmbientDim}
 use Rattle.pm_object.specs.State.{HeldValue, State, agrees, cols_of, is_held, is_sealed}
 
 pub record IsFormedIn (of : ObjectType) (n : Option ℕ) (h : HeldValue) : Type 0 where

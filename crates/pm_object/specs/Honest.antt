@@ -6,11 +6,12 @@
 --     IsKept o      the object is honest, and while it has no round each of its values was given
 use Rattle.std.specs.Prelude.{◌≡◌, Bool, true, false, List, [], filter, map}
 use Rattle.std.specs.List.{Contains, list_any}
-use Rattle.pm_geom.specs.Things.{Thing, Orders}
-use Rattle.pm_types.specs.Properties.{rays_tag, facets_tag}
+use Rattle.pm_types.specs.Things.{Thing}
+use Rattle.pm_geom.specs.Things.{Orders}
+use Rattle.pm_props.specs.Properties.{rays_tag, facets_tag}
 use Rattle.pm_types.specs.Right.{RightAll}
 use Rattle.pm_types.specs.Values.{Fact}
-use Rattle.pm_types.specs.declared.property.PropId.{PropId}
+use Rattle.pm_props.specs.declared.property.PropId.{PropId}
 use Rattle.pm_object.specs.State.{HeldValue, State}
 use Rattle.pm_object.specs.declared.held.Origin.{Origin}
 use Rattle.pm_object.specs.declared.held.Origin.TheVariants.{Given, Computed}

@@ -2,11 +2,12 @@
 --     computed answer      the facts of an answer as computed values, at their places
 use Rattle.std.specs.Prelude.{ℕ, ◌≡◌, Option, List, [], map}
 use Rattle.std.specs.List.{Contains}
-use Rattle.pm_geom.specs.declared.ObjectType.{ObjectType}
-use Rattle.pm_types.specs.Runs.{MayAnswer, MayRun, missing, place_of, shown}
+use Rattle.pm_props.specs.declared.object_type.ObjectType.{ObjectType}
+use Rattle.pm_types.specs.Runs.{MayAnswer, MayRun, missing, shown}
+use Rattle.pm_props.specs.Places.{place_of}
 use Rattle.pm_types.specs.Values.{Fact, PropertyValue}
-use Rattle.pm_types.specs.declared.property.PropId.{PropId}
-use Rattle.pm_types.specs.declared.kind.Kind.{Kind}
+use Rattle.pm_props.specs.declared.property.PropId.{PropId}
+use Rattle.pm_props.specs.declared.kind.Kind.{Kind}
 use Rattle.pm_object.specs.Honest.{IsHonest, IsKept, facts}
 use Rattle.pm_object.specs.State.{HeldValue, State, empty_object, settling, with_held}
 use Rattle.pm_object.specs.declared.held.Origin.TheVariants.{Given, Computed}

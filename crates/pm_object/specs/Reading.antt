@@ -7,14 +7,15 @@
 --     answer_of sub draft      the values of the targets as facts, in the order of the properties' numbers
 use Rattle.std.specs.Prelude.{ℕ, suc, ◌≡◌, IsTrue, Option, Some, None, List, [], ◌∷◌, ◌++◌, nat_le, if◌then◌else◌}
 use Rattle.std.specs.List.{Contains}
-use Rattle.pm_geom.specs.declared.ObjectType.{ObjectType}
-use Rattle.pm_types.specs.Runs.{place_of, same_property, shown, is_named}
+use Rattle.pm_props.specs.declared.object_type.ObjectType.{ObjectType}
+use Rattle.pm_props.specs.Places.{place_of, same_property}
+use Rattle.pm_types.specs.Runs.{shown, is_named}
 use Rattle.pm_types.specs.Forms.{FormsIn}
-use Rattle.pm_types.specs.Kinds.{IsKindOf}
-use Rattle.pm_types.specs.Sets.{has, members}
+use Rattle.pm_props.specs.Kinds.{IsKindOf}
+use Rattle.pm_props.specs.Sets.{has, members}
 use Rattle.pm_types.specs.Values.{Fact, PropertyValue}
-use Rattle.pm_types.specs.declared.kind.Kind.{Kind}
-use Rattle.pm_types.specs.declared.property.PropId.{PropId}
+use Rattle.pm_props.specs.declared.kind.Kind.{Kind}
+use Rattle.pm_props.specs.declared.property.PropId.{PropId}
 use Rattle.pm_object.specs.Honest.{facts}
 use Rattle.pm_object.specs.State.{State, cols_of, is_held, read_at}
 

@@ -1,7 +1,7 @@
 -- The code's held values and rounds, as contracts see them.
 use Rattle.pm_types.specs.Views.{view_of}
 use Rattle.pm_object.specs.State.{HeldValue, RoundSeen}
-use Rattle.pm_types.specs.declared.property.PropId.{PropId}
+use Rattle.pm_props.specs.declared.property.PropId.{PropId}
 use Rattle.pm_types.specs.declared.value.Value.{Value}
 use Rattle.pm_object.specs.Reading.{Put}
 use Rattle.pm_object.specs.declared.held.Held.{Held}

@@ -2,7 +2,7 @@
 
 ghost use Rattle.pm_object.specs.Reading.{DraftSeen, drafted, place_in, without};
 ghost use Rattle.pm_object.specs.Views.{put_seen};
-ghost use Rattle.pm_types.specs.Sets.{has};
+ghost use Rattle.pm_props.specs.Sets.{has};
 ghost use Rattle.pm_types.specs.Views.{view_of};
 ghost use Rattle.std.specs.Option.{option_map};
 ghost use Rattle.std.specs.Prelude.{IfErr, IfSome, IsTrue, None, OnErr, OnOk, [], length, map, ◌++◌, ◌<◌, ◌∷◌, ◌≡◌};

@@ -1,19 +1,19 @@
 // The calls of an object.
 
 ghost use Rattle.pm_types.specs.Values.{whole};
-ghost use Rattle.pm_types.specs.declared.property.PropId.TheVariants.{ConeAmbientDim};
+ghost use Rattle.pm_props.specs.declared.property.PropId.TheVariants.{ConeAmbientDim};
 ghost use Rattle.pm_object.specs.State.{CanTake, CannotTake, State, agrees, ambient_in, cols_of, empty_object, is_disabled, is_held, is_sealed, names_of, names_to_settle, read_at, settling, settling_names, value_of, with_disabled, with_excluded, with_held, with_round};
 ghost use Rattle.pm_types.specs.Forms.{are_rows, is_formed};
 ghost use Rattle.pm_object.specs.Formed.{IsFormed, IsFormedIn};
 ghost use Rattle.pm_object.specs.Views.{held_seen, round_seen};
 ghost use Rattle.pm_object.specs.Laws.{computed_at};
 ghost use Rattle.pm_object.specs.declared.held.Origin.TheVariants.{Given};
-ghost use Rattle.pm_types.specs.Runs.{place_of, same_place};
+ghost use Rattle.pm_props.specs.Places.{place_of, same_place};
 ghost use Rattle.pm_types.specs.Views.{view_of};
 ghost use Rattle.pm_object.specs.Reading.{view_for};
-ghost use Rattle.pm_types.specs.Kinds.{IsKindOf};
-ghost use Rattle.pm_types.specs.Sets.{has};
-ghost use Rattle.pm_types.specs.declared.property.PropId.{PropId};
+ghost use Rattle.pm_props.specs.Kinds.{IsKindOf};
+ghost use Rattle.pm_props.specs.Sets.{has};
+ghost use Rattle.pm_props.specs.declared.property.PropId.{PropId};
 ghost use Rattle.std.specs.Option.{is_some, option_map, unwrap_or};
 ghost use Rattle.std.specs.Prelude.{IfErr, IfOk, IfSome, IsTrue, false, if◌then◌else◌, None, OnErr, OnOk, Some, [], map, not, string_bytes, ◌&&◌, ◌+◌, ◌++◌, ◌<◌, ◌≤◌, ◌^◌, ◌∷◌, ◌≡◌, ◌≢◌};
 
@@ -22,7 +22,7 @@ use crate::held::{Excluded, Held, Origin, Round, TakeFail};
 use crate::settled::{push_if, settled_values};
 use crate::tests_of_values::{agrees, are_rows, first_cols, require_primitive_rows};
 use crate::view::View;
-use pm_geom::ObjectType;
+use pm_types::ObjectType;
 use pm_types::{Kind, PropId, PropSet, Value};
 use std::alloc::{AllocError, Global};
 use std::marker::Model;

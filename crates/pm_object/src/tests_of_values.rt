@@ -2,7 +2,8 @@
 
 ghost use Rattle.pm_object.specs.State.{agrees, first_cols};
 ghost use Rattle.pm_matrix.specs.Matrices.{IsFraction};
-ghost use Rattle.pm_types.specs.Forms.{AreFractions, HasPrimitiveRow, HavePrimitiveRows, agrees_with, are_rows, first_is_below, first_is_nought, is_below_nought, is_formed, is_nought, is_number, is_row, is_ambient, is_zero_row, stated_cols, states};
+ghost use Rattle.pm_types.specs.Forms.{AreFractions, HasPrimitiveRow, HavePrimitiveRows, agrees_with, are_rows, first_is_below, first_is_nought, is_below_nought, is_formed, is_nought, is_number, is_row, is_zero_row, stated_cols, states};
+ghost use Rattle.pm_props.specs.Properties.{is_ambient};
 ghost use Rattle.pm_object.specs.Views.{held_seen};
 ghost use Rattle.pm_types.specs.Views.{view_of};
 ghost use Rattle.std.specs.List.{list_all};
@@ -10,7 +11,7 @@ ghost use Rattle.std.specs.Prelude.{All, IfErr, IsTrue, OnOk, length, map, â—Œâ‰
 
 use crate::held::{Held, TakeFail};
 use pm_fraction::Fraction;
-use pm_geom::ObjectType;
+use pm_types::ObjectType;
 use pm_matrix::{Matrix, RowsFail};
 use pm_types::{PropId, Value};
 use std::alloc::Global;

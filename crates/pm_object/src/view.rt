@@ -2,13 +2,13 @@
 
 ghost use Rattle.pm_object.specs.Reading.{IsView, IsViewed, fact_of, view_for};
 ghost use Rattle.pm_types.specs.Forms.{FormsIn};
-ghost use Rattle.pm_types.specs.Sets.{has};
+ghost use Rattle.pm_props.specs.Sets.{has};
 ghost use Rattle.pm_types.specs.Views.{view_of};
 ghost use Rattle.std.specs.Option.{option_map};
 ghost use Rattle.std.specs.Prelude.{IfSome, IsSome, IsTrue, ◌≡◌, ◌↔◌};
 
 use crate::object::Object;
-use pm_geom::ObjectType;
+use pm_types::ObjectType;
 use pm_types::{Kind, PropId, Value};
 use std::marker::Model;
 

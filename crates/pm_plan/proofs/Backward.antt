@@ -4,7 +4,7 @@ use Rattle.std.specs.Prelude.{slice_index_or}
 use Rattle.std.specs.Option.{option_map_or}
 use Rattle.std.proofs.lemmas.List.{reverse-append}
 use Rattle.std.proofs.lemmas.Option.{slice_get-get_or}
-use Rattle.pm_types.specs.declared.kind.RuleId.{RuleId}
+use Rattle.pm_props.specs.declared.kind.RuleId.{RuleId}
 use Rattle.pm_plan.specs.declared.track.Link.{Link}
 use Rattle.pm_plan.specs.Tracks.{GoesBack, IsTrack}
 use Rattle.pm_plan.specs.Tracks.IsTrack.{begun, onward}

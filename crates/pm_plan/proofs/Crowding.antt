@@ -8,12 +8,12 @@ use Rattle.std.proofs.lemmas.Cmp.{eq_by_cmp_equiv, then_total, on_total, nat_cmp
 use Rattle.std.specs.BTreeMap.{keys}
 use Rattle.std.specs.Cmp.{IsTotalOrder}
 use Rattle.std.specs.Ordering.{eq_by_cmp}
-use Rattle.pm_types.specs.declared.set.PropSet.{PropSet}
-use Rattle.pm_types.specs.declared.kind.RuleId.{RuleId}
-use Rattle.pm_types.specs.declared.weight.Cost.{Cost}
-use Rattle.pm_types.specs.Sets.{union, IsSubset}
-use Rattle.pm_types.specs.Weights.{IsWeight, plus, no_cost, IsBelow, IsAtMost}
-use Rattle.pm_types.proofs.CostOrder.{at_most_itself, no_cost_at_most, below_from_at_most, not_below_and_at_most, at_most_or_below}
+use Rattle.pm_props.specs.declared.set.PropSet.{PropSet}
+use Rattle.pm_props.specs.declared.kind.RuleId.{RuleId}
+use Rattle.pm_props.specs.declared.weight.Cost.{Cost}
+use Rattle.pm_props.specs.Sets.{union, IsSubset}
+use Rattle.pm_props.specs.Weights.{IsWeight, plus, no_cost, IsBelow, IsAtMost}
+use Rattle.pm_props.proofs.CostOrder.{at_most_itself, no_cost_at_most, below_from_at_most, not_below_and_at_most, at_most_or_below}
 use Rattle.pm_rules.specs.declared.rule.Rule.{Rule}
 use Rattle.pm_rules.specs.declared.table.TableRow.{TableRow}
 use Rattle.pm_rules.specs.declared.table.Claim.{Claim}

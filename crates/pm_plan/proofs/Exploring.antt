@@ -4,11 +4,11 @@ use Rattle.std.specs.Prelude.{slice_get}
 use Rattle.std.proofs.lemmas.List.{length-append}
 use Rattle.std.proofs.lemmas.List.Elements.{All-contains, Contains-push_cases}
 use Rattle.std.proofs.lemmas.Option.{slice_get-get_or, slice_get_within}
-use Rattle.pm_types.specs.declared.set.PropSet.{PropSet}
-use Rattle.pm_types.specs.declared.weight.Cost.{Cost}
-use Rattle.pm_types.specs.Sets.{IsSubset}
-use Rattle.pm_types.specs.Weights.{IsWeight, most, IsAtMost}
-use Rattle.pm_types.proofs.CostOrder.{at_most_itself}
+use Rattle.pm_props.specs.declared.set.PropSet.{PropSet}
+use Rattle.pm_props.specs.declared.weight.Cost.{Cost}
+use Rattle.pm_props.specs.Sets.{IsSubset}
+use Rattle.pm_props.specs.Weights.{IsWeight, most, IsAtMost}
+use Rattle.pm_props.proofs.CostOrder.{at_most_itself}
 use Rattle.pm_rules.specs.declared.table.TableRow.{TableRow}
 use Rattle.pm_rules.specs.Steps.{IsOpen}
 use Rattle.pm_rules.specs.Certificates.{IsBefore}

@@ -5,10 +5,10 @@ use Rattle.std.specs.declared.cmp.Ordering.TheVariants.{Less, Equal, Greater}
 use Rattle.std.specs.Ordering.{nat_cmp, ordering_then, is_gt, MatchOrdering}
 use Rattle.std.proofs.lemmas.Bool.{cases_eq}
 use Rattle.std.proofs.lemmas.Cmp.{ranked}
-use Rattle.pm_types.specs.declared.weight.Weight.{Weight}
-use Rattle.pm_types.specs.declared.weight.Cost.{Cost}
-use Rattle.pm_types.specs.Weights.{IsWeight, plus, IsBelow, IsAtMost}
-use Rattle.pm_types.proofs.CostOrder.{at_most_from_below, not_below_and_at_most, at_most_itself}
+use Rattle.pm_props.specs.declared.weight.Weight.{Weight}
+use Rattle.pm_props.specs.declared.weight.Cost.{Cost}
+use Rattle.pm_props.specs.Weights.{IsWeight, plus, IsBelow, IsAtMost}
+use Rattle.pm_props.proofs.CostOrder.{at_most_from_below, not_below_and_at_most, at_most_itself}
 use Rattle.pm_rules.specs.declared.table.TableRow.{TableRow}
 use Rattle.pm_rules.specs.Certificates.{IsBefore}
 use Rattle.pm_plan.specs.declared.search.Place.{Place}

@@ -2,12 +2,12 @@
 use Rattle.std.proofs.Common.{◌≡◌, ◌≢◌, Some, None, List, ◌⊎◌, inl, inr, sym, ap, ◌∙◌, subst, arith, All, AllPairs, Contains}
 use Rattle.std.specs.Prelude.{slice_index_or}
 use Rattle.std.proofs.lemmas.List.Elements.{All-contains, Contains-get_or}
-use Rattle.pm_types.specs.declared.set.PropSet.{PropSet}
-use Rattle.pm_types.specs.declared.kind.RuleId.{RuleId}
-use Rattle.pm_types.specs.declared.weight.Cost.{Cost}
-use Rattle.pm_types.specs.Sets.{IsSubset}
-use Rattle.pm_types.specs.Weights.{IsWeight, no_cost, IsBelow, IsAtMost}
-use Rattle.pm_types.proofs.CostOrder.{no_cost_at_most, at_most_from_below, not_below_and_at_most}
+use Rattle.pm_props.specs.declared.set.PropSet.{PropSet}
+use Rattle.pm_props.specs.declared.kind.RuleId.{RuleId}
+use Rattle.pm_props.specs.declared.weight.Cost.{Cost}
+use Rattle.pm_props.specs.Sets.{IsSubset}
+use Rattle.pm_props.specs.Weights.{IsWeight, no_cost, IsBelow, IsAtMost}
+use Rattle.pm_props.proofs.CostOrder.{no_cost_at_most, at_most_from_below, not_below_and_at_most}
 use Rattle.pm_rules.specs.declared.rule.Rule.{Rule}
 use Rattle.pm_rules.specs.declared.table.TableRow.{TableRow}
 use Rattle.pm_rules.specs.declared.table.Claim.{Claim}

@@ -1,11 +1,11 @@
 -- What moves lead to from the start is settled, or it comes after what waits, or the goal costs no more.
 use Rattle.std.proofs.Common.{◌≡◌, List, [], ◌∷◌, ◌⊎◌, inl, inr, refl, sym, ap, subst, All, Contains, IsSome}
-use Rattle.pm_types.specs.declared.set.PropSet.{PropSet}
-use Rattle.pm_types.specs.declared.kind.RuleId.{RuleId}
-use Rattle.pm_types.specs.declared.weight.Cost.{Cost}
-use Rattle.pm_types.specs.Sets.{union}
-use Rattle.pm_types.specs.Weights.{IsWeight, plus, IsBelow, IsAtMost}
-use Rattle.pm_types.proofs.CostOrder.{at_most_trans, at_most_from_below, below_from_at_most, plus-at_most}
+use Rattle.pm_props.specs.declared.set.PropSet.{PropSet}
+use Rattle.pm_props.specs.declared.kind.RuleId.{RuleId}
+use Rattle.pm_props.specs.declared.weight.Cost.{Cost}
+use Rattle.pm_props.specs.Sets.{union}
+use Rattle.pm_props.specs.Weights.{IsWeight, plus, IsBelow, IsAtMost}
+use Rattle.pm_props.proofs.CostOrder.{at_most_trans, at_most_from_below, below_from_at_most, plus-at_most}
 use Rattle.pm_rules.specs.declared.table.TableRow.{TableRow}
 use Rattle.pm_rules.specs.Steps.{IsOpen}
 use Rattle.pm_rules.specs.Certificates.{HasRow}

@@ -1,8 +1,8 @@
 -- What is reached from the start is met in order.
 use Rattle.std.proofs.Common.{◌≡◌, ◌⊎◌, inl, inr, subst}
-use Rattle.pm_types.specs.declared.weight.Cost.{Cost}
-use Rattle.pm_types.specs.Weights.{IsAtMost}
-use Rattle.pm_types.proofs.CostOrder.{at_most_trans}
+use Rattle.pm_props.specs.declared.weight.Cost.{Cost}
+use Rattle.pm_props.specs.Weights.{IsAtMost}
+use Rattle.pm_props.proofs.CostOrder.{at_most_trans}
 use Rattle.pm_rules.specs.declared.table.TableRow.{TableRow}
 use Rattle.pm_rules.specs.Certificates.{IsBefore}
 use Rattle.pm_plan.specs.declared.search.Goal.{Goal}

@@ -6,11 +6,11 @@ use Rattle.std.proofs.lemmas.List.{length-append, take-append-le}
 use Rattle.std.proofs.lemmas.List.Elements.{Contains-append_left, Contains-push, Contains-push_cases, Contains-get_or}
 use Rattle.std.proofs.lemmas.List.Quantifiers.{all_pairs_push}
 use Rattle.std.proofs.lemmas.Option.{slice_get_within}
-use Rattle.pm_types.specs.declared.set.PropSet.{PropSet}
-use Rattle.pm_types.specs.declared.weight.Cost.{Cost}
-use Rattle.pm_types.specs.Sets.{IsSubset}
-use Rattle.pm_types.specs.Weights.{IsBelow, IsAtMost}
-use Rattle.pm_types.proofs.CostOrder.{at_most_itself, at_most_trans, at_most_from_below, at_most_or_below}
+use Rattle.pm_props.specs.declared.set.PropSet.{PropSet}
+use Rattle.pm_props.specs.declared.weight.Cost.{Cost}
+use Rattle.pm_props.specs.Sets.{IsSubset}
+use Rattle.pm_props.specs.Weights.{IsBelow, IsAtMost}
+use Rattle.pm_props.proofs.CostOrder.{at_most_itself, at_most_trans, at_most_from_below, at_most_or_below}
 use Rattle.pm_rules.specs.declared.table.TableRow.{TableRow}
 use Rattle.pm_rules.specs.Certificates.{IsBefore}
 use Rattle.pm_plan.specs.declared.moves.Move.{Move}

@@ -4,13 +4,13 @@ use Rattle.std.specs.Prelude.{slice_get}
 use Rattle.std.proofs.lemmas.List.Elements.{All-contains}
 use Rattle.std.proofs.lemmas.List.Sums.{sum_by-cons}
 use Rattle.std.proofs.lemmas.Option.{slice_get-get_or, slice_get_within}
-use Rattle.pm_types.specs.declared.set.PropSet.{PropSet}
-use Rattle.pm_types.specs.declared.kind.RuleId.{RuleId}
-use Rattle.pm_types.specs.declared.weight.Weight.{Weight}
-use Rattle.pm_types.specs.declared.weight.Cost.{Cost}
-use Rattle.pm_types.specs.Sets.{union}
-use Rattle.pm_types.specs.Weights.{IsWeight, plus, no_cost, IsBelow, IsAtMost}
-use Rattle.pm_types.proofs.CostOrder.{at_most_itself, at_most_from_below, at_most_trans}
+use Rattle.pm_props.specs.declared.set.PropSet.{PropSet}
+use Rattle.pm_props.specs.declared.kind.RuleId.{RuleId}
+use Rattle.pm_props.specs.declared.weight.Weight.{Weight}
+use Rattle.pm_props.specs.declared.weight.Cost.{Cost}
+use Rattle.pm_props.specs.Sets.{union}
+use Rattle.pm_props.specs.Weights.{IsWeight, plus, no_cost, IsBelow, IsAtMost}
+use Rattle.pm_props.proofs.CostOrder.{at_most_itself, at_most_from_below, at_most_trans}
 use Rattle.pm_rules.specs.declared.rule.Rule.{Rule}
 use Rattle.pm_rules.specs.declared.step.Step.{Step}
 use Rattle.pm_rules.specs.declared.table.TableRow.{TableRow}

@@ -4,10 +4,10 @@
 --     AreMoves book names barred asked moves      they are the moves of all useful rules, and nothing else
 --     after row m      the row to which the move leads from a row
 use Rattle.std.specs.Prelude.{◌≡◌, Some, List, All, Contains}
-use Rattle.pm_types.specs.declared.set.PropSet.{PropSet}
-use Rattle.pm_types.specs.declared.kind.RuleId.{RuleId}
-use Rattle.pm_types.specs.Sets.{union}
-use Rattle.pm_types.specs.Weights.{plus}
+use Rattle.pm_props.specs.declared.set.PropSet.{PropSet}
+use Rattle.pm_props.specs.declared.kind.RuleId.{RuleId}
+use Rattle.pm_props.specs.Sets.{union}
+use Rattle.pm_props.specs.Weights.{plus}
 use Rattle.pm_rules.specs.declared.rule.Rule.{Rule}
 use Rattle.pm_rules.specs.declared.table.TableRow.{TableRow}
 use Rattle.pm_rules.specs.Rules.{rule_at}

@@ -5,7 +5,7 @@
 --     IsTrack links last chain      the rules that the links name from the last one back, in the order in which they lead on
 --     Leads moves row chain end      the moves of these rules, each open in turn, lead from the row to the end
 use Rattle.std.specs.Prelude.{◌≡◌, ◌<◌, ℕ, Option, Some, None, IfSome, List, [], ◌∷◌, ◌++◌, length, take, Contains, slice_get}
-use Rattle.pm_types.specs.declared.kind.RuleId.{RuleId}
+use Rattle.pm_props.specs.declared.kind.RuleId.{RuleId}
 use Rattle.pm_rules.specs.declared.table.TableRow.{TableRow}
 use Rattle.pm_rules.specs.Steps.{IsOpen}
 use Rattle.pm_plan.specs.declared.moves.Move.{Move}

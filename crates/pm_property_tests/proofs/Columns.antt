@@ -2,13 +2,13 @@
 use Rattle.pm_client.proofs.OneTarget.{IsRightAnswer, sound_put}
 use Rattle.pm_client.specs.Sound.{IsSound}
 use Rattle.pm_object.specs.Reading.{DraftSeen, IsView, ViewSeen}
-use Rattle.pm_types.proofs.Every.{has-set_of}
+use Rattle.pm_props.proofs.Every.{has-set_of}
 use Rattle.pm_matrix.specs.Matrices.{IsFraction}
 use Rattle.pm_types.specs.Forms.{HasPrimitiveRow}
-use Rattle.pm_types.specs.Sets.{has, members, only, set_of, union}
+use Rattle.pm_props.specs.Sets.{has, members, only, set_of, union}
 use Rattle.pm_types.specs.Values.{whole}
-use Rattle.pm_types.specs.declared.kind.Kind.{Kind}
-use Rattle.pm_types.specs.declared.property.PropId.TheVariants.{ConeAmbientDim}
+use Rattle.pm_props.specs.declared.kind.Kind.{Kind}
+use Rattle.pm_props.specs.declared.property.PropId.TheVariants.{ConeAmbientDim}
 use Rattle.std.proofs.Common.{ap, arith, refl, sym, to_z, true, w64, ◌∙◌, ◌<◌, ◌^◌}
 use Rattle.std.proofs.lemmas.Bool.{leb-true}
 use Rattle.std.proofs.lemmas.Int.{to_z_pos}

@@ -1,11 +1,11 @@
 // Running a client of the tests' own.
 
 ghost use Rattle.std.specs.Prelude.{codes, [], ◌∷◌, ◌≡◌};
-ghost use Rattle.pm_types.specs.Sets.{set_of};
-ghost use Rattle.pm_types.specs.declared.property.PropId.TheVariants.{ConeAmbientDim};
+ghost use Rattle.pm_props.specs.Sets.{set_of};
+ghost use Rattle.pm_props.specs.declared.property.PropId.TheVariants.{ConeAmbientDim};
 
 use pm_client::{Client, ClientFail, place_of, put_value, run_first};
-use pm_geom::ObjectType;
+use pm_types::ObjectType;
 use pm_object::{Draft, Object, View};
 use pm_types::{ClientName, Kind, PropId, PropSet, Value};
 use std::alloc::Global;
@@ -31,8 +31,8 @@ fn columns_kind() -> Kind
 
 impl Client for Columns {
     ghost use Rattle.std.specs.Prelude.{codes, [], ◌∷◌};
-    ghost use Rattle.pm_types.specs.Sets.{set_of};
-    ghost use Rattle.pm_types.specs.declared.property.PropId.TheVariants.{ConeAmbientDim};
+    ghost use Rattle.pm_props.specs.Sets.{set_of};
+    ghost use Rattle.pm_props.specs.declared.property.PropId.TheVariants.{ConeAmbientDim};
 
     ghost tally = { λ c. (record { name = codes "columns"; targets = set_of (ConeAmbientDim ∷ []); sources = 0; must = 0; must_not = 0 }, c.starts) };
 

@@ -1,7 +1,8 @@
 // Objects with memory at hand: what is taken and what is not, what goes without saying, and copies.
 
 use crate::values::value_of;
-use pm_geom::{Evidence, ObjectType};
+use pm_geom::Evidence;
+use pm_types::ObjectType;
 use pm_object::{Excluded, Object, Round, RoundEnd, TakeFail, Why};
 use pm_types::{Cost, PropId, PropSet, RuleId, Value};
 use pm_vector::Ints;

@@ -2,14 +2,14 @@
 use Rattle.std.proofs.Common.{◌≡◌, ℕ, ◌≤◌, Bool, true, IsTrue, Option, Some, List, ◌∷◌, ◌⊎◌, inl, inr, sum_by, unwrap_or, option_map, sym, ap, ◌∙◌, subst, arith}
 use Rattle.std.proofs.lemmas.List.Sums.{sum_by-cons}
 use Rattle.std.proofs.lemmas.Bool.{or_cases, or_left, or_right, false_from_ne_true, both_ways}
-use Rattle.pm_types.specs.declared.property.PropId.{PropId}
-use Rattle.pm_types.specs.declared.set.PropSet.{PropSet}
-use Rattle.pm_types.specs.declared.kind.RuleId.{RuleId}
-use Rattle.pm_types.specs.Sets.{has, union, IsSubset}
-use Rattle.pm_types.specs.Weights.{IsAtMost}
-use Rattle.pm_types.specs.Properties.{rays_tag, facets_tag, generators_tag, half_spaces_tag}
-use Rattle.pm_types.proofs.Members.{has-union}
-use Rattle.pm_types.proofs.CostOrder.{at_most_from_parts}
+use Rattle.pm_props.specs.declared.property.PropId.{PropId}
+use Rattle.pm_props.specs.declared.set.PropSet.{PropSet}
+use Rattle.pm_props.specs.declared.kind.RuleId.{RuleId}
+use Rattle.pm_props.specs.Sets.{has, union, IsSubset}
+use Rattle.pm_props.specs.Weights.{IsAtMost}
+use Rattle.pm_props.specs.Properties.{rays_tag, facets_tag, generators_tag, half_spaces_tag}
+use Rattle.pm_props.proofs.Members.{has-union}
+use Rattle.pm_props.proofs.CostOrder.{at_most_from_parts}
 use Rattle.pm_rules.specs.declared.rule.Rule.{Rule}
 use Rattle.pm_rules.specs.Rules.{rule_at, IsFree, IsEnabled}
 use Rattle.pm_rules.specs.Chains.{IsChain, targets_at, weight_at, reached, weigh, LeadsTo, Needed, IsUseful, IsUsefulPart}

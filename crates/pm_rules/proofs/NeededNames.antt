@@ -3,12 +3,12 @@ use Rattle.std.proofs.Common.{◌≡◌, ℕ, ◌+◌, ◌<◌, ◌≤◌, Bool,
 use Rattle.std.specs.Prelude.{slice_get}
 use Rattle.std.proofs.lemmas.Bool.{cases_lt, and_parts, and_from, not-true, not_from_false, both_ways, false_from_ne_true, iff_false}
 use Rattle.std.proofs.lemmas.Nat.{le_or_l}
-use Rattle.pm_types.specs.declared.property.PropId.{PropId}
-use Rattle.pm_types.specs.declared.set.PropSet.{PropSet}
-use Rattle.pm_types.specs.declared.kind.RuleId.{RuleId}
-use Rattle.pm_types.specs.Sets.{has, union, IsSubset}
-use Rattle.pm_types.proofs.Members.{has-empty}
-use Rattle.pm_types.proofs.Every.{one_missing}
+use Rattle.pm_props.specs.declared.property.PropId.{PropId}
+use Rattle.pm_props.specs.declared.set.PropSet.{PropSet}
+use Rattle.pm_props.specs.declared.kind.RuleId.{RuleId}
+use Rattle.pm_props.specs.Sets.{has, union, IsSubset}
+use Rattle.pm_props.proofs.Members.{has-empty}
+use Rattle.pm_props.proofs.Every.{one_missing}
 use Rattle.pm_rules.specs.declared.rule.Rule.{Rule}
 use Rattle.pm_rules.specs.Rules.{rule_at, inputs, is_barred, IsInUse}
 use Rattle.pm_rules.specs.Chains.{Needed, IsUseful}

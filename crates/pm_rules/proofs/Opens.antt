@@ -1,14 +1,14 @@
 -- What the code tests of a rule is what the definitions ask of it.
 use Rattle.std.proofs.Common.{◌≡◌, Bool, false, not, ◌&&◌, ◌||◌, ◌↔◌, IsTrue, List, sym, ◌∙◌, inl, inr}
 use Rattle.std.proofs.lemmas.Bool.{cases_Bool, and_parts, and_from, and_cases, and_left, and_right, or_parts, or_from, not-true, not_from_false, both_ways, false_from_ne_true, iff_false}
-use Rattle.pm_types.specs.declared.property.PropId.{PropId}
-use Rattle.pm_types.specs.declared.set.PropSet.{PropSet}
-use Rattle.pm_types.specs.declared.kind.Kind.{Kind}
-use Rattle.pm_types.specs.declared.kind.RuleId.{RuleId}
-use Rattle.pm_types.specs.Properties.{has_program, rays_tag, facets_tag, generators_tag, half_spaces_tag}
-use Rattle.pm_types.specs.Sets.{has, IsSubset}
-use Rattle.pm_types.specs.Kinds.{IsFresh, names_of}
-use Rattle.pm_types.proofs.Every.{any_property, no_property, one_missing, has-set_of_filter}
+use Rattle.pm_props.specs.declared.property.PropId.{PropId}
+use Rattle.pm_props.specs.declared.set.PropSet.{PropSet}
+use Rattle.pm_props.specs.declared.kind.Kind.{Kind}
+use Rattle.pm_props.specs.declared.kind.RuleId.{RuleId}
+use Rattle.pm_props.specs.Properties.{has_program, rays_tag, facets_tag, generators_tag, half_spaces_tag}
+use Rattle.pm_props.specs.Sets.{has, IsSubset}
+use Rattle.pm_props.specs.Kinds.{IsFresh, names_of}
+use Rattle.pm_props.proofs.Every.{any_property, no_property, one_missing, has-set_of_filter}
 use Rattle.pm_rules.specs.declared.rule.Rule.{Rule}
 use Rattle.pm_rules.specs.declared.step.Tag.{Tag}
 use Rattle.pm_rules.specs.declared.step.Tag.TheVariants.{Rays, Facets, Generators, HalfSpaces}

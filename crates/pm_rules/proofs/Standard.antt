@@ -1,37 +1,29 @@
 -- The standard book is a book.
-use Rattle.std.proofs.Common.{◌≡◌, ◌≢◌, ℕ, ◌^◌, ◌<◌, Bool, true, not, ◌&&◌, eqb, leb, ltb, IsTrue, List, [], ◌∷◌, length, refl, sym, subst, arith, lit<, lit≤}
-use Rattle.std.specs.List.{list_all, AllPairs, slice_index_or}
-use Rattle.std.specs.Prelude.{Some, find}
+use Rattle.std.proofs.Common.{◌≡◌, ◌≢◌, ℕ, ◌^◌, ◌<◌, Bool, true, false, not, ◌&&◌, ◌||◌, eqb, leb, ltb, IsTrue, List, [], ◌∷◌, length, refl, ap, arith, lit≤}
+use Rattle.std.specs.List.{list_all, AllPairs}
+use Rattle.std.specs.Prelude.{Option, None, Some, find}
 use Rattle.std.specs.Str.{bytes_eq}
 use Rattle.std.proofs.lemmas.Bool.{and_parts, both_ways, eqb-true, leb-true, ltb-true, not-true}
 use Rattle.std.proofs.lemmas.List.Elements.{All-map, All-weaker}
 use Rattle.std.proofs.lemmas.List.Kept.{AllPairs-cons}
 use Rattle.std.proofs.lemmas.List.Sums.{AllPass-from_list_all}
 use Rattle.std.proofs.lemmas.Slice.Eq.{bytes_eq-Decides}
-use Rattle.pm_types.specs.declared.property.PropId.{PropId}
-use Rattle.pm_types.specs.declared.kind.Kind.{Kind}
-use Rattle.pm_types.specs.declared.standard.StandardClient.{StandardClient}
-use Rattle.pm_types.specs.Kinds.{standard_clients, standard_kind, standard_kinds_list}
-use Rattle.pm_types.specs.declared.standard.StandardClient.TheVariants as client
-use Rattle.pm_types.specs.Sets.{has, only, union, intersection, IsWithin}
-use Rattle.pm_types.specs.Weights.{most}
-use Rattle.pm_types.proofs.Members.{has-empty}
+use Rattle.pm_props.proofs.Every.{all_properties}
+use Rattle.pm_props.specs.Kinds.{built_clients, conditions_of, standard_kind, standard_kinds_list, standard_row}
+use Rattle.pm_props.specs.Properties.{every_property, is_of_truth_values, value_kind}
+use Rattle.pm_props.specs.Sets.{has, only, union, intersection}
+use Rattle.pm_props.specs.Weights.{most}
+use Rattle.pm_props.specs.declared.kind.Kind.{Kind}
+use Rattle.pm_props.specs.declared.property.PropId.{PropId}
+use Rattle.pm_props.specs.declared.property.ValueKind.{ValueKind}
+use Rattle.pm_props.specs.declared.property.ValueKind.TheVariants as value
+use Rattle.pm_props.specs.declared.standard.StandardClient.{StandardClient}
+use Rattle.pm_props.specs.declared.standard.StandardRule.{StandardRule}
 use Rattle.pm_rules.specs.declared.rule.Rule.{Rule}
 use Rattle.pm_rules.specs.Words.{is_word, is_label, precondition_word}
-use Rattle.pm_rules.specs.Books.{FirstKinds, IsNamed, IsRule, IsBook, rule_of, standard_rule, standard_rules, standard_weight}
+use Rattle.pm_rules.specs.Books.{FirstKinds, IsNamed, IsRule, IsBook, rule_of, standard_rule, standard_rules}
 
 -- ---- each rule
-nothing_in : (p : PropId) → IsTrue (has 0 p) → ⊥
-nothing_in p h = both_ways (has 0 p) (has-empty p) h
-
-nothing_in_both : (p : PropId) → IsTrue (has (union 0 0) p) → ⊥
-unfolding union
-nothing_in_both p h = nothing_in p h
-
-none_within : (s : ℕ) → s ≡ 0 → IsWithin s 0
-unfolding intersection
-none_within s e = subst (λ n. IsWithin n 0) (sym e) refl
-
 abbrev is_named : ℕ → Bool
 is_named s = ltb 0 s && ltb s (2 ^ 48)
 
@@ -40,44 +32,76 @@ named s h =
     let parts = and_parts (ltb 0 s) (ltb s (2 ^ 48)) h in
     record { some = ltb-true 0 s parts.0; below = ltb-true s (2 ^ 48) parts.1 }
 
--- whether a kind under no condition makes a rule of this weight
-abbrev is_plain : ℕ → Kind → Bool
-is_plain minor kind =
-    (is_label kind.name && (is_named kind.targets && is_named kind.sources))
-    && ((eqb kind.must 0 && eqb kind.must_not 0) && (ltb 0 minor && leb minor most))
+-- if the first, then the second
+abbrev implies : Bool → Bool → Bool
+implies a b = not a || b
+
+implied : (a b : Bool) → implies a b ≡ true → a ≡ true → b ≡ true
+implied true b h k = h
+implied false b h k = absurd (both_ways false refl k)
+
+truth_kind : (k : ValueKind) → is_of_truth_values k ≡ true → k ≡ value.Bool
+truth_kind value.Bool h = refl
+truth_kind k h = absurd (both_ways false refl h)
+
+-- the conditions of a kind are of properties that are true or false, and none is asked for both ways
+abbrev has_truths : Kind → PropId → Bool
+has_truths kind p = implies (has (conditions_of kind) p) (is_of_truth_values (value_kind p))
+
+abbrev is_apart : Kind → PropId → Bool
+is_apart kind p = implies (has kind.must p) (not (has kind.must_not p))
+
+abbrev has_fit_conditions : Kind → Bool
+has_fit_conditions kind =
+    (list_all (has_truths kind) every_property && list_all (is_apart kind) every_property)
+    && ((eqb (intersection kind.must kind.must) kind.must && eqb (intersection kind.must_not kind.must_not) kind.must_not)
+    && (ltb kind.must (2 ^ 48) && ltb kind.must_not (2 ^ 48)))
+
+abbrev has_fit_names : Kind → Bool
+has_fit_names kind = is_label kind.name && (is_named kind.targets && is_named kind.sources)
+
+-- whether a standard rule is one of a book
+abbrev is_fit : StandardRule → Bool
+is_fit r = has_fit_names r.kind && (has_fit_conditions r.kind && (ltb 0 r.weight && leb r.weight most))
 
 word_of : (label : List ℕ) → is_label label ≡ true → is_word label ≡ true
 word_of label h = (and_parts (is_word label) (leb (length label) 32 && (list_all (λ b. not (eqb b 46)) label && not (bytes_eq label precondition_word))) h).0
 
-plain_IsRule : (minor : ℕ) (kind : Kind) → is_plain minor kind ≡ true → IsRule (rule_of minor kind)
-plain_IsRule minor kind h =
-    let halves = and_parts (is_label kind.name && (is_named kind.targets && is_named kind.sources)) ((eqb kind.must 0 && eqb kind.must_not 0) && (ltb 0 minor && leb minor most)) h in
+fit_IsRule : (r : StandardRule) → is_fit r ≡ true → IsRule (rule_of r)
+fit_IsRule r h =
+    let kind = r.kind in
+    let halves = and_parts (has_fit_names kind) (has_fit_conditions kind && (ltb 0 r.weight && leb r.weight most)) h in
     let names = and_parts (is_label kind.name) (is_named kind.targets && is_named kind.sources) halves.0 in
     let sets = and_parts (is_named kind.targets) (is_named kind.sources) names.1 in
-    let numbers = and_parts (eqb kind.must 0 && eqb kind.must_not 0) (ltb 0 minor && leb minor most) halves.1 in
-    let asked = and_parts (eqb kind.must 0) (eqb kind.must_not 0) numbers.0 in
-    let weight = and_parts (ltb 0 minor) (leb minor most) numbers.1 in
-    let positive : 0 < minor = ltb-true 0 minor weight.0 in
+    let rest = and_parts (has_fit_conditions kind) (ltb 0 r.weight && leb r.weight most) halves.1 in
+    let weight = and_parts (ltb 0 r.weight) (leb r.weight most) rest.1 in
+    let asked = and_parts (list_all (has_truths kind) every_property && list_all (is_apart kind) every_property)
+    ((eqb (intersection kind.must kind.must) kind.must && eqb (intersection kind.must_not kind.must_not) kind.must_not) && (ltb kind.must (2 ^ 48) && ltb kind.must_not (2 ^ 48))) rest.0 in
+    let tests = and_parts (list_all (has_truths kind) every_property) (list_all (is_apart kind) every_property) asked.0 in
+    let bounds = and_parts (eqb (intersection kind.must kind.must) kind.must && eqb (intersection kind.must_not kind.must_not) kind.must_not) (ltb kind.must (2 ^ 48) && ltb kind.must_not (2 ^ 48)) asked.1 in
+    let within = and_parts (eqb (intersection kind.must kind.must) kind.must) (eqb (intersection kind.must_not kind.must_not) kind.must_not) bounds.0 in
+    let below = and_parts (ltb kind.must (2 ^ 48)) (ltb kind.must_not (2 ^ 48)) bounds.1 in
+    let positive : 0 < r.weight = ltb-true 0 r.weight weight.0 in
     record {
       label = names.0;
       client = word_of kind.name names.0;
       targets = named kind.targets sets.0;
       sources = named kind.sources sets.1;
-      weight = record { class = lit≤ tt; minor = leb-true minor most weight.1; some = omega arith };
-      flags = λ p h. absurd (nothing_in_both p h);
-      apart = λ p h. has-empty p;
-      must = none_within kind.must (eqb-true kind.must 0 asked.0);
-      must_not = none_within kind.must_not (eqb-true kind.must_not 0 asked.1);
-      must_below = lit< tt;
-      must_not_below = lit< tt;
+      weight = record { class = lit≤ tt; minor = leb-true r.weight most weight.1; some = omega arith };
+      flags = λ p k. truth_kind (value_kind p) (implied (has (conditions_of kind) p) (is_of_truth_values (value_kind p)) (all_properties (has_truths kind) tests.0 p) k);
+      apart = λ p k. not-true (has kind.must_not p) (implied (has kind.must p) (not (has kind.must_not p)) (all_properties (is_apart kind) tests.1 p) k);
+      must = eqb-true (intersection kind.must kind.must) kind.must within.0;
+      must_not = eqb-true (intersection kind.must_not kind.must_not) kind.must_not within.1;
+      must_below = ltb-true kind.must (2 ^ 48) below.0;
+      must_not_below = ltb-true kind.must_not (2 ^ 48) below.1;
     }
 
-abbrev makes_plain : StandardClient → Bool
-makes_plain c = is_plain (standard_weight c) (standard_kind c)
+abbrev makes_rule : StandardClient → Bool
+makes_rule c = is_fit (standard_row c)
 
-standard_are_plain : list_all makes_plain standard_clients ≡ true
-unfolding only union
-standard_are_plain = refl
+standard_are_fit : list_all makes_rule built_clients ≡ true
+unfolding only union intersection has
+standard_are_fit = refl
 
 -- ---- labels that come once
 abbrev labels_differ : List Rule → Bool
@@ -98,26 +122,49 @@ pub standard_IsBook : IsBook standard_rules
 standard_IsBook = record {
   few = lit≤ tt;
   labels = differ standard_rules refl;
-  each = All-map IsRule standard_rule standard_clients
-      (All-weaker (λ c. makes_plain c ≡ true) (λ c. IsRule (standard_rule c)) (λ c. plain_IsRule (standard_weight c) (standard_kind c)) standard_clients
-      (AllPass-from_list_all makes_plain standard_clients standard_are_plain));
+  each = All-map IsRule standard_rule built_clients
+      (All-weaker (λ c. makes_rule c ≡ true) (λ c. IsRule (standard_rule c)) (λ c. fit_IsRule (standard_row c)) built_clients
+      (AllPass-from_list_all makes_rule built_clients standard_are_fit));
 }
 
 -- ---- kinds by their names
-is_first : (c : StandardClient) → find (λ (k : Kind). bytes_eq k.name (standard_rule c).kind.name) standard_kinds_list ≡ Some (standard_rule c).kind
-is_first client.PointsFromVertices = refl
-is_first client.InequalitiesFromFacets = refl
-is_first client.LinealityFromFacets = refl
-is_first client.HullFromVertices = refl
-is_first client.ConeDimV = refl
-is_first client.ConeDimSpan = refl
-is_first client.ConeDimPoints = refl
-is_first client.LinealityDim = refl
-is_first client.CombinatorialDim = refl
-is_first client.Feasible = refl
-is_first client.Pointed = refl
-is_first client.FullDim = refl
-is_first client.Incidence = refl
+-- whether two kinds are the same
+abbrev same_kind : Kind → Kind → Bool
+same_kind a b = bytes_eq a.name b.name && ((eqb a.targets b.targets && eqb a.sources b.sources) && (eqb a.must b.must && eqb a.must_not b.must_not))
+
+same_kind_is : (a b : Kind) → same_kind a b ≡ true → a ≡ b
+same_kind_is a b h =
+    let names = and_parts (bytes_eq a.name b.name) ((eqb a.targets b.targets && eqb a.sources b.sources) && (eqb a.must b.must && eqb a.must_not b.must_not)) h in
+    let halves = and_parts (eqb a.targets b.targets && eqb a.sources b.sources) (eqb a.must b.must && eqb a.must_not b.must_not) names.1 in
+    let sets = and_parts (eqb a.targets b.targets) (eqb a.sources b.sources) halves.0 in
+    let asked = and_parts (eqb a.must b.must) (eqb a.must_not b.must_not) halves.1 in
+    made a b ((bytes_eq-Decides a.name b.name).0 names.0) (eqb-true a.targets b.targets sets.0) (eqb-true a.sources b.sources sets.1) (eqb-true a.must b.must asked.0) (eqb-true a.must_not b.must_not asked.1)
+  where
+    parts : List ℕ → ℕ → ℕ → ℕ → ℕ → Kind
+    parts name targets sources must must_not = record { name = name; targets = targets; sources = sources; must = must; must_not = must_not }
+
+    made : (a b : Kind) → a.name ≡ b.name → a.targets ≡ b.targets → a.sources ≡ b.sources → a.must ≡ b.must → a.must_not ≡ b.must_not → parts a.name a.targets a.sources a.must a.must_not ≡ parts b.name b.targets b.sources b.must b.must_not
+    made a b e f g h i = rw (e, f, g, h, i) refl
+
+abbrev found_is : Option Kind → Kind → Bool
+found_is None kind = false
+found_is (Some k) kind = same_kind k kind
+
+is_found : (r : Option Kind) (kind : Kind) → found_is r kind ≡ true → r ≡ Some kind
+is_found None kind h = absurd (both_ways false refl h)
+is_found (Some k) kind h = ap (λ z. Some z) (same_kind_is k kind h)
+
+abbrev first_kind : Kind → Option Kind
+first_kind kind = find (λ (k : Kind). bytes_eq k.name kind.name) standard_kinds_list
+
+abbrev is_first : StandardClient → Bool
+is_first c = found_is (first_kind (standard_kind c)) (standard_kind c)
+
+are_first : list_all is_first built_clients ≡ true
+unfolding union only
+are_first = refl
 
 pub standard_first : FirstKinds standard_kinds_list standard_rules
-standard_first = All-map (λ (r : Rule). find (λ (k : Kind). bytes_eq k.name r.kind.name) standard_kinds_list ≡ Some r.kind) standard_rule standard_clients (λ i d below. is_first (slice_index_or standard_clients i d))
+standard_first = All-map (λ (r : Rule). first_kind r.kind ≡ Some r.kind) standard_rule built_clients
+    (All-weaker (λ c. is_first c ≡ true) (λ c. first_kind (standard_kind c) ≡ Some (standard_kind c)) (λ c. is_found (first_kind (standard_kind c)) (standard_kind c)) built_clients
+    (AllPass-from_list_all is_first built_clients are_first))

@@ -2,22 +2,18 @@
 --     IsRule rule      what holds of each rule of a book
 --     IsBook rules      what holds of a book: at most 256 rules, no label twice
 --     FirstKinds kinds rules      the kind of each rule is the first of its name among these
---     standard_weight c      what the rule of a standard client weighs, of class 0
---     rule_of minor kind      the rule of a kind, under its name and without preconditions
---     standard_rule c      the rule of a standard client
---     standard_rules      the rules of the standard book that are built
 use Rattle.std.specs.Prelude.{◌≡◌, ◌≢◌, ℕ, ◌^◌, ◌<◌, ◌≤◌, false, IsTrue, List, Some, length, find, map, All, AllPairs}
 use Rattle.std.specs.Str.{bytes_eq}
-use Rattle.pm_types.specs.declared.property.PropId.{PropId}
-use Rattle.pm_types.specs.declared.property.ValueKind.TheVariants as value
-use Rattle.pm_types.specs.declared.set.PropSet.{PropSet}
-use Rattle.pm_types.specs.declared.kind.Kind.{Kind}
-use Rattle.pm_types.specs.Properties.{value_kind}
-use Rattle.pm_types.specs.Sets.{has, IsWithin}
-use Rattle.pm_types.specs.Kinds.{standard_clients, standard_kind}
-use Rattle.pm_types.specs.declared.standard.StandardClient.{StandardClient}
-use Rattle.pm_types.specs.declared.standard.StandardClient.TheVariants as client
-use Rattle.pm_types.specs.Weights.{IsWeight}
+use Rattle.pm_props.specs.declared.property.PropId.{PropId}
+use Rattle.pm_props.specs.declared.property.ValueKind.TheVariants as value
+use Rattle.pm_props.specs.declared.set.PropSet.{PropSet}
+use Rattle.pm_props.specs.declared.kind.Kind.{Kind}
+use Rattle.pm_props.specs.Properties.{value_kind}
+use Rattle.pm_props.specs.Sets.{has, IsWithin}
+use Rattle.pm_props.specs.Kinds.{built_clients, standard_row}
+use Rattle.pm_props.specs.declared.standard.StandardClient.{StandardClient}
+use Rattle.pm_props.specs.declared.standard.StandardRule.{StandardRule}
+use Rattle.pm_props.specs.Weights.{IsWeight}
 use Rattle.pm_rules.specs.declared.rule.Rule.{Rule}
 use Rattle.pm_rules.specs.Rules.{conditions}
 use Rattle.pm_rules.specs.Words.{is_word, is_label}
@@ -53,32 +49,19 @@ pub record IsBook (rules : List Rule) : Type 0 where
 abbrev pub FirstKinds : List Kind → List Rule → Type 0
 FirstKinds kinds rules = All (λ rule. find (λ kind. bytes_eq kind.name rule.kind.name) kinds ≡ Some rule.kind) rules
 
-abbrev pub standard_weight : StandardClient → ℕ
-standard_weight client.PointsFromVertices = 5
-standard_weight client.InequalitiesFromFacets = 5
-standard_weight client.LinealityFromFacets = 5
-standard_weight client.HullFromVertices = 5
-standard_weight client.ConeDimV = 4
-standard_weight client.ConeDimSpan = 1
-standard_weight client.ConeDimPoints = 8
-standard_weight client.LinealityDim = 1
-standard_weight client.CombinatorialDim = 1
-standard_weight client.Feasible = 1
-standard_weight client.Pointed = 1
-standard_weight client.FullDim = 1
-standard_weight client.Incidence = 5
-
-abbrev pub rule_of : ℕ → Kind → Rule
-rule_of minor kind = record {
-  label = kind.name;
-  kind = kind;
-  weight = record { class = 0; minor = minor };
-  must = 0;
-  must_not = 0;
+-- the rule of a standard client, under its name, with the conditions of its kind
+abbrev pub rule_of : StandardRule → Rule
+rule_of r = record {
+  label = r.kind.name;
+  kind = r.kind;
+  weight = record { class = 0; minor = r.weight };
+  must = r.kind.must;
+  must_not = r.kind.must_not;
 }
 
 abbrev pub standard_rule : StandardClient → Rule
-standard_rule c = rule_of (standard_weight c) (standard_kind c)
+standard_rule c = rule_of (standard_row c)
 
+-- the rules of the standard book: those whose clients are built
 abbrev pub standard_rules : List Rule
-standard_rules = map standard_rule standard_clients
+standard_rules = map standard_rule built_clients

@@ -4,11 +4,11 @@
 --     IsTable book names barred held asked claim table      exactly one row for each set that a chain of useful rules reaches
 --         within the claim, with the least cost of such a chain, in order of cost and then of the set as a number
 use Rattle.std.specs.Prelude.{◌≡◌, ◌≢◌, ◌<◌, ◌⊎◌, Some, List, All, Any, AllPairs, Contains}
-use Rattle.pm_types.specs.declared.set.PropSet.{PropSet}
-use Rattle.pm_types.specs.declared.kind.RuleId.{RuleId}
-use Rattle.pm_types.specs.declared.weight.Cost.{Cost}
-use Rattle.pm_types.specs.Sets.{union, IsSubset}
-use Rattle.pm_types.specs.Weights.{no_cost, plus, IsBelow, IsAtMost}
+use Rattle.pm_props.specs.declared.set.PropSet.{PropSet}
+use Rattle.pm_props.specs.declared.kind.RuleId.{RuleId}
+use Rattle.pm_props.specs.declared.weight.Cost.{Cost}
+use Rattle.pm_props.specs.Sets.{union, IsSubset}
+use Rattle.pm_props.specs.Weights.{no_cost, plus, IsBelow, IsAtMost}
 use Rattle.pm_rules.specs.declared.rule.Rule.{Rule}
 use Rattle.pm_rules.specs.declared.table.TableRow.{TableRow}
 use Rattle.pm_rules.specs.declared.table.Claim.{Claim}

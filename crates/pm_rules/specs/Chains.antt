@@ -9,13 +9,13 @@
 --     IsUseful book names barred asked id rule      in use, not barred, and a target of it is needed
 --     IsUsefulPart book names barred asked chain kept      kept is the chain without the rules that are not useful
 use Rattle.std.specs.Prelude.{◌≡◌, false, IsTrue, Some, List, [], ◌∷◌, sum_by, unwrap_or, option_map}
-use Rattle.pm_types.specs.declared.property.PropId.{PropId}
-use Rattle.pm_types.specs.declared.set.PropSet.{PropSet}
-use Rattle.pm_types.specs.declared.kind.RuleId.{RuleId}
-use Rattle.pm_types.specs.declared.weight.Weight.{Weight}
-use Rattle.pm_types.specs.declared.weight.Cost.{Cost}
-use Rattle.pm_types.specs.Sets.{has, union, IsSubset}
-use Rattle.pm_types.specs.Weights.{IsAtMost}
+use Rattle.pm_props.specs.declared.property.PropId.{PropId}
+use Rattle.pm_props.specs.declared.set.PropSet.{PropSet}
+use Rattle.pm_props.specs.declared.kind.RuleId.{RuleId}
+use Rattle.pm_props.specs.declared.weight.Weight.{Weight}
+use Rattle.pm_props.specs.declared.weight.Cost.{Cost}
+use Rattle.pm_props.specs.Sets.{has, union, IsSubset}
+use Rattle.pm_props.specs.Weights.{IsAtMost}
 use Rattle.pm_rules.specs.declared.rule.Rule.{Rule}
 use Rattle.pm_rules.specs.Rules.{rule_at, inputs, IsInUse, is_barred, IsEnabled}
 

@@ -1,15 +1,8 @@
 pub mod Words
-pub mod Tokens
-pub mod Seen
 pub mod Rules
-pub mod Steps
-pub mod Books
 pub mod Chains
+pub mod Books
 pub mod Certificates
-pub mod Reading
-pub mod Grammar
-pub mod Writing
-pub mod Gives
-pub mod SeenParts
 pub mod Laws
+pub mod Steps
 pub mod Useful

@@ -8,12 +8,12 @@
 --     IsEnabled names barred held id rule      the rule may be applied to the names held
 use Rattle.std.specs.Prelude.{◌≡◌, Bool, false, IsTrue, Option, List, nat_eq, slice_get}
 use Rattle.std.specs.List.{list_any}
-use Rattle.pm_types.specs.declared.property.PropId.{PropId}
-use Rattle.pm_types.specs.declared.set.PropSet.{PropSet}
-use Rattle.pm_types.specs.declared.kind.RuleId.{RuleId}
-use Rattle.pm_types.specs.Properties.{has_program, rays_tag, facets_tag, generators_tag, half_spaces_tag}
-use Rattle.pm_types.specs.Sets.{has, union, IsSubset}
-use Rattle.pm_types.specs.Kinds.{names_of, IsFresh}
+use Rattle.pm_props.specs.declared.property.PropId.{PropId}
+use Rattle.pm_props.specs.declared.set.PropSet.{PropSet}
+use Rattle.pm_props.specs.declared.kind.RuleId.{RuleId}
+use Rattle.pm_props.specs.Properties.{has_program, rays_tag, facets_tag, generators_tag, half_spaces_tag}
+use Rattle.pm_props.specs.Sets.{has, union, IsSubset}
+use Rattle.pm_props.specs.Kinds.{names_of, IsFresh}
 use Rattle.pm_rules.specs.declared.rule.Rule.{Rule}
 
 abbrev pub rule_at : List Rule → RuleId → Option Rule

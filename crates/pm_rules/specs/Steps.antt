@@ -5,11 +5,11 @@
 --     IsOpen step held      what is read is held, nothing is held that may not be, and some target is not held
 use Rattle.std.specs.Prelude.{◌≡◌, Bool, false, not, ◌&&◌, ◌||◌, IsTrue, filter}
 use Rattle.std.specs.List.{list_any}
-use Rattle.pm_types.specs.declared.property.PropId.{PropId}
-use Rattle.pm_types.specs.declared.set.PropSet.{PropSet}
-use Rattle.pm_types.specs.declared.kind.Kind.{Kind}
-use Rattle.pm_types.specs.Properties.{every_property, has_program, rays_tag, facets_tag, generators_tag, half_spaces_tag}
-use Rattle.pm_types.specs.Sets.{has, set_of, IsSubset}
+use Rattle.pm_props.specs.declared.property.PropId.{PropId}
+use Rattle.pm_props.specs.declared.set.PropSet.{PropSet}
+use Rattle.pm_props.specs.declared.kind.Kind.{Kind}
+use Rattle.pm_props.specs.Properties.{every_property, has_program, rays_tag, facets_tag, generators_tag, half_spaces_tag}
+use Rattle.pm_props.specs.Sets.{has, set_of, IsSubset}
 use Rattle.pm_rules.specs.declared.rule.Rule.{Rule}
 use Rattle.pm_rules.specs.declared.step.Tag.{Tag}
 use Rattle.pm_rules.specs.declared.step.Tag.TheVariants.{Rays, Facets, Generators, HalfSpaces}

@@ -2,10 +2,10 @@
 --     FindsOne names barred set id rule      in use, not barred, and some target of it is in the set
 --     AllNeeded book names barred asked set      each name of the set is needed
 use Rattle.std.specs.Prelude.{◌≡◌, false, IsTrue, List}
-use Rattle.pm_types.specs.declared.property.PropId.{PropId}
-use Rattle.pm_types.specs.declared.set.PropSet.{PropSet}
-use Rattle.pm_types.specs.declared.kind.RuleId.{RuleId}
-use Rattle.pm_types.specs.Sets.{has}
+use Rattle.pm_props.specs.declared.property.PropId.{PropId}
+use Rattle.pm_props.specs.declared.set.PropSet.{PropSet}
+use Rattle.pm_props.specs.declared.kind.RuleId.{RuleId}
+use Rattle.pm_props.specs.Sets.{has}
 use Rattle.pm_rules.specs.declared.rule.Rule.{Rule}
 use Rattle.pm_rules.specs.Rules.{IsInUse, is_barred}
 use Rattle.pm_rules.specs.Chains.{Needed}

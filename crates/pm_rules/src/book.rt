@@ -3,10 +3,10 @@
 ghost use Rattle.std.specs.Prelude.{◌≡◌, ◌==◌, IfOk, length};
 ghost use Rattle.std.specs.Option.{option_copied};
 ghost use Rattle.pm_rules.specs.Rules.{rule_at};
-ghost use Rattle.pm_rules.specs.Books.{IsBook, standard_rule, standard_rules, standard_weight};
+ghost use Rattle.pm_rules.specs.Books.{IsBook, standard_rule, standard_rules};
 
 use crate::rule::Rule;
-use pm_types::{PropSet, RuleId, StandardClient, Weight};
+use pm_props::{RuleId, StandardClient, Weight};
 use std::alloc::{AllocError, Global};
 use std::marker::Model;
 
@@ -33,8 +33,8 @@ impl Model for Book {
 }
 
 impl Book {
-    // The book of these rules.
-    pub(crate) fn of_rules(rules: Vec<Rule>) -> Book
+    /// The book of these rules. Takes no memory.
+    pub fn of_rules(rules: Vec<Rule>) -> Book
         requires { IsBook rules.items }
         ensures { result ≡ rules.items }
     {
@@ -71,12 +71,13 @@ impl Book {
     }
 }
 
-/// The rules that are built, under the labels of their clients.
+/// The rules whose clients are built, under the labels of their clients.
 pub fn standard_book(alloc: Global) -> Result<Book, AllocError>
     ensures { IfOk result (λ b. b ≡ standard_rules) }
 {
     let rules = StandardClient::every()
         .iter()
+        .filter(|client| client.row().is_built)
         .map(|client| standard_rule(*client))
         .collect(alloc)?;
     Ok(Book { rules })
@@ -92,30 +93,9 @@ fn standard_rule(client: StandardClient) -> Rule
         kind,
         weight: Weight {
             class: 0,
-            minor: standard_weight(client),
+            minor: client.row().weight,
         },
-        must: PropSet::empty(),
-        must_not: PropSet::empty(),
-    }
-}
-
-// What the rule of a standard client weighs.
-fn standard_weight(client: StandardClient) -> u32
-    ensures { result ≡ standard_weight client }
-{
-    match client {
-        StandardClient::PointsFromVertices => 5,
-        StandardClient::InequalitiesFromFacets => 5,
-        StandardClient::LinealityFromFacets => 5,
-        StandardClient::HullFromVertices => 5,
-        StandardClient::ConeDimV => 4,
-        StandardClient::ConeDimSpan => 1,
-        StandardClient::ConeDimPoints => 8,
-        StandardClient::LinealityDim => 1,
-        StandardClient::CombinatorialDim => 1,
-        StandardClient::Feasible => 1,
-        StandardClient::Pointed => 1,
-        StandardClient::FullDim => 1,
-        StandardClient::Incidence => 5,
+        must: kind.must,
+        must_not: kind.must_not,
     }
 }

@@ -2,7 +2,7 @@
 
 ghost use Rattle.pm_rules.specs.Books.{FirstKinds, standard_rules};
 ghost use Rattle.pm_rules.specs.Laws.{UsefulPartLeads, CertificateBounds, CertificateExcludes};
-ghost use Rattle.pm_types.specs.Kinds.{standard_kinds_list};
+ghost use Rattle.pm_props.specs.Kinds.{standard_kinds_list};
 
 /// A chain without its rules that are not useful leads to the same names and weighs no more.
 pub fn law_useful_part()

@@ -2,13 +2,13 @@
 
 ghost use Rattle.std.specs.Prelude.{◌≡◌, ◌↔◌, ◌&&◌, IsTrue, filter};
 ghost use Rattle.std.specs.List.{list_any};
-ghost use Rattle.pm_types.specs.Properties.{has_program};
-ghost use Rattle.pm_types.specs.Sets.{has, set_of};
+ghost use Rattle.pm_props.specs.Properties.{has_program};
+ghost use Rattle.pm_props.specs.Sets.{has, set_of};
 ghost use Rattle.pm_rules.specs.Rules.{conditions, inputs, names_of_rule, is_barred, IsInUse, IsEnabled};
 ghost use Rattle.pm_rules.specs.Steps.{tag_test, some_has, some_program, is_fresh, is_fresh_somewhere, has_some_tag, blocked, step_of, IsOpen};
 
 use crate::rule::Rule;
-use pm_types::{Kind, PropId, PropSet, RuleId};
+use pm_props::{Kind, PropId, PropSet, RuleId};
 
 /// What a property may speak of, beside the thing itself.
 #[derive(Clone, Copy, Debug, PartialEq, Eq)]
@@ -40,8 +40,8 @@ impl Tag {
         ensures { result ≡ tag_test self p }
     {
         match self {
-            Tag::Rays => p.speaks_of_rays(),
-            Tag::Facets => p.speaks_of_facets(),
+            Tag::Rays => p.row().speaks_of_rays,
+            Tag::Facets => p.row().speaks_of_facets,
             Tag::Generators => p.is_of_generators(),
             Tag::HalfSpaces => p.is_of_half_spaces(),
         }
@@ -178,8 +178,8 @@ impl Tags {
     fn are_of(self, p: PropId) -> bool
         ensures { result ≡ has_some_tag self.rays self.facets self.generators self.half_spaces p }
     {
-        (self.rays && p.speaks_of_rays())
-            || (self.facets && p.speaks_of_facets())
+        (self.rays && p.row().speaks_of_rays)
+            || (self.facets && p.row().speaks_of_facets)
             || (self.generators && p.is_of_generators())
             || (self.half_spaces && p.is_of_half_spaces())
     }

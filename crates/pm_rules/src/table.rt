@@ -1,6 +1,6 @@
 // Tables of plans.
 
-use pm_types::{Cost, PropSet};
+use pm_props::{Cost, PropSet};
 
 /// A set of properties and the cost at which a chain reaches it.
 #[derive(Clone, Copy, Debug, PartialEq, Eq)]

@@ -1,8 +1,8 @@
 // Which names are needed to find the asked ones, and which rules are useful for that.
 
 ghost use Rattle.std.specs.Prelude.{◌≡◌, ◌≤◌, ◌↔◌, IsTrue, Some, length};
-ghost use Rattle.pm_types.specs.declared.property.PropId.{PropId};
-ghost use Rattle.pm_types.specs.Sets.{has, IsSubset};
+ghost use Rattle.pm_props.specs.declared.property.PropId.{PropId};
+ghost use Rattle.pm_props.specs.Sets.{has, IsSubset};
 ghost use Rattle.pm_rules.specs.Books.{most_rules};
 ghost use Rattle.pm_rules.specs.Rules.{rule_at, inputs};
 ghost use Rattle.pm_rules.specs.Chains.{Needed};
@@ -10,7 +10,7 @@ ghost use Rattle.pm_rules.specs.Useful.{FindsOne, AllNeeded};
 
 use crate::rule::Rule;
 use crate::step::is_barred;
-use pm_types::{PropSet, RuleId};
+use pm_props::{PropSet, RuleId};
 
 /// The names that are needed to find the asked ones by the rules: these names, and all that useful rules read.
 pub fn needed(rules: &[Rule], names: PropSet, barred: &[RuleId], asked: PropSet) -> PropSet

@@ -4,11 +4,11 @@
 --     reply_text r      the reply's line, with its LF
 --     is_refusal r      the reply is a refusal
 use Rattle.std.specs.Prelude.{ℕ, List, ◌++◌, Bool, true, false, string_bytes, codes}
-use Rattle.pm_geom.specs.declared.ObjectType.{ObjectType}
-use Rattle.pm_types.specs.Properties.{name_in}
+use Rattle.pm_props.specs.declared.object_type.ObjectType.{ObjectType}
+use Rattle.pm_props.specs.Properties.{name_in}
 use Rattle.pm_types.specs.Values.{PropertyValue}
 use Rattle.pm_types.specs.Views.{view_of}
-use Rattle.pm_types.specs.declared.property.PropId.{PropId}
+use Rattle.pm_props.specs.declared.property.PropId.{PropId}
 use Rattle.pm_script.specs.Values.{value_text}
 use Rattle.pm_script.specs.declared.refusal.Refusal.{Refusal}
 use Rattle.pm_script.specs.declared.refusal.Refusal.TheVariants.{BadCommand, UnknownName, NameTaken, UnknownType, UnknownProperty, BadValue, AlreadyHeld, Sealed, ObjectsFull, NoChain}

@@ -2,7 +2,7 @@
 
 ghost use Rattle.pm_script.specs.Replies.{is_refusal, reply_text, seen};
 ghost use Rattle.pm_script.specs.Values.{value_text};
-ghost use Rattle.pm_types.specs.Properties.{name_in};
+ghost use Rattle.pm_props.specs.Properties.{name_in};
 ghost use Rattle.pm_types.specs.Views.{view_of};
 ghost use Rattle.std.specs.Prelude.{IfOk, OnOk, codes, string_bytes, ◌++◌, ◌≡◌};
 

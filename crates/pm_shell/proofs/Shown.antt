@@ -1,6 +1,6 @@
 -- A value that is shown stands in an honest object.
 use Rattle.std.proofs.Common.{ap, subst, sym, refl, ◌∙◌, ◌≡◌, ℕ, IfSome, List, [], ◌∷◌, Option, Some, None}
-use Rattle.pm_geom.specs.declared.ObjectType.{ObjectType}
+use Rattle.pm_props.specs.declared.object_type.ObjectType.{ObjectType}
 use Rattle.pm_machine.proofs.Kept.{steps_keep}
 use Rattle.pm_machine.specs.Events.{Configuration, Ending, Ensured, Event, after_event, after_events, begun, committed, configuration, excluded, found, settled, started, written}
 use Rattle.pm_machine.specs.Steps.{AllKept, Machine, Step, whole_of}
@@ -14,8 +14,8 @@ use Rattle.pm_script.specs.declared.refusal.Refusal.TheVariants.{BadCommand}
 use Rattle.pm_shell.specs.Run.{Answers, AnswersTo, command_at}
 use Rattle.pm_shell.specs.Shown.{IsShown, Shows}
 use Rattle.pm_types.specs.Values.{PropertyValue}
-use Rattle.pm_types.specs.declared.property.PropId.{PropId}
-use Rattle.pm_types.specs.declared.set.PropSet.{PropSet}
+use Rattle.pm_props.specs.declared.property.PropId.{PropId}
+use Rattle.pm_props.specs.declared.set.PropSet.{PropSet}
 
 -- ---- honesty
 pub kept_to : (book : List Rule) (old new : Machine) (command : Option Spoken) (reply : Option ReplySeen) → AnswersTo book old command reply new → AllKept old → AllKept new

@@ -1,11 +1,12 @@
 -- A value is right in other orders too, where these agree in what its property speaks of: a property without the tag of an order does not read it.
 use Rattle.pm_algebra.specs.Numbers.{Ratio}
-use Rattle.pm_geom.specs.Things.{Orders, Thing}
-use Rattle.pm_types.specs.Properties.{facets_tag, rays_tag}
+use Rattle.pm_geom.specs.Things.{Orders}
+use Rattle.pm_types.specs.Things.{Thing}
+use Rattle.pm_props.specs.Properties.{facets_tag, rays_tag}
 use Rattle.pm_types.specs.Right.{Right}
 use Rattle.pm_types.specs.Values.{PropertyValue, counts, matrix, sets, truth, whole}
-use Rattle.pm_types.specs.declared.property.PropId.{PropId}
-use Rattle.pm_types.specs.declared.property.PropId.TheVariants.{ConeAmbientDim, Points, InputLineality, Inequalities, Equations, Vertices, LinealitySpace, Facets, AffineHull, VerticesInFacets, ConeDim, LinealityDim, CombinatorialDim, NVertices, NFacets, Feasible, Bounded, Pointed, FullDim, Centered, VertexSizes, FacetSizes, FarFace}
+use Rattle.pm_props.specs.declared.property.PropId.{PropId}
+use Rattle.pm_props.specs.declared.property.PropId.TheVariants.{ConeAmbientDim, Points, InputLineality, Inequalities, Equations, Vertices, LinealitySpace, Facets, AffineHull, VerticesInFacets, ConeDim, LinealityDim, CombinatorialDim, NVertices, NFacets, Feasible, Bounded, Pointed, FullDim, Centered, VertexSizes, FacetSizes, FarFace}
 use Rattle.std.proofs.Common.{false, inl, inr, subst, sym, true, true≢false}
 use Rattle.std.specs.Prelude.{List, ◌≡◌, ◌⊎◌}
 

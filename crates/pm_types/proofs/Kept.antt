@@ -1,19 +1,22 @@
 -- A right answer leaves all that is held right: where a kind may run on facts, what it may answer can be added to them.
 use Rattle.pm_algebra.proofs.Filters.{among_filter, among_map, any_from, any_to, filter_among}
 use Rattle.pm_algebra.proofs.Lists.{Among, Contains_among, among_Contains, among_append, among_append_left, among_append_right, here, there}
-use Rattle.pm_geom.specs.Things.{Orders, Thing}
-use Rattle.pm_geom.specs.declared.ObjectType.{ObjectType}
+use Rattle.pm_geom.specs.Things.{Orders}
+use Rattle.pm_types.specs.Things.{Thing}
+use Rattle.pm_props.specs.declared.object_type.ObjectType.{ObjectType}
 use Rattle.pm_types.proofs.Frame.{right_in_orders}
-use Rattle.pm_types.proofs.Numbers.{number_is, property_at-number}
-use Rattle.pm_types.specs.Kinds.{IsFresh}
-use Rattle.pm_types.specs.Properties.{facets_tag, generators_tag, half_spaces_tag, has_program, number, rays_tag, every_property}
+use Rattle.pm_props.proofs.Every.{among_every}
+use Rattle.pm_props.proofs.Places.{same_place_is, same_place_refl, same_property_is, same_property_refl}
+use Rattle.pm_props.specs.Kinds.{IsFresh}
+use Rattle.pm_props.specs.Properties.{facets_tag, generators_tag, half_spaces_tag, has_program, number, rays_tag, every_property}
 use Rattle.pm_types.specs.Right.{Right, RightAll, RightFact, RightPair, RightTogether, objective_of}
-use Rattle.pm_types.specs.Runs.{Holds, IsFree, MayAnswer, MayRun, Meets, RightAnswer, is_named, missing, place_of, same_place, same_property, shown, stands_at}
-use Rattle.pm_types.specs.Sets.{has, members}
+use Rattle.pm_types.specs.Runs.{Holds, IsFree, MayAnswer, MayRun, Meets, RightAnswer, is_named, missing, shown, stands_at}
+use Rattle.pm_props.specs.Places.{place_of, same_place, same_property}
+use Rattle.pm_props.specs.Sets.{has, members}
 use Rattle.pm_types.specs.Values.{Fact, PropertyValue, matrix, truth}
-use Rattle.pm_types.specs.declared.kind.Kind.{Kind}
-use Rattle.pm_types.specs.declared.property.PropId.{PropId}
-use Rattle.pm_types.specs.declared.property.PropId.TheVariants.{Points, InputLineality, Inequalities, Equations, Feasible, Bounded, Pointed, FullDim, Centered}
+use Rattle.pm_props.specs.declared.kind.Kind.{Kind}
+use Rattle.pm_props.specs.declared.property.PropId.{PropId}
+use Rattle.pm_props.specs.declared.property.PropId.TheVariants.{Points, InputLineality, Inequalities, Equations, Feasible, Bounded, Pointed, FullDim, Centered}
 use Rattle.std.proofs.Common.{ap, arith, false, inl, inr, refl, subst, sym, true, true≢false, ◌∙◌}
 use Rattle.std.specs.List.{Contains, list_any}
 use Rattle.std.specs.Option.{is_some}
@@ -41,28 +44,6 @@ not_true : (b : Bool) → not b ≡ true → b ≡ false
 not_true true h = absurd (true≢false (sym h))
 not_true false h = refl
 
-eq_is : (a b : ℕ) → nat_eq a b ≡ true → a ≡ b
-eq_is a b h = grind arith
-
-eq_refl : (a : ℕ) → nat_eq a a ≡ true
-eq_refl a = grind arith
-
-pub same_property_is : (p q : PropId) → same_property p q ≡ true → p ≡ q
-same_property_is p q h = number_is p q (eq_is (number p) (number q) h)
-
-pub same_property_refl : (p : PropId) → same_property p p ≡ true
-same_property_refl p = eq_refl (number p)
-
-pub same_place_is : (r s : Option ℕ) → same_place r s ≡ true → r ≡ s
-same_place_is None None h = refl
-same_place_is None (Some s) h = absurd (true≢false (sym h))
-same_place_is (Some r) None h = absurd (true≢false (sym h))
-same_place_is (Some r) (Some s) h = ap Some (eq_is r s h)
-
-pub same_place_refl : (r : Option ℕ) → same_place r r ≡ true
-same_place_refl None = refl
-same_place_refl (Some r) = eq_refl r
-
 -- ---- what is named, shown and missing
 pub named_from : (sub : Option ℕ) (held : List Fact) (f : Fact) → Among f held → f.place ≡ place_of sub f.property → is_named held sub f.property ≡ true
 named_from sub held f i e = any_from (stands_at sub f.property) i (and_true (same_property f.property f.property) (same_place f.place (place_of sub f.property)) (same_property_refl f.property) (subst (λ r. same_place f.place r ≡ true) e (same_place_refl f.place)))
@@ -85,17 +66,6 @@ missing_to : (sub : Option ℕ) (held answer : List Fact) {f : Fact} → Among f
 missing_to sub held answer {f} i = let w = filter_among (λ g. not (is_named held sub g.property)) answer i in (w.0, not_true (is_named held sub f.property) w.1)
 
 -- ---- fresh tags
-slice_among : {X : Type 0} (xs : List X) (k : ℕ) {x : X} → slice_get xs k ≡ Some x → Among x xs
-slice_among [] k h = absurd (true≢false (sym (ap is_some h)))
-slice_among (y ∷ xs) zero h = subst (λ z. Among z (y ∷ xs)) (some_is h) here
-  where
-    some_is : {X : Type 0} {x y : X} → Some x ≡ Some y → x ≡ y
-    some_is h = cc
-slice_among (y ∷ xs) (suc k) h = there (slice_among xs k h)
-
-pub among_every : (p : PropId) → Among p every_property
-among_every p = slice_among every_property (number p) (property_at-number p)
-
 -- a kind with a target that has the tag is fresh in it, or some source has it
 decide_fresh : (tag : PropId → Bool) (kind : Kind) (p : PropId) → has kind.targets p ≡ true → tag p ≡ true → IsFresh tag kind ⊎ ((s : PropId) × (has kind.sources s ≡ true) × (tag s ≡ true))
 decide_fresh tag kind p h e = elim (decide (list_any (λ q. has kind.sources q && tag q) every_property)) [

@@ -12,16 +12,16 @@ use Rattle.pm_algebra.specs.Rows.{Row, entry, ratio_at, Stands}
 use Rattle.pm_bases.specs.Bases.{IsEchelonBasis}
 use Rattle.pm_geom.specs.Cones.{Vanishes}
 use Rattle.pm_geom.specs.Generators.{IsBefore, VanishAt}
-use Rattle.pm_geom.specs.Things.{Thing}
-use Rattle.pm_geom.specs.declared.ObjectType.TheVariants.{Polytope}
-use Rattle.pm_types.specs.Kinds.{IsFresh}
-use Rattle.pm_types.specs.Properties.{rays_tag, facets_tag}
+use Rattle.pm_types.specs.Things.{Thing}
+use Rattle.pm_props.specs.declared.object_type.ObjectType.TheVariants.{Polytope}
+use Rattle.pm_props.specs.Kinds.{IsFresh}
+use Rattle.pm_props.specs.Properties.{rays_tag, facets_tag}
 use Rattle.pm_types.specs.Right.{InLines, IsBasis}
 use Rattle.pm_types.specs.Values.{PropertyValue, matrix}
 use Rattle.pm_types.specs.Views.{over_one, ratios}
-use Rattle.pm_types.specs.declared.kind.Kind.{Kind}
-use Rattle.pm_types.specs.declared.property.PropId.{PropId}
-use Rattle.pm_types.specs.declared.property.PropId.TheVariants.{Vertices, LinealitySpace, Facets, AffineHull}
+use Rattle.pm_props.specs.declared.kind.Kind.{Kind}
+use Rattle.pm_props.specs.declared.property.PropId.{PropId}
+use Rattle.pm_props.specs.declared.property.PropId.TheVariants.{Vertices, LinealitySpace, Facets, AffineHull}
 use lib.IntN.{pos}
 
 pub record IsEchelonBasisOf (n : ℕ) (S : Row → Type 0) (R : List Row) (P : List ℕ) : Type 0 where

@@ -18,55 +18,19 @@
 use Rattle.std.specs.Prelude.{ℕ, zero, suc, ◌||◌, ◌&&◌, ◌^◌, Bool, true, false, not, IsTrue, List, [], ◌∷◌, length, nat_eq, nat_le, nat_lt, if◌then◌else◌}
 use Rattle.std.specs.List.{All, list_all}
 use Rattle.pm_algebra.specs.Numbers.{Ratio}
-use Rattle.pm_geom.specs.declared.ObjectType.{ObjectType}
-use Rattle.pm_geom.specs.declared.ObjectType.TheVariants.{Polytope}
+use Rattle.pm_props.specs.declared.object_type.ObjectType.{ObjectType}
+use Rattle.pm_props.specs.declared.object_type.ObjectType.TheVariants.{Polytope}
 use Rattle.pm_matrix.specs.FractionRows.{IsLeastDenominator}
 use Rattle.pm_matrix.specs.Matrices.{IsFraction}
 use Rattle.pm_matrix.specs.Wideness.{DenominatorsStay, NumeratorsStay}
-use Rattle.pm_types.specs.Properties.{value_kind}
+use Rattle.pm_props.specs.Properties.{is_ambient, is_columned, is_of_matrices, is_of_sets, is_of_truth_values, is_of_whole_numbers, row, value_kind}
 use Rattle.pm_types.specs.Values.{PropertyValue, matrix, sets, whole, truth}
-use Rattle.pm_types.specs.declared.property.PropId.{PropId}
-use Rattle.pm_types.specs.declared.property.PropId.TheVariants.{ConeAmbientDim, Points, InputLineality, Inequalities, Equations, Vertices, LinealitySpace, Facets, AffineHull, VerticesInFacets, ConeDim, LinealityDim, CombinatorialDim, Feasible, Pointed, FullDim, LinearObjective, MaximalDual, MinimalDual}
-use Rattle.pm_types.specs.declared.property.ValueKind.{ValueKind}
-use Rattle.pm_types.specs.declared.property.ValueKind.TheVariants as kind
+use Rattle.pm_props.specs.declared.property.PropId.{PropId}
+use Rattle.pm_props.specs.declared.property.RowTest.{RowTest}
+use Rattle.pm_props.specs.declared.property.RowTest.TheVariants as test
 use lib.IntN.{ℤ, pos, negsuc}
 
-abbrev pub is_built : PropId → Bool
-is_built ConeAmbientDim = true
-is_built Points = true
-is_built InputLineality = true
-is_built Inequalities = true
-is_built Equations = true
-is_built Vertices = true
-is_built LinealitySpace = true
-is_built Facets = true
-is_built AffineHull = true
-is_built VerticesInFacets = true
-is_built ConeDim = true
-is_built LinealityDim = true
-is_built CombinatorialDim = true
-is_built Feasible = true
-is_built Pointed = true
-is_built FullDim = true
-is_built p = false
-
 -- ---- forms
-abbrev pub is_of_matrices : ValueKind → Bool
-is_of_matrices kind.Mat = true
-is_of_matrices k = false
-
-abbrev pub is_of_sets : ValueKind → Bool
-is_of_sets kind.Sets = true
-is_of_sets k = false
-
-abbrev pub is_of_whole_numbers : ValueKind → Bool
-is_of_whole_numbers kind.Int = true
-is_of_whole_numbers k = false
-
-abbrev pub is_of_truth_values : ValueKind → Bool
-is_of_truth_values kind.Bool = true
-is_of_truth_values k = false
-
 -- a row of n entries
 abbrev pub is_row_of_entries : ℕ → List Ratio → Bool
 is_row_of_entries n r = nat_eq (length r) n
@@ -95,29 +59,18 @@ abbrev pub has_64_bits : ℤ → Bool
 has_64_bits (pos n) = nat_lt n (2 ^ 63)
 has_64_bits (negsuc n) = nat_lt n (2 ^ 63)
 
+-- a number of columns is from 1 to 33, other whole numbers have 64 bits
+abbrev pub is_whole_form : PropId → ℤ → Bool
+is_whole_form p k = if is_ambient p then is_dimension k else is_of_whole_numbers (value_kind p) && has_64_bits k
+
 abbrev pub is_formed : PropId → PropertyValue → Bool
 is_formed p (matrix n rows) = is_of_matrices (value_kind p) && is_matrix_form n rows
 is_formed p (sets rows n) = is_of_sets (value_kind p) && is_sets_form rows n
-is_formed ConeAmbientDim (whole k) = is_dimension k
-is_formed p (whole k) = is_of_whole_numbers (value_kind p) && has_64_bits k
+is_formed p (whole k) = is_whole_form p k
 is_formed p (truth b) = is_of_truth_values (value_kind p)
 is_formed p v = false
 
 -- ---- columns
-abbrev pub is_columned : PropId → Bool
-is_columned Points = true
-is_columned InputLineality = true
-is_columned Inequalities = true
-is_columned Equations = true
-is_columned Vertices = true
-is_columned LinealitySpace = true
-is_columned Facets = true
-is_columned AffineHull = true
-is_columned LinearObjective = true
-is_columned MaximalDual = true
-is_columned MinimalDual = true
-is_columned p = false
-
 abbrev pub cols_in : PropertyValue → ℕ
 cols_in (matrix n rows) = n
 cols_in v = 0
@@ -128,11 +81,6 @@ stated_cols p v = if is_columned p then cols_in v else 0
 abbrev pub is_number : ℤ → ℕ → Bool
 is_number (pos k) n = nat_eq k n
 is_number (negsuc k) n = false
-
--- the property that states the dimension
-abbrev pub is_ambient : PropId → Bool
-is_ambient ConeAmbientDim = true
-is_ambient p = false
 
 abbrev pub states : ℕ → PropertyValue → Bool
 states n (whole k) = is_number k n
@@ -161,15 +109,18 @@ abbrev pub first_is_below : List Ratio → Bool
 first_is_below [] = false
 first_is_below (q ∷ r) = is_below_nought q.num
 
--- points of a polytope do not lie behind, its lines have first coordinate 0, and no ray or facet row is zero
+-- the row passes the test: of a polytope points do not lie behind and lines have first coordinate 0; no ray and no facet row is zero
+abbrev pub passes : ObjectType → RowTest → List Ratio → Bool
+passes Polytope test.Point r = not (first_is_below r)
+passes Polytope test.Line r = first_is_nought r
+passes Polytope test.Ray r = not (first_is_below r) && not (is_zero_row r)
+passes of test.Ray r = not (is_zero_row r)
+passes of test.NotZero r = not (is_zero_row r)
+passes of test r = true
+
+-- it passes the test of rows of that property
 abbrev pub is_row : ObjectType → PropId → List Ratio → Bool
-is_row Polytope Points r = not (first_is_below r)
-is_row Polytope Vertices r = not (first_is_below r) && not (is_zero_row r)
-is_row Polytope InputLineality r = first_is_nought r
-is_row Polytope LinealitySpace r = first_is_nought r
-is_row of Vertices r = not (is_zero_row r)
-is_row of Facets r = not (is_zero_row r)
-is_row of p r = true
+is_row of p r = passes of (row p).test r
 
 abbrev pub are_rows : ObjectType → PropId → PropertyValue → Bool
 are_rows of p (matrix n rows) = list_all (is_row of p) rows

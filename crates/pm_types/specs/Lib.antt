@@ -1,15 +1,8 @@
-pub mod Properties
-pub mod Names
-pub mod Sets
-pub mod Weights
-pub mod Padded
-pub mod Kinds
 pub mod Lists
 pub mod Values
+pub mod Things
 pub mod Right
-pub mod Examples
 pub mod Runs
 pub mod Views
 pub mod Forms
 pub mod Canonical
-pub mod Laws

@@ -25,12 +25,13 @@ use Rattle.pm_algebra.specs.Cones.{InCone, InSpan, IsIndependent}
 use Rattle.pm_bases.specs.Bases.{IsRank}
 use Rattle.pm_geom.specs.Cones.{CutOut, IsValid, Vanishes, InLineality, SameModulo}
 use Rattle.pm_geom.specs.Faces.{ray}
-use Rattle.pm_geom.specs.Things.{Thing, IsThing, Orders, AreOrders}
-use Rattle.pm_geom.specs.declared.ObjectType.{ObjectType}
-use Rattle.pm_geom.specs.declared.ObjectType.TheVariants.{Polytope, Cone, Fan}
+use Rattle.pm_types.specs.Things.{Thing, IsThing, AreOrders}
+use Rattle.pm_geom.specs.Things.{Orders}
+use Rattle.pm_props.specs.declared.object_type.ObjectType.{ObjectType}
+use Rattle.pm_props.specs.declared.object_type.ObjectType.TheVariants.{Polytope, Cone, Fan}
 use Rattle.pm_types.specs.Values.{PropertyValue, matrix, sets, whole, truth, counts, Fact}
-use Rattle.pm_types.specs.declared.property.PropId.{PropId}
-use Rattle.pm_types.specs.declared.property.PropId.TheVariants.{ConeAmbientDim, Points, InputLineality, Inequalities, Equations, Vertices, LinealitySpace, Facets, AffineHull, VerticesInFacets, ConeDim, LinealityDim, CombinatorialDim, NVertices, NFacets, Feasible, Bounded, Pointed, FullDim, Centered, VertexSizes, FacetSizes, FarFace}
+use Rattle.pm_props.specs.declared.property.PropId.{PropId}
+use Rattle.pm_props.specs.declared.property.PropId.TheVariants.{ConeAmbientDim, Points, InputLineality, Inequalities, Equations, Vertices, LinealitySpace, Facets, AffineHull, VerticesInFacets, ConeDim, LinealityDim, CombinatorialDim, NVertices, NFacets, Feasible, Bounded, Pointed, FullDim, Centered, VertexSizes, FacetSizes, FarFace}
 use lib.IntN.{ℤ, pos, ◌-ℤ◌}
 use lib.Signed.{◌<ℤ◌, ◌≤ℤ◌}
 

@@ -12,34 +12,24 @@
 --     MayRun kind sub n held      its sources are held, what it asks for is held so, n is held, and nothing that is held has a tag in which the kind is fresh
 use Rattle.std.specs.Prelude.{ℕ, ◌≡◌, ◌&&◌, Bool, true, false, IsTrue, not, nat_eq, if◌then◌else◌, Option, None, Some, List, [], ◌++◌, filter, map}
 use Rattle.std.specs.List.{All, Contains, list_any}
-use Rattle.pm_geom.specs.Things.{Thing, Orders}
-use Rattle.pm_geom.specs.declared.ObjectType.{ObjectType}
+use Rattle.pm_types.specs.Things.{Thing}
+use Rattle.pm_geom.specs.Things.{Orders}
+use Rattle.pm_props.specs.declared.object_type.ObjectType.{ObjectType}
 use Rattle.pm_types.specs.Canonical.{IsCanonical}
 use Rattle.pm_types.specs.Forms.{FormsIn}
-use Rattle.pm_types.specs.Kinds.{IsFresh}
-use Rattle.pm_types.specs.Properties.{number, has_program, rays_tag, facets_tag, generators_tag, half_spaces_tag}
+use Rattle.pm_props.specs.Kinds.{IsFresh}
+use Rattle.pm_props.specs.Places.{place_of, same_place, same_property}
+use Rattle.pm_props.specs.Properties.{has_program, rays_tag, facets_tag, generators_tag, half_spaces_tag}
 use Rattle.pm_types.specs.Right.{Right, RightAll}
-use Rattle.pm_types.specs.Sets.{has, members}
+use Rattle.pm_props.specs.Sets.{has, members}
 use Rattle.pm_types.specs.Values.{Fact, PropertyValue, matrix, whole, truth}
-use Rattle.pm_types.specs.declared.kind.Kind.{Kind}
-use Rattle.pm_types.specs.declared.property.PropId.{PropId}
-use Rattle.pm_types.specs.declared.property.PropId.TheVariants.{ConeAmbientDim}
+use Rattle.pm_props.specs.declared.kind.Kind.{Kind}
+use Rattle.pm_props.specs.declared.property.PropId.{PropId}
+use Rattle.pm_props.specs.declared.property.PropId.TheVariants.{ConeAmbientDim}
 use lib.IntN.{pos}
-
-abbrev pub place_of : Option ℕ → PropId → Option ℕ
-place_of sub p = if has_program p then sub else None
 
 pub record IsPlaced (f : Fact) : Type 0 where
   pub alone : has_program f.property ≡ false → f.place ≡ None
-
-abbrev pub same_property : PropId → PropId → Bool
-same_property p q = nat_eq (number p) (number q)
-
-abbrev pub same_place : Option ℕ → Option ℕ → Bool
-same_place None None = true
-same_place None (Some s) = false
-same_place (Some s) None = false
-same_place (Some s) (Some r) = nat_eq s r
 
 abbrev pub stands_at : Option ℕ → PropId → Fact → Bool
 stands_at sub p f = same_property p f.property && same_place f.place (place_of sub p)

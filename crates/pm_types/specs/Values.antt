@@ -8,7 +8,7 @@
 --     counts ks      a list of whole numbers
 use Rattle.std.specs.Prelude.{ℕ, Bool, List, Option}
 use Rattle.pm_algebra.specs.Numbers.{Ratio}
-use Rattle.pm_types.specs.declared.property.PropId.{PropId}
+use Rattle.pm_props.specs.declared.property.PropId.{PropId}
 use lib.IntN.{ℤ}
 
 -- sets of indices, with a column count

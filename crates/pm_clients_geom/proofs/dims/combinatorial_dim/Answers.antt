@@ -1,7 +1,7 @@
 use Rattle.pm_clients_geom.proofs.FoundDims.{difference_less_one}
 use Rattle.pm_clients_geom.proofs.Puts.{named}
 use Rattle.pm_clients_geom.proofs.dims.combinatorial_dim.Goals as goal
-use Rattle.pm_types.specs.declared.property.PropId.TheVariants.{CombinatorialDim, ConeDim, LinealityDim}
+use Rattle.pm_props.specs.declared.property.PropId.TheVariants.{CombinatorialDim, ConeDim, LinealityDim}
 use Rattle.std.proofs.Common.{[], ap, refl, ◌∙◌, ◌∷◌}
 
 pub whole_of-cone-requires-clause-source : goal.whole_of-cone-requires-clause-source

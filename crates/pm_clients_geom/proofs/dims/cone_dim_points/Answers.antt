@@ -1,7 +1,7 @@
 use Rattle.pm_clients_geom.proofs.FoundDims.{rank_of_points}
 use Rattle.pm_clients_geom.proofs.Puts.{named}
 use Rattle.pm_clients_geom.proofs.dims.cone_dim_points.Goals as goal
-use Rattle.pm_types.specs.declared.property.PropId.TheVariants.{ConeDim, InputLineality, Points}
+use Rattle.pm_props.specs.declared.property.PropId.TheVariants.{ConeDim, InputLineality, Points}
 use Rattle.std.proofs.Common.{[], ap, refl, ◌∙◌, ◌∷◌}
 
 pub rank_of_list-requires-clause-first : goal.rank_of_list-requires-clause-first

@@ -1,7 +1,7 @@
 use Rattle.pm_clients_geom.proofs.FoundDims.{what_hull_leaves}
 use Rattle.pm_clients_geom.proofs.Puts.{named}
 use Rattle.pm_clients_geom.proofs.dims.cone_dim_span.Goals as goal
-use Rattle.pm_types.specs.declared.property.PropId.TheVariants.{AffineHull, ConeDim}
+use Rattle.pm_props.specs.declared.property.PropId.TheVariants.{AffineHull, ConeDim}
 use Rattle.std.proofs.Common.{[], ap, refl, ◌∙◌, ◌∷◌}
 
 pub matrix_of-hull-requires-clause-source : goal.matrix_of-hull-requires-clause-source

@@ -1,7 +1,7 @@
 use Rattle.pm_clients_geom.proofs.FoundDims.{rank_of_vertices}
 use Rattle.pm_clients_geom.proofs.Puts.{named}
 use Rattle.pm_clients_geom.proofs.dims.cone_dim_v.Goals as goal
-use Rattle.pm_types.specs.declared.property.PropId.TheVariants.{ConeDim, LinealitySpace, Vertices}
+use Rattle.pm_props.specs.declared.property.PropId.TheVariants.{ConeDim, LinealitySpace, Vertices}
 use Rattle.std.proofs.Common.{[], ap, refl, ◌∙◌, ◌∷◌}
 
 pub rank_of_list-requires-clause-first : goal.rank_of_list-requires-clause-first

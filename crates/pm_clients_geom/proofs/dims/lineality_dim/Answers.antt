@@ -1,7 +1,7 @@
 use Rattle.pm_clients_geom.proofs.FoundDims.{number_of_lines}
 use Rattle.pm_clients_geom.proofs.Puts.{named}
 use Rattle.pm_clients_geom.proofs.dims.lineality_dim.Goals as goal
-use Rattle.pm_types.specs.declared.property.PropId.TheVariants.{LinealityDim, LinealitySpace}
+use Rattle.pm_props.specs.declared.property.PropId.TheVariants.{LinealityDim, LinealitySpace}
 use Rattle.std.proofs.Common.{[], ap, refl, ◌∙◌, ◌∷◌}
 
 pub matrix_of-lineality-requires-clause-source : goal.matrix_of-lineality-requires-clause-source

@@ -5,9 +5,9 @@ use Rattle.pm_clients_geom.proofs.NullMatrices.{hull_sound}
 use Rattle.pm_clients_geom.proofs.RowsKinds.{source_of, target_of}
 use Rattle.pm_clients_geom.proofs.ViewLaws.{not_fan, target_named}
 use Rattle.pm_clients_geom.proofs.rows.hull_from_vertices.Goals as goal
-use Rattle.pm_types.specs.declared.property.PropId.TheVariants.{AffineHull, LinealitySpace, Vertices}
-use Rattle.pm_types.specs.declared.property.PropId.{PropId}
-use Rattle.pm_types.specs.declared.standard.StandardClient.TheVariants as client
+use Rattle.pm_props.specs.declared.property.PropId.TheVariants.{AffineHull, LinealitySpace, Vertices}
+use Rattle.pm_props.specs.declared.property.PropId.{PropId}
+use Rattle.pm_props.specs.declared.standard.StandardClient.TheVariants as client
 use Rattle.std.proofs.Common.{ap, refl, ◌∙◌, subst, sym}
 use Rattle.std.specs.Prelude.{List, [], ◌∷◌}
 

@@ -1,9 +1,9 @@
 use Rattle.pm_clients_geom.proofs.Halves.{inequalities_sound}
 use Rattle.pm_clients_geom.proofs.RowsKinds.{source_of, target_of}
 use Rattle.pm_clients_geom.proofs.rows.inequalities_from_facets.Goals as goal
-use Rattle.pm_types.specs.declared.property.PropId.TheVariants.{Facets, AffineHull, Inequalities, Equations}
-use Rattle.pm_types.specs.declared.property.PropId.{PropId}
-use Rattle.pm_types.specs.declared.standard.StandardClient.TheVariants as client
+use Rattle.pm_props.specs.declared.property.PropId.TheVariants.{Facets, AffineHull, Inequalities, Equations}
+use Rattle.pm_props.specs.declared.property.PropId.{PropId}
+use Rattle.pm_props.specs.declared.standard.StandardClient.TheVariants as client
 use Rattle.std.proofs.Common.{ap, refl, ◌∙◌}
 use Rattle.std.specs.Prelude.{List, [], ◌∷◌}
 

@@ -6,9 +6,9 @@ use Rattle.pm_clients_geom.proofs.RowsKinds.{source_of, target_of}
 use Rattle.pm_clients_geom.proofs.ViewLaws.{not_fan, source_named}
 use Rattle.pm_clients_geom.proofs.rows.lineality_from_facets.Goals as goal
 use Rattle.pm_clients_geom.proofs.rows.lineality_from_facets.Goals.{else-may_be_lines, then-may_be_lines}
-use Rattle.pm_types.specs.declared.property.PropId.TheVariants.{AffineHull, Facets, LinealitySpace}
-use Rattle.pm_types.specs.declared.property.PropId.{PropId}
-use Rattle.pm_types.specs.declared.standard.StandardClient.TheVariants as client
+use Rattle.pm_props.specs.declared.property.PropId.TheVariants.{AffineHull, Facets, LinealitySpace}
+use Rattle.pm_props.specs.declared.property.PropId.{PropId}
+use Rattle.pm_props.specs.declared.standard.StandardClient.TheVariants as client
 use Rattle.std.proofs.Common.{ap, false, inl, inr, refl, true, ◌∙◌, subst, sym}
 use Rattle.std.specs.Prelude.{List, [], ◌∷◌, ◌≡◌, ◌⊎◌}
 

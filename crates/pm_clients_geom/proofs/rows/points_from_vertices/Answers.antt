@@ -1,9 +1,9 @@
 use Rattle.pm_clients_geom.proofs.Halves.{points_sound}
 use Rattle.pm_clients_geom.proofs.RowsKinds.{source_of, target_of}
 use Rattle.pm_clients_geom.proofs.rows.points_from_vertices.Goals as goal
-use Rattle.pm_types.specs.declared.property.PropId.TheVariants.{Vertices, LinealitySpace, Points, InputLineality}
-use Rattle.pm_types.specs.declared.property.PropId.{PropId}
-use Rattle.pm_types.specs.declared.standard.StandardClient.TheVariants as client
+use Rattle.pm_props.specs.declared.property.PropId.TheVariants.{Vertices, LinealitySpace, Points, InputLineality}
+use Rattle.pm_props.specs.declared.property.PropId.{PropId}
+use Rattle.pm_props.specs.declared.standard.StandardClient.TheVariants as client
 use Rattle.std.proofs.Common.{ap, refl, ◌∙◌}
 use Rattle.std.specs.Prelude.{List, [], ◌∷◌}
 

@@ -1,7 +1,7 @@
 use Rattle.pm_clients_geom.proofs.FoundTruths.{full_dim_follows}
 use Rattle.pm_clients_geom.proofs.Puts.{named}
 use Rattle.pm_clients_geom.proofs.truths.full_dim.Goals as goal
-use Rattle.pm_types.specs.declared.property.PropId.TheVariants.{ConeDim, FullDim}
+use Rattle.pm_props.specs.declared.property.PropId.TheVariants.{ConeDim, FullDim}
 use Rattle.std.proofs.Common.{[], ap, refl, ◌∙◌, ◌∷◌}
 
 pub whole_of-requires-clause-source : goal.whole_of-requires-clause-source

@@ -1,7 +1,7 @@
 use Rattle.pm_clients_geom.proofs.FoundTruths.{pointed_follows}
 use Rattle.pm_clients_geom.proofs.Puts.{named}
 use Rattle.pm_clients_geom.proofs.truths.pointed.Goals as goal
-use Rattle.pm_types.specs.declared.property.PropId.TheVariants.{LinealityDim, Pointed}
+use Rattle.pm_props.specs.declared.property.PropId.TheVariants.{LinealityDim, Pointed}
 use Rattle.std.proofs.Common.{[], ap, refl, ◌∙◌, ◌∷◌}
 
 pub whole_of-is_pointed-requires-clause-source : goal.whole_of-is_pointed-requires-clause-source

@@ -4,7 +4,7 @@ use Rattle.std.specs.Prelude.{nat_eq, ◌&&◌}
 use Rattle.pm_object.specs.State.{is_disabled, read_at}
 use Rattle.pm_machine.proofs.Barred.{three}
 use Rattle.pm_machine.specs.Chains.{is_excluded, is_wrong, some_wrong}
-use Rattle.pm_types.specs.Runs.{same_place}
+use Rattle.pm_props.specs.Places.{same_place}
 use Rattle.pm_machine.proofs.chain.is_barred_by.Goals as goal
 
 pub returns : goal.returns

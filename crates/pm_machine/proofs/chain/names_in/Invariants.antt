@@ -1,6 +1,6 @@
 use Rattle.std.proofs.Common.{◌≡◌, drop, fold, filter}
-use Rattle.pm_types.specs.Kinds.{is_in_use}
-use Rattle.pm_types.specs.Sets.{only, union, set_of}
+use Rattle.pm_props.specs.Kinds.{is_in_use}
+use Rattle.pm_props.specs.Sets.{only, union, set_of}
 use Rattle.pm_machine.proofs.chain.names_in.Given as goal
 
 -- with what the rest of the list adds to it, the set is that of the whole list

@@ -8,8 +8,8 @@ use Rattle.pm_object.specs.Laws.{computed}
 use Rattle.pm_object.specs.Reading.{answer_at}
 use Rattle.pm_object.specs.State.{State, with_held}
 use Rattle.pm_types.specs.Runs.{missing}
-use Rattle.pm_types.specs.Sets.{members}
-use Rattle.pm_types.specs.declared.property.PropId.TheVariants.{ConeAmbientDim}
+use Rattle.pm_props.specs.Sets.{members}
+use Rattle.pm_props.specs.declared.property.PropId.TheVariants.{ConeAmbientDim}
 use Rattle.pm_machine.proofs.commit.commit.Goals as goal
 
 pub loop-p-init : goal.loop-p-init

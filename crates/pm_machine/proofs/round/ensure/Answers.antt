@@ -7,7 +7,7 @@ use Rattle.pm_machine.proofs.RoundTraces.{broken_further, found_so, none_so, rea
 use Rattle.pm_machine.proofs.Traces.{reaching_holds}
 use Rattle.pm_machine.specs.Chains.{AllHeld}
 use Rattle.pm_machine.specs.Events.{unsettled}
-use Rattle.pm_types.specs.declared.property.PropId.TheVariants.{ConeAmbientDim}
+use Rattle.pm_props.specs.declared.property.PropId.TheVariants.{ConeAmbientDim}
 use Rattle.pm_machine.proofs.round.ensure.Goals as goal
 
 pub loop-rules-init : goal.loop-rules-init

@@ -2,7 +2,7 @@ use Rattle.pm_machine.proofs.Measure.{left_to_do}
 use Rattle.pm_machine.specs.Events.{Reaches, at_rest, configuration, unsettled}
 use Rattle.pm_object.specs.State.{is_held}
 use Rattle.pm_rules.specs.Books.{IsBook}
-use Rattle.pm_types.specs.declared.property.PropId.TheVariants.{ConeAmbientDim}
+use Rattle.pm_props.specs.declared.property.PropId.TheVariants.{ConeAmbientDim}
 use Rattle.std.proofs.Common.{true, ◌≡◌}
 use Rattle.std.specs.Prelude.{None, map}
 use Rattle.pm_machine.proofs.round.ensure.Given as goal

@@ -10,7 +10,7 @@ use Rattle.pm_machine.specs.Chains.{held_names, some_wrong, still_missing, table
 use Rattle.pm_object.specs.State.{cols_of, read_at}
 use Rattle.std.specs.Prelude.{None}
 use Rattle.pm_rules.specs.Rules.{is_barred, rule_at}
-use Rattle.pm_types.specs.Sets.{difference}
+use Rattle.pm_props.specs.Sets.{difference}
 use Rattle.pm_machine.proofs.round.next_round.Goals as goal
 
 pub returns-in_default-clause-ok : goal.returns-in_default-clause-ok

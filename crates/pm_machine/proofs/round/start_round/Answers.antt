@@ -3,7 +3,7 @@ use Rattle.std.proofs.lemmas.Result.{err_from_is_err_and}
 use Rattle.std.proofs.Common.{inl, inr}
 use Rattle.pm_machine.proofs.Names.{on_err_of}
 use Rattle.pm_machine.proofs.Running.{runs_hold}
-use Rattle.pm_types.specs.declared.property.PropId.TheVariants.{ConeAmbientDim}
+use Rattle.pm_props.specs.declared.property.PropId.TheVariants.{ConeAmbientDim}
 use Rattle.pm_machine.proofs.round.start_round.Goals as goal
 
 pub add_round-requires : goal.add_round-requires

@@ -1,6 +1,6 @@
 use Rattle.std.proofs.Common.{◌<◌, ◌++◌, List, length, suc, IfSome, reverse}
 use Rattle.std.specs.Option.{option_map_or}
-use Rattle.pm_types.specs.declared.kind.RuleId.{RuleId}
+use Rattle.pm_props.specs.declared.kind.RuleId.{RuleId}
 use Rattle.pm_plan.specs.Tracks.{IsTrack}
 use Rattle.pm_plan.proofs.track.chain_to.Given as goal
 

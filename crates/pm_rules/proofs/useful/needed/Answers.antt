@@ -1,6 +1,6 @@
 use Rattle.std.proofs.Common.{◌≡◌, ◌∙◌, sym, subst}
-use Rattle.pm_types.specs.declared.set.PropSet.{PropSet}
-use Rattle.pm_types.specs.Sets.{IsSubset}
+use Rattle.pm_props.specs.declared.set.PropSet.{PropSet}
+use Rattle.pm_props.specs.Sets.{IsSubset}
 use Rattle.pm_rules.specs.Rules.{inputs}
 use Rattle.pm_rules.specs.Chains.Needed.{is_asked}
 use Rattle.pm_rules.proofs.NeededNames.{needed_within}

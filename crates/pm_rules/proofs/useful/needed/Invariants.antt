@@ -1,5 +1,5 @@
 use Rattle.std.proofs.Common.{◌-◌, ◌^◌}
-use Rattle.pm_types.specs.Sets.{IsSubset}
+use Rattle.pm_props.specs.Sets.{IsSubset}
 use Rattle.pm_rules.specs.Useful.{AllNeeded}
 use Rattle.pm_rules.proofs.useful.needed.Given as goal
 

@@ -1,6 +1,6 @@
 use Rattle.std.proofs.Common.{◌≤◌}
-use Rattle.pm_types.specs.declared.set.PropSet.{PropSet}
-use Rattle.pm_types.specs.Sets.{IsSubset}
+use Rattle.pm_props.specs.declared.set.PropSet.{PropSet}
+use Rattle.pm_props.specs.Sets.{IsSubset}
 use Rattle.pm_rules.specs.Useful.{AllNeeded}
 use Rattle.pm_rules.proofs.NeededNames.{ReadIsIn}
 use Rattle.pm_rules.proofs.useful.with_read.Given as goal

@@ -1,7 +1,7 @@
 use Rattle.std.proofs.Common.{ap, rules, ◌∙◌, ◌≡◌}
 use Rattle.pm_object.proofs.Names.{names_held}
 use Rattle.pm_object.specs.State.{names_of, read_at}
-use Rattle.pm_types.specs.Sets.{has}
+use Rattle.pm_props.specs.Sets.{has}
 use Rattle.pm_object.proofs.object.Object.names.Goals as goal
 
 pub returns-clause-members : goal.returns-clause-members

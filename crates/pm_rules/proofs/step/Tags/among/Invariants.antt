@@ -1,5 +1,5 @@
 use Rattle.std.proofs.Common.{◌≡◌, drop, fold, filter}
-use Rattle.pm_types.specs.Sets.{only, union, set_of}
+use Rattle.pm_props.specs.Sets.{only, union, set_of}
 use Rattle.pm_rules.specs.Steps.{has_some_tag}
 use Rattle.pm_rules.proofs.step.Tags.among.Given as goal
 

@@ -1,0 +1,15 @@
+pub mod Numbers
+pub mod Lexing
+pub mod Spacing
+pub mod ReadRules
+pub mod ReadBooks
+pub mod PartLemmas
+pub mod SpelledParts
+pub mod SpelledRules
+pub mod SpelledBooks
+pub mod FoundParts
+pub mod FoundBooks
+pub mod Printed
+pub mod PrintedNames
+pub mod PrintedWeights
+pub mod PrintedBooks

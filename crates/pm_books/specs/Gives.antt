@@ -1,0 +1,45 @@
+-- What a function returned, as the grammar has it.
+--     Reads view result read      it is what is read, seen by view, the fault too
+--     Gives view result read      the same, unless memory ran out
+--     IsBehindComma ts rest, HasNoComma ts      these are the tokens behind a comma; no comma comes next
+--     EndsBefore ts      the tokens end before the name of a condition
+--     HasCondition ts negated t rest      a condition comes next: this name, behind `!` or not, and then the rest
+use Rattle.std.specs.Prelude.{◌≡◌, ℕ, Bool, false, IsTrue, Result, Ok, Err, List, [], ◌∷◌}
+use Rattle.pm_books.specs.declared.fail.BookFail.{BookFail}
+use Rattle.pm_books.specs.declared.fail.BookFail.TheVariants.{Syntax, UnknownProperty, UnknownClient, SignatureMismatch, SameLabel, WeightRange, TooManyRules, Memory}
+use Rattle.pm_books.specs.Tokens.{Token}
+use Rattle.pm_books.specs.Reading.{◌>>=◌, is_comma, Conditions, condition_of, with_condition, conditions_from}
+use Rattle.pm_books.specs.Reading.Due.{condition, comma}
+
+abbrev pub Reads : {X Y : Type 0} → (X → Y) → Result X BookFail → Result Y BookFail → Type 0
+Reads view (Ok x) read = read ≡ Ok (view x)
+Reads view (Err e) read = read ≡ Err e
+
+abbrev pub Fails : {Y : Type 0} → BookFail → Result Y BookFail → Type 0
+Fails Memory read = Unit {0}
+Fails (Syntax k) read = read ≡ Err (Syntax k)
+Fails (UnknownProperty k) read = read ≡ Err (UnknownProperty k)
+Fails (UnknownClient k) read = read ≡ Err (UnknownClient k)
+Fails (SignatureMismatch k) read = read ≡ Err (SignatureMismatch k)
+Fails (SameLabel k) read = read ≡ Err (SameLabel k)
+Fails (WeightRange k) read = read ≡ Err (WeightRange k)
+Fails (TooManyRules k) read = read ≡ Err (TooManyRules k)
+
+abbrev pub Gives : {X Y : Type 0} → (X → Y) → Result X BookFail → Result Y BookFail → Type 0
+Gives view (Ok x) read = read ≡ Ok (view x)
+Gives view (Err e) read = Fails e read
+
+abbrev pub IsBehindComma : List Token → List Token → Type 0
+IsBehindComma [] rest = ⊥
+IsBehindComma (t ∷ ts) rest = IsTrue (is_comma t) × (ts ≡ rest)
+
+abbrev pub HasNoComma : List Token → Type 0
+HasNoComma [] = Unit {0}
+HasNoComma (t ∷ ts) = is_comma t ≡ false
+
+abbrev pub EndsBefore : List Token → Type 0
+EndsBefore ts = (found : Conditions) (end : ℕ) → conditions_from condition found end ts ≡ Err (Syntax end)
+
+abbrev pub HasCondition : List Token → Bool → Token → List Token → Type 0
+HasCondition ts negated t rest = (found : Conditions) (end : ℕ)
+    → conditions_from condition found end ts ≡ (condition_of found t >>= λ p. conditions_from comma (with_condition found negated p) end rest)

@@ -1,0 +1,8 @@
+pub mod Numbers
+pub mod Members
+pub mod Every
+pub mod Places
+pub mod NameLemmas
+pub mod NameBytes
+pub mod CostOrder
+pub mod KindLemmas

@@ -1,0 +1,142 @@
+-- Kinds of clients: what a client of a kind finds from what, and under which conditions.
+--     conditions_of kind      the properties that must be true or must be false
+--     names_of kind      all properties that the kind names
+--     IsKindOf sub of kind      all names of the kind are in use
+--     is_in_or_unnamed sub of names p      so it is as far as p goes
+--     IsFresh tag kind      some target has the tag, and no source has it
+--     finding name targets sources      the kind of a client that finds these from those, under no condition
+use Rattle.std.specs.Prelude.{◌≡◌, ◌||◌, ℕ, Bool, true, false, not, Option, List, [], ◌∷◌, IsTrue, codes, filter, map}
+use Rattle.pm_props.specs.declared.object_type.ObjectType.{ObjectType}
+use Rattle.pm_props.specs.Properties.{is_in_use}
+use Rattle.pm_props.specs.declared.property.PropId.{PropId}
+use Rattle.pm_props.specs.declared.property.PropId.TheVariants.{Points, InputLineality, Inequalities, Equations, Vertices, LinealitySpace, Facets, AffineHull, VerticesInFacets, ConeDim, LinealityDim, CombinatorialDim, NVertices, NFacets, Feasible, Bounded, Pointed, FullDim, Centered, Simple, Simplicial, VertexSizes, FacetSizes, HasseDiagram, FVector, F2Vector, HVector, Graph, DualGraph, Diameter, DualDiameter, NEdges, NRidges, VertexDegrees, FarFace, MaximalCones, NMaximalCones, MaximalConesDims, FanDim, Pure, LinearObjective, MaximalValue, MinimalValue, MaximalFace, MinimalFace, MaximalDual, MinimalDual}
+use Rattle.pm_props.specs.declared.set.PropSet.{PropSet}
+use Rattle.pm_props.specs.declared.kind.Kind.{Kind}
+use Rattle.pm_props.specs.declared.standard.StandardClient.{StandardClient}
+use Rattle.pm_props.specs.declared.standard.StandardRule.{StandardRule}
+use Rattle.pm_props.specs.declared.standard.StandardClient.TheVariants as client
+use Rattle.pm_props.specs.Sets.{has, union, set_of}
+
+abbrev pub conditions_of : Kind → PropSet
+conditions_of kind = union kind.must kind.must_not
+
+abbrev pub names_of : Kind → PropSet
+names_of kind = union kind.targets (union kind.sources (conditions_of kind))
+
+abbrev pub IsKindOf : Option ℕ → ObjectType → Kind → Type 0
+IsKindOf sub of kind = (p : PropId) → IsTrue (has (names_of kind) p) → IsTrue (is_in_use sub of p)
+
+abbrev pub is_in_or_unnamed : Option ℕ → ObjectType → PropSet → PropId → Bool
+is_in_or_unnamed sub of names p = not (has names p) || is_in_use sub of p
+
+pub record IsFresh (tag : PropId → Bool) (kind : Kind) : Type 0 where
+  pub target : (p : PropId) × IsTrue (has kind.targets p) × IsTrue (tag p)
+  pub sources : (p : PropId) → IsTrue (has kind.sources p) → tag p ≡ false
+
+abbrev pub finding : List ℕ → List PropId → List PropId → Kind
+finding name targets sources = record { name = name; targets = set_of targets; sources = set_of sources; must = 0; must_not = 0 }
+
+-- a rule under no condition, whose client is not built, and one whose client is
+abbrev pub unbuilt : List ℕ → List PropId → List PropId → ℕ → StandardRule
+unbuilt name targets sources weight = record { kind = finding name targets sources; weight = weight; is_built = false }
+
+abbrev pub built : List ℕ → List PropId → List PropId → ℕ → StandardRule
+built name targets sources weight = record { kind = finding name targets sources; weight = weight; is_built = true }
+
+-- the rule where these properties must be true
+abbrev pub where_true : List PropId → StandardRule → StandardRule
+where_true must r = record { kind = record r.kind { must = set_of must }; weight = r.weight; is_built = r.is_built }
+
+-- the standard rules: label, targets, sources, weight
+abbrev pub standard_row : StandardClient → StandardRule
+standard_row client.DdVertices = unbuilt (codes "dd_vertices") (Vertices ∷ LinealitySpace ∷ []) (Inequalities ∷ Equations ∷ []) 40
+standard_row client.DdFacets = unbuilt (codes "dd_facets") (Facets ∷ AffineHull ∷ []) (Points ∷ InputLineality ∷ []) 40
+standard_row client.DdFacetsV = unbuilt (codes "dd_facets_v") (Facets ∷ AffineHull ∷ []) (Vertices ∷ LinealitySpace ∷ []) 30
+standard_row client.DdVerticesF = unbuilt (codes "dd_vertices_f") (Vertices ∷ LinealitySpace ∷ []) (Facets ∷ AffineHull ∷ []) 30
+standard_row client.ThinPointsLp = unbuilt (codes "thin_points_lp") (Vertices ∷ LinealitySpace ∷ []) (Points ∷ InputLineality ∷ []) 60
+standard_row client.ThinInequalitiesLp = unbuilt (codes "thin_inequalities_lp") (Facets ∷ AffineHull ∷ []) (Inequalities ∷ Equations ∷ []) 60
+standard_row client.ThinPointsF = unbuilt (codes "thin_points_f") (Vertices ∷ LinealitySpace ∷ []) (Points ∷ InputLineality ∷ Facets ∷ AffineHull ∷ []) 10
+standard_row client.ThinInequalitiesV = unbuilt (codes "thin_inequalities_v") (Facets ∷ AffineHull ∷ []) (Inequalities ∷ Equations ∷ Vertices ∷ LinealitySpace ∷ []) 10
+standard_row client.VerticesFromSets = unbuilt (codes "vertices_from_sets") (Vertices ∷ []) (Facets ∷ AffineHull ∷ VerticesInFacets ∷ []) 20
+standard_row client.FacetsFromSets = unbuilt (codes "facets_from_sets") (Facets ∷ []) (Vertices ∷ LinealitySpace ∷ VerticesInFacets ∷ []) 20
+standard_row client.PointsFromVertices = built (codes "points_from_vertices") (Points ∷ InputLineality ∷ []) (Vertices ∷ LinealitySpace ∷ []) 5
+standard_row client.InequalitiesFromFacets = built (codes "inequalities_from_facets") (Inequalities ∷ Equations ∷ []) (Facets ∷ AffineHull ∷ []) 5
+standard_row client.LinealityFromFacets = built (codes "lineality_from_facets") (LinealitySpace ∷ []) (Facets ∷ AffineHull ∷ []) 5
+standard_row client.HullFromVertices = built (codes "hull_from_vertices") (AffineHull ∷ []) (Vertices ∷ LinealitySpace ∷ []) 5
+standard_row client.ConeDimV = built (codes "cone_dim_v") (ConeDim ∷ []) (Vertices ∷ LinealitySpace ∷ []) 4
+standard_row client.ConeDimSpan = built (codes "cone_dim_span") (ConeDim ∷ []) (AffineHull ∷ []) 1
+standard_row client.ConeDimPoints = built (codes "cone_dim_points") (ConeDim ∷ []) (Points ∷ InputLineality ∷ []) 8
+standard_row client.LinealityDim = built (codes "lineality_dim") (LinealityDim ∷ []) (LinealitySpace ∷ []) 1
+standard_row client.CombinatorialDim = built (codes "combinatorial_dim") (CombinatorialDim ∷ []) (ConeDim ∷ LinealityDim ∷ []) 1
+standard_row client.NVertices = unbuilt (codes "n_vertices") (NVertices ∷ []) (Vertices ∷ []) 1
+standard_row client.NVerticesSets = unbuilt (codes "n_vertices_sets") (NVertices ∷ []) (VerticesInFacets ∷ []) 1
+standard_row client.NFacets = unbuilt (codes "n_facets") (NFacets ∷ []) (Facets ∷ []) 1
+standard_row client.NFacetsSets = unbuilt (codes "n_facets_sets") (NFacets ∷ []) (VerticesInFacets ∷ []) 1
+standard_row client.Feasible = built (codes "feasible") (Feasible ∷ []) (ConeDim ∷ []) 1
+standard_row client.FeasibleLp = unbuilt (codes "feasible_lp") (Feasible ∷ []) (Inequalities ∷ Equations ∷ []) 15
+standard_row client.Bounded = unbuilt (codes "bounded") (Bounded ∷ []) (Vertices ∷ LinealitySpace ∷ []) 1
+standard_row client.FarFace = unbuilt (codes "far_face") (FarFace ∷ []) (Vertices ∷ []) 1
+standard_row client.Pointed = built (codes "pointed") (Pointed ∷ []) (LinealityDim ∷ []) 1
+standard_row client.FullDim = built (codes "full_dim") (FullDim ∷ []) (ConeDim ∷ []) 1
+standard_row client.Centered = unbuilt (codes "centered") (Centered ∷ []) (Facets ∷ AffineHull ∷ []) 1
+standard_row client.Incidence = built (codes "incidence") (VerticesInFacets ∷ []) (Vertices ∷ Facets ∷ []) 5
+standard_row client.VertexSizes = unbuilt (codes "vertex_sizes") (VertexSizes ∷ []) (VerticesInFacets ∷ []) 2
+standard_row client.FacetSizes = unbuilt (codes "facet_sizes") (FacetSizes ∷ []) (VerticesInFacets ∷ []) 2
+standard_row client.Simple = unbuilt (codes "simple") (Simple ∷ []) (VertexSizes ∷ CombinatorialDim ∷ []) 1
+standard_row client.Simplicial = unbuilt (codes "simplicial") (Simplicial ∷ []) (FacetSizes ∷ CombinatorialDim ∷ []) 1
+standard_row client.Faces = unbuilt (codes "faces") (HasseDiagram ∷ []) (VerticesInFacets ∷ []) 50
+standard_row client.FVector = unbuilt (codes "f_vector") (FVector ∷ []) (HasseDiagram ∷ []) 2
+standard_row client.F2Vector = unbuilt (codes "f2_vector") (F2Vector ∷ []) (HasseDiagram ∷ []) 3
+standard_row client.HVector = where_true (Bounded ∷ Simplicial ∷ []) (unbuilt (codes "h_vector") (HVector ∷ []) (FVector ∷ CombinatorialDim ∷ []) 2)
+standard_row client.GraphOfSets = unbuilt (codes "graph_of_sets") (Graph ∷ []) (VerticesInFacets ∷ []) 15
+standard_row client.GraphOfFaces = unbuilt (codes "graph_of_faces") (Graph ∷ []) (HasseDiagram ∷ []) 3
+standard_row client.DualGraph = unbuilt (codes "dual_graph") (DualGraph ∷ []) (VerticesInFacets ∷ []) 15
+standard_row client.VertexDegrees = unbuilt (codes "vertex_degrees") (VertexDegrees ∷ []) (Graph ∷ []) 1
+standard_row client.Diameter = unbuilt (codes "diameter") (Diameter ∷ []) (Graph ∷ []) 4
+standard_row client.DualDiameter = unbuilt (codes "dual_diameter") (DualDiameter ∷ []) (DualGraph ∷ []) 4
+standard_row client.NEdges = unbuilt (codes "n_edges") (NEdges ∷ []) (Graph ∷ []) 1
+standard_row client.NRidges = unbuilt (codes "n_ridges") (NRidges ∷ []) (DualGraph ∷ []) 1
+standard_row client.LpMax = unbuilt (codes "lp_max") (MaximalValue ∷ MaximalDual ∷ []) (Facets ∷ AffineHull ∷ LinearObjective ∷ []) 20
+standard_row client.LpMin = unbuilt (codes "lp_min") (MinimalValue ∷ MinimalDual ∷ []) (Facets ∷ AffineHull ∷ LinearObjective ∷ []) 20
+standard_row client.LpMaxRows = unbuilt (codes "lp_max_rows") (MaximalValue ∷ []) (Inequalities ∷ Equations ∷ LinearObjective ∷ []) 25
+standard_row client.LpMinRows = unbuilt (codes "lp_min_rows") (MinimalValue ∷ []) (Inequalities ∷ Equations ∷ LinearObjective ∷ []) 25
+standard_row client.LpMaxV = unbuilt (codes "lp_max_v") (MaximalValue ∷ []) (Vertices ∷ LinealitySpace ∷ LinearObjective ∷ []) 6
+standard_row client.LpMinV = unbuilt (codes "lp_min_v") (MinimalValue ∷ []) (Vertices ∷ LinealitySpace ∷ LinearObjective ∷ []) 6
+standard_row client.LpMaxFace = unbuilt (codes "lp_max_face") (MaximalFace ∷ []) (Vertices ∷ MaximalValue ∷ LinearObjective ∷ []) 3
+standard_row client.LpMinFace = unbuilt (codes "lp_min_face") (MinimalFace ∷ []) (Vertices ∷ MinimalValue ∷ LinearObjective ∷ []) 3
+standard_row client.FanDims = unbuilt (codes "fan_dims") (MaximalConesDims ∷ []) (Vertices ∷ LinealitySpace ∷ MaximalCones ∷ []) 4
+standard_row client.FanDim = unbuilt (codes "fan_dim") (FanDim ∷ []) (MaximalConesDims ∷ []) 1
+standard_row client.FanPure = unbuilt (codes "fan_pure") (Pure ∷ []) (MaximalConesDims ∷ []) 1
+standard_row client.FanSimplicial = unbuilt (codes "fan_simplicial") (Simplicial ∷ []) (MaximalConesDims ∷ MaximalCones ∷ LinealityDim ∷ []) 1
+standard_row client.FanSize = unbuilt (codes "fan_size") (NMaximalCones ∷ []) (MaximalCones ∷ []) 1
+
+-- all of them, in the order of the standard book
+abbrev pub standard_clients : List StandardClient
+standard_clients =
+    client.DdVertices ∷ client.DdFacets ∷ client.DdFacetsV ∷ client.DdVerticesF ∷ client.ThinPointsLp
+    ∷ client.ThinInequalitiesLp ∷ client.ThinPointsF ∷ client.ThinInequalitiesV ∷ client.VerticesFromSets ∷ client.FacetsFromSets
+    ∷ client.PointsFromVertices ∷ client.InequalitiesFromFacets ∷ client.LinealityFromFacets ∷ client.HullFromVertices ∷ client.ConeDimV
+    ∷ client.ConeDimSpan ∷ client.ConeDimPoints ∷ client.LinealityDim ∷ client.CombinatorialDim ∷ client.NVertices
+    ∷ client.NVerticesSets ∷ client.NFacets ∷ client.NFacetsSets ∷ client.Feasible ∷ client.FeasibleLp
+    ∷ client.Bounded ∷ client.FarFace ∷ client.Pointed ∷ client.FullDim ∷ client.Centered
+    ∷ client.Incidence ∷ client.VertexSizes ∷ client.FacetSizes ∷ client.Simple ∷ client.Simplicial
+    ∷ client.Faces ∷ client.FVector ∷ client.F2Vector ∷ client.HVector ∷ client.GraphOfSets
+    ∷ client.GraphOfFaces ∷ client.DualGraph ∷ client.VertexDegrees ∷ client.Diameter ∷ client.DualDiameter
+    ∷ client.NEdges ∷ client.NRidges ∷ client.LpMax ∷ client.LpMin ∷ client.LpMaxRows
+    ∷ client.LpMinRows ∷ client.LpMaxV ∷ client.LpMinV ∷ client.LpMaxFace ∷ client.LpMinFace
+    ∷ client.FanDims ∷ client.FanDim ∷ client.FanPure ∷ client.FanSimplicial ∷ client.FanSize ∷ []
+
+abbrev pub standard_kind : StandardClient → Kind
+standard_kind c = (standard_row c).kind
+
+-- their kinds
+abbrev pub standard_kinds_list : List Kind
+standard_kinds_list = map standard_kind standard_clients
+
+-- whether its client is built
+abbrev pub is_built_client : StandardClient → Bool
+is_built_client c = (standard_row c).is_built
+
+-- those that are built
+abbrev pub built_clients : List StandardClient
+built_clients = filter is_built_client standard_clients

@@ -1,0 +1,8 @@
+pub mod Rows
+pub mod Properties
+pub mod Places
+pub mod Names
+pub mod Sets
+pub mod Weights
+pub mod Padded
+pub mod Kinds

@@ -1,0 +1,697 @@
+// The properties of objects: their rows in the table, and the order of their numbers.
+
+ghost use Rattle.pm_props.specs.Places.{place_of};
+ghost use Rattle.pm_props.specs.Properties.{every_property, generators_tag, half_spaces_tag, has, has_program, is_in_use, number, plain, property_at, row};
+ghost use Rattle.std.specs.Prelude.{slice_get, ◌<◌, ◌≡◌};
+
+use crate::object_type::ObjectType;
+use std::marker::Model;
+
+/// A property, by its number from 0 to 47.
+#[derive(Clone, Copy, Debug, PartialEq, Eq, Hash)]
+pub enum PropId {
+    /// 0: CONE_AMBIENT_DIM, the number of columns.
+    ConeAmbientDim,
+    /// 1: POINTS, rows that generate, with INPUT_LINEALITY.
+    Points,
+    /// 2: INPUT_LINEALITY, lines that generate, with POINTS.
+    InputLineality,
+    /// 3: INEQUALITIES, rows that cut out, with EQUATIONS.
+    Inequalities,
+    /// 4: EQUATIONS, rows that vanish and cut out, with INEQUALITIES.
+    Equations,
+    /// 5: VERTICES, the extreme rays in order.
+    Vertices,
+    /// 6: LINEALITY_SPACE, a basis of the lineality.
+    LinealitySpace,
+    /// 7: FACETS, the facet rows in order.
+    Facets,
+    /// 8: AFFINE_HULL, a basis of the rows that vanish.
+    AffineHull,
+    /// 9: VERTICES_IN_FACETS, for each facet the rays on it.
+    VerticesInFacets,
+    /// 10: CONE_DIM, the dimension of the cone's span.
+    ConeDim,
+    /// 11: LINEALITY_DIM, the dimension of the lineality.
+    LinealityDim,
+    /// 12: COMBINATORIAL_DIM, CONE_DIM - LINEALITY_DIM - 1.
+    CombinatorialDim,
+    /// 13: N_VERTICES, the number of extreme rays.
+    NVertices,
+    /// 14: N_FACETS, the number of facets.
+    NFacets,
+    /// 15: FEASIBLE, whether the polytope is not empty.
+    Feasible,
+    /// 16: BOUNDED, whether no ray is far.
+    Bounded,
+    /// 17: POINTED, whether the lineality is {0}.
+    Pointed,
+    /// 18: FULL_DIM, whether CONE_DIM is the number of columns.
+    FullDim,
+    /// 19: CENTERED, whether (1,0,..,0) lies inside.
+    Centered,
+    /// 20: SIMPLE, whether each ray lies in as few facets as can be.
+    Simple,
+    /// 21: SIMPLICIAL, whether each facet (maximal cone) has as few rays as can be.
+    Simplicial,
+    /// 22: VERTEX_SIZES, for each ray the number of facets that hold it.
+    VertexSizes,
+    /// 23: FACET_SIZES, for each facet the number of rays on it.
+    FacetSizes,
+    /// 24: HASSE_DIAGRAM, all faces, by rank.
+    HasseDiagram,
+    /// 25: F_VECTOR, the numbers of faces, by rank.
+    FVector,
+    /// 26: F2_VECTOR, the numbers of pairs of faces, one in the other, by ranks.
+    F2Vector,
+    /// 27: H_VECTOR, the h-vector of a simplicial polytope.
+    HVector,
+    /// 28: GRAPH, pairs of rays that are a face.
+    Graph,
+    /// 29: DUAL_GRAPH, pairs of facets that meet in a ridge.
+    DualGraph,
+    /// 30: DIAMETER, the diameter of GRAPH.
+    Diameter,
+    /// 31: DUAL_DIAMETER, the diameter of DUAL_GRAPH.
+    DualDiameter,
+    /// 32: N_EDGES, the number of pairs in GRAPH.
+    NEdges,
+    /// 33: N_RIDGES, the number of pairs in DUAL_GRAPH.
+    NRidges,
+    /// 34: VERTEX_DEGREES, the sizes of GRAPH's rows.
+    VertexDegrees,
+    /// 35: FAR_FACE, the rays whose first coordinate is 0.
+    FarFace,
+    /// 36: MAXIMAL_CONES, for each maximal cone of a fan its rays.
+    MaximalCones,
+    /// 37: N_MAXIMAL_CONES, the number of maximal cones.
+    NMaximalCones,
+    /// 38: MAXIMAL_CONES_DIMS, the dimension of each maximal cone.
+    MaximalConesDims,
+    /// 39: FAN_DIM, the greatest dimension of a cone of the fan.
+    FanDim,
+    /// 40: PURE, whether all maximal cones have one dimension.
+    Pure,
+    /// 41: LP.LINEAR_OBJECTIVE, a program's objective.
+    LinearObjective,
+    /// 42: LP.MAXIMAL_VALUE, the greatest value of the objective.
+    MaximalValue,
+    /// 43: LP.MINIMAL_VALUE, the least value of the objective.
+    MinimalValue,
+    /// 44: LP.MAXIMAL_FACE, the rays at which the greatest value is attained.
+    MaximalFace,
+    /// 45: LP.MINIMAL_FACE, the rays at which the least value is attained.
+    MinimalFace,
+    /// 46: LP.MAXIMAL_DUAL, facet rows that prove that no value is greater.
+    MaximalDual,
+    /// 47: LP.MINIMAL_DUAL, facet rows that prove that no value is less.
+    MinimalDual,
+}
+
+/// The form that a property's values have.
+#[derive(Clone, Copy, Debug, PartialEq, Eq)]
+pub enum ValueKind {
+    /// Rows of fractions.
+    Mat,
+    /// Ascending rows of indices.
+    Sets,
+    /// A whole number within 64 bits.
+    Int,
+    /// True or false.
+    Bool,
+    /// A fraction, or one of both infinities.
+    Number,
+    /// The neighbours of each node of a graph.
+    Edges,
+    /// The faces by rank, as sets of indices.
+    Lattice,
+    /// Whole numbers within 64 bits.
+    Counts,
+}
+
+/// The tables that have a property.
+#[derive(Clone, Copy, Debug, PartialEq, Eq)]
+pub enum Tables {
+    /// Those of polytopes, of cones and of fans.
+    All,
+    /// Those of polytopes and of cones.
+    PolytopesAndCones,
+    /// That of polytopes alone.
+    Polytopes,
+    /// That of fans alone.
+    Fans,
+    /// That of linear programs alone.
+    Programs,
+}
+
+/// What the rows of a property do to the cone.
+#[derive(Clone, Copy, Debug, PartialEq, Eq)]
+pub enum Describes {
+    /// Nothing.
+    Nothing,
+    /// They lie in it.
+    Generators,
+    /// They are valid on it.
+    HalfSpaces,
+}
+
+/// How the values of a property are tied to the thing's number n of columns.
+#[derive(Clone, Copy, Debug, PartialEq, Eq)]
+pub enum Columns {
+    /// Not at all.
+    Free,
+    /// They are matrices with n columns.
+    Rows,
+    /// They are n.
+    Value,
+}
+
+/// The test that each given row of a property has to pass.
+#[derive(Clone, Copy, Debug, PartialEq, Eq)]
+pub enum RowTest {
+    /// None.
+    Any,
+    /// Of a polytope its first coordinate is not negative.
+    Point,
+    /// Of a polytope its first coordinate is 0.
+    Line,
+    /// It is not zero, and of a polytope its first coordinate is not negative.
+    Ray,
+    /// It is not zero.
+    NotZero,
+}
+
+/// What the table says of a property. A new property, and whatever is asked of it, is a row.
+#[derive(Debug, Drop)]
+pub struct PropertyRow {
+    /// Its number.
+    pub number: u8,
+    /// Its first name: that of polytopes, or of fans or linear programs where only these have it.
+    pub first_name: &'static str,
+    /// Its name in the table of cones.
+    pub cone_name: &'static str,
+    /// Its name in the table of fans.
+    pub fan_name: &'static str,
+    /// The form of its values.
+    pub kind: ValueKind,
+    /// The tables that have it.
+    pub tables: Tables,
+    /// Whether it speaks of the order of the extreme rays.
+    pub speaks_of_rays: bool,
+    /// Whether it speaks of the order of the facets, or of the maximal cones.
+    pub speaks_of_facets: bool,
+    /// What its rows do to the cone.
+    pub describes: Describes,
+    /// Whether it is half of a pair: POINTS with INPUT_LINEALITY, or INEQUALITIES with EQUATIONS.
+    pub is_half: bool,
+    /// How its values are tied to the number of columns.
+    pub columns: Columns,
+    /// What each given row has to pass.
+    pub test: RowTest,
+    /// Whether commands accept it. A book may name every property.
+    pub is_accepted: bool,
+}
+
+impl Model for PropertyRow {
+    ghost use Rattle.pm_props.specs.Rows.{RowSeen};
+
+    ghost Value = { RowSeen };
+
+    ghost view = { λ r. record {
+      number = r.number;
+      first_name = r.first_name.now;
+      cone_name = r.cone_name.now;
+      fan_name = r.fan_name.now;
+      kind = r.kind;
+      tables = r.tables;
+      speaks_of_rays = r.speaks_of_rays;
+      speaks_of_facets = r.speaks_of_facets;
+      describes = r.describes;
+      is_half = r.is_half;
+      columns = r.columns;
+      test = r.test;
+      is_accepted = r.is_accepted;
+    } };
+}
+
+impl PropertyRow {
+    // A property of one name, which speaks of no order, describes nothing, and is not accepted yet.
+    fn plain(number: u8, name: &'static str, kind: ValueKind, tables: Tables) -> PropertyRow
+        ensures { result ≡ plain number name.now kind tables }
+    {
+        PropertyRow {
+            number,
+            first_name: name,
+            cone_name: name,
+            fan_name: name,
+            kind,
+            tables,
+            speaks_of_rays: false,
+            speaks_of_facets: false,
+            describes: Describes::Nothing,
+            is_half: false,
+            columns: Columns::Free,
+            test: RowTest::Any,
+            is_accepted: false,
+        }
+    }
+}
+
+/// How many properties there are.
+pub const COUNT: u8 = 48;
+
+impl PropId {
+    /// The property's row in the table.
+    pub fn row(self) -> PropertyRow
+        ensures { result ≡ row self }
+    {
+        match self {
+            PropId::ConeAmbientDim => PropertyRow {
+                fan_name: "FAN_AMBIENT_DIM",
+                columns: Columns::Value,
+                is_accepted: true,
+                ..PropertyRow::plain(0, "CONE_AMBIENT_DIM", ValueKind::Int, Tables::All)
+            },
+            PropId::Points => PropertyRow {
+                cone_name: "INPUT_RAYS",
+                describes: Describes::Generators,
+                is_half: true,
+                columns: Columns::Rows,
+                test: RowTest::Point,
+                is_accepted: true,
+                ..PropertyRow::plain(1, "POINTS", ValueKind::Mat, Tables::PolytopesAndCones)
+            },
+            PropId::InputLineality => PropertyRow {
+                describes: Describes::Generators,
+                is_half: true,
+                columns: Columns::Rows,
+                test: RowTest::Line,
+                is_accepted: true,
+                ..PropertyRow::plain(
+                    2,
+                    "INPUT_LINEALITY",
+                    ValueKind::Mat,
+                    Tables::PolytopesAndCones,
+                )
+            },
+            PropId::Inequalities => PropertyRow {
+                describes: Describes::HalfSpaces,
+                is_half: true,
+                columns: Columns::Rows,
+                is_accepted: true,
+                ..PropertyRow::plain(3, "INEQUALITIES", ValueKind::Mat, Tables::PolytopesAndCones)
+            },
+            PropId::Equations => PropertyRow {
+                describes: Describes::HalfSpaces,
+                is_half: true,
+                columns: Columns::Rows,
+                is_accepted: true,
+                ..PropertyRow::plain(4, "EQUATIONS", ValueKind::Mat, Tables::PolytopesAndCones)
+            },
+            PropId::Vertices => PropertyRow {
+                cone_name: "RAYS",
+                fan_name: "RAYS",
+                speaks_of_rays: true,
+                describes: Describes::Generators,
+                columns: Columns::Rows,
+                test: RowTest::Ray,
+                is_accepted: true,
+                ..PropertyRow::plain(5, "VERTICES", ValueKind::Mat, Tables::All)
+            },
+            PropId::LinealitySpace => PropertyRow {
+                describes: Describes::Generators,
+                columns: Columns::Rows,
+                test: RowTest::Line,
+                is_accepted: true,
+                ..PropertyRow::plain(6, "LINEALITY_SPACE", ValueKind::Mat, Tables::All)
+            },
+            PropId::Facets => PropertyRow {
+                speaks_of_facets: true,
+                describes: Describes::HalfSpaces,
+                columns: Columns::Rows,
+                test: RowTest::NotZero,
+                is_accepted: true,
+                ..PropertyRow::plain(7, "FACETS", ValueKind::Mat, Tables::PolytopesAndCones)
+            },
+            PropId::AffineHull => PropertyRow {
+                cone_name: "LINEAR_SPAN",
+                describes: Describes::HalfSpaces,
+                columns: Columns::Rows,
+                is_accepted: true,
+                ..PropertyRow::plain(8, "AFFINE_HULL", ValueKind::Mat, Tables::PolytopesAndCones)
+            },
+            PropId::VerticesInFacets => PropertyRow {
+                cone_name: "RAYS_IN_FACETS",
+                speaks_of_rays: true,
+                speaks_of_facets: true,
+                is_accepted: true,
+                ..PropertyRow::plain(
+                    9,
+                    "VERTICES_IN_FACETS",
+                    ValueKind::Sets,
+                    Tables::PolytopesAndCones,
+                )
+            },
+            PropId::ConeDim => PropertyRow {
+                is_accepted: true,
+                ..PropertyRow::plain(10, "CONE_DIM", ValueKind::Int, Tables::PolytopesAndCones)
+            },
+            PropId::LinealityDim => PropertyRow {
+                is_accepted: true,
+                ..PropertyRow::plain(11, "LINEALITY_DIM", ValueKind::Int, Tables::All)
+            },
+            PropId::CombinatorialDim => PropertyRow {
+                is_accepted: true,
+                ..PropertyRow::plain(
+                    12,
+                    "COMBINATORIAL_DIM",
+                    ValueKind::Int,
+                    Tables::PolytopesAndCones,
+                )
+            },
+            PropId::NVertices => PropertyRow {
+                cone_name: "N_RAYS",
+                fan_name: "N_RAYS",
+                ..PropertyRow::plain(13, "N_VERTICES", ValueKind::Int, Tables::All)
+            },
+            PropId::NFacets => PropertyRow::plain(
+                14,
+                "N_FACETS",
+                ValueKind::Int,
+                Tables::PolytopesAndCones,
+            ),
+            PropId::Feasible => PropertyRow {
+                is_accepted: true,
+                ..PropertyRow::plain(15, "FEASIBLE", ValueKind::Bool, Tables::Polytopes)
+            },
+            PropId::Bounded => PropertyRow::plain(
+                16,
+                "BOUNDED",
+                ValueKind::Bool,
+                Tables::Polytopes,
+            ),
+            PropId::Pointed => PropertyRow {
+                is_accepted: true,
+                ..PropertyRow::plain(17, "POINTED", ValueKind::Bool, Tables::All)
+            },
+            PropId::FullDim => PropertyRow {
+                is_accepted: true,
+                ..PropertyRow::plain(18, "FULL_DIM", ValueKind::Bool, Tables::PolytopesAndCones)
+            },
+            PropId::Centered => PropertyRow::plain(
+                19,
+                "CENTERED",
+                ValueKind::Bool,
+                Tables::Polytopes,
+            ),
+            PropId::Simple => PropertyRow::plain(
+                20,
+                "SIMPLE",
+                ValueKind::Bool,
+                Tables::PolytopesAndCones,
+            ),
+            PropId::Simplicial => PropertyRow::plain(
+                21,
+                "SIMPLICIAL",
+                ValueKind::Bool,
+                Tables::All,
+            ),
+            PropId::VertexSizes => PropertyRow {
+                cone_name: "RAY_SIZES",
+                speaks_of_rays: true,
+                ..PropertyRow::plain(
+                    22,
+                    "VERTEX_SIZES",
+                    ValueKind::Counts,
+                    Tables::PolytopesAndCones,
+                )
+            },
+            PropId::FacetSizes => PropertyRow {
+                speaks_of_facets: true,
+                ..PropertyRow::plain(
+                    23,
+                    "FACET_SIZES",
+                    ValueKind::Counts,
+                    Tables::PolytopesAndCones,
+                )
+            },
+            PropId::HasseDiagram => PropertyRow {
+                speaks_of_rays: true,
+                ..PropertyRow::plain(
+                    24,
+                    "HASSE_DIAGRAM",
+                    ValueKind::Lattice,
+                    Tables::PolytopesAndCones,
+                )
+            },
+            PropId::FVector => PropertyRow::plain(
+                25,
+                "F_VECTOR",
+                ValueKind::Counts,
+                Tables::PolytopesAndCones,
+            ),
+            PropId::F2Vector => PropertyRow::plain(
+                26,
+                "F2_VECTOR",
+                ValueKind::Mat,
+                Tables::PolytopesAndCones,
+            ),
+            PropId::HVector => PropertyRow::plain(
+                27,
+                "H_VECTOR",
+                ValueKind::Counts,
+                Tables::Polytopes,
+            ),
+            PropId::Graph => PropertyRow {
+                speaks_of_rays: true,
+                ..PropertyRow::plain(28, "GRAPH", ValueKind::Edges, Tables::PolytopesAndCones)
+            },
+            PropId::DualGraph => PropertyRow {
+                speaks_of_facets: true,
+                ..PropertyRow::plain(
+                    29,
+                    "DUAL_GRAPH",
+                    ValueKind::Edges,
+                    Tables::PolytopesAndCones,
+                )
+            },
+            PropId::Diameter => PropertyRow::plain(
+                30,
+                "DIAMETER",
+                ValueKind::Int,
+                Tables::PolytopesAndCones,
+            ),
+            PropId::DualDiameter => PropertyRow::plain(
+                31,
+                "DUAL_DIAMETER",
+                ValueKind::Int,
+                Tables::PolytopesAndCones,
+            ),
+            PropId::NEdges => PropertyRow::plain(
+                32,
+                "N_EDGES",
+                ValueKind::Int,
+                Tables::PolytopesAndCones,
+            ),
+            PropId::NRidges => PropertyRow::plain(
+                33,
+                "N_RIDGES",
+                ValueKind::Int,
+                Tables::PolytopesAndCones,
+            ),
+            PropId::VertexDegrees => PropertyRow {
+                cone_name: "RAY_DEGREES",
+                speaks_of_rays: true,
+                ..PropertyRow::plain(
+                    34,
+                    "VERTEX_DEGREES",
+                    ValueKind::Counts,
+                    Tables::PolytopesAndCones,
+                )
+            },
+            PropId::FarFace => PropertyRow {
+                speaks_of_rays: true,
+                ..PropertyRow::plain(35, "FAR_FACE", ValueKind::Counts, Tables::Polytopes)
+            },
+            PropId::MaximalCones => PropertyRow {
+                speaks_of_rays: true,
+                speaks_of_facets: true,
+                ..PropertyRow::plain(36, "MAXIMAL_CONES", ValueKind::Sets, Tables::Fans)
+            },
+            PropId::NMaximalCones => PropertyRow::plain(
+                37,
+                "N_MAXIMAL_CONES",
+                ValueKind::Int,
+                Tables::Fans,
+            ),
+            PropId::MaximalConesDims => PropertyRow {
+                speaks_of_facets: true,
+                ..PropertyRow::plain(38, "MAXIMAL_CONES_DIMS", ValueKind::Counts, Tables::Fans)
+            },
+            PropId::FanDim => PropertyRow::plain(39, "FAN_DIM", ValueKind::Int, Tables::Fans),
+            PropId::Pure => PropertyRow::plain(40, "PURE", ValueKind::Bool, Tables::Fans),
+            PropId::LinearObjective => PropertyRow {
+                columns: Columns::Rows,
+                ..PropertyRow::plain(41, "LP.LINEAR_OBJECTIVE", ValueKind::Mat, Tables::Programs)
+            },
+            PropId::MaximalValue => PropertyRow::plain(
+                42,
+                "LP.MAXIMAL_VALUE",
+                ValueKind::Number,
+                Tables::Programs,
+            ),
+            PropId::MinimalValue => PropertyRow::plain(
+                43,
+                "LP.MINIMAL_VALUE",
+                ValueKind::Number,
+                Tables::Programs,
+            ),
+            PropId::MaximalFace => PropertyRow {
+                speaks_of_rays: true,
+                ..PropertyRow::plain(44, "LP.MAXIMAL_FACE", ValueKind::Counts, Tables::Programs)
+            },
+            PropId::MinimalFace => PropertyRow {
+                speaks_of_rays: true,
+                ..PropertyRow::plain(45, "LP.MINIMAL_FACE", ValueKind::Counts, Tables::Programs)
+            },
+            PropId::MaximalDual => PropertyRow {
+                columns: Columns::Rows,
+                ..PropertyRow::plain(46, "LP.MAXIMAL_DUAL", ValueKind::Mat, Tables::Programs)
+            },
+            PropId::MinimalDual => PropertyRow {
+                columns: Columns::Rows,
+                ..PropertyRow::plain(47, "LP.MINIMAL_DUAL", ValueKind::Mat, Tables::Programs)
+            },
+        }
+    }
+
+    /// Every property, in the order of the numbers.
+    pub fn every() -> [PropId; 48]
+        ensures { result ≡ every_property }
+    {
+        [
+            PropId::ConeAmbientDim,
+            PropId::Points,
+            PropId::InputLineality,
+            PropId::Inequalities,
+            PropId::Equations,
+            PropId::Vertices,
+            PropId::LinealitySpace,
+            PropId::Facets,
+            PropId::AffineHull,
+            PropId::VerticesInFacets,
+            PropId::ConeDim,
+            PropId::LinealityDim,
+            PropId::CombinatorialDim,
+            PropId::NVertices,
+            PropId::NFacets,
+            PropId::Feasible,
+            PropId::Bounded,
+            PropId::Pointed,
+            PropId::FullDim,
+            PropId::Centered,
+            PropId::Simple,
+            PropId::Simplicial,
+            PropId::VertexSizes,
+            PropId::FacetSizes,
+            PropId::HasseDiagram,
+            PropId::FVector,
+            PropId::F2Vector,
+            PropId::HVector,
+            PropId::Graph,
+            PropId::DualGraph,
+            PropId::Diameter,
+            PropId::DualDiameter,
+            PropId::NEdges,
+            PropId::NRidges,
+            PropId::VertexDegrees,
+            PropId::FarFace,
+            PropId::MaximalCones,
+            PropId::NMaximalCones,
+            PropId::MaximalConesDims,
+            PropId::FanDim,
+            PropId::Pure,
+            PropId::LinearObjective,
+            PropId::MaximalValue,
+            PropId::MinimalValue,
+            PropId::MaximalFace,
+            PropId::MinimalFace,
+            PropId::MaximalDual,
+            PropId::MinimalDual,
+        ]
+    }
+
+    /// The property of a number; none from 48 on.
+    pub fn at(number: u8) -> Option<PropId>
+        ensures { result ≡ property_at number }
+    {
+        at_place(&PropId::every(), number as usize)
+    }
+
+    /// The property's number, from 0 to 47.
+    pub fn number(self) -> u8
+        ensures number { result ≡ number self }
+        ensures below { result < 48 }
+    {
+        self.row().number
+    }
+
+    /// Whether the table of linear programs has the property.
+    pub fn is_of_programs(self) -> bool
+        ensures { result ≡ has_program self }
+    {
+        self.row().tables == Tables::Programs
+    }
+
+    /// Whether the table of a type has the property.
+    pub fn is_in(self, of: ObjectType) -> bool
+        ensures { result ≡ has of self }
+    {
+        match (self.row().tables, of) {
+            (Tables::All, _) => true,
+            (Tables::PolytopesAndCones, of) => of != ObjectType::Fan,
+            (Tables::Polytopes, of) => of == ObjectType::Polytope,
+            (Tables::Fans, of) => of == ObjectType::Fan,
+            (Tables::Programs, _) => false,
+        }
+    }
+
+    /// Whether the property is in use for an object of the type, of which this program is asked if one is: then the
+    /// table of programs counts too.
+    pub fn is_in_use(self, sub: Option<u8>, of: ObjectType) -> bool
+        ensures { result ≡ is_in_use sub of self }
+    {
+        self.is_in(of) || (sub.is_some() && self.is_of_programs())
+    }
+
+    /// Where a value of the property stands, for who asks this program if any: at the program where the table of
+    /// programs has the property, else in the object itself.
+    pub fn place(self, sub: Option<u8>) -> Option<u8>
+        ensures { result ≡ place_of sub self }
+    {
+        if self.is_of_programs() { sub } else { None }
+    }
+
+    /// Whether the property is half of the pair POINTS with INPUT_LINEALITY.
+    pub fn is_of_generators(self) -> bool
+        ensures { result ≡ generators_tag self }
+    {
+        let row = self.row();
+        row.is_half && row.describes == Describes::Generators
+    }
+
+    /// Whether the property is half of the pair INEQUALITIES with EQUATIONS.
+    pub fn is_of_half_spaces(self) -> bool
+        ensures { result ≡ half_spaces_tag self }
+    {
+        let row = self.row();
+        row.is_half && row.describes == Describes::HalfSpaces
+    }
+}
+
+// The property at a place of a list.
+fn at_place(properties: &[PropId], place: usize) -> Option<PropId>
+    ensures { result ≡ slice_get properties.now place }
+{
+    properties.get(place).copied()
+}

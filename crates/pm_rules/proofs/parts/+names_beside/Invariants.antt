@@ -1,5 +1,0 @@
-use Rattle.std.proofs.Common.{length}
-use Rattle.pm_rules.proofs.parts.+names_beside.Given as goal
-
-abbrev pub decreases-names_beside : goal.decreases-names_beside
-decreases-names_beside l = length l.tokens.now

@@ -1,5 +1,0 @@
-use Rattle.std.proofs.Common.{◌-◌, length}
-use Rattle.pm_rules.proofs.read.+more_rules.Given as goal
-
-abbrev pub decreases-more_rules : goal.decreases-more_rules
-decreases-more_rules l = 257 - length l.rules.items

@@ -1,5 +1,0 @@
-use Rattle.pm_types.proofs.Dimensions.{combinatorial_dim_is_found}
-use Rattle.pm_types.proofs.law_combinatorial_dim_is_found.Goals as goal
-
-pub returns : goal.returns
-returns c = combinatorial_dim_is_found

@@ -1,5 +1,0 @@
-use Rattle.pm_types.proofs.Spans.{hull_is_found}
-use Rattle.pm_types.proofs.law_hull_is_found.Goals as goal
-
-pub returns : goal.returns
-returns c = hull_is_found

@@ -1,5 +1,0 @@
-use Rattle.pm_types.proofs.Dimensions.{pointed_is_found}
-use Rattle.pm_types.proofs.law_pointed_is_found.Goals as goal
-
-pub returns : goal.returns
-returns c = pointed_is_found

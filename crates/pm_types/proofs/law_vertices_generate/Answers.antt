@@ -1,5 +1,0 @@
-use Rattle.pm_types.proofs.Twins.{vertices_generate}
-use Rattle.pm_types.proofs.law_vertices_generate.Goals as goal
-
-pub returns : goal.returns
-returns c = vertices_generate

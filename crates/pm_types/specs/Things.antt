@@ -1,0 +1,45 @@
+-- What an object describes: a cone, a polytope or a fan, and orders of its rays and facets (Ziegler, Lectures on Polytopes, lectures 1, 2 and 7).
+use Rattle.std.specs.Prelude.{ℕ, ◌≡◌, ◌<◌, ◌≤◌, List, [], length}
+use Rattle.pm_algebra.specs.Numbers.{Ratio}
+use Rattle.pm_algebra.specs.Rows.{Row, ratio_at}
+use Rattle.pm_geom.specs.Things.{IsConeThing, IsPolytopeThing, IsFanThing, Orders, AreConeOrders, AreFanOrders}
+use Rattle.pm_props.specs.declared.object_type.ObjectType.{ObjectType}
+use Rattle.pm_props.specs.declared.object_type.ObjectType.TheVariants.{Polytope, Cone, Fan}
+use lib.IntN.{pos}
+use lib.Signed.{◌<ℤ◌}
+
+-- a type, n columns, and finite lists of rows: generators and lines of a cone or polytope, lines and one list of generators for each cone of a fan; and for each program at a place its objective, a row of fractions
+pub record Thing : Type 0 where
+  pub of : ObjectType
+  pub cols : ℕ
+  pub generators : List Row
+  pub lines : List Row
+  pub cones : List (List Row)
+  pub objective : ℕ → List Ratio
+
+-- each objective is a row of n fractions
+pub record AreObjectives (n : ℕ) (objective : ℕ → List Ratio) : Type 0 where
+  pub cols : (s : ℕ) → length (objective s) ≡ n
+  pub denominators : (s i : ℕ) → i < n → pos 0 <ℤ (ratio_at (objective s) i).den
+
+-- the lists describe a thing of that type
+abbrev pub IsOfType : ObjectType → ℕ → List Row → List Row → List (List Row) → Type 0
+IsOfType Polytope n G L Gs = IsPolytopeThing n G L × (Gs ≡ [])
+IsOfType Cone n G L Gs = IsConeThing n G L × (Gs ≡ [])
+IsOfType Fan n G L Gs = IsFanThing n Gs L × (G ≡ [])
+
+-- the lists describe a thing of its type, which has from 1 to 33 columns
+pub record IsThing (t : Thing) : Type 0 where
+  pub some_cols : 1 ≤ t.cols
+  pub few_cols : t.cols ≤ 33
+  pub kind : IsOfType t.of t.cols t.generators t.lines t.cones
+  pub programs : AreObjectives t.cols t.objective
+
+abbrev pub AreOrdersOf : ObjectType → ℕ → List Row → List Row → List (List Row) → Orders → Type 0
+AreOrdersOf Polytope n G L Gs o = AreConeOrders n G L o
+AreOrdersOf Cone n G L Gs o = AreConeOrders n G L o
+AreOrdersOf Fan n G L Gs o = AreFanOrders n Gs L o
+
+-- they are orders of the thing's extreme rays, of its facet rows, and for a fan of its cones
+abbrev pub AreOrders : Thing → Orders → Type 0
+AreOrders t o = AreOrdersOf t.of t.cols t.generators t.lines t.cones o
