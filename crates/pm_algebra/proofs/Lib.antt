@@ -6,3 +6,4 @@ pub mod ConeLaws
 pub mod Primitive
 pub mod Filters
 pub mod Divisors
+pub mod Examples

@@ -37,6 +37,11 @@ pub Any_among : {X : Type 0} (P : X → Type 0) {x : X} {xs : List X} → Among 
 Any_among P {x} (here {xs}) h = (0, x, omega arith, refl, h)
 Any_among P {x} (there {y = y} {xs} i) h = let a = Any_among P i h in (suc a.0, a.1, (let l = a.2 in omega arith), a.3, a.4)
 
+pub among_Any : {X : Type 0} (P : X → Type 0) (xs : List X) → Any P xs → (x : X) × Among x xs × P x
+among_Any P [] a = absurd (let l = a.2 in omega arith)
+among_Any P (x ∷ xs) (zero, d, l, e, p) = (x, here, subst P (sym e) p)
+among_Any P (x ∷ xs) (suc k, d, l, e, p) = let w = among_Any P xs (k, d, omega arith, e, p) in (w.0, there w.1, w.2)
+
 pub AllPairs_cons : {X : Type 0} (R : X → X → Type 0) (x : X) (xs : List X) → ((y : X) → Among y xs → R x y) → AllPairs R xs → AllPairs R (x ∷ xs)
 AllPairs_cons R x xs f h zero zero d l m = absurd (omega arith)
 AllPairs_cons R x xs f h zero (suc j) d l m = All_among (R x) xs f j d (omega arith)

@@ -8,7 +8,7 @@
 --     HasCols n X      each row of X has n entries
 --     SameDirection v w      p v = q w for some p, q > 0
 --     ratio_at r i      the i-th fraction of a row, and 0/1 past the end
---     Stands r x      the whole row x is a positive multiple of the row r of fractions, whose denominators are positive
+--     Stands r x      p x is q r, entry by entry, for some p, q > 0; the denominators of the row r of fractions are positive
 use Rattle.std.specs.Prelude.{ℕ, ◌≡◌, ◌<◌, List, [], ◌∷◌, length}
 use Rattle.std.specs.List.{AllByRecursion, slice_index_or}
 use Rattle.pm_algebra.specs.Numbers.{Ratio}
@@ -61,8 +61,10 @@ abbrev pub ratio_at : List Ratio → ℕ → Ratio
 ratio_at r i = slice_index_or r i (record { num = pos 0; den = pos 1 })
 
 pub record Stands (r : List Ratio) (x : Row) : Type 0 where
-  pub m : ℤ
-  pub positive : pos 0 <ℤ m
+  pub p : ℤ
+  pub q : ℤ
+  pub p_positive : pos 0 <ℤ p
+  pub q_positive : pos 0 <ℤ q
   pub cols : length x ≡ length r
   pub denominators : (i : ℕ) → i < length r → pos 0 <ℤ (ratio_at r i).den
-  pub same : (i : ℕ) → i < length r → entry x i *ℤ (ratio_at r i).den ≡ m *ℤ (ratio_at r i).num
+  pub same : (i : ℕ) → i < length r → p *ℤ (entry x i *ℤ (ratio_at r i).den) ≡ q *ℤ (ratio_at r i).num

@@ -1,11 +1,11 @@
 -- From words to the bits of numbers and back, by one place for each: the number k * 64 + b has bit b of word k.
-use Rattle.std.proofs.Common.{◌≡◌, ℕ, ◌+◌, ◌*◌, ◌/◌, ◌%◌, ◌^◌, ◌<◌, ◌≤◌, ◌==◌, ◌&&◌, true, false, List, length, get_or, bit_and, min, arith, ap, sym, ◌∙◌, refl, inl, inr}
+use Rattle.std.proofs.Common.{◌≡◌, ℕ, ◌+◌, ◌*◌, ◌/◌, ◌%◌, ◌^◌, ◌<◌, ◌≤◌, ◌==◌, ◌&&◌, ◌||◌, true, false, List, length, get_or, bit_and, bit_or, max, min, arith, ap, sym, ◌∙◌, refl, inl, inr}
 use Rattle.std.specs.Int.{bit_at}
 use Rattle.std.proofs.lemmas.Nat.{div-mul-add, mod-mul-add, and_le_r}
-use Rattle.std.proofs.lemmas.Nat.Bits.{bit_at_and, bit_at-lt, same_from_bits_below, bit_at-zero}
+use Rattle.std.proofs.lemmas.Nat.Bits.{bit_at_and, bit_at_or, bit_at-lt, same_from_bits_below, bit_at-zero}
 use Rattle.std.proofs.lemmas.List.{ext_get_or, get_or_past}
 use Rattle.std.proofs.lemmas.Bool.{cases_lt, eqb-true, eqb-false, eq-eqb, ne_eqb, cases_Bool}
-use Rattle.pm_bits.specs.Words.{has_bit, EachWord, IsWithin, AreMet}
+use Rattle.pm_bits.specs.Words.{has_bit, EachWord, IsWithin, AreMade}
 
 -- ---- one word
 
@@ -55,7 +55,7 @@ words_within a b small h start n k low high =
     within_from_bits (get_or a k 0) (get_or b k 0) (small k)
     (λ j below is. eqb-true _ 1 (sym (has_bit_at a k j below) ∙ h (k * 64 + j) (has_bit_at b k j below ∙ eq-eqb _ 1 is)))
 
--- ---- the bits of two sets at once
+-- ---- the bits of two sets together
 
 and_test : (m n : ℕ) → m < 2 → n < 2 → (p : ℕ) → p ≡ min m n → (p == 1) ≡ ((m == 1) && (n == 1))
 and_test m n small_m small_n p e = elim (cases_lt m 1) [
@@ -63,9 +63,22 @@ and_test m n small_m small_n p e = elim (cases_lt m 1) [
   | inr some ↦ (let m_is : m ≡ 1 = omega arith in let p_is : p ≡ n = omega arith in rw (m_is, p_is) refl)
 ]
 
-pub bits_met : (a b both : List ℕ) → length a ≡ length b → length a ≡ length both → AreMet 0 (length a) a b both → (i : ℕ) → has_bit both i ≡ (has_bit a i && has_bit b i)
+or_test : (m n : ℕ) → m < 2 → n < 2 → (p : ℕ) → p ≡ max m n → (p == 1) ≡ ((m == 1) || (n == 1))
+or_test m n small_m small_n p e = elim (cases_lt m 1) [
+  | inl none ↦ (let m_is : m ≡ 0 = omega arith in let p_is : p ≡ n = omega arith in rw (m_is, p_is) refl)
+  | inr some ↦ (let m_is : m ≡ 1 = omega arith in let p_is : p ≡ 1 = omega arith in rw (m_is, p_is) refl)
+]
+
+pub bits_met : (a b both : List ℕ) → length a ≡ length b → length a ≡ length both → AreMade bit_and 0 (length a) a b both → (i : ℕ) → has_bit both i ≡ (has_bit a i && has_bit b i)
 bits_met a b both long long' h i = elim (cases_lt (i / 64) (length a)) [
   | inl inside ↦ and_test (bit_at (get_or a (i / 64) 0) (i % 64)) (bit_at (get_or b (i / 64) 0) (i % 64)) (bit_at-lt (get_or a (i / 64) 0) (i % 64)) (bit_at-lt (get_or b (i / 64) 0) (i % 64)) _
       (ap (λ (n : ℕ). bit_at n (i % 64)) (h (i / 64) (omega arith) inside) ∙ bit_at_and (get_or a (i / 64) 0) (get_or b (i / 64) 0) (i % 64))
   | inr past ↦ rw (has_bit_past both i (omega arith), has_bit_past a i past) refl
+]
+
+pub bits_joined : (a b either : List ℕ) → length a ≡ length b → length a ≡ length either → AreMade bit_or 0 (length a) a b either → (i : ℕ) → has_bit either i ≡ (has_bit a i || has_bit b i)
+bits_joined a b either long long' h i = elim (cases_lt (i / 64) (length a)) [
+  | inl inside ↦ or_test (bit_at (get_or a (i / 64) 0) (i % 64)) (bit_at (get_or b (i / 64) 0) (i % 64)) (bit_at-lt (get_or a (i / 64) 0) (i % 64)) (bit_at-lt (get_or b (i / 64) 0) (i % 64)) _
+      (ap (λ (n : ℕ). bit_at n (i % 64)) (h (i / 64) (omega arith) inside) ∙ bit_at_or (get_or a (i / 64) 0) (get_or b (i / 64) 0) (i % 64))
+  | inr past ↦ rw (has_bit_past either i (omega arith), has_bit_past a i past, has_bit_past b i (omega arith)) refl
 ]

@@ -10,7 +10,7 @@ use Rattle.std.specs.declared.cmp.Ordering.{Ordering}
 use Rattle.std.specs.declared.cmp.Ordering.TheVariants.{Less, Equal, Greater}
 use Rattle.std.specs.Ordering.{MatchOrdering}
 use Rattle.pm_bits.specs.Words.{has_bit, bits_below, Holds, HasFirstBit}
-use Rattle.pm_bits.specs.Sets.{has, IsEmpty, IsIntersection, HasFirstDifference}
+use Rattle.pm_bits.specs.Sets.{has, IsEmpty, HasFirstDifference}
 use Rattle.pm_bits.proofs.Bits.{has_bit_past}
 
 pub length-bits_below : (words : List ℕ) (n : ℕ) → length (bits_below words n) ≡ n
@@ -105,12 +105,12 @@ pub has-written : (written items : List ℕ) (n : ℕ) → Holds items n → ite
 has-written written items n h as_written i =
     has-bits_below items n h i ∙ ap (λ (ws : List ℕ). has_bit ws i) as_written
 
--- the words of two rows at once
-pub IsIntersection-written : (one other : List Bool) (a b written items : List ℕ) (n : ℕ) → IsRowOf one a → IsRowOf other b → ((i : ℕ) → has_bit written i ≡ (has_bit a i && has_bit b i)) → Holds items n → items ≡ written
-    → IsIntersection (bits_below items n) one other
-IsIntersection-written one other a b written items n r s met h as_written i =
-    has-written written items n h as_written i ∙ met i ∙ sym (ap₂ (λ (x y : Bool). x && y) (r.bits i) (s.bits i))
+-- the words of two rows together: op is `and` or `or`
+pub members-written : (op : Bool → Bool → Bool) (one other : List Bool) (a b written items : List ℕ) (n : ℕ) → IsRowOf one a → IsRowOf other b → ((i : ℕ) → has_bit written i ≡ op (has_bit a i) (has_bit b i)) → Holds items n → items ≡ written
+    → (i : ℕ) → has (bits_below items n) i ≡ op (has one i) (has other i)
+members-written op one other a b written items n r s made h as_written i = has-written written items n h as_written i ∙ made i ∙ sym (ap₂ op (r.bits i) (s.bits i))
 
-pub clear-met : (one : List Bool) (a b written : List ℕ) (n : ℕ) → IsRowOf one a → n ≡ length one → ((i : ℕ) → has_bit written i ≡ (has_bit a i && has_bit b i)) → (i : ℕ) → n ≤ i → has_bit written i ≡ false
-clear-met one a b written n r long met i above =
-    met i ∙ ap (λ (x : Bool). x && has_bit b i) (sym (r.bits i) ∙ get_or_past one i false (omega arith))
+pub clear-written : (op : Bool → Bool → Bool) → op false false ≡ false → (one other : List Bool) (a b written : List ℕ) (n : ℕ) → IsRowOf one a → IsRowOf other b → n ≡ length one → n ≡ length other
+    → ((i : ℕ) → has_bit written i ≡ op (has_bit a i) (has_bit b i)) → (i : ℕ) → n ≤ i → has_bit written i ≡ false
+clear-written op none one other a b written n r s long long' made i above =
+    made i ∙ ap₂ op (sym (r.bits i) ∙ get_or_past one i false (omega arith)) (sym (s.bits i) ∙ get_or_past other i false (omega arith)) ∙ none

@@ -1,6 +1,6 @@
 -- What a row of bits says of a set of numbers. A row is seen as the list of its bits: the bit at i tells
 -- whether the number i is a member, and the list's length is the row's.
-use Rattle.std.specs.Prelude.{◌≡◌, ℕ, ◌<◌, ◌&&◌, Bool, false, IsTrue, List, length, slice_index_or, count_by}
+use Rattle.std.specs.Prelude.{◌≡◌, ℕ, ◌<◌, ◌&&◌, ◌||◌, Bool, false, IsTrue, List, length, slice_index_or, count_by}
 use Rattle.std.specs.List.{filter, range_with_len}
 use Rattle.std.specs.declared.cmp.Ordering.{Ordering}
 use Rattle.std.specs.Ordering.{nat_cmp, bool_cmp, flip_args, on, then_cmp}
@@ -21,6 +21,10 @@ IsSubset part whole = (i : ℕ) → IsTrue (has part i) → IsTrue (has whole i)
 -- the members of `both` are the numbers that are members of the two others
 abbrev pub IsIntersection : List Bool → List Bool → List Bool → Type 0
 IsIntersection both one other = (i : ℕ) → has both i ≡ (has one i && has other i)
+
+-- the members of `either` are the numbers that are members of one of the two others, or of both
+abbrev pub IsUnion : List Bool → List Bool → List Bool → Type 0
+IsUnion either one other = (i : ℕ) → has either i ≡ (has one i || has other i)
 
 -- the same numbers are members
 abbrev pub SameMembers : List Bool → List Bool → Type 0

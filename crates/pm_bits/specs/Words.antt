@@ -43,9 +43,9 @@ HasLowestBit x y = (i : ℕ) × (i < 64) × (bit_at x i ≡ 1) × (bit_at y i �
 abbrev pub HasFirstBit : List ℕ → List ℕ → Type 0
 HasFirstBit a b = (i : ℕ) × IsTrue (has_bit a i) × (has_bit b i ≡ false) × ((k : ℕ) → k < i → has_bit a k ≡ has_bit b k)
 
--- the words of `both` are those of a and b at once, from one place on and below another
-abbrev pub AreMet : ℕ → ℕ → List ℕ → List ℕ → List ℕ → Type 0
-AreMet from end a b both = (k : ℕ) → from ≤ k → k < end → slice_index both k ≡ bit_and (slice_index a k) (slice_index b k)
+-- the words of `out` are made by op of those of a and b, from one place on and below another
+abbrev pub AreMade : (ℕ → ℕ → ℕ) → ℕ → ℕ → List ℕ → List ℕ → List ℕ → Type 0
+AreMade op from end a b out = (k : ℕ) → from ≤ k → k < end → slice_index out k ≡ op (slice_index a k) (slice_index b k)
 
 -- the words stay as they were, from one place on and below another
 abbrev pub StayAsTheyWere : ℕ → ℕ → List ℕ → List ℕ → Type 0

@@ -1,6 +1,6 @@
 // A set of numbers below a length.
 ghost use Rattle.std.specs.Prelude.{◌≡◌, ◌≢◌, ℕ, ◌^◌, ◌<◌, ◌↔◌, IsTrue, IfOk, true, length};
-ghost use Rattle.pm_bits.specs.Sets.{has, IsEmpty, IsSubset, IsIntersection, SameMembers, member_count, members, HasFirstDifference};
+ghost use Rattle.pm_bits.specs.Sets.{has, IsEmpty, IsSubset, IsIntersection, IsUnion, SameMembers, member_count, members, HasFirstDifference};
 
 use crate::words;
 use std::alloc::{AllocError, Global};
@@ -77,6 +77,16 @@ impl BitRow {
         ensures members { IsIntersection out.new self.now o.now }
     {
         words::meet(&self.words, &o.words, &mut out.words);
+    }
+
+    /// Makes `out` the union of this row and `o`: four words at a time in lanes, and the words that are left one by one.
+    pub fn join_into(&self, o: &BitRow, out: &mut BitRow)
+        requires same_len { length self.now ≡ length o.now }
+        requires out_len { length self.now ≡ length out.old }
+        ensures len { length out.new ≡ length out.old }
+        ensures members { IsUnion out.new self.now o.now }
+    {
+        words::join(&self.words, &o.words, &mut out.words);
     }
 
     /// The members, ascending, found word by word.

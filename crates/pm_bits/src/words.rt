@@ -1,9 +1,9 @@
 // The kernels: loops over the words that hold a row's bits. Whole chunks of four words go by vectors of four
 // lanes, and the words that are left go one by one.
-ghost use Rattle.std.specs.Prelude.{◌≡◌, ℕ, ◌+◌, ◌*◌, ◌/◌, ◌<◌, ◌≤◌, ◌↔◌, ◌&&◌, IsTrue, IfOk, replicate, length, bit_and, true, ◌≢◌, ◌^◌};
+ghost use Rattle.std.specs.Prelude.{◌≡◌, ℕ, ◌+◌, ◌*◌, ◌/◌, ◌<◌, ◌≤◌, ◌↔◌, ◌&&◌, ◌||◌, IsTrue, IfOk, replicate, length, bit_and, bit_or, true, ◌≢◌, ◌^◌};
 ghost use Rattle.std.specs.Ordering.{MatchOrdering};
 ghost use Rattle.std.specs.Simd.Lanes.{chunk, zip2, put_chunk};
-ghost use Rattle.pm_bits.specs.Words.{has_bit, bit_count, set_bits, EachWord, IsWithin, AreMet, StayAsTheyWere, HasFirstBit, HasLowestBit};
+ghost use Rattle.pm_bits.specs.Words.{has_bit, bit_count, set_bits, EachWord, IsWithin, AreMade, StayAsTheyWere, HasFirstBit, HasLowestBit};
 
 use std::alloc::{AllocError, Global};
 use std::cmp::Ordering;
@@ -130,7 +130,7 @@ fn meet_chunk(a: &[u64], b: &[u64], out: &mut [u64], start: usize)
     requires in_a { start + LANES ≤ length a.now }
     requires in_b { start + LANES ≤ length b.now }
     requires in_out { start + LANES ≤ length out.old }
-    ensures met { AreMet start (start + LANES) a.now b.now out.new }
+    ensures met { AreMade bit_and start (start + LANES) a.now b.now out.new }
     ensures below { StayAsTheyWere 0 start out.old out.new }
 {
     let both = lanes_at(a, start) & lanes_at(b, start);
@@ -141,7 +141,7 @@ fn meet_chunk(a: &[u64], b: &[u64], out: &mut [u64], start: usize)
 fn meet_chunks(a: &[u64], b: &[u64], out: &mut [u64])
     requires same_len { length a.now ≡ length b.now }
     requires out_len { length a.now ≡ length out.old }
-    ensures { AreMet 0 (length a.now / LANES * LANES) a.now b.now out.new }
+    ensures { AreMade bit_and 0 (length a.now / LANES * LANES) a.now b.now out.new }
 {
     for chunk in 0..a.len() / LANES {
         meet_chunk(a, b, out, chunk * LANES);
@@ -152,7 +152,7 @@ fn meet_chunks(a: &[u64], b: &[u64], out: &mut [u64])
 fn meet_rest(a: &[u64], b: &[u64], out: &mut [u64], start: usize)
     requires same_len { length a.now ≡ length b.now }
     requires out_len { length a.now ≡ length out.old }
-    ensures met { AreMet start (length a.now) a.now b.now out.new }
+    ensures met { AreMade bit_and start (length a.now) a.now b.now out.new }
     ensures below { StayAsTheyWere 0 start out.old out.new }
 {
     for i in start..a.len() {
@@ -168,6 +168,51 @@ pub(crate) fn meet(a: &[u64], b: &[u64], out: &mut [u64])
 {
     meet_chunks(a, b, out);
     meet_rest(a, b, out, a.len() / LANES * LANES);
+}
+
+// Writes the bits of a and of b into the four words of `out` from `start` on.
+fn join_chunk(a: &[u64], b: &[u64], out: &mut [u64], start: usize)
+    requires in_a { start + LANES ≤ length a.now }
+    requires in_b { start + LANES ≤ length b.now }
+    requires in_out { start + LANES ≤ length out.old }
+    ensures joined { AreMade bit_or start (start + LANES) a.now b.now out.new }
+    ensures below { StayAsTheyWere 0 start out.old out.new }
+{
+    let either = lanes_at(a, start) | lanes_at(b, start);
+    either.copy_to_slice(&mut out[start..start + LANES]);
+}
+
+// The same for the words of the whole chunks.
+fn join_chunks(a: &[u64], b: &[u64], out: &mut [u64])
+    requires same_len { length a.now ≡ length b.now }
+    requires out_len { length a.now ≡ length out.old }
+    ensures { AreMade bit_or 0 (length a.now / LANES * LANES) a.now b.now out.new }
+{
+    for chunk in 0..a.len() / LANES {
+        join_chunk(a, b, out, chunk * LANES);
+    }
+}
+
+// The same for the words from `start` on.
+fn join_rest(a: &[u64], b: &[u64], out: &mut [u64], start: usize)
+    requires same_len { length a.now ≡ length b.now }
+    requires out_len { length a.now ≡ length out.old }
+    ensures joined { AreMade bit_or start (length a.now) a.now b.now out.new }
+    ensures below { StayAsTheyWere 0 start out.old out.new }
+{
+    for i in start..a.len() {
+        out[i] = a[i] | b[i];
+    }
+}
+
+/// Writes the bits of a and of b into `out`: by lanes over the whole chunks, and by words over the rest.
+pub(crate) fn join(a: &[u64], b: &[u64], out: &mut [u64])
+    requires same_len { length a.now ≡ length b.now }
+    requires out_len { length a.now ≡ length out.old }
+    ensures { (i : ℕ) → has_bit out.new i ≡ (has_bit a.now i || has_bit b.now i) }
+{
+    join_chunks(a, b, out);
+    join_rest(a, b, out, a.len() / LANES * LANES);
 }
 
 /// The numbers whose bits are set, ascending. A word without a bit is passed over.

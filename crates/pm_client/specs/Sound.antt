@@ -18,7 +18,7 @@ use Rattle.std.specs.Prelude.{ℕ, ◌≡◌, ◌++◌, Bool, true, false, IsTru
 use Rattle.std.specs.List.{Contains}
 use Rattle.pm_algebra.specs.Divisors.{IsPrimitive}
 use Rattle.pm_algebra.specs.Numbers.{Ratio}
-use Rattle.pm_algebra.specs.Rows.{Row}
+use Rattle.pm_algebra.specs.Rows.{Row, Stands}
 use Rattle.pm_elim.specs.EliminationSteps.{EliminationStep}
 use Rattle.pm_elim.specs.Evidence.{IsEvidence, unit}
 use Rattle.pm_elim.specs.declared.evidence.ElimFail.{ElimFail}
@@ -28,7 +28,7 @@ use Rattle.pm_props.specs.declared.object_type.ObjectType.{ObjectType}
 use Rattle.pm_props.specs.declared.object_type.ObjectType.TheVariants.{Polytope}
 use Rattle.pm_geom.specs.declared.evidence.Evidence.{Evidence}
 use Rattle.pm_geom.specs.declared.evidence.Evidence.TheVariants.{E1, E4}
-use Rattle.pm_matrix.specs.FractionRows.{ArePrimitiveRowsOf, IsPositiveMultipleOf}
+use Rattle.pm_matrix.specs.FractionRows.{ArePrimitiveRowsOf}
 use Rattle.pm_object.specs.Reading.{DraftSeen, ViewSeen, answer_of, fact_of}
 use Rattle.pm_types.specs.Runs.{MayAnswer}
 use Rattle.pm_types.specs.Values.{Fact, matrix}
@@ -60,7 +60,7 @@ pub record IsRowOf (v : ViewSeen) (of_kind : PropId → Bool) (x : Row) : Type 0
   pub value : fact.value ≡ matrix n rows
   pub row : List Ratio
   pub listed : Contains rows row
-  pub multiple : IsPositiveMultipleOf row x
+  pub multiple : Stands row x
   pub primitive : IsPrimitive x
 
 abbrev pub Reads : ViewSeen → PropId → ℕ → List (List Ratio) → Type 0

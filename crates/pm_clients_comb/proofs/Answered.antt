@@ -2,28 +2,25 @@
 use Rattle.pm_algebra.proofs.Lists.{Contains_among}
 use Rattle.pm_algebra.specs.Divisors.{IsPrimitive}
 use Rattle.pm_algebra.specs.Numbers.{Ratio}
-use Rattle.pm_algebra.specs.Rows.{IsZero, Row}
+use Rattle.pm_algebra.specs.Rows.{IsZero, Row, Stands}
 use Rattle.pm_client.proofs.OneTarget.{IsRightAnswer, sound_put}
 use Rattle.pm_client.proofs.ReadValues.{all_length, found, primitive_length, read_right}
 use Rattle.pm_client.specs.Sound.{FailsRightly, IsRowOf, IsSound, is_generator, is_half_space}
 use Rattle.pm_client.specs.declared.ClientFail.TheVariants.{Failed, Memory}
 use Rattle.pm_client.specs.declared.ClientFail.{ClientFail}
-use Rattle.pm_geom.specs.declared.evidence.Evidence.TheVariants.{E1, E4}
-use Rattle.pm_matrix.specs.FractionRows.{ArePrimitiveRowsOf, IsPositiveMultipleOf, IsPrimitiveRowOf}
+use Rattle.pm_geom.specs.declared.evidence.Evidence.TheVariants.{E4}
+use Rattle.pm_matrix.specs.FractionRows.{ArePrimitiveRowsOf, IsPrimitiveRowOf}
 use Rattle.pm_matrix.specs.Matrices.{IsFraction}
 use Rattle.pm_clients_comb.proofs.Places.{incidence_form, incidence_is}
-use Rattle.pm_clients_comb.proofs.Multiples.{incidence_multiples}
 use Rattle.pm_clients_comb.proofs.Products.{stays_turned, zero_stays}
 use Rattle.pm_clients_comb.specs.Incidence.{IsWideFor, incidence}
 use Rattle.pm_object.specs.Reading.{DraftSeen, ViewSeen, fact_of}
 use Rattle.pm_props.proofs.Every.{has-set_of}
 use Rattle.pm_relations.proofs.Incidence.{incidence_is_right}
 use Rattle.pm_types.proofs.PrimitiveRows.{few_rows}
-use Rattle.pm_relations.proofs.PrimitiveStanding.{standing}
+use Rattle.pm_relations.proofs.PrimitiveStanding.{primitive_stand}
 use Rattle.pm_types.specs.Forms.{FormsIn, HasPrimitiveRow}
 use Rattle.pm_props.specs.Kinds.{incidence_kind}
-use Rattle.pm_types.specs.Right.{Right, objective_of}
-use Rattle.pm_props.specs.Places.{place_of}
 use Rattle.pm_props.specs.Sets.{has, members, only, set_of, union}
 use Rattle.pm_types.specs.Values.{IndexSets, matrix, sets}
 use Rattle.pm_props.specs.declared.kind.Kind.{Kind}
@@ -74,10 +71,7 @@ right_answer v m k facets vertices F V h = record {
   right = λ t o of cols right.
       let (s, rv) = read_right Vertices v.facts (matrix k vertices) t o h.vertices_read right in
       let (r, rf) = read_right Facets v.facts (matrix m facets) t o h.facets_read right in
-      let W = standing vertices V h.vertex_rows in
-      let G = standing facets F h.facet_rows in
-      subst (λ n. Right VerticesInFacets (sets (incidence F V) n) t o (objective_of t (place_of v.sub VerticesInFacets))) W.count
-      (incidence_is_right t o right.orders k m vertices facets W.ys G.ys (incidence F V) rv rf W.stand G.stand (incidence_multiples F G.ys V W.ys (incidence F V) G.multiples W.multiples (incidence_is F V)));
+      incidence_is_right t o right.orders k m vertices facets V F (incidence F V) rv rf (primitive_stand vertices V h.vertex_rows) (primitive_stand facets F h.facet_rows) (incidence_is F V);
   canonical = λ t. tt;
 }
 
@@ -106,7 +100,7 @@ row_of v of_kind p n rows xs x read kind h c some =
       value = w;
       row = get_or rows j [];
       listed = Contains-get_or rows j [] (omega arith);
-      multiple = subst (λ z. IsPositiveMultipleOf (get_or rows j []) z) is (h.multiple j (omega arith));
+      multiple = subst (λ z. Stands (get_or rows j []) z) is (h.multiple j (omega arith));
       primitive = primitive_unless (get_or rows j []) x (subst (λ z. IsPrimitiveRowOf (get_or rows j []) z) is (h.each j (omega arith))) some;
     }
 

@@ -1,4 +1,3 @@
-pub mod Multiples
 pub mod Products
 pub mod Places
 pub mod Answered

@@ -1,28 +1,32 @@
-// The factors of one elimination step.
+// The factors that cancel two entries.
 
 ghost use Rattle.pm_algebra.specs.Numbers.{InRange};
 ghost use Rattle.pm_elim.specs.Steps.{IsFactors};
-ghost use Rattle.std.specs.Prelude.{pos, ◌<ℤ◌};
+ghost use Rattle.std.specs.Prelude.{pos, ◌<ℤ◌, ◌*ℤ◌, ◌≡◌};
 
 use pm_vector::gcd;
 
-/// The multiples of a row and of a basis row that a step takes.
-#[derive(Drop)]
-pub(crate) struct Factors {
-    pub row: i128,
-    pub basis: i128,
+/// The multiples of two rows whose difference is 0 in a column.
+#[derive(Clone, Copy, Debug)]
+pub struct Factors {
+    /// How many times the first row is taken.
+    pub first: i128,
+    /// How many times the second row is taken away.
+    pub second: i128,
 }
 
-/// The factors of a step by a basis row with y in its pivot column, of a row with x there: y and x divided by the greatest common divisor of |x| and y.
-pub(crate) fn factors_of(x: i128, y: i128) -> Factors
+/// The least multiples, the first of them positive, of a row with x and of a row with y in a column whose difference is 0 there: y and x, each divided by the greatest common divisor of |x| and y.
+pub fn cancelling_factors(x: i128, y: i128) -> Factors
     requires x_in_range { InRange x }
     requires y_in_range { InRange y }
     requires positive { pos 0 <ℤ y }
-    ensures { IsFactors x y result.row result.basis }
+    ensures factors { IsFactors x y result.first result.second }
+    ensures cancel { result.first *ℤ x ≡ result.second *ℤ y }
+    ensures positive { pos 0 <ℤ result.first }
 {
     let divisor = gcd(x.unsigned_abs(), y.unsigned_abs()) as i128;
     Factors {
-        row: y / divisor,
-        basis: x / divisor,
+        first: y / divisor,
+        second: x / divisor,
     }
 }

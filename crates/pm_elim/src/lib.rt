@@ -23,6 +23,7 @@ pub use basis::Echelon;
 pub use duals::{dual_basis, law_dual_basis_is_unique};
 pub use elimination::{echelon, rank};
 pub use evidence::{DualFail, ElimEvidence, ElimFail, ElimList};
+pub use factors::{Factors, cancelling_factors};
 pub use marks::enlarging;
 pub use modulo::reduce;
 pub use nulls::null_space;

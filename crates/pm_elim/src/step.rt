@@ -4,7 +4,7 @@ ghost use Rattle.pm_algebra.specs.Rows.{entry};
 ghost use Rattle.pm_elim.specs.Steps.{IsFactors, IsReducedOnce, StepIsWide, StepStays};
 ghost use Rattle.std.specs.Prelude.{IfErr, IfNone, IfSome, IsTrue, OnErr, OnOk, length, pos, ◌<ℤ◌, ◌<◌, ◌≡◌, ◌↔◌};
 
-use crate::factors::{Factors, factors_of};
+use crate::factors::{Factors, cancelling_factors};
 use pm_vector::{Ints, Wide, combine, first_wide_place, primitive};
 
 /// Whether a row is 0 in a column.
@@ -20,9 +20,9 @@ fn factors_at(row: &Ints, by: &Ints, pivot: usize) -> Factors
     requires in_row { pivot < length row.now }
     requires in_basis_row { pivot < length by.now }
     requires positive { pos 0 <ℤ entry by.now pivot }
-    ensures { IsFactors (entry row.now pivot) (entry by.now pivot) result.row result.basis }
+    ensures { IsFactors (entry row.now pivot) (entry by.now pivot) result.first result.second }
 {
-    factors_of(row.get(pivot), by.get(pivot))
+    cancelling_factors(row.get(pivot), by.get(pivot))
 }
 
 /// The first column in which the step of a row by a basis row leaves the range.
@@ -38,7 +38,7 @@ pub(crate) fn wide_column(row: &Ints, by: &Ints, pivot: usize) -> Option<usize>
         return None;
     }
     let factors = factors_at(row, by, pivot);
-    first_wide_place(factors.row, row.as_slice(), factors.basis, by.as_slice())
+    first_wide_place(factors.first, row.as_slice(), factors.second, by.as_slice())
 }
 
 /// Reduces a row by a basis row in its pivot column, where the row is not 0.
@@ -57,16 +57,16 @@ pub(crate) fn reduce_once(row: &mut Ints, by: &Ints, pivot: usize) -> Result<(),
         return Ok(());
     }
     let factors = factors_at(row, by, pivot);
-    match combine(factors.row, row, factors.basis, by) {
+    match combine(factors.first, row, factors.second, by) {
         Ok(()) => {
             primitive(row);
             Ok(())
         }
         Err(Wide) => {
             let Some(column) = first_wide_place(
-                factors.row,
+                factors.first,
                 row.as_slice(),
-                factors.basis,
+                factors.second,
                 by.as_slice(),
             ) else {
                 unreachable!()

@@ -10,4 +10,3 @@ mod whole;
 
 pub use error::NumError;
 pub use fraction::Fraction;
-pub use text::read;

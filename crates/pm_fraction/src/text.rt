@@ -11,25 +11,6 @@ use crate::fraction::Fraction;
 use std::alloc::{AllocError, Global};
 use std::fmt;
 
-/// Reads an optional `-`, digits, and optionally `/` and digits; zeros may lead. `NotANumber` exactly for another text, else
-/// `Wide` exactly where digits write a number above 2^127 - 1, else `ZeroDenominator` exactly where those behind `/` write 0.
-pub fn read(text: &str) -> Result<Fraction, NumError>
-    ensures ok { IfOk result (λ r. IsReadAs text.now r) }
-    ensures err { IfErr result (λ e. CannotBeRead text.now e) }
-{
-    let (is_negative, unsigned) = split_sign(text);
-    let (top, bottom) = split_slash(unsigned);
-    if !is_numeral(top) || !is_numeral(bottom) {
-        return Err(NumError::NotANumber);
-    }
-    let top = literal(top)?;
-    let bottom = literal(bottom)?;
-    if bottom == 0 {
-        return Err(NumError::ZeroDenominator);
-    }
-    Fraction::of_sizes(is_negative, top, bottom)
-}
-
 // Whether there is a leading `-`, and the text without it.
 fn split_sign(text: &str) -> (bool, &str)
     ensures sign { result.0 ≡ starts_with_minus text.now }
@@ -97,11 +78,30 @@ impl Fraction {
     ghost use Rattle.pm_fraction.specs.declared.error.NumError.{NumError};
     ghost use Rattle.std.specs.Prelude.{Result, Ok};
 
+    /// Reads an optional `-`, digits, and optionally `/` and digits; zeros may lead. `NotANumber` exactly for another text, else
+    /// `Wide` exactly where digits write a number above 2^127 - 1, else `ZeroDenominator` exactly where those behind `/` write 0.
+    pub fn read(text: &str) -> Result<Fraction, NumError>
+        ensures ok { IfOk result (λ r. IsReadAs text.now r) }
+        ensures err { IfErr result (λ e. CannotBeRead text.now e) }
+    {
+        let (is_negative, unsigned) = split_sign(text);
+        let (top, bottom) = split_slash(unsigned);
+        if !is_numeral(top) || !is_numeral(bottom) {
+            return Err(NumError::NotANumber);
+        }
+        let top = literal(top)?;
+        let bottom = literal(bottom)?;
+        if bottom == 0 {
+            return Err(NumError::ZeroDenominator);
+        }
+        Fraction::of_sizes(is_negative, top, bottom)
+    }
+
     /// `p` where q is 1, else `p/q`, in decimal digits without leading zeros.
     pub fn text(self, alloc: Global) -> Result<String, AllocError>
         ensures text { IfOk result (λ s. string_bytes s ≡ text_of self) }
 
-        // `read` gives this fraction back.
+        // `Fraction::read` gives this fraction back.
         ensures reads_back { IfOk result (λ s. (answer : Result Ratio NumError) → IsReadAnswer (string_bytes s) answer → answer ≡ Ok self) }
     {
         let num = self.num();

@@ -22,3 +22,5 @@ pub mod SmallGraphs
 pub mod SmallCounts
 pub mod Duality
 pub mod ProgramExamples
+pub mod SmallRanks
+pub mod SmallFans

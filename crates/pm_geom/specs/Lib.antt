@@ -14,3 +14,5 @@ pub mod RayEvidence
 pub mod Programs
 pub mod Duality
 pub mod ProgramExamples
+pub mod FaceExamples
+pub mod ThingExamples

@@ -3,9 +3,11 @@
 
 ghost use Rattle.pm_geom.specs.Duality.{DirectionIsWithoutBound, InfeasibleExcludes, InfeasibleHasNoPoint, OptimumIsMaximum, WeakDuality};
 ghost use Rattle.pm_geom.specs.Examples.{EmptyIsRead, HalfLineIsRead, IsRefused, LineIsRead, SquareIsRead};
+ghost use Rattle.pm_geom.specs.FaceExamples.{InclusionsAreRead, OrderIsRead, RanksAreRead};
 ghost use Rattle.pm_geom.specs.GraphExamples.{CountsAreRead, DiagramsAreRead, HVectorsAreRead, IndexListsAreRead, SmallGraphsAreRead, SquareGraphIsRead};
 ghost use Rattle.pm_geom.specs.Laws.{Bipolar, CutIsGenerated, ExtremesGenerate, FaceOfFacets, FacetOrderCutsOut, FacetRowsCutOut, Farkas, GeneratedIsCut, GeneratorsSpan, LinealityIsNull, MembershipDecided, NotZeroByRank, OrderGenerates, OrderSpans, RankExists, RankIsLeft, SpanIsDifferences, VanishingIsNull};
 ghost use Rattle.pm_geom.specs.ProgramExamples.{ProgramsAreRead};
+ghost use Rattle.pm_geom.specs.ThingExamples.{FanOrdersAreRead, FansAreRead};
 ghost use Rattle.std.specs.Prelude.{ℕ};
 
 pub mod descriptions;
@@ -188,4 +190,29 @@ pub fn law_infeasible_has_no_point()
 /// The definitions of linear programs read on small programs.
 pub fn example_programs()
     ensures { ProgramsAreRead }
+{}
+
+/// Strict inclusion of sets of places: no set is strictly in itself.
+pub fn example_inclusions()
+    ensures { InclusionsAreRead }
+{}
+
+/// The ranks of the faces of a segment, each with what is less or more.
+pub fn example_ranks()
+    ensures { RanksAreRead }
+{}
+
+/// Lexicographic order of rows, both ways.
+pub fn example_lexicographic_order()
+    ensures { OrderIsRead }
+{}
+
+/// The two rays of the line are a fan; cones that are none.
+pub fn example_fans()
+    ensures { FansAreRead }
+{}
+
+/// Orders of that fan, and lists that are none.
+pub fn example_fan_orders()
+    ensures { FanOrdersAreRead }
 {}

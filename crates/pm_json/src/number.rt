@@ -7,7 +7,7 @@ ghost use Rattle.serde_json.specs.View.{items_view, number_view, view};
 ghost use Rattle.std.specs.Prelude.{IfErr, IfOk, ◌≡◌};
 
 use crate::fail::ValueFail;
-use pm_fraction::{Fraction, read};
+use pm_fraction::Fraction;
 use serde_json::{Number, Value};
 
 const COUNT_LIMIT: i128 = 2048;
@@ -63,7 +63,7 @@ fn read_number(v: &Value) -> Result<Fraction, ValueFail>
 fn read_text(text: &str) -> Result<Fraction, ValueFail>
     ensures { result ≡ ratio_of_text text.now }
 {
-    match read(text) {
+    match Fraction::read(text) {
         Ok(fraction) => Ok(fraction),
         Err(_) => Err(ValueFail::Number),
     }

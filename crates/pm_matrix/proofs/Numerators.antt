@@ -4,8 +4,8 @@ use Rattle.pm_algebra.proofs.RowLaws.{entry-times}
 use Rattle.pm_algebra.proofs.Signs.{times_both}
 use Rattle.pm_algebra.specs.Divisors.{IsPrimitive, IsPrimitiveOf}
 use Rattle.pm_algebra.specs.Numbers.{InRange, IsReduced, Ratio}
-use Rattle.pm_algebra.specs.Rows.{IsZero, Row, Same, entry, ratio_at, times}
-use Rattle.pm_matrix.specs.FractionRows.{IsLeastDenominator, IsPositiveMultipleOf, numerator_over, numerators_over}
+use Rattle.pm_algebra.specs.Rows.{IsZero, Row, Same, Stands, entry, ratio_at, times}
+use Rattle.pm_matrix.specs.FractionRows.{IsLeastDenominator, numerator_over, numerators_over}
 use Rattle.pm_matrix.specs.Wideness.{DenominatorsStay, IsFirstWideNumerator, NumeratorsStay}
 use Rattle.pm_vector.proofs.Kept.{kept}
 use Rattle.std.proofs.Common.{ap, arith, below_more, inl, inr, length, map, of_z, pos, refl, sym, take, to_z, ◌++◌, ◌+◌, ◌/◌, ◌<◌, ◌≡◌, ◌∙◌, ◌⊎◌, ℕ, List, [], ◌∷◌}
@@ -76,7 +76,7 @@ module _ (r : List Ratio) (m : ℕ) (least : IsLeastDenominator r (length r) m) 
     cols : length x ≡ length r
     cols = primitive.cols ∙ length-map r (numerator_over m)
 
-    of_zero : IsZero (numerators_over m r) → IsZero x → IsPositiveMultipleOf r x
+    of_zero : IsZero (numerators_over m r) → IsZero x → Stands r x
     of_zero z zx = record {
       p = pos 1;
       q = pos m;
@@ -87,7 +87,7 @@ module _ (r : List Ratio) (m : ℕ) (least : IsLeastDenominator r (length r) m) 
       same = λ i within. let e = entry_balanced i within in let f : pos 0 *ℤ (ratio_at r i).den ≡ pos m *ℤ (ratio_at r i).num = rw (z i) at e in rw (zx i) (simp ring (simp ring at f));
     }
 
-    of_primitive : (g : ℤ) → pos 0 <ℤ g → Same (numerators_over m r) (times g x) → IsPositiveMultipleOf r x
+    of_primitive : (g : ℤ) → pos 0 <ℤ g → Same (numerators_over m r) (times g x) → Stands r x
     of_primitive g positive same = record {
       p = g;
       q = pos m;
@@ -98,8 +98,8 @@ module _ (r : List Ratio) (m : ℕ) (least : IsLeastDenominator r (length r) m) 
       same = λ i within. sym (mul_assoc g (entry x i) (ratio_at r i).den) ∙ (rw (← entry-times g x i, ← same.at i) (entry_balanced i within));
     }
 
-    pub IsPositiveMultiple-from_primitive : IsPositiveMultipleOf r x
-    IsPositiveMultiple-from_primitive = elim primitive.divided [
+    pub Stands-from_primitive : Stands r x
+    Stands-from_primitive = elim primitive.divided [
       | inl z ↦ of_zero z.0 z.1
       | inr w ↦ of_primitive w.0 w.1 w.2
     ]

@@ -1,7 +1,7 @@
 -- The primitive rows so far.
 use Rattle.pm_algebra.specs.Numbers.{Ratio}
-use Rattle.pm_algebra.specs.Rows.{Row}
-use Rattle.pm_matrix.specs.FractionRows.{ArePrimitiveRowsOf, IsPositiveMultipleOf, IsPrimitiveRowOf}
+use Rattle.pm_algebra.specs.Rows.{Row, Stands}
+use Rattle.pm_matrix.specs.FractionRows.{ArePrimitiveRowsOf, IsPrimitiveRowOf}
 use Rattle.pm_matrix.specs.Wideness.{IsWideInRow, IsWideRow, RowStays, RowsStay}
 use Rattle.pm_matrix.specs.declared.fails.RowsFail.TheVariants.{Memory, Wide}
 use Rattle.pm_matrix.specs.declared.fails.RowsFail.{RowsFail}
@@ -12,7 +12,7 @@ use Rattle.std.proofs.lemmas.List.{get_or_append_left, get_or_push, length_push}
 pub record PrimitiveSoFar (rows : List (List Ratio)) (n : ℕ) (xs : List Row) : Type 0 where
   pub count : length xs ≡ n
   pub each : (i : ℕ) → i < n → IsPrimitiveRowOf (get_or rows i []) (get_or xs i [])
-  pub multiple : (i : ℕ) → i < n → IsPositiveMultipleOf (get_or rows i []) (get_or xs i [])
+  pub multiple : (i : ℕ) → i < n → Stands (get_or rows i []) (get_or xs i [])
   pub stay : RowsStay rows n
 
 -- what holds of each row and its whole row, one row on
@@ -31,11 +31,11 @@ PrimitiveSoFar-none rows = record {
   stay = record { stay = λ i below. absurd (omega arith) };
 }
 
-pub PrimitiveSoFar-more : (rows : List (List Ratio)) (n : ℕ) (xs : List Row) (x : Row) → PrimitiveSoFar rows n xs → IsPrimitiveRowOf (get_or rows n []) x → IsPositiveMultipleOf (get_or rows n []) x → RowStays (get_or rows n []) → PrimitiveSoFar rows (n + 1) (xs ++ x ∷ [])
+pub PrimitiveSoFar-more : (rows : List (List Ratio)) (n : ℕ) (xs : List Row) (x : Row) → PrimitiveSoFar rows n xs → IsPrimitiveRowOf (get_or rows n []) x → Stands (get_or rows n []) x → RowStays (get_or rows n []) → PrimitiveSoFar rows (n + 1) (xs ++ x ∷ [])
 PrimitiveSoFar-more rows n xs x s primitive multiple stays = record {
   count = length_push xs x ∙ (rw s.count refl);
   each = one_more IsPrimitiveRowOf rows n xs x s.count s.each primitive;
-  multiple = one_more IsPositiveMultipleOf rows n xs x s.count s.multiple multiple;
+  multiple = one_more Stands rows n xs x s.count s.multiple multiple;
   stay = record { stay = below_more (λ i. RowStays (get_or rows i [])) n s.stay.stay stays };
 }
 

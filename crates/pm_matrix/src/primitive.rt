@@ -2,8 +2,8 @@
 
 ghost use Rattle.pm_algebra.specs.Divisors.{IsPrimitive};
 ghost use Rattle.pm_algebra.specs.Numbers.{InRange, IsReduced, Ratio};
-ghost use Rattle.pm_algebra.specs.Rows.{IsZero, ratio_at};
-ghost use Rattle.pm_matrix.specs.FractionRows.{IsLeastDenominator, IsPositiveMultipleOf, IsPrimitiveRowOf, numerator_over, numerators_over};
+ghost use Rattle.pm_algebra.specs.Rows.{IsZero, Stands, ratio_at};
+ghost use Rattle.pm_matrix.specs.FractionRows.{IsLeastDenominator, IsPrimitiveRowOf, numerator_over, numerators_over};
 ghost use Rattle.pm_matrix.specs.Multiples.{IsLcm};
 ghost use Rattle.pm_matrix.specs.Wideness.{DenominatorsStay, IsWideAt, IsWideInRow, NumeratorsStay, RowStays};
 ghost use Rattle.std.specs.Prelude.{IfErr, IfNone, IfOk, IfSome, OnOk, length, pos, unsigned_abs, ℕ, ◌/◌, ◌^◌, ◌<◌, ◌≡◌, ◌≤◌, ◌⊎◌};
@@ -105,7 +105,7 @@ fn scaled_numerators(alloc: Global, row: &[Fraction], m: u128) -> Result<Ints, R
 /// divisor; a zero row stays zero. `Wide` exactly where a number on the way is out of the range, with the two that make the first such number.
 pub fn primitive_row(alloc: Global, row: &[Fraction]) -> Result<Ints, RowFail>
     ensures value { IfOk result (IsPrimitiveRowOf row.now) }
-    ensures multiple { IfOk result (IsPositiveMultipleOf row.now) }
+    ensures multiple { IfOk result (Stands row.now) }
     ensures primitive { IfOk result (λ x. IsZero x ⊎ IsPrimitive x) }
     ensures stays { OnOk result (RowStays row.now) }
     ensures wide { IfErr result (IsWideAt row.now) }
@@ -123,7 +123,7 @@ pub(crate) fn primitive_row_at(
     place: u32,
 ) -> Result<Ints, RowsFail>
     ensures value { IfOk result (IsPrimitiveRowOf row.now) }
-    ensures multiple { IfOk result (IsPositiveMultipleOf row.now) }
+    ensures multiple { IfOk result (Stands row.now) }
     ensures stays { OnOk result (RowStays row.now) }
     ensures wide { IfErr result (IsWideInRow row.now place) }
 {

@@ -80,6 +80,15 @@ fn shared_count(alloc: Global, x: &BitRow, y: &BitRow) -> Result<usize, AllocErr
     Ok(both.count())
 }
 
+// How many members two rows have together.
+fn joined_count(alloc: Global, x: &BitRow, y: &BitRow) -> Result<usize, AllocError>
+    requires { length x.now ≡ length y.now }
+{
+    let mut either = BitRow::with_len(alloc, x.len())?;
+    x.join_into(y, &mut either);
+    Ok(either.count())
+}
+
 // Compares the row of a subset with those of all subsets.
 fn check_subset(rt: &impl Abort, alloc: Global, one: u32, x: &BitRow)
     requires { length x.now ≡ ROW_LEN }
@@ -89,6 +98,8 @@ fn check_subset(rt: &impl Abort, alloc: Global, one: u32, x: &BitRow)
         assert!(rt; rows_agree(x, &y, one, other));
         let shared = shared_count(alloc, x, &y).expect(rt, "what both have");
         assert!(rt; shared == (one & other).count_ones() as usize);
+        let joined = joined_count(alloc, x, &y).expect(rt, "what one of them has");
+        assert!(rt; joined == (one | other).count_ones() as usize);
     }
 }
 

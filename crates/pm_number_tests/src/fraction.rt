@@ -1,6 +1,6 @@
 mod rows;
 
-use pm_fraction::{Fraction, NumError, read};
+use pm_fraction::{Fraction, NumError};
 use rows::{pairs, rows, texts};
 use std::alloc::Global;
 use std::cmp::Ordering;
@@ -43,8 +43,8 @@ fn row_of(rt: &impl Abort, alloc: Global, p: Fraction, q: Fraction) -> String {
 
 fn check_row(rt: &impl Abort, alloc: Global, row: &str) {
     let mut words = row.split(' ');
-    let p = read(words.next().expect(rt, "the first")).expect(rt, "the first");
-    let q = read(words.next().expect(rt, "the second")).expect(rt, "the second");
+    let p = Fraction::read(words.next().expect(rt, "the first")).expect(rt, "the first");
+    let q = Fraction::read(words.next().expect(rt, "the second")).expect(rt, "the second");
     assert_eq!(rt; row_of(rt, alloc, p, q).as_str(), row);
 }
 
@@ -88,7 +88,7 @@ fn new_at_the_ends(rt: HostRuntime) {
 fn reads(rt: HostRuntime) {
     for row in texts().lines() {
         let (text, wanted) = row.split_once('|').expect(&rt, "a bar");
-        check_shown(&rt, rt.alloc(), row, read(text), wanted);
+        check_shown(&rt, rt.alloc(), row, Fraction::read(text), wanted);
     }
 }
 
@@ -96,7 +96,7 @@ fn reads(rt: HostRuntime) {
 fn one_number_is_one_value(rt: HostRuntime) -> Result<(), Fail> {
     let mut seen = HashSet::new(rt.alloc());
     assert!(rt; seen.insert(Fraction::new(-3, -6)?)?);
-    assert!(rt; !seen.insert(read("2/4")?)?);
+    assert!(rt; !seen.insert(Fraction::read("2/4")?)?);
     Ok(())
 }
 

@@ -1,9 +1,9 @@
 -- Whole rows that stand for the same rows of fractions have the same directions, and products with them vanish together.
 use Rattle.pm_algebra.proofs.Ring.{ring}
 use Rattle.pm_algebra.proofs.RowLaws.{dot-same, dot-times, dot_comm, entry-times}
-use Rattle.pm_algebra.proofs.Signs.{mul_cancel, times_both}
+use Rattle.pm_algebra.proofs.Signs.{mul_cancel, mul_pos, times_both}
 use Rattle.pm_algebra.specs.Numbers.{Ratio}
-use Rattle.pm_algebra.specs.Rows.{Row, Stands, dot, entry, ratio_at, times}
+use Rattle.pm_algebra.specs.Rows.{Row, SameDirection, Stands, dot, entry, ratio_at, times}
 use Rattle.pm_geom.specs.Faces.{ray}
 use Rattle.pm_types.specs.Right.{InOrder, StandFor}
 use Rattle.pm_types.specs.Views.{over_one, ratios}
@@ -20,22 +20,31 @@ entry_past [] i l = refl
 entry_past (a ∷ x) zero l = absurd (omega arith)
 entry_past (a ∷ x) (suc i) l = entry_past x i (omega arith)
 
--- x d = m n and y d = k n with d > 0
-common : (x y d m k n : ℤ) → pos 0 <ℤ d → x *ℤ d ≡ m *ℤ n → y *ℤ d ≡ k *ℤ n → k *ℤ x ≡ m *ℤ y
-common x y d m k n h e f =
-    let p = simp ring at (times_both k e) in
-    let q = simp ring at (times_both m f) in
+-- p x d = q n and r y d = s n with d > 0
+common : (x y d p q r s n : ℤ) → pos 0 <ℤ d → p *ℤ (x *ℤ d) ≡ q *ℤ n → r *ℤ (y *ℤ d) ≡ s *ℤ n → (s *ℤ p) *ℤ x ≡ (q *ℤ r) *ℤ y
+common x y d p q r s n h e f =
+    let a = simp ring at (times_both s e) in
+    let b = simp ring at (times_both q f) in
     mul_cancel h (simp ring (omega (arith, ints)))
 
--- two standing rows are multiples of one another
-pub stands_alike : {r : List Ratio} {x y : Row} → (s : Stands r x) → (t : Stands r y) → (i : ℕ) → t.m *ℤ entry x i ≡ s.m *ℤ entry y i
-stands_alike {r} {x} {y} s t i = elim (dec_lt i (length r)) [
-  | yes l ↦ common (entry x i) (entry y i) (ratio_at r i).den s.m t.m (ratio_at r i).num (s.denominators i l) (s.same i l) (t.same i l)
-  | no nl ↦
-      let x0 : entry x i ≡ pos 0 = entry_past x i (let c = s.cols in omega arith) in
-      let y0 : entry y i ≡ pos 0 = entry_past y i (let c = t.cols in omega arith) in
-      simp (x0, y0, ring)
-]
+-- whole rows that stand for one row of fractions have the same direction
+pub same_direction : {r : List Ratio} {x y : Row} → Stands r x → Stands r y → SameDirection x y
+same_direction {r} {x} {y} s t = record {
+  p = t.q *ℤ s.p;
+  q = s.q *ℤ t.p;
+  p_positive = mul_pos t.q_positive s.p_positive;
+  q_positive = mul_pos s.q_positive t.p_positive;
+  same = record { at = λ i. entry-times (t.q *ℤ s.p) x i ∙ alike i ∙ sym (entry-times (s.q *ℤ t.p) y i) };
+}
+  where
+    alike : (i : ℕ) → (t.q *ℤ s.p) *ℤ entry x i ≡ (s.q *ℤ t.p) *ℤ entry y i
+    alike i = elim (dec_lt i (length r)) [
+      | yes l ↦ common (entry x i) (entry y i) (ratio_at r i).den s.p s.q t.p t.q (ratio_at r i).num (s.denominators i l) (s.same i l) (t.same i l)
+      | no nl ↦
+          let x0 : entry x i ≡ pos 0 = entry_past x i (let c = s.cols in omega arith) in
+          let y0 : entry y i ≡ pos 0 = entry_past y i (let c = t.cols in omega arith) in
+          simp (x0, y0, ring)
+    ]
 
 zero_of : (p q z w : ℤ) → pos 0 <ℤ q → p *ℤ z ≡ q *ℤ w → z ≡ pos 0 → w ≡ pos 0
 zero_of p q z w h e z0 = mul_cancel h (sym e ∙ (simp (z0, ring)))
@@ -43,8 +52,9 @@ zero_of p q z w h e z0 = mul_cancel h (sym e ∙ (simp (z0, ring)))
 -- a product vanishes with one of them where it does with the other
 pub zero_with_stands : (a : Row) {r : List Ratio} {x y : Row} → Stands r x → Stands r y → dot a x ≡ pos 0 → dot a y ≡ pos 0
 zero_with_stands a {r} {x} {y} s t h =
-    let e : t.m *ℤ dot a x ≡ s.m *ℤ dot a y = simp dot-times at (dot-same a (times t.m x) (times s.m y) (λ i. entry-times t.m x i ∙ stands_alike s t i ∙ sym (entry-times s.m y i))) in
-    zero_of t.m s.m (dot a x) (dot a y) s.positive e h
+    let d = same_direction s t in
+    let e : d.p *ℤ dot a x ≡ d.q *ℤ dot a y = simp dot-times at (dot-same a (times d.p x) (times d.q y) d.same.at) in
+    zero_of d.p d.q (dot a x) (dot a y) d.q_positive e h
 
 pub zero_of_stands : {r : List Ratio} {x y : Row} (a : Row) → Stands r x → Stands r y → dot x a ≡ pos 0 → dot y a ≡ pos 0
 zero_of_stands {r} {x} {y} a s t h = dot_comm y a ∙ zero_with_stands a s t (dot_comm a x ∙ h)
@@ -91,8 +101,10 @@ length_ratios (a ∷ x) = ap suc (length_ratios x)
 
 stands_ratios : (x : Row) → Stands (ratios x) x
 stands_ratios x = record {
-  m = pos 1;
-  positive = omega (arith, ints);
+  p = pos 1;
+  q = pos 1;
+  p_positive = omega (arith, ints);
+  q_positive = omega (arith, ints);
   cols = length_ratios x;
   denominators = λ i h. rw (ratio_at_ratios x i) (omega (arith, ints));
   same = λ i h. rw (ratio_at_ratios x i) (omega (arith, ints));

@@ -9,9 +9,9 @@ use Rattle.pm_algebra.specs.Rows.{Row, Stands}
 use Rattle.pm_bases.proofs.Spans.{same_span, span_difference, span_divide, span_of, span_times}
 use Rattle.pm_bases.specs.Bases.{SameSpan}
 use Rattle.pm_geom.specs.Cones.{InLineality, SameModulo}
-use Rattle.pm_relations.proofs.Standing.{stands_alike}
+use Rattle.pm_relations.proofs.Standing.{same_direction}
 use Rattle.pm_types.specs.Right.{InOrder, StandFor}
-use Rattle.std.proofs.Common.{arith, inl, inr, sym, ◌∙◌}
+use Rattle.std.proofs.Common.{arith, inl, inr}
 use Rattle.std.proofs.lemmas.Int.{ints}
 use Rattle.std.specs.Prelude.{List, [], length, ℕ, ◌++◌, ◌∷◌, ◌≡◌}
 use lib.IntN.{pos, ℤ}
@@ -22,8 +22,9 @@ not_zero h e = omega (arith, ints)
 
 -- ---- rows that stand for the same fractions
 pub stands_span : (T : List Row) {r : List Ratio} {x y : Row} → Stands r x → Stands r y → InSpan T x → InSpan T y
-stands_span T {r} {x} {y} s t h =
-    span_divide (not_zero s.positive) (in_same (record { at = λ i. entry-times t.m x i ∙ stands_alike s t i ∙ sym (entry-times s.m y i) }) (span_times t.m h))
+stands_span T s t h =
+    let d = same_direction s t in
+    span_divide (not_zero d.q_positive) (in_same d.same (span_times d.p h))
 
 pub stand_for_span : (T : List Row) (rows : List (List Ratio)) (xs ys : List Row) → StandFor rows xs → StandFor rows ys → ((x : Row) → Among x xs → InSpan T x) → (y : Row) → Among y ys → InSpan T y
 stand_for_span T [] [] [] s t f y i = elim i [ ]

@@ -7,4 +7,4 @@ pub returns : goal.returns
 returns c =
     let f : FitsSigned w128 c.get.result = search rules in
     let g : FitsSigned w128 c.get-2.result = search rules in
-    rw (to_z-of_z w128 c.get.result f, to_z-of_z w128 c.get-2.result g, c.get.ensures.value, c.get-2.ensures.value) at c.factors_of.ensures
+    rw (to_z-of_z w128 c.get.result f, to_z-of_z w128 c.get-2.result g, c.get.ensures.value, c.get-2.ensures.value) at c.cancelling_factors.ensures.factors

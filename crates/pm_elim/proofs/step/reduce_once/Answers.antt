@@ -6,20 +6,20 @@ use Rattle.std.specs.Int.{w128}
 
 pub returns-in-Ok-clause-stays : goal.returns-in-Ok-clause-stays
 returns-in-Ok-clause-stays c =
-    let f : FitsSigned w128 c.factors_at-factors.result.row = search rules in
-    let g : FitsSigned w128 c.factors_at-factors.result.basis = search rules in
-    step_stays c.factors_at-factors.ensures (rw (to_z-of_z w128 c.factors_at-factors.result.row f, to_z-of_z w128 c.factors_at-factors.result.basis g) at c.in-Ok.ensures.stays)
+    let f : FitsSigned w128 c.factors_at-factors.result.first = search rules in
+    let g : FitsSigned w128 c.factors_at-factors.result.second = search rules in
+    step_stays c.factors_at-factors.ensures (rw (to_z-of_z w128 c.factors_at-factors.result.first f, to_z-of_z w128 c.factors_at-factors.result.second g) at c.in-Ok.ensures.stays)
 
 pub returns-in-Some-clause-wide : goal.returns-in-Some-clause-wide
 returns-in-Some-clause-wide c =
-    let f : FitsSigned w128 c.factors_at-factors.result.row = search rules in
-    let g : FitsSigned w128 c.factors_at-factors.result.basis = search rules in
+    let f : FitsSigned w128 c.factors_at-factors.result.first = search rules in
+    let g : FitsSigned w128 c.factors_at-factors.result.second = search rules in
     record {
-      p = c.factors_at-factors.result.row;
-      q = c.factors_at-factors.result.basis;
+      p = c.factors_at-factors.result.first;
+      q = c.factors_at-factors.result.second;
       not_zero = λ e. let t = c.if-is_zero_at.ensures.1 e in cc;
       factors = c.factors_at-factors.ensures;
-      wide = rw (c.as_slice.ensures.value, c.as_slice-in-Err.ensures.value, c.in-Err.ensures.unchanged, to_z-of_z w128 c.factors_at-factors.result.row f, to_z-of_z w128 c.factors_at-factors.result.basis g) at c.in-Some.ensures.some.wide;
+      wide = rw (c.as_slice.ensures.value, c.as_slice-in-Err.ensures.value, c.in-Err.ensures.unchanged, to_z-of_z w128 c.factors_at-factors.result.first f, to_z-of_z w128 c.factors_at-factors.result.second g) at c.in-Some.ensures.some.wide;
     }
 
 pub returns-then-is_zero_at-clause-reduced : goal.returns-then-is_zero_at-clause-reduced
@@ -42,12 +42,12 @@ unreachable-unreachable c = c.in-Err.ensures.wide (rw (c.as_slice.ensures.value,
 
 pub returns-in-Ok-clause-reduced : goal.returns-in-Ok-clause-reduced
 returns-in-Ok-clause-reduced c =
-    let f : FitsSigned w128 c.factors_at-factors.result.row = search rules in
-    let g : FitsSigned w128 c.factors_at-factors.result.basis = search rules in
-    let value = rw (to_z-of_z w128 c.factors_at-factors.result.row f, to_z-of_z w128 c.factors_at-factors.result.basis g) at c.in-Ok.ensures.value in
+    let f : FitsSigned w128 c.factors_at-factors.result.first = search rules in
+    let g : FitsSigned w128 c.factors_at-factors.result.second = search rules in
+    let value = rw (to_z-of_z w128 c.factors_at-factors.result.first f, to_z-of_z w128 c.factors_at-factors.result.second g) at c.in-Ok.ensures.value in
     inr (record {
-      p = c.factors_at-factors.result.row;
-      q = c.factors_at-factors.result.basis;
+      p = c.factors_at-factors.result.first;
+      q = c.factors_at-factors.result.second;
       not_zero = λ e. let t = c.if-is_zero_at.ensures.1 e in cc;
       factors = c.factors_at-factors.ensures;
       result = rw value at c.primitive.ensures.primitive;

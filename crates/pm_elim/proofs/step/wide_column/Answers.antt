@@ -7,10 +7,10 @@ use Rattle.std.specs.Int.{w128}
 
 pub returns-clause-stays : goal.returns-clause-stays
 returns-clause-stays c =
-    let f : FitsSigned w128 c.factors_at-factors.result.row = search rules in
-    let g : FitsSigned w128 c.factors_at-factors.result.basis = search rules in
+    let f : FitsSigned w128 c.factors_at-factors.result.first = search rules in
+    let g : FitsSigned w128 c.factors_at-factors.result.second = search rules in
     none_weaker c.first_wide_place.result _ _ (λ d. step_stays c.factors_at-factors.ensures d)
-    (rw (c.as_slice.ensures.value, c.as_slice-2.ensures.value, to_z-of_z w128 c.factors_at-factors.result.row f, to_z-of_z w128 c.factors_at-factors.result.basis g) at c.first_wide_place.ensures.none)
+    (rw (c.as_slice.ensures.value, c.as_slice-2.ensures.value, to_z-of_z w128 c.factors_at-factors.result.first f, to_z-of_z w128 c.factors_at-factors.result.second g) at c.first_wide_place.ensures.none)
 
 pub returns-then-is_zero_at-clause-wide : goal.returns-then-is_zero_at-clause-wide
 returns-then-is_zero_at-clause-wide c = tt
@@ -24,14 +24,14 @@ returns-clause-within c =
 
 pub returns-clause-wide : goal.returns-clause-wide
 returns-clause-wide c =
-    let f : FitsSigned w128 c.factors_at-factors.result.row = search rules in
-    let g : FitsSigned w128 c.factors_at-factors.result.basis = search rules in
+    let f : FitsSigned w128 c.factors_at-factors.result.first = search rules in
+    let g : FitsSigned w128 c.factors_at-factors.result.second = search rules in
     some_weaker c.first_wide_place.result _ _
     (λ i first. record {
-      p = c.factors_at-factors.result.row;
-      q = c.factors_at-factors.result.basis;
+      p = c.factors_at-factors.result.first;
+      q = c.factors_at-factors.result.second;
       not_zero = λ e. let t = c.is_zero_at.ensures.1 e in true≢false (sym t ∙ c.if-is_zero_at.false);
       factors = c.factors_at-factors.ensures;
       wide = first.wide;
     })
-    (rw (c.as_slice.ensures.value, c.as_slice-2.ensures.value, to_z-of_z w128 c.factors_at-factors.result.row f, to_z-of_z w128 c.factors_at-factors.result.basis g) at c.first_wide_place.ensures.some)
+    (rw (c.as_slice.ensures.value, c.as_slice-2.ensures.value, to_z-of_z w128 c.factors_at-factors.result.first f, to_z-of_z w128 c.factors_at-factors.result.second g) at c.first_wide_place.ensures.some)

@@ -4,8 +4,8 @@ use Rattle.std.specs.Prelude.{◌≡◌}
 use Rattle.std.specs.Str.Parse.{digits_value}
 use Rattle.pm_fraction.proofs.Digits.{on_no_error}
 use Rattle.pm_fraction.specs.Text.{AreLiteralsInRange, IsFractionText, before_slash, behind_slash, bottom_text, top_text}
-use Rattle.pm_fraction.proofs.text.read.Goals as goal
-use Rattle.pm_fraction.proofs.text.read.Goals.{After-literal, After-split_slash, In_ok-bottom}
+use Rattle.pm_fraction.proofs.fraction.Fraction.read.Goals as goal
+use Rattle.pm_fraction.proofs.fraction.Fraction.read.Goals.{After-literal, After-split_slash, In_ok-bottom}
 
 top_is : (c : After-split_slash) → c.split_slash.result.0.now ≡ top_text c.args.text.now
 top_is c = c.split_slash.ensures.before ∙ ap before_slash c.split_sign-is_negative.ensures.rest
