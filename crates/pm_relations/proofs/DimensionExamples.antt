@@ -1,4 +1,5 @@
 -- The dimensions of the unit square and of the empty polytope.
+use Rattle.pm_relations.proofs.Standing.{whole_denominators}
 use Rattle.pm_algebra.proofs.ConeLaws.{in_generator, none_from_zero, none_to_zero}
 use Rattle.pm_algebra.proofs.Lists.{All_among, here, there}
 use Rattle.pm_algebra.proofs.Ring.{ring}
@@ -87,7 +88,7 @@ empty_dimensions_are_read = record {
     some_cols = omega arith;
     few_cols = omega arith;
     kind = ((empty_is_read 2).polytope, refl);
-    programs = record { cols = λ s. refl };
+    programs = record { cols = λ s. refl; denominators = λ s i h. whole_denominators (pos 0 ∷ pos 0 ∷ []) i };
   };
   cone_dim = (0, refl, none_spanned);
   combinatorial_dim = record { cone = 0; lineality = 0; is_cone = none_spanned; is_lineality = no_lines 2 _ (λ x l s. s.inside); less = refl };

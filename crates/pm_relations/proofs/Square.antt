@@ -1,4 +1,5 @@
 -- The sets of the unit square.
+use Rattle.pm_relations.proofs.Standing.{whole_denominators}
 use Rattle.pm_algebra.proofs.Lists.{Among, here, there, among_Contains, Contains_among}
 use Rattle.pm_algebra.specs.Rows.{Row, dot}
 use Rattle.pm_geom.proofs.Square.{square_is_read}
@@ -79,7 +80,7 @@ square_sets_are_read = record {
     some_cols = omega arith;
     few_cols = omega arith;
     kind = (square_is_read.polytope, refl);
-    programs = record { cols = λ s. refl };
+    programs = record { cols = λ s. refl; denominators = λ s i h. whole_denominators (pos 0 ∷ pos 0 ∷ pos 0 ∷ []) i };
   };
   orders = record { rays = square_is_read.order; facets = square_is_read.facets; cones = refl };
   right = (refl, (left, (below, (above, (right, tt)))));

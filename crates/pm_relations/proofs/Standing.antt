@@ -113,3 +113,8 @@ stands_ratios x = record {
 pub stand_for_ratios : (X : List Row) → StandFor (map ratios X) X
 stand_for_ratios [] = tt
 stand_for_ratios (x ∷ X) = (stands_ratios x, stand_for_ratios X)
+
+-- ---- fractions over 1
+-- whole numbers over 1 have positive denominators
+pub whole_denominators : (x : Row) (i : ℕ) → pos 0 <ℤ (ratio_at (ratios x) i).den
+whole_denominators x i = rw (ratio_at_ratios x i) (omega (arith, ints))
