@@ -13,7 +13,7 @@
 -- A count that is too large is a fault of the first element too many; a row that is too short is one of its end. Indices are held against the column count
 -- after the last element.
 --     reading p d      the value of p that the JSON value d is, or the fault
-use Rattle.std.specs.Prelude.{ℕ, zero, suc, ◌==◌, ◌%◌, ◌/◌, ◌^◌, ◌&&◌, ◌++◌, ◌∷◌, Bool, true, false, List, [], length, max, nat_le, nat_lt, Option, Some, None, is_some, Result, Ok, Err, codes, if◌then◌else◌}
+use Rattle.std.specs.Prelude.{ℕ, zero, suc, ◌==◌, ◌%◌, ◌/◌, ◌^◌, ◌&&◌, ◌++◌, ◌∷◌, Bool, true, false, not, List, [], length, max, nat_le, nat_lt, Option, Some, None, is_some, Result, Ok, Err, codes, if◌then◌else◌}
 use Rattle.std.specs.Char.{is_ascii_digit}
 use Rattle.std.specs.List.{list_all, list_any}
 use Rattle.std.specs.Str.Parse.{digits_value, starts_with_minus}
@@ -21,11 +21,10 @@ use Rattle.pm_algebra.specs.Numbers.{Ratio}
 use Rattle.pm_fraction.specs.Fractions.{ratio_of, signed}
 use Rattle.pm_fraction.specs.Text.{bottom_text, top_text}
 use Rattle.pm_types.specs.Forms.{is_dimension}
-use Rattle.pm_props.specs.Properties.{value_kind}
+use Rattle.pm_props.specs.Properties.{is_ambient, value_kind}
 use Rattle.pm_types.specs.Values.{PropertyValue, matrix, sets, whole, truth}
 use Rattle.pm_types.specs.Views.{over_one}
 use Rattle.pm_props.specs.declared.property.PropId.{PropId}
-use Rattle.pm_props.specs.declared.property.PropId.TheVariants.{ConeAmbientDim}
 use Rattle.pm_props.specs.declared.property.ValueKind.{ValueKind}
 use Rattle.pm_props.specs.declared.property.ValueKind.TheVariants as kind
 use Rattle.serde_json.specs.Data.{Data, Num, object, Items, no_items, item, no_members, member}
@@ -195,8 +194,7 @@ sets_of d = and_then (items_of d) (λ ds. and_then (sets_from 0 ds) (λ s. sets_
 
 -- ---- whole numbers and truth values
 abbrev pub whole_value : PropId → ℤ → Read PropertyValue
-whole_value ConeAmbientDim k = if is_dimension k then Ok (whole k) else Err Limit
-whole_value p k = Ok (whole k)
+whole_value p k = if is_ambient p && not (is_dimension k) then Err Limit else Ok (whole k)
 
 abbrev pub whole_of : PropId → Data → Read PropertyValue
 whole_of p d = and_then (or_fault Shape (as_number d)) (λ n. and_then (or_fault Number (as_i64 n)) (whole_value p))

@@ -11,7 +11,8 @@ ghost use Rattle.std.specs.Prelude.{IfErr, IfOk, IsTrue, ◌≡◌, ◌≢◌, �
 use crate::fail::ValueFail;
 use crate::matrix::read_matrix;
 use crate::sets::read_sets;
-use pm_types::{PropId, Value as PropertyValue, ValueKind};
+use pm_props::{Columns, PropId, ValueKind};
+use pm_types::Value as PropertyValue;
 use serde_json::Value;
 use std::alloc::Global;
 
@@ -20,16 +21,6 @@ fn is_dimension(k: i64) -> bool
     ensures { result ≡ is_dimension k }
 {
     1 <= k && k <= 33
-}
-
-/// Whether a whole number has to be a column count.
-fn counts_columns(p: PropId) -> bool
-    ensures { IsTrue result ↔ p ≡ PropId.ConeAmbientDim }
-{
-    match p {
-        PropId::ConeAmbientDim => true,
-        _ => false,
-    }
 }
 
 /// A whole number of 64 bits.
@@ -45,7 +36,7 @@ fn read_whole(p: PropId, v: &Value) -> Result<PropertyValue, ValueFail>
     let Some(k) = number.as_i64() else {
         return Err(ValueFail::Number);
     };
-    if counts_columns(p) && !is_dimension(k) {
+    if p.row().columns == Columns::Value && !is_dimension(k) {
         return Err(ValueFail::Limit);
     }
     Ok(PropertyValue::Int(k))
@@ -69,7 +60,8 @@ pub fn read_value(alloc: Global, p: PropId, v: &Value) -> Result<PropertyValue, 
     ensures formed { IfOk result (λ value. IsTrue (is_formed p (view_of value))) }
     ensures fault { IfErr result (λ e. e ≢ ValueFail.Memory → reading p (view v.now) ≡ Err e) }
 {
-    match p.row().kind {
+    let kind = p.row().kind;
+    match kind {
         ValueKind::Mat => read_matrix(alloc, v),
         ValueKind::Sets => read_sets(alloc, v),
         ValueKind::Int => read_whole(p, v),

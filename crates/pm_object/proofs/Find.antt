@@ -10,7 +10,7 @@ use Rattle.pm_props.specs.declared.property.PropId.{PropId}
 use Rattle.std.specs.List.{list_all}
 use Rattle.std.proofs.Common.{Bool, Some, arith, drop, false, get_or, refl, sym, true, ◌≢◌}
 use Rattle.std.specs.Prelude.{List, Option, [], length, map, nat_eq, suc, zero, ℕ, ◌+◌, ◌<◌, ◌∷◌, ◌≡◌}
-use Rattle.pm_types.specs.contracts.property.PropId.{the_type}
+use Rattle.pm_props.specs.contracts.property.PropId.{the_type}
 use denote.Enum.Bare.{sameb, same_false, same_true}
 
 -- the answer of `==` on two properties

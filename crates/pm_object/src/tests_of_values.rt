@@ -2,7 +2,7 @@
 
 ghost use Rattle.pm_object.specs.State.{agrees, first_cols};
 ghost use Rattle.pm_matrix.specs.Matrices.{IsFraction};
-ghost use Rattle.pm_types.specs.Forms.{AreFractions, HasPrimitiveRow, HavePrimitiveRows, agrees_with, are_rows, first_is_below, first_is_nought, is_below_nought, is_formed, is_nought, is_number, is_row, is_zero_row, stated_cols, states};
+ghost use Rattle.pm_types.specs.Forms.{AreFractions, HasPrimitiveRow, HavePrimitiveRows, agrees_with, are_rows, first_is_below, first_is_nought, is_below_nought, is_formed, is_nought, is_number, is_row, is_zero_row, passes, stated_cols, states};
 ghost use Rattle.pm_props.specs.Properties.{is_ambient};
 ghost use Rattle.pm_object.specs.Views.{held_seen};
 ghost use Rattle.pm_types.specs.Views.{view_of};
@@ -13,14 +13,15 @@ use crate::held::{Held, TakeFail};
 use pm_fraction::Fraction;
 use pm_types::ObjectType;
 use pm_matrix::{Matrix, RowsFail};
-use pm_types::{PropId, Value};
+use pm_props::{Columns, PropId, RowTest};
+use pm_types::Value;
 use std::alloc::Global;
 
 /// The column count that a value states, 0 where it states none.
 pub fn stated_cols(p: PropId, v: &Value) -> usize
     ensures { result ≡ stated_cols p (view_of v.now) }
 {
-    if !p.is_columned() {
+    if p.row().columns != Columns::Rows {
         return 0;
     }
     match v {
@@ -57,7 +58,7 @@ pub fn agrees(n: Option<usize>, p: PropId, v: &Value) -> bool
 fn agrees_with(n: usize, p: PropId, v: &Value) -> bool
     ensures { result ≡ agrees_with n p (view_of v.now) }
 {
-    if p == PropId::ConeAmbientDim {
+    if p.row().columns == Columns::Value {
         return states(n, v);
     }
     let stated = stated_cols(p, v);
@@ -107,13 +108,17 @@ fn all_are_rows(of: ObjectType, p: PropId, matrix: &Matrix) -> bool
 fn is_row(of: ObjectType, p: PropId, row: &[Fraction]) -> bool
     ensures { result ≡ is_row of p row.now }
 {
-    match (of, p) {
-        (ObjectType::Polytope, PropId::Points) => !first_is_below(row),
-        (ObjectType::Polytope, PropId::InputLineality) => first_is_nought(row),
-        (ObjectType::Polytope, PropId::LinealitySpace) => first_is_nought(row),
-        (ObjectType::Polytope, PropId::Vertices) => !first_is_below(row) && !is_zero_row(row),
-        (_, PropId::Vertices) => !is_zero_row(row),
-        (_, PropId::Facets) => !is_zero_row(row),
+    passes(of, p.row().test, row)
+}
+
+fn passes(of: ObjectType, test: RowTest, row: &[Fraction]) -> bool
+    ensures { result ≡ passes of test row.now }
+{
+    match (of, test) {
+        (ObjectType::Polytope, RowTest::Point) => !first_is_below(row),
+        (ObjectType::Polytope, RowTest::Line) => first_is_nought(row),
+        (ObjectType::Polytope, RowTest::Ray) => !first_is_below(row) && !is_zero_row(row),
+        (_, RowTest::Ray | RowTest::NotZero) => !is_zero_row(row),
         _ => true,
     }
 }

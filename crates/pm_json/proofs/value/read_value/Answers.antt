@@ -1,4 +1,4 @@
-use Rattle.std.proofs.Common.{sym, ◌∙◌, ◌≡◌, Ok}
+use Rattle.std.proofs.Common.{ap, sym, ◌∙◌, ◌≡◌, Ok}
 use Rattle.std.proofs.lemmas.Result.{IfOk-weaker}
 use Rattle.std.specs.Prelude.{IsTrue}
 use Rattle.serde_json.specs.View.{view}
@@ -11,11 +11,11 @@ use Rattle.pm_json.proofs.value.read_value.Goals as goal
 pub returns-in-Mat-clause-formed : goal.returns-in-Mat-clause-formed
 returns-in-Mat-clause-formed c =
     IfOk-weaker c.read_matrix.result (λ value. matrix_of (view c.args.v.now) ≡ Ok (view_of value)) (λ value. IsTrue (is_formed c.args.p (view_of value)))
-    (λ value is. matrix_formed c.args.p (sym c.value_kind.ensures ∙ c.in-Mat.is) (view c.args.v.now) (view_of value) is)
+    (λ value is. matrix_formed c.args.p (ap (λ r. r.kind) (sym (c.kind.view_is ∙ c.row.ensures)) ∙ c.in-Mat.is) (view c.args.v.now) (view_of value) is)
     c.read_matrix.ensures.ok
 
 pub returns-in-Sets-clause-formed : goal.returns-in-Sets-clause-formed
 returns-in-Sets-clause-formed c =
     IfOk-weaker c.read_sets.result (λ value. sets_of (view c.args.v.now) ≡ Ok (view_of value)) (λ value. IsTrue (is_formed c.args.p (view_of value)))
-    (λ value is. sets_formed c.args.p (sym c.value_kind.ensures ∙ c.in-Sets.is) (view c.args.v.now) (view_of value) is)
+    (λ value is. sets_formed c.args.p (ap (λ r. r.kind) (sym (c.kind.view_is ∙ c.row.ensures)) ∙ c.in-Sets.is) (view c.args.v.now) (view_of value) is)
     c.read_sets.ensures.ok
