@@ -1,7 +1,7 @@
-// Sets of numbers below a length, kept as rows of bits, and lists of such rows.
-//
-// A clause sees a `BitRow` as the list of its bits: the bit at i says whether the number i is a member
-// (`has`), and the list's length is the row's. The words and lanes below that are seen nowhere else.
+//! Sets of numbers below a length, kept as rows of bits, and lists of such rows.
+//!
+//! A clause sees a `BitRow` as the list of its bits: the bit at i says whether the number i is a member
+//! (`has`), and the list's length is the row's. The words and lanes below that are seen nowhere else.
 #![tactic(auto)]
 
 ghost use Rattle.pm_bits.specs.Examples.{MembersAreRead};
