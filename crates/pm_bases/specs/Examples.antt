@@ -4,12 +4,15 @@ use Rattle.pm_algebra.specs.Rows.{Row}
 use Rattle.pm_bases.specs.Bases.{SameSpan, IsReducedBasis, IsEchelonBasis, IsRank}
 use lib.IntN.{ℤ, pos, negsuc}
 
+-- the row (a)
 abbrev pub single : ℤ → Row
 single a = a ∷ []
 
+-- the row (a,b)
 abbrev pub pair : ℕ → ℕ → Row
 pair a b = pos a ∷ pos b ∷ []
 
+-- what holds of bases, spans and ranks of such rows, and what does not
 pub record BasesAreRead : Type 0 where
   -- the rows (2,4), (1,3) span the plane, whose echelon basis is (1,0), (0,1)
   pub plane : IsEchelonBasis 2 (pair 1 0 ∷ pair 0 1 ∷ []) (0 ∷ 1 ∷ [])

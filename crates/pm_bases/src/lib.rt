@@ -1,4 +1,4 @@
-// Bases of the span of rows: what a reduced basis and an echelon basis are, what they determine, and which row operations keep a span.
+//! Bases of the span of rows: what a reduced basis and an echelon basis are, what they determine, and which row operations keep a span.
 #![tactic(auto)]
 
 ghost use Rattle.pm_bases.specs.Examples.{BasesAreRead};

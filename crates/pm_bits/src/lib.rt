@@ -1,10 +1,10 @@
-// Sets of numbers below a length, kept as rows of bits, and lists of such rows.
-//
-// A clause sees a `BitRow` as the list of its bits: the bit at i says whether the number i is a member
-// (`has`), and the list's length is the row's. The words and lanes below that are seen nowhere else.
+//! Sets of numbers below a length, kept as rows of bits, and lists of such rows.
+//!
+//! A clause sees a `BitRow` as the list of its bits: the bit at i says whether the number i is a member
+//! (`has`), and the list's length is the row's. The words and lanes below that are seen nowhere else.
 #![tactic(auto)]
 
-ghost use Rattle.pm_bits.specs.Examples.{MembersAreRead};
+ghost use Rattle.pm_bits.specs.Examples.{MembersAreRead, UnionsAreRead};
 
 mod order;
 mod row;
@@ -17,4 +17,9 @@ pub use table::BitTable;
 /// The members of small rows as lists.
 pub fn example_members()
     ensures { MembersAreRead }
+{}
+
+/// The union and the intersection of small rows.
+pub fn example_unions()
+    ensures { UnionsAreRead }
 {}

@@ -1,8 +1,4 @@
 -- Dual rows.
---     IsDualRow n rows P j x      x is primitive, has product 0 with each row but the one at j, a positive product with that one, and is 0 in the columns P
---     IsDualBasis n rows D      the row of D at each place is such a row for that place, with P the pivot columns of the echelon basis of the null space of the rows
---     IfDualWide f Q      Q holds of the evidence of a refusal, where it has some
---     IfDependent f Q      Q holds where a refusal is for dependent rows
 use Rattle.pm_algebra.specs.Divisors.{IsPrimitive}
 use Rattle.pm_algebra.specs.Rows.{Row, dot, entry}
 use Rattle.pm_bases.specs.Bases.{column, row_at}
@@ -16,6 +12,7 @@ use Rattle.std.specs.Prelude.{List, length, ℕ, ◌<◌, ◌≡◌}
 use lib.IntN.{pos}
 use lib.Signed.{◌<ℤ◌}
 
+-- x is primitive, has product 0 with each row but the one at j, a positive product with that one, and is 0 in the columns P
 pub record IsDualRow (n : ℕ) (rows : List Row) (P : List ℕ) (j : ℕ) (x : Row) : Type 0 where
   pub cols : length x ≡ n
   pub primitive : IsPrimitive x
@@ -23,6 +20,7 @@ pub record IsDualRow (n : ℕ) (rows : List Row) (P : List ℕ) (j : ℕ) (x : R
   pub own : pos 0 <ℤ dot (row_at rows j) x
   pub reduced : (k : ℕ) → k < length P → entry x (column P k) ≡ pos 0
 
+-- the row of D at each place is such a row for that place, with P the pivot columns of the echelon basis of the null space of the rows
 pub record IsDualBasis (n : ℕ) (rows D : List Row) : Type 0 where
   pub null : List Row
   pub pivots : List ℕ
@@ -34,11 +32,13 @@ pub record IsDualBasis (n : ℕ) (rows D : List Row) : Type 0 where
 abbrev pub DualBasisIsUnique : Type 0
 DualBasisIsUnique = (n : ℕ) (rows D D' : List Row) → IsDualBasis n rows D → IsDualBasis n rows D' → D ≡ D'
 
+-- Q holds of the evidence of a refusal, where it has some
 abbrev pub IfDualWide : DualFail → (EliminationStep → Type 0) → Type 0
 IfDualWide Dependent Q = Unit {0}
 IfDualWide (Wide e) Q = Q e
 IfDualWide Memory Q = Unit {0}
 
+-- Q holds where a refusal is for dependent rows
 abbrev pub IfDependent : DualFail → Type 0 → Type 0
 IfDependent Dependent Q = Q
 IfDependent (Wide e) Q = Unit {0}

@@ -1,11 +1,9 @@
 -- One step of an elimination, as evidence names it.
---     list      which list of rows is eliminated
---     front, basis      how many rows were taken, and their echelon basis
---     part, by, column      the row that is reduced, the place of the basis row by which (or how many there are, for the next row), and a column
 use Rattle.pm_algebra.specs.Rows.{Row}
 use Rattle.pm_elim.specs.declared.evidence.ElimList.{ElimList}
 use Rattle.std.specs.Prelude.{List, ℕ}
 
+-- the list that is eliminated; how many of its rows were taken, and their echelon basis; the row that is reduced; the place of the basis row by which (or how many there are, for the next row); a column
 pub record EliminationStep : Type 0 where
   pub list : ElimList
   pub front : ℕ

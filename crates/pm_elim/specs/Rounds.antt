@@ -1,8 +1,4 @@
 -- One round of an elimination: a further row joins the basis.
---     AllStay B x c      the step of each row of B by x in the column c stays in the range
---     IsWideOnSome B x c part by i      `by` is the number of rows of B, `part` is one of them, and its step by x in the column c leaves the range in the column i
---     AllReducedOnce B x c B'      each row of B, reduced by x in the column c where it is not 0, is the row of B' at its place
---     IsNewRow n B P x c      x is primitive, positive in the column c, 0 before it, and 0 in the pivot columns of B
 use Rattle.pm_algebra.specs.Divisors.{IsPrimitive}
 use Rattle.pm_algebra.specs.Rows.{Row, entry}
 use Rattle.pm_bases.specs.Bases.{column, row_at}
@@ -11,9 +7,11 @@ use Rattle.std.specs.Prelude.{List, length, ℕ, ◌<◌, ◌≡◌}
 use lib.IntN.{pos}
 use lib.Signed.{◌<ℤ◌}
 
+-- the step of each row of B by x in the column c stays in the range
 abbrev pub AllStay : List Row → Row → ℕ → Type 0
 AllStay B x c = (i : ℕ) → i < length B → StepStays (row_at B i) x c
 
+-- `by` is the number of rows of B, `part` is one of them, and its step by x in the column c leaves the range in the column i
 pub record IsWideOnSome (B : List Row) (x : Row) (c : ℕ) (part : Row) (by i : ℕ) : Type 0 where
   pub last : by ≡ length B
   pub place : ℕ
@@ -21,10 +19,12 @@ pub record IsWideOnSome (B : List Row) (x : Row) (c : ℕ) (part : Row) (by i : 
   pub older : part ≡ row_at B place
   pub wide : StepIsWide part x c i
 
+-- each row of B, reduced by x in the column c where it is not 0, is the row of B' at its place
 pub record AllReducedOnce (B : List Row) (x : Row) (c : ℕ) (B' : List Row) : Type 0 where
   pub as_many : length B' ≡ length B
   pub rows : (i : ℕ) → i < length B → IsReducedOnce (row_at B i) x c (row_at B' i)
 
+-- x is primitive, positive in the column c, 0 before it, and 0 in the pivot columns of B
 pub record IsNewRow (n : ℕ) (B : List Row) (P : List ℕ) (x : Row) (c : ℕ) : Type 0 where
   pub cols : length x ≡ n
   pub primitive : IsPrimitive x

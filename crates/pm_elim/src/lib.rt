@@ -1,4 +1,4 @@
-// Elimination of whole rows: echelon bases, ranks, null spaces and dual rows, each exact or with evidence that a step leaves the range.
+//! Elimination of whole rows: echelon bases, ranks, null spaces and dual rows, each exact or with evidence that a step leaves the range.
 #![tactic(auto)]
 
 mod basis;

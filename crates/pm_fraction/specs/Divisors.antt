@@ -1,10 +1,10 @@
 -- Common divisors of whole numbers.
---     IsCancelled a b u v      u and v are a and b, both divided by their greatest common divisor
 use Rattle.std.specs.Int.{IsGcd}
 use Rattle.std.specs.Prelude.{unsigned_abs, ◌≡◌}
 use lib.IntN.{pos, ℤ, ◌*ℤ◌}
 use lib.Signed.{◌<ℤ◌}
 
+-- u and v are a and b, both divided by their greatest common divisor
 pub record IsCancelled (a b u v : ℤ) : Type 0 where
   pub g : ℤ
   pub positive : pos 0 <ℤ g

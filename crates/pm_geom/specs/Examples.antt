@@ -1,8 +1,4 @@
 -- The definitions read on small things: what holds of them, and what does not.
---     the unit square, with vertices (1,0,0), (1,0,1), (1,1,0), (1,1,1)
---     the half line x1 >= 0, with the ray (0,1) and the vertex (1,0)
---     the empty polytope, whose cone is {0}
---     the line through (1,0,0) along (0,1,0) in the plane
 use Rattle.std.specs.Prelude.{ℕ, ◌≡◌, ◌↔◌, List, [], ◌∷◌, length}
 use Rattle.std.specs.List.{All}
 use Rattle.pm_algebra.specs.Rows.{Row}
@@ -11,12 +7,15 @@ use Rattle.pm_geom.specs.Cones.{CutOut, IsValid, Vanishes, IsExtremeRay, IsFacet
 use Rattle.pm_geom.specs.Things.{IsPolytopeThing}
 use lib.IntN.{pos, negsuc}
 
+-- the row (a,b)
 abbrev pub pair : ℕ → ℕ → Row
 pair a b = pos a ∷ pos b ∷ []
 
+-- the row (a,b,c)
 abbrev pub triple : ℕ → ℕ → ℕ → Row
 triple a b c = pos a ∷ pos b ∷ pos c ∷ []
 
+-- the unit square, with vertices (1,0,0), (1,0,1), (1,1,0), (1,1,1)
 abbrev pub square : List Row
 square = triple 1 0 0 ∷ triple 1 0 1 ∷ triple 1 1 0 ∷ triple 1 1 1 ∷ []
 
@@ -35,6 +34,7 @@ pub record SquareIsRead : Type 0 where
   pub three : ¬ (IsOrder 3 (InCone square []) (triple 1 0 0 ∷ triple 1 0 1 ∷ triple 1 1 0 ∷ []))
   pub facets : IsOrder 3 (IsValid 3 square []) edges
 
+-- the half line x1 >= 0, with the ray (0,1) and the vertex (1,0)
 abbrev pub half_line : List Row
 half_line = pair 0 1 ∷ pair 1 0 ∷ []
 
@@ -45,20 +45,21 @@ pub record HalfLineIsRead : Type 0 where
   pub rays : IsOrder 2 (InCone half_line []) (pair 0 1 ∷ pair 1 0 ∷ [])
   pub facets : IsOrder 2 (IsValid 2 half_line []) (pair 0 1 ∷ pair 1 0 ∷ [])
 
--- no extreme ray, no facet row, and every row vanishes
+-- the empty polytope, whose cone is {0}: no extreme ray, no facet row, and every row vanishes
 pub record EmptyIsRead (n : ℕ) : Type 0 where
   pub polytope : IsPolytopeThing n [] []
   pub no_ray : (r : Row) → ¬ (IsExtremeRay n [] [] r)
   pub no_facet : (a : Row) → ¬ (IsFacetRow n [] [] a)
   pub vanish : (a : Row) → length a ≡ n → Vanishes n [] [] a
 
--- one extreme ray modulo the lineality, and one facet row modulo the rows that vanish, which (0,0,1) spans
+-- the line through (1,0,0) along (0,1,0) in the plane: one extreme ray modulo the lineality, and one facet row modulo the rows that vanish, which (0,0,1) spans
 pub record LineIsRead : Type 0 where
   pub polytope : IsPolytopeThing 3 (triple 1 0 0 ∷ []) (triple 0 1 0 ∷ [])
   pub rays : IsOrder 3 (InCone (triple 1 0 0 ∷ []) (triple 0 1 0 ∷ [])) (triple 1 0 0 ∷ [])
   pub facets : IsOrder 3 (IsValid 3 (triple 1 0 0 ∷ []) (triple 0 1 0 ∷ [])) (triple 1 0 0 ∷ [])
   pub vanish : (a : Row) → length a ≡ 3 → Vanishes 3 (triple 1 0 0 ∷ []) (triple 0 1 0 ∷ []) a ↔ InSpan (triple 0 0 1 ∷ []) a
 
+-- the segment from 0 to 2
 abbrev pub segment : List Row
 segment = pair 1 0 ∷ pair 1 2 ∷ []
 

@@ -6,9 +6,11 @@ use Rattle.pm_geom.specs.Graphs.{AreNeighbours, IsAscending, IsConnected, IsDiam
 use Rattle.std.specs.Prelude.{ℕ, ◌≡◌, ◌∷◌, List, [], true, false, map}
 use lib.IntN.{negsuc, pos}
 
+-- the indices 0 and 2
 abbrev pub corners : List ℕ
 corners = 0 ∷ 2 ∷ []
 
+-- members, lists that do not rise, and lexicographic order
 pub record IndexListsAreRead : Type 0 where
   pub has : holds corners 2 ≡ true
   pub lacks : holds corners 1 ≡ false
@@ -25,6 +27,7 @@ pub record IndexListsAreRead : Type 0 where
 abbrev pub square_graph : List (List ℕ)
 square_graph = (1 ∷ 2 ∷ []) ∷ (0 ∷ 3 ∷ []) ∷ (0 ∷ 3 ∷ []) ∷ (1 ∷ 2 ∷ []) ∷ []
 
+-- sides, diagonals, walks, distances and the diameter of the unit square
 pub record SquareGraphIsRead : Type 0 where
   pub side : IsEdge 3 square [] square 0 1
   pub diagonal : ¬ (IsEdge 3 square [] square 0 3)
@@ -42,12 +45,15 @@ pub record SquareGraphIsRead : Type 0 where
   pub not_one : ¬ (IsDiameter 4 (AreNeighbours square_graph) 1)
   pub not_three : ¬ (IsDiameter 4 (AreNeighbours square_graph) 3)
 
+-- one node
 abbrev pub point_graph : List (List ℕ)
 point_graph = [] ∷ []
 
+-- two nodes that nothing joins
 abbrev pub apart_graph : List (List ℕ)
 apart_graph = [] ∷ [] ∷ []
 
+-- graphs of no node, of one, and of two that nothing joins
 pub record SmallGraphsAreRead : Type 0 where
   pub none : IsDiameter 0 (AreNeighbours []) 0
   pub point : IsDiameter 1 (AreNeighbours point_graph) 0
@@ -64,9 +70,11 @@ empty_lattice = ([] ∷ []) ∷ []
 abbrev pub ray_lattice : List (List (List ℕ))
 ray_lattice = ([] ∷ []) ∷ ((0 ∷ []) ∷ []) ∷ []
 
+-- the faces of a segment by its two vertices
 abbrev pub segment_lattice : List (List (List ℕ))
 segment_lattice = ([] ∷ []) ∷ ((0 ∷ []) ∷ (1 ∷ []) ∷ []) ∷ ((0 ∷ 1 ∷ []) ∷ []) ∷ []
 
+-- the faces of the unit square by its four vertices
 abbrev pub square_lattice : List (List (List ℕ))
 square_lattice =
     ([] ∷ []) ∷
@@ -83,6 +91,7 @@ octahedron_lattice =
     ((0 ∷ 1 ∷ 2 ∷ []) ∷ (0 ∷ 1 ∷ 3 ∷ []) ∷ (0 ∷ 2 ∷ 4 ∷ []) ∷ (0 ∷ 3 ∷ 4 ∷ []) ∷ (1 ∷ 2 ∷ 5 ∷ []) ∷ (1 ∷ 3 ∷ 5 ∷ []) ∷ (2 ∷ 4 ∷ 5 ∷ []) ∷ (3 ∷ 4 ∷ 5 ∷ []) ∷ []) ∷
     ((0 ∷ 1 ∷ 2 ∷ 3 ∷ 4 ∷ 5 ∷ []) ∷ []) ∷ []
 
+-- the f- and f2-vectors of these
 pub record CountsAreRead : Type 0 where
   pub empty_f : f_of empty_lattice ≡ []
   pub ray_f : f_of ray_lattice ≡ []
@@ -96,6 +105,7 @@ pub record CountsAreRead : Type 0 where
   pub octahedron_f2 : f2_of octahedron_lattice ≡ (6 ∷ 24 ∷ 24 ∷ []) ∷ (24 ∷ 12 ∷ 24 ∷ []) ∷ (24 ∷ 24 ∷ 8 ∷ []) ∷ []
   pub once : ¬ (f2_of segment_lattice ≡ (4 ∷ []) ∷ [])
 
+-- the h-vectors of the octahedron, the square, a segment and a point, and one with a negative number
 pub record HVectorsAreRead : Type 0 where
   pub octahedron : h_of (map pos (f_of octahedron_lattice)) 3 ≡ pos 1 ∷ pos 3 ∷ pos 3 ∷ pos 1 ∷ []
   pub square : h_of (pos 4 ∷ pos 4 ∷ []) 2 ≡ pos 1 ∷ pos 2 ∷ pos 1 ∷ []
@@ -104,9 +114,11 @@ pub record HVectorsAreRead : Type 0 where
   pub negative : h_of (pos 1 ∷ pos 0 ∷ []) 2 ≡ pos 1 ∷ negsuc 0 ∷ pos 0 ∷ []
   pub not_turned : ¬ (h_of (pos 5 ∷ pos 8 ∷ pos 5 ∷ []) 3 ≡ pos 1 ∷ pos 2 ∷ pos 2 ∷ pos 1 ∷ [])
 
+-- the row (1)
 abbrev pub one : List Row
 one = (pos 1 ∷ []) ∷ []
 
+-- all faces of the cone {0} and of a ray, and lists that lack the least face or the whole
 pub record DiagramsAreRead : Type 0 where
   pub empty : (n : ℕ) → IsHasseDiagram n [] [] [] empty_lattice
   pub not_none : (n : ℕ) → ¬ (IsHasseDiagram n [] [] [] [])

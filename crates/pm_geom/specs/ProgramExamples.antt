@@ -29,6 +29,7 @@ positive_line = row (pos 0) (pos 1) ∷ []
 abbrev pub nothing : List Row
 nothing = row (pos 0) (pos 1) ∷ row (negsuc 0) (negsuc 0) ∷ []
 
+-- optima, directions and multipliers of small programs
 pub record ProgramsAreRead : Type 0 where
   -- on the segment the greatest x is 1, at the point 1, since x + (1 - x) is the constant 1
   pub greatest : IsOptimal segment [] (wholes (row (pos 0) (pos 1))) (ratio (pos 1) (pos 1)) (wholes (row (pos 1) (pos 1))) (wholes (row (pos 0) (pos 1)))

@@ -1,4 +1,4 @@
-// Cones, polytopes and fans: what extreme rays, facet rows, orders and faces are, and the laws that the crates above rest on.
+//! Cones, polytopes and fans: what extreme rays, facet rows, orders and faces are, and the laws that the crates above rest on.
 #![tactic(auto)]
 
 ghost use Rattle.pm_geom.specs.Duality.{DirectionIsWithoutBound, InfeasibleExcludes, InfeasibleHasNoPoint, OptimumIsMaximum, WeakDuality};

@@ -1,29 +1,29 @@
 -- Matrices of fractions.
---     FractionMatrix      how many columns it has, and its rows
---     IsFraction f      f is in lowest terms, and both parts are in the range
---     IsMatrix a      each row has an entry for each column, and each entry is a fraction
---     at a i j      the entry in row i and column j, and 0/1 outside
---     IsTransposeOf a t      the rows of t are the columns of a
 use Rattle.pm_algebra.specs.Numbers.{InRangeRatio, IsReduced, Ratio}
 use Rattle.pm_algebra.specs.Rows.{ratio_at}
 use Rattle.std.specs.List.{All, slice_index_or}
 use Rattle.std.specs.Prelude.{List, [], length, ℕ, ◌<◌, ◌≡◌}
 
+-- a matrix: how many columns it has, and its rows
 pub record FractionMatrix : Type 0 where
   pub cols : ℕ
   pub rows : List (List Ratio)
 
+-- f is in lowest terms, and both parts are in the range
 pub record IsFraction (f : Ratio) : Type 0 where
   pub reduced : IsReduced f
   pub in_range : InRangeRatio f
 
+-- each row has an entry for each column, and each entry is a fraction
 pub record IsMatrix (a : FractionMatrix) : Type 0 where
   pub shape : All (λ r. length r ≡ a.cols) a.rows
   pub entries : All (All IsFraction) a.rows
 
+-- the entry in row i and column j, and 0/1 outside
 abbrev pub at : FractionMatrix → ℕ → ℕ → Ratio
 at a i j = ratio_at (slice_index_or a.rows i []) j
 
+-- the rows of t are the columns of a
 pub record IsTransposeOf (a t : FractionMatrix) : Type 0 where
   pub cols : t.cols ≡ length a.rows
   pub rows : length t.rows ≡ a.cols

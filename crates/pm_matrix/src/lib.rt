@@ -1,4 +1,4 @@
-// Matrices of fractions, and the primitive whole rows of their rows.
+//! Matrices of fractions, and the primitive whole rows of their rows.
 #![tactic(auto)]
 
 mod fails;

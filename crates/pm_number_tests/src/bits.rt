@@ -65,10 +65,10 @@ fn rows_agree(x: &BitRow, y: &BitRow, one: u32, other: u32) -> bool
 {
     let order = order_of_subsets(one, other);
     (x.cmp_lanes(y) == order)
-        & (x.cmp(y) == order)
-        & ((x == y) == (one == other))
-        & (x.eq_lanes(y) == (one == other))
-        & (x.contains(y) == (one & other == other))
+        && (x.cmp(y) == order)
+        && ((x == y) == (one == other))
+        && (x.eq_lanes(y) == (one == other))
+        && (x.contains(y) == (one & other == other))
 }
 
 // How many members two rows share.
