@@ -1,9 +1,4 @@
 -- What a function returned, as the grammar has it.
---     Reads view result read      it is what is read, seen by view, the fault too
---     Gives view result read      the same, unless memory ran out
---     IsBehindComma ts rest, HasNoComma ts      these are the tokens behind a comma; no comma comes next
---     EndsBefore ts      the tokens end before the name of a condition
---     HasCondition ts negated t rest      a condition comes next: this name, behind `!` or not, and then the rest
 use Rattle.std.specs.Prelude.{◌≡◌, ℕ, Bool, false, IsTrue, Result, Ok, Err, List, [], ◌∷◌}
 use Rattle.pm_books.specs.declared.fail.BookFail.{BookFail}
 use Rattle.pm_books.specs.declared.fail.BookFail.TheVariants.{Syntax, UnknownProperty, UnknownClient, SignatureMismatch, SameLabel, WeightRange, TooManyRules, Memory}
@@ -11,6 +6,7 @@ use Rattle.pm_books.specs.Tokens.{Token}
 use Rattle.pm_books.specs.Reading.{◌>>=◌, is_comma, Conditions, condition_of, with_condition, conditions_from}
 use Rattle.pm_books.specs.Reading.Due.{condition, comma}
 
+-- it is what is read, seen by view, the fault too
 abbrev pub Reads : {X Y : Type 0} → (X → Y) → Result X BookFail → Result Y BookFail → Type 0
 Reads view (Ok x) read = read ≡ Ok (view x)
 Reads view (Err e) read = read ≡ Err e
@@ -25,10 +21,12 @@ Fails (SameLabel k) read = read ≡ Err (SameLabel k)
 Fails (WeightRange k) read = read ≡ Err (WeightRange k)
 Fails (TooManyRules k) read = read ≡ Err (TooManyRules k)
 
+-- the same, unless memory ran out
 abbrev pub Gives : {X Y : Type 0} → (X → Y) → Result X BookFail → Result Y BookFail → Type 0
 Gives view (Ok x) read = read ≡ Ok (view x)
 Gives view (Err e) read = Fails e read
 
+-- IsBehindComma ts rest, HasNoComma ts: these are the tokens behind a comma; no comma comes next
 abbrev pub IsBehindComma : List Token → List Token → Type 0
 IsBehindComma [] rest = ⊥
 IsBehindComma (t ∷ ts) rest = IsTrue (is_comma t) × (ts ≡ rest)
@@ -37,9 +35,11 @@ abbrev pub HasNoComma : List Token → Type 0
 HasNoComma [] = Unit {0}
 HasNoComma (t ∷ ts) = is_comma t ≡ false
 
+-- the tokens end before the name of a condition
 abbrev pub EndsBefore : List Token → Type 0
 EndsBefore ts = (found : Conditions) (end : ℕ) → conditions_from condition found end ts ≡ Err (Syntax end)
 
+-- a condition comes next: this name, behind `!` or not, and then the rest
 abbrev pub HasCondition : List Token → Bool → Token → List Token → Type 0
 HasCondition ts negated t rest = (found : Conditions) (end : ℕ)
     → conditions_from condition found end ts ≡ (condition_of found t >>= λ p. conditions_from comma (with_condition found negated p) end rest)

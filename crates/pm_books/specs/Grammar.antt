@@ -1,8 +1,4 @@
 -- The grammar of books on words, the texts of their tokens.
---     Written      a rule as it is written: names, numbers and conditions as they stand there
---     words_of w      the words of a rule
---     Means kinds w rule      what is written is this rule, with the first kind of its client's name
---     IsBookText kinds text rules      the text's tokens are the words of rules that mean these, no label comes twice, and they are at most 256
 use Rattle.std.specs.Prelude.{◌≡◌, ◌≢◌, ℕ, ◌<◌, ◌≤◌, Bool, false, IsTrue, if◌then◌else◌, Some, List, [], ◌∷◌, ◌++◌, length, map, find, AllPairs, codes}
 use Rattle.std.specs.List.{flat_map, AllZip}
 use Rattle.std.specs.Str.{bytes_eq}
@@ -25,6 +21,7 @@ pub record Condition : Type 0 where
   pub negated : Bool
   pub name : List ℕ
 
+-- a rule as it is written: names, numbers and conditions as they stand there
 pub record Written : Type 0 where
   pub label : List ℕ
   pub targets : List (List ℕ)
@@ -57,6 +54,7 @@ words_behind_label w =
     codes ":" ∷ codes "rule" ∷ (separated (map name_item w.targets) ++ codes ":" ∷ (separated (map name_item w.sources)
     ++ codes "{" ∷ w.client ∷ codes "}" ∷ codes "weight" ∷ w.weight ∷ codes ";" ∷ precondition_words w.conditions))
 
+-- the words of a rule
 abbrev pub words_of : Written → List (List ℕ)
 words_of w = w.label ∷ words_behind_label w
 
@@ -75,6 +73,7 @@ AddConditions [] found last = found ≡ last
 AddConditions (c ∷ cs) found last = (p : PropId) × IsNameOf c.name p × (value_kind p ≡ value.Bool) × (has (union found.must found.must_not) p ≡ false)
     × AddConditions cs (with_condition found c.negated p) last
 
+-- what is written is this rule, with the first kind of its client's name
 pub record Means (kinds : List Kind) (w : Written) (rule : Rule) : Type 0 where
   pub label : IsTrue (is_label w.label)
   pub labelled : rule.label ≡ w.label
@@ -93,6 +92,7 @@ pub record Means (kinds : List Kind) (w : Written) (rule : Rule) : Type 0 where
 abbrev pub texts : List Token → List (List ℕ)
 texts ts = map (λ t. t.text) ts
 
+-- the text's tokens are the words of rules that mean these, no label comes twice, and they are at most 256
 pub record IsBookText (kinds : List Kind) (text : List ℕ) (rules : List Rule) : Type 0 where
   pub written : List Written
   pub words : texts (tokens_of text) ≡ flat_map words_of written

@@ -1,7 +1,4 @@
 -- How books are printed: one rule a line, with names by the order of their numbers.
---     spaced ws      the words with one space before each, but before `,` and `;`
---     written_of rule      the rule with the first names of its properties
---     line_of rule, text_of rules      a line, and all of them
 use Rattle.std.specs.Prelude.{ℕ, Bool, ◌||◌, if◌then◌else◌, List, [], ◌∷◌, ◌++◌, map, codes}
 use Rattle.std.specs.List.{flat_map}
 use Rattle.std.specs.Str.{bytes_eq}
@@ -19,12 +16,14 @@ is_tight word = bytes_eq word (codes ",") || bytes_eq word (codes ";")
 unfoldable pub spaced_word : List ℕ → List ℕ
 spaced_word word = if is_tight word then word else 32 ∷ word
 
+-- the words with one space before each, but before `,` and `;`
 abbrev pub spaced : List (List ℕ) → List ℕ
 spaced words = flat_map spaced_word words
 
 abbrev pub condition_of_rule : Rule → PropId → Condition
 condition_of_rule rule p = record { negated = has rule.must_not p; name = first_name p }
 
+-- the rule with the first names of its properties
 abbrev pub written_of : Rule → Written
 written_of rule = record {
   label = rule.label;
@@ -35,6 +34,7 @@ written_of rule = record {
   conditions = map (condition_of_rule rule) (members (conditions rule));
 }
 
+-- line_of rule, text_of rules: a line, and all of them
 -- 10 is LF
 unfoldable pub line_of : Rule → List ℕ
 line_of rule = rule.label ++ spaced (words_behind_label (written_of rule)) ++ 10 ∷ []

@@ -1,6 +1,4 @@
 -- What a claim says, and what a table does for it at one row.
---     Holds book names barred held asked claim      the claim is true of all chains, also of those with rules that are not useful
---     GoesOn rows claim step weight row      where the step can be made from a row within the claim, it leads out of the claim or to a row that costs no more
 use Rattle.std.specs.Prelude.{List, ◌⊎◌}
 use Rattle.pm_props.specs.declared.set.PropSet.{PropSet}
 use Rattle.pm_props.specs.declared.kind.RuleId.{RuleId}
@@ -16,10 +14,12 @@ use Rattle.pm_rules.specs.Steps.{IsOpen}
 use Rattle.pm_rules.specs.Chains.{weigh, LeadsTo, HasNoChain}
 use Rattle.pm_rules.specs.Certificates.{Within, EndsClaim, HasRow}
 
+-- the claim is true of all chains, also of those with rules that are not useful
 abbrev pub Holds : List Rule → PropSet → List RuleId → PropSet → PropSet → Claim → Type 0
 Holds book names barred held asked (Least least) = (chain : List RuleId) → LeadsTo book names barred held asked chain → IsAtMost least (weigh book chain)
 Holds book names barred held asked NoChain = HasNoChain book names barred held asked
 
+-- where the step can be made from a row within the claim, it leads out of the claim or to a row that costs no more
 pub record GoesOn (rows : List TableRow) (claim : Claim) (step : Step) (weight : Weight) (row : TableRow) : Type 0 where
   pub onward : Within claim row.cost → IsOpen step row.set
       → EndsClaim claim (plus row.cost weight) ⊎ HasRow rows (union row.set step.targets) (plus row.cost weight)

@@ -1,10 +1,4 @@
 -- One step of double description: the extreme rays of a cone that rows cut out, and those of the cone with one more row.
---     Adjacent A V i j      no third ray of V vanishes on each row of A on which the rays at i and at j both do
---     Source      a ray that is kept, or a pair of rays that is combined, by places in V
---     combined a r s      (a.r) s - (a.s) r
---     source_row a V s      the ray that a source gives, for the new row a
---     IsSource A a V s      a kept ray is not negative on a; the rays of a pair are adjacent, and a is positive on the first and negative on the second
---     IsRayStep n S A a V      the rays that sources give are exactly the extreme rays of the next cone S, up to positive scale and lineality, and no two are alike
 use Rattle.std.specs.Prelude.{ℕ, ◌≡◌, ◌<◌, ◌⊎◌, ◌↔◌, List, ◌∷◌, length, get_or}
 use Rattle.std.specs.List.{Contains}
 use Rattle.pm_geom.specs.Faces.{ray}
@@ -14,24 +8,30 @@ use Rattle.pm_algebra.specs.Cones.{InCone}
 use lib.IntN.{pos, neg_ℤ}
 use lib.Signed.{◌<ℤ◌, ◌≤ℤ◌}
 
+-- no third ray of V vanishes on each row of A on which the rays at i and at j both do
 pub record Adjacent (A V : List Row) (i j : ℕ) : Type 0 where
   pub third : (k : ℕ) → k < length V → ((b : Row) → Contains A b → dot b (ray V i) ≡ pos 0 → dot b (ray V j) ≡ pos 0 → dot b (ray V k) ≡ pos 0) → (k ≡ i) ⊎ (k ≡ j)
 
+-- a ray that is kept, or a pair of rays that is combined, by places in V
 pub data Source : Type 0 where
   kept : ℕ → Source
   pair : ℕ → ℕ → Source
 
+-- (a.r) s - (a.s) r
 unfoldable pub combined : Row → Row → Row → Row
 combined a r s = plus (times (dot a r) s) (times (neg_ℤ (dot a s)) r)
 
+-- the ray that a source gives, for the new row a
 abbrev pub source_row : Row → List Row → Source → Row
 source_row a V (kept i) = ray V i
 source_row a V (pair i j) = combined a (ray V i) (ray V j)
 
+-- a kept ray is not negative on a; the rays of a pair are adjacent, and a is positive on the first and negative on the second
 abbrev pub IsSource : List Row → Row → List Row → Source → Type 0
 IsSource A a V (kept i) = (i < length V) × (pos 0 ≤ℤ dot a (ray V i))
 IsSource A a V (pair i j) = (i < length V) × (j < length V) × (pos 0 <ℤ dot a (ray V i)) × (dot a (ray V j) <ℤ pos 0) × Adjacent A V i j
 
+-- the rays that sources give are exactly the extreme rays of the next cone S, up to positive scale and lineality, and no two are alike
 pub record IsRayStep (n : ℕ) (S : Row → Type 0) (A : List Row) (a : Row) (V : List Row) : Type 0 where
   pub each : (s : Source) → IsSource A a V s → IsExtreme n S (source_row a V s)
   pub all : (x : Row) → IsExtreme n S x → (s : Source) × IsSource A a V s × SameModulo n S x (source_row a V s)

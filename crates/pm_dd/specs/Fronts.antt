@@ -1,7 +1,4 @@
 -- Fronts of a list of rows, and equations that lead.
---     both_signs E      l1, -l1, l2, -l2, ..
---     HalfSpaces E J x      x has product 0 with each row of E, and a non-negative product with each row of J
---     IsFront X f      the first f rows of X have the span of all of X
 use Rattle.std.specs.Prelude.{ℕ, suc, ◌≡◌, ◌<◌, ◌≤◌, ◌↔◌, List, [], ◌∷◌, ◌++◌, length, take, drop}
 use Rattle.pm_algebra.specs.Rows.{Row, opposite, HasCols}
 use Rattle.pm_algebra.specs.Cones.{InSpan, IsIndependent}
@@ -10,13 +7,16 @@ use Rattle.pm_elim.specs.NullSpaces.{IsNull}
 use Rattle.pm_geom.specs.Cones.{CutOut, IsOrder}
 use Rattle.pm_dd.specs.Description.{IsRayStep, IsNext, IsDual, Source}
 
+-- l1, -l1, l2, -l2, ..
 abbrev pub both_signs : List Row → List Row
 both_signs [] = []
 both_signs (l ∷ E) = l ∷ opposite l ∷ both_signs E
 
+-- x has product 0 with each row of E, and a non-negative product with each row of J
 abbrev pub HalfSpaces : List Row → List Row → Row → Type 0
 HalfSpaces E J x = IsNull E x × CutOut J x
 
+-- the first f rows of X have the span of all of X
 abbrev pub IsFront : List Row → ℕ → Type 0
 IsFront X f = SameSpan (take f X) X
 

@@ -1,7 +1,4 @@
 -- The rays of a front, with their zero sets as rows of bits.
---     IsZeroSet J f r z      of the first f rows of J the bits of z are those on which r vanishes; z has a bit for each row of J, and no other bit is set
---     IsRayTable n E J f V Z      V is an order of the extreme rays of the cone of the equations E and the first f rows of J, and the rows of Z are their zero sets
---     IsUnion one other u      u has the members of both
 use Rattle.std.specs.Prelude.{ℕ, suc, ◌+◌, ◌≡◌, ◌<◌, ◌≤◌, ◌↔◌, Bool, IsTrue, List, [], ◌++◌, length, take}
 use Rattle.std.specs.List.{slice_index_or}
 use Rattle.pm_algebra.specs.Rows.{Row, dot, HasCols}
@@ -15,6 +12,7 @@ use Rattle.pm_dd.specs.Fronts.{HalfSpaces}
 use lib.IntN.{pos}
 use lib.Signed.{◌<ℤ◌}
 
+-- of the first f rows of J the bits of z are those on which r vanishes; z has a bit for each row of J, and no other bit is set
 pub record IsZeroSet (J : List Row) (f : ℕ) (r : Row) (z : List Bool) : Type 0 where
   pub as_many : length z ≡ length J
   pub exact : (p : ℕ) → IsTrue (has z p) ↔ ((p < f) × (dot (row_at J p) r ≡ pos 0))
@@ -22,6 +20,7 @@ pub record IsZeroSet (J : List Row) (f : ℕ) (r : Row) (z : List Bool) : Type 0
 abbrev pub zero_set : List (List Bool) → ℕ → List Bool
 zero_set Z k = slice_index_or Z k []
 
+-- V is an order of the extreme rays of the cone of the equations E and the first f rows of J, and the rows of Z are their zero sets
 pub record IsRayTable (n : ℕ) (E J : List Row) (f : ℕ) (V : List Row) (Z : List (List Bool)) : Type 0 where
   pub within : f ≤ length J
   pub order : IsOrder n (HalfSpaces E (take f J)) V

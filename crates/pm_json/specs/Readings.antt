@@ -1,18 +1,11 @@
 -- What a JSON value is, as a value of a property, so far.
---     matrices      an array of at most 2,048 rows, which are arrays of one length from 1 to 33 of fractions: a fraction is a text of a fraction, an optional `-`,
---         digits, and optionally `/` and digits that do not write 0, none of them above 2^127 - 1, or a whole JSON number from -2^63 to 2^64 - 1
---     sets      an array of at most 2,048 sets, which are arrays of indices below 2,048, in any order and none twice; after the sets maybe {"cols":n},
---         n at most 2,048 and above every index; without it the column count is one more than the greatest index, or 0
---     whole numbers, truth values      a whole JSON number of 64 bits, for CONE_AMBIENT_DIM from 1 to 33; true or false
+-- A matrix is an array of at most 2,048 rows, which are arrays of one length from 1 to 33 of fractions: a fraction is a text, an optional `-`, digits, and optionally `/` and digits that do not write 0, none of them above 2^127 - 1, or a whole JSON number from -2^63 to 2^64 - 1.
+-- Sets are an array of at most 2,048 sets, which are arrays of indices below 2,048, in any order and none twice; after the sets maybe {"cols":n}, n at most 2,048 and above every index; without it the column count is one more than the greatest index, or 0.
+-- A whole number is a whole JSON number of 64 bits, for CONE_AMBIENT_DIM from 1 to 33; a truth value is true or false.
 -- Values of further kinds are not read yet, and F2_VECTOR and LP.LINEAR_OBJECTIVE will have forms of their own.
--- Of several faults the first in reading order counts, which goes through the elements from the first to the last. At one element it is the first of
---     Shape      a JSON value of another form; an element that makes a row longer than the first; an index that its set has already
---     Number      a number, or in matrices a text, that is not allowed there
---     Index      an index that is negative, or not below the column count
---     Limit      a count beyond its bound
+-- Of several faults the first in reading order counts, which goes through the elements from the first to the last. At one element it is the first of these: `Shape`, a JSON value of another form, an element that makes a row longer than the first, an index that its set has already; `Number`, a number, or in matrices a text, that is not allowed there; `Index`, an index that is negative, or not below the column count; `Limit`, a count beyond its bound.
 -- A count that is too large is a fault of the first element too many; a row that is too short is one of its end. Indices are held against the column count
 -- after the last element.
---     reading p d      the value of p that the JSON value d is, or the fault
 use Rattle.std.specs.Prelude.{ℕ, zero, suc, ◌==◌, ◌%◌, ◌/◌, ◌^◌, ◌&&◌, ◌++◌, ◌∷◌, Bool, true, false, not, List, [], length, max, nat_le, nat_lt, Option, Some, None, is_some, Result, Ok, Err, codes, if◌then◌else◌}
 use Rattle.std.specs.Char.{is_ascii_digit}
 use Rattle.std.specs.List.{list_all, list_any}
@@ -210,5 +203,6 @@ reading_of kind.Int p d = whole_of p d
 reading_of kind.Bool p d = truth_of d
 reading_of k p d = Err Shape
 
+-- the value of p that the JSON value d is, or the fault
 abbrev pub reading : PropId → Data → Read PropertyValue
 reading p d = reading_of (value_kind p) p d

@@ -1,7 +1,4 @@
 -- The best of the first rules of a book.
---     cost_of rule      what a chain of this rule alone costs
---     better best new      the cheaper one, the first where they cost the same
---     BestBefore book names barred held asked n best      of the first n rules that serve, it is one of least cost, if one serves
 use Rattle.std.specs.Prelude.{ℕ, ◌≡◌, ◌<◌, ◌||◌, ◌&&◌, Option, Some, None, List, if◌then◌else◌, nat_eq, nat_le, nat_lt, Bool}
 use Rattle.pm_machine.specs.Chains.{Serves}
 use Rattle.pm_machine.specs.declared.chain.Best.{Best}
@@ -12,12 +9,14 @@ use Rattle.pm_props.specs.declared.kind.RuleId.{RuleId}
 use Rattle.pm_props.specs.declared.set.PropSet.{PropSet}
 use Rattle.pm_props.specs.declared.weight.Cost.{Cost}
 
+-- what a chain of this rule alone costs
 abbrev pub cost_of : Rule → Cost
 cost_of rule = record { class = rule.weight.class; minor = rule.weight.minor }
 
 abbrev pub at_most : Cost → Cost → Bool
 at_most a b = nat_lt a.class b.class || (nat_eq a.class b.class && nat_le a.minor b.minor)
 
+-- the cheaper one, the first where they cost the same
 abbrev pub better : Option Best → Best → Best
 better None new = new
 better (Some old) new = if at_most old.cost new.cost then old else new
@@ -29,6 +28,7 @@ pub record IsBest (book : List Rule) (names : PropSet) (barred : List RuleId) (h
   pub cost : best.cost ≡ cost_of rule
   pub least : (id : RuleId) (other : Rule) → id.0 < n → rule_at book id ≡ Some other → Serves names barred held asked id other → IsAtMost best.cost (cost_of other)
 
+-- of the first n rules that serve, it is one of least cost, if one serves
 abbrev pub BestBefore : List Rule → PropSet → List RuleId → PropSet → PropSet → ℕ → Option Best → Type 0
 BestBefore book names barred held asked n None = (id : RuleId) (rule : Rule) → id.0 < n → rule_at book id ≡ Some rule → Serves names barred held asked id rule → ⊥
 BestBefore book names barred held asked n (Some best) = IsBest book names barred held asked n best

@@ -1,6 +1,4 @@
 -- What is so of the values of every object.
---     IsFormedIn of n h      a held value of an object of this type, whose column count is n if it is known: it has the form of its property, agrees with n, its rows pass their tests, its entries are fractions, its primitive rows are made within the range, and it stands in the object itself, since so far no object has programs
---     IsFormed o      all held values are so, and an object for which a round was started knows its dimension
 use Rattle.std.specs.Prelude.{ℕ, ◌≡◌, true, IsTrue, None, Option}
 use Rattle.std.specs.List.{Contains}
 use Rattle.pm_props.specs.declared.object_type.ObjectType.{ObjectType}
@@ -8,6 +6,7 @@ use Rattle.pm_types.specs.Forms.{AreFractions, HavePrimitiveRows, is_formed, are
 use Rattle.pm_props.specs.declared.property.PropId.TheVariants.{ConeAmbientDim}
 use Rattle.pm_object.specs.State.{HeldValue, State, agrees, cols_of, is_held, is_sealed}
 
+-- a held value of an object of this type, whose column count is n if it is known: it has the form of its property, agrees with n, its rows pass their tests, its entries are fractions, its primitive rows are made within the range, and it stands in the object itself, since so far no object has programs
 pub record IsFormedIn (of : ObjectType) (n : Option ℕ) (h : HeldValue) : Type 0 where
   pub formed : IsTrue (is_formed h.property h.value)
   pub columns : IsTrue (agrees n h.property h.value)
@@ -16,6 +15,7 @@ pub record IsFormedIn (of : ObjectType) (n : Option ℕ) (h : HeldValue) : Type 
   pub primitive : HavePrimitiveRows h.value
   pub placed : h.place ≡ None
 
+-- all held values are so, and an object for which a round was started knows its dimension
 pub record IsFormed (o : State) : Type 0 where
   pub each : (h : HeldValue) → Contains o.held h → IsFormedIn o.of (cols_of o.held) h
   pub dimension : is_sealed o ≡ true → IsTrue (is_held ConeAmbientDim o.held)

@@ -1,9 +1,4 @@
 -- When an object is honest.
---     facts held      the held values as facts at their places
---     based held      the values that honesty starts from: those that were given
---     has_tag tag facts      some property has the tag
---     IsHonest o      for every thing of the object's type, and all orders, for which the given values are right, there are orders for which all held values are right; an order of which a given value speaks stays
---     IsKept o      the object is honest, and while it has no round each of its values was given
 use Rattle.std.specs.Prelude.{◌≡◌, Bool, true, false, List, [], filter, map}
 use Rattle.std.specs.List.{Contains, list_any}
 use Rattle.pm_types.specs.Things.{Thing}
@@ -16,6 +11,7 @@ use Rattle.pm_object.specs.State.{HeldValue, State}
 use Rattle.pm_object.specs.declared.held.Origin.{Origin}
 use Rattle.pm_object.specs.declared.held.Origin.TheVariants.{Given, Computed}
 
+-- the held values as facts at their places
 abbrev pub facts : List HeldValue → List Fact
 facts held = map (λ h. record { place = h.place; property = h.property; value = h.value }) held
 
@@ -23,9 +19,11 @@ abbrev pub is_given : Origin → Bool
 is_given Given = true
 is_given Computed = false
 
+-- the values that honesty starts from: those that were given
 abbrev pub based : List HeldValue → List HeldValue
 based held = filter (λ h. is_given h.origin) held
 
+-- some property has the tag
 abbrev pub has_tag : (PropId → Bool) → List HeldValue → Bool
 has_tag tag held = list_any (λ h. tag h.property) held
 
@@ -36,9 +34,11 @@ pub record HonestAnswer (held : List HeldValue) (t : Thing) (o : Orders) : Type 
   pub facets : has_tag facets_tag (based held) ≡ true → orders.facets ≡ o.facets
   pub cones : has_tag facets_tag (based held) ≡ true → orders.cones ≡ o.cones
 
+-- for every thing of the object's type, and all orders, for which the given values are right, there are orders for which all held values are right; an order of which a given value speaks stays
 pub record IsHonest (o : State) : Type 0 where
   pub answer : (t : Thing) (p : Orders) → t.of ≡ o.of → RightAll (facts (based o.held)) t p → HonestAnswer o.held t p
 
+-- the object is honest, and while it has no round each of its values was given
 pub record IsKept (o : State) : Type 0 where
   pub honest : IsHonest o
   pub given : o.rounds ≡ [] → (h : HeldValue) → Contains o.held h → h.origin ≡ Given

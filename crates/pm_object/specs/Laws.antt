@@ -1,5 +1,4 @@
 -- The laws of honesty: an object stays honest where it gains values that were given while no round was started, what goes without saying, or what a client may answer.
---     computed answer      the facts of an answer as computed values, at their places
 use Rattle.std.specs.Prelude.{ℕ, ◌≡◌, Option, List, [], map}
 use Rattle.std.specs.List.{Contains}
 use Rattle.pm_props.specs.declared.object_type.ObjectType.{ObjectType}
@@ -16,6 +15,7 @@ use Rattle.pm_object.specs.declared.held.Origin.TheVariants.{Given, Computed}
 abbrev pub computed_at : Option ℕ → PropId → PropertyValue → HeldValue
 computed_at sub p v = record { place = place_of sub p; property = p; value = v; origin = Computed }
 
+-- the facts of an answer as computed values, at their places
 abbrev pub computed : List Fact → List HeldValue
 computed answer = map (λ f. record { place = f.place; property = f.property; value = f.value; origin = Computed }) answer
 

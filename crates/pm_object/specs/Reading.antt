@@ -1,10 +1,4 @@
 -- What a client may read, and what it answers.
---     ViewSeen      the type and the column count of an object, the kind of a client, the program that is asked if one is, and the values of the kind's sources
---     view_for o sub kind n      the view of the object, of n columns, for a client of the kind, where this program is asked if one is
---     fact_of p facts      the value of the first fact of the property
---     DraftSeen      the kind that a draft is for, and the values that were put, in order
---     drafted p values      the value that was put for the property
---     answer_of sub draft      the values of the targets as facts, in the order of the properties' numbers
 use Rattle.std.specs.Prelude.{ℕ, suc, ◌≡◌, IsTrue, Option, Some, None, List, [], ◌∷◌, ◌++◌, nat_le, if◌then◌else◌}
 use Rattle.std.specs.List.{Contains}
 use Rattle.pm_props.specs.declared.object_type.ObjectType.{ObjectType}
@@ -19,6 +13,7 @@ use Rattle.pm_props.specs.declared.property.PropId.{PropId}
 use Rattle.pm_object.specs.Honest.{facts}
 use Rattle.pm_object.specs.State.{State, cols_of, is_held, read_at}
 
+-- the type and the column count of an object, the kind of a client, the program that is asked if one is, and the values of the kind's sources
 pub record ViewSeen : Type 0 where
   pub of : ObjectType
   pub cols : ℕ
@@ -26,6 +21,7 @@ pub record ViewSeen : Type 0 where
   pub sub : Option ℕ
   pub facts : List Fact
 
+-- the view of the object, of n columns, for a client of the kind, where this program is asked if one is
 abbrev pub view_for : State → Option ℕ → Kind → ℕ → ViewSeen
 view_for o sub kind n = record { of = o.of; cols = n; kind = kind; sub = sub; facts = shown kind sub (facts o.held) }
 
@@ -43,6 +39,7 @@ pub record IsView (v : ViewSeen) : Type 0 where
   pub forms : (f : Fact) → Contains v.facts f → FormsIn v.of v.cols f.property f.value
   pub in_use : IsKindOf v.sub v.of v.kind
 
+-- the value of the first fact of the property
 abbrev pub fact_of : PropId → List Fact → Option PropertyValue
 fact_of p [] = None
 fact_of p (f ∷ facts) = if same_property p f.property then Some f.value else fact_of p facts
@@ -52,10 +49,12 @@ pub record Put : Type 0 where
   pub property : PropId
   pub value : PropertyValue
 
+-- the kind that a draft is for, and the values that were put, in order
 pub record DraftSeen : Type 0 where
   pub kind : Kind
   pub values : List Put
 
+-- the value that was put for the property
 abbrev pub drafted : PropId → List Put → Option PropertyValue
 drafted p [] = None
 drafted p (x ∷ values) = if same_property p x.property then Some x.value else drafted p values
@@ -78,5 +77,6 @@ abbrev pub answer_at : Option ℕ → List PropId → List Put → List Fact
 answer_at sub [] values = []
 answer_at sub (p ∷ ps) values = fact_at sub p (drafted p values) ++ answer_at sub ps values
 
+-- the values of the targets as facts, in the order of the properties' numbers
 abbrev pub answer_of : Option ℕ → DraftSeen → List Fact
 answer_of sub draft = answer_at sub (members draft.kind.targets) draft.values

@@ -1,19 +1,4 @@
 -- An object, as contracts see it. A place is None for the object itself, and the number of a linear program for that program of it.
---     HeldValue      a place, a property, its value, and how the value came to be held
---     RoundSeen      a round: the place that was asked, the weight, the chain's rules, and how it ended
---     State      the object's type, its held values in order, the excluded rules, the rounds, and the disabled labels
---     ObjectSeen      the state, and for how many values more the object has memory
---     read_at sub held      the values that are read by who asks this program, if one is asked: the object's own, and that program's
---     value_of p held, is_held p held      the value of a property, if it is held
---     names_of held      the names that are held
---     is_sealed o      a round was started for the object
---     cols_of held      CONE_AMBIENT_DIM if it is held, else the first column count that a held value states; None where none does
---     agrees n p v      the value's columns, or its ambient dimension, do not differ from n
---     take_refusal o p v      the first reason not to take the value, in the order in which it is asked, before its primitive rows are asked for
---     CanTake o p v      there is none, and the primitive rows are made within the range
---     CannotTake o p v e      e is that reason; where there is none the value is no such thing, as some primitive row is not made within the range
---     settling_names o      what goes without saying of an object without rounds, where it is not held
---     settling o      these, as given values: the column count (1 where it is unknown), and matrices without rows
 use Rattle.std.specs.Prelude.{ℕ, ◌≡◌, ◌⊎◌, ◌||◌, ◌&&◌, Bool, true, false, not, Option, Some, None, List, [], ◌∷◌, ◌++◌, filter, length, map, nat_eq, if◌then◌else◌}
 use Rattle.std.specs.Str.{bytes_eq}
 use Rattle.std.specs.Option.{is_some, unwrap_or}
@@ -36,18 +21,21 @@ use Rattle.pm_object.specs.declared.held.TakeFail.{TakeFail}
 use Rattle.pm_object.specs.declared.held.TakeFail.TheVariants as refused
 use lib.IntN.{pos}
 
+-- a place, a property, its value, and how the value came to be held
 pub record HeldValue : Type 0 where
   pub place : Option ℕ
   pub property : PropId
   pub value : PropertyValue
   pub origin : Origin
 
+-- a round: the place that was asked, the weight, the chain's rules, and how it ended
 pub record RoundSeen : Type 0 where
   pub sub : Option ℕ
   pub weight : Cost
   pub chain : List RuleId
   pub end : RoundEnd
 
+-- the object's type, its held values in order, the excluded rules, the rounds, and the disabled labels
 pub record State : Type 0 where
   pub of : ObjectType
   pub held : List HeldValue
@@ -55,6 +43,7 @@ pub record State : Type 0 where
   pub rounds : List RoundSeen
   pub disabled : List (List ℕ)
 
+-- the state, and for how many values more the object has memory
 pub record ObjectSeen : Type 0 where
   pub state : State
   pub spare : ℕ
@@ -62,9 +51,11 @@ pub record ObjectSeen : Type 0 where
 abbrev pub empty_object : ObjectType → State
 empty_object of = record { of = of; held = []; excluded = []; rounds = []; disabled = [] }
 
+-- the values that are read by who asks this program, if one is asked: the object's own, and that program's
 abbrev pub read_at : Option ℕ → List HeldValue → List HeldValue
 read_at sub held = filter (λ h. same_place h.place (place_of sub h.property)) held
 
+-- value_of p held, is_held p held: the value of a property, if it is held
 abbrev pub value_of : PropId → List HeldValue → Option PropertyValue
 value_of p [] = None
 value_of p (h ∷ held) = if same_property p h.property then Some h.value else value_of p held
@@ -72,9 +63,11 @@ value_of p (h ∷ held) = if same_property p h.property then Some h.value else v
 abbrev pub is_held : PropId → List HeldValue → Bool
 is_held p held = is_some (value_of p held)
 
+-- the names that are held
 abbrev pub names_of : List HeldValue → PropSet
 names_of held = set_of (map (λ h. h.property) held)
 
+-- a round was started for the object
 abbrev pub is_sealed : State → Bool
 is_sealed o = not (nat_eq (length o.rounds) 0)
 
@@ -95,13 +88,16 @@ abbrev pub or_else : Option ℕ → Option ℕ → Option ℕ
 or_else None other = other
 or_else (Some n) other = Some n
 
+-- CONE_AMBIENT_DIM if it is held, else the first column count that a held value states; None where none does
 abbrev pub cols_of : List HeldValue → Option ℕ
 cols_of held = or_else (ambient_in (value_of ConeAmbientDim held)) (first_cols held)
 
+-- the value's columns, or its ambient dimension, do not differ from n
 abbrev pub agrees : Option ℕ → PropId → PropertyValue → Bool
 agrees None p v = true
 agrees (Some n) p v = agrees_with n p v
 
+-- the first reason not to take the value, in the order in which it is asked, before its primitive rows are asked for
 abbrev pub take_refusal : State → PropId → PropertyValue → Option TakeFail
 take_refusal o p v = if is_held p (read_at None o.held) then Some refused.AlreadyHeld
     else if is_sealed o then Some refused.Sealed
@@ -110,9 +106,11 @@ take_refusal o p v = if is_held p (read_at None o.held) then Some refused.Alread
     else if not (are_rows o.of p v) then Some refused.NotAThing
     else None
 
+-- there is none, and the primitive rows are made within the range
 abbrev pub CanTake : State → PropId → PropertyValue → Type 0
 CanTake o p v = (take_refusal o p v ≡ None) × HavePrimitiveRows v
 
+-- e is that reason; where there is none the value is no such thing, as some primitive row is not made within the range
 abbrev pub CannotTake : State → PropId → PropertyValue → TakeFail → Type 0
 CannotTake o p v refused.NotAThing = (take_refusal o p v ≡ Some refused.NotAThing) ⊎ ((take_refusal o p v ≡ None) × ¬ (HavePrimitiveRows v))
 CannotTake o p v e = take_refusal o p v ≡ Some e
@@ -142,6 +140,7 @@ names_to_settle held =
     ++ only_if (is_held Vertices held && not (is_held Points held) && not (is_held Inequalities held) && not (is_held Facets held && is_held AffineHull held) && not (is_held LinealitySpace held)) LinealitySpace
     ++ only_if (is_held Facets held && not (is_held Points held) && not (is_held Inequalities held) && not (is_held Vertices held) && not (is_held AffineHull held)) AffineHull
 
+-- what goes without saying of an object without rounds, where it is not held
 abbrev pub settling_names : State → List PropId
 settling_names o = if is_sealed o then [] else names_to_settle o.held
 
@@ -152,5 +151,6 @@ settled_value n p = matrix 0 []
 abbrev pub settled : ℕ → PropId → HeldValue
 settled n p = record { place = None; property = p; value = settled_value n p; origin = Given }
 
+-- these, as given values: the column count (1 where it is unknown), and matrices without rows
 abbrev pub settling : State → List HeldValue
 settling o = map (settled (unwrap_or (cols_of o.held) 1)) (settling_names o)

@@ -1,7 +1,4 @@
 -- What a planner answers.
---     IsPlan book names barred held asked chain weight table      a least chain, what it weighs, and its table
---     IsCrowded book names barred held asked table      the first 65,536 rows of a table that would have more
---     HasNoPlan book names barred held asked table      there is no chain, and the table has all sets that useful rules reach
 use Rattle.std.specs.Prelude.{◌≡◌, ◌≢◌, ◌≤◌, List, length, All, AllPairs}
 use Rattle.pm_props.specs.declared.set.PropSet.{PropSet}
 use Rattle.pm_props.specs.declared.kind.RuleId.{RuleId}
@@ -16,6 +13,7 @@ use Rattle.pm_plan.specs.declared.answer.PlanEnd.{PlanEnd}
 use Rattle.pm_plan.specs.declared.answer.PlanEnd.TheVariants as the_end
 use Rattle.pm_plan.specs.Searches.{most_rows}
 
+-- a least chain, what it weighs, and its table
 pub record IsPlan (book : List Rule) (names : PropSet) (barred : List RuleId) (held asked : PropSet) (chain : List RuleId) (weight : Cost) (table : List TableRow) : Type 0 where
   pub least : IsLeast book names barred held asked chain
   pub useful : AreUseful book names barred asked chain
@@ -24,6 +22,7 @@ pub record IsPlan (book : List Rule) (names : PropSet) (barred : List RuleId) (h
   pub certificate : IsCertificate book names barred held asked (Least weight) table
   pub few : length table ≤ most_rows
 
+-- there is no chain, and the table has all sets that useful rules reach
 pub record HasNoPlan (book : List Rule) (names : PropSet) (barred : List RuleId) (held asked : PropSet) (table : List TableRow) : Type 0 where
   pub none : HasNoChain book names barred held asked
   pub exact : IsTable book names barred held asked NoChain table
@@ -34,6 +33,7 @@ pub record HasNoPlan (book : List Rule) (names : PropSet) (barred : List RuleId)
 abbrev pub IsBelowChains : List Rule → PropSet → List RuleId → PropSet → PropSet → Cost → Type 0
 IsBelowChains book names barred held asked cost = (chain : List RuleId) → LeadsTo book names barred held asked chain → IsBelow cost (weigh book chain)
 
+-- the first 65,536 rows of a table that would have more
 -- one row for each set that a chain of useful rules reaches before the next row, and the next row is one more such set, below every chain to the asked names
 pub record IsCrowded (book : List Rule) (names : PropSet) (barred : List RuleId) (held asked : PropSet) (table : List TableRow) : Type 0 where
   pub full : length table ≡ most_rows

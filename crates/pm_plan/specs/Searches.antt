@@ -1,9 +1,4 @@
 -- What holds while sets of names are settled in order.
---     place_cmp a b      the order of places: by cost, and then by the set as a number
---     cost_known s set, IsWaiting s row, link_waiting s row      what the maps of a search say
---     Offered asked s row      a row that is met is known at no more cost, or the goal is if it has all asked names
---     IsSound moves start asked s      all that is met is reached by moves, the rows are in order, and what waits comes after them
---     IsClosed moves asked s      all that the moves lead to from the rows is met
 use Rattle.std.specs.Prelude.{◌≡◌, ◌≢◌, ◌<◌, ◌≤◌, ◌⊎◌, ℕ, length, slice_get, Option, Some, None, IsSome, IfSome, IsSomeAnd, List, [], ◌∷◌, ◌++◌, AllPairs, Contains}
 use Rattle.std.specs.declared.cmp.Ordering.{Ordering}
 use Rattle.std.specs.Ordering.{nat_cmp, ordering_then}
@@ -22,12 +17,14 @@ use Rattle.pm_plan.specs.declared.search.Search.{Search}
 use Rattle.pm_plan.specs.Moves.{after}
 use Rattle.pm_plan.specs.Tracks.{LinksTo, AreLinked}
 
+-- the order of places: by cost, and then by the set as a number
 abbrev pub place_cmp : Place → Place → Ordering
 place_cmp a b = ordering_then (ordering_then (nat_cmp a.cost.class b.cost.class) (nat_cmp a.cost.minor b.cost.minor)) (nat_cmp a.set b.set)
 
 abbrev pub place_of : TableRow → Place
 place_of row = record { cost = row.cost; set = row.set }
 
+-- cost_known s set, IsWaiting s row, link_waiting s row: what the maps of a search say
 abbrev pub cost_known : Search → PropSet → Option Cost
 cost_known s set = get nat_cmp s.known set
 
@@ -42,9 +39,11 @@ HasGoal s cost = IsSomeAnd s.goal (λ g. IsAtMost g.row.cost cost)
 abbrev pub IsKnown : Search → TableRow → Type 0
 IsKnown s row = IsSomeAnd (cost_known s row.set) (λ cost. IsAtMost cost row.cost)
 
+-- a row that is met is known at no more cost, or the goal is if it has all asked names
 abbrev pub Offered : PropSet → Search → TableRow → Type 0
 Offered asked s row = (IsSubset asked row.set × HasGoal s row.cost) ⊎ IsKnown s row
 
+-- all that is met is reached by moves, the rows are in order, and what waits comes after them
 pub record IsSound (moves : List Move) (start : TableRow) (asked : PropSet) (s : Search) : Type 0 where
   pub linked : AreLinked moves start s.rows.items s.links.items
   pub ordered : AllPairs IsBefore s.rows.items
@@ -57,6 +56,7 @@ pub record IsSound (moves : List Move) (start : TableRow) (asked : PropSet) (s :
   pub goal_linked : IfSome s.goal (λ g. LinksTo moves start s.rows.items g.link g.row × IsSubset asked g.row.set)
   pub goal_above : (row : TableRow) → Contains s.rows.items row → IfSome s.goal (λ g. IsBelow row.cost g.row.cost)
 
+-- all that the moves lead to from the rows is met
 abbrev pub IsClosed : List Move → PropSet → Search → Type 0
 IsClosed moves asked s = (row : TableRow) → Contains s.rows.items row → (m : Move) → Contains moves m → IsOpen m.step row.set → Offered asked s (after row m)
 

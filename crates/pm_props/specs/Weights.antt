@@ -1,9 +1,4 @@
 -- Weights of rules and costs of chains: pairs of a class and a minor, compared by class and then by minor.
---     IsWeight w      each part is from 0 to 1,000,000, and not both are 0
---     plus cost w      the cost with a weight added to it
---     no_cost      the cost of a chain without rules
---     IsBelow a b, IsAtMost a b      the order of costs
---     weight_text w, cost_text c      the minor alone where the class is 0, else CLASS.MINOR
 use Rattle.std.specs.Prelude.{◌≡◌, ℕ, ◌+◌, ◌<◌, ◌≤◌, ◌⊎◌, ◌==◌, if◌then◌else◌, List, ◌∷◌, ◌++◌}
 use Rattle.std.specs.Fmt.{decimal}
 use Rattle.pm_props.specs.declared.weight.Weight.{Weight}
@@ -13,17 +8,21 @@ use Rattle.pm_props.specs.declared.weight.Cost.{Cost}
 abbrev pub most : ℕ
 most = 1000000
 
+-- each part is from 0 to 1,000,000, and not both are 0
 pub record IsWeight (w : Weight) : Type 0 where
   pub class : w.class ≤ most
   pub minor : w.minor ≤ most
   pub some : 0 < w.class + w.minor
 
+-- the cost of a chain without rules
 abbrev pub no_cost : Cost
 no_cost = record { class = 0; minor = 0 }
 
+-- the cost with a weight added to it
 abbrev pub plus : Cost → Weight → Cost
 plus c w = record { class = c.class + w.class; minor = c.minor + w.minor }
 
+-- IsBelow a b, IsAtMost a b: the order of costs
 abbrev pub IsBelow : Cost → Cost → Type 0
 IsBelow a b = (a.class < b.class) ⊎ ((a.class ≡ b.class) × (a.minor < b.minor))
 
@@ -34,6 +33,7 @@ IsAtMost a b = (a.class < b.class) ⊎ ((a.class ≡ b.class) × (a.minor ≤ b.
 abbrev pub pair_text : ℕ → ℕ → List ℕ
 pair_text class minor = if class == 0 then decimal minor else decimal class ++ 46 ∷ decimal minor
 
+-- weight_text w, cost_text c: the minor alone where the class is 0, else CLASS.MINOR
 abbrev pub weight_text : Weight → List ℕ
 weight_text w = pair_text w.class w.minor
 

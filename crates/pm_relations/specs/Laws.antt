@@ -1,5 +1,4 @@
 -- Laws of dimensions: what determines them, and how they are found from other values that are right.
---     OneValue p t      two right values of the property are equal
 use Rattle.std.specs.Prelude.{ℕ, ◌≡◌, ◌↔◌, IsTrue, Bool, List, ◌++◌, length, map}
 use Rattle.pm_algebra.specs.Numbers.{Ratio}
 use Rattle.pm_algebra.specs.Rows.{Row}
@@ -17,6 +16,7 @@ use Rattle.pm_props.specs.declared.property.PropId.{PropId}
 use Rattle.pm_props.specs.declared.property.PropId.TheVariants.{Points, InputLineality, Inequalities, Equations, Vertices, LinealitySpace, Facets, AffineHull, ConeDim, LinealityDim, CombinatorialDim, Feasible, Pointed, FullDim}
 use lib.IntN.{ℤ, pos, ◌-ℤ◌}
 
+-- two right values of the property are equal
 abbrev pub OneValue : PropId → Thing → Type 0
 OneValue p t = (v w : PropertyValue) (o r : Orders) (c d : List Ratio) → Right p v t o c → Right p w t r d → v ≡ w
 

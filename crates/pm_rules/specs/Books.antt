@@ -1,7 +1,4 @@
 -- Books of rules.
---     IsRule rule      what holds of each rule of a book
---     IsBook rules      what holds of a book: at most 256 rules, no label twice
---     FirstKinds kinds rules      the kind of each rule is the first of its name among these
 use Rattle.std.specs.Prelude.{◌≡◌, ◌≢◌, ℕ, ◌^◌, ◌<◌, ◌≤◌, false, IsTrue, List, Some, length, find, map, All, AllPairs}
 use Rattle.std.specs.Str.{bytes_eq}
 use Rattle.pm_props.specs.declared.property.PropId.{PropId}
@@ -27,6 +24,7 @@ pub record IsNamed (set : PropSet) : Type 0 where
   pub some : 0 < set
   pub below : set < 2 ^ 48
 
+-- what holds of each rule of a book
 pub record IsRule (rule : Rule) : Type 0 where
   pub label : IsTrue (is_label rule.label)
   pub client : IsTrue (is_word rule.kind.name)
@@ -41,11 +39,13 @@ pub record IsRule (rule : Rule) : Type 0 where
   pub must_below : rule.must < 2 ^ 48
   pub must_not_below : rule.must_not < 2 ^ 48
 
+-- what holds of a book: at most 256 rules, no label twice
 pub record IsBook (rules : List Rule) : Type 0 where
   pub few : length rules ≤ most_rules
   pub labels : AllPairs (λ a b. a.label ≢ b.label) rules
   pub each : All IsRule rules
 
+-- the kind of each rule is the first of its name among these
 abbrev pub FirstKinds : List Kind → List Rule → Type 0
 FirstKinds kinds rules = All (λ rule. find (λ kind. bytes_eq kind.name rule.kind.name) kinds ≡ Some rule.kind) rules
 

@@ -1,8 +1,4 @@
 -- What a table shows about chains, and the table that a planner answers.
---     Within claim cost      it is less than the least cost, or there is no chain
---     IsCertificate book names barred held asked claim table      the table proves the claim
---     IsTable book names barred held asked claim table      exactly one row for each set that a chain of useful rules reaches
---         within the claim, with the least cost of such a chain, in order of cost and then of the set as a number
 use Rattle.std.specs.Prelude.{◌≡◌, ◌≢◌, ◌<◌, ◌⊎◌, Some, List, All, Any, AllPairs, Contains}
 use Rattle.pm_props.specs.declared.set.PropSet.{PropSet}
 use Rattle.pm_props.specs.declared.kind.RuleId.{RuleId}
@@ -16,6 +12,7 @@ use Rattle.pm_rules.specs.declared.table.Claim.TheVariants.{Least, NoChain}
 use Rattle.pm_rules.specs.Rules.{rule_at, IsEnabled}
 use Rattle.pm_rules.specs.Chains.{IsChain, reached, weigh, IsUseful, AreUseful}
 
+-- it is less than the least cost, or there is no chain
 abbrev pub Within : Claim → Cost → Type 0
 Within (Least least) cost = IsBelow cost least
 Within NoChain cost = Unit {0}
@@ -29,6 +26,7 @@ EndsClaim NoChain cost = ⊥
 abbrev pub HasRow : List TableRow → PropSet → Cost → Type 0
 HasRow table set cost = Any (λ row. (row.set ≡ set) × IsAtMost row.cost cost) table
 
+-- the table proves the claim
 pub record IsCertificate (book : List Rule) (names : PropSet) (barred : List RuleId) (held asked : PropSet) (claim : Claim) (table : List TableRow) : Type 0 where
   pub start : Within claim no_cost → Contains table (record { set = held; cost = no_cost })
   pub steps : All (λ row. Within claim row.cost → (id : RuleId) (rule : Rule) → rule_at book id ≡ Some rule → IsUseful book names barred asked id rule
@@ -47,6 +45,7 @@ pub record Reaches (book : List Rule) (names : PropSet) (barred : List RuleId) (
 abbrev pub IsBefore : TableRow → TableRow → Type 0
 IsBefore a b = IsBelow a.cost b.cost ⊎ ((a.cost ≡ b.cost) × (a.set < b.set))
 
+-- exactly one row for each set that a chain of useful rules reaches within the claim, with the least cost of such a chain, in order of cost and then of the set as a number
 pub record IsTable (book : List Rule) (names : PropSet) (barred : List RuleId) (held asked : PropSet) (claim : Claim) (table : List TableRow) : Type 0 where
   pub reached : All (λ row. Within claim row.cost × ((chain : List RuleId) × Reaches book names barred held asked row chain)) table
   pub whole : (row : TableRow) (chain : List RuleId) → Reaches book names barred held asked row chain → Within claim row.cost → HasRow table row.set row.cost

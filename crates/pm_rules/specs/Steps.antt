@@ -1,8 +1,4 @@
 -- What a rule asks of the names held, as sets.
---     Tag, tag_test tag p      one of the four tags; the property has it
---     blocked rule      all properties that have a tag in which the rule's kind is fresh
---     step_of rule      its targets, what it reads, and what may not be held
---     IsOpen step held      what is read is held, nothing is held that may not be, and some target is not held
 use Rattle.std.specs.Prelude.{◌≡◌, Bool, false, not, ◌&&◌, ◌||◌, IsTrue, filter}
 use Rattle.std.specs.List.{list_any}
 use Rattle.pm_props.specs.declared.property.PropId.{PropId}
@@ -16,6 +12,7 @@ use Rattle.pm_rules.specs.declared.step.Tag.TheVariants.{Rays, Facets, Generator
 use Rattle.pm_rules.specs.declared.step.Step.{Step}
 use Rattle.pm_rules.specs.Rules.{inputs}
 
+-- Tag, tag_test tag p: one of the four tags; the property has it
 abbrev pub tag_test : Tag → PropId → Bool
 tag_test Rays p = rays_tag p
 tag_test Facets p = facets_tag p
@@ -44,12 +41,15 @@ has_some_tag rays facets generators half_spaces p =
 abbrev pub blocks : Kind → PropId → Bool
 blocks kind = has_some_tag (is_fresh Rays kind) (is_fresh Facets kind) (is_fresh Generators kind) (is_fresh HalfSpaces kind)
 
+-- all properties that have a tag in which the rule's kind is fresh
 unfoldable pub blocked : Kind → PropSet
 blocked kind = set_of (filter (blocks kind) every_property)
 
+-- its targets, what it reads, and what may not be held
 abbrev pub step_of : Rule → Step
 step_of rule = record { targets = rule.kind.targets; inputs = inputs rule; blocked = blocked rule.kind }
 
+-- what is read is held, nothing is held that may not be, and some target is not held
 pub record IsOpen (step : Step) (held : PropSet) : Type 0 where
   pub given : IsSubset step.inputs held
   pub free : (p : PropId) → IsTrue (has held p) → has step.blocked p ≡ false

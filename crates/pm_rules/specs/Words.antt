@@ -1,11 +1,9 @@
 -- The words of which books are made.
---     is_letter b, is_digit b, is_word_byte b      a letter or `_`; a digit; a letter, a digit, `_` or `.`
---     is_word text      a letter or `_`, and then letters, digits, `_` or `.`
---     is_label text      a word of at most 32 bytes without `.` that is not `precondition`
 use Rattle.std.specs.Prelude.{ℕ, Bool, false, not, ◌&&◌, ◌||◌, ◌==◌, List, [], ◌∷◌, length, nat_le, codes}
 use Rattle.std.specs.List.{list_all}
 use Rattle.std.specs.Str.{bytes_eq}
 
+-- is_letter b, is_digit b, is_word_byte b: a letter or `_`; a digit; a letter, a digit, `_` or `.`
 -- A to Z, a to z, and `_`
 abbrev pub is_letter : ℕ → Bool
 is_letter b = (nat_le 65 b && nat_le b 90) || ((nat_le 97 b && nat_le b 122) || b == 95)
@@ -16,6 +14,7 @@ is_digit b = nat_le 48 b && nat_le b 57
 abbrev pub is_word_byte : ℕ → Bool
 is_word_byte b = is_letter b || (is_digit b || b == 46)
 
+-- a letter or `_`, and then letters, digits, `_` or `.`
 abbrev pub is_word : List ℕ → Bool
 is_word [] = false
 is_word (b ∷ bs) = is_letter b && list_all is_word_byte bs
@@ -23,5 +22,6 @@ is_word (b ∷ bs) = is_letter b && list_all is_word_byte bs
 abbrev pub precondition_word : List ℕ
 precondition_word = codes "precondition"
 
+-- a word of at most 32 bytes without `.` that is not `precondition`
 abbrev pub is_label : List ℕ → Bool
 is_label text = is_word text && (nat_le (length text) 32 && (list_all (λ b. not (b == 46)) text && not (bytes_eq text precondition_word)))

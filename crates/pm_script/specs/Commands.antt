@@ -1,13 +1,6 @@
 -- The commands that lines speak. A REF is NAME, or NAME.SUB for the part SUB of an object.
---     new REF TYPE          makes an object
---     take REF PROP JSON    gives it a value: the JSON text is all that stands after the third space, one byte at least
---     give REF PROP         asks for a value
---     lookup REF PROP       asks for a value that is held
+-- `new REF TYPE` makes an object; `take REF PROP JSON` gives it a value, and the JSON text is all that stands after the third space, one byte at least; `give REF PROP` asks for a value, and `lookup REF PROP` for one that is held.
 -- A line of spaces and tabs alone, or whose first byte is #, is blank. Any other line is no command, and so is one that is no UTF-8.
---     RefSeen, Spoken      a REF, and a command, by the bytes of its words
---     ref_of word      the REF that the word is
---     command_of text      the command that the line speaks
---     spoken c      what the code's command says
 use Rattle.std.specs.Prelude.{ℕ, ◌&&◌, List, [], ◌∷◌, string_bytes, Option, Some, None, option_map, option_and_then, if◌then◌else◌, codes}
 use Rattle.std.specs.List.{before_first, after_first}
 use Rattle.std.specs.Str.{is_utf8, bytes_eq}
@@ -17,10 +10,12 @@ use Rattle.pm_script.specs.declared.command.Ref.{Ref}
 use Rattle.pm_script.specs.declared.command.Command.{Command}
 use Rattle.pm_script.specs.declared.command.Command.TheVariants.{Blank, New, Take, Give, Lookup}
 
+-- a REF, by the bytes of its words
 pub record RefSeen : Type 0 where
   pub name : List ℕ
   pub sub : Option (List ℕ)
 
+-- a command, by the bytes of its words
 pub data Spoken : Type 0 where
   blank : Spoken
   new_object : RefSeen → List ℕ → Spoken
@@ -31,6 +26,7 @@ pub data Spoken : Type 0 where
 abbrev pub part_of : List ℕ → List ℕ → Option RefSeen
 part_of name sub = if is_name name && is_name sub then Some (record { name = name; sub = Some sub }) else None
 
+-- the REF that the word is
 abbrev pub ref_of : List ℕ → Option RefSeen
 ref_of word = if is_name word then Some (record { name = word; sub = None }) else part_of (before_first is_dot word) (after_first is_dot word)
 
@@ -72,6 +68,7 @@ line_of first words =
     else (if bytes_eq first (codes "lookup") then lookup_line words
     else None)))
 
+-- the command that the line speaks
 abbrev pub command_of : List ℕ → Option Spoken
 command_of text = if is_silent text then Some blank else (if is_utf8 text then line_of (first_word text) (rest text) else None)
 
@@ -79,6 +76,7 @@ command_of text = if is_silent text then Some blank else (if is_utf8 text then l
 abbrev pub seen_ref : Ref → RefSeen
 seen_ref r = record { name = string_bytes r.name; sub = option_map string_bytes r.sub }
 
+-- what the code's command says
 abbrev pub spoken : Command → Spoken
 spoken Blank = blank
 spoken (New obj of) = new_object (seen_ref obj) (string_bytes of)

@@ -1,8 +1,4 @@
 -- The grammar of lines: the texts that speak a command, by cases.
---     ref_text r      NAME, or NAME.SUB
---     is_ref r      each part is a name
---     IsLine text line words      the text is UTF-8, it is this line, and the words are such
---     Speaks text s      the line speaks the command s
 use Rattle.std.specs.Prelude.{ℕ, ◌≡◌, ◌&&◌, ◌++◌, Bool, true, IsTrue, List, length, nat_le, Option, Some, None, codes}
 use Rattle.std.specs.Str.{IsUtf8}
 use Rattle.pm_script.specs.Commands.{RefSeen, Spoken, blank, new_object, take_value, give_value, look_up}
@@ -13,6 +9,7 @@ abbrev pub part_text : List ℕ → Option (List ℕ) → List ℕ
 part_text name None = name
 part_text name (Some sub) = name ++ codes "." ++ sub
 
+-- NAME, or NAME.SUB
 abbrev pub ref_text : RefSeen → List ℕ
 ref_text r = part_text r.name r.sub
 
@@ -20,14 +17,17 @@ abbrev pub is_sub : Option (List ℕ) → Bool
 is_sub None = true
 is_sub (Some sub) = is_name sub
 
+-- each part is a name
 abbrev pub is_ref : RefSeen → Bool
 is_ref r = is_name r.name && is_sub r.sub
 
+-- the text is UTF-8, it is this line, and the words are such
 pub record IsLine (text line : List ℕ) (words : Bool) : Type 0 where
   pub utf8 : IsUtf8 text
   pub same : text ≡ line
   pub allowed : IsTrue words
 
+-- the line speaks the command s
 abbrev pub Speaks : List ℕ → Spoken → Type 0
 Speaks text blank = IsTrue (is_silent text)
 Speaks text (new_object obj of) = IsLine text (codes "new " ++ ref_text obj ++ codes " " ++ of) (is_ref obj && is_type_word of)

@@ -1,8 +1,4 @@
 -- What is replied to a command.
---     ReplySeen      done; shows name of p v, the value v of the property p of the object of that name and type; undef, where no value is held; refused, and why
---     seen r      what the code's reply says
---     reply_text r      the reply's line, with its LF
---     is_refusal r      the reply is a refusal
 use Rattle.std.specs.Prelude.{ℕ, List, ◌++◌, Bool, true, false, string_bytes, codes}
 use Rattle.pm_props.specs.declared.object_type.ObjectType.{ObjectType}
 use Rattle.pm_props.specs.Properties.{name_in}
@@ -17,12 +13,14 @@ use Rattle.pm_script.specs.declared.refusal.ValueWhy.TheVariants.{Json, Shape, N
 use Rattle.pm_script.specs.declared.reply.Reply.{Reply}
 use Rattle.pm_script.specs.declared.reply.Reply.TheVariants as reply
 
+-- done; shows name of p v, the value v of the property p of the object of that name and type; undef, where no value is held; refused, and why
 pub data ReplySeen : Type 0 where
   done : ReplySeen
   shows : List ℕ → ObjectType → PropId → PropertyValue → ReplySeen
   undef : ReplySeen
   refused : Refusal → ReplySeen
 
+-- what the code's reply says
 abbrev pub seen : Reply → ReplySeen
 seen reply.Done = done
 seen (reply.Value name of p v) = shows (string_bytes name) of p (view_of v)
@@ -51,12 +49,14 @@ refusal_text Sealed = codes "8 Sealed"
 refusal_text ObjectsFull = codes "9 ObjectsFull"
 refusal_text NoChain = codes "10 NoChain"
 
+-- the reply's line, with its LF
 abbrev pub reply_text : ReplySeen → List ℕ
 reply_text done = codes "ok\n"
 reply_text (shows name of p v) = name ++ codes " " ++ name_in of p ++ codes " " ++ value_text v ++ codes "\n"
 reply_text undef = codes "undef\n"
 reply_text (refused why) = codes "no " ++ refusal_text why ++ codes "\n"
 
+-- the reply is a refusal
 abbrev pub is_refusal : ReplySeen → Bool
 is_refusal done = false
 is_refusal (shows name of p v) = false

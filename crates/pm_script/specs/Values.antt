@@ -1,7 +1,4 @@
 -- Values as JSON texts, without spaces.
---     array_text pieces      [..] of these pieces, with commas between them
---     cols_text n      {"cols":n}
---     value_text v      the value: fractions and infinities as texts; a matrix with its column count only where it has no rows and a stated one; sets always with their column count; whole numbers and truth values as they are
 use Rattle.std.specs.Prelude.{ℕ, zero, suc, List, [], ◌∷◌, ◌++◌, Bool, true, false, map, codes, decimal}
 use Rattle.std.specs.Fmt.{signed_decimal}
 use Rattle.pm_algebra.specs.Numbers.{Ratio}
@@ -22,12 +19,14 @@ abbrev pub each_then_comma : List (List ℕ) → List ℕ
 each_then_comma [] = []
 each_then_comma (p ∷ pieces) = p ++ codes "," ++ each_then_comma pieces
 
+-- [..] of these pieces, with commas between them
 abbrev pub array_text : List (List ℕ) → List ℕ
 array_text pieces = codes "[" ++ with_commas pieces ++ codes "]"
 
 abbrev pub quoted : List ℕ → List ℕ
 quoted text = codes "\"" ++ text ++ codes "\""
 
+-- {"cols":n}
 abbrev pub cols_text : ℕ → List ℕ
 cols_text n = codes "{\"cols\":" ++ decimal n ++ codes "}"
 
@@ -57,6 +56,7 @@ extended_text (finite q) = text_of q
 extended_text plus_infinity = codes "inf"
 extended_text minus_infinity = codes "-inf"
 
+-- the value: fractions and infinities as texts; a matrix with its column count only where it has no rows and a stated one; sets always with their column count; whole numbers and truth values as they are
 abbrev pub value_text : PropertyValue → List ℕ
 value_text (matrix n rows) = matrix_text n rows
 value_text (sets rows n) = sets_text rows n

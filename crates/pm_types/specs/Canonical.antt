@@ -1,9 +1,4 @@
 -- When a value that a client found is canonical for a thing. VERTICES, LINEALITY_SPACE, FACETS and AFFINE_HULL have a canonical form; each right value of another property is canonical.
---     IsEchelonBasisOf n S R P      R, with pivot columns P, is the echelon basis of the rows in S
---     IsRayRow t r x      the row r of fractions stands for the primitive whole row x: for a polytope divided so that the first coordinate is 1 where that is not 0, else as it is
---     AreCanonical n S is_row IsFreshOrder rows      the rows stand for primitive whole rows with zeros at the pivot columns of the echelon basis of S (the lineality, or the rows that vanish), ascending where their order is fresh
---     IsEchelonMatrix n S rows      the rows are the echelon basis of S
---     IsCanonical kind p v t      a value v of p that a client of this kind found
 use Rattle.std.specs.Prelude.{ℕ, ◌≡◌, ◌<◌, List, [], ◌∷◌, length, map}
 use Rattle.std.specs.List.{All, AllPairs}
 use Rattle.pm_algebra.specs.Divisors.{IsPrimitive}
@@ -24,6 +19,7 @@ use Rattle.pm_props.specs.declared.property.PropId.{PropId}
 use Rattle.pm_props.specs.declared.property.PropId.TheVariants.{Vertices, LinealitySpace, Facets, AffineHull}
 use lib.IntN.{pos}
 
+-- R, with pivot columns P, is the echelon basis of the rows in S
 pub record IsEchelonBasisOf (n : ℕ) (S : Row → Type 0) (R : List Row) (P : List ℕ) : Type 0 where
   pub basis : IsBasis n S R
   pub echelon : IsEchelonBasis n R P
@@ -32,6 +28,7 @@ pub record IsDivided (t : Thing) (x : Row) : Type 0 where
   pub polytope : t.of ≡ Polytope
   pub first : ¬ (entry x 0 ≡ pos 0)
 
+-- the row r of fractions stands for the primitive whole row x: for a polytope divided so that the first coordinate is 1 where that is not 0, else as it is
 pub record IsRayRow (t : Thing) (r : List Ratio) (x : Row) : Type 0 where
   pub stands : Stands r x
   pub divided : IsDivided t x → ratio_at r 0 ≡ over_one (pos 1)
@@ -44,6 +41,7 @@ EachIs R [] (x ∷ xs) = ⊥
 EachIs R (r ∷ rows) [] = ⊥
 EachIs R (r ∷ rows) (x ∷ xs) = R r x × EachIs R rows xs
 
+-- the rows stand for primitive whole rows with zeros at the pivot columns of the echelon basis of S (the lineality, or the rows that vanish), ascending where their order is fresh
 pub record AreCanonical (n : ℕ) (S : Row → Type 0) (is_row : List Ratio → Row → Type 0) (IsFreshOrder : Type 0) (rows : List (List Ratio)) : Type 0 where
   pub lines : List Row
   pub pivots : List ℕ
@@ -54,6 +52,7 @@ pub record AreCanonical (n : ℕ) (S : Row → Type 0) (is_row : List Ratio → 
   pub reduced : All (VanishAt pivots) xs
   pub ascending : IsFreshOrder → AllPairs IsBefore xs
 
+-- the rows are the echelon basis of S
 pub record IsEchelonMatrix (n : ℕ) (S : Row → Type 0) (rows : List (List Ratio)) : Type 0 where
   pub lines : List Row
   pub pivots : List ℕ
@@ -63,6 +62,7 @@ pub record IsEchelonMatrix (n : ℕ) (S : Row → Type 0) (rows : List (List Rat
 abbrev pub Vanishing : Thing → Row → Type 0
 Vanishing t = Vanishes t.cols t.generators t.lines
 
+-- a value v of p that a client of this kind found
 abbrev pub IsCanonical : Kind → PropId → PropertyValue → Thing → Type 0
 IsCanonical kind Vertices (matrix n rows) t = AreCanonical t.cols (InLines t) (IsRayRow t) (IsFresh rays_tag kind) rows
 IsCanonical kind LinealitySpace (matrix n rows) t = IsEchelonMatrix t.cols (InLines t) rows

@@ -1,20 +1,4 @@
 -- Which properties commands accept so far, and which values have the form of their property.
---     is_built p      commands accept the property; a book may name every property
---     is_columned p      its matrices have the thing's n columns
---     stated_cols p v      the column count of an n-column matrix that has rows or a stated one, 0 for other values
---     is_formed p v      the value has the form of a value of p, and keeps the limits:
---         a matrix has at most 2,048 rows of one length from 1 to 33; without rows it may state no column count, 0
---         at most 2,048 sets, each ascending, of indices below a column count of at most 2,048
---         CONE_AMBIENT_DIM is from 1 to 33, other whole numbers have 64 bits
---         values of further kinds have no form yet
---     agrees_with n p v      the value's columns, or the dimension that it states, do not differ from n
---     is_row of p r, are_rows of p v      the row, each row of the value, passes the tests of rows of that property
---     HasPrimitiveRow r      the primitive row of r is made within the range: so is, column by column, each least common multiple of the denominators so far,
---         and then, column by column, each numerator over the last of these
---     rows_in v      the rows of a matrix; none of other values
---     AreFractions v      each entry is in lowest terms, with both parts in the range
---     HavePrimitiveRows v      so is it for each row
---     FormsIn of n p v      a value that an object of this type with n columns may hold
 use Rattle.std.specs.Prelude.{ℕ, zero, suc, ◌||◌, ◌&&◌, ◌^◌, Bool, true, false, not, IsTrue, List, [], ◌∷◌, length, nat_eq, nat_le, nat_lt, if◌then◌else◌}
 use Rattle.std.specs.List.{All, list_all}
 use Rattle.pm_algebra.specs.Numbers.{Ratio}
@@ -63,6 +47,7 @@ has_64_bits (negsuc n) = nat_lt n (2 ^ 63)
 abbrev pub is_whole_form : PropId → ℤ → Bool
 is_whole_form p k = if is_ambient p then is_dimension k else is_of_whole_numbers (value_kind p) && has_64_bits k
 
+-- the value has the form of a value of p, and keeps the limits: a matrix has at most 2,048 rows of one length from 1 to 33; without rows it may state no column count, 0 at most 2,048 sets, each ascending, of indices below a column count of at most 2,048 CONE_AMBIENT_DIM is from 1 to 33, other whole numbers have 64 bits values of further kinds have no form yet
 abbrev pub is_formed : PropId → PropertyValue → Bool
 is_formed p (matrix n rows) = is_of_matrices (value_kind p) && is_matrix_form n rows
 is_formed p (sets rows n) = is_of_sets (value_kind p) && is_sets_form rows n
@@ -75,6 +60,7 @@ abbrev pub cols_in : PropertyValue → ℕ
 cols_in (matrix n rows) = n
 cols_in v = 0
 
+-- the column count of an n-column matrix that has rows or a stated one, 0 for other values
 abbrev pub stated_cols : PropId → PropertyValue → ℕ
 stated_cols p v = if is_columned p then cols_in v else 0
 
@@ -86,6 +72,7 @@ abbrev pub states : ℕ → PropertyValue → Bool
 states n (whole k) = is_number k n
 states n v = true
 
+-- the value's columns, or the dimension that it states, do not differ from n
 abbrev pub agrees_with : ℕ → PropId → PropertyValue → Bool
 agrees_with n p v = if is_ambient p then states n v else nat_eq (stated_cols p v) 0 || nat_eq (stated_cols p v) n
 
@@ -118,6 +105,7 @@ passes of test.Ray r = not (is_zero_row r)
 passes of test.NotZero r = not (is_zero_row r)
 passes of test r = true
 
+-- is_row of p r, are_rows of p v: the row, each row of the value, passes the tests of rows of that property
 -- it passes the test of rows of that property
 abbrev pub is_row : ObjectType → PropId → List Ratio → Bool
 is_row of p r = passes of (row p).test r
@@ -126,20 +114,25 @@ abbrev pub are_rows : ObjectType → PropId → PropertyValue → Bool
 are_rows of p (matrix n rows) = list_all (is_row of p) rows
 are_rows of p v = true
 
+-- the primitive row of r is made within the range: so is, column by column, each least common multiple of the denominators so far, and then, column by column, each numerator over the last of these
 pub record HasPrimitiveRow (r : List Ratio) : Type 0 where
   pub denominators : DenominatorsStay r (length r)
   pub numerators : (m : ℕ) → IsLeastDenominator r (length r) m → NumeratorsStay r m (length r)
 
+-- the rows of a matrix; none of other values
 abbrev pub rows_in : PropertyValue → List (List Ratio)
 rows_in (matrix n rows) = rows
 rows_in v = []
 
+-- each entry is in lowest terms, with both parts in the range
 abbrev pub AreFractions : PropertyValue → Type 0
 AreFractions v = All (All IsFraction) (rows_in v)
 
+-- so is it for each row
 abbrev pub HavePrimitiveRows : PropertyValue → Type 0
 HavePrimitiveRows v = All HasPrimitiveRow (rows_in v)
 
+-- a value that an object of this type with n columns may hold
 pub record FormsIn (of : ObjectType) (n : ℕ) (p : PropId) (v : PropertyValue) : Type 0 where
   pub formed : IsTrue (is_formed p v)
   pub columns : IsTrue (agrees_with n p v)

@@ -1,21 +1,4 @@
 -- When a value of a property is right for a thing t with orders o. Each property has one line of `Right`; c is the objective of the program that a value belongs to.
---     InSet t x      x is in the cone of a cone or polytope
---     InLines t x      x is in the thing's lineality, for a fan the one of all its cones
---     SameRay t v x, SameFacet t a b      they are alike up to positive scale and lineality, up to positive scale and vanishing rows
---     StandFor rows xs      each whole row of xs is a positive multiple of the row of fractions at its place
---     InOrder R vs xs      as many, and R holds at each place
---     IsBasis n S xs      independent rows of n entries that lie in S and span it
---     IsConeDim t d      the generators and lines of a cone or polytope span a space of dimension d
---     HasDimension n S d      some basis of the rows of n entries in S has d rows
---     IsLinealityDim t d      the lineality has dimension d
---     IsCombinatorialDim t k      k is the first less the second, less 1
---     IsIncidence F V rows      row i holds exactly the places j with F_i.V_j = 0
---     vanishing F v, tight V a      how many rows of F vanish on v, and on how many rows of V the row a vanishes
---     Solves A E x      x has a non-negative product with each row of A, and the product 0 with each row of E
---     Generates t P L, CutsOut t A E      the pair of lists describes the thing
---     Right p v t o c      the value v of the property p is right; a value of another form is never right
---     RightTogether t x y      two facts that are the halves of one pair (POINTS with INPUT_LINEALITY, INEQUALITIES with EQUATIONS) describe the thing
---     RightAll facts t o      t is a thing, o are orders of it, each fact is right and each two are right together
 -- A half alone is right where the pair's line would make it so: what generates lies inside, what cuts out is valid.
 use Rattle.std.specs.Prelude.{ℕ, zero, suc, ◌+◌, ◌≡◌, ◌<◌, ◌↔◌, IsTrue, Option, None, Some, List, [], ◌∷◌, ◌++◌, length, map}
 use Rattle.std.specs.List.{All, AllPairs, Contains}
@@ -35,6 +18,7 @@ use Rattle.pm_props.specs.declared.property.PropId.TheVariants.{ConeAmbientDim, 
 use lib.IntN.{ℤ, pos, ◌-ℤ◌}
 use lib.Signed.{◌<ℤ◌, ◌≤ℤ◌}
 
+-- x is in the cone of a cone or polytope
 abbrev pub InSet : Thing → Row → Type 0
 InSet t x = InCone t.generators t.lines x
 
@@ -43,6 +27,7 @@ InLinesOf Polytope G L x = InLineality (InCone G L) x
 InLinesOf Cone G L x = InLineality (InCone G L) x
 InLinesOf Fan G L x = InSpan L x
 
+-- x is in the thing's lineality, for a fan the one of all its cones
 abbrev pub InLines : Thing → Row → Type 0
 InLines t x = InLinesOf t.of t.generators t.lines x
 
@@ -51,41 +36,49 @@ SameRayOf Polytope n G L v x = SameModulo n (InCone G L) v x
 SameRayOf Cone n G L v x = SameModulo n (InCone G L) v x
 SameRayOf Fan n G L v x = SameModulo n (InSpan L) v x
 
+-- SameRay t v x, SameFacet t a b: they are alike up to positive scale and lineality, up to positive scale and vanishing rows
 abbrev pub SameRay : Thing → Row → Row → Type 0
 SameRay t v x = SameRayOf t.of t.cols t.generators t.lines v x
 
 abbrev pub SameFacet : Thing → Row → Row → Type 0
 SameFacet t a b = SameModulo t.cols (IsValid t.cols t.generators t.lines) a b
 
+-- each whole row of xs is a positive multiple of the row of fractions at its place
 abbrev pub StandFor : List (List Ratio) → List Row → Type 0
 StandFor [] [] = Unit {0}
 StandFor [] (x ∷ xs) = ⊥
 StandFor (r ∷ rows) [] = ⊥
 StandFor (r ∷ rows) (x ∷ xs) = Stands r x × StandFor rows xs
 
+-- as many, and R holds at each place
 abbrev pub InOrder : (Row → Row → Type 0) → List Row → List Row → Type 0
 InOrder R [] [] = Unit {0}
 InOrder R [] (x ∷ xs) = ⊥
 InOrder R (v ∷ vs) [] = ⊥
 InOrder R (v ∷ vs) (x ∷ xs) = R v x × InOrder R vs xs
 
+-- independent rows of n entries that lie in S and span it
 pub record IsBasis (n : ℕ) (S : Row → Type 0) (xs : List Row) : Type 0 where
   pub cols : HasCols n xs
   pub inside : All S xs
   pub independent : IsIndependent xs
   pub spans : (x : Row) → length x ≡ n → S x → InSpan xs x
 
+-- the generators and lines of a cone or polytope span a space of dimension d
 abbrev pub IsConeDim : Thing → ℕ → Type 0
 IsConeDim t d = IsRank (t.generators ++ t.lines) d
 
+-- some basis of the rows of n entries in S has d rows
 pub record HasDimension (n : ℕ) (S : Row → Type 0) (d : ℕ) : Type 0 where
   pub rows : List Row
   pub basis : IsBasis n S rows
   pub as_many : length rows ≡ d
 
+-- the lineality has dimension d
 abbrev pub IsLinealityDim : Thing → ℕ → Type 0
 IsLinealityDim t d = HasDimension t.cols (InLines t) d
 
+-- k is the first less the second, less 1
 pub record IsCombinatorialDim (t : Thing) (k : ℤ) : Type 0 where
   pub cone : ℕ
   pub lineality : ℕ
@@ -93,6 +86,7 @@ pub record IsCombinatorialDim (t : Thing) (k : ℤ) : Type 0 where
   pub is_lineality : IsLinealityDim t lineality
   pub less : k ≡ pos cone -ℤ pos lineality -ℤ pos 1
 
+-- row i holds exactly the places j with F_i.V_j = 0
 abbrev pub IsIncidence : List Row → List Row → List (List ℕ) → Type 0
 IsIncidence [] V [] = Unit {0}
 IsIncidence [] V (r ∷ rows) = ⊥
@@ -103,6 +97,7 @@ abbrev pub one_if_zero : ℤ → ℕ
 one_if_zero (pos zero) = 1
 one_if_zero k = 0
 
+-- vanishing F v, tight V a: how many rows of F vanish on v, and on how many rows of V the row a vanishes
 abbrev pub vanishing : List Row → Row → ℕ
 vanishing [] v = 0
 vanishing (f ∷ F) v = one_if_zero (dot f v) + vanishing F v
@@ -111,10 +106,12 @@ abbrev pub tight : List Row → Row → ℕ
 tight [] a = 0
 tight (v ∷ V) a = one_if_zero (dot a v) + tight V a
 
+-- x has a non-negative product with each row of A, and the product 0 with each row of E
 pub record Solves (A E : List Row) (x : Row) : Type 0 where
   pub inequalities : CutOut A x
   pub equations : All (λ e. dot e x ≡ pos 0) E
 
+-- Generates t P L, CutsOut t A E: the pair of lists describes the thing
 pub record Generates (t : Thing) (P L : List Row) : Type 0 where
   pub same : (x : Row) → length x ≡ t.cols → InSet t x ↔ InCone P L x
 
@@ -159,6 +156,7 @@ pub record IsCentered (t : Thing) : Type 0 where
   pub inside : (e : Row) → length e ≡ t.cols → entry e 0 ≡ pos 1 → ((i : ℕ) → entry e (suc i) ≡ pos 0) → InSet t e
   pub positive : (a : Row) → IsValid t.cols t.generators t.lines a → ¬ (Vanishes t.cols t.generators t.lines a) → pos 0 <ℤ entry a 0
 
+-- the value v of the property p is right; a value of another form is never right
 abbrev pub Right : PropId → PropertyValue → Thing → Orders → List Ratio → Type 0
 Right ConeAmbientDim (whole k) t o c = k ≡ pos t.cols
 Right Points (matrix n rows) t o c = RowsAre t (InSet t) rows
@@ -211,9 +209,11 @@ RightPair Points (matrix n rows) InputLineality (matrix m lines) t = PairGenerat
 RightPair Inequalities (matrix n rows) Equations (matrix m equations) t = PairCutsOut t rows equations
 RightPair p v q w t = Unit {0}
 
+-- two facts that are the halves of one pair (POINTS with INPUT_LINEALITY, INEQUALITIES with EQUATIONS) describe the thing
 abbrev pub RightTogether : Thing → Fact → Fact → Type 0
 RightTogether t x y = RightPair x.property x.value y.property y.value t
 
+-- t is a thing, o are orders of it, each fact is right and each two are right together
 pub record RightAll (facts : List Fact) (t : Thing) (o : Orders) : Type 0 where
   pub thing : IsThing t
   pub orders : AreOrders t o

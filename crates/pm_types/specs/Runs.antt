@@ -1,15 +1,4 @@
 -- What a client of a kind may read and answer, where an object holds facts. `sub` is the subobject that is asked, if one is.
---     place_of sub p      where a property stands: in the subobject where it is one of linear programs, else in the object itself
---     IsPlaced f      the fact stands where its property may stand
---     Holds facts sub p v      the value v of p is held; seen from the subobject
---     is_named facts sub p      some value of p is held
---     shown kind sub facts      what the client may read: the values of its sources
---     missing sub held answer      what an answer has of properties that are not held
---     Meets kind t o      what the kind asks for is so of the thing
---     Keeps kind o p      the orders p are the orders o, but where the kind is fresh in them
---     states_rows v      where it is a matrix without rows it states no column count
---     MayAnswer of n kind sub read answer      the answer has exactly the targets, each in its form with n columns (none stated without rows) and canonical, and is right wherever what was read is: for every thing of the type with n columns, and all orders, for which what was read is right and the kind's conditions hold, there are orders, the same unless the kind is fresh in them, for which both together are right
---     MayRun kind sub n held      its sources are held, what it asks for is held so, n is held, and nothing that is held has a tag in which the kind is fresh
 use Rattle.std.specs.Prelude.{ℕ, ◌≡◌, ◌&&◌, Bool, true, false, IsTrue, not, nat_eq, if◌then◌else◌, Option, None, Some, List, [], ◌++◌, filter, map}
 use Rattle.std.specs.List.{All, Contains, list_any}
 use Rattle.pm_types.specs.Things.{Thing}
@@ -28,28 +17,35 @@ use Rattle.pm_props.specs.declared.property.PropId.{PropId}
 use Rattle.pm_props.specs.declared.property.PropId.TheVariants.{ConeAmbientDim}
 use lib.IntN.{pos}
 
+-- the fact stands where its property may stand
 pub record IsPlaced (f : Fact) : Type 0 where
   pub alone : has_program f.property ≡ false → f.place ≡ None
 
 abbrev pub stands_at : Option ℕ → PropId → Fact → Bool
 stands_at sub p f = same_property p f.property && same_place f.place (place_of sub p)
 
+-- the value v of p is held; seen from the subobject
 abbrev pub Holds : List Fact → Option ℕ → PropId → PropertyValue → Type 0
 Holds facts sub p v = Contains facts (record { place = place_of sub p; property = p; value = v })
 
+-- some value of p is held
 abbrev pub is_named : List Fact → Option ℕ → PropId → Bool
 is_named facts sub p = list_any (stands_at sub p) facts
 
+-- what the client may read: the values of its sources
 abbrev pub shown : Kind → Option ℕ → List Fact → List Fact
 shown kind sub facts = filter (λ f. has kind.sources f.property && same_place f.place (place_of sub f.property)) facts
 
+-- what an answer has of properties that are not held
 abbrev pub missing : Option ℕ → List Fact → List Fact → List Fact
 missing sub held answer = filter (λ f. not (is_named held sub f.property)) answer
 
+-- what the kind asks for is so of the thing
 pub record Meets (kind : Kind) (t : Thing) (o : Orders) : Type 0 where
   pub must : (p : PropId) → IsTrue (has kind.must p) → Right p (truth true) t o []
   pub must_not : (p : PropId) → IsTrue (has kind.must_not p) → Right p (truth false) t o []
 
+-- the orders p are the orders o, but where the kind is fresh in them
 pub record Keeps (kind : Kind) (o p : Orders) : Type 0 where
   pub rays : ¬ (IsFresh rays_tag kind) → p.rays ≡ o.rays
   pub facets : ¬ (IsFresh facets_tag kind) → p.facets ≡ o.facets
@@ -60,10 +56,12 @@ pub record RightAnswer (kind : Kind) (read answer : List Fact) (t : Thing) (o : 
   pub right : RightAll (read ++ answer) t orders
   pub keeps : Keeps kind o orders
 
+-- where it is a matrix without rows it states no column count
 abbrev pub states_rows : PropertyValue → Bool
 states_rows (matrix n []) = nat_eq n 0
 states_rows v = true
 
+-- the answer has exactly the targets, each in its form with n columns (none stated without rows) and canonical, and is right wherever what was read is: for every thing of the type with n columns, and all orders, for which what was read is right and the kind's conditions hold, there are orders, the same unless the kind is fresh in them, for which both together are right
 pub record MayAnswer (of : ObjectType) (n : ℕ) (kind : Kind) (sub : Option ℕ) (read answer : List Fact) : Type 0 where
   pub targets : map (λ f. f.property) answer ≡ members kind.targets
   pub places : All (λ f. f.place ≡ place_of sub f.property) answer
@@ -75,6 +73,7 @@ pub record MayAnswer (of : ObjectType) (n : ℕ) (kind : Kind) (sub : Option ℕ
 pub record IsFree (tag : PropId → Bool) (kind : Kind) (held : List Fact) : Type 0 where
   pub none : IsFresh tag kind → (f : Fact) → Contains held f → tag f.property ≡ false
 
+-- its sources are held, what it asks for is held so, n is held, and nothing that is held has a tag in which the kind is fresh
 pub record MayRun (kind : Kind) (sub : Option ℕ) (n : ℕ) (held : List Fact) : Type 0 where
   pub placed : (f : Fact) → Contains held f → IsPlaced f
   pub ambient : Holds held sub ConeAmbientDim (whole (pos n))

@@ -1,11 +1,4 @@
 -- Values of properties, as the definitions see them, and facts: a value of a property, of the object itself or of its program at a place.
---     matrix n rows      rows of fractions; n is the stated column count, 0 where none is stated
---     sets rows n      ascending rows of indices below n
---     whole k, truth b      a whole number, a truth value
---     extended x      a fraction, or one of both infinities
---     edges rows      for each node of a graph its neighbours
---     lattice ranks      for each rank the faces, as sets of indices
---     counts ks      a list of whole numbers
 use Rattle.std.specs.Prelude.{ℕ, Bool, List, Option}
 use Rattle.pm_algebra.specs.Numbers.{Ratio}
 use Rattle.pm_props.specs.declared.property.PropId.{PropId}
@@ -22,13 +15,21 @@ pub data Extended : Type 0 where
   minus_infinity : Extended
 
 pub data PropertyValue : Type 0 where
+  -- rows of fractions; n is the stated column count, 0 where none is stated
   matrix : ℕ → List (List Ratio) → PropertyValue
+  -- ascending rows of indices below n
   sets : List (List ℕ) → ℕ → PropertyValue
+  -- a whole number
   whole : ℤ → PropertyValue
+  -- a truth value
   truth : Bool → PropertyValue
+  -- a fraction, or one of both infinities
   extended : Extended → PropertyValue
+  -- for each node of a graph its neighbours
   edges : List (List ℕ) → PropertyValue
+  -- for each rank the faces, as sets of indices
   lattice : List (List (List ℕ)) → PropertyValue
+  -- a list of whole numbers
   counts : List ℤ → PropertyValue
 
 pub record Fact : Type 0 where

@@ -1,6 +1,4 @@
 -- The code's values as values of properties, and whole numbers as fractions over 1.
---     over_one k, ratios x      k/1, and so for each entry of a row
---     view_of v      the value
 use Rattle.std.specs.Prelude.{List, map}
 use Rattle.pm_algebra.specs.Numbers.{Ratio}
 use Rattle.pm_algebra.specs.Rows.{Row}
@@ -9,12 +7,14 @@ use Rattle.pm_types.specs.declared.value.Value.{Value}
 use Rattle.pm_types.specs.declared.value.Value.TheVariants as value
 use lib.IntN.{ℤ, pos}
 
+-- over_one k, ratios x: k/1, and so for each entry of a row
 abbrev pub over_one : ℤ → Ratio
 over_one k = record { num = k; den = pos 1 }
 
 abbrev pub ratios : Row → List Ratio
 ratios x = map over_one x
 
+-- the value
 abbrev pub view_of : Value → PropertyValue
 view_of (value.Mat m) = matrix m.cols m.rows
 view_of (value.Sets s) = sets s.rows s.cols
