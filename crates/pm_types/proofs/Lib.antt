@@ -19,3 +19,8 @@ pub mod KindLemmas
 pub mod PrimitiveStanding
 pub mod WholeRows
 pub mod Twins
+pub mod StandingExamples
+pub mod EchelonExamples
+pub mod RayExamples
+pub mod OrderExamples
+pub mod BipyramidExamples

@@ -13,3 +13,5 @@ pub mod Views
 pub mod Forms
 pub mod Canonical
 pub mod Laws
+pub mod RayExamples
+pub mod BipyramidExamples

@@ -126,3 +126,37 @@ pub fn law_facets_cut_out()
 pub fn law_right_answer_is_kept()
     ensures { RightAnswerIsKept }
 {}
+
+// Examples of right values and of values that are not right.
+ghost use Rattle.pm_types.specs.BipyramidExamples.{BipyramidCountsAreRead};
+ghost use Rattle.pm_types.specs.RayExamples.{EmptyValuesAreRead, HalfLineValuesAreRead, LineDimensionsAreRead, SegmentsAreRead, SquareIsBounded};
+
+/// What is right for the half line from 0, and what is not.
+pub fn example_half_line_values()
+    ensures { HalfLineValuesAreRead }
+{}
+
+/// The square is bounded, and has no far vertex.
+pub fn example_square_bounded()
+    ensures { SquareIsBounded }
+{}
+
+/// What is right for the empty polytope, and what is not.
+pub fn example_empty_values()
+    ensures { EmptyValuesAreRead }
+{}
+
+/// What is right for the dimensions of a line in the plane, and what is not.
+pub fn example_line_dimensions()
+    ensures { LineDimensionsAreRead }
+{}
+
+/// Which of three segments are centered.
+pub fn example_segments()
+    ensures { SegmentsAreRead }
+{}
+
+/// How many rays and facets a cone over a bipyramid has, and how many lie on one another.
+pub fn example_bipyramid_counts()
+    ensures { BipyramidCountsAreRead }
+{}
