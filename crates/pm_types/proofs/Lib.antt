@@ -24,3 +24,5 @@ pub mod EchelonExamples
 pub mod RayExamples
 pub mod OrderExamples
 pub mod BipyramidExamples
+pub mod RowExamples
+pub mod RayRowExamples

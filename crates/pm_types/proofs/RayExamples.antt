@@ -71,10 +71,10 @@ far_ascending : (js : List ℕ) (V : List Row) → AreFarPlaces V (map pos js) �
 far_ascending js V h = subst (λ is. AllPairs (λ i j. i < j) is) (sym (map_pos_is js h.js h.places)) h.ascending
 
 -- ---- the half line
-half_line_is_thing : IsThing half_line_thing
+pub half_line_is_thing : IsThing half_line_thing
 half_line_is_thing = record { some_cols = omega arith; few_cols = omega arith; kind = (half_line_is_read.polytope, refl); programs = record { cols = λ s. refl } }
 
-half_line_are_orders : AreOrders half_line_thing half_line_orders
+pub half_line_are_orders : AreOrders half_line_thing half_line_orders
 half_line_are_orders = record { rays = half_line_is_read.rays; facets = half_line_is_read.facets; cones = refl }
 
 pub half_line_pointed : (x : Row) → length x ≡ 2 → InLineality (InCone half_line []) x → IsZero x
@@ -178,11 +178,11 @@ lines = triple 0 1 0 ∷ []
 not_pointed : ¬ ((x : Row) → length x ≡ 3 → InLineality (InCone points lines) x → IsZero x)
 not_pointed f = let e : pos 1 ≡ pos 0 = f (triple 0 1 0) refl (record { inside = in_line here; opposed = in_line_opposite here }) 1 in omega (arith, ints)
 
-below_one : (x : Row) → entry x 0 ≡ pos 0 → (d : ℕ) → d < 1 → entry x d ≡ pos 0
+pub below_one : (x : Row) → entry x 0 ≡ pos 0 → (d : ℕ) → d < 1 → entry x d ≡ pos 0
 below_one x e zero l = e
 below_one x e (suc d) l = absurd (omega arith)
 
-below_two : (x : Row) → entry x 0 ≡ pos 0 → entry x 1 ≡ pos 0 → (d : ℕ) → d < 2 → entry x d ≡ pos 0
+pub below_two : (x : Row) → entry x 0 ≡ pos 0 → entry x 1 ≡ pos 0 → (d : ℕ) → d < 2 → entry x d ≡ pos 0
 below_two x e f zero l = e
 below_two x e f (suc zero) l = f
 below_two x e f (suc (suc d)) l = absurd (omega arith)

@@ -15,3 +15,4 @@ pub mod Canonical
 pub mod Laws
 pub mod RayExamples
 pub mod BipyramidExamples
+pub mod RowExamples

@@ -130,6 +130,7 @@ pub fn law_right_answer_is_kept()
 // Examples of right values and of values that are not right.
 ghost use Rattle.pm_types.specs.BipyramidExamples.{BipyramidCountsAreRead};
 ghost use Rattle.pm_types.specs.RayExamples.{EmptyValuesAreRead, HalfLineValuesAreRead, LineDimensionsAreRead, SegmentsAreRead, SquareIsBounded};
+ghost use Rattle.pm_types.specs.RowExamples.{BasesAreRight, FacetRowsAreRead, GeneratorsAreRead, HalfSpacesAreRead, PairsAreRead, RayRowsAreRead, RowsAreRead};
 
 /// What is right for the half line from 0, and what is not.
 pub fn example_half_line_values()
@@ -159,4 +160,39 @@ pub fn example_segments()
 /// How many rays and facets a cone over a bipyramid has, and how many lie on one another.
 pub fn example_bipyramid_counts()
     ensures { BipyramidCountsAreRead }
+{}
+
+/// Which rows are right for POINTS, INPUT_LINEALITY, INEQUALITIES and EQUATIONS of the half line and of a line.
+pub fn example_rows()
+    ensures { RowsAreRead }
+{}
+
+/// Which points and lines generate the half line, and which a line.
+pub fn example_generators()
+    ensures { GeneratorsAreRead }
+{}
+
+/// Which inequalities and equations cut out the half line, the cone over it, a line and the empty polytope.
+pub fn example_half_spaces()
+    ensures { HalfSpacesAreRead }
+{}
+
+/// Facts that are right together, and facts that are right alone.
+pub fn example_pairs()
+    ensures { PairsAreRead }
+{}
+
+/// Which rows are right for VERTICES: in the order of the rays, up to positive scale and lineality.
+pub fn example_ray_rows()
+    ensures { RayRowsAreRead }
+{}
+
+/// Which rows are right for FACETS: in the order of the facet rows, up to positive scale and rows that vanish.
+pub fn example_facet_rows()
+    ensures { FacetRowsAreRead }
+{}
+
+/// Which rows are right for LINEALITY_SPACE and AFFINE_HULL of a line.
+pub fn example_right_bases()
+    ensures { BasesAreRight }
 {}
