@@ -26,3 +26,5 @@ pub mod OrderExamples
 pub mod BipyramidExamples
 pub mod RowExamples
 pub mod RayRowExamples
+pub mod CanonicalExamples
+pub mod ThingExamples

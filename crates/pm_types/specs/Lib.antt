@@ -16,3 +16,5 @@ pub mod Laws
 pub mod RayExamples
 pub mod BipyramidExamples
 pub mod RowExamples
+pub mod CanonicalExamples
+pub mod ThingExamples

@@ -129,8 +129,10 @@ pub fn law_right_answer_is_kept()
 
 // Examples of right values and of values that are not right.
 ghost use Rattle.pm_types.specs.BipyramidExamples.{BipyramidCountsAreRead};
+ghost use Rattle.pm_types.specs.CanonicalExamples.{CanonicalLinesAreRead, CanonicalOrdersAreRead, CanonicalRowsAreRead, KindsAreFresh};
 ghost use Rattle.pm_types.specs.RayExamples.{EmptyValuesAreRead, HalfLineValuesAreRead, LineDimensionsAreRead, SegmentsAreRead, SquareIsBounded};
 ghost use Rattle.pm_types.specs.RowExamples.{BasesAreRight, FacetRowsAreRead, GeneratorsAreRead, HalfSpacesAreRead, PairsAreRead, RayRowsAreRead, RowsAreRead};
+ghost use Rattle.pm_types.specs.ThingExamples.{ColumnsAreRead, FansAreRead, ThingsAreRead};
 
 /// What is right for the half line from 0, and what is not.
 pub fn example_half_line_values()
@@ -195,4 +197,39 @@ pub fn example_facet_rows()
 /// Which rows are right for LINEALITY_SPACE and AFFINE_HULL of a line.
 pub fn example_right_bases()
     ensures { BasesAreRight }
+{}
+
+/// Which kinds choose the order of the rays, and which that of the facets.
+pub fn example_fresh_kinds()
+    ensures { KindsAreFresh }
+{}
+
+/// An order that a kind chooses is lexicographic; another stays as it is.
+pub fn example_canonical_orders()
+    ensures { CanonicalOrdersAreRead }
+{}
+
+/// Which rows of VERTICES and FACETS are canonical.
+pub fn example_canonical_rows()
+    ensures { CanonicalRowsAreRead }
+{}
+
+/// Rows that are reduced, and echelon bases as matrices.
+pub fn example_canonical_lines()
+    ensures { CanonicalLinesAreRead }
+{}
+
+/// A thing has from 1 to 33 columns.
+pub fn example_columns()
+    ensures { ColumnsAreRead }
+{}
+
+/// Cones and polytopes that are things, and what is none.
+pub fn example_things()
+    ensures { ThingsAreRead }
+{}
+
+/// Fans that are things, and what is none.
+pub fn example_fans()
+    ensures { FansAreRead }
 {}
