@@ -1,10 +1,8 @@
 pub mod Standing
 pub mod Incidence
-pub mod Square
 pub mod StandingSpans
 pub mod Spans
 pub mod Dimensions
-pub mod DimensionExamples
 pub mod Found
 pub mod PrimitiveStanding
 pub mod WholeRows

@@ -1,24 +1,8 @@
-//! How the right values of an object's properties are related: the theorems by which clients find one from others, and
-//! worked examples of what is right. It has no code.
+//! How the right values of an object's properties are related: the theorems by which clients find one from others.
+//! It has no code.
 #![tactic(auto)]
 
-ghost use Rattle.pm_relations.specs.Examples.{EmptyDimensionsAreRead, SquareDimensionsAreRead, SquareSetsAreRead};
 ghost use Rattle.pm_relations.specs.Laws.{CombinatorialDimIsFound, ConeDimIsFound, ConeDimIsLeft, DimensionsAreDetermined, DimensionsExist, EchelonIsRight, FacetsCutOut, FeasibleIsFound, FullDimIsFound, HullIsFound, LinealityDimIsFound, LinealityIsFound, PairSpans, PointedIsFound, VerticesGenerate, VerticesSpan};
-
-/// What is right for VERTICES_IN_FACETS of the unit square, and what is not.
-pub fn example_square_sets()
-    ensures { SquareSetsAreRead }
-{}
-
-/// What is right for the four dimensions of the unit square, and what is not.
-pub fn example_square_dimensions()
-    ensures { SquareDimensionsAreRead }
-{}
-
-/// What is right for the dimensions of the empty polytope.
-pub fn example_empty_dimensions()
-    ensures { EmptyDimensionsAreRead }
-{}
 
 /// There are right values of CONE_DIM and of LINEALITY_DIM.
 pub fn law_dimensions_exist()

@@ -5,7 +5,7 @@ use Rattle.pm_algebra.specs.Rows.{Row, dot}
 use Rattle.pm_geom.proofs.Square.{square_is_read}
 use Rattle.pm_geom.specs.Examples.{square}
 use Rattle.pm_geom.specs.Faces.{ray}
-use Rattle.pm_relations.specs.Examples.{SquareSetsAreRead}
+use Rattle.pm_right_examples.specs.Examples.{SquareSetsAreRead}
 use Rattle.std.proofs.Common.{arith, refl}
 use Rattle.std.proofs.lemmas.Int.{ints}
 use Rattle.std.specs.List.{Contains}

@@ -16,7 +16,7 @@ use Rattle.pm_geom.proofs.Square.{pointed}
 use Rattle.pm_geom.specs.Cones.{InLineality, Vanishes}
 use Rattle.pm_geom.specs.Examples.{square, triple}
 use Rattle.pm_relations.proofs.Dimensions.{dimensions_are_determined}
-use Rattle.pm_relations.specs.Examples.{EmptyDimensionsAreRead, SquareDimensionsAreRead, square_orders, square_thing}
+use Rattle.pm_right_examples.specs.Examples.{EmptyDimensionsAreRead, SquareDimensionsAreRead, square_orders, square_thing}
 use Rattle.pm_types.specs.Right.{HasDimension}
 use Rattle.pm_types.specs.Values.{whole}
 use Rattle.std.proofs.Common.{arith, refl, sym, true≢false, ◌∙◌}

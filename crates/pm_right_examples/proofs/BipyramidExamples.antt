@@ -1,0 +1,207 @@
+-- The cone over a bipyramid: its counts.
+use Rattle.pm_algebra.proofs.ConeLaws.{dot_in, in_cone_set, in_generator}
+use Rattle.pm_algebra.proofs.Lists.{Among, here, there}
+use Rattle.pm_algebra.proofs.Ring.{ring}
+use Rattle.pm_algebra.proofs.RowLaws.{dot-plus, dot-same, dot-times, dot_comm}
+use Rattle.pm_algebra.proofs.Signs.{mul_cancel}
+use Rattle.pm_algebra.specs.Cones.{InCone}
+use Rattle.pm_algebra.specs.Rows.{HasCols, Row, Same, dot, entry, plus, times, opposite}
+use Rattle.pm_geom.proofs.Apart.{apart, lineality_spanned, not_below, not_below_at, order_of_apart, products, without}
+use Rattle.pm_geom.proofs.Facets.{dot-opposite, order_as}
+use Rattle.pm_geom.proofs.ValidRows.{Tables, facet_order, in_valid, valid_in}
+use Rattle.pm_geom.specs.Cones.{CutOut, InLineality, IsOrder, IsValid, SameModulo}
+use Rattle.pm_types.specs.Things.{AreOrders, IsThing}
+use Rattle.pm_geom.specs.Things.{Orders}
+use Rattle.pm_right_examples.proofs.OrderExamples.{orders_length, orders_total, total}
+use Rattle.pm_right_examples.specs.BipyramidExamples.{BipyramidCountsAreRead, bipyramid, bipyramid_orders, bipyramid_thing, four, sides, sizes_of_facets, sizes_of_rays}
+use Rattle.pm_types.specs.Right.{one_if_zero, tight, vanishing}
+use Rattle.std.proofs.Common.{T, ap, arith, refl, sym, ◌∙◌}
+use Rattle.std.proofs.lemmas.Int.{by_lt_z, ints}
+use Rattle.std.specs.Prelude.{List, [], length, map, suc, zero, ℕ, ◌∷◌, ◌≡◌}
+use lib.IntN.{neg_ℤ, negsuc, pos, ℤ, ◌*ℤ◌, ◌+ℤ◌}
+use lib.Signed.{le_z_yes, lt_z_yes, ◌<ℤ◌, ◌≤ℤ◌}
+
+-- ---- rows of four entries
+by_four : (P : Row → Type 0) → ((a b c d : ℤ) → P (four a b c d)) → (x : Row) → length x ≡ 4 → P x
+by_four P f [] l = absurd (omega arith)
+by_four P f (a ∷ []) l = absurd (omega arith)
+by_four P f (a ∷ b ∷ []) l = absurd (omega arith)
+by_four P f (a ∷ b ∷ c ∷ []) l = absurd (omega arith)
+by_four P f (a ∷ b ∷ c ∷ d ∷ []) l = f a b c d
+by_four P f (a ∷ b ∷ c ∷ d ∷ e ∷ x) l = absurd (omega arith)
+
+at_four : (a b c d a' b' c' d' : ℤ) → a ≡ a' → b ≡ b' → c ≡ c' → d ≡ d' → Same (four a b c d) (four a' b' c' d')
+at_four a b c d a' b' c' d' e f g h = record { at = go }
+  where
+    go : (i : ℕ) → entry (four a b c d) i ≡ entry (four a' b' c' d') i
+    go zero = e
+    go (suc zero) = f
+    go (suc (suc zero)) = g
+    go (suc (suc (suc zero))) = h
+    go (suc (suc (suc (suc i)))) = refl
+
+-- ---- the rays and the facets
+rays_cols : HasCols 4 bipyramid
+rays_cols = (refl, (refl, (refl, (refl, (refl, tt)))))
+
+sides_cols : HasCols 4 sides
+sides_cols = (refl, (refl, (refl, (refl, (refl, (refl, tt))))))
+
+ray_needed : (v : Row) (i : Among v bipyramid) → ¬ (InCone (without i) [] v)
+unfolding without
+ray_needed v here = apart _ [] (four (negsuc 0) (pos 1) (pos 0) (pos 0)) _ tt tt tt
+ray_needed v (there here) = apart _ [] (four (pos 1) (negsuc 0) (pos 0) (pos 0)) _ tt tt tt
+ray_needed v (there (there here)) = apart _ [] (four (pos 1) (pos 0) (negsuc 0) (pos 0)) _ tt tt tt
+ray_needed v (there (there (there here))) = apart _ [] (four (pos 0) (pos 0) (pos 0) (negsuc 0)) _ tt tt tt
+ray_needed v (there (there (there (there here)))) = apart _ [] (four (pos 0) (pos 0) (pos 0) (pos 1)) _ tt tt tt
+ray_needed v (there (there (there (there (there i))))) = elim i [ ]
+
+ray_order : IsOrder 4 (InCone bipyramid []) bipyramid
+ray_order = order_of_apart 4 bipyramid [] rays_cols tt (four (pos 2) (pos 2) (pos 2) (pos 1)) tt tt ray_needed
+
+side_needed : (f : Row) (i : Among f sides) → ¬ (InCone (without i) [] f)
+unfolding without
+side_needed f here = apart _ [] (four (negsuc 0) (pos 0) (pos 0) (pos 1)) _ tt tt tt
+side_needed f (there here) = apart _ [] (four (pos 0) (negsuc 0) (pos 0) (pos 1)) _ tt tt tt
+side_needed f (there (there here)) = apart _ [] (four (pos 0) (pos 0) (negsuc 0) (pos 1)) _ tt tt tt
+side_needed f (there (there (there here))) = apart _ [] (four (pos 0) (pos 1) (pos 1) (negsuc 0)) _ tt tt tt
+side_needed f (there (there (there (there here)))) = apart _ [] (four (pos 1) (pos 0) (pos 1) (negsuc 0)) _ tt tt tt
+side_needed f (there (there (there (there (there here))))) = apart _ [] (four (pos 1) (pos 1) (pos 0) (negsuc 0)) _ tt tt tt
+side_needed f (there (there (there (there (there (there i)))))) = elim i [ ]
+
+side_order : IsOrder 4 (InCone sides []) sides
+side_order = order_of_apart 4 sides [] sides_cols tt (four (pos 1) (pos 1) (pos 1) (pos 1)) tt tt side_needed
+
+-- a row within the facets is on the side of the one tip or of the other
+within : (a b c d : ℤ) → CutOut sides (four a b c d) → InCone bipyramid [] (four a b c d)
+within a b c d (p, (q, (r, (s, (t, (u, w)))))) =
+    let p' = simp ring at p in
+    let q' = simp ring at q in
+    let r' = simp ring at r in
+    let s' = simp ring at s in
+    let t' = simp ring at t in
+    let u' = simp ring at u in
+    by_lt_z d (pos 0)
+      (λ h. record {
+        m = pos 1;
+        c = (a +ℤ d) ∷ (b +ℤ d) ∷ (c +ℤ d) ∷ pos 0 ∷ neg_ℤ d ∷ [];
+        d = [];
+        positive = lt_z_yes tt;
+        not_negative = (omega (arith, ints), (omega (arith, ints), (omega (arith, ints), (omega (arith, ints), (omega (arith, ints), tt)))));
+        same = at_four _ _ _ _ _ _ _ _ (simp ring (omega (arith, ints))) (simp ring (omega (arith, ints))) (simp ring (omega (arith, ints))) (simp ring (omega (arith, ints)));
+      })
+      (λ h. record {
+        m = pos 1;
+        c = a ∷ b ∷ c ∷ d ∷ pos 0 ∷ [];
+        d = [];
+        positive = lt_z_yes tt;
+        not_negative = (omega (arith, ints), (omega (arith, ints), (omega (arith, ints), (omega (arith, ints), (omega (arith, ints), tt)))));
+        same = at_four _ _ _ _ _ _ _ _ (simp ring (omega (arith, ints))) (simp ring (omega (arith, ints))) (simp ring (omega (arith, ints))) (simp ring (omega (arith, ints)));
+      })
+
+inside : (x : Row) → length x ≡ 4 → CutOut sides x → Unit {0} → InCone bipyramid [] x
+inside x l c u = by_four (λ y. CutOut sides y → InCone bipyramid [] y) within x l c
+
+signs : Tables bipyramid [] sides []
+signs = record { rows = tt; rows_lines = tt; lines = tt; lines_lines = tt }
+
+facet_rows : IsOrder 4 (IsValid 4 bipyramid []) sides
+facet_rows = facet_order 4 bipyramid [] sides [] rays_cols tt sides_cols tt signs inside side_order
+
+is_thing : IsThing bipyramid_thing
+is_thing = record { some_cols = omega arith; few_cols = omega arith; kind = (record { generators = rays_cols; lines = tt }, refl); programs = record { cols = λ s. refl } }
+
+are_orders : AreOrders bipyramid_thing bipyramid_orders
+are_orders = record { rays = ray_order; facets = facet_rows; cones = refl }
+
+-- ---- any orders
+as_rows : (p : Orders) → AreOrders bipyramid_thing p → IsOrder 4 (InCone sides []) p.facets
+as_rows p o = order_as 4 (IsValid 4 bipyramid []) (InCone sides [])
+    (valid_in 4 bipyramid [] sides [] rays_cols tt sides_cols tt signs inside)
+    (in_valid 4 bipyramid [] sides [] rays_cols tt sides_cols tt signs inside) o.facets
+
+n_rays : (p : Orders) → AreOrders bipyramid_thing p → pos 5 ≡ pos (length p.rays)
+n_rays p o = ap pos (orders_length 4 (InCone bipyramid []) (in_cone_set bipyramid []) bipyramid p.rays ray_order o.rays)
+
+n_facets : (p : Orders) → AreOrders bipyramid_thing p → pos 6 ≡ pos (length p.facets)
+n_facets p o = ap pos (orders_length 4 (InCone sides []) (in_cone_set sides []) sides p.facets side_order (as_rows p o))
+
+-- ---- likeness keeps which products are 0
+module _ (G : List Row) (x : Row) (valid : T (products not_below x G)) where
+  on_line : (w : Row) → InLineality (InCone G []) w → dot x w ≡ pos 0
+  on_line w l =
+      let up = dot_in x G [] (λ g i. not_below_at x i valid) (λ k i. elim i [ ]) l.inside in
+      let down = rw dot-opposite at (dot_in x G [] (λ g i. not_below_at x i valid) (λ k i. elim i [ ]) l.opposed) in
+      omega (arith, ints)
+
+  scaled : (v w : Row) (s : SameModulo 4 (InCone G []) v w) → s.p *ℤ dot x w ≡ s.k *ℤ dot x v
+  scaled v w s =
+      let e = simp (dot-times, dot-plus) at (dot-same x (times s.p w) (plus (times s.k v) s.w) s.same.at) in
+      let z = on_line s.w s.line in
+      omega (arith, ints)
+
+  zero_if : (p q z w : ℤ) → pos 0 <ℤ p → p *ℤ w ≡ q *ℤ z → z ≡ pos 0 → w ≡ pos 0
+  zero_if p q z w h e z0 = mul_cancel h (e ∙ simp (z0, ring) refl)
+
+  pub same_if_zero : (v w : Row) → SameModulo 4 (InCone G []) v w → one_if_zero (dot x v) ≡ one_if_zero (dot x w)
+  same_if_zero v w s = go (dot x v) (dot x w) (λ e. zero_if s.p s.k (dot x v) (dot x w) s.p_positive (scaled v w s) e) (λ e. zero_if s.k s.p (dot x w) (dot x v) s.k_positive (sym (scaled v w s)) e)
+    where
+      go : (z w : ℤ) → (z ≡ pos 0 → w ≡ pos 0) → (w ≡ pos 0 → z ≡ pos 0) → one_if_zero z ≡ one_if_zero w
+      go (pos zero) (pos zero) f g = refl
+      go (pos zero) (pos (suc k)) f g = absurd (let e = f refl in omega (arith, ints))
+      go (pos zero) (negsuc k) f g = absurd (let e = f refl in omega (arith, ints))
+      go (pos (suc k)) (pos zero) f g = absurd (let e = g refl in omega (arith, ints))
+      go (negsuc k) (pos zero) f g = absurd (let e = g refl in omega (arith, ints))
+      go (pos (suc k)) (pos (suc l)) f g = refl
+      go (pos (suc k)) (negsuc l) f g = refl
+      go (negsuc k) (pos (suc l)) f g = refl
+      go (negsuc k) (negsuc l) f g = refl
+
+vanishing_total : (F : List Row) (v : Row) → vanishing F v ≡ total (λ f. one_if_zero (dot v f)) F
+vanishing_total [] v = refl
+vanishing_total (f ∷ F) v = let e = vanishing_total F v in rw (dot_comm f v, e) refl
+
+tight_total : (V : List Row) (a : Row) → tight V a ≡ total (λ v. one_if_zero (dot a v)) V
+tight_total [] a = refl
+tight_total (v ∷ V) a = let e = tight_total V a in rw e refl
+
+vanishing_same : (v : Row) → T (products not_below v sides) → (p : Orders) → AreOrders bipyramid_thing p → vanishing sides v ≡ vanishing p.facets v
+vanishing_same v valid p o =
+    vanishing_total sides v
+    ∙ orders_total 4 (InCone sides []) (in_cone_set sides []) sides p.facets side_order (as_rows p o) (λ f. one_if_zero (dot v f)) (λ f g i j s. same_if_zero sides v valid f g s)
+    ∙ sym (vanishing_total p.facets v)
+
+tight_same : (a : Row) → T (products not_below a bipyramid) → (p : Orders) → AreOrders bipyramid_thing p → tight bipyramid a ≡ tight p.rays a
+tight_same a valid p o =
+    tight_total bipyramid a
+    ∙ orders_total 4 (InCone bipyramid []) (in_cone_set bipyramid []) bipyramid p.rays ray_order o.rays (λ v. one_if_zero (dot a v)) (λ v w i j s. same_if_zero bipyramid a valid v w s)
+    ∙ sym (tight_total p.rays a)
+
+five : (a b c d e a' b' c' d' e' : ℕ) → a ≡ a' → b ≡ b' → c ≡ c' → d ≡ d' → e ≡ e' → pos a ∷ pos b ∷ pos c ∷ pos d ∷ pos e ∷ [] ≡ pos a' ∷ pos b' ∷ pos c' ∷ pos d' ∷ pos e' ∷ []
+five a b c d e a' b' c' d' e' p q r s t = cc
+
+six : (a b c d e f a' b' c' d' e' f' : ℕ) → a ≡ a' → b ≡ b' → c ≡ c' → d ≡ d' → e ≡ e' → f ≡ f' → pos a ∷ pos b ∷ pos c ∷ pos d ∷ pos e ∷ pos f ∷ [] ≡ pos a' ∷ pos b' ∷ pos c' ∷ pos d' ∷ pos e' ∷ pos f' ∷ []
+six a b c d e f a' b' c' d' e' f' p q r s t u = cc
+
+ray_sizes : (p : Orders) → AreOrders bipyramid_thing p → sizes_of_rays ≡ map (λ v. pos (vanishing p.facets v)) bipyramid
+ray_sizes p o = five _ _ _ _ _ _ _ _ _ _ (vanishing_same _ tt p o) (vanishing_same _ tt p o) (vanishing_same _ tt p o) (vanishing_same _ tt p o) (vanishing_same _ tt p o)
+
+facet_sizes : (p : Orders) → AreOrders bipyramid_thing p → sizes_of_facets ≡ map (λ a. pos (tight p.rays a)) sides
+facet_sizes p o = six _ _ _ _ _ _ _ _ _ _ _ _ (tight_same _ tt p o) (tight_same _ tt p o) (tight_same _ tt p o) (tight_same _ tt p o) (tight_same _ tt p o) (tight_same _ tt p o)
+
+five_not_six : sizes_of_facets ≡ sizes_of_rays → ⊥
+five_not_six e = let l = ap length e in omega arith
+
+pub bipyramid_counts_are_read : BipyramidCountsAreRead
+bipyramid_counts_are_read = record {
+  thing = is_thing;
+  orders = are_orders;
+  n_rays = n_rays;
+  n_rays_refused = λ h. let e : pos 6 ≡ pos 5 = h bipyramid_orders are_orders in omega (arith, ints);
+  n_facets = n_facets;
+  n_facets_refused = λ h. let e : pos 5 ≡ pos 6 = h bipyramid_orders are_orders in omega (arith, ints);
+  ray_sizes = ray_sizes;
+  ray_sizes_refused = λ h. five_not_six (h bipyramid_orders are_orders);
+  facet_sizes = facet_sizes;
+  facet_sizes_refused = λ h. five_not_six (sym (h bipyramid_orders are_orders));
+}

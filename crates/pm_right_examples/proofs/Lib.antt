@@ -1,0 +1,11 @@
+pub mod BipyramidExamples
+pub mod CanonicalExamples
+pub mod DimensionExamples
+pub mod EchelonExamples
+pub mod OrderExamples
+pub mod RayExamples
+pub mod RayRowExamples
+pub mod RowExamples
+pub mod Square
+pub mod StandingExamples
+pub mod ThingExamples

@@ -1,0 +1,6 @@
+pub mod BipyramidExamples
+pub mod CanonicalExamples
+pub mod Examples
+pub mod RayExamples
+pub mod RowExamples
+pub mod ThingExamples

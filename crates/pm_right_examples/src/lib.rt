@@ -1,0 +1,125 @@
+//! Worked examples of the definitions of values: which are right for small polytopes, cones and fans, which are canonical,
+//! and which are not. It has no code.
+#![tactic(auto)]
+
+ghost use Rattle.pm_right_examples.specs.BipyramidExamples.{BipyramidCountsAreRead};
+ghost use Rattle.pm_right_examples.specs.CanonicalExamples.{CanonicalLinesAreRead, CanonicalOrdersAreRead, CanonicalRowsAreRead, KindsAreFresh};
+ghost use Rattle.pm_right_examples.specs.Examples.{EmptyDimensionsAreRead, SquareDimensionsAreRead, SquareSetsAreRead};
+ghost use Rattle.pm_right_examples.specs.RayExamples.{EmptyValuesAreRead, HalfLineValuesAreRead, LineDimensionsAreRead, SegmentsAreRead, SquareIsBounded};
+ghost use Rattle.pm_right_examples.specs.RowExamples.{BasesAreRight, FacetRowsAreRead, GeneratorsAreRead, HalfSpacesAreRead, PairsAreRead, RayRowsAreRead, RowsAreRead};
+ghost use Rattle.pm_right_examples.specs.ThingExamples.{ColumnsAreRead, FansAreRead, ThingsAreRead};
+
+/// What is right for VERTICES_IN_FACETS of the unit square, and what is not.
+pub fn example_square_sets()
+    ensures { SquareSetsAreRead }
+{}
+
+/// What is right for the four dimensions of the unit square, and what is not.
+pub fn example_square_dimensions()
+    ensures { SquareDimensionsAreRead }
+{}
+
+/// What is right for the dimensions of the empty polytope.
+pub fn example_empty_dimensions()
+    ensures { EmptyDimensionsAreRead }
+{}
+
+/// What is right for the half line from 0, and what is not.
+pub fn example_half_line_values()
+    ensures { HalfLineValuesAreRead }
+{}
+
+/// The square is bounded, and has no far vertex.
+pub fn example_square_bounded()
+    ensures { SquareIsBounded }
+{}
+
+/// What is right for the empty polytope, and what is not.
+pub fn example_empty_values()
+    ensures { EmptyValuesAreRead }
+{}
+
+/// What is right for the dimensions of a line in the plane, and what is not.
+pub fn example_line_dimensions()
+    ensures { LineDimensionsAreRead }
+{}
+
+/// Which of three segments are centered.
+pub fn example_segments()
+    ensures { SegmentsAreRead }
+{}
+
+/// How many rays and facets a cone over a bipyramid has, and how many lie on one another.
+pub fn example_bipyramid_counts()
+    ensures { BipyramidCountsAreRead }
+{}
+
+/// Which rows are right for POINTS, INPUT_LINEALITY, INEQUALITIES and EQUATIONS of the half line and of a line.
+pub fn example_rows()
+    ensures { RowsAreRead }
+{}
+
+/// Which points and lines generate the half line, and which a line.
+pub fn example_generators()
+    ensures { GeneratorsAreRead }
+{}
+
+/// Which inequalities and equations cut out the half line, the cone over it, a line and the empty polytope.
+pub fn example_half_spaces()
+    ensures { HalfSpacesAreRead }
+{}
+
+/// Facts that are right together, and facts that are right alone.
+pub fn example_pairs()
+    ensures { PairsAreRead }
+{}
+
+/// Which rows are right for VERTICES: in the order of the rays, up to positive scale and lineality.
+pub fn example_ray_rows()
+    ensures { RayRowsAreRead }
+{}
+
+/// Which rows are right for FACETS: in the order of the facet rows, up to positive scale and rows that vanish.
+pub fn example_facet_rows()
+    ensures { FacetRowsAreRead }
+{}
+
+/// Which rows are right for LINEALITY_SPACE and AFFINE_HULL of a line.
+pub fn example_right_bases()
+    ensures { BasesAreRight }
+{}
+
+/// Which kinds choose the order of the rays, and which that of the facets.
+pub fn example_fresh_kinds()
+    ensures { KindsAreFresh }
+{}
+
+/// An order that a kind chooses is lexicographic; another stays as it is.
+pub fn example_canonical_orders()
+    ensures { CanonicalOrdersAreRead }
+{}
+
+/// Which rows of VERTICES and FACETS are canonical.
+pub fn example_canonical_rows()
+    ensures { CanonicalRowsAreRead }
+{}
+
+/// Rows that are reduced, and echelon bases as matrices.
+pub fn example_canonical_lines()
+    ensures { CanonicalLinesAreRead }
+{}
+
+/// A thing has from 1 to 33 columns.
+pub fn example_columns()
+    ensures { ColumnsAreRead }
+{}
+
+/// Cones and polytopes that are things, and what is none.
+pub fn example_things()
+    ensures { ThingsAreRead }
+{}
+
+/// Fans that are things, and what is none.
+pub fn example_fans()
+    ensures { FansAreRead }
+{}
