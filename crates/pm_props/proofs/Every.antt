@@ -1,9 +1,9 @@
 -- Every property stands in the list of all, so a test of that list is a test of all properties; sets made of lists.
-use Rattle.std.proofs.Common.{◌≡◌, zero, suc, true≢false, ℕ, Bool, true, false, not, ◌&&◌, ◌||◌, ◌⊎◌, Some, List, [], ◌∷◌, eqb, fold, filter, refl, subst, sym, ap, ◌∙◌, inl, inr, ◌↔◌, IsTrue}
+use Rattle.std.proofs.Common.{◌≡◌, zero, suc, true≢false, ℕ, Bool, true, false, not, ◌&&◌, ◌||◌, Some, List, [], ◌∷◌, eqb, fold, filter, refl, subst, sym, ap, ◌∙◌, inl, inr, ◌↔◌, IsTrue}
 use Rattle.std.specs.Prelude.{slice_get}
 use Rattle.std.specs.List.{list_all, list_any}
 use Rattle.std.specs.Option.{is_some}
-use Rattle.std.proofs.lemmas.Bool.{cases_Bool, and_parts, and_cases, not-true, not-false, or_cases, or_left, or_right, eqb-true, eq-eqb, false_from_ne_true, both_ways}
+use Rattle.std.proofs.lemmas.Bool.{cases_Bool, and_parts, and_cases, not-true, not-false, eqb-true, eq-eqb, false_from_ne_true, both_ways}
 use Rattle.pm_props.specs.declared.property.PropId.{PropId}
 use Rattle.pm_props.specs.Properties.{number, every_property}
 use Rattle.pm_props.specs.Sets.{has, only, union, set_of, IsSubset}

@@ -6,9 +6,8 @@ use Rattle.pm_props.specs.Properties.{every_property, is_in_use}
 use Rattle.pm_props.specs.Sets.{has}
 use Rattle.pm_props.specs.declared.kind.Kind.{Kind}
 use Rattle.std.proofs.Common.{false, refl, sym, true, true≢false}
-use Rattle.std.proofs.lemmas.Bool.{and_parts}
 use Rattle.std.specs.List.{list_all}
-use Rattle.std.specs.Prelude.{Bool, IsTrue, List, Option, [], not, ℕ, ◌||◌, ◌↔◌, ◌∷◌, ◌≡◌}
+use Rattle.std.specs.Prelude.{Bool, IsTrue, Option, not, ℕ, ◌||◌, ◌↔◌, ◌≡◌}
 
 named_in : (a b : Bool) → (not a || b) ≡ true → a ≡ true → b ≡ true
 named_in true b h k = h

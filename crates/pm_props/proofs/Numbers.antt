@@ -1,7 +1,7 @@
 -- A property is determined by its number.
 use Rattle.pm_props.specs.Properties.{number, property_at}
 use Rattle.pm_props.specs.declared.property.PropId.{PropId}
-use Rattle.std.proofs.Common.{ap, arith, refl, sym, ◌∙◌}
+use Rattle.std.proofs.Common.{ap, arith, sym, ◌∙◌}
 use Rattle.std.specs.Prelude.{None, Option, Some, ◌≡◌}
 
 pub property_at-number : (p : PropId) → property_at (number p) ≡ Some p

@@ -3,7 +3,7 @@ use Rattle.pm_props.proofs.Numbers.{number_is}
 use Rattle.pm_props.specs.Places.{same_place, same_property}
 use Rattle.pm_props.specs.Properties.{number}
 use Rattle.pm_props.specs.declared.property.PropId.{PropId}
-use Rattle.std.proofs.Common.{ap, arith, false, refl, sym, true, true≢false}
+use Rattle.std.proofs.Common.{ap, arith, refl, sym, true, true≢false}
 use Rattle.std.specs.Prelude.{None, Option, Some, nat_eq, ℕ, ◌≡◌}
 
 eq_is : (a b : ℕ) → nat_eq a b ≡ true → a ≡ b

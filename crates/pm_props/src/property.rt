@@ -260,308 +260,107 @@ impl PropertyRow {
 /// How many properties there are.
 pub const COUNT: u8 = 48;
 
+// A row: the number, the first name, the kind of value, the tables, and what differs from a plain property.
+macro_rules! property {
+    ($number:literal $name:literal $kind:ident $tables:ident) => {
+        PropertyRow::plain($number, $name, ValueKind::$kind, Tables::$tables)
+    };
+    ($number:literal $name:literal $kind:ident $tables:ident | $($field:ident: $value:expr),+) => {
+        PropertyRow {
+            $($field: $value,)+
+            ..PropertyRow::plain($number, $name, ValueKind::$kind, Tables::$tables)
+        }
+    };
+}
+
 impl PropId {
     /// The property's row in the table.
     pub fn row(self) -> PropertyRow
         ensures { result ≡ row self }
     {
         match self {
-            PropId::ConeAmbientDim => PropertyRow {
-                fan_name: "FAN_AMBIENT_DIM",
-                columns: Columns::Value,
-                is_accepted: true,
-                ..PropertyRow::plain(0, "CONE_AMBIENT_DIM", ValueKind::Int, Tables::All)
-            },
-            PropId::Points => PropertyRow {
-                cone_name: "INPUT_RAYS",
-                describes: Describes::Generators,
-                is_half: true,
-                columns: Columns::Rows,
-                test: RowTest::Point,
-                is_accepted: true,
-                ..PropertyRow::plain(1, "POINTS", ValueKind::Mat, Tables::PolytopesAndCones)
-            },
-            PropId::InputLineality => PropertyRow {
-                describes: Describes::Generators,
-                is_half: true,
-                columns: Columns::Rows,
-                test: RowTest::Line,
-                is_accepted: true,
-                ..PropertyRow::plain(
-                    2,
-                    "INPUT_LINEALITY",
-                    ValueKind::Mat,
-                    Tables::PolytopesAndCones,
-                )
-            },
-            PropId::Inequalities => PropertyRow {
-                describes: Describes::HalfSpaces,
-                is_half: true,
-                columns: Columns::Rows,
-                is_accepted: true,
-                ..PropertyRow::plain(3, "INEQUALITIES", ValueKind::Mat, Tables::PolytopesAndCones)
-            },
-            PropId::Equations => PropertyRow {
-                describes: Describes::HalfSpaces,
-                is_half: true,
-                columns: Columns::Rows,
-                is_accepted: true,
-                ..PropertyRow::plain(4, "EQUATIONS", ValueKind::Mat, Tables::PolytopesAndCones)
-            },
-            PropId::Vertices => PropertyRow {
-                cone_name: "RAYS",
-                fan_name: "RAYS",
-                speaks_of_rays: true,
-                describes: Describes::Generators,
-                columns: Columns::Rows,
-                test: RowTest::Ray,
-                is_accepted: true,
-                ..PropertyRow::plain(5, "VERTICES", ValueKind::Mat, Tables::All)
-            },
-            PropId::LinealitySpace => PropertyRow {
-                describes: Describes::Generators,
-                columns: Columns::Rows,
-                test: RowTest::Line,
-                is_accepted: true,
-                ..PropertyRow::plain(6, "LINEALITY_SPACE", ValueKind::Mat, Tables::All)
-            },
-            PropId::Facets => PropertyRow {
-                speaks_of_facets: true,
-                describes: Describes::HalfSpaces,
-                columns: Columns::Rows,
-                test: RowTest::NotZero,
-                is_accepted: true,
-                ..PropertyRow::plain(7, "FACETS", ValueKind::Mat, Tables::PolytopesAndCones)
-            },
-            PropId::AffineHull => PropertyRow {
-                cone_name: "LINEAR_SPAN",
-                describes: Describes::HalfSpaces,
-                columns: Columns::Rows,
-                is_accepted: true,
-                ..PropertyRow::plain(8, "AFFINE_HULL", ValueKind::Mat, Tables::PolytopesAndCones)
-            },
-            PropId::VerticesInFacets => PropertyRow {
-                cone_name: "RAYS_IN_FACETS",
-                speaks_of_rays: true,
-                speaks_of_facets: true,
-                is_accepted: true,
-                ..PropertyRow::plain(
-                    9,
-                    "VERTICES_IN_FACETS",
-                    ValueKind::Sets,
-                    Tables::PolytopesAndCones,
-                )
-            },
-            PropId::ConeDim => PropertyRow {
-                is_accepted: true,
-                ..PropertyRow::plain(10, "CONE_DIM", ValueKind::Int, Tables::PolytopesAndCones)
-            },
-            PropId::LinealityDim => PropertyRow {
-                is_accepted: true,
-                ..PropertyRow::plain(11, "LINEALITY_DIM", ValueKind::Int, Tables::All)
-            },
-            PropId::CombinatorialDim => PropertyRow {
-                is_accepted: true,
-                ..PropertyRow::plain(
-                    12,
-                    "COMBINATORIAL_DIM",
-                    ValueKind::Int,
-                    Tables::PolytopesAndCones,
-                )
-            },
-            PropId::NVertices => PropertyRow {
-                cone_name: "N_RAYS",
-                fan_name: "N_RAYS",
-                ..PropertyRow::plain(13, "N_VERTICES", ValueKind::Int, Tables::All)
-            },
-            PropId::NFacets => PropertyRow::plain(
-                14,
-                "N_FACETS",
-                ValueKind::Int,
-                Tables::PolytopesAndCones,
-            ),
-            PropId::Feasible => PropertyRow {
-                is_accepted: true,
-                ..PropertyRow::plain(15, "FEASIBLE", ValueKind::Bool, Tables::Polytopes)
-            },
-            PropId::Bounded => PropertyRow::plain(
-                16,
-                "BOUNDED",
-                ValueKind::Bool,
-                Tables::Polytopes,
-            ),
-            PropId::Pointed => PropertyRow {
-                is_accepted: true,
-                ..PropertyRow::plain(17, "POINTED", ValueKind::Bool, Tables::All)
-            },
-            PropId::FullDim => PropertyRow {
-                is_accepted: true,
-                ..PropertyRow::plain(18, "FULL_DIM", ValueKind::Bool, Tables::PolytopesAndCones)
-            },
-            PropId::Centered => PropertyRow::plain(
-                19,
-                "CENTERED",
-                ValueKind::Bool,
-                Tables::Polytopes,
-            ),
-            PropId::Simple => PropertyRow::plain(
-                20,
-                "SIMPLE",
-                ValueKind::Bool,
-                Tables::PolytopesAndCones,
-            ),
-            PropId::Simplicial => PropertyRow::plain(
-                21,
-                "SIMPLICIAL",
-                ValueKind::Bool,
-                Tables::All,
-            ),
-            PropId::VertexSizes => PropertyRow {
-                cone_name: "RAY_SIZES",
-                speaks_of_rays: true,
-                ..PropertyRow::plain(
-                    22,
-                    "VERTEX_SIZES",
-                    ValueKind::Counts,
-                    Tables::PolytopesAndCones,
-                )
-            },
-            PropId::FacetSizes => PropertyRow {
-                speaks_of_facets: true,
-                ..PropertyRow::plain(
-                    23,
-                    "FACET_SIZES",
-                    ValueKind::Counts,
-                    Tables::PolytopesAndCones,
-                )
-            },
-            PropId::HasseDiagram => PropertyRow {
-                speaks_of_rays: true,
-                ..PropertyRow::plain(
-                    24,
-                    "HASSE_DIAGRAM",
-                    ValueKind::Lattice,
-                    Tables::PolytopesAndCones,
-                )
-            },
-            PropId::FVector => PropertyRow::plain(
-                25,
-                "F_VECTOR",
-                ValueKind::Counts,
-                Tables::PolytopesAndCones,
-            ),
-            PropId::F2Vector => PropertyRow::plain(
-                26,
-                "F2_VECTOR",
-                ValueKind::Mat,
-                Tables::PolytopesAndCones,
-            ),
-            PropId::HVector => PropertyRow::plain(
-                27,
-                "H_VECTOR",
-                ValueKind::Counts,
-                Tables::Polytopes,
-            ),
-            PropId::Graph => PropertyRow {
-                speaks_of_rays: true,
-                ..PropertyRow::plain(28, "GRAPH", ValueKind::Edges, Tables::PolytopesAndCones)
-            },
-            PropId::DualGraph => PropertyRow {
-                speaks_of_facets: true,
-                ..PropertyRow::plain(
-                    29,
-                    "DUAL_GRAPH",
-                    ValueKind::Edges,
-                    Tables::PolytopesAndCones,
-                )
-            },
-            PropId::Diameter => PropertyRow::plain(
-                30,
-                "DIAMETER",
-                ValueKind::Int,
-                Tables::PolytopesAndCones,
-            ),
-            PropId::DualDiameter => PropertyRow::plain(
-                31,
-                "DUAL_DIAMETER",
-                ValueKind::Int,
-                Tables::PolytopesAndCones,
-            ),
-            PropId::NEdges => PropertyRow::plain(
-                32,
-                "N_EDGES",
-                ValueKind::Int,
-                Tables::PolytopesAndCones,
-            ),
-            PropId::NRidges => PropertyRow::plain(
-                33,
-                "N_RIDGES",
-                ValueKind::Int,
-                Tables::PolytopesAndCones,
-            ),
-            PropId::VertexDegrees => PropertyRow {
-                cone_name: "RAY_DEGREES",
-                speaks_of_rays: true,
-                ..PropertyRow::plain(
-                    34,
-                    "VERTEX_DEGREES",
-                    ValueKind::Counts,
-                    Tables::PolytopesAndCones,
-                )
-            },
-            PropId::FarFace => PropertyRow {
-                speaks_of_rays: true,
-                ..PropertyRow::plain(35, "FAR_FACE", ValueKind::Counts, Tables::Polytopes)
-            },
-            PropId::MaximalCones => PropertyRow {
-                speaks_of_rays: true,
-                speaks_of_facets: true,
-                ..PropertyRow::plain(36, "MAXIMAL_CONES", ValueKind::Sets, Tables::Fans)
-            },
-            PropId::NMaximalCones => PropertyRow::plain(
-                37,
-                "N_MAXIMAL_CONES",
-                ValueKind::Int,
-                Tables::Fans,
-            ),
-            PropId::MaximalConesDims => PropertyRow {
-                speaks_of_facets: true,
-                ..PropertyRow::plain(38, "MAXIMAL_CONES_DIMS", ValueKind::Counts, Tables::Fans)
-            },
-            PropId::FanDim => PropertyRow::plain(39, "FAN_DIM", ValueKind::Int, Tables::Fans),
-            PropId::Pure => PropertyRow::plain(40, "PURE", ValueKind::Bool, Tables::Fans),
-            PropId::LinearObjective => PropertyRow {
-                columns: Columns::Rows,
-                ..PropertyRow::plain(41, "LP.LINEAR_OBJECTIVE", ValueKind::Mat, Tables::Programs)
-            },
-            PropId::MaximalValue => PropertyRow::plain(
-                42,
-                "LP.MAXIMAL_VALUE",
-                ValueKind::Number,
-                Tables::Programs,
-            ),
-            PropId::MinimalValue => PropertyRow::plain(
-                43,
-                "LP.MINIMAL_VALUE",
-                ValueKind::Number,
-                Tables::Programs,
-            ),
-            PropId::MaximalFace => PropertyRow {
-                speaks_of_rays: true,
-                ..PropertyRow::plain(44, "LP.MAXIMAL_FACE", ValueKind::Counts, Tables::Programs)
-            },
-            PropId::MinimalFace => PropertyRow {
-                speaks_of_rays: true,
-                ..PropertyRow::plain(45, "LP.MINIMAL_FACE", ValueKind::Counts, Tables::Programs)
-            },
-            PropId::MaximalDual => PropertyRow {
-                columns: Columns::Rows,
-                ..PropertyRow::plain(46, "LP.MAXIMAL_DUAL", ValueKind::Mat, Tables::Programs)
-            },
-            PropId::MinimalDual => PropertyRow {
-                columns: Columns::Rows,
-                ..PropertyRow::plain(47, "LP.MINIMAL_DUAL", ValueKind::Mat, Tables::Programs)
-            },
+            Self::ConeAmbientDim => property!(0 "CONE_AMBIENT_DIM" Int All
+                | fan_name: "FAN_AMBIENT_DIM", columns: Columns::Value, is_accepted: true),
+            Self::Points => property!(1 "POINTS" Mat PolytopesAndCones
+                | cone_name: "INPUT_RAYS", describes: Describes::Generators, is_half: true,
+                  columns: Columns::Rows, test: RowTest::Point, is_accepted: true),
+            Self::InputLineality => property!(2 "INPUT_LINEALITY" Mat PolytopesAndCones
+                | describes: Describes::Generators, is_half: true, columns: Columns::Rows,
+                  test: RowTest::Line, is_accepted: true),
+            Self::Inequalities => property!(3 "INEQUALITIES" Mat PolytopesAndCones
+                | describes: Describes::HalfSpaces, is_half: true, columns: Columns::Rows,
+                  is_accepted: true),
+            Self::Equations => property!(4 "EQUATIONS" Mat PolytopesAndCones
+                | describes: Describes::HalfSpaces, is_half: true, columns: Columns::Rows,
+                  is_accepted: true),
+            Self::Vertices => property!(5 "VERTICES" Mat All
+                | cone_name: "RAYS", fan_name: "RAYS", speaks_of_rays: true,
+                  describes: Describes::Generators, columns: Columns::Rows, test: RowTest::Ray,
+                  is_accepted: true),
+            Self::LinealitySpace => property!(6 "LINEALITY_SPACE" Mat All
+                | describes: Describes::Generators, columns: Columns::Rows, test: RowTest::Line,
+                  is_accepted: true),
+            Self::Facets => property!(7 "FACETS" Mat PolytopesAndCones
+                | speaks_of_facets: true, describes: Describes::HalfSpaces,
+                  columns: Columns::Rows, test: RowTest::NotZero, is_accepted: true),
+            Self::AffineHull => property!(8 "AFFINE_HULL" Mat PolytopesAndCones
+                | cone_name: "LINEAR_SPAN", describes: Describes::HalfSpaces,
+                  columns: Columns::Rows, is_accepted: true),
+            Self::VerticesInFacets => property!(9 "VERTICES_IN_FACETS" Sets PolytopesAndCones
+                | cone_name: "RAYS_IN_FACETS", speaks_of_rays: true, speaks_of_facets: true,
+                  is_accepted: true),
+            Self::ConeDim => property!(10 "CONE_DIM" Int PolytopesAndCones | is_accepted: true),
+            Self::LinealityDim => property!(11 "LINEALITY_DIM" Int All | is_accepted: true),
+            Self::CombinatorialDim => property!(12 "COMBINATORIAL_DIM" Int PolytopesAndCones
+                | is_accepted: true),
+            Self::NVertices => property!(13 "N_VERTICES" Int All
+                | cone_name: "N_RAYS", fan_name: "N_RAYS"),
+            Self::NFacets => property!(14 "N_FACETS" Int PolytopesAndCones),
+            Self::Feasible => property!(15 "FEASIBLE" Bool Polytopes | is_accepted: true),
+            Self::Bounded => property!(16 "BOUNDED" Bool Polytopes),
+            Self::Pointed => property!(17 "POINTED" Bool All | is_accepted: true),
+            Self::FullDim => property!(18 "FULL_DIM" Bool PolytopesAndCones | is_accepted: true),
+            Self::Centered => property!(19 "CENTERED" Bool Polytopes),
+            Self::Simple => property!(20 "SIMPLE" Bool PolytopesAndCones),
+            Self::Simplicial => property!(21 "SIMPLICIAL" Bool All),
+            Self::VertexSizes => property!(22 "VERTEX_SIZES" Counts PolytopesAndCones
+                | cone_name: "RAY_SIZES", speaks_of_rays: true),
+            Self::FacetSizes => property!(23 "FACET_SIZES" Counts PolytopesAndCones
+                | speaks_of_facets: true),
+            Self::HasseDiagram => property!(24 "HASSE_DIAGRAM" Lattice PolytopesAndCones
+                | speaks_of_rays: true),
+            Self::FVector => property!(25 "F_VECTOR" Counts PolytopesAndCones),
+            Self::F2Vector => property!(26 "F2_VECTOR" Mat PolytopesAndCones),
+            Self::HVector => property!(27 "H_VECTOR" Counts Polytopes),
+            Self::Graph => property!(28 "GRAPH" Edges PolytopesAndCones | speaks_of_rays: true),
+            Self::DualGraph => property!(29 "DUAL_GRAPH" Edges PolytopesAndCones
+                | speaks_of_facets: true),
+            Self::Diameter => property!(30 "DIAMETER" Int PolytopesAndCones),
+            Self::DualDiameter => property!(31 "DUAL_DIAMETER" Int PolytopesAndCones),
+            Self::NEdges => property!(32 "N_EDGES" Int PolytopesAndCones),
+            Self::NRidges => property!(33 "N_RIDGES" Int PolytopesAndCones),
+            Self::VertexDegrees => property!(34 "VERTEX_DEGREES" Counts PolytopesAndCones
+                | cone_name: "RAY_DEGREES", speaks_of_rays: true),
+            Self::FarFace => property!(35 "FAR_FACE" Counts Polytopes | speaks_of_rays: true),
+            Self::MaximalCones => property!(36 "MAXIMAL_CONES" Sets Fans
+                | speaks_of_rays: true, speaks_of_facets: true),
+            Self::NMaximalCones => property!(37 "N_MAXIMAL_CONES" Int Fans),
+            Self::MaximalConesDims => property!(38 "MAXIMAL_CONES_DIMS" Counts Fans
+                | speaks_of_facets: true),
+            Self::FanDim => property!(39 "FAN_DIM" Int Fans),
+            Self::Pure => property!(40 "PURE" Bool Fans),
+            Self::LinearObjective => property!(41 "LP.LINEAR_OBJECTIVE" Mat Programs
+                | columns: Columns::Rows),
+            Self::MaximalValue => property!(42 "LP.MAXIMAL_VALUE" Number Programs),
+            Self::MinimalValue => property!(43 "LP.MINIMAL_VALUE" Number Programs),
+            Self::MaximalFace => property!(44 "LP.MAXIMAL_FACE" Counts Programs
+                | speaks_of_rays: true),
+            Self::MinimalFace => property!(45 "LP.MINIMAL_FACE" Counts Programs
+                | speaks_of_rays: true),
+            Self::MaximalDual => property!(46 "LP.MAXIMAL_DUAL" Mat Programs
+                | columns: Columns::Rows),
+            Self::MinimalDual => property!(47 "LP.MINIMAL_DUAL" Mat Programs
+                | columns: Columns::Rows),
         }
     }
 
@@ -570,54 +369,54 @@ impl PropId {
         ensures { result ≡ every_property }
     {
         [
-            PropId::ConeAmbientDim,
-            PropId::Points,
-            PropId::InputLineality,
-            PropId::Inequalities,
-            PropId::Equations,
-            PropId::Vertices,
-            PropId::LinealitySpace,
-            PropId::Facets,
-            PropId::AffineHull,
-            PropId::VerticesInFacets,
-            PropId::ConeDim,
-            PropId::LinealityDim,
-            PropId::CombinatorialDim,
-            PropId::NVertices,
-            PropId::NFacets,
-            PropId::Feasible,
-            PropId::Bounded,
-            PropId::Pointed,
-            PropId::FullDim,
-            PropId::Centered,
-            PropId::Simple,
-            PropId::Simplicial,
-            PropId::VertexSizes,
-            PropId::FacetSizes,
-            PropId::HasseDiagram,
-            PropId::FVector,
-            PropId::F2Vector,
-            PropId::HVector,
-            PropId::Graph,
-            PropId::DualGraph,
-            PropId::Diameter,
-            PropId::DualDiameter,
-            PropId::NEdges,
-            PropId::NRidges,
-            PropId::VertexDegrees,
-            PropId::FarFace,
-            PropId::MaximalCones,
-            PropId::NMaximalCones,
-            PropId::MaximalConesDims,
-            PropId::FanDim,
-            PropId::Pure,
-            PropId::LinearObjective,
-            PropId::MaximalValue,
-            PropId::MinimalValue,
-            PropId::MaximalFace,
-            PropId::MinimalFace,
-            PropId::MaximalDual,
-            PropId::MinimalDual,
+            Self::ConeAmbientDim,
+            Self::Points,
+            Self::InputLineality,
+            Self::Inequalities,
+            Self::Equations,
+            Self::Vertices,
+            Self::LinealitySpace,
+            Self::Facets,
+            Self::AffineHull,
+            Self::VerticesInFacets,
+            Self::ConeDim,
+            Self::LinealityDim,
+            Self::CombinatorialDim,
+            Self::NVertices,
+            Self::NFacets,
+            Self::Feasible,
+            Self::Bounded,
+            Self::Pointed,
+            Self::FullDim,
+            Self::Centered,
+            Self::Simple,
+            Self::Simplicial,
+            Self::VertexSizes,
+            Self::FacetSizes,
+            Self::HasseDiagram,
+            Self::FVector,
+            Self::F2Vector,
+            Self::HVector,
+            Self::Graph,
+            Self::DualGraph,
+            Self::Diameter,
+            Self::DualDiameter,
+            Self::NEdges,
+            Self::NRidges,
+            Self::VertexDegrees,
+            Self::FarFace,
+            Self::MaximalCones,
+            Self::NMaximalCones,
+            Self::MaximalConesDims,
+            Self::FanDim,
+            Self::Pure,
+            Self::LinearObjective,
+            Self::MaximalValue,
+            Self::MinimalValue,
+            Self::MaximalFace,
+            Self::MinimalFace,
+            Self::MaximalDual,
+            Self::MinimalDual,
         ]
     }
 

@@ -148,7 +148,7 @@ pub struct StandardRule {
 
 impl StandardRule {
     // A rule under no condition, whose client is not built.
-    fn of(name: &str, targets: &[PropId], sources: &[PropId], weight: u32) -> StandardRule
+    fn unbuilt(name: &str, targets: &[PropId], sources: &[PropId], weight: u32) -> StandardRule
         requires short { length name.now ≤ 32 }
         requires ascii { IsAscii name.now }
         ensures { result ≡ unbuilt name.now targets.now sources.now weight }
@@ -168,7 +168,7 @@ impl StandardRule {
     {
         StandardRule {
             is_built: true,
-            ..StandardRule::of(name, targets, sources, weight)
+            ..StandardRule::unbuilt(name, targets, sources, weight)
         }
     }
 
@@ -186,72 +186,87 @@ impl StandardRule {
     }
 }
 
+// A rule: its label, what it finds, from what, if these are true; its weight, and whether its client is built.
+macro_rules! rule {
+    ($label:literal: $($target:ident),+ from $($source:ident),+; $weight:literal, $state:ident) => {
+        StandardRule::$state(
+            $label,
+            &[$(PropId::$target),+],
+            &[$(PropId::$source),+],
+            $weight,
+        )
+    };
+    ($label:literal: $($target:ident),+ from $($source:ident),+ if $($must:ident),+; $weight:literal, $state:ident) => {
+        rule!($label: $($target),+ from $($source),+; $weight, $state).where_true(&[$(PropId::$must),+])
+    };
+}
+
 impl StandardClient {
     /// These clients, in the order of the standard book.
     pub fn every() -> [StandardClient; 60]
         ensures { result ≡ standard_clients }
     {
         [
-            StandardClient::DdVertices,
-            StandardClient::DdFacets,
-            StandardClient::DdFacetsV,
-            StandardClient::DdVerticesF,
-            StandardClient::ThinPointsLp,
-            StandardClient::ThinInequalitiesLp,
-            StandardClient::ThinPointsF,
-            StandardClient::ThinInequalitiesV,
-            StandardClient::VerticesFromSets,
-            StandardClient::FacetsFromSets,
-            StandardClient::PointsFromVertices,
-            StandardClient::InequalitiesFromFacets,
-            StandardClient::LinealityFromFacets,
-            StandardClient::HullFromVertices,
-            StandardClient::ConeDimV,
-            StandardClient::ConeDimSpan,
-            StandardClient::ConeDimPoints,
-            StandardClient::LinealityDim,
-            StandardClient::CombinatorialDim,
-            StandardClient::NVertices,
-            StandardClient::NVerticesSets,
-            StandardClient::NFacets,
-            StandardClient::NFacetsSets,
-            StandardClient::Feasible,
-            StandardClient::FeasibleLp,
-            StandardClient::Bounded,
-            StandardClient::FarFace,
-            StandardClient::Pointed,
-            StandardClient::FullDim,
-            StandardClient::Centered,
-            StandardClient::Incidence,
-            StandardClient::VertexSizes,
-            StandardClient::FacetSizes,
-            StandardClient::Simple,
-            StandardClient::Simplicial,
-            StandardClient::Faces,
-            StandardClient::FVector,
-            StandardClient::F2Vector,
-            StandardClient::HVector,
-            StandardClient::GraphOfSets,
-            StandardClient::GraphOfFaces,
-            StandardClient::DualGraph,
-            StandardClient::VertexDegrees,
-            StandardClient::Diameter,
-            StandardClient::DualDiameter,
-            StandardClient::NEdges,
-            StandardClient::NRidges,
-            StandardClient::LpMax,
-            StandardClient::LpMin,
-            StandardClient::LpMaxRows,
-            StandardClient::LpMinRows,
-            StandardClient::LpMaxV,
-            StandardClient::LpMinV,
-            StandardClient::LpMaxFace,
-            StandardClient::LpMinFace,
-            StandardClient::FanDims,
-            StandardClient::FanDim,
-            StandardClient::FanPure,
-            StandardClient::FanSimplicial,
-            StandardClient::FanSize,
+            Self::DdVertices,
+            Self::DdFacets,
+            Self::DdFacetsV,
+            Self::DdVerticesF,
+            Self::ThinPointsLp,
+            Self::ThinInequalitiesLp,
+            Self::ThinPointsF,
+            Self::ThinInequalitiesV,
+            Self::VerticesFromSets,
+            Self::FacetsFromSets,
+            Self::PointsFromVertices,
+            Self::InequalitiesFromFacets,
+            Self::LinealityFromFacets,
+            Self::HullFromVertices,
+            Self::ConeDimV,
+            Self::ConeDimSpan,
+            Self::ConeDimPoints,
+            Self::LinealityDim,
+            Self::CombinatorialDim,
+            Self::NVertices,
+            Self::NVerticesSets,
+            Self::NFacets,
+            Self::NFacetsSets,
+            Self::Feasible,
+            Self::FeasibleLp,
+            Self::Bounded,
+            Self::FarFace,
+            Self::Pointed,
+            Self::FullDim,
+            Self::Centered,
+            Self::Incidence,
+            Self::VertexSizes,
+            Self::FacetSizes,
+            Self::Simple,
+            Self::Simplicial,
+            Self::Faces,
+            Self::FVector,
+            Self::F2Vector,
+            Self::HVector,
+            Self::GraphOfSets,
+            Self::GraphOfFaces,
+            Self::DualGraph,
+            Self::VertexDegrees,
+            Self::Diameter,
+            Self::DualDiameter,
+            Self::NEdges,
+            Self::NRidges,
+            Self::LpMax,
+            Self::LpMin,
+            Self::LpMaxRows,
+            Self::LpMinRows,
+            Self::LpMaxV,
+            Self::LpMinV,
+            Self::LpMaxFace,
+            Self::LpMinFace,
+            Self::FanDims,
+            Self::FanDim,
+            Self::FanPure,
+            Self::FanSimplicial,
+            Self::FanSize,
         ]
     }
 
@@ -259,408 +274,99 @@ impl StandardClient {
     pub fn row(self) -> StandardRule
         ensures { result ≡ standard_row self }
     {
-        let points = [PropId::Points, PropId::InputLineality];
-        let half_spaces = [PropId::Inequalities, PropId::Equations];
-        let vertices = [PropId::Vertices, PropId::LinealitySpace];
-        let facets = [PropId::Facets, PropId::AffineHull];
         match self {
-            StandardClient::DdVertices => StandardRule::of(
-                "dd_vertices",
-                &vertices,
-                &half_spaces,
-                40,
-            ),
-            StandardClient::DdFacets => StandardRule::of("dd_facets", &facets, &points, 40),
-            StandardClient::DdFacetsV => StandardRule::of("dd_facets_v", &facets, &vertices, 30),
-            StandardClient::DdVerticesF => StandardRule::of(
-                "dd_vertices_f",
-                &vertices,
-                &facets,
-                30,
-            ),
-            StandardClient::ThinPointsLp => StandardRule::of(
-                "thin_points_lp",
-                &vertices,
-                &points,
-                60,
-            ),
-            StandardClient::ThinInequalitiesLp => StandardRule::of(
-                "thin_inequalities_lp",
-                &facets,
-                &half_spaces,
-                60,
-            ),
-            StandardClient::ThinPointsF => StandardRule::of(
-                "thin_points_f",
-                &vertices,
-                &[
-                    PropId::Points,
-                    PropId::InputLineality,
-                    PropId::Facets,
-                    PropId::AffineHull,
-                ],
-                10,
-            ),
-            StandardClient::ThinInequalitiesV => StandardRule::of(
-                "thin_inequalities_v",
-                &facets,
-                &[
-                    PropId::Inequalities,
-                    PropId::Equations,
-                    PropId::Vertices,
-                    PropId::LinealitySpace,
-                ],
-                10,
-            ),
-            StandardClient::VerticesFromSets => StandardRule::of(
-                "vertices_from_sets",
-                &[PropId::Vertices],
-                &[PropId::Facets, PropId::AffineHull, PropId::VerticesInFacets],
-                20,
-            ),
-            StandardClient::FacetsFromSets => StandardRule::of(
-                "facets_from_sets",
-                &[PropId::Facets],
-                &[
-                    PropId::Vertices,
-                    PropId::LinealitySpace,
-                    PropId::VerticesInFacets,
-                ],
-                20,
-            ),
-            StandardClient::PointsFromVertices => StandardRule::built(
-                "points_from_vertices",
-                &points,
-                &vertices,
-                5,
-            ),
-            StandardClient::InequalitiesFromFacets => StandardRule::built(
-                "inequalities_from_facets",
-                &half_spaces,
-                &facets,
-                5,
-            ),
-            StandardClient::LinealityFromFacets => StandardRule::built(
-                "lineality_from_facets",
-                &[PropId::LinealitySpace],
-                &facets,
-                5,
-            ),
-            StandardClient::HullFromVertices => StandardRule::built(
-                "hull_from_vertices",
-                &[PropId::AffineHull],
-                &vertices,
-                5,
-            ),
-            StandardClient::ConeDimV => StandardRule::built(
-                "cone_dim_v",
-                &[PropId::ConeDim],
-                &vertices,
-                4,
-            ),
-            StandardClient::ConeDimSpan => StandardRule::built(
-                "cone_dim_span",
-                &[PropId::ConeDim],
-                &[PropId::AffineHull],
-                1,
-            ),
-            StandardClient::ConeDimPoints => StandardRule::built(
-                "cone_dim_points",
-                &[PropId::ConeDim],
-                &points,
-                8,
-            ),
-            StandardClient::LinealityDim => StandardRule::built(
-                "lineality_dim",
-                &[PropId::LinealityDim],
-                &[PropId::LinealitySpace],
-                1,
-            ),
-            StandardClient::CombinatorialDim => StandardRule::built(
-                "combinatorial_dim",
-                &[PropId::CombinatorialDim],
-                &[PropId::ConeDim, PropId::LinealityDim],
-                1,
-            ),
-            StandardClient::NVertices => StandardRule::of(
-                "n_vertices",
-                &[PropId::NVertices],
-                &[PropId::Vertices],
-                1,
-            ),
-            StandardClient::NVerticesSets => StandardRule::of(
-                "n_vertices_sets",
-                &[PropId::NVertices],
-                &[PropId::VerticesInFacets],
-                1,
-            ),
-            StandardClient::NFacets => StandardRule::of(
-                "n_facets",
-                &[PropId::NFacets],
-                &[PropId::Facets],
-                1,
-            ),
-            StandardClient::NFacetsSets => StandardRule::of(
-                "n_facets_sets",
-                &[PropId::NFacets],
-                &[PropId::VerticesInFacets],
-                1,
-            ),
-            StandardClient::Feasible => StandardRule::built(
-                "feasible",
-                &[PropId::Feasible],
-                &[PropId::ConeDim],
-                1,
-            ),
-            StandardClient::FeasibleLp => StandardRule::of(
-                "feasible_lp",
-                &[PropId::Feasible],
-                &half_spaces,
-                15,
-            ),
-            StandardClient::Bounded => StandardRule::of(
-                "bounded",
-                &[PropId::Bounded],
-                &vertices,
-                1,
-            ),
-            StandardClient::FarFace => StandardRule::of(
-                "far_face",
-                &[PropId::FarFace],
-                &[PropId::Vertices],
-                1,
-            ),
-            StandardClient::Pointed => StandardRule::built(
-                "pointed",
-                &[PropId::Pointed],
-                &[PropId::LinealityDim],
-                1,
-            ),
-            StandardClient::FullDim => StandardRule::built(
-                "full_dim",
-                &[PropId::FullDim],
-                &[PropId::ConeDim],
-                1,
-            ),
-            StandardClient::Centered => StandardRule::of(
-                "centered",
-                &[PropId::Centered],
-                &facets,
-                1,
-            ),
-            StandardClient::Incidence => StandardRule::built(
-                "incidence",
-                &[PropId::VerticesInFacets],
-                &[PropId::Vertices, PropId::Facets],
-                5,
-            ),
-            StandardClient::VertexSizes => StandardRule::of(
-                "vertex_sizes",
-                &[PropId::VertexSizes],
-                &[PropId::VerticesInFacets],
-                2,
-            ),
-            StandardClient::FacetSizes => StandardRule::of(
-                "facet_sizes",
-                &[PropId::FacetSizes],
-                &[PropId::VerticesInFacets],
-                2,
-            ),
-            StandardClient::Simple => StandardRule::of(
-                "simple",
-                &[PropId::Simple],
-                &[PropId::VertexSizes, PropId::CombinatorialDim],
-                1,
-            ),
-            StandardClient::Simplicial => StandardRule::of(
-                "simplicial",
-                &[PropId::Simplicial],
-                &[PropId::FacetSizes, PropId::CombinatorialDim],
-                1,
-            ),
-            StandardClient::Faces => StandardRule::of(
-                "faces",
-                &[PropId::HasseDiagram],
-                &[PropId::VerticesInFacets],
-                50,
-            ),
-            StandardClient::FVector => StandardRule::of(
-                "f_vector",
-                &[PropId::FVector],
-                &[PropId::HasseDiagram],
-                2,
-            ),
-            StandardClient::F2Vector => StandardRule::of(
-                "f2_vector",
-                &[PropId::F2Vector],
-                &[PropId::HasseDiagram],
-                3,
-            ),
-            StandardClient::HVector => StandardRule::of(
-                "h_vector",
-                &[PropId::HVector],
-                &[PropId::FVector, PropId::CombinatorialDim],
-                2,
-            )
-            .where_true(&[PropId::Bounded, PropId::Simplicial]),
-            StandardClient::GraphOfSets => StandardRule::of(
-                "graph_of_sets",
-                &[PropId::Graph],
-                &[PropId::VerticesInFacets],
-                15,
-            ),
-            StandardClient::GraphOfFaces => StandardRule::of(
-                "graph_of_faces",
-                &[PropId::Graph],
-                &[PropId::HasseDiagram],
-                3,
-            ),
-            StandardClient::DualGraph => StandardRule::of(
-                "dual_graph",
-                &[PropId::DualGraph],
-                &[PropId::VerticesInFacets],
-                15,
-            ),
-            StandardClient::VertexDegrees => StandardRule::of(
-                "vertex_degrees",
-                &[PropId::VertexDegrees],
-                &[PropId::Graph],
-                1,
-            ),
-            StandardClient::Diameter => StandardRule::of(
-                "diameter",
-                &[PropId::Diameter],
-                &[PropId::Graph],
-                4,
-            ),
-            StandardClient::DualDiameter => StandardRule::of(
-                "dual_diameter",
-                &[PropId::DualDiameter],
-                &[PropId::DualGraph],
-                4,
-            ),
-            StandardClient::NEdges => StandardRule::of(
-                "n_edges",
-                &[PropId::NEdges],
-                &[PropId::Graph],
-                1,
-            ),
-            StandardClient::NRidges => StandardRule::of(
-                "n_ridges",
-                &[PropId::NRidges],
-                &[PropId::DualGraph],
-                1,
-            ),
-            StandardClient::LpMax => StandardRule::of(
-                "lp_max",
-                &[PropId::MaximalValue, PropId::MaximalDual],
-                &[PropId::Facets, PropId::AffineHull, PropId::LinearObjective],
-                20,
-            ),
-            StandardClient::LpMin => StandardRule::of(
-                "lp_min",
-                &[PropId::MinimalValue, PropId::MinimalDual],
-                &[PropId::Facets, PropId::AffineHull, PropId::LinearObjective],
-                20,
-            ),
-            StandardClient::LpMaxRows => StandardRule::of(
-                "lp_max_rows",
-                &[PropId::MaximalValue],
-                &[
-                    PropId::Inequalities,
-                    PropId::Equations,
-                    PropId::LinearObjective,
-                ],
-                25,
-            ),
-            StandardClient::LpMinRows => StandardRule::of(
-                "lp_min_rows",
-                &[PropId::MinimalValue],
-                &[
-                    PropId::Inequalities,
-                    PropId::Equations,
-                    PropId::LinearObjective,
-                ],
-                25,
-            ),
-            StandardClient::LpMaxV => StandardRule::of(
-                "lp_max_v",
-                &[PropId::MaximalValue],
-                &[
-                    PropId::Vertices,
-                    PropId::LinealitySpace,
-                    PropId::LinearObjective,
-                ],
-                6,
-            ),
-            StandardClient::LpMinV => StandardRule::of(
-                "lp_min_v",
-                &[PropId::MinimalValue],
-                &[
-                    PropId::Vertices,
-                    PropId::LinealitySpace,
-                    PropId::LinearObjective,
-                ],
-                6,
-            ),
-            StandardClient::LpMaxFace => StandardRule::of(
-                "lp_max_face",
-                &[PropId::MaximalFace],
-                &[
-                    PropId::Vertices,
-                    PropId::MaximalValue,
-                    PropId::LinearObjective,
-                ],
-                3,
-            ),
-            StandardClient::LpMinFace => StandardRule::of(
-                "lp_min_face",
-                &[PropId::MinimalFace],
-                &[
-                    PropId::Vertices,
-                    PropId::MinimalValue,
-                    PropId::LinearObjective,
-                ],
-                3,
-            ),
-            StandardClient::FanDims => StandardRule::of(
-                "fan_dims",
-                &[PropId::MaximalConesDims],
-                &[
-                    PropId::Vertices,
-                    PropId::LinealitySpace,
-                    PropId::MaximalCones,
-                ],
-                4,
-            ),
-            StandardClient::FanDim => StandardRule::of(
-                "fan_dim",
-                &[PropId::FanDim],
-                &[PropId::MaximalConesDims],
-                1,
-            ),
-            StandardClient::FanPure => StandardRule::of(
-                "fan_pure",
-                &[PropId::Pure],
-                &[PropId::MaximalConesDims],
-                1,
-            ),
-            StandardClient::FanSimplicial => StandardRule::of(
-                "fan_simplicial",
-                &[PropId::Simplicial],
-                &[
-                    PropId::MaximalConesDims,
-                    PropId::MaximalCones,
-                    PropId::LinealityDim,
-                ],
-                1,
-            ),
-            StandardClient::FanSize => StandardRule::of(
-                "fan_size",
-                &[PropId::NMaximalCones],
-                &[PropId::MaximalCones],
-                1,
-            ),
+            Self::DdVertices =>
+                rule!("dd_vertices": Vertices, LinealitySpace from Inequalities, Equations; 40, unbuilt),
+            Self::DdFacets =>
+                rule!("dd_facets": Facets, AffineHull from Points, InputLineality; 40, unbuilt),
+            Self::DdFacetsV =>
+                rule!("dd_facets_v": Facets, AffineHull from Vertices, LinealitySpace; 30, unbuilt),
+            Self::DdVerticesF =>
+                rule!("dd_vertices_f": Vertices, LinealitySpace from Facets, AffineHull; 30, unbuilt),
+            Self::ThinPointsLp =>
+                rule!("thin_points_lp": Vertices, LinealitySpace from Points, InputLineality; 60, unbuilt),
+            Self::ThinInequalitiesLp =>
+                rule!("thin_inequalities_lp": Facets, AffineHull from Inequalities, Equations; 60, unbuilt),
+            Self::ThinPointsF =>
+                rule!("thin_points_f": Vertices, LinealitySpace from Points, InputLineality, Facets, AffineHull; 10, unbuilt),
+            Self::ThinInequalitiesV =>
+                rule!("thin_inequalities_v": Facets, AffineHull from Inequalities, Equations, Vertices, LinealitySpace; 10, unbuilt),
+            Self::VerticesFromSets =>
+                rule!("vertices_from_sets": Vertices from Facets, AffineHull, VerticesInFacets; 20, unbuilt),
+            Self::FacetsFromSets =>
+                rule!("facets_from_sets": Facets from Vertices, LinealitySpace, VerticesInFacets; 20, unbuilt),
+            Self::PointsFromVertices =>
+                rule!("points_from_vertices": Points, InputLineality from Vertices, LinealitySpace; 5, built),
+            Self::InequalitiesFromFacets =>
+                rule!("inequalities_from_facets": Inequalities, Equations from Facets, AffineHull; 5, built),
+            Self::LinealityFromFacets =>
+                rule!("lineality_from_facets": LinealitySpace from Facets, AffineHull; 5, built),
+            Self::HullFromVertices =>
+                rule!("hull_from_vertices": AffineHull from Vertices, LinealitySpace; 5, built),
+            Self::ConeDimV => rule!("cone_dim_v": ConeDim from Vertices, LinealitySpace; 4, built),
+            Self::ConeDimSpan => rule!("cone_dim_span": ConeDim from AffineHull; 1, built),
+            Self::ConeDimPoints =>
+                rule!("cone_dim_points": ConeDim from Points, InputLineality; 8, built),
+            Self::LinealityDim =>
+                rule!("lineality_dim": LinealityDim from LinealitySpace; 1, built),
+            Self::CombinatorialDim =>
+                rule!("combinatorial_dim": CombinatorialDim from ConeDim, LinealityDim; 1, built),
+            Self::NVertices => rule!("n_vertices": NVertices from Vertices; 1, unbuilt),
+            Self::NVerticesSets =>
+                rule!("n_vertices_sets": NVertices from VerticesInFacets; 1, unbuilt),
+            Self::NFacets => rule!("n_facets": NFacets from Facets; 1, unbuilt),
+            Self::NFacetsSets => rule!("n_facets_sets": NFacets from VerticesInFacets; 1, unbuilt),
+            Self::Feasible => rule!("feasible": Feasible from ConeDim; 1, built),
+            Self::FeasibleLp =>
+                rule!("feasible_lp": Feasible from Inequalities, Equations; 15, unbuilt),
+            Self::Bounded => rule!("bounded": Bounded from Vertices, LinealitySpace; 1, unbuilt),
+            Self::FarFace => rule!("far_face": FarFace from Vertices; 1, unbuilt),
+            Self::Pointed => rule!("pointed": Pointed from LinealityDim; 1, built),
+            Self::FullDim => rule!("full_dim": FullDim from ConeDim; 1, built),
+            Self::Centered => rule!("centered": Centered from Facets, AffineHull; 1, unbuilt),
+            Self::Incidence => rule!("incidence": VerticesInFacets from Vertices, Facets; 5, built),
+            Self::VertexSizes =>
+                rule!("vertex_sizes": VertexSizes from VerticesInFacets; 2, unbuilt),
+            Self::FacetSizes => rule!("facet_sizes": FacetSizes from VerticesInFacets; 2, unbuilt),
+            Self::Simple => rule!("simple": Simple from VertexSizes, CombinatorialDim; 1, unbuilt),
+            Self::Simplicial =>
+                rule!("simplicial": Simplicial from FacetSizes, CombinatorialDim; 1, unbuilt),
+            Self::Faces => rule!("faces": HasseDiagram from VerticesInFacets; 50, unbuilt),
+            Self::FVector => rule!("f_vector": FVector from HasseDiagram; 2, unbuilt),
+            Self::F2Vector => rule!("f2_vector": F2Vector from HasseDiagram; 3, unbuilt),
+            Self::HVector =>
+                rule!("h_vector": HVector from FVector, CombinatorialDim if Bounded, Simplicial; 2, unbuilt),
+            Self::GraphOfSets => rule!("graph_of_sets": Graph from VerticesInFacets; 15, unbuilt),
+            Self::GraphOfFaces => rule!("graph_of_faces": Graph from HasseDiagram; 3, unbuilt),
+            Self::DualGraph => rule!("dual_graph": DualGraph from VerticesInFacets; 15, unbuilt),
+            Self::VertexDegrees => rule!("vertex_degrees": VertexDegrees from Graph; 1, unbuilt),
+            Self::Diameter => rule!("diameter": Diameter from Graph; 4, unbuilt),
+            Self::DualDiameter => rule!("dual_diameter": DualDiameter from DualGraph; 4, unbuilt),
+            Self::NEdges => rule!("n_edges": NEdges from Graph; 1, unbuilt),
+            Self::NRidges => rule!("n_ridges": NRidges from DualGraph; 1, unbuilt),
+            Self::LpMax =>
+                rule!("lp_max": MaximalValue, MaximalDual from Facets, AffineHull, LinearObjective; 20, unbuilt),
+            Self::LpMin =>
+                rule!("lp_min": MinimalValue, MinimalDual from Facets, AffineHull, LinearObjective; 20, unbuilt),
+            Self::LpMaxRows =>
+                rule!("lp_max_rows": MaximalValue from Inequalities, Equations, LinearObjective; 25, unbuilt),
+            Self::LpMinRows =>
+                rule!("lp_min_rows": MinimalValue from Inequalities, Equations, LinearObjective; 25, unbuilt),
+            Self::LpMaxV =>
+                rule!("lp_max_v": MaximalValue from Vertices, LinealitySpace, LinearObjective; 6, unbuilt),
+            Self::LpMinV =>
+                rule!("lp_min_v": MinimalValue from Vertices, LinealitySpace, LinearObjective; 6, unbuilt),
+            Self::LpMaxFace =>
+                rule!("lp_max_face": MaximalFace from Vertices, MaximalValue, LinearObjective; 3, unbuilt),
+            Self::LpMinFace =>
+                rule!("lp_min_face": MinimalFace from Vertices, MinimalValue, LinearObjective; 3, unbuilt),
+            Self::FanDims =>
+                rule!("fan_dims": MaximalConesDims from Vertices, LinealitySpace, MaximalCones; 4, unbuilt),
+            Self::FanDim => rule!("fan_dim": FanDim from MaximalConesDims; 1, unbuilt),
+            Self::FanPure => rule!("fan_pure": Pure from MaximalConesDims; 1, unbuilt),
+            Self::FanSimplicial =>
+                rule!("fan_simplicial": Simplicial from MaximalConesDims, MaximalCones, LinealityDim; 1, unbuilt),
+            Self::FanSize => rule!("fan_size": NMaximalCones from MaximalCones; 1, unbuilt),
         }
     }
 
