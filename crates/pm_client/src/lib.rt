@@ -12,9 +12,11 @@ use pm_types::Kind;
 use std::alloc::{AllocError, AllocFailed, Global};
 
 mod boxes;
+mod family;
 mod values;
 
 pub use boxes::{place_of, run_first};
+pub use family::{Family, FamilyClient};
 pub use values::{matrix_of, primitive_rows, put_value, whole_of};
 
 /// Why a client did not answer.

@@ -1,4 +1,4 @@
-pub mod Kinds
+pub mod Families
 pub mod Lists
 pub mod Ranks
 pub mod Stays

@@ -1,20 +1,29 @@
--- What is so of a view: it is of no fan where the kind names a property that fans do not have, and it has no fact of a property that it has no value of.
+-- What is so of a view and of its kind: which properties the kind names; it is of no fan where the kind names a property that fans do not have; it has few columns, and no fact of a property that it has no value of.
 use Rattle.pm_algebra.proofs.Lists.{Among, among_Contains, here, there}
 use Rattle.pm_geom.specs.declared.ObjectType.TheVariants.{Fan}
 use Rattle.pm_object.specs.Reading.{IsView, ViewSeen, fact_of}
+use Rattle.pm_types.proofs.Every.{has-set_of}
 use Rattle.pm_types.proofs.Kept.{same_property_refl}
 use Rattle.pm_types.proofs.Members.{has-union}
 use Rattle.pm_types.specs.Kinds.{conditions_of, is_in_use, names_of}
-use Rattle.pm_types.specs.Properties.{has_fan, has_program}
+use Rattle.pm_types.specs.Properties.{has_fan, has_program, number}
 use Rattle.pm_types.specs.Runs.{same_property}
-use Rattle.pm_types.specs.Sets.{has, union}
+use Rattle.pm_types.specs.Sets.{has, set_of, union}
 use Rattle.pm_types.specs.Values.{Fact}
 use Rattle.pm_types.specs.declared.kind.Kind.{Kind}
 use Rattle.pm_types.specs.declared.property.PropId.{PropId}
-use Rattle.std.proofs.Common.{ap, false, refl, sym, true, true≢false, ◌∙◌}
-use Rattle.std.specs.List.{Contains}
+use Rattle.std.proofs.Common.{ap, arith, eqb, false, refl, sym, true, true≢false, ◌∙◌}
+use Rattle.std.proofs.lemmas.Bool.{leb-true}
+use Rattle.std.specs.List.{Contains, list_any}
 use Rattle.std.specs.Option.{is_some}
-use Rattle.std.specs.Prelude.{Bool, List, None, Some, if◌then◌else◌, ◌&&◌, ◌||◌, ◌≡◌}
+use Rattle.std.specs.Prelude.{Bool, List, None, Some, if◌then◌else◌, ℕ, ◌&&◌, ◌<◌, ◌^◌, ◌||◌, ◌≡◌}
+
+-- a set of listed properties has exactly these
+pub has_listed : (s : ℕ) (ps : List PropId) (p : PropId) → s ≡ set_of ps → has s p ≡ list_any (λ q. eqb (number q) (number p)) ps
+has_listed s ps p e = ap (λ z. has z p) e ∙ has-set_of ps p
+
+pub few_columns : (v : ViewSeen) → IsView v → v.cols < 2 ^ 63
+few_columns v view = let l = leb-true v.cols 33 view.few_cols in omega arith
 
 or_right : (a b : Bool) → b ≡ true → (a || b) ≡ true
 or_right true b h = refl
