@@ -8,3 +8,5 @@ pub mod Drafts
 pub mod Puts
 pub mod Filtered
 pub mod PlainValues
+pub mod Machine
+pub mod FreshOrders

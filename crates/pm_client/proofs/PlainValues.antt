@@ -1,5 +1,6 @@
 -- Values that are no matrices: whole numbers, truth values, sets. A client that puts one for its target is sound where it is right wherever what was read is.
 use Rattle.pm_algebra.specs.Numbers.{Ratio}
+use Rattle.pm_client.proofs.Machine.{small_bits}
 use Rattle.pm_client.proofs.Puts.{IsPut, is_alone, sound_one}
 use Rattle.pm_client.specs.Sound.{IsSound}
 use Rattle.pm_geom.specs.Things.{Orders, Thing}
@@ -15,12 +16,13 @@ use Rattle.pm_types.specs.Values.{PropertyValue, matrix, truth, whole}
 use Rattle.pm_types.specs.declared.kind.Kind.{Kind}
 use Rattle.pm_types.specs.declared.property.PropId.TheVariants.{AffineHull, ConeAmbientDim, Equations, Facets, Inequalities, InputLineality, LinealitySpace, Points, Vertices}
 use Rattle.pm_types.specs.declared.property.PropId.{PropId}
-use Rattle.std.proofs.Common.{ap, false, refl, subst, sym, true, true≢false, ◌∙◌}
+use Rattle.std.proofs.Common.{false, refl, subst, sym, to_z, true, true≢false, w64}
 use Rattle.std.proofs.lemmas.Bool.{and_parts}
+use Rattle.std.proofs.lemmas.Int.{to_z_pos}
 use Rattle.std.proofs.lemmas.List.Elements.{All-nil}
 use Rattle.std.specs.List.{All}
-use Rattle.std.specs.Prelude.{Bool, IsTrue, List, if◌then◌else◌, nat_eq, not, ℕ, ◌&&◌, ◌||◌, ◌≡◌}
-use lib.IntN.{ℤ}
+use Rattle.std.specs.Prelude.{Bool, IsTrue, List, if◌then◌else◌, nat_eq, not, ℕ, ◌&&◌, ◌<◌, ◌^◌, ◌||◌, ◌≡◌}
+use lib.IntN.{pos, ℤ}
 
 -- x is right as the value of p wherever what was read is right
 abbrev pub Follows : ViewSeen → PropId → PropertyValue → Type 0
@@ -107,6 +109,10 @@ not_ambient p h = refl
 pub sound_whole : (v : ViewSeen) (p : PropId) (w z : ℤ) (old new : DraftSeen) → is_of_64_bits p ≡ true → w ≡ z → has_64_bits z ≡ true → IsPut v p (whole w) old new → Follows v p (whole z) → IsSound v new
 sound_whole v p w z old new whole_numbers same bits put follows =
     sound_plain v p (whole z) old new refl (not_ambient p whole_numbers) (whole_formed p z whole_numbers bits) (subst (λ y. IsPut v p (whole y) old new) same put) follows
+
+-- a natural number, cast to a whole number of the machine
+pub sound_count : (v : ViewSeen) (p : PropId) (k : ℕ) (old new : DraftSeen) → is_of_64_bits p ≡ true → k < 2 ^ 63 → IsPut v p (whole (to_z w64 k)) old new → Follows v p (whole (pos k)) → IsSound v new
+sound_count v p k old new whole_numbers small put follows = sound_whole v p (to_z w64 k) (pos k) old new whole_numbers (to_z_pos w64 k small) (small_bits k small) put follows
 
 truth_formed : (p : PropId) (b : Bool) → is_of_truth_values (value_kind p) ≡ true → is_formed p (truth b) ≡ true
 truth_formed p b h = h

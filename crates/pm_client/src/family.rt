@@ -1,12 +1,13 @@
-// Families of standard clients. A client of a family counts its starts and hands the work on.
+// Families of standard clients. A client of a family counts its starts, and hands the work on to the family.
 
+ghost use Rattle.pm_client.specs.Families.{clients_of, kinds_of};
 ghost use Rattle.pm_client.specs.Sound.{FailsRightly, IsSound};
 ghost use Rattle.pm_client.specs.Starts.{next_count, started_once};
 ghost use Rattle.pm_client.specs.declared.ClientFail.{ClientFail};
 ghost use Rattle.pm_object.specs.Reading.{ViewSeen};
-ghost use Rattle.pm_types.specs.Kinds.{standard_clients, standard_kind};
+ghost use Rattle.pm_types.specs.Kinds.{standard_kind};
 ghost use Rattle.pm_types.specs.declared.standard.StandardClient.{StandardClient};
-ghost use Rattle.std.specs.Prelude.{Bool, IfErr, IsTrue, OnOk, Some, [], filter, slice_get, ℕ, ◌<◌, ◌≡◌};
+ghost use Rattle.std.specs.Prelude.{Bool, IfErr, IsTrue, OnOk, Some, [], length, slice_get, ℕ, ◌<◌, ◌≡◌};
 
 use crate::{Client, ClientFail};
 use pm_object::{Draft, View};
@@ -33,7 +34,7 @@ pub trait Family: Drop {
     /// The client of that number, in the order of the standard book.
     fn client(number: u8) -> StandardClient
         requires { number < COUNT }
-        ensures { slice_get (filter is_member standard_clients) number ≡ Some result };
+        ensures { slice_get (clients_of is_member) number ≡ Some result };
 
     /// Puts the targets of one of its clients into an empty draft, or says why not.
     fn answer(
@@ -50,6 +51,9 @@ pub trait Family: Drop {
         ensures failed { IfErr result (FailsRightly view.now) }
         ensures stays { OnOk result (Stays client view.now) }
         ensures fails { IfErr result (Fails client view.now) };
+
+    // The count is that of all its clients.
+    ghost counted: { COUNT ≡ length (clients_of is_member) };
 }
 
 /// A client of a family, which counts its starts.
@@ -65,11 +69,12 @@ impl<F: Family> FamilyClient<F> {
     /// How many such clients there are.
     pub const COUNT: u8 = F::COUNT;
 
-    /// The client of that number, below `COUNT`, which was never started.
+    /// The client of that number, below `COUNT`, in the order of the standard book. It was never started.
     pub fn new(number: u8) -> FamilyClient<F>
         requires { number < F.COUNT }
-        ensures client { slice_get (filter F.is_member standard_clients) number ≡ Some result.client }
-        ensures starts { result.starts ≡ 0 }
+        ensures kind { slice_get (kinds_of F.is_member) number
+            ≡ Some (⟦<FamilyClient<F> as Client>⟧.tally result).0 }
+        ensures starts { (⟦<FamilyClient<F> as Client>⟧.tally result).1 ≡ 0 }
     {
         FamilyClient {
             client: F::client(number),

@@ -1,4 +1,4 @@
-// Clients, which answer properties of an object from others, and running the first client of a kind.
+//! Clients, which answer properties of an object from others, and running the first client of a kind.
 #![tactic(auto)]
 
 ghost use Rattle.pm_client.specs.Sound.{FailsRightly, IsSound};

@@ -1,1 +1,2 @@
 pub mod Incidence
+pub mod Families

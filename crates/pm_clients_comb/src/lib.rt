@@ -1,4 +1,4 @@
-// Clients that compare, count and intersect sets of rays and facets.
+//! Clients that compare, count and intersect sets of rays and facets.
 #![tactic(auto)]
 
 mod client;

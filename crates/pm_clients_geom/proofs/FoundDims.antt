@@ -7,8 +7,8 @@ use Rattle.pm_bases.proofs.Spans.{span_at, span_to}
 use Rattle.pm_bases.specs.Bases.{IsRank}
 use Rattle.pm_client.proofs.ReadValues.{found, read_right}
 use Rattle.pm_client.specs.Sound.{IsSound, added_rows}
-use Rattle.pm_clients_geom.proofs.Machine.{bits_below, cast_back, cast_difference, difference_bits, found_bits, found_less, small_bits}
-use Rattle.pm_client.proofs.PlainValues.{Follows, sound_whole}
+use Rattle.pm_client.proofs.Machine.{bits_below, cast_back, cast_difference, difference_bits, found_bits, found_less}
+use Rattle.pm_client.proofs.PlainValues.{Follows, sound_count, sound_whole}
 use Rattle.pm_client.proofs.Puts.{IsPut}
 use Rattle.pm_client.proofs.ViewLaws.{few_columns, has_listed, not_fan, target_named}
 use Rattle.pm_clients_geom.specs.Ranks.{IsListRank}
@@ -25,7 +25,6 @@ use Rattle.pm_types.specs.Sets.{has, set_of}
 use Rattle.pm_types.specs.Values.{matrix, whole}
 use Rattle.pm_types.specs.declared.property.PropId.TheVariants.{AffineHull, CombinatorialDim, ConeDim, InputLineality, LinealityDim, LinealitySpace, Points, Vertices}
 use Rattle.std.proofs.Common.{ap, arith, of_z, refl, subst, sym, to_z, true, w64, ◌∙◌}
-use Rattle.std.proofs.lemmas.Int.{to_z_pos}
 use Rattle.std.specs.Int.{saturate_signed}
 use Rattle.std.specs.Prelude.{List, Some, [], length, ℕ, ◌++◌, ◌<◌, ◌^◌, ◌∷◌, ◌≡◌, ◌≤◌}
 use lib.IntN.{pos, ℤ, ◌-ℤ◌}
@@ -89,10 +88,10 @@ module _ (v : ViewSeen) (old new : DraftSeen) where
     small = omega arith
 
     pub rank_of_vertices : IsView v → IsListRank v LinealitySpace Vertices k → IsSound v new
-    rank_of_vertices view h = sound_whole v ConeDim (to_z w64 k) (pos k) old new refl (to_z_pos w64 k small) (small_bits k small) put (vertices_follow v k view put.targets h)
+    rank_of_vertices view h = sound_count v ConeDim k old new refl small put (vertices_follow v k view put.targets h)
 
     pub rank_of_points : IsListRank v InputLineality Points k → IsSound v new
-    rank_of_points h = sound_whole v ConeDim (to_z w64 k) (pos k) old new refl (to_z_pos w64 k small) (small_bits k small) put (points_follow v k h)
+    rank_of_points h = sound_count v ConeDim k old new refl small put (points_follow v k h)
 
   pub what_hull_leaves : (m n l : ℕ) (rows : List (List Ratio)) → n ≡ v.cols → l ≡ length rows → IsView v → fact_of AffineHull v.facts ≡ Some (matrix m rows) → FormsIn v.of v.cols AffineHull (matrix m rows)
       → IsPut v ConeDim (whole (to_z w64 (of_z w64 (to_z w64 n -ℤ to_z w64 l)))) old new → IsSound v new
@@ -106,7 +105,7 @@ module _ (v : ViewSeen) (old new : DraftSeen) where
   pub number_of_lines : (m l : ℕ) (rows : List (List Ratio)) → l ≡ length rows → fact_of LinealitySpace v.facts ≡ Some (matrix m rows) → FormsIn v.of v.cols LinealitySpace (matrix m rows) → IsPut v LinealityDim (whole (to_z w64 l)) old new → IsSound v new
   number_of_lines m l rows f read form put =
       let few : l < 2 ^ 63 = let k = few_rows m rows form.formed in omega arith in
-      sound_whole v LinealityDim (to_z w64 l) (pos l) old new refl (to_z_pos w64 l few) (small_bits l few) put (λ t o of cols right c.
+      sound_count v LinealityDim l old new refl few put (λ t o of cols right c.
       let (s, lines) = read_right LinealitySpace v.facts (matrix m rows) t o read right in
       rw f (lineality_dim_is_found t o m rows (objective_of t s) c lines))
 

@@ -1,6 +1,6 @@
 -- The truth values that follow from dimensions.
 use Rattle.pm_client.proofs.ReadValues.{read_right}
-use Rattle.pm_clients_geom.proofs.Machine.{same_bits}
+use Rattle.pm_client.proofs.Machine.{same_bits}
 use Rattle.pm_client.proofs.PlainValues.{sound_truth}
 use Rattle.pm_client.proofs.Puts.{IsPut}
 use Rattle.pm_client.proofs.ViewLaws.{few_columns}

@@ -1,5 +1,4 @@
 pub mod RowLists
-pub mod Machine
 pub mod FoundDims
 pub mod FoundTruths
 pub mod Halves

@@ -21,15 +21,17 @@ use std::alloc::Global;
 
 /// The standard clients that find a dimension.
 #[derive(Debug, Drop)]
-pub struct Dims;
+pub struct DimFamily;
 
 /// A client that finds a dimension: number 0 is `cone_dim_v`, 1 `cone_dim_span`, 2 `cone_dim_points`, 3 `lineality_dim`, 4 `combinatorial_dim`.
 /// `cone_dim_v` and `cone_dim_points` fail exactly where the rank of their row list is Wide, the others never.
-pub type DimClient = FamilyClient<Dims>;
+pub type DimClient = FamilyClient<DimFamily>;
 
-impl Family for Dims {
+impl Family for DimFamily {
+    ghost use Rattle.pm_client.specs.Families.{clients_of};
     ghost use Rattle.pm_clients_geom.specs.Families.{finds_dimension};
     ghost use Rattle.pm_clients_geom.specs.Stays.{DimFails, DimStays};
+    ghost use Rattle.std.specs.Prelude.{length, refl};
 
     ghost is_member = { finds_dimension };
 
@@ -37,7 +39,7 @@ impl Family for Dims {
 
     ghost Fails = { DimFails };
 
-    ghost COUNT = { 5 };
+    ghost COUNT = { length (clients_of finds_dimension) };
 
     const COUNT: u8 = 5;
 
@@ -66,6 +68,8 @@ impl Family for Dims {
             _ => unreachable!(),
         }
     }
+
+    ghost counted = { refl };
 }
 
 // The rank of the row list of two parts, to which nothing is added. It fails for want of memory, or where the elimination of the list leaves the range.

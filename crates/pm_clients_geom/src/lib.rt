@@ -1,4 +1,4 @@
-// Clients that find dimensions, truth values, null spaces, and one description from its twin.
+//! Clients that find dimensions, truth values, null spaces, and one description from its twin.
 #![tactic(auto)]
 
 mod dims;

@@ -29,15 +29,17 @@ use std::alloc::Global;
 
 /// The standard clients that find rows.
 #[derive(Debug, Drop)]
-pub struct Rows;
+pub struct RowsFamily;
 
 /// A client that finds rows: number 0 is `points_from_vertices`, 1 `inequalities_from_facets`, 2 `lineality_from_facets`, 3 `hull_from_vertices`.
 /// The last two fail exactly where the null space of their row list is Wide, the others never.
-pub type RowsClient = FamilyClient<Rows>;
+pub type RowsClient = FamilyClient<RowsFamily>;
 
-impl Family for Rows {
+impl Family for RowsFamily {
+    ghost use Rattle.pm_client.specs.Families.{clients_of};
     ghost use Rattle.pm_clients_geom.specs.Families.{finds_rows};
     ghost use Rattle.pm_clients_geom.specs.Stays.{RowsFail, RowsStay};
+    ghost use Rattle.std.specs.Prelude.{length, refl};
 
     ghost is_member = { finds_rows };
 
@@ -45,7 +47,7 @@ impl Family for Rows {
 
     ghost Fails = { RowsFail };
 
-    ghost COUNT = { 4 };
+    ghost COUNT = { length (clients_of finds_rows) };
 
     const COUNT: u8 = 4;
 
@@ -72,6 +74,8 @@ impl Family for Rows {
             _ => unreachable!(),
         }
     }
+
+    ghost counted = { refl };
 }
 
 // POINTS and INPUT_LINEALITY: the rows of VERTICES and LINEALITY_SPACE.

@@ -13,15 +13,16 @@ use std::alloc::Global;
 
 /// The standard clients that find truth values.
 #[derive(Debug, Drop)]
-pub struct Tests;
+pub struct TestFamily;
 
 /// A client that finds a truth value: number 0 is `feasible`, 1 `pointed`, 2 `full_dim`. It fails for want of memory alone.
-pub type TestClient = FamilyClient<Tests>;
+pub type TestClient = FamilyClient<TestFamily>;
 
-impl Family for Tests {
+impl Family for TestFamily {
+    ghost use Rattle.pm_client.specs.Families.{clients_of};
     ghost use Rattle.pm_client.specs.declared.ClientFail.TheVariants.{Memory};
     ghost use Rattle.pm_clients_geom.specs.Families.{finds_truth};
-    ghost use Rattle.std.specs.Prelude.{◌≡◌};
+    ghost use Rattle.std.specs.Prelude.{length, refl, ◌≡◌};
 
     ghost is_member = { finds_truth };
 
@@ -29,7 +30,7 @@ impl Family for Tests {
 
     ghost Fails = { λ _ _ e. e ≡ Memory };
 
-    ghost COUNT = { 3 };
+    ghost COUNT = { length (clients_of finds_truth) };
 
     const COUNT: u8 = 3;
 
@@ -54,6 +55,8 @@ impl Family for Tests {
             _ => unreachable!(),
         }
     }
+
+    ghost counted = { refl };
 }
 
 // FEASIBLE: CONE_DIM is not 0.
