@@ -147,7 +147,7 @@ found_pair v p q x y h t o of cols read =
       orders = o;
       keeps = record { rays = λ n. refl; facets = λ n. refl; cones = λ n. refl };
       right = right_with_two v.facts (fact_put v.sub (put p x)) (fact_put v.sub (put q y)) t o read w.0 w.1 (both_ways t p q x y h.halves w.2)
-      (λ f c. with_first t p q h.halves f.property f.value x (none_among q v.facts h.no_second f c)) (λ f c. with_second t p q h.halves f.property f.value y (none_among p v.facts h.no_first f c));
+          (λ f c. with_first t p q h.halves f.property f.value x (none_among q v.facts h.no_second f c)) (λ f c. with_second t p q h.halves f.property f.value y (none_among p v.facts h.no_first f c));
       canonical = (k.0, (k.1, tt));
     }
 

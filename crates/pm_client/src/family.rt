@@ -65,10 +65,21 @@ pub struct FamilyClient<F: Family> {
     ghost member: { IsTrue (F.is_member client) },
 }
 
-impl<F: Family> FamilyClient<F> {
-    /// How many such clients there are.
-    pub const COUNT: u8 = F::COUNT;
+/// Clients that are numbered from 0.
+pub trait Numbered {
+    ghost COUNT: { ℕ };
 
+    /// How many such clients there are.
+    const COUNT: u8;
+}
+
+impl<F: Family> Numbered for FamilyClient<F> {
+    ghost COUNT = { F.COUNT };
+
+    const COUNT: u8 = F::COUNT;
+}
+
+impl<F: Family> FamilyClient<F> {
     /// The client of that number, below `COUNT`, in the order of the standard book. It was never started.
     pub fn new(number: u8) -> FamilyClient<F>
         requires { number < F.COUNT }

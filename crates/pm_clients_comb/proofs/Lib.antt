@@ -2,3 +2,4 @@ pub mod Multiples
 pub mod Products
 pub mod Places
 pub mod Answered
+pub mod Examples

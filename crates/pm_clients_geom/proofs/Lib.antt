@@ -5,3 +5,4 @@ pub mod Halves
 pub mod NullMatrices
 pub mod OverOne
 pub mod PutMatrices
+pub mod Examples

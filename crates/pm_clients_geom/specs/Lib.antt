@@ -4,3 +4,4 @@ pub mod Ranks
 pub mod Stays
 pub mod Matrices
 pub mod Pairs
+pub mod Examples
