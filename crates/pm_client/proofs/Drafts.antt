@@ -1,19 +1,18 @@
 -- Drafts into which values were put: the facts of their answers are the values of the targets.
 use Rattle.pm_algebra.proofs.Filters.{filter_among}
 use Rattle.pm_algebra.proofs.Lists.{All_among, Among, among_append, here, there}
-use Rattle.pm_object.specs.Reading.{DraftSeen, Put, answer_at, drafted, fact_at}
+use Rattle.pm_object.specs.Reading.{Put, answer_at, drafted, fact_at}
 use Rattle.pm_types.proofs.Every.{has-set_of}
 use Rattle.pm_types.proofs.Kept.{same_property_is}
 use Rattle.pm_types.specs.Properties.{every_property, number}
 use Rattle.pm_types.specs.Runs.{place_of, same_property}
 use Rattle.pm_types.specs.Sets.{has, members, set_of}
 use Rattle.pm_types.specs.Values.{Fact, PropertyValue}
-use Rattle.pm_types.specs.declared.kind.Kind.{Kind}
 use Rattle.pm_types.specs.declared.property.PropId.{PropId}
 use Rattle.std.proofs.Common.{ap, arith, eqb, false, inl, inr, refl, subst, sym, true, true≢false, ◌∙◌}
 use Rattle.std.specs.List.{All, AllByRecursion, list_any}
 use Rattle.std.specs.Option.{is_some}
-use Rattle.std.specs.Prelude.{Bool, IsTrue, List, None, Option, Some, [], if◌then◌else◌, map, nat_eq, ℕ, ◌++◌, ◌||◌, ◌∷◌, ◌≡◌}
+use Rattle.std.specs.Prelude.{Bool, List, None, Option, Some, [], if◌then◌else◌, map, nat_eq, ℕ, ◌++◌, ◌||◌, ◌∷◌, ◌≡◌}
 
 -- the value x of the property p
 abbrev pub put : PropId → PropertyValue → Put

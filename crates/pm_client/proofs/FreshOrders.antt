@@ -1,5 +1,4 @@
 -- A client whose kind is fresh in an order may choose it: what it reads does not speak of that order, and stays right.
-use Rattle.pm_client.proofs.Drafts.{put}
 use Rattle.pm_client.proofs.Puts.{IsRightPut, RightIn}
 use Rattle.pm_geom.specs.Things.{AreOrders, Orders, Thing}
 use Rattle.pm_object.specs.Reading.{Put, ViewSeen}
@@ -7,11 +6,10 @@ use Rattle.pm_types.proofs.Frame.{Agrees, right_in_orders}
 use Rattle.pm_types.specs.Kinds.{IsFresh}
 use Rattle.pm_types.specs.Properties.{facets_tag, rays_tag}
 use Rattle.pm_types.specs.Right.{RightAll, objective_of}
-use Rattle.pm_types.specs.Runs.{Keeps}
 use Rattle.pm_types.specs.Sets.{has}
 use Rattle.pm_types.specs.Values.{Fact}
 use Rattle.pm_types.specs.declared.kind.Kind.{Kind}
-use Rattle.std.proofs.Common.{inl, inr, refl}
+use Rattle.std.proofs.Common.{inl, inr}
 use Rattle.std.specs.List.{AllByRecursion, Contains}
 use Rattle.std.specs.Prelude.{IsTrue, List, ◌≡◌}
 

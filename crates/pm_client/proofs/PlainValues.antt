@@ -21,7 +21,7 @@ use Rattle.std.proofs.lemmas.Bool.{and_parts}
 use Rattle.std.proofs.lemmas.Int.{to_z_pos}
 use Rattle.std.proofs.lemmas.List.Elements.{All-nil}
 use Rattle.std.specs.List.{All}
-use Rattle.std.specs.Prelude.{Bool, IsTrue, List, if◌then◌else◌, nat_eq, not, ℕ, ◌&&◌, ◌<◌, ◌^◌, ◌||◌, ◌≡◌}
+use Rattle.std.specs.Prelude.{Bool, List, if◌then◌else◌, nat_eq, not, ℕ, ◌&&◌, ◌<◌, ◌^◌, ◌||◌, ◌≡◌}
 use lib.IntN.{pos, ℤ}
 
 -- x is right as the value of p wherever what was read is right

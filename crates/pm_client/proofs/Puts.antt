@@ -14,9 +14,9 @@ use Rattle.pm_types.specs.Values.{Fact, PropertyValue, matrix}
 use Rattle.pm_types.specs.declared.kind.Kind.{Kind}
 use Rattle.pm_types.specs.declared.property.PropId.{PropId}
 use Rattle.pm_types.specs.declared.property.PropId.TheVariants.{Equations, Inequalities, InputLineality, Points}
-use Rattle.std.proofs.Common.{ap, append-nil, append_assoc, false, inl, inr, refl, subst, sym, true, true≢false, ◌∙◌}
+use Rattle.std.proofs.Common.{ap, append-nil, append_assoc, inl, inr, refl, subst, sym, true≢false, ◌∙◌}
 use Rattle.std.specs.List.{AllByRecursion, Contains}
-use Rattle.std.specs.Prelude.{Bool, IsTrue, List, Option, [], map, not, ℕ, ◌&&◌, ◌++◌, ◌∷◌, ◌≡◌}
+use Rattle.std.specs.Prelude.{Bool, IsTrue, List, Option, [], not, ℕ, ◌&&◌, ◌++◌, ◌∷◌, ◌≡◌}
 
 -- ---- drafts
 -- the draft was made for the view, of which its targets are those of the values that were put into it, in this order

@@ -6,8 +6,7 @@ use Rattle.pm_elim.specs.declared.evidence.ElimFail.TheVariants as elimination
 use Rattle.pm_geom.specs.declared.ObjectType.TheVariants.{Cone, Polytope}
 use Rattle.pm_types.specs.declared.kind.Kind.{Kind}
 use Rattle.pm_types.specs.declared.property.PropId.TheVariants.{Equations, Facets, Inequalities, InputLineality, LinealitySpace, Points, Vertices}
-use Rattle.std.specs.Prelude.{None, Some, [], codes, false, true, ℕ, ◌-◌, ◌^◌, ◌∷◌, ◌≡◌}
-use Rattle.std.specs.Prelude.{List}
+use Rattle.std.specs.Prelude.{List, None, Some, [], codes, false, true, ℕ, ◌-◌, ◌^◌, ◌∷◌, ◌≡◌}
 use lib.IntN.{pos}
 
 -- a kind of this name and these sets

@@ -9,30 +9,25 @@ use Rattle.pm_client.proofs.ReadValues.{all_length, found, primitive_length, rea
 use Rattle.pm_client.specs.Sound.{FailsRightly, IsRowOf, IsSound, is_generator, is_half_space}
 use Rattle.pm_client.specs.declared.ClientFail.TheVariants.{Failed, Memory}
 use Rattle.pm_client.specs.declared.ClientFail.{ClientFail}
-use Rattle.pm_geom.specs.declared.evidence.Evidence.TheVariants.{E1, E4}
+use Rattle.pm_geom.specs.declared.evidence.Evidence.TheVariants.{E4}
 use Rattle.pm_matrix.specs.FractionRows.{ArePrimitiveRowsOf, IsPositiveMultipleOf, IsPrimitiveRowOf}
-use Rattle.pm_matrix.specs.Matrices.{IsFraction}
 use Rattle.pm_clients_comb.proofs.Places.{incidence_form, incidence_is}
 use Rattle.pm_clients_comb.proofs.Multiples.{incidence_multiples}
 use Rattle.pm_clients_comb.proofs.Products.{stays_turned, zero_stays}
 use Rattle.pm_clients_comb.specs.Incidence.{IsWideFor, incidence}
 use Rattle.pm_object.specs.Reading.{DraftSeen, ViewSeen, fact_of}
-use Rattle.pm_types.proofs.Every.{has-set_of}
 use Rattle.pm_types.proofs.Incidence.{incidence_is_right}
 use Rattle.pm_types.proofs.PrimitiveRows.{few_rows}
 use Rattle.pm_types.proofs.PrimitiveStanding.{standing}
 use Rattle.pm_types.specs.Forms.{FormsIn, is_formed}
 use Rattle.pm_types.specs.Kinds.{incidence_kind}
-use Rattle.pm_types.specs.Right.{Right, objective_of}
-use Rattle.pm_types.specs.Runs.{place_of}
-use Rattle.pm_types.specs.Sets.{has, members, only, set_of, union}
+use Rattle.pm_types.specs.Right.{Right}
 use Rattle.pm_types.specs.Values.{IndexSets, matrix, sets}
-use Rattle.pm_types.specs.declared.kind.Kind.{Kind}
 use Rattle.pm_types.specs.declared.property.PropId.{PropId}
 use Rattle.pm_types.specs.declared.property.PropId.TheVariants.{Facets, Vertices, VerticesInFacets}
 use Rattle.std.proofs.Common.{ap, arith, get_or, inl, inr, refl, subst, sym, true, ◌∙◌}
 use Rattle.std.proofs.lemmas.List.{get_or_default}
-use Rattle.std.proofs.lemmas.List.Elements.{All-nil, Contains-get_or}
+use Rattle.std.proofs.lemmas.List.Elements.{Contains-get_or}
 use Rattle.std.specs.List.{All, Contains}
 use Rattle.std.specs.Prelude.{Bool, IsTrue, List, Some, [], length, ℕ, ◌++◌, ◌∷◌, ◌≡◌}
 

@@ -2,11 +2,11 @@
 use Rattle.pm_algebra.proofs.Lists.{All_among, Among, among_All, here, there}
 use Rattle.pm_algebra.specs.Rows.{Row, entry}
 use Rattle.pm_clients_geom.specs.Examples.{FamiliesAreRead, MatricesAreRead}
-use Rattle.pm_geom.specs.declared.ObjectType.TheVariants.{Cone, Polytope}
+use Rattle.pm_geom.specs.declared.ObjectType.TheVariants.{Polytope}
 use Rattle.pm_geom.specs.declared.ObjectType.{ObjectType}
-use Rattle.std.proofs.Common.{ap, arith, false, refl, sym, true, true≢false, ◌∙◌}
+use Rattle.std.proofs.Common.{ap, arith, false, refl, sym, true, true≢false}
 use Rattle.std.proofs.lemmas.Int.{ints}
-use Rattle.std.specs.Prelude.{Bool, List, [], ◌∷◌, ◌≡◌}
+use Rattle.std.specs.Prelude.{Bool, [], ◌∷◌, ◌≡◌}
 use lib.IntN.{pos}
 
 pub families_are_read : FamiliesAreRead

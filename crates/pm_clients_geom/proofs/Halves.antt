@@ -7,15 +7,13 @@ use Rattle.pm_clients_geom.proofs.PutMatrices.{equations_forms, inequalities_for
 use Rattle.pm_clients_geom.specs.Matrices.{as_put, cols_over}
 use Rattle.pm_clients_geom.specs.Pairs.{LacksPair}
 use Rattle.pm_algebra.specs.Numbers.{Ratio}
-use Rattle.pm_geom.specs.Things.{Orders, Thing}
 use Rattle.pm_matrix.specs.Matrices.{FractionMatrix}
 use Rattle.pm_object.specs.Reading.{DraftSeen, ViewSeen, fact_of}
 use Rattle.pm_types.proofs.Twins.{facets_cut_out, vertices_generate}
 use Rattle.pm_types.specs.Forms.{FormsIn}
 use Rattle.pm_types.specs.Kinds.{standard_kind}
-use Rattle.pm_types.specs.Right.{RightAll, RightPair, objective_of}
-use Rattle.pm_types.specs.Sets.{members}
-use Rattle.pm_types.specs.Values.{PropertyValue, matrix}
+use Rattle.pm_types.specs.Right.{objective_of}
+use Rattle.pm_types.specs.Values.{matrix}
 use Rattle.pm_types.specs.declared.property.PropId.TheVariants.{AffineHull, Equations, Facets, Inequalities, InputLineality, LinealitySpace, Points, Vertices}
 use Rattle.pm_types.specs.declared.property.PropId.{PropId}
 use Rattle.pm_types.specs.declared.standard.StandardClient.TheVariants as client

@@ -22,7 +22,6 @@ use Rattle.pm_types.specs.Canonical.{IsCanonical, IsEchelonBasisOf, Vanishing}
 use Rattle.pm_types.specs.Kinds.{standard_kind}
 use Rattle.pm_types.specs.Right.{InLines, Right, RightAll, objective_of}
 use Rattle.pm_types.specs.Runs.{place_of}
-use Rattle.pm_types.specs.Sets.{members}
 use Rattle.pm_types.specs.Values.{matrix}
 use Rattle.pm_types.specs.Views.{ratios}
 use Rattle.pm_types.specs.declared.property.PropId.TheVariants.{AffineHull, Facets, LinealitySpace, Vertices}

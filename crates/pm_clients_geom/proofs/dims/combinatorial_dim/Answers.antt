@@ -2,7 +2,7 @@ use Rattle.pm_clients_geom.proofs.FoundDims.{difference_less_one}
 use Rattle.pm_client.proofs.ViewLaws.{has_listed}
 use Rattle.pm_clients_geom.proofs.dims.combinatorial_dim.Goals as goal
 use Rattle.pm_types.specs.declared.property.PropId.TheVariants.{CombinatorialDim, ConeDim, LinealityDim}
-use Rattle.std.proofs.Common.{[], ap, refl, ◌∙◌, ◌∷◌}
+use Rattle.std.proofs.Common.{[], ap, ◌∙◌, ◌∷◌}
 
 pub whole_of-cone-requires-clause-source : goal.whole_of-cone-requires-clause-source
 whole_of-cone-requires-clause-source c = has_listed _ (ConeDim ∷ LinealityDim ∷ []) ConeDim (ap (λ k. k.sources) c.requires.kind)

@@ -2,7 +2,7 @@ use Rattle.pm_clients_geom.proofs.FoundDims.{what_hull_leaves}
 use Rattle.pm_client.proofs.ViewLaws.{has_listed}
 use Rattle.pm_clients_geom.proofs.dims.cone_dim_span.Goals as goal
 use Rattle.pm_types.specs.declared.property.PropId.TheVariants.{AffineHull, ConeDim}
-use Rattle.std.proofs.Common.{[], ap, refl, ◌∙◌, ◌∷◌}
+use Rattle.std.proofs.Common.{[], ap, ◌∙◌, ◌∷◌}
 
 pub matrix_of-hull-requires-clause-source : goal.matrix_of-hull-requires-clause-source
 matrix_of-hull-requires-clause-source c = has_listed _ (AffineHull ∷ []) AffineHull (ap (λ k. k.sources) c.requires.kind)

@@ -2,7 +2,7 @@ use Rattle.pm_clients_geom.proofs.FoundDims.{rank_of_vertices}
 use Rattle.pm_client.proofs.ViewLaws.{has_listed}
 use Rattle.pm_clients_geom.proofs.dims.cone_dim_v.Goals as goal
 use Rattle.pm_types.specs.declared.property.PropId.TheVariants.{ConeDim, LinealitySpace, Vertices}
-use Rattle.std.proofs.Common.{[], ap, refl, ◌∙◌, ◌∷◌}
+use Rattle.std.proofs.Common.{[], ap, ◌∙◌, ◌∷◌}
 
 pub rank_of_list-requires-clause-first : goal.rank_of_list-requires-clause-first
 rank_of_list-requires-clause-first c = has_listed _ (Vertices ∷ LinealitySpace ∷ []) LinealitySpace (ap (λ k. k.sources) c.requires.kind)

@@ -2,7 +2,7 @@ use Rattle.pm_clients_geom.proofs.FoundDims.{number_of_lines}
 use Rattle.pm_client.proofs.ViewLaws.{has_listed}
 use Rattle.pm_clients_geom.proofs.dims.lineality_dim.Goals as goal
 use Rattle.pm_types.specs.declared.property.PropId.TheVariants.{LinealityDim, LinealitySpace}
-use Rattle.std.proofs.Common.{[], ap, refl, ◌∙◌, ◌∷◌}
+use Rattle.std.proofs.Common.{[], ap, ◌∙◌, ◌∷◌}
 
 pub matrix_of-lineality-requires-clause-source : goal.matrix_of-lineality-requires-clause-source
 matrix_of-lineality-requires-clause-source c = has_listed _ (LinealitySpace ∷ []) LinealitySpace (ap (λ k. k.sources) c.requires.kind)

@@ -3,7 +3,7 @@ use Rattle.pm_clients_geom.proofs.Halves.{inequalities_sound}
 use Rattle.pm_clients_geom.proofs.rows.inequalities_from_facets.Goals as goal
 use Rattle.pm_types.specs.declared.property.PropId.TheVariants.{Facets, AffineHull, Inequalities, Equations}
 use Rattle.pm_types.specs.declared.property.PropId.{PropId}
-use Rattle.std.proofs.Common.{ap, refl, ◌∙◌}
+use Rattle.std.proofs.Common.{ap, ◌∙◌}
 use Rattle.std.specs.Prelude.{List, [], ◌∷◌}
 
 abbrev sources : List PropId

@@ -3,7 +3,7 @@ use Rattle.pm_clients_geom.proofs.Halves.{points_sound}
 use Rattle.pm_clients_geom.proofs.rows.points_from_vertices.Goals as goal
 use Rattle.pm_types.specs.declared.property.PropId.TheVariants.{Vertices, LinealitySpace, Points, InputLineality}
 use Rattle.pm_types.specs.declared.property.PropId.{PropId}
-use Rattle.std.proofs.Common.{ap, refl, ◌∙◌}
+use Rattle.std.proofs.Common.{ap, ◌∙◌}
 use Rattle.std.specs.Prelude.{List, [], ◌∷◌}
 
 abbrev sources : List PropId

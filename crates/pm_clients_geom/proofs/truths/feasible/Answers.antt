@@ -2,7 +2,7 @@ use Rattle.pm_clients_geom.proofs.FoundTruths.{feasible_follows}
 use Rattle.pm_client.proofs.ViewLaws.{has_listed}
 use Rattle.pm_clients_geom.proofs.truths.feasible.Goals as goal
 use Rattle.pm_types.specs.declared.property.PropId.TheVariants.{ConeDim, Feasible}
-use Rattle.std.proofs.Common.{[], ap, refl, ◌∙◌, ◌∷◌}
+use Rattle.std.proofs.Common.{[], ap, ◌∙◌, ◌∷◌}
 
 pub whole_of-is_feasible-requires-clause-source : goal.whole_of-is_feasible-requires-clause-source
 whole_of-is_feasible-requires-clause-source c = has_listed _ (ConeDim ∷ []) ConeDim (ap (λ k. k.sources) c.requires.kind)
