@@ -1,6 +1,12 @@
-pub mod OneTarget
 pub mod SameKind
 pub mod Started
 pub mod ReadValues
-pub mod TwoTargets
+pub mod Pairs
+pub mod ViewLaws
 pub mod Failing
+pub mod Drafts
+pub mod Puts
+pub mod Filtered
+pub mod PlainValues
+pub mod Machine
+pub mod FreshOrders

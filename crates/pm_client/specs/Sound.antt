@@ -1,19 +1,4 @@
--- When a run of a client is sound.
---     is_generator p      the rows of p lie in the thing
---     is_half_space p      the rows of p are valid on the thing
---     IsRowOf v of_kind x      x is the primitive whole row in the direction of a row of a value of the view, of a property of that kind
---     Reads v p n rows      the view has the matrix of these rows and the stated column count n as its value of p
---     are_parts p q      p and q are the two parts of a row list, in this order: lines and then points or rays, or equations and then inequalities or facets
---     added_rows of n q      a polytope's INEQUALITIES have x0 >= 0 added to them
---     IsListOf v first second X      X are the primitive whole rows of the values of both properties, one after the other, and what is added
---     IsRowList v X      X is the list of two parts that the view reads
---     Eliminated      which lists of rows a client may eliminate: the row list
---     eliminated_by name      those that the client of this name eliminates; so far each client that eliminates takes the row list
---     IsEliminated list v X      X is this list of the view
---     HoldsOf e v      the evidence holds of the view: a step of the elimination of a list of its client leaves the range, or the product of a generator's row with a half-space's row does; evidence of another kind holds of no view so far
---     IsSound v draft      the draft has a value for each target of the view's kind, in its form and canonical, and they are right wherever what was read is
---     fail_of f      the failure of a client whose elimination was given up
---     FailsRightly v e      a client fails for want of memory, or with evidence that holds of the view
+-- When a run of a client is sound, and which evidence holds of a view.
 use Rattle.std.specs.Prelude.{ℕ, ◌≡◌, ◌++◌, Bool, true, false, IsTrue, List, [], ◌∷◌, Some}
 use Rattle.std.specs.List.{Contains}
 use Rattle.pm_algebra.specs.Divisors.{IsPrimitive}
@@ -32,25 +17,13 @@ use Rattle.pm_matrix.specs.FractionRows.{ArePrimitiveRowsOf}
 use Rattle.pm_object.specs.Reading.{DraftSeen, ViewSeen, answer_of, fact_of}
 use Rattle.pm_types.specs.Runs.{MayAnswer}
 use Rattle.pm_types.specs.Values.{Fact, matrix}
+use Rattle.pm_props.specs.Properties.{is_generator, is_half_space}
 use Rattle.pm_props.specs.declared.property.PropId.{PropId}
 use Rattle.pm_props.specs.declared.property.PropId.TheVariants.{Points, InputLineality, Inequalities, Equations, Vertices, LinealitySpace, Facets, AffineHull}
 use Rattle.pm_client.specs.declared.ClientFail.{ClientFail}
 use Rattle.pm_client.specs.declared.ClientFail.TheVariants.{Memory, Failed}
 
-abbrev pub is_generator : PropId → Bool
-is_generator Points = true
-is_generator InputLineality = true
-is_generator Vertices = true
-is_generator LinealitySpace = true
-is_generator p = false
-
-abbrev pub is_half_space : PropId → Bool
-is_half_space Inequalities = true
-is_half_space Equations = true
-is_half_space Facets = true
-is_half_space AffineHull = true
-is_half_space p = false
-
+-- x is the primitive whole row in the direction of a row of a value of the view, of a property of that kind
 pub record IsRowOf (v : ViewSeen) (of_kind : PropId → Bool) (x : Row) : Type 0 where
   pub fact : Fact
   pub read : Contains v.facts fact
@@ -63,9 +36,11 @@ pub record IsRowOf (v : ViewSeen) (of_kind : PropId → Bool) (x : Row) : Type 0
   pub multiple : Stands row x
   pub primitive : IsPrimitive x
 
+-- the view has the matrix of these rows, with the stated column count n, as its value of the property
 abbrev pub Reads : ViewSeen → PropId → ℕ → List (List Ratio) → Type 0
 Reads v p n rows = fact_of p v.facts ≡ Some (matrix n rows)
 
+-- the two parts of a row list, in this order: lines and then points or rays, equations and then inequalities or facets
 abbrev pub are_parts : PropId → PropId → Bool
 are_parts InputLineality Points = true
 are_parts LinealitySpace Vertices = true
@@ -73,10 +48,12 @@ are_parts Equations Inequalities = true
 are_parts AffineHull Facets = true
 are_parts p q = false
 
+-- a polytope's INEQUALITIES have x0 >= 0 added to them
 abbrev pub added_rows : ObjectType → ℕ → PropId → List Row
 added_rows Polytope n Inequalities = unit n 0 ∷ []
 added_rows of n q = []
 
+-- X are the primitive whole rows of the values of both properties, one after the other, and what is added
 pub record IsListOf (v : ViewSeen) (first second : PropId) (X : List Row) : Type 0 where
   pub first_cols : ℕ
   pub second_cols : ℕ
@@ -90,21 +67,26 @@ pub record IsListOf (v : ViewSeen) (first second : PropId) (X : List Row) : Type
   pub second_primitive : ArePrimitiveRowsOf second_rows ys
   pub listed : X ≡ xs ++ ys ++ added_rows v.of v.cols second
 
+-- X is a list of two parts that the view reads
 pub record IsRowList (v : ViewSeen) (X : List Row) : Type 0 where
   pub first : PropId
   pub second : PropId
   pub parts : IsTrue (are_parts first second)
   pub list : IsListOf v first second X
 
+-- which lists of rows a client may eliminate: the row list
 pub data Eliminated : Type 0 where
   row_list : Eliminated
 
+-- those that the client of this name eliminates; so far each client that eliminates takes the row list
 abbrev pub eliminated_by : List ℕ → List Eliminated
 eliminated_by name = row_list ∷ []
 
+-- X is this list of the view
 abbrev pub IsEliminated : Eliminated → ViewSeen → List Row → Type 0
 IsEliminated row_list v X = IsRowList v X
 
+-- a step in the elimination of a list of its client leaves the range
 pub record IsWideElimination (v : ViewSeen) (e : EliminationStep) : Type 0 where
   pub list : Eliminated
   pub named : Contains (eliminated_by v.kind.name) list
@@ -112,18 +94,22 @@ pub record IsWideElimination (v : ViewSeen) (e : EliminationStep) : Type 0 where
   pub listed : IsEliminated list v rows
   pub shown : IsEvidence v.cols rows e
 
+-- the evidence holds of the view: such a step leaves the range, or the product of a generator's row with a half-space's row does; evidence of another kind holds of no view so far
 abbrev pub HoldsOf : Evidence → ViewSeen → Type 0
 HoldsOf (E1 e) v = IsWideElimination v e
 HoldsOf (E4 first second) v = IsRowOf v is_generator first × IsRowOf v is_half_space second × IsWideProduct first second
 HoldsOf e v = ⊥
 
+-- the draft has a value for each target of the view's kind, in its form and canonical, and they are right wherever what was read is
 abbrev pub IsSound : ViewSeen → DraftSeen → Type 0
 IsSound v draft = MayAnswer v.of v.cols v.kind v.sub v.facts (answer_of v.sub draft)
 
+-- a client fails for want of memory, or with evidence that holds of the view
 abbrev pub FailsRightly : ViewSeen → ClientFail → Type 0
 FailsRightly v Memory = Unit {0}
 FailsRightly v (Failed e) = HoldsOf e v
 
+-- the failure of a client whose elimination was given up
 abbrev pub fail_of : ElimFail → ClientFail
 fail_of (elimination.Wide e) = Failed (E1 e)
 fail_of elimination.Memory = Memory

@@ -1,6 +1,7 @@
-// Clients, which answer properties of an object from others, and running the first client of a kind.
+//! Clients, which answer properties of an object from others, and running the first client of a kind.
 #![tactic(auto)]
 
+ghost use Rattle.pm_client.specs.Examples.{RowListsAreRead, StartsAreRead};
 ghost use Rattle.pm_client.specs.Sound.{FailsRightly, IsSound};
 ghost use Rattle.pm_client.specs.Starts.{started_once};
 ghost use Rattle.std.specs.Prelude.{IfErr, OnOk, [], ℕ, ◌≡◌};
@@ -12,9 +13,11 @@ use pm_types::Kind;
 use std::alloc::{AllocError, AllocFailed, Global};
 
 mod boxes;
+mod family;
 mod values;
 
 pub use boxes::{place_of, run_first};
+pub use family::{Family, FamilyClient, Numbered};
 pub use values::{matrix_of, primitive_rows, put_value, whole_of};
 
 /// Why a client did not answer.
@@ -84,3 +87,13 @@ pub trait Client: Drop {
         ensures sound { OnOk result (IsSound view.now draft.new) }
         ensures failed { IfErr result (FailsRightly view.now) };
 }
+
+/// The definitions of starts read on three clients.
+pub fn example_starts()
+    ensures { StartsAreRead }
+{}
+
+/// The definitions of row lists read on some properties.
+pub fn example_row_lists()
+    ensures { RowListsAreRead }
+{}

@@ -3,42 +3,37 @@ use Rattle.pm_algebra.proofs.Lists.{Contains_among}
 use Rattle.pm_algebra.specs.Divisors.{IsPrimitive}
 use Rattle.pm_algebra.specs.Numbers.{Ratio}
 use Rattle.pm_algebra.specs.Rows.{IsZero, Row, Stands}
-use Rattle.pm_client.proofs.OneTarget.{IsRightAnswer, sound_put}
+use Rattle.pm_client.proofs.PlainValues.{Follows, sound_plain}
+use Rattle.pm_client.proofs.Puts.{IsPut}
 use Rattle.pm_client.proofs.ReadValues.{all_length, found, primitive_length, read_right}
-use Rattle.pm_client.specs.Sound.{FailsRightly, IsRowOf, IsSound, is_generator, is_half_space}
+use Rattle.pm_client.specs.Sound.{FailsRightly, IsRowOf, IsSound}
+use Rattle.pm_props.specs.Properties.{is_generator, is_half_space}
 use Rattle.pm_client.specs.declared.ClientFail.TheVariants.{Failed, Memory}
 use Rattle.pm_client.specs.declared.ClientFail.{ClientFail}
 use Rattle.pm_geom.specs.declared.evidence.Evidence.TheVariants.{E4}
 use Rattle.pm_matrix.specs.FractionRows.{ArePrimitiveRowsOf, IsPrimitiveRowOf}
-use Rattle.pm_matrix.specs.Matrices.{IsFraction}
 use Rattle.pm_clients_comb.proofs.Places.{incidence_form, incidence_is}
 use Rattle.pm_clients_comb.proofs.Products.{stays_turned, zero_stays}
 use Rattle.pm_clients_comb.specs.Incidence.{IsWideFor, incidence}
 use Rattle.pm_object.specs.Reading.{DraftSeen, ViewSeen, fact_of}
-use Rattle.pm_props.proofs.Every.{has-set_of}
 use Rattle.pm_relations.proofs.Incidence.{incidence_is_right}
 use Rattle.pm_types.proofs.PrimitiveRows.{few_rows}
 use Rattle.pm_relations.proofs.PrimitiveStanding.{primitive_stand}
-use Rattle.pm_types.specs.Forms.{FormsIn, HasPrimitiveRow}
-use Rattle.pm_props.specs.Kinds.{incidence_kind}
-use Rattle.pm_props.specs.Sets.{has, members, only, set_of, union}
+use Rattle.pm_types.specs.Forms.{FormsIn, is_formed}
+use Rattle.pm_props.specs.Kinds.{standard_kind}
+use Rattle.pm_props.specs.declared.standard.StandardClient.TheVariants as client
 use Rattle.pm_types.specs.Values.{IndexSets, matrix, sets}
-use Rattle.pm_props.specs.declared.kind.Kind.{Kind}
 use Rattle.pm_props.specs.declared.property.PropId.{PropId}
 use Rattle.pm_props.specs.declared.property.PropId.TheVariants.{Facets, Vertices, VerticesInFacets}
-use Rattle.std.proofs.Common.{ap, arith, get_or, inl, inr, refl, subst, sym, ◌∙◌}
+use Rattle.std.proofs.Common.{ap, arith, get_or, inl, inr, refl, subst, sym, true, ◌∙◌}
 use Rattle.std.proofs.lemmas.List.{get_or_default}
-use Rattle.std.proofs.lemmas.List.Elements.{All-nil, Contains-get_or}
+use Rattle.std.proofs.lemmas.List.Elements.{Contains-get_or}
 use Rattle.std.specs.List.{All, Contains}
 use Rattle.std.specs.Prelude.{Bool, IsTrue, List, Some, [], length, ℕ, ◌++◌, ◌∷◌, ◌≡◌}
 
-one_target : members (set_of (VerticesInFacets ∷ [])) ≡ VerticesInFacets ∷ []
-unfolding members has only union
-one_target = refl
-
 -- the view has these matrices, and these are the primitive rows of theirs
 pub record Reads (v : ViewSeen) (m k : ℕ) (facets vertices : List (List Ratio)) (F V : List Row) : Type 0 where
-  pub kind : v.kind ≡ incidence_kind
+  pub kind : v.kind ≡ standard_kind client.Incidence
   pub facets_read : fact_of Facets v.facts ≡ Some (matrix m facets)
   pub vertices_read : fact_of Vertices v.facts ≡ Some (matrix k vertices)
   pub facets_form : FormsIn v.of v.cols Facets (matrix m facets)
@@ -53,32 +48,22 @@ vertex_lengths v m k facets vertices F V g h p q = λ i d below.
     subst (λ n. All (λ x. length x ≡ n) V) (sym own) (all_length v.cols V (primitive_length k v.cols vertices V h.formed h.columns q))
 
 -- ---- the answer
-right_answer : (v : ViewSeen) (m k : ℕ) (facets vertices : List (List Ratio)) (F V : List Row) → Reads v m k facets vertices F V → IsRightAnswer v VerticesInFacets (sets (incidence F V) (length V))
-right_answer v m k facets vertices F V h = record {
-  targets = ap (λ z. members z.targets) h.kind ∙ one_target;
-  generators = refl;
-  half_spaces = refl;
-  formed = record {
-    formed = incidence_form F V
-        (let few = few_rows m facets h.facets_form.formed in let count = h.facet_rows.count in omega arith)
-        (let few = few_rows k vertices h.vertices_form.formed in let count = h.vertex_rows.count in omega arith);
-    columns = refl;
-    rows = refl;
-    entries = All-nil (All IsFraction);
-    primitive = All-nil HasPrimitiveRow;
-  };
-  stated = refl;
-  right = λ t o of cols right.
-      let (s, rv) = read_right Vertices v.facts (matrix k vertices) t o h.vertices_read right in
-      let (r, rf) = read_right Facets v.facts (matrix m facets) t o h.facets_read right in
-      incidence_is_right t o right.orders k m vertices facets V F (incidence F V) rv rf (primitive_stand vertices V h.vertex_rows) (primitive_stand facets F h.facet_rows) (incidence_is F V);
-  canonical = λ t. tt;
-}
+formed : (v : ViewSeen) (m k : ℕ) (facets vertices : List (List Ratio)) (F V : List Row) → Reads v m k facets vertices F V → is_formed VerticesInFacets (sets (incidence F V) (length V)) ≡ true
+formed v m k facets vertices F V h = incidence_form F V
+    (let few = few_rows m facets h.facets_form.formed in let count = h.facet_rows.count in omega arith)
+    (let few = few_rows k vertices h.vertices_form.formed in let count = h.vertex_rows.count in omega arith)
+
+follows : (v : ViewSeen) (m k : ℕ) (facets vertices : List (List Ratio)) (F V : List Row) → Reads v m k facets vertices F V → Follows v VerticesInFacets (sets (incidence F V) (length V))
+follows v m k facets vertices F V h t o of cols right c =
+    let (s, rv) = read_right Vertices v.facts (matrix k vertices) t o h.vertices_read right in
+    let (r, rf) = read_right Facets v.facts (matrix m facets) t o h.facets_read right in
+    incidence_is_right t o right.orders k m vertices facets V F (incidence F V) rv rf (primitive_stand vertices V h.vertex_rows) (primitive_stand facets F h.facet_rows) (incidence_is F V)
 
 pub sets_sound : (v : ViewSeen) (m k : ℕ) (facets vertices : List (List Ratio)) (F V : List Row) (s : IndexSets) (old new : DraftSeen) → Reads v m k facets vertices F V → s ≡ record { rows = incidence F V; cols = length V } → old ≡ record { kind = v.kind; values = [] }
     → new ≡ record old { values = old.values ++ record { property = VerticesInFacets; value = sets s.rows s.cols } ∷ [] } → IsSound v new
 sets_sound v m k facets vertices F V s old new h e empty put =
-    sound_put v VerticesInFacets (sets (incidence F V) (length V)) old new (right_answer v m k facets vertices F V h) empty (put ∙ ap (λ z. record old { values = old.values ++ record { property = VerticesInFacets; value = sets z.rows z.cols } ∷ [] }) e)
+    sound_plain v VerticesInFacets (sets (incidence F V) (length V)) old new refl refl (formed v m k facets vertices F V h)
+    (subst (λ z. IsPut v VerticesInFacets (sets z.rows z.cols) old new) e (record { targets = ap (λ z. z.targets) h.kind; empty = empty; put = put })) (follows v m k facets vertices F V h)
 
 -- ---- the evidence
 primitive_unless : (r : List Ratio) (x : Row) → IsPrimitiveRowOf r x → (IsZero x → ⊥) → IsPrimitive x
@@ -113,13 +98,3 @@ fails_rightly v m k facets vertices F V (Failed (E4 a x)) g h p q w = (
   w.2,
 )
 fails_rightly v m k facets vertices F V (Failed e) g h p q w = absurd w
-
--- ---- the kind
-pub has_target : (k : Kind) → k ≡ incidence_kind → IsTrue (has k.targets VerticesInFacets)
-has_target k e = ap (λ z. has z.targets VerticesInFacets) e ∙ has-set_of (VerticesInFacets ∷ []) VerticesInFacets
-
-pub has_facets : (k : Kind) → k ≡ incidence_kind → IsTrue (has k.sources Facets)
-has_facets k e = ap (λ z. has z.sources Facets) e ∙ has-set_of (Vertices ∷ Facets ∷ []) Facets
-
-pub has_vertices : (k : Kind) → k ≡ incidence_kind → IsTrue (has k.sources Vertices)
-has_vertices k e = ap (λ z. has z.sources Vertices) e ∙ has-set_of (Vertices ∷ Facets ∷ []) Vertices

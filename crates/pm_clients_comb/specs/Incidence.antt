@@ -1,9 +1,4 @@
 -- Which rows of V lie on which rows of F.
---     places_from j f V      the places, counted from j, of the rows of V with which the product of f is 0
---     incidence F V      for each row of F these places, counted from 0
---     AllStay F V      each product of a row of F with a row of V stays in the range
---     StaysInRange v      so does each product of the primitive whole rows of the view's FACETS and VERTICES
---     IsWideFor F V e      an error's evidence names a row of V and a row of F whose product leaves the range
 use Rattle.std.specs.Prelude.{ℕ, suc, ◌==◌, List, [], ◌∷◌, map, if◌then◌else◌, unsigned_abs}
 use Rattle.std.specs.List.{Contains}
 use Rattle.pm_algebra.specs.Numbers.{Ratio}
@@ -18,16 +13,20 @@ use Rattle.pm_object.specs.Reading.{ViewSeen}
 use Rattle.pm_props.specs.declared.property.PropId.TheVariants.{Facets, Vertices}
 use Rattle.pm_vector.specs.Products.{ProductsStay}
 
+-- the places, counted from j, of the rows of V with which the product of f is 0
 abbrev pub places_from : ℕ → Row → List Row → List ℕ
 places_from j f [] = []
 places_from j f (v ∷ V) = if unsigned_abs (dot f v) == 0 then j ∷ places_from (suc j) f V else places_from (suc j) f V
 
+-- for each row of F these places, counted from 0
 abbrev pub incidence : List Row → List Row → List (List ℕ)
 incidence F V = map (λ f. places_from 0 f V) F
 
+-- each product of a row of F with a row of V stays in the range
 pub record AllStay (F V : List Row) : Type 0 where
   pub stay : (f v : Row) → Contains F f → Contains V v → ProductsStay f v
 
+-- so does each product of the primitive whole rows of the view's FACETS and VERTICES
 pub record StaysInRange (v : ViewSeen) : Type 0 where
   pub facet_cols : ℕ
   pub vertex_cols : ℕ
@@ -41,6 +40,7 @@ pub record StaysInRange (v : ViewSeen) : Type 0 where
   pub vertex_rows : ArePrimitiveRowsOf vertices V
   pub stay : AllStay F V
 
+-- an error's evidence names a row of V and a row of F whose product leaves the range
 abbrev pub IsWideFor : List Row → List Row → ClientFail → Type 0
 IsWideFor F V Memory = Unit {0}
 IsWideFor F V (Failed (E4 first second)) = Contains V first × Contains F second × IsWideProduct first second

@@ -1,1 +1,3 @@
 pub mod Incidence
+pub mod Families
+pub mod Examples

@@ -7,9 +7,10 @@ use Rattle.pm_bases.proofs.Spans.{span_at, span_to}
 use Rattle.pm_bases.specs.Bases.{IsRank}
 use Rattle.pm_client.proofs.ReadValues.{found, read_right}
 use Rattle.pm_client.specs.Sound.{IsSound, added_rows}
-use Rattle.pm_clients_geom.proofs.Machine.{bits_below, cast_back, cast_difference, difference_bits, found_bits, found_less, small_bits}
-use Rattle.pm_clients_geom.proofs.Puts.{Follows, IsPut, combinatorial_dim_sound, cone_dim_sound, few_columns, lineality_dim_sound, named}
-use Rattle.pm_clients_geom.proofs.ViewLaws.{not_fan, target_named}
+use Rattle.pm_client.proofs.Machine.{bits_below, cast_back, cast_difference, difference_bits, found_bits, found_less}
+use Rattle.pm_client.proofs.PlainValues.{Follows, sound_count, sound_whole}
+use Rattle.pm_client.proofs.Puts.{IsPut}
+use Rattle.pm_client.proofs.ViewLaws.{few_columns, has_listed, not_fan, target_named}
 use Rattle.pm_clients_geom.specs.Ranks.{IsListRank}
 use Rattle.pm_geom.specs.Things.{Orders}
 use Rattle.pm_types.specs.Things.{Thing}
@@ -25,7 +26,6 @@ use Rattle.pm_props.specs.Sets.{has, set_of}
 use Rattle.pm_types.specs.Values.{matrix, whole}
 use Rattle.pm_props.specs.declared.property.PropId.TheVariants.{AffineHull, CombinatorialDim, ConeDim, InputLineality, LinealityDim, LinealitySpace, Points, Vertices}
 use Rattle.std.proofs.Common.{ap, arith, of_z, refl, subst, sym, to_z, true, w64, ◌∙◌}
-use Rattle.std.proofs.lemmas.Int.{to_z_pos}
 use Rattle.std.specs.Int.{saturate_signed}
 use Rattle.std.specs.Prelude.{List, Some, [], length, ℕ, ◌++◌, ◌<◌, ◌^◌, ◌∷◌, ◌≡◌, ◌≤◌}
 use lib.IntN.{pos, ℤ, ◌-ℤ◌}
@@ -40,7 +40,7 @@ rank_at_most X k n h l =
 -- ---- no view of a fan is for a client that finds CONE_DIM
 no_fan : (v : ViewSeen) (t : Thing) → IsView v → v.kind.targets ≡ set_of (ConeDim ∷ []) → t.of ≡ v.of → t.of ≡ Fan → ⊥
 no_fan v t view targets of e =
-    let target : has v.kind.targets ConeDim ≡ true = named v.kind.targets (ConeDim ∷ []) ConeDim targets refl in
+    let target : has v.kind.targets ConeDim ≡ true = has_listed v.kind.targets (ConeDim ∷ []) ConeDim targets in
     not_fan v ConeDim view (target_named v.kind ConeDim target) refl refl (sym of ∙ e)
 
 no_vertices_added : (of : ObjectType) (n : ℕ) → added_rows of n Vertices ≡ []
@@ -89,24 +89,24 @@ module _ (v : ViewSeen) (old new : DraftSeen) where
     small = omega arith
 
     pub rank_of_vertices : IsView v → IsListRank v LinealitySpace Vertices k → IsSound v new
-    rank_of_vertices view h = cone_dim_sound v old new (to_z w64 k) (pos k) (to_z_pos w64 k small) (small_bits k small) put (vertices_follow v k view put.targets h)
+    rank_of_vertices view h = sound_count v ConeDim k old new refl small put (vertices_follow v k view put.targets h)
 
     pub rank_of_points : IsListRank v InputLineality Points k → IsSound v new
-    rank_of_points h = cone_dim_sound v old new (to_z w64 k) (pos k) (to_z_pos w64 k small) (small_bits k small) put (points_follow v k h)
+    rank_of_points h = sound_count v ConeDim k old new refl small put (points_follow v k h)
 
   pub what_hull_leaves : (m n l : ℕ) (rows : List (List Ratio)) → n ≡ v.cols → l ≡ length rows → IsView v → fact_of AffineHull v.facts ≡ Some (matrix m rows) → FormsIn v.of v.cols AffineHull (matrix m rows)
       → IsPut v ConeDim (whole (to_z w64 (of_z w64 (to_z w64 n -ℤ to_z w64 l)))) old new → IsSound v new
   what_hull_leaves m n l rows e f view read form put =
       let some : n < 2 ^ 63 = rw e (few_columns v view) in
       let few : l < 2 ^ 63 = let k = few_rows m rows form.formed in omega arith in
-      cone_dim_sound v old new (to_z w64 (of_z w64 (to_z w64 n -ℤ to_z w64 l))) (pos n -ℤ pos l) (cast_difference n l some few) (difference_bits n l some few) put (λ t o of cols right c.
+      sound_whole v ConeDim (to_z w64 (of_z w64 (to_z w64 n -ℤ to_z w64 l))) (pos n -ℤ pos l) old new refl (cast_difference n l some few) (difference_bits n l some few) put (λ t o of cols right c.
       let (s, hull) = read_right AffineHull v.facts (matrix m rows) t o read right in
       rw (e, f, ← cols) (cone_dim_is_left t o right.thing m rows (objective_of t s) c hull))
 
   pub number_of_lines : (m l : ℕ) (rows : List (List Ratio)) → l ≡ length rows → fact_of LinealitySpace v.facts ≡ Some (matrix m rows) → FormsIn v.of v.cols LinealitySpace (matrix m rows) → IsPut v LinealityDim (whole (to_z w64 l)) old new → IsSound v new
   number_of_lines m l rows f read form put =
       let few : l < 2 ^ 63 = let k = few_rows m rows form.formed in omega arith in
-      lineality_dim_sound v old new (to_z w64 l) (pos l) (to_z_pos w64 l few) (small_bits l few) put (λ t o of cols right c.
+      sound_count v LinealityDim l old new refl few put (λ t o of cols right c.
       let (s, lines) = read_right LinealitySpace v.facts (matrix m rows) t o read right in
       rw f (lineality_dim_is_found t o m rows (objective_of t s) c lines))
 
@@ -115,7 +115,7 @@ module _ (v : ViewSeen) (old new : DraftSeen) where
       → IsPut v CombinatorialDim (whole (to_z w64 (of_z w64 s))) old new → IsSound v new
   difference_less_one i j r s first second read_cone read_lineality cone_form lineality_form put =
       let bits = found_bits i j r s first second in
-      combinatorial_dim_sound v old new (to_z w64 (of_z w64 s)) s (cast_back s bits) bits put (λ t o of cols right c.
+      sound_whole v CombinatorialDim (to_z w64 (of_z w64 s)) s old new refl (cast_back s bits) bits put (λ t o of cols right c.
       let (a, cone) = read_right ConeDim v.facts (whole i) t o read_cone right in
       let (b, lineality) = read_right LinealityDim v.facts (whole j) t o read_lineality right in
       let (d, p, is_cone) = cone in

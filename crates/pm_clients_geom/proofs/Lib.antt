@@ -1,11 +1,8 @@
 pub mod RowLists
-pub mod Machine
-pub mod Puts
 pub mod FoundDims
 pub mod FoundTruths
 pub mod Halves
 pub mod NullMatrices
 pub mod OverOne
 pub mod PutMatrices
-pub mod RowsKinds
-pub mod ViewLaws
+pub mod Examples

@@ -2,12 +2,11 @@
 use Rattle.pm_algebra.proofs.Lists.{All_among, all_at, among_All}
 use Rattle.pm_algebra.specs.Numbers.{InRange}
 use Rattle.pm_algebra.specs.Rows.{HasCols, Row, entry}
-use Rattle.pm_client.proofs.OneTarget.{IsFoundAnswer, sound_found}
+use Rattle.pm_client.proofs.Puts.{IsPut, sound_one}
 use Rattle.pm_client.proofs.ReadValues.{read_right}
 use Rattle.pm_client.specs.Sound.{IsListOf, IsSound, added_rows}
 use Rattle.pm_clients_geom.proofs.PutMatrices.{hull_forms, lineality_forms, put_states, ratios_columned}
 use Rattle.pm_clients_geom.proofs.RowLists.{IsColumned}
-use Rattle.pm_clients_geom.proofs.RowsKinds.{hull_targets, lineality_targets}
 use Rattle.pm_clients_geom.specs.Matrices.{MayBeLines, as_put, cols_over}
 use Rattle.pm_elim.proofs.PrefixLaws.{at_most_columns}
 use Rattle.pm_elim.specs.NullSpaces.{IsNullBasis}
@@ -24,7 +23,6 @@ use Rattle.pm_types.specs.Canonical.{IsCanonical, IsEchelonBasisOf, Vanishing}
 use Rattle.pm_props.specs.Kinds.{standard_kind}
 use Rattle.pm_types.specs.Right.{InLines, Right, RightAll, objective_of}
 use Rattle.pm_props.specs.Places.{place_of}
-use Rattle.pm_props.specs.Sets.{members}
 use Rattle.pm_types.specs.Values.{matrix}
 use Rattle.pm_types.specs.Views.{ratios}
 use Rattle.pm_props.specs.declared.property.PropId.TheVariants.{AffineHull, Facets, LinealitySpace, Vertices}
@@ -80,21 +78,15 @@ module _ (v : ViewSeen) (view : IsView v) (no_fan : ¬ (v.of ≡ Fan)) (X N : Li
   hull_values : (t : Thing) (o : Orders) → t.of ≡ v.of → t.cols ≡ v.cols → RightAll v.facts t o → (k : ℕ) → Right AffineHull (matrix k (map ratios N)) t o (objective_of t (place_of v.sub AffineHull)) × IsCanonical v.kind AffineHull (matrix k (map ratios N)) t
   hull_values t o of cols right k = (echelon_is_right t o v.kind k (objective_of t (place_of v.sub AffineHull)) N P).0 (hull_echelon t o of cols right)
 
-  hull_answer : v.kind ≡ standard_kind client.HullFromVertices → All (All InRange) N → IsFoundAnswer v AffineHull (matrix (cols_over v.cols (map ratios N)) (map ratios N))
-  hull_answer kind range = record {
-    targets = ap (λ z. members z.targets) kind ∙ hull_targets;
-    generators = refl;
-    half_spaces = refl;
-    formed = hull_forms v.of v.cols N (basis_columned v view X N P null) range;
-    stated = put_states v.cols (map ratios N);
-    right = λ t o of cols right. (hull_values t o of cols right (cols_over v.cols (map ratios N))).0;
-    canonical = λ t o of cols right. (hull_values t o of cols right (cols_over v.cols (map ratios N))).1;
-  }
+  hull_put : All (All InRange) N → (old new : DraftSeen) → IsPut v AffineHull (matrix (cols_over v.cols (map ratios N)) (map ratios N)) old new → IsSound v new
+  hull_put range old new put =
+      sound_one v AffineHull (matrix (cols_over v.cols (map ratios N)) (map ratios N)) old new put refl (hull_forms v.of v.cols N (basis_columned v view X N P null) range) (put_states v.cols (map ratios N))
+      (λ t o of cols right. hull_values t o of cols right (cols_over v.cols (map ratios N)))
 
   pub hull_sound : (a : FractionMatrix) (old new : DraftSeen) → v.kind ≡ standard_kind client.HullFromVertices → All (All InRange) N → a ≡ as_put v.cols (map ratios N) → old ≡ record { kind = v.kind; values = [] }
       → new ≡ record old { values = old.values ++ record { property = AffineHull; value = matrix a.cols a.rows } ∷ [] } → IsSound v new
   hull_sound a old new kind range same empty put =
-      sound_found v AffineHull (matrix a.cols a.rows) old new (subst (λ z. IsFoundAnswer v AffineHull (matrix z.cols z.rows)) (sym same) (hull_answer kind range)) empty put
+      hull_put range old new (subst (λ z. IsPut v AffineHull (matrix z.cols z.rows) old new) same (record { targets = ap (λ k. k.targets) kind; empty = empty; put = put }))
 
 -- ---- LINEALITY_SPACE
 module _ (v : ViewSeen) (view : IsView v) (no_fan : ¬ (v.of ≡ Fan)) (X N : List Row) (P : List ℕ) (list : IsListOf v AffineHull Facets X) (null : IsNullBasis v.cols X N P) where
@@ -125,21 +117,15 @@ module _ (v : ViewSeen) (view : IsView v) (no_fan : ¬ (v.of ≡ Fan)) (X N : Li
         subst (λ Z. Right LinealitySpace (matrix k (map ratios Z)) t o (objective_of t (place_of v.sub LinealitySpace)) × IsCanonical v.kind LinealitySpace (matrix k (map ratios Z)) t) (sym (put.kept (may_be t o of cols right)))
         ((echelon_is_right t o v.kind k (objective_of t (place_of v.sub LinealitySpace)) N P).1 (lineality_echelon t o of cols right))
 
-    lineality_answer : v.kind ≡ standard_kind client.LinealityFromFacets → IsFoundAnswer v LinealitySpace (matrix (cols_over v.cols (map ratios M)) (map ratios M))
-    lineality_answer kind = record {
-      targets = ap (λ z. members z.targets) kind ∙ lineality_targets;
-      generators = refl;
-      half_spaces = refl;
-      formed = lineality_forms v.of v.cols M lines_columned range put.lines;
-      stated = put_states v.cols (map ratios M);
-      right = λ t o of cols right. (lineality_values t o of cols right (cols_over v.cols (map ratios M))).0;
-      canonical = λ t o of cols right. (lineality_values t o of cols right (cols_over v.cols (map ratios M))).1;
-    }
+    lineality_put : (old new : DraftSeen) → IsPut v LinealitySpace (matrix (cols_over v.cols (map ratios M)) (map ratios M)) old new → IsSound v new
+    lineality_put old new h =
+        sound_one v LinealitySpace (matrix (cols_over v.cols (map ratios M)) (map ratios M)) old new h refl (lineality_forms v.of v.cols M lines_columned range put.lines) (put_states v.cols (map ratios M))
+        (λ t o of cols right. lineality_values t o of cols right (cols_over v.cols (map ratios M)))
 
     pub lineality_sound : (a : FractionMatrix) (old new : DraftSeen) → v.kind ≡ standard_kind client.LinealityFromFacets → a ≡ as_put v.cols (map ratios M) → old ≡ record { kind = v.kind; values = [] }
         → new ≡ record old { values = old.values ++ record { property = LinealitySpace; value = matrix a.cols a.rows } ∷ [] } → IsSound v new
-    lineality_sound a old new kind same empty put =
-        sound_found v LinealitySpace (matrix a.cols a.rows) old new (subst (λ z. IsFoundAnswer v LinealitySpace (matrix z.cols z.rows)) (sym same) (lineality_answer kind)) empty put
+    lineality_sound a old new kind same empty more =
+        lineality_put old new (subst (λ z. IsPut v LinealitySpace (matrix z.cols z.rows) old new) same (record { targets = ap (λ k. k.targets) kind; empty = empty; put = more }))
 
 -- rows of some columns have a first entry
 pub some_entries : (n : ℕ) (N : List Row) → nat_le 1 n ≡ true → HasCols n N → All (λ x. 0 < length x) N

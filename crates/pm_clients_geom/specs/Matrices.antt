@@ -1,7 +1,4 @@
 -- Matrices that a client puts, and rows that may span a lineality.
---     cols_over n rows      the column count that a matrix of these rows states: n, but none without rows
---     as_put n rows      the matrix of these rows
---     MayBeLines of rows      rows of the lineality of a polytope have first entry 0
 use Rattle.pm_algebra.specs.Numbers.{Ratio}
 use Rattle.pm_algebra.specs.Rows.{Row, entry}
 use Rattle.pm_props.specs.declared.object_type.ObjectType.{ObjectType}
@@ -11,12 +8,15 @@ use Rattle.std.specs.List.{All}
 use Rattle.std.specs.Prelude.{List, [], ℕ, ◌∷◌, ◌≡◌}
 use lib.IntN.{pos}
 
+-- the column count that a matrix of these rows states: n, but none without rows
 abbrev pub cols_over : ℕ → List (List Ratio) → ℕ
 cols_over n [] = 0
 cols_over n (r ∷ rows) = n
 
+-- the matrix of these rows
 abbrev pub as_put : ℕ → List (List Ratio) → FractionMatrix
 as_put n rows = record { cols = cols_over n rows; rows = rows }
 
+-- rows of the lineality of a polytope have first entry 0
 abbrev pub MayBeLines : ObjectType → List Row → Type 0
 MayBeLines of rows = of ≡ Polytope → All (λ x. entry x 0 ≡ pos 0) rows

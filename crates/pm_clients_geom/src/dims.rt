@@ -2,10 +2,7 @@
 
 ghost use Rattle.pm_client.specs.Sound.{FailsRightly, IsSound, added_rows, are_parts};
 ghost use Rattle.pm_client.specs.declared.ClientFail.TheVariants.{Memory};
-ghost use Rattle.pm_clients_geom.specs.Kinds.{all_dims, dim_kind, dim_kinds};
-ghost use Rattle.pm_client.specs.Starts.{started_once};
 ghost use Rattle.pm_clients_geom.specs.Lists.{StaysInRange};
-ghost use Rattle.pm_clients_geom.specs.Stays.{DimFails, DimStays};
 ghost use Rattle.pm_clients_geom.specs.Ranks.{IsListRank};
 ghost use Rattle.pm_elim.specs.declared.evidence.ElimList.TheVariants as list;
 ghost use Rattle.pm_object.specs.Reading.{IsView};
@@ -13,110 +10,66 @@ ghost use Rattle.pm_props.specs.Kinds.{standard_kind};
 ghost use Rattle.pm_props.specs.Sets.{has};
 ghost use Rattle.pm_props.specs.declared.property.PropId.TheVariants as property;
 ghost use Rattle.pm_props.specs.declared.standard.StandardClient.TheVariants as client;
-ghost use Rattle.std.specs.Prelude.{IfErr, IfOk, IsTrue, OnOk, Some, [], slice_get, ◌<◌, ◌≡◌, ◌≤◌};
+ghost use Rattle.std.specs.Prelude.{IfErr, IfOk, IsTrue, OnOk, [], ◌≡◌, ◌≤◌};
 
 use crate::lists::row_list;
-use pm_client::{Client, ClientFail, matrix_of, put_value, whole_of};
+use pm_client::{ClientFail, Family, FamilyClient, matrix_of, put_value, whole_of};
 use pm_elim::rank;
 use pm_object::{Draft, View};
-use pm_types::{Kind, PropId, StandardClient, Value};
+use pm_types::{PropId, StandardClient, Value};
 use std::alloc::Global;
 
-// What such a client finds its dimension from.
-#[derive(Clone, Copy, Debug)]
-enum Dim {
-    OfVertices,
-    OfSpan,
-    OfPoints,
-    OfLineality,
-    Combinatorial,
-}
-
-impl Dim {
-    // These clients, in the order of the standard book.
-    fn every() -> [Dim; 5]
-        ensures { result ≡ all_dims }
-    {
-        [
-            Dim::OfVertices,
-            Dim::OfSpan,
-            Dim::OfPoints,
-            Dim::OfLineality,
-            Dim::Combinatorial,
-        ]
-    }
-
-    fn kind(self) -> Kind
-        ensures { result ≡ dim_kind self }
-    {
-        match self {
-            Dim::OfVertices => StandardClient::ConeDimV.kind(),
-            Dim::OfSpan => StandardClient::ConeDimSpan.kind(),
-            Dim::OfPoints => StandardClient::ConeDimPoints.kind(),
-            Dim::OfLineality => StandardClient::LinealityDim.kind(),
-            Dim::Combinatorial => StandardClient::CombinatorialDim.kind(),
-        }
-    }
-}
+/// The standard clients that find a dimension.
+#[derive(Debug, Drop)]
+pub struct DimFamily;
 
 /// A client that finds a dimension: number 0 is `cone_dim_v`, 1 `cone_dim_span`, 2 `cone_dim_points`, 3 `lineality_dim`, 4 `combinatorial_dim`.
 /// `cone_dim_v` and `cone_dim_points` fail exactly where the rank of their row list is Wide, the others never.
-#[derive(Debug, Drop)]
-pub struct DimClient {
-    client: Dim,
-    starts: u64,
-}
+pub type DimClient = FamilyClient<DimFamily>;
 
-impl DimClient {
-    /// How many such clients there are.
-    pub const COUNT: u8 = 5;
+impl Family for DimFamily {
+    ghost use Rattle.pm_client.specs.Families.{clients_of};
+    ghost use Rattle.pm_clients_geom.specs.Families.{finds_dimension};
+    ghost use Rattle.pm_clients_geom.specs.Stays.{DimFails, DimStays};
+    ghost use Rattle.std.specs.Prelude.{length, refl};
 
-    /// The client of that number, below `COUNT`, which was never started.
-    pub fn new(number: u8) -> DimClient
-        requires { number < 5 }
-        ensures kind { slice_get dim_kinds number ≡ Some (⟦<DimClient as Client>⟧.tally result).0 }
-        ensures starts { (⟦<DimClient as Client>⟧.tally result).1 ≡ 0 }
-    {
-        DimClient {
-            client: Dim::every()[usize::from(number)],
-            starts: 0,
+    ghost is_member = { finds_dimension };
+
+    ghost Stays = { DimStays };
+
+    ghost Fails = { DimFails };
+
+    ghost COUNT = { length (clients_of finds_dimension) };
+
+    const COUNT: u8 = 5;
+
+    fn client(number: u8) -> StandardClient {
+        [
+            StandardClient::ConeDimV,
+            StandardClient::ConeDimSpan,
+            StandardClient::ConeDimPoints,
+            StandardClient::LinealityDim,
+            StandardClient::CombinatorialDim,
+        ][usize::from(number)]
+    }
+
+    fn answer(
+        client: StandardClient,
+        alloc: Global,
+        view: &View,
+        draft: &mut Draft,
+    ) -> Result<(), ClientFail> {
+        match client {
+            StandardClient::ConeDimV => cone_dim_v(alloc, view, draft),
+            StandardClient::ConeDimSpan => cone_dim_span(view, draft),
+            StandardClient::ConeDimPoints => cone_dim_points(alloc, view, draft),
+            StandardClient::LinealityDim => lineality_dim(view, draft),
+            StandardClient::CombinatorialDim => combinatorial_dim(view, draft),
+            _ => unreachable!(),
         }
     }
-}
 
-impl Client for DimClient {
-    ghost use Rattle.pm_clients_geom.specs.Kinds.{dim_kind};
-
-    ghost tally = { λ c. (dim_kind c.client, c.starts) };
-
-    fn kind(&self) -> Kind {
-        self.client.kind()
-    }
-
-    fn starts(&self) -> u64 {
-        self.starts
-    }
-
-    fn run(&mut self, alloc: Global, view: &View, draft: &mut Draft) -> Result<(), ClientFail>
-        requires kind { view.now.kind ≡ dim_kind self.old.client }
-        requires empty { draft.old ≡ record { kind = view.now.kind; values = [] } }
-        ensures started { (dim_kind self.new.client, self.new.starts)
-            ≡ started_once (dim_kind self.old.client, self.old.starts) }
-        ensures draft { draft.new.kind ≡ draft.old.kind }
-        ensures sound { OnOk result (IsSound view.now draft.new) }
-        ensures failed { IfErr result (FailsRightly view.now) }
-        ensures stays { OnOk result (DimStays self.old.client view.now) }
-        ensures fails { IfErr result (λ e. DimFails self.old.client view.now e) }
-    {
-        self.starts = self.starts.saturating_add(1);
-        match self.client {
-            Dim::OfVertices => cone_dim_v(alloc, view, draft),
-            Dim::OfSpan => cone_dim_span(view, draft),
-            Dim::OfPoints => cone_dim_points(alloc, view, draft),
-            Dim::OfLineality => lineality_dim(view, draft),
-            Dim::Combinatorial => combinatorial_dim(view, draft),
-        }
-    }
+    ghost counted = { refl };
 }
 
 // The rank of the row list of two parts, to which nothing is added. It fails for want of memory, or where the elimination of the list leaves the range.

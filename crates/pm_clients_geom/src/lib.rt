@@ -1,5 +1,7 @@
-// Clients that find dimensions, truth values, null spaces, and one description from its twin.
+//! Clients that find dimensions, truth values, null spaces, and one description from its twin.
 #![tactic(auto)]
+
+ghost use Rattle.pm_clients_geom.specs.Examples.{FamiliesAreRead, MatricesAreRead};
 
 mod dims;
 mod lists;
@@ -9,3 +11,13 @@ mod truths;
 pub use dims::DimClient;
 pub use rows::RowsClient;
 pub use truths::TestClient;
+
+/// Which clients the families have, and which not.
+pub fn example_families()
+    ensures { FamiliesAreRead }
+{}
+
+/// The definitions of matrices that are put, read on small ones.
+pub fn example_matrices()
+    ensures { MatricesAreRead }
+{}

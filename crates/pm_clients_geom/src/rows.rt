@@ -4,124 +4,78 @@ ghost use Rattle.pm_algebra.specs.Numbers.{InRange};
 ghost use Rattle.pm_algebra.specs.Rows.{HasCols};
 ghost use Rattle.pm_client.specs.Sound.{FailsRightly, IsSound};
 ghost use Rattle.pm_client.specs.declared.ClientFail.TheVariants.{Memory};
-ghost use Rattle.pm_clients_geom.specs.Kinds.{all_rows, rows_kind, rows_kinds};
-ghost use Rattle.pm_client.specs.Starts.{started_once};
 ghost use Rattle.pm_clients_geom.specs.Lists.{StaysInRange};
-ghost use Rattle.pm_clients_geom.specs.Stays.{RowsFail, RowsStay};
 ghost use Rattle.pm_clients_geom.specs.Matrices.{MayBeLines, as_put};
 ghost use Rattle.pm_clients_geom.specs.Pairs.{LacksPair};
 ghost use Rattle.pm_elim.specs.declared.evidence.ElimList.TheVariants as list;
 ghost use Rattle.pm_props.specs.Kinds.{standard_kind};
 ghost use Rattle.pm_props.specs.declared.property.PropId.TheVariants as property;
 ghost use Rattle.pm_props.specs.declared.standard.StandardClient.TheVariants as client;
-ghost use Rattle.pm_props.specs.Properties.{has_fan, has_program};
+ghost use Rattle.pm_props.specs.Properties.{has_program, of_fans, row};
 ghost use Rattle.pm_props.specs.Sets.{has};
 ghost use Rattle.pm_types.specs.Views.{ratios};
-ghost use Rattle.std.specs.Prelude.{All, false, IfErr, IfOk, IsTrue, OnOk, Some, [], length, map, slice_get, ◌<◌, ◌≡◌, ◌↔◌};
+ghost use Rattle.std.specs.Prelude.{All, false, IfErr, IfOk, IsTrue, OnOk, [], length, map, ◌<◌, ◌≡◌, ◌↔◌};
 
 use crate::lists::row_list;
-use pm_client::{Client, ClientFail, matrix_of, put_value};
+use pm_client::{ClientFail, Family, FamilyClient, matrix_of, put_value};
 use pm_elim::null_space;
 use pm_fraction::Fraction;
 use pm_types::ObjectType;
 use pm_matrix::{Matrix, MatrixFail};
 use pm_object::{Draft, View};
-use pm_types::{Kind, PropId, StandardClient, Value};
+use pm_types::{PropId, StandardClient, Value};
 use pm_vector::Ints;
 use std::alloc::Global;
 
-// What such a client finds.
-#[derive(Clone, Copy, Debug)]
-enum Rows {
-    Points,
-    Inequalities,
-    Lineality,
-    Hull,
-}
-
-impl Rows {
-    // These clients, in the order of the standard book.
-    fn every() -> [Rows; 4]
-        ensures { result ≡ all_rows }
-    {
-        [
-            Rows::Points,
-            Rows::Inequalities,
-            Rows::Lineality,
-            Rows::Hull,
-        ]
-    }
-
-    fn kind(self) -> Kind
-        ensures { result ≡ rows_kind self }
-    {
-        match self {
-            Rows::Points => StandardClient::PointsFromVertices.kind(),
-            Rows::Inequalities => StandardClient::InequalitiesFromFacets.kind(),
-            Rows::Lineality => StandardClient::LinealityFromFacets.kind(),
-            Rows::Hull => StandardClient::HullFromVertices.kind(),
-        }
-    }
-}
+/// The standard clients that find rows.
+#[derive(Debug, Drop)]
+pub struct RowsFamily;
 
 /// A client that finds rows: number 0 is `points_from_vertices`, 1 `inequalities_from_facets`, 2 `lineality_from_facets`, 3 `hull_from_vertices`.
 /// The last two fail exactly where the null space of their row list is Wide, the others never.
-#[derive(Debug, Drop)]
-pub struct RowsClient {
-    client: Rows,
-    starts: u64,
-}
+pub type RowsClient = FamilyClient<RowsFamily>;
 
-impl RowsClient {
-    /// How many such clients there are.
-    pub const COUNT: u8 = 4;
+impl Family for RowsFamily {
+    ghost use Rattle.pm_client.specs.Families.{clients_of};
+    ghost use Rattle.pm_clients_geom.specs.Families.{finds_rows};
+    ghost use Rattle.pm_clients_geom.specs.Stays.{RowsFail, RowsStay};
+    ghost use Rattle.std.specs.Prelude.{length, refl};
 
-    /// The client of that number, below `COUNT`, which was never started.
-    pub fn new(number: u8) -> RowsClient
-        requires { number < 4 }
-        ensures kind { slice_get rows_kinds number
-            ≡ Some (⟦<RowsClient as Client>⟧.tally result).0 }
-        ensures starts { (⟦<RowsClient as Client>⟧.tally result).1 ≡ 0 }
-    {
-        RowsClient {
-            client: Rows::every()[usize::from(number)],
-            starts: 0,
+    ghost is_member = { finds_rows };
+
+    ghost Stays = { RowsStay };
+
+    ghost Fails = { RowsFail };
+
+    ghost COUNT = { length (clients_of finds_rows) };
+
+    const COUNT: u8 = 4;
+
+    fn client(number: u8) -> StandardClient {
+        [
+            StandardClient::PointsFromVertices,
+            StandardClient::InequalitiesFromFacets,
+            StandardClient::LinealityFromFacets,
+            StandardClient::HullFromVertices,
+        ][usize::from(number)]
+    }
+
+    fn answer(
+        client: StandardClient,
+        alloc: Global,
+        view: &View,
+        draft: &mut Draft,
+    ) -> Result<(), ClientFail> {
+        match client {
+            StandardClient::PointsFromVertices => points_from_vertices(alloc, view, draft),
+            StandardClient::InequalitiesFromFacets => inequalities_from_facets(alloc, view, draft),
+            StandardClient::LinealityFromFacets => lineality_from_facets(alloc, view, draft),
+            StandardClient::HullFromVertices => hull_from_vertices(alloc, view, draft),
+            _ => unreachable!(),
         }
     }
-}
 
-impl Client for RowsClient {
-    ghost use Rattle.pm_clients_geom.specs.Kinds.{rows_kind};
-
-    ghost tally = { λ c. (rows_kind c.client, c.starts) };
-
-    fn kind(&self) -> Kind {
-        self.client.kind()
-    }
-
-    fn starts(&self) -> u64 {
-        self.starts
-    }
-
-    fn run(&mut self, alloc: Global, view: &View, draft: &mut Draft) -> Result<(), ClientFail>
-        requires kind { view.now.kind ≡ rows_kind self.old.client }
-        requires empty { draft.old ≡ record { kind = view.now.kind; values = [] } }
-        ensures started { (rows_kind self.new.client, self.new.starts)
-            ≡ started_once (rows_kind self.old.client, self.old.starts) }
-        ensures draft { draft.new.kind ≡ draft.old.kind }
-        ensures sound { OnOk result (IsSound view.now draft.new) }
-        ensures failed { IfErr result (FailsRightly view.now) }
-        ensures stays { OnOk result (RowsStay self.old.client view.now) }
-        ensures fails { IfErr result (λ e. RowsFail self.old.client view.now e) }
-    {
-        self.starts = self.starts.saturating_add(1);
-        match self.client {
-            Rows::Points => points_from_vertices(alloc, view, draft),
-            Rows::Inequalities => inequalities_from_facets(alloc, view, draft),
-            Rows::Lineality => lineality_from_facets(alloc, view, draft),
-            Rows::Hull => hull_from_vertices(alloc, view, draft),
-        }
-    }
+    ghost counted = { refl };
 }
 
 // POINTS and INPUT_LINEALITY: the rows of VERTICES and LINEALITY_SPACE.
@@ -202,7 +156,7 @@ fn hull_from_vertices(alloc: Global, view: &View, draft: &mut Draft) -> Result<(
 // A client that finds both halves of a pair is run on no fan, and reads neither.
 fn reads_no_half(view: &View, first: PropId, second: PropId)
     requires target { IsTrue (has view.now.kind.targets first) }
-    requires no_fan { has_fan first ≡ false }
+    requires no_fan { of_fans (row first).tables ≡ false }
     requires no_program { has_program first ≡ false }
     requires no_first { has view.now.kind.sources first ≡ false }
     requires no_second { has view.now.kind.sources second ≡ false }

@@ -20,7 +20,8 @@ use Rattle.pm_props.proofs.Places.{same_property_refl}
 use Rattle.pm_props.proofs.Members.{has-intersection, has-union}
 use Rattle.pm_types.specs.Forms.{has_64_bits, is_formed, is_matrix_form, is_sets_form}
 use Rattle.pm_props.specs.Properties.{is_of_matrices, is_of_sets, is_of_whole_numbers}
-use Rattle.pm_props.specs.Kinds.{IsFresh, IsKindOf, is_in_use, names_of as names_of_kind}
+use Rattle.pm_props.specs.Kinds.{IsFresh, IsKindOf, names_of as names_of_kind}
+use Rattle.pm_props.specs.Properties.{is_in_use}
 use Rattle.pm_props.specs.Properties.{every_property, has_program, value_kind}
 use Rattle.pm_types.specs.Runs.{Holds, IsFree, MayRun}
 use Rattle.pm_props.specs.Places.{place_of, same_place, same_property}

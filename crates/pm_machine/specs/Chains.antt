@@ -7,7 +7,8 @@ use Rattle.pm_object.specs.State.{HeldValue, State, is_disabled, names_of, read_
 use Rattle.pm_rules.specs.Chains.{LeadsTo, weigh}
 use Rattle.pm_rules.specs.Rules.{IsEnabled, is_barred, rule_at}
 use Rattle.pm_rules.specs.declared.rule.Rule.{Rule}
-use Rattle.pm_props.specs.Kinds.{is_in_use, names_of as names_of_kind}
+use Rattle.pm_props.specs.Properties.{is_in_use}
+use Rattle.pm_props.specs.Kinds.{names_of as names_of_kind}
 use Rattle.pm_props.specs.Properties.{every_property, has_program}
 use Rattle.pm_props.specs.Places.{same_place}
 use Rattle.pm_props.specs.Sets.{IsSubset, difference, has, set_of, union}

@@ -5,7 +5,8 @@ ghost use Rattle.pm_machine.specs.Chains.{AreBarred, HasNoChainByOne, IsLeastByO
 ghost use Rattle.pm_machine.specs.Best.{BestBefore, better, cost_of};
 ghost use Rattle.pm_object.specs.State.{is_disabled, read_at, value_of};
 ghost use Rattle.pm_rules.specs.Books.{most_rules};
-ghost use Rattle.pm_props.specs.Kinds.{is_in_use, names_of};
+ghost use Rattle.pm_props.specs.Properties.{is_in_use};
+ghost use Rattle.pm_props.specs.Kinds.{names_of};
 ghost use Rattle.pm_props.specs.Properties.{has_program};
 ghost use Rattle.pm_props.specs.Places.{same_place};
 ghost use Rattle.pm_props.specs.Sets.{has, set_of};

@@ -5,7 +5,7 @@ ghost use Rattle.std.specs.Prelude.{IfErr, ◌≡◌, ◌⊎◌};
 
 mod run;
 
-use pm_client::Client;
+use pm_client::{Client, Numbered};
 use pm_clients_comb::SetsClient;
 use pm_clients_geom::{DimClient, RowsClient, TestClient};
 use pm_store::{StdSink, StdSource};

@@ -1,17 +1,17 @@
 use Rattle.pm_clients_geom.proofs.FoundDims.{difference_less_one}
-use Rattle.pm_clients_geom.proofs.Puts.{named}
+use Rattle.pm_client.proofs.ViewLaws.{has_listed}
 use Rattle.pm_clients_geom.proofs.dims.combinatorial_dim.Goals as goal
 use Rattle.pm_props.specs.declared.property.PropId.TheVariants.{CombinatorialDim, ConeDim, LinealityDim}
-use Rattle.std.proofs.Common.{[], ap, refl, ◌∙◌, ◌∷◌}
+use Rattle.std.proofs.Common.{[], ap, ◌∙◌, ◌∷◌}
 
 pub whole_of-cone-requires-clause-source : goal.whole_of-cone-requires-clause-source
-whole_of-cone-requires-clause-source c = named _ (ConeDim ∷ LinealityDim ∷ []) ConeDim (ap (λ k. k.sources) c.requires.kind) refl
+whole_of-cone-requires-clause-source c = has_listed _ (ConeDim ∷ LinealityDim ∷ []) ConeDim (ap (λ k. k.sources) c.requires.kind)
 
 pub whole_of-lineality-requires-clause-source : goal.whole_of-lineality-requires-clause-source
-whole_of-lineality-requires-clause-source c = named _ (ConeDim ∷ LinealityDim ∷ []) LinealityDim (ap (λ k. k.sources) c.requires.kind) refl
+whole_of-lineality-requires-clause-source c = has_listed _ (ConeDim ∷ LinealityDim ∷ []) LinealityDim (ap (λ k. k.sources) c.requires.kind)
 
 pub put_value-requires-clause-target : goal.put_value-requires-clause-target
-put_value-requires-clause-target c = named _ (CombinatorialDim ∷ []) CombinatorialDim (ap (λ d. d.kind.targets) c.requires.empty ∙ ap (λ k. k.targets) c.requires.kind) refl
+put_value-requires-clause-target c = has_listed _ (CombinatorialDim ∷ []) CombinatorialDim (ap (λ d. d.kind.targets) c.requires.empty ∙ ap (λ k. k.targets) c.requires.kind)
 
 pub returns-clause-sound : goal.returns-clause-sound
 returns-clause-sound c =

@@ -1,14 +1,14 @@
 use Rattle.pm_clients_geom.proofs.FoundDims.{number_of_lines}
-use Rattle.pm_clients_geom.proofs.Puts.{named}
+use Rattle.pm_client.proofs.ViewLaws.{has_listed}
 use Rattle.pm_clients_geom.proofs.dims.lineality_dim.Goals as goal
 use Rattle.pm_props.specs.declared.property.PropId.TheVariants.{LinealityDim, LinealitySpace}
-use Rattle.std.proofs.Common.{[], ap, refl, ◌∙◌, ◌∷◌}
+use Rattle.std.proofs.Common.{[], ap, ◌∙◌, ◌∷◌}
 
 pub matrix_of-lineality-requires-clause-source : goal.matrix_of-lineality-requires-clause-source
-matrix_of-lineality-requires-clause-source c = named _ (LinealitySpace ∷ []) LinealitySpace (ap (λ k. k.sources) c.requires.kind) refl
+matrix_of-lineality-requires-clause-source c = has_listed _ (LinealitySpace ∷ []) LinealitySpace (ap (λ k. k.sources) c.requires.kind)
 
 pub put_value-requires-clause-target : goal.put_value-requires-clause-target
-put_value-requires-clause-target c = named _ (LinealityDim ∷ []) LinealityDim (ap (λ d. d.kind.targets) c.requires.empty ∙ ap (λ k. k.targets) c.requires.kind) refl
+put_value-requires-clause-target c = has_listed _ (LinealityDim ∷ []) LinealityDim (ap (λ d. d.kind.targets) c.requires.empty ∙ ap (λ k. k.targets) c.requires.kind)
 
 pub returns-clause-sound : goal.returns-clause-sound
 returns-clause-sound c =

@@ -2,12 +2,10 @@ use Rattle.std.proofs.lemmas.Result.{err_from_is_err_and}
 use Rattle.pm_client.proofs.Failing.{fails_by_list}
 use Rattle.pm_client.specs.Sound.{FailsRightly}
 use Rattle.pm_clients_geom.proofs.NullMatrices.{hull_sound}
-use Rattle.pm_clients_geom.proofs.RowsKinds.{source_of, target_of}
-use Rattle.pm_clients_geom.proofs.ViewLaws.{not_fan, target_named}
+use Rattle.pm_client.proofs.ViewLaws.{has_listed, not_fan, target_named}
 use Rattle.pm_clients_geom.proofs.rows.hull_from_vertices.Goals as goal
 use Rattle.pm_props.specs.declared.property.PropId.TheVariants.{AffineHull, LinealitySpace, Vertices}
 use Rattle.pm_props.specs.declared.property.PropId.{PropId}
-use Rattle.pm_props.specs.declared.standard.StandardClient.TheVariants as client
 use Rattle.std.proofs.Common.{ap, refl, ◌∙◌, subst, sym}
 use Rattle.std.specs.Prelude.{List, [], ◌∷◌}
 
@@ -18,10 +16,10 @@ abbrev targets : List PropId
 targets = AffineHull ∷ []
 
 pub row_list-requires-clause-first : goal.row_list-requires-clause-first
-row_list-requires-clause-first c = source_of c.args.view.now.kind client.HullFromVertices sources LinealitySpace c.requires.kind refl
+row_list-requires-clause-first c = has_listed _ sources LinealitySpace (ap (λ k. k.sources) c.requires.kind)
 
 pub row_list-requires-clause-second : goal.row_list-requires-clause-second
-row_list-requires-clause-second c = source_of c.args.view.now.kind client.HullFromVertices sources Vertices c.requires.kind refl
+row_list-requires-clause-second c = has_listed _ sources Vertices (ap (λ k. k.sources) c.requires.kind)
 
 pub null_space-requires-clause-columns : goal.null_space-requires-clause-columns
 null_space-requires-clause-columns c = rw (c.deref.ensures.value, c.cols.ensures.value) c.in_ok-rows.ensures.cols
@@ -30,12 +28,12 @@ pub matrix_over_one-requires : goal.matrix_over_one-requires
 matrix_over_one-requires c = rw (c.deref-2.ensures.value, c.cols-2.ensures.value, ← c.cols.ensures.value) c.in_ok-null.ensures.null.1.echelon.cols
 
 pub put_value-requires-clause-target : goal.put_value-requires-clause-target
-put_value-requires-clause-target c = target_of c.args.draft.now.kind client.HullFromVertices targets AffineHull (ap (λ d. d.kind) c.requires.empty ∙ c.requires.kind) refl
+put_value-requires-clause-target c = has_listed _ targets AffineHull (ap (λ k. k.targets) (ap (λ d. d.kind) c.requires.empty ∙ c.requires.kind))
 
 pub returns-clause-sound : goal.returns-clause-sound
 returns-clause-sound c =
     let null = rw (c.deref.ensures.value, c.cols.ensures.value) at c.in_ok-null.ensures.null in
-    let no_fan = not_fan c.args.view.now AffineHull c.cols.ensures.view (target_named c.args.view.now.kind AffineHull (target_of c.args.view.now.kind client.HullFromVertices targets AffineHull c.requires.kind refl)) refl refl in
+    let no_fan = not_fan c.args.view.now AffineHull c.cols.ensures.view (target_named c.args.view.now.kind AffineHull (has_listed _ targets AffineHull (ap (λ k. k.targets) c.requires.kind))) refl refl in
     hull_sound c.args.view.now c.cols.ensures.view no_fan c.in_ok-rows.rows.items c.in_ok-null.null.items null.0 c.in_ok-rows.ensures.listed null.1 c.in_ok-hull.hull c.args.draft.now c.put_value.new.draft c.requires.kind
     (rw c.deref-2.ensures.value at c.in_ok-hull.ensures.in_range) (rw (c.deref-2.ensures.value, c.cols-2.ensures.value) at c.in_ok-hull.ensures.rows) c.requires.empty c.in_ok-put_value.ensures.ok
 

@@ -1,10 +1,9 @@
+use Rattle.pm_client.proofs.ViewLaws.{has_listed}
 use Rattle.pm_clients_geom.proofs.Halves.{inequalities_sound}
-use Rattle.pm_clients_geom.proofs.RowsKinds.{source_of, target_of}
 use Rattle.pm_clients_geom.proofs.rows.inequalities_from_facets.Goals as goal
 use Rattle.pm_props.specs.declared.property.PropId.TheVariants.{Facets, AffineHull, Inequalities, Equations}
 use Rattle.pm_props.specs.declared.property.PropId.{PropId}
-use Rattle.pm_props.specs.declared.standard.StandardClient.TheVariants as client
-use Rattle.std.proofs.Common.{ap, refl, ◌∙◌}
+use Rattle.std.proofs.Common.{ap, ◌∙◌}
 use Rattle.std.specs.Prelude.{List, [], ◌∷◌}
 
 abbrev sources : List PropId
@@ -14,25 +13,25 @@ abbrev targets : List PropId
 targets = Inequalities ∷ Equations ∷ []
 
 pub reads_no_half-requires-clause-target : goal.reads_no_half-requires-clause-target
-reads_no_half-requires-clause-target c = target_of c.args.view.now.kind client.InequalitiesFromFacets targets Inequalities c.requires.kind refl
+reads_no_half-requires-clause-target c = has_listed _ targets Inequalities (ap (λ k. k.targets) c.requires.kind)
 
 pub reads_no_half-requires-clause-no_first : goal.reads_no_half-requires-clause-no_first
-reads_no_half-requires-clause-no_first c = source_of c.args.view.now.kind client.InequalitiesFromFacets sources Inequalities c.requires.kind refl
+reads_no_half-requires-clause-no_first c = has_listed _ sources Inequalities (ap (λ k. k.sources) c.requires.kind)
 
 pub reads_no_half-requires-clause-no_second : goal.reads_no_half-requires-clause-no_second
-reads_no_half-requires-clause-no_second c = source_of c.args.view.now.kind client.InequalitiesFromFacets sources Equations c.requires.kind refl
+reads_no_half-requires-clause-no_second c = has_listed _ sources Equations (ap (λ k. k.sources) c.requires.kind)
 
 pub matrix_of-requires-clause-source : goal.matrix_of-requires-clause-source
-matrix_of-requires-clause-source c = source_of c.args.view.now.kind client.InequalitiesFromFacets sources Facets c.requires.kind refl
+matrix_of-requires-clause-source c = has_listed _ sources Facets (ap (λ k. k.sources) c.requires.kind)
 
 pub matrix_of-requires-2-clause-source : goal.matrix_of-requires-2-clause-source
-matrix_of-requires-2-clause-source c = source_of c.args.view.now.kind client.InequalitiesFromFacets sources AffineHull c.requires.kind refl
+matrix_of-requires-2-clause-source c = has_listed _ sources AffineHull (ap (λ k. k.sources) c.requires.kind)
 
 pub put_value-requires-clause-target : goal.put_value-requires-clause-target
-put_value-requires-clause-target c = target_of c.args.draft.now.kind client.InequalitiesFromFacets targets Inequalities (ap (λ d. d.kind) c.requires.empty ∙ c.requires.kind) refl
+put_value-requires-clause-target c = has_listed _ targets Inequalities (ap (λ k. k.targets) (ap (λ d. d.kind) c.requires.empty ∙ c.requires.kind))
 
 pub put_value-requires-2-clause-target : goal.put_value-requires-2-clause-target
-put_value-requires-2-clause-target c = target_of c.put_value.new.draft.kind client.InequalitiesFromFacets targets Equations (ap (λ d. d.kind) c.in_ok-put_value.ensures.ok ∙ ap (λ d. d.kind) c.requires.empty ∙ c.requires.kind) refl
+put_value-requires-2-clause-target c = has_listed _ targets Equations (ap (λ k. k.targets) (ap (λ d. d.kind) c.in_ok-put_value.ensures.ok ∙ ap (λ d. d.kind) c.requires.empty ∙ c.requires.kind))
 
 pub returns-clause-sound : goal.returns-clause-sound
 returns-clause-sound c =

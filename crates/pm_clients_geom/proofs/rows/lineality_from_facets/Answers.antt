@@ -2,13 +2,11 @@ use Rattle.std.proofs.lemmas.Result.{err_from_is_err_and}
 use Rattle.pm_client.proofs.Failing.{fails_by_list}
 use Rattle.pm_client.specs.Sound.{FailsRightly}
 use Rattle.pm_clients_geom.proofs.NullMatrices.{lineality_sound, put_lines, some_entries}
-use Rattle.pm_clients_geom.proofs.RowsKinds.{source_of, target_of}
-use Rattle.pm_clients_geom.proofs.ViewLaws.{not_fan, source_named}
+use Rattle.pm_client.proofs.ViewLaws.{has_listed, not_fan, source_named}
 use Rattle.pm_clients_geom.proofs.rows.lineality_from_facets.Goals as goal
 use Rattle.pm_clients_geom.proofs.rows.lineality_from_facets.Goals.{else-may_be_lines, then-may_be_lines}
 use Rattle.pm_props.specs.declared.property.PropId.TheVariants.{AffineHull, Facets, LinealitySpace}
 use Rattle.pm_props.specs.declared.property.PropId.{PropId}
-use Rattle.pm_props.specs.declared.standard.StandardClient.TheVariants as client
 use Rattle.std.proofs.Common.{ap, false, inl, inr, refl, true, ◌∙◌, subst, sym}
 use Rattle.std.specs.Prelude.{List, [], ◌∷◌, ◌≡◌, ◌⊎◌}
 
@@ -19,10 +17,10 @@ abbrev targets : List PropId
 targets = LinealitySpace ∷ []
 
 pub row_list-requires-clause-first : goal.row_list-requires-clause-first
-row_list-requires-clause-first c = source_of c.args.view.now.kind client.LinealityFromFacets sources AffineHull c.requires.kind refl
+row_list-requires-clause-first c = has_listed _ sources AffineHull (ap (λ k. k.sources) c.requires.kind)
 
 pub row_list-requires-clause-second : goal.row_list-requires-clause-second
-row_list-requires-clause-second c = source_of c.args.view.now.kind client.LinealityFromFacets sources Facets c.requires.kind refl
+row_list-requires-clause-second c = has_listed _ sources Facets (ap (λ k. k.sources) c.requires.kind)
 
 pub null_space-requires-clause-columns : goal.null_space-requires-clause-columns
 null_space-requires-clause-columns c = rw (c.deref.ensures.value, c.cols.ensures.value) c.in_ok-rows.ensures.cols
@@ -41,12 +39,12 @@ matrix_over_one-requires c =
     ])
 
 pub put_value-requires-clause-target : goal.put_value-requires-clause-target
-put_value-requires-clause-target c = target_of c.args.draft.now.kind client.LinealityFromFacets targets LinealitySpace (ap (λ d. d.kind) c.requires.empty ∙ c.requires.kind) refl
+put_value-requires-clause-target c = has_listed _ targets LinealitySpace (ap (λ k. k.targets) (ap (λ d. d.kind) c.requires.empty ∙ c.requires.kind))
 
 pub returns-clause-sound : goal.returns-clause-sound
 returns-clause-sound c =
     let null = rw (c.deref.ensures.value, c.cols.ensures.value) at c.in_ok-null.ensures.null in
-    let no_fan = not_fan c.args.view.now Facets c.cols.ensures.view (source_named c.args.view.now.kind Facets (source_of c.args.view.now.kind client.LinealityFromFacets sources Facets c.requires.kind refl)) refl refl in
+    let no_fan = not_fan c.args.view.now Facets c.cols.ensures.view (source_named c.args.view.now.kind Facets (has_listed _ sources Facets (ap (λ k. k.sources) c.requires.kind))) refl refl in
     let put : ((c.may_be_lines.result ≡ true) × (c.if-may_be_lines.lines.items ≡ c.in_ok-null.null.items)) ⊎ ((c.may_be_lines.result ≡ false) × (c.if-may_be_lines.lines.items ≡ [])) = elim c.if-may_be_lines.branch [
       | then-may_be_lines w ↦ inl (w.if-may_be_lines.true, ap (λ r. r.items) w.lines-is)
       | else-may_be_lines w ↦ inr (w.if-may_be_lines.false, ap (λ r. r.items) w.lines-is ∙ w.new-lines.ensures.items)

@@ -1,4 +1,4 @@
-use Rattle.pm_clients_geom.proofs.ViewLaws.{not_fan, target_named}
+use Rattle.pm_client.proofs.ViewLaws.{not_fan, target_named}
 use Rattle.pm_clients_geom.proofs.rows.reads_no_half.Goals as goal
 use Rattle.pm_props.specs.declared.object_type.ObjectType.TheVariants.{Fan}
 use Rattle.std.proofs.Common.{rules, sym, ◌≡◌, ◌∙◌}

@@ -1,14 +1,14 @@
 use Rattle.pm_clients_geom.proofs.FoundTruths.{pointed_follows}
-use Rattle.pm_clients_geom.proofs.Puts.{named}
+use Rattle.pm_client.proofs.ViewLaws.{has_listed}
 use Rattle.pm_clients_geom.proofs.truths.pointed.Goals as goal
 use Rattle.pm_props.specs.declared.property.PropId.TheVariants.{LinealityDim, Pointed}
-use Rattle.std.proofs.Common.{[], ap, refl, ◌∙◌, ◌∷◌}
+use Rattle.std.proofs.Common.{[], ap, ◌∙◌, ◌∷◌}
 
 pub whole_of-is_pointed-requires-clause-source : goal.whole_of-is_pointed-requires-clause-source
-whole_of-is_pointed-requires-clause-source c = named _ (LinealityDim ∷ []) LinealityDim (ap (λ k. k.sources) c.requires.kind) refl
+whole_of-is_pointed-requires-clause-source c = has_listed _ (LinealityDim ∷ []) LinealityDim (ap (λ k. k.sources) c.requires.kind)
 
 pub put_value-requires-clause-target : goal.put_value-requires-clause-target
-put_value-requires-clause-target c = named _ (Pointed ∷ []) Pointed (ap (λ d. d.kind.targets) c.requires.empty ∙ ap (λ k. k.targets) c.requires.kind) refl
+put_value-requires-clause-target c = has_listed _ (Pointed ∷ []) Pointed (ap (λ d. d.kind.targets) c.requires.empty ∙ ap (λ k. k.targets) c.requires.kind)
 
 pub returns-clause-sound : goal.returns-clause-sound
 returns-clause-sound c =

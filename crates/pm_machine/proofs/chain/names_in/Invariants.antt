@@ -1,5 +1,5 @@
 use Rattle.std.proofs.Common.{◌≡◌, drop, fold, filter}
-use Rattle.pm_props.specs.Kinds.{is_in_use}
+use Rattle.pm_props.specs.Properties.{is_in_use}
 use Rattle.pm_props.specs.Sets.{only, union, set_of}
 use Rattle.pm_machine.proofs.chain.names_in.Given as goal
 

@@ -1,13 +1,15 @@
-use Rattle.pm_clients_comb.proofs.Answered.{fails_rightly, has_facets, has_target, has_vertices, sets_sound, vertex_lengths}
-use Rattle.pm_clients_comb.proofs.client.SetsClientClient.run.Goals as goal
-use Rattle.std.proofs.Common.{ap, ◌∙◌}
+use Rattle.pm_client.proofs.ViewLaws.{has_listed}
+use Rattle.pm_clients_comb.proofs.Answered.{fails_rightly, sets_sound, vertex_lengths}
+use Rattle.pm_clients_comb.proofs.client.vertices_in_facets.Goals as goal
+use Rattle.pm_props.specs.declared.property.PropId.TheVariants.{Facets, Vertices, VerticesInFacets}
+use Rattle.std.proofs.Common.{[], ap, ◌∙◌, ◌∷◌}
 use Rattle.std.proofs.lemmas.Result.{err_from_is_err_and}
 
 pub matrix_of-requires-clause-source : goal.matrix_of-requires-clause-source
-matrix_of-requires-clause-source c = has_facets c.args.view.now.kind c.requires.kind
+matrix_of-requires-clause-source c = has_listed _ (Vertices ∷ Facets ∷ []) Facets (ap (λ k. k.sources) c.requires.kind)
 
 pub matrix_of-requires-2-clause-source : goal.matrix_of-requires-2-clause-source
-matrix_of-requires-2-clause-source c = has_vertices c.args.view.now.kind c.requires.kind
+matrix_of-requires-2-clause-source c = has_listed _ (Vertices ∷ Facets ∷ []) Vertices (ap (λ k. k.sources) c.requires.kind)
 
 pub incidence-requires-clause-cols : goal.incidence-requires-clause-cols
 incidence-requires-clause-cols c =
@@ -16,7 +18,7 @@ incidence-requires-clause-cols c =
     c.matrix_of.ensures.forms c.matrix_of-2.ensures.forms c.in_ok-facets.ensures.rows c.in_ok-vertices.ensures.rows)
 
 pub put_value-requires-clause-target : goal.put_value-requires-clause-target
-put_value-requires-clause-target c = has_target c.args.draft.now.kind (ap (λ d. d.kind) c.requires.empty ∙ c.requires.kind)
+put_value-requires-clause-target c = has_listed _ (VerticesInFacets ∷ []) VerticesInFacets (ap (λ d. d.kind.targets) c.requires.empty ∙ ap (λ k. k.targets) c.requires.kind)
 
 pub returns-in_err-sets-clause-failed : goal.returns-in_err-sets-clause-failed
 returns-in_err-sets-clause-failed c =

@@ -1,20 +1,30 @@
--- What is so of a view: it is of no fan where the kind names a property that fans do not have, and it has no fact of a property that it has no value of.
+-- What is so of a view and of its kind: which properties the kind names; it is of no fan where the kind names a property that fans do not have; it has few columns, and no fact of a property that it has no value of.
 use Rattle.pm_algebra.proofs.Lists.{Among, among_Contains, here, there}
 use Rattle.pm_props.specs.declared.object_type.ObjectType.TheVariants.{Fan}
 use Rattle.pm_object.specs.Reading.{IsView, ViewSeen, fact_of}
+use Rattle.pm_props.proofs.Every.{has-set_of}
 use Rattle.pm_props.proofs.Places.{same_property_refl}
 use Rattle.pm_props.proofs.Members.{has-union}
-use Rattle.pm_props.specs.Kinds.{conditions_of, is_in_use, names_of}
-use Rattle.pm_props.specs.Properties.{has_fan, has_program}
+use Rattle.pm_props.specs.Kinds.{conditions_of, names_of}
+use Rattle.pm_props.specs.Properties.{is_in_use}
+use Rattle.pm_props.specs.Properties.{has_program, number, of_fans, row}
 use Rattle.pm_props.specs.Places.{same_property}
-use Rattle.pm_props.specs.Sets.{has, union}
+use Rattle.pm_props.specs.Sets.{has, set_of, union}
 use Rattle.pm_types.specs.Values.{Fact}
 use Rattle.pm_props.specs.declared.kind.Kind.{Kind}
 use Rattle.pm_props.specs.declared.property.PropId.{PropId}
-use Rattle.std.proofs.Common.{ap, false, refl, sym, true, true≢false, ◌∙◌}
-use Rattle.std.specs.List.{Contains}
+use Rattle.std.proofs.Common.{ap, arith, eqb, false, refl, sym, true, true≢false, ◌∙◌}
+use Rattle.std.proofs.lemmas.Bool.{leb-true}
+use Rattle.std.specs.List.{Contains, list_any}
 use Rattle.std.specs.Option.{is_some}
-use Rattle.std.specs.Prelude.{Bool, List, None, Some, if◌then◌else◌, ◌&&◌, ◌||◌, ◌≡◌}
+use Rattle.std.specs.Prelude.{Bool, List, None, Some, if◌then◌else◌, ℕ, ◌&&◌, ◌<◌, ◌^◌, ◌||◌, ◌≡◌}
+
+-- a set of listed properties has exactly these
+pub has_listed : (s : ℕ) (ps : List PropId) (p : PropId) → s ≡ set_of ps → has s p ≡ list_any (λ q. eqb (number q) (number p)) ps
+has_listed s ps p e = ap (λ z. has z p) e ∙ has-set_of ps p
+
+pub few_columns : (v : ViewSeen) → IsView v → v.cols < 2 ^ 63
+few_columns v view = let l = leb-true v.cols 33 view.few_cols in omega arith
 
 or_right : (a b : Bool) → b ≡ true → (a || b) ≡ true
 or_right true b h = refl
@@ -28,9 +38,9 @@ source_named kind p h =
     has-union kind.targets (union kind.sources (conditions_of kind)) p
     ∙ or_right (has kind.targets p) (has (union kind.sources (conditions_of kind)) p) (has-union kind.sources (conditions_of kind) p ∙ ap (λ b. b || has (conditions_of kind) p) h)
 
-pub not_fan : (v : ViewSeen) (p : PropId) → IsView v → has (names_of v.kind) p ≡ true → has_fan p ≡ false → has_program p ≡ false → ¬ (v.of ≡ Fan)
+pub not_fan : (v : ViewSeen) (p : PropId) → IsView v → has (names_of v.kind) p ≡ true → of_fans (row p).tables ≡ false → has_program p ≡ false → ¬ (v.of ≡ Fan)
 not_fan v p view named absent alone e =
-    true≢false (sym (view.in_use p named) ∙ ap (λ of. is_in_use v.sub of p) e ∙ neither (has_fan p) (is_some v.sub) (has_program p) absent alone)
+    true≢false (sym (view.in_use p named) ∙ ap (λ of. is_in_use v.sub of p) e ∙ neither (of_fans (row p).tables) (is_some v.sub) (has_program p) absent alone)
   where
     neither : (a b c : Bool) → a ≡ false → c ≡ false → (a || b && c) ≡ false
     neither a b c e k = rw (e, k) (no b)

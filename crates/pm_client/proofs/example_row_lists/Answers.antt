@@ -1,0 +1,18 @@
+use Rattle.pm_client.proofs.example_row_lists.Goals as goal
+use Rattle.std.proofs.Common.{refl}
+
+pub returns : goal.returns
+returns c = record {
+  points = refl;
+  no_generator = refl;
+  facets = refl;
+  no_half_space = refl;
+  rays = refl;
+  half_spaces = refl;
+  turned = refl;
+  mixed = refl;
+  added = refl;
+  not_to_facets = refl;
+  not_to_cones = refl;
+  memory = refl;
+}

@@ -1,0 +1,67 @@
+-- The definitions of starts and of row lists read on small lists: what holds of them, and what does not.
+use Rattle.pm_client.specs.Sound.{added_rows, are_parts, fail_of}
+use Rattle.pm_props.specs.Properties.{is_generator, is_half_space}
+use Rattle.pm_client.specs.Starts.{Clients, after_start, has_client, kind_at, next_count, place_in, same_kind, started_once}
+use Rattle.pm_client.specs.declared.ClientFail.TheVariants as fail
+use Rattle.pm_elim.specs.declared.evidence.ElimFail.TheVariants as elimination
+use Rattle.pm_props.specs.declared.object_type.ObjectType.TheVariants.{Cone, Polytope}
+use Rattle.pm_props.specs.declared.kind.Kind.{Kind}
+use Rattle.pm_props.specs.declared.property.PropId.TheVariants.{Equations, Facets, Inequalities, InputLineality, LinealitySpace, Points, Vertices}
+use Rattle.std.specs.Prelude.{List, None, Some, [], codes, false, true, ℕ, ◌-◌, ◌^◌, ◌∷◌, ◌≡◌}
+use lib.IntN.{pos}
+
+-- a kind of this name and these sets
+abbrev pub named : List ℕ → ℕ → ℕ → Kind
+named name targets sources = record { name = name; targets = targets; sources = sources; must = 0; must_not = 0 }
+
+-- three kinds
+abbrev pub ranks : Kind
+ranks = named (codes "ranks") 1 2
+
+abbrev pub signs : Kind
+signs = named (codes "signs") 4 1
+
+abbrev pub others : Kind
+others = named (codes "ranks") 1 3
+
+-- three clients of the first two kinds, of which the last was started as often as can be counted
+abbrev pub three : Clients
+three = (ranks, 0) ∷ (signs, 4) ∷ (ranks, 2 ^ 64 - 1) ∷ []
+
+pub record StartsAreRead : Type 0 where
+  -- a kind is that of the same name and sets, not one that differs in a set or in its name
+  pub same : same_kind ranks ranks ≡ true
+  pub other_sources : same_kind ranks others ≡ false
+  pub other_name : same_kind ranks (named (codes "signs") 1 2) ≡ false
+  -- the first client of a kind
+  pub first : place_in ranks 0 three ≡ Some 0
+  pub second : place_in signs 0 three ≡ Some 1
+  pub from_five : place_in signs 5 three ≡ Some 6
+  pub none : has_client others three ≡ false
+  pub some : has_client signs three ≡ true
+  -- kinds at places
+  pub kind : kind_at 1 three ≡ Some signs
+  pub beyond : kind_at 3 three ≡ None
+  -- one start more, of the first client of the kind alone
+  pub started : after_start ranks three ≡ (ranks, 1) ∷ (signs, 4) ∷ (ranks, 2 ^ 64 - 1) ∷ []
+  pub started_second : after_start signs three ≡ (ranks, 0) ∷ (signs, 5) ∷ (ranks, 2 ^ 64 - 1) ∷ []
+  pub started_none : after_start others three ≡ three
+  pub once : started_once (signs, 4) ≡ (signs, 5)
+  -- the greatest number stays
+  pub greatest : next_count (2 ^ 64 - 1) ≡ 2 ^ 64 - 1
+
+pub record RowListsAreRead : Type 0 where
+  pub points : is_generator Points ≡ true
+  pub no_generator : is_generator Facets ≡ false
+  pub facets : is_half_space Facets ≡ true
+  pub no_half_space : is_half_space Points ≡ false
+  -- lines come first, and are no part of a list with half-spaces
+  pub rays : are_parts LinealitySpace Vertices ≡ true
+  pub half_spaces : are_parts Equations Inequalities ≡ true
+  pub turned : are_parts Vertices LinealitySpace ≡ false
+  pub mixed : are_parts InputLineality Inequalities ≡ false
+  -- x0 >= 0 is added to the INEQUALITIES of a polytope alone
+  pub added : added_rows Polytope 3 Inequalities ≡ (pos 1 ∷ pos 0 ∷ pos 0 ∷ []) ∷ []
+  pub not_to_facets : added_rows Polytope 3 Facets ≡ []
+  pub not_to_cones : added_rows Cone 3 Inequalities ≡ []
+  pub memory : fail_of elimination.Memory ≡ fail.Memory

@@ -1,0 +1,31 @@
+-- Incidence read on three facets and three vertices of the plane: what holds, and what does not.
+use Rattle.pm_algebra.specs.Rows.{Row}
+use Rattle.pm_client.specs.Families.{clients_of}
+use Rattle.pm_clients_comb.specs.Families.{finds_sets}
+use Rattle.pm_clients_comb.specs.Incidence.{IsWideFor, incidence, places_from}
+use Rattle.pm_client.specs.declared.ClientFail.TheVariants.{Memory, Failed}
+use Rattle.pm_geom.specs.declared.evidence.Evidence.TheVariants.{E4}
+use Rattle.pm_props.specs.declared.standard.StandardClient.TheVariants as client
+use Rattle.std.specs.Prelude.{List, [], false, ◌∷◌, ◌≡◌}
+use lib.IntN.{ℤ, pos, negsuc}
+
+abbrev pub pair : ℤ → ℤ → Row
+pair a b = a ∷ b ∷ []
+
+-- x >= 0, y >= 0 and x >= y
+abbrev pub facets : List Row
+facets = pair (pos 1) (pos 0) ∷ pair (pos 0) (pos 1) ∷ pair (pos 1) (negsuc 0) ∷ []
+
+abbrev pub vertices : List Row
+vertices = pair (pos 0) (pos 1) ∷ pair (pos 2) (pos 2) ∷ pair (pos 0) (pos 0) ∷ []
+
+pub record IncidenceIsRead : Type 0 where
+  -- the places of the vertices on each facet, counted from 0
+  pub sets : incidence facets vertices ≡ (0 ∷ 2 ∷ []) ∷ (2 ∷ []) ∷ (1 ∷ 2 ∷ []) ∷ []
+  pub from_three : places_from 3 (pair (pos 1) (pos 0)) vertices ≡ 3 ∷ 5 ∷ []
+  -- want of memory needs no evidence, and evidence names no row that was not read
+  pub memory : IsWideFor facets vertices Memory
+  pub not_read : ¬ (IsWideFor facets vertices (Failed (E4 (pair (pos 1) (pos 1)) (pair (pos 1) (pos 0)))))
+  -- the family
+  pub clients : clients_of finds_sets ≡ client.Incidence ∷ []
+  pub no_sets : finds_sets client.FullDim ≡ false

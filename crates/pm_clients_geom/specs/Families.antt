@@ -1,0 +1,28 @@
+-- Which standard clients each family has.
+use Rattle.pm_props.specs.declared.standard.StandardClient.{StandardClient}
+use Rattle.pm_props.specs.declared.standard.StandardClient.TheVariants as client
+use Rattle.std.specs.Prelude.{Bool, false, true}
+
+-- the clients that find rows
+abbrev pub finds_rows : StandardClient → Bool
+finds_rows client.PointsFromVertices = true
+finds_rows client.InequalitiesFromFacets = true
+finds_rows client.LinealityFromFacets = true
+finds_rows client.HullFromVertices = true
+finds_rows c = false
+
+-- the clients that find a dimension
+abbrev pub finds_dimension : StandardClient → Bool
+finds_dimension client.ConeDimV = true
+finds_dimension client.ConeDimSpan = true
+finds_dimension client.ConeDimPoints = true
+finds_dimension client.LinealityDim = true
+finds_dimension client.CombinatorialDim = true
+finds_dimension c = false
+
+-- the clients that find a truth value
+abbrev pub finds_truth : StandardClient → Bool
+finds_truth client.Feasible = true
+finds_truth client.Pointed = true
+finds_truth client.FullDim = true
+finds_truth c = false
