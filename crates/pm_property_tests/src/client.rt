@@ -5,9 +5,8 @@ ghost use Rattle.pm_props.specs.Sets.{set_of};
 ghost use Rattle.pm_props.specs.declared.property.PropId.TheVariants.{ConeAmbientDim};
 
 use pm_client::{Client, ClientFail, place_of, put_value, run_first};
-use pm_types::ObjectType;
 use pm_object::{Draft, Object, View};
-use pm_types::{ClientName, Kind, PropId, PropSet, Value};
+use pm_types::{ClientName, Kind, ObjectType, PropId, PropSet, Value};
 use std::alloc::Global;
 use std::process::Abort;
 

@@ -1,6 +1,8 @@
 // Kinds, the names of a type, and small books.
 
-use pm_rules::{Book, ClientName, Kind, PropId, PropSet, read_book};
+use pm_books::read_book;
+use pm_props::ObjectType;
+use pm_rules::{Book, ClientName, Kind, PropId, PropSet};
 use pm_types::StandardClient;
 use std::process::Abort;
 
@@ -19,7 +21,7 @@ pub fn kind(name: ClientName, targets: &[PropId], sources: &[PropId]) -> Kind {
 pub fn names_of_cones() -> PropSet {
     let mut names = PropSet::empty();
     for p in PropId::every() {
-        if p.is_of_cones() {
+        if p.is_in(ObjectType::Cone) {
             names = names.with(p);
         }
     }
@@ -30,7 +32,7 @@ pub fn names_of_cones() -> PropSet {
 pub fn names_of_polytopes() -> PropSet {
     let mut names = PropSet::empty();
     for p in PropId::every() {
-        if p.is_of_polytopes() {
+        if p.is_in(ObjectType::Polytope) {
             names = names.with(p);
         }
     }

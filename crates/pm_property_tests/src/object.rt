@@ -2,9 +2,8 @@
 
 use crate::values::value_of;
 use pm_geom::Evidence;
-use pm_types::ObjectType;
 use pm_object::{Excluded, Object, Round, RoundEnd, TakeFail, Why};
-use pm_types::{Cost, PropId, PropSet, RuleId, Value};
+use pm_types::{Cost, ObjectType, PropId, PropSet, RuleId, Value};
 use pm_vector::Ints;
 use std::process::Abort;
 

@@ -1,9 +1,8 @@
 // Books read and printed, and the places of faults.
 
 use crate::kinds::{CLASSES, book_of_classes, kind};
-use pm_rules::{
-    Book, BookFail, Claim, Cost, Step, Tag, book_text, is_barred, read_book, standard_book,
-};
+use pm_books::{BookFail, book_text, read_book};
+use pm_rules::{Book, Claim, Cost, Step, Tag, is_barred, standard_book};
 use pm_types::{ClientName, Kind, PropId, PropSet, RuleId, StandardClient, standard_kinds};
 use std::alloc::{AllocError, Global};
 use std::process::Abort;
