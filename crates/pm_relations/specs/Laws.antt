@@ -84,3 +84,7 @@ VerticesGenerate = (t : Thing) (o : Orders) → IsThing t → AreOrders t o → 
 abbrev pub FacetsCutOut : Type 0
 FacetsCutOut = (t : Thing) (o : Orders) → IsThing t → AreOrders t o → ¬ (t.of ≡ Fan) → (n m : ℕ) (facets hull : List (List Ratio)) (c d : List Ratio) → Right Facets (matrix n facets) t o c → Right AffineHull (matrix m hull) t o d →
     Right Inequalities (matrix n facets) t o c × Right Equations (matrix m hull) t o d × PairCutsOut t facets hull
+
+-- any two orders of a thing have as many rays, and as many facets
+abbrev pub OrdersAreAsLong : Type 0
+OrdersAreAsLong = (t : Thing) (o p : Orders) → AreOrders t o → AreOrders t p → (length o.rays ≡ length p.rays) × (length o.facets ≡ length p.facets)

@@ -2,7 +2,7 @@
 //! It has no code.
 #![tactic(auto)]
 
-ghost use Rattle.pm_relations.specs.Laws.{CombinatorialDimIsFound, ConeDimIsFound, ConeDimIsLeft, DimensionsAreDetermined, DimensionsExist, EchelonIsRight, FacetsCutOut, FeasibleIsFound, FullDimIsFound, HullIsFound, LinealityDimIsFound, LinealityIsFound, PairSpans, PointedIsFound, VerticesGenerate, VerticesSpan};
+ghost use Rattle.pm_relations.specs.Laws.{CombinatorialDimIsFound, ConeDimIsFound, ConeDimIsLeft, DimensionsAreDetermined, DimensionsExist, EchelonIsRight, FacetsCutOut, FeasibleIsFound, FullDimIsFound, HullIsFound, LinealityDimIsFound, LinealityIsFound, OrdersAreAsLong, PairSpans, PointedIsFound, VerticesGenerate, VerticesSpan};
 
 /// There are right values of CONE_DIM and of LINEALITY_DIM.
 pub fn law_dimensions_exist()
@@ -82,4 +82,9 @@ pub fn law_vertices_generate()
 /// Right FACETS and AFFINE_HULL of a cone or polytope are right as INEQUALITIES and EQUATIONS.
 pub fn law_facets_cut_out()
     ensures { FacetsCutOut }
+{}
+
+/// Any two orders of a thing have as many rays, and as many facets.
+pub fn law_orders_are_as_long()
+    ensures { OrdersAreAsLong }
 {}
