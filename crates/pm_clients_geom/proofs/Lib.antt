@@ -6,3 +6,4 @@ pub mod NullMatrices
 pub mod OverOne
 pub mod PutMatrices
 pub mod Examples
+pub mod RowCounts

@@ -20,6 +20,11 @@ finds_dimension client.LinealityDim = true
 finds_dimension client.CombinatorialDim = true
 finds_dimension c = false
 
+-- the clients that count rays or facets
+abbrev pub finds_size : StandardClient → Bool
+finds_size client.NVertices = true
+finds_size c = false
+
 -- the clients that find a truth value
 abbrev pub finds_truth : StandardClient → Bool
 finds_truth client.Feasible = true

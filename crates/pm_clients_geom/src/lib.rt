@@ -1,4 +1,4 @@
-//! Clients that find dimensions, truth values, null spaces, and one description from its twin.
+//! Clients that find dimensions, counts, truth values, null spaces, and one description from its twin.
 #![tactic(auto)]
 
 ghost use Rattle.pm_clients_geom.specs.Examples.{FamiliesAreRead, MatricesAreRead};
@@ -6,10 +6,12 @@ ghost use Rattle.pm_clients_geom.specs.Examples.{FamiliesAreRead, MatricesAreRea
 mod dims;
 mod lists;
 mod rows;
+mod sizes;
 mod truths;
 
 pub use dims::DimClient;
 pub use rows::RowsClient;
+pub use sizes::SizeClient;
 pub use truths::TestClient;
 
 /// Which clients the families have, and which not.

@@ -20,10 +20,9 @@ use crate::lists::row_list;
 use pm_client::{ClientFail, Family, FamilyClient, matrix_of, put_value};
 use pm_elim::null_space;
 use pm_fraction::Fraction;
-use pm_types::ObjectType;
 use pm_matrix::{Matrix, MatrixFail};
 use pm_object::{Draft, View};
-use pm_types::{PropId, StandardClient, Value};
+use pm_types::{ObjectType, PropId, StandardClient, Value};
 use pm_vector::Ints;
 use std::alloc::Global;
 

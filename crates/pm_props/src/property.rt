@@ -314,7 +314,7 @@ impl PropId {
             Self::CombinatorialDim => property!(12 "COMBINATORIAL_DIM" Int PolytopesAndCones
                 | is_accepted: true),
             Self::NVertices => property!(13 "N_VERTICES" Int All
-                | cone_name: "N_RAYS", fan_name: "N_RAYS"),
+                | cone_name: "N_RAYS", fan_name: "N_RAYS", is_accepted: true),
             Self::NFacets => property!(14 "N_FACETS" Int PolytopesAndCones),
             Self::Feasible => property!(15 "FEASIBLE" Bool Polytopes | is_accepted: true),
             Self::Bounded => property!(16 "BOUNDED" Bool Polytopes),

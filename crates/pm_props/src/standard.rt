@@ -311,7 +311,7 @@ impl StandardClient {
                 rule!("lineality_dim": LinealityDim from LinealitySpace; 1, built),
             Self::CombinatorialDim =>
                 rule!("combinatorial_dim": CombinatorialDim from ConeDim, LinealityDim; 1, built),
-            Self::NVertices => rule!("n_vertices": NVertices from Vertices; 1, unbuilt),
+            Self::NVertices => rule!("n_vertices": NVertices from Vertices; 1, built),
             Self::NVerticesSets =>
                 rule!("n_vertices_sets": NVertices from VerticesInFacets; 1, unbuilt),
             Self::NFacets => rule!("n_facets": NFacets from Facets; 1, unbuilt),

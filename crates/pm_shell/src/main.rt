@@ -7,7 +7,7 @@ mod run;
 
 use pm_client::{Client, Numbered};
 use pm_clients_comb::SetsClient;
-use pm_clients_geom::{DimClient, RowsClient, TestClient};
+use pm_clients_geom::{DimClient, RowsClient, SizeClient, TestClient};
 use pm_store::{StdSink, StdSource};
 use run::{Status, polymake};
 use std::alloc::AllocError;
@@ -52,6 +52,14 @@ fn main(rt: HostRuntime) -> ExitCode {
     }
     for k in 0..DimClient::COUNT {
         let Ok(client) = Box::new(alloc, DimClient::new(k)) else {
+            return ExitCode::from(Status::OutOfMemory.number());
+        };
+        if clients.push(client).is_err() {
+            return ExitCode::from(Status::OutOfMemory.number());
+        }
+    }
+    for k in 0..SizeClient::COUNT {
+        let Ok(client) = Box::new(alloc, SizeClient::new(k)) else {
             return ExitCode::from(Status::OutOfMemory.number());
         };
         if clients.push(client).is_err() {
