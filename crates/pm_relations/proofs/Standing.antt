@@ -6,6 +6,7 @@ use Rattle.pm_algebra.specs.Numbers.{Ratio}
 use Rattle.pm_algebra.specs.Rows.{Row, SameDirection, Stands, dot, entry, ratio_at, times}
 use Rattle.pm_geom.specs.Faces.{ray}
 use Rattle.pm_types.specs.Right.{InOrder, StandFor}
+use Rattle.pm_types.specs.Things.{AreObjectives}
 use Rattle.pm_types.specs.Views.{over_one, ratios}
 use Rattle.std.proofs.Common.{arith, ap, refl, sym, ◌∙◌}
 use Rattle.std.proofs.lemmas.Int.{ints}
@@ -99,7 +100,7 @@ pub length_ratios : (x : Row) → length x ≡ length (ratios x)
 length_ratios [] = refl
 length_ratios (a ∷ x) = ap suc (length_ratios x)
 
-stands_ratios : (x : Row) → Stands (ratios x) x
+pub stands_ratios : (x : Row) → Stands (ratios x) x
 stands_ratios x = record {
   p = pos 1;
   q = pos 1;
@@ -118,3 +119,7 @@ stand_for_ratios (x ∷ X) = (stands_ratios x, stand_for_ratios X)
 -- whole numbers over 1 have positive denominators
 pub whole_denominators : (x : Row) (i : ℕ) → pos 0 <ℤ (ratio_at (ratios x) i).den
 whole_denominators x i = rw (ratio_at_ratios x i) (omega (arith, ints))
+
+-- a row of whole numbers over 1 is an objective for each program
+pub whole_objective : (n : ℕ) (x : Row) → length (ratios x) ≡ n → AreObjectives n (λ s. ratios x)
+whole_objective n x e = record { cols = λ s. e; denominators = λ s i h. whole_denominators x i }

@@ -1,27 +1,33 @@
 -- The cone over a bipyramid: its counts.
-use Rattle.pm_algebra.proofs.ConeLaws.{dot_in, in_cone_set, in_generator}
-use Rattle.pm_algebra.proofs.Lists.{Among, here, there}
+use Rattle.pm_relations.proofs.Standing.{whole_objective}
+use Rattle.pm_algebra.proofs.ConeLaws.{dot_in, in_cone_set}
+use Rattle.pm_algebra.proofs.Lists.{Among, Contains_among, among_Contains, here, there}
 use Rattle.pm_algebra.proofs.Ring.{ring}
 use Rattle.pm_algebra.proofs.RowLaws.{dot-plus, dot-same, dot-times, dot_comm}
 use Rattle.pm_algebra.proofs.Signs.{mul_cancel}
 use Rattle.pm_algebra.specs.Cones.{InCone}
-use Rattle.pm_algebra.specs.Rows.{HasCols, Row, Same, dot, entry, plus, times, opposite}
-use Rattle.pm_geom.proofs.Apart.{apart, lineality_spanned, not_below, not_below_at, order_of_apart, products, without}
+use Rattle.pm_algebra.specs.Rows.{HasCols, Row, Same, dot, entry, plus, times}
+use Rattle.pm_geom.proofs.Apart.{apart, not_below, not_below_at, order_of_apart, products, without}
 use Rattle.pm_geom.proofs.Facets.{dot-opposite, order_as}
 use Rattle.pm_geom.proofs.ValidRows.{Tables, facet_order, in_valid, valid_in}
 use Rattle.pm_geom.specs.Cones.{CutOut, InLineality, IsOrder, IsValid, SameModulo}
+use Rattle.pm_geom.specs.Faces.{ray}
 use Rattle.pm_types.specs.Things.{AreOrders, IsThing}
 use Rattle.pm_geom.specs.Things.{Orders}
-use Rattle.pm_right_examples.proofs.OrderExamples.{orders_length, orders_total, total}
-use Rattle.pm_right_examples.specs.BipyramidExamples.{BipyramidCountsAreRead, bipyramid, bipyramid_orders, bipyramid_thing, four, sides, sizes_of_facets, sizes_of_rays}
-use Rattle.pm_types.specs.Right.{one_if_zero, tight, vanishing}
-use Rattle.std.proofs.Common.{T, ap, arith, refl, sym, ◌∙◌}
+use Rattle.pm_relations.proofs.Orders.{orders_length, orders_total, total}
+use Rattle.pm_right_examples.specs.BipyramidExamples.{BipyramidCountsAreRead, bipyramid, bipyramid_orders, bipyramid_thing, side_sets, sides, sizes_of_facets, sizes_of_rays}
+use Rattle.pm_types.specs.Right.{IsIncidence, one_if_zero, tight, vanishing}
+use Rattle.std.proofs.Common.{T, ap, arith, inl, inr, refl, subst, sym, ◌∙◌}
 use Rattle.std.proofs.lemmas.Int.{by_lt_z, ints}
-use Rattle.std.specs.Prelude.{List, [], length, map, suc, zero, ℕ, ◌∷◌, ◌≡◌}
+use Rattle.std.specs.List.{Contains}
+use Rattle.std.specs.Prelude.{List, [], length, map, suc, zero, ℕ, ◌+◌, ◌↔◌, ◌∷◌, ◌≡◌, ◌<◌, ◌⊎◌}
 use lib.IntN.{neg_ℤ, negsuc, pos, ℤ, ◌*ℤ◌, ◌+ℤ◌}
-use lib.Signed.{le_z_yes, lt_z_yes, ◌<ℤ◌, ◌≤ℤ◌}
+use lib.Signed.{lt_z_yes, ◌<ℤ◌}
 
 -- ---- rows of four entries
+abbrev four : ℤ → ℤ → ℤ → ℤ → Row
+four a b c d = a ∷ b ∷ c ∷ d ∷ []
+
 by_four : (P : Row → Type 0) → ((a b c d : ℤ) → P (four a b c d)) → (x : Row) → length x ≡ 4 → P x
 by_four P f [] l = absurd (omega arith)
 by_four P f (a ∷ []) l = absurd (omega arith)
@@ -82,22 +88,22 @@ within a b c d (p, (q, (r, (s, (t, (u, w)))))) =
     let t' = simp ring at t in
     let u' = simp ring at u in
     by_lt_z d (pos 0)
-      (λ h. record {
-        m = pos 1;
-        c = (a +ℤ d) ∷ (b +ℤ d) ∷ (c +ℤ d) ∷ pos 0 ∷ neg_ℤ d ∷ [];
-        d = [];
-        positive = lt_z_yes tt;
-        not_negative = (omega (arith, ints), (omega (arith, ints), (omega (arith, ints), (omega (arith, ints), (omega (arith, ints), tt)))));
-        same = at_four _ _ _ _ _ _ _ _ (simp ring (omega (arith, ints))) (simp ring (omega (arith, ints))) (simp ring (omega (arith, ints))) (simp ring (omega (arith, ints)));
-      })
-      (λ h. record {
-        m = pos 1;
-        c = a ∷ b ∷ c ∷ d ∷ pos 0 ∷ [];
-        d = [];
-        positive = lt_z_yes tt;
-        not_negative = (omega (arith, ints), (omega (arith, ints), (omega (arith, ints), (omega (arith, ints), (omega (arith, ints), tt)))));
-        same = at_four _ _ _ _ _ _ _ _ (simp ring (omega (arith, ints))) (simp ring (omega (arith, ints))) (simp ring (omega (arith, ints))) (simp ring (omega (arith, ints)));
-      })
+    (λ h. record {
+      m = pos 1;
+      c = (a +ℤ d) ∷ (b +ℤ d) ∷ (c +ℤ d) ∷ pos 0 ∷ neg_ℤ d ∷ [];
+      d = [];
+      positive = lt_z_yes tt;
+      not_negative = (omega (arith, ints), (omega (arith, ints), (omega (arith, ints), (omega (arith, ints), (omega (arith, ints), tt)))));
+      same = at_four _ _ _ _ _ _ _ _ (simp ring (omega (arith, ints))) (simp ring (omega (arith, ints))) (simp ring (omega (arith, ints))) (simp ring (omega (arith, ints)));
+    })
+    (λ h. record {
+      m = pos 1;
+      c = a ∷ b ∷ c ∷ d ∷ pos 0 ∷ [];
+      d = [];
+      positive = lt_z_yes tt;
+      not_negative = (omega (arith, ints), (omega (arith, ints), (omega (arith, ints), (omega (arith, ints), (omega (arith, ints), tt)))));
+      same = at_four _ _ _ _ _ _ _ _ (simp ring (omega (arith, ints))) (simp ring (omega (arith, ints))) (simp ring (omega (arith, ints))) (simp ring (omega (arith, ints)));
+    })
 
 inside : (x : Row) → length x ≡ 4 → CutOut sides x → Unit {0} → InCone bipyramid [] x
 inside x l c u = by_four (λ y. CutOut sides y → InCone bipyramid [] y) within x l c
@@ -109,7 +115,7 @@ facet_rows : IsOrder 4 (IsValid 4 bipyramid []) sides
 facet_rows = facet_order 4 bipyramid [] sides [] rays_cols tt sides_cols tt signs inside side_order
 
 is_thing : IsThing bipyramid_thing
-is_thing = record { some_cols = omega arith; few_cols = omega arith; kind = (record { generators = rays_cols; lines = tt }, refl); programs = record { cols = λ s. refl } }
+is_thing = record { some_cols = omega arith; few_cols = omega arith; kind = (record { generators = rays_cols; lines = tt }, refl); programs = whole_objective 4 (pos 0 ∷ pos 0 ∷ pos 0 ∷ pos 0 ∷ []) refl }
 
 are_orders : AreOrders bipyramid_thing bipyramid_orders
 are_orders = record { rays = ray_order; facets = facet_rows; cones = refl }
@@ -189,6 +195,71 @@ ray_sizes p o = five _ _ _ _ _ _ _ _ _ _ (vanishing_same _ tt p o) (vanishing_sa
 facet_sizes : (p : Orders) → AreOrders bipyramid_thing p → sizes_of_facets ≡ map (λ a. pos (tight p.rays a)) sides
 facet_sizes p o = six _ _ _ _ _ _ _ _ _ _ _ _ (tight_same _ tt p o) (tight_same _ tt p o) (tight_same _ tt p o) (tight_same _ tt p o) (tight_same _ tt p o) (tight_same _ tt p o)
 
+-- ---- the places at which a product is 0
+if_zero : ℤ → List ℕ → List ℕ → List ℕ
+if_zero (pos zero) a b = a
+if_zero (pos (suc k)) a b = b
+if_zero (negsuc k) a b = b
+
+abbrev null_places : Row → List Row → ℕ → List ℕ
+null_places f [] k = []
+null_places f (v ∷ V) k = if_zero (dot f v) (k ∷ null_places f V (suc k)) (null_places f V (suc k))
+
+if_to : (z : ℤ) (k : ℕ) (rest : List ℕ) {j : ℕ} → Among j (if_zero z (k ∷ rest) rest) → ((j ≡ k) × (z ≡ pos 0)) ⊎ Among j rest
+unfolding if_zero
+if_to (pos zero) k rest here = inl (refl, refl)
+if_to (pos zero) k rest (there i) = inr i
+if_to (pos (suc m)) k rest i = inr i
+if_to (negsuc m) k rest i = inr i
+
+if_here : (z : ℤ) (k : ℕ) (rest : List ℕ) → z ≡ pos 0 → Among k (if_zero z (k ∷ rest) rest)
+unfolding if_zero
+if_here (pos zero) k rest e = here
+if_here (pos (suc m)) k rest e = absurd (omega (arith, ints))
+if_here (negsuc m) k rest e = absurd (omega (arith, ints))
+
+if_there : (z : ℤ) (k : ℕ) (rest : List ℕ) {j : ℕ} → Among j rest → Among j (if_zero z (k ∷ rest) rest)
+unfolding if_zero
+if_there (pos zero) k rest i = there i
+if_there (pos (suc m)) k rest i = i
+if_there (negsuc m) k rest i = i
+
+places_to : (f : Row) (V : List Row) (k : ℕ) {j : ℕ} → Among j (null_places f V k) → (i : ℕ) × (j ≡ k + i) × (i < length V) × (dot f (ray V i) ≡ pos 0)
+places_to f [] k i = elim i [ ]
+places_to f (v ∷ V) k i = elim (if_to (dot f v) k (null_places f V (suc k)) i) [
+  | inl w ↦ (0, (let e = w.0 in omega arith), omega arith, w.1)
+  | inr h ↦ (let r = places_to f V (suc k) h in let e = r.1 in let l = r.2 in (suc r.0, omega arith, omega arith, r.3))
+]
+
+places_from : (f : Row) (V : List Row) (k i : ℕ) → i < length V → dot f (ray V i) ≡ pos 0 → (j : ℕ) → j ≡ k + i → Among j (null_places f V k)
+places_from f [] k i l e j q = absurd (omega arith)
+places_from f (v ∷ V) k zero l e j q = let r : k ≡ j = omega arith in subst (λ m. Among m (null_places f (v ∷ V) k)) r (if_here (dot f v) k (null_places f V (suc k)) e)
+places_from f (v ∷ V) k (suc i) l e j q = if_there (dot f v) k (null_places f V (suc k)) (places_from f V (suc k) i (omega arith) e j (omega arith))
+
+places_are : (f : Row) (V : List Row) (j : ℕ) → Contains (null_places f V 0) j ↔ ((j < length V) × (dot f (ray V j) ≡ pos 0))
+places_are f V j = (
+  λ c.
+      let r = places_to f V 0 (among_Contains (null_places f V 0) c) in
+      let e : r.0 ≡ j = (let q = r.1 in omega arith) in
+      ((let l = r.2 in omega arith), subst (λ i. dot f (ray V i) ≡ pos 0) e r.3),
+  λ w. Contains_among (places_from f V 0 j w.0 w.1 j (omega arith)),
+)
+
+abbrev sets_of : List Row → List Row → List (List ℕ)
+sets_of [] V = []
+sets_of (f ∷ F) V = null_places f V 0 ∷ sets_of F V
+
+incidence_of : (F V : List Row) → IsIncidence F V (sets_of F V)
+incidence_of [] V = tt
+incidence_of (f ∷ F) V = (λ j. places_are f V j, incidence_of F V)
+
+sets_are : side_sets ≡ sets_of sides bipyramid
+unfolding if_zero
+sets_are = refl
+
+side_incidence : IsIncidence sides bipyramid side_sets
+side_incidence = subst (λ rows. IsIncidence sides bipyramid rows) (sym sets_are) (incidence_of sides bipyramid)
+
 five_not_six : sizes_of_facets ≡ sizes_of_rays → ⊥
 five_not_six e = let l = ap length e in omega arith
 
@@ -196,6 +267,9 @@ pub bipyramid_counts_are_read : BipyramidCountsAreRead
 bipyramid_counts_are_read = record {
   thing = is_thing;
   orders = are_orders;
+  incidence = (refl, side_incidence);
+  more_columns = λ h. let e : 6 ≡ 5 = h.0 in omega arith;
+  transposed = λ h. h.1.1.1.1.1.1;
   n_rays = n_rays;
   n_rays_refused = λ h. let e : pos 6 ≡ pos 5 = h bipyramid_orders are_orders in omega (arith, ints);
   n_facets = n_facets;

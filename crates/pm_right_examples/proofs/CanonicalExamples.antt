@@ -13,7 +13,7 @@ use Rattle.pm_bases.proofs.Spans.{same_span}
 use Rattle.pm_bases.proofs.Unique.{echelon_is_unique}
 use Rattle.pm_bases.specs.Bases.{IsEchelonBasis, SameSpan}
 use Rattle.pm_geom.proofs.Apart.{lineality_spanned}
-use Rattle.pm_geom.proofs.ShortRows.{at_two, by_two}
+use Rattle.pm_geom.proofs.ShortRows.{by_two}
 use Rattle.pm_geom.proofs.SmallThings.{line_is_read}
 use Rattle.pm_geom.specs.Cones.{InLineality, Vanishes}
 use Rattle.pm_geom.specs.Examples.{half_line, pair, triple}
@@ -27,23 +27,22 @@ use Rattle.pm_props.proofs.Places.{same_property_is}
 use Rattle.pm_props.proofs.Members.{has-empty}
 use Rattle.pm_right_examples.proofs.RayExamples.{below_one, below_two}
 use Rattle.pm_right_examples.proofs.RowExamples.{all_one, first_row, on_lines, spanned, vanishing_row}
-use Rattle.pm_right_examples.proofs.StandingExamples.{stands_back, stands_whole}
-use Rattle.pm_types.specs.Canonical.{AreCanonical, EachIs, IsDivided, IsEchelonBasisOf, IsEchelonMatrix, IsRayRow}
-use Rattle.pm_right_examples.specs.CanonicalExamples.{CanonicalLinesAreRead, CanonicalOrdersAreRead, CanonicalRowsAreRead, KindsAreFresh, facets_kind, halved, rays_kind}
+use Rattle.pm_right_examples.proofs.StandingExamples.{half_stands, stands_back, stands_whole}
+use Rattle.pm_types.specs.Canonical.{EachIs, IsEchelonBasisOf, IsRayRow}
+use Rattle.pm_right_examples.specs.CanonicalExamples.{CanonicalLinesAreRead, CanonicalOrdersAreRead, CanonicalRowsAreRead, KindsAreFresh, facets_kind, over_negative, rays_kind}
 use Rattle.pm_props.specs.Kinds.{IsFresh}
 use Rattle.pm_props.specs.Properties.{facets_tag, number, rays_tag}
 use Rattle.pm_right_examples.specs.RayExamples.{half_line_thing, line_thing}
-use Rattle.pm_types.specs.Right.{IsBasis}
-use Rattle.pm_right_examples.specs.RowExamples.{half_cone}
+use Rattle.pm_right_examples.specs.RowExamples.{half_cone, halved}
 use Rattle.pm_props.specs.Sets.{has, set_of}
 use Rattle.pm_types.specs.Views.{over_one, ratios}
 use Rattle.pm_props.specs.declared.property.PropId.{PropId}
-use Rattle.pm_props.specs.declared.property.PropId.TheVariants.{Facets, Vertices}
+use Rattle.pm_props.specs.declared.property.PropId.TheVariants.{Facets, Vertices, VerticesInFacets}
 use Rattle.std.proofs.Common.{ap, arith, refl, subst, sym, true≢false, ◌∙◌}
 use Rattle.std.proofs.lemmas.Int.{ints}
 use Rattle.std.specs.List.{All, AllPairs, slice_index_or}
 use Rattle.std.specs.Prelude.{Bool, IsTrue, List, [], false, length, map, nat_eq, suc, true, zero, ℕ, ◌||◌, ◌∷◌, ◌≡◌, ◌<◌}
-use lib.IntN.{pos, ℤ, ◌*ℤ◌}
+use lib.IntN.{negsuc, pos, ℤ, ◌*ℤ◌}
 use lib.Signed.{lt_z_yes, ◌<ℤ◌}
 
 -- ---- kinds
@@ -71,7 +70,7 @@ facets_only : ¬ (IsFresh rays_tag facets_kind)
 facets_only f = true≢false (sym (only_target rays_tag Facets f.target.0 f.target.1 f.target.2))
 
 pub kinds_are_fresh : KindsAreFresh
-kinds_are_fresh = record { rays = rays_fresh; rays_alone = rays_only; facets = facets_fresh; facets_alone = facets_only }
+kinds_are_fresh = record { rays = rays_fresh; rays_alone = rays_only; facets = facets_fresh; facets_alone = facets_only; order_read = λ f. true≢false (f.sources VerticesInFacets (has-set_of (VerticesInFacets ∷ []) VerticesInFacets)) }
 
 -- ---- whole rows, from what they are as fractions
 ratios_are : (x y : Row) → ratios x ≡ ratios y → x ≡ y
@@ -225,19 +224,6 @@ canonical_orders_are_read = record {
 }
 
 -- ---- rows that are divided
-half_stands : Stands halved (pair 2 1)
-half_stands = record { m = pos 2; positive = lt_z_yes tt; cols = refl; denominators = denominators; same = same }
-  where
-    denominators : (i : ℕ) → i < 2 → pos 0 <ℤ (ratio_at halved i).den
-    denominators zero l = lt_z_yes tt
-    denominators (suc zero) l = lt_z_yes tt
-    denominators (suc (suc i)) l = absurd (omega arith)
-
-    same : (i : ℕ) → i < 2 → entry (pair 2 1) i *ℤ (ratio_at halved i).den ≡ pos 2 *ℤ (ratio_at halved i).num
-    same zero l = refl
-    same (suc zero) l = refl
-    same (suc (suc i)) l = absurd (omega arith)
-
 two_one_primitive : All IsPrimitive (pair 2 1 ∷ [])
 two_one_primitive = all_one IsPrimitive (pair 2 1) (primitive_by_one (pair 2 1) 1 refl)
 
@@ -282,6 +268,10 @@ canonical_rows_are_read = record {
       let w = each_first (IsRayRow half_line_thing) (ratios (pair 2 1)) [] h.xs h.each in
       let up = entry_positive (pair 2 1) (w.2).stands 0 (lt_z_yes tt) in
       let k : pos 2 ≡ pos 1 = ap (λ (r : Ratio). r.num) ((w.2).divided (record { polytope = refl; first = λ e. omega (arith, ints) })) in
+      omega (arith, ints);
+  no_fraction = λ h.
+      let w = each_first (IsRayRow half_line_thing) over_negative [] h.xs h.each in
+      let d : pos 0 <ℤ negsuc 1 = (w.2).stands.denominators 1 (omega arith) in
       omega (arith, ints);
   cone_ray = record {
     lines = [];

@@ -6,7 +6,7 @@ use Rattle.pm_algebra.specs.Cones.{IsIndependent}
 use Rattle.pm_algebra.specs.Rows.{Row, entry}
 use Rattle.pm_algebra.specs.Divisors.{IsPrimitive}
 use Rattle.std.proofs.Common.{arith, refl}
-use Rattle.std.specs.Prelude.{List, [], length, suc, zero, ℕ, ◌∷◌, ◌≡◌, ◌<◌}
+use Rattle.std.specs.Prelude.{[], length, suc, zero, ℕ, ◌∷◌, ◌≡◌, ◌<◌}
 use lib.IntN.{pos}
 use lib.Signed.{lt_z_yes, ◌<ℤ◌}
 

@@ -2,7 +2,6 @@ pub mod BipyramidExamples
 pub mod CanonicalExamples
 pub mod DimensionExamples
 pub mod EchelonExamples
-pub mod OrderExamples
 pub mod RayExamples
 pub mod RayRowExamples
 pub mod RowExamples

@@ -1,10 +1,11 @@
 -- The half line, segments, a line, the square and the empty polytope: truth values, dimensions and far faces.
+use Rattle.pm_relations.proofs.Standing.{whole_objective}
 use Rattle.pm_algebra.proofs.ConeLaws.{dot_in, in_generator, in_line, in_line_opposite, in_same, none_to_zero}
 use Rattle.pm_algebra.proofs.Lists.{All_among, Among, Contains_among, among_Contains, here, there}
 use Rattle.pm_algebra.proofs.Ring.{ring}
 use Rattle.pm_algebra.proofs.RowLaws.{dot-nil, dot-same, dot_comm}
 use Rattle.pm_algebra.specs.Cones.{InCone}
-use Rattle.pm_algebra.specs.Rows.{IsZero, Row, Same, dot, entry}
+use Rattle.pm_algebra.specs.Rows.{IsZero, Row, Same, entry}
 use Rattle.pm_bases.proofs.Rank.{rank_is_determined}
 use Rattle.pm_bases.specs.Bases.{IsRank}
 use Rattle.pm_geom.proofs.Apart.{apart, lineality_spanned, not_below_at}
@@ -12,7 +13,7 @@ use Rattle.pm_geom.proofs.Dimension.{rank_is_left}
 use Rattle.pm_geom.proofs.ShortRows.{at_two, by_three, by_two}
 use Rattle.pm_geom.proofs.SmallThings.{half_line_is_read, line_is_read}
 use Rattle.pm_geom.specs.Cones.{InLineality, IsValid, Vanishes}
-use Rattle.pm_geom.specs.Examples.{edges, half_line, pair, square, triple}
+use Rattle.pm_geom.specs.Examples.{half_line, pair, square, triple}
 use Rattle.pm_geom.specs.Faces.{ray}
 use Rattle.pm_types.specs.Things.{AreOrders, IsThing}
 use Rattle.pm_relations.proofs.Dimensions.{dimensions_are_determined}
@@ -25,7 +26,7 @@ use Rattle.std.proofs.lemmas.Int.{by_lt_z, ints}
 use Rattle.std.specs.List.{AllPairs, Contains}
 use Rattle.std.specs.Prelude.{IsTrue, List, [], false, length, map, suc, true, zero, ℕ, ◌++◌, ◌↔◌, ◌∷◌, ◌≡◌, ◌<◌}
 use lib.IntN.{negsuc, pos, ℤ}
-use lib.Signed.{le_z_yes, lt_z_yes, ◌<ℤ◌, ◌≤ℤ◌}
+use lib.Signed.{le_z_yes, lt_z_yes, ◌<ℤ◌}
 
 -- ---- truth values
 pub is_true : {W : Type 0} → W → IsTrue true ↔ W
@@ -72,7 +73,7 @@ far_ascending js V h = subst (λ is. AllPairs (λ i j. i < j) is) (sym (map_pos_
 
 -- ---- the half line
 pub half_line_is_thing : IsThing half_line_thing
-half_line_is_thing = record { some_cols = omega arith; few_cols = omega arith; kind = (half_line_is_read.polytope, refl); programs = record { cols = λ s. refl } }
+half_line_is_thing = record { some_cols = omega arith; few_cols = omega arith; kind = (half_line_is_read.polytope, refl); programs = whole_objective 2 (pos 0 ∷ pos 0 ∷ []) refl }
 
 pub half_line_are_orders : AreOrders half_line_thing half_line_orders
 half_line_are_orders = record { rays = half_line_is_read.rays; facets = half_line_is_read.facets; cones = refl }
@@ -104,6 +105,7 @@ half_line_values_are_read = record {
   orders = half_line_are_orders;
   columns = refl;
   no_more_columns = λ h. let e : pos 3 ≡ pos 2 = h in omega (arith, ints);
+  another_form = λ h. h;
   feasible = is_true has_a_point;
   not_infeasible = not_false has_a_point;
   unbounded = is_false has_a_ray;
@@ -213,7 +215,7 @@ whole_is : {j k : ℤ} → whole j ≡ whole k → j ≡ k
 whole_is h = cc
 
 pub line_is_thing : IsThing line_thing
-line_is_thing = record { some_cols = omega arith; few_cols = omega arith; kind = (line_is_read.polytope, refl); programs = record { cols = λ s. refl } }
+line_is_thing = record { some_cols = omega arith; few_cols = omega arith; kind = (line_is_read.polytope, refl); programs = whole_objective 3 (pos 0 ∷ pos 0 ∷ pos 0 ∷ []) refl }
 
 pub line_are_orders : AreOrders line_thing line_orders
 line_are_orders = record { rays = line_is_read.rays; facets = line_is_read.facets; cones = refl }
@@ -261,8 +263,8 @@ around_centered = record { inside = λ e l one none. in_same (first_only e one n
 end_not_centered : ¬ (IsCentered (segment_of from_zero))
 end_not_centered c =
     let up : pos 0 <ℤ pos 0 = c.positive (pair 0 1)
-        (record { cols = refl; holds = λ x l h. dot_in (pair 0 1) from_zero [] (λ g i. not_below_at (pair 0 1) i tt) (λ k i. elim i [ ]) h })
-        (λ v. let e : pos 1 ≡ pos 0 = v.holds (pair 1 1) refl (in_generator (there here)) in omega (arith, ints)) in
+    (record { cols = refl; holds = λ x l h. dot_in (pair 0 1) from_zero [] (λ g i. not_below_at (pair 0 1) i tt) (λ k i. elim i [ ]) h })
+    (λ v. let e : pos 1 ≡ pos 0 = v.holds (pair 1 1) refl (in_generator (there here)) in omega (arith, ints)) in
     omega (arith, ints)
 
 beyond_not_centered : ¬ (IsCentered (segment_of beyond))

@@ -5,35 +5,33 @@ use Rattle.pm_algebra.proofs.Ring.{ring}
 use Rattle.pm_algebra.proofs.RowLaws.{dot-plus, dot-same, dot-times, dot_comm, entry-plus, entry-times, plus-dot, times-dot}
 use Rattle.pm_algebra.proofs.Signs.{mul_cancel, mul_nonneg, nonneg_cancel, weaken}
 use Rattle.pm_algebra.specs.Cones.{InCone, InSpan, IsIndependent, combination}
-use Rattle.pm_algebra.specs.Numbers.{Ratio}
-use Rattle.pm_algebra.specs.Rows.{IsZero, Row, Stands, dot, entry, opposite, plus, times}
+use Rattle.pm_algebra.specs.Rows.{Row, Stands, dot, entry, opposite, plus, times}
 use Rattle.pm_bases.proofs.Spans.{span_of}
 use Rattle.pm_geom.proofs.Apart.{apart, not_below, not_below_at, null, null_at, order_of_apart, products, without}
 use Rattle.pm_geom.proofs.Facets.{dot-opposite, opposite-dot}
 use Rattle.pm_geom.proofs.ShortRows.{at_three, at_two}
 use Rattle.pm_geom.proofs.SmallThings.{half_line_is_read, line_is_read}
 use Rattle.pm_geom.proofs.ValidRows.{Tables, facet_order}
-use Rattle.pm_geom.specs.Cones.{InLineality, IsOrder, IsValid, SameModulo, Vanishes}
+use Rattle.pm_geom.specs.Cones.{InLineality, IsValid, SameModulo, Vanishes}
 use Rattle.pm_geom.specs.Examples.{half_line, pair, triple}
 use Rattle.pm_types.specs.Things.{AreOrders}
 use Rattle.pm_relations.proofs.Dimensions.{dimension_one}
-use Rattle.pm_right_examples.proofs.EchelonExamples.{alone_independent}
-use Rattle.pm_right_examples.proofs.RayExamples.{below_two, one_line}
+use Rattle.pm_right_examples.proofs.RayExamples.{one_line}
 use Rattle.pm_right_examples.proofs.RowExamples.{all_one, first_row, on_lines, second_row, spanned, valid_row, vanishing_row}
 use Rattle.pm_relations.proofs.Standing.{in_order_length, stand_for_ratios, stand_length}
 use Rattle.pm_right_examples.proofs.StandingExamples.{row_not_negative, row_null, stand_among, stands_in, stands_not_negative, stands_null}
-use Rattle.pm_right_examples.specs.RayExamples.{half_line_thing, line_orders, line_thing}
+use Rattle.pm_right_examples.specs.RayExamples.{half_line_thing}
 use Rattle.pm_types.specs.Right.{HasDimension, InOrder, IsBasis, StandFor}
 use Rattle.pm_right_examples.specs.RowExamples.{BasesAreRight, FacetRowsAreRead, RayRowsAreRead, mixed_orders}
 use Rattle.pm_types.specs.Views.{ratios}
-use Rattle.std.proofs.Common.{T, arith, refl, sym, ◌∙◌}
+use Rattle.std.proofs.Common.{T, arith, refl, ◌∙◌}
 use Rattle.std.proofs.lemmas.Int.{ints}
-use Rattle.std.specs.Prelude.{List, [], length, map, suc, zero, ℕ, ◌∷◌, ◌≡◌, ◌<◌}
+use Rattle.std.specs.Prelude.{List, [], length, map, suc, zero, ℕ, ◌∷◌, ◌≡◌}
 use lib.IntN.{negsuc, pos, ℤ, ◌*ℤ◌, ◌+ℤ◌}
 use lib.Signed.{le_z_yes, lt_z_yes, ◌<ℤ◌, ◌≤ℤ◌}
 
 -- ---- the first rows of an order and of a value
-first_place : (R : Row → Row → Type 0) (v y : Row) (V Y xs : List Row) → InOrder R (v ∷ V) xs → StandFor (map ratios (y ∷ Y)) xs → (x : Row) × R v x × Stands (ratios y) x
+pub first_place : (R : Row → Row → Type 0) (v y : Row) (V Y xs : List Row) → InOrder R (v ∷ V) xs → StandFor (map ratios (y ∷ Y)) xs → (x : Row) × R v x × Stands (ratios y) x
 first_place R v y V Y [] o s = absurd o
 first_place R v y V Y (x ∷ xs) o s = (x, o.0, s.0)
 
@@ -195,6 +193,11 @@ ray_rows_are_read = record {
       let w = first_place (SameModulo 2 (InCone half_line [])) (pair 0 1) (pos 0 ∷ negsuc 0 ∷ []) (pair 1 0 ∷ []) (pair 1 0 ∷ []) h.xs h.order h.stand in
       let e : pos 0 ≤ℤ negsuc 0 = ray_not_negative 2 half_line [] (pair 0 1) tt tt (pair 0 1) (pos 0 ∷ negsuc 0 ∷ []) w (le_z_yes tt) in
       omega (arith, ints);
+  longer = λ h.
+      let r = stand_among (triple 0 1 0 ∷ triple 1 0 0 ∷ []) h.xs h.stand (first_row (triple 0 1 0) (triple 1 0 0 ∷ [])) in
+      let l : length r.0 ≡ 2 = all_at (λ (x : Row). length x ≡ 2) r.1 h.cols in
+      let k : length r.0 ≡ 3 = r.2.cols in
+      omega arith;
   slanted = record { xs = triple 1 5 0 ∷ []; stand = stand_for_ratios (triple 1 5 0 ∷ []); cols = (refl, tt); order = (slanted_ray, tt) };
   not_a_ray = λ h.
       let w = first_place (SameModulo 3 (InCone points lines)) (triple 1 0 0) (triple 1 0 1) [] [] h.xs h.order h.stand in
@@ -284,6 +287,11 @@ bases_are_right = record {
       let r = stand_among (triple 0 0 1 ∷ []) h.xs h.stand (first_row (triple 0 0 1) []) in
       apart [] lines (pos 0 ∷ pos 0 ∷ negsuc 0 ∷ []) (triple 0 0 1) tt tt tt
       (stands_in (triple 0 0 1) r.2 [] lines (spanned r.0 (all_at (λ (x : Row). length x ≡ 3) r.1 h.basis.cols) (among_All (InLineality (InCone points lines)) r.1 h.basis.inside)));
+  longer = λ h.
+      let r = stand_among ((pos 0 ∷ triple 1 0 0) ∷ []) h.xs h.stand (first_row (pos 0 ∷ triple 1 0 0) []) in
+      let l : length r.0 ≡ 3 = all_at (λ (x : Row). length x ≡ 3) r.1 h.basis.cols in
+      let k : length r.0 ≡ 4 = r.2.cols in
+      omega arith;
   hull = record { xs = triple 0 0 2 ∷ []; stand = stand_for_ratios (triple 0 0 2 ∷ []); basis = doubled_hull };
   hull_too_few = λ h. let e = dimension_one 3 (Vanishes 3 points lines) 0 1 (record { rows = h.xs; basis = h.basis; as_many = stand_length [] h.xs h.stand }) one_hull in omega arith;
   hull_dependent = λ h. let e = dimension_one 3 (Vanishes 3 points lines) 2 1 (record { rows = h.xs; basis = h.basis; as_many = stand_length (map ratios (triple 0 0 1 ∷ triple 0 0 2 ∷ [])) h.xs h.stand }) one_hull in omega arith;

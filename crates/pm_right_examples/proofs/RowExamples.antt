@@ -6,23 +6,22 @@ use Rattle.pm_algebra.specs.Cones.{InCone, InSpan}
 use Rattle.pm_algebra.specs.Rows.{IsZero, Row, dot, entry}
 use Rattle.pm_geom.proofs.Apart.{apart, lineality_spanned, not_below, not_below_at, null, null_at, products}
 use Rattle.pm_geom.proofs.ShortRows.{at_three, by_three, by_two, first_entry}
-use Rattle.pm_geom.proofs.SmallThings.{half_line_is_read, line_is_read}
+use Rattle.pm_geom.proofs.SmallThings.{half_line_is_read}
 use Rattle.pm_geom.proofs.ValidRows.{null_in}
-use Rattle.pm_geom.specs.Cones.{CutOut, InLineality, IsValid, Vanishes}
+use Rattle.pm_geom.specs.Cones.{CutOut, InLineality, IsExtreme, IsValid, SameModulo, Vanishes}
 use Rattle.pm_geom.specs.Examples.{half_line, pair, triple}
 use Rattle.pm_right_examples.proofs.RayExamples.{half_line_are_orders, half_line_is_thing}
 use Rattle.pm_relations.proofs.Standing.{stand_for_ratios}
-use Rattle.pm_right_examples.proofs.StandingExamples.{generated_whole, row_not_negative, row_null, solves_whole, stand_among, stands_in, whole_generated, whole_solves}
-use Rattle.pm_right_examples.specs.Examples.{empty_thing}
-use Rattle.pm_right_examples.specs.RayExamples.{half_line_orders, half_line_thing, line_orders, line_thing}
-use Rattle.pm_types.specs.Right.{CutsOutPolytope, PairCutsOut, PairGenerates, RightAll, RightFact, RightTogether, Solves, StandFor, empty, proper}
-use Rattle.pm_right_examples.specs.RowExamples.{CutOutTogether, Generate, GeneratorsAreRead, HalfSpacesAreRead, PairsAreRead, RowsAreRead, before_zero, fact_of, generators_of, half_cone, whole_matrix}
+use Rattle.pm_right_examples.proofs.StandingExamples.{generated_whole, half_stands, row_not_negative, row_null, solves_whole, stand_among, stands_in, whole_generated, whole_solves}
+use Rattle.pm_right_examples.specs.RayExamples.{beyond, half_line_orders, half_line_thing}
+use Rattle.pm_types.specs.Right.{CutsOutPolytope, RightFact, RightTogether, Solves, StandFor, empty, proper}
+use Rattle.pm_right_examples.specs.RowExamples.{CutOutTogether, Generate, GeneratorsAreRead, HalfSpacesAreRead, PairsAreRead, RowsAreRead, before_zero, fact_of, generators_of, whole_matrix}
 use Rattle.pm_types.specs.Values.{Fact}
 use Rattle.pm_types.specs.Views.{ratios}
 use Rattle.pm_props.specs.declared.property.PropId.TheVariants.{InputLineality, Points}
-use Rattle.std.proofs.Common.{T, arith, refl, ◌∙◌}
+use Rattle.std.proofs.Common.{T, arith, refl}
 use Rattle.std.proofs.lemmas.Int.{ints}
-use Rattle.std.specs.List.{All, Contains}
+use Rattle.std.specs.List.{All, Any, Contains}
 use Rattle.std.specs.Prelude.{List, [], length, map, ℕ, ◌↔◌, ◌∷◌, ◌≡◌}
 use lib.IntN.{negsuc, pos, ℤ}
 use lib.Signed.{le_z_yes, lt_z_yes, ◌<ℤ◌, ◌≤ℤ◌}
@@ -85,6 +84,12 @@ rows_are_read = record {
     cols = (refl, (refl, tt));
     each = all_two (InCone half_line []) (pair 1 3) (pair 0 2) (half_line_row (pair 1 3) refl (le_z_yes tt, (le_z_yes tt, tt))) (half_line_row (pair 0 2) refl (le_z_yes tt, (le_z_yes tt, tt)));
   };
+  fraction = record {
+    xs = pair 2 1 ∷ [];
+    stand = (half_stands, tt);
+    cols = (refl, tt);
+    each = all_one (InCone half_line []) (pair 2 1) (half_line_row (pair 2 1) refl (le_z_yes tt, (le_z_yes tt, tt)));
+  };
   outside = λ h.
       let r = stand_among (pair 1 3 ∷ before_zero ∷ []) h.xs h.stand (second_row (pair 1 3) before_zero []) in
       apart half_line [] (pair 0 1) before_zero tt tt tt (stands_in before_zero r.2 half_line [] (among_All (InCone half_line []) r.1 h.each));
@@ -93,6 +98,21 @@ rows_are_read = record {
       let l : length r.0 ≡ 2 = all_at (λ (x : Row). length x ≡ 2) r.1 h.cols in
       let k : length r.0 ≡ 3 = r.2.cols in
       omega arith;
+  segment_point = record {
+    xs = pair 1 1 ∷ [];
+    stand = stand_for_ratios (pair 1 1 ∷ []);
+    cols = (refl, tt);
+    each = all_one (InCone beyond []) (pair 1 1) (in_generator (first_row (pair 1 1) (pair 1 2 ∷ [])));
+  };
+  valid_outside = λ h.
+      let r = stand_among (pair 1 0 ∷ []) h.xs h.stand (first_row (pair 1 0) []) in
+      apart beyond [] (negsuc 0 ∷ pos 1 ∷ []) (pair 1 0) tt tt tt (stands_in (pair 1 0) r.2 beyond [] (among_All (InCone beyond []) r.1 h.each));
+  segment_row = record {
+    xs = (negsuc 0 ∷ pos 1 ∷ []) ∷ [];
+    stand = stand_for_ratios ((negsuc 0 ∷ pos 1 ∷ []) ∷ []);
+    cols = (refl, tt);
+    each = all_one (IsValid 2 beyond []) (negsuc 0 ∷ pos 1 ∷ []) (valid_row 2 beyond [] (negsuc 0 ∷ pos 1 ∷ []) refl tt tt);
+  };
   lineality = record {
     xs = triple 0 2 0 ∷ [];
     stand = stand_for_ratios (triple 0 2 0 ∷ []);
@@ -303,6 +323,9 @@ fact_first f g = Contains_among (here {xs = g ∷ []})
 fact_second : (f g : Fact) → Contains (f ∷ g ∷ []) g
 fact_second f g = Contains_among (there {y = f} (here {xs = []}))
 
+no_any : (P : Row → Type 0) → ¬ (Any P [])
+no_any P a = let l = a.2 in omega arith
+
 pub pairs_are_read : PairsAreRead
 pairs_are_read = record {
   together = record {
@@ -317,4 +340,16 @@ pairs_are_read = record {
       let f = fact_of Points (whole_matrix 2 (pair 1 0 ∷ [])) in
       let g = fact_of InputLineality (whole_matrix 2 []) in
       not_alone (h.together f g (fact_first f g) (fact_second f g));
+  no_facts = record {
+    thing = half_line_is_thing;
+    orders = half_line_are_orders;
+    each = λ f c. elim (among_Contains [] c) [ ];
+    together = λ f g c d. elim (among_Contains [] c) [ ];
+  };
+  not_each = λ h.
+      let r = h.each (fact_of Points (whole_matrix 2 (before_zero ∷ []))) (fact_first (fact_of Points (whole_matrix 2 (before_zero ∷ []))) (fact_of InputLineality (whole_matrix 2 []))) in
+      let y = stand_among (before_zero ∷ []) r.xs r.stand (first_row before_zero []) in
+      apart half_line [] (pair 0 1) before_zero tt tt tt (stands_in before_zero y.2 half_line [] (among_All (InCone half_line []) y.1 r.each));
+  not_orders = λ h. no_any (λ v. SameModulo 2 (InCone half_line []) (pair 0 1) v) (h.orders.rays.all (pair 0 1) (among_All (λ v. IsExtreme 2 (InCone half_line []) v) (first_row (pair 0 1) (pair 1 0 ∷ [])) half_line_is_read.rays.each));
+  no_thing = λ h. let e : 1 ≡ 2 = h.thing.programs.cols 0 in omega arith;
 }

@@ -1,24 +1,39 @@
 -- A whole row that stands for a row of whole numbers has its direction; what cones and products say of the one they say of the other.
+use Rattle.pm_relations.proofs.Standing.{same_direction, stands_ratios}
 use Rattle.pm_algebra.proofs.ConeLaws.{in_divide, in_generator, in_line, in_of, in_same, in_through, in_times, lines_opposite}
 use Rattle.pm_algebra.proofs.Lists.{All_among, Among, among_All, here, there}
 use Rattle.pm_algebra.proofs.Ring.{ring}
-use Rattle.pm_algebra.proofs.RowLaws.{dot-same, dot-times, dot_comm, entry-times, same_sym}
+use Rattle.pm_algebra.proofs.RowLaws.{dot-same, dot-times, dot_comm, same_sym}
 use Rattle.pm_algebra.proofs.Signs.{mul_cancel, mul_nonneg, nonneg_cancel, weaken}
 use Rattle.pm_algebra.specs.Cones.{InCone}
 use Rattle.pm_algebra.specs.Rows.{Row, SameDirection, Stands, dot, entry, ratio_at, times}
-use Rattle.pm_relations.proofs.Standing.{length_ratios, ratio_at_ratios, stand_for_ratios}
+use Rattle.pm_relations.proofs.Standing.{stand_for_ratios}
 use Rattle.pm_geom.proofs.Polar.{cut_at, cut_from}
 use Rattle.pm_types.specs.Right.{Solves, StandFor}
-use Rattle.pm_types.specs.Views.{over_one, ratios}
+use Rattle.pm_geom.specs.Examples.{pair}
+use Rattle.pm_right_examples.specs.RowExamples.{halved}
+use Rattle.pm_types.specs.Views.{ratios}
 use Rattle.std.proofs.Common.{arith, refl, sym, ◌∙◌}
 use Rattle.std.proofs.lemmas.Int.{ints}
 use Rattle.std.specs.Prelude.{List, [], length, map, suc, zero, ℕ, ◌∷◌, ◌≡◌, ◌<◌, ◌≤◌}
-use lib.IntN.{pos, ℤ, ◌*ℤ◌}
+use lib.IntN.{pos, ◌*ℤ◌}
 use lib.Signed.{lt_z_yes, ◌<ℤ◌, ◌≤ℤ◌}
-use native.Mathlib.Decide.{dec_lt}
 
 pub stands_whole : (x : Row) → Stands (ratios x) x
 stands_whole x = (stand_for_ratios (x ∷ [])).0
+
+pub half_stands : Stands halved (pair 2 1)
+half_stands = record { p = pos 1; q = pos 2; p_positive = lt_z_yes tt; q_positive = lt_z_yes tt; cols = refl; denominators = denominators; same = same }
+  where
+    denominators : (i : ℕ) → i < 2 → pos 0 <ℤ (ratio_at halved i).den
+    denominators zero l = lt_z_yes tt
+    denominators (suc zero) l = lt_z_yes tt
+    denominators (suc (suc i)) l = absurd (omega arith)
+
+    same : (i : ℕ) → i < 2 → pos 1 *ℤ (entry (pair 2 1) i *ℤ (ratio_at halved i).den) ≡ pos 2 *ℤ (ratio_at halved i).num
+    same zero l = refl
+    same (suc zero) l = refl
+    same (suc (suc i)) l = absurd (omega arith)
 
 entry_past : (x : Row) (i : ℕ) → length x ≤ i → entry x i ≡ pos 0
 entry_past [] i l = refl
@@ -26,16 +41,7 @@ entry_past (a ∷ x) zero l = absurd (omega arith)
 entry_past (a ∷ x) (suc i) l = entry_past x i (omega arith)
 
 pub stands_back : (x : Row) {y : Row} → Stands (ratios x) y → SameDirection y x
-stands_back x {y} s = record { p = pos 1; q = s.m; p_positive = lt_z_yes tt; q_positive = s.positive; same = record { at = at } }
-  where
-    at : (i : ℕ) → entry (times (pos 1) y) i ≡ entry (times s.m x) i
-    at i = elim (dec_lt i (length (ratios x))) [
-      | yes l ↦ (let e : entry y i *ℤ pos 1 ≡ s.m *ℤ entry x i = rw (ratio_at_ratios x i) at (s.same i l) in rw (entry-times (pos 1) y i, entry-times s.m x i) (simp ring (simp ring at e)))
-      | no nl ↦ (
-        let past_x : entry x i ≡ pos 0 = entry_past x i (let e = length_ratios x in omega arith) in
-        let past_y : entry y i ≡ pos 0 = entry_past y i (let e = s.cols in omega arith) in
-        rw (entry-times (pos 1) y i, entry-times s.m x i, past_x, past_y) (simp ring refl))
-    ]
+stands_back x s = same_direction s (stands_ratios x)
 
 module _ (x : Row) {y : Row} (s : Stands (ratios x) y) where
   product : (a : Row) → (stands_back x s).p *ℤ dot a y ≡ (stands_back x s).q *ℤ dot a x
@@ -97,18 +103,18 @@ module _ (X K xs ls : List Row) (s : StandFor (map ratios X) xs) (t : StandFor (
   whole_generated h = in_through X K xs ls
       (λ g i. let r = stand_from X xs s i in stands_out r.0 r.2 X K (in_generator r.1))
       (λ l i.
-          let r = stand_from K ls t i in
-          let k = stands_out r.0 r.2 [] K (in_line r.1) in
-          (in_of X [] K (λ g j. elim j [ ]) k, in_of X [] K (λ g j. elim j [ ]) (lines_opposite K l k)))
+      let r = stand_from K ls t i in
+      let k = stands_out r.0 r.2 [] K (in_line r.1) in
+      (in_of X [] K (λ g j. elim j [ ]) k, in_of X [] K (λ g j. elim j [ ]) (lines_opposite K l k)))
       h
 
   pub generated_whole : {x : Row} → InCone X K x → InCone xs ls x
   generated_whole h = in_through xs ls X K
       (λ g i. let r = stand_among X xs s i in stands_in g r.2 xs ls (in_generator r.1))
       (λ l i.
-          let r = stand_among K ls t i in
-          let k = stands_in l r.2 [] ls (in_line r.1) in
-          (in_of xs [] ls (λ g j. elim j [ ]) k, in_of xs [] ls (λ g j. elim j [ ]) (lines_opposite ls l k)))
+      let r = stand_among K ls t i in
+      let k = stands_in l r.2 [] ls (in_line r.1) in
+      (in_of xs [] ls (λ g j. elim j [ ]) k, in_of xs [] ls (λ g j. elim j [ ]) (lines_opposite ls l k)))
       h
 
   pub whole_solves : {x : Row} → Solves xs ls x → Solves X K x

@@ -1,12 +1,13 @@
--- The half line from 0, a line in the plane and the empty polytope: which matrices are right, alone, in pairs and in order.
+-- The half line from 0, a line, the empty polytope: which matrices are right, alone and in pairs.
 use Rattle.std.specs.Prelude.{ℕ, List, [], ◌∷◌, None, map}
+use Rattle.pm_algebra.specs.Numbers.{Ratio}
 use Rattle.pm_algebra.specs.Rows.{Row}
 use Rattle.pm_geom.specs.Examples.{half_line, pair, triple}
 use Rattle.pm_types.specs.Things.{Thing, AreOrders}
 use Rattle.pm_geom.specs.Things.{Orders}
-use Rattle.pm_props.specs.declared.object_type.ObjectType.TheVariants.{Cone}
+use Rattle.pm_props.specs.declared.object_type.ObjectType.TheVariants.{Cone, Polytope}
 use Rattle.pm_right_examples.specs.Examples.{empty_thing}
-use Rattle.pm_right_examples.specs.RayExamples.{half_line_thing, half_line_orders, line_orders, line_thing, thing_of}
+use Rattle.pm_right_examples.specs.RayExamples.{HalfLineHas, LineHas, SegmentHas, beyond, half_line_orders, half_line_thing, line_thing, thing_of}
 use Rattle.pm_types.specs.Right.{Right, RightAll, RightPair}
 use Rattle.pm_types.specs.Values.{Fact, PropertyValue, matrix}
 use Rattle.pm_types.specs.Views.{ratios}
@@ -22,18 +23,26 @@ whole_matrix n X = matrix n (map ratios X)
 abbrev pub before_zero : Row
 before_zero = pos 1 ∷ negsuc 0 ∷ []
 
--- rows of the half line, and rows with no negative product with it; lines of a line, and rows that vanish on it
+-- the row (1, 1/2), the point 1/2 of the half line
+abbrev pub halved : List Ratio
+halved = record { num = pos 1; den = pos 1 } ∷ record { num = pos 1; den = pos 2 } ∷ []
+
+-- rows of a cone, and rows that are valid on it; rows of the lineality, and rows that vanish
 pub record RowsAreRead : Type 0 where
-  pub points : Right Points (whole_matrix 2 (pair 1 3 ∷ pair 0 2 ∷ [])) half_line_thing half_line_orders []
-  pub outside : ¬ (Right Points (whole_matrix 2 (pair 1 3 ∷ before_zero ∷ [])) half_line_thing half_line_orders [])
-  pub longer : ¬ (Right Points (whole_matrix 3 (triple 1 3 0 ∷ [])) half_line_thing half_line_orders [])
-  pub lineality : Right InputLineality (whole_matrix 3 (triple 0 2 0 ∷ [])) line_thing line_orders []
-  pub no_line : ¬ (Right InputLineality (whole_matrix 3 (triple 1 0 0 ∷ [])) line_thing line_orders [])
-  pub inequality : Right Inequalities (whole_matrix 2 (pair 1 1 ∷ [])) half_line_thing half_line_orders []
-  pub not_valid : ¬ (Right Inequalities (whole_matrix 2 (before_zero ∷ [])) half_line_thing half_line_orders [])
-  pub equation : Right Equations (whole_matrix 3 (triple 0 0 2 ∷ [])) line_thing line_orders []
-  pub valid_alone : ¬ (Right Equations (whole_matrix 3 (triple 1 0 0 ∷ [])) line_thing line_orders [])
-  pub not_on_the_line : ¬ (Right Equations (whole_matrix 3 (triple 0 1 0 ∷ [])) line_thing line_orders [])
+  pub points : HalfLineHas Points (whole_matrix 2 (pair 1 3 ∷ pair 0 2 ∷ []))
+  pub fraction : HalfLineHas Points (matrix 2 (halved ∷ []))
+  pub outside : ¬ (HalfLineHas Points (whole_matrix 2 (pair 1 3 ∷ before_zero ∷ [])))
+  pub longer : ¬ (HalfLineHas Points (whole_matrix 3 (triple 1 3 0 ∷ [])))
+  pub segment_point : SegmentHas beyond Points (whole_matrix 2 (pair 1 1 ∷ []))
+  pub valid_outside : ¬ (SegmentHas beyond Points (whole_matrix 2 (pair 1 0 ∷ [])))
+  pub segment_row : SegmentHas beyond Inequalities (whole_matrix 2 ((negsuc 0 ∷ pos 1 ∷ []) ∷ []))
+  pub lineality : LineHas InputLineality (whole_matrix 3 (triple 0 2 0 ∷ []))
+  pub no_line : ¬ (LineHas InputLineality (whole_matrix 3 (triple 1 0 0 ∷ [])))
+  pub inequality : HalfLineHas Inequalities (whole_matrix 2 (pair 1 1 ∷ []))
+  pub not_valid : ¬ (HalfLineHas Inequalities (whole_matrix 2 (before_zero ∷ [])))
+  pub equation : LineHas Equations (whole_matrix 3 (triple 0 0 2 ∷ []))
+  pub valid_alone : ¬ (LineHas Equations (whole_matrix 3 (triple 1 0 0 ∷ [])))
+  pub not_on_the_line : ¬ (LineHas Equations (whole_matrix 3 (triple 0 1 0 ∷ [])))
 
 -- whole rows as points and lines that describe the thing together
 abbrev pub Generate : Thing → ℕ → List Row → List Row → Type 0
@@ -55,7 +64,7 @@ pub record GeneratorsAreRead : Type 0 where
   pub line_described : Generate line_thing 3 (triple 1 0 0 ∷ []) (triple 0 1 0 ∷ [])
   pub point_alone : ¬ (Generate line_thing 3 (triple 1 0 0 ∷ []) [])
 
--- x1 >= 0 cuts out the half line, and not the cone over it, which 1 >= 0 bounds too; -1 >= 0 cuts out the empty polytope, and no other
+-- x1 >= 0 cuts out the half line, and not the cone over it; -1 >= 0 cuts out the empty polytope
 pub record HalfSpacesAreRead : Type 0 where
   pub described : CutOutTogether half_line_thing 2 (pair 0 1 ∷ []) []
   pub far_face_alone : ¬ (CutOutTogether half_line_thing 2 (pair 1 0 ∷ []) [])
@@ -68,53 +77,73 @@ pub record HalfSpacesAreRead : Type 0 where
   pub not_empty : ¬ (CutOutTogether empty_thing 2 (pair 0 1 ∷ []) [])
   pub not_the_half_line : ¬ (CutOutTogether half_line_thing 2 ((negsuc 0 ∷ pos 0 ∷ []) ∷ []) [])
 
+-- orders in which the rays are missing
+abbrev pub rays_missing : Orders
+rays_missing = record { rays = []; facets = half_line; cones = [] }
+
+-- a fact of the object itself
 abbrev pub fact_of : PropId → PropertyValue → Fact
 fact_of p v = record { place = None; property = p; value = v }
 
 -- points and lines as facts of the object
 abbrev pub generators_of : List Row → List Fact
-generators_of X = fact_of Points (whole_matrix 2 X) ∷ fact_of InputLineality (whole_matrix 2 []) ∷ []
+generators_of X =
+    fact_of Points (whole_matrix 2 X) ∷ fact_of InputLineality (whole_matrix 2 []) ∷ []
 
--- each of two facts may be right where both together are not
+-- each fact is right, of a thing, in orders of it; two may be right and not together
 pub record PairsAreRead : Type 0 where
   pub together : RightAll (generators_of half_line) half_line_thing half_line_orders
-  pub first : Right Points (whole_matrix 2 (pair 1 0 ∷ [])) half_line_thing half_line_orders []
-  pub second : Right InputLineality (whole_matrix 2 []) half_line_thing half_line_orders []
+  pub first : HalfLineHas Points (whole_matrix 2 (pair 1 0 ∷ []))
+  pub second : HalfLineHas InputLineality (whole_matrix 2 [])
   pub not_together : ¬ (RightAll (generators_of (pair 1 0 ∷ [])) half_line_thing half_line_orders)
+  pub no_facts : RightAll [] half_line_thing half_line_orders
+  pub not_each : ¬ (RightAll (generators_of (before_zero ∷ [])) half_line_thing half_line_orders)
+  pub not_orders : ¬ (RightAll [] half_line_thing rays_missing)
+  pub no_thing : ¬ (RightAll [] (thing_of Polytope 2 half_line [] (pos 0 ∷ [])) half_line_orders)
 
 -- the half line with its rays in the one order, and its facet rows in the other
 abbrev pub mixed_orders : Orders
-mixed_orders = record { rays = pair 0 1 ∷ pair 1 0 ∷ []; facets = pair 1 0 ∷ pair 0 1 ∷ []; cones = [] }
+mixed_orders = record {
+  rays = pair 0 1 ∷ pair 1 0 ∷ [];
+  facets = pair 1 0 ∷ pair 0 1 ∷ [];
+  cones = [];
+}
+
+-- the value is right for the half line in these orders
+abbrev pub MixedHas : PropId → PropertyValue → Type 0
+MixedHas p v = Right p v half_line_thing mixed_orders []
 
 -- rays in their order, up to positive scale and lineality, each of them, and none more
 pub record RayRowsAreRead : Type 0 where
   pub orders : AreOrders half_line_thing mixed_orders
-  pub rays : Right Vertices (whole_matrix 2 (pair 0 1 ∷ pair 1 0 ∷ [])) half_line_thing mixed_orders []
-  pub scaled : Right Vertices (whole_matrix 2 (pair 0 2 ∷ pair 3 0 ∷ [])) half_line_thing mixed_orders []
-  pub turned : ¬ (Right Vertices (whole_matrix 2 (pair 1 0 ∷ pair 0 1 ∷ [])) half_line_thing mixed_orders [])
-  pub fewer : ¬ (Right Vertices (whole_matrix 2 (pair 0 1 ∷ [])) half_line_thing mixed_orders [])
-  pub more : ¬ (Right Vertices (whole_matrix 2 (pair 0 1 ∷ pair 1 0 ∷ pair 1 0 ∷ [])) half_line_thing mixed_orders [])
-  pub negative : ¬ (Right Vertices (whole_matrix 2 ((pos 0 ∷ negsuc 0 ∷ []) ∷ pair 1 0 ∷ [])) half_line_thing mixed_orders [])
-  pub slanted : Right Vertices (whole_matrix 3 (triple 1 5 0 ∷ [])) line_thing line_orders []
-  pub not_a_ray : ¬ (Right Vertices (whole_matrix 3 (triple 1 0 1 ∷ [])) line_thing line_orders [])
+  pub rays : MixedHas Vertices (whole_matrix 2 (pair 0 1 ∷ pair 1 0 ∷ []))
+  pub scaled : MixedHas Vertices (whole_matrix 2 (pair 0 2 ∷ pair 3 0 ∷ []))
+  pub turned : ¬ (MixedHas Vertices (whole_matrix 2 (pair 1 0 ∷ pair 0 1 ∷ [])))
+  pub fewer : ¬ (MixedHas Vertices (whole_matrix 2 (pair 0 1 ∷ [])))
+  pub more : ¬ (MixedHas Vertices (whole_matrix 2 (pair 0 1 ∷ pair 1 0 ∷ pair 1 0 ∷ [])))
+  pub negative : ¬ (MixedHas Vertices (whole_matrix 2 ((pos 0 ∷ negsuc 0 ∷ []) ∷ pair 1 0 ∷ [])))
+  pub longer : ¬ (MixedHas Vertices (whole_matrix 3 (triple 0 1 0 ∷ triple 1 0 0 ∷ [])))
+  pub slanted : LineHas Vertices (whole_matrix 3 (triple 1 5 0 ∷ []))
+  pub not_a_ray : ¬ (LineHas Vertices (whole_matrix 3 (triple 1 0 1 ∷ [])))
 
 -- facet rows in their order, up to positive scale and rows that vanish, each of them, and none more
 pub record FacetRowsAreRead : Type 0 where
-  pub facets : Right Facets (whole_matrix 2 (pair 1 0 ∷ pair 0 1 ∷ [])) half_line_thing mixed_orders []
-  pub scaled : Right Facets (whole_matrix 2 (pair 2 0 ∷ pair 0 3 ∷ [])) half_line_thing mixed_orders []
-  pub turned : ¬ (Right Facets (whole_matrix 2 (pair 0 1 ∷ pair 1 0 ∷ [])) half_line_thing mixed_orders [])
-  pub fewer : ¬ (Right Facets (whole_matrix 2 (pair 1 0 ∷ [])) half_line_thing mixed_orders [])
-  pub negative : ¬ (Right Facets (whole_matrix 2 ((negsuc 0 ∷ pos 0 ∷ []) ∷ pair 0 1 ∷ [])) half_line_thing mixed_orders [])
-  pub slanted : Right Facets (whole_matrix 3 (triple 1 0 3 ∷ [])) line_thing line_orders []
-  pub not_a_facet : ¬ (Right Facets (whole_matrix 3 (triple 1 1 0 ∷ [])) line_thing line_orders [])
+  pub facets : MixedHas Facets (whole_matrix 2 (pair 1 0 ∷ pair 0 1 ∷ []))
+  pub scaled : MixedHas Facets (whole_matrix 2 (pair 2 0 ∷ pair 0 3 ∷ []))
+  pub turned : ¬ (MixedHas Facets (whole_matrix 2 (pair 0 1 ∷ pair 1 0 ∷ [])))
+  pub fewer : ¬ (MixedHas Facets (whole_matrix 2 (pair 1 0 ∷ [])))
+  pub negative : ¬ (MixedHas Facets (whole_matrix 2 ((negsuc 0 ∷ pos 0 ∷ []) ∷ pair 0 1 ∷ [])))
+  pub slanted : LineHas Facets (whole_matrix 3 (triple 1 0 3 ∷ []))
+  pub not_a_facet : ¬ (LineHas Facets (whole_matrix 3 (triple 1 1 0 ∷ [])))
 
--- bases of the lineality of the line and of the rows that vanish on it: as many rows as needed, no more, and each of the space
+-- bases of the lineality and of the rows that vanish: as many rows as needed, and each of the space
 pub record BasesAreRight : Type 0 where
-  pub lineality : Right LinealitySpace (whole_matrix 3 (triple 0 2 0 ∷ [])) line_thing line_orders []
-  pub too_few : ¬ (Right LinealitySpace (whole_matrix 3 []) line_thing line_orders [])
-  pub dependent : ¬ (Right LinealitySpace (whole_matrix 3 (triple 0 1 0 ∷ triple 0 2 0 ∷ [])) line_thing line_orders [])
-  pub no_line : ¬ (Right LinealitySpace (whole_matrix 3 (triple 0 0 1 ∷ [])) line_thing line_orders [])
-  pub hull : Right AffineHull (whole_matrix 3 (triple 0 0 2 ∷ [])) line_thing line_orders []
-  pub hull_too_few : ¬ (Right AffineHull (whole_matrix 3 []) line_thing line_orders [])
-  pub hull_dependent : ¬ (Right AffineHull (whole_matrix 3 (triple 0 0 1 ∷ triple 0 0 2 ∷ [])) line_thing line_orders [])
-  pub not_vanishing : ¬ (Right AffineHull (whole_matrix 3 (triple 0 1 0 ∷ [])) line_thing line_orders [])
+  pub lineality : LineHas LinealitySpace (whole_matrix 3 (triple 0 2 0 ∷ []))
+  pub too_few : ¬ (LineHas LinealitySpace (whole_matrix 3 []))
+  pub dependent : ¬ (LineHas LinealitySpace (whole_matrix 3 (triple 0 1 0 ∷ triple 0 2 0 ∷ [])))
+  pub no_line : ¬ (LineHas LinealitySpace (whole_matrix 3 (triple 0 0 1 ∷ [])))
+  pub longer : ¬ (LineHas LinealitySpace (whole_matrix 4 ((pos 0 ∷ triple 1 0 0) ∷ [])))
+  pub hull : LineHas AffineHull (whole_matrix 3 (triple 0 0 2 ∷ []))
+  pub hull_too_few : ¬ (LineHas AffineHull (whole_matrix 3 []))
+  pub hull_dependent : ¬ (LineHas AffineHull (whole_matrix 3 (triple 0 0 1 ∷ triple 0 0 2 ∷ [])))
+  pub not_vanishing : ¬ (LineHas AffineHull (whole_matrix 3 (triple 0 1 0 ∷ [])))

@@ -7,7 +7,7 @@ ghost use Rattle.pm_right_examples.specs.CanonicalExamples.{CanonicalLinesAreRea
 ghost use Rattle.pm_right_examples.specs.Examples.{EmptyDimensionsAreRead, SquareDimensionsAreRead, SquareSetsAreRead};
 ghost use Rattle.pm_right_examples.specs.RayExamples.{EmptyValuesAreRead, HalfLineValuesAreRead, LineDimensionsAreRead, SegmentsAreRead, SquareIsBounded};
 ghost use Rattle.pm_right_examples.specs.RowExamples.{BasesAreRight, FacetRowsAreRead, GeneratorsAreRead, HalfSpacesAreRead, PairsAreRead, RayRowsAreRead, RowsAreRead};
-ghost use Rattle.pm_right_examples.specs.ThingExamples.{ColumnsAreRead, FansAreRead, ThingsAreRead};
+ghost use Rattle.pm_right_examples.specs.ThingExamples.{ColumnsAreRead, ConeOrdersAreRead, FanOrdersAreRead, FanValuesAreRead, FansAreRead, ThingsAreRead};
 
 /// What is right for VERTICES_IN_FACETS of the unit square, and what is not.
 pub fn example_square_sets()
@@ -122,4 +122,19 @@ pub fn example_things()
 /// Fans that are things, and what is none.
 pub fn example_fans()
     ensures { FansAreRead }
+{}
+
+/// Orders of the rays and of the cones of a fan, and what is none.
+pub fn example_fan_orders()
+    ensures { FanOrdersAreRead }
+{}
+
+/// Orders of a cone list no cones.
+pub fn example_cone_orders()
+    ensures { ConeOrdersAreRead }
+{}
+
+/// What is right for a fan of two rays and for a line as a fan, and what is not.
+pub fn example_fan_values()
+    ensures { FanValuesAreRead }
 {}
