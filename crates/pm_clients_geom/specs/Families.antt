@@ -23,6 +23,7 @@ finds_dimension c = false
 -- the clients that count rays or facets
 abbrev pub finds_size : StandardClient → Bool
 finds_size client.NVertices = true
+finds_size client.NFacets = true
 finds_size c = false
 
 -- the clients that find a truth value

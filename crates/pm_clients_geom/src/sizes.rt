@@ -15,7 +15,7 @@ use std::alloc::Global;
 #[derive(Debug, Drop)]
 pub struct SizeFamily;
 
-/// A client that counts rays or facets: number 0 is `n_vertices`. It fails for want of memory alone.
+/// A client that counts rays or facets: number 0 is `n_vertices`, 1 `n_facets`. It fails for want of memory alone.
 pub type SizeClient = FamilyClient<SizeFamily>;
 
 impl Family for SizeFamily {
@@ -32,10 +32,10 @@ impl Family for SizeFamily {
 
     ghost COUNT = { length (clients_of finds_size) };
 
-    const COUNT: u8 = 1;
+    const COUNT: u8 = 2;
 
     fn client(number: u8) -> StandardClient {
-        [StandardClient::NVertices][usize::from(number)]
+        [StandardClient::NVertices, StandardClient::NFacets][usize::from(number)]
     }
 
     fn answer(
@@ -46,6 +46,7 @@ impl Family for SizeFamily {
     ) -> Result<(), ClientFail> {
         match client {
             StandardClient::NVertices => n_vertices(view, draft),
+            StandardClient::NFacets => n_facets(view, draft),
             _ => unreachable!(),
         }
     }
@@ -63,5 +64,18 @@ fn n_vertices(view: &View, draft: &mut Draft) -> Result<(), ClientFail>
 {
     let count = matrix_of(view, PropId::Vertices).rows() as i64;
     put_value(draft, PropId::NVertices, Value::Int(count))?;
+    Ok(())
+}
+
+// N_FACETS: the number of rows of FACETS.
+fn n_facets(view: &View, draft: &mut Draft) -> Result<(), ClientFail>
+    requires kind { view.now.kind ≡ standard_kind client.NFacets }
+    requires empty { draft.old ≡ record { kind = view.now.kind; values = [] } }
+    ensures draft { draft.new.kind ≡ draft.old.kind }
+    ensures sound { OnOk result (IsSound view.now draft.new) }
+    ensures failed { IfErr result (λ e. e ≡ Memory) }
+{
+    let count = matrix_of(view, PropId::Facets).rows() as i64;
+    put_value(draft, PropId::NFacets, Value::Int(count))?;
     Ok(())
 }

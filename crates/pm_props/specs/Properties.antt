@@ -50,7 +50,7 @@ row ConeDim = record (plain 10 (codes "CONE_DIM") kind.Int tables.PolytopesAndCo
 row LinealityDim = record (plain 11 (codes "LINEALITY_DIM") kind.Int tables.All) { is_accepted = true }
 row CombinatorialDim = record (plain 12 (codes "COMBINATORIAL_DIM") kind.Int tables.PolytopesAndCones) { is_accepted = true }
 row NVertices = record (plain 13 (codes "N_VERTICES") kind.Int tables.All) { cone_name = codes "N_RAYS"; fan_name = codes "N_RAYS"; is_accepted = true }
-row NFacets = plain 14 (codes "N_FACETS") kind.Int tables.PolytopesAndCones
+row NFacets = record (plain 14 (codes "N_FACETS") kind.Int tables.PolytopesAndCones) { is_accepted = true }
 row Feasible = record (plain 15 (codes "FEASIBLE") kind.Bool tables.Polytopes) { is_accepted = true }
 row Bounded = plain 16 (codes "BOUNDED") kind.Bool tables.Polytopes
 row Pointed = record (plain 17 (codes "POINTED") kind.Bool tables.All) { is_accepted = true }

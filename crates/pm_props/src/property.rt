@@ -315,7 +315,7 @@ impl PropId {
                 | is_accepted: true),
             Self::NVertices => property!(13 "N_VERTICES" Int All
                 | cone_name: "N_RAYS", fan_name: "N_RAYS", is_accepted: true),
-            Self::NFacets => property!(14 "N_FACETS" Int PolytopesAndCones),
+            Self::NFacets => property!(14 "N_FACETS" Int PolytopesAndCones | is_accepted: true),
             Self::Feasible => property!(15 "FEASIBLE" Bool Polytopes | is_accepted: true),
             Self::Bounded => property!(16 "BOUNDED" Bool Polytopes),
             Self::Pointed => property!(17 "POINTED" Bool All | is_accepted: true),

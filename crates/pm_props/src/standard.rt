@@ -314,7 +314,7 @@ impl StandardClient {
             Self::NVertices => rule!("n_vertices": NVertices from Vertices; 1, built),
             Self::NVerticesSets =>
                 rule!("n_vertices_sets": NVertices from VerticesInFacets; 1, unbuilt),
-            Self::NFacets => rule!("n_facets": NFacets from Facets; 1, unbuilt),
+            Self::NFacets => rule!("n_facets": NFacets from Facets; 1, built),
             Self::NFacetsSets => rule!("n_facets_sets": NFacets from VerticesInFacets; 1, unbuilt),
             Self::Feasible => rule!("feasible": Feasible from ConeDim; 1, built),
             Self::FeasibleLp =>

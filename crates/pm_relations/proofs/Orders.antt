@@ -13,9 +13,9 @@ use Rattle.pm_geom.specs.Cones.{InLineality, IsExtreme, IsExtremeRay, IsOrder, I
 use Rattle.pm_geom.specs.Things.{AreFanOrders, Orders}
 use Rattle.pm_props.specs.declared.object_type.ObjectType.TheVariants.{Cone, Fan, Polytope}
 use Rattle.pm_props.specs.declared.object_type.ObjectType.{ObjectType}
-use Rattle.pm_props.specs.declared.property.PropId.TheVariants.{NVertices, Vertices}
+use Rattle.pm_props.specs.declared.property.PropId.TheVariants.{Facets, NFacets, NVertices, Vertices}
 use Rattle.pm_relations.proofs.Standing.{in_order_length, stand_length}
-use Rattle.pm_types.specs.Right.{Right, SameRay}
+use Rattle.pm_types.specs.Right.{Right, SameFacet, SameRay}
 use Rattle.pm_types.specs.Things.{AreOrders, AreOrdersOf, Thing}
 use Rattle.pm_types.specs.Values.{matrix, whole}
 use Rattle.std.proofs.Common.{ap, arith, refl, sym, ◌∙◌}
@@ -222,3 +222,7 @@ as_many_facets t o p = by t.of
 -- right VERTICES have as many rows as each order has rays
 pub rows_of_vertices : (t : Thing) (o : Orders) → AreOrders t o → (n : ℕ) (rows : List (List Ratio)) (c : List Ratio) → Right Vertices (matrix n rows) t o c → (d : List Ratio) → Right NVertices (whole (pos (length rows))) t o d
 rows_of_vertices t o orders n rows c h d p q = ap pos (sym (stand_length rows h.xs h.stand) ∙ in_order_length (SameRay t) o.rays h.xs h.order ∙ as_many_rays t o p orders q)
+
+-- right FACETS have as many rows as each order has facets
+pub rows_of_facets : (t : Thing) (o : Orders) → AreOrders t o → (n : ℕ) (rows : List (List Ratio)) (c : List Ratio) → Right Facets (matrix n rows) t o c → (d : List Ratio) → Right NFacets (whole (pos (length rows))) t o d
+rows_of_facets t o orders n rows c h d p q = ap pos (sym (stand_length rows h.xs h.stand) ∙ in_order_length (SameFacet t) o.facets h.xs h.order ∙ as_many_facets t o p orders q)
