@@ -26,11 +26,12 @@ abbrev pub Gives : {X Y : Type 0} → (X → Y) → Result X BookFail → Result
 Gives view (Ok x) read = read ≡ Ok (view x)
 Gives view (Err e) read = Fails e read
 
--- IsBehindComma ts rest, HasNoComma ts: these are the tokens behind a comma; no comma comes next
+-- these are the tokens behind a comma
 abbrev pub IsBehindComma : List Token → List Token → Type 0
 IsBehindComma [] rest = ⊥
 IsBehindComma (t ∷ ts) rest = IsTrue (is_comma t) × (ts ≡ rest)
 
+-- no comma comes next
 abbrev pub HasNoComma : List Token → Type 0
 HasNoComma [] = Unit {0}
 HasNoComma (t ∷ ts) = is_comma t ≡ false

@@ -34,10 +34,10 @@ written_of rule = record {
   conditions = map (condition_of_rule rule) (members (conditions rule));
 }
 
--- line_of rule, text_of rules: a line, and all of them
 -- 10 is LF
 unfoldable pub line_of : Rule → List ℕ
 line_of rule = rule.label ++ spaced (words_behind_label (written_of rule)) ++ 10 ∷ []
 
+-- the lines of all rules
 abbrev pub text_of : List Rule → List ℕ
 text_of rules = flat_map line_of rules

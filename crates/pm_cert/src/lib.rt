@@ -1,4 +1,4 @@
-// Checks that the table of a plan proves what it claims.
+//! The checker of plans: whether a table proves what it claims. It takes no memory and knows nothing of the planner.
 #![tactic(auto)]
 
 ghost use Rattle.std.specs.Prelude.{◌≡◌, ◌≤◌, ◌↔◌, IsTrue, Some, length, All, Contains};

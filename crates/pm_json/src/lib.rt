@@ -1,4 +1,4 @@
-// Values of properties from JSON.
+//! Values of properties from JSON, and the first fault of a text that is none.
 #![tactic(auto)]
 
 mod fail;

@@ -55,11 +55,12 @@ empty_object of = record { of = of; held = []; excluded = []; rounds = []; disab
 abbrev pub read_at : Option ℕ → List HeldValue → List HeldValue
 read_at sub held = filter (λ h. same_place h.place (place_of sub h.property)) held
 
--- value_of p held, is_held p held: the value of a property, if it is held
+-- the value of a property, if it is held
 abbrev pub value_of : PropId → List HeldValue → Option PropertyValue
 value_of p [] = None
 value_of p (h ∷ held) = if same_property p h.property then Some h.value else value_of p held
 
+-- whether it is held
 abbrev pub is_held : PropId → List HeldValue → Bool
 is_held p held = is_some (value_of p held)
 

@@ -1,4 +1,5 @@
-// Objects: the values that they hold, the rules that were excluded, the rounds that were started. A held value never changes.
+//! Objects: the values that they hold, the rules that were excluded, the rounds that were started. A held value never
+//! changes.
 #![tactic(auto)]
 
 mod copies;

@@ -24,10 +24,11 @@ place_cmp a b = ordering_then (ordering_then (nat_cmp a.cost.class b.cost.class)
 abbrev pub place_of : TableRow → Place
 place_of row = record { cost = row.cost; set = row.set }
 
--- cost_known s set, IsWaiting s row, link_waiting s row: what the maps of a search say
+-- the least cost that is known of a set
 abbrev pub cost_known : Search → PropSet → Option Cost
 cost_known s set = get nat_cmp s.known set
 
+-- how a waiting row was reached
 abbrev pub link_waiting : Search → TableRow → Option (Option Link)
 link_waiting s row = get place_cmp s.waiting (place_of row)
 

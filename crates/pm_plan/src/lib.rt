@@ -1,4 +1,4 @@
-// Least chains of rules.
+//! The planner: a least chain of rules, with the table that proves it. It knows nothing of geometry.
 #![tactic(auto)]
 
 mod answer;

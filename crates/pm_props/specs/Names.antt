@@ -19,12 +19,14 @@ program_name p = drop 3 (first_name p)
 abbrev pub is_program_name : List ℕ → PropId → Bool
 is_program_name text p = has_program p && bytes_eq text (drop 3 (first_name p))
 
--- property_named text, property_named_in of text, program_named text: the property of that name
+-- the first property that a book may write so
 abbrev pub property_named : List ℕ → Option PropId
 property_named text = find (is_name text) every_property
 
+-- the first property of this name in the table of the type
 abbrev pub property_named_in : ObjectType → List ℕ → Option PropId
 property_named_in of text = find (λ p. has of p && bytes_eq text (name_in of p)) every_property
 
+-- the first property of linear programs with this name, without `LP.`
 abbrev pub program_named : List ℕ → Option PropId
 program_named text = find (is_program_name text) every_property

@@ -12,13 +12,15 @@ has s p = nat_eq (bit_at s (number p)) 1
 unfoldable pub only : PropId → ℕ
 only p = 2 ^ number p
 
--- union s t, intersection s t, difference s t: the properties in one of them, in both, in s and not in t
+-- the properties in one of them
 unfoldable pub union : ℕ → ℕ → ℕ
 union s t = bit_or s t
 
+-- the properties in both
 unfoldable pub intersection : ℕ → ℕ → ℕ
 intersection s t = bit_and s t
 
+-- the properties in s and not in t
 unfoldable pub difference : ℕ → ℕ → ℕ
 difference s t = bit_xor s (bit_and s t)
 

@@ -22,10 +22,11 @@ no_cost = record { class = 0; minor = 0 }
 abbrev pub plus : Cost → Weight → Cost
 plus c w = record { class = c.class + w.class; minor = c.minor + w.minor }
 
--- IsBelow a b, IsAtMost a b: the order of costs
+-- the first cost is less: its class is, or the classes are equal and its minor is
 abbrev pub IsBelow : Cost → Cost → Type 0
 IsBelow a b = (a.class < b.class) ⊎ ((a.class ≡ b.class) × (a.minor < b.minor))
 
+-- it is less or equal
 abbrev pub IsAtMost : Cost → Cost → Type 0
 IsAtMost a b = (a.class < b.class) ⊎ ((a.class ≡ b.class) × (a.minor ≤ b.minor))
 
@@ -33,9 +34,10 @@ IsAtMost a b = (a.class < b.class) ⊎ ((a.class ≡ b.class) × (a.minor ≤ b.
 abbrev pub pair_text : ℕ → ℕ → List ℕ
 pair_text class minor = if class == 0 then decimal minor else decimal class ++ 46 ∷ decimal minor
 
--- weight_text w, cost_text c: the minor alone where the class is 0, else CLASS.MINOR
+-- a weight as it is printed: the minor alone where the class is 0, else CLASS.MINOR
 abbrev pub weight_text : Weight → List ℕ
 weight_text w = pair_text w.class w.minor
 
+-- a cost, printed so
 abbrev pub cost_text : Cost → List ℕ
 cost_text c = pair_text c.class c.minor

@@ -16,5 +16,5 @@ pub use kind::{Kind, RuleId};
 pub use object_type::ObjectType;
 pub use property::{COUNT, Columns, Describes, PropId, PropertyRow, RowTest, Tables, ValueKind};
 pub use set::PropSet;
-pub use standard::{StandardClient, standard_kinds};
+pub use standard::{StandardClient, StandardRule, standard_kinds};
 pub use weight::{Cost, Weight};

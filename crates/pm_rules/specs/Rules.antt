@@ -13,13 +13,15 @@ use Rattle.pm_rules.specs.declared.rule.Rule.{Rule}
 abbrev pub rule_at : List Rule → RuleId → Option Rule
 rule_at book id = slice_get book id.0
 
--- conditions rule, inputs rule, names_of_rule rule: its precondition names; these and its sources; all its names
+-- the names of its preconditions
 abbrev pub conditions : Rule → PropSet
 conditions rule = union rule.must rule.must_not
 
+-- these, and its sources
 abbrev pub inputs : Rule → PropSet
 inputs rule = union rule.kind.sources (conditions rule)
 
+-- all its names
 abbrev pub names_of_rule : Rule → PropSet
 names_of_rule rule = union rule.kind.targets (inputs rule)
 

@@ -12,7 +12,7 @@ use Rattle.pm_rules.specs.declared.step.Tag.TheVariants.{Rays, Facets, Generator
 use Rattle.pm_rules.specs.declared.step.Step.{Step}
 use Rattle.pm_rules.specs.Rules.{inputs}
 
--- Tag, tag_test tag p: one of the four tags; the property has it
+-- the property has the tag
 abbrev pub tag_test : Tag → PropId → Bool
 tag_test Rays p = rays_tag p
 tag_test Facets p = facets_tag p

@@ -3,14 +3,15 @@ use Rattle.std.specs.Prelude.{ℕ, Bool, false, not, ◌&&◌, ◌||◌, ◌==�
 use Rattle.std.specs.List.{list_all}
 use Rattle.std.specs.Str.{bytes_eq}
 
--- is_letter b, is_digit b, is_word_byte b: a letter or `_`; a digit; a letter, a digit, `_` or `.`
 -- A to Z, a to z, and `_`
 abbrev pub is_letter : ℕ → Bool
 is_letter b = (nat_le 65 b && nat_le b 90) || ((nat_le 97 b && nat_le b 122) || b == 95)
 
+-- 0 to 9
 abbrev pub is_digit : ℕ → Bool
 is_digit b = nat_le 48 b && nat_le b 57
 
+-- a letter, a digit, `_` or `.`
 abbrev pub is_word_byte : ℕ → Bool
 is_word_byte b = is_letter b || (is_digit b || b == 46)
 

@@ -136,7 +136,7 @@ pub fn is_barred(barred: &[RuleId], id: RuleId) -> bool
 fn is_fresh(tag: Tag, kind: &Kind) -> bool
     ensures { result ≡ is_fresh tag kind.now }
 {
-    tag.is_in(kind.targets) & !tag.is_in(kind.sources)
+    tag.is_in(kind.targets) && !tag.is_in(kind.sources)
 }
 
 // Whether the kind is fresh in one of the tags.
@@ -144,9 +144,9 @@ fn is_fresh_somewhere(kind: &Kind) -> bool
     ensures { result ≡ is_fresh_somewhere kind.now }
 {
     is_fresh(Tag::Rays, kind)
-        | is_fresh(Tag::Facets, kind)
-        | is_fresh(Tag::Generators, kind)
-        | is_fresh(Tag::HalfSpaces, kind)
+        || is_fresh(Tag::Facets, kind)
+        || is_fresh(Tag::Generators, kind)
+        || is_fresh(Tag::HalfSpaces, kind)
 }
 
 // Whether a property of the set is one of linear programs.

@@ -1,4 +1,4 @@
-// Scripts: their lines, the commands that lines speak, and the texts of replies.
+//! Scripts: their lines, the commands that lines speak, and the texts of replies.
 #![tactic(auto)]
 
 mod command;

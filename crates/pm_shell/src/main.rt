@@ -1,4 +1,4 @@
-// A script from standard input, answered on standard output.
+//! The program: a script from standard input, answered on standard output.
 #![tactic(auto)]
 
 ghost use Rattle.std.specs.Prelude.{IfErr, ◌≡◌, ◌⊎◌};

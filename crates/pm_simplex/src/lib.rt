@@ -1,4 +1,4 @@
-// Linear programs.
+//! Linear programs: exact optima by the simplex method, with duals, directions and multipliers that prove them.
 #![tactic(auto)]
 
 mod absorb;

@@ -1,4 +1,4 @@
-// The outside: where a script comes from, and where its replies go.
+//! The outside: where a script comes from, and where its replies go.
 #![tactic(auto)]
 
 ghost use Rattle.std.specs.Prelude.{◌≡◌, ℕ, ◌+◌, ◌<◌, ◌≤◌, ◌^◌, List, Option, None, IfOk, OnErr, length, take};

@@ -1,4 +1,4 @@
--- Which properties commands accept so far, and which values have the form of their property.
+-- Which values have the form of their property.
 use Rattle.std.specs.Prelude.{ℕ, zero, suc, ◌||◌, ◌&&◌, ◌^◌, Bool, true, false, not, IsTrue, List, [], ◌∷◌, length, nat_eq, nat_le, nat_lt, if◌then◌else◌}
 use Rattle.std.specs.List.{All, list_all}
 use Rattle.pm_algebra.specs.Numbers.{Ratio}
@@ -47,7 +47,7 @@ has_64_bits (negsuc n) = nat_lt n (2 ^ 63)
 abbrev pub is_whole_form : PropId → ℤ → Bool
 is_whole_form p k = if is_ambient p then is_dimension k else is_of_whole_numbers (value_kind p) && has_64_bits k
 
--- the value has the form of a value of p, and keeps the limits: a matrix has at most 2,048 rows of one length from 1 to 33; without rows it may state no column count, 0 at most 2,048 sets, each ascending, of indices below a column count of at most 2,048 CONE_AMBIENT_DIM is from 1 to 33, other whole numbers have 64 bits values of further kinds have no form yet
+-- the value has the form of a value of p, and keeps the limits: a matrix has at most 2,048 rows of one length from 1 to 33, and without rows it may state no column count, 0; at most 2,048 sets, each ascending, of indices below a column count of at most 2,048; values of further kinds have no form yet
 abbrev pub is_formed : PropId → PropertyValue → Bool
 is_formed p (matrix n rows) = is_of_matrices (value_kind p) && is_matrix_form n rows
 is_formed p (sets rows n) = is_of_sets (value_kind p) && is_sets_form rows n
@@ -105,7 +105,6 @@ passes of test.Ray r = not (is_zero_row r)
 passes of test.NotZero r = not (is_zero_row r)
 passes of test r = true
 
--- is_row of p r, are_rows of p v: the row, each row of the value, passes the tests of rows of that property
 -- it passes the test of rows of that property
 abbrev pub is_row : ObjectType → PropId → List Ratio → Bool
 is_row of p r = passes of (row p).test r

@@ -36,10 +36,11 @@ SameRayOf Polytope n G L v x = SameModulo n (InCone G L) v x
 SameRayOf Cone n G L v x = SameModulo n (InCone G L) v x
 SameRayOf Fan n G L v x = SameModulo n (InSpan L) v x
 
--- SameRay t v x, SameFacet t a b: they are alike up to positive scale and lineality, up to positive scale and vanishing rows
+-- rows alike up to positive scale and lineality
 abbrev pub SameRay : Thing → Row → Row → Type 0
 SameRay t v x = SameRayOf t.of t.cols t.generators t.lines v x
 
+-- rows alike up to positive scale and rows that vanish
 abbrev pub SameFacet : Thing → Row → Row → Type 0
 SameFacet t a b = SameModulo t.cols (IsValid t.cols t.generators t.lines) a b
 
@@ -97,11 +98,12 @@ abbrev pub one_if_zero : ℤ → ℕ
 one_if_zero (pos zero) = 1
 one_if_zero k = 0
 
--- vanishing F v, tight V a: how many rows of F vanish on v, and on how many rows of V the row a vanishes
+-- how many rows of F vanish on v
 abbrev pub vanishing : List Row → Row → ℕ
 vanishing [] v = 0
 vanishing (f ∷ F) v = one_if_zero (dot f v) + vanishing F v
 
+-- on how many rows of V the row a vanishes
 abbrev pub tight : List Row → Row → ℕ
 tight [] a = 0
 tight (v ∷ V) a = one_if_zero (dot a v) + tight V a
@@ -111,7 +113,7 @@ pub record Solves (A E : List Row) (x : Row) : Type 0 where
   pub inequalities : CutOut A x
   pub equations : All (λ e. dot e x ≡ pos 0) E
 
--- Generates t P L, CutsOut t A E: the pair of lists describes the thing
+-- the points P and lines L generate the thing
 pub record Generates (t : Thing) (P L : List Row) : Type 0 where
   pub same : (x : Row) → length x ≡ t.cols → InSet t x ↔ InCone P L x
 
@@ -125,6 +127,7 @@ CutsOutOf Polytope n S A E = CutsOutPolytope n S A E
 CutsOutOf Cone n S A E = (x : Row) → length x ≡ n → S x ↔ Solves A E x
 CutsOutOf Fan n S A E = ⊥
 
+-- the inequalities A and equations E cut the thing out
 abbrev pub CutsOut : Thing → List Row → List Row → Type 0
 CutsOut t A E = CutsOutOf t.of t.cols (InSet t) A E
 

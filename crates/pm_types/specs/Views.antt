@@ -7,10 +7,11 @@ use Rattle.pm_types.specs.declared.value.Value.{Value}
 use Rattle.pm_types.specs.declared.value.Value.TheVariants as value
 use lib.IntN.{ℤ, pos}
 
--- over_one k, ratios x: k/1, and so for each entry of a row
+-- k/1
 abbrev pub over_one : ℤ → Ratio
 over_one k = record { num = k; den = pos 1 }
 
+-- each entry of a row over 1
 abbrev pub ratios : Row → List Ratio
 ratios x = map over_one x
 
