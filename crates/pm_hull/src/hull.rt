@@ -11,8 +11,8 @@ ghost use Rattle.std.specs.Prelude.{Any, IfErr, IfOk, IsTrue, [], length, pos, â
 use crate::parts::double_list;
 use pm_dd::{DdFail, extreme_rays};
 use pm_elim::copies;
-use pm_props::ObjectType;
 use pm_geom::descriptions::{Facets, Generators};
+use pm_props::ObjectType;
 use pm_vector::Ints;
 use std::alloc::{AllocError, Global};
 

@@ -15,10 +15,9 @@ ghost use Rattle.std.specs.List.{list_any};
 ghost use Rattle.std.specs.Prelude.{IfNone, IfOk, IfSome, IsTrue, [], filter, length, map, nat_eq, ◌&&◌, ◌||◌, ◌≡◌, ◌≤◌, ◌↔◌, ◌∷◌};
 
 use pm_client::{Client, place_of};
-use pm_types::ObjectType;
 use pm_object::{Excluded, Object};
 use pm_rules::Rule;
-use pm_types::{Cost, PropId, PropSet, RuleId, Value};
+use pm_types::{Cost, ObjectType, PropId, PropSet, RuleId, Value};
 use std::alloc::{AllocError, Global};
 
 /// The names in use for an object of a type, of which this program is asked if one is.

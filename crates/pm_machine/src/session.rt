@@ -16,11 +16,10 @@ use crate::round::ensure;
 use crate::taking::{property_named, take_text};
 use indexmap::IndexMap;
 use pm_client::Client;
-use pm_types::ObjectType;
 use pm_object::Object;
 use pm_rules::Book;
 use pm_script::{Command, Ref, Refusal, Reply};
-use pm_types::{PropId, PropSet, Value};
+use pm_types::{ObjectType, PropId, PropSet, Value};
 use std::alloc::{AllocError, Global};
 
 /// The greatest number of objects.
