@@ -9,11 +9,10 @@ ghost use Rattle.pm_types.specs.Views.{view_of};
 ghost use Rattle.serde_json.specs.Read.{read};
 ghost use Rattle.std.specs.Prelude.{IfNone, IfOk, IfSome, IsTrue, None, OnErr, Some, false, ◌≡◌};
 
-use pm_types::ObjectType;
 use pm_json::{ValueFail, read_value};
 use pm_object::{Object, TakeFail};
 use pm_script::{Refusal, ValueWhy};
-use pm_types::{PropId, Value};
+use pm_types::{ObjectType, PropId, Value};
 use std::alloc::{AllocError, Global};
 
 /// The property of a name, if the table of the type has it and it is built.
