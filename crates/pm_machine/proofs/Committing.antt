@@ -33,7 +33,7 @@ abbrev pub ascends : ℕ → List PropId → Bool
 ascends n [] = true
 ascends n (p ∷ ps) = nat_le n (number p) && ascends (suc (number p)) ps
 
-both : (a b : Bool) → (a && b) ≡ true → (a ≡ true) × (b ≡ true)
+pub both : (a b : Bool) → (a && b) ≡ true → (a ≡ true) × (b ≡ true)
 both true b h = (refl, h)
 both false b h = absurd (true≢false (sym h))
 
@@ -67,7 +67,7 @@ members_ascend s = filtered (has s) 0 every_property refl
 lt_apart_back : (a b : ℕ) → nat_le (suc a) b ≡ true → nat_eq b a ≡ false
 lt_apart_back a b h = grind arith
 
-above : (n : ℕ) (ps : List PropId) {q : PropId} → ascends n ps ≡ true → Among q ps → nat_le n (number q) ≡ true
+pub above : (n : ℕ) (ps : List PropId) {q : PropId} → ascends n ps ≡ true → Among q ps → nat_le n (number q) ≡ true
 above n [] e i = elim i [ ]
 above n (p ∷ ps) e here = (both (nat_le n (number p)) (ascends (suc (number p)) ps) e).0
 above n (p ∷ ps) {q} e (there i) =

@@ -1,7 +1,9 @@
 -- A step leaves each object honest: by the definitions alone.
 use Rattle.pm_algebra.proofs.Lists.{among_Contains}
 use Rattle.pm_machine.proofs.Traces.{ensuring_in_part_keeps, reaching_keeps}
-use Rattle.pm_machine.specs.Events.{Configuration, Ending, Ensured, at_rest, configuration, found, no_chain, unsettled}
+use Rattle.pm_machine.specs.declared.round.Ending.{Ending}
+use Rattle.pm_machine.specs.declared.round.Ending.TheVariants as ending
+use Rattle.pm_machine.specs.Events.{Configuration, Ensured, at_rest, configuration, unsettled}
 use Rattle.pm_machine.specs.Parts.{AllHonest, GaveInPart, StepInPart}
 use Rattle.pm_machine.specs.Steps.{AllKept, Becomes, Given, GiveStep, LookupStep, Machine, NewStep, Stays, Step, TakeStep, TakeValue, given_value, object_at, whole_of, no_json, faulty, value}
 use Rattle.pm_object.proofs.Formed.{only}
@@ -14,7 +16,7 @@ use Rattle.pm_object.specs.declared.held.TakeFail.TheVariants as fail
 use Rattle.pm_rules.specs.declared.rule.Rule.{Rule}
 use Rattle.pm_script.specs.Commands.{RefSeen, Spoken, blank, new_object, take_value, give_value, look_up}
 use Rattle.pm_script.specs.Replies.{ReplySeen, done, shows, undef, refused}
-use Rattle.pm_script.specs.declared.refusal.Refusal.TheVariants.{UnknownName, NameTaken, UnknownType, UnknownProperty, BadValue, AlreadyHeld, Sealed, ObjectsFull, NoChain}
+use Rattle.pm_script.specs.declared.refusal.Refusal.TheVariants.{UnknownName, NameTaken, UnknownType, UnknownProperty, BadValue, AlreadyHeld, Sealed, ObjectsFull, NoChain, Crowded}
 use Rattle.pm_props.specs.Sets.{only as only_property}
 use Rattle.pm_types.specs.Values.{PropertyValue}
 use Rattle.pm_props.specs.declared.property.PropId.{PropId}
@@ -114,9 +116,11 @@ give_keeps : (book : List Rule) (old new : Machine) (ref : RefSeen) (text : List
 give_keeps book old new ref text (refused UnknownName) (h, s) all = stays_kept old new s all
 give_keeps book old new ref text (refused UnknownProperty) (o, h, k, s) all = stays_kept old new s all
 give_keeps book old new ref text (refused NoChain) (o, at, p, named, c, ensured, becomes) all =
-    becomes_kept ref.name c old new becomes (ensured_kept book (only_property p) no_chain (configuration o old.clients) c ensured (kept_at old ref o at all)) all
+    becomes_kept ref.name c old new becomes (ensured_kept book (only_property p) ending.NoChain (configuration o old.clients) c ensured (kept_at old ref o at all)) all
+give_keeps book old new ref text (refused Crowded) (o, at, p, named, c, ensured, becomes) all =
+    becomes_kept ref.name c old new becomes (ensured_kept book (only_property p) ending.Crowded (configuration o old.clients) c ensured (kept_at old ref o at all)) all
 give_keeps book old new ref text (shows name of p v) (o, at, named, n, t, c, ensured, becomes, held) all =
-    becomes_kept ref.name c old new becomes (ensured_kept book (only_property p) found (configuration o old.clients) c ensured (kept_at old ref o at all)) all
+    becomes_kept ref.name c old new becomes (ensured_kept book (only_property p) ending.Found (configuration o old.clients) c ensured (kept_at old ref o at all)) all
 give_keeps book old new ref text reply h all = absurd h
 
 lookup_keeps : (old new : Machine) (ref : RefSeen) (text : List ℕ) (reply : ReplySeen) → LookupStep old ref text reply new → AllKept old → AllKept new

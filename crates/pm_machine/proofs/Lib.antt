@@ -1,12 +1,12 @@
 pub mod Traces
 pub mod Kept
 pub mod Barred
-pub mod BestRules
 pub mod Committing
 pub mod Running
-pub mod Ensuring
 pub mod Measure
-pub mod RoundTraces
+pub mod Turns
+pub mod Following
+pub mod Rounds
 pub mod Names
 pub mod Refused
 pub mod Examples

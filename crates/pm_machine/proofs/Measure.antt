@@ -2,6 +2,7 @@
 use Rattle.pm_algebra.proofs.Lists.{Among, here, there}
 use Rattle.pm_client.specs.Starts.{Clients}
 use Rattle.pm_machine.specs.Chains.{AllHeld, place_of_rule}
+use Rattle.pm_machine.specs.Events.{configuration}
 use Rattle.pm_machine.specs.Running.{RoundStarted, unexcluded}
 use Rattle.pm_object.proofs.Names.{names_held}
 use Rattle.pm_object.specs.State.{HeldValue, State, is_held, read_at}
@@ -123,16 +124,17 @@ fewer sub k (item ∷ book) excluded w (suc j) rule at e is place =
     let rest = fewer sub (suc k) book excluded w j rule at (subst (λ n. list_any (names_it sub n rule) excluded ≡ false) k' e) (is ∙ k') place in
     omega arith
 
-pub less_to_do : (book : List Rule) (clients after : Clients) (sub : Option ℕ) (asked : PropSet) (old new : State) → (AllHeld sub asked old → ⊥) → RoundStarted book clients sub asked old new after
+pub less_to_do : (book : List Rule) (clients after : Clients) (sub : Option ℕ) (asked : PropSet) (old new : State) → (AllHeld sub asked old → ⊥) → RoundStarted book sub asked (configuration old clients) (configuration new after)
     → left_to_do book sub asked new < left_to_do book sub asked old
 less_to_do book clients after sub asked old new some x = elim (decide (all_named asked (read_at sub old.held))) [
   | inl y ↦ absurd (some (named_to sub asked old y))
   | inr n ↦ subst (λ t. left_to_do book sub asked new < (if t then 0 else suc (unexcluded sub 0 book old.excluded))) (sym n) (elim x.further [
     | inl held ↦ subst (λ t. (if t then 0 else suc (unexcluded sub 0 book new.excluded)) < suc (unexcluded sub 0 book old.excluded)) (sym (named_from sub asked new held)) (omega arith)
-    | inr e ↦
-        let zero' : 0 + x.id.0 ≡ x.id.0 = omega arith in
+    | inr one ↦
+        let e = one.excludes in
+        let zero' : 0 + one.id.0 ≡ one.id.0 = omega arith in
         let less : unexcluded sub 0 book (old.excluded ++ e.why ∷ []) < unexcluded sub 0 book old.excluded =
-        fewer sub 0 book old.excluded e.why x.id.0 x.rule x.is_rule (subst (λ n. list_any (names_it sub n x.rule) old.excluded ≡ false) (sym zero') e.before) (e.number ∙ sym zero') e.place in
+        fewer sub 0 book old.excluded e.why one.id.0 one.rule one.is_rule (subst (λ n. list_any (names_it sub n one.rule) old.excluded ≡ false) (sym zero') e.before) (e.number ∙ sym zero') e.place in
         at_most_suc (all_named asked (read_at sub new.held)) (unexcluded sub 0 book new.excluded) (unexcluded sub 0 book old.excluded)
         (subst (λ z. unexcluded sub 0 book z < unexcluded sub 0 book old.excluded) (sym e.after) less)
   ])

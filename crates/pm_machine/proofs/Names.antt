@@ -2,7 +2,9 @@
 use Rattle.pm_client.specs.Starts.{Clients}
 use Rattle.pm_props.specs.declared.object_type.ObjectType.{ObjectType}
 use Rattle.pm_machine.proofs.Kept.{all_honest, steps_in_part_keep, steps_keep}
-use Rattle.pm_machine.specs.Events.{Configuration, Ending, Ensured, EnsuredInPart, at_rest, configuration, found, no_chain}
+use Rattle.pm_machine.specs.Events.{Configuration, Ensured, EnsuredInPart, at_rest, configuration}
+use Rattle.pm_machine.specs.declared.round.Ending.{Ending}
+use Rattle.pm_machine.specs.declared.round.Ending.TheVariants as ending
 use Rattle.pm_machine.specs.Parts.{AllHonest, StepInPart}
 use Rattle.pm_machine.specs.Sessions.{Gives, no_files}
 use Rattle.pm_machine.specs.Steps.{AllKept, Becomes, Gains, Given, GiveStep, Machine, Stays, Step, TakeStep, TakeValue, Taken, faulty, given_by, no_json, property_named, value, whole_of}
@@ -12,7 +14,7 @@ use Rattle.pm_rules.specs.declared.rule.Rule.{Rule}
 use Rattle.pm_script.specs.Commands.{RefSeen, Spoken, blank, new_object, take_value, give_value, look_up}
 use Rattle.pm_script.specs.Replies.{ReplySeen, done, refused, shows, undef}
 use Rattle.pm_script.specs.declared.refusal.Refusal.{Refusal}
-use Rattle.pm_script.specs.declared.refusal.Refusal.TheVariants.{BadCommand, UnknownName, NameTaken, UnknownType, UnknownProperty, BadValue, AlreadyHeld, Sealed, ObjectsFull, NoChain}
+use Rattle.pm_script.specs.declared.refusal.Refusal.TheVariants.{BadCommand, UnknownName, NameTaken, UnknownType, UnknownProperty, BadValue, AlreadyHeld, Sealed, ObjectsFull, NoChain, Crowded}
 use Rattle.pm_props.proofs.Members.{has-only}
 use Rattle.pm_props.specs.Properties.{number}
 use Rattle.pm_props.specs.Sets.{has, only}
@@ -147,6 +149,9 @@ not_taken o p ObjectsFull (value v) e h = h
 not_taken o p NoChain no_json e h = h
 not_taken o p NoChain (faulty f) e h = h
 not_taken o p NoChain (value v) e h = h
+not_taken o p Crowded no_json e h = h
+not_taken o p Crowded (faulty f) e h = h
+not_taken o p Crowded (value v) e h = h
 
 -- ---- steps of the machine whose objects are given
 abbrev pub ref_with : List ℕ → Option (List ℕ) → RefSeen
@@ -194,6 +199,7 @@ module _ {ns ms : List (List ℕ)} {old new : List ℕ → Option State} {name :
         by UnknownProperty h = absurd (not_taken o p UnknownProperty (given_by p (read json)) refl h)
         by ObjectsFull h = absurd (not_taken o p ObjectsFull (given_by p (read json)) refl h)
         by NoChain h = absurd (not_taken o p NoChain (given_by p (read json)) refl h)
+        by Crowded h = absurd (not_taken o p Crowded (given_by p (read json)) refl h)
 
     pub take_done : (clients : Clients) (json : List ℕ) (p : PropId) → property_named o.of text ≡ Some p → Taken o p (given_by p (read json)) None o'
         → TakeStep (machine_with ns old clients) (ref_with name sub) text json done (machine_with ms new clients)
@@ -215,6 +221,7 @@ module _ {ns ms : List (List ℕ)} {old new : List ℕ → Option State} {name :
       where
         by : (reply : ReplySeen) → Gives book (configuration o clients) (configuration o' after) called p reply → GiveStep book (machine_with ns old clients) (ref_with name sub) text reply (machine_with ms new after)
         by (refused NoChain) e = (o, at, p, named, configuration o' after, e, becomes clients after)
+        by (refused Crowded) e = (o, at, p, named, configuration o' after, e, becomes clients after)
         by (shows s of q v) (same, type, one, held, e) = (
           o,
           at,
@@ -222,7 +229,7 @@ module _ {ns ms : List (List ℕ)} {old new : List ℕ → Option State} {name :
           same ∙ call,
           type,
           configuration o' after,
-          subst (λ z. Ensured book None (only z) found (configuration o clients) (configuration o' after)) (sym one) e,
+          subst (λ z. Ensured book None (only z) ending.Found (configuration o clients) (configuration o' after)) (sym one) e,
           becomes clients after,
           subst (λ z. value_of z (read_at None o'.held) ≡ Some v) (sym one) held,
         )
@@ -247,19 +254,20 @@ module _ {ns ms : List (List ℕ)} {old new : List ℕ → Option State} {name :
 
 -- ---- what is ensured is shown
 pub gives_shown : {F E : Type 0} (view : F → ReplySeen) (r : Result F E) (book : List Rule) (old new : Configuration) (name : List ℕ) (p : PropId) (asked : PropSet) (of : ObjectType) (v : PropertyValue)
-    → asked ≡ only p → of ≡ old.object.of → value_of p (read_at None new.object.held) ≡ Some v → Ensured book None asked found old new → IfOk r (λ x. view x ≡ shows name of p v)
+    → asked ≡ only p → of ≡ old.object.of → value_of p (read_at None new.object.held) ≡ Some v → Ensured book None asked ending.Found old new → IfOk r (λ x. view x ≡ shows name of p v)
     → IfOk r (λ x. Gives book old new name p (view x))
 gives_shown view (Err x) book old new name p asked of v one type held e s = tt
 gives_shown view (Ok x) book old new name p asked of v one type held e s =
-    subst (λ z. Gives book old new name p z) (sym s) (refl, type, refl, held, subst (λ z. Ensured book None z found old new) one e)
+    subst (λ z. Gives book old new name p z) (sym s) (refl, type, refl, held, subst (λ z. Ensured book None z ending.Found old new) one e)
 
-pub gives_none : (book : List Rule) (old new : Configuration) (p : PropId) (asked : PropSet) → asked ≡ only p → Ensured book None asked no_chain old new → Ensured book None (only p) no_chain old new
-gives_none book old new p asked one e = subst (λ z. Ensured book None z no_chain old new) one e
+-- how ensuring ended, of what was asked
+pub ended_so : (book : List Rule) (e : Ending) (old new : Configuration) (p : PropId) (asked : PropSet) → asked ≡ only p → Ensured book None asked e old new → Ensured book None (only p) e old new
+ended_so book e old new p asked one ensured = subst (λ z. Ensured book None z e old new) one ensured
 
 same_number : (n k : ℕ) → n ≡ k → eqb n k ≡ true
 same_number n k e = grind arith
 
-pub found_held : (book : List Rule) (old new : Configuration) (asked : PropSet) (p : PropId) → asked ≡ only p → Ensured book None asked found old new → is_held p (read_at None new.object.held) ≡ true
+pub found_held : (book : List Rule) (old new : Configuration) (asked : PropSet) (p : PropId) → asked ≡ only p → Ensured book None asked ending.Found old new → is_held p (read_at None new.object.held) ≡ true
 found_held book old new asked p one e =
     sym (names_held (read_at None new.object.held) p) ∙ e.ends p (ap (λ z. has z p) one ∙ has-only p p ∙ same_number (number p) (number p) refl)
 
@@ -295,3 +303,7 @@ honest_step view book old new command (Err x) s p all = steps_in_part_keep book 
 pub on_err_of : {T E P : Type 0} (r : Result T E) → P → OnErr r P
 on_err_of (Ok x) p = tt
 on_err_of (Err e) p = p
+
+pub on_err_so : {T E P Q : Type 0} (r : Result T E) → (P → Q) → OnErr r P → OnErr r Q
+on_err_so (Ok x) f p = tt
+on_err_so (Err e) f p = f p

@@ -1,16 +1,14 @@
 -- From a rule that is enabled to a run that may be, and from a run to a round.
 use Rattle.pm_algebra.proofs.Filters.{map_among, among_map}
-use Rattle.pm_algebra.proofs.Lists.{Among, Contains_among, among_Contains, here, there}
-use Rattle.pm_machine.proofs.Committing.{named_held}
-use Rattle.pm_machine.specs.Chains.{held_names, is_truth, is_wrong, some_wrong, table}
-use Rattle.pm_machine.specs.Running.{RunsRule}
-use Rattle.pm_object.proofs.Formed.{dimension_of, held_stays, value_among}
+use Rattle.pm_algebra.proofs.Lists.{Among, Contains_among, among_All, among_Contains, here, there}
+use Rattle.pm_machine.proofs.Committing.{above, ascends, both, named_held}
+use Rattle.pm_machine.specs.Commits.{FitsObject}
+use Rattle.pm_machine.specs.Chains.{IsFirstWrong, held_names, is_truth, is_wrong, some_wrong, table}
+use Rattle.pm_object.proofs.Formed.{dimension_of, value_among}
 use Rattle.pm_object.proofs.Names.{names_held}
 use Rattle.pm_object.specs.Formed.{IsFormed}
 use Rattle.pm_object.specs.Honest.{facts}
-use Rattle.pm_object.specs.State.{HeldValue, State, ambient_in, cols_of, first_cols, is_held, names_of, or_else, read_at, value_of}
-use Rattle.pm_object.specs.declared.held.RoundEnd.{RoundEnd}
-use Rattle.pm_object.specs.declared.held.RoundEnd.TheVariants as end
+use Rattle.pm_object.specs.State.{HeldValue, State, agrees, ambient_in, cols_of, first_cols, is_held, names_of, or_else, read_at, value_of}
 use Rattle.pm_rules.specs.Books.{IsRule}
 use Rattle.pm_rules.specs.Rules.{IsEnabled, conditions, inputs, names_of_rule}
 use Rattle.pm_rules.specs.declared.rule.Rule.{Rule}
@@ -18,12 +16,12 @@ use Rattle.pm_props.proofs.Every.{has-set_of_filter}
 use Rattle.pm_props.proofs.Every.{among_every}
 use Rattle.pm_props.proofs.Places.{same_property_refl}
 use Rattle.pm_props.proofs.Members.{has-intersection, has-union}
-use Rattle.pm_types.specs.Forms.{has_64_bits, is_formed, is_matrix_form, is_sets_form}
+use Rattle.pm_types.specs.Forms.{FormsIn, has_64_bits, is_formed, is_matrix_form, is_sets_form}
 use Rattle.pm_props.specs.Properties.{is_of_matrices, is_of_sets, is_of_whole_numbers}
 use Rattle.pm_props.specs.Kinds.{IsFresh, IsKindOf, names_of as names_of_kind}
 use Rattle.pm_props.specs.Properties.{is_in_use}
-use Rattle.pm_props.specs.Properties.{every_property, has_program, value_kind}
-use Rattle.pm_types.specs.Runs.{Holds, IsFree, MayRun}
+use Rattle.pm_props.specs.Properties.{every_property, has_program, number, value_kind}
+use Rattle.pm_types.specs.Runs.{Holds, IsFree, MayAnswer, MayRun}
 use Rattle.pm_props.specs.Places.{place_of, same_place, same_property}
 use Rattle.pm_props.specs.Sets.{has, intersection, union}
 use Rattle.pm_types.specs.Values.{Fact, PropertyValue, matrix, sets, whole, truth, extended, edges, lattice, counts}
@@ -32,10 +30,10 @@ use Rattle.pm_props.specs.declared.kind.RuleId.{RuleId}
 use Rattle.pm_props.specs.declared.property.PropId.{PropId}
 use Rattle.pm_props.specs.declared.property.PropId.TheVariants.{ConeAmbientDim}
 use Rattle.pm_props.specs.declared.property.ValueKind.TheVariants as form
-use Rattle.std.proofs.Common.{ap, false, inl, inr, refl, subst, sym, true, true≢false, ◌∙◌}
+use Rattle.std.proofs.Common.{ap, arith, false, inl, inr, refl, subst, sym, true, true≢false, ◌∙◌}
 use Rattle.std.specs.List.{list_any}
 use Rattle.std.specs.Option.{is_some, unwrap_or}
-use Rattle.std.specs.Prelude.{Bool, List, None, Option, Some, [], if◌then◌else◌, not, ℕ, ◌&&◌, ◌||◌, ◌≡◌, ◌∷◌, ◌⊎◌}
+use Rattle.std.specs.Prelude.{Bool, List, None, Option, Some, [], find, if◌then◌else◌, nat_le, not, suc, ℕ, ◌≤◌, ◌&&◌, ◌||◌, ◌≡◌, ◌∷◌, ◌⊎◌}
 use lib.IntN.{ℤ, pos}
 
 decide : (b : Bool) → (b ≡ true) ⊎ (b ≡ false)
@@ -56,7 +54,7 @@ or_right false b h = h
 and_false : (a b : Bool) → a ≡ true → (a && b) ≡ false → b ≡ false
 and_false a b h k = cc
 
-place_none : (p : PropId) → place_of None p ≡ None
+pub place_none : (p : PropId) → place_of None p ≡ None
 place_none p = by (has_program p)
   where
     none : Option ℕ
@@ -253,12 +251,61 @@ kind_in_use o sub barred id rule is_rule enabled p named = sym (has-set_of_filte
     named_by (inr (inl h)) = read (reads_condition rule p (reads_must rule p (within rule.kind.must rule.must p is_rule.must h)))
     named_by (inr (inr h)) = read (reads_condition rule p (reads_must_not rule p (within rule.kind.must_not rule.must_not p is_rule.must_not h)))
 
--- a run leaves what is held
-pub runs_hold : (sub : Option ℕ) (id : RuleId) (rule : Rule) (old new : State) (e : RoundEnd) (p : PropId) → RunsRule sub id rule old e new → is_held p old.held ≡ true → is_held p new.held ≡ true
-runs_hold sub id rule old new end.Done p c h = subst (λ z. is_held p z.held ≡ true) (sym c.added) (held_stays p old.held _ h)
-runs_hold sub id rule old new (end.Failed other k) p f h = subst (λ z. is_held p z.held ≡ true) (sym f.excluded) h
-runs_hold sub id rule old new (end.False other q) p f h = absurd f
-
 pub known_is : (c : Option ℕ) → is_some c ≡ true → c ≡ Some (unwrap_or c 1)
 known_is None e = absurd (true≢false (sym e))
 known_is (Some n) e = refl
+
+-- what a client may answer fits the object
+pub fits : (o : State) (kind : Kind) (read answer : List Fact) → is_some (cols_of o.held) ≡ true → MayAnswer o.of (unwrap_or (cols_of o.held) 1) kind None read answer → FitsObject o answer
+fits o kind read answer known may = record {
+  each = λ f i.
+      let j = among_Contains answer i in
+      let forms = among_All (λ (z : Fact). FormsIn o.of (unwrap_or (cols_of o.held) 1) z.property z.value) j may.formed in
+      record {
+        formed = forms.formed;
+        columns = subst (λ c. agrees c f.property f.value ≡ true) (sym (known_is (cols_of o.held) known)) forms.columns;
+        rows = forms.rows;
+        entries = forms.entries;
+        primitive = forms.primitive;
+        placed = among_All (λ (z : Fact). z.place ≡ place_of None z.property) j may.places ∙ place_none f.property;
+      };
+}
+
+-- ---- the first precondition that is held with the wrong value
+find_first : (test : PropId → Bool) (n : ℕ) (ps : List PropId) (p : PropId) → ascends n ps ≡ true → find test ps ≡ Some p
+    → (test p ≡ true) × ((q : PropId) → Among q ps → test q ≡ true → number p ≤ number q)
+find_first test n [] p e h = absurd (true≢false (sym (ap is_some h)))
+find_first test n (x ∷ xs) p e h = by (test x) refl (find_first test (suc (number x)) xs p (both (nat_le n (number x)) (ascends (suc (number x)) xs) e).1) h
+  where
+    next_le : (a b : ℕ) → nat_le (suc a) b ≡ true → a ≤ b
+    next_le a b k = grind arith
+
+    at_first : (z : PropId) → z ≡ x → (q : PropId) → Among q (x ∷ xs) → number z ≤ number q
+    at_first z same q here = subst (λ (y : PropId). number y ≤ number q) (sym same) (omega arith)
+    at_first z same q (there i) =
+        subst (λ (y : PropId). number y ≤ number q) (sym same) (next_le (number x) (number q) (above (suc (number x)) xs (both (nat_le n (number x)) (ascends (suc (number x)) xs) e).1 i))
+
+    later : (q : PropId) → test x ≡ false → ((r : PropId) → Among r xs → test r ≡ true → number p ≤ number r) → Among q (x ∷ xs) → test q ≡ true → number p ≤ number q
+    later q un rest here t = absurd (true≢false (sym t ∙ un))
+    later q un rest (there i) t = rest q i t
+
+    by : (t : Bool) → test x ≡ t → (find test xs ≡ Some p → (test p ≡ true) × ((q : PropId) → Among q xs → test q ≡ true → number p ≤ number q))
+        → (if t then Some x else find test xs) ≡ Some p → (test p ≡ true) × ((q : PropId) → Among q (x ∷ xs) → test q ≡ true → number p ≤ number q)
+    by true is rest k = let same : p ≡ x = sym (some_is x p k) in (ap test same ∙ is, λ q i t. at_first p same q i)
+    by false un rest k = let (t, least) = rest k in (t, λ q i u. later q un least i u)
+
+find_none : (test : PropId → Bool) (ps : List PropId) → find test ps ≡ None → list_any test ps ≡ false
+find_none test [] h = refl
+find_none test (x ∷ xs) h = by (test x) (find_none test xs) h
+  where
+    by : (t : Bool) → (find test xs ≡ None → list_any test xs ≡ false) → (if t then Some x else find test xs) ≡ None → (t || list_any test xs) ≡ false
+    by true rest k = absurd (true≢false (ap is_some k))
+    by false rest k = rest k
+
+pub first_is : (rule : Rule) (held : List HeldValue) (r : Option PropId) (p : PropId) → r ≡ find (is_wrong rule held) every_property → r ≡ Some p → IsFirstWrong rule held p
+first_is rule held r p is some =
+    let (t, least) = find_first (is_wrong rule held) 0 every_property p refl (sym is ∙ some) in
+    record { wrong = t; least = λ q u. least q (among_every q) u }
+
+pub none_is_wrong : (rule : Rule) (held : List HeldValue) (r : Option PropId) → r ≡ find (is_wrong rule held) every_property → r ≡ None → some_wrong rule held ≡ false
+none_is_wrong rule held r is none = find_none (is_wrong rule held) every_property (sym is ∙ none)

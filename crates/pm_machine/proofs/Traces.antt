@@ -1,5 +1,5 @@
 -- Traces of events: one after another, and what they keep. By the definitions alone.
-use Rattle.pm_machine.specs.Events.{Configuration, EnsuredInPart, Event, IsTrace, MayOccur, Phase, Reaches, Stands, after_event, after_events, phase_after, phase_after_all, at_rest, begun, committed, excluded, over, running, settled, started, turn, turns, unsettled, written}
+use Rattle.pm_machine.specs.Events.{Configuration, EnsuredInPart, Event, IsTrace, MayOccur, Phase, Reaches, Stands, after_event, after_events, phase_after, phase_after_all, at_rest, begun, columns, committed, excluded, over, running, settled, started, turn, turns, unsettled, written}
 use Rattle.pm_object.proofs.Formed.{held_stays}
 use Rattle.pm_object.proofs.Honesty.{commit_is_honest, honesty_is_of_values, settled_is_kept}
 use Rattle.pm_object.specs.Honest.{IsHonest, IsKept}
@@ -87,7 +87,7 @@ event_keeps book sub asked at_rest c (begun chain) may kept = in_turns chain cha
 event_keeps book sub asked (turn chain id left) c (started kind) may honest = honest
 event_keeps book sub asked (turn chain id left) c (excluded e) may honest = honesty_is_of_values c.object _ refl refl honest
 event_keeps book sub asked (running chain id left) c (committed answer) may honest =
-    in_turns chain left _ (commit_is_honest c.object sub may.rule.kind may.n answer may.may_run may.may_answer honest)
+    in_turns chain left _ (commit_is_honest c.object sub may.rule.kind (columns c.object) answer may.started.may_run may.may_answer honest)
 event_keeps book sub asked (running chain id left) c (excluded e) may honest = honesty_is_of_values c.object _ refl refl honest
 event_keeps book sub asked (over chain e) c (written r) may honest = record {
   honest = honesty_is_of_values c.object (with_round c.object r) refl refl honest;

@@ -1,19 +1,17 @@
 -- Chains on an object. Who asks names a linear program of it, or none; what is read and barred then is what stands at that place.
-use Rattle.std.specs.Prelude.{◌≡◌, ◌||◌, ◌&&◌, Bool, false, true, not, ℕ, Option, None, Some, List, length, filter, nat_eq, if◌then◌else◌}
+use Rattle.std.specs.Prelude.{◌≡◌, ◌≤◌, ◌||◌, ◌&&◌, Bool, IsTrue, false, true, not, ℕ, Option, None, Some, List, filter, nat_eq, if◌then◌else◌}
 use Rattle.std.specs.List.{list_any}
 use Rattle.pm_props.specs.declared.object_type.ObjectType.{ObjectType}
 use Rattle.pm_client.specs.Starts.{Clients, has_client}
 use Rattle.pm_object.specs.State.{HeldValue, State, is_disabled, names_of, read_at, value_of}
-use Rattle.pm_rules.specs.Chains.{LeadsTo, weigh}
-use Rattle.pm_rules.specs.Rules.{IsEnabled, is_barred, rule_at}
+use Rattle.pm_rules.specs.Rules.{is_barred, rule_at}
 use Rattle.pm_rules.specs.declared.rule.Rule.{Rule}
 use Rattle.pm_props.specs.Properties.{is_in_use}
 use Rattle.pm_props.specs.Kinds.{names_of as names_of_kind}
-use Rattle.pm_props.specs.Properties.{every_property, has_program}
+use Rattle.pm_props.specs.Properties.{every_property, has_program, number}
 use Rattle.pm_props.specs.Places.{same_place}
-use Rattle.pm_props.specs.Sets.{IsSubset, difference, has, set_of, union}
+use Rattle.pm_props.specs.Sets.{IsSubset, difference, has, set_of}
 use Rattle.pm_types.specs.Values.{PropertyValue, truth}
-use Rattle.pm_props.specs.Weights.{IsAtMost}
 use Rattle.pm_props.specs.declared.kind.RuleId.{RuleId}
 use Rattle.pm_props.specs.declared.property.PropId.{PropId}
 use Rattle.pm_props.specs.declared.set.PropSet.{PropSet}
@@ -43,6 +41,11 @@ is_truth b v = false
 abbrev pub is_wrong : Rule → List HeldValue → PropId → Bool
 is_wrong rule read p = has rule.must p && is_truth false (value_of p read) || has rule.must_not p && is_truth true (value_of p read)
 
+-- the first such precondition in the order of the numbers
+pub record IsFirstWrong (rule : Rule) (read : List HeldValue) (p : PropId) : Type 0 where
+  pub wrong : IsTrue (is_wrong rule read p)
+  pub least : (q : PropId) → IsTrue (is_wrong rule read q) → number p ≤ number q
+
 -- some precondition of the rule is
 abbrev pub some_wrong : Rule → List HeldValue → Bool
 some_wrong rule read = list_any (is_wrong rule read) every_property
@@ -62,21 +65,3 @@ is_barred_on clients o sub id rule = is_excluded o sub id rule || some_wrong rul
 -- the list has exactly the numbers of the rules of the book that are barred there
 pub record AreBarred (book : List Rule) (clients : Clients) (o : State) (sub : Option ℕ) (barred : List RuleId) : Type 0 where
   pub each : (id : RuleId) (rule : Rule) → rule_at book id ≡ Some rule → is_barred barred id ≡ is_barred_on clients o sub id rule
-
--- so far a chain is a list of exactly one rule
-abbrev pub LeadsByOne : List Rule → PropSet → List RuleId → PropSet → PropSet → List RuleId → Type 0
-LeadsByOne book names barred held asked chain = LeadsTo book names barred held asked chain × (length chain ≡ 1)
-
--- of these the chain is one of least weight
-pub record IsLeastByOne (book : List Rule) (names : PropSet) (barred : List RuleId) (held asked : PropSet) (chain : List RuleId) : Type 0 where
-  pub leads : LeadsByOne book names barred held asked chain
-  pub least : (other : List RuleId) → LeadsByOne book names barred held asked other → IsAtMost (weigh book chain) (weigh book other)
-
--- there is none
-abbrev pub HasNoChainByOne : List Rule → PropSet → List RuleId → PropSet → PropSet → Type 0
-HasNoChainByOne book names barred held asked = (chain : List RuleId) → LeadsByOne book names barred held asked chain → ⊥
-
--- the rule alone leads from the held names to the asked ones
-pub record Serves (names : PropSet) (barred : List RuleId) (held asked : PropSet) (id : RuleId) (rule : Rule) : Type 0 where
-  pub enabled : IsEnabled names barred held id rule
-  pub ends : IsSubset asked (union held rule.kind.targets)

@@ -1,10 +1,13 @@
 -- What happens to an object and to the clients while properties are ensured, event by event. `sub` is the linear program that is asked, if one is.
-use Rattle.std.specs.Prelude.{ℕ, ◌≡◌, ◌≤◌, false, IsTrue, Option, Some, List, [], ◌∷◌}
+use Rattle.std.specs.Option.{is_some, unwrap_or}
+use Rattle.std.specs.Prelude.{ℕ, ◌≡◌, false, IsTrue, Option, Some, List, [], ◌∷◌}
 use Rattle.pm_client.specs.Sound.{HoldsOf}
 use Rattle.pm_client.specs.Starts.{Clients, after_start}
 use Rattle.pm_geom.specs.Evidence.{evidence_number}
 use Rattle.pm_geom.specs.declared.evidence.Evidence.{Evidence}
-use Rattle.pm_machine.specs.Chains.{AllHeld, AreBarred, HasNoChainByOne, IsLeastByOne, held_names, is_wrong, place_of_rule, some_wrong, still_missing, table}
+use Rattle.pm_machine.specs.Chains.{AllHeld, AreBarred, IsFirstWrong, held_names, place_of_rule, some_wrong, still_missing, table}
+use Rattle.pm_machine.specs.declared.round.Ending.{Ending}
+use Rattle.pm_machine.specs.declared.round.Ending.TheVariants.{Found, NoChain, Crowded}
 use Rattle.pm_object.specs.Honest.{IsHonest, IsKept, facts}
 use Rattle.pm_object.specs.Laws.{computed}
 use Rattle.pm_object.specs.Reading.{view_for}
@@ -14,10 +17,11 @@ use Rattle.pm_object.specs.declared.held.RoundEnd.{RoundEnd}
 use Rattle.pm_object.specs.declared.held.RoundEnd.TheVariants as end
 use Rattle.pm_object.specs.declared.held.Why.{Why}
 use Rattle.pm_object.specs.declared.held.Why.TheVariants as why
-use Rattle.pm_rules.specs.Chains.{weigh}
+use Rattle.pm_plan.specs.Plans.{HasNoPlan, IsCrowded}
+use Rattle.pm_rules.specs.Chains.{IsLeast, weigh}
 use Rattle.pm_rules.specs.Rules.{rule_at}
 use Rattle.pm_rules.specs.declared.rule.Rule.{Rule}
-use Rattle.pm_props.specs.Properties.{number}
+use Rattle.pm_rules.specs.declared.table.TableRow.{TableRow}
 use Rattle.pm_types.specs.Runs.{MayAnswer, MayRun, missing, shown}
 use Rattle.pm_types.specs.Values.{Fact}
 use Rattle.pm_props.specs.declared.kind.Kind.{Kind}
@@ -97,31 +101,39 @@ pub record MayBegin (book : List Rule) (sub : Option ℕ) (asked : PropSet) (c :
   pub missing : AllHeld sub asked c.object → ⊥
   pub barred : List RuleId
   pub are_barred : AreBarred book c.clients c.object sub barred
-  pub least : IsLeastByOne book (table sub c.object.of) barred (held_names sub c.object) (still_missing sub asked c.object) chain
+  pub least : IsLeast book (table sub c.object.of) barred (held_names sub c.object) (still_missing sub asked c.object) chain
 
--- the rule has this kind, and none of its preconditions is held with the wrong value
+-- the column count of an object that knows it
+abbrev pub columns : State → ℕ
+columns o = unwrap_or (cols_of o.held) 1
+
+-- a rule as its client is started: none of its preconditions is held with the wrong value, and its client may run on what is held
+pub record StartedRule (sub : Option ℕ) (rule : Rule) (o : State) : Type 0 where
+  pub right : some_wrong rule (read_at sub o.held) ≡ false
+  pub known : IsTrue (is_some (cols_of o.held))
+  pub may_run : MayRun rule.kind sub (columns o) (facts o.held)
+
+-- the rule has this kind, and it may be started
 pub record MayStart (book : List Rule) (sub : Option ℕ) (id : RuleId) (o : State) (kind : Kind) : Type 0 where
   pub rule : Rule
   pub is_rule : rule_at book id ≡ Some rule
-  pub right : some_wrong rule (read_at sub o.held) ≡ false
+  pub started : StartedRule sub rule o
   pub kind_of : kind ≡ rule.kind
 
--- its client may run on what is held, and may answer so
+-- its client was started, and may answer so
 pub record MayCommit (book : List Rule) (sub : Option ℕ) (id : RuleId) (o : State) (answer : List Fact) : Type 0 where
   pub rule : Rule
   pub is_rule : rule_at book id ≡ Some rule
-  pub n : ℕ
-  pub may_run : MayRun rule.kind sub n (facts o.held)
-  pub may_answer : MayAnswer o.of n rule.kind sub (shown rule.kind sub (facts o.held)) answer
+  pub started : StartedRule sub rule o
+  pub may_answer : MayAnswer o.of (columns o) rule.kind sub (shown rule.kind sub (facts o.held)) answer
 
--- its client failed, with evidence that holds of what it read
+-- its client was started and failed, with evidence that holds of what it read
 pub record HasFailed (book : List Rule) (sub : Option ℕ) (id : RuleId) (o : State) (e : Excluded) : Type 0 where
   pub rule : Rule
   pub is_rule : rule_at book id ≡ Some rule
-  pub n : ℕ
-  pub known : cols_of o.held ≡ Some n
+  pub started : StartedRule sub rule o
   pub evidence : Evidence
-  pub holds : HoldsOf evidence (view_for o sub rule.kind n)
+  pub holds : HoldsOf evidence (view_for o sub rule.kind (columns o))
   pub is : e ≡ record { rule = id; sub = place_of_rule sub rule; why = why.Failed evidence }
 
 -- a precondition of it is held with the wrong value; of these the one of the least number
@@ -129,8 +141,7 @@ pub record IsFalse (book : List Rule) (sub : Option ℕ) (id : RuleId) (o : Stat
   pub rule : Rule
   pub is_rule : rule_at book id ≡ Some rule
   pub property : PropId
-  pub wrong : IsTrue (is_wrong rule (read_at sub o.held) property)
-  pub least : (q : PropId) → IsTrue (is_wrong rule (read_at sub o.held) q) → number property ≤ number q
+  pub first : IsFirstWrong rule (read_at sub o.held) property
   pub is : e ≡ record { rule = id; sub = place_of_rule sub rule; why = why.False property }
 
 -- in this phase the event may occur
@@ -162,21 +173,26 @@ abbrev pub ReachesInPart : List Rule → Option ℕ → PropSet → Phase → Co
 ReachesInPart book sub asked phase old new = (later : Phase) × Reaches book sub asked phase old later new
 
 -- ---- ensuring
--- some of what is asked is missing, and no chain leads to it that avoids the rules barred now
-pub record NoneLeads (book : List Rule) (clients : Clients) (sub : Option ℕ) (asked : PropSet) (o : State) : Type 0 where
+-- some of what is asked is missing, and no chain leads to it that avoids the rules barred now: the table has all sets of names that useful rules reach
+pub record NoneLeads (book : List Rule) (sub : Option ℕ) (asked : PropSet) (c : Configuration) : Type 0 where
+  pub missing : AllHeld sub asked c.object → ⊥
   pub barred : List RuleId
-  pub are_barred : AreBarred book clients o sub barred
-  pub missing : AllHeld sub asked o → ⊥
-  pub none : HasNoChainByOne book (table sub o.of) barred (held_names sub o) (still_missing sub asked o)
+  pub are_barred : AreBarred book c.clients c.object sub barred
+  pub rows : List TableRow
+  pub none : HasNoPlan book (table sub c.object.of) barred (held_names sub c.object) (still_missing sub asked c.object) rows
 
--- what is asked was found, or no chain leads to it
-pub data Ending : Type 0 where
-  found : Ending
-  no_chain : Ending
+-- some of what is asked is missing, and more sets of names than a table may have rows cost less than each chain to it that avoids the rules barred now
+pub record TooManyLead (book : List Rule) (sub : Option ℕ) (asked : PropSet) (c : Configuration) : Type 0 where
+  pub missing : AllHeld sub asked c.object → ⊥
+  pub barred : List RuleId
+  pub are_barred : AreBarred book c.clients c.object sub barred
+  pub rows : List TableRow
+  pub crowded : IsCrowded book (table sub c.object.of) barred (held_names sub c.object) (still_missing sub asked c.object) rows
 
 abbrev pub EndsIn : List Rule → Option ℕ → PropSet → Ending → Configuration → Type 0
-EndsIn book sub asked found c = AllHeld sub asked c.object
-EndsIn book sub asked no_chain c = NoneLeads book c.clients sub asked c.object
+EndsIn book sub asked Found c = AllHeld sub asked c.object
+EndsIn book sub asked NoChain c = NoneLeads book sub asked c
+EndsIn book sub asked Crowded c = TooManyLead book sub asked c
 
 -- the object was settled, and rounds followed until the ending
 pub record Ensured (book : List Rule) (sub : Option ℕ) (asked : PropSet) (ending : Ending) (old new : Configuration) : Type 0 where

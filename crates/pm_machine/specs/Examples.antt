@@ -1,20 +1,21 @@
 -- The definitions of phases, events and exclusions read on small things: what holds of them and what does not.
-use Rattle.std.specs.Prelude.{ℕ, ◌≡◌, true, false, Option, Some, None, List, [], ◌∷◌}
+use Rattle.std.specs.Prelude.{ℕ, ◌≡◌, Bool, true, false, Option, Some, None, List, [], ◌∷◌}
 use Rattle.pm_geom.specs.declared.evidence.Evidence.TheVariants.{E4}
 use Rattle.pm_props.specs.declared.object_type.ObjectType.TheVariants.{Polytope}
-use Rattle.pm_machine.specs.Chains.{is_excluded}
+use Rattle.pm_machine.specs.Chains.{IsFirstWrong, is_excluded, is_wrong, some_wrong}
 use Rattle.pm_machine.specs.Events.{Configuration, MayOccur, at_rest, begun, committed, excluded, over, phase_after_all, running, settled, started, turn, unsettled, written}
-use Rattle.pm_object.specs.State.{RoundSeen, State, empty_object}
+use Rattle.pm_object.specs.State.{HeldValue, RoundSeen, State, empty_object}
 use Rattle.pm_object.specs.declared.held.Excluded.{Excluded}
+use Rattle.pm_object.specs.declared.held.Origin.TheVariants.{Given}
 use Rattle.pm_object.specs.declared.held.RoundEnd.TheVariants as end
 use Rattle.pm_object.specs.declared.held.Why.TheVariants as why
 use Rattle.pm_rules.specs.declared.rule.Rule.{Rule}
 use Rattle.pm_props.specs.Sets.{set_of}
-use Rattle.pm_types.specs.Values.{Fact}
+use Rattle.pm_types.specs.Values.{Fact, truth}
 use Rattle.pm_props.specs.declared.kind.Kind.{Kind}
 use Rattle.pm_props.specs.declared.kind.RuleId.{RuleId}
 use Rattle.pm_props.specs.declared.property.PropId.{PropId}
-use Rattle.pm_props.specs.declared.property.PropId.TheVariants.{ConeDim, MaximalValue}
+use Rattle.pm_props.specs.declared.property.PropId.TheVariants.{ConeDim, FullDim, MaximalValue, Pointed}
 use Rattle.pm_props.specs.declared.set.PropSet.{PropSet}
 
 abbrev pub third : RuleId
@@ -26,6 +27,10 @@ fifth = record { 0 = 5 }
 -- the third rule failed, for who asks this program, if one is asked
 abbrev pub failure : Option ℕ → Excluded
 failure sub = record { rule = third; sub = sub; why = why.Failed (E4 [] []) }
+
+-- the third rule has this precondition, which is held with the wrong value
+abbrev pub falsehood : PropId → Excluded
+falsehood p = record { rule = third; sub = None; why = why.False p }
 
 -- a chain of two rules
 abbrev pub two : List RuleId
@@ -39,6 +44,8 @@ pub record EventsAreRead : Type 0 where
   pub next_turn : (kind : Kind) → phase_after_all at_rest (begun two ∷ started kind ∷ committed [] ∷ []) ≡ turn two fifth []
   pub all_done : (kind : Kind) → phase_after_all at_rest (begun two ∷ started kind ∷ committed [] ∷ started kind ∷ committed [] ∷ []) ≡ over two end.Done
   pub failed : (kind : Kind) → phase_after_all at_rest (begun two ∷ started kind ∷ excluded (failure None) ∷ []) ≡ over two (end.Failed third 4)
+  pub failed_later : (kind : Kind) (e : Excluded) → e.why ≡ why.Failed (E4 [] []) → phase_after_all at_rest (begun two ∷ started kind ∷ committed [] ∷ started kind ∷ excluded e ∷ []) ≡ over two (end.Failed fifth 4)
+  pub found_false : phase_after_all at_rest (begun two ∷ excluded (falsehood FullDim) ∷ []) ≡ over two (end.False third FullDim)
   pub at_rest_again : (kind : Kind) (r : RoundSeen) → phase_after_all at_rest (begun two ∷ started kind ∷ excluded (failure None) ∷ written r ∷ []) ≡ at_rest
   pub no_chain_unsettled : (book : List Rule) (asked : PropSet) (c : Configuration) → MayOccur book None asked unsettled c (begun two) → ⊥
   pub no_start_at_rest : (book : List Rule) (asked : PropSet) (c : Configuration) (kind : Kind) → MayOccur book None asked at_rest c (started kind) → ⊥
@@ -63,3 +70,22 @@ pub record ExclusionsAreRead : Type 0 where
   pub not_with_the_object : (rule : Rule) → is_excluded (with_failure (Some 1)) None third (finding rule ConeDim) ≡ false
   pub with_each_program : (rule : Rule) → is_excluded (with_failure None) (Some 2) third (finding rule ConeDim) ≡ true
   pub no_other_rule : (rule : Rule) → is_excluded (with_failure None) None fifth (finding rule ConeDim) ≡ false
+
+-- a truth value that was given
+abbrev pub given : PropId → Bool → HeldValue
+given p b = record { place = None; property = p; value = truth b; origin = Given }
+
+-- a rule under these conditions
+abbrev pub under : Rule → List PropId → List PropId → Rule
+under rule must must_not = record rule { must = set_of must; must_not = set_of must_not }
+
+-- which preconditions are held with the wrong value
+pub record ConditionsAreRead : Type 0 where
+  pub wrong : (rule : Rule) → is_wrong (under rule (Pointed ∷ []) []) (given Pointed false ∷ []) Pointed ≡ true
+  pub right : (rule : Rule) → some_wrong (under rule (Pointed ∷ []) []) (given Pointed true ∷ []) ≡ false
+  pub not_held : (rule : Rule) → some_wrong (under rule (Pointed ∷ []) []) [] ≡ false
+  pub no_condition : (rule : Rule) → some_wrong (under rule (FullDim ∷ []) []) (given Pointed false ∷ []) ≡ false
+  pub contrary_wrong : (rule : Rule) → is_wrong (under rule [] (Pointed ∷ [])) (given Pointed true ∷ []) Pointed ≡ true
+  pub contrary_right : (rule : Rule) → some_wrong (under rule [] (Pointed ∷ [])) (given Pointed false ∷ []) ≡ false
+  pub first : (rule : Rule) → IsFirstWrong (under rule (Pointed ∷ FullDim ∷ []) []) (given FullDim false ∷ given Pointed false ∷ []) Pointed
+  pub not_first : (rule : Rule) → IsFirstWrong (under rule (Pointed ∷ FullDim ∷ []) []) (given FullDim false ∷ given Pointed false ∷ []) FullDim → ⊥

@@ -1,5 +1,4 @@
 pub mod Chains
-pub mod Best
 pub mod Commits
 pub mod Events
 pub mod Running

@@ -10,7 +10,8 @@ use Rattle.pm_props.specs.declared.object_type.ObjectType.TheVariants.{Polytope,
 use Rattle.pm_json.specs.Readings.{reading}
 use Rattle.pm_json.specs.declared.fail.ValueFail.{ValueFail}
 use Rattle.pm_json.specs.declared.fail.ValueFail.TheVariants as fault
-use Rattle.pm_machine.specs.Events.{Configuration, Ensured, configuration, found, no_chain}
+use Rattle.pm_machine.specs.Events.{Configuration, Ensured, configuration}
+use Rattle.pm_machine.specs.declared.round.Ending.TheVariants as ending
 use Rattle.pm_object.specs.Honest.{IsKept}
 use Rattle.pm_object.specs.State.{CanTake, CannotTake, HeldValue, State, empty_object, is_held, is_sealed, read_at, value_of, with_held}
 use Rattle.pm_object.specs.declared.held.Origin.TheVariants.{Given as Given'}
@@ -19,7 +20,7 @@ use Rattle.pm_rules.specs.declared.rule.Rule.{Rule}
 use Rattle.pm_script.specs.Commands.{RefSeen, Spoken, blank, new_object, take_value, give_value, look_up}
 use Rattle.pm_script.specs.Replies.{ReplySeen, done, shows, undef, refused}
 use Rattle.pm_script.specs.declared.refusal.Refusal.{Refusal}
-use Rattle.pm_script.specs.declared.refusal.Refusal.TheVariants.{UnknownName, NameTaken, UnknownType, UnknownProperty, BadValue, AlreadyHeld, Sealed, ObjectsFull, NoChain}
+use Rattle.pm_script.specs.declared.refusal.Refusal.TheVariants.{UnknownName, NameTaken, UnknownType, UnknownProperty, BadValue, AlreadyHeld, Sealed, ObjectsFull, NoChain, Crowded}
 use Rattle.pm_script.specs.declared.refusal.ValueWhy.{ValueWhy}
 use Rattle.pm_script.specs.declared.refusal.ValueWhy.TheVariants as value_why
 use Rattle.pm_props.specs.Properties.{is_built}
@@ -167,9 +168,11 @@ abbrev pub GiveStep : List Rule → Machine → RefSeen → List ℕ → ReplySe
 GiveStep book old ref text (refused UnknownName) new = (object_at old ref ≡ None) × Stays old new
 GiveStep book old ref text (refused UnknownProperty) new = (o : State) × (object_at old ref ≡ Some o) × (property_named o.of text ≡ None) × Stays old new
 GiveStep book old ref text (refused NoChain) new = (o : State) × (object_at old ref ≡ Some o) × (p : PropId) × (property_named o.of text ≡ Some p)
-    × (c : Configuration) × Ensured book None (only p) no_chain (configuration o old.clients) c × Becomes ref.name c old new
+    × (c : Configuration) × Ensured book None (only p) ending.NoChain (configuration o old.clients) c × Becomes ref.name c old new
+GiveStep book old ref text (refused Crowded) new = (o : State) × (object_at old ref ≡ Some o) × (p : PropId) × (property_named o.of text ≡ Some p)
+    × (c : Configuration) × Ensured book None (only p) ending.Crowded (configuration o old.clients) c × Becomes ref.name c old new
 GiveStep book old ref text (shows name of p v) new = (o : State) × (object_at old ref ≡ Some o) × (property_named o.of text ≡ Some p) × (name ≡ ref.name) × (of ≡ o.of)
-    × (c : Configuration) × Ensured book None (only p) found (configuration o old.clients) c × Becomes ref.name c old new × (value_of p (read_at None c.object.held) ≡ Some v)
+    × (c : Configuration) × Ensured book None (only p) ending.Found (configuration o old.clients) c × Becomes ref.name c old new × (value_of p (read_at None c.object.held) ≡ Some v)
 GiveStep book old ref text reply new = ⊥
 
 -- `lookup REF PROP`

@@ -1,23 +1,22 @@
-// Rules on an object: which are barred, and which chain is least.
+// Rules on an object: which names they may use, and which are barred.
 
 ghost use Rattle.pm_client.specs.Starts.{has_client};
-ghost use Rattle.pm_machine.specs.Chains.{AreBarred, HasNoChainByOne, IsLeastByOne, Serves, is_barred_on, is_excluded, is_truth, is_wrong, place_of_rule, some_wrong, table};
-ghost use Rattle.pm_machine.specs.Best.{BestBefore, better, cost_of};
+ghost use Rattle.pm_machine.specs.Chains.{AreBarred, is_barred_on, is_excluded, is_truth, is_wrong, place_of_rule, some_wrong, table};
 ghost use Rattle.pm_object.specs.State.{is_disabled, read_at, value_of};
 ghost use Rattle.pm_rules.specs.Books.{most_rules};
 ghost use Rattle.pm_props.specs.Properties.{is_in_use};
 ghost use Rattle.pm_props.specs.Kinds.{names_of};
-ghost use Rattle.pm_props.specs.Properties.{has_program};
+ghost use Rattle.pm_props.specs.Properties.{every_property, has_program};
 ghost use Rattle.pm_props.specs.Places.{same_place};
 ghost use Rattle.pm_props.specs.Sets.{has, set_of};
 ghost use Rattle.pm_props.specs.declared.property.PropId.{PropId};
 ghost use Rattle.std.specs.List.{list_any};
-ghost use Rattle.std.specs.Prelude.{IfNone, IfOk, IfSome, IsTrue, [], filter, length, map, nat_eq, ◌&&◌, ◌||◌, ◌≡◌, ◌≤◌, ◌↔◌, ◌∷◌};
+ghost use Rattle.std.specs.Prelude.{IfOk, filter, find, length, map, nat_eq, ◌&&◌, ◌||◌, ◌≡◌, ◌≤◌};
 
 use pm_client::{Client, place_of};
 use pm_object::{Excluded, Object};
 use pm_rules::Rule;
-use pm_types::{Cost, ObjectType, PropId, PropSet, RuleId, Value};
+use pm_types::{ObjectType, PropId, PropSet, RuleId, Value};
 use std::alloc::{AllocError, Global};
 
 /// The names in use for an object of a type, of which this program is asked if one is.
@@ -67,6 +66,17 @@ fn some_is_wrong(rule: &Rule, object: &Object, sub: Option<u8>, properties: &[Pr
         (is_wrong rule.now (read_at sub object.now.state.held)) properties.now }
 {
     properties.iter().any(|p| is_wrong(rule, object, sub, *p))
+}
+
+/// The first precondition of the rule that is held there with the wrong value.
+pub fn first_wrong(rule: &Rule, object: &Object, sub: Option<u8>) -> Option<PropId>
+    ensures { result ≡ find
+        (is_wrong rule.now (read_at sub object.now.state.held)) every_property }
+{
+    PropId::every()
+        .iter()
+        .copied()
+        .find(|p| is_wrong(rule, object, sub, *p))
 }
 
 // Whether one of these properties is a name of the rule's kind, and of programs.
@@ -160,82 +170,4 @@ pub fn barred_rules(
         }
     }
     Ok(barred)
-}
-
-/// What a chain goes from and to: the names in use, the barred rules, the names held and those asked.
-#[derive(Clone, Copy)]
-pub struct Search<'a> {
-    pub names: PropSet,
-    pub barred: &'a [RuleId],
-    pub held: PropSet,
-    pub asked: PropSet,
-}
-
-// A rule that serves, and what it costs.
-#[derive(Clone, Copy)]
-struct Best {
-    id: RuleId,
-    cost: Cost,
-}
-
-/// What a chain of this rule alone costs.
-pub fn cost_of(rule: &Rule) -> Cost
-    ensures { result ≡ cost_of rule.now }
-{
-    Cost {
-        class: u64::from(rule.weight.class),
-        minor: u64::from(rule.weight.minor),
-    }
-}
-
-// The cheaper of both, the first where they cost the same.
-fn better(best: Option<Best>, new: Best) -> Best
-    ensures { result ≡ better best new }
-{
-    match best {
-        Some(old) if old.cost.is_at_most(new.cost) => old,
-        _ => new,
-    }
-}
-
-impl<'a> Search<'a> {
-    // Whether the rule alone leads from the held names to the asked ones.
-    fn is_served(&self, id: RuleId, rule: &Rule) -> bool
-        ensures { IsTrue result ↔ Serves self.now.names self.now.barred.now
-            self.now.held self.now.asked id rule.now }
-    {
-        rule.is_enabled(self.names, self.barred, self.held, id)
-            & self.asked.is_subset(self.held.union(rule.kind.targets))
-    }
-
-    // The best of the rules.
-    fn best(&self, rules: &[Rule]) -> Option<Best>
-        requires { length rules.now ≤ most_rules }
-        ensures { BestBefore rules.now self.now.names self.now.barred.now
-            self.now.held self.now.asked (length rules.now) result }
-    {
-        let mut best = None;
-        for (i, rule) in rules.iter().enumerate() {
-            let id = RuleId(i as u16);
-            if self.is_served(id, rule) {
-                let cost = cost_of(rule);
-                best = Some(better(best, Best { id, cost }));
-            }
-        }
-        best
-    }
-
-    /// The rule of least weight that alone leads from the held names to the asked ones; None exactly where none does.
-    pub fn best_rule(&self, rules: &[Rule]) -> Option<RuleId>
-        requires { length rules.now ≤ most_rules }
-        ensures some { IfSome result (λ id. IsLeastByOne rules.now self.now.names
-            self.now.barred.now self.now.held self.now.asked (id ∷ [])) }
-        ensures none { IfNone result (HasNoChainByOne rules.now self.now.names
-            self.now.barred.now self.now.held self.now.asked) }
-    {
-        match self.best(rules) {
-            Some(best) => Some(best.id),
-            None => None,
-        }
-    }
 }

@@ -1,7 +1,7 @@
 // The laws of honesty, and examples.
 
 ghost use Rattle.pm_machine.specs.Events.{EventsKeep};
-ghost use Rattle.pm_machine.specs.Examples.{EventsAreRead, ExclusionsAreRead};
+ghost use Rattle.pm_machine.specs.Examples.{ConditionsAreRead, EventsAreRead, ExclusionsAreRead};
 ghost use Rattle.pm_machine.specs.Laws.{StepsInPartKeep, StepsKeep};
 
 /// Each event leaves an object honest, and kept where no round is under way: for chains of any length, whatever the clients answer.
@@ -27,4 +27,9 @@ pub fn example_events()
 /// For whom an exclusion bars a rule.
 pub fn example_exclusions()
     ensures { ExclusionsAreRead }
+{}
+
+/// Which preconditions of a rule are held with the wrong value, and which of them is the first.
+pub fn example_conditions()
+    ensures { ConditionsAreRead }
 {}

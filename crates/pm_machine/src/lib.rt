@@ -1,4 +1,4 @@
-// The machine: a session of named objects, and its steps.
+//! The machine: a session of named objects, and its steps.
 #![tactic(auto)]
 
 mod chain;
@@ -9,6 +9,7 @@ mod session;
 mod taking;
 
 pub use laws::{
-    example_events, example_exclusions, law_events_keep, law_steps_in_part_keep, law_steps_keep,
+    example_conditions, example_events, example_exclusions, law_events_keep,
+    law_steps_in_part_keep, law_steps_keep,
 };
 pub use session::Session;

@@ -2,26 +2,41 @@
 
 ghost use Rattle.pm_client.specs.Sound.{FailsRightly, IsSound};
 ghost use Rattle.pm_client.specs.Starts.{after_start, has_client};
-ghost use Rattle.pm_machine.specs.Chains.{AllHeld};
-ghost use Rattle.pm_machine.specs.Events.{Ensured, EnsuredInPart, ReachesInPart, at_rest, configuration};
-ghost use Rattle.pm_machine.specs.Running.{BrokenOff, NextRound, RoundOf, RunsRule, ending_of};
+ghost use Rattle.pm_machine.specs.Chains.{AllHeld, held_names, table};
+ghost use Rattle.pm_machine.specs.Events.{Ensured, EnsuredInPart, ReachesInPart, StartedRule, at_rest, columns, configuration, turns};
+ghost use Rattle.pm_machine.specs.Running.{BreaksTurn, FollowsChain, MayFollow, NextRound, RunsRound, RunsRule, TakesTurn};
 ghost use Rattle.pm_object.specs.Honest.{facts};
 ghost use Rattle.pm_object.specs.Reading.{view_for};
 ghost use Rattle.pm_object.specs.State.{cols_of, is_held};
-ghost use Rattle.pm_rules.specs.Books.{IsBook};
+ghost use Rattle.pm_rules.specs.Books.{IsBook, IsRule};
+ghost use Rattle.pm_rules.specs.Chains.{weigh};
+ghost use Rattle.pm_rules.specs.Rules.{IsEnabled};
 ghost use Rattle.pm_props.specs.Kinds.{IsKindOf};
+ghost use Rattle.pm_props.specs.declared.set.PropSet.{PropSet};
 ghost use Rattle.pm_types.specs.Runs.{MayRun};
 ghost use Rattle.pm_props.specs.declared.property.PropId.TheVariants.{ConeAmbientDim};
-ghost use Rattle.std.specs.Option.{is_some, unwrap_or};
+ghost use Rattle.std.specs.Option.{is_some};
 ghost use Rattle.std.specs.Prelude.{IfErr, IfOk, IsTrue, None, OnErr, OnOk, [], map, ◌≡◌};
 
-use crate::chain::{Search, barred_rules, cost_of, place_of_rule, table};
+use crate::chain::{barred_rules, first_wrong, place_of_rule, table};
 use crate::commit::commit;
 use pm_client::{Client, ClientFail, run_first};
 use pm_object::{Draft, Excluded, Object, Round, RoundEnd, Why};
+use pm_plan::{Plan, PlanEnd, plan};
 use pm_rules::{Book, Rule};
-use pm_types::{Kind, PropSet, RuleId};
+use pm_types::{Cost, Kind, PropSet, RuleId};
 use std::alloc::{AllocError, Global};
+
+/// How ensuring ends.
+#[derive(Clone, Copy, Debug, PartialEq, Eq)]
+pub enum Ending {
+    /// All that was asked is held.
+    Found,
+    /// No chain of rules leads to it.
+    NoChain,
+    /// Too many sets of names cost less than a chain that leads to it.
+    Crowded,
+}
 
 // Runs the client of a kind on what the object holds.
 fn run_client(
@@ -35,15 +50,15 @@ fn run_client(
     requires there { IsTrue (has_client kind (map tally clients.old.items)) }
     requires known { IsTrue (is_some (cols_of object.now.state.held)) }
     requires in_use { IsKindOf sub object.now.state.of kind }
-    requires may { MayRun kind sub (unwrap_or (cols_of object.now.state.held) 1)
+    requires may { MayRun kind sub (columns object.now.state)
         (facts object.now.state.held) }
     requires empty { draft.old ≡ record { kind = kind; values = [] } }
     ensures started { map tally clients.new.items ≡ after_start kind (map tally clients.old.items) }
     ensures sound { OnOk result (IsSound
         (view_for object.now.state sub kind
-        (unwrap_or (cols_of object.now.state.held) 1)) draft.new) }
+        (columns object.now.state)) draft.new) }
     ensures failed { IfErr result (FailsRightly
-        (view_for object.now.state sub kind (unwrap_or (cols_of object.now.state.held) 1))) }
+        (view_for object.now.state sub kind (columns object.now.state))) }
 {
     let view = object.view(sub, &kind);
     run_first(alloc, clients, &view, draft)
@@ -58,15 +73,13 @@ fn end_run(
     draft: &mut Draft,
     ran: Result<(), ClientFail>,
 ) -> Result<RoundEnd, AllocError>
-    requires known { IsTrue (is_some (cols_of object.old.state.held)) }
-    requires may { MayRun rule.now.kind None (unwrap_or (cols_of object.old.state.held) 1)
-        (facts object.old.state.held) }
+    requires started { StartedRule None rule.now object.old.state }
     requires sound { OnOk ran (IsSound
         (view_for object.old.state None rule.now.kind
-        (unwrap_or (cols_of object.old.state.held) 1)) draft.old) }
+        (columns object.old.state)) draft.old) }
     requires failed { IfErr ran (FailsRightly
         (view_for object.old.state None rule.now.kind
-        (unwrap_or (cols_of object.old.state.held) 1))) }
+        (columns object.old.state))) }
     ensures ok { IfOk result (λ end. RunsRule None id rule.now object.old.state end
         object.new.state) }
     ensures err { OnErr result (object.new.state ≡ object.old.state) }
@@ -99,10 +112,8 @@ fn run_rule(
     clients: &mut Vec<Box<dyn Client>>,
 ) -> Result<RoundEnd, AllocError>
     requires there { IsTrue (has_client rule.now.kind (map tally clients.old.items)) }
-    requires known { IsTrue (is_some (cols_of object.old.state.held)) }
     requires in_use { IsKindOf None object.old.state.of rule.now.kind }
-    requires may { MayRun rule.now.kind None (unwrap_or (cols_of object.old.state.held) 1)
-        (facts object.old.state.held) }
+    requires may { StartedRule None rule.now object.old.state }
     ensures started { map tally clients.new.items ≡ after_start rule.now.kind
         (map tally clients.old.items) }
     ensures ok { IfOk result (λ end. RunsRule None id rule.now object.old.state end
@@ -114,31 +125,96 @@ fn run_rule(
     end_run(alloc, object, id, rule, &mut draft, ran)
 }
 
-// A round of one rule, and its writing down.
-fn start_round(
+// A turn of a rule: it is excluded where a precondition is held with the wrong value; else its client is run.
+fn take_turn(
     alloc: Global,
     object: &mut Object,
     id: RuleId,
     rule: &Rule,
     clients: &mut Vec<Box<dyn Client>>,
-) -> Result<(), AllocError>
+) -> Result<RoundEnd, AllocError>
     requires there { IsTrue (has_client rule.now.kind (map tally clients.old.items)) }
-    requires known { IsTrue (is_some (cols_of object.old.state.held)) }
+    requires rule { IsRule rule.now }
     requires dimension { IsTrue (is_held ConeAmbientDim object.old.state.held) }
-    requires in_use { IsKindOf None object.old.state.of rule.now.kind }
-    requires may { MayRun rule.now.kind None (unwrap_or (cols_of object.old.state.held) 1)
-        (facts object.old.state.held) }
-    ensures started { map tally clients.new.items ≡ after_start rule.now.kind
-        (map tally clients.old.items) }
-    ensures ok { OnOk result (RoundOf None id rule.now object.old.state object.new.state) }
-    ensures err { OnErr result (BrokenOff None id rule.now object.old.state object.new.state) }
+    requires enabled { IsEnabled (table None object.old.state.of) []
+        (held_names None object.old.state) id rule.now }
+    ensures ok { IfOk result (λ end. TakesTurn None id rule.now
+        (configuration object.old.state (map tally clients.old.items)) end
+        (configuration object.new.state (map tally clients.new.items))) }
+    ensures err { OnErr result (BreaksTurn None rule.now
+        (configuration object.old.state (map tally clients.old.items))
+        (configuration object.new.state (map tally clients.new.items))) }
 {
-    let end = run_rule(alloc, object, id, rule, clients)?;
-    let mut chain = Vec::new(alloc);
-    chain.push(id)?;
+    // Its values have their forms.
+    let _of = object.of();
+    let Some(p) = first_wrong(rule, object, None) else {
+        return run_rule(alloc, object, id, rule, clients);
+    };
+    object.exclude(Excluded {
+        rule: id,
+        sub: place_of_rule(None, rule),
+        why: Why::False(p),
+    })?;
+    Ok(RoundEnd::False(id, p))
+}
+
+// The turns of a chain's rules, until one ends the round.
+fn follow_chain(
+    alloc: Global,
+    object: &mut Object,
+    rules: &[Rule],
+    chain: &[RuleId],
+    clients: &mut Vec<Box<dyn Client>>,
+) -> Result<RoundEnd, AllocError>
+    requires book { IsBook rules.now }
+    requires dimension { IsTrue (is_held ConeAmbientDim object.old.state.held) }
+    requires may { MayFollow rules.now None chain.now
+        (configuration object.old.state (map tally clients.old.items)) }
+    ensures ok { IfOk result (λ end. FollowsChain rules.now None chain.now
+        (configuration object.old.state (map tally clients.old.items)) end
+        (configuration object.new.state (map tally clients.new.items))) }
+    ensures dimension { OnOk result (IsTrue (is_held ConeAmbientDim object.new.state.held)) }
+    ensures err { OnErr result ((asked : PropSet) → ReachesInPart rules.now None asked
+        (turns chain.now chain.now)
+        (configuration object.old.state (map tally clients.old.items))
+        (configuration object.new.state (map tally clients.new.items))) }
+{
+    for id in chain {
+        let rule = &rules[usize::from(id.0)];
+        let end = take_turn(alloc, object, *id, rule, clients)?;
+        let RoundEnd::Done = end else {
+            return Ok(end);
+        };
+    }
+    Ok(RoundEnd::Done)
+}
+
+// A round of a chain, and its writing down.
+fn run_round(
+    alloc: Global,
+    object: &mut Object,
+    rules: &[Rule],
+    chain: Vec<RuleId>,
+    weight: Cost,
+    clients: &mut Vec<Box<dyn Client>>,
+) -> Result<(), AllocError>
+    requires book { IsBook rules.now }
+    requires dimension { IsTrue (is_held ConeAmbientDim object.old.state.held) }
+    requires weighs { weight ≡ weigh rules.now chain.items }
+    requires may { MayFollow rules.now None chain.items
+        (configuration object.old.state (map tally clients.old.items)) }
+    ensures ok { OnOk result (RunsRound rules.now None chain.items
+        (configuration object.old.state (map tally clients.old.items))
+        (configuration object.new.state (map tally clients.new.items))) }
+    ensures err { OnErr result ((asked : PropSet) → ReachesInPart rules.now None asked
+        (turns chain.items chain.items)
+        (configuration object.old.state (map tally clients.old.items))
+        (configuration object.new.state (map tally clients.new.items))) }
+{
+    let end = follow_chain(alloc, object, rules, &chain, clients)?;
     let round = Round {
         sub: None,
-        weight: cost_of(rule),
+        weight,
         chain,
         end,
     };
@@ -146,49 +222,54 @@ fn start_round(
     Ok(())
 }
 
-// Starts a round for what is still missing; false exactly where no chain leads there.
+// Starts a round of a least chain for what is still missing; or says why there is none.
 fn next_round(
     alloc: Global,
     object: &mut Object,
-    rules: &[Rule],
+    book: &Book,
     asked: PropSet,
     clients: &mut Vec<Box<dyn Client>>,
-) -> Result<bool, AllocError>
-    requires book { IsBook rules.now }
+) -> Result<Option<Ending>, AllocError>
     requires dimension { IsTrue (is_held ConeAmbientDim object.old.state.held) }
     requires missing { AllHeld None asked object.old.state → ⊥ }
-    ensures ok { IfOk result (λ started. NextRound rules.now (map tally clients.old.items) None
-        asked
-        started object.old.state object.new.state (map tally clients.new.items)) }
-    ensures err { OnErr result (ReachesInPart rules.now None asked at_rest
+    ensures ok { IfOk result (λ ending. NextRound book.now None asked ending
+        (configuration object.old.state (map tally clients.old.items))
+        (configuration object.new.state (map tally clients.new.items))) }
+    ensures err { OnErr result (ReachesInPart book.now None asked at_rest
         (configuration object.old.state (map tally clients.old.items))
         (configuration object.new.state (map tally clients.new.items))) }
 {
+    let rules = book.rules();
     let barred = barred_rules(alloc, rules, clients, object, None)?;
+    let names = table(None, object.of());
     let held = object.names(None);
-    let search = Search {
-        names: table(None, object.of()),
-        barred: &barred,
-        held,
-        asked: asked.difference(held),
-    };
-    let Some(id) = search.best_rule(rules) else {
-        return Ok(false);
-    };
-    let rule = &rules[usize::from(id.0)];
-    start_round(alloc, object, id, rule, clients)?;
-    Ok(true)
+    let missing = asked.difference(held);
+    match plan(alloc, book, names, held, &barred, missing) {
+        Ok(
+            Plan {
+                chain,
+                weight,
+                table: _,
+            },
+        ) => {
+            run_round(alloc, object, rules, chain, weight, clients)?;
+            Ok(None)
+        }
+        Err(PlanEnd::NoChain(_)) => Ok(Some(Ending::NoChain)),
+        Err(PlanEnd::Crowded(_)) => Ok(Some(Ending::Crowded)),
+        Err(PlanEnd::Memory) => Err(AllocError),
+    }
 }
 
-/// Settles the object, and starts rounds until what is asked is held; false exactly where no chain leads there.
+/// Settles the object, and starts rounds until what is asked is held, or no chain leads there, or too many sets of names cost less.
 pub fn ensure(
     alloc: Global,
     object: &mut Object,
     book: &Book,
     asked: PropSet,
     clients: &mut Vec<Box<dyn Client>>,
-) -> Result<bool, AllocError>
-    ensures ok { IfOk result (λ found. Ensured book.now None asked (ending_of found)
+) -> Result<Ending, AllocError>
+    ensures ok { IfOk result (λ ending. Ensured book.now None asked ending
         (configuration object.old.state (map tally clients.old.items))
         (configuration object.new.state (map tally clients.new.items))) }
     ensures err { OnErr result (EnsuredInPart book.now None asked
@@ -196,11 +277,10 @@ pub fn ensure(
         (configuration object.new.state (map tally clients.new.items))) }
 {
     object.settle(alloc)?;
-    let rules = book.rules();
     while !asked.is_subset(object.names(None)) {
-        if !next_round(alloc, object, rules, asked, clients)? {
-            return Ok(false);
+        if let Some(ending) = next_round(alloc, object, book, asked, clients)? {
+            return Ok(ending);
         }
     }
-    Ok(true)
+    Ok(Ending::Found)
 }

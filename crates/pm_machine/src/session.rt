@@ -12,7 +12,7 @@ ghost use Rattle.pm_types.specs.Views.{view_of};
 ghost use Rattle.std.specs.Option.{is_some, option_map};
 ghost use Rattle.std.specs.Prelude.{IfOk, List, None, OnErr, OnOk, Option, Some, [], false, map, string_bytes, true, ℕ, ◌⊎◌, ◌+◌, ◌≡◌, ◌≢◌};
 
-use crate::round::ensure;
+use crate::round::{Ending, ensure};
 use crate::taking::{property_named, take_text};
 use indexmap::IndexMap;
 use pm_client::Client;
@@ -82,15 +82,20 @@ fn give_value(
         (configuration object.new.state (map tally clients.new.items))) }
 {
     let of = object.of();
-    if !ensure(alloc, object, book, PropSet::of(p), clients)? {
-        return Ok(Reply::Refused {
+    match ensure(alloc, object, book, PropSet::of(p), clients)? {
+        Ending::Found => {
+            let Some(v) = object.lookup(None, p) else {
+                unreachable!()
+            };
+            show(alloc, name, of, p, v)
+        }
+        Ending::NoChain => Ok(Reply::Refused {
             why: Refusal::NoChain,
-        });
+        }),
+        Ending::Crowded => Ok(Reply::Refused {
+            why: Refusal::Crowded,
+        }),
     }
-    let Some(v) = object.lookup(None, p) else {
-        unreachable!()
-    };
-    show(alloc, name, of, p, v)
 }
 
 impl Session {

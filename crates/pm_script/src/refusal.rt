@@ -49,6 +49,8 @@ pub enum Refusal {
     ObjectsFull,
     /// 10: no chain of rules leads there.
     NoChain,
+    /// 11: too many sets of names cost less than a chain that leads there.
+    Crowded,
 }
 
 /// The word of a reason.
@@ -85,5 +87,6 @@ pub fn push_refusal(text: &mut String, why: Refusal) -> Result<(), AllocError>
         Refusal::Sealed => text.push_str("8 Sealed"),
         Refusal::ObjectsFull => text.push_str("9 ObjectsFull"),
         Refusal::NoChain => text.push_str("10 NoChain"),
+        Refusal::Crowded => text.push_str("11 Crowded"),
     }
 }

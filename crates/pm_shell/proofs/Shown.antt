@@ -2,7 +2,9 @@
 use Rattle.std.proofs.Common.{ap, subst, sym, refl, ◌∙◌, ◌≡◌, ℕ, IfSome, List, [], ◌∷◌, Option, Some, None}
 use Rattle.pm_props.specs.declared.object_type.ObjectType.{ObjectType}
 use Rattle.pm_machine.proofs.Kept.{steps_keep}
-use Rattle.pm_machine.specs.Events.{Configuration, Ending, Ensured, Event, after_event, after_events, begun, committed, configuration, excluded, found, settled, started, written}
+use Rattle.pm_machine.specs.Events.{Configuration, Ensured, Event, after_event, after_events, begun, committed, configuration, excluded, settled, started, written}
+use Rattle.pm_machine.specs.declared.round.Ending.{Ending}
+use Rattle.pm_machine.specs.declared.round.Ending.TheVariants.{Found}
 use Rattle.pm_machine.specs.Steps.{AllKept, Machine, Step, whole_of}
 use Rattle.pm_object.specs.Honest.{IsKept}
 use Rattle.pm_object.specs.State.{State, read_at, value_of}
@@ -59,7 +61,7 @@ shown_step book old new (new_object ref text) name of p v h all = absurd h
 shown_step book old new (take_value ref text json) name of p v h all = absurd h
 shown_step book old new (give_value ref text) name of p v (o, at, named, is, typed, c, ensured, becomes, held) all =
     shown_by new name ref.name of p v c.object all is becomes.object
-    (of_ensured book None _ found (configuration o old.clients) c ensured ∙ sym typed) held
+    (of_ensured book None _ Found (configuration o old.clients) c ensured ∙ sym typed) held
 shown_step book old new (look_up ref text) name of p v (o, at, named, is, typed, held, stays) all =
     shown_by new name ref.name of p v o all is (stays.objects ref.name ∙ whole_of-some ref.sub (old.object ref.name) o at) (sym typed) held
 

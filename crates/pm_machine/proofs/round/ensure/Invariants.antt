@@ -1,21 +1,18 @@
 use Rattle.pm_machine.proofs.Measure.{left_to_do}
 use Rattle.pm_machine.specs.Events.{Reaches, at_rest, configuration, unsettled}
 use Rattle.pm_object.specs.State.{is_held}
-use Rattle.pm_rules.specs.Books.{IsBook}
 use Rattle.pm_props.specs.declared.property.PropId.TheVariants.{ConeAmbientDim}
 use Rattle.std.proofs.Common.{true, ◌≡◌}
 use Rattle.std.specs.Prelude.{None, map}
 use Rattle.pm_machine.proofs.round.ensure.Given as goal
 
-abbrev pub invariant-loop-rules : goal.invariant-loop-rules
-invariant-loop-rules g l = record {
-  rules : l.rules ≡ l.fn.book;
-  book : IsBook l.rules;
-  reaches : Reaches l.rules None l.asked unsettled
+abbrev pub invariant-loop-alloc : goal.invariant-loop-alloc
+invariant-loop-alloc g l = record {
+  reaches : Reaches l.book None l.asked unsettled
       (configuration l.fn.object.state (map (λ b. (goal.Client-dyn g (b.vtable, b.value)).tally b.value) l.fn.clients.items)) at_rest
       (configuration l.object.state (map (λ b. (goal.Client-dyn g (b.vtable, b.value)).tally b.value) l.clients.items));
   dimension : is_held ConeAmbientDim l.object.state.held ≡ true;
 }
 
-abbrev pub decreases-loop-rules : goal.decreases-loop-rules
-decreases-loop-rules g l = left_to_do l.rules None l.asked l.object.state
+abbrev pub decreases-loop-alloc : goal.decreases-loop-alloc
+decreases-loop-alloc g l = left_to_do l.book None l.asked l.object.state

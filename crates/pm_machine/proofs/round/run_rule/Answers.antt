@@ -4,22 +4,19 @@ pub run_client-ran-requires-clause-there : goal.run_client-ran-requires-clause-t
 run_client-ran-requires-clause-there g c = c.requires.there
 
 pub run_client-ran-requires-clause-known : goal.run_client-ran-requires-clause-known
-run_client-ran-requires-clause-known g c = c.requires.known
+run_client-ran-requires-clause-known g c = c.requires.may.known
 
 pub run_client-ran-requires-clause-in_use : goal.run_client-ran-requires-clause-in_use
 run_client-ran-requires-clause-in_use g c = c.requires.in_use
 
 pub run_client-ran-requires-clause-may : goal.run_client-ran-requires-clause-may
-run_client-ran-requires-clause-may g c = c.requires.may
+run_client-ran-requires-clause-may g c = c.requires.may.may_run
 
 pub run_client-ran-requires-clause-empty : goal.run_client-ran-requires-clause-empty
 run_client-ran-requires-clause-empty g c = c.new-draft.ensures
 
-pub end_run-requires-clause-known : goal.end_run-requires-clause-known
-end_run-requires-clause-known g c = c.requires.known
-
-pub end_run-requires-clause-may : goal.end_run-requires-clause-may
-end_run-requires-clause-may g c = c.requires.may
+pub end_run-requires-clause-started : goal.end_run-requires-clause-started
+end_run-requires-clause-started g c = c.requires.may
 
 pub end_run-requires-clause-sound : goal.end_run-requires-clause-sound
 end_run-requires-clause-sound g c = c.run_client-ran.ensures.sound
