@@ -4,7 +4,7 @@ use Rattle.std.specs.List.{range_with_len}
 use Rattle.std.proofs.lemmas.Bool.{cases_Bool, cases_lt, and_from, and_left, and_right, or_cases, or_from, or_right, eqb-true, eqb-false, lt-ltb, le-ltb, both_ways, false_from_ne_true}
 use Rattle.pm_props.specs.declared.property.PropId.{PropId}
 use Rattle.pm_props.specs.declared.set.PropSet.{PropSet}
-use Rattle.pm_props.specs.Properties.{number, every_property, first_name}
+use Rattle.pm_props.specs.Properties.{count, every_property, first_name, number}
 use Rattle.pm_props.specs.Sets.{has, only, union, members}
 use Rattle.pm_props.proofs.Members.{has-empty, has-only, has-union, number_below, only_below, union_below, same_members}
 use Rattle.pm_props.proofs.Numbers.{number_is}
@@ -65,13 +65,13 @@ not_yet k p s set at up = up p ∙ and_right (has set p) (ltb (number p) k) (le-
 up_none : (set : PropSet) → UpTo 0 0 set
 up_none set = λ q. has-empty q ∙ sym (and_right (has set q) (ltb (number q) 0) (le-ltb (number q) 0 (omega arith)))
 
-up_all : (k : ℕ) (s set : PropSet) → k ≡ 48 → s < 2 ^ 48 → set < 2 ^ 48 → UpTo k s set → s ≡ set
+up_all : (k : ℕ) (s set : PropSet) → k ≡ count → s < 2 ^ count → set < 2 ^ count → UpTo k s set → s ≡ set
 up_all k s set at below within up = same_members s set below within (λ q.
     let less : number q < k = omega (arith, number_below q) in
     up q ∙ ap (λ b. has set q && b) (lt-ltb (number q) k less) ∙ and_true (has set q))
 
 -- ---- names
-names_from_number : (ps : List PropId) (k : ℕ) (s set : PropSet) → map number ps ≡ range_with_len k (length ps) → k + length ps ≡ 48 → s < 2 ^ 48 → set < 2 ^ 48 → UpTo k s set
+names_from_number : (ps : List PropId) (k : ℕ) (s set : PropSet) → map number ps ≡ range_with_len k (length ps) → k + length ps ≡ count → s < 2 ^ count → set < 2 ^ count → UpTo k s set
     → AddNames (map first_name (filter (has set) ps)) s set
 names_from_number [] k s set numbered enough below within up = up_all k s set (omega arith) below within up
 names_from_number (p ∷ ps) k s set numbered enough below within up =
@@ -98,8 +98,8 @@ names_back set is =
     (some_names (map first_name (filter (has set) every_property)) set added is.some, added)
 
 -- ---- conditions
-conditions_from_number : (rule : Rule) → IsRule rule → (ps : List PropId) (k : ℕ) (found : Conditions) → map number ps ≡ range_with_len k (length ps) → k + length ps ≡ 48
-    → found.must < 2 ^ 48 → found.must_not < 2 ^ 48 → UpTo k found.must rule.must → UpTo k found.must_not rule.must_not
+conditions_from_number : (rule : Rule) → IsRule rule → (ps : List PropId) (k : ℕ) (found : Conditions) → map number ps ≡ range_with_len k (length ps) → k + length ps ≡ count
+    → found.must < 2 ^ count → found.must_not < 2 ^ count → UpTo k found.must rule.must → UpTo k found.must_not rule.must_not
     → AddConditions (map (condition_of_rule rule) (filter (has (conditions rule)) ps)) found (record { must = rule.must; must_not = rule.must_not })
 conditions_from_number rule is [] k found numbered enough below below_not up up_not =
     ap₂ (λ a b. record { must = a; must_not = b }) (up_all k found.must rule.must (omega arith) below is.must_below up) (up_all k found.must_not rule.must_not (omega arith) below_not is.must_not_below up_not)

@@ -1,4 +1,5 @@
 -- What is read is a book.
+use Rattle.pm_props.specs.Properties.{count}
 use Rattle.std.proofs.Common.{◌≡◌, ◌≢◌, ℕ, zero, suc, ◌+◌, ◌-◌, ◌<◌, ◌≤◌, true, false, ◌&&◌, cond, eqb, ltb, leb, IsTrue, Option, Some, None, Result, Ok, Err, List, [], ◌∷◌, ◌++◌, length, map, find, refl, sym, ap, ◌∙◌, subst, arith, get_or, length-append, lit<, codes, inl, inr, ◌^◌}
 use Rattle.std.specs.List.{list_any}
 use Rattle.std.specs.Str.{bytes_eq}
@@ -75,7 +76,7 @@ pub record IsHead (had : List Rule) (head : Head) : Type 0 where
   pub targets : IsNamed head.targets
   pub sources : IsNamed head.sources
 
-zero_below : 0 < 2 ^ 48
+zero_below : 0 < 2 ^ count
 zero_below = lit< tt
 
 pub head_from_ok : (had : List Rule) (end : ℕ) (ts : List Token) (head : Head) → head_from had end ts ≡ Ok head → IsHead had head

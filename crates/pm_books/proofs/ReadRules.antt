@@ -5,7 +5,7 @@ use Rattle.pm_props.specs.declared.property.PropId.{PropId}
 use Rattle.pm_props.specs.declared.property.ValueKind.{ValueKind}
 use Rattle.pm_props.specs.declared.property.ValueKind.TheVariants as value
 use Rattle.pm_props.specs.declared.set.PropSet.{PropSet}
-use Rattle.pm_props.specs.Properties.{number, value_kind}
+use Rattle.pm_props.specs.Properties.{count, number, value_kind}
 use Rattle.pm_props.specs.Sets.{has, only, union}
 use Rattle.pm_props.specs.Names.{property_named}
 use Rattle.pm_props.proofs.Members.{has-empty, has-only, has-union, only_below, union_below}
@@ -66,7 +66,7 @@ has-only_itself p = has-only p p ∙ (let e : eqb (number p) (number p) ≡ true
 only_one : (p q : PropId) → has (only p) q ≡ true → p ≡ q
 only_one p q h = number_is p q (eqb-true (number p) (number q) (sym (has-only p q) ∙ h))
 
-pub names_are_named : (due : Bool) (set : PropSet) (end : ℕ) (ts : List Token) (x : PropSet × List Token) → names_from due set end ts ≡ Ok x → set < 2 ^ 48 → (due ≡ false → 0 < set) → IsNamed x.0
+pub names_are_named : (due : Bool) (set : PropSet) (end : ℕ) (ts : List Token) (x : PropSet × List Token) → names_from due set end ts ≡ Ok x → set < 2 ^ count → (due ≡ false → 0 < set) → IsNamed x.0
 unfolding names_from
 names_are_named true set end [] x h below some = cc
 names_are_named true set end (t ∷ ts) x h below some =
@@ -86,8 +86,8 @@ names_are_named false set end (t ∷ ts) x h below some = elim (cases_Bool (is_c
 pub record AreConditions (found : Conditions) : Type 0 where
   pub flags : (p : PropId) → IsTrue (has (union found.must found.must_not) p) → value_kind p ≡ value.Bool
   pub apart : (p : PropId) → IsTrue (has found.must p) → has found.must_not p ≡ false
-  pub must_below : found.must < 2 ^ 48
-  pub must_not_below : found.must_not < 2 ^ 48
+  pub must_below : found.must < 2 ^ count
+  pub must_not_below : found.must_not < 2 ^ count
 
 truth_is_Bool : (k : ValueKind) → is_truth k ≡ true → k ≡ value.Bool
 truth_is_Bool value.Bool h = refl

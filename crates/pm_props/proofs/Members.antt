@@ -7,7 +7,7 @@ use Rattle.std.proofs.lemmas.Nat.{or_lt, xor_lt, and_le_l, pow_below, one_shl}
 use Rattle.std.proofs.lemmas.Nat.Bits.{shr_and_one, bit_at_and, bit_at_or, bit_at_xor, bit_at-lt, bit_at-zero, bit_at-pow_same, bit_at-pow_other, same_from_bits_below}
 use Rattle.std.proofs.lemmas.Bool.{cases_eq, eq-eqb, ne_eqb, and_parts}
 use Rattle.pm_props.specs.declared.property.PropId.{PropId}
-use Rattle.pm_props.specs.Properties.{number, every_property}
+use Rattle.pm_props.specs.Properties.{count, every_property, number}
 use Rattle.pm_props.specs.Sets.{has, only, union, intersection, difference, IsSubset}
 
 -- ---- one bit
@@ -71,25 +71,25 @@ pub has-difference : (s t : ℕ) (p : PropId) → has (difference s t) p ≡ (ha
 unfolding has difference
 has-difference s t p = rw (bit_at_xor s (bit_and s t) (number p), bit_at_and s t (number p)) (without_is (bit_at s (number p)) (bit_at t (number p)) (bit_at-lt s (number p)) (bit_at-lt t (number p)))
 
--- ---- they stay below 2 ^ 48
-pub number_below : (p : PropId) → number p < 48
+-- ---- they stay below 2 ^ count
+pub number_below : (p : PropId) → number p < count
 number_below p = grind arith
 
-pub only_below : (p : PropId) → only p < 2 ^ 48
+pub only_below : (p : PropId) → only p < 2 ^ count
 unfolding only
-only_below p = pow_below (number p) 48 (number_below p)
+only_below p = pow_below (number p) count (number_below p)
 
-pub union_below : (s t : ℕ) → s < 2 ^ 48 → t < 2 ^ 48 → union s t < 2 ^ 48
+pub union_below : (s t : ℕ) → s < 2 ^ count → t < 2 ^ count → union s t < 2 ^ count
 unfolding union
-union_below s t h k = or_lt 48 s t h k
+union_below s t h k = or_lt count s t h k
 
-pub intersection_below : (s t : ℕ) → s < 2 ^ 48 → intersection s t < 2 ^ 48
+pub intersection_below : (s t : ℕ) → s < 2 ^ count → intersection s t < 2 ^ count
 unfolding intersection
 intersection_below s t h = omega (arith, and_le_l s t)
 
-pub difference_below : (s t : ℕ) → s < 2 ^ 48 → difference s t < 2 ^ 48
+pub difference_below : (s t : ℕ) → s < 2 ^ count → difference s t < 2 ^ count
 unfolding difference intersection
-difference_below s t h = xor_lt 48 s (bit_and s t) h (intersection_below s t h)
+difference_below s t h = xor_lt count s (bit_and s t) h (intersection_below s t h)
 
 -- ---- equal sets
 numbered : (ps : List PropId) (from i : ℕ) → map number ps ≡ range_with_len from (length ps) → from ≤ i → i < from + length ps → (p : PropId) × (number p ≡ i)
@@ -99,12 +99,12 @@ numbered (p ∷ ps) from i e low high = elim (cases_eq from i) [
   | inr other ↦ numbered ps (from + 1) i (let tail : map number ps ≡ range_with_len (from + 1) (length ps) = cc in tail) (omega arith) (omega arith)
 ]
 
-pub property_of : (i : ℕ) → i < 48 → (p : PropId) × (number p ≡ i)
+pub property_of : (i : ℕ) → i < count → (p : PropId) × (number p ≡ i)
 property_of i h = numbered every_property 0 i refl (omega arith) h
 
-pub same_members : (s t : ℕ) → s < 2 ^ 48 → t < 2 ^ 48 → ((p : PropId) → has s p ≡ has t p) → s ≡ t
+pub same_members : (s t : ℕ) → s < 2 ^ count → t < 2 ^ count → ((p : PropId) → has s p ≡ has t p) → s ≡ t
 unfolding has
-same_members s t h k e = same_from_bits_below 48 s t h k (λ i within.
+same_members s t h k e = same_from_bits_below count s t h k (λ i within.
     let p = property_of i within in
     let at_p : eqb (bit_at s (number p.0)) 1 ≡ eqb (bit_at t (number p.0)) 1 = e p.0 in
     same_bit (bit_at s i) (bit_at t i) (bit_at-lt s i) (bit_at-lt t i) ((rw p.1 at at_p)))
@@ -128,9 +128,9 @@ only_first : (a b : Bool) → (a ≡ true → b ≡ true) → (a && b) ≡ a
 only_first true b h = h refl
 only_first false b h = refl
 
-pub both_from_subset : (s t : ℕ) → s < 2 ^ 48 → IsSubset s t → intersection s t ≡ s
+pub both_from_subset : (s t : ℕ) → s < 2 ^ count → IsSubset s t → intersection s t ≡ s
 both_from_subset s t below h = same_members (intersection s t) s (intersection_below s t below) below
     (λ p. has-intersection s t p ∙ only_first (has s p) (has t p) (h p))
 
-pub empty_from_none : (s : ℕ) → s < 2 ^ 48 → ((p : PropId) → has s p ≡ false) → s ≡ 0
+pub empty_from_none : (s : ℕ) → s < 2 ^ count → ((p : PropId) → has s p ≡ false) → s ≡ 0
 empty_from_none s below none = same_members s 0 below (omega arith) (λ p. none p ∙ sym (has-empty p))

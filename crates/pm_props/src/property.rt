@@ -1,7 +1,7 @@
 // The properties of objects: their rows in the table, and the order of their numbers.
 
 ghost use Rattle.pm_props.specs.Places.{place_of};
-ghost use Rattle.pm_props.specs.Properties.{every_property, generators_tag, half_spaces_tag, has, has_program, is_in_use, number, plain, property_at, row};
+ghost use Rattle.pm_props.specs.Properties.{count, every_property, generators_tag, half_spaces_tag, has, has_program, is_in_use, number, plain, property_at, row};
 ghost use Rattle.std.specs.Prelude.{slice_get, ◌<◌, ◌≡◌};
 
 use crate::object_type::ObjectType;
@@ -258,7 +258,7 @@ impl PropertyRow {
 }
 
 /// How many properties there are.
-pub const COUNT: u8 = 48;
+pub const COUNT: usize = 48;
 
 // A row: the number, the first name, the kind of value, the tables, and what differs from a plain property.
 macro_rules! property {
@@ -365,7 +365,7 @@ impl PropId {
     }
 
     /// Every property, in the order of the numbers.
-    pub fn every() -> [PropId; 48]
+    pub fn every() -> [PropId; COUNT]
         ensures { result ≡ every_property }
     {
         [
@@ -420,17 +420,17 @@ impl PropId {
         ]
     }
 
-    /// The property of a number; none from 48 on.
+    /// The property of a number, if there are so many.
     pub fn at(number: u8) -> Option<PropId>
         ensures { result ≡ property_at number }
     {
         at_place(&PropId::every(), number as usize)
     }
 
-    /// The property's number, from 0 to 47.
+    /// The property's number.
     pub fn number(self) -> u8
         ensures number { result ≡ number self }
-        ensures below { result < 48 }
+        ensures below { result < count }
     {
         self.row().number
     }

@@ -1,7 +1,7 @@
 // Sets of properties.
 
 ghost use Rattle.std.specs.Prelude.{◌≡◌, ◌^◌, ◌<◌, ◌↔◌, ◌&&◌, ◌||◌, not, false, IsTrue, IfOk, nat_eq};
-ghost use Rattle.pm_props.specs.Properties.{number};
+ghost use Rattle.pm_props.specs.Properties.{count, number};
 ghost use Rattle.pm_props.specs.Sets.{has, only, union, intersection, difference, set_of, IsSubset, members};
 
 use crate::property::PropId;
@@ -15,13 +15,14 @@ pub struct PropSet {
 }
 
 impl Model for PropSet {
+    ghost use Rattle.pm_props.specs.Properties.{count};
     ghost use Rattle.std.specs.Prelude.{ℕ, ◌^◌, ◌<◌};
 
     ghost Value = { ℕ };
 
     ghost view = { λ s. s.bits };
 
-    ghost invariant = { λ s. s.bits < 2 ^ 48 };
+    ghost invariant = { λ s. s.bits < 2 ^ count };
 
     ghost inverse = { λ n. record { bits = n } };
 }
@@ -116,7 +117,7 @@ impl PropSet {
     /// The set as a number.
     pub fn bits(self) -> u128
         ensures value { result ≡ self }
-        ensures below { result < 2 ^ 48 }
+        ensures below { result < 2 ^ count }
     {
         self.bits
     }

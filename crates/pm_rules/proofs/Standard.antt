@@ -10,7 +10,7 @@ use Rattle.std.proofs.lemmas.List.Sums.{AllPass-from_list_all}
 use Rattle.std.proofs.lemmas.Slice.Eq.{bytes_eq-Decides}
 use Rattle.pm_props.proofs.Every.{all_properties}
 use Rattle.pm_props.specs.Kinds.{built_clients, conditions_of, standard_kind, standard_kinds_list, standard_row}
-use Rattle.pm_props.specs.Properties.{every_property, is_of_truth_values, value_kind}
+use Rattle.pm_props.specs.Properties.{count, every_property, is_of_truth_values, value_kind}
 use Rattle.pm_props.specs.Sets.{has, only, union, intersection}
 use Rattle.pm_props.specs.Weights.{most}
 use Rattle.pm_props.specs.declared.kind.Kind.{Kind}
@@ -25,12 +25,12 @@ use Rattle.pm_rules.specs.Books.{FirstKinds, IsNamed, IsRule, IsBook, rule_of, s
 
 -- ---- each rule
 abbrev is_named : ℕ → Bool
-is_named s = ltb 0 s && ltb s (2 ^ 48)
+is_named s = ltb 0 s && ltb s (2 ^ count)
 
 named : (s : ℕ) → is_named s ≡ true → IsNamed s
 named s h =
-    let parts = and_parts (ltb 0 s) (ltb s (2 ^ 48)) h in
-    record { some = ltb-true 0 s parts.0; below = ltb-true s (2 ^ 48) parts.1 }
+    let parts = and_parts (ltb 0 s) (ltb s (2 ^ count)) h in
+    record { some = ltb-true 0 s parts.0; below = ltb-true s (2 ^ count) parts.1 }
 
 -- if the first, then the second
 abbrev implies : Bool → Bool → Bool
@@ -55,7 +55,7 @@ abbrev has_fit_conditions : Kind → Bool
 has_fit_conditions kind =
     (list_all (has_truths kind) every_property && list_all (is_apart kind) every_property)
     && ((eqb (intersection kind.must kind.must) kind.must && eqb (intersection kind.must_not kind.must_not) kind.must_not)
-    && (ltb kind.must (2 ^ 48) && ltb kind.must_not (2 ^ 48)))
+    && (ltb kind.must (2 ^ count) && ltb kind.must_not (2 ^ count)))
 
 abbrev has_fit_names : Kind → Bool
 has_fit_names kind = is_label kind.name && (is_named kind.targets && is_named kind.sources)
@@ -76,11 +76,11 @@ fit_IsRule r h =
     let rest = and_parts (has_fit_conditions kind) (ltb 0 r.weight && leb r.weight most) halves.1 in
     let weight = and_parts (ltb 0 r.weight) (leb r.weight most) rest.1 in
     let asked = and_parts (list_all (has_truths kind) every_property && list_all (is_apart kind) every_property)
-    ((eqb (intersection kind.must kind.must) kind.must && eqb (intersection kind.must_not kind.must_not) kind.must_not) && (ltb kind.must (2 ^ 48) && ltb kind.must_not (2 ^ 48))) rest.0 in
+    ((eqb (intersection kind.must kind.must) kind.must && eqb (intersection kind.must_not kind.must_not) kind.must_not) && (ltb kind.must (2 ^ count) && ltb kind.must_not (2 ^ count))) rest.0 in
     let tests = and_parts (list_all (has_truths kind) every_property) (list_all (is_apart kind) every_property) asked.0 in
-    let bounds = and_parts (eqb (intersection kind.must kind.must) kind.must && eqb (intersection kind.must_not kind.must_not) kind.must_not) (ltb kind.must (2 ^ 48) && ltb kind.must_not (2 ^ 48)) asked.1 in
+    let bounds = and_parts (eqb (intersection kind.must kind.must) kind.must && eqb (intersection kind.must_not kind.must_not) kind.must_not) (ltb kind.must (2 ^ count) && ltb kind.must_not (2 ^ count)) asked.1 in
     let within = and_parts (eqb (intersection kind.must kind.must) kind.must) (eqb (intersection kind.must_not kind.must_not) kind.must_not) bounds.0 in
-    let below = and_parts (ltb kind.must (2 ^ 48)) (ltb kind.must_not (2 ^ 48)) bounds.1 in
+    let below = and_parts (ltb kind.must (2 ^ count)) (ltb kind.must_not (2 ^ count)) bounds.1 in
     let positive : 0 < r.weight = ltb-true 0 r.weight weight.0 in
     record {
       label = names.0;
@@ -92,8 +92,8 @@ fit_IsRule r h =
       apart = λ p k. not-true (has kind.must_not p) (implied (has kind.must p) (not (has kind.must_not p)) (all_properties (is_apart kind) tests.1 p) k);
       must = eqb-true (intersection kind.must kind.must) kind.must within.0;
       must_not = eqb-true (intersection kind.must_not kind.must_not) kind.must_not within.1;
-      must_below = ltb-true kind.must (2 ^ 48) below.0;
-      must_not_below = ltb-true kind.must_not (2 ^ 48) below.1;
+      must_below = ltb-true kind.must (2 ^ count) below.0;
+      must_not_below = ltb-true kind.must_not (2 ^ count) below.1;
     }
 
 abbrev makes_rule : StandardClient → Bool

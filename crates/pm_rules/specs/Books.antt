@@ -5,7 +5,7 @@ use Rattle.pm_props.specs.declared.property.PropId.{PropId}
 use Rattle.pm_props.specs.declared.property.ValueKind.TheVariants as value
 use Rattle.pm_props.specs.declared.set.PropSet.{PropSet}
 use Rattle.pm_props.specs.declared.kind.Kind.{Kind}
-use Rattle.pm_props.specs.Properties.{value_kind}
+use Rattle.pm_props.specs.Properties.{count, value_kind}
 use Rattle.pm_props.specs.Sets.{has, IsWithin}
 use Rattle.pm_props.specs.Kinds.{built_clients, standard_row}
 use Rattle.pm_props.specs.declared.standard.StandardClient.{StandardClient}
@@ -22,7 +22,7 @@ most_rules = 256
 -- some property is in the set, and no bit is set that is no property's
 pub record IsNamed (set : PropSet) : Type 0 where
   pub some : 0 < set
-  pub below : set < 2 ^ 48
+  pub below : set < 2 ^ count
 
 -- what holds of each rule of a book
 pub record IsRule (rule : Rule) : Type 0 where
@@ -36,8 +36,8 @@ pub record IsRule (rule : Rule) : Type 0 where
   pub apart : (p : PropId) → IsTrue (has rule.must p) → has rule.must_not p ≡ false
   pub must : IsWithin rule.kind.must rule.must
   pub must_not : IsWithin rule.kind.must_not rule.must_not
-  pub must_below : rule.must < 2 ^ 48
-  pub must_not_below : rule.must_not < 2 ^ 48
+  pub must_below : rule.must < 2 ^ count
+  pub must_not_below : rule.must_not < 2 ^ count
 
 -- what holds of a book: at most 256 rules, no label twice
 pub record IsBook (rules : List Rule) : Type 0 where

@@ -1,3 +1,4 @@
+use Rattle.pm_props.specs.Properties.{count}
 use Rattle.std.proofs.Common.{◌-◌, ◌^◌}
 use Rattle.pm_props.specs.Sets.{IsSubset}
 use Rattle.pm_rules.specs.Useful.{AllNeeded}
@@ -10,4 +11,4 @@ invariant-grow l = record {
 }
 
 abbrev pub decreases-grow : goal.decreases-grow
-decreases-grow l = 2 ^ 48 - l.needed
+decreases-grow l = 2 ^ count - l.needed
