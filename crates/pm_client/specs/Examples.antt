@@ -1,8 +1,9 @@
 -- The definitions of starts and of row lists read on small lists: what holds of them, and what does not.
-use Rattle.pm_client.specs.Sound.{added_rows, are_parts, fail_of}
+use Rattle.pm_client.specs.Sound.{added_rows, are_parts, double_list, doubles, eliminated_by, enlarging_rows, fail_of, fail_of_double, first_part, row_list}
 use Rattle.pm_props.specs.Properties.{is_generator, is_half_space}
 use Rattle.pm_client.specs.Starts.{Clients, after_start, has_client, kind_at, next_count, place_in, same_kind, started_once}
 use Rattle.pm_client.specs.declared.ClientFail.TheVariants as fail
+use Rattle.pm_dd.specs.declared.fails.DdFail.TheVariants as double
 use Rattle.pm_elim.specs.declared.evidence.ElimFail.TheVariants as elimination
 use Rattle.pm_props.specs.declared.object_type.ObjectType.TheVariants.{Cone, Polytope}
 use Rattle.pm_props.specs.declared.kind.Kind.{Kind}
@@ -65,3 +66,9 @@ pub record RowListsAreRead : Type 0 where
   pub not_to_facets : added_rows Polytope 3 Facets ≡ []
   pub not_to_cones : added_rows Cone 3 Inequalities ≡ []
   pub memory : fail_of elimination.Memory ≡ fail.Memory
+  pub memory_of_double : fail_of_double double.Memory ≡ fail.Memory
+  -- what clients eliminate, by their names
+  pub doubling : doubles (codes "dd_facets_v") ≡ true
+  pub not_doubling : doubles (codes "hull_from_vertices") ≡ false
+  pub of_double : eliminated_by (codes "dd_vertices") ≡ first_part ∷ double_list ∷ enlarging_rows ∷ []
+  pub of_ranks : eliminated_by (codes "cone_dim_v") ≡ row_list ∷ []

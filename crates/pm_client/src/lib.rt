@@ -8,6 +8,7 @@ ghost use Rattle.std.specs.Prelude.{IfErr, OnOk, [], ℕ, ◌≡◌};
 
 use pm_elim::ElimFail;
 use pm_geom::Evidence;
+use pm_hull::DdFail;
 use pm_object::{Draft, View};
 use pm_types::Kind;
 use std::alloc::{AllocError, AllocFailed, Global};
@@ -39,6 +40,21 @@ impl From<ElimFail> for ClientFail {
         match fail {
             ElimFail::Wide(step) => ClientFail::Failed(Evidence::E1(step)),
             ElimFail::Memory => ClientFail::Memory,
+        }
+    }
+}
+
+impl From<DdFail> for ClientFail {
+    ghost use Rattle.pm_client.specs.Sound.{fail_of_double};
+    ghost use Rattle.std.specs.Prelude.{◌≡◌};
+
+    ghost from_gives = { λ f e. e ≡ fail_of_double f };
+
+    fn from(fail: DdFail) -> ClientFail {
+        match fail {
+            DdFail::Wide(evidence) => ClientFail::Failed(evidence),
+            DdFail::Many(evidence) => ClientFail::Failed(evidence),
+            DdFail::Memory => ClientFail::Memory,
         }
     }
 }

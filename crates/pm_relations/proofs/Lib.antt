@@ -7,3 +7,4 @@ pub mod Found
 pub mod PrimitiveStanding
 pub mod WholeRows
 pub mod Twins
+pub mod Hulls
