@@ -13,7 +13,10 @@ use Rattle.pm_geom.specs.declared.evidence.Evidence.{Evidence}
 use Rattle.pm_geom.specs.declared.evidence.Evidence.TheVariants as evidence
 use Rattle.pm_hull.specs.HullRefusals.{IsShownOnParts}
 use Rattle.pm_object.specs.Reading.{ViewSeen}
-use Rattle.std.proofs.Common.{inl, inr, refl, true}
+use Rattle.pm_props.specs.Kinds.{standard_kind}
+use Rattle.pm_props.specs.declared.kind.Kind.{Kind}
+use Rattle.pm_props.specs.declared.standard.StandardClient.{StandardClient}
+use Rattle.std.proofs.Common.{inl, inr, refl, subst, sym, true}
 use Rattle.std.specs.List.{Contains}
 use Rattle.std.specs.Prelude.{IsTrue, List, [], if◌then◌else◌, ◌∷◌, ◌≡◌}
 
@@ -25,9 +28,9 @@ pub fails_by_list : (v : ViewSeen) (X : List Row) (f : ElimFail) → TakesRowLis
 fails_by_list v X (Wide e) takes listed h = record { list = row_list; named = takes; rows = X; listed = listed; shown = h }
 fails_by_list v X Memory takes listed h = tt
 
--- the row list stands first in the lists of a client that takes it alone
-pub row_list_alone : Contains (row_list ∷ []) row_list
-row_list_alone = Contains_among (here {xs = []})
+-- a standard client whose name says so
+pub takes_row_list : (v : ViewSeen) (c : StandardClient) → v.kind ≡ standard_kind c → eliminated_by (standard_kind c).name ≡ row_list ∷ [] → TakesRowList v
+takes_row_list v c kind alone = subst (λ (k : Kind). Contains (eliminated_by k.name) row_list) (sym kind) (subst (λ ls. Contains ls row_list) (sym alone) (Contains_among (here {xs = []})))
 
 -- ---- double description
 module _ (v : ViewSeen) (named : IsTrue (doubles v.kind.name)) where

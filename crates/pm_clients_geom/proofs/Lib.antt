@@ -6,3 +6,5 @@ pub mod NullMatrices
 pub mod OverOne
 pub mod PutMatrices
 pub mod Examples
+pub mod PutRays
+pub mod FoundHulls

@@ -4,11 +4,14 @@
 ghost use Rattle.pm_clients_geom.specs.Examples.{FamiliesAreRead, MatricesAreRead};
 
 mod dims;
+mod hulls;
 mod lists;
+mod rays;
 mod rows;
 mod truths;
 
 pub use dims::DimClient;
+pub use hulls::HullClient;
 pub use rows::RowsClient;
 pub use truths::TestClient;
 

@@ -157,7 +157,7 @@ alike_itself n S r lr line = record {
 extreme_at : {n : ℕ} {S : Row → Type 0} {V : List Row} → IsOrder n S V → (v : Row) → Among v V → IsExtreme n S v
 extreme_at {n} {S} o v i = among_All (λ u. IsExtreme n S u) i o.each
 
-order_cols : (n : ℕ) (S : Row → Type 0) (V : List Row) → IsOrder n S V → HasCols n V
+pub order_cols : (n : ℕ) (S : Row → Type 0) (V : List Row) → IsOrder n S V → HasCols n V
 order_cols n S V o = all_from (λ (x : Row). length x ≡ n) V (λ x i. (extreme_at o x i).cols)
 
 -- the echelon basis of the lineality of S, as that of the set that it is

@@ -99,7 +99,7 @@ pub length_ratios : (x : Row) → length x ≡ length (ratios x)
 length_ratios [] = refl
 length_ratios (a ∷ x) = ap suc (length_ratios x)
 
-stands_ratios : (x : Row) → Stands (ratios x) x
+pub stands_ratios : (x : Row) → Stands (ratios x) x
 stands_ratios x = record {
   p = pos 1;
   q = pos 1;
