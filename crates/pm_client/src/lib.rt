@@ -1,7 +1,7 @@
 //! Clients, which answer properties of an object from others, and running the first client of a kind.
 #![tactic(auto)]
 
-ghost use Rattle.pm_client.specs.Examples.{RowListsAreRead, StartsAreRead};
+ghost use Rattle.pm_client.specs.Examples.{DoublesAreRead, RowListsAreRead, StartsAreRead};
 ghost use Rattle.pm_client.specs.Sound.{FailsRightly, IsSound};
 ghost use Rattle.pm_client.specs.Starts.{started_once};
 ghost use Rattle.std.specs.Prelude.{IfErr, OnOk, [], ℕ, ◌≡◌};
@@ -112,4 +112,9 @@ pub fn example_starts()
 /// The definitions of row lists read on some properties.
 pub fn example_row_lists()
     ensures { RowListsAreRead }
+{}
+
+/// The definitions of what is eliminated read on a view without rows.
+pub fn example_doubles()
+    ensures { DoublesAreRead }
 {}

@@ -172,9 +172,10 @@ module _ (v : ViewSeen) (view : IsView v) (first second : PropId) (kind : FindsF
 
   facets_formed : AreFormed v facet_puts
   unfolding facet_puts
-  facets_formed =
-      ((facets_forms v.of v.cols F (ratios_columned v.cols F view.some_cols view.few_cols few facets_cols) range facets.primitive, put_states v.cols (map ratios F)),
-      ((hull_forms v.of v.cols H (ratios_columned v.cols H view.some_cols view.few_cols few_hull facets.basis.echelon.cols) range_hull, put_states v.cols (map ratios H)), tt))
+  facets_formed = (
+    (facets_forms v.of v.cols F (ratios_columned v.cols F view.some_cols view.few_cols few facets_cols) range facets.primitive, put_states v.cols (map ratios F)),
+    ((hull_forms v.of v.cols H (ratios_columned v.cols H view.some_cols view.few_cols few_hull facets.basis.echelon.cols) range_hull, put_states v.cols (map ratios H)), tt),
+  )
 
   facets_are_right : AreRight v facet_puts
   unfolding facet_puts
@@ -273,9 +274,10 @@ module _ (v : ViewSeen) (view : IsView v) (targets : v.kind.targets ≡ set_of (
 
   rays_formed : AreFormed v ray_puts
   unfolding ray_puts
-  rays_formed =
-      ((vertices_forms v view h.rows h.rays h.possible.few_rays put_primitive h.each, put_states v.cols h.rows),
-      ((lineality_forms v.of v.cols h.lines (ratios_columned v.cols h.lines view.some_cols view.few_cols h.possible.few_lines.few h.possible.few_lines.cols) h.in_range h.possible.may.lines, put_states v.cols (map ratios h.lines)), tt))
+  rays_formed = (
+    (vertices_forms v view h.rows h.rays h.possible.few_rays put_primitive h.each, put_states v.cols h.rows),
+    ((lineality_forms v.of v.cols h.lines (ratios_columned v.cols h.lines view.some_cols view.few_cols h.possible.few_lines.few h.possible.few_lines.cols) h.in_range h.possible.may.lines, put_states v.cols (map ratios h.lines)), tt),
+  )
 
   rays_are_right : AreRight v ray_puts
   unfolding ray_puts
@@ -290,12 +292,16 @@ module _ (v : ViewSeen) (view : IsView v) (targets : v.kind.targets ≡ set_of (
       let l = lines_right t o right.thing right.orders none S V K is g' v.kind (cols_over v.cols (map ratios h.lines)) o' (objective_of t (place_of v.sub LinealitySpace)) in
       let lines : map ratios K ≡ map ratios h.lines = ap (map ratios) (sym kept.1) in
       fresh_rays v (put Vertices (matrix (cols_over v.cols h.rows) h.rows) ∷ put LinealitySpace (matrix (cols_over v.cols (map ratios h.lines)) (map ratios h.lines)) ∷ []) t o o' view.only
-      (ray_orders t o right.thing right.orders none S V K is g') right
-      (record { right = r.0; canonical = r.1 },
-      (record {
-        right = subst (λ z. Right LinealitySpace (matrix (cols_over v.cols (map ratios h.lines)) z) t o' (objective_of t (place_of v.sub LinealitySpace))) lines l.0;
-        canonical = subst (λ z. IsCanonical v.kind LinealitySpace (matrix (cols_over v.cols (map ratios h.lines)) z) t) lines l.1;
-      }, tt)) fresh refl refl
+      (ray_orders t o right.thing right.orders none S V K is g') right (
+        record { right = r.0; canonical = r.1 },
+        (
+          record {
+            right = subst (λ z. Right LinealitySpace (matrix (cols_over v.cols (map ratios h.lines)) z) t o' (objective_of t (place_of v.sub LinealitySpace))) lines l.0;
+            canonical = subst (λ z. IsCanonical v.kind LinealitySpace (matrix (cols_over v.cols (map ratios h.lines)) z) t) lines l.1;
+          },
+          tt,
+        ),
+      ) fresh refl refl
 
   pub rays_sound : IsSound v new
   unfolding ray_puts
@@ -316,8 +322,8 @@ module _ (v : ViewSeen) (L G : List Row) (t : Thing) (o : Orders) (of : t.of ≡
       let (g, j, q, b) = found Equations v.facts (matrix read.first_cols read.first_rows) read.reads_first in
       let both = right.together f g (Contains_among i) (Contains_among j) in
       let pair : PairCutsOut t read.second_rows read.first_rows =
-          subst (λ z. RightPair Inequalities (matrix read.second_cols read.second_rows) Equations z t) b
-          (subst (λ z. RightPair Inequalities (matrix read.second_cols read.second_rows) z g.value t) q (subst (λ z. RightPair Inequalities z g.property g.value t) a (subst (λ z. RightPair z f.value g.property g.value t) p both))) in
+      subst (λ z. RightPair Inequalities (matrix read.second_cols read.second_rows) Equations z t) b
+      (subst (λ z. RightPair Inequalities (matrix read.second_cols read.second_rows) z g.value t) q (subst (λ z. RightPair Inequalities z g.property g.value t) a (subst (λ z. RightPair z f.value g.property g.value t) p both))) in
       subst (λ k. InSet t x ↔ InConeOf v.of k G L x) cols
       (subst (λ k. InSet t x ↔ InConeOf k t.cols G L x) of
       (rows_bound t o right.thing (λ e. no_fan (sym of ∙ e)) read.second_rows read.first_rows pair G L (primitive_stand read.second_rows G read.second_primitive) (primitive_stand read.first_rows L read.first_primitive) x lx))

@@ -293,8 +293,8 @@ pub over_more : (x : Row) (d : ℤ) (r more : List Ratio) (k : ℕ) (q : Ratio) 
 over_more x d r more k q is e h last = (
   ap length is ∙ length_push r q ∙ ap (λ (j : ℕ). j + 1) e,
   below_more (λ (i : ℕ). IsLowestTermsOf (ratio_of (entry x i) d) (ratio_at more i)) k
-  (λ i l. subst (λ s. IsLowestTermsOf (ratio_of (entry x i) d) s) (sym (ap (λ (s : List Ratio). ratio_at s i) is ∙ get_or_append_left r (q ∷ []) (record { num = pos 0; den = pos 1 }) i (omega arith))) (h i l))
-  (subst (λ s. IsLowestTermsOf (ratio_of (entry x k) d) s) (sym (ap (λ (s : List Ratio). ratio_at s k) is ∙ get_or_push r q (record { num = pos 0; den = pos 1 }) k e)) last),
+      (λ i l. subst (λ s. IsLowestTermsOf (ratio_of (entry x i) d) s) (sym (ap (λ (s : List Ratio). ratio_at s i) is ∙ get_or_append_left r (q ∷ []) (record { num = pos 0; den = pos 1 }) i (omega arith))) (h i l))
+      (subst (λ s. IsLowestTermsOf (ratio_of (entry x k) d) s) (sym (ap (λ (s : List Ratio). ratio_at s k) is ∙ get_or_push r q (record { num = pos 0; den = pos 1 }) k e)) last),
 )
 
 -- all entries

@@ -72,8 +72,7 @@ sign_kept z r x y s t h =
 -- they cut out the same
 stand_cut : (inequalities equations : List (List Ratio)) (as' xs es ks : List Row) → StandFor inequalities as' → StandFor inequalities xs → StandFor equations es → StandFor equations ks → (x : Row) → Solves as' es x ↔ HalfSpaces ks xs x
 stand_cut inequalities equations as' xs es ks sa sx se sk x = (
-  λ s.
-  (
+  λ s. (
     all_from (λ (a : Row). dot a x ≡ pos 0) ks (stand_each (λ a. dot a x ≡ pos 0) (λ r a b u w. zero_of_stands x u w) equations es ks se sk (λ e i. among_All (λ (a : Row). dot a x ≡ pos 0) i s.equations)),
     cut_from xs x (stand_each (λ a. pos 0 ≤ℤ dot a x) (sign_kept x) inequalities as' xs sa sx (λ a i. cut_at x i s.inequalities)),
   ),

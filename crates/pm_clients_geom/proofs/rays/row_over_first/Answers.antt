@@ -22,8 +22,8 @@ loop-x-preserved c =
     let small = in_range c.loop-x.x-index (pos 0) c.loop-x-test.true in
     let last = rw (kept (entry entries c.loop-x.x-index) small) at c.in-Ok.ensures.ok in
     let more =
-        over_more entries _ c.loop-x.fractions.items c.push.new.self.items c.loop-x.x-index c.in-Ok.fraction c.in_ok-push.ensures.items
-        c.loop-x.invariant.count c.loop-x.invariant.each last in
+    over_more entries _ c.loop-x.fractions.items c.push.new.self.items c.loop-x.x-index c.in-Ok.fraction c.in_ok-push.ensures.items
+    c.loop-x.invariant.count c.loop-x.invariant.each last in
     record { count = more.0; each = more.1 }
 
 pub returns-in_err-push-clause-value : goal.returns-in_err-push-clause-value
