@@ -10,9 +10,15 @@ use Rattle.pm_types.specs.Right.{RightAll, objective_of}
 use Rattle.pm_props.specs.Sets.{has}
 use Rattle.pm_types.specs.Values.{Fact}
 use Rattle.pm_props.specs.declared.kind.Kind.{Kind}
-use Rattle.std.proofs.Common.{inl, inr}
-use Rattle.std.specs.List.{AllByRecursion, Contains}
-use Rattle.std.specs.Prelude.{IsTrue, List, ◌≡◌}
+use Rattle.pm_client.proofs.ViewLaws.{has_listed}
+use Rattle.pm_props.proofs.Numbers.{number_is}
+use Rattle.pm_props.specs.Properties.{number}
+use Rattle.pm_props.specs.Sets.{set_of}
+use Rattle.pm_props.specs.declared.property.PropId.{PropId}
+use Rattle.std.proofs.Common.{eqb, false, inl, inr, subst, sym, true, true≢false, ◌∙◌}
+use Rattle.std.proofs.lemmas.Bool.{and_parts, eqb-true, not-true, or_cases}
+use Rattle.std.specs.List.{AllByRecursion, Contains, list_all, list_any}
+use Rattle.std.specs.Prelude.{Bool, IsTrue, List, [], not, ◌∷◌, ◌≡◌}
 
 -- what was read stays right in orders that agree in all that it speaks of
 pub read_in_orders : (read : List Fact) (t : Thing) (o o' : Orders) → AreOrders t o' → ((f : Fact) → Contains read f → Agrees f.property o o') → RightAll read t o → RightAll read t o'
@@ -44,3 +50,21 @@ module _ (v : ViewSeen) (puts : List Put) (t : Thing) (o o' : Orders) (sources :
     read = read_in_orders v.facts t o o' orders (λ f c. record { rays = inr rays; facets = inl (fresh.sources f.property (sources f c)) }) read;
     each = each;
   }
+
+-- ---- fresh kinds
+none_tagged : (tag : PropId → Bool) (ps : List PropId) (p : PropId) → list_any (λ q. eqb (number q) (number p)) ps ≡ true → list_all (λ q. not (tag q)) ps ≡ true → tag p ≡ false
+none_tagged tag [] p i h = absurd (true≢false (sym i))
+none_tagged tag (q ∷ ps) p i h =
+    let both = and_parts (not (tag q)) (list_all (λ r. not (tag r)) ps) h in
+    elim (or_cases (eqb (number q) (number p)) (list_any (λ r. eqb (number r) (number p)) ps) i) [
+      | inl e ↦ subst (λ r. tag r ≡ false) (number_is q p (eqb-true (number q) (number p) e)) (not-true (tag q) both.0)
+      | inr e ↦ none_tagged tag ps p e both.1
+    ]
+
+-- a kind with a target p of the tag, and these sources, of which none has it
+pub fresh_kind : (tag : PropId → Bool) (kind : Kind) (targets sources : List PropId) (p : PropId) → kind.targets ≡ set_of targets → kind.sources ≡ set_of sources
+    → list_any (λ q. eqb (number q) (number p)) targets ≡ true → tag p ≡ true → list_all (λ q. not (tag q)) sources ≡ true → IsFresh tag kind
+fresh_kind tag kind targets sources p has_targets has_sources target tagged none = record {
+  target = (p, has_listed kind.targets targets p has_targets ∙ target, tagged);
+  sources = λ q h. none_tagged tag sources q (sym (has_listed kind.sources sources q has_sources) ∙ h) none;
+}

@@ -10,3 +10,4 @@ pub mod Filtered
 pub mod PlainValues
 pub mod Machine
 pub mod FreshOrders
+pub mod Examples

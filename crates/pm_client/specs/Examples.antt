@@ -1,12 +1,16 @@
 -- The definitions of starts and of row lists read on small lists: what holds of them, and what does not.
-use Rattle.pm_client.specs.Sound.{added_rows, are_parts, fail_of}
+use Rattle.pm_client.specs.Sound.{AreEnlarging, AreParts, ArePartsOf, IsDoubleListOf, IsEliminated, added_rows, are_parts, double_list, doubles, eliminated_by, enlarging_rows, fail_of, fail_of_double, first_part, row_list}
 use Rattle.pm_props.specs.Properties.{is_generator, is_half_space}
 use Rattle.pm_client.specs.Starts.{Clients, after_start, has_client, kind_at, next_count, place_in, same_kind, started_once}
 use Rattle.pm_client.specs.declared.ClientFail.TheVariants as fail
+use Rattle.pm_dd.specs.declared.fails.DdFail.TheVariants as double
 use Rattle.pm_elim.specs.declared.evidence.ElimFail.TheVariants as elimination
 use Rattle.pm_props.specs.declared.object_type.ObjectType.TheVariants.{Cone, Polytope}
+use Rattle.pm_algebra.specs.Rows.{Row}
+use Rattle.pm_object.specs.Reading.{ViewSeen}
+use Rattle.pm_types.specs.Values.{matrix}
 use Rattle.pm_props.specs.declared.kind.Kind.{Kind}
-use Rattle.pm_props.specs.declared.property.PropId.TheVariants.{Equations, Facets, Inequalities, InputLineality, LinealitySpace, Points, Vertices}
+use Rattle.pm_props.specs.declared.property.PropId.TheVariants.{AffineHull, Equations, Facets, Inequalities, InputLineality, LinealitySpace, Points, Vertices}
 use Rattle.std.specs.Prelude.{List, None, Some, [], codes, false, true, ℕ, ◌-◌, ◌^◌, ◌∷◌, ◌≡◌}
 use lib.IntN.{pos}
 
@@ -65,3 +69,41 @@ pub record RowListsAreRead : Type 0 where
   pub not_to_facets : added_rows Polytope 3 Facets ≡ []
   pub not_to_cones : added_rows Cone 3 Inequalities ≡ []
   pub memory : fail_of elimination.Memory ≡ fail.Memory
+  pub memory_of_double : fail_of_double double.Memory ≡ fail.Memory
+  -- what clients eliminate, by their names
+  pub doubling : doubles (codes "dd_facets_v") ≡ true
+  pub not_doubling : doubles (codes "hull_from_vertices") ≡ false
+  pub of_double : eliminated_by (codes "dd_vertices") ≡ first_part ∷ double_list ∷ enlarging_rows ∷ []
+  pub of_ranks : eliminated_by (codes "cone_dim_v") ≡ row_list ∷ []
+
+-- a row of one entry
+abbrev pub single : ℕ → Row
+single k = pos k ∷ []
+
+-- a view of a polytope with one column, whose INEQUALITIES and EQUATIONS have no row
+abbrev pub no_rows : ViewSeen
+no_rows = record {
+  of = Polytope;
+  cols = 1;
+  kind = named (codes "dd_vertices") 1 2;
+  sub = None;
+  facts = record { place = None; property = Inequalities; value = matrix 0 [] }
+      ∷ record { place = None; property = Equations; value = matrix 0 [] }
+      ∷ [];
+}
+
+pub record DoublesAreRead : Type 0 where
+  -- the second part ends with what is added, here x0 >= 0
+  pub parts : AreParts no_rows [] (single 1 ∷ [])
+  pub not_added : ¬ (ArePartsOf no_rows Equations Inequalities [] [])
+  pub not_read : ¬ (ArePartsOf no_rows AffineHull Facets [] [])
+  -- the double description list is that of both parts
+  pub list : IsDoubleListOf no_rows (single 1 ∷ [])
+  pub not_list : ¬ (IsDoubleListOf no_rows [])
+  -- a row that was there before enlarges no span
+  pub enlarging : AreEnlarging (single 1 ∷ single 2 ∷ []) (single 1 ∷ [])
+  pub not_enlarging : ¬ (AreEnlarging (single 1 ∷ single 2 ∷ []) (single 1 ∷ single 2 ∷ []))
+  -- the lists of that view
+  pub first : IsEliminated first_part no_rows []
+  pub double : IsEliminated double_list no_rows (single 1 ∷ [])
+  pub not_double : ¬ (IsEliminated double_list no_rows [])

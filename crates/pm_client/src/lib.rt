@@ -1,13 +1,14 @@
 //! Clients, which answer properties of an object from others, and running the first client of a kind.
 #![tactic(auto)]
 
-ghost use Rattle.pm_client.specs.Examples.{RowListsAreRead, StartsAreRead};
+ghost use Rattle.pm_client.specs.Examples.{DoublesAreRead, RowListsAreRead, StartsAreRead};
 ghost use Rattle.pm_client.specs.Sound.{FailsRightly, IsSound};
 ghost use Rattle.pm_client.specs.Starts.{started_once};
 ghost use Rattle.std.specs.Prelude.{IfErr, OnOk, [], ℕ, ◌≡◌};
 
 use pm_elim::ElimFail;
 use pm_geom::Evidence;
+use pm_hull::DdFail;
 use pm_object::{Draft, View};
 use pm_types::Kind;
 use std::alloc::{AllocError, AllocFailed, Global};
@@ -39,6 +40,21 @@ impl From<ElimFail> for ClientFail {
         match fail {
             ElimFail::Wide(step) => ClientFail::Failed(Evidence::E1(step)),
             ElimFail::Memory => ClientFail::Memory,
+        }
+    }
+}
+
+impl From<DdFail> for ClientFail {
+    ghost use Rattle.pm_client.specs.Sound.{fail_of_double};
+    ghost use Rattle.std.specs.Prelude.{◌≡◌};
+
+    ghost from_gives = { λ f e. e ≡ fail_of_double f };
+
+    fn from(fail: DdFail) -> ClientFail {
+        match fail {
+            DdFail::Wide(evidence) => ClientFail::Failed(evidence),
+            DdFail::Many(evidence) => ClientFail::Failed(evidence),
+            DdFail::Memory => ClientFail::Memory,
         }
     }
 }
@@ -96,4 +112,9 @@ pub fn example_starts()
 /// The definitions of row lists read on some properties.
 pub fn example_row_lists()
     ensures { RowListsAreRead }
+{}
+
+/// The definitions of what is eliminated read on a view without rows.
+pub fn example_doubles()
+    ensures { DoublesAreRead }
 {}

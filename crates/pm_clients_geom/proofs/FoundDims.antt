@@ -54,7 +54,7 @@ no_points_added Cone n = refl
 no_points_added Fan n = refl
 
 -- POINTS and INPUT_LINEALITY that were read are right together
-pair_right : (v : ViewSeen) (n m : ℕ) (points lines : List (List Ratio)) (t : Thing) (o : Orders) → fact_of Points v.facts ≡ Some (matrix n points) → fact_of InputLineality v.facts ≡ Some (matrix m lines) → RightAll v.facts t o → PairGenerates t points lines
+pub pair_right : (v : ViewSeen) (n m : ℕ) (points lines : List (List Ratio)) (t : Thing) (o : Orders) → fact_of Points v.facts ≡ Some (matrix n points) → fact_of InputLineality v.facts ≡ Some (matrix m lines) → RightAll v.facts t o → PairGenerates t points lines
 pair_right v n m points lines t o h k right =
     let (f, i, p, x) = found Points v.facts (matrix n points) h in
     let (g, j, q, y) = found InputLineality v.facts (matrix m lines) k in

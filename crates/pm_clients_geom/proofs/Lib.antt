@@ -7,3 +7,5 @@ pub mod OverOne
 pub mod PutMatrices
 pub mod Examples
 pub mod RowCounts
+pub mod PutRays
+pub mod FoundHulls

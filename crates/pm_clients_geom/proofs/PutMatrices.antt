@@ -35,7 +35,7 @@ column_count n [] some few = few
 column_count n (r ∷ rows) some few = rw (some, few) refl
 
 -- few rows of n entries
-rows_columned : (n : ℕ) (rows : List (List Ratio)) → nat_le 1 n ≡ true → nat_le n 33 ≡ true → length rows ≤ 2048 → list_all (is_row_of_entries n) rows ≡ true → IsColumned n n rows
+pub rows_columned : (n : ℕ) (rows : List (List Ratio)) → nat_le 1 n ≡ true → nat_le n 33 ≡ true → length rows ≤ 2048 → list_all (is_row_of_entries n) rows ≡ true → IsColumned n n rows
 rows_columned n rows some few count entries = let c : nat_le (length rows) 2048 ≡ true = grind arith in (rw (c, column_count n rows some few, entries) refl, same_number n)
 
 pub ratios_columned : (n : ℕ) (N : List Row) → nat_le 1 n ≡ true → nat_le n 33 ≡ true → length N ≤ 2048 → HasCols n N → IsColumned n (cols_over n (map ratios N)) (map ratios N)

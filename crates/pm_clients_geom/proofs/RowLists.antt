@@ -3,7 +3,11 @@ use Rattle.pm_algebra.proofs.Lists.{all_append, all_from, among_All}
 use Rattle.pm_algebra.specs.Numbers.{Ratio}
 use Rattle.pm_algebra.specs.Rows.{HasCols, Row}
 use Rattle.pm_client.proofs.ReadValues.{all_length, primitive_length}
+use Rattle.pm_client.proofs.ViewLaws.{has_listed}
 use Rattle.pm_client.specs.Sound.{are_parts}
+use Rattle.pm_clients_geom.specs.Hulls.{AreFewRows}
+use Rattle.pm_props.specs.Properties.{number}
+use Rattle.pm_props.specs.Sets.{has, set_of}
 use Rattle.pm_props.specs.declared.object_type.ObjectType.{ObjectType}
 use Rattle.pm_matrix.specs.FractionRows.{ArePrimitiveRowsOf}
 use Rattle.pm_types.proofs.PrimitiveRows.{few_rows}
@@ -13,9 +17,10 @@ use Rattle.pm_props.specs.Properties.{value_kind}
 use Rattle.pm_types.specs.Values.{matrix}
 use Rattle.pm_props.specs.declared.property.PropId.TheVariants.{AffineHull, Equations, Facets, Inequalities, InputLineality, LinealitySpace, Points, Vertices}
 use Rattle.pm_props.specs.declared.property.PropId.{PropId}
-use Rattle.std.proofs.Common.{ap, arith, refl, subst, sym, true, true≢false, ◌∙◌}
+use Rattle.std.proofs.lemmas.Bool.{eq-eqb, or_left, or_right}
+use Rattle.std.proofs.Common.{ap, arith, eqb, false, refl, subst, sym, true, true≢false, ◌∙◌}
 use Rattle.std.proofs.lemmas.List.{length-append}
-use Rattle.std.specs.Prelude.{IsTrue, List, length, nat_eq, ℕ, ◌++◌, ◌||◌, ◌≡◌, ◌≤◌}
+use Rattle.std.specs.Prelude.{IsTrue, List, [], length, nat_eq, ℕ, ◌++◌, ◌∷◌, ◌||◌, ◌≡◌, ◌≤◌}
 
 -- a matrix whose rows, if it has some, have n entries
 abbrev pub IsColumned : ℕ → ℕ → List (List Ratio) → Type 0
@@ -71,3 +76,22 @@ pub few_listed : (lines rows : List (List Ratio)) (ls xs X : List Row) → lengt
     → ArePrimitiveRowsOf lines ls → ArePrimitiveRowsOf rows xs → X ≡ ls ++ xs → length X ≤ 4096
 few_listed lines rows ls xs X few more p q e =
     let all = ap length e ∙ length-append ls xs in let a = p.count in let b = q.count in omega arith
+
+-- each part has few rows of the view's columns
+module _ (of : ObjectType) (n m : ℕ) (rows : List (List Ratio)) (first second : PropId) (parts : IsTrue (are_parts first second)) (xs : List Row) (primitive : ArePrimitiveRowsOf rows xs) where
+  pub first_rows_few : FormsIn of n first (matrix m rows) → AreFewRows n xs
+  first_rows_few f = record { cols = primitive_cols of n m rows xs (first_columned of n m rows first second parts f) primitive; few = let l = few_first of n m rows first second parts f in let c = primitive.count in omega arith }
+
+  pub second_rows_few : FormsIn of n second (matrix m rows) → AreFewRows n xs
+  second_rows_few f = record { cols = primitive_cols of n m rows xs (second_columned of n m rows first second parts f) primitive; few = let l = few_second of n m rows first second parts f in let c = primitive.count in omega arith }
+
+-- both are sources of a kind that reads these two
+pub first_source : (s : ℕ) (first second : PropId) → s ≡ set_of (second ∷ first ∷ []) → has s first ≡ true
+first_source s first second e =
+    has_listed s (second ∷ first ∷ []) first e
+    ∙ or_right (eqb (number second) (number first)) (eqb (number first) (number first) || false) (or_left (eqb (number first) (number first)) false (eq-eqb (number first) (number first) refl))
+
+pub second_source : (s : ℕ) (first second : PropId) → s ≡ set_of (second ∷ first ∷ []) → has s second ≡ true
+second_source s first second e =
+    has_listed s (second ∷ first ∷ []) second e
+    ∙ or_left (eqb (number second) (number second)) (eqb (number first) (number second) || false) (eq-eqb (number second) (number second) refl)

@@ -1,19 +1,30 @@
 -- The definitions of families and of matrices that are put, read on small cases: what holds of them, and what does not.
 use Rattle.pm_algebra.specs.Numbers.{Ratio}
+use Rattle.pm_algebra.specs.Rows.{Row}
+use Rattle.pm_client.specs.Examples.{no_rows, single}
+use Rattle.pm_clients_geom.specs.Hulls.{AreFewRows, ArePossible, ArePutGenerators, FindsFacets, MayGenerate}
+use Rattle.pm_clients_geom.specs.Lists.{ReadsParts}
+use Rattle.pm_clients_geom.specs.Rays.{ArePutRays, IsOverFirst, IsPutRay}
+use Rattle.pm_object.specs.Reading.{DraftSeen, Put}
+use Rattle.pm_props.specs.Kinds.{standard_kind}
+use Rattle.pm_props.specs.declared.property.PropId.TheVariants.{AffineHull, Equations, Facets, Inequalities, InputLineality, LinealitySpace, Points, Vertices}
+use Rattle.pm_types.specs.Values.{matrix}
 use Rattle.pm_client.specs.Families.{clients_of}
-use Rattle.pm_clients_geom.specs.Families.{finds_dimension, finds_rows, finds_truth}
-use Rattle.pm_clients_geom.specs.Matrices.{MayBeLines, as_put}
+use Rattle.pm_clients_geom.specs.Families.{finds_dimension, finds_hull, finds_rows, finds_truth}
+use Rattle.pm_clients_geom.specs.Matrices.{MayBeLines, MayBeRays, as_put}
 use Rattle.pm_props.specs.declared.object_type.ObjectType.TheVariants.{Cone, Polytope}
-use Rattle.pm_types.specs.Views.{ratios}
+use Rattle.pm_types.specs.Views.{over_one, ratios}
 use Rattle.pm_props.specs.declared.standard.StandardClient.TheVariants as client
 use Rattle.std.specs.Prelude.{List, [], false, ◌∷◌, ◌≡◌}
-use lib.IntN.{pos}
+use lib.IntN.{negsuc, pos}
 
 pub record FamiliesAreRead : Type 0 where
   -- in the order of the standard book
   pub rows : clients_of finds_rows ≡ client.PointsFromVertices ∷ client.InequalitiesFromFacets ∷ client.LinealityFromFacets ∷ client.HullFromVertices ∷ []
   pub dimensions : clients_of finds_dimension ≡ client.ConeDimV ∷ client.ConeDimSpan ∷ client.ConeDimPoints ∷ client.LinealityDim ∷ client.CombinatorialDim ∷ []
   pub truths : clients_of finds_truth ≡ client.Feasible ∷ client.Pointed ∷ client.FullDim ∷ []
+  pub hulls : clients_of finds_hull ≡ client.DdVertices ∷ client.DdFacets ∷ client.DdFacetsV ∷ client.DdVerticesF ∷ []
+  pub no_hull : finds_hull client.HullFromVertices ≡ false
   pub no_truth : finds_truth client.ConeDimV ≡ false
   pub no_dimension : finds_dimension client.Incidence ≡ false
 
@@ -29,3 +40,53 @@ pub record MatricesAreRead : Type 0 where
   pub lines : MayBeLines Polytope ((pos 0 ∷ pos 2 ∷ []) ∷ [])
   pub no_lines : ¬ (MayBeLines Polytope ((pos 0 ∷ pos 2 ∷ []) ∷ (pos 1 ∷ pos 2 ∷ []) ∷ []))
   pub of_a_cone : MayBeLines Cone ((pos 1 ∷ pos 2 ∷ []) ∷ [])
+  -- rays of a polytope do not lie behind, those of a cone may
+  pub rays : MayBeRays Polytope ((pos 1 ∷ negsuc 1 ∷ []) ∷ [])
+  pub no_rays : ¬ (MayBeRays Polytope ((negsuc 0 ∷ pos 2 ∷ []) ∷ []))
+  pub rays_of_a_cone : MayBeRays Cone ((negsuc 0 ∷ pos 2 ∷ []) ∷ [])
+
+-- the ray (2, 1), and the row (1, 1/2) of fractions
+abbrev pub two_one : Row
+two_one = pos 2 ∷ pos 1 ∷ []
+
+abbrev pub one_half : List Ratio
+one_half = over_one (pos 1) ∷ record { num = pos 1; den = pos 2 } ∷ []
+
+pub record RaysAreRead : Type 0 where
+  -- of a polytope a ray is divided by its first entry, of a cone it stays
+  pub over_first : IsOverFirst two_one one_half
+  pub not_over_first : ¬ (IsOverFirst two_one (ratios two_one))
+  pub divided : IsPutRay Polytope one_half two_one
+  pub not_divided : ¬ (IsPutRay Polytope (ratios two_one) two_one)
+  pub of_a_cone : IsPutRay Cone (ratios two_one) two_one
+  pub not_of_a_cone : ¬ (IsPutRay Cone one_half two_one)
+  -- the rows stand in the order of the rays
+  pub rows : ArePutRays Polytope (one_half ∷ []) (two_one ∷ [])
+  pub too_few : ¬ (ArePutRays Polytope [] (two_one ∷ []))
+
+-- a draft for the view without rows
+abbrev pub drafted : List Put → DraftSeen
+drafted values = record { kind = no_rows.kind; values = values }
+
+pub record HullsAreRead : Type 0 where
+  -- which clients find FACETS, and from which two parts
+  pub from_points : FindsFacets (standard_kind client.DdFacets) InputLineality Points
+  pub from_vertices : FindsFacets (standard_kind client.DdFacetsV) LinealitySpace Vertices
+  pub turned : ¬ (FindsFacets (standard_kind client.DdFacets) Points InputLineality)
+  pub finds_rays : ¬ (FindsFacets (standard_kind client.DdVertices) Equations Inequalities)
+  -- what is read of a view
+  pub reads : ReadsParts no_rows Equations Inequalities [] []
+  pub reads_no_facets : ¬ (ReadsParts no_rows AffineHull Facets [] [])
+  -- rows of the view's columns
+  pub few : AreFewRows 1 (single 1 ∷ [])
+  pub other_columns : ¬ (AreFewRows 2 (single 1 ∷ []))
+  -- rays and lines of a polytope, or none in the place of others
+  pub may : MayGenerate Polytope (single 1 ∷ []) (single 0 ∷ [])
+  pub may_not : ¬ (MayGenerate Polytope [] (single 1 ∷ []))
+  pub kept : ArePossible no_rows (single 1 ∷ []) [] (single 1 ∷ []) []
+  pub none : ArePossible no_rows [] (single 1 ∷ []) [] []
+  pub lost : ¬ (ArePossible no_rows (single 1 ∷ []) [] [] [])
+  -- both are put
+  pub put : ArePutGenerators no_rows (single 1 ∷ []) []
+      (drafted (record { property = Vertices; value = matrix 1 (ratios (single 1) ∷ []) } ∷ record { property = LinealitySpace; value = matrix 0 [] } ∷ []))
+  pub not_put : ¬ (ArePutGenerators no_rows (single 1 ∷ []) [] (drafted []))

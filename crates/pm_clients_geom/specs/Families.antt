@@ -3,6 +3,14 @@ use Rattle.pm_props.specs.declared.standard.StandardClient.{StandardClient}
 use Rattle.pm_props.specs.declared.standard.StandardClient.TheVariants as client
 use Rattle.std.specs.Prelude.{Bool, false, true}
 
+-- the clients of double description
+abbrev pub finds_hull : StandardClient → Bool
+finds_hull client.DdVertices = true
+finds_hull client.DdFacets = true
+finds_hull client.DdFacetsV = true
+finds_hull client.DdVerticesF = true
+finds_hull c = false
+
 -- the clients that find rows
 abbrev pub finds_rows : StandardClient → Bool
 finds_rows client.PointsFromVertices = true

@@ -3,5 +3,7 @@ pub mod Lists
 pub mod Ranks
 pub mod Stays
 pub mod Matrices
+pub mod Rays
+pub mod Hulls
 pub mod Pairs
 pub mod Examples

@@ -1,14 +1,27 @@
--- What becomes of the row list that a client reads.
+-- The two parts of the row list that a client reads, and what becomes of the list.
 use Rattle.pm_algebra.specs.Rows.{Row}
-use Rattle.pm_client.specs.Sound.{IsListOf}
+use Rattle.pm_algebra.specs.Numbers.{Ratio}
+use Rattle.pm_client.specs.Sound.{IsListOf, Reads}
 use Rattle.pm_elim.specs.Evidence.{NoEvidence}
 use Rattle.pm_elim.specs.declared.evidence.ElimList.{ElimList}
+use Rattle.pm_matrix.specs.FractionRows.{ArePrimitiveRowsOf}
 use Rattle.pm_object.specs.Reading.{ViewSeen}
 use Rattle.pm_props.specs.declared.property.PropId.{PropId}
-use Rattle.std.specs.Prelude.{List}
+use Rattle.std.specs.Prelude.{List, ℕ}
 
 -- the elimination of the rows of the two parts, or of the list that `list` names of them, never leaves the range
 pub record StaysInRange (v : ViewSeen) (first second : PropId) (list : ElimList) : Type 0 where
   pub rows : List Row
   pub listed : IsListOf v first second rows
   pub stays : NoEvidence v.cols rows list
+
+-- L are the primitive whole rows of the value of the first property, G those of the value of the second
+pub record ReadsParts (v : ViewSeen) (first second : PropId) (L G : List Row) : Type 0 where
+  pub first_cols : ℕ
+  pub second_cols : ℕ
+  pub first_rows : List (List Ratio)
+  pub second_rows : List (List Ratio)
+  pub reads_first : Reads v first first_cols first_rows
+  pub reads_second : Reads v second second_cols second_rows
+  pub first_primitive : ArePrimitiveRowsOf first_rows L
+  pub second_primitive : ArePrimitiveRowsOf second_rows G

@@ -7,6 +7,7 @@ use Rattle.pm_matrix.specs.Matrices.{FractionMatrix}
 use Rattle.std.specs.List.{All}
 use Rattle.std.specs.Prelude.{List, [], ℕ, ◌∷◌, ◌≡◌}
 use lib.IntN.{pos}
+use lib.Signed.{◌≤ℤ◌}
 
 -- the column count that a matrix of these rows states: n, but none without rows
 abbrev pub cols_over : ℕ → List (List Ratio) → ℕ
@@ -20,3 +21,7 @@ as_put n rows = record { cols = cols_over n rows; rows = rows }
 -- rows of the lineality of a polytope have first entry 0
 abbrev pub MayBeLines : ObjectType → List Row → Type 0
 MayBeLines of rows = of ≡ Polytope → All (λ x. entry x 0 ≡ pos 0) rows
+
+-- rays of a polytope have no negative first entry
+abbrev pub MayBeRays : ObjectType → List Row → Type 0
+MayBeRays of rows = of ≡ Polytope → All (λ x. pos 0 ≤ℤ entry x 0) rows

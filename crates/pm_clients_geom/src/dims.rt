@@ -1,6 +1,6 @@
 // The clients that find dimensions.
 
-ghost use Rattle.pm_client.specs.Sound.{FailsRightly, IsSound, added_rows, are_parts};
+ghost use Rattle.pm_client.specs.Sound.{FailsRightly, IsSound, added_rows, are_parts, eliminated_by, row_list as whole_list};
 ghost use Rattle.pm_client.specs.declared.ClientFail.TheVariants.{Memory};
 ghost use Rattle.pm_clients_geom.specs.Lists.{StaysInRange};
 ghost use Rattle.pm_clients_geom.specs.Ranks.{IsListRank};
@@ -10,7 +10,7 @@ ghost use Rattle.pm_props.specs.Kinds.{standard_kind};
 ghost use Rattle.pm_props.specs.Sets.{has};
 ghost use Rattle.pm_props.specs.declared.property.PropId.TheVariants as property;
 ghost use Rattle.pm_props.specs.declared.standard.StandardClient.TheVariants as client;
-ghost use Rattle.std.specs.Prelude.{IfErr, IfOk, IsTrue, OnOk, [], ◌≡◌, ◌≤◌};
+ghost use Rattle.std.specs.Prelude.{Contains, IfErr, IfOk, IsTrue, OnOk, [], ◌≡◌, ◌≤◌};
 
 use crate::lists::row_list;
 use pm_client::{ClientFail, Family, FamilyClient, matrix_of, put_value, whole_of};
@@ -83,6 +83,7 @@ fn rank_of_list(
     requires second { IsTrue (has view.now.kind.sources second) }
     requires parts { IsTrue (are_parts first second) }
     requires nothing_added { added_rows view.now.of view.now.cols second ≡ [] }
+    requires eliminates { Contains (eliminated_by view.now.kind.name) whole_list }
     ensures rank { IfOk result (λ k. IsListRank view.now first second k) }
     ensures few { IfOk result (λ k. k ≤ 4096) }
     ensures view { OnOk result (IsView view.now) }

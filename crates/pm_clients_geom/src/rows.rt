@@ -178,16 +178,16 @@ fn same_rows(alloc: Global, matrix: &Matrix) -> Result<Matrix, ClientFail>
     }
 }
 
-// Whether rows may span the lineality of a thing of that type.
-fn may_be_lines(of: ObjectType, rows: &[Ints]) -> bool
+/// Whether rows may span the lineality of a thing of that type.
+pub(crate) fn may_be_lines(of: ObjectType, rows: &[Ints]) -> bool
     requires { All (λ x. 0 < length x) rows.now }
     ensures { IsTrue result ↔ MayBeLines of rows.now }
 {
     of != ObjectType::Polytope || rows.iter().all(|row| row.get(0) == 0)
 }
 
-// A row of whole numbers as fractions over 1. Want of memory alone ends it.
-fn row_over_one(alloc: Global, row: &Ints) -> Result<Vec<Fraction>, ClientFail>
+/// A row of whole numbers as fractions over 1. Want of memory alone ends it.
+pub(crate) fn row_over_one(alloc: Global, row: &Ints) -> Result<Vec<Fraction>, ClientFail>
     ensures value { IfOk result (λ v. v.items ≡ ratios row.now) }
     ensures in_range { All InRange row.now }
     ensures failed { IfErr result (λ e. e ≡ Memory) }
@@ -203,8 +203,12 @@ fn row_over_one(alloc: Global, row: &Ints) -> Result<Vec<Fraction>, ClientFail>
     Ok(fractions)
 }
 
-// Rows of whole numbers as a matrix of fractions over 1; without rows it states no column count. Want of memory alone ends it.
-fn matrix_over_one(alloc: Global, rows: &[Ints], cols: usize) -> Result<Matrix, ClientFail>
+/// Rows of whole numbers as a matrix of fractions over 1; without rows it states no column count. Want of memory alone ends it.
+pub(crate) fn matrix_over_one(
+    alloc: Global,
+    rows: &[Ints],
+    cols: usize,
+) -> Result<Matrix, ClientFail>
     requires { HasCols cols rows.now }
     ensures rows { IfOk result (λ a. a ≡ as_put cols (map ratios rows.now)) }
     ensures in_range { OnOk result (All (All InRange) rows.now) }

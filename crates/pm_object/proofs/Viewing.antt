@@ -84,6 +84,7 @@ is_view o sub kind n f viewed = record {
   some_cols = and_left (nat_le 1 n) (nat_le n 33) range;
   few_cols = and_right (nat_le 1 n) (nat_le n 33) range;
   sources = λ p h. named p h (value_of p (read_at sub o.held)) refl (viewed.sources p h);
+  only = λ g i. source g (among_Contains (shown kind sub (facts o.held)) i);
   forms = λ g i. formed g (shown_among kind sub (facts o.held) (among_Contains (shown kind sub (facts o.held)) i));
   in_use = viewed.in_use;
 }
@@ -98,6 +99,11 @@ is_view o sub kind n f viewed = record {
     and_right : (a b : Bool) → (a && b) ≡ true → b ≡ true
     and_right true b h = h
     and_right false b h = absurd (true≢false (sym h))
+
+    source : (g : Fact) → Among g (shown kind sub (facts o.held)) → has kind.sources g.property ≡ true
+    source g i =
+        and_left (has kind.sources g.property) (same_place g.place (place_of sub g.property))
+        (filter_among (λ f. has kind.sources f.property && same_place f.place (place_of sub f.property)) (facts o.held) i).1
 
     named : (p : PropId) → IsTrue (has kind.sources p) → (v : Option PropertyValue) → value_of p (read_at sub o.held) ≡ v → is_some v ≡ true → is_named (shown kind sub (facts o.held)) sub p ≡ true
     named p h None is k = absurd (true≢false (sym k))

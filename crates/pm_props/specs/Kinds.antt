@@ -49,10 +49,10 @@ where_true must r = record { kind = record r.kind { must = set_of must }; weight
 
 -- the standard rules: label, targets, sources, weight
 abbrev pub standard_row : StandardClient → StandardRule
-standard_row client.DdVertices = unbuilt (codes "dd_vertices") (Vertices ∷ LinealitySpace ∷ []) (Inequalities ∷ Equations ∷ []) 40
-standard_row client.DdFacets = unbuilt (codes "dd_facets") (Facets ∷ AffineHull ∷ []) (Points ∷ InputLineality ∷ []) 40
-standard_row client.DdFacetsV = unbuilt (codes "dd_facets_v") (Facets ∷ AffineHull ∷ []) (Vertices ∷ LinealitySpace ∷ []) 30
-standard_row client.DdVerticesF = unbuilt (codes "dd_vertices_f") (Vertices ∷ LinealitySpace ∷ []) (Facets ∷ AffineHull ∷ []) 30
+standard_row client.DdVertices = built (codes "dd_vertices") (Vertices ∷ LinealitySpace ∷ []) (Inequalities ∷ Equations ∷ []) 40
+standard_row client.DdFacets = built (codes "dd_facets") (Facets ∷ AffineHull ∷ []) (Points ∷ InputLineality ∷ []) 40
+standard_row client.DdFacetsV = built (codes "dd_facets_v") (Facets ∷ AffineHull ∷ []) (Vertices ∷ LinealitySpace ∷ []) 30
+standard_row client.DdVerticesF = built (codes "dd_vertices_f") (Vertices ∷ LinealitySpace ∷ []) (Facets ∷ AffineHull ∷ []) 30
 standard_row client.ThinPointsLp = unbuilt (codes "thin_points_lp") (Vertices ∷ LinealitySpace ∷ []) (Points ∷ InputLineality ∷ []) 60
 standard_row client.ThinInequalitiesLp = unbuilt (codes "thin_inequalities_lp") (Facets ∷ AffineHull ∷ []) (Inequalities ∷ Equations ∷ []) 60
 standard_row client.ThinPointsF = unbuilt (codes "thin_points_f") (Vertices ∷ LinealitySpace ∷ []) (Points ∷ InputLineality ∷ Facets ∷ AffineHull ∷ []) 10

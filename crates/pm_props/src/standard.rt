@@ -276,13 +276,13 @@ impl StandardClient {
     {
         match self {
             Self::DdVertices =>
-                rule!("dd_vertices": Vertices, LinealitySpace from Inequalities, Equations; 40, unbuilt),
+                rule!("dd_vertices": Vertices, LinealitySpace from Inequalities, Equations; 40, built),
             Self::DdFacets =>
-                rule!("dd_facets": Facets, AffineHull from Points, InputLineality; 40, unbuilt),
+                rule!("dd_facets": Facets, AffineHull from Points, InputLineality; 40, built),
             Self::DdFacetsV =>
-                rule!("dd_facets_v": Facets, AffineHull from Vertices, LinealitySpace; 30, unbuilt),
+                rule!("dd_facets_v": Facets, AffineHull from Vertices, LinealitySpace; 30, built),
             Self::DdVerticesF =>
-                rule!("dd_vertices_f": Vertices, LinealitySpace from Facets, AffineHull; 30, unbuilt),
+                rule!("dd_vertices_f": Vertices, LinealitySpace from Facets, AffineHull; 30, built),
             Self::ThinPointsLp =>
                 rule!("thin_points_lp": Vertices, LinealitySpace from Points, InputLineality; 60, unbuilt),
             Self::ThinInequalitiesLp =>

@@ -8,3 +8,4 @@ pub mod PrimitiveStanding
 pub mod WholeRows
 pub mod Twins
 pub mod Orders
+pub mod Hulls

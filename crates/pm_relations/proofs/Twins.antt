@@ -111,7 +111,7 @@ module _ (n : ℕ) (G L F xs : List Row) (cols : HasCols n xs) (o : IsOrder n (I
         (alike_generate n (IsValid n G L) E (λ w l s. basis.spans w l ((vanishes_line n G L hg hl w l).1 s)) F xs order a).0
         ((valid_generated n G L hg hl F E basis.cols o (hull_rows n G L hg hl E basis) a v.cols).0 v)
 
-    facet_rows_cut_out : (x : Row) → length x ≡ n → InCone G L x ↔ Solves xs E x
+    pub facet_rows_cut_out : (x : Row) → length x ≡ n → InCone G L x ↔ Solves xs E x
     facet_rows_cut_out x lx = (
       λ h. record { inequalities = cut_from xs x (λ a i. (facet_valid a i).holds x lx h); equations = All_among (λ e. dot e x ≡ pos 0) E (λ e i. (among_All (λ a. Vanishes n G L a) i basis.inside).holds x lx h) },
       λ s. bipolar n G L hg hl x lx (λ a v. rw dot_comm (dot_in x xs E (λ b i. rw dot_comm (cut_at x i s.inequalities)) (λ e i. dot_comm x e ∙ among_All (λ e. dot e x ≡ pos 0) i s.equations) (valid_from_facets a v))),
@@ -134,7 +134,7 @@ cuts_out_of Cone n G L Gs h no_fan A E cuts = cuts
 cuts_out_of Fan n G L Gs h no_fan A E cuts = absurd (no_fan refl)
 
 -- ---- what is not a fan is treated as a cone
-orders_of : (of : ObjectType) (n : ℕ) (G L : List Row) (Gs : List (List Row)) (o : Orders) → ¬ (of ≡ Fan) → AreOrdersOf of n G L Gs o → AreConeOrders n G L o
+pub orders_of : (of : ObjectType) (n : ℕ) (G L : List Row) (Gs : List (List Row)) (o : Orders) → ¬ (of ≡ Fan) → AreOrdersOf of n G L Gs o → AreConeOrders n G L o
 orders_of Polytope n G L Gs o no_fan h = h
 orders_of Cone n G L Gs o no_fan h = h
 orders_of Fan n G L Gs o no_fan h = absurd (no_fan refl)

@@ -15,4 +15,9 @@ returns c = record {
   not_to_facets = refl;
   not_to_cones = refl;
   memory = refl;
+  memory_of_double = refl;
+  doubling = refl;
+  not_doubling = refl;
+  of_double = refl;
+  of_ranks = refl;
 }

@@ -1,14 +1,19 @@
 use Rattle.pm_clients_geom.proofs.FoundDims.{rank_of_vertices}
+use Rattle.pm_client.proofs.Failing.{takes_row_list}
 use Rattle.pm_client.proofs.ViewLaws.{has_listed}
 use Rattle.pm_clients_geom.proofs.dims.cone_dim_v.Goals as goal
+use Rattle.pm_props.specs.declared.standard.StandardClient.TheVariants.{ConeDimV}
 use Rattle.pm_props.specs.declared.property.PropId.TheVariants.{ConeDim, LinealitySpace, Vertices}
-use Rattle.std.proofs.Common.{[], ap, ◌∙◌, ◌∷◌}
+use Rattle.std.proofs.Common.{[], ap, refl, ◌∙◌, ◌∷◌}
 
 pub rank_of_list-requires-clause-first : goal.rank_of_list-requires-clause-first
 rank_of_list-requires-clause-first c = has_listed _ (Vertices ∷ LinealitySpace ∷ []) LinealitySpace (ap (λ k. k.sources) c.requires.kind)
 
 pub rank_of_list-requires-clause-second : goal.rank_of_list-requires-clause-second
 rank_of_list-requires-clause-second c = has_listed _ (Vertices ∷ LinealitySpace ∷ []) Vertices (ap (λ k. k.sources) c.requires.kind)
+
+pub rank_of_list-requires-clause-eliminates : goal.rank_of_list-requires-clause-eliminates
+rank_of_list-requires-clause-eliminates c = takes_row_list c.args.view.now ConeDimV c.requires.kind refl
 
 pub put_value-requires-clause-target : goal.put_value-requires-clause-target
 put_value-requires-clause-target c = has_listed _ (ConeDim ∷ []) ConeDim (ap (λ d. d.kind.targets) c.requires.empty ∙ ap (λ k. k.targets) c.requires.kind)

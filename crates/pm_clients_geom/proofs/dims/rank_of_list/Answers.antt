@@ -35,4 +35,4 @@ pub returns-in_err-rank-clause-failed : goal.returns-in_err-rank-clause-failed
 returns-in_err-rank-clause-failed c =
     let w = err_from_is_err_and c.from_residual-in_err-rank.result c.from_residual-in_err-rank.ensures.1 in
     rw w.1 (subst (FailsRightly c.args.view.now) (sym w.2)
-    (fails_by_list c.args.view.now c.in_ok-rows.rows.items c.in_err-rank.field-0.0 (record { first = c.args.first; second = c.args.second; parts = c.requires.parts; list = c.in_ok-rows.ensures.listed }) (rw (← c.deref.ensures.value, ← c.cols.ensures.value) c.in_err-rank.ensures.wide)))
+    (fails_by_list c.args.view.now c.in_ok-rows.rows.items c.in_err-rank.field-0.0 c.requires.eliminates (record { first = c.args.first; second = c.args.second; parts = c.requires.parts; list = c.in_ok-rows.ensures.listed }) (rw (← c.deref.ensures.value, ← c.cols.ensures.value) c.in_err-rank.ensures.wide)))

@@ -1,0 +1,46 @@
+use Rattle.pm_client.proofs.Failing.{fails_by_parts}
+use Rattle.pm_client.proofs.ViewLaws.{has_listed}
+use Rattle.pm_client.specs.Sound.{FailsRightly}
+use Rattle.pm_clients_geom.proofs.FoundHulls.{facets_sound, lines_few, parts_of_generators}
+use Rattle.pm_clients_geom.proofs.hulls.dd_facets.Goals as goal
+use Rattle.pm_relations.proofs.Hulls.{order_cols}
+use Rattle.pm_props.specs.declared.property.PropId.TheVariants.{AffineHull, Facets}
+use Rattle.pm_props.specs.declared.property.PropId.{PropId}
+use Rattle.std.proofs.Common.{ap, subst, sym, ◌∙◌}
+use Rattle.std.proofs.lemmas.Result.{err_from_is_err_and}
+use Rattle.std.specs.Prelude.{List, [], ◌∷◌}
+
+abbrev targets : List PropId
+targets = Facets ∷ AffineHull ∷ []
+
+pub put_value-requires-clause-target : goal.put_value-requires-clause-target
+put_value-requires-clause-target c = has_listed _ targets Facets (ap (λ d. d.kind.targets) c.requires.empty ∙ c.requires.kind.targets)
+
+pub put_value-requires-2-clause-target : goal.put_value-requires-2-clause-target
+put_value-requires-2-clause-target c = has_listed _ targets AffineHull (ap (λ d. d.kind.targets) c.in_ok-put_value.ensures.ok ∙ ap (λ d. d.kind.targets) c.requires.empty ∙ c.requires.kind.targets)
+
+pub matrix_over_one-requires : goal.matrix_over_one-requires
+matrix_over_one-requires c =
+    let g = rw c.cols.ensures.value at c.in_ok-found.ensures.facets in
+    rw (c.deref-3.ensures.value, c.cols-2.ensures.value) (order_cols c.args.view.now.cols _ c.in_ok-found.found.facets.items g.order)
+
+pub returns-in_err-found-clause-failed : goal.returns-in_err-found-clause-failed
+returns-in_err-found-clause-failed c =
+    let v = c.args.view.now in
+    let kind = c.requires.kind in
+    let w = err_from_is_err_and c.from_residual-in_err-found.result c.from_residual-in_err-found.ensures.1 in
+    rw w.1 (subst (FailsRightly v) (sym w.2)
+    (fails_by_parts v kind.doubles c.in_ok-parts.parts.first.items c.in_ok-parts.parts.second.items c.in_err-found.field-0.0
+    (parts_of_generators v c.args.first c.args.second c.in_ok-parts.parts.first.items c.in_ok-parts.parts.second.items kind.parts kind.generators c.in_ok-parts.ensures.read)
+    (rw (c.deref.ensures.value, c.deref-2.ensures.value, c.cols.ensures.value) at c.in_err-found.ensures.shown)))
+
+pub returns-clause-sound : goal.returns-clause-sound
+returns-clause-sound c =
+    let v = c.args.view.now in
+    let view = c.cols.ensures.view in
+    let g = rw (c.deref.ensures.value, c.deref-2.ensures.value, c.cols.ensures.value) at c.in_ok-found.ensures.facets in
+    facets_sound v view c.args.first c.args.second c.requires.kind c.in_ok-parts.parts.first.items c.in_ok-parts.parts.second.items c.in_ok-found.found.facets.items c.in_ok-found.found.hull.items
+    c.in_ok-parts.ensures.read g c.in_ok-found.ensures.few (lines_few v view _ c.in_ok-found.found.facets.items c.in_ok-found.found.hull.items g).few
+    (rw c.deref-3.ensures.value at c.in_ok-facets.ensures.in_range) (rw c.deref-4.ensures.value at c.in_ok-hull.ensures.in_range) c.in_ok-facets.facets c.in_ok-hull.hull
+    c.args.draft.now c.put_value.new.draft c.put_value-2.new.draft (rw (c.deref-3.ensures.value, c.cols-2.ensures.value) at c.in_ok-facets.ensures.rows) (rw (c.deref-4.ensures.value, c.cols-3.ensures.value) at c.in_ok-hull.ensures.rows)
+    c.requires.empty c.in_ok-put_value.ensures.ok c.in_ok-put_value-2.ensures.ok

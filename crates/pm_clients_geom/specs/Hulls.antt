@@ -1,0 +1,58 @@
+-- What the clients of double description are for, and what they put.
+use Rattle.pm_algebra.specs.Numbers.{InRange, Ratio}
+use Rattle.pm_algebra.specs.Rows.{HasCols, Row}
+use Rattle.pm_client.specs.Sound.{are_parts, doubles}
+use Rattle.pm_clients_geom.specs.Matrices.{MayBeLines, MayBeRays, cols_over}
+use Rattle.pm_clients_geom.specs.Rays.{ArePutRays}
+use Rattle.pm_object.specs.Reading.{DraftSeen, Put, ViewSeen}
+use Rattle.pm_props.specs.declared.kind.Kind.{Kind}
+use Rattle.pm_props.specs.declared.object_type.ObjectType.{ObjectType}
+use Rattle.pm_props.specs.declared.property.PropId.{PropId}
+use Rattle.pm_props.specs.declared.property.PropId.TheVariants.{AffineHull, Facets, LinealitySpace, Vertices}
+use Rattle.pm_props.specs.Properties.{is_generator}
+use Rattle.pm_props.specs.Sets.{set_of}
+use Rattle.pm_types.specs.Values.{matrix}
+use Rattle.pm_types.specs.Views.{ratios}
+use Rattle.std.specs.List.{All}
+use Rattle.std.specs.Prelude.{IsTrue, List, [], length, map, ℕ, ◌∷◌, ◌≡◌, ◌≤◌, ◌⊎◌}
+
+-- a client of the kind does double description, and finds FACETS and AFFINE_HULL from lines, and points or rays
+pub record FindsFacets (kind : Kind) (first second : PropId) : Type 0 where
+  pub targets : kind.targets ≡ set_of (Facets ∷ AffineHull ∷ [])
+  pub sources : kind.sources ≡ set_of (second ∷ first ∷ [])
+  pub parts : IsTrue (are_parts first second)
+  pub generators : IsTrue (is_generator second)
+  pub doubles : IsTrue (doubles kind.name)
+
+-- few rows of n entries
+pub record AreFewRows (n : ℕ) (X : List Row) : Type 0 where
+  pub cols : HasCols n X
+  pub few : length X ≤ 2048
+
+-- the rays V and the lines K, of a thing of that type
+pub record MayGenerate (of : ObjectType) (V K : List Row) : Type 0 where
+  pub rays : MayBeRays of V
+  pub lines : MayBeLines of K
+
+-- V and K are V' and K' wherever these may generate a thing of the view's type, and else there are none
+pub record ArePossible (v : ViewSeen) (V' K' V K : List Row) : Type 0 where
+  pub few_rays : AreFewRows v.cols V
+  pub few_lines : AreFewRows v.cols K
+  pub may : MayGenerate v.of V K
+  pub kept : MayGenerate v.of V' K' → (V ≡ V') × (K ≡ K')
+  pub either : ((V ≡ V') × (K ≡ K')) ⊎ ((V ≡ []) × (K ≡ []))
+
+-- such rays and lines were put as VERTICES and LINEALITY_SPACE
+pub record ArePutGenerators (v : ViewSeen) (V' K' : List Row) (new : DraftSeen) : Type 0 where
+  pub rays : List Row
+  pub lines : List Row
+  pub rows : List (List Ratio)
+  pub possible : ArePossible v V' K' rays lines
+  pub each : ArePutRays v.of rows rays
+  pub in_range : All (All InRange) lines
+  pub draft : new ≡ record {
+    kind = v.kind;
+    values = record { property = Vertices; value = matrix (cols_over v.cols rows) rows }
+        ∷ record { property = LinealitySpace; value = matrix (cols_over v.cols (map ratios lines)) (map ratios lines) }
+        ∷ [];
+  }

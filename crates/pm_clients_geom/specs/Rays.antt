@@ -1,0 +1,29 @@
+-- Rays as rows of fractions.
+use Rattle.pm_algebra.specs.Numbers.{InRange, Ratio}
+use Rattle.pm_algebra.specs.Rows.{Row, entry, ratio_at}
+use Rattle.pm_fraction.specs.Fractions.{IsLowestTermsOf, ratio_of}
+use Rattle.pm_props.specs.declared.object_type.ObjectType.{ObjectType}
+use Rattle.pm_props.specs.declared.object_type.ObjectType.TheVariants.{Polytope}
+use Rattle.pm_types.specs.Canonical.{EachIs}
+use Rattle.pm_types.specs.Views.{ratios}
+use Rattle.std.specs.List.{All}
+use Rattle.std.specs.Prelude.{List, length, ℕ, ◌<◌, ◌≡◌}
+use lib.IntN.{pos}
+use lib.Signed.{◌≤ℤ◌}
+
+-- r is the row x divided by its first entry, in lowest terms
+pub record IsOverFirst (x : Row) (r : List Ratio) : Type 0 where
+  pub cols : length r ≡ length x
+  pub each : (i : ℕ) → i < length x → IsLowestTermsOf (ratio_of (entry x i) (entry x 0)) (ratio_at r i)
+
+-- r is the ray x of a thing of that type: of a polytope, where no ray lies behind, divided by its first entry where that is not 0, else as it is
+pub record IsPutRay (of : ObjectType) (r : List Ratio) (x : Row) : Type 0 where
+  pub some : 0 < length x
+  pub in_range : All InRange x
+  pub before : of ≡ Polytope → pos 0 ≤ℤ entry x 0
+  pub divided : of ≡ Polytope → ¬ (entry x 0 ≡ pos 0) → IsOverFirst x r
+  pub whole : ¬ ((of ≡ Polytope) × ¬ (entry x 0 ≡ pos 0)) → r ≡ ratios x
+
+-- the rows are the rays X, in their order
+abbrev pub ArePutRays : ObjectType → List (List Ratio) → List Row → Type 0
+ArePutRays of rows X = EachIs (IsPutRay of) rows X

@@ -1,0 +1,203 @@
+// The clients of double description: one description of a thing from the other.
+
+ghost use Rattle.pm_algebra.specs.Rows.{HasCols};
+ghost use Rattle.pm_client.specs.Sound.{FailsRightly, IsSound, are_parts};
+ghost use Rattle.pm_client.specs.declared.ClientFail.TheVariants.{Memory};
+ghost use Rattle.pm_clients_geom.specs.Hulls.{AreFewRows, ArePossible, ArePutGenerators, FindsFacets};
+ghost use Rattle.pm_clients_geom.specs.Lists.{ReadsParts};
+ghost use Rattle.pm_props.specs.Kinds.{standard_kind};
+ghost use Rattle.pm_props.specs.Sets.{has, set_of};
+ghost use Rattle.pm_props.specs.declared.property.PropId.TheVariants as property;
+ghost use Rattle.pm_props.specs.declared.standard.StandardClient.TheVariants as client;
+ghost use Rattle.std.specs.Prelude.{IfErr, IfOk, IsTrue, OnOk, [], length, ◌∷◌, ◌≡◌, ◌≤◌};
+
+use crate::rays::{matrix_of_rays, may_be_rays};
+use crate::rows::{matrix_over_one, may_be_lines};
+use pm_client::{ClientFail, Family, FamilyClient, matrix_of, primitive_rows, put_value};
+use pm_hull::{Generators, to_facets, to_generators};
+use pm_object::{Draft, View};
+use pm_types::{ObjectType, PropId, StandardClient, Value};
+use pm_vector::Ints;
+use std::alloc::Global;
+
+/// The standard clients of double description.
+#[derive(Debug, Drop)]
+pub struct HullFamily;
+
+/// A client of double description: number 0 is `dd_vertices`, 1 `dd_facets`, 2 `dd_facets_v`, 3 `dd_vertices_f`.
+/// It fails for want of memory, where a step leaves the range, and where a cone on the way has too many extreme rays.
+pub type HullClient = FamilyClient<HullFamily>;
+
+impl Family for HullFamily {
+    ghost use Rattle.pm_client.specs.Families.{clients_of};
+    ghost use Rattle.pm_client.specs.Sound.{FailsRightly};
+    ghost use Rattle.pm_clients_geom.specs.Families.{finds_hull};
+    ghost use Rattle.std.specs.Prelude.{length, refl};
+
+    ghost is_member = { finds_hull };
+
+    ghost Stays = { λ _ _. Unit {0} };
+
+    ghost Fails = { λ _ v e. FailsRightly v e };
+
+    ghost COUNT = { length (clients_of finds_hull) };
+
+    const COUNT: u8 = 4;
+
+    fn client(number: u8) -> StandardClient {
+        [
+            StandardClient::DdVertices,
+            StandardClient::DdFacets,
+            StandardClient::DdFacetsV,
+            StandardClient::DdVerticesF,
+        ][usize::from(number)]
+    }
+
+    fn answer(
+        client: StandardClient,
+        alloc: Global,
+        view: &View,
+        draft: &mut Draft,
+    ) -> Result<(), ClientFail> {
+        match client {
+            StandardClient::DdVertices => dd_vertices(alloc, view, draft),
+            StandardClient::DdFacets => {
+                dd_facets(alloc, view, draft, PropId::InputLineality, PropId::Points)
+            }
+            StandardClient::DdFacetsV => {
+                dd_facets(alloc, view, draft, PropId::LinealitySpace, PropId::Vertices)
+            }
+            StandardClient::DdVerticesF => dd_vertices_f(alloc, view, draft),
+            _ => unreachable!(),
+        }
+    }
+
+    ghost counted = { refl };
+}
+
+// The two parts of a row list, as primitive whole rows.
+#[derive(Debug, Drop)]
+struct Parts {
+    first: Vec<Ints>,
+    second: Vec<Ints>,
+}
+
+// The two parts of the row list that a client reads. Want of memory alone ends it.
+fn read_parts(
+    alloc: Global,
+    view: &View,
+    first: PropId,
+    second: PropId,
+) -> Result<Parts, ClientFail>
+    requires sources { view.now.kind.sources ≡ set_of (second ∷ first ∷ []) }
+    requires parts { IsTrue (are_parts first second) }
+    ensures read { IfOk result (λ p. ReadsParts view.now first second p.first.items p.second.items) }
+    ensures first_few { IfOk result (λ p. AreFewRows view.now.cols p.first.items) }
+    ensures second_few { IfOk result (λ p. AreFewRows view.now.cols p.second.items) }
+    ensures failed { IfErr result (λ e. e ≡ Memory) }
+{
+    let lines = primitive_rows(alloc, matrix_of(view, first))?;
+    let others = primitive_rows(alloc, matrix_of(view, second))?;
+    Ok(Parts {
+        first: lines,
+        second: others,
+    })
+}
+
+// FACETS and AFFINE_HULL: all facet rows of what the rows of the second property generate with those of the first as
+// lines, and the rows that vanish there.
+fn dd_facets(
+    alloc: Global,
+    view: &View,
+    draft: &mut Draft,
+    first: PropId,
+    second: PropId,
+) -> Result<(), ClientFail>
+    requires kind { FindsFacets view.now.kind first second }
+    requires empty { draft.old ≡ record { kind = view.now.kind; values = [] } }
+    ensures draft { draft.new.kind ≡ draft.old.kind }
+    ensures sound { OnOk result (IsSound view.now draft.new) }
+    ensures failed { IfErr result (FailsRightly view.now) }
+{
+    let parts = read_parts(alloc, view, first, second)?;
+    let found = to_facets(alloc, view.cols(), &parts.second, &parts.first)?;
+    let facets = matrix_over_one(alloc, &found.facets, view.cols())?;
+    let hull = matrix_over_one(alloc, &found.hull, view.cols())?;
+    put_value(draft, PropId::Facets, Value::Mat(facets))?;
+    put_value(draft, PropId::AffineHull, Value::Mat(hull))?;
+    Ok(())
+}
+
+// VERTICES and LINEALITY_SPACE: all extreme rays of what INEQUALITIES and EQUATIONS describe, and its lineality.
+fn dd_vertices(alloc: Global, view: &View, draft: &mut Draft) -> Result<(), ClientFail>
+    requires kind { view.now.kind ≡ standard_kind client.DdVertices }
+    requires empty { draft.old ≡ record { kind = view.now.kind; values = [] } }
+    ensures draft { draft.new.kind ≡ draft.old.kind }
+    ensures sound { OnOk result (IsSound view.now draft.new) }
+    ensures failed { IfErr result (FailsRightly view.now) }
+{
+    prove!(view.of() != ObjectType::Fan);
+    let parts = read_parts(alloc, view, PropId::Equations, PropId::Inequalities)?;
+    let found = to_generators(alloc, view.of(), view.cols(), &parts.second, &parts.first)?;
+    put_generators(alloc, view, draft, found)?;
+    Ok(())
+}
+
+// VERTICES and LINEALITY_SPACE: all extreme rays of what FACETS and AFFINE_HULL cut out, and its lineality.
+fn dd_vertices_f(alloc: Global, view: &View, draft: &mut Draft) -> Result<(), ClientFail>
+    requires kind { view.now.kind ≡ standard_kind client.DdVerticesF }
+    requires empty { draft.old ≡ record { kind = view.now.kind; values = [] } }
+    ensures draft { draft.new.kind ≡ draft.old.kind }
+    ensures sound { OnOk result (IsSound view.now draft.new) }
+    ensures failed { IfErr result (FailsRightly view.now) }
+{
+    let parts = read_parts(alloc, view, PropId::AffineHull, PropId::Facets)?;
+    let found = to_generators(
+        alloc,
+        ObjectType::Cone,
+        view.cols(),
+        &parts.second,
+        &parts.first,
+    )?;
+    put_generators(alloc, view, draft, found)?;
+    Ok(())
+}
+
+// These generators, or none where no thing of the view's type has them.
+fn those_that_may_be(alloc: Global, view: &View, found: Generators) -> Generators
+    requires rays { AreFewRows view.now.cols found.rays.items }
+    requires lines { AreFewRows view.now.cols found.lineality.items }
+    ensures { ArePossible view.now found.rays.items found.lineality.items result.rays.items result.lineality.items }
+{
+    if may_be_rays(view.of(), &found.rays) && may_be_lines(view.of(), &found.lineality) {
+        found
+    } else {
+        Generators {
+            rays: Vec::new(alloc),
+            lineality: Vec::new(alloc),
+        }
+    }
+}
+
+// Puts rays and lines as VERTICES and LINEALITY_SPACE. Want of memory alone ends it.
+fn put_generators(
+    alloc: Global,
+    view: &View,
+    draft: &mut Draft,
+    found: Generators,
+) -> Result<(), ClientFail>
+    requires rays { AreFewRows view.now.cols found.rays.items }
+    requires lines { AreFewRows view.now.cols found.lineality.items }
+    requires targets { view.now.kind.targets ≡ set_of (property.Vertices ∷ property.LinealitySpace ∷ []) }
+    requires empty { draft.old ≡ record { kind = view.now.kind; values = [] } }
+    ensures draft { draft.new.kind ≡ draft.old.kind }
+    ensures put { OnOk result (ArePutGenerators view.now found.rays.items found.lineality.items draft.new) }
+    ensures failed { IfErr result (λ e. e ≡ Memory) }
+{
+    let put = those_that_may_be(alloc, view, found);
+    let vertices = matrix_of_rays(alloc, view.of(), &put.rays, view.cols())?;
+    let lineality = matrix_over_one(alloc, &put.lineality, view.cols())?;
+    put_value(draft, PropId::Vertices, Value::Mat(vertices))?;
+    put_value(draft, PropId::LinealitySpace, Value::Mat(lineality))?;
+    Ok(())
+}

@@ -1,0 +1,84 @@
+// Generators as values: the rays of a polytope divided by their first coordinate, where that is not 0.
+
+ghost use Rattle.pm_algebra.specs.Numbers.{InRange};
+ghost use Rattle.pm_algebra.specs.Rows.{HasCols, entry};
+ghost use Rattle.pm_client.specs.declared.ClientFail.TheVariants.{Memory};
+ghost use Rattle.pm_clients_geom.specs.Matrices.{MayBeLines, MayBeRays, as_put};
+ghost use Rattle.pm_clients_geom.specs.Rays.{ArePutRays, IsOverFirst, IsPutRay};
+ghost use Rattle.std.specs.Prelude.{All, IfErr, IfOk, IsTrue, OnOk, length, pos, ◌<ℤ◌, ◌<◌, ◌≡◌, ◌≤ℤ◌, ◌↔◌};
+
+use crate::rows::row_over_one;
+use pm_client::ClientFail;
+use pm_fraction::Fraction;
+use pm_matrix::{Matrix, MatrixFail};
+use pm_types::ObjectType;
+use pm_vector::Ints;
+use std::alloc::Global;
+
+/// Whether rows may be rays of a thing of that type.
+pub(crate) fn may_be_rays(of: ObjectType, rows: &[Ints]) -> bool
+    requires { All (λ x. 0 < length x) rows.now }
+    ensures { IsTrue result ↔ MayBeRays of rows.now }
+{
+    of != ObjectType::Polytope || rows.iter().all(|row| row.get(0) >= 0)
+}
+
+// A row of whole numbers divided by its first entry, in lowest terms. Want of memory alone ends it.
+fn row_over_first(alloc: Global, row: &Ints) -> Result<Vec<Fraction>, ClientFail>
+    requires some { 0 < length row.now }
+    requires first { pos 0 <ℤ entry row.now 0 }
+    ensures value { IfOk result (λ v. IsOverFirst row.now v.items) }
+    ensures in_range { All InRange row.now }
+    ensures failed { IfErr result (λ e. e ≡ Memory) }
+{
+    let mut fractions = Vec::new(alloc);
+    let first = row.get(0);
+    let entries = row.as_slice();
+    for x in entries {
+        let Ok(fraction) = Fraction::new(*x, first) else {
+            unreachable!()
+        };
+        fractions.push(fraction)?;
+    }
+    Ok(fractions)
+}
+
+// A ray as a row of fractions. Want of memory alone ends it.
+fn ray_row(alloc: Global, of: ObjectType, row: &Ints) -> Result<Vec<Fraction>, ClientFail>
+    requires some { 0 < length row.now }
+    requires first { of ≡ ObjectType.Polytope → pos 0 ≤ℤ entry row.now 0 }
+    ensures value { IfOk result (λ v. IsPutRay of v.items row.now) }
+    ensures failed { IfErr result (λ e. e ≡ Memory) }
+{
+    if of == ObjectType::Polytope && row.get(0) != 0 {
+        row_over_first(alloc, row)
+    } else {
+        row_over_one(alloc, row)
+    }
+}
+
+/// Rays as a matrix of fractions; without rows it states no column count. Want of memory alone ends it.
+pub(crate) fn matrix_of_rays(
+    alloc: Global,
+    of: ObjectType,
+    rows: &[Ints],
+    cols: usize,
+) -> Result<Matrix, ClientFail>
+    requires some { 0 < cols }
+    requires cols { HasCols cols rows.now }
+    requires rays { MayBeRays of rows.now }
+    ensures stated { IfOk result (λ a. a ≡ as_put cols a.rows) }
+    ensures rows { IfOk result (λ a. ArePutRays of a.rows rows.now) }
+    ensures failed { IfErr result (λ e. e ≡ Memory) }
+{
+    let mut matrix = Matrix::new(alloc, if rows.is_empty() { 0 } else { cols });
+    for row in rows {
+        let fractions = ray_row(alloc, of, row)?;
+        match matrix.push_row(&fractions) {
+            Ok(()) => {}
+            Err(MatrixFail::Ragged) => unreachable!(),
+            Err(MatrixFail::Memory) => return Err(ClientFail::Memory),
+        }
+    }
+    Ok(matrix)
+}
