@@ -1,17 +1,17 @@
 -- The examples of what is eliminated hold.
-use Rattle.pm_algebra.proofs.ConeLaws.{in_line, in_line_times, in_same, none_to_zero}
+use Rattle.pm_algebra.proofs.ConeLaws.{in_line_times, none_to_zero}
 use Rattle.pm_algebra.proofs.Lists.{here}
 use Rattle.pm_algebra.specs.Cones.{InSpan}
-use Rattle.pm_algebra.specs.Rows.{Row, entry}
+use Rattle.pm_algebra.specs.Rows.{Row}
 use Rattle.pm_bases.specs.Bases.{row_at}
 use Rattle.pm_client.specs.Examples.{DoublesAreRead, no_rows, single}
-use Rattle.pm_client.specs.Sound.{AreEnlarging, AreParts, ArePartsOf, IsDoubleListOf, are_parts}
+use Rattle.pm_client.specs.Sound.{AreParts, ArePartsOf, IsDoubleListOf, are_parts}
 use Rattle.pm_dd.proofs.ZeroRows.{no_basis}
 use Rattle.pm_elim.specs.Enlarging.{MarkEnlarging}
 use Rattle.pm_geom.specs.StatedOrder.{rows_marked}
-use Rattle.pm_props.specs.declared.property.PropId.TheVariants.{AffineHull, Equations, Facets, Inequalities, InputLineality, LinealitySpace, Points, Vertices}
+use Rattle.pm_props.specs.declared.property.PropId.TheVariants.{AffineHull, Equations, Facets, Inequalities, InputLineality, LinealitySpace}
 use Rattle.pm_props.specs.declared.property.PropId.{PropId}
-use Rattle.std.proofs.Common.{ap, arith, false, inl, inr, refl, subst, suc, sym, true, true≢false, zero, ◌∙◌}
+use Rattle.std.proofs.Common.{ap, arith, false, refl, suc, sym, true, true≢false, zero, ◌∙◌}
 use Rattle.std.proofs.lemmas.Int.{ints}
 use Rattle.std.proofs.lemmas.List.{length-append}
 use Rattle.std.specs.Option.{is_some}

@@ -1,7 +1,7 @@
 -- Where an elimination of the row list, or double description of its two parts, was given up, so is the client, with evidence that holds of the view.
 use Rattle.pm_algebra.proofs.Lists.{Contains_among, here, there}
 use Rattle.pm_algebra.specs.Rows.{Row}
-use Rattle.pm_client.specs.Sound.{AreParts, Eliminated, FailsRightly, IsDoubleListOf, IsRowList, double_list, doubles, eliminated_by, enlarging_rows, fail_of, fail_of_double, first_part, row_list}
+use Rattle.pm_client.specs.Sound.{AreParts, FailsRightly, IsDoubleListOf, IsRowList, double_list, doubles, eliminated_by, enlarging_rows, fail_of, fail_of_double, first_part, row_list}
 use Rattle.pm_dd.specs.Refusals.{IsEliminationFail, IsShown, ShowsMany, ShowsWide}
 use Rattle.pm_dd.specs.declared.fails.DdFail.{DdFail}
 use Rattle.pm_dd.specs.declared.fails.DdFail.TheVariants as double
@@ -18,7 +18,7 @@ use Rattle.pm_props.specs.declared.kind.Kind.{Kind}
 use Rattle.pm_props.specs.declared.standard.StandardClient.{StandardClient}
 use Rattle.std.proofs.Common.{inl, inr, refl, subst, sym, true}
 use Rattle.std.specs.List.{Contains}
-use Rattle.std.specs.Prelude.{IsTrue, List, [], if◌then◌else◌, ◌∷◌, ◌≡◌}
+use Rattle.std.specs.Prelude.{IsTrue, List, [], ◌∷◌, ◌≡◌}
 
 -- the client takes the row list
 abbrev pub TakesRowList : ViewSeen → Type 0

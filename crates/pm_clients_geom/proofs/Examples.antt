@@ -12,7 +12,7 @@ use Rattle.pm_fraction.proofs.Quotients.{whole_reduced}
 use Rattle.pm_fraction.proofs.Reduced.{reduced_from}
 use Rattle.pm_fraction.specs.Fractions.{IsLowestTermsOf, ratio_of}
 use Rattle.pm_object.specs.Reading.{DraftSeen, Put}
-use Rattle.pm_props.specs.declared.property.PropId.TheVariants.{AffineHull, Equations, Facets, Inequalities}
+use Rattle.pm_props.specs.declared.property.PropId.TheVariants.{Equations, Inequalities}
 use Rattle.pm_types.specs.Views.{ratios}
 use Rattle.pm_props.specs.declared.object_type.ObjectType.TheVariants.{Polytope}
 use Rattle.pm_props.specs.declared.object_type.ObjectType.{ObjectType}

@@ -11,28 +11,27 @@ use Rattle.pm_client.proofs.FreshOrders.{fresh_facets, fresh_kind, fresh_rays}
 use Rattle.pm_client.proofs.Puts.{AreFormed, ArePut, AreRight, sound_alone, two_put}
 use Rattle.pm_client.proofs.ReadValues.{found, read_right}
 use Rattle.pm_client.proofs.ViewLaws.{has_listed, not_fan, target_named}
-use Rattle.pm_client.specs.Sound.{AreParts, ArePartsOf, IsSound, added_rows, are_parts}
+use Rattle.pm_client.specs.Sound.{AreParts, IsSound, added_rows, are_parts}
 use Rattle.pm_clients_geom.proofs.FoundDims.{pair_right}
 use Rattle.pm_clients_geom.proofs.PutMatrices.{hull_forms, lineality_forms, put_columned, put_states, ratios_columned, rows_columned}
 use Rattle.pm_clients_geom.proofs.PutRays.{primitive_not_zero, ray_form, ray_rows}
 use Rattle.pm_clients_geom.proofs.RowLists.{IsColumned}
-use Rattle.pm_clients_geom.specs.Hulls.{AreFewRows, ArePossible, ArePutGenerators, FindsFacets, MayGenerate}
+use Rattle.pm_clients_geom.specs.Hulls.{AreFewRows, ArePutGenerators, FindsFacets, MayGenerate}
 use Rattle.pm_clients_geom.specs.Lists.{ReadsParts}
 use Rattle.pm_clients_geom.specs.Matrices.{MayBeLines, MayBeRays, as_put, cols_over}
-use Rattle.pm_clients_geom.specs.Rays.{ArePutRays, IsPutRay}
+use Rattle.pm_clients_geom.specs.Rays.{ArePutRays}
 use Rattle.pm_elim.proofs.PrefixLaws.{at_most_columns}
-use Rattle.pm_geom.specs.Cones.{InLineality, IsExtreme, IsValid}
+use Rattle.pm_geom.specs.Cones.{IsExtreme, IsValid}
 use Rattle.pm_geom.specs.Generators.{AreGenerators}
 use Rattle.pm_geom.specs.Things.{Orders}
 use Rattle.pm_hull.specs.Hulls.{AreFacets, InConeOf, half_spaces_of}
 use Rattle.pm_dd.specs.Fronts.{HalfSpaces}
-use Rattle.pm_matrix.specs.FractionRows.{ArePrimitiveRowsOf}
 use Rattle.pm_matrix.specs.Matrices.{FractionMatrix, IsFraction}
-use Rattle.pm_object.specs.Reading.{DraftSeen, IsView, Put, ViewSeen, fact_of}
+use Rattle.pm_object.specs.Reading.{DraftSeen, IsView, Put, ViewSeen}
 use Rattle.pm_props.specs.Kinds.{IsFresh}
 use Rattle.pm_props.specs.Places.{place_of}
 use Rattle.pm_props.specs.Properties.{facets_tag, is_generator, rays_tag}
-use Rattle.pm_props.specs.Sets.{has, set_of}
+use Rattle.pm_props.specs.Sets.{set_of}
 use Rattle.pm_props.specs.declared.object_type.ObjectType.TheVariants.{Cone, Fan, Polytope}
 use Rattle.pm_props.specs.declared.object_type.ObjectType.{ObjectType}
 use Rattle.pm_props.specs.declared.property.PropId.TheVariants.{AffineHull, Equations, Facets, Inequalities, InputLineality, LinealitySpace, Points, Vertices}
@@ -42,17 +41,16 @@ use Rattle.pm_relations.proofs.PrimitiveStanding.{primitive_stand}
 use Rattle.pm_types.specs.Canonical.{EachIs, IsCanonical, IsRayRow}
 use Rattle.pm_types.specs.Forms.{FormsIn, HasPrimitiveRow, is_row, is_row_of_entries}
 use Rattle.pm_types.specs.Right.{InSet, PairCutsOut, Right, RightAll, RightPair, objective_of}
-use Rattle.pm_types.specs.Runs.{Meets}
 use Rattle.pm_types.specs.Things.{IsOfType, IsThing, Thing}
 use Rattle.pm_types.specs.Values.{matrix}
 use Rattle.pm_types.specs.Views.{ratios}
-use Rattle.std.proofs.Common.{ap, arith, eqb, false, inl, inr, refl, subst, suc, sym, true, true≢false, ◌∙◌}
+use Rattle.std.proofs.Common.{ap, arith, inl, inr, refl, subst, suc, sym, true, true≢false, ◌∙◌}
 use Rattle.std.proofs.lemmas.Bool.{eq-eqb, leb-true}
 use Rattle.std.proofs.lemmas.Int.{ints}
-use Rattle.std.proofs.lemmas.List.{append-nil, length-map}
+use Rattle.std.proofs.lemmas.List.{append-nil}
 use Rattle.std.proofs.lemmas.List.Elements.{All-cons, All-nil}
 use Rattle.std.specs.List.{All, list_all}
-use Rattle.std.specs.Prelude.{Bool, IsTrue, List, Some, [], length, map, not, ℕ, ◌++◌, ◌<◌, ◌↔◌, ◌∷◌, ◌≡◌, ◌≤◌, ◌⊎◌}
+use Rattle.std.specs.Prelude.{IsTrue, List, [], length, map, not, ℕ, ◌++◌, ◌↔◌, ◌∷◌, ◌≡◌, ◌≤◌}
 use lib.IntN.{neg_ℤ, pos, ℤ}
 use lib.Signed.{◌≤ℤ◌}
 

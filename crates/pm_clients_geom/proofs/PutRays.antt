@@ -3,12 +3,12 @@ use Rattle.pm_algebra.proofs.Ring.{ring}
 use Rattle.pm_algebra.proofs.Signs.{mul_cancel, pos_cancel}
 use Rattle.pm_algebra.specs.Divisors.{IsPrimitive}
 use Rattle.pm_algebra.specs.Numbers.{InRange, InRangeRatio, IsReduced, Ratio}
-use Rattle.pm_algebra.specs.Rows.{HasCols, Row, Stands, entry, ratio_at, times}
-use Rattle.pm_algebra.proofs.RowLaws.{entry-times, length-times}
+use Rattle.pm_algebra.specs.Rows.{HasCols, Row, Stands, entry, ratio_at}
+use Rattle.pm_algebra.proofs.RowLaws.{entry-times}
 use Rattle.pm_clients_geom.proofs.OverOne.{taken_more}
 use Rattle.pm_clients_geom.specs.Matrices.{MayBeRays, as_put, cols_over}
 use Rattle.pm_clients_geom.specs.Rays.{ArePutRays, IsOverFirst, IsPutRay}
-use Rattle.pm_fraction.proofs.Bezout.{Bezout, divides_product, quotient_of}
+use Rattle.pm_fraction.proofs.Bezout.{divides_product, quotient_of}
 use Rattle.pm_fraction.proofs.Quotients.{whole_reduced}
 use Rattle.pm_fraction.proofs.Reduced.{bezout_of, same_reduced}
 use Rattle.pm_fraction.specs.declared.error.NumError.TheVariants.{Wide, ZeroDenominator}
@@ -21,8 +21,8 @@ use Rattle.pm_props.specs.declared.object_type.ObjectType.{ObjectType}
 use Rattle.pm_props.specs.declared.property.PropId.TheVariants.{Vertices}
 use Rattle.pm_relations.proofs.Standing.{length_ratios, stands_ratios}
 use Rattle.pm_relations.proofs.WholeRows.{ratios_fractions, ratios_primitive}
-use Rattle.pm_types.specs.Canonical.{EachIs, IsDivided, IsRayRow}
-use Rattle.pm_types.specs.Forms.{HasPrimitiveRow, first_is_below, is_nought, is_row, is_zero_row}
+use Rattle.pm_types.specs.Canonical.{EachIs, IsRayRow}
+use Rattle.pm_types.specs.Forms.{HasPrimitiveRow, first_is_below, is_row, is_zero_row}
 use Rattle.pm_types.specs.Things.{Thing}
 use Rattle.pm_types.specs.Views.{over_one, ratios}
 use Rattle.std.proofs.Common.{ap, arith, below_more, false, get_or, inl, inr, map, refl, subst, suc, sym, take, true, true≢false, zero, ◌∙◌}
@@ -31,8 +31,8 @@ use Rattle.std.proofs.lemmas.List.{get_or_append_left, get_or_default, get_or_pu
 use Rattle.std.proofs.lemmas.List.Elements.{All-from_recursion}
 use Rattle.std.proofs.lemmas.Nat.Gcd.{dvd_refl}
 use Rattle.std.specs.Int.{◌∣◌}
-use Rattle.std.specs.List.{All, list_all}
-use Rattle.std.specs.Prelude.{Bool, List, [], length, not, unsigned_abs, ℕ, ◌*◌, ◌+◌, ◌/◌, ◌&&◌, ◌++◌, ◌<◌, ◌^◌, ◌∷◌, ◌≡◌, ◌≤◌, ◌⊎◌}
+use Rattle.std.specs.List.{All}
+use Rattle.std.specs.Prelude.{Bool, List, [], length, unsigned_abs, ℕ, ◌*◌, ◌+◌, ◌/◌, ◌++◌, ◌<◌, ◌^◌, ◌∷◌, ◌≡◌, ◌≤◌, ◌⊎◌}
 use lib.IntN.{negsuc, pos, ℤ, ◌*ℤ◌, ◌+ℤ◌}
 use lib.Signed.{◌<ℤ◌, ◌≤ℤ◌}
 use native.Mathlib.Nat.{le_of_dvd, mul-div_cancel'}

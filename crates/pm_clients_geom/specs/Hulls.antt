@@ -4,7 +4,7 @@ use Rattle.pm_algebra.specs.Rows.{HasCols, Row}
 use Rattle.pm_client.specs.Sound.{are_parts, doubles}
 use Rattle.pm_clients_geom.specs.Matrices.{MayBeLines, MayBeRays, cols_over}
 use Rattle.pm_clients_geom.specs.Rays.{ArePutRays}
-use Rattle.pm_object.specs.Reading.{DraftSeen, Put, ViewSeen}
+use Rattle.pm_object.specs.Reading.{DraftSeen, ViewSeen}
 use Rattle.pm_props.specs.declared.kind.Kind.{Kind}
 use Rattle.pm_props.specs.declared.object_type.ObjectType.{ObjectType}
 use Rattle.pm_props.specs.declared.property.PropId.{PropId}

@@ -91,7 +91,8 @@ fn read_parts(
 ) -> Result<Parts, ClientFail>
     requires sources { view.now.kind.sources ≡ set_of (second ∷ first ∷ []) }
     requires parts { IsTrue (are_parts first second) }
-    ensures read { IfOk result (λ p. ReadsParts view.now first second p.first.items p.second.items) }
+    ensures read { IfOk result (λ p. ReadsParts view.now first second
+        p.first.items p.second.items) }
     ensures first_few { IfOk result (λ p. AreFewRows view.now.cols p.first.items) }
     ensures second_few { IfOk result (λ p. AreFewRows view.now.cols p.second.items) }
     ensures failed { IfErr result (λ e. e ≡ Memory) }
@@ -167,7 +168,8 @@ fn dd_vertices_f(alloc: Global, view: &View, draft: &mut Draft) -> Result<(), Cl
 fn those_that_may_be(alloc: Global, view: &View, found: Generators) -> Generators
     requires rays { AreFewRows view.now.cols found.rays.items }
     requires lines { AreFewRows view.now.cols found.lineality.items }
-    ensures { ArePossible view.now found.rays.items found.lineality.items result.rays.items result.lineality.items }
+    ensures { ArePossible view.now found.rays.items found.lineality.items
+        result.rays.items result.lineality.items }
 {
     if may_be_rays(view.of(), &found.rays) && may_be_lines(view.of(), &found.lineality) {
         found
@@ -188,10 +190,12 @@ fn put_generators(
 ) -> Result<(), ClientFail>
     requires rays { AreFewRows view.now.cols found.rays.items }
     requires lines { AreFewRows view.now.cols found.lineality.items }
-    requires targets { view.now.kind.targets ≡ set_of (property.Vertices ∷ property.LinealitySpace ∷ []) }
+    requires targets { view.now.kind.targets
+        ≡ set_of (property.Vertices ∷ property.LinealitySpace ∷ []) }
     requires empty { draft.old ≡ record { kind = view.now.kind; values = [] } }
     ensures draft { draft.new.kind ≡ draft.old.kind }
-    ensures put { OnOk result (ArePutGenerators view.now found.rays.items found.lineality.items draft.new) }
+    ensures put { OnOk result (ArePutGenerators view.now found.rays.items
+        found.lineality.items draft.new) }
     ensures failed { IfErr result (λ e. e ≡ Memory) }
 {
     let put = those_that_may_be(alloc, view, found);

@@ -242,11 +242,11 @@ fn standard_answer(
 fn the_standard_book(rt: HostRuntime) {
     let held = [PropId::Vertices, PropId::Facets];
     let answer = standard_answer(&rt, names_of_cones(), &held, PropId::VerticesInFacets);
-    assert!(rt; is_planned(answer, &[RuleId(12)], minor(5), 1));
+    assert!(rt; is_planned(answer, &[RuleId(16)], minor(5), 1));
 }
 
 // The rules `cone_dim_v` and `lineality_dim`, in either order before `combinatorial_dim`.
-const DIMENSIONS: &[RuleId] = &[RuleId(4), RuleId(7), RuleId(8)];
+const DIMENSIONS: &[RuleId] = &[RuleId(8), RuleId(11), RuleId(12)];
 
 // The dimension of a polytope from its vertices. Below 6 there are CONE_DIM, LINEALITY_DIM, both, AFFINE_HULL, and
 // POINTS with INPUT_LINEALITY.

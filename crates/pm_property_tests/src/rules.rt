@@ -189,7 +189,11 @@ fn classes_are_read_and_printed(rt: HostRuntime) {
 }
 
 const STANDARD_BOOK: &str =
-    "points_from_vertices : rule POINTS, INPUT_LINEALITY : VERTICES, LINEALITY_SPACE { points_from_vertices } weight 5;\n\
+    "dd_vertices : rule VERTICES, LINEALITY_SPACE : INEQUALITIES, EQUATIONS { dd_vertices } weight 40;\n\
+    dd_facets : rule FACETS, AFFINE_HULL : POINTS, INPUT_LINEALITY { dd_facets } weight 40;\n\
+    dd_facets_v : rule FACETS, AFFINE_HULL : VERTICES, LINEALITY_SPACE { dd_facets_v } weight 30;\n\
+    dd_vertices_f : rule VERTICES, LINEALITY_SPACE : FACETS, AFFINE_HULL { dd_vertices_f } weight 30;\n\
+    points_from_vertices : rule POINTS, INPUT_LINEALITY : VERTICES, LINEALITY_SPACE { points_from_vertices } weight 5;\n\
     inequalities_from_facets : rule INEQUALITIES, EQUATIONS : FACETS, AFFINE_HULL { inequalities_from_facets } weight 5;\n\
     lineality_from_facets : rule LINEALITY_SPACE : FACETS, AFFINE_HULL { lineality_from_facets } weight 5;\n\
     hull_from_vertices : rule AFFINE_HULL : VERTICES, LINEALITY_SPACE { hull_from_vertices } weight 5;\n\
@@ -219,7 +223,7 @@ fn the_standard_book_is_read_back(rt: HostRuntime) {
 }
 
 // The rule for incidences, and properties of a cone with both descriptions.
-const INCIDENCE: RuleId = RuleId(12);
+const INCIDENCE: RuleId = RuleId(16);
 
 const BOTH: &[PropId] = &[PropId::Vertices, PropId::Facets];
 

@@ -5,14 +5,14 @@ use Rattle.pm_algebra.proofs.RowLaws.{dot-same, dot-times, dot_comm, entry-oppos
 use Rattle.pm_algebra.proofs.Signs.{mul_nonneg, nonneg_cancel, weaken}
 use Rattle.pm_algebra.specs.Cones.{InCone, InSpan}
 use Rattle.pm_algebra.specs.Numbers.{Ratio}
-use Rattle.pm_algebra.specs.Rows.{HasCols, IsZero, Row, Stands, dot, entry, times}
+use Rattle.pm_algebra.specs.Rows.{HasCols, IsZero, Row, Stands, dot, times}
 use Rattle.pm_bases.proofs.Columns.{basis_is_independent}
 use Rattle.pm_dd.proofs.MixedLaws.{generators_as}
 use Rattle.pm_dd.proofs.ZeroRows.{dot_zero}
 use Rattle.pm_dd.specs.Fronts.{HalfSpaces}
 use Rattle.pm_geom.proofs.Facets.{vanishes_line}
 use Rattle.pm_geom.proofs.Polar.{cut_at, cut_from}
-use Rattle.pm_geom.specs.Cones.{CutOut, InLineality, IsExtreme, IsOrder, IsValid, SameModulo, Vanishes}
+use Rattle.pm_geom.specs.Cones.{InLineality, IsExtreme, IsOrder, IsValid, SameModulo}
 use Rattle.pm_geom.specs.Generators.{AreGenerators, IsLinealityBasis}
 use Rattle.pm_geom.specs.Things.{Orders}
 use Rattle.pm_hull.specs.Hulls.{InConeOf}
@@ -26,16 +26,15 @@ use Rattle.pm_relations.proofs.Standing.{same_direction, stand_for_ratios, zero_
 use Rattle.pm_relations.proofs.StandingSpans.{stand_for_span}
 use Rattle.pm_relations.proofs.Twins.{facet_rows_cut_out, orders_of, vertices_generate}
 use Rattle.pm_types.specs.Canonical.{EachIs, IsCanonical, IsEchelonBasisOf, IsRayRow, Vanishing}
-use Rattle.pm_types.specs.Right.{CutsOutOf, InLines, InLinesOf, InOrder, InSet, IsBasis, PairCutsOut, PairGenerates, Right, SameFacet, SameRay, SameRayOf, Solves, StandFor, empty, proper}
+use Rattle.pm_types.specs.Right.{CutsOutOf, InLines, InLinesOf, InOrder, InSet, PairCutsOut, PairGenerates, Right, SameFacet, SameRay, SameRayOf, Solves, StandFor, empty, proper}
 use Rattle.pm_types.specs.Things.{AreOrders, AreOrdersOf, IsThing, Thing}
 use Rattle.pm_types.specs.Values.{matrix}
 use Rattle.pm_types.specs.Views.{ratios}
-use Rattle.std.proofs.Common.{arith, inl, inr, refl, subst, sym, ◌∙◌}
+use Rattle.std.proofs.Common.{arith, inl, inr, refl, subst, ◌∙◌}
 use Rattle.std.proofs.lemmas.Int.{ints}
-use Rattle.std.specs.List.{All, AllByRecursion}
-use Rattle.std.specs.Prelude.{List, [], length, map, ℕ, ◌++◌, ◌↔◌, ◌∷◌, ◌≡◌}
-use lib.IntN.{pos, ℤ, ◌*ℤ◌}
-use lib.Signed.{◌<ℤ◌, ◌≤ℤ◌}
+use Rattle.std.specs.Prelude.{List, [], length, map, ℕ, ◌↔◌, ◌∷◌, ◌≡◌}
+use lib.IntN.{pos, ◌*ℤ◌}
+use lib.Signed.{◌≤ℤ◌}
 
 -- ---- rows that stand for the same rows of fractions
 -- what goes over from one row to another that stands for the same goes over from list to list

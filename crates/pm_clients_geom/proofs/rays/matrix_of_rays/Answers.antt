@@ -1,4 +1,4 @@
-use Rattle.pm_clients_geom.proofs.PutRays.{rays_more, rays_stated, row_before, row_cols, row_some}
+use Rattle.pm_clients_geom.proofs.PutRays.{rays_more, rays_stated, row_before, row_some}
 use Rattle.pm_clients_geom.proofs.rays.matrix_of_rays.Goals as goal
 use Rattle.pm_clients_geom.specs.Rays.{ArePutRays}
 use Rattle.std.proofs.Common.{ap, subst, ◌∙◌}

@@ -1,9 +1,8 @@
 use Rattle.pm_algebra.specs.Rows.{entry}
 use Rattle.pm_clients_geom.proofs.PutRays.{makes_fraction, over_all, over_more}
 use Rattle.pm_clients_geom.proofs.rays.row_over_first.Goals as goal
-use Rattle.pm_fraction.specs.Fractions.{IsLowestTermsOf, ratio_of}
 use Rattle.pm_vector.proofs.Kept.{kept}
-use Rattle.std.proofs.Common.{Err, ap, pos, subst, ◌∙◌}
+use Rattle.std.proofs.Common.{Err, ap, pos, ◌∙◌}
 use Rattle.std.proofs.lemmas.Result.{IfOk-from_err}
 
 pub unreachable-requires : goal.unreachable-requires
