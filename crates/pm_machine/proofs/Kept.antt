@@ -5,18 +5,18 @@ use Rattle.pm_machine.specs.declared.round.Ending.{Ending}
 use Rattle.pm_machine.specs.declared.round.Ending.TheVariants as ending
 use Rattle.pm_machine.specs.Events.{Configuration, Ensured, at_rest, configuration, unsettled}
 use Rattle.pm_machine.specs.Parts.{AllHonest, GaveInPart, StepInPart}
-use Rattle.pm_machine.specs.Steps.{AllKept, Becomes, Given, GiveStep, LookupStep, Machine, NewStep, Stays, Step, TakeStep, TakeValue, given_value, object_at, whole_of, no_json, faulty, value}
+use Rattle.pm_machine.specs.Steps.{AllKept, Becomes, DisableStep, Given, GiveStep, LookupStep, Machine, NewStep, Stays, Step, TakeStep, TakeValue, UnloadStep, disabling, given_value, object_at, whole_of, no_json, faulty, value}
 use Rattle.pm_object.proofs.Formed.{only}
-use Rattle.pm_object.proofs.Honesty.{empty_is_kept, given_is_kept}
+use Rattle.pm_object.proofs.Honesty.{empty_is_kept, given_is_kept, honesty_is_of_values}
 use Rattle.pm_object.specs.Honest.{IsHonest, IsKept}
-use Rattle.pm_object.specs.State.{HeldValue, State, is_held, is_sealed, read_at, take_refusal}
+use Rattle.pm_object.specs.State.{HeldValue, State, is_disabled, is_held, is_sealed, read_at, take_refusal, with_disabled}
 use Rattle.pm_object.specs.declared.held.Origin.TheVariants.{Given as Given'}
 use Rattle.pm_object.specs.declared.held.TakeFail.{TakeFail}
 use Rattle.pm_object.specs.declared.held.TakeFail.TheVariants as fail
 use Rattle.pm_rules.specs.declared.rule.Rule.{Rule}
-use Rattle.pm_script.specs.Commands.{RefSeen, Spoken, blank, new_object, take_value, give_value, look_up}
+use Rattle.pm_script.specs.Commands.{RefSeen, Spoken, blank, new_object, take_value, give_value, look_up, disable_rule, unload_client}
 use Rattle.pm_script.specs.Replies.{ReplySeen, done, shows, undef, refused}
-use Rattle.pm_script.specs.declared.refusal.Refusal.TheVariants.{UnknownName, NameTaken, UnknownType, UnknownProperty, BadValue, AlreadyHeld, Sealed, ObjectsFull, NoChain, Crowded}
+use Rattle.pm_script.specs.declared.refusal.Refusal.TheVariants.{UnknownName, NameTaken, UnknownType, UnknownProperty, BadValue, AlreadyHeld, Sealed, ObjectsFull, NoChain, Crowded, UnknownRule}
 use Rattle.pm_props.specs.Sets.{only as only_property}
 use Rattle.pm_types.specs.Values.{PropertyValue}
 use Rattle.pm_props.specs.declared.property.PropId.{PropId}
@@ -130,12 +130,33 @@ lookup_keeps old new ref text undef (o, at, p, named, none, s) all = stays_kept 
 lookup_keeps old new ref text (shows name of p v) (o, at, named, n, t, is, s) all = stays_kept old new s all
 lookup_keeps old new ref text reply h all = absurd h
 
+disabled_kept : (o : State) (label : List ℕ) → IsKept o → IsKept (disabling o label)
+disabled_kept o label kept = by (is_disabled label o.disabled)
+  where
+    by : (t : Bool) → IsKept (if t then o else with_disabled o label)
+    by true = kept
+    by false = record { honest = honesty_is_of_values o (with_disabled o label) refl refl kept.honest; given = kept.given }
+
+disable_keeps : (book : List Rule) (old new : Machine) (name label : List ℕ) (reply : ReplySeen) → DisableStep book old name label reply new → AllKept old → AllKept new
+disable_keeps book old new name label (refused UnknownName) (h, s) all = stays_kept old new s all
+disable_keeps book old new name label (refused UnknownRule) (h, k, s) all = stays_kept old new s all
+disable_keeps book old new name label done (o, at, known, becomes) all =
+    becomes_kept name _ old new becomes (disabled_kept o label (subst (λ z. IfSome z IsKept) at (all.each name))) all
+disable_keeps book old new name label reply h all = absurd h
+
+unload_keeps : (old new : Machine) (name : List ℕ) (reply : ReplySeen) → UnloadStep old name reply new → AllKept old → AllKept new
+unload_keeps old new name (refused UnknownRule) (h, s) all = stays_kept old new s all
+unload_keeps old new name done (h, u) all = record { each = λ q. subst (λ z. IfSome z IsKept) (sym (u.objects q)) (all.each q) }
+unload_keeps old new name reply h all = absurd h
+
 pub steps_keep : (book : List Rule) (old new : Machine) (command : Spoken) (reply : ReplySeen) → Step book old command reply new → AllKept old → AllKept new
 steps_keep book old new blank reply h all = absurd h
 steps_keep book old new (new_object ref text) reply h all = new_keeps old new ref text reply h all
 steps_keep book old new (take_value ref text json) reply h all = take_keeps old new ref text json reply h all
 steps_keep book old new (give_value ref text) reply h all = give_keeps book old new ref text reply h all
 steps_keep book old new (look_up ref text) reply h all = lookup_keeps old new ref text reply h all
+steps_keep book old new (disable_rule name label) reply h all = disable_keeps book old new name label reply h all
+steps_keep book old new (unload_client name) reply h all = unload_keeps old new name reply h all
 
 -- ---- a step that was broken off
 honest_of : (x : Option State) → IfSome x IsKept → IfSome x IsHonest
@@ -164,3 +185,5 @@ steps_in_part_keep book old new blank s all = stays_honest old new s all
 steps_in_part_keep book old new (new_object ref text) s all = stays_honest old new s all
 steps_in_part_keep book old new (take_value ref text json) s all = stays_honest old new s all
 steps_in_part_keep book old new (look_up ref text) s all = stays_honest old new s all
+steps_in_part_keep book old new (disable_rule name label) s all = stays_honest old new s all
+steps_in_part_keep book old new (unload_client name) s all = stays_honest old new s all

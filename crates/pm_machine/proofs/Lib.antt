@@ -8,5 +8,6 @@ pub mod Turns
 pub mod Following
 pub mod Rounds
 pub mod Names
+pub mod Unloading
 pub mod Refused
 pub mod Examples

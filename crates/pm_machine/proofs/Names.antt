@@ -7,14 +7,14 @@ use Rattle.pm_machine.specs.declared.round.Ending.{Ending}
 use Rattle.pm_machine.specs.declared.round.Ending.TheVariants as ending
 use Rattle.pm_machine.specs.Parts.{AllHonest, StepInPart}
 use Rattle.pm_machine.specs.Sessions.{Gives, no_files}
-use Rattle.pm_machine.specs.Steps.{AllKept, Becomes, Gains, Given, GiveStep, Machine, Stays, Step, TakeStep, TakeValue, Taken, faulty, given_by, no_json, property_named, value, whole_of}
+use Rattle.pm_machine.specs.Steps.{AllKept, Becomes, DisableStep, Gains, Given, GiveStep, Machine, Stays, Step, TakeStep, TakeValue, Taken, disabling, faulty, given_by, has_label, no_json, property_named, value, whole_of}
 use Rattle.pm_object.proofs.Names.{names_held}
 use Rattle.pm_object.specs.State.{ObjectSeen, State, is_held, read_at, value_of}
 use Rattle.pm_rules.specs.declared.rule.Rule.{Rule}
-use Rattle.pm_script.specs.Commands.{RefSeen, Spoken, blank, new_object, take_value, give_value, look_up}
+use Rattle.pm_script.specs.Commands.{RefSeen, Spoken, blank, new_object, take_value, give_value, look_up, disable_rule, unload_client}
 use Rattle.pm_script.specs.Replies.{ReplySeen, done, refused, shows, undef}
 use Rattle.pm_script.specs.declared.refusal.Refusal.{Refusal}
-use Rattle.pm_script.specs.declared.refusal.Refusal.TheVariants.{BadCommand, UnknownName, NameTaken, UnknownType, UnknownProperty, BadValue, AlreadyHeld, Sealed, ObjectsFull, NoChain, Crowded}
+use Rattle.pm_script.specs.declared.refusal.Refusal.TheVariants.{BadCommand, UnknownName, NameTaken, UnknownType, UnknownProperty, BadValue, AlreadyHeld, Sealed, ObjectsFull, NoChain, Crowded, UnknownRule}
 use Rattle.pm_props.proofs.Members.{has-only}
 use Rattle.pm_props.specs.Properties.{number}
 use Rattle.pm_props.specs.Sets.{has, only}
@@ -152,6 +152,9 @@ not_taken o p NoChain (value v) e h = h
 not_taken o p Crowded no_json e h = h
 not_taken o p Crowded (faulty f) e h = h
 not_taken o p Crowded (value v) e h = h
+not_taken o p UnknownRule no_json e h = h
+not_taken o p UnknownRule (faulty f) e h = h
+not_taken o p UnknownRule (value v) e h = h
 
 -- ---- steps of the machine whose objects are given
 abbrev pub ref_with : List ℕ → Option (List ℕ) → RefSeen
@@ -200,6 +203,7 @@ module _ {ns ms : List (List ℕ)} {old new : List ℕ → Option State} {name :
         by ObjectsFull h = absurd (not_taken o p ObjectsFull (given_by p (read json)) refl h)
         by NoChain h = absurd (not_taken o p NoChain (given_by p (read json)) refl h)
         by Crowded h = absurd (not_taken o p Crowded (given_by p (read json)) refl h)
+        by UnknownRule h = absurd (not_taken o p UnknownRule (given_by p (read json)) refl h)
 
     pub take_done : (clients : Clients) (json : List ℕ) (p : PropId) → property_named o.of text ≡ Some p → Taken o p (given_by p (read json)) None o'
         → TakeStep (machine_with ns old clients) (ref_with name sub) text json done (machine_with ms new clients)
@@ -244,6 +248,7 @@ module _ {ns ms : List (List ℕ)} {old new : List ℕ → Option State} {name :
         by (refused AlreadyHeld) e = absurd e
         by (refused Sealed) e = absurd e
         by (refused ObjectsFull) e = absurd e
+        by (refused UnknownRule) e = absurd e
 
     pub gave_in_part : {T E : Type 0} (r : Result T E) (book : List Rule) (clients after : Clients) (p : PropId) → property_named o.of text ≡ Some p
         → OnErr r (EnsuredInPart book None (only p) (configuration o clients) (configuration o' after))
@@ -251,6 +256,16 @@ module _ {ns ms : List (List ℕ)} {old new : List ℕ → Option State} {name :
     gave_in_part (Ok x) book clients after p named e = tt
     gave_in_part (Err x) book clients after p named e =
         inr (record { object = o; named = at; property = p; is_property = named; now = configuration o' after; ensured = e; becomes = becomes clients after })
+
+-- ---- a label that is disabled
+module _ {ns ms : List (List ℕ)} {old new : List ℕ → Option State} {name : List ℕ} {o o' : State} (w : IsWritten ns ms old new name o o') where
+  pub disable_unknown : (clients : Clients) (book : List Rule) (label : List ℕ) → has_label label book ≡ false → o' ≡ o
+      → DisableStep book (machine_with ns old clients) name label (refused UnknownRule) (machine_with ms new clients)
+  disable_unknown clients book label none same = (λ e. true≢false (ap is_some (sym w.was ∙ e)), none, stays_with w clients same)
+
+  pub disable_done : (clients : Clients) (book : List Rule) (label : List ℕ) → has_label label book ≡ true → o' ≡ disabling o label
+      → DisableStep book (machine_with ns old clients) name label done (machine_with ms new clients)
+  disable_done clients book label known same = (o, w.was, known, record { names = w.names; object = w.is ∙ ap Some same; others = w.others; clients = refl; store = refl })
 
 -- ---- what is ensured is shown
 pub gives_shown : {F E : Type 0} (view : F → ReplySeen) (r : Result F E) (book : List Rule) (old new : Configuration) (name : List ℕ) (p : PropId) (asked : PropSet) (of : ObjectType) (v : PropertyValue)
@@ -289,6 +304,8 @@ stays_in_part book old new blank s = s
 stays_in_part book old new (new_object ref text) s = s
 stays_in_part book old new (take_value ref text json) s = s
 stays_in_part book old new (look_up ref text) s = s
+stays_in_part book old new (disable_rule name label) s = s
+stays_in_part book old new (unload_client name) s = s
 
 pub kept_if_ok : {E F : Type 0} (view : F → ReplySeen) (book : List Rule) (old new : Machine) (command : Spoken) (r : Result F E)
     → IfOk r (λ x. Step book old command (view x) new) → OnOk r (AllKept old → AllKept new)

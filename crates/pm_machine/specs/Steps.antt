@@ -1,6 +1,7 @@
 -- The machine: what each command may answer, and what it changes. Each refusal comes exactly where its line says, and the lines of one command exclude each other.
-use Rattle.std.specs.Prelude.{ℕ, ◌≡◌, ◌≢◌, true, false, ◌++◌, ◌<◌, ◌≤◌, List, [], ◌∷◌, length, Option, Some, None, option_and_then, IfSome, if◌then◌else◌, codes}
+use Rattle.std.specs.Prelude.{ℕ, ◌≡◌, ◌≢◌, Bool, true, false, ◌++◌, ◌<◌, ◌≤◌, List, [], ◌∷◌, length, Option, Some, None, option_and_then, IfSome, if◌then◌else◌, codes}
 use Rattle.std.specs.Prelude.{Result, Ok, Err}
+use Rattle.std.specs.List.{list_any}
 use Rattle.std.specs.Str.{bytes_eq}
 use Rattle.serde_json.specs.Data.{Data}
 use Rattle.serde_json.specs.Read.{read}
@@ -13,14 +14,14 @@ use Rattle.pm_json.specs.declared.fail.ValueFail.TheVariants as fault
 use Rattle.pm_machine.specs.Events.{Configuration, Ensured, configuration}
 use Rattle.pm_machine.specs.declared.round.Ending.TheVariants as ending
 use Rattle.pm_object.specs.Honest.{IsKept}
-use Rattle.pm_object.specs.State.{CanTake, CannotTake, HeldValue, State, empty_object, is_held, is_sealed, read_at, value_of, with_held}
+use Rattle.pm_object.specs.State.{CanTake, CannotTake, HeldValue, State, empty_object, is_disabled, is_held, is_sealed, read_at, value_of, with_disabled, with_held}
 use Rattle.pm_object.specs.declared.held.Origin.TheVariants.{Given as Given'}
 use Rattle.pm_object.specs.declared.held.TakeFail.TheVariants as fail
 use Rattle.pm_rules.specs.declared.rule.Rule.{Rule}
-use Rattle.pm_script.specs.Commands.{RefSeen, Spoken, blank, new_object, take_value, give_value, look_up}
+use Rattle.pm_script.specs.Commands.{RefSeen, Spoken, blank, new_object, take_value, give_value, look_up, disable_rule, unload_client}
 use Rattle.pm_script.specs.Replies.{ReplySeen, done, shows, undef, refused}
 use Rattle.pm_script.specs.declared.refusal.Refusal.{Refusal}
-use Rattle.pm_script.specs.declared.refusal.Refusal.TheVariants.{UnknownName, NameTaken, UnknownType, UnknownProperty, BadValue, AlreadyHeld, Sealed, ObjectsFull, NoChain, Crowded}
+use Rattle.pm_script.specs.declared.refusal.Refusal.TheVariants.{UnknownName, NameTaken, UnknownType, UnknownProperty, BadValue, AlreadyHeld, Sealed, ObjectsFull, NoChain, Crowded, UnknownRule}
 use Rattle.pm_script.specs.declared.refusal.ValueWhy.{ValueWhy}
 use Rattle.pm_script.specs.declared.refusal.ValueWhy.TheVariants as value_why
 use Rattle.pm_props.specs.Properties.{is_built}
@@ -184,6 +185,43 @@ LookupStep old ref text (shows name of p v) new = (o : State) × (object_at old 
     × (value_of p (read_at None o.held) ≡ Some v) × Stays old new
 LookupStep old ref text reply new = ⊥
 
+-- some rule of the book has the label
+abbrev pub has_label : List ℕ → List Rule → Bool
+has_label label book = list_any (λ rule. bytes_eq rule.label label) book
+
+-- the object where the label is disabled, once
+abbrev pub disabling : State → List ℕ → State
+disabling o label = if is_disabled label o.disabled then o else with_disabled o label
+
+-- `disable NAME LABEL`
+abbrev pub DisableStep : List Rule → Machine → List ℕ → List ℕ → ReplySeen → Machine → Type 0
+DisableStep book old name label (refused UnknownName) new = (old.object name ≡ None) × Stays old new
+DisableStep book old name label (refused UnknownRule) new = (old.object name ≢ None) × (has_label label book ≡ false) × Stays old new
+DisableStep book old name label done new = (o : State) × (old.object name ≡ Some o) × (has_label label book ≡ true) × Becomes name (configuration (disabling o label) old.clients) old new
+DisableStep book old name label reply new = ⊥
+
+-- some client has the name
+abbrev pub is_client : List ℕ → Clients → Bool
+is_client name clients = list_any (λ c. bytes_eq c.0.name name) clients
+
+-- the clients without the first of the name
+abbrev pub without_client : List ℕ → Clients → Clients
+without_client name [] = []
+without_client name (c ∷ clients) = if bytes_eq c.0.name name then clients else c ∷ without_client name clients
+
+-- the first client of the name goes; all else stays
+pub record Unloads (name : List ℕ) (old new : Machine) : Type 0 where
+  pub names : new.names ≡ old.names
+  pub objects : (q : List ℕ) → new.object q ≡ old.object q
+  pub clients : new.clients ≡ without_client name old.clients
+  pub store : new.store ≡ old.store
+
+-- `unload CLIENT`
+abbrev pub UnloadStep : Machine → List ℕ → ReplySeen → Machine → Type 0
+UnloadStep old name (refused UnknownRule) new = (is_client name old.clients ≡ false) × Stays old new
+UnloadStep old name done new = (is_client name old.clients ≡ true) × Unloads name old new
+UnloadStep old name reply new = ⊥
+
 -- from the machine old the reply to the command may be given, and it goes on as new
 abbrev pub Step : List Rule → Machine → Spoken → ReplySeen → Machine → Type 0
 Step book old blank reply new = ⊥
@@ -191,6 +229,8 @@ Step book old (new_object ref text) reply new = NewStep old ref text reply new
 Step book old (take_value ref text json) reply new = TakeStep old ref text json reply new
 Step book old (give_value ref text) reply new = GiveStep book old ref text reply new
 Step book old (look_up ref text) reply new = LookupStep old ref text reply new
+Step book old (disable_rule name label) reply new = DisableStep book old name label reply new
+Step book old (unload_client name) reply new = UnloadStep old name reply new
 
 -- each object is honest, and while it has no round each of its values was given
 pub record AllKept (m : Machine) : Type 0 where

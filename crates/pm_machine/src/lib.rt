@@ -4,6 +4,7 @@
 mod chain;
 mod commit;
 mod laws;
+mod naming;
 mod round;
 mod session;
 mod taking;

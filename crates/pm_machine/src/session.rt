@@ -3,7 +3,7 @@
 ghost use Rattle.pm_machine.specs.Events.{EnsuredInPart, configuration};
 ghost use Rattle.pm_machine.specs.Parts.{AllHonest, StepInPart};
 ghost use Rattle.pm_machine.specs.Sessions.{Gives, book_of, is_spent, machine_of};
-ghost use Rattle.pm_machine.specs.Steps.{AllKept, Gains, GiveStep, LookupStep, NewStep, Stays, Step, TakeStep, object_at, type_word};
+ghost use Rattle.pm_machine.specs.Steps.{AllKept, DisableStep, Gains, GiveStep, LookupStep, NewStep, Stays, Step, TakeStep, UnloadStep, object_at, type_word};
 ghost use Rattle.pm_object.specs.State.{empty_object};
 ghost use Rattle.pm_script.specs.Commands.{blank, give_value, seen_ref, spoken};
 ghost use Rattle.pm_script.specs.Replies.{seen, shows};
@@ -12,6 +12,7 @@ ghost use Rattle.pm_types.specs.Views.{view_of};
 ghost use Rattle.std.specs.Option.{is_some, option_map};
 ghost use Rattle.std.specs.Prelude.{IfOk, List, None, OnErr, OnOk, Option, Some, [], false, map, string_bytes, true, ℕ, ◌⊎◌, ◌+◌, ◌≡◌, ◌≢◌};
 
+use crate::naming::{has_label, place_named};
 use crate::round::{Ending, ensure};
 use crate::taking::{property_named, take_text};
 use indexmap::IndexMap;
@@ -285,6 +286,51 @@ impl Session {
         give_value(alloc, object, &self.book, p, obj.name.as_str(), clients)
     }
 
+    // `disable NAME LABEL`
+    fn do_disable(
+        &mut self,
+        alloc: Global,
+        name: &str,
+        label: &str,
+        clients: &[Box<dyn Client>],
+    ) -> Result<Reply, AllocError>
+        ensures step { IfOk result (λ r. DisableStep (book_of self.old)
+            (machine_of self.old (map tally clients.now)) name.now label.now (seen r)
+            (machine_of self.new (map tally clients.now))) }
+        ensures err { OnErr result (Stays (machine_of self.old (map tally clients.now))
+            (machine_of self.new (map tally clients.now))) }
+        ensures book { book_of self.new ≡ book_of self.old }
+        ensures spent { is_spent self.new ≡ is_spent self.old }
+    {
+        let Some(object) = self.objects.get_mut(name) else {
+            return Ok(Reply::Refused {
+                why: Refusal::UnknownName,
+            });
+        };
+        if !has_label(self.book.rules(), label) {
+            return Ok(Reply::Refused {
+                why: Refusal::UnknownRule,
+            });
+        }
+        object.disable(alloc, label)?;
+        Ok(Reply::Done)
+    }
+
+    // `unload CLIENT`
+    fn do_unload(&self, client: &str, clients: &mut Vec<Box<dyn Client>>) -> Reply
+        ensures { UnloadStep (machine_of self.now (map tally clients.old.items)) client.now
+            (seen result)
+            (machine_of self.now (map tally clients.new.items)) }
+    {
+        let Some(place) = place_named(clients, client) else {
+            return Reply::Refused {
+                why: Refusal::UnknownRule,
+            };
+        };
+        clients.remove(place);
+        Reply::Done
+    }
+
     // The command's own step.
     fn do_step(
         &mut self,
@@ -308,6 +354,8 @@ impl Session {
             Command::Take { obj, prop, json } => self.do_take(alloc, &obj, &prop, &json, clients),
             Command::Give { obj, prop } => self.do_give(alloc, &obj, &prop, clients),
             Command::Lookup { obj, prop } => self.do_lookup(alloc, &obj, &prop, clients),
+            Command::Disable { name, label } => self.do_disable(alloc, &name, &label, clients),
+            Command::Unload { client } => Ok(self.do_unload(&client, clients)),
         }
     }
 

@@ -1,7 +1,7 @@
 -- What a line speaks, by its first word.
 use Rattle.std.proofs.Common.{List, bytes_eq, codes, false, refl, true, ℕ, ◌≡◌}
 use Rattle.std.specs.Prelude.{None}
-use Rattle.pm_script.specs.Commands.{give_line, line_of, lookup_line, new_line, take_line}
+use Rattle.pm_script.specs.Commands.{disable_line, give_line, line_of, lookup_line, new_line, take_line, unload_line}
 
 pub is_new : (first words : List ℕ) → bytes_eq first (codes "new") ≡ true → line_of first words ≡ new_line words
 is_new first words a = rw (a) refl
@@ -15,5 +15,13 @@ is_give first words a b d = rw (a, b, d) refl
 pub is_lookup : (first words : List ℕ) → bytes_eq first (codes "new") ≡ false → bytes_eq first (codes "take") ≡ false → bytes_eq first (codes "give") ≡ false → bytes_eq first (codes "lookup") ≡ true → line_of first words ≡ lookup_line words
 is_lookup first words a b d e = rw (a, b, d, e) refl
 
-pub is_none : (first words : List ℕ) → bytes_eq first (codes "new") ≡ false → bytes_eq first (codes "take") ≡ false → bytes_eq first (codes "give") ≡ false → bytes_eq first (codes "lookup") ≡ false → line_of first words ≡ None
-is_none first words a b d e = rw (a, b, d, e) refl
+pub is_disable : (first words : List ℕ) → bytes_eq first (codes "new") ≡ false → bytes_eq first (codes "take") ≡ false → bytes_eq first (codes "give") ≡ false → bytes_eq first (codes "lookup") ≡ false → bytes_eq first (codes "disable") ≡ true → line_of first words ≡ disable_line words
+is_disable first words a b d e f = rw (a, b, d, e, f) refl
+
+pub is_unload : (first words : List ℕ) → bytes_eq first (codes "new") ≡ false → bytes_eq first (codes "take") ≡ false → bytes_eq first (codes "give") ≡ false → bytes_eq first (codes "lookup") ≡ false → bytes_eq first (codes "disable") ≡ false → bytes_eq first (codes "unload") ≡ true
+    → line_of first words ≡ unload_line words
+is_unload first words a b d e f k = rw (a, b, d, e, f, k) refl
+
+pub is_none : (first words : List ℕ) → bytes_eq first (codes "new") ≡ false → bytes_eq first (codes "take") ≡ false → bytes_eq first (codes "give") ≡ false → bytes_eq first (codes "lookup") ≡ false → bytes_eq first (codes "disable") ≡ false → bytes_eq first (codes "unload") ≡ false
+    → line_of first words ≡ None
+is_none first words a b d e f k = rw (a, b, d, e, f, k) refl

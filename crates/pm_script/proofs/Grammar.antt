@@ -9,9 +9,10 @@ use Rattle.std.specs.Char.{is_ascii_alphabetic}
 use Rattle.std.specs.List.{list_all, before_first, after_first}
 use Rattle.std.specs.Str.{IsUtf8, is_utf8, bytes_eq}
 use Rattle.pm_script.proofs.Splits.{lacks, before_first-lacks, after_first-lacks, split_first, other_byte, lacks-passes}
-use Rattle.pm_script.specs.Commands.{RefSeen, Spoken, blank, new_object, take_value, give_value, look_up, part_of, ref_of, property_of, type_of, json_of, of_both, new_line, take_line, give_line, lookup_line, line_of, command_of}
+use Rattle.pm_script.specs.Commands.{RefSeen, Spoken, blank, new_object, take_value, give_value, look_up, disable_rule, unload_client, part_of, ref_of, property_of, type_of, json_of, of_both, new_line, take_line, give_line, lookup_line, disable_line, unload_line, line_of, command_of}
 use Rattle.pm_script.specs.Grammar.{part_text, ref_text, is_sub, is_ref, Speaks}
 use Rattle.pm_script.specs.Lines.{is_silent}
+use Rattle.pm_rules.specs.Words.{is_label, is_word}
 use Rattle.pm_script.specs.Words.{is_dot, first_word, rest, is_name_byte, is_name, is_property_byte, is_property_word, is_type_word}
 
 -- ---- words
@@ -109,6 +110,15 @@ property_is_some w h = cond-true (is_property_word w) (Some w) None h
 type_is_some : (w : List ℕ) → is_type_word w ≡ true → type_of w ≡ Some w
 type_is_some w h = cond-true (is_type_word w) (Some w) None h
 
+name_of_two : (name w : List ℕ) → is_name name ≡ true → first_word (name ++ 32 ∷ w) ≡ name
+name_of_two name w h = before_first-lacks 32 name w refl (name_lacks 32 name refl refl h)
+
+rest_of_name : (name w : List ℕ) → is_name name ≡ true → rest (name ++ 32 ∷ w) ≡ w
+rest_of_name name w h = after_first-lacks 32 name w refl (name_lacks 32 name refl refl h)
+
+disable_spoken : (name label : List ℕ) → is_name name ≡ true → is_label label ≡ true → disable_line (name ++ 32 ∷ label) ≡ Some (disable_rule name label)
+disable_spoken name label n l = rw (name_of_two name label n, rest_of_name name label n, n, l) refl
+
 -- a line that is not silent
 heard : (text : List ℕ) → is_silent text ≡ false → IsUtf8 text → command_of text ≡ line_of (first_word text) (rest text)
 heard text h u = rw (h, is_utf8-from_IsUtf8 text u) refl
@@ -133,6 +143,12 @@ spoken_is_read text (look_up r w) h =
     let p = and_parts (is_ref r) (is_property_word w) h.allowed in
     let e = h.same ∙ regroup (codes "lookup ") (ref_text r) w in
     rw e (heard (codes "lookup " ++ (ref_text r ++ 32 ∷ w)) refl (subst IsUtf8 e h.utf8) ∙ both_spoken look_up property_of r w p.0 (property_is_some w p.1))
+spoken_is_read text (disable_rule name label) h =
+    let p = and_parts (is_name name) (is_label label) h.allowed in
+    let e = h.same ∙ regroup (codes "disable ") name label in
+    rw e (heard (codes "disable " ++ (name ++ 32 ∷ label)) refl (subst IsUtf8 e h.utf8) ∙ disable_spoken name label p.0 p.1)
+spoken_is_read text (unload_client client) h =
+    rw h.same (heard (codes "unload " ++ client) refl (subst IsUtf8 h.same h.utf8) ∙ cond-true (is_word client) (Some (unload_client client)) None h.allowed)
 spoken_is_read text (take_value r w json) h =
     let p = and_parts (is_ref r && is_property_word w) (leb 1 (length json)) h.allowed in
     let q = and_parts (is_ref r) (is_property_word w) p.0 in
@@ -230,6 +246,25 @@ lookup_read text s u f e =
     let b = both_read look_up is_property_word (rest text) s refl e in
     subst (Speaks text) b.is (record { utf8 = u; same = whole_line text (codes "lookup") (ref_text b.obj) b.word f b.line ∙ sym (regroup (codes "lookup ") (ref_text b.obj) b.word); allowed = b.are })
 
+label_is_some : (label : List ℕ) → is_label label ≡ true → label ≡ [] → ⊥
+label_is_some label h none = false≢true (subst (λ w. is_label w ≡ true) none h)
+
+disable_read : (text : List ℕ) (s : Spoken) → IsUtf8 text → first_word text ≡ codes "disable" → disable_line (rest text) ≡ Some s → Speaks text s
+disable_read text s u f e =
+    let words : List ℕ = rest text in
+    let q = cond_some (is_name (first_word words) && is_label (rest words)) (disable_rule (first_word words) (rest words)) s e in
+    let p = and_parts (is_name (first_word words)) (is_label (rest words)) q.0 in
+    let line : words ≡ first_word words ++ 32 ∷ rest words = behind words (label_is_some (rest words) p.1) in
+    subst (Speaks text) q.1 (record { utf8 = u; same = whole_line text (codes "disable") (first_word words) (rest words) f line ∙ sym (regroup (codes "disable ") (first_word words) (rest words)); allowed = q.0 })
+
+client_is_some : (client : List ℕ) → is_word client ≡ true → client ≡ [] → ⊥
+client_is_some client h none = false≢true (subst (λ w. is_word w ≡ true) none h)
+
+unload_read : (text : List ℕ) (s : Spoken) → IsUtf8 text → first_word text ≡ codes "unload" → unload_line (rest text) ≡ Some s → Speaks text s
+unload_read text s u f e =
+    let q = cond_some (is_word (rest text)) (unload_client (rest text)) s e in
+    subst (Speaks text) q.1 (record { utf8 = u; same = behind text (client_is_some (rest text) q.0) ∙ ap (λ x. x ++ 32 ∷ rest text) f; allowed = q.0 })
+
 taken_read : (text : List ℕ) (s : Spoken) → IsUtf8 text → first_word text ≡ codes "take" → take_line (rest text) ≡ Some s → Speaks text s
 taken_read text s u f e =
     let b = take_read (rest text) s e in
@@ -243,14 +278,18 @@ line_read : (text : List ℕ) (s : Spoken) → IsUtf8 text → line_of (first_wo
 line_read text s u e =
     let first : List ℕ = first_word text in
     let words : List ℕ = rest text in
-    let lookup : Option Spoken = cond (bytes_eq first (codes "lookup")) (lookup_line words) None in
+    let unload : Option Spoken = cond (bytes_eq first (codes "unload")) (unload_line words) None in
+    let disable : Option Spoken = cond (bytes_eq first (codes "disable")) (disable_line words) unload in
+    let lookup : Option Spoken = cond (bytes_eq first (codes "lookup")) (lookup_line words) disable in
     let give : Option Spoken = cond (bytes_eq first (codes "give")) (give_line words) lookup in
     let take : Option Spoken = cond (bytes_eq first (codes "take")) (take_line words) give in
     cond_either (bytes_eq first (codes "new")) (new_line words) take (Some s) e (λ is f. new_read text s u (same_bytes first (codes "new") is) f)
     (λ _ f. cond_either (bytes_eq first (codes "take")) (take_line words) give (Some s) f (λ is g. taken_read text s u (same_bytes first (codes "take") is) g)
     (λ _ g. cond_either (bytes_eq first (codes "give")) (give_line words) lookup (Some s) g (λ is h. give_read text s u (same_bytes first (codes "give") is) h)
-    (λ _ h. cond_either (bytes_eq first (codes "lookup")) (lookup_line words) None (Some s) h (λ is k. lookup_read text s u (same_bytes first (codes "lookup") is) k)
-    (λ _ k. absurd (none-some s k)))))
+    (λ _ h. cond_either (bytes_eq first (codes "lookup")) (lookup_line words) disable (Some s) h (λ is k. lookup_read text s u (same_bytes first (codes "lookup") is) k)
+    (λ _ k. cond_either (bytes_eq first (codes "disable")) (disable_line words) unload (Some s) k (λ is l. disable_read text s u (same_bytes first (codes "disable") is) l)
+    (λ _ l. cond_either (bytes_eq first (codes "unload")) (unload_line words) None (Some s) l (λ is m. unload_read text s u (same_bytes first (codes "unload") is) m)
+    (λ _ m. absurd (none-some s m)))))))
 
 pub read_is_spoken : (text : List ℕ) (s : Spoken) → command_of text ≡ Some s → Speaks text s
 read_is_spoken text s e =

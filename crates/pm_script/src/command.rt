@@ -1,12 +1,14 @@
 // Commands.
 
-ghost use Rattle.pm_script.specs.Commands.{Spoken, ref_of, part_of, property_of, type_of, json_of, new_line, take_line, give_line, lookup_line, line_of, command_of, seen_ref, spoken};
+ghost use Rattle.pm_script.specs.Commands.{Spoken, ref_of, part_of, property_of, type_of, json_of, new_line, take_line, give_line, lookup_line, disable_line, unload_line, line_of, command_of, seen_ref, spoken};
 ghost use Rattle.pm_script.specs.Grammar.{Speaks};
 ghost use Rattle.pm_script.specs.declared.command.LineFail.TheVariants.{Memory};
 ghost use Rattle.std.specs.Prelude.{IfErr, IfOk, None, Some, string_bytes, ◌≡◌};
 
 use crate::lines::is_silent;
-use crate::words::{is_name, is_property_word, is_type_word, split_dot, split_word};
+use crate::words::{
+    is_client_word, is_label, is_name, is_property_word, is_type_word, split_dot, split_word,
+};
 use std::alloc::{AllocError, Global};
 use std::str;
 use thiserror::Error;
@@ -43,6 +45,15 @@ pub enum Command {
     Lookup {
         obj: Ref,
         prop: String,
+    },
+    /// `disable NAME LABEL`
+    Disable {
+        name: String,
+        label: String,
+    },
+    /// `unload CLIENT`
+    Unload {
+        client: String,
     },
 }
 
@@ -178,6 +189,36 @@ fn read_lookup(alloc: Global, words: &str) -> Result<Command, LineFail>
     Ok(Command::Lookup { obj, prop })
 }
 
+/// The words after `disable`.
+fn read_disable(alloc: Global, words: &str) -> Result<Command, LineFail>
+    ensures ok { IfOk result (λ c. disable_line words.now ≡ Some (spoken c)) }
+    ensures refused { IfErr result (λ e. e ≡ LineFail.BadCommand → disable_line words.now ≡ None) }
+{
+    let (name, label) = split_word(words);
+    if is_name(name) && is_label(label) {
+        Ok(Command::Disable {
+            name: String::from_str(alloc, name)?,
+            label: String::from_str(alloc, label)?,
+        })
+    } else {
+        Err(LineFail::BadCommand)
+    }
+}
+
+/// The word after `unload`.
+fn read_unload(alloc: Global, word: &str) -> Result<Command, LineFail>
+    ensures ok { IfOk result (λ c. unload_line word.now ≡ Some (spoken c)) }
+    ensures refused { IfErr result (λ e. e ≡ LineFail.BadCommand → unload_line word.now ≡ None) }
+{
+    if is_client_word(word) {
+        Ok(Command::Unload {
+            client: String::from_str(alloc, word)?,
+        })
+    } else {
+        Err(LineFail::BadCommand)
+    }
+}
+
 /// The command of this first word, with these words after it.
 fn read_words(alloc: Global, first: &str, words: &str) -> Result<Command, LineFail>
     ensures ok { IfOk result (λ c. line_of first.now words.now ≡ Some (spoken c)) }
@@ -191,6 +232,10 @@ fn read_words(alloc: Global, first: &str, words: &str) -> Result<Command, LineFa
         read_give(alloc, words)
     } else if first == "lookup" {
         read_lookup(alloc, words)
+    } else if first == "disable" {
+        read_disable(alloc, words)
+    } else if first == "unload" {
+        read_unload(alloc, words)
     } else {
         Err(LineFail::BadCommand)
     }

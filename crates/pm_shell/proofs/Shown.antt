@@ -9,7 +9,7 @@ use Rattle.pm_machine.specs.Steps.{AllKept, Machine, Step, whole_of}
 use Rattle.pm_object.specs.Honest.{IsKept}
 use Rattle.pm_object.specs.State.{State, read_at, value_of}
 use Rattle.pm_rules.specs.declared.rule.Rule.{Rule}
-use Rattle.pm_script.specs.Commands.{Spoken, blank, new_object, take_value, give_value, look_up}
+use Rattle.pm_script.specs.Commands.{Spoken, blank, new_object, take_value, give_value, look_up, disable_rule, unload_client}
 use Rattle.pm_script.specs.Lines.{Line}
 use Rattle.pm_script.specs.Replies.{ReplySeen, done, refused, shows, undef}
 use Rattle.pm_script.specs.declared.refusal.Refusal.TheVariants.{BadCommand}
@@ -59,6 +59,8 @@ shown_step : (book : List Rule) (old new : Machine) (command : Spoken) (name : L
 shown_step book old new blank name of p v h all = absurd h
 shown_step book old new (new_object ref text) name of p v h all = absurd h
 shown_step book old new (take_value ref text json) name of p v h all = absurd h
+shown_step book old new (disable_rule key label) name of p v h all = absurd h
+shown_step book old new (unload_client client) name of p v h all = absurd h
 shown_step book old new (give_value ref text) name of p v (o, at, named, is, typed, c, ensured, becomes, held) all =
     shown_by new name ref.name of p v c.object all is becomes.object
     (of_ensured book None _ Found (configuration o old.clients) c ensured ∙ sym typed) held

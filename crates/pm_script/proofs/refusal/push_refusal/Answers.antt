@@ -34,6 +34,9 @@ returns-in-NoChain c = written c.push_str-in-NoChain.result _ _ _ _ c.push_str-i
 pub returns-in-Crowded : goal.returns-in-Crowded
 returns-in-Crowded c = written c.push_str-in-Crowded.result _ _ _ _ c.push_str-in-Crowded.ensures.bytes (ap refusal_text c.in-Crowded.is)
 
+pub returns-in-UnknownRule : goal.returns-in-UnknownRule
+returns-in-UnknownRule c = written c.push_str-in-UnknownRule.result _ _ _ _ c.push_str-in-UnknownRule.ensures.bytes (ap refusal_text c.in-UnknownRule.is)
+
 pub returns-in_ok-push_str-in-BadValue : goal.returns-in_ok-push_str-in-BadValue
 returns-in_ok-push_str-in-BadValue c =
     written_twice c.push_str-in-BadValue-2.result _ _ _ _ _ _ c.in_ok-push_str-in-BadValue.ensures.bytes c.push_str-in-BadValue-2.ensures.bytes
