@@ -22,8 +22,7 @@ use crate::held::{Excluded, Held, Origin, Round, TakeFail};
 use crate::settled::{push_if, settled_values};
 use crate::tests_of_values::{agrees, are_rows, first_cols, require_primitive_rows};
 use crate::view::View;
-use pm_types::ObjectType;
-use pm_types::{Kind, PropId, PropSet, Value};
+use pm_types::{Kind, ObjectType, PropId, PropSet, Value};
 use std::alloc::{AllocError, Global};
 use std::marker::Model;
 

@@ -11,10 +11,9 @@ ghost use Rattle.std.specs.Prelude.{All, IfErr, IsTrue, OnOk, length, map, â—Œâ‰
 
 use crate::held::{Held, TakeFail};
 use pm_fraction::Fraction;
-use pm_types::ObjectType;
 use pm_matrix::{Matrix, RowsFail};
 use pm_props::{Columns, PropId, RowTest};
-use pm_types::Value;
+use pm_types::{ObjectType, Value};
 use std::alloc::Global;
 
 /// The column count that a value states, 0 where it states none.

@@ -8,8 +8,7 @@ ghost use Rattle.std.specs.Option.{option_map};
 ghost use Rattle.std.specs.Prelude.{IfSome, IsSome, IsTrue, ◌≡◌, ◌↔◌};
 
 use crate::object::Object;
-use pm_types::ObjectType;
-use pm_types::{Kind, PropId, Value};
+use pm_types::{Kind, ObjectType, PropId, Value};
 use std::marker::Model;
 
 /// What a client of a kind may read of an object: its type, its column count n, and the values of the kind's sources.
