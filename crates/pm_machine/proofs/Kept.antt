@@ -5,7 +5,7 @@ use Rattle.pm_machine.specs.declared.round.Ending.{Ending}
 use Rattle.pm_machine.specs.declared.round.Ending.TheVariants as ending
 use Rattle.pm_machine.specs.Events.{Configuration, Ensured, at_rest, configuration, unsettled}
 use Rattle.pm_machine.specs.Parts.{AllHonest, GaveInPart, StepInPart}
-use Rattle.pm_machine.specs.Steps.{AllKept, Becomes, DisableStep, Given, GiveStep, LookupStep, Machine, NewStep, Stays, Step, TakeStep, TakeValue, UnloadStep, disabling, given_value, object_at, whole_of, no_json, faulty, value}
+use Rattle.pm_machine.specs.Steps.{AllKept, Becomes, DisableStep, Given, GiveStep, LookupStep, Machine, NewStep, RulesStep, Stays, Step, TakeStep, TakeValue, UnloadStep, disabling, given_value, object_at, whole_of, no_json, faulty, value}
 use Rattle.pm_object.proofs.Formed.{only}
 use Rattle.pm_object.proofs.Honesty.{empty_is_kept, given_is_kept, honesty_is_of_values}
 use Rattle.pm_object.specs.Honest.{IsHonest, IsKept}
@@ -14,8 +14,8 @@ use Rattle.pm_object.specs.declared.held.Origin.TheVariants.{Given as Given'}
 use Rattle.pm_object.specs.declared.held.TakeFail.{TakeFail}
 use Rattle.pm_object.specs.declared.held.TakeFail.TheVariants as fail
 use Rattle.pm_rules.specs.declared.rule.Rule.{Rule}
-use Rattle.pm_script.specs.Commands.{RefSeen, Spoken, blank, new_object, take_value, give_value, look_up, disable_rule, unload_client}
-use Rattle.pm_script.specs.Replies.{ReplySeen, done, shows, undef, refused}
+use Rattle.pm_script.specs.Commands.{RefSeen, Spoken, blank, new_object, take_value, give_value, look_up, show_rules, disable_rule, unload_client}
+use Rattle.pm_script.specs.Replies.{ReplySeen, done, shows, lists_rules, undef, refused}
 use Rattle.pm_script.specs.declared.refusal.Refusal.TheVariants.{UnknownName, NameTaken, UnknownType, UnknownProperty, BadValue, AlreadyHeld, Sealed, ObjectsFull, NoChain, Crowded, UnknownRule}
 use Rattle.pm_props.specs.Sets.{only as only_property}
 use Rattle.pm_types.specs.Values.{PropertyValue}
@@ -149,12 +149,17 @@ unload_keeps old new name (refused UnknownRule) (h, s) all = stays_kept old new 
 unload_keeps old new name done (h, u) all = record { each = λ q. subst (λ z. IfSome z IsKept) (sym (u.objects q)) (all.each q) }
 unload_keeps old new name reply h all = absurd h
 
+rules_keep : (book : List Rule) (old new : Machine) (reply : ReplySeen) → RulesStep book old reply new → AllKept old → AllKept new
+rules_keep book old new (lists_rules n text) (h, k, s) all = stays_kept old new s all
+rules_keep book old new reply h all = absurd h
+
 pub steps_keep : (book : List Rule) (old new : Machine) (command : Spoken) (reply : ReplySeen) → Step book old command reply new → AllKept old → AllKept new
 steps_keep book old new blank reply h all = absurd h
 steps_keep book old new (new_object ref text) reply h all = new_keeps old new ref text reply h all
 steps_keep book old new (take_value ref text json) reply h all = take_keeps old new ref text json reply h all
 steps_keep book old new (give_value ref text) reply h all = give_keeps book old new ref text reply h all
 steps_keep book old new (look_up ref text) reply h all = lookup_keeps old new ref text reply h all
+steps_keep book old new show_rules reply h all = rules_keep book old new reply h all
 steps_keep book old new (disable_rule name label) reply h all = disable_keeps book old new name label reply h all
 steps_keep book old new (unload_client name) reply h all = unload_keeps old new name reply h all
 
@@ -185,5 +190,6 @@ steps_in_part_keep book old new blank s all = stays_honest old new s all
 steps_in_part_keep book old new (new_object ref text) s all = stays_honest old new s all
 steps_in_part_keep book old new (take_value ref text json) s all = stays_honest old new s all
 steps_in_part_keep book old new (look_up ref text) s all = stays_honest old new s all
+steps_in_part_keep book old new show_rules s all = stays_honest old new s all
 steps_in_part_keep book old new (disable_rule name label) s all = stays_honest old new s all
 steps_in_part_keep book old new (unload_client name) s all = stays_honest old new s all

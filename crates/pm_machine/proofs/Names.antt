@@ -11,8 +11,8 @@ use Rattle.pm_machine.specs.Steps.{AllKept, Becomes, DisableStep, Gains, Given, 
 use Rattle.pm_object.proofs.Names.{names_held}
 use Rattle.pm_object.specs.State.{ObjectSeen, State, is_held, read_at, value_of}
 use Rattle.pm_rules.specs.declared.rule.Rule.{Rule}
-use Rattle.pm_script.specs.Commands.{RefSeen, Spoken, blank, new_object, take_value, give_value, look_up, disable_rule, unload_client}
-use Rattle.pm_script.specs.Replies.{ReplySeen, done, refused, shows, undef}
+use Rattle.pm_script.specs.Commands.{RefSeen, Spoken, blank, new_object, take_value, give_value, look_up, show_rules, disable_rule, unload_client}
+use Rattle.pm_script.specs.Replies.{ReplySeen, done, lists_rules, refused, shows, undef}
 use Rattle.pm_script.specs.declared.refusal.Refusal.{Refusal}
 use Rattle.pm_script.specs.declared.refusal.Refusal.TheVariants.{BadCommand, UnknownName, NameTaken, UnknownType, UnknownProperty, BadValue, AlreadyHeld, Sealed, ObjectsFull, NoChain, Crowded, UnknownRule}
 use Rattle.pm_props.proofs.Members.{has-only}
@@ -238,6 +238,7 @@ module _ {ns ms : List (List ℕ)} {old new : List ℕ → Option State} {name :
           subst (λ z. value_of z (read_at None o'.held) ≡ Some v) (sym one) held,
         )
         by done e = absurd e
+        by (lists_rules n t) e = absurd e
         by undef e = absurd e
         by (refused BadCommand) e = absurd e
         by (refused UnknownName) e = absurd e
@@ -304,6 +305,7 @@ stays_in_part book old new blank s = s
 stays_in_part book old new (new_object ref text) s = s
 stays_in_part book old new (take_value ref text json) s = s
 stays_in_part book old new (look_up ref text) s = s
+stays_in_part book old new show_rules s = s
 stays_in_part book old new (disable_rule name label) s = s
 stays_in_part book old new (unload_client name) s = s
 

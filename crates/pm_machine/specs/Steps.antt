@@ -5,6 +5,7 @@ use Rattle.std.specs.List.{list_any}
 use Rattle.std.specs.Str.{bytes_eq}
 use Rattle.serde_json.specs.Data.{Data}
 use Rattle.serde_json.specs.Read.{read}
+use Rattle.pm_books.specs.Writing.{text_of}
 use Rattle.pm_client.specs.Starts.{Clients}
 use Rattle.pm_props.specs.declared.object_type.ObjectType.{ObjectType}
 use Rattle.pm_props.specs.declared.object_type.ObjectType.TheVariants.{Polytope, Cone}
@@ -18,8 +19,8 @@ use Rattle.pm_object.specs.State.{CanTake, CannotTake, HeldValue, State, empty_o
 use Rattle.pm_object.specs.declared.held.Origin.TheVariants.{Given as Given'}
 use Rattle.pm_object.specs.declared.held.TakeFail.TheVariants as fail
 use Rattle.pm_rules.specs.declared.rule.Rule.{Rule}
-use Rattle.pm_script.specs.Commands.{RefSeen, Spoken, blank, new_object, take_value, give_value, look_up, disable_rule, unload_client}
-use Rattle.pm_script.specs.Replies.{ReplySeen, done, shows, undef, refused}
+use Rattle.pm_script.specs.Commands.{RefSeen, Spoken, blank, new_object, take_value, give_value, look_up, show_rules, disable_rule, unload_client}
+use Rattle.pm_script.specs.Replies.{ReplySeen, done, shows, lists_rules, undef, refused}
 use Rattle.pm_script.specs.declared.refusal.Refusal.{Refusal}
 use Rattle.pm_script.specs.declared.refusal.Refusal.TheVariants.{UnknownName, NameTaken, UnknownType, UnknownProperty, BadValue, AlreadyHeld, Sealed, ObjectsFull, NoChain, Crowded, UnknownRule}
 use Rattle.pm_script.specs.declared.refusal.ValueWhy.{ValueWhy}
@@ -185,6 +186,11 @@ LookupStep old ref text (shows name of p v) new = (o : State) × (object_at old 
     × (value_of p (read_at None o.held) ≡ Some v) × Stays old new
 LookupStep old ref text reply new = ⊥
 
+-- `rules`
+abbrev pub RulesStep : List Rule → Machine → ReplySeen → Machine → Type 0
+RulesStep book old (lists_rules n text) new = (n ≡ length book) × (text ≡ text_of book) × Stays old new
+RulesStep book old reply new = ⊥
+
 -- some rule of the book has the label
 abbrev pub has_label : List ℕ → List Rule → Bool
 has_label label book = list_any (λ rule. bytes_eq rule.label label) book
@@ -229,6 +235,7 @@ Step book old (new_object ref text) reply new = NewStep old ref text reply new
 Step book old (take_value ref text json) reply new = TakeStep old ref text json reply new
 Step book old (give_value ref text) reply new = GiveStep book old ref text reply new
 Step book old (look_up ref text) reply new = LookupStep old ref text reply new
+Step book old show_rules reply new = RulesStep book old reply new
 Step book old (disable_rule name label) reply new = DisableStep book old name label reply new
 Step book old (unload_client name) reply new = UnloadStep old name reply new
 

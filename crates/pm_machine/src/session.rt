@@ -3,7 +3,7 @@
 ghost use Rattle.pm_machine.specs.Events.{EnsuredInPart, configuration};
 ghost use Rattle.pm_machine.specs.Parts.{AllHonest, StepInPart};
 ghost use Rattle.pm_machine.specs.Sessions.{Gives, book_of, is_spent, machine_of};
-ghost use Rattle.pm_machine.specs.Steps.{AllKept, DisableStep, Gains, GiveStep, LookupStep, NewStep, Stays, Step, TakeStep, UnloadStep, object_at, type_word};
+ghost use Rattle.pm_machine.specs.Steps.{AllKept, DisableStep, Gains, GiveStep, LookupStep, NewStep, RulesStep, Stays, Step, TakeStep, UnloadStep, object_at, type_word};
 ghost use Rattle.pm_object.specs.State.{empty_object};
 ghost use Rattle.pm_script.specs.Commands.{blank, give_value, seen_ref, spoken};
 ghost use Rattle.pm_script.specs.Replies.{seen, shows};
@@ -16,6 +16,7 @@ use crate::naming::{has_label, place_named};
 use crate::round::{Ending, ensure};
 use crate::taking::{property_named, take_text};
 use indexmap::IndexMap;
+use pm_books::book_text;
 use pm_client::Client;
 use pm_object::Object;
 use pm_rules::Book;
@@ -286,6 +287,18 @@ impl Session {
         give_value(alloc, object, &self.book, p, obj.name.as_str(), clients)
     }
 
+    // `rules`
+    fn do_rules(&self, alloc: Global, clients: &[Box<dyn Client>]) -> Result<Reply, AllocError>
+        ensures { IfOk result (λ r. RulesStep (book_of self.now)
+            (machine_of self.now (map tally clients.now)) (seen r)
+            (machine_of self.now (map tally clients.now))) }
+    {
+        Ok(Reply::Rules {
+            count: self.book.rules().len(),
+            text: book_text(alloc, &self.book)?,
+        })
+    }
+
     // `disable NAME LABEL`
     fn do_disable(
         &mut self,
@@ -354,6 +367,7 @@ impl Session {
             Command::Take { obj, prop, json } => self.do_take(alloc, &obj, &prop, &json, clients),
             Command::Give { obj, prop } => self.do_give(alloc, &obj, &prop, clients),
             Command::Lookup { obj, prop } => self.do_lookup(alloc, &obj, &prop, clients),
+            Command::Rules => self.do_rules(alloc, clients),
             Command::Disable { name, label } => self.do_disable(alloc, &name, &label, clients),
             Command::Unload { client } => Ok(self.do_unload(&client, clients)),
         }

@@ -242,7 +242,7 @@ fn standard_answer(
 fn the_standard_book(rt: HostRuntime) {
     let held = [PropId::Vertices, PropId::Facets];
     let answer = standard_answer(&rt, names_of_cones(), &held, PropId::VerticesInFacets);
-    assert!(rt; is_planned(answer, &[RuleId(16)], minor(5), 1));
+    assert!(rt; is_planned(answer, &[RuleId(18)], minor(5), 1));
 }
 
 // The rules `cone_dim_v` and `lineality_dim`, in either order before `combinatorial_dim`.

@@ -202,6 +202,8 @@ const STANDARD_BOOK: &str =
     cone_dim_points : rule CONE_DIM : POINTS, INPUT_LINEALITY { cone_dim_points } weight 8;\n\
     lineality_dim : rule LINEALITY_DIM : LINEALITY_SPACE { lineality_dim } weight 1;\n\
     combinatorial_dim : rule COMBINATORIAL_DIM : CONE_DIM, LINEALITY_DIM { combinatorial_dim } weight 1;\n\
+    n_vertices : rule N_VERTICES : VERTICES { n_vertices } weight 1;\n\
+    n_facets : rule N_FACETS : FACETS { n_facets } weight 1;\n\
     feasible : rule FEASIBLE : CONE_DIM { feasible } weight 1;\n\
     pointed : rule POINTED : LINEALITY_DIM { pointed } weight 1;\n\
     full_dim : rule FULL_DIM : CONE_DIM { full_dim } weight 1;\n\
@@ -223,7 +225,7 @@ fn the_standard_book_is_read_back(rt: HostRuntime) {
 }
 
 // The rule for incidences, and properties of a cone with both descriptions.
-const INCIDENCE: RuleId = RuleId(16);
+const INCIDENCE: RuleId = RuleId(18);
 
 const BOTH: &[PropId] = &[PropId::Vertices, PropId::Facets];
 

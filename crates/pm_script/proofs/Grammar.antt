@@ -9,7 +9,7 @@ use Rattle.std.specs.Char.{is_ascii_alphabetic}
 use Rattle.std.specs.List.{list_all, before_first, after_first}
 use Rattle.std.specs.Str.{IsUtf8, is_utf8, bytes_eq}
 use Rattle.pm_script.proofs.Splits.{lacks, before_first-lacks, after_first-lacks, split_first, other_byte, lacks-passes}
-use Rattle.pm_script.specs.Commands.{RefSeen, Spoken, blank, new_object, take_value, give_value, look_up, disable_rule, unload_client, part_of, ref_of, property_of, type_of, json_of, of_both, new_line, take_line, give_line, lookup_line, disable_line, unload_line, line_of, command_of}
+use Rattle.pm_script.specs.Commands.{RefSeen, Spoken, blank, new_object, take_value, give_value, look_up, show_rules, disable_rule, unload_client, part_of, ref_of, property_of, type_of, json_of, of_both, new_line, take_line, give_line, lookup_line, disable_line, unload_line, line_of, command_of}
 use Rattle.pm_script.specs.Grammar.{part_text, ref_text, is_sub, is_ref, Speaks}
 use Rattle.pm_script.specs.Lines.{is_silent}
 use Rattle.pm_rules.specs.Words.{is_label, is_word}
@@ -120,8 +120,8 @@ disable_spoken : (name label : List ℕ) → is_name name ≡ true → is_label 
 disable_spoken name label n l = rw (name_of_two name label n, rest_of_name name label n, n, l) refl
 
 -- a line that is not silent
-heard : (text : List ℕ) → is_silent text ≡ false → IsUtf8 text → command_of text ≡ line_of (first_word text) (rest text)
-heard text h u = rw (h, is_utf8-from_IsUtf8 text u) refl
+heard : (text : List ℕ) → is_silent text ≡ false → bytes_eq text (codes "rules") ≡ false → IsUtf8 text → command_of text ≡ line_of (first_word text) (rest text)
+heard text h r u = rw (h, is_utf8-from_IsUtf8 text u, r) refl
 
 regroup : (front v w : List ℕ) → front ++ v ++ codes " " ++ w ≡ front ++ (v ++ 32 ∷ w)
 regroup front v w = simp append_assoc
@@ -134,26 +134,27 @@ spoken_is_read text blank h = rw h refl
 spoken_is_read text (new_object r of) h =
     let p = and_parts (is_ref r) (is_type_word of) h.allowed in
     let e = h.same ∙ regroup (codes "new ") (ref_text r) of in
-    rw e (heard (codes "new " ++ (ref_text r ++ 32 ∷ of)) refl (subst IsUtf8 e h.utf8) ∙ both_spoken new_object type_of r of p.0 (type_is_some of p.1))
+    rw e (heard (codes "new " ++ (ref_text r ++ 32 ∷ of)) refl refl (subst IsUtf8 e h.utf8) ∙ both_spoken new_object type_of r of p.0 (type_is_some of p.1))
 spoken_is_read text (give_value r w) h =
     let p = and_parts (is_ref r) (is_property_word w) h.allowed in
     let e = h.same ∙ regroup (codes "give ") (ref_text r) w in
-    rw e (heard (codes "give " ++ (ref_text r ++ 32 ∷ w)) refl (subst IsUtf8 e h.utf8) ∙ both_spoken give_value property_of r w p.0 (property_is_some w p.1))
+    rw e (heard (codes "give " ++ (ref_text r ++ 32 ∷ w)) refl refl (subst IsUtf8 e h.utf8) ∙ both_spoken give_value property_of r w p.0 (property_is_some w p.1))
 spoken_is_read text (look_up r w) h =
     let p = and_parts (is_ref r) (is_property_word w) h.allowed in
     let e = h.same ∙ regroup (codes "lookup ") (ref_text r) w in
-    rw e (heard (codes "lookup " ++ (ref_text r ++ 32 ∷ w)) refl (subst IsUtf8 e h.utf8) ∙ both_spoken look_up property_of r w p.0 (property_is_some w p.1))
+    rw e (heard (codes "lookup " ++ (ref_text r ++ 32 ∷ w)) refl refl (subst IsUtf8 e h.utf8) ∙ both_spoken look_up property_of r w p.0 (property_is_some w p.1))
+spoken_is_read text show_rules h = rw h.same (rw (is_utf8-from_IsUtf8 (codes "rules") (subst IsUtf8 h.same h.utf8)) refl)
 spoken_is_read text (disable_rule name label) h =
     let p = and_parts (is_name name) (is_label label) h.allowed in
     let e = h.same ∙ regroup (codes "disable ") name label in
-    rw e (heard (codes "disable " ++ (name ++ 32 ∷ label)) refl (subst IsUtf8 e h.utf8) ∙ disable_spoken name label p.0 p.1)
+    rw e (heard (codes "disable " ++ (name ++ 32 ∷ label)) refl refl (subst IsUtf8 e h.utf8) ∙ disable_spoken name label p.0 p.1)
 spoken_is_read text (unload_client client) h =
-    rw h.same (heard (codes "unload " ++ client) refl (subst IsUtf8 h.same h.utf8) ∙ cond-true (is_word client) (Some (unload_client client)) None h.allowed)
+    rw h.same (heard (codes "unload " ++ client) refl refl (subst IsUtf8 h.same h.utf8) ∙ cond-true (is_word client) (Some (unload_client client)) None h.allowed)
 spoken_is_read text (take_value r w json) h =
     let p = and_parts (is_ref r && is_property_word w) (leb 1 (length json)) h.allowed in
     let q = and_parts (is_ref r) (is_property_word w) p.0 in
     let e = h.same ∙ regroup_take (codes "take ") (ref_text r) w json in
-    rw e (heard (codes "take " ++ (ref_text r ++ 32 ∷ (w ++ 32 ∷ json))) refl (subst IsUtf8 e h.utf8) ∙ take_spoken r w json q.0 q.1 p.1)
+    rw e (heard (codes "take " ++ (ref_text r ++ 32 ∷ (w ++ 32 ∷ json))) refl refl (subst IsUtf8 e h.utf8) ∙ take_spoken r w json q.0 q.1 p.1)
 
 -- ---- lines as they are read
 -- what stands behind the first word, where that is something
@@ -293,9 +294,14 @@ line_read text s u e =
 
 pub read_is_spoken : (text : List ℕ) (s : Spoken) → command_of text ≡ Some s → Speaks text s
 read_is_spoken text s e =
-    cond_either (is_silent text) (Some blank) (cond (is_utf8 text) (line_of (first_word text) (rest text)) None) (Some s) e
+    let worded : Option Spoken = line_of (first_word text) (rest text) in
+    let heard_so : Option Spoken = cond (bytes_eq text (codes "rules")) (Some show_rules) worded in
+    cond_either (is_silent text) (Some blank) (cond (is_utf8 text) heard_so None) (Some s) e
     (λ silent f. subst (Speaks text) (same_Some blank s f) silent)
-    (λ _ f. cond_either (is_utf8 text) (line_of (first_word text) (rest text)) None (Some s) f (λ utf8 g. line_read text s (IsUtf8-from_is_utf8 text utf8) g)
+    (λ _ f. cond_either (is_utf8 text) heard_so None (Some s) f
+    (λ utf8 g. cond_either (bytes_eq text (codes "rules")) (Some show_rules) worded (Some s) g
+    (λ is k. subst (Speaks text) (same_Some show_rules s k) (record { utf8 = IsUtf8-from_is_utf8 text utf8; same = same_bytes text (codes "rules") is; allowed = refl }))
+    (λ _ k. line_read text s (IsUtf8-from_is_utf8 text utf8) k))
     (λ _ g. absurd (none-some s g)))
 
 -- where nothing is read, nothing is spoken

@@ -1,5 +1,5 @@
 -- The commands that lines speak. A REF is NAME, or NAME.SUB for the part SUB of an object.
--- `disable NAME LABEL` bars the rule of the label on an object, and `unload CLIENT` lets the first client of the name go; both are words as in books.
+-- `rules` asks for the book; `disable NAME LABEL` bars the rule of the label on an object, and `unload CLIENT` lets the first client of the name go; both are words as in books.
 -- `new REF TYPE` makes an object; `take REF PROP JSON` gives it a value, and the JSON text is all that stands after the third space, one byte at least; `give REF PROP` asks for a value, and `lookup REF PROP` for one that is held.
 -- A line of spaces and tabs alone, or whose first byte is #, is blank. Any other line is no command, and so is one that is no UTF-8.
 use Rattle.std.specs.Prelude.{ℕ, ◌&&◌, List, [], ◌∷◌, string_bytes, Option, Some, None, option_map, option_and_then, if◌then◌else◌, codes}
@@ -10,7 +10,7 @@ use Rattle.pm_rules.specs.Words.{is_label, is_word}
 use Rattle.pm_script.specs.Words.{is_dot, first_word, rest, is_name, is_property_word, is_type_word}
 use Rattle.pm_script.specs.declared.command.Ref.{Ref}
 use Rattle.pm_script.specs.declared.command.Command.{Command}
-use Rattle.pm_script.specs.declared.command.Command.TheVariants.{Blank, New, Take, Give, Lookup, Disable, Unload}
+use Rattle.pm_script.specs.declared.command.Command.TheVariants.{Blank, New, Take, Give, Lookup, Rules, Disable, Unload}
 
 -- a REF, by the bytes of its words
 pub record RefSeen : Type 0 where
@@ -24,6 +24,7 @@ pub data Spoken : Type 0 where
   take_value : RefSeen → List ℕ → List ℕ → Spoken
   give_value : RefSeen → List ℕ → Spoken
   look_up : RefSeen → List ℕ → Spoken
+  show_rules : Spoken
   disable_rule : List ℕ → List ℕ → Spoken
   unload_client : List ℕ → Spoken
 
@@ -85,7 +86,7 @@ line_of first words =
 
 -- the command that the line speaks
 abbrev pub command_of : List ℕ → Option Spoken
-command_of text = if is_silent text then Some blank else (if is_utf8 text then line_of (first_word text) (rest text) else None)
+command_of text = if is_silent text then Some blank else (if is_utf8 text then (if bytes_eq text (codes "rules") then Some show_rules else line_of (first_word text) (rest text)) else None)
 
 -- ---- the code's commands
 abbrev pub seen_ref : Ref → RefSeen
@@ -98,5 +99,6 @@ spoken (New obj of) = new_object (seen_ref obj) (string_bytes of)
 spoken (Take obj prop json) = take_value (seen_ref obj) (string_bytes prop) (string_bytes json)
 spoken (Give obj prop) = give_value (seen_ref obj) (string_bytes prop)
 spoken (Lookup obj prop) = look_up (seen_ref obj) (string_bytes prop)
+spoken Rules = show_rules
 spoken (Disable name label) = disable_rule (string_bytes name) (string_bytes label)
 spoken (Unload client) = unload_client (string_bytes client)

@@ -1,7 +1,7 @@
 -- The grammar of lines: the texts that speak a command, by cases.
 use Rattle.std.specs.Prelude.{ℕ, ◌≡◌, ◌&&◌, ◌++◌, Bool, true, IsTrue, List, length, nat_le, Option, Some, None, codes}
 use Rattle.std.specs.Str.{IsUtf8}
-use Rattle.pm_script.specs.Commands.{RefSeen, Spoken, blank, new_object, take_value, give_value, look_up, disable_rule, unload_client}
+use Rattle.pm_script.specs.Commands.{RefSeen, Spoken, blank, new_object, take_value, give_value, look_up, show_rules, disable_rule, unload_client}
 use Rattle.pm_script.specs.Lines.{is_silent}
 use Rattle.pm_rules.specs.Words.{is_label, is_word}
 use Rattle.pm_script.specs.Words.{is_name, is_property_word, is_type_word}
@@ -35,5 +35,6 @@ Speaks text (new_object obj of) = IsLine text (codes "new " ++ ref_text obj ++ c
 Speaks text (take_value obj prop json) = IsLine text (codes "take " ++ ref_text obj ++ codes " " ++ prop ++ codes " " ++ json) (is_ref obj && is_property_word prop && nat_le 1 (length json))
 Speaks text (give_value obj prop) = IsLine text (codes "give " ++ ref_text obj ++ codes " " ++ prop) (is_ref obj && is_property_word prop)
 Speaks text (look_up obj prop) = IsLine text (codes "lookup " ++ ref_text obj ++ codes " " ++ prop) (is_ref obj && is_property_word prop)
+Speaks text show_rules = IsLine text (codes "rules") true
 Speaks text (disable_rule name label) = IsLine text (codes "disable " ++ name ++ codes " " ++ label) (is_name name && is_label label)
 Speaks text (unload_client client) = IsLine text (codes "unload " ++ client) (is_word client)

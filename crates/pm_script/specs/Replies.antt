@@ -1,5 +1,5 @@
 -- What is replied to a command.
-use Rattle.std.specs.Prelude.{ℕ, List, ◌++◌, Bool, true, false, string_bytes, codes}
+use Rattle.std.specs.Prelude.{ℕ, List, ◌++◌, Bool, true, false, string_bytes, codes, decimal}
 use Rattle.pm_props.specs.declared.object_type.ObjectType.{ObjectType}
 use Rattle.pm_props.specs.Properties.{name_in}
 use Rattle.pm_types.specs.Values.{PropertyValue}
@@ -13,10 +13,11 @@ use Rattle.pm_script.specs.declared.refusal.ValueWhy.TheVariants.{Json, Shape, N
 use Rattle.pm_script.specs.declared.reply.Reply.{Reply}
 use Rattle.pm_script.specs.declared.reply.Reply.TheVariants as reply
 
--- done; shows name of p v, the value v of the property p of the object of that name and type; undef, where no value is held; refused, and why
+-- done; shows name of p v, the value v of the property p of the object of that name and type; lists_rules n text, where the book has n rules and this text; undef, where no value is held; refused, and why
 pub data ReplySeen : Type 0 where
   done : ReplySeen
   shows : List ℕ → ObjectType → PropId → PropertyValue → ReplySeen
+  lists_rules : ℕ → List ℕ → ReplySeen
   undef : ReplySeen
   refused : Refusal → ReplySeen
 
@@ -24,6 +25,7 @@ pub data ReplySeen : Type 0 where
 abbrev pub seen : Reply → ReplySeen
 seen reply.Done = done
 seen (reply.Value name of p v) = shows (string_bytes name) of p (view_of v)
+seen (reply.Rules count text) = lists_rules count (string_bytes text)
 seen reply.Undef = undef
 seen (reply.Refused why) = refused why
 
@@ -55,6 +57,7 @@ refusal_text UnknownRule = codes "16 UnknownRule"
 abbrev pub reply_text : ReplySeen → List ℕ
 reply_text done = codes "ok\n"
 reply_text (shows name of p v) = name ++ codes " " ++ name_in of p ++ codes " " ++ value_text v ++ codes "\n"
+reply_text (lists_rules n text) = codes "rules " ++ decimal n ++ codes "\n" ++ text
 reply_text undef = codes "undef\n"
 reply_text (refused why) = codes "no " ++ refusal_text why ++ codes "\n"
 
@@ -62,5 +65,6 @@ reply_text (refused why) = codes "no " ++ refusal_text why ++ codes "\n"
 abbrev pub is_refusal : ReplySeen → Bool
 is_refusal done = false
 is_refusal (shows name of p v) = false
+is_refusal (lists_rules n text) = false
 is_refusal undef = false
 is_refusal (refused why) = true

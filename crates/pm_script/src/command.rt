@@ -46,6 +46,8 @@ pub enum Command {
         obj: Ref,
         prop: String,
     },
+    /// `rules`
+    Rules,
     /// `disable NAME LABEL`
     Disable {
         name: String,
@@ -252,6 +254,9 @@ fn read_command(alloc: Global, line: &[u8]) -> Result<Command, LineFail>
     let Ok(text) = str::from_utf8(line) else {
         return Err(LineFail::BadCommand);
     };
+    if text == "rules" {
+        return Ok(Command::Rules);
+    }
     let (first, words) = split_word(text);
     read_words(alloc, first, words)
 }

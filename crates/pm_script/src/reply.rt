@@ -4,12 +4,13 @@ ghost use Rattle.pm_script.specs.Replies.{is_refusal, reply_text, seen};
 ghost use Rattle.pm_script.specs.Values.{value_text};
 ghost use Rattle.pm_props.specs.Properties.{name_in};
 ghost use Rattle.pm_types.specs.Views.{view_of};
-ghost use Rattle.std.specs.Prelude.{IfOk, OnOk, codes, string_bytes, ◌++◌, ◌≡◌};
+ghost use Rattle.std.specs.Prelude.{IfOk, OnOk, codes, decimal, string_bytes, ◌++◌, ◌≡◌};
 
 use crate::refusal::{Refusal, push_refusal};
 use crate::value_text::push_value;
 use pm_types::{ObjectType, PropId, Value};
 use std::alloc::{AllocError, Global};
+use std::fmt::Write;
 
 /// What is replied to a command.
 #[derive(Debug, Drop)]
@@ -22,6 +23,11 @@ pub enum Reply {
         of: ObjectType,
         prop: PropId,
         value: Value,
+    },
+    /// How many rules the book has, and its text.
+    Rules {
+        count: usize,
+        text: String,
     },
     /// The property is not held.
     Undef,
@@ -56,6 +62,14 @@ fn push_shown(
     text.push_str("\n")
 }
 
+/// Writes how many rules a book has, and its text.
+fn push_rules(text: &mut String, count: usize, book: &str) -> Result<(), AllocError>
+    ensures { OnOk result (string_bytes text.new ≡ string_bytes text.old ++ codes "rules " ++ decimal count ++ codes "\n" ++ book.now) }
+{
+    write!(text, "rules {count}\n")?;
+    text.push_str(book)
+}
+
 /// The reply's line as a text.
 fn reply_line(alloc: Global, r: &Reply) -> Result<String, AllocError>
     ensures { IfOk result (λ t. string_bytes t ≡ reply_text (seen r.now)) }
@@ -71,6 +85,11 @@ fn reply_line(alloc: Global, r: &Reply) -> Result<String, AllocError>
         } => {
             let mut text = String::from_str(alloc, name)?;
             push_shown(&mut text, *of, *prop, value)?;
+            Ok(text)
+        }
+        Reply::Rules { count, text: book } => {
+            let mut text = String::new(alloc);
+            push_rules(&mut text, *count, book)?;
             Ok(text)
         }
         Reply::Refused { why } => {

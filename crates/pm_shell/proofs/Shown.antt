@@ -9,9 +9,9 @@ use Rattle.pm_machine.specs.Steps.{AllKept, Machine, Step, whole_of}
 use Rattle.pm_object.specs.Honest.{IsKept}
 use Rattle.pm_object.specs.State.{State, read_at, value_of}
 use Rattle.pm_rules.specs.declared.rule.Rule.{Rule}
-use Rattle.pm_script.specs.Commands.{Spoken, blank, new_object, take_value, give_value, look_up, disable_rule, unload_client}
+use Rattle.pm_script.specs.Commands.{Spoken, blank, new_object, take_value, give_value, look_up, show_rules, disable_rule, unload_client}
 use Rattle.pm_script.specs.Lines.{Line}
-use Rattle.pm_script.specs.Replies.{ReplySeen, done, refused, shows, undef}
+use Rattle.pm_script.specs.Replies.{ReplySeen, done, lists_rules, refused, shows, undef}
 use Rattle.pm_script.specs.declared.refusal.Refusal.TheVariants.{BadCommand}
 use Rattle.pm_shell.specs.Run.{Answers, AnswersTo, command_at}
 use Rattle.pm_shell.specs.Shown.{IsShown, Shows}
@@ -59,6 +59,7 @@ shown_step : (book : List Rule) (old new : Machine) (command : Spoken) (name : L
 shown_step book old new blank name of p v h all = absurd h
 shown_step book old new (new_object ref text) name of p v h all = absurd h
 shown_step book old new (take_value ref text json) name of p v h all = absurd h
+shown_step book old new show_rules name of p v h all = absurd h
 shown_step book old new (disable_rule key label) name of p v h all = absurd h
 shown_step book old new (unload_client client) name of p v h all = absurd h
 shown_step book old new (give_value ref text) name of p v (o, at, named, is, typed, c, ensured, becomes, held) all =
@@ -77,4 +78,5 @@ shows_right book old new line None answers all = tt
 shows_right book old new line (Some (shows name of p v)) answers all = shown_to book old new (command_at line) name of p v answers all
 shows_right book old new line (Some done) answers all = tt
 shows_right book old new line (Some undef) answers all = tt
+shows_right book old new line (Some (lists_rules n text)) answers all = tt
 shows_right book old new line (Some (refused why)) answers all = tt
