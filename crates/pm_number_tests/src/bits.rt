@@ -1,4 +1,4 @@
-ghost use Rattle.std.specs.Prelude.{◌≡◌, IfOk, length};
+ghost use Rattle.std.specs.Prelude.{◌≡◌, ◌≤◌, IfOk, length};
 
 use pm_bits::{BitRow, BitTable};
 use std::alloc::{AllocError, Global};
@@ -108,6 +108,43 @@ fn compares_all_subsets_of_a_few_places(rt: HostRuntime) {
     for one in 0..SUBSETS {
         let x = row_of_subset(rt.alloc(), one).expect(&rt, "a row");
         check_subset(&rt, rt.alloc(), one, &x);
+    }
+}
+
+// The row of every third number below the length, from the first on.
+fn thirds(alloc: Global, len: usize, first: usize) -> Result<BitRow, AllocError>
+    ensures { IfOk result (λ row. length row ≡ len) }
+{
+    let mut row = BitRow::with_len(alloc, len)?;
+    for i in 0..len {
+        if i % 3 == first {
+            row.set(i);
+        }
+    }
+    Ok(row)
+}
+
+// Members, counts, meets and joins of rows of this length.
+fn check_length(rt: &impl Abort, alloc: Global, len: usize)
+    requires { len ≤ 200 }
+{
+    let zeros = thirds(alloc, len, 0).expect(rt, "a row");
+    let ones = thirds(alloc, len, 1).expect(rt, "a row");
+    assert!(rt; zeros.count() == (len + 2) / 3);
+    assert!(rt; ones.count() == (len + 1) / 3);
+    for i in 0..len {
+        assert!(rt; zeros.get(i) == (i % 3 == 0));
+    }
+    let shared = shared_count(alloc, &zeros, &ones).expect(rt, "what both have");
+    assert!(rt; shared == 0);
+    let joined = joined_count(alloc, &zeros, &ones).expect(rt, "what one of them has");
+    assert!(rt; joined == (len + 2) / 3 + (len + 1) / 3);
+}
+
+#[test]
+fn rows_of_each_length_up_to_200(rt: HostRuntime) {
+    for len in 0..201 {
+        check_length(&rt, rt.alloc(), len);
     }
 }
 

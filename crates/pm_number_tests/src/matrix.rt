@@ -33,6 +33,10 @@ fn a_matrix_is_copied_and_transposed(rt: HostRuntime) {
     let copy = matrix.copy(rt.alloc()).expect(&rt, "a copy");
     let transposed = copy.transpose(rt.alloc()).expect(&rt, "the columns");
     assert!(rt; transposed.rows() == 2);
+    let one = Fraction::new(1, 1).expect(&rt, "a whole number");
+    let half = Fraction::new(1, 2).expect(&rt, "a fraction");
+    assert!(rt; transposed.row(0) == [one].as_slice());
+    assert!(rt; transposed.row(1) == [half].as_slice());
 }
 
 // Rows of matrices with two columns; without rows there is no primitive row.
