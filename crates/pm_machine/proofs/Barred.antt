@@ -21,7 +21,7 @@ or_false : (a : Bool) → (a || false) ≡ a
 or_false true = refl
 or_false false = refl
 
-any_push : {X : Type 0} (test : X → Bool) (xs : List X) (x : X) → list_any test (xs ++ x ∷ []) ≡ (list_any test xs || test x)
+pub any_push : {X : Type 0} (test : X → Bool) (xs : List X) (x : X) → list_any test (xs ++ x ∷ []) ≡ (list_any test xs || test x)
 any_push test [] x = or_false (test x)
 any_push test (y ∷ xs) x = ap (λ t. test y || t) (any_push test xs x) ∙ or_assoc (test y) (list_any test xs) (test x)
 

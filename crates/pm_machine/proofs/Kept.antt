@@ -3,19 +3,19 @@ use Rattle.pm_algebra.proofs.Lists.{among_Contains}
 use Rattle.pm_machine.proofs.Traces.{ensuring_in_part_keeps, reaching_keeps}
 use Rattle.pm_machine.specs.declared.round.Ending.{Ending}
 use Rattle.pm_machine.specs.declared.round.Ending.TheVariants as ending
-use Rattle.pm_machine.specs.Events.{Configuration, Ensured, at_rest, configuration, unsettled}
-use Rattle.pm_machine.specs.Parts.{AllHonest, GaveInPart, StepInPart}
-use Rattle.pm_machine.specs.Steps.{AllKept, Becomes, DisableStep, Given, GiveStep, LookupStep, Machine, NewStep, RulesStep, Stays, Step, TakeStep, TakeValue, UnloadStep, disabling, given_value, object_at, whole_of, no_json, faulty, value}
+use Rattle.pm_machine.specs.Events.{Configuration, Ensured, EnsuredInPart, at_rest, configuration, unsettled}
+use Rattle.pm_machine.specs.Parts.{AllHonest, IsSettled, StepInPart}
+use Rattle.pm_machine.specs.Steps.{AllKept, Becomes, DisableStep, EnsureStep, EnsuredAll, Ensures, ExplainStep, ExplainedAll, Gave, Given, GiveStep, Gives, HistoryStep, LookupStep, Machine, NewStep, RulesStep, Stays, Step, TakeStep, TakeValue, UnloadStep, disabling, given_value, object_at, whole_of, no_json, faulty, value}
 use Rattle.pm_object.proofs.Formed.{only}
-use Rattle.pm_object.proofs.Honesty.{empty_is_kept, given_is_kept, honesty_is_of_values}
+use Rattle.pm_object.proofs.Honesty.{empty_is_kept, given_is_kept, honesty_is_of_values, settled_is_kept}
 use Rattle.pm_object.specs.Honest.{IsHonest, IsKept}
 use Rattle.pm_object.specs.State.{HeldValue, State, is_disabled, is_held, is_sealed, read_at, take_refusal, with_disabled}
 use Rattle.pm_object.specs.declared.held.Origin.TheVariants.{Given as Given'}
 use Rattle.pm_object.specs.declared.held.TakeFail.{TakeFail}
 use Rattle.pm_object.specs.declared.held.TakeFail.TheVariants as fail
 use Rattle.pm_rules.specs.declared.rule.Rule.{Rule}
-use Rattle.pm_script.specs.Commands.{RefSeen, Spoken, blank, new_object, take_value, give_value, look_up, show_rules, disable_rule, unload_client}
-use Rattle.pm_script.specs.Replies.{ReplySeen, done, shows, lists_rules, undef, refused}
+use Rattle.pm_script.specs.Commands.{RefSeen, Spoken, blank, new_object, take_value, give_value, look_up, ensure_values, explain_values, tell_history, show_rules, disable_rule, unload_client}
+use Rattle.pm_script.specs.Replies.{ReplySeen, done, ensured, explained, lists_rules, nothing, planned, refused, shows, tells, undef}
 use Rattle.pm_script.specs.declared.refusal.Refusal.TheVariants.{UnknownName, NameTaken, UnknownType, UnknownProperty, BadValue, AlreadyHeld, Sealed, ObjectsFull, NoChain, Crowded, UnknownRule}
 use Rattle.pm_props.specs.Sets.{only as only_property}
 use Rattle.pm_types.specs.Values.{PropertyValue}
@@ -95,39 +95,80 @@ one_given : (p : PropId) (v : PropertyValue) (h : HeldValue) → Contains (given
 one_given p v h i = ap (λ (z : HeldValue). z.origin) (only (among_Contains (given_value p v ∷ []) i))
 
 new_keeps : (old new : Machine) (ref : RefSeen) (text : List ℕ) (reply : ReplySeen) → NewStep old ref text reply new → AllKept old → AllKept new
-new_keeps old new ref text (refused UnknownType) (h, s) all = stays_kept old new s all
-new_keeps old new ref text (refused NameTaken) (h, k, s) all = stays_kept old new s all
-new_keeps old new ref text (refused ObjectsFull) (h, k, l, s) all = stays_kept old new s all
+new_keeps old new ref text (refused UnknownType nothing) (h, s) all = stays_kept old new s all
+new_keeps old new ref text (refused NameTaken nothing) (h, k, s) all = stays_kept old new s all
+new_keeps old new ref text (refused ObjectsFull nothing) (h, k, l, s) all = stays_kept old new s all
 new_keeps old new ref text done (of, h, k, l, g) all = with_one ref.name _ old new g.object g.others (empty_is_kept of) all
 new_keeps old new ref text reply h all = absurd h
 
 take_keeps : (old new : Machine) (ref : RefSeen) (text json : List ℕ) (reply : ReplySeen) → TakeStep old ref text json reply new → AllKept old → AllKept new
-take_keeps old new ref text json (refused UnknownName) (h, s) all = stays_kept old new s all
-take_keeps old new ref text json (refused UnknownProperty) (o, h, k, s) all = stays_kept old new s all
+take_keeps old new ref text json (refused UnknownName nothing) (h, s) all = stays_kept old new s all
+take_keeps old new ref text json (refused UnknownProperty nothing) (o, h, k, s) all = stays_kept old new s all
 take_keeps old new ref text json done (o, at, p, named, v, taken, becomes) all =
     becomes_kept ref.name _ old new becomes
     (given_is_kept o (given_value p v ∷ []) (not_sealed o (taken_unsealed o p _ v taken)) (one_given p v) (kept_at old ref o at all)) all
-take_keeps old new ref text json (refused AlreadyHeld) (o, at, p, named, taken, s) all = stays_kept old new s all
-take_keeps old new ref text json (refused Sealed) (o, at, p, named, taken, s) all = stays_kept old new s all
-take_keeps old new ref text json (refused (BadValue why)) (o, at, p, named, taken, s) all = stays_kept old new s all
+take_keeps old new ref text json (refused AlreadyHeld nothing) (o, at, p, named, taken, s) all = stays_kept old new s all
+take_keeps old new ref text json (refused Sealed nothing) (o, at, p, named, taken, s) all = stays_kept old new s all
+take_keeps old new ref text json (refused (BadValue why) nothing) (o, at, p, named, taken, s) all = stays_kept old new s all
 take_keeps old new ref text json reply h all = absurd h
 
+given_kept : (book : List Rule) (old new : Configuration) (name : List ℕ) (p : PropId) (reply : ReplySeen) → Gives book old name p reply new → IsKept old.object → IsKept new.object
+given_kept book old new name p (refused NoChain more) (e, _) kept = ensured_kept book (only_property p) ending.NoChain old new e kept
+given_kept book old new name p (refused Crowded more) (e, _) kept = ensured_kept book (only_property p) ending.Crowded old new e kept
+given_kept book old new name p (shows n of q v t) (e, same, typed, is, held, rounds) kept = ensured_kept book (only_property p) ending.Found old new e kept
+given_kept book old new name p reply h kept = absurd h
+
+gave_keeps : (book : List Rule) (old new : Machine) (ref : RefSeen) (text : List ℕ) (reply : ReplySeen) → Gave book old ref text reply new → AllKept old → AllKept new
+gave_keeps book old new ref text reply (o, at, p, named, c, gives, becomes) all =
+    becomes_kept ref.name c old new becomes (given_kept book (configuration o old.clients) c ref.name p reply gives (kept_at old ref o at all)) all
+
 give_keeps : (book : List Rule) (old new : Machine) (ref : RefSeen) (text : List ℕ) (reply : ReplySeen) → GiveStep book old ref text reply new → AllKept old → AllKept new
-give_keeps book old new ref text (refused UnknownName) (h, s) all = stays_kept old new s all
-give_keeps book old new ref text (refused UnknownProperty) (o, h, k, s) all = stays_kept old new s all
-give_keeps book old new ref text (refused NoChain) (o, at, p, named, c, ensured, becomes) all =
-    becomes_kept ref.name c old new becomes (ensured_kept book (only_property p) ending.NoChain (configuration o old.clients) c ensured (kept_at old ref o at all)) all
-give_keeps book old new ref text (refused Crowded) (o, at, p, named, c, ensured, becomes) all =
-    becomes_kept ref.name c old new becomes (ensured_kept book (only_property p) ending.Crowded (configuration o old.clients) c ensured (kept_at old ref o at all)) all
-give_keeps book old new ref text (shows name of p v) (o, at, named, n, t, c, ensured, becomes, held) all =
-    becomes_kept ref.name c old new becomes (ensured_kept book (only_property p) ending.Found (configuration o old.clients) c ensured (kept_at old ref o at all)) all
+give_keeps book old new ref text (refused UnknownName nothing) (h, s) all = stays_kept old new s all
+give_keeps book old new ref text (refused UnknownProperty nothing) (o, h, k, s) all = stays_kept old new s all
+give_keeps book old new ref text (refused NoChain more) h all = gave_keeps book old new ref text (refused NoChain more) h all
+give_keeps book old new ref text (refused Crowded more) h all = gave_keeps book old new ref text (refused Crowded more) h all
+give_keeps book old new ref text (shows name of p v t) h all = gave_keeps book old new ref text (shows name of p v t) h all
 give_keeps book old new ref text reply h all = absurd h
 
+all_ensured_kept : (book : List Rule) (old new : Configuration) (asked : PropSet) (reply : ReplySeen) → Ensures book old asked reply new → IsKept old.object → IsKept new.object
+all_ensured_kept book old new asked (refused NoChain more) (e, _) kept = ensured_kept book asked ending.NoChain old new e kept
+all_ensured_kept book old new asked (refused Crowded more) (e, _) kept = ensured_kept book asked ending.Crowded old new e kept
+all_ensured_kept book old new asked (ensured t) (e, _) kept = ensured_kept book asked ending.Found old new e kept
+all_ensured_kept book old new asked reply h kept = absurd h
+
+ensured_all_keeps : (book : List Rule) (old new : Machine) (ref : RefSeen) (words : List (List ℕ)) (reply : ReplySeen) → EnsuredAll book old ref words reply new → AllKept old → AllKept new
+ensured_all_keeps book old new ref words reply (o, at, asked, named, c, ensures, becomes) all =
+    becomes_kept ref.name c old new becomes (all_ensured_kept book (configuration o old.clients) c asked reply ensures (kept_at old ref o at all)) all
+
+ensure_keeps : (book : List Rule) (old new : Machine) (ref : RefSeen) (words : List (List ℕ)) (reply : ReplySeen) → EnsureStep book old ref words reply new → AllKept old → AllKept new
+ensure_keeps book old new ref words (refused UnknownName nothing) (h, s) all = stays_kept old new s all
+ensure_keeps book old new ref words (refused UnknownProperty nothing) (o, h, k, s) all = stays_kept old new s all
+ensure_keeps book old new ref words (refused NoChain more) h all = ensured_all_keeps book old new ref words (refused NoChain more) h all
+ensure_keeps book old new ref words (refused Crowded more) h all = ensured_all_keeps book old new ref words (refused Crowded more) h all
+ensure_keeps book old new ref words (ensured t) h all = ensured_all_keeps book old new ref words (ensured t) h all
+ensure_keeps book old new ref words reply h all = absurd h
+
+explained_keeps : (book : List Rule) (old new : Machine) (ref : RefSeen) (words : List (List ℕ)) (reply : ReplySeen) → ExplainedAll book old ref words reply new → AllKept old → AllKept new
+explained_keeps book old new ref words reply (o, at, asked, named, explains, becomes) all = becomes_kept ref.name _ old new becomes (settled_is_kept o (kept_at old ref o at all)) all
+
+explain_keeps : (book : List Rule) (old new : Machine) (ref : RefSeen) (words : List (List ℕ)) (reply : ReplySeen) → ExplainStep book old ref words reply new → AllKept old → AllKept new
+explain_keeps book old new ref words (refused UnknownName nothing) (h, s) all = stays_kept old new s all
+explain_keeps book old new ref words (refused UnknownProperty nothing) (o, h, k, s) all = stays_kept old new s all
+explain_keeps book old new ref words (explained chain weight rows names) h all = explained_keeps book old new ref words (explained chain weight rows names) h all
+explain_keeps book old new ref words (refused NoChain (planned barred rows names)) h all = explained_keeps book old new ref words (refused NoChain (planned barred rows names)) h all
+explain_keeps book old new ref words (refused Crowded (planned barred rows names)) h all = explained_keeps book old new ref words (refused Crowded (planned barred rows names)) h all
+explain_keeps book old new ref words reply h all = absurd h
+
+history_keeps : (book : List Rule) (old new : Machine) (name : List ℕ) (reply : ReplySeen) → HistoryStep book old name reply new → AllKept old → AllKept new
+history_keeps book old new name (refused UnknownName nothing) (h, s) all = stays_kept old new s all
+history_keeps book old new name (tells t excluded) (o, at, _, _, s) all = stays_kept old new s all
+history_keeps book old new name reply h all = absurd h
+
 lookup_keeps : (old new : Machine) (ref : RefSeen) (text : List ℕ) (reply : ReplySeen) → LookupStep old ref text reply new → AllKept old → AllKept new
-lookup_keeps old new ref text (refused UnknownName) (h, s) all = stays_kept old new s all
-lookup_keeps old new ref text (refused UnknownProperty) (o, h, k, s) all = stays_kept old new s all
+lookup_keeps old new ref text (refused UnknownName nothing) (h, s) all = stays_kept old new s all
+lookup_keeps old new ref text (refused UnknownProperty nothing) (o, h, k, s) all = stays_kept old new s all
 lookup_keeps old new ref text undef (o, at, p, named, none, s) all = stays_kept old new s all
-lookup_keeps old new ref text (shows name of p v) (o, at, named, n, t, is, s) all = stays_kept old new s all
+lookup_keeps old new ref text (shows name of p v t) (o, at, named, n, typed, is, _, s) all = stays_kept old new s all
 lookup_keeps old new ref text reply h all = absurd h
 
 disabled_kept : (o : State) (label : List ℕ) → IsKept o → IsKept (disabling o label)
@@ -138,14 +179,14 @@ disabled_kept o label kept = by (is_disabled label o.disabled)
     by false = record { honest = honesty_is_of_values o (with_disabled o label) refl refl kept.honest; given = kept.given }
 
 disable_keeps : (book : List Rule) (old new : Machine) (name label : List ℕ) (reply : ReplySeen) → DisableStep book old name label reply new → AllKept old → AllKept new
-disable_keeps book old new name label (refused UnknownName) (h, s) all = stays_kept old new s all
-disable_keeps book old new name label (refused UnknownRule) (h, k, s) all = stays_kept old new s all
+disable_keeps book old new name label (refused UnknownName nothing) (h, s) all = stays_kept old new s all
+disable_keeps book old new name label (refused UnknownRule nothing) (h, k, s) all = stays_kept old new s all
 disable_keeps book old new name label done (o, at, known, becomes) all =
     becomes_kept name _ old new becomes (disabled_kept o label (subst (λ z. IfSome z IsKept) at (all.each name))) all
 disable_keeps book old new name label reply h all = absurd h
 
 unload_keeps : (old new : Machine) (name : List ℕ) (reply : ReplySeen) → UnloadStep old name reply new → AllKept old → AllKept new
-unload_keeps old new name (refused UnknownRule) (h, s) all = stays_kept old new s all
+unload_keeps old new name (refused UnknownRule nothing) (h, s) all = stays_kept old new s all
 unload_keeps old new name done (h, u) all = record { each = λ q. subst (λ z. IfSome z IsKept) (sym (u.objects q)) (all.each q) }
 unload_keeps old new name reply h all = absurd h
 
@@ -159,6 +200,9 @@ steps_keep book old new (new_object ref text) reply h all = new_keeps old new re
 steps_keep book old new (take_value ref text json) reply h all = take_keeps old new ref text json reply h all
 steps_keep book old new (give_value ref text) reply h all = give_keeps book old new ref text reply h all
 steps_keep book old new (look_up ref text) reply h all = lookup_keeps old new ref text reply h all
+steps_keep book old new (ensure_values ref words) reply h all = ensure_keeps book old new ref words reply h all
+steps_keep book old new (explain_values ref words) reply h all = explain_keeps book old new ref words reply h all
+steps_keep book old new (tell_history name) reply h all = history_keeps book old new name reply h all
 steps_keep book old new show_rules reply h all = rules_keep book old new reply h all
 steps_keep book old new (disable_rule name label) reply h all = disable_keeps book old new name label reply h all
 steps_keep book old new (unload_client name) reply h all = unload_keeps old new name reply h all
@@ -174,18 +218,28 @@ all_honest m all = record { each = λ q. honest_of (m.object q) (all.each q) }
 pub stays_honest : (old new : Machine) → Stays old new → AllKept old → AllHonest new
 stays_honest old new s all = record { each = λ q. subst (λ z. IfSome z IsHonest) (sym (s.objects q)) (honest_of (old.object q) (all.each q)) }
 
-gave_honest : (book : List Rule) (old new : Machine) (ref : RefSeen) (text : List ℕ) → GaveInPart book old ref text new → AllKept old → AllHonest new
-gave_honest book old new ref text g all = record {
+part_honest : (book : List Rule) (asked : PropSet) (old new : Machine) (ref : RefSeen) (o : State) (now : Configuration) → object_at old ref ≡ Some o → EnsuredInPart book None asked (configuration o old.clients) now
+    → Becomes ref.name now old new → AllKept old → AllHonest new
+part_honest book asked old new ref o now named part becomes all = record {
   each = λ q. elim (decide (bytes_eq q ref.name)) [
-    | inl e ↦ subst (λ z. IfSome z IsHonest) (sym (ap new.object (same_bytes q ref.name e) ∙ g.becomes.object))
-        (ensuring_in_part_keeps book None (only_property g.property) _ g.now g.ensured (kept_at old ref g.object g.named all))
-    | inr e ↦ subst (λ z. IfSome z IsHonest) (sym (g.becomes.others q (other_bytes q ref.name e))) (honest_of (old.object q) (all.each q))
+    | inl e ↦ subst (λ z. IfSome z IsHonest) (sym (ap new.object (same_bytes q ref.name e) ∙ becomes.object))
+        (ensuring_in_part_keeps book None asked _ now part (kept_at old ref o named all))
+    | inr e ↦ subst (λ z. IfSome z IsHonest) (sym (becomes.others q (other_bytes q ref.name e))) (honest_of (old.object q) (all.each q))
   ];
 }
 
+settled_honest : (old new : Machine) (ref : RefSeen) → IsSettled old ref new → AllKept old → AllHonest new
+settled_honest old new ref s all =
+    all_honest new (becomes_kept ref.name _ old new s.becomes (settled_is_kept s.object (kept_at old ref s.object s.named all)) all)
+
 pub steps_in_part_keep : (book : List Rule) (old new : Machine) (command : Spoken) → StepInPart book old command new → AllKept old → AllHonest new
 steps_in_part_keep book old new (give_value ref text) (inl s) all = stays_honest old new s all
-steps_in_part_keep book old new (give_value ref text) (inr g) all = gave_honest book old new ref text g all
+steps_in_part_keep book old new (give_value ref text) (inr g) all = part_honest book (only_property g.property) old new ref g.object g.now g.named g.ensured g.becomes all
+steps_in_part_keep book old new (ensure_values ref words) (inl s) all = stays_honest old new s all
+steps_in_part_keep book old new (ensure_values ref words) (inr g) all = part_honest book g.asked old new ref g.object g.now g.named g.ensured g.becomes all
+steps_in_part_keep book old new (explain_values ref words) (inl s) all = stays_honest old new s all
+steps_in_part_keep book old new (explain_values ref words) (inr s) all = settled_honest old new ref s all
+steps_in_part_keep book old new (tell_history name) s all = stays_honest old new s all
 steps_in_part_keep book old new blank s all = stays_honest old new s all
 steps_in_part_keep book old new (new_object ref text) s all = stays_honest old new s all
 steps_in_part_keep book old new (take_value ref text json) s all = stays_honest old new s all

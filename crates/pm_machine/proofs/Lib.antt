@@ -1,6 +1,7 @@
 pub mod Traces
 pub mod Kept
 pub mod Barred
+pub mod BarredReasons
 pub mod Committing
 pub mod Running
 pub mod Measure

@@ -1,6 +1,7 @@
 -- Rounds come to an end: with each that does not find all, one rule more is excluded.
 use Rattle.pm_algebra.proofs.Lists.{Among, here, there}
 use Rattle.pm_client.specs.Starts.{Clients}
+use Rattle.pm_machine.proofs.Barred.{any_push}
 use Rattle.pm_machine.specs.Chains.{AllHeld, place_of_rule}
 use Rattle.pm_machine.specs.Events.{configuration}
 use Rattle.pm_machine.specs.Running.{RoundStarted, unexcluded}
@@ -59,18 +60,6 @@ named_from sub asked o h = all_from (λ p. not (has asked p) || is_held p (read_
 
 named_to : (sub : Option ℕ) (asked : PropSet) (o : State) → all_named asked (read_at sub o.held) ≡ true → AllHeld sub asked o
 named_to sub asked o h = λ p k. names_held (read_at sub o.held) p ∙ sym (ap (λ t. not t || is_held p (read_at sub o.held)) k) ∙ all_to (λ q. not (has asked q) || is_held q (read_at sub o.held)) every_property h (among_every p)
-
-or_assoc : (a b c : Bool) → (a || (b || c)) ≡ ((a || b) || c)
-or_assoc true b c = refl
-or_assoc false b c = refl
-
-or_false : (a : Bool) → (a || false) ≡ a
-or_false true = refl
-or_false false = refl
-
-any_push : {X : Type 0} (test : X → Bool) (xs : List X) (x : X) → list_any test (xs ++ x ∷ []) ≡ (list_any test xs || test x)
-any_push test [] x = or_false (test x)
-any_push test (y ∷ xs) x = ap (λ t. test y || t) (any_push test xs x) ∙ or_assoc (test y) (list_any test xs) (test x)
 
 bit : Bool → ℕ
 bit b = if b then 0 else 1

@@ -2,37 +2,46 @@
 use Rattle.pm_client.specs.Starts.{Clients}
 use Rattle.pm_props.specs.declared.object_type.ObjectType.{ObjectType}
 use Rattle.pm_machine.proofs.Kept.{all_honest, steps_in_part_keep, steps_keep}
+use Rattle.pm_machine.specs.Chains.{AreBarred, held_names, table}
 use Rattle.pm_machine.specs.Events.{Configuration, Ensured, EnsuredInPart, at_rest, configuration}
 use Rattle.pm_machine.specs.declared.round.Ending.{Ending}
 use Rattle.pm_machine.specs.declared.round.Ending.TheVariants as ending
 use Rattle.pm_machine.specs.Parts.{AllHonest, StepInPart}
-use Rattle.pm_machine.specs.Sessions.{Gives, no_files}
-use Rattle.pm_machine.specs.Steps.{AllKept, Becomes, DisableStep, Gains, Given, GiveStep, Machine, Stays, Step, TakeStep, TakeValue, Taken, disabling, faulty, given_by, has_label, no_json, property_named, value, whole_of}
+use Rattle.pm_machine.specs.Reasons.{AreReasons}
+use Rattle.pm_machine.specs.Sessions.{no_files}
+use Rattle.pm_machine.specs.Steps.{AllKept, Becomes, DisableStep, EnsureStep, Ensures, ExplainStep, Explains, Gains, Given, GiveStep, Gives, Machine, Stays, Step, TakeStep, TakeValue, Taken, asked_in, disabling, faulty, given_by, has_label, later_rounds, named_rounds, no_json, property_named, rounds_beside, rule_names, settled_object, value, whole_of}
 use Rattle.pm_object.proofs.Names.{names_held}
-use Rattle.pm_object.specs.State.{ObjectSeen, State, is_held, read_at, value_of}
+use Rattle.pm_object.specs.State.{ObjectSeen, RoundSeen, State, is_held, read_at, value_of}
+use Rattle.pm_object.specs.Views.{round_seen}
+use Rattle.pm_object.specs.declared.held.Round.{Round}
+use Rattle.pm_plan.specs.Plans.{HasNoPlan, IsCrowded, IsPlan}
 use Rattle.pm_rules.specs.declared.rule.Rule.{Rule}
-use Rattle.pm_script.specs.Commands.{RefSeen, Spoken, blank, new_object, take_value, give_value, look_up, show_rules, disable_rule, unload_client}
-use Rattle.pm_script.specs.Replies.{ReplySeen, done, lists_rules, refused, shows, undef}
+use Rattle.pm_rules.specs.declared.table.TableRow.{TableRow}
+use Rattle.pm_script.specs.Commands.{RefSeen, Spoken, blank, new_object, take_value, give_value, look_up, ensure_values, explain_values, tell_history, show_rules, disable_rule, unload_client}
+use Rattle.pm_script.specs.Replies.{NamesSeen, Remarks, ReplySeen, Rounds, done, ensured, explained, lists_rules, nothing, planned, refused, remarks, shows, tells, told, undef}
+use Rattle.pm_script.specs.declared.names.Bar.{Bar}
 use Rattle.pm_script.specs.declared.refusal.Refusal.{Refusal}
 use Rattle.pm_script.specs.declared.refusal.Refusal.TheVariants.{BadCommand, UnknownName, NameTaken, UnknownType, UnknownProperty, BadValue, AlreadyHeld, Sealed, ObjectsFull, NoChain, Crowded, UnknownRule}
 use Rattle.pm_props.proofs.Members.{has-only}
 use Rattle.pm_props.specs.Properties.{number}
 use Rattle.pm_props.specs.Sets.{has, only}
 use Rattle.pm_types.specs.Values.{PropertyValue}
+use Rattle.pm_props.specs.declared.kind.RuleId.{RuleId}
 use Rattle.pm_props.specs.declared.property.PropId.{PropId}
 use Rattle.pm_props.specs.declared.set.PropSet.{PropSet}
+use Rattle.pm_props.specs.declared.weight.Cost.{Cost}
 use Rattle.serde_json.specs.Read.{read}
 use Rattle.std.proofs.Common.{ap, arith, bytes_eq, eqb, false, inl, inr, refl, subst, sym, true, true≢false, ◌∙◌, ◌≢◌}
 use Rattle.std.proofs.lemmas.Map.Text.{hash_map_updates_text}
 use Rattle.std.proofs.lemmas.Slice.Eq.{bytes_eq-Decides}
 use Rattle.indexmap.proofs.CallerLemmas.{insert_entry-new}
 use Rattle.indexmap.specs.IndexMap.{insert_entry}
-use Rattle.std.proofs.lemmas.List.{map-append}
+use Rattle.std.proofs.lemmas.List.{length-map, map-append}
 use Rattle.std.specs.HashMap.{HashMap, UpdatesBy, get, get_by_text, keys}
 use Rattle.std.specs.Map.{keys_of}
 use Rattle.std.specs.Option.{IsSome, is_some, option_map}
 use Rattle.std.specs.String.{string_eq}
-use Rattle.std.specs.Prelude.{Bool, String, Err, IfOk, List, None, Ok, OnErr, OnOk, Option, Result, Some, [], cond, map, string_bytes, ℕ, ◌++◌, ◌∷◌, ◌≡◌, ◌⊎◌}
+use Rattle.std.specs.Prelude.{Bool, String, Err, IfOk, List, None, Ok, OnErr, OnOk, Option, Result, Some, [], cond, drop, length, map, string_bytes, ℕ, ◌++◌, ◌∷◌, ◌≡◌, ◌⊎◌}
 
 decide : (b : Bool) → (b ≡ true) ⊎ (b ≡ false)
 decide true = inl refl
@@ -181,17 +190,17 @@ module _ {ns ms : List (List ℕ)} {old new : List ℕ → Option State} {name :
     at = at_whole sub (old name) o whole w.was
 
     pub take_unknown : (clients : Clients) (json : List ℕ) → property_named o.of text ≡ None → o' ≡ o
-        → TakeStep (machine_with ns old clients) (ref_with name sub) text json (refused UnknownProperty) (machine_with ms new clients)
+        → TakeStep (machine_with ns old clients) (ref_with name sub) text json (refused UnknownProperty nothing) (machine_with ms new clients)
     take_unknown clients json none same = (o, at, none, stays_with clients same)
 
     pub take_refused : (clients : Clients) (json : List ℕ) (p : PropId) (why : Refusal) → property_named o.of text ≡ Some p → Taken o p (given_by p (read json)) (Some why) o'
-        → TakeStep (machine_with ns old clients) (ref_with name sub) text json (refused why) (machine_with ms new clients)
+        → TakeStep (machine_with ns old clients) (ref_with name sub) text json (refused why nothing) (machine_with ms new clients)
     take_refused clients json p why named t = by why t.0
       where
         stays : Stays (machine_with ns old clients) (machine_with ms new clients)
         stays = stays_with clients t.1
 
-        by : (y : Refusal) → TakeValue o p (given_by p (read json)) (Some y) None → TakeStep (machine_with ns old clients) (ref_with name sub) text json (refused y) (machine_with ms new clients)
+        by : (y : Refusal) → TakeValue o p (given_by p (read json)) (Some y) None → TakeStep (machine_with ns old clients) (ref_with name sub) text json (refused y nothing) (machine_with ms new clients)
         by AlreadyHeld h = (o, at, p, named, h, stays)
         by Sealed h = (o, at, p, named, h, stays)
         by (BadValue v) h = (o, at, p, named, h, stays)
@@ -211,45 +220,38 @@ module _ {ns ms : List (List ℕ)} {old new : List ℕ → Option State} {name :
         (o, at, p, named, v, t, record { names = w.names; object = w.is ∙ ap Some same; others = w.others; clients = refl; store = refl })
 
     pub give_unknown : (book : List Rule) (clients : Clients) → property_named o.of text ≡ None → o' ≡ o
-        → GiveStep book (machine_with ns old clients) (ref_with name sub) text (refused UnknownProperty) (machine_with ms new clients)
+        → GiveStep book (machine_with ns old clients) (ref_with name sub) text (refused UnknownProperty nothing) (machine_with ms new clients)
     give_unknown book clients none same = (o, at, none, stays_with clients same)
 
     becomes : (clients after : Clients) → Becomes name (configuration o' after) (machine_with ns old clients) (machine_with ms new after)
     becomes clients after = record { names = w.names; object = w.is; others = w.others; clients = refl; store = refl }
 
     pub give_step : {F E : Type 0} (view : F → ReplySeen) (r : Result F E) (book : List Rule) (clients after : Clients) (p : PropId) (called : List ℕ) → property_named o.of text ≡ Some p → called ≡ name
-        → IfOk r (λ x. Gives book (configuration o clients) (configuration o' after) called p (view x))
+        → IfOk r (λ x. Gives book (configuration o clients) called p (view x) (configuration o' after))
         → IfOk r (λ x. GiveStep book (machine_with ns old clients) (ref_with name sub) text (view x) (machine_with ms new after))
     give_step view (Err x) book clients after p called named call g = tt
     give_step view (Ok x) book clients after p called named call g = by (view x) g
       where
-        by : (reply : ReplySeen) → Gives book (configuration o clients) (configuration o' after) called p reply → GiveStep book (machine_with ns old clients) (ref_with name sub) text reply (machine_with ms new after)
-        by (refused NoChain) e = (o, at, p, named, configuration o' after, e, becomes clients after)
-        by (refused Crowded) e = (o, at, p, named, configuration o' after, e, becomes clients after)
-        by (shows s of q v) (same, type, one, held, e) = (
-          o,
-          at,
-          named ∙ ap Some (sym one),
-          same ∙ call,
-          type,
-          configuration o' after,
-          subst (λ z. Ensured book None (only z) ending.Found (configuration o clients) (configuration o' after)) (sym one) e,
-          becomes clients after,
-          subst (λ z. value_of z (read_at None o'.held) ≡ Some v) (sym one) held,
-        )
+        by : (reply : ReplySeen) → Gives book (configuration o clients) called p reply (configuration o' after) → GiveStep book (machine_with ns old clients) (ref_with name sub) text reply (machine_with ms new after)
+        by (refused NoChain more) e = (o, at, p, named, configuration o' after, e, becomes clients after)
+        by (refused Crowded more) e = (o, at, p, named, configuration o' after, e, becomes clients after)
+        by (shows s of q v t) (e, same, typed, one, held, rounds) = (o, at, p, named, configuration o' after, (e, same ∙ call, typed, one, held, rounds), becomes clients after)
         by done e = absurd e
+        by (ensured t) e = absurd e
+        by (explained chain weight rows names) e = absurd e
+        by (tells t excluded) e = absurd e
         by (lists_rules n t) e = absurd e
         by undef e = absurd e
-        by (refused BadCommand) e = absurd e
-        by (refused UnknownName) e = absurd e
-        by (refused NameTaken) e = absurd e
-        by (refused UnknownType) e = absurd e
-        by (refused UnknownProperty) e = absurd e
-        by (refused (BadValue y)) e = absurd e
-        by (refused AlreadyHeld) e = absurd e
-        by (refused Sealed) e = absurd e
-        by (refused ObjectsFull) e = absurd e
-        by (refused UnknownRule) e = absurd e
+        by (refused BadCommand more) e = absurd e
+        by (refused UnknownName more) e = absurd e
+        by (refused NameTaken more) e = absurd e
+        by (refused UnknownType more) e = absurd e
+        by (refused UnknownProperty more) e = absurd e
+        by (refused (BadValue y) more) e = absurd e
+        by (refused AlreadyHeld more) e = absurd e
+        by (refused Sealed more) e = absurd e
+        by (refused ObjectsFull more) e = absurd e
+        by (refused UnknownRule more) e = absurd e
 
     pub gave_in_part : {T E : Type 0} (r : Result T E) (book : List Rule) (clients after : Clients) (p : PropId) → property_named o.of text ≡ Some p
         → OnErr r (EnsuredInPart book None (only p) (configuration o clients) (configuration o' after))
@@ -258,27 +260,108 @@ module _ {ns ms : List (List ℕ)} {old new : List ℕ → Option State} {name :
     gave_in_part (Err x) book clients after p named e =
         inr (record { object = o; named = at; property = p; is_property = named; now = configuration o' after; ensured = e; becomes = becomes clients after })
 
+  module _ (sub : Option (List ℕ)) (words : List (List ℕ)) (whole : is_some sub ≡ false) where
+    asked_at : whole_of sub (old name) ≡ Some o
+    asked_at = at_whole sub (old name) o whole w.was
+
+    asked_becomes : (clients after : Clients) → Becomes name (configuration o' after) (machine_with ns old clients) (machine_with ms new after)
+    asked_becomes clients after = record { names = w.names; object = w.is; others = w.others; clients = refl; store = refl }
+
+    pub ensure_unknown : (book : List Rule) (clients : Clients) → asked_in o.of words ≡ None → o' ≡ o
+        → EnsureStep book (machine_with ns old clients) (ref_with name sub) words (refused UnknownProperty nothing) (machine_with ms new clients)
+    ensure_unknown book clients none same = (o, asked_at, none, stays_with clients same)
+
+    pub explain_unknown : (book : List Rule) (clients : Clients) → asked_in o.of words ≡ None → o' ≡ o
+        → ExplainStep book (machine_with ns old clients) (ref_with name sub) words (refused UnknownProperty nothing) (machine_with ms new clients)
+    explain_unknown book clients none same = (o, asked_at, none, stays_with clients same)
+
+    pub ensure_step : {F E : Type 0} (view : F → ReplySeen) (r : Result F E) (book : List Rule) (clients after : Clients) (asked : PropSet) → asked_in o.of words ≡ Some asked
+        → IfOk r (λ x. Ensures book (configuration o clients) asked (view x) (configuration o' after))
+        → IfOk r (λ x. EnsureStep book (machine_with ns old clients) (ref_with name sub) words (view x) (machine_with ms new after))
+    ensure_step view (Err x) book clients after asked is g = tt
+    ensure_step view (Ok x) book clients after asked is g = by (view x) g
+      where
+        by : (reply : ReplySeen) → Ensures book (configuration o clients) asked reply (configuration o' after) → EnsureStep book (machine_with ns old clients) (ref_with name sub) words reply (machine_with ms new after)
+        by (refused NoChain more) e = (o, asked_at, asked, is, configuration o' after, e, asked_becomes clients after)
+        by (refused Crowded more) e = (o, asked_at, asked, is, configuration o' after, e, asked_becomes clients after)
+        by (ensured t) e = (o, asked_at, asked, is, configuration o' after, e, asked_becomes clients after)
+        by (shows s of q v t) e = absurd e
+        by done e = absurd e
+        by (explained chain weight rows names) e = absurd e
+        by (tells t excluded) e = absurd e
+        by (lists_rules n t) e = absurd e
+        by undef e = absurd e
+        by (refused BadCommand more) e = absurd e
+        by (refused UnknownName more) e = absurd e
+        by (refused NameTaken more) e = absurd e
+        by (refused UnknownType more) e = absurd e
+        by (refused UnknownProperty more) e = absurd e
+        by (refused (BadValue y) more) e = absurd e
+        by (refused AlreadyHeld more) e = absurd e
+        by (refused Sealed more) e = absurd e
+        by (refused ObjectsFull more) e = absurd e
+        by (refused UnknownRule more) e = absurd e
+
+    pub ensured_partly : {T E : Type 0} (r : Result T E) (book : List Rule) (clients after : Clients) (asked : PropSet) → asked_in o.of words ≡ Some asked
+        → OnErr r (EnsuredInPart book None asked (configuration o clients) (configuration o' after))
+        → OnErr r (StepInPart book (machine_with ns old clients) (ensure_values (ref_with name sub) words) (machine_with ms new after))
+    ensured_partly (Ok x) book clients after asked is e = tt
+    ensured_partly (Err x) book clients after asked is e =
+        inr (record { object = o; named = asked_at; asked = asked; is_asked = is; now = configuration o' after; ensured = e; becomes = asked_becomes clients after })
+
+    settled_becomes : (clients : Clients) → o' ≡ settled_object o → Becomes name (configuration (settled_object o) clients) (machine_with ns old clients) (machine_with ms new clients)
+    settled_becomes clients same = record { names = w.names; object = w.is ∙ ap Some same; others = w.others; clients = refl; store = refl }
+
+    pub explain_step : {F E : Type 0} (view : F → ReplySeen) (r : Result F E) (book : List Rule) (clients : Clients) (asked : PropSet) → asked_in o.of words ≡ Some asked
+        → IfOk r (λ x. Explains book clients (settled_object o) asked (view x)) → IfOk r (λ x. o' ≡ settled_object o)
+        → IfOk r (λ x. ExplainStep book (machine_with ns old clients) (ref_with name sub) words (view x) (machine_with ms new clients))
+    explain_step view (Err x) book clients asked is g same = tt
+    explain_step view (Ok x) book clients asked is g same = by (view x) g
+      where
+        by : (reply : ReplySeen) → Explains book clients (settled_object o) asked reply → ExplainStep book (machine_with ns old clients) (ref_with name sub) words reply (machine_with ms new clients)
+        by (explained chain weight rows names) e = (o, asked_at, asked, is, e, settled_becomes clients same)
+        by (refused NoChain (planned barred rows names)) e = (o, asked_at, asked, is, e, settled_becomes clients same)
+        by (refused Crowded (planned barred rows names)) e = (o, asked_at, asked, is, e, settled_becomes clients same)
+        by (refused NoChain nothing) e = absurd e
+        by (refused NoChain (told always t)) e = absurd e
+        by (refused Crowded nothing) e = absurd e
+        by (refused Crowded (told always t)) e = absurd e
+        by (ensured t) e = absurd e
+        by (shows s of q v t) e = absurd e
+        by done e = absurd e
+        by (tells t excluded) e = absurd e
+        by (lists_rules n t) e = absurd e
+        by undef e = absurd e
+        by (refused BadCommand more) e = absurd e
+        by (refused UnknownName more) e = absurd e
+        by (refused NameTaken more) e = absurd e
+        by (refused UnknownType more) e = absurd e
+        by (refused UnknownProperty more) e = absurd e
+        by (refused (BadValue y) more) e = absurd e
+        by (refused AlreadyHeld more) e = absurd e
+        by (refused Sealed more) e = absurd e
+        by (refused ObjectsFull more) e = absurd e
+        by (refused UnknownRule more) e = absurd e
+
+    pub explained_in_part : {T E : Type 0} (r : Result T E) (book : List Rule) (clients : Clients) → OnErr r ((o' ≡ o) ⊎ (o' ≡ settled_object o))
+        → OnErr r (StepInPart book (machine_with ns old clients) (explain_values (ref_with name sub) words) (machine_with ms new clients))
+    explained_in_part (Ok x) book clients e = tt
+    explained_in_part (Err x) book clients (inl same) = inl (stays_with clients same)
+    explained_in_part (Err x) book clients (inr same) = inr (record { object = o; named = asked_at; becomes = settled_becomes clients same })
+
 -- ---- a label that is disabled
 module _ {ns ms : List (List ℕ)} {old new : List ℕ → Option State} {name : List ℕ} {o o' : State} (w : IsWritten ns ms old new name o o') where
   pub disable_unknown : (clients : Clients) (book : List Rule) (label : List ℕ) → has_label label book ≡ false → o' ≡ o
-      → DisableStep book (machine_with ns old clients) name label (refused UnknownRule) (machine_with ms new clients)
+      → DisableStep book (machine_with ns old clients) name label (refused UnknownRule nothing) (machine_with ms new clients)
   disable_unknown clients book label none same = (λ e. true≢false (ap is_some (sym w.was ∙ e)), none, stays_with w clients same)
 
   pub disable_done : (clients : Clients) (book : List Rule) (label : List ℕ) → has_label label book ≡ true → o' ≡ disabling o label
       → DisableStep book (machine_with ns old clients) name label done (machine_with ms new clients)
   disable_done clients book label known same = (o, w.was, known, record { names = w.names; object = w.is ∙ ap Some same; others = w.others; clients = refl; store = refl })
 
--- ---- what is ensured is shown
-pub gives_shown : {F E : Type 0} (view : F → ReplySeen) (r : Result F E) (book : List Rule) (old new : Configuration) (name : List ℕ) (p : PropId) (asked : PropSet) (of : ObjectType) (v : PropertyValue)
-    → asked ≡ only p → of ≡ old.object.of → value_of p (read_at None new.object.held) ≡ Some v → Ensured book None asked ending.Found old new → IfOk r (λ x. view x ≡ shows name of p v)
-    → IfOk r (λ x. Gives book old new name p (view x))
-gives_shown view (Err x) book old new name p asked of v one type held e s = tt
-gives_shown view (Ok x) book old new name p asked of v one type held e s =
-    subst (λ z. Gives book old new name p z) (sym s) (refl, type, refl, held, subst (λ z. Ensured book None z ending.Found old new) one e)
-
 -- how ensuring ended, of what was asked
 pub ended_so : (book : List Rule) (e : Ending) (old new : Configuration) (p : PropId) (asked : PropSet) → asked ≡ only p → Ensured book None asked e old new → Ensured book None (only p) e old new
-ended_so book e old new p asked one ensured = subst (λ z. Ensured book None z e old new) one ensured
+ended_so book e old new p asked one so = subst (λ z. Ensured book None z e old new) one so
 
 same_number : (n k : ℕ) → n ≡ k → eqb n k ≡ true
 same_number n k e = grind arith
@@ -293,6 +376,10 @@ pub whole_is_part : {T E : Type 0} (r : Result T E) (book : List Rule) (asked : 
 whole_is_part (Ok x) book asked p ending old new is e = tt
 whole_is_part (Err x) book asked p ending old new is e = subst (λ z. EnsuredInPart book None z old new) is (at_rest, e.reaches)
 
+pub ensured_in_part : {T E : Type 0} (r : Result T E) (book : List Rule) (asked : PropSet) (ending : Ending) (old new : Configuration) → Ensured book None asked ending old new → OnErr r (EnsuredInPart book None asked old new)
+ensured_in_part (Ok x) book asked ending old new e = tt
+ensured_in_part (Err x) book asked ending old new e = (at_rest, e.reaches)
+
 pub part_of : {T E : Type 0} (r : Result T E) (book : List Rule) (asked : PropSet) (p : PropId) (old new : Configuration) → asked ≡ only p
     → EnsuredInPart book None asked old new → OnErr r (EnsuredInPart book None (only p) old new)
 part_of (Ok x) book asked p old new is e = tt
@@ -301,6 +388,9 @@ part_of (Err x) book asked p old new is e = subst (λ z. EnsuredInPart book None
 -- ---- a step that answered, and one that did not
 pub stays_in_part : (book : List Rule) (old new : Machine) (command : Spoken) → Stays old new → StepInPart book old command new
 stays_in_part book old new (give_value ref text) s = inl s
+stays_in_part book old new (ensure_values ref words) s = inl s
+stays_in_part book old new (explain_values ref words) s = inl s
+stays_in_part book old new (tell_history name) s = s
 stays_in_part book old new blank s = s
 stays_in_part book old new (new_object ref text) s = s
 stays_in_part book old new (take_value ref text json) s = s
@@ -326,3 +416,63 @@ on_err_of (Err e) p = p
 pub on_err_so : {T E P Q : Type 0} (r : Result T E) → (P → Q) → OnErr r P → OnErr r Q
 on_err_so (Ok x) f p = tt
 on_err_so (Err e) f p = f p
+
+-- ---- what was ensured is told with its rounds
+pub gives_shown : {F E : Type 0} (view : F → ReplySeen) (r : Result F E) (book : List Rule) (old new : Configuration) (name : List ℕ) (p : PropId) (of : ObjectType) (v : PropertyValue) (t : Rounds)
+    → of ≡ old.object.of → value_of p (read_at None new.object.held) ≡ Some v → t ≡ named_rounds book (later_rounds old.object new.object) → Ensured book None (only p) ending.Found old new → IfOk r (λ x. view x ≡ shows name of p v t)
+    → IfOk r (λ x. Gives book old name p (view x) new)
+gives_shown view (Err x) book old new name p of v t type held rounds e s = tt
+gives_shown view (Ok x) book old new name p of v t type held rounds e s = subst (λ z. Gives book old name p z new) (sym s) (e, refl, type, refl, held, rounds)
+
+-- ---- rounds with their names
+pub rounds_named : (book : List Rule) (names : NamesSeen) (rounds later : List RoundSeen) → names ≡ rule_names book → rounds ≡ later
+    → record { rounds = rounds; names = names } ≡ named_rounds book later
+rounds_named book names rounds later is same = cc
+
+pub beside_named : (always : Bool) (book : List Rule) (names : NamesSeen) (rounds : List RoundSeen) (old new : State) → names ≡ rule_names book → rounds ≡ later_rounds old new
+    → remarks always rounds [] None names ≡ rounds_beside always book old new
+beside_named always book names rounds old new is same = ap (λ z. remarks always z [] None names) same ∙ ap (λ z. remarks always (later_rounds old new) [] None z) is
+
+-- the rounds after the first so many are the later ones
+pub later_is : (before : ℕ) (rounds : List Round) (old new : State) (later : List RoundSeen) → before ≡ length rounds → map round_seen rounds ≡ old.rounds → later ≡ drop before new.rounds → later ≡ later_rounds old new
+later_is before rounds old new later count seen_so is =
+    is ∙ ap (λ n. drop n new.rounds) (count ∙ sym (length-map rounds round_seen) ∙ ap length seen_so)
+
+pub gives_no_chain : (book : List Rule) (old new : Configuration) (name : List ℕ) (p : PropId) (reply : ReplySeen) (more : Remarks) → reply ≡ refused NoChain more → more ≡ rounds_beside false book old.object new.object
+    → Ensured book None (only p) ending.NoChain old new → Gives book old name p reply new
+gives_no_chain book old new name p reply more is told' e = subst (λ z. Gives book old name p z new) (sym is) (e, told')
+
+pub gives_crowded : (book : List Rule) (old new : Configuration) (name : List ℕ) (p : PropId) (reply : ReplySeen) (more : Remarks) → reply ≡ refused Crowded more → more ≡ rounds_beside false book old.object new.object
+    → Ensured book None (only p) ending.Crowded old new → Gives book old name p reply new
+gives_crowded book old new name p reply more is told' e = subst (λ z. Gives book old name p z new) (sym is) (e, told')
+
+pub ensures_no_chain : (book : List Rule) (old new : Configuration) (asked : PropSet) (reply : ReplySeen) (more : Remarks) → reply ≡ refused NoChain more → more ≡ rounds_beside true book old.object new.object
+    → Ensured book None asked ending.NoChain old new → Ensures book old asked reply new
+ensures_no_chain book old new asked reply more is told' e = subst (λ z. Ensures book old asked z new) (sym is) (e, told')
+
+pub ensures_crowded : (book : List Rule) (old new : Configuration) (asked : PropSet) (reply : ReplySeen) (more : Remarks) → reply ≡ refused Crowded more → more ≡ rounds_beside true book old.object new.object
+    → Ensured book None asked ending.Crowded old new → Ensures book old asked reply new
+ensures_crowded book old new asked reply more is told' e = subst (λ z. Ensures book old asked z new) (sym is) (e, told')
+
+-- ---- a plan is told with the names of the book
+pub planned_so : (P : PropSet → PropSet → Type 0) (names names' held held' : PropSet) → names ≡ names' → held ≡ held' → P names held → P names' held'
+planned_so P names names' held held' n h p = subst (λ z. P z held') n (subst (λ z. P names z) h p)
+
+pub explains_found : {F E : Type 0} (view : F → ReplySeen) (r : Result F E) (book : List Rule) (clients : Clients) (o : State) (asked : PropSet) (chain : List RuleId) (weight : Cost) (rows : List TableRow) (barred : List RuleId)
+    → AreBarred book clients o None barred → IsPlan book (table None o.of) barred (held_names None o) asked chain weight rows → IfOk r (λ x. view x ≡ explained chain weight rows (rule_names book)) → IfOk r (λ x. Explains book clients o asked (view x))
+explains_found view (Err x) book clients o asked chain weight rows barred are plan h = tt
+explains_found view (Ok x) book clients o asked chain weight rows barred are plan h = subst (λ z. Explains book clients o asked z) (sym h) (barred, are, plan, refl)
+
+pub explains_none : {F E : Type 0} (view : F → ReplySeen) (r : Result F E) (book : List Rule) (clients : Clients) (o : State) (asked : PropSet) (rows : List TableRow) (barred : List RuleId) → AreBarred book clients o None barred
+    → HasNoPlan book (table None o.of) barred (held_names None o) asked rows
+    → IfOk r (λ x. (list : List (RuleId × Bar)) × AreReasons book clients o None list × (view x ≡ refused NoChain (planned list rows (rule_names book)))) → IfOk r (λ x. Explains book clients o asked (view x))
+explains_none view (Err x) book clients o asked rows barred are none h = tt
+explains_none view (Ok x) book clients o asked rows barred are none (told', reasons, is) =
+    subst (λ z. Explains book clients o asked z) (sym is) (barred, are, none, reasons, refl)
+
+pub explains_crowded : {F E : Type 0} (view : F → ReplySeen) (r : Result F E) (book : List Rule) (clients : Clients) (o : State) (asked : PropSet) (rows : List TableRow) (barred : List RuleId) → AreBarred book clients o None barred
+    → IsCrowded book (table None o.of) barred (held_names None o) asked rows
+    → IfOk r (λ x. (list : List (RuleId × Bar)) × AreReasons book clients o None list × (view x ≡ refused Crowded (planned list rows (rule_names book)))) → IfOk r (λ x. Explains book clients o asked (view x))
+explains_crowded view (Err x) book clients o asked rows barred are crowded h = tt
+explains_crowded view (Ok x) book clients o asked rows barred are crowded (told', reasons, is) =
+    subst (λ z. Explains book clients o asked z) (sym is) (barred, are, crowded, reasons, refl)

@@ -9,7 +9,9 @@ use Rattle.pm_object.specs.declared.held.Excluded.{Excluded}
 use Rattle.pm_object.specs.declared.held.Origin.TheVariants.{Given}
 use Rattle.pm_object.specs.declared.held.RoundEnd.TheVariants as end
 use Rattle.pm_object.specs.declared.held.Why.TheVariants as why
+use Rattle.pm_machine.specs.Reasons.{first_reason}
 use Rattle.pm_rules.specs.declared.rule.Rule.{Rule}
+use Rattle.pm_script.specs.declared.names.Bar.TheVariants as bar
 use Rattle.pm_props.specs.Sets.{set_of}
 use Rattle.pm_types.specs.Values.{Fact, truth}
 use Rattle.pm_props.specs.declared.kind.Kind.{Kind}
@@ -89,3 +91,13 @@ pub record ConditionsAreRead : Type 0 where
   pub contrary_right : (rule : Rule) → some_wrong (under rule [] (Pointed ∷ [])) (given Pointed false ∷ []) ≡ false
   pub first : (rule : Rule) → IsFirstWrong (under rule (Pointed ∷ FullDim ∷ []) []) (given FullDim false ∷ given Pointed false ∷ []) Pointed
   pub not_first : (rule : Rule) → IsFirstWrong (under rule (Pointed ∷ FullDim ∷ []) []) (given FullDim false ∷ given Pointed false ∷ []) FullDim → ⊥
+
+-- why a rule is barred: the first reason of several counts
+pub record ReasonsAreRead : Type 0 where
+  pub failed_first : first_reason (Some (why.Failed (E4 [] []))) (Some Pointed) true false ≡ Some (bar.Failed 4)
+  pub wrong_now : first_reason (Some (why.False FullDim)) (Some Pointed) true true ≡ Some (bar.False Pointed)
+  pub wrong_then : first_reason (Some (why.False FullDim)) None true true ≡ Some (bar.False FullDim)
+  pub wrong_first : first_reason None (Some Pointed) true false ≡ Some (bar.False Pointed)
+  pub disabled_first : first_reason None None true false ≡ Some bar.Disabled
+  pub no_client : first_reason None None false false ≡ Some bar.NoClient
+  pub none : first_reason None None false true ≡ None

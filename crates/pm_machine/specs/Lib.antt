@@ -1,5 +1,6 @@
 pub mod Chains
 pub mod Commits
+pub mod Reasons
 pub mod Events
 pub mod Running
 pub mod Steps

@@ -1,13 +1,14 @@
 -- What stands where memory ran out in a command: a first part of its events, maybe none or all.
 use Rattle.std.specs.Prelude.{◌≡◌, ◌⊎◌, List, ℕ, None, Some, IfSome}
 use Rattle.pm_machine.specs.Events.{Configuration, EnsuredInPart, configuration}
-use Rattle.pm_machine.specs.Steps.{Becomes, Machine, Stays, object_at, property_named}
+use Rattle.pm_machine.specs.Steps.{Becomes, Machine, Stays, asked_in, object_at, property_named, settled_object}
 use Rattle.pm_object.specs.Honest.{IsHonest}
 use Rattle.pm_object.specs.State.{State}
 use Rattle.pm_rules.specs.declared.rule.Rule.{Rule}
-use Rattle.pm_script.specs.Commands.{RefSeen, Spoken, give_value}
+use Rattle.pm_script.specs.Commands.{RefSeen, Spoken, ensure_values, explain_values, give_value}
 use Rattle.pm_props.specs.Sets.{only}
 use Rattle.pm_props.specs.declared.property.PropId.{PropId}
+use Rattle.pm_props.specs.declared.set.PropSet.{PropSet}
 
 -- the object that REF names is ensured the property in part
 pub record GaveInPart (book : List Rule) (old : Machine) (ref : RefSeen) (text : List ℕ) (new : Machine) : Type 0 where
@@ -19,9 +20,27 @@ pub record GaveInPart (book : List Rule) (old : Machine) (ref : RefSeen) (text :
   pub ensured : EnsuredInPart book None (only property) (configuration object old.clients) now
   pub becomes : Becomes ref.name now old new
 
--- of the events of the command first ones occurred: those of `new`, `take` and `lookup` are all or none
+-- the object that REF names is ensured what the words ask for, in part
+pub record EnsuredPartly (book : List Rule) (old : Machine) (ref : RefSeen) (words : List (List ℕ)) (new : Machine) : Type 0 where
+  pub object : State
+  pub named : object_at old ref ≡ Some object
+  pub asked : PropSet
+  pub is_asked : asked_in object.of words ≡ Some asked
+  pub now : Configuration
+  pub ensured : EnsuredInPart book None asked (configuration object old.clients) now
+  pub becomes : Becomes ref.name now old new
+
+-- the object that REF names is settled
+pub record IsSettled (old : Machine) (ref : RefSeen) (new : Machine) : Type 0 where
+  pub object : State
+  pub named : object_at old ref ≡ Some object
+  pub becomes : Becomes ref.name (configuration (settled_object object) old.clients) old new
+
+-- of the events of the command first ones occurred: those of a command that ensures nothing are all or none
 abbrev pub StepInPart : List Rule → Machine → Spoken → Machine → Type 0
 StepInPart book old (give_value ref text) new = Stays old new ⊎ GaveInPart book old ref text new
+StepInPart book old (ensure_values ref words) new = Stays old new ⊎ EnsuredPartly book old ref words new
+StepInPart book old (explain_values ref words) new = Stays old new ⊎ IsSettled old ref new
 StepInPart book old command new = Stays old new
 
 -- each object is honest

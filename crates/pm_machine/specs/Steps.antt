@@ -1,5 +1,5 @@
 -- The machine: what each command may answer, and what it changes. Each refusal comes exactly where its line says, and the lines of one command exclude each other.
-use Rattle.std.specs.Prelude.{ℕ, ◌≡◌, ◌≢◌, Bool, true, false, ◌++◌, ◌<◌, ◌≤◌, List, [], ◌∷◌, length, Option, Some, None, option_and_then, IfSome, if◌then◌else◌, codes}
+use Rattle.std.specs.Prelude.{ℕ, ◌≡◌, ◌≢◌, Bool, true, false, ◌++◌, ◌<◌, ◌≤◌, List, [], ◌∷◌, drop, length, map, Option, Some, None, option_and_then, option_map, IfSome, if◌then◌else◌, codes}
 use Rattle.std.specs.Prelude.{Result, Ok, Err}
 use Rattle.std.specs.List.{list_any}
 use Rattle.std.specs.Str.{bytes_eq}
@@ -12,24 +12,29 @@ use Rattle.pm_props.specs.declared.object_type.ObjectType.TheVariants.{Polytope,
 use Rattle.pm_json.specs.Readings.{reading}
 use Rattle.pm_json.specs.declared.fail.ValueFail.{ValueFail}
 use Rattle.pm_json.specs.declared.fail.ValueFail.TheVariants as fault
+use Rattle.pm_machine.specs.Chains.{AreBarred, held_names, table}
 use Rattle.pm_machine.specs.Events.{Configuration, Ensured, configuration}
+use Rattle.pm_machine.specs.Reasons.{AreReasons}
 use Rattle.pm_machine.specs.declared.round.Ending.TheVariants as ending
 use Rattle.pm_object.specs.Honest.{IsKept}
-use Rattle.pm_object.specs.State.{CanTake, CannotTake, HeldValue, State, empty_object, is_disabled, is_held, is_sealed, read_at, value_of, with_disabled, with_held}
+use Rattle.pm_object.specs.State.{CanTake, CannotTake, HeldValue, RoundSeen, State, empty_object, is_disabled, is_held, is_sealed, read_at, settling, value_of, with_disabled, with_held}
 use Rattle.pm_object.specs.declared.held.Origin.TheVariants.{Given as Given'}
 use Rattle.pm_object.specs.declared.held.TakeFail.TheVariants as fail
+use Rattle.pm_plan.specs.Plans.{HasNoPlan, IsCrowded, IsPlan}
 use Rattle.pm_rules.specs.declared.rule.Rule.{Rule}
-use Rattle.pm_script.specs.Commands.{RefSeen, Spoken, blank, new_object, take_value, give_value, look_up, show_rules, disable_rule, unload_client}
-use Rattle.pm_script.specs.Replies.{ReplySeen, done, shows, lists_rules, undef, refused}
+use Rattle.pm_script.specs.Commands.{RefSeen, Spoken, blank, new_object, take_value, give_value, look_up, ensure_values, explain_values, tell_history, show_rules, disable_rule, unload_client}
+use Rattle.pm_script.specs.Replies.{NamesSeen, Remarks, ReplySeen, Rounds, done, ensured, explained, lists_rules, nothing, planned, refused, remarks, shows, tells, undef}
 use Rattle.pm_script.specs.declared.refusal.Refusal.{Refusal}
 use Rattle.pm_script.specs.declared.refusal.Refusal.TheVariants.{UnknownName, NameTaken, UnknownType, UnknownProperty, BadValue, AlreadyHeld, Sealed, ObjectsFull, NoChain, Crowded, UnknownRule}
 use Rattle.pm_script.specs.declared.refusal.ValueWhy.{ValueWhy}
 use Rattle.pm_script.specs.declared.refusal.ValueWhy.TheVariants as value_why
 use Rattle.pm_props.specs.Properties.{is_built}
 use Rattle.pm_props.specs.Names.{property_named_in}
-use Rattle.pm_props.specs.Sets.{only}
+use Rattle.pm_props.specs.Sets.{only, set_of}
 use Rattle.pm_types.specs.Values.{PropertyValue}
+use Rattle.pm_props.specs.declared.kind.RuleId.{RuleId}
 use Rattle.pm_props.specs.declared.property.PropId.{PropId}
+use Rattle.pm_props.specs.declared.set.PropSet.{PropSet}
 
 -- what stands outside: the files, each with its name, where a store tells them, and how many faults it counted
 pub record Store : Type 0 where
@@ -110,9 +115,9 @@ why_of fault.Memory = None
 
 -- `new REF TYPE`
 abbrev pub NewStep : Machine → RefSeen → List ℕ → ReplySeen → Machine → Type 0
-NewStep old ref text (refused UnknownType) new = (type_named ref text ≡ None) × Stays old new
-NewStep old ref text (refused NameTaken) new = (type_named ref text ≢ None) × (old.object ref.name ≢ None) × Stays old new
-NewStep old ref text (refused ObjectsFull) new = (type_named ref text ≢ None) × (old.object ref.name ≡ None) × (most_objects ≤ length old.names) × Stays old new
+NewStep old ref text (refused UnknownType nothing) new = (type_named ref text ≡ None) × Stays old new
+NewStep old ref text (refused NameTaken nothing) new = (type_named ref text ≢ None) × (old.object ref.name ≢ None) × Stays old new
+NewStep old ref text (refused ObjectsFull nothing) new = (type_named ref text ≢ None) × (old.object ref.name ≡ None) × (most_objects ≤ length old.names) × Stays old new
 NewStep old ref text done new = (of : ObjectType) × (type_named ref text ≡ Some of) × (old.object ref.name ≡ None) × (length old.names < most_objects) × Gains ref.name (empty_object of) old new
 NewStep old ref text reply new = ⊥
 
@@ -156,34 +161,127 @@ TakeRefuses old ref text json why new = (o : State) × (object_at old ref ≡ So
 
 -- `take REF PROP JSON`
 abbrev pub TakeStep : Machine → RefSeen → List ℕ → List ℕ → ReplySeen → Machine → Type 0
-TakeStep old ref text json (refused UnknownName) new = (object_at old ref ≡ None) × Stays old new
-TakeStep old ref text json (refused UnknownProperty) new = (o : State) × (object_at old ref ≡ Some o) × (property_named o.of text ≡ None) × Stays old new
-TakeStep old ref text json (refused AlreadyHeld) new = TakeRefuses old ref text json AlreadyHeld new
-TakeStep old ref text json (refused Sealed) new = TakeRefuses old ref text json Sealed new
-TakeStep old ref text json (refused (BadValue why)) new = TakeRefuses old ref text json (BadValue why) new
+TakeStep old ref text json (refused UnknownName nothing) new = (object_at old ref ≡ None) × Stays old new
+TakeStep old ref text json (refused UnknownProperty nothing) new = (o : State) × (object_at old ref ≡ Some o) × (property_named o.of text ≡ None) × Stays old new
+TakeStep old ref text json (refused AlreadyHeld nothing) new = TakeRefuses old ref text json AlreadyHeld new
+TakeStep old ref text json (refused Sealed nothing) new = TakeRefuses old ref text json Sealed new
+TakeStep old ref text json (refused (BadValue why) nothing) new = TakeRefuses old ref text json (BadValue why) new
 TakeStep old ref text json done new = (o : State) × (object_at old ref ≡ Some o) × (p : PropId) × (property_named o.of text ≡ Some p)
     × (v : PropertyValue) × TakeValue o p (given_by p (read json)) None (Some v) × Becomes ref.name (configuration (with_held o (given_value p v ∷ [])) old.clients) old new
 TakeStep old ref text json reply new = ⊥
 
+-- the label and the weight of each rule of the book; so far no object has programs
+abbrev pub rule_names : List Rule → NamesSeen
+rule_names book = record { rules = map (λ rule. (rule.label, rule.weight)) book; programs = [] }
+
+abbrev pub named_rounds : List Rule → List RoundSeen → Rounds
+named_rounds book rounds = record { rounds = rounds; names = rule_names book }
+
+-- the rounds that the object new has beyond those of old
+abbrev pub later_rounds : State → State → List RoundSeen
+later_rounds old new = drop (length old.rounds) new.rounds
+
+-- what is said of them beside a refusal: always, or where they are traced
+abbrev pub rounds_beside : Bool → List Rule → State → State → Remarks
+rounds_beside always book old new = remarks always (later_rounds old new) [] None (rule_names book)
+
+-- the object ensures the property p, and its value is shown; or no chain leads there, or too many sets of names cost less
+abbrev pub Gives : List Rule → Configuration → List ℕ → PropId → ReplySeen → Configuration → Type 0
+Gives book old name p (refused NoChain more) new = Ensured book None (only p) ending.NoChain old new × (more ≡ rounds_beside false book old.object new.object)
+Gives book old name p (refused Crowded more) new = Ensured book None (only p) ending.Crowded old new × (more ≡ rounds_beside false book old.object new.object)
+Gives book old name p (shows n of q v t) new = Ensured book None (only p) ending.Found old new × (n ≡ name) × (of ≡ old.object.of) × (q ≡ p) × (value_of p (read_at None new.object.held) ≡ Some v)
+    × (t ≡ named_rounds book (later_rounds old.object new.object))
+Gives book old name p reply new = ⊥
+
+-- the object that REF names does so for the property of this name
+abbrev pub Gave : List Rule → Machine → RefSeen → List ℕ → ReplySeen → Machine → Type 0
+Gave book old ref text reply new = (o : State) × (object_at old ref ≡ Some o) × (p : PropId) × (property_named o.of text ≡ Some p)
+    × (c : Configuration) × Gives book (configuration o old.clients) ref.name p reply c × Becomes ref.name c old new
+
 -- `give REF PROP`
 abbrev pub GiveStep : List Rule → Machine → RefSeen → List ℕ → ReplySeen → Machine → Type 0
-GiveStep book old ref text (refused UnknownName) new = (object_at old ref ≡ None) × Stays old new
-GiveStep book old ref text (refused UnknownProperty) new = (o : State) × (object_at old ref ≡ Some o) × (property_named o.of text ≡ None) × Stays old new
-GiveStep book old ref text (refused NoChain) new = (o : State) × (object_at old ref ≡ Some o) × (p : PropId) × (property_named o.of text ≡ Some p)
-    × (c : Configuration) × Ensured book None (only p) ending.NoChain (configuration o old.clients) c × Becomes ref.name c old new
-GiveStep book old ref text (refused Crowded) new = (o : State) × (object_at old ref ≡ Some o) × (p : PropId) × (property_named o.of text ≡ Some p)
-    × (c : Configuration) × Ensured book None (only p) ending.Crowded (configuration o old.clients) c × Becomes ref.name c old new
-GiveStep book old ref text (shows name of p v) new = (o : State) × (object_at old ref ≡ Some o) × (property_named o.of text ≡ Some p) × (name ≡ ref.name) × (of ≡ o.of)
-    × (c : Configuration) × Ensured book None (only p) ending.Found (configuration o old.clients) c × Becomes ref.name c old new × (value_of p (read_at None c.object.held) ≡ Some v)
+GiveStep book old ref text (refused UnknownName nothing) new = (object_at old ref ≡ None) × Stays old new
+GiveStep book old ref text (refused UnknownProperty nothing) new = (o : State) × (object_at old ref ≡ Some o) × (property_named o.of text ≡ None) × Stays old new
+GiveStep book old ref text (refused NoChain more) new = Gave book old ref text (refused NoChain more) new
+GiveStep book old ref text (refused Crowded more) new = Gave book old ref text (refused Crowded more) new
+GiveStep book old ref text (shows name of p v t) new = Gave book old ref text (shows name of p v t) new
 GiveStep book old ref text reply new = ⊥
+
+-- the properties that the words name, if each names one
+abbrev pub all_named : ObjectType → List (List ℕ) → Option (List PropId)
+all_named of [] = Some []
+all_named of (word ∷ words) = option_and_then (λ p. option_map (λ ps. p ∷ ps) (all_named of words)) (property_named of word)
+
+-- the same as a set: a property that is named twice counts once
+abbrev pub asked_in : ObjectType → List (List ℕ) → Option PropSet
+asked_in of words = option_map set_of (all_named of words)
+
+-- the object ensures what is asked; or no chain leads there, or too many sets of names cost less
+abbrev pub Ensures : List Rule → Configuration → PropSet → ReplySeen → Configuration → Type 0
+Ensures book old asked (refused NoChain more) new = Ensured book None asked ending.NoChain old new × (more ≡ rounds_beside true book old.object new.object)
+Ensures book old asked (refused Crowded more) new = Ensured book None asked ending.Crowded old new × (more ≡ rounds_beside true book old.object new.object)
+Ensures book old asked (ensured t) new = Ensured book None asked ending.Found old new × (t ≡ named_rounds book (later_rounds old.object new.object))
+Ensures book old asked reply new = ⊥
+
+-- the object that REF names does so for what these words ask
+abbrev pub EnsuredAll : List Rule → Machine → RefSeen → List (List ℕ) → ReplySeen → Machine → Type 0
+EnsuredAll book old ref words reply new = (o : State) × (object_at old ref ≡ Some o) × (asked : PropSet) × (asked_in o.of words ≡ Some asked)
+    × (c : Configuration) × Ensures book (configuration o old.clients) asked reply c × Becomes ref.name c old new
+
+-- `ensure REF PROP ..`
+abbrev pub EnsureStep : List Rule → Machine → RefSeen → List (List ℕ) → ReplySeen → Machine → Type 0
+EnsureStep book old ref words (refused UnknownName nothing) new = (object_at old ref ≡ None) × Stays old new
+EnsureStep book old ref words (refused UnknownProperty nothing) new = (o : State) × (object_at old ref ≡ Some o) × (asked_in o.of words ≡ None) × Stays old new
+EnsureStep book old ref words (refused NoChain more) new = EnsuredAll book old ref words (refused NoChain more) new
+EnsureStep book old ref words (refused Crowded more) new = EnsuredAll book old ref words (refused Crowded more) new
+EnsureStep book old ref words (ensured t) new = EnsuredAll book old ref words (ensured t) new
+EnsureStep book old ref words reply new = ⊥
+
+-- the object when it is settled
+abbrev pub settled_object : State → State
+settled_object o = with_held o (settling o)
+
+-- the chain is least from what the settled object holds to all that is asked, among those that avoid the rules barred on it, and the table proves it least; or no chain leads there, or too many sets of names cost less: then the barred rules are told with their reasons, and the table
+abbrev pub Explains : List Rule → Clients → State → PropSet → ReplySeen → Type 0
+Explains book clients o asked (explained chain weight rows names) = (barred : List RuleId) × AreBarred book clients o None barred
+    × IsPlan book (table None o.of) barred (held_names None o) asked chain weight rows × (names ≡ rule_names book)
+Explains book clients o asked (refused NoChain (planned told rows names)) = (barred : List RuleId) × AreBarred book clients o None barred
+    × HasNoPlan book (table None o.of) barred (held_names None o) asked rows × AreReasons book clients o None told × (names ≡ rule_names book)
+Explains book clients o asked (refused Crowded (planned told rows names)) = (barred : List RuleId) × AreBarred book clients o None barred
+    × IsCrowded book (table None o.of) barred (held_names None o) asked rows × AreReasons book clients o None told × (names ≡ rule_names book)
+Explains book clients o asked reply = ⊥
+
+-- the object that REF names is settled, and it is explained how what these words ask would be found
+abbrev pub ExplainedAll : List Rule → Machine → RefSeen → List (List ℕ) → ReplySeen → Machine → Type 0
+ExplainedAll book old ref words reply new = (o : State) × (object_at old ref ≡ Some o) × (asked : PropSet) × (asked_in o.of words ≡ Some asked)
+    × Explains book old.clients (settled_object o) asked reply × Becomes ref.name (configuration (settled_object o) old.clients) old new
+
+-- `explain REF PROP ..`
+abbrev pub ExplainStep : List Rule → Machine → RefSeen → List (List ℕ) → ReplySeen → Machine → Type 0
+ExplainStep book old ref words (refused UnknownName nothing) new = (object_at old ref ≡ None) × Stays old new
+ExplainStep book old ref words (refused UnknownProperty nothing) new = (o : State) × (object_at old ref ≡ Some o) × (asked_in o.of words ≡ None) × Stays old new
+ExplainStep book old ref words (explained chain weight rows names) new = ExplainedAll book old ref words (explained chain weight rows names) new
+ExplainStep book old ref words (refused NoChain (planned told rows names)) new = ExplainedAll book old ref words (refused NoChain (planned told rows names)) new
+ExplainStep book old ref words (refused Crowded (planned told rows names)) new = ExplainedAll book old ref words (refused Crowded (planned told rows names)) new
+ExplainStep book old ref words reply new = ⊥
+
+-- `history NAME`
+abbrev pub HistoryStep : List Rule → Machine → List ℕ → ReplySeen → Machine → Type 0
+HistoryStep book old name (refused UnknownName nothing) new = (old.object name ≡ None) × Stays old new
+HistoryStep book old name (tells t excluded) new = (o : State) × (old.object name ≡ Some o) × (t ≡ named_rounds book o.rounds) × (excluded ≡ o.excluded) × Stays old new
+HistoryStep book old name reply new = ⊥
+
+-- no rounds, and no names
+abbrev pub no_rounds : Rounds
+no_rounds = record { rounds = []; names = record { rules = []; programs = [] } }
 
 -- `lookup REF PROP`
 abbrev pub LookupStep : Machine → RefSeen → List ℕ → ReplySeen → Machine → Type 0
-LookupStep old ref text (refused UnknownName) new = (object_at old ref ≡ None) × Stays old new
-LookupStep old ref text (refused UnknownProperty) new = (o : State) × (object_at old ref ≡ Some o) × (property_named o.of text ≡ None) × Stays old new
+LookupStep old ref text (refused UnknownName nothing) new = (object_at old ref ≡ None) × Stays old new
+LookupStep old ref text (refused UnknownProperty nothing) new = (o : State) × (object_at old ref ≡ Some o) × (property_named o.of text ≡ None) × Stays old new
 LookupStep old ref text undef new = (o : State) × (object_at old ref ≡ Some o) × (p : PropId) × (property_named o.of text ≡ Some p) × (value_of p (read_at None o.held) ≡ None) × Stays old new
-LookupStep old ref text (shows name of p v) new = (o : State) × (object_at old ref ≡ Some o) × (property_named o.of text ≡ Some p) × (name ≡ ref.name) × (of ≡ o.of)
-    × (value_of p (read_at None o.held) ≡ Some v) × Stays old new
+LookupStep old ref text (shows name of p v t) new = (o : State) × (object_at old ref ≡ Some o) × (property_named o.of text ≡ Some p) × (name ≡ ref.name) × (of ≡ o.of)
+    × (value_of p (read_at None o.held) ≡ Some v) × (t ≡ no_rounds) × Stays old new
 LookupStep old ref text reply new = ⊥
 
 -- `rules`
@@ -201,8 +299,8 @@ disabling o label = if is_disabled label o.disabled then o else with_disabled o 
 
 -- `disable NAME LABEL`
 abbrev pub DisableStep : List Rule → Machine → List ℕ → List ℕ → ReplySeen → Machine → Type 0
-DisableStep book old name label (refused UnknownName) new = (old.object name ≡ None) × Stays old new
-DisableStep book old name label (refused UnknownRule) new = (old.object name ≢ None) × (has_label label book ≡ false) × Stays old new
+DisableStep book old name label (refused UnknownName nothing) new = (old.object name ≡ None) × Stays old new
+DisableStep book old name label (refused UnknownRule nothing) new = (old.object name ≢ None) × (has_label label book ≡ false) × Stays old new
 DisableStep book old name label done new = (o : State) × (old.object name ≡ Some o) × (has_label label book ≡ true) × Becomes name (configuration (disabling o label) old.clients) old new
 DisableStep book old name label reply new = ⊥
 
@@ -224,7 +322,7 @@ pub record Unloads (name : List ℕ) (old new : Machine) : Type 0 where
 
 -- `unload CLIENT`
 abbrev pub UnloadStep : Machine → List ℕ → ReplySeen → Machine → Type 0
-UnloadStep old name (refused UnknownRule) new = (is_client name old.clients ≡ false) × Stays old new
+UnloadStep old name (refused UnknownRule nothing) new = (is_client name old.clients ≡ false) × Stays old new
 UnloadStep old name done new = (is_client name old.clients ≡ true) × Unloads name old new
 UnloadStep old name reply new = ⊥
 
@@ -235,6 +333,9 @@ Step book old (new_object ref text) reply new = NewStep old ref text reply new
 Step book old (take_value ref text json) reply new = TakeStep old ref text json reply new
 Step book old (give_value ref text) reply new = GiveStep book old ref text reply new
 Step book old (look_up ref text) reply new = LookupStep old ref text reply new
+Step book old (ensure_values ref words) reply new = EnsureStep book old ref words reply new
+Step book old (explain_values ref words) reply new = ExplainStep book old ref words reply new
+Step book old (tell_history name) reply new = HistoryStep book old name reply new
 Step book old show_rules reply new = RulesStep book old reply new
 Step book old (disable_rule name label) reply new = DisableStep book old name label reply new
 Step book old (unload_client name) reply new = UnloadStep old name reply new

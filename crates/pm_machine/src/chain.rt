@@ -112,8 +112,8 @@ fn are_same(a: Option<u8>, b: Option<u8>) -> bool
     }
 }
 
-// Whether the exclusion is of the rule of this number, at this place.
-fn excludes(e: &Excluded, id: RuleId, place: Option<u8>) -> bool
+/// Whether the exclusion is of the rule of this number, at this place.
+pub fn excludes(e: &Excluded, id: RuleId, place: Option<u8>) -> bool
     ensures { result ≡ (nat_eq e.now.rule.0 id.0 && same_place e.now.sub place) }
 {
     (e.rule.0 == id.0) & are_same(e.sub, place)

@@ -1,7 +1,8 @@
 // The laws of honesty, and examples.
 
 ghost use Rattle.pm_machine.specs.Events.{EventsKeep};
-ghost use Rattle.pm_machine.specs.Examples.{ConditionsAreRead, EventsAreRead, ExclusionsAreRead};
+ghost use Rattle.pm_machine.specs.Examples.{ConditionsAreRead, EventsAreRead, ExclusionsAreRead, ReasonsAreRead};
+ghost use Rattle.pm_machine.specs.Reasons.{BarredHaveReasons};
 ghost use Rattle.pm_machine.specs.Laws.{StepsInPartKeep, StepsKeep};
 
 /// Each event leaves an object honest, and kept where no round is under way: for chains of any length, whatever the clients answer.
@@ -19,6 +20,11 @@ pub fn law_steps_in_part_keep()
     ensures { StepsInPartKeep }
 {}
 
+/// A rule is barred on an object exactly where there is a reason for it.
+pub fn law_barred_have_reasons()
+    ensures { BarredHaveReasons }
+{}
+
 /// Which phase comes after events, and which events may not occur in a phase.
 pub fn example_events()
     ensures { EventsAreRead }
@@ -32,4 +38,9 @@ pub fn example_exclusions()
 /// Which preconditions of a rule are held with the wrong value, and which of them is the first.
 pub fn example_conditions()
     ensures { ConditionsAreRead }
+{}
+
+/// Which reason is told of a rule that is barred.
+pub fn example_reasons()
+    ensures { ReasonsAreRead }
 {}

@@ -1,16 +1,18 @@
 //! The machine: a session of named objects, and its steps.
 #![tactic(auto)]
 
+mod asking;
 mod chain;
 mod commit;
 mod laws;
 mod naming;
+mod reasons;
 mod round;
 mod session;
 mod taking;
 
 pub use laws::{
-    example_conditions, example_events, example_exclusions, law_events_keep,
-    law_steps_in_part_keep, law_steps_keep,
+    example_conditions, example_events, example_exclusions, example_reasons,
+    law_barred_have_reasons, law_events_keep, law_steps_in_part_keep, law_steps_keep,
 };
 pub use session::Session;

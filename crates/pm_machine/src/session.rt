@@ -1,19 +1,16 @@
 // A session: named objects, the book, and its steps.
 
-ghost use Rattle.pm_machine.specs.Events.{EnsuredInPart, configuration};
 ghost use Rattle.pm_machine.specs.Parts.{AllHonest, StepInPart};
-ghost use Rattle.pm_machine.specs.Sessions.{Gives, book_of, is_spent, machine_of};
-ghost use Rattle.pm_machine.specs.Steps.{AllKept, DisableStep, Gains, GiveStep, LookupStep, NewStep, RulesStep, Stays, Step, TakeStep, UnloadStep, object_at, type_word};
+ghost use Rattle.pm_machine.specs.Sessions.{book_of, is_spent, machine_of};
+ghost use Rattle.pm_machine.specs.Steps.{AllKept, DisableStep, EnsureStep, ExplainStep, Gains, GiveStep, HistoryStep, LookupStep, NewStep, RulesStep, Stays, Step, TakeStep, UnloadStep, object_at, type_word};
 ghost use Rattle.pm_object.specs.State.{empty_object};
-ghost use Rattle.pm_script.specs.Commands.{blank, give_value, seen_ref, spoken};
-ghost use Rattle.pm_script.specs.Replies.{seen, shows};
-ghost use Rattle.pm_props.specs.Sets.{only};
-ghost use Rattle.pm_types.specs.Views.{view_of};
+ghost use Rattle.pm_script.specs.Commands.{blank, ensure_values, explain_values, give_value, seen_ref, spoken};
+ghost use Rattle.pm_script.specs.Replies.{seen};
 ghost use Rattle.std.specs.Option.{is_some, option_map};
 ghost use Rattle.std.specs.Prelude.{IfOk, List, None, OnErr, OnOk, Option, Some, [], false, map, string_bytes, true, ℕ, ◌⊎◌, ◌+◌, ◌≡◌, ◌≢◌};
 
+use crate::asking::{asked_in, ensure_values, explain_values, give_value, show_held, tell_history};
 use crate::naming::{has_label, place_named};
-use crate::round::{Ending, ensure};
 use crate::taking::{property_named, take_text};
 use indexmap::IndexMap;
 use pm_books::book_text;
@@ -21,7 +18,7 @@ use pm_client::Client;
 use pm_object::Object;
 use pm_rules::Book;
 use pm_script::{Command, Ref, Refusal, Reply};
-use pm_types::{ObjectType, PropId, PropSet, Value};
+use pm_types::ObjectType;
 use std::alloc::{AllocError, Global};
 
 /// The greatest number of objects.
@@ -35,24 +32,6 @@ pub struct Session {
     spent: bool,
 }
 
-// The reply that shows a value.
-fn show(
-    alloc: Global,
-    name: &str,
-    of: ObjectType,
-    prop: PropId,
-    v: &Value,
-) -> Result<Reply, AllocError>
-    ensures { IfOk result (λ r. seen r ≡ shows name.now of prop (view_of v.now)) }
-{
-    Ok(Reply::Value {
-        name: String::from_str(alloc, name)?,
-        of,
-        prop,
-        value: v.copy(alloc)?,
-    })
-}
-
 // The type of a new object; a part of an object is of none.
 fn type_named(is_part: bool, text: &str) -> Option<ObjectType>
     ensures { (sub : Option (List ℕ)) → is_some sub ≡ is_part → result ≡ type_word sub text.now }
@@ -64,39 +43,6 @@ fn type_named(is_part: bool, text: &str) -> Option<ObjectType>
         "Polytope" => Some(ObjectType::Polytope),
         "Cone" => Some(ObjectType::Cone),
         _ => None,
-    }
-}
-
-// Ensures a property, and shows its value.
-fn give_value(
-    alloc: Global,
-    object: &mut Object,
-    book: &Book,
-    p: PropId,
-    name: &str,
-    clients: &mut Vec<Box<dyn Client>>,
-) -> Result<Reply, AllocError>
-    ensures gives { IfOk result (λ r. Gives book.now
-        (configuration object.old.state (map tally clients.old.items))
-        (configuration object.new.state (map tally clients.new.items)) name.now p (seen r)) }
-    ensures err { OnErr result (EnsuredInPart book.now None (only p)
-        (configuration object.old.state (map tally clients.old.items))
-        (configuration object.new.state (map tally clients.new.items))) }
-{
-    let of = object.of();
-    match ensure(alloc, object, book, PropSet::of(p), clients)? {
-        Ending::Found => {
-            let Some(v) = object.lookup(None, p) else {
-                unreachable!()
-            };
-            show(alloc, name, of, p, v)
-        }
-        Ending::NoChain => Ok(Reply::Refused {
-            why: Refusal::NoChain,
-        }),
-        Ending::Crowded => Ok(Reply::Refused {
-            why: Refusal::Crowded,
-        }),
     }
 }
 
@@ -146,17 +92,13 @@ impl Session {
             (machine_of self.now (map tally clients.now))) }
     {
         let Some(object) = self.find(obj) else {
-            return Ok(Reply::Refused {
-                why: Refusal::UnknownName,
-            });
+            return Ok(Reply::refused(alloc, Refusal::UnknownName));
         };
         let Some(p) = property_named(object.of(), prop) else {
-            return Ok(Reply::Refused {
-                why: Refusal::UnknownProperty,
-            });
+            return Ok(Reply::refused(alloc, Refusal::UnknownProperty));
         };
         match object.lookup(None, p) {
-            Some(v) => show(alloc, obj.name.as_str(), object.of(), p, v),
+            Some(v) => show_held(alloc, obj.name.as_str(), object.of(), p, v),
             None => Ok(Reply::Undef),
         }
     }
@@ -193,19 +135,13 @@ impl Session {
         ensures spent { is_spent self.new ≡ is_spent self.old }
     {
         let Some(of) = type_named(sub.is_some(), of) else {
-            return Ok(Reply::Refused {
-                why: Refusal::UnknownType,
-            });
+            return Ok(Reply::refused(alloc, Refusal::UnknownType));
         };
         if self.objects.get(&name).is_some() {
-            return Ok(Reply::Refused {
-                why: Refusal::NameTaken,
-            });
+            return Ok(Reply::refused(alloc, Refusal::NameTaken));
         }
         if self.objects.len() >= MOST_OBJECTS {
-            return Ok(Reply::Refused {
-                why: Refusal::ObjectsFull,
-            });
+            return Ok(Reply::refused(alloc, Refusal::ObjectsFull));
         }
         self.add(alloc, name, of)?;
         Ok(Reply::Done)
@@ -230,22 +166,16 @@ impl Session {
         ensures spent { is_spent self.new ≡ is_spent self.old }
     {
         if obj.sub.is_some() {
-            return Ok(Reply::Refused {
-                why: Refusal::UnknownName,
-            });
+            return Ok(Reply::refused(alloc, Refusal::UnknownName));
         }
         let Some(object) = self.objects.get_mut(obj.name.as_str()) else {
-            return Ok(Reply::Refused {
-                why: Refusal::UnknownName,
-            });
+            return Ok(Reply::refused(alloc, Refusal::UnknownName));
         };
         let Some(p) = property_named(object.of(), prop) else {
-            return Ok(Reply::Refused {
-                why: Refusal::UnknownProperty,
-            });
+            return Ok(Reply::refused(alloc, Refusal::UnknownProperty));
         };
         match take_text(alloc, object, p, json) {
-            Ok(Some(why)) => Ok(Reply::Refused { why }),
+            Ok(Some(why)) => Ok(Reply::refused(alloc, why)),
             Ok(None) => Ok(Reply::Done),
             Err(fail) => Err(fail),
         }
@@ -270,21 +200,94 @@ impl Session {
         ensures spent { is_spent self.new ≡ is_spent self.old }
     {
         if obj.sub.is_some() {
-            return Ok(Reply::Refused {
-                why: Refusal::UnknownName,
-            });
+            return Ok(Reply::refused(alloc, Refusal::UnknownName));
         }
         let Some(object) = self.objects.get_mut(obj.name.as_str()) else {
-            return Ok(Reply::Refused {
-                why: Refusal::UnknownName,
-            });
+            return Ok(Reply::refused(alloc, Refusal::UnknownName));
         };
         let Some(p) = property_named(object.of(), prop) else {
-            return Ok(Reply::Refused {
-                why: Refusal::UnknownProperty,
-            });
+            return Ok(Reply::refused(alloc, Refusal::UnknownProperty));
         };
         give_value(alloc, object, &self.book, p, obj.name.as_str(), clients)
+    }
+
+    // `ensure REF PROP ..`
+    fn do_ensure(
+        &mut self,
+        alloc: Global,
+        obj: &Ref,
+        props: &[String],
+        clients: &mut Vec<Box<dyn Client>>,
+    ) -> Result<Reply, AllocError>
+        ensures step { IfOk result (λ r. EnsureStep (book_of self.old)
+            (machine_of self.old (map tally clients.old.items)) (seen_ref obj.now)
+            (map string_bytes props.now) (seen r)
+            (machine_of self.new (map tally clients.new.items))) }
+        ensures part { OnErr result (StepInPart (book_of self.old)
+            (machine_of self.old (map tally clients.old.items)) (ensure_values
+            (seen_ref obj.now) (map string_bytes props.now))
+            (machine_of self.new (map tally clients.new.items))) }
+        ensures book { book_of self.new ≡ book_of self.old }
+        ensures spent { is_spent self.new ≡ is_spent self.old }
+    {
+        if obj.sub.is_some() {
+            return Ok(Reply::refused(alloc, Refusal::UnknownName));
+        }
+        let Some(object) = self.objects.get_mut(obj.name.as_str()) else {
+            return Ok(Reply::refused(alloc, Refusal::UnknownName));
+        };
+        let Some(asked) = asked_in(object.of(), props) else {
+            return Ok(Reply::refused(alloc, Refusal::UnknownProperty));
+        };
+        ensure_values(alloc, object, &self.book, asked, clients)
+    }
+
+    // `explain REF PROP ..`
+    fn do_explain(
+        &mut self,
+        alloc: Global,
+        obj: &Ref,
+        props: &[String],
+        clients: &[Box<dyn Client>],
+    ) -> Result<Reply, AllocError>
+        ensures step { IfOk result (λ r. ExplainStep (book_of self.old)
+            (machine_of self.old (map tally clients.now)) (seen_ref obj.now)
+            (map string_bytes props.now) (seen r)
+            (machine_of self.new (map tally clients.now))) }
+        ensures part { OnErr result (StepInPart (book_of self.old)
+            (machine_of self.old (map tally clients.now)) (explain_values
+            (seen_ref obj.now) (map string_bytes props.now))
+            (machine_of self.new (map tally clients.now))) }
+        ensures book { book_of self.new ≡ book_of self.old }
+        ensures spent { is_spent self.new ≡ is_spent self.old }
+    {
+        if obj.sub.is_some() {
+            return Ok(Reply::refused(alloc, Refusal::UnknownName));
+        }
+        let Some(object) = self.objects.get_mut(obj.name.as_str()) else {
+            return Ok(Reply::refused(alloc, Refusal::UnknownName));
+        };
+        let Some(asked) = asked_in(object.of(), props) else {
+            return Ok(Reply::refused(alloc, Refusal::UnknownProperty));
+        };
+        explain_values(alloc, object, &self.book, asked, clients)
+    }
+
+    // `history NAME`
+    fn do_history(
+        &self,
+        alloc: Global,
+        name: &str,
+        clients: &[Box<dyn Client>],
+    ) -> Result<Reply, AllocError>
+        ensures { IfOk result (λ r. HistoryStep (book_of self.now)
+            (machine_of self.now (map tally clients.now)) name.now (seen r)
+            (machine_of self.now (map tally clients.now))) }
+    {
+        let Some(object) = self.objects.get(name) else {
+            return Ok(Reply::refused(alloc, Refusal::UnknownName));
+        };
+        tell_history(alloc, object, &self.book)
     }
 
     // `rules`
@@ -316,29 +319,23 @@ impl Session {
         ensures spent { is_spent self.new ≡ is_spent self.old }
     {
         let Some(object) = self.objects.get_mut(name) else {
-            return Ok(Reply::Refused {
-                why: Refusal::UnknownName,
-            });
+            return Ok(Reply::refused(alloc, Refusal::UnknownName));
         };
         if !has_label(self.book.rules(), label) {
-            return Ok(Reply::Refused {
-                why: Refusal::UnknownRule,
-            });
+            return Ok(Reply::refused(alloc, Refusal::UnknownRule));
         }
         object.disable(alloc, label)?;
         Ok(Reply::Done)
     }
 
     // `unload CLIENT`
-    fn do_unload(&self, client: &str, clients: &mut Vec<Box<dyn Client>>) -> Reply
+    fn do_unload(&self, alloc: Global, client: &str, clients: &mut Vec<Box<dyn Client>>) -> Reply
         ensures { UnloadStep (machine_of self.now (map tally clients.old.items)) client.now
             (seen result)
             (machine_of self.now (map tally clients.new.items)) }
     {
         let Some(place) = place_named(clients, client) else {
-            return Reply::Refused {
-                why: Refusal::UnknownRule,
-            };
+            return Reply::refused(alloc, Refusal::UnknownRule);
         };
         clients.remove(place);
         Reply::Done
@@ -367,9 +364,12 @@ impl Session {
             Command::Take { obj, prop, json } => self.do_take(alloc, &obj, &prop, &json, clients),
             Command::Give { obj, prop } => self.do_give(alloc, &obj, &prop, clients),
             Command::Lookup { obj, prop } => self.do_lookup(alloc, &obj, &prop, clients),
+            Command::Ensure { obj, props } => self.do_ensure(alloc, &obj, &props, clients),
+            Command::Explain { obj, props } => self.do_explain(alloc, &obj, &props, clients),
+            Command::History { name } => self.do_history(alloc, &name, clients),
             Command::Rules => self.do_rules(alloc, clients),
             Command::Disable { name, label } => self.do_disable(alloc, &name, &label, clients),
-            Command::Unload { client } => Ok(self.do_unload(&client, clients)),
+            Command::Unload { client } => Ok(self.do_unload(alloc, &client, clients)),
         }
     }
 

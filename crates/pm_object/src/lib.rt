@@ -11,6 +11,7 @@ mod settled;
 mod tests_of_values;
 mod view;
 
+pub use copies::{copy_excluded, copy_rounds};
 pub use draft::Draft;
 pub use held::{Excluded, Held, Origin, Round, RoundEnd, TakeFail, Why};
 pub use laws::{

@@ -1,7 +1,7 @@
 -- What a line speaks, by its first word.
 use Rattle.std.proofs.Common.{List, bytes_eq, codes, false, refl, true, ℕ, ◌≡◌}
 use Rattle.std.specs.Prelude.{None}
-use Rattle.pm_script.specs.Commands.{disable_line, give_line, line_of, lookup_line, new_line, take_line, unload_line}
+use Rattle.pm_script.specs.Commands.{chain_line, disable_line, ensure_line, explain_line, give_line, history_line, line_of, lookup_line, new_line, take_line, unload_line}
 
 pub is_new : (first words : List ℕ) → bytes_eq first (codes "new") ≡ true → line_of first words ≡ new_line words
 is_new first words a = rw (a) refl
@@ -22,6 +22,19 @@ pub is_unload : (first words : List ℕ) → bytes_eq first (codes "new") ≡ fa
     → line_of first words ≡ unload_line words
 is_unload first words a b d e f k = rw (a, b, d, e, f, k) refl
 
-pub is_none : (first words : List ℕ) → bytes_eq first (codes "new") ≡ false → bytes_eq first (codes "take") ≡ false → bytes_eq first (codes "give") ≡ false → bytes_eq first (codes "lookup") ≡ false → bytes_eq first (codes "disable") ≡ false → bytes_eq first (codes "unload") ≡ false
-    → line_of first words ≡ None
-is_none first words a b d e f k = rw (a, b, d, e, f, k) refl
+pub is_on_chains : (first words : List ℕ) → bytes_eq first (codes "new") ≡ false → bytes_eq first (codes "take") ≡ false → bytes_eq first (codes "give") ≡ false → bytes_eq first (codes "lookup") ≡ false → bytes_eq first (codes "disable") ≡ false → bytes_eq first (codes "unload") ≡ false
+    → line_of first words ≡ chain_line first words
+is_on_chains first words a b d e f k = rw (a, b, d, e, f, k) refl
+
+-- ---- commands on chains
+pub is_ensure : (first words : List ℕ) → bytes_eq first (codes "ensure") ≡ true → chain_line first words ≡ ensure_line words
+is_ensure first words a = rw (a) refl
+
+pub is_explain : (first words : List ℕ) → bytes_eq first (codes "ensure") ≡ false → bytes_eq first (codes "explain") ≡ true → chain_line first words ≡ explain_line words
+is_explain first words a b = rw (a, b) refl
+
+pub is_history : (first words : List ℕ) → bytes_eq first (codes "ensure") ≡ false → bytes_eq first (codes "explain") ≡ false → bytes_eq first (codes "history") ≡ true → chain_line first words ≡ history_line words
+is_history first words a b d = rw (a, b, d) refl
+
+pub is_none : (first words : List ℕ) → bytes_eq first (codes "ensure") ≡ false → bytes_eq first (codes "explain") ≡ false → bytes_eq first (codes "history") ≡ false → chain_line first words ≡ None
+is_none first words a b d = rw (a, b, d) refl

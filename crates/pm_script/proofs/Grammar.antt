@@ -6,14 +6,16 @@ use Rattle.std.proofs.lemmas.Option.{none-some, same_Some, cond_some, option_and
 use Rattle.std.proofs.lemmas.Slice.Eq.{bytes_eq-Decides}
 use Rattle.std.proofs.lemmas.Str.{IsUtf8-from_is_utf8, is_utf8-from_IsUtf8}
 use Rattle.std.specs.Char.{is_ascii_alphabetic}
-use Rattle.std.specs.List.{list_all, before_first, after_first}
+use Rattle.std.proofs.lemmas.List.Splits.{join_with_byte-slice_split, length-slice_split, slice_split_at, slice_split_none}
+use Rattle.std.proofs.lemmas.List.Elements.{All-cons, All-nil}
+use Rattle.std.specs.List.{All, list_all, before_first, after_first, join_with_byte}
 use Rattle.std.specs.Str.{IsUtf8, is_utf8, bytes_eq}
 use Rattle.pm_script.proofs.Splits.{lacks, before_first-lacks, after_first-lacks, split_first, other_byte, lacks-passes}
-use Rattle.pm_script.specs.Commands.{RefSeen, Spoken, blank, new_object, take_value, give_value, look_up, show_rules, disable_rule, unload_client, part_of, ref_of, property_of, type_of, json_of, of_both, new_line, take_line, give_line, lookup_line, disable_line, unload_line, line_of, command_of}
-use Rattle.pm_script.specs.Grammar.{part_text, ref_text, is_sub, is_ref, Speaks}
+use Rattle.pm_script.specs.Commands.{RefSeen, Spoken, blank, new_object, take_value, give_value, look_up, ensure_values, explain_values, tell_history, show_rules, disable_rule, unload_client, part_of, ref_of, property_of, type_of, json_of, of_both, new_line, take_line, give_line, lookup_line, asked_of, ensure_line, explain_line, history_line, disable_line, unload_line, chain_line, line_of, command_of}
+use Rattle.pm_script.specs.Grammar.{part_text, ref_text, is_sub, is_ref, spaced, are_some_asked, Speaks}
 use Rattle.pm_script.specs.Lines.{is_silent}
 use Rattle.pm_rules.specs.Words.{is_label, is_word}
-use Rattle.pm_script.specs.Words.{is_dot, first_word, rest, is_name_byte, is_name, is_property_byte, is_property_word, is_type_word}
+use Rattle.pm_script.specs.Words.{is_dot, first_word, rest, is_name_byte, is_name, is_property_byte, is_property_word, is_type_word, is_space, words_of, are_asked, distinct}
 
 -- ---- words
 name_lacks : (c : ℕ) (w : List ℕ) → is_ascii_alphabetic c ≡ false → is_name_byte c ≡ false → is_name w ≡ true → lacks c w ≡ true
@@ -119,6 +121,42 @@ rest_of_name name w h = after_first-lacks 32 name w refl (name_lacks 32 name ref
 disable_spoken : (name label : List ℕ) → is_name name ≡ true → is_label label ≡ true → disable_line (name ++ 32 ∷ label) ≡ Some (disable_rule name label)
 disable_spoken name label n l = rw (name_of_two name label n, rest_of_name name label n, n, l) refl
 
+-- ---- words at single spaces
+no_space : (w : List ℕ) → lacks 32 w ≡ true → All (λ b. eqb b 32 ≡ false) w
+no_space [] h = All-nil (λ b. eqb b 32 ≡ false)
+no_space (b ∷ w) h =
+    let p = and_parts (not (eqb b 32)) (lacks 32 w) h in
+    All-cons (λ b. eqb b 32 ≡ false) b w (not_true (eqb b 32) p.0) (no_space w p.1)
+  where
+    not_true : (b : Bool) → not b ≡ true → b ≡ false
+    not_true false e = refl
+    not_true true e = absurd (false≢true e)
+
+words_split : (word : List ℕ) (words : List (List ℕ)) → list_all is_property_word (word ∷ words) ≡ true → words_of (join_with_byte 32 (word ∷ words)) ≡ word ∷ words
+words_split word [] h =
+    let p = and_parts (is_property_word word) (list_all is_property_word []) h in
+    slice_split_none (λ b. eqb b 32) word (no_space word (property_lacks_space word p.0))
+words_split word (next ∷ words) h =
+    let p = and_parts (is_property_word word) (list_all is_property_word (next ∷ words)) h in
+    slice_split_at (λ b. eqb b 32) word 32 (join_with_byte 32 (next ∷ words)) (no_space word (property_lacks_space word p.0)) refl
+    ∙ ap (λ ws. word ∷ ws) (words_split next words p.1)
+
+words_spaced : (words : List (List ℕ)) → are_some_asked words ≡ true → words_of (spaced words) ≡ words
+words_spaced [] h = absurd (false≢true h)
+words_spaced (word ∷ words) h = words_split word words (and_parts (list_all is_property_word (word ∷ words)) (leb (length (distinct (word ∷ words))) 4) (and_parts (leb 1 (length (word ∷ words))) (are_asked (word ∷ words)) h).1).0
+
+asked_is_some : (words : List (List ℕ)) → are_some_asked words ≡ true → asked_of (spaced words) ≡ Some (spaced words)
+asked_is_some words h =
+    cond-true (are_asked (words_of (spaced words))) (Some (spaced words)) None
+    (ap are_asked (words_spaced words h) ∙ (and_parts (leb 1 (length words)) (are_asked words) h).1)
+
+-- where a text asks, its words do, one at least, and in a row they are the text
+words_ask : (text : List ℕ) → are_asked (words_of text) ≡ true → are_some_asked (words_of text) ≡ true
+words_ask text h = and_from (leb 1 (length (words_of text))) (are_asked (words_of text)) (le-leb 1 (length (words_of text)) (omega (arith, length-slice_split is_space text))) h
+
+words_joined : (text : List ℕ) → spaced (words_of text) ≡ text
+words_joined text = join_with_byte-slice_split 32 text
+
 -- a line that is not silent
 heard : (text : List ℕ) → is_silent text ≡ false → bytes_eq text (codes "rules") ≡ false → IsUtf8 text → command_of text ≡ line_of (first_word text) (rest text)
 heard text h r u = rw (h, is_utf8-from_IsUtf8 text u, r) refl
@@ -143,6 +181,18 @@ spoken_is_read text (look_up r w) h =
     let p = and_parts (is_ref r) (is_property_word w) h.allowed in
     let e = h.same ∙ regroup (codes "lookup ") (ref_text r) w in
     rw e (heard (codes "lookup " ++ (ref_text r ++ 32 ∷ w)) refl refl (subst IsUtf8 e h.utf8) ∙ both_spoken look_up property_of r w p.0 (property_is_some w p.1))
+spoken_is_read text (ensure_values r words) h =
+    let p = and_parts (is_ref r) (are_some_asked words) h.allowed in
+    let e = h.same ∙ regroup (codes "ensure ") (ref_text r) (spaced words) in
+    rw e (heard (codes "ensure " ++ (ref_text r ++ 32 ∷ spaced words)) refl refl (subst IsUtf8 e h.utf8)
+    ∙ both_spoken (λ obj text. ensure_values obj (words_of text)) asked_of r (spaced words) p.0 (asked_is_some words p.1) ∙ ap (λ ws. Some (ensure_values r ws)) (words_spaced words p.1))
+spoken_is_read text (explain_values r words) h =
+    let p = and_parts (is_ref r) (are_some_asked words) h.allowed in
+    let e = h.same ∙ regroup (codes "explain ") (ref_text r) (spaced words) in
+    rw e (heard (codes "explain " ++ (ref_text r ++ 32 ∷ spaced words)) refl refl (subst IsUtf8 e h.utf8)
+    ∙ both_spoken (λ obj text. explain_values obj (words_of text)) asked_of r (spaced words) p.0 (asked_is_some words p.1) ∙ ap (λ ws. Some (explain_values r ws)) (words_spaced words p.1))
+spoken_is_read text (tell_history name) h =
+    rw h.same (heard (codes "history " ++ name) refl refl (subst IsUtf8 h.same h.utf8) ∙ cond-true (is_name name) (Some (tell_history name)) None h.allowed)
 spoken_is_read text show_rules h = rw h.same (rw (is_utf8-from_IsUtf8 (codes "rules") (subst IsUtf8 h.same h.utf8)) refl)
 spoken_is_read text (disable_rule name label) h =
     let p = and_parts (is_name name) (is_label label) h.allowed in
@@ -266,6 +316,41 @@ unload_read text s u f e =
     let q = cond_some (is_word (rest text)) (unload_client (rest text)) s e in
     subst (Speaks text) q.1 (record { utf8 = u; same = behind text (client_is_some (rest text) q.0) ∙ ap (λ x. x ++ 32 ∷ rest text) f; allowed = q.0 })
 
+asked_line : (text first : List ℕ) (b : List ℕ) (obj : RefSeen) → first_word text ≡ first → rest text ≡ ref_text obj ++ 32 ∷ b → text ≡ first ++ 32 ∷ (ref_text obj ++ 32 ∷ spaced (words_of b))
+asked_line text first b obj f line = whole_line text first (ref_text obj) b f line ∙ ap (λ x. first ++ 32 ∷ (ref_text obj ++ 32 ∷ x)) (sym (words_joined b))
+
+asked_allowed : (obj : RefSeen) (b : List ℕ) → (is_ref obj && are_asked (words_of b)) ≡ true → (is_ref obj && are_some_asked (words_of b)) ≡ true
+asked_allowed obj b h = let p = and_parts (is_ref obj) (are_asked (words_of b)) h in and_from (is_ref obj) (are_some_asked (words_of b)) p.0 (words_ask b p.1)
+
+ensure_read : (text : List ℕ) (s : Spoken) → IsUtf8 text → first_word text ≡ codes "ensure" → ensure_line (rest text) ≡ Some s → Speaks text s
+ensure_read text s u f e =
+    let b = both_read (λ obj text. ensure_values obj (words_of text)) (λ w. are_asked (words_of w)) (rest text) s refl e in
+    subst (Speaks text) b.is (record { utf8 = u; same = asked_line text (codes "ensure") b.word b.obj f b.line ∙ sym (regroup (codes "ensure ") (ref_text b.obj) (spaced (words_of b.word))); allowed = asked_allowed b.obj b.word b.are })
+
+explain_read : (text : List ℕ) (s : Spoken) → IsUtf8 text → first_word text ≡ codes "explain" → explain_line (rest text) ≡ Some s → Speaks text s
+explain_read text s u f e =
+    let b = both_read (λ obj text. explain_values obj (words_of text)) (λ w. are_asked (words_of w)) (rest text) s refl e in
+    subst (Speaks text) b.is (record { utf8 = u; same = asked_line text (codes "explain") b.word b.obj f b.line ∙ sym (regroup (codes "explain ") (ref_text b.obj) (spaced (words_of b.word))); allowed = asked_allowed b.obj b.word b.are })
+
+name_is_some : (name : List ℕ) → is_name name ≡ true → name ≡ [] → ⊥
+name_is_some name h none = false≢true (subst (λ w. is_name w ≡ true) none h)
+
+history_read : (text : List ℕ) (s : Spoken) → IsUtf8 text → first_word text ≡ codes "history" → history_line (rest text) ≡ Some s → Speaks text s
+history_read text s u f e =
+    let q = cond_some (is_name (rest text)) (tell_history (rest text)) s e in
+    subst (Speaks text) q.1 (record { utf8 = u; same = behind text (name_is_some (rest text) q.0) ∙ ap (λ x. x ++ 32 ∷ rest text) f; allowed = q.0 })
+
+chain_read : (text : List ℕ) (s : Spoken) → IsUtf8 text → chain_line (first_word text) (rest text) ≡ Some s → Speaks text s
+chain_read text s u e =
+    let first : List ℕ = first_word text in
+    let words : List ℕ = rest text in
+    let history : Option Spoken = cond (bytes_eq first (codes "history")) (history_line words) None in
+    let explain : Option Spoken = cond (bytes_eq first (codes "explain")) (explain_line words) history in
+    cond_either (bytes_eq first (codes "ensure")) (ensure_line words) explain (Some s) e (λ is f. ensure_read text s u (same_bytes first (codes "ensure") is) f)
+    (λ _ f. cond_either (bytes_eq first (codes "explain")) (explain_line words) history (Some s) f (λ is g. explain_read text s u (same_bytes first (codes "explain") is) g)
+    (λ _ g. cond_either (bytes_eq first (codes "history")) (history_line words) None (Some s) g (λ is h. history_read text s u (same_bytes first (codes "history") is) h)
+    (λ _ h. absurd (none-some s h))))
+
 taken_read : (text : List ℕ) (s : Spoken) → IsUtf8 text → first_word text ≡ codes "take" → take_line (rest text) ≡ Some s → Speaks text s
 taken_read text s u f e =
     let b = take_read (rest text) s e in
@@ -279,7 +364,7 @@ line_read : (text : List ℕ) (s : Spoken) → IsUtf8 text → line_of (first_wo
 line_read text s u e =
     let first : List ℕ = first_word text in
     let words : List ℕ = rest text in
-    let unload : Option Spoken = cond (bytes_eq first (codes "unload")) (unload_line words) None in
+    let unload : Option Spoken = cond (bytes_eq first (codes "unload")) (unload_line words) (chain_line first words) in
     let disable : Option Spoken = cond (bytes_eq first (codes "disable")) (disable_line words) unload in
     let lookup : Option Spoken = cond (bytes_eq first (codes "lookup")) (lookup_line words) disable in
     let give : Option Spoken = cond (bytes_eq first (codes "give")) (give_line words) lookup in
@@ -289,8 +374,8 @@ line_read text s u e =
     (λ _ g. cond_either (bytes_eq first (codes "give")) (give_line words) lookup (Some s) g (λ is h. give_read text s u (same_bytes first (codes "give") is) h)
     (λ _ h. cond_either (bytes_eq first (codes "lookup")) (lookup_line words) disable (Some s) h (λ is k. lookup_read text s u (same_bytes first (codes "lookup") is) k)
     (λ _ k. cond_either (bytes_eq first (codes "disable")) (disable_line words) unload (Some s) k (λ is l. disable_read text s u (same_bytes first (codes "disable") is) l)
-    (λ _ l. cond_either (bytes_eq first (codes "unload")) (unload_line words) None (Some s) l (λ is m. unload_read text s u (same_bytes first (codes "unload") is) m)
-    (λ _ m. absurd (none-some s m)))))))
+    (λ _ l. cond_either (bytes_eq first (codes "unload")) (unload_line words) (chain_line first words) (Some s) l (λ is m. unload_read text s u (same_bytes first (codes "unload") is) m)
+    (λ _ m. chain_read text s u m))))))
 
 pub read_is_spoken : (text : List ℕ) (s : Spoken) → command_of text ≡ Some s → Speaks text s
 read_is_spoken text s e =

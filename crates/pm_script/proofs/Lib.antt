@@ -5,3 +5,7 @@ pub mod Written
 pub mod Splits
 pub mod Grammar
 pub mod FirstWords
+pub mod Asked
+pub mod Halves
+pub mod Counted
+pub mod ReplyExamples

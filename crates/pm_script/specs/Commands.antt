@@ -1,16 +1,17 @@
 -- The commands that lines speak. A REF is NAME, or NAME.SUB for the part SUB of an object.
 -- `rules` asks for the book; `disable NAME LABEL` bars the rule of the label on an object, and `unload CLIENT` lets the first client of the name go; both are words as in books.
+-- `ensure REF PROP ..` asks that values be held, and `explain REF PROP ..` how they would be found: at most four properties, and one that is named twice counts once. `history NAME` asks what happened to an object.
 -- `new REF TYPE` makes an object; `take REF PROP JSON` gives it a value, and the JSON text is all that stands after the third space, one byte at least; `give REF PROP` asks for a value, and `lookup REF PROP` for one that is held.
 -- A line of spaces and tabs alone, or whose first byte is #, is blank. Any other line is no command, and so is one that is no UTF-8.
-use Rattle.std.specs.Prelude.{ℕ, ◌&&◌, List, [], ◌∷◌, string_bytes, Option, Some, None, option_map, option_and_then, if◌then◌else◌, codes}
+use Rattle.std.specs.Prelude.{ℕ, ◌&&◌, List, [], ◌∷◌, map, string_bytes, Option, Some, None, option_map, option_and_then, if◌then◌else◌, codes}
 use Rattle.std.specs.List.{before_first, after_first}
 use Rattle.std.specs.Str.{is_utf8, bytes_eq}
 use Rattle.pm_script.specs.Lines.{is_silent}
 use Rattle.pm_rules.specs.Words.{is_label, is_word}
-use Rattle.pm_script.specs.Words.{is_dot, first_word, rest, is_name, is_property_word, is_type_word}
+use Rattle.pm_script.specs.Words.{are_asked, is_dot, first_word, rest, is_name, is_property_word, is_type_word, words_of}
 use Rattle.pm_script.specs.declared.command.Ref.{Ref}
 use Rattle.pm_script.specs.declared.command.Command.{Command}
-use Rattle.pm_script.specs.declared.command.Command.TheVariants.{Blank, New, Take, Give, Lookup, Rules, Disable, Unload}
+use Rattle.pm_script.specs.declared.command.Command.TheVariants.{Blank, New, Take, Give, Lookup, Ensure, Explain, History, Rules, Disable, Unload}
 
 -- a REF, by the bytes of its words
 pub record RefSeen : Type 0 where
@@ -24,6 +25,9 @@ pub data Spoken : Type 0 where
   take_value : RefSeen → List ℕ → List ℕ → Spoken
   give_value : RefSeen → List ℕ → Spoken
   look_up : RefSeen → List ℕ → Spoken
+  ensure_values : RefSeen → List (List ℕ) → Spoken
+  explain_values : RefSeen → List (List ℕ) → Spoken
+  tell_history : List ℕ → Spoken
   show_rules : Spoken
   disable_rule : List ℕ → List ℕ → Spoken
   unload_client : List ℕ → Spoken
@@ -64,6 +68,19 @@ give_line words = of_both give_value (ref_of (first_word words)) (property_of (r
 abbrev pub lookup_line : List ℕ → Option Spoken
 lookup_line words = of_both look_up (ref_of (first_word words)) (property_of (rest words))
 
+-- the text, if it is words that ask for properties
+abbrev pub asked_of : List ℕ → Option (List ℕ)
+asked_of text = if are_asked (words_of text) then Some text else None
+
+abbrev pub ensure_line : List ℕ → Option Spoken
+ensure_line words = of_both (λ obj text. ensure_values obj (words_of text)) (ref_of (first_word words)) (asked_of (rest words))
+
+abbrev pub explain_line : List ℕ → Option Spoken
+explain_line words = of_both (λ obj text. explain_values obj (words_of text)) (ref_of (first_word words)) (asked_of (rest words))
+
+abbrev pub history_line : List ℕ → Option Spoken
+history_line word = if is_name word then Some (tell_history word) else None
+
 abbrev pub disable_of : List ℕ → List ℕ → Option Spoken
 disable_of name label = if is_name name && is_label label then Some (disable_rule name label) else None
 
@@ -72,6 +89,14 @@ disable_line words = disable_of (first_word words) (rest words)
 
 abbrev pub unload_line : List ℕ → Option Spoken
 unload_line word = if is_word word then Some (unload_client word) else None
+
+-- a command on chains, from its first word and what stands after it
+abbrev pub chain_line : List ℕ → List ℕ → Option Spoken
+chain_line first words =
+    if bytes_eq first (codes "ensure") then ensure_line words
+    else (if bytes_eq first (codes "explain") then explain_line words
+    else (if bytes_eq first (codes "history") then history_line words
+    else None))
 
 -- the command, from its first word and what stands after it
 abbrev pub line_of : List ℕ → List ℕ → Option Spoken
@@ -82,7 +107,7 @@ line_of first words =
     else (if bytes_eq first (codes "lookup") then lookup_line words
     else (if bytes_eq first (codes "disable") then disable_line words
     else (if bytes_eq first (codes "unload") then unload_line words
-    else None)))))
+    else chain_line first words)))))
 
 -- the command that the line speaks
 abbrev pub command_of : List ℕ → Option Spoken
@@ -99,6 +124,9 @@ spoken (New obj of) = new_object (seen_ref obj) (string_bytes of)
 spoken (Take obj prop json) = take_value (seen_ref obj) (string_bytes prop) (string_bytes json)
 spoken (Give obj prop) = give_value (seen_ref obj) (string_bytes prop)
 spoken (Lookup obj prop) = look_up (seen_ref obj) (string_bytes prop)
+spoken (Ensure obj props) = ensure_values (seen_ref obj) (map string_bytes props.items)
+spoken (Explain obj props) = explain_values (seen_ref obj) (map string_bytes props.items)
+spoken (History name) = tell_history (string_bytes name)
 spoken Rules = show_rules
 spoken (Disable name label) = disable_rule (string_bytes name) (string_bytes label)
 spoken (Unload client) = unload_client (string_bytes client)

@@ -1,10 +1,11 @@
 -- The grammar of lines: the texts that speak a command, by cases.
 use Rattle.std.specs.Prelude.{ℕ, ◌≡◌, ◌&&◌, ◌++◌, Bool, true, IsTrue, List, length, nat_le, Option, Some, None, codes}
+use Rattle.std.specs.List.{join_with_byte}
 use Rattle.std.specs.Str.{IsUtf8}
-use Rattle.pm_script.specs.Commands.{RefSeen, Spoken, blank, new_object, take_value, give_value, look_up, show_rules, disable_rule, unload_client}
+use Rattle.pm_script.specs.Commands.{RefSeen, Spoken, blank, new_object, take_value, give_value, look_up, ensure_values, explain_values, tell_history, show_rules, disable_rule, unload_client}
 use Rattle.pm_script.specs.Lines.{is_silent}
 use Rattle.pm_rules.specs.Words.{is_label, is_word}
-use Rattle.pm_script.specs.Words.{is_name, is_property_word, is_type_word}
+use Rattle.pm_script.specs.Words.{are_asked, is_name, is_property_word, is_type_word}
 
 abbrev pub part_text : List ℕ → Option (List ℕ) → List ℕ
 part_text name None = name
@@ -22,6 +23,14 @@ is_sub (Some sub) = is_name sub
 abbrev pub is_ref : RefSeen → Bool
 is_ref r = is_name r.name && is_sub r.sub
 
+-- the words in a row, with a space between each two
+abbrev pub spaced : List (List ℕ) → List ℕ
+spaced words = join_with_byte 32 words
+
+-- words that ask for properties, one at least
+abbrev pub are_some_asked : List (List ℕ) → Bool
+are_some_asked words = nat_le 1 (length words) && are_asked words
+
 -- the text is UTF-8, it is this line, and the words are such
 pub record IsLine (text line : List ℕ) (words : Bool) : Type 0 where
   pub utf8 : IsUtf8 text
@@ -35,6 +44,9 @@ Speaks text (new_object obj of) = IsLine text (codes "new " ++ ref_text obj ++ c
 Speaks text (take_value obj prop json) = IsLine text (codes "take " ++ ref_text obj ++ codes " " ++ prop ++ codes " " ++ json) (is_ref obj && is_property_word prop && nat_le 1 (length json))
 Speaks text (give_value obj prop) = IsLine text (codes "give " ++ ref_text obj ++ codes " " ++ prop) (is_ref obj && is_property_word prop)
 Speaks text (look_up obj prop) = IsLine text (codes "lookup " ++ ref_text obj ++ codes " " ++ prop) (is_ref obj && is_property_word prop)
+Speaks text (ensure_values obj props) = IsLine text (codes "ensure " ++ ref_text obj ++ codes " " ++ spaced props) (is_ref obj && are_some_asked props)
+Speaks text (explain_values obj props) = IsLine text (codes "explain " ++ ref_text obj ++ codes " " ++ spaced props) (is_ref obj && are_some_asked props)
+Speaks text (tell_history name) = IsLine text (codes "history " ++ name) (is_name name)
 Speaks text show_rules = IsLine text (codes "rules") true
 Speaks text (disable_rule name label) = IsLine text (codes "disable " ++ name ++ codes " " ++ label) (is_name name && is_label label)
 Speaks text (unload_client client) = IsLine text (codes "unload " ++ client) (is_word client)

@@ -4,3 +4,4 @@ pub mod Commands
 pub mod Grammar
 pub mod Values
 pub mod Replies
+pub mod Examples

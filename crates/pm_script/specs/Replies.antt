@@ -1,7 +1,27 @@
 -- What is replied to a command.
-use Rattle.std.specs.Prelude.{ℕ, List, ◌++◌, Bool, true, false, string_bytes, codes, decimal}
+use Rattle.std.specs.Prelude.{ℕ, ◌-◌, ◌/◌, ◌%◌, ◌^◌, List, [], ◌++◌, Bool, true, false, ◌||◌, if◌then◌else◌, Option, Some, None, flat_map, length, map, replicate, string_bytes, codes, decimal}
+use Rattle.std.specs.Fmt.{digits}
+use Rattle.std.specs.List.{slice_get}
+use Rattle.pm_geom.specs.Evidence.{evidence_number}
+use Rattle.pm_object.specs.State.{RoundSeen}
+use Rattle.pm_object.specs.Views.{round_seen}
+use Rattle.pm_object.specs.declared.held.Excluded.{Excluded}
+use Rattle.pm_object.specs.declared.held.RoundEnd.{RoundEnd}
+use Rattle.pm_object.specs.declared.held.RoundEnd.TheVariants as end
+use Rattle.pm_object.specs.declared.held.Why.{Why}
+use Rattle.pm_object.specs.declared.held.Why.TheVariants as why
+use Rattle.pm_props.specs.Weights.{cost_text, weight_text}
+use Rattle.pm_props.specs.declared.kind.RuleId.{RuleId}
+use Rattle.pm_props.specs.declared.set.PropSet.{PropSet}
+use Rattle.pm_props.specs.declared.weight.Cost.{Cost}
+use Rattle.pm_props.specs.declared.weight.Weight.{Weight}
+use Rattle.pm_rules.specs.declared.table.Table.{Table}
+use Rattle.pm_rules.specs.declared.table.TableRow.{TableRow}
+use Rattle.pm_script.specs.declared.names.Bar.{Bar}
+use Rattle.pm_script.specs.declared.names.Bar.TheVariants as bar
+use Rattle.pm_script.specs.declared.names.Names.{Names}
 use Rattle.pm_props.specs.declared.object_type.ObjectType.{ObjectType}
-use Rattle.pm_props.specs.Properties.{name_in}
+use Rattle.pm_props.specs.Properties.{first_name, name_in}
 use Rattle.pm_types.specs.Values.{PropertyValue}
 use Rattle.pm_types.specs.Views.{view_of}
 use Rattle.pm_props.specs.declared.property.PropId.{PropId}
@@ -13,22 +33,55 @@ use Rattle.pm_script.specs.declared.refusal.ValueWhy.TheVariants.{Json, Shape, N
 use Rattle.pm_script.specs.declared.reply.Reply.{Reply}
 use Rattle.pm_script.specs.declared.reply.Reply.TheVariants as reply
 
--- done; shows name of p v, the value v of the property p of the object of that name and type; lists_rules n text, where the book has n rules and this text; undef, where no value is held; refused, and why
+-- the label and the weight of each rule, by its number, and the name of each program of an object, by its place
+pub record NamesSeen : Type 0 where
+  pub rules : List (List ℕ × Weight)
+  pub programs : List (List ℕ)
+
+-- rounds, with the names that their lines need
+pub record Rounds : Type 0 where
+  pub rounds : List RoundSeen
+  pub names : NamesSeen
+
+-- What follows a refusal: nothing; the rounds of the command, which are always shown (true), or where they are traced; or the rules that are barred, each with the reason, and the table of the planner.
+pub data Remarks : Type 0 where
+  nothing : Remarks
+  told : Bool → Rounds → Remarks
+  planned : List (RuleId × Bar) → List TableRow → NamesSeen → Remarks
+
+-- done; shows name of p v, the value v of the property p of the object of that name and type, with the rounds that found it; ensured, by these rounds; explained, by a chain with its weight and table; tells, what happened to an object; lists_rules n text, where the book has n rules and this text; undef, where no value is held; refused, why, and what is said beside it
 pub data ReplySeen : Type 0 where
   done : ReplySeen
-  shows : List ℕ → ObjectType → PropId → PropertyValue → ReplySeen
+  shows : List ℕ → ObjectType → PropId → PropertyValue → Rounds → ReplySeen
+  ensured : Rounds → ReplySeen
+  explained : List RuleId → Cost → List TableRow → NamesSeen → ReplySeen
+  tells : Rounds → List Excluded → ReplySeen
   lists_rules : ℕ → List ℕ → ReplySeen
   undef : ReplySeen
-  refused : Refusal → ReplySeen
+  refused : Refusal → Remarks → ReplySeen
+
+-- ---- the code's replies
+abbrev pub names_seen : Names → NamesSeen
+names_seen n = record { rules = map (λ x. (string_bytes x.0, x.1)) n.rules.items; programs = map string_bytes n.subs.items }
+
+-- what is said beside a refusal: no table is there where rounds are told
+abbrev pub remarks : Bool → List RoundSeen → List (RuleId × Bar) → Option Table → NamesSeen → Remarks
+remarks always rounds barred (Some table) names = planned barred table.rows.items names
+remarks false [] barred None names = nothing
+remarks always rounds barred None names = told always (record { rounds = rounds; names = names })
 
 -- what the code's reply says
 abbrev pub seen : Reply → ReplySeen
 seen reply.Done = done
-seen (reply.Value name of p v) = shows (string_bytes name) of p (view_of v)
+seen (reply.Value name of p v rounds names) = shows (string_bytes name) of p (view_of v) (record { rounds = map round_seen rounds.items; names = names_seen names })
+seen (reply.Ensured rounds names) = ensured (record { rounds = map round_seen rounds.items; names = names_seen names })
+seen (reply.Explained chain weight table names) = explained chain.items weight table.rows.items (names_seen names)
+seen (reply.History rounds excluded names) = tells (record { rounds = map round_seen rounds.items; names = names_seen names }) excluded.items
 seen (reply.Rules count text) = lists_rules count (string_bytes text)
 seen reply.Undef = undef
-seen (reply.Refused why) = refused why
+seen (reply.Refused why always rounds barred table names) = refused why (remarks always (map round_seen rounds.items) barred.items table (names_seen names))
 
+-- ---- texts
 abbrev pub why_text : ValueWhy → List ℕ
 why_text Json = codes "json"
 why_text Shape = codes "shape"
@@ -53,18 +106,107 @@ refusal_text NoChain = codes "10 NoChain"
 refusal_text Crowded = codes "11 Crowded"
 refusal_text UnknownRule = codes "16 UnknownRule"
 
--- the reply's line, with its LF
-abbrev pub reply_text : ReplySeen → List ℕ
-reply_text done = codes "ok\n"
-reply_text (shows name of p v) = name ++ codes " " ++ name_in of p ++ codes " " ++ value_text v ++ codes "\n"
-reply_text (lists_rules n text) = codes "rules " ++ decimal n ++ codes "\n" ++ text
-reply_text undef = codes "undef\n"
-reply_text (refused why) = codes "no " ++ refusal_text why ++ codes "\n"
+-- the label of a rule, and its weight
+abbrev pub label_in : Option (List ℕ × Weight) → List ℕ
+label_in None = []
+label_in (Some rule) = rule.0
+
+abbrev pub weight_in : Option (List ℕ × Weight) → List ℕ
+weight_in None = []
+weight_in (Some rule) = weight_text rule.1
+
+-- the label of the rule of a number; nothing where no name tells it
+abbrev pub label_text : NamesSeen → RuleId → List ℕ
+label_text names id = label_in (slice_get names.rules id.0)
+
+-- the weight of the rule of a number
+abbrev pub weight_text_of : NamesSeen → RuleId → List ℕ
+weight_text_of names id = weight_in (slice_get names.rules id.0)
+
+-- a space, and the label
+abbrev pub spaced_label : NamesSeen → RuleId → List ℕ
+spaced_label names id = codes " " ++ label_text names id
+
+abbrev pub name_of_program : Option (List ℕ) → List ℕ
+name_of_program None = []
+name_of_program (Some name) = name
+
+-- ` @` and the name of a program, where one is meant
+abbrev pub place_text : NamesSeen → Option ℕ → List ℕ
+place_text names None = []
+place_text names (Some k) = codes " @" ++ name_of_program (slice_get names.programs k)
+
+abbrev pub failed_text : ℕ → List ℕ
+failed_text k = codes "failed E" ++ decimal k
+
+abbrev pub false_text : PropId → List ℕ
+false_text p = codes "false " ++ first_name p
+
+-- how a round ended
+abbrev pub end_text : NamesSeen → RoundEnd → List ℕ
+end_text names end.Done = codes "done"
+end_text names (end.Failed id k) = codes "failed " ++ label_text names id ++ codes " E" ++ decimal k
+end_text names (end.False id p) = codes "false " ++ label_text names id ++ codes " " ++ first_name p
+
+-- `round W: LABEL .. -> END`
+abbrev pub round_text : NamesSeen → RoundSeen → List ℕ
+round_text names r = codes "round " ++ cost_text r.weight ++ place_text names r.sub ++ codes ":" ++ flat_map (spaced_label names) r.chain
+    ++ codes " -> " ++ end_text names r.end ++ codes "\n"
+
+abbrev pub rounds_text : Rounds → List ℕ
+rounds_text t = flat_map (round_text t.names) t.rounds
+
+abbrev pub exclusion_text : Why → List ℕ
+exclusion_text (why.Failed evidence) = failed_text (evidence_number evidence)
+exclusion_text (why.False p) = false_text p
+
+-- `excluded LABEL WHY`
+abbrev pub excluded_text : NamesSeen → Excluded → List ℕ
+excluded_text names e = codes "excluded " ++ label_text names e.rule ++ codes " " ++ exclusion_text e.why ++ place_text names e.sub ++ codes "\n"
+
+abbrev pub bar_text : Bar → List ℕ
+bar_text (bar.Failed k) = failed_text k
+bar_text (bar.False p) = false_text p
+bar_text bar.Disabled = codes "disabled"
+bar_text bar.NoClient = codes "no-client"
+
+-- `barred LABEL WHY`
+abbrev pub barred_text : NamesSeen → RuleId × Bar → List ℕ
+barred_text names x = codes "barred " ++ label_text names x.0 ++ codes " " ++ bar_text x.1 ++ codes "\n"
+
+-- a number below 2^64 as 16 hexadecimal digits
+abbrev pub half_text : ℕ → List ℕ
+half_text n = replicate (16 - length (digits 16 false n)) 48 ++ digits 16 false n
+
+-- a set as 32 hexadecimal digits, of which bit k stands for the property of number k
+abbrev pub property_set_text : PropSet → List ℕ
+property_set_text s = half_text (s / 2 ^ 64) ++ half_text (s % 2 ^ 64)
+
+-- `row COST SET`
+abbrev pub table_row_text : TableRow → List ℕ
+table_row_text row = codes "row " ++ cost_text row.cost ++ codes " " ++ property_set_text row.set ++ codes "\n"
+
+-- `rule LABEL WEIGHT`
+abbrev pub rule_text : NamesSeen → RuleId → List ℕ
+rule_text names id = codes "rule " ++ label_text names id ++ codes " " ++ weight_text_of names id ++ codes "\n"
+
+abbrev pub remarks_text : Bool → Remarks → List ℕ
+remarks_text trace nothing = []
+remarks_text trace (told always rounds) = if trace || always then rounds_text rounds else []
+remarks_text trace (planned barred rows names) = flat_map (barred_text names) barred ++ flat_map table_row_text rows
+
+-- the reply's lines, each with its LF; rounds that found a value are shown where they are traced
+abbrev pub reply_text : Bool → ReplySeen → List ℕ
+reply_text trace done = codes "ok\n"
+reply_text trace (shows name of p v t) = name ++ codes " " ++ name_in of p ++ codes " " ++ value_text v ++ codes "\n" ++ (if trace then rounds_text t else [])
+reply_text trace (ensured t) = codes "ok " ++ decimal (length t.rounds) ++ codes "\n" ++ rounds_text t
+reply_text trace (explained chain weight rows names) = codes "plan " ++ cost_text weight ++ codes "\n" ++ flat_map (rule_text names) chain ++ flat_map table_row_text rows
+reply_text trace (tells t excluded) = codes "rounds " ++ decimal (length t.rounds) ++ codes "\n" ++ rounds_text t ++ flat_map (excluded_text t.names) excluded
+reply_text trace (lists_rules n text) = codes "rules " ++ decimal n ++ codes "\n" ++ text
+reply_text trace undef = codes "undef\n"
+reply_text trace (refused why more) = codes "no " ++ refusal_text why ++ codes "\n" ++ remarks_text trace more
 
 -- the reply is a refusal
 abbrev pub is_refusal : ReplySeen → Bool
-is_refusal done = false
-is_refusal (shows name of p v) = false
-is_refusal (lists_rules n text) = false
-is_refusal undef = false
-is_refusal (refused why) = true
+is_refusal (refused why more) = true
+is_refusal reply = false

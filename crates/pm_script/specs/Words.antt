@@ -1,7 +1,8 @@
 -- The words of a line, which stand at single spaces.
-use Rattle.std.specs.Prelude.{ℕ, ◌==◌, ◌&&◌, ◌||◌, Bool, false, List, [], ◌∷◌, length, nat_le}
+use Rattle.std.specs.Prelude.{ℕ, ◌==◌, ◌&&◌, ◌||◌, ◌++◌, Bool, false, List, [], ◌∷◌, length, nat_le, fold, if◌then◌else◌}
 use Rattle.std.specs.Char.{is_ascii_alphabetic, is_ascii_alphanumeric, is_ascii_uppercase, is_ascii_digit}
-use Rattle.std.specs.List.{list_all, before_first, after_first}
+use Rattle.std.specs.List.{list_all, list_any, before_first, after_first, slice_split}
+use Rattle.std.specs.Str.{bytes_eq}
 
 abbrev pub is_space : ℕ → Bool
 is_space b = b == 32
@@ -35,3 +36,23 @@ is_property_word word = nat_le 1 (length word) && nat_le (length word) 32 && lis
 -- letters, one at least
 abbrev pub is_type_word : List ℕ → Bool
 is_type_word word = nat_le 1 (length word) && list_all is_ascii_alphabetic word
+
+-- the words of a text, which stand at single spaces
+abbrev pub words_of : List ℕ → List (List ℕ)
+words_of text = slice_split is_space text
+
+-- the words with one more, if it is not among them
+abbrev pub with_word : List (List ℕ) → List ℕ → List (List ℕ)
+with_word words w = if list_any (bytes_eq w) words then words else words ++ w ∷ []
+
+-- the different words, in the order in which each comes first
+abbrev pub distinct : List (List ℕ) → List (List ℕ)
+distinct words = fold with_word [] words
+
+-- the greatest number of properties that are asked at once
+abbrev pub most_asked : ℕ
+most_asked = 4
+
+-- property words, of which at most four are different
+abbrev pub are_asked : List (List ℕ) → Bool
+are_asked words = list_all is_property_word words && nat_le (length (distinct words)) most_asked

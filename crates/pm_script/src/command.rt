@@ -1,9 +1,12 @@
 // Commands.
 
-ghost use Rattle.pm_script.specs.Commands.{Spoken, ref_of, part_of, property_of, type_of, json_of, new_line, take_line, give_line, lookup_line, disable_line, unload_line, line_of, command_of, seen_ref, spoken};
+ghost use Rattle.pm_script.specs.Commands.{Spoken, ref_of, part_of, property_of, type_of, json_of, new_line, take_line, give_line, lookup_line, ensure_line, explain_line, history_line, disable_line, unload_line, chain_line, line_of, command_of, seen_ref, spoken};
 ghost use Rattle.pm_script.specs.Grammar.{Speaks};
+ghost use Rattle.pm_script.specs.Words.{are_asked, distinct, is_property_word, most_asked, words_of};
 ghost use Rattle.pm_script.specs.declared.command.LineFail.TheVariants.{Memory};
-ghost use Rattle.std.specs.Prelude.{IfErr, IfOk, None, Some, string_bytes, ◌≡◌};
+ghost use Rattle.std.specs.List.{list_all, list_any};
+ghost use Rattle.std.specs.Prelude.{IfErr, IfOk, None, OnOk, Some, false, length, map, nat_le, string_bytes, true, ◌≡◌};
+ghost use Rattle.std.specs.Str.{bytes_eq};
 
 use crate::lines::is_silent;
 use crate::words::{
@@ -12,6 +15,9 @@ use crate::words::{
 use std::alloc::{AllocError, Global};
 use std::str;
 use thiserror::Error;
+
+/// The greatest number of properties that are asked at once.
+pub const MOST_ASKED: usize = 4;
 
 /// The name of an object, or of a part of one: NAME or NAME.SUB.
 #[derive(Debug, Drop)]
@@ -45,6 +51,20 @@ pub enum Command {
     Lookup {
         obj: Ref,
         prop: String,
+    },
+    /// `ensure REF PROP ..`, with at most four different properties
+    Ensure {
+        obj: Ref,
+        props: Vec<String>,
+    },
+    /// `explain REF PROP ..`, with at most four different properties
+    Explain {
+        obj: Ref,
+        props: Vec<String>,
+    },
+    /// `history NAME`
+    History {
+        name: String,
     },
     /// `rules`
     Rules,
@@ -191,6 +211,108 @@ fn read_lookup(alloc: Global, words: &str) -> Result<Command, LineFail>
     Ok(Command::Lookup { obj, prop })
 }
 
+/// The words of a text, which stand at single spaces.
+fn split_words(alloc: Global, text: &str) -> Result<Vec<&str>, AllocError>
+    ensures { IfOk result (λ v. map (λ w. w.now) v.items ≡ words_of text.now) }
+{
+    text.split(' ').collect(alloc)
+}
+
+/// Whether each word is a property word.
+fn are_property_words(words: &[&str]) -> bool
+    ensures { result ≡ list_all (λ w. is_property_word w.now) words.now }
+{
+    words.iter().all(|word| is_property_word(word))
+}
+
+/// Whether the word is among these.
+fn is_among(words: &[&str], word: &str) -> bool
+    ensures { result ≡ list_any (λ w. bytes_eq word.now w.now) words.now }
+{
+    words
+        .iter()
+        .any(|other| word.as_bytes() == other.as_bytes())
+}
+
+/// Whether at most four of the words are different.
+fn are_few(alloc: Global, words: &[&str]) -> Result<bool, AllocError>
+    ensures { IfOk result (λ b. b
+        ≡ nat_le (length (distinct (map (λ w. w.now) words.now))) most_asked) }
+{
+    let mut seen: Vec<&str> = Vec::new(alloc);
+    for word in words {
+        if !is_among(&seen, word) {
+            if seen.len() == MOST_ASKED {
+                return Ok(false);
+            }
+            seen.push(*word)?;
+        }
+    }
+    Ok(true)
+}
+
+/// The same words.
+fn copies(alloc: Global, words: &[&str]) -> Result<Vec<String>, AllocError>
+    ensures { IfOk result (λ v. map string_bytes v.items ≡ map (λ w. w.now) words.now) }
+{
+    let mut copies = Vec::new(alloc);
+    for word in words {
+        copies.push(String::from_str(alloc, word)?)?;
+    }
+    Ok(copies)
+}
+
+/// The properties that the words of a text ask for.
+fn read_asked(alloc: Global, text: &str) -> Result<Vec<String>, LineFail>
+    ensures ok { IfOk result (λ v. map string_bytes v.items ≡ words_of text.now) }
+    ensures asked { OnOk result (are_asked (words_of text.now) ≡ true) }
+    ensures refused { IfErr result (λ e. e ≡ LineFail.BadCommand
+        → are_asked (words_of text.now) ≡ false) }
+{
+    let words = split_words(alloc, text)?;
+    if are_property_words(&words) && are_few(alloc, &words)? {
+        Ok(copies(alloc, &words)?)
+    } else {
+        Err(LineFail::BadCommand)
+    }
+}
+
+/// The words after `ensure`.
+fn read_ensure(alloc: Global, words: &str) -> Result<Command, LineFail>
+    ensures ok { IfOk result (λ c. ensure_line words.now ≡ Some (spoken c)) }
+    ensures refused { IfErr result (λ e. e ≡ LineFail.BadCommand → ensure_line words.now ≡ None) }
+{
+    let (word, others) = split_word(words);
+    let obj = read_ref(alloc, word)?;
+    let props = read_asked(alloc, others)?;
+    Ok(Command::Ensure { obj, props })
+}
+
+/// The words after `explain`.
+fn read_explain(alloc: Global, words: &str) -> Result<Command, LineFail>
+    ensures ok { IfOk result (λ c. explain_line words.now ≡ Some (spoken c)) }
+    ensures refused { IfErr result (λ e. e ≡ LineFail.BadCommand → explain_line words.now ≡ None) }
+{
+    let (word, others) = split_word(words);
+    let obj = read_ref(alloc, word)?;
+    let props = read_asked(alloc, others)?;
+    Ok(Command::Explain { obj, props })
+}
+
+/// The word after `history`.
+fn read_history(alloc: Global, word: &str) -> Result<Command, LineFail>
+    ensures ok { IfOk result (λ c. history_line word.now ≡ Some (spoken c)) }
+    ensures refused { IfErr result (λ e. e ≡ LineFail.BadCommand → history_line word.now ≡ None) }
+{
+    if is_name(word) {
+        Ok(Command::History {
+            name: String::from_str(alloc, word)?,
+        })
+    } else {
+        Err(LineFail::BadCommand)
+    }
+}
+
 /// The words after `disable`.
 fn read_disable(alloc: Global, words: &str) -> Result<Command, LineFail>
     ensures ok { IfOk result (λ c. disable_line words.now ≡ Some (spoken c)) }
@@ -221,6 +343,23 @@ fn read_unload(alloc: Global, word: &str) -> Result<Command, LineFail>
     }
 }
 
+/// The command on chains of this first word, with these words after it.
+fn read_chain_words(alloc: Global, first: &str, words: &str) -> Result<Command, LineFail>
+    ensures ok { IfOk result (λ c. chain_line first.now words.now ≡ Some (spoken c)) }
+    ensures refused { IfErr result (λ e. e ≡ LineFail.BadCommand
+        → chain_line first.now words.now ≡ None) }
+{
+    if first == "ensure" {
+        read_ensure(alloc, words)
+    } else if first == "explain" {
+        read_explain(alloc, words)
+    } else if first == "history" {
+        read_history(alloc, words)
+    } else {
+        Err(LineFail::BadCommand)
+    }
+}
+
 /// The command of this first word, with these words after it.
 fn read_words(alloc: Global, first: &str, words: &str) -> Result<Command, LineFail>
     ensures ok { IfOk result (λ c. line_of first.now words.now ≡ Some (spoken c)) }
@@ -239,7 +378,7 @@ fn read_words(alloc: Global, first: &str, words: &str) -> Result<Command, LineFa
     } else if first == "unload" {
         read_unload(alloc, words)
     } else {
-        Err(LineFail::BadCommand)
+        read_chain_words(alloc, first, words)
     }
 }
 

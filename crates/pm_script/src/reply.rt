@@ -1,14 +1,20 @@
 // Replies.
 
-ghost use Rattle.pm_script.specs.Replies.{is_refusal, reply_text, seen};
-ghost use Rattle.pm_script.specs.Values.{value_text};
+ghost use Rattle.pm_object.specs.Views.{round_seen};
 ghost use Rattle.pm_props.specs.Properties.{name_in};
+ghost use Rattle.pm_props.specs.Weights.{cost_text};
+ghost use Rattle.pm_script.specs.Replies.{is_refusal, names_seen, nothing, refused, remarks, remarks_text, reply_text, rounds_text, rule_text, seen, table_row_text};
+ghost use Rattle.pm_script.specs.Values.{value_text};
 ghost use Rattle.pm_types.specs.Views.{view_of};
-ghost use Rattle.std.specs.Prelude.{IfOk, OnOk, codes, decimal, string_bytes, ◌++◌, ◌≡◌};
+ghost use Rattle.std.specs.Prelude.{Bool, IfOk, None, OnOk, [], codes, decimal, flat_map, if◌then◌else◌, length, map, string_bytes, ◌++◌, ◌||◌, ◌≡◌};
 
+use crate::chains::{push_barred, push_exclusions, push_rounds, push_rows, push_rules_of};
+use crate::names::{Bar, Names};
 use crate::refusal::{Refusal, push_refusal};
 use crate::value_text::push_value;
-use pm_types::{ObjectType, PropId, Value};
+use pm_object::{Excluded, Round};
+use pm_rules::Table;
+use pm_types::{Cost, ObjectType, PropId, RuleId, Value};
 use std::alloc::{AllocError, Global};
 use std::fmt::Write;
 
@@ -17,12 +23,32 @@ use std::fmt::Write;
 pub enum Reply {
     /// The command was carried out.
     Done,
-    /// A value of an object's property; `name` is the REF that was asked.
+    /// A value of an object's property, with the rounds that found it; `name` is the REF that was asked.
     Value {
         name: String,
         of: ObjectType,
         prop: PropId,
         value: Value,
+        rounds: Vec<Round>,
+        names: Names,
+    },
+    /// The properties are held, by these rounds.
+    Ensured {
+        rounds: Vec<Round>,
+        names: Names,
+    },
+    /// A least chain to the properties, what it weighs, and the table that proves it least.
+    Explained {
+        chain: Vec<RuleId>,
+        weight: Cost,
+        table: Table,
+        names: Names,
+    },
+    /// The rounds and the exclusions of an object.
+    History {
+        rounds: Vec<Round>,
+        excluded: Vec<Excluded>,
+        names: Names,
     },
     /// How many rules the book has, and its text.
     Rules {
@@ -31,9 +57,14 @@ pub enum Reply {
     },
     /// The property is not held.
     Undef,
-    /// The command is refused.
+    /// The command is refused. `ensured`: the rounds are told whether they are traced or not. `barred` and `table` are told where there is a table, of an explanation.
     Refused {
         why: Refusal,
+        ensured: bool,
+        rounds: Vec<Round>,
+        barred: Vec<(RuleId, Bar)>,
+        table: Option<Table>,
+        names: Names,
     },
 }
 
@@ -44,6 +75,41 @@ impl Reply {
     {
         matches!(self, Reply::Refused { .. })
     }
+
+    /// A refusal after these rounds, which are told always, or where they are traced.
+    pub fn refused_after(
+        alloc: Global,
+        why: Refusal,
+        always: bool,
+        rounds: Vec<Round>,
+        names: Names,
+    ) -> Reply
+        ensures { seen result ≡ refused why
+            (remarks always (map round_seen rounds.items) [] None (names_seen names)) }
+    {
+        Reply::Refused {
+            why,
+            ensured: always,
+            rounds,
+            barred: Vec::new(alloc),
+            table: None,
+            names,
+        }
+    }
+
+    /// A refusal beside which nothing is said.
+    pub fn refused(alloc: Global, why: Refusal) -> Reply
+        ensures { seen result ≡ refused why nothing }
+    {
+        Reply::Refused {
+            why,
+            ensured: false,
+            rounds: Vec::new(alloc),
+            barred: Vec::new(alloc),
+            table: None,
+            names: Names::none(alloc),
+        }
+    }
 }
 
 /// Writes a value of a property, after the name of its object.
@@ -53,7 +119,9 @@ fn push_shown(
     prop: PropId,
     value: &Value,
 ) -> Result<(), AllocError>
-    ensures { OnOk result (string_bytes text.new ≡ string_bytes text.old ++ codes " " ++ name_in of prop ++ codes " " ++ value_text (view_of value.now) ++ codes "\n") }
+    ensures { OnOk result (string_bytes text.new ≡ string_bytes text.old
+        ++ codes " " ++ name_in of prop ++ codes " " ++ value_text (view_of value.now)
+        ++ codes "\n") }
 {
     text.push_str(" ")?;
     text.push_str(prop.name_in(of))?;
@@ -64,15 +132,97 @@ fn push_shown(
 
 /// Writes how many rules a book has, and its text.
 fn push_rules(text: &mut String, count: usize, book: &str) -> Result<(), AllocError>
-    ensures { OnOk result (string_bytes text.new ≡ string_bytes text.old ++ codes "rules " ++ decimal count ++ codes "\n" ++ book.now) }
+    ensures { OnOk result (string_bytes text.new ≡ string_bytes text.old
+        ++ codes "rules " ++ decimal count ++ codes "\n" ++ book.now) }
 {
     write!(text, "rules {count}\n")?;
     text.push_str(book)
 }
 
-/// The reply's line as a text.
-fn reply_line(alloc: Global, r: &Reply) -> Result<String, AllocError>
-    ensures { IfOk result (λ t. string_bytes t ≡ reply_text (seen r.now)) }
+/// Writes how many rounds there are, and their lines.
+fn push_counted(
+    text: &mut String,
+    word: &str,
+    rounds: &[Round],
+    names: &Names,
+) -> Result<(), AllocError>
+    ensures { OnOk result (string_bytes text.new ≡ string_bytes text.old ++ word.now
+        ++ codes " " ++ decimal (length rounds.now) ++ codes "\n"
+        ++ rounds_text (record { rounds = map round_seen rounds.now; names = names_seen names.now })) }
+{
+    let count = rounds.len();
+    write!(text, "{word} {count}\n")?;
+    push_rounds(text, names, rounds)
+}
+
+/// Writes a chain with its weight and table.
+fn push_plan(
+    text: &mut String,
+    chain: &[RuleId],
+    weight: Cost,
+    table: &Table,
+    names: &Names,
+) -> Result<(), AllocError>
+    ensures { OnOk result (string_bytes text.new ≡ string_bytes text.old ++ codes "plan "
+        ++ cost_text weight ++ codes "\n" ++ flat_map (rule_text (names_seen names.now)) chain.now
+        ++ flat_map table_row_text table.now.rows.items) }
+{
+    write!(text, "plan {weight}\n")?;
+    push_rules_of(text, names, chain)?;
+    push_rows(text, &table.rows)
+}
+
+/// Writes rounds where they are told.
+fn push_told(
+    text: &mut String,
+    told: bool,
+    rounds: &[Round],
+    names: &Names,
+) -> Result<(), AllocError>
+    ensures { OnOk result (string_bytes text.new ≡ string_bytes text.old ++ (if told then
+        rounds_text (record { rounds = map round_seen rounds.now; names = names_seen names.now })
+        else [])) }
+{
+    if told {
+        push_rounds(text, names, rounds)
+    } else {
+        Ok(())
+    }
+}
+
+/// Whether rounds are told: always, or where they are traced.
+fn is_told(trace: bool, always: bool) -> bool
+    ensures { result ≡ (trace || always) }
+{
+    trace || always
+}
+
+/// Writes what is said beside a refusal.
+fn push_remarks(
+    text: &mut String,
+    told: bool,
+    rounds: &[Round],
+    barred: &[(RuleId, Bar)],
+    table: &Option<Table>,
+    names: &Names,
+) -> Result<(), AllocError>
+    ensures { (trace always : Bool) → told ≡ (trace || always) →
+        OnOk result (string_bytes text.new ≡ string_bytes text.old
+        ++ remarks_text trace (remarks always (map round_seen rounds.now) barred.now table.now
+        (names_seen names.now))) }
+{
+    match table {
+        Some(table) => {
+            push_barred(text, names, barred)?;
+            push_rows(text, &table.rows)
+        }
+        None => push_told(text, told, rounds, names),
+    }
+}
+
+/// The reply's lines as a text.
+fn reply_lines(alloc: Global, r: &Reply, trace: bool) -> Result<String, AllocError>
+    ensures { IfOk result (λ t. string_bytes t ≡ reply_text trace (seen r.now)) }
 {
     match r {
         Reply::Done => String::from_str(alloc, "ok\n"),
@@ -82,9 +232,37 @@ fn reply_line(alloc: Global, r: &Reply) -> Result<String, AllocError>
             of,
             prop,
             value,
+            rounds,
+            names,
         } => {
             let mut text = String::from_str(alloc, name)?;
             push_shown(&mut text, *of, *prop, value)?;
+            push_told(&mut text, trace, rounds, names)?;
+            Ok(text)
+        }
+        Reply::Ensured { rounds, names } => {
+            let mut text = String::new(alloc);
+            push_counted(&mut text, "ok", rounds, names)?;
+            Ok(text)
+        }
+        Reply::Explained {
+            chain,
+            weight,
+            table,
+            names,
+        } => {
+            let mut text = String::new(alloc);
+            push_plan(&mut text, chain, *weight, table, names)?;
+            Ok(text)
+        }
+        Reply::History {
+            rounds,
+            excluded,
+            names,
+        } => {
+            let mut text = String::new(alloc);
+            push_counted(&mut text, "rounds", rounds, names)?;
+            push_exclusions(&mut text, names, excluded)?;
             Ok(text)
         }
         Reply::Rules { count, text: book } => {
@@ -92,19 +270,28 @@ fn reply_line(alloc: Global, r: &Reply) -> Result<String, AllocError>
             push_rules(&mut text, *count, book)?;
             Ok(text)
         }
-        Reply::Refused { why } => {
+        Reply::Refused {
+            why,
+            ensured,
+            rounds,
+            barred,
+            table,
+            names,
+        } => {
             let mut text = String::from_str(alloc, "no ")?;
             push_refusal(&mut text, *why)?;
             text.push_str("\n")?;
+            let told = is_told(trace, *ensured);
+            push_remarks(&mut text, told, rounds, barred, table, names)?;
             Ok(text)
         }
     }
 }
 
-/// The reply's line, with its LF.
-pub fn reply_bytes(alloc: Global, r: &Reply) -> Result<Vec<u8>, AllocError>
-    ensures { IfOk result (λ b. b.items ≡ reply_text (seen r.now)) }
+/// The reply's lines, each with its LF. Rounds that found a value are written where they are traced.
+pub fn reply_bytes(alloc: Global, r: &Reply, trace: bool) -> Result<Vec<u8>, AllocError>
+    ensures { IfOk result (λ b. b.items ≡ reply_text trace (seen r.now)) }
 {
-    let text = reply_line(alloc, r)?;
+    let text = reply_lines(alloc, r, trace)?;
     Ok(text.into_bytes())
 }

@@ -9,11 +9,11 @@ use Rattle.pm_machine.specs.declared.session.Session.{Session}
 use Rattle.pm_rules.specs.declared.rule.Rule.{Rule}
 use Rattle.pm_script.specs.Commands.{Spoken}
 use Rattle.pm_script.specs.Lines.{Line, lines_of}
-use Rattle.pm_script.specs.Replies.{ReplySeen, is_refusal, reply_text}
+use Rattle.pm_script.specs.Replies.{ReplySeen, is_refusal}
 use Rattle.pm_shell.proofs.Runs.{Gains-none, kept_run}
 use Rattle.pm_shell.proofs.Shown.{kept_to}
 use Rattle.pm_shell.specs.Ends.{AnswersOne, Ended, FromNoObjects, HasOutcome, InHand, NextInHand, Ran, World, status_of}
-use Rattle.pm_shell.specs.Run.{Answers, Starts, command_at}
+use Rattle.pm_shell.specs.Run.{Answers, Starts, command_at, text_of_reply}
 use Rattle.pm_shell.specs.declared.run.RunFail.{RunFail}
 use Rattle.pm_shell.specs.declared.run.RunFail.TheVariants as why
 use Rattle.pm_store.specs.Outside.{Gains}
@@ -89,7 +89,7 @@ hand_of (Err e) book old new line command at part = inr (inl (command, at, part)
 
 -- ---- a reply
 pub one_told : (book : List Rule) (old new : Machine) (line : Line) (reply : ReplySeen) (had has : Option (List ℕ)) (r : Result Bool RunFail)
-    → Answers book old line (Some reply) new → IfOk r (λ b. Gains had has (reply_text reply) × (b ≡ is_refusal reply)) → IfOk r (λ b. AnswersOne book had has old line b new)
+    → Answers book old line (Some reply) new → IfOk r (λ b. Gains had has (text_of_reply reply) × (b ≡ is_refusal reply)) → IfOk r (λ b. AnswersOne book had has old line b new)
 one_told book old new line reply had has (Ok b) answers told = record { reply = Some reply; answers = answers; told = told.0; refusal = told.1 }
 one_told book old new line reply had has (Err e) answers told = tt
 

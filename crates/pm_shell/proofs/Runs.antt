@@ -4,10 +4,10 @@ use Rattle.pm_client.specs.Starts.{Clients}
 use Rattle.pm_machine.specs.Steps.{AllKept, Machine, Stays}
 use Rattle.pm_rules.specs.declared.rule.Rule.{Rule}
 use Rattle.pm_script.specs.Lines.{Line}
-use Rattle.pm_script.specs.Replies.{ReplySeen, reply_text}
+use Rattle.pm_script.specs.Replies.{ReplySeen}
 use Rattle.pm_shell.proofs.Shown.{kept_to, shows_right}
 use Rattle.pm_shell.specs.Ends.{AnsweredAll, AnswersOne, BrokeOff, GainsWithin, HasOutcome, InHand, Stopped}
-use Rattle.pm_shell.specs.Run.{Answers, Run, Starts, any_refused, command_at, is_refused, replies_text, text_if}
+use Rattle.pm_shell.specs.Run.{Answers, Run, Starts, any_refused, command_at, is_refused, replies_text, text_if, text_of_reply}
 use Rattle.pm_shell.specs.Shown.{Shows}
 use Rattle.pm_shell.specs.declared.run.RunFail.{RunFail}
 use Rattle.pm_shell.specs.declared.run.RunFail.TheVariants as why
@@ -104,7 +104,7 @@ within (Some had) between has front piece g h =
 
 pub so_far_part : (book now_book : List Rule) (had between has : Option (List ℕ)) (old mid new : Machine) (lines all others : List Line) (line : Line) (some : Bool)
     → SoFar book had between old lines all some mid → now_book ≡ book → all ≡ line ∷ others
-    → (reply : ReplySeen) × Answers now_book mid line (Some reply) new × GainsPart between has (reply_text reply) → BrokeOff book had has old lines new
+    → (reply : ReplySeen) × Answers now_book mid line (Some reply) new × GainsPart between has (text_of_reply reply) → BrokeOff book had has old lines new
 so_far_part book now_book had between has old mid new lines all others line some s same split (reply, told, part) =
     let answers : Answers book mid line (Some reply) new = subst (λ (b : List Rule). Answers b mid line (Some reply) new) same told in
     let kept : AllKept new = kept_to book mid new (command_at line) (Some reply) answers s.kept in
@@ -116,7 +116,7 @@ so_far_part book now_book had between has old mid new lines all others line some
       replies = s.replies;
       reply = reply;
       run = next_right book old mid new s.first s.replies line (Some reply) s.run answers (shows_right book mid new line (Some reply) answers kept);
-      told = within had between has (replies_text s.replies) (reply_text reply) s.told part;
+      told = within had between has (replies_text s.replies) (text_of_reply reply) s.told part;
     }
 
 pub so_far_stops : (book now_book : List Rule) (had has : Option (List ℕ)) (old now new : Machine) (lines all others : List Line) (line : Line) (some : Bool)
@@ -134,7 +134,7 @@ so_far_stops book now_book had has old now new lines all others line some s same
 
 pub so_far_fails : (book now_book : List Rule) (had between has : Option (List ℕ)) (old mid new : Machine) (lines all others : List Line) (line : Line) (some : Bool) (e : RunFail)
     → SoFar book had between old lines all some mid → now_book ≡ book → all ≡ line ∷ others
-    → (e ≡ why.SinkFault → (reply : ReplySeen) × Answers now_book mid line (Some reply) new × GainsPart between has (reply_text reply))
+    → (e ≡ why.SinkFault → (reply : ReplySeen) × Answers now_book mid line (Some reply) new × GainsPart between has (text_of_reply reply))
     → (e ≡ why.Memory → has ≡ between) → (e ≡ why.Memory → Stays mid new ⊎ InHand now_book mid line new)
     → HasOutcome book had has old lines (Err e) new
 so_far_fails book now_book had between has old mid new lines all others line some why.SinkFault s same split part still hand =

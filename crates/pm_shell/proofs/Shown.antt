@@ -9,9 +9,9 @@ use Rattle.pm_machine.specs.Steps.{AllKept, Machine, Step, whole_of}
 use Rattle.pm_object.specs.Honest.{IsKept}
 use Rattle.pm_object.specs.State.{State, read_at, value_of}
 use Rattle.pm_rules.specs.declared.rule.Rule.{Rule}
-use Rattle.pm_script.specs.Commands.{Spoken, blank, new_object, take_value, give_value, look_up, show_rules, disable_rule, unload_client}
+use Rattle.pm_script.specs.Commands.{Spoken, blank, new_object, take_value, give_value, look_up, ensure_values, explain_values, tell_history, show_rules, disable_rule, unload_client}
 use Rattle.pm_script.specs.Lines.{Line}
-use Rattle.pm_script.specs.Replies.{ReplySeen, done, lists_rules, refused, shows, undef}
+use Rattle.pm_script.specs.Replies.{ReplySeen, Rounds, done, ensured, explained, lists_rules, nothing, refused, shows, tells, undef}
 use Rattle.pm_script.specs.declared.refusal.Refusal.TheVariants.{BadCommand}
 use Rattle.pm_shell.specs.Run.{Answers, AnswersTo, command_at}
 use Rattle.pm_shell.specs.Shown.{IsShown, Shows}
@@ -24,7 +24,7 @@ pub kept_to : (book : List Rule) (old new : Machine) (command : Option Spoken) (
 kept_to book old new (Some command) (Some reply) step all = steps_keep book old new command reply step all
 kept_to book old new (Some blank) None is all = subst AllKept (sym is) all
 kept_to book old new (Some command) None h all = absurd h
-kept_to book old new None (Some (refused BadCommand)) is all = subst AllKept (sym is) all
+kept_to book old new None (Some (refused BadCommand nothing)) is all = subst AllKept (sym is) all
 kept_to book old new None reply h all = absurd h
 
 -- ---- events keep the type
@@ -54,29 +54,35 @@ shown_by m name key of p v o all is at typed held =
     let kept : IsKept o = subst (λ (x : Option State). IfSome x IsKept) at (all.each key) in
     record { object = o; named = ap m.object is ∙ at; typed = typed; held = held; honest = kept.honest }
 
-shown_step : (book : List Rule) (old new : Machine) (command : Spoken) (name : List ℕ) (of : ObjectType) (p : PropId) (v : PropertyValue)
-    → Step book old command (shows name of p v) new → AllKept new → IsShown name of p v new
-shown_step book old new blank name of p v h all = absurd h
-shown_step book old new (new_object ref text) name of p v h all = absurd h
-shown_step book old new (take_value ref text json) name of p v h all = absurd h
-shown_step book old new show_rules name of p v h all = absurd h
-shown_step book old new (disable_rule key label) name of p v h all = absurd h
-shown_step book old new (unload_client client) name of p v h all = absurd h
-shown_step book old new (give_value ref text) name of p v (o, at, named, is, typed, c, ensured, becomes, held) all =
+shown_step : (book : List Rule) (old new : Machine) (command : Spoken) (name : List ℕ) (of : ObjectType) (p : PropId) (v : PropertyValue) (t : Rounds)
+    → Step book old command (shows name of p v t) new → AllKept new → IsShown name of p v new
+shown_step book old new blank name of p v t h all = absurd h
+shown_step book old new (new_object ref text) name of p v t h all = absurd h
+shown_step book old new (take_value ref text json) name of p v t h all = absurd h
+shown_step book old new show_rules name of p v t h all = absurd h
+shown_step book old new (disable_rule key label) name of p v t h all = absurd h
+shown_step book old new (unload_client client) name of p v t h all = absurd h
+shown_step book old new (ensure_values ref words) name of p v t h all = absurd h
+shown_step book old new (explain_values ref words) name of p v t h all = absurd h
+shown_step book old new (tell_history key) name of p v t h all = absurd h
+shown_step book old new (give_value ref text) name of p v t (o, at, q, named, c, (so, is, typed, same, held, rounds), becomes) all =
     shown_by new name ref.name of p v c.object all is becomes.object
-    (of_ensured book None _ Found (configuration o old.clients) c ensured ∙ sym typed) held
-shown_step book old new (look_up ref text) name of p v (o, at, named, is, typed, held, stays) all =
+    (of_ensured book None _ Found (configuration o old.clients) c so ∙ sym typed) (subst (λ z. value_of z (read_at None c.object.held) ≡ Some v) (sym same) held)
+shown_step book old new (look_up ref text) name of p v t (o, at, named, is, typed, held, none, stays) all =
     shown_by new name ref.name of p v o all is (stays.objects ref.name ∙ whole_of-some ref.sub (old.object ref.name) o at) (sym typed) held
 
-shown_to : (book : List Rule) (old new : Machine) (command : Option Spoken) (name : List ℕ) (of : ObjectType) (p : PropId) (v : PropertyValue)
-    → AnswersTo book old command (Some (shows name of p v)) new → AllKept new → IsShown name of p v new
-shown_to book old new (Some command) name of p v step all = shown_step book old new command name of p v step all
-shown_to book old new None name of p v h all = absurd h
+shown_to : (book : List Rule) (old new : Machine) (command : Option Spoken) (name : List ℕ) (of : ObjectType) (p : PropId) (v : PropertyValue) (t : Rounds)
+    → AnswersTo book old command (Some (shows name of p v t)) new → AllKept new → IsShown name of p v new
+shown_to book old new (Some command) name of p v t step all = shown_step book old new command name of p v t step all
+shown_to book old new None name of p v t h all = absurd h
 
 pub shows_right : (book : List Rule) (old new : Machine) (line : Line) (reply : Option ReplySeen) → Answers book old line reply new → AllKept new → Shows reply new
 shows_right book old new line None answers all = tt
-shows_right book old new line (Some (shows name of p v)) answers all = shown_to book old new (command_at line) name of p v answers all
+shows_right book old new line (Some (shows name of p v t)) answers all = shown_to book old new (command_at line) name of p v t answers all
 shows_right book old new line (Some done) answers all = tt
 shows_right book old new line (Some undef) answers all = tt
 shows_right book old new line (Some (lists_rules n text)) answers all = tt
-shows_right book old new line (Some (refused why)) answers all = tt
+shows_right book old new line (Some (ensured t)) answers all = tt
+shows_right book old new line (Some (explained chain weight rows names)) answers all = tt
+shows_right book old new line (Some (tells t failures)) answers all = tt
+shows_right book old new line (Some (refused why more)) answers all = tt

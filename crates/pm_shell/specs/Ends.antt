@@ -6,8 +6,8 @@ use Rattle.pm_machine.specs.Steps.{Machine, Stays}
 use Rattle.pm_rules.specs.declared.rule.Rule.{Rule}
 use Rattle.pm_script.specs.Commands.{Spoken}
 use Rattle.pm_script.specs.Lines.{Line, lines_of}
-use Rattle.pm_script.specs.Replies.{ReplySeen, reply_text}
-use Rattle.pm_shell.specs.Run.{Answers, Run, Starts, any_refused, command_at, is_refused, replies_text, text_if}
+use Rattle.pm_script.specs.Replies.{ReplySeen}
+use Rattle.pm_shell.specs.Run.{Answers, Run, Starts, any_refused, command_at, is_refused, replies_text, text_if, text_of_reply}
 use Rattle.pm_shell.specs.declared.run.RunFail.{RunFail}
 use Rattle.pm_shell.specs.declared.run.RunFail.TheVariants as why
 use Rattle.pm_shell.specs.declared.run.Status.{Status}
@@ -60,7 +60,7 @@ pub record BrokeOff (book : List Rule) (had has : Option (List ℕ)) (old : Mach
   pub replies : List (Option ReplySeen)
   pub reply : ReplySeen
   pub run : Run book old (first ++ line ∷ []) (replies ++ Some reply ∷ []) new
-  pub told : GainsWithin had has (replies_text replies) (reply_text reply)
+  pub told : GainsWithin had has (replies_text replies) (text_of_reply reply)
 
 -- the line is answered in part: first events of its command occurred; or wholly, and its reply is not told
 abbrev pub InHand : List Rule → Machine → Line → Machine → Type 0

@@ -6,7 +6,7 @@ use Rattle.pm_machine.specs.Steps.{Machine, Step}
 use Rattle.pm_rules.specs.declared.rule.Rule.{Rule}
 use Rattle.pm_script.specs.Commands.{Spoken, blank, command_of}
 use Rattle.pm_script.specs.Lines.{Line, is_too_long, text_of}
-use Rattle.pm_script.specs.Replies.{ReplySeen, is_refusal, refused, reply_text}
+use Rattle.pm_script.specs.Replies.{ReplySeen, is_refusal, nothing, refused, reply_text}
 use Rattle.pm_script.specs.declared.refusal.Refusal.TheVariants.{BadCommand}
 use Rattle.pm_shell.specs.Shown.{Shows}
 
@@ -19,7 +19,7 @@ abbrev pub AnswersTo : List Rule → Machine → Option Spoken → Option ReplyS
 AnswersTo book old (Some command) (Some reply) new = Step book old command reply new
 AnswersTo book old (Some blank) None new = new ≡ old
 AnswersTo book old (Some command) None new = ⊥
-AnswersTo book old None (Some (refused BadCommand)) new = new ≡ old
+AnswersTo book old None (Some (refused BadCommand nothing)) new = new ≡ old
 AnswersTo book old None reply new = ⊥
 
 -- from the machine old the reply to the line may be this one, and it goes on as new
@@ -33,10 +33,14 @@ Run book old (line ∷ lines) (reply ∷ replies) new = (mid : Machine) × Answe
 Run book old [] (reply ∷ replies) new = ⊥
 Run book old (line ∷ lines) [] new = ⊥
 
--- the text of a reply, where there is one
+-- the text of a reply: so far no rounds are traced
+abbrev pub text_of_reply : ReplySeen → List ℕ
+text_of_reply reply = reply_text false reply
+
+-- the same, where there is one
 abbrev pub text_if : Option ReplySeen → List ℕ
 text_if None = []
-text_if (Some reply) = reply_text reply
+text_if (Some reply) = text_of_reply reply
 
 -- the texts of the replies, one after another
 abbrev pub replies_text : List (Option ReplySeen) → List ℕ

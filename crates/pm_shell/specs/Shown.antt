@@ -18,5 +18,5 @@ pub record IsShown (name : List ℕ) (of : ObjectType) (p : PropId) (v : Propert
 
 -- if the reply shows a value, it is so shown
 abbrev pub Shows : Option ReplySeen → Machine → Type 0
-Shows (Some (shows name of p v)) m = IsShown name of p v m
+Shows (Some (shows name of p v t)) m = IsShown name of p v m
 Shows reply m = Unit {0}

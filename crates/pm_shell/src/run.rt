@@ -5,10 +5,10 @@ ghost use Rattle.pm_machine.specs.Steps.{AllKept, Stays};
 ghost use Rattle.pm_rules.specs.Books.{standard_rules};
 ghost use Rattle.pm_script.specs.Commands.{spoken};
 ghost use Rattle.pm_script.specs.Lines.{lines_of};
-ghost use Rattle.pm_script.specs.Replies.{ReplySeen, is_refusal, refused, reply_text, seen};
+ghost use Rattle.pm_script.specs.Replies.{ReplySeen, is_refusal, nothing, refused, seen};
 ghost use Rattle.pm_script.specs.declared.refusal.Refusal.TheVariants.{BadCommand};
 ghost use Rattle.pm_shell.specs.Ends.{AnswersOne, DidNotRun, Ended, FromNoObjects, HasOutcome, InHand, IsUnrun, WasRead, number_of, status_of};
-ghost use Rattle.pm_shell.specs.Run.{Answers, command_at};
+ghost use Rattle.pm_shell.specs.Run.{Answers, command_at, text_of_reply};
 ghost use Rattle.pm_shell.specs.declared.run.RunFail.TheVariants.{Memory, SinkFault};
 ghost use Rattle.pm_store.specs.Outside.{Gains, GainsPart, Rose};
 ghost use Rattle.std.specs.Option.{option_map};
@@ -116,19 +116,17 @@ fn answer_line(
     ensures book { book_of session.new ≡ book_of session.old }
 {
     match command_at(alloc, line)? {
-        None => Ok(Some(bad_command())),
+        None => Ok(Some(bad_command(alloc))),
         Some(Command::Blank) => Ok(None),
         Some(command) => Ok(Some(session.step(alloc, command, clients)?)),
     }
 }
 
 /// The reply to a line that speaks no command.
-fn bad_command() -> Reply
-    ensures { seen result ≡ refused BadCommand }
+fn bad_command(alloc: Global) -> Reply
+    ensures { seen result ≡ refused BadCommand nothing }
 {
-    Reply::Refused {
-        why: Refusal::BadCommand,
-    }
+    Reply::refused(alloc, Refusal::BadCommand)
 }
 
 /// Answers a line, and writes the reply. Whether it is a refusal.
@@ -147,7 +145,7 @@ fn answer_next<K: Sink>(
         × Answers (book_of session.old)
         (machine_of session.old (map tally clients.old.items)) line.now (Some reply)
         (machine_of session.new (map tally clients.new.items))
-        × GainsPart (K.taken sink.old) (K.taken sink.new) (reply_text reply) }
+        × GainsPart (K.taken sink.old) (K.taken sink.new) (text_of_reply reply) }
     ensures fault { IsErrOf result RunFail.SinkFault →
         Rose (K.faults sink.old) (K.faults sink.new) }
     ensures memory { IsErrOf result RunFail.Memory → sink.new ≡ sink.old }
@@ -169,16 +167,16 @@ fn answer_next<K: Sink>(
 /// Writes a reply. Whether it is a refusal.
 fn write_reply<K: Sink>(alloc: Global, reply: &Reply, sink: &mut K) -> Result<bool, RunFail>
     ensures told { IfOk result (λ r.
-        Gains (K.taken sink.old) (K.taken sink.new) (reply_text (seen reply.now))
+        Gains (K.taken sink.old) (K.taken sink.new) (text_of_reply (seen reply.now))
         × (r ≡ is_refusal (seen reply.now))) }
     ensures part { IsErrOf result RunFail.SinkFault →
-        GainsPart (K.taken sink.old) (K.taken sink.new) (reply_text (seen reply.now)) }
+        GainsPart (K.taken sink.old) (K.taken sink.new) (text_of_reply (seen reply.now)) }
     ensures fault { IsErrOf result RunFail.SinkFault →
         Rose (K.faults sink.old) (K.faults sink.new) }
     ensures memory { IsErrOf result RunFail.Memory → sink.new ≡ sink.old }
     ensures never_falls { K.faults sink.old ≤ K.faults sink.new }
 {
-    let text = reply_bytes(alloc, reply)?;
+    let text = reply_bytes(alloc, reply, false)?;
     write_all(sink, &text)?;
     Ok(reply.is_refusal())
 }

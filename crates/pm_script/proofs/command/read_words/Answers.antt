@@ -1,6 +1,6 @@
 -- Each first word has the reader of its own.
 use Rattle.std.proofs.Common.{sym, ◌∙◌}
-use Rattle.pm_script.proofs.FirstWords.{is_disable, is_give, is_lookup, is_new, is_none, is_take, is_unload}
+use Rattle.pm_script.proofs.FirstWords.{is_disable, is_give, is_lookup, is_new, is_on_chains, is_take, is_unload}
 use Rattle.pm_script.proofs.command.read_words.Goals as goal
 
 pub returns-then-eq-clause-ok : goal.returns-then-eq-clause-ok
@@ -39,5 +39,8 @@ returns-then-eq-6-clause-ok c = rw (is_unload c.args.first.now c.args.words.now 
 pub returns-then-eq-6-clause-refused : goal.returns-then-eq-6-clause-refused
 returns-then-eq-6-clause-refused c = rw (is_unload c.args.first.now c.args.words.now (sym c.eq.ensures ∙ c.if-eq.false) (sym c.eq-else-eq.ensures ∙ c.if-eq-2.false) (sym c.eq-else-eq-2.ensures ∙ c.if-eq-3.false) (sym c.eq-else-eq-3.ensures ∙ c.if-eq-4.false) (sym c.eq-else-eq-4.ensures ∙ c.if-eq-5.false) (sym c.eq-else-eq-5.ensures ∙ c.if-eq-6.true)) c.read_unload.ensures.refused
 
+pub returns-else-eq-6-clause-ok : goal.returns-else-eq-6-clause-ok
+returns-else-eq-6-clause-ok c = rw (is_on_chains c.args.first.now c.args.words.now (sym c.eq.ensures ∙ c.if-eq.false) (sym c.eq-else-eq.ensures ∙ c.if-eq-2.false) (sym c.eq-else-eq-2.ensures ∙ c.if-eq-3.false) (sym c.eq-else-eq-3.ensures ∙ c.if-eq-4.false) (sym c.eq-else-eq-4.ensures ∙ c.if-eq-5.false) (sym c.eq-else-eq-5.ensures ∙ c.if-eq-6.false)) c.read_chain_words.ensures.ok
+
 pub returns-else-eq-6-clause-refused : goal.returns-else-eq-6-clause-refused
-returns-else-eq-6-clause-refused c = λ e. is_none c.args.first.now c.args.words.now (sym c.eq.ensures ∙ c.if-eq.false) (sym c.eq-else-eq.ensures ∙ c.if-eq-2.false) (sym c.eq-else-eq-2.ensures ∙ c.if-eq-3.false) (sym c.eq-else-eq-3.ensures ∙ c.if-eq-4.false) (sym c.eq-else-eq-4.ensures ∙ c.if-eq-5.false) (sym c.eq-else-eq-5.ensures ∙ c.if-eq-6.false)
+returns-else-eq-6-clause-refused c = rw (is_on_chains c.args.first.now c.args.words.now (sym c.eq.ensures ∙ c.if-eq.false) (sym c.eq-else-eq.ensures ∙ c.if-eq-2.false) (sym c.eq-else-eq-2.ensures ∙ c.if-eq-3.false) (sym c.eq-else-eq-3.ensures ∙ c.if-eq-4.false) (sym c.eq-else-eq-4.ensures ∙ c.if-eq-5.false) (sym c.eq-else-eq-5.ensures ∙ c.if-eq-6.false)) c.read_chain_words.ensures.refused

@@ -9,7 +9,7 @@ returns-then-not-has_label-clause-step g c =
     let o = c.in-Some.object.now in
     let w = written c.args.self.now.objects (c.get_mut.follows.lender o) _ c.args.name.now o o refl c.in-Some.ensures.value (c.get_mut.follows.holds o).1 (c.get_mut.follows.holds o).3 in
     let none : has_label c.args.label.now c.args.self.now.book ≡ false = sym (ap (λ z. has_label c.args.label.now z) c.rules.ensures.value) ∙ sym c.has_label.ensures ∙ c.if-not-has_label.true in
-    disable_unknown w _ c.args.self.now.book _ none refl
+    rw c.refused-then-not-has_label.ensures (disable_unknown w _ c.args.self.now.book _ none refl)
 
 pub returns-clause-step : goal.returns-clause-step
 returns-clause-step g c =

@@ -13,7 +13,7 @@ returns-in_default-property_named-clause-step g c =
     let o = c.in-Some.object.now in
     let w = written c.args.self.now.objects (c.get_mut.follows.lender o) _ name o o c.as_str.ensures.value c.in-Some.ensures.value (c.get_mut.follows.holds o).1 (c.get_mut.follows.holds o).3 in
     let none : property_named o.state.of c.args.prop.now ≡ None = ap (λ t. property_named t c.args.prop.now) (sym c.of.ensures.value) ∙ sym c.property_named.ensures.value ∙ c.in_default-property_named.is in
-    give_unknown w (option_map string_bytes c.args.obj.now.sub) c.args.prop.now (map_some string_bytes c.args.obj.now.sub ∙ sym c.is_some.ensures ∙ c.if-is_some.false) c.args.self.now.book _ none refl
+    rw c.refused-in_default-property_named.ensures (give_unknown w (option_map string_bytes c.args.obj.now.sub) c.args.prop.now (map_some string_bytes c.args.obj.now.sub ∙ sym c.is_some.ensures ∙ c.if-is_some.false) c.args.self.now.book _ none refl)
 
 pub returns-clause-step : goal.returns-clause-step
 returns-clause-step g c =
@@ -34,7 +34,7 @@ returns-clause-part g c =
     gave_in_part w (option_map string_bytes c.args.obj.now.sub) c.args.prop.now (map_some string_bytes c.args.obj.now.sub ∙ sym c.is_some.ensures ∙ c.if-is_some.false) c.give_value.result c.args.self.now.book _ _ c.in-Some-property_named.p named c.give_value.ensures.err
 
 pub returns-then-is_some-clause-step : goal.returns-then-is_some-clause-step
-returns-then-is_some-clause-step g c = (
+returns-then-is_some-clause-step g c = rw c.refused.ensures (
   at_part (option_map string_bytes c.args.obj.now.sub) _ (map_some string_bytes c.args.obj.now.sub ∙ sym c.is_some.ensures ∙ c.if-is_some.true),
   record { names = refl; objects = λ q. refl; clients = refl; store = refl },
 )

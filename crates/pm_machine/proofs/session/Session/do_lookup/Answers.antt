@@ -6,13 +6,13 @@ use Rattle.pm_machine.specs.Steps.{property_named}
 use Rattle.pm_machine.proofs.session.Session.do_lookup.Goals as goal
 
 pub returns-in_default : goal.returns-in_default
-returns-in_default g c = (none_mapped _ _ _ c.in_default.is c.find.ensures, record { names = refl; objects = λ q. refl; clients = refl; store = refl })
+returns-in_default g c = rw c.refused.ensures (none_mapped _ _ _ c.in_default.is c.find.ensures, record { names = refl; objects = λ q. refl; clients = refl; store = refl })
 
 pub returns-in_default-property_named : goal.returns-in_default-property_named
 returns-in_default-property_named g c =
     let o = c.in-Some.object.now.state in
     let none : property_named o.of c.args.prop.now ≡ None = ap (λ t. property_named t c.args.prop.now) (sym c.of.ensures.value) ∙ sym c.property_named.ensures.value ∙ c.in_default-property_named.is in
-    (o, sym c.in-Some.ensures, none, record { names = refl; objects = λ q. refl; clients = refl; store = refl })
+    rw c.refused-in_default-property_named.ensures (o, sym c.in-Some.ensures, none, record { names = refl; objects = λ q. refl; clients = refl; store = refl })
 
 pub returns-in-None : goal.returns-in-None
 returns-in-None g c =

@@ -21,7 +21,7 @@ returns-clause-step g c =
     )
 
 pub returns-in_default-clause-step : goal.returns-in_default-clause-step
-returns-in_default-clause-step g c = (
+returns-in_default-clause-step g c = rw c.refused.ensures (
   sym (c.type_named.ensures (option_map string_bytes c.args.sub) (map_some string_bytes c.args.sub ∙ sym c.is_some.ensures)) ∙ c.in_default.is,
   record { names = refl; objects = λ q. refl; clients = refl; store = refl },
 )

@@ -13,7 +13,7 @@ returns-in_default-property_named-clause-step g c =
     let o = c.in-Some.object.now in
     let w = written c.args.self.now.objects (c.get_mut.follows.lender o) _ name o o c.as_str.ensures.value c.in-Some.ensures.value (c.get_mut.follows.holds o).1 (c.get_mut.follows.holds o).3 in
     let none : property_named o.state.of c.args.prop.now ≡ None = ap (λ t. property_named t c.args.prop.now) (sym c.of.ensures.value) ∙ sym c.property_named.ensures.value ∙ c.in_default-property_named.is in
-    take_unknown w (option_map string_bytes c.args.obj.now.sub) c.args.prop.now (map_some string_bytes c.args.obj.now.sub ∙ sym c.is_some.ensures ∙ c.if-is_some.false) _ c.args.json.now none refl
+    rw c.refused-in_default-property_named.ensures (take_unknown w (option_map string_bytes c.args.obj.now.sub) c.args.prop.now (map_some string_bytes c.args.obj.now.sub ∙ sym c.is_some.ensures ∙ c.if-is_some.false) _ c.args.json.now none refl)
 
 pub returns-in-Err-clause-err : goal.returns-in-Err-clause-err
 returns-in-Err-clause-err g c =
@@ -31,7 +31,7 @@ returns-in-Ok-Some-clause-step g c =
     let w = written c.args.self.now.objects (c.get_mut.follows.lender o') _ name o o' c.as_str.ensures.value c.in-Some.ensures.value (c.get_mut.follows.holds o').1 (c.get_mut.follows.holds o').3 in
     let named : property_named o.state.of c.args.prop.now ≡ Some c.in-Some-property_named.p = ap (λ t. property_named t c.args.prop.now) (sym c.of.ensures.value) ∙ sym c.property_named.ensures.value ∙ c.in-Some-property_named.is in
     let taken : Taken o.state c.in-Some-property_named.p (given_by c.in-Some-property_named.p (read c.args.json.now)) (Some c.in-Ok-Some.why) o'.state = rw c.in-Ok-Some.field-0-is at c.in-Ok-Some.ensures.ok in
-    take_refused w (option_map string_bytes c.args.obj.now.sub) c.args.prop.now (map_some string_bytes c.args.obj.now.sub ∙ sym c.is_some.ensures ∙ c.if-is_some.false) _ c.args.json.now c.in-Some-property_named.p c.in-Ok-Some.why named taken
+    rw c.refused-in-Ok-Some.ensures (take_refused w (option_map string_bytes c.args.obj.now.sub) c.args.prop.now (map_some string_bytes c.args.obj.now.sub ∙ sym c.is_some.ensures ∙ c.if-is_some.false) _ c.args.json.now c.in-Some-property_named.p c.in-Ok-Some.why named taken)
 
 pub returns-in-Ok-None-clause-step : goal.returns-in-Ok-None-clause-step
 returns-in-Ok-None-clause-step g c =
@@ -50,7 +50,7 @@ pub take_text-requires-clause-table : goal.take_text-requires-clause-table
 take_text-requires-clause-table g c = rw c.of.ensures.value at c.in-Some-property_named.ensures.table
 
 pub returns-then-is_some-clause-step : goal.returns-then-is_some-clause-step
-returns-then-is_some-clause-step g c = (
+returns-then-is_some-clause-step g c = rw c.refused.ensures (
   at_part (option_map string_bytes c.args.obj.now.sub) _ (map_some string_bytes c.args.obj.now.sub ∙ sym c.is_some.ensures ∙ c.if-is_some.true),
   record { names = refl; objects = λ q. refl; clients = refl; store = refl },
 )

@@ -1,0 +1,264 @@
+// What is asked of an object: values, plans and its history.
+
+ghost use Rattle.pm_machine.specs.Events.{EnsuredInPart, configuration};
+ghost use Rattle.pm_machine.specs.Reasons.{AreReasons};
+ghost use Rattle.pm_machine.specs.Steps.{Ensures, Explains, Gives, asked_in, named_rounds, rule_names, no_rounds, settled_object};
+ghost use Rattle.pm_object.specs.Views.{round_seen};
+ghost use Rattle.pm_props.specs.Sets.{only};
+ghost use Rattle.pm_props.specs.declared.kind.RuleId.{RuleId};
+ghost use Rattle.pm_script.specs.Replies.{explained, names_seen, planned, refused, seen, shows, tells};
+ghost use Rattle.pm_script.specs.declared.names.Bar.{Bar};
+ghost use Rattle.pm_types.specs.Views.{view_of};
+ghost use Rattle.std.specs.Prelude.{IfOk, List, None, OnErr, drop, map, string_bytes, ◌⊎◌, ◌≡◌};
+
+use crate::chain::{barred_rules, table};
+use crate::reasons::reasons;
+use crate::round::{Ending, ensure};
+use crate::taking::property_named;
+use pm_client::Client;
+use pm_object::{Object, Round, copy_excluded, copy_rounds};
+use pm_plan::{Plan, PlanEnd, plan};
+use pm_rules::{Book, Rule, Table};
+use pm_script::{Names, Refusal, Reply};
+use pm_types::{ObjectType, PropId, PropSet, Value};
+use std::alloc::{AllocError, Global};
+
+/// The properties that the words name; None where one names none of the table, or one that is not built.
+pub fn asked_in(of: ObjectType, words: &[String]) -> Option<PropSet>
+    ensures { result ≡ asked_in of (map string_bytes words.now) }
+{
+    let mut asked = PropSet::empty();
+    for word in words {
+        let p = property_named(of, word.as_str())?;
+        asked = asked.with(p);
+    }
+    Some(asked)
+}
+
+// The label and the weight of each rule.
+fn rule_names(alloc: Global, rules: &[Rule]) -> Result<Names, AllocError>
+    ensures { IfOk result (λ n. names_seen n ≡ rule_names rules.now) }
+{
+    let mut names = Names::none(alloc);
+    for rule in rules {
+        names.rules.push((String::from_str(alloc, rule.label.as_str())?, rule.weight))?;
+    }
+    Ok(names)
+}
+
+// The rounds of the object after the first so many.
+fn rounds_after(alloc: Global, object: &Object, before: usize) -> Result<Vec<Round>, AllocError>
+    ensures { IfOk result (λ v. map round_seen v.items
+        ≡ drop before object.now.state.rounds) }
+{
+    let rounds = object.rounds();
+    if rounds.len() < before {
+        return Ok(Vec::new(alloc));
+    }
+    let (_, later) = rounds.split_at(before);
+    copy_rounds(alloc, later)
+}
+
+/// The reply that shows a value that is held.
+pub fn show_held(
+    alloc: Global,
+    name: &str,
+    of: ObjectType,
+    prop: PropId,
+    v: &Value,
+) -> Result<Reply, AllocError>
+    ensures { IfOk result (λ r. seen r ≡ shows name.now of prop (view_of v.now) no_rounds) }
+{
+    show(
+        alloc,
+        name,
+        of,
+        prop,
+        v,
+        Vec::new(alloc),
+        Names::none(alloc),
+    )
+}
+
+// The reply that shows a value, with the rounds that found it.
+fn show(
+    alloc: Global,
+    name: &str,
+    of: ObjectType,
+    prop: PropId,
+    v: &Value,
+    rounds: Vec<Round>,
+    names: Names,
+) -> Result<Reply, AllocError>
+    ensures { IfOk result (λ r. seen r ≡ shows name.now of prop (view_of v.now)
+        (record { rounds = map round_seen rounds.items; names = names_seen names })) }
+{
+    Ok(Reply::Value {
+        name: String::from_str(alloc, name)?,
+        of,
+        prop,
+        value: v.copy(alloc)?,
+        rounds,
+        names,
+    })
+}
+
+/// Ensures a property, and shows its value.
+pub fn give_value(
+    alloc: Global,
+    object: &mut Object,
+    book: &Book,
+    p: PropId,
+    name: &str,
+    clients: &mut Vec<Box<dyn Client>>,
+) -> Result<Reply, AllocError>
+    ensures gives { IfOk result (λ r. Gives book.now
+        (configuration object.old.state (map tally clients.old.items)) name.now p (seen r)
+        (configuration object.new.state (map tally clients.new.items))) }
+    ensures err { OnErr result (EnsuredInPart book.now None (only p)
+        (configuration object.old.state (map tally clients.old.items))
+        (configuration object.new.state (map tally clients.new.items))) }
+{
+    let of = object.of();
+    let before = object.rounds().len();
+    let ending = ensure(alloc, object, book, PropSet::of(p), clients)?;
+    let rounds = rounds_after(alloc, object, before)?;
+    let names = rule_names(alloc, book.rules())?;
+    match ending {
+        Ending::Found => {
+            let Some(v) = object.lookup(None, p) else {
+                unreachable!()
+            };
+            show(alloc, name, of, p, v, rounds, names)
+        }
+        Ending::NoChain => Ok(Reply::refused_after(alloc, Refusal::NoChain, false, rounds, names)),
+        Ending::Crowded => Ok(Reply::refused_after(alloc, Refusal::Crowded, false, rounds, names)),
+    }
+}
+
+/// Ensures what is asked, and tells the rounds.
+pub fn ensure_values(
+    alloc: Global,
+    object: &mut Object,
+    book: &Book,
+    asked: PropSet,
+    clients: &mut Vec<Box<dyn Client>>,
+) -> Result<Reply, AllocError>
+    ensures made { IfOk result (λ r. Ensures book.now
+        (configuration object.old.state (map tally clients.old.items)) asked (seen r)
+        (configuration object.new.state (map tally clients.new.items))) }
+    ensures err { OnErr result (EnsuredInPart book.now None asked
+        (configuration object.old.state (map tally clients.old.items))
+        (configuration object.new.state (map tally clients.new.items))) }
+{
+    let before = object.rounds().len();
+    let ending = ensure(alloc, object, book, asked, clients)?;
+    let rounds = rounds_after(alloc, object, before)?;
+    let names = rule_names(alloc, book.rules())?;
+    match ending {
+        Ending::Found => Ok(Reply::Ensured { rounds, names }),
+        Ending::NoChain => Ok(Reply::refused_after(alloc, Refusal::NoChain, true, rounds, names)),
+        Ending::Crowded => Ok(Reply::refused_after(alloc, Refusal::Crowded, true, rounds, names)),
+    }
+}
+
+// A refusal with the barred rules and the table.
+fn refuse_plan(
+    alloc: Global,
+    book: &Book,
+    clients: &[Box<dyn Client>],
+    object: &Object,
+    why: Refusal,
+    table: Table,
+) -> Result<Reply, AllocError>
+    ensures { IfOk result (λ r. (told : List (RuleId × Bar))
+        × AreReasons book.now (map tally clients.now) object.now.state None told
+        × (seen r ≡ refused why (planned told table.rows.items (rule_names book.now)))) }
+{
+    let barred = reasons(alloc, book.rules(), clients, object, None)?;
+    let names = rule_names(alloc, book.rules())?;
+    Ok(Reply::Refused {
+        why,
+        ensured: false,
+        rounds: Vec::new(alloc),
+        barred,
+        table: Some(table),
+        names,
+    })
+}
+
+// The plan, with the names of its rules.
+fn tell_plan(alloc: Global, book: &Book, found: Plan) -> Result<Reply, AllocError>
+    ensures { IfOk result (λ r. seen r ≡ explained found.chain.items found.weight
+        found.table.rows.items (rule_names book.now)) }
+{
+    let names = rule_names(alloc, book.rules())?;
+    let Plan {
+        chain,
+        weight,
+        table,
+    } = found;
+    Ok(Reply::Explained {
+        chain,
+        weight,
+        table,
+        names,
+    })
+}
+
+// A least chain on the object to what is asked, with its table; or why there is none.
+fn plan_values(
+    alloc: Global,
+    object: &Object,
+    book: &Book,
+    asked: PropSet,
+    clients: &[Box<dyn Client>],
+) -> Result<Reply, AllocError>
+    ensures { IfOk result (λ r. Explains book.now (map tally clients.now) object.now.state asked
+        (seen r)) }
+{
+    let rules = book.rules();
+    let barred = barred_rules(alloc, rules, clients, object, None)?;
+    let names = table(None, object.of());
+    let held = object.names(None);
+    match plan(alloc, book, names, held, &barred, asked) {
+        Ok(found) => tell_plan(alloc, book, found),
+        Err(PlanEnd::NoChain(table)) => {
+            refuse_plan(alloc, book, clients, object, Refusal::NoChain, table)
+        }
+        Err(PlanEnd::Crowded(table)) => {
+            refuse_plan(alloc, book, clients, object, Refusal::Crowded, table)
+        }
+        Err(PlanEnd::Memory) => Err(AllocError),
+    }
+}
+
+/// Settles the object, and says how what is asked would be found.
+pub fn explain_values(
+    alloc: Global,
+    object: &mut Object,
+    book: &Book,
+    asked: PropSet,
+    clients: &[Box<dyn Client>],
+) -> Result<Reply, AllocError>
+    ensures explains { IfOk result (λ r. Explains book.now (map tally clients.now)
+        (settled_object object.old.state) asked (seen r)) }
+    ensures settled { IfOk result (λ r. object.new.state ≡ settled_object object.old.state) }
+    ensures err { OnErr result ((object.new.state ≡ object.old.state)
+        ⊎ (object.new.state ≡ settled_object object.old.state)) }
+{
+    object.settle(alloc)?;
+    plan_values(alloc, object, book, asked, clients)
+}
+
+/// The rounds and the exclusions of the object.
+pub fn tell_history(alloc: Global, object: &Object, book: &Book) -> Result<Reply, AllocError>
+    ensures { IfOk result (λ r. seen r
+        ≡ tells (named_rounds book.now object.now.state.rounds) object.now.state.excluded) }
+{
+    Ok(Reply::History {
+        rounds: copy_rounds(alloc, object.rounds())?,
+        excluded: copy_excluded(alloc, object.excluded())?,
+        names: rule_names(alloc, book.rules())?,
+    })
+}

@@ -1,0 +1,25 @@
+-- Texts of small replies, written out.
+use Rattle.std.proofs.Common.{refl}
+use Rattle.std.specs.Fmt.{digits}
+use Rattle.pm_props.specs.Sets.{only, union}
+use Rattle.pm_script.specs.Examples.{RepliesAreRead}
+
+pub replies_are_read : RepliesAreRead
+unfolding digits union only
+replies_are_read = record {
+  done = refl;
+  failed = refl;
+  found_false = refl;
+  excluded = refl;
+  barred = refl;
+  plain_weight = refl;
+  class_weight = refl;
+  bits = refl;
+  rounds_follow = refl;
+  always_told = refl;
+  told_if_traced = refl;
+  else_untold = refl;
+  four = refl;
+  not_five = refl;
+  no_words = refl;
+}

@@ -1,0 +1,53 @@
+-- Texts of replies read on small ones: what they are and what they are not.
+use Rattle.std.specs.Prelude.{ℕ, ◌≡◌, true, false, Option, Some, None, [], ◌∷◌, codes}
+use Rattle.pm_geom.specs.declared.evidence.Evidence.TheVariants.{E4}
+use Rattle.pm_object.specs.State.{RoundSeen}
+use Rattle.pm_object.specs.declared.held.Excluded.{Excluded}
+use Rattle.pm_object.specs.declared.held.RoundEnd.{RoundEnd}
+use Rattle.pm_object.specs.declared.held.RoundEnd.TheVariants as end
+use Rattle.pm_object.specs.declared.held.Why.TheVariants as why
+use Rattle.pm_props.specs.Sets.{set_of}
+use Rattle.pm_props.specs.declared.kind.RuleId.{RuleId}
+use Rattle.pm_props.specs.declared.property.PropId.TheVariants.{ConeAmbientDim, Inequalities, Equations, Pointed}
+use Rattle.pm_script.specs.Replies.{NamesSeen, Rounds, barred_text, ensured, excluded_text, property_set_text, refused, reply_text, round_text, rule_text, told}
+use Rattle.pm_script.specs.Words.{are_asked}
+use Rattle.pm_script.specs.declared.names.Bar.TheVariants as bar
+use Rattle.pm_script.specs.declared.refusal.Refusal.TheVariants.{NoChain}
+
+abbrev pub first : RuleId
+first = record { 0 = 0 }
+
+abbrev pub second : RuleId
+second = record { 0 = 1 }
+
+-- two rules, one of them of class 1, and one program
+abbrev pub two_names : NamesSeen
+two_names = record { rules = (codes "a", record { class = 0; minor = 5 }) ∷ (codes "b", record { class = 1; minor = 0 }) ∷ []; programs = codes "x" ∷ [] }
+
+-- a round of both, for this program if one is asked
+abbrev pub round_of : Option ℕ → RoundEnd → RoundSeen
+round_of sub e = record { sub = sub; weight = record { class = 0; minor = 6 }; chain = first ∷ second ∷ []; end = e }
+
+abbrev pub one_round : Rounds
+one_round = record { rounds = round_of None end.Done ∷ []; names = two_names }
+
+-- the second rule failed
+abbrev pub failure : Excluded
+failure = record { rule = second; sub = None; why = why.Failed (E4 [] []) }
+
+pub record RepliesAreRead : Type 0 where
+  pub done : round_text two_names (round_of None end.Done) ≡ codes "round 6: a b -> done\n"
+  pub failed : round_text two_names (round_of None (end.Failed second 4)) ≡ codes "round 6: a b -> failed b E4\n"
+  pub found_false : round_text two_names (round_of (Some 0) (end.False first Pointed)) ≡ codes "round 6 @x: a b -> false a POINTED\n"
+  pub excluded : excluded_text two_names failure ≡ codes "excluded b failed E4\n"
+  pub barred : barred_text two_names (first, bar.NoClient) ≡ codes "barred a no-client\n"
+  pub plain_weight : rule_text two_names first ≡ codes "rule a 5\n"
+  pub class_weight : rule_text two_names second ≡ codes "rule b 1.0\n"
+  pub bits : property_set_text (set_of (ConeAmbientDim ∷ Inequalities ∷ Equations ∷ [])) ≡ codes "00000000000000000000000000000019"
+  pub rounds_follow : reply_text false (ensured one_round) ≡ codes "ok 1\nround 6: a b -> done\n"
+  pub always_told : reply_text false (refused NoChain (told true one_round)) ≡ codes "no 10 NoChain\nround 6: a b -> done\n"
+  pub told_if_traced : reply_text true (refused NoChain (told false one_round)) ≡ codes "no 10 NoChain\nround 6: a b -> done\n"
+  pub else_untold : reply_text false (refused NoChain (told false one_round)) ≡ codes "no 10 NoChain\n"
+  pub four : are_asked (codes "A" ∷ codes "B" ∷ codes "A" ∷ codes "C" ∷ codes "D" ∷ []) ≡ true
+  pub not_five : are_asked (codes "A" ∷ codes "B" ∷ codes "C" ∷ codes "D" ∷ codes "E" ∷ []) ≡ false
+  pub no_words : are_asked (codes "a" ∷ []) ≡ false
