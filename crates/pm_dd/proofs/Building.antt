@@ -402,9 +402,6 @@ module _ (n : ℕ) (E J : List Row) (f : ℕ) (lf : f < length J) (V : List Row)
       made_pair n E J f lf V table.rows t hE hJ s i j li lj (subst (λ (z : ℤ). pos 0 <ℤ z) ei up) (subst (λ (z : ℤ). z <ℤ pos 0) ej down) ((scan_is_right n E J f V table.rows t i j li lj p.both p.meet table refl).1 p.alone)
       w (rw (ei, ej) at p.combination) p.both y (p.cols ∙ len) p.meet p.zeros
 
-  pub not_down : pos 0 ≤ℤ entry v j → ¬ (IsSource (take f J) (row_at J f) V (pair i j))
-  not_down h p = let e = products.each j lj in let d = p.3 in omega (arith, ints)
-
 -- the rays of a table have n entries
 pub table_cols : (n : ℕ) (E J : List Row) (f : ℕ) (V : List Row) (Z : List (List Bool)) → IsRayTable n E J f V Z → HasCols n V
 table_cols n E J f V Z t = all_from (λ (x : Row). length x ≡ n) V (λ x i. (among_All (λ v. IsExtreme n (HalfSpaces E (take f J)) v) i t.order.each).cols)

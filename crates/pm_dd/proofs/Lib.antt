@@ -8,6 +8,7 @@ pub mod Count
 pub mod Fronts
 pub mod Tables
 pub mod Building
+pub mod Negatives
 pub mod Stated
 pub mod StepFails
 pub mod FormLaws

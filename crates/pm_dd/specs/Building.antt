@@ -1,5 +1,5 @@
 -- The rays of the next front, while they are made.
-use Rattle.std.specs.Prelude.{ℕ, suc, ◌≡◌, ◌<◌, ◌⊎◌, ◌↔◌, IsTrue, Bool, List, ◌∷◌, length, get_or, take}
+use Rattle.std.specs.Prelude.{ℕ, suc, ◌+◌, ◌≡◌, ◌<◌, ◌≤◌, ◌⊎◌, ◌↔◌, IsTrue, Bool, List, [], ◌∷◌, length, get_or, take}
 use Rattle.pm_algebra.specs.Divisors.{IsPrimitiveOf}
 use Rattle.pm_algebra.specs.Numbers.{InRange}
 use Rattle.pm_algebra.specs.Rows.{Row, difference, dot, entry}
@@ -14,6 +14,7 @@ use Rattle.pm_dd.specs.Form.{KeepsForm}
 use Rattle.pm_dd.specs.Fronts.{HalfSpaces}
 use Rattle.pm_dd.specs.Tables.{IsZeroSet, zero_set}
 use lib.IntN.{ℤ, pos}
+use lib.Signed.{◌<ℤ◌, ◌≤ℤ◌}
 
 -- y is the zero set z, with the bit f set where v is 0
 pub record NextZeros (z : List Bool) (f : ℕ) (v : ℤ) (y : List Bool) : Type 0 where
@@ -26,6 +27,18 @@ pub record AreProducts (a : Row) (V : List Row) (v : List ℤ) : Type 0 where
   pub as_many : length v ≡ length V
   pub each : (i : ℕ) → i < length V → entry v i ≡ dot a (ray V i)
   pub in_range : (i : ℕ) → i < length V → InRange (entry v i)
+
+-- j is the first place from `start` on where v is negative, and stands before n
+pub record IsFirstNegative (v : List ℤ) (start n j : ℕ) : Type 0 where
+  pub from : start ≤ j
+  pub within : j < n
+  pub negative : entry v j <ℤ pos 0
+  pub before : (l : ℕ) → start ≤ l → l < j → pos 0 ≤ℤ entry v l
+
+-- the places from `start` on, and before n, where v is negative, in order
+abbrev pub AreNegativePlaces : List ℤ → ℕ → ℕ → List ℕ → Type 0
+AreNegativePlaces v start n [] = (l : ℕ) → start ≤ l → l < n → pos 0 ≤ℤ entry v l
+AreNegativePlaces v start n (j ∷ js) = IsFirstNegative v start n j × AreNegativePlaces v (j + 1) n js
 
 -- the cone of the equations E, the first f rows of J, and the next one
 abbrev pub NextSet : List Row → List Row → ℕ → Row → Type 0

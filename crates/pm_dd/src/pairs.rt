@@ -4,7 +4,7 @@ ghost use Rattle.pm_algebra.specs.Cones.{InSpan};
 ghost use Rattle.pm_algebra.specs.Numbers.{InRange};
 ghost use Rattle.pm_algebra.specs.Rows.{HasCols, entry};
 ghost use Rattle.pm_bases.specs.Bases.{IsRank, row_at};
-ghost use Rattle.pm_dd.specs.Building.{AreProducts, IsBuilt, IsNoPair, IsPairRay, SeenKept};
+ghost use Rattle.pm_dd.specs.Building.{AreNegativePlaces, AreProducts, IsBuilt, IsNoPair, IsPairRay, SeenKept};
 ghost use Rattle.pm_dd.specs.Form.{KeepForm};
 ghost use Rattle.pm_dd.specs.StepFails.{IsPairFailOf, IsStepFail};
 ghost use Rattle.pm_dd.specs.Tables.{IsRayTable};
@@ -16,7 +16,7 @@ use crate::fails::{CombinationFail, StepFail};
 use crate::rays::{Ray, Rays};
 use pm_bits::BitRow;
 use pm_vector::Ints;
-use std::alloc::Global;
+use std::alloc::{AllocError, Global};
 
 /// The most extreme rays that a cone on the way may have.
 pub(crate) const MOST_RAYS: usize = 2048;
@@ -76,6 +76,20 @@ pub(crate) fn pair_ray(
     Ok(Some(Ray { row, zeros }))
 }
 
+/// The places of the negative values, in order.
+#[tactic(auto, using(crate::proofs::Negatives::places_add, crate::proofs::Negatives::places_skip))]
+fn negative_places(alloc: Global, values: &[i128]) -> Result<Vec<usize>, AllocError>
+    ensures { IfOk result (λ v. AreNegativePlaces values.now 0 (length values.now) v.items) }
+{
+    let mut made = Vec::new(alloc);
+    for j in 0..values.len() {
+        if values[j] < 0 {
+            made.push(j)?;
+        }
+    }
+    Ok(made)
+}
+
 /// The rays of the next front: kept ones, and the combinations of all adjacent pairs.
 pub(crate) fn paired_rays(
     alloc: Global,
@@ -106,6 +120,7 @@ pub(crate) fn paired_rays(
     ensures wide { IfErr result (λ f. IsStepFail cols equations.now rows.now front rays.now.rows.items f) }
 {
     let need = needed(rank, equations.len());
+    let negatives = negative_places(alloc, values)?;
     let mut both = BitRow::with_len(alloc, rows.len())?;
     let mut next = made.rows;
     let mut zeros = made.zeros;
@@ -113,10 +128,8 @@ pub(crate) fn paired_rays(
         if values[i] <= 0 {
             continue;
         }
-        for j in 0..rays.rows.len() {
-            if values[j] >= 0 {
-                continue;
-            }
+        for k in 0..negatives.len() {
+            let j = negatives[k];
             let ray = match pair_ray(alloc, rays, i, j, values, front, need, &mut both)? {
                 Some(ray) => ray,
                 None => continue,

@@ -1,14 +1,17 @@
 use Rattle.pm_algebra.specs.Rows.{dot, entry}
 use Rattle.pm_bases.specs.Bases.{row_at}
-use Rattle.pm_dd.proofs.Building.{built_form, built_many, built_table, no_pair, not_down, pair_made, pairs_all, pairs_first, pairs_more, pairs_row, pairs_skip, pairs_skip_row}
+use Rattle.pm_dd.proofs.Building.{built_form, built_many, built_table, no_pair, pair_made, pairs_all, pairs_first, pairs_skip_row, ray_cols}
+use Rattle.pm_dd.proofs.Negatives.{row_end, row_more, row_next, row_skip, row_start}
 use Rattle.pm_dd.proofs.StepFails.{pair_fail}
 use Rattle.pm_dd.proofs.pairs.paired_rays.Goals as goal
-use Rattle.pm_dd.specs.Building.{IsBuilt, IsNoPair, IsPairRay, SeenPairs}
+use Rattle.pm_dd.specs.Building.{IsNoPair, IsPairRay, SeenPairs}
 use Rattle.pm_geom.specs.Faces.{ray}
-use Rattle.std.proofs.Common.{arith, length, subst, ◌+◌, ◌-◌, ◌<◌, ◌≡◌, ◌≤◌, ◌∙◌, ℕ}
+use Rattle.std.proofs.Common.{arith, drop, length, sym, ◌+◌, ◌-◌, ◌<◌, ◌≡◌, ◌≤◌, ◌∙◌}
 use Rattle.std.proofs.lemmas.Int.{ints}
+use Rattle.std.proofs.lemmas.List.{get_or_read}
 use Rattle.std.proofs.lemmas.Result.{err_from_is_err_and}
 use lib.IntN.{pos}
+use lib.ListN.{get_or}
 use lib.Signed.{◌<ℤ◌, ◌≤ℤ◌}
 
 pub loop-i-preserved-then-values-i-le0 : goal.loop-i-preserved-then-values-i-le0
@@ -24,56 +27,82 @@ loop-i-preserved-then-values-i-le0 c =
       built = pairs_skip_row c.args.cols c.args.equations.now c.args.rows.now c.args.front c.args.rays.now.rows.items c.loop-i.i c.loop-i.next.items c.loop-i.zeros.rows c.loop-i.invariant.built low;
     }
 
-pub loop-j-preserved-then-values-j-ge0 : goal.loop-j-preserved-then-values-j-ge0
-loop-j-preserved-then-values-j-ge0 c =
+pub pair_ray-requires-clause-second : goal.pair_ray-requires-clause-second
+pair_ray-requires-clause-second c =
+    let l : c.loop-k.k < length c.in_ok-negatives.negatives.items = omega arith in
+    let here : get_or c.in_ok-negatives.negatives.items c.loop-k.k 0 ≡ c.index-j.result.now = sym (get_or_read c.in_ok-negatives.negatives.items c.loop-k.k c.index-j.result.now l c.index-j.ensures 0) in
+    let row = row_next c.args.cols c.args.equations.now c.args.rows.now c.args.front c.args.rays.now.rows.items c.args.values.now c.loop-i.i c.in_ok-negatives.negatives.items c.loop-k.next.items c.loop-k.zeros.rows c.loop-k.k c.index-j.result.now l here c.loop-k.invariant.built in
+    let lj = row.left.0.within in
+    lj
+
+pub pair_ray-requires-clause-down_in_range : goal.pair_ray-requires-clause-down_in_range
+pair_ray-requires-clause-down_in_range c =
+    let l : c.loop-k.k < length c.in_ok-negatives.negatives.items = omega arith in
+    let here : get_or c.in_ok-negatives.negatives.items c.loop-k.k 0 ≡ c.index-j.result.now = sym (get_or_read c.in_ok-negatives.negatives.items c.loop-k.k c.index-j.result.now l c.index-j.ensures 0) in
+    let row = row_next c.args.cols c.args.equations.now c.args.rows.now c.args.front c.args.rays.now.rows.items c.args.values.now c.loop-i.i c.in_ok-negatives.negatives.items c.loop-k.next.items c.loop-k.zeros.rows c.loop-k.k c.index-j.result.now l here c.loop-k.invariant.built in
+    let lj = row.left.0.within in
+    c.requires.products.in_range c.index-j.result.now lj
+
+pub pair_ray-requires-clause-cols : goal.pair_ray-requires-clause-cols
+pair_ray-requires-clause-cols c =
     let li : c.loop-i.i < length c.args.rays.now.rows.items = omega arith in
-    let lj : c.loop-j.j < length c.args.rays.now.rows.items = omega arith in
-    let t = c.if-values-j-ge0.true in
-    let up : pos 0 ≤ℤ entry c.args.values.now c.loop-j.j = omega (arith, ints) in
+    let l : c.loop-k.k < length c.in_ok-negatives.negatives.items = omega arith in
+    let here : get_or c.in_ok-negatives.negatives.items c.loop-k.k 0 ≡ c.index-j.result.now = sym (get_or_read c.in_ok-negatives.negatives.items c.loop-k.k c.index-j.result.now l c.index-j.ensures 0) in
+    let row = row_next c.args.cols c.args.equations.now c.args.rows.now c.args.front c.args.rays.now.rows.items c.args.values.now c.loop-i.i c.in_ok-negatives.negatives.items c.loop-k.next.items c.loop-k.zeros.rows c.loop-k.k c.index-j.result.now l here c.loop-k.invariant.built in
+    let lj = row.left.0.within in
+    ray_cols c.args.cols c.args.equations.now c.args.rows.now c.args.front c.args.rays.now.rows.items c.args.rays.now.zeros.rows c.requires.table c.index-j.result.now lj ∙ sym (ray_cols c.args.cols c.args.equations.now c.args.rows.now c.args.front c.args.rays.now.rows.items c.args.rays.now.zeros.rows c.requires.table c.loop-i.i li)
+
+pub loop-k-init : goal.loop-k-init
+loop-k-init c = record {
+  both_len = c.loop-i.invariant.both_len;
+  row_len = c.loop-i.invariant.row_len;
+  few = c.loop-i.invariant.few;
+  built = row_start c.args.cols c.args.equations.now c.args.rows.now c.args.front c.args.rays.now.rows.items c.args.values.now c.requires.products c.loop-i.i c.in_ok-negatives.negatives.items c.loop-i.next.items c.loop-i.zeros.rows c.in_ok-negatives.ensures c.loop-i.invariant.built;
+}
+
+pub loop-k-preserved-in-None : goal.loop-k-preserved-in-None
+loop-k-preserved-in-None c =
+    let li : c.loop-i.i < length c.args.rays.now.rows.items = omega arith in
+    let l : c.loop-k.k < length c.in_ok-negatives.negatives.items = omega arith in
+    let here : get_or c.in_ok-negatives.negatives.items c.loop-k.k 0 ≡ c.index-j.result.now = sym (get_or_read c.in_ok-negatives.negatives.items c.loop-k.k c.index-j.result.now l c.index-j.ensures 0) in
+    let row = row_next c.args.cols c.args.equations.now c.args.rows.now c.args.front c.args.rays.now.rows.items c.args.values.now c.loop-i.i c.in_ok-negatives.negatives.items c.loop-k.next.items c.loop-k.zeros.rows c.loop-k.k c.index-j.result.now l here c.loop-k.invariant.built in
+    let lj = row.left.0.within in
+    let o : IsNoPair c.args.rays.now.zeros c.loop-i.i c.index-j.result.now (c.args.rank - length c.args.equations.now - 2) = rw (c.in-None.is, c.needed-need.ensures) at c.in_ok-ray.ensures.none in
+    let never = no_pair c.args.cols c.args.equations.now c.args.rows.now c.args.front c.requires.within c.args.rays.now.rows.items c.args.rays.now.zeros c.requires.table c.requires.equation_cols c.requires.row_cols c.args.values.now c.requires.products c.requires.old_len c.loop-i.i c.index-j.result.now li lj c.args.rank c.requires.rank o in
     record {
-      both_len = c.loop-j.invariant.both_len;
-      row_len = c.loop-j.invariant.row_len;
-      few = c.loop-j.invariant.few;
-      built = pairs_skip c.args.cols c.args.equations.now c.args.rows.now c.args.front c.args.rays.now.rows.items c.loop-i.i c.loop-j.j c.loop-j.next.items c.loop-j.zeros.rows c.loop-j.invariant.built (not_down c.args.cols c.args.equations.now c.args.rows.now c.args.front c.requires.within c.args.rays.now.rows.items c.args.rays.now.zeros c.requires.table c.requires.equation_cols c.requires.row_cols c.args.values.now c.requires.products c.requires.old_len c.loop-i.i c.loop-j.j li lj up);
+      both_len = c.pair_ray.ensures.both ∙ c.loop-k.invariant.both_len;
+      row_len = c.loop-k.invariant.row_len;
+      few = c.loop-k.invariant.few;
+      built = row_skip c.args.cols c.args.equations.now c.args.rows.now c.args.front c.args.rays.now.rows.items c.args.values.now c.requires.products c.loop-i.i c.index-j.result.now (drop (c.loop-k.k + 1) c.in_ok-negatives.negatives.items) c.loop-k.next.items c.loop-k.zeros.rows row never;
     }
 
-pub loop-j-preserved-in-None : goal.loop-j-preserved-in-None
-loop-j-preserved-in-None c =
+pub loop-k-preserved : goal.loop-k-preserved
+loop-k-preserved c =
     let li : c.loop-i.i < length c.args.rays.now.rows.items = omega arith in
-    let lj : c.loop-j.j < length c.args.rays.now.rows.items = omega arith in
-    let o : IsNoPair c.args.rays.now.zeros c.loop-i.i c.loop-j.j (c.args.rank - length c.args.equations.now - 2) = rw (c.in-None.is, c.needed-need.ensures) at c.in_ok-ray.ensures.none in
-    record {
-      both_len = c.pair_ray.ensures.both ∙ c.loop-j.invariant.both_len;
-      row_len = c.loop-j.invariant.row_len;
-      few = c.loop-j.invariant.few;
-      built = pairs_skip c.args.cols c.args.equations.now c.args.rows.now c.args.front c.args.rays.now.rows.items c.loop-i.i c.loop-j.j c.loop-j.next.items c.loop-j.zeros.rows c.loop-j.invariant.built (no_pair c.args.cols c.args.equations.now c.args.rows.now c.args.front c.requires.within c.args.rays.now.rows.items c.args.rays.now.zeros c.requires.table c.requires.equation_cols c.requires.row_cols c.args.values.now c.requires.products c.requires.old_len c.loop-i.i c.loop-j.j li lj c.args.rank c.requires.rank o);
-    }
-
-pub loop-j-preserved : goal.loop-j-preserved
-loop-j-preserved c =
-    let li : c.loop-i.i < length c.args.rays.now.rows.items = omega arith in
-    let lj : c.loop-j.j < length c.args.rays.now.rows.items = omega arith in
     let ti = c.if-values-i-le0.false in
-    let tj = c.if-values-j-ge0.false in
     let up : pos 0 <ℤ entry c.args.values.now c.loop-i.i = omega (arith, ints) in
-    let down : entry c.args.values.now c.loop-j.j <ℤ pos 0 = omega (arith, ints) in
-    let p : IsPairRay c.args.rays.now.rows.items c.args.rays.now.zeros c.args.values.now c.loop-i.i c.loop-j.j c.args.front c.in-Some.ray.row c.in-Some.ray.zeros = rw c.in-Some.is at c.in_ok-ray.ensures.some in
+    let l : c.loop-k.k < length c.in_ok-negatives.negatives.items = omega arith in
+    let here : get_or c.in_ok-negatives.negatives.items c.loop-k.k 0 ≡ c.index-j.result.now = sym (get_or_read c.in_ok-negatives.negatives.items c.loop-k.k c.index-j.result.now l c.index-j.ensures 0) in
+    let row = row_next c.args.cols c.args.equations.now c.args.rows.now c.args.front c.args.rays.now.rows.items c.args.values.now c.loop-i.i c.in_ok-negatives.negatives.items c.loop-k.next.items c.loop-k.zeros.rows c.loop-k.k c.index-j.result.now l here c.loop-k.invariant.built in
+    let lj = row.left.0.within in
+    let down = row.left.0.negative in
+    let p : IsPairRay c.args.rays.now.rows.items c.args.rays.now.zeros c.args.values.now c.loop-i.i c.index-j.result.now c.args.front c.in-Some.ray.row c.in-Some.ray.zeros = rw c.in-Some.is at c.in_ok-ray.ensures.some in
+    let made = pair_made c.args.cols c.args.equations.now c.args.rows.now c.args.front c.requires.within c.args.rays.now.rows.items c.args.rays.now.zeros c.requires.table c.requires.equation_cols c.requires.row_cols c.args.values.now c.requires.products c.requires.old_len c.loop-i.i c.index-j.result.now li lj c.requires.spanned up down c.in-Some.ray.row c.in-Some.ray.zeros p in
     record {
-      both_len = c.pair_ray.ensures.both ∙ c.loop-j.invariant.both_len;
-      row_len = c.in-Ok.ensures.row_len ∙ c.loop-j.invariant.row_len;
+      both_len = c.pair_ray.ensures.both ∙ c.loop-k.invariant.both_len;
+      row_len = c.in-Ok.ensures.row_len ∙ c.loop-k.invariant.row_len;
       few = let t = c.if-len-gt-MOST_RAYS.false in let n = c.len.ensures in let whole = c.push.new.self.ok.0 in omega arith;
-      built = rw (c.in_ok-push.ensures.items, c.in-Ok.ensures.ok) (pairs_more c.args.cols c.args.equations.now c.args.rows.now c.args.front c.args.rays.now.rows.items c.loop-i.i c.loop-j.j c.loop-j.next.items c.loop-j.zeros.rows c.loop-j.invariant.built c.in-Some.ray.row c.in-Some.ray.zeros
-          (pair_made c.args.cols c.args.equations.now c.args.rows.now c.args.front c.requires.within c.args.rays.now.rows.items c.args.rays.now.zeros c.requires.table c.requires.equation_cols c.requires.row_cols c.args.values.now c.requires.products c.requires.old_len c.loop-i.i c.loop-j.j li lj c.requires.spanned up down c.in-Some.ray.row c.in-Some.ray.zeros p));
+      built = rw (c.in_ok-push.ensures.items, c.in-Ok.ensures.ok) (row_more c.args.cols c.args.equations.now c.args.rows.now c.args.front c.args.rays.now.rows.items c.args.values.now c.requires.products c.loop-i.i c.index-j.result.now (drop (c.loop-k.k + 1) c.in_ok-negatives.negatives.items) c.loop-k.next.items c.loop-k.zeros.rows row c.in-Some.ray.row c.in-Some.ray.zeros made);
     }
 
 pub loop-i-preserved : goal.loop-i-preserved
 loop-i-preserved c =
-    let last : c.loop-j.j ≡ length c.args.rays.now.rows.items = omega arith in
+    let last : length c.in_ok-negatives.negatives.items ≤ c.loop-k.k = omega arith in
     record {
-      both_len = c.loop-j.invariant.both_len;
-      row_len = c.loop-j.invariant.row_len;
-      few = c.loop-j.invariant.few;
-      built = pairs_row c.args.cols c.args.equations.now c.args.rows.now c.args.front c.args.rays.now.rows.items c.loop-i.i c.loop-j.next.items c.loop-j.zeros.rows (subst (λ (k : ℕ). IsBuilt c.args.cols c.args.equations.now c.args.rows.now c.args.front c.args.rays.now.rows.items (SeenPairs c.loop-i.i k) c.loop-j.next.items c.loop-j.zeros.rows) last c.loop-j.invariant.built);
+      both_len = c.loop-k.invariant.both_len;
+      row_len = c.loop-k.invariant.row_len;
+      few = c.loop-k.invariant.few;
+      built = row_end c.args.cols c.args.equations.now c.args.rows.now c.args.front c.args.rays.now.rows.items c.args.values.now c.requires.products c.loop-i.i c.in_ok-negatives.negatives.items c.loop-k.k c.loop-k.next.items c.loop-k.zeros.rows last c.loop-k.invariant.built;
     }
 
 pub returns-clause-table : goal.returns-clause-table
@@ -93,28 +122,33 @@ loop-i-init c = record {
 pub returns-in_err-ray-clause-wide : goal.returns-in_err-ray-clause-wide
 returns-in_err-ray-clause-wide c =
     let li : c.loop-i.i < length c.args.rays.now.rows.items = omega arith in
-    let lj : c.loop-j.j < length c.args.rays.now.rows.items = omega arith in
     let ti = c.if-values-i-le0.false in
-    let tj = c.if-values-j-ge0.false in
     let up : pos 0 <ℤ entry c.args.values.now c.loop-i.i = omega (arith, ints) in
-    let down : entry c.args.values.now c.loop-j.j <ℤ pos 0 = omega (arith, ints) in
+    let l : c.loop-k.k < length c.in_ok-negatives.negatives.items = omega arith in
+    let here : get_or c.in_ok-negatives.negatives.items c.loop-k.k 0 ≡ c.index-j.result.now = sym (get_or_read c.in_ok-negatives.negatives.items c.loop-k.k c.index-j.result.now l c.index-j.ensures 0) in
+    let row = row_next c.args.cols c.args.equations.now c.args.rows.now c.args.front c.args.rays.now.rows.items c.args.values.now c.loop-i.i c.in_ok-negatives.negatives.items c.loop-k.next.items c.loop-k.zeros.rows c.loop-k.k c.index-j.result.now l here c.loop-k.invariant.built in
+    let lj = row.left.0.within in
+    let down = row.left.0.negative in
     let p = err_from_is_err_and c.from_residual-in_err-ray.result c.from_residual-in_err-ray.ensures.1 in
-    rw (p.1, p.2) (pair_fail c.args.cols c.args.equations.now c.args.rows.now c.args.front c.args.rays.now.rows.items c.args.rays.now.zeros c.requires.table c.args.values.now c.requires.products c.loop-i.i c.loop-j.j li lj up down c.in_err-ray.field-0.0 c.in_err-ray.ensures.wide)
+    rw (p.1, p.2) (pair_fail c.args.cols c.args.equations.now c.args.rows.now c.args.front c.args.rays.now.rows.items c.args.rays.now.zeros c.requires.table c.args.values.now c.requires.products c.loop-i.i c.index-j.result.now li lj up down c.in_err-ray.field-0.0 c.in_err-ray.ensures.wide)
 
 pub returns-then-len-gt-MOST_RAYS-clause-wide : goal.returns-then-len-gt-MOST_RAYS-clause-wide
 returns-then-len-gt-MOST_RAYS-clause-wide c =
     let li : c.loop-i.i < length c.args.rays.now.rows.items = omega arith in
-    let lj : c.loop-j.j < length c.args.rays.now.rows.items = omega arith in
     let ti = c.if-values-i-le0.false in
-    let tj = c.if-values-j-ge0.false in
     let up : pos 0 <ℤ entry c.args.values.now c.loop-i.i = omega (arith, ints) in
-    let down : entry c.args.values.now c.loop-j.j <ℤ pos 0 = omega (arith, ints) in
-    let p : IsPairRay c.args.rays.now.rows.items c.args.rays.now.zeros c.args.values.now c.loop-i.i c.loop-j.j c.args.front c.in-Some.ray.row c.in-Some.ray.zeros = rw c.in-Some.is at c.in_ok-ray.ensures.some in
+    let l : c.loop-k.k < length c.in_ok-negatives.negatives.items = omega arith in
+    let here : get_or c.in_ok-negatives.negatives.items c.loop-k.k 0 ≡ c.index-j.result.now = sym (get_or_read c.in_ok-negatives.negatives.items c.loop-k.k c.index-j.result.now l c.index-j.ensures 0) in
+    let row = row_next c.args.cols c.args.equations.now c.args.rows.now c.args.front c.args.rays.now.rows.items c.args.values.now c.loop-i.i c.in_ok-negatives.negatives.items c.loop-k.next.items c.loop-k.zeros.rows c.loop-k.k c.index-j.result.now l here c.loop-k.invariant.built in
+    let lj = row.left.0.within in
+    let down = row.left.0.negative in
+    let p : IsPairRay c.args.rays.now.rows.items c.args.rays.now.zeros c.args.values.now c.loop-i.i c.index-j.result.now c.args.front c.in-Some.ray.row c.in-Some.ray.zeros = rw c.in-Some.is at c.in_ok-ray.ensures.some in
+    let made = pair_made c.args.cols c.args.equations.now c.args.rows.now c.args.front c.requires.within c.args.rays.now.rows.items c.args.rays.now.zeros c.requires.table c.requires.equation_cols c.requires.row_cols c.args.values.now c.requires.products c.requires.old_len c.loop-i.i c.index-j.result.now li lj c.requires.spanned up down c.in-Some.ray.row c.in-Some.ray.zeros p in
     let t = c.if-len-gt-MOST_RAYS.true in
     let n = c.len.ensures in
     let whole = c.push.new.self.ok.0 in
-    built_many c.args.cols c.args.equations.now c.args.rows.now c.args.front c.requires.within c.args.rays.now.rows.items c.args.rays.now.zeros.rows c.requires.table c.requires.equation_cols c.requires.row_cols c.requires.spanned (SeenPairs c.loop-i.i (c.loop-j.j + 1)) c.push.new.self.items c.push-in-loop-j.new.self.rows (rw (c.in_ok-push.ensures.items, c.in-Ok.ensures.ok) (pairs_more c.args.cols c.args.equations.now c.args.rows.now c.args.front c.args.rays.now.rows.items c.loop-i.i c.loop-j.j c.loop-j.next.items c.loop-j.zeros.rows c.loop-j.invariant.built c.in-Some.ray.row c.in-Some.ray.zeros
-    (pair_made c.args.cols c.args.equations.now c.args.rows.now c.args.front c.requires.within c.args.rays.now.rows.items c.args.rays.now.zeros c.requires.table c.requires.equation_cols c.requires.row_cols c.args.values.now c.requires.products c.requires.old_len c.loop-i.i c.loop-j.j li lj c.requires.spanned up down c.in-Some.ray.row c.in-Some.ray.zeros p))) (omega arith)
+    let more = row_more c.args.cols c.args.equations.now c.args.rows.now c.args.front c.args.rays.now.rows.items c.args.values.now c.requires.products c.loop-i.i c.index-j.result.now (drop (c.loop-k.k + 1) c.in_ok-negatives.negatives.items) c.loop-k.next.items c.loop-k.zeros.rows row c.in-Some.ray.row c.in-Some.ray.zeros made in
+    built_many c.args.cols c.args.equations.now c.args.rows.now c.args.front c.requires.within c.args.rays.now.rows.items c.args.rays.now.zeros.rows c.requires.table c.requires.equation_cols c.requires.row_cols c.requires.spanned (SeenPairs c.loop-i.i more.start) c.push.new.self.items c.push-in-loop-k.new.self.rows (rw (c.in_ok-push.ensures.items, c.in-Ok.ensures.ok) more.built) (omega arith)
 
 pub returns-clause-few : goal.returns-clause-few
 returns-clause-few c = c.loop-i.invariant.few

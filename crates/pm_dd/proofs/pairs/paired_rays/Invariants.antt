@@ -1,6 +1,7 @@
+use Rattle.pm_dd.proofs.Negatives.{IsRowBuilt}
 use Rattle.pm_dd.proofs.pairs.paired_rays.Given as goal
 use Rattle.pm_dd.specs.Building.{IsBuilt, SeenPairs}
-use Rattle.std.proofs.Common.{length, ◌≡◌, ◌≤◌}
+use Rattle.std.proofs.Common.{drop, length, ◌≡◌, ◌≤◌}
 
 abbrev pub invariant-loop-i : goal.invariant-loop-i
 invariant-loop-i l = record {
@@ -10,10 +11,10 @@ invariant-loop-i l = record {
   built : IsBuilt l.cols l.equations l.rows l.front l.rays.rows.items (SeenPairs l.i 0) l.next.items l.zeros.rows;
 }
 
-abbrev pub invariant-loop-j : goal.invariant-loop-j
-invariant-loop-j l = record {
+abbrev pub invariant-loop-k : goal.invariant-loop-k
+invariant-loop-k l = record {
   both_len : length l.both ≡ length l.rows;
   row_len : l.zeros.row_len ≡ length l.rows;
   few : length l.next.items ≤ 2048;
-  built : IsBuilt l.cols l.equations l.rows l.front l.rays.rows.items (SeenPairs l.i l.j) l.next.items l.zeros.rows;
+  built : IsRowBuilt l.cols l.equations l.rows l.front l.rays.rows.items l.values l.i (drop l.k l.negatives.items) l.next.items l.zeros.rows;
 }
