@@ -1,16 +1,16 @@
 -- A book that is printed is a text of the grammar, and spells the book.
-use Rattle.std.proofs.Common.{◌≡◌, ℕ, suc, Bool, true, false, IsTrue, Result, Ok, Err, Some, List, [], ◌∷◌, ◌++◌, length, map, find, refl, ap, ◌∙◌, arith, lit<, append_assoc, codes}
+use Rattle.std.proofs.Common.{◌≡◌, ℕ, suc, Bool, true, false, Result, Ok, Err, Some, List, [], ◌∷◌, ◌++◌, length, map, find, refl, ap, ◌∙◌, arith, lit<, append_assoc, codes}
 use Rattle.std.specs.List.{flat_map, All, AllByRecursion, AllZip}
 use Rattle.std.specs.Str.{bytes_eq}
 use Rattle.std.specs.Result.{IfOk}
-use Rattle.std.proofs.lemmas.Bool.{and_parts}
 use Rattle.pm_algebra.proofs.Lists.{all_append}
 use Rattle.pm_props.specs.declared.property.PropId.{PropId}
 use Rattle.pm_props.specs.declared.kind.Kind.{Kind}
 use Rattle.pm_props.specs.Properties.{first_name}
 use Rattle.pm_props.specs.Sets.{members}
 use Rattle.pm_rules.specs.declared.rule.Rule.{Rule}
-use Rattle.pm_rules.specs.Words.{is_word, is_label, precondition_word}
+use Rattle.pm_rules.specs.Words.{precondition_word}
+use Rattle.pm_rules.proofs.Labels.{label_is_word}
 use Rattle.pm_rules.specs.Books.{IsRule, IsBook, FirstKinds}
 use Rattle.pm_rules.specs.Rules.{conditions}
 use Rattle.pm_books.specs.Grammar.{behind_comma, separated, name_item, condition_item, precondition_words, words_behind_label, words_of, Means, texts, IsBookText}
@@ -90,9 +90,6 @@ rule_tokens rule is =
       ),
     )
 
-label_word : (label : List ℕ) → IsTrue (is_label label) → is_word label ≡ true
-label_word label h = (and_parts (is_word label) _ h).0
-
 -- ---- lines
 line_words : (total : ℕ) (rule : Rule) (rest : List ℕ) → IsRule rule → texts (tokens_in total (line_of rule ++ rest)) ≡ words_of (written_of rule) ++ texts (tokens_in total rest)
 unfolding line_of
@@ -102,7 +99,7 @@ line_words total rule rest is =
     let parts : (rule.label ++ spaced words ++ 10 ∷ []) ++ rest ≡ rule.label ++ (spaced words ++ 10 ∷ rest) =
     append_assoc (rule.label ++ spaced words) (10 ∷ []) rest ∙ append_assoc rule.label (spaced words) (10 ∷ rest) in
     ap (λ s. texts (tokens_in total s)) parts
-    ∙ label_next total rule.label (spaced words ++ 10 ∷ rest) (word_token rule.label (label_word rule.label is.label)) stops
+    ∙ label_next total rule.label (spaced words ++ 10 ∷ rest) (word_token rule.label (label_is_word rule.label is.label)) stops
     ∙ ap (λ ts. rule.label ∷ ts) (list_next total words (10 ∷ rest) (rule_tokens rule is) refl ∙ ap (λ ts. words ++ texts ts) (line_next total rest))
 
 first_of_all : {X : Type 0} (P : X → Type 0) (x : X) (xs : List X) → All P (x ∷ xs) → P x

@@ -6,8 +6,8 @@ use Rattle.std.proofs.Math.Seq.{take-append_seam, drop-append-add}
 use Rattle.std.proofs.lemmas.Bool.{and_parts, cond_both, eqb-true, eq-eqb, ne_eqb}
 use Rattle.std.proofs.lemmas.Str.Parse.{IsNumeralModel, numerals_by_fold}
 use Rattle.std.proofs.lemmas.Fmt.{digits_decimal, digits_value-decimal, decimal_nonempty}
-use Rattle.pm_props.specs.declared.weight.Weight.{Weight}
-use Rattle.pm_props.specs.Weights.{IsWeight, most, weight_text}
+use Rattle.pm_weights.specs.declared.Weight.{Weight}
+use Rattle.pm_weights.specs.Weights.{IsWeight, most, weight_text}
 use Rattle.pm_rules.specs.Words.{is_digit}
 use Rattle.pm_books.specs.Reading.{is_number, number_on, weight_of}
 use Rattle.pm_books.proofs.Spacing.{IsToken, whole_prefix, digits_token, pair_token}

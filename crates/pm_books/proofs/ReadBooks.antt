@@ -10,9 +10,9 @@ use Rattle.std.proofs.lemmas.List.Quantifiers.{all_pairs_push}
 use Rattle.std.proofs.lemmas.List.Folds.{list_any_at}
 use Rattle.pm_props.specs.declared.set.PropSet.{PropSet}
 use Rattle.pm_props.specs.declared.kind.Kind.{Kind}
-use Rattle.pm_props.specs.declared.weight.Weight.{Weight}
+use Rattle.pm_weights.specs.declared.Weight.{Weight}
 use Rattle.pm_props.specs.Sets.{intersection, IsWithin}
-use Rattle.pm_props.specs.Weights.{most, IsWeight}
+use Rattle.pm_weights.specs.Weights.{most, IsWeight}
 use Rattle.pm_props.proofs.NameLemmas.{find_passes}
 use Rattle.pm_rules.specs.declared.rule.Rule.{Rule}
 use Rattle.pm_books.specs.declared.fail.BookFail.{BookFail}

@@ -1,15 +1,15 @@
 -- Each text of the grammar is read as its book.
-use Rattle.std.proofs.Common.{◌≡◌, ◌≢◌, ℕ, zero, suc, ◌+◌, ◌≤◌, false, not, ◌&&◌, eqb, leb, IsTrue, Ok, List, [], ◌∷◌, ◌++◌, length, get_or, refl, sym, ap, ◌∙◌, subst, arith, append_assoc, append-nil, length-append, inl, inr}
-use Rattle.std.specs.List.{flat_map, list_any, list_all, AllPairs, AllZip}
+use Rattle.std.proofs.Common.{◌≡◌, ◌≢◌, ℕ, zero, suc, ◌+◌, ◌≤◌, false, Ok, List, [], ◌∷◌, ◌++◌, length, get_or, refl, sym, ap, ◌∙◌, subst, arith, append_assoc, append-nil, length-append, inl, inr}
+use Rattle.std.specs.List.{flat_map, list_any, AllPairs, AllZip}
 use Rattle.std.specs.Str.{bytes_eq}
-use Rattle.std.proofs.lemmas.Bool.{cases_Bool, and_parts, not-true}
+use Rattle.std.proofs.lemmas.Bool.{cases_Bool}
 use Rattle.std.proofs.lemmas.Slice.Eq.{bytes_eq-Decides}
 use Rattle.std.proofs.lemmas.List.{get_or_append_left, get_or_at, get_or_default}
 use Rattle.std.proofs.lemmas.List.Folds.{Any-from_list_any}
 use Rattle.pm_props.specs.declared.kind.Kind.{Kind}
 use Rattle.pm_rules.specs.declared.rule.Rule.{Rule}
-use Rattle.pm_rules.specs.Words.{is_word, is_label, precondition_word}
 use Rattle.pm_rules.specs.Books.{most_rules}
+use Rattle.pm_rules.proofs.Labels.{label_is_no_precondition}
 use Rattle.pm_books.specs.Tokens.{Token, tokens_of}
 use Rattle.pm_books.specs.Reading.{rules_from, book_of}
 use Rattle.pm_books.specs.Grammar.{Written, words_of, Means, texts, IsBookText}
@@ -41,17 +41,10 @@ new_labels had [] differ = tt
 new_labels had (r ∷ rules) differ = (label_new had rules r differ, new_labels (had ++ r ∷ []) rules (subst Differ (sym (append_assoc had (r ∷ []) rules)) differ))
 
 -- ---- one rule after the other
-not_precondition : (label : List ℕ) → IsTrue (is_label label) → bytes_eq label precondition_word ≡ false
-not_precondition label h =
-    let first = and_parts (is_word label) (leb (length label) 32 && (list_all (λ b. not (eqb b 46)) label && not (bytes_eq label precondition_word))) h in
-    let second = and_parts (leb (length label) 32) (list_all (λ b. not (eqb b 46)) label && not (bytes_eq label precondition_word)) first.1 in
-    let third = and_parts (list_all (λ b. not (eqb b 46)) label) (not (bytes_eq label precondition_word)) second.1 in
-    not-true (bytes_eq label precondition_word) third.1
-
 labels_come_next : (kinds : List Kind) (ws : List Written) (rules : List Rule) → AllZip (Means kinds) ws rules → NoPreconditionNext (flat_map words_of ws)
 labels_come_next kinds [] rules means = tt
 labels_come_next kinds (w ∷ ws) [] means = absurd means
-labels_come_next kinds (w ∷ ws) (r ∷ rules) means = not_precondition w.label means.0.label
+labels_come_next kinds (w ∷ ws) (r ∷ rules) means = label_is_no_precondition w.label means.0.label
 
 rules_read : (n : ℕ) (kinds : List Kind) (had : List Rule) (end : ℕ) (ts : List Token) (ws : List Written) (rules : List Rule) → texts ts ≡ flat_map words_of ws → AllZip (Means kinds) ws rules
     → NewLabels had rules → length had + length rules ≤ most_rules → length rules ≤ n → rules_from n kinds had end ts ≡ Ok (had ++ rules)

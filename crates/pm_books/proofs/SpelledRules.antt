@@ -5,9 +5,9 @@ use Rattle.std.specs.Str.{bytes_eq}
 use Rattle.std.proofs.lemmas.Bool.{and_from, eq-eqb, le-leb, lt-ltb}
 use Rattle.pm_props.specs.declared.set.PropSet.{PropSet}
 use Rattle.pm_props.specs.declared.kind.Kind.{Kind}
-use Rattle.pm_props.specs.declared.weight.Weight.{Weight}
+use Rattle.pm_weights.specs.declared.Weight.{Weight}
 use Rattle.pm_props.specs.Sets.{intersection, IsWithin}
-use Rattle.pm_props.specs.Weights.{most, IsWeight}
+use Rattle.pm_weights.specs.Weights.{most, IsWeight}
 use Rattle.pm_rules.specs.declared.rule.Rule.{Rule}
 use Rattle.pm_rules.specs.Words.{is_word, is_label, precondition_word}
 use Rattle.pm_rules.specs.Books.{most_rules}

@@ -9,7 +9,7 @@ use Rattle.pm_props.specs.declared.kind.Kind.{Kind}
 use Rattle.pm_props.specs.Properties.{value_kind}
 use Rattle.pm_props.specs.Sets.{has, only, union, IsWithin}
 use Rattle.pm_props.specs.Names.{IsNameOf}
-use Rattle.pm_props.specs.Weights.{IsWeight}
+use Rattle.pm_weights.specs.Weights.{IsWeight}
 use Rattle.pm_rules.specs.declared.rule.Rule.{Rule}
 use Rattle.pm_rules.specs.Words.{is_word, is_label, precondition_word}
 use Rattle.pm_rules.specs.Books.{most_rules}

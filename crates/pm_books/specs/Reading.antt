@@ -13,11 +13,11 @@ use Rattle.pm_props.specs.declared.property.ValueKind.{ValueKind}
 use Rattle.pm_props.specs.declared.property.ValueKind.TheVariants as value
 use Rattle.pm_props.specs.declared.set.PropSet.{PropSet}
 use Rattle.pm_props.specs.declared.kind.Kind.{Kind}
-use Rattle.pm_props.specs.declared.weight.Weight.{Weight}
+use Rattle.pm_weights.specs.declared.Weight.{Weight}
 use Rattle.pm_props.specs.Properties.{value_kind}
 use Rattle.pm_props.specs.Sets.{has, only, union, intersection}
 use Rattle.pm_props.specs.Names.{property_named}
-use Rattle.pm_props.specs.Weights.{most}
+use Rattle.pm_weights.specs.Weights.{most}
 use Rattle.pm_rules.specs.declared.rule.Rule.{Rule}
 use Rattle.pm_books.specs.declared.fail.BookFail.{BookFail}
 use Rattle.pm_books.specs.declared.fail.BookFail.TheVariants.{Syntax, UnknownProperty, UnknownClient, SignatureMismatch, SameLabel, WeightRange, TooManyRules}

@@ -5,7 +5,7 @@ use Rattle.std.specs.Str.{bytes_eq}
 use Rattle.pm_props.specs.declared.property.PropId.{PropId}
 use Rattle.pm_props.specs.Properties.{first_name}
 use Rattle.pm_props.specs.Sets.{has, members}
-use Rattle.pm_props.specs.Weights.{weight_text}
+use Rattle.pm_weights.specs.Weights.{weight_text}
 use Rattle.pm_rules.specs.declared.rule.Rule.{Rule}
 use Rattle.pm_rules.specs.Rules.{conditions}
 use Rattle.pm_books.specs.Grammar.{Condition, Written, words_behind_label}

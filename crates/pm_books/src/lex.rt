@@ -2,11 +2,12 @@
 
 ghost use Rattle.std.specs.Prelude.{◌≡◌, ◌-◌, ◌<◌, ◌≤◌, IfOk, false, length, map};
 ghost use Rattle.std.specs.List.{prefix_len};
-ghost use Rattle.pm_rules.specs.Words.{is_letter, is_digit, is_word_byte};
+ghost use Rattle.pm_rules.specs.Words.{is_digit, is_word_byte};
 ghost use Rattle.pm_books.specs.Tokens.{is_space, after_gap, number_len, token_len, tokens_of};
 ghost use Rattle.pm_books.specs.Seen.{seen};
 
 use crate::token::Token;
+use pm_rules::{is_digit, is_letter, is_word_byte};
 use std::alloc::{AllocError, Global};
 
 /// The tokens of a text, in order.
@@ -101,25 +102,4 @@ fn is_space(b: u8) -> bool
     ensures { result ≡ is_space b }
 {
     b == b' ' || b == b'\t' || b == b'\r' || b == b'\n'
-}
-
-/// Whether the byte is a letter or `_`.
-pub fn is_letter(b: u8) -> bool
-    ensures { result ≡ is_letter b }
-{
-    (b'A' <= b && b <= b'Z') || (b'a' <= b && b <= b'z') || b == b'_'
-}
-
-/// Whether the byte is a digit.
-pub fn is_digit(b: u8) -> bool
-    ensures { result ≡ is_digit b }
-{
-    b'0' <= b && b <= b'9'
-}
-
-/// Whether the byte may stand in a word.
-pub fn is_word_byte(b: u8) -> bool
-    ensures { result ≡ is_word_byte b }
-{
-    is_letter(b) || is_digit(b) || b == b'.'
 }

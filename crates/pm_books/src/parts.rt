@@ -9,8 +9,8 @@ ghost use Rattle.pm_books.specs.Reading.Due.{condition};
 
 use crate::fail::BookFail;
 use crate::token::Token;
-use crate::word::is_word;
 use pm_props::{PropId, PropSet, ValueKind};
+use pm_rules::is_word;
 
 /// What comes behind a token with this text.
 #[tactic(auto, unfolding(crate::specs::Reading::token_where, crate::specs::Reading::after))]

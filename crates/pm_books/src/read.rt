@@ -16,9 +16,10 @@ use crate::fail::BookFail;
 use crate::lex::tokens;
 use crate::parts::{Conditions, after, all_conditions, names};
 use crate::token::Token;
-use crate::word::{is_label, is_number, is_word, weight};
-use pm_props::{ClientName, Kind, PropSet, Weight};
-use pm_rules::{Book, Rule};
+use crate::word::{is_number, weight};
+use pm_props::{ClientName, Kind, PropSet};
+use pm_rules::{Book, Rule, is_label, is_word};
+use pm_weights::Weight;
 use std::alloc::Global;
 
 // A label that no rule had, where there is room for one more.

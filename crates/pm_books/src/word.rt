@@ -1,54 +1,11 @@
-// Which texts are words, labels and numbers, and what a number is worth.
+// Which texts are numbers, and what a number is worth.
 
-ghost use Rattle.std.specs.Prelude.{◌≡◌, ◌≤◌, ◌==◌, Some, None, if◌then◌else◌, not, min};
-ghost use Rattle.std.specs.List.{list_all};
-ghost use Rattle.std.specs.Str.{bytes_eq};
-ghost use Rattle.pm_rules.specs.Words.{is_word_byte, is_word, is_label, precondition_word};
+ghost use Rattle.std.specs.Prelude.{◌≡◌, ◌≤◌, Some, None, if◌then◌else◌, min};
 ghost use Rattle.pm_books.specs.Reading.{is_number, number_on, weight_of, is_weight};
 
-use crate::lex::{digits, is_digit, is_letter, is_word_byte};
-use pm_props::Weight;
-
-/// The longest label.
-pub const LONGEST_LABEL: usize = 32;
-
-/// Whether the bytes are a letter or `_`, and then letters, digits, `_` or `.`.
-pub fn is_word(text: &[u8]) -> bool
-    ensures { result ≡ is_word text.now }
-{
-    match text.split_first() {
-        None => false,
-        Some((first, rest)) => is_letter(*first) && are_word_bytes(rest),
-    }
-}
-
-// Whether all these bytes may stand in a word.
-fn are_word_bytes(bytes: &[u8]) -> bool
-    ensures { result ≡ list_all is_word_byte bytes.now }
-{
-    bytes.iter().all(|b| is_word_byte(*b))
-}
-
-// Whether there is no point among the bytes.
-fn has_no_point(bytes: &[u8]) -> bool
-    ensures { result ≡ list_all (λ b. not (b == 46)) bytes.now }
-{
-    bytes.iter().all(|b| *b != b'.')
-}
-
-// Whether the word begins the preconditions of a rule.
-fn is_precondition(text: &[u8]) -> bool
-    ensures { result ≡ bytes_eq text.now precondition_word }
-{
-    text == "precondition".as_bytes()
-}
-
-/// Whether the bytes are a word of at most 32 bytes without `.` that is not `precondition`.
-pub fn is_label(text: &[u8]) -> bool
-    ensures { result ≡ is_label text.now }
-{
-    is_word(text) && text.len() <= LONGEST_LABEL && has_no_point(text) && !is_precondition(text)
-}
+use crate::lex::digits;
+use pm_rules::is_digit;
+use pm_weights::Weight;
 
 /// Whether the token is a number.
 pub fn is_number(text: &[u8]) -> bool

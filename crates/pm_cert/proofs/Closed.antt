@@ -1,12 +1,12 @@
 -- The passes over rules and rows, and what they say of the table as a whole.
-use Rattle.std.proofs.Common.{◌≡◌, ℕ, ◌+◌, ◌<◌, Bool, ◌&&◌, ◌↔◌, IsTrue, Some, List, inl, inr, All, Contains, sym, ap, ◌∙◌, subst, arith}
+use Rattle.std.proofs.Common.{◌≡◌, ℕ, ◌+◌, ◌<◌, Bool, ◌↔◌, IsTrue, Some, List, inl, inr, All, Contains, sym, ap, ◌∙◌, subst, arith}
 use Rattle.std.specs.Prelude.{slice_get}
-use Rattle.std.proofs.lemmas.Bool.{cases_lt, and_parts, and_from}
+use Rattle.std.proofs.lemmas.Bool.{cases_lt}
 use Rattle.pm_props.specs.declared.property.PropId.{PropId}
 use Rattle.pm_props.specs.declared.set.PropSet.{PropSet}
 use Rattle.pm_props.specs.declared.kind.RuleId.{RuleId}
 use Rattle.pm_props.specs.Sets.{has, IsSubset}
-use Rattle.pm_props.specs.Weights.{no_cost}
+use Rattle.pm_weights.specs.Weights.{no_cost}
 use Rattle.pm_rules.specs.declared.rule.Rule.{Rule}
 use Rattle.pm_rules.specs.declared.table.TableRow.{TableRow}
 use Rattle.pm_rules.specs.declared.table.Claim.{Claim}
@@ -29,10 +29,6 @@ FirstGoOn rules names barred needed rows claim n = (id : RuleId) (rule : Rule) �
 some_same : {X : Type 0} (x y : X) → Some x ≡ Some y → x ≡ y
 some_same x y e = cc
 
--- two tests in one
-pub both_tests : {P Q : Type 0} (a b : Bool) → IsTrue a ↔ P → IsTrue b ↔ Q → IsTrue (a && b) ↔ (P × Q)
-both_tests a b p q = ((λ h. let parts = and_parts a b h in (p.0 parts.0, q.0 parts.1)), (λ h. and_from a b (p.1 h.0) (q.1 h.1)))
-
 module _ (rules : List Rule) (names : PropSet) (barred : List RuleId) (needed : PropSet) (rows : List TableRow) (claim : Claim) where
   pub first_more : (i : ℕ) (item : Rule) → slice_get rules i ≡ Some item
       → (FindsOne names barred needed (record { 0 = i }) item → All (GoesOn rows claim (step_of item) item.weight) rows)
@@ -49,25 +45,22 @@ module _ (rules : List Rule) (names : PropSet) (barred : List RuleId) (needed : 
 -- ---- the whole table
 module _ (book : List Rule) (names : PropSet) (barred : List RuleId) (held asked needed : PropSet) (claim : Claim) (rows : List TableRow)
     (exact : (p : PropId) → IsTrue (has needed p) ↔ Needed book names barred asked p) where
-  pub certificate_exactly : (a b d : Bool) → IsTrue a ↔ (Within claim no_cost → Contains rows (record { set = held; cost = no_cost }))
-      → IsTrue b ↔ All (λ row. Within claim row.cost → IsSubset asked row.set → ⊥) rows
+  -- the last of the tests says whether the table is a certificate, where it has its start and no row that holds all that is asked
+  pub certificate_exactly : (d : Bool) → (Within claim no_cost → Contains rows (record { set = held; cost = no_cost }))
+      → All (λ row. Within claim row.cost → IsSubset asked row.set → ⊥) rows
       → IsTrue d ↔ ((id : RuleId) (rule : Rule) → rule_at book id ≡ Some rule → FindsOne names barred needed id rule → All (GoesOn rows claim (step_of rule) rule.weight) rows)
-      → IsTrue ((a && b) && d) ↔ IsCertificate book names barred held asked claim rows
-  certificate_exactly a b d is_a is_b is_d = (
-    (λ h.
-        let parts = and_parts (a && b) d h in
-        let both = and_parts a b parts.0 in
-        record {
-          start = is_a.0 both.0;
-          steps = λ k r l within id rule e useful enabled.
-              (is_d.0 parts.1 id rule e ((useful_exactly book names barred asked needed id rule exact).1 useful) k r l).onward within (open_from_enabled names barred _ id rule enabled);
-          ends = is_b.0 both.1;
-        }),
-    (λ h. and_from (a && b) d (and_from a b (is_a.1 h.start) (is_b.1 h.ends))
-        (is_d.1 (λ id rule e finds k r l. record {
-          onward = λ within opened. h.steps k r l within id rule e ((useful_exactly book names barred asked needed id rule exact).0 finds)
-              (enabled_from_open names barred _ id rule finds.in_use finds.allowed opened);
-        }))),
+      → IsTrue d ↔ IsCertificate book names barred held asked claim rows
+  certificate_exactly d start ends is_d = (
+    (λ h. record {
+      start = start;
+      steps = λ k r l within id rule e useful enabled.
+          (is_d.0 h id rule e ((useful_exactly book names barred asked needed id rule exact).1 useful) k r l).onward within (open_from_enabled names barred _ id rule enabled);
+      ends = ends;
+    }),
+    (λ h. is_d.1 (λ id rule e finds k r l. record {
+      onward = λ within opened. h.steps k r l within id rule e ((useful_exactly book names barred asked needed id rule exact).0 finds)
+          (enabled_from_open names barred _ id rule finds.in_use finds.allowed opened);
+    })),
   )
 
 pub claim_holds : (book : List Rule) (names : PropSet) (barred : List RuleId) (held asked : PropSet) (claim : Claim) (rows : List TableRow)

@@ -2,9 +2,9 @@
 use Rattle.std.specs.Prelude.{List, ◌⊎◌}
 use Rattle.pm_props.specs.declared.set.PropSet.{PropSet}
 use Rattle.pm_props.specs.declared.kind.RuleId.{RuleId}
-use Rattle.pm_props.specs.declared.weight.Weight.{Weight}
+use Rattle.pm_weights.specs.declared.Weight.{Weight}
 use Rattle.pm_props.specs.Sets.{union}
-use Rattle.pm_props.specs.Weights.{plus, IsAtMost}
+use Rattle.pm_weights.specs.Weights.{plus, IsAtMost}
 use Rattle.pm_rules.specs.declared.rule.Rule.{Rule}
 use Rattle.pm_rules.specs.declared.step.Step.{Step}
 use Rattle.pm_rules.specs.declared.table.TableRow.{TableRow}

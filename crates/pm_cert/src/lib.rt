@@ -1,16 +1,19 @@
 //! The checker of plans: whether a table proves what it claims. It takes no memory and knows nothing of the planner.
 #![tactic(auto)]
 
-ghost use Rattle.std.specs.Prelude.{◌≡◌, ◌≤◌, ◌↔◌, IsTrue, Some, length, All, Contains};
+mod halving;
+
+ghost use Rattle.std.specs.Prelude.{◌≡◌, ◌≤◌, ◌↔◌, IsTrue, Some, length, All, AllPairs, Contains};
 ghost use Rattle.pm_props.specs.Sets.{IsSubset};
-ghost use Rattle.pm_props.specs.Weights.{no_cost, plus, IsAtMost};
+ghost use Rattle.pm_weights.specs.Weights.{no_cost, plus, IsAtMost};
 ghost use Rattle.pm_rules.specs.Rules.{rule_at};
 ghost use Rattle.pm_rules.specs.Books.{most_rules};
 ghost use Rattle.pm_rules.specs.Steps.{IsOpen, step_of};
 ghost use Rattle.pm_rules.specs.Useful.{FindsOne};
-ghost use Rattle.pm_rules.specs.Certificates.{Within, EndsClaim, HasRow, IsCertificate};
+ghost use Rattle.pm_rules.specs.Certificates.{Within, EndsClaim, HasRow, IsBefore, IsCertificate};
 ghost use Rattle.pm_cert.specs.Claims.{Holds, GoesOn};
 
+use crate::halving::{are_in_order, has_row_in_order, is_at_most_sum};
 use pm_rules::{Book, Claim, Cost, PropSet, Rule, RuleId, Step, Table, TableRow, Weight, needed};
 
 /// Whether the table is a certificate for the claim. If so, the claim holds of all chains, also of those with rules
@@ -45,9 +48,9 @@ pub fn verify_by_rules(
     ensures claim { IsTrue result → Holds rules.now names barred.now held asked c }
 {
     let needed = needed(rules, names, barred, asked);
-    has_start(rows, held, c)
-        & ends_nowhere(rows, asked, c)
-        & is_closed(rules, names, barred, needed, rows, c)
+    let in_order = are_in_order(rows);
+    begins_and_ends(rows, held, asked, c)
+        && is_closed(rules, names, barred, needed, rows, in_order, c)
 }
 
 // Whether a row with this cost has to be looked at.
@@ -60,6 +63,14 @@ fn is_within(c: Claim, cost: Cost) -> bool
     }
 }
 
+// Whether the table has its start, and no row within the claim that holds all asked names.
+fn begins_and_ends(rows: &[TableRow], held: PropSet, asked: PropSet, c: Claim) -> bool
+    ensures { IsTrue result ↔ ((Within c no_cost → Contains rows.now (record { set = held; cost = no_cost }))
+        × All (λ row. Within c row.cost → IsSubset asked row.set → ⊥) rows.now) }
+{
+    has_start(rows, held, c) && ends_nowhere(rows, asked, c)
+}
+
 // Whether the table has a row for the names held at the start, if it needs one.
 fn has_start(rows: &[TableRow], held: PropSet, c: Claim) -> bool
     ensures { IsTrue result ↔ (Within c no_cost → Contains rows.now (record { set = held; cost = no_cost })) }
@@ -68,15 +79,14 @@ fn has_start(rows: &[TableRow], held: PropSet, c: Claim) -> bool
         set: held,
         cost: Cost::none(),
     };
-    !is_within(c, start.cost) | rows.contains(&start)
+    !is_within(c, start.cost) || rows.contains(&start)
 }
 
 // Whether no row within the claim holds all asked names.
 fn ends_nowhere(rows: &[TableRow], asked: PropSet, c: Claim) -> bool
     ensures { IsTrue result ↔ All (λ row. Within c row.cost → IsSubset asked row.set → ⊥) rows.now }
 {
-    rows.iter()
-        .all(|row| !(is_within(c, row.cost) & asked.is_subset(row.set)))
+    rows.iter().all(|row| !(is_within(c, row.cost) && asked.is_subset(row.set)))
 }
 
 // Whether the rules that find a needed name lead from each row within the claim on to a row, or out of the claim.
@@ -86,15 +96,17 @@ fn is_closed(
     barred: &[RuleId],
     needed: PropSet,
     rows: &[TableRow],
+    in_order: bool,
     c: Claim,
 ) -> bool
-    requires { length rules.now ≤ most_rules }
+    requires few { length rules.now ≤ most_rules }
+    requires order { IsTrue in_order → AllPairs IsBefore rows.now }
     ensures { IsTrue result ↔ ((id : RuleId) (rule : Rule) → rule_at rules.now id ≡ Some rule → FindsOne names barred.now needed id rule
         → All (GoesOn rows.now c (step_of rule) rule.weight) rows.now) }
 {
     for (i, rule) in rules.iter().enumerate() {
         if rule.finds_one(names, barred, needed, RuleId(i as u16))
-            && !all_go_on(rows, c, rule.step(), rule.weight)
+            && !all_go_on(rows, in_order, c, &rule.step(), rule.weight)
         {
             return false;
         }
@@ -103,30 +115,44 @@ fn is_closed(
 }
 
 // Whether a step of this weight leads from each row on, where it can be made.
-fn all_go_on(rows: &[TableRow], c: Claim, step: Step, weight: Weight) -> bool
-    ensures { IsTrue result ↔ All (GoesOn rows.now c step weight) rows.now }
+fn all_go_on(rows: &[TableRow], in_order: bool, c: Claim, step: &Step, weight: Weight) -> bool
+    requires { IsTrue in_order → AllPairs IsBefore rows.now }
+    ensures { IsTrue result ↔ All (GoesOn rows.now c step.now weight) rows.now }
 {
-    rows.iter().all(|row| goes_on(rows, c, step, weight, *row))
+    for row in rows {
+        if !goes_on(rows, in_order, c, step, weight, *row) {
+            return false;
+        }
+    }
+    true
 }
 
 // The same, from one row.
-fn goes_on(rows: &[TableRow], c: Claim, step: Step, weight: Weight, row: TableRow) -> bool
-    ensures { IsTrue result ↔ GoesOn rows.now c step weight row }
+fn goes_on(
+    rows: &[TableRow],
+    in_order: bool,
+    c: Claim,
+    step: &Step,
+    weight: Weight,
+    row: TableRow,
+) -> bool
+    requires { IsTrue in_order → AllPairs IsBefore rows.now }
+    ensures { IsTrue result ↔ GoesOn rows.now c step.now weight row }
 {
     let TableRow { set, cost } = row;
     let next = set.union(step.targets);
     if leads_on(c, step, row) {
-        ends_claim(c, cost, weight) || has_row(rows, next, cost, weight)
+        ends_claim(c, cost, weight) || has_row(rows, in_order, next, cost, weight)
     } else {
         true
     }
 }
 
 // Whether the row is within the claim and the step can be made from it.
-fn leads_on(c: Claim, step: Step, row: TableRow) -> bool
-    ensures { IsTrue result ↔ (Within c row.cost × IsOpen step row.set) }
+fn leads_on(c: Claim, step: &Step, row: TableRow) -> bool
+    ensures { IsTrue result ↔ (Within c row.cost × IsOpen step.now row.set) }
 {
-    is_within(c, row.cost) & step.is_open(row.set)
+    is_within(c, row.cost) && step.is_open(row.set)
 }
 
 // Whether the cost with the weight is not within the claim.
@@ -140,18 +166,20 @@ fn ends_claim(c: Claim, cost: Cost, weight: Weight) -> bool
 }
 
 // Whether a row with this set costs at most the cost with the weight.
-fn has_row(rows: &[TableRow], set: PropSet, cost: Cost, weight: Weight) -> bool
+fn has_row(rows: &[TableRow], in_order: bool, set: PropSet, cost: Cost, weight: Weight) -> bool
+    requires { IsTrue in_order → AllPairs IsBefore rows.now }
+    ensures { IsTrue result ↔ HasRow rows.now set (plus cost weight) }
+{
+    if in_order {
+        has_row_in_order(rows, set, cost, weight)
+    } else {
+        has_row_in_any_order(rows, set, cost, weight)
+    }
+}
+
+// The same, row by row.
+fn has_row_in_any_order(rows: &[TableRow], set: PropSet, cost: Cost, weight: Weight) -> bool
     ensures { IsTrue result ↔ HasRow rows.now set (plus cost weight) }
 {
     rows.iter().any(|row| row.set == set && is_at_most_sum(row.cost, cost, weight))
-}
-
-// Whether a cost is at most another with a weight. The sums may not fit a cost.
-fn is_at_most_sum(a: Cost, cost: Cost, weight: Weight) -> bool
-    ensures { IsTrue result ↔ IsAtMost a (plus cost weight) }
-{
-    let class = u128::from(cost.class) + u128::from(weight.class);
-    let minor = u128::from(cost.minor) + u128::from(weight.minor);
-    let own = u128::from(a.class);
-    own < class || (own == class && u128::from(a.minor) <= minor)
 }

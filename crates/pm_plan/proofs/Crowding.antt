@@ -10,10 +10,10 @@ use Rattle.std.specs.Cmp.{IsTotalOrder}
 use Rattle.std.specs.Ordering.{eq_by_cmp}
 use Rattle.pm_props.specs.declared.set.PropSet.{PropSet}
 use Rattle.pm_props.specs.declared.kind.RuleId.{RuleId}
-use Rattle.pm_props.specs.declared.weight.Cost.{Cost}
+use Rattle.pm_weights.specs.declared.Cost.{Cost}
 use Rattle.pm_props.specs.Sets.{union, IsSubset}
-use Rattle.pm_props.specs.Weights.{IsWeight, plus, no_cost, IsBelow, IsAtMost}
-use Rattle.pm_props.proofs.CostOrder.{at_most_itself, no_cost_at_most, below_from_at_most, not_below_and_at_most, at_most_or_below}
+use Rattle.pm_weights.specs.Weights.{IsWeight, plus, no_cost, IsBelow, IsAtMost}
+use Rattle.pm_weights.proofs.CostOrder.{at_most_itself, no_cost_at_most, below_from_at_most, not_below_and_at_most, at_most_or_below}
 use Rattle.pm_rules.specs.declared.rule.Rule.{Rule}
 use Rattle.pm_rules.specs.declared.table.TableRow.{TableRow}
 use Rattle.pm_rules.specs.declared.table.Claim.{Claim}
@@ -32,7 +32,8 @@ use Rattle.pm_plan.specs.Tracks.{LinksTo}
 use Rattle.pm_plan.specs.Searches.{place_cmp, place_of, cost_known, link_waiting, HasGoal, Offered, IsExplored, IsFull}
 use Rattle.pm_plan.specs.Plans.{IsBelowChains, IsCrowded}
 use Rattle.pm_plan.proofs.Options.{same_some, some_from, and_parts_of, some_and_from, if_some_at, contains_at, at_contained}
-use Rattle.pm_plan.proofs.Order.{below_trans, both_at_most, below_plus, same_row, before_at_most, before_itself, before_trans, place_exact}
+use Rattle.pm_rules.proofs.RowOrder.{below_trans, both_at_most, same_row, before_at_most, before_itself, before_trans}
+use Rattle.pm_plan.proofs.Order.{below_plus, place_exact}
 use Rattle.pm_plan.proofs.Reaching.{goal_more}
 use Rattle.pm_plan.proofs.Walks.{link_leads, leads_reaches}
 use Rattle.pm_plan.proofs.Reached.{has_row, is_met, Found}

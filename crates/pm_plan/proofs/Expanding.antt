@@ -4,8 +4,8 @@ use Rattle.std.specs.Prelude.{slice_get}
 use Rattle.std.proofs.lemmas.Bool.{cases_lt}
 use Rattle.std.proofs.lemmas.List.Elements.{All-contains}
 use Rattle.pm_props.specs.declared.set.PropSet.{PropSet}
-use Rattle.pm_props.specs.Weights.{IsWeight, plus}
-use Rattle.pm_props.proofs.CostOrder.{below_from_at_most}
+use Rattle.pm_weights.specs.Weights.{IsWeight, plus}
+use Rattle.pm_weights.proofs.CostOrder.{below_from_at_most}
 use Rattle.pm_rules.specs.declared.table.TableRow.{TableRow}
 use Rattle.pm_rules.specs.Steps.{IsOpen}
 use Rattle.pm_plan.specs.declared.moves.Move.{Move}

@@ -5,10 +5,10 @@ use Rattle.std.proofs.lemmas.List.{length-append}
 use Rattle.std.proofs.lemmas.List.Elements.{All-contains, Contains-push_cases}
 use Rattle.std.proofs.lemmas.Option.{slice_get-get_or, slice_get_within}
 use Rattle.pm_props.specs.declared.set.PropSet.{PropSet}
-use Rattle.pm_props.specs.declared.weight.Cost.{Cost}
+use Rattle.pm_weights.specs.declared.Cost.{Cost}
 use Rattle.pm_props.specs.Sets.{IsSubset}
-use Rattle.pm_props.specs.Weights.{IsWeight, most, IsAtMost}
-use Rattle.pm_props.proofs.CostOrder.{at_most_itself}
+use Rattle.pm_weights.specs.Weights.{IsWeight, most, IsAtMost}
+use Rattle.pm_weights.proofs.CostOrder.{at_most_itself}
 use Rattle.pm_rules.specs.declared.table.TableRow.{TableRow}
 use Rattle.pm_rules.specs.Steps.{IsOpen}
 use Rattle.pm_rules.specs.Certificates.{IsBefore}
@@ -19,7 +19,7 @@ use Rattle.pm_plan.specs.Moves.{after}
 use Rattle.pm_plan.specs.Tracks.{LinksTo, AreLinked}
 use Rattle.pm_plan.specs.Searches.{cost_known, link_waiting, HasGoal, Offered, IsSound, IsNext, Settles, Offers, Expands, IsEmpty, IsExplored, most_rows}
 use Rattle.pm_plan.proofs.Options.{none_is_not, some_from, if_some_at, if_some_from, get_pushed, get_taken, at_contained}
-use Rattle.pm_plan.proofs.Order.{before_at_most}
+use Rattle.pm_rules.proofs.RowOrder.{before_at_most}
 use Rattle.pm_plan.proofs.Settling.{settled_sound, settled_offered}
 
 -- ---- the start

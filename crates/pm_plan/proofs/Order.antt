@@ -1,38 +1,20 @@
--- The order of rows: by cost, and then by the set as a number.
-use Rattle.std.proofs.Common.{◌≡◌, ℕ, ◌<◌, false, ◌⊎◌, inl, inr, refl, sym, ap, ap₂, ◌∙◌, subst, arith}
+-- Places of sets: what is not above a row. Costs and rows are equal or not.
+use Rattle.std.proofs.Common.{◌≡◌, ℕ, ◌<◌, false, ◌⊎◌, inl, inr, refl, sym, ap, ap₂, arith}
 use Rattle.std.specs.declared.cmp.Ordering.{Ordering}
 use Rattle.std.specs.declared.cmp.Ordering.TheVariants.{Less, Equal, Greater}
 use Rattle.std.specs.Ordering.{nat_cmp, ordering_then, is_gt, MatchOrdering}
 use Rattle.std.proofs.lemmas.Bool.{cases_eq}
 use Rattle.std.proofs.lemmas.Cmp.{ranked}
-use Rattle.pm_props.specs.declared.weight.Weight.{Weight}
-use Rattle.pm_props.specs.declared.weight.Cost.{Cost}
-use Rattle.pm_props.specs.Weights.{IsWeight, plus, IsBelow, IsAtMost}
-use Rattle.pm_props.proofs.CostOrder.{at_most_from_below, not_below_and_at_most, at_most_itself}
+use Rattle.pm_weights.specs.declared.Weight.{Weight}
+use Rattle.pm_weights.specs.declared.Cost.{Cost}
+use Rattle.pm_weights.specs.Weights.{IsWeight, plus, IsBelow}
 use Rattle.pm_rules.specs.declared.table.TableRow.{TableRow}
 use Rattle.pm_rules.specs.Certificates.{IsBefore}
+use Rattle.pm_rules.proofs.RowOrder.{same_cost, same_row}
 use Rattle.pm_plan.specs.declared.search.Place.{Place}
 use Rattle.pm_plan.specs.Searches.{place_cmp, place_of}
 
 -- ---- costs
-pub below_itself : (a : Cost) → IsBelow a a → ⊥
-below_itself a h = not_below_and_at_most a a h (at_most_itself a)
-
-pub below_trans : (a b c : Cost) → IsBelow a b → IsAtMost b c → IsBelow a c
-below_trans a b c (inl h) (inl k) = inl (omega arith)
-below_trans a b c (inl h) (inr k) = inl (omega arith)
-below_trans a b c (inr h) (inl k) = inl (omega arith)
-below_trans a b c (inr h) (inr k) = inr (omega arith, omega arith)
-
-pub same_cost : (a b : Cost) → a.class ≡ b.class → a.minor ≡ b.minor → a ≡ b
-same_cost a b e f = ap₂ (λ (n m : ℕ). record { class = n; minor = m }) e f
-
-pub both_at_most : (a b : Cost) → IsAtMost a b → IsAtMost b a → a ≡ b
-both_at_most a b (inl h) (inl k) = absurd (omega arith)
-both_at_most a b (inl h) (inr k) = absurd (omega arith)
-both_at_most a b (inr h) (inl k) = absurd (omega arith)
-both_at_most a b (inr h) (inr k) = same_cost a b h.0 (omega arith)
-
 pub below_plus : (c : Cost) (w : Weight) → IsWeight w → IsBelow c (plus c w)
 below_plus c w h = elim (cases_eq w.class 0) [
   | inl e ↦ inr (omega arith, omega (arith, h.some))
@@ -49,9 +31,6 @@ same_or_not a b = elim (cases_eq a.class b.class) [
 ]
 
 -- ---- rows
-pub same_row : (a b : TableRow) → a.set ≡ b.set → a.cost ≡ b.cost → a ≡ b
-same_row a b e f = ap₂ (λ (s : ℕ) (c : Cost). record { set = s; cost = c }) e f
-
 pub row_or_not : (a b : TableRow) → (a ≡ b) ⊎ (a ≡ b → ⊥)
 row_or_not a b = elim (cases_eq a.set b.set) [
   | inl e ↦ elim (same_or_not a.cost b.cost) [
@@ -60,19 +39,6 @@ row_or_not a b = elim (cases_eq a.set b.set) [
   ]
   | inr n ↦ inr (λ same. n (ap (λ (r : TableRow). r.set) same))
 ]
-
-pub before_at_most : (a b : TableRow) → IsBefore a b → IsAtMost a.cost b.cost
-before_at_most a b (inl h) = at_most_from_below a.cost b.cost h
-before_at_most a b (inr h) = inr (ap (λ (c : Cost). c.class) h.0, (let e = ap (λ (c : Cost). c.minor) h.0 in omega arith))
-
-pub before_itself : (a b : TableRow) → a ≡ b → IsBefore a b → ⊥
-before_itself a b e (inl h) = below_itself b.cost (subst (λ (r : TableRow). IsBelow r.cost b.cost) e h)
-before_itself a b e (inr h) = let same = ap (λ (r : TableRow). r.set) e in omega (arith, h.1)
-
-pub before_trans : (a b c : TableRow) → IsBefore a b → IsBefore b c → IsBefore a c
-before_trans a b c (inl h) k = inl (below_trans a.cost b.cost c.cost h (before_at_most b c k))
-before_trans a b c (inr h) (inl k) = inl (subst (λ (x : Cost). IsBelow x c.cost) (sym h.0) k)
-before_trans a b c (inr h) (inr k) = inr (h.0 ∙ k.0, omega arith)
 
 -- ---- places
 then_equal : (a b : Ordering) → ordering_then a b ≡ Equal → (a ≡ Equal) × (b ≡ Equal)

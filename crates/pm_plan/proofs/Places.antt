@@ -6,13 +6,14 @@ use Rattle.std.specs.Ordering.{nat_cmp, is_eq}
 use Rattle.std.specs.BTreeMap.{BTreeMap, get, is_at, UpdatesBy}
 use Rattle.std.proofs.lemmas.Bool.{false_from_ne_true}
 use Rattle.std.proofs.lemmas.Map.Lookups.{exact_unsigned}
-use Rattle.pm_props.specs.declared.weight.Cost.{Cost}
+use Rattle.pm_weights.specs.declared.Cost.{Cost}
 use Rattle.pm_rules.specs.declared.table.TableRow.{TableRow}
 use Rattle.pm_plan.specs.declared.track.Link.{Link}
 use Rattle.pm_plan.specs.declared.search.Place.{Place}
 use Rattle.pm_plan.specs.Searches.{place_cmp, place_of, Waits}
 use Rattle.pm_plan.proofs.Options.{same_some, none_is_not}
-use Rattle.pm_plan.proofs.Order.{same_row, same_or_not, place_exact}
+use Rattle.pm_rules.proofs.RowOrder.{same_row}
+use Rattle.pm_plan.proofs.Order.{same_or_not, place_exact}
 
 is_equal : (o : Ordering) → is_eq o ≡ true → o ≡ Equal
 is_equal Less e = cc

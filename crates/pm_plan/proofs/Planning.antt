@@ -4,10 +4,10 @@ use Rattle.std.specs.Prelude.{slice_index_or}
 use Rattle.std.proofs.lemmas.List.Elements.{All-contains, Contains-get_or}
 use Rattle.pm_props.specs.declared.set.PropSet.{PropSet}
 use Rattle.pm_props.specs.declared.kind.RuleId.{RuleId}
-use Rattle.pm_props.specs.declared.weight.Cost.{Cost}
+use Rattle.pm_weights.specs.declared.Cost.{Cost}
 use Rattle.pm_props.specs.Sets.{IsSubset}
-use Rattle.pm_props.specs.Weights.{IsWeight, no_cost, IsBelow, IsAtMost}
-use Rattle.pm_props.proofs.CostOrder.{no_cost_at_most, at_most_from_below, not_below_and_at_most}
+use Rattle.pm_weights.specs.Weights.{IsWeight, no_cost, IsBelow, IsAtMost}
+use Rattle.pm_weights.proofs.CostOrder.{no_cost_at_most, at_most_from_below, not_below_and_at_most}
 use Rattle.pm_rules.specs.declared.rule.Rule.{Rule}
 use Rattle.pm_rules.specs.declared.table.TableRow.{TableRow}
 use Rattle.pm_rules.specs.declared.table.Claim.{Claim}
@@ -24,7 +24,7 @@ use Rattle.pm_plan.specs.Tracks.{LinksTo, GoesBack, IsTrack}
 use Rattle.pm_plan.specs.Searches.{cost_known, HasGoal, Offered, IsExplored, IsDone}
 use Rattle.pm_plan.specs.Plans.{IsPlan, HasNoPlan}
 use Rattle.pm_plan.proofs.Options.{same_some, some_from, and_parts_of, if_some_at, contains_at, at_contained}
-use Rattle.pm_plan.proofs.Order.{both_at_most, same_row, before_itself}
+use Rattle.pm_rules.proofs.RowOrder.{both_at_most, same_row, before_itself}
 use Rattle.pm_plan.proofs.Reaching.{goal_more}
 use Rattle.pm_plan.proofs.Walks.{row_leads, goes_back, track_leads, reaches_leads, leads_reaches}
 use Rattle.pm_plan.proofs.Reached.{has_row, is_met, found, Found, WaitsFor}

@@ -2,10 +2,10 @@
 use Rattle.std.proofs.Common.{◌≡◌, List, [], ◌∷◌, ◌⊎◌, inl, inr, refl, sym, ap, subst, All, Contains, IsSome}
 use Rattle.pm_props.specs.declared.set.PropSet.{PropSet}
 use Rattle.pm_props.specs.declared.kind.RuleId.{RuleId}
-use Rattle.pm_props.specs.declared.weight.Cost.{Cost}
+use Rattle.pm_weights.specs.declared.Cost.{Cost}
 use Rattle.pm_props.specs.Sets.{union}
-use Rattle.pm_props.specs.Weights.{IsWeight, plus, IsBelow, IsAtMost}
-use Rattle.pm_props.proofs.CostOrder.{at_most_trans, at_most_from_below, below_from_at_most, plus-at_most}
+use Rattle.pm_weights.specs.Weights.{IsWeight, plus, IsBelow, IsAtMost}
+use Rattle.pm_weights.proofs.CostOrder.{at_most_trans, at_most_from_below, below_from_at_most, plus-at_most}
 use Rattle.pm_rules.specs.declared.table.TableRow.{TableRow}
 use Rattle.pm_rules.specs.Steps.{IsOpen}
 use Rattle.pm_rules.specs.Certificates.{HasRow}
@@ -15,7 +15,7 @@ use Rattle.pm_plan.specs.Moves.{after}
 use Rattle.pm_plan.specs.Tracks.{Leads}
 use Rattle.pm_plan.specs.Searches.{cost_known, link_waiting, HasGoal, IsKnown, Offered, IsSound, IsClosed}
 use Rattle.pm_plan.proofs.Options.{and_parts_of, some_and_from}
-use Rattle.pm_plan.proofs.Order.{below_trans, same_row}
+use Rattle.pm_rules.proofs.RowOrder.{below_trans, same_row}
 use Rattle.pm_plan.proofs.Reaching.{goal_more}
 use Rattle.pm_plan.proofs.Walks.{makes_dearer, leads_dearer}
 

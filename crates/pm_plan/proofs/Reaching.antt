@@ -1,15 +1,15 @@
 -- What is reached from the start is met in order.
 use Rattle.std.proofs.Common.{◌≡◌, ◌⊎◌, inl, inr, subst}
-use Rattle.pm_props.specs.declared.weight.Cost.{Cost}
-use Rattle.pm_props.specs.Weights.{IsAtMost}
-use Rattle.pm_props.proofs.CostOrder.{at_most_trans}
+use Rattle.pm_weights.specs.declared.Cost.{Cost}
+use Rattle.pm_weights.specs.Weights.{IsAtMost}
+use Rattle.pm_weights.proofs.CostOrder.{at_most_trans}
 use Rattle.pm_rules.specs.declared.table.TableRow.{TableRow}
 use Rattle.pm_rules.specs.Certificates.{IsBefore}
 use Rattle.pm_plan.specs.declared.search.Goal.{Goal}
 use Rattle.pm_plan.specs.declared.search.Search.{Search}
 use Rattle.pm_plan.specs.Searches.{HasGoal}
 use Rattle.pm_plan.proofs.Options.{and_parts_of, some_and_from}
-use Rattle.pm_plan.proofs.Order.{before_at_most}
+use Rattle.pm_rules.proofs.RowOrder.{before_at_most}
 
 pub goal_more : (s : Search) (a b : Cost) → HasGoal s a → IsAtMost a b → HasGoal s b
 goal_more s a b h k =

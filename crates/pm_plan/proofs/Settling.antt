@@ -7,10 +7,10 @@ use Rattle.std.proofs.lemmas.List.Elements.{Contains-append_left, Contains-push,
 use Rattle.std.proofs.lemmas.List.Quantifiers.{all_pairs_push}
 use Rattle.std.proofs.lemmas.Option.{slice_get_within}
 use Rattle.pm_props.specs.declared.set.PropSet.{PropSet}
-use Rattle.pm_props.specs.declared.weight.Cost.{Cost}
+use Rattle.pm_weights.specs.declared.Cost.{Cost}
 use Rattle.pm_props.specs.Sets.{IsSubset}
-use Rattle.pm_props.specs.Weights.{IsBelow, IsAtMost}
-use Rattle.pm_props.proofs.CostOrder.{at_most_itself, at_most_trans, at_most_from_below, at_most_or_below}
+use Rattle.pm_weights.specs.Weights.{IsBelow, IsAtMost}
+use Rattle.pm_weights.proofs.CostOrder.{at_most_itself, at_most_trans, at_most_from_below, at_most_or_below}
 use Rattle.pm_rules.specs.declared.table.TableRow.{TableRow}
 use Rattle.pm_rules.specs.Certificates.{IsBefore}
 use Rattle.pm_plan.specs.declared.moves.Move.{Move}
@@ -20,7 +20,8 @@ use Rattle.pm_plan.specs.declared.search.Search.{Search}
 use Rattle.pm_plan.specs.Tracks.{LinksTo, AreLinked}
 use Rattle.pm_plan.specs.Searches.{cost_known, link_waiting, HasGoal, IsKnown, Offered, IsSound, IsNext, Settles, Renews, Offers}
 use Rattle.pm_plan.proofs.Options.{same_some, none_is_not, some_from, and_parts_of, some_and_from, if_some_at, if_some_from, get_front, get_pushed, get_more}
-use Rattle.pm_plan.proofs.Order.{same_row, row_or_not}
+use Rattle.pm_rules.proofs.RowOrder.{same_row}
+use Rattle.pm_plan.proofs.Order.{row_or_not}
 
 -- ---- links
 pub links_more : (moves : List Move) (start : TableRow) (rows more : List TableRow) (link : Option Link) (row : TableRow)

@@ -6,11 +6,11 @@ use Rattle.std.proofs.lemmas.List.Sums.{sum_by-cons}
 use Rattle.std.proofs.lemmas.Option.{slice_get-get_or, slice_get_within}
 use Rattle.pm_props.specs.declared.set.PropSet.{PropSet}
 use Rattle.pm_props.specs.declared.kind.RuleId.{RuleId}
-use Rattle.pm_props.specs.declared.weight.Weight.{Weight}
-use Rattle.pm_props.specs.declared.weight.Cost.{Cost}
+use Rattle.pm_weights.specs.declared.Weight.{Weight}
+use Rattle.pm_weights.specs.declared.Cost.{Cost}
 use Rattle.pm_props.specs.Sets.{union}
-use Rattle.pm_props.specs.Weights.{IsWeight, plus, no_cost, IsBelow, IsAtMost}
-use Rattle.pm_props.proofs.CostOrder.{at_most_itself, at_most_from_below, at_most_trans}
+use Rattle.pm_weights.specs.Weights.{IsWeight, plus, no_cost, IsBelow, IsAtMost}
+use Rattle.pm_weights.proofs.CostOrder.{at_most_itself, at_most_from_below, at_most_trans}
 use Rattle.pm_rules.specs.declared.rule.Rule.{Rule}
 use Rattle.pm_rules.specs.declared.step.Step.{Step}
 use Rattle.pm_rules.specs.declared.table.TableRow.{TableRow}
@@ -26,7 +26,8 @@ use Rattle.pm_plan.specs.Moves.{move_of, after, IsMove, AreMoves}
 use Rattle.pm_plan.specs.Tracks.{Makes, LinksTo, AreLinked, Leads, GoesBack, IsTrack}
 use Rattle.pm_plan.specs.Tracks.IsTrack.{begun, onward}
 use Rattle.pm_plan.proofs.Options.{same_some, if_some_from, get_taken, get_in_front}
-use Rattle.pm_plan.proofs.Order.{same_cost, same_row, below_plus}
+use Rattle.pm_rules.proofs.RowOrder.{same_cost, same_row}
+use Rattle.pm_plan.proofs.Order.{below_plus}
 
 -- ---- one step more
 pub leads_snoc : (moves : List Move) (row mid end : TableRow) (chain : List RuleId) (id : RuleId) → Leads moves row chain mid → Makes moves id mid end → Leads moves row (chain ++ id ∷ []) end

@@ -1,7 +1,7 @@
 // The planner.
 
 ghost use Rattle.std.specs.Prelude.{◌≤◌, IfOk, IfErr, All, length};
-ghost use Rattle.pm_props.specs.Weights.{IsWeight};
+ghost use Rattle.pm_weights.specs.Weights.{IsWeight};
 ghost use Rattle.pm_rules.specs.Books.{most_rules};
 ghost use Rattle.pm_plan.specs.Plans.{IsPlan, SaysWhy};
 

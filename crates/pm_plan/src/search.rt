@@ -1,7 +1,7 @@
 // The search for a least chain: sets of names in order of cost and then of the set as a number.
 
 ghost use Rattle.std.specs.Prelude.{◌≡◌, ◌+◌, ◌^◌, ◌<◌, ◌↔◌, [], None, IsTrue, false, IsSome, IfSome, IfNone, IfOk, OnOk, All, length};
-ghost use Rattle.pm_props.specs.Weights.{IsWeight, no_cost};
+ghost use Rattle.pm_weights.specs.Weights.{IsWeight, no_cost};
 ghost use Rattle.pm_plan.specs.Searches.{HasGoal, IsKnown, IsNext, Settles, Waits, Renews, Offers, Expands, IsExplored, IsDone, IsFull, IsEmpty, link_waiting};
 
 use crate::moves::Move;

@@ -6,10 +6,10 @@ use Rattle.pm_props.specs.declared.property.PropId.{PropId}
 use Rattle.pm_props.specs.declared.set.PropSet.{PropSet}
 use Rattle.pm_props.specs.declared.kind.RuleId.{RuleId}
 use Rattle.pm_props.specs.Sets.{has, union, IsSubset}
-use Rattle.pm_props.specs.Weights.{IsAtMost}
+use Rattle.pm_weights.specs.Weights.{IsAtMost}
 use Rattle.pm_props.specs.Properties.{rays_tag, facets_tag, generators_tag, half_spaces_tag}
 use Rattle.pm_props.proofs.Members.{has-union}
-use Rattle.pm_props.proofs.CostOrder.{at_most_from_parts}
+use Rattle.pm_weights.proofs.CostOrder.{at_most_from_parts}
 use Rattle.pm_rules.specs.declared.rule.Rule.{Rule}
 use Rattle.pm_rules.specs.Rules.{rule_at, IsFree, IsEnabled}
 use Rattle.pm_rules.specs.Chains.{IsChain, targets_at, weight_at, reached, weigh, LeadsTo, Needed, IsUseful, IsUsefulPart}

@@ -1,5 +1,7 @@
 pub mod Followed
+pub mod Labels
 pub mod NeededNames
 pub mod Opens
 pub mod Refutes
+pub mod RowOrder
 pub mod Standard

@@ -23,20 +23,13 @@ some_common s t inter is not =
     let both = and_parts (has s found.0) (has t found.0) (sym (is found.0) ∙ found.1) in
     (found.0, both.0, both.1)
 
-pub finds_exactly : (names : PropSet) (barred : List RuleId) (set : PropSet) (id : RuleId) (rule : Rule) (inter : PropSet) (a b c : Bool) → IsTrue a ↔ IsInUse names rule
-    → b ≡ is_barred barred id → ((p : PropId) → has inter p ≡ (has rule.kind.targets p && has set p)) → IsTrue c ↔ ((p : PropId) → has inter p ≡ false)
-    → IsTrue ((a && not b) && not c) ↔ FindsOne names barred set id rule
-finds_exactly names barred set id rule inter a b c is_a is_b is_inter is_c = (
-  (λ h.
-      let parts = and_parts (a && not b) (not c) h in
-      let both = and_parts a (not b) parts.0 in
-      record {
-        in_use = is_a.0 both.0;
-        allowed = sym is_b ∙ not-true b both.1;
-        target = some_common rule.kind.targets set inter is_inter (iff_false is_c (not-true c parts.1));
-      }),
-  (λ h. and_from (a && not b) (not c) (and_from a (not b) (is_a.1 h.in_use) (not_from_false b (is_b ∙ h.allowed)))
-      (not_from_false c (false_from_ne_true c (λ e. both_ways (has inter h.target.0) (is_c.0 e h.target.0) (is_inter h.target.0 ∙ and_from (has rule.kind.targets h.target.0) (has set h.target.0) h.target.1 h.target.2))))),
+-- what is tested last says whether the rule finds one of the set, where it is in use and not barred
+pub finds_exactly : (names : PropSet) (barred : List RuleId) (set : PropSet) (id : RuleId) (rule : Rule) (inter : PropSet) (c : Bool) → IsInUse names rule → is_barred barred id ≡ false
+    → ((p : PropId) → has inter p ≡ (has rule.kind.targets p && has set p)) → IsTrue c ↔ ((p : PropId) → has inter p ≡ false) → IsTrue (not c) ↔ FindsOne names barred set id rule
+finds_exactly names barred set id rule inter c used allowed is_inter is_c = (
+  (λ h. record { in_use = used; allowed = allowed; target = some_common rule.kind.targets set inter is_inter (iff_false is_c (not-true c h)) }),
+  (λ h. not_from_false c (false_from_ne_true c (λ e.
+      both_ways (has inter h.target.0) (is_c.0 e h.target.0) (is_inter h.target.0 ∙ and_from (has rule.kind.targets h.target.0) (has set h.target.0) h.target.1 h.target.2)))),
 )
 
 -- ---- one pass over the rules

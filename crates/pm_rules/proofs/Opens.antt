@@ -14,7 +14,7 @@ use Rattle.pm_rules.specs.declared.step.Tag.{Tag}
 use Rattle.pm_rules.specs.declared.step.Tag.TheVariants.{Rays, Facets, Generators, HalfSpaces}
 use Rattle.pm_rules.specs.declared.step.Step.{Step}
 use Rattle.pm_rules.specs.Rules.{names_of_rule, is_barred, EachTag, IsFree, IsInUse, IsEnabled}
-use Rattle.pm_rules.specs.Steps.{tag_test, some_has, some_program, is_fresh, is_fresh_somewhere, blocks, blocked, step_of, IsOpen}
+use Rattle.pm_rules.specs.Steps.{tag_test, some_has, some_program, is_fresh, is_fresh_somewhere, blocks, blocked, step_of, IsReady, IsOpen}
 
 -- ---- fresh tags
 fresh_from_test : (tag : Tag) (kind : Kind) → IsTrue (is_fresh tag kind) → IsFresh (tag_test tag) kind
@@ -62,45 +62,49 @@ test_none_fresh kind h =
     (or_from (is_fresh Rays kind) (is_fresh Facets kind) (test_not_fresh Rays kind h.0) (test_not_fresh Facets kind h.1)) (test_not_fresh Generators kind h.2))
     (test_not_fresh HalfSpaces kind h.3)
 
-pub in_use_exactly : (names : PropSet) (rule : Rule) (a b c : Bool) → IsTrue a ↔ IsSubset (names_of_rule rule) names → b ≡ some_program (names_of rule.kind)
-    → c ≡ is_fresh_somewhere rule.kind → IsTrue (a && not (b && c)) ↔ IsInUse names rule
+-- what is tested last says whether the rule is in use, where its names are among these
+pub in_use_exactly : (names : PropSet) (rule : Rule) (c : Bool) → IsSubset (names_of_rule rule) names → c ≡ (some_program (names_of rule.kind) && is_fresh_somewhere rule.kind)
+    → IsTrue (not c) ↔ IsInUse names rule
 unfolding some_program
-in_use_exactly names rule a b c is_a is_b is_c = (
-  (λ h. let both = and_parts a (not (b && c)) h in record {
-    known = is_a.0 both.0;
-    programs = λ p k q. elim (and_cases b c (not-true (b && c) both.1)) [
-      | inl e ↦ absurd (both_ways b e (is_b ∙ (any_property (λ r. has (names_of rule.kind) r && has_program r)).1 (p, and_from (has (names_of rule.kind) p) (has_program p) k q)))
-      | inr e ↦ none_fresh_from_test rule.kind (sym is_c ∙ e)
+in_use_exactly names rule c known is_c = (
+  (λ h. record {
+    known = known;
+    programs = λ p k q. elim (and_cases (some_program (names_of rule.kind)) (is_fresh_somewhere rule.kind) (sym is_c ∙ not-true c h)) [
+      | inl e ↦ absurd (both_ways (some_program (names_of rule.kind)) e
+          ((any_property (λ r. has (names_of rule.kind) r && has_program r)).1 (p, and_from (has (names_of rule.kind) p) (has_program p) k q)))
+      | inr e ↦ none_fresh_from_test rule.kind e
     ];
   }),
-  (λ h. and_from a (not (b && c)) (is_a.1 h.known) (not_from_false (b && c) (false_from_ne_true (b && c) (λ e.
-      let both = and_parts b c e in
-      let found = (any_property (λ r. has (names_of rule.kind) r && has_program r)).0 (sym is_b ∙ both.0) in
+  (λ h. not_from_false c (false_from_ne_true c (λ e.
+      let both = and_parts (some_program (names_of rule.kind)) (is_fresh_somewhere rule.kind) (sym is_c ∙ e) in
+      let found = (any_property (λ r. has (names_of rule.kind) r && has_program r)).0 both.0 in
       let parts = and_parts (has (names_of rule.kind) found.0) (has_program found.0) found.1 in
-      both_ways c (is_c ∙ test_none_fresh rule.kind (h.programs found.0 parts.0 parts.1)) both.1)))),
+      both_ways (is_fresh_somewhere rule.kind) (test_none_fresh rule.kind (h.programs found.0 parts.0 parts.1)) both.1))),
 )
 
 -- ---- open
-pub open_exactly : (step : Step) (held inter : PropSet) (a b c : Bool) → IsTrue a ↔ IsSubset step.inputs held → ((p : PropId) → has inter p ≡ (has step.blocked p && has held p))
-    → IsTrue b ↔ ((p : PropId) → has inter p ≡ false) → IsTrue c ↔ IsSubset step.targets held → IsTrue ((a && b) && not c) ↔ IsOpen step held
-open_exactly step held inter a b c is_a is_inter is_b is_c = (
-  (λ h.
-      let parts = and_parts (a && b) (not c) h in
-      let both = and_parts a b parts.0 in
-      record {
-        given = is_a.0 both.0;
-        free = λ p k. elim (and_cases (has step.blocked p) (has held p) (sym (is_inter p) ∙ is_b.0 both.1 p)) [
-          | inl e ↦ e
-          | inr e ↦ absurd (both_ways (has held p) e k)
-        ];
-        more = one_missing step.targets held (iff_false is_c (not-true c parts.1));
-      }),
-  (λ h. and_from (a && b) (not c)
-      (and_from a b (is_a.1 h.given) (is_b.1 (λ p. is_inter p ∙ (elim (cases_Bool (has held p)) [
-        | inl e ↦ and_left (has step.blocked p) (has held p) (h.free p e)
-        | inr e ↦ and_right (has step.blocked p) (has held p) e
-      ]))))
-      (not_from_false c (false_from_ne_true c (λ e. both_ways (has held h.more.0) h.more.2 (is_c.0 e h.more.0 h.more.1))))),
+-- what is tested last says whether all is ready, where what is read is held
+pub ready_exactly : (step : Step) (held inter : PropSet) (b : Bool) → IsSubset step.inputs held → ((p : PropId) → has inter p ≡ (has step.blocked p && has held p))
+    → IsTrue b ↔ ((p : PropId) → has inter p ≡ false) → IsTrue b ↔ IsReady step held
+ready_exactly step held inter b given is_inter is_b = (
+  (λ h. record {
+    given = given;
+    free = λ p k. elim (and_cases (has step.blocked p) (has held p) (sym (is_inter p) ∙ is_b.0 h p)) [
+      | inl e ↦ e
+      | inr e ↦ absurd (both_ways (has held p) e k)
+    ];
+  }),
+  (λ h. is_b.1 (λ p. is_inter p ∙ (elim (cases_Bool (has held p)) [
+    | inl e ↦ and_left (has step.blocked p) (has held p) (h.free p e)
+    | inr e ↦ and_right (has step.blocked p) (has held p) e
+  ]))),
+)
+
+-- what is tested last says whether the step can be made, where all is ready
+pub open_exactly : (step : Step) (held : PropSet) (c : Bool) → IsReady step held → IsTrue c ↔ IsSubset step.targets held → IsTrue (not c) ↔ IsOpen step held
+open_exactly step held c ready is_c = (
+  (λ h. record { given = ready.given; free = ready.free; more = one_missing step.targets held (iff_false is_c (not-true c h)) }),
+  (λ h. not_from_false c (false_from_ne_true c (λ e. both_ways (has held h.more.0) h.more.2 (is_c.0 e h.more.0 h.more.1)))),
 )
 
 -- ---- enabled
@@ -151,12 +155,9 @@ pub open_from_enabled : (names : PropSet) (barred : List RuleId) (held : PropSet
 open_from_enabled names barred held id rule h =
     record { given = h.given; free = blocked_from_free rule.kind held h.fresh; more = h.more }
 
-pub enabled_exactly : (names : PropSet) (barred : List RuleId) (held : PropSet) (id : RuleId) (rule : Rule) (a b c : Bool) → IsTrue a ↔ IsInUse names rule
-    → b ≡ is_barred barred id → IsTrue c ↔ IsOpen (step_of rule) held → IsTrue ((a && not b) && c) ↔ IsEnabled names barred held id rule
-enabled_exactly names barred held id rule a b c is_a is_b is_c = (
-  (λ h.
-      let parts = and_parts (a && not b) c h in
-      let both = and_parts a (not b) parts.0 in
-      enabled_from_open names barred held id rule (is_a.0 both.0) (sym is_b ∙ not-true b both.1) (is_c.0 parts.1)),
-  (λ h. and_from (a && not b) c (and_from a (not b) (is_a.1 h.in_use) (not_from_false b (is_b ∙ h.allowed))) (is_c.1 (open_from_enabled names barred held id rule h))),
+pub enabled_exactly : (names : PropSet) (barred : List RuleId) (held : PropSet) (id : RuleId) (rule : Rule) (c : Bool) → IsInUse names rule → is_barred barred id ≡ false
+    → IsTrue c ↔ IsOpen (step_of rule) held → IsTrue c ↔ IsEnabled names barred held id rule
+enabled_exactly names barred held id rule c used allowed is_c = (
+  (λ h. enabled_from_open names barred held id rule used allowed (is_c.0 h)),
+  (λ h. is_c.1 (open_from_enabled names barred held id rule h)),
 )

@@ -4,11 +4,11 @@ use Rattle.std.proofs.lemmas.List.Elements.{All-contains}
 use Rattle.std.proofs.lemmas.List.Sums.{sum_by-cons}
 use Rattle.pm_props.specs.declared.set.PropSet.{PropSet}
 use Rattle.pm_props.specs.declared.kind.RuleId.{RuleId}
-use Rattle.pm_props.specs.declared.weight.Weight.{Weight}
-use Rattle.pm_props.specs.declared.weight.Cost.{Cost}
+use Rattle.pm_weights.specs.declared.Weight.{Weight}
+use Rattle.pm_weights.specs.declared.Cost.{Cost}
 use Rattle.pm_props.specs.Sets.{union, IsSubset}
-use Rattle.pm_props.specs.Weights.{no_cost, plus, IsAtMost}
-use Rattle.pm_props.proofs.CostOrder.{at_most_itself, no_cost_at_most, at_most_from_parts, at_most_trans, below_from_at_most, not_below_and_at_most, at_most_or_below, plus-at_most}
+use Rattle.pm_weights.specs.Weights.{no_cost, plus, IsAtMost}
+use Rattle.pm_weights.proofs.CostOrder.{at_most_itself, no_cost_at_most, at_most_from_parts, at_most_trans, below_from_at_most, not_below_and_at_most, at_most_or_below, plus-at_most}
 use Rattle.pm_rules.specs.declared.rule.Rule.{Rule}
 use Rattle.pm_rules.specs.declared.table.TableRow.{TableRow}
 use Rattle.pm_rules.specs.declared.table.Claim.{Claim}

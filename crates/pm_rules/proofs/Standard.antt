@@ -1,5 +1,5 @@
 -- The standard book is a book.
-use Rattle.std.proofs.Common.{◌≡◌, ◌≢◌, ℕ, ◌^◌, ◌<◌, Bool, true, false, not, ◌&&◌, ◌||◌, eqb, leb, ltb, IsTrue, List, [], ◌∷◌, length, refl, ap, arith, lit≤}
+use Rattle.std.proofs.Common.{◌≡◌, ◌≢◌, ℕ, ◌^◌, ◌<◌, Bool, true, false, not, ◌&&◌, ◌||◌, eqb, leb, ltb, List, [], ◌∷◌, refl, ap, arith, lit≤}
 use Rattle.std.specs.List.{list_all, AllPairs}
 use Rattle.std.specs.Prelude.{Option, None, Some, find}
 use Rattle.std.specs.Str.{bytes_eq}
@@ -12,7 +12,7 @@ use Rattle.pm_props.proofs.Every.{all_properties}
 use Rattle.pm_props.specs.Kinds.{built_clients, conditions_of, standard_kind, standard_kinds_list, standard_row}
 use Rattle.pm_props.specs.Properties.{count, every_property, is_of_truth_values, value_kind}
 use Rattle.pm_props.specs.Sets.{has, only, union, intersection}
-use Rattle.pm_props.specs.Weights.{most}
+use Rattle.pm_weights.specs.Weights.{most}
 use Rattle.pm_props.specs.declared.kind.Kind.{Kind}
 use Rattle.pm_props.specs.declared.property.PropId.{PropId}
 use Rattle.pm_props.specs.declared.property.ValueKind.{ValueKind}
@@ -20,8 +20,9 @@ use Rattle.pm_props.specs.declared.property.ValueKind.TheVariants as value
 use Rattle.pm_props.specs.declared.standard.StandardClient.{StandardClient}
 use Rattle.pm_props.specs.declared.standard.StandardRule.{StandardRule}
 use Rattle.pm_rules.specs.declared.rule.Rule.{Rule}
-use Rattle.pm_rules.specs.Words.{is_word, is_label, precondition_word}
+use Rattle.pm_rules.specs.Words.{is_label}
 use Rattle.pm_rules.specs.Books.{FirstKinds, IsNamed, IsRule, IsBook, rule_of, standard_rule, standard_rules}
+use Rattle.pm_rules.proofs.Labels.{label_is_word}
 
 -- ---- each rule
 abbrev is_named : ℕ → Bool
@@ -64,9 +65,6 @@ has_fit_names kind = is_label kind.name && (is_named kind.targets && is_named ki
 abbrev is_fit : StandardRule → Bool
 is_fit r = has_fit_names r.kind && (has_fit_conditions r.kind && (ltb 0 r.weight && leb r.weight most))
 
-word_of : (label : List ℕ) → is_label label ≡ true → is_word label ≡ true
-word_of label h = (and_parts (is_word label) (leb (length label) 32 && (list_all (λ b. not (eqb b 46)) label && not (bytes_eq label precondition_word))) h).0
-
 fit_IsRule : (r : StandardRule) → is_fit r ≡ true → IsRule (rule_of r)
 fit_IsRule r h =
     let kind = r.kind in
@@ -84,7 +82,7 @@ fit_IsRule r h =
     let positive : 0 < r.weight = ltb-true 0 r.weight weight.0 in
     record {
       label = names.0;
-      client = word_of kind.name names.0;
+      client = label_is_word kind.name names.0;
       targets = named kind.targets sets.0;
       sources = named kind.sources sets.1;
       weight = record { class = lit≤ tt; minor = leb-true r.weight most weight.1; some = omega arith };

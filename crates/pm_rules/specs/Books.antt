@@ -10,7 +10,7 @@ use Rattle.pm_props.specs.Sets.{has, IsWithin}
 use Rattle.pm_props.specs.Kinds.{built_clients, standard_row}
 use Rattle.pm_props.specs.declared.standard.StandardClient.{StandardClient}
 use Rattle.pm_props.specs.declared.standard.StandardRule.{StandardRule}
-use Rattle.pm_props.specs.Weights.{IsWeight}
+use Rattle.pm_weights.specs.Weights.{IsWeight}
 use Rattle.pm_rules.specs.declared.rule.Rule.{Rule}
 use Rattle.pm_rules.specs.Rules.{conditions}
 use Rattle.pm_rules.specs.Words.{is_word, is_label}

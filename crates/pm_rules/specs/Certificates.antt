@@ -2,9 +2,9 @@
 use Rattle.std.specs.Prelude.{◌≡◌, ◌≢◌, ◌<◌, ◌⊎◌, Some, List, All, Any, AllPairs, Contains}
 use Rattle.pm_props.specs.declared.set.PropSet.{PropSet}
 use Rattle.pm_props.specs.declared.kind.RuleId.{RuleId}
-use Rattle.pm_props.specs.declared.weight.Cost.{Cost}
+use Rattle.pm_weights.specs.declared.Cost.{Cost}
 use Rattle.pm_props.specs.Sets.{union, IsSubset}
-use Rattle.pm_props.specs.Weights.{no_cost, plus, IsBelow, IsAtMost}
+use Rattle.pm_weights.specs.Weights.{no_cost, plus, IsBelow, IsAtMost}
 use Rattle.pm_rules.specs.declared.rule.Rule.{Rule}
 use Rattle.pm_rules.specs.declared.table.TableRow.{TableRow}
 use Rattle.pm_rules.specs.declared.table.Claim.{Claim}

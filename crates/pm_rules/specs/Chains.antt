@@ -3,10 +3,10 @@ use Rattle.std.specs.Prelude.{◌≡◌, false, IsTrue, Some, List, [], ◌∷�
 use Rattle.pm_props.specs.declared.property.PropId.{PropId}
 use Rattle.pm_props.specs.declared.set.PropSet.{PropSet}
 use Rattle.pm_props.specs.declared.kind.RuleId.{RuleId}
-use Rattle.pm_props.specs.declared.weight.Weight.{Weight}
-use Rattle.pm_props.specs.declared.weight.Cost.{Cost}
+use Rattle.pm_weights.specs.declared.Weight.{Weight}
+use Rattle.pm_weights.specs.declared.Cost.{Cost}
 use Rattle.pm_props.specs.Sets.{has, union, IsSubset}
-use Rattle.pm_props.specs.Weights.{IsAtMost}
+use Rattle.pm_weights.specs.Weights.{IsAtMost}
 use Rattle.pm_rules.specs.declared.rule.Rule.{Rule}
 use Rattle.pm_rules.specs.Rules.{rule_at, inputs, IsInUse, is_barred, IsEnabled}
 

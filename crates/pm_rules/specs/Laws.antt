@@ -2,8 +2,8 @@
 use Rattle.std.specs.Prelude.{List}
 use Rattle.pm_props.specs.declared.set.PropSet.{PropSet}
 use Rattle.pm_props.specs.declared.kind.RuleId.{RuleId}
-use Rattle.pm_props.specs.declared.weight.Cost.{Cost}
-use Rattle.pm_props.specs.Weights.{IsAtMost}
+use Rattle.pm_weights.specs.declared.Cost.{Cost}
+use Rattle.pm_weights.specs.Weights.{IsAtMost}
 use Rattle.pm_rules.specs.declared.rule.Rule.{Rule}
 use Rattle.pm_rules.specs.declared.table.TableRow.{TableRow}
 use Rattle.pm_rules.specs.declared.table.Claim.TheVariants.{Least, NoChain}

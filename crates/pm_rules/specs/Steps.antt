@@ -49,6 +49,11 @@ blocked kind = set_of (filter (blocks kind) every_property)
 abbrev pub step_of : Rule → Step
 step_of rule = record { targets = rule.kind.targets; inputs = inputs rule; blocked = blocked rule.kind }
 
+-- what is read is held, and nothing is held that may not be
+pub record IsReady (step : Step) (held : PropSet) : Type 0 where
+  pub given : IsSubset step.inputs held
+  pub free : (p : PropId) → IsTrue (has held p) → has step.blocked p ≡ false
+
 -- what is read is held, nothing is held that may not be, and some target is not held
 pub record IsOpen (step : Step) (held : PropSet) : Type 0 where
   pub given : IsSubset step.inputs held

@@ -6,7 +6,8 @@ ghost use Rattle.pm_rules.specs.Rules.{rule_at};
 ghost use Rattle.pm_rules.specs.Books.{IsBook, standard_rule, standard_rules};
 
 use crate::rule::Rule;
-use pm_props::{RuleId, StandardClient, Weight};
+use pm_props::{RuleId, StandardClient};
+use pm_weights::Weight;
 use std::alloc::{AllocError, Global};
 use std::marker::Model;
 

@@ -8,13 +8,16 @@ mod rule;
 mod step;
 mod table;
 mod useful;
+mod word;
 
 pub use book::{Book, standard_book};
 pub use laws::{
     law_certificate_bounds, law_certificate_excludes, law_standard_kinds_are_first, law_useful_part,
 };
-pub use pm_props::{ClientName, Cost, Kind, PropId, PropSet, RuleId, Weight};
+pub use pm_props::{ClientName, Kind, PropId, PropSet, RuleId};
+pub use pm_weights::{Cost, Weight};
 pub use rule::Rule;
 pub use step::{Step, Tag, is_barred};
 pub use table::{Claim, Table, TableRow};
 pub use useful::needed;
+pub use word::{is_digit, is_label, is_letter, is_word, is_word_byte};

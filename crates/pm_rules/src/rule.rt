@@ -2,7 +2,8 @@
 
 ghost use Rattle.std.specs.Prelude.{◌≡◌};
 
-use pm_props::{ClientName, Kind, PropSet, Weight};
+use pm_props::{ClientName, Kind, PropSet};
+use pm_weights::Weight;
 
 /// A rule: a client's kind under a label, its weight, and the properties that must be true or false, the kind's own
 /// among them.

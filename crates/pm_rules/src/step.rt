@@ -1,11 +1,12 @@
 // What a rule asks of the names held.
 
-ghost use Rattle.std.specs.Prelude.{◌≡◌, ◌↔◌, ◌&&◌, IsTrue, filter};
+ghost use Rattle.std.specs.Prelude.{◌≡◌, ◌↔◌, ◌&&◌, IsTrue, false, filter};
 ghost use Rattle.std.specs.List.{list_any};
 ghost use Rattle.pm_props.specs.Properties.{has_program};
 ghost use Rattle.pm_props.specs.Sets.{has, set_of};
+ghost use Rattle.pm_props.specs.Kinds.{names_of};
 ghost use Rattle.pm_rules.specs.Rules.{conditions, inputs, names_of_rule, is_barred, IsInUse, IsEnabled};
-ghost use Rattle.pm_rules.specs.Steps.{tag_test, some_has, some_program, is_fresh, is_fresh_somewhere, has_some_tag, blocked, step_of, IsOpen};
+ghost use Rattle.pm_rules.specs.Steps.{tag_test, some_has, some_program, is_fresh, is_fresh_somewhere, has_some_tag, blocked, step_of, IsReady, IsOpen};
 
 use crate::rule::Rule;
 use pm_props::{Kind, PropId, PropSet, RuleId};
@@ -69,9 +70,14 @@ impl Step {
     pub fn is_open(self, held: PropSet) -> bool
         ensures { IsTrue result ↔ IsOpen self held }
     {
-        self.inputs.is_subset(held)
-            & self.blocked.intersection(held).is_empty()
-            & !self.targets.is_subset(held)
+        self.is_ready(held) && !self.targets.is_subset(held)
+    }
+
+    // Whether what the rule reads is held, and nothing is held that may not be.
+    fn is_ready(&self, held: PropSet) -> bool
+        ensures { IsTrue result ↔ IsReady self.now held }
+    {
+        self.inputs.is_subset(held) && self.blocked.intersection(held).is_empty()
     }
 }
 
@@ -113,15 +119,21 @@ impl Rule {
     pub fn is_in_use(&self, names: PropSet) -> bool
         ensures { IsTrue result ↔ IsInUse names self.now }
     {
-        self.names().is_subset(names)
-            & !(has_programs(self.kind.names()) & is_fresh_somewhere(&self.kind))
+        self.names().is_subset(names) && !is_fresh_with_programs(&self.kind)
+    }
+
+    /// Whether the rule of this number is in use where these names are, and not barred.
+    pub fn may_be_used(&self, names: PropSet, barred: &[RuleId], id: RuleId) -> bool
+        ensures { IsTrue result ↔ (IsInUse names self.now × (is_barred barred.now id ≡ false)) }
+    {
+        self.is_in_use(names) && !is_barred(barred, id)
     }
 
     /// Whether the rule of this number may be applied to the names held.
     pub fn is_enabled(&self, names: PropSet, barred: &[RuleId], held: PropSet, id: RuleId) -> bool
         ensures { IsTrue result ↔ IsEnabled names barred.now held id self.now }
     {
-        self.is_in_use(names) & !is_barred(barred, id) & self.step().is_open(held)
+        self.may_be_used(names, barred, id) && self.step().is_open(held)
     }
 }
 
@@ -147,6 +159,13 @@ fn is_fresh_somewhere(kind: &Kind) -> bool
         || is_fresh(Tag::Facets, kind)
         || is_fresh(Tag::Generators, kind)
         || is_fresh(Tag::HalfSpaces, kind)
+}
+
+// Whether the kind has a name of linear programs and is fresh in a tag.
+fn is_fresh_with_programs(kind: &Kind) -> bool
+    ensures { result ≡ (some_program (names_of kind.now) && is_fresh_somewhere kind.now) }
+{
+    has_programs(kind.names()) && is_fresh_somewhere(kind)
 }
 
 // Whether a property of the set is one of linear programs.

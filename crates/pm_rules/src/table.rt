@@ -1,6 +1,7 @@
 // Tables of plans.
 
-use pm_props::{Cost, PropSet};
+use pm_props::PropSet;
+use pm_weights::Cost;
 
 /// A set of properties and the cost at which a chain reaches it.
 #[derive(Clone, Copy, Debug, PartialEq, Eq)]

@@ -9,7 +9,6 @@ ghost use Rattle.pm_rules.specs.Chains.{Needed};
 ghost use Rattle.pm_rules.specs.Useful.{FindsOne, AllNeeded};
 
 use crate::rule::Rule;
-use crate::step::is_barred;
 use pm_props::{PropSet, RuleId};
 
 /// The names that are needed to find the asked ones by the rules: these names, and all that useful rules read.
@@ -33,9 +32,7 @@ impl Rule {
     pub fn finds_one(&self, names: PropSet, barred: &[RuleId], of: PropSet, id: RuleId) -> bool
         ensures { IsTrue result ↔ FindsOne names barred.now of id self.now }
     {
-        self.is_in_use(names)
-            & !is_barred(barred, id)
-            & !self.kind.targets.intersection(of).is_empty()
+        self.may_be_used(names, barred, id) && !self.kind.targets.intersection(of).is_empty()
     }
 }
 

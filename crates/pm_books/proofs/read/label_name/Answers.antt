@@ -1,8 +1,9 @@
-use Rattle.std.proofs.Common.{◌≡◌, ℕ, zero, suc, ◌<◌, ◌≤◌, ◌&&◌, ◌||◌, not, true, leb, eqb, List, [], ◌∷◌, length, inl, inr, arith}
+use Rattle.std.proofs.Common.{◌≡◌, ℕ, zero, suc, ◌<◌, ◌≤◌, ◌&&◌, ◌||◌, true, leb, eqb, List, [], ◌∷◌, length, inl, inr, arith}
 use Rattle.std.specs.List.{list_all}
-use Rattle.std.specs.Str.{IsAscii, bytes_eq}
+use Rattle.std.specs.Str.{IsAscii}
 use Rattle.std.proofs.lemmas.Bool.{and_parts, or_cases, leb-true, eqb-true}
-use Rattle.pm_rules.specs.Words.{is_letter, is_digit, is_word_byte, is_word, is_label, precondition_word}
+use Rattle.pm_rules.specs.Words.{is_letter, is_digit, is_word_byte, is_word, is_label}
+use Rattle.pm_rules.proofs.Labels.{label_is_word, label_is_short}
 use Rattle.pm_books.proofs.read.label_name.Goals as goal
 
 letter_small : (b : ℕ) → is_letter b ≡ true → b < 128
@@ -34,10 +35,7 @@ word_ascii (b ∷ bs) h zero = letter_small b (and_parts (is_letter b) (list_all
 word_ascii (b ∷ bs) h (suc i) = bytes_ascii bs (and_parts (is_letter b) (list_all is_word_byte bs) h).1 i
 
 label_fits : (text : List ℕ) → is_label text ≡ true → (length text ≤ 32) × IsAscii text
-label_fits text h =
-    let rest = list_all (λ b. not (eqb b 46)) text && not (bytes_eq text precondition_word) in
-    let parts = and_parts (is_word text) (leb (length text) 32 && rest) h in
-    (leb-true (length text) 32 (and_parts (leb (length text) 32) rest parts.1).0, word_ascii text parts.0)
+label_fits text h = (label_is_short text h, word_ascii text (label_is_word text h))
 
 pub unwrap-requires : goal.unwrap-requires
 unwrap-requires c = c.of_bytes.ensures.some.1 (label_fits c.args.text.now c.requires)

@@ -1,7 +1,7 @@
 use Rattle.std.proofs.Common.{◌≡◌, ◌++◌, ◌∷◌, [], map, string_bytes, codes, rules}
 use Rattle.pm_props.specs.Properties.{first_name}
 use Rattle.pm_props.specs.Sets.{members}
-use Rattle.pm_props.specs.Weights.{weight_text}
+use Rattle.pm_weights.specs.Weights.{weight_text}
 use Rattle.pm_rules.specs.Rules.{conditions}
 use Rattle.pm_books.specs.Grammar.{separated, name_item, precondition_words}
 use Rattle.pm_books.specs.Writing.{spaced, condition_of_rule, line_of}

@@ -1,5 +1,5 @@
 use Rattle.std.proofs.Common.{◌≡◌, length, vec_len, arith}
-use Rattle.pm_props.specs.Weights.{no_cost}
+use Rattle.pm_weights.specs.Weights.{no_cost}
 use Rattle.pm_plan.proofs.Exploring.{begun_explored, next_fits, explored_more}
 use Rattle.pm_plan.proofs.search.explore.Goals as goal
 

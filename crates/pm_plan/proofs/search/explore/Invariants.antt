@@ -1,5 +1,5 @@
 use Rattle.std.proofs.Common.{◌-◌, length}
-use Rattle.pm_props.specs.Weights.{no_cost}
+use Rattle.pm_weights.specs.Weights.{no_cost}
 use Rattle.pm_plan.specs.Searches.{IsExplored}
 use Rattle.pm_plan.proofs.search.explore.Given as goal
 

@@ -1,5 +1,5 @@
 use Rattle.std.proofs.Common.{sym, Option, subst}
-use Rattle.pm_props.specs.declared.weight.Cost.{Cost}
+use Rattle.pm_weights.specs.declared.Cost.{Cost}
 use Rattle.pm_plan.specs.Searches.{Waits}
 use Rattle.pm_plan.proofs.Places.{waits_first, waits_again}
 use Rattle.pm_plan.proofs.search.wait.Goals as goal

@@ -1,7 +1,7 @@
 use Rattle.std.proofs.Common.{Option, subst}
 use Rattle.std.specs.Prelude.{IsTrue, IsSomeAnd, ◌↔◌}
-use Rattle.pm_props.specs.declared.weight.Cost.{Cost}
-use Rattle.pm_props.specs.Weights.{IsAtMost}
+use Rattle.pm_weights.specs.declared.Cost.{Cost}
+use Rattle.pm_weights.specs.Weights.{IsAtMost}
 use Rattle.pm_plan.proofs.search.Search.is_known.Goals as goal
 
 pub returns-in-Some : goal.returns-in-Some
