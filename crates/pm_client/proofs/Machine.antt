@@ -1,4 +1,5 @@
 -- Whole numbers of 64 bits: their bits, tests of them, and differences that are not saturated.
+use Rattle.pm_types.proofs.Bits.{below_from_test, below_test, bits_from_fits, fits_from_bits}
 use Rattle.pm_types.specs.Forms.{has_64_bits}
 use Rattle.std.proofs.Common.{SFits, ap, arith, eqb, of_z, to_z, true, w64, ◌∙◌}
 use Rattle.std.proofs.lemmas.Bool.Decides.{Decides-eqb, Decides-like}
@@ -7,21 +8,6 @@ use Rattle.std.specs.Int.{saturate_signed}
 use Rattle.std.specs.Prelude.{IsTrue, nat_lt, ℕ, ◌<◌, ◌^◌, ◌≡◌, ◌↔◌}
 use lib.IntN.{negsuc, pos, ℤ, ◌+ℤ◌, ◌-ℤ◌}
 use lib.Signed.{◌<ℤ◌, ◌≤ℤ◌}
-
-below_test : (n m : ℕ) → n < m → nat_lt n m ≡ true
-below_test n m h = grind arith
-
-below_from_test : (n m : ℕ) → nat_lt n m ≡ true → n < m
-below_from_test n m h = grind arith
-
--- ---- numbers of 64 bits
-pub fits_from_bits : (z : ℤ) → has_64_bits z ≡ true → SFits w64 z
-fits_from_bits (pos n) h = record { sfits = below_from_test n (2 ^ 63) h }
-fits_from_bits (negsuc n) h = record { sfits = below_from_test n (2 ^ 63) h }
-
-pub bits_from_fits : (z : ℤ) → SFits w64 z → has_64_bits z ≡ true
-bits_from_fits (pos n) h = below_test n (2 ^ 63) (h.sfits)
-bits_from_fits (negsuc n) h = below_test n (2 ^ 63) (h.sfits)
 
 -- the bits of a number are those of the natural n
 pub same_bits : (z : ℤ) (n : ℕ) → has_64_bits z ≡ true → n < 2 ^ 63 → IsTrue (eqb (of_z w64 z) n) ↔ (z ≡ pos n)

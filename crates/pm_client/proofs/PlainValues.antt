@@ -9,13 +9,13 @@ use Rattle.pm_props.specs.declared.object_type.ObjectType.{ObjectType}
 use Rattle.pm_matrix.specs.Matrices.{IsFraction}
 use Rattle.pm_object.specs.Reading.{DraftSeen, ViewSeen}
 use Rattle.pm_types.specs.Canonical.{IsCanonical}
-use Rattle.pm_types.specs.Forms.{AreFractions, FormsIn, HasPrimitiveRow, HavePrimitiveRows, agrees_with, are_rows, has_64_bits, is_formed}
-use Rattle.pm_props.specs.Properties.{is_ambient, is_columned, is_of_truth_values, is_of_whole_numbers}
+use Rattle.pm_types.specs.Forms.{AreFractions, FormsIn, HasPrimitiveRow, HavePrimitiveRows, agrees_with, are_rows, has_64_bits, is_counts_form, is_formed}
+use Rattle.pm_props.specs.Properties.{is_ambient, is_columned, is_of_counts, is_of_truth_values, is_of_whole_numbers}
 use Rattle.pm_props.specs.Properties.{value_kind}
 use Rattle.pm_types.specs.Right.{Right, RightAll, objective_of}
 use Rattle.pm_props.specs.Places.{place_of}
 use Rattle.pm_types.specs.Runs.{states_rows}
-use Rattle.pm_types.specs.Values.{PropertyValue, matrix, truth, whole}
+use Rattle.pm_types.specs.Values.{PropertyValue, counts, matrix, truth, whole}
 use Rattle.pm_props.specs.declared.kind.Kind.{Kind}
 use Rattle.pm_props.specs.declared.property.PropId.TheVariants.{AffineHull, ConeAmbientDim, Equations, Facets, Inequalities, InputLineality, LinealitySpace, Points, Vertices}
 use Rattle.pm_props.specs.declared.property.PropId.{PropId}
@@ -127,3 +127,11 @@ truth_not_ambient p h = refl
 -- a truth value
 pub sound_truth : (v : ViewSeen) (p : PropId) (b : Bool) (old new : DraftSeen) → is_of_truth_values (value_kind p) ≡ true → IsPut v p (truth b) old new → Follows v p (truth b) → IsSound v new
 sound_truth v p b old new truths put follows = sound_plain v p (truth b) old new refl (truth_not_ambient p truths) (truth_formed p b truths) put follows
+
+counts_not_ambient : (p : PropId) → is_of_counts (value_kind p) ≡ true → is_ambient p ≡ false
+counts_not_ambient ConeAmbientDim h = absurd (true≢false (sym h))
+counts_not_ambient p h = refl
+
+-- a list of whole numbers of 64 bits
+pub sound_counts : (v : ViewSeen) (p : PropId) (ks : List ℤ) (old new : DraftSeen) → is_of_counts (value_kind p) ≡ true → is_counts_form ks ≡ true → IsPut v p (counts ks) old new → Follows v p (counts ks) → IsSound v new
+sound_counts v p ks old new kind form put follows = sound_plain v p (counts ks) old new refl (counts_not_ambient p kind) (both (is_of_counts (value_kind p)) (is_counts_form ks) kind form) put follows

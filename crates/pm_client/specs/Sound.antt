@@ -7,6 +7,8 @@ use Rattle.pm_algebra.specs.Numbers.{Ratio}
 use Rattle.pm_algebra.specs.Rows.{Row, Stands}
 use Rattle.pm_dd.specs.declared.fails.DdFail.{DdFail}
 use Rattle.pm_dd.specs.declared.fails.DdFail.TheVariants as double
+use Rattle.pm_incidence.specs.declared.fails.IncFail.{IncFail}
+use Rattle.pm_incidence.specs.declared.fails.IncFail.TheVariants as incidence
 use Rattle.pm_elim.specs.EliminationSteps.{EliminationStep}
 use Rattle.pm_elim.specs.Enlarging.{MarkEnlarging}
 use Rattle.pm_elim.specs.Evidence.{IsEvidence, unit}
@@ -189,3 +191,8 @@ abbrev pub fail_of_double : DdFail → ClientFail
 fail_of_double (double.Wide e) = Failed e
 fail_of_double (double.Many e) = Failed e
 fail_of_double double.Memory = Memory
+
+-- the failure of a client whose incidences were given up
+abbrev pub fail_of_incidence : IncFail → ClientFail
+fail_of_incidence (incidence.Wide e) = Failed e
+fail_of_incidence incidence.Memory = Memory

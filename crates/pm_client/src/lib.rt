@@ -9,6 +9,7 @@ ghost use Rattle.std.specs.Prelude.{IfErr, OnOk, [], ℕ, ◌≡◌};
 use pm_elim::ElimFail;
 use pm_geom::Evidence;
 use pm_hull::DdFail;
+use pm_incidence::IncFail;
 use pm_object::{Draft, View};
 use pm_types::Kind;
 use std::alloc::{AllocError, AllocFailed, Global};
@@ -19,7 +20,7 @@ mod values;
 
 pub use boxes::{place_of, run_first};
 pub use family::{Family, FamilyClient, Numbered};
-pub use values::{matrix_of, primitive_rows, put_value, whole_of};
+pub use values::{counts_of, matrix_of, primitive_rows, put_value, sets_of, whole_of};
 
 /// Why a client did not answer.
 #[derive(Debug, Drop)]
@@ -55,6 +56,20 @@ impl From<DdFail> for ClientFail {
             DdFail::Wide(evidence) => ClientFail::Failed(evidence),
             DdFail::Many(evidence) => ClientFail::Failed(evidence),
             DdFail::Memory => ClientFail::Memory,
+        }
+    }
+}
+
+impl From<IncFail> for ClientFail {
+    ghost use Rattle.pm_client.specs.Sound.{fail_of_incidence};
+    ghost use Rattle.std.specs.Prelude.{◌≡◌};
+
+    ghost from_gives = { λ f e. e ≡ fail_of_incidence f };
+
+    fn from(fail: IncFail) -> ClientFail {
+        match fail {
+            IncFail::Wide(evidence) => ClientFail::Failed(evidence),
+            IncFail::Memory => ClientFail::Memory,
         }
     }
 }

@@ -4,17 +4,17 @@ ghost use Rattle.pm_client.specs.declared.ClientFail.TheVariants.{Memory};
 ghost use Rattle.pm_matrix.specs.FractionRows.{ArePrimitiveRowsOf};
 ghost use Rattle.pm_object.specs.Reading.{drafted, fact_of};
 ghost use Rattle.pm_types.specs.Forms.{FormsIn, HasPrimitiveRow};
-ghost use Rattle.pm_props.specs.Properties.{is_of_matrices, is_of_whole_numbers};
+ghost use Rattle.pm_props.specs.Properties.{is_of_counts, is_of_matrices, is_of_sets, is_of_whole_numbers};
 ghost use Rattle.pm_props.specs.Properties.{value_kind};
 ghost use Rattle.pm_props.specs.Sets.{has};
-ghost use Rattle.pm_types.specs.Values.{matrix, whole};
+ghost use Rattle.pm_types.specs.Values.{counts, matrix, sets, whole};
 ghost use Rattle.pm_types.specs.Views.{view_of};
 ghost use Rattle.std.specs.Prelude.{All, IfErr, IfOk, IsTrue, None, OnErr, OnOk, Some, [], length, ◌++◌, ◌∷◌, ◌≡◌, ◌≤◌};
 
 use crate::ClientFail;
 use pm_matrix::{Matrix, RowsFail};
 use pm_object::{Draft, View};
-use pm_types::{PropId, Value};
+use pm_types::{Counts, PropId, Sets, Value};
 use pm_vector::Ints;
 use std::alloc::Global;
 
@@ -42,6 +42,32 @@ pub fn whole_of(view: &View, p: PropId) -> i64
         unreachable!()
     };
     *k
+}
+
+/// The sets of a source whose values are sets.
+pub fn sets_of<'b>(view: &'b View<'_>, p: PropId) -> &'b Sets
+    requires source { IsTrue (has view.now.kind.sources p) }
+    requires sets { IsTrue (is_of_sets (value_kind p)) }
+    ensures value { fact_of p view.now.facts ≡ Some (sets result.now.rows result.now.cols) }
+    ensures forms { FormsIn view.now.of view.now.cols p (sets result.now.rows result.now.cols) }
+{
+    let Some(Value::Sets(found)) = view.value(p) else {
+        unreachable!()
+    };
+    found
+}
+
+/// The numbers of a source whose values are lists of counts.
+pub fn counts_of<'b>(view: &'b View<'_>, p: PropId) -> &'b Counts
+    requires source { IsTrue (has view.now.kind.sources p) }
+    requires counts { IsTrue (is_of_counts (value_kind p)) }
+    ensures value { fact_of p view.now.facts ≡ Some (counts result.now) }
+    ensures forms { FormsIn view.now.of view.now.cols p (counts result.now) }
+{
+    let Some(Value::Counts(found)) = view.value(p) else {
+        unreachable!()
+    };
+    found
 }
 
 /// The primitive whole rows of a matrix, of which each is made within the range. Want of memory alone ends it.

@@ -6,15 +6,15 @@ use Rattle.pm_algebra.specs.Rows.{IsZero, Row, Stands}
 use Rattle.pm_client.proofs.PlainValues.{Follows, sound_plain}
 use Rattle.pm_client.proofs.Puts.{IsPut}
 use Rattle.pm_client.proofs.ReadValues.{all_length, found, primitive_length, read_right}
-use Rattle.pm_client.specs.Sound.{FailsRightly, IsRowOf, IsSound}
+use Rattle.pm_client.specs.Sound.{FailsRightly, IsRowOf, IsSound, fail_of_incidence}
 use Rattle.pm_props.specs.Properties.{is_generator, is_half_space}
-use Rattle.pm_client.specs.declared.ClientFail.TheVariants.{Failed, Memory}
-use Rattle.pm_client.specs.declared.ClientFail.{ClientFail}
+use Rattle.pm_incidence.specs.declared.fails.IncFail.TheVariants.{Memory, Wide}
+use Rattle.pm_incidence.specs.declared.fails.IncFail.{IncFail}
 use Rattle.pm_geom.specs.declared.evidence.Evidence.TheVariants.{E4}
 use Rattle.pm_matrix.specs.FractionRows.{ArePrimitiveRowsOf, IsPrimitiveRowOf}
-use Rattle.pm_clients_comb.proofs.Places.{incidence_form, incidence_is}
-use Rattle.pm_clients_comb.proofs.Products.{stays_turned, zero_stays}
-use Rattle.pm_clients_comb.specs.Incidence.{IsWideFor, incidence}
+use Rattle.pm_incidence.proofs.Places.{incidence_form, incidence_is}
+use Rattle.pm_incidence.proofs.Products.{stays_turned, zero_stays}
+use Rattle.pm_incidence.specs.Incidence.{IsWideFor, incidence}
 use Rattle.pm_object.specs.Reading.{DraftSeen, ViewSeen, fact_of}
 use Rattle.pm_relations.proofs.Incidence.{incidence_is_right}
 use Rattle.pm_types.proofs.PrimitiveRows.{few_rows}
@@ -89,12 +89,12 @@ row_of v of_kind p n rows xs x read kind h c some =
       primitive = primitive_unless (get_or rows j []) x (subst (λ z. IsPrimitiveRowOf (get_or rows j []) z) is (h.each j (omega arith))) some;
     }
 
-pub fails_rightly : (v : ViewSeen) (m k : ℕ) (facets vertices : List (List Ratio)) (F V : List Row) (e : ClientFail) → fact_of Facets v.facts ≡ Some (matrix m facets) → fact_of Vertices v.facts ≡ Some (matrix k vertices)
-    → ArePrimitiveRowsOf facets F → ArePrimitiveRowsOf vertices V → IsWideFor F V e → FailsRightly v e
+pub fails_rightly : (v : ViewSeen) (m k : ℕ) (facets vertices : List (List Ratio)) (F V : List Row) (e : IncFail) → fact_of Facets v.facts ≡ Some (matrix m facets) → fact_of Vertices v.facts ≡ Some (matrix k vertices)
+    → ArePrimitiveRowsOf facets F → ArePrimitiveRowsOf vertices V → IsWideFor F V e → FailsRightly v (fail_of_incidence e)
 fails_rightly v m k facets vertices F V Memory g h p q w = tt
-fails_rightly v m k facets vertices F V (Failed (E4 a x)) g h p q w = (
+fails_rightly v m k facets vertices F V (Wide (E4 a x)) g h p q w = (
   row_of v is_generator Vertices k vertices V a h refl q w.0 (λ z. w.2 (zero_stays a x z)),
   row_of v is_half_space Facets m facets F x g refl p w.1 (λ z. w.2 (stays_turned x a (zero_stays x a z))),
   w.2,
 )
-fails_rightly v m k facets vertices F V (Failed e) g h p q w = absurd w
+fails_rightly v m k facets vertices F V (Wide e) g h p q w = absurd w

@@ -1,27 +1,9 @@
--- The examples of incidence hold.
-use Rattle.pm_algebra.proofs.Lists.{all_at, among_Contains}
-use Rattle.pm_algebra.specs.Rows.{Row, entry}
-use Rattle.pm_clients_comb.specs.Examples.{IncidenceIsRead, pair, vertices}
-use Rattle.std.proofs.Common.{ap, arith, refl}
-use Rattle.std.proofs.lemmas.Int.{ints}
-use Rattle.std.specs.Prelude.{◌≡◌}
-use lib.IntN.{ℤ, pos}
+-- The examples of the family and of sizes hold.
+use Rattle.pm_clients_comb.specs.Examples.{FamilyIsRead, SizesAreRead}
+use Rattle.std.proofs.Common.{refl}
 
-abbrev first : Row → ℤ
-first x = entry x 0
+pub family_is_read : FamilyIsRead
+family_is_read = record { clients = refl; no_sets = refl }
 
-zero_one : pos 0 ≡ pos 1 → ⊥
-zero_one h = omega (arith, ints)
-
-two_one : pos 2 ≡ pos 1 → ⊥
-two_one h = omega (arith, ints)
-
-pub incidence_is_read : IncidenceIsRead
-incidence_is_read = record {
-  sets = refl;
-  from_three = refl;
-  memory = tt;
-  not_read = λ h. all_at (λ (x : Row). x ≡ pair (pos 1) (pos 1) → ⊥) (among_Contains vertices h.0) ((λ e. zero_one (ap first e)), ((λ e. two_one (ap first e)), ((λ e. zero_one (ap first e)), tt))) refl;
-  clients = refl;
-  no_sets = refl;
-}
+pub sizes_are_read : SizesAreRead
+sizes_are_read = record { of_sets = refl; of_places = refl; in_two = refl; has = refl; has_not = refl }

@@ -1,4 +1,4 @@
-pub mod Products
-pub mod Places
 pub mod Answered
+pub mod Sized
+pub mod SizeTurns
 pub mod Examples

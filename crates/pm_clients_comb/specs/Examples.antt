@@ -1,31 +1,22 @@
--- Incidence read on three facets and three vertices of the plane: what holds, and what does not.
-use Rattle.pm_algebra.specs.Rows.{Row}
+-- The clients of the family, and which are none; sizes of three sets of places below 4.
 use Rattle.pm_client.specs.Families.{clients_of}
 use Rattle.pm_clients_comb.specs.Families.{finds_sets}
-use Rattle.pm_clients_comb.specs.Incidence.{IsWideFor, incidence, places_from}
-use Rattle.pm_client.specs.declared.ClientFail.TheVariants.{Memory, Failed}
-use Rattle.pm_geom.specs.declared.evidence.Evidence.TheVariants.{E4}
 use Rattle.pm_props.specs.declared.standard.StandardClient.TheVariants as client
-use Rattle.std.specs.Prelude.{List, [], false, ◌∷◌, ◌≡◌}
-use lib.IntN.{ℤ, pos, negsuc}
+use Rattle.pm_relations.specs.Sizes.{has_place, holding, place_sizes, set_sizes}
+use Rattle.std.specs.Prelude.{ℕ, List, [], false, true, ◌∷◌, ◌≡◌}
+use lib.IntN.{pos}
 
-abbrev pub pair : ℤ → ℤ → Row
-pair a b = a ∷ b ∷ []
-
--- x >= 0, y >= 0 and x >= y
-abbrev pub facets : List Row
-facets = pair (pos 1) (pos 0) ∷ pair (pos 0) (pos 1) ∷ pair (pos 1) (negsuc 0) ∷ []
-
-abbrev pub vertices : List Row
-vertices = pair (pos 0) (pos 1) ∷ pair (pos 2) (pos 2) ∷ pair (pos 0) (pos 0) ∷ []
-
-pub record IncidenceIsRead : Type 0 where
-  -- the places of the vertices on each facet, counted from 0
-  pub sets : incidence facets vertices ≡ (0 ∷ 2 ∷ []) ∷ (2 ∷ []) ∷ (1 ∷ 2 ∷ []) ∷ []
-  pub from_three : places_from 3 (pair (pos 1) (pos 0)) vertices ≡ 3 ∷ 5 ∷ []
-  -- want of memory needs no evidence, and evidence names no row that was not read
-  pub memory : IsWideFor facets vertices Memory
-  pub not_read : ¬ (IsWideFor facets vertices (Failed (E4 (pair (pos 1) (pos 1)) (pair (pos 1) (pos 0)))))
-  -- the family
-  pub clients : clients_of finds_sets ≡ client.Incidence ∷ []
+pub record FamilyIsRead : Type 0 where
+  pub clients : clients_of finds_sets ≡ client.Incidence ∷ client.VertexSizes ∷ client.FacetSizes ∷ client.Simple ∷ client.Simplicial ∷ []
   pub no_sets : finds_sets client.FullDim ≡ false
+
+abbrev pub three_sets : List (List ℕ)
+three_sets = (0 ∷ 2 ∷ 3 ∷ []) ∷ [] ∷ (2 ∷ []) ∷ []
+
+pub record SizesAreRead : Type 0 where
+  -- the sets have 3, 0 and 1 places; place 2 is in two of them, place 1 in none
+  pub of_sets : set_sizes three_sets ≡ pos 3 ∷ pos 0 ∷ pos 1 ∷ []
+  pub of_places : place_sizes three_sets 4 ≡ pos 1 ∷ pos 0 ∷ pos 2 ∷ pos 1 ∷ []
+  pub in_two : holding three_sets 2 ≡ 2
+  pub has : has_place 3 (0 ∷ 2 ∷ 3 ∷ []) ≡ true
+  pub has_not : has_place 1 (0 ∷ 2 ∷ 3 ∷ []) ≡ false

@@ -1,3 +1,4 @@
 pub mod Incidence
 pub mod Families
 pub mod Examples
+pub mod Sizes

@@ -1,22 +1,29 @@
-// The clients that find sets.
+// The clients that find sets, their sizes, and what these show.
 
 ghost use Rattle.pm_client.specs.Sound.{FailsRightly, IsSound};
+ghost use Rattle.pm_client.specs.declared.ClientFail.TheVariants.{Memory};
 ghost use Rattle.pm_clients_comb.specs.Incidence.{StaysInRange};
 ghost use Rattle.pm_props.specs.Kinds.{standard_kind};
 ghost use Rattle.pm_props.specs.declared.standard.StandardClient.TheVariants as client;
 ghost use Rattle.std.specs.Prelude.{IfErr, OnOk, [], ◌≡◌};
 
-use crate::incidence::incidence;
-use pm_client::{ClientFail, Family, FamilyClient, matrix_of, primitive_rows, put_value};
+use crate::sizes::{all_are, place_sizes, set_sizes};
+use pm_client::{
+    ClientFail, Family, FamilyClient, counts_of, matrix_of, primitive_rows, put_value, sets_of,
+    whole_of,
+};
+use pm_incidence::incidence;
 use pm_object::{Draft, View};
-use pm_types::{PropId, StandardClient, Value};
+use pm_types::{Counts, ObjectType, PropId, StandardClient, Value};
 use std::alloc::Global;
 
-/// The standard clients that find sets.
+/// The standard clients that find sets, their sizes, and what these show.
 #[derive(Debug, Drop)]
 pub struct SetsFamily;
 
-/// A client that finds sets: number 0 is `incidence`. It fails exactly where a product of the primitive whole rows that it reads leaves the range.
+/// A client that finds sets or sizes of sets: number 0 is `incidence`, 1 `vertex_sizes`, 2 `facet_sizes`, 3 `simple`,
+/// 4 `simplicial`. The first fails exactly where a product of the primitive whole rows that it reads leaves the range,
+/// the others for want of memory alone.
 pub type SetsClient = FamilyClient<SetsFamily>;
 
 impl Family for SetsFamily {
@@ -33,10 +40,16 @@ impl Family for SetsFamily {
 
     ghost COUNT = { length (clients_of finds_sets) };
 
-    const COUNT: u8 = 1;
+    const COUNT: u8 = 5;
 
     fn client(number: u8) -> StandardClient {
-        [StandardClient::Incidence][usize::from(number)]
+        [
+            StandardClient::Incidence,
+            StandardClient::VertexSizes,
+            StandardClient::FacetSizes,
+            StandardClient::Simple,
+            StandardClient::Simplicial,
+        ][usize::from(number)]
     }
 
     fn answer(
@@ -47,6 +60,10 @@ impl Family for SetsFamily {
     ) -> Result<(), ClientFail> {
         match client {
             StandardClient::Incidence => vertices_in_facets(alloc, view, draft),
+            StandardClient::VertexSizes => vertex_sizes(alloc, view, draft),
+            StandardClient::FacetSizes => facet_sizes(alloc, view, draft),
+            StandardClient::Simple => simple(view, draft),
+            StandardClient::Simplicial => simplicial(view, draft),
             _ => unreachable!(),
         }
     }
@@ -67,5 +84,71 @@ fn vertices_in_facets(alloc: Global, view: &View, draft: &mut Draft) -> Result<(
     let vertices = primitive_rows(alloc, matrix_of(view, PropId::Vertices))?;
     let sets = incidence(alloc, &facets, &vertices)?;
     put_value(draft, PropId::VerticesInFacets, Value::Sets(sets))?;
+    Ok(())
+}
+
+// VERTEX_SIZES: how many sets of VERTICES_IN_FACETS have each place.
+fn vertex_sizes(alloc: Global, view: &View, draft: &mut Draft) -> Result<(), ClientFail>
+    requires kind { view.now.kind ≡ standard_kind client.VertexSizes }
+    requires empty { draft.old ≡ record { kind = view.now.kind; values = [] } }
+    ensures draft { draft.new.kind ≡ draft.old.kind }
+    ensures sound { OnOk result (IsSound view.now draft.new) }
+    ensures failed { IfErr result (λ e. e ≡ Memory) }
+{
+    prove!(view.of() != ObjectType::Fan);
+    let sizes = place_sizes(alloc, sets_of(view, PropId::VerticesInFacets))?;
+    put_value(
+        draft,
+        PropId::VertexSizes,
+        Value::Counts(Counts::from_vec(sizes)),
+    )?;
+    Ok(())
+}
+
+// FACET_SIZES: how many places each set of VERTICES_IN_FACETS has.
+fn facet_sizes(alloc: Global, view: &View, draft: &mut Draft) -> Result<(), ClientFail>
+    requires kind { view.now.kind ≡ standard_kind client.FacetSizes }
+    requires empty { draft.old ≡ record { kind = view.now.kind; values = [] } }
+    ensures draft { draft.new.kind ≡ draft.old.kind }
+    ensures sound { OnOk result (IsSound view.now draft.new) }
+    ensures failed { IfErr result (λ e. e ≡ Memory) }
+{
+    prove!(view.of() != ObjectType::Fan);
+    let sizes = set_sizes(alloc, sets_of(view, PropId::VerticesInFacets))?;
+    put_value(
+        draft,
+        PropId::FacetSizes,
+        Value::Counts(Counts::from_vec(sizes)),
+    )?;
+    Ok(())
+}
+
+// SIMPLE: each of VERTEX_SIZES is COMBINATORIAL_DIM.
+fn simple(view: &View, draft: &mut Draft) -> Result<(), ClientFail>
+    requires kind { view.now.kind ≡ standard_kind client.Simple }
+    requires empty { draft.old ≡ record { kind = view.now.kind; values = [] } }
+    ensures draft { draft.new.kind ≡ draft.old.kind }
+    ensures sound { OnOk result (IsSound view.now draft.new) }
+    ensures failed { IfErr result (λ e. e ≡ Memory) }
+{
+    prove!(view.of() != ObjectType::Fan);
+    let sizes = counts_of(view, PropId::VertexSizes);
+    let is_simple = all_are(sizes.as_slice(), whole_of(view, PropId::CombinatorialDim));
+    put_value(draft, PropId::Simple, Value::Bool(is_simple))?;
+    Ok(())
+}
+
+// SIMPLICIAL: each of FACET_SIZES is COMBINATORIAL_DIM.
+fn simplicial(view: &View, draft: &mut Draft) -> Result<(), ClientFail>
+    requires kind { view.now.kind ≡ standard_kind client.Simplicial }
+    requires empty { draft.old ≡ record { kind = view.now.kind; values = [] } }
+    ensures draft { draft.new.kind ≡ draft.old.kind }
+    ensures sound { OnOk result (IsSound view.now draft.new) }
+    ensures failed { IfErr result (λ e. e ≡ Memory) }
+{
+    prove!(view.of() != ObjectType::Fan);
+    let sizes = counts_of(view, PropId::FacetSizes);
+    let is_simplicial = all_are(sizes.as_slice(), whole_of(view, PropId::CombinatorialDim));
+    put_value(draft, PropId::Simplicial, Value::Bool(is_simplicial))?;
     Ok(())
 }

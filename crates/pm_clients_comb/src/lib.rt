@@ -1,14 +1,19 @@
 //! Clients that compare, count and intersect sets of rays and facets.
 #![tactic(auto)]
 
-ghost use Rattle.pm_clients_comb.specs.Examples.{IncidenceIsRead};
+ghost use Rattle.pm_clients_comb.specs.Examples.{FamilyIsRead, SizesAreRead};
 
 mod client;
-mod incidence;
+mod sizes;
 
 pub use client::SetsClient;
 
-/// Incidence read on three facets and three vertices.
-pub fn example_incidence()
-    ensures { IncidenceIsRead }
+/// Which clients the family has.
+pub fn example_family()
+    ensures { FamilyIsRead }
+{}
+
+/// Sizes of three sets.
+pub fn example_sizes()
+    ensures { SizesAreRead }
 {}

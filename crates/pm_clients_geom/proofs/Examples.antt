@@ -3,10 +3,12 @@ use Rattle.pm_algebra.proofs.Lists.{All_among, Among, among_All, here, there}
 use Rattle.pm_algebra.specs.Numbers.{InRange, IsReduced, Ratio}
 use Rattle.pm_algebra.specs.Rows.{Row, entry, ratio_at}
 use Rattle.pm_client.specs.Examples.{no_rows, single}
-use Rattle.pm_clients_geom.specs.Examples.{FamiliesAreRead, HullsAreRead, MatricesAreRead, RaysAreRead, drafted, one_half, two_one}
+use Rattle.pm_clients_geom.specs.Examples.{FamiliesAreRead, HullsAreRead, MatricesAreRead, RaysAreRead, drafted, far_second, one_half, two_one}
 use Rattle.pm_clients_geom.specs.Hulls.{AreFewRows, ArePossible}
 use Rattle.pm_clients_geom.specs.Lists.{ReadsParts}
 use Rattle.pm_clients_geom.specs.Matrices.{MayBeLines, MayBeRays}
+use Rattle.pm_clients_geom.specs.Places.{AreZeroPlaces}
+use Rattle.pm_clients_geom.proofs.ZeroPlaces.{no_places, place_left, place_more}
 use Rattle.pm_clients_geom.specs.Rays.{IsOverFirst, IsPutRay}
 use Rattle.pm_fraction.proofs.Quotients.{whole_reduced}
 use Rattle.pm_fraction.proofs.Reduced.{reduced_from}
@@ -19,14 +21,15 @@ use Rattle.pm_props.specs.declared.object_type.ObjectType.{ObjectType}
 use Rattle.std.proofs.Common.{ap, arith, false, inl, inr, lit<, lit≤, refl, suc, sym, true, true≢false, zero}
 use Rattle.std.proofs.lemmas.Int.{ints}
 use Rattle.std.proofs.lemmas.List.Elements.{All-cons, All-nil}
-use Rattle.std.specs.List.{All}
+use Rattle.std.specs.List.{All, Contains}
+use Rattle.std.proofs.lemmas.List.{length-map}
 use Rattle.std.specs.Option.{is_some}
-use Rattle.std.specs.Prelude.{Bool, List, [], length, ℕ, ◌<◌, ◌∷◌, ◌≡◌}
+use Rattle.std.specs.Prelude.{Bool, List, [], length, map, ℕ, ◌<◌, ◌∷◌, ◌≡◌}
 use lib.IntN.{negsuc, pos}
 use lib.Signed.{◌≤ℤ◌}
 
 pub families_are_read : FamiliesAreRead
-families_are_read = record { hulls = refl; no_hull = refl; rows = refl; dimensions = refl; truths = refl; no_truth = refl; no_dimension = refl }
+families_are_read = record { hulls = refl; sizes = refl; no_hull = refl; rows = refl; dimensions = refl; truths = refl; no_truth = refl; no_dimension = refl }
 
 abbrev is_polytope : ObjectType → Bool
 is_polytope Polytope = true
@@ -85,6 +88,22 @@ divided = record { some = omega arith; in_range = two_one_range; before = λ p. 
 halved : one_half ≡ ratios two_one → ⊥
 halved e = let k : pos 1 ≡ pos 2 = ap (λ (r : List Ratio). (ratio_at r 0).num) e in omega (arith, ints)
 
+-- ---- far rays
+far : AreZeroPlaces far_second 2 (pos 1 ∷ [])
+far = place_more far_second 1 [] (place_left far_second 0 [] (no_places far_second) not_one) (pos 1 ∷ []) refl (omega arith) refl
+
+not_none : ¬ (AreZeroPlaces far_second 2 [])
+not_none a =
+    let held = (a.zero 1).1 (omega arith, refl) in
+    let l = held.1 in
+    let e : 0 ≡ length (map pos a.js) = ap length a.places in
+    let m = length-map a.js pos in
+    absurd (omega arith)
+
+first_held : (js : List ℕ) → pos 0 ∷ pos 1 ∷ [] ≡ map pos js → Contains js 0
+first_held [] e = absurd (let l : 2 ≡ 0 = ap length e in omega arith)
+first_held (j ∷ js) e = (0, omega arith, cc)
+
 pub rays_are_read : RaysAreRead
 rays_are_read = record {
   over_first = over_first;
@@ -95,6 +114,9 @@ rays_are_read = record {
   not_of_a_cone = λ h. halved (h.whole (λ w. true≢false (sym (ap is_polytope w.0))));
   rows = (divided, tt);
   too_few = λ h. h;
+  far = far;
+  not_none = not_none;
+  not_the_first = λ a. not_one ((a.zero 0).0 (first_held a.js a.places)).1;
 }
 
 -- ---- hulls

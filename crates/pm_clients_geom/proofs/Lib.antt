@@ -1,6 +1,9 @@
 pub mod RowLists
 pub mod FoundDims
 pub mod FoundTruths
+pub mod Polytopes
+pub mod FoundFirsts
+pub mod EachPlace
 pub mod Halves
 pub mod NullMatrices
 pub mod OverOne
@@ -9,3 +12,5 @@ pub mod Examples
 pub mod RowCounts
 pub mod PutRays
 pub mod FoundHulls
+pub mod SetCounts
+pub mod ZeroPlaces

@@ -4,13 +4,14 @@ use Rattle.pm_algebra.specs.Rows.{Row}
 use Rattle.pm_client.specs.Examples.{no_rows, single}
 use Rattle.pm_clients_geom.specs.Hulls.{AreFewRows, ArePossible, ArePutGenerators, FindsFacets, MayGenerate}
 use Rattle.pm_clients_geom.specs.Lists.{ReadsParts}
+use Rattle.pm_clients_geom.specs.Places.{AreZeroPlaces}
 use Rattle.pm_clients_geom.specs.Rays.{ArePutRays, IsOverFirst, IsPutRay}
 use Rattle.pm_object.specs.Reading.{DraftSeen, Put}
 use Rattle.pm_props.specs.Kinds.{standard_kind}
 use Rattle.pm_props.specs.declared.property.PropId.TheVariants.{AffineHull, Equations, Facets, Inequalities, InputLineality, LinealitySpace, Points, Vertices}
 use Rattle.pm_types.specs.Values.{matrix}
 use Rattle.pm_client.specs.Families.{clients_of}
-use Rattle.pm_clients_geom.specs.Families.{finds_dimension, finds_hull, finds_rows, finds_truth}
+use Rattle.pm_clients_geom.specs.Families.{finds_dimension, finds_hull, finds_rows, finds_size, finds_truth}
 use Rattle.pm_clients_geom.specs.Matrices.{MayBeLines, MayBeRays, as_put}
 use Rattle.pm_props.specs.declared.object_type.ObjectType.TheVariants.{Cone, Polytope}
 use Rattle.pm_types.specs.Views.{over_one, ratios}
@@ -22,7 +23,8 @@ pub record FamiliesAreRead : Type 0 where
   -- in the order of the standard book
   pub rows : clients_of finds_rows ≡ client.PointsFromVertices ∷ client.InequalitiesFromFacets ∷ client.LinealityFromFacets ∷ client.HullFromVertices ∷ []
   pub dimensions : clients_of finds_dimension ≡ client.ConeDimV ∷ client.ConeDimSpan ∷ client.ConeDimPoints ∷ client.LinealityDim ∷ client.CombinatorialDim ∷ []
-  pub truths : clients_of finds_truth ≡ client.Feasible ∷ client.Pointed ∷ client.FullDim ∷ []
+  pub truths : clients_of finds_truth ≡ client.Feasible ∷ client.Bounded ∷ client.Pointed ∷ client.FullDim ∷ client.Centered ∷ []
+  pub sizes : clients_of finds_size ≡ client.NVertices ∷ client.NVerticesSets ∷ client.NFacets ∷ client.NFacetsSets ∷ client.FarFace ∷ []
   pub hulls : clients_of finds_hull ≡ client.DdVertices ∷ client.DdFacets ∷ client.DdFacetsV ∷ client.DdVerticesF ∷ []
   pub no_hull : finds_hull client.HullFromVertices ≡ false
   pub no_truth : finds_truth client.ConeDimV ≡ false
@@ -52,6 +54,10 @@ two_one = pos 2 ∷ pos 1 ∷ []
 abbrev pub one_half : List Ratio
 one_half = over_one (pos 1) ∷ record { num = pos 1; den = pos 2 } ∷ []
 
+-- the rays (1, 2) and (0, 1)
+abbrev pub far_second : List (List Ratio)
+far_second = one_two ∷ ratios (pos 0 ∷ pos 1 ∷ []) ∷ []
+
 pub record RaysAreRead : Type 0 where
   -- of a polytope a ray is divided by its first entry, of a cone it stays
   pub over_first : IsOverFirst two_one one_half
@@ -63,6 +69,10 @@ pub record RaysAreRead : Type 0 where
   -- the rows stand in the order of the rays
   pub rows : ArePutRays Polytope (one_half ∷ []) (two_one ∷ [])
   pub too_few : ¬ (ArePutRays Polytope [] (two_one ∷ []))
+  -- of two rays the second is far
+  pub far : AreZeroPlaces far_second 2 (pos 1 ∷ [])
+  pub not_none : ¬ (AreZeroPlaces far_second 2 [])
+  pub not_the_first : ¬ (AreZeroPlaces far_second 2 (pos 0 ∷ pos 1 ∷ []))
 
 -- a draft for the view without rows
 abbrev pub drafted : List Put → DraftSeen

@@ -28,15 +28,20 @@ finds_dimension client.LinealityDim = true
 finds_dimension client.CombinatorialDim = true
 finds_dimension c = false
 
--- the clients that count rays or facets
+-- the clients that count rays or facets, or list rays
 abbrev pub finds_size : StandardClient → Bool
 finds_size client.NVertices = true
+finds_size client.NVerticesSets = true
 finds_size client.NFacets = true
+finds_size client.NFacetsSets = true
+finds_size client.FarFace = true
 finds_size c = false
 
 -- the clients that find a truth value
 abbrev pub finds_truth : StandardClient → Bool
 finds_truth client.Feasible = true
+finds_truth client.Bounded = true
 finds_truth client.Pointed = true
 finds_truth client.FullDim = true
+finds_truth client.Centered = true
 finds_truth c = false

@@ -6,4 +6,5 @@ pub mod Matrices
 pub mod Rays
 pub mod Hulls
 pub mod Pairs
+pub mod Places
 pub mod Examples

@@ -5,6 +5,7 @@
 ghost use Rattle.pm_clients_geom.specs.Examples.{FamiliesAreRead, HullsAreRead, MatricesAreRead, RaysAreRead};
 
 mod dims;
+mod firsts;
 mod hulls;
 mod lists;
 mod rays;

@@ -1,21 +1,26 @@
-// The clients that find truth values from dimensions. They never fail but for want of memory.
+// The clients that find truth values, from dimensions or from first entries.
+// They never fail but for want of memory.
 
 ghost use Rattle.pm_client.specs.Sound.{IsSound};
 ghost use Rattle.pm_client.specs.declared.ClientFail.TheVariants.{Memory};
 ghost use Rattle.pm_props.specs.Kinds.{standard_kind};
 ghost use Rattle.pm_props.specs.declared.standard.StandardClient.TheVariants as client;
-ghost use Rattle.std.specs.Prelude.{IfErr, OnOk, [], ◌≡◌};
+ghost use Rattle.pm_relations.specs.FirstEntries.{HasPositiveFirst, HasZeroFirst};
+ghost use Rattle.std.specs.Prelude.{All, IfErr, IsTrue, OnOk, [], ◌≡◌, ◌↔◌};
 
-use pm_client::{ClientFail, Family, FamilyClient, put_value, whole_of};
+use crate::firsts::{has_positive_firsts, has_zero_firsts};
+use pm_client::{ClientFail, Family, FamilyClient, matrix_of, put_value, whole_of};
+use pm_matrix::Matrix;
 use pm_object::{Draft, View};
-use pm_types::{PropId, StandardClient, Value};
+use pm_types::{ObjectType, PropId, StandardClient, Value};
 use std::alloc::Global;
 
 /// The standard clients that find truth values.
 #[derive(Debug, Drop)]
 pub struct TestFamily;
 
-/// A client that finds a truth value: number 0 is `feasible`, 1 `pointed`, 2 `full_dim`. It fails for want of memory alone.
+/// A client that finds a truth value: number 0 is `feasible`, 1 `bounded`, 2 `pointed`,
+/// 3 `full_dim`, 4 `centered`. It fails for want of memory alone.
 pub type TestClient = FamilyClient<TestFamily>;
 
 impl Family for TestFamily {
@@ -32,13 +37,15 @@ impl Family for TestFamily {
 
     ghost COUNT = { length (clients_of finds_truth) };
 
-    const COUNT: u8 = 3;
+    const COUNT: u8 = 5;
 
     fn client(number: u8) -> StandardClient {
         [
             StandardClient::Feasible,
+            StandardClient::Bounded,
             StandardClient::Pointed,
             StandardClient::FullDim,
+            StandardClient::Centered,
         ][usize::from(number)]
     }
 
@@ -50,8 +57,10 @@ impl Family for TestFamily {
     ) -> Result<(), ClientFail> {
         match client {
             StandardClient::Feasible => feasible(view, draft),
+            StandardClient::Bounded => bounded(view, draft),
             StandardClient::Pointed => pointed(view, draft),
             StandardClient::FullDim => full_dim(view, draft),
+            StandardClient::Centered => centered(view, draft),
             _ => unreachable!(),
         }
     }
@@ -69,6 +78,30 @@ fn feasible(view: &View, draft: &mut Draft) -> Result<(), ClientFail>
 {
     let is_feasible = whole_of(view, PropId::ConeDim) != 0;
     put_value(draft, PropId::Feasible, Value::Bool(is_feasible))?;
+    Ok(())
+}
+
+// Whether there is no line, and each ray has a positive first entry.
+fn is_bounded(vertices: &Matrix, lineality: &Matrix) -> bool
+    ensures { IsTrue result
+        ↔ ((lineality.now.rows ≡ []) × All HasPositiveFirst vertices.now.rows) }
+{
+    lineality.rows() == 0 && has_positive_firsts(vertices)
+}
+
+// BOUNDED: LINEALITY_SPACE has no row, and each row of VERTICES has a positive first entry.
+fn bounded(view: &View, draft: &mut Draft) -> Result<(), ClientFail>
+    requires kind { view.now.kind ≡ standard_kind client.Bounded }
+    requires empty { draft.old ≡ record { kind = view.now.kind; values = [] } }
+    ensures draft { draft.new.kind ≡ draft.old.kind }
+    ensures sound { OnOk result (IsSound view.now draft.new) }
+    ensures failed { IfErr result (λ e. e ≡ Memory) }
+{
+    prove!(view.of() == ObjectType::Polytope);
+    let vertices = matrix_of(view, PropId::Vertices);
+    let lineality = matrix_of(view, PropId::LinealitySpace);
+    let is_bounded = is_bounded(vertices, lineality);
+    put_value(draft, PropId::Bounded, Value::Bool(is_bounded))?;
     Ok(())
 }
 
@@ -95,5 +128,29 @@ fn full_dim(view: &View, draft: &mut Draft) -> Result<(), ClientFail>
 {
     let is_full = whole_of(view, PropId::ConeDim) == view.cols() as i64;
     put_value(draft, PropId::FullDim, Value::Bool(is_full))?;
+    Ok(())
+}
+
+// Whether the first entry is 0 in each row that vanishes, and positive in each facet row.
+fn is_centered(facets: &Matrix, hull: &Matrix) -> bool
+    ensures { IsTrue result
+        ↔ (All HasZeroFirst hull.now.rows × All HasPositiveFirst facets.now.rows) }
+{
+    has_zero_firsts(hull) && has_positive_firsts(facets)
+}
+
+// CENTERED: each row of AFFINE_HULL has the first entry 0, and each row of FACETS a positive one.
+fn centered(view: &View, draft: &mut Draft) -> Result<(), ClientFail>
+    requires kind { view.now.kind ≡ standard_kind client.Centered }
+    requires empty { draft.old ≡ record { kind = view.now.kind; values = [] } }
+    ensures draft { draft.new.kind ≡ draft.old.kind }
+    ensures sound { OnOk result (IsSound view.now draft.new) }
+    ensures failed { IfErr result (λ e. e ≡ Memory) }
+{
+    prove!(view.of() == ObjectType::Polytope);
+    let facets = matrix_of(view, PropId::Facets);
+    let hull = matrix_of(view, PropId::AffineHull);
+    let is_centered = is_centered(facets, hull);
+    put_value(draft, PropId::Centered, Value::Bool(is_centered))?;
     Ok(())
 }

@@ -6,3 +6,4 @@ pub mod FractionTexts
 pub mod MatrixLimits
 pub mod SetLimits
 pub mod Formed
+pub mod CountTurns

@@ -2,20 +2,21 @@
 -- A matrix is an array of at most 2,048 rows, which are arrays of one length from 1 to 33 of fractions: a fraction is a text, an optional `-`, digits, and optionally `/` and digits that do not write 0, none of them above 2^127 - 1, or a whole JSON number from -2^63 to 2^64 - 1.
 -- Sets are an array of at most 2,048 sets, which are arrays of indices below 2,048, in any order and none twice; after the sets maybe {"cols":n}, n at most 2,048 and above every index; without it the column count is one more than the greatest index, or 0.
 -- A whole number is a whole JSON number of 64 bits, for CONE_AMBIENT_DIM from 1 to 33; a truth value is true or false.
+-- A list of counts is an array of at most 2,048 whole numbers of 64 bits, each a whole JSON number or a text, an optional `-` and digits.
 -- Values of further kinds are not read yet, and F2_VECTOR and LP.LINEAR_OBJECTIVE will have forms of their own.
 -- Of several faults the first in reading order counts, which goes through the elements from the first to the last. At one element it is the first of these: `Shape`, a JSON value of another form, an element that makes a row longer than the first, an index that its set has already; `Number`, a number, or in matrices a text, that is not allowed there; `Index`, an index that is negative, or not below the column count; `Limit`, a count beyond its bound.
 -- A count that is too large is a fault of the first element too many; a row that is too short is one of its end. Indices are held against the column count
 -- after the last element.
-use Rattle.std.specs.Prelude.{ℕ, zero, suc, ◌==◌, ◌%◌, ◌/◌, ◌^◌, ◌&&◌, ◌++◌, ◌∷◌, Bool, true, false, not, List, [], length, max, nat_le, nat_lt, Option, Some, None, is_some, Result, Ok, Err, codes, if◌then◌else◌}
+use Rattle.std.specs.Prelude.{ℕ, zero, suc, ◌==◌, ◌%◌, ◌/◌, ◌^◌, ◌&&◌, ◌++◌, ◌∷◌, Bool, true, false, not, List, [], length, max, nat_le, nat_lt, Option, Some, None, is_some, Result, Ok, Err, codes, if◌then◌else◌, slice_index}
 use Rattle.std.specs.Char.{is_ascii_digit}
 use Rattle.std.specs.List.{list_all, list_any}
-use Rattle.std.specs.Str.Parse.{digits_value, starts_with_minus}
+use Rattle.std.specs.Str.Parse.{digits_value, signed_digits_value, starts_with_minus, without_leading_sign}
 use Rattle.pm_algebra.specs.Numbers.{Ratio}
 use Rattle.pm_fraction.specs.Fractions.{ratio_of, signed}
 use Rattle.pm_fraction.specs.Text.{bottom_text, top_text}
-use Rattle.pm_types.specs.Forms.{is_dimension}
+use Rattle.pm_types.specs.Forms.{has_64_bits, is_dimension}
 use Rattle.pm_props.specs.Properties.{is_ambient, value_kind}
-use Rattle.pm_types.specs.Values.{PropertyValue, matrix, sets, whole, truth}
+use Rattle.pm_types.specs.Values.{PropertyValue, matrix, sets, whole, truth, counts}
 use Rattle.pm_types.specs.Views.{over_one}
 use Rattle.pm_props.specs.declared.property.PropId.{PropId}
 use Rattle.pm_props.specs.declared.property.ValueKind.{ValueKind}
@@ -195,12 +196,40 @@ whole_of p d = and_then (or_fault Shape (as_number d)) (λ n. and_then (or_fault
 abbrev pub truth_of : Data → Read PropertyValue
 truth_of d = and_then (or_fault Shape (as_bool d)) (λ b. Ok (truth b))
 
+-- ---- lists of counts
+-- an optional - and one digit or more, which write a number of 64 bits
+abbrev pub is_count_text : List ℕ → Bool
+is_count_text bs = not (slice_index bs 0 == 43) && nat_lt 0 (length (without_leading_sign bs)) && list_all is_ascii_digit (without_leading_sign bs) && has_64_bits (signed_digits_value 10 bs)
+
+abbrev pub count_of_text : List ℕ → Read ℤ
+count_of_text bs = if is_count_text bs then Ok (signed_digits_value 10 bs) else Err Number
+
+abbrev pub count_of_number : Data → Read ℤ
+count_of_number d = and_then (or_fault Shape (as_number d)) (λ n. or_fault Number (as_i64 n))
+
+abbrev pub whole_count_by : Option (List ℕ) → Data → Read ℤ
+whole_count_by (Some text) d = count_of_text text
+whole_count_by None d = count_of_number d
+
+-- a whole number of 64 bits, or a text that writes one
+abbrev pub whole_count_of : Data → Read ℤ
+whole_count_of d = whole_count_by (as_str d) d
+
+-- the numbers, of which k came before
+abbrev pub counts_from : ℕ → Items → Read (List ℤ)
+counts_from k no_items = Ok []
+counts_from k (item d ds) = and_then (whole_count_of d) (λ z. if nat_lt k 2048 then before z (counts_from (suc k) ds) else Err Limit)
+
+abbrev pub counts_of : Data → Read PropertyValue
+counts_of d = and_then (items_of d) (λ ds. and_then (counts_from 0 ds) (λ ks. Ok (counts ks)))
+
 -- ---- values
 abbrev pub reading_of : ValueKind → PropId → Data → Read PropertyValue
 reading_of kind.Mat p d = matrix_of d
 reading_of kind.Sets p d = sets_of d
 reading_of kind.Int p d = whole_of p d
 reading_of kind.Bool p d = truth_of d
+reading_of kind.Counts p d = counts_of d
 reading_of k p d = Err Shape
 
 -- the value of p that the JSON value d is, or the fault

@@ -1,6 +1,7 @@
 //! Values of properties from JSON, and the first fault of a text that is none.
 #![tactic(auto)]
 
+mod counts;
 mod fail;
 mod matrix;
 mod number;

@@ -8,6 +8,7 @@ ghost use Rattle.pm_types.specs.Views.{view_of};
 ghost use Rattle.serde_json.specs.View.{view};
 ghost use Rattle.std.specs.Prelude.{IfErr, IfOk, IsTrue, ◌≡◌, ◌≢◌, ◌↔◌};
 
+use crate::counts::read_counts;
 use crate::fail::ValueFail;
 use crate::matrix::read_matrix;
 use crate::sets::read_sets;
@@ -66,6 +67,7 @@ pub fn read_value(alloc: Global, p: PropId, v: &Value) -> Result<PropertyValue, 
         ValueKind::Sets => read_sets(alloc, v),
         ValueKind::Int => read_whole(p, v),
         ValueKind::Bool => read_truth(v),
+        ValueKind::Counts => read_counts(alloc, p, v),
         _ => Err(ValueFail::Shape),
     }
 }

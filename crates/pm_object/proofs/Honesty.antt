@@ -1,6 +1,6 @@
 -- An object stays honest.
 use Rattle.pm_algebra.proofs.Filters.{among_map, any_to, filter_among, map_among}
-use Rattle.pm_algebra.proofs.Lists.{Among, Contains_among, among_All, among_Contains, among_append, here, there}
+use Rattle.pm_algebra.proofs.Lists.{Among, Contains_among, among_Contains, among_append, here, there}
 use Rattle.pm_geom.specs.Things.{Orders}
 use Rattle.pm_types.specs.Things.{Thing}
 use Rattle.pm_props.specs.declared.object_type.ObjectType.{ObjectType}
@@ -10,17 +10,16 @@ use Rattle.pm_object.specs.State.{HeldValue, State, cols_of, empty_object, is_se
 use Rattle.pm_object.specs.declared.held.Origin.TheVariants.{Given}
 use Rattle.pm_types.proofs.Kept.{kept}
 use Rattle.pm_props.specs.Kinds.{IsFresh}
-use Rattle.pm_props.specs.Properties.{facets_tag, has_program, rays_tag}
+use Rattle.pm_props.specs.Properties.{facets_tag, rays_tag}
 use Rattle.pm_types.specs.Right.{RightAll}
 use Rattle.pm_types.specs.Runs.{IsFree, MayAnswer, MayRun, missing, shown}
-use Rattle.pm_props.specs.Places.{place_of}
 use Rattle.pm_types.specs.Values.{Fact}
 use Rattle.pm_props.specs.declared.kind.Kind.{Kind}
 use Rattle.pm_props.specs.declared.property.PropId.{PropId}
 use Rattle.std.proofs.Common.{ap, append-nil, arith, false, inl, inr, refl, subst, sym, true, true≢false, ◌∙◌}
 use Rattle.std.specs.List.{Contains}
 use Rattle.std.specs.Option.{unwrap_or}
-use Rattle.std.specs.Prelude.{Bool, List, None, Option, suc, [], if◌then◌else◌, length, map, nat_eq, not, ℕ, ◌++◌, ◌∷◌, ◌≡◌}
+use Rattle.std.specs.Prelude.{Bool, List, Option, suc, [], if◌then◌else◌, length, map, nat_eq, not, ℕ, ◌++◌, ◌∷◌, ◌≡◌}
 
 facts_append : (xs ys : List HeldValue) → facts (xs ++ ys) ≡ facts xs ++ facts ys
 facts_append [] ys = refl

@@ -3,7 +3,8 @@
 ghost use Rattle.std.specs.Prelude.{◌≡◌};
 
 use pm_geom::Evidence;
-use pm_types::{Cost, PropId, RuleId, Value};
+use pm_types::{PropId, RuleId, Value};
+use pm_weights::Cost;
 use thiserror::Error;
 
 /// How a value came to be held.

@@ -271,21 +271,21 @@ impl Object {
         )?;
         push_if(
             &mut names,
-            points & self.lacks(PropId::InputLineality),
+            points && self.lacks(PropId::InputLineality),
             PropId::InputLineality,
         )?;
         push_if(
             &mut names,
-            inequalities & self.lacks(PropId::Equations),
+            inequalities && self.lacks(PropId::Equations),
             PropId::Equations,
         )?;
         push_if(
             &mut names,
             vertices
-                & !points
-                & !inequalities
-                & !(facets & hull)
-                & self.lacks(PropId::LinealitySpace),
+                && !points
+                && !inequalities
+                && !(facets && hull)
+                && self.lacks(PropId::LinealitySpace),
             PropId::LinealitySpace,
         )?;
         push_if(
@@ -391,7 +391,7 @@ impl Object {
 fn are_alone(facets: bool, points: bool, inequalities: bool, vertices: bool, hull: bool) -> bool
     ensures { result ≡ (facets && not points && not inequalities && not vertices && not hull) }
 {
-    facets & !points & !inequalities & !vertices & !hull
+    facets && !points && !inequalities && !vertices && !hull
 }
 
 // Whether a label stands in the list.

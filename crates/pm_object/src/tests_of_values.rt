@@ -28,6 +28,7 @@ pub fn stated_cols(p: PropId, v: &Value) -> usize
         Value::Sets(_) => 0,
         Value::Int(_) => 0,
         Value::Bool(_) => 0,
+        Value::Counts(_) => 0,
     }
 }
 
@@ -72,6 +73,7 @@ fn states(n: usize, v: &Value) -> bool
         Value::Mat(_) => true,
         Value::Sets(_) => true,
         Value::Bool(_) => true,
+        Value::Counts(_) => true,
     }
 }
 
@@ -90,6 +92,7 @@ pub fn are_rows(of: ObjectType, p: PropId, v: &Value) -> bool
         Value::Sets(_) => true,
         Value::Int(_) => true,
         Value::Bool(_) => true,
+        Value::Counts(_) => true,
     }
 }
 
@@ -175,6 +178,7 @@ pub fn require_primitive_rows(alloc: Global, p: PropId, v: &Value) -> Result<(),
         Value::Sets(_) => Ok(()),
         Value::Int(_) => Ok(()),
         Value::Bool(_) => Ok(()),
+        Value::Counts(_) => Ok(()),
     }
 }
 

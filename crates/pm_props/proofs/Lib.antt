@@ -4,5 +4,4 @@ pub mod Every
 pub mod Places
 pub mod NameLemmas
 pub mod NameBytes
-pub mod CostOrder
 pub mod KindLemmas

@@ -3,6 +3,5 @@ pub mod Properties
 pub mod Places
 pub mod Names
 pub mod Sets
-pub mod Weights
 pub mod Padded
 pub mod Kinds

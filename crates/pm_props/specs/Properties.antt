@@ -52,14 +52,14 @@ row CombinatorialDim = record (plain 12 (codes "COMBINATORIAL_DIM") kind.Int tab
 row NVertices = record (plain 13 (codes "N_VERTICES") kind.Int tables.All) { cone_name = codes "N_RAYS"; fan_name = codes "N_RAYS"; is_accepted = true }
 row NFacets = record (plain 14 (codes "N_FACETS") kind.Int tables.PolytopesAndCones) { is_accepted = true }
 row Feasible = record (plain 15 (codes "FEASIBLE") kind.Bool tables.Polytopes) { is_accepted = true }
-row Bounded = plain 16 (codes "BOUNDED") kind.Bool tables.Polytopes
+row Bounded = record (plain 16 (codes "BOUNDED") kind.Bool tables.Polytopes) { is_accepted = true }
 row Pointed = record (plain 17 (codes "POINTED") kind.Bool tables.All) { is_accepted = true }
 row FullDim = record (plain 18 (codes "FULL_DIM") kind.Bool tables.PolytopesAndCones) { is_accepted = true }
-row Centered = plain 19 (codes "CENTERED") kind.Bool tables.Polytopes
-row Simple = plain 20 (codes "SIMPLE") kind.Bool tables.PolytopesAndCones
-row Simplicial = plain 21 (codes "SIMPLICIAL") kind.Bool tables.All
-row VertexSizes = record (plain 22 (codes "VERTEX_SIZES") kind.Counts tables.PolytopesAndCones) { cone_name = codes "RAY_SIZES"; speaks_of_rays = true }
-row FacetSizes = record (plain 23 (codes "FACET_SIZES") kind.Counts tables.PolytopesAndCones) { speaks_of_facets = true }
+row Centered = record (plain 19 (codes "CENTERED") kind.Bool tables.Polytopes) { is_accepted = true }
+row Simple = record (plain 20 (codes "SIMPLE") kind.Bool tables.PolytopesAndCones) { is_accepted = true }
+row Simplicial = record (plain 21 (codes "SIMPLICIAL") kind.Bool tables.All) { is_accepted = true }
+row VertexSizes = record (plain 22 (codes "VERTEX_SIZES") kind.Counts tables.PolytopesAndCones) { cone_name = codes "RAY_SIZES"; speaks_of_rays = true; is_accepted = true }
+row FacetSizes = record (plain 23 (codes "FACET_SIZES") kind.Counts tables.PolytopesAndCones) { speaks_of_facets = true; is_accepted = true }
 row HasseDiagram = record (plain 24 (codes "HASSE_DIAGRAM") kind.Lattice tables.PolytopesAndCones) { speaks_of_rays = true }
 row FVector = plain 25 (codes "F_VECTOR") kind.Counts tables.PolytopesAndCones
 row F2Vector = plain 26 (codes "F2_VECTOR") kind.Mat tables.PolytopesAndCones
@@ -71,7 +71,7 @@ row DualDiameter = plain 31 (codes "DUAL_DIAMETER") kind.Int tables.PolytopesAnd
 row NEdges = plain 32 (codes "N_EDGES") kind.Int tables.PolytopesAndCones
 row NRidges = plain 33 (codes "N_RIDGES") kind.Int tables.PolytopesAndCones
 row VertexDegrees = record (plain 34 (codes "VERTEX_DEGREES") kind.Counts tables.PolytopesAndCones) { cone_name = codes "RAY_DEGREES"; speaks_of_rays = true }
-row FarFace = record (plain 35 (codes "FAR_FACE") kind.Counts tables.Polytopes) { speaks_of_rays = true }
+row FarFace = record (plain 35 (codes "FAR_FACE") kind.Counts tables.Polytopes) { speaks_of_rays = true; is_accepted = true }
 row MaximalCones = record (plain 36 (codes "MAXIMAL_CONES") kind.Sets tables.Fans) { speaks_of_rays = true; speaks_of_facets = true }
 row NMaximalCones = plain 37 (codes "N_MAXIMAL_CONES") kind.Int tables.Fans
 row MaximalConesDims = record (plain 38 (codes "MAXIMAL_CONES_DIMS") kind.Counts tables.Fans) { speaks_of_facets = true }
@@ -229,3 +229,7 @@ is_of_whole_numbers k = false
 abbrev pub is_of_truth_values : ValueKind → Bool
 is_of_truth_values kind.Bool = true
 is_of_truth_values k = false
+
+abbrev pub is_of_counts : ValueKind → Bool
+is_of_counts kind.Counts = true
+is_of_counts k = false

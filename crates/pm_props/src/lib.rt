@@ -1,5 +1,5 @@
-//! The properties of objects and their table, sets of properties, kinds of clients, weights and costs, and the standard
-//! rules. It knows nothing of values, and nothing of geometry.
+//! The properties of objects and their table, sets of properties, kinds of clients, and the standard rules. It knows
+//! nothing of values, and nothing of geometry.
 #![tactic(auto)]
 
 mod client_name;
@@ -9,7 +9,6 @@ mod object_type;
 mod property;
 mod set;
 mod standard;
-mod weight;
 
 pub use client_name::ClientName;
 pub use kind::{Kind, RuleId};
@@ -17,4 +16,3 @@ pub use object_type::ObjectType;
 pub use property::{COUNT, Columns, Describes, PropId, PropertyRow, RowTest, Tables, ValueKind};
 pub use set::PropSet;
 pub use standard::{StandardClient, StandardRule, standard_kinds};
-pub use weight::{Cost, Weight};

@@ -317,16 +317,16 @@ impl PropId {
                 | cone_name: "N_RAYS", fan_name: "N_RAYS", is_accepted: true),
             Self::NFacets => property!(14 "N_FACETS" Int PolytopesAndCones | is_accepted: true),
             Self::Feasible => property!(15 "FEASIBLE" Bool Polytopes | is_accepted: true),
-            Self::Bounded => property!(16 "BOUNDED" Bool Polytopes),
+            Self::Bounded => property!(16 "BOUNDED" Bool Polytopes | is_accepted: true),
             Self::Pointed => property!(17 "POINTED" Bool All | is_accepted: true),
             Self::FullDim => property!(18 "FULL_DIM" Bool PolytopesAndCones | is_accepted: true),
-            Self::Centered => property!(19 "CENTERED" Bool Polytopes),
-            Self::Simple => property!(20 "SIMPLE" Bool PolytopesAndCones),
-            Self::Simplicial => property!(21 "SIMPLICIAL" Bool All),
+            Self::Centered => property!(19 "CENTERED" Bool Polytopes | is_accepted: true),
+            Self::Simple => property!(20 "SIMPLE" Bool PolytopesAndCones | is_accepted: true),
+            Self::Simplicial => property!(21 "SIMPLICIAL" Bool All | is_accepted: true),
             Self::VertexSizes => property!(22 "VERTEX_SIZES" Counts PolytopesAndCones
-                | cone_name: "RAY_SIZES", speaks_of_rays: true),
+                | cone_name: "RAY_SIZES", speaks_of_rays: true, is_accepted: true),
             Self::FacetSizes => property!(23 "FACET_SIZES" Counts PolytopesAndCones
-                | speaks_of_facets: true),
+                | speaks_of_facets: true, is_accepted: true),
             Self::HasseDiagram => property!(24 "HASSE_DIAGRAM" Lattice PolytopesAndCones
                 | speaks_of_rays: true),
             Self::FVector => property!(25 "F_VECTOR" Counts PolytopesAndCones),
@@ -341,7 +341,8 @@ impl PropId {
             Self::NRidges => property!(33 "N_RIDGES" Int PolytopesAndCones),
             Self::VertexDegrees => property!(34 "VERTEX_DEGREES" Counts PolytopesAndCones
                 | cone_name: "RAY_DEGREES", speaks_of_rays: true),
-            Self::FarFace => property!(35 "FAR_FACE" Counts Polytopes | speaks_of_rays: true),
+            Self::FarFace => property!(35 "FAR_FACE" Counts Polytopes
+                | speaks_of_rays: true, is_accepted: true),
             Self::MaximalCones => property!(36 "MAXIMAL_CONES" Sets Fans
                 | speaks_of_rays: true, speaks_of_facets: true),
             Self::NMaximalCones => property!(37 "N_MAXIMAL_CONES" Int Fans),

@@ -119,11 +119,11 @@ feasible_is_found t o h k b c d (r, e, rank) says =
     (λ y. found.1 (λ z. says.0 y (same.1 z)), λ w. says.1 (λ z. found.0 w (same.0 z)))
 
 -- ---- the lineality is {0} where its dimension is 0
-no_rows : (K : List Row) → length K ≡ 0 → (x : Row) → InSpan K x → IsZero x
+pub no_rows : (K : List Row) → length K ≡ 0 → (x : Row) → InSpan K x → IsZero x
 no_rows [] e x h = none_to_zero x h
 no_rows (k ∷ K) e x h = absurd (omega arith)
 
-zero_rows : (K : List Row) → IsIndependent K → ((k : Row) → Among k K → IsZero k) → length K ≡ 0
+pub zero_rows : (K : List Row) → IsIndependent K → ((k : Row) → Among k K → IsZero k) → length K ≡ 0
 zero_rows [] free f = refl
 zero_rows (k ∷ K) free f =
     let few = independent_are_few (k ∷ K) [] free (λ i l. in_zero (f (row_at (k ∷ K) i) (at_place (k ∷ K) i l))) in

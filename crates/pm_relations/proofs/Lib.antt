@@ -7,5 +7,7 @@ pub mod Found
 pub mod PrimitiveStanding
 pub mod WholeRows
 pub mod Twins
+pub mod FirstEntries
 pub mod Orders
 pub mod Hulls
+pub mod Sizes

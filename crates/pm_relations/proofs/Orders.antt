@@ -163,10 +163,10 @@ module _ (n : ℕ) (S : Row → Type 0) (cs : IsConeSet S) (V W : List Row) (o :
 
 -- ---- a thing
 -- the rows whose products with a cone are not negative, of any length
-abbrev Holds : ℕ → List Row → List Row → Row → Type 0
+abbrev pub Holds : ℕ → List Row → List Row → Row → Type 0
 Holds n G L a = (x : Row) → length x ≡ n → InCone G L x → pos 0 ≤ℤ dot a x
 
-holds_set : (n : ℕ) (G L : List Row) → IsConeSet (Holds n G L)
+pub holds_set : (n : ℕ) (G L : List Row) → IsConeSet (Holds n G L)
 holds_set n G L = record {
   same = λ {x = a} {y = b} s h x c i. let e = dot-same x a b s.at in rw (dot_comm b x, ← e, ← dot_comm a x) (h x c i);
   sum = λ {x = a} {y = b} h k x c i. let p = h x c i in let q = k x c i in rw (dot_comm (plus a b) x, dot-plus x a b, dot_comm x a, dot_comm x b) (omega (arith, ints));
@@ -174,7 +174,7 @@ holds_set n G L = record {
   part = λ {k} {x = a} hk h x c i. nonneg_cancel hk (rw (dot_comm (times k a) x, dot-times x k a, dot_comm x a) at (h x c i));
 }
 
-facets_hold : (n : ℕ) (G L F : List Row) → IsOrder n (IsValid n G L) F → IsOrder n (Holds n G L) F
+pub facets_hold : (n : ℕ) (G L F : List Row) → IsOrder n (IsValid n G L) F → IsOrder n (Holds n G L) F
 facets_hold n G L F o = order_as n (IsValid n G L) (Holds n G L) (λ a c v. v.holds) (λ a c h. record { cols = c; holds = h }) o
 
 fan_rays : (n : ℕ) (Gs : List (List Row)) (L : List Row) (o p : Orders) → AreFanOrders n Gs L o → AreFanOrders n Gs L p → length o.rays ≡ length p.rays

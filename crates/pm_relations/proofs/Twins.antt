@@ -26,7 +26,7 @@ use lib.Signed.{◌<ℤ◌, ◌≤ℤ◌}
 -- ---- lists in one order
 -- what is so of each row of the one list makes something so of each row of the other
 module _ (R : Row → Row → Type 0) (A B : Row → Type 0) where
-  in_order_to : ((v x : Row) → R v x → A v → B x) → (vs xs : List Row) → InOrder R vs xs → ((v : Row) → Among v vs → A v) → (x : Row) → Among x xs → B x
+  pub in_order_to : ((v x : Row) → R v x → A v → B x) → (vs xs : List Row) → InOrder R vs xs → ((v : Row) → Among v vs → A v) → (x : Row) → Among x xs → B x
   in_order_to step [] [] o f x i = elim i [ ]
   in_order_to step [] (y ∷ xs) o f x i = absurd o
   in_order_to step (v ∷ vs) [] o f x i = absurd o
@@ -62,7 +62,7 @@ module _ (n : ℕ) (S : Row → Type 0) (K : List Row) (lines : (w : Row) → le
 
 -- ---- the extreme rays and the lineality
 -- a row that is alike to one of a cone set is in it
-alike_inside : (n : ℕ) (S : Row → Type 0) → IsConeSet S → (v x : Row) → SameModulo n S v x → S v → S x
+pub alike_inside : (n : ℕ) (S : Row → Type 0) → IsConeSet S → (v x : Row) → SameModulo n S v x → S v → S x
 alike_inside n S cs v x s h = cs.part s.p_positive (cs.same (same_sym s.same) (cs.sum (cs.multiple (weaken s.k_positive) h) s.line.inside))
 
 module _ (n : ℕ) (G L V xs : List Row) (o : IsOrder n (InCone G L) V) (order : InOrder (SameModulo n (InCone G L)) V xs) where
@@ -72,7 +72,7 @@ module _ (n : ℕ) (G L V xs : List Row) (o : IsOrder n (InCone G L) V) (order :
       (in_order_to (SameModulo n (InCone G L)) (InCone G L) (InCone G L) (alike_inside n (InCone G L) (in_cone_set G L)) V xs order
       (λ v i. (among_All (λ u. IsExtreme n (InCone G L) u) i o.each).inside))
 
-  rays_generate : HasCols n G → HasCols n L → (K : List Row) → IsBasis n (InLineality (InCone G L)) K → (x : Row) → length x ≡ n → InCone G L x ↔ InCone xs K x
+  pub rays_generate : HasCols n G → HasCols n L → (K : List Row) → IsBasis n (InLineality (InCone G L)) K → (x : Row) → length x ≡ n → InCone G L x ↔ InCone xs K x
   rays_generate hg hl K b x lx =
       let gen = order_generates n G L hg hl V K b.cols o (basis_lineality n G L K b) x lx in
       let same = alike_generate n (InCone G L) K b.spans V xs order x in
@@ -84,7 +84,7 @@ alike_product : (p k x v w : ℤ) → pos 0 <ℤ p → pos 0 <ℤ k → p *ℤ x
 alike_product p k x v w hp hk e hv hw = let q = mul_nonneg (weaken hk) hv in nonneg_cancel hp (omega (arith, ints))
 
 -- a row of n entries that is alike to a valid row is valid
-alike_valid : (n : ℕ) (G L : List Row) (a x : Row) → length x ≡ n → SameModulo n (IsValid n G L) a x → IsValid n G L a → IsValid n G L x
+pub alike_valid : (n : ℕ) (G L : List Row) (a x : Row) → length x ≡ n → SameModulo n (IsValid n G L) a x → IsValid n G L a → IsValid n G L x
 alike_valid n G L a x lx s v = record {
   cols = lx;
   holds = λ y ly h.
@@ -106,7 +106,7 @@ module _ (n : ℕ) (G L F xs : List Row) (cols : HasCols n xs) (o : IsOrder n (I
   facets_valid = All_among (IsValid n G L) xs facet_valid
 
   module _ (hg : HasCols n G) (hl : HasCols n L) (E : List Row) (basis : IsBasis n (Vanishes n G L) E) where
-    valid_from_facets : (a : Row) → IsValid n G L a → InCone xs E a
+    pub valid_from_facets : (a : Row) → IsValid n G L a → InCone xs E a
     valid_from_facets a v =
         (alike_generate n (IsValid n G L) E (λ w l s. basis.spans w l ((vanishes_line n G L hg hl w l).1 s)) F xs order a).0
         ((valid_generated n G L hg hl F E basis.cols o (hull_rows n G L hg hl E basis) a v.cols).0 v)
@@ -139,12 +139,12 @@ orders_of Polytope n G L Gs o no_fan h = h
 orders_of Cone n G L Gs o no_fan h = h
 orders_of Fan n G L Gs o no_fan h = absurd (no_fan refl)
 
-rays_of : (of : ObjectType) (n : ℕ) (G L V xs : List Row) → ¬ (of ≡ Fan) → InOrder (SameRayOf of n G L) V xs → InOrder (SameModulo n (InCone G L)) V xs
+pub rays_of : (of : ObjectType) (n : ℕ) (G L V xs : List Row) → ¬ (of ≡ Fan) → InOrder (SameRayOf of n G L) V xs → InOrder (SameModulo n (InCone G L)) V xs
 rays_of Polytope n G L V xs no_fan h = h
 rays_of Cone n G L V xs no_fan h = h
 rays_of Fan n G L V xs no_fan h = absurd (no_fan refl)
 
-lines_of : (of : ObjectType) (n : ℕ) (G L K : List Row) → ¬ (of ≡ Fan) → IsBasis n (InLinesOf of G L) K → IsBasis n (InLineality (InCone G L)) K
+pub lines_of : (of : ObjectType) (n : ℕ) (G L K : List Row) → ¬ (of ≡ Fan) → IsBasis n (InLinesOf of G L) K → IsBasis n (InLineality (InCone G L)) K
 lines_of Polytope n G L K no_fan h = h
 lines_of Cone n G L K no_fan h = h
 lines_of Fan n G L K no_fan h = absurd (no_fan refl)

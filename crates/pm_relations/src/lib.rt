@@ -2,6 +2,7 @@
 //! It has no code.
 #![tactic(auto)]
 
+ghost use Rattle.pm_relations.specs.FirstEntries.{BoundedIsFound, CenteredIsFound, FarFaceIsFound};
 ghost use Rattle.pm_relations.specs.Laws.{CombinatorialDimIsFound, ConeDimIsFound, ConeDimIsLeft, DimensionsAreDetermined, DimensionsExist, EchelonIsRight, FacetsCutOut, FeasibleIsFound, FullDimIsFound, HullIsFound, LinealityDimIsFound, LinealityIsFound, OrdersAreAsLong, PairSpans, PointedIsFound, VerticesGenerate, VerticesSpan};
 
 /// There are right values of CONE_DIM and of LINEALITY_DIM.
@@ -87,4 +88,19 @@ pub fn law_facets_cut_out()
 /// Any two orders of a thing have as many rays, and as many facets.
 pub fn law_orders_are_as_long()
     ensures { OrdersAreAsLong }
+{}
+
+/// BOUNDED says whether there is no line and each ray has a positive first entry.
+pub fn law_bounded_is_found()
+    ensures { BoundedIsFound }
+{}
+
+/// FAR_FACE has the places of the rays whose first entry is 0.
+pub fn law_far_face_is_found()
+    ensures { FarFaceIsFound }
+{}
+
+/// CENTERED says whether the first entry is 0 in each row that vanishes and positive in each facet row.
+pub fn law_centered_is_found()
+    ensures { CenteredIsFound }
 {}

@@ -1,26 +1,33 @@
 -- The cone over a bipyramid: its counts.
 use Rattle.pm_relations.proofs.Standing.{whole_objective}
-use Rattle.pm_algebra.proofs.ConeLaws.{dot_in, in_cone_set}
-use Rattle.pm_algebra.proofs.Lists.{Among, Contains_among, among_Contains, here, there}
+use Rattle.pm_algebra.proofs.ConeLaws.{dot_in, in_cone_set, in_generator, none_from_zero, none_to_zero}
+use Rattle.pm_algebra.proofs.Lists.{All_among, Among, Contains_among, all_at, among_Contains, here, there}
 use Rattle.pm_algebra.proofs.Ring.{ring}
-use Rattle.pm_algebra.proofs.RowLaws.{dot-plus, dot-same, dot-times, dot_comm}
-use Rattle.pm_algebra.proofs.Signs.{mul_cancel}
-use Rattle.pm_algebra.specs.Cones.{InCone}
-use Rattle.pm_algebra.specs.Rows.{HasCols, Row, Same, dot, entry, plus, times}
+use Rattle.pm_algebra.proofs.RowLaws.{dot-nil, dot-same, dot_comm}
+use Rattle.pm_algebra.specs.Cones.{InCone, InSpan}
+use Rattle.pm_algebra.specs.Rows.{HasCols, IsZero, Row, Same, dot, entry}
+use Rattle.pm_bases.specs.Bases.{IsRank}
 use Rattle.pm_geom.proofs.Apart.{apart, not_below, not_below_at, order_of_apart, products, without}
 use Rattle.pm_geom.proofs.Facets.{dot-opposite, order_as}
 use Rattle.pm_geom.proofs.ValidRows.{Tables, facet_order, in_valid, valid_in}
-use Rattle.pm_geom.specs.Cones.{CutOut, InLineality, IsOrder, IsValid, SameModulo}
+use Rattle.pm_geom.proofs.Dimension.{rank_is_left}
+use Rattle.pm_geom.specs.Cones.{CutOut, InLineality, IsOrder, IsValid, SameModulo, Vanishes}
 use Rattle.pm_geom.specs.Faces.{ray}
 use Rattle.pm_types.specs.Things.{AreOrders, IsThing}
 use Rattle.pm_geom.specs.Things.{Orders}
-use Rattle.pm_relations.proofs.Orders.{orders_length, orders_total, total}
+use Rattle.pm_relations.proofs.Orders.{orders_length, orders_total}
+use Rattle.pm_relations.proofs.Sizes.{alike_ones, simple_by_sizes, simplicial_by_sizes, tight_total, vanishing_total}
 use Rattle.pm_right_examples.specs.BipyramidExamples.{BipyramidCountsAreRead, bipyramid, bipyramid_orders, bipyramid_thing, side_sets, sides, sizes_of_facets, sizes_of_rays}
-use Rattle.pm_types.specs.Right.{IsIncidence, one_if_zero, tight, vanishing}
-use Rattle.std.proofs.Common.{T, ap, arith, inl, inr, refl, subst, sym, ◌∙◌}
+use Rattle.pm_props.specs.declared.object_type.ObjectType.{ObjectType}
+use Rattle.pm_props.specs.declared.object_type.ObjectType.TheVariants.{Cone, Fan}
+use Rattle.pm_props.specs.declared.property.PropId.TheVariants.{Simple, Simplicial}
+use Rattle.pm_right_examples.proofs.DimensionExamples.{no_lines, none_independent}
+use Rattle.pm_types.specs.Right.{IsCombinatorialDim, IsIncidence, Right, one_if_zero, tight, vanishing}
+use Rattle.pm_types.specs.Values.{truth}
+use Rattle.std.proofs.Common.{T, ap, arith, inl, inr, refl, subst, sym, true≢false, ◌∙◌}
 use Rattle.std.proofs.lemmas.Int.{by_lt_z, ints}
-use Rattle.std.specs.List.{Contains}
-use Rattle.std.specs.Prelude.{List, [], length, map, suc, zero, ℕ, ◌+◌, ◌↔◌, ◌∷◌, ◌≡◌, ◌<◌, ◌⊎◌}
+use Rattle.std.specs.List.{All, Contains}
+use Rattle.std.specs.Prelude.{Bool, List, [], false, length, map, suc, true, zero, ℕ, ◌+◌, ◌++◌, ◌↔◌, ◌∷◌, ◌≡◌, ◌<◌, ◌⊎◌}
 use lib.IntN.{neg_ℤ, negsuc, pos, ℤ, ◌*ℤ◌, ◌+ℤ◌}
 use lib.Signed.{lt_z_yes, ◌<ℤ◌}
 
@@ -140,36 +147,8 @@ module _ (G : List Row) (x : Row) (valid : T (products not_below x G)) where
       let down = rw dot-opposite at (dot_in x G [] (λ g i. not_below_at x i valid) (λ k i. elim i [ ]) l.opposed) in
       omega (arith, ints)
 
-  scaled : (v w : Row) (s : SameModulo 4 (InCone G []) v w) → s.p *ℤ dot x w ≡ s.k *ℤ dot x v
-  scaled v w s =
-      let e = simp (dot-times, dot-plus) at (dot-same x (times s.p w) (plus (times s.k v) s.w) s.same.at) in
-      let z = on_line s.w s.line in
-      omega (arith, ints)
-
-  zero_if : (p q z w : ℤ) → pos 0 <ℤ p → p *ℤ w ≡ q *ℤ z → z ≡ pos 0 → w ≡ pos 0
-  zero_if p q z w h e z0 = mul_cancel h (e ∙ simp (z0, ring) refl)
-
   pub same_if_zero : (v w : Row) → SameModulo 4 (InCone G []) v w → one_if_zero (dot x v) ≡ one_if_zero (dot x w)
-  same_if_zero v w s = go (dot x v) (dot x w) (λ e. zero_if s.p s.k (dot x v) (dot x w) s.p_positive (scaled v w s) e) (λ e. zero_if s.k s.p (dot x w) (dot x v) s.k_positive (sym (scaled v w s)) e)
-    where
-      go : (z w : ℤ) → (z ≡ pos 0 → w ≡ pos 0) → (w ≡ pos 0 → z ≡ pos 0) → one_if_zero z ≡ one_if_zero w
-      go (pos zero) (pos zero) f g = refl
-      go (pos zero) (pos (suc k)) f g = absurd (let e = f refl in omega (arith, ints))
-      go (pos zero) (negsuc k) f g = absurd (let e = f refl in omega (arith, ints))
-      go (pos (suc k)) (pos zero) f g = absurd (let e = g refl in omega (arith, ints))
-      go (negsuc k) (pos zero) f g = absurd (let e = g refl in omega (arith, ints))
-      go (pos (suc k)) (pos (suc l)) f g = refl
-      go (pos (suc k)) (negsuc l) f g = refl
-      go (negsuc k) (pos (suc l)) f g = refl
-      go (negsuc k) (negsuc l) f g = refl
-
-vanishing_total : (F : List Row) (v : Row) → vanishing F v ≡ total (λ f. one_if_zero (dot v f)) F
-vanishing_total [] v = refl
-vanishing_total (f ∷ F) v = let e = vanishing_total F v in rw (dot_comm f v, e) refl
-
-tight_total : (V : List Row) (a : Row) → tight V a ≡ total (λ v. one_if_zero (dot a v)) V
-tight_total [] a = refl
-tight_total (v ∷ V) a = let e = tight_total V a in rw e refl
+  same_if_zero v w s = alike_ones 4 (InCone G []) x (λ w l i. on_line w i) v w s
 
 vanishing_same : (v : Row) → T (products not_below v sides) → (p : Orders) → AreOrders bipyramid_thing p → vanishing sides v ≡ vanishing p.facets v
 vanishing_same v valid p o =
@@ -263,6 +242,68 @@ side_incidence = subst (λ rows. IsIncidence sides bipyramid rows) (sym sets_are
 five_not_six : sizes_of_facets ≡ sizes_of_rays → ⊥
 five_not_six e = let l = ap length e in omega arith
 
+-- ---- simple and simplicial
+four_zero : (a b c d : ℤ) → a ≡ pos 0 → b ≡ pos 0 → c ≡ pos 0 → d ≡ pos 0 → IsZero (four a b c d)
+four_zero a b c d ea eb ec ed zero = ea
+four_zero a b c d ea eb ec ed (suc zero) = eb
+four_zero a b c d ea eb ec ed (suc (suc zero)) = ec
+four_zero a b c d ea eb ec ed (suc (suc (suc zero))) = ed
+four_zero a b c d ea eb ec ed (suc (suc (suc (suc i)))) = refl
+
+vanishing_zero : (a b c d : ℤ) → Vanishes 4 bipyramid [] (four a b c d) → IsZero (four a b c d)
+vanishing_zero a b c d v =
+    let p = simp ring at (v.holds (four (pos 1) (pos 0) (pos 0) (pos 0)) refl (in_generator here)) in
+    let q = simp ring at (v.holds (four (pos 0) (pos 1) (pos 0) (pos 0)) refl (in_generator (there here))) in
+    let r = simp ring at (v.holds (four (pos 0) (pos 0) (pos 1) (pos 0)) refl (in_generator (there (there here)))) in
+    let s = simp ring at (v.holds (four (pos 0) (pos 0) (pos 0) (pos 1)) refl (in_generator (there (there (there here))))) in
+    four_zero a b c d (omega (arith, ints)) (omega (arith, ints)) (omega (arith, ints)) (omega (arith, ints))
+
+none_vanish : (a : Row) → length a ≡ 4 → Vanishes 4 bipyramid [] a ↔ InSpan [] a
+none_vanish a la = (
+  λ v. none_from_zero a (by_four (λ y. Vanishes 4 bipyramid [] y → IsZero y) vanishing_zero a la v),
+  λ h. record { cols = la; holds = λ x l k. dot_comm a x ∙ dot-same x a [] (none_to_zero a h) ∙ dot-nil x },
+)
+
+solid : IsRank (bipyramid ++ []) 4
+solid = (rank_is_left 4 bipyramid [] rays_cols tt [] tt none_independent none_vanish 4).1 refl
+
+line_zero : (a b c d : ℤ) → InLineality (InCone bipyramid []) (four a b c d) → IsZero (four a b c d)
+line_zero a b c d l =
+    let p = simp ring at (on_line bipyramid (four (pos 1) (pos 0) (pos 0) (pos 0)) tt (four a b c d) l) in
+    let q = simp ring at (on_line bipyramid (four (pos 0) (pos 1) (pos 0) (pos 0)) tt (four a b c d) l) in
+    let r = simp ring at (on_line bipyramid (four (pos 0) (pos 0) (pos 1) (pos 0)) tt (four a b c d) l) in
+    let s = simp ring at (on_line bipyramid (four (pos 1) (pos 0) (pos 0) (pos 1)) tt (four a b c d) l) in
+    four_zero a b c d (omega (arith, ints)) (omega (arith, ints)) (omega (arith, ints)) (omega (arith, ints))
+
+dimension : IsCombinatorialDim bipyramid_thing (pos 3)
+dimension = record {
+  cone = 4;
+  lineality = 0;
+  is_cone = solid;
+  is_lineality = no_lines 4 (InLineality (InCone bipyramid [])) (λ x l s. none_from_zero x (by_four (λ y. InLineality (InCone bipyramid []) y → IsZero y) line_zero x l s));
+  less = refl;
+}
+
+is_cone : ObjectType → Bool
+is_cone Cone = true
+is_cone of = false
+
+no_fan : ¬ (bipyramid_thing.of ≡ Fan)
+unfolding is_cone
+no_fan e = true≢false (ap is_cone e)
+
+all_three : All (λ z. z ≡ pos 3) sizes_of_facets
+all_three = All_among (λ z. z ≡ pos 3) sizes_of_facets (λ z i. all_at (λ (z : ℤ). z ≡ pos 3) i (refl, (refl, (refl, (refl, (refl, (refl, tt)))))))
+
+simplicial : Right Simplicial (truth true) bipyramid_thing bipyramid_orders []
+simplicial = simplicial_by_sizes bipyramid_thing bipyramid_orders are_orders no_fan sizes_of_facets (pos 3) true [] [] [] dimension ((λ y. all_three), (λ a. refl)) facet_sizes
+
+four_first : All (λ z. z ≡ pos 3) sizes_of_rays → ⊥
+four_first h = let e : pos 4 ≡ pos 3 = h 0 (pos 0) (omega arith) in omega (arith, ints)
+
+not_simple : Right Simple (truth false) bipyramid_thing bipyramid_orders []
+not_simple = simple_by_sizes bipyramid_thing bipyramid_orders are_orders no_fan sizes_of_rays (pos 3) false [] [] [] dimension ((λ y. absurd (true≢false (sym y))), (λ a. absurd (four_first a))) ray_sizes
+
 pub bipyramid_counts_are_read : BipyramidCountsAreRead
 bipyramid_counts_are_read = record {
   thing = is_thing;
@@ -278,4 +319,10 @@ bipyramid_counts_are_read = record {
   ray_sizes_refused = λ h. five_not_six (h bipyramid_orders are_orders);
   facet_sizes = facet_sizes;
   facet_sizes_refused = λ h. five_not_six (sym (h bipyramid_orders are_orders));
+  dimension = dimension;
+  simplicial = simplicial;
+  simplicial_refused = λ h. true≢false (sym ((h.1 bipyramid_orders are_orders).1 ((simplicial.1 bipyramid_orders are_orders).0 refl)));
+  not_simple = not_simple;
+  simple_refused = λ h. true≢false (sym ((not_simple bipyramid_orders are_orders).1 ((h bipyramid_orders are_orders).0 refl)));
+  of_no_fan = λ t o b e h. h.0 e;
 }

@@ -27,10 +27,10 @@ use lib.IntN.{pos, ℤ}
 whole_is : {j k : ℤ} → whole j ≡ whole k → j ≡ k
 whole_is h = cc
 
-none_independent : IsIndependent []
+pub none_independent : IsIndependent []
 none_independent c z i l = absurd (omega arith)
 
-no_lines : (n : ℕ) (S : Row → Type 0) → ((x : Row) → length x ≡ n → S x → InSpan [] x) → HasDimension n S 0
+pub no_lines : (n : ℕ) (S : Row → Type 0) → ((x : Row) → length x ≡ n → S x → InSpan [] x) → HasDimension n S 0
 no_lines n S f = record {
   rows = [];
   basis = record { cols = tt; inside = All_among S [] (λ x i. elim i [ ]); independent = none_independent; spans = f };

@@ -3,22 +3,24 @@ use Rattle.pm_relations.proofs.Standing.{whole_objective}
 use Rattle.pm_algebra.proofs.ConeLaws.{dot_in, in_generator, in_line, in_line_opposite, in_same, none_to_zero}
 use Rattle.pm_algebra.proofs.Lists.{All_among, Among, Contains_among, among_Contains, here, there}
 use Rattle.pm_algebra.proofs.Ring.{ring}
-use Rattle.pm_algebra.proofs.RowLaws.{dot-nil, dot-same, dot_comm}
+use Rattle.pm_algebra.proofs.RowLaws.{dot-nil, dot-same, dot_comm, length-opposite}
 use Rattle.pm_algebra.specs.Cones.{InCone}
-use Rattle.pm_algebra.specs.Rows.{IsZero, Row, Same, entry}
+use Rattle.pm_algebra.specs.Rows.{IsZero, Row, Same, dot, entry, opposite}
 use Rattle.pm_bases.proofs.Rank.{rank_is_determined}
 use Rattle.pm_bases.specs.Bases.{IsRank}
 use Rattle.pm_geom.proofs.Apart.{apart, lineality_spanned, not_below_at}
 use Rattle.pm_geom.proofs.Dimension.{rank_is_left}
+use Rattle.pm_geom.proofs.Facets.{dot-opposite}
 use Rattle.pm_geom.proofs.ShortRows.{at_two, by_three, by_two}
 use Rattle.pm_geom.proofs.SmallThings.{half_line_is_read, line_is_read}
+use Rattle.pm_geom.proofs.ValidRows.{null_in}
 use Rattle.pm_geom.specs.Cones.{InLineality, IsValid, Vanishes}
 use Rattle.pm_geom.specs.Examples.{half_line, pair, square, triple}
 use Rattle.pm_geom.specs.Faces.{ray}
 use Rattle.pm_types.specs.Things.{AreOrders, IsThing}
 use Rattle.pm_relations.proofs.Dimensions.{dimensions_are_determined}
 use Rattle.pm_right_examples.proofs.EchelonExamples.{alone_independent}
-use Rattle.pm_right_examples.specs.RayExamples.{EmptyValuesAreRead, HalfLineValuesAreRead, LineDimensionsAreRead, SegmentsAreRead, SquareIsBounded, around, beyond, from_zero, half_line_orders, half_line_thing, line_orders, line_thing, segment_of}
+use Rattle.pm_right_examples.specs.RayExamples.{EmptyValuesAreRead, HalfLineValuesAreRead, LineDimensionsAreRead, LineIsUnbounded, SegmentsAreRead, SquareIsBounded, around, beyond, from_zero, half_line_orders, half_line_thing, line_orders, line_thing, segment_of}
 use Rattle.pm_types.specs.Right.{AreFarPlaces, HasDimension, IsCentered}
 use Rattle.pm_types.specs.Values.{whole}
 use Rattle.std.proofs.Common.{ap, arith, refl, subst, sym, true≢false, ◌∙◌}
@@ -161,11 +163,17 @@ no_point w = w.3 (none_to_zero w.0 w.2)
 nothing_inside : ¬ (InCone [] [] (pair 1 0))
 nothing_inside h = let e : pos 1 ≡ pos 0 = none_to_zero (pair 1 0) h 0 in omega (arith, ints)
 
+none_far : (j : ℕ) → Contains [] j ↔ ((j < 0) × (entry (ray [] j) 0 ≡ pos 0))
+none_far j = (λ c. elim (among_Contains [] c) [ ], λ h. absurd (let l = h.0 in omega arith))
+
 pub empty_values_are_read : EmptyValuesAreRead
 empty_values_are_read = record {
   infeasible = is_false no_point;
   not_feasible = not_true no_point;
   bounded = is_true (λ x l h e. none_to_zero x h);
+  not_unbounded = not_false (λ x l h e. none_to_zero x h);
+  far_face = record { js = []; places = refl; ascending = λ i j d l m. absurd (omega arith); far = none_far };
+  not_a_ray = λ h. let l : 0 < 0 = ((far_at (0 ∷ []) [] h 0).0 (first_of 0 [])).0 in omega arith;
   not_centered = is_false (λ c. nothing_inside (c.inside (pair 1 0) refl refl after_first));
   refused = not_true (λ c. nothing_inside (c.inside (pair 1 0) refl refl after_first));
 }
@@ -234,6 +242,58 @@ line_dimensions_are_read = record {
   not_the_dimension = λ h. let e = whole_is ((dimensions_are_determined line_thing).2 (whole (pos 1)) (whole (pos 0)) line_orders line_orders [] [] h (record { cone = 2; lineality = 1; is_cone = plane; is_lineality = one_line; less = refl })) in omega (arith, ints);
   flat = is_false not_space;
   not_full = not_true not_space;
+}
+
+has_a_direction : ¬ ((x : Row) → length x ≡ 3 → InCone points lines x → entry x 0 ≡ pos 0 → IsZero x)
+has_a_direction f = let e : pos 1 ≡ pos 0 = f (triple 0 1 0) refl (in_line here) refl 1 in omega (arith, ints)
+
+line_far : (j : ℕ) → Contains [] j ↔ ((j < length points) × (entry (ray points j) 0 ≡ pos 0))
+line_far j = (λ c. elim (among_Contains [] c) [ ], back j)
+  where
+    back : (j : ℕ) → (j < length points) × (entry (ray points j) 0 ≡ pos 0) → Contains [] j
+    back zero h = absurd (let e : pos 1 ≡ pos 0 = h.1 in omega (arith, ints))
+    back (suc j) h = absurd (let l = h.0 in omega arith)
+
+only : (P : Row → Type 0) {x y : Row} → Among x (y ∷ []) → P y → P x
+only P here h = h
+only P (there i) h = elim i [ ]
+
+line_centered : IsCentered line_thing
+line_centered = record { inside = λ e l one none. in_same (unit_is e one none) (in_generator here); positive = λ a v. by_three (λ y. IsValid 3 points lines y → ¬ (Vanishes 3 points lines y) → pos 0 <ℤ entry y 0) positive a v.cols v }
+  where
+    unit_is : (e : Row) → entry e 0 ≡ pos 1 → ((i : ℕ) → entry e (suc i) ≡ pos 0) → Same (triple 1 0 0) e
+    unit_is e one none = record { at = at }
+      where
+        at : (i : ℕ) → entry (triple 1 0 0) i ≡ entry e i
+        at zero = sym one
+        at (suc zero) = sym (none 0)
+        at (suc (suc zero)) = sym (none 1)
+        at (suc (suc (suc i))) = sym (none (suc (suc i)))
+
+    vanishes : (a b c : ℤ) → a ≡ pos 0 → b ≡ pos 0 → Vanishes 3 points lines (a ∷ b ∷ c ∷ [])
+    vanishes a b c ea eb = record {
+      cols = refl;
+      holds = λ x l h. null_in (a ∷ b ∷ c ∷ []) points lines
+          (λ g i. only (λ y. dot (a ∷ b ∷ c ∷ []) y ≡ pos 0) i (simp ring (omega (arith, ints))))
+          (λ k i. only (λ y. dot (a ∷ b ∷ c ∷ []) y ≡ pos 0) i (simp ring (omega (arith, ints))))
+          h;
+    }
+
+    positive : (a b c : ℤ) → IsValid 3 points lines (a ∷ b ∷ c ∷ []) → ¬ (Vanishes 3 points lines (a ∷ b ∷ c ∷ [])) → pos 0 <ℤ entry (a ∷ b ∷ c ∷ []) 0
+    positive a b c v n =
+        let p = simp ring at (v.holds (triple 1 0 0) refl (in_generator here)) in
+        let q = simp ring at (v.holds (triple 0 1 0) refl (in_line here)) in
+        let r = simp ring at (rw dot-opposite at (v.holds (opposite (triple 0 1 0)) (length-opposite (triple 0 1 0)) (in_line_opposite here))) in
+        by_lt_z (pos 0) a (λ h. h) (λ h. absurd (n (vanishes a b c (omega (arith, ints)) (omega (arith, ints)))))
+
+pub line_is_unbounded : LineIsUnbounded
+line_is_unbounded = record {
+  unbounded = is_false has_a_direction;
+  not_bounded = not_true has_a_direction;
+  far_face = record { js = []; places = refl; ascending = λ i j d l m. absurd (omega arith); far = line_far };
+  not_the_vertex = λ h. let e : pos 1 ≡ pos 0 = ((far_at (0 ∷ []) points h 0).0 (first_of 0 [])).1 in omega (arith, ints);
+  centered = is_true line_centered;
+  not_off = not_false line_centered;
 }
 
 -- ---- segments

@@ -1,14 +1,14 @@
 -- A cone with five extreme rays and six facets, over a bipyramid: which counts are right.
-use Rattle.std.specs.Prelude.{ℕ, List, [], ◌∷◌}
+use Rattle.std.specs.Prelude.{ℕ, Bool, false, true, List, [], ◌∷◌, ◌≡◌}
 use Rattle.pm_algebra.specs.Rows.{Row}
 use Rattle.pm_types.specs.Things.{Thing, IsThing, AreOrders}
 use Rattle.pm_geom.specs.Things.{Orders}
-use Rattle.pm_props.specs.declared.object_type.ObjectType.TheVariants.{Cone}
+use Rattle.pm_props.specs.declared.object_type.ObjectType.TheVariants.{Cone, Fan}
 use Rattle.pm_right_examples.specs.RayExamples.{thing_of}
 use Rattle.pm_types.specs.Right.{Right}
-use Rattle.pm_types.specs.Values.{PropertyValue, counts, sets, whole}
+use Rattle.pm_types.specs.Values.{PropertyValue, counts, sets, truth, whole}
 use Rattle.pm_props.specs.declared.property.PropId.{PropId}
-use Rattle.pm_props.specs.declared.property.PropId.TheVariants.{FacetSizes, NFacets, NVertices, VertexSizes, VerticesInFacets}
+use Rattle.pm_props.specs.declared.property.PropId.TheVariants.{CombinatorialDim, FacetSizes, NFacets, NVertices, Simple, Simplicial, VertexSizes, VerticesInFacets}
 use lib.IntN.{ℤ, pos, negsuc}
 
 -- a row of four entries that are not negative
@@ -74,3 +74,11 @@ pub record BipyramidCountsAreRead : Type 0 where
   pub ray_sizes_refused : ¬ (BipyramidHas VertexSizes (counts sizes_of_facets))
   pub facet_sizes : BipyramidHas FacetSizes (counts sizes_of_facets)
   pub facet_sizes_refused : ¬ (BipyramidHas FacetSizes (counts sizes_of_rays))
+  -- it is simplicial, since each facet has 3 rays, and not simple, since a corner lies on 4 facets
+  pub dimension : BipyramidHas CombinatorialDim (whole (pos 3))
+  pub simplicial : BipyramidHas Simplicial (truth true)
+  pub simplicial_refused : ¬ (BipyramidHas Simplicial (truth false))
+  pub not_simple : BipyramidHas Simple (truth false)
+  pub simple_refused : ¬ (BipyramidHas Simple (truth true))
+  -- of a fan no value of SIMPLICIAL is right yet
+  pub of_no_fan : (t : Thing) (o : Orders) (b : Bool) → t.of ≡ Fan → ¬ (Right Simplicial (truth b) t o [])

@@ -71,11 +71,14 @@ pub record SquareIsBounded : Type 0 where
 abbrev pub EmptyHas : PropId → PropertyValue → Type 0
 EmptyHas p v = Right p v empty_thing no_orders []
 
--- the empty polytope has no point, is bounded, and does not have (1,0) inside
+-- the empty polytope has no point, is bounded, has no far ray, and does not have (1,0) inside
 pub record EmptyValuesAreRead : Type 0 where
   pub infeasible : EmptyHas Feasible (truth false)
   pub not_feasible : ¬ (EmptyHas Feasible (truth true))
   pub bounded : EmptyHas Bounded (truth true)
+  pub not_unbounded : ¬ (EmptyHas Bounded (truth false))
+  pub far_face : EmptyHas FarFace (counts [])
+  pub not_a_ray : ¬ (EmptyHas FarFace (counts (pos 0 ∷ [])))
   pub not_centered : EmptyHas Centered (truth false)
   pub refused : ¬ (EmptyHas Centered (truth true))
 
@@ -105,6 +108,15 @@ pub record LineDimensionsAreRead : Type 0 where
   pub not_the_dimension : ¬ (LineHas CombinatorialDim (whole (pos 1)))
   pub flat : LineHas FullDim (truth false)
   pub not_full : ¬ (LineHas FullDim (truth true))
+
+-- it is unbounded, though its one vertex is not far, and it has 0 in its relative interior
+pub record LineIsUnbounded : Type 0 where
+  pub unbounded : LineHas Bounded (truth false)
+  pub not_bounded : ¬ (LineHas Bounded (truth true))
+  pub far_face : LineHas FarFace (counts [])
+  pub not_the_vertex : ¬ (LineHas FarFace (counts (pos 0 ∷ [])))
+  pub centered : LineHas Centered (truth true)
+  pub not_off : ¬ (LineHas Centered (truth false))
 
 -- the segment from -1 to 1
 abbrev pub around : List Row

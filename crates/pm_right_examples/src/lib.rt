@@ -5,7 +5,7 @@
 ghost use Rattle.pm_right_examples.specs.BipyramidExamples.{BipyramidCountsAreRead};
 ghost use Rattle.pm_right_examples.specs.CanonicalExamples.{CanonicalLinesAreRead, CanonicalOrdersAreRead, CanonicalRowsAreRead, KindsAreFresh};
 ghost use Rattle.pm_right_examples.specs.Examples.{EmptyDimensionsAreRead, SquareDimensionsAreRead, SquareSetsAreRead};
-ghost use Rattle.pm_right_examples.specs.RayExamples.{EmptyValuesAreRead, HalfLineValuesAreRead, LineDimensionsAreRead, SegmentsAreRead, SquareIsBounded};
+ghost use Rattle.pm_right_examples.specs.RayExamples.{EmptyValuesAreRead, HalfLineValuesAreRead, LineDimensionsAreRead, LineIsUnbounded, SegmentsAreRead, SquareIsBounded};
 ghost use Rattle.pm_right_examples.specs.RowExamples.{BasesAreRight, FacetRowsAreRead, GeneratorsAreRead, HalfSpacesAreRead, PairsAreRead, RayRowsAreRead, RowsAreRead};
 ghost use Rattle.pm_right_examples.specs.ThingExamples.{ColumnsAreRead, ConeOrdersAreRead, FanOrdersAreRead, FanValuesAreRead, FansAreRead, ThingsAreRead};
 
@@ -42,6 +42,11 @@ pub fn example_empty_values()
 /// What is right for the dimensions of a line in the plane, and what is not.
 pub fn example_line_dimensions()
     ensures { LineDimensionsAreRead }
+{}
+
+/// What is right for the line's bounds, its far face and its center, and what is not.
+pub fn example_line_unbounded()
+    ensures { LineIsUnbounded }
 {}
 
 /// Which of three segments are centered.

@@ -10,11 +10,11 @@ use Rattle.pm_object.specs.declared.held.RoundEnd.{RoundEnd}
 use Rattle.pm_object.specs.declared.held.RoundEnd.TheVariants as end
 use Rattle.pm_object.specs.declared.held.Why.{Why}
 use Rattle.pm_object.specs.declared.held.Why.TheVariants as why
-use Rattle.pm_props.specs.Weights.{cost_text, weight_text}
+use Rattle.pm_weights.specs.Weights.{cost_text, weight_text}
 use Rattle.pm_props.specs.declared.kind.RuleId.{RuleId}
 use Rattle.pm_props.specs.declared.set.PropSet.{PropSet}
-use Rattle.pm_props.specs.declared.weight.Cost.{Cost}
-use Rattle.pm_props.specs.declared.weight.Weight.{Weight}
+use Rattle.pm_weights.specs.declared.Cost.{Cost}
+use Rattle.pm_weights.specs.declared.Weight.{Weight}
 use Rattle.pm_rules.specs.declared.table.Table.{Table}
 use Rattle.pm_rules.specs.declared.table.TableRow.{TableRow}
 use Rattle.pm_script.specs.declared.names.Bar.{Bar}

@@ -2,7 +2,7 @@
 
 ghost use Rattle.pm_object.specs.Views.{round_seen};
 ghost use Rattle.pm_props.specs.Properties.{first_name};
-ghost use Rattle.pm_props.specs.Weights.{cost_text};
+ghost use Rattle.pm_weights.specs.Weights.{cost_text};
 ghost use Rattle.pm_script.specs.Replies.{bar_text, barred_text, end_text, excluded_text, exclusion_text, failed_text, false_text, half_text, label_text, names_seen, place_text, property_set_text, round_text, rule_text, spaced_label, table_row_text, weight_text_of};
 ghost use Rattle.std.specs.Prelude.{OnOk, codes, drop, flat_map, map, string_bytes, ◌++◌, ◌<◌, ◌^◌, ◌≡◌};
 

@@ -3,7 +3,8 @@
 ghost use Rattle.pm_script.specs.Replies.{names_seen};
 ghost use Rattle.std.specs.Prelude.{[], ◌≡◌};
 
-use pm_types::{PropId, Weight};
+use pm_types::PropId;
+use pm_weights::Weight;
 use std::alloc::Global;
 
 /// The label and the weight of each rule of the book, by its number, and the names of an object's linear programs, by their places.

@@ -2,7 +2,7 @@
 
 ghost use Rattle.pm_object.specs.Views.{round_seen};
 ghost use Rattle.pm_props.specs.Properties.{name_in};
-ghost use Rattle.pm_props.specs.Weights.{cost_text};
+ghost use Rattle.pm_weights.specs.Weights.{cost_text};
 ghost use Rattle.pm_script.specs.Replies.{is_refusal, names_seen, nothing, refused, remarks, remarks_text, reply_text, rounds_text, rule_text, seen, table_row_text};
 ghost use Rattle.pm_script.specs.Values.{value_text};
 ghost use Rattle.pm_types.specs.Views.{view_of};
@@ -14,7 +14,8 @@ use crate::refusal::{Refusal, push_refusal};
 use crate::value_text::push_value;
 use pm_object::{Excluded, Round};
 use pm_rules::Table;
-use pm_types::{Cost, ObjectType, PropId, RuleId, Value};
+use pm_types::{ObjectType, PropId, RuleId, Value};
+use pm_weights::Cost;
 use std::alloc::{AllocError, Global};
 use std::fmt::Write;
 

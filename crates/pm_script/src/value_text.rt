@@ -3,6 +3,7 @@
 ghost use Rattle.pm_fraction.specs.Text.{text_of};
 ghost use Rattle.pm_script.specs.Values.{array_text, cols_text, each_then_comma, matrix_text, more_pieces, quoted, row_text, set_text, sets_text, truth_text, value_text, with_commas};
 ghost use Rattle.pm_types.specs.Views.{view_of};
+ghost use Rattle.std.specs.Fmt.{signed_decimal};
 ghost use Rattle.std.specs.Prelude.{◌==◌, OnOk, [], codes, decimal, drop, map, string_bytes, ◌++◌, ◌∷◌, ◌≡◌};
 
 use pm_fraction::Fraction;
@@ -127,6 +128,30 @@ fn push_sets(text: &mut String, sets: &Sets) -> Result<(), AllocError>
     text.push_str("]")
 }
 
+/// Writes the numbers that follow the first of a list.
+fn push_more_counts(text: &mut String, counts: &[i64]) -> Result<(), AllocError>
+    ensures { OnOk result (string_bytes text.new
+        ≡ string_bytes text.old ++ more_pieces (map signed_decimal counts.now)) }
+{
+    for k in counts {
+        write!(text, ",{k}")?;
+    }
+    Ok(())
+}
+
+/// Writes a list of whole numbers.
+fn push_counts(text: &mut String, counts: &[i64]) -> Result<(), AllocError>
+    ensures { OnOk result (string_bytes text.new
+        ≡ string_bytes text.old ++ array_text (map signed_decimal counts.now)) }
+{
+    let Some((first, others)) = counts.split_first() else {
+        return text.push_str("[]");
+    };
+    write!(text, "[{first}")?;
+    push_more_counts(text, others)?;
+    text.push_str("]")
+}
+
 /// Writes a value.
 pub fn push_value(text: &mut String, value: &Value) -> Result<(), AllocError>
     ensures { OnOk result (string_bytes text.new ≡ string_bytes text.old ++ value_text (view_of value.now)) }
@@ -137,5 +162,6 @@ pub fn push_value(text: &mut String, value: &Value) -> Result<(), AllocError>
         Value::Int(k) => write!(text, "{k}"),
         Value::Bool(true) => text.push_str("true"),
         Value::Bool(false) => text.push_str("false"),
+        Value::Counts(counts) => push_counts(text, counts.as_slice()),
     }
 }

@@ -1,11 +1,10 @@
 // The words of a line.
 
-ghost use Rattle.pm_rules.specs.Words.{is_digit, is_label, is_letter, is_word, is_word_byte, precondition_word};
+ghost use Rattle.pm_rules.specs.Words.{is_label, is_word};
 ghost use Rattle.pm_script.specs.Words.{is_dot, first_word, rest, is_name_byte, is_name, is_property_byte, is_property_word, is_type_word};
 ghost use Rattle.std.specs.Char.{is_ascii_alphabetic};
 ghost use Rattle.std.specs.List.{list_all, before_first, after_first};
-ghost use Rattle.std.specs.Prelude.{not, ◌==◌, ◌≡◌};
-ghost use Rattle.std.specs.Str.{bytes_eq};
+ghost use Rattle.std.specs.Prelude.{◌≡◌};
 
 const WORD_LIMIT: usize = 32;
 
@@ -76,69 +75,16 @@ pub fn is_type_word(word: &str) -> bool
     1 <= word.len() && are_letters(word.as_bytes())
 }
 
-// Whether a byte is a letter or `_`.
-fn is_letter(b: u8) -> bool
-    ensures { result ≡ is_letter b }
-{
-    (b'A' <= b && b <= b'Z') || (b'a' <= b && b <= b'z') || b == b'_'
-}
-
-// Whether a byte is a digit.
-fn is_digit(b: u8) -> bool
-    ensures { result ≡ is_digit b }
-{
-    b'0' <= b && b <= b'9'
-}
-
-// Whether a byte may stand in a word of a book.
-fn is_word_byte(b: u8) -> bool
-    ensures { result ≡ is_word_byte b }
-{
-    is_letter(b) || is_digit(b) || b == b'.'
-}
-
-// Whether all these bytes may stand in a word of a book.
-fn are_word_bytes(bytes: &[u8]) -> bool
-    ensures { result ≡ list_all is_word_byte bytes.now }
-{
-    bytes.iter().all(|b| is_word_byte(*b))
-}
-
-// Whether bytes are a letter or `_`, and then letters, digits, `_` or `.`.
-fn is_word(bytes: &[u8]) -> bool
-    ensures { result ≡ is_word bytes.now }
-{
-    match bytes.split_first() {
-        None => false,
-        Some((first, others)) => is_letter(*first) && are_word_bytes(others),
-    }
-}
-
-// Whether there is no point among the bytes.
-fn has_no_point(bytes: &[u8]) -> bool
-    ensures { result ≡ list_all (λ b. not (b == 46)) bytes.now }
-{
-    bytes.iter().all(|b| *b != b'.')
-}
-
-// Whether a word begins the preconditions of a rule.
-fn is_precondition(bytes: &[u8]) -> bool
-    ensures { result ≡ bytes_eq bytes.now precondition_word }
-{
-    bytes == "precondition".as_bytes()
-}
-
 /// Whether a word may be a client's in a book.
 pub fn is_client_word(word: &str) -> bool
     ensures { result ≡ is_word word.now }
 {
-    is_word(word.as_bytes())
+    pm_rules::is_word(word.as_bytes())
 }
 
 /// Whether a word may be a rule's label in a book.
 pub fn is_label(word: &str) -> bool
     ensures { result ≡ is_label word.now }
 {
-    let bytes = word.as_bytes();
-    is_word(bytes) && bytes.len() <= WORD_LIMIT && has_no_point(bytes) && !is_precondition(bytes)
+    pm_rules::is_label(word.as_bytes())
 }

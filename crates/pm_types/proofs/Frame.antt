@@ -6,7 +6,7 @@ use Rattle.pm_props.specs.Properties.{facets_tag, rays_tag}
 use Rattle.pm_types.specs.Right.{Right}
 use Rattle.pm_types.specs.Values.{PropertyValue, counts, matrix, sets, truth, whole}
 use Rattle.pm_props.specs.declared.property.PropId.{PropId}
-use Rattle.pm_props.specs.declared.property.PropId.TheVariants.{ConeAmbientDim, Points, InputLineality, Inequalities, Equations, Vertices, LinealitySpace, Facets, AffineHull, VerticesInFacets, ConeDim, LinealityDim, CombinatorialDim, NVertices, NFacets, Feasible, Bounded, Pointed, FullDim, Centered, VertexSizes, FacetSizes, FarFace}
+use Rattle.pm_props.specs.declared.property.PropId.TheVariants.{ConeAmbientDim, Points, InputLineality, Inequalities, Equations, Vertices, LinealitySpace, Facets, AffineHull, VerticesInFacets, ConeDim, LinealityDim, CombinatorialDim, NVertices, NFacets, Feasible, Bounded, Pointed, FullDim, Centered, Simple, Simplicial, VertexSizes, FacetSizes, FarFace}
 use Rattle.std.proofs.Common.{false, inl, inr, subst, sym, true, true≢false}
 use Rattle.std.specs.Prelude.{List, ◌≡◌, ◌⊎◌}
 
@@ -42,6 +42,8 @@ right_in_orders Bounded (truth b) t o o' c a h = h
 right_in_orders Pointed (truth b) t o o' c a h = h
 right_in_orders FullDim (truth b) t o o' c a h = h
 right_in_orders Centered (truth b) t o o' c a h = h
+right_in_orders Simple (truth b) t o o' c a h = h
+right_in_orders Simplicial (truth b) t o o' c a h = h
 right_in_orders VertexSizes (counts ks) t o o' c a h = subst (λ V. Right VertexSizes (counts ks) t (record o' { rays = V }) c) (tagged a.rays) h
 right_in_orders FacetSizes (counts ks) t o o' c a h = subst (λ F. Right FacetSizes (counts ks) t (record o' { facets = F }) c) (tagged a.facets) h
 right_in_orders FarFace (counts ks) t o o' c a h = subst (λ V. Right FarFace (counts ks) t (record o' { rays = V }) c) (tagged a.rays) h

@@ -1,6 +1,6 @@
 -- A right answer leaves all that is held right: where a kind may run on facts, what it may answer can be added to them.
 use Rattle.pm_algebra.proofs.Filters.{among_filter, among_map, any_from, any_to, filter_among}
-use Rattle.pm_algebra.proofs.Lists.{Among, Contains_among, among_Contains, among_append, among_append_left, among_append_right, here, there}
+use Rattle.pm_algebra.proofs.Lists.{Among, Contains_among, among_Contains, among_append, among_append_left, among_append_right}
 use Rattle.pm_geom.specs.Things.{Orders}
 use Rattle.pm_types.specs.Things.{Thing}
 use Rattle.pm_props.specs.declared.object_type.ObjectType.{ObjectType}
@@ -8,7 +8,7 @@ use Rattle.pm_types.proofs.Frame.{right_in_orders}
 use Rattle.pm_props.proofs.Every.{among_every}
 use Rattle.pm_props.proofs.Places.{same_place_is, same_place_refl, same_property_is, same_property_refl}
 use Rattle.pm_props.specs.Kinds.{IsFresh}
-use Rattle.pm_props.specs.Properties.{facets_tag, generators_tag, half_spaces_tag, has_program, number, rays_tag, every_property}
+use Rattle.pm_props.specs.Properties.{facets_tag, generators_tag, half_spaces_tag, has_program, rays_tag, every_property}
 use Rattle.pm_types.specs.Right.{Right, RightAll, RightFact, RightPair, RightTogether, objective_of}
 use Rattle.pm_types.specs.Runs.{Holds, IsFree, MayAnswer, MayRun, Meets, RightAnswer, is_named, missing, shown, stands_at}
 use Rattle.pm_props.specs.Places.{place_of, same_place, same_property}
@@ -16,11 +16,10 @@ use Rattle.pm_props.specs.Sets.{has, members}
 use Rattle.pm_types.specs.Values.{Fact, PropertyValue, matrix, truth}
 use Rattle.pm_props.specs.declared.kind.Kind.{Kind}
 use Rattle.pm_props.specs.declared.property.PropId.{PropId}
-use Rattle.pm_props.specs.declared.property.PropId.TheVariants.{Points, InputLineality, Inequalities, Equations, Feasible, Bounded, Pointed, FullDim, Centered}
-use Rattle.std.proofs.Common.{ap, arith, false, inl, inr, refl, subst, sym, true, true≢false, ◌∙◌}
+use Rattle.pm_props.specs.declared.property.PropId.TheVariants.{Points, InputLineality, Inequalities, Equations, Feasible, Bounded, Pointed, FullDim, Centered, Simple, Simplicial}
+use Rattle.std.proofs.Common.{arith, false, inl, inr, refl, subst, sym, true, true≢false, ◌∙◌}
 use Rattle.std.specs.List.{Contains, list_any}
-use Rattle.std.specs.Option.{is_some}
-use Rattle.std.specs.Prelude.{Bool, List, None, Option, Some, [], if◌then◌else◌, nat_eq, not, slice_get, suc, zero, ℕ, ◌&&◌, ◌++◌, ◌∷◌, ◌≡◌, ◌⊎◌}
+use Rattle.std.specs.Prelude.{Bool, List, None, Option, [], if◌then◌else◌, not, ℕ, ◌&&◌, ◌++◌, ◌≡◌, ◌⊎◌}
 use Rattle.pm_algebra.specs.Numbers.{Ratio}
 use Rattle.std.proofs.lemmas.Int.{ints}
 use lib.IntN.{pos}
@@ -181,6 +180,8 @@ module _ (of : ObjectType) (n : ℕ) (kind : Kind) (sub : Option ℕ) (held answ
           truth_alone Pointed b c r = r
           truth_alone FullDim b c r = r
           truth_alone Centered b c r = r
+          truth_alone Simple b c r = r
+          truth_alone Simplicial b c r = r
           truth_alone p b c r = absurd r
 
       meets : Meets kind t o

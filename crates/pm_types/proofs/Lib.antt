@@ -1,3 +1,4 @@
 pub mod PrimitiveRows
 pub mod Frame
 pub mod Kept
+pub mod Bits

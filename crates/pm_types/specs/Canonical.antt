@@ -1,5 +1,5 @@
 -- When a value that a client found is canonical for a thing. VERTICES, LINEALITY_SPACE, FACETS and AFFINE_HULL have a canonical form; each right value of another property is canonical.
-use Rattle.std.specs.Prelude.{ℕ, ◌≡◌, ◌<◌, List, [], ◌∷◌, length, map}
+use Rattle.std.specs.Prelude.{ℕ, ◌≡◌, List, [], ◌∷◌, map}
 use Rattle.std.specs.List.{All, AllPairs}
 use Rattle.pm_algebra.specs.Divisors.{IsPrimitive}
 use Rattle.pm_algebra.specs.Numbers.{Ratio}

@@ -7,8 +7,8 @@ use Rattle.pm_props.specs.declared.object_type.ObjectType.TheVariants.{Polytope}
 use Rattle.pm_matrix.specs.FractionRows.{IsLeastDenominator}
 use Rattle.pm_matrix.specs.Matrices.{IsFraction}
 use Rattle.pm_matrix.specs.Wideness.{DenominatorsStay, NumeratorsStay}
-use Rattle.pm_props.specs.Properties.{is_ambient, is_columned, is_of_matrices, is_of_sets, is_of_truth_values, is_of_whole_numbers, row, value_kind}
-use Rattle.pm_types.specs.Values.{PropertyValue, matrix, sets, whole, truth}
+use Rattle.pm_props.specs.Properties.{is_ambient, is_columned, is_of_matrices, is_of_sets, is_of_counts, is_of_truth_values, is_of_whole_numbers, row, value_kind}
+use Rattle.pm_types.specs.Values.{PropertyValue, matrix, sets, whole, truth, counts}
 use Rattle.pm_props.specs.declared.property.PropId.{PropId}
 use Rattle.pm_props.specs.declared.property.RowTest.{RowTest}
 use Rattle.pm_props.specs.declared.property.RowTest.TheVariants as test
@@ -47,12 +47,17 @@ has_64_bits (negsuc n) = nat_lt n (2 ^ 63)
 abbrev pub is_whole_form : PropId → ℤ → Bool
 is_whole_form p k = if is_ambient p then is_dimension k else is_of_whole_numbers (value_kind p) && has_64_bits k
 
--- the value has the form of a value of p, and keeps the limits: a matrix has at most 2,048 rows of one length from 1 to 33, and without rows it may state no column count, 0; at most 2,048 sets, each ascending, of indices below a column count of at most 2,048; values of further kinds have no form yet
+-- at most 2,048 whole numbers of 64 bits
+abbrev pub is_counts_form : List ℤ → Bool
+is_counts_form ks = nat_le (length ks) 2048 && list_all has_64_bits ks
+
+-- the value has the form of a value of p, and keeps the limits: a matrix has at most 2,048 rows of one length from 1 to 33, and without rows it may state no column count, 0; at most 2,048 sets, each ascending, of indices below a column count of at most 2,048; at most 2,048 counts; values of further kinds have no form yet
 abbrev pub is_formed : PropId → PropertyValue → Bool
 is_formed p (matrix n rows) = is_of_matrices (value_kind p) && is_matrix_form n rows
 is_formed p (sets rows n) = is_of_sets (value_kind p) && is_sets_form rows n
 is_formed p (whole k) = is_whole_form p k
 is_formed p (truth b) = is_of_truth_values (value_kind p)
+is_formed p (counts ks) = is_of_counts (value_kind p) && is_counts_form ks
 is_formed p v = false
 
 -- ---- columns

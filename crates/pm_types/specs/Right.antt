@@ -14,7 +14,7 @@ use Rattle.pm_props.specs.declared.object_type.ObjectType.{ObjectType}
 use Rattle.pm_props.specs.declared.object_type.ObjectType.TheVariants.{Polytope, Cone, Fan}
 use Rattle.pm_types.specs.Values.{PropertyValue, matrix, sets, whole, truth, counts, Fact}
 use Rattle.pm_props.specs.declared.property.PropId.{PropId}
-use Rattle.pm_props.specs.declared.property.PropId.TheVariants.{ConeAmbientDim, Points, InputLineality, Inequalities, Equations, Vertices, LinealitySpace, Facets, AffineHull, VerticesInFacets, ConeDim, LinealityDim, CombinatorialDim, NVertices, NFacets, Feasible, Bounded, Pointed, FullDim, Centered, VertexSizes, FacetSizes, FarFace}
+use Rattle.pm_props.specs.declared.property.PropId.TheVariants.{ConeAmbientDim, Points, InputLineality, Inequalities, Equations, Vertices, LinealitySpace, Facets, AffineHull, VerticesInFacets, ConeDim, LinealityDim, CombinatorialDim, NVertices, NFacets, Feasible, Bounded, Pointed, FullDim, Centered, Simple, Simplicial, VertexSizes, FacetSizes, FarFace}
 use lib.IntN.{ℤ, pos, ◌-ℤ◌}
 use lib.Signed.{◌<ℤ◌, ◌≤ℤ◌}
 
@@ -159,6 +159,18 @@ pub record IsCentered (t : Thing) : Type 0 where
   pub inside : (e : Row) → length e ≡ t.cols → entry e 0 ≡ pos 1 → ((i : ℕ) → entry e (suc i) ≡ pos 0) → InSet t e
   pub positive : (a : Row) → IsValid t.cols t.generators t.lines a → ¬ (Vanishes t.cols t.generators t.lines a) → pos 0 <ℤ entry a 0
 
+-- each ray lies on exactly d facets, d the dimension of the polytope
+pub record IsSimple (t : Thing) (p : Orders) : Type 0 where
+  pub d : ℤ
+  pub dim : IsCombinatorialDim t d
+  pub sizes : All (λ v. pos (vanishing p.facets v) ≡ d) p.rays
+
+-- each facet holds exactly d rays, d the dimension of the polytope
+pub record IsSimplicial (t : Thing) (p : Orders) : Type 0 where
+  pub d : ℤ
+  pub dim : IsCombinatorialDim t d
+  pub sizes : All (λ a. pos (tight p.rays a) ≡ d) p.facets
+
 -- the value v of the property p is right; a value of another form is never right
 abbrev pub Right : PropId → PropertyValue → Thing → Orders → List Ratio → Type 0
 Right ConeAmbientDim (whole k) t o c = k ≡ pos t.cols
@@ -181,6 +193,8 @@ Right Bounded (truth b) t o c = IsTrue b ↔ ((x : Row) → length x ≡ t.cols 
 Right Pointed (truth b) t o c = IsTrue b ↔ ((x : Row) → length x ≡ t.cols → InLines t x → IsZero x)
 Right FullDim (truth b) t o c = IsTrue b ↔ IsConeDim t t.cols
 Right Centered (truth b) t o c = IsTrue b ↔ IsCentered t
+Right Simple (truth b) t o c = (p : Orders) → AreOrders t p → IsTrue b ↔ IsSimple t p
+Right Simplicial (truth b) t o c = ¬ (t.of ≡ Fan) × ((p : Orders) → AreOrders t p → IsTrue b ↔ IsSimplicial t p)
 Right VertexSizes (counts ks) t o c = (p : Orders) → AreOrders t p → ks ≡ map (λ v. pos (vanishing p.facets v)) o.rays
 Right FacetSizes (counts ks) t o c = (p : Orders) → AreOrders t p → ks ≡ map (λ a. pos (tight p.rays a)) o.facets
 Right FarFace (counts ks) t o c = AreFarPlaces o.rays ks

@@ -1,5 +1,5 @@
 -- What a client of a kind may read and answer, where an object holds facts. `sub` is the subobject that is asked, if one is.
-use Rattle.std.specs.Prelude.{ℕ, ◌≡◌, ◌&&◌, Bool, true, false, IsTrue, not, nat_eq, if◌then◌else◌, Option, None, Some, List, [], ◌++◌, filter, map}
+use Rattle.std.specs.Prelude.{ℕ, ◌≡◌, ◌&&◌, Bool, true, false, IsTrue, not, nat_eq, Option, None, List, [], ◌++◌, filter, map}
 use Rattle.std.specs.List.{All, Contains, list_any}
 use Rattle.pm_types.specs.Things.{Thing}
 use Rattle.pm_geom.specs.Things.{Orders}

@@ -10,10 +10,10 @@ mod value;
 pub use lattice::Lattice;
 pub use pm_geom::Evidence;
 pub use pm_props::{
-    ClientName, Cost, Kind, ObjectType, PropId, PropSet, RuleId, StandardClient, ValueKind, Weight,
+    ClientName, Kind, ObjectType, PropId, PropSet, RuleId, StandardClient, ValueKind,
     standard_kinds,
 };
-pub use value::{Sets, Value};
+pub use value::{Counts, Sets, Value};
 
 /// Where the facts that an object holds are right, so are they with what a client may answer, in orders that the client
 /// may choose only where its kind is fresh in them.

@@ -58,6 +58,46 @@ impl Sets {
     }
 }
 
+/// A list of whole numbers of 64 bits.
+#[derive(Debug, Drop)]
+pub struct Counts {
+    numbers: Vec<i64>,
+}
+
+impl Model for Counts {
+    ghost use Rattle.std.specs.Prelude.{List};
+    ghost use lib.IntN.{ℤ};
+
+    ghost Value = { List ℤ };
+
+    ghost view = { λ c. c.numbers.items };
+}
+
+impl Counts {
+    /// The list of these numbers. Takes no memory.
+    pub fn from_vec(numbers: Vec<i64>) -> Counts
+        ensures { result ≡ numbers.items }
+    {
+        Counts { numbers }
+    }
+
+    /// The numbers.
+    pub fn as_slice(&self) -> &[i64]
+        ensures { result.now ≡ self.now }
+    {
+        &self.numbers
+    }
+
+    /// The same list.
+    pub fn copy(&self, alloc: Global) -> Result<Counts, AllocError>
+        ensures { IfOk result (λ c. c ≡ self.now) }
+    {
+        Ok(Counts {
+            numbers: Vec::from_slice(alloc, &self.numbers)?,
+        })
+    }
+}
+
 /// A value of a property.
 #[derive(Debug, Drop)]
 pub enum Value {
@@ -69,6 +109,8 @@ pub enum Value {
     Int(i64),
     /// True or false.
     Bool(bool),
+    /// Whole numbers, one for each place of a list.
+    Counts(Counts),
 }
 
 impl Value {
@@ -81,6 +123,7 @@ impl Value {
             Value::Sets(sets) => Ok(Value::Sets(sets.copy(alloc)?)),
             Value::Int(k) => Ok(Value::Int(*k)),
             Value::Bool(b) => Ok(Value::Bool(*b)),
+            Value::Counts(counts) => Ok(Value::Counts(counts.copy(alloc)?)),
         }
     }
 }

@@ -1,5 +1,5 @@
 -- What is looked up is what is looked up among the values that are left, of those that are read at the place.
-use Rattle.std.proofs.Common.{ap, arith, drop, refl, sym, ◌+◌, ◌≡◌, ◌≢◌, ◌∙◌}
+use Rattle.std.proofs.Common.{refl, sym, ◌+◌, ◌≡◌, ◌≢◌, ◌∙◌}
 use Rattle.pm_object.proofs.Find.{is_property, is_other, read_on, read_over, read_past}
 use Rattle.pm_object.proofs.object.find_at.Goals as goal
 use Rattle.pm_object.proofs.object.find_at.Goals.{else-is_read_at-via-then-is_read_at+else-eq, else-is_read_at-via-else-is_read_at}

@@ -1,9 +1,9 @@
 -- The object with a computed value more: all its values have their forms, and the push had room.
-use Rattle.std.proofs.Common.{ap, refl, rules, subst, sym, ◌++◌, ◌∷◌, ◌≡◌, []}
+use Rattle.std.proofs.Common.{refl, rules, subst, sym, ◌++◌, ◌∷◌, ◌≡◌, []}
 use Rattle.pm_object.proofs.Formed.{formed_pushed, map_push}
 use Rattle.pm_object.specs.Formed.{IsFormedIn}
 use Rattle.pm_object.specs.Laws.{computed_at}
-use Rattle.pm_object.specs.State.{ObjectSeen, State, cols_of}
+use Rattle.pm_object.specs.State.{ObjectSeen, cols_of}
 use Rattle.pm_object.specs.Views.{held_seen}
 use Rattle.pm_object.specs.declared.held.Held.{Held}
 use Rattle.pm_object.specs.declared.held.Origin.TheVariants.{Computed}

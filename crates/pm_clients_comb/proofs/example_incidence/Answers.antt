@@ -1,5 +1,0 @@
-use Rattle.pm_clients_comb.proofs.Examples.{incidence_is_read}
-use Rattle.pm_clients_comb.proofs.example_incidence.Goals as goal
-
-pub returns : goal.returns
-returns c = incidence_is_read

@@ -1,7 +1,0 @@
--- The places of the vertices that are left follow those found; so far all products stay in the range.
-use Rattle.pm_clients_comb.proofs.incidence.places.Given as goal
-use Rattle.pm_clients_comb.specs.Incidence.{AllStay, places_from}
-use Rattle.std.proofs.Common.{drop, take, [], ◌++◌, ◌∷◌, ◌≡◌}
-
-abbrev pub invariant-loop-j : goal.invariant-loop-j
-invariant-loop-j l = (places_from 0 l.facet l.vertices ≡ l.places.items ++ places_from l.j l.facet (drop l.j l.vertices)) × AllStay (l.facet ∷ []) (take l.j l.vertices)

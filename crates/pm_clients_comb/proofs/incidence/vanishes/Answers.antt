@@ -1,5 +1,0 @@
-use Rattle.std.proofs.Common.{rules}
-use Rattle.pm_clients_comb.proofs.incidence.vanishes.Goals as goal
-
-pub wide-requires : goal.wide-requires
-wide-requires c = search rules

@@ -1,5 +1,0 @@
-use Rattle.pm_clients_comb.proofs.Products.{wide_one}
-use Rattle.pm_clients_comb.proofs.incidence.wide.Goals as goal
-
-pub returns : goal.returns
-returns c = wide_one c.args.facet.now c.args.vertex.now c.in_ok-copy.field-0 c.in_ok-copy-2.field-0 c.in_ok-copy.ensures c.in_ok-copy-2.ensures c.requires

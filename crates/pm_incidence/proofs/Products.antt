@@ -1,0 +1,88 @@
+-- Products of rows that stay in the range, and rows whose product leaves it.
+use Rattle.pm_algebra.proofs.Lists.{Among, among_Contains, here, there}
+use Rattle.pm_algebra.proofs.RowLaws.{dot_comm}
+use Rattle.pm_algebra.specs.Numbers.{InRange}
+use Rattle.pm_algebra.specs.Rows.{IsZero, Row, dot, entry}
+use Rattle.pm_incidence.specs.declared.fails.IncFail.TheVariants.{Memory, Wide}
+use Rattle.pm_incidence.specs.declared.fails.IncFail.{IncFail}
+use Rattle.pm_incidence.specs.Incidence.{AllStay, IsWideFor}
+use Rattle.pm_geom.specs.declared.evidence.Evidence.TheVariants.{E4}
+use Rattle.pm_vector.specs.Products.{ProductsStay}
+use Rattle.std.proofs.Common.{arith, get_or, inl, inr, length, refl, subst, suc, sym, take, zero, ◌+◌, ◌<◌, ◌≡◌}
+use Rattle.std.proofs.lemmas.Int.{ints}
+use Rattle.std.proofs.lemmas.List.{take_more}
+use Rattle.std.proofs.lemmas.List.Elements.{Contains-get_or, Contains-push_cases}
+use Rattle.std.specs.List.{Contains}
+use Rattle.std.specs.Prelude.{List, [], ℕ, ◌++◌, ◌∷◌}
+use lib.IntN.{*ℤ_comm, pos, ◌*ℤ◌}
+
+-- ---- the order of the two rows
+pub stays_turned : (a x : Row) → ProductsStay a x → ProductsStay x a
+stays_turned a x h = record {
+  products = λ i. subst InRange (*ℤ_comm (entry a i) (entry x i)) (h.products i);
+  sums = λ k. subst InRange (dot_comm (take k a) (take k x)) (h.sums k);
+}
+
+-- ---- a zero row
+zero_dot : (k : ℕ) (x y : Row) → IsZero x → dot (take k x) (take k y) ≡ pos 0
+zero_dot zero x y h = refl
+zero_dot (suc k) [] y h = refl
+zero_dot (suc k) (a ∷ x) [] h = refl
+zero_dot (suc k) (a ∷ x) (b ∷ y) h =
+    let e : a ≡ pos 0 = h 0 in
+    let rest = zero_dot k x y (λ i. h (suc i)) in
+    rw (e, rest) (omega (arith, ints))
+
+pub zero_stays : (x y : Row) → IsZero x → ProductsStay x y
+zero_stays x y h = record {
+  products = λ i. let e : entry x i ≡ pos 0 = h i in let z : entry x i *ℤ entry y i ≡ pos 0 = rw e (omega (arith, ints)) in rw z (omega (arith, ints));
+  sums = λ k. rw (zero_dot k x y h) (omega (arith, ints));
+}
+
+-- ---- lists of rows
+only_one : {X : Type 0} {x y : X} → Contains (y ∷ []) x → x ≡ y
+only_one {X} {x} {y} c = by (among_Contains (y ∷ []) c)
+  where
+    by : {z : X} → Among z (y ∷ []) → z ≡ y
+    by here = refl
+    by (there i) = elim i [ ]
+
+itself : {X : Type 0} (x : X) → Contains (x ∷ []) x
+itself x = (0, omega arith, refl)
+
+pub AllStay-row : (F V : List Row) (j : ℕ) (v : Row) → j < length V → v ≡ get_or V j v → AllStay F (take j V) → AllStay F (v ∷ []) → AllStay F (take (j + 1) V)
+AllStay-row F V j v within is so_far last =
+    let more : take (j + 1) V ≡ take j V ++ v ∷ [] = rw (take_more V j v within, ← is) refl in
+    rw more (record {
+      stay = λ f w c d. elim (Contains-push_cases (take j V) v w d) [
+        | inl older ↦ so_far.stay f w c older
+        | inr same ↦ subst (λ y. ProductsStay f y) same (last.stay f v c (itself v))
+      ];
+    })
+
+pub AllStay-list : (F V : List Row) (i : ℕ) (f : Row) → i < length F → f ≡ get_or F i f → AllStay (take i F) V → AllStay (f ∷ []) V → AllStay (take (i + 1) F) V
+AllStay-list F V i f within is so_far last =
+    let more : take (i + 1) F ≡ take i F ++ f ∷ [] = rw (take_more F i f within, ← is) refl in
+    rw more (record {
+      stay = λ g w c d. elim (Contains-push_cases (take i F) f g c) [
+        | inl older ↦ so_far.stay g w older d
+        | inr same ↦ subst (λ y. ProductsStay y w) same (last.stay f w (itself f) d)
+      ];
+    })
+
+pub listed : (V : List Row) (j : ℕ) (v : Row) → j < length V → v ≡ get_or V j v → Contains V v
+listed V j v within is = subst (Contains V) (sym is) (Contains-get_or V j v within)
+
+-- ---- where a product leaves the range
+pub wide_one : (f v a x : Row) → a ≡ v → x ≡ f → (ProductsStay f v → ⊥) → IsWideFor (f ∷ []) (v ∷ []) (Wide (E4 a x))
+wide_one f v a x p q h = rw (p, q) (itself v, itself f, λ s. h (stays_turned v f s))
+
+pub wide_in_row : (F V : List Row) (v : Row) (e : IncFail) → Contains V v → IsWideFor F (v ∷ []) e → IsWideFor F V e
+wide_in_row F V v Memory c h = tt
+wide_in_row F V v (Wide (E4 a x)) c h = (subst (Contains V) (sym (only_one h.0)) c, h.1, h.2)
+wide_in_row F V v (Wide e) c h = absurd h
+
+pub wide_in_list : (F V : List Row) (f : Row) (e : IncFail) → Contains F f → IsWideFor (f ∷ []) V e → IsWideFor F V e
+wide_in_list F V f Memory c h = tt
+wide_in_list F V f (Wide (E4 a x)) c h = (h.0, subst (Contains F) (sym (only_one h.1)) c, h.2)
+wide_in_list F V f (Wide e) c h = absurd h

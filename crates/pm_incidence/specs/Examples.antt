@@ -1,0 +1,25 @@
+-- Incidence read on three facets and three vertices of the plane: what holds, and what does not.
+use Rattle.pm_algebra.specs.Rows.{Row}
+use Rattle.pm_geom.specs.declared.evidence.Evidence.TheVariants.{E4}
+use Rattle.pm_incidence.specs.Incidence.{IsWideFor, incidence, places_from}
+use Rattle.pm_incidence.specs.declared.fails.IncFail.TheVariants.{Memory, Wide}
+use Rattle.std.specs.Prelude.{List, [], ◌∷◌, ◌≡◌}
+use lib.IntN.{ℤ, pos, negsuc}
+
+abbrev pub pair : ℤ → ℤ → Row
+pair a b = a ∷ b ∷ []
+
+-- x >= 0, y >= 0 and x >= y
+abbrev pub facets : List Row
+facets = pair (pos 1) (pos 0) ∷ pair (pos 0) (pos 1) ∷ pair (pos 1) (negsuc 0) ∷ []
+
+abbrev pub vertices : List Row
+vertices = pair (pos 0) (pos 1) ∷ pair (pos 2) (pos 2) ∷ pair (pos 0) (pos 0) ∷ []
+
+pub record IncidenceIsRead : Type 0 where
+  -- the places of the vertices on each facet, counted from 0
+  pub sets : incidence facets vertices ≡ (0 ∷ 2 ∷ []) ∷ (2 ∷ []) ∷ (1 ∷ 2 ∷ []) ∷ []
+  pub from_three : places_from 3 (pair (pos 1) (pos 0)) vertices ≡ 3 ∷ 5 ∷ []
+  -- want of memory needs no evidence, and evidence names no row that was not read
+  pub memory : IsWideFor facets vertices Memory
+  pub not_read : ¬ (IsWideFor facets vertices (Wide (E4 (pair (pos 1) (pos 1)) (pair (pos 1) (pos 0)))))

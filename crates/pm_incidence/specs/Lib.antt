@@ -1,0 +1,2 @@
+pub mod Incidence
+pub mod Examples

@@ -1,0 +1,16 @@
+//! Which rays lie on which facets (Ziegler, Lectures on Polytopes, lecture 2).
+#![tactic(auto)]
+
+ghost use Rattle.pm_incidence.specs.Examples.{IncidenceIsRead};
+
+mod fails;
+mod sets;
+
+pub use fails::IncFail;
+pub use pm_geom::Evidence;
+pub use sets::incidence;
+
+/// Incidence read on three facets and three vertices.
+pub fn example_incidence()
+    ensures { IncidenceIsRead }
+{}

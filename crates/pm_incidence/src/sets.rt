@@ -1,0 +1,79 @@
+// Which vertices lie on which facets.
+
+ghost use Rattle.pm_algebra.specs.Rows.{dot};
+ghost use Rattle.pm_incidence.specs.Incidence.{AllStay, IsWideFor, incidence, places_from};
+ghost use Rattle.pm_types.specs.Right.{IsIncidence};
+ghost use Rattle.pm_vector.specs.Products.{ProductsStay};
+ghost use Rattle.std.specs.Prelude.{All, IfErr, IfOk, OnOk, [], length, unsigned_abs, ◌==◌, ◌∷◌, ◌≡◌, ◌≤◌};
+
+use crate::fails::IncFail;
+use pm_geom::Evidence;
+use pm_types::Sets;
+use pm_vector::{Ints, Wide, dot};
+use std::alloc::{AllocError, Global};
+
+// Whether the product of two rows of one length is 0.
+fn vanishes(alloc: Global, facet: &Ints, vertex: &Ints) -> Result<bool, IncFail>
+    requires { length facet.now ≡ length vertex.now }
+    ensures value { IfOk result (λ b. b ≡ (unsigned_abs (dot facet.now vertex.now) == 0)) }
+    ensures stays { OnOk result (AllStay (facet.now ∷ []) (vertex.now ∷ [])) }
+    ensures failed { IfErr result (IsWideFor (facet.now ∷ []) (vertex.now ∷ [])) }
+{
+    match dot(facet.as_slice(), vertex.as_slice()) {
+        Ok(product) => Ok(is_zero(product)),
+        Err(Wide) => Err(wide(alloc, facet, vertex)?),
+    }
+}
+
+fn is_zero(k: i128) -> bool
+    ensures { result ≡ (unsigned_abs k == 0) }
+{
+    k == 0
+}
+
+// The evidence of two rows whose product leaves the range.
+fn wide(alloc: Global, facet: &Ints, vertex: &Ints) -> Result<IncFail, AllocError>
+    requires { ProductsStay facet.now vertex.now → ⊥ }
+    ensures { IfOk result (IsWideFor (facet.now ∷ []) (vertex.now ∷ [])) }
+{
+    Ok(IncFail::Wide(Evidence::E4 {
+        first: vertex.copy(alloc)?,
+        second: facet.copy(alloc)?,
+    }))
+}
+
+// The places of the vertices on a facet.
+fn places(alloc: Global, facet: &Ints, vertices: &[Ints]) -> Result<Vec<u32>, IncFail>
+    requires cols { All (λ v. length v ≡ length facet.now) vertices.now }
+    requires few { length vertices.now ≤ 2048 }
+    ensures ok { IfOk result (λ r. r.items ≡ places_from 0 facet.now vertices.now) }
+    ensures stays { OnOk result (AllStay (facet.now ∷ []) vertices.now) }
+    ensures failed { IfErr result (IsWideFor (facet.now ∷ []) vertices.now) }
+{
+    let mut places = Vec::new(alloc);
+    for (j, vertex) in vertices.iter().enumerate() {
+        let on = vanishes(alloc, facet, vertex)?;
+        if on {
+            places.push(j as u32)?;
+        }
+    }
+    Ok(places)
+}
+
+/// For each facet row the places of the rays on which it vanishes, of rows of one length. It fails exactly where a
+/// product leaves the range, with two rows of such a product as evidence.
+pub fn incidence(alloc: Global, facets: &[Ints], vertices: &[Ints]) -> Result<Sets, IncFail>
+    requires cols { All (λ f. All (λ v. length v ≡ length f) vertices.now) facets.now }
+    requires few { length vertices.now ≤ 2048 }
+    ensures ok { IfOk result (λ r. r
+        ≡ record { rows = incidence facets.now vertices.now; cols = length vertices.now }) }
+    ensures right { IfOk result (λ r. IsIncidence facets.now vertices.now r.rows) }
+    ensures stays { OnOk result (AllStay facets.now vertices.now) }
+    ensures failed { IfErr result (IsWideFor facets.now vertices.now) }
+{
+    let mut rows = Vec::new(alloc);
+    for facet in facets {
+        rows.push(places(alloc, facet, vertices)?)?;
+    }
+    Ok(Sets::from_vec(rows, vertices.len() as u32))
+}
