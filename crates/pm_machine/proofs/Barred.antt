@@ -68,11 +68,12 @@ barred_same book test n item barred there bars first = record {
 }
 
 -- ---- the tests of one rule, put together
-pub two : (a a' b b' : Bool) → a ≡ a' → b ≡ b' → (a || b) ≡ (a' || b')
-two a a' b b' h k = cc
+-- the first of these tests decides, else the second
+pub first_holds : (a a' b : Bool) → a ≡ a' → a ≡ true → a ≡ (a' || b)
+first_holds a a' b h t = rw (sym h ∙ t) t
 
-pub three : (a a' b b' c c' : Bool) → a ≡ a' → b ≡ b' → c ≡ c' → ((a || b) || c) ≡ ((a' || b') || c')
-three a a' b b' c c' h k l = cc
+pub second_decides : (a a' b b' : Bool) → a ≡ a' → a ≡ false → b ≡ b' → b ≡ (a' || b')
+second_decides a a' b b' h f k = rw (sym h ∙ f) k
 
 pub none_is : {r w : Option ℕ} {n : Bool} → is_some r ≡ not n → r ≡ w → n ≡ not (is_some w)
 none_is {r} {w} {n} h k = twice n ∙ ap not (sym h ∙ ap is_some k)

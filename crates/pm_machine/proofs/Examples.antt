@@ -4,7 +4,7 @@ use Rattle.pm_machine.specs.Events.{end_by, over}
 use Rattle.pm_props.specs.declared.property.PropId.TheVariants.{FullDim, Pointed}
 use Rattle.std.proofs.Common.{ap, arith, false, refl}
 use Rattle.std.specs.Prelude.{Some, [], ◌∷◌}
-use Rattle.pm_machine.specs.Examples.{ConditionsAreRead, EventsAreRead, ExclusionsAreRead, fifth, given, two, under}
+use Rattle.pm_machine.specs.Examples.{AnswersAreRead, ConditionsAreRead, EventsAreRead, ExclusionsAreRead, fifth, given, two, under}
 use Rattle.pm_props.specs.Sets.{has, only, union}
 
 pub events_are_read : EventsAreRead
@@ -48,4 +48,21 @@ conditions_are_read = record {
   contrary_right = λ rule. refl;
   first = λ rule. first_is (under rule (Pointed ∷ FullDim ∷ []) []) (given FullDim false ∷ given Pointed false ∷ []) (Some Pointed) Pointed refl refl;
   not_first = λ rule f. absurd (omega (arith, f.least Pointed refl));
+}
+
+pub answers_are_read : AnswersAreRead
+unfolding has union only
+answers_are_read = record {
+  later = λ r s. refl;
+  none_later = λ r. refl;
+  asked = refl;
+  of_a_cone = refl;
+  no_name = refl;
+  settled_holds = refl;
+  ensure_tells = λ book old new asked more h. h.1;
+  give_tells = λ book old new name p more h. h.1;
+  crowded_tells = λ book old new asked more h. h.1;
+  no_other = λ book old new asked h. h;
+  no_other_reason = λ book clients o asked h. h;
+  explain_names = λ book clients o asked chain weight rows names h. h.3;
 }

@@ -2,7 +2,7 @@
 use Rattle.pm_algebra.proofs.Filters.{among_filter, among_map, filter_among, map_among}
 use Rattle.pm_algebra.proofs.Lists.{Among, Contains_among, among_All, among_append_right, here, there}
 use Rattle.pm_client.specs.Starts.{Clients, after_start, after_start_at, has_client, place_in, same_kind, started_at}
-use Rattle.pm_machine.proofs.Committing.{at_any, drop_at, named_held, read_append}
+use Rattle.pm_transact.proofs.Committing.{at_any, drop_at, named_held, read_append}
 use Rattle.pm_machine.proofs.Traces.{reaches_itself, reaches_through}
 use Rattle.pm_machine.proofs.Turns.{turn_breaks, turn_reaches}
 use Rattle.pm_machine.specs.Chains.{AreBarred, held_names, is_excluded, place_of_rule, some_wrong, table}

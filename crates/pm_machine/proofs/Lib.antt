@@ -2,9 +2,9 @@ pub mod Traces
 pub mod Kept
 pub mod Barred
 pub mod BarredReasons
-pub mod Committing
 pub mod Running
 pub mod Measure
+pub mod Moves
 pub mod Turns
 pub mod Following
 pub mod Rounds

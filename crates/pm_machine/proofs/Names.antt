@@ -29,7 +29,7 @@ use Rattle.pm_types.specs.Values.{PropertyValue}
 use Rattle.pm_props.specs.declared.kind.RuleId.{RuleId}
 use Rattle.pm_props.specs.declared.property.PropId.{PropId}
 use Rattle.pm_props.specs.declared.set.PropSet.{PropSet}
-use Rattle.pm_props.specs.declared.weight.Cost.{Cost}
+use Rattle.pm_weights.specs.declared.Cost.{Cost}
 use Rattle.serde_json.specs.Read.{read}
 use Rattle.std.proofs.Common.{ap, arith, bytes_eq, eqb, false, inl, inr, refl, subst, sym, true, true≢false, ◌∙◌, ◌≢◌}
 use Rattle.std.proofs.lemmas.Map.Text.{hash_map_updates_text}
@@ -412,10 +412,6 @@ honest_step view book old new command (Err x) s p all = steps_in_part_keep book 
 pub on_err_of : {T E P : Type 0} (r : Result T E) → P → OnErr r P
 on_err_of (Ok x) p = tt
 on_err_of (Err e) p = p
-
-pub on_err_so : {T E P Q : Type 0} (r : Result T E) → (P → Q) → OnErr r P → OnErr r Q
-on_err_so (Ok x) f p = tt
-on_err_so (Err e) f p = f p
 
 -- ---- what was ensured is told with its rounds
 pub gives_shown : {F E : Type 0} (view : F → ReplySeen) (r : Result F E) (book : List Rule) (old new : Configuration) (name : List ℕ) (p : PropId) (of : ObjectType) (v : PropertyValue) (t : Rounds)

@@ -15,7 +15,7 @@ use Rattle.pm_props.specs.Sets.{IsSubset, has, union}
 use Rattle.pm_props.specs.declared.kind.RuleId.{RuleId}
 use Rattle.pm_props.specs.declared.property.PropId.{PropId}
 use Rattle.pm_props.specs.declared.set.PropSet.{PropSet}
-use Rattle.pm_props.specs.declared.weight.Cost.{Cost}
+use Rattle.pm_weights.specs.declared.Cost.{Cost}
 use Rattle.std.proofs.Common.{ap, false, inl, inr, refl, subst, sym, true, ◌∙◌}
 use Rattle.std.specs.Prelude.{Bool, Err, List, Ok, OnErr, Option, Result, [], not, ℕ, ◌&&◌, ◌∷◌, ◌||◌, ◌≡◌, ◌⊎◌}
 

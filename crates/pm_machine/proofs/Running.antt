@@ -1,8 +1,8 @@
 -- From a rule that is enabled to a run that may be, and from a run to a round.
 use Rattle.pm_algebra.proofs.Filters.{map_among, among_map}
 use Rattle.pm_algebra.proofs.Lists.{Among, Contains_among, among_All, among_Contains, here, there}
-use Rattle.pm_machine.proofs.Committing.{above, ascends, both, named_held}
-use Rattle.pm_machine.specs.Commits.{FitsObject}
+use Rattle.pm_transact.proofs.Committing.{above, ascends, both, named_held}
+use Rattle.pm_transact.specs.Commits.{FitsObject}
 use Rattle.pm_machine.specs.Chains.{IsFirstWrong, held_names, is_truth, is_wrong, some_wrong, table}
 use Rattle.pm_object.proofs.Formed.{dimension_of, value_among}
 use Rattle.pm_object.proofs.Names.{names_held}
@@ -16,8 +16,8 @@ use Rattle.pm_props.proofs.Every.{has-set_of_filter}
 use Rattle.pm_props.proofs.Every.{among_every}
 use Rattle.pm_props.proofs.Places.{same_property_refl}
 use Rattle.pm_props.proofs.Members.{has-intersection, has-union}
-use Rattle.pm_types.specs.Forms.{FormsIn, has_64_bits, is_formed, is_matrix_form, is_sets_form}
-use Rattle.pm_props.specs.Properties.{is_of_matrices, is_of_sets, is_of_whole_numbers}
+use Rattle.pm_types.specs.Forms.{FormsIn, has_64_bits, is_counts_form, is_formed, is_matrix_form, is_sets_form}
+use Rattle.pm_props.specs.Properties.{is_of_counts, is_of_matrices, is_of_sets, is_of_whole_numbers}
 use Rattle.pm_props.specs.Kinds.{IsFresh, IsKindOf, names_of as names_of_kind}
 use Rattle.pm_props.specs.Properties.{is_in_use}
 use Rattle.pm_props.specs.Properties.{every_property, has_program, number, value_kind}
@@ -80,6 +80,9 @@ not_matrices p k = ap is_of_matrices k
 not_sets : (p : PropId) → value_kind p ≡ form.Bool → is_of_sets (value_kind p) ≡ false
 not_sets p k = ap is_of_sets k
 
+not_counts : (p : PropId) → value_kind p ≡ form.Bool → is_of_counts (value_kind p) ≡ false
+not_counts p k = ap is_of_counts k
+
 and_left : (a b : Bool) → (a && b) ≡ true → a ≡ true
 and_left true b h = refl
 and_left false b h = absurd (true≢false (sym h))
@@ -97,7 +100,7 @@ is_truth_value p (truth b) k f = (b, refl)
 is_truth_value p (extended x) k f = absurd (true≢false (sym f))
 is_truth_value p (edges rows) k f = absurd (true≢false (sym f))
 is_truth_value p (lattice ranks) k f = absurd (true≢false (sym f))
-is_truth_value p (counts ks) k f = absurd (true≢false (sym f))
+is_truth_value p (counts ks) k f = absurd (true≢false (sym (and_left (is_of_counts (value_kind p)) (is_counts_form ks) f) ∙ not_counts p k))
 
 -- ---- facts of an object without programs
 abbrev pub AreOwn : List HeldValue → Type 0

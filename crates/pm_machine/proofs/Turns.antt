@@ -76,8 +76,3 @@ module _ (book : List Rule) (sub : Option ℕ) (asked : PropSet) (chain left : L
             (turn chain id left, reaches_itself book sub asked (turn chain id left) (configuration o clients))
         | inr (s, is) ↦ (running chain id left, starts o clients after s is)
       ])
-
--- a run broken off
-pub run_breaks : (sub : Option ℕ) (rule : Rule) (o new : State) (clients after : Clients) → StartedRule sub rule o → after ≡ after_start rule.kind clients → new ≡ o
-    → BreaksTurn sub rule (configuration o clients) (configuration new after)
-run_breaks sub rule o new clients after s is same = record { object = same; clients = inr (s, is) }

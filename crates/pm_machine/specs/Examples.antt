@@ -1,7 +1,7 @@
 -- The definitions of phases, events and exclusions read on small things: what holds of them and what does not.
-use Rattle.std.specs.Prelude.{ℕ, ◌≡◌, Bool, true, false, Option, Some, None, List, [], ◌∷◌}
+use Rattle.std.specs.Prelude.{ℕ, ◌≡◌, Bool, true, false, Option, Some, None, List, [], codes, ◌∷◌}
 use Rattle.pm_geom.specs.declared.evidence.Evidence.TheVariants.{E4}
-use Rattle.pm_props.specs.declared.object_type.ObjectType.TheVariants.{Polytope}
+use Rattle.pm_props.specs.declared.object_type.ObjectType.TheVariants.{Cone, Polytope}
 use Rattle.pm_machine.specs.Chains.{IsFirstWrong, is_excluded, is_wrong, some_wrong}
 use Rattle.pm_machine.specs.Events.{Configuration, MayOccur, at_rest, begun, committed, excluded, over, phase_after_all, running, settled, started, turn, unsettled, written}
 use Rattle.pm_object.specs.State.{HeldValue, RoundSeen, State, empty_object}
@@ -13,11 +13,18 @@ use Rattle.pm_machine.specs.Reasons.{first_reason}
 use Rattle.pm_rules.specs.declared.rule.Rule.{Rule}
 use Rattle.pm_script.specs.declared.names.Bar.TheVariants as bar
 use Rattle.pm_props.specs.Sets.{set_of}
-use Rattle.pm_types.specs.Values.{Fact, truth}
+use Rattle.pm_types.specs.Values.{Fact, truth, whole}
+use Rattle.pm_client.specs.Starts.{Clients}
+use Rattle.pm_machine.specs.Steps.{Ensures, Explains, Gives, asked_in, later_rounds, rule_names, settled_object}
+use Rattle.pm_rules.specs.declared.table.TableRow.{TableRow}
+use Rattle.pm_script.specs.Replies.{NamesSeen, Remarks, explained, nothing, refused, remarks}
+use Rattle.pm_script.specs.declared.refusal.Refusal.TheVariants.{Crowded, NoChain, UnknownName}
+use Rattle.pm_weights.specs.declared.Cost.{Cost}
+use lib.IntN.{pos}
 use Rattle.pm_props.specs.declared.kind.Kind.{Kind}
 use Rattle.pm_props.specs.declared.kind.RuleId.{RuleId}
 use Rattle.pm_props.specs.declared.property.PropId.{PropId}
-use Rattle.pm_props.specs.declared.property.PropId.TheVariants.{ConeDim, FullDim, MaximalValue, Pointed}
+use Rattle.pm_props.specs.declared.property.PropId.TheVariants.{ConeAmbientDim, ConeDim, Facets, FullDim, MaximalValue, Pointed, Vertices}
 use Rattle.pm_props.specs.declared.set.PropSet.{PropSet}
 
 abbrev pub third : RuleId
@@ -101,3 +108,32 @@ pub record ReasonsAreRead : Type 0 where
   pub disabled_first : first_reason None None true false ≡ Some bar.Disabled
   pub no_client : first_reason None None false false ≡ Some bar.NoClient
   pub none : first_reason None None false true ≡ None
+
+-- a polytope with these rounds
+abbrev pub with_rounds : List RoundSeen → State
+with_rounds rounds = record (empty_object Polytope) { rounds = rounds }
+
+-- the column count 1, which goes without saying
+abbrev pub one_column : HeldValue
+one_column = record { place = None; property = ConeAmbientDim; value = whole (pos 1); origin = Given }
+
+-- what `ensure`, `give` and `explain` ask and tell
+pub record AnswersAreRead : Type 0 where
+  -- of the rounds those that came later
+  pub later : (r s : RoundSeen) → later_rounds (with_rounds (r ∷ [])) (with_rounds (r ∷ s ∷ [])) ≡ s ∷ []
+  pub none_later : (r : RoundSeen) → later_rounds (with_rounds (r ∷ [])) (with_rounds (r ∷ [])) ≡ []
+  -- each word names a property of the type
+  pub asked : asked_in Polytope (codes "VERTICES" ∷ codes "FACETS" ∷ []) ≡ Some (set_of (Vertices ∷ Facets ∷ []))
+  pub of_a_cone : asked_in Cone (codes "RAYS" ∷ []) ≡ Some (set_of (Vertices ∷ []))
+  pub no_name : asked_in Polytope (codes "VERTICES" ∷ codes "RAYS" ∷ []) ≡ None
+  -- an object that is settled knows its column count
+  pub settled_holds : (settled_object (empty_object Polytope)).held ≡ one_column ∷ []
+  -- the rounds beside a refusal are told of `ensure` always, of `give` only where they are traced
+  pub ensure_tells : (book : List Rule) (old new : Configuration) (asked : PropSet) (more : Remarks) → Ensures book old asked (refused NoChain more) new → more ≡ remarks true (later_rounds old.object new.object) [] None (rule_names book)
+  pub give_tells : (book : List Rule) (old new : Configuration) (name : List ℕ) (p : PropId) (more : Remarks) → Gives book old name p (refused NoChain more) new → more ≡ remarks false (later_rounds old.object new.object) [] None (rule_names book)
+  pub crowded_tells : (book : List Rule) (old new : Configuration) (asked : PropSet) (more : Remarks) → Ensures book old asked (refused Crowded more) new → more ≡ remarks true (later_rounds old.object new.object) [] None (rule_names book)
+  -- no other refusal comes of asking
+  pub no_other : (book : List Rule) (old new : Configuration) (asked : PropSet) → Ensures book old asked (refused UnknownName nothing) new → ⊥
+  pub no_other_reason : (book : List Rule) (clients : Clients) (o : State) (asked : PropSet) → Explains book clients o asked (refused UnknownName nothing) → ⊥
+  -- the labels are those of the book
+  pub explain_names : (book : List Rule) (clients : Clients) (o : State) (asked : PropSet) (chain : List RuleId) (weight : Cost) (rows : List TableRow) (names : NamesSeen) → Explains book clients o asked (explained chain weight rows names) → names ≡ rule_names book

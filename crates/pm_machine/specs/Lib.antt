@@ -1,7 +1,7 @@
 pub mod Chains
-pub mod Commits
 pub mod Reasons
 pub mod Events
+pub mod Moves
 pub mod Running
 pub mod Steps
 pub mod Parts

@@ -11,7 +11,7 @@ ghost use Rattle.pm_props.specs.Places.{same_place};
 ghost use Rattle.pm_props.specs.Sets.{has, set_of};
 ghost use Rattle.pm_props.specs.declared.property.PropId.{PropId};
 ghost use Rattle.std.specs.List.{list_any};
-ghost use Rattle.std.specs.Prelude.{IfOk, filter, find, length, map, nat_eq, ◌&&◌, ◌||◌, ◌≡◌, ◌≤◌};
+ghost use Rattle.std.specs.Prelude.{false, true, IfOk, filter, find, length, map, nat_eq, ◌&&◌, ◌||◌, ◌≡◌, ◌≤◌};
 
 use pm_client::{Client, place_of};
 use pm_object::{Excluded, Object};
@@ -48,16 +48,32 @@ fn is_held_as(object: &Object, sub: Option<u8>, p: PropId, b: bool) -> bool
         Some(Value::Mat(_)) => false,
         Some(Value::Sets(_)) => false,
         Some(Value::Int(_)) => false,
+        Some(Value::Counts(_)) => false,
         None => false,
     }
+}
+
+// Whether the rule wants the property true, and it is held there as false.
+fn is_wrongly_false(rule: &Rule, object: &Object, sub: Option<u8>, p: PropId) -> bool
+    ensures { result ≡ (has rule.now.must p
+        && is_truth false (value_of p (read_at sub object.now.state.held))) }
+{
+    rule.must.contains(p) && is_held_as(object, sub, p, false)
+}
+
+// Whether the rule wants the property false, and it is held there as true.
+fn is_wrongly_true(rule: &Rule, object: &Object, sub: Option<u8>, p: PropId) -> bool
+    ensures { result ≡ (has rule.now.must_not p
+        && is_truth true (value_of p (read_at sub object.now.state.held))) }
+{
+    rule.must_not.contains(p) && is_held_as(object, sub, p, true)
 }
 
 // Whether a precondition of the rule is held there with the wrong value.
 fn is_wrong(rule: &Rule, object: &Object, sub: Option<u8>, p: PropId) -> bool
     ensures { result ≡ is_wrong rule.now (read_at sub object.now.state.held) p }
 {
-    (rule.must.contains(p) & is_held_as(object, sub, p, false))
-        | (rule.must_not.contains(p) & is_held_as(object, sub, p, true))
+    is_wrongly_false(rule, object, sub, p) || is_wrongly_true(rule, object, sub, p)
 }
 
 // Whether one of these preconditions is held there with the wrong value.
@@ -87,7 +103,7 @@ fn names_program(rule: &Rule, properties: &[PropId]) -> bool
     let names = rule.kind.names();
     properties
         .iter()
-        .any(|p| names.contains(*p) & p.is_of_programs())
+        .any(|p| names.contains(*p) && p.is_of_programs())
 }
 
 /// Where an exclusion of the rule stands.
@@ -116,7 +132,7 @@ fn are_same(a: Option<u8>, b: Option<u8>) -> bool
 pub fn excludes(e: &Excluded, id: RuleId, place: Option<u8>) -> bool
     ensures { result ≡ (nat_eq e.now.rule.0 id.0 && same_place e.now.sub place) }
 {
-    (e.rule.0 == id.0) & are_same(e.sub, place)
+    e.rule.0 == id.0 && are_same(e.sub, place)
 }
 
 // Whether the rule of this number was excluded at this place.
@@ -126,15 +142,22 @@ fn is_excluded(excluded: &[Excluded], id: RuleId, place: Option<u8>) -> bool
     excluded.iter().any(|e| excludes(e, id, place))
 }
 
+// Whether the rule of this number was excluded there, or a precondition of it is held with the wrong value.
+fn is_ruled_out(object: &Object, sub: Option<u8>, id: RuleId, rule: &Rule) -> bool
+    ensures { result ≡ (is_excluded object.now.state sub id rule.now
+        || some_wrong rule.now (read_at sub object.now.state.held)) }
+{
+    is_excluded(object.excluded(), id, place_of_rule(sub, rule))
+        || some_is_wrong(rule, object, sub, &PropId::every())
+}
+
 // Whether the object bars the rule of this number there, whatever the clients.
 fn is_barred_by(object: &Object, sub: Option<u8>, id: RuleId, rule: &Rule) -> bool
     ensures { result ≡ (is_excluded object.now.state sub id rule.now
         || some_wrong rule.now (read_at sub object.now.state.held)
         || is_disabled rule.now.label object.now.state.disabled) }
 {
-    is_excluded(object.excluded(), id, place_of_rule(sub, rule))
-        | some_is_wrong(rule, object, sub, &PropId::every())
-        | object.is_disabled(rule.label.as_str())
+    is_ruled_out(object, sub, id, rule) || object.is_disabled(rule.label.as_str())
 }
 
 // Whether the rule of this number is barred there.
@@ -147,7 +170,7 @@ fn is_barred_on(
 ) -> bool
     ensures { result ≡ is_barred_on (map tally clients.now) object.now.state sub id rule.now }
 {
-    is_barred_by(object, sub, id, rule) | place_of(clients, rule.kind).is_none()
+    is_barred_by(object, sub, id, rule) || place_of(clients, rule.kind).is_none()
 }
 
 /// The rules of the book that are barred on the object, for who asks this program, if one is asked.

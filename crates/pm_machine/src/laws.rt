@@ -1,7 +1,7 @@
 // The laws of honesty, and examples.
 
 ghost use Rattle.pm_machine.specs.Events.{EventsKeep};
-ghost use Rattle.pm_machine.specs.Examples.{ConditionsAreRead, EventsAreRead, ExclusionsAreRead, ReasonsAreRead};
+ghost use Rattle.pm_machine.specs.Examples.{AnswersAreRead, ConditionsAreRead, EventsAreRead, ExclusionsAreRead, ReasonsAreRead};
 ghost use Rattle.pm_machine.specs.Reasons.{BarredHaveReasons};
 ghost use Rattle.pm_machine.specs.Laws.{StepsInPartKeep, StepsKeep};
 
@@ -43,4 +43,9 @@ pub fn example_conditions()
 /// Which reason is told of a rule that is barred.
 pub fn example_reasons()
     ensures { ReasonsAreRead }
+{}
+
+/// What is asked by names, and what of rounds and labels is told.
+pub fn example_answers()
+    ensures { AnswersAreRead }
 {}

@@ -3,8 +3,8 @@
 
 mod asking;
 mod chain;
-mod commit;
 mod laws;
+mod moving;
 mod naming;
 mod reasons;
 mod round;
@@ -12,7 +12,7 @@ mod session;
 mod taking;
 
 pub use laws::{
-    example_conditions, example_events, example_exclusions, example_reasons,
+    example_answers, example_conditions, example_events, example_exclusions, example_reasons,
     law_barred_have_reasons, law_events_keep, law_steps_in_part_keep, law_steps_keep,
 };
 pub use session::Session;

@@ -15,16 +15,19 @@ ghost use Rattle.pm_props.specs.Kinds.{IsKindOf};
 ghost use Rattle.pm_props.specs.declared.set.PropSet.{PropSet};
 ghost use Rattle.pm_types.specs.Runs.{MayRun};
 ghost use Rattle.pm_props.specs.declared.property.PropId.TheVariants.{ConeAmbientDim};
+ghost use Rattle.pm_transact.specs.Transactions.{begun, targets_of};
 ghost use Rattle.std.specs.Option.{is_some};
-ghost use Rattle.std.specs.Prelude.{IfErr, IfOk, IsTrue, None, OnErr, OnOk, [], map, ◌≡◌};
+ghost use Rattle.std.specs.Prelude.{IfErr, IfOk, IsTrue, None, OnErr, OnOk, [], map, ◌≤◌, ◌≡◌};
 
 use crate::chain::{barred_rules, first_wrong, place_of_rule, table};
-use crate::commit::commit;
+use crate::moving::move_values;
 use pm_client::{Client, ClientFail, run_first};
 use pm_object::{Draft, Excluded, Object, Round, RoundEnd, Why};
 use pm_plan::{Plan, PlanEnd, plan};
 use pm_rules::{Book, Rule};
-use pm_types::{Cost, Kind, PropSet, RuleId};
+use pm_transact::Transaction;
+use pm_types::{PropSet, RuleId};
+use pm_weights::Cost;
 use std::alloc::{AllocError, Global};
 
 /// How ensuring ends.
@@ -38,42 +41,45 @@ pub enum Ending {
     Crowded,
 }
 
-// Runs the client of a kind on what the object holds.
+// Runs the client of a rule on what its transaction shows.
 fn run_client(
     alloc: Global,
     object: &Object,
-    sub: Option<u8>,
-    kind: Kind,
+    transaction: &Transaction,
     clients: &mut Vec<Box<dyn Client>>,
     draft: &mut Draft,
 ) -> Result<(), ClientFail>
-    requires there { IsTrue (has_client kind (map tally clients.old.items)) }
+    requires there { IsTrue (has_client transaction.now.kind (map tally clients.old.items)) }
     requires known { IsTrue (is_some (cols_of object.now.state.held)) }
-    requires in_use { IsKindOf sub object.now.state.of kind }
-    requires may { MayRun kind sub (columns object.now.state)
+    requires in_use { IsKindOf transaction.now.sub object.now.state.of transaction.now.kind }
+    requires may { MayRun transaction.now.kind transaction.now.sub (columns object.now.state)
         (facts object.now.state.held) }
-    requires empty { draft.old ≡ record { kind = kind; values = [] } }
-    ensures started { map tally clients.new.items ≡ after_start kind (map tally clients.old.items) }
+    requires empty { draft.old ≡ record { kind = transaction.now.kind; values = [] } }
+    ensures started { map tally clients.new.items ≡ after_start transaction.now.kind (map tally clients.old.items) }
+    ensures kind { draft.new.kind ≡ transaction.now.kind }
     ensures sound { OnOk result (IsSound
-        (view_for object.now.state sub kind
+        (view_for object.now.state transaction.now.sub transaction.now.kind
         (columns object.now.state)) draft.new) }
     ensures failed { IfErr result (FailsRightly
-        (view_for object.now.state sub kind (columns object.now.state))) }
+        (view_for object.now.state transaction.now.sub transaction.now.kind (columns object.now.state))) }
 {
-    let view = object.view(sub, &kind);
+    let view = transaction.view(object);
     run_first(alloc, clients, &view, draft)
 }
 
-// Commits what the client of a rule answered, or excludes the rule with its evidence; nothing changes where memory is wanting.
+// Commits what the client of a rule answered, or rolls back and excludes the rule with its evidence; nothing changes where memory is wanting.
 fn end_run(
-    alloc: Global,
     object: &mut Object,
     id: RuleId,
     rule: &Rule,
+    mut transaction: Transaction,
     draft: &mut Draft,
     ran: Result<(), ClientFail>,
 ) -> Result<RoundEnd, AllocError>
     requires started { StartedRule None rule.now object.old.state }
+    requires begun { transaction ≡ begun None rule.now.kind }
+    requires spare { targets_of rule.now.kind ≤ object.old.spare }
+    requires kind { draft.old.kind ≡ rule.now.kind }
     requires sound { OnOk ran (IsSound
         (view_for object.old.state None rule.now.kind
         (columns object.old.state)) draft.old) }
@@ -86,11 +92,34 @@ fn end_run(
 {
     match ran {
         Ok(()) => {
-            commit(alloc, object, None, draft)?;
+            move_values(&mut transaction, draft);
+            transaction.commit(object);
             Ok(RoundEnd::Done)
         }
-        Err(ClientFail::Memory) => Err(AllocError),
-        Err(ClientFail::Failed(evidence)) => {
+        Err(fail) => {
+            transaction.roll_back();
+            exclude_failed(object, id, rule, fail)
+        }
+    }
+}
+
+// Excludes a rule whose client failed, with its evidence; nothing changes where memory is wanting.
+fn exclude_failed(
+    object: &mut Object,
+    id: RuleId,
+    rule: &Rule,
+    fail: ClientFail,
+) -> Result<RoundEnd, AllocError>
+    requires started { StartedRule None rule.now object.old.state }
+    requires failed { FailsRightly
+        (view_for object.old.state None rule.now.kind (columns object.old.state)) fail }
+    ensures ok { IfOk result (λ end. RunsRule None id rule.now object.old.state end
+        object.new.state) }
+    ensures err { OnErr result (object.new.state ≡ object.old.state) }
+{
+    match fail {
+        ClientFail::Memory => Err(AllocError),
+        ClientFail::Failed(evidence) => {
             let number = evidence.number();
             let excluded = Excluded {
                 rule: id,
@@ -114,15 +143,18 @@ fn run_rule(
     requires there { IsTrue (has_client rule.now.kind (map tally clients.old.items)) }
     requires in_use { IsKindOf None object.old.state.of rule.now.kind }
     requires may { StartedRule None rule.now object.old.state }
-    ensures started { map tally clients.new.items ≡ after_start rule.now.kind
-        (map tally clients.old.items) }
+    ensures started { OnOk result (map tally clients.new.items ≡ after_start rule.now.kind
+        (map tally clients.old.items)) }
     ensures ok { IfOk result (λ end. RunsRule None id rule.now object.old.state end
         object.new.state) }
-    ensures err { OnErr result (object.new.state ≡ object.old.state) }
+    ensures err { OnErr result (BreaksTurn None rule.now
+        (configuration object.old.state (map tally clients.old.items))
+        (configuration object.new.state (map tally clients.new.items))) }
 {
+    let transaction = Transaction::begin(alloc, object, None, rule)?;
     let mut draft = Draft::new(alloc, &rule.kind);
-    let ran = run_client(alloc, object, None, rule.kind, clients, &mut draft);
-    end_run(alloc, object, id, rule, &mut draft, ran)
+    let ran = run_client(alloc, object, &transaction, clients, &mut draft);
+    end_run(object, id, rule, transaction, &mut draft, ran)
 }
 
 // A turn of a rule: it is excluded where a precondition is held with the wrong value; else its client is run.

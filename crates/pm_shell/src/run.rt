@@ -210,7 +210,7 @@ fn answer_lines<K: Sink>(
     while has_line(rest) {
         let (line, after) = split_line(rest);
         let refused = answer_next(alloc, session, clients, &line, sink)?;
-        some_refused = some_refused | refused;
+        some_refused |= refused;
         rest = after;
     }
     Ok(some_refused)

@@ -1,19 +1,13 @@
 use Rattle.std.proofs.Common.{ap, ◌∙◌}
-use Rattle.std.specs.List.{list_any}
-use Rattle.std.specs.Prelude.{nat_eq, ◌&&◌}
-use Rattle.pm_object.specs.State.{is_disabled, read_at}
-use Rattle.pm_machine.proofs.Barred.{three}
-use Rattle.pm_machine.specs.Chains.{is_excluded, is_wrong, some_wrong}
-use Rattle.pm_props.specs.Places.{same_place}
+use Rattle.pm_object.specs.State.{is_disabled}
+use Rattle.pm_machine.proofs.Barred.{first_holds, second_decides}
 use Rattle.pm_machine.proofs.chain.is_barred_by.Goals as goal
 
-pub returns : goal.returns
-returns c =
+pub returns-then-is_ruled_out : goal.returns-then-is_ruled_out
+returns-then-is_ruled_out c = first_holds c.is_ruled_out.result _ _ c.is_ruled_out.ensures c.if-is_ruled_out.true
+
+pub returns-else-is_ruled_out : goal.returns-else-is_ruled_out
+returns-else-is_ruled_out c =
     let o = c.args.object.now.state in
-    three c.is_excluded.result (is_excluded o c.args.sub c.args.id c.args.rule.now)
-    c.some_is_wrong.result (some_wrong c.args.rule.now (read_at c.args.sub o.held))
-    c.is_disabled.result (is_disabled c.args.rule.now.label o.disabled)
-    (c.is_excluded.ensures ∙ ap (λ z. list_any (λ e. nat_eq e.rule.0 c.args.id.0 && same_place e.sub c.place_of_rule.result) z) c.excluded.ensures
-    ∙ ap (λ z. list_any (λ e. nat_eq e.rule.0 c.args.id.0 && same_place e.sub z) o.excluded) c.place_of_rule.ensures)
-    (c.some_is_wrong.ensures ∙ ap (λ z. list_any (is_wrong c.args.rule.now (read_at c.args.sub o.held)) z) c.every.ensures)
+    second_decides c.is_ruled_out.result _ c.is_disabled.result (is_disabled c.args.rule.now.label o.disabled) c.is_ruled_out.ensures c.if-is_ruled_out.false
     (c.is_disabled.ensures ∙ ap (λ z. is_disabled z o.disabled) c.as_str.ensures)

@@ -1,10 +1,10 @@
 -- What the run ensures of its view is so of the object.
 use Rattle.std.proofs.Common.{rules, sym, ◌∙◌}
-use Rattle.pm_machine.proofs.Committing.{named_held}
+use Rattle.pm_transact.proofs.Committing.{named_held}
 use Rattle.pm_machine.proofs.round.run_client.Goals as goal
 
 pub view-view-requires-clause-sources : goal.view-view-requires-clause-sources
-view-view-requires-clause-sources g c = λ p h. sym (named_held c.args.sub c.args.object.now.state.held p) ∙ c.requires.may.sources p h
+view-view-requires-clause-sources g c = λ p h. sym (named_held c.args.transaction.now.sub c.args.object.now.state.held p) ∙ c.requires.may.sources p h
 
 pub returns-clause-started : goal.returns-clause-started
 returns-clause-started g c = search rules

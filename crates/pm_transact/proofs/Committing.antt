@@ -1,6 +1,6 @@
 -- Adding what a client answered, one target after another.
 use Rattle.pm_algebra.proofs.Lists.{Among, Contains_among, among_append_right, here, there}
-use Rattle.pm_machine.specs.Commits.{FitsObject, added}
+use Rattle.pm_transact.specs.Commits.{FitsObject, added}
 use Rattle.pm_object.proofs.Formed.{cols_stay, value_later, value_stays}
 use Rattle.pm_object.specs.Formed.{IsFormed, IsFormedIn}
 use Rattle.pm_object.specs.Honest.{facts}
@@ -43,7 +43,7 @@ and_true a b h k = cc
 le_from : (m n k : ℕ) → n ≤ m → nat_le m k ≡ true → nat_le n k ≡ true
 le_from m n k h e = grind arith
 
-weaker : (m n : ℕ) (ps : List PropId) → n ≤ m → ascends m ps ≡ true → ascends n ps ≡ true
+pub weaker : (m n : ℕ) (ps : List PropId) → n ≤ m → ascends m ps ≡ true → ascends n ps ≡ true
 weaker m n [] h e = refl
 weaker m n (p ∷ ps) h e = let (a, b) = both (nat_le m (number p)) (ascends (suc (number p)) ps) e in and_true _ _ (le_from m n (number p) h a) b
 
@@ -64,7 +64,7 @@ pub members_ascend : (s : ℕ) → ascends 0 (members s) ≡ true
 unfolding members
 members_ascend s = filtered (has s) 0 every_property refl
 
-lt_apart_back : (a b : ℕ) → nat_le (suc a) b ≡ true → nat_eq b a ≡ false
+pub lt_apart_back : (a b : ℕ) → nat_le (suc a) b ≡ true → nat_eq b a ≡ false
 lt_apart_back a b h = grind arith
 
 pub above : (n : ℕ) (ps : List PropId) {q : PropId} → ascends n ps ≡ true → Among q ps → nat_le n (number q) ≡ true
