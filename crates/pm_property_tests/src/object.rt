@@ -3,8 +3,9 @@
 use crate::values::value_of;
 use pm_geom::Evidence;
 use pm_object::{Excluded, Object, Round, RoundEnd, TakeFail, Why};
-use pm_types::{Cost, ObjectType, PropId, PropSet, RuleId, Value};
+use pm_types::{ObjectType, PropId, PropSet, RuleId, Value};
 use pm_vector::Ints;
+use pm_weights::Cost;
 use std::process::Abort;
 
 // Gives these values one after the other, and asks which are taken.

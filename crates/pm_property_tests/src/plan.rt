@@ -1,9 +1,11 @@
 // The answers on small books, and on books with many sets.
 
 use crate::kinds::{book_of_classes, book_of_forty, kind, names_of_cones, names_of_polytopes};
+use pm_cert::verify_by_rules;
 use pm_plan::{Plan, PlanEnd, plan, plan_by_rules};
 use pm_rules::{
-    Book, ClientName, Cost, PropId, PropSet, Rule, RuleId, Table, TableRow, Weight, standard_book,
+    Book, Claim, ClientName, Cost, PropId, PropSet, Rule, RuleId, Table, TableRow, Weight,
+    standard_book,
 };
 use std::alloc::{AllocError, Global};
 use std::process::Abort;
@@ -221,6 +223,38 @@ fn as_many_rows_as_a_table_may_have(rt: HostRuntime) {
     assert!(rt; has_sizes(answer, 17, minor(1_000_016), 65_536));
 }
 
+// Whether the rows show that no chain of these rules to F_VECTOR costs less.
+fn is_shown(rules: &[Rule], rows: &[TableRow], least: Cost) -> bool {
+    let held = PropSet::of(PropId::ConeAmbientDim);
+    let asked = PropSet::of(PropId::FVector);
+    let claim = Claim::Least(least);
+    rules.len() <= 256 && verify_by_rules(rules, names_of_cones(), held, &[], asked, rows, claim)
+}
+
+// The table of the plan of a book with these sides.
+fn table_of_many(rt: &(impl Abort + AllocGlobal), sides: &[PropId]) -> Table {
+    answer_of_many(rt, sides).expect(rt, "a plan").table
+}
+
+#[test]
+fn as_many_rows_show_what_is_least(rt: HostRuntime) {
+    let rules = many_sets(rt.alloc(), &SIDES[..16]).expect(&rt, "the rules");
+    let table = table_of_many(&rt, &SIDES[..16]);
+    assert!(rt; is_shown(&rules, &table.rows, minor(1_000_016)));
+    assert!(rt; !is_shown(&rules, &table.rows, minor(1_000_017)));
+}
+
+#[test]
+fn rows_show_it_in_any_order(rt: HostRuntime) {
+    let rules = many_sets(rt.alloc(), &SIDES[..8]).expect(&rt, "the rules");
+    let mut rows = table_of_many(&rt, &SIDES[..8]).rows;
+    assert!(rt; is_shown(&rules, &rows, minor(1_000_008)));
+    rows.reverse();
+    assert!(rt; is_shown(&rules, &rows, minor(1_000_008)));
+    rows.pop();
+    assert!(rt; !is_shown(&rules, &rows, minor(1_000_008)));
+}
+
 #[test]
 fn one_row_too_many(rt: HostRuntime) {
     assert!(rt; is_crowded(answer_of_many(&rt, SIDES), 65_536));
@@ -242,7 +276,7 @@ fn standard_answer(
 fn the_standard_book(rt: HostRuntime) {
     let held = [PropId::Vertices, PropId::Facets];
     let answer = standard_answer(&rt, names_of_cones(), &held, PropId::VerticesInFacets);
-    assert!(rt; is_planned(answer, &[RuleId(18)], minor(5), 1));
+    assert!(rt; is_planned(answer, &[RuleId(23)], minor(5), 1));
 }
 
 // The rules `cone_dim_v` and `lineality_dim`, in either order before `combinatorial_dim`.

@@ -203,11 +203,20 @@ const STANDARD_BOOK: &str =
     lineality_dim : rule LINEALITY_DIM : LINEALITY_SPACE { lineality_dim } weight 1;\n\
     combinatorial_dim : rule COMBINATORIAL_DIM : CONE_DIM, LINEALITY_DIM { combinatorial_dim } weight 1;\n\
     n_vertices : rule N_VERTICES : VERTICES { n_vertices } weight 1;\n\
+    n_vertices_sets : rule N_VERTICES : VERTICES_IN_FACETS { n_vertices_sets } weight 1;\n\
     n_facets : rule N_FACETS : FACETS { n_facets } weight 1;\n\
+    n_facets_sets : rule N_FACETS : VERTICES_IN_FACETS { n_facets_sets } weight 1;\n\
     feasible : rule FEASIBLE : CONE_DIM { feasible } weight 1;\n\
+    bounded : rule BOUNDED : VERTICES, LINEALITY_SPACE { bounded } weight 1;\n\
+    far_face : rule FAR_FACE : VERTICES { far_face } weight 1;\n\
     pointed : rule POINTED : LINEALITY_DIM { pointed } weight 1;\n\
     full_dim : rule FULL_DIM : CONE_DIM { full_dim } weight 1;\n\
-    incidence : rule VERTICES_IN_FACETS : VERTICES, FACETS { incidence } weight 5;\n";
+    centered : rule CENTERED : FACETS, AFFINE_HULL { centered } weight 1;\n\
+    incidence : rule VERTICES_IN_FACETS : VERTICES, FACETS { incidence } weight 5;\n\
+    vertex_sizes : rule VERTEX_SIZES : VERTICES_IN_FACETS { vertex_sizes } weight 2;\n\
+    facet_sizes : rule FACET_SIZES : VERTICES_IN_FACETS { facet_sizes } weight 2;\n\
+    simple : rule SIMPLE : COMBINATORIAL_DIM, VERTEX_SIZES { simple } weight 1;\n\
+    simplicial : rule SIMPLICIAL : COMBINATORIAL_DIM, FACET_SIZES { simplicial } weight 1;\n";
 
 fn standard(rt: &(impl Abort + AllocGlobal)) -> Book {
     standard_book(rt.alloc()).expect(rt, "the book")
@@ -225,7 +234,7 @@ fn the_standard_book_is_read_back(rt: HostRuntime) {
 }
 
 // The rule for incidences, and properties of a cone with both descriptions.
-const INCIDENCE: RuleId = RuleId(18);
+const INCIDENCE: RuleId = RuleId(23);
 
 const BOTH: &[PropId] = &[PropId::Vertices, PropId::Facets];
 

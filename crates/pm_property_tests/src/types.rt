@@ -1,8 +1,7 @@
 // Names, sets, weights, the standard kinds and values.
 
-use pm_types::{
-    ClientName, Cost, ObjectType, PropId, PropSet, Sets, StandardClient, Value, Weight,
-};
+use pm_types::{ClientName, ObjectType, PropId, PropSet, Sets, StandardClient, Value};
+use pm_weights::{Cost, Weight};
 use std::alloc::{AllocError, Global};
 
 // The names among which one is looked up: those of all properties, of one type of objects, and of linear programs.

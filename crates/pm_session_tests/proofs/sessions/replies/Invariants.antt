@@ -1,0 +1,6 @@
+-- The bytes of the script that are left.
+use Rattle.pm_session_tests.proofs.sessions.replies.Given as goal
+use Rattle.std.proofs.Common.{length}
+
+abbrev pub decreases-loop-rt : goal.decreases-loop-rt
+decreases-loop-rt g l = length l.rest

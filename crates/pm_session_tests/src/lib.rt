@@ -1,0 +1,11 @@
+//! The tests of sessions over books of the tests' own, with clients of the tests' own: scripts, and the replies to them.
+#![tactic(auto)]
+
+#[cfg(test)]
+mod clients;
+#[cfg(test)]
+mod crowded;
+#[cfg(test)]
+mod no_rows;
+#[cfg(test)]
+mod sessions;
