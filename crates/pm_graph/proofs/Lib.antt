@@ -15,3 +15,4 @@ pub mod Pairs
 pub mod RightGraphs
 pub mod Rising
 pub mod RightFaces
+pub mod Examples

@@ -5,3 +5,4 @@ pub mod Edges
 pub mod HVectors
 pub mod Counts
 pub mod Laws
+pub mod Examples

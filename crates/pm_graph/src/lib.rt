@@ -3,6 +3,7 @@
 //! All is combinatorics of index sets; the laws at the end say what it means for the sets of a cone.
 #![tactic(auto)]
 
+ghost use Rattle.pm_graph.specs.Examples.{EdgesAreRead};
 ghost use Rattle.pm_graph.specs.Laws.{DualGreatestDistanceIsDiameter, FaceEdgesAreEdges, GreatestDistanceIsDiameter, IndexEdgesAreEdges, SetEdgesAreRidges};
 
 mod bits;
@@ -43,4 +44,9 @@ pub fn law_dual_greatest_distance_is_diameter()
 /// Where the lists are all faces by rank, the edges of the whole set are the edges of the rays.
 pub fn law_face_edges_are_edges()
     ensures { FaceEdgesAreEdges }
+{}
+
+/// Which indices, sets, places and rows of bits are joined, and which are not.
+pub fn example_edges()
+    ensures { EdgesAreRead }
 {}
