@@ -29,7 +29,7 @@ use lib.IntN.{pos}
 use lib.Signed.{lt_z_yes}
 
 -- no row stands twice in an order
-apart_in : (n : ℕ) (X V : List Row) → IsOrder n (CutOut X) V → (i j : ℕ) → i < j → j < length V → ¬ (ray V i ≡ ray V j)
+pub apart_in : (n : ℕ) (X V : List Row) → IsOrder n (CutOut X) V → (i j : ℕ) → i < j → j < length V → ¬ (ray V i ≡ ray V j)
 apart_in n X V o i j l m e =
     let li : i < length V = omega arith in
     let x = among_All (λ v. IsExtreme n (CutOut X) v) (at_place V i li) o.each in

@@ -1,3 +1,8 @@
 pub mod Products
 pub mod Places
 pub mod Examples
+pub mod Appended
+pub mod Thinning
+pub mod Groups
+pub mod ThinFails
+pub mod Thinned

@@ -47,7 +47,7 @@ only_one {X} {x} {y} c = by (among_Contains (y ∷ []) c)
     by here = refl
     by (there i) = elim i [ ]
 
-itself : {X : Type 0} (x : X) → Contains (x ∷ []) x
+pub itself : {X : Type 0} (x : X) → Contains (x ∷ []) x
 itself x = (0, omega arith, refl)
 
 pub AllStay-row : (F V : List Row) (j : ℕ) (v : Row) → j < length V → v ≡ get_or V j v → AllStay F (take j V) → AllStay F (v ∷ []) → AllStay F (take (j + 1) V)

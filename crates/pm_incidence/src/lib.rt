@@ -5,8 +5,10 @@ ghost use Rattle.pm_incidence.specs.Examples.{IncidenceIsRead};
 
 mod fails;
 mod sets;
+mod thin;
+mod zeros;
 
-pub use fails::IncFail;
+pub use fails::{IncFail, ThinFail};
 pub use pm_geom::Evidence;
 pub use sets::incidence;
 

@@ -1,0 +1,1 @@
+use Rattle.pm_incidence.proofs.thin.thinned_rows.Goals as goal
