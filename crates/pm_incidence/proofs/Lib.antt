@@ -1,3 +1,4 @@
 pub mod Products
 pub mod Places
 pub mod Examples
+mod Determined

@@ -2,3 +2,4 @@ pub mod Incidence
 pub mod Examples
 pub mod Fails
 pub mod FromSets
+pub mod SetRows

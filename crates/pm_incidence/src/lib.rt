@@ -4,9 +4,10 @@
 ghost use Rattle.pm_incidence.specs.Examples.{IncidenceIsRead};
 
 mod fails;
+mod from_sets;
 mod sets;
 
-pub use fails::IncFail;
+pub use fails::{IncFail, ThinFail};
 pub use pm_geom::Evidence;
 pub use sets::incidence;
 
