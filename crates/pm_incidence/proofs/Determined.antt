@@ -2,7 +2,7 @@
 use Rattle.pm_algebra.proofs.ConeLaws.{in_divide, in_line, in_plus, in_same, in_zero}
 use Rattle.pm_algebra.proofs.Divisors.{abs-zero}
 use Rattle.pm_algebra.proofs.Filters.{among_filter, among_map, filter_among, map_among}
-use Rattle.pm_algebra.proofs.Lists.{Among, Contains_among, all_append, all_at, all_from, among_All, among_append_left, among_append_right, among_Contains, append_all, here, there}
+use Rattle.pm_algebra.proofs.Lists.{All_among, Among, Contains_among, all_append, all_at, all_from, among_All, among_append_left, among_append_right, among_Contains, append_all, here, there}
 use Rattle.pm_algebra.proofs.Ring.{ring}
 use Rattle.pm_algebra.proofs.RowLaws.{dot-difference, dot-plus, dot-same, dot-times, dot_comm, entry-difference, entry-opposite, entry-plus, entry-times, length-difference, length-opposite, length-plus, length-times}
 use Rattle.pm_algebra.proofs.Signs.{mul_cancel, mul_nonneg, mul_pos, nonneg_cancel, pos_cancel, times_both, weaken}
@@ -23,11 +23,12 @@ use Rattle.pm_elim.specs.NullSpaces.{IsNull, IsNullBasis}
 use Rattle.pm_geom.proofs.Facets.{dot-opposite}
 use Rattle.pm_geom.proofs.Independent.{decide_zero}
 use Rattle.pm_geom.proofs.Polar.{cols_at, cut_at, cut_from}
-use Rattle.pm_geom.specs.Cones.{CutOut, InLineality, IsExtreme, SameModulo}
+use Rattle.pm_geom.specs.Cones.{CutOut, InLineality, IsExtreme, IsOrder, SameModulo}
 use Rattle.pm_geom.specs.Faces.{ray}
 use Rattle.pm_geom.specs.Generators.{IsLinealityBasis, VanishAt}
-use Rattle.pm_incidence.specs.FromSets.{determining, rows_at}
+use Rattle.pm_incidence.specs.FromSets.{AreCanonicalFor, determining, rows_at}
 use Rattle.pm_incidence.specs.SetRows.{IsFound, IsTurned, first_product}
+use Rattle.pm_types.specs.Right.{InOrder, IsIncidence}
 use Rattle.std.proofs.Common.{ap, arith, inl, inr, refl, subst, sym, true, true≢false, ◌∙◌}
 use Rattle.std.proofs.lemmas.Bool.{cases_Bool, eq-eqb, eqb-true}
 use Rattle.std.proofs.lemmas.Int.{by_lt_z, ints}
@@ -198,6 +199,19 @@ pub record IsMultiple (y x : Row) : Type 0 where
   pub k : ℤ
   pub positive : pos 0 <ℤ p
   pub same : (i : ℕ) → p *ℤ entry x i ≡ k *ℤ entry y i
+
+multiple_zero : (y x : Row) (m : IsMultiple y x) (c : ℕ) → entry y c ≡ pos 0 → entry x c ≡ pos 0
+multiple_zero y x m c z = mul_cancel m.positive (let q = simp (z, ring) at (m.same c) in simp ring (omega (arith, ints)))
+
+turned_zero : (A : List Row) (x u : Row) → IsTurned A x u → (c : ℕ) → entry x c ≡ pos 0 → entry u c ≡ pos 0
+turned_zero A x u (inl t) c z = rw (t.1, entry-opposite) (omega (arith, ints))
+turned_zero A x u (inr t) c z = rw t.1 z
+
+turned_primitive : (A : List Row) (x u : Row) → IsPrimitive x → IsTurned A x u → IsPrimitive u
+turned_primitive A x u p (inl t) = rw t.1 (record {
+  whole = λ k y l up s. p.whole k (opposite y) (length-opposite y ∙ l ∙ length-opposite x) up (record { at = λ i. let e = simp (entry-opposite, entry-times) at (s.at i) in simp (entry-times, entry-opposite, ring) (omega (arith, ints)) });
+})
+turned_primitive A x u p (inr t) = rw t.1 p
 
 moved : (P q m k v x y w : ℤ) → q *ℤ (m *ℤ v +ℤ x) ≡ k *ℤ v +ℤ w → (k -ℤ q *ℤ m) *ℤ (P *ℤ v -ℤ pos 1 *ℤ y) +ℤ P *ℤ w ≡ (P *ℤ q) *ℤ x -ℤ (k -ℤ q *ℤ m) *ℤ y
 moved P q m k v x y w e = let f = simp ring at (times_both P e) in simp ring (omega (arith, ints))
@@ -374,3 +388,64 @@ module _ (n : ℕ) (E A : List Row) (K : List Row) (P : List ℕ) (b : IsNullBas
           (λ low. absurd (by_lt_z m.k (pos 0)
           (λ down. some_product x m down (first_zero x A (let f = first_not_positive x A (products_down x m low) in let g = t.0 in omega (arith, ints))))
           (λ above. let z : m.k ≡ pos 0 = omega (arith, ints) in let s = simp (z, ring) at (m.same c) in let p = mul_pos m.positive up in omega (arith, ints))))
+
+      found_row : (u : Row) → IsFound n E A P set u → SameModulo n (HalfSpaces E A) v u × IsPrimitive u × VanishAt P u
+      found_row u f =
+          let (x, is) = alone f.null f.columns f.basis in
+          let g : IsNullBasis n (determining n E A set P) (x ∷ []) f.columns = subst (λ (N : List Row). IsNullBasis n (determining n E A set P) N f.columns) is f.basis in
+          let m = null_multiple x g.echelon.cols.0 ((g.null x g.echelon.cols.0).0 (in_line here)) in
+          let t = f.one x is in
+          let h = turned_alike x u m (column f.columns 0) (g.echelon.positive 0 (omega arith)) t in
+          (h, turned_primitive A x u (g.echelon.primitive 0 (omega arith)) t, columns_zero u (λ i l. turned_zero A x u t (column P i) (multiple_zero r.y x m (column P i) (r.zero_at i l))))
+
+-- ---- the rows of all sets
+abbrev pub AreFound : ℕ → List Row → List Row → List ℕ → List (List ℕ) → List Row → Type 0
+AreFound n E A P [] [] = Unit {0}
+AreFound n E A P [] (u ∷ U) = ⊥
+AreFound n E A P (set ∷ sets) [] = ⊥
+AreFound n E A P (set ∷ sets) (u ∷ U) = IsFound n E A P set u × AreFound n E A P sets U
+
+pub found_more : (n : ℕ) (E A : List Row) (P : List ℕ) (sets : List (List ℕ)) (U : List Row) (set : List ℕ) (u : Row) → AreFound n E A P sets U → IsFound n E A P set u → AreFound n E A P (sets ++ set ∷ []) (U ++ u ∷ [])
+found_more n E A P [] [] set u h f = (f, tt)
+found_more n E A P [] (w ∷ U) set u h f = absurd h
+found_more n E A P (s ∷ sets) [] set u h f = absurd h
+found_more n E A P (s ∷ sets) (w ∷ U) set u h f = (h.0, found_more n E A P sets U set u h.1 f)
+
+pub found_length : (n : ℕ) (E A : List Row) (P : List ℕ) (sets : List (List ℕ)) (U : List Row) → AreFound n E A P sets U → length U ≡ length sets
+found_length n E A P [] [] h = refl
+found_length n E A P [] (w ∷ U) h = absurd h
+found_length n E A P (s ∷ sets) [] h = absurd h
+found_length n E A P (s ∷ sets) (w ∷ U) h = ap suc (found_length n E A P sets U h.1)
+
+module _ (n : ℕ) (E A : List Row) (K : List Row) (P : List ℕ) (b : IsNullBasis n (E ++ A) K P) where
+  abbrev Fits : Row → Row → Type 0
+  Fits v u = SameModulo n (HalfSpaces E A) v u × IsPrimitive u × VanishAt P u
+
+  found_fits : (v : Row) → IsExtreme n (HalfSpaces E A) v → (set : List ℕ) → ((j : ℕ) → Contains set j ↔ ((j < length A) × (dot v (ray A j) ≡ pos 0))) → (u : Row) → IsFound n E A P set u → Fits v u
+  found_fits v e set places u f = found_row n E A K P b v e (rest_at n K P b.echelon.basis v e.cols (length K) (omega arith)) set places u f
+
+  first_or : {U : List Row} {u w : Row} → Among w (u ∷ U) → (Q : Row → Type 0) → Q u → ((w : Row) → Among w U → Q w) → Q w
+  first_or here Q q f = q
+  first_or (there i) Q q f = f _ i
+
+  found_rows : (V : List Row) (sets : List (List ℕ)) (U : List Row) → ((v : Row) → Among v V → IsExtreme n (HalfSpaces E A) v) → IsIncidence V A sets → AreFound n E A P sets U
+      → InOrder (SameModulo n (HalfSpaces E A)) V U × ((u : Row) → Among u U → IsPrimitive u × VanishAt P u)
+  found_rows [] [] [] e i f = (tt, λ u j. elim j [ ])
+  found_rows [] [] (u ∷ U) e i f = absurd f
+  found_rows [] (set ∷ sets) U e i f = absurd i
+  found_rows (v ∷ V) [] U e i f = absurd i
+  found_rows (v ∷ V) (set ∷ sets) [] e i f = absurd f
+  found_rows (v ∷ V) (set ∷ sets) (u ∷ U) e i f =
+      let first = found_fits v (e v here) set i.0 u f.0 in
+      let rest = found_rows V sets U (λ w j. e w (there j)) i.1 f.1 in
+      ((first.0, rest.0), λ w j. first_or j (λ w. IsPrimitive w × VanishAt P w) (first.1, first.2) rest.1)
+
+  pub found_canonical : (V : List Row) (sets : List (List ℕ)) (U : List Row) → IsOrder n (HalfSpaces E A) V → IsIncidence V A sets → AreFound n E A P sets U → AreCanonicalFor n (HalfSpaces E A) V U
+  found_canonical V sets U o i f =
+      let h = found_rows V sets U (λ v j. among_All (λ v. IsExtreme n (HalfSpaces E A) v) j o.each) i f in
+      record {
+        order = h.0;
+        primitive = All_among IsPrimitive U (λ u j. (h.1 u j).0);
+        reduced = λ K' P' b'.
+            subst (λ (Q : List ℕ). All (VanishAt Q) U) (one_lineality n (HalfSpaces E A) K K' P P' (lineality_basis n E A K P b) b') (All_among (VanishAt P) U (λ u j. (h.1 u j).1));
+      }

@@ -2,3 +2,4 @@ pub mod Products
 pub mod Places
 pub mod Examples
 mod Determined
+mod SetRows

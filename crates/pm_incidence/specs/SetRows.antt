@@ -1,5 +1,5 @@
 -- The row of one set: the only row of a null space, with its sign turned.
-use Rattle.std.specs.Prelude.{ℕ, ◌==◌, ◌≡◌, ◌⊎◌, List, [], ◌∷◌, if◌then◌else◌, replicate, unsigned_abs}
+use Rattle.std.specs.Prelude.{ℕ, ◌==◌, ◌≡◌, ◌⊎◌, List, [], ◌∷◌, if◌then◌else◌, length, replicate, unsigned_abs}
 use Rattle.std.specs.List.{Contains}
 use Rattle.pm_algebra.specs.Rows.{Row, dot, opposite}
 use Rattle.pm_elim.specs.NullSpaces.{IsNullBasis}
@@ -22,8 +22,11 @@ IsTurned A x r = ((first_product x A <ℤ pos 0) × (r ≡ opposite x)) ⊎ ((po
 
 -- r is the only row of the echelon basis of the null space of the rows that determine the row of the set, turned; a row of zeros where that basis has not one row
 pub record IsFound (n : ℕ) (E A : List Row) (P set : List ℕ) (r : Row) : Type 0 where
-  pub one : (x : Row) (Q : List ℕ) → IsNullBasis n (determining n E A set P) (x ∷ []) Q → IsTurned A x r
-  pub none : ((x : Row) (Q : List ℕ) → ¬ (IsNullBasis n (determining n E A set P) (x ∷ []) Q)) → r ≡ replicate n (pos 0)
+  pub null : List Row
+  pub columns : List ℕ
+  pub basis : IsNullBasis n (determining n E A set P) null columns
+  pub one : (x : Row) → null ≡ x ∷ [] → IsTurned A x r
+  pub none : ¬ (length null ≡ 1) → r ≡ replicate n (pos 0)
 
 -- an error's evidence names x and a row of A whose product leaves the range
 abbrev pub IsWideWith : Row → List Row → ThinFail → Type 0
