@@ -262,7 +262,6 @@ module _ (n : ℕ) (E A : List Row) (K : List Row) (P : List ℕ) (b : IsNullBas
           (length-plus n (times m v) x (length-times m v ∙ e.cols) lx) (length-plus n (times k v) (opposite x) (length-times k v ∙ e.cols) (length-opposite x ∙ lx))
           (sum_inside m x zero_e m_cut) (sum_inside k (opposite x) (λ a i. null_opposite a x (zero_e a i)) k_cut)
           (record { at = λ i. simp (entry-times, entry-plus, entry-opposite, ring) (omega (arith, ints)) })).0 in
-          let c = t.k -ℤ t.p *ℤ m in
           let inside : InSpan K (difference (r.p *ℤ t.p) x (t.k -ℤ t.p *ℤ m) r.y) =
           in_same (record { at = λ i. let q = simp (entry-times, entry-plus) at (t.same.at i) in simp (entry-plus, entry-times, entry-difference) (moved r.p t.p m t.k (entry v i) (entry x i) (entry r.y i) (entry t.w i) q) })
           (in_plus (span_times (t.k -ℤ t.p *ℤ m) r.inside) (span_times r.p (line_in_span t.w t.cols t.line))) in
@@ -278,7 +277,6 @@ module _ (n : ℕ) (E A : List Row) (K : List Row) (P : List ℕ) (b : IsNullBas
     -- a positive multiple of the rest is v up to scale and lineality
     rest_alike : (u : Row) (p k : ℤ) → pos 0 <ℤ p → pos 0 <ℤ k → ((i : ℕ) → p *ℤ entry u i ≡ k *ℤ entry r.y i) → SameModulo n (HalfSpaces E A) v u
     rest_alike u p k hp hk s =
-        let w = times (neg_ℤ k) (difference r.p v (pos 1) r.y) in
         let lw : length (times (neg_ℤ k) (difference r.p v (pos 1) r.y)) ≡ n = length-times (neg_ℤ k) (difference r.p v (pos 1) r.y) ∙ length-difference n r.p v (pos 1) r.y e.cols r.cols in
         record {
           p = p;

@@ -3,3 +3,5 @@ pub mod Places
 pub mod Examples
 mod Determined
 mod SetRows
+mod TurnedSets
+mod Polarity
