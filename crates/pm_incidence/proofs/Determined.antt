@@ -5,10 +5,10 @@ use Rattle.pm_algebra.proofs.Filters.{among_filter, among_map, filter_among, map
 use Rattle.pm_algebra.proofs.Lists.{All_among, Among, Contains_among, all_append, all_at, all_from, among_All, among_append_left, among_append_right, among_Contains, append_all, here, there}
 use Rattle.pm_algebra.proofs.Ring.{ring}
 use Rattle.pm_algebra.proofs.RowLaws.{dot-difference, dot-plus, dot-same, dot-times, dot_comm, entry-difference, entry-opposite, entry-plus, entry-times, length-difference, length-opposite, length-plus, length-times}
-use Rattle.pm_algebra.proofs.Signs.{mul_cancel, mul_nonneg, mul_pos, nonneg_cancel, pos_cancel, times_both, weaken}
+use Rattle.pm_algebra.proofs.Signs.{mul_cancel, mul_nonneg, mul_pos, nonneg_cancel, times_both, weaken}
 use Rattle.pm_algebra.specs.Cones.{InSpan}
 use Rattle.pm_algebra.specs.Divisors.{IsPrimitive}
-use Rattle.pm_algebra.specs.Rows.{HasCols, IsZero, Row, Same, difference, dot, entry, opposite, plus, times}
+use Rattle.pm_algebra.specs.Rows.{IsZero, Row, difference, dot, entry, opposite, plus, times}
 use Rattle.pm_bases.proofs.Columns.{row_cols, zero_at_columns}
 use Rattle.pm_bases.proofs.Spans.{at_place, place_of, same_span, span_at, span_times}
 use Rattle.pm_bases.proofs.Unique.{echelon_is_unique}
@@ -21,7 +21,6 @@ use Rattle.pm_elim.proofs.InTurn.{pivot_below}
 use Rattle.pm_elim.specs.Evidence.{unit}
 use Rattle.pm_elim.specs.NullSpaces.{IsNull, IsNullBasis}
 use Rattle.pm_geom.proofs.Facets.{dot-opposite}
-use Rattle.pm_geom.proofs.Independent.{decide_zero}
 use Rattle.pm_geom.proofs.Polar.{cols_at, cut_at, cut_from}
 use Rattle.pm_geom.specs.Cones.{CutOut, InLineality, IsExtreme, IsOrder, SameModulo}
 use Rattle.pm_geom.specs.Faces.{ray}
@@ -348,7 +347,7 @@ module _ (n : ℕ) (E A : List Row) (K : List Row) (P : List ℕ) (b : IsNullBas
       dot_multiple x m a i =
           let q = simp dot-times at (dot-same a (times m.p x) (times m.k r.y) (λ c. simp entry-times (m.same c))) in
           let t = rest_dot a (among_append_right E i) in
-          rw (dot_comm, ← t) q
+          rw (dot_comm x a, ← t) q
 
       inside_at : (a : Row) → Among a A → pos 0 ≤ℤ (r.p *ℤ dot a v)
       inside_at a i = mul_nonneg (weaken r.positive) (cut_at v i e.inside.1)

@@ -26,7 +26,7 @@ use Rattle.std.proofs.lemmas.List.{get_or_default, get_or_past, length-append, l
 use Rattle.std.proofs.lemmas.List.Elements.{Contains-get_or}
 use Rattle.std.proofs.lemmas.List.Sums.{count_by-le-length, length-filter}
 use Rattle.std.specs.List.{Contains}
-use Rattle.std.specs.Prelude.{Bool, List, [], filter, length, map, nat_lt, suc, take, zero, ℕ, ◌++◌, ◌+◌, ◌<◌, ◌≤◌, ◌∷◌, ◌≡◌, ◌^◌}
+use Rattle.std.specs.Prelude.{Bool, List, [], filter, length, map, nat_lt, take, ℕ, ◌++◌, ◌+◌, ◌<◌, ◌≤◌, ◌∷◌, ◌≡◌, ◌^◌}
 use lib.IntN.{pos}
 
 -- ---- the pivot column of a row of an echelon basis

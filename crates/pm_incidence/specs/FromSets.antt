@@ -2,7 +2,7 @@
 use Rattle.std.specs.Prelude.{ℕ, suc, ◌≡◌, ◌++◌, ◌⊎◌, List, [], ◌∷◌, filter, if◌then◌else◌, length, map, nat_eq, nat_lt}
 use Rattle.std.specs.List.{All, Contains, list_any, range_with_len}
 use Rattle.pm_algebra.specs.Divisors.{IsPrimitive}
-use Rattle.pm_algebra.specs.Rows.{HasCols, Row}
+use Rattle.pm_algebra.specs.Rows.{Row}
 use Rattle.pm_bases.specs.Bases.{row_at}
 use Rattle.pm_elim.specs.EliminationSteps.{EliminationStep}
 use Rattle.pm_elim.specs.Evidence.{IsEvidence, unit}

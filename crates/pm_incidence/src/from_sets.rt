@@ -270,16 +270,16 @@ fn holders(alloc: Global, sets: &[Vec<u32>], index: u32) -> Result<Vec<u32>, All
 }
 
 /// For each column the places of the sets that have it.
-fn turned_sets(alloc: Global, s: &Sets) -> Result<Vec<Vec<u32>>, AllocError>
+fn turned_sets(alloc: Global, s: &Sets) -> Result<Sets, AllocError>
     requires { length s.now.rows < 2 ^ 28 }
-    ensures turned { IfOk result (λ v. map (λ r. r.items) v.items ≡ turned s.now) }
+    ensures { IfOk result (λ t. t.rows ≡ turned s.now) }
 {
     let sets = s.rows();
     let mut columns = Vec::new(alloc);
     for column in 0..s.cols() {
         columns.push(holders(alloc, sets, column)?)?;
     }
-    Ok(columns)
+    Ok(Sets::from_vec(columns, sets.len() as u32))
 }
 
 /// The extreme rays from the facet rows and the sets of rays that lie on them, in the order of the columns of the sets: primitive, and with zeros in the pivot columns of the echelon basis of the lineality.
@@ -304,7 +304,7 @@ pub fn vertices_from_sets(
     ensures failed { IfErr result (IsSetsFail cols f.now.hull.items f.now.facets.items (turned s.now)) }
 {
     let sets = turned_sets(alloc, s)?;
-    rays_of_sets(alloc, cols, &f.facets, &f.hull, &sets)
+    rays_of_sets(alloc, cols, &f.facets, &f.hull, sets.rows())
 }
 
 /// The same refusal, with the two rows of evidence E4 exchanged.

@@ -8,6 +8,7 @@ mod from_sets;
 mod sets;
 
 pub use fails::{IncFail, ThinFail};
+pub use from_sets::{facets_from_sets, vertices_from_sets};
 pub use pm_geom::Evidence;
 pub use sets::incidence;
 

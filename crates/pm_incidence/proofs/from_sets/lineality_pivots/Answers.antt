@@ -1,4 +1,4 @@
-use Rattle.pm_incidence.proofs.SetRows.{joined_cols, pivots_of}
+use Rattle.pm_incidence.proofs.SetRows.{pivots_of}
 use Rattle.pm_incidence.proofs.from_sets.lineality_pivots.Goals as goal
 use Rattle.std.proofs.Common.{◌++◌, ◌∙◌, ◌≡◌}
 use Rattle.std.proofs.lemmas.List.{take_all}

@@ -1,4 +1,4 @@
-use Rattle.pm_incidence.proofs.Determined.{AreFound, columns_below, found_canonical, found_length}
+use Rattle.pm_incidence.proofs.Determined.{columns_below, found_canonical, found_length}
 use Rattle.pm_incidence.proofs.SetRows.{fail_more, listed_set, pivots_few, sets_next}
 use Rattle.pm_incidence.proofs.from_sets.rays_of_sets.Goals as goal
 use Rattle.std.proofs.Common.{map, refl, take, ◌++◌, ◌∙◌}
