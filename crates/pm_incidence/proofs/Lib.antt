@@ -6,3 +6,7 @@ pub mod Thinning
 pub mod Groups
 pub mod ThinFails
 pub mod Thinned
+mod Determined
+mod SetRows
+mod TurnedSets
+mod Polarity

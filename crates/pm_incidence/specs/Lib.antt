@@ -2,3 +2,5 @@ pub mod Incidence
 pub mod Examples
 pub mod Fails
 pub mod Thinning
+pub mod FromSets
+pub mod SetRows

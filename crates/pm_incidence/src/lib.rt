@@ -4,11 +4,13 @@
 ghost use Rattle.pm_incidence.specs.Examples.{IncidenceIsRead};
 
 mod fails;
+mod from_sets;
 mod sets;
 mod thin;
 mod zeros;
 
 pub use fails::{IncFail, ThinFail};
+pub use from_sets::{facets_from_sets, vertices_from_sets};
 pub use pm_geom::Evidence;
 pub use sets::incidence;
 
