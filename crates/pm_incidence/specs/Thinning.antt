@@ -1,11 +1,13 @@
 -- Thinning (Ziegler, Lectures on Polytopes, lectures 1 and 2): of rows G that, with lines L, generate a cone, the extreme ones, as inequalities A that cut it out tell them. They lie outside of the lineality, and no row outside vanishes on more of the inequalities.
 use Rattle.std.specs.Prelude.{ℕ, ◌↔◌, ◌≡◌, ◌++◌, ◌<◌, ◌≤◌, ◌==◌, ◌⊎◌, Bool, IsTrue, List, [], ◌∷◌, filter, length, unsigned_abs, get_or, false}
-use Rattle.std.specs.List.{All, AllPairs, Contains, list_all}
+use Rattle.std.specs.List.{All, AllPairs, Any, Contains, list_all}
+use lib.IntN.{pos}
+use lib.Signed.{◌<ℤ◌}
 use Rattle.std.specs.List.Sorted.{IsPermutation, IsSorted}
 use Rattle.std.specs.Ordering.{int_cmp}
 use Rattle.std.specs.Cmp.Lexicographic.{slice_cmp}
 use Rattle.pm_algebra.specs.Divisors.{IsPrimitiveOf}
-use Rattle.pm_algebra.specs.Rows.{HasCols, Row, dot}
+use Rattle.pm_algebra.specs.Rows.{HasCols, Row, dot, entry}
 use Rattle.pm_bases.specs.Bases.{row_at}
 use Rattle.pm_bits.specs.Sets.{IsSubset, has}
 use Rattle.pm_dd.specs.Fronts.{HalfSpaces}
@@ -89,7 +91,7 @@ pub record AreManyFacets (of : ObjectType) (n : ℕ) (A E : List Row) (places : 
 -- so a refusal of thinned half-spaces shows: V and L generate the cone that the half-spaces A and equations E describe; E4 names the row of V first
 abbrev pub IsFacetsFail : ObjectType → ℕ → List Row → List Row → List Row → ThinFail → Type 0
 IsFacetsFail of n A E V (Wide (E1 step)) = IsWideReduction n (half_spaces of n A) E V step
-IsFacetsFail of n A E V (Wide (E4 first second)) = IsWideIncidence (half_spaces of n A ++ E) V second first
+IsFacetsFail of n A E V (Wide (E4 first second)) = IsWideIncidence (A ++ E) V second first
 IsFacetsFail of n A E V (Many (E5Rows places)) = AreManyFacets of n A E places
 IsFacetsFail of n A E V (Wide e) = ⊥
 IsFacetsFail of n A E V (Many e) = ⊥
@@ -162,3 +164,9 @@ IsReductionFail n B G (Wide (E1 step)) = (row : Row) × Contains G row × IsEvid
 IsReductionFail n B G (Wide e) = ⊥
 IsReductionFail n B G (Many e) = ⊥
 IsReductionFail n B G Memory = Unit {0}
+
+-- the rays V generate more than {0}, as far as first entries tell: of a polytope one is positive
+abbrev pub HasPoint : ObjectType → List Row → Type 0
+HasPoint Polytope V = Any (λ v. pos 0 <ℤ entry v 0) V
+HasPoint Cone V = Unit {0}
+HasPoint Fan V = Unit {0}

@@ -1,0 +1,121 @@
+// One description of a thing sharpened by the other: the vertices among points, and the facet rows among inequalities.
+
+ghost use Rattle.pm_algebra.specs.Cones.{InCone};
+ghost use Rattle.pm_algebra.specs.Rows.{HasCols, entry};
+ghost use Rattle.pm_bases.specs.Bases.{IsEchelonBasis};
+ghost use Rattle.pm_elim.specs.Evidence.{unit};
+ghost use Rattle.pm_geom.specs.Cones.{IsValid};
+ghost use Rattle.pm_geom.specs.Generators.{AreGenerators};
+ghost use Rattle.pm_incidence.specs.Thinning.{HasPoint, IsFacetsFail, IsThinFail, half_spaces};
+ghost use Rattle.pm_types.specs.Right.{CutsOutOf};
+ghost use Rattle.std.specs.List.{range_with_len};
+ghost use Rattle.std.specs.Prelude.{Any, IfErr, IfOk, IsTrue, List, [], length, map, pos, ◌<ℤ◌, ◌<◌, ◌^◌, ◌≡◌, ◌≢◌, ◌≤◌, ◌↔◌, ℕ};
+
+use crate::fails::ThinFail;
+use crate::from_sets::unit_row;
+use crate::thin::thin;
+use pm_elim::copies;
+use pm_geom::Evidence;
+use pm_geom::descriptions::{Facets, Generators};
+use pm_props::ObjectType;
+use pm_vector::Ints;
+use std::alloc::{AllocError, Global};
+
+/// The half-spaces of a thing as they are taken: those of a polytope end with the row (1, 0, .., 0).
+fn half_spaces(
+    alloc: Global,
+    of: ObjectType,
+    cols: usize,
+    rows: &[Ints],
+) -> Result<Vec<Ints>, AllocError>
+    requires { 0 < cols }
+    ensures { IfOk result (λ v. v.items ≡ half_spaces of cols rows.now) }
+{
+    let mut made = copies(alloc, rows)?;
+    if of == ObjectType::Polytope {
+        made.push(unit_row(alloc, cols, 0)?)?;
+    }
+    Ok(made)
+}
+
+/// Whether rays generate a thing that is more than {0}, as far as first entries tell: of a polytope one is positive.
+fn has_point(of: ObjectType, rays: &[Ints]) -> bool
+    ensures { IsTrue result ↔ HasPoint of rays.now }
+{
+    of != ObjectType::Polytope || rays.iter().any(|ray| !ray.is_empty() && ray.get(0) > 0)
+}
+
+/// All unit rows: the echelon basis of all rows.
+fn unit_rows(alloc: Global, cols: usize) -> Result<Vec<Ints>, AllocError>
+    ensures { IfOk result (λ v. v.items ≡ map (unit cols) (range_with_len 0 cols)) }
+{
+    let mut made = Vec::new(alloc);
+    for column in 0..cols {
+        made.push(unit_row(alloc, cols, column)?)?;
+    }
+    Ok(made)
+}
+
+/// All extreme rays of a thing among rows that generate it, by the half-spaces that cut it out, and the echelon basis of its lineality.
+/// The rays are primitive, with zeros in the pivot columns of that basis, each once and in lexicographic order.
+/// `Wide` only with evidence: E1 on the rows of the lineality and then the reduced row, E4 on a ray and a half-space; `Many` never.
+pub fn vertices_by_incidence(
+    alloc: Global,
+    of: ObjectType,
+    cols: usize,
+    g: &Generators,
+    f: &Facets,
+) -> Result<Generators, ThinFail>
+    requires ray_cols { HasCols cols g.now.rays.items }
+    requires line_cols { HasCols cols g.now.lineality.items }
+    requires facet_cols { HasCols cols f.now.facets.items }
+    requires few_rays { length g.now.rays.items < 2 ^ 28 }
+    requires few_lines { length g.now.lineality.items < 2 ^ 28 }
+    requires some_columns { 0 < cols }
+    requires few_columns { cols < 2 ^ 28 }
+    ensures generators { IfOk result (λ r. HasCols cols f.now.hull.items
+        → CutsOutOf of cols (InCone g.now.rays.items g.now.lineality.items) f.now.facets.items f.now.hull.items
+        → AreGenerators cols (InCone g.now.rays.items g.now.lineality.items) r.rays.items r.lineality.items) }
+    ensures cols { IfOk result (λ r. HasCols cols r.rays.items) }
+    ensures few { IfOk result (λ r. length r.rays.items ≤ length g.now.rays.items) }
+    ensures echelon { IfOk result (λ r. (P : List ℕ) × IsEchelonBasis cols r.lineality.items P) }
+    ensures failed { IfErr result (IsThinFail cols g.now.rays.items g.now.lineality.items
+        (half_spaces of cols f.now.facets.items)) }
+{
+    if !has_point(of, &g.rays) {
+        return Ok(Generators {
+            rays: Vec::new(alloc),
+            lineality: Vec::new(alloc),
+        });
+    }
+    let cuts = half_spaces(alloc, of, cols, &f.facets)?;
+    thin(alloc, cols, &g.rays, &g.lineality, &cuts)
+}
+
+/// All facet rows of a thing among half-spaces that describe it, by the rays and lineality that generate it, and the echelon basis of the rows that vanish on it.
+/// The facet rows are primitive, with zeros in the pivot columns of that basis, each once and in lexicographic order; there are at most 2,048 of them.
+/// `Wide` only with evidence: E1 on the rows that vanish and then the reduced row, E4 on a ray and a half-space or equation. `Many` only with more than 2,048 facet rows among the half-spaces (E5).
+pub fn facets_by_incidence(
+    alloc: Global,
+    of: ObjectType,
+    cols: usize,
+    rows: &[Ints],
+    equations: &[Ints],
+    g: &Generators,
+) -> Result<Facets, ThinFail>
+    requires row_cols { HasCols cols rows.now }
+    requires equation_cols { HasCols cols equations.now }
+    requires ray_cols { HasCols cols g.now.rays.items }
+    requires few_rows { length rows.now < 2 ^ 28 }
+    requires few_equations { length equations.now < 2 ^ 28 }
+    requires some_columns { 0 < cols }
+    requires few_columns { cols < 2 ^ 28 }
+    ensures facets { IfOk result (λ f. HasCols cols g.now.lineality.items
+        → CutsOutOf of cols (InCone g.now.rays.items g.now.lineality.items) rows.now equations.now
+        → AreGenerators cols (IsValid cols g.now.rays.items g.now.lineality.items) f.facets.items f.hull.items) }
+    ensures cols { IfOk result (λ f. HasCols cols f.facets.items) }
+    ensures few { IfOk result (λ f. length f.facets.items ≤ 2048) }
+    ensures echelon { IfOk result (λ f. (P : List ℕ) × IsEchelonBasis cols f.hull.items P) }
+    ensures failed { IfErr result (IsFacetsFail of cols rows.now equations.now g.now.rays.items) }
+{
+}
