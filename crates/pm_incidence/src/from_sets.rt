@@ -7,6 +7,7 @@ ghost use Rattle.pm_elim.specs.Evidence.{unit};
 ghost use Rattle.pm_elim.specs.NullSpaces.{IsNullBasis};
 ghost use Rattle.pm_geom.specs.Cones.{IsOrder, IsValid};
 ghost use Rattle.pm_geom.specs.Evidence.{IsWideProduct};
+ghost use Rattle.pm_incidence.specs.Fails.{exchanged};
 ghost use Rattle.pm_incidence.specs.FromSets.{AreCanonicalFor, IsSetsFail, IsTurnedSetsFail, determining, holders_from, rows_at, turned};
 ghost use Rattle.pm_incidence.specs.SetRows.{IsFound, IsTurned, IsWideWith, first_product};
 ghost use Rattle.pm_types.specs.Right.{IsIncidence};
@@ -115,7 +116,7 @@ fn determining_rows(
 }
 
 /// The product of a row with a cut.
-fn product(alloc: Global, row: &Ints, cut: &Ints) -> Result<i128, ThinFail>
+pub(crate) fn product(alloc: Global, row: &Ints, cut: &Ints) -> Result<i128, ThinFail>
     requires { length row.now ≡ length cut.now }
     ensures value { IfOk result (λ k. k ≡ dot_of row.now cut.now) }
     ensures failed { IfErr result (IsWideWith row.now (cut.now ∷ [])) }
@@ -308,8 +309,9 @@ pub fn vertices_from_sets(
 }
 
 /// The same refusal, with the two rows of evidence E4 exchanged.
-fn exchanged(fail: ThinFail) -> ThinFail
-    ensures { (n : ℕ) (E A : List Row) (sets : List (List ℕ)) → IsSetsFail n E A sets fail → IsTurnedSetsFail n E A sets result }
+pub(crate) fn exchanged(fail: ThinFail) -> ThinFail
+    ensures sets { (n : ℕ) (E A : List Row) (sets : List (List ℕ)) → IsSetsFail n E A sets fail → IsTurnedSetsFail n E A sets result }
+    ensures exchanged { result ≡ exchanged fail }
 {
     match fail {
         ThinFail::Wide(Evidence::E4 { first, second }) => ThinFail::Wide(Evidence::E4 {
