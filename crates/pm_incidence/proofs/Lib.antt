@@ -5,3 +5,4 @@ mod Determined
 mod SetRows
 mod TurnedSets
 mod Polarity
+mod DeterminedRows
