@@ -13,3 +13,4 @@ mod Determined
 mod SetRows
 mod TurnedSets
 mod Polarity
+mod DeterminedRows

@@ -8,7 +8,7 @@ ghost use Rattle.pm_elim.specs.NullSpaces.{IsNullBasis};
 ghost use Rattle.pm_geom.specs.Cones.{IsOrder, IsValid};
 ghost use Rattle.pm_geom.specs.Evidence.{IsWideProduct};
 ghost use Rattle.pm_incidence.specs.Fails.{exchanged};
-ghost use Rattle.pm_incidence.specs.FromSets.{AreCanonicalFor, IsSetsFail, IsTurnedSetsFail, determining, holders_from, rows_at, turned};
+ghost use Rattle.pm_incidence.specs.FromSets.{AreCanonicalFor, AreDetermined, IsSetsFail, IsTurnedSetsFail, determining, holders_from, rows_at, turned};
 ghost use Rattle.pm_incidence.specs.SetRows.{IsFound, IsTurned, IsWideWith, first_product};
 ghost use Rattle.pm_types.specs.Right.{IsIncidence};
 ghost use Rattle.std.specs.Prelude.{All, IfErr, IfOk, IsTrue, List, MatchOption, [], length, map, pos, replicate, ◌++◌, ◌<ℤ◌, ◌<◌, ◌^◌, ◌∷◌, ◌≡◌, ◌≤◌, ◌↔◌, ℕ};
@@ -246,6 +246,7 @@ fn rays_of_sets(
     ensures rays { IfOk result (λ r. (V : List Row) → IsOrder cols (HalfSpaces equations.now cuts.now) V
         → IsIncidence V cuts.now (map (λ r. r.items) sets.now)
         → AreCanonicalFor cols (HalfSpaces equations.now cuts.now) V r.items) }
+    ensures determined { IfOk result (λ r. AreDetermined cols equations.now cuts.now (map (λ s. s.items) sets.now) r.items) }
     ensures failed { IfErr result (IsSetsFail cols equations.now cuts.now (map (λ r. r.items) sets.now)) }
 {
     let pivots = lineality_pivots(alloc, cols, cuts, equations)?;
@@ -302,6 +303,7 @@ pub fn vertices_from_sets(
     ensures rays { IfOk result (λ r. (V : List Row) → IsOrder cols (HalfSpaces f.now.hull.items f.now.facets.items) V
         → s.now.cols ≡ length V → IsIncidence f.now.facets.items V s.now.rows
         → AreCanonicalFor cols (HalfSpaces f.now.hull.items f.now.facets.items) V r.items) }
+    ensures determined { IfOk result (λ r. AreDetermined cols f.now.hull.items f.now.facets.items (turned s.now) r.items) }
     ensures failed { IfErr result (IsSetsFail cols f.now.hull.items f.now.facets.items (turned s.now)) }
 {
     let sets = turned_sets(alloc, s)?;
@@ -341,6 +343,7 @@ pub fn facets_from_sets(
     ensures facets { IfOk result (λ r. (F : List Row) → IsOrder cols (IsValid cols g.now.rays.items g.now.lineality.items) F
         → IsIncidence F g.now.rays.items s.now.rows
         → AreCanonicalFor cols (IsValid cols g.now.rays.items g.now.lineality.items) F r.items) }
+    ensures determined { IfOk result (λ r. AreDetermined cols g.now.lineality.items g.now.rays.items s.now.rows r.items) }
     ensures failed { IfErr result (IsTurnedSetsFail cols g.now.lineality.items g.now.rays.items s.now.rows) }
 {
     match rays_of_sets(alloc, cols, &g.rays, &g.lineality, s.rows()) {
