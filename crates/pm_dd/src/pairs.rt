@@ -54,10 +54,12 @@ pub(crate) fn pair_ray(
     ensures some { IfOk result (λ o. IfSome o (λ r. IsPairRay rays.now.rows.items rays.now.zeros values.now i j front r.row r.zeros)) }
     ensures wide { IfErr result (λ f. IsPairFailOf rays.now.rows.items rays.now.zeros values.now i j f) }
 {
-    rays.zeros.row(i).meet_into(rays.zeros.row(j), both);
-    if both.count() < need {
+    let first = rays.zeros.row(i);
+    let second = rays.zeros.row(j);
+    if rays.zeros.common_count(i, j) < need {
         return Ok(None);
     }
+    first.meet_into(second, both);
     if rays.zeros.other_contains(both, i, j) {
         return Ok(None);
     }
