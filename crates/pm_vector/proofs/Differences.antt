@@ -79,6 +79,9 @@ module _ (p : ℤ) (v : Row) (q : ℤ) (w : Row) where
 small_product : (a b : ℤ) → IsSmall a → IsSmall b → unsigned_abs (a *ℤ b) ≤ (2 ^ 63 - 1) * (2 ^ 63 - 1)
 small_product a b small_a small_b = rw unsigned_abs-mul (mul-le-mul {n₁ = unsigned_abs a} {m₁ = unsigned_abs b} {n₂ = 2 ^ 63 - 1} {m₂ = 2 ^ 63 - 1} (omega arith) (omega arith))
 
+pub small_in_range : (a b : ℤ) → IsSmall a → IsSmall b → InRange (a *ℤ b)
+small_in_range a b small_a small_b = let e = small_product a b small_a small_b in omega (arith, ints)
+
 small_entry : (p x q y : ℤ) → IsSmall p → IsSmall x → IsSmall q → IsSmall y → EntryStays p x q y
 small_entry p x q y sp sx sq sy =
     let a = small_product p x sp sx in

@@ -5,6 +5,7 @@ ghost use Rattle.pm_algebra.specs.Rows.{difference, entry, opposite};
 ghost use Rattle.pm_vector.specs.Differences.{DifferenceStays, EntryStays, IsFirstWide, IsSmall};
 ghost use Rattle.std.specs.Prelude.{All, IfNone, IfOk, IfSome, IsTrue, OnErr, OnOk, length, ◌*ℤ◌, ◌-ℤ◌, ◌<◌, ◌≡◌, ◌↔◌};
 
+use crate::exact::is_small;
 use crate::{Wide, minus, times};
 
 /// p x - q y.
@@ -45,17 +46,7 @@ pub fn first_wide_place(p: i128, v: &[i128], q: i128, w: &[i128]) -> Option<usiz
     None
 }
 
-/// Numbers below this in absolute value have products, and differences of two products, within the range.
-const LIMIT: i128 = 1 << 63;
-
-/// Whether a number is that small.
-fn is_small(x: i128) -> bool
-    ensures { IsTrue result ↔ IsSmall x }
-{
-    -LIMIT < x && x < LIMIT
-}
-
-/// Whether each entry is that small.
+/// Whether each entry is small.
 fn all_small(entries: &[i128]) -> bool
     ensures { IsTrue result ↔ All IsSmall entries.now }
 {
