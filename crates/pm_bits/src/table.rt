@@ -92,19 +92,38 @@ impl BitTable {
         Ok(())
     }
 
-    /// How many members the rows at `i` and at `j` have in common: by their folds, where these are the rows or
-    /// have no bit in common, and else word by word.
+    /// How many members the row at `k` has in common with `s`, whose fold this is: by the folds, where these are the
+    /// rows or have no bit in common, and else word by word.
+    fn common_count_by(&self, k: usize, s: &BitRow, fold: u64) -> usize
+        requires place { k < length self.now.rows }
+        requires len { length s.now ≡ self.now.row_len }
+        requires fold { IsFold s.now fold }
+        ensures { result ≡ common_count (row_at self.now k) s.now }
+    {
+        let both = self.folds[k] & fold;
+        if self.len <= 64 || both == 0 {
+            both.count_ones() as usize
+        } else {
+            self.rows[k].common_count(s)
+        }
+    }
+
+    /// How many members the rows at `i` and at `j` have in common.
     pub fn common_count(&self, i: usize, j: usize) -> usize
         requires first { i < length self.now.rows }
         requires second { j < length self.now.rows }
         ensures { result ≡ common_count (row_at self.now i) (row_at self.now j) }
     {
-        let both = self.folds[i] & self.folds[j];
-        if self.len <= 64 || both == 0 {
-            both.count_ones() as usize
-        } else {
-            self.rows[i].common_count(&self.rows[j])
-        }
+        self.common_count_by(i, &self.rows[j], self.folds[j])
+    }
+
+    /// How many members the row at `k` has in common with `s`.
+    pub fn common_count_with(&self, k: usize, s: &BitRow) -> usize
+        requires place { k < length self.now.rows }
+        requires len { length s.now ≡ self.now.row_len }
+        ensures { result ≡ common_count (row_at self.now k) s.now }
+    {
+        self.common_count_by(k, s, s.fold())
     }
 
     /// Whether the row at `k` contains `s`, whose fold this is. A row is opened only where its fold has what that of `s` has.

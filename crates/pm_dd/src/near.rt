@@ -69,7 +69,7 @@ pub(crate) fn near_negatives(
 {
     let mut made = Vec::new(alloc);
     for j in 0..values.len() {
-        if values[j] < 0 && zeros.row(j).common_count(ahead) >= need {
+        if values[j] < 0 && zeros.common_count_with(j, ahead) >= need {
             made.push(j)?;
         }
     }

@@ -118,7 +118,7 @@ pub(crate) fn paired_rays(
         if values[i] <= 0 {
             continue;
         }
-        if rays.zeros.row(i).common_count(&unions.behind) < need {
+        if rays.zeros.common_count_with(i, &unions.behind) < need {
             continue;
         }
         for k in 0..negatives.len() {

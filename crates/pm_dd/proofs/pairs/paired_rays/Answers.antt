@@ -9,7 +9,7 @@ use Rattle.pm_dd.proofs.pairs.paired_rays.Goals as goal
 use Rattle.pm_dd.specs.Building.{IsNoPair, IsPairRay, IsPassed, SeenPairs}
 use Rattle.pm_dd.specs.Tables.{zero_set}
 use Rattle.pm_geom.specs.Faces.{ray}
-use Rattle.std.proofs.Common.{ap, arith, drop, length, sym, ◌+◌, ◌-◌, ◌<◌, ◌≡◌, ◌≤◌, ◌∙◌}
+use Rattle.std.proofs.Common.{arith, drop, length, sym, ◌+◌, ◌-◌, ◌<◌, ◌≡◌, ◌≤◌, ◌∙◌}
 use Rattle.std.proofs.lemmas.Int.{ints}
 use Rattle.std.proofs.lemmas.List.{get_or_read}
 use Rattle.std.proofs.lemmas.Result.{err_from_is_err_and}
@@ -30,11 +30,10 @@ loop-i-preserved-then-values-i-le0 c =
       built = pairs_skip_row c.args.cols c.args.equations.now c.args.rows.now c.args.front c.args.rays.now.rows.items c.loop-i.i c.loop-i.next.items c.loop-i.zeros.rows c.loop-i.invariant.built low;
     }
 
-pub loop-i-preserved-then-common_count-need : goal.loop-i-preserved-then-common_count-need
-loop-i-preserved-then-common_count-need c =
-    let e = ap (λ row. common_count row c.in_ok-unions.unions.behind) c.row.ensures.value in
-    let n = c.common_count.ensures in
-    let t = c.if-common_count-need.true in
+pub loop-i-preserved-then-common_count_with-need : goal.loop-i-preserved-then-common_count_with-need
+loop-i-preserved-then-common_count_with-need c =
+    let n = c.common_count_with.ensures in
+    let t = c.if-common_count_with-need.true in
     let few : common_count (zero_set c.args.rays.now.zeros.rows c.loop-i.i) c.in_ok-unions.unions.behind < c.needed-need.result = omega arith in
     record {
       both_len = c.loop-i.invariant.both_len;
