@@ -272,14 +272,32 @@ pub(crate) fn fold(words: &[u64]) -> u64
     all
 }
 
+// The first place from `start` on whose word has each bit of s; the number of words, where there is none.
+fn next_containing(words: &[u64], s: u64, start: usize) -> usize
+    requires { start ≤ length words.now }
+    ensures from { start ≤ result }
+    ensures end { result ≤ length words.now }
+    ensures found { result < length words.now → IsWithin (slice_index words.now result) s }
+    ensures before { (k : ℕ) → start ≤ k → k < result → IsWithin (slice_index words.now k) s → ⊥ }
+{
+    for k in start..words.len() {
+        if words[k] & s == s {
+            return k;
+        }
+    }
+    words.len()
+}
+
 /// Whether some word other than those at i and j has each bit of s.
 pub(crate) fn other_contains(words: &[u64], s: u64, i: usize, j: usize) -> bool
     ensures { IsTrue result ↔ ((k : ℕ) × (k < length words.now) × (k ≢ i) × (k ≢ j) × IsWithin (slice_index words.now k) s) }
 {
-    for k in 0..words.len() {
-        if words[k] & s == s && k != i && k != j {
+    let mut k = next_containing(words, s, 0);
+    while k < words.len() {
+        if k != i && k != j {
             return true;
         }
+        k = next_containing(words, s, k + 1);
     }
     false
 }
