@@ -1,11 +1,11 @@
 -- The examples of rows from sets hold.
-use Rattle.pm_algebra.proofs.ConeLaws.{in_line, in_of, in_zero, lines_opposite, none_from_zero, none_to_zero}
+use Rattle.pm_algebra.proofs.ConeLaws.{dot_in, in_line, in_of, in_zero, lines_opposite, none_from_zero, none_to_zero}
 use Rattle.pm_algebra.proofs.Lists.{All_among, Among, all_at, among_Contains, here, there}
 use Rattle.pm_algebra.proofs.Ring.{ring}
 use Rattle.pm_algebra.proofs.RowLaws.{entry-plus, entry-times}
-use Rattle.pm_algebra.specs.Cones.{InCone, InSpan}
+use Rattle.pm_algebra.specs.Cones.{InCone, InSpan, combination}
 use Rattle.pm_algebra.specs.Divisors.{IsPrimitive}
-use Rattle.pm_algebra.specs.Rows.{IsZero, Row, entry, opposite, plus, times}
+use Rattle.pm_algebra.specs.Rows.{IsZero, Row, dot, entry, opposite, plus, times}
 use Rattle.pm_bases.proofs.Examples.{primitive_by_one}
 use Rattle.pm_bases.specs.Bases.{IsEchelonBasis, column, row_at}
 use Rattle.pm_elim.proofs.DualLaws.{null_basis_unique}
@@ -17,13 +17,14 @@ use Rattle.pm_geom.specs.Generators.{IsLinealityBasis, VanishAt}
 use Rattle.pm_incidence.proofs.Determined.{one_lineality}
 use Rattle.pm_incidence.proofs.Products.{itself}
 use Rattle.pm_incidence.specs.Examples.{pair}
-use Rattle.pm_incidence.specs.FromSets.{AreCanonicalFor, IsDetermining}
+use Rattle.pm_incidence.specs.FromSets.{AreCanonicalFor, AreDetermined, IsDetermining, determining}
 use Rattle.pm_incidence.specs.ThinExamples.{RowsFromSetsAreRead, diagonal, x_axis, y_axis}
-use Rattle.std.proofs.Common.{ap, arith, refl, subst, sym}
+use Rattle.std.proofs.Common.{ap, arith, inl, inr, refl, subst, sym}
 use Rattle.std.proofs.lemmas.Int.{ints}
-use Rattle.std.specs.Prelude.{List, [], length, suc, zero, ℕ, ◌∷◌, ◌≡◌, ◌<◌}
-use lib.IntN.{pos, ℤ}
-use lib.Signed.{lt_z_yes, ◌<ℤ◌}
+use Rattle.std.specs.List.{slice_index_or}
+use Rattle.std.specs.Prelude.{List, [], length, suc, zero, ℕ, ◌∷◌, ◌≡◌, ◌<◌, ◌↔◌, ◌⊎◌}
+use lib.IntN.{negsuc, pos, ℤ}
+use lib.Signed.{lt_z_yes, ◌<ℤ◌, ◌≤ℤ◌}
 
 abbrev quadrant : List Row
 quadrant = y_axis ∷ x_axis ∷ []
@@ -69,6 +70,54 @@ other_row d =
     let e : x_axis ∷ [] ≡ y_axis ∷ [] = rw (p, s) at d.rows in
     let f = ap (λ (X : List Row). entry (row_at X 0) 0) e in
     omega (arith, ints)
+
+-- ---- where y vanishes
+across : (y : Row) (l : Row) → dot y l ≡ pos 0 → (x : Row) → InSpan (l ∷ []) x → pos 0 ≤ℤ dot y x
+across y l e x h = dot_in y [] (l ∷ []) (λ g i. elim i [ ]) (λ z i. all_at (λ (z : Row). dot y z ≡ pos 0) i (e, tt)) h
+
+on_x_axis : (x : Row) → length x ≡ 2 → InSpan (x_axis ∷ []) x ↔ IsNull (y_axis ∷ []) x
+on_x_axis [] l = absurd (omega arith)
+on_x_axis (a ∷ []) l = absurd (omega arith)
+on_x_axis (a ∷ b ∷ []) l = (
+  λ h.
+      let up = simp ring at (across y_axis x_axis refl (a ∷ b ∷ []) h) in
+      let down = simp ring at (across (pair (pos 0) (negsuc 0)) x_axis refl (a ∷ b ∷ []) h) in
+      let e : b ≡ pos 0 = omega (arith, ints) in
+      (simp (e, ring), tt),
+  λ h.
+      let e = simp ring at h.0 in
+      let f : b ≡ pos 0 = omega (arith, ints) in
+      record { m = pos 1; c = []; d = a ∷ []; positive = lt_z_yes tt; not_negative = tt; same = record { at = at a b f } },
+)
+  where
+    at : (a b : ℤ) → b ≡ pos 0 → (i : ℕ) → entry (times (pos 1) (a ∷ b ∷ [])) i ≡ entry (plus (combination [] []) (combination (a ∷ []) (x_axis ∷ []))) i
+    at a b f zero = simp ring
+    at a b f (suc zero) = simp (f, ring)
+    at a b f (suc (suc i)) = refl
+on_x_axis (a ∷ b ∷ c ∷ x) l = absurd (omega arith)
+
+determined : AreDetermined 2 [] (x_axis ∷ y_axis ∷ []) ((1 ∷ []) ∷ []) (x_axis ∷ [])
+determined = record { each = each }
+  where
+    each : (lines : List Row) (P : List ℕ) → IsNullBasis 2 (x_axis ∷ y_axis ∷ []) lines P → (j : ℕ) → j < 1 → IsZero (row_at (x_axis ∷ []) j) ⊎ ((x : Row) → length x ≡ 2 → InSpan (row_at (x_axis ∷ []) j ∷ []) x ↔ IsNull (determining 2 [] (x_axis ∷ y_axis ∷ []) (slice_index_or ((1 ∷ []) ∷ []) j []) P) x)
+    each lines P b zero l =
+        let e : P ≡ [] = (null_basis_unique 2 (x_axis ∷ y_axis ∷ []) lines [] P [] b no_null).1 in
+        inr (λ x lx. subst (λ Q. InSpan (x_axis ∷ []) x ↔ IsNull (determining 2 [] (x_axis ∷ y_axis ∷ []) (1 ∷ []) Q) x) (sym e) (on_x_axis x lx))
+    each lines P b (suc j) l = absurd (omega arith)
+
+undetermined : AreDetermined 2 [] (x_axis ∷ y_axis ∷ []) ((1 ∷ []) ∷ []) (pair (pos 0) (pos 0) ∷ [])
+undetermined = record { each = each }
+  where
+    each : (lines : List Row) (P : List ℕ) → IsNullBasis 2 (x_axis ∷ y_axis ∷ []) lines P → (j : ℕ) → j < 1 → IsZero (row_at (pair (pos 0) (pos 0) ∷ []) j) ⊎ ((x : Row) → length x ≡ 2 → InSpan (row_at (pair (pos 0) (pos 0) ∷ []) j ∷ []) x ↔ IsNull (determining 2 [] (x_axis ∷ y_axis ∷ []) (slice_index_or ((1 ∷ []) ∷ []) j []) P) x)
+    each lines P b zero l = inl (zero_at (pos 0) (pos 0) refl refl)
+    each lines P b (suc j) l = absurd (omega arith)
+
+not_determined : ¬ (AreDetermined 2 [] (x_axis ∷ y_axis ∷ []) ((1 ∷ []) ∷ []) (y_axis ∷ []))
+not_determined d =
+    elim (d.each [] [] no_null 0 (omega arith)) [
+      | inl z ↦ let e = z 1 in omega (arith, ints)
+      | inr same ↦ let up = across (pair (negsuc 0) (pos 0)) y_axis refl x_axis ((same x_axis refl).1 (refl, tt)) in omega (arith, ints)
+    ]
 
 -- ---- rows in canonical form
 no_lineality : IsLinealityBasis 2 (InCone quadrant []) [] []
@@ -191,6 +240,9 @@ rows_from_sets_are_read = record {
   determining = refl;
   determines = determines;
   other_row = other_row;
+  determined = determined;
+  undetermined = undetermined;
+  not_determined = not_determined;
   canonical = canonical;
   not_primitive = not_primitive;
   other_order = other_order;

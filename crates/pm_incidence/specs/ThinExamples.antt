@@ -3,7 +3,7 @@ use Rattle.pm_algebra.specs.Cones.{InCone}
 use Rattle.pm_algebra.specs.Rows.{Row}
 use Rattle.pm_geom.specs.declared.evidence.Evidence.TheVariants.{E4, E5Rows}
 use Rattle.pm_incidence.specs.Examples.{pair}
-use Rattle.pm_incidence.specs.FromSets.{AreCanonicalFor, IsDetermining, determining, holders_from, rows_at, turned}
+use Rattle.pm_incidence.specs.FromSets.{AreCanonicalFor, AreDetermined, IsDetermining, determining, holders_from, rows_at, turned}
 use Rattle.pm_incidence.specs.Thinning.{AreFacetPlaces, AreKept, AreManyFacets, AreZeroSets, HasPoint, IsBehind, IsFacetsFail, IsKept, IsThinFail, IsThinned, IsWideIncidence, MarkFull, flat_group, half_spaces, is_flat}
 use Rattle.pm_incidence.specs.declared.fails.ThinFail.TheVariants.{Many, Memory, Wide}
 use Rattle.pm_props.specs.declared.object_type.ObjectType.TheVariants.{Cone, Fan, Polytope}
@@ -133,6 +133,10 @@ pub record RowsFromSetsAreRead : Type 0 where
   -- of the quadrant no column is a pivot: the set {1} determines by its inequality alone
   pub determines : IsDetermining 2 [] (x_axis ∷ y_axis ∷ []) ((1 ∷ []) ∷ []) (y_axis ∷ [])
   pub other_row : ¬ (IsDetermining 2 [] (x_axis ∷ y_axis ∷ []) ((1 ∷ []) ∷ []) (x_axis ∷ []))
+  -- where y vanishes are the multiples of (1, 0), and not those of (0, 1); a row of zeros is no wrong answer
+  pub determined : AreDetermined 2 [] (x_axis ∷ y_axis ∷ []) ((1 ∷ []) ∷ []) (x_axis ∷ [])
+  pub undetermined : AreDetermined 2 [] (x_axis ∷ y_axis ∷ []) ((1 ∷ []) ∷ []) (pair (pos 0) (pos 0) ∷ [])
+  pub not_determined : ¬ (AreDetermined 2 [] (x_axis ∷ y_axis ∷ []) ((1 ∷ []) ∷ []) (y_axis ∷ []))
   -- the extreme rays of the quadrant, primitive and in their order
   pub canonical : AreCanonicalFor 2 (InCone (y_axis ∷ x_axis ∷ []) []) (pair (pos 0) (pos 2) ∷ x_axis ∷ []) (y_axis ∷ x_axis ∷ [])
   pub not_primitive : ¬ (AreCanonicalFor 2 (InCone (y_axis ∷ x_axis ∷ []) []) (y_axis ∷ x_axis ∷ []) (pair (pos 0) (pos 2) ∷ x_axis ∷ []))
