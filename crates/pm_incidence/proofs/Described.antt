@@ -1,15 +1,15 @@
 -- What half-spaces of a thing describe, as the cone that they cut out; and the cone {0}.
-use Rattle.std.specs.Prelude.{Bool, Err, false, true, IfOk, Ok, Result, ℕ, zero, suc, ◌+◌, ◌≡◌, ◌<◌, ◌≤◌, ◌↔◌, List, [], ◌∷◌, ◌++◌, get_or, length, map, replicate}
-use Rattle.std.specs.List.{All, Any, Contains, range_with_len}
+use Rattle.std.specs.Prelude.{Bool, Err, false, true, IfOk, Ok, Result, ℕ, zero, suc, ◌+◌, ◌≡◌, ◌<◌, ◌≤◌, ◌↔◌, List, [], ◌∷◌, ◌++◌, get_or, length, map}
+use Rattle.std.specs.List.{Any, range_with_len}
 use Rattle.std.proofs.Common.{ap, arith, inl, inr, refl, subst, sym, ◌∙◌}
 use Rattle.std.proofs.lemmas.Bool.{cases_lt}
 use Rattle.std.proofs.lemmas.Int.{by_lt_z, ints}
 use Rattle.std.proofs.lemmas.List.{length-append}
 use Rattle.std.proofs.lemmas.List.FromFn.{get_or-map-range_with_len, get_or-range_with_len, length-map-range_with_len, length-range_with_len}
 use Rattle.pm_algebra.specs.Cones.{InCone, InSpan, combination}
-use Rattle.pm_algebra.specs.Rows.{HasCols, IsZero, Row, Same, dot, entry, opposite, plus, times}
+use Rattle.pm_algebra.specs.Rows.{HasCols, IsZero, Row, dot, entry, opposite}
 use Rattle.pm_algebra.proofs.ConeLaws.{dot_in, in_generator, in_line, in_line_opposite, in_zero}
-use Rattle.pm_algebra.proofs.Lists.{All_among, Among, Any_among, among_Any, Contains_among, all_append, all_at, all_from, among_All, append_all}
+use Rattle.pm_algebra.proofs.Lists.{All_among, Among, Any_among, among_Any, all_append, all_at, all_from, among_All, append_all}
 use Rattle.pm_algebra.proofs.Ring.{ring}
 use Rattle.pm_algebra.proofs.RowLaws.{dot_comm, entry-opposite, entry-plus, entry-times, length-opposite}
 use Rattle.pm_bases.specs.Bases.{IsEchelonBasis, row_at}
@@ -20,18 +20,17 @@ use Rattle.pm_dd.specs.Fronts.{HalfSpaces}
 use Rattle.pm_dd.proofs.MixedLaws.{generators_as}
 use Rattle.pm_dd.proofs.ZeroRows.{dot_zero, no_basis, zero_of_span}
 use Rattle.pm_elim.specs.Evidence.{unit}
-use Rattle.pm_elim.specs.NullSpaces.{IsNull}
 use Rattle.pm_elim.proofs.DotLaws.{dot-unit}
 use Rattle.pm_elim.proofs.ExtendedLaws.{length-unit, unit_one, unit_zero}
-use Rattle.pm_geom.specs.Cones.{CutOut, InLineality, IsValid}
+use Rattle.pm_geom.specs.Cones.{InLineality, IsValid}
 use Rattle.pm_geom.specs.Generators.{AreGenerators}
 use Rattle.pm_geom.proofs.Facets.{opposite-dot}
-use Rattle.pm_geom.proofs.Polar.{cols_at, cut_from}
+use Rattle.pm_geom.proofs.Polar.{cols_at}
 use Rattle.pm_incidence.specs.Thinning.{Agree, HasPoint, IsBehind, half_spaces}
 use Rattle.pm_props.specs.declared.object_type.ObjectType.{ObjectType}
 use Rattle.pm_props.specs.declared.object_type.ObjectType.TheVariants.{Cone, Fan, Polytope}
-use Rattle.pm_types.specs.Right.{CutsOutOf, CutsOutPolytope, Solves, empty, proper}
-use lib.IntN.{ℤ, pos}
+use Rattle.pm_types.specs.Right.{CutsOutOf, Solves, empty, proper}
+use lib.IntN.{pos}
 use lib.Signed.{lt_z_yes, ◌<ℤ◌, ◌≤ℤ◌}
 
 pub if_ok : {T E : Type 0} {P Q : T → Type 0} (r : Result T E) → ((x : T) → P x → Q x) → IfOk r P → IfOk r Q
@@ -142,7 +141,7 @@ is_polytope Polytope = true
 is_polytope Cone = false
 is_polytope Fan = false
 
-cone_apart : Cone ≡ Polytope → ⊥
+pub cone_apart : Cone ≡ Polytope → ⊥
 cone_apart e = let f : false ≡ true = ap is_polytope e in cc
 
 fan_apart : Fan ≡ Polytope → ⊥

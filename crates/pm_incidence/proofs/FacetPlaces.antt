@@ -1,36 +1,35 @@
 -- Where all half-spaces are kept by rays of the cone that they describe, each is a facet row, and no two are alike.
-use Rattle.std.specs.Prelude.{ℕ, zero, suc, ◌+◌, ◌-◌, ◌≡◌, ◌<◌, ◌≤◌, ◌⊎◌, ◌↔◌, Bool, false, IsTrue, List, [], ◌∷◌, ◌++◌, get_or, length, take}
-use Rattle.std.specs.List.{All, AllPairs, Contains}
-use Rattle.std.proofs.Common.{arith, inl, inr, refl, subst, sym, ◌∙◌}
+use Rattle.std.specs.Prelude.{ℕ, zero, suc, ◌+◌, ◌-◌, ◌≡◌, ◌<◌, ◌≤◌, ◌↔◌, Bool, List, [], ◌∷◌, get_or, length, take}
+use Rattle.std.specs.List.{All, AllPairs}
+use Rattle.std.proofs.Common.{arith, inl, inr, subst, sym, ◌∙◌}
 use Rattle.std.proofs.lemmas.Int.{ints}
-use Rattle.std.proofs.lemmas.List.{get_or_default}
 use Rattle.pm_algebra.specs.Cones.{InCone, InSpan}
-use Rattle.pm_algebra.specs.Rows.{HasCols, Row, Same, difference, dot, entry, opposite, plus, times}
+use Rattle.pm_algebra.specs.Rows.{HasCols, Row, Same, difference, dot, opposite, plus, times}
 use Rattle.pm_algebra.proofs.ConeLaws.{dot_in, in_generator, in_line, in_line_opposite, in_of, in_to_after, lines_opposite}
 use Rattle.pm_algebra.proofs.Lists.{All_among, Among, all_from, all_at, among_All, here, there}
 use Rattle.pm_algebra.proofs.Ring.{ring}
-use Rattle.pm_algebra.proofs.RowLaws.{dot-plus, dot-same, dot-times, dot_comm, entry-difference, entry-plus, entry-times, length-difference, length-opposite, times-dot, plus-dot}
-use Rattle.pm_algebra.proofs.Signs.{mul_cancel, mul_pos, weaken}
+use Rattle.pm_algebra.proofs.RowLaws.{dot-plus, dot-same, dot-times, dot_comm, entry-difference, entry-plus, entry-times, length-difference, length-opposite}
+use Rattle.pm_algebra.proofs.Signs.{mul_cancel}
 use Rattle.pm_bases.specs.Bases.{row_at}
-use Rattle.pm_bits.specs.Sets.{IsSubset, has}
+use Rattle.pm_bits.specs.Sets.{IsSubset}
 use Rattle.pm_dd.specs.Fronts.{HalfSpaces}
 use Rattle.pm_dd.specs.Tables.{zero_set}
-use Rattle.pm_dd.proofs.Description.{Over, Used, used}
+use Rattle.pm_dd.proofs.Description.{used}
 use Rattle.pm_dd.proofs.StepLaws.{at_place, place_of}
-use Rattle.pm_geom.specs.Cones.{CutOut, InLineality, IsExtreme, IsFacetRow, IsValid, MultipleModulo, SameModulo}
-use Rattle.pm_geom.proofs.Facets.{dot-opposite, opposite-dot, valid_by_products}
+use Rattle.pm_geom.specs.Cones.{CutOut, InLineality, IsFacetRow, IsValid, MultipleModulo, SameModulo}
+use Rattle.pm_geom.proofs.Facets.{dot-opposite, opposite-dot}
 use Rattle.pm_geom.proofs.Polar.{cols_at, cut_at, cut_from, farkas, membership_decided}
 use Rattle.pm_incidence.proofs.Described.{described, described_inside, half_cols, half_length}
 use Rattle.pm_incidence.proofs.Polarity.{cut_valid, valid_cut}
 use Rattle.pm_incidence.proofs.Thinned.{thin_generators, thinned_length}
 use Rattle.pm_dd.proofs.MixedLaws.{generators_as}
 use Rattle.pm_geom.specs.Generators.{AreGenerators}
-use Rattle.std.proofs.lemmas.List.{length-take, take_all}
-use Rattle.pm_incidence.specs.Thinning.{Agree, AreKept, AreManyFacets, AreSortedThinned, AreThinPlaces, AreZeroSets, HasPoint, IsFull, IsKept, MarkFull, half_spaces}
+use Rattle.std.proofs.lemmas.List.{take_all}
+use Rattle.pm_incidence.specs.Thinning.{Agree, AreManyFacets, AreSortedThinned, AreThinPlaces, AreZeroSets, HasPoint, IsKept, MarkFull, half_spaces}
 use Rattle.pm_props.specs.declared.object_type.ObjectType.{ObjectType}
 use Rattle.pm_types.specs.Right.{CutsOutOf}
-use lib.IntN.{ℤ, pos, ◌*ℤ◌}
-use lib.Signed.{◌<ℤ◌, ◌≤ℤ◌}
+use lib.IntN.{ℤ, pos}
+use lib.Signed.{◌<ℤ◌}
 
 -- ---- as many ascending places below a bound as it says are all places
 low_place : (ks : List ℕ) → AllPairs (λ (i j : ℕ). i < j) ks → (i : ℕ) → i < length ks → i ≤ get_or ks i 0

@@ -1,21 +1,18 @@
 -- The rows that the marks of full zero sets take: those on which every inequality vanishes.
-use Rattle.std.specs.Prelude.{ℕ, suc, ◌+◌, ◌^◌, ◌≡◌, ◌<◌, ◌≤◌, ◌&&◌, ◌==◌, Bool, true, false, IsTrue, List, [], ◌∷◌, ◌++◌, filter, get_or, length, unsigned_abs}
-use Rattle.std.specs.List.{Contains, list_all}
-use Rattle.std.proofs.Common.{ap, arith, eqb, inl, inr, refl, subst, sym, ◌∙◌}
-use Rattle.std.proofs.lemmas.Bool.{cases_Bool, eq-eqb, eqb-true}
+use Rattle.std.specs.Prelude.{ℕ, suc, ◌^◌, ◌≡◌, ◌<◌, ◌&&◌, Bool, true, false, IsTrue, List, [], ◌∷◌, ◌++◌, filter, get_or, length, unsigned_abs}
+use Rattle.std.proofs.Common.{ap, arith, eqb, inl, refl, subst, sym, ◌∙◌}
+use Rattle.std.proofs.lemmas.Bool.{eq-eqb, eqb-true}
 use Rattle.std.proofs.lemmas.Int.{ints}
 use Rattle.std.proofs.lemmas.List.{length-append}
 use Rattle.pm_algebra.specs.Rows.{HasCols, Row, dot}
-use Rattle.pm_algebra.proofs.Lists.{Among, all_append, all_at, here, there}
+use Rattle.pm_algebra.proofs.Lists.{Among, all_append, here, there}
 use Rattle.pm_bases.specs.Bases.{row_at}
-use Rattle.pm_bits.specs.Sets.{has}
-use Rattle.pm_dd.specs.Tables.{zero_set}
 use Rattle.pm_dd.proofs.Marks.{marked_lengths}
 use Rattle.pm_dd.proofs.StepLaws.{at_place, place_of}
 use Rattle.pm_elim.specs.EliminationSteps.{EliminationStep}
 use Rattle.pm_elim.specs.Evidence.{IsEvidence}
 use Rattle.pm_geom.specs.StatedOrder.{rows_marked}
-use Rattle.pm_incidence.specs.Thinning.{AreZeroSets, IsFull, IsWideReduction, MarkFull, flat_group, is_flat}
+use Rattle.pm_incidence.specs.Thinning.{AreZeroSets, IsWideReduction, MarkFull, flat_group, is_flat}
 use lib.IntN.{ℤ, pos}
 
 pub flat_from : (A : List Row) (g : Row) → ((a : Row) → Among a A → dot a g ≡ pos 0) → is_flat A g ≡ true

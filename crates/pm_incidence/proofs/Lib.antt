@@ -14,3 +14,6 @@ mod SetRows
 mod TurnedSets
 mod Polarity
 mod DeterminedRows
+pub mod ThinExamples
+pub mod PlaceExamples
+pub mod SetExamples

@@ -1,19 +1,19 @@
 -- Rows that are thinned are the generators of the cone, in canonical form.
-use Rattle.std.specs.Prelude.{ℕ, ◌+◌, ◌≡◌, ◌<◌, ◌⊎◌, ◌↔◌, Bool, false, List, [], ◌∷◌, ◌++◌, filter, get_or, length}
-use Rattle.std.specs.List.{All, AllPairs, Any, Contains}
+use Rattle.std.specs.Prelude.{ℕ, ◌≡◌, ◌<◌, Bool, List, [], ◌++◌, filter, get_or, length}
+use Rattle.std.specs.List.{All, Any}
 use Rattle.std.specs.List.Sorted.{IsPermutation, IsSorted}
 use Rattle.std.specs.Ordering.{int_cmp}
 use Rattle.std.specs.Cmp.Lexicographic.{slice_cmp}
-use Rattle.std.proofs.Common.{ap, arith, inl, inr, refl, subst, sym, ◌∙◌}
+use Rattle.std.proofs.Common.{arith, inl, inr, subst, sym, ◌∙◌}
 use Rattle.std.proofs.lemmas.Int.{ints}
 use Rattle.std.proofs.lemmas.List.{get_or_default}
 use Rattle.std.proofs.lemmas.List.Sorted.{All-permutation, length_permutation}
 use Rattle.pm_algebra.specs.Cones.{InCone, InSpan, IsConeSet}
 use Rattle.pm_algebra.specs.Divisors.{IsPrimitive}
-use Rattle.pm_algebra.specs.Rows.{HasCols, IsZero, Row, Same, difference, dot, entry, opposite, plus, times}
+use Rattle.pm_algebra.specs.Rows.{HasCols, Row, difference, dot, entry, opposite}
 use Rattle.pm_algebra.proofs.ConeLaws.{in_generator, in_line, in_line_opposite, in_through, lines_opposite}
 use Rattle.pm_algebra.proofs.Filters.{among_filter, filter_among}
-use Rattle.pm_algebra.proofs.Lists.{All_among, Among, Any_among, Contains_among, all_from, among_All, among_Contains, among_append, among_append_left, among_append_right}
+use Rattle.pm_algebra.proofs.Lists.{All_among, Among, Any_among, Contains_among, all_from, among_All, among_append, among_append_left, among_append_right}
 use Rattle.pm_algebra.proofs.Ring.{ring}
 use Rattle.pm_algebra.proofs.RowLaws.{entry-difference, entry-opposite, entry-plus, entry-times, length-difference, length-opposite}
 use Rattle.pm_algebra.proofs.Signs.{mul_cancel, mul_pos, weaken}
@@ -21,7 +21,6 @@ use Rattle.pm_bases.specs.Bases.{row_at}
 use Rattle.pm_bases.proofs.Spans.{span_of, span_to}
 use Rattle.pm_elim.specs.Evidence.{IsBasisOf}
 use Rattle.pm_geom.specs.Cones.{CutOut, InLineality, IsExtreme, IsOrder, SameModulo}
-use Rattle.pm_geom.specs.Faces.{ray}
 use Rattle.pm_geom.specs.Generators.{AreGenerators, IsLinealityBasis, VanishAt}
 use Rattle.pm_geom.proofs.Extreme.{in_lines}
 use Rattle.pm_geom.proofs.Facets.{order_as}
@@ -31,16 +30,14 @@ use Rattle.pm_dd.specs.Fronts.{HalfSpaces, both_signs}
 use Rattle.pm_dd.proofs.AlikeLaws.{alike_sym, alike_trans}
 use Rattle.pm_dd.proofs.Answered.{apart_in}
 use Rattle.pm_dd.proofs.Ascending.{ascending, order_permutation}
-use Rattle.pm_dd.proofs.Building.{multiple_alike}
 use Rattle.pm_dd.proofs.Description.{cut_cone_set, made_cut}
 use Rattle.pm_dd.proofs.Fronts.{signs_cut_out}
 use Rattle.pm_dd.proofs.StepLaws.{at_place, flat_on, place_of}
 use Rattle.pm_dd.proofs.Thin.{cut_decided, extreme_alike}
 use Rattle.pm_incidence.proofs.Groups.{flat_from, flat_to}
-use Rattle.pm_incidence.proofs.Thinning.{LikeKept, cuts, gen, in_cuts, kept_apart, kept_extreme, like_kept, line_in, on_equations, unmarked_out}
+use Rattle.pm_incidence.proofs.Thinning.{cuts, gen, in_cuts, kept_apart, kept_extreme, like_kept, line_in, on_equations, unmarked_out}
 use Rattle.pm_incidence.specs.Thinning.{Agree, AreKept, AreSortedThinned, AreThinPlaces, AreThinned, AreZeroSets, IsKept, IsThinned, MarkFull, flat_group, is_flat}
 use lib.IntN.{ℤ, pos, ◌*ℤ◌, ◌-ℤ◌}
-use lib.Signed.{lt_z_yes, ◌<ℤ◌}
 
 module _ (n : ℕ) (G L A E : List Row) (hG : HasCols n G) (hL : HasCols n L) (hA : HasCols n A) (agree : Agree n G L A E) where
   abbrev S : Row → Type 0

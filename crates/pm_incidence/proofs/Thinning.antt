@@ -1,12 +1,12 @@
 -- The rows that are kept of generators are the extreme ones, each once.
-use Rattle.std.specs.Prelude.{ℕ, zero, suc, ◌≡◌, ◌<◌, ◌≤◌, ◌⊎◌, ◌↔◌, Bool, true, false, IsTrue, List, [], ◌∷◌, ◌++◌, filter, get_or, length}
-use Rattle.std.specs.List.{All, AllPairs, Contains}
+use Rattle.std.specs.Prelude.{ℕ, zero, suc, ◌≡◌, ◌<◌, ◌≤◌, ◌⊎◌, ◌↔◌, Bool, true, false, IsTrue, List, [], ◌∷◌, ◌++◌, get_or, length}
+use Rattle.std.specs.List.{Contains}
 use Rattle.std.proofs.Common.{arith, ◌∙◌, inl, inr, refl, subst, sym}
 use Rattle.std.proofs.lemmas.Int.{ints}
-use Rattle.pm_algebra.specs.Cones.{InCone, InSpan}
+use Rattle.pm_algebra.specs.Cones.{InCone}
 use Rattle.pm_algebra.specs.Rows.{HasCols, Row, dot, opposite}
 use Rattle.pm_algebra.proofs.ConeLaws.{in_generator, in_line, in_line_opposite}
-use Rattle.pm_algebra.proofs.Lists.{Among, Contains_among, all_append, all_at, among_Contains, among_append, among_append_right, here, there}
+use Rattle.pm_algebra.proofs.Lists.{Among, Contains_among, all_append, among_Contains, among_append, among_append_right, here, there}
 use Rattle.pm_algebra.proofs.RowLaws.{length-opposite}
 use Rattle.pm_bases.specs.Bases.{row_at}
 use Rattle.pm_bits.specs.Sets.{IsSubset, has}
@@ -24,8 +24,7 @@ use Rattle.pm_dd.proofs.StepLaws.{at_place, flat_on, place_of}
 use Rattle.pm_dd.proofs.Thin.{extreme_alike, extreme_is_maximal, like_row, over_alike}
 use Rattle.pm_incidence.specs.Thinning.{Agree, AreZeroSets, IsFull, IsKept, MarkFull}
 use native.Mathlib.Decide.{ℕ_discrete}
-use lib.IntN.{ℤ, pos}
-use lib.Signed.{◌≤ℤ◌}
+use lib.IntN.{pos}
 
 -- ---- what is decided below a bound
 some_below : (P : ℕ → Type 0) → ((i : ℕ) → P i ⊎ ¬ (P i)) → (n : ℕ) → ((i : ℕ) × (i < n) × P i) ⊎ ((i : ℕ) → i < n → ¬ (P i))

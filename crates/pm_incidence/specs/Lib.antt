@@ -4,3 +4,4 @@ pub mod Fails
 pub mod Thinning
 pub mod FromSets
 pub mod SetRows
+pub mod ThinExamples

@@ -2,6 +2,7 @@
 #![tactic(auto)]
 
 ghost use Rattle.pm_incidence.specs.Examples.{IncidenceIsRead};
+ghost use Rattle.pm_incidence.specs.ThinExamples.{FacetPlacesAreRead, KeptAreRead, RowsFromSetsAreRead, ThinningIsRead};
 
 mod by_incidence;
 mod facets;
@@ -21,4 +22,24 @@ pub use sets::incidence;
 /// Incidence read on three facets and three vertices.
 pub fn example_incidence()
     ensures { IncidenceIsRead }
+{}
+
+/// The definitions of thinning, of rows of two entries.
+pub fn example_thinning()
+    ensures { ThinningIsRead }
+{}
+
+/// Which of five sets of three places are kept.
+pub fn example_kept_sets()
+    ensures { KeptAreRead }
+{}
+
+/// Which places name facets of the half line, of a line and of a point.
+pub fn example_facet_places()
+    ensures { FacetPlacesAreRead }
+{}
+
+/// The definitions of rows from sets, of the quadrant and of a half plane.
+pub fn example_rows_from_sets()
+    ensures { RowsFromSetsAreRead }
 {}

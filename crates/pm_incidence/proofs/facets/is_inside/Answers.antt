@@ -18,9 +18,9 @@ returns-in_err-cut_out-clause-failed c =
 
 pub returns-clause-inside : goal.returns-clause-inside
 returns-clause-inside c = if_ok c.is_null.result (λ b w. (
-    λ t. halves_of c.args.of (length c.args.ray.now) c.requires.some c.args.rows.now c.args.equations.now c.args.ray.now (w.0 t, c.in_ok-cut_out.ensures.inside.0 c.if-not-cut_out.false) (λ x. let e : false ≡ true = rw c.if-is_behind.false at (c.is_behind.ensures.1 x) in cc),
-    λ h. w.1 (halves_to c.args.of (length c.args.ray.now) c.requires.some c.args.rows.now c.args.equations.now c.args.ray.now h).0.0,
-  )) c.is_null.ensures.inside
+  λ t. halves_of c.args.of (length c.args.ray.now) c.requires.some c.args.rows.now c.args.equations.now c.args.ray.now (w.0 t, c.in_ok-cut_out.ensures.inside.0 c.if-not-cut_out.false) (λ x. let e : false ≡ true = rw c.if-is_behind.false at (c.is_behind.ensures.1 x) in cc),
+  λ h. w.1 (halves_to c.args.of (length c.args.ray.now) c.requires.some c.args.rows.now c.args.equations.now c.args.ray.now h).0.0,
+)) c.is_null.ensures.inside
 
 pub returns-clause-failed : goal.returns-clause-failed
 returns-clause-failed c = if_err c.is_null.result (λ f w. wide_more c.args.ray.now c.args.equations.now _ f (second_part c.args.rows.now c.args.equations.now) w) c.is_null.ensures.failed
