@@ -245,6 +245,7 @@ fn rays_of_sets(
     ensures rays { IfOk result (λ r. (V : List Row) → IsOrder cols (HalfSpaces equations.now cuts.now) V
         → IsIncidence V cuts.now (map (λ r. r.items) sets.now)
         → AreCanonicalFor cols (HalfSpaces equations.now cuts.now) V r.items) }
+    ensures null { IfOk result (λ r. (lines : List Row) × (P : List ℕ) × IsNullBasis cols (equations.now ++ cuts.now) lines P) }
     ensures failed { IfErr result (IsSetsFail cols equations.now cuts.now (map (λ r. r.items) sets.now)) }
 {
     let pivots = lineality_pivots(alloc, cols, cuts, equations)?;
@@ -301,6 +302,7 @@ pub fn vertices_from_sets(
     ensures rays { IfOk result (λ r. (V : List Row) → IsOrder cols (HalfSpaces f.now.hull.items f.now.facets.items) V
         → s.now.cols ≡ length V → IsIncidence f.now.facets.items V s.now.rows
         → AreCanonicalFor cols (HalfSpaces f.now.hull.items f.now.facets.items) V r.items) }
+    ensures null { IfOk result (λ r. (lines : List Row) × (P : List ℕ) × IsNullBasis cols (f.now.hull.items ++ f.now.facets.items) lines P) }
     ensures failed { IfErr result (IsSetsFail cols f.now.hull.items f.now.facets.items (turned s.now)) }
 {
     let sets = turned_sets(alloc, s)?;
@@ -339,6 +341,7 @@ pub fn facets_from_sets(
     ensures facets { IfOk result (λ r. (F : List Row) → IsOrder cols (IsValid cols g.now.rays.items g.now.lineality.items) F
         → IsIncidence F g.now.rays.items s.now.rows
         → AreCanonicalFor cols (IsValid cols g.now.rays.items g.now.lineality.items) F r.items) }
+    ensures null { IfOk result (λ r. (lines : List Row) × (P : List ℕ) × IsNullBasis cols (g.now.lineality.items ++ g.now.rays.items) lines P) }
     ensures failed { IfErr result (IsTurnedSetsFail cols g.now.lineality.items g.now.rays.items s.now.rows) }
 {
     match rays_of_sets(alloc, cols, &g.rays, &g.lineality, s.rows()) {
