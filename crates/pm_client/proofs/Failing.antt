@@ -1,7 +1,8 @@
--- Where an elimination of the row list, or double description of its two parts, was given up, so is the client, with evidence that holds of the view.
-use Rattle.pm_algebra.proofs.Lists.{Contains_among, here, there}
+-- Where an elimination of the row list, double description of its two parts, thinning, or finding rows from sets was given up, so is the client, with evidence that holds of the view.
+use Rattle.pm_algebra.proofs.Lists.{Contains_among, among_Contains, among_append, here, there}
 use Rattle.pm_algebra.specs.Rows.{Row}
-use Rattle.pm_client.specs.Sound.{AreParts, FailsRightly, IsDoubleListOf, IsRowList, double_list, doubles, eliminated_by, enlarging_rows, fail_of, fail_of_double, first_part, row_list}
+use Rattle.pm_client.proofs.ReadRows.{row_of}
+use Rattle.pm_client.specs.Sound.{AreParts, AreRowsOf, AreSetsOf, AreTold, FailsRightly, IsDoubleListOf, IsRowList, IsRowOf, IsWideElimination, added_rows, are_parts, determining_rows, double_list, doubles, eliminated_by, enlarging_rows, fail_of, fail_of_double, fail_of_thin, first_part, flat_basis_and_row, flat_rows, row_list}
 use Rattle.pm_dd.specs.Refusals.{IsEliminationFail, IsShown, ShowsMany, ShowsWide}
 use Rattle.pm_dd.specs.declared.fails.DdFail.{DdFail}
 use Rattle.pm_dd.specs.declared.fails.DdFail.TheVariants as double
@@ -11,6 +12,13 @@ use Rattle.pm_elim.specs.declared.evidence.ElimFail.TheVariants.{Memory, Wide}
 use Rattle.pm_geom.specs.StatedOrder.{rows_marked}
 use Rattle.pm_geom.specs.declared.evidence.Evidence.{Evidence}
 use Rattle.pm_geom.specs.declared.evidence.Evidence.TheVariants as evidence
+use Rattle.pm_incidence.proofs.Products.{stays_turned, zero_stays}
+use Rattle.pm_incidence.specs.FromSets.{IsSetsFail, IsTurnedSetsFail}
+use Rattle.pm_incidence.specs.FromSets as from_sets
+use Rattle.pm_incidence.specs.Thinning.{IsFacetsFail, IsThinFail, IsWideIncidence, IsWideReduction, half_spaces}
+use Rattle.pm_incidence.specs.declared.fails.ThinFail.{ThinFail}
+use Rattle.pm_incidence.specs.declared.fails.ThinFail.TheVariants as thinning
+use Rattle.pm_elim.specs.EliminationSteps.{EliminationStep}
 use Rattle.pm_hull.specs.HullRefusals.{IsShownOnParts}
 use Rattle.pm_object.specs.Reading.{ViewSeen}
 use Rattle.pm_props.specs.Kinds.{standard_kind}
@@ -78,3 +86,21 @@ module _ (v : ViewSeen) (named : IsTrue (doubles v.kind.name)) where
   pub fails_by_parts : (L G : List Row) (f : DdFail) → AreParts v L G → IsShownOnParts v.cols L G f → FailsRightly v (fail_of_double f)
   fails_by_parts L G f read (inl h) = fails_by_first L G f read h
   fails_by_parts L G f read (inr (D, list, h)) = fails_by_double D f (record { lines = L; others = G; read = read; list = list }) h
+
+-- ---- thinning
+module _ (v : ViewSeen) (takes : eliminated_by v.kind.name ≡ flat_rows ∷ flat_basis_and_row ∷ []) where
+  -- on an elimination
+  wide_reduction : (L G A : List Row) → AreTold v L G A → (e : EliminationStep) → IsWideReduction v.cols G L A e → IsWideElimination v e
+  wide_reduction L G A told e h = elim h.listed [
+    | inl flat ↦ record { list = flat_rows; named = rw takes (Contains_among (here {xs = flat_basis_and_row ∷ []})); rows = h.rows; listed = record { lines = L; rows = G; others = A; read = told; flat = flat }; shown = h.shown }
+    | inr flat ↦ record { list = flat_basis_and_row; named = rw takes (Contains_among (there (here {xs = []}))); rows = h.rows; listed = record { lines = L; rows = G; others = A; read = told; flat = flat }; shown = h.shown }
+  ]
+
+  -- POINTS by FACETS
+  pub fails_by_points : (L G A : List Row) (f : ThinFail) → AreRowsOf v InputLineality L → AreRowsOf v Points G → AreRowsOf v Facets A → added_rows v.of v.cols Points ≡ [] → IsThinFail v.cols G L A f → FailsRightly v (fail_of_thin f)
+  fails_by_points L G A (thinning.Wide (evidence.E1 step)) l g a none h = wide_reduction L G A (record { first = InputLineality; second = Points; other = Facets; parts = refl; told = refl; read = parts_of v InputLineality Points L G l g none; others = a }) step h
+  fails_by_points L G A (thinning.Wide (evidence.E4 first second)) l g a none h =
+      inl (record { generator = row_of v is_generator Points g.cols g.rows G first g.reads refl g.primitive h.generator (λ z. h.wide (zero_stays first second z)); half_space = row_of v is_half_space Facets a.cols a.rows A second a.reads refl a.primitive h.inequality (λ z. h.wide (stays_turned second first (zero_stays second first z))); wide = h.wide })
+  fails_by_points L G A (thinning.Wide e) l g a none h = absurd h
+  fails_by_points L G A (thinning.Many e) l g a none h = absurd h
+  fails_by_points L G A thinning.Memory l g a none h = tt

@@ -9,7 +9,7 @@ ghost use Rattle.std.specs.Prelude.{IfErr, OnOk, [], ℕ, ◌≡◌};
 use pm_elim::ElimFail;
 use pm_geom::Evidence;
 use pm_hull::DdFail;
-use pm_incidence::IncFail;
+use pm_incidence::{IncFail, ThinFail};
 use pm_object::{Draft, View};
 use pm_types::Kind;
 use std::alloc::{AllocError, AllocFailed, Global};
@@ -70,6 +70,21 @@ impl From<IncFail> for ClientFail {
         match fail {
             IncFail::Wide(evidence) => ClientFail::Failed(evidence),
             IncFail::Memory => ClientFail::Memory,
+        }
+    }
+}
+
+impl From<ThinFail> for ClientFail {
+    ghost use Rattle.pm_client.specs.Sound.{fail_of_thin};
+    ghost use Rattle.std.specs.Prelude.{◌≡◌};
+
+    ghost from_gives = { λ f e. e ≡ fail_of_thin f };
+
+    fn from(fail: ThinFail) -> ClientFail {
+        match fail {
+            ThinFail::Wide(evidence) => ClientFail::Failed(evidence),
+            ThinFail::Many(evidence) => ClientFail::Failed(evidence),
+            ThinFail::Memory => ClientFail::Memory,
         }
     }
 }
