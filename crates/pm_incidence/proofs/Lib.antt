@@ -6,6 +6,7 @@ pub mod Thinning
 pub mod Groups
 pub mod ThinFails
 pub mod Thinned
+pub mod Described
 mod Determined
 mod SetRows
 mod TurnedSets

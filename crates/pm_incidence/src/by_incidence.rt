@@ -91,31 +91,3 @@ pub fn vertices_by_incidence(
     let cuts = half_spaces(alloc, of, cols, &f.facets)?;
     thin(alloc, cols, &g.rays, &g.lineality, &cuts)
 }
-
-/// All facet rows of a thing among half-spaces that describe it, by the rays and lineality that generate it, and the echelon basis of the rows that vanish on it.
-/// The facet rows are primitive, with zeros in the pivot columns of that basis, each once and in lexicographic order; there are at most 2,048 of them.
-/// `Wide` only with evidence: E1 on the rows that vanish and then the reduced row, E4 on a ray and a half-space or equation. `Many` only with more than 2,048 facet rows among the half-spaces (E5).
-pub fn facets_by_incidence(
-    alloc: Global,
-    of: ObjectType,
-    cols: usize,
-    rows: &[Ints],
-    equations: &[Ints],
-    g: &Generators,
-) -> Result<Facets, ThinFail>
-    requires row_cols { HasCols cols rows.now }
-    requires equation_cols { HasCols cols equations.now }
-    requires ray_cols { HasCols cols g.now.rays.items }
-    requires few_rows { length rows.now < 2 ^ 28 }
-    requires few_equations { length equations.now < 2 ^ 28 }
-    requires some_columns { 0 < cols }
-    requires few_columns { cols < 2 ^ 28 }
-    ensures facets { IfOk result (λ f. HasCols cols g.now.lineality.items
-        → CutsOutOf of cols (InCone g.now.rays.items g.now.lineality.items) rows.now equations.now
-        → AreGenerators cols (IsValid cols g.now.rays.items g.now.lineality.items) f.facets.items f.hull.items) }
-    ensures cols { IfOk result (λ f. HasCols cols f.facets.items) }
-    ensures few { IfOk result (λ f. length f.facets.items ≤ 2048) }
-    ensures echelon { IfOk result (λ f. (P : List ℕ) × IsEchelonBasis cols f.hull.items P) }
-    ensures failed { IfErr result (IsFacetsFail of cols rows.now equations.now g.now.rays.items) }
-{
-}
