@@ -1,6 +1,7 @@
 pub mod SameKind
 pub mod Started
 pub mod ReadValues
+pub mod ReadRows
 pub mod Pairs
 pub mod ViewLaws
 pub mod Failing

@@ -1,4 +1,6 @@
 -- Rows from sets of incidences: the sets that are right are those of the rows that were read, and rows in canonical form in the held order are right and canonical.
+use Rattle.pm_algebra.proofs.ConeLaws.{in_cone_set}
+use Rattle.pm_algebra.proofs.Lists.{Among, among_All}
 use Rattle.pm_algebra.proofs.RowLaws.{length-opposite}
 use Rattle.pm_algebra.specs.Cones.{InCone}
 use Rattle.pm_algebra.specs.Divisors.{IsPrimitive}
@@ -20,7 +22,7 @@ use Rattle.pm_props.specs.declared.property.PropId.TheVariants.{Facets, Vertices
 use Rattle.pm_relations.proofs.Hulls.{alike_itself, each_ratios, each_stands, facet_alike, zero_line}
 use Rattle.pm_relations.proofs.Spans.{basis_lineality, hull_rows, thing_cols}
 use Rattle.pm_relations.proofs.Standing.{in_order_at, in_order_length, ratios_at, stand_at, stand_for_ratios, stand_length, zero_of_stands, zero_with_stands}
-use Rattle.pm_relations.proofs.Twins.{lines_of, orders_of, rays_of}
+use Rattle.pm_relations.proofs.Twins.{alike_inside, in_order_to, lines_of, orders_of, rays_of}
 use Rattle.pm_types.specs.Canonical.{EachIs, IsCanonical, IsEchelonBasisOf, IsRayRow, Vanishing}
 use Rattle.pm_types.specs.Right.{InLines, InOrder, InSet, IsIncidence, Right, SameRayOf, StandFor}
 use Rattle.pm_types.specs.Things.{AreOrders, IsThing, Thing}
@@ -116,6 +118,13 @@ module _ (t : Thing) (o : Orders) (thing : IsThing t) (orders : AreOrders t o) (
   module _ (S : Row → Type 0) (same : (x : Row) → length x ≡ t.cols → InSet t x ↔ S x) where
     pub rays_order : IsOrder t.cols S o.rays
     rays_order = order_as t.cols (InSet t) S (λ x lx. (same x lx).0) (λ x lx. (same x lx).1) held.rays
+
+    -- rows that are placed for the rays lie in the thing
+    pub placed_inside : (U : List Row) → ArePlaced t.cols S o.rays U → (x : Row) → Among x U → InSet t x
+    placed_inside U h =
+        in_order_to (SameModulo t.cols (InSet t)) (InSet t) (InSet t) (alike_inside t.cols (InSet t) (in_cone_set t.generators t.lines)) o.rays U
+        (in_order_as t.cols S (InSet t) (λ x lx. (same x lx).1) (λ x lx. (same x lx).0) o.rays U h.order)
+        (λ v i. (among_All (λ u. IsExtreme t.cols (InSet t) u) i held.rays.each).inside)
 
     pub placed_rays : (kind : Kind) (m : ℕ) (c : List Ratio) (rows : List (List Ratio)) (U N : List Row) (P : List ℕ) → ¬ (IsFresh rays_tag kind) → ArePlaced t.cols S o.rays U → IsEchelonBasisOf t.cols (InLines t) N P → EachIs (IsRayRow t) rows U
         → Right Vertices (matrix m rows) t o c × IsCanonical kind Vertices (matrix m rows) t
