@@ -57,7 +57,7 @@ words_within a b small h start n k low high =
 
 -- ---- the bits of two sets together
 
-and_test : (m n : ℕ) → m < 2 → n < 2 → (p : ℕ) → p ≡ min m n → (p == 1) ≡ ((m == 1) && (n == 1))
+pub and_test : (m n : ℕ) → m < 2 → n < 2 → (p : ℕ) → p ≡ min m n → (p == 1) ≡ ((m == 1) && (n == 1))
 and_test m n small_m small_n p e = elim (cases_lt m 1) [
   | inl none ↦ rw (ne_eqb m 1 (omega arith)) (ne_eqb p 1 (omega arith))
   | inr some ↦ (let m_is : m ≡ 1 = omega arith in let p_is : p ≡ n = omega arith in rw (m_is, p_is) refl)

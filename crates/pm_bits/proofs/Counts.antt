@@ -32,10 +32,10 @@ range_with_len-add a (suc m) n =
     let f : a + 1 + m ≡ a + suc m = omega arith in
     rw (e, range_with_len-add (a + 1) m n, f) refl
 
-count_by-add : (p : ℕ → Bool) (a m n : ℕ) → count_by p (range_with_len a (m + n)) ≡ count_by p (range_with_len a m) + count_by p (range_with_len (a + m) n)
+pub count_by-add : (p : ℕ → Bool) (a m n : ℕ) → count_by p (range_with_len a (m + n)) ≡ count_by p (range_with_len a m) + count_by p (range_with_len (a + m) n)
 count_by-add p a m n = ap (count_by p) (range_with_len-add a m n) ∙ sum_by-append (λ k. cond (p k) 1 0) (range_with_len a m) (range_with_len (a + m) n)
 
-count_by-none : (a n : ℕ) → count_by (λ (k : ℕ). false) (range_with_len a n) ≡ 0
+pub count_by-none : (a n : ℕ) → count_by (λ (k : ℕ). false) (range_with_len a n) ≡ 0
 count_by-none a zero = refl
 count_by-none a (suc n) = let none : sum_by (λ (k : ℕ). 0) (range_with_len (a + 1) n) ≡ 0 = count_by-none (a + 1) n in sum_by-cons (λ (k : ℕ). 0) a (range_with_len (a + 1) n) ∙ (omega arith)
 
@@ -56,7 +56,7 @@ cond_of_test n small = elim (cases_Bool (n == 1)) [
   | inr h ↦ (let other : n ≡ 1 → ⊥ = eqb-false n 1 h in cond-false (n == 1) 1 0 h ∙ (omega arith))
 ]
 
-ones_of_word : (w n : ℕ) → w < 2 ^ n → count_ones w ≡ count_by (λ k. bit_at w k == 1) (range_with_len 0 n)
+pub ones_of_word : (w n : ℕ) → w < 2 ^ n → count_ones w ≡ count_by (λ k. bit_at w k == 1) (range_with_len 0 n)
 ones_of_word w n small =
     let ms = map (λ k. bit_at w k == 1) (range_with_len 0 n) in
     let long : length ms ≡ n = length-map-range_with_len (λ k. bit_at w k == 1) 0 n in

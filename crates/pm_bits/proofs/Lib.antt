@@ -4,5 +4,7 @@ pub mod Firsts
 pub mod Marks
 pub mod Members
 pub mod Counts
+pub mod Common
+pub mod Folds
 pub mod Differences
 pub mod MemberLists

@@ -34,6 +34,10 @@ SameMembers one other = (i : ℕ) → has one i ≡ has other i
 abbrev pub member_count : List Bool → ℕ
 member_count row = count_by (has row) (range_with_len 0 (length row))
 
+-- how many of the numbers below the length of the first row are members of both rows
+abbrev pub common_count : List Bool → List Bool → ℕ
+common_count one other = count_by (λ i. has one i && has other i) (range_with_len 0 (length one))
+
 -- the members, ascending
 abbrev pub members : List Bool → List ℕ
 members row = filter (has row) (range_with_len 0 (length row))

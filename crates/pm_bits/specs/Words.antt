@@ -50,3 +50,8 @@ AreMade op from end a b out = (k : ℕ) → from ≤ k → k < end → slice_ind
 -- the words stay as they were, from one place on and below another
 abbrev pub StayAsTheyWere : ℕ → ℕ → List ℕ → List ℕ → Type 0
 StayAsTheyWere from end old new = EachWord (λ x y. y ≡ x) from end old new
+
+-- bit b of w is 1 exactly where bit b of one of the first n words is
+pub record AreFolded (words : List ℕ) (n w : ℕ) : Type 0 where
+  pub every : (k b : ℕ) → k < n → bit_at (slice_index words k) b ≡ 1 → bit_at w b ≡ 1
+  pub only : (b : ℕ) → b < 64 → bit_at w b ≡ 1 → (k : ℕ) × (k < n) × (bit_at (slice_index words k) b ≡ 1)

@@ -1,6 +1,7 @@
 // A set of numbers below a length.
 ghost use Rattle.std.specs.Prelude.{◌≡◌, ◌≢◌, ℕ, ◌^◌, ◌<◌, ◌↔◌, IsTrue, IfOk, true, length};
-ghost use Rattle.pm_bits.specs.Sets.{has, IsEmpty, IsSubset, IsIntersection, IsUnion, SameMembers, member_count, members, HasFirstDifference};
+ghost use Rattle.pm_bits.specs.Folds.{IsFold};
+ghost use Rattle.pm_bits.specs.Sets.{has, IsEmpty, IsSubset, IsIntersection, IsUnion, SameMembers, common_count, member_count, members, HasFirstDifference};
 
 use crate::words;
 use std::alloc::{AllocError, Global};
@@ -102,6 +103,21 @@ impl BitRow {
         ensures { result ≡ member_count self.now }
     {
         words::count(&self.words)
+    }
+
+    /// How many members this row and `o` have in common, counted word by word.
+    pub fn common_count(&self, o: &BitRow) -> usize
+        requires { length self.now ≡ length o.now }
+        ensures { result ≡ common_count self.now o.now }
+    {
+        words::common_count(&self.words, &o.words)
+    }
+
+    /// The row's fold: its bit b says whether some member is b modulo 64.
+    pub(crate) fn fold(&self) -> u64
+        ensures { IsFold self.now result }
+    {
+        words::fold(&self.words)
     }
 
     /// Whether this row and `o` have the same members: four words at a time in lanes, and the words that are left one by one.

@@ -1,28 +1,33 @@
 // A list of rows of one length.
-ghost use Rattle.std.specs.Prelude.{◌≡◌, ◌≢◌, ℕ, ◌<◌, ◌↔◌, ◌++◌, [], ◌∷◌, IsTrue, OnOk, OnErr, IfErr, length};
-ghost use Rattle.pm_bits.specs.Sets.{IsSubset};
+ghost use Rattle.std.specs.Prelude.{◌≡◌, ◌≢◌, ℕ, ◌<◌, ◌≤◌, ◌↔◌, ◌++◌, [], ◌∷◌, IsTrue, OnOk, OnErr, IfErr, length};
+ghost use Rattle.pm_bits.specs.Folds.{IsFold};
+ghost use Rattle.pm_bits.specs.Sets.{IsSubset, common_count};
 ghost use Rattle.pm_bits.specs.Table.{row_at, OtherContains};
 
-use crate::BitRow;
+use crate::{BitRow, words};
 use std::alloc::Global;
 use std::marker::Model;
 
-/// A list of rows of one length.
+/// A list of rows of one length. Beside the rows stands one word for each, its fold: the bit b of the fold says
+/// whether some member is b modulo 64. So a row of at most 64 numbers is its fold, and a longer one whose fold
+/// lacks a bit that the fold of `s` has does not contain `s`.
 #[derive(Debug, Drop)]
 pub struct BitTable {
     len: usize,
     rows: Vec<BitRow>,
+    folds: Vec<u64>,
 }
 
 impl Model for BitTable {
     ghost use Rattle.std.specs.Prelude.{◌≡◌, All, length};
     ghost use Rattle.pm_bits.specs.Table.{Table};
+    ghost use Rattle.pm_bits.specs.Folds.{AreFolds};
 
     ghost Value = { Table };
 
     ghost view = { λ t. record { row_len = t.len; rows = t.rows.items } };
 
-    ghost invariant = { λ t. All (λ row. length row ≡ t.len) t.rows.items };
+    ghost invariant = { λ t. All (λ row. length row ≡ t.len) t.rows.items × AreFolds t.rows.items t.folds.items };
 }
 
 impl BitTable {
@@ -34,6 +39,7 @@ impl BitTable {
         BitTable {
             len: row_len,
             rows: Vec::new(alloc),
+            folds: Vec::new(alloc),
         }
     }
 
@@ -75,19 +81,96 @@ impl BitTable {
         ensures returned { IfErr result (λ back. back ≡ row) }
         ensures err { OnErr result (self.new ≡ self.old) }
     {
-        self.rows.push(row).map_err(|failed| failed.value)
+        if self.folds.reserve(1).is_err() {
+            return Err(row);
+        }
+        let fold = row.fold();
+        self.rows.push(row).map_err(|failed| failed.value)?;
+        let Ok(()) = self.folds.push(fold) else {
+            unreachable!()
+        };
+        Ok(())
     }
 
-    /// Whether some row other than those at `i` and `j` contains `s`. Each row goes by lanes, as `BitRow::contains` does.
-    pub fn other_contains(&self, s: &BitRow, i: usize, j: usize) -> bool
-        requires { length s.now ≡ self.now.row_len }
+    /// How many members the row at `k` has in common with `s`, whose fold this is: by the folds, where these are the
+    /// rows or have no bit in common, and else word by word.
+    fn common_count_by(&self, k: usize, s: &BitRow, fold: u64) -> usize
+        requires place { k < length self.now.rows }
+        requires len { length s.now ≡ self.now.row_len }
+        requires fold { IsFold s.now fold }
+        ensures { result ≡ common_count (row_at self.now k) s.now }
+    {
+        let both = self.folds[k] & fold;
+        if self.len <= 64 || both == 0 {
+            both.count_ones() as usize
+        } else {
+            self.rows[k].common_count(s)
+        }
+    }
+
+    /// How many members the rows at `i` and at `j` have in common.
+    pub fn common_count(&self, i: usize, j: usize) -> usize
+        requires first { i < length self.now.rows }
+        requires second { j < length self.now.rows }
+        ensures { result ≡ common_count (row_at self.now i) (row_at self.now j) }
+    {
+        self.common_count_by(i, &self.rows[j], self.folds[j])
+    }
+
+    /// How many members the row at `k` has in common with `s`.
+    pub fn common_count_with(&self, k: usize, s: &BitRow) -> usize
+        requires place { k < length self.now.rows }
+        requires len { length s.now ≡ self.now.row_len }
+        ensures { result ≡ common_count (row_at self.now k) s.now }
+    {
+        self.common_count_by(k, s, s.fold())
+    }
+
+    /// Whether the row at `k` contains `s`, whose fold this is. A row is opened only where its fold has what that of `s` has.
+    fn row_contains(&self, s: &BitRow, fold: u64, k: usize) -> bool
+        requires place { k < length self.now.rows }
+        requires len { length s.now ≡ self.now.row_len }
+        requires fold { IsFold s.now fold }
+        ensures { IsTrue result ↔ IsSubset s.now (row_at self.now k) }
+    {
+        self.folds[k] & fold == fold && self.rows[k].contains(s)
+    }
+
+    /// Whether some row other than those at `i` and `j` contains `s`, whose fold this is: the folds are the rows.
+    fn other_fold_contains(&self, s: &BitRow, fold: u64, i: usize, j: usize) -> bool
+        requires short { self.now.row_len ≤ 64 }
+        requires len { length s.now ≡ self.now.row_len }
+        requires fold { IsFold s.now fold }
         ensures { IsTrue result ↔ OtherContains self.now s.now i j }
     {
-        for (k, row) in self.rows.iter().enumerate() {
-            if k != i && k != j && row.contains(s) {
+        words::other_contains(&self.folds, fold, i, j)
+    }
+
+    /// Whether some row other than those at `i` and `j` contains `s`, whose fold this is.
+    fn other_row_contains(&self, s: &BitRow, fold: u64, i: usize, j: usize) -> bool
+        requires len { length s.now ≡ self.now.row_len }
+        requires fold { IsFold s.now fold }
+        ensures { IsTrue result ↔ OtherContains self.now s.now i j }
+    {
+        for k in 0..self.folds.len() {
+            if self.row_contains(s, fold, k) && k != i && k != j {
                 return true;
             }
         }
         false
+    }
+
+    /// Whether some row other than those at `i` and `j` contains `s`. Rows of at most 64 numbers are compared by their folds
+    /// alone; of longer ones those are opened whose folds have what that of `s` has.
+    pub fn other_contains(&self, s: &BitRow, i: usize, j: usize) -> bool
+        requires { length s.now ≡ self.now.row_len }
+        ensures { IsTrue result ↔ OtherContains self.now s.now i j }
+    {
+        let fold = s.fold();
+        if self.len <= 64 {
+            self.other_fold_contains(s, fold, i, j)
+        } else {
+            self.other_row_contains(s, fold, i, j)
+        }
     }
 }

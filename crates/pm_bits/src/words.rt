@@ -3,7 +3,8 @@
 ghost use Rattle.std.specs.Prelude.{◌≡◌, ℕ, ◌+◌, ◌*◌, ◌/◌, ◌<◌, ◌≤◌, ◌↔◌, ◌&&◌, ◌||◌, IsTrue, IfOk, replicate, length, bit_and, bit_or, true, ◌≢◌, ◌^◌};
 ghost use Rattle.std.specs.Ordering.{MatchOrdering};
 ghost use Rattle.std.specs.Simd.Lanes.{chunk, zip2, put_chunk};
-ghost use Rattle.pm_bits.specs.Words.{has_bit, bit_count, set_bits, EachWord, IsWithin, AreMade, StayAsTheyWere, HasFirstBit, HasLowestBit};
+ghost use Rattle.std.specs.Prelude.{slice_index};
+ghost use Rattle.pm_bits.specs.Words.{has_bit, bit_count, set_bits, EachWord, IsWithin, AreMade, AreFolded, StayAsTheyWere, HasFirstBit, HasLowestBit};
 
 use std::alloc::{AllocError, Global};
 use std::cmp::Ordering;
@@ -245,6 +246,60 @@ pub(crate) fn count(words: &[u64]) -> usize
         ones += word.count_ones() as usize;
     }
     ones
+}
+
+/// How many bits a and b have in common, word by word.
+pub(crate) fn common_count(a: &[u64], b: &[u64]) -> usize
+    requires same_len { length a.now ≡ length b.now }
+    requires in_range { bit_count (zip2 bit_and a.now b.now) < 2 ^ 64 }
+    ensures { result ≡ bit_count (zip2 bit_and a.now b.now) }
+{
+    let mut ones = 0;
+    for i in 0..a.len() {
+        ones += (a[i] & b[i]).count_ones() as usize;
+    }
+    ones
+}
+
+/// The bits of all words in one.
+pub(crate) fn fold(words: &[u64]) -> u64
+    ensures { AreFolded words.now (length words.now) result }
+{
+    let mut all = 0;
+    for i in 0..words.len() {
+        all |= words[i];
+    }
+    all
+}
+
+// The first place from `start` on whose word has each bit of s; the number of words, where there is none.
+fn next_containing(words: &[u64], s: u64, start: usize) -> usize
+    requires { start ≤ length words.now }
+    ensures from { start ≤ result }
+    ensures end { result ≤ length words.now }
+    ensures found { result < length words.now → IsWithin (slice_index words.now result) s }
+    ensures before { (k : ℕ) → start ≤ k → k < result → IsWithin (slice_index words.now k) s → ⊥ }
+{
+    for k in start..words.len() {
+        if words[k] & s == s {
+            return k;
+        }
+    }
+    words.len()
+}
+
+/// Whether some word other than those at i and j has each bit of s.
+pub(crate) fn other_contains(words: &[u64], s: u64, i: usize, j: usize) -> bool
+    ensures { IsTrue result ↔ ((k : ℕ) × (k < length words.now) × (k ≢ i) × (k ≢ j) × IsWithin (slice_index words.now k) s) }
+{
+    let mut k = next_containing(words, s, 0);
+    while k < words.len() {
+        if k != i && k != j {
+            return true;
+        }
+        k = next_containing(words, s, k + 1);
+    }
+    false
 }
 
 // How two words compare by their lowest different bit: the word that has it comes first.

@@ -359,8 +359,9 @@ module _ (n : ℕ) (E J : List Row) (f : ℕ) (V : List Row) where
       back (pair k l) p (inl h) = elim (ℕ_discrete k i) [ yes e ↦ inr (e, p.1) | no ne ↦ inl (omega arith) ]
       back (pair k l) p (inr h) = absurd (let q = h.1 in omega arith)
 
-  pub pairs_skip_row : (i : ℕ) (W : List Row) (Y : List (List Bool)) → IsBuilt n E J f V (SeenPairs i 0) W Y → dot (row_at J f) (ray V i) ≤ℤ pos 0 → IsBuilt n E J f V (SeenPairs (i + 1) 0) W Y
-  pairs_skip_row i W Y b low = built_same (SeenPairs i 0) (SeenPairs (i + 1) 0) W Y to back b
+  -- a ray that is in no pair is passed over
+  pub pairs_none_row : (i : ℕ) (W : List Row) (Y : List (List Bool)) → IsBuilt n E J f V (SeenPairs i 0) W Y → ((l : ℕ) → ¬ (IsSource (take f J) (row_at J f) V (pair i l))) → IsBuilt n E J f V (SeenPairs (i + 1) 0) W Y
+  pairs_none_row i W Y b none = built_same (SeenPairs i 0) (SeenPairs (i + 1) 0) W Y to back b
     where
       to : (r : Source) → SeenPairs i 0 r → SeenPairs (i + 1) 0 r
       to (kept k) h = tt
@@ -369,8 +370,11 @@ module _ (n : ℕ) (E J : List Row) (f : ℕ) (V : List Row) where
 
       back : (r : Source) → IsSource (take f J) (row_at J f) V r → SeenPairs (i + 1) 0 r → SeenPairs i 0 r
       back (kept k) p h = tt
-      back (pair k l) p (inl h) = elim (ℕ_discrete k i) [ yes e ↦ absurd (let u = p.2 in let v : dot (row_at J f) (ray V k) ≤ℤ pos 0 = subst (λ (m : ℕ). dot (row_at J f) (ray V m) ≤ℤ pos 0) (sym e) low in omega (arith, ints)) | no ne ↦ inl (omega arith) ]
+      back (pair k l) p (inl h) = elim (ℕ_discrete k i) [ yes e ↦ absurd (none l (subst (λ (m : ℕ). IsSource (take f J) (row_at J f) V (pair m l)) e p)) | no ne ↦ inl (omega arith) ]
       back (pair k l) p (inr h) = absurd (let q = h.1 in omega arith)
+
+  pub pairs_skip_row : (i : ℕ) (W : List Row) (Y : List (List Bool)) → IsBuilt n E J f V (SeenPairs i 0) W Y → dot (row_at J f) (ray V i) ≤ℤ pos 0 → IsBuilt n E J f V (SeenPairs (i + 1) 0) W Y
+  pairs_skip_row i W Y b low = pairs_none_row i W Y b (λ l p. let u = p.2 in omega (arith, ints))
 
   pub pairs_all : (i : ℕ) → length V ≤ i → (q : Source) → IsSource (take f J) (row_at J f) V q → SeenPairs i 0 q
   pairs_all i l (kept k) p = tt

@@ -9,6 +9,7 @@ pub mod Fronts
 pub mod Tables
 pub mod Building
 pub mod Negatives
+pub mod FarRays
 pub mod Stated
 pub mod StepFails
 pub mod FormLaws

@@ -4,7 +4,7 @@ use Rattle.pm_algebra.specs.Divisors.{IsPrimitiveOf}
 use Rattle.pm_algebra.specs.Numbers.{InRange}
 use Rattle.pm_algebra.specs.Rows.{Row, difference, dot, entry}
 use Rattle.pm_bases.specs.Bases.{row_at}
-use Rattle.pm_bits.specs.Sets.{has, IsIntersection, member_count}
+use Rattle.pm_bits.specs.Sets.{has, IsIntersection, common_count, member_count}
 use Rattle.pm_bits.specs.Table.{Table, OtherContains}
 use Rattle.pm_elim.specs.Steps.{IsFactors}
 use Rattle.pm_geom.specs.Cones.{SameModulo}
@@ -28,17 +28,21 @@ pub record AreProducts (a : Row) (V : List Row) (v : List ℤ) : Type 0 where
   pub each : (i : ℕ) → i < length V → entry v i ≡ dot a (ray V i)
   pub in_range : (i : ℕ) → i < length V → InRange (entry v i)
 
--- j is the first place from `start` on where v is negative, and stands before n
-pub record IsFirstNegative (v : List ℤ) (start n j : ℕ) : Type 0 where
+-- the ray at l is not behind, or has fewer than `need` rows in common with u
+abbrev pub IsPassed : Table → List ℤ → List Bool → ℕ → ℕ → Type 0
+IsPassed table v u need l = (pos 0 ≤ℤ entry v l) ⊎ (common_count (zero_set table.rows l) u < need)
+
+-- v is negative at j, a place from `start` on and before n, and the places before it are passed over
+pub record IsNextNegative (passed : ℕ → Type 0) (v : List ℤ) (start n j : ℕ) : Type 0 where
   pub from : start ≤ j
   pub within : j < n
   pub negative : entry v j <ℤ pos 0
-  pub before : (l : ℕ) → start ≤ l → l < j → pos 0 ≤ℤ entry v l
+  pub before : (l : ℕ) → start ≤ l → l < j → passed l
 
--- the places from `start` on, and before n, where v is negative, in order
-abbrev pub AreNegativePlaces : List ℤ → ℕ → ℕ → List ℕ → Type 0
-AreNegativePlaces v start n [] = (l : ℕ) → start ≤ l → l < n → pos 0 ≤ℤ entry v l
-AreNegativePlaces v start n (j ∷ js) = IsFirstNegative v start n j × AreNegativePlaces v (j + 1) n js
+-- places of negative values from `start` on, and before n, in order; all others are passed over
+abbrev pub AreNegativesLeft : (ℕ → Type 0) → List ℤ → ℕ → ℕ → List ℕ → Type 0
+AreNegativesLeft passed v start n [] = (l : ℕ) → start ≤ l → l < n → passed l
+AreNegativesLeft passed v start n (j ∷ js) = IsNextNegative passed v start n j × AreNegativesLeft passed v (j + 1) n js
 
 -- the cone of the equations E, the first f rows of J, and the next one
 abbrev pub NextSet : List Row → List Row → ℕ → Row → Type 0

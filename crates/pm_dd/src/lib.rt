@@ -16,6 +16,7 @@ mod fails;
 mod first;
 mod leading;
 mod mixed;
+mod near;
 mod order;
 mod pairs;
 mod rays;

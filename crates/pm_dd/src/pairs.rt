@@ -4,7 +4,7 @@ ghost use Rattle.pm_algebra.specs.Cones.{InSpan};
 ghost use Rattle.pm_algebra.specs.Numbers.{InRange};
 ghost use Rattle.pm_algebra.specs.Rows.{HasCols, entry};
 ghost use Rattle.pm_bases.specs.Bases.{IsRank, row_at};
-ghost use Rattle.pm_dd.specs.Building.{AreNegativePlaces, AreProducts, IsBuilt, IsNoPair, IsPairRay, SeenKept};
+ghost use Rattle.pm_dd.specs.Building.{AreProducts, IsBuilt, IsNoPair, IsPairRay, SeenKept};
 ghost use Rattle.pm_dd.specs.Form.{KeepForm};
 ghost use Rattle.pm_dd.specs.StepFails.{IsPairFailOf, IsStepFail};
 ghost use Rattle.pm_dd.specs.Tables.{IsRayTable};
@@ -13,10 +13,11 @@ ghost use Rattle.std.specs.Prelude.{IfErr, IfNone, IfOk, IfSome, length, pos, ta
 
 use crate::combination::combination_of;
 use crate::fails::{CombinationFail, StepFail};
+use crate::near::{near_negatives, unions_of};
 use crate::rays::{Ray, Rays};
 use pm_bits::BitRow;
 use pm_vector::Ints;
-use std::alloc::{AllocError, Global};
+use std::alloc::Global;
 
 /// The most extreme rays that a cone on the way may have.
 pub(crate) const MOST_RAYS: usize = 2048;
@@ -54,10 +55,12 @@ pub(crate) fn pair_ray(
     ensures some { IfOk result (λ o. IfSome o (λ r. IsPairRay rays.now.rows.items rays.now.zeros values.now i j front r.row r.zeros)) }
     ensures wide { IfErr result (λ f. IsPairFailOf rays.now.rows.items rays.now.zeros values.now i j f) }
 {
-    rays.zeros.row(i).meet_into(rays.zeros.row(j), both);
-    if both.count() < need {
+    let first = rays.zeros.row(i);
+    let second = rays.zeros.row(j);
+    if rays.zeros.common_count(i, j) < need {
         return Ok(None);
     }
+    first.meet_into(second, both);
     if rays.zeros.other_contains(both, i, j) {
         return Ok(None);
     }
@@ -74,20 +77,6 @@ pub(crate) fn pair_ray(
     both.meet_into(both, &mut zeros);
     zeros.set(front);
     Ok(Some(Ray { row, zeros }))
-}
-
-/// The places of the negative values, in order.
-#[tactic(auto, using(crate::proofs::Negatives::places_add, crate::proofs::Negatives::places_skip))]
-fn negative_places(alloc: Global, values: &[i128]) -> Result<Vec<usize>, AllocError>
-    ensures { IfOk result (λ v. AreNegativePlaces values.now 0 (length values.now) v.items) }
-{
-    let mut made = Vec::new(alloc);
-    for j in 0..values.len() {
-        if values[j] < 0 {
-            made.push(j)?;
-        }
-    }
-    Ok(made)
 }
 
 /// The rays of the next front: kept ones, and the combinations of all adjacent pairs.
@@ -120,12 +109,16 @@ pub(crate) fn paired_rays(
     ensures wide { IfErr result (λ f. IsStepFail cols equations.now rows.now front rays.now.rows.items f) }
 {
     let need = needed(rank, equations.len());
-    let negatives = negative_places(alloc, values)?;
+    let unions = unions_of(alloc, &rays.zeros, values)?;
+    let negatives = near_negatives(alloc, &rays.zeros, values, &unions.ahead, need)?;
     let mut both = BitRow::with_len(alloc, rows.len())?;
     let mut next = made.rows;
     let mut zeros = made.zeros;
     for i in 0..rays.rows.len() {
         if values[i] <= 0 {
+            continue;
+        }
+        if rays.zeros.common_count_with(i, &unions.behind) < need {
             continue;
         }
         for k in 0..negatives.len() {

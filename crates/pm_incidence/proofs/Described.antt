@@ -1,9 +1,10 @@
 -- What half-spaces of a thing describe, as the cone that they cut out; and the cone {0}.
-use Rattle.std.specs.Prelude.{Err, IfOk, Ok, Result, ℕ, zero, suc, ◌+◌, ◌≡◌, ◌<◌, ◌≤◌, ◌↔◌, List, [], ◌∷◌, ◌++◌, get_or, length, map, replicate}
+use Rattle.std.specs.Prelude.{Bool, Err, false, true, IfOk, Ok, Result, ℕ, zero, suc, ◌+◌, ◌≡◌, ◌<◌, ◌≤◌, ◌↔◌, List, [], ◌∷◌, ◌++◌, get_or, length, map, replicate}
 use Rattle.std.specs.List.{All, Any, Contains, range_with_len}
-use Rattle.std.proofs.Common.{arith, inl, inr, refl, subst, sym, ◌∙◌}
+use Rattle.std.proofs.Common.{ap, arith, inl, inr, refl, subst, sym, ◌∙◌}
 use Rattle.std.proofs.lemmas.Bool.{cases_lt}
 use Rattle.std.proofs.lemmas.Int.{by_lt_z, ints}
+use Rattle.std.proofs.lemmas.List.{length-append}
 use Rattle.std.proofs.lemmas.List.FromFn.{get_or-map-range_with_len, get_or-range_with_len, length-map-range_with_len, length-range_with_len}
 use Rattle.pm_algebra.specs.Cones.{InCone, InSpan, combination}
 use Rattle.pm_algebra.specs.Rows.{HasCols, IsZero, Row, Same, dot, entry, opposite, plus, times}
@@ -26,7 +27,7 @@ use Rattle.pm_geom.specs.Cones.{CutOut, InLineality, IsValid}
 use Rattle.pm_geom.specs.Generators.{AreGenerators}
 use Rattle.pm_geom.proofs.Facets.{opposite-dot}
 use Rattle.pm_geom.proofs.Polar.{cols_at, cut_from}
-use Rattle.pm_incidence.specs.Thinning.{Agree, HasPoint, half_spaces}
+use Rattle.pm_incidence.specs.Thinning.{Agree, HasPoint, IsBehind, half_spaces}
 use Rattle.pm_props.specs.declared.object_type.ObjectType.{ObjectType}
 use Rattle.pm_props.specs.declared.object_type.ObjectType.TheVariants.{Cone, Fan, Polytope}
 use Rattle.pm_types.specs.Right.{CutsOutOf, CutsOutPolytope, Solves, empty, proper}
@@ -136,6 +137,44 @@ zero_facets n G L f = record {
     valid : (a : Row) → length a ≡ n → IsValid n G L a
     valid a la = record { cols = la; holds = λ x lx h. let q = dot_zero a x ((f x lx).0 h) in omega (arith, ints) }
 
+abbrev is_polytope : ObjectType → Bool
+is_polytope Polytope = true
+is_polytope Cone = false
+is_polytope Fan = false
+
+cone_apart : Cone ≡ Polytope → ⊥
+cone_apart e = let f : false ≡ true = ap is_polytope e in cc
+
+fan_apart : Fan ≡ Polytope → ⊥
+fan_apart e = let f : false ≡ true = ap is_polytope e in cc
+
+-- ---- half-spaces, with the one that is added
+pub halves_to : (of : ObjectType) (n : ℕ) → 0 < n → (A E : List Row) (x : Row) → HalfSpaces E (half_spaces of n A) x → HalfSpaces E A x × ¬ (IsBehind of x)
+halves_to Polytope n some A E x h =
+    let (a, b) = append_all (λ (b : Row). pos 0 ≤ℤ dot b x) A (unit n 0 ∷ []) h.1 in
+    let first : pos 0 ≤ℤ dot (unit n 0) x = b.0 in
+    let e = unit-dot n x some in
+    ((h.0, a), λ p. let q = p.1 in omega (arith, ints))
+halves_to Cone n some A E x h = (h, λ p. cone_apart p.0)
+halves_to Fan n some A E x h = (h, λ p. fan_apart p.0)
+
+pub halves_of : (of : ObjectType) (n : ℕ) → 0 < n → (A E : List Row) (x : Row) → HalfSpaces E A x → ¬ (IsBehind of x) → HalfSpaces E (half_spaces of n A) x
+halves_of Polytope n some A E x h nb =
+    let e = unit-dot n x some in
+    (h.0, all_append (λ (b : Row). pos 0 ≤ℤ dot b x) A (unit n 0 ∷ []) h.1 (by_lt_z (entry x 0) (pos 0) (λ lo. absurd (nb (refl, lo))) (λ hi. omega (arith, ints)), tt))
+halves_of Cone n some A E x h nb = h
+halves_of Fan n some A E x h nb = h
+
+pub half_length : (of : ObjectType) (n : ℕ) (A : List Row) → length (half_spaces of n A) ≤ length A + 1
+half_length Polytope n A = let e = length-append A (unit n 0 ∷ []) in omega arith
+half_length Cone n A = omega arith
+half_length Fan n A = omega arith
+
+pub half_cols : (of : ObjectType) (n : ℕ) (A : List Row) → HasCols n A → HasCols n (half_spaces of n A)
+half_cols Polytope n A h = all_append (λ (x : Row). length x ≡ n) A (unit n 0 ∷ []) h (length-unit n 0, tt)
+half_cols Cone n A h = h
+half_cols Fan n A h = h
+
 -- ---- the half-spaces A and the equations E of a thing that G and L generate
 module _ (n : ℕ) (some : 0 < n) (G L A E : List Row) (hG : HasCols n G) (hL : HasCols n L) where
   far_to : (x : Row) → HalfSpaces E (A ++ unit n 0 ∷ []) x → HalfSpaces E A x × (pos 0 ≤ℤ entry x 0)
@@ -195,3 +234,15 @@ module _ (n : ℕ) (some : 0 < n) (G L A E : List Row) (hG : HasCols n G) (hL : 
   vertices_of_thin hE of w cut V K f =
       let same = described of w cut in
       generators_as n (HalfSpaces E (half_spaces of n A)) (InCone G L) (λ x l. (same x l).0) (λ x l. (same x l).1) (f E (record { equation_cols = hE; same = same }))
+
+  -- where some of the rays that lie in it is a point, they cut it out
+  pub described_inside : (of : ObjectType) (V : List Row) → HasCols n V → ((v : Row) → Among v V → HalfSpaces E (half_spaces of n A) v) → HasPoint of V → CutsOutOf of n (InCone G L) A E → (x : Row) → length x ≡ n → HalfSpaces E (half_spaces of n A) x ↔ InCone G L x
+  described_inside Polytope V hV inside w (proper y ly sy py eq) x lx = (
+    λ h. let f = far_to x h in (eq x lx).1 (solves_of A E x f.0, f.1),
+    λ h. let s = (eq x lx).0 h in far_of x (solves_to A E x s.0) s.1,
+  )
+  described_inside Polytope V hV inside w (empty never is_zero) x lx =
+      let (v, i, up) = among_Any (λ (v : Row). pos 0 <ℤ entry v 0) V w in
+      absurd (never v (cols_at i hV) (solves_of A E v (far_to v (inside v i)).0) up)
+  described_inside Cone V hV inside w c x lx = (λ h. (c x lx).1 (solves_of A E x h), λ h. solves_to A E x ((c x lx).0 h))
+  described_inside Fan V hV inside w c x lx = absurd c

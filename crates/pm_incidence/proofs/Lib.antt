@@ -7,7 +7,10 @@ pub mod Groups
 pub mod ThinFails
 pub mod Thinned
 pub mod Described
+pub mod Taken
+pub mod FacetPlaces
 mod Determined
 mod SetRows
 mod TurnedSets
 mod Polarity
+mod DeterminedRows

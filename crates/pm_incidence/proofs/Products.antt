@@ -1,8 +1,11 @@
 -- Products of rows that stay in the range, and rows whose product leaves it.
 use Rattle.pm_algebra.proofs.Lists.{Among, among_Contains, here, there}
+use Rattle.pm_algebra.proofs.Ring.{ring}
 use Rattle.pm_algebra.proofs.RowLaws.{dot_comm}
 use Rattle.pm_algebra.specs.Numbers.{InRange}
 use Rattle.pm_algebra.specs.Rows.{IsZero, Row, dot, entry}
+use Rattle.pm_elim.specs.Evidence.{unit}
+use Rattle.std.proofs.lemmas.Bool.{cases_lt}
 use Rattle.pm_incidence.specs.declared.fails.IncFail.TheVariants.{Memory, Wide}
 use Rattle.pm_incidence.specs.declared.fails.IncFail.{IncFail}
 use Rattle.pm_incidence.specs.Incidence.{AllStay, IsWideFor}
@@ -10,11 +13,11 @@ use Rattle.pm_geom.specs.declared.evidence.Evidence.TheVariants.{E4}
 use Rattle.pm_vector.specs.Products.{ProductsStay}
 use Rattle.std.proofs.Common.{arith, get_or, inl, inr, length, refl, subst, suc, sym, take, zero, ◌+◌, ◌<◌, ◌≡◌}
 use Rattle.std.proofs.lemmas.Int.{ints}
-use Rattle.std.proofs.lemmas.List.{take_more}
+use Rattle.std.proofs.lemmas.List.{get_or_past, take_more}
 use Rattle.std.proofs.lemmas.List.Elements.{Contains-get_or, Contains-push_cases}
-use Rattle.std.specs.List.{Contains}
-use Rattle.std.specs.Prelude.{List, [], ℕ, ◌++◌, ◌∷◌}
-use lib.IntN.{*ℤ_comm, pos, ◌*ℤ◌}
+use Rattle.std.specs.List.{All, Contains}
+use Rattle.std.specs.Prelude.{List, [], replicate, ℕ, ◌++◌, ◌∷◌}
+use lib.IntN.{*ℤ_comm, pos, ◌*ℤ◌, ◌+ℤ◌}
 
 -- ---- the order of the two rows
 pub stays_turned : (a x : Row) → ProductsStay a x → ProductsStay x a
@@ -86,3 +89,31 @@ pub wide_in_list : (F V : List Row) (f : Row) (e : IncFail) → Contains F f →
 wide_in_list F V f Memory c h = tt
 wide_in_list F V f (Wide (E4 a x)) c h = (h.0, subst (Contains F) (sym (only_one h.1)) c, h.2)
 wide_in_list F V f (Wide e) c h = absurd h
+
+-- ---- the row (1, 0, .., 0) has products with every row
+zero_ranged : InRange (pos 0)
+zero_ranged = omega (arith, ints)
+
+entry_ranged : (x : Row) → All InRange x → (i : ℕ) → InRange (entry x i)
+entry_ranged x h i = elim (cases_lt i (length x)) [
+  | inl l ↦ h i (pos 0) l
+  | inr l ↦ rw (get_or_past x i (pos 0) l) zero_ranged
+]
+
+zeros_are_zero : (n : ℕ) → IsZero (replicate n (pos 0))
+zeros_are_zero zero i = refl
+zeros_are_zero (suc n) zero = refl
+zeros_are_zero (suc n) (suc i) = zeros_are_zero n i
+
+unit_sums : (n : ℕ) (x : Row) → All InRange x → (k : ℕ) → InRange (dot (take k (pos 1 ∷ replicate n (pos 0))) (take k x))
+unit_sums n x h zero = zero_ranged
+unit_sums n [] h (suc k) = zero_ranged
+unit_sums n (a ∷ x) h (suc k) = let z = zero_dot k (replicate n (pos 0)) x (zeros_are_zero n) in let r : InRange a = h 0 (pos 0) (omega arith) in let e : pos 1 *ℤ a +ℤ pos 0 ≡ a = simp ring (omega (arith, ints)) in rw z (subst InRange (sym e) r)
+
+unit_products : (n : ℕ) (x : Row) → All InRange x → (i : ℕ) → InRange (entry (pos 1 ∷ replicate n (pos 0)) i *ℤ entry x i)
+unit_products n x h zero = let r = entry_ranged x h 0 in simp ring r
+unit_products n x h (suc i) = let z : entry (replicate n (pos 0)) i ≡ pos 0 = zeros_are_zero n i in rw z (simp ring zero_ranged)
+
+pub unit_stays : (n : ℕ) (x : Row) → All InRange x → ProductsStay (unit n 0) x
+unit_stays zero x h = zero_stays [] x (λ i. refl)
+unit_stays (suc n) x h = record { products = unit_products n x h; sums = unit_sums n x h }

@@ -1,12 +1,13 @@
 -- The extreme rows of a cone that equations E and inequalities A cut out, from the sets of inequalities on which they vanish (Ziegler, Lectures on Polytopes, lecture 2): each is, up to positive scale and lineality, the one row on which the equations and these inequalities vanish.
-use Rattle.std.specs.Prelude.{ℕ, suc, ◌≡◌, ◌++◌, ◌⊎◌, List, [], ◌∷◌, filter, if◌then◌else◌, length, map, nat_eq, nat_lt}
-use Rattle.std.specs.List.{All, Contains, list_any, range_with_len}
+use Rattle.std.specs.Prelude.{ℕ, suc, ◌≡◌, ◌<◌, ◌++◌, ◌⊎◌, ◌↔◌, List, [], ◌∷◌, filter, if◌then◌else◌, length, map, nat_eq, nat_lt}
+use Rattle.std.specs.List.{All, Contains, list_any, range_with_len, slice_index_or}
+use Rattle.pm_algebra.specs.Cones.{InSpan}
 use Rattle.pm_algebra.specs.Divisors.{IsPrimitive}
-use Rattle.pm_algebra.specs.Rows.{Row}
+use Rattle.pm_algebra.specs.Rows.{IsZero, Row}
 use Rattle.pm_bases.specs.Bases.{row_at}
 use Rattle.pm_elim.specs.EliminationSteps.{EliminationStep}
 use Rattle.pm_elim.specs.Evidence.{IsEvidence, unit}
-use Rattle.pm_elim.specs.NullSpaces.{IsNullBasis}
+use Rattle.pm_elim.specs.NullSpaces.{IsNull, IsNullBasis}
 use Rattle.pm_geom.specs.Cones.{SameModulo}
 use Rattle.pm_geom.specs.Evidence.{IsWideProduct}
 use Rattle.pm_geom.specs.Generators.{IsLinealityBasis, VanishAt}
@@ -47,6 +48,11 @@ pub record AreCanonicalFor (n : ℕ) (S : Row → Type 0) (V rows : List Row) : 
   pub order : InOrder (SameModulo n S) V rows
   pub primitive : All IsPrimitive rows
   pub reduced : (K : List Row) (P : List ℕ) → IsLinealityBasis n S K P → All (VanishAt P) rows
+
+-- each row is 0, or its multiples are exactly the rows of n entries on which all rows that determine the row of its set vanish
+pub record AreDetermined (n : ℕ) (E A : List Row) (sets : List (List ℕ)) (rows : List Row) : Type 0 where
+  pub each : (lines : List Row) (P : List ℕ) → IsNullBasis n (E ++ A) lines P → (j : ℕ) → j < length sets
+      → IsZero (row_at rows j) ⊎ ((x : Row) → length x ≡ n → InSpan (row_at rows j ∷ []) x ↔ IsNull (determining n E A (slice_index_or sets j []) P) x)
 
 -- a step in the elimination of the equations and inequalities, or of rows that determine the row of a set, leaves the range
 pub record IsWideElimination (n : ℕ) (E A : List Row) (sets : List (List ℕ)) (e : EliminationStep) : Type 0 where

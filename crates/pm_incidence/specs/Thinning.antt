@@ -6,6 +6,7 @@ use lib.Signed.{◌<ℤ◌}
 use Rattle.std.specs.List.Sorted.{IsPermutation, IsSorted}
 use Rattle.std.specs.Ordering.{int_cmp}
 use Rattle.std.specs.Cmp.Lexicographic.{slice_cmp}
+use Rattle.pm_algebra.specs.Numbers.{InRange}
 use Rattle.pm_algebra.specs.Divisors.{IsPrimitiveOf}
 use Rattle.pm_algebra.specs.Rows.{HasCols, Row, dot, entry}
 use Rattle.pm_bases.specs.Bases.{row_at}
@@ -170,3 +171,19 @@ abbrev pub HasPoint : ObjectType → List Row → Type 0
 HasPoint Polytope V = Any (λ v. pos 0 <ℤ entry v 0) V
 HasPoint Cone V = Unit {0}
 HasPoint Fan V = Unit {0}
+
+-- the refusal is want of memory, or names a ray and a half-space or equation whose product leaves the range
+abbrev pub IsInsideFail : List Row → List Row → List Row → ThinFail → Type 0
+IsInsideFail A E V (Wide (E4 first second)) = IsWideIncidence (A ++ E) V second first
+IsInsideFail A E V (Wide e) = ⊥
+IsInsideFail A E V (Many e) = ⊥
+IsInsideFail A E V Memory = Unit {0}
+
+-- the second row of E4 has its entries in the range
+abbrev pub IsRanged : ThinFail → Type 0
+IsRanged (Wide (E4 first second)) = All InRange second
+IsRanged f = Unit {0}
+
+-- x lies behind the points of a polytope
+abbrev pub IsBehind : ObjectType → Row → Type 0
+IsBehind of x = (of ≡ Polytope) × (entry x 0 <ℤ pos 0)

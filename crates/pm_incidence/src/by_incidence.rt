@@ -4,9 +4,8 @@ ghost use Rattle.pm_algebra.specs.Cones.{InCone};
 ghost use Rattle.pm_algebra.specs.Rows.{HasCols, entry};
 ghost use Rattle.pm_bases.specs.Bases.{IsEchelonBasis};
 ghost use Rattle.pm_elim.specs.Evidence.{unit};
-ghost use Rattle.pm_geom.specs.Cones.{IsValid};
 ghost use Rattle.pm_geom.specs.Generators.{AreGenerators};
-ghost use Rattle.pm_incidence.specs.Thinning.{HasPoint, IsFacetsFail, IsThinFail, half_spaces};
+ghost use Rattle.pm_incidence.specs.Thinning.{HasPoint, IsThinFail, half_spaces};
 ghost use Rattle.pm_types.specs.Right.{CutsOutOf};
 ghost use Rattle.std.specs.List.{range_with_len};
 ghost use Rattle.std.specs.Prelude.{Any, IfErr, IfOk, IsTrue, List, [], length, map, pos, ◌<ℤ◌, ◌<◌, ◌^◌, ◌≡◌, ◌≢◌, ◌≤◌, ◌↔◌, ℕ};
@@ -15,14 +14,13 @@ use crate::fails::ThinFail;
 use crate::from_sets::unit_row;
 use crate::thin::thin;
 use pm_elim::copies;
-use pm_geom::Evidence;
 use pm_geom::descriptions::{Facets, Generators};
 use pm_props::ObjectType;
 use pm_vector::Ints;
 use std::alloc::{AllocError, Global};
 
 /// The half-spaces of a thing as they are taken: those of a polytope end with the row (1, 0, .., 0).
-fn half_spaces(
+pub(crate) fn half_spaces(
     alloc: Global,
     of: ObjectType,
     cols: usize,
@@ -39,14 +37,14 @@ fn half_spaces(
 }
 
 /// Whether rays generate a thing that is more than {0}, as far as first entries tell: of a polytope one is positive.
-fn has_point(of: ObjectType, rays: &[Ints]) -> bool
+pub(crate) fn has_point(of: ObjectType, rays: &[Ints]) -> bool
     ensures { IsTrue result ↔ HasPoint of rays.now }
 {
     of != ObjectType::Polytope || rays.iter().any(|ray| !ray.is_empty() && ray.get(0) > 0)
 }
 
 /// All unit rows: the echelon basis of all rows.
-fn unit_rows(alloc: Global, cols: usize) -> Result<Vec<Ints>, AllocError>
+pub(crate) fn unit_rows(alloc: Global, cols: usize) -> Result<Vec<Ints>, AllocError>
     ensures { IfOk result (λ v. v.items ≡ map (unit cols) (range_with_len 0 cols)) }
 {
     let mut made = Vec::new(alloc);

@@ -7,7 +7,8 @@ ghost use Rattle.pm_elim.specs.Evidence.{unit};
 ghost use Rattle.pm_elim.specs.NullSpaces.{IsNullBasis};
 ghost use Rattle.pm_geom.specs.Cones.{IsOrder, IsValid};
 ghost use Rattle.pm_geom.specs.Evidence.{IsWideProduct};
-ghost use Rattle.pm_incidence.specs.FromSets.{AreCanonicalFor, IsSetsFail, IsTurnedSetsFail, determining, holders_from, rows_at, turned};
+ghost use Rattle.pm_incidence.specs.Fails.{exchanged};
+ghost use Rattle.pm_incidence.specs.FromSets.{AreCanonicalFor, AreDetermined, IsSetsFail, IsTurnedSetsFail, determining, holders_from, rows_at, turned};
 ghost use Rattle.pm_incidence.specs.SetRows.{IsFound, IsTurned, IsWideWith, first_product};
 ghost use Rattle.pm_types.specs.Right.{IsIncidence};
 ghost use Rattle.std.specs.Prelude.{All, IfErr, IfOk, IsTrue, List, MatchOption, [], length, map, pos, replicate, ◌++◌, ◌<ℤ◌, ◌<◌, ◌^◌, ◌∷◌, ◌≡◌, ◌≤◌, ◌↔◌, ℕ};
@@ -115,7 +116,7 @@ fn determining_rows(
 }
 
 /// The product of a row with a cut.
-fn product(alloc: Global, row: &Ints, cut: &Ints) -> Result<i128, ThinFail>
+pub(crate) fn product(alloc: Global, row: &Ints, cut: &Ints) -> Result<i128, ThinFail>
     requires { length row.now ≡ length cut.now }
     ensures value { IfOk result (λ k. k ≡ dot_of row.now cut.now) }
     ensures failed { IfErr result (IsWideWith row.now (cut.now ∷ [])) }
@@ -246,6 +247,7 @@ fn rays_of_sets(
         → IsIncidence V cuts.now (map (λ r. r.items) sets.now)
         → AreCanonicalFor cols (HalfSpaces equations.now cuts.now) V r.items) }
     ensures null { IfOk result (λ r. (lines : List Row) × (P : List ℕ) × IsNullBasis cols (equations.now ++ cuts.now) lines P) }
+    ensures determined { IfOk result (λ r. AreDetermined cols equations.now cuts.now (map (λ s. s.items) sets.now) r.items) }
     ensures failed { IfErr result (IsSetsFail cols equations.now cuts.now (map (λ r. r.items) sets.now)) }
 {
     let pivots = lineality_pivots(alloc, cols, cuts, equations)?;
@@ -303,6 +305,7 @@ pub fn vertices_from_sets(
         → s.now.cols ≡ length V → IsIncidence f.now.facets.items V s.now.rows
         → AreCanonicalFor cols (HalfSpaces f.now.hull.items f.now.facets.items) V r.items) }
     ensures null { IfOk result (λ r. (lines : List Row) × (P : List ℕ) × IsNullBasis cols (f.now.hull.items ++ f.now.facets.items) lines P) }
+    ensures determined { IfOk result (λ r. AreDetermined cols f.now.hull.items f.now.facets.items (turned s.now) r.items) }
     ensures failed { IfErr result (IsSetsFail cols f.now.hull.items f.now.facets.items (turned s.now)) }
 {
     let sets = turned_sets(alloc, s)?;
@@ -310,8 +313,9 @@ pub fn vertices_from_sets(
 }
 
 /// The same refusal, with the two rows of evidence E4 exchanged.
-fn exchanged(fail: ThinFail) -> ThinFail
-    ensures { (n : ℕ) (E A : List Row) (sets : List (List ℕ)) → IsSetsFail n E A sets fail → IsTurnedSetsFail n E A sets result }
+pub(crate) fn exchanged(fail: ThinFail) -> ThinFail
+    ensures sets { (n : ℕ) (E A : List Row) (sets : List (List ℕ)) → IsSetsFail n E A sets fail → IsTurnedSetsFail n E A sets result }
+    ensures exchanged { result ≡ exchanged fail }
 {
     match fail {
         ThinFail::Wide(Evidence::E4 { first, second }) => ThinFail::Wide(Evidence::E4 {
@@ -342,6 +346,7 @@ pub fn facets_from_sets(
         → IsIncidence F g.now.rays.items s.now.rows
         → AreCanonicalFor cols (IsValid cols g.now.rays.items g.now.lineality.items) F r.items) }
     ensures null { IfOk result (λ r. (lines : List Row) × (P : List ℕ) × IsNullBasis cols (g.now.lineality.items ++ g.now.rays.items) lines P) }
+    ensures determined { IfOk result (λ r. AreDetermined cols g.now.lineality.items g.now.rays.items s.now.rows r.items) }
     ensures failed { IfErr result (IsTurnedSetsFail cols g.now.lineality.items g.now.rays.items s.now.rows) }
 {
     match rays_of_sets(alloc, cols, &g.rays, &g.lineality, s.rows()) {

@@ -4,6 +4,7 @@
 ghost use Rattle.pm_incidence.specs.Examples.{IncidenceIsRead};
 
 mod by_incidence;
+mod facets;
 mod fails;
 mod from_sets;
 mod sets;
@@ -11,6 +12,7 @@ mod thin;
 mod zeros;
 
 pub use by_incidence::vertices_by_incidence;
+pub use facets::facets_by_incidence;
 pub use fails::{IncFail, ThinFail};
 pub use from_sets::{facets_from_sets, vertices_from_sets};
 pub use pm_geom::Evidence;

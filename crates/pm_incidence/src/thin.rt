@@ -8,7 +8,7 @@ ghost use Rattle.pm_elim.specs.Evidence.{IfWide, IsBasisOf, IsEvidence};
 ghost use Rattle.pm_geom.specs.Cones.{IsValid};
 ghost use Rattle.pm_geom.specs.Generators.{AreGenerators};
 ghost use Rattle.pm_geom.specs.StatedOrder.{rows_marked};
-ghost use Rattle.pm_incidence.specs.Thinning.{Agree, AreSortedThinned, AreThinPlaces, IsReductionFail, IsThinFail, IsThinned};
+ghost use Rattle.pm_incidence.specs.Thinning.{Agree, AreSortedThinned, AreThinPlaces, IsRanged, IsReductionFail, IsThinFail, IsThinned};
 ghost use Rattle.std.specs.Prelude.{IfErr, IfOk, List, [], get_or, length, true, ℕ, ◌++◌, ◌<◌, ◌^◌, ◌∷◌, ◌≡◌, ◌≤◌};
 ghost use Rattle.std.specs.List.{All};
 
@@ -75,6 +75,7 @@ pub(crate) fn kept_of(
     ensures kept { IfOk result (λ k. AreThinPlaces cols rows.now lines.now cuts.now k.basis.rows k.basis.pivots k.places.items) }
     ensures few { IfOk result (λ k. length k.places.items ≤ length rows.now) }
     ensures failed { IfErr result (IsThinFail cols rows.now lines.now cuts.now) }
+    ensures ranged { IfErr result IsRanged }
 {
     let zeros = zero_rows(alloc, cols, rows, cuts)?;
     let marks = full_marks(alloc, &zeros)?;

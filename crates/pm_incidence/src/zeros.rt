@@ -3,7 +3,7 @@
 ghost use Rattle.pm_algebra.specs.Rows.{HasCols};
 ghost use Rattle.pm_bits.specs.Sets.{IsSubset, has};
 ghost use Rattle.pm_dd.specs.Tables.{IsZeroSet, zero_set};
-ghost use Rattle.pm_incidence.specs.Thinning.{AreKept, AreZeroSets, IsKept, IsProductFail, MarkFull};
+ghost use Rattle.pm_incidence.specs.Thinning.{AreKept, AreZeroSets, IsKept, IsProductFail, IsRanged, MarkFull};
 ghost use Rattle.std.specs.Prelude.{IfErr, IfOk, IsTrue, [], get_or, false, length, ℕ, ◌<◌, ◌∷◌, ◌≡◌, ◌≤◌, ◌↔◌};
 
 use crate::fails::ThinFail;
@@ -27,6 +27,7 @@ fn zero_row(alloc: Global, row: &Ints, cuts: &[Ints]) -> Result<BitRow, ThinFail
     requires cols { HasCols (length row.now) cuts.now }
     ensures zeros { IfOk result (IsZeroSet cuts.now (length cuts.now) row.now) }
     ensures failed { IfErr result (IsProductFail (row.now ∷ []) cuts.now) }
+    ensures ranged { IfErr result IsRanged }
 {
     let mut zeros = BitRow::with_len(alloc, cuts.len())?;
     for (p, cut) in cuts.iter().enumerate() {
@@ -54,6 +55,7 @@ pub(crate) fn zero_rows(
     ensures len { IfOk result (λ t. t.row_len ≡ length cuts.now) }
     ensures zeros { IfOk result (λ t. AreZeroSets cuts.now rows.now t.rows) }
     ensures failed { IfErr result (IsProductFail rows.now cuts.now) }
+    ensures ranged { IfErr result IsRanged }
 {
     let mut zeros = BitTable::new(alloc, cuts.len());
     for row in rows {

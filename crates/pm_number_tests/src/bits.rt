@@ -98,6 +98,7 @@ fn check_subset(rt: &impl Abort, alloc: Global, one: u32, x: &BitRow)
         assert!(rt; rows_agree(x, &y, one, other));
         let shared = shared_count(alloc, x, &y).expect(rt, "what both have");
         assert!(rt; shared == (one & other).count_ones() as usize);
+        assert!(rt; x.common_count(&y) == shared);
         let joined = joined_count(alloc, x, &y).expect(rt, "what one of them has");
         assert!(rt; joined == (one | other).count_ones() as usize);
     }
@@ -141,10 +142,37 @@ fn check_length(rt: &impl Abort, alloc: Global, len: usize)
     assert!(rt; joined == (len + 2) / 3 + (len + 1) / 3);
 }
 
+// The table of the rows of every third number below the length.
+fn table_of_thirds(rt: &impl Abort, alloc: Global, len: usize) -> BitTable {
+    let mut table = BitTable::new(alloc, len);
+    for first in 0..3 {
+        let row = thirds(alloc, len, first).expect(rt, "a row");
+        assert!(rt; row.len() == table.row_len());
+        assert!(rt; table.push(row).is_ok());
+    }
+    table
+}
+
+// What rows of a table have in common, and which of them has all of another one.
+fn check_table(rt: &impl Abort, alloc: Global, len: usize)
+    requires { len ≤ 200 }
+{
+    let table = table_of_thirds(rt, alloc, len);
+    assert!(rt; table.len() == 3);
+    assert!(rt; table.common_count(0, 0) == (len + 2) / 3);
+    assert!(rt; table.common_count(1, 1) == (len + 1) / 3);
+    assert!(rt; table.common_count(0, 1) == 0);
+    let ones = thirds(alloc, len, 1).expect(rt, "a row");
+    assert!(rt; ones.len() == table.row_len());
+    assert!(rt; table.other_contains(&ones, 0, 2));
+    assert!(rt; table.other_contains(&ones, 1, 2) == (len <= 1));
+}
+
 #[test]
 fn rows_of_each_length_up_to_200(rt: HostRuntime) {
     for len in 0..201 {
         check_length(&rt, rt.alloc(), len);
+        check_table(&rt, rt.alloc(), len);
     }
 }
 
@@ -171,11 +199,11 @@ fn rows_are_keys_of_a_map(rt: HostRuntime) {
     assert!(rt; names.get(&key) == Some(&'b'));
 }
 
-// The table of these rows, of length 300.
-fn table_of(rt: &impl Abort, alloc: Global, rows: &[&[usize]]) -> BitTable {
-    let mut table = BitTable::new(alloc, 300);
+// The table of these rows of a length.
+fn table_of(rt: &impl Abort, alloc: Global, len: usize, rows: &[&[usize]]) -> BitTable {
+    let mut table = BitTable::new(alloc, len);
     for members in rows {
-        let row = row_of(alloc, 300, members).expect(rt, "a row");
+        let row = row_of(alloc, len, members).expect(rt, "a row");
         assert!(rt; row.len() == table.row_len());
         assert!(rt; table.push(row).is_ok());
     }
@@ -191,16 +219,49 @@ const OTHERS: &[(usize, usize, bool)] = &[
     (1, 1, true),
 ];
 
-fn check_others(rt: &impl Abort, table: &BitTable, part: &BitRow) {
+// A part that is in the first and in the last of three rows, and not in the second.
+fn check_others(rt: &impl Abort, alloc: Global, len: usize, part: &[usize], rows: &[&[usize]]) {
+    let table = table_of(rt, alloc, len, rows);
+    let part = row_of(alloc, len, part).expect(rt, "a row");
     assert!(rt; part.len() == table.row_len());
     for (i, j, is_found) in OTHERS {
-        assert!(rt; table.other_contains(part, *i, *j) == *is_found);
+        assert!(rt; table.other_contains(&part, *i, *j) == *is_found);
     }
 }
 
+// Words and lanes end at 64 and at 256; 0, 64 and 256 are alike modulo 64, and 5 is not.
 #[test]
 fn looks_for_another_row(rt: HostRuntime) {
-    let table = table_of(&rt, rt.alloc(), &[&[64, 299], &[5, 299], &[64, 299]]);
-    let part = row_of(rt.alloc(), 300, &[64]).expect(&rt, "a row");
-    check_others(&rt, &table, &part);
+    check_others(&rt, rt.alloc(), 8, &[6], &[&[6, 7], &[5, 7], &[6, 7]]);
+    check_others(&rt, rt.alloc(), 64, &[63], &[&[0, 63], &[0, 62], &[0, 63]]);
+    check_others(&rt, rt.alloc(), 65, &[64], &[&[1, 64], &[0, 1], &[1, 64]]);
+    check_others(
+        &rt,
+        rt.alloc(),
+        300,
+        &[64],
+        &[&[64, 299], &[5, 299], &[64, 299]],
+    );
+    check_others(
+        &rt,
+        rt.alloc(),
+        300,
+        &[256],
+        &[&[256, 299], &[0, 64, 299], &[256, 299]],
+    );
+}
+
+// Of two rows that have nothing in common, the members may be alike modulo 64.
+#[test]
+fn counts_what_two_rows_have_in_common(rt: HostRuntime) {
+    let table = table_of(
+        &rt,
+        rt.alloc(),
+        300,
+        &[&[0, 5, 299], &[64, 69, 128], &[5, 64, 299]],
+    );
+    assert!(&rt; table.len() == 3);
+    assert!(&rt; table.common_count(0, 1) == 0);
+    assert!(&rt; table.common_count(1, 2) == 1);
+    assert!(&rt; table.common_count(2, 0) == 2);
 }

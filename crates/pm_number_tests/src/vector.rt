@@ -82,6 +82,9 @@ fn rows_compare(rt: HostRuntime) {
     }
 }
 
+// The greatest number below 2^63.
+const TOP: i128 = 9223372036854775807;
+
 const COMBINATIONS: &[(i128, &[i128], i128, &[i128], Result<&[i128], Wide>)] = &[
     (2, &[1, -2], 3, &[4, 5], Ok(&[-10, -19])),
     (1, &[HIGH, 0], 0, &[7, 7], Ok(&[HIGH, 0])),
@@ -91,6 +94,28 @@ const COMBINATIONS: &[(i128, &[i128], i128, &[i128], Result<&[i128], Wide>)] = &
     (-1, &[0, HIGH], 0, &[0, 1], Ok(&[0, -HIGH])),
     (2, &[HIGH, 0], 1, &[HIGH, 0], Err(Wide)),
     (1, &[5, 3], 2, &[1, HIGH], Err(Wide)),
+    (
+        TOP,
+        &[TOP, 0],
+        TOP,
+        &[-TOP, 1],
+        Ok(&[170141183460469231694793815568465002498, -TOP]),
+    ),
+    (
+        TOP,
+        &[-TOP, 0],
+        TOP,
+        &[TOP, 1],
+        Ok(&[-170141183460469231694793815568465002498, -TOP]),
+    ),
+    (
+        TOP + 1,
+        &[TOP + 1, 1],
+        1,
+        &[0, 1],
+        Ok(&[85070591730234615865843651857942052864, TOP]),
+    ),
+    (TOP + 1, &[TOP + 1, 1], TOP + 1, &[-TOP - 1, 1], Err(Wide)),
 ];
 
 /// Whether p v - q w, where v and w have these entries, is the row that is wanted; a refusal leaves v.
@@ -138,6 +163,7 @@ const PRIMITIVE_ROWS: &[(&[i128], &[i128])] = &[
     (&[0, 0, 0], &[0, 0, 0]),
     (&[-5, 0, 0], &[-1, 0, 0]),
     (&[6, 10, 15], &[6, 10, 15]),
+    (&[6, 3, 2, 4, 8], &[6, 3, 2, 4, 8]),
     (&[-HIGH, HIGH, 0], &[-1, 1, 0]),
 ];
 

@@ -288,13 +288,13 @@ impl StandardClient {
             Self::ThinInequalitiesLp =>
                 rule!("thin_inequalities_lp": Facets, AffineHull from Inequalities, Equations; 60, unbuilt),
             Self::ThinPointsF =>
-                rule!("thin_points_f": Vertices, LinealitySpace from Points, InputLineality, Facets, AffineHull; 10, unbuilt),
+                rule!("thin_points_f": Vertices, LinealitySpace from Points, InputLineality, Facets, AffineHull; 10, built),
             Self::ThinInequalitiesV =>
-                rule!("thin_inequalities_v": Facets, AffineHull from Inequalities, Equations, Vertices, LinealitySpace; 10, unbuilt),
+                rule!("thin_inequalities_v": Facets, AffineHull from Inequalities, Equations, Vertices, LinealitySpace; 10, built),
             Self::VerticesFromSets =>
-                rule!("vertices_from_sets": Vertices from Facets, AffineHull, VerticesInFacets; 20, unbuilt),
+                rule!("vertices_from_sets": Vertices from Facets, AffineHull, VerticesInFacets; 20, built),
             Self::FacetsFromSets =>
-                rule!("facets_from_sets": Facets from Vertices, LinealitySpace, VerticesInFacets; 20, unbuilt),
+                rule!("facets_from_sets": Facets from Vertices, LinealitySpace, VerticesInFacets; 20, built),
             Self::PointsFromVertices =>
                 rule!("points_from_vertices": Points, InputLineality from Vertices, LinealitySpace; 5, built),
             Self::InequalitiesFromFacets =>

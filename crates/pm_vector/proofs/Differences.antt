@@ -3,12 +3,13 @@ use Rattle.pm_algebra.proofs.Ring.{ring}
 use Rattle.pm_algebra.proofs.RowLaws.{entry-difference, length-difference, row_equal}
 use Rattle.pm_algebra.specs.Numbers.{InRange}
 use Rattle.pm_algebra.specs.Rows.{Row, difference, entry}
-use Rattle.pm_vector.specs.Differences.{DifferenceStays, EntryStays}
-use Rattle.std.proofs.Common.{arith, below_more, inl, inr, length, set, sym, ◌+◌, ◌<◌, ◌≡◌, ◌≢◌, ◌≤◌, ◌∙◌, ℕ, get_or-set_same, get_or-set_other}
+use Rattle.pm_vector.specs.Differences.{DifferenceStays, EntryStays, IsSmall}
+use Rattle.std.proofs.Common.{arith, below_more, inl, inr, length, set, sym, ◌+◌, ◌-◌, ◌*◌, ◌^◌, ◌<◌, ◌≡◌, ◌≢◌, ◌≤◌, ◌∙◌, ℕ, get_or-set_same, get_or-set_other}
 use Rattle.std.proofs.lemmas.Bool.{cases_lt}
-use Rattle.std.proofs.lemmas.Int.{ints}
+use Rattle.std.proofs.Math.Nat.{mul-le-mul}
+use Rattle.std.proofs.lemmas.Int.{ints, unsigned_abs-mul}
 use Rattle.std.proofs.lemmas.List.{get_or_default, get_or_past}
-use Rattle.std.specs.Prelude.{All}
+use Rattle.std.specs.Prelude.{All, unsigned_abs}
 use lib.IntN.{pos, ℤ, ◌*ℤ◌, ◌-ℤ◌}
 
 -- the first n entries stay in the range
@@ -73,3 +74,25 @@ module _ (p : ℤ) (v : Row) (q : ℤ) (w : Row) where
   All-written n new all_new s stays k d below =
       let e = s.written k (omega arith) in
       rw (get_or_default new k d (pos 0) below, e) (stays.at_each k).difference
+
+-- ---- small numbers
+small_product : (a b : ℤ) → IsSmall a → IsSmall b → unsigned_abs (a *ℤ b) ≤ (2 ^ 63 - 1) * (2 ^ 63 - 1)
+small_product a b small_a small_b = rw unsigned_abs-mul (mul-le-mul {n₁ = unsigned_abs a} {m₁ = unsigned_abs b} {n₂ = 2 ^ 63 - 1} {m₂ = 2 ^ 63 - 1} (omega arith) (omega arith))
+
+pub small_in_range : (a b : ℤ) → IsSmall a → IsSmall b → InRange (a *ℤ b)
+small_in_range a b small_a small_b = let e = small_product a b small_a small_b in omega (arith, ints)
+
+small_entry : (p x q y : ℤ) → IsSmall p → IsSmall x → IsSmall q → IsSmall y → EntryStays p x q y
+small_entry p x q y sp sx sq sy =
+    let a = small_product p x sp sx in
+    let b = small_product q y sq sy in
+    record { first = omega (arith, ints); second = omega (arith, ints); difference = omega (arith, ints) }
+
+small_at : (v : Row) → All IsSmall v → (i : ℕ) → IsSmall (entry v i)
+small_at v all i = elim (cases_lt i (length v)) [
+  | inl within ↦ all i (pos 0) within
+  | inr past ↦ rw get_or_past (omega arith)
+]
+
+pub small_stays : (p : ℤ) (v : Row) (q : ℤ) (w : Row) → IsSmall p → IsSmall q → All IsSmall v → All IsSmall w → DifferenceStays p v q w
+small_stays p v q w sp sq sv sw = record { at_each = λ i. small_entry p (entry v i) q (entry w i) sp (small_at v sv i) sq (small_at w sw i) }

@@ -7,10 +7,11 @@ use Rattle.pm_algebra.specs.Numbers.{InRange}
 use Rattle.pm_algebra.specs.Rows.{Row, entry, times}
 use Rattle.pm_vector.specs.Quotients.{IsQuotientByGcd}
 use Rattle.std.proofs.Common.{add-one, ap, arith, drop, get_or, inl, inr, length, map, refl, set, suc, sym, take, to_z, zero, ◌++◌, ◌+◌, ◌<◌, ◌^◌, ◌≡◌, ◌≤◌, ℕ}
-use Rattle.std.proofs.Math.Nat.{div-le_self}
+use Rattle.std.proofs.Math.Nat.{div-le_self, one-dvd}
 use Rattle.std.proofs.lemmas.Bool.{cases_eq, cases_lt}
 use Rattle.std.proofs.lemmas.Int.{to_z_pos}
-use Rattle.std.proofs.lemmas.List.{get_or-map, get_or_past, length-map}
+use Rattle.std.proofs.lemmas.List.{get_or-map, get_or-take, get_or_past, length-map, length-take}
+use Rattle.std.proofs.lemmas.Nat.Gcd.{dvd-zero, dvd_trans}
 use Rattle.std.specs.Int.{w128}
 use Rattle.std.specs.Prelude.{All, [], int_div, unsigned_abs, ◌∷◌}
 use lib.IntN.{neg_ℤ, negsuc, pos, ℤ}
@@ -34,6 +35,18 @@ abs-neg (suc n) = refl
 abs-quotient : (z : ℤ) (g : ℕ) → unsigned_abs (int_div z (pos g)) ≤ unsigned_abs z
 abs-quotient (pos n) g = div-le_self n g
 abs-quotient (negsuc n) g = rw abs-neg (div-le_self (suc n) g)
+
+-- where only 1 divides the first entries, only 1 divides all
+pub IsGcdOf-one : (x : Row) (n : ℕ) → IsGcdOf (take n x) 1 → IsGcdOf x 1
+IsGcdOf-one x n h = record {
+  divides = λ d. (
+    λ one i. dvd_trans d one (one-dvd (unsigned_abs (entry x i))),
+    λ all. (h.divides d).1 (λ i. elim (cases_lt i n) [
+      | inl below ↦ rw (get_or-take n x i (pos 0) below) (all i)
+      | inr past ↦ rw (get_or_past (take n x) i (pos 0) (omega (arith, length-take n x))) (dvd-zero d)
+    ]),
+  );
+}
 
 -- ---- the whole row
 module _ (x : Row) (g : ℕ) (h : IsGcdOf x g) where

@@ -1,8 +1,12 @@
 -- When the combination of two rows stays within the range of the program's numbers.
 use Rattle.pm_algebra.specs.Numbers.{InRange}
 use Rattle.pm_algebra.specs.Rows.{Row, entry}
-use Rattle.std.specs.Prelude.{length, ℕ, ◌<◌}
+use Rattle.std.specs.Prelude.{length, unsigned_abs, ℕ, ◌<◌, ◌^◌}
 use lib.IntN.{ℤ, ◌*ℤ◌, ◌-ℤ◌}
+
+-- z is below 2^63 in absolute value
+abbrev pub IsSmall : ℤ → Type 0
+IsSmall z = unsigned_abs z < 2 ^ 63
 
 -- the products p x and q y and their difference are in the range
 pub record EntryStays (p x q y : ℤ) : Type 0 where

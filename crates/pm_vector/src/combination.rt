@@ -2,9 +2,10 @@
 
 ghost use Rattle.pm_algebra.specs.Numbers.{InRange};
 ghost use Rattle.pm_algebra.specs.Rows.{difference, entry, opposite};
-ghost use Rattle.pm_vector.specs.Differences.{DifferenceStays, EntryStays, IsFirstWide};
-ghost use Rattle.std.specs.Prelude.{All, IfNone, IfOk, IfSome, OnErr, OnOk, length, ◌*ℤ◌, ◌-ℤ◌, ◌<◌, ◌≡◌};
+ghost use Rattle.pm_vector.specs.Differences.{DifferenceStays, EntryStays, IsFirstWide, IsSmall};
+ghost use Rattle.std.specs.Prelude.{All, IfNone, IfOk, IfSome, IsTrue, OnErr, OnOk, length, ◌*ℤ◌, ◌-ℤ◌, ◌<◌, ◌≡◌, ◌↔◌};
 
+use crate::exact::is_small;
 use crate::{Wide, minus, times};
 
 /// p x - q y.
@@ -45,6 +46,28 @@ pub fn first_wide_place(p: i128, v: &[i128], q: i128, w: &[i128]) -> Option<usiz
     None
 }
 
+/// Whether each entry is small.
+fn all_small(entries: &[i128]) -> bool
+    ensures { IsTrue result ↔ All IsSmall entries.now }
+{
+    entries.iter().all(|x| is_small(*x))
+}
+
+/// Whether the factors and all entries are so small that p v - q w stays in the range.
+fn are_small(p: i128, v: &[i128], q: i128, w: &[i128]) -> bool
+    ensures { IsTrue result → DifferenceStays p v.now q w.now }
+{
+    is_small(p) && is_small(q) && all_small(v) && all_small(w)
+}
+
+/// Whether the products and the differences of p v - q w stay in the range.
+pub(crate) fn difference_stays(p: i128, v: &[i128], q: i128, w: &[i128]) -> bool
+    requires { length v.now ≡ length w.now }
+    ensures { IsTrue result ↔ DifferenceStays p v.now q w.now }
+{
+    are_small(p, v, q, w) || first_wide_place(p, v, q, w).is_none()
+}
+
 /// v becomes p v - q w.
 pub(crate) fn write_differences(p: i128, v: &mut [i128], q: i128, w: &[i128])
     requires same_length { length v.old ≡ length w.now }
@@ -53,10 +76,7 @@ pub(crate) fn write_differences(p: i128, v: &mut [i128], q: i128, w: &[i128])
     ensures in_range { All InRange v.new }
 {
     for i in 0..v.len() {
-        let Ok(entry) = difference_at(p, v, q, w, i) else {
-            unreachable!()
-        };
-        v[i] = entry;
+        v[i] = p * v[i] - q * w[i];
     }
 }
 

@@ -27,6 +27,9 @@ pub fn gcd_of(row: &[i128]) -> u128
     let mut divisor = 0u128;
     for i in 0..row.len() {
         divisor = gcd(divisor, row[i].unsigned_abs());
+        if divisor == 1 {
+            return 1;
+        }
     }
     divisor
 }

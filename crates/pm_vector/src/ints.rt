@@ -12,7 +12,7 @@ ghost use Rattle.std.specs.Ordering.{int_cmp, int_eq};
 ghost use Rattle.std.specs.Prelude.{All, IfOk, IsTrue, OnErr, OnOk, Some, [], length, ◌++◌, ◌<◌, ◌∷◌, ◌≡◌, ◌↔◌};
 
 use crate::Wide;
-use crate::combination::{first_wide_place, write_differences, write_opposite};
+use crate::combination::{difference_stays, write_differences, write_opposite};
 use crate::divisors::divide_by_gcd;
 use std::alloc::{AllocError, Global};
 use std::cmp::Ordering;
@@ -162,7 +162,7 @@ pub fn combine(p: i128, v: &mut Ints, q: i128, w: &Ints) -> Result<(), Wide>
     ensures wide { OnErr result (DifferenceStays p v.old q w.now → ⊥) }
     ensures unchanged { OnErr result (v.new ≡ v.old) }
 {
-    if first_wide_place(p, &v.entries, q, &w.entries).is_some() {
+    if !difference_stays(p, &v.entries, q, &w.entries) {
         return Err(Wide);
     }
     write_differences(p, &mut v.entries, q, &w.entries);

@@ -1,12 +1,25 @@
 use Rattle.pm_algebra.specs.Rows.{entry}
+use Rattle.pm_bits.proofs.Common.{has-met_row, length-met_row, member_count-met_row, met_row}
 use Rattle.pm_bits.specs.Sets.{has}
 use Rattle.pm_dd.proofs.Building.{and_same}
 use Rattle.pm_dd.proofs.pairs.pair_ray.Goals as goal
+use Rattle.pm_dd.specs.Tables.{zero_set}
 use Rattle.pm_geom.specs.Faces.{ray}
 use Rattle.std.specs.Int.{w128}
 use Rattle.std.proofs.lemmas.Int.{fits_signed_from_abs, to_z-of_z}
-use Rattle.std.proofs.Common.{FitsSigned, [], refl, ◌∙◌, ◌≡◌}
+use Rattle.std.proofs.Common.{FitsSigned, [], ap, arith, inl, length, refl, sym, ◌∙◌, ◌≡◌}
 use Rattle.std.proofs.lemmas.List.{get_or_read}
+
+pub returns-then-common_count-need-clause-none : goal.returns-then-common_count-need-clause-none
+returns-then-common_count-need-clause-none c =
+    let first = zero_set c.args.rays.now.zeros.rows c.args.i in
+    let second = zero_set c.args.rays.now.zeros.rows c.args.j in
+    record {
+      both = met_row first second;
+      cols = length-met_row first second ∙ ap length (sym c.row-first.ensures.value) ∙ c.row-first.ensures.len;
+      meet = has-met_row first second;
+      dropped = inl (let e = member_count-met_row first second in let f = c.common_count.ensures in let t = c.if-common_count-need.true in omega arith);
+    }
 
 pub returns-clause-some : goal.returns-clause-some
 returns-clause-some c =
@@ -17,7 +30,7 @@ returns-clause-some c =
     record {
       both = c.meet_into.new.out;
       cols = c.meet_into.ensures.len ∙ c.requires.both;
-      meet = rw (c.row.ensures.value, c.row-2.ensures.value) at c.meet_into.ensures.members;
+      meet = rw (c.row-first.ensures.value, c.row-second.ensures.value) at c.meet_into.ensures.members;
       alone = λ o. let t = c.other_contains.ensures.1 o in let f = c.if-other_contains.false in cc;
       combination = rw (first, second, to_z-of_z w128 (entry c.args.values.now c.args.i) fit_i, to_z-of_z w128 (entry c.args.values.now c.args.j) fit_j) at c.in-Ok.ensures.combination;
       zeros = record {
@@ -37,7 +50,7 @@ returns-in-Err-Column-clause-wide c =
       refl,
       record {
         both = c.meet_into.new.out;
-        meet = rw (c.row.ensures.value, c.row-2.ensures.value) at c.meet_into.ensures.members;
+        meet = rw (c.row-first.ensures.value, c.row-second.ensures.value) at c.meet_into.ensures.members;
         alone = λ o. let t = c.other_contains.ensures.1 o in let f = c.if-other_contains.false in cc;
         wide = rw c.in-Err-Column.column-is (rw (c.in-Err-Column.field-0-is, first, second, to_z-of_z w128 (entry c.args.values.now c.args.i) fit_i, to_z-of_z w128 (entry c.args.values.now c.args.j) fit_j) at c.in-Err-Column.ensures.wide);
       },

@@ -1,10 +1,13 @@
 use Rattle.pm_algebra.specs.Rows.{dot, entry}
 use Rattle.pm_bases.specs.Bases.{row_at}
-use Rattle.pm_dd.proofs.Building.{built_form, built_many, built_table, no_pair, pair_made, pairs_all, pairs_first, pairs_skip_row, ray_cols}
+use Rattle.pm_dd.proofs.Building.{built_form, built_many, built_table, no_pair, pair_made, pairs_all, pairs_first, pairs_none_row, pairs_skip_row, ray_cols}
+use Rattle.pm_bits.specs.Sets.{common_count}
+use Rattle.pm_dd.proofs.FarRays.{far_ahead, far_behind}
 use Rattle.pm_dd.proofs.Negatives.{row_end, row_more, row_next, row_skip, row_start}
 use Rattle.pm_dd.proofs.StepFails.{pair_fail}
 use Rattle.pm_dd.proofs.pairs.paired_rays.Goals as goal
-use Rattle.pm_dd.specs.Building.{IsNoPair, IsPairRay, SeenPairs}
+use Rattle.pm_dd.specs.Building.{IsNoPair, IsPairRay, IsPassed, SeenPairs}
+use Rattle.pm_dd.specs.Tables.{zero_set}
 use Rattle.pm_geom.specs.Faces.{ray}
 use Rattle.std.proofs.Common.{arith, drop, length, sym, ◌+◌, ◌-◌, ◌<◌, ◌≡◌, ◌≤◌, ◌∙◌}
 use Rattle.std.proofs.lemmas.Int.{ints}
@@ -25,6 +28,19 @@ loop-i-preserved-then-values-i-le0 c =
       row_len = c.loop-i.invariant.row_len;
       few = c.loop-i.invariant.few;
       built = pairs_skip_row c.args.cols c.args.equations.now c.args.rows.now c.args.front c.args.rays.now.rows.items c.loop-i.i c.loop-i.next.items c.loop-i.zeros.rows c.loop-i.invariant.built low;
+    }
+
+pub loop-i-preserved-then-common_count_with-need : goal.loop-i-preserved-then-common_count_with-need
+loop-i-preserved-then-common_count_with-need c =
+    let n = c.common_count_with.ensures in
+    let t = c.if-common_count_with-need.true in
+    let few : common_count (zero_set c.args.rays.now.zeros.rows c.loop-i.i) c.in_ok-unions.unions.behind < c.needed-need.result = omega arith in
+    record {
+      both_len = c.loop-i.invariant.both_len;
+      row_len = c.loop-i.invariant.row_len;
+      few = c.loop-i.invariant.few;
+      built = pairs_none_row c.args.cols c.args.equations.now c.args.rows.now c.args.front c.args.rays.now.rows.items c.loop-i.i c.loop-i.next.items c.loop-i.zeros.rows c.loop-i.invariant.built
+          (far_ahead c.args.cols c.args.equations.now c.args.rows.now c.args.front c.args.rays.now.rows.items c.args.rays.now.zeros c.requires.table c.requires.equation_cols c.requires.row_cols c.args.values.now c.requires.products c.args.rank c.requires.rank c.needed-need.result c.needed-need.ensures c.in_ok-unions.unions.behind c.in_ok-unions.ensures.behind c.loop-i.i few);
     }
 
 pub pair_ray-requires-clause-second : goal.pair_ray-requires-clause-second
@@ -57,7 +73,9 @@ loop-k-init c = record {
   both_len = c.loop-i.invariant.both_len;
   row_len = c.loop-i.invariant.row_len;
   few = c.loop-i.invariant.few;
-  built = row_start c.args.cols c.args.equations.now c.args.rows.now c.args.front c.args.rays.now.rows.items c.args.values.now c.requires.products c.loop-i.i c.in_ok-negatives.negatives.items c.loop-i.next.items c.loop-i.zeros.rows c.in_ok-negatives.ensures c.loop-i.invariant.built;
+  built = row_start c.args.cols c.args.equations.now c.args.rows.now c.args.front c.args.rays.now.rows.items c.args.values.now c.requires.products c.loop-i.i (IsPassed c.args.rays.now.zeros c.args.values.now c.in_ok-unions.unions.ahead c.needed-need.result)
+      (far_behind c.args.cols c.args.equations.now c.args.rows.now c.args.front c.args.rays.now.rows.items c.args.rays.now.zeros c.requires.table c.requires.equation_cols c.requires.row_cols c.args.values.now c.requires.products c.args.rank c.requires.rank c.needed-need.result c.needed-need.ensures c.in_ok-unions.unions.ahead c.in_ok-unions.ensures.ahead)
+      c.in_ok-negatives.negatives.items c.loop-i.next.items c.loop-i.zeros.rows c.in_ok-negatives.ensures c.loop-i.invariant.built;
 }
 
 pub loop-k-preserved-in-None : goal.loop-k-preserved-in-None

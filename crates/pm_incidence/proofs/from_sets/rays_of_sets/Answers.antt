@@ -1,4 +1,5 @@
 use Rattle.pm_incidence.proofs.Determined.{columns_below, found_canonical, found_length}
+use Rattle.pm_incidence.proofs.DeterminedRows.{found_determined}
 use Rattle.pm_incidence.proofs.SetRows.{fail_more, listed_set, pivots_few, sets_next}
 use Rattle.pm_incidence.proofs.from_sets.rays_of_sets.Goals as goal
 use Rattle.std.proofs.Common.{map, refl, take, ◌++◌, ◌∙◌}
@@ -48,3 +49,9 @@ returns-clause-rays c V o i =
 
 pub returns-clause-null : goal.returns-clause-null
 returns-clause-null c = let b = c.in_ok-pivots.ensures.pivots in (b.0, c.in_ok-pivots.pivots.items, b.1)
+
+pub returns-clause-determined : goal.returns-clause-determined
+returns-clause-determined c =
+    let b = c.in_ok-pivots.ensures.pivots in
+    let found = rw (take_all c.loop-set.set-index c.args.sets.now c.loop-set-test.false) at c.loop-set.invariant.1 in
+    found_determined c.args.cols c.args.equations.now c.args.cuts.now b.0 c.in_ok-pivots.pivots.items b.1 (map (λ r. r.items) c.args.sets.now) c.loop-set.rows.items found

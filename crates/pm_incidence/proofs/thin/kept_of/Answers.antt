@@ -4,7 +4,7 @@ use Rattle.pm_elim.specs.declared.evidence.ElimFail.TheVariants as elimination
 use Rattle.pm_elim.specs.EliminationSteps.{EliminationStep}
 use Rattle.pm_elim.specs.Evidence.{IfWide, IsEvidence}
 use Rattle.pm_incidence.proofs.Groups.{group_cols, group_few, group_is, wide_group}
-use Rattle.pm_incidence.proofs.ThinFails.{thin_of_elimination}
+use Rattle.pm_incidence.proofs.ThinFails.{ranged_elimination, thin_of_elimination}
 use Rattle.pm_incidence.proofs.thin.kept_of.Goals as goal
 use Rattle.pm_incidence.specs.Thinning.{AreKept, MarkFull}
 use Rattle.std.proofs.lemmas.Result.{err_from_is_err_and}
@@ -39,3 +39,8 @@ returns-in_err-basis-clause-failed c =
 
 pub returns-clause-few : goal.returns-clause-few
 returns-clause-few c = let f = c.in_ok-places.ensures.few in let e = c.in_ok-zeros.ensures.zeros.as_many in omega arith
+
+pub returns-in_err-basis-clause-ranged : goal.returns-in_err-basis-clause-ranged
+returns-in_err-basis-clause-ranged c =
+    let p = err_from_is_err_and c.from_residual-in_err-basis.result c.from_residual-in_err-basis.ensures.1 in
+    rw (p.1, p.2) (ranged_elimination c.in_err-basis.field-0.0)

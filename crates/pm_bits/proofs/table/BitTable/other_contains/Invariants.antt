@@ -1,6 +1,0 @@
-use Rattle.std.proofs.Common.{◌≢◌, ℕ, ◌<◌, [], get_or}
-use Rattle.pm_bits.specs.Sets.{IsSubset}
-use Rattle.pm_bits.proofs.table.BitTable.other_contains.Given as goal
-
-abbrev pub invariant-loop-k : goal.invariant-loop-k
-invariant-loop-k l = (m : ℕ) → m < l.k → m ≢ l.i → m ≢ l.j → IsSubset l.s (get_or l.row-items m []) → ⊥
