@@ -12,3 +12,4 @@ pub mod PlainValues
 pub mod Machine
 pub mod FreshOrders
 pub mod Examples
+mod ThinningExamples

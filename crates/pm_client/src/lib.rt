@@ -1,7 +1,7 @@
 //! Clients, which answer properties of an object from others, and running the first client of a kind.
 #![tactic(auto)]
 
-ghost use Rattle.pm_client.specs.Examples.{DoublesAreRead, RowListsAreRead, StartsAreRead};
+ghost use Rattle.pm_client.specs.Examples.{DoublesAreRead, RowListsAreRead, StartsAreRead, ThinningIsRead};
 ghost use Rattle.pm_client.specs.Sound.{FailsRightly, IsSound};
 ghost use Rattle.pm_client.specs.Starts.{started_once};
 ghost use Rattle.std.specs.Prelude.{IfErr, OnOk, [], ℕ, ◌≡◌};
@@ -147,4 +147,9 @@ pub fn example_row_lists()
 /// The definitions of what is eliminated read on a view without rows.
 pub fn example_doubles()
     ensures { DoublesAreRead }
+{}
+
+/// The definitions of thinning and of rows from sets read on a view without rows.
+pub fn example_thinning()
+    ensures { ThinningIsRead }
 {}

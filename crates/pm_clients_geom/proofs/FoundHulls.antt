@@ -89,7 +89,7 @@ pub parts_of_generators : (v : ViewSeen) (first second : PropId) (L G : List Row
 parts_of_generators v first second L G parts gen read =
     subst (AreParts v L) (append-nil G) (subst (λ z. AreParts v L (G ++ z)) (none_added v.of v.cols first second parts gen) (parts_read v first second L G parts read))
 
-no_facet_added : (of : ObjectType) (n : ℕ) → added_rows of n Facets ≡ []
+pub no_facet_added : (of : ObjectType) (n : ℕ) → added_rows of n Facets ≡ []
 no_facet_added Polytope n = refl
 no_facet_added Cone n = refl
 no_facet_added Fan n = refl

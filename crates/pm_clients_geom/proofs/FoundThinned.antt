@@ -6,7 +6,7 @@ use Rattle.pm_algebra.specs.Rows.{HasCols, Row, entry}
 use Rattle.pm_client.proofs.Puts.{IsPut, sound_one}
 use Rattle.pm_client.proofs.ReadValues.{read_right}
 use Rattle.pm_client.proofs.ViewLaws.{has_listed}
-use Rattle.pm_client.specs.Sound.{AreRowsOf, IsSound}
+use Rattle.pm_client.specs.Sound.{AreRowsOf, AreSetsOf, IsSound, added_rows}
 use Rattle.pm_clients_geom.proofs.FoundHulls.{by_facets, facets_forms, first_of, generated, primitive_some, rows_pair, vertices_forms}
 use Rattle.pm_clients_geom.proofs.PutMatrices.{put_states, ratios_columned}
 use Rattle.pm_clients_geom.proofs.PutRays.{ray_rows}
@@ -20,7 +20,7 @@ use Rattle.pm_elim.specs.NullSpaces.{IsNullBasis}
 use Rattle.pm_geom.specs.Cones.{IsOrder, IsValid}
 use Rattle.pm_geom.specs.Generators.{AreGenerators}
 use Rattle.pm_geom.specs.Things.{Orders}
-use Rattle.pm_incidence.specs.FromSets.{AreCanonicalFor}
+use Rattle.pm_incidence.specs.FromSets.{AreCanonicalFor, turned}
 use Rattle.pm_matrix.specs.Matrices.{FractionMatrix}
 use Rattle.pm_object.specs.Reading.{DraftSeen, IsView, ViewSeen, fact_of}
 use Rattle.pm_props.specs.Kinds.{IsFresh}
@@ -28,20 +28,24 @@ use Rattle.pm_props.specs.Places.{place_of}
 use Rattle.pm_props.specs.Properties.{facets_tag, rays_tag}
 use Rattle.pm_props.specs.Sets.{has, set_of}
 use Rattle.pm_props.specs.declared.object_type.ObjectType.TheVariants.{Cone, Fan, Polytope}
+use Rattle.pm_props.specs.declared.object_type.ObjectType.{ObjectType}
 use Rattle.pm_props.specs.declared.property.PropId.TheVariants.{AffineHull, Equations, Facets, Inequalities, InputLineality, LinealitySpace, Points, Vertices, VerticesInFacets}
 use Rattle.pm_props.specs.declared.property.PropId.{PropId}
 use Rattle.pm_relations.proofs.FromSets.{ArePlaced, facets_order, placed_facets, placed_inside, placed_rays, rays_order, sets_of_facets, sets_of_rays}
 use Rattle.pm_relations.proofs.PrimitiveStanding.{hull_primitive, lineality_primitive, primitive_stand}
 use Rattle.pm_relations.proofs.Thinning.{cuts_cone, rows_cut}
 use Rattle.pm_types.specs.Canonical.{EachIs, IsCanonical, IsRayRow}
+use Rattle.pm_types.specs.Forms.{FormsIn, are_indices}
 use Rattle.pm_types.specs.Right.{CutsOutOf, InSet, IsIncidence, Right, RightAll, StandFor, objective_of}
 use Rattle.pm_types.specs.Things.{Thing}
 use Rattle.pm_types.specs.Values.{IndexSets, matrix, sets}
 use Rattle.pm_types.specs.Views.{ratios}
-use Rattle.std.proofs.Common.{ap, inl, inr, lit≤, refl, subst, sym, true, true≢false, ◌∙◌}
+use Rattle.std.proofs.Common.{ap, arith, inl, inr, lit≤, refl, subst, suc, sym, true, true≢false, ◌∙◌}
+use Rattle.std.proofs.lemmas.Bool.{and_parts, leb-true, ltb-true}
+use Rattle.std.proofs.lemmas.List.Elements.{All-cons, All-nil}
 use Rattle.std.proofs.lemmas.List.{append-nil}
-use Rattle.std.specs.List.{All}
-use Rattle.std.specs.Prelude.{IsTrue, List, Some, [], length, map, ℕ, ◌++◌, ◌↔◌, ◌∷◌, ◌≡◌, ◌≤◌}
+use Rattle.std.specs.List.{All, list_all}
+use Rattle.std.specs.Prelude.{IsTrue, List, Some, [], length, map, nat_le, nat_lt, ℕ, ◌&&◌, ◌+◌, ◌++◌, ◌<◌, ◌^◌, ◌↔◌, ◌∷◌, ◌≡◌, ◌≤◌}
 use lib.IntN.{pos}
 use lib.Signed.{◌≤ℤ◌}
 
@@ -51,6 +55,54 @@ first_rows_of read = record { cols = read.first_cols; rows = read.first_rows; re
 
 pub second_rows_of : {v : ViewSeen} {first second : PropId} {L G : List Row} → ReadsParts v first second L G → AreRowsOf v second G
 second_rows_of read = record { cols = read.second_cols; rows = read.second_rows; reads = read.reads_second; primitive = read.second_primitive }
+
+-- sets are of few places
+places_few : (n low : ℕ) (set : List ℕ) → are_indices n low set ≡ true → low ≤ n → length set + low ≤ n
+places_few n low [] h l = l
+places_few n low (j ∷ set) h l =
+    let p = and_parts (nat_le low j && nat_lt j n) (are_indices n (suc j) set) h in
+    let q = and_parts (nat_le low j) (nat_lt j n) p.0 in
+    let a = leb-true low j q.0 in
+    let b = ltb-true j n q.1 in
+    let m = places_few n (suc j) set p.1 (omega arith) in
+    omega arith
+
+each_few : (n : ℕ) (rows : List (List ℕ)) → n ≤ 2048 → list_all (are_indices n 0) rows ≡ true → All (λ set. length set < 2 ^ 28) rows
+each_few n [] l h = All-nil (λ (set : List ℕ). length set < 2 ^ 28)
+each_few n (set ∷ rows) l h =
+    let p = and_parts (are_indices n 0 set) (list_all (are_indices n 0) rows) h in
+    All-cons (λ (s : List ℕ). length s < 2 ^ 28) set rows (let f = places_few n 0 set p.0 (omega arith) in omega arith) (each_few n rows l p.1)
+
+module _ (of : ObjectType) (n : ℕ) (s : IndexSets) (forms : FormsIn of n VerticesInFacets (sets s.rows s.cols)) where
+  form_parts : (nat_le (length s.rows) 2048 && nat_le s.cols 2048 ≡ true) × (list_all (are_indices s.cols 0) s.rows ≡ true)
+  form_parts = and_parts (nat_le (length s.rows) 2048 && nat_le s.cols 2048) (list_all (are_indices s.cols 0) s.rows) forms.formed
+
+  pub sets_few : length s.rows ≤ 2048
+  sets_few = leb-true (length s.rows) 2048 (and_parts (nat_le (length s.rows) 2048) (nat_le s.cols 2048) form_parts.0).0
+
+  pub columns_few : s.cols ≤ 2048
+  columns_few = leb-true s.cols 2048 (and_parts (nat_le (length s.rows) 2048) (nat_le s.cols 2048) form_parts.0).1
+
+  pub all_few : All (λ set. length set < 2 ^ 28) s.rows
+  all_few = each_few s.cols s.rows columns_few form_parts.1
+
+-- ---- the evidence names sets that were read
+pub ray_sets : {v : ViewSeen} {E A : List Row} (s : IndexSets) → ReadsParts v AffineHull Facets E A → fact_of VerticesInFacets v.facts ≡ Some (sets s.rows s.cols) → AreSetsOf v AffineHull Facets E A (turned s)
+ray_sets s read reads = record { parts = refl; equations = first_rows_of read; inequalities = second_rows_of read; index = s; reads = reads; turned = refl }
+
+pub facet_sets : {v : ViewSeen} {L G : List Row} (s : IndexSets) → ReadsParts v LinealitySpace Vertices L G → fact_of VerticesInFacets v.facts ≡ Some (sets s.rows s.cols) → AreSetsOf v LinealitySpace Vertices L G s.rows
+facet_sets s read reads = record { parts = refl; equations = first_rows_of read; inequalities = second_rows_of read; index = s; reads = reads; turned = refl }
+
+-- ---- nothing is added to these
+pub no_point_added : (of : ObjectType) (n : ℕ) → added_rows of n Points ≡ []
+no_point_added Polytope n = refl
+no_point_added Cone n = refl
+no_point_added Fan n = refl
+
+pub no_vertex_added : (of : ObjectType) (n : ℕ) → added_rows of n Vertices ≡ []
+no_vertex_added Polytope n = refl
+no_vertex_added Cone n = refl
+no_vertex_added Fan n = refl
 
 -- ---- thinning
 -- what is thinned from POINTS generates whatever thing what was read is right for
@@ -71,6 +123,14 @@ inequalities_found v no_fan E A L G F H halves rays thinned t o of cols right =
     (primitive_stand halves.second_rows A halves.second_primitive) (primitive_stand halves.first_rows E halves.first_primitive) G L same in
     (thinned (subst (λ k. CutsOutOf k v.cols (InCone G L) A E) of (subst (λ n. CutsOutOf t.of n (InCone G L) A E) cols cut)), same)
 
+-- facet rows, or none in their place, are few
+pub possible_few : (v : ViewSeen) (F' F : List Row) → AreFewRows v.cols F' → ArePossibleFacets F' F → AreFewRows v.cols F
+possible_few v F' F few possible = elim possible.either [ inl e ↦ subst (AreFewRows v.cols) (sym e) few | inr e ↦ subst (AreFewRows v.cols) (sym e) (record { cols = tt; few = lit≤ tt }) ]
+
+-- so are rays
+pub possible_rays_few : (v : ViewSeen) (V' V : List Row) → AreFewRows v.cols V' → ArePossibleRays v.of V' V → AreFewRows v.cols V
+possible_rays_few v V' V few possible = elim possible.either [ inl e ↦ subst (AreFewRows v.cols) (sym e) few | inr e ↦ subst (AreFewRows v.cols) (sym e) (record { cols = tt; few = lit≤ tt }) ]
+
 -- ---- VERTICES from sets
 module _ (v : ViewSeen) (view : IsView v) (no_fan : ¬ (v.of ≡ Fan)) (targets : v.kind.targets ≡ set_of (Vertices ∷ [])) (sources : IsTrue (has v.kind.sources VerticesInFacets)) (E A : List Row) (halves : ReadsParts v AffineHull Facets E A)
     (index : IndexSets) (reads : fact_of VerticesInFacets v.facts ≡ Some (sets index.rows index.cols)) (U' N : List Row) (P : List ℕ) (null : IsNullBasis v.cols (E ++ A) N P) (few : AreFewRows v.cols U')
@@ -79,7 +139,7 @@ module _ (v : ViewSeen) (view : IsView v) (no_fan : ¬ (v.of ≡ Fan)) (targets 
   no_choice fresh = true≢false (fresh.sources VerticesInFacets sources)
 
   few_put : AreFewRows v.cols U
-  few_put = elim possible.either [ inl e ↦ subst (AreFewRows v.cols) (sym e) few | inr e ↦ subst (AreFewRows v.cols) (sym e) (record { cols = tt; few = lit≤ tt }) ]
+  few_put = possible_rays_few v U' U few possible
 
   module _ (t : Thing) (o : Orders) (of : t.of ≡ v.of) (cols : t.cols ≡ v.cols) (right : RightAll v.facts t o) where
     not_fan : ¬ (t.of ≡ Fan)
@@ -131,7 +191,7 @@ module _ (v : ViewSeen) (view : IsView v) (no_fan : ¬ (v.of ≡ Fan)) (targets 
   no_facet_choice fresh = true≢false (fresh.sources VerticesInFacets sources)
 
   few_facets : AreFewRows v.cols U
-  few_facets = elim possible.either [ inl e ↦ subst (AreFewRows v.cols) (sym e) few | inr e ↦ subst (AreFewRows v.cols) (sym e) (record { cols = tt; few = lit≤ tt }) ]
+  few_facets = possible_few v U' U few possible
 
   facets_follow : (t : Thing) (o : Orders) → t.of ≡ v.of → t.cols ≡ v.cols → RightAll v.facts t o
       → Right Facets (matrix (cols_over v.cols (map ratios U)) (map ratios U)) t o (objective_of t (place_of v.sub Facets)) × IsCanonical v.kind Facets (matrix (cols_over v.cols (map ratios U)) (map ratios U)) t

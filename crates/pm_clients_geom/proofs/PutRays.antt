@@ -28,7 +28,7 @@ use Rattle.pm_types.specs.Views.{over_one, ratios}
 use Rattle.std.proofs.Common.{ap, arith, below_more, false, get_or, inl, inr, map, refl, subst, suc, sym, take, true, true≢false, zero, ◌∙◌}
 use Rattle.std.proofs.lemmas.Int.{ints, unsigned_abs-mul}
 use Rattle.std.proofs.lemmas.List.{get_or_append_left, get_or_default, get_or_push, length_push}
-use Rattle.std.proofs.lemmas.List.Elements.{All-from_recursion}
+use Rattle.std.proofs.lemmas.List.Elements.{All-cons, All-from_recursion, All-nil}
 use Rattle.std.proofs.lemmas.Nat.Gcd.{dvd_refl}
 use Rattle.std.specs.Int.{◌∣◌}
 use Rattle.std.specs.List.{All}
@@ -197,6 +197,15 @@ all_nought (pos zero ∷ x) h zero = refl
 all_nought (pos zero ∷ x) h (suc i) = all_nought x h i
 all_nought (pos (suc n) ∷ x) h i = absurd (true≢false (sym h))
 all_nought (negsuc n ∷ x) h i = absurd (true≢false (sym h))
+
+pub nought_zero : (x : Row) → All (λ k. k ≡ pos 0) x → (i : ℕ) → entry x i ≡ pos 0
+nought_zero [] h i = refl
+nought_zero (a ∷ x) h zero = h 0 a (omega arith)
+nought_zero (a ∷ x) h (suc i) = nought_zero x (λ j d l. h (suc j) d (omega arith)) i
+
+pub zero_nought : (x : Row) → ((i : ℕ) → entry x i ≡ pos 0) → All (λ k. k ≡ pos 0) x
+zero_nought [] z = All-nil (λ (k : ℤ). k ≡ pos 0)
+zero_nought (a ∷ x) z = All-cons (λ (k : ℤ). k ≡ pos 0) a x (z 0) (zero_nought x (λ i. z (suc i)))
 
 pub some_not_zero : (x : Row) → ¬ (IsZero x) → is_zero_row (ratios x) ≡ false
 some_not_zero x n = by (is_zero_row (ratios x)) refl

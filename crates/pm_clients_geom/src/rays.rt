@@ -15,11 +15,18 @@ use pm_types::ObjectType;
 use pm_vector::Ints;
 use std::alloc::Global;
 
+// Whether all numbers are 0.
+fn are_zero(numbers: &[i128]) -> bool
+    ensures { IsTrue result ↔ All (λ k. k ≡ pos 0) numbers.now }
+{
+    numbers.iter().all(|k| *k == 0)
+}
+
 // Whether all entries are 0.
 fn is_zero(row: &Ints) -> bool
     ensures { IsTrue result ↔ IsZero row.now }
 {
-    row.as_slice().iter().all(|entry| *entry == 0)
+    are_zero(row.as_slice())
 }
 
 /// Whether no row is zero.
