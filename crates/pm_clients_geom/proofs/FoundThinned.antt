@@ -58,7 +58,7 @@ second_rows_of read = record { cols = read.second_cols; rows = read.second_rows;
 
 -- sets are of few places
 places_few : (n low : ℕ) (set : List ℕ) → are_indices n low set ≡ true → low ≤ n → length set + low ≤ n
-places_few n low [] h l = l
+places_few n low [] h l = omega arith
 places_few n low (j ∷ set) h l =
     let p = and_parts (nat_le low j && nat_lt j n) (are_indices n (suc j) set) h in
     let q = and_parts (nat_le low j) (nat_lt j n) p.0 in
