@@ -12,4 +12,6 @@ mod matrix;
 #[cfg(test)]
 mod store;
 #[cfg(test)]
+mod store_files;
+#[cfg(test)]
 mod vector;

@@ -17,7 +17,8 @@ last_line bytes = record { bytes = bytes; ended = false }
 lines_of-break : (b : ℕ) (bytes : List ℕ) → b ≡ 10 → lines_of (b ∷ bytes) ≡ ended_line [] ∷ lines_of bytes
 lines_of-break b bytes e = cond-true (eqb b 10) (ended_line [] ∷ lines_of bytes) (onto_first b (lines_of bytes)) (eq-eqb b 10 e)
 
-lines_of-other : (b : ℕ) (bytes : List ℕ) → b ≢ 10 → lines_of (b ∷ bytes) ≡ onto_first b (lines_of bytes)
+-- a byte that is no LF stands before the first line
+pub lines_of-other : (b : ℕ) (bytes : List ℕ) → b ≢ 10 → lines_of (b ∷ bytes) ≡ onto_first b (lines_of bytes)
 lines_of-other b bytes n = cond-false (eqb b 10) (ended_line [] ∷ lines_of bytes) (onto_first b (lines_of bytes)) (ne_eqb b 10 n)
 
 NoBreak-rest : (n b : ℕ) (bytes : List ℕ) → NoBreak (suc n) (b ∷ bytes) → NoBreak n bytes

@@ -13,7 +13,7 @@ mod words;
 
 pub use command::{Command, LineFail, Ref, read_line};
 pub use examples::example_replies;
-pub use lines::{Line, is_silent, split_line};
+pub use lines::{Line, first_break, is_silent, split_line};
 pub use names::{Bar, Names};
 pub use refusal::{Refusal, ValueWhy};
 pub use reply::{Reply, reply_bytes};

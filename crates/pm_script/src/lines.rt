@@ -31,6 +31,13 @@ fn without_last_cr(bytes: &[u8]) -> &[u8]
 }
 
 impl<'a> Line<'a> {
+    /// The line of these bytes, and whether an LF ended it.
+    pub fn new(bytes: &'a [u8], ended: bool) -> Line<'a>
+        ensures { result ≡ record { bytes = bytes.entry.now; ended = ended } }
+    {
+        Line { bytes, ended }
+    }
+
     /// Whether the line has more than 1,048,576 bytes.
     pub fn is_too_long(&self) -> bool
         ensures { result ≡ is_too_long self.now }
@@ -51,7 +58,7 @@ impl<'a> Line<'a> {
 }
 
 /// The place of the first LF, or the length where there is none.
-fn first_break(bytes: &[u8]) -> usize
+pub fn first_break(bytes: &[u8]) -> usize
     ensures within { result ≤ length bytes.now }
     ensures before { (k : ℕ) → k < result → slice_index bytes.now k ≢ 10 }
     ensures found { result < length bytes.now → slice_index bytes.now result ≡ 10 }

@@ -1,8 +1,9 @@
-//! The outside: where a script comes from, and where its replies go.
+//! The outside: where a script comes from, where its replies go, and where files are kept.
 #![tactic(auto)]
 
 ghost use Rattle.std.specs.Prelude.{◌≡◌, ℕ, ◌+◌, ◌<◌, ◌≤◌, ◌^◌, List, Option, None, IfOk, OnErr, length, take};
 ghost use Rattle.pm_store.specs.Outside.{Rose, Stays, Moves, IsAtEnd, Gains};
+ghost use Rattle.pm_store.specs.Examples.{FilesAreFound, FilesArePut, WordsNameFiles};
 
 use thiserror::Error;
 
@@ -53,14 +54,29 @@ pub trait Sink {
         ensures count_fits { faults self.new < 2 ^ 64 };
 }
 
+mod dir_store;
+mod file_word;
 mod mem_sink;
 mod mem_source;
+mod mem_store;
 mod std_sink;
 mod std_source;
+mod store;
 mod whole;
 
+pub use dir_store::DirStore;
+pub use file_word::is_file_word;
 pub use mem_sink::MemSink;
 pub use mem_source::MemSource;
+pub use mem_store::MemStore;
 pub use std_sink::StdSink;
 pub use std_source::StdSource;
+pub use store::{Store, StoreFail};
 pub use whole::{ReadFail, read_up_to, write_all};
+
+/// Files and their words, worked by hand: which file a name finds, what a put may leave, which words name files.
+pub fn example_files()
+    ensures found { FilesAreFound }
+    ensures put { FilesArePut }
+    ensures words { WordsNameFiles }
+{}

@@ -1,10 +1,10 @@
-// All that a source has, and all of a piece into a sink.
+// All that a source has, or its first bytes, and all of a piece into a sink.
 
-ghost use Rattle.std.specs.Prelude.{◌≡◌, ◌<◌, ◌≤◌, ◌^◌, Some, [], IfOk, IfSome, OnOk, OnErr, IsErrOf, length, vec_len};
+ghost use Rattle.std.specs.Prelude.{◌≡◌, ◌<◌, ◌≤◌, ◌^◌, Some, [], IfOk, IfSome, OnOk, OnErr, IsErrOf, length, take, vec_len};
 ghost use Rattle.pm_store.specs.Outside.{Rose, Gains, GainsPart, Loses};
 ghost use Rattle.pm_store.specs.declared.whole.ReadFail.TheVariants.{Fault, Memory};
 
-use crate::{Failed, Sink, Source};
+use crate::{Failed, Sink, Source, StoreFail};
 use std::alloc::{AllocError, Global};
 use thiserror::Error;
 
@@ -67,6 +67,32 @@ pub fn read_up_to<S: Source>(
         }
         bytes.extend_from_slice(&chunk[..count])?;
     }
+}
+
+/// Reads a source to its end, or `limit` bytes of it where it has more.
+/// After an error the bytes that it gave until then are gone from it.
+pub(crate) fn read_first<S: Source>(
+    alloc: Global,
+    source: &mut S,
+    limit: usize,
+) -> Result<Vec<u8>, StoreFail>
+    ensures first { IfOk result (λ v. IfSome (S.left source.old) (λ all. v.items ≡ take limit all)) }
+    ensures bound { IfOk result (λ v. vec_len v ≤ limit) }
+    ensures fault { IsErrOf result StoreFail.Failed → Rose (S.faults source.old) (S.faults source.new) }
+    ensures left { Loses (S.left source.old) (S.left source.new) }
+    ensures never_falls { S.faults source.old ≤ S.faults source.new }
+{
+    let mut bytes = Vec::new(alloc);
+    let mut chunk = [0u8; CHUNK];
+    while bytes.len() < limit {
+        let most = CHUNK.min(limit - bytes.len());
+        let count = source.read(&mut chunk[..most])?;
+        if count == 0 {
+            break;
+        }
+        bytes.extend_from_slice(&chunk[..count])?;
+    }
+    Ok(bytes)
 }
 
 /// Writes all of a piece. At `Failed` the sink failed, and took a first part of the piece and not all of it.

@@ -1,6 +1,6 @@
 use Rattle.pm_elim.specs.Evidence.{unit}
 use Rattle.pm_incidence.proofs.by_incidence.unit_rows.Given as goal
-use Rattle.std.proofs.Common.{length, map, ◌≡◌}
+use Rattle.std.proofs.Common.{map, ◌≡◌}
 use Rattle.std.specs.List.{range_with_len}
 
 abbrev pub invariant-loop-column : goal.invariant-loop-column

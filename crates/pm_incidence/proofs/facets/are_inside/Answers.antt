@@ -1,4 +1,3 @@
-use Rattle.pm_algebra.specs.Rows.{Row}
 use Rattle.pm_dd.specs.Fronts.{HalfSpaces}
 use Rattle.pm_algebra.proofs.Lists.{among_All, among_Contains}
 use Rattle.pm_geom.proofs.Polar.{cols_at}

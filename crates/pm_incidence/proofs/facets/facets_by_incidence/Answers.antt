@@ -1,14 +1,10 @@
-use Rattle.pm_algebra.specs.Cones.{InCone}
-use Rattle.pm_bases.specs.Bases.{IsEchelonBasis}
-use Rattle.pm_elim.specs.Evidence.{unit}
 use Rattle.pm_incidence.proofs.Described.{half_cols, units_echelon, zero_cone, zero_facets}
 use Rattle.pm_incidence.proofs.FacetPlaces.{facets_answered, few_rows, taken_within}
 use Rattle.pm_incidence.proofs.ThinFails.{facets_reduction}
 use Rattle.pm_incidence.proofs.Thinned.{thinned_cols}
 use Rattle.pm_incidence.proofs.facets.facets_by_incidence.Goals as goal
 use Rattle.pm_incidence.specs.Thinning.{HasPoint}
-use Rattle.std.proofs.Common.{arith, false, sym, true, ℕ, List, ◌∙◌, ◌≡◌}
-use Rattle.std.proofs.lemmas.List.{length-take}
+use Rattle.std.proofs.Common.{false, sym, true, ◌≡◌}
 use Rattle.std.proofs.lemmas.Result.{err_from_is_err_and}
 use Rattle.std.specs.List.{range_with_len}
 

@@ -1,7 +1,7 @@
 use Rattle.pm_incidence.proofs.Described.{half_length}
 use Rattle.pm_incidence.proofs.FacetPlaces.{many_facets, places_within}
 use Rattle.pm_incidence.proofs.facets.taken.Goals as goal
-use Rattle.std.proofs.Common.{arith, sym}
+use Rattle.std.proofs.Common.{arith}
 
 pub as_evidence-requires : goal.as_evidence-requires
 as_evidence-requires c =

@@ -13,4 +13,4 @@ returns-in-Ok-clause-facets c F o i =
 pub returns-in-Err-clause-failed : goal.returns-in-Err-clause-failed
 returns-in-Err-clause-failed c =
     let failed = rw (c.deref.ensures.value, c.deref-2.ensures.value, c.rows.ensures) at c.in-Err.ensures.failed in
-    c.exchanged.ensures c.args.cols c.args.g.now.lineality.items c.args.g.now.rays.items c.args.s.now.rows failed
+    c.exchanged.ensures.sets c.args.cols c.args.g.now.lineality.items c.args.g.now.rays.items c.args.s.now.rows failed

@@ -1,12 +1,7 @@
 use Rattle.std.proofs.Common.{arith}
-use Rattle.pm_elim.specs.declared.evidence.ElimFail.{ElimFail}
-use Rattle.pm_elim.specs.declared.evidence.ElimFail.TheVariants as elimination
-use Rattle.pm_elim.specs.EliminationSteps.{EliminationStep}
-use Rattle.pm_elim.specs.Evidence.{IfWide, IsEvidence}
 use Rattle.pm_incidence.proofs.Groups.{group_cols, group_few, group_is, wide_group}
 use Rattle.pm_incidence.proofs.ThinFails.{ranged_elimination, thin_of_elimination}
 use Rattle.pm_incidence.proofs.thin.kept_of.Goals as goal
-use Rattle.pm_incidence.specs.Thinning.{AreKept, MarkFull}
 use Rattle.std.proofs.lemmas.Result.{err_from_is_err_and}
 
 pub echelon-requires-clause-columns : goal.echelon-requires-clause-columns

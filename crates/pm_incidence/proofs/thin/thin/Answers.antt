@@ -1,11 +1,6 @@
-use Rattle.pm_algebra.specs.Rows.{Row}
-use Rattle.pm_bases.specs.Bases.{IsEchelonBasis}
-use Rattle.pm_incidence.proofs.ThinFails.{thin_of_reduction}
 use Rattle.pm_incidence.proofs.Thinned.{kept_within, thin_generators, thinned_cols, thinned_length}
 use Rattle.pm_incidence.proofs.thin.thin.Goals as goal
-use Rattle.pm_incidence.specs.Thinning.{AreThinPlaces}
-use Rattle.std.proofs.Common.{arith, length, sym}
-use Rattle.std.proofs.lemmas.Result.{err_from_is_err_and}
+use Rattle.std.proofs.Common.{arith, sym}
 
 pub returns-clause-generators : goal.returns-clause-generators
 returns-clause-generators c = λ E agree.

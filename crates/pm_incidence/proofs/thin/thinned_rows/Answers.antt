@@ -1,1 +1,0 @@
-use Rattle.pm_incidence.proofs.thin.thinned_rows.Goals as goal

@@ -1,4 +1,3 @@
-use Rattle.pm_bits.specs.Sets.{has}
 use Rattle.pm_dd.specs.Tables.{zero_set}
 use Rattle.pm_incidence.proofs.Appended.{appended, length_more}
 use Rattle.pm_incidence.proofs.Thinning.{full_from_subset, subset_from_full}

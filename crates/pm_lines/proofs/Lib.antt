@@ -1,0 +1,5 @@
+pub mod Callers
+pub mod Examples
+pub mod LineLaws
+pub mod Order
+pub mod SoFar

@@ -1,0 +1,4 @@
+pub mod Coming
+pub mod Examples
+pub mod Laws
+pub mod Whole

@@ -1,0 +1,3 @@
+pub mod Inversions
+pub mod Shapes
+pub mod Taken

@@ -1,0 +1,4 @@
+pub mod Command
+pub mod Examples
+pub mod Spoken
+pub mod Words
