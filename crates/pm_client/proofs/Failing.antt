@@ -1,7 +1,8 @@
--- Where an elimination of the row list, or double description of its two parts, was given up, so is the client, with evidence that holds of the view.
-use Rattle.pm_algebra.proofs.Lists.{Contains_among, here, there}
-use Rattle.pm_algebra.specs.Rows.{Row}
-use Rattle.pm_client.specs.Sound.{AreParts, FailsRightly, IsDoubleListOf, IsRowList, double_list, doubles, eliminated_by, enlarging_rows, fail_of, fail_of_double, first_part, row_list}
+-- Where an elimination of the row list, double description of its two parts, thinning, or finding rows from sets was given up, so is the client, with evidence that holds of the view.
+use Rattle.pm_algebra.proofs.Lists.{Contains_among, among_Contains, among_append, here, there}
+use Rattle.pm_algebra.specs.Rows.{IsZero, Row}
+use Rattle.pm_client.proofs.ReadRows.{row_of}
+use Rattle.pm_client.specs.Sound.{AreParts, ArePartsOf, AreRowsOf, AreSetsOf, AreTold, FailsRightly, IsDoubleListOf, IsRowList, IsRowOf, IsWideElimination, added_rows, determining_rows, double_list, doubles, eliminated_by, enlarging_rows, fail_of, fail_of_double, fail_of_thin, first_part, flat_basis_and_row, flat_rows, row_list}
 use Rattle.pm_dd.specs.Refusals.{IsEliminationFail, IsShown, ShowsMany, ShowsWide}
 use Rattle.pm_dd.specs.declared.fails.DdFail.{DdFail}
 use Rattle.pm_dd.specs.declared.fails.DdFail.TheVariants as double
@@ -11,14 +12,28 @@ use Rattle.pm_elim.specs.declared.evidence.ElimFail.TheVariants.{Memory, Wide}
 use Rattle.pm_geom.specs.StatedOrder.{rows_marked}
 use Rattle.pm_geom.specs.declared.evidence.Evidence.{Evidence}
 use Rattle.pm_geom.specs.declared.evidence.Evidence.TheVariants as evidence
+use Rattle.pm_incidence.proofs.Products.{stays_turned, zero_stays}
+use Rattle.pm_incidence.specs.FromSets.{IsSetsFail, IsTurnedSetsFail}
+use Rattle.pm_incidence.specs.FromSets as from_sets
+use Rattle.pm_incidence.specs.Thinning.{IsFacetsFail, IsThinFail, IsWideIncidence, IsWideReduction, half_spaces}
+use Rattle.pm_incidence.specs.declared.fails.ThinFail.{ThinFail}
+use Rattle.pm_incidence.specs.declared.fails.ThinFail.TheVariants as thinning
+use Rattle.pm_elim.specs.EliminationSteps.{EliminationStep}
 use Rattle.pm_hull.specs.HullRefusals.{IsShownOnParts}
 use Rattle.pm_object.specs.Reading.{ViewSeen}
 use Rattle.pm_props.specs.Kinds.{standard_kind}
+use Rattle.pm_props.specs.Properties.{is_generator, is_half_space}
 use Rattle.pm_props.specs.declared.kind.Kind.{Kind}
+use Rattle.pm_props.specs.declared.object_type.ObjectType.TheVariants.{Cone, Fan, Polytope}
+use Rattle.pm_props.specs.declared.object_type.ObjectType.{ObjectType}
+use Rattle.pm_props.specs.declared.property.PropId.TheVariants.{AffineHull, Equations, Facets, Inequalities, InputLineality, LinealitySpace, Points, Vertices}
+use Rattle.pm_props.specs.declared.property.PropId.{PropId}
 use Rattle.pm_props.specs.declared.standard.StandardClient.{StandardClient}
-use Rattle.std.proofs.Common.{inl, inr, refl, subst, sym, true}
+use Rattle.std.proofs.Common.{ap, inl, inr, refl, subst, sym, true, ◌∙◌}
+use Rattle.std.proofs.lemmas.List.{append-nil}
 use Rattle.std.specs.List.{Contains}
-use Rattle.std.specs.Prelude.{IsTrue, List, [], ◌∷◌, ◌≡◌}
+use Rattle.std.specs.Prelude.{IsTrue, List, [], codes, ℕ, ◌++◌, ◌∷◌, ◌≡◌, ◌⊎◌}
+use Rattle.std.specs.Str.{bytes_eq}
 
 -- the client takes the row list
 abbrev pub TakesRowList : ViewSeen → Type 0
@@ -78,3 +93,145 @@ module _ (v : ViewSeen) (named : IsTrue (doubles v.kind.name)) where
   pub fails_by_parts : (L G : List Row) (f : DdFail) → AreParts v L G → IsShownOnParts v.cols L G f → FailsRightly v (fail_of_double f)
   fails_by_parts L G f read (inl h) = fails_by_first L G f read h
   fails_by_parts L G f read (inr (D, list, h)) = fails_by_double D f (record { lines = L; others = G; read = read; list = list }) h
+
+-- ---- thinning
+-- parts to which nothing is added
+parts_of : (v : ViewSeen) (first second : PropId) (L G : List Row) → AreRowsOf v first L → AreRowsOf v second G → added_rows v.of v.cols second ≡ [] → ArePartsOf v first second L G
+parts_of v first second L G l g none = record {
+  first_cols = l.cols;
+  second_cols = g.cols;
+  first_rows = l.rows;
+  second_rows = g.rows;
+  reads_first = l.reads;
+  reads_second = g.reads;
+  ys = G;
+  first_primitive = l.primitive;
+  second_primitive = g.primitive;
+  added = sym (append-nil G) ∙ ap (λ z. G ++ z) (sym none);
+}
+
+-- the half-spaces of a thing as they are taken are INEQUALITIES with what is added
+halves_added : (of : ObjectType) (n : ℕ) (A : List Row) → half_spaces of n A ≡ A ++ added_rows of n Inequalities
+halves_added Polytope n A = refl
+halves_added Cone n A = sym (append-nil A)
+halves_added Fan n A = sym (append-nil A)
+
+-- a row that was read
+generator_row : (v : ViewSeen) (p : PropId) (X : List Row) (x : Row) → AreRowsOf v p X → IsTrue (is_generator p) → Contains X x → (IsZero x → ⊥) → IsRowOf v is_generator x
+generator_row v p X x h kind c some = row_of v is_generator p h.cols h.rows X x h.reads kind h.primitive c some
+
+half_space_row : (v : ViewSeen) (p : PropId) (X : List Row) (x : Row) → AreRowsOf v p X → IsTrue (is_half_space p) → Contains X x → (IsZero x → ⊥) → IsRowOf v is_half_space x
+half_space_row v p X x h kind c some = row_of v is_half_space p h.cols h.rows X x h.reads kind h.primitive c some
+
+-- one of two lists has the row
+one_of : (A E : List Row) (x : Row) → Contains (A ++ E) x → Contains A x ⊎ Contains E x
+one_of A E x c = elim (among_append A E (among_Contains (A ++ E) c)) [ inl i ↦ inl (Contains_among i) | inr i ↦ inr (Contains_among i) ]
+
+module _ (v : ViewSeen) (thinning_takes : eliminated_by v.kind.name ≡ flat_rows ∷ flat_basis_and_row ∷ []) where
+  -- on an elimination
+  wide_reduction : (L G A : List Row) → AreTold v L G A → (e : EliminationStep) → IsWideReduction v.cols G L A e → IsWideElimination v e
+  wide_reduction L G A told e h = elim h.listed [
+    | inl flat ↦ record { list = flat_rows; named = rw thinning_takes (Contains_among (here {xs = flat_basis_and_row ∷ []})); rows = h.rows; listed = record { lines = L; rows = G; others = A; read = told; flat = flat }; shown = h.shown }
+    | inr flat ↦ record { list = flat_basis_and_row; named = rw thinning_takes (Contains_among (there (here {xs = []}))); rows = h.rows; listed = record { lines = L; rows = G; others = A; read = told; flat = flat }; shown = h.shown }
+  ]
+
+  -- POINTS by FACETS
+  pub fails_by_points : (L G A : List Row) (f : ThinFail) → AreRowsOf v InputLineality L → AreRowsOf v Points G → AreRowsOf v Facets A → added_rows v.of v.cols Points ≡ [] → IsThinFail v.cols G L A f → FailsRightly v (fail_of_thin f)
+  fails_by_points L G A (thinning.Wide (evidence.E1 step)) l g a none h =
+      wide_reduction L G A (record { first = InputLineality; second = Points; other = Facets; parts = refl; told = refl; read = parts_of v InputLineality Points L G l g none; others = a }) step h
+  fails_by_points L G A (thinning.Wide (evidence.E4 x y)) l g a none h = inl (record {
+    generator = generator_row v Points G x g refl h.generator (λ z. h.wide (zero_stays x y z));
+    half_space = half_space_row v Facets A y a refl h.inequality (λ z. h.wide (stays_turned y x (zero_stays y x z)));
+    wide = h.wide;
+  })
+  fails_by_points L G A (thinning.Wide e) l g a none h = absurd h
+  fails_by_points L G A (thinning.Many e) l g a none h = absurd h
+  fails_by_points L G A thinning.Memory l g a none h = tt
+
+  -- INEQUALITIES by VERTICES
+  pub fails_by_inequalities : IsTrue (bytes_eq v.kind.name (codes "thin_inequalities_v")) → (E A V : List Row) (f : ThinFail) → AreRowsOf v Equations E → AreRowsOf v Inequalities A → AreRowsOf v Vertices V → IsFacetsFail v.of v.cols A E V f → FailsRightly v (fail_of_thin f)
+  fails_by_inequalities named E A V (thinning.Wide (evidence.E1 step)) e a g h =
+      wide_reduction E (half_spaces v.of v.cols A) V
+      (record {
+        first = Equations;
+        second = Inequalities;
+        other = Vertices;
+        parts = refl;
+        told = refl;
+        read = record {
+          first_cols = e.cols;
+          second_cols = a.cols;
+          first_rows = e.rows;
+          second_rows = a.rows;
+          reads_first = e.reads;
+          reads_second = a.reads;
+          ys = A;
+          first_primitive = e.primitive;
+          second_primitive = a.primitive;
+          added = halves_added v.of v.cols A;
+        };
+        others = g;
+      })
+      step h
+  fails_by_inequalities named E A V (thinning.Wide (evidence.E4 x y)) e a g h =
+      let some : IsZero y → ⊥ = λ z. h.wide (zero_stays y x z) in
+      inl (record {
+        generator = generator_row v Vertices V x g refl h.inequality (λ z. h.wide (stays_turned x y (zero_stays x y z)));
+        half_space = elim (one_of A E y h.generator) [ inl c ↦ half_space_row v Inequalities A y a refl c some | inr c ↦ half_space_row v Equations E y e refl c some ];
+        wide = λ s. h.wide (stays_turned x y s);
+      })
+  fails_by_inequalities named E A V (thinning.Wide w) e a g h = absurd h
+  fails_by_inequalities named E A V (thinning.Many (evidence.E5Rows places)) e a g h = record { named = named; equations = E; inequalities = A; reads_equations = e; reads_inequalities = a; shown = h }
+  fails_by_inequalities named E A V (thinning.Many w) e a g h = absurd h
+  fails_by_inequalities named E A V thinning.Memory e a g h = tt
+
+-- ---- rows from sets
+module _ (v : ViewSeen) (sets_take : eliminated_by v.kind.name ≡ row_list ∷ determining_rows ∷ []) where
+  wide_by_sets : (first second : PropId) (E A : List Row) (in_sets : List (List ℕ)) → AreSetsOf v first second E A in_sets → added_rows v.of v.cols second ≡ [] → (e : EliminationStep) → from_sets.IsWideElimination v.cols E A in_sets e → IsWideElimination v e
+  wide_by_sets first second E A in_sets read none e h = elim h.listed [
+    | inl both ↦ record {
+      list = row_list;
+      named = rw sets_take (Contains_among (here {xs = determining_rows ∷ []}));
+      rows = h.rows;
+      listed = record {
+        first = first;
+        second = second;
+        parts = read.parts;
+        list = record {
+          first_cols = read.equations.cols;
+          second_cols = read.inequalities.cols;
+          first_rows = read.equations.rows;
+          second_rows = read.inequalities.rows;
+          reads_first = read.equations.reads;
+          reads_second = read.inequalities.reads;
+          xs = E;
+          ys = A;
+          first_primitive = read.equations.primitive;
+          second_primitive = read.inequalities.primitive;
+          listed = both ∙ sym (append-nil (E ++ A)) ∙ ap (λ z. E ++ A ++ z) (sym none);
+        };
+      };
+      shown = h.shown;
+    }
+    | inr found ↦ record {
+      list = determining_rows;
+      named = rw sets_take (Contains_among (there (here {xs = []})));
+      rows = h.rows;
+      listed = record { first = first; second = second; equations = E; inequalities = A; in_sets = in_sets; read = read; determining = found };
+      shown = h.shown;
+    }
+  ]
+
+  pub fails_by_facet_sets : IsTrue (bytes_eq v.kind.name (codes "vertices_from_sets")) → (E A : List Row) (in_sets : List (List ℕ)) (f : ThinFail) → AreSetsOf v AffineHull Facets E A in_sets → added_rows v.of v.cols Facets ≡ [] → IsSetsFail v.cols E A in_sets f → FailsRightly v (fail_of_thin f)
+  fails_by_facet_sets named E A in_sets (thinning.Wide (evidence.E1 step)) read none h = wide_by_sets AffineHull Facets E A in_sets read none step h
+  fails_by_facet_sets named E A in_sets (thinning.Wide (evidence.E4 x y)) read none h = inr (inl (named, record { equations = E; inequalities = A; in_sets = in_sets; read = read; wide = h }))
+  fails_by_facet_sets named E A in_sets (thinning.Wide e) read none h = absurd h
+  fails_by_facet_sets named E A in_sets (thinning.Many e) read none h = absurd h
+  fails_by_facet_sets named E A in_sets thinning.Memory read none h = tt
+
+  pub fails_by_ray_sets : IsTrue (bytes_eq v.kind.name (codes "facets_from_sets")) → (E A : List Row) (in_sets : List (List ℕ)) (f : ThinFail) → AreSetsOf v LinealitySpace Vertices E A in_sets → added_rows v.of v.cols Vertices ≡ [] → IsTurnedSetsFail v.cols E A in_sets f → FailsRightly v (fail_of_thin f)
+  fails_by_ray_sets named E A in_sets (thinning.Wide (evidence.E1 step)) read none h = wide_by_sets LinealitySpace Vertices E A in_sets read none step h
+  fails_by_ray_sets named E A in_sets (thinning.Wide (evidence.E4 x y)) read none h = inr (inr (named, record { equations = E; inequalities = A; in_sets = in_sets; read = read; wide = h }))
+  fails_by_ray_sets named E A in_sets (thinning.Wide e) read none h = absurd h
+  fails_by_ray_sets named E A in_sets (thinning.Many e) read none h = absurd h
+  fails_by_ray_sets named E A in_sets thinning.Memory read none h = tt

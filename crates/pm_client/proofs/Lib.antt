@@ -1,6 +1,7 @@
 pub mod SameKind
 pub mod Started
 pub mod ReadValues
+pub mod ReadRows
 pub mod Pairs
 pub mod ViewLaws
 pub mod Failing
@@ -11,3 +12,4 @@ pub mod PlainValues
 pub mod Machine
 pub mod FreshOrders
 pub mod Examples
+mod ThinningExamples

@@ -1,16 +1,17 @@
 -- The definitions of starts and of row lists read on small lists: what holds of them, and what does not.
-use Rattle.pm_client.specs.Sound.{AreEnlarging, AreParts, ArePartsOf, IsDoubleListOf, IsEliminated, added_rows, are_parts, double_list, doubles, eliminated_by, enlarging_rows, fail_of, fail_of_double, first_part, row_list}
+use Rattle.pm_client.specs.Sound.{AreEnlarging, AreParts, ArePartsOf, AreRowsOf, AreSetsOf, IsCrowdedThinning, IsDeterminingList, IsDoubleListOf, IsEliminated, IsFlatBasisAndRow, IsFlatList, IsWideForSets, added_rows, are_parts, are_told, determining_rows, double_list, doubles, eliminated_by, enlarging_rows, fail_of, fail_of_double, fail_of_thin, first_part, flat_basis_and_row, flat_rows, row_list, sets_of_rows, takes_sets, thins}
 use Rattle.pm_props.specs.Properties.{is_generator, is_half_space}
 use Rattle.pm_client.specs.Starts.{Clients, after_start, has_client, kind_at, next_count, place_in, same_kind, started_once}
 use Rattle.pm_client.specs.declared.ClientFail.TheVariants as fail
 use Rattle.pm_dd.specs.declared.fails.DdFail.TheVariants as double
 use Rattle.pm_elim.specs.declared.evidence.ElimFail.TheVariants as elimination
+use Rattle.pm_incidence.specs.declared.fails.ThinFail.TheVariants as thinning
 use Rattle.pm_props.specs.declared.object_type.ObjectType.TheVariants.{Cone, Polytope}
 use Rattle.pm_algebra.specs.Rows.{Row}
 use Rattle.pm_object.specs.Reading.{ViewSeen}
-use Rattle.pm_types.specs.Values.{matrix}
+use Rattle.pm_types.specs.Values.{IndexSets, matrix, sets}
 use Rattle.pm_props.specs.declared.kind.Kind.{Kind}
-use Rattle.pm_props.specs.declared.property.PropId.TheVariants.{AffineHull, Equations, Facets, Inequalities, InputLineality, LinealitySpace, Points, Vertices}
+use Rattle.pm_props.specs.declared.property.PropId.TheVariants.{AffineHull, Equations, Facets, Inequalities, InputLineality, LinealitySpace, Points, Vertices, VerticesInFacets}
 use Rattle.std.specs.Prelude.{List, None, Some, [], codes, false, true, ℕ, ◌-◌, ◌^◌, ◌∷◌, ◌≡◌}
 use lib.IntN.{pos}
 
@@ -107,3 +108,54 @@ pub record DoublesAreRead : Type 0 where
   pub first : IsEliminated first_part no_rows []
   pub double : IsEliminated double_list no_rows (single 1 ∷ [])
   pub not_double : ¬ (IsEliminated double_list no_rows [])
+
+-- a view of a cone with one column: POINTS, FACETS and their other halves have no row, and no facet has a set with the one ray
+abbrev pub no_points : ViewSeen
+no_points = record {
+  of = Cone;
+  cols = 1;
+  kind = named (codes "thin_points_f") 1 2;
+  sub = None;
+  facts = record { place = None; property = Points; value = matrix 0 [] }
+      ∷ record { place = None; property = InputLineality; value = matrix 0 [] }
+      ∷ record { place = None; property = Facets; value = matrix 0 [] }
+      ∷ record { place = None; property = AffineHull; value = matrix 0 [] }
+      ∷ record { place = None; property = VerticesInFacets; value = sets [] 1 }
+      ∷ [];
+}
+
+-- of two sets of three rays both have the first, the second has the last
+abbrev pub two_sets : IndexSets
+two_sets = record { rows = (0 ∷ []) ∷ (0 ∷ 2 ∷ []) ∷ []; cols = 3 }
+
+pub record ThinningIsRead : Type 0 where
+  -- which rows tell which lie in the lineality
+  pub told : are_told Points Facets ≡ true
+  pub told_by_rays : are_told Inequalities Vertices ≡ true
+  pub not_told : are_told Points Vertices ≡ false
+  pub rows : AreRowsOf no_points Points []
+  pub not_rows : ¬ (AreRowsOf no_points Points (single 1 ∷ []))
+  -- no row lies there
+  pub flat : IsFlatList no_points []
+  pub not_flat : ¬ (IsFlatList no_points (single 1 ∷ []))
+  pub no_basis_and_row : ¬ (IsFlatBasisAndRow no_points [])
+  -- sets of rays, and turned sets of facets
+  pub of_rays : sets_of_rows Vertices two_sets ≡ (0 ∷ []) ∷ (0 ∷ 2 ∷ []) ∷ []
+  pub of_facets : sets_of_rows Facets two_sets ≡ (0 ∷ 1 ∷ []) ∷ [] ∷ (1 ∷ []) ∷ []
+  pub of_points : sets_of_rows Points two_sets ≡ []
+  pub in_sets : AreSetsOf no_points AffineHull Facets [] [] ([] ∷ [])
+  pub not_in_sets : ¬ (AreSetsOf no_points AffineHull Facets [] [] [])
+  -- the ray on no facet is determined by the unit row of the pivot of its lineality
+  pub determining : IsDeterminingList no_points (single 1 ∷ [])
+  pub not_determining : ¬ (IsDeterminingList no_rows (single 1 ∷ []))
+  -- a client of another name has no such evidence
+  pub not_wide : ¬ (IsWideForSets no_points (single 1) (single 1))
+  pub not_crowded : ¬ (IsCrowdedThinning no_points [])
+  -- what clients eliminate, by their names
+  pub thinning_client : thins (codes "thin_points_f") ≡ true
+  pub not_thinning : thins (codes "thin_points_lp") ≡ false
+  pub sets_client : takes_sets (codes "facets_from_sets") ≡ true
+  pub not_of_sets : takes_sets (codes "facet_sizes") ≡ false
+  pub of_thinning : eliminated_by (codes "thin_inequalities_v") ≡ flat_rows ∷ flat_basis_and_row ∷ []
+  pub of_sets : eliminated_by (codes "vertices_from_sets") ≡ row_list ∷ determining_rows ∷ []
+  pub memory : fail_of_thin thinning.Memory ≡ fail.Memory

@@ -1,5 +1,5 @@
 -- When a run of a client is sound, and which evidence holds of a view.
-use Rattle.std.specs.Prelude.{ℕ, ◌≡◌, ◌++◌, ◌||◌, Bool, true, false, IsTrue, if◌then◌else◌, codes, Option, List, [], ◌∷◌, Some}
+use Rattle.std.specs.Prelude.{ℕ, ◌≡◌, ◌++◌, ◌||◌, ◌⊎◌, Bool, true, false, IsTrue, if◌then◌else◌, codes, Option, List, [], ◌∷◌, Some}
 use Rattle.std.specs.List.{Contains}
 use Rattle.std.specs.Str.{bytes_eq}
 use Rattle.pm_algebra.specs.Divisors.{IsPrimitive}
@@ -9,6 +9,10 @@ use Rattle.pm_dd.specs.declared.fails.DdFail.{DdFail}
 use Rattle.pm_dd.specs.declared.fails.DdFail.TheVariants as double
 use Rattle.pm_incidence.specs.declared.fails.IncFail.{IncFail}
 use Rattle.pm_incidence.specs.declared.fails.IncFail.TheVariants as incidence
+use Rattle.pm_incidence.specs.declared.fails.ThinFail.{ThinFail}
+use Rattle.pm_incidence.specs.declared.fails.ThinFail.TheVariants as thinning
+use Rattle.pm_incidence.specs.FromSets.{IsDetermining, IsWideSign, turned}
+use Rattle.pm_incidence.specs.Thinning.{AreManyFacets, IsBasisAndRow, flat_group}
 use Rattle.pm_elim.specs.EliminationSteps.{EliminationStep}
 use Rattle.pm_elim.specs.Enlarging.{MarkEnlarging}
 use Rattle.pm_elim.specs.Evidence.{IsEvidence, unit}
@@ -21,14 +25,14 @@ use Rattle.pm_hull.specs.HullRefusals.{IsDoubleList}
 use Rattle.pm_props.specs.declared.object_type.ObjectType.{ObjectType}
 use Rattle.pm_props.specs.declared.object_type.ObjectType.TheVariants.{Polytope}
 use Rattle.pm_geom.specs.declared.evidence.Evidence.{Evidence}
-use Rattle.pm_geom.specs.declared.evidence.Evidence.TheVariants.{E1, E2, E4, E5Rays}
+use Rattle.pm_geom.specs.declared.evidence.Evidence.TheVariants.{E1, E2, E4, E5Rays, E5Rows}
 use Rattle.pm_matrix.specs.FractionRows.{ArePrimitiveRowsOf}
 use Rattle.pm_object.specs.Reading.{DraftSeen, ViewSeen, answer_of, fact_of}
 use Rattle.pm_types.specs.Runs.{MayAnswer}
-use Rattle.pm_types.specs.Values.{Fact, matrix}
+use Rattle.pm_types.specs.Values.{Fact, IndexSets, matrix, sets}
 use Rattle.pm_props.specs.Properties.{is_generator, is_half_space}
 use Rattle.pm_props.specs.declared.property.PropId.{PropId}
-use Rattle.pm_props.specs.declared.property.PropId.TheVariants.{Points, InputLineality, Inequalities, Equations, Vertices, LinealitySpace, Facets, AffineHull}
+use Rattle.pm_props.specs.declared.property.PropId.TheVariants.{Points, InputLineality, Inequalities, Equations, Vertices, LinealitySpace, Facets, AffineHull, VerticesInFacets}
 use Rattle.pm_client.specs.declared.ClientFail.{ClientFail}
 use Rattle.pm_client.specs.declared.ClientFail.TheVariants.{Memory, Failed}
 
@@ -120,20 +124,99 @@ pub record AreEnlarging (D X : List Row) : Type 0 where
   pub enlarging : MarkEnlarging D marks
   pub rows : X ≡ rows_marked true marks D
 
--- which lists of rows a client may eliminate: the row list; its first part, the double description list, and the rows of that which enlarge the span
+-- the rows of the second property tell which rows of the first lie in the lineality of their list
+abbrev pub are_told : PropId → PropId → Bool
+are_told Points Facets = true
+are_told Inequalities Vertices = true
+are_told p q = false
+
+-- A are the primitive whole rows of the view's value of the property
+pub record AreRowsOf (v : ViewSeen) (p : PropId) (A : List Row) : Type 0 where
+  pub cols : ℕ
+  pub rows : List (List Ratio)
+  pub reads : Reads v p cols rows
+  pub primitive : ArePrimitiveRowsOf rows A
+
+-- L and G are the two parts of a row list of the view, and A the rows that tell which of them lie in the lineality
+pub record AreTold (v : ViewSeen) (L G A : List Row) : Type 0 where
+  pub first : PropId
+  pub second : PropId
+  pub other : PropId
+  pub parts : IsTrue (are_parts first second)
+  pub told : IsTrue (are_told second other)
+  pub read : ArePartsOf v first second L G
+  pub others : AreRowsOf v other A
+
+-- X are the lines, and then the rows of the list on which each of the rows that tell vanishes
+pub record IsFlatList (v : ViewSeen) (X : List Row) : Type 0 where
+  pub lines : List Row
+  pub rows : List Row
+  pub others : List Row
+  pub read : AreTold v lines rows others
+  pub flat : X ≡ flat_group rows lines others
+
+-- X is the echelon basis of these, and then some row of the list
+pub record IsFlatBasisAndRow (v : ViewSeen) (X : List Row) : Type 0 where
+  pub lines : List Row
+  pub rows : List Row
+  pub others : List Row
+  pub read : AreTold v lines rows others
+  pub flat : IsBasisAndRow v.cols rows lines others X
+
+-- the sets of those rows of the property that lie together: VERTICES_IN_FACETS has sets of VERTICES, and turned sets of FACETS
+abbrev pub sets_of_rows : PropId → IndexSets → List (List ℕ)
+sets_of_rows Facets s = turned s
+sets_of_rows Vertices s = s.rows
+sets_of_rows p s = []
+
+-- E and A are the primitive whole rows of the values of both properties, and the sets are of rows of the second
+pub record AreSetsOf (v : ViewSeen) (first second : PropId) (E A : List Row) (in_sets : List (List ℕ)) : Type 0 where
+  pub parts : IsTrue (are_parts first second)
+  pub equations : AreRowsOf v first E
+  pub inequalities : AreRowsOf v second A
+  pub index : IndexSets
+  pub reads : fact_of VerticesInFacets v.facts ≡ Some (sets index.rows index.cols)
+  pub turned : in_sets ≡ sets_of_rows second index
+
+-- X determines the row of one of these sets
+pub record IsDeterminingList (v : ViewSeen) (X : List Row) : Type 0 where
+  pub first : PropId
+  pub second : PropId
+  pub equations : List Row
+  pub inequalities : List Row
+  pub in_sets : List (List ℕ)
+  pub read : AreSetsOf v first second equations inequalities in_sets
+  pub determining : IsDetermining v.cols equations inequalities in_sets X
+
+-- which lists of rows a client may eliminate: the row list; its first part, the double description list, and the rows of that which enlarge the span; the rows in the lineality, and their basis with a row; rows that determine the row of a set
 pub data Eliminated : Type 0 where
   row_list : Eliminated
   first_part : Eliminated
   double_list : Eliminated
   enlarging_rows : Eliminated
+  flat_rows : Eliminated
+  flat_basis_and_row : Eliminated
+  determining_rows : Eliminated
 
 -- the client of this name does double description
 abbrev pub doubles : List ℕ → Bool
 doubles name = bytes_eq name (codes "dd_vertices") || (bytes_eq name (codes "dd_facets") || (bytes_eq name (codes "dd_facets_v") || bytes_eq name (codes "dd_vertices_f")))
 
--- those that the client of this name eliminates: a client that does no double description takes the row list
+-- it thins one description by the other
+abbrev pub thins : List ℕ → Bool
+thins name = bytes_eq name (codes "thin_points_f") || bytes_eq name (codes "thin_inequalities_v")
+
+-- it finds rows from sets
+abbrev pub takes_sets : List ℕ → Bool
+takes_sets name = bytes_eq name (codes "vertices_from_sets") || bytes_eq name (codes "facets_from_sets")
+
+-- those that the client of this name eliminates: one that neither does double description nor thins takes the row list
 abbrev pub eliminated_by : List ℕ → List Eliminated
-eliminated_by name = if doubles name then first_part ∷ double_list ∷ enlarging_rows ∷ [] else row_list ∷ []
+eliminated_by name =
+    if doubles name then first_part ∷ double_list ∷ enlarging_rows ∷ []
+    else if thins name then flat_rows ∷ flat_basis_and_row ∷ []
+    else if takes_sets name then row_list ∷ determining_rows ∷ []
+    else row_list ∷ []
 
 -- X is this list of the view
 abbrev pub IsEliminated : Eliminated → ViewSeen → List Row → Type 0
@@ -141,6 +224,9 @@ IsEliminated row_list v X = IsRowList v X
 IsEliminated first_part v X = IsFirstPart v X
 IsEliminated double_list v X = IsDoubleListOf v X
 IsEliminated enlarging_rows v X = (D : List Row) × IsDoubleListOf v D × AreEnlarging D X
+IsEliminated flat_rows v X = IsFlatList v X
+IsEliminated flat_basis_and_row v X = IsFlatBasisAndRow v X
+IsEliminated determining_rows v X = IsDeterminingList v X
 
 -- a step in the elimination of a list of its client leaves the range
 pub record IsWideElimination (v : ViewSeen) (e : EliminationStep) : Type 0 where
@@ -164,12 +250,42 @@ pub record IsCrowdedDoubling (v : ViewSeen) (front : ℕ) (rays : List Row) : Ty
   pub listed : IsDoubleListOf v rows
   pub shown : IsCrowded v.cols rows front rays
 
--- the evidence holds of the view: a step of an elimination leaves the range, or one with two extreme rays; a front has too many of these; or the product of a generator's row with a half-space's row leaves the range. Evidence of another kind holds of no view so far
+-- a row of a generator property and a row of a half-space property have a product that leaves the range
+pub record AreWideRows (v : ViewSeen) (first second : Row) : Type 0 where
+  pub generator : IsRowOf v is_generator first
+  pub half_space : IsRowOf v is_half_space second
+  pub wide : IsWideProduct first second
+
+-- the row x that a set of rows of the property determines and a row y of the property have such a product
+pub record IsWideDetermined (v : ViewSeen) (first second : PropId) (x y : Row) : Type 0 where
+  pub equations : List Row
+  pub inequalities : List Row
+  pub in_sets : List (List ℕ)
+  pub read : AreSetsOf v first second equations inequalities in_sets
+  pub wide : IsWideSign v.cols equations inequalities in_sets x y
+
+-- the client of this name does so; the ray comes first, be it determined or read
+abbrev pub IsWideForSets : ViewSeen → Row → Row → Type 0
+IsWideForSets v first second =
+    (IsTrue (bytes_eq v.kind.name (codes "vertices_from_sets")) × IsWideDetermined v AffineHull Facets first second)
+    ⊎ (IsTrue (bytes_eq v.kind.name (codes "facets_from_sets")) × IsWideDetermined v LinealitySpace Vertices second first)
+
+-- the client thins INEQUALITIES, and at more than 2,048 places of these and of what is added stand facet rows
+pub record IsCrowdedThinning (v : ViewSeen) (places : List ℕ) : Type 0 where
+  pub named : IsTrue (bytes_eq v.kind.name (codes "thin_inequalities_v"))
+  pub equations : List Row
+  pub inequalities : List Row
+  pub reads_equations : AreRowsOf v Equations equations
+  pub reads_inequalities : AreRowsOf v Inequalities inequalities
+  pub shown : AreManyFacets v.of v.cols inequalities equations places
+
+-- the evidence holds of the view: a step of an elimination leaves the range, or one with two extreme rays; a front has too many of these, or a thing too many facets; or the product of a generator's row with a half-space's row leaves the range, or of a row that a set determines with one that was read. Evidence of another kind holds of no view so far
 abbrev pub HoldsOf : Evidence → ViewSeen → Type 0
 HoldsOf (E1 e) v = IsWideElimination v e
 HoldsOf (E2 front first second column) v = IsWideDoubling v front first second column
-HoldsOf (E4 first second) v = IsRowOf v is_generator first × IsRowOf v is_half_space second × IsWideProduct first second
+HoldsOf (E4 first second) v = AreWideRows v first second ⊎ IsWideForSets v first second
 HoldsOf (E5Rays front rays) v = IsCrowdedDoubling v front rays
+HoldsOf (E5Rows places) v = IsCrowdedThinning v places
 HoldsOf e v = ⊥
 
 -- the draft has a value for each target of the view's kind, in its form and canonical, and they are right wherever what was read is
@@ -196,3 +312,9 @@ fail_of_double double.Memory = Memory
 abbrev pub fail_of_incidence : IncFail → ClientFail
 fail_of_incidence (incidence.Wide e) = Failed e
 fail_of_incidence incidence.Memory = Memory
+
+-- the failure of a client whose thinning, or whose rows from sets, were given up
+abbrev pub fail_of_thin : ThinFail → ClientFail
+fail_of_thin (thinning.Wide e) = Failed e
+fail_of_thin (thinning.Many e) = Failed e
+fail_of_thin thinning.Memory = Memory

@@ -1,7 +1,7 @@
 //! Clients, which answer properties of an object from others, and running the first client of a kind.
 #![tactic(auto)]
 
-ghost use Rattle.pm_client.specs.Examples.{DoublesAreRead, RowListsAreRead, StartsAreRead};
+ghost use Rattle.pm_client.specs.Examples.{DoublesAreRead, RowListsAreRead, StartsAreRead, ThinningIsRead};
 ghost use Rattle.pm_client.specs.Sound.{FailsRightly, IsSound};
 ghost use Rattle.pm_client.specs.Starts.{started_once};
 ghost use Rattle.std.specs.Prelude.{IfErr, OnOk, [], ℕ, ◌≡◌};
@@ -9,7 +9,7 @@ ghost use Rattle.std.specs.Prelude.{IfErr, OnOk, [], ℕ, ◌≡◌};
 use pm_elim::ElimFail;
 use pm_geom::Evidence;
 use pm_hull::DdFail;
-use pm_incidence::IncFail;
+use pm_incidence::{IncFail, ThinFail};
 use pm_object::{Draft, View};
 use pm_types::Kind;
 use std::alloc::{AllocError, AllocFailed, Global};
@@ -74,6 +74,21 @@ impl From<IncFail> for ClientFail {
     }
 }
 
+impl From<ThinFail> for ClientFail {
+    ghost use Rattle.pm_client.specs.Sound.{fail_of_thin};
+    ghost use Rattle.std.specs.Prelude.{◌≡◌};
+
+    ghost from_gives = { λ f e. e ≡ fail_of_thin f };
+
+    fn from(fail: ThinFail) -> ClientFail {
+        match fail {
+            ThinFail::Wide(evidence) => ClientFail::Failed(evidence),
+            ThinFail::Many(evidence) => ClientFail::Failed(evidence),
+            ThinFail::Memory => ClientFail::Memory,
+        }
+    }
+}
+
 impl From<AllocError> for ClientFail {
     ghost use Rattle.pm_client.specs.declared.ClientFail.TheVariants.{Memory};
 
@@ -132,4 +147,9 @@ pub fn example_row_lists()
 /// The definitions of what is eliminated read on a view without rows.
 pub fn example_doubles()
     ensures { DoublesAreRead }
+{}
+
+/// The definitions of thinning and of rows from sets read on a view without rows.
+pub fn example_thinning()
+    ensures { ThinningIsRead }
 {}

@@ -5,6 +5,7 @@ use Rattle.pm_algebra.specs.Numbers.{Ratio}
 use Rattle.pm_algebra.specs.Rows.{IsZero, Row, Stands}
 use Rattle.pm_client.proofs.PlainValues.{Follows, sound_plain}
 use Rattle.pm_client.proofs.Puts.{IsPut}
+use Rattle.pm_client.proofs.ReadRows.{row_of}
 use Rattle.pm_client.proofs.ReadValues.{all_length, found, primitive_length, read_right}
 use Rattle.pm_client.specs.Sound.{FailsRightly, IsRowOf, IsSound, fail_of_incidence}
 use Rattle.pm_props.specs.Properties.{is_generator, is_half_space}
@@ -66,35 +67,13 @@ sets_sound v m k facets vertices F V s old new h e empty put =
     (subst (λ z. IsPut v VerticesInFacets (sets z.rows z.cols) old new) e (record { targets = ap (λ z. z.targets) h.kind; empty = empty; put = put })) (follows v m k facets vertices F V h)
 
 -- ---- the evidence
-primitive_unless : (r : List Ratio) (x : Row) → IsPrimitiveRowOf r x → (IsZero x → ⊥) → IsPrimitive x
-primitive_unless r x h some = elim h.primitive.divided [ inl z ↦ absurd (some z.1) | inr w ↦ w.3 ]
-
-row_of : (v : ViewSeen) (of_kind : PropId → Bool) (p : PropId) (n : ℕ) (rows : List (List Ratio)) (xs : List Row) (x : Row) → fact_of p v.facts ≡ Some (matrix n rows) → IsTrue (of_kind p) → ArePrimitiveRowsOf rows xs → Contains xs x → (IsZero x → ⊥) → IsRowOf v of_kind x
-row_of v of_kind p n rows xs x read kind h c some =
-    let (f, i, q, w) = found p v.facts (matrix n rows) read in
-    let j = c.0 in
-    let below = c.1 in
-    let count = h.count in
-    let is : get_or xs j [] ≡ x = get_or_default xs j [] x below ∙ c.2 in
-    record {
-      fact = f;
-      read = Contains_among i;
-      property = subst (λ z. IsTrue (of_kind z)) (sym q) kind;
-      n = n;
-      rows = rows;
-      value = w;
-      row = get_or rows j [];
-      listed = Contains-get_or rows j [] (omega arith);
-      multiple = subst (λ z. Stands (get_or rows j []) z) is (h.multiple j (omega arith));
-      primitive = primitive_unless (get_or rows j []) x (subst (λ z. IsPrimitiveRowOf (get_or rows j []) z) is (h.each j (omega arith))) some;
-    }
-
 pub fails_rightly : (v : ViewSeen) (m k : ℕ) (facets vertices : List (List Ratio)) (F V : List Row) (e : IncFail) → fact_of Facets v.facts ≡ Some (matrix m facets) → fact_of Vertices v.facts ≡ Some (matrix k vertices)
     → ArePrimitiveRowsOf facets F → ArePrimitiveRowsOf vertices V → IsWideFor F V e → FailsRightly v (fail_of_incidence e)
 fails_rightly v m k facets vertices F V Memory g h p q w = tt
-fails_rightly v m k facets vertices F V (Wide (E4 a x)) g h p q w = (
-  row_of v is_generator Vertices k vertices V a h refl q w.0 (λ z. w.2 (zero_stays a x z)),
-  row_of v is_half_space Facets m facets F x g refl p w.1 (λ z. w.2 (stays_turned x a (zero_stays x a z))),
-  w.2,
-)
+fails_rightly v m k facets vertices F V (Wide (E4 a x)) g h p q w =
+    inl (record {
+      generator = row_of v is_generator Vertices k vertices V a h refl q w.0 (λ z. w.2 (zero_stays a x z));
+      half_space = row_of v is_half_space Facets m facets F x g refl p w.1 (λ z. w.2 (stays_turned x a (zero_stays x a z)));
+      wide = w.2;
+    })
 fails_rightly v m k facets vertices F V (Wide e) g h p q w = absurd w

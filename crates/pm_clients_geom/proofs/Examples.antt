@@ -1,12 +1,12 @@
 -- The examples of families and matrices hold.
 use Rattle.pm_algebra.proofs.Lists.{All_among, Among, among_All, here, there}
 use Rattle.pm_algebra.specs.Numbers.{InRange, IsReduced, Ratio}
-use Rattle.pm_algebra.specs.Rows.{Row, entry, ratio_at}
+use Rattle.pm_algebra.specs.Rows.{IsZero, Row, entry, ratio_at}
 use Rattle.pm_client.specs.Examples.{no_rows, single}
-use Rattle.pm_clients_geom.specs.Examples.{FamiliesAreRead, HullsAreRead, MatricesAreRead, RaysAreRead, drafted, far_second, one_half, two_one}
+use Rattle.pm_clients_geom.specs.Examples.{FamiliesAreRead, HullsAreRead, MatricesAreRead, RaysAreRead, ThinnedAreRead, drafted, far_second, one_half, two_one}
 use Rattle.pm_clients_geom.specs.Hulls.{AreFewRows, ArePossible}
 use Rattle.pm_clients_geom.specs.Lists.{ReadsParts}
-use Rattle.pm_clients_geom.specs.Matrices.{MayBeLines, MayBeRays}
+use Rattle.pm_clients_geom.specs.Matrices.{AreNotZero, AreRays, MayBeLines, MayBeRays}
 use Rattle.pm_clients_geom.specs.Places.{AreZeroPlaces}
 use Rattle.pm_clients_geom.proofs.ZeroPlaces.{no_places, place_left, place_more}
 use Rattle.pm_clients_geom.specs.Rays.{IsOverFirst, IsPutRay}
@@ -29,7 +29,7 @@ use lib.IntN.{negsuc, pos}
 use lib.Signed.{◌≤ℤ◌}
 
 pub families_are_read : FamiliesAreRead
-families_are_read = record { hulls = refl; sizes = refl; no_hull = refl; rows = refl; dimensions = refl; truths = refl; no_truth = refl; no_dimension = refl }
+families_are_read = record { hulls = refl; thinned = refl; not_thinned = refl; sizes = refl; no_hull = refl; rows = refl; dimensions = refl; truths = refl; no_truth = refl; no_dimension = refl }
 
 abbrev is_polytope : ObjectType → Bool
 is_polytope Polytope = true
@@ -138,14 +138,30 @@ one_few = record { cols = (refl, tt); few = lit≤ tt }
 none_few : AreFewRows 1 []
 none_few = record { cols = tt; few = lit≤ tt }
 
-one_ray : MayBeRays Polytope (single 1 ∷ [])
-one_ray p = All-cons (λ (x : Row). pos 0 ≤ℤ entry x 0) (single 1) [] (omega (arith, ints)) (All-nil (λ (x : Row). pos 0 ≤ℤ entry x 0))
+one_before : MayBeRays Polytope (single 1 ∷ [])
+one_before p = All-cons (λ (x : Row). pos 0 ≤ℤ entry x 0) (single 1) [] (omega (arith, ints)) (All-nil (λ (x : Row). pos 0 ≤ℤ entry x 0))
+
+one_not_zero : AreNotZero (single 1 ∷ [])
+one_not_zero = All-cons (λ (x : Row). ¬ (IsZero x)) (single 1) [] (λ z. let e = z 0 in omega (arith, ints)) (All-nil (λ (x : Row). ¬ (IsZero x)))
+
+none_not_zero : AreNotZero []
+none_not_zero = All-nil (λ (x : Row). ¬ (IsZero x))
+
+zero_row : IsZero (single 0)
+zero_row zero = refl
+zero_row (suc i) = refl
+
+zero_listed : AreNotZero (single 0 ∷ []) → ⊥
+zero_listed h = among_All (λ (x : Row). ¬ (IsZero x)) (here {xs = []}) h zero_row
+
+one_ray : AreRays Polytope (single 1 ∷ [])
+one_ray = record { before = one_before; not_zero = one_not_zero }
 
 no_lines : MayBeLines Polytope []
 no_lines p = All-nil (λ (x : Row). entry x 0 ≡ pos 0)
 
-no_ray : MayBeRays Polytope []
-no_ray p = All-nil (λ (x : Row). pos 0 ≤ℤ entry x 0)
+no_ray : AreRays Polytope []
+no_ray = record { before = λ p. All-nil (λ (x : Row). pos 0 ≤ℤ entry x 0); not_zero = none_not_zero }
 
 one_line : MayBeLines Polytope (single 1 ∷ []) → ⊥
 one_line h = not_one (among_All (λ (x : Row). entry x 0 ≡ pos 0) (here {xs = []}) (h refl))
@@ -186,4 +202,18 @@ hulls_are_read = record {
   lost = λ h. let e = ap length (h.kept (record { rays = one_ray; lines = no_lines })).0 in omega arith;
   put = record { rays = single 1 ∷ []; lines = []; rows = ratios (single 1) ∷ []; possible = kept; each = (one_put, tt); in_range = All-nil (All InRange); draft = refl };
   not_put = λ h. no_draft h.draft;
+}
+
+pub thinned_are_read : ThinnedAreRead
+thinned_are_read = record {
+  not_zero = one_not_zero;
+  zero = zero_listed;
+  ray = one_ray;
+  no_ray = λ h. zero_listed h.not_zero;
+  kept = record { may = one_ray; kept = λ h. refl; either = inl refl };
+  none = record { may = no_ray; kept = λ h. absurd (zero_listed h.not_zero); either = inr refl };
+  lost = λ h. let e = ap length (h.kept one_ray) in omega arith;
+  kept_facet = record { may = one_not_zero; kept = λ h. refl; either = inl refl };
+  no_facet = record { may = none_not_zero; kept = λ h. absurd (zero_listed h); either = inr refl };
+  lost_facet = λ h. let e = ap length (h.kept one_not_zero) in omega arith;
 }

@@ -5,7 +5,8 @@ use Rattle.pm_algebra.proofs.RowLaws.{entry-opposite, length-opposite}
 use Rattle.pm_algebra.specs.Cones.{InCone}
 use Rattle.pm_algebra.specs.Divisors.{IsPrimitive}
 use Rattle.pm_algebra.specs.Numbers.{InRange, Ratio}
-use Rattle.pm_algebra.specs.Rows.{HasCols, Row, entry, opposite}
+use Rattle.pm_algebra.specs.Rows.{HasCols, IsZero, Row, entry, opposite}
+use Rattle.pm_bases.specs.Bases.{IsEchelonBasis}
 use Rattle.pm_client.proofs.Drafts.{put}
 use Rattle.pm_client.proofs.FreshOrders.{fresh_facets, fresh_kind, fresh_rays}
 use Rattle.pm_client.proofs.Puts.{AreFormed, ArePut, AreRight, sound_alone, two_put}
@@ -14,11 +15,11 @@ use Rattle.pm_client.proofs.ViewLaws.{has_listed, not_fan, target_named}
 use Rattle.pm_client.specs.Sound.{AreParts, IsSound, added_rows, are_parts}
 use Rattle.pm_clients_geom.proofs.FoundDims.{pair_right}
 use Rattle.pm_clients_geom.proofs.PutMatrices.{hull_forms, lineality_forms, put_columned, put_states, ratios_columned, rows_columned}
-use Rattle.pm_clients_geom.proofs.PutRays.{primitive_not_zero, ray_form, ray_rows}
+use Rattle.pm_clients_geom.proofs.PutRays.{primitive_not_zero, ray_form, ray_rows, some_not_zero}
 use Rattle.pm_clients_geom.proofs.RowLists.{IsColumned}
 use Rattle.pm_clients_geom.specs.Hulls.{AreFewRows, ArePutGenerators, FindsFacets, MayGenerate}
 use Rattle.pm_clients_geom.specs.Lists.{ReadsParts}
-use Rattle.pm_clients_geom.specs.Matrices.{MayBeLines, MayBeRays, as_put, cols_over}
+use Rattle.pm_clients_geom.specs.Matrices.{AreNotZero, AreRays, MayBeLines, as_put, cols_over}
 use Rattle.pm_clients_geom.specs.Rays.{ArePutRays}
 use Rattle.pm_elim.proofs.PrefixLaws.{at_most_columns}
 use Rattle.pm_geom.specs.Cones.{IsExtreme, IsValid}
@@ -88,7 +89,7 @@ pub parts_of_generators : (v : ViewSeen) (first second : PropId) (L G : List Row
 parts_of_generators v first second L G parts gen read =
     subst (AreParts v L) (append-nil G) (subst (λ z. AreParts v L (G ++ z)) (none_added v.of v.cols first second parts gen) (parts_read v first second L G parts read))
 
-no_facet_added : (of : ObjectType) (n : ℕ) → added_rows of n Facets ≡ []
+pub no_facet_added : (of : ObjectType) (n : ℕ) → added_rows of n Facets ≡ []
 no_facet_added Polytope n = refl
 no_facet_added Cone n = refl
 no_facet_added Fan n = refl
@@ -106,7 +107,7 @@ pub parts_of_rows : (v : ViewSeen) (L G : List Row) → ¬ (v.of ≡ Fan) → Re
 parts_of_rows v L G none read = subst (AreParts v L) (half_spaces v.of v.cols G none) (parts_read v Equations Inequalities L G refl read)
 
 -- points or rays with their lines generate what is right
-generated : (v : ViewSeen) (first second : PropId) (L G : List Row) → IsTrue (are_parts first second) → IsTrue (is_generator second) → ReadsParts v first second L G → (t : Thing) (o : Orders) → RightAll v.facts t o → ¬ (t.of ≡ Fan)
+pub generated : (v : ViewSeen) (first second : PropId) (L G : List Row) → IsTrue (are_parts first second) → IsTrue (is_generator second) → ReadsParts v first second L G → (t : Thing) (o : Orders) → RightAll v.facts t o → ¬ (t.of ≡ Fan)
     → (x : Row) → length x ≡ t.cols → InSet t x ↔ InCone G L x
 generated v InputLineality Points L G parts gen read t o right none =
     points_generate t o right.thing read.second_rows read.first_rows (pair_right v read.second_cols read.first_cols read.second_rows read.first_rows t o read.reads_second read.reads_first right) G L
@@ -132,71 +133,85 @@ none_of_facets p q parts gen = absurd (true≢false (sym parts))
 pub rays_few : (n : ℕ) (S : Row → Type 0) (V K : List Row) → AreGenerators n S V K → length V ≤ 2048 → AreFewRows n V
 rays_few n S V K g l = record { cols = order_cols n S V g.order; few = l }
 
+pub echelon_few : (v : ViewSeen) → IsView v → (K : List Row) (P : List ℕ) → IsEchelonBasis v.cols K P → AreFewRows v.cols K
+echelon_few v view K P echelon = record { cols = echelon.cols; few = let l = at_most_columns v.cols K P echelon in let f = leb-true v.cols 33 view.few_cols in omega arith }
+
 pub lines_few : (v : ViewSeen) → IsView v → (S : Row → Type 0) (V K : List Row) → AreGenerators v.cols S V K → AreFewRows v.cols K
-lines_few v view S V K g = record {
-  cols = g.basis.echelon.cols;
-  few = let l = at_most_columns v.cols K g.pivots g.basis.echelon in let f = leb-true v.cols 33 view.few_cols in omega arith;
-}
+lines_few v view S V K g = echelon_few v view K g.pivots g.basis.echelon
 
 -- ---- forms
-facet_row : (of : ObjectType) (x : Row) → IsPrimitive x → is_row of Facets (ratios x) ≡ true
-facet_row Polytope x p = rw (primitive_not_zero x p) refl
-facet_row Cone x p = rw (primitive_not_zero x p) refl
-facet_row Fan x p = rw (primitive_not_zero x p) refl
+facet_row : (of : ObjectType) (x : Row) → ¬ (IsZero x) → is_row of Facets (ratios x) ≡ true
+facet_row Polytope x p = rw (some_not_zero x p) refl
+facet_row Cone x p = rw (some_not_zero x p) refl
+facet_row Fan x p = rw (some_not_zero x p) refl
 
 first_of_all : {X : Type 0} (P : X → Type 0) (x : X) (xs : List X) → All P (x ∷ xs) → P x × All P xs
 first_of_all P x xs h = (h 0 x (omega arith), λ i d l. h (suc i) d (omega arith))
 
-facet_rows : (of : ObjectType) (F : List Row) → All IsPrimitive F → list_all (is_row of Facets) (map ratios F) ≡ true
+facet_rows : (of : ObjectType) (F : List Row) → AreNotZero F → list_all (is_row of Facets) (map ratios F) ≡ true
 facet_rows of [] h = refl
-facet_rows of (x ∷ F) h = let (p, q) = first_of_all IsPrimitive x F h in rw (facet_row of x p, facet_rows of F q) refl
+facet_rows of (x ∷ F) h = let (p, q) = first_of_all (λ y. ¬ (IsZero y)) x F h in rw (facet_row of x p, facet_rows of F q) refl
 
-facets_forms : (of : ObjectType) (n : ℕ) (F : List Row) → IsColumned n (cols_over n (map ratios F)) (map ratios F) → All (All InRange) F → All IsPrimitive F → FormsIn of n Facets (matrix (cols_over n (map ratios F)) (map ratios F))
-facets_forms of n F c range primitive = let h = hull_forms of n F c range in record { formed = c.0; columns = c.1; rows = facet_rows of F primitive; entries = h.entries; primitive = h.primitive }
+pub facets_forms : (of : ObjectType) (n : ℕ) (F : List Row) → IsColumned n (cols_over n (map ratios F)) (map ratios F) → All (All InRange) F → AreNotZero F → FormsIn of n Facets (matrix (cols_over n (map ratios F)) (map ratios F))
+facets_forms of n F c range some = let h = hull_forms of n F c range in record { formed = c.0; columns = c.1; rows = facet_rows of F some; entries = h.entries; primitive = h.primitive }
 
--- ---- FACETS and AFFINE_HULL
-module _ (v : ViewSeen) (view : IsView v) (first second : PropId) (kind : FindsFacets v.kind first second) (L G F H : List Row) (read : ReadsParts v first second L G) (facets : AreFacets v.cols G L F H) (few : length F ≤ 2048) (few_hull : length H ≤ 2048) (range : All (All InRange) F) (range_hull : All (All InRange) H) where
+-- primitive rows are not zero
+pub primitive_some : (F : List Row) → All IsPrimitive F → AreNotZero F
+primitive_some F h = All_among (λ (x : Row). ¬ (IsZero x)) F (λ x i. primitive_not_zero x (among_All IsPrimitive i h))
+
+-- ---- FACETS and AFFINE_HULL, where the rows that were read say what G and L generate; F are facet rows F', or none where no thing has those
+module _ (v : ViewSeen) (view : IsView v) (targets : v.kind.targets ≡ set_of (Facets ∷ AffineHull ∷ [])) (fresh : IsFresh facets_tag v.kind) (G L F' F H : List Row)
+    (found : (t : Thing) (o : Orders) → t.of ≡ v.of → t.cols ≡ v.cols → RightAll v.facts t o → AreFacets v.cols G L F' H × ((x : Row) → length x ≡ t.cols → InSet t x ↔ InCone G L x))
+    (kept : AreNotZero F' → F ≡ F') (few : AreFewRows v.cols F) (few_hull : AreFewRows v.cols H) (not_zero : AreNotZero F) (range : All (All InRange) F) (range_hull : All (All InRange) H) where
   no_fan : ¬ (v.of ≡ Fan)
-  no_fan = not_fan v Facets view (target_named v.kind Facets (has_listed v.kind.targets (Facets ∷ AffineHull ∷ []) Facets kind.targets)) refl refl
-
-  is_fresh : IsFresh facets_tag v.kind
-  is_fresh = fresh_kind facets_tag v.kind (Facets ∷ AffineHull ∷ []) (second ∷ first ∷ []) Facets kind.targets kind.sources refl refl (none_of_facets first second kind.parts kind.generators)
+  no_fan = not_fan v Facets view (target_named v.kind Facets (has_listed v.kind.targets (Facets ∷ AffineHull ∷ []) Facets targets)) refl refl
 
   facet_puts : List Put
   facet_puts = put Facets (matrix (cols_over v.cols (map ratios F)) (map ratios F)) ∷ put AffineHull (matrix (cols_over v.cols (map ratios H)) (map ratios H)) ∷ []
 
-  facets_cols : HasCols v.cols F
-  facets_cols = order_cols v.cols (IsValid v.cols G L) F facets.order
-
   facets_formed : AreFormed v facet_puts
   unfolding facet_puts
   facets_formed = (
-    (facets_forms v.of v.cols F (ratios_columned v.cols F view.some_cols view.few_cols few facets_cols) range facets.primitive, put_states v.cols (map ratios F)),
-    ((hull_forms v.of v.cols H (ratios_columned v.cols H view.some_cols view.few_cols few_hull facets.basis.echelon.cols) range_hull, put_states v.cols (map ratios H)), tt),
+    (facets_forms v.of v.cols F (ratios_columned v.cols F view.some_cols view.few_cols few.few few.cols) range not_zero, put_states v.cols (map ratios F)),
+    ((hull_forms v.of v.cols H (ratios_columned v.cols H view.some_cols view.few_cols few_hull.few few_hull.cols) range_hull, put_states v.cols (map ratios H)), tt),
   )
 
   facets_are_right : AreRight v facet_puts
   unfolding facet_puts
   facets_are_right t o of cols right meets =
       let none : ¬ (t.of ≡ Fan) = λ e. no_fan (sym of ∙ e) in
-      let same = generated v first second L G kind.parts kind.generators read t o right none in
-      let found' : AreGenerators t.cols (IsValid t.cols G L) F H = subst (λ n. AreGenerators n (IsValid n G L) F H) (sym cols) facets in
+      let w = found t o of cols right in
+      let same = w.1 in
+      let is : F' ≡ F = sym (kept (primitive_some F' w.0.primitive)) in
+      let found' : AreGenerators t.cols (IsValid t.cols G L) F H = subst (λ (X : List Row). AreGenerators t.cols (IsValid t.cols G L) X H) is (subst (λ n. AreGenerators n (IsValid n G L) F' H) (sym cols) w.0) in
       let o' : Orders = record { rays = o.rays; facets = F; cones = o.cones } in
       let f = facets_right t o right.thing right.orders none G L F H same found' v.kind (cols_over v.cols (map ratios F)) (objective_of t (place_of v.sub Facets)) in
       let h = hull_right t o right.thing right.orders none G L F H same found' v.kind (cols_over v.cols (map ratios H)) o' (objective_of t (place_of v.sub AffineHull)) in
       fresh_facets v (put Facets (matrix (cols_over v.cols (map ratios F)) (map ratios F)) ∷ put AffineHull (matrix (cols_over v.cols (map ratios H)) (map ratios H)) ∷ []) t o o' view.only
       (facet_orders t o right.thing right.orders none G L F H same found') right
-      (record { right = f.0; canonical = f.1 }, (record { right = h.0; canonical = h.1 }, tt)) is_fresh refl
+      (record { right = f.0; canonical = f.1 }, (record { right = h.0; canonical = h.1 }, tt)) fresh refl
 
-  pub facets_sound : (a b : FractionMatrix) (old mid new : DraftSeen) → a ≡ as_put v.cols (map ratios F) → b ≡ as_put v.cols (map ratios H) → old ≡ record { kind = v.kind; values = [] }
+  pub put_facets_sound : (a b : FractionMatrix) (old mid new : DraftSeen) → a ≡ as_put v.cols (map ratios F) → b ≡ as_put v.cols (map ratios H) → old ≡ record { kind = v.kind; values = [] }
       → mid ≡ record old { values = old.values ++ record { property = Facets; value = matrix a.cols a.rows } ∷ [] } → new ≡ record mid { values = mid.values ++ record { property = AffineHull; value = matrix b.cols b.rows } ∷ [] } → IsSound v new
   unfolding facet_puts
-  facets_sound a b old mid new same_a same_b empty first_put second_put =
+  put_facets_sound a b old mid new same_a same_b empty first_put second_put =
       sound_alone v facet_puts new
       (subst (λ z. ArePut v (put Facets (matrix z.cols z.rows) ∷ put AffineHull (matrix (cols_over v.cols (map ratios H)) (map ratios H)) ∷ []) new) same_a
       (subst (λ z. ArePut v (put Facets (matrix a.cols a.rows) ∷ put AffineHull (matrix z.cols z.rows) ∷ []) new) same_b
-      (two_put v Facets AffineHull (matrix a.cols a.rows) (matrix b.cols b.rows) old mid empty first_put new kind.targets second_put)))
+      (two_put v Facets AffineHull (matrix a.cols a.rows) (matrix b.cols b.rows) old mid empty first_put new targets second_put)))
       (refl, (refl, tt)) facets_formed facets_are_right
+
+-- ---- the same, by double description
+module _ (v : ViewSeen) (view : IsView v) (first second : PropId) (kind : FindsFacets v.kind first second) (L G F H : List Row) (read : ReadsParts v first second L G) (facets : AreFacets v.cols G L F H) (few : length F ≤ 2048) (few_hull : length H ≤ 2048) (range : All (All InRange) F) (range_hull : All (All InRange) H) where
+  is_fresh : IsFresh facets_tag v.kind
+  is_fresh = fresh_kind facets_tag v.kind (Facets ∷ AffineHull ∷ []) (second ∷ first ∷ []) Facets kind.targets kind.sources refl refl (none_of_facets first second kind.parts kind.generators)
+
+  pub facets_sound : (a b : FractionMatrix) (old mid new : DraftSeen) → a ≡ as_put v.cols (map ratios F) → b ≡ as_put v.cols (map ratios H) → old ≡ record { kind = v.kind; values = [] }
+      → mid ≡ record old { values = old.values ++ record { property = Facets; value = matrix a.cols a.rows } ∷ [] } → new ≡ record mid { values = mid.values ++ record { property = AffineHull; value = matrix b.cols b.rows } ∷ [] } → IsSound v new
+  facets_sound =
+      let no_fan : ¬ (v.of ≡ Fan) = not_fan v Facets view (target_named v.kind Facets (has_listed v.kind.targets (Facets ∷ AffineHull ∷ []) Facets kind.targets)) refl refl in
+      put_facets_sound v view kind.targets is_fresh G L F F H (λ t o of cols right. (facets, generated v first second L G kind.parts kind.generators read t o right (λ e. no_fan (sym of ∙ e)))) (λ h. refl)
+      (record { cols = order_cols v.cols (IsValid v.cols G L) F facets.order; few = few }) (record { cols = facets.basis.echelon.cols; few = few_hull }) (primitive_some F facets.primitive) range range_hull
 
 -- ---- VERTICES
 ray_lengths : (of : ObjectType) (n : ℕ) (rows : List (List Ratio)) (X : List Row) → HasCols n X → ArePutRays of rows X → list_all (is_row_of_entries n) rows ≡ true
@@ -211,11 +226,11 @@ ray_count of [] (x ∷ X) h = absurd h
 ray_count of (r ∷ rows) [] h = absurd h
 ray_count of (r ∷ rows) (x ∷ X) h = ap suc (ray_count of rows X h.1)
 
-ray_passes : (of : ObjectType) (rows : List (List Ratio)) (X : List Row) → All IsPrimitive X → ArePutRays of rows X → list_all (is_row of Vertices) rows ≡ true
+ray_passes : (of : ObjectType) (rows : List (List Ratio)) (X : List Row) → AreNotZero X → ArePutRays of rows X → list_all (is_row of Vertices) rows ≡ true
 ray_passes of [] [] p h = refl
 ray_passes of [] (x ∷ X) p h = absurd h
 ray_passes of (r ∷ rows) [] p h = absurd h
-ray_passes of (r ∷ rows) (x ∷ X) p h = let (q, more) = first_of_all IsPrimitive x X p in rw ((ray_form of r x h.0).passes q, ray_passes of rows X more h.1) refl
+ray_passes of (r ∷ rows) (x ∷ X) p h = let (q, more) = first_of_all (λ y. ¬ (IsZero y)) x X p in rw ((ray_form of r x h.0).passes q, ray_passes of rows X more h.1) refl
 
 ray_entries : (of : ObjectType) (rows : List (List Ratio)) (X : List Row) → ArePutRays of rows X → All (All IsFraction) rows
 ray_entries of [] [] h = All-nil (All IsFraction)
@@ -229,13 +244,13 @@ ray_primitive of [] (x ∷ X) h = absurd h
 ray_primitive of (r ∷ rows) [] h = absurd h
 ray_primitive of (r ∷ rows) (x ∷ X) h = All-cons HasPrimitiveRow r rows (ray_form of r x h.0).primitive (ray_primitive of rows X h.1)
 
-vertices_forms : (v : ViewSeen) → IsView v → (rows : List (List Ratio)) (X : List Row) → AreFewRows v.cols X → All IsPrimitive X → ArePutRays v.of rows X → FormsIn v.of v.cols Vertices (matrix (cols_over v.cols rows) rows)
-vertices_forms v view rows X few primitive each =
+pub vertices_forms : (v : ViewSeen) → IsView v → (rows : List (List Ratio)) (X : List Row) → AreFewRows v.cols X → AreNotZero X → ArePutRays v.of rows X → FormsIn v.of v.cols Vertices (matrix (cols_over v.cols rows) rows)
+vertices_forms v view rows X few some each =
     let c = put_columned v.cols v.cols rows (rows_columned v.cols rows view.some_cols view.few_cols (let e = ray_count v.of rows X each in let l = few.few in omega arith) (ray_lengths v.of v.cols rows X few.cols each)) in
-    record { formed = c.0; columns = c.1; rows = ray_passes v.of rows X primitive each; entries = ray_entries v.of rows X each; primitive = ray_primitive v.of rows X each }
+    record { formed = c.0; columns = c.1; rows = ray_passes v.of rows X some each; entries = ray_entries v.of rows X each; primitive = ray_primitive v.of rows X each }
 
 -- ---- the rays and lines of a polytope
-first_of : (of : ObjectType) (n : ℕ) (G L : List Row) (Gs : List (List Row)) → IsOfType of n G L Gs → of ≡ Polytope → (x : Row) → length x ≡ n → InCone G L x → pos 0 ≤ℤ entry x 0
+pub first_of : (of : ObjectType) (n : ℕ) (G L : List Row) (Gs : List (List Row)) → IsOfType of n G L Gs → of ≡ Polytope → (x : Row) → length x ≡ n → InCone G L x → pos 0 ≤ℤ entry x 0
 first_of Polytope n G L Gs h e x lx s = h.0.first x lx s
 first_of Cone n G L Gs h e x lx s = cc
 first_of Fan n G L Gs h e x lx s = cc
@@ -249,8 +264,11 @@ may_generate of t S V K is thing same g = record { rays = rays; lines = lines }
     first_at : of ≡ Polytope → (x : Row) → length x ≡ t.cols → S x → pos 0 ≤ℤ entry x 0
     first_at e x lx s = first_of t.of t.cols t.generators t.lines t.cones thing.kind (is ∙ e) x lx ((same x lx).1 s)
 
-    rays : MayBeRays of V
-    rays e = All_among (λ (x : Row). pos 0 ≤ℤ entry x 0) V (λ x i. let r = among_All (λ u. IsExtreme t.cols S u) i g.order.each in first_at e x r.cols r.inside)
+    rays : AreRays of V
+    rays = record { before = λ e. first_rays e; not_zero = primitive_some V g.primitive }
+      where
+        first_rays : of ≡ Polytope → All (λ x. pos 0 ≤ℤ entry x 0) V
+        first_rays e = All_among (λ (x : Row). pos 0 ≤ℤ entry x 0) V (λ x i. let r = among_All (λ u. IsExtreme t.cols S u) i g.order.each in first_at e x r.cols r.inside)
 
     lines : MayBeLines of K
     lines e = All_among (λ (x : Row). entry x 0 ≡ pos 0) K (λ x i.
@@ -259,21 +277,15 @@ may_generate of t S V K is thing same g = record { rays = rays; lines = lines }
         both_ways (entry x 0) (entry (opposite x) 0) (first_at e x lx l.inside) (first_at e (opposite x) (length-opposite x ∙ lx) l.opposed) (entry-opposite x 0))
 
 -- ---- VERTICES and LINEALITY_SPACE, where the rows that were read describe the cone S
-module _ (v : ViewSeen) (view : IsView v) (targets : v.kind.targets ≡ set_of (Vertices ∷ LinealitySpace ∷ [])) (no_fan : ¬ (v.of ≡ Fan)) (fresh : IsFresh rays_tag v.kind) (S : Row → Type 0) (V K : List Row) (g : AreGenerators v.cols S V K)
-    (same : (t : Thing) (o : Orders) → t.of ≡ v.of → t.cols ≡ v.cols → RightAll v.facts t o → (x : Row) → length x ≡ t.cols → InSet t x ↔ S x) (new : DraftSeen) (h : ArePutGenerators v V K new) where
+module _ (v : ViewSeen) (view : IsView v) (targets : v.kind.targets ≡ set_of (Vertices ∷ LinealitySpace ∷ [])) (no_fan : ¬ (v.of ≡ Fan)) (fresh : IsFresh rays_tag v.kind) (S : Row → Type 0) (V K : List Row)
+    (found : (t : Thing) (o : Orders) → t.of ≡ v.of → t.cols ≡ v.cols → RightAll v.facts t o → AreGenerators v.cols S V K × ((x : Row) → length x ≡ t.cols → InSet t x ↔ S x)) (new : DraftSeen) (h : ArePutGenerators v V K new) where
   ray_puts : List Put
   ray_puts = put Vertices (matrix (cols_over v.cols h.rows) h.rows) ∷ put LinealitySpace (matrix (cols_over v.cols (map ratios h.lines)) (map ratios h.lines)) ∷ []
-
-  put_primitive : All IsPrimitive h.rays
-  put_primitive = elim h.possible.either [
-    | inl e ↦ subst (All IsPrimitive) (sym e.0) g.primitive
-    | inr e ↦ subst (All IsPrimitive) (sym e.0) (All-nil IsPrimitive)
-  ]
 
   rays_formed : AreFormed v ray_puts
   unfolding ray_puts
   rays_formed = (
-    (vertices_forms v view h.rows h.rays h.possible.few_rays put_primitive h.each, put_states v.cols h.rows),
+    (vertices_forms v view h.rows h.rays h.possible.few_rays h.possible.may.rays.not_zero h.each, put_states v.cols h.rows),
     ((lineality_forms v.of v.cols h.lines (ratios_columned v.cols h.lines view.some_cols view.few_cols h.possible.few_lines.few h.possible.few_lines.cols) h.in_range h.possible.may.lines, put_states v.cols (map ratios h.lines)), tt),
   )
 
@@ -281,8 +293,9 @@ module _ (v : ViewSeen) (view : IsView v) (targets : v.kind.targets ≡ set_of (
   unfolding ray_puts
   rays_are_right t o of cols right meets =
       let none : ¬ (t.of ≡ Fan) = λ e. no_fan (sym of ∙ e) in
-      let is = same t o of cols right in
-      let g' : AreGenerators t.cols S V K = subst (λ n. AreGenerators n S V K) (sym cols) g in
+      let w = found t o of cols right in
+      let is = w.1 in
+      let g' : AreGenerators t.cols S V K = subst (λ n. AreGenerators n S V K) (sym cols) w.0 in
       let kept = h.possible.kept (may_generate v.of t S V K of right.thing is g') in
       let each : EachIs (IsRayRow t) h.rows V = subst (EachIs (IsRayRow t) h.rows) kept.0 (ray_rows t v.of h.rows h.rays of h.each) in
       let o' : Orders = record { rays = V; facets = o.facets; cones = o.cones } in
@@ -314,14 +327,16 @@ module _ (v : ViewSeen) (L G : List Row) (t : Thing) (o : Orders) (of : t.of ≡
       facets_bound t o right.thing right.orders (λ e. no_fan (sym of ∙ e)) read.second_cols read.first_cols read.second_rows read.first_rows (objective_of t s) (objective_of t r) rf rh G L
       (primitive_stand read.second_rows G read.second_primitive) (primitive_stand read.first_rows L read.first_primitive)
 
-  pub by_rows : ReadsParts v Equations Inequalities L G → (x : Row) → length x ≡ t.cols → InSet t x ↔ InConeOf v.of v.cols G L x
-  by_rows read x lx =
+  pub rows_pair : (read : ReadsParts v Equations Inequalities L G) → PairCutsOut t read.second_rows read.first_rows
+  rows_pair read =
       let (f, i, p, a) = found Inequalities v.facts (matrix read.second_cols read.second_rows) read.reads_second in
       let (g, j, q, b) = found Equations v.facts (matrix read.first_cols read.first_rows) read.reads_first in
       let both = right.together f g (Contains_among i) (Contains_among j) in
-      let pair : PairCutsOut t read.second_rows read.first_rows =
       subst (λ z. RightPair Inequalities (matrix read.second_cols read.second_rows) Equations z t) b
-      (subst (λ z. RightPair Inequalities (matrix read.second_cols read.second_rows) z g.value t) q (subst (λ z. RightPair Inequalities z g.property g.value t) a (subst (λ z. RightPair z f.value g.property g.value t) p both))) in
+      (subst (λ z. RightPair Inequalities (matrix read.second_cols read.second_rows) z g.value t) q (subst (λ z. RightPair Inequalities z g.property g.value t) a (subst (λ z. RightPair z f.value g.property g.value t) p both)))
+
+  pub by_rows : ReadsParts v Equations Inequalities L G → (x : Row) → length x ≡ t.cols → InSet t x ↔ InConeOf v.of v.cols G L x
+  by_rows read x lx =
       subst (λ k. InSet t x ↔ InConeOf v.of k G L x) cols
       (subst (λ k. InSet t x ↔ InConeOf k t.cols G L x) of
-      (rows_bound t o right.thing (λ e. no_fan (sym of ∙ e)) read.second_rows read.first_rows pair G L (primitive_stand read.second_rows G read.second_primitive) (primitive_stand read.first_rows L read.first_primitive) x lx))
+      (rows_bound t o right.thing (λ e. no_fan (sym of ∙ e)) read.second_rows read.first_rows (rows_pair read) G L (primitive_stand read.second_rows G read.second_primitive) (primitive_stand read.first_rows L read.first_primitive) x lx))

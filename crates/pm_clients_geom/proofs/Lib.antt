@@ -14,3 +14,4 @@ pub mod PutRays
 pub mod FoundHulls
 pub mod SetCounts
 pub mod ZeroPlaces
+pub mod FoundThinned

@@ -3,7 +3,7 @@ use Rattle.pm_algebra.proofs.Ring.{ring}
 use Rattle.pm_algebra.proofs.Signs.{mul_cancel, pos_cancel}
 use Rattle.pm_algebra.specs.Divisors.{IsPrimitive}
 use Rattle.pm_algebra.specs.Numbers.{InRange, InRangeRatio, IsReduced, Ratio}
-use Rattle.pm_algebra.specs.Rows.{HasCols, Row, Stands, entry, ratio_at}
+use Rattle.pm_algebra.specs.Rows.{HasCols, IsZero, Row, Stands, entry, ratio_at}
 use Rattle.pm_algebra.proofs.RowLaws.{entry-times}
 use Rattle.pm_clients_geom.proofs.OverOne.{taken_more}
 use Rattle.pm_clients_geom.specs.Matrices.{MayBeRays, as_put, cols_over}
@@ -28,7 +28,7 @@ use Rattle.pm_types.specs.Views.{over_one, ratios}
 use Rattle.std.proofs.Common.{ap, arith, below_more, false, get_or, inl, inr, map, refl, subst, suc, sym, take, true, true≢false, zero, ◌∙◌}
 use Rattle.std.proofs.lemmas.Int.{ints, unsigned_abs-mul}
 use Rattle.std.proofs.lemmas.List.{get_or_append_left, get_or_default, get_or_push, length_push}
-use Rattle.std.proofs.lemmas.List.Elements.{All-from_recursion}
+use Rattle.std.proofs.lemmas.List.Elements.{All-cons, All-from_recursion, All-nil}
 use Rattle.std.proofs.lemmas.Nat.Gcd.{dvd_refl}
 use Rattle.std.specs.Int.{◌∣◌}
 use Rattle.std.specs.List.{All}
@@ -190,7 +190,7 @@ zero_or_not (pos zero) = inl refl
 zero_or_not (pos (suc n)) = inr (λ e. omega (arith, ints))
 zero_or_not (negsuc n) = inr (λ e. omega (arith, ints))
 
--- ---- a primitive row is not zero
+-- ---- a row that is not zero, as one that is primitive
 all_nought : (x : Row) → is_zero_row (ratios x) ≡ true → (i : ℕ) → entry x i ≡ pos 0
 all_nought [] h i = refl
 all_nought (pos zero ∷ x) h zero = refl
@@ -198,15 +198,27 @@ all_nought (pos zero ∷ x) h (suc i) = all_nought x h i
 all_nought (pos (suc n) ∷ x) h i = absurd (true≢false (sym h))
 all_nought (negsuc n ∷ x) h i = absurd (true≢false (sym h))
 
-pub primitive_not_zero : (x : Row) → IsPrimitive x → is_zero_row (ratios x) ≡ false
-primitive_not_zero x p = by (is_zero_row (ratios x)) refl
-  where
-    twice : ((i : ℕ) → entry x i ≡ pos 0) → pos 2 ≡ pos 1
-    twice z = p.whole (pos 2) x refl (omega (arith, ints)) (record { at = λ i. let e = z i in simp entry-times (omega (arith, ints)) })
+pub nought_zero : (x : Row) → All (λ k. k ≡ pos 0) x → (i : ℕ) → entry x i ≡ pos 0
+nought_zero [] h i = refl
+nought_zero (a ∷ x) h zero = h 0 a (omega arith)
+nought_zero (a ∷ x) h (suc i) = nought_zero x (λ j d l. h (suc j) d (omega arith)) i
 
+pub zero_nought : (x : Row) → ((i : ℕ) → entry x i ≡ pos 0) → All (λ k. k ≡ pos 0) x
+zero_nought [] z = All-nil (λ (k : ℤ). k ≡ pos 0)
+zero_nought (a ∷ x) z = All-cons (λ (k : ℤ). k ≡ pos 0) a x (z 0) (zero_nought x (λ i. z (suc i)))
+
+pub some_not_zero : (x : Row) → ¬ (IsZero x) → is_zero_row (ratios x) ≡ false
+some_not_zero x n = by (is_zero_row (ratios x)) refl
+  where
     by : (b : Bool) → is_zero_row (ratios x) ≡ b → b ≡ false
     by false e = refl
-    by true e = absurd (let t = twice (all_nought x e) in omega (arith, ints))
+    by true e = absurd (n (all_nought x e))
+
+pub primitive_not_zero : (x : Row) → IsPrimitive x → ¬ (IsZero x)
+primitive_not_zero x p z = let t = twice in omega (arith, ints)
+  where
+    twice : pos 2 ≡ pos 1
+    twice = p.whole (pos 2) x refl (omega (arith, ints)) (record { at = λ i. let e = z i in simp entry-times (omega (arith, ints)) })
 
 nought_not_below : (x : Row) → entry x 0 ≡ pos 0 → first_is_below (ratios x) ≡ false
 nought_not_below [] e = refl
@@ -216,17 +228,17 @@ nought_not_below (a ∷ x) e = rw e refl
 -- what such a row is
 pub record IsRayForm (of : ObjectType) (r : List Ratio) (x : Row) : Type 0 where
   pub cols : length r ≡ length x
-  pub passes : IsPrimitive x → is_row of Vertices r ≡ true
+  pub passes : ¬ (IsZero x) → is_row of Vertices r ≡ true
   pub entries : All IsFraction r
   pub primitive : HasPrimitiveRow r
   pub stands : Stands r x
   pub divided : of ≡ Polytope → ¬ (entry x 0 ≡ pos 0) → ratio_at r 0 ≡ over_one (pos 1)
   pub whole : ¬ ((of ≡ Polytope) × ¬ (entry x 0 ≡ pos 0)) → r ≡ ratios x
 
-whole_passes : (of : ObjectType) (x : Row) → (of ≡ Polytope → entry x 0 ≡ pos 0) → IsPrimitive x → is_row of Vertices (ratios x) ≡ true
-whole_passes Polytope x e p = rw (nought_not_below x (e refl), primitive_not_zero x p) refl
-whole_passes Cone x e p = rw (primitive_not_zero x p) refl
-whole_passes Fan x e p = rw (primitive_not_zero x p) refl
+whole_passes : (of : ObjectType) (x : Row) → (of ≡ Polytope → entry x 0 ≡ pos 0) → ¬ (IsZero x) → is_row of Vertices (ratios x) ≡ true
+whole_passes Polytope x e p = rw (nought_not_below x (e refl), some_not_zero x p) refl
+whole_passes Cone x e p = rw (some_not_zero x p) refl
+whole_passes Fan x e p = rw (some_not_zero x p) refl
 
 whole_form : (of : ObjectType) (r : List Ratio) (x : Row) → IsPutRay of r x → (of ≡ Polytope → entry x 0 ≡ pos 0) → IsRayForm of r x
 whole_form of r x h e =

@@ -5,14 +5,15 @@ use Rattle.pm_client.specs.Examples.{no_rows, single}
 use Rattle.pm_clients_geom.specs.Hulls.{AreFewRows, ArePossible, ArePutGenerators, FindsFacets, MayGenerate}
 use Rattle.pm_clients_geom.specs.Lists.{ReadsParts}
 use Rattle.pm_clients_geom.specs.Places.{AreZeroPlaces}
+use Rattle.pm_clients_geom.specs.Thinned.{ArePossibleFacets, ArePossibleRays}
 use Rattle.pm_clients_geom.specs.Rays.{ArePutRays, IsOverFirst, IsPutRay}
 use Rattle.pm_object.specs.Reading.{DraftSeen, Put}
 use Rattle.pm_props.specs.Kinds.{standard_kind}
 use Rattle.pm_props.specs.declared.property.PropId.TheVariants.{AffineHull, Equations, Facets, Inequalities, InputLineality, LinealitySpace, Points, Vertices}
 use Rattle.pm_types.specs.Values.{matrix}
 use Rattle.pm_client.specs.Families.{clients_of}
-use Rattle.pm_clients_geom.specs.Families.{finds_dimension, finds_hull, finds_rows, finds_size, finds_truth}
-use Rattle.pm_clients_geom.specs.Matrices.{MayBeLines, MayBeRays, as_put}
+use Rattle.pm_clients_geom.specs.Families.{finds_dimension, finds_hull, finds_rows, finds_size, finds_thinned, finds_truth}
+use Rattle.pm_clients_geom.specs.Matrices.{AreNotZero, AreRays, MayBeLines, MayBeRays, as_put}
 use Rattle.pm_props.specs.declared.object_type.ObjectType.TheVariants.{Cone, Polytope}
 use Rattle.pm_types.specs.Views.{over_one, ratios}
 use Rattle.pm_props.specs.declared.standard.StandardClient.TheVariants as client
@@ -26,7 +27,9 @@ pub record FamiliesAreRead : Type 0 where
   pub truths : clients_of finds_truth ≡ client.Feasible ∷ client.Bounded ∷ client.Pointed ∷ client.FullDim ∷ client.Centered ∷ []
   pub sizes : clients_of finds_size ≡ client.NVertices ∷ client.NVerticesSets ∷ client.NFacets ∷ client.NFacetsSets ∷ client.FarFace ∷ []
   pub hulls : clients_of finds_hull ≡ client.DdVertices ∷ client.DdFacets ∷ client.DdFacetsV ∷ client.DdVerticesF ∷ []
+  pub thinned : clients_of finds_thinned ≡ client.ThinPointsF ∷ client.ThinInequalitiesV ∷ client.VerticesFromSets ∷ client.FacetsFromSets ∷ []
   pub no_hull : finds_hull client.HullFromVertices ≡ false
+  pub not_thinned : finds_thinned client.ThinPointsLp ≡ false
   pub no_truth : finds_truth client.ConeDimV ≡ false
   pub no_dimension : finds_dimension client.Incidence ≡ false
 
@@ -100,3 +103,17 @@ pub record HullsAreRead : Type 0 where
   pub put : ArePutGenerators no_rows (single 1 ∷ []) []
       (drafted (record { property = Vertices; value = matrix 1 (ratios (single 1) ∷ []) } ∷ record { property = LinealitySpace; value = matrix 0 [] } ∷ []))
   pub not_put : ¬ (ArePutGenerators no_rows (single 1 ∷ []) [] (drafted []))
+
+pub record ThinnedAreRead : Type 0 where
+  -- a row of zeros is no ray and no facet row
+  pub not_zero : AreNotZero (single 1 ∷ [])
+  pub zero : ¬ (AreNotZero (single 0 ∷ []))
+  pub ray : AreRays Polytope (single 1 ∷ [])
+  pub no_ray : ¬ (AreRays Polytope (single 0 ∷ []))
+  -- what may be rays, or facet rows, is kept; in the place of others there are none
+  pub kept : ArePossibleRays Polytope (single 1 ∷ []) (single 1 ∷ [])
+  pub none : ArePossibleRays Polytope (single 0 ∷ []) []
+  pub lost : ¬ (ArePossibleRays Polytope (single 1 ∷ []) [])
+  pub kept_facet : ArePossibleFacets (single 1 ∷ []) (single 1 ∷ [])
+  pub no_facet : ArePossibleFacets (single 0 ∷ []) []
+  pub lost_facet : ¬ (ArePossibleFacets (single 1 ∷ []) [])

@@ -11,6 +11,14 @@ finds_hull client.DdFacetsV = true
 finds_hull client.DdVerticesF = true
 finds_hull c = false
 
+-- the clients that thin one description by the other, or find one from sets
+abbrev pub finds_thinned : StandardClient → Bool
+finds_thinned client.ThinPointsF = true
+finds_thinned client.ThinInequalitiesV = true
+finds_thinned client.VerticesFromSets = true
+finds_thinned client.FacetsFromSets = true
+finds_thinned c = false
+
 -- the clients that find rows
 abbrev pub finds_rows : StandardClient → Bool
 finds_rows client.PointsFromVertices = true

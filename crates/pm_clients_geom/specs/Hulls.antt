@@ -2,7 +2,7 @@
 use Rattle.pm_algebra.specs.Numbers.{InRange, Ratio}
 use Rattle.pm_algebra.specs.Rows.{HasCols, Row}
 use Rattle.pm_client.specs.Sound.{are_parts, doubles}
-use Rattle.pm_clients_geom.specs.Matrices.{MayBeLines, MayBeRays, cols_over}
+use Rattle.pm_clients_geom.specs.Matrices.{AreRays, MayBeLines, cols_over}
 use Rattle.pm_clients_geom.specs.Rays.{ArePutRays}
 use Rattle.pm_object.specs.Reading.{DraftSeen, ViewSeen}
 use Rattle.pm_props.specs.declared.kind.Kind.{Kind}
@@ -31,7 +31,7 @@ pub record AreFewRows (n : ℕ) (X : List Row) : Type 0 where
 
 -- the rays V and the lines K, of a thing of that type
 pub record MayGenerate (of : ObjectType) (V K : List Row) : Type 0 where
-  pub rays : MayBeRays of V
+  pub rays : AreRays of V
   pub lines : MayBeLines of K
 
 -- V and K are V' and K' wherever these may generate a thing of the view's type, and else there are none

@@ -1,6 +1,6 @@
 -- Matrices that a client puts, and rows that may span a lineality.
 use Rattle.pm_algebra.specs.Numbers.{Ratio}
-use Rattle.pm_algebra.specs.Rows.{Row, entry}
+use Rattle.pm_algebra.specs.Rows.{IsZero, Row, entry}
 use Rattle.pm_props.specs.declared.object_type.ObjectType.{ObjectType}
 use Rattle.pm_props.specs.declared.object_type.ObjectType.TheVariants.{Polytope}
 use Rattle.pm_matrix.specs.Matrices.{FractionMatrix}
@@ -25,3 +25,12 @@ MayBeLines of rows = of ≡ Polytope → All (λ x. entry x 0 ≡ pos 0) rows
 -- rays of a polytope have no negative first entry
 abbrev pub MayBeRays : ObjectType → List Row → Type 0
 MayBeRays of rows = of ≡ Polytope → All (λ x. pos 0 ≤ℤ entry x 0) rows
+
+-- no row is zero
+abbrev pub AreNotZero : List Row → Type 0
+AreNotZero rows = All (λ x. ¬ (IsZero x)) rows
+
+-- rows that may be rays, none of them zero
+pub record AreRays (of : ObjectType) (rows : List Row) : Type 0 where
+  pub before : MayBeRays of rows
+  pub not_zero : AreNotZero rows

@@ -11,7 +11,7 @@ ghost use Rattle.pm_props.specs.declared.property.PropId.TheVariants as property
 ghost use Rattle.pm_props.specs.declared.standard.StandardClient.TheVariants as client;
 ghost use Rattle.std.specs.Prelude.{IfErr, IfOk, IsTrue, OnOk, [], length, ◌∷◌, ◌≡◌, ◌≤◌};
 
-use crate::rays::{matrix_of_rays, may_be_rays};
+use crate::rays::{are_rays, matrix_of_rays};
 use crate::rows::{matrix_over_one, may_be_lines};
 use pm_client::{ClientFail, Family, FamilyClient, matrix_of, primitive_rows, put_value};
 use pm_hull::{Generators, to_facets, to_generators};
@@ -75,21 +75,22 @@ impl Family for HullFamily {
     ghost counted = { refl };
 }
 
-// The two parts of a row list, as primitive whole rows.
+/// The two parts of a row list, as primitive whole rows.
 #[derive(Debug, Drop)]
-struct Parts {
-    first: Vec<Ints>,
-    second: Vec<Ints>,
+pub(crate) struct Parts {
+    pub(crate) first: Vec<Ints>,
+    pub(crate) second: Vec<Ints>,
 }
 
-// The two parts of the row list that a client reads. Want of memory alone ends it.
-fn read_parts(
+/// Two parts of a row list that a client reads. Want of memory alone ends it.
+pub(crate) fn read_parts(
     alloc: Global,
     view: &View,
     first: PropId,
     second: PropId,
 ) -> Result<Parts, ClientFail>
-    requires sources { view.now.kind.sources ≡ set_of (second ∷ first ∷ []) }
+    requires first { IsTrue (has view.now.kind.sources first) }
+    requires second { IsTrue (has view.now.kind.sources second) }
     requires parts { IsTrue (are_parts first second) }
     ensures read { IfOk result (λ p. ReadsParts view.now first second
         p.first.items p.second.items) }
@@ -171,7 +172,7 @@ fn those_that_may_be(alloc: Global, view: &View, found: Generators) -> Generator
     ensures { ArePossible view.now found.rays.items found.lineality.items
         result.rays.items result.lineality.items }
 {
-    if may_be_rays(view.of(), &found.rays) && may_be_lines(view.of(), &found.lineality) {
+    if are_rays(view.of(), &found.rays) && may_be_lines(view.of(), &found.lineality) {
         found
     } else {
         Generators {
@@ -181,8 +182,8 @@ fn those_that_may_be(alloc: Global, view: &View, found: Generators) -> Generator
     }
 }
 
-// Puts rays and lines as VERTICES and LINEALITY_SPACE. Want of memory alone ends it.
-fn put_generators(
+/// Puts rays and lines as VERTICES and LINEALITY_SPACE. Want of memory alone ends it.
+pub(crate) fn put_generators(
     alloc: Global,
     view: &View,
     draft: &mut Draft,

@@ -1,9 +1,9 @@
 // Generators as values: the rays of a polytope divided by their first coordinate, where that is not 0.
 
 ghost use Rattle.pm_algebra.specs.Numbers.{InRange};
-ghost use Rattle.pm_algebra.specs.Rows.{HasCols, entry};
+ghost use Rattle.pm_algebra.specs.Rows.{HasCols, IsZero, entry};
 ghost use Rattle.pm_client.specs.declared.ClientFail.TheVariants.{Memory};
-ghost use Rattle.pm_clients_geom.specs.Matrices.{MayBeLines, MayBeRays, as_put};
+ghost use Rattle.pm_clients_geom.specs.Matrices.{AreNotZero, AreRays, MayBeLines, MayBeRays, as_put};
 ghost use Rattle.pm_clients_geom.specs.Rays.{ArePutRays, IsOverFirst, IsPutRay};
 ghost use Rattle.std.specs.Prelude.{All, IfErr, IfOk, IsTrue, OnOk, length, pos, ◌<ℤ◌, ◌<◌, ◌≡◌, ◌≤ℤ◌, ◌↔◌};
 
@@ -15,12 +15,41 @@ use pm_types::ObjectType;
 use pm_vector::Ints;
 use std::alloc::Global;
 
-/// Whether rows may be rays of a thing of that type.
-pub(crate) fn may_be_rays(of: ObjectType, rows: &[Ints]) -> bool
+// Whether all numbers are 0.
+fn are_zero(numbers: &[i128]) -> bool
+    ensures { IsTrue result ↔ All (λ k. k ≡ pos 0) numbers.now }
+{
+    numbers.iter().all(|k| *k == 0)
+}
+
+// Whether all entries are 0.
+fn is_zero(row: &Ints) -> bool
+    ensures { IsTrue result ↔ IsZero row.now }
+{
+    are_zero(row.as_slice())
+}
+
+/// Whether no row is zero.
+pub(crate) fn are_not_zero(rows: &[Ints]) -> bool
+    ensures { IsTrue result ↔ AreNotZero rows.now }
+{
+    rows.iter().all(|row| !is_zero(row))
+}
+
+// Whether none of the rows lies behind, of a polytope.
+fn may_be_rays(of: ObjectType, rows: &[Ints]) -> bool
     requires { All (λ x. 0 < length x) rows.now }
     ensures { IsTrue result ↔ MayBeRays of rows.now }
 {
     of != ObjectType::Polytope || rows.iter().all(|row| row.get(0) >= 0)
+}
+
+/// Whether rows may be rays of a thing of that type: none is zero, and of a polytope none lies behind.
+pub(crate) fn are_rays(of: ObjectType, rows: &[Ints]) -> bool
+    requires { All (λ x. 0 < length x) rows.now }
+    ensures { IsTrue result ↔ AreRays of rows.now }
+{
+    may_be_rays(of, rows) && are_not_zero(rows)
 }
 
 // A row of whole numbers divided by its first entry, in lowest terms. Want of memory alone ends it.

@@ -246,6 +246,7 @@ fn rays_of_sets(
     ensures rays { IfOk result (λ r. (V : List Row) → IsOrder cols (HalfSpaces equations.now cuts.now) V
         → IsIncidence V cuts.now (map (λ r. r.items) sets.now)
         → AreCanonicalFor cols (HalfSpaces equations.now cuts.now) V r.items) }
+    ensures null { IfOk result (λ r. (lines : List Row) × (P : List ℕ) × IsNullBasis cols (equations.now ++ cuts.now) lines P) }
     ensures determined { IfOk result (λ r. AreDetermined cols equations.now cuts.now (map (λ s. s.items) sets.now) r.items) }
     ensures failed { IfErr result (IsSetsFail cols equations.now cuts.now (map (λ r. r.items) sets.now)) }
 {
@@ -303,6 +304,7 @@ pub fn vertices_from_sets(
     ensures rays { IfOk result (λ r. (V : List Row) → IsOrder cols (HalfSpaces f.now.hull.items f.now.facets.items) V
         → s.now.cols ≡ length V → IsIncidence f.now.facets.items V s.now.rows
         → AreCanonicalFor cols (HalfSpaces f.now.hull.items f.now.facets.items) V r.items) }
+    ensures null { IfOk result (λ r. (lines : List Row) × (P : List ℕ) × IsNullBasis cols (f.now.hull.items ++ f.now.facets.items) lines P) }
     ensures determined { IfOk result (λ r. AreDetermined cols f.now.hull.items f.now.facets.items (turned s.now) r.items) }
     ensures failed { IfErr result (IsSetsFail cols f.now.hull.items f.now.facets.items (turned s.now)) }
 {
@@ -343,6 +345,7 @@ pub fn facets_from_sets(
     ensures facets { IfOk result (λ r. (F : List Row) → IsOrder cols (IsValid cols g.now.rays.items g.now.lineality.items) F
         → IsIncidence F g.now.rays.items s.now.rows
         → AreCanonicalFor cols (IsValid cols g.now.rays.items g.now.lineality.items) F r.items) }
+    ensures null { IfOk result (λ r. (lines : List Row) × (P : List ℕ) × IsNullBasis cols (g.now.lineality.items ++ g.now.rays.items) lines P) }
     ensures determined { IfOk result (λ r. AreDetermined cols g.now.lineality.items g.now.rays.items s.now.rows r.items) }
     ensures failed { IfErr result (IsTurnedSetsFail cols g.now.lineality.items g.now.rays.items s.now.rows) }
 {

@@ -193,6 +193,10 @@ const STANDARD_BOOK: &str =
     dd_facets : rule FACETS, AFFINE_HULL : POINTS, INPUT_LINEALITY { dd_facets } weight 40;\n\
     dd_facets_v : rule FACETS, AFFINE_HULL : VERTICES, LINEALITY_SPACE { dd_facets_v } weight 30;\n\
     dd_vertices_f : rule VERTICES, LINEALITY_SPACE : FACETS, AFFINE_HULL { dd_vertices_f } weight 30;\n\
+    thin_points_f : rule VERTICES, LINEALITY_SPACE : POINTS, INPUT_LINEALITY, FACETS, AFFINE_HULL { thin_points_f } weight 10;\n\
+    thin_inequalities_v : rule FACETS, AFFINE_HULL : INEQUALITIES, EQUATIONS, VERTICES, LINEALITY_SPACE { thin_inequalities_v } weight 10;\n\
+    vertices_from_sets : rule VERTICES : FACETS, AFFINE_HULL, VERTICES_IN_FACETS { vertices_from_sets } weight 20;\n\
+    facets_from_sets : rule FACETS : VERTICES, LINEALITY_SPACE, VERTICES_IN_FACETS { facets_from_sets } weight 20;\n\
     points_from_vertices : rule POINTS, INPUT_LINEALITY : VERTICES, LINEALITY_SPACE { points_from_vertices } weight 5;\n\
     inequalities_from_facets : rule INEQUALITIES, EQUATIONS : FACETS, AFFINE_HULL { inequalities_from_facets } weight 5;\n\
     lineality_from_facets : rule LINEALITY_SPACE : FACETS, AFFINE_HULL { lineality_from_facets } weight 5;\n\

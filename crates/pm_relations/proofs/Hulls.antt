@@ -69,7 +69,7 @@ sign_kept z r x y s t h =
     subst (λ k. pos 0 ≤ℤ k) (dot_comm z y) (nonneg_cancel d.q_positive (subst (λ k. pos 0 ≤ℤ k) e q))
 
 -- they cut out the same
-stand_cut : (inequalities equations : List (List Ratio)) (as' xs es ks : List Row) → StandFor inequalities as' → StandFor inequalities xs → StandFor equations es → StandFor equations ks → (x : Row) → Solves as' es x ↔ HalfSpaces ks xs x
+pub stand_cut : (inequalities equations : List (List Ratio)) (as' xs es ks : List Row) → StandFor inequalities as' → StandFor inequalities xs → StandFor equations es → StandFor equations ks → (x : Row) → Solves as' es x ↔ HalfSpaces ks xs x
 stand_cut inequalities equations as' xs es ks sa sx se sk x = (
   λ s. (
     all_from (λ (a : Row). dot a x ≡ pos 0) ks (stand_each (λ a. dot a x ≡ pos 0) (λ r a b u w. zero_of_stands x u w) equations es ks se sk (λ e i. among_All (λ (a : Row). dot a x ≡ pos 0) i s.equations)),
@@ -140,7 +140,7 @@ in_order_itself R [] f = tt
 in_order_itself R (x ∷ xs) f = (f x here, in_order_itself R xs (λ y i. f y (there i)))
 
 -- a row is alike to itself
-alike_itself : (n : ℕ) (S : Row → Type 0) (r : Row) → length r ≡ n → InLineality S (times (pos 0) r) → SameModulo n S r r
+pub alike_itself : (n : ℕ) (S : Row → Type 0) (r : Row) → length r ≡ n → InLineality S (times (pos 0) r) → SameModulo n S r r
 alike_itself n S r lr line = record {
   p = pos 1;
   k = pos 1;
@@ -152,7 +152,7 @@ alike_itself n S r lr line = record {
   same = record { at = λ i. simp (entry-plus, entry-times) (omega (arith, ints)) };
 }
 
-extreme_at : {n : ℕ} {S : Row → Type 0} {V : List Row} → IsOrder n S V → (v : Row) → Among v V → IsExtreme n S v
+pub extreme_at : {n : ℕ} {S : Row → Type 0} {V : List Row} → IsOrder n S V → (v : Row) → Among v V → IsExtreme n S v
 extreme_at {n} {S} o v i = among_All (λ u. IsExtreme n S u) i o.each
 
 pub order_cols : (n : ℕ) (S : Row → Type 0) (V : List Row) → IsOrder n S V → HasCols n V
@@ -175,7 +175,7 @@ module _ (n : ℕ) (G L : List Row) where
   valid_as : (G' L' : List Row) → ((x : Row) → length x ≡ n → InCone G L x → InCone G' L' x) → (a : Row) → length a ≡ n → IsValid n G' L' a → IsValid n G L a
   valid_as G' L' same a la v = record { cols = la; holds = λ x lx h. v.holds x lx (same x lx h) }
 
-  facet_alike : HasCols n G → HasCols n L → (a : Row) → length a ≡ n → SameModulo n (IsValid n G L) a a
+  pub facet_alike : HasCols n G → HasCols n L → (a : Row) → length a ≡ n → SameModulo n (IsValid n G L) a a
   facet_alike hg hl a la =
       let lz : length (times (pos 0) a) ≡ n = length-times (pos 0) a ∙ la in
       alike_itself n (IsValid n G L) a la ((vanishes_line n G L hg hl (times (pos 0) a) lz).0 (record { cols = lz; holds = λ x lx h. let e = times-dot (pos 0) a x in omega (arith, ints) }))
@@ -185,7 +185,7 @@ facets_of Polytope n G L Gs o F none h f = record { rays = h.rays; facets = f; c
 facets_of Cone n G L Gs o F none h f = record { rays = h.rays; facets = f; cones = h.cones }
 facets_of Fan n G L Gs o F none h f = absurd (none refl)
 
-each_ratios : (F : List Row) → EachIs (λ r x. r ≡ ratios x) (map ratios F) F
+pub each_ratios : (F : List Row) → EachIs (λ r x. r ≡ ratios x) (map ratios F) F
 each_ratios [] = tt
 each_ratios (x ∷ F) = (refl, each_ratios F)
 
@@ -229,7 +229,7 @@ module _ (t : Thing) (o : Orders) (thing : IsThing t) (orders : AreOrders t o) (
   hull_right kind m o' c = (echelon_is_right t o' kind m c H of_thing.pivots).0 hull_basis
 
 -- ---- extreme rays
-zero_line : (G L : List Row) (v : Row) → InLineality (InCone G L) (times (pos 0) v)
+pub zero_line : (G L : List Row) (v : Row) → InLineality (InCone G L) (times (pos 0) v)
 zero_line G L v = record { inside = in_zero (λ i. simp entry-times (omega (arith, ints))); opposed = in_zero (λ i. simp (entry-opposite, entry-times) (omega (arith, ints))) }
 
 ray_alike_of : (of : ObjectType) (n : ℕ) (G L : List Row) → ¬ (of ≡ Fan) → (v : Row) → length v ≡ n → SameRayOf of n G L v v
@@ -242,12 +242,12 @@ rays_of Polytope n G L Gs o V none h r = record { rays = r; facets = h.facets; c
 rays_of Cone n G L Gs o V none h r = record { rays = r; facets = h.facets; cones = h.cones }
 rays_of Fan n G L Gs o V none h r = absurd (none refl)
 
-lines_of : (of : ObjectType) (G L : List Row) → ¬ (of ≡ Fan) → (x : Row) → InLineality (InCone G L) x ↔ InLinesOf of G L x
+pub lines_of : (of : ObjectType) (G L : List Row) → ¬ (of ≡ Fan) → (x : Row) → InLineality (InCone G L) x ↔ InLinesOf of G L x
 lines_of Polytope G L none x = (λ h. h, λ h. h)
 lines_of Cone G L none x = (λ h. h, λ h. h)
 lines_of Fan G L none x = absurd (none refl)
 
-each_stands : (t : Thing) (rows : List (List Ratio)) (V : List Row) → EachIs (IsRayRow t) rows V → StandFor rows V
+pub each_stands : (t : Thing) (rows : List (List Ratio)) (V : List Row) → EachIs (IsRayRow t) rows V → StandFor rows V
 each_stands t [] [] h = tt
 each_stands t [] (x ∷ V) h = absurd h
 each_stands t (r ∷ rows) [] h = absurd h

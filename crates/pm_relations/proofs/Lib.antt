@@ -11,3 +11,5 @@ pub mod FirstEntries
 pub mod Orders
 pub mod Hulls
 pub mod Sizes
+pub mod Thinning
+pub mod FromSets

@@ -15,18 +15,18 @@ use Rattle.pm_props.specs.declared.object_type.ObjectType.TheVariants.{Cone, Fan
 use Rattle.pm_props.specs.declared.object_type.ObjectType.{ObjectType}
 use Rattle.pm_props.specs.declared.property.PropId.TheVariants.{CombinatorialDim, FacetSizes, NFacets, NVertices, Simple, Simplicial, VertexSizes, VerticesInFacets}
 use Rattle.pm_relations.proofs.Dimensions.{dimensions_are_determined}
-use Rattle.pm_relations.proofs.Orders.{Holds, alike_back, as_many_facets, as_many_rays, facets_hold, holds_set, orders_total, total}
+use Rattle.pm_relations.proofs.Orders.{Holds, as_many_facets, as_many_rays, facets_hold, holds_set, orders_total, total}
 use Rattle.pm_relations.specs.Sizes.{has_place, holding, place_sizes, set_sizes}
 use Rattle.pm_types.specs.Forms.{are_indices}
-use Rattle.pm_types.specs.Right.{IsIncidence, IsSimple, IsSimplicial, Right, one_if_zero, tight, vanishing}
+use Rattle.pm_types.specs.Right.{IsIncidence, Right, one_if_zero, tight, vanishing}
 use Rattle.pm_types.specs.Things.{AreOrders, AreOrdersOf, Thing}
-use Rattle.pm_types.specs.Values.{PropertyValue, counts, sets, truth, whole}
-use Rattle.std.proofs.Common.{add-one, ap, arith, eqb, false, inl, inr, leb, ltb, refl, subst, sym, true, true≢false, ◌∙◌, ◌&&◌}
+use Rattle.pm_types.specs.Values.{counts, sets, truth, whole}
+use Rattle.std.proofs.Common.{ap, arith, eqb, false, inl, inr, leb, ltb, refl, subst, sym, true, true≢false, ◌∙◌, ◌&&◌}
 use Rattle.std.proofs.lemmas.Bool.{and_from, and_parts, cases_Bool, eq-eqb, eqb-true, le-leb, leb-true}
 use Rattle.std.proofs.lemmas.Int.{ints}
 use Rattle.std.specs.List.{All, Contains, list_all, range_with_len}
 use Rattle.std.specs.Prelude.{Bool, IsTrue, List, [], if◌then◌else◌, length, map, suc, zero, ℕ, ◌+◌, ◌↔◌, ◌∷◌, ◌≡◌, ◌<◌, ◌≤◌, ◌||◌, ◌⊎◌}
-use lib.IntN.{negsuc, pos, ℤ, ◌*ℤ◌, ◌+ℤ◌}
+use lib.IntN.{negsuc, pos, ℤ, ◌*ℤ◌}
 use lib.Signed.{◌<ℤ◌}
 
 -- ---- products that are 0

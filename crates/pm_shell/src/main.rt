@@ -7,7 +7,7 @@ mod run;
 
 use pm_client::{Client, Numbered};
 use pm_clients_comb::SetsClient;
-use pm_clients_geom::{DimClient, HullClient, RowsClient, SizeClient, TestClient};
+use pm_clients_geom::{DimClient, HullClient, RowsClient, SizeClient, TestClient, ThinClient};
 use pm_store::{StdSink, StdSource};
 use run::{Status, polymake};
 use std::alloc::AllocError;
@@ -44,6 +44,14 @@ fn main(rt: HostRuntime) -> ExitCode {
     let mut clients: Vec<Box<dyn Client>> = Vec::new(alloc);
     for k in 0..HullClient::COUNT {
         let Ok(client) = Box::new(alloc, HullClient::new(k)) else {
+            return ExitCode::from(Status::OutOfMemory.number());
+        };
+        if clients.push(client).is_err() {
+            return ExitCode::from(Status::OutOfMemory.number());
+        }
+    }
+    for k in 0..ThinClient::COUNT {
+        let Ok(client) = Box::new(alloc, ThinClient::new(k)) else {
             return ExitCode::from(Status::OutOfMemory.number());
         };
         if clients.push(client).is_err() {

@@ -2,6 +2,7 @@ use Rattle.pm_client.proofs.Failing.{fails_by_parts}
 use Rattle.pm_client.proofs.ViewLaws.{has_listed}
 use Rattle.pm_client.specs.Sound.{FailsRightly}
 use Rattle.pm_clients_geom.proofs.FoundHulls.{facets_sound, lines_few, parts_of_generators}
+use Rattle.pm_clients_geom.proofs.RowLists.{first_source, second_source}
 use Rattle.pm_clients_geom.proofs.hulls.dd_facets.Goals as goal
 use Rattle.pm_relations.proofs.Hulls.{order_cols}
 use Rattle.pm_props.specs.declared.property.PropId.TheVariants.{AffineHull, Facets}
@@ -44,3 +45,9 @@ returns-clause-sound c =
     (rw c.deref-3.ensures.value at c.in_ok-facets.ensures.in_range) (rw c.deref-4.ensures.value at c.in_ok-hull.ensures.in_range) c.in_ok-facets.facets c.in_ok-hull.hull
     c.args.draft.now c.put_value.new.draft c.put_value-2.new.draft (rw (c.deref-3.ensures.value, c.cols-2.ensures.value) at c.in_ok-facets.ensures.rows) (rw (c.deref-4.ensures.value, c.cols-3.ensures.value) at c.in_ok-hull.ensures.rows)
     c.requires.empty c.in_ok-put_value.ensures.ok c.in_ok-put_value-2.ensures.ok
+
+pub read_parts-requires-clause-first : goal.read_parts-requires-clause-first
+read_parts-requires-clause-first c = first_source _ c.args.first c.args.second c.requires.kind.sources
+
+pub read_parts-requires-clause-second : goal.read_parts-requires-clause-second
+read_parts-requires-clause-second c = second_source _ c.args.first c.args.second c.requires.kind.sources

@@ -56,6 +56,12 @@ returns-clause-sound c =
     let no_fan = not_fan v Inequalities view (source_named v.kind Inequalities (has_listed _ sources Inequalities sources_are)) refl refl in
     let fresh = fresh_kind rays_tag v.kind targets sources Vertices targets_are sources_are refl refl refl in
     let g = rw (c.of-2.ensures.value, c.deref.ensures.value, c.deref-2.ensures.value, c.cols.ensures.value) at c.in_ok-found.ensures.generators in
-    rays_sound v view targets_are no_fan fresh _ c.in_ok-found.found.rays.items c.in_ok-found.found.lineality.items g
-    (λ t o of cols right. by_rows v c.in_ok-parts.parts.first.items c.in_ok-parts.parts.second.items t o of cols right no_fan c.in_ok-parts.ensures.read)
+    rays_sound v view targets_are no_fan fresh _ c.in_ok-found.found.rays.items c.in_ok-found.found.lineality.items
+    (λ t o of cols right. (g, by_rows v c.in_ok-parts.parts.first.items c.in_ok-parts.parts.second.items t o of cols right no_fan c.in_ok-parts.ensures.read))
     c.put_generators.new.draft c.in_ok-put_generators.ensures.put
+
+pub read_parts-requires-clause-first : goal.read_parts-requires-clause-first
+read_parts-requires-clause-first c = has_listed _ sources Equations (ap (λ k. k.sources) c.requires.kind)
+
+pub read_parts-requires-clause-second : goal.read_parts-requires-clause-second
+read_parts-requires-clause-second c = has_listed _ sources Inequalities (ap (λ k. k.sources) c.requires.kind)

@@ -1,11 +1,5 @@
-use Rattle.pm_clients_geom.proofs.RowLists.{first_rows_few, first_source, second_rows_few, second_source}
+use Rattle.pm_clients_geom.proofs.RowLists.{first_rows_few, second_rows_few}
 use Rattle.pm_clients_geom.proofs.hulls.read_parts.Goals as goal
-
-pub matrix_of-requires-clause-source : goal.matrix_of-requires-clause-source
-matrix_of-requires-clause-source c = first_source _ c.args.first c.args.second c.requires.sources
-
-pub matrix_of-requires-2-clause-source : goal.matrix_of-requires-2-clause-source
-matrix_of-requires-2-clause-source c = second_source _ c.args.first c.args.second c.requires.sources
 
 pub returns-clause-first_few : goal.returns-clause-first_few
 returns-clause-first_few c =

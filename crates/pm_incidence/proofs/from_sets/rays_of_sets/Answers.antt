@@ -47,6 +47,9 @@ returns-clause-rays c V o i =
     let found = rw (take_all c.loop-set.set-index c.args.sets.now c.loop-set-test.false) at c.loop-set.invariant.1 in
     found_canonical c.args.cols c.args.equations.now c.args.cuts.now b.0 c.in_ok-pivots.pivots.items b.1 V (map (λ r. r.items) c.args.sets.now) c.loop-set.rows.items o i found
 
+pub returns-clause-null : goal.returns-clause-null
+returns-clause-null c = let b = c.in_ok-pivots.ensures.pivots in (b.0, c.in_ok-pivots.pivots.items, b.1)
+
 pub returns-clause-determined : goal.returns-clause-determined
 returns-clause-determined c =
     let b = c.in_ok-pivots.ensures.pivots in

@@ -1,0 +1,179 @@
+// The clients that thin one description of a thing by the other, and those that find one from sets of incidences.
+
+ghost use Rattle.pm_client.specs.Sound.{FailsRightly, IsSound};
+ghost use Rattle.pm_clients_geom.specs.Thinned.{ArePossibleFacets, ArePossibleRays};
+ghost use Rattle.pm_props.specs.Kinds.{standard_kind};
+ghost use Rattle.pm_props.specs.declared.standard.StandardClient.TheVariants as client;
+ghost use Rattle.std.specs.Prelude.{All, IfErr, OnOk, [], length, ◌<◌, ◌≡◌};
+
+use crate::hulls::{put_generators, read_parts};
+use crate::rays::{are_not_zero, are_rays, matrix_of_rays};
+use crate::rows::matrix_over_one;
+use pm_client::{ClientFail, Family, FamilyClient, put_value, sets_of};
+use pm_hull::{Facets, Generators};
+use pm_incidence::{facets_by_incidence, facets_from_sets, vertices_by_incidence, vertices_from_sets};
+use pm_object::{Draft, View};
+use pm_types::{ObjectType, PropId, StandardClient, Value};
+use pm_vector::Ints;
+use std::alloc::Global;
+
+/// The standard clients that thin, and those that find rows from sets.
+#[derive(Debug, Drop)]
+pub struct ThinFamily;
+
+/// A client that thins or takes sets: number 0 is `thin_points_f`, 1 `thin_inequalities_v`, 2 `vertices_from_sets`, 3 `facets_from_sets`.
+/// It fails for want of memory, where a step of an elimination or a product leaves the range, and number 1 where there are more than 2,048 facets.
+pub type ThinClient = FamilyClient<ThinFamily>;
+
+impl Family for ThinFamily {
+    ghost use Rattle.pm_client.specs.Families.{clients_of};
+    ghost use Rattle.pm_client.specs.Sound.{FailsRightly};
+    ghost use Rattle.pm_clients_geom.specs.Families.{finds_thinned};
+    ghost use Rattle.std.specs.Prelude.{length, refl};
+
+    ghost is_member = { finds_thinned };
+
+    ghost Stays = { λ _ _. Unit {0} };
+
+    ghost Fails = { λ _ v e. FailsRightly v e };
+
+    ghost COUNT = { length (clients_of finds_thinned) };
+
+    const COUNT: u8 = 4;
+
+    fn client(number: u8) -> StandardClient {
+        [
+            StandardClient::ThinPointsF,
+            StandardClient::ThinInequalitiesV,
+            StandardClient::VerticesFromSets,
+            StandardClient::FacetsFromSets,
+        ][usize::from(number)]
+    }
+
+    fn answer(
+        client: StandardClient,
+        alloc: Global,
+        view: &View,
+        draft: &mut Draft,
+    ) -> Result<(), ClientFail> {
+        match client {
+            StandardClient::ThinPointsF => thin_points_f(alloc, view, draft),
+            StandardClient::ThinInequalitiesV => thin_inequalities_v(alloc, view, draft),
+            StandardClient::VerticesFromSets => rays_of_sets(alloc, view, draft),
+            StandardClient::FacetsFromSets => facets_of_sets(alloc, view, draft),
+            _ => unreachable!(),
+        }
+    }
+
+    ghost counted = { refl };
+}
+
+// VERTICES and LINEALITY_SPACE: the extreme rays among POINTS, by FACETS, and the lineality.
+fn thin_points_f(alloc: Global, view: &View, draft: &mut Draft) -> Result<(), ClientFail>
+    requires kind { view.now.kind ≡ standard_kind client.ThinPointsF }
+    requires empty { draft.old ≡ record { kind = view.now.kind; values = [] } }
+    ensures draft { draft.new.kind ≡ draft.old.kind }
+    ensures sound { OnOk result (IsSound view.now draft.new) }
+    ensures failed { IfErr result (FailsRightly view.now) }
+{
+    let points = read_parts(alloc, view, PropId::InputLineality, PropId::Points)?;
+    let halves = read_parts(alloc, view, PropId::AffineHull, PropId::Facets)?;
+    let generators = Generators {
+        rays: points.second,
+        lineality: points.first,
+    };
+    let facets = Facets {
+        facets: halves.second,
+        hull: halves.first,
+    };
+    let found = vertices_by_incidence(alloc, ObjectType::Cone, view.cols(), &generators, &facets)?;
+    put_generators(alloc, view, draft, found)?;
+    Ok(())
+}
+
+// FACETS and AFFINE_HULL: the facet rows among INEQUALITIES, by VERTICES, and the rows that vanish.
+fn thin_inequalities_v(alloc: Global, view: &View, draft: &mut Draft) -> Result<(), ClientFail>
+    requires kind { view.now.kind ≡ standard_kind client.ThinInequalitiesV }
+    requires empty { draft.old ≡ record { kind = view.now.kind; values = [] } }
+    ensures draft { draft.new.kind ≡ draft.old.kind }
+    ensures sound { OnOk result (IsSound view.now draft.new) }
+    ensures failed { IfErr result (FailsRightly view.now) }
+{
+    let halves = read_parts(alloc, view, PropId::Equations, PropId::Inequalities)?;
+    let rays = read_parts(alloc, view, PropId::LinealitySpace, PropId::Vertices)?;
+    let generators = Generators {
+        rays: rays.second,
+        lineality: rays.first,
+    };
+    let found = facets_by_incidence(
+        alloc,
+        view.of(),
+        view.cols(),
+        &halves.second,
+        &halves.first,
+        &generators,
+    )?;
+    let rows = possible_facets(alloc, found.facets);
+    let facets = matrix_over_one(alloc, &rows, view.cols())?;
+    let hull = matrix_over_one(alloc, &found.hull, view.cols())?;
+    put_value(draft, PropId::Facets, Value::Mat(facets))?;
+    put_value(draft, PropId::AffineHull, Value::Mat(hull))?;
+    Ok(())
+}
+
+// VERTICES: for each column of VERTICES_IN_FACETS the extreme ray on those FACETS whose sets have it.
+fn rays_of_sets(alloc: Global, view: &View, draft: &mut Draft) -> Result<(), ClientFail>
+    requires kind { view.now.kind ≡ standard_kind client.VerticesFromSets }
+    requires empty { draft.old ≡ record { kind = view.now.kind; values = [] } }
+    ensures draft { draft.new.kind ≡ draft.old.kind }
+    ensures sound { OnOk result (IsSound view.now draft.new) }
+    ensures failed { IfErr result (FailsRightly view.now) }
+{
+    let halves = read_parts(alloc, view, PropId::AffineHull, PropId::Facets)?;
+    let facets = Facets {
+        facets: halves.second,
+        hull: halves.first,
+    };
+    let sets = sets_of(view, PropId::VerticesInFacets);
+    let found = vertices_from_sets(alloc, view.cols(), &facets, sets)?;
+    let rays = possible_rays(alloc, view.of(), found);
+    let vertices = matrix_of_rays(alloc, view.of(), &rays, view.cols())?;
+    put_value(draft, PropId::Vertices, Value::Mat(vertices))?;
+    Ok(())
+}
+
+// FACETS: for each set of VERTICES_IN_FACETS the facet row on these VERTICES.
+fn facets_of_sets(alloc: Global, view: &View, draft: &mut Draft) -> Result<(), ClientFail>
+    requires kind { view.now.kind ≡ standard_kind client.FacetsFromSets }
+    requires empty { draft.old ≡ record { kind = view.now.kind; values = [] } }
+    ensures draft { draft.new.kind ≡ draft.old.kind }
+    ensures sound { OnOk result (IsSound view.now draft.new) }
+    ensures failed { IfErr result (FailsRightly view.now) }
+{
+    let rays = read_parts(alloc, view, PropId::LinealitySpace, PropId::Vertices)?;
+    let generators = Generators {
+        rays: rays.second,
+        lineality: rays.first,
+    };
+    let sets = sets_of(view, PropId::VerticesInFacets);
+    let found = facets_from_sets(alloc, view.cols(), &generators, sets)?;
+    let rows = possible_facets(alloc, found);
+    let facets = matrix_over_one(alloc, &rows, view.cols())?;
+    put_value(draft, PropId::Facets, Value::Mat(facets))?;
+    Ok(())
+}
+
+// These rays, or none where no thing of that type has them.
+fn possible_rays(alloc: Global, of: ObjectType, found: Vec<Ints>) -> Vec<Ints>
+    requires { All (λ x. 0 < length x) found.items }
+    ensures { ArePossibleRays of found.items result.items }
+{
+    if are_rays(of, &found) { found } else { Vec::new(alloc) }
+}
+
+// These facet rows, or none where one is zero, as no thing has it.
+fn possible_facets(alloc: Global, found: Vec<Ints>) -> Vec<Ints>
+    ensures { ArePossibleFacets found.items result.items }
+{
+    if are_not_zero(&found) { found } else { Vec::new(alloc) }
+}
