@@ -12,6 +12,7 @@ use Rattle.pm_client.specs.Examples.{ThinningIsRead, no_points, single}
 use Rattle.pm_client.specs.Sound.{AreRowsOf, ArePartsOf, AreSetsOf, AreTold, IsDeterminingList, IsFlatList, Reads, are_parts, are_told}
 use Rattle.pm_incidence.proofs.Described.{units_echelon}
 use Rattle.pm_matrix.specs.FractionRows.{ArePrimitiveRowsOf}
+use Rattle.pm_object.specs.Reading.{fact_of}
 use Rattle.pm_props.specs.declared.property.PropId.TheVariants.{AffineHull, Equations, Facets, Inequalities, InputLineality, LinealitySpace, Points, Vertices, VerticesInFacets}
 use Rattle.pm_props.specs.declared.property.PropId.{PropId}
 use Rattle.pm_types.specs.Values.{IndexSets, PropertyValue, matrix, sets}
@@ -74,13 +75,16 @@ flat_none q r p L G A X parts told read flat = absurd (true≢false (sym told))
 in_sets : AreSetsOf no_points AffineHull Facets [] [] ([] ∷ [])
 in_sets = record { parts = refl; equations = none_of AffineHull refl; inequalities = none_of Facets refl; index = record { rows = []; cols = 1 }; reads = refl; turned = refl }
 
-value_cols : PropertyValue → ℕ
+abbrev value_cols : PropertyValue → ℕ
 value_cols (sets rows n) = n
 value_cols v = 0
 
-cols_of : Option PropertyValue → ℕ
+abbrev cols_of : Option PropertyValue → ℕ
 cols_of None = 0
 cols_of (Some v) = value_cols v
+
+index_read : fact_of VerticesInFacets no_points.facts ≡ Some (sets [] 1)
+index_read = refl
 
 no_turned : (s : IndexSets) → 1 ≡ s.cols → [] ≡ turned s → ⊥
 no_turned s e t =
@@ -126,7 +130,7 @@ thinning_is_read = record {
   of_facets = refl;
   of_points = refl;
   in_sets = in_sets;
-  not_in_sets = λ h. no_turned h.index (ap cols_of h.reads) h.turned;
+  not_in_sets = λ h. no_turned h.index (ap cols_of (sym index_read ∙ h.reads)) h.turned;
   determining = determining;
   not_determining = λ h. true≢false (sym (ap is_some h.read.reads));
   not_wide = λ h. elim h [ inl w ↦ true≢false (sym w.0) | inr w ↦ true≢false (sym w.0) ];

@@ -280,7 +280,7 @@ fn the_standard_book(rt: HostRuntime) {
 }
 
 // The rules `cone_dim_v` and `lineality_dim`, in either order before `combinatorial_dim`.
-const DIMENSIONS: &[RuleId] = &[RuleId(8), RuleId(11), RuleId(12)];
+const DIMENSIONS: &[RuleId] = &[RuleId(12), RuleId(15), RuleId(16)];
 
 // The dimension of a polytope from its vertices. Below 6 there are CONE_DIM, LINEALITY_DIM, both, AFFINE_HULL, and
 // POINTS with INPUT_LINEALITY.
