@@ -11,7 +11,9 @@ use crate::rays::{are_not_zero, are_rays, matrix_of_rays};
 use crate::rows::matrix_over_one;
 use pm_client::{ClientFail, Family, FamilyClient, put_value, sets_of};
 use pm_hull::{Facets, Generators};
-use pm_incidence::{facets_by_incidence, facets_from_sets, vertices_by_incidence, vertices_from_sets};
+use pm_incidence::{
+    facets_by_incidence, facets_from_sets, vertices_by_incidence, vertices_from_sets,
+};
 use pm_object::{Draft, View};
 use pm_types::{ObjectType, PropId, StandardClient, Value};
 use pm_vector::Ints;
@@ -168,12 +170,20 @@ fn possible_rays(alloc: Global, of: ObjectType, found: Vec<Ints>) -> Vec<Ints>
     requires { All (λ x. 0 < length x) found.items }
     ensures { ArePossibleRays of found.items result.items }
 {
-    if are_rays(of, &found) { found } else { Vec::new(alloc) }
+    if are_rays(of, &found) {
+        found
+    } else {
+        Vec::new(alloc)
+    }
 }
 
 // These facet rows, or none where one is zero, as no thing has it.
 fn possible_facets(alloc: Global, found: Vec<Ints>) -> Vec<Ints>
     ensures { ArePossibleFacets found.items result.items }
 {
-    if are_not_zero(&found) { found } else { Vec::new(alloc) }
+    if are_not_zero(&found) {
+        found
+    } else {
+        Vec::new(alloc)
+    }
 }

@@ -1,7 +1,7 @@
 use Rattle.pm_client.proofs.Failing.{fails_by_ray_sets}
 use Rattle.pm_client.proofs.ViewLaws.{has_listed, not_fan, target_named}
 use Rattle.pm_client.specs.Sound.{FailsRightly, determining_rows, eliminated_by, row_list}
-use Rattle.pm_clients_geom.proofs.FoundThinned.{all_few, facet_sets, facets_from_sets_sound, no_vertex_added, possible_few, sets_few}
+use Rattle.pm_clients_geom.proofs.FoundThinned.{all_few, facet_sets, facets_from_sets_sound, no_vertex_added, sets_few}
 use Rattle.pm_clients_geom.proofs.thinning.facets_of_sets.Goals as goal
 use Rattle.pm_clients_geom.specs.Hulls.{AreFewRows}
 use Rattle.pm_props.specs.declared.kind.Kind.{Kind}
