@@ -276,7 +276,7 @@ fn standard_answer(
 fn the_standard_book(rt: HostRuntime) {
     let held = [PropId::Vertices, PropId::Facets];
     let answer = standard_answer(&rt, names_of_cones(), &held, PropId::VerticesInFacets);
-    assert!(rt; is_planned(answer, &[RuleId(23)], minor(5), 1));
+    assert!(rt; is_planned(answer, &[RuleId(27)], minor(5), 1));
 }
 
 // The rules `cone_dim_v` and `lineality_dim`, in either order before `combinatorial_dim`.

@@ -238,7 +238,7 @@ fn the_standard_book_is_read_back(rt: HostRuntime) {
 }
 
 // The rule for incidences, and properties of a cone with both descriptions.
-const INCIDENCE: RuleId = RuleId(23);
+const INCIDENCE: RuleId = RuleId(27);
 
 const BOTH: &[PropId] = &[PropId::Vertices, PropId::Facets];
 
