@@ -165,6 +165,7 @@ impl LineReader {
     /// and then no call reads of it any more.
     ///
     /// A line that stands in what was given already is answered without a read.
+    /// A line that an LF ended takes bytes of what was given, so its calls come to an end.
     /// `Fault` comes where the source failed. After any error a line that is not whole is gone.
     /// `TooLong` comes exactly where the source gave a byte after the first 16,777,216, and no line of these is left
     /// that an LF ended.
@@ -172,6 +173,8 @@ impl LineReader {
         ensures line { IfOk result (λ there. there ≡ true →
             IfSome (S.left source.old) (λ all. Answers all (S.left source.new) self.old self.new)) }
         ensures last { IfOk result (λ there. there ≡ true → self.new.at_end ≡ not self.new.line.ended) }
+        ensures shrinks { IfOk result (λ there. there ≡ true → self.new.at_end ≡ false →
+            length self.new.given + self.old.read < length self.old.given + self.new.read) }
         ensures over { IfOk result (λ there. there ≡ false → self.old.at_end ≡ false →
             IfSome (S.left source.old) (λ all. IsOver all (S.left source.new) self.old)) }
         ensures end { IfOk result (λ there. there ≡ false → self.new.at_end ≡ true) }

@@ -1,5 +1,5 @@
 -- What was read so far, from the invariant, and what one step more makes of it.
-use Rattle.std.proofs.Common.{◌≡◌, ℕ, ◌<◌, ◌+◌, List, [], ◌++◌, length, ap, subst, sym, ◌∙◌, arith, IsErrOf}
+use Rattle.std.proofs.Common.{◌≡◌, ℕ, suc, ◌<◌, ◌+◌, List, [], ◌∷◌, ◌++◌, length, length-append, ap, subst, sym, ◌∙◌, arith, IsErrOf}
 use Rattle.std.proofs.lemmas.Result.{err_from_is_err_and}
 use Rattle.pm_lines.proofs.LineLaws.{clear_append, last_line}
 use Rattle.pm_lines.proofs.SoFar.{no_whole, told_ended, told_exceeds, told_last, told_more, told_off, told_over}
@@ -24,6 +24,15 @@ returns-then-there-clause-line g c e =
     let ended = c.in_ok-there.ensures.ended c.if-there.true in
     told_ended (g.S.Source.left c.args.source.now) (g.S.Source.left c.loop-there.source) ended.0 c.args.self.now c.loop-there.self c.take_line.new.self
     had.told had.clear ended.1 c.in_ok-there.ensures.read
+
+pub returns-then-there-clause-shrinks : goal.returns-then-there-clause-shrinks
+returns-then-there-clause-shrinks g c there goes_on =
+    let counted = c.loop-there.invariant.counted in
+    let ended = c.in_ok-there.ensures.ended c.if-there.true in
+    let taken : length c.loop-there.self.given ≡ length ended.0 + suc (length c.take_line.new.self.given) =
+    ap length ended.1.given ∙ length-append ended.0 (10 ∷ c.take_line.new.self.given) in
+    let read = c.in_ok-there.ensures.read in
+    omega arith
 
 pub returns-in_err-more-clause-ready : goal.returns-in_err-more-clause-ready
 returns-in_err-more-clause-ready g c some =
@@ -116,5 +125,6 @@ loop-there-preserved g c =
       quiet = λ some. absurd (some (no_whole c.args.self.now c.loop-there.self unended.0 (had.quiet some).1));
       bound = c.in_ok-more.ensures.bound;
       grows = let before = had.grows in omega arith;
+      counted = let before = had.grows in omega arith;
       rises = let before = had.rises in omega (arith, c.in_ok-more.ensures.never_falls);
     }

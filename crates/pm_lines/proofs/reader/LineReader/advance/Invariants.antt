@@ -1,4 +1,4 @@
-use Rattle.std.proofs.Common.{◌≡◌, ◌≢◌, ◌-◌, ◌≤◌, IfSome, [], false}
+use Rattle.std.proofs.Common.{◌≡◌, ◌≢◌, ◌+◌, ◌-◌, ◌≤◌, IfSome, [], false, length}
 use Rattle.pm_lines.proofs.SoFar.{ReadsOn}
 use Rattle.pm_lines.specs.Coming.{most_bytes}
 use Rattle.pm_lines.specs.Whole.{HasNoBreak, whole_lines}
@@ -14,6 +14,7 @@ invariant-loop-there g l = record {
   quiet : whole_lines l.fn.self.given ≢ [] → (l.source ≡ l.fn.source) × (l.self.given ≡ l.fn.self.given);
   bound : l.self.read ≤ most_bytes;
   grows : l.fn.self.read ≤ l.self.read;
+  counted : length l.self.given + l.fn.self.read ≤ length l.fn.self.given + l.self.read;
   rises : g.S.Source.faults l.fn.source ≤ g.S.Source.faults l.source;
 }
 
