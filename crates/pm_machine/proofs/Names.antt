@@ -21,7 +21,7 @@ use Rattle.pm_script.specs.Commands.{RefSeen, Spoken, blank, new_object, take_va
 use Rattle.pm_script.specs.Replies.{NamesSeen, Remarks, ReplySeen, Rounds, done, ensured, explained, lists_rules, nothing, planned, refused, remarks, shows, tells, told, undef}
 use Rattle.pm_script.specs.declared.names.Bar.{Bar}
 use Rattle.pm_script.specs.declared.refusal.Refusal.{Refusal}
-use Rattle.pm_script.specs.declared.refusal.Refusal.TheVariants.{BadCommand, UnknownName, NameTaken, UnknownType, UnknownProperty, BadValue, AlreadyHeld, Sealed, ObjectsFull, NoChain, Crowded, UnknownRule}
+use Rattle.pm_script.specs.declared.refusal.Refusal.TheVariants.{BadCommand, UnknownName, NameTaken, UnknownType, UnknownProperty, BadValue, AlreadyHeld, Sealed, ObjectsFull, NoChain, Crowded, LineTooLong, UnknownRule}
 use Rattle.pm_props.proofs.Members.{has-only}
 use Rattle.pm_props.specs.Properties.{number}
 use Rattle.pm_props.specs.Sets.{has, only}
@@ -161,6 +161,9 @@ not_taken o p NoChain (value v) e h = h
 not_taken o p Crowded no_json e h = h
 not_taken o p Crowded (faulty f) e h = h
 not_taken o p Crowded (value v) e h = h
+not_taken o p LineTooLong no_json e h = h
+not_taken o p LineTooLong (faulty f) e h = h
+not_taken o p LineTooLong (value v) e h = h
 not_taken o p UnknownRule no_json e h = h
 not_taken o p UnknownRule (faulty f) e h = h
 not_taken o p UnknownRule (value v) e h = h
@@ -212,6 +215,7 @@ module _ {ns ms : List (List ℕ)} {old new : List ℕ → Option State} {name :
         by ObjectsFull h = absurd (not_taken o p ObjectsFull (given_by p (read json)) refl h)
         by NoChain h = absurd (not_taken o p NoChain (given_by p (read json)) refl h)
         by Crowded h = absurd (not_taken o p Crowded (given_by p (read json)) refl h)
+        by LineTooLong h = absurd (not_taken o p LineTooLong (given_by p (read json)) refl h)
         by UnknownRule h = absurd (not_taken o p UnknownRule (given_by p (read json)) refl h)
 
     pub take_done : (clients : Clients) (json : List ℕ) (p : PropId) → property_named o.of text ≡ Some p → Taken o p (given_by p (read json)) None o'
@@ -251,6 +255,7 @@ module _ {ns ms : List (List ℕ)} {old new : List ℕ → Option State} {name :
         by (refused AlreadyHeld more) e = absurd e
         by (refused Sealed more) e = absurd e
         by (refused ObjectsFull more) e = absurd e
+        by (refused LineTooLong more) e = absurd e
         by (refused UnknownRule more) e = absurd e
 
     pub gave_in_part : {T E : Type 0} (r : Result T E) (book : List Rule) (clients after : Clients) (p : PropId) → property_named o.of text ≡ Some p
@@ -300,6 +305,7 @@ module _ {ns ms : List (List ℕ)} {old new : List ℕ → Option State} {name :
         by (refused AlreadyHeld more) e = absurd e
         by (refused Sealed more) e = absurd e
         by (refused ObjectsFull more) e = absurd e
+        by (refused LineTooLong more) e = absurd e
         by (refused UnknownRule more) e = absurd e
 
     pub ensured_partly : {T E : Type 0} (r : Result T E) (book : List Rule) (clients after : Clients) (asked : PropSet) → asked_in o.of words ≡ Some asked
@@ -341,6 +347,7 @@ module _ {ns ms : List (List ℕ)} {old new : List ℕ → Option State} {name :
         by (refused AlreadyHeld more) e = absurd e
         by (refused Sealed more) e = absurd e
         by (refused ObjectsFull more) e = absurd e
+        by (refused LineTooLong more) e = absurd e
         by (refused UnknownRule more) e = absurd e
 
     pub explained_in_part : {T E : Type 0} (r : Result T E) (book : List Rule) (clients : Clients) → OnErr r ((o' ≡ o) ⊎ (o' ≡ settled_object o))

@@ -27,7 +27,7 @@ use Rattle.pm_types.specs.Views.{view_of}
 use Rattle.pm_props.specs.declared.property.PropId.{PropId}
 use Rattle.pm_script.specs.Values.{value_text}
 use Rattle.pm_script.specs.declared.refusal.Refusal.{Refusal}
-use Rattle.pm_script.specs.declared.refusal.Refusal.TheVariants.{BadCommand, UnknownName, NameTaken, UnknownType, UnknownProperty, BadValue, AlreadyHeld, Sealed, ObjectsFull, NoChain, Crowded, UnknownRule}
+use Rattle.pm_script.specs.declared.refusal.Refusal.TheVariants.{BadCommand, UnknownName, NameTaken, UnknownType, UnknownProperty, BadValue, AlreadyHeld, Sealed, ObjectsFull, NoChain, Crowded, LineTooLong, UnknownRule}
 use Rattle.pm_script.specs.declared.refusal.ValueWhy.{ValueWhy}
 use Rattle.pm_script.specs.declared.refusal.ValueWhy.TheVariants.{Json, Shape, Number, Index, Limit, Computed, Columns, Row}
 use Rattle.pm_script.specs.declared.reply.Reply.{Reply}
@@ -104,6 +104,7 @@ refusal_text Sealed = codes "8 Sealed"
 refusal_text ObjectsFull = codes "9 ObjectsFull"
 refusal_text NoChain = codes "10 NoChain"
 refusal_text Crowded = codes "11 Crowded"
+refusal_text LineTooLong = codes "15 LineTooLong"
 refusal_text UnknownRule = codes "16 UnknownRule"
 
 -- the label of a rule, and its weight

@@ -51,6 +51,8 @@ pub enum Refusal {
     NoChain,
     /// 11: too many sets of names cost less than a chain that leads there.
     Crowded,
+    /// 15: the line has more than 1,048,576 bytes.
+    LineTooLong,
     /// 16: no rule of the book has the label, or no client has the name.
     UnknownRule,
 }
@@ -90,6 +92,7 @@ pub fn push_refusal(text: &mut String, why: Refusal) -> Result<(), AllocError>
         Refusal::ObjectsFull => text.push_str("9 ObjectsFull"),
         Refusal::NoChain => text.push_str("10 NoChain"),
         Refusal::Crowded => text.push_str("11 Crowded"),
+        Refusal::LineTooLong => text.push_str("15 LineTooLong"),
         Refusal::UnknownRule => text.push_str("16 UnknownRule"),
     }
 }

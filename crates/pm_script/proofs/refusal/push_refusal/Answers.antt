@@ -34,6 +34,9 @@ returns-in-NoChain c = written c.push_str-in-NoChain.result _ _ _ _ c.push_str-i
 pub returns-in-Crowded : goal.returns-in-Crowded
 returns-in-Crowded c = written c.push_str-in-Crowded.result _ _ _ _ c.push_str-in-Crowded.ensures.bytes (ap refusal_text c.in-Crowded.is)
 
+pub returns-in-LineTooLong : goal.returns-in-LineTooLong
+returns-in-LineTooLong c = written c.push_str-in-LineTooLong.result _ _ _ _ c.push_str-in-LineTooLong.ensures.bytes (ap refusal_text c.in-LineTooLong.is)
+
 pub returns-in-UnknownRule : goal.returns-in-UnknownRule
 returns-in-UnknownRule c = written c.push_str-in-UnknownRule.result _ _ _ _ c.push_str-in-UnknownRule.ensures.bytes (ap refusal_text c.in-UnknownRule.is)
 
