@@ -11,21 +11,24 @@ use Rattle.pm_object.specs.State.{State, read_at, value_of}
 use Rattle.pm_rules.specs.declared.rule.Rule.{Rule}
 use Rattle.pm_script.specs.Commands.{Spoken, blank, new_object, take_value, give_value, look_up, ensure_values, explain_values, tell_history, show_rules, disable_rule, unload_client}
 use Rattle.pm_script.specs.Lines.{Line}
-use Rattle.pm_script.specs.Replies.{ReplySeen, Rounds, done, ensured, explained, lists_rules, nothing, refused, shows, tells, undef}
-use Rattle.pm_script.specs.declared.refusal.Refusal.TheVariants.{BadCommand}
-use Rattle.pm_shell.specs.Run.{Answers, AnswersTo, command_at}
+use Rattle.pm_script.specs.Replies.{ReplySeen, Rounds, done, ensured, explained, lists_rules, refused, shows, tells, undef}
+use Rattle.pm_script.specs.declared.refusal.Refusal.{Refusal}
+use Rattle.pm_shell.specs.Run.{Answers, AnswersTo, command_at, refusal_of}
 use Rattle.pm_shell.specs.Shown.{IsShown, Shows}
 use Rattle.pm_types.specs.Values.{PropertyValue}
 use Rattle.pm_props.specs.declared.property.PropId.{PropId}
 use Rattle.pm_props.specs.declared.set.PropSet.{PropSet}
 
 -- ---- honesty
-pub kept_to : (book : List Rule) (old new : Machine) (command : Option Spoken) (reply : Option ReplySeen) → AnswersTo book old command reply new → AllKept old → AllKept new
-kept_to book old new (Some command) (Some reply) step all = steps_keep book old new command reply step all
-kept_to book old new (Some blank) None is all = subst AllKept (sym is) all
-kept_to book old new (Some command) None h all = absurd h
-kept_to book old new None (Some (refused BadCommand nothing)) is all = subst AllKept (sym is) all
-kept_to book old new None reply h all = absurd h
+pub kept_to : (book : List Rule) (old new : Machine) (why : Refusal) (command : Option Spoken) (reply : Option ReplySeen) → AnswersTo book old why command reply new → AllKept old → AllKept new
+kept_to book old new why (Some command) (Some reply) step all = steps_keep book old new command reply step all
+kept_to book old new why (Some blank) None is all = subst AllKept (sym is) all
+kept_to book old new why (Some command) None h all = absurd h
+kept_to book old new why None (Some reply) (reply_is, is) all = subst AllKept (sym is) all
+kept_to book old new why None None h all = absurd h
+
+pub kept_by : (book : List Rule) (old new : Machine) (line : Line) (reply : Option ReplySeen) → Answers book old line reply new → AllKept old → AllKept new
+kept_by book old new line reply answers all = kept_to book old new (refusal_of line) (command_at line) reply answers all
 
 -- ---- events keep the type
 of_event : (sub : Option ℕ) (e : Event) (c : Configuration) → (after_event sub e c).object.of ≡ c.object.of
@@ -71,14 +74,14 @@ shown_step book old new (give_value ref text) name of p v t (o, at, q, named, c,
 shown_step book old new (look_up ref text) name of p v t (o, at, named, is, typed, held, none, stays) all =
     shown_by new name ref.name of p v o all is (stays.objects ref.name ∙ whole_of-some ref.sub (old.object ref.name) o at) (sym typed) held
 
-shown_to : (book : List Rule) (old new : Machine) (command : Option Spoken) (name : List ℕ) (of : ObjectType) (p : PropId) (v : PropertyValue) (t : Rounds)
-    → AnswersTo book old command (Some (shows name of p v t)) new → AllKept new → IsShown name of p v new
-shown_to book old new (Some command) name of p v t step all = shown_step book old new command name of p v t step all
-shown_to book old new None name of p v t h all = absurd h
+shown_to : (book : List Rule) (old new : Machine) (why : Refusal) (command : Option Spoken) (name : List ℕ) (of : ObjectType) (p : PropId) (v : PropertyValue) (t : Rounds)
+    → AnswersTo book old why command (Some (shows name of p v t)) new → AllKept new → IsShown name of p v new
+shown_to book old new why (Some command) name of p v t step all = shown_step book old new command name of p v t step all
+shown_to book old new why None name of p v t (reply_is, is) all = absurd (cc reply_is)
 
 pub shows_right : (book : List Rule) (old new : Machine) (line : Line) (reply : Option ReplySeen) → Answers book old line reply new → AllKept new → Shows reply new
 shows_right book old new line None answers all = tt
-shows_right book old new line (Some (shows name of p v t)) answers all = shown_to book old new (command_at line) name of p v t answers all
+shows_right book old new line (Some (shows name of p v t)) answers all = shown_to book old new (refusal_of line) (command_at line) name of p v t answers all
 shows_right book old new line (Some done) answers all = tt
 shows_right book old new line (Some undef) answers all = tt
 shows_right book old new line (Some (lists_rules n text)) answers all = tt

@@ -1,18 +1,24 @@
 -- How a run of the program ended, and what the sink took until then.
-use Rattle.std.specs.Prelude.{ℕ, ◌≡◌, ◌<◌, ◌≤◌, ◌⊎◌, Bool, true, false, Option, Some, IfSome, List, [], ◌∷◌, ◌++◌, length, take, Result, Ok, Err}
+use Rattle.std.specs.Prelude.{ℕ, ◌≡◌, ◌+◌, ◌<◌, ◌≤◌, ◌⊎◌, Bool, true, false, Option, Some, None, IfSome, List, [], ◌∷◌, ◌++◌, drop, length, take, Result, Ok, Err}
 use Rattle.pm_client.specs.Starts.{Clients}
+use Rattle.pm_lines.specs.Coming.{most_bytes}
+use Rattle.pm_lines.specs.Whole.{whole_lines}
+use Rattle.pm_lines.specs.declared.reader.LinesFail.{LinesFail}
+use Rattle.pm_lines.specs.declared.reader.LinesFail.TheVariants as line
 use Rattle.pm_machine.specs.Parts.{AllHonest, StepInPart}
 use Rattle.pm_machine.specs.Steps.{Machine, Stays}
 use Rattle.pm_rules.specs.declared.rule.Rule.{Rule}
 use Rattle.pm_script.specs.Commands.{Spoken}
 use Rattle.pm_script.specs.Lines.{Line, lines_of}
 use Rattle.pm_script.specs.Replies.{ReplySeen}
+use Rattle.pm_shell.specs.Chosen.{IsBook, IsRefusedBook}
 use Rattle.pm_shell.specs.Run.{Answers, Run, Starts, any_refused, command_at, is_refused, replies_text, text_if, text_of_reply}
-use Rattle.pm_shell.specs.declared.run.RunFail.{RunFail}
-use Rattle.pm_shell.specs.declared.run.RunFail.TheVariants as why
-use Rattle.pm_shell.specs.declared.run.Status.{Status}
-use Rattle.pm_shell.specs.declared.run.Status.TheVariants.{Answered, SomeRefused, BadWords, SourceFault, SinkFault, OutOfMemory, TooLong}
-use Rattle.pm_store.specs.Outside.{Gains}
+use Rattle.pm_shell.specs.declared.status.RunFail.{RunFail}
+use Rattle.pm_shell.specs.declared.status.RunFail.TheVariants as why
+use Rattle.pm_shell.specs.declared.status.Status.{Status}
+use Rattle.pm_shell.specs.declared.status.Status.TheVariants.{Answered, SomeRefused, BadWords, SourceFault, SinkFault, OutOfMemory, TooLong, BadBook}
+use Rattle.pm_store.specs.Outside.{Gains, Rose}
+use Rattle.pm_words.specs.Words.{WordsSeen}
 
 -- the number of a status
 abbrev pub number_of : Status → ℕ
@@ -23,13 +29,22 @@ number_of SourceFault = 3
 number_of SinkFault = 4
 number_of OutOfMemory = 5
 number_of TooLong = 6
+number_of BadBook = 7
 
 -- the status of an outcome over all lines
 abbrev pub status_of : Result Bool RunFail → Status
 status_of (Ok false) = Answered
 status_of (Ok true) = SomeRefused
+status_of (Err why.SourceFault) = SourceFault
 status_of (Err why.SinkFault) = SinkFault
 status_of (Err why.Memory) = OutOfMemory
+status_of (Err why.TooLong) = TooLong
+
+-- what it is for a run that the next line did not come
+abbrev pub fail_of : LinesFail → RunFail
+fail_of line.Fault = why.SourceFault
+fail_of line.TooLong = why.TooLong
+fail_of line.Memory = why.Memory
 
 -- had and has: what the sink tells to have taken before and after, where it tells that
 
@@ -38,21 +53,21 @@ abbrev pub GainsWithin : Option (List ℕ) → Option (List ℕ) → List ℕ �
 GainsWithin old new front piece = IfSome old (λ had. (n : ℕ) × (n < length piece) × (new ≡ Some (had ++ front ++ take n piece)))
 
 -- the line is answered, its reply is told if it has one, and whether that is a refusal
-pub record AnswersOne (book : List Rule) (had has : Option (List ℕ)) (old : Machine) (line : Line) (some_refused : Bool) (new : Machine) : Type 0 where
+pub record AnswersOne (book : List Rule) (trace : Bool) (had has : Option (List ℕ)) (old : Machine) (line : Line) (some_refused : Bool) (new : Machine) : Type 0 where
   pub reply : Option ReplySeen
   pub answers : Answers book old line reply new
-  pub told : Gains had has (text_if reply)
+  pub told : Gains had has (text_if trace reply)
   pub refusal : some_refused ≡ is_refused reply
 
 -- all lines are answered, each reply is told, and whether some is a refusal
-pub record AnsweredAll (book : List Rule) (had has : Option (List ℕ)) (some_refused : Bool) (old : Machine) (lines : List Line) (new : Machine) : Type 0 where
+pub record AnsweredAll (book : List Rule) (trace : Bool) (had has : Option (List ℕ)) (some_refused : Bool) (old : Machine) (lines : List Line) (new : Machine) : Type 0 where
   pub replies : List (Option ReplySeen)
   pub run : Run book old lines replies new
-  pub told : Gains had has (replies_text replies)
+  pub told : Gains had has (replies_text trace replies)
   pub refusal : some_refused ≡ any_refused replies
 
 -- the sink failed in a reply: the replies before it are told, and no line after it was answered
-pub record BrokeOff (book : List Rule) (had has : Option (List ℕ)) (old : Machine) (lines : List Line) (new : Machine) : Type 0 where
+pub record BrokeOff (book : List Rule) (trace : Bool) (had has : Option (List ℕ)) (old : Machine) (lines : List Line) (new : Machine) : Type 0 where
   pub first : List Line
   pub line : Line
   pub others : List Line
@@ -60,7 +75,7 @@ pub record BrokeOff (book : List Rule) (had has : Option (List ℕ)) (old : Mach
   pub replies : List (Option ReplySeen)
   pub reply : ReplySeen
   pub run : Run book old (first ++ line ∷ []) (replies ++ Some reply ∷ []) new
-  pub told : GainsWithin had has (replies_text replies) (text_of_reply reply)
+  pub told : GainsWithin had has (replies_text trace replies) (text_of_reply trace reply)
 
 -- the line is answered in part: first events of its command occurred; or wholly, and its reply is not told
 abbrev pub InHand : List Rule → Machine → Line → Machine → Type 0
@@ -72,21 +87,37 @@ NextInHand book old [] new = Stays old new
 NextInHand book old (line ∷ others) new = Stays old new ⊎ InHand book old line new
 
 -- memory ran out: first lines are answered, maybe none or all, and each reply to them is told; the next line was in hand
-pub record Stopped (book : List Rule) (had has : Option (List ℕ)) (old : Machine) (lines : List Line) (new : Machine) : Type 0 where
+pub record Stopped (book : List Rule) (trace : Bool) (had has : Option (List ℕ)) (old : Machine) (lines : List Line) (new : Machine) : Type 0 where
   pub first : List Line
   pub others : List Line
   pub whole : lines ≡ first ++ others
   pub replies : List (Option ReplySeen)
   pub mid : Machine
   pub run : Run book old first replies mid
-  pub told : Gains had has (replies_text replies)
+  pub told : Gains had has (replies_text trace replies)
   pub hand : NextInHand book mid others new
 
 -- the lines came to this outcome
-abbrev pub HasOutcome : List Rule → Option (List ℕ) → Option (List ℕ) → Machine → List Line → Result Bool RunFail → Machine → Type 0
-HasOutcome book had has old lines (Ok some_refused) new = AnsweredAll book had has some_refused old lines new
-HasOutcome book had has old lines (Err why.SinkFault) new = BrokeOff book had has old lines new
-HasOutcome book had has old lines (Err why.Memory) new = Stopped book had has old lines new
+abbrev pub HasOutcome : List Rule → Bool → Option (List ℕ) → Option (List ℕ) → Machine → List Line → Result Bool RunFail → Machine → Type 0
+HasOutcome book trace had has old lines (Ok some_refused) new = AnsweredAll book trace had has some_refused old lines new
+HasOutcome book trace had has old lines (Err why.SourceFault) new = (some_refused : Bool) × AnsweredAll book trace had has some_refused old lines new
+HasOutcome book trace had has old lines (Err why.SinkFault) new = BrokeOff book trace had has old lines new
+HasOutcome book trace had has old lines (Err why.Memory) new = Stopped book trace had has old lines new
+HasOutcome book trace had has old lines (Err why.TooLong) new = (some_refused : Bool) × AnsweredAll book trace had has some_refused old lines new
+
+-- Which lines these are, with this outcome, of what the source told before to have left, if it did, and what it tells now:
+-- all lines of a script that was read to its end;
+-- all lines of it, of which the first ones are answered, where the sink failed or memory ran out;
+-- all whole lines of what the source gave until it failed, without a last one that no LF ended;
+-- all whole lines of the most bytes of a script, where it has more, of which one is gone.
+abbrev pub IsRead : Option (List ℕ) → Option (List ℕ) → Result Bool RunFail → List Line → Type 0
+IsRead script left (Ok some_refused) lines = IfSome script (λ all. (lines ≡ lines_of all) × (length all ≤ most_bytes) × (left ≡ Some []))
+IsRead script left (Err why.SourceFault) lines =
+    IfSome script (λ all. (n : ℕ) × (n ≤ length all) × (left ≡ Some (drop n all)) × (lines ≡ whole_lines (take n all)))
+IsRead script left (Err why.SinkFault) lines = IfSome script (λ all. lines ≡ lines_of all)
+IsRead script left (Err why.Memory) lines = IfSome script (λ all. lines ≡ lines_of all)
+IsRead script left (Err why.TooLong) lines =
+    IfSome script (λ all. (most_bytes < length all) × (left ≡ Some (drop (most_bytes + 1) all)) × (lines ≡ whole_lines (take most_bytes all)))
 
 -- a machine without objects over the clients before ran so; at its end every object is honest, and these are the clients
 pub record FromNoObjects (before after : Clients) (Ran : Machine → Machine → Type 0) : Type 0 where
@@ -97,46 +128,53 @@ pub record FromNoObjects (before after : Clients) (Ran : Machine → Machine →
   pub honest : AllHonest end
   pub left : end.clients ≡ after
 
--- the script that the source told to have left; what the sink told to have taken before and after; the clients before and after
+-- What was told before and after: what the source has left, what the sink took, the files of the store before; and the clients.
 pub record World : Type 0 where
   pub script : Option (List ℕ)
+  pub left : Option (List ℕ)
   pub had : Option (List ℕ)
   pub has : Option (List ℕ)
+  pub files : Option (List (List ℕ × List ℕ))
   pub before : Clients
   pub after : Clients
 
--- from a machine without objects the lines of the script came to this outcome
-abbrev pub Ran : List Rule → World → Result Bool RunFail → Type 0
-Ran book w outcome = (script : List ℕ) × IfSome w.script (λ all. all ≡ script)
-    × FromNoObjects w.before w.after (λ start end. HasOutcome book w.had w.has start (lines_of script) outcome end)
+-- from a machine without objects the lines that were read came to this outcome
+abbrev pub Ran : List Rule → Bool → World → Result Bool RunFail → Type 0
+Ran book trace w outcome = (lines : List Line) × IsRead w.script w.left outcome lines
+    × FromNoObjects w.before w.after (λ start end. HasOutcome book trace w.had w.has start lines outcome end)
 
--- nothing was told, and no client was started
+-- so it was with the book that the words name, traced where they say so
+abbrev pub RanBook : WordsSeen → World → Result Bool RunFail → Type 0
+RanBook said w outcome = (book : List Rule) × IsBook said.rules w.before w.files book × Ran book said.trace w outcome
+
+-- nothing was read, nothing was told, and no client was started
 abbrev pub DidNotRun : World → Type 0
-DidNotRun w = (w.has ≡ w.had) × (w.after ≡ w.before)
+DidNotRun w = (w.left ≡ w.script) × (w.has ≡ w.had) × (w.after ≡ w.before)
 
-abbrev pub most_bytes : ℕ
-most_bytes = 16777216
+-- so a run with this status ended; memory may have run out before it
+abbrev pub Ended : WordsSeen → Status → World → Type 0
+Ended said Answered w = RanBook said w (Ok false)
+Ended said SomeRefused w = RanBook said w (Ok true)
+Ended said SourceFault w = RanBook said w (Err why.SourceFault)
+Ended said SinkFault w = RanBook said w (Err why.SinkFault)
+Ended said OutOfMemory w = DidNotRun w ⊎ RanBook said w (Err why.Memory)
+Ended said TooLong w = RanBook said w (Err why.TooLong)
+Ended said BadBook w = DidNotRun w
+Ended said BadWords w = DidNotRun w
 
--- so a run with this status ended
-abbrev pub Ended : List Rule → Status → World → Type 0
-Ended book Answered w = Ran book w (Ok false)
-Ended book SomeRefused w = Ran book w (Ok true)
-Ended book SinkFault w = Ran book w (Err why.SinkFault)
-Ended book OutOfMemory w = Ran book w (Err why.Memory)
-Ended book TooLong w = DidNotRun w × IfSome w.script (λ script. most_bytes < length script)
-Ended book SourceFault w = DidNotRun w
-Ended book BadWords w = DidNotRun w
+-- the same, where the words say something; else it did not run
+abbrev pub EndedBy : Option WordsSeen → Status → World → Type 0
+EndedBy None status w = DidNotRun w
+EndedBy (Some said) status w = Ended said status w
 
 -- with this status it did not run
 abbrev pub IsUnrun : Status → Type 0
 IsUnrun BadWords = Unit {0}
-IsUnrun SourceFault = Unit {0}
-IsUnrun TooLong = Unit {0}
+IsUnrun BadBook = Unit {0}
 IsUnrun status = ⊥
 
--- the script was read whole
-abbrev pub WasRead : Status → Option (List ℕ) → Option (List ℕ) → Type 0
-WasRead Answered old new = IfSome old (λ script. (length script ≤ most_bytes) × (new ≡ Some []))
-WasRead SomeRefused old new = IfSome old (λ script. (length script ≤ most_bytes) × (new ≡ Some []))
-WasRead SinkFault old new = IfSome old (λ script. (length script ≤ most_bytes) × (new ≡ Some []))
-WasRead status old new = Unit {0}
+-- The words name a book, and the store failed, or the file of this name is absent or refused, where the store tells its files.
+-- old and new: the count of the store's faults before and after.
+abbrev pub IsBadBook : Option WordsSeen → Clients → Option (List (List ℕ × List ℕ)) → ℕ → ℕ → Type 0
+IsBadBook said clients files old new =
+    (words : WordsSeen) × (name : List ℕ) × (said ≡ Some words) × (words.rules ≡ Some name) × (Rose old new ⊎ IfSome files (IsRefusedBook name clients))

@@ -1,3 +1,5 @@
 pub mod Shown
 pub mod Run
+pub mod Chosen
 pub mod Ends
+pub mod Examples

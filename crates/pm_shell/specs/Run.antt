@@ -7,24 +7,29 @@ use Rattle.pm_rules.specs.declared.rule.Rule.{Rule}
 use Rattle.pm_script.specs.Commands.{Spoken, blank, command_of}
 use Rattle.pm_script.specs.Lines.{Line, is_too_long, text_of}
 use Rattle.pm_script.specs.Replies.{ReplySeen, is_refusal, nothing, refused, reply_text}
-use Rattle.pm_script.specs.declared.refusal.Refusal.TheVariants.{BadCommand}
+use Rattle.pm_script.specs.declared.refusal.Refusal.{Refusal}
+use Rattle.pm_script.specs.declared.refusal.Refusal.TheVariants.{BadCommand, LineTooLong}
 use Rattle.pm_shell.specs.Shown.{Shows}
 
 -- the command that the line speaks, if it speaks one; a line that is too long speaks none
 abbrev pub command_at : Line → Option Spoken
 command_at line = if is_too_long line then None else command_of (text_of line)
 
--- a line that speaks no command is refused, a blank one has no reply, and both change nothing; each other one is a step
-abbrev pub AnswersTo : List Rule → Machine → Option Spoken → Option ReplySeen → Machine → Type 0
-AnswersTo book old (Some command) (Some reply) new = Step book old command reply new
-AnswersTo book old (Some blank) None new = new ≡ old
-AnswersTo book old (Some command) None new = ⊥
-AnswersTo book old None (Some (refused BadCommand nothing)) new = new ≡ old
-AnswersTo book old None reply new = ⊥
+-- why a line that speaks no command is refused
+abbrev pub refusal_of : Line → Refusal
+refusal_of line = if is_too_long line then LineTooLong else BadCommand
+
+-- a line that speaks no command is refused, for this reason, a blank one has no reply, and both change nothing; each other one is a step
+abbrev pub AnswersTo : List Rule → Machine → Refusal → Option Spoken → Option ReplySeen → Machine → Type 0
+AnswersTo book old why (Some command) (Some reply) new = Step book old command reply new
+AnswersTo book old why (Some blank) None new = new ≡ old
+AnswersTo book old why (Some command) None new = ⊥
+AnswersTo book old why None (Some reply) new = (reply ≡ refused why nothing) × (new ≡ old)
+AnswersTo book old why None None new = ⊥
 
 -- from the machine old the reply to the line may be this one, and it goes on as new
 abbrev pub Answers : List Rule → Machine → Line → Option ReplySeen → Machine → Type 0
-Answers book old line reply new = AnswersTo book old (command_at line) reply new
+Answers book old line reply new = AnswersTo book old (refusal_of line) (command_at line) reply new
 
 -- it answers so to the lines, one after another, and each value that it shows is right when it is shown
 abbrev pub Run : List Rule → Machine → List Line → List (Option ReplySeen) → Machine → Type 0
@@ -33,19 +38,19 @@ Run book old (line ∷ lines) (reply ∷ replies) new = (mid : Machine) × Answe
 Run book old [] (reply ∷ replies) new = ⊥
 Run book old (line ∷ lines) [] new = ⊥
 
--- the text of a reply: so far no rounds are traced
-abbrev pub text_of_reply : ReplySeen → List ℕ
-text_of_reply reply = reply_text false reply
+-- the text of a reply, with its rounds where they are traced
+abbrev pub text_of_reply : Bool → ReplySeen → List ℕ
+text_of_reply trace reply = reply_text trace reply
 
 -- the same, where there is one
-abbrev pub text_if : Option ReplySeen → List ℕ
-text_if None = []
-text_if (Some reply) = text_of_reply reply
+abbrev pub text_if : Bool → Option ReplySeen → List ℕ
+text_if trace None = []
+text_if trace (Some reply) = text_of_reply trace reply
 
 -- the texts of the replies, one after another
-abbrev pub replies_text : List (Option ReplySeen) → List ℕ
-replies_text [] = []
-replies_text (reply ∷ replies) = text_if reply ++ replies_text replies
+abbrev pub replies_text : Bool → List (Option ReplySeen) → List ℕ
+replies_text trace [] = []
+replies_text trace (reply ∷ replies) = text_if trace reply ++ replies_text trace replies
 
 -- the reply is a refusal
 abbrev pub is_refused : Option ReplySeen → Bool

@@ -3,13 +3,20 @@
 
 ghost use Rattle.std.specs.Prelude.{IfErr, ◌≡◌, ◌⊎◌};
 
+mod book;
+mod examples;
+mod lines;
 mod run;
+mod status;
+#[cfg(test)]
+mod tests;
 
 use pm_client::{Client, Numbered};
 use pm_clients_comb::SetsClient;
 use pm_clients_geom::{DimClient, HullClient, RowsClient, SizeClient, TestClient, ThinClient};
-use pm_store::{StdSink, StdSource};
-use run::{Status, polymake};
+use pm_store::{DirStore, StdSink, StdSource};
+use run::polymake;
+use status::Status;
 use std::alloc::AllocError;
 use std::env;
 use std::env::FillError;
@@ -100,8 +107,16 @@ fn main(rt: HostRuntime) -> ExitCode {
     }
     let mut source = StdSource::new(rt.stdin());
     let mut sink = StdSink::new(rt.stdout());
+    let mut store = DirStore::new(&rt);
     let status = match words_after_name(&rt) {
-        Ok(words) => polymake(alloc, &words, &mut clients, &mut source, &mut sink),
+        Ok(words) => polymake(
+            alloc,
+            &words,
+            &mut clients,
+            &mut source,
+            &mut sink,
+            &mut store,
+        ),
         Err(status) => status,
     };
     ExitCode::from(status.number())

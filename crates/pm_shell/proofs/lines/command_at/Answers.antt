@@ -1,7 +1,7 @@
 use Rattle.std.proofs.Common.{ap, sym, ◌∙◌}
 use Rattle.pm_script.specs.Commands.{command_of}
 use Rattle.pm_shell.proofs.OneLine.{command_at-long, command_at-short}
-use Rattle.pm_shell.proofs.run.command_at.Goals as goal
+use Rattle.pm_shell.proofs.lines.command_at.Goals as goal
 
 pub returns-then-is_too_long : goal.returns-then-is_too_long
 returns-then-is_too_long c = command_at-long c.args.line.now (sym c.is_too_long.ensures ∙ c.if-is_too_long.true)

@@ -3,7 +3,7 @@ use Rattle.std.proofs.Common.{ap, ◌∙◌}
 use Rattle.std.specs.Option.{option_map}
 use Rattle.pm_script.specs.Commands.{spoken}
 use Rattle.pm_shell.proofs.Outcomes.{hand_of}
-use Rattle.pm_shell.proofs.run.answer_line.Goals as goal
+use Rattle.pm_shell.proofs.lines.answer_line.Goals as goal
 
 pub returns-in_err-step-in-Some-clause-part : goal.returns-in_err-step-in-Some-clause-part
 returns-in_err-step-in-Some-clause-part g c =

@@ -1,0 +1,23 @@
+-- First lines were read and answered, and each reply is told.
+use Rattle.std.proofs.Common.{length, if◌then◌else◌, ◌+◌, ◌-◌, ◌≡◌, ◌≤◌}
+use Rattle.std.specs.Prelude.{map}
+use Rattle.pm_lines.specs.Coming.{most_bytes}
+use Rattle.pm_machine.specs.Sessions.{book_of, machine_of}
+use Rattle.pm_shell.proofs.Came.{Going}
+use Rattle.pm_shell.proofs.lines.answer_lines.Given as goal
+
+abbrev pub invariant-loop-reader : goal.invariant-loop-reader
+invariant-loop-reader g l = record {
+  book : book_of l.session ≡ book_of l.fn.session;
+  going : Going (book_of l.fn.session) l.fn.trace (g.S.Source.left l.fn.source) (g.S.Source.left l.source) (g.K.Sink.taken l.fn.sink) (g.K.Sink.taken l.sink)
+      (machine_of l.fn.session (map (λ b. (goal.Client-dyn g (b.vtable, b.value)).tally b.value) l.fn.clients.items))
+      l.reader l.some_refused
+      (machine_of l.session (map (λ b. (goal.Client-dyn g (b.vtable, b.value)).tally b.value) l.clients.items));
+  bound : l.reader.read ≤ most_bytes;
+  source_rises : g.S.Source.faults l.fn.source ≤ g.S.Source.faults l.source;
+  sink_rises : g.K.Sink.faults l.fn.sink ≤ g.K.Sink.faults l.sink;
+}
+
+-- each line but one that the end of the script ended takes bytes of what was given
+abbrev pub decreases-loop-reader : goal.decreases-loop-reader
+decreases-loop-reader g l = if l.reader.at_end then 0 else 1 + (length l.reader.given + (most_bytes - l.reader.read))

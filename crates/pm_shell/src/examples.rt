@@ -1,0 +1,10 @@
+// The definitions of a run, worked by hand.
+
+ghost use Rattle.pm_shell.specs.Examples.{BooksAreChosen, LinesAreRead, LinesAreRefused};
+
+/// Which lines a run read, how a line is refused, and which book a run goes by: what holds, and what does not.
+pub(crate) fn example_runs()
+    ensures lines { LinesAreRead }
+    ensures refusals { LinesAreRefused }
+    ensures books { BooksAreChosen }
+{}

@@ -1,0 +1,171 @@
+// Lines answered as they come.
+
+ghost use Rattle.pm_machine.specs.Sessions.{book_of, machine_of};
+ghost use Rattle.pm_machine.specs.Steps.{AllKept, Stays};
+ghost use Rattle.pm_script.specs.Commands.{spoken};
+ghost use Rattle.pm_script.specs.Lines.{Line};
+ghost use Rattle.pm_script.specs.Replies.{ReplySeen, is_refusal, nothing, refused, seen};
+ghost use Rattle.pm_shell.specs.Ends.{AnswersOne, HasOutcome, InHand, IsRead};
+ghost use Rattle.pm_shell.specs.Run.{Answers, command_at, refusal_of, text_of_reply};
+ghost use Rattle.pm_store.specs.Outside.{Gains, GainsPart, Rose};
+ghost use Rattle.std.specs.Option.{option_map};
+ghost use Rattle.std.specs.Prelude.{IfErr, IfOk, IsErrOf, List, OnErr, Some, map, ◌≡◌, ◌≤◌, ◌⊎◌};
+
+use crate::status::RunFail;
+use pm_client::Client;
+use pm_lines::LineReader;
+use pm_machine::Session;
+use pm_script::{Command, Line, LineFail, Refusal, Reply, read_line, reply_bytes};
+use pm_store::{Sink, Source, write_all};
+use std::alloc::{AllocError, Global};
+
+/// The command that a line speaks, if it speaks one; a line that is too long speaks none.
+fn command_at(alloc: Global, line: &Line<'_>) -> Result<Option<Command>, AllocError>
+    ensures { IfOk result (λ c. command_at line.now ≡ option_map spoken c) }
+{
+    if line.is_too_long() {
+        return Ok(None);
+    }
+    match read_line(alloc, line.text()) {
+        Ok(command) => Ok(Some(command)),
+        Err(LineFail::BadCommand) => Ok(None),
+        Err(LineFail::Memory) => Err(AllocError),
+    }
+}
+
+/// The reply to a line, if it has one.
+fn answer_line(
+    alloc: Global,
+    session: &mut Session,
+    clients: &mut Vec<Box<dyn Client>>,
+    line: &Line<'_>,
+) -> Result<Option<Reply>, AllocError>
+    ensures answers { IfOk result (λ r. Answers (book_of session.old)
+        (machine_of session.old (map tally clients.old.items)) line.now (option_map seen r)
+        (machine_of session.new (map tally clients.new.items))) }
+    ensures part { OnErr result (
+        Stays (machine_of session.old (map tally clients.old.items))
+        (machine_of session.new (map tally clients.new.items))
+        ⊎ InHand (book_of session.old)
+        (machine_of session.old (map tally clients.old.items)) line.now
+        (machine_of session.new (map tally clients.new.items))) }
+    ensures book { book_of session.new ≡ book_of session.old }
+{
+    match command_at(alloc, line)? {
+        None => Ok(Some(refused_line(alloc, line))),
+        Some(Command::Blank) => Ok(None),
+        Some(command) => Ok(Some(session.step(alloc, command, clients)?)),
+    }
+}
+
+/// Why a line that speaks no command is refused.
+fn refusal_of(line: &Line<'_>) -> Refusal
+    ensures { result ≡ refusal_of line.now }
+{
+    if line.is_too_long() {
+        Refusal::LineTooLong
+    } else {
+        Refusal::BadCommand
+    }
+}
+
+/// The reply to a line that speaks no command.
+fn refused_line(alloc: Global, line: &Line<'_>) -> Reply
+    ensures { seen result ≡ refused (refusal_of line.now) nothing }
+{
+    Reply::refused(alloc, refusal_of(line))
+}
+
+/// Answers a line, and writes the reply. Whether it is a refusal.
+fn answer_next<K: Sink>(
+    alloc: Global,
+    session: &mut Session,
+    clients: &mut Vec<Box<dyn Client>>,
+    line: &Line<'_>,
+    trace: bool,
+    sink: &mut K,
+) -> Result<bool, RunFail>
+    ensures told { IfOk result (λ r. AnswersOne (book_of session.old) trace
+        (K.taken sink.old) (K.taken sink.new)
+        (machine_of session.old (map tally clients.old.items)) line.now r
+        (machine_of session.new (map tally clients.new.items))) }
+    ensures part { IsErrOf result RunFail.SinkFault → (reply : ReplySeen)
+        × Answers (book_of session.old)
+        (machine_of session.old (map tally clients.old.items)) line.now (Some reply)
+        (machine_of session.new (map tally clients.new.items))
+        × GainsPart (K.taken sink.old) (K.taken sink.new) (text_of_reply trace reply) }
+    ensures fault { IsErrOf result RunFail.SinkFault →
+        Rose (K.faults sink.old) (K.faults sink.new) }
+    ensures which { IfErr result (λ e. (e ≡ RunFail.SinkFault) ⊎ (e ≡ RunFail.Memory)) }
+    ensures memory { IsErrOf result RunFail.Memory → sink.new ≡ sink.old }
+    ensures hand { IsErrOf result RunFail.Memory →
+        Stays (machine_of session.old (map tally clients.old.items))
+        (machine_of session.new (map tally clients.new.items))
+        ⊎ InHand (book_of session.old)
+        (machine_of session.old (map tally clients.old.items)) line.now
+        (machine_of session.new (map tally clients.new.items)) }
+    ensures book { book_of session.new ≡ book_of session.old }
+    ensures never_falls { K.faults sink.old ≤ K.faults sink.new }
+{
+    match answer_line(alloc, session, clients, line)? {
+        None => Ok(false),
+        Some(reply) => write_reply(alloc, &reply, trace, sink),
+    }
+}
+
+/// Writes a reply. Whether it is a refusal.
+fn write_reply<K: Sink>(
+    alloc: Global,
+    reply: &Reply,
+    trace: bool,
+    sink: &mut K,
+) -> Result<bool, RunFail>
+    ensures told { IfOk result (λ r.
+        Gains (K.taken sink.old) (K.taken sink.new) (text_of_reply trace (seen reply.now))
+        × (r ≡ is_refusal (seen reply.now))) }
+    ensures part { IsErrOf result RunFail.SinkFault →
+        GainsPart (K.taken sink.old) (K.taken sink.new) (text_of_reply trace (seen reply.now)) }
+    ensures fault { IsErrOf result RunFail.SinkFault →
+        Rose (K.faults sink.old) (K.faults sink.new) }
+    ensures which { IfErr result (λ e. (e ≡ RunFail.SinkFault) ⊎ (e ≡ RunFail.Memory)) }
+    ensures memory { IsErrOf result RunFail.Memory → sink.new ≡ sink.old }
+    ensures never_falls { K.faults sink.old ≤ K.faults sink.new }
+{
+    let text = reply_bytes(alloc, reply, trace)?;
+    write_all(sink, &text)?;
+    Ok(reply.is_refusal())
+}
+
+/// Answers each line as it comes, and writes its reply before the next one is read. True: some reply is a refusal.
+pub(crate) fn answer_lines<S: Source, K: Sink>(
+    alloc: Global,
+    session: &mut Session,
+    clients: &mut Vec<Box<dyn Client>>,
+    source: &mut S,
+    trace: bool,
+    sink: &mut K,
+) -> Result<bool, RunFail>
+    requires kept { AllKept (machine_of session.old (map tally clients.old.items)) }
+    ensures outcome { (lines : List Line)
+        × IsRead (S.left source.old) (S.left source.new) result lines
+        × HasOutcome (book_of session.old) trace (K.taken sink.old) (K.taken sink.new)
+        (machine_of session.old (map tally clients.old.items)) lines result
+        (machine_of session.new (map tally clients.new.items)) }
+    ensures source_fault { IsErrOf result RunFail.SourceFault →
+        Rose (S.faults source.old) (S.faults source.new) }
+    ensures sink_fault { IsErrOf result RunFail.SinkFault →
+        Rose (K.faults sink.old) (K.faults sink.new) }
+    ensures source_count { S.faults source.old ≤ S.faults source.new }
+    ensures sink_count { K.faults sink.old ≤ K.faults sink.new }
+{
+    let mut reader = LineReader::new(alloc);
+    let mut some_refused = false;
+    loop {
+        let there = reader.advance(source)?;
+        if !there {
+            return Ok(some_refused);
+        }
+        let refused = answer_next(alloc, session, clients, &reader.line(), trace, sink)?;
+        some_refused |= refused;
+    }
+}
