@@ -59,6 +59,7 @@ adds_none kind starts e = rw e (append-nil standard_kinds_list)
 pub books_are_chosen : BooksAreChosen
 books_are_chosen = record {
   standard = λ clients files. refl;
+  not_empty = λ clients files e. cc;
   absent = λ name clients. tt;
   not_absent = λ name clients book h. let e = h.1 in cc;
   adds = adds;

@@ -56,6 +56,7 @@ pub record LinesAreRefused : Type 0 where
 
 pub record BooksAreChosen : Type 0 where
   pub standard : (clients : Clients) (files : Option (List (List ℕ × List ℕ))) → IsBook None clients files standard_rules
+  pub not_empty : (clients : Clients) (files : Option (List (List ℕ × List ℕ))) → ¬ (IsBook None clients files [])
   -- a file that is not there is no book
   pub absent : (name : List ℕ) (clients : Clients) → IsRefusedBook name clients []
   pub not_absent : (name : List ℕ) (clients : Clients) (book : List Rule) → ¬ (IsBook (Some name) clients (Some []) book)
