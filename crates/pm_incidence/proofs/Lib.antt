@@ -17,3 +17,4 @@ mod DeterminedRows
 pub mod ThinExamples
 pub mod PlaceExamples
 pub mod SetExamples
+pub mod ShortRows
