@@ -9,6 +9,7 @@ pub mod Thinned
 pub mod Described
 pub mod Taken
 pub mod FacetPlaces
+mod Orthant
 mod Determined
 mod SetRows
 mod TurnedSets

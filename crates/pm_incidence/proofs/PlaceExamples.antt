@@ -11,6 +11,7 @@ use Rattle.pm_dd.specs.Tables.{IsZeroSet, zero_set}
 use Rattle.pm_geom.specs.Cones.{IsFacetRow, IsValid, SameModulo}
 use Rattle.pm_incidence.proofs.Described.{described_inside}
 use Rattle.pm_incidence.proofs.FacetPlaces.{facet_row}
+use Rattle.pm_incidence.proofs.Orthant.{orthant_few, orthant_many}
 use Rattle.pm_incidence.specs.ThinExamples.{FacetPlacesAreRead, half}
 use Rattle.pm_incidence.specs.Thinning.{AreFacetPlaces, AreZeroSets, IsFull, IsKept, MarkFull}
 use Rattle.pm_props.specs.declared.object_type.ObjectType.TheVariants.{Cone, Polytope}
@@ -139,4 +140,7 @@ facet_places_are_read = record {
   few = λ m. let l = m.many in omega arith;
   few_fail = λ m. let l = m.many in omega arith;
   many_by_product = λ h. h;
+  many = λ n l. orthant_many n l;
+  many_fail = λ n V l. orthant_many n l;
+  not_many = λ n l m. orthant_few n l m;
 }
