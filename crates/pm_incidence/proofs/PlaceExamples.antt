@@ -134,6 +134,7 @@ far = record {
 pub facet_places_are_read : FacetPlacesAreRead
 facet_places_are_read = record {
   past = λ p. let l = p.within 0 0 (omega arith) in omega arith;
+  past_of_none = λ p. let l = p.within 0 0 (omega arith) in omega arith;
   twice = twice;
   zero = vanishing;
   far = far;

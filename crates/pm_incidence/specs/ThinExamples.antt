@@ -125,6 +125,7 @@ orthant n = map (unit n) (range_with_len 1 (n - 1))
 pub record FacetPlacesAreRead : Type 0 where
   -- no place past the rows, no place twice, and no row that vanishes on all of the line
   pub past : ¬ (AreFacetPlaces Cone 1 half [] (1 ∷ []))
+  pub past_of_none : ¬ (AreFacetPlaces Fan 1 half [] (1 ∷ []))
   pub twice : ¬ (AreFacetPlaces Cone 1 half [] (0 ∷ 0 ∷ []))
   pub zero : ¬ (AreFacetPlaces Cone 1 ((pos 0 ∷ []) ∷ []) [] (0 ∷ []))
   -- of a polytope the far face may be named, one place past the inequalities
