@@ -5,18 +5,19 @@ use Rattle.pm_algebra.proofs.Ring.{ring}
 use Rattle.pm_algebra.specs.Cones.{InSpan}
 use Rattle.pm_algebra.specs.Numbers.{Ratio}
 use Rattle.pm_algebra.specs.Rows.{Row}
+use Rattle.pm_bases.proofs.Spans.{same_span_refl}
 use Rattle.pm_elim.specs.NullSpaces.{IsNullBasis}
 use Rattle.pm_incidence.specs.FromSets.{holders_from, turned}
-use Rattle.pm_incidence.specs.Thinning.{flat_group}
-use Rattle.pm_client.specs.Examples.{ThinningIsRead, no_points, single}
-use Rattle.pm_client.specs.Sound.{AreRowsOf, ArePartsOf, AreSetsOf, AreTold, IsDeterminingList, IsFlatList, Reads, are_parts, are_told}
+use Rattle.pm_incidence.specs.Thinning.{IsBasisAndRow, flat_group}
+use Rattle.pm_client.specs.Examples.{ThinningIsRead, no_points, no_vertices, single}
+use Rattle.pm_client.specs.Sound.{AreRowsOf, ArePartsOf, AreSetsOf, AreTold, IsDeterminingList, Reads, are_parts, are_told}
 use Rattle.pm_incidence.proofs.Described.{units_echelon}
 use Rattle.pm_matrix.specs.FractionRows.{ArePrimitiveRowsOf}
-use Rattle.pm_object.specs.Reading.{fact_of}
-use Rattle.pm_props.specs.declared.property.PropId.TheVariants.{AffineHull, Equations, Facets, Inequalities, InputLineality, LinealitySpace, Points, Vertices, VerticesInFacets}
+use Rattle.pm_object.specs.Reading.{ViewSeen, fact_of}
+use Rattle.pm_props.specs.declared.property.PropId.TheVariants.{AffineHull, Equations, Facets, Inequalities, InputLineality, Points, Vertices, VerticesInFacets}
 use Rattle.pm_props.specs.declared.property.PropId.{PropId}
 use Rattle.pm_types.specs.Values.{IndexSets, PropertyValue, matrix, sets}
-use Rattle.std.proofs.Common.{ap, arith, false, inl, inr, refl, subst, sym, true, true≢false, ◌∙◌}
+use Rattle.std.proofs.Common.{ap, arith, inl, inr, refl, subst, sym, true, true≢false, ◌∙◌}
 use Rattle.std.proofs.lemmas.List.{length-append}
 use Rattle.std.specs.List.{range_with_len}
 use Rattle.std.specs.Option.{is_some}
@@ -35,16 +36,16 @@ value_rows (matrix n rows) = rows
 value_rows v = []
 
 -- a value without rows has no others
-no_others : (p : PropId) (n : ℕ) (rows : List (List Ratio)) (X : List Row) → Reads no_points p 0 [] → Reads no_points p n rows → ArePrimitiveRowsOf rows X → X ≡ []
-no_others p n [] [] h reads primitive = refl
-no_others p n [] (x ∷ X) h reads primitive = absurd (let c = primitive.count in omega arith)
-no_others p n (r ∷ rows) X h reads primitive = absurd (different (sym h ∙ reads))
+no_others : (v : ViewSeen) (p : PropId) (n : ℕ) (rows : List (List Ratio)) (X : List Row) → Reads v p 0 [] → Reads v p n rows → ArePrimitiveRowsOf rows X → X ≡ []
+no_others v p n [] [] h reads primitive = refl
+no_others v p n [] (x ∷ X) h reads primitive = absurd (let c = primitive.count in omega arith)
+no_others v p n (r ∷ rows) X h reads primitive = absurd (different (sym h ∙ reads))
   where
     different : Some (matrix 0 []) ≡ Some (matrix n (r ∷ rows)) → ⊥
     different e = cc
 
 none_read : (p : PropId) (A : List Row) → Reads no_points p 0 [] → AreRowsOf no_points p A → A ≡ []
-none_read p A h r = no_others p r.cols r.rows A h r.reads r.primitive
+none_read p A h r = no_others no_points p r.cols r.rows A h r.reads r.primitive
 
 parts_read : ArePartsOf no_points InputLineality Points [] []
 parts_read = record {
@@ -63,13 +64,47 @@ parts_read = record {
 -- ---- the rows in the lineality
 flat_none : (second other first : PropId) (L G A X : List Row) → are_parts first second ≡ true → are_told second other ≡ true → ArePartsOf no_points first second L G → X ≡ flat_group G L A → X ≡ []
 flat_none Points Facets InputLineality L G A X parts told read flat =
-    let l : L ≡ [] = no_others InputLineality read.first_cols read.first_rows L refl read.reads_first read.first_primitive in
-    let y : read.ys ≡ [] = no_others Points read.second_cols read.second_rows read.ys refl read.reads_second read.second_primitive in
+    let l : L ≡ [] = no_others no_points InputLineality read.first_cols read.first_rows L refl read.reads_first read.first_primitive in
+    let y : read.ys ≡ [] = no_others no_points Points read.second_cols read.second_rows read.ys refl read.reads_second read.second_primitive in
     let g : G ≡ [] = read.added ∙ ap (λ z. z ++ []) y in
     flat ∙ ap (λ z. flat_group z L A) g ∙ ap (λ z. flat_group [] z A) l
 flat_none Points Facets p L G A X parts told read flat = absurd (true≢false (sym parts))
 flat_none Inequalities Vertices p L G A X parts told read flat = absurd (true≢false (sym (ap is_some read.reads_second)))
 flat_none q r p L G A X parts told read flat = absurd (true≢false (sym told))
+
+-- ---- x0 >= 0 where there is no vertex
+added_parts : ArePartsOf no_vertices Equations Inequalities [] (single 1 ∷ [])
+added_parts = record {
+  first_cols = 0;
+  second_cols = 0;
+  first_rows = [];
+  second_rows = [];
+  reads_first = refl;
+  reads_second = refl;
+  ys = [];
+  first_primitive = none_primitive;
+  second_primitive = none_primitive;
+  added = refl;
+}
+
+added_told : AreTold no_vertices [] (single 1 ∷ []) []
+added_told = record { first = Equations; second = Inequalities; other = Vertices; parts = refl; told = refl; read = added_parts; others = record { cols = 0; rows = []; reads = refl; primitive = none_primitive } }
+
+added_basis : IsBasisAndRow 1 (single 1 ∷ []) [] [] (single 1 ∷ single 1 ∷ [])
+added_basis = record { basis = single 1 ∷ []; pivots = 0 ∷ []; is_basis = record { echelon = units_echelon 1; span = same_span_refl (single 1 ∷ []) }; row = single 1; listed = Contains_among (here {xs = []}); rows = refl }
+
+added_left_out : (second other first : PropId) (L G A : List Row) → are_parts first second ≡ true → are_told second other ≡ true → ArePartsOf no_vertices first second L G → AreRowsOf no_vertices other A → [] ≡ flat_group G L A → ⊥
+added_left_out Inequalities Vertices Equations L G A parts told read others flat =
+    let l : L ≡ [] = no_others no_vertices Equations read.first_cols read.first_rows L refl read.reads_first read.first_primitive in
+    let y : read.ys ≡ [] = no_others no_vertices Inequalities read.second_cols read.second_rows read.ys refl read.reads_second read.second_primitive in
+    let a : A ≡ [] = no_others no_vertices Vertices others.cols others.rows A refl others.reads others.primitive in
+    let g : G ≡ single 1 ∷ [] = read.added ∙ ap (λ z. z ++ single 1 ∷ []) y in
+    let e : [] ≡ single 1 ∷ [] = flat ∙ ap (λ z. flat_group z L A) g ∙ ap (λ z. flat_group (single 1 ∷ []) z A) l ∙ ap (λ z. flat_group (single 1 ∷ []) [] z) a in
+    let f = ap length e in
+    omega arith
+added_left_out Inequalities Vertices p L G A parts told read others flat = absurd (true≢false (sym parts))
+added_left_out Points Facets p L G A parts told read others flat = absurd (true≢false (sym (ap is_some read.reads_second)))
+added_left_out q r p L G A parts told read others flat = absurd (true≢false (sym told))
 
 -- ---- the ray on no facet
 in_sets : AreSetsOf no_points AffineHull Facets [] [] ([] ∷ [])
@@ -126,6 +161,9 @@ thinning_is_read = record {
   flat = record { lines = []; rows = []; others = []; read = record { first = InputLineality; second = Points; other = Facets; parts = refl; told = refl; read = parts_read; others = none_of Facets refl }; flat = refl };
   not_flat = λ h. let e = ap length (flat_none h.read.second h.read.other h.read.first h.lines h.rows h.others (single 1 ∷ []) h.read.parts h.read.told h.read.read h.flat) in omega arith;
   no_basis_and_row = λ h. no_end h.flat.basis h.flat.row h.flat.rows;
+  added_flat = record { lines = []; rows = single 1 ∷ []; others = []; read = added_told; flat = refl };
+  added_left_out = λ h. added_left_out h.read.second h.read.other h.read.first h.lines h.rows h.others h.read.parts h.read.told h.read.read h.read.others h.flat;
+  basis_and_row = record { lines = []; rows = single 1 ∷ []; others = []; read = added_told; flat = added_basis };
   of_rays = refl;
   of_facets = refl;
   of_points = refl;

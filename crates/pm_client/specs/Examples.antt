@@ -124,6 +124,20 @@ no_points = record {
       ∷ [];
 }
 
+-- a view of a polytope with one column: EQUATIONS, INEQUALITIES, VERTICES and LINEALITY_SPACE have no row, and x0 >= 0 is added
+abbrev pub no_vertices : ViewSeen
+no_vertices = record {
+  of = Polytope;
+  cols = 1;
+  kind = named (codes "thin_inequalities_v") 2 2;
+  sub = None;
+  facts = record { place = None; property = Inequalities; value = matrix 0 [] }
+      ∷ record { place = None; property = Equations; value = matrix 0 [] }
+      ∷ record { place = None; property = Vertices; value = matrix 0 [] }
+      ∷ record { place = None; property = LinealitySpace; value = matrix 0 [] }
+      ∷ [];
+}
+
 -- of two sets of three rays both have the first, the second has the last
 abbrev pub two_sets : IndexSets
 two_sets = record { rows = (0 ∷ []) ∷ (0 ∷ 2 ∷ []) ∷ []; cols = 3 }
@@ -139,6 +153,10 @@ pub record ThinningIsRead : Type 0 where
   pub flat : IsFlatList no_points []
   pub not_flat : ¬ (IsFlatList no_points (single 1 ∷ []))
   pub no_basis_and_row : ¬ (IsFlatBasisAndRow no_points [])
+  -- where there is no vertex, x0 >= 0 vanishes on all: it lies there, is a basis, and is reduced by it
+  pub added_flat : IsFlatList no_vertices (single 1 ∷ [])
+  pub added_left_out : ¬ (IsFlatList no_vertices [])
+  pub basis_and_row : IsFlatBasisAndRow no_vertices (single 1 ∷ single 1 ∷ [])
   -- sets of rays, and turned sets of facets
   pub of_rays : sets_of_rows Vertices two_sets ≡ (0 ∷ []) ∷ (0 ∷ 2 ∷ []) ∷ []
   pub of_facets : sets_of_rows Facets two_sets ≡ (0 ∷ 1 ∷ []) ∷ [] ∷ (1 ∷ []) ∷ []

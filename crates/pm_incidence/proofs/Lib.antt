@@ -9,6 +9,7 @@ pub mod Thinned
 pub mod Described
 pub mod Taken
 pub mod FacetPlaces
+mod Orthant
 mod Determined
 mod SetRows
 mod TurnedSets
@@ -17,3 +18,4 @@ mod DeterminedRows
 pub mod ThinExamples
 pub mod PlaceExamples
 pub mod SetExamples
+pub mod ShortRows

@@ -11,6 +11,7 @@ use Rattle.pm_dd.specs.Tables.{IsZeroSet, zero_set}
 use Rattle.pm_geom.specs.Cones.{IsFacetRow, IsValid, SameModulo}
 use Rattle.pm_incidence.proofs.Described.{described_inside}
 use Rattle.pm_incidence.proofs.FacetPlaces.{facet_row}
+use Rattle.pm_incidence.proofs.Orthant.{orthant_few, orthant_many}
 use Rattle.pm_incidence.specs.ThinExamples.{FacetPlacesAreRead, half}
 use Rattle.pm_incidence.specs.Thinning.{AreFacetPlaces, AreZeroSets, IsFull, IsKept, MarkFull}
 use Rattle.pm_props.specs.declared.object_type.ObjectType.TheVariants.{Cone, Polytope}
@@ -133,10 +134,14 @@ far = record {
 pub facet_places_are_read : FacetPlacesAreRead
 facet_places_are_read = record {
   past = λ p. let l = p.within 0 0 (omega arith) in omega arith;
+  past_of_none = λ p. let l = p.within 0 0 (omega arith) in omega arith;
   twice = twice;
   zero = vanishing;
   far = far;
   few = λ m. let l = m.many in omega arith;
   few_fail = λ m. let l = m.many in omega arith;
   many_by_product = λ h. h;
+  many = λ n l. orthant_many n l;
+  many_fail = λ n V l. orthant_many n l;
+  not_many = λ n l m. orthant_few n l m;
 }

@@ -43,7 +43,7 @@ zero_stays x y h = record {
 }
 
 -- ---- lists of rows
-only_one : {X : Type 0} {x y : X} → Contains (y ∷ []) x → x ≡ y
+pub only_one : {X : Type 0} {x y : X} → Contains (y ∷ []) x → x ≡ y
 only_one {X} {x} {y} c = by (among_Contains (y ∷ []) c)
   where
     by : {z : X} → Among z (y ∷ []) → z ≡ y

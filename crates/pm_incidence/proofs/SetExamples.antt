@@ -1,6 +1,6 @@
 -- The examples of rows from sets hold.
 use Rattle.pm_algebra.proofs.ConeLaws.{dot_in, in_line, in_of, in_zero, lines_opposite, none_from_zero, none_to_zero}
-use Rattle.pm_algebra.proofs.Lists.{All_among, Among, all_at, among_Contains, here, there}
+use Rattle.pm_algebra.proofs.Lists.{All_among, Among, Contains_among, all_at, among_Contains, here, there}
 use Rattle.pm_algebra.proofs.Ring.{ring}
 use Rattle.pm_algebra.proofs.RowLaws.{entry-plus, entry-times}
 use Rattle.pm_algebra.specs.Cones.{InCone, InSpan, combination}
@@ -16,14 +16,15 @@ use Rattle.pm_geom.specs.Cones.{InLineality, SameModulo}
 use Rattle.pm_geom.specs.Generators.{IsLinealityBasis, VanishAt}
 use Rattle.pm_incidence.proofs.Determined.{one_lineality}
 use Rattle.pm_incidence.proofs.Products.{itself}
+use Rattle.pm_incidence.proofs.ThinExamples.{y_echelon}
 use Rattle.pm_incidence.specs.Examples.{pair}
-use Rattle.pm_incidence.specs.FromSets.{AreCanonicalFor, AreDetermined, IsDetermining, determining}
-use Rattle.pm_incidence.specs.ThinExamples.{RowsFromSetsAreRead, diagonal, x_axis, y_axis}
+use Rattle.pm_incidence.specs.FromSets.{AreCanonicalFor, AreDetermined, IsDetermining, IsWideSign, determining}
+use Rattle.pm_incidence.specs.ThinExamples.{RowsFromSetsAreRead, diagonal, large, larger, steep, x_axis, y_axis}
 use Rattle.std.proofs.Common.{ap, arith, inl, inr, refl, subst, sym}
 use Rattle.std.proofs.lemmas.Int.{ints}
 use Rattle.std.specs.List.{slice_index_or}
-use Rattle.std.specs.Prelude.{List, [], length, suc, zero, ℕ, ◌∷◌, ◌≡◌, ◌<◌, ◌↔◌, ◌⊎◌}
-use lib.IntN.{negsuc, pos, ℤ}
+use Rattle.std.specs.Prelude.{◌^◌, List, [], length, suc, zero, ℕ, ◌∷◌, ◌≡◌, ◌<◌, ◌↔◌, ◌⊎◌}
+use lib.IntN.{negsuc, pos, ℤ, ◌*ℤ◌}
 use lib.Signed.{lt_z_yes, ◌<ℤ◌, ◌≤ℤ◌}
 
 abbrev quadrant : List Row
@@ -71,7 +72,7 @@ other_row d =
     let f = ap (λ (X : List Row). entry (row_at X 0) 0) e in
     omega (arith, ints)
 
--- ---- where y vanishes
+-- ---- where a product is 0
 across : (y : Row) (l : Row) → dot y l ≡ pos 0 → (x : Row) → InSpan (l ∷ []) x → pos 0 ≤ℤ dot y x
 across y l e x h = dot_in y [] (l ∷ []) (λ g i. elim i [ ]) (λ z i. all_at (λ (z : Row). dot y z ≡ pos 0) i (e, tt)) h
 
@@ -95,6 +96,42 @@ on_x_axis (a ∷ b ∷ []) l = (
     at a b f (suc zero) = simp (f, ring)
     at a b f (suc (suc i)) = refl
 on_x_axis (a ∷ b ∷ c ∷ x) l = absurd (omega arith)
+
+on_y_axis : (x : Row) → length x ≡ 2 → InSpan (y_axis ∷ []) x ↔ IsNull (x_axis ∷ []) x
+on_y_axis [] l = absurd (omega arith)
+on_y_axis (a ∷ []) l = absurd (omega arith)
+on_y_axis (a ∷ b ∷ []) l = (
+  λ h.
+      let up = simp ring at (across x_axis y_axis refl (a ∷ b ∷ []) h) in
+      let down = simp ring at (across (pair (negsuc 0) (pos 0)) y_axis refl (a ∷ b ∷ []) h) in
+      let e : a ≡ pos 0 = omega (arith, ints) in
+      (simp (e, ring), tt),
+  λ h.
+      let e = simp ring at h.0 in
+      let f : a ≡ pos 0 = omega (arith, ints) in
+      record { m = pos 1; c = []; d = b ∷ []; positive = lt_z_yes tt; not_negative = tt; same = record { at = at a b f } },
+)
+  where
+    at : (a b : ℤ) → a ≡ pos 0 → (i : ℕ) → entry (times (pos 1) (a ∷ b ∷ [])) i ≡ entry (plus (combination [] []) (combination (b ∷ []) (y_axis ∷ []))) i
+    at a b f zero = simp (f, ring)
+    at a b f (suc zero) = simp ring
+    at a b f (suc (suc i)) = refl
+on_y_axis (a ∷ b ∷ c ∷ x) l = absurd (omega arith)
+
+-- the lineality of the half plane x >= 0
+half_null : IsNullBasis 2 (x_axis ∷ []) (y_axis ∷ []) (1 ∷ [])
+half_null = record { echelon = y_echelon; null = on_y_axis }
+
+determines_by_pivot : IsDetermining 2 [] (x_axis ∷ []) ([] ∷ []) (y_axis ∷ [])
+determines_by_pivot = record { lines = y_axis ∷ []; pivots = 1 ∷ []; lineality = half_null; set = []; listed = itself []; rows = refl }
+
+pivot_left_out : ¬ (IsDetermining 2 [] (x_axis ∷ []) ([] ∷ []) [])
+pivot_left_out d =
+    let p : d.pivots ≡ 1 ∷ [] = (null_basis_unique 2 (x_axis ∷ []) d.lines (y_axis ∷ []) d.pivots (1 ∷ []) d.lineality half_null).1 in
+    let s : d.set ≡ [] = all_at (λ (z : List ℕ). z ≡ []) (among_Contains ([] ∷ []) d.listed) (refl, tt) in
+    let e : [] ≡ y_axis ∷ [] = rw (p, s) at d.rows in
+    let f = ap (λ (X : List Row). length X) e in
+    omega arith
 
 determined : AreDetermined 2 [] (x_axis ∷ y_axis ∷ []) ((1 ∷ []) ∷ []) (x_axis ∷ [])
 determined = record { each = each }
@@ -122,26 +159,6 @@ not_determined d =
 -- ---- rows in canonical form
 no_lineality : IsLinealityBasis 2 (InCone quadrant []) [] []
 no_lineality = record { echelon = none_echelon; lines = λ x l. (λ h. lineality_spanned 2 quadrant [] (refl, (refl, tt)) tt diagonal tt tt x l h, λ h. record { inside = in_of quadrant [] [] (λ g i. elim i [ ]) h; opposed = in_of quadrant [] [] (λ g i. elim i [ ]) (lines_opposite [] x h) }) }
-
-y_echelon : IsEchelonBasis 2 (y_axis ∷ []) (1 ∷ [])
-y_echelon = record {
-  basis = record { cols = (refl, tt); as_many = refl; positive = positive; reduced = λ i j l m ne. absurd (ne (omega arith)); primitive = primitive };
-  ascending = λ i j l m. absurd (omega arith);
-  before = before;
-}
-  where
-    positive : (i : ℕ) → i < 1 → pos 0 <ℤ entry (row_at (y_axis ∷ []) i) (column (1 ∷ []) i)
-    positive zero l = lt_z_yes tt
-    positive (suc i) l = absurd (omega arith)
-
-    primitive : (i : ℕ) → i < 1 → IsPrimitive (row_at (y_axis ∷ []) i)
-    primitive zero l = primitive_by_one y_axis 1 refl
-    primitive (suc i) l = absurd (omega arith)
-
-    before : (i c : ℕ) → i < 1 → c < column (1 ∷ []) i → entry (row_at (y_axis ∷ []) i) c ≡ pos 0
-    before zero zero l m = refl
-    before zero (suc c) l m = absurd (omega arith)
-    before (suc i) c l m = absurd (omega arith)
 
 y_lineality : IsLinealityBasis 2 (InCone (x_axis ∷ []) (y_axis ∷ [])) (y_axis ∷ []) (1 ∷ [])
 y_lineality = record { echelon = y_echelon; lines = λ x l. (λ h. lineality_spanned 2 (x_axis ∷ []) (y_axis ∷ []) (refl, tt) (refl, tt) x_axis tt tt x l h, λ h. record { inside = in_of (x_axis ∷ []) [] (y_axis ∷ []) (λ g i. elim i [ ]) h; opposed = in_of (x_axis ∷ []) [] (y_axis ∷ []) (λ g i. elim i [ ]) (lines_opposite (y_axis ∷ []) x h) }) }
@@ -232,6 +249,93 @@ reduced = record {
 not_reduced : ¬ (AreCanonicalFor 2 (InCone (x_axis ∷ []) (y_axis ∷ [])) (diagonal ∷ []) (diagonal ∷ []))
 not_reduced c = let e = c.reduced (y_axis ∷ []) (1 ∷ []) y_lineality 0 [] (omega arith) 0 0 (omega arith) in omega (arith, ints)
 
+-- ---- the product of a determined row
+on_larger : (x : Row) → length x ≡ 2 → InSpan (larger ∷ []) x ↔ IsNull (steep ∷ []) x
+on_larger [] l = absurd (omega arith)
+on_larger (a ∷ []) l = absurd (omega arith)
+on_larger (a ∷ b ∷ []) l = (
+  λ h.
+      let up = simp ring at (across steep larger refl (a ∷ b ∷ []) h) in
+      let down = simp ring at (across (pair (negsuc 0) (pos (2 ^ 64))) larger refl (a ∷ b ∷ []) h) in
+      (simp ring (omega (arith, ints)), tt),
+  λ h.
+      let e = simp ring at h.0 in
+      let f : a ≡ b *ℤ pos (2 ^ 64) = omega (arith, ints) in
+      record { m = pos 1; c = []; d = b ∷ []; positive = lt_z_yes tt; not_negative = tt; same = record { at = at a b f } },
+)
+  where
+    at : (a b : ℤ) → a ≡ b *ℤ pos (2 ^ 64) → (i : ℕ) → entry (times (pos 1) (a ∷ b ∷ [])) i ≡ entry (plus (combination [] []) (combination (b ∷ []) (larger ∷ []))) i
+    at a b f zero = simp (f, ring)
+    at a b f (suc zero) = simp ring
+    at a b f (suc (suc i)) = refl
+on_larger (a ∷ b ∷ c ∷ x) l = absurd (omega arith)
+
+larger_echelon : IsEchelonBasis 2 (larger ∷ []) (0 ∷ [])
+larger_echelon = record {
+  basis = record { cols = (refl, tt); as_many = refl; positive = positive; reduced = λ i j l m ne. absurd (ne (omega arith)); primitive = primitive };
+  ascending = λ i j l m. absurd (omega arith);
+  before = before;
+}
+  where
+    positive : (i : ℕ) → i < 1 → pos 0 <ℤ entry (row_at (larger ∷ []) i) (column (0 ∷ []) i)
+    positive zero l = lt_z_yes tt
+    positive (suc i) l = absurd (omega arith)
+
+    primitive : (i : ℕ) → i < 1 → IsPrimitive (row_at (larger ∷ []) i)
+    primitive zero l = primitive_by_one larger 1 refl
+    primitive (suc i) l = absurd (omega arith)
+
+    before : (i c : ℕ) → i < 1 → c < column (0 ∷ []) i → entry (row_at (larger ∷ []) i) c ≡ pos 0
+    before zero c l m = absurd (omega arith)
+    before (suc i) c l m = absurd (omega arith)
+
+steep_null : IsNullBasis 2 (steep ∷ large ∷ []) [] []
+steep_null = record { echelon = none_echelon; null = λ x l. (λ h. null x (none_to_zero x h) l, λ h. by_two (λ x. IsNull (steep ∷ large ∷ []) x → InSpan [] x) spanned x l h) }
+  where
+    null : (x : Row) → IsZero x → length x ≡ 2 → IsNull (steep ∷ large ∷ []) x
+    null [] z l = absurd (omega arith)
+    null (a ∷ []) z l = absurd (omega arith)
+    null (a ∷ b ∷ []) z l =
+        let e : a ≡ pos 0 = z 0 in
+        let f : b ≡ pos 0 = z 1 in
+        (simp (e, f, ring), (simp (e, f, ring), tt))
+    null (a ∷ b ∷ c ∷ x) z l = absurd (omega arith)
+
+    spanned : (a b : ℤ) → IsNull (steep ∷ large ∷ []) (a ∷ b ∷ []) → InSpan [] (a ∷ b ∷ [])
+    spanned a b h =
+        let e = simp ring at h.0 in
+        let f = simp ring at h.1.0 in
+        none_from_zero (a ∷ b ∷ []) (zero_at a b (omega (arith, ints)) (omega (arith, ints)))
+
+sign : IsWideSign 2 [] (steep ∷ large ∷ []) ((0 ∷ []) ∷ []) larger large
+sign = record {
+  rows = steep ∷ [];
+  determining = record { lines = []; pivots = []; lineality = steep_null; set = 0 ∷ []; listed = itself (0 ∷ []); rows = refl };
+  column = 0 ∷ [];
+  found_alone = record { echelon = larger_echelon; null = on_larger };
+  listed = Contains_among {x = large} {xs = steep ∷ large ∷ []} (there here);
+  wide = λ s. let h = s.products 0 in absurd (omega arith);
+}
+
+sign_turned : ¬ (IsWideSign 2 [] (steep ∷ large ∷ []) ((0 ∷ []) ∷ []) large larger)
+sign_turned h = all_at (λ (z : Row). z ≡ larger → ⊥) (among_Contains (steep ∷ large ∷ []) h.listed) (λ e. apart e, (λ e. apart' e, tt)) refl
+  where
+    apart : steep ≡ larger → ⊥
+    apart e = let f = ap (λ (x : Row). entry x 1) e in omega (arith, ints)
+
+    apart' : large ≡ larger → ⊥
+    apart' e = let f = ap (λ (x : Row). entry x 1) e in omega (arith, ints)
+
+sign_of_another : ¬ (IsWideSign 2 [] (steep ∷ large ∷ []) ((0 ∷ []) ∷ []) large large)
+sign_of_another h =
+    let d = h.determining in
+    let p : d.pivots ≡ [] = (null_basis_unique 2 (steep ∷ large ∷ []) d.lines [] d.pivots [] d.lineality steep_null).1 in
+    let s : d.set ≡ 0 ∷ [] = all_at (λ (z : List ℕ). z ≡ 0 ∷ []) (among_Contains ((0 ∷ []) ∷ []) d.listed) (refl, tt) in
+    let e : h.rows ≡ steep ∷ [] = rw (p, s) at d.rows in
+    let n : IsNull (steep ∷ []) large = subst (λ (X : List Row). IsNull X large) e ((h.found_alone.null large refl).0 (in_line here)) in
+    let z = n.0 in
+    omega (arith, ints)
+
 pub rows_from_sets_are_read : RowsFromSetsAreRead
 rows_from_sets_are_read = record {
   holders = refl;
@@ -240,6 +344,8 @@ rows_from_sets_are_read = record {
   determining = refl;
   determines = determines;
   other_row = other_row;
+  determines_by_pivot = determines_by_pivot;
+  pivot_left_out = pivot_left_out;
   determined = determined;
   undetermined = undetermined;
   not_determined = not_determined;
@@ -248,4 +354,11 @@ rows_from_sets_are_read = record {
   other_order = other_order;
   reduced = reduced;
   not_reduced = not_reduced;
+  sign = sign;
+  sign_turned = sign_turned;
+  turned_sign = sign;
+  turned_sign_turned = sign_turned;
+  sign_of_another = sign_of_another;
+  memory = tt;
+  turned_memory = tt;
 }

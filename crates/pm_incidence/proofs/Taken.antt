@@ -1,7 +1,7 @@
 -- What holds of the first rows of a list, one by one; and tests that say no.
-use Rattle.std.specs.Prelude.{ℕ, ◌+◌, ◌≡◌, ◌<◌, ◌≤◌, ◌↔◌, false, true, IsTrue, List, [], ◌∷◌, ◌++◌, get_or, length, take}
-use Rattle.std.specs.List.{All, AllByRecursion, Contains}
-use Rattle.std.proofs.Common.{add-one, arith, refl, subst, sym, ◌∙◌}
+use Rattle.std.specs.Prelude.{ℕ, ◌+◌, ◌≡◌, ◌<◌, ◌≤◌, ◌↔◌, false, true, IsTrue, List, [], ◌∷◌, get_or, length, take}
+use Rattle.std.specs.List.{AllByRecursion}
+use Rattle.std.proofs.Common.{add-one, refl, sym, ◌∙◌}
 use Rattle.std.proofs.lemmas.List.{get_or_default, take_all}
 use Rattle.pm_algebra.specs.Rows.{Row}
 use Rattle.pm_algebra.proofs.Lists.{all_append, all_at, among_Contains}

@@ -2,22 +2,25 @@
 use Rattle.pm_algebra.proofs.Lists.{AllPairs_cons, All_among, Among, Any_among, Contains_among, all_at, among_All, among_Any, among_Contains, here, there}
 use Rattle.pm_algebra.proofs.RowLaws.{entry-times}
 use Rattle.pm_algebra.specs.Cones.{InSpan, combination}
+use Rattle.pm_algebra.specs.Divisors.{IsPrimitive}
 use Rattle.pm_algebra.specs.Numbers.{InRange}
 use Rattle.pm_algebra.specs.Rows.{Row, difference, dot, entry, plus, times}
 use Rattle.pm_bases.proofs.Examples.{primitive_by_one}
+use Rattle.pm_bases.proofs.Spans.{same_span_refl}
+use Rattle.pm_bases.proofs.Unique.{echelon_is_unique}
 use Rattle.pm_bits.specs.Sets.{IsSubset, has}
-use Rattle.pm_bases.specs.Bases.{row_at}
+use Rattle.pm_bases.specs.Bases.{IsEchelonBasis, column, row_at}
 use Rattle.pm_dd.specs.Tables.{IsZeroSet, zero_set}
 use Rattle.pm_incidence.proofs.Described.{cone_apart}
 use Rattle.pm_incidence.proofs.Products.{itself, unit_stays}
 use Rattle.pm_incidence.specs.Examples.{pair}
 use Rattle.pm_incidence.specs.ThinExamples.{KeptAreRead, ThinningIsRead, antidiagonal, bits, diagonal, large, larger, marks, sets, x_axis, x_turned, y_axis}
-use Rattle.pm_incidence.specs.Thinning.{AreKept, AreZeroSets, HasPoint, IsFull, IsKept, IsThinned, IsWideIncidence, MarkFull}
+use Rattle.pm_incidence.specs.Thinning.{AreKept, AreZeroSets, HasPoint, IsBasisAndRow, IsFull, IsKept, IsThinned, IsWideIncidence, MarkFull}
 use Rattle.pm_props.specs.declared.object_type.ObjectType.TheVariants.{Polytope}
 use Rattle.std.proofs.Common.{ap, arith, inl, inr, refl, sym, true≢false}
 use Rattle.std.proofs.lemmas.Int.{ints}
 use Rattle.std.specs.List.{All, Contains}
-use Rattle.std.specs.Prelude.{IsTrue, [], false, get_or, suc, true, zero, ℕ, ◌∷◌, ◌≡◌, ◌<◌, ◌≤◌, ◌↔◌}
+use Rattle.std.specs.Prelude.{IsTrue, List, [], false, get_or, suc, true, zero, ℕ, ◌∷◌, ◌≡◌, ◌<◌, ◌≤◌, ◌↔◌}
 use lib.IntN.{pos, ℤ}
 use lib.Signed.{lt_z_yes, ◌<ℤ◌}
 
@@ -102,11 +105,51 @@ not_primitive h =
     halves (suc zero) = refl
     halves (suc (suc i)) = refl
 
+-- ---- a basis and a row behind it
+pub y_echelon : IsEchelonBasis 2 (y_axis ∷ []) (1 ∷ [])
+y_echelon = record {
+  basis = record { cols = (refl, tt); as_many = refl; positive = positive; reduced = λ i j l m ne. absurd (ne (omega arith)); primitive = primitive };
+  ascending = λ i j l m. absurd (omega arith);
+  before = before;
+}
+  where
+    positive : (i : ℕ) → i < 1 → pos 0 <ℤ entry (row_at (y_axis ∷ []) i) (column (1 ∷ []) i)
+    positive zero l = lt_z_yes tt
+    positive (suc i) l = absurd (omega arith)
+
+    primitive : (i : ℕ) → i < 1 → IsPrimitive (row_at (y_axis ∷ []) i)
+    primitive zero l = primitive_by_one y_axis 1 refl
+    primitive (suc i) l = absurd (omega arith)
+
+    before : (i c : ℕ) → i < 1 → c < column (1 ∷ []) i → entry (row_at (y_axis ∷ []) i) c ≡ pos 0
+    before zero zero l m = refl
+    before zero (suc c) l m = absurd (omega arith)
+    before (suc i) c l m = absurd (omega arith)
+
+basis_and_row : IsBasisAndRow 2 (diagonal ∷ y_axis ∷ []) [] (x_axis ∷ []) (y_axis ∷ diagonal ∷ [])
+basis_and_row = record {
+  basis = y_axis ∷ [];
+  pivots = 1 ∷ [];
+  is_basis = record { echelon = y_echelon; span = same_span_refl (y_axis ∷ []) };
+  row = diagonal;
+  listed = Contains_among {x = diagonal} {xs = diagonal ∷ y_axis ∷ []} here;
+  rows = refl;
+}
+
+row_and_basis : ¬ (IsBasisAndRow 2 (diagonal ∷ y_axis ∷ []) [] (x_axis ∷ []) (diagonal ∷ y_axis ∷ []))
+row_and_basis h =
+    let b : h.basis ≡ y_axis ∷ [] = (echelon_is_unique 2 h.basis (y_axis ∷ []) h.pivots (1 ∷ []) h.is_basis.echelon y_echelon h.is_basis.span).0 in
+    let e : diagonal ∷ y_axis ∷ [] ≡ y_axis ∷ h.row ∷ [] = rw b at h.rows in
+    let f = ap (λ (X : List Row). entry (row_at X 0) 0) e in
+    omega (arith, ints)
+
 pub thinning_is_read : ThinningIsRead
 thinning_is_read = record {
   flat = refl;
   not_flat = refl;
   group = refl;
+  basis_and_row = basis_and_row;
+  row_and_basis = row_and_basis;
   polytope = refl;
   cone = refl;
   fan = refl;

@@ -1,9 +1,10 @@
--- Incidence read on three facets and three vertices of the plane: what holds, and what does not.
+-- Incidence read on three facets and three vertices of the plane, and short rows: what holds, and what does not.
 use Rattle.pm_algebra.specs.Rows.{Row}
 use Rattle.pm_geom.specs.declared.evidence.Evidence.TheVariants.{E4}
 use Rattle.pm_incidence.specs.Incidence.{IsWideFor, incidence, places_from}
+use Rattle.pm_incidence.specs.Short.{IsShort}
 use Rattle.pm_incidence.specs.declared.fails.IncFail.TheVariants.{Memory, Wide}
-use Rattle.std.specs.Prelude.{List, [], ◌∷◌, ◌≡◌}
+use Rattle.std.specs.Prelude.{List, [], replicate, ◌∷◌, ◌≡◌}
 use lib.IntN.{ℤ, pos, negsuc}
 
 abbrev pub pair : ℤ → ℤ → Row
@@ -23,3 +24,11 @@ pub record IncidenceIsRead : Type 0 where
   -- want of memory needs no evidence, and evidence names no row that was not read
   pub memory : IsWideFor facets vertices Memory
   pub not_read : ¬ (IsWideFor facets vertices (Wide (E4 (pair (pos 1) (pos 1)) (pair (pos 1) (pos 0)))))
+
+pub record ShortRowsAreRead : Type 0 where
+  -- entries up to 2^28 - 1, and one of -2^28
+  pub greatest : IsShort (pair (pos 268435455) (negsuc 268435454))
+  pub too_great : ¬ (IsShort (pair (pos 0) (negsuc 268435455)))
+  -- 65 entries are too many
+  pub longest : IsShort (replicate 64 (pos 1))
+  pub too_long : ¬ (IsShort (replicate 65 (pos 1)))

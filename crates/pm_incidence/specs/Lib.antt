@@ -5,3 +5,4 @@ pub mod Thinning
 pub mod FromSets
 pub mod SetRows
 pub mod ThinExamples
+pub mod Short

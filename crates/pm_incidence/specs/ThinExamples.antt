@@ -1,13 +1,15 @@
 -- The definitions of thinning and of rows from sets, read on rows of two entries and sets of three places: what holds, and what does not.
 use Rattle.pm_algebra.specs.Cones.{InCone}
 use Rattle.pm_algebra.specs.Rows.{Row}
+use Rattle.pm_elim.specs.Evidence.{unit}
 use Rattle.pm_geom.specs.declared.evidence.Evidence.TheVariants.{E4, E5Rows}
 use Rattle.pm_incidence.specs.Examples.{pair}
-use Rattle.pm_incidence.specs.FromSets.{AreCanonicalFor, AreDetermined, IsDetermining, determining, holders_from, rows_at, turned}
-use Rattle.pm_incidence.specs.Thinning.{AreFacetPlaces, AreKept, AreManyFacets, AreZeroSets, HasPoint, IsBehind, IsFacetsFail, IsKept, IsThinFail, IsThinned, IsWideIncidence, MarkFull, flat_group, half_spaces, is_flat}
+use Rattle.pm_incidence.specs.FromSets.{AreCanonicalFor, AreDetermined, IsDetermining, IsSetsFail, IsTurnedSetsFail, determining, holders_from, rows_at, turned}
+use Rattle.pm_incidence.specs.Thinning.{AreFacetPlaces, AreKept, AreManyFacets, AreZeroSets, HasPoint, IsBasisAndRow, IsBehind, IsFacetsFail, IsKept, IsThinFail, IsThinned, IsWideIncidence, MarkFull, flat_group, half_spaces, is_flat}
 use Rattle.pm_incidence.specs.declared.fails.ThinFail.TheVariants.{Many, Memory, Wide}
 use Rattle.pm_props.specs.declared.object_type.ObjectType.TheVariants.{Cone, Fan, Polytope}
-use Rattle.std.specs.Prelude.{◌^◌, ◌≡◌, Bool, List, [], ◌∷◌, false, true}
+use Rattle.std.specs.List.{range_with_len}
+use Rattle.std.specs.Prelude.{ℕ, ◌-◌, ◌<◌, ◌≤◌, ◌^◌, ◌≡◌, Bool, List, [], ◌∷◌, false, map, true}
 use lib.IntN.{negsuc, pos}
 
 -- ---- rows
@@ -35,6 +37,10 @@ large = pair (pos (2 ^ 64)) (pos 0)
 abbrev pub larger : Row
 larger = pair (pos (2 ^ 64)) (pos 1)
 
+-- its product with (a, b) is a - 2 ^ 64 b
+abbrev pub steep : Row
+steep = pair (pos 1) (negsuc 18446744073709551615)
+
 -- (1, 1), (0, 1) and (2, 2)
 abbrev pub generators : List Row
 generators = diagonal ∷ y_axis ∷ pair (pos 2) (pos 2) ∷ []
@@ -45,6 +51,9 @@ pub record ThinningIsRead : Type 0 where
   pub not_flat : is_flat (antidiagonal ∷ y_axis ∷ []) diagonal ≡ false
   -- the lines come first, and then the flat rows alone
   pub group : flat_group generators (x_axis ∷ []) (antidiagonal ∷ []) ≡ x_axis ∷ diagonal ∷ pair (pos 2) (pos 2) ∷ []
+  -- of (1, 1) and (0, 1) the second is flat for x >= 0: it is a basis, and the first may come behind it, not before
+  pub basis_and_row : IsBasisAndRow 2 (diagonal ∷ y_axis ∷ []) [] (x_axis ∷ []) (y_axis ∷ diagonal ∷ [])
+  pub row_and_basis : ¬ (IsBasisAndRow 2 (diagonal ∷ y_axis ∷ []) [] (x_axis ∷ []) (diagonal ∷ y_axis ∷ []))
   -- only a polytope has its far face among its half-spaces, as the last
   pub polytope : half_spaces Polytope 2 (y_axis ∷ []) ≡ y_axis ∷ x_axis ∷ []
   pub cone : half_spaces Cone 2 (y_axis ∷ []) ≡ y_axis ∷ []
@@ -109,9 +118,14 @@ pub record KeptAreRead : Type 0 where
 abbrev pub half : List Row
 half = (pos 1 ∷ []) ∷ []
 
+-- x1 >= 0, x2 >= 0 and so on, of n columns: with the far face x0 >= 0 a polytope has one half-space for each column
+abbrev pub orthant : ℕ → List Row
+orthant n = map (unit n) (range_with_len 1 (n - 1))
+
 pub record FacetPlacesAreRead : Type 0 where
   -- no place past the rows, no place twice, and no row that vanishes on all of the line
   pub past : ¬ (AreFacetPlaces Cone 1 half [] (1 ∷ []))
+  pub past_of_none : ¬ (AreFacetPlaces Fan 1 half [] (1 ∷ []))
   pub twice : ¬ (AreFacetPlaces Cone 1 half [] (0 ∷ 0 ∷ []))
   pub zero : ¬ (AreFacetPlaces Cone 1 ((pos 0 ∷ []) ∷ []) [] (0 ∷ []))
   -- of a polytope the far face may be named, one place past the inequalities
@@ -120,6 +134,10 @@ pub record FacetPlacesAreRead : Type 0 where
   pub few : ¬ (AreManyFacets Polytope 1 [] [] (0 ∷ []))
   pub few_fail : ¬ (IsFacetsFail Polytope 1 [] [] half (Many (E5Rows (0 ∷ []))))
   pub many_by_product : ¬ (IsFacetsFail Polytope 1 [] [] half (Many (E4 large larger)))
+  -- with 2,048 inequalities and the far face there are too many, with one inequality fewer there are not
+  pub many : (n : ℕ) → 2048 < n → AreManyFacets Polytope n (orthant n) [] (range_with_len 0 n)
+  pub many_fail : (n : ℕ) (V : List Row) → 2048 < n → IsFacetsFail Polytope n (orthant n) [] V (Many (E5Rows (range_with_len 0 n)))
+  pub not_many : (n : ℕ) → n ≤ 2048 → ¬ (AreManyFacets Polytope n (orthant n) [] (range_with_len 0 n))
 
 -- ---- rows from sets
 pub record RowsFromSetsAreRead : Type 0 where
@@ -133,6 +151,9 @@ pub record RowsFromSetsAreRead : Type 0 where
   -- of the quadrant no column is a pivot: the set {1} determines by its inequality alone
   pub determines : IsDetermining 2 [] (x_axis ∷ y_axis ∷ []) ((1 ∷ []) ∷ []) (y_axis ∷ [])
   pub other_row : ¬ (IsDetermining 2 [] (x_axis ∷ y_axis ∷ []) ((1 ∷ []) ∷ []) (x_axis ∷ []))
+  -- of the half plane x >= 0 the column 1 is a pivot: the set {} determines by the unit row alone
+  pub determines_by_pivot : IsDetermining 2 [] (x_axis ∷ []) ([] ∷ []) (y_axis ∷ [])
+  pub pivot_left_out : ¬ (IsDetermining 2 [] (x_axis ∷ []) ([] ∷ []) [])
   -- where y vanishes are the multiples of (1, 0), and not those of (0, 1); a row of zeros is no wrong answer
   pub determined : AreDetermined 2 [] (x_axis ∷ y_axis ∷ []) ((1 ∷ []) ∷ []) (x_axis ∷ [])
   pub undetermined : AreDetermined 2 [] (x_axis ∷ y_axis ∷ []) ((1 ∷ []) ∷ []) (pair (pos 0) (pos 0) ∷ [])
@@ -144,3 +165,12 @@ pub record RowsFromSetsAreRead : Type 0 where
   -- modulo the line of (0, 1) the ray is (1, 0), and (1, 1) is not reduced
   pub reduced : AreCanonicalFor 2 (InCone (x_axis ∷ []) (y_axis ∷ [])) (diagonal ∷ []) (x_axis ∷ [])
   pub not_reduced : ¬ (AreCanonicalFor 2 (InCone (x_axis ∷ []) (y_axis ∷ [])) (diagonal ∷ []) (diagonal ∷ []))
+  -- the set {0} determines (2 ^ 64, 1), whose product with the other inequality leaves the range; evidence names the determined row first, of turned sets second
+  pub sign : IsSetsFail 2 [] (steep ∷ large ∷ []) ((0 ∷ []) ∷ []) (Wide (E4 larger large))
+  pub sign_turned : ¬ (IsSetsFail 2 [] (steep ∷ large ∷ []) ((0 ∷ []) ∷ []) (Wide (E4 large larger)))
+  pub turned_sign : IsTurnedSetsFail 2 [] (steep ∷ large ∷ []) ((0 ∷ []) ∷ []) (Wide (E4 large larger))
+  pub turned_sign_turned : ¬ (IsTurnedSetsFail 2 [] (steep ∷ large ∷ []) ((0 ∷ []) ∷ []) (Wide (E4 larger large)))
+  -- a row that no set determines shows nothing, however large the product
+  pub sign_of_another : ¬ (IsSetsFail 2 [] (steep ∷ large ∷ []) ((0 ∷ []) ∷ []) (Wide (E4 large large)))
+  pub memory : IsSetsFail 2 [] [] [] Memory
+  pub turned_memory : IsTurnedSetsFail 2 [] [] [] Memory

@@ -1,7 +1,7 @@
 //! Which rays lie on which facets (Ziegler, Lectures on Polytopes, lecture 2).
 #![tactic(auto)]
 
-ghost use Rattle.pm_incidence.specs.Examples.{IncidenceIsRead};
+ghost use Rattle.pm_incidence.specs.Examples.{IncidenceIsRead, ShortRowsAreRead};
 ghost use Rattle.pm_incidence.specs.ThinExamples.{FacetPlacesAreRead, KeptAreRead, RowsFromSetsAreRead, ThinningIsRead};
 
 mod by_incidence;
@@ -9,6 +9,7 @@ mod facets;
 mod fails;
 mod from_sets;
 mod sets;
+mod short;
 mod thin;
 mod zeros;
 
@@ -22,6 +23,11 @@ pub use sets::incidence;
 /// Incidence read on three facets and three vertices.
 pub fn example_incidence()
     ensures { IncidenceIsRead }
+{}
+
+/// Which rows are short.
+pub fn example_short_rows()
+    ensures { ShortRowsAreRead }
 {}
 
 /// The definitions of thinning, of rows of two entries.

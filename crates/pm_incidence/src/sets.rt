@@ -2,11 +2,13 @@
 
 ghost use Rattle.pm_algebra.specs.Rows.{dot};
 ghost use Rattle.pm_incidence.specs.Incidence.{AllStay, IsWideFor, incidence, places_from};
+ghost use Rattle.pm_incidence.specs.Short.{IsShort};
 ghost use Rattle.pm_types.specs.Right.{IsIncidence};
 ghost use Rattle.pm_vector.specs.Products.{ProductsStay};
-ghost use Rattle.std.specs.Prelude.{All, IfErr, IfOk, OnOk, [], length, unsigned_abs, ◌==◌, ◌∷◌, ◌≡◌, ◌≤◌};
+ghost use Rattle.std.specs.Prelude.{All, IfErr, IfOk, IsTrue, OnOk, [], length, unsigned_abs, ◌==◌, ◌∷◌, ◌≡◌, ◌≤◌};
 
 use crate::fails::IncFail;
+use crate::short::{are_both_short, short_places};
 use pm_geom::Evidence;
 use pm_types::Sets;
 use pm_vector::{Ints, Wide, dot};
@@ -60,6 +62,26 @@ fn places(alloc: Global, facet: &Ints, vertices: &[Ints]) -> Result<Vec<u32>, In
     Ok(places)
 }
 
+// The places of the vertices on a facet, by the quick product where the rows are known to be short.
+fn places_by(
+    alloc: Global,
+    facet: &Ints,
+    vertices: &[Ints],
+    short: bool,
+) -> Result<Vec<u32>, IncFail>
+    requires cols { All (λ v. length v ≡ length facet.now) vertices.now }
+    requires few { length vertices.now ≤ 2048 }
+    requires short { IsTrue short → IsShort facet.now × All IsShort vertices.now }
+    ensures ok { IfOk result (λ r. r.items ≡ places_from 0 facet.now vertices.now) }
+    ensures stays { OnOk result (AllStay (facet.now ∷ []) vertices.now) }
+    ensures failed { IfErr result (IsWideFor (facet.now ∷ []) vertices.now) }
+{
+    if short {
+        return Ok(short_places(alloc, facet, vertices)?);
+    }
+    places(alloc, facet, vertices)
+}
+
 /// For each facet row the places of the rays on which it vanishes, of rows of one length. It fails exactly where a
 /// product leaves the range, with two rows of such a product as evidence.
 pub fn incidence(alloc: Global, facets: &[Ints], vertices: &[Ints]) -> Result<Sets, IncFail>
@@ -71,9 +93,10 @@ pub fn incidence(alloc: Global, facets: &[Ints], vertices: &[Ints]) -> Result<Se
     ensures stays { OnOk result (AllStay facets.now vertices.now) }
     ensures failed { IfErr result (IsWideFor facets.now vertices.now) }
 {
+    let short = are_both_short(facets, vertices);
     let mut rows = Vec::new(alloc);
     for facet in facets {
-        rows.push(places(alloc, facet, vertices)?)?;
+        rows.push(places_by(alloc, facet, vertices, short)?)?;
     }
     Ok(Sets::from_vec(rows, vertices.len() as u32))
 }

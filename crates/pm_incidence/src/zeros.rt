@@ -3,10 +3,12 @@
 ghost use Rattle.pm_algebra.specs.Rows.{HasCols};
 ghost use Rattle.pm_bits.specs.Sets.{IsSubset, has};
 ghost use Rattle.pm_dd.specs.Tables.{IsZeroSet, zero_set};
+ghost use Rattle.pm_incidence.specs.Short.{IsShort};
 ghost use Rattle.pm_incidence.specs.Thinning.{AreKept, AreZeroSets, IsKept, IsProductFail, IsRanged, MarkFull};
-ghost use Rattle.std.specs.Prelude.{IfErr, IfOk, IsTrue, [], get_or, false, length, ℕ, ◌<◌, ◌∷◌, ◌≡◌, ◌≤◌, ◌↔◌};
+ghost use Rattle.std.specs.Prelude.{All, IfErr, IfOk, IsTrue, [], get_or, false, length, ℕ, ◌<◌, ◌∷◌, ◌≡◌, ◌≤◌, ◌↔◌};
 
 use crate::fails::ThinFail;
+use crate::short::{are_both_short, short_dot};
 use pm_bits::{BitRow, BitTable};
 use pm_geom::Evidence;
 use pm_vector::{Ints, Wide, dot};
@@ -43,6 +45,36 @@ fn zero_row(alloc: Global, row: &Ints, cuts: &[Ints]) -> Result<BitRow, ThinFail
     Ok(zeros)
 }
 
+/// The set of the inequalities on which a row vanishes, of short rows.
+fn short_zero_row(alloc: Global, row: &Ints, cuts: &[Ints]) -> Result<BitRow, AllocError>
+    requires cols { HasCols (length row.now) cuts.now }
+    requires row { IsShort row.now }
+    requires cuts { All IsShort cuts.now }
+    ensures { IfOk result (IsZeroSet cuts.now (length cuts.now) row.now) }
+{
+    let mut zeros = BitRow::with_len(alloc, cuts.len())?;
+    for (p, cut) in cuts.iter().enumerate() {
+        if short_dot(cut.as_slice(), row.as_slice()) == 0 {
+            zeros.set(p);
+        }
+    }
+    Ok(zeros)
+}
+
+/// The set of the inequalities on which a row vanishes, by the quick product where the rows are known to be short.
+fn zero_row_by(alloc: Global, row: &Ints, cuts: &[Ints], short: bool) -> Result<BitRow, ThinFail>
+    requires cols { HasCols (length row.now) cuts.now }
+    requires short { IsTrue short → IsShort row.now × All IsShort cuts.now }
+    ensures zeros { IfOk result (IsZeroSet cuts.now (length cuts.now) row.now) }
+    ensures failed { IfErr result (IsProductFail (row.now ∷ []) cuts.now) }
+    ensures ranged { IfErr result IsRanged }
+{
+    if short {
+        return Ok(short_zero_row(alloc, row, cuts)?);
+    }
+    zero_row(alloc, row, cuts)
+}
+
 /// For each row the set of the inequalities on which it vanishes.
 pub(crate) fn zero_rows(
     alloc: Global,
@@ -57,9 +89,10 @@ pub(crate) fn zero_rows(
     ensures failed { IfErr result (IsProductFail rows.now cuts.now) }
     ensures ranged { IfErr result IsRanged }
 {
+    let short = are_both_short(rows, cuts);
     let mut zeros = BitTable::new(alloc, cuts.len());
     for row in rows {
-        let Ok(()) = zeros.push(zero_row(alloc, row, cuts)?) else {
+        let Ok(()) = zeros.push(zero_row_by(alloc, row, cuts, short)?) else {
             return Err(ThinFail::Memory);
         };
     }

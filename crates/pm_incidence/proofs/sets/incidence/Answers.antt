@@ -9,9 +9,9 @@ use Rattle.pm_incidence.proofs.sets.incidence.Goals as goal
 
 pub loop-facet-preserved : goal.loop-facet-preserved
 loop-facet-preserved c = (
-  incidence_next (λ r. r.items) c.args.facets.now c.args.vertices.now c.loop-facet.facet-index c.facet-item.result c.loop-facet.rows.items c.push.new.self.items c.in_ok-places.field-0 c.loop-facet-test.true c.facet-item.is c.loop-facet.invariant.0
-      c.in_ok-push.ensures.items c.in_ok-places.ensures.ok,
-  AllStay-list c.args.facets.now c.args.vertices.now c.loop-facet.facet-index c.facet-item.result c.loop-facet-test.true c.facet-item.is c.loop-facet.invariant.1 c.in_ok-places.ensures.stays,
+  incidence_next (λ r. r.items) c.args.facets.now c.args.vertices.now c.loop-facet.facet-index c.facet-item.result c.loop-facet.rows.items c.push.new.self.items c.in_ok-places_by.field-0 c.loop-facet-test.true c.facet-item.is c.loop-facet.invariant.0
+      c.in_ok-push.ensures.items c.in_ok-places_by.ensures.ok,
+  AllStay-list c.args.facets.now c.args.vertices.now c.loop-facet.facet-index c.facet-item.result c.loop-facet-test.true c.facet-item.is c.loop-facet.invariant.1 c.in_ok-places_by.ensures.stays,
 )
 
 pub returns-clause-ok : goal.returns-clause-ok
@@ -31,10 +31,10 @@ returns-clause-right c =
 pub returns-clause-stays : goal.returns-clause-stays
 returns-clause-stays c = rw (take_all c.loop-facet.facet-index c.args.facets.now c.loop-facet-test.false) at c.loop-facet.invariant.1
 
-pub returns-in_err-places-clause-failed : goal.returns-in_err-places-clause-failed
-returns-in_err-places-clause-failed c =
+pub returns-in_err-places_by-clause-failed : goal.returns-in_err-places_by-clause-failed
+returns-in_err-places_by-clause-failed c =
     let facets = c.args.facets.now in
     let facet = c.facet-item.result in
     let p = err_from_is_err_and c.from_residual.result c.from_residual.ensures.1 in
     let has = listed facets c.loop-facet.facet-index facet c.loop-facet-test.true c.facet-item.is in
-    rw (p.1, p.2) (wide_in_list facets c.args.vertices.now facet c.in_err-places.field-0.0 has c.in_err-places.ensures.failed)
+    rw (p.1, p.2) (wide_in_list facets c.args.vertices.now facet c.in_err-places_by.field-0.0 has c.in_err-places_by.ensures.failed)

@@ -11,10 +11,10 @@ loop-row-preserved c =
     let P : ℕ → List Bool → Type 0 = λ k z. IsZeroSet c.args.cuts.now (length c.args.cuts.now) (row_at c.args.rows.now k) z in
     let i = c.loop-row.row-index in
     let item = c.row-item.result in
-    let here : IsZeroSet c.args.cuts.now (length c.args.cuts.now) (row_at c.args.rows.now i) c.in_ok-zero_row.field-0 = rw (get_or_default c.args.rows.now i [] item c.loop-row-test.true ∙ sym c.row-item.is) c.in_ok-zero_row.ensures.zeros in
-    let all = appended P [] c.loop-row.zeros.rows c.push.new.self.rows c.in_ok-zero_row.field-0 c.loop-row.row-index h.many c.in-Ok.ensures.ok h.each here in
+    let here : IsZeroSet c.args.cuts.now (length c.args.cuts.now) (row_at c.args.rows.now i) c.in_ok-zero_row_by.field-0 = rw (get_or_default c.args.rows.now i [] item c.loop-row-test.true ∙ sym c.row-item.is) c.in_ok-zero_row_by.ensures.zeros in
+    let all = appended P [] c.loop-row.zeros.rows c.push.new.self.rows c.in_ok-zero_row_by.field-0 c.loop-row.row-index h.many c.in-Ok.ensures.ok h.each here in
     record {
       len = c.push.ensures.row_len ∙ h.len;
-      many = length_more c.loop-row.zeros.rows c.push.new.self.rows c.in_ok-zero_row.field-0 c.loop-row.row-index h.many c.in-Ok.ensures.ok;
+      many = length_more c.loop-row.zeros.rows c.push.new.self.rows c.in_ok-zero_row_by.field-0 c.loop-row.row-index h.many c.in-Ok.ensures.ok;
       each = all;
     }
