@@ -1,0 +1,10 @@
+mod ValidCuts
+mod Programs
+mod Lifted
+mod Marked
+mod Irredundant
+mod Steps
+mod Canonical
+mod HalfSpaces
+mod Refusals
+mod SmallRows

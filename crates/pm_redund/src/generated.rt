@@ -1,0 +1,98 @@
+// Whether a row is in the cone of others: exactly where a linear program has no point.
+
+ghost use Rattle.pm_algebra.specs.Cones.{InCone};
+ghost use Rattle.pm_algebra.specs.Numbers.{InRange};
+ghost use Rattle.pm_algebra.specs.Rows.{HasCols};
+ghost use Rattle.pm_geom.specs.StatedOrder.{rows_marked};
+ghost use Rattle.pm_redund.specs.Generated.{IsProgramFail, equations_of, lifted, no_objective, turned};
+ghost use Rattle.std.specs.List.{Contains};
+ghost use Rattle.std.specs.Prelude.{IfErr, IfOk, IsTrue, length, pos, true, ◌+◌, ◌<◌, ◌^◌, ◌∷◌, ◌≡◌, ◌≤◌, ◌↔◌};
+
+use pm_fraction::Fraction;
+use pm_incidence::ThinFail;
+use pm_simplex::{LpAnswer, LpFail, maximise_rows};
+use pm_vector::Ints;
+use std::alloc::{AllocError, Global};
+
+/// A number, and then the entries of a row.
+fn headed(alloc: Global, first: i128, row: &Ints) -> Result<Ints, AllocError>
+    requires { InRange first }
+    ensures { IfOk result (λ v. v ≡ first ∷ row.now) }
+{
+    let mut made = Ints::new(alloc);
+    made.push(first)?;
+    for i in 0..row.len() {
+        made.push(row.get(i))?;
+    }
+    Ok(made)
+}
+
+/// The marked rows as rows of a program. Rows past the marks have none.
+fn lifted_rows(alloc: Global, rows: &[Ints], marks: &[bool]) -> Result<Vec<Ints>, AllocError>
+    requires { length marks.now ≤ length rows.now }
+    ensures { IfOk result (λ v. v.items ≡ lifted (rows_marked true marks.now rows.now)) }
+{
+    let mut made = Vec::new(alloc);
+    for i in 0..marks.len() {
+        if marks[i] {
+            made.push(headed(alloc, 0, &rows[i])?)?;
+        }
+    }
+    Ok(made)
+}
+
+/// The equations of the program of a row, or of its opposite.
+fn equations(
+    alloc: Global,
+    lines: &[Ints],
+    row: &Ints,
+    opposed: bool,
+) -> Result<Vec<Ints>, AllocError>
+    ensures { IfOk result (λ v. v.items ≡ equations_of lines.now opposed row.now) }
+{
+    let mut made = Vec::new(alloc);
+    for line in lines {
+        made.push(headed(alloc, 0, line)?)?;
+    }
+    made.push(headed(alloc, if opposed { -1 } else { 1 }, row)?)?;
+    Ok(made)
+}
+
+/// The objective 0.
+fn no_objective(alloc: Global, cols: usize) -> Result<Vec<Fraction>, AllocError>
+    ensures { IfOk result (λ v. v.items ≡ no_objective cols) }
+{
+    vec![in alloc; Fraction::zero(); cols]
+}
+
+/// Whether one of the rows, or its opposite, is in the cone of the marked rows and the lines.
+pub(crate) fn is_generated(
+    alloc: Global,
+    cols: usize,
+    rows: &[Ints],
+    lines: &[Ints],
+    marks: &[bool],
+    row: &Ints,
+    opposed: bool,
+) -> Result<bool, ThinFail>
+    requires row_cols { HasCols cols rows.now }
+    requires line_cols { HasCols cols lines.now }
+    requires listed { Contains rows.now row.now }
+    requires few_rows { length rows.now < 2 ^ 29 }
+    requires few_lines { length lines.now < 2 ^ 29 }
+    requires few_columns { cols < 2 ^ 29 }
+    requires marks { length marks.now ≤ length rows.now }
+    ensures generated { IfOk result (λ b. IsTrue b ↔ InCone (rows_marked true marks.now rows.now) lines.now (turned opposed row.now)) }
+    ensures failed { IfErr result (IsProgramFail cols rows.now lines.now) }
+{
+    let kept = lifted_rows(alloc, rows, marks)?;
+    let ties = equations(alloc, lines, row, opposed)?;
+    let objective = no_objective(alloc, cols + 1)?;
+    match maximise_rows(alloc, &kept, &ties, &objective) {
+        Ok(LpAnswer::Infeasible { .. }) => Ok(true),
+        Ok(LpAnswer::Optimal { .. }) => Ok(false),
+        Ok(LpAnswer::Unbounded { .. }) => Ok(false),
+        Err(LpFail::Wide(evidence)) => Err(ThinFail::Wide(evidence)),
+        Err(LpFail::Memory) => Err(ThinFail::Memory),
+    }
+}

@@ -1,0 +1,154 @@
+// The facet rows among half-spaces.
+
+ghost use Rattle.pm_algebra.specs.Cones.{InCone};
+ghost use Rattle.pm_algebra.specs.Rows.{HasCols, Row};
+ghost use Rattle.pm_bases.specs.Bases.{IsEchelonBasis};
+ghost use Rattle.pm_elim.specs.Evidence.{unit};
+ghost use Rattle.pm_geom.specs.Cones.{IsValid};
+ghost use Rattle.pm_geom.specs.Generators.{AreGenerators};
+ghost use Rattle.pm_incidence.specs.Thinning.{half_spaces};
+ghost use Rattle.pm_redund.specs.Redundancy.{IsEnough, IsHalvesFail, IsRowsFail, MarkLines};
+ghost use Rattle.pm_types.specs.Right.{CutsOutOf};
+ghost use Rattle.std.specs.List.{All, range_with_len};
+ghost use Rattle.std.specs.Prelude.{IfErr, IfOk, IsTrue, List, false, get_or, length, map, pred, ℕ, ◌<◌, ◌^◌, ◌≡◌, ◌≤◌, ◌↔◌};
+
+use crate::keep::{enough_marks, line_marks};
+use crate::thinned::{kept_of, thinned_rows};
+use pm_elim::copies;
+use pm_geom::descriptions::Facets;
+use pm_geom::{Evidence, Places};
+use pm_incidence::ThinFail;
+use pm_props::ObjectType;
+use pm_vector::Ints;
+use std::alloc::{AllocError, Global};
+
+/// The most facet rows that are answered.
+const MOST_FACETS: usize = 2048;
+
+/// The row that is 1 in a column and 0 elsewhere.
+fn unit_row(alloc: Global, cols: usize, column: usize) -> Result<Ints, AllocError>
+    requires { column < cols }
+    ensures { IfOk result (λ r. r ≡ unit cols column) }
+{
+    let mut entries = vec![in alloc; 0i128; cols]?;
+    entries[column] = 1;
+    Ok(Ints::from_vec(entries))
+}
+
+/// All unit rows: the echelon basis of all rows.
+fn unit_rows(alloc: Global, cols: usize) -> Result<Vec<Ints>, AllocError>
+    ensures { IfOk result (λ v. v.items ≡ map (unit cols) (range_with_len 0 cols)) }
+{
+    let mut made = Vec::new(alloc);
+    for column in 0..cols {
+        made.push(unit_row(alloc, cols, column)?)?;
+    }
+    Ok(made)
+}
+
+/// The half-spaces of a thing as they are taken: those of a polytope end with the row (1, 0, .., 0).
+fn half_spaces(
+    alloc: Global,
+    of: ObjectType,
+    cols: usize,
+    rows: &[Ints],
+) -> Result<Vec<Ints>, AllocError>
+    requires { 0 < cols }
+    ensures { IfOk result (λ v. v.items ≡ half_spaces of cols rows.now) }
+{
+    let mut made = copies(alloc, rows)?;
+    if of == ObjectType::Polytope {
+        made.push(unit_row(alloc, cols, 0)?)?;
+    }
+    Ok(made)
+}
+
+/// Whether the last mark is set.
+fn is_last_marked(marks: &[bool]) -> bool
+    ensures { IsTrue result ↔ IsTrue (get_or marks.now (pred (length marks.now)) false) }
+{
+    !marks.is_empty() && marks[marks.len() - 1]
+}
+
+/// The refusal that names places of too many facet rows.
+fn too_many(alloc: Global, places: &[usize]) -> Result<ThinFail, AllocError>
+    requires { All (λ k. k < 2 ^ 32) places.now }
+    ensures { IfOk result (λ f. f ≡ ThinFail.Many (Evidence.E5Rows places.now)) }
+{
+    let mut made = Vec::new(alloc);
+    for place in places {
+        made.push(*place as u32)?;
+    }
+    Ok(ThinFail::Many(Evidence::E5Rows {
+        rows: Places::from_vec(made),
+    }))
+}
+
+/// The extreme rows among half-spaces, and the echelon basis of those that are equations.
+fn thin_halves(
+    alloc: Global,
+    cols: usize,
+    halves: &[Ints],
+    equations: &[Ints],
+    line_marks: &[bool],
+    enough: Vec<bool>,
+) -> Result<Facets, ThinFail>
+    requires half_cols { HasCols cols halves.now }
+    requires equation_cols { HasCols cols equations.now }
+    requires few_halves { length halves.now < 2 ^ 29 }
+    requires few_equations { length equations.now < 2 ^ 29 }
+    requires few_columns { cols < 2 ^ 29 }
+    requires marked { MarkLines halves.now equations.now line_marks.now }
+    requires enough { IsEnough halves.now equations.now enough.items }
+    ensures generators { IfOk result (λ f. AreGenerators cols (InCone halves.now equations.now) f.facets.items f.hull.items) }
+    ensures cols { IfOk result (λ f. HasCols cols f.facets.items) }
+    ensures few { IfOk result (λ f. length f.facets.items ≤ MOST_FACETS) }
+    ensures echelon { IfOk result (λ f. (P : List ℕ) × IsEchelonBasis cols f.hull.items P) }
+    ensures failed { IfErr result (IsHalvesFail cols halves.now equations.now) }
+{
+    let kept = kept_of(alloc, cols, halves, equations, line_marks, enough)?;
+    if kept.places.len() > MOST_FACETS {
+        return Err(too_many(alloc, &kept.places)?);
+    }
+    let facets = thinned_rows(alloc, cols, halves, &kept.basis, &kept.places)?;
+    Ok(Facets {
+        facets,
+        hull: kept.basis.rows,
+    })
+}
+
+/// All facet rows of a thing among half-spaces that describe it, and the echelon basis of the rows that vanish on it.
+/// The facet rows are primitive, with zeros in the pivot columns of that basis, each once and in lexicographic order; there are at most 2,048 of them.
+/// `Wide` only with evidence: E1 on the rows that vanish and then the reduced row, E3 on the program of a half-space. `Many` only with more than 2,048 facet rows among the half-spaces (E5).
+pub fn thin_rows(
+    alloc: Global,
+    of: ObjectType,
+    cols: usize,
+    rows: &[Ints],
+    equations: &[Ints],
+) -> Result<Facets, ThinFail>
+    requires row_cols { HasCols cols rows.now }
+    requires equation_cols { HasCols cols equations.now }
+    requires few_rows { length rows.now < 2 ^ 28 }
+    requires few_equations { length equations.now < 2 ^ 28 }
+    requires some_columns { 0 < cols }
+    requires few_columns { cols < 2 ^ 28 }
+    ensures facets { IfOk result (λ f. (G L : List Row) → HasCols cols G → HasCols cols L
+        → CutsOutOf of cols (InCone G L) rows.now equations.now
+        → AreGenerators cols (IsValid cols G L) f.facets.items f.hull.items) }
+    ensures cols { IfOk result (λ f. HasCols cols f.facets.items) }
+    ensures few { IfOk result (λ f. length f.facets.items ≤ MOST_FACETS) }
+    ensures echelon { IfOk result (λ f. (P : List ℕ) × IsEchelonBasis cols f.hull.items P) }
+    ensures failed { IfErr result (IsRowsFail of cols rows.now equations.now) }
+{
+    let halves = half_spaces(alloc, of, cols, rows)?;
+    let enough = enough_marks(alloc, cols, &halves, equations)?;
+    let lines = line_marks(alloc, cols, &halves, equations, &enough)?;
+    if of == ObjectType::Polytope && is_last_marked(&lines) {
+        return Ok(Facets {
+            facets: Vec::new(alloc),
+            hull: unit_rows(alloc, cols)?,
+        });
+    }
+    thin_halves(alloc, cols, &halves, equations, &lines, enough)
+}

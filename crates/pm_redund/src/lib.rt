@@ -1,0 +1,29 @@
+//! Redundant rows by linear programs (Schrijver, Theory of Linear and Integer Programming, section 8.1): the vertices among points, and the facet rows among inequalities.
+#![tactic(auto)]
+
+ghost use Rattle.pm_redund.specs.Examples.{ProgramsAreRead, RedundancyIsRead, RefusalsAreRead};
+
+mod generated;
+mod halves;
+mod keep;
+mod rays;
+mod thinned;
+
+pub use halves::thin_rows;
+pub use pm_incidence::ThinFail;
+pub use rays::thin_rays;
+
+/// The rows of the programs of small rows.
+pub fn example_programs()
+    ensures { ProgramsAreRead }
+{}
+
+/// Redundant rows among three rows of the plane, and rows of its lineality.
+pub fn example_redundancy()
+    ensures { RedundancyIsRead }
+{}
+
+/// Polytopes without a point, and what refusals show.
+pub fn example_refusals()
+    ensures { RefusalsAreRead }
+{}
