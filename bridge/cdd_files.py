@@ -1,0 +1,339 @@
+"""Files of cddlib and lrslib (.ine, .ext): read into a script, and written from replies."""
+
+from dataclasses import dataclass, field
+
+import command
+from entries import WHOLE, row_of, row_text, shown
+from properties import Thing
+from refusals import Fault, Refusal
+from replies import read_replies
+from scripts import script_lines
+
+HALF_SPACES, GENERATORS = "H-representation", "V-representation"
+
+# Options that steer a computation or what is printed.
+HARMLESS = set(
+    """adjacency allbases cache debug digits dualperturb dynout_off dynout_on estimates facet_listing
+    find_interior geometric getvolume incidence initbasis_at_bottom input_adjacency input_incidence
+    lexmax lexmin logfile_off logfile_on lponly maxcobases maxcutoff maxdepth maxindex maxoutput
+    mincutoff mindepth minindex mixcutoff output_adjacency output_incidence postanalysis printcobasis
+    printslack random redund redund_list seed startingcobasis stdout_off stdout_on verbose
+    verify_input volume""".split()
+)
+
+# Options that change which polyhedron or program is meant.
+CHANGING = set(
+    """bound eliminate equality hull nonnegative partial_enumeration preprojection project
+    projection restart strict_inequality testin truncate voronoi""".split()
+)
+
+
+@dataclass
+class CddFile:
+    """What a file says, with the lines of its rows."""
+
+    what: str | None = None
+    linear: list | None = None
+    linear_line: int | None = None
+    kind: str | None = None
+    columns: int = 0
+    count: int | None = None
+    rows: list = field(default_factory=list)
+    lines: list = field(default_factory=list)
+
+
+def words_of_lines(text):
+    """The lines that have words and are no comments: their numbers and words."""
+    for number, line in enumerate(text.splitlines(), 1):
+        words = line.split()
+        if words and not words[0].startswith("*"):
+            yield number, words
+
+
+def count_of(word, line, what):
+    if not WHOLE.fullmatch(word) or word.startswith("-") or len(word) > 9:
+        raise Refusal(line, f"{shown(word)} is no {what}")
+    return int(word)
+
+
+class Reader:
+    """Reads the lines of a file, in three parts: before 'begin', up to 'end', and behind it."""
+
+    def __init__(self, text, notes):
+        self.lines = list(words_of_lines(text))
+        self.at = 0
+        self.last = text.count("\n") + 1
+        self.notes = notes
+        self.file = CddFile()
+        self.is_named = False
+        self.objective = None
+
+    def next(self, what):
+        """The next line, or a refusal that names what is missing."""
+        if self.at == len(self.lines):
+            raise Refusal(self.last, f"{what} is missing")
+        self.at += 1
+        return self.lines[self.at - 1]
+
+    def read(self):
+        self.read_head()
+        self.read_size()
+        self.read_rows()
+        self.read_tail()
+        return self.file
+
+    def read_head(self):
+        """The representation and the linear rows; the first other line is a name."""
+        while True:
+            line, words = self.next("'begin'")
+            if words == ["begin"]:
+                break
+            self.read_head_line(line, words)
+        if self.file.what is None:
+            raise Refusal(line, f"neither {HALF_SPACES} nor {GENERATORS} stands before 'begin'")
+
+    def read_head_line(self, line, words):
+        if words in ([HALF_SPACES], [GENERATORS]):
+            if self.file.what is not None:
+                raise Refusal(line, "a second representation")
+            self.file.what = words[0]
+        elif words[0] == "linearity":
+            self.read_linearity(line, words)
+        elif words[0] in CHANGING or words[0] in HARMLESS:
+            self.read_option(line, words)
+        elif not self.is_named and self.file.what is None and self.file.linear is None:
+            self.is_named = True
+        else:
+            raise Refusal(line, f"{shown(' '.join(words))} is not understood")
+
+    def read_linearity(self, line, words):
+        """How many rows are linear, and which, from 1."""
+        if self.file.linear is not None:
+            raise Refusal(line, "a second 'linearity'")
+        if len(words) < 2:
+            raise Refusal(line, "'linearity' without a count")
+        numbers = [count_of(it, line, "number of a row") for it in words[1:]]
+        if numbers[0] != len(numbers) - 1:
+            raise Refusal(line, f"'linearity' says {numbers[0]} rows, and names {len(numbers) - 1}")
+        if len(set(numbers[1:])) != len(numbers) - 1:
+            raise Refusal(line, "'linearity' names a row twice")
+        self.file.linear, self.file.linear_line = numbers[1:], line
+
+    def read_size(self):
+        """How many rows and columns, and of which numbers; lrslib does not tell the rows it writes."""
+        line, words = self.next("the size")
+        if len(words) != 3:
+            raise Refusal(line, "no size: rows, columns, and 'integer' or 'rational'")
+        self.file.kind = words[2]
+        if words[2] not in ("integer", "rational"):
+            raise Refusal(line, f"numbers of the kind {shown(words[2])}: neither 'integer' nor 'rational'")
+        self.file.columns = count_of(words[1], line, "number of columns")
+        if self.file.columns == 0:
+            raise Refusal(line, "no columns")
+        if words[0] != "*****":
+            self.file.count = count_of(words[0], line, "number of rows")
+
+    def read_rows(self):
+        file = self.file
+        while True:
+            line, words = self.next("'end'")
+            if words == ["end"]:
+                break
+            if words[0] == "begin":
+                raise Refusal(line, "a second 'begin'")
+            file.rows.append(self.read_row(line, words, len(file.rows) + 1))
+            file.lines.append(line)
+        if file.count is not None and len(file.rows) != file.count:
+            raise Refusal(line, f"{len(file.rows)} rows, where {file.count} are announced")
+        over = next((it for it in file.linear or [] if not 1 <= it <= len(file.rows)), None)
+        if over is not None:
+            raise Refusal(file.linear_line, f"'linearity' names row {over} of {len(file.rows)}")
+
+    def read_row(self, line, words, number):
+        if len(words) != self.file.columns:
+            raise Refusal(line, f"row {number}: {len(words)} entries, where there are {self.file.columns} columns")
+        try:
+            row = row_of(words)
+        except Fault as fault:
+            raise Refusal(line, f"row {number}: {fault.text}") from None
+        if self.file.kind == "integer" and any("/" in it for it in words):
+            raise Refusal(line, f"row {number}: a fraction among 'integer' numbers")
+        return row
+
+    def read_tail(self):
+        while self.at < len(self.lines):
+            line, words = self.next("an option")
+            if words[0] in ("maximize", "minimize"):
+                self.read_objective(line, words)
+            elif words[0] in ("begin", "end", "linearity", HALF_SPACES, GENERATORS):
+                raise Refusal(line, f"'{words[0]}' behind 'end'")
+            else:
+                self.read_option(line, words)
+
+    def read_objective(self, line, words):
+        """The objective stands on the same line or on the next one."""
+        if self.objective is not None:
+            raise Refusal(line, "a second objective")
+        self.objective = words[0]
+        entries = words[1:] or self.next("the objective")[1]
+        if len(entries) != self.file.columns:
+            raise Refusal(line, f"{words[0]}: {len(entries)} entries, where there are {self.file.columns} columns")
+        try:
+            row_of(entries)
+        except Fault as fault:
+            raise Refusal(line, f"{words[0]}: {fault.text}") from None
+        self.notes.tell(line, f"{words[0]}: linear programs are not taken: left out")
+
+    def read_option(self, line, words):
+        if words[0] in CHANGING:
+            raise Refusal(line, f"the option '{words[0]}' changes what the file means")
+        if words[0] not in HARMLESS:
+            raise Refusal(line, f"the option {shown(words[0])} is not known here")
+        self.notes.tell(line, f"{words[0]}: an option of a computation: left out")
+
+
+def without_first(row, line):
+    """A row of a cone: its first entry is 0 and is dropped."""
+    if row[0] != 0:
+        raise Refusal(line, "the first entry of a row of a cone is 0")
+    return row[1:]
+
+
+def parted(file):
+    """The rows that are not linear and those that are, each with its line."""
+    linear = set(file.linear or [])
+    pairs = list(zip(file.rows, file.lines))
+    kept = [it for at, it in enumerate(pairs, 1) if at not in linear]
+    return kept, [it for at, it in enumerate(pairs, 1) if at in linear]
+
+
+def check_generators(kept, linear, file):
+    """First entries are 0 or 1, and 0 of lines; a polyhedron with directions has a point."""
+    for row, line in kept:
+        if row[0] not in (0, 1):
+            raise Refusal(line, "the first entry of a generator is 0 or 1")
+    for row, line in linear:
+        if row[0] != 0:
+            raise Refusal(line, "the first entry of a linear generator is 0")
+    if (kept or linear) and not any(row[0] == 1 for row, _ in kept):
+        line = file.lines[0]
+        raise Refusal(line, "directions without a point; a cone is read by --cone")
+
+
+def is_apex(row):
+    return row[0] == 1 and not any(row[1:])
+
+
+def cone_of(file):
+    """A cone: rows whose first entry is 0, and of generators the origin too."""
+    if file.columns == 1:
+        raise Refusal(None, "a cone without coordinates")
+    kept, linear = parted(file)
+    names = ("INEQUALITIES", "EQUATIONS")
+    if file.what == GENERATORS:
+        names = ("POINTS", "INPUT_LINEALITY")
+        kept = [it for it in kept if not is_apex(it[0])]
+    thing = Thing("Cone")
+    for name, pairs in zip(names, (kept, linear)):
+        thing.put(name, [without_first(*it) for it in pairs], file.columns - 1)
+    return thing
+
+
+def polytope_of(file):
+    """A polyhedron."""
+    kept, linear = parted(file)
+    names = ("INEQUALITIES", "EQUATIONS")
+    if file.what == GENERATORS:
+        names = ("POINTS", "INPUT_LINEALITY")
+        check_generators(kept, linear, file)
+    thing = Thing("Polytope")
+    for name, pairs in zip(names, (kept, linear)):
+        thing.put(name, [row for row, _ in pairs], file.columns)
+    return thing
+
+
+def read_cdd(text, type_name, notes):
+    """The polyhedron or the cone of a file."""
+    file = Reader(text, notes).read()
+    return cone_of(file) if type_name == "Cone" else polytope_of(file)
+
+
+DESCRIPTIONS = {
+    HALF_SPACES: (("FACETS", "AFFINE_HULL"), ("INEQUALITIES", "EQUATIONS")),
+    GENERATORS: (("VERTICES", "LINEALITY_SPACE"), ("POINTS", "INPUT_LINEALITY")),
+}
+
+
+def whole_pair(thing, what):
+    """The first of the pairs of a representation that is held whole, or None."""
+    return next((it for it in DESCRIPTIONS[what] if thing.has(*it)), None)
+
+
+def described(thing, asked):
+    """The representation that is written, and its pair of matrices."""
+    found = [it for it in DESCRIPTIONS if whole_pair(thing, it)]
+    if asked is not None and asked not in found or not found:
+        what = (asked,) if asked else tuple(DESCRIPTIONS)
+        pairs = [" with ".join(it) for name in what for it in DESCRIPTIONS[name]]
+        raise Refusal(None, f"no pair is shown whole of {', '.join(pairs)}")
+    if asked is None and len(found) > 1:
+        raise Refusal(None, "facets and generators are shown: say which by --ine or --ext")
+    what = asked or found[0]
+    return what, whole_pair(thing, what)
+
+
+def affine(row):
+    """A generator whose first entry is 0 or 1."""
+    return [it / row[0] for it in row] if row[0] > 0 else row
+
+
+def cdd_rows(thing, what, pair):
+    """Linear rows, and the others."""
+    kept, linear = thing.rows(pair[0]), thing.rows(pair[1])
+    if thing.type_name == "Cone":
+        apex = [[1, *[0] * thing.columns]] if what == GENERATORS else []
+        return [[0, *it] for it in linear], apex + [[0, *it] for it in kept]
+    return linear, [affine(it) for it in kept] if what == GENERATORS else kept
+
+
+def cdd_text(thing, asked, name):
+    """A file of cddlib: linear rows come first, and are named by 'linearity'."""
+    what, pair = described(thing, asked)
+    if thing.columns is None:
+        raise Refusal(None, "nothing tells how many columns: show CONE_AMBIENT_DIM too")
+    linear, kept = cdd_rows(thing, what, pair)
+    columns = thing.columns + (thing.type_name == "Cone")
+    lines = [name, what]
+    if linear:
+        lines.append(f"linearity {len(linear)} {row_text(range(1, len(linear) + 1))}")
+    size = f"{len(linear) + len(kept)} {columns} rational"
+    return command.joined([*lines, "begin", size, *map(row_text, [*linear, *kept]), "end"])
+
+
+def from_words():
+    words = command.parser("from-cdd", "Writes a file of cddlib or lrslib as a script of this program.")
+    command.add_file(words, needed=True)
+    command.add_object(words)
+    command.add_type(words, "a cone: all rows begin with 0, but for the origin; that entry is dropped")
+    return words
+
+
+def from_cdd(options, text, notes):
+    thing = read_cdd(text, options.type_name, notes)
+    return command.joined(script_lines(options.name, thing))
+
+
+def to_words():
+    words = command.parser("to-cdd", "Writes the values that replies show as a file of cddlib or lrslib.")
+    command.add_file(words, needed=False)
+    command.add_type(words, "the replies are of a cone; else of a polytope")
+    words.add_argument("--name", metavar="NAME", help="the object, where replies show several")
+    which = words.add_mutually_exclusive_group()
+    for word, what in (("--ine", HALF_SPACES), ("--ext", GENERATORS)):
+        which.add_argument(word, dest="what", action="store_const", const=what, help=what)
+    return words
+
+
+def to_cdd(options, text, notes):
+    thing = read_replies(text, options.type_name, options.name)
+    return cdd_text(thing, options.what, options.name or "replies")

@@ -1,0 +1,73 @@
+"""The frame of each bridge: its words, its file or standard input, what it tells, its exit status."""
+
+import argparse
+import sys
+from dataclasses import dataclass, field
+
+from properties import TYPES
+from refusals import Notes, Refusal
+
+
+@dataclass
+class Streams:
+    """Where a bridge reads and writes."""
+
+    given: object = field(default_factory=lambda: sys.stdin.buffer)
+    out: object = field(default_factory=lambda: sys.stdout)
+    told: object = field(default_factory=lambda: sys.stderr)
+
+
+def parser(name, told):
+    shape = argparse.RawDescriptionHelpFormatter
+    return argparse.ArgumentParser(prog=f"bridge/{name}", description=told, formatter_class=shape)
+
+
+def add_file(words, needed):
+    told = "the file" if needed else "the file; standard input where none is named"
+    words.add_argument("file", metavar="FILE", nargs=None if needed else "?", help=told)
+
+
+def add_object(words):
+    words.add_argument("name", metavar="NAME", nargs="?", default="p", help="the object's name (p)")
+
+
+def add_type(words, told):
+    words.add_argument(
+        "--cone", dest="type_name", action="store_const", const=TYPES[1], default=TYPES[0], help=told
+    )
+
+
+def text_of(options, given):
+    """All of the file or of standard input, as text."""
+    try:
+        if options.file is None:
+            return given.read().decode("utf-8")
+        with open(options.file, "rb") as file:
+            return file.read().decode("utf-8")
+    except OSError as fault:
+        raise Refusal(None, fault.strerror or "cannot be read") from None
+    except UnicodeDecodeError as fault:
+        line = fault.object[: fault.start].count(b"\n") + 1
+        raise Refusal(line, "bytes that are no UTF-8") from None
+
+
+def run(words, convert, arguments=None, streams=None):
+    """Exit status 0, or 2 where something was refused; then nothing is written."""
+    streams = streams or Streams()
+    options, notes = words.parse_args(arguments), Notes()
+    place = options.file or "standard input"
+    try:
+        written = convert(options, text_of(options, streams.given), notes)
+    except Refusal as refusal:
+        line = "" if refusal.line is None else f"{refusal.line}:"
+        print(f"{words.prog}: {place}:{line} {refusal.text}", file=streams.told)
+        return 2
+    for line, text in notes.told:
+        print(f"{words.prog}: {place}:{line}: {text}", file=streams.told)
+    streams.out.write(written)
+    return 0
+
+
+def joined(lines):
+    """Lines, each with its end."""
+    return "".join(f"{it}\n" for it in lines)

@@ -1,0 +1,51 @@
+"""Single numbers: texts p and p/q, and whole JSON numbers. Nothing else is a fraction here."""
+
+import re
+from fractions import Fraction
+
+from refusals import Fault
+
+FRACTION = re.compile(r"-?[0-9]+(/[0-9]+)?", re.ASCII)
+WHOLE = re.compile(r"-?[0-9]+", re.ASCII)
+MOST_DIGITS = 4000
+
+
+def fraction_of(entry):
+    """The fraction of a text or of a whole JSON number."""
+    if isinstance(entry, int) and not isinstance(entry, bool):
+        return Fraction(entry)
+    if not isinstance(entry, str) or not FRACTION.fullmatch(entry):
+        raise Fault(f"{shown(entry)} is no fraction")
+    if len(entry) > MOST_DIGITS:
+        raise Fault(f"a number of more than {MOST_DIGITS} digits")
+    try:
+        return Fraction(entry)
+    except ZeroDivisionError:
+        raise Fault(f"{shown(entry)} divides by zero") from None
+
+
+def whole_of(entry):
+    """The whole number of a text or of a whole JSON number."""
+    if isinstance(entry, int) and not isinstance(entry, bool):
+        return entry
+    if not isinstance(entry, str) or not WHOLE.fullmatch(entry):
+        raise Fault(f"{shown(entry)} is no whole number")
+    if len(entry) > MOST_DIGITS:
+        raise Fault(f"a number of more than {MOST_DIGITS} digits")
+    return int(entry)
+
+
+def shown(entry):
+    """What stands there, cut where it is long."""
+    text = entry if isinstance(entry, str) else str(entry)
+    return f"'{text}'" if len(text) <= 40 else f"'{text[:40]}..'"
+
+
+def row_of(entries):
+    """A row of fractions."""
+    return [fraction_of(it) for it in entries]
+
+
+def row_text(row):
+    """A row as cddlib, lrslib and Normaliz read it."""
+    return " ".join(map(str, row))

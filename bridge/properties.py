@@ -1,0 +1,107 @@
+"""The properties that `take` and `give` accept, by type, in the order of docs/properties.md."""
+
+from dataclasses import dataclass, field
+from enum import Enum
+
+
+class Kind(Enum):
+    """What the value of a property is."""
+
+    MATRIX = "matrix"
+    SETS = "sets"
+    COUNTS = "list of numbers"
+    WHOLE = "whole number"
+    TRUTH = "truth value"
+
+
+@dataclass(frozen=True)
+class Property:
+    """A property: its names of polytopes and of cones, None where they do not have it."""
+
+    polytope: str
+    cone: str | None
+    kind: Kind
+
+    def name(self, type_name):
+        return self.cone if type_name == "Cone" else self.polytope
+
+
+def same(name, kind):
+    """A property of one name."""
+    return Property(name, name, kind)
+
+
+PROPERTIES = (
+    same("CONE_AMBIENT_DIM", Kind.WHOLE),
+    Property("POINTS", "INPUT_RAYS", Kind.MATRIX),
+    same("INPUT_LINEALITY", Kind.MATRIX),
+    same("INEQUALITIES", Kind.MATRIX),
+    same("EQUATIONS", Kind.MATRIX),
+    Property("VERTICES", "RAYS", Kind.MATRIX),
+    same("LINEALITY_SPACE", Kind.MATRIX),
+    same("FACETS", Kind.MATRIX),
+    Property("AFFINE_HULL", "LINEAR_SPAN", Kind.MATRIX),
+    Property("VERTICES_IN_FACETS", "RAYS_IN_FACETS", Kind.SETS),
+    same("CONE_DIM", Kind.WHOLE),
+    same("LINEALITY_DIM", Kind.WHOLE),
+    same("COMBINATORIAL_DIM", Kind.WHOLE),
+    Property("N_VERTICES", "N_RAYS", Kind.WHOLE),
+    same("N_FACETS", Kind.WHOLE),
+    Property("FEASIBLE", None, Kind.TRUTH),
+    Property("BOUNDED", None, Kind.TRUTH),
+    same("POINTED", Kind.TRUTH),
+    same("FULL_DIM", Kind.TRUTH),
+    Property("CENTERED", None, Kind.TRUTH),
+    same("SIMPLE", Kind.TRUTH),
+    same("SIMPLICIAL", Kind.TRUTH),
+    Property("VERTEX_SIZES", "RAY_SIZES", Kind.COUNTS),
+    same("FACET_SIZES", Kind.COUNTS),
+    Property("FAR_FACE", None, Kind.COUNTS),
+)
+
+TYPES = ("Polytope", "Cone")
+
+# Each of the matrices that describe a thing, with the one that completes it; the first names of both.
+PAIRS = {
+    "POINTS": "INPUT_LINEALITY",
+    "INEQUALITIES": "EQUATIONS",
+    "VERTICES": "LINEALITY_SPACE",
+    "FACETS": "AFFINE_HULL",
+}
+
+
+def by_name(type_name):
+    """The properties of a type by their names there."""
+    return {it.name(type_name): it for it in PROPERTIES if it.name(type_name)}
+
+
+@dataclass
+class Thing:
+    """A polytope or a cone by values: of each first name of a property its value.
+
+    A matrix is a list of rows of fractions, sets are a pair of their rows and the column count.
+    """
+
+    type_name: str
+    values: dict = field(default_factory=dict)
+    columns: int | None = None
+
+    def has(self, *names):
+        return all(it in self.values for it in names)
+
+    def rows(self, name):
+        return self.values.get(name) or []
+
+    def put(self, name, rows, columns):
+        """Holds a matrix of so many columns."""
+        self.values[name] = rows
+        self.columns = columns
+
+    def is_said_empty(self):
+        """Whether a value says that the polytope has no point."""
+        if self.type_name != "Polytope":
+            return False
+        held = self.values.get
+        no_facets = held("FACETS") == [] and not held("AFFINE_HULL")
+        none = held("FEASIBLE") is False or held("CONE_DIM") == 0 or held("VERTICES") == []
+        return none or no_facets or held("N_VERTICES") == 0 or held("COMBINATORIAL_DIM") == -1

@@ -1,0 +1,64 @@
+"""Replies of this program: the lines `NAME PROP VALUE` of `give` and `lookup`."""
+
+import json
+import re
+
+from properties import Thing, by_name
+from refusals import Fault, Refusal
+from scripts import check_name
+from values import READER, put_value
+
+VALUE = re.compile(r"([A-Za-z][A-Za-z0-9_]*) ([A-Z][A-Z0-9_]*) (.+)", re.ASCII)
+
+# Words that begin other replies, after which a label stands that may look like a property.
+OTHERS = ("rule", "excluded", "barred")
+
+
+def value_lines(lines):
+    """Of each line that shows a value: its number, the object, the property and the text."""
+    for number, line in enumerate(lines, 1):
+        found = VALUE.fullmatch(line)
+        if not found:
+            continue
+        if found[1] in OTHERS:
+            raise Refusal(number, f"a value of an object '{found[1]}', or another reply: not to be told apart")
+        yield number, *found.groups()
+
+
+def read_text(text):
+    """The JSON value of a text, all of it."""
+    try:
+        return READER.decode(text)
+    except (json.JSONDecodeError, RecursionError):
+        raise Fault("no JSON") from None
+
+
+def one_object(found, name):
+    """The lines of the object of the name, or of the only one that there is."""
+    if name is not None:
+        check_name(name)
+        found = [it for it in found if it[1] == name]
+        if not found:
+            raise Refusal(None, f"no value of an object '{name}' is shown")
+    if not found:
+        raise Refusal(None, "no value is shown")
+    other = next((it for it in found if it[1] != found[0][1]), None)
+    if other:
+        raise Refusal(other[0], f"a value of '{other[1]}' after one of '{found[0][1]}': say which by --name")
+    return found
+
+
+def read_replies(text, type_name, name=None):
+    """The values of one object that the replies show."""
+    thing, items, texts = Thing(type_name), by_name(type_name), {}
+    for number, _, prop, shown in one_object(list(value_lines(text.splitlines())), name):
+        if prop not in items:
+            raise Refusal(number, f"{prop}: no property of {type_name.lower()}s that is known here")
+        if texts.setdefault(prop, shown) != shown:
+            raise Refusal(number, f"{prop}: another value than before")
+        try:
+            put_value(thing, items[prop], read_text(shown))
+        except Fault as fault:
+            row = "" if fault.row is None else f"row {fault.row + 1}: "
+            raise Refusal(number, f"{prop}: {row}{fault.text}") from None
+    return thing

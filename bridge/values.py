@@ -1,0 +1,184 @@
+"""Values as JSON: how this program prints them, and how files of polymake hold them."""
+
+import json
+
+from entries import fraction_of, row_of, whole_of
+from properties import Kind
+from refusals import Fault
+
+
+class Inexact:
+    """A JSON number that is not whole, by its text."""
+
+    def __init__(self, text):
+        self.text = text
+
+    def __str__(self):
+        return self.text
+
+
+def no_constant(text):
+    raise Fault(f"{text} is no JSON")
+
+
+def whole_number(text):
+    """A whole JSON number; one that is too long to be read stays a text that is refused."""
+    return int(text) if len(text) <= 4000 else Inexact(text)
+
+
+def distinct(pairs):
+    """An object whose keys are all different."""
+    found = {}
+    for key, value in pairs:
+        if key in found:
+            raise Fault(f"the key '{key}' stands twice")
+        found[key] = value
+    return found
+
+
+READER = json.JSONDecoder(
+    object_pairs_hook=distinct,
+    parse_int=whole_number,
+    parse_float=Inexact,
+    parse_constant=no_constant,
+)
+
+
+def split_columns(value):
+    """The rows of a matrix or of sets, and the count of a last {"cols":n}, else None."""
+    if not isinstance(value, list):
+        raise Fault("no list of rows")
+    if not value or not isinstance(value[-1], dict) or "cols" not in value[-1]:
+        return value, None
+    if list(value[-1]) != ["cols"]:
+        raise Fault("the object with 'cols' holds something else too", len(value) - 1)
+    return value[:-1], at_least_zero(value[-1]["cols"], "cols", len(value) - 1)
+
+
+def at_least_zero(value, what, row):
+    if not isinstance(value, int) or isinstance(value, bool) or value < 0:
+        raise Fault(f"'{what}' is no count", row)
+    return value
+
+
+def sparse_row(row, columns):
+    """A row {"0":"1","_dim":n}, whose other entries are zero; the length may be that of the matrix."""
+    length = columns
+    if "_dim" in row:
+        length = at_least_zero(row["_dim"], "_dim", None)
+    if length is None:
+        raise Fault("a sparse row without '_dim' in a matrix without 'cols'")
+    dense = [fraction_of(0)] * length
+    for key, entry in row.items():
+        if key == "_dim":
+            continue
+        if not key.isascii() or not key.isdigit() or str(int(key)) != key or int(key) >= length:
+            raise Fault(f"'{key}' is no place in a row of {length}")
+        dense[int(key)] = fraction_of(entry)
+    return dense
+
+
+def matrix_row(row, columns):
+    """A dense or a sparse row."""
+    if isinstance(row, dict):
+        return sparse_row(row, columns)
+    if not isinstance(row, list):
+        raise Fault("no row")
+    return row_of(row)
+
+
+def read_matrix(value):
+    """Rows of one length, and that length, or None where nothing tells it."""
+    rows, columns = split_columns(value)
+    found = []
+    for at, row in enumerate(rows):
+        try:
+            found.append(matrix_row(row, columns))
+        except Fault as fault:
+            raise Fault(fault.text, at) from None
+        columns = len(found[-1]) if columns is None else columns
+        if len(found[-1]) != columns:
+            raise Fault(f"a row of {len(found[-1])} entries in a matrix of {columns} columns", at)
+    return found, columns
+
+
+def read_set(row, columns):
+    """Indices, each once, ascending."""
+    if not isinstance(row, list):
+        raise Fault("no set of indices")
+    found = sorted(whole_of(it) for it in row)
+    if len(set(found)) != len(found):
+        raise Fault("an index stands twice")
+    if found and (found[0] < 0 or columns is not None and found[-1] >= columns):
+        raise Fault(f"an index that is not from 0 to {'the last column' if columns is None else columns - 1}")
+    return found
+
+
+def read_sets(value):
+    """Sets and their column count; where none stands there, it is one above the greatest index."""
+    rows, columns = split_columns(value)
+    found = []
+    for at, row in enumerate(rows):
+        try:
+            found.append(read_set(row, columns))
+        except Fault as fault:
+            raise Fault(fault.text, at) from None
+    if columns is None:
+        columns = max((it[-1] + 1 for it in found if it), default=0)
+    return found, columns
+
+
+def read_counts(value):
+    if not isinstance(value, list):
+        raise Fault("no list of numbers")
+    return [whole_of(it) for it in value]
+
+
+def read_truth(value):
+    if not isinstance(value, bool):
+        raise Fault("neither true nor false")
+    return value
+
+
+READ = {
+    Kind.SETS: read_sets,
+    Kind.COUNTS: read_counts,
+    Kind.WHOLE: whole_of,
+    Kind.TRUTH: read_truth,
+}
+
+
+def put_value(thing, item, value):
+    """Reads a value and holds it, with the column count that a matrix tells."""
+    if item.kind is not Kind.MATRIX:
+        thing.values[item.polytope] = READ[item.kind](value)
+        if item.polytope == "CONE_AMBIENT_DIM":
+            agree(thing, thing.values[item.polytope])
+        return
+    rows, columns = read_matrix(value)
+    if columns is not None:
+        agree(thing, columns)
+    thing.values[item.polytope] = rows
+
+
+def agree(thing, columns):
+    """All matrices have one column count."""
+    if thing.columns is not None and thing.columns != columns:
+        raise Fault(f"{columns} columns, where what stands before has {thing.columns}")
+    thing.columns = columns
+
+
+def written(kind, value, columns=None):
+    """A value as JSON; the column count of a matrix without rows is written where it is told."""
+    if kind is Kind.MATRIX:
+        rows = [[str(it) for it in row] for row in value]
+        return rows if rows or columns is None else [{"cols": columns}]
+    if kind is Kind.SETS:
+        rows, count = value
+        return [*rows, {"cols": count}]
+    return value
+
+
+def compact(value):
+    """JSON without spaces."""
+    return json.dumps(value, separators=(",", ":"))
