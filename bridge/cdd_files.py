@@ -28,6 +28,10 @@ CHANGING = set(
 )
 
 
+# What lrslib writes for a number of rows that it does not know yet.
+UNTOLD = "*****"
+
+
 @dataclass
 class CddFile:
     """What a file says, with the lines of its rows."""
@@ -44,10 +48,12 @@ class CddFile:
 
 def words_of_lines(text):
     """The lines that have words and are no comments: their numbers and words."""
+    is_size = False
     for number, line in enumerate(text.splitlines(), 1):
         words = line.split()
-        if words and not words[0].startswith("*"):
+        if words and (not words[0].startswith("*") or is_size and words[0] == UNTOLD):
             yield number, words
+            is_size = words == ["begin"]
 
 
 def count_of(word, line, what):
@@ -130,7 +136,7 @@ class Reader:
         self.file.columns = count_of(words[1], line, "number of columns")
         if self.file.columns == 0:
             raise Refusal(line, "no columns")
-        if words[0] != "*****":
+        if words[0] != UNTOLD:
             self.file.count = count_of(words[0], line, "number of rows")
 
     def read_rows(self):
@@ -220,19 +226,18 @@ def check_generators(kept, linear, file):
         raise Refusal(line, "directions without a point; a cone is read by --cone")
 
 
-def is_apex(row):
+def is_first_unit(row):
+    """The origin among generators, and 1 >= 0 among half-spaces."""
     return row[0] == 1 and not any(row[1:])
 
 
 def cone_of(file):
-    """A cone: rows whose first entry is 0, and of generators the origin too."""
+    """A cone: rows whose first entry is 0; the origin, or 1 >= 0, says nothing more."""
     if file.columns == 1:
         raise Refusal(None, "a cone without coordinates")
     kept, linear = parted(file)
-    names = ("INEQUALITIES", "EQUATIONS")
-    if file.what == GENERATORS:
-        names = ("POINTS", "INPUT_LINEALITY")
-        kept = [it for it in kept if not is_apex(it[0])]
+    kept = [it for it in kept if not is_first_unit(it[0])]
+    names = ("POINTS", "INPUT_LINEALITY") if file.what == GENERATORS else ("INEQUALITIES", "EQUATIONS")
     thing = Thing("Cone")
     for name, pairs in zip(names, (kept, linear)):
         thing.put(name, [without_first(*it) for it in pairs], file.columns - 1)

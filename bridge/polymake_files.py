@@ -111,8 +111,27 @@ def read_polymake(text, notes, only=None):
     return thing
 
 
+def with_far_row(thing, rows):
+    """The inequalities of a polytope with x0 >= 0: in a file, polymake does not add it."""
+    if thing.type_name == "Cone":
+        return rows
+    far = [1, *[0] * (thing.columns - 1)]
+    return rows if far in rows else [*rows, far]
+
+
+def check_halves(thing):
+    """Of a half of a description alone polymake thinks that it is all."""
+    halves = [*PAIRS.items(), ("INPUT_LINEALITY", "POINTS"), ("EQUATIONS", "INEQUALITIES")]
+    names = {it.polytope: it.name(thing.type_name) for it in PROPERTIES}
+    for first, second in halves:
+        if thing.has(first) and not thing.has(second):
+            told = f"{names[first]} without {names[second]} is all that there is to polymake: show both"
+            raise Refusal(None, told)
+
+
 def polymake_text(thing):
     """A data file that polymake loads."""
+    check_halves(thing)
     held = {"_ns": NAMESPACE, "_type": f"polytope::{thing.type_name}<Rational>"}
     for item in PROPERTIES:
         name, value = item.name(thing.type_name), thing.values.get(item.polytope)
@@ -120,6 +139,8 @@ def polymake_text(thing):
             continue
         if value == [] and item.polytope in COLUMNED and thing.columns is None:
             raise Refusal(None, f"{name}: it has no rows, and nothing tells how many columns: show CONE_AMBIENT_DIM too")
+        if item.polytope == "INEQUALITIES":
+            value = with_far_row(thing, value)
         held[name] = written(item.kind, value, thing.columns)
     return compact(held) + "\n"
 
