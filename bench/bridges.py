@@ -145,7 +145,9 @@ def normaliz_text(thing, in_brackets):
     """An input file of Normaliz; a section without rows is left out where another one has some."""
     sections, dimension = normaliz_sections(thing)
     needed = {"vertices", "inhom_inequalities", "inequalities"}
-    kept = {k: it for k, it in sections.items() if it or k in needed} or dict([next(iter(sections.items()))])
+    kept = {k: it for k, it in sections.items() if it or k in needed} or dict(
+        [next(iter(sections.items()))]
+    )
     text = "".join(matrix_text(k, it, in_brackets) for k, it in kept.items())
     return f"amb_space {dimension}\n/* of\nthe check */\n{text}SupportHyperplanes\nExtremeRays\n"
 

@@ -1,4 +1,4 @@
-"""Kinds of polytopes and cones that the check of the bridges goes through, by what is given of each."""
+"""Examples of polytopes and cones for the check of the bridges, by what is given of each."""
 
 import random
 from dataclasses import dataclass
@@ -64,7 +64,9 @@ def bounded():
     halves = [[1, "1/2", "-7/3"], [1, "5/4", 0], [1, "-11/6", "22/7"], [1, 0, "1/100000000000"]]
     yield polytope("fractions", 3, POINTS=halves)
     sums = [[-1, 1, 1, 1], [3, -1, -1, -1]]
-    yield polytope("equation", 4, INEQUALITIES=families.cube_rows(3) + sums, EQUATIONS=[[0, 1, -1, 0]])
+    yield polytope(
+        "equation", 4, INEQUALITIES=families.cube_rows(3) + sums, EQUATIONS=[[0, 1, -1, 0]]
+    )
     yield polytope("permutohedron", 4, POINTS=with_one(permutations((1, 2, 3))))
     yield polytope("point", 4, POINTS=[[1, 2, -3, "1/2"]])
     yield polytope("point by equations", 3, INEQUALITIES=[], EQUATIONS=[[-1, 1, 0], ["-2/3", 0, 1]])
@@ -77,9 +79,16 @@ def unbounded():
     """Polyhedra with directions or lines, and the empty polytope."""
     yield polytope("quadrant", 3, INEQUALITIES=[[0, 1, 0], [0, 0, 1]])
     yield polytope("ray", 4, POINTS=[[1, 0, 1, 0], [0, 1, 1, 0]])
-    yield polytope("points and directions", 4, POINTS=[[1, 0, 0, 0], [1, 1, 0, 2], [1, 0, 3, 0], [0, 1, 1, 1]])
+    yield polytope(
+        "points and directions", 4, POINTS=[[1, 0, 0, 0], [1, 1, 0, 2], [1, 0, 3, 0], [0, 1, 1, 1]]
+    )
     yield polytope("strip", 3, INEQUALITIES=[[1, 0, 1], [1, 0, -1]])
-    yield polytope("wedge with a line", 4, POINTS=[[1, 1, 1, 0], [0, 1, 0, 0], [0, 0, 1, 0]], INPUT_LINEALITY=[[0, 1, 1, 1]])
+    yield polytope(
+        "wedge with a line",
+        4,
+        POINTS=[[1, 1, 1, 0], [0, 1, 0, 0], [0, 0, 1, 0]],
+        INPUT_LINEALITY=[[0, 1, 1, 1]],
+    )
     yield polytope("line", 3, POINTS=[[1, 0, 1]], INPUT_LINEALITY=[[0, 2, 1]])
     yield polytope("plane", 3, INEQUALITIES=[], EQUATIONS=[])
     yield polytope("nothing by rows", 3, is_empty=True, INEQUALITIES=[[-1, 1, 0], [-1, -1, 0]])

@@ -5,7 +5,7 @@ from dataclasses import dataclass
 
 @dataclass(frozen=True)
 class BadFile:
-    """What a bridge is given, the line that it tells, None for the file as a whole, and its words."""
+    """What a bridge is given, the line that it tells, None for the whole file, and its words."""
 
     bridge: str
     text: str
@@ -50,7 +50,9 @@ def bad_polymake():
     yield bad(data('"POINTS":[{"01":"1","_dim":2}]'), 2, "'01' is no place")
     yield bad(data('"POINTS":[{"0":"1","0":"2","_dim":2}]'), 2, "stands twice")
     yield bad(data('"POINTS":[{"0":"1","_dim":2},{"0":"1","_dim":3}]'), 2, "row 2: a row of 3")
-    yield bad(data('"POINTS":[["1","0"],{"cols":3}]'), 2, "row 1: a row of 2 entries in a matrix of 3")
+    yield bad(
+        data('"POINTS":[["1","0"],{"cols":3}]'), 2, "row 1: a row of 2 entries in a matrix of 3"
+    )
     yield bad(data('"POINTS":[["1","0"],{"cols":2,"rows":1}]'), 2, "something else")
     yield bad(data('"POINTS":[["1","0"],{"cols":-2}]'), 2, "'cols' is no count")
     yield bad(data('"POINTS":[["0","1"]]'), 2, "no row has a positive first entry")
@@ -58,18 +60,23 @@ def bad_polymake():
     yield bad(data('"POINTS":[["1","1"]],\n"POINTS":[["1","1"]]'), 3, "'POINTS' stands twice")
     yield bad(data('"POINTS":[["1","1"]]\n"N_POINTS":1'), 3, "a comma")
     yield bad(data('"VERTICES_IN_FACETS":[[0,2],{"cols":2}]'), 2, "row 1: an index")
-    yield bad(data('"VERTICES_IN_FACETS":[[0],\n[1,1],{"cols":2}]'), 3, "row 2: an index stands twice")
+    yield bad(
+        data('"VERTICES_IN_FACETS":[[0],\n[1,1],{"cols":2}]'), 3, "row 2: an index stands twice"
+    )
     yield bad(data('"VERTICES_IN_FACETS":[[-1]]'), 2, "an index")
     yield bad(data('"VERTICES_IN_FACETS":[["x"]]'), 2, "'x' is no whole number")
     yield bad(data('"BOUNDED":1'), 2, "neither true nor false")
     yield bad(data('"N_FACETS":"1/2"'), 2, "is no whole number")
     yield bad(data('"FAR_FACE":{"0":1}'), 2, "no list of numbers")
     yield bad(data('"N_FACETS":1') + "[]", 3, "behind the object")
-    yield bad('{"_type":"polytope::Polytope<Rational>","N_FACETS":' + "[" * 100000, 1, "nested too deeply")
+    yield bad(
+        '{"_type":"polytope::Polytope<Rational>","N_FACETS":' + "[" * 100000, 1, "nested too deeply"
+    )
     yield bad(data('"N_FACETS":4'), None, "is no name", "0")
     yield bad(data('"N_FACETS":4'), None, "POINTS: it is asked for", "--only", "POINTS")
     pair = data('"FACETS":[["1","1"]],\n"AFFINE_HULL":[]')
     yield bad(pair, 3, "AFFINE_HULL: it is left out beside FACETS", "--only", "FACETS")
+    yield bad(pair, None, "'_type' is asked for", "--only", "_type")
 
 
 def cdd(rows, size="1 3 rational", head="H-representation\n", tail=""):
@@ -80,8 +87,14 @@ def bad_cdd():
     bad = lambda text, line, told, *words: BadFile("from-cdd", text, line, told, words)
     yield bad("", 1, "'begin' is missing")
     yield bad(cdd("1 0 1", head="a name\n"), 2, "neither H-representation nor V-representation")
-    yield bad(cdd("1 0 1", head="H-representation\nV-representation\n"), 2, "a second representation")
-    yield bad(cdd("1 0 1", head="name\nH-representation\nnoise here\n"), 3, "'noise here' is not understood")
+    yield bad(
+        cdd("1 0 1", head="H-representation\nV-representation\n"), 2, "a second representation"
+    )
+    yield bad(
+        cdd("1 0 1", head="name\nH-representation\nnoise here\n"),
+        3,
+        "'noise here' is not understood",
+    )
     yield bad(cdd("1 0 1", head="name\nsecond name\nH-representation\n"), 2, "is not understood")
     yield bad(cdd("1 0 1", size="1 3 real"), 3, "numbers of the kind 'real'")
     yield bad(cdd("1 0 1", size="1 3"), 3, "no size")
@@ -106,7 +119,9 @@ def bad_cdd():
     yield bad(cdd("1 0 1", head=linear.format("2 1")), 2, "says 2 rows, and names 1")
     yield bad(cdd("1 0 1", head=linear.format("2 1 1")), 2, "names a row twice")
     yield bad(cdd("1 0 1", head=linear.format("")), 2, "'linearity' without a count")
-    yield bad(cdd("1 0 1", head=linear.format("1 1") + "linearity 1 1\n"), 3, "a second 'linearity'")
+    yield bad(
+        cdd("1 0 1", head=linear.format("1 1") + "linearity 1 1\n"), 3, "a second 'linearity'"
+    )
     yield bad(cdd("1 0 1", tail="nonnegative\n"), 6, "'nonnegative' changes what the file means")
     yield bad(cdd("1 0 1", tail="hull\n"), 6, "'hull' changes what the file means")
     yield bad(cdd("1 0 1", tail="frobnicate 3\n"), 6, "the option 'frobnicate' is not known")
@@ -174,7 +189,9 @@ def bad_replies():
     yield bad("to-cdd", facets, None, "no pair is shown whole")
     both = facets + "s AFFINE_HULL []\ns VERTICES [[1,2]]\ns LINEALITY_SPACE []\n"
     yield bad("to-cdd", both, None, "say which by --ine or --ext")
-    yield bad("to-cdd", facets + "s AFFINE_HULL []\n", None, "VERTICES with LINEALITY_SPACE", "--ext")
+    yield bad(
+        "to-cdd", facets + "s AFFINE_HULL []\n", None, "VERTICES with LINEALITY_SPACE", "--ext"
+    )
     yield bad("to-cdd", "s FACETS []\ns AFFINE_HULL []\n", None, "nothing tells how many columns")
 
 

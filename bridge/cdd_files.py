@@ -126,13 +126,15 @@ class Reader:
         self.file.linear, self.file.linear_line = numbers[1:], line
 
     def read_size(self):
-        """How many rows and columns, and of which numbers; lrslib does not tell the rows it writes."""
+        """How many rows and columns, and of which numbers; lrslib leaves the first count open."""
         line, words = self.next("the size")
         if len(words) != 3:
             raise Refusal(line, "no size: rows, columns, and 'integer' or 'rational'")
         self.file.kind = words[2]
         if words[2] not in ("integer", "rational"):
-            raise Refusal(line, f"numbers of the kind {shown(words[2])}: neither 'integer' nor 'rational'")
+            raise Refusal(
+                line, f"numbers of the kind {shown(words[2])}: neither 'integer' nor 'rational'"
+            )
         self.file.columns = count_of(words[1], line, "number of columns")
         if self.file.columns == 0:
             raise Refusal(line, "no columns")
@@ -157,7 +159,10 @@ class Reader:
 
     def read_row(self, line, words, number):
         if len(words) != self.file.columns:
-            raise Refusal(line, f"row {number}: {len(words)} entries, where there are {self.file.columns} columns")
+            raise Refusal(
+                line,
+                f"row {number}: {len(words)} entries, where there are {self.file.columns} columns",
+            )
         try:
             row = row_of(words)
         except Fault as fault:
@@ -183,7 +188,10 @@ class Reader:
         self.objective = words[0]
         entries = words[1:] or self.next("the objective")[1]
         if len(entries) != self.file.columns:
-            raise Refusal(line, f"{words[0]}: {len(entries)} entries, where there are {self.file.columns} columns")
+            raise Refusal(
+                line,
+                f"{words[0]}: {len(entries)} entries, where there are {self.file.columns} columns",
+            )
         try:
             row_of(entries)
         except Fault as fault:
@@ -237,7 +245,9 @@ def cone_of(file):
         raise Refusal(None, "a cone without coordinates")
     kept, linear = parted(file)
     kept = [it for it in kept if not is_first_unit(it[0])]
-    names = ("POINTS", "INPUT_LINEALITY") if file.what == GENERATORS else ("INEQUALITIES", "EQUATIONS")
+    names = (
+        ("POINTS", "INPUT_LINEALITY") if file.what == GENERATORS else ("INEQUALITIES", "EQUATIONS")
+    )
     thing = Thing("Cone")
     for name, pairs in zip(names, (kept, linear)):
         thing.put(name, [without_first(*it) for it in pairs], file.columns - 1)
@@ -316,10 +326,14 @@ def cdd_text(thing, asked, name):
 
 
 def from_words():
-    words = command.parser("from-cdd", "Writes a file of cddlib or lrslib as a script of this program.")
+    words = command.parser(
+        "from-cdd", "Writes a file of cddlib or lrslib as a script of this program."
+    )
     command.add_file(words, needed=True)
     command.add_object(words)
-    command.add_type(words, "a cone: all rows begin with 0, but for the origin; that entry is dropped")
+    command.add_type(
+        words, "a cone: all rows begin with 0, but for the origin; that entry is dropped"
+    )
     return words
 
 
@@ -329,7 +343,9 @@ def from_cdd(options, text, notes):
 
 
 def to_words():
-    words = command.parser("to-cdd", "Writes the values that replies show as a file of cddlib or lrslib.")
+    words = command.parser(
+        "to-cdd", "Writes the values that replies show as a file of cddlib or lrslib."
+    )
     command.add_file(words, needed=False)
     command.add_type(words, "the replies are of a cone; else of a polytope")
     words.add_argument("--name", metavar="NAME", help="the object, where replies show several")

@@ -1,4 +1,4 @@
-"""The frame of each bridge: its words, its file or standard input, what it tells, its exit status."""
+"""The frame of each bridge: its words, what it reads, what it tells, and its exit status."""
 
 import argparse
 import sys
@@ -33,7 +33,12 @@ def add_object(words):
 
 def add_type(words, told):
     words.add_argument(
-        "--cone", dest="type_name", action="store_const", const=TYPES[1], default=TYPES[0], help=told
+        "--cone",
+        dest="type_name",
+        action="store_const",
+        const=TYPES[1],
+        default=TYPES[0],
+        help=told,
     )
 
 

@@ -148,7 +148,12 @@ class Reader:
             self.read_counted(section, line, tokens)
 
     def read_counted(self, section, line, tokens):
-        if len(tokens) != 1 or not WHOLE.fullmatch(tokens[0]) or len(tokens[0]) > 9 or tokens[0][0] == "-":
+        if (
+            len(tokens) != 1
+            or not WHOLE.fullmatch(tokens[0])
+            or len(tokens[0]) > 9
+            or tokens[0][0] == "-"
+        ):
             raise Refusal(line, f"{shown(' '.join(tokens))} is no count of rows")
         if self.dimension is None:
             raise Refusal(line, "'amb_space auto' asks for matrices in brackets")
@@ -204,7 +209,10 @@ def check_together(sections):
         raise Refusal(sections[other].line, f"'{other}' beside 'polytope'")
     if cut and not {"inequalities", "inhom_inequalities"} & set(cut):
         line = sections[cut[0]].line
-        raise Refusal(line, "equations alone: Normaliz adds that no coordinate is negative; say so by 'inequalities'")
+        raise Refusal(
+            line,
+            "equations alone: Normaliz adds that no coordinate is negative; say 'inequalities'",
+        )
 
 
 def last_first(row):
@@ -269,7 +277,9 @@ def read_normaliz(text, notes):
 
 
 def from_words():
-    words = command.parser("from-normaliz", "Writes an input file of Normaliz as a script of this program.")
+    words = command.parser(
+        "from-normaliz", "Writes an input file of Normaliz as a script of this program."
+    )
     command.add_file(words, needed=True)
     command.add_object(words)
     return words

@@ -1,4 +1,4 @@
-"""Data files of polymake (JSON, since its version 4): read into a script, and written from replies."""
+"""Data files of polymake (JSON, since its version 4), from which scripts come and replies go."""
 
 import json
 import re
@@ -16,8 +16,8 @@ TYPE = re.compile(r"polytope::(Polytope|Cone)<Rational>")
 
 # What polymake holds of the empty polytope, and has another meaning here.
 OF_THE_EMPTY = {
-    "FACETS": "polymake has no equation of the empty polytope beside it",
-    "AFFINE_HULL": "polymake has no equation of the empty polytope, and here each row vanishes on it",
+    "FACETS": "polymake's equations of the empty polytope are not those of here",
+    "AFFINE_HULL": "of the empty polytope, each row vanishes on it here, and not in polymake",
     "CENTERED": "the empty polytope is centered in polymake, and here it is not",
 }
 
@@ -54,7 +54,7 @@ def why_left(member, items, attached):
 
 
 def check_points(thing, found):
-    """Of a polytope one generator is a point: of directions alone polymake makes the empty polytope."""
+    """One generator of a polytope is a point: of directions polymake makes the empty polytope."""
     for name in ("POINTS", "VERTICES"):
         rows = thing.rows(name)
         if thing.type_name == "Polytope" and rows and not any(it and it[0] > 0 for it in rows):
@@ -65,35 +65,43 @@ def leave_out_of_empty(thing, found, notes):
     """Leaves out what polymake holds of the empty polytope in another sense."""
     if not thing.is_said_empty():
         return
+    is_whole = len(thing.rows("AFFINE_HULL")) == thing.columns
+    kept = ("FACETS", "AFFINE_HULL") if is_whole else ()
     for name, why in OF_THE_EMPTY.items():
-        if name in thing.values:
+        if thing.values.get(name) not in (None, False) and name not in kept:
             del thing.values[name]
             notes.tell(found[name].line, f"{name}: {why}: left out")
 
 
-def chosen(found, only, type_name):
+def chosen(found, only, type_name, items):
     """The members that are asked for; a half of a pair alone would mean something else."""
     if only is None:
         return list(found.values())
     names = {it.polytope: it.name(type_name) for it in PROPERTIES}
     for name in only:
+        if name not in items:
+            raise Refusal(None, f"'{name}' is asked for, and no property that this program takes")
         if name not in found:
             raise Refusal(None, f"{name}: it is asked for, and the file does not have it")
     for first, second in PAIRS.items():
         first, second = names[first], names[second]
         if first in only and second in found and second not in only:
-            raise Refusal(found[second].line, f"{second}: it is left out beside {first}: ask for both")
+            raise Refusal(
+                found[second].line, f"{second}: it is left out beside {first}: ask for both"
+            )
     return [found[it] for it in only]
 
 
 def read_polymake(text, notes, only=None):
     """The polytope or the cone of a data file."""
     if text.lstrip().startswith(("<", "_")):
-        raise Refusal(1, "a file of polymake before version 4: let polymake load it and save it anew")
+        raise Refusal(
+            1, "a file of polymake before version 4: let polymake load it and save it anew"
+        )
     found = members(text)
     thing = Thing(type_of(found))
     items, attached = by_name(thing.type_name), attachments(found)
-    for member in chosen(found, only, thing.type_name):
+    for member in chosen(found, only, thing.type_name, items):
         if member.key.startswith("_"):
             continue
         why = why_left(member, items, attached)
@@ -125,8 +133,8 @@ def check_halves(thing):
     names = {it.polytope: it.name(thing.type_name) for it in PROPERTIES}
     for first, second in halves:
         if thing.has(first) and not thing.has(second):
-            told = f"{names[first]} without {names[second]} is all that there is to polymake: show both"
-            raise Refusal(None, told)
+            told = f"{names[first]} without {names[second]}"
+            raise Refusal(None, f"{told} is all that there is to polymake: show both")
 
 
 def polymake_text(thing):
@@ -138,7 +146,10 @@ def polymake_text(thing):
         if value is None:
             continue
         if value == [] and item.polytope in COLUMNED and thing.columns is None:
-            raise Refusal(None, f"{name}: it has no rows, and nothing tells how many columns: show CONE_AMBIENT_DIM too")
+            raise Refusal(
+                None,
+                f"{name}: it has no rows, and nothing tells its columns: show CONE_AMBIENT_DIM too",
+            )
         if item.polytope == "INEQUALITIES":
             value = with_far_row(thing, value)
         held[name] = written(item.kind, value, thing.columns)
@@ -153,7 +164,9 @@ def list_of_names(text):
 
 
 def from_words():
-    words = command.parser("from-polymake", "Writes a data file of polymake as a script of this program.")
+    words = command.parser(
+        "from-polymake", "Writes a data file of polymake as a script of this program."
+    )
     command.add_file(words, needed=True)
     command.add_object(words)
     told = "take these properties of the file alone, by its names, with commas between them"
@@ -167,7 +180,9 @@ def from_polymake(options, text, notes):
 
 
 def to_words():
-    words = command.parser("to-polymake", "Writes the values that replies show as a data file of polymake.")
+    words = command.parser(
+        "to-polymake", "Writes the values that replies show as a data file of polymake."
+    )
     command.add_file(words, needed=False)
     command.add_type(words, "the replies are of a cone; else of a polytope")
     words.add_argument("--name", metavar="NAME", help="the object, where replies show several")

@@ -61,7 +61,7 @@ PROPERTIES = (
 
 TYPES = ("Polytope", "Cone")
 
-# Each of the matrices that describe a thing, with the one that completes it; the first names of both.
+# Each matrix that describes a thing, with the one that completes it; the first names of both.
 PAIRS = {
     "POINTS": "INPUT_LINEALITY",
     "INEQUALITIES": "EQUATIONS",
@@ -102,6 +102,6 @@ class Thing:
         if self.type_name != "Polytope":
             return False
         held = self.values.get
-        no_facets = held("FACETS") == [] and not held("AFFINE_HULL")
-        none = held("FEASIBLE") is False or held("CONE_DIM") == 0 or held("VERTICES") == []
-        return none or no_facets or held("N_VERTICES") == 0 or held("COMBINATORIAL_DIM") == -1
+        none = any(held(it) == 0 for it in ("CONE_DIM", "N_VERTICES", "N_FACETS"))
+        no_rows = held("VERTICES") == [] or held("FACETS") == []
+        return none or no_rows or held("FEASIBLE") is False or held("COMBINATORIAL_DIM") == -1

@@ -2,7 +2,7 @@
 
 
 class Fault(Exception):
-    """A value that is not understood: what is wrong, and in which of its rows, from 0, if in one."""
+    """A value that is not understood: what is wrong, and in which row, from 0, if in one."""
 
     def __init__(self, text, row=None):
         super().__init__(text)

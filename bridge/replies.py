@@ -21,7 +21,9 @@ def value_lines(lines):
         if not found:
             continue
         if found[1] in OTHERS:
-            raise Refusal(number, f"a value of an object '{found[1]}', or another reply: not to be told apart")
+            raise Refusal(
+                number, f"a value of an object '{found[1]}', or another reply: not to be told apart"
+            )
         yield number, *found.groups()
 
 
@@ -44,7 +46,9 @@ def one_object(found, name):
         raise Refusal(None, "no value is shown")
     other = next((it for it in found if it[1] != found[0][1]), None)
     if other:
-        raise Refusal(other[0], f"a value of '{other[1]}' after one of '{found[0][1]}': say which by --name")
+        raise Refusal(
+            other[0], f"a value of '{other[1]}' after one of '{found[0][1]}': say which by --name"
+        )
     return found
 
 

@@ -62,7 +62,7 @@ def at_least_zero(value, what, row):
 
 
 def sparse_row(row, columns):
-    """A row {"0":"1","_dim":n}, whose other entries are zero; the length may be that of the matrix."""
+    """A row {"0":"1","_dim":n}, else 0; without '_dim' it is as long as the matrix has columns."""
     length = columns
     if "_dim" in row:
         length = at_least_zero(row["_dim"], "_dim", None)
@@ -109,8 +109,10 @@ def read_set(row, columns):
     found = sorted(whole_of(it) for it in row)
     if len(set(found)) != len(found):
         raise Fault("an index stands twice")
-    if found and (found[0] < 0 or columns is not None and found[-1] >= columns):
-        raise Fault(f"an index that is not from 0 to {'the last column' if columns is None else columns - 1}")
+    if found and found[0] < 0:
+        raise Fault("an index below 0")
+    if found and columns is not None and found[-1] >= columns:
+        raise Fault(f"an index that is not below {columns}")
     return found
 
 
