@@ -29,7 +29,7 @@ def type_of(found):
     member = found["_type"]
     named = TYPE.fullmatch(member.value) if isinstance(member.value, str) else None
     if not named:
-        known = " or ".join(f"polytope::{it}<Rational>" for it in TYPES)
+        known = " nor ".join(f"polytope::{it}<Rational>" for it in TYPES)
         raise Refusal(member.line, f"the type {json.dumps(member.value)} is neither {known}")
     return named[1]
 
