@@ -1,43 +1,22 @@
-// The vertices among points and the facet rows among inequalities of small things, each description by itself.
-use crate::rows::rows_of;
+// Small things, each by rows that generate it and by half-spaces that cut it out, and what thinning finds of them.
 use pm_props::ObjectType;
-use pm_redund::{thin_rays, thin_rows};
-use std::alloc::Global;
-use std::process::Abort;
 
-type Table = &'static [&'static [i128]];
+pub(crate) type Table = &'static [&'static [i128]];
 
-// A thing by rows that generate it and by half-spaces that cut it out, and what is to be found.
-struct Case {
-    of: ObjectType,
-    cols: usize,
-    rays: Table,
-    lineality: Table,
-    facets: Table,
-    hull: Table,
-    vertices: &'static str,
-    facet_rows: &'static str,
-}
-
-// Both descriptions.
-fn check(rt: &impl Abort, alloc: Global, case: &Case) {
-    assert!(rt; 0 < case.cols && case.cols < 1000);
-    let rays = rows_of(rt, alloc, case.cols, case.rays);
-    let lines = rows_of(rt, alloc, case.cols, case.lineality);
-    let vertices = thin_rays(alloc, case.of, case.cols, &rays, &lines);
-    let text = format!(in alloc; "{vertices:?}").expect(rt, "room for a text");
-    let shown = text.as_str();
-    assert!(rt; shown == case.vertices, "{shown}");
-    let rows = rows_of(rt, alloc, case.cols, case.facets);
-    let equations = rows_of(rt, alloc, case.cols, case.hull);
-    let facets = thin_rows(alloc, case.of, case.cols, &rows, &equations);
-    let text = format!(in alloc; "{facets:?}").expect(rt, "room for a text");
-    let shown = text.as_str();
-    assert!(rt; shown == case.facet_rows, "{shown}");
+/// A thing by rows that generate it and by half-spaces that cut it out, and what is to be found.
+pub(crate) struct Case {
+    pub(crate) of: ObjectType,
+    pub(crate) cols: usize,
+    pub(crate) rays: Table,
+    pub(crate) lineality: Table,
+    pub(crate) facets: Table,
+    pub(crate) hull: Table,
+    pub(crate) vertices: &'static str,
+    pub(crate) facet_rows: &'static str,
 }
 
 // x >= 0, x <= 2, y >= 0, y <= 2, of which the first stands twice, and x <= 3
-const SQUARE: Case = Case {
+pub(crate) const SQUARE: Case = Case {
     of: ObjectType::Polytope,
     cols: 3,
     // the corners, of which one stands twice, the middle, and the middle of an edge
@@ -64,12 +43,7 @@ const SQUARE: Case = Case {
     facet_rows: "Ok(Facets { facets: [Ints { entries: [0, 0, 1] }, Ints { entries: [0, 1, 0] }, Ints { entries: [2, -1, 0] }, Ints { entries: [2, 0, -1] }], hull: [] })",
 };
 
-#[test]
-fn square_is_sharpened(rt: HostRuntime) {
-    check(&rt, rt.alloc(), &SQUARE);
-}
-
-const CONES: &[Case] = &[
+pub(crate) const CONES: &[Case] = &[
     // a wedge about the line of (0, 0, 1)
     Case {
         of: ObjectType::Cone,
@@ -116,14 +90,7 @@ const CONES: &[Case] = &[
     },
 ];
 
-#[test]
-fn cones_are_sharpened(rt: HostRuntime) {
-    for case in CONES {
-        check(&rt, rt.alloc(), case);
-    }
-}
-
-const POLYTOPES: &[Case] = &[
+pub(crate) const POLYTOPES: &[Case] = &[
     // a segment in the plane, whose equation y = 1 is given as two inequalities
     Case {
         of: ObjectType::Polytope,
@@ -190,77 +157,3 @@ const POLYTOPES: &[Case] = &[
         facet_rows: "Ok(Facets { facets: [Ints { entries: [1] }], hull: [] })",
     },
 ];
-
-#[test]
-fn polytopes_are_sharpened(rt: HostRuntime) {
-    for case in POLYTOPES {
-        check(&rt, rt.alloc(), case);
-    }
-}
-
-// Two rows whose elimination leaves the range
-const STEP: &str =
-    "Err(Wide(E1(ElimEvidence { list: Rows, front: 1, basis: [Ints { entries: [3, 85070591730234615865843651857942052864] }], part: Ints { entries: [5, 1] }, by: 0, column: 1 })))";
-
-const LINES: Table = &[&[3, 1 << 126], &[5, 1]];
-
-const WIDE: &[Case] = &[Case {
-    of: ObjectType::Cone,
-    cols: 2,
-    rays: &[],
-    lineality: LINES,
-    facets: &[],
-    hull: LINES,
-    vertices: STEP,
-    facet_rows: STEP,
-}];
-
-#[test]
-fn wide_elimination_is_shown(rt: HostRuntime) {
-    for case in WIDE {
-        check(&rt, rt.alloc(), case);
-    }
-}
-
-const SINGLE: &[Case] = &[
-    // points on a segment, and the rows 1 - x >= 0, x >= 0 and 2 - x >= 0
-    Case {
-        of: ObjectType::Polytope,
-        cols: 2,
-        rays: &[&[1, 0], &[1, 1], &[1, 2]],
-        lineality: &[],
-        facets: &[&[0, 1], &[1, -1], &[2, -1]],
-        hull: &[],
-        vertices: "Ok(Generators { rays: [Ints { entries: [1, 0] }, Ints { entries: [1, 2] }], lineality: [] })",
-        facet_rows: "Ok(Facets { facets: [Ints { entries: [0, 1] }, Ints { entries: [1, -1] }], hull: [] })",
-    },
-    // rows of zeros, and rows that stand more than once
-    Case {
-        of: ObjectType::Cone,
-        cols: 2,
-        rays: &[&[0, 0], &[2, 4], &[1, 2], &[0, 3], &[0, 3]],
-        lineality: &[&[0, 0]],
-        facets: &[&[0, 0], &[0, 1], &[0, 5], &[3, 0], &[3, 0], &[1, 1]],
-        hull: &[],
-        vertices: "Ok(Generators { rays: [Ints { entries: [0, 1] }, Ints { entries: [1, 2] }], lineality: [] })",
-        facet_rows: "Ok(Facets { facets: [Ints { entries: [0, 1] }, Ints { entries: [1, 0] }], hull: [] })",
-    },
-    // the rays of a plane: all of it is lineality, and no row is a facet
-    Case {
-        of: ObjectType::Cone,
-        cols: 2,
-        rays: &[&[1, 0], &[-1, 1], &[-1, -2]],
-        lineality: &[],
-        facets: &[&[1, 0], &[-1, 1], &[-1, -2]],
-        hull: &[],
-        vertices: "Ok(Generators { rays: [], lineality: [Ints { entries: [1, 0] }, Ints { entries: [0, 1] }] })",
-        facet_rows: "Ok(Facets { facets: [], hull: [Ints { entries: [1, 0] }, Ints { entries: [0, 1] }] })",
-    },
-];
-
-#[test]
-fn redundant_rows_go(rt: HostRuntime) {
-    for case in SINGLE {
-        check(&rt, rt.alloc(), case);
-    }
-}

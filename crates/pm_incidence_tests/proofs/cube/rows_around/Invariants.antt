@@ -1,5 +1,5 @@
 use Rattle.pm_algebra.specs.Rows.{HasCols}
-use Rattle.pm_redund_tests.proofs.cube.rows_around.Given as goal
+use Rattle.pm_incidence_tests.proofs.cube.rows_around.Given as goal
 
 abbrev pub invariant-loop-column : goal.invariant-loop-column
 invariant-loop-column g l = HasCols 7 l.rows.items
