@@ -35,6 +35,23 @@ fn cones_are_sharpened(rt: HostRuntime) {
     }
 }
 
+// No rows at all: of generators nothing, of half-spaces a point, whose facet is the far face.
+const NO_ROWS: Case = Case {
+    of: ObjectType::Polytope,
+    cols: 1,
+    rays: &[],
+    lineality: &[],
+    facets: &[],
+    hull: &[],
+    vertices: "Ok(Generators { rays: [], lineality: [] })",
+    facet_rows: "Ok(Facets { facets: [Ints { entries: [1] }], hull: [] })",
+};
+
+#[test]
+fn no_rows_are_thinned(rt: HostRuntime) {
+    check(&rt, rt.alloc(), &NO_ROWS);
+}
+
 #[test]
 fn polytopes_are_sharpened(rt: HostRuntime) {
     for case in POLYTOPES {

@@ -145,15 +145,4 @@ pub(crate) const POLYTOPES: &[Case] = &[
         vertices: "Ok(Generators { rays: [], lineality: [] })",
         facet_rows: "Ok(Facets { facets: [], hull: [Ints { entries: [1, 0] }, Ints { entries: [0, 1] }] })",
     },
-    // no rows at all: of generators nothing, of half-spaces a point, whose facet is the far face
-    Case {
-        of: ObjectType::Polytope,
-        cols: 1,
-        rays: &[],
-        lineality: &[],
-        facets: &[],
-        hull: &[],
-        vertices: "Ok(Generators { rays: [], lineality: [] })",
-        facet_rows: "Ok(Facets { facets: [Ints { entries: [1] }], hull: [] })",
-    },
 ];

@@ -70,6 +70,23 @@ fn cones_are_sharpened(rt: HostRuntime) {
     }
 }
 
+// No rows at all, which describe the empty polytope by its generators.
+const NO_ROWS: Case = Case {
+    of: ObjectType::Polytope,
+    cols: 1,
+    rays: &[],
+    lineality: &[],
+    facets: &[],
+    hull: &[],
+    vertices: "Ok(Generators { rays: [], lineality: [] })",
+    facet_rows: "Ok(Facets { facets: [], hull: [Ints { entries: [1] }] })",
+};
+
+#[test]
+fn no_rows_are_thinned(rt: HostRuntime) {
+    check(&rt, rt.alloc(), &NO_ROWS);
+}
+
 #[test]
 fn polytopes_are_sharpened(rt: HostRuntime) {
     for case in POLYTOPES {
