@@ -20,7 +20,9 @@ mod values;
 
 pub use boxes::{place_of, run_first};
 pub use family::{Family, FamilyClient, Numbered};
-pub use values::{counts_of, matrix_of, primitive_rows, put_value, sets_of, whole_of};
+pub use values::{
+    counts_of, edges_of, lattice_of, matrix_of, primitive_rows, put_value, sets_of, whole_of,
+};
 
 /// Why a client did not answer.
 #[derive(Debug, Drop)]

@@ -4,17 +4,17 @@ ghost use Rattle.pm_client.specs.declared.ClientFail.TheVariants.{Memory};
 ghost use Rattle.pm_matrix.specs.FractionRows.{ArePrimitiveRowsOf};
 ghost use Rattle.pm_object.specs.Reading.{drafted, fact_of};
 ghost use Rattle.pm_types.specs.Forms.{FormsIn, HasPrimitiveRow};
-ghost use Rattle.pm_props.specs.Properties.{is_of_counts, is_of_matrices, is_of_sets, is_of_whole_numbers};
+ghost use Rattle.pm_props.specs.Properties.{is_of_counts, is_of_edges, is_of_lattices, is_of_matrices, is_of_sets, is_of_whole_numbers};
 ghost use Rattle.pm_props.specs.Properties.{value_kind};
 ghost use Rattle.pm_props.specs.Sets.{has};
-ghost use Rattle.pm_types.specs.Values.{counts, matrix, sets, whole};
+ghost use Rattle.pm_types.specs.Values.{counts, edges, lattice, matrix, sets, whole};
 ghost use Rattle.pm_types.specs.Views.{view_of};
 ghost use Rattle.std.specs.Prelude.{All, IfErr, IfOk, IsTrue, None, OnErr, OnOk, Some, [], length, ◌++◌, ◌∷◌, ◌≡◌, ◌≤◌};
 
 use crate::ClientFail;
 use pm_matrix::{Matrix, RowsFail};
 use pm_object::{Draft, View};
-use pm_types::{Counts, PropId, Sets, Value};
+use pm_types::{Counts, Lattice, PropId, Sets, Value};
 use pm_vector::Ints;
 use std::alloc::Global;
 
@@ -65,6 +65,32 @@ pub fn counts_of<'b>(view: &'b View<'_>, p: PropId) -> &'b Counts
     ensures forms { FormsIn view.now.of view.now.cols p (counts result.now) }
 {
     let Some(Value::Counts(found)) = view.value(p) else {
+        unreachable!()
+    };
+    found
+}
+
+/// The neighbours of each node of a source whose values are edges.
+pub fn edges_of<'b>(view: &'b View<'_>, p: PropId) -> &'b Sets
+    requires source { IsTrue (has view.now.kind.sources p) }
+    requires edges { IsTrue (is_of_edges (value_kind p)) }
+    ensures value { fact_of p view.now.facts ≡ Some (edges result.now.rows) }
+    ensures forms { FormsIn view.now.of view.now.cols p (edges result.now.rows) }
+{
+    let Some(Value::Edges(found)) = view.value(p) else {
+        unreachable!()
+    };
+    found
+}
+
+/// The faces by rank of a source whose values are lattices.
+pub fn lattice_of<'b>(view: &'b View<'_>, p: PropId) -> &'b Lattice
+    requires source { IsTrue (has view.now.kind.sources p) }
+    requires lattices { IsTrue (is_of_lattices (value_kind p)) }
+    ensures value { fact_of p view.now.facts ≡ Some (lattice result.now) }
+    ensures forms { FormsIn view.now.of view.now.cols p (lattice result.now) }
+{
+    let Some(Value::Lattice(found)) = view.value(p) else {
         unreachable!()
     };
     found

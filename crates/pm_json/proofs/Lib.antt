@@ -7,3 +7,6 @@ pub mod MatrixLimits
 pub mod SetLimits
 pub mod Formed
 pub mod CountTurns
+pub mod EdgeTurns
+pub mod EdgeLimits
+pub mod FaceTurns

@@ -25,13 +25,13 @@ below_2048 (pos k) j e =
     omega arith
 below_2048 (negsuc k) j e = absurd (err_ok Index j e)
 
-index_below : (d : Data) (j : ℕ) → index_of d ≡ Ok j → j < 2048
+pub index_below : (d : Data) (j : ℕ) → index_of d ≡ Ok j → j < 2048
 index_below d j e = and_then-ok (whole_number_of d) index_below_2048 j e (λ z _ f. below_2048 z j f)
 
 next : (k j : ℕ) → k ≤ j → (k ≡ j → ⊥) → suc k ≤ j
 next k j h n = omega (arith, n)
 
-indices_put : (n low j : ℕ) (set : List ℕ) → low ≤ j → j < n → has_index j set ≡ false → are_indices n low set ≡ true → are_indices n low (with_index j set) ≡ true
+pub indices_put : (n low j : ℕ) (set : List ℕ) → low ≤ j → j < n → has_index j set ≡ false → are_indices n low set ≡ true → are_indices n low (with_index j set) ≡ true
 indices_put n low j [] above below other h = three (leb low j) (ltb j n) true (le-leb low j above) (lt-ltb j n below) refl
 indices_put n low j (k ∷ set) above below other h =
     let o = or_parts (eqb k j) (has_index j set) other in
@@ -130,7 +130,7 @@ above_sets_bound m (set ∷ rows) h =
     let rest = above_sets_bound m rows p.1 in
     omega arith
 
-all_below_above : (n m : ℕ) (rows : List (List ℕ)) → above_sets rows ≤ n → list_all (are_indices m 0) rows ≡ true → list_all (are_indices n 0) rows ≡ true
+pub all_below_above : (n m : ℕ) (rows : List (List ℕ)) → above_sets rows ≤ n → list_all (are_indices m 0) rows ≡ true → list_all (are_indices n 0) rows ≡ true
 all_below_above n m [] a h = refl
 all_below_above n m (set ∷ rows) a h =
     let p = and_parts (are_indices m 0 set) (list_all (are_indices m 0) rows) h in
@@ -138,7 +138,7 @@ all_below_above n m (set ∷ rows) a h =
     let right = le-max_right (above_set set) (above_sets rows) in
     and_from (are_indices n 0 set) (list_all (are_indices n 0) rows) (below_above n m 0 set (omega arith) p.0) (all_below_above n m rows (omega arith) p.1)
 
-form_of : (rows : List (List ℕ)) (n : ℕ) → length rows ≤ 2048 → n ≤ 2048 → above_sets rows ≤ n → list_all (are_indices 2048 0) rows ≡ true → is_sets_form rows n ≡ true
+pub form_of : (rows : List (List ℕ)) (n : ℕ) → length rows ≤ 2048 → n ≤ 2048 → above_sets rows ≤ n → list_all (are_indices 2048 0) rows ≡ true → is_sets_form rows n ≡ true
 form_of rows n few count above h = three (leb (length rows) 2048) (leb n 2048) (list_all (are_indices n 0) rows) (le-leb (length rows) 2048 few) (le-leb n 2048 count) (all_below_above n 2048 rows above h)
 
 abbrev pub IsSetsValue : PropertyValue → Type 0

@@ -3,20 +3,21 @@
 -- Sets are an array of at most 2,048 sets, which are arrays of indices below 2,048, in any order and none twice; after the sets maybe {"cols":n}, n at most 2,048 and above every index; without it the column count is one more than the greatest index, or 0.
 -- A whole number is a whole JSON number of 64 bits, for CONE_AMBIENT_DIM from 1 to 33; a truth value is true or false.
 -- A list of counts is an array of at most 2,048 whole numbers of 64 bits, each a whole JSON number or a text, an optional `-` and digits.
--- Values of further kinds are not read yet, and F2_VECTOR and LP.LINEAR_OBJECTIVE will have forms of their own.
+-- Edges are an array of at most 2,048 nodes, each an array of nodes below their number, which are neighbours of one another and none of itself. A lattice is an array of ranks, which are arrays of faces, at most 65,536, which are arrays of indices below 2,048, at most 4,000,000 in all.
+-- Extended numbers are not read yet, and F2_VECTOR and LP.LINEAR_OBJECTIVE will have forms of their own.
 -- Of several faults the first in reading order counts, which goes through the elements from the first to the last. At one element it is the first of these: `Shape`, a JSON value of another form, an element that makes a row longer than the first, an index that its set has already; `Number`, a number, or in matrices a text, that is not allowed there; `Index`, an index that is negative, or not below the column count; `Limit`, a count beyond its bound.
 -- A count that is too large is a fault of the first element too many; a row that is too short is one of its end. Indices are held against the column count
 -- after the last element.
-use Rattle.std.specs.Prelude.{ℕ, zero, suc, ◌==◌, ◌%◌, ◌/◌, ◌^◌, ◌&&◌, ◌++◌, ◌∷◌, Bool, true, false, not, List, [], length, max, nat_le, nat_lt, Option, Some, None, is_some, Result, Ok, Err, codes, if◌then◌else◌, slice_index}
+use Rattle.std.specs.Prelude.{ℕ, zero, suc, ◌+◌, ◌==◌, ◌%◌, ◌/◌, ◌^◌, ◌&&◌, ◌++◌, ◌∷◌, Bool, true, false, not, List, [], length, max, nat_le, nat_lt, Option, Some, None, is_some, Result, Ok, Err, codes, if◌then◌else◌, slice_index}
 use Rattle.std.specs.Char.{is_ascii_digit}
-use Rattle.std.specs.List.{list_all, list_any}
+use Rattle.std.specs.List.{list_all, list_any, sum_by}
 use Rattle.std.specs.Str.Parse.{digits_value, signed_digits_value, starts_with_minus, without_leading_sign}
 use Rattle.pm_algebra.specs.Numbers.{Ratio}
 use Rattle.pm_fraction.specs.Fractions.{ratio_of, signed}
 use Rattle.pm_fraction.specs.Text.{bottom_text, top_text}
-use Rattle.pm_types.specs.Forms.{has_64_bits, is_dimension}
+use Rattle.pm_types.specs.Forms.{are_joined_back, has_64_bits, is_dimension}
 use Rattle.pm_props.specs.Properties.{is_ambient, value_kind}
-use Rattle.pm_types.specs.Values.{PropertyValue, matrix, sets, whole, truth, counts}
+use Rattle.pm_types.specs.Values.{PropertyValue, matrix, sets, whole, truth, counts, edges, lattice}
 use Rattle.pm_types.specs.Views.{over_one}
 use Rattle.pm_props.specs.declared.property.PropId.{PropId}
 use Rattle.pm_props.specs.declared.property.ValueKind.{ValueKind}
@@ -223,6 +224,37 @@ counts_from k (item d ds) = and_then (whole_count_of d) (λ z. if nat_lt k 2048 
 abbrev pub counts_of : Data → Read PropertyValue
 counts_of d = and_then (items_of d) (λ ds. and_then (counts_from 0 ds) (λ ks. Ok (counts ks)))
 
+-- ---- edges
+-- the neighbours of the nodes, of which k came before
+abbrev pub nodes_from : ℕ → Items → Read (List (List ℕ))
+nodes_from k no_items = Ok []
+nodes_from k (item d ds) = and_then (items_of d) (λ es. if nat_lt k 2048 then and_then (set_from [] es) (λ set. before set (nodes_from (suc k) ds)) else Err Limit)
+
+-- each neighbour is a node, and each node a neighbour of its neighbours and not of itself
+abbrev pub edges_with : List (List ℕ) → Read PropertyValue
+edges_with rows = if nat_le (above_sets rows) (length rows) then (if are_joined_back rows 0 rows then Ok (edges rows) else Err Shape) else Err Index
+
+abbrev pub edges_of : Data → Read PropertyValue
+edges_of d = and_then (items_of d) (λ ds. and_then (nodes_from 0 ds) edges_with)
+
+-- ---- lattices
+-- the face, with the indices from here on, of which k came before in the lattice
+abbrev pub face_from : ℕ → List ℕ → Items → Read (List ℕ)
+face_from k face no_items = Ok face
+face_from k face (item d ds) = and_then (index_of d) (λ j. if has_index j face then Err Shape else if nat_lt k 4000000 then face_from (suc k) (with_index j face) ds else Err Limit)
+
+-- the faces of a rank, where m faces and k indices came before in the lattice
+abbrev pub faces_from : ℕ → ℕ → Items → Read (List (List ℕ))
+faces_from m k no_items = Ok []
+faces_from m k (item d ds) = and_then (items_of d) (λ es. if nat_lt m 65536 then and_then (face_from k [] es) (λ face. before face (faces_from (suc m) (k + length face) ds)) else Err Limit)
+
+abbrev pub ranks_from : ℕ → ℕ → Items → Read (List (List (List ℕ)))
+ranks_from m k no_items = Ok []
+ranks_from m k (item d ds) = and_then (items_of d) (λ es. and_then (faces_from m k es) (λ faces. before faces (ranks_from (m + length faces) (k + sum_by length faces) ds)))
+
+abbrev pub lattice_of : Data → Read PropertyValue
+lattice_of d = and_then (items_of d) (λ ds. and_then (ranks_from 0 0 ds) (λ ranks. Ok (lattice ranks)))
+
 -- ---- values
 abbrev pub reading_of : ValueKind → PropId → Data → Read PropertyValue
 reading_of kind.Mat p d = matrix_of d
@@ -230,6 +262,8 @@ reading_of kind.Sets p d = sets_of d
 reading_of kind.Int p d = whole_of p d
 reading_of kind.Bool p d = truth_of d
 reading_of kind.Counts p d = counts_of d
+reading_of kind.Edges p d = edges_of d
+reading_of kind.Lattice p d = lattice_of d
 reading_of k p d = Err Shape
 
 -- the value of p that the JSON value d is, or the fault

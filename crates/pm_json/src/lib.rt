@@ -2,7 +2,9 @@
 #![tactic(auto)]
 
 mod counts;
+mod edges;
 mod fail;
+mod lattice;
 mod matrix;
 mod number;
 mod sets;

@@ -22,7 +22,7 @@ struct SetList {
 }
 
 /// Whether a set has an index.
-fn has_index(j: u32, set: &[u32]) -> bool
+pub(crate) fn has_index(j: u32, set: &[u32]) -> bool
     ensures { result ≡ has_index j set.now }
 {
     set.iter().any(|k| *k == j)
@@ -49,7 +49,7 @@ fn place_of(j: u32, set: &[u32]) -> usize
 }
 
 /// Puts an index into an ascending set.
-fn put_index(j: u32, set: &mut Vec<u32>) -> Result<(), AllocError>
+pub(crate) fn put_index(j: u32, set: &mut Vec<u32>) -> Result<(), AllocError>
     ensures { OnOk result (set.new.items ≡ with_index j set.old.items) }
 {
     let place = place_of(j, set);
@@ -58,7 +58,7 @@ fn put_index(j: u32, set: &mut Vec<u32>) -> Result<(), AllocError>
 }
 
 /// A set.
-fn read_set(alloc: Global, items: &[Value]) -> Result<Vec<u32>, ValueFail>
+pub(crate) fn read_set(alloc: Global, items: &[Value]) -> Result<Vec<u32>, ValueFail>
     ensures ok { IfOk result (λ set. set_from [] (items_view items.now) ≡ Ok set.items) }
     ensures fault { IfErr result (λ e. e ≢ ValueFail.Memory → set_from [] (items_view items.now) ≡ Err e) }
 {
@@ -145,7 +145,7 @@ fn above_set(set: &[u32]) -> u64
 }
 
 /// The least number above each index of each set.
-fn above_sets(rows: &[Vec<u32>]) -> u64
+pub(crate) fn above_sets(rows: &[Vec<u32>]) -> u64
     ensures { result ≡ above_sets (map (λ set. set.items) rows.now) }
 {
     let mut above = 0;

@@ -9,7 +9,9 @@ ghost use Rattle.serde_json.specs.View.{view};
 ghost use Rattle.std.specs.Prelude.{IfErr, IfOk, IsTrue, ◌≡◌, ◌≢◌, ◌↔◌};
 
 use crate::counts::read_counts;
+use crate::edges::read_edges;
 use crate::fail::ValueFail;
+use crate::lattice::read_lattice;
 use crate::matrix::read_matrix;
 use crate::sets::read_sets;
 use pm_props::{Columns, PropId, ValueKind};
@@ -68,6 +70,8 @@ pub fn read_value(alloc: Global, p: PropId, v: &Value) -> Result<PropertyValue, 
         ValueKind::Int => read_whole(p, v),
         ValueKind::Bool => read_truth(v),
         ValueKind::Counts => read_counts(alloc, p, v),
+        ValueKind::Edges => read_edges(alloc, p, v),
+        ValueKind::Lattice => read_lattice(alloc, p, v),
         _ => Err(ValueFail::Shape),
     }
 }

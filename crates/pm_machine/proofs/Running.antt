@@ -16,8 +16,8 @@ use Rattle.pm_props.proofs.Every.{has-set_of_filter}
 use Rattle.pm_props.proofs.Every.{among_every}
 use Rattle.pm_props.proofs.Places.{same_property_refl}
 use Rattle.pm_props.proofs.Members.{has-intersection, has-union}
-use Rattle.pm_types.specs.Forms.{FormsIn, has_64_bits, is_counts_form, is_formed, is_matrix_form, is_sets_form}
-use Rattle.pm_props.specs.Properties.{is_of_counts, is_of_matrices, is_of_sets, is_of_whole_numbers}
+use Rattle.pm_types.specs.Forms.{FormsIn, has_64_bits, is_counts_form, is_edges_form, is_formed, is_lattice_form, is_matrix_form, is_sets_form}
+use Rattle.pm_props.specs.Properties.{is_of_counts, is_of_edges, is_of_lattices, is_of_matrices, is_of_sets, is_of_whole_numbers}
 use Rattle.pm_props.specs.Kinds.{IsFresh, IsKindOf, names_of as names_of_kind}
 use Rattle.pm_props.specs.Properties.{is_in_use}
 use Rattle.pm_props.specs.Properties.{every_property, has_program, number, value_kind}
@@ -83,6 +83,12 @@ not_sets p k = ap is_of_sets k
 not_counts : (p : PropId) → value_kind p ≡ form.Bool → is_of_counts (value_kind p) ≡ false
 not_counts p k = ap is_of_counts k
 
+not_edges : (p : PropId) → value_kind p ≡ form.Bool → is_of_edges (value_kind p) ≡ false
+not_edges p k = ap is_of_edges k
+
+not_lattices : (p : PropId) → value_kind p ≡ form.Bool → is_of_lattices (value_kind p) ≡ false
+not_lattices p k = ap is_of_lattices k
+
 and_left : (a b : Bool) → (a && b) ≡ true → a ≡ true
 and_left true b h = refl
 and_left false b h = absurd (true≢false (sym h))
@@ -98,8 +104,8 @@ is_truth_value p (sets rows n) k f = absurd (true≢false (sym (and_left (is_of_
 is_truth_value p (whole n) k f = absurd (whole_apart p n k f)
 is_truth_value p (truth b) k f = (b, refl)
 is_truth_value p (extended x) k f = absurd (true≢false (sym f))
-is_truth_value p (edges rows) k f = absurd (true≢false (sym f))
-is_truth_value p (lattice ranks) k f = absurd (true≢false (sym f))
+is_truth_value p (edges rows) k f = absurd (true≢false (sym (and_left (is_of_edges (value_kind p)) (is_edges_form rows) f) ∙ not_edges p k))
+is_truth_value p (lattice ranks) k f = absurd (true≢false (sym (and_left (is_of_lattices (value_kind p)) (is_lattice_form ranks) f) ∙ not_lattices p k))
 is_truth_value p (counts ks) k f = absurd (true≢false (sym (and_left (is_of_counts (value_kind p)) (is_counts_form ks) f) ∙ not_counts p k))
 
 -- ---- facts of an object without programs

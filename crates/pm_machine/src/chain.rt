@@ -49,6 +49,8 @@ fn is_held_as(object: &Object, sub: Option<u8>, p: PropId, b: bool) -> bool
         Some(Value::Sets(_)) => false,
         Some(Value::Int(_)) => false,
         Some(Value::Counts(_)) => false,
+        Some(Value::Edges(_)) => false,
+        Some(Value::Lattice(_)) => false,
         None => false,
     }
 }

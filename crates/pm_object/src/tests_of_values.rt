@@ -29,6 +29,8 @@ pub fn stated_cols(p: PropId, v: &Value) -> usize
         Value::Int(_) => 0,
         Value::Bool(_) => 0,
         Value::Counts(_) => 0,
+        Value::Edges(_) => 0,
+        Value::Lattice(_) => 0,
     }
 }
 
@@ -74,6 +76,8 @@ fn states(n: usize, v: &Value) -> bool
         Value::Sets(_) => true,
         Value::Bool(_) => true,
         Value::Counts(_) => true,
+        Value::Edges(_) => true,
+        Value::Lattice(_) => true,
     }
 }
 
@@ -93,6 +97,8 @@ pub fn are_rows(of: ObjectType, p: PropId, v: &Value) -> bool
         Value::Int(_) => true,
         Value::Bool(_) => true,
         Value::Counts(_) => true,
+        Value::Edges(_) => true,
+        Value::Lattice(_) => true,
     }
 }
 
@@ -179,6 +185,8 @@ pub fn require_primitive_rows(alloc: Global, p: PropId, v: &Value) -> Result<(),
         Value::Int(_) => Ok(()),
         Value::Bool(_) => Ok(()),
         Value::Counts(_) => Ok(()),
+        Value::Edges(_) => Ok(()),
+        Value::Lattice(_) => Ok(()),
     }
 }
 

@@ -60,17 +60,17 @@ row Simple = record (plain 20 (codes "SIMPLE") kind.Bool tables.PolytopesAndCone
 row Simplicial = record (plain 21 (codes "SIMPLICIAL") kind.Bool tables.All) { is_accepted = true }
 row VertexSizes = record (plain 22 (codes "VERTEX_SIZES") kind.Counts tables.PolytopesAndCones) { cone_name = codes "RAY_SIZES"; speaks_of_rays = true; is_accepted = true }
 row FacetSizes = record (plain 23 (codes "FACET_SIZES") kind.Counts tables.PolytopesAndCones) { speaks_of_facets = true; is_accepted = true }
-row HasseDiagram = record (plain 24 (codes "HASSE_DIAGRAM") kind.Lattice tables.PolytopesAndCones) { speaks_of_rays = true }
-row FVector = plain 25 (codes "F_VECTOR") kind.Counts tables.PolytopesAndCones
-row F2Vector = plain 26 (codes "F2_VECTOR") kind.Mat tables.PolytopesAndCones
-row HVector = plain 27 (codes "H_VECTOR") kind.Counts tables.Polytopes
-row Graph = record (plain 28 (codes "GRAPH") kind.Edges tables.PolytopesAndCones) { speaks_of_rays = true }
-row DualGraph = record (plain 29 (codes "DUAL_GRAPH") kind.Edges tables.PolytopesAndCones) { speaks_of_facets = true }
-row Diameter = plain 30 (codes "DIAMETER") kind.Int tables.PolytopesAndCones
-row DualDiameter = plain 31 (codes "DUAL_DIAMETER") kind.Int tables.PolytopesAndCones
-row NEdges = plain 32 (codes "N_EDGES") kind.Int tables.PolytopesAndCones
-row NRidges = plain 33 (codes "N_RIDGES") kind.Int tables.PolytopesAndCones
-row VertexDegrees = record (plain 34 (codes "VERTEX_DEGREES") kind.Counts tables.PolytopesAndCones) { cone_name = codes "RAY_DEGREES"; speaks_of_rays = true }
+row HasseDiagram = record (plain 24 (codes "HASSE_DIAGRAM") kind.Lattice tables.PolytopesAndCones) { speaks_of_rays = true; is_accepted = true }
+row FVector = record (plain 25 (codes "F_VECTOR") kind.Counts tables.PolytopesAndCones) { is_accepted = true }
+row F2Vector = record (plain 26 (codes "F2_VECTOR") kind.Mat tables.PolytopesAndCones) { is_accepted = true }
+row HVector = record (plain 27 (codes "H_VECTOR") kind.Counts tables.Polytopes) { is_accepted = true }
+row Graph = record (plain 28 (codes "GRAPH") kind.Edges tables.PolytopesAndCones) { speaks_of_rays = true; is_accepted = true }
+row DualGraph = record (plain 29 (codes "DUAL_GRAPH") kind.Edges tables.PolytopesAndCones) { speaks_of_facets = true; is_accepted = true }
+row Diameter = record (plain 30 (codes "DIAMETER") kind.Int tables.PolytopesAndCones) { is_accepted = true }
+row DualDiameter = record (plain 31 (codes "DUAL_DIAMETER") kind.Int tables.PolytopesAndCones) { is_accepted = true }
+row NEdges = record (plain 32 (codes "N_EDGES") kind.Int tables.PolytopesAndCones) { is_accepted = true }
+row NRidges = record (plain 33 (codes "N_RIDGES") kind.Int tables.PolytopesAndCones) { is_accepted = true }
+row VertexDegrees = record (plain 34 (codes "VERTEX_DEGREES") kind.Counts tables.PolytopesAndCones) { cone_name = codes "RAY_DEGREES"; speaks_of_rays = true; is_accepted = true }
 row FarFace = record (plain 35 (codes "FAR_FACE") kind.Counts tables.Polytopes) { speaks_of_rays = true; is_accepted = true }
 row MaximalCones = record (plain 36 (codes "MAXIMAL_CONES") kind.Sets tables.Fans) { speaks_of_rays = true; speaks_of_facets = true }
 row NMaximalCones = plain 37 (codes "N_MAXIMAL_CONES") kind.Int tables.Fans
@@ -233,3 +233,11 @@ is_of_truth_values k = false
 abbrev pub is_of_counts : ValueKind → Bool
 is_of_counts kind.Counts = true
 is_of_counts k = false
+
+abbrev pub is_of_edges : ValueKind → Bool
+is_of_edges kind.Edges = true
+is_of_edges k = false
+
+abbrev pub is_of_lattices : ValueKind → Bool
+is_of_lattices kind.Lattice = true
+is_of_lattices k = false

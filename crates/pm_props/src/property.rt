@@ -328,19 +328,21 @@ impl PropId {
             Self::FacetSizes => property!(23 "FACET_SIZES" Counts PolytopesAndCones
                 | speaks_of_facets: true, is_accepted: true),
             Self::HasseDiagram => property!(24 "HASSE_DIAGRAM" Lattice PolytopesAndCones
-                | speaks_of_rays: true),
-            Self::FVector => property!(25 "F_VECTOR" Counts PolytopesAndCones),
-            Self::F2Vector => property!(26 "F2_VECTOR" Mat PolytopesAndCones),
-            Self::HVector => property!(27 "H_VECTOR" Counts Polytopes),
-            Self::Graph => property!(28 "GRAPH" Edges PolytopesAndCones | speaks_of_rays: true),
+                | speaks_of_rays: true, is_accepted: true),
+            Self::FVector => property!(25 "F_VECTOR" Counts PolytopesAndCones | is_accepted: true),
+            Self::F2Vector => property!(26 "F2_VECTOR" Mat PolytopesAndCones | is_accepted: true),
+            Self::HVector => property!(27 "H_VECTOR" Counts Polytopes | is_accepted: true),
+            Self::Graph => property!(28 "GRAPH" Edges PolytopesAndCones
+                | speaks_of_rays: true, is_accepted: true),
             Self::DualGraph => property!(29 "DUAL_GRAPH" Edges PolytopesAndCones
-                | speaks_of_facets: true),
-            Self::Diameter => property!(30 "DIAMETER" Int PolytopesAndCones),
-            Self::DualDiameter => property!(31 "DUAL_DIAMETER" Int PolytopesAndCones),
-            Self::NEdges => property!(32 "N_EDGES" Int PolytopesAndCones),
-            Self::NRidges => property!(33 "N_RIDGES" Int PolytopesAndCones),
+                | speaks_of_facets: true, is_accepted: true),
+            Self::Diameter => property!(30 "DIAMETER" Int PolytopesAndCones | is_accepted: true),
+            Self::DualDiameter => property!(31 "DUAL_DIAMETER" Int PolytopesAndCones
+                | is_accepted: true),
+            Self::NEdges => property!(32 "N_EDGES" Int PolytopesAndCones | is_accepted: true),
+            Self::NRidges => property!(33 "N_RIDGES" Int PolytopesAndCones | is_accepted: true),
             Self::VertexDegrees => property!(34 "VERTEX_DEGREES" Counts PolytopesAndCones
-                | cone_name: "RAY_DEGREES", speaks_of_rays: true),
+                | cone_name: "RAY_DEGREES", speaks_of_rays: true, is_accepted: true),
             Self::FarFace => property!(35 "FAR_FACE" Counts Polytopes
                 | speaks_of_rays: true, is_accepted: true),
             Self::MaximalCones => property!(36 "MAXIMAL_CONES" Sets Fans

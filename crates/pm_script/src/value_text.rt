@@ -1,7 +1,8 @@
 // Values as JSON texts.
 
 ghost use Rattle.pm_fraction.specs.Text.{text_of};
-ghost use Rattle.pm_script.specs.Values.{array_text, cols_text, each_then_comma, matrix_text, more_pieces, quoted, row_text, set_text, sets_text, truth_text, value_text, with_commas};
+ghost use Rattle.pm_script.specs.Values.{array_text, cols_text, each_then_comma, edges_text, matrix_text, more_pieces, quoted, row_text, set_text, sets_text, truth_text, value_text, with_commas};
+ghost use Rattle.pm_types.specs.Lists.{lists_of};
 ghost use Rattle.pm_types.specs.Views.{view_of};
 ghost use Rattle.std.specs.Fmt.{signed_decimal};
 ghost use Rattle.std.specs.Prelude.{◌==◌, OnOk, [], codes, decimal, drop, map, string_bytes, ◌++◌, ◌∷◌, ◌≡◌};
@@ -152,6 +153,54 @@ fn push_counts(text: &mut String, counts: &[i64]) -> Result<(), AllocError>
     text.push_str("]")
 }
 
+/// Writes the sets that follow the first of a list.
+fn push_more_sets(text: &mut String, rows: &[Vec<u32>]) -> Result<(), AllocError>
+    ensures { OnOk result (string_bytes text.new ≡ string_bytes text.old ++ more_pieces (map set_text (map (λ r. r.items) rows.now))) }
+{
+    for row in rows {
+        text.push_str(",")?;
+        push_set(text, row)?;
+    }
+    Ok(())
+}
+
+/// Writes a list of sets.
+fn push_edges(text: &mut String, rows: &[Vec<u32>]) -> Result<(), AllocError>
+    ensures { OnOk result (string_bytes text.new ≡ string_bytes text.old ++ edges_text (map (λ r. r.items) rows.now)) }
+{
+    let Some((first, others)) = rows.split_first() else {
+        return text.push_str("[]");
+    };
+    text.push_str("[")?;
+    push_set(text, first)?;
+    push_more_sets(text, others)?;
+    text.push_str("]")
+}
+
+/// Writes the ranks that follow the first of a lattice.
+fn push_more_ranks(text: &mut String, ranks: &[Vec<Vec<u32>>]) -> Result<(), AllocError>
+    ensures { OnOk result (string_bytes text.new ≡ string_bytes text.old ++ more_pieces (map edges_text (map lists_of ranks.now))) }
+{
+    for faces in ranks {
+        text.push_str(",")?;
+        push_edges(text, faces)?;
+    }
+    Ok(())
+}
+
+/// Writes a lattice, rank by rank.
+fn push_lattice(text: &mut String, ranks: &[Vec<Vec<u32>>]) -> Result<(), AllocError>
+    ensures { OnOk result (string_bytes text.new ≡ string_bytes text.old ++ array_text (map edges_text (map lists_of ranks.now))) }
+{
+    let Some((first, others)) = ranks.split_first() else {
+        return text.push_str("[]");
+    };
+    text.push_str("[")?;
+    push_edges(text, first)?;
+    push_more_ranks(text, others)?;
+    text.push_str("]")
+}
+
 /// Writes a value.
 pub fn push_value(text: &mut String, value: &Value) -> Result<(), AllocError>
     ensures { OnOk result (string_bytes text.new ≡ string_bytes text.old ++ value_text (view_of value.now)) }
@@ -163,5 +212,7 @@ pub fn push_value(text: &mut String, value: &Value) -> Result<(), AllocError>
         Value::Bool(true) => text.push_str("true"),
         Value::Bool(false) => text.push_str("false"),
         Value::Counts(counts) => push_counts(text, counts.as_slice()),
+        Value::Edges(rows) => push_edges(text, rows.rows()),
+        Value::Lattice(lattice) => push_lattice(text, lattice.ranks()),
     }
 }

@@ -4,9 +4,9 @@ use Rattle.pm_geom.specs.Things.{Orders}
 use Rattle.pm_types.specs.Things.{Thing}
 use Rattle.pm_props.specs.Properties.{facets_tag, rays_tag}
 use Rattle.pm_types.specs.Right.{Right}
-use Rattle.pm_types.specs.Values.{PropertyValue, counts, matrix, sets, truth, whole}
+use Rattle.pm_types.specs.Values.{PropertyValue, counts, edges, lattice, matrix, sets, truth, whole}
 use Rattle.pm_props.specs.declared.property.PropId.{PropId}
-use Rattle.pm_props.specs.declared.property.PropId.TheVariants.{ConeAmbientDim, Points, InputLineality, Inequalities, Equations, Vertices, LinealitySpace, Facets, AffineHull, VerticesInFacets, ConeDim, LinealityDim, CombinatorialDim, NVertices, NFacets, Feasible, Bounded, Pointed, FullDim, Centered, Simple, Simplicial, VertexSizes, FacetSizes, FarFace}
+use Rattle.pm_props.specs.declared.property.PropId.TheVariants.{ConeAmbientDim, Points, InputLineality, Inequalities, Equations, Vertices, LinealitySpace, Facets, AffineHull, VerticesInFacets, ConeDim, LinealityDim, CombinatorialDim, NVertices, NFacets, Feasible, Bounded, Pointed, FullDim, Centered, Simple, Simplicial, VertexSizes, FacetSizes, FarFace, HasseDiagram, FVector, F2Vector, HVector, Graph, DualGraph, Diameter, DualDiameter, NEdges, NRidges, VertexDegrees}
 use Rattle.std.proofs.Common.{false, inl, inr, subst, sym, true, true≢false}
 use Rattle.std.specs.Prelude.{List, ◌≡◌, ◌⊎◌}
 
@@ -47,4 +47,15 @@ right_in_orders Simplicial (truth b) t o o' c a h = h
 right_in_orders VertexSizes (counts ks) t o o' c a h = subst (λ V. Right VertexSizes (counts ks) t (record o' { rays = V }) c) (tagged a.rays) h
 right_in_orders FacetSizes (counts ks) t o o' c a h = subst (λ F. Right FacetSizes (counts ks) t (record o' { facets = F }) c) (tagged a.facets) h
 right_in_orders FarFace (counts ks) t o o' c a h = subst (λ V. Right FarFace (counts ks) t (record o' { rays = V }) c) (tagged a.rays) h
+right_in_orders HasseDiagram (lattice ranks) t o o' c a h = subst (λ V. Right HasseDiagram (lattice ranks) t (record o' { rays = V }) c) (tagged a.rays) h
+right_in_orders FVector (counts ks) t o o' c a h = h
+right_in_orders F2Vector (matrix n rows) t o o' c a h = h
+right_in_orders HVector (counts ks) t o o' c a h = h
+right_in_orders Graph (edges rows) t o o' c a h = subst (λ V. Right Graph (edges rows) t (record o' { rays = V }) c) (tagged a.rays) h
+right_in_orders DualGraph (edges rows) t o o' c a h = subst (λ F. Right DualGraph (edges rows) t (record o' { facets = F }) c) (tagged a.facets) h
+right_in_orders Diameter (whole k) t o o' c a h = h
+right_in_orders DualDiameter (whole k) t o o' c a h = h
+right_in_orders NEdges (whole k) t o o' c a h = h
+right_in_orders NRidges (whole k) t o o' c a h = h
+right_in_orders VertexDegrees (counts ks) t o o' c a h = subst (λ V. Right VertexDegrees (counts ks) t (record o' { rays = V }) c) (tagged a.rays) h
 right_in_orders p v t o o' c a h = absurd h

@@ -1,14 +1,15 @@
 -- Which values have the form of their property.
 use Rattle.std.specs.Prelude.{ℕ, zero, suc, ◌||◌, ◌&&◌, ◌^◌, Bool, true, false, not, IsTrue, List, [], ◌∷◌, length, nat_eq, nat_le, nat_lt, if◌then◌else◌}
-use Rattle.std.specs.List.{All, list_all}
+use Rattle.std.specs.List.{All, list_all, slice_index_or, sum_by}
 use Rattle.pm_algebra.specs.Numbers.{Ratio}
 use Rattle.pm_props.specs.declared.object_type.ObjectType.{ObjectType}
 use Rattle.pm_props.specs.declared.object_type.ObjectType.TheVariants.{Polytope}
+use Rattle.pm_geom.specs.Graphs.{holds}
 use Rattle.pm_matrix.specs.FractionRows.{IsLeastDenominator}
 use Rattle.pm_matrix.specs.Matrices.{IsFraction}
 use Rattle.pm_matrix.specs.Wideness.{DenominatorsStay, NumeratorsStay}
-use Rattle.pm_props.specs.Properties.{is_ambient, is_columned, is_of_matrices, is_of_sets, is_of_counts, is_of_truth_values, is_of_whole_numbers, row, value_kind}
-use Rattle.pm_types.specs.Values.{PropertyValue, matrix, sets, whole, truth, counts}
+use Rattle.pm_props.specs.Properties.{is_ambient, is_columned, is_of_matrices, is_of_sets, is_of_counts, is_of_edges, is_of_lattices, is_of_truth_values, is_of_whole_numbers, row, value_kind}
+use Rattle.pm_types.specs.Values.{PropertyValue, matrix, sets, whole, truth, counts, edges, lattice}
 use Rattle.pm_props.specs.declared.property.PropId.{PropId}
 use Rattle.pm_props.specs.declared.property.RowTest.{RowTest}
 use Rattle.pm_props.specs.declared.property.RowTest.TheVariants as test
@@ -51,13 +52,36 @@ is_whole_form p k = if is_ambient p then is_dimension k else is_of_whole_numbers
 abbrev pub is_counts_form : List ℤ → Bool
 is_counts_form ks = nat_le (length ks) 2048 && list_all has_64_bits ks
 
--- the value has the form of a value of p, and keeps the limits: a matrix has at most 2,048 rows of one length from 1 to 33, and without rows it may state no column count, 0; at most 2,048 sets, each ascending, of indices below a column count of at most 2,048; at most 2,048 counts; values of further kinds have no form yet
+-- j is another node, and has i as its neighbour
+abbrev pub joins : List (List ℕ) → ℕ → ℕ → Bool
+joins rows i j = not (nat_eq j i) && holds (slice_index_or rows j []) i
+
+-- the node i is no neighbour of its own, and a neighbour of each of its neighbours
+abbrev pub is_joined_back : List (List ℕ) → ℕ → List ℕ → Bool
+is_joined_back rows i row = list_all (joins rows i) row
+
+-- so is each node from i on
+abbrev pub are_joined_back : List (List ℕ) → ℕ → List (List ℕ) → Bool
+are_joined_back rows i [] = true
+are_joined_back rows i (row ∷ others) = is_joined_back rows i row && are_joined_back rows (suc i) others
+
+-- at most 2,048 nodes, each with ascending neighbours, and neighbours of one another
+abbrev pub is_edges_form : List (List ℕ) → Bool
+is_edges_form rows = is_sets_form rows (length rows) && are_joined_back rows 0 rows
+
+-- at most 65,536 faces with at most 4,000,000 indices in all, each ascending, below 2,048
+abbrev pub is_lattice_form : List (List (List ℕ)) → Bool
+is_lattice_form ranks = nat_le (sum_by length ranks) 65536 && nat_le (sum_by (sum_by length) ranks) 4000000 && list_all (list_all (are_indices 2048 0)) ranks
+
+-- the value has the form of a value of p, and keeps the limits: a matrix has at most 2,048 rows of one length from 1 to 33, and without rows it may state no column count, 0; at most 2,048 sets, each ascending, of indices below a column count of at most 2,048; at most 2,048 counts; edges and lattices as above; extended numbers have no form yet
 abbrev pub is_formed : PropId → PropertyValue → Bool
 is_formed p (matrix n rows) = is_of_matrices (value_kind p) && is_matrix_form n rows
 is_formed p (sets rows n) = is_of_sets (value_kind p) && is_sets_form rows n
 is_formed p (whole k) = is_whole_form p k
 is_formed p (truth b) = is_of_truth_values (value_kind p)
 is_formed p (counts ks) = is_of_counts (value_kind p) && is_counts_form ks
+is_formed p (edges rows) = is_of_edges (value_kind p) && is_edges_form rows
+is_formed p (lattice ranks) = is_of_lattices (value_kind p) && is_lattice_form ranks
 is_formed p v = false
 
 -- ---- columns

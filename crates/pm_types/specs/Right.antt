@@ -1,21 +1,25 @@
 -- When a value of a property is right for a thing t with orders o. Each property has one line of `Right`; c is the objective of the program that a value belongs to.
 -- A half alone is right where the pair's line would make it so: what generates lies inside, what cuts out is valid.
-use Rattle.std.specs.Prelude.{ℕ, zero, suc, ◌+◌, ◌≡◌, ◌<◌, ◌↔◌, IsTrue, Option, None, Some, List, [], ◌∷◌, ◌++◌, length, map}
-use Rattle.std.specs.List.{All, AllPairs, Contains}
+use Rattle.std.specs.Prelude.{ℕ, zero, suc, ◌+◌, ◌≡◌, ◌<◌, ◌↔◌, IsTrue, Option, None, Some, List, [], ◌∷◌, ◌++◌, if◌then◌else◌, length, map}
+use Rattle.std.specs.List.{All, AllPairs, Contains, list_all}
 use Rattle.pm_algebra.specs.Numbers.{Ratio}
 use Rattle.pm_algebra.specs.Rows.{Row, entry, dot, HasCols, IsZero, Stands}
 use Rattle.pm_algebra.specs.Cones.{InCone, InSpan, IsIndependent}
 use Rattle.pm_bases.specs.Bases.{IsRank}
 use Rattle.pm_geom.specs.Cones.{CutOut, IsValid, Vanishes, InLineality, SameModulo}
+use Rattle.pm_geom.specs.FaceCounts.{IsHasseDiagram, f2_of, f_of, h_of}
 use Rattle.pm_geom.specs.Faces.{ray}
+use Rattle.pm_geom.specs.Graphs.{IsDiameter, IsEdge, IsGraph, IsRidge, edge_count}
 use Rattle.pm_types.specs.Things.{Thing, IsThing, AreOrders}
 use Rattle.pm_geom.specs.Things.{Orders}
 use Rattle.pm_props.specs.declared.object_type.ObjectType.{ObjectType}
 use Rattle.pm_props.specs.declared.object_type.ObjectType.TheVariants.{Polytope, Cone, Fan}
-use Rattle.pm_types.specs.Values.{PropertyValue, matrix, sets, whole, truth, counts, Fact}
+use Rattle.pm_types.specs.Forms.{has_64_bits}
+use Rattle.pm_types.specs.Values.{PropertyValue, matrix, sets, whole, truth, counts, edges, lattice, Fact}
+use Rattle.pm_types.specs.Views.{over_one}
 use Rattle.pm_props.specs.declared.property.PropId.{PropId}
-use Rattle.pm_props.specs.declared.property.PropId.TheVariants.{ConeAmbientDim, Points, InputLineality, Inequalities, Equations, Vertices, LinealitySpace, Facets, AffineHull, VerticesInFacets, ConeDim, LinealityDim, CombinatorialDim, NVertices, NFacets, Feasible, Bounded, Pointed, FullDim, Centered, Simple, Simplicial, VertexSizes, FacetSizes, FarFace}
-use lib.IntN.{ℤ, pos, ◌-ℤ◌}
+use Rattle.pm_props.specs.declared.property.PropId.TheVariants.{ConeAmbientDim, Points, InputLineality, Inequalities, Equations, Vertices, LinealitySpace, Facets, AffineHull, VerticesInFacets, ConeDim, LinealityDim, CombinatorialDim, NVertices, NFacets, Feasible, Bounded, Pointed, FullDim, Centered, Simple, Simplicial, VertexSizes, FacetSizes, FarFace, HasseDiagram, FVector, F2Vector, HVector, Graph, DualGraph, Diameter, DualDiameter, NEdges, NRidges, VertexDegrees}
+use lib.IntN.{ℤ, pos, negsuc, ◌-ℤ◌}
 use lib.Signed.{◌<ℤ◌, ◌≤ℤ◌}
 
 -- x is in the cone of a cone or polytope
@@ -171,6 +175,49 @@ pub record IsSimplicial (t : Thing) (p : Orders) : Type 0 where
   pub dim : IsCombinatorialDim t d
   pub sizes : All (λ a. pos (tight p.rays a) ≡ d) p.facets
 
+-- ---- faces and graphs (Ziegler, sections 2.2, 3.2 and 8.3)
+-- the places of rays that are faces of the thing, by rank
+abbrev pub AreFaces : Thing → List Row → List (List (List ℕ)) → Type 0
+AreFaces t V ranks = IsHasseDiagram t.cols t.generators t.lines V ranks
+
+-- the graph of the rays: two are joined where they make an edge
+abbrev pub IsRayGraph : Thing → List Row → List (List ℕ) → Type 0
+IsRayGraph t V rows = IsGraph (length V) (IsEdge t.cols t.generators t.lines V) rows
+
+-- the graph of the facets: two are joined where they meet in a ridge
+abbrev pub IsFacetGraph : Thing → List Row → List Row → List (List ℕ) → Type 0
+IsFacetGraph t V F rows = IsGraph (length F) (IsRidge t.cols t.generators t.lines V F) rows
+
+-- these are numbers of the faces, which are so many in every order of the rays
+pub record IsOfFaces (t : Thing) (IsNumberOf : List (List (List ℕ)) → Type 0) : Type 0 where
+  pub orders : Orders
+  pub are_orders : AreOrders t orders
+  pub ranks : List (List (List ℕ))
+  pub faces : AreFaces t orders.rays ranks
+  pub number : IsNumberOf ranks
+
+-- the f-vector: how many faces each rank has, but the least face and the whole
+abbrev pub IsFVector : Thing → List ℤ → Type 0
+IsFVector t f = IsOfFaces t (λ ranks. f ≡ map pos (f_of ranks))
+
+-- the h-vector by the f-vector f in dimension d; it is empty where d is -1, and where one of its numbers has more than 64 bits
+abbrev pub h_vector_of : List ℤ → ℤ → List ℤ
+h_vector_of f (pos d) = if list_all has_64_bits (h_of f d) then h_of f d else []
+h_vector_of f (negsuc d) = []
+
+pub record IsHVector (t : Thing) (h : List ℤ) : Type 0 where
+  pub f : List ℤ
+  pub d : ℤ
+  pub faces : IsFVector t f
+  pub dim : IsCombinatorialDim t d
+  pub numbers : h ≡ h_vector_of f d
+
+-- this is so of the thing in some orders, and so in all
+pub record InSomeOrders (t : Thing) (P : Orders → Type 0) : Type 0 where
+  pub orders : Orders
+  pub are_orders : AreOrders t orders
+  pub holds : P orders
+
 -- the value v of the property p is right; a value of another form is never right
 abbrev pub Right : PropId → PropertyValue → Thing → Orders → List Ratio → Type 0
 Right ConeAmbientDim (whole k) t o c = k ≡ pos t.cols
@@ -198,6 +245,17 @@ Right Simplicial (truth b) t o c = ¬ (t.of ≡ Fan) × ((p : Orders) → AreOrd
 Right VertexSizes (counts ks) t o c = (p : Orders) → AreOrders t p → ks ≡ map (λ v. pos (vanishing p.facets v)) o.rays
 Right FacetSizes (counts ks) t o c = (p : Orders) → AreOrders t p → ks ≡ map (λ a. pos (tight p.rays a)) o.facets
 Right FarFace (counts ks) t o c = AreFarPlaces o.rays ks
+Right HasseDiagram (lattice ranks) t o c = AreFaces t o.rays ranks
+Right FVector (counts ks) t o c = IsFVector t ks
+Right F2Vector (matrix n rows) t o c = IsOfFaces t (λ ranks. rows ≡ map (map (λ k. over_one (pos k))) (f2_of ranks))
+Right HVector (counts ks) t o c = IsHVector t ks
+Right Graph (edges rows) t o c = IsRayGraph t o.rays rows
+Right DualGraph (edges rows) t o c = InSomeOrders t (λ p. IsFacetGraph t p.rays o.facets rows)
+Right Diameter (whole k) t o c = InSomeOrders t (λ p. (m : ℕ) × (k ≡ pos m) × IsDiameter (length p.rays) (IsEdge t.cols t.generators t.lines p.rays) m)
+Right DualDiameter (whole k) t o c = InSomeOrders t (λ p. (m : ℕ) × (k ≡ pos m) × IsDiameter (length p.facets) (IsRidge t.cols t.generators t.lines p.rays p.facets) m)
+Right NEdges (whole k) t o c = InSomeOrders t (λ p. (rows : List (List ℕ)) × IsRayGraph t p.rays rows × (k ≡ pos (edge_count rows)))
+Right NRidges (whole k) t o c = InSomeOrders t (λ p. (rows : List (List ℕ)) × IsFacetGraph t p.rays p.facets rows × (k ≡ pos (edge_count rows)))
+Right VertexDegrees (counts ks) t o c = (rows : List (List ℕ)) × IsRayGraph t o.rays rows × (ks ≡ map (λ row. pos (length row)) rows)
 Right p v t o c = ⊥
 
 abbrev pub objective_of : Thing → Option ℕ → List Ratio

@@ -2,7 +2,7 @@
 use Rattle.std.specs.Prelude.{List, map}
 use Rattle.pm_algebra.specs.Numbers.{Ratio}
 use Rattle.pm_algebra.specs.Rows.{Row}
-use Rattle.pm_types.specs.Values.{PropertyValue, matrix, sets, whole, truth, counts}
+use Rattle.pm_types.specs.Values.{PropertyValue, matrix, sets, whole, truth, counts, edges, lattice}
 use Rattle.pm_types.specs.declared.value.Value.{Value}
 use Rattle.pm_types.specs.declared.value.Value.TheVariants as value
 use lib.IntN.{ℤ, pos}
@@ -22,3 +22,5 @@ view_of (value.Sets s) = sets s.rows s.cols
 view_of (value.Int k) = whole k
 view_of (value.Bool b) = truth b
 view_of (value.Counts c) = counts c
+view_of (value.Edges s) = edges s.rows
+view_of (value.Lattice l) = lattice l

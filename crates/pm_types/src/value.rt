@@ -4,6 +4,7 @@ ghost use Rattle.pm_types.specs.Values.{IndexSets};
 ghost use Rattle.pm_types.specs.Views.{view_of};
 ghost use Rattle.std.specs.Prelude.{IfOk, List, OnErr, OnOk, [], length, map, ℕ, ◌++◌, ◌∷◌, ◌≡◌};
 
+use crate::lattice::Lattice;
 use pm_geom::copy_sets;
 use pm_matrix::Matrix;
 use std::alloc::{AllocError, Global};
@@ -111,6 +112,10 @@ pub enum Value {
     Bool(bool),
     /// Whole numbers, one for each place of a list.
     Counts(Counts),
+    /// For each node of a graph its neighbours. The column count is the number of nodes.
+    Edges(Sets),
+    /// For each rank the faces of that rank.
+    Lattice(Lattice),
 }
 
 impl Value {
@@ -124,6 +129,8 @@ impl Value {
             Value::Int(k) => Ok(Value::Int(*k)),
             Value::Bool(b) => Ok(Value::Bool(*b)),
             Value::Counts(counts) => Ok(Value::Counts(counts.copy(alloc)?)),
+            Value::Edges(rows) => Ok(Value::Edges(rows.copy(alloc)?)),
+            Value::Lattice(lattice) => Ok(Value::Lattice(lattice.copy(alloc)?)),
         }
     }
 }
