@@ -1,11 +1,12 @@
 -- The definitions of starts and of row lists read on small lists: what holds of them, and what does not.
-use Rattle.pm_client.specs.Sound.{AreEnlarging, AreParts, ArePartsOf, AreRowsOf, AreSetsOf, IsCrowdedThinning, IsDeterminingList, IsDoubleListOf, IsEliminated, IsFlatBasisAndRow, IsFlatList, IsWideForSets, added_rows, are_parts, are_told, determining_rows, double_list, doubles, eliminated_by, enlarging_rows, fail_of, fail_of_double, fail_of_thin, first_part, flat_basis_and_row, flat_rows, row_list, sets_of_rows, takes_sets, thins}
+use Rattle.pm_client.specs.Sound.{AreEnlarging, AreParts, ArePartsOf, AreRowsOf, AreSetsOf, IsCrowdedLattice, IsCrowdedThinning, IsDeterminingList, IsDoubleListOf, IsEliminated, IsFlatBasisAndRow, IsFlatList, IsWideForSets, added_rows, are_parts, are_told, determining_rows, double_list, doubles, eliminated_by, enlarging_rows, fail_of, fail_of_double, fail_of_lattice, fail_of_thin, first_part, flat_basis_and_row, flat_rows, row_list, sets_of_rows, takes_sets, thins}
 use Rattle.pm_props.specs.Properties.{is_generator, is_half_space}
 use Rattle.pm_client.specs.Starts.{Clients, after_start, has_client, kind_at, next_count, place_in, same_kind, started_once}
 use Rattle.pm_client.specs.declared.ClientFail.TheVariants as fail
 use Rattle.pm_dd.specs.declared.fails.DdFail.TheVariants as double
 use Rattle.pm_elim.specs.declared.evidence.ElimFail.TheVariants as elimination
 use Rattle.pm_incidence.specs.declared.fails.ThinFail.TheVariants as thinning
+use Rattle.pm_lattice.specs.declared.lattice.LatticeFail.TheVariants as closing
 use Rattle.pm_props.specs.declared.object_type.ObjectType.TheVariants.{Cone, Polytope}
 use Rattle.pm_algebra.specs.Rows.{Row}
 use Rattle.pm_object.specs.Reading.{ViewSeen}
@@ -169,6 +170,7 @@ pub record ThinningIsRead : Type 0 where
   -- a client of another name has no such evidence
   pub not_wide : ¬ (IsWideForSets no_points (single 1) (single 1))
   pub not_crowded : ¬ (IsCrowdedThinning no_points [])
+  pub not_crowded_lattice : ¬ (IsCrowdedLattice no_points [])
   -- what clients eliminate, by their names
   pub thinning_client : thins (codes "thin_points_f") ≡ true
   pub not_thinning : thins (codes "thin_points_lp") ≡ false
@@ -177,3 +179,4 @@ pub record ThinningIsRead : Type 0 where
   pub of_thinning : eliminated_by (codes "thin_inequalities_v") ≡ flat_rows ∷ flat_basis_and_row ∷ []
   pub of_sets : eliminated_by (codes "vertices_from_sets") ≡ row_list ∷ determining_rows ∷ []
   pub memory : fail_of_thin thinning.Memory ≡ fail.Memory
+  pub memory_of_lattices : fail_of_lattice closing.Memory ≡ fail.Memory

@@ -11,6 +11,8 @@ use Rattle.pm_incidence.specs.declared.fails.IncFail.{IncFail}
 use Rattle.pm_incidence.specs.declared.fails.IncFail.TheVariants as incidence
 use Rattle.pm_incidence.specs.declared.fails.ThinFail.{ThinFail}
 use Rattle.pm_incidence.specs.declared.fails.ThinFail.TheVariants as thinning
+use Rattle.pm_lattice.specs.declared.lattice.LatticeFail.{LatticeFail}
+use Rattle.pm_lattice.specs.declared.lattice.LatticeFail.TheVariants as closing
 use Rattle.pm_incidence.specs.FromSets.{IsDetermining, IsWideSign, turned}
 use Rattle.pm_incidence.specs.Thinning.{AreManyFacets, IsBasisAndRow, flat_group}
 use Rattle.pm_elim.specs.EliminationSteps.{EliminationStep}
@@ -19,13 +21,15 @@ use Rattle.pm_elim.specs.Evidence.{IsEvidence, unit}
 use Rattle.pm_elim.specs.declared.evidence.ElimFail.{ElimFail}
 use Rattle.pm_elim.specs.declared.evidence.ElimFail.TheVariants as elimination
 use Rattle.pm_geom.specs.Evidence.{IsWideProduct}
+use Rattle.pm_geom.specs.Graphs.{sets_of}
+use Rattle.pm_geom.specs.Meets.{AreTooManyMeets}
 use Rattle.pm_geom.specs.RayEvidence.{IsCrowded, IsWidePair}
 use Rattle.pm_geom.specs.StatedOrder.{rows_marked}
 use Rattle.pm_hull.specs.HullRefusals.{IsDoubleList}
 use Rattle.pm_props.specs.declared.object_type.ObjectType.{ObjectType}
 use Rattle.pm_props.specs.declared.object_type.ObjectType.TheVariants.{Polytope}
 use Rattle.pm_geom.specs.declared.evidence.Evidence.{Evidence}
-use Rattle.pm_geom.specs.declared.evidence.Evidence.TheVariants.{E1, E2, E4, E5Rays, E5Rows}
+use Rattle.pm_geom.specs.declared.evidence.Evidence.TheVariants.{E1, E2, E4, E5Faces, E5Rays, E5Rows}
 use Rattle.pm_matrix.specs.FractionRows.{ArePrimitiveRowsOf}
 use Rattle.pm_object.specs.Reading.{DraftSeen, ViewSeen, answer_of, fact_of}
 use Rattle.pm_types.specs.Runs.{MayAnswer}
@@ -279,13 +283,21 @@ pub record IsCrowdedThinning (v : ViewSeen) (places : List ℕ) : Type 0 where
   pub reads_inequalities : AreRowsOf v Inequalities inequalities
   pub shown : AreManyFacets v.of v.cols inequalities equations places
 
--- the evidence holds of the view: a step of an elimination leaves the range, or one with two extreme rays; a front has too many of these, or a thing too many facets; or the product of a generator's row with a half-space's row leaves the range, or of a row that a set determines with one that was read. Evidence of another kind holds of no view so far
+-- the client closes the sets of VERTICES_IN_FACETS, and of these there are more meets, or more places in them, than a lattice may have
+pub record IsCrowdedLattice (v : ViewSeen) (faces : List (List ℕ)) : Type 0 where
+  pub named : IsTrue (bytes_eq v.kind.name (codes "faces"))
+  pub index : IndexSets
+  pub reads : fact_of VerticesInFacets v.facts ≡ Some (sets index.rows index.cols)
+  pub shown : AreTooManyMeets index.cols (sets_of index.rows) faces
+
+-- the evidence holds of the view: a step of an elimination leaves the range, or one with two extreme rays; a front has too many of these, or a thing too many facets or faces; or the product of a generator's row with a half-space's row leaves the range, or of a row that a set determines with one that was read. Evidence of another kind holds of no view so far
 abbrev pub HoldsOf : Evidence → ViewSeen → Type 0
 HoldsOf (E1 e) v = IsWideElimination v e
 HoldsOf (E2 front first second column) v = IsWideDoubling v front first second column
 HoldsOf (E4 first second) v = AreWideRows v first second ⊎ IsWideForSets v first second
 HoldsOf (E5Rays front rays) v = IsCrowdedDoubling v front rays
 HoldsOf (E5Rows places) v = IsCrowdedThinning v places
+HoldsOf (E5Faces faces) v = IsCrowdedLattice v faces
 HoldsOf e v = ⊥
 
 -- the draft has a value for each target of the view's kind, in its form and canonical, and they are right wherever what was read is
@@ -318,3 +330,8 @@ abbrev pub fail_of_thin : ThinFail → ClientFail
 fail_of_thin (thinning.Wide e) = Failed e
 fail_of_thin (thinning.Many e) = Failed e
 fail_of_thin thinning.Memory = Memory
+
+-- the failure of a client whose closing of sets was given up
+abbrev pub fail_of_lattice : LatticeFail → ClientFail
+fail_of_lattice (closing.Many e) = Failed e
+fail_of_lattice closing.Memory = Memory

@@ -10,6 +10,7 @@ use pm_elim::ElimFail;
 use pm_geom::Evidence;
 use pm_hull::DdFail;
 use pm_incidence::{IncFail, ThinFail};
+use pm_lattice::LatticeFail;
 use pm_object::{Draft, View};
 use pm_types::Kind;
 use std::alloc::{AllocError, AllocFailed, Global};
@@ -87,6 +88,20 @@ impl From<ThinFail> for ClientFail {
             ThinFail::Wide(evidence) => ClientFail::Failed(evidence),
             ThinFail::Many(evidence) => ClientFail::Failed(evidence),
             ThinFail::Memory => ClientFail::Memory,
+        }
+    }
+}
+
+impl From<LatticeFail> for ClientFail {
+    ghost use Rattle.pm_client.specs.Sound.{fail_of_lattice};
+    ghost use Rattle.std.specs.Prelude.{◌≡◌};
+
+    ghost from_gives = { λ f e. e ≡ fail_of_lattice f };
+
+    fn from(fail: LatticeFail) -> ClientFail {
+        match fail {
+            LatticeFail::Many(evidence) => ClientFail::Failed(evidence),
+            LatticeFail::Memory => ClientFail::Memory,
         }
     }
 }
