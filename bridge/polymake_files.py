@@ -50,6 +50,8 @@ def why_left(member, items, attached):
         return "linear programs are not taken"
     if member.key not in items:
         return "no property that this program takes"
+    if not items[member.key].is_of_polymake:
+        return "polymake has it in another form"
     return "it is undefined in the file" if member.value is None else None
 
 
@@ -137,6 +139,13 @@ def check_halves(thing):
             raise Refusal(None, f"{told} is all that there is to polymake: show both")
 
 
+def leave_out_foreign(thing, notes):
+    """Leaves out what polymake's files do not hold in this form."""
+    for item in PROPERTIES:
+        if not item.is_of_polymake and thing.values.pop(item.polytope, None) is not None:
+            notes.tell(1, f"{item.name(thing.type_name)}: polymake has it in another form: left out")
+
+
 def polymake_text(thing):
     """A data file that polymake loads."""
     check_halves(thing)
@@ -152,7 +161,8 @@ def polymake_text(thing):
             )
         if item.polytope == "INEQUALITIES":
             value = with_far_row(thing, value)
-        held[name] = written(item.kind, value, thing.columns)
+        columns = thing.columns if item.polytope in COLUMNED else None
+        held[name] = written(item.kind, value, columns)
     return compact(held) + "\n"
 
 
@@ -194,4 +204,5 @@ def to_polymake(options, text, notes):
     if thing.is_said_empty() and "CENTERED" in thing.values:
         del thing.values["CENTERED"]
         notes.tell(1, f"CENTERED: {OF_THE_EMPTY['CENTERED']}: left out")
+    leave_out_foreign(thing, notes)
     return polymake_text(thing)

@@ -12,15 +12,21 @@ class Kind(Enum):
     COUNTS = "list of numbers"
     WHOLE = "whole number"
     TRUTH = "truth value"
+    EDGES = "edges"
+    LATTICE = "lattice"
 
 
 @dataclass(frozen=True)
 class Property:
-    """A property: its names of polytopes and of cones, None where they do not have it."""
+    """A property: its names of polytopes and of cones, None where they do not have it.
+
+    Of some properties polymake's files hold no value in this form.
+    """
 
     polytope: str
     cone: str | None
     kind: Kind
+    is_of_polymake: bool = True
 
     def name(self, type_name):
         return self.cone if type_name == "Cone" else self.polytope
@@ -29,6 +35,11 @@ class Property:
 def same(name, kind):
     """A property of one name."""
     return Property(name, name, kind)
+
+
+def here(name, kind):
+    """A property of one name, whose values polymake's files do not hold in this form."""
+    return Property(name, name, kind, is_of_polymake=False)
 
 
 PROPERTIES = (
@@ -56,6 +67,17 @@ PROPERTIES = (
     same("SIMPLICIAL", Kind.TRUTH),
     Property("VERTEX_SIZES", "RAY_SIZES", Kind.COUNTS),
     same("FACET_SIZES", Kind.COUNTS),
+    here("HASSE_DIAGRAM", Kind.LATTICE),
+    same("F_VECTOR", Kind.COUNTS),
+    same("F2_VECTOR", Kind.MATRIX),
+    Property("H_VECTOR", None, Kind.COUNTS),
+    here("GRAPH", Kind.EDGES),
+    here("DUAL_GRAPH", Kind.EDGES),
+    here("DIAMETER", Kind.WHOLE),
+    here("DUAL_DIAMETER", Kind.WHOLE),
+    here("N_EDGES", Kind.WHOLE),
+    here("N_RIDGES", Kind.WHOLE),
+    Property("VERTEX_DEGREES", "RAY_DEGREES", Kind.COUNTS, is_of_polymake=False),
     Property("FAR_FACE", None, Kind.COUNTS),
 )
 
@@ -79,7 +101,8 @@ def by_name(type_name):
 class Thing:
     """A polytope or a cone by values: of each first name of a property its value.
 
-    A matrix is a list of rows of fractions, sets are a pair of their rows and the column count.
+    A matrix is a list of rows of fractions, sets are a pair of their rows and the column count, edges
+    are for each node the list of its neighbours, a lattice is for each rank the list of its faces.
     """
 
     type_name: str

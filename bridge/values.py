@@ -136,6 +136,27 @@ def read_counts(value):
     return [whole_of(it) for it in value]
 
 
+def list_of(read, value):
+    """A list whose elements are read so."""
+    if not isinstance(value, list):
+        raise Fault("no list")
+    return [read(it) for it in value]
+
+
+def read_edges(value):
+    """For each node its neighbours, each of them another node."""
+    nodes = list_of(lambda it: read_set(it, None), value)
+    for node, row in enumerate(nodes):
+        if any(it >= len(nodes) or it == node or node not in nodes[it] for it in row):
+            raise Fault("a neighbour that is no node, the node itself, or not joined back", node)
+    return nodes
+
+
+def read_lattice(value):
+    """For each rank its faces, as sets of indices."""
+    return list_of(lambda rank: list_of(lambda it: read_set(it, None), rank), value)
+
+
 def read_truth(value):
     if not isinstance(value, bool):
         raise Fault("neither true nor false")
@@ -147,6 +168,8 @@ READ = {
     Kind.COUNTS: read_counts,
     Kind.WHOLE: whole_of,
     Kind.TRUTH: read_truth,
+    Kind.EDGES: read_edges,
+    Kind.LATTICE: read_lattice,
 }
 
 
@@ -158,7 +181,7 @@ def put_value(thing, item, value):
             agree(thing, thing.values[item.polytope])
         return
     rows, columns = read_matrix(value)
-    if columns is not None:
+    if columns is not None and item.polytope != "F2_VECTOR":
         agree(thing, columns)
     thing.values[item.polytope] = rows
 

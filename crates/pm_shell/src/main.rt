@@ -13,7 +13,9 @@ mod tests;
 
 use pm_client::{Client, Numbered};
 use pm_clients_comb::SetsClient;
+use pm_clients_faces::FaceClient;
 use pm_clients_geom::{DimClient, HullClient, RowsClient, SizeClient, TestClient, ThinClient};
+use pm_clients_graph::GraphClient;
 use pm_store::{DirStore, StdSink, StdSource};
 use run::polymake;
 use status::Status;
@@ -99,6 +101,22 @@ fn main(rt: HostRuntime) -> ExitCode {
     }
     for k in 0..SetsClient::COUNT {
         let Ok(client) = Box::new(alloc, SetsClient::new(k)) else {
+            return ExitCode::from(Status::OutOfMemory.number());
+        };
+        if clients.push(client).is_err() {
+            return ExitCode::from(Status::OutOfMemory.number());
+        }
+    }
+    for k in 0..FaceClient::COUNT {
+        let Ok(client) = Box::new(alloc, FaceClient::new(k)) else {
+            return ExitCode::from(Status::OutOfMemory.number());
+        };
+        if clients.push(client).is_err() {
+            return ExitCode::from(Status::OutOfMemory.number());
+        }
+    }
+    for k in 0..GraphClient::COUNT {
+        let Ok(client) = Box::new(alloc, GraphClient::new(k)) else {
             return ExitCode::from(Status::OutOfMemory.number());
         };
         if clients.push(client).is_err() {
