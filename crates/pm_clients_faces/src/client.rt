@@ -7,11 +7,10 @@ ghost use Rattle.pm_props.specs.Kinds.{standard_kind};
 ghost use Rattle.pm_props.specs.declared.standard.StandardClient.TheVariants as client;
 ghost use Rattle.std.specs.Prelude.{IfErr, OnOk, [], ◌≡◌};
 
-use crate::numbers::{f_numbers, f2_table};
+use crate::numbers::{f_numbers, f2_table, h_numbers};
 use pm_client::{
     ClientFail, Family, FamilyClient, counts_of, lattice_of, put_value, sets_of, whole_of,
 };
-use pm_graph::h_vector;
 use pm_lattice::faces;
 use pm_object::{Draft, View};
 use pm_types::{Counts, ObjectType, PropId, StandardClient, Value};
@@ -22,7 +21,7 @@ use std::alloc::Global;
 pub struct FacesFamily;
 
 /// A client that finds faces or numbers of faces: number 0 is `faces`, 1 `f_vector`, 2 `f2_vector`, 3 `h_vector`.
-/// The first fails exactly where there are more faces than a lattice may have, the others for want of memory alone.
+/// But for want of memory only the first fails, and it does so exactly where there are more faces than a lattice may have.
 /// A lattice of more than 34 ranks is that of no thing, since a thing has at most 33 columns; then numbers 1 and 2 put the
 /// empty list and the empty matrix.
 pub type FacesClient = FamilyClient<FacesFamily>;
@@ -59,9 +58,9 @@ impl Family for FacesFamily {
     ) -> Result<(), ClientFail> {
         match client {
             StandardClient::Faces => hasse_diagram(alloc, view, draft),
-            StandardClient::FVector => face_counts(alloc, view, draft),
-            StandardClient::F2Vector => face_pairs(alloc, view, draft),
-            StandardClient::HVector => h_numbers(alloc, view, draft),
+            StandardClient::FVector => f_vector(alloc, view, draft),
+            StandardClient::F2Vector => f2_vector(alloc, view, draft),
+            StandardClient::HVector => h_vector(alloc, view, draft),
             _ => unreachable!(),
         }
     }
@@ -86,7 +85,7 @@ fn hasse_diagram(alloc: Global, view: &View, draft: &mut Draft) -> Result<(), Cl
 }
 
 // F_VECTOR: how many faces each rank of HASSE_DIAGRAM has, but the first and the last.
-fn face_counts(alloc: Global, view: &View, draft: &mut Draft) -> Result<(), ClientFail>
+fn f_vector(alloc: Global, view: &View, draft: &mut Draft) -> Result<(), ClientFail>
     requires kind { view.now.kind ≡ standard_kind client.FVector }
     requires empty { draft.old ≡ record { kind = view.now.kind; values = [] } }
     ensures draft { draft.new.kind ≡ draft.old.kind }
@@ -104,7 +103,7 @@ fn face_counts(alloc: Global, view: &View, draft: &mut Draft) -> Result<(), Clie
 }
 
 // F2_VECTOR: how many pairs of faces of any two of these ranks are included in one another.
-fn face_pairs(alloc: Global, view: &View, draft: &mut Draft) -> Result<(), ClientFail>
+fn f2_vector(alloc: Global, view: &View, draft: &mut Draft) -> Result<(), ClientFail>
     requires kind { view.now.kind ≡ standard_kind client.F2Vector }
     requires empty { draft.old ≡ record { kind = view.now.kind; values = [] } }
     ensures draft { draft.new.kind ≡ draft.old.kind }
@@ -117,8 +116,8 @@ fn face_pairs(alloc: Global, view: &View, draft: &mut Draft) -> Result<(), Clien
     Ok(())
 }
 
-// H_VECTOR: the h-vector of F_VECTOR, in the dimension COMBINATORIAL_DIM.
-fn h_numbers(alloc: Global, view: &View, draft: &mut Draft) -> Result<(), ClientFail>
+// H_VECTOR: the h-vector of F_VECTOR, in the dimension COMBINATORIAL_DIM; empty where one of its numbers has more than 64 bits.
+fn h_vector(alloc: Global, view: &View, draft: &mut Draft) -> Result<(), ClientFail>
     requires kind { view.now.kind ≡ standard_kind client.HVector }
     requires empty { draft.old ≡ record { kind = view.now.kind; values = [] } }
     ensures draft { draft.new.kind ≡ draft.old.kind }
@@ -126,16 +125,11 @@ fn h_numbers(alloc: Global, view: &View, draft: &mut Draft) -> Result<(), Client
     ensures failed { IfErr result (λ e. e ≡ Memory) }
 {
     prove!(view.of() != ObjectType::Fan);
-    let counts = counts_of(view, PropId::FVector);
-    let numbers = h_vector(
+    let numbers = h_numbers(
         alloc,
-        counts.as_slice(),
+        counts_of(view, PropId::FVector),
         whole_of(view, PropId::CombinatorialDim),
     )?;
-    put_value(
-        draft,
-        PropId::HVector,
-        Value::Counts(Counts::from_vec(numbers)),
-    )?;
+    put_value(draft, PropId::HVector, Value::Counts(numbers))?;
     Ok(())
 }

@@ -1,11 +1,12 @@
-// Numbers of faces of a lattice with few ranks. One with more is that of no thing, and has none.
+// Numbers of faces of a lattice with few ranks, and h-vectors. A lattice with more ranks is that of no thing, and has no numbers.
 
 ghost use Rattle.pm_clients_faces.specs.Numbers.{f2_table, f_numbers, has_few_ranks};
-ghost use Rattle.std.specs.Prelude.{IfOk, ◌≡◌};
+ghost use Rattle.pm_graph.specs.HVectors.{AreHNumbers, HasNoHVector};
+ghost use Rattle.std.specs.Prelude.{IfOk, [], ◌≡◌};
 
-use pm_graph::{f_vector, f2_vector};
+use pm_graph::{f_vector, f2_vector, h_vector};
 use pm_matrix::Matrix;
-use pm_types::Lattice;
+use pm_types::{Counts, Lattice};
 use std::alloc::{AllocError, Global};
 
 // The most ranks that the lattice of a thing has: one more than the most columns.
@@ -38,4 +39,13 @@ pub(crate) fn f2_table(alloc: Global, lattice: &Lattice) -> Result<Matrix, Alloc
     } else {
         Ok(Matrix::new(alloc, 0))
     }
+}
+
+// The h-vector of an f-vector of that dimension. It has no entries where there is none of 64 bits.
+pub(crate) fn h_numbers(alloc: Global, counts: &Counts, dim: i64) -> Result<Counts, AllocError>
+    ensures numbers { IfOk result (AreHNumbers counts.now dim) }
+    ensures none { IfOk result (λ h. HasNoHVector counts.now dim → h ≡ []) }
+{
+    let numbers = h_vector(alloc, counts.as_slice(), dim)?;
+    Ok(Counts::from_vec(numbers))
 }
