@@ -1,0 +1,99 @@
+-- The forms of lattices, and of their numbers of faces.
+use Rattle.pm_algebra.proofs.Lists.{Among, Contains_among, here, there}
+use Rattle.pm_clients_faces.specs.Numbers.{f_numbers, has_few_ranks}
+use Rattle.pm_geom.specs.FaceCounts.{at_rank, f_of, inner}
+use Rattle.pm_geom.specs.Graphs.{IsAscending}
+use Rattle.pm_geom.specs.Meets.{AreMeetsByRank, IsSmallLattice}
+use Rattle.pm_types.specs.Forms.{are_indices, has_64_bits, is_counts_form, is_lattice_form, is_sets_form}
+use Rattle.std.proofs.Common.{arith, leb, length-take-le, ltb, refl, suc}
+use Rattle.std.proofs.lemmas.Bool.{and_from, and_parts, le-leb, leb-true, lt-ltb, ltb-true}
+use Rattle.std.proofs.lemmas.List.{length-map}
+use Rattle.std.proofs.lemmas.List.Elements.{All-cons, All-drop, All-head, All-nil, All-tail, All-take}
+use Rattle.std.proofs.lemmas.List.Sums.{get_or-le-sum_by}
+use Rattle.std.specs.List.{All, AllPairs, Contains, list_all, sum_by}
+use Rattle.std.specs.Prelude.{Bool, List, [], drop, false, if◌then◌else◌, length, map, nat_le, true, ℕ, ◌&&◌, ◌-◌, ◌<◌, ◌^◌, ◌∷◌, ◌≡◌, ◌≤◌}
+use lib.IntN.{pos}
+
+-- ---- sets of indices
+index_below : (n low : ℕ) (set : List ℕ) → are_indices n low set ≡ true → All (λ j. j < n) set
+index_below n low [] h = All-nil (λ j. j < n)
+index_below n low (j ∷ set) h =
+    let p = and_parts (leb low j && ltb j n) (are_indices n (suc j) set) h in
+    let q = and_parts (leb low j) (ltb j n) p.0 in
+    All-cons (λ i. i < n) j set (ltb-true j n q.1) (index_below n (suc j) set p.1)
+
+all_below : (n : ℕ) (rows : List (List ℕ)) → list_all (are_indices n 0) rows ≡ true → All (λ row. All (λ j. j < n) row) rows
+all_below n [] h = All-nil (λ row. All (λ j. j < n) row)
+all_below n (row ∷ rows) h =
+    let p = and_parts (are_indices n 0 row) (list_all (are_indices n 0) rows) h in
+    All-cons (λ r. All (λ j. j < n) r) row rows (index_below n 0 row p.0) (all_below n rows p.1)
+
+pub sets_below : (rows : List (List ℕ)) (n : ℕ) → is_sets_form rows n ≡ true → All (λ row. All (λ j. j < n) row) rows
+sets_below rows n form = all_below n rows (and_parts (leb (length rows) 2048 && leb n 2048) (list_all (are_indices n 0) rows) form).1
+
+few_places : (rows : List (List ℕ)) (n : ℕ) → is_sets_form rows n ≡ true → n ≤ 2048
+few_places rows n form =
+    let p = and_parts (leb (length rows) 2048 && leb n 2048) (list_all (are_indices n 0) rows) form in
+    leb-true n 2048 (and_parts (leb (length rows) 2048) (leb n 2048) p.0).1
+
+-- ---- lattices
+-- rising indices below n, from low on
+face_formed : (m n low : ℕ) (set : List ℕ) → n ≤ m → All (λ j. low ≤ j) set → All (λ j. j < n) set → AllPairs (λ i j. i < j) set → are_indices m low set ≡ true
+face_formed m n low [] l above below rises = refl
+face_formed m n low (j ∷ set) l above below rises =
+    let a : low ≤ j = All-head (λ i. low ≤ i) j set above in
+    let b : j < n = All-head (λ i. i < n) j set below in
+    and_from (leb low j && ltb j m) (are_indices m (suc j) set) (and_from (leb low j) (ltb j m) (le-leb low j a) (lt-ltb j m (omega arith)))
+    (face_formed m n (suc j) set l (λ i d k. rises 0 (suc i) d (omega arith) (omega arith)) (All-tail (λ i. i < n) j set below) (λ i k d p q. rises (suc i) (suc k) d (omega arith) (omega arith)))
+
+faces_formed : (m n : ℕ) (faces : List (List ℕ)) → n ≤ m → ((set : List ℕ) → Among set faces → IsAscending n set) → list_all (are_indices m 0) faces ≡ true
+faces_formed m n [] l h = refl
+faces_formed m n (set ∷ faces) l h =
+    let a = h set here in
+    and_from (are_indices m 0 set) (list_all (are_indices m 0) faces) (face_formed m n 0 set l (λ i d k. omega arith) a.0 a.1) (faces_formed m n faces l (λ s i. h s (there i)))
+
+ranks_formed : (m n : ℕ) (ranks : List (List (List ℕ))) → n ≤ m → ((k : ℕ) (set : List ℕ) → Contains (at_rank ranks k) set → IsAscending n set) → list_all (list_all (are_indices m 0)) ranks ≡ true
+ranks_formed m n [] l h = refl
+ranks_formed m n (faces ∷ ranks) l h =
+    and_from (list_all (are_indices m 0) faces) (list_all (list_all (are_indices m 0)) ranks) (faces_formed m n faces l (λ set i. h 0 set (Contains_among i))) (ranks_formed m n ranks l (λ k set c. h (suc k) set c))
+
+pub lattice_formed : (rows : List (List ℕ)) (n : ℕ) (sets : List (ℕ → Bool)) (ranks : List (List (List ℕ))) → is_sets_form rows n ≡ true → AreMeetsByRank n sets ranks → IsSmallLattice ranks → is_lattice_form ranks ≡ true
+lattice_formed rows n sets ranks form meets small =
+    and_from (nat_le (sum_by length ranks) 65536 && nat_le (sum_by (sum_by length) ranks) 4000000) (list_all (list_all (are_indices 2048 0)) ranks)
+    (and_from (nat_le (sum_by length ranks) 65536) (nat_le (sum_by (sum_by length) ranks) 4000000) (le-leb (sum_by length ranks) 65536 small.0) (le-leb (sum_by (sum_by length) ranks) 4000000 small.1))
+    (ranks_formed 2048 n ranks (few_places rows n form) (λ k set c. (meets.each k set c).0))
+
+-- ---- how many faces there are
+faces_few : (ranks : List (List (List ℕ))) → is_lattice_form ranks ≡ true → sum_by length ranks ≤ 65536
+faces_few ranks form =
+    let p = and_parts (nat_le (sum_by length ranks) 65536 && nat_le (sum_by (sum_by length) ranks) 4000000) (list_all (list_all (are_indices 2048 0)) ranks) form in
+    leb-true (sum_by length ranks) 65536 (and_parts (nat_le (sum_by length ranks) 65536) (nat_le (sum_by (sum_by length) ranks) 4000000) p.0).0
+
+pub inner_sizes : (ranks : List (List (List ℕ))) → is_lattice_form ranks ≡ true → All (λ faces. length faces ≤ 65536) (inner ranks)
+inner_sizes ranks form =
+    All-take (λ faces. length faces ≤ 65536) (length ranks - 2) (drop 1 ranks)
+    (All-drop (λ faces. length faces ≤ 65536) 1 ranks (λ i d below. let one = get_or-le-sum_by length ranks i d below in let all = faces_few ranks form in omega arith))
+
+inner_count : (ranks : List (List (List ℕ))) → length (inner ranks) ≡ length ranks - 2
+inner_count [] = refl
+inner_count (faces ∷ ranks) = length-take-le (length (faces ∷ ranks) - 2) ranks (omega arith)
+
+pub few_inner : (ranks : List (List (List ℕ))) → has_few_ranks ranks ≡ true → length (inner ranks) ≤ 32
+few_inner ranks few = let l = leb-true (length ranks) 34 few in let count = inner_count ranks in omega arith
+
+size_bits : (lists : List (List (List ℕ))) → All (λ faces. length faces ≤ 65536) lists → list_all has_64_bits (map pos (map length lists)) ≡ true
+size_bits [] h = refl
+size_bits (faces ∷ lists) h =
+    let l = All-head (λ fs. length fs ≤ 65536) faces lists h in
+    and_from (has_64_bits (pos (length faces))) (list_all has_64_bits (map pos (map length lists))) (lt-ltb (length faces) (2 ^ 63) (omega arith)) (size_bits lists (All-tail (λ fs. length fs ≤ 65536) faces lists h))
+
+pub f_numbers_form : (ranks : List (List (List ℕ))) → is_lattice_form ranks ≡ true → is_counts_form (f_numbers ranks) ≡ true
+f_numbers_form ranks form = by (has_few_ranks ranks) refl
+  where
+    by : (b : Bool) → has_few_ranks ranks ≡ b → is_counts_form (if b then map pos (f_of ranks) else []) ≡ true
+    by true few =
+        let count = few_inner ranks few in
+        let as_many = length-map (f_of ranks) pos in
+        let sizes = length-map (inner ranks) length in
+        and_from (nat_le (length (map pos (f_of ranks))) 2048) (list_all has_64_bits (map pos (f_of ranks))) (le-leb (length (map pos (f_of ranks))) 2048 (omega arith)) (size_bits (inner ranks) (inner_sizes ranks form))
+    by false many = refl

@@ -1,0 +1,5 @@
+use Rattle.pm_clients_faces.proofs.RightFaces.{f_vector_is_found}
+use Rattle.pm_clients_faces.proofs.law_f_vector_is_found.Goals as goal
+
+pub returns : goal.returns
+returns c = f_vector_is_found
