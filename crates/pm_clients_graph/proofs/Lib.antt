@@ -1,0 +1,6 @@
+pub mod OneSource
+pub mod EdgeForms
+pub mod Found
+pub mod Answered
+pub mod CountTurns
+pub mod Examples

@@ -1,0 +1,32 @@
+use Rattle.pm_clients_graph.proofs.OneSource.{has_alone, no_fan_reads}
+use Rattle.pm_clients_graph.proofs.client.dual_graph.Goals as goal
+use Rattle.pm_props.specs.declared.property.PropId.TheVariants.{DualGraph, VerticesInFacets}
+use Rattle.pm_props.specs.declared.object_type.ObjectType.TheVariants.{Fan}
+use Rattle.pm_clients_graph.proofs.Answered.{dual_graph_sound}
+use Rattle.pm_clients_graph.proofs.EdgeForms.{index_sets, sets_below}
+use Rattle.std.proofs.Common.{arith}
+use Rattle.std.proofs.Common.{ap, ◌∙◌, refl, rules, sym, ◌≡◌}
+
+pub prove-unreachable-requires : goal.prove-unreachable-requires
+prove-unreachable-requires c =
+    let fan : c.of.result ≡ Fan = search rules in
+    no_fan_reads c.args.view.now VerticesInFacets c.of.ensures.view (ap (λ k. k.sources) c.requires.kind) refl refl (sym c.of.ensures.value ∙ fan)
+
+pub sets_of-sets-requires-clause-source : goal.sets_of-sets-requires-clause-source
+sets_of-sets-requires-clause-source c = has_alone _ VerticesInFacets (ap (λ k. k.sources) c.requires.kind)
+
+pub dual_graph-requires-clause-below : goal.dual_graph-requires-clause-below
+dual_graph-requires-clause-below c = sets_below c.sets_of-sets.result.now.rows c.sets_of-sets.result.now.cols c.sets_of-sets.ensures.forms.formed
+
+pub dual_graph-requires-clause-few : goal.dual_graph-requires-clause-few
+dual_graph-requires-clause-few c = let few = (index_sets c.sets_of-sets.result.now.rows c.sets_of-sets.result.now.cols c.sets_of-sets.ensures.forms.formed).0 in omega arith
+
+pub put_value-requires-clause-target : goal.put_value-requires-clause-target
+put_value-requires-clause-target c = has_alone _ DualGraph (ap (λ d. d.kind.targets) c.requires.empty ∙ ap (λ k. k.targets) c.requires.kind)
+
+pub returns-clause-sound : goal.returns-clause-sound
+returns-clause-sound c =
+    let v = c.args.view.now in
+    let no_fan = no_fan_reads v VerticesInFacets c.of.ensures.view (ap (λ k. k.sources) c.requires.kind) refl refl in
+    dual_graph_sound v c.args.draft.now c.put_value.new.draft no_fan c.in_ok-graph.graph.rows c.sets_of-sets.result.now.rows c.sets_of-sets.result.now.cols c.sets_of-sets.ensures.value c.sets_of-sets.ensures.forms c.in_ok-graph.ensures.graph
+    (record { targets = ap (λ k. k.targets) c.requires.kind; empty = c.requires.empty; put = c.in_ok-put_value.ensures.ok })

@@ -1,0 +1,5 @@
+use Rattle.pm_clients_graph.proofs.Found.{graph_by_sets}
+use Rattle.pm_clients_graph.proofs.law_graph_is_found_by_sets.Goals as goal
+
+pub returns : goal.returns
+returns c = graph_by_sets

@@ -1,0 +1,4 @@
+pub mod Families
+pub mod Degrees
+pub mod Laws
+pub mod Examples
