@@ -28,8 +28,8 @@ use Rattle.std.proofs.Common.{T, ap, arith, inl, inr, refl, subst, sym, true≢f
 use Rattle.std.proofs.lemmas.Int.{by_lt_z, ints}
 use Rattle.std.specs.List.{All, Contains}
 use Rattle.std.specs.Prelude.{Bool, List, [], false, length, map, suc, true, zero, ℕ, ◌+◌, ◌++◌, ◌↔◌, ◌∷◌, ◌≡◌, ◌<◌, ◌⊎◌}
-use lib.IntN.{neg_ℤ, negsuc, pos, ℤ, ◌*ℤ◌, ◌+ℤ◌}
-use lib.Signed.{lt_z_yes, ◌<ℤ◌}
+use lib.IntN.{neg_ℤ, negsuc, pos, ℤ, ◌+ℤ◌}
+use lib.Signed.{lt_z_yes}
 
 -- ---- rows of four entries
 abbrev four : ℤ → ℤ → ℤ → ℤ → Row

@@ -24,7 +24,7 @@ use Rattle.std.proofs.lemmas.Int.{ints}
 use Rattle.std.specs.Prelude.{[], length, suc, zero, ℕ, ◌++◌, ◌↔◌, ◌∷◌, ◌≡◌}
 use lib.IntN.{pos, ℤ}
 
-whole_is : {j k : ℤ} → whole j ≡ whole k → j ≡ k
+pub whole_is : {j k : ℤ} → whole j ≡ whole k → j ≡ k
 whole_is h = cc
 
 pub none_independent : IsIndependent []
@@ -79,7 +79,7 @@ square_dimensions_are_read = record {
 }
 
 -- ---- the empty polytope
-none_spanned : IsRank [] 0
+pub none_spanned : IsRank [] 0
 none_spanned = record { basis = []; independent = none_independent; span = same_span_refl []; as_many = refl }
 
 pub empty_dimensions_are_read : EmptyDimensionsAreRead

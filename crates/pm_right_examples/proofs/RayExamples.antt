@@ -43,7 +43,7 @@ not_true n h = n (h.0 refl)
 pub not_false : {W : Type 0} → W → ¬ (IsTrue false ↔ W)
 not_false w h = true≢false (sym (h.1 w))
 
-zero_two : (a b : ℤ) → a ≡ pos 0 → b ≡ pos 0 → IsZero (a ∷ b ∷ [])
+pub zero_two : (a b : ℤ) → a ≡ pos 0 → b ≡ pos 0 → IsZero (a ∷ b ∷ [])
 zero_two a b ea eb zero = ea
 zero_two a b ea eb (suc zero) = eb
 zero_two a b ea eb (suc (suc i)) = refl

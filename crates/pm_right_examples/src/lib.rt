@@ -5,6 +5,8 @@
 ghost use Rattle.pm_right_examples.specs.BipyramidExamples.{BipyramidCountsAreRead};
 ghost use Rattle.pm_right_examples.specs.CanonicalExamples.{CanonicalLinesAreRead, CanonicalOrdersAreRead, CanonicalRowsAreRead, KindsAreFresh};
 ghost use Rattle.pm_right_examples.specs.Examples.{EmptyDimensionsAreRead, SquareDimensionsAreRead, SquareSetsAreRead};
+ghost use Rattle.pm_right_examples.specs.FaceExamples.{EmptyFacesAreRead, HVectorsAreShort, LineFacesAreRead, SegmentCountsAreRead, SegmentFacesAreRead, SquareFacesAreRead};
+ghost use Rattle.pm_right_examples.specs.GraphExamples.{BipyramidGraphsAreRead, EmptyGraphsAreRead, LineGraphsAreRead, SegmentGraphsAreRead, SegmentNumbersAreRead, SquareGraphsAreRead};
 ghost use Rattle.pm_right_examples.specs.RayExamples.{EmptyValuesAreRead, HalfLineValuesAreRead, LineDimensionsAreRead, LineIsUnbounded, SegmentsAreRead, SquareIsBounded};
 ghost use Rattle.pm_right_examples.specs.RowExamples.{BasesAreRight, FacetRowsAreRead, GeneratorsAreRead, HalfSpacesAreRead, PairsAreRead, RayRowsAreRead, RowsAreRead};
 ghost use Rattle.pm_right_examples.specs.ThingExamples.{ColumnsAreRead, ConeOrdersAreRead, FanOrdersAreRead, FanValuesAreRead, FansAreRead, ThingsAreRead};
@@ -142,4 +144,64 @@ pub fn example_cone_orders()
 /// What is right for a fan of two rays and for a line as a fan, and what is not.
 pub fn example_fan_values()
     ensures { FanValuesAreRead }
+{}
+
+/// The faces of the empty polytope and their numbers: what is right, and what is not.
+pub fn example_empty_faces()
+    ensures { EmptyFacesAreRead }
+{}
+
+/// The faces of a line in the plane and their numbers: neither of the two is counted.
+pub fn example_line_faces()
+    ensures { LineFacesAreRead }
+{}
+
+/// The faces of a segment by rank, and lists that are not all of them.
+pub fn example_segment_faces()
+    ensures { SegmentFacesAreRead }
+{}
+
+/// The f-vector, f2-vector and h-vector of a segment, and other numbers.
+pub fn example_segment_counts()
+    ensures { SegmentCountsAreRead }
+{}
+
+/// The faces of the unit square and their numbers, and a diagonal.
+pub fn example_square_faces()
+    ensures { SquareFacesAreRead }
+{}
+
+/// Which h-vectors are left out, since a number has more than 64 bits.
+pub fn example_short_h_vectors()
+    ensures { HVectorsAreShort }
+{}
+
+/// The graphs of the empty polytope have no node.
+pub fn example_empty_graphs()
+    ensures { EmptyGraphsAreRead }
+{}
+
+/// The graphs of a line have one node and no edge.
+pub fn example_line_graphs()
+    ensures { LineGraphsAreRead }
+{}
+
+/// The graphs of a segment and the degrees in them, and lists that are not these.
+pub fn example_segment_graphs()
+    ensures { SegmentGraphsAreRead }
+{}
+
+/// Diameters and numbers of edges of a segment: one, in whatever order.
+pub fn example_segment_numbers()
+    ensures { SegmentNumbersAreRead }
+{}
+
+/// The graphs of the unit square: sides, and no diagonals.
+pub fn example_square_graphs()
+    ensures { SquareGraphsAreRead }
+{}
+
+/// The graphs of a bipyramid, of rays and of facets, and the degrees in their order.
+pub fn example_bipyramid_graphs()
+    ensures { BipyramidGraphsAreRead }
 {}
