@@ -24,7 +24,7 @@ pub struct FacesFamily;
 /// But for want of memory only the first fails, and it does so exactly where there are more faces than a lattice may have.
 /// A lattice of more than 34 ranks is that of no thing, since a thing has at most 33 columns; then numbers 1 and 2 put the
 /// empty list and the empty matrix.
-pub type FacesClient = FamilyClient<FacesFamily>;
+pub type FaceClient = FamilyClient<FacesFamily>;
 
 impl Family for FacesFamily {
     ghost use Rattle.pm_client.specs.Families.{clients_of};
