@@ -110,9 +110,12 @@ fn solved(
 /// The answer of the program of a text, as a line.
 pub(crate) fn answer_line(alloc: Global, text: &str) -> Result<String, Fault> {
     let mut lines = text.lines();
-    let (Some(inequalities), Some(equations), Some(objective), None) =
-        (lines.next(), lines.next(), lines.next(), lines.next())
-    else {
+    let (Some(inequalities), Some(equations), Some(objective), None) = (
+        lines.next(),
+        lines.next(),
+        lines.next(),
+        lines.next(),
+    ) else {
         return Err(Fault::Refused);
     };
     let matrix = matrix_of(alloc, objective)?;

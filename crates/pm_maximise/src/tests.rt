@@ -16,7 +16,11 @@ fn small_programs(rt: HostRuntime) {
     assert!(answers(alloc, square, "optimal 2\n"));
     assert!(answers(alloc, "[[0,1]]\n[]\n[[0,1]]\n", "unbounded\n"));
     assert!(answers(alloc, "[[-1,1],[0,-1]]\n[]\n[[0,1]]\n", "infeasible\n"));
-    assert!(answers(alloc, "[[0,1]]\n[[\"1/2\",-1]]\n[[1,\"1/3\"]]", "optimal 7/6\n"));
+    assert!(answers(
+        alloc,
+        "[[0,1]]\n[[\"1/2\",-1]]\n[[1,\"1/3\"]]",
+        "optimal 7/6\n"
+    ));
     assert!(answer_line(alloc, "[[0,1]]\n[]\n").is_err());
     assert!(answer_line(alloc, "[[0,1]]\n[]\n[[0,1,2]]\n").is_err());
     assert!(answer_line(alloc, "[[0,1]]\n[]\n[]\n").is_err());
