@@ -48,81 +48,32 @@ fn words_after_name<R: Env + AllocGlobal>(rt: &R) -> Result<Vec<String>, Status>
     }
 }
 
+// Puts the clients of a family at the end of the list, each in a box; or ends the program for want of memory.
+macro_rules! box_all {
+    ($family:ident, $alloc:ident, $clients:ident) => {
+        for k in 0..$family::COUNT {
+            let Ok(client) = Box::new($alloc, $family::new(k)) else {
+                return ExitCode::from(Status::OutOfMemory.number());
+            };
+            if $clients.push(client).is_err() {
+                return ExitCode::from(Status::OutOfMemory.number());
+            }
+        }
+    };
+}
+
 fn main(rt: HostRuntime) -> ExitCode {
     let alloc = rt.alloc();
     let mut clients: Vec<Box<dyn Client>> = Vec::new(alloc);
-    for k in 0..HullClient::COUNT {
-        let Ok(client) = Box::new(alloc, HullClient::new(k)) else {
-            return ExitCode::from(Status::OutOfMemory.number());
-        };
-        if clients.push(client).is_err() {
-            return ExitCode::from(Status::OutOfMemory.number());
-        }
-    }
-    for k in 0..ThinClient::COUNT {
-        let Ok(client) = Box::new(alloc, ThinClient::new(k)) else {
-            return ExitCode::from(Status::OutOfMemory.number());
-        };
-        if clients.push(client).is_err() {
-            return ExitCode::from(Status::OutOfMemory.number());
-        }
-    }
-    for k in 0..RowsClient::COUNT {
-        let Ok(client) = Box::new(alloc, RowsClient::new(k)) else {
-            return ExitCode::from(Status::OutOfMemory.number());
-        };
-        if clients.push(client).is_err() {
-            return ExitCode::from(Status::OutOfMemory.number());
-        }
-    }
-    for k in 0..DimClient::COUNT {
-        let Ok(client) = Box::new(alloc, DimClient::new(k)) else {
-            return ExitCode::from(Status::OutOfMemory.number());
-        };
-        if clients.push(client).is_err() {
-            return ExitCode::from(Status::OutOfMemory.number());
-        }
-    }
-    for k in 0..SizeClient::COUNT {
-        let Ok(client) = Box::new(alloc, SizeClient::new(k)) else {
-            return ExitCode::from(Status::OutOfMemory.number());
-        };
-        if clients.push(client).is_err() {
-            return ExitCode::from(Status::OutOfMemory.number());
-        }
-    }
-    for k in 0..TestClient::COUNT {
-        let Ok(client) = Box::new(alloc, TestClient::new(k)) else {
-            return ExitCode::from(Status::OutOfMemory.number());
-        };
-        if clients.push(client).is_err() {
-            return ExitCode::from(Status::OutOfMemory.number());
-        }
-    }
-    for k in 0..SetsClient::COUNT {
-        let Ok(client) = Box::new(alloc, SetsClient::new(k)) else {
-            return ExitCode::from(Status::OutOfMemory.number());
-        };
-        if clients.push(client).is_err() {
-            return ExitCode::from(Status::OutOfMemory.number());
-        }
-    }
-    for k in 0..FaceClient::COUNT {
-        let Ok(client) = Box::new(alloc, FaceClient::new(k)) else {
-            return ExitCode::from(Status::OutOfMemory.number());
-        };
-        if clients.push(client).is_err() {
-            return ExitCode::from(Status::OutOfMemory.number());
-        }
-    }
-    for k in 0..GraphClient::COUNT {
-        let Ok(client) = Box::new(alloc, GraphClient::new(k)) else {
-            return ExitCode::from(Status::OutOfMemory.number());
-        };
-        if clients.push(client).is_err() {
-            return ExitCode::from(Status::OutOfMemory.number());
-        }
-    }
+    box_all!(HullClient, alloc, clients);
+    box_all!(ThinClient, alloc, clients);
+    box_all!(RowsClient, alloc, clients);
+    box_all!(DimClient, alloc, clients);
+    box_all!(SizeClient, alloc, clients);
+    box_all!(TestClient, alloc, clients);
+    box_all!(SetsClient, alloc, clients);
+    box_all!(FaceClient, alloc, clients);
+    box_all!(GraphClient, alloc, clients);
     let mut source = StdSource::new(rt.stdin());
     let mut sink = StdSink::new(rt.stdout());
     let mut store = DirStore::new(&rt);
