@@ -2,6 +2,7 @@
 //! no code.
 #![tactic(auto)]
 
+ghost use Rattle.pm_program_examples.specs.JsonExamples.{MatricesAreRead, NumbersAreRead};
 ghost use Rattle.pm_program_examples.specs.Examples.{ConstantProgramsAreRead, EmptyProgramsAreRead, FormsAreRead, FractionalProgramsAreRead, HalfLineProgramsAreRead, SquareDualsAreRead, SquareProgramsAreRead};
 
 /// What is right for a program on the empty polytope, and what is not.
@@ -37,4 +38,14 @@ pub fn example_fractional_programs()
 /// Which values have the forms of objectives, tables and numbers, and which have not.
 pub fn example_forms()
     ensures { FormsAreRead }
+{}
+
+/// Which JSON values are matrices with a column count and tables, and which are not.
+pub fn example_matrices()
+    ensures { MatricesAreRead }
+{}
+
+/// Which JSON values are objectives and numbers, and which are not.
+pub fn example_numbers()
+    ensures { NumbersAreRead }
 {}
