@@ -10,7 +10,7 @@ use Rattle.pm_props.specs.declared.object_type.ObjectType.TheVariants.{Cone, Fan
 use Rattle.pm_props.specs.declared.object_type.ObjectType.{ObjectType}
 use Rattle.pm_props.specs.declared.property.PropId.TheVariants.{F2Vector}
 use Rattle.pm_relations.proofs.WholeRows.{ratios_rows_fractions, ratios_rows_of_entries, ratios_rows_primitive}
-use Rattle.pm_types.specs.Forms.{FormsIn, is_column_count, is_lattice_form, is_row, is_row_of_entries}
+use Rattle.pm_types.specs.Forms.{FormsIn, is_lattice_form, is_row, is_row_of_entries}
 use Rattle.pm_types.specs.Runs.{states_rows}
 use Rattle.pm_types.specs.Values.{matrix}
 use Rattle.pm_types.specs.Views.{over_one, ratios}
@@ -66,10 +66,6 @@ row_range d entry places few =
     (λ x y l. All-map InRange pos (map (entry (get_or places x y)) (range_with_len 0 d)) (All-map (λ k. InRange (pos k)) (entry (get_or places x y)) (range_with_len 0 d) (λ u w m. few (get_or places x y) (get_or (range_with_len 0 d) u w)))))
 
 -- ---- the form of a square matrix
-square_count : (d : ℕ) (rows : List (List Ratio)) → length rows ≡ d → d ≤ 33 → is_column_count rows d ≡ true
-square_count d [] e few = le-leb d 33 few
-square_count d (r ∷ rows) e few = and_from (nat_le 1 d) (nat_le d 33) (le-leb 1 d (omega arith)) (le-leb d 33 few)
-
 square_states : (d : ℕ) (rows : List (List Ratio)) → length rows ≡ d → IsTrue (states_rows (matrix d rows))
 square_states d [] e = eq-eqb d 0 (sym e)
 square_states d (r ∷ rows) e = refl
@@ -87,8 +83,8 @@ square_forms : (of : ObjectType) (n d : ℕ) (N : List Row) → length N ≡ d �
 square_forms of n d N e few cols range =
     let count = length-map N ratios ∙ e in (
       record {
-        formed = and_from (nat_le (length (map ratios N)) 2048 && is_column_count (map ratios N) d) (list_all (is_row_of_entries d) (map ratios N))
-            (and_from (nat_le (length (map ratios N)) 2048) (is_column_count (map ratios N) d) (le-leb (length (map ratios N)) 2048 (omega arith)) (square_count d (map ratios N) count few)) (ratios_rows_of_entries d N cols);
+        formed = and_from (nat_le (length (map ratios N)) 2048 && nat_le d 33) (list_all (is_row_of_entries d) (map ratios N))
+            (and_from (nat_le (length (map ratios N)) 2048) (nat_le d 33) (le-leb (length (map ratios N)) 2048 (omega arith)) (le-leb d 33 few)) (ratios_rows_of_entries d N cols);
         columns = refl;
         rows = any_rows of (map ratios N);
         entries = ratios_rows_fractions N range;
