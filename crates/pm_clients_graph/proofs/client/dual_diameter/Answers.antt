@@ -4,8 +4,7 @@ use Rattle.pm_clients_graph.proofs.client.dual_diameter.Goals as goal
 use Rattle.pm_props.specs.declared.property.PropId.TheVariants.{DualDiameter, DualGraph}
 use Rattle.pm_props.specs.declared.object_type.ObjectType.TheVariants.{Fan}
 use Rattle.pm_clients_graph.proofs.EdgeForms.{index_sets, sets_below, sets_of_edges}
-use Rattle.std.proofs.Common.{SFits, arith, length, w64}
-use Rattle.std.proofs.Common.{ap, ◌∙◌, refl, rules, sym, ◌≡◌}
+use Rattle.std.proofs.Common.{SFits, ap, arith, length, refl, rules, sym, w64, ◌∙◌, ◌≡◌}
 
 pub prove-unreachable-requires : goal.prove-unreachable-requires
 prove-unreachable-requires c =

@@ -4,8 +4,7 @@ use Rattle.pm_props.specs.declared.property.PropId.TheVariants.{DualGraph, Verti
 use Rattle.pm_props.specs.declared.object_type.ObjectType.TheVariants.{Fan}
 use Rattle.pm_clients_graph.proofs.Answered.{dual_graph_sound}
 use Rattle.pm_clients_graph.proofs.EdgeForms.{index_sets, sets_below}
-use Rattle.std.proofs.Common.{arith}
-use Rattle.std.proofs.Common.{ap, ◌∙◌, refl, rules, sym, ◌≡◌}
+use Rattle.std.proofs.Common.{ap, arith, refl, rules, sym, ◌∙◌, ◌≡◌}
 
 pub prove-unreachable-requires : goal.prove-unreachable-requires
 prove-unreachable-requires c =
