@@ -13,3 +13,4 @@ pub mod Machine
 pub mod FreshOrders
 pub mod Examples
 mod ThinningExamples
+mod LatticeExamples

@@ -173,7 +173,6 @@ thinning_is_read = record {
   not_determining = λ h. true≢false (sym (ap is_some h.read.reads));
   not_wide = λ h. elim h [ inl w ↦ true≢false (sym w.0) | inr w ↦ true≢false (sym w.0) ];
   not_crowded = λ h. true≢false (sym h.named);
-  not_crowded_lattice = λ h. true≢false (sym h.named);
   thinning_client = refl;
   not_thinning = refl;
   sets_client = refl;
@@ -181,5 +180,4 @@ thinning_is_read = record {
   of_thinning = refl;
   of_sets = refl;
   memory = refl;
-  memory_of_lattices = refl;
 }

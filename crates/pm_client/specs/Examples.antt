@@ -5,6 +5,9 @@ use Rattle.pm_client.specs.Starts.{Clients, after_start, has_client, kind_at, ne
 use Rattle.pm_client.specs.declared.ClientFail.TheVariants as fail
 use Rattle.pm_dd.specs.declared.fails.DdFail.TheVariants as double
 use Rattle.pm_elim.specs.declared.evidence.ElimFail.TheVariants as elimination
+use Rattle.pm_geom.specs.Graphs.{sets_of}
+use Rattle.pm_geom.specs.Meets.{AreTooManyMeets}
+use Rattle.pm_geom.specs.declared.evidence.Evidence.{Evidence}
 use Rattle.pm_incidence.specs.declared.fails.ThinFail.TheVariants as thinning
 use Rattle.pm_lattice.specs.declared.lattice.LatticeFail.TheVariants as closing
 use Rattle.pm_props.specs.declared.object_type.ObjectType.TheVariants.{Cone, Polytope}
@@ -170,7 +173,6 @@ pub record ThinningIsRead : Type 0 where
   -- a client of another name has no such evidence
   pub not_wide : ¬ (IsWideForSets no_points (single 1) (single 1))
   pub not_crowded : ¬ (IsCrowdedThinning no_points [])
-  pub not_crowded_lattice : ¬ (IsCrowdedLattice no_points [])
   -- what clients eliminate, by their names
   pub thinning_client : thins (codes "thin_points_f") ≡ true
   pub not_thinning : thins (codes "thin_points_lp") ≡ false
@@ -179,4 +181,29 @@ pub record ThinningIsRead : Type 0 where
   pub of_thinning : eliminated_by (codes "thin_inequalities_v") ≡ flat_rows ∷ flat_basis_and_row ∷ []
   pub of_sets : eliminated_by (codes "vertices_from_sets") ≡ row_list ∷ determining_rows ∷ []
   pub memory : fail_of_thin thinning.Memory ≡ fail.Memory
-  pub memory_of_lattices : fail_of_lattice closing.Memory ≡ fail.Memory
+
+-- a view of a cone with one column for a client of this name, which reads these sets
+abbrev pub with_sets : List ℕ → IndexSets → ViewSeen
+with_sets name index = record {
+  of = Cone;
+  cols = 1;
+  kind = named name 1 1;
+  sub = None;
+  facts = record { place = None; property = VerticesInFacets; value = sets index.rows index.cols } ∷ [];
+}
+
+-- a view for the same client that has no sets
+abbrev pub without_sets : ViewSeen
+without_sets = record { of = Cone; cols = 1; kind = named (codes "faces") 1 1; sub = None; facts = [] }
+
+pub record LatticesAreRead : Type 0 where
+  -- the evidence is of the sets that the client read: more meets of these than a lattice may have
+  pub crowded : (index : IndexSets) (faces : List (List ℕ)) → AreTooManyMeets index.cols (sets_of index.rows) faces → IsCrowdedLattice (with_sets (codes "faces") index) faces
+  pub these_sets : (index : IndexSets) (faces : List (List ℕ)) → IsCrowdedLattice (with_sets (codes "faces") index) faces → AreTooManyMeets index.cols (sets_of index.rows) faces
+  pub few : ¬ (IsCrowdedLattice (with_sets (codes "faces") two_sets) ([] ∷ (0 ∷ []) ∷ []))
+  pub none_read : (faces : List (List ℕ)) → ¬ (IsCrowdedLattice without_sets faces)
+  -- a client of another name has no such evidence
+  pub other_client : (index : IndexSets) (faces : List (List ℕ)) → ¬ (IsCrowdedLattice (with_sets (codes "f_vector") index) faces)
+  -- what such a failure is to a client
+  pub many : (e : Evidence) → fail_of_lattice (closing.Many e) ≡ fail.Failed e
+  pub memory : fail_of_lattice closing.Memory ≡ fail.Memory

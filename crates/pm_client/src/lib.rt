@@ -1,7 +1,7 @@
 //! Clients, which answer properties of an object from others, and running the first client of a kind.
 #![tactic(auto)]
 
-ghost use Rattle.pm_client.specs.Examples.{DoublesAreRead, RowListsAreRead, StartsAreRead, ThinningIsRead};
+ghost use Rattle.pm_client.specs.Examples.{DoublesAreRead, LatticesAreRead, RowListsAreRead, StartsAreRead, ThinningIsRead};
 ghost use Rattle.pm_client.specs.Sound.{FailsRightly, IsSound};
 ghost use Rattle.pm_client.specs.Starts.{started_once};
 ghost use Rattle.std.specs.Prelude.{IfErr, OnOk, [], ℕ, ◌≡◌};
@@ -169,4 +169,9 @@ pub fn example_doubles()
 /// The definitions of thinning and of rows from sets read on a view without rows.
 pub fn example_thinning()
     ensures { ThinningIsRead }
+{}
+
+/// The definitions of too many faces read on views with sets and without.
+pub fn example_lattices()
+    ensures { LatticesAreRead }
 {}
