@@ -1,0 +1,4 @@
+pub mod Lists
+pub mod ReadBack
+pub mod Plain
+pub mod Examples

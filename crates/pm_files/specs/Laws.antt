@@ -1,0 +1,22 @@
+-- What holds of the JSON of values.
+use Rattle.std.specs.Prelude.{IsTrue, Ok, false, ◌≡◌, ◌≤◌}
+use Rattle.pm_json.specs.Readings.{reading}
+use Rattle.pm_props.specs.Properties.{is_built}
+use Rattle.pm_props.specs.declared.property.PropId.{PropId}
+use Rattle.pm_types.specs.Forms.{AreFractions, is_formed}
+use Rattle.pm_types.specs.Values.{PropertyValue}
+use Rattle.serde_json.specs.Data.{depth}
+use Rattle.serde_json.specs.Written.{has_float}
+use Rattle.pm_files.specs.ValueJson.{json_of, rows_tell_columns}
+
+-- a value in the form of its property is read back from its JSON
+abbrev pub ValuesAreReadBack : Type 0
+ValuesAreReadBack = (p : PropId) (v : PropertyValue) → IsTrue (is_built p) → IsTrue (is_formed p v) → AreFractions v → IsTrue (rows_tell_columns v) → reading p (json_of p v) ≡ Ok v
+
+-- the JSON of a value nests three levels at most, as that of a lattice does
+abbrev pub ValuesAreShallow : Type 0
+ValuesAreShallow = (p : PropId) (v : PropertyValue) → depth (json_of p v) ≤ 3
+
+-- it has no float
+abbrev pub ValuesHaveNoFloat : Type 0
+ValuesHaveNoFloat = (p : PropId) (v : PropertyValue) → has_float (json_of p v) ≡ false

@@ -1,0 +1,3 @@
+pub mod ValueJson
+pub mod Laws
+pub mod Examples
