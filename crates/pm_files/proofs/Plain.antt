@@ -12,7 +12,7 @@ use Rattle.pm_files.specs.ValueJson.{cols_json, edges_json, fraction_json, index
 use lib.IntN.{ℤ, pos, negsuc}
 
 -- ---- nesting
-each_depth : {X : Type 0} (f : X → Data) (n : ℕ) → ((x : X) → depth (f x) ≤ n) → (xs : List X) → items_depth (items_of (map f xs)) ≤ n
+pub each_depth : {X : Type 0} (f : X → Data) (n : ℕ) → ((x : X) → depth (f x) ≤ n) → (xs : List X) → items_depth (items_of (map f xs)) ≤ n
 each_depth f n h [] = omega arith
 each_depth f n h (x ∷ xs) = let first = h x in let rest = each_depth f n h xs in omega arith
 
@@ -40,7 +40,7 @@ matrix_depth : (n : ℕ) (rows : List (List Ratio)) → depth (matrix_json n row
 matrix_depth n [] = let e = untold_depth n in omega arith
 matrix_depth n (r ∷ rows) = let e = each_depth row_json 1 row_depth (r ∷ rows) in omega arith
 
-objective_depth : (rows : List (List Ratio)) → depth (objective_json rows) ≤ 3
+pub objective_depth : (rows : List (List Ratio)) → depth (objective_json rows) ≤ 3
 objective_depth [] = omega arith
 objective_depth (r ∷ rows) = let e = row_depth r in omega arith
 
@@ -61,7 +61,7 @@ value_depth p (lattice ranks) = let e = each_depth edges_json 2 edges_depth rank
 value_depth p (counts ks) = let e = each_depth whole_json 0 (λ k. omega arith) ks in omega arith
 
 -- ---- floats
-each_whole : {X : Type 0} (f : X → Data) → ((x : X) → has_float (f x) ≡ false) → (xs : List X) → items_have_float (items_of (map f xs)) ≡ false
+pub each_whole : {X : Type 0} (f : X → Data) → ((x : X) → has_float (f x) ≡ false) → (xs : List X) → items_have_float (items_of (map f xs)) ≡ false
 each_whole f h [] = refl
 each_whole f h (x ∷ xs) = rw (h x) (each_whole f h xs)
 
@@ -89,7 +89,7 @@ matrix_whole : (n : ℕ) (rows : List (List Ratio)) → has_float (matrix_json n
 matrix_whole n [] = untold_whole n
 matrix_whole n (r ∷ rows) = each_whole row_json row_whole (r ∷ rows)
 
-objective_whole : (rows : List (List Ratio)) → has_float (objective_json rows) ≡ false
+pub objective_whole : (rows : List (List Ratio)) → has_float (objective_json rows) ≡ false
 objective_whole [] = refl
 objective_whole (r ∷ rows) = row_whole r
 

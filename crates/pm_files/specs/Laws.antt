@@ -1,4 +1,4 @@
--- What holds of the JSON of values.
+-- What holds of the JSON of values and of files.
 use Rattle.std.specs.Prelude.{IsTrue, Ok, false, ◌≡◌, ◌≤◌}
 use Rattle.pm_json.specs.Readings.{reading}
 use Rattle.pm_props.specs.Properties.{is_built}
@@ -7,6 +7,7 @@ use Rattle.pm_types.specs.Forms.{AreFractions, is_formed}
 use Rattle.pm_types.specs.Values.{PropertyValue}
 use Rattle.serde_json.specs.Data.{depth}
 use Rattle.serde_json.specs.Written.{has_float}
+use Rattle.pm_files.specs.Files.{SavedFile, file_json}
 use Rattle.pm_files.specs.ValueJson.{json_of, rows_tell_columns}
 
 -- a value in the form of its property is read back from its JSON
@@ -20,3 +21,11 @@ ValuesAreShallow = (p : PropId) (v : PropertyValue) → depth (json_of p v) ≤ 
 -- it has no float
 abbrev pub ValuesHaveNoFloat : Type 0
 ValuesHaveNoFloat = (p : PropId) (v : PropertyValue) → has_float (json_of p v) ≡ false
+
+-- a file nests six levels at most, as one does whose program has a mark
+abbrev pub FilesAreShallow : Type 0
+FilesAreShallow = (f : SavedFile) → depth (file_json f) ≤ 6
+
+-- it has no float
+abbrev pub FilesHaveNoFloat : Type 0
+FilesHaveNoFloat = (f : SavedFile) → has_float (file_json f) ≡ false

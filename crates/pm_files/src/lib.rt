@@ -1,12 +1,17 @@
-//! Data files: the JSON of the values of properties, from which they are read back.
+//! Data files: the JSON of the values of properties, from which they are read back, and the files that are written.
 #![tactic(auto)]
 
 ghost use Rattle.pm_files.specs.Examples.{MatricesAreWritten, NumbersAreWritten, SetsAreWritten};
-ghost use Rattle.pm_files.specs.Laws.{ValuesAreReadBack, ValuesAreShallow, ValuesHaveNoFloat};
+ghost use Rattle.pm_files.specs.FileExamples.{FilesAreWritten};
+ghost use Rattle.pm_files.specs.Laws.{FilesAreShallow, FilesHaveNoFloat, ValuesAreReadBack, ValuesAreShallow, ValuesHaveNoFloat};
 
+mod file;
 mod value;
+mod write;
 
+pub use file::{FileObject, FileProgram};
 pub use value::value_json;
+pub use write::object_bytes;
 
 /// A value in the form of its property is read back from its JSON.
 pub fn law_values_are_read_back()
@@ -36,4 +41,19 @@ pub fn example_sets()
 /// How numbers and truth values are written, and how not.
 pub fn example_numbers()
     ensures { NumbersAreWritten }
+{}
+
+/// A file nests six levels at most.
+pub fn law_files_are_shallow()
+    ensures { FilesAreShallow }
+{}
+
+/// A file has no float.
+pub fn law_files_have_no_float()
+    ensures { FilesHaveNoFloat }
+{}
+
+/// How files, marks and programs are written, and how not.
+pub fn example_files()
+    ensures { FilesAreWritten }
 {}

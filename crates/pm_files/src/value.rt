@@ -61,7 +61,7 @@ fn matrix_json(alloc: Global, m: &Matrix) -> Result<Json, AllocError>
 }
 
 /// An objective, which is one row.
-fn objective_json(alloc: Global, m: &Matrix) -> Result<Json, AllocError>
+pub(crate) fn objective_json(alloc: Global, m: &Matrix) -> Result<Json, AllocError>
     ensures { IfOk result (λ j. view j ≡ objective_json m.now.rows) }
 {
     if m.rows() == 0 {
