@@ -15,7 +15,7 @@ use Rattle.pm_props.specs.Properties.{value_kind}
 use Rattle.pm_types.specs.Right.{Right, RightAll, objective_of}
 use Rattle.pm_props.specs.Places.{place_of}
 use Rattle.pm_types.specs.Runs.{states_rows}
-use Rattle.pm_types.specs.Values.{PropertyValue, counts, matrix, truth, whole}
+use Rattle.pm_types.specs.Values.{PropertyValue, counts, extended, matrix, truth, whole}
 use Rattle.pm_props.specs.declared.kind.Kind.{Kind}
 use Rattle.pm_props.specs.declared.property.PropId.TheVariants.{AffineHull, ConeAmbientDim, Equations, Facets, Inequalities, InputLineality, LinealitySpace, Points, Vertices}
 use Rattle.pm_props.specs.declared.property.PropId.{PropId}
@@ -31,9 +31,10 @@ use lib.IntN.{pos, ℤ}
 abbrev pub Follows : ViewSeen → PropId → PropertyValue → Type 0
 Follows v p x = (t : Thing) (o : Orders) → t.of ≡ v.of → t.cols ≡ v.cols → RightAll v.facts t o → (c : List Ratio) → Right p x t o c
 
--- the value is no matrix
+-- the value has no fractions: it is no matrix and no number
 abbrev pub is_plain : PropertyValue → Bool
 is_plain (matrix n rows) = false
+is_plain (extended x) = false
 is_plain v = true
 
 -- ---- such values
@@ -47,6 +48,7 @@ plain_rows of p x h = refl
 
 plain_entries : (x : PropertyValue) → is_plain x ≡ true → AreFractions x
 plain_entries (matrix n rows) h = absurd (true≢false (sym h))
+plain_entries (extended x) h = absurd (true≢false (sym h))
 plain_entries x h = All-nil (All IsFraction)
 
 plain_primitive : (x : PropertyValue) → is_plain x ≡ true → HavePrimitiveRows x

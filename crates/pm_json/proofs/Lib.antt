@@ -3,6 +3,7 @@ pub mod RowEnds
 pub mod SetTurns
 pub mod Parts
 pub mod FractionTexts
+pub mod LastObjects
 pub mod MatrixLimits
 pub mod SetLimits
 pub mod Formed

@@ -1,13 +1,15 @@
 -- A matrix that is read keeps the limits.
-use Rattle.std.proofs.Common.{refl, subst, ◌≡◌, ◌≤◌, ◌+◌, ℕ, suc, true, List, [], ◌∷◌, length, Ok, Err, arith, cond, eqb, leb, ltb, ◌&&◌}
-use Rattle.std.proofs.lemmas.Bool.{and_from, eq-eqb, eqb-true, eqb-false, le-leb, ltb-true}
+use Rattle.std.proofs.Common.{refl, subst, ap, ◌∙◌, ◌≡◌, ◌<◌, ◌≤◌, ◌+◌, ℕ, suc, true, List, [], ◌∷◌, length, Ok, Err, arith, cond, eqb, leb, ltb, ◌&&◌}
+use Rattle.std.proofs.lemmas.Bool.{and_from, and_parts, eq-eqb, eqb-true, le-leb, leb-true, ltb-false, ltb-true}
 use Rattle.std.specs.List.{list_all}
-use Rattle.serde_json.specs.Data.{Items, no_items, item}
+use Rattle.serde_json.specs.Data.{Data, Items, no_items, item}
 use Rattle.pm_algebra.specs.Numbers.{Ratio}
-use Rattle.pm_types.specs.Forms.{is_row_of_entries, is_column_count, is_matrix_form}
-use Rattle.pm_types.specs.Values.{PropertyValue, matrix}
-use Rattle.pm_json.proofs.Parts.{same_Ok, and_then-ok, then-ok, else-ok}
-use Rattle.pm_json.specs.Readings.{and_then, before, items_of, entry_of, first_row_from, later_row_from, later_rows_from, matrix_from}
+use Rattle.pm_types.specs.Forms.{is_row_of_entries, is_column_count, is_matrix_form, is_number, is_table_form}
+use Rattle.pm_matrix.specs.Matrices.{FractionMatrix}
+use Rattle.std.specs.Prelude.{None, Option, Some}
+use lib.IntN.{ℤ, negsuc, pos}
+use Rattle.pm_json.proofs.Parts.{same_Ok, and_then-ok, either-ok, err_ok, then-ok, else-ok}
+use Rattle.pm_json.specs.Readings.{and_then, before, items_of, entry_of, cols_member, entries_from, first_row_of, later_row_from, later_rows_from, matrix_from, matrix_with, object_behind, only_cols, rows_before, rows_from, whole_number_of, with_cols}
 use Rattle.pm_json.specs.declared.fail.ValueFail.TheVariants.{Shape, Limit}
 
 pub later_row : (n k : ℕ) (ds : Items) (r : List Ratio) → later_row_from n k ds ≡ Ok r → k + length r ≡ n
@@ -23,23 +25,24 @@ later_row n k (item d ds) r e =
     let all = later_row n (suc k) ds qs left in
     subst (λ (w : List Ratio). k + length w ≡ n) (same_Ok (q ∷ qs) r g) (omega arith)))
 
-first_row : (k : ℕ) (ds : Items) (r : List Ratio) → k ≤ 33 → first_row_from k ds ≡ Ok r → (1 ≤ k + length r) × (k + length r ≤ 33)
-first_row k no_items r h e =
-    let p = else-ok (eqb k 0) (Ok []) Limit r e in
-    let same = same_Ok [] r p.1 in
-    let some = eqb-false k 0 p.0 in
-    (subst (λ (w : List Ratio). 1 ≤ k + length w) same (omega arith), subst (λ (w : List Ratio). k + length w ≤ 33) same (omega arith))
-first_row k (item d ds) r h e =
-    and_then-ok (entry_of d) (λ q. cond (ltb k 33) (before q (first_row_from (suc k) ds)) (Err Limit)) r e
-    (λ q is f. let p = then-ok (ltb k 33) (before q (first_row_from (suc k) ds)) Limit r f in
-    and_then-ok (first_row_from (suc k) ds) (λ qs. Ok (q ∷ qs)) r p.1
+entries : (k : ℕ) (ds : Items) (r : List Ratio) → k ≤ 33 → entries_from k ds ≡ Ok r → k + length r ≤ 33
+entries k no_items r h e = subst (λ (w : List Ratio). k + length w ≤ 33) (same_Ok [] r e) (omega arith)
+entries k (item d ds) r h e =
+    and_then-ok (entry_of d) (λ q. cond (ltb k 33) (before q (entries_from (suc k) ds)) (Err Limit)) r e
+    (λ q is f. let p = then-ok (ltb k 33) (before q (entries_from (suc k) ds)) Limit r f in
+    and_then-ok (entries_from (suc k) ds) (λ qs. Ok (q ∷ qs)) r p.1
     (λ qs left g.
     let room = ltb-true k 33 p.0 in
-    let rest = first_row (suc k) ds qs (omega arith) left in
-    let same = same_Ok (q ∷ qs) r g in
-    let low = rest.0 in
-    let high = rest.1 in
-    (subst (λ (w : List Ratio). 1 ≤ k + length w) same (omega arith), subst (λ (w : List Ratio). k + length w ≤ 33) same (omega arith))))
+    let rest = entries (suc k) ds qs (omega arith) left in
+    subst (λ (w : List Ratio). k + length w ≤ 33) (same_Ok (q ∷ qs) r g) (omega arith)))
+
+pub first_row : (least : ℕ) (ds : Items) (r : List Ratio) → first_row_of least ds ≡ Ok r → (least ≤ length r) × (length r ≤ 33)
+first_row least ds r e =
+    and_then-ok (entries_from 0 ds) (λ q. cond (ltb (length q) least) (Err Limit) (Ok q)) r e
+    (λ q is f. let p = else-ok (ltb (length q) least) (Ok q) Limit r f in
+    let high = entries 0 ds q (omega arith) is in
+    let low = ltb-false (length q) least p.0 in
+    subst (λ (w : List Ratio). (least ≤ length w) × (length w ≤ 33)) (same_Ok q r p.1) (low, omega arith))
 
 later_rows : (n k : ℕ) (ds : Items) (rows : List (List Ratio)) → k ≤ 2048 → later_rows_from n k ds ≡ Ok rows → (k + length rows ≤ 2048) × (list_all (is_row_of_entries n) rows ≡ true)
 later_rows n k no_items rows few e =
@@ -62,38 +65,71 @@ later_rows n k (item d ds) rows few e =
           (and_from (is_row_of_entries n r) (list_all (is_row_of_entries n) more) (eq-eqb (length r) n width) rest.1),
     ))))
 
--- the value is a matrix in its form
-pub record IsMatrixValue (v : PropertyValue) : Type 0 where
-  pub n : ℕ
-  pub rows : List (List Ratio)
-  pub value : matrix n rows ≡ v
-  pub form : is_matrix_form n rows ≡ true
+-- a matrix of at most 2,048 rows, of one length from `least` to 33
+pub record KeepsLimits (least : ℕ) (m : FractionMatrix) : Type 0 where
+  pub few : length m.rows ≤ 2048
+  pub low : 0 < length m.rows → least ≤ m.cols
+  pub high : m.cols ≤ 33
+  pub widths : list_all (is_row_of_entries m.cols) m.rows ≡ true
 
--- a first row and the others
-form_of : (r : List Ratio) (more : List (List Ratio)) → 1 ≤ length r → length r ≤ 33 → 1 + length more ≤ 2048
-    → list_all (is_row_of_entries (length r)) more ≡ true → is_matrix_form (length r) (r ∷ more) ≡ true
-form_of r more low high few others =
-    and_from (leb (length (r ∷ more)) 2048 && is_column_count (r ∷ more) (length r)) (list_all (is_row_of_entries (length r)) (r ∷ more))
-    (and_from (leb (length (r ∷ more)) 2048) (is_column_count (r ∷ more) (length r)) (le-leb (length (r ∷ more)) 2048 (omega arith))
-    (and_from (leb 1 (length r)) (leb (length r) 33) (le-leb 1 (length r) low) (le-leb (length r) 33 high)))
-    (and_from (is_row_of_entries (length r) r) (list_all (is_row_of_entries (length r)) more) (eq-eqb (length r) (length r) refl) others)
-
-pub matrix_keeps_limits : (ds : Items) (v : PropertyValue) → matrix_from ds ≡ Ok v → IsMatrixValue v
-matrix_keeps_limits no_items v e = record { n = 0; rows = []; value = same_Ok (matrix 0 []) v e; form = refl }
-matrix_keeps_limits (item d ds) v e =
-    and_then-ok (items_of d) (λ es. and_then (first_row_from 0 es) (λ r. and_then (before r (later_rows_from (length r) 1 ds)) (λ rows. Ok (matrix (length r) rows)))) v e
-    (λ es _ f. and_then-ok (first_row_from 0 es) (λ r. and_then (before r (later_rows_from (length r) 1 ds)) (λ rows. Ok (matrix (length r) rows))) v f
-    (λ r is g. and_then-ok (before r (later_rows_from (length r) 1 ds)) (λ rows. Ok (matrix (length r) rows)) v g
+rows_keep_limits : (least : ℕ) (ds : Items) (m : FractionMatrix) → rows_from least ds ≡ Ok m → KeepsLimits least m
+rows_keep_limits least no_items m e = subst (KeepsLimits least) (same_Ok (let none : FractionMatrix = record { cols = 0; rows = [] } in none) m e) (record { few = omega arith; low = λ some. absurd (omega arith); high = omega arith; widths = refl })
+rows_keep_limits least (item d ds) m e =
+    and_then-ok (items_of d) (λ es. and_then (first_row_of least es) (λ r. and_then (before r (later_rows_from (length r) 1 ds)) (λ rows. Ok (record { cols = length r; rows = rows })))) m e
+    (λ es _ f. and_then-ok (first_row_of least es) (λ r. and_then (before r (later_rows_from (length r) 1 ds)) (λ rows. Ok (record { cols = length r; rows = rows }))) m f
+    (λ r is g. and_then-ok (before r (later_rows_from (length r) 1 ds)) (λ rows. Ok (record { cols = length r; rows = rows })) m g
     (λ rows all t. and_then-ok (later_rows_from (length r) 1 ds) (λ more. Ok (r ∷ more)) rows all
     (λ more left u.
-    let row = first_row 0 es r (omega arith) is in
+    let row = first_row least es r is in
     let rest = later_rows (length r) 1 ds more (omega arith) left in
-    let low = row.0 in
-    let high = row.1 in
-    let same = same_Ok (r ∷ more) rows u in
-    record {
-      n = length r;
-      rows = rows;
-      value = same_Ok (matrix (length r) rows) v t;
-      form = subst (λ (w : List (List Ratio)). is_matrix_form (length r) w ≡ true) same (form_of r more (omega arith) (omega arith) rest.0 rest.1);
-    }))))
+    let count = rest.0 in
+    let whole : FractionMatrix = record { cols = length r; rows = r ∷ more } in
+    subst (KeepsLimits least) (ap (λ (w : List (List Ratio)). record { cols = length r; rows = w }) (same_Ok (r ∷ more) rows u) ∙ same_Ok (let made : FractionMatrix = record { cols = length r; rows = rows } in made) m t)
+    (let kept : KeepsLimits least whole = record {
+      few = omega arith;
+      low = λ some. row.0;
+      high = row.1;
+      widths = and_from (is_row_of_entries (length r) r) (list_all (is_row_of_entries (length r)) more) (eq-eqb (length r) (length r) refl) rest.1;
+    } in kept)))))
+
+only_keep_limits : (least : ℕ) (z : ℤ) (m : FractionMatrix) → only_cols least z ≡ Ok m → KeepsLimits least m
+only_keep_limits least (negsuc n) m e = absurd (err_ok Limit m e)
+only_keep_limits least (pos n) m e =
+    let p = then-ok (leb least n && leb n 33) (Ok (let none : FractionMatrix = record { cols = n; rows = [] } in none)) Limit m e in
+    let high = leb-true n 33 (and_parts (leb least n) (leb n 33) p.0).1 in
+    subst (KeepsLimits least) (same_Ok (let none : FractionMatrix = record { cols = n; rows = [] } in none) m p.1) (record { few = omega arith; low = λ some. absurd (omega arith); high = high; widths = refl })
+
+with_keep_limits : (least : ℕ) (m : FractionMatrix) (z : ℤ) (out : FractionMatrix) → KeepsLimits least m → with_cols least m z ≡ Ok out → KeepsLimits least out
+with_keep_limits least m z out kept e =
+    either-ok (eqb (length m.rows) 0) (only_cols least z) (cond (is_number z m.cols) (Ok m) (Err Shape)) out e
+    (λ f. only_keep_limits least z out f)
+    (λ f. subst (KeepsLimits least) (same_Ok m out (then-ok (is_number z m.cols) (Ok m) Shape out f).1) kept)
+
+matrix_keeps_limits : (least : ℕ) (ds : Items) (stated : Option Data) (m : FractionMatrix) → matrix_with least ds stated ≡ Ok m → KeepsLimits least m
+matrix_keeps_limits least ds None m e = rows_keep_limits least ds m e
+matrix_keeps_limits least ds (Some d) m e =
+    and_then-ok (rows_from least ds) (λ a. and_then (and_then (cols_member d) whole_number_of) (with_cols least a)) m e
+    (λ a is f. and_then-ok (and_then (cols_member d) whole_number_of) (with_cols least a) m f
+    (λ z _ g. with_keep_limits least a z m (rows_keep_limits least ds a is) g))
+
+pub elements_keep_limits : (least : ℕ) (ds : Items) (m : FractionMatrix) → matrix_from least ds ≡ Ok m → KeepsLimits least m
+elements_keep_limits least ds m e = matrix_keeps_limits least (rows_before ds) (object_behind ds) m e
+
+-- ---- forms
+column_count : (n : ℕ) (rows : List (List Ratio)) → (0 < length rows → 1 ≤ n) → n ≤ 33 → is_column_count rows n ≡ true
+column_count n [] low high = le-leb n 33 high
+column_count n (r ∷ rows) low high = and_from (leb 1 n) (leb n 33) (le-leb 1 n (low (omega arith))) (le-leb n 33 high)
+
+pub matrix_form : (m : FractionMatrix) → KeepsLimits 1 m → is_matrix_form m.cols m.rows ≡ true
+matrix_form m k =
+    and_from (leb (length m.rows) 2048 && is_column_count m.rows m.cols) (list_all (is_row_of_entries m.cols) m.rows)
+    (and_from (leb (length m.rows) 2048) (is_column_count m.rows m.cols) (le-leb (length m.rows) 2048 k.few) (column_count m.cols m.rows k.low k.high)) k.widths
+
+pub table_form : (m : FractionMatrix) → KeepsLimits 0 m → is_table_form m.cols m.rows ≡ true
+table_form m k =
+    and_from (leb (length m.rows) 2048 && leb m.cols 33) (list_all (is_row_of_entries m.cols) m.rows)
+    (and_from (leb (length m.rows) 2048) (leb m.cols 33) (le-leb (length m.rows) 2048 k.few) (le-leb m.cols 33 k.high)) k.widths
+
+-- one row
+pub objective_form : (r : List Ratio) → 1 ≤ length r → length r ≤ 33 → (eqb (length (r ∷ [])) 1 && is_matrix_form (length r) (r ∷ [])) ≡ true
+objective_form r low high = matrix_form (record { cols = length r; rows = r ∷ [] }) (record { few = omega arith; low = λ some. low; high = high; widths = and_from (is_row_of_entries (length r) r) true (eq-eqb (length r) (length r) refl) refl })

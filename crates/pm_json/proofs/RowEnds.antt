@@ -1,9 +1,9 @@
 -- The reading of a row an item at a time, and where it ends: behind the last item, and at the first that has a fault.
-use Rattle.std.proofs.Common.{refl, sym, ap, ◌∙◌, ◌≡◌, ◌≢◌, ◌≤◌, ◌<◌, ℕ, suc, List, [], ◌∷◌, ◌++◌, length, drop, drop-cons, Ok, Err, append-nil, length-append, arith, eqb, true, false}
+use Rattle.std.proofs.Common.{refl, sym, ap, ◌∙◌, ◌≡◌, ◌≢◌, ◌≤◌, ◌<◌, ℕ, suc, List, [], ◌∷◌, ◌++◌, length, drop, drop-cons, Ok, Err, append-nil, length-append, arith}
 use Rattle.std.proofs.lemmas.Bool.{lt-ltb, le-ltb, eq-eqb, ne_eqb}
 use Rattle.serde_json.specs.Data.{Data, Items, no_items, item}
 use Rattle.pm_algebra.specs.Numbers.{Ratio}
-use Rattle.pm_json.specs.Readings.{entry_of, first_row_from, later_row_from, with_front}
+use Rattle.pm_json.specs.Readings.{entry_of, entries_from, later_row_from, with_front}
 use Rattle.pm_json.specs.declared.fail.ValueFail.{ValueFail}
 use Rattle.pm_json.specs.declared.fail.ValueFail.TheVariants.{Shape, Limit}
 use Rattle.pm_json.proofs.Readings.{with_front-before}
@@ -22,27 +22,24 @@ later_row_from-whole n front whole = rw (eq-eqb (length front) n whole) (ap (λ 
 pub later_row_from-short : (n : ℕ) (front : List Ratio) → length front ≢ n → with_front front (later_row_from n (length front) no_items) ≡ Err Shape
 later_row_from-short n front short = rw (ne_eqb (length front) n short) refl
 
-pub first_row_from-item : (front : List Ratio) (z : Ratio) (d : Data) (ds : Items) → length front < 33 → entry_of d ≡ Ok z
-    → with_front front (first_row_from (length front) (item d ds)) ≡ with_front (front ++ z ∷ []) (first_row_from (length (front ++ z ∷ [])) ds)
-first_row_from-item front z d ds room is =
+pub entries_from-item : (front : List Ratio) (z : Ratio) (d : Data) (ds : Items) → length front < 33 → entry_of d ≡ Ok z
+    → with_front front (entries_from (length front) (item d ds)) ≡ with_front (front ++ z ∷ []) (entries_from (length (front ++ z ∷ [])) ds)
+entries_from-item front z d ds room is =
     let one : suc (length front) ≡ length (front ++ z ∷ []) = omega (arith, length-append front (z ∷ [])) in
-    rw (is, lt-ltb (length front) 33 room) (with_front-before front z (first_row_from (suc (length front)) ds) ∙ ap (λ k. with_front (front ++ z ∷ []) (first_row_from k ds)) one)
+    rw (is, lt-ltb (length front) 33 room) (with_front-before front z (entries_from (suc (length front)) ds) ∙ ap (λ k. with_front (front ++ z ∷ []) (entries_from k ds)) one)
 
-pub first_row_from-long : (front : List Ratio) (z : Ratio) (d : Data) (ds : Items) → 33 ≤ length front → entry_of d ≡ Ok z → with_front front (first_row_from (length front) (item d ds)) ≡ Err Limit
-first_row_from-long front z d ds full is = rw (is, le-ltb (length front) 33 full) refl
+pub entries_from-long : (front : List Ratio) (z : Ratio) (d : Data) (ds : Items) → 33 ≤ length front → entry_of d ≡ Ok z → with_front front (entries_from (length front) (item d ds)) ≡ Err Limit
+entries_from-long front z d ds full is = rw (is, le-ltb (length front) 33 full) refl
 
 -- an entry that is a fault
 pub later_row_from-no_entry : (n : ℕ) (front : List Ratio) (d : Data) (ds : Items) (fault : ValueFail) → length front < n → entry_of d ≡ Err fault
     → with_front front (later_row_from n (length front) (item d ds)) ≡ Err fault
 later_row_from-no_entry n front d ds fault room is = rw (lt-ltb (length front) n room, is) refl
 
-pub first_row_from-no_entry : (front : List Ratio) (k : ℕ) (d : Data) (ds : Items) (fault : ValueFail) → entry_of d ≡ Err fault
-    → with_front front (first_row_from k (item d ds)) ≡ Err fault
-first_row_from-no_entry front k d ds fault is = rw is refl
+pub entries_from-no_entry : (front : List Ratio) (k : ℕ) (d : Data) (ds : Items) (fault : ValueFail) → entry_of d ≡ Err fault
+    → with_front front (entries_from k (item d ds)) ≡ Err fault
+entries_from-no_entry front k d ds fault is = rw is refl
 
--- the end of a first row, which has an entry
-pub first_row_from-none : (front : List Ratio) → eqb (length front) 0 ≡ true → with_front front (first_row_from (length front) no_items) ≡ Err Limit
-first_row_from-none front none = rw none refl
-
-pub first_row_from-end : (front : List Ratio) → eqb (length front) 0 ≡ false → with_front front (first_row_from (length front) no_items) ≡ Ok front
-first_row_from-end front some = rw some (ap (λ l. Ok l) (append-nil front))
+-- the end of a row
+pub entries_from-end : (front : List Ratio) → with_front front (entries_from (length front) no_items) ≡ Ok front
+entries_from-end front = ap (λ l. Ok l) (append-nil front)

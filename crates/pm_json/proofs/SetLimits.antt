@@ -3,13 +3,13 @@ use Rattle.std.proofs.Common.{refl, sym, subst, ◌≡◌, ◌≤◌, ◌<◌, �
 use Rattle.std.proofs.lemmas.Bool.{and_from, and_parts, or_parts, eqb-false, le-leb, leb-true, lt-ltb, ltb-true, ltb-false, cond_both}
 use Rattle.std.proofs.Math.Nat.{le-max_left, le-max_right}
 use Rattle.std.specs.List.{list_all}
-use Rattle.std.specs.Prelude.{is_some, codes}
+use Rattle.std.specs.Prelude.{is_some}
 use Rattle.serde_json.specs.Data.{Data, Items, no_items, item}
-use Rattle.serde_json.specs.Find.{get, as_object}
+use Rattle.serde_json.specs.Find.{as_object}
 use Rattle.pm_types.specs.Forms.{are_indices, is_sets_form}
 use Rattle.pm_types.specs.Values.{PropertyValue, sets}
 use Rattle.pm_json.proofs.Parts.{same_Ok, err_ok, and_then-ok, then-ok, else-ok, either-ok}
-use Rattle.pm_json.specs.Readings.{Read, and_then, or_fault, items_of, whole_number_of, index_below_2048, index_of, with_index, has_index, set_from, count_up_to_2048, count_of, has_one_member, stated_of, SetsSeen, before_sets, stated_last, sets_from, above_set, above_sets, sets_with}
+use Rattle.pm_json.specs.Readings.{Read, and_then, cols_member, items_of, whole_number_of, index_below_2048, index_of, with_index, has_index, set_from, count_up_to_2048, count_of, stated_of, SetsSeen, before_sets, stated_last, sets_from, above_set, above_sets, sets_with}
 use Rattle.pm_json.specs.declared.fail.ValueFail.TheVariants.{Shape, Index, Limit}
 use lib.IntN.{ℤ, pos, negsuc}
 
@@ -73,8 +73,7 @@ count_keeps_limit (negsuc k) n e = absurd (err_ok Limit n e)
 
 stated_keeps_limit : (d : Data) (n : ℕ) → stated_of d ≡ Ok n → n ≤ 2048
 stated_keeps_limit d n e =
-    let p = then-ok (has_one_member d) (and_then (or_fault Shape (get (codes "cols") d)) count_of) Shape n e in
-    and_then-ok (or_fault Shape (get (codes "cols") d)) count_of n p.1
+    and_then-ok (cols_member d) count_of n e
     (λ c _ f. and_then-ok (whole_number_of c) count_up_to_2048 n f (λ z _ g. count_keeps_limit z n g))
 
 last_keeps_limits : (k n : ℕ) (ds : Items) (s : SetsSeen) → k ≤ 2048 → n ≤ 2048 → stated_last n ds ≡ Ok s → KeepsLimits k s

@@ -1,25 +1,28 @@
 -- What a JSON value is, as a value of a property, so far.
--- A matrix is an array of at most 2,048 rows, which are arrays of one length from 1 to 33 of fractions: a fraction is a text, an optional `-`, digits, and optionally `/` and digits that do not write 0, none of them above 2^127 - 1, or a whole JSON number from -2^63 to 2^64 - 1.
+-- A matrix is an array of at most 2,048 rows, which are arrays of one length from 1 to 33 (of F2_VECTOR from 0) of fractions; behind the rows maybe {"cols":n}, n the length of the rows, or where there are none a number that it might be; without it a matrix without rows states no column count, 0. LP.LINEAR_OBJECTIVE is one such row. A fraction is a text, an optional `-`, digits, and optionally `/` and digits that do not write 0, none of them above 2^127 - 1, or a whole JSON number from -2^63 to 2^64 - 1.
 -- Sets are an array of at most 2,048 sets, which are arrays of indices below 2,048, in any order and none twice; after the sets maybe {"cols":n}, n at most 2,048 and above every index; without it the column count is one more than the greatest index, or 0.
 -- A whole number is a whole JSON number of 64 bits, for CONE_AMBIENT_DIM from 1 to 33; a truth value is true or false.
 -- A list of counts is an array of at most 2,048 whole numbers of 64 bits, each a whole JSON number or a text, an optional `-` and digits.
 -- Edges are an array of at most 2,048 nodes, each an array of nodes below their number, which are neighbours of one another and none of itself. A lattice is an array of ranks, which are arrays of faces, at most 65,536, which are arrays of indices below 2,048, at most 4,000,000 in all.
--- Extended numbers are not read yet, and F2_VECTOR and LP.LINEAR_OBJECTIVE will have forms of their own.
--- Of several faults the first in reading order counts, which goes through the elements from the first to the last. At one element it is the first of these: `Shape`, a JSON value of another form, an element that makes a row longer than the first, an index that its set has already; `Number`, a number, or in matrices a text, that is not allowed there; `Index`, an index that is negative, or not below the column count; `Limit`, a count beyond its bound.
+-- A number is a fraction, or a text, inf or -inf.
+-- Of several faults the first in reading order counts, which goes through the elements from the first to the last. At one element it is the first of these: `Shape`, a JSON value of another form, an element that makes a row longer than the first, an index that its set has already, a column count that is not the length of the rows; `Number`, a number, or in matrices a text, that is not allowed there; `Index`, an index that is negative, or not below the column count; `Limit`, a count beyond its bound.
 -- A count that is too large is a fault of the first element too many; a row that is too short is one of its end. Indices are held against the column count
 -- after the last element.
 use Rattle.std.specs.Prelude.{ℕ, zero, suc, ◌+◌, ◌==◌, ◌%◌, ◌/◌, ◌^◌, ◌&&◌, ◌++◌, ◌∷◌, Bool, true, false, not, List, [], length, max, nat_le, nat_lt, Option, Some, None, is_some, Result, Ok, Err, codes, if◌then◌else◌, slice_index}
 use Rattle.std.specs.Char.{is_ascii_digit}
 use Rattle.std.specs.List.{list_all, list_any, sum_by}
+use Rattle.std.specs.Str.{bytes_eq}
 use Rattle.std.specs.Str.Parse.{digits_value, signed_digits_value, starts_with_minus, without_leading_sign}
 use Rattle.pm_algebra.specs.Numbers.{Ratio}
 use Rattle.pm_fraction.specs.Fractions.{ratio_of, signed}
 use Rattle.pm_fraction.specs.Text.{bottom_text, top_text}
-use Rattle.pm_types.specs.Forms.{are_joined_back, has_64_bits, is_dimension}
+use Rattle.pm_types.specs.Forms.{are_joined_back, has_64_bits, is_dimension, is_number}
 use Rattle.pm_props.specs.Properties.{is_ambient, value_kind}
-use Rattle.pm_types.specs.Values.{PropertyValue, matrix, sets, whole, truth, counts, edges, lattice}
+use Rattle.pm_matrix.specs.Matrices.{FractionMatrix}
+use Rattle.pm_types.specs.Values.{PropertyValue, matrix, sets, whole, truth, counts, edges, lattice, extended, Extended, finite, plus_infinity, minus_infinity}
 use Rattle.pm_types.specs.Views.{over_one}
 use Rattle.pm_props.specs.declared.property.PropId.{PropId}
+use Rattle.pm_props.specs.declared.property.PropId.TheVariants.{F2Vector, LinearObjective}
 use Rattle.pm_props.specs.declared.property.ValueKind.{ValueKind}
 use Rattle.pm_props.specs.declared.property.ValueKind.TheVariants as kind
 use Rattle.serde_json.specs.Data.{Data, Num, object, Items, no_items, item, no_members, member}
@@ -90,10 +93,14 @@ abbrev pub entry_of : Data → Read Ratio
 entry_of d = entry_by (as_str d) d
 
 -- ---- matrices
--- the entries of a first row, of which k came before
-abbrev pub first_row_from : ℕ → Items → Read (List Ratio)
-first_row_from k no_items = if k == 0 then Err Limit else Ok []
-first_row_from k (item d ds) = and_then (entry_of d) (λ q. if nat_lt k 33 then before q (first_row_from (suc k) ds) else Err Limit)
+-- the entries of a row, of which k came before
+abbrev pub entries_from : ℕ → Items → Read (List Ratio)
+entries_from k no_items = Ok []
+entries_from k (item d ds) = and_then (entry_of d) (λ q. if nat_lt k 33 then before q (entries_from (suc k) ds) else Err Limit)
+
+-- a first row, which has to have so many entries or more
+abbrev pub first_row_of : ℕ → Items → Read (List Ratio)
+first_row_of least ds = and_then (entries_from 0 ds) (λ r. if nat_lt (length r) least then Err Limit else Ok r)
 
 -- the entries of a later row, which has to have n, of which k came before
 abbrev pub later_row_from : ℕ → ℕ → Items → Read (List Ratio)
@@ -105,17 +112,62 @@ abbrev pub later_rows_from : ℕ → ℕ → Items → Read (List (List Ratio))
 later_rows_from n k no_items = Ok []
 later_rows_from n k (item d ds) = and_then (items_of d) (λ es. if nat_lt k 2048 then and_then (later_row_from n 0 es) (λ r. before r (later_rows_from n (suc k) ds)) else Err Limit)
 
-abbrev pub matrix_from : Items → Read PropertyValue
-matrix_from no_items = Ok (matrix 0 [])
-matrix_from (item d ds) = and_then (items_of d) (λ es. and_then (first_row_from 0 es) (λ r. and_then (before r (later_rows_from (length r) 1 ds)) (λ rows. Ok (matrix (length r) rows))))
+-- the rows, of so many entries or more
+abbrev pub rows_from : ℕ → Items → Read FractionMatrix
+rows_from least no_items = Ok (record { cols = 0; rows = [] })
+rows_from least (item d ds) = and_then (items_of d) (λ es. and_then (first_row_of least es) (λ r. and_then (before r (later_rows_from (length r) 1 ds)) (λ rows. Ok (record { cols = length r; rows = rows }))))
 
-abbrev pub matrix_of : Data → Read PropertyValue
-matrix_of d = and_then (items_of d) matrix_from
+-- the elements but a last object
+abbrev pub rows_before : Items → Items
+rows_before no_items = no_items
+rows_before (item d no_items) = if is_some (as_object d) then no_items else item d no_items
+rows_before (item d (item e ds)) = item d (rows_before (item e ds))
 
--- ---- sets
+-- the last element, where it is an object
+abbrev pub object_behind : Items → Option Data
+object_behind no_items = None
+object_behind (item d no_items) = if is_some (as_object d) then Some d else None
+object_behind (item d (item e ds)) = object_behind (item e ds)
+
+abbrev pub has_one_member : Data → Bool
+has_one_member (object (member key d no_members)) = true
+has_one_member d = false
+
+-- the n of {"cols":n}
+abbrev pub cols_member : Data → Read Data
+cols_member d = if has_one_member d then or_fault Shape (get (codes "cols") d) else Err Shape
+
 abbrev pub whole_number_of : Data → Read ℤ
 whole_number_of d = and_then (or_fault Shape (as_number d)) (λ n. or_fault Number (as_integer n))
 
+-- the column count of a matrix without rows
+abbrev pub only_cols : ℕ → ℤ → Read FractionMatrix
+only_cols least (pos n) = if nat_le least n && nat_le n 33 then Ok (record { cols = n; rows = [] }) else Err Limit
+only_cols least (negsuc n) = Err Limit
+
+-- the matrix with this column count stated behind its rows
+abbrev pub with_cols : ℕ → FractionMatrix → ℤ → Read FractionMatrix
+with_cols least m z = if length m.rows == 0 then only_cols least z else if is_number z m.cols then Ok m else Err Shape
+
+abbrev pub matrix_with : ℕ → Items → Option Data → Read FractionMatrix
+matrix_with least ds None = rows_from least ds
+matrix_with least ds (Some d) = and_then (rows_from least ds) (λ m. and_then (and_then (cols_member d) whole_number_of) (with_cols least m))
+
+abbrev pub matrix_from : ℕ → Items → Read FractionMatrix
+matrix_from least ds = matrix_with least (rows_before ds) (object_behind ds)
+
+abbrev pub matrix_of : ℕ → Data → Read PropertyValue
+matrix_of least d = and_then (items_of d) (λ ds. and_then (matrix_from least ds) (λ m. Ok (matrix m.cols m.rows)))
+
+abbrev pub objective_of : Data → Read PropertyValue
+objective_of d = and_then (items_of d) (λ ds. and_then (first_row_of 1 ds) (λ r. Ok (matrix (length r) (r ∷ []))))
+
+abbrev pub matrix_reading : PropId → Data → Read PropertyValue
+matrix_reading LinearObjective d = objective_of d
+matrix_reading F2Vector d = matrix_of 0 d
+matrix_reading p d = matrix_of 1 d
+
+-- ---- sets
 abbrev pub index_below_2048 : ℤ → Read ℕ
 index_below_2048 (pos j) = if nat_lt j 2048 then Ok j else Err Limit
 index_below_2048 (negsuc j) = Err Index
@@ -143,13 +195,9 @@ count_up_to_2048 (negsuc n) = Err Limit
 abbrev pub count_of : Data → Read ℕ
 count_of d = and_then (whole_number_of d) count_up_to_2048
 
-abbrev pub has_one_member : Data → Bool
-has_one_member (object (member key d no_members)) = true
-has_one_member d = false
-
--- the n of {"cols":n}
+-- the column count of sets
 abbrev pub stated_of : Data → Read ℕ
-stated_of d = if has_one_member d then and_then (or_fault Shape (get (codes "cols") d)) count_of else Err Shape
+stated_of d = and_then (cols_member d) count_of
 
 -- sets, and the column count that is stated behind them, if one is
 pub record SetsSeen : Type 0 where
@@ -196,6 +244,20 @@ whole_of p d = and_then (or_fault Shape (as_number d)) (λ n. and_then (or_fault
 
 abbrev pub truth_of : Data → Read PropertyValue
 truth_of d = and_then (or_fault Shape (as_bool d)) (λ b. Ok (truth b))
+
+-- ---- fractions and infinities
+abbrev pub is_text : List ℕ → Option (List ℕ) → Bool
+is_text text None = false
+is_text text (Some found) = bytes_eq found text
+
+abbrev pub number_value_of : Data → Read Extended
+number_value_of d =
+    if is_text (codes "inf") (as_str d) then Ok plus_infinity
+    else if is_text (codes "-inf") (as_str d) then Ok minus_infinity
+    else and_then (entry_of d) (λ q. Ok (finite q))
+
+abbrev pub extended_value_of : Data → Read PropertyValue
+extended_value_of d = and_then (number_value_of d) (λ x. Ok (extended x))
 
 -- ---- lists of counts
 -- an optional - and one digit or more, which write a number of 64 bits
@@ -257,14 +319,14 @@ lattice_of d = and_then (items_of d) (λ ds. and_then (ranks_from 0 0 ds) (λ ra
 
 -- ---- values
 abbrev pub reading_of : ValueKind → PropId → Data → Read PropertyValue
-reading_of kind.Mat p d = matrix_of d
+reading_of kind.Mat p d = matrix_reading p d
 reading_of kind.Sets p d = sets_of d
 reading_of kind.Int p d = whole_of p d
 reading_of kind.Bool p d = truth_of d
 reading_of kind.Counts p d = counts_of d
 reading_of kind.Edges p d = edges_of d
 reading_of kind.Lattice p d = lattice_of d
-reading_of k p d = Err Shape
+reading_of kind.Number p d = extended_value_of d
 
 -- the value of p that the JSON value d is, or the fault
 abbrev pub reading : PropId → Data → Read PropertyValue

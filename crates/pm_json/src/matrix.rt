@@ -1,16 +1,19 @@
 // Matrices from JSON.
 
-ghost use Rattle.pm_json.specs.Readings.{first_row_from, later_row_from, later_rows_from, matrix_from, matrix_of, with_front};
+ghost use Rattle.pm_json.specs.Readings.{and_then, cols_member, entries_from, first_row_of, later_row_from, later_rows_from, matrix_from, matrix_of, matrix_reading, matrix_with, objective_of, only_cols, rows_from, whole_number_of, with_cols, with_front};
 ghost use Rattle.pm_json.specs.declared.fail.ValueFail.TheVariants.{Memory};
+ghost use Rattle.pm_types.specs.Forms.{is_number};
 ghost use Rattle.pm_types.specs.Values.{matrix};
 ghost use Rattle.pm_types.specs.Views.{view_of};
 ghost use Rattle.serde_json.specs.View.{items_view, view};
-ghost use Rattle.std.specs.Prelude.{IfErr, IfOk, OnErr, OnOk, [], length, ◌++◌, ◌∷◌, ◌≡◌, ◌≢◌};
+ghost use Rattle.std.specs.Prelude.{IfErr, IfOk, OnErr, OnOk, Some, [], length, ◌++◌, ◌∷◌, ◌≡◌, ◌≢◌, ◌≤◌};
 
 use crate::fail::ValueFail;
-use crate::number::{read_entry, read_items};
+use crate::number::{read_entry, read_items, read_whole_number};
+use crate::sets::read_cols_member;
 use pm_fraction::Fraction;
 use pm_matrix::Matrix;
+use pm_props::PropId;
 use pm_types::Value as PropertyValue;
 use serde_json::Value;
 use std::alloc::Global;
@@ -19,10 +22,10 @@ const ROW_LIMIT: usize = 2048;
 
 const COL_LIMIT: usize = 33;
 
-/// The first row, from 1 to 33 entries.
-fn read_first_row(alloc: Global, items: &[Value]) -> Result<Vec<Fraction>, ValueFail>
-    ensures ok { IfOk result (λ row. first_row_from 0 (items_view items.now) ≡ Ok row.items) }
-    ensures fault { IfErr result (λ e. e ≢ ValueFail.Memory → first_row_from 0 (items_view items.now) ≡ Err e) }
+/// The entries of a row, at most 33.
+fn read_entries(alloc: Global, items: &[Value]) -> Result<Vec<Fraction>, ValueFail>
+    ensures ok { IfOk result (λ row. entries_from 0 (items_view items.now) ≡ Ok row.items) }
+    ensures fault { IfErr result (λ e. e ≢ ValueFail.Memory → entries_from 0 (items_view items.now) ≡ Err e) }
 {
     let mut row = Vec::new(alloc);
     for item in items {
@@ -32,7 +35,16 @@ fn read_first_row(alloc: Global, items: &[Value]) -> Result<Vec<Fraction>, Value
         }
         row.push(entry)?;
     }
-    if row.is_empty() {
+    Ok(row)
+}
+
+/// A first row, which has to have so many entries or more.
+fn read_first_row(alloc: Global, least: usize, items: &[Value]) -> Result<Vec<Fraction>, ValueFail>
+    ensures ok { IfOk result (λ row. first_row_of least (items_view items.now) ≡ Ok row.items) }
+    ensures fault { IfErr result (λ e. e ≢ ValueFail.Memory → first_row_of least (items_view items.now) ≡ Err e) }
+{
+    let row = read_entries(alloc, items)?;
+    if row.len() < least {
         return Err(ValueFail::Limit);
     }
     Ok(row)
@@ -89,28 +101,128 @@ fn read_later_rows(alloc: Global, matrix: &mut Matrix, items: &[Value]) -> Resul
     Ok(())
 }
 
-/// The matrix that elements of an array are.
-fn read_rows(alloc: Global, items: &[Value]) -> Result<Matrix, ValueFail>
-    ensures ok { IfOk result (λ m. matrix_from (items_view items.now) ≡ Ok (matrix m.cols m.rows)) }
-    ensures fault { IfErr result (λ e. e ≢ ValueFail.Memory → matrix_from (items_view items.now) ≡ Err e) }
+/// The rows that elements of an array are, of so many entries or more.
+fn read_rows(alloc: Global, least: usize, items: &[Value]) -> Result<Matrix, ValueFail>
+    ensures ok { IfOk result (λ m. rows_from least (items_view items.now) ≡ Ok m) }
+    ensures fault { IfErr result (λ e. e ≢ ValueFail.Memory → rows_from least (items_view items.now) ≡ Err e) }
 {
     let Some((first, others)) = items.split_first() else {
         return Ok(Matrix::new(alloc, 0));
     };
     let entries = read_items(first)?;
-    let row = read_first_row(alloc, entries)?;
+    let row = read_first_row(alloc, least, entries)?;
     let mut matrix = Matrix::new(alloc, row.len());
     push_row(&mut matrix, &row)?;
     read_later_rows(alloc, &mut matrix, others)?;
     Ok(matrix)
 }
 
-/// The matrix that a JSON value is.
-pub fn read_matrix(alloc: Global, v: &Value) -> Result<PropertyValue, ValueFail>
-    ensures ok { IfOk result (λ value. matrix_of (view v.now) ≡ Ok (view_of value)) }
-    ensures fault { IfErr result (λ e. e ≢ ValueFail.Memory → matrix_of (view v.now) ≡ Err e) }
+/// Whether a whole number is this count.
+fn is_number(z: i128, n: usize) -> bool
+    ensures { result ≡ is_number z n }
+{
+    0 <= z && z as u128 == n as u128
+}
+
+/// The matrix without rows that has so many columns.
+fn read_only_cols(alloc: Global, least: usize, z: i128) -> Result<Matrix, ValueFail>
+    requires { least ≤ 1 }
+    ensures { result ≡ only_cols least z }
+{
+    if least as i128 <= z && z <= COL_LIMIT as i128 {
+        Ok(Matrix::new(alloc, z as usize))
+    } else {
+        Err(ValueFail::Limit)
+    }
+}
+
+/// The matrix with this column count stated behind its rows.
+fn with_cols(alloc: Global, least: usize, matrix: Matrix, z: i128) -> Result<Matrix, ValueFail>
+    requires { least ≤ 1 }
+    ensures { result ≡ with_cols least matrix z }
+{
+    if matrix.rows() == 0 {
+        return read_only_cols(alloc, least, z);
+    }
+    if is_number(z, matrix.cols()) {
+        Ok(matrix)
+    } else {
+        Err(ValueFail::Shape)
+    }
+}
+
+/// The column count that a last object states.
+fn read_stated_cols(v: &Value) -> Result<i128, ValueFail>
+    ensures { result ≡ and_then (cols_member (view v.now)) whole_number_of }
+{
+    let n = read_cols_member(v)?;
+    read_whole_number(n)
+}
+
+/// The matrix of rows and of a last object that states their column count.
+fn read_stated(
+    alloc: Global,
+    least: usize,
+    rows: &[Value],
+    stated: &Value,
+) -> Result<Matrix, ValueFail>
+    requires { least ≤ 1 }
+    ensures ok { IfOk result (λ m. matrix_with least (items_view rows.now) (Some (view stated.now)) ≡ Ok m) }
+    ensures fault { IfErr result (λ e. e ≢ ValueFail.Memory
+        → matrix_with least (items_view rows.now) (Some (view stated.now)) ≡ Err e) }
+{
+    let matrix = read_rows(alloc, least, rows)?;
+    let z = read_stated_cols(stated)?;
+    with_cols(alloc, least, matrix, z)
+}
+
+/// The matrix that elements of an array are.
+fn read_elements(alloc: Global, least: usize, items: &[Value]) -> Result<Matrix, ValueFail>
+    requires { least ≤ 1 }
+    ensures ok { IfOk result (λ m. matrix_from least (items_view items.now) ≡ Ok m) }
+    ensures fault { IfErr result (λ e. e ≢ ValueFail.Memory → matrix_from least (items_view items.now) ≡ Err e) }
+{
+    let Some((last, rows)) = items.split_last() else {
+        return read_rows(alloc, least, items);
+    };
+    if last.is_object() {
+        read_stated(alloc, least, rows, last)
+    } else {
+        read_rows(alloc, least, items)
+    }
+}
+
+/// The matrix that a JSON value is, with rows of so many entries or more.
+fn read_matrix_of(alloc: Global, least: usize, v: &Value) -> Result<PropertyValue, ValueFail>
+    requires { least ≤ 1 }
+    ensures ok { IfOk result (λ value. matrix_of least (view v.now) ≡ Ok (view_of value)) }
+    ensures fault { IfErr result (λ e. e ≢ ValueFail.Memory → matrix_of least (view v.now) ≡ Err e) }
 {
     let items = read_items(v)?;
-    let matrix = read_rows(alloc, items)?;
+    let matrix = read_elements(alloc, least, items)?;
     Ok(PropertyValue::Mat(matrix))
+}
+
+/// The one row that a JSON value is.
+fn read_objective(alloc: Global, v: &Value) -> Result<PropertyValue, ValueFail>
+    ensures ok { IfOk result (λ value. objective_of (view v.now) ≡ Ok (view_of value)) }
+    ensures fault { IfErr result (λ e. e ≢ ValueFail.Memory → objective_of (view v.now) ≡ Err e) }
+{
+    let items = read_items(v)?;
+    let row = read_first_row(alloc, 1, items)?;
+    let mut matrix = Matrix::new(alloc, row.len());
+    push_row(&mut matrix, &row)?;
+    Ok(PropertyValue::Mat(matrix))
+}
+
+/// The matrix that a JSON value is, for a property whose values are matrices.
+pub fn read_matrix(alloc: Global, p: PropId, v: &Value) -> Result<PropertyValue, ValueFail>
+    ensures ok { IfOk result (λ value. matrix_reading p (view v.now) ≡ Ok (view_of value)) }
+    ensures fault { IfErr result (λ e. e ≢ ValueFail.Memory → matrix_reading p (view v.now) ≡ Err e) }
+{
+    match p {
+        PropId::LinearObjective => read_objective(alloc, v),
+        PropId::F2Vector => read_matrix_of(alloc, 0, v),
+        _ => read_matrix_of(alloc, 1, v),
+    }
 }

@@ -80,7 +80,7 @@ pub fn read_entry(v: &Value) -> Result<Fraction, ValueFail>
 }
 
 /// A whole number.
-fn read_whole_number(v: &Value) -> Result<i128, ValueFail>
+pub(crate) fn read_whole_number(v: &Value) -> Result<i128, ValueFail>
     ensures { result ≡ whole_number_of (view v.now) }
 {
     let Some(number) = v.as_number() else {

@@ -1,6 +1,6 @@
 // Sets from JSON.
 
-ghost use Rattle.pm_json.specs.Readings.{above_set, above_sets, and_then, has_index, has_one_member, set_from, sets_from, sets_of, stated_last, stated_of, with_index};
+ghost use Rattle.pm_json.specs.Readings.{above_set, above_sets, and_then, cols_member, has_index, has_one_member, set_from, sets_from, sets_of, stated_last, stated_of, with_index};
 ghost use Rattle.pm_types.specs.Views.{view_of};
 ghost use Rattle.serde_json.specs.View.{items_view, view};
 ghost use Rattle.std.specs.List.{insert};
@@ -84,16 +84,25 @@ fn has_one_member(v: &Value) -> bool
 }
 
 /// The n of `{"cols":n}`.
-fn read_stated(v: &Value) -> Result<u32, ValueFail>
-    ensures { result ≡ stated_of (view v.now) }
+pub(crate) fn read_cols_member(v: &Value) -> Result<&Value, ValueFail>
+    ensures ok { IfOk result (λ n. cols_member (view v.now) ≡ Ok (view n.now)) }
+    ensures fault { IfErr result (λ e. cols_member (view v.now) ≡ Err e) }
 {
     if !has_one_member(v) {
         return Err(ValueFail::Shape);
     }
     match v.get("cols") {
-        Some(n) => read_count(n),
+        Some(n) => Ok(n),
         None => Err(ValueFail::Shape),
     }
+}
+
+/// The column count of sets.
+fn read_stated(v: &Value) -> Result<u32, ValueFail>
+    ensures { result ≡ stated_of (view v.now) }
+{
+    let n = read_cols_member(v)?;
+    read_count(n)
 }
 
 /// The n of `{"cols":n}`, behind which nothing stands.

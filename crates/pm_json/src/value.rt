@@ -1,10 +1,10 @@
 // Values of properties from JSON.
 
-ghost use Rattle.pm_json.specs.Readings.{reading, truth_of, whole_of};
-ghost use Rattle.pm_props.specs.Properties.{is_built};
+ghost use Rattle.pm_json.specs.Readings.{extended_value_of, is_text, number_value_of, reading, truth_of, whole_of};
 ghost use Rattle.pm_types.specs.Forms.{is_dimension, is_formed};
 ghost use Rattle.pm_props.specs.Properties.{value_kind};
-ghost use Rattle.pm_types.specs.Views.{view_of};
+ghost use Rattle.pm_types.specs.Views.{extended_of, view_of};
+ghost use Rattle.serde_json.specs.Find.{as_str};
 ghost use Rattle.serde_json.specs.View.{view};
 ghost use Rattle.std.specs.Prelude.{IfErr, IfOk, IsTrue, ◌≡◌, ◌≢◌, ◌↔◌};
 
@@ -13,9 +13,10 @@ use crate::edges::read_edges;
 use crate::fail::ValueFail;
 use crate::lattice::read_lattice;
 use crate::matrix::read_matrix;
+use crate::number::read_entry;
 use crate::sets::read_sets;
 use pm_props::{Columns, PropId, ValueKind};
-use pm_types::Value as PropertyValue;
+use pm_types::{Number, Value as PropertyValue};
 use serde_json::Value;
 use std::alloc::Global;
 
@@ -56,22 +57,57 @@ fn read_truth(v: &Value) -> Result<PropertyValue, ValueFail>
     }
 }
 
+/// Whether a JSON value is this text.
+fn is_text(v: &Value, text: &str) -> bool
+    ensures { result ≡ is_text text.now (as_str (view v.now)) }
+{
+    match v.as_str() {
+        Some(found) => found == text,
+        None => false,
+    }
+}
+
+/// A fraction, or the text of an infinity.
+fn read_extended(v: &Value) -> Result<Number, ValueFail>
+    ensures ok { IfOk result (λ x. number_value_of (view v.now) ≡ Ok (extended_of x)) }
+    ensures fault { IfErr result (λ e. number_value_of (view v.now) ≡ Err e) }
+{
+    if is_text(v, "inf") {
+        return Ok(Number::PlusInfinity);
+    }
+    if is_text(v, "-inf") {
+        return Ok(Number::MinusInfinity);
+    }
+    let q = read_entry(v)?;
+    Ok(Number::Finite(q))
+}
+
+/// A number, for a property whose values are such.
+fn read_number_value(p: PropId, v: &Value) -> Result<PropertyValue, ValueFail>
+    requires { value_kind p ≡ ValueKind.Number }
+    ensures ok { IfOk result (λ value. extended_value_of (view v.now) ≡ Ok (view_of value)) }
+    ensures formed { IfOk result (λ value. IsTrue (is_formed p (view_of value))) }
+    ensures fault { IfErr result (λ e. extended_value_of (view v.now) ≡ Err e) }
+{
+    let number = read_extended(v)?;
+    Ok(PropertyValue::Number(number))
+}
+
 /// The value of a property that a JSON value is, or the first fault in reading order.
 pub fn read_value(alloc: Global, p: PropId, v: &Value) -> Result<PropertyValue, ValueFail>
-    requires built { IsTrue (is_built p) }
     ensures ok { IfOk result (λ value. reading p (view v.now) ≡ Ok (view_of value)) }
     ensures formed { IfOk result (λ value. IsTrue (is_formed p (view_of value))) }
     ensures fault { IfErr result (λ e. e ≢ ValueFail.Memory → reading p (view v.now) ≡ Err e) }
 {
     let kind = p.row().kind;
     match kind {
-        ValueKind::Mat => read_matrix(alloc, v),
+        ValueKind::Mat => read_matrix(alloc, p, v),
         ValueKind::Sets => read_sets(alloc, v),
         ValueKind::Int => read_whole(p, v),
         ValueKind::Bool => read_truth(v),
         ValueKind::Counts => read_counts(alloc, p, v),
         ValueKind::Edges => read_edges(alloc, p, v),
         ValueKind::Lattice => read_lattice(alloc, p, v),
-        _ => Err(ValueFail::Shape),
+        ValueKind::Number => read_number_value(p, v),
     }
 }

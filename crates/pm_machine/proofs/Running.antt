@@ -16,7 +16,7 @@ use Rattle.pm_props.proofs.Every.{has-set_of_filter}
 use Rattle.pm_props.proofs.Every.{among_every}
 use Rattle.pm_props.proofs.Places.{same_property_refl}
 use Rattle.pm_props.proofs.Members.{has-intersection, has-union}
-use Rattle.pm_types.specs.Forms.{FormsIn, has_64_bits, is_counts_form, is_edges_form, is_formed, is_lattice_form, is_matrix_form, is_sets_form}
+use Rattle.pm_types.specs.Forms.{FormsIn, has_64_bits, is_counts_form, is_edges_form, is_formed, is_lattice_form, is_matrix_of, is_of_numbers, is_sets_form}
 use Rattle.pm_props.specs.Properties.{is_of_counts, is_of_edges, is_of_lattices, is_of_matrices, is_of_sets, is_of_whole_numbers}
 use Rattle.pm_props.specs.Kinds.{IsFresh, IsKindOf, names_of as names_of_kind}
 use Rattle.pm_props.specs.Properties.{is_in_use}
@@ -89,6 +89,9 @@ not_edges p k = ap is_of_edges k
 not_lattices : (p : PropId) → value_kind p ≡ form.Bool → is_of_lattices (value_kind p) ≡ false
 not_lattices p k = ap is_of_lattices k
 
+not_numbers : (p : PropId) → value_kind p ≡ form.Bool → is_of_numbers (value_kind p) ≡ false
+not_numbers p k = ap is_of_numbers k
+
 and_left : (a b : Bool) → (a && b) ≡ true → a ≡ true
 and_left true b h = refl
 and_left false b h = absurd (true≢false (sym h))
@@ -99,11 +102,11 @@ whole_apart ConeAmbientDim n k f = true≢false (ap is_of_whole_numbers k)
 whole_apart p n k f = true≢false (sym (and_left (is_of_whole_numbers (value_kind p)) (has_64_bits n) f) ∙ ap is_of_whole_numbers k)
 
 pub is_truth_value : (p : PropId) (v : PropertyValue) → value_kind p ≡ form.Bool → is_formed p v ≡ true → (b : Bool) × (v ≡ truth b)
-is_truth_value p (matrix n rows) k f = absurd (true≢false (sym (and_left (is_of_matrices (value_kind p)) (is_matrix_form n rows) f) ∙ not_matrices p k))
+is_truth_value p (matrix n rows) k f = absurd (true≢false (sym (and_left (is_of_matrices (value_kind p)) (is_matrix_of p n rows) f) ∙ not_matrices p k))
 is_truth_value p (sets rows n) k f = absurd (true≢false (sym (and_left (is_of_sets (value_kind p)) (is_sets_form rows n) f) ∙ not_sets p k))
 is_truth_value p (whole n) k f = absurd (whole_apart p n k f)
 is_truth_value p (truth b) k f = (b, refl)
-is_truth_value p (extended x) k f = absurd (true≢false (sym f))
+is_truth_value p (extended x) k f = absurd (true≢false (sym f ∙ not_numbers p k))
 is_truth_value p (edges rows) k f = absurd (true≢false (sym (and_left (is_of_edges (value_kind p)) (is_edges_form rows) f) ∙ not_edges p k))
 is_truth_value p (lattice ranks) k f = absurd (true≢false (sym (and_left (is_of_lattices (value_kind p)) (is_lattice_form ranks) f) ∙ not_lattices p k))
 is_truth_value p (counts ks) k f = absurd (true≢false (sym (and_left (is_of_counts (value_kind p)) (is_counts_form ks) f) ∙ not_counts p k))

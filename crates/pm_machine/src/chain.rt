@@ -51,6 +51,7 @@ fn is_held_as(object: &Object, sub: Option<u8>, p: PropId, b: bool) -> bool
         Some(Value::Counts(_)) => false,
         Some(Value::Edges(_)) => false,
         Some(Value::Lattice(_)) => false,
+        Some(Value::Number(_)) => false,
         None => false,
     }
 }

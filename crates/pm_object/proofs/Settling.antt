@@ -6,19 +6,19 @@ use Rattle.pm_object.specs.declared.held.Held.{Held as HeldOf}
 use Rattle.pm_algebra.specs.Numbers.{Ratio}
 use Rattle.pm_object.specs.State.{HeldValue, State, agrees, ambient_in, cols_of, first_cols, is_held, is_sealed, names_to_settle, only_if, or_else, settled, settling, value_of, with_held}
 use Rattle.pm_matrix.specs.Matrices.{IsFraction}
-use Rattle.pm_types.specs.Forms.{HasPrimitiveRow, cols_in, is_column_count, is_dimension, is_formed, is_matrix_form, stated_cols}
+use Rattle.pm_types.specs.Forms.{HasPrimitiveRow, cols_in, is_column_count, is_dimension, is_formed, is_matrix_form, is_matrix_of, is_row_of_entries, stated_cols}
 use Rattle.pm_props.specs.Properties.{is_columned, is_of_matrices}
 use Rattle.pm_props.specs.Properties.{value_kind}
 use Rattle.pm_types.specs.Values.{PropertyValue, matrix, sets, whole, truth, extended, edges, lattice, counts}
 use Rattle.pm_props.specs.declared.property.PropId.{PropId}
-use Rattle.pm_props.specs.declared.property.PropId.TheVariants.{ConeAmbientDim, InputLineality, Equations, LinealitySpace, AffineHull}
+use Rattle.pm_props.specs.declared.property.PropId.TheVariants.{ConeAmbientDim, InputLineality, Equations, LinealitySpace, AffineHull, F2Vector, LinearObjective}
 use Rattle.pm_props.specs.declared.object_type.ObjectType.{ObjectType}
 use Rattle.std.proofs.Common.{ap, append-nil, arith, false, refl, subst, sym, true, true≢false, ◌∙◌}
 use Rattle.std.proofs.lemmas.Bool.{leb-true}
 use Rattle.std.proofs.lemmas.List.Elements.{All-nil}
-use Rattle.std.specs.List.{All, AllByRecursion}
+use Rattle.std.specs.List.{All, AllByRecursion, list_all}
 use Rattle.std.specs.Option.{is_some, unwrap_or}
-use Rattle.std.specs.Prelude.{Bool, IfSome, List, None, Option, Some, [], if◌then◌else◌, map, nat_eq, nat_le, not, ℕ, ◌&&◌, ◌++◌, ◌^◌, ◌<◌, ◌≡◌, ◌∷◌}
+use Rattle.std.specs.Prelude.{Bool, IfSome, List, None, Option, Some, [], if◌then◌else◌, length, map, nat_eq, nat_le, not, ℕ, ◌&&◌, ◌++◌, ◌^◌, ◌<◌, ◌≡◌, ◌∷◌}
 use lib.IntN.{pos}
 
 -- the properties that are settled as matrices without rows
@@ -74,22 +74,31 @@ at_most : (rows : List (List Ratio)) (n : ℕ) → is_column_count rows n ≡ tr
 at_most [] n h k = grind arith
 at_most (r ∷ rows) n h k = h
 
+column_count : (n : ℕ) (rows : List (List Ratio)) → is_matrix_form n rows ≡ true → is_column_count rows n ≡ true
+column_count n rows h = and_right (nat_le (length rows) 2048) (is_column_count rows n) (and_left (nat_le (length rows) 2048 && is_column_count rows n) (list_all (is_row_of_entries n) rows) h)
+
+-- a property whose rows have the thing's columns is no table
+matrix_at_most : (p : PropId) (n : ℕ) (rows : List (List Ratio)) → is_columned p ≡ true → is_matrix_of p n rows ≡ true → nat_eq n 0 ≡ false → is_dimension (pos n) ≡ true
+matrix_at_most F2Vector n rows c h k = absurd (true≢false (sym c))
+matrix_at_most LinearObjective n rows c h k = at_most rows n (column_count n rows (and_right (nat_eq (length rows) 1) (is_matrix_form n rows) h)) k
+matrix_at_most p n rows c h k = at_most rows n (column_count n rows h) k
+
 matrix_range : (p : PropId) (v : PropertyValue) → is_formed p v ≡ true → nat_eq (stated_cols p v) 0 ≡ false → is_dimension (pos (stated_cols p v)) ≡ true
-matrix_range p v f k = by (is_columned p) v f k
+matrix_range p v f k = by (is_columned p) refl v f k
   where
     zero_apart : nat_eq 0 0 ≡ false → {A : Type 0} → A
     zero_apart e = absurd (true≢false e)
 
-    by : (t : Bool) (v : PropertyValue) → is_formed p v ≡ true → nat_eq (if t then cols_in v else 0) 0 ≡ false → is_dimension (pos (if t then cols_in v else 0)) ≡ true
-    by false v f k = zero_apart k
-    by true (matrix n rows) f k = at_most rows n (and_right _ _ (and_left _ _ (and_right (is_of_matrices (value_kind p)) (is_matrix_form n rows) f))) k
-    by true (sets rows n) f k = zero_apart k
-    by true (whole n) f k = zero_apart k
-    by true (truth b) f k = zero_apart k
-    by true (extended x) f k = zero_apart k
-    by true (edges rows) f k = zero_apart k
-    by true (lattice ranks) f k = zero_apart k
-    by true (counts ks) f k = zero_apart k
+    by : (t : Bool) → is_columned p ≡ t → (v : PropertyValue) → is_formed p v ≡ true → nat_eq (if t then cols_in v else 0) 0 ≡ false → is_dimension (pos (if t then cols_in v else 0)) ≡ true
+    by false c v f k = zero_apart k
+    by true c (matrix n rows) f k = matrix_at_most p n rows c (and_right (is_of_matrices (value_kind p)) (is_matrix_of p n rows) f) k
+    by true c (sets rows n) f k = zero_apart k
+    by true c (whole n) f k = zero_apart k
+    by true c (truth b) f k = zero_apart k
+    by true c (extended x) f k = zero_apart k
+    by true c (edges rows) f k = zero_apart k
+    by true c (lattice ranks) f k = zero_apart k
+    by true c (counts ks) f k = zero_apart k
 
 some_is : (a b : ℕ) → Some a ≡ Some b → a ≡ b
 some_is a b h = cc

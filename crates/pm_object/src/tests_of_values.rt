@@ -5,7 +5,8 @@ ghost use Rattle.pm_matrix.specs.Matrices.{IsFraction};
 ghost use Rattle.pm_types.specs.Forms.{AreFractions, HasPrimitiveRow, HavePrimitiveRows, agrees_with, are_rows, first_is_below, first_is_nought, is_below_nought, is_formed, is_nought, is_number, is_row, is_zero_row, passes, stated_cols, states};
 ghost use Rattle.pm_props.specs.Properties.{is_ambient};
 ghost use Rattle.pm_object.specs.Views.{held_seen};
-ghost use Rattle.pm_types.specs.Views.{view_of};
+ghost use Rattle.pm_types.specs.Values.{extended};
+ghost use Rattle.pm_types.specs.Views.{extended_of, view_of};
 ghost use Rattle.std.specs.List.{list_all};
 ghost use Rattle.std.specs.Prelude.{All, IfErr, IsTrue, OnOk, length, map, ◌≡◌, ◌≢◌, ◌≤◌};
 
@@ -13,7 +14,7 @@ use crate::held::{Held, TakeFail};
 use pm_fraction::Fraction;
 use pm_matrix::{Matrix, RowsFail};
 use pm_props::{Columns, PropId, RowTest};
-use pm_types::{ObjectType, Value};
+use pm_types::{Number, ObjectType, Value};
 use std::alloc::Global;
 
 /// The column count that a value states, 0 where it states none.
@@ -31,6 +32,7 @@ pub fn stated_cols(p: PropId, v: &Value) -> usize
         Value::Counts(_) => 0,
         Value::Edges(_) => 0,
         Value::Lattice(_) => 0,
+        Value::Number(_) => 0,
     }
 }
 
@@ -78,6 +80,7 @@ fn states(n: usize, v: &Value) -> bool
         Value::Counts(_) => true,
         Value::Edges(_) => true,
         Value::Lattice(_) => true,
+        Value::Number(_) => true,
     }
 }
 
@@ -99,6 +102,7 @@ pub fn are_rows(of: ObjectType, p: PropId, v: &Value) -> bool
         Value::Counts(_) => true,
         Value::Edges(_) => true,
         Value::Lattice(_) => true,
+        Value::Number(_) => true,
     }
 }
 
@@ -187,6 +191,20 @@ pub fn require_primitive_rows(alloc: Global, p: PropId, v: &Value) -> Result<(),
         Value::Counts(_) => Ok(()),
         Value::Edges(_) => Ok(()),
         Value::Lattice(_) => Ok(()),
+        Value::Number(number) => {
+            reads_number(*number);
+            Ok(())
+        }
+    }
+}
+
+// The fraction of a finite number is in lowest terms, within the range.
+fn reads_number(number: Number)
+    ensures { AreFractions (extended (extended_of number)) }
+{
+    if let Number::Finite(q) = number {
+        let _num = q.num();
+        let _den = q.den();
     }
 }
 

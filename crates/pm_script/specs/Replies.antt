@@ -199,7 +199,7 @@ remarks_text trace (planned barred rows names) = flat_map (barred_text names) ba
 -- the reply's lines, each with its LF; rounds that found a value are shown where they are traced
 abbrev pub reply_text : Bool → ReplySeen → List ℕ
 reply_text trace done = codes "ok\n"
-reply_text trace (shows name of p v t) = name ++ codes " " ++ name_in of p ++ codes " " ++ value_text v ++ codes "\n" ++ (if trace then rounds_text t else [])
+reply_text trace (shows name of p v t) = name ++ codes " " ++ name_in of p ++ codes " " ++ value_text p v ++ codes "\n" ++ (if trace then rounds_text t else [])
 reply_text trace (ensured t) = codes "ok " ++ decimal (length t.rounds) ++ codes "\n" ++ rounds_text t
 reply_text trace (explained chain weight rows names) = codes "plan " ++ cost_text weight ++ codes "\n" ++ flat_map (rule_text names) chain ++ flat_map table_row_text rows
 reply_text trace (tells t excluded) = codes "rounds " ++ decimal (length t.rounds) ++ codes "\n" ++ rounds_text t ++ flat_map (excluded_text t.names) excluded

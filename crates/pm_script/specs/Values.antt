@@ -3,6 +3,8 @@ use Rattle.std.specs.Prelude.{ℕ, zero, suc, List, [], ◌∷◌, ◌++◌, Boo
 use Rattle.std.specs.Fmt.{signed_decimal}
 use Rattle.pm_algebra.specs.Numbers.{Ratio}
 use Rattle.pm_fraction.specs.Text.{text_of}
+use Rattle.pm_props.specs.declared.property.PropId.{PropId}
+use Rattle.pm_props.specs.declared.property.PropId.TheVariants.{LinearObjective}
 use Rattle.pm_types.specs.Values.{PropertyValue, matrix, sets, whole, truth, extended, edges, lattice, counts, Extended, finite, plus_infinity, minus_infinity}
 
 -- each with a comma before it
@@ -38,6 +40,11 @@ matrix_text zero [] = array_text []
 matrix_text (suc n) [] = array_text (cols_text (suc n) ∷ [])
 matrix_text n (r ∷ rows) = array_text (map row_text (r ∷ rows))
 
+-- LP.LINEAR_OBJECTIVE is one row
+abbrev pub matrix_text_of : PropId → ℕ → List (List Ratio) → List ℕ
+matrix_text_of LinearObjective n (r ∷ []) = row_text r
+matrix_text_of p n rows = matrix_text n rows
+
 abbrev pub set_text : List ℕ → List ℕ
 set_text r = array_text (map decimal r)
 
@@ -56,13 +63,13 @@ extended_text (finite q) = text_of q
 extended_text plus_infinity = codes "inf"
 extended_text minus_infinity = codes "-inf"
 
--- the value: fractions and infinities as texts; a matrix with its column count only where it has no rows and a stated one; sets always with their column count; whole numbers and truth values as they are
-abbrev pub value_text : PropertyValue → List ℕ
-value_text (matrix n rows) = matrix_text n rows
-value_text (sets rows n) = sets_text rows n
-value_text (whole k) = signed_decimal k
-value_text (truth b) = truth_text b
-value_text (extended x) = quoted (extended_text x)
-value_text (edges rows) = edges_text rows
-value_text (lattice ranks) = array_text (map edges_text ranks)
-value_text (counts ks) = array_text (map signed_decimal ks)
+-- the value of p: fractions and infinities as texts; a matrix with its column count only where it has no rows and a stated one; an objective as one row; sets always with their column count; whole numbers and truth values as they are
+abbrev pub value_text : PropId → PropertyValue → List ℕ
+value_text p (matrix n rows) = matrix_text_of p n rows
+value_text p (sets rows n) = sets_text rows n
+value_text p (whole k) = signed_decimal k
+value_text p (truth b) = truth_text b
+value_text p (extended x) = quoted (extended_text x)
+value_text p (edges rows) = edges_text rows
+value_text p (lattice ranks) = array_text (map edges_text ranks)
+value_text p (counts ks) = array_text (map signed_decimal ks)

@@ -121,13 +121,13 @@ fn push_shown(
     value: &Value,
 ) -> Result<(), AllocError>
     ensures { OnOk result (string_bytes text.new ≡ string_bytes text.old
-        ++ codes " " ++ name_in of prop ++ codes " " ++ value_text (view_of value.now)
+        ++ codes " " ++ name_in of prop ++ codes " " ++ value_text prop (view_of value.now)
         ++ codes "\n") }
 {
     text.push_str(" ")?;
     text.push_str(prop.name_in(of))?;
     text.push_str(" ")?;
-    push_value(text, value)?;
+    push_value(text, prop, value)?;
     text.push_str("\n")
 }
 

@@ -1,15 +1,16 @@
 // Values as JSON texts.
 
 ghost use Rattle.pm_fraction.specs.Text.{text_of};
-ghost use Rattle.pm_script.specs.Values.{array_text, cols_text, each_then_comma, edges_text, matrix_text, more_pieces, quoted, row_text, set_text, sets_text, truth_text, value_text, with_commas};
+ghost use Rattle.pm_script.specs.Values.{array_text, cols_text, each_then_comma, edges_text, extended_text, matrix_text, matrix_text_of, more_pieces, quoted, row_text, set_text, sets_text, truth_text, value_text, with_commas};
 ghost use Rattle.pm_types.specs.Lists.{lists_of};
-ghost use Rattle.pm_types.specs.Views.{view_of};
+ghost use Rattle.pm_types.specs.Views.{extended_of, view_of};
 ghost use Rattle.std.specs.Fmt.{signed_decimal};
 ghost use Rattle.std.specs.Prelude.{◌==◌, OnOk, [], codes, decimal, drop, map, string_bytes, ◌++◌, ◌∷◌, ◌≡◌};
 
 use pm_fraction::Fraction;
 use pm_matrix::Matrix;
-use pm_types::{Sets, Value};
+use pm_props::PropId;
+use pm_types::{Number, Sets, Value};
 use std::alloc::AllocError;
 use std::fmt::Write;
 
@@ -76,6 +77,17 @@ fn push_columns_alone(text: &mut String, cols: usize) -> Result<(), AllocError>
         text.push_str("[")?;
         push_cols(text, cols)?;
         text.push_str("]")
+    }
+}
+
+/// Writes a matrix of a property: LP.LINEAR_OBJECTIVE is one row.
+fn push_matrix_of(text: &mut String, p: PropId, m: &Matrix) -> Result<(), AllocError>
+    ensures { OnOk result (string_bytes text.new ≡ string_bytes text.old ++ matrix_text_of p m.now.cols m.now.rows) }
+{
+    if p == PropId::LinearObjective && m.rows() == 1 {
+        push_row(text, m.row(0))
+    } else {
+        push_matrix(text, m)
     }
 }
 
@@ -201,12 +213,23 @@ fn push_lattice(text: &mut String, ranks: &[Vec<Vec<u32>>]) -> Result<(), AllocE
     text.push_str("]")
 }
 
-/// Writes a value.
-pub fn push_value(text: &mut String, value: &Value) -> Result<(), AllocError>
-    ensures { OnOk result (string_bytes text.new ≡ string_bytes text.old ++ value_text (view_of value.now)) }
+/// Writes a fraction or an infinity.
+fn push_number(text: &mut String, number: Number) -> Result<(), AllocError>
+    ensures { OnOk result (string_bytes text.new ≡ string_bytes text.old ++ quoted (extended_text (extended_of number))) }
+{
+    match number {
+        Number::Finite(q) => write!(text, "\"{q}\""),
+        Number::PlusInfinity => text.push_str("\"inf\""),
+        Number::MinusInfinity => text.push_str("\"-inf\""),
+    }
+}
+
+/// Writes a value of a property.
+pub fn push_value(text: &mut String, p: PropId, value: &Value) -> Result<(), AllocError>
+    ensures { OnOk result (string_bytes text.new ≡ string_bytes text.old ++ value_text p (view_of value.now)) }
 {
     match value {
-        Value::Mat(m) => push_matrix(text, m),
+        Value::Mat(m) => push_matrix_of(text, p, m),
         Value::Sets(sets) => push_sets(text, sets),
         Value::Int(k) => write!(text, "{k}"),
         Value::Bool(true) => text.push_str("true"),
@@ -214,5 +237,6 @@ pub fn push_value(text: &mut String, value: &Value) -> Result<(), AllocError>
         Value::Counts(counts) => push_counts(text, counts.as_slice()),
         Value::Edges(rows) => push_edges(text, rows.rows()),
         Value::Lattice(lattice) => push_lattice(text, lattice.ranks()),
+        Value::Number(number) => push_number(text, *number),
     }
 }

@@ -4,9 +4,9 @@ use Rattle.pm_geom.specs.Things.{Orders}
 use Rattle.pm_types.specs.Things.{Thing}
 use Rattle.pm_props.specs.Properties.{facets_tag, rays_tag}
 use Rattle.pm_types.specs.Right.{Right}
-use Rattle.pm_types.specs.Values.{PropertyValue, counts, edges, lattice, matrix, sets, truth, whole}
+use Rattle.pm_types.specs.Values.{PropertyValue, counts, edges, extended, lattice, matrix, sets, truth, whole}
 use Rattle.pm_props.specs.declared.property.PropId.{PropId}
-use Rattle.pm_props.specs.declared.property.PropId.TheVariants.{ConeAmbientDim, Points, InputLineality, Inequalities, Equations, Vertices, LinealitySpace, Facets, AffineHull, VerticesInFacets, ConeDim, LinealityDim, CombinatorialDim, NVertices, NFacets, Feasible, Bounded, Pointed, FullDim, Centered, Simple, Simplicial, VertexSizes, FacetSizes, FarFace, HasseDiagram, FVector, F2Vector, HVector, Graph, DualGraph, Diameter, DualDiameter, NEdges, NRidges, VertexDegrees}
+use Rattle.pm_props.specs.declared.property.PropId.TheVariants.{ConeAmbientDim, Points, InputLineality, Inequalities, Equations, Vertices, LinealitySpace, Facets, AffineHull, VerticesInFacets, ConeDim, LinealityDim, CombinatorialDim, NVertices, NFacets, Feasible, Bounded, Pointed, FullDim, Centered, Simple, Simplicial, VertexSizes, FacetSizes, FarFace, HasseDiagram, FVector, F2Vector, HVector, Graph, DualGraph, Diameter, DualDiameter, NEdges, NRidges, VertexDegrees, LinearObjective, MaximalValue, MinimalValue, MaximalFace, MinimalFace, MaximalDual, MinimalDual}
 use Rattle.std.proofs.Common.{false, inl, inr, subst, sym, true, true≢false}
 use Rattle.std.specs.Prelude.{List, ◌≡◌, ◌⊎◌}
 
@@ -58,4 +58,11 @@ right_in_orders DualDiameter (whole k) t o o' c a h = h
 right_in_orders NEdges (whole k) t o o' c a h = h
 right_in_orders NRidges (whole k) t o o' c a h = h
 right_in_orders VertexDegrees (counts ks) t o o' c a h = subst (λ V. Right VertexDegrees (counts ks) t (record o' { rays = V }) c) (tagged a.rays) h
+right_in_orders LinearObjective (matrix n rows) t o o' c a h = h
+right_in_orders MaximalValue (extended x) t o o' c a h = h
+right_in_orders MinimalValue (extended x) t o o' c a h = h
+right_in_orders MaximalFace (counts ks) t o o' c a h = subst (λ V. Right MaximalFace (counts ks) t (record o' { rays = V }) c) (tagged a.rays) h
+right_in_orders MinimalFace (counts ks) t o o' c a h = subst (λ V. Right MinimalFace (counts ks) t (record o' { rays = V }) c) (tagged a.rays) h
+right_in_orders MaximalDual (matrix n rows) t o o' c a h = h
+right_in_orders MinimalDual (matrix n rows) t o o' c a h = h
 right_in_orders p v t o o' c a h = absurd h

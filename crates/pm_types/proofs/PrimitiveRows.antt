@@ -8,14 +8,16 @@ use Rattle.pm_matrix.specs.FractionRows.{IsLeastDenominator}
 use Rattle.pm_matrix.specs.Multiples.{IsLcm}
 use Rattle.pm_matrix.specs.Wideness.{IsFirstWide, IsFirstWideDenominator, IsFirstWideNumerator, IsWideRow, NumeratorsStay, RowStays, RowsStay}
 use Rattle.pm_matrix.specs.declared.fails.RowsFail.TheVariants.{Wide}
-use Rattle.pm_types.specs.Forms.{HasPrimitiveRow, is_column_count, is_matrix_form, is_row_of_entries}
+use Rattle.pm_props.specs.declared.property.PropId.TheVariants.{F2Vector, LinearObjective}
+use Rattle.pm_props.specs.declared.property.PropId.{PropId}
+use Rattle.pm_types.specs.Forms.{HasPrimitiveRow, is_column_count, is_matrix_form, is_matrix_of, is_row_of_entries}
 use Rattle.std.proofs.Common.{arith, below_more, get_or, inl, inr, length, subst, sym, ◌*◌, ◌+◌, ◌/◌, ◌≡◌, ◌≤◌, ℕ}
 use Rattle.std.proofs.lemmas.Bool.{and_parts, cases_lt, leb-true}
 use Rattle.std.proofs.lemmas.List.{get_or_default}
 use Rattle.std.proofs.lemmas.Nat.Gcd.{dvd-zero, dvd_trans}
 use Rattle.std.specs.Int.{◌∣◌}
 use Rattle.std.specs.List.{All, list_all}
-use Rattle.std.specs.Prelude.{List, [], nat_le, unsigned_abs, true, ◌&&◌}
+use Rattle.std.specs.Prelude.{List, [], nat_eq, nat_le, unsigned_abs, true, ◌&&◌}
 use lib.IntN.{ℤ, ◌*ℤ◌}
 
 -- ---- a least common denominator one column on
@@ -71,3 +73,11 @@ few_rows n rows h =
     let p = and_parts (nat_le (length rows) 2048 && is_column_count rows n) (list_all (is_row_of_entries n) rows) h in
     let q = and_parts (nat_le (length rows) 2048) (is_column_count rows n) p.0 in
     leb-true (length rows) 2048 q.0
+
+pub few_rows_of : (p : PropId) (n : ℕ) (rows : List (List Ratio)) → is_matrix_of p n rows ≡ true → length rows ≤ 2048
+few_rows_of F2Vector n rows h =
+    let p = and_parts (nat_le (length rows) 2048 && nat_le n 33) (list_all (is_row_of_entries n) rows) h in
+    let q = and_parts (nat_le (length rows) 2048) (nat_le n 33) p.0 in
+    leb-true (length rows) 2048 q.0
+few_rows_of LinearObjective n rows h = few_rows n rows (and_parts (nat_eq (length rows) 1) (is_matrix_form n rows) h).1
+few_rows_of p n rows h = few_rows n rows h

@@ -9,10 +9,13 @@ use Rattle.pm_matrix.specs.FractionRows.{IsLeastDenominator}
 use Rattle.pm_matrix.specs.Matrices.{IsFraction}
 use Rattle.pm_matrix.specs.Wideness.{DenominatorsStay, NumeratorsStay}
 use Rattle.pm_props.specs.Properties.{is_ambient, is_columned, is_of_matrices, is_of_sets, is_of_counts, is_of_edges, is_of_lattices, is_of_truth_values, is_of_whole_numbers, row, value_kind}
-use Rattle.pm_types.specs.Values.{PropertyValue, matrix, sets, whole, truth, counts, edges, lattice}
+use Rattle.pm_types.specs.Values.{PropertyValue, matrix, sets, whole, truth, counts, edges, lattice, extended, finite}
 use Rattle.pm_props.specs.declared.property.PropId.{PropId}
+use Rattle.pm_props.specs.declared.property.PropId.TheVariants.{F2Vector, LinearObjective}
 use Rattle.pm_props.specs.declared.property.RowTest.{RowTest}
 use Rattle.pm_props.specs.declared.property.RowTest.TheVariants as test
+use Rattle.pm_props.specs.declared.property.ValueKind.{ValueKind}
+use Rattle.pm_props.specs.declared.property.ValueKind.TheVariants as kind
 use lib.IntN.{ℤ, pos, negsuc}
 
 -- ---- forms
@@ -27,6 +30,16 @@ is_column_count (r ∷ rows) n = nat_le 1 n && nat_le n 33
 
 abbrev pub is_matrix_form : ℕ → List (List Ratio) → Bool
 is_matrix_form n rows = nat_le (length rows) 2048 && is_column_count rows n && list_all (is_row_of_entries n) rows
+
+-- a table may have rows without entries
+abbrev pub is_table_form : ℕ → List (List Ratio) → Bool
+is_table_form n rows = nat_le (length rows) 2048 && nat_le n 33 && list_all (is_row_of_entries n) rows
+
+-- F2_VECTOR is a table, and LP.LINEAR_OBJECTIVE is one row
+abbrev pub is_matrix_of : PropId → ℕ → List (List Ratio) → Bool
+is_matrix_of F2Vector n rows = is_table_form n rows
+is_matrix_of LinearObjective n rows = nat_eq (length rows) 1 && is_matrix_form n rows
+is_matrix_of p n rows = is_matrix_form n rows
 
 -- ascending indices from `low` on, below n
 abbrev pub are_indices : ℕ → ℕ → List ℕ → Bool
@@ -73,16 +86,21 @@ is_edges_form rows = is_sets_form rows (length rows) && are_joined_back rows 0 r
 abbrev pub is_lattice_form : List (List (List ℕ)) → Bool
 is_lattice_form ranks = nat_le (sum_by length ranks) 65536 && nat_le (sum_by (sum_by length) ranks) 4000000 && list_all (list_all (are_indices 2048 0)) ranks
 
--- the value has the form of a value of p, and keeps the limits: a matrix has at most 2,048 rows of one length from 1 to 33, and without rows it may state no column count, 0; at most 2,048 sets, each ascending, of indices below a column count of at most 2,048; at most 2,048 counts; edges and lattices as above; extended numbers have no form yet
+-- a fraction or an infinity
+abbrev pub is_of_numbers : ValueKind → Bool
+is_of_numbers kind.Number = true
+is_of_numbers k = false
+
+-- the value has the form of a value of p, and keeps the limits: a matrix has at most 2,048 rows of one length from 1 to 33, and without rows it may state no column count, 0; at most 2,048 sets, each ascending, of indices below a column count of at most 2,048; at most 2,048 counts; edges and lattices as above
 abbrev pub is_formed : PropId → PropertyValue → Bool
-is_formed p (matrix n rows) = is_of_matrices (value_kind p) && is_matrix_form n rows
+is_formed p (matrix n rows) = is_of_matrices (value_kind p) && is_matrix_of p n rows
 is_formed p (sets rows n) = is_of_sets (value_kind p) && is_sets_form rows n
 is_formed p (whole k) = is_whole_form p k
 is_formed p (truth b) = is_of_truth_values (value_kind p)
 is_formed p (counts ks) = is_of_counts (value_kind p) && is_counts_form ks
 is_formed p (edges rows) = is_of_edges (value_kind p) && is_edges_form rows
 is_formed p (lattice ranks) = is_of_lattices (value_kind p) && is_lattice_form ranks
-is_formed p v = false
+is_formed p (extended x) = is_of_numbers (value_kind p)
 
 -- ---- columns
 abbrev pub cols_in : PropertyValue → ℕ
@@ -152,8 +170,9 @@ abbrev pub rows_in : PropertyValue → List (List Ratio)
 rows_in (matrix n rows) = rows
 rows_in v = []
 
--- each entry is in lowest terms, with both parts in the range
+-- each entry of a matrix, and a finite number, is in lowest terms, with both parts in the range
 abbrev pub AreFractions : PropertyValue → Type 0
+AreFractions (extended (finite q)) = IsFraction q
 AreFractions v = All (All IsFraction) (rows_in v)
 
 -- so is it for each row

@@ -1,6 +1,7 @@
 pub mod Lists
 pub mod Values
 pub mod Things
+pub mod Programs
 pub mod Right
 pub mod Runs
 pub mod Views

@@ -1,25 +1,29 @@
 -- When a value of a property is right for a thing t with orders o. Each property has one line of `Right`; c is the objective of the program that a value belongs to.
 -- A half alone is right where the pair's line would make it so: what generates lies inside, what cuts out is valid.
 use Rattle.std.specs.Prelude.{ℕ, zero, suc, ◌+◌, ◌≡◌, ◌<◌, ◌↔◌, IsTrue, Option, None, Some, List, [], ◌∷◌, ◌++◌, if◌then◌else◌, length, map}
-use Rattle.std.specs.List.{All, AllPairs, Contains, list_all}
+use Rattle.std.specs.List.{All, AllPairs, Contains, list_all, slice_index_or}
 use Rattle.pm_algebra.specs.Numbers.{Ratio}
-use Rattle.pm_algebra.specs.Rows.{Row, entry, dot, HasCols, IsZero, Stands}
+use Rattle.pm_algebra.specs.Divisors.{IsPrimitive}
+use Rattle.pm_algebra.specs.Rows.{Row, entry, dot, plus, HasCols, IsZero, Same, Stands}
 use Rattle.pm_algebra.specs.Cones.{InCone, InSpan, IsIndependent}
 use Rattle.pm_bases.specs.Bases.{IsRank}
-use Rattle.pm_geom.specs.Cones.{CutOut, IsValid, Vanishes, InLineality, SameModulo}
+use Rattle.pm_geom.specs.Cones.{CutOut, IsFacetRow, IsValid, Vanishes, InLineality, SameModulo}
 use Rattle.pm_geom.specs.FaceCounts.{IsHasseDiagram, f2_of, f_of, h_of}
 use Rattle.pm_geom.specs.Faces.{ray}
+use Rattle.pm_geom.specs.Generators.{IsBefore}
 use Rattle.pm_geom.specs.Graphs.{IsDiameter, IsEdge, IsGraph, IsRidge, edge_count}
+use Rattle.pm_geom.specs.Programs.{IsTimes}
 use Rattle.pm_types.specs.Things.{Thing, IsThing, AreOrders}
 use Rattle.pm_geom.specs.Things.{Orders}
 use Rattle.pm_props.specs.declared.object_type.ObjectType.{ObjectType}
 use Rattle.pm_props.specs.declared.object_type.ObjectType.TheVariants.{Polytope, Cone, Fan}
 use Rattle.pm_types.specs.Forms.{has_64_bits}
-use Rattle.pm_types.specs.Values.{PropertyValue, matrix, sets, whole, truth, counts, edges, lattice, Fact}
+use Rattle.pm_types.specs.Programs.{IsGreatest, IsGreatestFace, OfGreatest, opposite_extended, opposite_objective}
+use Rattle.pm_types.specs.Values.{PropertyValue, matrix, sets, whole, truth, counts, edges, lattice, extended, Extended, finite, Fact}
 use Rattle.pm_types.specs.Views.{over_one}
 use Rattle.pm_props.specs.declared.property.PropId.{PropId}
-use Rattle.pm_props.specs.declared.property.PropId.TheVariants.{ConeAmbientDim, Points, InputLineality, Inequalities, Equations, Vertices, LinealitySpace, Facets, AffineHull, VerticesInFacets, ConeDim, LinealityDim, CombinatorialDim, NVertices, NFacets, Feasible, Bounded, Pointed, FullDim, Centered, Simple, Simplicial, VertexSizes, FacetSizes, FarFace, HasseDiagram, FVector, F2Vector, HVector, Graph, DualGraph, Diameter, DualDiameter, NEdges, NRidges, VertexDegrees}
-use lib.IntN.{ℤ, pos, negsuc, ◌-ℤ◌}
+use Rattle.pm_props.specs.declared.property.PropId.TheVariants.{ConeAmbientDim, Points, InputLineality, Inequalities, Equations, Vertices, LinealitySpace, Facets, AffineHull, VerticesInFacets, ConeDim, LinealityDim, CombinatorialDim, NVertices, NFacets, Feasible, Bounded, Pointed, FullDim, Centered, Simple, Simplicial, VertexSizes, FacetSizes, FarFace, HasseDiagram, FVector, F2Vector, HVector, Graph, DualGraph, Diameter, DualDiameter, NEdges, NRidges, VertexDegrees, LinearObjective, MaximalValue, MinimalValue, MaximalFace, MinimalFace, MaximalDual, MinimalDual}
+use lib.IntN.{ℤ, pos, negsuc, ◌-ℤ◌, ◌*ℤ◌}
 use lib.Signed.{◌<ℤ◌, ◌≤ℤ◌}
 
 -- x is in the cone of a cone or polytope
@@ -218,6 +222,43 @@ pub record InSomeOrders (t : Thing) (P : Orders → Type 0) : Type 0 where
   pub are_orders : AreOrders t orders
   pub holds : P orders
 
+-- ---- duals of linear programs
+-- the rows stand for facet rows of different directions, in lexicographic order of their primitive whole rows
+pub record AreFacetDirections (t : Thing) (rows : List (List Ratio)) : Type 0 where
+  pub xs : List Row
+  pub stand : StandFor rows xs
+  pub facets : All (IsFacetRow t.cols t.generators t.lines) xs
+  pub primitive : All IsPrimitive xs
+  pub ascending : AllPairs IsBefore xs
+
+-- the sum of the rows
+abbrev pub total : List Row → Row
+total [] = []
+total (x ∷ xs) = plus x (total xs)
+
+-- c, the sum of the rows and a row that vanishes are together the constant v: so c.x <= v at each point where no row is negative, and c.x = v where all are 0
+pub record IsBoundBy (t : Thing) (c : List Ratio) (v : Ratio) (rows : List (List Ratio)) : Type 0 where
+  pub k : ℤ
+  pub objective : Row
+  pub xs : List Row
+  pub rest : Row
+  pub constant : ℤ
+  pub objective_times : IsTimes k c objective
+  pub as_many : length xs ≡ length rows
+  pub times : (i : ℕ) → i < length rows → IsTimes k (slice_index_or rows i []) (slice_index_or xs i [])
+  pub vanishes : Vanishes t.cols t.generators t.lines rest
+  pub constant_times : constant *ℤ v.den ≡ k *ℤ v.num
+  pub sum : Same (plus objective (plus (total xs) rest)) (constant ∷ [])
+
+-- for a finite value, facet rows that bound c by it; else no rows
+abbrev pub AreDualRows : Thing → List Ratio → List (List Ratio) → Extended → Type 0
+AreDualRows t c rows (finite v) = AreFacetDirections t rows × IsBoundBy t c v rows
+AreDualRows t c rows x = rows ≡ []
+
+-- facet rows that show the greatest value of c
+abbrev pub IsGreatestDual : Thing → List Ratio → List (List Ratio) → Type 0
+IsGreatestDual t c rows = OfGreatest (InSet t) c (AreDualRows t c rows)
+
 -- the value v of the property p is right; a value of another form is never right
 abbrev pub Right : PropId → PropertyValue → Thing → Orders → List Ratio → Type 0
 Right ConeAmbientDim (whole k) t o c = k ≡ pos t.cols
@@ -256,6 +297,13 @@ Right DualDiameter (whole k) t o c = InSomeOrders t (λ p. (m : ℕ) × (k ≡ p
 Right NEdges (whole k) t o c = InSomeOrders t (λ p. (rows : List (List ℕ)) × IsRayGraph t p.rays rows × (k ≡ pos (edge_count rows)))
 Right NRidges (whole k) t o c = InSomeOrders t (λ p. (rows : List (List ℕ)) × IsFacetGraph t p.rays p.facets rows × (k ≡ pos (edge_count rows)))
 Right VertexDegrees (counts ks) t o c = (rows : List (List ℕ)) × IsRayGraph t o.rays rows × (ks ≡ map (λ row. pos (length row)) rows)
+Right LinearObjective (matrix n rows) t o c = rows ≡ c ∷ []
+Right MaximalValue (extended x) t o c = IsGreatest (InSet t) c x
+Right MinimalValue (extended x) t o c = IsGreatest (InSet t) (opposite_objective c) (opposite_extended x)
+Right MaximalFace (counts ks) t o c = IsGreatestFace (InSet t) c o.rays ks
+Right MinimalFace (counts ks) t o c = IsGreatestFace (InSet t) (opposite_objective c) o.rays ks
+Right MaximalDual (matrix n rows) t o c = IsGreatestDual t c rows
+Right MinimalDual (matrix n rows) t o c = IsGreatestDual t (opposite_objective c) rows
 Right p v t o c = ⊥
 
 abbrev pub objective_of : Thing → Option ℕ → List Ratio

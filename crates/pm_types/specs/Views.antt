@@ -2,7 +2,9 @@
 use Rattle.std.specs.Prelude.{List, map}
 use Rattle.pm_algebra.specs.Numbers.{Ratio}
 use Rattle.pm_algebra.specs.Rows.{Row}
-use Rattle.pm_types.specs.Values.{PropertyValue, matrix, sets, whole, truth, counts, edges, lattice}
+use Rattle.pm_types.specs.Values.{PropertyValue, matrix, sets, whole, truth, counts, edges, lattice, extended, Extended, finite, plus_infinity, minus_infinity}
+use Rattle.pm_types.specs.declared.number.Number.{Number}
+use Rattle.pm_types.specs.declared.number.Number.TheVariants as number
 use Rattle.pm_types.specs.declared.value.Value.{Value}
 use Rattle.pm_types.specs.declared.value.Value.TheVariants as value
 use lib.IntN.{ℤ, pos}
@@ -15,6 +17,12 @@ over_one k = record { num = k; den = pos 1 }
 abbrev pub ratios : Row → List Ratio
 ratios x = map over_one x
 
+-- the number
+abbrev pub extended_of : Number → Extended
+extended_of (number.Finite q) = finite q
+extended_of number.PlusInfinity = plus_infinity
+extended_of number.MinusInfinity = minus_infinity
+
 -- the value
 abbrev pub view_of : Value → PropertyValue
 view_of (value.Mat m) = matrix m.cols m.rows
@@ -24,3 +32,4 @@ view_of (value.Bool b) = truth b
 view_of (value.Counts c) = counts c
 view_of (value.Edges s) = edges s.rows
 view_of (value.Lattice l) = lattice l
+view_of (value.Number x) = extended (extended_of x)

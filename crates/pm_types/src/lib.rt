@@ -5,9 +5,11 @@
 ghost use Rattle.pm_types.specs.Runs.{RightAnswerIsKept};
 
 mod lattice;
+mod number;
 mod value;
 
 pub use lattice::Lattice;
+pub use number::Number;
 pub use pm_geom::Evidence;
 pub use pm_props::{
     ClientName, Kind, ObjectType, PropId, PropSet, RuleId, StandardClient, ValueKind,

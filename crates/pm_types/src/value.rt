@@ -5,6 +5,7 @@ ghost use Rattle.pm_types.specs.Views.{view_of};
 ghost use Rattle.std.specs.Prelude.{IfOk, List, OnErr, OnOk, [], length, map, ℕ, ◌++◌, ◌∷◌, ◌≡◌};
 
 use crate::lattice::Lattice;
+use crate::number::Number;
 use pm_geom::copy_sets;
 use pm_matrix::Matrix;
 use std::alloc::{AllocError, Global};
@@ -116,6 +117,8 @@ pub enum Value {
     Edges(Sets),
     /// For each rank the faces of that rank.
     Lattice(Lattice),
+    /// A fraction, or one of both infinities.
+    Number(Number),
 }
 
 impl Value {
@@ -131,6 +134,7 @@ impl Value {
             Value::Counts(counts) => Ok(Value::Counts(counts.copy(alloc)?)),
             Value::Edges(rows) => Ok(Value::Edges(rows.copy(alloc)?)),
             Value::Lattice(lattice) => Ok(Value::Lattice(lattice.copy(alloc)?)),
+            Value::Number(number) => Ok(Value::Number(*number)),
         }
     }
 }

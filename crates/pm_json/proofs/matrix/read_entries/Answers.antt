@@ -1,21 +1,21 @@
 -- Each turn puts the next entry behind the others, or ends at the first fault.
-use Rattle.std.proofs.Common.{add-one, ap, arith, drop, eqb, length, suc, sym, ◌∙◌, ◌<◌, List}
+use Rattle.std.proofs.Common.{add-one, ap, arith, drop, length, suc, sym, ◌∙◌, ◌<◌, List}
 use Rattle.std.proofs.lemmas.List.{drop_all}
 use Rattle.std.proofs.lemmas.Result.{err_from_is_err_and}
 use Rattle.pm_json.proofs.Readings.{with_front-nil}
-use Rattle.pm_json.proofs.RowEnds.{first_row_from-end, first_row_from-item, first_row_from-long, first_row_from-no_entry, first_row_from-none, next_item}
-use Rattle.pm_json.specs.Readings.{Read, first_row_from, with_front}
+use Rattle.pm_json.proofs.RowEnds.{entries_from-end, entries_from-item, entries_from-long, entries_from-no_entry, next_item}
+use Rattle.pm_json.specs.Readings.{Read, entries_from, with_front}
 use Rattle.pm_algebra.specs.Numbers.{Ratio}
 use Rattle.serde_json.specs.View.{items_view, view}
 use Rattle.serde_json.specs.declared.value.Value.{Value}
-use Rattle.pm_json.proofs.matrix.read_first_row.Goals as goal
+use Rattle.pm_json.proofs.matrix.read_entries.Goals as goal
 
 -- the whole row, of which vs are left
 abbrev left : List Ratio → List Value → Read (List Ratio)
-left row vs = with_front row (first_row_from (length row) (items_view vs))
+left row vs = with_front row (entries_from (length row) (items_view vs))
 
 pub loop-item-init : goal.loop-item-init
-loop-item-init c = rw c.new-row.ensures.items (sym (with_front-nil (first_row_from 0 (items_view c.args.items.now))))
+loop-item-init c = rw c.new-row.ensures.items (sym (with_front-nil (entries_from 0 (items_view c.args.items.now))))
 
 pub loop-item-preserved : goal.loop-item-preserved
 loop-item-preserved c =
@@ -25,8 +25,8 @@ loop-item-preserved c =
     let room : length row < 33 = omega (arith, c.len.ensures, c.loop-item.row.ok, c.if-len-ge-COL_LIMIT.false) in
     rw add-one (c.loop-item.invariant
     ∙ ap (left row) (next_item vs i c.item-item.result c.loop-item-test.true c.item-item.is)
-    ∙ first_row_from-item row c.in_ok-entry.entry (view c.item-item.result) (items_view (drop (suc i) vs)) room (sym c.in_ok-entry.ensures)
-    ∙ ap (λ l. with_front l (first_row_from (length l) (items_view (drop (suc i) vs)))) (sym c.in_ok-push.ensures.items))
+    ∙ entries_from-item row c.in_ok-entry.entry (view c.item-item.result) (items_view (drop (suc i) vs)) room (sym c.in_ok-entry.ensures)
+    ∙ ap (λ l. with_front l (entries_from (length l) (items_view (drop (suc i) vs)))) (sym c.in_ok-push.ensures.items))
 
 pub returns-then-len-ge-COL_LIMIT-clause-fault : goal.returns-then-len-ge-COL_LIMIT-clause-fault
 returns-then-len-ge-COL_LIMIT-clause-fault c memory =
@@ -35,7 +35,7 @@ returns-then-len-ge-COL_LIMIT-clause-fault c memory =
     let i = c.loop-item.item-index in
     c.loop-item.invariant
     ∙ ap (left row) (next_item vs i c.item-item.result c.loop-item-test.true c.item-item.is)
-    ∙ first_row_from-long row c.in_ok-entry.entry (view c.item-item.result) (items_view (drop (suc i) vs)) (omega (arith, c.len.ensures, c.loop-item.row.ok, c.if-len-ge-COL_LIMIT.true)) (sym c.in_ok-entry.ensures)
+    ∙ entries_from-long row c.in_ok-entry.entry (view c.item-item.result) (items_view (drop (suc i) vs)) (omega (arith, c.len.ensures, c.loop-item.row.ok, c.if-len-ge-COL_LIMIT.true)) (sym c.in_ok-entry.ensures)
 
 pub returns-in_err-entry-clause-fault : goal.returns-in_err-entry-clause-fault
 returns-in_err-entry-clause-fault c =
@@ -45,23 +45,16 @@ returns-in_err-entry-clause-fault c =
     let p = err_from_is_err_and c.from_residual.result c.from_residual.ensures.1 in
     rw (p.1, p.2) (λ memory. c.loop-item.invariant
     ∙ ap (left row) (next_item vs i c.item-item.result c.loop-item-test.true c.item-item.is)
-    ∙ first_row_from-no_entry row (length row) (view c.item-item.result) (items_view (drop (suc i) vs)) c.in_err-entry.field-0.0 (sym c.in_err-entry.ensures))
+    ∙ entries_from-no_entry row (length row) (view c.item-item.result) (items_view (drop (suc i) vs)) c.in_err-entry.field-0.0 (sym c.in_err-entry.ensures))
 
 pub returns-in_err-push-clause-fault : goal.returns-in_err-push-clause-fault
 returns-in_err-push-clause-fault c =
     let p = err_from_is_err_and c.from_residual-in_err-push.result c.from_residual-in_err-push.ensures.1 in
     rw p.1 (λ other. absurd (other p.2))
 
-pub returns-then-is_empty-clause-fault : goal.returns-then-is_empty-clause-fault
-returns-then-is_empty-clause-fault c memory =
-    let row = c.loop-item.row.items in
-    c.loop-item.invariant
-    ∙ ap (left row) (drop_all c.loop-item.item-index c.args.items.now c.loop-item-test.false)
-    ∙ first_row_from-none row (ap (λ k. eqb k 0) (sym c.loop-item.row.ok.0) ∙ sym c.is_empty.ensures ∙ c.if-is_empty.true)
-
 pub returns-clause-ok : goal.returns-clause-ok
 returns-clause-ok c =
     let row = c.loop-item.row.items in
     c.loop-item.invariant
     ∙ ap (left row) (drop_all c.loop-item.item-index c.args.items.now c.loop-item-test.false)
-    ∙ first_row_from-end row (ap (λ k. eqb k 0) (sym c.loop-item.row.ok.0) ∙ sym c.is_empty.ensures ∙ c.if-is_empty.false)
+    ∙ entries_from-end row

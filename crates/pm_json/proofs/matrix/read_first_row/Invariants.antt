@@ -1,8 +1,0 @@
--- What is left is read after what was read.
-use Rattle.std.proofs.Common.{◌≡◌, drop, length}
-use Rattle.serde_json.specs.View.{items_view}
-use Rattle.pm_json.specs.Readings.{first_row_from, with_front}
-use Rattle.pm_json.proofs.matrix.read_first_row.Given as goal
-
-abbrev pub invariant-loop-item : goal.invariant-loop-item
-invariant-loop-item l = first_row_from 0 (items_view l.items) ≡ with_front l.row.items (first_row_from (length l.row.items) (items_view (drop l.item-index l.items)))

@@ -1,0 +1,2 @@
+pub mod Objectives
+pub mod Programs
