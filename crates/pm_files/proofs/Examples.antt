@@ -1,7 +1,5 @@
 -- The examples, computed.
 use Rattle.std.proofs.Common.{refl, ap, ◌≡◌, arith, length}
-use Rattle.std.specs.Result.{is_ok}
-use Rattle.std.proofs.lemmas.Bool.{false≢true}
 use Rattle.std.specs.Fmt.{digits}
 use Rattle.serde_json.proofs.OnLiterals.{serde_json_on_literals}
 use Rattle.pm_files.specs.Examples.{MatricesAreWritten, SetsAreWritten, NumbersAreWritten}
@@ -18,10 +16,8 @@ matrices = record {
   objective = refl;
   no_objective = refl;
   no_list_of_rows = λ e. let n : 12 ≡ 14 = ap length e in absurd (omega arith);
-  told = refl;
-  none_to_tell = refl;
-  untold = refl;
-  not_read = λ e. false≢true (ap is_ok e);
+  read = refl;
+  read_objective = refl;
 }
 
 pub sets : SetsAreWritten

@@ -1,5 +1,5 @@
 -- The JSON of a value is read as that value, kind by kind.
-use Rattle.std.proofs.Common.{refl, sym, ap, ◌∙◌, ◌≡◌, ◌<◌, ◌≤◌, ◌+◌, ◌&&◌, ℕ, suc, List, [], ◌∷◌, ◌++◌, length, map, Ok, Bool, true, false, append_assoc, append-nil, arith, eqb, leb, ltb, true≢false, Some}
+use Rattle.std.proofs.Common.{refl, sym, ap, ◌∙◌, ◌≡◌, ◌<◌, ◌≤◌, ◌+◌, ◌&&◌, ℕ, suc, List, [], ◌∷◌, ◌++◌, length, map, Ok, Bool, true, false, append_assoc, append-nil, arith, eqb, leb, ltb, true≢false, Some, zero, None, Err, bytes_eq}
 use Rattle.std.proofs.lemmas.Bool.{and_parts, eq-eqb, eqb-true, le-leb, le-ltb, leb-true, lt-ltb, ltb-true, ne_eqb}
 use Rattle.std.proofs.lemmas.List.Elements.{All-head, All-tail}
 use Rattle.std.proofs.lemmas.List.Sums.{sum_by-cons}
@@ -10,17 +10,22 @@ use Rattle.pm_fraction.proofs.ReadsBack.{reads_text}
 use Rattle.pm_fraction.specs.Text.{text_of}
 use Rattle.pm_matrix.specs.Matrices.{IsFraction}
 use Rattle.pm_json.proofs.FractionTexts.{text_read}
-use Rattle.pm_json.specs.Readings.{above_set, above_sets, count_of_number, counts_from, counts_of, edges_of, entry_of, face_from, faces_from, first_row_from, has_index, index_of, later_row_from, later_rows_from, lattice_of, matrix_of, nodes_from, ranks_from, set_from, sets_from, sets_of, stated_of, whole_of, whole_value, with_index}
-use Rattle.pm_props.specs.Properties.{is_ambient, is_built, is_of_counts, is_of_edges, is_of_lattices, is_of_matrices, is_of_sets, is_of_truth_values, is_of_whole_numbers, value_kind}
+use Rattle.pm_json.specs.Readings.{above_set, above_sets, count_of_number, counts_from, counts_of, edges_of, entry_of, face_from, faces_from, has_index, index_of, later_row_from, later_rows_from, lattice_of, matrix_of, nodes_from, ranks_from, set_from, sets_from, sets_of, stated_of, whole_of, whole_value, with_index, and_then, entries_from, first_row_of, extended_value_of, is_fraction_text, matrix_from, matrix_reading, matrix_with, object_behind, objective_of, ratio_of_text, rows_before, rows_from}
+use Rattle.pm_props.specs.Properties.{is_ambient, is_of_counts, is_of_edges, is_of_lattices, is_of_matrices, is_of_sets, is_of_truth_values, is_of_whole_numbers, value_kind}
 use Rattle.pm_props.specs.declared.property.PropId.{PropId}
-use Rattle.pm_props.specs.declared.property.PropId.TheVariants.{ConeAmbientDim, LinearObjective}
+use Rattle.pm_props.specs.declared.property.PropId.TheVariants.{ConeAmbientDim, LinearObjective, F2Vector}
 use Rattle.pm_props.specs.declared.property.ValueKind.{ValueKind}
 use Rattle.pm_props.specs.declared.property.ValueKind.TheVariants as kind
-use Rattle.pm_types.specs.Forms.{are_indices, are_joined_back, has_64_bits, is_column_count, is_counts_form, is_dimension, is_edges_form, is_lattice_form, is_matrix_form, is_row_of_entries, is_sets_form, is_whole_form}
-use Rattle.pm_types.specs.Values.{matrix, sets, whole, truth, extended, edges, lattice, counts}
+use Rattle.pm_types.specs.Forms.{are_indices, are_joined_back, has_64_bits, is_column_count, is_counts_form, is_dimension, is_edges_form, is_lattice_form, is_matrix_form, is_row_of_entries, is_sets_form, is_whole_form, AreFractions, is_matrix_of, is_of_numbers, is_table_form}
+use Rattle.pm_types.specs.Values.{matrix, sets, whole, truth, extended, edges, lattice, counts, Extended, finite, plus_infinity, minus_infinity}
 use Rattle.pm_files.specs.Laws.{ValuesAreReadBack}
-use Rattle.pm_files.specs.ValueJson.{cols_json, counts_json, edges_json, fraction_json, index_json, lattice_json, matrix_json, row_json, rows_json, rows_tell_columns, set_json, sets_json, whole_json}
+use Rattle.pm_files.specs.ValueJson.{cols_json, counts_json, edges_json, fraction_json, index_json, lattice_json, matrix_json, row_json, rows_json, set_json, sets_json, whole_json, array_of, extended_json, objective_json, untold_cols}
 use lib.IntN.{ℤ, pos, negsuc}
+use Rattle.std.specs.Prelude.{codes}
+use Rattle.std.proofs.lemmas.Slice.Eq.{bytes_eq-Decides}
+use Rattle.serde_json.specs.Data.{Items, item}
+use Rattle.pm_json.proofs.Parts.{err_ok}
+use Rattle.pm_json.specs.declared.fail.ValueFail.TheVariants.{Number}
 
 -- ---- matrices
 fraction_back : (q : Ratio) → IsFraction q → entry_of (fraction_json q) ≡ Ok q
@@ -30,9 +35,12 @@ row_back : (n k : ℕ) (r : List Ratio) → k + length r ≡ n → All IsFractio
 row_back n k [] e h = rw (eq-eqb k n (omega arith)) refl
 row_back n k (q ∷ r) e h = rw (lt-ltb k n (omega arith), fraction_back q (All-head IsFraction q r h), row_back n (suc k) r (omega arith) (All-tail IsFraction q r h)) refl
 
-first_back : (k : ℕ) (r : List Ratio) → 0 < k + length r → k + length r ≤ 33 → All IsFraction r → first_row_from k (listed (map fraction_json r)) ≡ Ok r
-first_back k [] some few h = rw (ne_eqb k 0 (λ e. omega arith)) refl
-first_back k (q ∷ r) some few h = rw (fraction_back q (All-head IsFraction q r h), lt-ltb k 33 (omega arith), first_back (suc k) r (omega arith) (omega arith) (All-tail IsFraction q r h)) refl
+entries_back : (k : ℕ) (r : List Ratio) → k + length r ≤ 33 → All IsFraction r → entries_from k (listed (map fraction_json r)) ≡ Ok r
+entries_back k [] few h = refl
+entries_back k (q ∷ r) few h = rw (fraction_back q (All-head IsFraction q r h), lt-ltb k 33 (omega arith), entries_back (suc k) r (omega arith) (All-tail IsFraction q r h)) refl
+
+first_back : (least : ℕ) (r : List Ratio) → least ≤ length r → length r ≤ 33 → All IsFraction r → first_row_of least (listed (map fraction_json r)) ≡ Ok r
+first_back least r some few h = rw (entries_back 0 r (omega arith) h, le-ltb (length r) least some) refl
 
 rows_back : (n k : ℕ) (rows : List (List Ratio)) → k + length rows ≤ 2048 → list_all (is_row_of_entries n) rows ≡ true → All (All IsFraction) rows → later_rows_from n k (listed (map row_json rows)) ≡ Ok rows
 rows_back n k [] few long h = refl
@@ -40,18 +48,80 @@ rows_back n k (r ∷ rows) few long h =
     let p = and_parts (eqb (length r) n) (list_all (is_row_of_entries n) rows) long in
     rw (lt-ltb k 2048 (omega arith), row_back n 0 r (let e = eqb-true (length r) n p.0 in omega arith) (All-head (All IsFraction) r rows h), rows_back n (suc k) rows (omega arith) p.1 (All-tail (All IsFraction) r rows h)) refl
 
-pub matrix_back : (n : ℕ) (rows : List (List Ratio)) → is_matrix_form n rows ≡ true → rows_tell_columns (matrix n rows) ≡ true → All (All IsFraction) rows → matrix_of (matrix_json n rows) ≡ Ok (matrix n rows)
-matrix_back n [] form told h = let e : n ≡ 0 = eqb-true n 0 told in rw e refl
-matrix_back n (r ∷ rows) form told h =
+-- no object stands behind rows
+rows_alone : (r : List Ratio) (rows : List (List Ratio)) → rows_before (listed (map row_json (r ∷ rows))) ≡ listed (map row_json (r ∷ rows))
+rows_alone r [] = refl
+rows_alone r (s ∷ rows) = ap (λ ds. item (row_json r) ds) (rows_alone s rows)
+
+nothing_behind : (r : List Ratio) (rows : List (List Ratio)) → object_behind (listed (map row_json (r ∷ rows))) ≡ None
+nothing_behind r [] = refl
+nothing_behind r (s ∷ rows) = nothing_behind s rows
+
+record HasRows (least n : ℕ) (rows : List (List Ratio)) : Type 0 where
+  few : length rows ≤ 2048
+  least_cols : least ≤ n
+  most_cols : n ≤ 33
+  long : list_all (is_row_of_entries n) rows ≡ true
+
+rows_of_matrix : (least n : ℕ) (rows : List (List Ratio)) → HasRows least n rows → All (All IsFraction) rows → matrix_of least (matrix_json n rows) ≡ Ok (matrix n rows)
+rows_of_matrix least n [] f h = by (eqb n 0) refl
+  where
+    by : (b : Bool) → eqb n 0 ≡ b → matrix_of least (array_of (untold_cols n)) ≡ Ok (matrix n [])
+    by true e = let z : n ≡ 0 = eqb-true n 0 e in rw z refl
+    by false e = rw (e, le-leb least n f.least_cols, le-leb n 33 f.most_cols) refl
+rows_of_matrix least n (r ∷ rows) f h =
+    let l = and_parts (eqb (length r) n) (list_all (is_row_of_entries n) rows) f.long in
+    let long : length r ≡ n = eqb-true (length r) n l.0 in
+    let few = f.few in
+    let some = f.least_cols in
+    let most = f.most_cols in
+    let ds : Items = listed (map row_json (r ∷ rows)) in
+    let alone : matrix_from least ds ≡ rows_from least ds =
+    ap (λ es. matrix_with least es (object_behind ds)) (rows_alone r rows) ∙ ap (matrix_with least ds) (nothing_behind r rows) in
+    ap (λ m. and_then m (λ a. Ok (matrix a.cols a.rows))) alone
+    ∙ rw (first_back least r (omega arith) (omega arith) (All-head (All IsFraction) r rows h), long, rows_back n 1 rows (omega arith) l.1 (All-tail (All IsFraction) r rows h)) refl
+
+-- of a matrix without rows that states no column count
+nothing_back : (least : ℕ) → matrix_of least (matrix_json 0 []) ≡ Ok (matrix 0 [])
+nothing_back least = refl
+
+matrix_back : (n : ℕ) (rows : List (List Ratio)) → is_matrix_form n rows ≡ true → All (All IsFraction) rows → matrix_of 1 (matrix_json n rows) ≡ Ok (matrix n rows)
+matrix_back zero [] form h = nothing_back 1
+matrix_back (suc n) [] form h =
+    let p = and_parts (leb 0 2048 && leb (suc n) 33) true form in
+    let q = and_parts (leb 0 2048) (leb (suc n) 33) p.0 in
+    rows_of_matrix 1 (suc n) [] (record { few = omega arith; least_cols = omega arith; most_cols = leb-true (suc n) 33 q.1; long = refl }) h
+matrix_back n (r ∷ rows) form h =
     let p = and_parts (leb (length (r ∷ rows)) 2048 && is_column_count (r ∷ rows) n) (list_all (is_row_of_entries n) (r ∷ rows)) form in
     let q = and_parts (leb (length (r ∷ rows)) 2048) (leb 1 n && leb n 33) p.0 in
     let c = and_parts (leb 1 n) (leb n 33) q.1 in
-    let l = and_parts (eqb (length r) n) (list_all (is_row_of_entries n) rows) p.1 in
+    rows_of_matrix 1 n (r ∷ rows) (record { few = leb-true (length (r ∷ rows)) 2048 q.0; least_cols = leb-true 1 n c.0; most_cols = leb-true n 33 c.1; long = p.1 }) h
+
+table_back : (n : ℕ) (rows : List (List Ratio)) → is_table_form n rows ≡ true → All (All IsFraction) rows → matrix_of 0 (matrix_json n rows) ≡ Ok (matrix n rows)
+table_back n rows form h =
+    let p = and_parts (leb (length rows) 2048 && leb n 33) (list_all (is_row_of_entries n) rows) form in
+    let q = and_parts (leb (length rows) 2048) (leb n 33) p.0 in
+    rows_of_matrix 0 n rows (record { few = leb-true (length rows) 2048 q.0; least_cols = omega arith; most_cols = leb-true n 33 q.1; long = p.1 }) h
+
+objective_back : (n : ℕ) (rows : List (List Ratio)) → length rows ≡ 1 → is_matrix_form n rows ≡ true → All (All IsFraction) rows → objective_of (objective_json rows) ≡ Ok (matrix n rows)
+objective_back n [] one form h = absurd (omega arith)
+objective_back n (r ∷ []) one form h =
+    let p = and_parts (leb (length (r ∷ [])) 2048 && is_column_count (r ∷ []) n) (list_all (is_row_of_entries n) (r ∷ [])) form in
+    let q = and_parts (leb (length (r ∷ [])) 2048) (leb 1 n && leb n 33) p.0 in
+    let c = and_parts (leb 1 n) (leb n 33) q.1 in
+    let l = and_parts (eqb (length r) n) true p.1 in
     let long : length r ≡ n = eqb-true (length r) n l.0 in
-    let few = leb-true (length (r ∷ rows)) 2048 q.0 in
-    let least = leb-true 1 n c.0 in
+    let some = leb-true 1 n c.0 in
     let most = leb-true n 33 c.1 in
-    rw (first_back 0 r (omega arith) (omega arith) (All-head (All IsFraction) r rows h), long, rows_back n 1 rows (omega arith) l.1 (All-tail (All IsFraction) r rows h)) refl
+    rw (first_back 1 r (omega arith) (omega arith) (All-head (All IsFraction) r [] h), long) refl
+objective_back n (r ∷ s ∷ rows) one form h = absurd (omega arith)
+
+pub rows_json_back : (p : PropId) (n : ℕ) (rows : List (List Ratio)) → is_matrix_of p n rows ≡ true → All (All IsFraction) rows → matrix_reading p (rows_json p n rows) ≡ Ok (matrix n rows)
+rows_json_back LinearObjective n rows form h =
+    let p = and_parts (eqb (length rows) 1) (is_matrix_form n rows) form in
+    objective_back n rows (eqb-true (length rows) 1 p.0) p.1 h
+rows_json_back F2Vector n rows form h = table_back n rows form h
+rows_json_back p n rows form h = matrix_back n rows form h
 
 -- ---- sets
 index_back : (j : ℕ) → j < 2048 → index_of (index_json j) ≡ Ok j
@@ -217,6 +287,24 @@ counts_back ks form =
     let p = and_parts (leb (length ks) 2048) (list_all has_64_bits ks) form in
     rw (numbers_back 0 ks (let few = leb-true (length ks) 2048 p.0 in omega arith) p.1) refl
 
+-- ---- fractions and infinities
+-- the text of a fraction is none that has no digits before a slash
+no_infinity : (q : Ratio) (text : List ℕ) → IsFraction q → is_fraction_text text ≡ false → bytes_eq (text_of q) text ≡ false
+no_infinity q text f none = by (bytes_eq (text_of q) text) refl
+  where
+    by : (b : Bool) → bytes_eq (text_of q) text ≡ b → b ≡ false
+    by false e = refl
+    by true e =
+        let same : text_of q ≡ text = (bytes_eq-Decides (text_of q) text).0 e in
+        let back : ratio_of_text text ≡ Ok q = ap ratio_of_text (sym same) ∙ fraction_back q f in
+        let fault : ratio_of_text text ≡ Err Number = rw none refl in
+        absurd (err_ok Number q (sym fault ∙ back))
+
+pub extended_back : (x : Extended) → AreFractions (extended x) → extended_value_of (extended_json x) ≡ Ok (extended x)
+extended_back (finite q) f = rw (no_infinity q (codes "inf") f refl, no_infinity q (codes "-inf") f refl, fraction_back q f) refl
+extended_back plus_infinity f = refl
+extended_back minus_infinity f = refl
+
 -- ---- kinds
 matrix_kind : (k : ValueKind) → is_of_matrices k ≡ true → k ≡ kind.Mat
 matrix_kind kind.Mat h = refl
@@ -260,28 +348,27 @@ whole_form_kind p k form = by (is_ambient p) refl
         let f : (is_of_whole_numbers (value_kind p) && has_64_bits k) ≡ true = rw e at form in
         whole_kind (value_kind p) (and_parts (is_of_whole_numbers (value_kind p)) (has_64_bits k) f).0
 
--- the matrix of a property that commands accept is no objective
-no_objective : (p : PropId) (n : ℕ) (rows : List (List Ratio)) → is_built p ≡ true → rows_json p n rows ≡ matrix_json n rows
-no_objective LinearObjective n rows h = absurd (true≢false (sym h))
-no_objective p n rows h = refl
+extended_kind : (k : ValueKind) → is_of_numbers k ≡ true → k ≡ kind.Number
+extended_kind kind.Number h = refl
+extended_kind k h = absurd (true≢false (sym h))
 
 -- ---- values
 pub values_back : ValuesAreReadBack
-values_back p (matrix n rows) built form fractions told =
-    let f = and_parts (is_of_matrices (value_kind p)) (is_matrix_form n rows) form in
-    rw (matrix_kind (value_kind p) f.0, no_objective p n rows built) (matrix_back n rows f.1 told fractions)
-values_back p (sets rows n) built form fractions told =
+values_back p (matrix n rows) form fractions =
+    let f = and_parts (is_of_matrices (value_kind p)) (is_matrix_of p n rows) form in
+    rw (matrix_kind (value_kind p) f.0) (rows_json_back p n rows f.1 fractions)
+values_back p (sets rows n) form fractions =
     let f = and_parts (is_of_sets (value_kind p)) (is_sets_form rows n) form in
     rw (sets_kind (value_kind p) f.0) (sets_back rows n f.1)
-values_back p (whole k) built form fractions told = rw (whole_form_kind p k form) (whole_back p k form)
-values_back p (truth b) built form fractions told = rw (truth_kind (value_kind p) form) refl
-values_back p (counts ks) built form fractions told =
+values_back p (whole k) form fractions = rw (whole_form_kind p k form) (whole_back p k form)
+values_back p (truth b) form fractions = rw (truth_kind (value_kind p) form) refl
+values_back p (counts ks) form fractions =
     let f = and_parts (is_of_counts (value_kind p)) (is_counts_form ks) form in
     rw (counts_kind (value_kind p) f.0) (counts_back ks f.1)
-values_back p (edges rows) built form fractions told =
+values_back p (edges rows) form fractions =
     let f = and_parts (is_of_edges (value_kind p)) (is_edges_form rows) form in
     rw (edges_kind (value_kind p) f.0) (edges_back rows f.1)
-values_back p (lattice ranks) built form fractions told =
+values_back p (lattice ranks) form fractions =
     let f = and_parts (is_of_lattices (value_kind p)) (is_lattice_form ranks) form in
     rw (lattice_kind (value_kind p) f.0) (lattice_back ranks f.1)
-values_back p (extended x) built form fractions told = absurd (true≢false (sym form))
+values_back p (extended x) form fractions = rw (extended_kind (value_kind p) form) (extended_back x fractions)

@@ -7,7 +7,7 @@ use Rattle.pm_props.specs.declared.property.PropId.{PropId}
 use Rattle.pm_props.specs.declared.property.PropId.TheVariants.{Bounded, ConeDim, FVector, Graph, HasseDiagram, LinearObjective, MaximalValue, Points, VerticesInFacets}
 use Rattle.pm_types.specs.Values.{PropertyValue, matrix, sets, whole, truth, extended, edges, lattice, counts, finite, plus_infinity, minus_infinity}
 use Rattle.serde_json.specs.Written.{compact_text}
-use Rattle.pm_files.specs.ValueJson.{json_of, rows_tell_columns}
+use Rattle.pm_files.specs.ValueJson.{json_of}
 use lib.IntN.{pos, negsuc}
 
 -- the text of a value
@@ -36,11 +36,9 @@ pub record MatricesAreWritten : Type 0 where
   pub objective : text LinearObjective (matrix 2 (row ∷ [])) ≡ codes "[\"1\",\"-1/2\"]"
   pub no_objective : text LinearObjective (matrix 0 []) ≡ codes "[]"
   pub no_list_of_rows : text LinearObjective (matrix 2 (row ∷ [])) ≢ codes "[[\"1\",\"-1/2\"]]"
-  -- columns without rows are not read back
-  pub told : rows_tell_columns (matrix 2 (row ∷ [])) ≡ true
-  pub none_to_tell : rows_tell_columns (matrix 0 []) ≡ true
-  pub untold : rows_tell_columns (matrix 2 []) ≡ false
-  pub not_read : reading Points (json_of Points (matrix 2 [])) ≢ Ok (matrix 2 [])
+  -- all of it is read back
+  pub read : reading Points (json_of Points (matrix 2 [])) ≡ Ok (matrix 2 [])
+  pub read_objective : reading LinearObjective (json_of LinearObjective (matrix 2 (row ∷ []))) ≡ Ok (matrix 2 (row ∷ []))
 
 pub record SetsAreWritten : Type 0 where
   -- the column count stands behind sets

@@ -1,5 +1,5 @@
 -- The JSON of a value of a property, as polymake's data files have it (Assarf, Gawrilow et al., Computing convex hulls and counting integer points with polymake): fractions and infinities are texts, indices and whole numbers are numbers.
-use Rattle.std.specs.Prelude.{ℕ, Bool, true, List, [], ◌∷◌, ◌++◌, ◌==◌, if◌then◌else◌, map, codes}
+use Rattle.std.specs.Prelude.{ℕ, List, [], ◌∷◌, ◌++◌, ◌==◌, if◌then◌else◌, map, codes}
 use Rattle.pm_algebra.specs.Numbers.{Ratio}
 use Rattle.pm_fraction.specs.Text.{text_of}
 use Rattle.pm_props.specs.declared.property.PropId.{PropId}
@@ -82,8 +82,3 @@ json_of p (extended x) = extended_json x
 json_of p (edges rows) = edges_json rows
 json_of p (lattice ranks) = lattice_json ranks
 json_of p (counts ks) = counts_json ks
-
--- no matrix without rows states a column count, which is not read yet
-abbrev pub rows_tell_columns : PropertyValue → Bool
-rows_tell_columns (matrix n []) = n == 0
-rows_tell_columns v = true

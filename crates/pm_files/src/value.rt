@@ -1,15 +1,15 @@
 // Values of properties as JSON.
 
-ghost use Rattle.pm_files.specs.ValueJson.{cols_json, counts_json, edges_json, fraction_json, json_of, lattice_json, matrix_json, objective_json, row_json, rows_json, set_json, sets_json, whole_json};
+ghost use Rattle.pm_files.specs.ValueJson.{cols_json, counts_json, edges_json, extended_json, fraction_json, json_of, lattice_json, matrix_json, objective_json, row_json, rows_json, set_json, sets_json, whole_json};
 ghost use Rattle.pm_types.specs.Lists.{lists_of};
-ghost use Rattle.pm_types.specs.Views.{view_of};
+ghost use Rattle.pm_types.specs.Views.{extended_of, view_of};
 ghost use Rattle.serde_json.specs.View.{view};
 ghost use Rattle.std.specs.Prelude.{IfOk, map, ◌≡◌};
 
 use pm_fraction::Fraction;
 use pm_matrix::Matrix;
 use pm_props::PropId;
-use pm_types::{Sets, Value};
+use pm_types::{Number, Sets, Value};
 use serde_json::{Value as Json, json};
 use std::alloc::{AllocError, Global};
 
@@ -148,6 +148,17 @@ fn counts_json(alloc: Global, counts: &[i64]) -> Result<Json, AllocError>
     Ok(Json::Array(numbers))
 }
 
+/// A fraction or an infinity.
+fn extended_json(alloc: Global, number: &Number) -> Result<Json, AllocError>
+    ensures { IfOk result (λ j. view j ≡ extended_json (extended_of number.now)) }
+{
+    match number {
+        Number::Finite(q) => fraction_json(alloc, *q),
+        Number::PlusInfinity => Json::try_from_str(alloc, "inf"),
+        Number::MinusInfinity => Json::try_from_str(alloc, "-inf"),
+    }
+}
+
 /// The JSON of a value of a property.
 pub fn value_json(alloc: Global, p: PropId, v: &Value) -> Result<Json, AllocError>
     ensures { IfOk result (λ j. view j ≡ json_of p (view_of v.now)) }
@@ -160,5 +171,6 @@ pub fn value_json(alloc: Global, p: PropId, v: &Value) -> Result<Json, AllocErro
         Value::Counts(counts) => counts_json(alloc, counts.as_slice()),
         Value::Edges(sets) => edges_json(alloc, sets.rows()),
         Value::Lattice(lattice) => lattice_json(alloc, lattice.ranks()),
+        Value::Number(number) => extended_json(alloc, number),
     }
 }
