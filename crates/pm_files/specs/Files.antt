@@ -1,5 +1,6 @@
 -- What a data file holds of an object, and what is written for it: one JSON object, its keys in byte order (polymake's data format: Assarf, Gawrilow et al., Computing convex hulls and counting integer points with polymake).
-use Rattle.std.specs.Prelude.{ℕ, Bool, false, List, [], ◌∷◌, ◌++◌, map, Option, Some, None, codes, decimal, if◌then◌else◌}
+use Rattle.std.specs.Prelude.{ℕ, Bool, false, not, List, [], ◌∷◌, ◌++◌, map, Option, Some, None, codes, decimal, if◌then◌else◌}
+use Rattle.std.specs.Str.{bytes_eq}
 use Rattle.pm_algebra.specs.Numbers.{Ratio}
 use Rattle.pm_props.specs.Names.{property_named_in}
 use Rattle.pm_props.specs.Properties.{name_in}
@@ -71,6 +72,10 @@ with_programs (p ∷ ps) ms = put (codes "LP") (array_of (map program_json (p �
 abbrev pub with_values : ObjectType → List (PropId × PropertyValue) → Members → Members
 with_values of [] ms = ms
 with_values of (v ∷ vs) ms = with_values of vs (put (name_in of v.0) (json_of v.0 v.1) ms)
+
+-- the key is not the property's name
+abbrev pub is_other_name : ObjectType → List ℕ → PropId → Bool
+is_other_name of key p = not (bytes_eq key (name_in of p))
 
 abbrev pub is_in : ℕ → Option PropId → Bool
 is_in stored None = false

@@ -3,7 +3,7 @@
 
 ghost use Rattle.pm_files.specs.Examples.{MatricesAreWritten, NumbersAreWritten, SetsAreWritten};
 ghost use Rattle.pm_files.specs.FileExamples.{FilesAreWritten};
-ghost use Rattle.pm_files.specs.Laws.{FilesAreShallow, FilesHaveNoFloat, ValuesAreReadBack, ValuesAreShallow, ValuesHaveNoFloat};
+ghost use Rattle.pm_files.specs.Laws.{FilesAreShallow, FilesHaveNoFloat, FilesHoldTheirType, FilesHoldTheirValues, ValuesAreReadBack, ValuesAreShallow, ValuesHaveNoFloat};
 
 mod file;
 mod value;
@@ -51,6 +51,16 @@ pub fn law_files_are_shallow()
 /// A file has no float.
 pub fn law_files_have_no_float()
     ensures { FilesHaveNoFloat }
+{}
+
+/// A value stands in its file under its name, where no later value has that name.
+pub fn law_files_hold_their_values()
+    ensures { FilesHoldTheirValues }
+{}
+
+/// A file has the text of its type.
+pub fn law_files_hold_their_type()
+    ensures { FilesHoldTheirType }
 {}
 
 /// How files, marks and programs are written, and how not.
