@@ -154,8 +154,8 @@ fn extended_json(alloc: Global, number: &Number) -> Result<Json, AllocError>
 {
     match number {
         Number::Finite(q) => fraction_json(alloc, *q),
-        Number::PlusInfinity => Json::try_from_str(alloc, "inf"),
-        Number::MinusInfinity => Json::try_from_str(alloc, "-inf"),
+        Number::Plus => Json::try_from_str(alloc, "inf"),
+        Number::Minus => Json::try_from_str(alloc, "-inf"),
     }
 }
 
