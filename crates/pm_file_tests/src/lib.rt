@@ -1,0 +1,5 @@
+//! The tests of data files, over their public calls.
+#![tactic(auto)]
+
+#[cfg(test)]
+mod files;
