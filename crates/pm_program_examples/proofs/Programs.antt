@@ -444,20 +444,20 @@ not_a_facet minus_infinity d = let l = ap length d in omega arith
 not_before_itself : IsBefore (triple 0 1 0) (triple 0 1 0) → ⊥
 not_before_itself b = let l = b.below in omega (arith, ints)
 
-twice : (xs : List Row) → StandFor (ratios (triple 0 1 0) ∷ ratios (triple 0 1 0) ∷ []) xs → All IsPrimitive xs → AllPairs IsBefore xs → ⊥
-twice [] s p a = s
-twice (x ∷ []) s p a = s.1
-twice (x ∷ y ∷ z ∷ xs) s p a = s.1.1
-twice (x ∷ y ∷ []) s p a =
+of_one_direction : (xs : List Row) → StandFor (ratios (triple 0 1 0) ∷ ratios (triple 0 1 0) ∷ []) xs → All IsPrimitive xs → AllPairs IsBefore xs → ⊥
+of_one_direction [] s p a = s
+of_one_direction (x ∷ []) s p a = s.1
+of_one_direction (x ∷ y ∷ z ∷ xs) s p a = s.1.1
+of_one_direction (x ∷ y ∷ []) s p a =
     let e = primitive_is (triple 0 1 0) x 1 refl (omega arith) (among_All IsPrimitive (here {xs = y ∷ []}) p) s.0 in
     let f = primitive_is (triple 0 1 0) y 1 refl (omega arith) (among_All IsPrimitive (there (here {xs = []})) p) s.1.0 in
     let b : IsBefore x y = a 0 1 x (omega arith) (omega arith) in
     not_before_itself (subst (λ z. IsBefore z (triple 0 1 0)) e (subst (λ z. IsBefore x z) f b))
 
-not_twice : (c : List Ratio) (v : Extended) → AreDualRows (program_on 3 square (ratios (triple 0 2 0))) c (ratios (triple 0 1 0) ∷ ratios (triple 0 1 0) ∷ []) v → ⊥
-not_twice c (finite v) d = let f = d.0 in twice f.xs f.stand f.primitive f.ascending
-not_twice c plus_infinity d = let l = ap length d in omega arith
-not_twice c minus_infinity d = let l = ap length d in omega arith
+not_of_one_direction : (c : List Ratio) (v : Extended) → AreDualRows (program_on 3 square (ratios (triple 0 2 0))) c (ratios (triple 0 1 0) ∷ ratios (triple 0 1 0) ∷ []) v → ⊥
+not_of_one_direction c (finite v) d = let f = d.0 in of_one_direction f.xs f.stand f.primitive f.ascending
+not_of_one_direction c plus_infinity d = let l = ap length d in omega arith
+not_of_one_direction c minus_infinity d = let l = ap length d in omega arith
 
 pub square_duals_are_read : SquareDualsAreRead
 unfolding zeros
@@ -480,7 +480,7 @@ square_duals_are_read = record {
   };
   not_descending = λ h. not_descending h.value h.holds;
   not_a_facet = λ h. not_a_facet h.value h.holds;
-  not_twice = λ h. not_twice (opposite_objective (ratios (triple 0 2 0))) h.value h.holds;
+  not_twice = λ h. not_of_one_direction (opposite_objective (ratios (triple 0 2 0))) h.value h.holds;
 }
 
 -- ---- an objective that is 0
