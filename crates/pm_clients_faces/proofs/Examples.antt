@@ -20,6 +20,7 @@ few_faces_are_read = record {
   few = few_faces;
   not_read = λ h. let e = h.reads in cc;
   answers = few_faces;
+  no_answer = λ h. let e = h.reads in cc;
   others_answer = tt;
   memory = tt;
   not_many = λ h. let e = h.reads in cc;

@@ -51,6 +51,7 @@ pub record FewFacesAreRead : Type 0 where
   pub few : HasFewFaces no_sets
   pub not_read : ¬ (HasFewFaces nothing_read)
   pub answers : FacesStay client.Faces no_sets
+  pub no_answer : ¬ (FacesStay client.Faces nothing_read)
   pub others_answer : FacesStay client.FVector nothing_read
   -- memory may be wanting to each; no evidence is that of too many faces here, nor of another kind
   pub memory : FailsForMany no_sets Memory

@@ -10,7 +10,7 @@ use Rattle.pm_props.specs.declared.property.PropId.TheVariants.{VerticesInFacets
 use Rattle.pm_types.specs.Values.{IndexSets, sets}
 use Rattle.std.specs.Prelude.{ℕ, List, Some, ◌≡◌}
 
--- the intersections of the sets of the view's VERTICES_IN_FACETS are as many as a lattice may have
+-- the intersections of the sets of the view's VERTICES_IN_FACETS are no more than a lattice may have
 pub record HasFewFaces (v : ViewSeen) : Type 0 where
   pub index : IndexSets
   pub reads : fact_of VerticesInFacets v.facts ≡ Some (sets index.rows index.cols)

@@ -3,9 +3,9 @@ use Rattle.std.proofs.Common.{refl, sym, subst, ◌≡◌, ◌≤◌, ◌<◌, �
 use Rattle.std.proofs.lemmas.Bool.{and_from, and_parts, or_parts, eqb-false, le-leb, leb-true, lt-ltb, ltb-true, ltb-false, cond_both}
 use Rattle.std.proofs.Math.Nat.{le-max_left, le-max_right}
 use Rattle.std.specs.List.{list_all}
-use Rattle.std.specs.Prelude.{is_some, codes}
+use Rattle.std.specs.Prelude.{is_some}
 use Rattle.serde_json.specs.Data.{Data, Items, no_items, item}
-use Rattle.serde_json.specs.Find.{get, as_object}
+use Rattle.serde_json.specs.Find.{as_object}
 use Rattle.pm_types.specs.Forms.{are_indices, is_sets_form}
 use Rattle.pm_types.specs.Values.{PropertyValue, sets}
 use Rattle.pm_json.proofs.Parts.{same_Ok, err_ok, and_then-ok, then-ok, else-ok, either-ok}

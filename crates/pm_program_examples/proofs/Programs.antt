@@ -21,7 +21,7 @@ use Rattle.pm_geom.specs.Programs.{HasNoPoint, IsMaximum, IsTimes, IsWithoutBoun
 use Rattle.pm_program_examples.proofs.Objectives.{IsBound, at_least, at_most, attained, bound, first_of, not_exceeded, not_without_bound, only_place, primitive_is, times_is, value_is, value_there, whole_times}
 use Rattle.pm_program_examples.specs.Examples.{ConstantProgramsAreRead, EmptyProgramsAreRead, FormsAreRead, FractionalProgramsAreRead, HalfLineProgramsAreRead, SquareDualsAreRead, SquareProgramsAreRead, half, program_on, right_edge, segment, sum_objective, upper_edge}
 use Rattle.pm_relations.proofs.Standing.{stand_for_ratios}
-use Rattle.pm_types.specs.Programs.{ArePlacesOfValue, HasExtendedAt, HasValueAt, IsGreatest}
+use Rattle.pm_types.specs.Programs.{ArePlacesOfValue, HasExtendedAt, HasValueAt, IsGreatest, opposite_objective}
 use Rattle.pm_types.specs.Right.{AreDualRows, AreFacetDirections, IsBoundBy, StandFor, total}
 use Rattle.pm_types.specs.Values.{Extended, finite, minus_infinity, plus_infinity}
 use Rattle.pm_types.specs.Views.{over_one, ratios}
@@ -441,6 +441,24 @@ not_a_facet (finite v) d = let f = d.0 in no_facet f.xs f.stand f.primitive f.fa
 not_a_facet plus_infinity d = let l = ap length d in omega arith
 not_a_facet minus_infinity d = let l = ap length d in omega arith
 
+not_before_itself : IsBefore (triple 0 1 0) (triple 0 1 0) → ⊥
+not_before_itself b = let l = b.below in omega (arith, ints)
+
+twice : (xs : List Row) → StandFor (ratios (triple 0 1 0) ∷ ratios (triple 0 1 0) ∷ []) xs → All IsPrimitive xs → AllPairs IsBefore xs → ⊥
+twice [] s p a = s
+twice (x ∷ []) s p a = s.1
+twice (x ∷ y ∷ z ∷ xs) s p a = s.1.1
+twice (x ∷ y ∷ []) s p a =
+    let e = primitive_is (triple 0 1 0) x 1 refl (omega arith) (among_All IsPrimitive (here {xs = y ∷ []}) p) s.0 in
+    let f = primitive_is (triple 0 1 0) y 1 refl (omega arith) (among_All IsPrimitive (there (here {xs = []})) p) s.1.0 in
+    let b : IsBefore x y = a 0 1 x (omega arith) (omega arith) in
+    not_before_itself (subst (λ z. IsBefore z (triple 0 1 0)) e (subst (λ z. IsBefore x z) f b))
+
+not_twice : (c : List Ratio) (v : Extended) → AreDualRows (program_on 3 square (ratios (triple 0 2 0))) c (ratios (triple 0 1 0) ∷ ratios (triple 0 1 0) ∷ []) v → ⊥
+not_twice c (finite v) d = let f = d.0 in twice f.xs f.stand f.primitive f.ascending
+not_twice c plus_infinity d = let l = ap length d in omega arith
+not_twice c minus_infinity d = let l = ap length d in omega arith
+
 pub square_duals_are_read : SquareDualsAreRead
 unfolding zeros
 square_duals_are_read = record {
@@ -462,6 +480,7 @@ square_duals_are_read = record {
   };
   not_descending = λ h. not_descending h.value h.holds;
   not_a_facet = λ h. not_a_facet h.value h.holds;
+  not_twice = λ h. not_twice (opposite_objective (ratios (triple 0 2 0))) h.value h.holds;
 }
 
 -- ---- an objective that is 0

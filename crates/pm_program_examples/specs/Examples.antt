@@ -114,12 +114,18 @@ pub record SquareProgramsAreRead : Type 0 where
   pub not_twice_a_vertex : ¬ (SquareHas MaximalFace (counts (pos 3 ∷ pos 3 ∷ [])))
   pub first_vertex : SquareHas MinimalFace (counts (pos 0 ∷ []))
 
+-- of the objective 2 x1 the value is right for the square
+abbrev pub DoubleHas : PropId → PropertyValue → Type 0
+DoubleHas p v = Right p v (program_on 3 square (ratios (triple 0 2 0))) (orders_of square edges) (ratios (triple 0 2 0))
+
 -- x1 + x2 and both edges at the last vertex are together 2; the edges stand in lexicographic order, each once
 pub record SquareDualsAreRead : Type 0 where
   pub rows : SquareHas MaximalDual (rows_of (right_edge ∷ upper_edge ∷ []))
   pub least_rows : SquareHas MinimalDual (rows_of (triple 0 0 1 ∷ triple 0 1 0 ∷ []))
   pub not_descending : ¬ (SquareHas MinimalDual (rows_of (triple 0 1 0 ∷ triple 0 0 1 ∷ [])))
   pub not_a_facet : ¬ (SquareHas MinimalDual (rows_of (triple 0 1 1 ∷ [])))
+  -- the least value of 2 x1 is not shown by two rows of one direction, though they have the right sum
+  pub not_twice : ¬ (DoubleHas MinimalDual (rows_of (triple 0 1 0 ∷ triple 0 1 0 ∷ [])))
 
 -- ---- other objectives
 -- the square with the objective 0

@@ -1,5 +1,5 @@
 -- A last object states the column count.
-use Rattle.std.proofs.Common.{Err, IfErr, IfOk, Ok, Some, subst, sym, ◌∙◌, ◌≡◌, ◌≢◌}
+use Rattle.std.proofs.Common.{Err, IfErr, IfOk, Ok, subst, sym, ◌∙◌, ◌≡◌, ◌≢◌}
 use Rattle.pm_json.proofs.LastObjects.{from_rows, from_stated}
 use Rattle.pm_json.specs.declared.fail.ValueFail.TheVariants.{Memory}
 use Rattle.pm_json.proofs.matrix.read_elements.Goals as goal
