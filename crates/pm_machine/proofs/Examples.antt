@@ -1,10 +1,11 @@
 -- The examples, by what the definitions say.
+use Rattle.pm_machine.proofs.Kept.{some_not_none}
 use Rattle.pm_machine.proofs.Running.{first_is}
 use Rattle.pm_machine.specs.Events.{end_by, over}
 use Rattle.pm_props.specs.declared.property.PropId.TheVariants.{FullDim, Pointed}
-use Rattle.std.proofs.Common.{ap, arith, false, refl}
+use Rattle.std.proofs.Common.{ap, arith, false, refl, sym, ◌∙◌}
 use Rattle.std.specs.Prelude.{Some, [], ◌∷◌}
-use Rattle.pm_machine.specs.Examples.{AnswersAreRead, ConditionsAreRead, EventsAreRead, ExclusionsAreRead, fifth, given, two, under}
+use Rattle.pm_machine.specs.Examples.{AnswersAreRead, ConditionsAreRead, EventsAreRead, ExclusionsAreRead, ObjectsAreRead, fifth, given, two, under}
 use Rattle.pm_props.specs.Sets.{has, only, union}
 
 pub events_are_read : EventsAreRead
@@ -48,6 +49,22 @@ conditions_are_read = record {
   contrary_right = λ rule. refl;
   first = λ rule. first_is (under rule (Pointed ∷ FullDim ∷ []) []) (given FullDim false ∷ given Pointed false ∷ []) (Some Pointed) Pointed refl refl;
   not_first = λ rule f. absurd (omega (arith, f.least Pointed refl));
+}
+
+pub objects_are_read : ObjectsAreRead
+objects_are_read = record {
+  first_goes = refl;
+  middle_goes = refl;
+  none_goes = refl;
+  is_gone = λ name old new h. h.1.object;
+  not_twice = λ name old new none h. h.0 none;
+  same = λ name to old new h. h.4.object ∙ sym h.1;
+  not_over = λ name to old new taken h. taken h.2;
+  not_of_nothing = λ name to old new none h. some_not_none (sym h.1 ∙ none);
+  not_full = λ name to old new count h. absurd (omega (arith, count, h.2));
+  was_given = refl;
+  was_computed = refl;
+  not_held = refl;
 }
 
 pub answers_are_read : AnswersAreRead

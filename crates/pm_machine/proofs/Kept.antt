@@ -5,7 +5,7 @@ use Rattle.pm_machine.specs.declared.round.Ending.{Ending}
 use Rattle.pm_machine.specs.declared.round.Ending.TheVariants as ending
 use Rattle.pm_machine.specs.Events.{Configuration, Ensured, EnsuredInPart, at_rest, configuration, unsettled}
 use Rattle.pm_machine.specs.Parts.{AllHonest, IsSettled, StepInPart}
-use Rattle.pm_machine.specs.Steps.{AllKept, Becomes, DisableStep, EnsureStep, EnsuredAll, Ensures, ExplainStep, ExplainedAll, Gave, Given, GiveStep, Gives, HistoryStep, LookupStep, Machine, NewStep, RulesStep, Stays, Step, TakeStep, TakeValue, UnloadStep, disabling, given_value, object_at, whole_of, no_json, faulty, value}
+use Rattle.pm_machine.specs.Steps.{AllKept, Becomes, CopyStep, DisableStep, DropStep, EnsureStep, EnsuredAll, Ensures, ExplainStep, ExplainedAll, Gave, Given, GiveStep, Gives, HistoryStep, LookupStep, Machine, NewStep, OriginStep, RulesStep, Stays, Step, TakeStep, TakeValue, UnloadStep, disabling, given_value, object_at, whole_of, no_json, faulty, value}
 use Rattle.pm_object.proofs.Formed.{only}
 use Rattle.pm_object.proofs.Honesty.{empty_is_kept, given_is_kept, honesty_is_of_values, settled_is_kept}
 use Rattle.pm_object.specs.Honest.{IsHonest, IsKept}
@@ -14,8 +14,8 @@ use Rattle.pm_object.specs.declared.held.Origin.TheVariants.{Given as Given'}
 use Rattle.pm_object.specs.declared.held.TakeFail.{TakeFail}
 use Rattle.pm_object.specs.declared.held.TakeFail.TheVariants as fail
 use Rattle.pm_rules.specs.declared.rule.Rule.{Rule}
-use Rattle.pm_script.specs.Commands.{RefSeen, Spoken, blank, new_object, take_value, give_value, look_up, ensure_values, explain_values, tell_history, show_rules, disable_rule, unload_client}
-use Rattle.pm_script.specs.Replies.{ReplySeen, done, ensured, explained, lists_rules, nothing, planned, refused, shows, tells, undef}
+use Rattle.pm_script.specs.Commands.{RefSeen, Spoken, blank, new_object, take_value, give_value, look_up, ensure_values, explain_values, tell_history, show_rules, disable_rule, unload_client, copy_object, drop_object, tell_origin}
+use Rattle.pm_script.specs.Replies.{ReplySeen, done, ensured, explained, lists_rules, nothing, planned, refused, shows, tells, tells_origin, undef}
 use Rattle.pm_script.specs.declared.refusal.Refusal.TheVariants.{UnknownName, NameTaken, UnknownType, UnknownProperty, BadValue, AlreadyHeld, Sealed, ObjectsFull, NoChain, Crowded, UnknownRule}
 use Rattle.pm_props.specs.Sets.{only as only_property}
 use Rattle.pm_types.specs.Values.{PropertyValue}
@@ -27,7 +27,7 @@ use Rattle.std.specs.List.{Contains}
 use Rattle.std.specs.Option.{is_some}
 use Rattle.std.specs.Prelude.{Bool, IfSome, List, None, Option, Some, [], if◌then◌else◌, length, nat_eq, not, suc, ℕ, ◌∷◌, ◌≡◌, ◌⊎◌}
 
-decide : (b : Bool) → (b ≡ true) ⊎ (b ≡ false)
+pub decide : (b : Bool) → (b ≡ true) ⊎ (b ≡ false)
 decide true = inl refl
 decide false = inr refl
 
@@ -55,7 +55,7 @@ ensured_kept book asked ending old new e kept = reaching_keeps book None asked u
 stays_kept : (old new : Machine) → Stays old new → AllKept old → AllKept new
 stays_kept old new s all = record { each = λ q. subst (λ z. IfSome z IsKept) (sym (s.objects q)) (all.each q) }
 
-some_not_none : {A : Type 0} {a : A} → Some a ≡ None → ⊥
+pub some_not_none : {A : Type 0} {a : A} → Some a ≡ None → ⊥
 some_not_none e = true≢false (ap is_some e)
 
 object_is : (m : Machine) (ref : RefSeen) (o : State) → object_at m ref ≡ Some o → m.object ref.name ≡ Some o
@@ -190,6 +190,30 @@ unload_keeps old new name (refused UnknownRule nothing) (h, s) all = stays_kept 
 unload_keeps old new name done (h, u) all = record { each = λ q. subst (λ z. IfSome z IsKept) (sym (u.objects q)) (all.each q) }
 unload_keeps old new name reply h all = absurd h
 
+copy_keeps : (old new : Machine) (name to : List ℕ) (reply : ReplySeen) → CopyStep old name to reply new → AllKept old → AllKept new
+copy_keeps old new name to (refused UnknownName nothing) (h, s) all = stays_kept old new s all
+copy_keeps old new name to (refused NameTaken nothing) (h, k, s) all = stays_kept old new s all
+copy_keeps old new name to (refused ObjectsFull nothing) (h, k, l, s) all = stays_kept old new s all
+copy_keeps old new name to done (o, at, k, l, g) all = with_one to o old new g.object g.others (subst (λ z. IfSome z IsKept) at (all.each name)) all
+copy_keeps old new name to reply h all = absurd h
+
+drop_keeps : (old new : Machine) (name : List ℕ) (reply : ReplySeen) → DropStep old name reply new → AllKept old → AllKept new
+drop_keeps old new name (refused UnknownName nothing) (h, s) all = stays_kept old new s all
+drop_keeps old new name done (h, l) all = record {
+  each = λ q. elim (decide (bytes_eq q name)) [
+    | inl e ↦ subst (λ z. IfSome z IsKept) (sym (ap new.object (same_bytes q name e) ∙ l.object)) tt
+    | inr e ↦ subst (λ z. IfSome z IsKept) (sym (l.others q (other_bytes q name e))) (all.each q)
+  ];
+}
+drop_keeps old new name reply h all = absurd h
+
+origin_keeps : (old new : Machine) (ref : RefSeen) (text : List ℕ) (reply : ReplySeen) → OriginStep old ref text reply new → AllKept old → AllKept new
+origin_keeps old new ref text (refused UnknownName nothing) (h, s) all = stays_kept old new s all
+origin_keeps old new ref text (refused UnknownProperty nothing) (o, h, k, s) all = stays_kept old new s all
+origin_keeps old new ref text undef (o, at, p, named, none, s) all = stays_kept old new s all
+origin_keeps old new ref text (tells_origin g) (o, at, p, named, is, s) all = stays_kept old new s all
+origin_keeps old new ref text reply h all = absurd h
+
 rules_keep : (book : List Rule) (old new : Machine) (reply : ReplySeen) → RulesStep book old reply new → AllKept old → AllKept new
 rules_keep book old new (lists_rules n text) (h, k, s) all = stays_kept old new s all
 rules_keep book old new reply h all = absurd h
@@ -206,6 +230,9 @@ steps_keep book old new (tell_history name) reply h all = history_keeps book old
 steps_keep book old new show_rules reply h all = rules_keep book old new reply h all
 steps_keep book old new (disable_rule name label) reply h all = disable_keeps book old new name label reply h all
 steps_keep book old new (unload_client name) reply h all = unload_keeps old new name reply h all
+steps_keep book old new (copy_object name to) reply h all = copy_keeps old new name to reply h all
+steps_keep book old new (drop_object name) reply h all = drop_keeps old new name reply h all
+steps_keep book old new (tell_origin ref text) reply h all = origin_keeps old new ref text reply h all
 
 -- ---- a step that was broken off
 honest_of : (x : Option State) → IfSome x IsKept → IfSome x IsHonest
@@ -247,3 +274,6 @@ steps_in_part_keep book old new (look_up ref text) s all = stays_honest old new 
 steps_in_part_keep book old new show_rules s all = stays_honest old new s all
 steps_in_part_keep book old new (disable_rule name label) s all = stays_honest old new s all
 steps_in_part_keep book old new (unload_client name) s all = stays_honest old new s all
+steps_in_part_keep book old new (copy_object name to) s all = stays_honest old new s all
+steps_in_part_keep book old new (drop_object name) s all = stays_honest old new s all
+steps_in_part_keep book old new (tell_origin ref text) s all = stays_honest old new s all

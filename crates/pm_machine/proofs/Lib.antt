@@ -9,6 +9,7 @@ pub mod Turns
 pub mod Following
 pub mod Rounds
 pub mod Names
+pub mod FirstHeld
 pub mod Unloading
 pub mod Refused
 pub mod Examples

@@ -9,7 +9,7 @@ use Rattle.pm_machine.specs.declared.round.Ending.TheVariants as ending
 use Rattle.pm_machine.specs.Parts.{AllHonest, StepInPart}
 use Rattle.pm_machine.specs.Reasons.{AreReasons}
 use Rattle.pm_machine.specs.Sessions.{no_files}
-use Rattle.pm_machine.specs.Steps.{AllKept, Becomes, DisableStep, EnsureStep, Ensures, ExplainStep, Explains, Gains, Given, GiveStep, Gives, Machine, Stays, Step, TakeStep, TakeValue, Taken, asked_in, disabling, faulty, given_by, has_label, later_rounds, named_rounds, no_json, property_named, rounds_beside, rule_names, settled_object, value, whole_of}
+use Rattle.pm_machine.specs.Steps.{AllKept, Becomes, DisableStep, EnsureStep, Ensures, ExplainStep, Explains, Gains, Given, GiveStep, Gives, Loses, Machine, Stays, Step, TakeStep, TakeValue, Taken, asked_in, disabling, faulty, given_by, has_label, later_rounds, named_rounds, no_json, property_named, rounds_beside, rule_names, settled_object, value, whole_of, without_name}
 use Rattle.pm_object.proofs.Names.{names_held}
 use Rattle.pm_object.specs.State.{ObjectSeen, RoundSeen, State, is_held, read_at, value_of}
 use Rattle.pm_object.specs.Views.{round_seen}
@@ -17,8 +17,8 @@ use Rattle.pm_object.specs.declared.held.Round.{Round}
 use Rattle.pm_plan.specs.Plans.{HasNoPlan, IsCrowded, IsPlan}
 use Rattle.pm_rules.specs.declared.rule.Rule.{Rule}
 use Rattle.pm_rules.specs.declared.table.TableRow.{TableRow}
-use Rattle.pm_script.specs.Commands.{RefSeen, Spoken, blank, new_object, take_value, give_value, look_up, ensure_values, explain_values, tell_history, show_rules, disable_rule, unload_client}
-use Rattle.pm_script.specs.Replies.{NamesSeen, Remarks, ReplySeen, Rounds, done, ensured, explained, lists_rules, nothing, planned, refused, remarks, shows, tells, told, undef}
+use Rattle.pm_script.specs.Commands.{RefSeen, Spoken, blank, new_object, take_value, give_value, look_up, ensure_values, explain_values, tell_history, show_rules, disable_rule, unload_client, copy_object, drop_object, tell_origin}
+use Rattle.pm_script.specs.Replies.{NamesSeen, Remarks, ReplySeen, Rounds, done, ensured, explained, lists_rules, nothing, planned, refused, remarks, shows, tells, tells_origin, told, undef}
 use Rattle.pm_script.specs.declared.names.Bar.{Bar}
 use Rattle.pm_script.specs.declared.refusal.Refusal.{Refusal}
 use Rattle.pm_script.specs.declared.refusal.Refusal.TheVariants.{BadCommand, UnknownName, NameTaken, UnknownType, UnknownProperty, BadValue, AlreadyHeld, Sealed, ObjectsFull, NoChain, Crowded, LineTooLong, UnknownRule}
@@ -38,7 +38,7 @@ use Rattle.indexmap.proofs.CallerLemmas.{insert_entry-new}
 use Rattle.indexmap.specs.IndexMap.{insert_entry}
 use Rattle.std.proofs.lemmas.List.{length-map, map-append}
 use Rattle.std.specs.HashMap.{HashMap, UpdatesBy, get, get_by_text, keys}
-use Rattle.std.specs.Map.{keys_of}
+use Rattle.std.specs.Map.{keys_of, lookup, remove_entry}
 use Rattle.std.specs.Option.{IsSome, is_some, option_map}
 use Rattle.std.specs.String.{string_eq}
 use Rattle.std.specs.Prelude.{Bool, String, Err, IfOk, List, None, Ok, OnErr, OnOk, Option, Result, Some, [], cond, drop, length, map, string_bytes, ℕ, ◌++◌, ◌∷◌, ◌≡◌, ◌⊎◌}
@@ -91,7 +91,7 @@ written m n text name o o' same was same_keys updates =
     }
 
 -- ---- one object more
-not_mapped : {A B : Type 0} (f : A → B) (x : Option A) → option_map f x ≡ None → x ≡ None
+pub not_mapped : {A B : Type 0} (f : A → B) (x : Option A) → option_map f x ≡ None → x ≡ None
 not_mapped f None e = refl
 not_mapped f (Some a) e = absurd (true≢false (ap is_some e))
 
@@ -107,6 +107,42 @@ gains_one m n k o made clients none e updates is = record {
   names = named_last m n k o (not_mapped (λ (z : ObjectSeen). z.state) (get_by_text m (string_bytes k)) none) e;
   object = ap (option_map (λ (z : ObjectSeen). z.state)) updates.1 ∙ ap Some is;
   others = λ q other. ap (option_map (λ (z : ObjectSeen). z.state)) (others_stay m n (string_bytes k) (Some o) updates q other);
+  clients = refl;
+  store = refl;
+}
+
+-- ---- one object less
+-- where no key passes, all stay
+none_left : {Y X : Type 0} (name : List ℕ) (es : List (String Y × X)) → lookup (λ k. bytes_eq name (string_bytes k)) es ≡ None → map string_bytes (keys_of es) ≡ without_name name (map string_bytes (keys_of es))
+none_left name [] none = refl
+none_left name (e ∷ es) none = elim (decide (bytes_eq name (string_bytes e.0))) [
+  | inl is ↦ absurd (true≢false (ap is_some (rw is at none)))
+  | inr is ↦ rw is (ap (λ t. string_bytes e.0 ∷ t) (none_left name es (rw is at none)))
+]
+
+-- where one key passed, the others stay
+names_left : {Y X : Type 0} (name : List ℕ) (es : List (String Y × X)) → lookup (λ k. bytes_eq name (string_bytes k)) (remove_entry (λ k. bytes_eq name (string_bytes k)) es) ≡ None
+    → map string_bytes (keys_of (remove_entry (λ k. bytes_eq name (string_bytes k)) es)) ≡ without_name name (map string_bytes (keys_of es))
+names_left name [] none = refl
+names_left name (e ∷ es) none = elim (decide (bytes_eq name (string_bytes e.0))) [
+  | inl is ↦ rw is (none_left name es (rw is at none))
+  | inr is ↦ rw is (ap (λ t. string_bytes e.0 ∷ t) (names_left name es (rw (is, is) at none)))
+]
+
+pub loses_one : {Y S : Type 0} (m n : HashMap (String Y) ObjectSeen S) (name : List ℕ) (clients : Clients) → n.entries ≡ remove_entry (λ k. bytes_eq name (string_bytes k)) m.entries
+    → UpdatesBy string_eq (λ k. bytes_eq name (string_bytes k)) m n None → Loses name (machine_with (names_in m) (objects_of m) clients) (machine_with (names_in n) (objects_of n) clients)
+loses_one m n name clients e updates = record {
+  names = ap (λ es. map string_bytes (keys_of es)) e ∙ names_left name m.entries (ap (λ es. lookup (λ k. bytes_eq name (string_bytes k)) es) (sym e) ∙ updates.1);
+  object = ap (option_map (λ (z : ObjectSeen). z.state)) updates.1;
+  others = λ q other. ap (option_map (λ (z : ObjectSeen). z.state)) (others_stay m n name None updates q other);
+  clients = refl;
+  store = refl;
+}
+
+pub stays_unchanged : {Y S : Type 0} (m n : HashMap (String Y) ObjectSeen S) (clients : Clients) → n.entries ≡ m.entries → Stays (machine_with (names_in m) (objects_of m) clients) (machine_with (names_in n) (objects_of n) clients)
+stays_unchanged m n clients e = record {
+  names = ap (λ es. map string_bytes (keys_of es)) e;
+  objects = λ q. ap (λ es. option_map (λ (z : ObjectSeen). z.state) (lookup (λ k. bytes_eq q (string_bytes k)) es)) e;
   clients = refl;
   store = refl;
 }
@@ -245,6 +281,7 @@ module _ {ns ms : List (List ℕ)} {old new : List ℕ → Option State} {name :
         by (explained chain weight rows names) e = absurd e
         by (tells t excluded) e = absurd e
         by (lists_rules n t) e = absurd e
+        by (tells_origin g) e = absurd e
         by undef e = absurd e
         by (refused BadCommand more) e = absurd e
         by (refused UnknownName more) e = absurd e
@@ -295,6 +332,7 @@ module _ {ns ms : List (List ℕ)} {old new : List ℕ → Option State} {name :
         by (explained chain weight rows names) e = absurd e
         by (tells t excluded) e = absurd e
         by (lists_rules n t) e = absurd e
+        by (tells_origin g) e = absurd e
         by undef e = absurd e
         by (refused BadCommand more) e = absurd e
         by (refused UnknownName more) e = absurd e
@@ -337,6 +375,7 @@ module _ {ns ms : List (List ℕ)} {old new : List ℕ → Option State} {name :
         by done e = absurd e
         by (tells t excluded) e = absurd e
         by (lists_rules n t) e = absurd e
+        by (tells_origin g) e = absurd e
         by undef e = absurd e
         by (refused BadCommand more) e = absurd e
         by (refused UnknownName more) e = absurd e
@@ -405,6 +444,9 @@ stays_in_part book old new (look_up ref text) s = s
 stays_in_part book old new show_rules s = s
 stays_in_part book old new (disable_rule name label) s = s
 stays_in_part book old new (unload_client name) s = s
+stays_in_part book old new (copy_object name to) s = s
+stays_in_part book old new (drop_object name) s = s
+stays_in_part book old new (tell_origin ref text) s = s
 
 pub kept_if_ok : {E F : Type 0} (view : F → ReplySeen) (book : List Rule) (old new : Machine) (command : Spoken) (r : Result F E)
     → IfOk r (λ x. Step book old command (view x) new) → OnOk r (AllKept old → AllKept new)

@@ -1,12 +1,12 @@
 -- The definitions of phases, events and exclusions read on small things: what holds of them and what does not.
-use Rattle.std.specs.Prelude.{ℕ, ◌≡◌, Bool, true, false, Option, Some, None, List, [], codes, ◌∷◌}
+use Rattle.std.specs.Prelude.{ℕ, ◌≡◌, ◌≢◌, Bool, true, false, Option, Some, None, List, [], codes, length, ◌∷◌}
 use Rattle.pm_geom.specs.declared.evidence.Evidence.TheVariants.{E4}
 use Rattle.pm_props.specs.declared.object_type.ObjectType.TheVariants.{Cone, Polytope}
 use Rattle.pm_machine.specs.Chains.{IsFirstWrong, is_excluded, is_wrong, some_wrong}
 use Rattle.pm_machine.specs.Events.{Configuration, MayOccur, at_rest, begun, committed, excluded, over, phase_after_all, running, settled, started, turn, unsettled, written}
 use Rattle.pm_object.specs.State.{HeldValue, RoundSeen, State, empty_object}
 use Rattle.pm_object.specs.declared.held.Excluded.{Excluded}
-use Rattle.pm_object.specs.declared.held.Origin.TheVariants.{Given}
+use Rattle.pm_object.specs.declared.held.Origin.TheVariants.{Computed, Given}
 use Rattle.pm_object.specs.declared.held.RoundEnd.TheVariants as end
 use Rattle.pm_object.specs.declared.held.Why.TheVariants as why
 use Rattle.pm_machine.specs.Reasons.{first_reason}
@@ -15,10 +15,10 @@ use Rattle.pm_script.specs.declared.names.Bar.TheVariants as bar
 use Rattle.pm_props.specs.Sets.{set_of}
 use Rattle.pm_types.specs.Values.{Fact, truth, whole}
 use Rattle.pm_client.specs.Starts.{Clients}
-use Rattle.pm_machine.specs.Steps.{Ensures, Explains, Gives, asked_in, later_rounds, rule_names, settled_object}
+use Rattle.pm_machine.specs.Steps.{CopyStep, DropStep, Ensures, Explains, Gives, Machine, asked_in, later_rounds, origin_of, rule_names, settled_object, without_name}
 use Rattle.pm_rules.specs.declared.table.TableRow.{TableRow}
-use Rattle.pm_script.specs.Replies.{NamesSeen, Remarks, explained, nothing, refused, remarks}
-use Rattle.pm_script.specs.declared.refusal.Refusal.TheVariants.{Crowded, NoChain, UnknownName}
+use Rattle.pm_script.specs.Replies.{NamesSeen, Remarks, done, explained, nothing, refused, remarks}
+use Rattle.pm_script.specs.declared.refusal.Refusal.TheVariants.{Crowded, NoChain, ObjectsFull, UnknownName}
 use Rattle.pm_weights.specs.declared.Cost.{Cost}
 use lib.IntN.{pos}
 use Rattle.pm_props.specs.declared.kind.Kind.{Kind}
@@ -108,6 +108,28 @@ pub record ReasonsAreRead : Type 0 where
   pub disabled_first : first_reason None None true false ≡ Some bar.Disabled
   pub no_client : first_reason None None false false ≡ Some bar.NoClient
   pub none : first_reason None None false true ≡ None
+
+-- a truth value that a client computed
+abbrev pub found : PropId → Bool → HeldValue
+found p b = record (given p b) { origin = Computed }
+
+-- what `copy` and `drop` change, and when they are not done; which origin is told
+pub record ObjectsAreRead : Type 0 where
+  -- the others stay, in their order
+  pub first_goes : without_name (codes "a") (codes "a" ∷ codes "b" ∷ codes "c" ∷ []) ≡ codes "b" ∷ codes "c" ∷ []
+  pub middle_goes : without_name (codes "b") (codes "a" ∷ codes "b" ∷ codes "c" ∷ []) ≡ codes "a" ∷ codes "c" ∷ []
+  pub none_goes : without_name (codes "d") (codes "a" ∷ codes "b" ∷ []) ≡ codes "a" ∷ codes "b" ∷ []
+  pub is_gone : (name : List ℕ) (old new : Machine) → DropStep old name done new → new.object name ≡ None
+  pub not_twice : (name : List ℕ) (old new : Machine) → old.object name ≡ None → DropStep old name done new → ⊥
+  -- a copy is as its object is: with its exclusions, rounds and disabled labels
+  pub same : (name to : List ℕ) (old new : Machine) → CopyStep old name to done new → new.object to ≡ old.object name
+  pub not_over : (name to : List ℕ) (old new : Machine) → old.object to ≢ None → CopyStep old name to done new → ⊥
+  pub not_of_nothing : (name to : List ℕ) (old new : Machine) → old.object name ≡ None → CopyStep old name to done new → ⊥
+  pub not_full : (name to : List ℕ) (old new : Machine) → length old.names ≡ 31 → CopyStep old name to (refused ObjectsFull nothing) new → ⊥
+  -- the origin of the value of the property
+  pub was_given : origin_of Pointed (found FullDim true ∷ given Pointed true ∷ []) ≡ Some Given
+  pub was_computed : origin_of Pointed (given FullDim true ∷ found Pointed true ∷ []) ≡ Some Computed
+  pub not_held : origin_of Pointed (given FullDim true ∷ []) ≡ None
 
 -- a polytope with these rounds
 abbrev pub with_rounds : List RoundSeen → State

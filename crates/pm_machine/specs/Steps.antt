@@ -1,5 +1,5 @@
 -- The machine: what each command may answer, and what it changes. Each refusal comes exactly where its line says, and the lines of one command exclude each other.
-use Rattle.std.specs.Prelude.{ℕ, ◌≡◌, ◌≢◌, Bool, true, false, ◌++◌, ◌<◌, ◌≤◌, List, [], ◌∷◌, drop, length, map, Option, Some, None, option_and_then, option_map, IfSome, if◌then◌else◌, codes}
+use Rattle.std.specs.Prelude.{ℕ, ◌≡◌, ◌≢◌, Bool, true, false, ◌++◌, ◌<◌, ◌≤◌, List, [], ◌∷◌, drop, filter, find, length, map, not, Option, Some, None, option_and_then, option_map, IfSome, if◌then◌else◌, codes}
 use Rattle.std.specs.Prelude.{Result, Ok, Err}
 use Rattle.std.specs.List.{list_any}
 use Rattle.std.specs.Str.{bytes_eq}
@@ -18,18 +18,20 @@ use Rattle.pm_machine.specs.Reasons.{AreReasons}
 use Rattle.pm_machine.specs.declared.round.Ending.TheVariants as ending
 use Rattle.pm_object.specs.Honest.{IsKept}
 use Rattle.pm_object.specs.State.{CanTake, CannotTake, HeldValue, RoundSeen, State, empty_object, is_disabled, is_held, is_sealed, read_at, settling, value_of, with_disabled, with_held}
+use Rattle.pm_object.specs.declared.held.Origin.{Origin}
 use Rattle.pm_object.specs.declared.held.Origin.TheVariants.{Given as Given'}
 use Rattle.pm_object.specs.declared.held.TakeFail.TheVariants as fail
 use Rattle.pm_plan.specs.Plans.{HasNoPlan, IsCrowded, IsPlan}
 use Rattle.pm_rules.specs.declared.rule.Rule.{Rule}
-use Rattle.pm_script.specs.Commands.{RefSeen, Spoken, blank, new_object, take_value, give_value, look_up, ensure_values, explain_values, tell_history, show_rules, disable_rule, unload_client}
-use Rattle.pm_script.specs.Replies.{NamesSeen, Remarks, ReplySeen, Rounds, done, ensured, explained, lists_rules, nothing, planned, refused, remarks, shows, tells, undef}
+use Rattle.pm_script.specs.Commands.{RefSeen, Spoken, blank, new_object, take_value, give_value, look_up, ensure_values, explain_values, tell_history, show_rules, disable_rule, unload_client, copy_object, drop_object, tell_origin}
+use Rattle.pm_script.specs.Replies.{NamesSeen, Remarks, ReplySeen, Rounds, done, ensured, explained, lists_rules, nothing, planned, refused, remarks, shows, tells, tells_origin, undef}
 use Rattle.pm_script.specs.declared.refusal.Refusal.{Refusal}
 use Rattle.pm_script.specs.declared.refusal.Refusal.TheVariants.{UnknownName, NameTaken, UnknownType, UnknownProperty, BadValue, AlreadyHeld, Sealed, ObjectsFull, NoChain, Crowded, UnknownRule}
 use Rattle.pm_script.specs.declared.refusal.ValueWhy.{ValueWhy}
 use Rattle.pm_script.specs.declared.refusal.ValueWhy.TheVariants as value_why
 use Rattle.pm_props.specs.Properties.{is_built}
 use Rattle.pm_props.specs.Names.{property_named_in}
+use Rattle.pm_props.specs.Places.{same_property}
 use Rattle.pm_props.specs.Sets.{only, set_of}
 use Rattle.pm_types.specs.Values.{PropertyValue}
 use Rattle.pm_props.specs.declared.kind.RuleId.{RuleId}
@@ -75,6 +77,18 @@ pub record Becomes (name : List ℕ) (c : Configuration) (old new : Machine) : T
 pub record Gains (name : List ℕ) (o : State) (old new : Machine) : Type 0 where
   pub names : new.names ≡ old.names ++ name ∷ []
   pub object : new.object name ≡ Some o
+  pub others : OthersStay name old new
+  pub clients : new.clients ≡ old.clients
+  pub store : new.store ≡ old.store
+
+-- the names without this one, in their order
+abbrev pub without_name : List ℕ → List (List ℕ) → List (List ℕ)
+without_name name names = filter (λ q. not (bytes_eq name q)) names
+
+-- the object of the name goes; all else stays
+pub record Loses (name : List ℕ) (old new : Machine) : Type 0 where
+  pub names : new.names ≡ without_name name old.names
+  pub object : new.object name ≡ None
   pub others : OthersStay name old new
   pub clients : new.clients ≡ old.clients
   pub store : new.store ≡ old.store
@@ -284,6 +298,32 @@ LookupStep old ref text (shows name of p v t) new = (o : State) × (object_at ol
     × (value_of p (read_at None o.held) ≡ Some v) × (t ≡ no_rounds) × Stays old new
 LookupStep old ref text reply new = ⊥
 
+-- `copy NAME NEW`
+abbrev pub CopyStep : Machine → List ℕ → List ℕ → ReplySeen → Machine → Type 0
+CopyStep old name to (refused UnknownName nothing) new = (old.object name ≡ None) × Stays old new
+CopyStep old name to (refused NameTaken nothing) new = (old.object name ≢ None) × (old.object to ≢ None) × Stays old new
+CopyStep old name to (refused ObjectsFull nothing) new = (old.object name ≢ None) × (old.object to ≡ None) × (most_objects ≤ length old.names) × Stays old new
+CopyStep old name to done new = (o : State) × (old.object name ≡ Some o) × (old.object to ≡ None) × (length old.names < most_objects) × Gains to o old new
+CopyStep old name to reply new = ⊥
+
+-- `drop NAME`
+abbrev pub DropStep : Machine → List ℕ → ReplySeen → Machine → Type 0
+DropStep old name (refused UnknownName nothing) new = (old.object name ≡ None) × Stays old new
+DropStep old name done new = (old.object name ≢ None) × Loses name old new
+DropStep old name reply new = ⊥
+
+-- how the value of a property came to be held, if it is held
+abbrev pub origin_of : PropId → List HeldValue → Option Origin
+origin_of p held = option_map (λ h. h.origin) (find (λ h. same_property p h.property) held)
+
+-- `origin REF PROP`
+abbrev pub OriginStep : Machine → RefSeen → List ℕ → ReplySeen → Machine → Type 0
+OriginStep old ref text (refused UnknownName nothing) new = (object_at old ref ≡ None) × Stays old new
+OriginStep old ref text (refused UnknownProperty nothing) new = (o : State) × (object_at old ref ≡ Some o) × (property_named o.of text ≡ None) × Stays old new
+OriginStep old ref text undef new = (o : State) × (object_at old ref ≡ Some o) × (p : PropId) × (property_named o.of text ≡ Some p) × (value_of p (read_at None o.held) ≡ None) × Stays old new
+OriginStep old ref text (tells_origin g) new = (o : State) × (object_at old ref ≡ Some o) × (p : PropId) × (property_named o.of text ≡ Some p) × (origin_of p (read_at None o.held) ≡ Some g) × Stays old new
+OriginStep old ref text reply new = ⊥
+
 -- `rules`
 abbrev pub RulesStep : List Rule → Machine → ReplySeen → Machine → Type 0
 RulesStep book old (lists_rules n text) new = (n ≡ length book) × (text ≡ text_of book) × Stays old new
@@ -339,6 +379,9 @@ Step book old (tell_history name) reply new = HistoryStep book old name reply ne
 Step book old show_rules reply new = RulesStep book old reply new
 Step book old (disable_rule name label) reply new = DisableStep book old name label reply new
 Step book old (unload_client name) reply new = UnloadStep old name reply new
+Step book old (copy_object name to) reply new = CopyStep old name to reply new
+Step book old (drop_object name) reply new = DropStep old name reply new
+Step book old (tell_origin ref text) reply new = OriginStep old ref text reply new
 
 -- each object is honest, and while it has no round each of its values was given
 pub record AllKept (m : Machine) : Type 0 where

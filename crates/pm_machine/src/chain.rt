@@ -120,8 +120,8 @@ pub fn place_of_rule(sub: Option<u8>, rule: &Rule) -> Option<u8>
     }
 }
 
-// Whether two places are the same.
-fn are_same(a: Option<u8>, b: Option<u8>) -> bool
+/// Whether two places are the same.
+pub fn are_same(a: Option<u8>, b: Option<u8>) -> bool
     ensures { result ≡ same_place a b }
 {
     match (a, b) {

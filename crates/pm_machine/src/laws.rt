@@ -1,7 +1,7 @@
 // The laws of honesty, and examples.
 
 ghost use Rattle.pm_machine.specs.Events.{EventsKeep};
-ghost use Rattle.pm_machine.specs.Examples.{AnswersAreRead, ConditionsAreRead, EventsAreRead, ExclusionsAreRead, ReasonsAreRead};
+ghost use Rattle.pm_machine.specs.Examples.{AnswersAreRead, ConditionsAreRead, EventsAreRead, ExclusionsAreRead, ObjectsAreRead, ReasonsAreRead};
 ghost use Rattle.pm_machine.specs.Reasons.{BarredHaveReasons};
 ghost use Rattle.pm_machine.specs.Laws.{StepsInPartKeep, StepsKeep};
 
@@ -43,6 +43,11 @@ pub fn example_conditions()
 /// Which reason is told of a rule that is barred.
 pub fn example_reasons()
     ensures { ReasonsAreRead }
+{}
+
+/// What a copy and a drop change, and when they are not done; which origin is told.
+pub fn example_objects()
+    ensures { ObjectsAreRead }
 {}
 
 /// What is asked by names, and what of rounds and labels is told.

@@ -2,15 +2,16 @@
 
 ghost use Rattle.pm_machine.specs.Parts.{AllHonest, StepInPart};
 ghost use Rattle.pm_machine.specs.Sessions.{book_of, is_spent, machine_of};
-ghost use Rattle.pm_machine.specs.Steps.{AllKept, DisableStep, EnsureStep, ExplainStep, Gains, GiveStep, HistoryStep, LookupStep, NewStep, RulesStep, Stays, Step, TakeStep, UnloadStep, object_at, type_word};
-ghost use Rattle.pm_object.specs.State.{empty_object};
+ghost use Rattle.pm_machine.specs.Steps.{AllKept, CopyStep, DisableStep, DropStep, EnsureStep, ExplainStep, Gains, GiveStep, HistoryStep, LookupStep, NewStep, OriginStep, RulesStep, Stays, Step, TakeStep, UnloadStep, most_objects, object_at, type_word};
 ghost use Rattle.pm_script.specs.Commands.{blank, ensure_values, explain_values, give_value, seen_ref, spoken};
 ghost use Rattle.pm_script.specs.Replies.{seen};
+ghost use Rattle.std.specs.Bool.{OnFalse, OnTrue};
 ghost use Rattle.std.specs.Option.{is_some, option_map};
-ghost use Rattle.std.specs.Prelude.{IfOk, List, None, OnErr, OnOk, Option, Some, [], false, map, string_bytes, true, ℕ, ◌⊎◌, ◌+◌, ◌≡◌, ◌≢◌};
+ghost use Rattle.std.specs.Prelude.{IfOk, List, None, OnErr, OnOk, Option, Some, [], false, length, map, string_bytes, true, ℕ, ◌⊎◌, ◌+◌, ◌<◌, ◌≡◌, ◌≢◌, ◌≤◌};
 
 use crate::asking::{asked_in, ensure_values, explain_values, give_value, show_held, tell_history};
 use crate::naming::{has_label, place_named};
+use crate::origins::origin_of;
 use crate::taking::{property_named, take_text};
 use indexmap::IndexMap;
 use pm_books::book_text;
@@ -103,16 +104,24 @@ impl Session {
         }
     }
 
-    // Adds an empty object of a new name.
-    fn add(&mut self, alloc: Global, name: String, of: ObjectType) -> Result<(), AllocError>
+    // Whether no object more may be made.
+    fn is_full(&self) -> bool
+        ensures full { OnTrue result (most_objects ≤ length (machine_of self.now []).names) }
+        ensures free { OnFalse result (length (machine_of self.now []).names < most_objects) }
+    {
+        self.objects.len() >= MOST_OBJECTS
+    }
+
+    // Adds an object of a new name.
+    fn add(&mut self, name: String, object: Object) -> Result<(), AllocError>
         requires { (machine_of self.old []).object (string_bytes name) ≡ None }
-        ensures gains { OnOk result (Gains (string_bytes name) (empty_object of)
+        ensures gains { OnOk result (Gains (string_bytes name) object.state
             (machine_of self.old []) (machine_of self.new [])) }
         ensures err { OnErr result (Stays (machine_of self.old []) (machine_of self.new [])) }
         ensures book { book_of self.new ≡ book_of self.old }
         ensures spent { is_spent self.new ≡ is_spent self.old }
     {
-        self.objects.insert(name, Object::new(alloc, of))?;
+        self.objects.insert(name, object)?;
         Ok(())
     }
 
@@ -140,11 +149,71 @@ impl Session {
         if self.objects.get(&name).is_some() {
             return Ok(Reply::refused(alloc, Refusal::NameTaken));
         }
-        if self.objects.len() >= MOST_OBJECTS {
+        if self.is_full() {
             return Ok(Reply::refused(alloc, Refusal::ObjectsFull));
         }
-        self.add(alloc, name, of)?;
+        self.add(name, Object::new(alloc, of))?;
         Ok(Reply::Done)
+    }
+
+    // `copy NAME NEW`
+    fn do_copy(
+        &mut self,
+        alloc: Global,
+        name: &str,
+        new: String,
+        clients: &[Box<dyn Client>],
+    ) -> Result<Reply, AllocError>
+        ensures step { IfOk result (λ r. CopyStep
+            (machine_of self.old (map tally clients.now)) name.now (string_bytes new) (seen r)
+            (machine_of self.new (map tally clients.now))) }
+        ensures err { OnErr result (Stays (machine_of self.old (map tally clients.now))
+            (machine_of self.new (map tally clients.now))) }
+        ensures book { book_of self.new ≡ book_of self.old }
+        ensures spent { is_spent self.new ≡ is_spent self.old }
+    {
+        let Some(object) = self.objects.get(name) else {
+            return Ok(Reply::refused(alloc, Refusal::UnknownName));
+        };
+        if self.objects.get(&new).is_some() {
+            return Ok(Reply::refused(alloc, Refusal::NameTaken));
+        }
+        if self.is_full() {
+            return Ok(Reply::refused(alloc, Refusal::ObjectsFull));
+        }
+        let copy = object.copy(alloc)?;
+        self.add(new, copy)?;
+        Ok(Reply::Done)
+    }
+
+    // `drop NAME`
+    fn do_drop(&mut self, alloc: Global, name: &str, clients: &[Box<dyn Client>]) -> Reply
+        ensures step { DropStep (machine_of self.old (map tally clients.now)) name.now
+            (seen result) (machine_of self.new (map tally clients.now)) }
+        ensures book { book_of self.new ≡ book_of self.old }
+        ensures spent { is_spent self.new ≡ is_spent self.old }
+    {
+        match self.objects.shift_remove(name) {
+            Some(_) => Reply::Done,
+            None => Reply::refused(alloc, Refusal::UnknownName),
+        }
+    }
+
+    // `origin REF PROP`
+    fn do_origin(&self, alloc: Global, obj: &Ref, prop: &str, clients: &[Box<dyn Client>]) -> Reply
+        ensures { OriginStep (machine_of self.now (map tally clients.now)) (seen_ref obj.now)
+            prop.now (seen result) (machine_of self.now (map tally clients.now)) }
+    {
+        let Some(object) = self.find(obj) else {
+            return Reply::refused(alloc, Refusal::UnknownName);
+        };
+        let Some(p) = property_named(object.of(), prop) else {
+            return Reply::refused(alloc, Refusal::UnknownProperty);
+        };
+        match origin_of(object, p) {
+            Some(origin) => Reply::Origin(origin),
+            None => Reply::Undef,
+        }
     }
 
     // `take REF PROP JSON`
@@ -370,6 +439,9 @@ impl Session {
             Command::Rules => self.do_rules(alloc, clients),
             Command::Disable { name, label } => self.do_disable(alloc, &name, &label, clients),
             Command::Unload { client } => Ok(self.do_unload(alloc, &client, clients)),
+            Command::Copy { name, new } => self.do_copy(alloc, &name, new, clients),
+            Command::DropObject { name } => Ok(self.do_drop(alloc, &name, clients)),
+            Command::Origin { obj, prop } => Ok(self.do_origin(alloc, &obj, &prop, clients)),
         }
     }
 

@@ -1,7 +1,7 @@
 -- What a line speaks, by its first word.
 use Rattle.std.proofs.Common.{List, bytes_eq, codes, false, refl, true, ℕ, ◌≡◌}
 use Rattle.std.specs.Prelude.{None}
-use Rattle.pm_script.specs.Commands.{chain_line, disable_line, ensure_line, explain_line, give_line, history_line, line_of, lookup_line, new_line, take_line, unload_line}
+use Rattle.pm_script.specs.Commands.{chain_line, copy_line, disable_line, drop_line, ensure_line, explain_line, give_line, history_line, line_of, lookup_line, new_line, object_line, origin_line, take_line, unload_line}
 
 pub is_new : (first words : List ℕ) → bytes_eq first (codes "new") ≡ true → line_of first words ≡ new_line words
 is_new first words a = rw (a) refl
@@ -36,5 +36,18 @@ is_explain first words a b = rw (a, b) refl
 pub is_history : (first words : List ℕ) → bytes_eq first (codes "ensure") ≡ false → bytes_eq first (codes "explain") ≡ false → bytes_eq first (codes "history") ≡ true → chain_line first words ≡ history_line words
 is_history first words a b d = rw (a, b, d) refl
 
-pub is_none : (first words : List ℕ) → bytes_eq first (codes "ensure") ≡ false → bytes_eq first (codes "explain") ≡ false → bytes_eq first (codes "history") ≡ false → chain_line first words ≡ None
+pub is_on_objects : (first words : List ℕ) → bytes_eq first (codes "ensure") ≡ false → bytes_eq first (codes "explain") ≡ false → bytes_eq first (codes "history") ≡ false → chain_line first words ≡ object_line first words
+is_on_objects first words a b d = rw (a, b, d) refl
+
+-- ---- commands on objects
+pub is_copy : (first words : List ℕ) → bytes_eq first (codes "copy") ≡ true → object_line first words ≡ copy_line words
+is_copy first words a = rw (a) refl
+
+pub is_drop : (first words : List ℕ) → bytes_eq first (codes "copy") ≡ false → bytes_eq first (codes "drop") ≡ true → object_line first words ≡ drop_line words
+is_drop first words a b = rw (a, b) refl
+
+pub is_origin : (first words : List ℕ) → bytes_eq first (codes "copy") ≡ false → bytes_eq first (codes "drop") ≡ false → bytes_eq first (codes "origin") ≡ true → object_line first words ≡ origin_line words
+is_origin first words a b d = rw (a, b, d) refl
+
+pub is_none : (first words : List ℕ) → bytes_eq first (codes "copy") ≡ false → bytes_eq first (codes "drop") ≡ false → bytes_eq first (codes "origin") ≡ false → object_line first words ≡ None
 is_none first words a b d = rw (a, b, d) refl

@@ -11,7 +11,7 @@ use Rattle.std.proofs.lemmas.List.Elements.{All-cons, All-nil}
 use Rattle.std.specs.List.{All, list_all, before_first, after_first, join_with_byte}
 use Rattle.std.specs.Str.{IsUtf8, is_utf8, bytes_eq}
 use Rattle.pm_script.proofs.Splits.{lacks, before_first-lacks, after_first-lacks, split_first, other_byte, lacks-passes}
-use Rattle.pm_script.specs.Commands.{RefSeen, Spoken, blank, new_object, take_value, give_value, look_up, ensure_values, explain_values, tell_history, show_rules, disable_rule, unload_client, part_of, ref_of, property_of, type_of, json_of, of_both, new_line, take_line, give_line, lookup_line, asked_of, ensure_line, explain_line, history_line, disable_line, unload_line, chain_line, line_of, command_of}
+use Rattle.pm_script.specs.Commands.{RefSeen, Spoken, blank, new_object, take_value, give_value, look_up, ensure_values, explain_values, tell_history, show_rules, disable_rule, unload_client, copy_object, drop_object, tell_origin, part_of, ref_of, property_of, type_of, json_of, of_both, new_line, take_line, give_line, lookup_line, asked_of, ensure_line, explain_line, history_line, disable_line, unload_line, copy_line, drop_line, origin_line, object_line, chain_line, line_of, command_of}
 use Rattle.pm_script.specs.Grammar.{part_text, ref_text, is_sub, is_ref, spaced, are_some_asked, Speaks}
 use Rattle.pm_script.specs.Lines.{is_silent}
 use Rattle.pm_rules.specs.Words.{is_label, is_word}
@@ -121,6 +121,9 @@ rest_of_name name w h = after_first-lacks 32 name w refl (name_lacks 32 name ref
 disable_spoken : (name label : List ℕ) → is_name name ≡ true → is_label label ≡ true → disable_line (name ++ 32 ∷ label) ≡ Some (disable_rule name label)
 disable_spoken name label n l = rw (name_of_two name label n, rest_of_name name label n, n, l) refl
 
+copy_spoken : (name to : List ℕ) → is_name name ≡ true → is_name to ≡ true → copy_line (name ++ 32 ∷ to) ≡ Some (copy_object name to)
+copy_spoken name to n t = rw (name_of_two name to n, rest_of_name name to n, n, t) refl
+
 -- ---- words at single spaces
 no_space : (w : List ℕ) → lacks 32 w ≡ true → All (λ b. eqb b 32 ≡ false) w
 no_space [] h = All-nil (λ b. eqb b 32 ≡ false)
@@ -200,6 +203,16 @@ spoken_is_read text (disable_rule name label) h =
     rw e (heard (codes "disable " ++ (name ++ 32 ∷ label)) refl refl (subst IsUtf8 e h.utf8) ∙ disable_spoken name label p.0 p.1)
 spoken_is_read text (unload_client client) h =
     rw h.same (heard (codes "unload " ++ client) refl refl (subst IsUtf8 h.same h.utf8) ∙ cond-true (is_word client) (Some (unload_client client)) None h.allowed)
+spoken_is_read text (copy_object name to) h =
+    let p = and_parts (is_name name) (is_name to) h.allowed in
+    let e = h.same ∙ regroup (codes "copy ") name to in
+    rw e (heard (codes "copy " ++ (name ++ 32 ∷ to)) refl refl (subst IsUtf8 e h.utf8) ∙ copy_spoken name to p.0 p.1)
+spoken_is_read text (drop_object name) h =
+    rw h.same (heard (codes "drop " ++ name) refl refl (subst IsUtf8 h.same h.utf8) ∙ cond-true (is_name name) (Some (drop_object name)) None h.allowed)
+spoken_is_read text (tell_origin r w) h =
+    let p = and_parts (is_ref r) (is_property_word w) h.allowed in
+    let e = h.same ∙ regroup (codes "origin ") (ref_text r) w in
+    rw e (heard (codes "origin " ++ (ref_text r ++ 32 ∷ w)) refl refl (subst IsUtf8 e h.utf8) ∙ both_spoken tell_origin property_of r w p.0 (property_is_some w p.1))
 spoken_is_read text (take_value r w json) h =
     let p = and_parts (is_ref r && is_property_word w) (leb 1 (length json)) h.allowed in
     let q = and_parts (is_ref r) (is_property_word w) p.0 in
@@ -340,16 +353,46 @@ history_read text s u f e =
     let q = cond_some (is_name (rest text)) (tell_history (rest text)) s e in
     subst (Speaks text) q.1 (record { utf8 = u; same = behind text (name_is_some (rest text) q.0) ∙ ap (λ x. x ++ 32 ∷ rest text) f; allowed = q.0 })
 
+copy_read : (text : List ℕ) (s : Spoken) → IsUtf8 text → first_word text ≡ codes "copy" → copy_line (rest text) ≡ Some s → Speaks text s
+copy_read text s u f e =
+    let words : List ℕ = rest text in
+    let q = cond_some (is_name (first_word words) && is_name (rest words)) (copy_object (first_word words) (rest words)) s e in
+    let p = and_parts (is_name (first_word words)) (is_name (rest words)) q.0 in
+    let line : words ≡ first_word words ++ 32 ∷ rest words = behind words (name_is_some (rest words) p.1) in
+    subst (Speaks text) q.1 (record { utf8 = u; same = whole_line text (codes "copy") (first_word words) (rest words) f line ∙ sym (regroup (codes "copy ") (first_word words) (rest words)); allowed = q.0 })
+
+drop_read : (text : List ℕ) (s : Spoken) → IsUtf8 text → first_word text ≡ codes "drop" → drop_line (rest text) ≡ Some s → Speaks text s
+drop_read text s u f e =
+    let q = cond_some (is_name (rest text)) (drop_object (rest text)) s e in
+    subst (Speaks text) q.1 (record { utf8 = u; same = behind text (name_is_some (rest text) q.0) ∙ ap (λ x. x ++ 32 ∷ rest text) f; allowed = q.0 })
+
+origin_read : (text : List ℕ) (s : Spoken) → IsUtf8 text → first_word text ≡ codes "origin" → origin_line (rest text) ≡ Some s → Speaks text s
+origin_read text s u f e =
+    let b = both_read tell_origin is_property_word (rest text) s refl e in
+    subst (Speaks text) b.is (record { utf8 = u; same = whole_line text (codes "origin") (ref_text b.obj) b.word f b.line ∙ sym (regroup (codes "origin ") (ref_text b.obj) b.word); allowed = b.are })
+
+object_read : (text : List ℕ) (s : Spoken) → IsUtf8 text → object_line (first_word text) (rest text) ≡ Some s → Speaks text s
+object_read text s u e =
+    let first : List ℕ = first_word text in
+    let words : List ℕ = rest text in
+    let origin : Option Spoken = cond (bytes_eq first (codes "origin")) (origin_line words) None in
+    let dropped : Option Spoken = cond (bytes_eq first (codes "drop")) (drop_line words) origin in
+    cond_either (bytes_eq first (codes "copy")) (copy_line words) dropped (Some s) e (λ is f. copy_read text s u (same_bytes first (codes "copy") is) f)
+    (λ _ f. cond_either (bytes_eq first (codes "drop")) (drop_line words) origin (Some s) f (λ is g. drop_read text s u (same_bytes first (codes "drop") is) g)
+    (λ _ g. cond_either (bytes_eq first (codes "origin")) (origin_line words) None (Some s) g (λ is h. origin_read text s u (same_bytes first (codes "origin") is) h)
+    (λ _ h. absurd (none-some s h))))
+
 chain_read : (text : List ℕ) (s : Spoken) → IsUtf8 text → chain_line (first_word text) (rest text) ≡ Some s → Speaks text s
 chain_read text s u e =
     let first : List ℕ = first_word text in
     let words : List ℕ = rest text in
-    let history : Option Spoken = cond (bytes_eq first (codes "history")) (history_line words) None in
+    let others : Option Spoken = object_line first words in
+    let history : Option Spoken = cond (bytes_eq first (codes "history")) (history_line words) others in
     let explain : Option Spoken = cond (bytes_eq first (codes "explain")) (explain_line words) history in
     cond_either (bytes_eq first (codes "ensure")) (ensure_line words) explain (Some s) e (λ is f. ensure_read text s u (same_bytes first (codes "ensure") is) f)
     (λ _ f. cond_either (bytes_eq first (codes "explain")) (explain_line words) history (Some s) f (λ is g. explain_read text s u (same_bytes first (codes "explain") is) g)
-    (λ _ g. cond_either (bytes_eq first (codes "history")) (history_line words) None (Some s) g (λ is h. history_read text s u (same_bytes first (codes "history") is) h)
-    (λ _ h. absurd (none-some s h))))
+    (λ _ g. cond_either (bytes_eq first (codes "history")) (history_line words) others (Some s) g (λ is h. history_read text s u (same_bytes first (codes "history") is) h)
+    (λ _ h. object_read text s u h)))
 
 taken_read : (text : List ℕ) (s : Spoken) → IsUtf8 text → first_word text ≡ codes "take" → take_line (rest text) ≡ Some s → Speaks text s
 taken_read text s u f e =

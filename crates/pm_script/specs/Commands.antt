@@ -1,6 +1,7 @@
 -- The commands that lines speak. A REF is NAME, or NAME.SUB for the part SUB of an object.
 -- `rules` asks for the book; `disable NAME LABEL` bars the rule of the label on an object, and `unload CLIENT` lets the first client of the name go; both are words as in books.
 -- `ensure REF PROP ..` asks that values be held, and `explain REF PROP ..` how they would be found: at most four properties, and one that is named twice counts once. `history NAME` asks what happened to an object.
+-- `copy NAME NEW` makes an object of the name NEW that is as that of NAME, and `drop NAME` lets an object go; `origin REF PROP` asks how a value came to be held.
 -- `new REF TYPE` makes an object; `take REF PROP JSON` gives it a value, and the JSON text is all that stands after the third space, one byte at least; `give REF PROP` asks for a value, and `lookup REF PROP` for one that is held.
 -- A line of spaces and tabs alone, or whose first byte is #, is blank. Any other line is no command, and so is one that is no UTF-8.
 use Rattle.std.specs.Prelude.{ℕ, ◌&&◌, List, [], ◌∷◌, map, string_bytes, Option, Some, None, option_map, option_and_then, if◌then◌else◌, codes}
@@ -11,7 +12,7 @@ use Rattle.pm_rules.specs.Words.{is_label, is_word}
 use Rattle.pm_script.specs.Words.{are_asked, is_dot, first_word, rest, is_name, is_property_word, is_type_word, words_of}
 use Rattle.pm_script.specs.declared.command.Ref.{Ref}
 use Rattle.pm_script.specs.declared.command.Command.{Command}
-use Rattle.pm_script.specs.declared.command.Command.TheVariants.{Blank, New, Take, Give, Lookup, Ensure, Explain, History, Rules, Disable, Unload}
+use Rattle.pm_script.specs.declared.command.Command.TheVariants.{Blank, New, Take, Give, Lookup, Ensure, Explain, History, Rules, Disable, Unload, Copy, DropObject, Origin}
 
 -- a REF, by the bytes of its words
 pub record RefSeen : Type 0 where
@@ -31,6 +32,9 @@ pub data Spoken : Type 0 where
   show_rules : Spoken
   disable_rule : List ℕ → List ℕ → Spoken
   unload_client : List ℕ → Spoken
+  copy_object : List ℕ → List ℕ → Spoken
+  drop_object : List ℕ → Spoken
+  tell_origin : RefSeen → List ℕ → Spoken
 
 abbrev pub part_of : List ℕ → List ℕ → Option RefSeen
 part_of name sub = if is_name name && is_name sub then Some (record { name = name; sub = Some sub }) else None
@@ -90,13 +94,33 @@ disable_line words = disable_of (first_word words) (rest words)
 abbrev pub unload_line : List ℕ → Option Spoken
 unload_line word = if is_word word then Some (unload_client word) else None
 
+abbrev pub copy_of : List ℕ → List ℕ → Option Spoken
+copy_of name to = if is_name name && is_name to then Some (copy_object name to) else None
+
+abbrev pub copy_line : List ℕ → Option Spoken
+copy_line words = copy_of (first_word words) (rest words)
+
+abbrev pub drop_line : List ℕ → Option Spoken
+drop_line word = if is_name word then Some (drop_object word) else None
+
+abbrev pub origin_line : List ℕ → Option Spoken
+origin_line words = of_both tell_origin (ref_of (first_word words)) (property_of (rest words))
+
+-- a command that copies an object, lets it go, or asks where a value is from, by its first word and what stands after it
+abbrev pub object_line : List ℕ → List ℕ → Option Spoken
+object_line first words =
+    if bytes_eq first (codes "copy") then copy_line words
+    else (if bytes_eq first (codes "drop") then drop_line words
+    else (if bytes_eq first (codes "origin") then origin_line words
+    else None))
+
 -- a command on chains, from its first word and what stands after it
 abbrev pub chain_line : List ℕ → List ℕ → Option Spoken
 chain_line first words =
     if bytes_eq first (codes "ensure") then ensure_line words
     else (if bytes_eq first (codes "explain") then explain_line words
     else (if bytes_eq first (codes "history") then history_line words
-    else None))
+    else object_line first words))
 
 -- the command, from its first word and what stands after it
 abbrev pub line_of : List ℕ → List ℕ → Option Spoken
@@ -130,3 +154,6 @@ spoken (History name) = tell_history (string_bytes name)
 spoken Rules = show_rules
 spoken (Disable name label) = disable_rule (string_bytes name) (string_bytes label)
 spoken (Unload client) = unload_client (string_bytes client)
+spoken (Copy name to) = copy_object (string_bytes name) (string_bytes to)
+spoken (DropObject name) = drop_object (string_bytes name)
+spoken (Origin obj prop) = tell_origin (seen_ref obj) (string_bytes prop)

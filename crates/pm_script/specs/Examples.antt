@@ -3,13 +3,14 @@ use Rattle.std.specs.Prelude.{ℕ, ◌≡◌, true, false, Option, Some, None, [
 use Rattle.pm_geom.specs.declared.evidence.Evidence.TheVariants.{E4}
 use Rattle.pm_object.specs.State.{RoundSeen}
 use Rattle.pm_object.specs.declared.held.Excluded.{Excluded}
+use Rattle.pm_object.specs.declared.held.Origin.TheVariants as origin
 use Rattle.pm_object.specs.declared.held.RoundEnd.{RoundEnd}
 use Rattle.pm_object.specs.declared.held.RoundEnd.TheVariants as end
 use Rattle.pm_object.specs.declared.held.Why.TheVariants as why
 use Rattle.pm_props.specs.Sets.{set_of}
 use Rattle.pm_props.specs.declared.kind.RuleId.{RuleId}
 use Rattle.pm_props.specs.declared.property.PropId.TheVariants.{ConeAmbientDim, Inequalities, Equations, Pointed}
-use Rattle.pm_script.specs.Replies.{NamesSeen, Rounds, barred_text, ensured, excluded_text, property_set_text, refused, reply_text, round_text, rule_text, told}
+use Rattle.pm_script.specs.Replies.{NamesSeen, Rounds, barred_text, ensured, excluded_text, property_set_text, refused, reply_text, round_text, rule_text, tells_origin, told}
 use Rattle.pm_script.specs.Words.{are_asked}
 use Rattle.pm_script.specs.declared.names.Bar.TheVariants as bar
 use Rattle.pm_script.specs.declared.refusal.Refusal.TheVariants.{NoChain}
@@ -48,6 +49,8 @@ pub record RepliesAreRead : Type 0 where
   pub always_told : reply_text false (refused NoChain (told true one_round)) ≡ codes "no 10 NoChain\nround 6: a b -> done\n"
   pub told_if_traced : reply_text true (refused NoChain (told false one_round)) ≡ codes "no 10 NoChain\nround 6: a b -> done\n"
   pub else_untold : reply_text false (refused NoChain (told false one_round)) ≡ codes "no 10 NoChain\n"
+  pub given : reply_text false (tells_origin origin.Given) ≡ codes "given\n"
+  pub computed : reply_text true (tells_origin origin.Computed) ≡ codes "computed\n"
   pub four : are_asked (codes "A" ∷ codes "B" ∷ codes "A" ∷ codes "C" ∷ codes "D" ∷ []) ≡ true
   pub not_five : are_asked (codes "A" ∷ codes "B" ∷ codes "C" ∷ codes "D" ∷ codes "E" ∷ []) ≡ false
   pub no_words : are_asked (codes "a" ∷ []) ≡ false

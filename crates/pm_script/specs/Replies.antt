@@ -6,6 +6,8 @@ use Rattle.pm_geom.specs.Evidence.{evidence_number}
 use Rattle.pm_object.specs.State.{RoundSeen}
 use Rattle.pm_object.specs.Views.{round_seen}
 use Rattle.pm_object.specs.declared.held.Excluded.{Excluded}
+use Rattle.pm_object.specs.declared.held.Origin.{Origin}
+use Rattle.pm_object.specs.declared.held.Origin.TheVariants as origin
 use Rattle.pm_object.specs.declared.held.RoundEnd.{RoundEnd}
 use Rattle.pm_object.specs.declared.held.RoundEnd.TheVariants as end
 use Rattle.pm_object.specs.declared.held.Why.{Why}
@@ -49,7 +51,7 @@ pub data Remarks : Type 0 where
   told : Bool → Rounds → Remarks
   planned : List (RuleId × Bar) → List TableRow → NamesSeen → Remarks
 
--- done; shows name of p v, the value v of the property p of the object of that name and type, with the rounds that found it; ensured, by these rounds; explained, by a chain with its weight and table; tells, what happened to an object; lists_rules n text, where the book has n rules and this text; undef, where no value is held; refused, why, and what is said beside it
+-- done; shows name of p v, the value v of the property p of the object of that name and type, with the rounds that found it; ensured, by these rounds; explained, by a chain with its weight and table; tells, what happened to an object; lists_rules n text, where the book has n rules and this text; tells_origin, how a value came to be held; undef, where no value is held; refused, why, and what is said beside it
 pub data ReplySeen : Type 0 where
   done : ReplySeen
   shows : List ℕ → ObjectType → PropId → PropertyValue → Rounds → ReplySeen
@@ -57,6 +59,7 @@ pub data ReplySeen : Type 0 where
   explained : List RuleId → Cost → List TableRow → NamesSeen → ReplySeen
   tells : Rounds → List Excluded → ReplySeen
   lists_rules : ℕ → List ℕ → ReplySeen
+  tells_origin : Origin → ReplySeen
   undef : ReplySeen
   refused : Refusal → Remarks → ReplySeen
 
@@ -78,6 +81,7 @@ seen (reply.Ensured rounds names) = ensured (record { rounds = map round_seen ro
 seen (reply.Explained chain weight table names) = explained chain.items weight table.rows.items (names_seen names)
 seen (reply.History rounds excluded names) = tells (record { rounds = map round_seen rounds.items; names = names_seen names }) excluded.items
 seen (reply.Rules count text) = lists_rules count (string_bytes text)
+seen (reply.Origin o) = tells_origin o
 seen reply.Undef = undef
 seen (reply.Refused why always rounds barred table names) = refused why (remarks always (map round_seen rounds.items) barred.items table (names_seen names))
 
@@ -196,6 +200,11 @@ remarks_text trace nothing = []
 remarks_text trace (told always rounds) = if trace || always then rounds_text rounds else []
 remarks_text trace (planned barred rows names) = flat_map (barred_text names) barred ++ flat_map table_row_text rows
 
+-- given by a script or filled in where it goes without saying, or computed by a client
+abbrev pub origin_text : Origin → List ℕ
+origin_text origin.Given = codes "given"
+origin_text origin.Computed = codes "computed"
+
 -- the reply's lines, each with its LF; rounds that found a value are shown where they are traced
 abbrev pub reply_text : Bool → ReplySeen → List ℕ
 reply_text trace done = codes "ok\n"
@@ -204,6 +213,7 @@ reply_text trace (ensured t) = codes "ok " ++ decimal (length t.rounds) ++ codes
 reply_text trace (explained chain weight rows names) = codes "plan " ++ cost_text weight ++ codes "\n" ++ flat_map (rule_text names) chain ++ flat_map table_row_text rows
 reply_text trace (tells t excluded) = codes "rounds " ++ decimal (length t.rounds) ++ codes "\n" ++ rounds_text t ++ flat_map (excluded_text t.names) excluded
 reply_text trace (lists_rules n text) = codes "rules " ++ decimal n ++ codes "\n" ++ text
+reply_text trace (tells_origin o) = origin_text o ++ codes "\n"
 reply_text trace undef = codes "undef\n"
 reply_text trace (refused why more) = codes "no " ++ refusal_text why ++ codes "\n" ++ remarks_text trace more
 

@@ -1,6 +1,6 @@
 // Commands.
 
-ghost use Rattle.pm_script.specs.Commands.{Spoken, ref_of, part_of, property_of, type_of, json_of, new_line, take_line, give_line, lookup_line, ensure_line, explain_line, history_line, disable_line, unload_line, chain_line, line_of, command_of, seen_ref, spoken};
+ghost use Rattle.pm_script.specs.Commands.{Spoken, ref_of, part_of, property_of, type_of, json_of, new_line, take_line, give_line, lookup_line, ensure_line, explain_line, history_line, disable_line, unload_line, copy_line, drop_line, origin_line, object_line, chain_line, line_of, command_of, seen_ref, spoken};
 ghost use Rattle.pm_script.specs.Grammar.{Speaks};
 ghost use Rattle.pm_script.specs.Words.{are_asked, distinct, is_property_word, most_asked, words_of};
 ghost use Rattle.pm_script.specs.declared.command.LineFail.TheVariants.{Memory};
@@ -76,6 +76,20 @@ pub enum Command {
     /// `unload CLIENT`
     Unload {
         client: String,
+    },
+    /// `copy NAME NEW`
+    Copy {
+        name: String,
+        new: String,
+    },
+    /// `drop NAME`
+    DropObject {
+        name: String,
+    },
+    /// `origin REF PROP`
+    Origin {
+        obj: Ref,
+        prop: String,
     },
 }
 
@@ -343,6 +357,64 @@ fn read_unload(alloc: Global, word: &str) -> Result<Command, LineFail>
     }
 }
 
+/// The words after `copy`.
+fn read_copy(alloc: Global, words: &str) -> Result<Command, LineFail>
+    ensures ok { IfOk result (λ c. copy_line words.now ≡ Some (spoken c)) }
+    ensures refused { IfErr result (λ e. e ≡ LineFail.BadCommand → copy_line words.now ≡ None) }
+{
+    let (name, new) = split_word(words);
+    if is_name(name) && is_name(new) {
+        Ok(Command::Copy {
+            name: String::from_str(alloc, name)?,
+            new: String::from_str(alloc, new)?,
+        })
+    } else {
+        Err(LineFail::BadCommand)
+    }
+}
+
+/// The word after `drop`.
+fn read_drop(alloc: Global, word: &str) -> Result<Command, LineFail>
+    ensures ok { IfOk result (λ c. drop_line word.now ≡ Some (spoken c)) }
+    ensures refused { IfErr result (λ e. e ≡ LineFail.BadCommand → drop_line word.now ≡ None) }
+{
+    if is_name(word) {
+        Ok(Command::DropObject {
+            name: String::from_str(alloc, word)?,
+        })
+    } else {
+        Err(LineFail::BadCommand)
+    }
+}
+
+/// The words after `origin`.
+fn read_origin(alloc: Global, words: &str) -> Result<Command, LineFail>
+    ensures ok { IfOk result (λ c. origin_line words.now ≡ Some (spoken c)) }
+    ensures refused { IfErr result (λ e. e ≡ LineFail.BadCommand → origin_line words.now ≡ None) }
+{
+    let (word, prop) = split_word(words);
+    let obj = read_ref(alloc, word)?;
+    let prop = read_property(alloc, prop)?;
+    Ok(Command::Origin { obj, prop })
+}
+
+/// The command of this first word that copies an object, lets it go, or asks where a value is from.
+fn read_object_words(alloc: Global, first: &str, words: &str) -> Result<Command, LineFail>
+    ensures ok { IfOk result (λ c. object_line first.now words.now ≡ Some (spoken c)) }
+    ensures refused { IfErr result (λ e. e ≡ LineFail.BadCommand
+        → object_line first.now words.now ≡ None) }
+{
+    if first == "copy" {
+        read_copy(alloc, words)
+    } else if first == "drop" {
+        read_drop(alloc, words)
+    } else if first == "origin" {
+        read_origin(alloc, words)
+    } else {
+        Err(LineFail::BadCommand)
+    }
+}
+
 /// The command on chains of this first word, with these words after it.
 fn read_chain_words(alloc: Global, first: &str, words: &str) -> Result<Command, LineFail>
     ensures ok { IfOk result (λ c. chain_line first.now words.now ≡ Some (spoken c)) }
@@ -356,7 +428,7 @@ fn read_chain_words(alloc: Global, first: &str, words: &str) -> Result<Command, 
     } else if first == "history" {
         read_history(alloc, words)
     } else {
-        Err(LineFail::BadCommand)
+        read_object_words(alloc, first, words)
     }
 }
 

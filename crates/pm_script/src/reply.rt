@@ -3,7 +3,7 @@
 ghost use Rattle.pm_object.specs.Views.{round_seen};
 ghost use Rattle.pm_props.specs.Properties.{name_in};
 ghost use Rattle.pm_weights.specs.Weights.{cost_text};
-ghost use Rattle.pm_script.specs.Replies.{is_refusal, names_seen, nothing, refused, remarks, remarks_text, reply_text, rounds_text, rule_text, seen, table_row_text};
+ghost use Rattle.pm_script.specs.Replies.{is_refusal, names_seen, nothing, origin_text, refused, remarks, remarks_text, reply_text, rounds_text, rule_text, seen, table_row_text};
 ghost use Rattle.pm_script.specs.Values.{value_text};
 ghost use Rattle.pm_types.specs.Views.{view_of};
 ghost use Rattle.std.specs.Prelude.{Bool, IfOk, None, OnOk, [], codes, decimal, flat_map, if◌then◌else◌, length, map, string_bytes, ◌++◌, ◌||◌, ◌≡◌};
@@ -12,7 +12,7 @@ use crate::chains::{push_barred, push_exclusions, push_rounds, push_rows, push_r
 use crate::names::{Bar, Names};
 use crate::refusal::{Refusal, push_refusal};
 use crate::value_text::push_value;
-use pm_object::{Excluded, Round};
+use pm_object::{Excluded, Origin, Round};
 use pm_rules::Table;
 use pm_types::{ObjectType, PropId, RuleId, Value};
 use pm_weights::Cost;
@@ -56,6 +56,8 @@ pub enum Reply {
         count: usize,
         text: String,
     },
+    /// How the value came to be held.
+    Origin(Origin),
     /// The property is not held.
     Undef,
     /// The command is refused. `ensured`: the rounds are told whether they are traced or not. `barred` and `table` are told where there is a table, of an explanation.
@@ -221,12 +223,23 @@ fn push_remarks(
     }
 }
 
+/// The line of an origin.
+fn origin_line(origin: Origin) -> &'static str
+    ensures { result.now ≡ origin_text origin ++ codes "\n" }
+{
+    match origin {
+        Origin::Given => "given\n",
+        Origin::Computed => "computed\n",
+    }
+}
+
 /// The reply's lines as a text.
 fn reply_lines(alloc: Global, r: &Reply, trace: bool) -> Result<String, AllocError>
     ensures { IfOk result (λ t. string_bytes t ≡ reply_text trace (seen r.now)) }
 {
     match r {
         Reply::Done => String::from_str(alloc, "ok\n"),
+        Reply::Origin(origin) => String::from_str(alloc, origin_line(*origin)),
         Reply::Undef => String::from_str(alloc, "undef\n"),
         Reply::Value {
             name,

@@ -1,7 +1,6 @@
 -- The object of a new name is added.
-use Rattle.indexmap.specs.IndexMap.{index_map_len}
-use Rattle.std.proofs.Common.{ap, arith, refl, rules, sym, ◌<◌, ◌∙◌, ◌≡◌}
-use Rattle.std.proofs.lemmas.List.{length-map}
+use Rattle.std.proofs.Common.{Some, ap, refl, rules, sym, ◌∙◌, ◌≡◌}
+use Rattle.std.proofs.lemmas.Bool.{OnFalse_at}
 use Rattle.pm_object.specs.State.{ObjectSeen}
 use Rattle.std.specs.HashMap.{get_by_text}
 use Rattle.std.specs.Option.{option_map}
@@ -11,13 +10,12 @@ use Rattle.pm_machine.proofs.session.Session.do_new.Goals as goal
 
 pub returns-clause-step : goal.returns-clause-step
 returns-clause-step g c =
-    let absent : get_by_text c.args.self.now.objects (string_bytes c.args.name) ≡ None = search rules in
-    let few : index_map_len c.args.self.now.objects < 32 = omega (arith, c.len.ensures.len, c.if-len-ge-MOST_OBJECTS.false) in (
+    let absent : get_by_text c.args.self.now.objects (string_bytes c.args.name) ≡ None = search rules in (
       c.in-Some.of,
       sym (c.type_named.ensures (option_map string_bytes c.args.sub) (map_some string_bytes c.args.sub ∙ sym c.is_some.ensures)) ∙ c.in-Some.is,
       ap (option_map (λ (z : ObjectSeen). z.state)) absent,
-      rw (length-map, length-map) few,
-      record { names = c.in_ok-add.ensures.gains.names; object = c.in_ok-add.ensures.gains.object; others = c.in_ok-add.ensures.gains.others; clients = refl; store = refl },
+      OnFalse_at c.if-is_full.false c.is_full.ensures.free,
+      record { names = c.in_ok-add.ensures.gains.names; object = c.in_ok-add.ensures.gains.object ∙ ap Some c.new.ensures; others = c.in_ok-add.ensures.gains.others; clients = refl; store = refl },
     )
 
 pub returns-in_default-clause-step : goal.returns-in_default-clause-step
