@@ -12,6 +12,7 @@ use pm_vector::Ints;
 use std::alloc::{AllocError, Global};
 
 /// Why there is no answer.
+#[derive(Drop)]
 pub(crate) enum Fault {
     /// The text is no linear program.
     Refused,
