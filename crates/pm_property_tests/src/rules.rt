@@ -220,7 +220,19 @@ const STANDARD_BOOK: &str =
     vertex_sizes : rule VERTEX_SIZES : VERTICES_IN_FACETS { vertex_sizes } weight 2;\n\
     facet_sizes : rule FACET_SIZES : VERTICES_IN_FACETS { facet_sizes } weight 2;\n\
     simple : rule SIMPLE : COMBINATORIAL_DIM, VERTEX_SIZES { simple } weight 1;\n\
-    simplicial : rule SIMPLICIAL : COMBINATORIAL_DIM, FACET_SIZES { simplicial } weight 1;\n";
+    simplicial : rule SIMPLICIAL : COMBINATORIAL_DIM, FACET_SIZES { simplicial } weight 1;\n\
+    faces : rule HASSE_DIAGRAM : VERTICES_IN_FACETS { faces } weight 50;\n\
+    f_vector : rule F_VECTOR : HASSE_DIAGRAM { f_vector } weight 2;\n\
+    f2_vector : rule F2_VECTOR : HASSE_DIAGRAM { f2_vector } weight 3;\n\
+    h_vector : rule H_VECTOR : COMBINATORIAL_DIM, F_VECTOR { h_vector } weight 2; precondition : BOUNDED, SIMPLICIAL;\n\
+    graph_of_sets : rule GRAPH : VERTICES_IN_FACETS { graph_of_sets } weight 15;\n\
+    graph_of_faces : rule GRAPH : HASSE_DIAGRAM { graph_of_faces } weight 3;\n\
+    dual_graph : rule DUAL_GRAPH : VERTICES_IN_FACETS { dual_graph } weight 15;\n\
+    vertex_degrees : rule VERTEX_DEGREES : GRAPH { vertex_degrees } weight 1;\n\
+    diameter : rule DIAMETER : GRAPH { diameter } weight 4;\n\
+    dual_diameter : rule DUAL_DIAMETER : DUAL_GRAPH { dual_diameter } weight 4;\n\
+    n_edges : rule N_EDGES : GRAPH { n_edges } weight 1;\n\
+    n_ridges : rule N_RIDGES : DUAL_GRAPH { n_ridges } weight 1;\n";
 
 fn standard(rt: &(impl Abort + AllocGlobal)) -> Book {
     standard_book(rt.alloc()).expect(rt, "the book")
