@@ -164,7 +164,7 @@ held_dimension of n held v each e =
     dimension_of v (subst (λ q. is_formed q v ≡ true) p (subst (λ w. is_formed h.property w ≡ true) is (each h i).formed))
 
 -- a new value that states the dimension n states no other one
-agrees_dimension : (n m : ℕ) (h : HeldValue) → same_property ConeAmbientDim h.property ≡ true → h.value ≡ whole (pos m) → agrees_with n h.property h.value ≡ true → m ≡ n
+pub agrees_dimension : (n m : ℕ) (h : HeldValue) → same_property ConeAmbientDim h.property ≡ true → h.value ≡ whole (pos m) → agrees_with n h.property h.value ≡ true → m ≡ n
 agrees_dimension n m h e v a = by (is_ambient h.property) (ambient_is h.property ∙ e) a
   where
     by : (t : Bool) → t ≡ true → agrees_at t n h.value (stated_cols h.property h.value) ≡ true → m ≡ n

@@ -4,7 +4,7 @@ use Rattle.pm_object.proofs.Formed.{Each, formed_push, held_dimension, held_stay
 use Rattle.pm_object.specs.Formed.{IsFormedIn, IsFormed}
 use Rattle.pm_object.specs.declared.held.Held.{Held as HeldOf}
 use Rattle.pm_algebra.specs.Numbers.{Ratio}
-use Rattle.pm_object.specs.State.{HeldValue, State, agrees, ambient_in, cols_of, first_cols, is_held, is_sealed, names_to_settle, only_if, or_else, settled, settling, value_of, with_held}
+use Rattle.pm_object.specs.State.{HeldValue, State, agrees, ambient_in, cols_of, first_cols, is_held, has_rounds, names_to_settle, only_if, or_else, settled, settling, value_of, with_held}
 use Rattle.pm_matrix.specs.Matrices.{IsFraction}
 use Rattle.pm_types.specs.Forms.{HasPrimitiveRow, cols_in, is_column_count, is_dimension, is_formed, is_matrix_form, is_matrix_of, is_row_of_entries, stated_cols}
 use Rattle.pm_props.specs.Properties.{is_columned, is_of_matrices}
@@ -159,7 +159,7 @@ names_settled o n true b c d e is f =
     (plain_settled (with_held o (h ∷ [])) n _ (plain_names b c d e) (formed_push o h f fits))
 
 pub formed_settle : (o : State) → IsFormed o → IsFormed (with_held o (settling o))
-formed_settle o f = by (is_sealed o)
+formed_settle o f = by (has_rounds o)
   where
     by : (t : Bool) → IsFormed (with_held o (map (settled (unwrap_or (cols_of o.held) 1)) (if t then [] else names_to_settle o.held)))
     by true = subst IsFormed (sym (with_nothing o)) f
@@ -189,12 +189,12 @@ first_named o n false b c d e is = by (value_of ConeAmbientDim o.held) refl
     by (Some v) is = ap is_some (value_stays ConeAmbientDim o.held more v is)
 
 pub settled_dimension : (o : State) → IsFormed o → is_held ConeAmbientDim (o.held ++ settling o) ≡ true
-settled_dimension o f = by (is_held ConeAmbientDim o.held) refl (is_sealed o) refl
+settled_dimension o f = by (is_held ConeAmbientDim o.held) refl (has_rounds o) refl
   where
     n : ℕ
     n = unwrap_or (cols_of o.held) 1
 
-    by : (h : Bool) → is_held ConeAmbientDim o.held ≡ h → (t : Bool) → is_sealed o ≡ t → is_held ConeAmbientDim (o.held ++ settling o) ≡ true
+    by : (h : Bool) → is_held ConeAmbientDim o.held ≡ h → (t : Bool) → has_rounds o ≡ t → is_held ConeAmbientDim (o.held ++ settling o) ≡ true
     by true e t s = held_stays ConeAmbientDim o.held (settling o) e
     by false e true s = absurd (true≢false (sym (f.dimension s) ∙ e))
     by false e false s = ap (λ t. is_held ConeAmbientDim (o.held ++ map (settled n) (if t then [] else names_to_settle o.held))) s ∙ first_named o n (is_held ConeAmbientDim o.held) _ _ _ _ e

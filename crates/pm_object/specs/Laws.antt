@@ -1,5 +1,5 @@
--- The laws of honesty: an object stays honest where it gains values that were given while no round was started, what goes without saying, or what a client may answer.
-use Rattle.std.specs.Prelude.{ℕ, ◌≡◌, Option, List, [], map}
+-- The laws of honesty: an object stays honest where it gains values that were given or stored while no round was started, what goes without saying, or what a client may answer.
+use Rattle.std.specs.Prelude.{ℕ, ◌≡◌, true, Option, List, [], map}
 use Rattle.std.specs.List.{Contains}
 use Rattle.pm_props.specs.declared.object_type.ObjectType.{ObjectType}
 use Rattle.pm_types.specs.Runs.{MayAnswer, MayRun, missing, shown}
@@ -7,9 +7,9 @@ use Rattle.pm_props.specs.Places.{place_of}
 use Rattle.pm_types.specs.Values.{Fact, PropertyValue}
 use Rattle.pm_props.specs.declared.property.PropId.{PropId}
 use Rattle.pm_props.specs.declared.kind.Kind.{Kind}
-use Rattle.pm_object.specs.Honest.{IsHonest, IsKept, facts}
+use Rattle.pm_object.specs.Honest.{IsHonest, IsKept, facts, is_based}
 use Rattle.pm_object.specs.State.{HeldValue, State, empty_object, settling, with_held}
-use Rattle.pm_object.specs.declared.held.Origin.TheVariants.{Given, Computed}
+use Rattle.pm_object.specs.declared.held.Origin.TheVariants.{Computed}
 
 -- a computed value of a property, where it stands for who asks this program, if one is asked
 abbrev pub computed_at : Option ℕ → PropId → PropertyValue → HeldValue
@@ -22,8 +22,8 @@ computed answer = map (λ f. record { place = f.place; property = f.property; va
 abbrev pub EmptyIsKept : Type 0
 EmptyIsKept = (of : ObjectType) → IsKept (empty_object of)
 
-abbrev pub GivenIsKept : Type 0
-GivenIsKept = (o : State) (more : List HeldValue) → o.rounds ≡ [] → ((h : HeldValue) → Contains more h → h.origin ≡ Given) → IsKept o → IsKept (with_held o more)
+abbrev pub BasedIsKept : Type 0
+BasedIsKept = (o : State) (more : List HeldValue) → o.rounds ≡ [] → ((h : HeldValue) → Contains more h → is_based h.origin ≡ true) → IsKept o → IsKept (with_held o more)
 
 abbrev pub SettledIsKept : Type 0
 SettledIsKept = (o : State) → IsKept o → IsKept (with_held o (settling o))

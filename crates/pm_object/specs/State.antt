@@ -1,5 +1,6 @@
 -- An object, as contracts see it. A place is None for the object itself, and the number of a linear program for that program of it.
 use Rattle.std.specs.Prelude.{ℕ, ◌≡◌, ◌⊎◌, ◌||◌, ◌&&◌, Bool, true, false, not, Option, Some, None, List, [], ◌∷◌, ◌++◌, filter, length, map, nat_eq, if◌then◌else◌}
+use Rattle.std.specs.List.{list_any}
 use Rattle.std.specs.Str.{bytes_eq}
 use Rattle.std.specs.Option.{is_some, unwrap_or}
 use Rattle.pm_props.specs.declared.object_type.ObjectType.{ObjectType}
@@ -14,7 +15,7 @@ use Rattle.pm_props.specs.declared.property.PropId.TheVariants.{ConeAmbientDim, 
 use Rattle.pm_props.specs.declared.kind.RuleId.{RuleId}
 use Rattle.pm_weights.specs.declared.Cost.{Cost}
 use Rattle.pm_object.specs.declared.held.Origin.{Origin}
-use Rattle.pm_object.specs.declared.held.Origin.TheVariants.{Given}
+use Rattle.pm_object.specs.declared.held.Origin.TheVariants.{Given, Stored, Computed}
 use Rattle.pm_object.specs.declared.held.Excluded.{Excluded}
 use Rattle.pm_object.specs.declared.held.RoundEnd.{RoundEnd}
 use Rattle.pm_object.specs.declared.held.TakeFail.{TakeFail}
@@ -69,8 +70,20 @@ abbrev pub names_of : List HeldValue → PropSet
 names_of held = set_of (map (λ h. h.property) held)
 
 -- a round was started for the object
+abbrev pub has_rounds : State → Bool
+has_rounds o = not (nat_eq (length o.rounds) 0)
+
+abbrev pub is_stored : Origin → Bool
+is_stored Stored = true
+is_stored origin = false
+
+-- a value that a rule computed in an earlier run is held
+abbrev pub holds_stored : List HeldValue → Bool
+holds_stored held = list_any (λ h. is_stored h.origin) held
+
+-- a round was started for the object, or it holds a stored value
 abbrev pub is_sealed : State → Bool
-is_sealed o = not (nat_eq (length o.rounds) 0)
+is_sealed o = has_rounds o || holds_stored o.held
 
 abbrev pub is_disabled : List ℕ → List (List ℕ) → Bool
 is_disabled label [] = false
@@ -129,6 +142,10 @@ with_excluded o e = record o { excluded = o.excluded ++ e ∷ [] }
 abbrev pub with_disabled : State → List ℕ → State
 with_disabled o label = record o { disabled = o.disabled ++ label ∷ [] }
 
+-- a value of a file, which was given or stored
+abbrev pub file_value : Origin → PropId → PropertyValue → HeldValue
+file_value origin p v = record { place = None; property = p; value = v; origin = origin }
+
 -- ---- settling
 abbrev pub only_if : Bool → PropId → List PropId
 only_if b p = if b then p ∷ [] else []
@@ -143,7 +160,7 @@ names_to_settle held =
 
 -- what goes without saying of an object without rounds, where it is not held
 abbrev pub settling_names : State → List PropId
-settling_names o = if is_sealed o then [] else names_to_settle o.held
+settling_names o = if has_rounds o then [] else names_to_settle o.held
 
 abbrev pub settled_value : ℕ → PropId → PropertyValue
 settled_value n ConeAmbientDim = whole (pos n)

@@ -55,6 +55,7 @@ fn copy_why(alloc: Global, why: &Why) -> Result<Why, AllocError>
     match why {
         Why::Failed(evidence) => Ok(Why::Failed(evidence.copy(alloc)?)),
         Why::False(p) => Ok(Why::False(*p)),
+        Why::Stored(k) => Ok(Why::Stored(*k)),
     }
 }
 

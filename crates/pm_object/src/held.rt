@@ -1,5 +1,6 @@
 // What an object holds, beside the values themselves.
 
+ghost use Rattle.pm_object.specs.State.{is_stored};
 ghost use Rattle.std.specs.Prelude.{◌≡◌};
 
 use pm_geom::Evidence;
@@ -12,8 +13,19 @@ use thiserror::Error;
 pub enum Origin {
     /// It was given, or goes without saying.
     Given,
+    /// A rule computed it in an earlier run, and it came with a file.
+    Stored,
     /// A rule computed it.
     Computed,
+}
+
+impl Origin {
+    /// Whether it came with a file that tells that a rule computed it.
+    pub fn is_stored(self) -> bool
+        ensures { result ≡ is_stored self }
+    {
+        matches!(self, Origin::Stored)
+    }
 }
 
 /// A value that is held.
@@ -36,6 +48,8 @@ pub enum Why {
     Failed(Evidence),
     /// This property is held with the wrong value.
     False(PropId),
+    /// It failed in an earlier run, with evidence of this number, and the mark came with a file.
+    Stored(u8),
 }
 
 /// A rule that is not tried again.
@@ -79,7 +93,7 @@ pub enum TakeFail {
     /// The property is held.
     #[error("the property is held")]
     AlreadyHeld,
-    /// A round was started for the object.
+    /// A round was started for the object, or it holds a stored value.
     #[error("the object is sealed")]
     Sealed,
     /// The table of the object's type has no such property.

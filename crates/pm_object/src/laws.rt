@@ -1,15 +1,15 @@
 // Laws of honesty.
 
-ghost use Rattle.pm_object.specs.Laws.{CommitIsHonest, EmptyIsKept, GivenIsKept, HonestyIsOfValues, SettledIsKept};
+ghost use Rattle.pm_object.specs.Laws.{CommitIsHonest, EmptyIsKept, BasedIsKept, HonestyIsOfValues, SettledIsKept};
 
 /// An object that holds nothing is honest.
 pub fn law_empty_is_kept()
     ensures { EmptyIsKept }
 {}
 
-/// An object without rounds stays honest with more given values.
-pub fn law_given_is_kept()
-    ensures { GivenIsKept }
+/// An object without rounds stays honest with more given and stored values.
+pub fn law_based_is_kept()
+    ensures { BasedIsKept }
 {}
 
 /// Settling leaves an object honest.

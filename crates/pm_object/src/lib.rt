@@ -15,8 +15,9 @@ pub use copies::{copy_excluded, copy_rounds};
 pub use draft::Draft;
 pub use held::{Excluded, Held, Origin, Round, RoundEnd, TakeFail, Why};
 pub use laws::{
-    law_commit_is_honest, law_empty_is_kept, law_given_is_kept, law_honesty_is_of_values,
+    law_based_is_kept, law_commit_is_honest, law_empty_is_kept, law_honesty_is_of_values,
     law_settled_is_kept,
 };
 pub use object::Object;
+pub use tests_of_values::{agrees, are_rows, require_primitive_rows, stated_cols};
 pub use view::View;

@@ -2,12 +2,12 @@
 
 ghost use Rattle.pm_types.specs.Values.{whole};
 ghost use Rattle.pm_props.specs.declared.property.PropId.TheVariants.{ConeAmbientDim};
-ghost use Rattle.pm_object.specs.State.{CanTake, CannotTake, State, agrees, ambient_in, cols_of, empty_object, is_disabled, is_held, is_sealed, names_of, names_to_settle, read_at, settling, settling_names, value_of, with_disabled, with_excluded, with_held, with_round};
-ghost use Rattle.pm_types.specs.Forms.{are_rows, is_formed};
+ghost use Rattle.pm_object.specs.State.{CanTake, CannotTake, State, agrees, ambient_in, cols_of, empty_object, is_disabled, file_value, has_rounds, holds_stored, is_held, is_sealed, names_of, names_to_settle, read_at, settling, settling_names, value_of, with_disabled, with_excluded, with_held, with_round};
+ghost use Rattle.pm_types.specs.Forms.{HavePrimitiveRows, are_rows, is_formed};
 ghost use Rattle.pm_object.specs.Formed.{IsFormed, IsFormedIn};
 ghost use Rattle.pm_object.specs.Views.{held_seen, round_seen};
 ghost use Rattle.pm_object.specs.Laws.{computed_at};
-ghost use Rattle.pm_object.specs.declared.held.Origin.TheVariants.{Given};
+ghost use Rattle.pm_object.specs.declared.held.Origin.TheVariants.{Given, Stored};
 ghost use Rattle.pm_props.specs.Places.{place_of, same_place};
 ghost use Rattle.pm_types.specs.Views.{view_of};
 ghost use Rattle.pm_object.specs.Reading.{view_for};
@@ -20,7 +20,7 @@ ghost use Rattle.std.specs.Prelude.{IfErr, IfOk, IfSome, IsTrue, false, if◌the
 use crate::copies::{copy_excluded, copy_held, copy_labels, copy_rounds};
 use crate::held::{Excluded, Held, Origin, Round, TakeFail};
 use crate::settled::{push_if, settled_values};
-use crate::tests_of_values::{agrees, are_rows, first_cols, require_primitive_rows};
+use crate::tests_of_values::{agrees, are_rows, first_cols, reads_entries, require_primitive_rows};
 use crate::view::View;
 use pm_types::{Kind, ObjectType, PropId, PropSet, Value};
 use std::alloc::{AllocError, Global};
@@ -96,11 +96,18 @@ impl Object {
         &self.excluded
     }
 
-    /// Whether a round was started for it.
+    // Whether a round was started for it.
+    fn has_rounds(&self) -> bool
+        ensures { result ≡ has_rounds self.now.state }
+    {
+        !self.rounds.is_empty()
+    }
+
+    /// Whether a round was started for it, or it holds a stored value.
     pub fn is_sealed(&self) -> bool
         ensures { result ≡ is_sealed self.now.state }
     {
-        !self.rounds.is_empty()
+        self.has_rounds() || holds_stored(&self.held)
     }
 
     /// The value of a property that is read by who asks this program, if one is asked; None exactly where none is held.
@@ -157,7 +164,7 @@ impl Object {
         }
     }
 
-    /// Adds a given value, unless the first of these holds: the property is held (`AlreadyHeld`), a round was started
+    /// Adds a given value, unless the first of these holds: the property is held (`AlreadyHeld`), the object is sealed
     /// (`Sealed`), the type's table has no such property (`NotOfType`), the columns differ from n (`Columns`), a row
     /// fails the tests of its property, or its primitive row is not made within the range (`NotAThing`). Nothing changes where the answer is not Ok.
     pub fn take(&mut self, p: PropId, v: Value) -> Result<(), TakeFail>
@@ -177,6 +184,51 @@ impl Object {
         if self.held.push(given).is_err() {
             return Err(TakeFail::Memory);
         }
+        Ok(())
+    }
+
+    /// Adds a value that a file gives, of a property that is not held. It has its form and agrees with n, and its rows
+    /// pass the tests of its property.
+    pub fn add_given(&mut self, p: PropId, v: Value) -> Result<(), AllocError>
+        requires formed { IsTrue (is_formed p (view_of v)) }
+        requires columns { IsTrue (agrees (cols_of self.old.state.held) p (view_of v)) }
+        requires rows { IsTrue (are_rows self.old.state.of p (view_of v)) }
+        requires primitive { HavePrimitiveRows (view_of v) }
+        ensures ok { OnOk result (self.new.state ≡ with_held self.old.state (file_value Given p (view_of v) ∷ [])) }
+        ensures err { OnErr result (self.new.state ≡ self.old.state) }
+    {
+        self.add_of_file(Origin::Given, p, v)
+    }
+
+    /// Adds such a value that was computed in an earlier run. Then the object is sealed.
+    pub fn add_stored(&mut self, p: PropId, v: Value) -> Result<(), AllocError>
+        requires formed { IsTrue (is_formed p (view_of v)) }
+        requires columns { IsTrue (agrees (cols_of self.old.state.held) p (view_of v)) }
+        requires rows { IsTrue (are_rows self.old.state.of p (view_of v)) }
+        requires primitive { HavePrimitiveRows (view_of v) }
+        ensures ok { OnOk result (self.new.state ≡ with_held self.old.state (file_value Stored p (view_of v) ∷ [])) }
+        ensures err { OnErr result (self.new.state ≡ self.old.state) }
+    {
+        self.add_of_file(Origin::Stored, p, v)
+    }
+
+    // Adds a value of a file.
+    fn add_of_file(&mut self, origin: Origin, p: PropId, v: Value) -> Result<(), AllocError>
+        requires formed { IsTrue (is_formed p (view_of v)) }
+        requires columns { IsTrue (agrees (cols_of self.old.state.held) p (view_of v)) }
+        requires rows { IsTrue (are_rows self.old.state.of p (view_of v)) }
+        requires primitive { HavePrimitiveRows (view_of v) }
+        ensures ok { OnOk result (self.new.state ≡ with_held self.old.state (file_value origin p (view_of v) ∷ [])) }
+        ensures err { OnErr result (self.new.state ≡ self.old.state) }
+    {
+        reads_entries(&v);
+        let value = Held {
+            place: None,
+            id: p,
+            value: v,
+            origin,
+        };
+        self.held.push(value)?;
         Ok(())
     }
 
@@ -248,7 +300,7 @@ impl Object {
     fn settling_names(&self, alloc: Global) -> Result<Vec<PropId>, AllocError>
         ensures { IfOk result (λ v. v.items ≡ settling_names self.now.state) }
     {
-        if self.is_sealed() {
+        if self.has_rounds() {
             Ok(Vec::new(alloc))
         } else {
             self.names_to_settle(alloc)
@@ -392,6 +444,18 @@ fn are_alone(facets: bool, points: bool, inequalities: bool, vertices: bool, hul
     ensures { result ≡ (facets && not points && not inequalities && not vertices && not hull) }
 {
     facets && !points && !inequalities && !vertices && !hull
+}
+
+// Whether one of the values is stored.
+fn holds_stored(held: &[Held]) -> bool
+    ensures { result ≡ holds_stored (map held_seen held.now) }
+{
+    for h in held {
+        if h.origin.is_stored() {
+            return true;
+        }
+    }
+    false
 }
 
 // Whether a label stands in the list.

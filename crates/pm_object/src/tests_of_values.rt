@@ -198,6 +198,24 @@ pub fn require_primitive_rows(alloc: Global, p: PropId, v: &Value) -> Result<(),
     }
 }
 
+/// The entries of a value are fractions in lowest terms, within the range.
+pub fn reads_entries(v: &Value)
+    ensures { AreFractions (view_of v.now) }
+{
+    match v {
+        Value::Mat(matrix) => {
+            let _rows = matrix.rows();
+        }
+        Value::Number(number) => reads_number(*number),
+        Value::Sets(_)
+        | Value::Int(_)
+        | Value::Bool(_)
+        | Value::Counts(_)
+        | Value::Edges(_)
+        | Value::Lattice(_) => (),
+    }
+}
+
 // The fraction of a finite number is in lowest terms, within the range.
 fn reads_number(number: Number)
     ensures { AreFractions (extended (extended_of number)) }

@@ -1,0 +1,28 @@
+-- The object with a value of a file more: all its values have their forms.
+use Rattle.std.proofs.Common.{None, ap, refl, rules, subst, sym, ◌++◌, ◌∷◌, ◌≡◌, []}
+use Rattle.pm_object.proofs.Formed.{formed_pushed, map_push}
+use Rattle.pm_object.specs.Formed.{IsFormedIn}
+use Rattle.pm_object.specs.State.{ObjectSeen, State, cols_of, file_value}
+use Rattle.pm_object.specs.Views.{held_seen}
+use Rattle.pm_object.specs.declared.held.Held.{Held}
+use Rattle.pm_types.specs.Views.{view_of}
+use Rattle.pm_object.proofs.object.Object.add_of_file.Goals as goal
+use Rattle.pm_object.proofs.object.Object.add_of_file.Goals.{In_ok-push}
+
+abbrev made : In_ok-push → Held
+made c = record { place = None; id = c.args.p; value = c.args.v; origin = c.args.origin }
+
+pushed : (c : In_ok-push) → c.push.new.self.items ≡ c.self.inside.held.items ++ made c ∷ []
+pushed c = search rules
+
+fits : (c : In_ok-push) → IsFormedIn c.args.self.now.state.of (cols_of c.args.self.now.state.held) (file_value c.args.origin c.args.p (view_of c.args.v))
+fits c = record { formed = c.requires.formed; columns = c.requires.columns; rows = c.requires.rows; entries = c.reads_entries.ensures; primitive = c.requires.primitive; placed = refl }
+
+pub invariant_of-self-2 : goal.invariant_of-self-2
+invariant_of-self-2 c =
+    formed_pushed _ held_seen c.self.inside.held.items c.push.new.self.items (made c) refl (pushed c) c.self.invariant
+    (subst (λ (z : ObjectSeen). IsFormedIn z.state.of (cols_of z.state.held) (file_value c.args.origin c.args.p (view_of c.args.v))) (sym c.self.view_is) (fits c))
+
+pub returns-clause-ok : goal.returns-clause-ok
+returns-clause-ok c =
+    rw (← c.self.view_is, pushed c, map_push held_seen c.self.inside.held.items (made c)) refl
