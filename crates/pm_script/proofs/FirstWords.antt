@@ -1,7 +1,7 @@
 -- What a line speaks, by its first word.
 use Rattle.std.proofs.Common.{List, bytes_eq, codes, false, refl, true, ℕ, ◌≡◌}
 use Rattle.std.specs.Prelude.{None}
-use Rattle.pm_script.specs.Commands.{chain_line, copy_line, disable_line, drop_line, ensure_line, explain_line, give_line, history_line, line_of, lookup_line, new_line, object_line, origin_line, take_line, unload_line}
+use Rattle.pm_script.specs.Commands.{chain_line, copy_line, disable_line, drop_line, ensure_line, file_line, explain_line, give_line, history_line, line_of, load_line, lookup_line, new_line, object_line, origin_line, save_line, take_line, unload_line}
 
 pub is_new : (first words : List ℕ) → bytes_eq first (codes "new") ≡ true → line_of first words ≡ new_line words
 is_new first words a = rw (a) refl
@@ -49,5 +49,15 @@ is_drop first words a b = rw (a, b) refl
 pub is_origin : (first words : List ℕ) → bytes_eq first (codes "copy") ≡ false → bytes_eq first (codes "drop") ≡ false → bytes_eq first (codes "origin") ≡ true → object_line first words ≡ origin_line words
 is_origin first words a b d = rw (a, b, d) refl
 
-pub is_none : (first words : List ℕ) → bytes_eq first (codes "copy") ≡ false → bytes_eq first (codes "drop") ≡ false → bytes_eq first (codes "origin") ≡ false → object_line first words ≡ None
-is_none first words a b d = rw (a, b, d) refl
+pub is_on_files : (first words : List ℕ) → bytes_eq first (codes "copy") ≡ false → bytes_eq first (codes "drop") ≡ false → bytes_eq first (codes "origin") ≡ false → object_line first words ≡ file_line first words
+is_on_files first words a b d = rw (a, b, d) refl
+
+-- ---- commands on files
+pub is_load : (first words : List ℕ) → bytes_eq first (codes "load") ≡ true → file_line first words ≡ load_line words
+is_load first words a = rw (a) refl
+
+pub is_save : (first words : List ℕ) → bytes_eq first (codes "load") ≡ false → bytes_eq first (codes "save") ≡ true → file_line first words ≡ save_line words
+is_save first words a b = rw (a, b) refl
+
+pub is_none : (first words : List ℕ) → bytes_eq first (codes "load") ≡ false → bytes_eq first (codes "save") ≡ false → file_line first words ≡ None
+is_none first words a b = rw (a, b) refl

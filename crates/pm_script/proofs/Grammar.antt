@@ -11,10 +11,11 @@ use Rattle.std.proofs.lemmas.List.Elements.{All-cons, All-nil}
 use Rattle.std.specs.List.{All, list_all, before_first, after_first, join_with_byte}
 use Rattle.std.specs.Str.{IsUtf8, is_utf8, bytes_eq}
 use Rattle.pm_script.proofs.Splits.{lacks, before_first-lacks, after_first-lacks, split_first, other_byte, lacks-passes}
-use Rattle.pm_script.specs.Commands.{RefSeen, Spoken, blank, new_object, take_value, give_value, look_up, ensure_values, explain_values, tell_history, show_rules, disable_rule, unload_client, copy_object, drop_object, tell_origin, part_of, ref_of, property_of, type_of, json_of, of_both, new_line, take_line, give_line, lookup_line, asked_of, ensure_line, explain_line, history_line, disable_line, unload_line, copy_line, drop_line, origin_line, object_line, chain_line, line_of, command_of}
+use Rattle.pm_script.specs.Commands.{RefSeen, Spoken, blank, new_object, take_value, give_value, look_up, ensure_values, explain_values, tell_history, show_rules, disable_rule, unload_client, copy_object, drop_object, load_object, save_object, tell_origin, part_of, ref_of, property_of, type_of, json_of, of_both, new_line, take_line, give_line, lookup_line, asked_of, ensure_line, explain_line, history_line, disable_line, unload_line, copy_line, drop_line, origin_line, object_line, chain_line, line_of, command_of, file_line, load_line, save_line}
 use Rattle.pm_script.specs.Grammar.{part_text, ref_text, is_sub, is_ref, spaced, are_some_asked, Speaks}
 use Rattle.pm_script.specs.Lines.{is_silent}
 use Rattle.pm_rules.specs.Words.{is_label, is_word}
+use Rattle.pm_store.specs.FileWords.{is_file_word}
 use Rattle.pm_script.specs.Words.{is_dot, first_word, rest, is_name_byte, is_name, is_property_byte, is_property_word, is_type_word, is_space, words_of, are_asked, distinct}
 
 -- ---- words
@@ -124,6 +125,12 @@ disable_spoken name label n l = rw (name_of_two name label n, rest_of_name name 
 copy_spoken : (name to : List ℕ) → is_name name ≡ true → is_name to ≡ true → copy_line (name ++ 32 ∷ to) ≡ Some (copy_object name to)
 copy_spoken name to n t = rw (name_of_two name to n, rest_of_name name to n, n, t) refl
 
+load_spoken : (name file : List ℕ) → is_name name ≡ true → is_file_word file ≡ true → load_line (name ++ 32 ∷ file) ≡ Some (load_object name file)
+load_spoken name file n f = rw (name_of_two name file n, rest_of_name name file n, n, f) refl
+
+save_spoken : (name file : List ℕ) → is_name name ≡ true → is_file_word file ≡ true → save_line (name ++ 32 ∷ file) ≡ Some (save_object name file)
+save_spoken name file n f = rw (name_of_two name file n, rest_of_name name file n, n, f) refl
+
 -- ---- words at single spaces
 no_space : (w : List ℕ) → lacks 32 w ≡ true → All (λ b. eqb b 32 ≡ false) w
 no_space [] h = All-nil (λ b. eqb b 32 ≡ false)
@@ -207,6 +214,14 @@ spoken_is_read text (copy_object name to) h =
     let p = and_parts (is_name name) (is_name to) h.allowed in
     let e = h.same ∙ regroup (codes "copy ") name to in
     rw e (heard (codes "copy " ++ (name ++ 32 ∷ to)) refl refl (subst IsUtf8 e h.utf8) ∙ copy_spoken name to p.0 p.1)
+spoken_is_read text (load_object name file) h =
+    let p = and_parts (is_name name) (is_file_word file) h.allowed in
+    let e = h.same ∙ regroup (codes "load ") name file in
+    rw e (heard (codes "load " ++ (name ++ 32 ∷ file)) refl refl (subst IsUtf8 e h.utf8) ∙ load_spoken name file p.0 p.1)
+spoken_is_read text (save_object name file) h =
+    let p = and_parts (is_name name) (is_file_word file) h.allowed in
+    let e = h.same ∙ regroup (codes "save ") name file in
+    rw e (heard (codes "save " ++ (name ++ 32 ∷ file)) refl refl (subst IsUtf8 e h.utf8) ∙ save_spoken name file p.0 p.1)
 spoken_is_read text (drop_object name) h =
     rw h.same (heard (codes "drop " ++ name) refl refl (subst IsUtf8 h.same h.utf8) ∙ cond-true (is_name name) (Some (drop_object name)) None h.allowed)
 spoken_is_read text (tell_origin r w) h =
@@ -371,16 +386,45 @@ origin_read text s u f e =
     let b = both_read tell_origin is_property_word (rest text) s refl e in
     subst (Speaks text) b.is (record { utf8 = u; same = whole_line text (codes "origin") (ref_text b.obj) b.word f b.line ∙ sym (regroup (codes "origin ") (ref_text b.obj) b.word); allowed = b.are })
 
+file_is_some : (file : List ℕ) → is_file_word file ≡ true → file ≡ [] → ⊥
+file_is_some file h none = false≢true (subst (λ w. is_file_word w ≡ true) none h)
+
+load_read : (text : List ℕ) (s : Spoken) → IsUtf8 text → first_word text ≡ codes "load" → load_line (rest text) ≡ Some s → Speaks text s
+load_read text s u f e =
+    let words : List ℕ = rest text in
+    let q = cond_some (is_name (first_word words) && is_file_word (rest words)) (load_object (first_word words) (rest words)) s e in
+    let p = and_parts (is_name (first_word words)) (is_file_word (rest words)) q.0 in
+    let line : words ≡ first_word words ++ 32 ∷ rest words = behind words (file_is_some (rest words) p.1) in
+    subst (Speaks text) q.1 (record { utf8 = u; same = whole_line text (codes "load") (first_word words) (rest words) f line ∙ sym (regroup (codes "load ") (first_word words) (rest words)); allowed = q.0 })
+
+save_read : (text : List ℕ) (s : Spoken) → IsUtf8 text → first_word text ≡ codes "save" → save_line (rest text) ≡ Some s → Speaks text s
+save_read text s u f e =
+    let words : List ℕ = rest text in
+    let q = cond_some (is_name (first_word words) && is_file_word (rest words)) (save_object (first_word words) (rest words)) s e in
+    let p = and_parts (is_name (first_word words)) (is_file_word (rest words)) q.0 in
+    let line : words ≡ first_word words ++ 32 ∷ rest words = behind words (file_is_some (rest words) p.1) in
+    subst (Speaks text) q.1 (record { utf8 = u; same = whole_line text (codes "save") (first_word words) (rest words) f line ∙ sym (regroup (codes "save ") (first_word words) (rest words)); allowed = q.0 })
+
+file_read : (text : List ℕ) (s : Spoken) → IsUtf8 text → file_line (first_word text) (rest text) ≡ Some s → Speaks text s
+file_read text s u e =
+    let first : List ℕ = first_word text in
+    let words : List ℕ = rest text in
+    let save : Option Spoken = cond (bytes_eq first (codes "save")) (save_line words) None in
+    cond_either (bytes_eq first (codes "load")) (load_line words) save (Some s) e (λ is f. load_read text s u (same_bytes first (codes "load") is) f)
+    (λ _ f. cond_either (bytes_eq first (codes "save")) (save_line words) None (Some s) f (λ is g. save_read text s u (same_bytes first (codes "save") is) g)
+    (λ _ g. absurd (none-some s g)))
+
 object_read : (text : List ℕ) (s : Spoken) → IsUtf8 text → object_line (first_word text) (rest text) ≡ Some s → Speaks text s
 object_read text s u e =
     let first : List ℕ = first_word text in
     let words : List ℕ = rest text in
-    let origin : Option Spoken = cond (bytes_eq first (codes "origin")) (origin_line words) None in
+    let files : Option Spoken = file_line first words in
+    let origin : Option Spoken = cond (bytes_eq first (codes "origin")) (origin_line words) files in
     let dropped : Option Spoken = cond (bytes_eq first (codes "drop")) (drop_line words) origin in
     cond_either (bytes_eq first (codes "copy")) (copy_line words) dropped (Some s) e (λ is f. copy_read text s u (same_bytes first (codes "copy") is) f)
     (λ _ f. cond_either (bytes_eq first (codes "drop")) (drop_line words) origin (Some s) f (λ is g. drop_read text s u (same_bytes first (codes "drop") is) g)
-    (λ _ g. cond_either (bytes_eq first (codes "origin")) (origin_line words) None (Some s) g (λ is h. origin_read text s u (same_bytes first (codes "origin") is) h)
-    (λ _ h. absurd (none-some s h))))
+    (λ _ g. cond_either (bytes_eq first (codes "origin")) (origin_line words) files (Some s) g (λ is h. origin_read text s u (same_bytes first (codes "origin") is) h)
+    (λ _ h. file_read text s u h)))
 
 chain_read : (text : List ℕ) (s : Spoken) → IsUtf8 text → chain_line (first_word text) (rest text) ≡ Some s → Speaks text s
 chain_read text s u e =

@@ -1,18 +1,20 @@
 -- The commands that lines speak. A REF is NAME, or NAME.SUB for the part SUB of an object.
 -- `rules` asks for the book; `disable NAME LABEL` bars the rule of the label on an object, and `unload CLIENT` lets the first client of the name go; both are words as in books.
 -- `ensure REF PROP ..` asks that values be held, and `explain REF PROP ..` how they would be found: at most four properties, and one that is named twice counts once. `history NAME` asks what happened to an object.
+-- `load NAME FILE` makes an object of what a file holds, and `save NAME FILE` writes an object to a file; FILE is a word that names a file.
 -- `copy NAME NEW` makes an object of the name NEW that is as that of NAME, and `drop NAME` lets an object go; `origin REF PROP` asks how a value came to be held.
 -- `new REF TYPE` makes an object; `take REF PROP JSON` gives it a value, and the JSON text is all that stands after the third space, one byte at least; `give REF PROP` asks for a value, and `lookup REF PROP` for one that is held.
 -- A line of spaces and tabs alone, or whose first byte is #, is blank. Any other line is no command, and so is one that is no UTF-8.
-use Rattle.std.specs.Prelude.{ℕ, ◌&&◌, List, [], ◌∷◌, map, string_bytes, Option, Some, None, option_map, option_and_then, if◌then◌else◌, codes}
+use Rattle.std.specs.Prelude.{ℕ, Bool, true, false, ◌&&◌, List, [], ◌∷◌, map, string_bytes, Option, Some, None, option_map, option_and_then, if◌then◌else◌, codes}
 use Rattle.std.specs.List.{before_first, after_first}
 use Rattle.std.specs.Str.{is_utf8, bytes_eq}
 use Rattle.pm_script.specs.Lines.{is_silent}
 use Rattle.pm_rules.specs.Words.{is_label, is_word}
+use Rattle.pm_store.specs.FileWords.{is_file_word}
 use Rattle.pm_script.specs.Words.{are_asked, is_dot, first_word, rest, is_name, is_property_word, is_type_word, words_of}
 use Rattle.pm_script.specs.declared.command.Ref.{Ref}
 use Rattle.pm_script.specs.declared.command.Command.{Command}
-use Rattle.pm_script.specs.declared.command.Command.TheVariants.{Blank, New, Take, Give, Lookup, Ensure, Explain, History, Rules, Disable, Unload, Copy, DropObject, Origin}
+use Rattle.pm_script.specs.declared.command.Command.TheVariants.{Blank, New, Take, Give, Lookup, Ensure, Explain, History, Rules, Disable, Unload, Copy, DropObject, Origin, Load, Save}
 
 -- a REF, by the bytes of its words
 pub record RefSeen : Type 0 where
@@ -35,6 +37,8 @@ pub data Spoken : Type 0 where
   copy_object : List ℕ → List ℕ → Spoken
   drop_object : List ℕ → Spoken
   tell_origin : RefSeen → List ℕ → Spoken
+  load_object : List ℕ → List ℕ → Spoken
+  save_object : List ℕ → List ℕ → Spoken
 
 abbrev pub part_of : List ℕ → List ℕ → Option RefSeen
 part_of name sub = if is_name name && is_name sub then Some (record { name = name; sub = Some sub }) else None
@@ -106,13 +110,30 @@ drop_line word = if is_name word then Some (drop_object word) else None
 abbrev pub origin_line : List ℕ → Option Spoken
 origin_line words = of_both tell_origin (ref_of (first_word words)) (property_of (rest words))
 
+-- what is spoken of the name of an object and the word of a file, where both are such
+abbrev pub of_file : (List ℕ → List ℕ → Spoken) → List ℕ → List ℕ → Option Spoken
+of_file speak name file = if is_name name && is_file_word file then Some (speak name file) else None
+
+abbrev pub load_line : List ℕ → Option Spoken
+load_line words = of_file load_object (first_word words) (rest words)
+
+abbrev pub save_line : List ℕ → Option Spoken
+save_line words = of_file save_object (first_word words) (rest words)
+
+-- a command on files, by its first word and what stands after it
+abbrev pub file_line : List ℕ → List ℕ → Option Spoken
+file_line first words =
+    if bytes_eq first (codes "load") then load_line words
+    else (if bytes_eq first (codes "save") then save_line words
+    else None)
+
 -- a command that copies an object, lets it go, or asks where a value is from, by its first word and what stands after it
 abbrev pub object_line : List ℕ → List ℕ → Option Spoken
 object_line first words =
     if bytes_eq first (codes "copy") then copy_line words
     else (if bytes_eq first (codes "drop") then drop_line words
     else (if bytes_eq first (codes "origin") then origin_line words
-    else None))
+    else file_line first words))
 
 -- a command on chains, from its first word and what stands after it
 abbrev pub chain_line : List ℕ → List ℕ → Option Spoken
@@ -137,6 +158,12 @@ line_of first words =
 abbrev pub command_of : List ℕ → Option Spoken
 command_of text = if is_silent text then Some blank else (if is_utf8 text then (if bytes_eq text (codes "rules") then Some show_rules else line_of (first_word text) (rest text)) else None)
 
+-- a command that reads or writes a file
+abbrev pub is_on_files : Spoken → Bool
+is_on_files (load_object name file) = true
+is_on_files (save_object name file) = true
+is_on_files command = false
+
 -- ---- the code's commands
 abbrev pub seen_ref : Ref → RefSeen
 seen_ref r = record { name = string_bytes r.name; sub = option_map string_bytes r.sub }
@@ -157,3 +184,5 @@ spoken (Unload client) = unload_client (string_bytes client)
 spoken (Copy name to) = copy_object (string_bytes name) (string_bytes to)
 spoken (DropObject name) = drop_object (string_bytes name)
 spoken (Origin obj prop) = tell_origin (seen_ref obj) (string_bytes prop)
+spoken (Load name file) = load_object (string_bytes name) (string_bytes file)
+spoken (Save name file) = save_object (string_bytes name) (string_bytes file)

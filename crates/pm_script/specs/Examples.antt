@@ -10,10 +10,12 @@ use Rattle.pm_object.specs.declared.held.Why.TheVariants as why
 use Rattle.pm_props.specs.Sets.{set_of}
 use Rattle.pm_props.specs.declared.kind.RuleId.{RuleId}
 use Rattle.pm_props.specs.declared.property.PropId.TheVariants.{ConeAmbientDim, Inequalities, Equations, Pointed}
-use Rattle.pm_script.specs.Replies.{NamesSeen, Rounds, barred_text, ensured, excluded_text, property_set_text, refused, reply_text, round_text, rule_text, tells_origin, told}
+use Rattle.pm_script.specs.Replies.{NamesSeen, Rounds, barred_text, ensured, excluded_text, exclusion_text, loaded, nothing, property_set_text, refused, reply_text, round_text, rule_text, tells_origin, told}
 use Rattle.pm_script.specs.Words.{are_asked}
 use Rattle.pm_script.specs.declared.names.Bar.TheVariants as bar
-use Rattle.pm_script.specs.declared.refusal.Refusal.TheVariants.{NoChain}
+use Rattle.pm_script.specs.declared.refusal.Refusal.TheVariants.{BadFile, NoChain, NotFit}
+use Rattle.pm_script.specs.declared.refusal.Condition.TheVariants as condition
+use Rattle.pm_script.specs.declared.refusal.FileWhy.TheVariants as file_why
 
 abbrev pub first : RuleId
 first = record { 0 = 0 }
@@ -50,7 +52,13 @@ pub record RepliesAreRead : Type 0 where
   pub told_if_traced : reply_text true (refused NoChain (told false one_round)) ≡ codes "no 10 NoChain\nround 6: a b -> done\n"
   pub else_untold : reply_text false (refused NoChain (told false one_round)) ≡ codes "no 10 NoChain\n"
   pub given : reply_text false (tells_origin origin.Given) ≡ codes "given\n"
+  pub stored : reply_text false (tells_origin origin.Stored) ≡ codes "stored\n"
   pub computed : reply_text true (tells_origin origin.Computed) ≡ codes "computed\n"
+  pub all_read : reply_text false (loaded []) ≡ codes "ok\n"
+  pub read_over : reply_text false (loaded (codes "A" ∷ codes "LP.B" ∷ [])) ≡ codes "ok ignored A LP.B\n"
+  pub marked : exclusion_text (why.Stored 1) ≡ codes "failed E1"
+  pub too_long : reply_text false (refused (NotFit condition.Size) nothing) ≡ codes "no 17 NotFit size\n"
+  pub not_json : reply_text false (refused (BadFile file_why.NotJson) nothing) ≡ codes "no 13 BadFile NotJson\n"
   pub four : are_asked (codes "A" ∷ codes "B" ∷ codes "A" ∷ codes "C" ∷ codes "D" ∷ []) ≡ true
   pub not_five : are_asked (codes "A" ∷ codes "B" ∷ codes "C" ∷ codes "D" ∷ codes "E" ∷ []) ≡ false
   pub no_words : are_asked (codes "a" ∷ []) ≡ false

@@ -2,9 +2,10 @@
 use Rattle.std.specs.Prelude.{ℕ, ◌≡◌, ◌&&◌, ◌++◌, Bool, true, IsTrue, List, length, nat_le, Option, Some, None, codes}
 use Rattle.std.specs.List.{join_with_byte}
 use Rattle.std.specs.Str.{IsUtf8}
-use Rattle.pm_script.specs.Commands.{RefSeen, Spoken, blank, new_object, take_value, give_value, look_up, ensure_values, explain_values, tell_history, show_rules, disable_rule, unload_client, copy_object, drop_object, tell_origin}
+use Rattle.pm_script.specs.Commands.{RefSeen, Spoken, blank, new_object, take_value, give_value, look_up, ensure_values, explain_values, tell_history, show_rules, disable_rule, unload_client, copy_object, drop_object, tell_origin, load_object, save_object}
 use Rattle.pm_script.specs.Lines.{is_silent}
 use Rattle.pm_rules.specs.Words.{is_label, is_word}
+use Rattle.pm_store.specs.FileWords.{is_file_word}
 use Rattle.pm_script.specs.Words.{are_asked, is_name, is_property_word, is_type_word}
 
 abbrev pub part_text : List ℕ → Option (List ℕ) → List ℕ
@@ -53,3 +54,5 @@ Speaks text (unload_client client) = IsLine text (codes "unload " ++ client) (is
 Speaks text (copy_object name to) = IsLine text (codes "copy " ++ name ++ codes " " ++ to) (is_name name && is_name to)
 Speaks text (drop_object name) = IsLine text (codes "drop " ++ name) (is_name name)
 Speaks text (tell_origin obj prop) = IsLine text (codes "origin " ++ ref_text obj ++ codes " " ++ prop) (is_ref obj && is_property_word prop)
+Speaks text (load_object name file) = IsLine text (codes "load " ++ name ++ codes " " ++ file) (is_name name && is_file_word file)
+Speaks text (save_object name file) = IsLine text (codes "save " ++ name ++ codes " " ++ file) (is_name name && is_file_word file)

@@ -1,5 +1,5 @@
 -- What is replied to a command.
-use Rattle.std.specs.Prelude.{ℕ, ◌-◌, ◌/◌, ◌%◌, ◌^◌, List, [], ◌++◌, Bool, true, false, ◌||◌, if◌then◌else◌, Option, Some, None, flat_map, length, map, replicate, string_bytes, codes, decimal}
+use Rattle.std.specs.Prelude.{ℕ, ◌-◌, ◌/◌, ◌%◌, ◌^◌, List, [], ◌∷◌, ◌++◌, Bool, true, false, ◌||◌, if◌then◌else◌, Option, Some, None, flat_map, length, map, replicate, string_bytes, codes, decimal}
 use Rattle.std.specs.Fmt.{digits}
 use Rattle.std.specs.List.{slice_get}
 use Rattle.pm_geom.specs.Evidence.{evidence_number}
@@ -29,7 +29,11 @@ use Rattle.pm_types.specs.Views.{view_of}
 use Rattle.pm_props.specs.declared.property.PropId.{PropId}
 use Rattle.pm_script.specs.Values.{value_text}
 use Rattle.pm_script.specs.declared.refusal.Refusal.{Refusal}
-use Rattle.pm_script.specs.declared.refusal.Refusal.TheVariants.{BadCommand, UnknownName, NameTaken, UnknownType, UnknownProperty, BadValue, AlreadyHeld, Sealed, ObjectsFull, NoChain, Crowded, LineTooLong, UnknownRule}
+use Rattle.pm_script.specs.declared.refusal.Refusal.TheVariants.{BadCommand, UnknownName, NameTaken, UnknownType, UnknownProperty, BadValue, AlreadyHeld, Sealed, ObjectsFull, NoChain, Crowded, StoreFault, BadFile, NoSuchFile, LineTooLong, UnknownRule, NotFit}
+use Rattle.pm_script.specs.declared.refusal.Condition.{Condition}
+use Rattle.pm_script.specs.declared.refusal.Condition.TheVariants as condition
+use Rattle.pm_script.specs.declared.refusal.FileWhy.{FileWhy}
+use Rattle.pm_script.specs.declared.refusal.FileWhy.TheVariants as file_why
 use Rattle.pm_script.specs.declared.refusal.ValueWhy.{ValueWhy}
 use Rattle.pm_script.specs.declared.refusal.ValueWhy.TheVariants.{Json, Shape, Number, Index, Limit, Computed, Columns, Row}
 use Rattle.pm_script.specs.declared.reply.Reply.{Reply}
@@ -51,7 +55,7 @@ pub data Remarks : Type 0 where
   told : Bool → Rounds → Remarks
   planned : List (RuleId × Bar) → List TableRow → NamesSeen → Remarks
 
--- done; shows name of p v, the value v of the property p of the object of that name and type, with the rounds that found it; ensured, by these rounds; explained, by a chain with its weight and table; tells, what happened to an object; lists_rules n text, where the book has n rules and this text; tells_origin, how a value came to be held; undef, where no value is held; refused, why, and what is said beside it
+-- done; shows name of p v, the value v of the property p of the object of that name and type, with the rounds that found it; ensured, by these rounds; explained, by a chain with its weight and table; tells, what happened to an object; lists_rules n text, where the book has n rules and this text; tells_origin, how a value came to be held; loaded, with the names that were read over; undef, where no value is held; refused, why, and what is said beside it
 pub data ReplySeen : Type 0 where
   done : ReplySeen
   shows : List ℕ → ObjectType → PropId → PropertyValue → Rounds → ReplySeen
@@ -60,6 +64,7 @@ pub data ReplySeen : Type 0 where
   tells : Rounds → List Excluded → ReplySeen
   lists_rules : ℕ → List ℕ → ReplySeen
   tells_origin : Origin → ReplySeen
+  loaded : List (List ℕ) → ReplySeen
   undef : ReplySeen
   refused : Refusal → Remarks → ReplySeen
 
@@ -82,6 +87,7 @@ seen (reply.Explained chain weight table names) = explained chain.items weight t
 seen (reply.History rounds excluded names) = tells (record { rounds = map round_seen rounds.items; names = names_seen names }) excluded.items
 seen (reply.Rules count text) = lists_rules count (string_bytes text)
 seen (reply.Origin o) = tells_origin o
+seen (reply.Loaded names) = loaded (map string_bytes names.items)
 seen reply.Undef = undef
 seen (reply.Refused why always rounds barred table names) = refused why (remarks always (map round_seen rounds.items) barred.items table (names_seen names))
 
@@ -96,6 +102,18 @@ why_text Computed = codes "computed"
 why_text Columns = codes "columns"
 why_text Row = codes "row"
 
+abbrev pub file_why_text : FileWhy → List ℕ
+file_why_text file_why.Limit = codes "Limit"
+file_why_text file_why.NotJson = codes "NotJson"
+file_why_text file_why.NoType = codes "NoType"
+file_why_text file_why.UnknownType = codes "UnknownType"
+file_why_text (file_why.BadProperty name why) = codes "BadProperty " ++ string_bytes name ++ codes " " ++ why_text why
+file_why_text (file_why.BadRow name) = codes "BadRow " ++ string_bytes name
+file_why_text (file_why.BadProfile key) = codes "BadProfile " ++ string_bytes key
+
+abbrev pub condition_text : Condition → List ℕ
+condition_text condition.Size = codes "size"
+
 abbrev pub refusal_text : Refusal → List ℕ
 refusal_text BadCommand = codes "1 BadCommand"
 refusal_text UnknownName = codes "2 UnknownName"
@@ -108,8 +126,12 @@ refusal_text Sealed = codes "8 Sealed"
 refusal_text ObjectsFull = codes "9 ObjectsFull"
 refusal_text NoChain = codes "10 NoChain"
 refusal_text Crowded = codes "11 Crowded"
+refusal_text StoreFault = codes "12 StoreFault"
+refusal_text (BadFile why) = codes "13 BadFile " ++ file_why_text why
+refusal_text NoSuchFile = codes "14 NoSuchFile"
 refusal_text LineTooLong = codes "15 LineTooLong"
 refusal_text UnknownRule = codes "16 UnknownRule"
+refusal_text (NotFit condition) = codes "17 NotFit " ++ condition_text condition
 
 -- the label of a rule, and its weight
 abbrev pub label_in : Option (List ℕ × Weight) → List ℕ
@@ -164,6 +186,7 @@ rounds_text t = flat_map (round_text t.names) t.rounds
 abbrev pub exclusion_text : Why → List ℕ
 exclusion_text (why.Failed evidence) = failed_text (evidence_number evidence)
 exclusion_text (why.False p) = false_text p
+exclusion_text (why.Stored k) = failed_text k
 
 -- `excluded LABEL WHY`
 abbrev pub excluded_text : NamesSeen → Excluded → List ℕ
@@ -200,10 +223,20 @@ remarks_text trace nothing = []
 remarks_text trace (told always rounds) = if trace || always then rounds_text rounds else []
 remarks_text trace (planned barred rows names) = flat_map (barred_text names) barred ++ flat_map table_row_text rows
 
--- given by a script or filled in where it goes without saying, or computed by a client
+-- given by a script or a file or filled in where it goes without saying, computed in an earlier run, or computed by a client
 abbrev pub origin_text : Origin → List ℕ
 origin_text origin.Given = codes "given"
+origin_text origin.Stored = codes "stored"
 origin_text origin.Computed = codes "computed"
+
+-- a space, and a name that was read over
+abbrev pub spaced_name : List ℕ → List ℕ
+spaced_name name = codes " " ++ name
+
+-- ` ignored` and the names that were read over, where there are such
+abbrev pub ignored_text : List (List ℕ) → List ℕ
+ignored_text [] = []
+ignored_text (name ∷ names) = codes " ignored" ++ flat_map spaced_name (name ∷ names)
 
 -- the reply's lines, each with its LF; rounds that found a value are shown where they are traced
 abbrev pub reply_text : Bool → ReplySeen → List ℕ
@@ -214,6 +247,7 @@ reply_text trace (explained chain weight rows names) = codes "plan " ++ cost_tex
 reply_text trace (tells t excluded) = codes "rounds " ++ decimal (length t.rounds) ++ codes "\n" ++ rounds_text t ++ flat_map (excluded_text t.names) excluded
 reply_text trace (lists_rules n text) = codes "rules " ++ decimal n ++ codes "\n" ++ text
 reply_text trace (tells_origin o) = origin_text o ++ codes "\n"
+reply_text trace (loaded names) = codes "ok" ++ ignored_text names ++ codes "\n"
 reply_text trace undef = codes "undef\n"
 reply_text trace (refused why more) = codes "no " ++ refusal_text why ++ codes "\n" ++ remarks_text trace more
 

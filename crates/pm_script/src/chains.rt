@@ -131,6 +131,7 @@ fn push_why(text: &mut String, why: &Why) -> Result<(), AllocError>
     match why {
         Why::Failed(evidence) => push_failed(text, evidence.number()),
         Why::False(p) => push_false(text, *p),
+        Why::Stored(k) => push_failed(text, *k),
     }
 }
 

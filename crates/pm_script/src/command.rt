@@ -1,6 +1,6 @@
 // Commands.
 
-ghost use Rattle.pm_script.specs.Commands.{Spoken, ref_of, part_of, property_of, type_of, json_of, new_line, take_line, give_line, lookup_line, ensure_line, explain_line, history_line, disable_line, unload_line, copy_line, drop_line, origin_line, object_line, chain_line, line_of, command_of, seen_ref, spoken};
+ghost use Rattle.pm_script.specs.Commands.{Spoken, ref_of, part_of, property_of, type_of, json_of, new_line, take_line, give_line, lookup_line, ensure_line, explain_line, history_line, is_on_files, disable_line, unload_line, copy_line, drop_line, file_line, load_line, origin_line, object_line, save_line, chain_line, line_of, command_of, seen_ref, spoken};
 ghost use Rattle.pm_script.specs.Grammar.{Speaks};
 ghost use Rattle.pm_script.specs.Words.{are_asked, distinct, is_property_word, most_asked, words_of};
 ghost use Rattle.pm_script.specs.declared.command.LineFail.TheVariants.{Memory};
@@ -12,6 +12,7 @@ use crate::lines::is_silent;
 use crate::words::{
     is_client_word, is_label, is_name, is_property_word, is_type_word, split_dot, split_word,
 };
+use pm_store::is_file_word;
 use std::alloc::{AllocError, Global};
 use std::str;
 use thiserror::Error;
@@ -91,6 +92,25 @@ pub enum Command {
         obj: Ref,
         prop: String,
     },
+    /// `load NAME FILE`
+    Load {
+        name: String,
+        file: String,
+    },
+    /// `save NAME FILE`
+    Save {
+        name: String,
+        file: String,
+    },
+}
+
+impl Command {
+    /// Whether it reads or writes a file.
+    pub fn is_on_files(&self) -> bool
+        ensures { result ≡ is_on_files (spoken self.now) }
+    {
+        matches!(self, Command::Load { .. } | Command::Save { .. })
+    }
 }
 
 /// Why a line gives no command.
@@ -398,6 +418,53 @@ fn read_origin(alloc: Global, words: &str) -> Result<Command, LineFail>
     Ok(Command::Origin { obj, prop })
 }
 
+/// The words after `load`.
+fn read_load(alloc: Global, words: &str) -> Result<Command, LineFail>
+    ensures ok { IfOk result (λ c. load_line words.now ≡ Some (spoken c)) }
+    ensures refused { IfErr result (λ e. e ≡ LineFail.BadCommand → load_line words.now ≡ None) }
+{
+    let (name, file) = split_word(words);
+    if is_name(name) && is_file_word(file) {
+        Ok(Command::Load {
+            name: String::from_str(alloc, name)?,
+            file: String::from_str(alloc, file)?,
+        })
+    } else {
+        Err(LineFail::BadCommand)
+    }
+}
+
+/// The words after `save`.
+fn read_save(alloc: Global, words: &str) -> Result<Command, LineFail>
+    ensures ok { IfOk result (λ c. save_line words.now ≡ Some (spoken c)) }
+    ensures refused { IfErr result (λ e. e ≡ LineFail.BadCommand → save_line words.now ≡ None) }
+{
+    let (name, file) = split_word(words);
+    if is_name(name) && is_file_word(file) {
+        Ok(Command::Save {
+            name: String::from_str(alloc, name)?,
+            file: String::from_str(alloc, file)?,
+        })
+    } else {
+        Err(LineFail::BadCommand)
+    }
+}
+
+/// The command on files of this first word.
+fn read_file_words(alloc: Global, first: &str, words: &str) -> Result<Command, LineFail>
+    ensures ok { IfOk result (λ c. file_line first.now words.now ≡ Some (spoken c)) }
+    ensures refused { IfErr result (λ e. e ≡ LineFail.BadCommand
+        → file_line first.now words.now ≡ None) }
+{
+    if first == "load" {
+        read_load(alloc, words)
+    } else if first == "save" {
+        read_save(alloc, words)
+    } else {
+        Err(LineFail::BadCommand)
+    }
+}
+
 /// The command of this first word that copies an object, lets it go, or asks where a value is from.
 fn read_object_words(alloc: Global, first: &str, words: &str) -> Result<Command, LineFail>
     ensures ok { IfOk result (λ c. object_line first.now words.now ≡ Some (spoken c)) }
@@ -411,7 +478,7 @@ fn read_object_words(alloc: Global, first: &str, words: &str) -> Result<Command,
     } else if first == "origin" {
         read_origin(alloc, words)
     } else {
-        Err(LineFail::BadCommand)
+        read_file_words(alloc, first, words)
     }
 }
 

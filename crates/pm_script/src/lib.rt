@@ -15,5 +15,5 @@ pub use command::{Command, LineFail, Ref, read_line};
 pub use examples::example_replies;
 pub use lines::{Line, first_break, is_silent, split_line};
 pub use names::{Bar, Names};
-pub use refusal::{Refusal, ValueWhy};
+pub use refusal::{Condition, FileWhy, Refusal, ValueWhy};
 pub use reply::{Reply, reply_bytes};

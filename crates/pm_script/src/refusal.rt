@@ -1,7 +1,7 @@
 // Refusals of commands.
 
-ghost use Rattle.pm_script.specs.Replies.{refusal_text, why_text};
-ghost use Rattle.std.specs.Prelude.{OnOk, string_bytes, ◌++◌, ◌≡◌};
+ghost use Rattle.pm_script.specs.Replies.{condition_text, file_why_text, refusal_text, why_text};
+ghost use Rattle.std.specs.Prelude.{OnOk, codes, string_bytes, ◌++◌, ◌≡◌};
 
 use std::alloc::AllocError;
 
@@ -26,8 +26,34 @@ pub enum ValueWhy {
     Row,
 }
 
-/// Why a command is refused.
+/// Why a file is refused.
+#[derive(Debug, Drop)]
+pub enum FileWhy {
+    /// It has more than 8,388,608 bytes.
+    Limit,
+    /// It is no JSON.
+    NotJson,
+    /// It is no object, or has no text `_type`.
+    NoType,
+    /// Its type is not known.
+    UnknownType,
+    /// The value of this key has a fault.
+    BadProperty { name: String, why: ValueWhy },
+    /// The columns of this key's value differ from those before, or a row of it fails a test.
+    BadRow { name: String },
+    /// This key of the profile is not right.
+    BadProfile { key: String },
+}
+
+/// The condition that does not hold.
 #[derive(Clone, Copy, Debug, PartialEq, Eq)]
+pub enum Condition {
+    /// The text has at most 8,388,608 bytes.
+    Size,
+}
+
+/// Why a command is refused.
+#[derive(Debug, Drop)]
 pub enum Refusal {
     /// 1: the line is no command.
     BadCommand,
@@ -43,7 +69,7 @@ pub enum Refusal {
     BadValue(ValueWhy),
     /// 7: the property is held.
     AlreadyHeld,
-    /// 8: a round was run on the object.
+    /// 8: a round was run on the object, or it holds a stored value.
     Sealed,
     /// 9: there are as many objects as there may be.
     ObjectsFull,
@@ -51,10 +77,18 @@ pub enum Refusal {
     NoChain,
     /// 11: too many sets of names cost less than a chain that leads there.
     Crowded,
+    /// 12: the store failed.
+    StoreFault,
+    /// 13: the file holds no object.
+    BadFile(FileWhy),
+    /// 14: there is no such file.
+    NoSuchFile,
     /// 15: the line has more than 1,048,576 bytes.
     LineTooLong,
     /// 16: no rule of the book has the label, or no client has the name.
     UnknownRule,
+    /// 17: a condition does not hold.
+    NotFit(Condition),
 }
 
 /// The word of a reason.
@@ -73,9 +107,50 @@ fn why_text(why: ValueWhy) -> &'static str
     }
 }
 
+/// The word of a condition.
+fn condition_text(condition: Condition) -> &'static str
+    ensures { result.now ≡ condition_text condition }
+{
+    match condition {
+        Condition::Size => "size",
+    }
+}
+
+/// Writes a key that has a fault, and the reason.
+fn push_bad_property(text: &mut String, name: &str, why: ValueWhy) -> Result<(), AllocError>
+    ensures { OnOk result (string_bytes text.new ≡ string_bytes text.old
+        ++ codes "BadProperty " ++ name.now ++ codes " " ++ why_text why) }
+{
+    text.push_str("BadProperty ")?;
+    text.push_str(name)?;
+    text.push_str(" ")?;
+    text.push_str(why_text(why))
+}
+
+/// Writes why a file is refused.
+fn push_file_why(text: &mut String, why: &FileWhy) -> Result<(), AllocError>
+    ensures { OnOk result (string_bytes text.new ≡ string_bytes text.old ++ file_why_text why.now) }
+{
+    match why {
+        FileWhy::Limit => text.push_str("Limit"),
+        FileWhy::NotJson => text.push_str("NotJson"),
+        FileWhy::NoType => text.push_str("NoType"),
+        FileWhy::UnknownType => text.push_str("UnknownType"),
+        FileWhy::BadProperty { name, why } => push_bad_property(text, name.as_str(), *why),
+        FileWhy::BadRow { name } => {
+            text.push_str("BadRow ")?;
+            text.push_str(name.as_str())
+        }
+        FileWhy::BadProfile { key } => {
+            text.push_str("BadProfile ")?;
+            text.push_str(key.as_str())
+        }
+    }
+}
+
 /// Writes the number and the name of a refusal, and the reason where it has one.
-pub fn push_refusal(text: &mut String, why: Refusal) -> Result<(), AllocError>
-    ensures { OnOk result (string_bytes text.new ≡ string_bytes text.old ++ refusal_text why) }
+pub fn push_refusal(text: &mut String, why: &Refusal) -> Result<(), AllocError>
+    ensures { OnOk result (string_bytes text.new ≡ string_bytes text.old ++ refusal_text why.now) }
 {
     match why {
         Refusal::BadCommand => text.push_str("1 BadCommand"),
@@ -85,14 +160,24 @@ pub fn push_refusal(text: &mut String, why: Refusal) -> Result<(), AllocError>
         Refusal::UnknownProperty => text.push_str("5 UnknownProperty"),
         Refusal::BadValue(why) => {
             text.push_str("6 BadValue ")?;
-            text.push_str(why_text(why))
+            text.push_str(why_text(*why))
         }
         Refusal::AlreadyHeld => text.push_str("7 AlreadyHeld"),
         Refusal::Sealed => text.push_str("8 Sealed"),
         Refusal::ObjectsFull => text.push_str("9 ObjectsFull"),
         Refusal::NoChain => text.push_str("10 NoChain"),
         Refusal::Crowded => text.push_str("11 Crowded"),
+        Refusal::StoreFault => text.push_str("12 StoreFault"),
+        Refusal::BadFile(why) => {
+            text.push_str("13 BadFile ")?;
+            push_file_why(text, why)
+        }
+        Refusal::NoSuchFile => text.push_str("14 NoSuchFile"),
         Refusal::LineTooLong => text.push_str("15 LineTooLong"),
         Refusal::UnknownRule => text.push_str("16 UnknownRule"),
+        Refusal::NotFit(condition) => {
+            text.push_str("17 NotFit ")?;
+            text.push_str(condition_text(*condition))
+        }
     }
 }

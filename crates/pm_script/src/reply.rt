@@ -3,10 +3,10 @@
 ghost use Rattle.pm_object.specs.Views.{round_seen};
 ghost use Rattle.pm_props.specs.Properties.{name_in};
 ghost use Rattle.pm_weights.specs.Weights.{cost_text};
-ghost use Rattle.pm_script.specs.Replies.{is_refusal, names_seen, nothing, origin_text, refused, remarks, remarks_text, reply_text, rounds_text, rule_text, seen, table_row_text};
+ghost use Rattle.pm_script.specs.Replies.{ignored_text, is_refusal, loaded, names_seen, nothing, origin_text, refused, remarks, remarks_text, reply_text, rounds_text, rule_text, seen, spaced_name, table_row_text};
 ghost use Rattle.pm_script.specs.Values.{value_text};
 ghost use Rattle.pm_types.specs.Views.{view_of};
-ghost use Rattle.std.specs.Prelude.{Bool, IfOk, None, OnOk, [], codes, decimal, flat_map, if◌then◌else◌, length, map, string_bytes, ◌++◌, ◌||◌, ◌≡◌};
+ghost use Rattle.std.specs.Prelude.{Bool, IfOk, false, None, OnOk, [], codes, decimal, flat_map, if◌then◌else◌, length, map, string_bytes, ◌++◌, ◌||◌, ◌≡◌};
 
 use crate::chains::{push_barred, push_exclusions, push_rounds, push_rows, push_rules_of};
 use crate::names::{Bar, Names};
@@ -58,6 +58,10 @@ pub enum Reply {
     },
     /// How the value came to be held.
     Origin(Origin),
+    /// An object was made of what a file holds. `ignored`: the names in the file that were read over.
+    Loaded {
+        ignored: Vec<String>,
+    },
     /// The property is not held.
     Undef,
     /// The command is refused. `ensured`: the rounds are told whether they are traced or not. `barred` and `table` are told where there is a table, of an explanation.
@@ -229,8 +233,43 @@ fn origin_line(origin: Origin) -> &'static str
 {
     match origin {
         Origin::Given => "given\n",
+        Origin::Stored => "stored\n",
         Origin::Computed => "computed\n",
     }
+}
+
+/// Writes a space and each name.
+fn push_names(text: &mut String, names: &[String]) -> Result<(), AllocError>
+    ensures { OnOk result (string_bytes text.new ≡ string_bytes text.old
+        ++ flat_map spaced_name (map string_bytes names.now)) }
+{
+    for name in names {
+        text.push_str(" ")?;
+        text.push_str(name.as_str())?;
+    }
+    Ok(())
+}
+
+/// Writes which names were read over, where there are such.
+fn push_ignored(text: &mut String, names: &[String]) -> Result<(), AllocError>
+    ensures { OnOk result (string_bytes text.new ≡ string_bytes text.old
+        ++ ignored_text (map string_bytes names.now)) }
+{
+    if names.is_empty() {
+        return Ok(());
+    }
+    text.push_str(" ignored")?;
+    push_names(text, names)
+}
+
+/// The line of a file that was loaded.
+fn loaded_line(alloc: Global, names: &[String]) -> Result<String, AllocError>
+    ensures { IfOk result (λ t. string_bytes t ≡ reply_text false (loaded (map string_bytes names.now))) }
+{
+    let mut text = String::from_str(alloc, "ok")?;
+    push_ignored(&mut text, names)?;
+    text.push_str("\n")?;
+    Ok(text)
 }
 
 /// The reply's lines as a text.
@@ -240,6 +279,7 @@ fn reply_lines(alloc: Global, r: &Reply, trace: bool) -> Result<String, AllocErr
     match r {
         Reply::Done => String::from_str(alloc, "ok\n"),
         Reply::Origin(origin) => String::from_str(alloc, origin_line(*origin)),
+        Reply::Loaded { ignored } => loaded_line(alloc, ignored),
         Reply::Undef => String::from_str(alloc, "undef\n"),
         Reply::Value {
             name,
@@ -293,7 +333,7 @@ fn reply_lines(alloc: Global, r: &Reply, trace: bool) -> Result<String, AllocErr
             names,
         } => {
             let mut text = String::from_str(alloc, "no ")?;
-            push_refusal(&mut text, *why)?;
+            push_refusal(&mut text, why)?;
             text.push_str("\n")?;
             let told = is_told(trace, *ensured);
             push_remarks(&mut text, told, rounds, barred, table, names)?;

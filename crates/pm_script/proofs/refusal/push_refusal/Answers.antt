@@ -1,7 +1,7 @@
 -- Each refusal's own text is written after what was written.
 use Rattle.std.proofs.Common.{ap, sym, ◌++◌, codes, ◌∙◌}
 use Rattle.pm_script.specs.Replies.{refusal_text}
-use Rattle.pm_script.proofs.Written.{written, written_twice}
+use Rattle.pm_script.proofs.Written.{written, written_behind, written_twice}
 use Rattle.pm_script.proofs.refusal.push_refusal.Goals as goal
 
 pub returns-in-BadCommand : goal.returns-in-BadCommand
@@ -34,6 +34,12 @@ returns-in-NoChain c = written c.push_str-in-NoChain.result _ _ _ _ c.push_str-i
 pub returns-in-Crowded : goal.returns-in-Crowded
 returns-in-Crowded c = written c.push_str-in-Crowded.result _ _ _ _ c.push_str-in-Crowded.ensures.bytes (ap refusal_text c.in-Crowded.is)
 
+pub returns-in-StoreFault : goal.returns-in-StoreFault
+returns-in-StoreFault c = written c.push_str-in-StoreFault.result _ _ _ _ c.push_str-in-StoreFault.ensures.bytes (ap refusal_text c.in-StoreFault.is)
+
+pub returns-in-NoSuchFile : goal.returns-in-NoSuchFile
+returns-in-NoSuchFile c = written c.push_str-in-NoSuchFile.result _ _ _ _ c.push_str-in-NoSuchFile.ensures.bytes (ap refusal_text c.in-NoSuchFile.is)
+
 pub returns-in-LineTooLong : goal.returns-in-LineTooLong
 returns-in-LineTooLong c = written c.push_str-in-LineTooLong.result _ _ _ _ c.push_str-in-LineTooLong.ensures.bytes (ap refusal_text c.in-LineTooLong.is)
 
@@ -44,3 +50,12 @@ pub returns-in_ok-push_str-in-BadValue : goal.returns-in_ok-push_str-in-BadValue
 returns-in_ok-push_str-in-BadValue c =
     written_twice c.push_str-in-BadValue-2.result _ _ _ _ _ _ c.in_ok-push_str-in-BadValue.ensures.bytes c.push_str-in-BadValue-2.ensures.bytes
     (ap refusal_text c.in-BadValue.is ∙ ap (λ z. codes "6 BadValue " ++ z) (sym c.why_text.ensures))
+
+pub returns-in_ok-push_str-in-BadFile : goal.returns-in_ok-push_str-in-BadFile
+returns-in_ok-push_str-in-BadFile c =
+    written_behind c.push_file_why.result _ _ _ _ _ _ c.in_ok-push_str-in-BadFile.ensures.bytes c.push_file_why.ensures (ap refusal_text c.in-BadFile.is)
+
+pub returns-in_ok-push_str-in-NotFit : goal.returns-in_ok-push_str-in-NotFit
+returns-in_ok-push_str-in-NotFit c =
+    written_twice c.push_str-in-NotFit-2.result _ _ _ _ _ _ c.in_ok-push_str-in-NotFit.ensures.bytes c.push_str-in-NotFit-2.ensures.bytes
+    (ap refusal_text c.in-NotFit.is ∙ ap (λ z. codes "17 NotFit " ++ z) (sym c.condition_text.ensures))
