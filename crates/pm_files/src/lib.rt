@@ -11,7 +11,7 @@ mod write;
 
 pub use file::{FileObject, FileProgram};
 pub use value::value_json;
-pub use write::object_bytes;
+pub use write::{object_bytes, type_text};
 
 /// A value in the form of its property is read back from its JSON.
 pub fn law_values_are_read_back()

@@ -18,7 +18,7 @@ use serde_json::{Map, Value as Json, json, put};
 use std::alloc::{AllocError, Global};
 
 /// The text of a type.
-fn type_text(of: ObjectType) -> &'static str
+pub fn type_text(of: ObjectType) -> &'static str
     ensures { result.now ≡ type_text of }
 {
     match of {

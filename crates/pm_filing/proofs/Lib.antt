@@ -1,0 +1,13 @@
+mod Examples
+pub mod Loaded
+mod Fitting
+mod SuitLaws
+pub mod ReadingExamples
+pub mod PartTurns
+pub mod Unique
+pub mod ItemTurns
+pub mod HeldSets
+pub mod TestTurns
+pub mod MarkPairs
+pub mod DataRead
+pub mod FileParts

@@ -1,0 +1,217 @@
+-- The values of a file that is read suit one column count.
+use Rattle.pm_algebra.proofs.Lists.{All_among, Among, among_All, among_Contains, here, there}
+use Rattle.pm_filing.specs.FileParts.{FileRead, Part, value, programs, then_read}
+use Rattle.pm_filing.specs.FileReadings.{ArePassed, Named, Reads, cols_after, cols_of_value, named_objective, named_objectives, named_part, named_values}
+use Rattle.pm_files.specs.Files.{SavedFile}
+use Rattle.pm_filing.specs.Profiles.{Profile, file_in, file_with, profile_in, names_held, programs_in, values_in}
+use Rattle.pm_filing.specs.ReadingViews.{are_formed_values}
+use Rattle.pm_filing.specs.Views.{AllSuit, Suits}
+use Rattle.pm_object.proofs.Formed.{agrees_free, agrees_itself, ambient_is, dimension_of}
+use Rattle.pm_object.specs.State.{ambient_in}
+use Rattle.pm_props.proofs.Places.{same_property_is}
+use Rattle.pm_props.specs.Places.{same_property}
+use Rattle.pm_props.specs.Properties.{is_ambient}
+use Rattle.pm_props.specs.declared.object_type.ObjectType.{ObjectType}
+use Rattle.pm_props.specs.declared.property.PropId.{PropId}
+use Rattle.pm_props.specs.declared.property.PropId.TheVariants.{ConeAmbientDim, LinearObjective}
+use Rattle.pm_types.specs.Forms.{HavePrimitiveRows, agrees_with, are_rows, is_formed, stated_cols, states}
+use Rattle.pm_types.specs.Values.{PropertyValue, whole}
+use Rattle.serde_json.specs.Data.{Data}
+use Rattle.std.proofs.Common.{ap, arith, false, inl, inr, refl, subst, sym, true, true≢false, ◌∙◌}
+use Rattle.std.specs.List.{All, list_all}
+use Rattle.std.specs.Option.{is_some}
+use Rattle.std.specs.Prelude.{Bool, Err, List, None, Ok, Option, Some, [], if◌then◌else◌, nat_eq, ℕ, ◌&&◌, ◌++◌, ◌||◌, ◌∷◌, ◌≡◌, ◌⊎◌}
+use lib.IntN.{pos}
+
+-- the value passes the tests of columns and rows where n columns are known
+record Agrees (of : ObjectType) (n : ℕ) (x : Named) : Type 0 where
+  columns : agrees_with n x.property x.value ≡ true
+  rows : are_rows of x.property x.value ≡ true
+  primitive : HavePrimitiveRows x.value
+
+abbrev AllAgree : ObjectType → ℕ → List Named → Type 0
+AllAgree of n xs = (x : Named) → Among x xs → Agrees of n x
+
+-- an ambient dimension has its form
+abbrev Dimensions : List Named → Type 0
+Dimensions xs = (x : Named) → Among x xs → is_ambient x.property ≡ true → is_formed x.property x.value ≡ true
+
+known_agree : (of : ObjectType) (n : ℕ) (xs : List Named) → ArePassed of (Some n) xs → AllAgree of n xs
+known_agree of n [] h x i = elim i [ ]
+known_agree of n (y ∷ xs) (p, h) x here = record { columns = p.columns; rows = p.rows; primitive = p.primitive }
+known_agree of n (y ∷ xs) (p, h) x (there i) = known_agree of n xs h x i
+
+some_is : (a b : ℕ) → Some a ≡ Some b → a ≡ b
+some_is a b h = cc
+
+same_number : (n : ℕ) → nat_eq n n ≡ true
+same_number n = grind arith
+
+-- the first value that tells the column count agrees with it
+itself_agrees : (n : ℕ) (p : PropId) (v : PropertyValue) → (is_ambient p ≡ true → is_formed p v ≡ true) → cols_of_value p v ≡ Some n → agrees_with n p v ≡ true
+itself_agrees n p v formed e = by (is_ambient p) refl e
+  where
+    by : (t : Bool) → is_ambient p ≡ t → (if t then ambient_in (Some v) else (if nat_eq (stated_cols p v) 0 then None else Some (stated_cols p v))) ≡ Some n → agrees_with n p v ≡ true
+    by true a h =
+        let q : p ≡ ConeAmbientDim = sym (same_property_is ConeAmbientDim p (sym (ambient_is p) ∙ a)) in
+        let d = dimension_of v (subst (λ r. is_formed r v ≡ true) q (formed a)) in
+        let n_is : d.n ≡ n = some_is _ _ (sym (ap (λ w. ambient_in (Some w)) d.value) ∙ h) in
+        subst (λ r. agrees_with n r v ≡ true) (sym q) (subst (λ w. agrees_with n ConeAmbientDim w ≡ true) (sym d.value) (subst (λ k. agrees_with n ConeAmbientDim (whole (pos k)) ≡ true) (sym n_is) (same_number n)))
+    by false a h = at (nat_eq (stated_cols p v) 0) h
+      where
+        at : (z : Bool) → (if z then None else Some (stated_cols p v)) ≡ Some n → agrees_with n p v ≡ true
+        at true k = absurd (true≢false (ap is_some (sym k)))
+        at false k = subst (λ m. agrees_with m p v ≡ true) (some_is _ _ k) (agrees_itself p v (sym (ambient_is p) ∙ a))
+
+-- a value that tells none agrees with any
+others_agree : (n : ℕ) (p : PropId) (v : PropertyValue) → (is_ambient p ≡ true → is_formed p v ≡ true) → cols_of_value p v ≡ None → agrees_with n p v ≡ true
+others_agree n p v formed e = by (is_ambient p) refl e
+  where
+    by : (t : Bool) → is_ambient p ≡ t → (if t then ambient_in (Some v) else (if nat_eq (stated_cols p v) 0 then None else Some (stated_cols p v))) ≡ None → agrees_with n p v ≡ true
+    by true a h =
+        let q : p ≡ ConeAmbientDim = sym (same_property_is ConeAmbientDim p (sym (ambient_is p) ∙ a)) in
+        let d = dimension_of v (subst (λ r. is_formed r v ≡ true) q (formed a)) in
+        absurd (true≢false (ap is_some (sym (ap (λ w. ambient_in (Some w)) d.value) ∙ h)))
+    by false a h = at (nat_eq (stated_cols p v) 0) refl h
+      where
+        at : (z : Bool) → nat_eq (stated_cols p v) 0 ≡ z → (if z then None else Some (stated_cols p v)) ≡ None → agrees_with n p v ≡ true
+        at true s k = agrees_free n p v (sym (ambient_is p) ∙ a) s
+        at false s k = absurd (true≢false (ap is_some k))
+
+cons_agree : (of : ObjectType) (n : ℕ) (y : Named) (xs : List Named) → Agrees of n y → AllAgree of n xs → AllAgree of n (y ∷ xs)
+cons_agree of n y xs a all x here = a
+cons_agree of n y xs a all x (there i) = all x i
+
+-- all values that pass, one after another, agree with one column count
+one_count : (of : ObjectType) (xs : List Named) → Dimensions xs → ArePassed of None xs → (n : ℕ) × AllAgree of n xs
+one_count of [] d h = (1, λ x i. elim i [ ])
+one_count of (y ∷ xs) d (p, h) = by (cols_of_value y.property y.value) refl h (λ k. one_count of xs (λ x i. d x (there i)) k)
+  where
+    by : (c : Option ℕ) → cols_of_value y.property y.value ≡ c → ArePassed of c xs → (ArePassed of None xs → (n : ℕ) × AllAgree of n xs) → (n : ℕ) × AllAgree of n (y ∷ xs)
+    by (Some n) e k rest = (n, cons_agree of n y xs (record { columns = itself_agrees n y.property y.value (d y here) e; rows = p.rows; primitive = p.primitive }) (known_agree of n xs k))
+    by None e k rest =
+        let (n, all) = rest k in
+        (n, cons_agree of n y xs (record { columns = others_agree n y.property y.value (d y here) e; rows = p.rows; primitive = p.primitive }) all)
+
+-- ---- the values of a file among those that are tested
+in_front : {X : Type 0} {v : X} (xs ys : List X) → Among v xs → Among v (xs ++ ys)
+in_front [] ys i = elim i [ ]
+in_front (x ∷ xs) ys here = here
+in_front (x ∷ xs) ys (there i) = there (in_front xs ys i)
+
+at_back : {X : Type 0} {v : X} (xs ys : List X) → Among v ys → Among v (xs ++ ys)
+at_back [] ys i = i
+at_back (x ∷ xs) ys i = there (at_back xs ys i)
+
+first_or : {X : Type 0} {x y : X} {ys : List X} → Among x (y ∷ ys) → (x ≡ y) ⊎ Among x ys
+first_or here = inl refl
+first_or (there i) = inr i
+
+record Tested (of : ObjectType) (parts : List Part) (v : PropId × PropertyValue) : Type 0 where
+  x : Named
+  among : Among x (named_values of parts)
+  property : x.property ≡ v.0
+  value : x.value ≡ v.1
+
+is_tested : (of : ObjectType) (parts : List Part) {v : PropId × PropertyValue} → Among v (values_in parts) → Tested of parts v
+is_tested of [] i = elim i [ ]
+is_tested of (value p w ∷ parts) here = record { x = _; among = here; property = refl; value = refl }
+is_tested of (value p w ∷ parts) (there i) = let t = is_tested of parts i in record { x = t.x; among = there t.among; property = t.property; value = t.value }
+is_tested of (programs vs ∷ parts) i = let t = is_tested of parts i in record { x = t.x; among = at_back (named_objectives vs) (named_values of parts) t.among; property = t.property; value = t.value }
+
+-- a value that is tested is one of the file, or an objective
+from_file : (of : ObjectType) (parts : List Part) (x : Named) → Among x (named_values of parts) → Among (x.property, x.value) (values_in parts) ⊎ (x.property ≡ LinearObjective)
+from_file of [] x i = elim i [ ]
+from_file of (value p w ∷ parts) x here = inl here
+from_file of (value p w ∷ parts) x (there i) = elim (from_file of parts x i) [ inl j ↦ inl (there j) | inr e ↦ inr e ]
+from_file of (programs vs ∷ parts) x i = by vs i (λ j. from_file of parts x j)
+  where
+    one : (v : Option PropertyValue) (ys : List Named) → Among x (named_objective v ++ ys) → (x.property ≡ LinearObjective) ⊎ Among x ys
+    one None ys j = inr j
+    one (Some w) ys j = elim (first_or j) [ inl e ↦ inl (ap (λ (z : Named). z.property) e) | inr k ↦ inr k ]
+
+    grouped : (v : Option PropertyValue) (ys zs : List Named) → (named_objective v ++ ys) ++ zs ≡ named_objective v ++ (ys ++ zs)
+    grouped None ys zs = refl
+    grouped (Some w) ys zs = refl
+
+    by : (us : List (Option PropertyValue)) → Among x (named_objectives us ++ named_values of parts)
+        → (Among x (named_values of parts) → Among (x.property, x.value) (values_in parts) ⊎ (x.property ≡ LinearObjective)) → Among (x.property, x.value) (values_in parts) ⊎ (x.property ≡ LinearObjective)
+    by [] j rest = rest j
+    by (u ∷ us) j rest = elim (one u (named_objectives us ++ named_values of parts) (subst (λ z. Among x z) (grouped u (named_objectives us) (named_values of parts)) j)) [
+      | inl e ↦ inr e
+      | inr k ↦ by us k rest
+    ]
+
+-- ---- the whole
+abbrev ok_of : SavedFile → FileRead SavedFile
+ok_of f = Ok f
+
+record OfParts (of : ObjectType) (parts : List Part) (f : SavedFile) : Type 0 where
+  type : f.of ≡ of
+  values : f.values ≡ values_in parts
+
+ok_is : (a b : SavedFile) → ok_of a ≡ ok_of b → a ≡ b
+ok_is a b h = ap file_at h
+  where
+    file_at : FileRead SavedFile → SavedFile
+    file_at (Ok x) = x
+    file_at (Err w) = a
+
+of_parts : (of : ObjectType) (d : Data) (parts : List Part) (f : SavedFile) → file_in of d parts ≡ Ok f → OfParts of parts f
+of_parts of d parts f e = by (profile_in of (names_held parts) d (programs_in of d)) e
+  where
+    by : (r : FileRead Profile) → then_read r (λ profile. Ok (file_with of d parts profile)) ≡ Ok f → OfParts of parts f
+    by (Ok p) h = let same = ok_is _ _ h in record { type = sym (ap (λ (z : SavedFile). z.of) same); values = sym (ap (λ (z : SavedFile). z.values) same) }
+    by (Err w) h = absurd (not_both (ap is_read h))
+      where
+        is_read : FileRead SavedFile → Bool
+        is_read (Ok x) = true
+        is_read (Err v) = false
+
+        not_both : is_read (Err w) ≡ is_read (Ok f) → ⊥
+        not_both k = true≢false (sym k)
+
+all_at : {X : Type 0} (p : X → Bool) {x : X} (xs : List X) → list_all p xs ≡ true → Among x xs → p x ≡ true
+all_at p [] h i = elim i [ ]
+all_at p (y ∷ xs) h here = left (p y) (list_all p xs) h
+  where
+    left : (a b : Bool) → (a && b) ≡ true → a ≡ true
+    left true b k = refl
+    left false b k = absurd (true≢false (sym k))
+all_at p (y ∷ xs) h (there i) = all_at p xs (right (p y) (list_all p xs) h) i
+  where
+    right : (a b : Bool) → (a && b) ≡ true → b ≡ true
+    right true b k = k
+    right false b k = absurd (true≢false (sym k))
+
+-- what is read as a file, whose values have their forms
+pub read_suits : (bytes : List ℕ) (f : SavedFile) → Reads bytes f → are_formed_values f.values ≡ true → AllSuit f.of f.values
+read_suits bytes f (s, seen, (passed, is)) formed =
+    (count.0, subst (λ of. All (λ (v : PropId × PropertyValue). Suits of count.0 v.0 v.1) f.values) (sym parts.type) (All_among (λ (v : PropId × PropertyValue). Suits s.of count.0 v.0 v.1) f.values suits))
+  where
+    parts : OfParts s.of s.parts f
+    parts = of_parts s.of s.top s.parts f is
+
+    formed_at : (v : PropId × PropertyValue) → Among v (values_in s.parts) → is_formed v.0 v.1 ≡ true
+    formed_at v i = all_at (λ (w : PropId × PropertyValue). is_formed w.0 w.1) (values_in s.parts) (subst (λ z. are_formed_values z ≡ true) parts.values formed) i
+
+    dimensions : Dimensions (named_values s.of s.parts)
+    dimensions x i a = elim (from_file s.of s.parts x i) [
+      | inl j ↦ formed_at (x.property, x.value) j
+      | inr e ↦ absurd (true≢false (sym (ap is_ambient (sym e) ∙ a)))
+    ]
+
+    count : (n : ℕ) × AllAgree s.of n (named_values s.of s.parts)
+    count = one_count s.of (named_values s.of s.parts) dimensions passed
+
+    suits : (v : PropId × PropertyValue) → Among v f.values → Suits s.of count.0 v.0 v.1
+    suits v i =
+        let j = subst (λ z. Among v z) parts.values i in
+        let t = is_tested s.of s.parts j in
+        let a = count.1 t.x t.among in
+        record {
+          formed = formed_at v j;
+          columns = subst (λ w. agrees_with count.0 v.0 w ≡ true) t.value (subst (λ p. agrees_with count.0 p t.x.value ≡ true) t.property a.columns);
+          rows = subst (λ w. are_rows s.of v.0 w ≡ true) t.value (subst (λ p. are_rows s.of p t.x.value ≡ true) t.property a.rows);
+          primitive = subst HavePrimitiveRows t.value a.primitive;
+        }

@@ -1,0 +1,132 @@
+// Data files of objects.
+
+ghost use Rattle.pm_filing.specs.Filing.{failure_of, found_names, is_found, is_own_found, mark_written, own, property_with_value, saved_file};
+ghost use Rattle.pm_files.specs.Files.{file_bytes};
+ghost use Rattle.pm_filing.specs.ReadingViews.{marks_seen};
+ghost use Rattle.pm_files.specs.Views.{file_of};
+ghost use Rattle.pm_object.specs.Views.{held_seen};
+ghost use Rattle.pm_filing.specs.Views.{value_seen};
+ghost use Rattle.std.specs.Prelude.{IfOk, OnOk, flat_map, map, ◌++◌, ◌≡◌};
+
+use pm_files::{FileObject, object_bytes};
+use pm_object::{Excluded, Held, Object, Origin, Why};
+use pm_rules::Book;
+use pm_types::{PropId, PropSet, Value};
+use std::alloc::{AllocError, Global};
+
+/// Copies of the values of the object itself.
+fn own_values(alloc: Global, held: &[Held]) -> Result<Vec<(PropId, Value)>, AllocError>
+    ensures { IfOk result (λ values. map value_seen values.items
+        ≡ map property_with_value (own (map held_seen held.now))) }
+{
+    let mut values = Vec::new(alloc);
+    for h in held {
+        if h.place.is_none() {
+            values.push((h.id, h.value.copy(alloc)?))?;
+        }
+    }
+    Ok(values)
+}
+
+/// Whether a rule computed the value, in this run or an earlier one.
+fn is_found(origin: Origin) -> bool
+    ensures { result ≡ is_found origin }
+{
+    match origin {
+        Origin::Given => false,
+        Origin::Stored | Origin::Computed => true,
+    }
+}
+
+/// Whether it is a value of the object itself that a rule computed.
+fn is_own_found(h: &Held) -> bool
+    ensures { result ≡ is_own_found (held_seen h.now) }
+{
+    h.place.is_none() && is_found(h.origin)
+}
+
+/// The names of the values of the object itself that rules computed.
+fn found_names(held: &[Held]) -> PropSet
+    ensures { result ≡ found_names (map held_seen held.now) }
+{
+    let mut names = PropSet::empty();
+    for h in held {
+        if is_own_found(h) {
+            names = names.with(h.id);
+        }
+    }
+    names
+}
+
+/// The number of the evidence of a failure.
+fn failure_of(why: &Why) -> Option<u8>
+    ensures { result ≡ failure_of why.now }
+{
+    match why {
+        Why::Failed(evidence) => Some(evidence.number()),
+        Why::False(_) => None,
+        Why::Stored(k) => Some(*k),
+    }
+}
+
+/// Puts the mark of a rule that failed for the object itself behind the others.
+fn push_mark(
+    alloc: Global,
+    failed: &mut Vec<(String, u8)>,
+    book: &Book,
+    e: &Excluded,
+) -> Result<(), AllocError>
+    ensures { OnOk result (marks_seen failed.new.items
+        ≡ marks_seen failed.old.items ++ mark_written book.now e.now) }
+{
+    if e.sub.is_some() {
+        return Ok(());
+    }
+    let Some(k) = failure_of(&e.why) else {
+        return Ok(());
+    };
+    let Some(rule) = book.rule(e.rule) else {
+        return Ok(());
+    };
+    let label = String::from_str(alloc, rule.label.as_str())?;
+    failed.push((label, k))?;
+    Ok(())
+}
+
+/// The marks of rules that failed for the object itself.
+fn marks_of(
+    alloc: Global,
+    book: &Book,
+    excluded: &[Excluded],
+) -> Result<Vec<(String, u8)>, AllocError>
+    ensures { IfOk result (λ failed. marks_seen failed.items
+        ≡ flat_map (mark_written book.now) excluded.now) }
+{
+    let mut failed = Vec::new(alloc);
+    for e in excluded {
+        push_mark(alloc, &mut failed, book, e)?;
+    }
+    Ok(failed)
+}
+
+/// What a file holds of an object: its values, which of them rules computed, and the rules of the book that failed.
+fn file_object(alloc: Global, book: &Book, object: &Object) -> Result<FileObject, AllocError>
+    ensures { IfOk result (λ f. file_of f ≡ saved_file book.now object.now.state) }
+{
+    Ok(FileObject {
+        of: object.of(),
+        values: own_values(alloc, object.held())?,
+        stored: found_names(object.held()),
+        failed: marks_of(alloc, book, object.excluded())?,
+        programs: Vec::new(alloc),
+        ignored: Vec::new(alloc),
+    })
+}
+
+/// The bytes of the data file of an object.
+pub fn save_object(alloc: Global, book: &Book, object: &Object) -> Result<Vec<u8>, AllocError>
+    ensures { IfOk result (λ bytes. bytes.items ≡ file_bytes (saved_file book.now object.now.state)) }
+{
+    let file = file_object(alloc, book, object)?;
+    object_bytes(alloc, &file)
+}
