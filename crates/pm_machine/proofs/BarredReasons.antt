@@ -38,6 +38,7 @@ mapped_some f (Some a) = refl
 
 some_reason : (excluded : Option Why) (wrong : Option PropId) (disabled served : Bool) → is_some (first_reason excluded wrong disabled served) ≡ (is_some excluded || is_some wrong || disabled || not served)
 some_reason (Some (why.Failed evidence)) wrong disabled served = refl
+some_reason (Some (why.Stored k)) wrong disabled served = refl
 some_reason (Some (why.False p)) (Some q) disabled served = refl
 some_reason (Some (why.False p)) None disabled served = refl
 some_reason None (Some q) disabled served = refl

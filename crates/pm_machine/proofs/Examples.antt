@@ -3,9 +3,15 @@ use Rattle.pm_machine.proofs.Kept.{some_not_none}
 use Rattle.pm_machine.proofs.Running.{first_is}
 use Rattle.pm_machine.specs.Events.{end_by, over}
 use Rattle.pm_props.specs.declared.property.PropId.TheVariants.{FullDim, Pointed}
-use Rattle.std.proofs.Common.{ap, arith, false, refl, sym, ◌∙◌}
-use Rattle.std.specs.Prelude.{Some, [], ◌∷◌}
-use Rattle.pm_machine.specs.Examples.{AnswersAreRead, ConditionsAreRead, EventsAreRead, ExclusionsAreRead, ObjectsAreRead, fifth, given, two, under}
+use Rattle.pm_machine.specs.Steps.{Files, HasBytes, HasNone, LoadStep, Machine, SaveStep, bytes_of}
+use Rattle.pm_object.specs.State.{State}
+use Rattle.pm_rules.specs.declared.rule.Rule.{Rule}
+use Rattle.pm_script.specs.Replies.{done, loaded, nothing, refused}
+use Rattle.pm_script.specs.declared.refusal.Refusal.TheVariants.{NoSuchFile}
+use Rattle.pm_store.specs.Files.{AreTold, IsPut, file_of}
+use Rattle.std.proofs.Common.{ap, arith, false, refl, subst, sym, ◌∙◌}
+use Rattle.std.specs.Prelude.{List, Some, [], codes, ℕ, ◌∷◌, ◌≡◌}
+use Rattle.pm_machine.specs.Examples.{AnswersAreRead, ConditionsAreRead, EventsAreRead, ExclusionsAreRead, FilesAreKept, ObjectsAreRead, fifth, given, one_file, two, under}
 use Rattle.pm_props.specs.Sets.{has, only, union}
 
 pub events_are_read : EventsAreRead
@@ -82,4 +88,30 @@ answers_are_read = record {
   no_other = λ book old new asked h. h;
   no_other_reason = λ book clients o asked h. h;
   explain_names = λ book clients o asked chain weight rows names h. h.3;
+}
+
+-- ---- files
+none_told : (book : List Rule) (old new : Machine) (name : List ℕ) (names : List (List ℕ)) → old.store ≡ one_file (codes "g") [] → LoadStep book old name (codes "f") (loaded names) new → ⊥
+none_told book old new name names is h = some_not_none (sym (subst (λ k. HasBytes k (codes "f") h.1) is h.2))
+
+one_told : (book : List Rule) (old new : Machine) (name : List ℕ) → old.store ≡ one_file (codes "f") [] → LoadStep book old name (codes "f") (refused NoSuchFile nothing) new → ⊥
+one_told book old new name is (free, none, l) = some_not_none (subst (λ k. HasNone k (codes "f")) is none)
+
+written_told : (book : List Rule) (old new : Machine) (name : List ℕ) → old.store ≡ one_file (codes "f") [] → SaveStep book old name (codes "f") done new
+    → (o : State) × (all : Files) × (old.object name ≡ Some o) × (new.store.files ≡ Some all) × (file_of all (codes "f") ≡ Some (bytes_of book o))
+written_told book old new name is (o, at, short, p) =
+    let told = subst (λ k. AreTold (IsPut (codes "f") (bytes_of book o)) k.files new.store.files) is p.files in
+    (o, told.0, at, told.1, told.2.0)
+
+pub files_are_kept : FilesAreKept
+files_are_kept = record {
+  is_of_file = λ book old new name file names h. (h.3, h.6.object);
+  not_over = λ book old new name file names over h. over h.0.0;
+  not_of_nothing = none_told;
+  it_is_there = one_told;
+  not_in_between = λ book old new name file h. h;
+  has_bytes = written_told;
+  objects_stay = λ book old new name file q h. h.3.objects q;
+  no_object = λ book old new name file none h. some_not_none (sym h.1 ∙ none);
+  it_failed = λ book old new name file h. h.3;
 }

@@ -5,18 +5,19 @@ use Rattle.pm_machine.specs.declared.round.Ending.{Ending}
 use Rattle.pm_machine.specs.declared.round.Ending.TheVariants as ending
 use Rattle.pm_machine.specs.Events.{Configuration, Ensured, EnsuredInPart, at_rest, configuration, unsettled}
 use Rattle.pm_machine.specs.Parts.{AllHonest, IsSettled, StepInPart}
-use Rattle.pm_machine.specs.Steps.{AllKept, Becomes, CopyStep, DisableStep, DropStep, EnsureStep, EnsuredAll, Ensures, ExplainStep, ExplainedAll, Gave, Given, GiveStep, Gives, HistoryStep, LookupStep, Machine, NewStep, OriginStep, RulesStep, Stays, Step, TakeStep, TakeValue, UnloadStep, disabling, given_value, object_at, whole_of, no_json, faulty, value}
+use Rattle.pm_machine.specs.Steps.{AllKept, Becomes, CopyStep, DisableStep, DropStep, EnsureStep, EnsuredAll, Ensures, ExplainStep, ExplainedAll, Gave, Given, Files, GiveStep, Gives, HistoryStep, LoadStep, Looks, LookupStep, Machine, NewStep, OriginStep, Puts, RulesStep, SaveStep, Stays, Step, TakeStep, TakeValue, UnloadStep, disabling, given_value, object_at, whole_of, no_json, faulty, value}
 use Rattle.pm_object.proofs.Formed.{only}
-use Rattle.pm_object.proofs.Honesty.{empty_is_kept, given_is_kept, honesty_is_of_values, settled_is_kept}
-use Rattle.pm_object.specs.Honest.{IsHonest, IsKept}
+use Rattle.pm_object.proofs.Honesty.{based_is_kept, empty_is_kept, honesty_is_of_values, settled_is_kept, unsealed_has_no_rounds}
+use Rattle.pm_object.specs.Honest.{IsHonest, IsKept, is_based}
 use Rattle.pm_object.specs.State.{HeldValue, State, is_disabled, is_held, is_sealed, read_at, take_refusal, with_disabled}
-use Rattle.pm_object.specs.declared.held.Origin.TheVariants.{Given as Given'}
 use Rattle.pm_object.specs.declared.held.TakeFail.{TakeFail}
 use Rattle.pm_object.specs.declared.held.TakeFail.TheVariants as fail
 use Rattle.pm_rules.specs.declared.rule.Rule.{Rule}
-use Rattle.pm_script.specs.Commands.{RefSeen, Spoken, blank, new_object, take_value, give_value, look_up, ensure_values, explain_values, tell_history, show_rules, disable_rule, unload_client, copy_object, drop_object, tell_origin}
-use Rattle.pm_script.specs.Replies.{ReplySeen, done, ensured, explained, lists_rules, nothing, planned, refused, shows, tells, tells_origin, undef}
-use Rattle.pm_script.specs.declared.refusal.Refusal.TheVariants.{UnknownName, NameTaken, UnknownType, UnknownProperty, BadValue, AlreadyHeld, Sealed, ObjectsFull, NoChain, Crowded, UnknownRule}
+use Rattle.pm_script.specs.Commands.{RefSeen, Spoken, blank, new_object, take_value, give_value, look_up, ensure_values, explain_values, tell_history, show_rules, disable_rule, unload_client, copy_object, drop_object, tell_origin, load_object, save_object}
+use Rattle.pm_script.specs.Replies.{ReplySeen, done, ensured, explained, lists_rules, loaded, nothing, planned, refused, shows, tells, tells_origin, undef}
+use Rattle.pm_script.specs.declared.refusal.Refusal.TheVariants.{UnknownName, NameTaken, UnknownType, UnknownProperty, BadValue, AlreadyHeld, Sealed, ObjectsFull, NoChain, Crowded, StoreFault, BadFile, NoSuchFile, UnknownRule, NotFit}
+use Rattle.pm_script.specs.declared.refusal.Condition.TheVariants as condition
+use Rattle.pm_filing.proofs.Loaded.{loaded_is_kept}
 use Rattle.pm_props.specs.Sets.{only as only_property}
 use Rattle.pm_types.specs.Values.{PropertyValue}
 use Rattle.pm_props.specs.declared.property.PropId.{PropId}
@@ -46,6 +47,9 @@ with_one name o old new is others kept all = record {
   ];
 }
 
+looks_kept : (old new : Machine) → Looks old new → AllKept old → AllKept new
+looks_kept old new l all = record { each = λ q. subst (λ z. IfSome z IsKept) (sym (l.objects q)) (all.each q) }
+
 becomes_kept : (name : List ℕ) (c : Configuration) (old new : Machine) → Becomes name c old new → IsKept c.object → AllKept old → AllKept new
 becomes_kept name c old new b kept all = with_one name c.object old new b.object b.others kept all
 
@@ -68,16 +72,6 @@ object_is m ref o e = by ref.sub e
 pub kept_at : (m : Machine) (ref : RefSeen) (o : State) → object_at m ref ≡ Some o → AllKept m → IsKept o
 kept_at m ref o e all = subst (λ z. IfSome z IsKept) (object_is m ref o e) (all.each ref.name)
 
-more_than_0 : (n : ℕ) → nat_eq (suc n) 0 ≡ false
-more_than_0 n = grind arith
-
-not_sealed : (o : State) → is_sealed o ≡ false → o.rounds ≡ []
-not_sealed o e = by o.rounds e
-  where
-    by : {X : Type 0} (rounds : List X) → not (nat_eq (length rounds) 0) ≡ false → rounds ≡ []
-    by [] e = refl
-    by (r ∷ rounds) e = absurd (true≢false (sym (ap not (more_than_0 (length rounds))) ∙ e))
-
 refusal_unsealed : (o : State) (p : PropId) (v : PropertyValue) → take_refusal o p v ≡ None → is_sealed o ≡ false
 refusal_unsealed o p v e = by _ (is_held p (read_at None o.held)) (is_sealed o) e
   where
@@ -91,8 +85,8 @@ taken_unsealed o p no_json v h = absurd h
 taken_unsealed o p (faulty e) v h = absurd h
 taken_unsealed o p (value w) v h = refusal_unsealed o p w h.1.0
 
-one_given : (p : PropId) (v : PropertyValue) (h : HeldValue) → Contains (given_value p v ∷ []) h → h.origin ≡ Given'
-one_given p v h i = ap (λ (z : HeldValue). z.origin) (only (among_Contains (given_value p v ∷ []) i))
+one_given : (p : PropId) (v : PropertyValue) (h : HeldValue) → Contains (given_value p v ∷ []) h → is_based h.origin ≡ true
+one_given p v h i = ap (λ (z : HeldValue). is_based z.origin) (only (among_Contains (given_value p v ∷ []) i))
 
 new_keeps : (old new : Machine) (ref : RefSeen) (text : List ℕ) (reply : ReplySeen) → NewStep old ref text reply new → AllKept old → AllKept new
 new_keeps old new ref text (refused UnknownType nothing) (h, s) all = stays_kept old new s all
@@ -106,7 +100,7 @@ take_keeps old new ref text json (refused UnknownName nothing) (h, s) all = stay
 take_keeps old new ref text json (refused UnknownProperty nothing) (o, h, k, s) all = stays_kept old new s all
 take_keeps old new ref text json done (o, at, p, named, v, taken, becomes) all =
     becomes_kept ref.name _ old new becomes
-    (given_is_kept o (given_value p v ∷ []) (not_sealed o (taken_unsealed o p _ v taken)) (one_given p v) (kept_at old ref o at all)) all
+    (based_is_kept o (given_value p v ∷ []) (unsealed_has_no_rounds o (taken_unsealed o p _ v taken)) (one_given p v) (kept_at old ref o at all)) all
 take_keeps old new ref text json (refused AlreadyHeld nothing) (o, at, p, named, taken, s) all = stays_kept old new s all
 take_keeps old new ref text json (refused Sealed nothing) (o, at, p, named, taken, s) all = stays_kept old new s all
 take_keeps old new ref text json (refused (BadValue why) nothing) (o, at, p, named, taken, s) all = stays_kept old new s all
@@ -176,7 +170,7 @@ disabled_kept o label kept = by (is_disabled label o.disabled)
   where
     by : (t : Bool) → IsKept (if t then o else with_disabled o label)
     by true = kept
-    by false = record { honest = honesty_is_of_values o (with_disabled o label) refl refl kept.honest; given = kept.given }
+    by false = record { honest = honesty_is_of_values o (with_disabled o label) refl refl kept.honest; based = kept.based }
 
 disable_keeps : (book : List Rule) (old new : Machine) (name label : List ℕ) (reply : ReplySeen) → DisableStep book old name label reply new → AllKept old → AllKept new
 disable_keeps book old new name label (refused UnknownName nothing) (h, s) all = stays_kept old new s all
@@ -218,6 +212,25 @@ rules_keep : (book : List Rule) (old new : Machine) (reply : ReplySeen) → Rule
 rules_keep book old new (lists_rules n text) (h, k, s) all = stays_kept old new s all
 rules_keep book old new reply h all = absurd h
 
+load_keeps : (book : List Rule) (old new : Machine) (name file : List ℕ) (reply : ReplySeen) → LoadStep book old name file reply new → AllKept old → AllKept new
+load_keeps book old new name file (refused NameTaken nothing) (h, s) all = stays_kept old new s all
+load_keeps book old new name file (refused ObjectsFull nothing) (h, k, s) all = stays_kept old new s all
+load_keeps book old new name file (refused StoreFault nothing) (h, k, l) all = looks_kept old new l all
+load_keeps book old new name file (refused NoSuchFile nothing) (h, k, l) all = looks_kept old new l all
+load_keeps book old new name file (refused (BadFile why) nothing) (h, bytes, has, e, no_file, is, l) all = looks_kept old new l all
+load_keeps book old new name file (loaded names) (h, bytes, has, f, reads, over, g) all = with_one name _ old new g.object g.others (loaded_is_kept book f) all
+load_keeps book old new name file reply h all = absurd h
+
+puts_kept : (Did : Files → Files → Type 0) (old new : Machine) → Puts Did old new → AllKept old → AllKept new
+puts_kept Did old new p all = record { each = λ q. subst (λ z. IfSome z IsKept) (sym (p.objects q)) (all.each q) }
+
+save_keeps : (book : List Rule) (old new : Machine) (name file : List ℕ) (reply : ReplySeen) → SaveStep book old name file reply new → AllKept old → AllKept new
+save_keeps book old new name file (refused UnknownName nothing) (h, s) all = stays_kept old new s all
+save_keeps book old new name file (refused (NotFit condition.Size) nothing) (o, at, long, s) all = stays_kept old new s all
+save_keeps book old new name file (refused StoreFault nothing) (o, at, short, fails, p) all = puts_kept _ old new p all
+save_keeps book old new name file done (o, at, short, p) all = puts_kept _ old new p all
+save_keeps book old new name file reply h all = absurd h
+
 pub steps_keep : (book : List Rule) (old new : Machine) (command : Spoken) (reply : ReplySeen) → Step book old command reply new → AllKept old → AllKept new
 steps_keep book old new blank reply h all = absurd h
 steps_keep book old new (new_object ref text) reply h all = new_keeps old new ref text reply h all
@@ -233,6 +246,8 @@ steps_keep book old new (unload_client name) reply h all = unload_keeps old new 
 steps_keep book old new (copy_object name to) reply h all = copy_keeps old new name to reply h all
 steps_keep book old new (drop_object name) reply h all = drop_keeps old new name reply h all
 steps_keep book old new (tell_origin ref text) reply h all = origin_keeps old new ref text reply h all
+steps_keep book old new (load_object name file) reply h all = load_keeps book old new name file reply h all
+steps_keep book old new (save_object name file) reply h all = save_keeps book old new name file reply h all
 
 -- ---- a step that was broken off
 honest_of : (x : Option State) → IfSome x IsKept → IfSome x IsHonest
@@ -277,3 +292,6 @@ steps_in_part_keep book old new (unload_client name) s all = stays_honest old ne
 steps_in_part_keep book old new (copy_object name to) s all = stays_honest old new s all
 steps_in_part_keep book old new (drop_object name) s all = stays_honest old new s all
 steps_in_part_keep book old new (tell_origin ref text) s all = stays_honest old new s all
+steps_in_part_keep book old new (load_object name file) l all = all_honest new (looks_kept old new l all)
+steps_in_part_keep book old new (save_object name file) (inl s) all = stays_honest old new s all
+steps_in_part_keep book old new (save_object name file) (inr (o, at, p)) all = all_honest new (puts_kept _ old new p all)

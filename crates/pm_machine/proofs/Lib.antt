@@ -2,6 +2,8 @@ pub mod Traces
 pub mod Kept
 pub mod Barred
 pub mod BarredReasons
+pub mod Beside
+pub mod Faults
 pub mod Running
 pub mod Measure
 pub mod Moves

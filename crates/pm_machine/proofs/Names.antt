@@ -2,13 +2,13 @@
 use Rattle.pm_client.specs.Starts.{Clients}
 use Rattle.pm_props.specs.declared.object_type.ObjectType.{ObjectType}
 use Rattle.pm_machine.proofs.Kept.{all_honest, steps_in_part_keep, steps_keep}
+use Rattle.pm_machine.proofs.Beside.{looks_of_stays}
 use Rattle.pm_machine.specs.Chains.{AreBarred, held_names, table}
 use Rattle.pm_machine.specs.Events.{Configuration, Ensured, EnsuredInPart, at_rest, configuration}
 use Rattle.pm_machine.specs.declared.round.Ending.{Ending}
 use Rattle.pm_machine.specs.declared.round.Ending.TheVariants as ending
 use Rattle.pm_machine.specs.Parts.{AllHonest, StepInPart}
 use Rattle.pm_machine.specs.Reasons.{AreReasons}
-use Rattle.pm_machine.specs.Sessions.{no_files}
 use Rattle.pm_machine.specs.Steps.{AllKept, Becomes, DisableStep, EnsureStep, Ensures, ExplainStep, Explains, Gains, Given, GiveStep, Gives, Loses, Machine, Stays, Step, TakeStep, TakeValue, Taken, asked_in, disabling, faulty, given_by, has_label, later_rounds, named_rounds, no_json, property_named, rounds_beside, rule_names, settled_object, value, whole_of, without_name}
 use Rattle.pm_object.proofs.Names.{names_held}
 use Rattle.pm_object.specs.State.{ObjectSeen, RoundSeen, State, is_held, read_at, value_of}
@@ -17,11 +17,11 @@ use Rattle.pm_object.specs.declared.held.Round.{Round}
 use Rattle.pm_plan.specs.Plans.{HasNoPlan, IsCrowded, IsPlan}
 use Rattle.pm_rules.specs.declared.rule.Rule.{Rule}
 use Rattle.pm_rules.specs.declared.table.TableRow.{TableRow}
-use Rattle.pm_script.specs.Commands.{RefSeen, Spoken, blank, new_object, take_value, give_value, look_up, ensure_values, explain_values, tell_history, show_rules, disable_rule, unload_client, copy_object, drop_object, tell_origin}
-use Rattle.pm_script.specs.Replies.{NamesSeen, Remarks, ReplySeen, Rounds, done, ensured, explained, lists_rules, nothing, planned, refused, remarks, shows, tells, tells_origin, told, undef}
+use Rattle.pm_script.specs.Commands.{RefSeen, Spoken, blank, new_object, take_value, give_value, look_up, ensure_values, explain_values, tell_history, show_rules, disable_rule, unload_client, copy_object, drop_object, tell_origin, load_object, save_object}
+use Rattle.pm_script.specs.Replies.{NamesSeen, Remarks, ReplySeen, Rounds, done, ensured, explained, lists_rules, nothing, planned, refused, remarks, shows, tells, tells_origin, told, undef, loaded}
 use Rattle.pm_script.specs.declared.names.Bar.{Bar}
 use Rattle.pm_script.specs.declared.refusal.Refusal.{Refusal}
-use Rattle.pm_script.specs.declared.refusal.Refusal.TheVariants.{BadCommand, UnknownName, NameTaken, UnknownType, UnknownProperty, BadValue, AlreadyHeld, Sealed, ObjectsFull, NoChain, Crowded, LineTooLong, UnknownRule}
+use Rattle.pm_script.specs.declared.refusal.Refusal.TheVariants.{BadCommand, UnknownName, NameTaken, UnknownType, UnknownProperty, BadValue, AlreadyHeld, Sealed, ObjectsFull, NoChain, Crowded, LineTooLong, UnknownRule, StoreFault, BadFile, NoSuchFile, NotFit}
 use Rattle.pm_props.proofs.Members.{has-only}
 use Rattle.pm_props.specs.Properties.{number}
 use Rattle.pm_props.specs.Sets.{has, only}
@@ -71,7 +71,7 @@ names_in m = map string_bytes (keys m)
 
 -- the machine of such objects
 abbrev pub machine_with : List (List ℕ) → (List ℕ → Option State) → Clients → Machine
-machine_with names object clients = record { names = names; object = object; clients = clients; store = no_files }
+machine_with names object clients = record { names = names; object = object; clients = clients; store = record { files = Some []; faults = 0 } }
 
 -- the object of a name became another
 pub record IsWritten (ns ms : List (List ℕ)) (old new : List ℕ → Option State) (name : List ℕ) (o o' : State) : Type 0 where
@@ -197,8 +197,20 @@ not_taken o p NoChain (value v) e h = h
 not_taken o p Crowded no_json e h = h
 not_taken o p Crowded (faulty f) e h = h
 not_taken o p Crowded (value v) e h = h
+not_taken o p StoreFault no_json e h = h
+not_taken o p (BadFile y) no_json e h = h
+not_taken o p NoSuchFile no_json e h = h
+not_taken o p (NotFit y) no_json e h = h
 not_taken o p LineTooLong no_json e h = h
+not_taken o p StoreFault (faulty f) e h = h
+not_taken o p (BadFile y) (faulty f) e h = h
+not_taken o p NoSuchFile (faulty f) e h = h
+not_taken o p (NotFit y) (faulty f) e h = h
 not_taken o p LineTooLong (faulty f) e h = h
+not_taken o p StoreFault (value v) e h = h
+not_taken o p (BadFile y) (value v) e h = h
+not_taken o p NoSuchFile (value v) e h = h
+not_taken o p (NotFit y) (value v) e h = h
 not_taken o p LineTooLong (value v) e h = h
 not_taken o p UnknownRule no_json e h = h
 not_taken o p UnknownRule (faulty f) e h = h
@@ -251,6 +263,10 @@ module _ {ns ms : List (List ℕ)} {old new : List ℕ → Option State} {name :
         by ObjectsFull h = absurd (not_taken o p ObjectsFull (given_by p (read json)) refl h)
         by NoChain h = absurd (not_taken o p NoChain (given_by p (read json)) refl h)
         by Crowded h = absurd (not_taken o p Crowded (given_by p (read json)) refl h)
+        by StoreFault h = absurd (not_taken o p StoreFault (given_by p (read json)) refl h)
+        by (BadFile y) h = absurd (not_taken o p (BadFile y) (given_by p (read json)) refl h)
+        by NoSuchFile h = absurd (not_taken o p NoSuchFile (given_by p (read json)) refl h)
+        by (NotFit y) h = absurd (not_taken o p (NotFit y) (given_by p (read json)) refl h)
         by LineTooLong h = absurd (not_taken o p LineTooLong (given_by p (read json)) refl h)
         by UnknownRule h = absurd (not_taken o p UnknownRule (given_by p (read json)) refl h)
 
@@ -281,6 +297,7 @@ module _ {ns ms : List (List ℕ)} {old new : List ℕ → Option State} {name :
         by (explained chain weight rows names) e = absurd e
         by (tells t excluded) e = absurd e
         by (lists_rules n t) e = absurd e
+        by (loaded names) e = absurd e
         by (tells_origin g) e = absurd e
         by undef e = absurd e
         by (refused BadCommand more) e = absurd e
@@ -292,6 +309,10 @@ module _ {ns ms : List (List ℕ)} {old new : List ℕ → Option State} {name :
         by (refused AlreadyHeld more) e = absurd e
         by (refused Sealed more) e = absurd e
         by (refused ObjectsFull more) e = absurd e
+        by (refused StoreFault more) e = absurd e
+        by (refused (BadFile y) more) e = absurd e
+        by (refused NoSuchFile more) e = absurd e
+        by (refused (NotFit y) more) e = absurd e
         by (refused LineTooLong more) e = absurd e
         by (refused UnknownRule more) e = absurd e
 
@@ -332,6 +353,7 @@ module _ {ns ms : List (List ℕ)} {old new : List ℕ → Option State} {name :
         by (explained chain weight rows names) e = absurd e
         by (tells t excluded) e = absurd e
         by (lists_rules n t) e = absurd e
+        by (loaded names) e = absurd e
         by (tells_origin g) e = absurd e
         by undef e = absurd e
         by (refused BadCommand more) e = absurd e
@@ -343,6 +365,10 @@ module _ {ns ms : List (List ℕ)} {old new : List ℕ → Option State} {name :
         by (refused AlreadyHeld more) e = absurd e
         by (refused Sealed more) e = absurd e
         by (refused ObjectsFull more) e = absurd e
+        by (refused StoreFault more) e = absurd e
+        by (refused (BadFile y) more) e = absurd e
+        by (refused NoSuchFile more) e = absurd e
+        by (refused (NotFit y) more) e = absurd e
         by (refused LineTooLong more) e = absurd e
         by (refused UnknownRule more) e = absurd e
 
@@ -375,6 +401,7 @@ module _ {ns ms : List (List ℕ)} {old new : List ℕ → Option State} {name :
         by done e = absurd e
         by (tells t excluded) e = absurd e
         by (lists_rules n t) e = absurd e
+        by (loaded names) e = absurd e
         by (tells_origin g) e = absurd e
         by undef e = absurd e
         by (refused BadCommand more) e = absurd e
@@ -386,6 +413,10 @@ module _ {ns ms : List (List ℕ)} {old new : List ℕ → Option State} {name :
         by (refused AlreadyHeld more) e = absurd e
         by (refused Sealed more) e = absurd e
         by (refused ObjectsFull more) e = absurd e
+        by (refused StoreFault more) e = absurd e
+        by (refused (BadFile y) more) e = absurd e
+        by (refused NoSuchFile more) e = absurd e
+        by (refused (NotFit y) more) e = absurd e
         by (refused LineTooLong more) e = absurd e
         by (refused UnknownRule more) e = absurd e
 
@@ -447,6 +478,8 @@ stays_in_part book old new (unload_client name) s = s
 stays_in_part book old new (copy_object name to) s = s
 stays_in_part book old new (drop_object name) s = s
 stays_in_part book old new (tell_origin ref text) s = s
+stays_in_part book old new (load_object name file) s = looks_of_stays old new s
+stays_in_part book old new (save_object name file) s = inl s
 
 pub kept_if_ok : {E F : Type 0} (view : F → ReplySeen) (book : List Rule) (old new : Machine) (command : Spoken) (r : Result F E)
     → IfOk r (λ x. Step book old command (view x) new) → OnOk r (AllKept old → AllKept new)

@@ -91,7 +91,7 @@ event_keeps book sub asked (running chain id left) c (committed answer) may hone
 event_keeps book sub asked (running chain id left) c (excluded e) may honest = honesty_is_of_values c.object _ refl refl honest
 event_keeps book sub asked (over chain e) c (written r) may honest = record {
   honest = honesty_is_of_values c.object (with_round c.object r) refl refl honest;
-  given = λ none. absurd (not_empty c.object.rounds r none);
+  based = λ none. absurd (not_empty c.object.rounds r none);
 }
 event_keeps book sub asked phase c e may stands = absurd may
 

@@ -78,6 +78,7 @@ turns chain (id ∷ left) = turn chain id left
 abbrev pub end_by : RuleId → Why → RoundEnd
 end_by id (why.Failed evidence) = end.Failed id (evidence_number evidence)
 end_by id (why.False p) = end.False id p
+end_by id (why.Stored k) = end.Failed id k
 
 -- the phase after an event
 abbrev pub phase_after : Phase → Event → Phase

@@ -15,10 +15,14 @@ use Rattle.pm_script.specs.declared.names.Bar.TheVariants as bar
 use Rattle.pm_props.specs.Sets.{set_of}
 use Rattle.pm_types.specs.Values.{Fact, truth, whole}
 use Rattle.pm_client.specs.Starts.{Clients}
-use Rattle.pm_machine.specs.Steps.{CopyStep, DropStep, Ensures, Explains, Gives, Machine, asked_in, later_rounds, origin_of, rule_names, settled_object, without_name}
+use Rattle.pm_files.specs.Files.{SavedFile}
+use Rattle.pm_filing.specs.Filing.{loaded_object}
+use Rattle.pm_store.specs.Files.{file_of}
+use Rattle.pm_store.specs.Outside.{Rose}
+use Rattle.pm_machine.specs.Steps.{CopyStep, DropStep, Ensures, Explains, Files, Gives, LoadStep, Machine, SaveStep, Store, bytes_of, asked_in, later_rounds, origin_of, rule_names, settled_object, without_name}
 use Rattle.pm_rules.specs.declared.table.TableRow.{TableRow}
-use Rattle.pm_script.specs.Replies.{NamesSeen, Remarks, done, explained, nothing, refused, remarks}
-use Rattle.pm_script.specs.declared.refusal.Refusal.TheVariants.{Crowded, NoChain, ObjectsFull, UnknownName}
+use Rattle.pm_script.specs.Replies.{NamesSeen, Remarks, done, explained, loaded, nothing, refused, remarks}
+use Rattle.pm_script.specs.declared.refusal.Refusal.TheVariants.{Crowded, NoChain, NoSuchFile, ObjectsFull, StoreFault, UnknownName}
 use Rattle.pm_weights.specs.declared.Cost.{Cost}
 use lib.IntN.{pos}
 use Rattle.pm_props.specs.declared.kind.Kind.{Kind}
@@ -102,6 +106,7 @@ pub record ConditionsAreRead : Type 0 where
 -- why a rule is barred: the first reason of several counts
 pub record ReasonsAreRead : Type 0 where
   pub failed_first : first_reason (Some (why.Failed (E4 [] []))) (Some Pointed) true false ≡ Some (bar.Failed 4)
+  pub failed_earlier : first_reason (Some (why.Stored 2)) (Some Pointed) true false ≡ Some (bar.Failed 2)
   pub wrong_now : first_reason (Some (why.False FullDim)) (Some Pointed) true true ≡ Some (bar.False Pointed)
   pub wrong_then : first_reason (Some (why.False FullDim)) None true true ≡ Some (bar.False FullDim)
   pub wrong_first : first_reason None (Some Pointed) true false ≡ Some (bar.False Pointed)
@@ -159,3 +164,22 @@ pub record AnswersAreRead : Type 0 where
   pub no_other_reason : (book : List Rule) (clients : Clients) (o : State) (asked : PropSet) → Explains book clients o asked (refused UnknownName nothing) → ⊥
   -- the labels are those of the book
   pub explain_names : (book : List Rule) (clients : Clients) (o : State) (asked : PropSet) (chain : List RuleId) (weight : Cost) (rows : List TableRow) (names : NamesSeen) → Explains book clients o asked (explained chain weight rows names) → names ≡ rule_names book
+
+-- a store that tells this one file
+abbrev pub one_file : List ℕ → List ℕ → Store
+one_file name bytes = record { files = Some ((name, bytes) ∷ []); faults = 0 }
+
+-- what `load` and `save` change, and when they are not done
+pub record FilesAreKept : Type 0 where
+  -- the object is that of a file that the bytes are read as
+  pub is_of_file : (book : List Rule) (old new : Machine) (name file : List ℕ) (names : List (List ℕ)) → LoadStep book old name file (loaded names) new → (f : SavedFile) × (new.object name ≡ Some (loaded_object book f))
+  pub not_over : (book : List Rule) (old new : Machine) (name file : List ℕ) (names : List (List ℕ)) → old.object name ≢ None → LoadStep book old name file (loaded names) new → ⊥
+  pub not_of_nothing : (book : List Rule) (old new : Machine) (name : List ℕ) (names : List (List ℕ)) → old.store ≡ one_file (codes "g") [] → LoadStep book old name (codes "f") (loaded names) new → ⊥
+  pub it_is_there : (book : List Rule) (old new : Machine) (name : List ℕ) → old.store ≡ one_file (codes "f") [] → LoadStep book old name (codes "f") (refused NoSuchFile nothing) new → ⊥
+  pub not_in_between : (book : List Rule) (old new : Machine) (name file : List ℕ) → LoadStep book old name file done new → ⊥
+  -- the file has the bytes of the object, and the objects stay
+  pub has_bytes : (book : List Rule) (old new : Machine) (name : List ℕ) → old.store ≡ one_file (codes "f") [] → SaveStep book old name (codes "f") done new
+      → (o : State) × (all : Files) × (old.object name ≡ Some o) × (new.store.files ≡ Some all) × (file_of all (codes "f") ≡ Some (bytes_of book o))
+  pub objects_stay : (book : List Rule) (old new : Machine) (name file q : List ℕ) → SaveStep book old name file done new → new.object q ≡ old.object q
+  pub no_object : (book : List Rule) (old new : Machine) (name file : List ℕ) → old.object name ≡ None → SaveStep book old name file done new → ⊥
+  pub it_failed : (book : List Rule) (old new : Machine) (name file : List ℕ) → SaveStep book old name file (refused StoreFault nothing) new → Rose old.store.faults new.store.faults

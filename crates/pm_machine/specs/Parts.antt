@@ -1,11 +1,12 @@
 -- What stands where memory ran out in a command: a first part of its events, maybe none or all.
 use Rattle.std.specs.Prelude.{◌≡◌, ◌⊎◌, List, ℕ, None, Some, IfSome}
 use Rattle.pm_machine.specs.Events.{Configuration, EnsuredInPart, configuration}
-use Rattle.pm_machine.specs.Steps.{Becomes, Machine, Stays, asked_in, object_at, property_named, settled_object}
+use Rattle.pm_machine.specs.Steps.{Becomes, Looks, Machine, Puts, Stays, bytes_of, asked_in, object_at, property_named, settled_object}
 use Rattle.pm_object.specs.Honest.{IsHonest}
 use Rattle.pm_object.specs.State.{State}
 use Rattle.pm_rules.specs.declared.rule.Rule.{Rule}
-use Rattle.pm_script.specs.Commands.{RefSeen, Spoken, ensure_values, explain_values, give_value}
+use Rattle.pm_store.specs.Files.{IsPutInPart}
+use Rattle.pm_script.specs.Commands.{RefSeen, Spoken, ensure_values, explain_values, give_value, load_object, save_object}
 use Rattle.pm_props.specs.Sets.{only}
 use Rattle.pm_props.specs.declared.property.PropId.{PropId}
 use Rattle.pm_props.specs.declared.set.PropSet.{PropSet}
@@ -36,11 +37,17 @@ pub record IsSettled (old : Machine) (ref : RefSeen) (new : Machine) : Type 0 wh
   pub named : object_at old ref ≡ Some object
   pub becomes : Becomes ref.name (configuration (settled_object object) old.clients) old new
 
+-- nothing changes, or the object's file is written in part
+abbrev pub SavedInPart : List Rule → Machine → List ℕ → List ℕ → Machine → Type 0
+SavedInPart book old name file new = Stays old new ⊎ ((o : State) × (old.object name ≡ Some o) × Puts (IsPutInPart file (bytes_of book o)) old new)
+
 -- of the events of the command first ones occurred: those of a command that ensures nothing are all or none
 abbrev pub StepInPart : List Rule → Machine → Spoken → Machine → Type 0
 StepInPart book old (give_value ref text) new = Stays old new ⊎ GaveInPart book old ref text new
 StepInPart book old (ensure_values ref words) new = Stays old new ⊎ EnsuredPartly book old ref words new
 StepInPart book old (explain_values ref words) new = Stays old new ⊎ IsSettled old ref new
+StepInPart book old (load_object name file) new = Looks old new
+StepInPart book old (save_object name file) new = SavedInPart book old name file new
 StepInPart book old command new = Stays old new
 
 -- each object is honest

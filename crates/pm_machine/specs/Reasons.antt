@@ -25,9 +25,10 @@ excluded_as excluded id place = option_map (λ e. e.why) (find (λ e. nat_eq e.r
 abbrev pub first_wrong : Rule → List HeldValue → Option PropId
 first_wrong rule read = find (is_wrong rule read) every_property
 
--- the first reason of these: its client failed, a precondition is wrong, or was when it was excluded; the label is disabled; no client is there
+-- the first reason of these: its client failed, in this run or an earlier one, a precondition is wrong, or was when it was excluded; the label is disabled; no client is there
 abbrev pub first_reason : Option Why → Option PropId → Bool → Bool → Option Bar
 first_reason (Some (why.Failed evidence)) wrong disabled served = Some (bar.Failed (evidence_number evidence))
+first_reason (Some (why.Stored k)) wrong disabled served = Some (bar.Failed k)
 first_reason (Some (why.False p)) (Some q) disabled served = Some (bar.False q)
 first_reason (Some (why.False p)) None disabled served = Some (bar.False p)
 first_reason None (Some q) disabled served = Some (bar.False q)

@@ -2,9 +2,9 @@
 use Rattle.indexmap.specs.IndexMap.{keys}
 use Rattle.std.specs.HashMap.{get_by_text}
 use Rattle.std.specs.Option.{option_map}
-use Rattle.std.specs.Prelude.{Bool, Some, List, [], map, string_bytes}
+use Rattle.std.specs.Prelude.{ℕ, Bool, Option, Some, List, [], map, string_bytes}
 use Rattle.pm_client.specs.Starts.{Clients}
-use Rattle.pm_machine.specs.Steps.{Machine, Store}
+use Rattle.pm_machine.specs.Steps.{Files, Machine}
 use Rattle.pm_machine.specs.declared.session.Session.{Session}
 use Rattle.pm_rules.specs.declared.rule.Rule.{Rule}
 
@@ -12,18 +12,18 @@ use Rattle.pm_rules.specs.declared.rule.Rule.{Rule}
 abbrev pub book_of : Session → List Rule
 book_of s = s.book
 
--- so far the program keeps no files
-abbrev pub no_files : Store
-no_files = record { files = Some []; faults = 0 }
-
--- the machine of the session and the clients
-abbrev pub machine_of : Session → Clients → Machine
-machine_of s clients = record {
+-- the machine of the session and the clients, beside a store with these files, if it tells them, and this count of faults
+abbrev pub machine_at : Session → Clients → Option Files → ℕ → Machine
+machine_at s clients files faults = record {
   names = map string_bytes (keys s.objects);
   object = λ q. option_map (λ o. o.state) (get_by_text s.objects q);
   clients = clients;
-  store = no_files;
+  store = record { files = files; faults = faults };
 }
+
+-- the same, beside a store without files
+abbrev pub machine_of : Session → Clients → Machine
+machine_of s clients = machine_at s clients (Some []) 0
 
 -- memory ran out: the session answers nothing else
 abbrev pub is_spent : Session → Bool

@@ -1,5 +1,5 @@
 -- The machine: what each command may answer, and what it changes. Each refusal comes exactly where its line says, and the lines of one command exclude each other.
-use Rattle.std.specs.Prelude.{ℕ, ◌≡◌, ◌≢◌, Bool, true, false, ◌++◌, ◌<◌, ◌≤◌, List, [], ◌∷◌, drop, filter, find, length, map, not, Option, Some, None, option_and_then, option_map, IfSome, if◌then◌else◌, codes}
+use Rattle.std.specs.Prelude.{ℕ, ◌≡◌, ◌≢◌, Bool, true, false, ◌++◌, ◌<◌, ◌≤◌, List, [], ◌∷◌, drop, filter, find, length, map, not, Option, Some, None, option_and_then, option_map, IfSome, if◌then◌else◌, codes, string_bytes}
 use Rattle.std.specs.Prelude.{Result, Ok, Err}
 use Rattle.std.specs.List.{list_any}
 use Rattle.std.specs.Str.{bytes_eq}
@@ -21,12 +21,21 @@ use Rattle.pm_object.specs.State.{CanTake, CannotTake, HeldValue, RoundSeen, Sta
 use Rattle.pm_object.specs.declared.held.Origin.{Origin}
 use Rattle.pm_object.specs.declared.held.Origin.TheVariants.{Given as Given'}
 use Rattle.pm_object.specs.declared.held.TakeFail.TheVariants as fail
+use Rattle.pm_filing.specs.Filing.{loaded_object, read_over, saved_file}
+use Rattle.pm_filing.specs.FileParts.{FileFault, bad_profile, bad_property, bad_row, no_type, not_json, too_long, unknown_type}
+use Rattle.pm_filing.specs.FileReadings.{Reads, Refuses}
+use Rattle.pm_files.specs.Files.{SavedFile, file_bytes}
 use Rattle.pm_plan.specs.Plans.{HasNoPlan, IsCrowded, IsPlan}
+use Rattle.pm_script.specs.declared.refusal.Condition.TheVariants as condition
+use Rattle.pm_script.specs.declared.refusal.FileWhy.{FileWhy}
+use Rattle.pm_script.specs.declared.refusal.FileWhy.TheVariants as file_why
+use Rattle.pm_store.specs.Files.{AreTold, FilesStay, IsPut, IsPutInPart, file_of, read_part}
+use Rattle.pm_store.specs.Outside.{Rose}
 use Rattle.pm_rules.specs.declared.rule.Rule.{Rule}
-use Rattle.pm_script.specs.Commands.{RefSeen, Spoken, blank, new_object, take_value, give_value, look_up, ensure_values, explain_values, tell_history, show_rules, disable_rule, unload_client, copy_object, drop_object, tell_origin}
-use Rattle.pm_script.specs.Replies.{NamesSeen, Remarks, ReplySeen, Rounds, done, ensured, explained, lists_rules, nothing, planned, refused, remarks, shows, tells, tells_origin, undef}
+use Rattle.pm_script.specs.Commands.{RefSeen, Spoken, blank, new_object, take_value, give_value, look_up, ensure_values, explain_values, tell_history, show_rules, disable_rule, unload_client, copy_object, drop_object, tell_origin, load_object, save_object}
+use Rattle.pm_script.specs.Replies.{NamesSeen, Remarks, ReplySeen, Rounds, done, ensured, explained, lists_rules, loaded, nothing, planned, refused, remarks, shows, tells, tells_origin, undef}
 use Rattle.pm_script.specs.declared.refusal.Refusal.{Refusal}
-use Rattle.pm_script.specs.declared.refusal.Refusal.TheVariants.{UnknownName, NameTaken, UnknownType, UnknownProperty, BadValue, AlreadyHeld, Sealed, ObjectsFull, NoChain, Crowded, UnknownRule}
+use Rattle.pm_script.specs.declared.refusal.Refusal.TheVariants.{UnknownName, NameTaken, UnknownType, UnknownProperty, BadValue, AlreadyHeld, Sealed, ObjectsFull, NoChain, Crowded, StoreFault, BadFile, NoSuchFile, UnknownRule, NotFit}
 use Rattle.pm_script.specs.declared.refusal.ValueWhy.{ValueWhy}
 use Rattle.pm_script.specs.declared.refusal.ValueWhy.TheVariants as value_why
 use Rattle.pm_props.specs.Properties.{is_built}
@@ -38,9 +47,13 @@ use Rattle.pm_props.specs.declared.kind.RuleId.{RuleId}
 use Rattle.pm_props.specs.declared.property.PropId.{PropId}
 use Rattle.pm_props.specs.declared.set.PropSet.{PropSet}
 
--- what stands outside: the files, each with its name, where a store tells them, and how many faults it counted
+-- files, each with its name
+abbrev pub Files : Type 0
+Files = List (List ℕ × List ℕ)
+
+-- what stands outside: the files, where a store tells them, and how many faults it counted
 pub record Store : Type 0 where
-  pub files : Option (List (List ℕ × List ℕ))
+  pub files : Option Files
   pub faults : ℕ
 
 -- the names of the objects in the order in which they came, the object of each name, the clients as kinds with counts of their starts, and what stands outside
@@ -324,6 +337,105 @@ OriginStep old ref text undef new = (o : State) × (object_at old ref ≡ Some o
 OriginStep old ref text (tells_origin g) new = (o : State) × (object_at old ref ≡ Some o) × (p : PropId) × (property_named o.of text ≡ Some p) × (origin_of p (read_at None o.held) ≡ Some g) × Stays old new
 OriginStep old ref text reply new = ⊥
 
+-- ---- files
+-- a new object may have the name: no object has it, and there is room for one more
+abbrev pub IsFree : Machine → List ℕ → Type 0
+IsFree m name = (m.object name ≡ None) × (length m.names < most_objects)
+
+-- the files that are told, if they are, are as before; the count of faults does not fall
+pub record IsLookedAt (old new : Store) : Type 0 where
+  pub files : FilesStay old.files new.files
+  pub faults : old.faults ≤ new.faults
+
+-- the store is looked at; all else stays
+pub record Looks (old new : Machine) : Type 0 where
+  pub names : new.names ≡ old.names
+  pub objects : (q : List ℕ) → new.object q ≡ old.object q
+  pub clients : new.clients ≡ old.clients
+  pub store : IsLookedAt old.store new.store
+
+-- the store is looked at, and one object more comes last, of a new name; all else stays
+pub record LooksAndGains (name : List ℕ) (o : State) (old new : Machine) : Type 0 where
+  pub names : new.names ≡ old.names ++ name ∷ []
+  pub object : new.object name ≡ Some o
+  pub others : OthersStay name old new
+  pub clients : new.clients ≡ old.clients
+  pub store : IsLookedAt old.store new.store
+
+-- these are the bytes that are read of the file, where the store tells its files
+abbrev pub HasBytes : Store → List ℕ → List ℕ → Type 0
+HasBytes store file bytes = IfSome store.files (λ all. read_part (file_of all file) ≡ Some bytes)
+
+-- there is no such file, where the store tells its files
+abbrev pub HasNone : Store → List ℕ → Type 0
+HasNone store file = IfSome store.files (λ all. file_of all file ≡ None)
+
+-- the count of the store's faults rose
+abbrev pub Fails : Machine → Machine → Type 0
+Fails old new = Rose old.store.faults new.store.faults
+
+-- the fault of a value
+abbrev pub fault_of_why : ValueWhy → Option ValueFail
+fault_of_why value_why.Shape = Some fault.Shape
+fault_of_why value_why.Number = Some fault.Number
+fault_of_why value_why.Index = Some fault.Index
+fault_of_why value_why.Limit = Some fault.Limit
+fault_of_why why = None
+
+-- the file is refused for this fault
+abbrev pub IsFault : FileWhy → FileFault → Type 0
+IsFault file_why.Limit e = e ≡ too_long
+IsFault file_why.NotJson e = e ≡ not_json
+IsFault file_why.NoType e = e ≡ no_type
+IsFault file_why.UnknownType e = e ≡ unknown_type
+IsFault (file_why.BadProperty name why) e = (f : ValueFail) × (fault_of_why why ≡ Some f) × (e ≡ bad_property (string_bytes name) f)
+IsFault (file_why.BadRow name) e = e ≡ bad_row (string_bytes name)
+IsFault (file_why.BadProfile key) e = e ≡ bad_profile (string_bytes key)
+
+-- the bytes are refused for this reason, and nothing changes; or they are read as a file, and the object that is made of it is one more, of this name
+abbrev pub FileRead : List Rule → List ℕ → List ℕ → ReplySeen → Machine → Machine → Type 0
+FileRead book name bytes (refused (BadFile why) nothing) old new = (e : FileFault) × Refuses bytes e × IsFault why e × Stays old new
+FileRead book name bytes (loaded names) old new = (f : SavedFile) × Reads bytes f × (names ≡ read_over f) × Gains name (loaded_object book f) old new
+FileRead book name bytes reply old new = ⊥
+
+-- `load NAME FILE`
+abbrev pub LoadStep : List Rule → Machine → List ℕ → List ℕ → ReplySeen → Machine → Type 0
+LoadStep book old name file (refused NameTaken nothing) new = (old.object name ≢ None) × Stays old new
+LoadStep book old name file (refused ObjectsFull nothing) new = (old.object name ≡ None) × (most_objects ≤ length old.names) × Stays old new
+LoadStep book old name file (refused StoreFault nothing) new = IsFree old name × Fails old new × Looks old new
+LoadStep book old name file (refused NoSuchFile nothing) new = IsFree old name × HasNone old.store file × Looks old new
+LoadStep book old name file (refused (BadFile why) nothing) new = IsFree old name × (bytes : List ℕ) × HasBytes old.store file bytes
+    × (e : FileFault) × Refuses bytes e × IsFault why e × Looks old new
+LoadStep book old name file (loaded names) new = IsFree old name × (bytes : List ℕ) × HasBytes old.store file bytes
+    × (f : SavedFile) × Reads bytes f × (names ≡ read_over f) × LooksAndGains name (loaded_object book f) old new
+LoadStep book old name file reply new = ⊥
+
+-- what the store did with the bytes under the name, and how often it failed; all else stays
+pub record Puts (Did : Files → Files → Type 0) (old new : Machine) : Type 0 where
+  pub names : new.names ≡ old.names
+  pub objects : (q : List ℕ) → new.object q ≡ old.object q
+  pub clients : new.clients ≡ old.clients
+  pub files : AreTold Did old.store.files new.store.files
+  pub faults : old.store.faults ≤ new.store.faults
+
+-- the most bytes of a file that is written
+abbrev pub most_written : ℕ
+most_written = 8388608
+
+-- the bytes of the object's file
+abbrev pub bytes_of : List Rule → State → List ℕ
+bytes_of book o = file_bytes (saved_file book o)
+
+-- `save NAME FILE`
+abbrev pub SaveStep : List Rule → Machine → List ℕ → List ℕ → ReplySeen → Machine → Type 0
+SaveStep book old name file (refused UnknownName nothing) new = (old.object name ≡ None) × Stays old new
+SaveStep book old name file (refused (NotFit condition.Size) nothing) new = (o : State) × (old.object name ≡ Some o) × (most_written < length (bytes_of book o)) × Stays old new
+SaveStep book old name file (refused StoreFault nothing) new = (o : State) × (old.object name ≡ Some o) × (length (bytes_of book o) ≤ most_written)
+    × Fails old new × Puts (IsPutInPart file (bytes_of book o)) old new
+SaveStep book old name file done new = (o : State) × (old.object name ≡ Some o) × (length (bytes_of book o) ≤ most_written)
+    × Puts (IsPut file (bytes_of book o)) old new
+SaveStep book old name file reply new = ⊥
+
 -- `rules`
 abbrev pub RulesStep : List Rule → Machine → ReplySeen → Machine → Type 0
 RulesStep book old (lists_rules n text) new = (n ≡ length book) × (text ≡ text_of book) × Stays old new
@@ -382,7 +494,9 @@ Step book old (unload_client name) reply new = UnloadStep old name reply new
 Step book old (copy_object name to) reply new = CopyStep old name to reply new
 Step book old (drop_object name) reply new = DropStep old name reply new
 Step book old (tell_origin ref text) reply new = OriginStep old ref text reply new
+Step book old (load_object name file) reply new = LoadStep book old name file reply new
+Step book old (save_object name file) reply new = SaveStep book old name file reply new
 
--- each object is honest, and while it has no round each of its values was given
+-- each object is honest, and while it has no round each of its values was given or stored
 pub record AllKept (m : Machine) : Type 0 where
   pub each : (q : List ℕ) → IfSome (m.object q) IsKept

@@ -1,7 +1,7 @@
 // The laws of honesty, and examples.
 
 ghost use Rattle.pm_machine.specs.Events.{EventsKeep};
-ghost use Rattle.pm_machine.specs.Examples.{AnswersAreRead, ConditionsAreRead, EventsAreRead, ExclusionsAreRead, ObjectsAreRead, ReasonsAreRead};
+ghost use Rattle.pm_machine.specs.Examples.{AnswersAreRead, ConditionsAreRead, EventsAreRead, ExclusionsAreRead, FilesAreKept, ObjectsAreRead, ReasonsAreRead};
 ghost use Rattle.pm_machine.specs.Reasons.{BarredHaveReasons};
 ghost use Rattle.pm_machine.specs.Laws.{StepsInPartKeep, StepsKeep};
 
@@ -53,4 +53,9 @@ pub fn example_objects()
 /// What is asked by names, and what of rounds and labels is told.
 pub fn example_answers()
     ensures { AnswersAreRead }
+{}
+
+/// What `load` and `save` change, and when they are not done.
+pub fn example_files()
+    ensures { FilesAreKept }
 {}

@@ -3,6 +3,7 @@
 
 mod asking;
 mod chain;
+mod files;
 mod laws;
 mod moving;
 mod naming;
@@ -13,8 +14,8 @@ mod session;
 mod taking;
 
 pub use laws::{
-    example_answers, example_conditions, example_events, example_exclusions, example_objects,
-    example_reasons, law_barred_have_reasons, law_events_keep, law_steps_in_part_keep,
-    law_steps_keep,
+    example_answers, example_conditions, example_events, example_exclusions, example_files,
+    example_objects, example_reasons, law_barred_have_reasons, law_events_keep,
+    law_steps_in_part_keep, law_steps_keep,
 };
 pub use session::Session;

@@ -36,6 +36,7 @@ fn first_reason(
 {
     match (excluded, wrong) {
         (Some(Why::Failed(evidence)), _) => Some(Bar::Failed(evidence.number())),
+        (Some(Why::Stored(k)), _) => Some(Bar::Failed(*k)),
         (Some(Why::False(_)), Some(q)) => Some(Bar::False(q)),
         (Some(Why::False(p)), None) => Some(Bar::False(*p)),
         (None, Some(q)) => Some(Bar::False(q)),

@@ -1,24 +1,27 @@
 // A session: named objects, the book, and its steps.
 
-ghost use Rattle.pm_machine.specs.Parts.{AllHonest, StepInPart};
-ghost use Rattle.pm_machine.specs.Sessions.{book_of, is_spent, machine_of};
-ghost use Rattle.pm_machine.specs.Steps.{AllKept, CopyStep, DisableStep, DropStep, EnsureStep, ExplainStep, Gains, GiveStep, HistoryStep, LookupStep, NewStep, OriginStep, RulesStep, Stays, Step, TakeStep, UnloadStep, most_objects, object_at, type_word};
-ghost use Rattle.pm_script.specs.Commands.{blank, ensure_values, explain_values, give_value, seen_ref, spoken};
+ghost use Rattle.pm_machine.specs.Parts.{AllHonest, SavedInPart, StepInPart};
+ghost use Rattle.pm_machine.specs.Sessions.{book_of, is_spent, machine_at, machine_of};
+ghost use Rattle.pm_machine.specs.Steps.{AllKept, CopyStep, DisableStep, DropStep, EnsureStep, ExplainStep, Gains, GiveStep, FileRead, HistoryStep, LoadStep, Looks, LookupStep, NewStep, OriginStep, RulesStep, SaveStep, Stays, Step, TakeStep, UnloadStep, most_objects, object_at, type_word};
+ghost use Rattle.pm_script.specs.Commands.{blank, ensure_values, explain_values, give_value, is_on_files, seen_ref, spoken};
 ghost use Rattle.pm_script.specs.Replies.{seen};
 ghost use Rattle.std.specs.Bool.{OnFalse, OnTrue};
 ghost use Rattle.std.specs.Option.{is_some, option_map};
 ghost use Rattle.std.specs.Prelude.{IfOk, List, None, OnErr, OnOk, Option, Some, [], false, length, map, string_bytes, true, ℕ, ◌⊎◌, ◌+◌, ◌<◌, ◌≡◌, ◌≢◌, ◌≤◌};
 
 use crate::asking::{asked_in, ensure_values, explain_values, give_value, show_held, tell_history};
+use crate::files::{MOST_WRITTEN, why_of_file};
 use crate::naming::{has_label, place_named};
 use crate::origins::origin_of;
 use crate::taking::{property_named, take_text};
 use indexmap::IndexMap;
 use pm_books::book_text;
 use pm_client::Client;
+use pm_filing::{load_object, save_object};
 use pm_object::Object;
 use pm_rules::Book;
-use pm_script::{Command, Ref, Refusal, Reply};
+use pm_script::{Command, Condition, Ref, Refusal, Reply};
+use pm_store::{Store, StoreFail};
 use pm_types::ObjectType;
 use std::alloc::{AllocError, Global};
 
@@ -410,6 +413,97 @@ impl Session {
         Reply::Done
     }
 
+    // `load NAME FILE`
+    fn do_load<F: Store>(
+        &mut self,
+        alloc: Global,
+        name: String,
+        file: &str,
+        clients: &[Box<dyn Client>],
+        store: &mut F,
+    ) -> Result<Reply, AllocError>
+        ensures step { IfOk result (λ r. LoadStep (book_of self.old)
+            (machine_at self.old (map tally clients.now) (F.files store.old) (F.faults store.old))
+            (string_bytes name) file.now (seen r)
+            (machine_at self.new (map tally clients.now) (F.files store.new) (F.faults store.new))) }
+        ensures err { OnErr result (Looks
+            (machine_at self.old (map tally clients.now) (F.files store.old) (F.faults store.old))
+            (machine_at self.new (map tally clients.now) (F.files store.new) (F.faults store.new))) }
+        ensures book { book_of self.new ≡ book_of self.old }
+        ensures spent { is_spent self.new ≡ is_spent self.old }
+        ensures never_falls { F.faults store.old ≤ F.faults store.new }
+    {
+        if self.objects.get(&name).is_some() {
+            return Ok(Reply::refused(alloc, Refusal::NameTaken));
+        }
+        if self.is_full() {
+            return Ok(Reply::refused(alloc, Refusal::ObjectsFull));
+        }
+        let found = match store.get(alloc, file) {
+            Ok(found) => found,
+            Err(StoreFail::Failed) => return Ok(Reply::refused(alloc, Refusal::StoreFault)),
+            Err(StoreFail::Memory) => return Err(AllocError),
+        };
+        let Some(bytes) = found else {
+            return Ok(Reply::refused(alloc, Refusal::NoSuchFile));
+        };
+        self.add_file(alloc, name, &bytes)
+    }
+
+    // Adds the object of the bytes of a file, under a new name.
+    fn add_file(&mut self, alloc: Global, name: String, bytes: &[u8]) -> Result<Reply, AllocError>
+        requires { (machine_of self.old []).object (string_bytes name) ≡ None }
+        ensures read { IfOk result (λ r. FileRead (book_of self.old) (string_bytes name) bytes.now (seen r)
+            (machine_of self.old []) (machine_of self.new [])) }
+        ensures err { OnErr result (Stays (machine_of self.old []) (machine_of self.new [])) }
+        ensures book { book_of self.new ≡ book_of self.old }
+        ensures spent { is_spent self.new ≡ is_spent self.old }
+    {
+        match load_object(alloc, &self.book, bytes) {
+            Ok((object, ignored)) => {
+                self.add(name, object)?;
+                Ok(Reply::Loaded { ignored })
+            }
+            Err(fail) => match why_of_file(fail) {
+                Some(why) => Ok(Reply::refused(alloc, Refusal::BadFile(why))),
+                None => Err(AllocError),
+            },
+        }
+    }
+
+    // `save NAME FILE`
+    fn do_save<F: Store>(
+        &self,
+        alloc: Global,
+        name: &str,
+        file: &str,
+        clients: &[Box<dyn Client>],
+        store: &mut F,
+    ) -> Result<Reply, AllocError>
+        ensures step { IfOk result (λ r. SaveStep (book_of self.now)
+            (machine_at self.now (map tally clients.now) (F.files store.old) (F.faults store.old))
+            name.now file.now (seen r)
+            (machine_at self.now (map tally clients.now) (F.files store.new) (F.faults store.new))) }
+        ensures part { OnErr result (SavedInPart (book_of self.now)
+            (machine_at self.now (map tally clients.now) (F.files store.old) (F.faults store.old))
+            name.now file.now
+            (machine_at self.now (map tally clients.now) (F.files store.new) (F.faults store.new))) }
+        ensures never_falls { F.faults store.old ≤ F.faults store.new }
+    {
+        let Some(object) = self.objects.get(name) else {
+            return Ok(Reply::refused(alloc, Refusal::UnknownName));
+        };
+        let bytes = save_object(alloc, &self.book, object)?;
+        if bytes.len() > MOST_WRITTEN {
+            return Ok(Reply::refused(alloc, Refusal::NotFit(Condition::Size)));
+        }
+        match store.put(alloc, file, &bytes) {
+            Ok(()) => Ok(Reply::Done),
+            Err(StoreFail::Failed) => Ok(Reply::refused(alloc, Refusal::StoreFault)),
+            Err(StoreFail::Memory) => Err(AllocError),
+        }
+    }
+
     // The command's own step.
     fn do_step(
         &mut self,
@@ -418,6 +512,7 @@ impl Session {
         clients: &mut Vec<Box<dyn Client>>,
     ) -> Result<Reply, AllocError>
         requires spoken { spoken c ≢ blank }
+        requires own { is_on_files (spoken c) ≡ false }
         ensures step { IfOk result (λ r. Step (book_of self.old)
             (machine_of self.old (map tally clients.old.items)) (spoken c) (seen r)
             (machine_of self.new (map tally clients.new.items))) }
@@ -442,40 +537,106 @@ impl Session {
             Command::Copy { name, new } => self.do_copy(alloc, &name, new, clients),
             Command::DropObject { name } => Ok(self.do_drop(alloc, &name, clients)),
             Command::Origin { obj, prop } => Ok(self.do_origin(alloc, &obj, &prop, clients)),
+            Command::Load { .. } => unreachable!(),
+            Command::Save { .. } => unreachable!(),
         }
     }
 
-    /// One step of the machine. Where memory is wanting a first part of its events occurred, maybe none or all; then the
-    /// session answers nothing else, and changes nothing.
-    pub fn step(
+    // The step of a command on files.
+    fn do_files<F: Store>(
+        &mut self,
+        alloc: Global,
+        c: Command,
+        clients: &[Box<dyn Client>],
+        store: &mut F,
+    ) -> Result<Reply, AllocError>
+        requires files { is_on_files (spoken c) ≡ true }
+        ensures step { IfOk result (λ r. Step (book_of self.old)
+            (machine_at self.old (map tally clients.now) (F.files store.old) (F.faults store.old))
+            (spoken c) (seen r)
+            (machine_at self.new (map tally clients.now) (F.files store.new) (F.faults store.new))) }
+        ensures part { OnErr result (StepInPart (book_of self.old)
+            (machine_at self.old (map tally clients.now) (F.files store.old) (F.faults store.old))
+            (spoken c)
+            (machine_at self.new (map tally clients.now) (F.files store.new) (F.faults store.new))) }
+        ensures book { book_of self.new ≡ book_of self.old }
+        ensures spent { is_spent self.new ≡ is_spent self.old }
+        ensures never_falls { F.faults store.old ≤ F.faults store.new }
+    {
+        match c {
+            Command::Load { name, file } => self.do_load(alloc, name, &file, clients, store),
+            Command::Save { name, file } => self.do_save(alloc, &name, &file, clients, store),
+            _ => unreachable!(),
+        }
+    }
+
+    // The command's own step, beside the store.
+    fn do_any<F: Store>(
         &mut self,
         alloc: Global,
         c: Command,
         clients: &mut Vec<Box<dyn Client>>,
+        store: &mut F,
     ) -> Result<Reply, AllocError>
         requires spoken { spoken c ≢ blank }
         ensures step { IfOk result (λ r. Step (book_of self.old)
-            (machine_of self.old (map tally clients.old.items)) (spoken c) (seen r)
-            (machine_of self.new (map tally clients.new.items))) }
+            (machine_at self.old (map tally clients.old.items) (F.files store.old) (F.faults store.old))
+            (spoken c) (seen r)
+            (machine_at self.new (map tally clients.new.items) (F.files store.new) (F.faults store.new))) }
         ensures part { OnErr result (StepInPart (book_of self.old)
-            (machine_of self.old (map tally clients.old.items)) (spoken c)
-            (machine_of self.new (map tally clients.new.items))) }
-        ensures kept { OnOk result (AllKept (machine_of self.old (map tally clients.old.items))
-            → AllKept (machine_of self.new (map tally clients.new.items))) }
-        ensures honest { AllKept (machine_of self.old (map tally clients.old.items))
-            → AllHonest (machine_of self.new (map tally clients.new.items)) }
+            (machine_at self.old (map tally clients.old.items) (F.files store.old) (F.faults store.old))
+            (spoken c)
+            (machine_at self.new (map tally clients.new.items) (F.files store.new) (F.faults store.new))) }
+        ensures book { book_of self.new ≡ book_of self.old }
+        ensures spent { is_spent self.new ≡ is_spent self.old }
+        ensures never_falls { F.faults store.old ≤ F.faults store.new }
+    {
+        if c.is_on_files() {
+            self.do_files(alloc, c, clients, store)
+        } else {
+            self.do_step(alloc, c, clients)
+        }
+    }
+
+    /// One step of the machine beside its store. Where memory is wanting a first part of its events occurred, maybe none
+    /// or all; then the session answers nothing else, and changes nothing.
+    pub fn step<F: Store>(
+        &mut self,
+        alloc: Global,
+        c: Command,
+        clients: &mut Vec<Box<dyn Client>>,
+        store: &mut F,
+    ) -> Result<Reply, AllocError>
+        requires spoken { spoken c ≢ blank }
+        ensures step { IfOk result (λ r. Step (book_of self.old)
+            (machine_at self.old (map tally clients.old.items) (F.files store.old) (F.faults store.old))
+            (spoken c) (seen r)
+            (machine_at self.new (map tally clients.new.items) (F.files store.new) (F.faults store.new))) }
+        ensures part { OnErr result (StepInPart (book_of self.old)
+            (machine_at self.old (map tally clients.old.items) (F.files store.old) (F.faults store.old))
+            (spoken c)
+            (machine_at self.new (map tally clients.new.items) (F.files store.new) (F.faults store.new))) }
+        ensures kept { OnOk result (AllKept
+            (machine_at self.old (map tally clients.old.items) (F.files store.old) (F.faults store.old))
+            → AllKept
+            (machine_at self.new (map tally clients.new.items) (F.files store.new) (F.faults store.new))) }
+        ensures honest { AllKept
+            (machine_at self.old (map tally clients.old.items) (F.files store.old) (F.faults store.old))
+            → AllHonest
+            (machine_at self.new (map tally clients.new.items) (F.files store.new) (F.faults store.new)) }
         ensures book { book_of self.new ≡ book_of self.old }
         ensures ready { OnOk result (is_spent self.old ≡ false) }
         ensures still { OnOk result (is_spent self.new ≡ false) }
         ensures spent { OnErr result (is_spent self.new ≡ true) }
         ensures nothing { is_spent self.old ≡ true → Stays
-            (machine_of self.old (map tally clients.old.items))
-            (machine_of self.new (map tally clients.new.items)) }
+            (machine_at self.old (map tally clients.old.items) (F.files store.old) (F.faults store.old))
+            (machine_at self.new (map tally clients.new.items) (F.files store.new) (F.faults store.new)) }
+        ensures never_falls { F.faults store.old ≤ F.faults store.new }
     {
         if self.spent {
             return Err(AllocError);
         }
-        let ran = self.do_step(alloc, c, clients);
+        let ran = self.do_any(alloc, c, clients, store);
         self.spent = ran.is_err();
         ran
     }

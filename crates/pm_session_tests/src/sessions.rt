@@ -7,6 +7,7 @@ use pm_client::Client;
 use pm_machine::Session;
 use pm_rules::Book;
 use pm_script::{Command, read_line, reply_bytes, split_line};
+use pm_store::MemStore;
 use pm_types::standard_kinds;
 use std::process::Abort;
 
@@ -25,6 +26,7 @@ pub fn replies(
 ) -> Vec<u8> {
     let alloc = rt.alloc();
     let mut session = Session::new(alloc, book);
+    let mut store = MemStore::new(alloc, Vec::new(alloc));
     let mut told: Vec<u8> = Vec::new(alloc);
     let mut rest = script.as_bytes();
     while !rest.is_empty() {
@@ -32,7 +34,7 @@ pub fn replies(
         let reply = match read_line(alloc, line.text()) {
             Ok(Command::Blank) => panic!(rt; "a line without a command"),
             Ok(command) => session
-                .step(alloc, command, clients)
+                .step(alloc, command, clients, &mut store)
                 .expect(rt, "memory for a step"),
             Err(_) => panic!(rt; "a line that speaks no command"),
         };

@@ -3,8 +3,8 @@ use Rattle.std.proofs.Common.{inl, inr, refl, subst, ◌≡◌, ◌⊎◌, ℕ, 
 use Rattle.pm_client.specs.Starts.{Clients}
 use Rattle.pm_machine.proofs.Kept.{all_honest, stays_honest, steps_in_part_keep}
 use Rattle.pm_machine.specs.Parts.{AllHonest, StepInPart}
-use Rattle.pm_machine.specs.Sessions.{book_of, machine_of}
-use Rattle.pm_machine.specs.Steps.{AllKept, Machine, Stays}
+use Rattle.pm_machine.specs.Sessions.{book_of, machine_at, machine_of}
+use Rattle.pm_machine.specs.Steps.{AllKept, Files, Machine, Stays}
 use Rattle.pm_machine.specs.declared.session.Session.{Session}
 use Rattle.pm_rules.specs.declared.rule.Rule.{Rule}
 use Rattle.pm_script.specs.Commands.{Spoken}
@@ -18,6 +18,8 @@ use Rattle.pm_shell.specs.Ends.{AnswersOne, Ended, HasOutcome, InHand, NextInHan
 use Rattle.pm_shell.specs.Run.{Answers, Starts, command_at, text_of_reply}
 use Rattle.pm_shell.specs.declared.status.RunFail.{RunFail}
 use Rattle.pm_shell.specs.declared.status.RunFail.TheVariants as why
+use Rattle.pm_machine.proofs.Beside.{files_stay}
+use Rattle.pm_store.specs.Files.{FilesStay}
 use Rattle.pm_store.specs.Outside.{Gains}
 use Rattle.pm_words.specs.Words.{WordsSeen}
 
@@ -42,28 +44,42 @@ outcome_honest book trace had has old new lines (Err why.Memory) h all =
 outcome_honest book trace had has old new lines (Err why.TooLong) (some, h) all = all_honest new (kept_run book old new lines h.replies h.run all)
 
 -- ---- whole runs
-starts_new : (s : Session) (clients : Clients) → ((q : List ℕ) → (machine_of s []).object q ≡ None) → (machine_of s []).names ≡ [] → Starts clients (machine_of s clients)
-starts_new s clients none names = record { none = none; names = names; has = refl; store = refl }
+starts_new : (s : Session) (clients : Clients) (files : Option Files) (faults : ℕ) → ((q : List ℕ) → (machine_of s []).object q ≡ None) → (machine_of s []).names ≡ []
+    → Starts clients files (machine_at s clients files faults)
+starts_new s clients files faults none names = record { none = none; names = names; has = refl; store = files_stay files }
 
-pub new_kept : (s : Session) (clients : Clients) → ((q : List ℕ) → (machine_of s []).object q ≡ None) → AllKept (machine_of s clients)
-new_kept s clients none = record { each = λ q. rw (none q) tt }
+pub new_kept : (s : Session) (clients : Clients) (files : Option Files) (faults : ℕ) → ((q : List ℕ) → (machine_of s []).object q ≡ None) → AllKept (machine_at s clients files faults)
+new_kept s clients files faults none = record { each = λ q. rw (none q) tt }
 
-pub came : (book : List Rule) (trace : Bool) (s s' : Session) (before after : Clients) (script left had has : Option (List ℕ)) (r : Result Bool RunFail)
+pub came : (book : List Rule) (trace : Bool) (s s' : Session) (before after : Clients) (script left had has : Option (List ℕ)) (files kept : Option Files) (faults faults' : ℕ) (r : Result Bool RunFail)
     → book_of s ≡ book → ((q : List ℕ) → (machine_of s []).object q ≡ None) → (machine_of s []).names ≡ []
-    → CameTo (book_of s) trace script left had has (machine_of s before) r (machine_of s' after)
-    → Ran book trace (record { script = script; left = left; had = had; has = has; files = None; before = before; after = after }) r
-came book trace s s' before after script left had has r is none names (lines, read, ran) = (
+    → CameTo (book_of s) trace script left had has (machine_at s before files faults) r (machine_at s' after kept faults')
+    → Ran book trace (record { script = script; left = left; had = had; has = has; files = files; kept = kept; before = before; after = after }) r
+came book trace s s' before after script left had has files kept faults faults' r is none names (lines, read, ran) = (
   lines,
   read,
   record {
-    start = machine_of s before;
-    end = machine_of s' after;
-    starts = starts_new s before none names;
-    ran = subst (λ (b : List Rule). HasOutcome b trace had has (machine_of s before) lines r (machine_of s' after)) is ran;
-    honest = outcome_honest (book_of s) trace had has (machine_of s before) (machine_of s' after) lines r ran (new_kept s before none);
+    start = machine_at s before files faults;
+    end = machine_at s' after kept faults';
+    starts = starts_new s before files faults none names;
+    ran = subst (λ (b : List Rule). HasOutcome b trace had has (machine_at s before files faults) lines r (machine_at s' after kept faults')) is ran;
+    honest = outcome_honest (book_of s) trace had has (machine_at s before files faults) (machine_at s' after kept faults') lines r ran (new_kept s before files faults none);
     left = refl;
+    kept = refl;
   },
 )
+
+-- what was told before the book was read is told after it
+pub told_later : (before mid : Option Files) (m : Machine) (clients : Clients) → FilesStay before mid → Starts clients mid m → Starts clients before m
+told_later None mid m clients stay s = record { none = s.none; names = s.names; has = s.has; store = tt }
+told_later (Some all) mid m clients stay s = record { none = s.none; names = s.names; has = s.has; store = subst (λ z. FilesStay z m.store.files) stay s.store }
+
+-- the same run, as it was told before the book was read
+pub ran_later : (book : List Rule) (trace : Bool) (script left had has : Option (List ℕ)) (before mid kept : Option Files) (first after : Clients) (r : Result Bool RunFail) → FilesStay before mid
+    → Ran book trace (record { script = script; left = left; had = had; has = has; files = mid; kept = kept; before = first; after = after }) r
+    → Ran book trace (record { script = script; left = left; had = had; has = has; files = before; kept = kept; before = first; after = after }) r
+ran_later book trace script left had has before mid kept first after r stay (lines, read, f) =
+    (lines, read, record { start = f.start; end = f.end; starts = told_later before mid f.start first stay f.starts; ran = f.ran; honest = f.honest; left = f.left; kept = f.kept })
 
 -- ---- a command in part
 pub hand_of : {T E : Type 0} (r : Result T E) (book : List Rule) (old new : Machine) (line : Line) (command : Spoken) → command_at line ≡ Some command → StepInPart book old command new

@@ -22,9 +22,6 @@ kept_run book old new (line ∷ lines) (reply ∷ replies) (mid, first, right, r
 kept_run book old new [] (reply ∷ replies) h all = absurd h
 kept_run book old new (line ∷ lines) [] h all = absurd h
 
-pub kept_start : (clients : Clients) (m : Machine) → Starts clients m → AllKept m
-kept_start clients m s = record { each = λ q. rw (s.none q) tt }
-
 -- ---- one line more
 next_right : (book : List Rule) (old mid new : Machine) (lines : List Line) (replies : List (Option ReplySeen)) (line : Line) (reply : Option ReplySeen)
     → Run book old lines replies mid → Answers book mid line reply new → Shows reply new → Run book old (lines ++ line ∷ []) (replies ++ reply ∷ []) new

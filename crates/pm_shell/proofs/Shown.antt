@@ -9,9 +9,9 @@ use Rattle.pm_machine.specs.Steps.{AllKept, Machine, Step, whole_of}
 use Rattle.pm_object.specs.Honest.{IsKept}
 use Rattle.pm_object.specs.State.{State, read_at, value_of}
 use Rattle.pm_rules.specs.declared.rule.Rule.{Rule}
-use Rattle.pm_script.specs.Commands.{Spoken, blank, new_object, take_value, give_value, look_up, ensure_values, explain_values, tell_history, show_rules, disable_rule, unload_client, copy_object, drop_object, tell_origin}
+use Rattle.pm_script.specs.Commands.{Spoken, blank, new_object, take_value, give_value, look_up, ensure_values, explain_values, tell_history, show_rules, disable_rule, unload_client, copy_object, drop_object, tell_origin, load_object, save_object}
 use Rattle.pm_script.specs.Lines.{Line}
-use Rattle.pm_script.specs.Replies.{ReplySeen, Rounds, done, ensured, explained, lists_rules, refused, shows, tells, tells_origin, undef}
+use Rattle.pm_script.specs.Replies.{ReplySeen, Rounds, done, ensured, explained, lists_rules, loaded, refused, shows, tells, tells_origin, undef}
 use Rattle.pm_script.specs.declared.refusal.Refusal.{Refusal}
 use Rattle.pm_shell.specs.Run.{Answers, AnswersTo, command_at, refusal_of}
 use Rattle.pm_shell.specs.Shown.{IsShown, Shows}
@@ -68,6 +68,8 @@ shown_step book old new (unload_client client) name of p v t h all = absurd h
 shown_step book old new (copy_object key to) name of p v t h all = absurd h
 shown_step book old new (drop_object key) name of p v t h all = absurd h
 shown_step book old new (tell_origin ref text) name of p v t h all = absurd h
+shown_step book old new (load_object key file) name of p v t h all = absurd h
+shown_step book old new (save_object key file) name of p v t h all = absurd h
 shown_step book old new (ensure_values ref words) name of p v t h all = absurd h
 shown_step book old new (explain_values ref words) name of p v t h all = absurd h
 shown_step book old new (tell_history key) name of p v t h all = absurd h
@@ -87,6 +89,7 @@ shows_right book old new line None answers all = tt
 shows_right book old new line (Some (shows name of p v t)) answers all = shown_to book old new (refusal_of line) (command_at line) name of p v t answers all
 shows_right book old new line (Some done) answers all = tt
 shows_right book old new line (Some (tells_origin g)) answers all = tt
+shows_right book old new line (Some (loaded names)) answers all = tt
 shows_right book old new line (Some undef) answers all = tt
 shows_right book old new line (Some (lists_rules n text)) answers all = tt
 shows_right book old new line (Some (ensured t)) answers all = tt

@@ -6,7 +6,7 @@ use Rattle.pm_lines.specs.Whole.{whole_lines}
 use Rattle.pm_lines.specs.declared.reader.LinesFail.{LinesFail}
 use Rattle.pm_lines.specs.declared.reader.LinesFail.TheVariants as line
 use Rattle.pm_machine.specs.Parts.{AllHonest, StepInPart}
-use Rattle.pm_machine.specs.Steps.{Machine, Stays}
+use Rattle.pm_machine.specs.Steps.{Files, Machine, Stays}
 use Rattle.pm_rules.specs.declared.rule.Rule.{Rule}
 use Rattle.pm_script.specs.Commands.{Spoken}
 use Rattle.pm_script.specs.Lines.{Line, lines_of}
@@ -17,6 +17,7 @@ use Rattle.pm_shell.specs.declared.status.RunFail.{RunFail}
 use Rattle.pm_shell.specs.declared.status.RunFail.TheVariants as why
 use Rattle.pm_shell.specs.declared.status.Status.{Status}
 use Rattle.pm_shell.specs.declared.status.Status.TheVariants.{Answered, SomeRefused, BadWords, SourceFault, SinkFault, OutOfMemory, TooLong, BadBook}
+use Rattle.pm_store.specs.Files.{FilesStay}
 use Rattle.pm_store.specs.Outside.{Gains, Rose}
 use Rattle.pm_words.specs.Words.{WordsSeen}
 
@@ -119,37 +120,39 @@ IsRead script left (Err why.Memory) lines = IfSome script (λ all. lines ≡ lin
 IsRead script left (Err why.TooLong) lines =
     IfSome script (λ all. (most_bytes < length all) × (left ≡ Some (drop (most_bytes + 1) all)) × (lines ≡ whole_lines (take most_bytes all)))
 
--- a machine without objects over the clients before ran so; at its end every object is honest, and these are the clients
-pub record FromNoObjects (before after : Clients) (Ran : Machine → Machine → Type 0) : Type 0 where
-  pub start : Machine
-  pub end : Machine
-  pub starts : Starts before start
-  pub ran : Ran start end
-  pub honest : AllHonest end
-  pub left : end.clients ≡ after
-
--- What was told before and after: what the source has left, what the sink took, the files of the store before; and the clients.
+-- What was told before and after: what the source has left, what the sink took, the files of the store; and the clients.
 pub record World : Type 0 where
   pub script : Option (List ℕ)
   pub left : Option (List ℕ)
   pub had : Option (List ℕ)
   pub has : Option (List ℕ)
-  pub files : Option (List (List ℕ × List ℕ))
+  pub files : Option Files
+  pub kept : Option Files
   pub before : Clients
   pub after : Clients
+
+-- a machine without objects over the clients and the files before ran so; at its end every object is honest, and these are the clients and the files
+pub record FromNoObjects (w : World) (Ran : Machine → Machine → Type 0) : Type 0 where
+  pub start : Machine
+  pub end : Machine
+  pub starts : Starts w.before w.files start
+  pub ran : Ran start end
+  pub honest : AllHonest end
+  pub left : end.clients ≡ w.after
+  pub kept : end.store.files ≡ w.kept
 
 -- from a machine without objects the lines that were read came to this outcome
 abbrev pub Ran : List Rule → Bool → World → Result Bool RunFail → Type 0
 Ran book trace w outcome = (lines : List Line) × IsRead w.script w.left outcome lines
-    × FromNoObjects w.before w.after (λ start end. HasOutcome book trace w.had w.has start lines outcome end)
+    × FromNoObjects w (λ start end. HasOutcome book trace w.had w.has start lines outcome end)
 
 -- so it was with the book that the words name, traced where they say so
 abbrev pub RanBook : WordsSeen → World → Result Bool RunFail → Type 0
 RanBook said w outcome = (book : List Rule) × IsBook said.rules w.before w.files book × Ran book said.trace w outcome
 
--- nothing was read, nothing was told, and no client was started
+-- nothing was read, nothing was told, no client was started, and no file was written
 abbrev pub DidNotRun : World → Type 0
-DidNotRun w = (w.left ≡ w.script) × (w.has ≡ w.had) × (w.after ≡ w.before)
+DidNotRun w = (w.left ≡ w.script) × (w.has ≡ w.had) × (w.after ≡ w.before) × FilesStay w.files w.kept
 
 -- so a run with this status ended; memory may have run out before it
 abbrev pub Ended : WordsSeen → Status → World → Type 0

@@ -1,8 +1,7 @@
 -- A run of the machine over the lines of a script.
 use Rattle.std.specs.Prelude.{ℕ, ◌≡◌, ◌||◌, Bool, false, if◌then◌else◌, Option, Some, None, List, [], ◌∷◌, ◌++◌}
 use Rattle.pm_client.specs.Starts.{Clients}
-use Rattle.pm_machine.specs.Sessions.{no_files}
-use Rattle.pm_machine.specs.Steps.{Machine, Step}
+use Rattle.pm_machine.specs.Steps.{Files, Machine, Step}
 use Rattle.pm_rules.specs.declared.rule.Rule.{Rule}
 use Rattle.pm_script.specs.Commands.{Spoken, blank, command_of}
 use Rattle.pm_script.specs.Lines.{Line, is_too_long, text_of}
@@ -10,6 +9,7 @@ use Rattle.pm_script.specs.Replies.{ReplySeen, is_refusal, nothing, refused, rep
 use Rattle.pm_script.specs.declared.refusal.Refusal.{Refusal}
 use Rattle.pm_script.specs.declared.refusal.Refusal.TheVariants.{BadCommand, LineTooLong}
 use Rattle.pm_shell.specs.Shown.{Shows}
+use Rattle.pm_store.specs.Files.{FilesStay}
 
 -- the command that the line speaks, if it speaks one; a line that is too long speaks none
 abbrev pub command_at : Line → Option Spoken
@@ -62,9 +62,9 @@ abbrev pub any_refused : List (Option ReplySeen) → Bool
 any_refused [] = false
 any_refused (reply ∷ replies) = is_refused reply || any_refused replies
 
--- the machine has no object, no file, and these clients
-pub record Starts (clients : Clients) (m : Machine) : Type 0 where
+-- the machine has no object, these clients, and these files where they are told
+pub record Starts (clients : Clients) (files : Option Files) (m : Machine) : Type 0 where
   pub none : (q : List ℕ) → m.object q ≡ None
   pub names : m.names ≡ []
   pub has : m.clients ≡ clients
-  pub store : m.store ≡ no_files
+  pub store : FilesStay files m.store.files

@@ -4,6 +4,7 @@ ghost use Rattle.pm_books.specs.declared.fail.BookFail.TheVariants.{Memory as Bo
 ghost use Rattle.pm_props.specs.Kinds.{standard_kinds_list};
 ghost use Rattle.pm_shell.specs.Chosen.{IsBook, IsRefusedBook, IsRefusedText, IsTextOf, kinds_of, without_standard_names};
 ghost use Rattle.pm_shell.specs.declared.book.NoBook.TheVariants.{Memory, Refused};
+ghost use Rattle.pm_store.specs.Files.{FilesStay};
 ghost use Rattle.pm_store.specs.Outside.{Rose};
 ghost use Rattle.pm_store.specs.declared.store.StoreFail.TheVariants.{Failed as StoreFailed};
 ghost use Rattle.pm_words.specs.Spoken.{seen_words};
@@ -127,6 +128,7 @@ fn named_book<F: Store>(
     ensures refused { IsErrOf result NoBook.Refused →
         Rose (F.faults store.old) (F.faults store.new)
         ⊎ IfSome (F.files store.old) (IsRefusedBook name.now (map tally clients.now)) }
+    ensures stay { FilesStay (F.files store.old) (F.files store.new) }
     ensures never_falls { F.faults store.old ≤ F.faults store.new }
 {
     let found = store.get(alloc, name)?;
@@ -149,6 +151,7 @@ pub(crate) fn chosen_book<F: Store>(
         × ((seen_words said.now).rules ≡ Some name)
         × (Rose (F.faults store.old) (F.faults store.new)
         ⊎ IfSome (F.files store.old) (IsRefusedBook name (map tally clients.now))) }
+    ensures stay { FilesStay (F.files store.old) (F.files store.new) }
     ensures never_falls { F.faults store.old ≤ F.faults store.new }
 {
     match &said.rules {

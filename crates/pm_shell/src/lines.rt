@@ -1,6 +1,6 @@
 // Lines answered as they come.
 
-ghost use Rattle.pm_machine.specs.Sessions.{book_of, machine_of};
+ghost use Rattle.pm_machine.specs.Sessions.{book_of, machine_at};
 ghost use Rattle.pm_machine.specs.Steps.{AllKept, Stays};
 ghost use Rattle.pm_script.specs.Commands.{spoken};
 ghost use Rattle.pm_script.specs.Lines.{Line};
@@ -16,7 +16,7 @@ use pm_client::Client;
 use pm_lines::LineReader;
 use pm_machine::Session;
 use pm_script::{Command, Line, LineFail, Refusal, Reply, read_line, reply_bytes};
-use pm_store::{Sink, Source, write_all};
+use pm_store::{Sink, Source, Store, write_all};
 use std::alloc::{AllocError, Global};
 
 /// The command that a line speaks, if it speaks one; a line that is too long speaks none.
@@ -34,27 +34,29 @@ fn command_at(alloc: Global, line: &Line<'_>) -> Result<Option<Command>, AllocEr
 }
 
 /// The reply to a line, if it has one.
-fn answer_line(
+fn answer_line<F: Store>(
     alloc: Global,
     session: &mut Session,
     clients: &mut Vec<Box<dyn Client>>,
     line: &Line<'_>,
+    store: &mut F,
 ) -> Result<Option<Reply>, AllocError>
     ensures answers { IfOk result (λ r. Answers (book_of session.old)
-        (machine_of session.old (map tally clients.old.items)) line.now (option_map seen r)
-        (machine_of session.new (map tally clients.new.items))) }
+        (machine_at session.old (map tally clients.old.items) (F.files store.old) (F.faults store.old)) line.now (option_map seen r)
+        (machine_at session.new (map tally clients.new.items) (F.files store.new) (F.faults store.new))) }
     ensures part { OnErr result (
-        Stays (machine_of session.old (map tally clients.old.items))
-        (machine_of session.new (map tally clients.new.items))
+        Stays (machine_at session.old (map tally clients.old.items) (F.files store.old) (F.faults store.old))
+        (machine_at session.new (map tally clients.new.items) (F.files store.new) (F.faults store.new))
         ⊎ InHand (book_of session.old)
-        (machine_of session.old (map tally clients.old.items)) line.now
-        (machine_of session.new (map tally clients.new.items))) }
+        (machine_at session.old (map tally clients.old.items) (F.files store.old) (F.faults store.old)) line.now
+        (machine_at session.new (map tally clients.new.items) (F.files store.new) (F.faults store.new))) }
     ensures book { book_of session.new ≡ book_of session.old }
+    ensures store_count { F.faults store.old ≤ F.faults store.new }
 {
     match command_at(alloc, line)? {
         None => Ok(Some(refused_line(alloc, line))),
         Some(Command::Blank) => Ok(None),
-        Some(command) => Ok(Some(session.step(alloc, command, clients)?)),
+        Some(command) => Ok(Some(session.step(alloc, command, clients, store)?)),
     }
 }
 
@@ -77,37 +79,39 @@ fn refused_line(alloc: Global, line: &Line<'_>) -> Reply
 }
 
 /// Answers a line, and writes the reply. Whether it is a refusal.
-fn answer_next<K: Sink>(
+fn answer_next<K: Sink, F: Store>(
     alloc: Global,
     session: &mut Session,
     clients: &mut Vec<Box<dyn Client>>,
     line: &Line<'_>,
     trace: bool,
     sink: &mut K,
+    store: &mut F,
 ) -> Result<bool, RunFail>
     ensures told { IfOk result (λ r. AnswersOne (book_of session.old) trace
         (K.taken sink.old) (K.taken sink.new)
-        (machine_of session.old (map tally clients.old.items)) line.now r
-        (machine_of session.new (map tally clients.new.items))) }
+        (machine_at session.old (map tally clients.old.items) (F.files store.old) (F.faults store.old)) line.now r
+        (machine_at session.new (map tally clients.new.items) (F.files store.new) (F.faults store.new))) }
     ensures part { IsErrOf result RunFail.SinkFault → (reply : ReplySeen)
         × Answers (book_of session.old)
-        (machine_of session.old (map tally clients.old.items)) line.now (Some reply)
-        (machine_of session.new (map tally clients.new.items))
+        (machine_at session.old (map tally clients.old.items) (F.files store.old) (F.faults store.old)) line.now (Some reply)
+        (machine_at session.new (map tally clients.new.items) (F.files store.new) (F.faults store.new))
         × GainsPart (K.taken sink.old) (K.taken sink.new) (text_of_reply trace reply) }
     ensures fault { IsErrOf result RunFail.SinkFault →
         Rose (K.faults sink.old) (K.faults sink.new) }
     ensures which { IfErr result (λ e. (e ≡ RunFail.SinkFault) ⊎ (e ≡ RunFail.Memory)) }
     ensures memory { IsErrOf result RunFail.Memory → sink.new ≡ sink.old }
     ensures hand { IsErrOf result RunFail.Memory →
-        Stays (machine_of session.old (map tally clients.old.items))
-        (machine_of session.new (map tally clients.new.items))
+        Stays (machine_at session.old (map tally clients.old.items) (F.files store.old) (F.faults store.old))
+        (machine_at session.new (map tally clients.new.items) (F.files store.new) (F.faults store.new))
         ⊎ InHand (book_of session.old)
-        (machine_of session.old (map tally clients.old.items)) line.now
-        (machine_of session.new (map tally clients.new.items)) }
+        (machine_at session.old (map tally clients.old.items) (F.files store.old) (F.faults store.old)) line.now
+        (machine_at session.new (map tally clients.new.items) (F.files store.new) (F.faults store.new)) }
     ensures book { book_of session.new ≡ book_of session.old }
     ensures never_falls { K.faults sink.old ≤ K.faults sink.new }
+    ensures store_count { F.faults store.old ≤ F.faults store.new }
 {
-    match answer_line(alloc, session, clients, line)? {
+    match answer_line(alloc, session, clients, line, store)? {
         None => Ok(false),
         Some(reply) => write_reply(alloc, &reply, trace, sink),
     }
@@ -137,26 +141,28 @@ fn write_reply<K: Sink>(
 }
 
 /// Answers each line as it comes, and writes its reply before the next one is read. True: some reply is a refusal.
-pub(crate) fn answer_lines<S: Source, K: Sink>(
+pub(crate) fn answer_lines<S: Source, K: Sink, F: Store>(
     alloc: Global,
     session: &mut Session,
     clients: &mut Vec<Box<dyn Client>>,
     source: &mut S,
     trace: bool,
     sink: &mut K,
+    store: &mut F,
 ) -> Result<bool, RunFail>
-    requires kept { AllKept (machine_of session.old (map tally clients.old.items)) }
+    requires kept { AllKept (machine_at session.old (map tally clients.old.items) (F.files store.old) (F.faults store.old)) }
     ensures outcome { (lines : List Line)
         × IsRead (S.left source.old) (S.left source.new) result lines
         × HasOutcome (book_of session.old) trace (K.taken sink.old) (K.taken sink.new)
-        (machine_of session.old (map tally clients.old.items)) lines result
-        (machine_of session.new (map tally clients.new.items)) }
+        (machine_at session.old (map tally clients.old.items) (F.files store.old) (F.faults store.old)) lines result
+        (machine_at session.new (map tally clients.new.items) (F.files store.new) (F.faults store.new)) }
     ensures source_fault { IsErrOf result RunFail.SourceFault →
         Rose (S.faults source.old) (S.faults source.new) }
     ensures sink_fault { IsErrOf result RunFail.SinkFault →
         Rose (K.faults sink.old) (K.faults sink.new) }
     ensures source_count { S.faults source.old ≤ S.faults source.new }
     ensures sink_count { K.faults sink.old ≤ K.faults sink.new }
+    ensures store_count { F.faults store.old ≤ F.faults store.new }
 {
     let mut reader = LineReader::new(alloc);
     let mut some_refused = false;
@@ -165,7 +171,7 @@ pub(crate) fn answer_lines<S: Source, K: Sink>(
         if !there {
             return Ok(some_refused);
         }
-        let refused = answer_next(alloc, session, clients, &reader.line(), trace, sink)?;
+        let refused = answer_next(alloc, session, clients, &reader.line(), trace, sink, store)?;
         some_refused |= refused;
     }
 }

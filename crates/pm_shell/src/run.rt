@@ -17,20 +17,22 @@ use pm_words::{Words, WordsFail, read_words};
 use std::alloc::Global;
 
 /// Answers the lines of a script by the rules of a book, from no object on.
-fn run_script<S: Source, K: Sink>(
+fn run_script<S: Source, K: Sink, F: Store>(
     alloc: Global,
     book: Book,
     clients: &mut Vec<Box<dyn Client>>,
     source: &mut S,
     trace: bool,
     sink: &mut K,
+    store: &mut F,
 ) -> Result<bool, RunFail>
     ensures run { Ran book trace (record {
       script = S.left source.old;
       left = S.left source.new;
       had = K.taken sink.old;
       has = K.taken sink.new;
-      files = None;
+      files = F.files store.old;
+      kept = F.files store.new;
       before = map tally clients.old.items;
       after = map tally clients.new.items;
     }) result }
@@ -40,9 +42,10 @@ fn run_script<S: Source, K: Sink>(
         Rose (K.faults sink.old) (K.faults sink.new) }
     ensures source_count { S.faults source.old ≤ S.faults source.new }
     ensures sink_count { K.faults sink.old ≤ K.faults sink.new }
+    ensures store_count { F.faults store.old ≤ F.faults store.new }
 {
     let mut session = Session::new(alloc, book);
-    answer_lines(alloc, &mut session, clients, source, trace, sink)
+    answer_lines(alloc, &mut session, clients, source, trace, sink, store)
 }
 
 /// Answers the lines of a script as the words say.
@@ -61,6 +64,7 @@ fn run_words<S: Source, K: Sink, F: Store>(
       had = K.taken sink.old;
       has = K.taken sink.new;
       files = F.files store.old;
+      kept = F.files store.new;
       before = map tally clients.old.items;
       after = map tally clients.new.items;
     }) }
@@ -82,7 +86,7 @@ fn run_words<S: Source, K: Sink, F: Store>(
         Err(NoBook::Refused) => return Status::BadBook,
         Err(NoBook::Memory) => return Status::OutOfMemory,
     };
-    ended(run_script(alloc, book, clients, source, said.trace, sink))
+    ended(run_script(alloc, book, clients, source, said.trace, sink, store))
 }
 
 /// Answers the lines of a script by steps of the machine, each line as soon as it was read, and its reply is written
@@ -112,6 +116,7 @@ pub fn polymake<S: Source, K: Sink, F: Store>(
       had = K.taken sink.old;
       has = K.taken sink.new;
       files = F.files store.old;
+      kept = F.files store.new;
       before = map tally clients.old.items;
       after = map tally clients.new.items;
     }) }

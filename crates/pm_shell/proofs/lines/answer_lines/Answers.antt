@@ -20,6 +20,7 @@ loop-reader-init g c =
       };
       bound = let none : c.new-reader.result.read ≡ 0 = ap (λ (r : ReaderSeen). r.read) new in omega arith;
       source_rises = omega arith;
+      store_rises = omega arith;
       sink_rises = omega arith;
     }
 
@@ -38,6 +39,7 @@ loop-reader-preserved g c =
       };
       bound = c.in_ok-there.ensures.bound;
       source_rises = omega (arith, c.in_ok-there.ensures.never_falls, i.source_rises);
+      store_rises = omega (arith, c.in_ok-refused.ensures.store_count, i.store_rises);
       sink_rises = omega (arith, c.in_ok-refused.ensures.never_falls, i.sink_rises);
     }
 

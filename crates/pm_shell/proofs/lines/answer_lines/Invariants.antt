@@ -2,7 +2,7 @@
 use Rattle.std.proofs.Common.{length, if◌then◌else◌, ◌+◌, ◌-◌, ◌≡◌, ◌≤◌}
 use Rattle.std.specs.Prelude.{map}
 use Rattle.pm_lines.specs.Coming.{most_bytes}
-use Rattle.pm_machine.specs.Sessions.{book_of, machine_of}
+use Rattle.pm_machine.specs.Sessions.{book_of, machine_at}
 use Rattle.pm_shell.proofs.Came.{Going}
 use Rattle.pm_shell.proofs.lines.answer_lines.Given as goal
 
@@ -10,11 +10,12 @@ abbrev pub invariant-loop-reader : goal.invariant-loop-reader
 invariant-loop-reader g l = record {
   book : book_of l.session ≡ book_of l.fn.session;
   going : Going (book_of l.fn.session) l.fn.trace (g.S.Source.left l.fn.source) (g.S.Source.left l.source) (g.K.Sink.taken l.fn.sink) (g.K.Sink.taken l.sink)
-      (machine_of l.fn.session (map (λ b. (goal.Client-dyn g (b.vtable, b.value)).tally b.value) l.fn.clients.items))
+      (machine_at l.fn.session (map (λ b. (goal.Client-dyn g (b.vtable, b.value)).tally b.value) l.fn.clients.items) (g.F.Store.files l.fn.store) (g.F.Store.faults l.fn.store))
       l.reader l.some_refused
-      (machine_of l.session (map (λ b. (goal.Client-dyn g (b.vtable, b.value)).tally b.value) l.clients.items));
+      (machine_at l.session (map (λ b. (goal.Client-dyn g (b.vtable, b.value)).tally b.value) l.clients.items) (g.F.Store.files l.store) (g.F.Store.faults l.store));
   bound : l.reader.read ≤ most_bytes;
   source_rises : g.S.Source.faults l.fn.source ≤ g.S.Source.faults l.source;
+  store_rises : g.F.Store.faults l.fn.store ≤ g.F.Store.faults l.store;
   sink_rises : g.K.Sink.faults l.fn.sink ≤ g.K.Sink.faults l.sink;
 }
 

@@ -1,0 +1,220 @@
+-- A step that touches no file is the same beside any store.
+use Rattle.pm_client.specs.Starts.{Clients}
+use Rattle.pm_machine.specs.Events.{Configuration}
+use Rattle.pm_machine.specs.Parts.{EnsuredPartly, GaveInPart, IsSettled, StepInPart}
+use Rattle.pm_machine.specs.Steps.{Becomes, CopyStep, DisableStep, DropStep, EnsureStep, ExplainStep, FileRead, Gains, GiveStep, HasBytes, HasNone, HistoryStep, IsFree, IsLookedAt, LoadStep, Looks, LookupStep, Loses, Machine, NewStep, OriginStep, RulesStep, Stays, Step, Store, TakeStep, UnloadStep, Unloads}
+use Rattle.pm_object.specs.State.{State}
+use Rattle.pm_rules.specs.declared.rule.Rule.{Rule}
+use Rattle.pm_script.specs.Commands.{RefSeen, Spoken, blank, new_object, take_value, give_value, look_up, ensure_values, explain_values, tell_history, show_rules, disable_rule, unload_client, copy_object, drop_object, tell_origin, load_object, save_object, is_on_files}
+use Rattle.pm_script.specs.Replies.{ReplySeen, done, ensured, explained, lists_rules, loaded, nothing, planned, refused, shows, tells, tells_origin, undef}
+use Rattle.pm_script.specs.declared.refusal.Refusal.TheVariants.{UnknownName, NameTaken, UnknownType, UnknownProperty, BadValue, AlreadyHeld, Sealed, ObjectsFull, NoChain, Crowded, BadFile, UnknownRule}
+use Rattle.pm_store.specs.Files.{FilesStay, file_of, read_part}
+use Rattle.std.specs.Option.{is_some}
+use Rattle.std.proofs.Common.{ap, arith, false, inl, inr, refl, subst, sym, true, true≢false, ◌∙◌}
+use Rattle.std.specs.Prelude.{IfOk, IfSome, List, None, OnErr, Ok, Err, Option, Result, Some, option_map, ℕ, ◌≡◌, ◌≤◌}
+
+-- the machine beside another store
+abbrev pub beside : Store → Machine → Machine
+beside k m = record m { store = k }
+
+stays_beside : (k : Store) (old new : Machine) → Stays old new → Stays (beside k old) (beside k new)
+stays_beside k old new s = record { names = s.names; objects = s.objects; clients = s.clients; store = refl }
+
+becomes_beside : (k : Store) (name : List ℕ) (c : Configuration) (old new : Machine) → Becomes name c old new → Becomes name c (beside k old) (beside k new)
+becomes_beside k name c old new b = record { names = b.names; object = b.object; others = b.others; clients = b.clients; store = refl }
+
+pub gains_beside : (k : Store) (name : List ℕ) (o : State) (old new : Machine) → Gains name o old new → Gains name o (beside k old) (beside k new)
+gains_beside k name o old new g = record { names = g.names; object = g.object; others = g.others; clients = g.clients; store = refl }
+
+loses_beside : (k : Store) (name : List ℕ) (old new : Machine) → Loses name old new → Loses name (beside k old) (beside k new)
+loses_beside k name old new l = record { names = l.names; object = l.object; others = l.others; clients = l.clients; store = refl }
+
+unloads_beside : (k : Store) (name : List ℕ) (old new : Machine) → Unloads name old new → Unloads name (beside k old) (beside k new)
+unloads_beside k name old new u = record { names = u.names; objects = u.objects; clients = u.clients; store = refl }
+
+new_beside : (k : Store) (old new : Machine) (ref : RefSeen) (text : List ℕ) (reply : ReplySeen) → NewStep old ref text reply new → NewStep (beside k old) ref text reply (beside k new)
+new_beside k old new ref text (refused UnknownType nothing) (h, s) = (h, stays_beside k old new s)
+new_beside k old new ref text (refused NameTaken nothing) (h, i, s) = (h, i, stays_beside k old new s)
+new_beside k old new ref text (refused ObjectsFull nothing) (h, i, l, s) = (h, i, l, stays_beside k old new s)
+new_beside k old new ref text done (of, h, i, l, g) = (of, h, i, l, gains_beside k _ _ old new g)
+new_beside k old new ref text reply h = absurd h
+
+take_beside : (k : Store) (old new : Machine) (ref : RefSeen) (text json : List ℕ) (reply : ReplySeen) → TakeStep old ref text json reply new → TakeStep (beside k old) ref text json reply (beside k new)
+take_beside k old new ref text json (refused UnknownName nothing) (h, s) = (h, stays_beside k old new s)
+take_beside k old new ref text json (refused UnknownProperty nothing) (o, h, i, s) = (o, h, i, stays_beside k old new s)
+take_beside k old new ref text json (refused AlreadyHeld nothing) (o, h, p, i, t, s) = (o, h, p, i, t, stays_beside k old new s)
+take_beside k old new ref text json (refused Sealed nothing) (o, h, p, i, t, s) = (o, h, p, i, t, stays_beside k old new s)
+take_beside k old new ref text json (refused (BadValue why) nothing) (o, h, p, i, t, s) = (o, h, p, i, t, stays_beside k old new s)
+take_beside k old new ref text json done (o, h, p, i, v, t, b) = (o, h, p, i, v, t, becomes_beside k _ _ old new b)
+take_beside k old new ref text json reply h = absurd h
+
+give_beside : (k : Store) (old new : Machine) (book : List Rule) (ref : RefSeen) (text : List ℕ) (reply : ReplySeen) → GiveStep book old ref text reply new → GiveStep book (beside k old) ref text reply (beside k new)
+give_beside k old new book ref text (refused UnknownName nothing) (h, s) = (h, stays_beside k old new s)
+give_beside k old new book ref text (refused UnknownProperty nothing) (o, h, i, s) = (o, h, i, stays_beside k old new s)
+give_beside k old new book ref text (refused NoChain more) (o, h, p, i, c, g, b) = (o, h, p, i, c, g, becomes_beside k _ _ old new b)
+give_beside k old new book ref text (refused Crowded more) (o, h, p, i, c, g, b) = (o, h, p, i, c, g, becomes_beside k _ _ old new b)
+give_beside k old new book ref text (shows name of q v t) (o, h, p, i, c, g, b) = (o, h, p, i, c, g, becomes_beside k _ _ old new b)
+give_beside k old new book ref text reply h = absurd h
+
+ensure_beside : (k : Store) (old new : Machine) (book : List Rule) (ref : RefSeen) (words : List (List ℕ)) (reply : ReplySeen) → EnsureStep book old ref words reply new → EnsureStep book (beside k old) ref words reply (beside k new)
+ensure_beside k old new book ref words (refused UnknownName nothing) (h, s) = (h, stays_beside k old new s)
+ensure_beside k old new book ref words (refused UnknownProperty nothing) (o, h, i, s) = (o, h, i, stays_beside k old new s)
+ensure_beside k old new book ref words (refused NoChain more) (o, h, p, i, c, g, b) = (o, h, p, i, c, g, becomes_beside k _ _ old new b)
+ensure_beside k old new book ref words (refused Crowded more) (o, h, p, i, c, g, b) = (o, h, p, i, c, g, becomes_beside k _ _ old new b)
+ensure_beside k old new book ref words (ensured t) (o, h, p, i, c, g, b) = (o, h, p, i, c, g, becomes_beside k _ _ old new b)
+ensure_beside k old new book ref words reply h = absurd h
+
+explain_beside : (k : Store) (old new : Machine) (book : List Rule) (ref : RefSeen) (words : List (List ℕ)) (reply : ReplySeen) → ExplainStep book old ref words reply new → ExplainStep book (beside k old) ref words reply (beside k new)
+explain_beside k old new book ref words (refused UnknownName nothing) (h, s) = (h, stays_beside k old new s)
+explain_beside k old new book ref words (refused UnknownProperty nothing) (o, h, i, s) = (o, h, i, stays_beside k old new s)
+explain_beside k old new book ref words (explained chain weight rows names) (o, h, p, i, g, b) = (o, h, p, i, g, becomes_beside k _ _ old new b)
+explain_beside k old new book ref words (refused NoChain (planned told rows names)) (o, h, p, i, g, b) = (o, h, p, i, g, becomes_beside k _ _ old new b)
+explain_beside k old new book ref words (refused Crowded (planned told rows names)) (o, h, p, i, g, b) = (o, h, p, i, g, becomes_beside k _ _ old new b)
+explain_beside k old new book ref words reply h = absurd h
+
+history_beside : (k : Store) (old new : Machine) (book : List Rule) (name : List ℕ) (reply : ReplySeen) → HistoryStep book old name reply new → HistoryStep book (beside k old) name reply (beside k new)
+history_beside k old new book name (refused UnknownName nothing) (h, s) = (h, stays_beside k old new s)
+history_beside k old new book name (tells t excluded) (o, h, i, e, s) = (o, h, i, e, stays_beside k old new s)
+history_beside k old new book name reply h = absurd h
+
+lookup_beside : (k : Store) (old new : Machine) (ref : RefSeen) (text : List ℕ) (reply : ReplySeen) → LookupStep old ref text reply new → LookupStep (beside k old) ref text reply (beside k new)
+lookup_beside k old new ref text (refused UnknownName nothing) (h, s) = (h, stays_beside k old new s)
+lookup_beside k old new ref text (refused UnknownProperty nothing) (o, h, i, s) = (o, h, i, stays_beside k old new s)
+lookup_beside k old new ref text undef (o, h, p, i, n, s) = (o, h, p, i, n, stays_beside k old new s)
+lookup_beside k old new ref text (shows name of q v t) (o, h, i, n, f, w, r, s) = (o, h, i, n, f, w, r, stays_beside k old new s)
+lookup_beside k old new ref text reply h = absurd h
+
+copy_beside : (k : Store) (old new : Machine) (name to : List ℕ) (reply : ReplySeen) → CopyStep old name to reply new → CopyStep (beside k old) name to reply (beside k new)
+copy_beside k old new name to (refused UnknownName nothing) (h, s) = (h, stays_beside k old new s)
+copy_beside k old new name to (refused NameTaken nothing) (h, i, s) = (h, i, stays_beside k old new s)
+copy_beside k old new name to (refused ObjectsFull nothing) (h, i, l, s) = (h, i, l, stays_beside k old new s)
+copy_beside k old new name to done (o, h, i, l, g) = (o, h, i, l, gains_beside k _ _ old new g)
+copy_beside k old new name to reply h = absurd h
+
+drop_beside : (k : Store) (old new : Machine) (name : List ℕ) (reply : ReplySeen) → DropStep old name reply new → DropStep (beside k old) name reply (beside k new)
+drop_beside k old new name (refused UnknownName nothing) (h, s) = (h, stays_beside k old new s)
+drop_beside k old new name done (h, l) = (h, loses_beside k _ old new l)
+drop_beside k old new name reply h = absurd h
+
+origin_beside : (k : Store) (old new : Machine) (ref : RefSeen) (text : List ℕ) (reply : ReplySeen) → OriginStep old ref text reply new → OriginStep (beside k old) ref text reply (beside k new)
+origin_beside k old new ref text (refused UnknownName nothing) (h, s) = (h, stays_beside k old new s)
+origin_beside k old new ref text (refused UnknownProperty nothing) (o, h, i, s) = (o, h, i, stays_beside k old new s)
+origin_beside k old new ref text undef (o, h, p, i, n, s) = (o, h, p, i, n, stays_beside k old new s)
+origin_beside k old new ref text (tells_origin g) (o, h, p, i, n, s) = (o, h, p, i, n, stays_beside k old new s)
+origin_beside k old new ref text reply h = absurd h
+
+rules_beside : (k : Store) (old new : Machine) (book : List Rule) (reply : ReplySeen) → RulesStep book old reply new → RulesStep book (beside k old) reply (beside k new)
+rules_beside k old new book (lists_rules n text) (h, i, s) = (h, i, stays_beside k old new s)
+rules_beside k old new book reply h = absurd h
+
+disable_beside : (k : Store) (old new : Machine) (book : List Rule) (name label : List ℕ) (reply : ReplySeen) → DisableStep book old name label reply new → DisableStep book (beside k old) name label reply (beside k new)
+disable_beside k old new book name label (refused UnknownName nothing) (h, s) = (h, stays_beside k old new s)
+disable_beside k old new book name label (refused UnknownRule nothing) (h, i, s) = (h, i, stays_beside k old new s)
+disable_beside k old new book name label done (o, h, i, b) = (o, h, i, becomes_beside k _ _ old new b)
+disable_beside k old new book name label reply h = absurd h
+
+unload_beside : (k : Store) (old new : Machine) (name : List ℕ) (reply : ReplySeen) → UnloadStep old name reply new → UnloadStep (beside k old) name reply (beside k new)
+unload_beside k old new name (refused UnknownRule nothing) (h, s) = (h, stays_beside k old new s)
+unload_beside k old new name done (h, u) = (h, unloads_beside k _ old new u)
+unload_beside k old new name reply h = absurd h
+
+step_beside : (k : Store) (book : List Rule) (old new : Machine) (command : Spoken) (reply : ReplySeen) → is_on_files command ≡ false → Step book old command reply new → Step book (beside k old) command reply (beside k new)
+step_beside k book old new blank reply e h = absurd h
+step_beside k book old new (new_object ref text) reply e h = new_beside k old new ref text reply h
+step_beside k book old new (take_value ref text json) reply e h = take_beside k old new ref text json reply h
+step_beside k book old new (give_value ref text) reply e h = give_beside k old new book ref text reply h
+step_beside k book old new (look_up ref text) reply e h = lookup_beside k old new ref text reply h
+step_beside k book old new (ensure_values ref words) reply e h = ensure_beside k old new book ref words reply h
+step_beside k book old new (explain_values ref words) reply e h = explain_beside k old new book ref words reply h
+step_beside k book old new (tell_history name) reply e h = history_beside k old new book name reply h
+step_beside k book old new show_rules reply e h = rules_beside k old new book reply h
+step_beside k book old new (disable_rule name label) reply e h = disable_beside k old new book name label reply h
+step_beside k book old new (unload_client name) reply e h = unload_beside k old new name reply h
+step_beside k book old new (copy_object name to) reply e h = copy_beside k old new name to reply h
+step_beside k book old new (drop_object name) reply e h = drop_beside k old new name reply h
+step_beside k book old new (tell_origin ref text) reply e h = origin_beside k old new ref text reply h
+step_beside k book old new (load_object name file) reply e h = absurd (true≢false e)
+step_beside k book old new (save_object name file) reply e h = absurd (true≢false e)
+
+part_beside : (k : Store) (book : List Rule) (old new : Machine) (command : Spoken) → is_on_files command ≡ false → StepInPart book old command new → StepInPart book (beside k old) command (beside k new)
+part_beside k book old new (give_value ref text) e (inl s) = inl (stays_beside k old new s)
+part_beside k book old new (give_value ref text) e (inr g) = inr (record { object = g.object; named = g.named; property = g.property; is_property = g.is_property; now = g.now; ensured = g.ensured; becomes = becomes_beside k _ _ old new g.becomes })
+part_beside k book old new (ensure_values ref words) e (inl s) = inl (stays_beside k old new s)
+part_beside k book old new (ensure_values ref words) e (inr g) = inr (record { object = g.object; named = g.named; asked = g.asked; is_asked = g.is_asked; now = g.now; ensured = g.ensured; becomes = becomes_beside k _ _ old new g.becomes })
+part_beside k book old new (explain_values ref words) e (inl s) = inl (stays_beside k old new s)
+part_beside k book old new (explain_values ref words) e (inr g) = inr (record { object = g.object; named = g.named; becomes = becomes_beside k _ _ old new g.becomes })
+part_beside k book old new (load_object name file) e h = absurd (true≢false e)
+part_beside k book old new (save_object name file) e h = absurd (true≢false e)
+part_beside k book old new blank e s = stays_beside k old new s
+part_beside k book old new (new_object ref text) e s = stays_beside k old new s
+part_beside k book old new (take_value ref text json) e s = stays_beside k old new s
+part_beside k book old new (look_up ref text) e s = stays_beside k old new s
+part_beside k book old new (tell_history name) e s = stays_beside k old new s
+part_beside k book old new show_rules e s = stays_beside k old new s
+part_beside k book old new (disable_rule name label) e s = stays_beside k old new s
+part_beside k book old new (unload_client name) e s = stays_beside k old new s
+part_beside k book old new (copy_object name to) e s = stays_beside k old new s
+part_beside k book old new (drop_object name) e s = stays_beside k old new s
+part_beside k book old new (tell_origin ref text) e s = stays_beside k old new s
+
+-- the same, of what a call answers
+pub answered_beside : {E F : Type 0} (view : F → ReplySeen) (k : Store) (book : List Rule) (old new : Machine) (command : Spoken) (r : Result F E) → is_on_files command ≡ false
+    → IfOk r (λ x. Step book old command (view x) new) → IfOk r (λ x. Step book (beside k old) command (view x) (beside k new))
+answered_beside view k book old new command (Ok x) e h = step_beside k book old new command (view x) e h
+answered_beside view k book old new command (Err x) e h = tt
+
+pub broken_beside : {E F : Type 0} (k : Store) (book : List Rule) (old new : Machine) (command : Spoken) (r : Result F E) → is_on_files command ≡ false
+    → OnErr r (StepInPart book old command new) → OnErr r (StepInPart book (beside k old) command (beside k new))
+broken_beside k book old new command (Ok x) e h = tt
+broken_beside k book old new command (Err x) e h = part_beside k book old new command e h
+
+-- ---- files
+pub files_stay : (fs : _) → FilesStay fs fs
+files_stay None = tt
+files_stay (Some all) = refl
+
+pub looks_of_stays : (old new : Machine) → Stays old new → Looks old new
+looks_of_stays old new s = record {
+  names = s.names;
+  objects = s.objects;
+  clients = s.clients;
+  store = subst (λ k. IsLookedAt old.store k) (sym s.store) (record { files = files_stay old.store.files; faults = omega arith });
+}
+
+-- ---- a file that is read
+-- the machine with these clients, beside this store
+abbrev pub with_both : Store → Clients → Machine → Machine
+with_both k clients m = record m { clients = clients; store = k }
+
+file_step : (book : List Rule) (old new : Machine) (k k' : Store) (clients : Clients) (name file bytes : List ℕ) (reply : ReplySeen) → IsFree old name → HasBytes k file bytes → IsLookedAt k k'
+    → FileRead book name bytes reply old new → LoadStep book (with_both k clients old) name file reply (with_both k' clients new)
+file_step book old new k k' clients name file bytes (refused (BadFile why) nothing) free has looked (e, refuses, is, s) =
+    (free, bytes, has, e, refuses, is, record { names = s.names; objects = s.objects; clients = refl; store = looked })
+file_step book old new k k' clients name file bytes (loaded names) free has looked (f, reads, over, g) =
+    (free, bytes, has, f, reads, over, record { names = g.names; object = g.object; others = g.others; clients = refl; store = looked })
+file_step book old new k k' clients name file bytes reply free has looked h = absurd h
+
+pub file_answered : {E F : Type 0} (view : F → ReplySeen) (r : Result F E) (book : List Rule) (old new : Machine) (k k' : Store) (clients : Clients) (name file bytes : List ℕ) → IsFree old name → HasBytes k file bytes → IsLookedAt k k'
+    → IfOk r (λ x. FileRead book name bytes (view x) old new) → IfOk r (λ x. LoadStep book (with_both k clients old) name file (view x) (with_both k' clients new))
+file_answered view (Ok x) book old new k k' clients name file bytes free has looked h = file_step book old new k k' clients name file bytes (view x) free has looked h
+file_answered view (Err e) book old new k k' clients name file bytes free has looked h = tt
+
+not_mapped : {A B : Type 0} (f : A → B) (x : Option A) → option_map f x ≡ None → x ≡ None
+not_mapped f None e = refl
+not_mapped f (Some a) e = absurd (true≢false (ap is_some e))
+
+-- what was found is None: there is no such file, where the store tells its files
+pub none_found : (k : Store) (file : List ℕ) (found : Option (List ℕ)) → found ≡ None → IfSome k.files (λ all. found ≡ read_part (file_of all file)) → HasNone k file
+none_found k file found none h = by k.files h
+  where
+    by : (fs : _) → IfSome fs (λ all. found ≡ read_part (file_of all file)) → IfSome fs (λ all. file_of all file ≡ None)
+    by None g = tt
+    by (Some all) g = not_mapped _ (file_of all file) (sym g ∙ none)
+
+-- what was found are these bytes
+pub bytes_found : (k : Store) (file bytes : List ℕ) (found : Option (List ℕ)) → found ≡ Some bytes → IfSome k.files (λ all. found ≡ read_part (file_of all file)) → HasBytes k file bytes
+bytes_found k file bytes found is h = by k.files h
+  where
+    by : (fs : _) → IfSome fs (λ all. found ≡ read_part (file_of all file)) → IfSome fs (λ all. read_part (file_of all file) ≡ Some bytes)
+    by None g = tt
+    by (Some all) g = sym g ∙ is
