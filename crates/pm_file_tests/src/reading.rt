@@ -101,3 +101,31 @@ fn refusals(rt: HostRuntime) {
         _ => rt.abort(),
     }
 }
+
+// A file of so many bytes is read whole, and one of a byte more not at all.
+#[test]
+fn too_many_bytes(rt: HostRuntime) {
+    let mut bytes = Vec::new(rt.alloc());
+    bytes
+        .extend_from_slice(b"{\"_type\":\"polytope::Cone<Rational>\"}")
+        .expect(&rt, "room");
+    bytes.resize(8_388_608, b' ').expect(&rt, "room");
+    let file = read_object(rt.alloc(), bytes.as_slice()).expect(&rt, "a file");
+    assert!(rt; file.values.is_empty());
+    bytes.push(b' ').expect(&rt, "room");
+    let refused = read_object(rt.alloc(), bytes.as_slice()).expect_err(&rt, "a refusal");
+    assert!(rt; matches!(&refused, FileFail::Limit));
+}
+
+// A row that is an object, as polymake writes sparse ones, has another form.
+#[test]
+fn a_sparse_row(rt: HostRuntime) {
+    let text =
+        "{\"_type\":\"polytope::Polytope<Rational>\",\"POINTS\":[{\"0\":\"1\"},[\"1\",\"0\"],{\"cols\":2}]}";
+    match &fail(&rt, text) {
+        FileFail::BadProperty { name, why } => {
+            assert!(rt; name.as_str() == "POINTS" && *why == ValueFail::Shape)
+        }
+        _ => rt.abort(),
+    }
+}

@@ -3,5 +3,8 @@ pub mod ReadBack
 pub mod Plain
 pub mod WholeFiles
 pub mod Members
+pub mod Ascending
+pub mod EndOfLine
+pub mod Scanned
 pub mod Examples
 pub mod FileExamples

@@ -25,7 +25,7 @@ is_not true h = sym h
 is_not false h = refl
 
 -- ---- no property has the name of another key
-no_programs : (of : ObjectType) (p : PropId) → bytes_eq (name_in of p) (codes "LP") ≡ false
+pub no_programs : (of : ObjectType) (p : PropId) → bytes_eq (name_in of p) (codes "LP") ≡ false
 no_programs Polytope ConeAmbientDim = refl
 no_programs Polytope p = refl
 no_programs Cone ConeAmbientDim = refl
@@ -33,7 +33,7 @@ no_programs Cone p = refl
 no_programs Fan ConeAmbientDim = refl
 no_programs Fan p = refl
 
-not_computed : (of : ObjectType) (p : PropId) → bytes_eq (name_in of p) (codes "_computed") ≡ false
+pub not_computed : (of : ObjectType) (p : PropId) → bytes_eq (name_in of p) (codes "_computed") ≡ false
 not_computed Polytope ConeAmbientDim = refl
 not_computed Polytope p = refl
 not_computed Cone ConeAmbientDim = refl
@@ -50,7 +50,7 @@ no_type Fan ConeAmbientDim = refl
 no_type Fan p = refl
 
 -- ---- values
-others : (of : ObjectType) (key : List ℕ) (vs : List (PropId × PropertyValue)) (ms : Members) → list_all (λ w. is_other_name of key w.0) vs ≡ true
+pub others : (of : ObjectType) (key : List ℕ) (vs : List (PropId × PropertyValue)) (ms : Members) → list_all (λ w. is_other_name of key w.0) vs ≡ true
     → get_member key (with_values of vs ms) ≡ get_member key ms
 others of key [] ms h = refl
 others of key (w ∷ vs) ms h =
@@ -68,11 +68,11 @@ typed of [] = refl
 typed of (w ∷ vs) = rw (no_type of w.0) (typed of vs)
 
 -- ---- programs and names of stored values
-past_programs : (key : List ℕ) (ps : List SavedProgram) (ms : Members) → bytes_eq key (codes "LP") ≡ false → get_member key (with_programs ps ms) ≡ get_member key ms
+pub past_programs : (key : List ℕ) (ps : List SavedProgram) (ms : Members) → bytes_eq key (codes "LP") ≡ false → get_member key (with_programs ps ms) ≡ get_member key ms
 past_programs key [] ms h = refl
 past_programs key (p ∷ ps) ms h = get_member-put_other key (codes "LP") (array_of (map program_json (p ∷ ps))) ms (differ key (codes "LP") h)
 
-past_names : (key : List ℕ) (f : SavedFile) → bytes_eq key (codes "_computed") ≡ false
+pub past_names : (key : List ℕ) (f : SavedFile) → bytes_eq key (codes "_computed") ≡ false
     → get_member key (put (codes "_computed") (array_of (map string (stored_keys f.of f.stored (contents f)))) (contents f)) ≡ get_member key (contents f)
 past_names key f h = get_member-put_other key (codes "_computed") (array_of (map string (stored_keys f.of f.stored (contents f)))) (contents f) (differ key (codes "_computed") h)
 

@@ -7,7 +7,7 @@ ghost use Rattle.pm_types.specs.Views.{view_of};
 ghost use Rattle.serde_json.specs.Data.{string};
 ghost use Rattle.serde_json.specs.Read.{read};
 ghost use Rattle.serde_json.specs.View.{members_view, view};
-ghost use Rattle.std.specs.Prelude.{IfOk, List, OnOk, Some, [], map, option_map, string_bytes, ℕ, ◌++◌, ◌∷◌, ◌≡◌};
+ghost use Rattle.std.specs.Prelude.{IfOk, IsUtf8, List, OnOk, Some, [], map, option_map, string_bytes, ℕ, ◌++◌, ◌∷◌, ◌≡◌};
 
 use crate::file::{FileObject, FileProgram};
 use crate::value::{objective_json, value_json};
@@ -214,8 +214,8 @@ fn file_json(alloc: Global, o: &FileObject) -> Result<Json, AllocError>
 /// The bytes of a file, compact and ended by LF.
 pub fn object_bytes(alloc: Global, o: &FileObject) -> Result<Vec<u8>, AllocError>
     ensures bytes { IfOk result (λ bytes. bytes.items ≡ file_bytes (file_of o.now)) }
-    // What stands before the LF is JSON, and is read as the file.
-    ensures reads_back { IfOk result (λ bytes. (text : List ℕ) × (bytes.items ≡ text ++ 10 ∷ []) × (read text ≡ Some (file_json (file_of o.now)))) }
+    ensures utf8 { IfOk result (λ bytes. IsUtf8 bytes.items) }
+    ensures reads_back { IfOk result (λ bytes. read bytes.items ≡ Some (file_json (file_of o.now))) }
 {
     let json = file_json(alloc, o)?;
     let mut text = json.to_string(alloc)?;

@@ -1,11 +1,11 @@
 -- The text of a file as JSON.
-use Rattle.std.proofs.Common.{refl, ◌∙◌, ◌≡◌, ◌≤◌, ap, ℕ, List, length, Ok, Err, Bool, true, false, inl, inr}
+use Rattle.std.proofs.Common.{refl, ◌≡◌, ◌≤◌, ℕ, List, length, Ok, Err, inl, inr}
 use Rattle.std.proofs.lemmas.Bool.{cases_Bool, le-leb}
 use Rattle.std.proofs.lemmas.Str.{IsUtf8-from_is_utf8, is_utf8-from_IsUtf8}
 use Rattle.std.specs.Prelude.{IfOk, Result}
 use Rattle.std.specs.Str.{IsUtf8, is_utf8}
 use Rattle.serde_json.specs.Read.{read}
-use Rattle.pm_filing.specs.FileParts.{data_in, longest_file, not_json, or_else_fault}
+use Rattle.pm_filing.specs.FileParts.{data_in, not_json, or_else_fault}
 
 pub data-read : (bytes text : List ℕ) → length bytes ≤ 8388608 → IsUtf8 bytes → text ≡ bytes → data_in bytes ≡ or_else_fault not_json (read text)
 data-read bytes text short utf8 is = rw (is, le-leb (length bytes) 8388608 short, is_utf8-from_IsUtf8 bytes utf8) refl

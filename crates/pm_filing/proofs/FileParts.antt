@@ -1,5 +1,5 @@
 -- Of formed parts the values and the objectives are formed; files with the same parts are the same.
-use Rattle.std.proofs.Common.{refl, ◌≡◌, ◌++◌, ◌∷◌, ℕ, List, [], Bool, true}
+use Rattle.std.proofs.Common.{refl, ◌≡◌, ◌∷◌, ℕ, List, [], true}
 use Rattle.std.proofs.lemmas.Bool.{and_from, and_parts}
 use Rattle.std.specs.List.{list_all}
 use Rattle.pm_props.specs.declared.object_type.ObjectType.{ObjectType}

@@ -1,33 +1,37 @@
 -- A value that suits a column count may be added to an object whose values suit it.
-use Rattle.pm_algebra.proofs.Filters.{among_map, map_among}
-use Rattle.pm_algebra.proofs.Lists.{Among, among_All, among_Contains, here, there}
+use Rattle.std.proofs.lemmas.Option.{same_Some as some_is}
+use Rattle.pm_algebra.proofs.Filters.{among_map, any_from, map_among}
+use Rattle.pm_algebra.proofs.Lists.{Among, among_All, among_Contains, among_append_left, here, there}
 use Rattle.pm_filing.specs.Filing.{loaded_value}
+use Rattle.pm_filing.proofs.SuitLaws.{all_at}
+use Rattle.pm_filing.specs.Profiles.{are_different}
 use Rattle.pm_filing.specs.Views.{Suits, value_seen}
+use Rattle.pm_filing.specs.ReadingViews.{marks_seen}
+use Rattle.pm_filing.specs.Whole.{are_of_different, are_of_table, is_mark}
+use Rattle.pm_rules.specs.Words.{is_label}
+use Rattle.std.specs.declared.alloc.Global.{Global}
 use Rattle.pm_props.specs.declared.set.PropSet.{PropSet}
 use Rattle.pm_types.specs.Views.{view_of}
 use Rattle.pm_types.specs.declared.value.Value.{Value}
-use Rattle.std.specs.List.{All, Contains}
-use Rattle.pm_object.proofs.Formed.{agrees_dimension, ambient_is, dimension_of, nobody, value_among}
-use Rattle.pm_object.specs.State.{HeldValue, agrees, ambient_in, cols_of, first_cols, or_else, value_of}
-use Rattle.pm_props.proofs.Places.{same_property_is}
-use Rattle.pm_props.specs.Places.{same_property}
-use Rattle.pm_props.specs.Properties.{is_ambient}
+use Rattle.std.specs.List.{All, Contains, list_all, list_any}
+use Rattle.pm_object.proofs.Formed.{agrees_dimension, ambient_is, dimension_of, is_not, nobody, value_among}
+use Rattle.pm_object.specs.State.{HeldValue, agrees, ambient_in, cols_of, first_cols, is_held, or_else, read_at, value_of}
+use Rattle.pm_props.proofs.Places.{same_property_is, same_property_refl}
+use Rattle.pm_props.specs.Places.{place_of, same_place, same_property}
+use Rattle.pm_props.specs.Properties.{has, is_ambient}
 use Rattle.pm_props.specs.declared.object_type.ObjectType.{ObjectType}
 use Rattle.pm_props.specs.declared.property.PropId.{PropId}
 use Rattle.pm_props.specs.declared.property.PropId.TheVariants.{ConeAmbientDim}
 use Rattle.pm_types.specs.Forms.{agrees_with, is_formed, stated_cols, states}
 use Rattle.pm_types.specs.Values.{PropertyValue}
-use Rattle.std.proofs.Common.{ap, arith, eqb, false, inl, inr, refl, subst, sym, true, true≢false, ◌∙◌}
-use Rattle.std.proofs.lemmas.Bool.{eqb-true, or_cases}
+use Rattle.std.proofs.Common.{String, ap, arith, false, get_or, length, string_bytes, suc, zero, inl, inr, refl, subst, sym, true, true≢false, ◌∙◌}
+use Rattle.std.proofs.lemmas.Bool.{and_parts, eqb-true, or_cases}
 use Rattle.std.specs.Option.{is_some}
-use Rattle.std.specs.Prelude.{Bool, List, None, Option, Some, [], if◌then◌else◌, map, nat_eq, ℕ, ◌||◌, ◌++◌, ◌∷◌, ◌≡◌}
+use Rattle.std.specs.Prelude.{Bool, List, None, Option, Some, [], if◌then◌else◌, map, nat_eq, nat_le, not, ℕ, ◌<◌, ◌&&◌, ◌||◌, ◌++◌, ◌∷◌, ◌≡◌}
 
 -- all held values suit n
 abbrev pub AreOf : ObjectType → ℕ → List HeldValue → Type 0
 AreOf of n held = (h : HeldValue) → Among h held → Suits of n h.property h.value
-
-some_is : (a b : ℕ) → Some a ≡ Some b → a ≡ b
-some_is a b h = cc
 
 -- a value that tells the first column count
 record First (held : List HeldValue) (m : ℕ) : Type 0 where
@@ -46,7 +50,7 @@ first_among (x ∷ held) m e = by (nat_eq (stated_cols x.property x.value) 0) re
     by false s rest k = record { h = x; among = here; states = some_is _ _ k; not_zero = s }
 
 -- a value that is no dimension and states columns states n of them
-states_n : (n k : ℕ) (v : PropertyValue) (a : Bool) → a ≡ false → nat_eq k 0 ≡ false → (if a then states n v else nat_eq k 0 || nat_eq k n) ≡ true → k ≡ n
+pub states_n : (n k : ℕ) (v : PropertyValue) (a : Bool) → a ≡ false → nat_eq k 0 ≡ false → (if a then states n v else nat_eq k 0 || nat_eq k n) ≡ true → k ≡ n
 states_n n k v true e z h = absurd (true≢false e)
 states_n n k v false e z h = elim (or_cases (nat_eq k 0) (nat_eq k n) h) [
   | inl y ↦ absurd (true≢false (sym y ∙ z))
@@ -77,11 +81,6 @@ agrees_now of n held p v are fits = by (cols_of held) refl
     by (Some m) e = subst (λ k. agrees_with k p v ≡ true) (sym (known of n m held are e)) fits.columns
 
 -- ---- the next of several values
-in_front : {X : Type 0} {v : X} (xs ys : List X) → Among v xs → Among v (xs ++ ys)
-in_front [] ys i = elim i [ ]
-in_front (x ∷ xs) ys here = here
-in_front (x ∷ xs) ys (there i) = there (in_front xs ys i)
-
 in_middle : {X : Type 0} (xs : List X) (x : X) (ys : List X) → Among x (xs ++ x ∷ ys)
 in_middle [] x ys = here
 in_middle (y ∷ xs) x ys = there (in_middle xs x ys)
@@ -99,4 +98,59 @@ next_fits of n stored values xs ys x held all whole is = (at (in_middle xs x ys)
     of_held h i =
         let (w, j, e) = map_among (loaded_value stored) (map value_seen xs) (subst (λ z. Among h z) is i) in
         let (v, k, f) = map_among value_seen xs j in
-        subst (λ (z : HeldValue). Suits of n z.property z.value) (sym (e ∙ ap (loaded_value stored) f)) (at (in_front xs (x ∷ ys) k))
+        subst (λ (z : HeldValue). Suits of n z.property z.value) (sym (e ∙ ap (loaded_value stored) f)) (at (among_append_left (x ∷ ys) k))
+
+-- ---- different properties
+pub none_of : {X : Type 0} (test : X → Bool) (xs : List X) {x : X} → list_any test xs ≡ false → Among x xs → test x ≡ false
+none_of test xs {x} h i = by (test x) refl
+  where
+    by : (b : Bool) → test x ≡ b → test x ≡ false
+    by true e = absurd (true≢false (sym (any_from test i e) ∙ h))
+    by false e = e
+
+-- of different elements none is like a later one
+pub differ_later : {X : Type 0} (same : X → X → Bool) (xs : List X) (x : X) (ys : List X) → are_different same (xs ++ x ∷ ys) ≡ true → {y : X} → Among y xs → same y x ≡ false
+differ_later same [] x ys h i = elim i [ ]
+differ_later same (z ∷ xs) x ys h here = none_of (same z) (xs ++ x ∷ ys) (is_not (list_any (same z) (xs ++ x ∷ ys)) (and_parts (not (list_any (same z) (xs ++ x ∷ ys))) (are_different same (xs ++ x ∷ ys)) h).0) (in_middle xs x ys)
+differ_later same (z ∷ xs) x ys h (there i) = differ_later same xs x ys (and_parts (not (list_any (same z) (xs ++ x ∷ ys))) (are_different same (xs ++ x ∷ ys)) h).1 i
+
+pub apart_back : (p q : PropId) → same_property q p ≡ false → same_property p q ≡ false
+apart_back p q h = by (same_property p q) refl
+  where
+    by : (b : Bool) → same_property p q ≡ b → same_property p q ≡ false
+    by true e = absurd (true≢false (sym (subst (λ z. same_property z p ≡ true) (same_property_is p q e) (same_property_refl p)) ∙ h))
+    by false e = e
+
+unheld_from : (p : PropId) (held : List HeldValue) → ((h : HeldValue) → Among h held → same_property p h.property ≡ false) → is_held p (read_at None held) ≡ false
+unheld_from p [] f = refl
+unheld_from p (h ∷ held) f = by (same_place h.place (place_of None h.property)) (unheld_from p held (λ g i. f g (there i)))
+  where
+    by : (t : Bool) → is_held p (read_at None held) ≡ false → is_held p (if t then h ∷ read_at None held else read_at None held) ≡ false
+    by true r = ap (λ z. is_some (if z then Some h.value else value_of p (read_at None held))) (f h here) ∙ r
+    by false r = r
+
+pub map_append : {X Y : Type 0} (f : X → Y) (xs ys : List X) → map f (xs ++ ys) ≡ map f xs ++ map f ys
+map_append f [] ys = refl
+map_append f (x ∷ xs) ys = ap (λ t. f x ∷ t) (map_append f xs ys)
+
+-- the next of values of different properties is of one that is not held
+pub next_is_new : (stored : PropSet) (values xs ys : List (PropId × Value)) (x : PropId × Value) (held : List HeldValue) → are_of_different (map value_seen values) ≡ true → xs ++ x ∷ ys ≡ values → held ≡ map (loaded_value stored) (map value_seen xs)
+    → is_held x.0 (read_at None held) ≡ false
+next_is_new stored values xs ys x held once whole is =
+    unheld_from x.0 held (λ h i.
+    let (w, j, e) = map_among (loaded_value stored) (map value_seen xs) (subst (λ z. Among h z) is i) in
+    let apart = differ_later (λ (v u : PropId × PropertyValue). same_property v.0 u.0) (map value_seen xs) (value_seen x) (map value_seen ys) (ap are_of_different (sym (map_append value_seen xs (x ∷ ys)) ∙ ap (map value_seen) whole) ∙ once) j in
+    subst (λ (z : HeldValue). same_property x.0 z.property ≡ false) (sym e) (apart_back x.0 w.0 apart))
+
+-- and it is of the table
+pub next_of_table : (of : ObjectType) (values xs ys : List (PropId × Value)) (x : PropId × Value) → are_of_table of (map value_seen values) ≡ true → xs ++ x ∷ ys ≡ values → has of x.0 ≡ true
+next_of_table of values xs ys x table whole =
+    all_at (λ (v : PropId × PropertyValue). has of v.0) (map value_seen values) table (among_map value_seen (subst (λ z. Among x z) whole (in_middle xs x ys)))
+
+-- the evidence of a mark is of a number from 1 to 5
+pub mark_at : (ms : List (String Global × ℕ)) (i : ℕ) (m : String Global × ℕ) → i < length ms → m ≡ get_or ms i m → list_all is_mark (marks_seen ms) ≡ true → (nat_le 1 m.1 && nat_le m.1 5) ≡ true
+mark_at [] i m l is h = absurd (omega arith)
+mark_at (x ∷ ms) zero m l is h =
+    let first = (and_parts (is_mark (string_bytes x.0, x.1)) (list_all is_mark (marks_seen ms)) h).0 in
+    subst (λ (z : String Global × ℕ). (nat_le 1 z.1 && nat_le z.1 5) ≡ true) (sym is) (and_parts (is_label (string_bytes x.0)) (nat_le 1 x.1 && nat_le x.1 5) first).1
+mark_at (x ∷ ms) (suc i) m l is h = mark_at ms i m (omega arith) is (and_parts (is_mark (string_bytes x.0, x.1)) (list_all is_mark (marks_seen ms)) h).1

@@ -37,3 +37,9 @@ has_fold s (q ∷ ps) p =
 -- what is in the set is in the list
 pub set_of-has : (ps : List PropId) (p : PropId) → has (set_of ps) p ≡ list_any (λ q. same_property q p) ps
 set_of-has ps p = has_fold 0 ps p ∙ ap (λ t. t || list_any (λ q. same_property q p) ps) (has-empty p)
+
+-- two tests of which each implies the other give the same answer
+pub both_ways : (s t : Bool) → (s ≡ true → t ≡ true) → (t ≡ true → s ≡ true) → s ≡ t
+both_ways true t f g = sym (f refl)
+both_ways false true f g = g refl
+both_ways false false f g = refl

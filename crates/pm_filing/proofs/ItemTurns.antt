@@ -1,5 +1,5 @@
 -- Lists that are read an item at a time.
-use Rattle.std.proofs.Common.{add-one, refl, sym, ap, drop, drop-cons, get_or, length, suc, ◌∙◌, ◌≡◌, ◌+◌, ◌<◌, ◌≤◌, ℕ, List, [], ◌∷◌, ◌++◌, Option, Some, None, Bool, true, false, not, ◌&&◌, ◌||◌, append_assoc, append-nil, true≢false, inl, inr}
+use Rattle.std.proofs.Common.{add-one, refl, sym, ap, drop, drop-cons, get_or, length, suc, ◌∙◌, ◌≡◌, ◌+◌, ◌<◌, ◌≤◌, ℕ, List, [], ◌∷◌, ◌++◌, Option, Some, None, Bool, true, false, not, ◌&&◌, append_assoc, append-nil, true≢false, inl, inr}
 use Rattle.std.specs.Prelude.{option_and_then, option_map}
 use Rattle.std.specs.List.{list_any}
 use Rattle.std.proofs.lemmas.Bool.{cases_Bool}
@@ -7,7 +7,7 @@ use Rattle.std.proofs.lemmas.List.{drop_all}
 use Rattle.serde_json.specs.Data.{Data, Items, item, no_items}
 use Rattle.serde_json.specs.View.{items_view, view}
 use Rattle.serde_json.specs.declared.value.Value.{Value}
-use Rattle.pm_filing.specs.Profiles.{are_different, different_read, each_read, if_different}
+use Rattle.pm_filing.specs.Profiles.{are_different, each_read, if_different}
 
 -- ---- no two the same
 any_in : {A : Type 0} (test : A → Bool) (xs : List A) (a : A) (rest : List A) → test a ≡ true → list_any test (xs ++ a ∷ rest) ≡ true

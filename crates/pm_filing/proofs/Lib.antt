@@ -1,4 +1,5 @@
 mod Examples
+mod WholeExamples
 pub mod Loaded
 mod Fitting
 mod SuitLaws
@@ -11,3 +12,7 @@ pub mod TestTurns
 pub mod MarkPairs
 pub mod DataRead
 pub mod FileParts
+pub mod Wholeness
+pub mod Saved
+pub mod Returning
+pub mod Returned

@@ -2,17 +2,16 @@
 use Rattle.pm_algebra.proofs.Filters.{map_among}
 use Rattle.pm_algebra.proofs.Lists.{Among, among_Contains}
 use Rattle.pm_files.specs.Files.{SavedFile, SavedProgram}
-use Rattle.pm_filing.specs.Filing.{loaded_object, loaded_value, origin_in, programs_key, unsettled_object}
+use Rattle.pm_filing.specs.Filing.{loaded_value, origin_in, programs_key, unsettled_object}
 use Rattle.pm_filing.specs.Laws.{LoadedIsKept}
 use Rattle.pm_object.proofs.Honesty.{based_is_kept, empty_is_kept, honesty_is_of_values, settled_is_kept}
 use Rattle.pm_object.specs.Honest.{IsKept, is_based}
-use Rattle.pm_object.specs.State.{HeldValue, State, empty_object, with_held}
+use Rattle.pm_object.specs.State.{HeldValue, empty_object, with_held}
 use Rattle.pm_object.specs.declared.held.Origin.TheVariants as origin
 use Rattle.pm_props.specs.Sets.{has}
 use Rattle.pm_props.specs.declared.property.PropId.{PropId}
 use Rattle.pm_rules.specs.declared.rule.Rule.{Rule}
 use Rattle.std.proofs.Common.{ap, arith, false, refl, true, ◌∙◌}
-use Rattle.std.specs.List.{Contains}
 use Rattle.std.specs.Prelude.{Bool, List, [], codes, length, map, nat_eq, not, suc, ℕ, if◌then◌else◌, ◌∷◌, ◌≡◌}
 
 -- a value of a file was given or is stored

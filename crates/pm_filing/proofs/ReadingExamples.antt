@@ -1,5 +1,5 @@
 -- The examples of reading, computed.
-use Rattle.std.proofs.Common.{refl, sym, true≢false, inl, inr, None, Some, List, [], ◌∷◌, ℕ, ◌≡◌, ◌∙◌, bytes_eq, codes, false}
+use Rattle.std.proofs.Common.{refl, sym, true≢false, inl, inr, None, List, [], ◌∷◌, ℕ, ◌≡◌, ◌∙◌, bytes_eq, codes, false}
 use Rattle.std.proofs.lemmas.List.Elements.{All-nil}
 use Rattle.std.proofs.lemmas.Slice.Eq.{bytes_eq-Decides}
 use Rattle.std.specs.Fmt.{digits}

@@ -1,7 +1,8 @@
 -- The values of a file that is read suit one column count.
-use Rattle.pm_algebra.proofs.Lists.{All_among, Among, among_All, among_Contains, here, there}
+use Rattle.std.proofs.lemmas.Option.{same_Some as some_is}
+use Rattle.pm_algebra.proofs.Lists.{All_among, Among, here, there, among_append_right}
 use Rattle.pm_filing.specs.FileParts.{FileRead, Part, value, programs, then_read}
-use Rattle.pm_filing.specs.FileReadings.{ArePassed, Named, Reads, cols_after, cols_of_value, named_objective, named_objectives, named_part, named_values}
+use Rattle.pm_filing.specs.FileReadings.{ArePassed, Named, Reads, cols_of_value, named_objective, named_objectives, named_values}
 use Rattle.pm_files.specs.Files.{SavedFile}
 use Rattle.pm_filing.specs.Profiles.{Profile, file_in, file_with, profile_in, names_held, programs_in, values_in}
 use Rattle.pm_filing.specs.ReadingViews.{are_formed_values}
@@ -9,18 +10,17 @@ use Rattle.pm_filing.specs.Views.{AllSuit, Suits}
 use Rattle.pm_object.proofs.Formed.{agrees_free, agrees_itself, ambient_is, dimension_of}
 use Rattle.pm_object.specs.State.{ambient_in}
 use Rattle.pm_props.proofs.Places.{same_property_is}
-use Rattle.pm_props.specs.Places.{same_property}
 use Rattle.pm_props.specs.Properties.{is_ambient}
 use Rattle.pm_props.specs.declared.object_type.ObjectType.{ObjectType}
 use Rattle.pm_props.specs.declared.property.PropId.{PropId}
 use Rattle.pm_props.specs.declared.property.PropId.TheVariants.{ConeAmbientDim, LinearObjective}
-use Rattle.pm_types.specs.Forms.{HavePrimitiveRows, agrees_with, are_rows, is_formed, stated_cols, states}
+use Rattle.pm_types.specs.Forms.{HavePrimitiveRows, agrees_with, are_rows, is_formed, stated_cols}
 use Rattle.pm_types.specs.Values.{PropertyValue, whole}
 use Rattle.serde_json.specs.Data.{Data}
 use Rattle.std.proofs.Common.{ap, arith, false, inl, inr, refl, subst, sym, true, true≢false, ◌∙◌}
 use Rattle.std.specs.List.{All, list_all}
 use Rattle.std.specs.Option.{is_some}
-use Rattle.std.specs.Prelude.{Bool, Err, List, None, Ok, Option, Some, [], if◌then◌else◌, nat_eq, ℕ, ◌&&◌, ◌++◌, ◌||◌, ◌∷◌, ◌≡◌, ◌⊎◌}
+use Rattle.std.specs.Prelude.{Bool, Err, List, None, Ok, Option, Some, [], if◌then◌else◌, nat_eq, ℕ, ◌&&◌, ◌++◌, ◌∷◌, ◌≡◌, ◌⊎◌}
 use lib.IntN.{pos}
 
 -- the value passes the tests of columns and rows where n columns are known
@@ -40,9 +40,6 @@ known_agree : (of : ObjectType) (n : ℕ) (xs : List Named) → ArePassed of (So
 known_agree of n [] h x i = elim i [ ]
 known_agree of n (y ∷ xs) (p, h) x here = record { columns = p.columns; rows = p.rows; primitive = p.primitive }
 known_agree of n (y ∷ xs) (p, h) x (there i) = known_agree of n xs h x i
-
-some_is : (a b : ℕ) → Some a ≡ Some b → a ≡ b
-some_is a b h = cc
 
 same_number : (n : ℕ) → nat_eq n n ≡ true
 same_number n = grind arith
@@ -94,15 +91,6 @@ one_count of (y ∷ xs) d (p, h) = by (cols_of_value y.property y.value) refl h 
         (n, cons_agree of n y xs (record { columns = others_agree n y.property y.value (d y here) e; rows = p.rows; primitive = p.primitive }) all)
 
 -- ---- the values of a file among those that are tested
-in_front : {X : Type 0} {v : X} (xs ys : List X) → Among v xs → Among v (xs ++ ys)
-in_front [] ys i = elim i [ ]
-in_front (x ∷ xs) ys here = here
-in_front (x ∷ xs) ys (there i) = there (in_front xs ys i)
-
-at_back : {X : Type 0} {v : X} (xs ys : List X) → Among v ys → Among v (xs ++ ys)
-at_back [] ys i = i
-at_back (x ∷ xs) ys i = there (at_back xs ys i)
-
 first_or : {X : Type 0} {x y : X} {ys : List X} → Among x (y ∷ ys) → (x ≡ y) ⊎ Among x ys
 first_or here = inl refl
 first_or (there i) = inr i
@@ -117,7 +105,7 @@ is_tested : (of : ObjectType) (parts : List Part) {v : PropId × PropertyValue} 
 is_tested of [] i = elim i [ ]
 is_tested of (value p w ∷ parts) here = record { x = _; among = here; property = refl; value = refl }
 is_tested of (value p w ∷ parts) (there i) = let t = is_tested of parts i in record { x = t.x; among = there t.among; property = t.property; value = t.value }
-is_tested of (programs vs ∷ parts) i = let t = is_tested of parts i in record { x = t.x; among = at_back (named_objectives vs) (named_values of parts) t.among; property = t.property; value = t.value }
+is_tested of (programs vs ∷ parts) i = let t = is_tested of parts i in record { x = t.x; among = among_append_right (named_objectives vs) t.among; property = t.property; value = t.value }
 
 -- a value that is tested is one of the file, or an objective
 from_file : (of : ObjectType) (parts : List Part) (x : Named) → Among x (named_values of parts) → Among (x.property, x.value) (values_in parts) ⊎ (x.property ≡ LinearObjective)
@@ -171,7 +159,7 @@ of_parts of d parts f e = by (profile_in of (names_held parts) d (programs_in of
         not_both : is_read (Err w) ≡ is_read (Ok f) → ⊥
         not_both k = true≢false (sym k)
 
-all_at : {X : Type 0} (p : X → Bool) {x : X} (xs : List X) → list_all p xs ≡ true → Among x xs → p x ≡ true
+pub all_at : {X : Type 0} (p : X → Bool) {x : X} (xs : List X) → list_all p xs ≡ true → Among x xs → p x ≡ true
 all_at p [] h i = elim i [ ]
 all_at p (y ∷ xs) h here = left (p y) (list_all p xs) h
   where

@@ -1,9 +1,9 @@
 -- Objects and files read on small ones: what each has of the other, and what not.
-use Rattle.std.specs.Prelude.{ℕ, ◌≡◌, Bool, true, false, Option, Some, None, List, [], ◌∷◌, codes}
+use Rattle.std.specs.Prelude.{ℕ, ◌≡◌, true, false, Option, Some, None, List, [], ◌∷◌, codes}
 use Rattle.pm_files.specs.Files.{Mark, SavedFile}
-use Rattle.pm_filing.specs.Filing.{loaded_object, mark_read, mark_written, marked, origin_in, rule_labelled, saved_file, unsettled_object}
+use Rattle.pm_filing.specs.Filing.{loaded_object, mark_written, rule_labelled, saved_file}
 use Rattle.pm_geom.specs.declared.evidence.Evidence.TheVariants.{E4}
-use Rattle.pm_object.specs.State.{HeldValue, State, empty_object, file_value, is_sealed}
+use Rattle.pm_object.specs.State.{State, empty_object, file_value, is_sealed}
 use Rattle.pm_object.specs.declared.held.Excluded.{Excluded}
 use Rattle.pm_object.specs.declared.held.Origin.{Origin}
 use Rattle.pm_object.specs.declared.held.Origin.TheVariants.{Given, Stored, Computed}

@@ -1,5 +1,6 @@
 -- What objects and data files say of each other: the object that is made of a file, and the file that is written of an object.
-use Rattle.std.specs.Prelude.{ℕ, Bool, false, true, codes, Option, Some, None, List, [], ◌∷◌, ◌++◌, filter, flat_map, map, option_map, option_to_list, suc, ◌&&◌, if◌then◌else◌}
+use Rattle.std.specs.Prelude.{ℕ, Bool, false, true, codes, Option, Some, None, List, [], ◌∷◌, ◌++◌, filter, flat_map, fold, map, option_map, option_to_list, suc, ◌&&◌, if◌then◌else◌}
+use Rattle.std.specs.List.{list_any}
 use Rattle.std.specs.Option.{is_none}
 use Rattle.std.specs.Str.{bytes_eq}
 use Rattle.pm_files.specs.Files.{Mark, SavedFile, SavedProgram}
@@ -97,13 +98,21 @@ mark_by label k = []
 abbrev pub mark_written : List Rule → Excluded → List Mark
 mark_written book e = if is_none e.sub then mark_by (label_in (rule_at book e.rule)) (failure_of e.why) else []
 
+-- a mark more, unless one has its label
+abbrev pub with_mark : List Mark → Mark → List Mark
+with_mark ms m = if list_any (λ n. bytes_eq n.0 m.0) ms then ms else ms ++ m ∷ []
+
+-- of each label the first mark
+abbrev pub each_label_once : List Mark → List Mark
+each_label_once ms = fold with_mark [] ms
+
 -- the file that is written of the object
 abbrev pub saved_file : List Rule → State → SavedFile
 saved_file book o = record {
   of = o.of;
   values = map property_with_value (own o.held);
   stored = found_names o.held;
-  failed = flat_map (mark_written book) o.excluded;
+  failed = each_label_once (flat_map (mark_written book) o.excluded);
   programs = [];
   ignored = [];
 }

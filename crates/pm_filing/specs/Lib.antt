@@ -1,4 +1,6 @@
 pub mod Filing
+pub mod Whole
+pub mod WholeExamples
 pub mod Views
 pub mod Examples
 pub mod Laws

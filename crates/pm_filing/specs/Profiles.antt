@@ -1,9 +1,8 @@
 -- The profile of a data file: which values were stored, which rules failed, and the names of its linear programs; and the file as a whole.
-use Rattle.std.specs.Prelude.{ℕ, suc, Bool, true, false, not, ◌&&◌, ◌||◌, ◌==◌, List, [], ◌∷◌, ◌++◌, map, codes, decimal, length, nat_le, Option, Some, None, is_some, option_and_then, option_map, unwrap_or, Ok, Err, if◌then◌else◌}
+use Rattle.std.specs.Prelude.{ℕ, suc, Bool, true, false, not, ◌&&◌, ◌||◌, ◌==◌, List, [], ◌∷◌, ◌++◌, map, codes, decimal, length, nat_le, Option, Some, None, option_and_then, option_map, unwrap_or, Ok, Err, if◌then◌else◌}
 use Rattle.std.specs.List.{list_all, list_any}
 use Rattle.std.specs.Char.{is_ascii_alphabetic, is_ascii_alphanumeric}
 use Rattle.std.specs.Str.{bytes_eq}
-use Rattle.pm_algebra.specs.Numbers.{Ratio}
 use Rattle.pm_json.specs.Readings.{Read}
 use Rattle.pm_props.specs.Names.{property_named_in}
 use Rattle.pm_props.specs.Places.{same_property}

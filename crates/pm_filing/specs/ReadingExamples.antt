@@ -6,11 +6,11 @@ use Rattle.pm_props.specs.Sets.{only, union}
 use Rattle.pm_props.specs.declared.object_type.ObjectType.TheVariants.{Cone, Polytope}
 use Rattle.pm_props.specs.declared.property.PropId.TheVariants.{ConeAmbientDim, ConeDim, Facets, Graph, HasseDiagram, LinearObjective, Points, Vertices}
 use Rattle.pm_types.specs.Values.{matrix, whole}
-use Rattle.serde_json.specs.Data.{Data, Members, Items, object, no_members, member, no_items, item, null}
+use Rattle.serde_json.specs.Data.{Data, Members, Items, object, no_members, no_items, null}
 use Rattle.serde_json.specs.Find.{as_array, as_object}
 use Rattle.serde_json.specs.Read.{read}
-use Rattle.pm_filing.specs.FileParts.{Part, value, programs, bad_property, bad_profile, data_in, ignored_in, is_hidden, is_other_form, is_programs_key, json_in, members_in, no_type, not_json, objectives_of, part_at, parts_in, property_at, type_in, type_named, unknown_type}
-use Rattle.pm_filing.specs.Profiles.{Profile, evidence_of, is_profile_2, is_program_name, mark_of, marks_in, plain_names_from, profile_in, program_names, programs_in, stored_by}
+use Rattle.pm_filing.specs.FileParts.{value, programs, bad_property, bad_profile, data_in, ignored_in, is_hidden, is_other_form, is_programs_key, json_in, members_in, no_type, not_json, objectives_of, part_at, parts_in, property_at, type_in, unknown_type}
+use Rattle.pm_filing.specs.Profiles.{evidence_of, is_profile_2, is_program_name, mark_of, marks_in, plain_names_from, profile_in, program_names, stored_by}
 use Rattle.pm_props.specs.Properties.{name_in}
 use Rattle.pm_props.specs.declared.property.PropId.{PropId}
 use Rattle.pm_filing.specs.FileReadings.{ArePassed, IsFirstBad, Named, Passes, cols_after, named_values}

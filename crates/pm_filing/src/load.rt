@@ -6,12 +6,14 @@ ghost use Rattle.pm_filing.specs.FileReadings.{Reads, Refuses};
 ghost use Rattle.pm_files.specs.Files.{SavedFile};
 ghost use Rattle.pm_filing.specs.ReadingViews.{fault_of, marks_seen};
 ghost use Rattle.pm_files.specs.Views.{file_of};
-ghost use Rattle.pm_object.specs.State.{HeldValue, with_held};
+ghost use Rattle.pm_object.specs.State.{HeldValue, is_held, read_at, with_held};
+ghost use Rattle.pm_props.specs.Properties.{has as has_property};
 ghost use Rattle.pm_rules.specs.Books.{most_rules};
 ghost use Rattle.pm_filing.specs.Views.{AllSuit, Suits, value_seen};
+ghost use Rattle.pm_filing.specs.Whole.{IsWhole, are_of_different, are_of_table, is_mark};
 ghost use Rattle.pm_types.specs.Views.{view_of};
-ghost use Rattle.std.specs.List.{Contains};
-ghost use Rattle.std.specs.Prelude.{IfErr, IfOk, OnOk, [], codes, flat_map, if◌then◌else◌, length, map, string_bytes, ℕ, ◌++◌, ◌∷◌, ◌≡◌, ◌≢◌, ◌≤◌};
+ghost use Rattle.std.specs.List.{Contains, list_all};
+ghost use Rattle.std.specs.Prelude.{IfErr, IfOk, IsTrue, None, OnOk, [], codes, false, flat_map, if◌then◌else◌, length, map, string_bytes, ℕ, ◌++◌, ◌∷◌, ◌≡◌, ◌≢◌, ◌≤◌};
 
 use crate::fail::FileFail;
 use crate::read::read_object;
@@ -38,6 +40,8 @@ fn rule_labelled(rules: &[Rule], label: &str) -> Option<RuleId>
 fn add_value(object: &mut Object, stored: PropSet, p: PropId, v: Value) -> Result<(), AllocError>
     requires suits { (n : ℕ) × Suits object.old.state.of n p (view_of v)
         × ((h : HeldValue) → Contains object.old.state.held h → Suits object.old.state.of n h.property h.value) }
+    requires missing { is_held p (read_at None object.old.state.held) ≡ false }
+    requires table { IsTrue (has_property object.old.state.of p) }
     ensures ok { OnOk result (object.new.state
         ≡ with_held object.old.state (loaded_value stored (p, view_of v) ∷ [])) }
 {
@@ -48,7 +52,7 @@ fn add_value(object: &mut Object, stored: PropSet, p: PropId, v: Value) -> Resul
     }
 }
 
-/// Adds values that suit one column count to an object that holds nothing.
+/// Adds values of different properties of the table, which suit one column count, to an object that holds nothing.
 fn add_values(
     object: &mut Object,
     stored: PropSet,
@@ -56,6 +60,8 @@ fn add_values(
 ) -> Result<(), AllocError>
     requires empty { object.old.state.held ≡ [] }
     requires suit { AllSuit object.old.state.of (map value_seen values.items) }
+    requires table { IsTrue (are_of_table object.old.state.of (map value_seen values.items)) }
+    requires once { IsTrue (are_of_different (map value_seen values.items)) }
     ensures ok { OnOk result (object.new.state ≡ record object.old.state {
       held = map (loaded_value stored) (map value_seen values.items);
     }) }
@@ -68,6 +74,7 @@ fn add_values(
 
 /// Excludes the rules that failed, where the book has their labels.
 fn mark_rules(object: &mut Object, book: &Book, failed: &[(String, u8)]) -> Result<(), AllocError>
+    requires marks { IsTrue (list_all is_mark (marks_seen failed.now)) }
     ensures ok { OnOk result (object.new.state ≡ record object.old.state {
       excluded = object.old.state.excluded
           ++ flat_map (mark_read book.now) (marks_seen failed.now);
@@ -101,14 +108,14 @@ fn read_over(
     Ok(names)
 }
 
-/// The object of what a file holds, whose values have their forms and pass their tests: its values, given or stored, the
-/// rules that failed, where the book has their labels, and what goes without saying.
+/// The object of what a whole file holds: its values, given or stored, the rules that failed, where the book has their
+/// labels, and what goes without saying.
 fn load_file(
     alloc: Global,
     book: &Book,
     file: FileObject,
 ) -> Result<(Object, Vec<String>), AllocError>
-    requires suit { AllSuit file.of (file_of file).values }
+    requires whole { IsWhole (file_of file) }
     ensures object { IfOk result (λ r. r.0.state ≡ loaded_object book.now (file_of file)) }
     ensures names { IfOk result (λ r. map string_bytes r.1.items ≡ read_over (file_of file)) }
 {

@@ -143,7 +143,7 @@ fn mark_of(json: &Json) -> Option<(&str, u8)>
 }
 
 /// Whether one of the marks has this label.
-fn has_label(marks: &[(String, u8)], label: &str) -> bool
+pub(crate) fn has_label(marks: &[(String, u8)], label: &str) -> bool
     ensures { result ≡ list_any (λ m. bytes_eq m.0 label.now) (marks_seen marks.now) }
 {
     for mark in marks {

@@ -3,6 +3,7 @@
 ghost use Rattle.pm_filing.specs.FileParts.{data_in, not_json, out_of_memory};
 ghost use Rattle.pm_filing.specs.FileReadings.{Reads, Refuses, seen_in};
 ghost use Rattle.pm_filing.specs.ReadingViews.{are_formed_parts, are_formed_values, fault_of, has_formed_objective, part_seen};
+ghost use Rattle.pm_filing.specs.Whole.{IsWhole};
 ghost use Rattle.pm_files.specs.Views.{file_of};
 ghost use Rattle.serde_json.specs.Read.{read};
 ghost use Rattle.serde_json.specs.View.{view};
@@ -72,6 +73,7 @@ fn read_seen(alloc: Global, json: &Json) -> Result<(ObjectType, Vec<FilePart>), 
 pub fn read_object(alloc: Global, bytes: &[u8]) -> Result<FileObject, FileFail>
     ensures reads { IfOk result (λ f. Reads bytes.now (file_of f)) }
     ensures formed { IfOk result (λ f. IsTrue (are_formed_values (file_of f).values)) }
+    ensures whole { IfOk result (λ f. IsWhole (file_of f)) }
     ensures objectives { IfOk result (λ f. IsTrue (list_all has_formed_objective f.programs.items)) }
     ensures refuses { IfErr result (λ e. fault_of e ≢ out_of_memory → Refuses bytes.now (fault_of e)) }
 {

@@ -1,13 +1,17 @@
 // Data files of objects.
 
-ghost use Rattle.pm_filing.specs.Filing.{failure_of, found_names, is_found, is_own_found, mark_written, own, property_with_value, saved_file};
-ghost use Rattle.pm_files.specs.Files.{file_bytes};
+ghost use Rattle.pm_filing.specs.Filing.{each_label_once, failure_of, found_names, is_found, is_own_found, mark_written, own, property_with_value, saved_file, with_mark};
+ghost use Rattle.pm_filing.specs.FileParts.{longest_file};
+ghost use Rattle.pm_filing.specs.FileReadings.{Reads};
+ghost use Rattle.pm_filing.specs.Whole.{IsLoadedAgain, IsReadType};
+ghost use Rattle.pm_files.specs.Files.{SavedFile, file_bytes};
 ghost use Rattle.pm_filing.specs.ReadingViews.{marks_seen};
 ghost use Rattle.pm_files.specs.Views.{file_of};
 ghost use Rattle.pm_object.specs.Views.{held_seen};
 ghost use Rattle.pm_filing.specs.Views.{value_seen};
-ghost use Rattle.std.specs.Prelude.{IfOk, OnOk, flat_map, map, ◌++◌, ◌≡◌};
+ghost use Rattle.std.specs.Prelude.{IfOk, OnOk, flat_map, fold, length, map, ◌≡◌, ◌≤◌};
 
+use crate::profile::has_label;
 use pm_files::{FileObject, object_bytes};
 use pm_object::{Excluded, Held, Object, Origin, Why};
 use pm_rules::Book;
@@ -69,7 +73,7 @@ fn failure_of(why: &Why) -> Option<u8>
     }
 }
 
-/// Puts the mark of a rule that failed for the object itself behind the others.
+/// Puts the mark of a rule that failed for the object itself behind the others, unless one has its label.
 fn push_mark(
     alloc: Global,
     failed: &mut Vec<(String, u8)>,
@@ -77,7 +81,7 @@ fn push_mark(
     e: &Excluded,
 ) -> Result<(), AllocError>
     ensures { OnOk result (marks_seen failed.new.items
-        ≡ marks_seen failed.old.items ++ mark_written book.now e.now) }
+        ≡ fold with_mark (marks_seen failed.old.items) (mark_written book.now e.now)) }
 {
     if e.sub.is_some() {
         return Ok(());
@@ -88,19 +92,22 @@ fn push_mark(
     let Some(rule) = book.rule(e.rule) else {
         return Ok(());
     };
+    if has_label(failed, rule.label.as_str()) {
+        return Ok(());
+    }
     let label = String::from_str(alloc, rule.label.as_str())?;
     failed.push((label, k))?;
     Ok(())
 }
 
-/// The marks of rules that failed for the object itself.
+/// The marks of rules that failed for the object itself, each of another label.
 fn marks_of(
     alloc: Global,
     book: &Book,
     excluded: &[Excluded],
 ) -> Result<Vec<(String, u8)>, AllocError>
     ensures { IfOk result (λ failed. marks_seen failed.items
-        ≡ flat_map (mark_written book.now) excluded.now) }
+        ≡ each_label_once (flat_map (mark_written book.now) excluded.now)) }
 {
     let mut failed = Vec::new(alloc);
     for e in excluded {
@@ -123,10 +130,16 @@ fn file_object(alloc: Global, book: &Book, object: &Object) -> Result<FileObject
     })
 }
 
-/// The bytes of the data file of an object.
+/// The bytes of the data file of an object. Where they are not too many, loading them gives what the object holds again,
+/// and its marks; and saving what was read gives the same bytes.
 pub fn save_object(alloc: Global, book: &Book, object: &Object) -> Result<Vec<u8>, AllocError>
-    ensures { IfOk result (λ bytes. bytes.items ≡ file_bytes (saved_file book.now object.now.state)) }
+    ensures file { IfOk result (λ bytes. bytes.items ≡ file_bytes (saved_file book.now object.now.state)) }
+    ensures again { IfOk result (λ bytes. IsReadType object.now.state.of → length bytes.items ≤ longest_file →
+        (f : SavedFile) × Reads bytes.items f × IsLoadedAgain book.now object.now.state f × (file_bytes f ≡ bytes.items)) }
 {
+    // Its values have their forms, and the rules have different labels.
+    let _held = object.held();
+    let _rules = book.rules();
     let file = file_object(alloc, book, object)?;
     object_bytes(alloc, &file)
 }

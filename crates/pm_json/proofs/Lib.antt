@@ -11,3 +11,6 @@ pub mod CountTurns
 pub mod EdgeTurns
 pub mod EdgeLimits
 pub mod FaceTurns
+pub mod Grammar
+pub mod GrammarReads
+mod Examples

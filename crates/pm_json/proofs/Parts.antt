@@ -1,6 +1,7 @@
 -- What was read, taken apart.
 use Rattle.std.proofs.Common.{refl, ap, ◌≡◌, Bool, true, false, cond, Ok, Err}
 use Rattle.std.proofs.lemmas.Bool.{false≢true}
+use Rattle.std.specs.Prelude.{IfOk, Result}
 use Rattle.std.specs.Result.{is_ok, result_unwrap_or}
 use Rattle.pm_json.specs.Readings.{Read, and_then}
 use Rattle.pm_json.specs.declared.fail.ValueFail.{ValueFail}
@@ -26,3 +27,7 @@ else-ok true r fault y e = absurd (err_ok fault y e)
 pub either-ok : {A P : Type 0} (b : Bool) (r s : Read A) (y : A) → cond b r s ≡ Ok y → (r ≡ Ok y → P) → (s ≡ Ok y → P) → P
 either-ok true r s y e f g = f e
 either-ok false r s y e f g = g e
+
+pub both_ok : {T E : Type 0} (r : Result T E) {P Q R : T → Type 0} → ((a : T) → P a → Q a → R a) → IfOk r P → IfOk r Q → IfOk r R
+both_ok (Ok a) f h g = f a h g
+both_ok (Err e) f h g = tt

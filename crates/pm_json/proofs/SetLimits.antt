@@ -121,7 +121,7 @@ below_above n m low (j ∷ set) a h =
     let right = le-max_right (suc j) (above_set set) in
     three (leb low j) (ltb j n) (are_indices n (suc j) set) q.0 (lt-ltb j n (omega arith)) (below_above n m (suc j) set (omega arith) p.1)
 
-above_sets_bound : (m : ℕ) (rows : List (List ℕ)) → list_all (are_indices m 0) rows ≡ true → above_sets rows ≤ m
+pub above_sets_bound : (m : ℕ) (rows : List (List ℕ)) → list_all (are_indices m 0) rows ≡ true → above_sets rows ≤ m
 above_sets_bound m [] h = omega arith
 above_sets_bound m (set ∷ rows) h =
     let p = and_parts (are_indices m 0 set) (list_all (are_indices m 0) rows) h in

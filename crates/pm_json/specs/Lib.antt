@@ -1,1 +1,4 @@
 pub mod Readings
+pub mod Grammar
+pub mod Laws
+pub mod Examples

@@ -1,5 +1,7 @@
 // Values of properties from JSON.
 
+ghost use Rattle.pm_json.specs.Grammar.{IsJsonOf};
+ghost use Rattle.pm_types.specs.Values.{PropertyValue as ValueSeen};
 ghost use Rattle.pm_json.specs.Readings.{extended_value_of, is_text, number_value_of, reading, truth_of, whole_of};
 ghost use Rattle.pm_types.specs.Forms.{is_dimension, is_formed};
 ghost use Rattle.pm_props.specs.Properties.{value_kind};
@@ -93,8 +95,10 @@ fn read_number_value(p: PropId, v: &Value) -> Result<PropertyValue, ValueFail>
     Ok(PropertyValue::Number(number))
 }
 
-/// The value of a property that a JSON value is, or the first fault in reading order.
+/// The value of a property that a JSON value is; where it is none, the first fault in reading order.
 pub fn read_value(alloc: Global, p: PropId, v: &Value) -> Result<PropertyValue, ValueFail>
+    ensures text { IfOk result (λ value. IsJsonOf p (view v.now) (view_of value)) }
+    ensures no_text { IfErr result (λ e. e ≢ ValueFail.Memory → (value : ValueSeen) → ¬ (IsJsonOf p (view v.now) value)) }
     ensures ok { IfOk result (λ value. reading p (view v.now) ≡ Ok (view_of value)) }
     ensures formed { IfOk result (λ value. IsTrue (is_formed p (view_of value))) }
     ensures fault { IfErr result (λ e. e ≢ ValueFail.Memory → reading p (view v.now) ≡ Err e) }

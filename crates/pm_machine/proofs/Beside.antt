@@ -1,7 +1,7 @@
 -- A step that touches no file is the same beside any store.
 use Rattle.pm_client.specs.Starts.{Clients}
 use Rattle.pm_machine.specs.Events.{Configuration}
-use Rattle.pm_machine.specs.Parts.{EnsuredPartly, GaveInPart, IsSettled, StepInPart}
+use Rattle.pm_machine.specs.Parts.{StepInPart}
 use Rattle.pm_machine.specs.Steps.{Becomes, CopyStep, DisableStep, DropStep, EnsureStep, ExplainStep, FileRead, Gains, GiveStep, HasBytes, HasNone, HistoryStep, IsFree, IsLookedAt, LoadStep, Looks, LookupStep, Loses, Machine, NewStep, OriginStep, RulesStep, Stays, Step, Store, TakeStep, UnloadStep, Unloads}
 use Rattle.pm_object.specs.State.{State}
 use Rattle.pm_rules.specs.declared.rule.Rule.{Rule}
@@ -10,8 +10,8 @@ use Rattle.pm_script.specs.Replies.{ReplySeen, done, ensured, explained, lists_r
 use Rattle.pm_script.specs.declared.refusal.Refusal.TheVariants.{UnknownName, NameTaken, UnknownType, UnknownProperty, BadValue, AlreadyHeld, Sealed, ObjectsFull, NoChain, Crowded, BadFile, UnknownRule}
 use Rattle.pm_store.specs.Files.{FilesStay, file_of, read_part}
 use Rattle.std.specs.Option.{is_some}
-use Rattle.std.proofs.Common.{ap, arith, false, inl, inr, refl, subst, sym, true, true≢false, ◌∙◌}
-use Rattle.std.specs.Prelude.{IfOk, IfSome, List, None, OnErr, Ok, Err, Option, Result, Some, option_map, ℕ, ◌≡◌, ◌≤◌}
+use Rattle.std.proofs.Common.{ap, arith, false, inl, inr, refl, subst, sym, true≢false, ◌∙◌}
+use Rattle.std.specs.Prelude.{IfOk, IfSome, List, None, OnErr, Ok, Err, Option, Result, Some, option_map, ℕ, ◌≡◌}
 
 -- the machine beside another store
 abbrev pub beside : Store → Machine → Machine

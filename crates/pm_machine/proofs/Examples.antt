@@ -9,10 +9,19 @@ use Rattle.pm_rules.specs.declared.rule.Rule.{Rule}
 use Rattle.pm_script.specs.Replies.{done, loaded, nothing, refused}
 use Rattle.pm_script.specs.declared.refusal.Refusal.TheVariants.{NoSuchFile}
 use Rattle.pm_store.specs.Files.{AreTold, IsPut, file_of}
-use Rattle.std.proofs.Common.{ap, arith, false, refl, subst, sym, ◌∙◌}
+use Rattle.pm_filing.specs.FileParts.{FileFault, bad_row, too_long}
+use Rattle.std.proofs.Common.{Bool, ap, arith, false, inl, inr, refl, subst, sym, true, true≢false, ◌∙◌}
 use Rattle.std.specs.Prelude.{List, Some, [], codes, ℕ, ◌∷◌, ◌≡◌}
 use Rattle.pm_machine.specs.Examples.{AnswersAreRead, ConditionsAreRead, EventsAreRead, ExclusionsAreRead, FilesAreKept, ObjectsAreRead, fifth, given, one_file, two, under}
 use Rattle.pm_props.specs.Sets.{has, only, union}
+
+abbrev is_long : FileFault → Bool
+is_long too_long = true
+is_long e = false
+
+abbrev is_of_row : FileFault → Bool
+is_of_row (bad_row name) = true
+is_of_row e = false
 
 pub events_are_read : EventsAreRead
 events_are_read = record {
@@ -99,7 +108,7 @@ one_told book old new name is (free, none, l) = some_not_none (subst (λ k. HasN
 
 written_told : (book : List Rule) (old new : Machine) (name : List ℕ) → old.store ≡ one_file (codes "f") [] → SaveStep book old name (codes "f") done new
     → (o : State) × (all : Files) × (old.object name ≡ Some o) × (new.store.files ≡ Some all) × (file_of all (codes "f") ≡ Some (bytes_of book o))
-written_told book old new name is (o, at, short, p) =
+written_told book old new name is (o, at, short, p, again) =
     let told = subst (λ k. AreTold (IsPut (codes "f") (bytes_of book o)) k.files new.store.files) is p.files in
     (o, told.0, at, told.1, told.2.0)
 
@@ -114,4 +123,12 @@ files_are_kept = record {
   objects_stay = λ book old new name file q h. h.3.objects q;
   no_object = λ book old new name file none h. some_not_none (sym h.1 ∙ none);
   it_failed = λ book old new name file h. h.3;
+  loaded_again = λ book old new name file h. (h.0, h.1, h.4);
+  limit = refl;
+  no_limit = λ e. true≢false (sym (ap is_long e));
+  row = λ name. refl;
+  no_row = λ name e. true≢false (sym (ap is_of_row e));
+  as_before = λ book old new name file h. inl h;
+  objects_stay_so = λ book old new name file q h. elim h [ inl s ↦ s.objects q | inr w ↦ w.2.objects q ];
+  of_no_object = λ book old new name file none h. elim h [ inl s ↦ s | inr w ↦ absurd (some_not_none (sym w.1 ∙ none)) ];
 }

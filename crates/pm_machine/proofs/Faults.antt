@@ -1,5 +1,5 @@
 -- A fault that has a reason is no want of memory.
-use Rattle.pm_filing.specs.FileParts.{FileFault, out_of_memory, too_long, not_json, no_type, unknown_type, bad_property, bad_row, bad_profile}
+use Rattle.pm_filing.specs.FileParts.{FileFault, out_of_memory}
 use Rattle.pm_machine.specs.Steps.{IsFault}
 use Rattle.pm_script.specs.declared.refusal.FileWhy.{FileWhy}
 use Rattle.pm_script.specs.declared.refusal.FileWhy.TheVariants as file_why

@@ -22,11 +22,11 @@ use Rattle.pm_props.specs.Sets.{only as only_property}
 use Rattle.pm_types.specs.Values.{PropertyValue}
 use Rattle.pm_props.specs.declared.property.PropId.{PropId}
 use Rattle.pm_props.specs.declared.set.PropSet.{PropSet}
-use Rattle.std.proofs.Common.{ap, arith, bytes_eq, false, inl, inr, refl, subst, sym, true, true≢false, ◌∙◌, ◌≢◌}
+use Rattle.std.proofs.Common.{ap, bytes_eq, false, inl, inr, refl, subst, sym, true, true≢false, ◌∙◌, ◌≢◌}
 use Rattle.std.proofs.lemmas.Slice.Eq.{bytes_eq-Decides}
 use Rattle.std.specs.List.{Contains}
 use Rattle.std.specs.Option.{is_some}
-use Rattle.std.specs.Prelude.{Bool, IfSome, List, None, Option, Some, [], if◌then◌else◌, length, nat_eq, not, suc, ℕ, ◌∷◌, ◌≡◌, ◌⊎◌}
+use Rattle.std.specs.Prelude.{Bool, IfSome, List, None, Option, Some, [], if◌then◌else◌, ℕ, ◌∷◌, ◌≡◌, ◌⊎◌}
 
 pub decide : (b : Bool) → (b ≡ true) ⊎ (b ≡ false)
 decide true = inl refl
@@ -228,7 +228,7 @@ save_keeps : (book : List Rule) (old new : Machine) (name file : List ℕ) (repl
 save_keeps book old new name file (refused UnknownName nothing) (h, s) all = stays_kept old new s all
 save_keeps book old new name file (refused (NotFit condition.Size) nothing) (o, at, long, s) all = stays_kept old new s all
 save_keeps book old new name file (refused StoreFault nothing) (o, at, short, fails, p) all = puts_kept _ old new p all
-save_keeps book old new name file done (o, at, short, p) all = puts_kept _ old new p all
+save_keeps book old new name file done (o, at, short, p, again) all = puts_kept _ old new p all
 save_keeps book old new name file reply h all = absurd h
 
 pub steps_keep : (book : List Rule) (old new : Machine) (command : Spoken) (reply : ReplySeen) → Step book old command reply new → AllKept old → AllKept new

@@ -1,10 +1,10 @@
 -- From a rule that is enabled to a run that may be, and from a run to a round.
-use Rattle.pm_algebra.proofs.Filters.{map_among, among_map}
+use Rattle.pm_algebra.proofs.Filters.{among_map, filter_among, map_among}
 use Rattle.pm_algebra.proofs.Lists.{Among, Contains_among, among_All, among_Contains, here, there}
 use Rattle.pm_transact.proofs.Committing.{above, ascends, both, named_held}
 use Rattle.pm_transact.specs.Commits.{FitsObject}
 use Rattle.pm_machine.specs.Chains.{IsFirstWrong, held_names, is_truth, is_wrong, some_wrong, table}
-use Rattle.pm_object.proofs.Formed.{dimension_of, value_among}
+use Rattle.pm_object.proofs.Formed.{dimension_of, place_none, value_among}
 use Rattle.pm_object.proofs.Names.{names_held}
 use Rattle.pm_object.specs.Formed.{IsFormed}
 use Rattle.pm_object.specs.Honest.{facts}
@@ -19,11 +19,11 @@ use Rattle.pm_props.proofs.Members.{has-intersection, has-union}
 use Rattle.pm_types.specs.Forms.{FormsIn, has_64_bits, is_counts_form, is_edges_form, is_formed, is_lattice_form, is_matrix_of, is_of_numbers, is_sets_form}
 use Rattle.pm_props.specs.Properties.{is_of_counts, is_of_edges, is_of_lattices, is_of_matrices, is_of_sets, is_of_whole_numbers}
 use Rattle.pm_props.specs.Kinds.{IsFresh, IsKindOf, names_of as names_of_kind}
-use Rattle.pm_props.specs.Properties.{is_in_use}
-use Rattle.pm_props.specs.Properties.{every_property, has_program, number, value_kind}
+use Rattle.pm_props.specs.Properties.{has as has_property, is_in_use}
+use Rattle.pm_props.specs.Properties.{every_property, number, value_kind}
 use Rattle.pm_types.specs.Runs.{Holds, IsFree, MayAnswer, MayRun}
 use Rattle.pm_props.specs.Places.{place_of, same_place, same_property}
-use Rattle.pm_props.specs.Sets.{has, intersection, union}
+use Rattle.pm_props.specs.Sets.{has, intersection, members, union}
 use Rattle.pm_types.specs.Values.{Fact, PropertyValue, matrix, sets, whole, truth, extended, edges, lattice, counts}
 use Rattle.pm_props.specs.declared.kind.Kind.{Kind}
 use Rattle.pm_props.specs.declared.kind.RuleId.{RuleId}
@@ -53,16 +53,6 @@ or_right false b h = h
 
 and_false : (a b : Bool) → a ≡ true → (a && b) ≡ false → b ≡ false
 and_false a b h k = cc
-
-pub place_none : (p : PropId) → place_of None p ≡ None
-place_none p = by (has_program p)
-  where
-    none : Option ℕ
-    none = None
-
-    by : (t : Bool) → (if t then none else None) ≡ none
-    by true = refl
-    by false = refl
 
 -- no element passes where none of the list does
 any_false : {X : Type 0} (test : X → Bool) (xs : List X) {x : X} → list_any test xs ≡ false → Among x xs → test x ≡ false
@@ -267,9 +257,25 @@ pub known_is : (c : Option ℕ) → is_some c ≡ true → c ≡ Some (unwrap_or
 known_is None e = absurd (true≢false (sym e))
 known_is (Some n) e = refl
 
+-- what is among the properties of a set is in the set
+in_set : (s : ℕ) {p : PropId} → Among p (members s) → has s p ≡ true
+unfolding members
+in_set s i = (filter_among (has s) every_property i).1
+
+-- what an answer is of is of the type's table
+in_table : (o : State) (kind : Kind) (read answer : List Fact) (f : Fact) → IsKindOf None o.of kind → MayAnswer o.of (unwrap_or (cols_of o.held) 1) kind None read answer → Among f answer → has_property o.of f.property ≡ true
+in_table o kind read answer f in_use may i =
+    let target : has kind.targets f.property ≡ true = in_set kind.targets (subst (Among f.property) may.targets (among_map (λ (z : Fact). z.property) i)) in
+    let named : has (names_of_kind kind) f.property ≡ true = has-union kind.targets (union kind.sources (union kind.must kind.must_not)) f.property ∙ or_left (has kind.targets f.property) (has (union kind.sources (union kind.must kind.must_not)) f.property) target in
+    by (has_property o.of f.property) (in_use f.property named)
+  where
+    by : (t : Bool) → (t || false) ≡ true → t ≡ true
+    by true h = refl
+    by false h = h
+
 -- what a client may answer fits the object
-pub fits : (o : State) (kind : Kind) (read answer : List Fact) → is_some (cols_of o.held) ≡ true → MayAnswer o.of (unwrap_or (cols_of o.held) 1) kind None read answer → FitsObject o answer
-fits o kind read answer known may = record {
+pub fits : (o : State) (kind : Kind) (read answer : List Fact) → IsKindOf None o.of kind → is_some (cols_of o.held) ≡ true → MayAnswer o.of (unwrap_or (cols_of o.held) 1) kind None read answer → FitsObject o answer
+fits o kind read answer in_use known may = record {
   each = λ f i.
       let j = among_Contains answer i in
       let forms = among_All (λ (z : Fact). FormsIn o.of (unwrap_or (cols_of o.held) 1) z.property z.value) j may.formed in
@@ -280,6 +286,7 @@ fits o kind read answer known may = record {
         entries = forms.entries;
         primitive = forms.primitive;
         placed = among_All (λ (z : Fact). z.place ≡ place_of None z.property) j may.places ∙ place_none f.property;
+        table = in_table o kind read answer f in_use may j;
       };
 }
 

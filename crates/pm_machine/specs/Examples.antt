@@ -1,5 +1,5 @@
 -- The definitions of phases, events and exclusions read on small things: what holds of them and what does not.
-use Rattle.std.specs.Prelude.{ℕ, ◌≡◌, ◌≢◌, Bool, true, false, Option, Some, None, List, [], codes, length, ◌∷◌}
+use Rattle.std.specs.Prelude.{ℕ, ◌≡◌, ◌≢◌, Bool, true, false, Option, Some, None, List, [], String, codes, length, string_bytes, ◌∷◌}
 use Rattle.pm_geom.specs.declared.evidence.Evidence.TheVariants.{E4}
 use Rattle.pm_props.specs.declared.object_type.ObjectType.TheVariants.{Cone, Polytope}
 use Rattle.pm_machine.specs.Chains.{IsFirstWrong, is_excluded, is_wrong, some_wrong}
@@ -16,10 +16,14 @@ use Rattle.pm_props.specs.Sets.{set_of}
 use Rattle.pm_types.specs.Values.{Fact, truth, whole}
 use Rattle.pm_client.specs.Starts.{Clients}
 use Rattle.pm_files.specs.Files.{SavedFile}
+use Rattle.pm_filing.specs.FileParts.{bad_profile, bad_row, not_json, too_long}
 use Rattle.pm_filing.specs.Filing.{loaded_object}
+use Rattle.pm_machine.specs.Parts.{SavedInPart}
+use Rattle.pm_script.specs.declared.refusal.FileWhy.TheVariants as file_why
+use Rattle.std.specs.declared.alloc.Global.{Global}
 use Rattle.pm_store.specs.Files.{file_of}
 use Rattle.pm_store.specs.Outside.{Rose}
-use Rattle.pm_machine.specs.Steps.{CopyStep, DropStep, Ensures, Explains, Files, Gives, LoadStep, Machine, SaveStep, Store, bytes_of, asked_in, later_rounds, origin_of, rule_names, settled_object, without_name}
+use Rattle.pm_machine.specs.Steps.{CopyStep, DropStep, Ensures, Explains, Files, Gives, IsFault, IsSavedWhole, LoadStep, Machine, SaveStep, Stays, Store, bytes_of, asked_in, later_rounds, origin_of, rule_names, settled_object, without_name}
 use Rattle.pm_rules.specs.declared.table.TableRow.{TableRow}
 use Rattle.pm_script.specs.Replies.{NamesSeen, Remarks, done, explained, loaded, nothing, refused, remarks}
 use Rattle.pm_script.specs.declared.refusal.Refusal.TheVariants.{Crowded, NoChain, NoSuchFile, ObjectsFull, StoreFault, UnknownName}
@@ -183,3 +187,14 @@ pub record FilesAreKept : Type 0 where
   pub objects_stay : (book : List Rule) (old new : Machine) (name file q : List ℕ) → SaveStep book old name file done new → new.object q ≡ old.object q
   pub no_object : (book : List Rule) (old new : Machine) (name file : List ℕ) → old.object name ≡ None → SaveStep book old name file done new → ⊥
   pub it_failed : (book : List Rule) (old new : Machine) (name file : List ℕ) → SaveStep book old name file (refused StoreFault nothing) new → Rose old.store.faults new.store.faults
+  -- what was saved is loaded again
+  pub loaded_again : (book : List Rule) (old new : Machine) (name file : List ℕ) → SaveStep book old name file done new → (o : State) × (old.object name ≡ Some o) × IsSavedWhole book o
+  -- a fault is told as it is
+  pub limit : IsFault file_why.Limit too_long
+  pub no_limit : ¬ (IsFault file_why.Limit not_json)
+  pub row : (name : String Global) → IsFault (file_why.BadRow name) (bad_row (string_bytes name))
+  pub no_row : (name : String Global) → ¬ (IsFault (file_why.BadRow name) (bad_profile (string_bytes name)))
+  -- where memory was wanting, a file was written at most, and for an object
+  pub as_before : (book : List Rule) (old new : Machine) (name file : List ℕ) → Stays old new → SavedInPart book old name file new
+  pub objects_stay_so : (book : List Rule) (old new : Machine) (name file q : List ℕ) → SavedInPart book old name file new → new.object q ≡ old.object q
+  pub of_no_object : (book : List Rule) (old new : Machine) (name file : List ℕ) → old.object name ≡ None → SavedInPart book old name file new → Stays old new

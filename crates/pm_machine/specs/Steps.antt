@@ -21,6 +21,7 @@ use Rattle.pm_object.specs.State.{CanTake, CannotTake, HeldValue, RoundSeen, Sta
 use Rattle.pm_object.specs.declared.held.Origin.{Origin}
 use Rattle.pm_object.specs.declared.held.Origin.TheVariants.{Given as Given'}
 use Rattle.pm_object.specs.declared.held.TakeFail.TheVariants as fail
+use Rattle.pm_filing.specs.Whole.{IsLoadedAgain, IsReadType}
 use Rattle.pm_filing.specs.Filing.{loaded_object, read_over, saved_file}
 use Rattle.pm_filing.specs.FileParts.{FileFault, bad_profile, bad_property, bad_row, no_type, not_json, too_long, unknown_type}
 use Rattle.pm_filing.specs.FileReadings.{Reads, Refuses}
@@ -426,6 +427,10 @@ most_written = 8388608
 abbrev pub bytes_of : List Rule → State → List ℕ
 bytes_of book o = file_bytes (saved_file book o)
 
+-- the bytes of the object's file are read as a file of which the same object is loaded, where files of its type are read
+abbrev pub IsSavedWhole : List Rule → State → Type 0
+IsSavedWhole book o = IsReadType o.of → (f : SavedFile) × Reads (bytes_of book o) f × IsLoadedAgain book o f
+
 -- `save NAME FILE`
 abbrev pub SaveStep : List Rule → Machine → List ℕ → List ℕ → ReplySeen → Machine → Type 0
 SaveStep book old name file (refused UnknownName nothing) new = (old.object name ≡ None) × Stays old new
@@ -433,7 +438,7 @@ SaveStep book old name file (refused (NotFit condition.Size) nothing) new = (o :
 SaveStep book old name file (refused StoreFault nothing) new = (o : State) × (old.object name ≡ Some o) × (length (bytes_of book o) ≤ most_written)
     × Fails old new × Puts (IsPutInPart file (bytes_of book o)) old new
 SaveStep book old name file done new = (o : State) × (old.object name ≡ Some o) × (length (bytes_of book o) ≤ most_written)
-    × Puts (IsPut file (bytes_of book o)) old new
+    × Puts (IsPut file (bytes_of book o)) old new × IsSavedWhole book o
 SaveStep book old name file reply new = ⊥
 
 -- `rules`

@@ -76,6 +76,7 @@ fn end_run(
     draft: &mut Draft,
     ran: Result<(), ClientFail>,
 ) -> Result<RoundEnd, AllocError>
+    requires in_use { IsKindOf None object.old.state.of rule.now.kind }
     requires started { StartedRule None rule.now object.old.state }
     requires begun { transaction ≡ begun None rule.now.kind }
     requires spare { targets_of rule.now.kind ≤ object.old.spare }

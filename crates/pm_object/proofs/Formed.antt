@@ -1,19 +1,22 @@
 -- Values that are added leave all values of an object in their forms, with one column count.
 use Rattle.pm_algebra.proofs.Lists.{Among, Contains_among, among_Contains, among_append, here, there}
 use Rattle.pm_props.specs.declared.object_type.ObjectType.{ObjectType}
-use Rattle.pm_object.specs.Formed.{IsFormedIn, IsFormed}
+use Rattle.pm_object.specs.Formed.{IsFormedIn, IsFormed, are_once, is_numbered, stands_at}
 use Rattle.pm_object.specs.declared.held.Held.{Held as HeldOf}
-use Rattle.pm_object.specs.State.{HeldValue, State, agrees, ambient_in, cols_of, first_cols, is_held, or_else, value_of, with_held}
-use Rattle.pm_props.proofs.Places.{same_property_is}
+use Rattle.pm_object.specs.State.{HeldValue, State, agrees, ambient_in, cols_of, empty_object, first_cols, is_held, or_else, read_at, value_of, with_excluded, with_held}
+use Rattle.pm_object.specs.declared.held.Excluded.{Excluded}
+use Rattle.pm_props.proofs.Places.{same_place_is, same_property_is}
 use Rattle.pm_types.specs.Forms.{agrees_with, is_dimension, is_formed, stated_cols, states}
-use Rattle.pm_props.specs.Properties.{is_ambient}
-use Rattle.pm_props.specs.Places.{same_property}
+use Rattle.pm_props.specs.Properties.{has_program, is_ambient}
+use Rattle.pm_props.specs.Places.{place_of, same_place, same_property}
 use Rattle.pm_types.specs.Values.{PropertyValue, matrix, sets, whole, truth, extended, edges, lattice, counts}
 use Rattle.pm_props.specs.declared.property.PropId.{PropId}
 use Rattle.pm_props.specs.declared.property.PropId.TheVariants.{ConeAmbientDim}
 use Rattle.std.proofs.Common.{ap, arith, false, inl, inr, refl, subst, sym, true, true≢false, ◌∙◌}
+use Rattle.std.proofs.lemmas.Bool.{and_from, and_parts, or_parts}
+use Rattle.std.proofs.lemmas.List.Folds.{list_any-append}
 use Rattle.std.specs.Option.{is_some}
-use Rattle.std.specs.Prelude.{Bool, List, map, None, Option, Some, [], if◌then◌else◌, nat_eq, ℕ, ◌++◌, ◌||◌, ◌≡◌, ◌⊎◌, ◌∷◌}
+use Rattle.std.specs.Prelude.{Bool, List, map, None, Option, Some, [], if◌then◌else◌, nat_eq, not, ℕ, ◌&&◌, ◌++◌, ◌||◌, ◌≡◌, ◌⊎◌, ◌∷◌}
 use lib.IntN.{pos, negsuc}
 
 decide : (b : Bool) → (b ≡ true) ⊎ (b ≡ false)
@@ -265,8 +268,83 @@ each_push of held h each fits = by (cols_of held) refl
     by : (c : Option ℕ) → cols_of held ≡ c → Each of (cols_of (held ++ h ∷ [])) (held ++ h ∷ [])
     by (Some n) e g i =
         let p = part g i in
-        record { formed = p.formed; columns = subst (λ c. agrees c g.property g.value ≡ true) (e ∙ sym (cols_stay of held h n each fits e)) p.columns; rows = p.rows; entries = p.entries; primitive = p.primitive; placed = p.placed }
-    by None e g i = let p = part g i in record { formed = p.formed; columns = agrees_then of held h each fits e g i; rows = p.rows; entries = p.entries; primitive = p.primitive; placed = p.placed }
+        record { formed = p.formed; columns = subst (λ c. agrees c g.property g.value ≡ true) (e ∙ sym (cols_stay of held h n each fits e)) p.columns; rows = p.rows; entries = p.entries; primitive = p.primitive; placed = p.placed; table = p.table }
+    by None e g i = let p = part g i in record { formed = p.formed; columns = agrees_then of held h each fits e g i; rows = p.rows; entries = p.entries; primitive = p.primitive; placed = p.placed; table = p.table }
+
+-- ---- no two values of one property at one place
+abbrev pub IsNew : HeldValue → List HeldValue → Type 0
+IsNew h held = stands_at h.place h.property held ≡ false
+
+-- so it is the other way round
+turned : (h x : HeldValue) → (same_property h.property x.property && same_place x.place h.place) ≡ false → (same_property x.property h.property && same_place h.place x.place) ≡ false
+turned h x e = by (same_property x.property h.property) refl (same_place h.place x.place) refl
+  where
+    by : (s : Bool) → same_property x.property h.property ≡ s → (k : Bool) → same_place h.place x.place ≡ k → (same_property x.property h.property && same_place h.place x.place) ≡ false
+    by true s true k =
+        absurd (true≢false (sym (and_from (same_property h.property x.property) (same_place x.place h.place)
+        (subst (λ p. same_property h.property p ≡ true) (sym (same_property_is x.property h.property s)) (subst (λ p. same_property p h.property ≡ true) (same_property_is x.property h.property s) s))
+        (subst (λ p. same_place p h.place ≡ true) (same_place_is h.place x.place k) (subst (λ p. same_place h.place p ≡ true) (sym (same_place_is h.place x.place k)) k))) ∙ e))
+    by true s false k = ap (λ t. t && same_place h.place x.place) s ∙ k
+    by false s k l = ap (λ t. t && same_place h.place x.place) s
+
+pub stands_push : (place : Option ℕ) (p : PropId) (held : List HeldValue) (h : HeldValue) → stands_at place p held ≡ false → (same_property p h.property && same_place h.place place) ≡ false → stands_at place p (held ++ h ∷ []) ≡ false
+stands_push place p held h e f =
+    list_any-append (λ (g : HeldValue). same_property p g.property && same_place g.place place) held (h ∷ [])
+    ∙ ap (λ t. t || ((same_property p h.property && same_place h.place place) || false)) e ∙ ap (λ t. t || false) f
+
+pub is_not : (b : Bool) → not b ≡ true → b ≡ false
+is_not true h = sym h
+is_not false h = refl
+
+pub once_push : (held : List HeldValue) (h : HeldValue) → are_once held ≡ true → IsNew h held → are_once (held ++ h ∷ []) ≡ true
+once_push [] h o n = refl
+once_push (x ∷ held) h o n =
+    let b = and_parts (not (stands_at x.place x.property held)) (are_once held) o in
+    let m = or_parts (same_property h.property x.property && same_place x.place h.place) (stands_at h.place h.property held) n in
+    and_from (not (stands_at x.place x.property (held ++ h ∷ []))) (are_once (held ++ h ∷ []))
+    (ap not (stands_push x.place x.property held h (is_not (stands_at x.place x.property held) b.0) (turned h x m.0)))
+    (once_push held h b.1 m.1)
+
+-- what is not held where it is read stands nowhere there
+pub new_where_read : (sub : Option ℕ) (p : PropId) (held : List HeldValue) → is_held p (read_at sub held) ≡ false → stands_at (place_of sub p) p held ≡ false
+new_where_read sub p [] e = refl
+new_where_read sub p (h ∷ held) e = by (same_property p h.property) refl (same_place h.place (place_of sub h.property)) refl (new_where_read sub p held) e
+  where
+    same : same_property p h.property ≡ true → (k : Bool) → same_place h.place (place_of sub h.property) ≡ k → same_place h.place (place_of sub p) ≡ k
+    same s k q = ap (λ z. same_place h.place (place_of sub z)) (same_property_is p h.property s) ∙ q
+
+    by : (s : Bool) → same_property p h.property ≡ s → (k : Bool) → same_place h.place (place_of sub h.property) ≡ k → (is_held p (read_at sub held) ≡ false → stands_at (place_of sub p) p held ≡ false)
+        → is_held p (if k then h ∷ read_at sub held else read_at sub held) ≡ false → ((same_property p h.property && same_place h.place (place_of sub p)) || stands_at (place_of sub p) p held) ≡ false
+    by true s true q r f = absurd (true≢false (sym (ap (λ t. is_some (if t then Some h.value else value_of p (read_at sub held))) s) ∙ f))
+    by true s false q r f = ap (λ t. (same_property p h.property && t) || stands_at (place_of sub p) p held) (same s false q) ∙ ap (λ t. (t && false) || stands_at (place_of sub p) p held) s ∙ r f
+    by false s true q r f =
+        ap (λ t. (t && same_place h.place (place_of sub p)) || stands_at (place_of sub p) p held) s
+        ∙ r (sym (ap (λ t. is_some (if t then Some h.value else value_of p (read_at sub held))) s) ∙ f)
+    by false s false q r f = ap (λ t. (t && same_place h.place (place_of sub p)) || stands_at (place_of sub p) p held) s ∙ r f
+
+-- what is not held stands nowhere
+pub new_unheld : (place : Option ℕ) (p : PropId) (held : List HeldValue) → is_held p held ≡ false → stands_at place p held ≡ false
+new_unheld place p [] e = refl
+new_unheld place p (h ∷ held) e = by (same_property p h.property) refl (new_unheld place p held) e
+  where
+    by : (s : Bool) → same_property p h.property ≡ s → (is_held p held ≡ false → stands_at place p held ≡ false)
+        → is_some (if s then Some h.value else value_of p held) ≡ false → ((same_property p h.property && same_place h.place place) || stands_at place p held) ≡ false
+    by true s r f = absurd (true≢false f)
+    by false s r f = ap (λ t. (t && same_place h.place place) || stands_at place p held) s ∙ r f
+
+-- seen from the object itself all stands in the object itself
+pub place_none : (p : PropId) → place_of None p ≡ None
+place_none p = by (has_program p)
+  where
+    nowhere : Option ℕ
+    nowhere = None
+
+    by : (b : Bool) → (if b then nowhere else nowhere) ≡ nowhere
+    by true = refl
+    by false = refl
+
+pub new_in_object : (p : PropId) (held : List HeldValue) → is_held p (read_at None held) ≡ false → stands_at None p held ≡ false
+new_in_object p held e = subst (λ place. stands_at place p held ≡ false) (place_none p) (new_where_read None p held e)
 
 -- what is held stays held
 pub held_stays : (p : PropId) (xs ys : List HeldValue) → is_held p xs ≡ true → is_held p (xs ++ ys) ≡ true
@@ -277,9 +355,11 @@ held_stays p xs ys e = by (value_of p xs) refl e
     by (Some v) is k = ap is_some (value_stays p xs ys v is)
 
 -- an object with one value more, which was in its form
-pub formed_push : (o : State) (h : HeldValue) → IsFormed o → IsFormedIn o.of (cols_of o.held) h → IsFormed (with_held o (h ∷ []))
-formed_push o h f fits = record {
+pub formed_push : (o : State) (h : HeldValue) → IsFormed o → IsNew h o.held → IsFormedIn o.of (cols_of o.held) h → IsFormed (with_held o (h ∷ []))
+formed_push o h f new fits = record {
   each = λ g i. each_push o.of o.held h (λ k j. f.each k (Contains_among j)) fits g (among_Contains (o.held ++ h ∷ []) i);
+  once = once_push o.held h f.once new;
+  numbered = f.numbered;
   dimension = λ s. held_stays ConeAmbientDim o.held (h ∷ []) (f.dimension s);
 }
 
@@ -288,7 +368,25 @@ map_push f [] x = refl
 map_push f (y ∷ ys) x = ap (λ t. f y ∷ t) (map_push f ys x)
 
 -- the same, of the code's lists
-pub formed_pushed : (o : State) (f : HeldOf → HeldValue) (xs ys : List HeldOf) (x : HeldOf) → o.held ≡ map f xs → ys ≡ xs ++ x ∷ [] → IsFormed o → IsFormedIn o.of (cols_of o.held) (f x) → IsFormed (record o { held = map f ys })
-formed_pushed o f xs ys x is e formed fits =
+pub formed_pushed : (o : State) (f : HeldOf → HeldValue) (xs ys : List HeldOf) (x : HeldOf) → o.held ≡ map f xs → ys ≡ xs ++ x ∷ [] → IsFormed o → IsNew (f x) o.held → IsFormedIn o.of (cols_of o.held) (f x) → IsFormed (record o { held = map f ys })
+formed_pushed o f xs ys x is e formed new fits =
     let same : map f ys ≡ o.held ++ f x ∷ [] = ap (λ t. map f t) e ∙ map_push f xs x ∙ ap (λ t. t ++ f x ∷ []) (sym is) in
-    subst (λ z. IsFormed (record o { held = z })) (sym same) (formed_push o (f x) formed fits)
+    subst (λ z. IsFormed (record o { held = z })) (sym same) (formed_push o (f x) formed new fits)
+
+-- ---- an exclusion more
+pub formed_excluded : (o : State) (e : Excluded) → IsFormed o → is_numbered e.why ≡ true → IsFormed (with_excluded o e)
+formed_excluded o e f n = record {
+  each = f.each;
+  once = f.once;
+  numbered = λ g i. elim (among_append o.excluded (e ∷ []) (among_Contains (o.excluded ++ e ∷ []) i)) [ inl j ↦ f.numbered g (Contains_among j) | inr j ↦ subst (λ (z : Excluded). is_numbered z.why ≡ true) (sym (only j)) n ];
+  dimension = f.dimension;
+}
+
+-- what holds nothing
+pub formed_empty : (of : ObjectType) → IsFormed (empty_object of)
+formed_empty of = record {
+  each = λ h i. elim (among_Contains [] i) [ ];
+  once = refl;
+  numbered = λ e i. elim (among_Contains [] i) [ ];
+  dimension = λ s. absurd (true≢false (sym s));
+}

@@ -1,24 +1,27 @@
 -- What goes without saying leaves all values of an object in their forms.
 use Rattle.pm_algebra.proofs.Lists.{Contains_among, all_append, here, there}
-use Rattle.pm_object.proofs.Formed.{Each, formed_push, held_dimension, held_stays, value_later, value_stays}
-use Rattle.pm_object.specs.Formed.{IsFormedIn, IsFormed}
+use Rattle.pm_object.proofs.Formed.{Each, formed_push, held_dimension, held_stays, is_not, new_unheld, value_among, value_later, value_stays}
+use Rattle.pm_object.specs.Formed.{IsFormedIn, IsFormed, stands_at}
 use Rattle.pm_object.specs.declared.held.Held.{Held as HeldOf}
 use Rattle.pm_algebra.specs.Numbers.{Ratio}
 use Rattle.pm_object.specs.State.{HeldValue, State, agrees, ambient_in, cols_of, first_cols, is_held, has_rounds, names_to_settle, only_if, or_else, settled, settling, value_of, with_held}
 use Rattle.pm_matrix.specs.Matrices.{IsFraction}
 use Rattle.pm_types.specs.Forms.{HasPrimitiveRow, cols_in, is_column_count, is_dimension, is_formed, is_matrix_form, is_matrix_of, is_row_of_entries, stated_cols}
-use Rattle.pm_props.specs.Properties.{is_columned, is_of_matrices}
+use Rattle.pm_props.specs.Places.{same_place, same_property}
+use Rattle.pm_props.specs.Properties.{has, is_columned, is_of_matrices}
 use Rattle.pm_props.specs.Properties.{value_kind}
 use Rattle.pm_types.specs.Values.{PropertyValue, matrix, sets, whole, truth, extended, edges, lattice, counts}
 use Rattle.pm_props.specs.declared.property.PropId.{PropId}
-use Rattle.pm_props.specs.declared.property.PropId.TheVariants.{ConeAmbientDim, InputLineality, Equations, LinealitySpace, AffineHull, F2Vector, LinearObjective}
+use Rattle.pm_props.specs.declared.property.PropId.TheVariants.{ConeAmbientDim, Points, InputLineality, Inequalities, Equations, Vertices, LinealitySpace, Facets, AffineHull, F2Vector, LinearObjective}
 use Rattle.pm_props.specs.declared.object_type.ObjectType.{ObjectType}
-use Rattle.std.proofs.Common.{ap, append-nil, arith, false, refl, subst, sym, true, true≢false, ◌∙◌}
+use Rattle.pm_props.specs.declared.object_type.ObjectType.TheVariants.{Polytope, Cone, Fan}
+use Rattle.std.proofs.Common.{ap, append-nil, append_assoc, arith, false, refl, subst, sym, true, true≢false, ◌∙◌}
 use Rattle.std.proofs.lemmas.Bool.{leb-true}
 use Rattle.std.proofs.lemmas.List.Elements.{All-nil}
+use Rattle.std.proofs.lemmas.List.Folds.{list_any-append}
 use Rattle.std.specs.List.{All, AllByRecursion, list_all}
 use Rattle.std.specs.Option.{is_some, unwrap_or}
-use Rattle.std.specs.Prelude.{Bool, IfSome, List, None, Option, Some, [], if◌then◌else◌, length, map, nat_eq, nat_le, not, ℕ, ◌&&◌, ◌++◌, ◌^◌, ◌<◌, ◌≡◌, ◌∷◌}
+use Rattle.std.specs.Prelude.{Bool, IfSome, List, None, Option, Some, [], if◌then◌else◌, length, map, nat_eq, nat_le, not, ℕ, ◌&&◌, ◌||◌, ◌++◌, ◌^◌, ◌<◌, ◌≡◌, ◌∷◌}
 use lib.IntN.{pos}
 
 -- the properties that are settled as matrices without rows
@@ -35,31 +38,54 @@ no_rows_agree (Some n) equations = refl
 no_rows_agree (Some n) space = refl
 no_rows_agree (Some n) hull = refl
 
-plain_formed : (of : ObjectType) (c : Option ℕ) (n : ℕ) {p : PropId} → Plain p → IsFormedIn of c (settled n p)
-plain_formed of c n lineality = record { formed = refl; columns = no_rows_agree c lineality; rows = refl; entries = All-nil (All IsFraction); primitive = All-nil HasPrimitiveRow; placed = refl }
-plain_formed of c n equations = record { formed = refl; columns = no_rows_agree c equations; rows = refl; entries = All-nil (All IsFraction); primitive = All-nil HasPrimitiveRow; placed = refl }
-plain_formed of c n space = record { formed = refl; columns = no_rows_agree c space; rows = refl; entries = All-nil (All IsFraction); primitive = All-nil HasPrimitiveRow; placed = refl }
-plain_formed of c n hull = record { formed = refl; columns = no_rows_agree c hull; rows = refl; entries = All-nil (All IsFraction); primitive = All-nil HasPrimitiveRow; placed = refl }
-
-append_more : (xs : List HeldValue) (h : HeldValue) (ys : List HeldValue) → (xs ++ h ∷ []) ++ ys ≡ xs ++ h ∷ ys
-append_more [] h ys = refl
-append_more (x ∷ xs) h ys = ap (λ t. x ∷ t) (append_more xs h ys)
-
-with_more : (o : State) (h : HeldValue) (ys : List HeldValue) → with_held (with_held o (h ∷ [])) ys ≡ with_held o (h ∷ ys)
-with_more o h ys = ap (λ t. record o { held = t }) (append_more o.held h ys)
+plain_formed : (of : ObjectType) (c : Option ℕ) (n : ℕ) {p : PropId} → Plain p → has of p ≡ true → IsFormedIn of c (settled n p)
+plain_formed of c n lineality t = record { formed = refl; columns = no_rows_agree c lineality; rows = refl; entries = All-nil (All IsFraction); primitive = All-nil HasPrimitiveRow; placed = refl; table = t }
+plain_formed of c n equations t = record { formed = refl; columns = no_rows_agree c equations; rows = refl; entries = All-nil (All IsFraction); primitive = All-nil HasPrimitiveRow; placed = refl; table = t }
+plain_formed of c n space t = record { formed = refl; columns = no_rows_agree c space; rows = refl; entries = All-nil (All IsFraction); primitive = All-nil HasPrimitiveRow; placed = refl; table = t }
+plain_formed of c n hull t = record { formed = refl; columns = no_rows_agree c hull; rows = refl; entries = All-nil (All IsFraction); primitive = All-nil HasPrimitiveRow; placed = refl; table = t }
 
 with_nothing : (o : State) → with_held o [] ≡ o
 with_nothing o = ap (λ t. record o { held = t }) (append-nil o.held)
 
-plain_settled : (o : State) (n : ℕ) (names : List PropId) → AllByRecursion Plain names → IsFormed o → IsFormed (with_held o (map (settled n) names))
-plain_settled o n [] a f = subst IsFormed (sym (with_nothing o)) f
-plain_settled o n (p ∷ names) a f =
-    subst IsFormed (with_more o (settled n p) (map (settled n) names))
-    (plain_settled (with_held o (settled n p ∷ [])) n names a.1 (formed_push o (settled n p) f (plain_formed o.of (cols_of o.held) n a.0)))
+map_append : {A B : Type 0} (f : A → B) (xs ys : List A) → map f (xs ++ ys) ≡ map f xs ++ map f ys
+map_append f [] ys = refl
+map_append f (x ∷ xs) ys = ap (λ t. f x ∷ t) (map_append f xs ys)
 
-plain_if : (b : Bool) (p : PropId) → Plain p → AllByRecursion Plain (only_if b p)
-plain_if true p q = (q, tt)
-plain_if false p q = tt
+with_last : (o : State) (xs ys : List HeldValue) → with_held (with_held o xs) ys ≡ with_held o (xs ++ ys)
+with_last o xs ys = ap (λ t. record o { held = t }) (append_assoc o.held xs ys)
+
+-- ---- the properties are settled in turn
+-- a matrix without rows of this property may be settled: the type's table has it, and it does not stand in the object
+record MaySettle (of : ObjectType) (held : List HeldValue) (p : PropId) : Type 0 where
+  plain : Plain p
+  table : has of p ≡ true
+  new : stands_at None p held ≡ false
+
+abbrev AreApart : PropId → List PropId → Type 0
+AreApart p names = AllByRecursion (λ q. same_property p q ≡ false) names
+
+apart_if : (b : Bool) (p q : PropId) → same_property p q ≡ false → AreApart p (only_if b q)
+apart_if true p q e = (e, tt)
+apart_if false p q e = tt
+
+none_settled : (p : PropId) (n : ℕ) (names : List PropId) → AreApart p names → stands_at None p (map (settled n) names) ≡ false
+none_settled p n [] a = refl
+none_settled p n (q ∷ names) a = ap (λ t. (t && true) || stands_at None p (map (settled n) names)) a.0 ∙ none_settled p n names a.1
+
+new_still : (p : PropId) (n : ℕ) (names : List PropId) (held : List HeldValue) → stands_at None p held ≡ false → AreApart p names → stands_at None p (held ++ map (settled n) names) ≡ false
+new_still p n names held new a =
+    list_any-append (λ (g : HeldValue). same_property p g.property && same_place g.place None) held (map (settled n) names)
+    ∙ ap (λ t. t || stands_at None p (map (settled n) names)) new ∙ none_settled p n names a
+
+settle_more : (o : State) (n : ℕ) (names : List PropId) (b : Bool) (p : PropId) → IsFormed (with_held o (map (settled n) names)) → (b ≡ true → MaySettle o.of o.held p) → AreApart p names
+    → IsFormed (with_held o (map (settled n) (names ++ only_if b p)))
+settle_more o n names false p f may a = subst (λ t. IsFormed (with_held o (map (settled n) t))) (sym (append-nil names)) f
+settle_more o n names true p f may a =
+    let m = may refl in
+    let last : with_held (with_held o (map (settled n) names)) (settled n p ∷ []) ≡ with_held o (map (settled n) (names ++ p ∷ [])) =
+    with_last o (map (settled n) names) (settled n p ∷ []) ∙ ap (λ t. with_held o t) (sym (map_append (settled n) names (p ∷ []))) in
+    subst IsFormed last
+    (formed_push (with_held o (map (settled n) names)) (settled n p) f (new_still p n names o.held m.new a) (plain_formed o.of (cols_of (o.held ++ map (settled n) names)) n m.plain m.table))
 
 -- ---- a known column count is from 1 to 33
 and_left : (a b : Bool) → (a && b) ≡ true → a ≡ true
@@ -130,6 +156,11 @@ cols_fit o (Some n) f e =
     omega arith
 
 -- the dimension that is settled
+all_have_it : (of : ObjectType) → has of ConeAmbientDim ≡ true
+all_have_it Polytope = refl
+all_have_it Cone = refl
+all_have_it Fan = refl
+
 dimension_fits : (of : ObjectType) (held : List HeldValue) → Each of (cols_of held) held → IsFormedIn of (cols_of held) (settled (unwrap_or (cols_of held) 1) ConeAmbientDim)
 dimension_fits of held each = by (cols_of held) refl
   where
@@ -137,37 +168,73 @@ dimension_fits of held each = by (cols_of held) refl
     same_number n = grind arith
 
     by : (c : Option ℕ) → cols_of held ≡ c → IsFormedIn of c (settled (unwrap_or c 1) ConeAmbientDim)
-    by None e = record { formed = refl; columns = refl; rows = refl; entries = All-nil (All IsFraction); primitive = All-nil HasPrimitiveRow; placed = refl }
-    by (Some n) e = record { formed = cols_range of held n each e; columns = same_number n; rows = refl; entries = All-nil (All IsFraction); primitive = All-nil HasPrimitiveRow; placed = refl }
+    by None e = record { formed = refl; columns = refl; rows = refl; entries = All-nil (All IsFraction); primitive = All-nil HasPrimitiveRow; placed = refl; table = all_have_it of }
+    by (Some n) e = record { formed = cols_range of held n each e; columns = same_number n; rows = refl; entries = All-nil (All IsFraction); primitive = All-nil HasPrimitiveRow; placed = refl; table = all_have_it of }
 
--- the names after the dimension: b, c, d, e say which of them are settled
-plain_names : (b c d e : Bool) → AllByRecursion Plain (only_if b InputLineality ++ only_if c Equations ++ only_if d LinealitySpace ++ only_if e AffineHull)
-plain_names b c d e =
-    all_append Plain (only_if b InputLineality ++ only_if c Equations ++ only_if d LinealitySpace) (only_if e AffineHull)
-    (all_append Plain (only_if b InputLineality ++ only_if c Equations) (only_if d LinealitySpace)
-    (all_append Plain (only_if b InputLineality) (only_if c Equations) (plain_if b InputLineality lineality) (plain_if c Equations equations))
-    (plain_if d LinealitySpace space))
-    (plain_if e AffineHull hull)
+dimension_settled : (o : State) (n : ℕ) (a : Bool) → n ≡ unwrap_or (cols_of o.held) 1 → IsFormed o → (a ≡ true → stands_at None ConeAmbientDim o.held ≡ false) → IsFormed (with_held o (map (settled n) (only_if a ConeAmbientDim)))
+dimension_settled o n false is f new = subst IsFormed (sym (with_nothing o)) f
+dimension_settled o n true is f new =
+    formed_push o (settled n ConeAmbientDim) f (new refl)
+    (subst (λ k. IsFormedIn o.of (cols_of o.held) (settled k ConeAmbientDim)) (sym is) (dimension_fits o.of o.held (λ g i. f.each g (Contains_among i))))
 
-names_settled : (o : State) (n : ℕ) (a b c d e : Bool) → n ≡ unwrap_or (cols_of o.held) 1 → IsFormed o
+-- a, b, c, d, e say which of the properties are settled
+names_settled : (o : State) (n : ℕ) (a b c d e : Bool) → n ≡ unwrap_or (cols_of o.held) 1 → IsFormed o → (a ≡ true → stands_at None ConeAmbientDim o.held ≡ false)
+    → (b ≡ true → MaySettle o.of o.held InputLineality) → (c ≡ true → MaySettle o.of o.held Equations) → (d ≡ true → MaySettle o.of o.held LinealitySpace) → (e ≡ true → MaySettle o.of o.held AffineHull)
     → IsFormed (with_held o (map (settled n) (only_if a ConeAmbientDim ++ only_if b InputLineality ++ only_if c Equations ++ only_if d LinealitySpace ++ only_if e AffineHull)))
-names_settled o n false b c d e is f = plain_settled o n _ (plain_names b c d e) f
-names_settled o n true b c d e is f =
-    let h = settled n ConeAmbientDim in
-    let fits : IsFormedIn o.of (cols_of o.held) h = subst (λ k. IsFormedIn o.of (cols_of o.held) (settled k ConeAmbientDim)) (sym is) (dimension_fits o.of o.held (λ g i. f.each g (Contains_among i))) in
-    subst IsFormed (with_more o h (map (settled n) (only_if b InputLineality ++ only_if c Equations ++ only_if d LinealitySpace ++ only_if e AffineHull)))
-    (plain_settled (with_held o (h ∷ [])) n _ (plain_names b c d e) (formed_push o h f fits))
+names_settled o n a b c d e is f ma mb mc md me =
+    let A = only_if a ConeAmbientDim in
+    let B = only_if b InputLineality in
+    let C = only_if c Equations in
+    let D = only_if d LinealitySpace in
+    let apart_two : (p : PropId) → same_property p ConeAmbientDim ≡ false → same_property p InputLineality ≡ false → AreApart p (A ++ B) =
+    λ p u v. all_append (λ q. same_property p q ≡ false) A B (apart_if a p ConeAmbientDim u) (apart_if b p InputLineality v) in
+    let apart_three : (p : PropId) → same_property p ConeAmbientDim ≡ false → same_property p InputLineality ≡ false → same_property p Equations ≡ false → AreApart p (A ++ B ++ C) =
+    λ p u v w. all_append (λ q. same_property p q ≡ false) (A ++ B) C (apart_two p u v) (apart_if c p Equations w) in
+    let first = dimension_settled o n a is f ma in
+    let second = settle_more o n A b InputLineality first mb (apart_if a InputLineality ConeAmbientDim refl) in
+    let third = settle_more o n (A ++ B) c Equations second mc (apart_two Equations refl refl) in
+    let fourth = settle_more o n (A ++ B ++ C) d LinealitySpace third md (apart_three LinealitySpace refl refl refl) in
+    settle_more o n (A ++ B ++ C ++ D) e AffineHull fourth me
+    (all_append (λ q. same_property AffineHull q ≡ false) (A ++ B ++ C) D (apart_three AffineHull refl refl refl) (apart_if d AffineHull LinealitySpace refl))
+
+-- what is held is of the type's table
+in_table : (o : State) (p : PropId) → IsFormed o → is_held p o.held ≡ true → has o.of p ≡ true
+in_table o p f e = by (value_of p o.held) refl e
+  where
+    by : (v : Option PropertyValue) → value_of p o.held ≡ v → is_some v ≡ true → has o.of p ≡ true
+    by None is k = absurd (true≢false (sym k))
+    by (Some v) is k = let (h, i, same, w) = value_among p o.held v is in subst (λ q. has o.of q ≡ true) same (f.each h (Contains_among i)).table
+
+unheld : (p : PropId) (held : List HeldValue) → not (is_held p held) ≡ true → stands_at None p held ≡ false
+unheld p held e = new_unheld None p held (is_not (is_held p held) e)
+
+-- the first and the last of five conditions
+first_of_five : (a b c d e : Bool) → (a && b && c && d && e) ≡ true → a ≡ true
+first_of_five a b c d e h = and_left a b (and_left (a && b) c (and_left (a && b && c) d (and_left (a && b && c && d) e h)))
+
+last_of_five : (a b c d e : Bool) → (a && b && c && d && e) ≡ true → e ≡ true
+last_of_five a b c d e h = and_right (a && b && c && d) e h
 
 pub formed_settle : (o : State) → IsFormed o → IsFormed (with_held o (settling o))
 formed_settle o f = by (has_rounds o)
   where
+    held : PropId → Bool
+    held p = is_held p o.held
+
     by : (t : Bool) → IsFormed (with_held o (map (settled (unwrap_or (cols_of o.held) 1)) (if t then [] else names_to_settle o.held)))
     by true = subst IsFormed (sym (with_nothing o)) f
-    by false = names_settled o _ _ _ _ _ _ refl f
-
-map_append : {A B : Type 0} (f : A → B) (xs ys : List A) → map f (xs ++ ys) ≡ map f xs ++ map f ys
-map_append f [] ys = refl
-map_append f (x ∷ xs) ys = ap (λ t. f x ∷ t) (map_append f xs ys)
+    by false =
+        names_settled o (unwrap_or (cols_of o.held) 1) _ _ _ _ _ refl f (λ h. unheld ConeAmbientDim o.held h)
+        (λ h. record { plain = lineality; table = in_table o Points f (and_left (held Points) (not (held InputLineality)) h); new = unheld InputLineality o.held (and_right (held Points) (not (held InputLineality)) h) })
+        (λ h. record { plain = equations; table = in_table o Inequalities f (and_left (held Inequalities) (not (held Equations)) h); new = unheld Equations o.held (and_right (held Inequalities) (not (held Equations)) h) })
+        (λ h.
+        let first = first_of_five (held Vertices) (not (held Points)) (not (held Inequalities)) (not (held Facets && held AffineHull)) (not (held LinealitySpace)) h in
+        let last = last_of_five (held Vertices) (not (held Points)) (not (held Inequalities)) (not (held Facets && held AffineHull)) (not (held LinealitySpace)) h in
+        record { plain = space; table = in_table o Vertices f first; new = unheld LinealitySpace o.held last })
+        (λ h.
+        let first = first_of_five (held Facets) (not (held Points)) (not (held Inequalities)) (not (held Vertices)) (not (held AffineHull)) h in
+        let last = last_of_five (held Facets) (not (held Points)) (not (held Inequalities)) (not (held Vertices)) (not (held AffineHull)) h in
+        record { plain = hull; table = in_table o Facets f first; new = unheld AffineHull o.held last })
 
 -- the same, of the code's lists
 pub formed_settled : (o : State) (f : HeldOf → HeldValue) (xs ys zs : List HeldOf) → o.held ≡ map f xs → zs ≡ xs ++ ys → map f ys ≡ settling o → IsFormed o → IsFormed (record o { held = map f zs })

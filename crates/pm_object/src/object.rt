@@ -4,7 +4,8 @@ ghost use Rattle.pm_types.specs.Values.{whole};
 ghost use Rattle.pm_props.specs.declared.property.PropId.TheVariants.{ConeAmbientDim};
 ghost use Rattle.pm_object.specs.State.{CanTake, CannotTake, State, agrees, ambient_in, cols_of, empty_object, is_disabled, file_value, has_rounds, holds_stored, is_held, is_sealed, names_of, names_to_settle, read_at, settling, settling_names, value_of, with_disabled, with_excluded, with_held, with_round};
 ghost use Rattle.pm_types.specs.Forms.{HavePrimitiveRows, are_rows, is_formed};
-ghost use Rattle.pm_object.specs.Formed.{IsFormed, IsFormedIn};
+ghost use Rattle.pm_object.specs.Formed.{IsFormed, IsFormedIn, is_numbered};
+ghost use Rattle.pm_props.specs.Properties.{has as has_property};
 ghost use Rattle.pm_object.specs.Views.{held_seen, round_seen};
 ghost use Rattle.pm_object.specs.Laws.{computed_at};
 ghost use Rattle.pm_object.specs.declared.held.Origin.TheVariants.{Given, Stored};
@@ -187,10 +188,12 @@ impl Object {
         Ok(())
     }
 
-    /// Adds a value that a file gives, of a property that is not held. It has its form and agrees with n, and its rows
-    /// pass the tests of its property.
+    /// Adds a value that a file gives, of a property of the type's table that is not held. It has its form and agrees with
+    /// n, and its rows pass the tests of its property.
     pub fn add_given(&mut self, p: PropId, v: Value) -> Result<(), AllocError>
         requires formed { IsTrue (is_formed p (view_of v)) }
+        requires missing { is_held p (read_at None self.old.state.held) ≡ false }
+        requires table { IsTrue (has_property self.old.state.of p) }
         requires columns { IsTrue (agrees (cols_of self.old.state.held) p (view_of v)) }
         requires rows { IsTrue (are_rows self.old.state.of p (view_of v)) }
         requires primitive { HavePrimitiveRows (view_of v) }
@@ -203,6 +206,8 @@ impl Object {
     /// Adds such a value that was computed in an earlier run. Then the object is sealed.
     pub fn add_stored(&mut self, p: PropId, v: Value) -> Result<(), AllocError>
         requires formed { IsTrue (is_formed p (view_of v)) }
+        requires missing { is_held p (read_at None self.old.state.held) ≡ false }
+        requires table { IsTrue (has_property self.old.state.of p) }
         requires columns { IsTrue (agrees (cols_of self.old.state.held) p (view_of v)) }
         requires rows { IsTrue (are_rows self.old.state.of p (view_of v)) }
         requires primitive { HavePrimitiveRows (view_of v) }
@@ -215,6 +220,8 @@ impl Object {
     // Adds a value of a file.
     fn add_of_file(&mut self, origin: Origin, p: PropId, v: Value) -> Result<(), AllocError>
         requires formed { IsTrue (is_formed p (view_of v)) }
+        requires missing { is_held p (read_at None self.old.state.held) ≡ false }
+        requires table { IsTrue (has_property self.old.state.of p) }
         requires columns { IsTrue (agrees (cols_of self.old.state.held) p (view_of v)) }
         requires rows { IsTrue (are_rows self.old.state.of p (view_of v)) }
         requires primitive { HavePrimitiveRows (view_of v) }
@@ -236,6 +243,7 @@ impl Object {
     fn may_take(&self, p: PropId, v: &Value) -> Result<(), TakeFail>
         requires formed { IsTrue (is_formed p (view_of v.now)) }
         ensures ok { OnOk result (CanTake self.now.state p (view_of v.now)) }
+        ensures missing { OnOk result (is_held p (read_at None self.now.state.held) ≡ false) }
         ensures fits { OnOk result (IsFormedIn self.now.state.of (cols_of self.now.state.held) (record { place = None; property = p; value = view_of v.now; origin = Given })) }
         ensures refused { IfErr result (λ e. e ≢ TakeFail.Memory → CannotTake self.now.state p (view_of v.now) e) }
     {
@@ -389,8 +397,9 @@ impl Object {
         Ok(())
     }
 
-    /// Excludes a rule.
+    /// Excludes a rule. The number of the evidence that a file told is from 1 to 5.
     pub fn exclude(&mut self, e: Excluded) -> Result<(), AllocError>
+        requires numbered { IsTrue (is_numbered e.why) }
         ensures ok { OnOk result (self.new.state ≡ with_excluded self.old.state e) }
         ensures err { OnErr result (self.new.state ≡ self.old.state) }
     {

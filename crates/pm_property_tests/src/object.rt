@@ -1,5 +1,8 @@
 // Objects with memory at hand: what is taken and what is not, what goes without saying, and copies.
 
+ghost use Rattle.pm_object.specs.Formed.{is_numbered};
+ghost use Rattle.std.specs.Prelude.{IsTrue};
+
 use crate::values::value_of;
 use pm_geom::Evidence;
 use pm_object::{Excluded, Object, Round, RoundEnd, TakeFail, Why};
@@ -131,7 +134,9 @@ fn pair(rt: &(impl Abort + AllocGlobal), first: i8, second: i8) -> Ints {
 }
 
 // A rule that failed with evidence.
-fn failed_rule(rt: &(impl Abort + AllocGlobal)) -> Excluded {
+fn failed_rule(rt: &(impl Abort + AllocGlobal)) -> Excluded
+    ensures { IsTrue (is_numbered result.why) }
+{
     let first = pair(rt, 1, 2);
     let second = pair(rt, 3, 4);
     Excluded {

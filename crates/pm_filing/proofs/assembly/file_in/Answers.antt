@@ -6,7 +6,7 @@ use Rattle.std.proofs.lemmas.Result.{err_from_is_err_and}
 use Rattle.pm_props.specs.declared.property.PropId.{PropId}
 use Rattle.pm_types.specs.Values.{PropertyValue}
 use Rattle.pm_types.specs.Views.{view_of}
-use Rattle.serde_json.specs.View.{items_view, view}
+use Rattle.serde_json.specs.View.{view}
 use Rattle.pm_filing.specs.FileParts.{ignored_in, then_read}
 use Rattle.pm_filing.specs.Profiles.{file_with, members_of, names_held, objectives_in, profile_in, programs_in, programs_with, values_in}
 use Rattle.pm_filing.specs.ReadingViews.{all_marks_seen, are_formed_values, is_formed_objective, marks_seen, part_seen}

@@ -10,4 +10,4 @@ use Rattle.pm_machine.proofs.round.end_run.Goals as goal
 pub commit-requires-clause-fits : goal.commit-requires-clause-fits
 commit-requires-clause-fits c =
     let moved : answer c.move_values.new.transaction ≡ answer_of None c.args.draft.now = c.move_values.ensures.answer ∙ ap (λ t. answer_of t.sub c.args.draft.now) c.requires.begun in
-    subst (λ answer. FitsObject c.args.object.now.state answer) (sym moved) (fits c.args.object.now.state c.args.rule.now.kind _ _ c.requires.started.known (rw c.in-Ok.is at c.requires.sound))
+    subst (λ answer. FitsObject c.args.object.now.state answer) (sym moved) (fits c.args.object.now.state c.args.rule.now.kind _ _ c.requires.in_use c.requires.started.known (rw c.in-Ok.is at c.requires.sound))

@@ -16,6 +16,9 @@ run_client-ran-requires-clause-may g c = rw (c.in_ok-transaction.ensures.begun, 
 pub run_client-ran-requires-clause-empty : goal.run_client-ran-requires-clause-empty
 run_client-ran-requires-clause-empty g c = rw c.in_ok-transaction.ensures.begun c.new-draft.ensures
 
+pub end_run-requires-clause-in_use : goal.end_run-requires-clause-in_use
+end_run-requires-clause-in_use g c = rw c.begin.ensures.state c.requires.in_use
+
 pub end_run-requires-clause-started : goal.end_run-requires-clause-started
 end_run-requires-clause-started g c = rw c.begin.ensures.state c.requires.may
 

@@ -1,7 +1,5 @@
 -- The bytes are refused for the fault that reading found.
-use Rattle.std.proofs.Common.{refl, rules, ◌≢◌}
-use Rattle.pm_filing.specs.FileParts.{out_of_memory}
-use Rattle.pm_filing.specs.FileReadings.{Refuses}
+use Rattle.std.proofs.Common.{refl}
 use Rattle.pm_filing.specs.ReadingViews.{fault_of}
 use Rattle.pm_machine.proofs.Faults.{fault_is_known}
 use Rattle.pm_machine.specs.Steps.{IsFault}

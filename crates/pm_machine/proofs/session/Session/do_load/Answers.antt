@@ -2,12 +2,12 @@
 use Rattle.std.proofs.Common.{None, Some, ap, refl, rules, ◌≡◌, ◌∙◌, sym}
 use Rattle.std.proofs.lemmas.Bool.{OnFalse_at}
 use Rattle.pm_machine.proofs.Beside.{bytes_found, file_answered, none_found}
-use Rattle.pm_machine.specs.Steps.{IsFree, Store}
+use Rattle.pm_machine.specs.Steps.{Store}
 use Rattle.pm_object.specs.State.{ObjectSeen}
 use Rattle.pm_script.specs.Replies.{seen}
 use Rattle.std.specs.HashMap.{get_by_text}
 use Rattle.std.specs.Option.{option_map}
-use Rattle.std.specs.Prelude.{List, string_bytes, ℕ}
+use Rattle.std.specs.Prelude.{string_bytes}
 use Rattle.pm_machine.proofs.session.Session.do_load.Goals as goal
 
 pub returns-in_default-clause-step : goal.returns-in_default-clause-step

@@ -1,7 +1,7 @@
 -- The file of the object is written, whole or in part, or it is too long.
-use Rattle.std.proofs.Common.{Some, inr, refl, rules, subst, sym, ◌∙◌, ◌≡◌}
-use Rattle.pm_machine.specs.Sessions.{book_of}
-use Rattle.pm_machine.specs.Steps.{bytes_of, most_written}
+use Rattle.std.proofs.Common.{Some, inr, refl, rules, subst, ◌∙◌, ◌≡◌}
+use Rattle.pm_filing.specs.FileReadings.{Reads}
+use Rattle.pm_machine.specs.Steps.{most_written}
 use Rattle.pm_object.specs.State.{ObjectSeen}
 use Rattle.pm_store.specs.Files.{AreTold, IsPut, IsPutInPart}
 use Rattle.pm_store.specs.Outside.{Rose}
@@ -15,7 +15,7 @@ returns-then-len-gt-MOST_WRITTEN-clause-step g c =
     let named : option_map (λ (o : ObjectSeen). o.state) (get_by_text c.args.self.now.objects c.args.name.now) ≡ Some c.in-Some.object.now.state = search rules in
     let long : most_written < length c.in_ok-bytes.bytes.items = search rules in
     rw c.refused-then-len-gt-MOST_WRITTEN.ensures
-    (c.in-Some.object.now.state, named, subst (λ z. most_written < length z) c.in_ok-bytes.ensures long, record { names = refl; objects = λ q. refl; clients = refl; store = refl })
+    (c.in-Some.object.now.state, named, subst (λ z. most_written < length z) c.in_ok-bytes.ensures.file long, record { names = refl; objects = λ q. refl; clients = refl; store = refl })
 
 pub returns-in-Ok-clause-step : goal.returns-in-Ok-clause-step
 returns-in-Ok-clause-step g c =
@@ -23,14 +23,15 @@ returns-in-Ok-clause-step g c =
     let short : length c.in_ok-bytes.bytes.items ≤ most_written = search rules in (
       c.in-Some.object.now.state,
       named,
-      subst (λ z. length z ≤ most_written) c.in_ok-bytes.ensures short,
+      subst (λ z. length z ≤ most_written) c.in_ok-bytes.ensures.file short,
       record {
         names = refl;
         objects = λ q. refl;
         clients = refl;
-        files = subst (λ z. AreTold (IsPut c.args.file.now z) (g.F.Store.files c.args.store.now) (g.F.Store.files c.put.new.self)) (c.deref.ensures.value ∙ c.in_ok-bytes.ensures) c.in-Ok.ensures.puts;
+        files = subst (λ z. AreTold (IsPut c.args.file.now z) (g.F.Store.files c.args.store.now) (g.F.Store.files c.put.new.self)) (c.deref.ensures.value ∙ c.in_ok-bytes.ensures.file) c.in-Ok.ensures.puts;
         faults = c.put.ensures.never_falls;
       },
+      λ typed. let (f, reads, again, same) = c.in_ok-bytes.ensures.again typed short in (f, subst (λ z. Reads z f) c.in_ok-bytes.ensures.file reads, again),
     )
 
 pub returns-in-Err-Failed-clause-step : goal.returns-in-Err-Failed-clause-step
@@ -41,13 +42,13 @@ returns-in-Err-Failed-clause-step g c =
     rw c.refused-in-Err-Failed.ensures (
       c.in-Some.object.now.state,
       named,
-      subst (λ z. length z ≤ most_written) c.in_ok-bytes.ensures short,
+      subst (λ z. length z ≤ most_written) c.in_ok-bytes.ensures.file short,
       fails,
       record {
         names = refl;
         objects = λ q. refl;
         clients = refl;
-        files = subst (λ z. AreTold (IsPutInPart c.args.file.now z) (g.F.Store.files c.args.store.now) (g.F.Store.files c.put.new.self)) (c.deref.ensures.value ∙ c.in_ok-bytes.ensures) c.in-Err-Failed.ensures.err;
+        files = subst (λ z. AreTold (IsPutInPart c.args.file.now z) (g.F.Store.files c.args.store.now) (g.F.Store.files c.put.new.self)) (c.deref.ensures.value ∙ c.in_ok-bytes.ensures.file) c.in-Err-Failed.ensures.err;
         faults = c.put.ensures.never_falls;
       },
     )
@@ -62,7 +63,7 @@ returns-clause-part g c =
         names = refl;
         objects = λ q. refl;
         clients = refl;
-        files = subst (λ z. AreTold (IsPutInPart c.args.file.now z) (g.F.Store.files c.args.store.now) (g.F.Store.files c.put.new.self)) (c.deref.ensures.value ∙ c.in_ok-bytes.ensures) c.in-Err-Memory.ensures.err;
+        files = subst (λ z. AreTold (IsPutInPart c.args.file.now z) (g.F.Store.files c.args.store.now) (g.F.Store.files c.put.new.self)) (c.deref.ensures.value ∙ c.in_ok-bytes.ensures.file) c.in-Err-Memory.ensures.err;
         faults = c.put.ensures.never_falls;
       },
     )

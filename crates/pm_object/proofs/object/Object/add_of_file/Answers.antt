@@ -1,8 +1,9 @@
 -- The object with a value of a file more: all its values have their forms.
-use Rattle.std.proofs.Common.{None, ap, refl, rules, subst, sym, ◌++◌, ◌∷◌, ◌≡◌, []}
-use Rattle.pm_object.proofs.Formed.{formed_pushed, map_push}
-use Rattle.pm_object.specs.Formed.{IsFormedIn}
-use Rattle.pm_object.specs.State.{ObjectSeen, State, cols_of, file_value}
+use Rattle.std.specs.Prelude.{map}
+use Rattle.std.proofs.Common.{None, false, refl, rules, subst, sym, ◌++◌, ◌∷◌, ◌≡◌, []}
+use Rattle.pm_object.proofs.Formed.{IsNew, formed_pushed, map_push, new_in_object}
+use Rattle.pm_object.specs.Formed.{IsFormedIn, stands_at}
+use Rattle.pm_object.specs.State.{ObjectSeen, cols_of, file_value}
 use Rattle.pm_object.specs.Views.{held_seen}
 use Rattle.pm_object.specs.declared.held.Held.{Held}
 use Rattle.pm_types.specs.Views.{view_of}
@@ -16,11 +17,14 @@ pushed : (c : In_ok-push) → c.push.new.self.items ≡ c.self.inside.held.items
 pushed c = search rules
 
 fits : (c : In_ok-push) → IsFormedIn c.args.self.now.state.of (cols_of c.args.self.now.state.held) (file_value c.args.origin c.args.p (view_of c.args.v))
-fits c = record { formed = c.requires.formed; columns = c.requires.columns; rows = c.requires.rows; entries = c.reads_entries.ensures; primitive = c.requires.primitive; placed = refl }
+fits c = record { formed = c.requires.formed; columns = c.requires.columns; rows = c.requires.rows; entries = c.reads_entries.ensures; primitive = c.requires.primitive; placed = refl; table = c.requires.table }
+
+new : (c : In_ok-push) → IsNew (held_seen (made c)) (map held_seen c.self.inside.held.items)
+new c = subst (λ (z : ObjectSeen). stands_at None c.args.p z.state.held ≡ false) (sym c.self.view_is) (new_in_object c.args.p c.args.self.now.state.held c.requires.missing)
 
 pub invariant_of-self-2 : goal.invariant_of-self-2
 invariant_of-self-2 c =
-    formed_pushed _ held_seen c.self.inside.held.items c.push.new.self.items (made c) refl (pushed c) c.self.invariant
+    formed_pushed _ held_seen c.self.inside.held.items c.push.new.self.items (made c) refl (pushed c) c.self.invariant (new c)
     (subst (λ (z : ObjectSeen). IsFormedIn z.state.of (cols_of z.state.held) (file_value c.args.origin c.args.p (view_of c.args.v))) (sym c.self.view_is) (fits c))
 
 pub returns-clause-ok : goal.returns-clause-ok

@@ -1,7 +1,8 @@
 -- The object with a value that it may take: it has one value more, and all its values have their forms.
-use Rattle.std.proofs.Common.{None, ap, rules, refl, sym, subst, ◌≡◌, ◌++◌, ◌∷◌, []}
-use Rattle.pm_object.proofs.Formed.{formed_pushed, map_push}
-use Rattle.pm_object.specs.Formed.{IsFormedIn}
+use Rattle.std.specs.Prelude.{map}
+use Rattle.std.proofs.Common.{None, ap, false, rules, refl, sym, subst, ◌≡◌, ◌++◌, ◌∷◌, []}
+use Rattle.pm_object.proofs.Formed.{IsNew, formed_pushed, map_push, new_in_object}
+use Rattle.pm_object.specs.Formed.{IsFormedIn, stands_at}
 use Rattle.pm_object.specs.State.{ObjectSeen, State, cols_of}
 use Rattle.pm_object.specs.Views.{held_seen}
 use Rattle.pm_object.specs.declared.held.Held.{Held}
@@ -16,9 +17,12 @@ given c = record { place = None; id = c.args.p; value = c.args.v; origin = Given
 pushed : (c : Else-is_err) → c.push.new.self.items ≡ c.self.inside.held.items ++ given c ∷ []
 pushed c = search rules
 
+new : (c : Else-is_err) → IsNew (held_seen (given c)) (map held_seen c.self.inside.held.items)
+new c = subst (λ (z : ObjectSeen). stands_at None c.args.p z.state.held ≡ false) (sym c.self.view_is) (new_in_object c.args.p c.args.self.now.state.held c.in_ok-may_take.ensures.missing)
+
 pub invariant_of-self-2 : goal.invariant_of-self-2
 invariant_of-self-2 c =
-    formed_pushed _ held_seen c.self.inside.held.items c.push.new.self.items (given c) refl (pushed c) c.self.invariant
+    formed_pushed _ held_seen c.self.inside.held.items c.push.new.self.items (given c) refl (pushed c) c.self.invariant (new c)
     (subst (λ (z : State). IsFormedIn z.of (cols_of z.held) (record { place = None; property = c.args.p; value = view_of c.args.v; origin = Given })) (sym (ap (λ (z : ObjectSeen). z.state) c.self.view_is)) c.in_ok-may_take.ensures.fits)
 
 pub returns-clause-ok : goal.returns-clause-ok

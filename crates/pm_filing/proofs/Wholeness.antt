@@ -1,0 +1,339 @@
+-- A file that was read is whole.
+use Rattle.std.proofs.lemmas.Option.{none-some as none_some, same_Some as some_is}
+use Rattle.std.proofs.Common.{refl, sym, ap, subst, ◌∙◌, ◌≡◌, ◌++◌, ◌∷◌, ◌&&◌, ℕ, List, [], Option, Some, None, Ok, Err, Bool, true, false, true≢false, Ordering, Less, Equal, Greater}
+use Rattle.std.proofs.lemmas.Bool.{and_from}
+use Rattle.std.specs.List.{All, list_all}
+use Rattle.std.specs.Option.{is_some}
+use Rattle.std.specs.Ordering.{match_ordering, nat_cmp}
+use Rattle.std.specs.Cmp.Lexicographic.{slice_cmp}
+use Rattle.std.specs.Prelude.{codes, if◌then◌else◌, length, map, nat_le, not, option_and_then, option_map}
+use Rattle.std.specs.Str.{bytes_eq, is_utf8}
+use Rattle.pm_algebra.proofs.Filters.{any_from, any_to, map_among}
+use Rattle.pm_algebra.proofs.Lists.{All_among, Among, here, there}
+use Rattle.pm_files.proofs.Ascending.{Ascends, found_first, none_at, read_ascends}
+use Rattle.pm_files.specs.Files.{Mark, SavedFile}
+use Rattle.pm_filing.proofs.HeldSets.{set_of-has}
+use Rattle.pm_filing.proofs.SuitLaws.{read_suits}
+use Rattle.pm_filing.specs.FileParts.{FileFault, FileRead, Part, at_key, data_in, json_in, longest_file, members_in, no_type, not_json, objectives_of, or_else_fault, part_at, parts_in, programs, programs_part, property_at, read_as, then_read, too_long, type_in, value, value_part, is_programs_key, is_other_form}
+use Rattle.pm_filing.specs.FileReadings.{Named, ReadsSeen, Seen, named_objectives, named_values, seen, seen_in, seen_of}
+use Rattle.pm_filing.specs.Profiles.{Profile, are_different, different_read, each_read, evidence_of, file_with, full_profile, if_different, if_held, is_profile_2, list_read, mark_among, mark_by, mark_of, mark_with, marks_in, names_held, or_bad, plain_profile, profile_in, program_names, programs_in, same_label, stored_by, stored_property, values_in}
+use Rattle.pm_filing.specs.ReadingViews.{HaveFractions, are_formed_values}
+use Rattle.pm_filing.specs.Views.{AllSuit}
+use Rattle.pm_filing.specs.Whole.{IsWhole, are_of_different, are_of_table, is_mark, is_of_one}
+use Rattle.pm_json.specs.Readings.{Read, and_then, reading}
+use Rattle.pm_props.proofs.Members.{has-empty}
+use Rattle.pm_props.proofs.NameLemmas.{named_in_exactly}
+use Rattle.pm_props.proofs.Places.{same_property_is, same_property_refl}
+use Rattle.pm_props.specs.Names.{property_named_in}
+use Rattle.pm_props.specs.Places.{same_property}
+use Rattle.pm_props.specs.Properties.{has as has_property, name_in}
+use Rattle.pm_props.specs.Sets.{has, set_of}
+use Rattle.pm_props.specs.declared.object_type.ObjectType.{ObjectType}
+use Rattle.pm_props.specs.declared.property.PropId.{PropId}
+use Rattle.pm_rules.specs.Words.{is_label}
+use Rattle.pm_types.specs.Forms.{AreFractions}
+use Rattle.pm_types.specs.Values.{PropertyValue}
+use Rattle.serde_json.specs.Data.{Data, Items, Members, item, member, no_items, no_members}
+use Rattle.serde_json.specs.Find.{as_array, as_object, as_str, get, get_member}
+use Rattle.serde_json.specs.Read.{read}
+
+-- ---- steps of reading, backwards
+abbrev is_read : {A : Type 0} → FileRead A → Bool
+is_read (Ok a) = true
+is_read (Err e) = false
+
+err_ok : {A : Type 0} (e : FileFault) (a : A) → Err e ≡ Ok a → ⊥
+err_ok e a h = true≢false (sym (ap is_read h))
+
+abbrev file_ok : {A : Type 0} → A → FileRead A
+file_ok a = Ok a
+
+ok_is : {A : Type 0} (a b : A) → file_ok a ≡ file_ok b → a ≡ b
+ok_is a b h = cc
+
+pub ok_from : {A B : Type 0} (r : FileRead A) (next : A → FileRead B) (b : B) → then_read r next ≡ Ok b → (a : A) × (r ≡ Ok a) × (next a ≡ Ok b)
+ok_from (Ok a) next b h = (a, refl, h)
+ok_from (Err e) next b h = absurd (err_ok e b h)
+
+pub some_from : {A : Type 0} (fault : FileFault) (o : Option A) (a : A) → or_else_fault fault o ≡ Ok a → o ≡ Some a
+some_from fault None a h = absurd (err_ok fault a h)
+some_from fault (Some x) a h = ap Some (ok_is x a h)
+
+key_from : {A : Type 0} (key : List ℕ) (r : Read A) (a : A) → at_key key r ≡ Ok a → r ≡ Ok a
+key_from key (Ok x) a h = ap Ok (ok_is x a h)
+key_from key (Err why) a h = absurd (err_ok _ a h)
+
+then_from : {A B : Type 0} (f : A → Option B) (x : Option A) (b : B) → option_and_then f x ≡ Some b → (a : A) × (x ≡ Some a) × (f a ≡ Some b)
+then_from f None b h = absurd (none_some b h)
+then_from f (Some a) b h = (a, refl, h)
+
+map_from : {A B : Type 0} (f : A → B) (x : Option A) (b : B) → option_map f x ≡ Some b → (a : A) × (x ≡ Some a) × (f a ≡ b)
+map_from f None b h = absurd (none_some b h)
+map_from f (Some a) b h = (a, refl, some_is (f a) b h)
+
+if_from : {A : Type 0} (b : Bool) (x : Option A) (a : A) → (if b then x else None) ≡ Some a → (b ≡ true) × (x ≡ Some a)
+if_from true x a h = (refl, h)
+if_from false x a h = absurd (none_some a h)
+
+-- ---- the members of a file ascend
+data_from : (bytes : List ℕ) (d : Data) → data_in bytes ≡ Ok d → read bytes ≡ Some d
+data_from bytes d h = by (nat_le (length bytes) longest_file) h
+  where
+    by : (b : Bool) → (if b then or_else_fault not_json (json_in bytes) else Err too_long) ≡ Ok d → read bytes ≡ Some d
+    by true k = (if_from (is_utf8 bytes) (read bytes) d (some_from not_json (json_in bytes) d k)).1
+    by false k = absurd (err_ok too_long d k)
+
+pub data_ascends : (bytes : List ℕ) (d : Data) (ms : Members) → data_in bytes ≡ Ok d → members_in d ≡ Ok ms → Ascends ms
+data_ascends bytes d ms h m = read_ascends bytes d ms (data_from bytes d h) (some_from no_type (as_object d) ms m)
+
+-- ---- the values
+-- what stands at a key is one value of its property, or none
+data OnePart (of : ObjectType) (k : List ℕ) : List (PropId × PropertyValue) → Type 0 where
+  none : OnePart of k []
+  one : (p : PropId) (v : PropertyValue) → property_named_in of k ≡ Some p → OnePart of k ((p, v) ∷ [])
+
+abbrev value_ok : {A : Type 0} → A → Read A
+value_ok a = Ok a
+
+read_value_is : {A : Type 0} (a b : A) → value_ok a ≡ value_ok b → a ≡ b
+read_value_is a b h = cc
+
+one_part : (of : ObjectType) (k : List ℕ) (d : Data) (part : List Part) → part_at of k d ≡ Ok part → OnePart of k (values_in part)
+one_part of k d part h = by (is_programs_key of k) (key_from k _ part h)
+  where
+    objectives : (r : Read (List (Option PropertyValue))) → and_then r (λ vs. Ok (programs vs ∷ [])) ≡ Ok part → OnePart of k (values_in part)
+    objectives (Ok vs) g = subst (λ ps. OnePart of k (values_in ps)) (read_value_is (programs vs ∷ []) part g) none
+    objectives (Err why) g = absurd (fails g)
+      where
+        is_ok : Read (List Part) → Bool
+        is_ok (Ok a) = true
+        is_ok (Err e) = false
+
+        fails : Err why ≡ Ok part → ⊥
+        fails e = true≢false (sym (ap is_ok e))
+
+    read_one : (p : PropId) → property_named_in of k ≡ Some p → (r : Read PropertyValue) → and_then r (λ v. Ok (value p v ∷ [])) ≡ Ok part → OnePart of k (values_in part)
+    read_one p e (Ok v) g = subst (λ ps. OnePart of k (values_in ps)) (read_value_is (value p v ∷ []) part g) (one p v e)
+    read_one p e (Err why) g = absurd (fails g)
+      where
+        is_ok : Read (List Part) → Bool
+        is_ok (Ok a) = true
+        is_ok (Err e) = false
+
+        fails : Err why ≡ Ok part → ⊥
+        fails e = true≢false (sym (ap is_ok e))
+
+    at : (q : Option PropId) → property_named_in of k ≡ q → value_part (read_as q d) d ≡ Ok part → OnePart of k (values_in part)
+    at None e g = subst (λ ps. OnePart of k (values_in ps)) (read_value_is [] part g) none
+    at (Some p) e g = other (is_other_form p d) g
+      where
+        other : (b : Bool) → value_part (if b then None else Some p) d ≡ Ok part → OnePart of k (values_in part)
+        other true u = subst (λ ps. OnePart of k (values_in ps)) (read_value_is [] part u) none
+        other false u = read_one p e (reading p d) u
+
+    by : (b : Bool) → (if b then programs_part d else value_part (property_at of k d) d) ≡ Ok part → OnePart of k (values_in part)
+    by true g = objectives (objectives_of d) g
+    by false g = at (property_named_in of k) refl g
+
+values_append : (xs ys : List Part) → values_in (xs ++ ys) ≡ values_in xs ++ values_in ys
+values_append [] ys = refl
+values_append (value p v ∷ xs) ys = ap (λ l. (p, v) ∷ l) (values_append xs ys)
+values_append (programs vs ∷ xs) ys = values_append xs ys
+
+-- the values are of different properties of the table, and stand under their names
+pub record OfMembers (of : ObjectType) (ms : Members) (vs : List (PropId × PropertyValue)) : Type 0 where
+  pub table : are_of_table of vs ≡ true
+  pub once : are_of_different vs ≡ true
+  pub named : (v : PropId × PropertyValue) → Among v vs → is_some (get_member (name_in of v.0) ms) ≡ true
+
+pub still_there : (q k : List ℕ) (d : Data) (ms : Members) → is_some (get_member q ms) ≡ true → is_some (get_member q (member k d ms)) ≡ true
+still_there q k d ms h = by (slice_cmp nat_cmp q k)
+  where
+    by : (o : Ordering) → is_some (match_ordering o (get_member q ms) (Some d) (get_member q ms)) ≡ true
+    by Less = h
+    by Equal = refl
+    by Greater = h
+
+of_more : (of : ObjectType) (k : List ℕ) (d : Data) (ms : Members) (vs ws : List (PropId × PropertyValue)) → OnePart of k vs → Ascends (member k d ms) → OfMembers of ms ws → OfMembers of (member k d ms) (vs ++ ws)
+of_more of k d ms vs ws none a m = record { table = m.table; once = m.once; named = λ v i. still_there (name_in of v.0) k d ms (m.named v i) }
+of_more of k d ms vs ws (one p v e) a m = record {
+  table = and_from (has_property of p) (are_of_table of ws) is.0 m.table;
+  once = and_from (not (is_of_one ws p)) (are_of_different ws) (new (is_of_one ws p) refl) m.once;
+  named = λ w i. at w i;
+}
+  where
+    is : (has_property of p ≡ true) × (k ≡ name_in of p)
+    is = (named_in_exactly of k p).0 e
+
+    new : (b : Bool) → is_of_one ws p ≡ b → not b ≡ true
+    new false h = refl
+    new true h =
+        let (w, i, same) = any_to (λ (x : PropId × PropertyValue). same_property p x.0) ws h in
+        let named = subst (λ q. is_some (get_member (name_in of q) ms) ≡ true) (sym (same_property_is p w.0 same)) (m.named w i) in
+        absurd (true≢false (sym named ∙ ap is_some (ap (λ z. get_member z ms) (sym is.1) ∙ none_at k ms a.0 a.1)))
+
+    at : (w : PropId × PropertyValue) → Among w ((p, v) ∷ ws) → is_some (get_member (name_in of w.0) (member k d ms)) ≡ true
+    at w here = first (name_in of p) is.1
+      where
+        first : (q : List ℕ) → k ≡ q → is_some (get_member q (member k d ms)) ≡ true
+        first q s = subst (λ z. is_some (get_member z (member k d ms)) ≡ true) s (ap is_some (found_first k d ms))
+    at w (there i) = still_there (name_in of w.0) k d ms (m.named w i)
+
+pub of_members : (of : ObjectType) (ms : Members) (parts : List Part) → Ascends ms → parts_in of ms ≡ Ok parts → OfMembers of ms (values_in parts)
+of_members of no_members parts a h = subst (λ ps. OfMembers of no_members (values_in ps)) (ok_is [] parts h) (record { table = refl; once = refl; named = λ v i. elim i [ ] })
+of_members of (member k d ms) parts a h =
+    let (part, first, more) = ok_from (part_at of k d) (λ part. then_read (parts_in of ms) (λ parts'. Ok (part ++ parts'))) parts h in
+    let (rest, later, is) = ok_from (parts_in of ms) (λ parts'. Ok (part ++ parts')) parts more in
+    subst (λ vs. OfMembers of (member k d ms) vs) (sym (values_append part rest) ∙ ap values_in (ok_is (part ++ rest) parts is))
+    (of_more of k d ms (values_in part) (values_in rest) (one_part of k d part first) a (of_members of ms rest a.1 later))
+
+-- ---- lists of a profile
+record WasRead {A : Type 0} (same : A → A → Bool) (read_item : Data → Option A) (xs : List A) : Type 0 where
+  different : are_different same xs ≡ true
+  each : (x : A) → Among x xs → (d : Data) × (read_item d ≡ Some x)
+
+each_from : {A : Type 0} (read_item : Data → Option A) (ds : Items) (xs : List A) → each_read read_item ds ≡ Some xs → (x : A) → Among x xs → (d : Data) × (read_item d ≡ Some x)
+each_from read_item no_items xs h x i = elim (subst (λ ys. Among x ys) (sym (some_is [] xs h)) i) [ ]
+each_from {A} read_item (item d ds) xs h x i =
+    let (a, first, more) = then_from (λ a. option_map (λ as'. a ∷ as') (each_read read_item ds)) (read_item d) xs h in
+    let (rest, later, is) = map_from (λ as'. a ∷ as') (each_read read_item ds) xs more in
+    at a rest first (λ y j. each_from read_item ds rest later y j) (subst (λ ys. Among x ys) (sym is) i)
+  where
+    at : (a : A) (rest : List A) → read_item d ≡ Some a → ((y : A) → Among y rest → (e : Data) × (read_item e ≡ Some y)) → Among x (a ∷ rest) → (e : Data) × (read_item e ≡ Some x)
+    at a rest first later here = (d, first)
+    at a rest first later (there j) = later x j
+
+list_was_read : {A : Type 0} (same : A → A → Bool) (read_item : Data → Option A) (found : Option Data) (xs : List A) → list_read same read_item found ≡ Some xs → WasRead same read_item xs
+list_was_read {A} same read_item None xs h = subst (λ (ys : List A). WasRead same read_item ys) (some_is [] xs h) (record { different = refl; each = λ x i. elim i [ ] })
+list_was_read {A} same read_item (Some d) xs h =
+    let (ds, array, k) = then_from (different_read same read_item) (as_array d) xs h in
+    let (ys, each, g) = then_from (if_different same) (each_read read_item ds) xs k in
+    let (different, is) = if_from (are_different same ys) (Some ys) xs g in
+    subst (λ (zs : List A). WasRead same read_item zs) (some_is ys xs is) (record { different = different; each = each_from read_item ds ys each })
+
+-- ---- stored values
+held_from : (of : ObjectType) (held : ℕ) (d : Data) (p : PropId) → stored_property of held d ≡ Some p → has held p ≡ true
+held_from of held d p h =
+    let (q, named, k) = then_from (if_held held) (option_and_then (property_named_in of) (as_str d)) p h in
+    let (t, is) = if_from (has held q) (Some q) p k in
+    subst (λ z. has held z ≡ true) (some_is q p is) t
+
+-- what the set of their properties has is of one of the values
+one_of_held : (vs : List (PropId × PropertyValue)) (p : PropId) → has (set_of (map (λ x. x.0) vs)) p ≡ true → is_of_one vs p ≡ true
+one_of_held vs p h =
+    let (q, i, same) = any_to (λ r. same_property r p) (map (λ (x : PropId × PropertyValue). x.0) vs) (sym (set_of-has (map (λ x. x.0) vs) p) ∙ h) in
+    let (v, j, is) = map_among (λ (x : PropId × PropertyValue). x.0) vs i in
+    any_from (λ (x : PropId × PropertyValue). same_property p x.0) j (subst (λ z. same_property p z ≡ true) (sym (same_property_is q p same) ∙ is) (same_property_refl p))
+
+stored_from : (of : ObjectType) (parts : List Part) (found : Option Data) (stored : ℕ) → stored_by of (names_held parts) found ≡ Some stored → (p : PropId) → has stored p ≡ true → is_of_one (values_in parts) p ≡ true
+stored_from of parts found stored h p t =
+    let (ps, l, is) = map_from set_of (list_read same_property (stored_property of (names_held parts)) found) stored h in
+    let r = list_was_read same_property (stored_property of (names_held parts)) found ps l in
+    let (q, i, same) = any_to (λ r. same_property r p) ps (sym (set_of-has ps p) ∙ ap (λ s. has s p) is ∙ t) in
+    let (d, e) = r.each q i in
+    one_of_held (values_in parts) p (subst (λ z. has (names_held parts) z ≡ true) (same_property_is q p same) (held_from of (names_held parts) d q e))
+
+-- ---- marks
+abbrev in_range : ℕ → Bool
+in_range k = nat_le 1 k && nat_le k 5
+
+pick : (b : Bool) (j : ℕ) (rest : Option ℕ) (k : ℕ) → (if b then Some j else rest) ≡ Some k → in_range j ≡ true → (rest ≡ Some k → in_range k ≡ true) → in_range k ≡ true
+pick true j rest k h r more = subst (λ z. in_range z ≡ true) (some_is j k h) r
+pick false j rest k h r more = more h
+
+evidence_range : (text : List ℕ) (k : ℕ) → evidence_of text ≡ Some k → in_range k ≡ true
+evidence_range text k h =
+    pick (bytes_eq text (codes "E1")) 1 _ k h refl (λ h1.
+    pick (bytes_eq text (codes "E2")) 2 _ k h1 refl (λ h2.
+    pick (bytes_eq text (codes "E3")) 3 _ k h2 refl (λ h3.
+    pick (bytes_eq text (codes "E4")) 4 _ k h3 refl (λ h4.
+    pick (bytes_eq text (codes "E5")) 5 None k h4 refl (λ h5. absurd (none_some k h5))))))
+
+mark_with_from : (label : List ℕ) (e : Option ℕ) (m : Mark) → mark_with label e ≡ Some m → ((k : ℕ) → e ≡ Some k → in_range k ≡ true) → is_mark m ≡ true
+mark_with_from label None m h range = absurd (none_some m h)
+mark_with_from label (Some k) m h range =
+    let (t, is) = if_from (is_label label) (Some (label, k)) m h in
+    subst (λ (z : Mark). is_mark z ≡ true) (some_is (label, k) m is) (and_from (is_label label) (in_range k) t (range k refl))
+
+mark_by_from : (label text : Option (List ℕ)) (m : Mark) → mark_by label text ≡ Some m → is_mark m ≡ true
+mark_by_from (Some label) (Some text) m h = mark_with_from label (evidence_of text) m h (evidence_range text)
+mark_by_from (Some label) None m h = absurd (none_some m h)
+mark_by_from None text m h = absurd (none_some m h)
+
+mark_among_from : (ds : Items) (m : Mark) → mark_among ds ≡ Some m → is_mark m ≡ true
+mark_among_from no_items m h = absurd (none_some m h)
+mark_among_from (item label no_items) m h = absurd (none_some m h)
+mark_among_from (item label (item text no_items)) m h = mark_by_from (as_str label) (as_str text) m h
+mark_among_from (item label (item text (item d ds))) m h = absurd (none_some m h)
+
+mark_from : (d : Data) (m : Mark) → mark_of d ≡ Some m → is_mark m ≡ true
+mark_from d m h = let (ds, array, k) = then_from mark_among (as_array d) m h in mark_among_from ds m k
+
+pub all_among : {A : Type 0} (test : A → Bool) (xs : List A) → ((x : A) → Among x xs → test x ≡ true) → list_all test xs ≡ true
+all_among test [] f = refl
+all_among test (x ∷ xs) f = and_from (test x) (list_all test xs) (f x here) (all_among test xs (λ y i. f y (there i)))
+
+-- ---- the profile
+record WholeProfile (vs : List (PropId × PropertyValue)) (p : Profile) : Type 0 where
+  stored : (q : PropId) → has p.stored q ≡ true → is_of_one vs q ≡ true
+  marks : list_all is_mark p.failed ≡ true
+  labels : are_different same_label p.failed ≡ true
+
+profile_from : (of : ObjectType) (parts : List Part) (d : Data) (ds : Items) (p : Profile) → profile_in of (names_held parts) d ds ≡ Ok p → WholeProfile (values_in parts) p
+profile_from of parts d ds p h = by (is_profile_2 d) h
+  where
+    held : ℕ
+    held = names_held parts
+
+    full : full_profile of held d ds ≡ Ok p → WholeProfile (values_in parts) p
+    full g =
+        let (stored, s, g1) = ok_from (or_bad (codes "_computed") (stored_by of held (get (codes "_computed") d))) _ p g in
+        let (failed, m, g2) = ok_from (or_bad (codes "_excluded") (marks_in d)) _ p g1 in
+        let (marks, n, g3) = ok_from (or_bad (codes "_excluded") (each_read marks_in ds)) _ p g2 in
+        let (names, o, g4) = ok_from (or_bad (codes "_name") (program_names ds)) _ p g3 in
+        let is = ok_is _ p g4 in
+        let r = list_was_read same_label mark_of (get (codes "_excluded") d) failed (some_from _ (marks_in d) failed m) in
+        subst (λ (z : Profile). WholeProfile (values_in parts) z) is (record {
+          stored = stored_from of parts (get (codes "_computed") d) stored (some_from _ (stored_by of held (get (codes "_computed") d)) stored s);
+          marks = all_among is_mark failed (λ x i. let (e, k) = r.each x i in mark_from e x k);
+          labels = r.different;
+        })
+
+    by : (b : Bool) → (if b then full_profile of held d ds else Ok (plain_profile ds)) ≡ Ok p → WholeProfile (values_in parts) p
+    by true g = full g
+    by false g = subst (λ (z : Profile). WholeProfile (values_in parts) z) (ok_is (plain_profile ds) p g) (record { stored = λ q t. absurd (true≢false (sym t ∙ has-empty q)); marks = refl; labels = refl })
+
+-- ---- the whole
+entries_from : (of : ObjectType) (parts : List Part) → HaveFractions (named_values of parts) → (v : PropId × PropertyValue) → Among v (values_in parts) → AreFractions v.1
+entries_from of [] h v i = elim i [ ]
+entries_from of (value p w ∷ parts) h v here = h.0
+entries_from of (value p w ∷ parts) h v (there i) = entries_from of parts h.1 v i
+entries_from of (programs vs ∷ parts) h v i = entries_from of parts (behind (named_objectives vs) h) v i
+  where
+    behind : (xs : List Named) → HaveFractions (xs ++ named_values of parts) → HaveFractions (named_values of parts)
+    behind [] g = g
+    behind (x ∷ xs) g = behind xs g.1
+
+pub read_whole : (bytes : List ℕ) (s : Seen) (f : SavedFile) → seen bytes ≡ Ok s → ReadsSeen s f → are_formed_values f.values ≡ true → HaveFractions (named_values s.of s.parts) → IsWhole f
+read_whole bytes s f is r formed entries =
+    let (d, found, k) = ok_from (data_in bytes) seen_in s is in
+    let (ms, members, k1) = ok_from (members_in d) (λ ms. then_read (type_in d) (seen_of d ms)) s k in
+    let (of, typed, k2) = ok_from (type_in d) (seen_of d ms) s k1 in
+    let (parts, told, k3) = ok_from (parts_in of ms) (λ parts. Ok (record { of = of; top = d; parts = parts })) s k2 in
+    let seen_is : record { of = of; top = d; parts = parts } ≡ s = ok_is _ s k3 in
+    let (p, profile, k4) = ok_from (profile_in s.of (names_held s.parts) s.top (programs_in s.of s.top)) (λ profile. Ok (file_with s.of s.top s.parts profile)) f r.1 in
+    let file_is : file_with s.of s.top s.parts p ≡ f = ok_is _ f k4 in
+    let m : OfMembers of ms (values_in parts) = of_members of ms parts (data_ascends bytes d ms found members) told in
+    let w : WholeProfile (values_in s.parts) p = profile_from s.of s.parts s.top (programs_in s.of s.top) p profile in
+    let suit : AllSuit f.of f.values = read_suits bytes f (s, is, r) formed in
+    let table : are_of_table s.of (values_in s.parts) ≡ true = subst (λ (z : Seen). are_of_table z.of (values_in z.parts) ≡ true) seen_is m.table in
+    let once : are_of_different (values_in s.parts) ≡ true = subst (λ (z : Seen). are_of_different (values_in z.parts) ≡ true) seen_is m.once in
+    record {
+      table = subst (λ (z : SavedFile). are_of_table z.of z.values ≡ true) file_is table;
+      once = subst (λ (z : SavedFile). are_of_different z.values ≡ true) file_is once;
+      suit = suit;
+      entries = subst (λ (z : SavedFile). All (λ (v : PropId × PropertyValue). AreFractions v.1) z.values) file_is (All_among (λ (v : PropId × PropertyValue). AreFractions v.1) (values_in s.parts) (entries_from s.of s.parts entries));
+      stored = subst (λ (z : SavedFile). (q : PropId) → has z.stored q ≡ true → is_of_one z.values q ≡ true) file_is w.stored;
+      marks = subst (λ (z : SavedFile). list_all is_mark z.failed ≡ true) file_is w.marks;
+      labels = subst (λ (z : SavedFile). are_different same_label z.failed ≡ true) file_is w.labels;
+    }

@@ -1,0 +1,84 @@
+-- What is so of every file that is read, and of every file that is written of an object; and that an object and what is loaded of its file are the same.
+use Rattle.std.specs.Prelude.{◌≡◌, ◌⊎◌, ◌&&◌, ℕ, Bool, IsTrue, List, None, Some, if◌then◌else◌, nat_le}
+use Rattle.std.specs.List.{All, Contains, list_all, list_any}
+use Rattle.std.specs.Option.{is_some}
+use Rattle.pm_files.specs.Files.{Mark, SavedFile, file_bytes, type_text}
+use Rattle.pm_filing.specs.FileParts.{type_named}
+use Rattle.pm_filing.specs.Filing.{failure_of, is_found, loaded_object, marked, unsettled_object}
+use Rattle.pm_filing.specs.Profiles.{are_different, same_label}
+use Rattle.pm_filing.specs.Views.{AllSuit}
+use Rattle.pm_object.specs.State.{HeldValue, State, file_value, settling}
+use Rattle.pm_object.specs.declared.held.Excluded.{Excluded}
+use Rattle.pm_object.specs.declared.held.Origin.TheVariants as origin
+use Rattle.pm_props.specs.Places.{same_property}
+use Rattle.pm_props.specs.Properties.{has as has_property}
+use Rattle.pm_props.specs.Sets.{has}
+use Rattle.pm_props.specs.declared.object_type.ObjectType.{ObjectType}
+use Rattle.pm_props.specs.declared.property.PropId.{PropId}
+use Rattle.pm_rules.specs.Rules.{rule_at}
+use Rattle.pm_rules.specs.Words.{is_label}
+use Rattle.pm_rules.specs.declared.rule.Rule.{Rule}
+use Rattle.pm_types.specs.Forms.{AreFractions}
+use Rattle.pm_types.specs.Values.{PropertyValue}
+
+-- ---- whole files
+-- no two values are of one property
+abbrev pub are_of_different : List (PropId × PropertyValue) → Bool
+are_of_different values = are_different (λ v w. same_property v.0 w.0) values
+
+-- all are of properties of the type's table
+abbrev pub are_of_table : ObjectType → List (PropId × PropertyValue) → Bool
+are_of_table of values = list_all (λ v. has_property of v.0) values
+
+-- one of the values is of the property
+abbrev pub is_of_one : List (PropId × PropertyValue) → PropId → Bool
+is_of_one values p = list_any (λ v. same_property p v.0) values
+
+-- a label of a rule book, and evidence of a number from 1 to 5
+abbrev pub is_mark : Mark → Bool
+is_mark m = is_label m.0 && (nat_le 1 m.1 && nat_le m.1 5)
+
+-- what a file holds of an object: the values are of different properties of the type's table, suit one column count and have fractions in lowest terms and in the range; what is stored is among them; the marks are marks, of different labels
+pub record IsWhole (f : SavedFile) : Type 0 where
+  pub table : IsTrue (are_of_table f.of f.values)
+  pub once : IsTrue (are_of_different f.values)
+  pub suit : AllSuit f.of f.values
+  pub entries : All (λ v. AreFractions v.1) f.values
+  pub stored : (p : PropId) → IsTrue (has f.stored p) → IsTrue (is_of_one f.values p)
+  pub marks : IsTrue (list_all is_mark f.failed)
+  pub labels : IsTrue (are_different same_label f.failed)
+
+-- ---- the same file
+-- files of the type are read
+abbrev pub IsReadType : ObjectType → Type 0
+IsReadType of = type_named (type_text of) ≡ Some of
+
+-- g is f with its values in another order; it is written as the same bytes
+pub record IsSameFile (f g : SavedFile) : Type 0 where
+  pub of : g.of ≡ f.of
+  pub values : (v : PropId × PropertyValue) → Contains f.values v → Contains g.values v
+  pub no_others : (v : PropId × PropertyValue) → Contains g.values v → Contains f.values v
+  pub stored : (p : PropId) → has g.stored p ≡ has f.stored p
+  pub failed : g.failed ≡ f.failed
+  pub programs : g.programs ≡ f.programs
+  pub again : file_bytes g ≡ file_bytes f
+
+-- ---- the same object
+-- the value as a file has it: given where it was given, else stored
+abbrev pub held_again : HeldValue → HeldValue
+held_again h = file_value (if is_found h.origin then origin.Stored else origin.Given) h.property h.value
+
+-- a rule of the book that failed for the object itself, with evidence of this number
+pub record IsOwnFailure (book : List Rule) (o : State) (e : Excluded) (k : ℕ) : Type 0 where
+  pub excluded : Contains o.excluded e
+  pub own : e.sub ≡ None
+  pub number : failure_of e.why ≡ Some k
+  pub rule : IsTrue (is_some (rule_at book e.rule))
+
+-- what is loaded of the file holds what the object holds, and else only what goes without saying of that; the rules that failed for the object are marked, and no others
+pub record IsLoadedAgain (book : List Rule) (o : State) (f : SavedFile) : Type 0 where
+  pub of : (loaded_object book f).of ≡ o.of
+  pub held : (h : HeldValue) → Contains o.held h → Contains (loaded_object book f).held (held_again h)
+  pub others : (h : HeldValue) → Contains (loaded_object book f).held h → ((g : HeldValue) × Contains o.held g × (h ≡ held_again g)) ⊎ Contains (settling (unsettled_object book f)) h
+  pub failed : (e : Excluded) (k : ℕ) → IsOwnFailure book o e k → (j : ℕ) × Contains (loaded_object book f).excluded (marked j e.rule)
+  pub no_others : (x : Excluded) → Contains (loaded_object book f).excluded x → (e : Excluded) × (k : ℕ) × IsOwnFailure book o e k × (x ≡ marked k e.rule)
