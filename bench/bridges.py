@@ -51,9 +51,10 @@ def called(bridge, words, given=""):
     return Ended(ran.returncode, ran.stdout, ran.stderr)
 
 
-def answered(program, script):
-    """What this program replies to a script."""
-    return subprocess.run([program], input=script, capture_output=True, text=True).stdout
+def answered(program, script, folder=None):
+    """What this program replies to a script, whose files are those of the folder."""
+    how = {"input": script, "capture_output": True, "text": True, "cwd": folder}
+    return subprocess.run([program], **how).stdout
 
 
 class Absent(Exception):

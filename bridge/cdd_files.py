@@ -6,7 +6,7 @@ import command
 from entries import WHOLE, row_of, row_text, shown
 from properties import Thing
 from refusals import Fault, Refusal
-from replies import read_replies
+from polymake_files import read_shown
 from scripts import script_lines
 
 HALF_SPACES, GENERATORS = "H-representation", "V-representation"
@@ -344,10 +344,11 @@ def from_cdd(options, text, notes):
 
 def to_words():
     words = command.parser(
-        "to-cdd", "Writes the values that replies show as a file of cddlib or lrslib."
+        "to-cdd",
+        "Writes the values that replies show, or those of a data file, as a file of cddlib.",
     )
     command.add_file(words, needed=False)
-    command.add_type(words, "the replies are of a cone; else of a polytope")
+    command.add_type(words, "replies are of a cone; else of a polytope")
     words.add_argument("--name", metavar="NAME", help="the object, where replies show several")
     which = words.add_mutually_exclusive_group()
     for word, what in (("--ine", HALF_SPACES), ("--ext", GENERATORS)):
@@ -356,5 +357,5 @@ def to_words():
 
 
 def to_cdd(options, text, notes):
-    thing = read_replies(text, options.type_name, options.name)
+    thing = read_shown(options, text, notes)
     return cdd_text(thing, options.what, options.name or "replies")

@@ -169,38 +169,63 @@ def polymake_text(thing):
 COLUMNED = {it for pair in PAIRS.items() for it in pair}
 
 
+def data_text(thing):
+    """A data file of this program: keys in byte order, and all values are given."""
+    held = {"_type": f"polytope::{thing.type_name}<Rational>"}
+    if thing.columns is not None:
+        held["CONE_AMBIENT_DIM"] = thing.columns
+    for item in PROPERTIES:
+        if item.polytope in thing.values and item.polytope != "CONE_AMBIENT_DIM":
+            value = written(item.kind, thing.values[item.polytope])
+            held[item.name(thing.type_name)] = value
+    return compact(dict(sorted(held.items()))) + "\n"
+
+
 def list_of_names(text):
     return text.split(",")
 
 
 def from_words():
     words = command.parser(
-        "from-polymake", "Writes a data file of polymake as a script of this program."
+        "from-polymake",
+        "Writes a data file of polymake as a script of this program, or as a data file of it.",
     )
     command.add_file(words, needed=True)
     command.add_object(words)
     told = "take these properties of the file alone, by its names, with commas between them"
     words.add_argument("--only", metavar="PROP,..", type=list_of_names, help=told)
+    told = "write a data file that `load` reads, in place of a script"
+    words.add_argument("--data", action="store_true", help=told)
     return words
 
 
 def from_polymake(options, text, notes):
     thing = read_polymake(text, notes, options.only)
+    if options.data:
+        return data_text(thing)
     return command.joined(script_lines(options.name, thing))
+
+
+def read_shown(options, text, notes):
+    """What replies show of one object, or what a data file holds."""
+    if text.lstrip().startswith("{"):
+        return read_polymake(text, notes)
+    return read_replies(text, options.type_name, options.name)
 
 
 def to_words():
     words = command.parser(
-        "to-polymake", "Writes the values that replies show as a data file of polymake."
+        "to-polymake",
+        "Writes the values that replies show, or those of a data file, as a data file of polymake.",
     )
     command.add_file(words, needed=False)
-    command.add_type(words, "the replies are of a cone; else of a polytope")
+    command.add_type(words, "replies are of a cone; else of a polytope")
     words.add_argument("--name", metavar="NAME", help="the object, where replies show several")
     return words
 
 
 def to_polymake(options, text, notes):
-    thing = read_replies(text, options.type_name, options.name)
+    thing = read_shown(options, text, notes)
     if thing.is_said_empty() and "CENTERED" in thing.values:
         del thing.values["CENTERED"]
         notes.tell(1, f"CENTERED: {OF_THE_EMPTY['CENTERED']}: left out")
