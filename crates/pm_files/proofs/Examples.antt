@@ -16,8 +16,6 @@ matrices = record {
   objective = refl;
   no_objective = refl;
   no_list_of_rows = λ e. let n : 12 ≡ 14 = ap length e in absurd (omega arith);
-  read = refl;
-  read_objective = refl;
 }
 
 pub sets : SetsAreWritten

@@ -1,5 +1,4 @@
 pub mod Lists
-pub mod ReadBack
 pub mod Plain
 pub mod WholeFiles
 pub mod Members

@@ -1,8 +1,7 @@
 -- Values as JSON: what is written, and what is not.
-use Rattle.std.specs.Prelude.{ℕ, List, [], ◌∷◌, Ok, codes, true, false, ◌≡◌, ◌≢◌}
+use Rattle.std.specs.Prelude.{ℕ, List, [], ◌∷◌, codes, true, false, ◌≡◌, ◌≢◌}
 use Rattle.pm_algebra.specs.Numbers.{Ratio}
 use Rattle.pm_fraction.specs.Fractions.{ratio_of}
-use Rattle.pm_json.specs.Readings.{reading}
 use Rattle.pm_props.specs.declared.property.PropId.{PropId}
 use Rattle.pm_props.specs.declared.property.PropId.TheVariants.{Bounded, ConeDim, FVector, Graph, HasseDiagram, LinearObjective, MaximalValue, Points, VerticesInFacets}
 use Rattle.pm_types.specs.Values.{PropertyValue, matrix, sets, whole, truth, extended, edges, lattice, counts, finite, plus_infinity, minus_infinity}
@@ -36,9 +35,6 @@ pub record MatricesAreWritten : Type 0 where
   pub objective : text LinearObjective (matrix 2 (row ∷ [])) ≡ codes "[\"1\",\"-1/2\"]"
   pub no_objective : text LinearObjective (matrix 0 []) ≡ codes "[]"
   pub no_list_of_rows : text LinearObjective (matrix 2 (row ∷ [])) ≢ codes "[[\"1\",\"-1/2\"]]"
-  -- all of it is read back
-  pub read : reading Points (json_of Points (matrix 2 [])) ≡ Ok (matrix 2 [])
-  pub read_objective : reading LinearObjective (json_of LinearObjective (matrix 2 (row ∷ []))) ≡ Ok (matrix 2 (row ∷ []))
 
 pub record SetsAreWritten : Type 0 where
   -- the column count stands behind sets

@@ -1,20 +1,14 @@
 -- What holds of the JSON of values and of files.
-use Rattle.std.specs.Prelude.{IsTrue, List, Ok, Some, codes, false, ◌++◌, ◌∷◌, ◌≡◌, ◌≤◌}
+use Rattle.std.specs.Prelude.{IsTrue, List, Some, codes, false, ◌++◌, ◌∷◌, ◌≡◌, ◌≤◌}
 use Rattle.std.specs.List.{list_all}
-use Rattle.pm_json.specs.Readings.{reading}
 use Rattle.pm_props.specs.Properties.{name_in}
 use Rattle.pm_props.specs.declared.property.PropId.{PropId}
-use Rattle.pm_types.specs.Forms.{AreFractions, is_formed}
 use Rattle.pm_types.specs.Values.{PropertyValue}
 use Rattle.serde_json.specs.Data.{depth, string}
 use Rattle.serde_json.specs.Find.{get}
 use Rattle.serde_json.specs.Written.{has_float}
 use Rattle.pm_files.specs.Files.{SavedFile, file_json, is_other_name, type_text}
 use Rattle.pm_files.specs.ValueJson.{json_of}
-
--- a value in the form of its property, with fractions in lowest terms and in the range, is read back from its JSON
-abbrev pub ValuesAreReadBack : Type 0
-ValuesAreReadBack = (p : PropId) (v : PropertyValue) → IsTrue (is_formed p v) → AreFractions v → reading p (json_of p v) ≡ Ok v
 
 -- the JSON of a value nests three levels at most, as that of a lattice does
 abbrev pub ValuesAreShallow : Type 0

@@ -1,9 +1,9 @@
-//! Data files: the JSON of the values of properties, from which they are read back, and the files that are written.
+//! Data files: the JSON of the values of properties, and the files that are written.
 #![tactic(auto)]
 
 ghost use Rattle.pm_files.specs.Examples.{MatricesAreWritten, NumbersAreWritten, SetsAreWritten};
 ghost use Rattle.pm_files.specs.FileExamples.{FilesAreWritten};
-ghost use Rattle.pm_files.specs.Laws.{FilesAreShallow, FilesHaveNoFloat, FilesHoldTheirType, FilesHoldTheirValues, ValuesAreReadBack, ValuesAreShallow, ValuesHaveNoFloat};
+ghost use Rattle.pm_files.specs.Laws.{FilesAreShallow, FilesHaveNoFloat, FilesHoldTheirType, FilesHoldTheirValues, ValuesAreShallow, ValuesHaveNoFloat};
 
 mod file;
 mod value;
@@ -12,11 +12,6 @@ mod write;
 pub use file::{FileObject, FileProgram};
 pub use value::value_json;
 pub use write::{object_bytes, type_text};
-
-/// A value in the form of its property is read back from its JSON.
-pub fn law_values_are_read_back()
-    ensures { ValuesAreReadBack }
-{}
 
 /// The JSON of a value nests three levels at most.
 pub fn law_values_are_shallow()

@@ -12,6 +12,7 @@ pub mod TestTurns
 pub mod MarkPairs
 pub mod DataRead
 pub mod FileParts
+pub mod ReadBack
 pub mod Wholeness
 pub mod Saved
 pub mod Returning

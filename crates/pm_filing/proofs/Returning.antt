@@ -15,7 +15,7 @@ use Rattle.pm_algebra.proofs.Filters.{any_from, any_to, among_map}
 use Rattle.pm_algebra.proofs.Lists.{Among, Contains_among, among_All, among_Contains, among_append, among_append_left, among_append_right, here, there}
 use Rattle.pm_files.proofs.Ascending.{Ascends, IsBefore, contents_ascend, found_first, heading_ascends, key_is, none_at, put_ascends, same_members, values_ascend}
 use Rattle.pm_files.proofs.Members.{no_programs, not_computed, others, past_names, type_stands}
-use Rattle.pm_files.proofs.ReadBack.{values_back}
+use Rattle.pm_filing.proofs.ReadBack.{values_back}
 use Rattle.pm_files.specs.Files.{Mark, SavedFile, contents, evidence_text, file_json, heading, is_in, is_other_name, is_stored, mark_json, marks_json, stored_keys, type_text, with_programs, with_values}
 use Rattle.pm_files.specs.ValueJson.{array_of, json_of}
 use Rattle.pm_filing.proofs.Fitting.{map_append, states_n}

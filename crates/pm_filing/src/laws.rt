@@ -1,8 +1,13 @@
-// The law of honesty, the laws of files that are read back, and examples.
+// The law of honesty, the laws of values and files that are read back, and examples.
 
 ghost use Rattle.pm_filing.specs.Examples.{FilesAreLoaded, ObjectsAreSaved};
-ghost use Rattle.pm_filing.specs.Laws.{FilesAreReadBack, LoadedIsKept, SavedIsWhole};
+ghost use Rattle.pm_filing.specs.Laws.{FilesAreReadBack, LoadedIsKept, SavedIsWhole, ValuesAreReadBack};
 ghost use Rattle.pm_filing.specs.WholeExamples.{FilesAreWhole, ObjectsAreAgain};
+
+/// A value in the form of its property is read back from its JSON.
+pub fn law_values_are_read_back()
+    ensures { ValuesAreReadBack }
+{}
 
 /// Whatever a file holds, the object that is made of it is honest.
 pub fn law_loaded_is_kept()

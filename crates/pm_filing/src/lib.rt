@@ -16,7 +16,7 @@ mod tests_of_parts;
 pub use fail::FileFail;
 pub use laws::{
     example_again, example_loaded, example_saved, example_whole, law_files_are_read_back,
-    law_loaded_is_kept, law_saved_is_whole,
+    law_loaded_is_kept, law_saved_is_whole, law_values_are_read_back,
 };
 pub use load::load_object;
 pub use read::read_object;

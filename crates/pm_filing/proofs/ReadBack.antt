@@ -21,7 +21,7 @@ use Rattle.pm_props.specs.declared.property.PropId.{PropId}
 use Rattle.pm_props.specs.declared.property.PropId.TheVariants.{F2Vector, LinearObjective}
 use Rattle.pm_types.specs.Forms.{AreFractions, are_indices, are_joined_back, has_64_bits, is_counts_form, is_dimension, is_edges_form, is_formed, is_lattice_form, is_matrix_form, is_matrix_of, is_sets_form, is_whole_form}
 use Rattle.pm_types.specs.Values.{PropertyValue, matrix, sets, whole, truth, extended, edges, lattice, counts, Extended, finite, plus_infinity, minus_infinity}
-use Rattle.pm_files.specs.Laws.{ValuesAreReadBack}
+use Rattle.pm_filing.specs.Laws.{ValuesAreReadBack}
 use Rattle.pm_files.specs.ValueJson.{array_of, cols_json, edges_json, extended_json, fraction_json, index_json, json_of, matrix_json, row_json, rows_json, set_json, sets_json, whole_json}
 use Rattle.serde_json.specs.Data.{Data, item}
 use lib.IntN.{ℤ, pos, negsuc}
