@@ -1,0 +1,91 @@
+// The conditions, in the order in which they are tried.
+
+ghost use Rattle.pm_build.specs.Conditions.{IsKnown, IsOfRows, IsReadable, are_few, cyclic_refusal, polar_reads, polar_refusal, product_reads, product_refusal, pyramid_reads, pyramid_refusal, shape_refusal};
+ghost use Rattle.std.specs.Prelude.{[], ◌∷◌, ◌≡◌};
+
+use crate::fail::Condition;
+use crate::reading::{are_points, cols_at, is_polytope, is_true, matrix_at};
+use crate::shapes::is_cyclic_size;
+use pm_object::Object;
+use pm_types::PropId;
+
+pub(crate) fn shape_refusal(d: u32) -> Option<Condition>
+    ensures { result ≡ shape_refusal d }
+{
+    if d <= 32 { None } else { Some(Condition::Size) }
+}
+
+pub(crate) fn cyclic_refusal(d: u32, n: u32) -> Option<Condition>
+    ensures { result ≡ cyclic_refusal d n }
+{
+    if is_cyclic_size(d, n) {
+        None
+    } else {
+        Some(Condition::Size)
+    }
+}
+
+pub(crate) fn polar_refusal(o: &Object) -> Option<Condition>
+    requires { IsReadable polar_reads o.now.state }
+    ensures { result ≡ polar_refusal o.now.state }
+{
+    if !is_polytope(o) {
+        return Some(Condition::OfType);
+    }
+    if !is_true(o, PropId::Bounded) {
+        return Some(Condition::Bounded);
+    }
+    if !is_true(o, PropId::FullDim) {
+        return Some(Condition::FullDim);
+    }
+    if !is_true(o, PropId::Centered) {
+        return Some(Condition::Centered);
+    }
+    if !are_points(matrix_at(o, PropId::Facets)) {
+        return Some(Condition::Rows);
+    }
+    None
+}
+
+// Whether both objects together have at most 2,048 rows of the property.
+fn are_few(p: PropId, a: &Object, b: &Object) -> bool
+    requires rows { IsOfRows p }
+    requires first { IsKnown (p ∷ []) a.now.state }
+    requires second { IsKnown (p ∷ []) b.now.state }
+    ensures { result ≡ are_few p a.now.state b.now.state }
+{
+    matrix_at(a, p).rows() + matrix_at(b, p).rows() <= 2048
+}
+
+pub(crate) fn product_refusal(a: &Object, b: &Object) -> Option<Condition>
+    requires first { IsReadable product_reads a.now.state }
+    requires second { IsReadable product_reads b.now.state }
+    ensures { result ≡ product_refusal a.now.state b.now.state }
+{
+    if !(is_polytope(a) && is_polytope(b)) {
+        return Some(Condition::OfType);
+    }
+    if cols_at(a) + cols_at(b) > 34 {
+        return Some(Condition::Columns);
+    }
+    if !(are_few(PropId::Facets, a, b) && are_few(PropId::AffineHull, a, b)) {
+        return Some(Condition::Rows);
+    }
+    None
+}
+
+pub(crate) fn pyramid_refusal(o: &Object) -> Option<Condition>
+    requires { IsReadable pyramid_reads o.now.state }
+    ensures { result ≡ pyramid_refusal o.now.state }
+{
+    if !is_polytope(o) {
+        return Some(Condition::OfType);
+    }
+    if cols_at(o) > 32 {
+        return Some(Condition::Columns);
+    }
+    if matrix_at(o, PropId::Vertices).rows() > 2047 {
+        return Some(Condition::Rows);
+    }
+    None
+}
