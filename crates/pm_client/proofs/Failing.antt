@@ -1,8 +1,8 @@
--- Where an elimination of the row list, double description of its two parts, thinning, or finding rows from sets was given up, so is the client, with evidence that holds of the view.
+-- Where an elimination of the row list, double description of its two parts, thinning, a linear program, or finding rows from sets was given up, so is the client, with evidence that holds of the view.
 use Rattle.pm_algebra.proofs.Lists.{Contains_among, among_Contains, among_append, here, there}
 use Rattle.pm_algebra.specs.Rows.{IsZero, Row}
 use Rattle.pm_client.proofs.ReadRows.{row_of}
-use Rattle.pm_client.specs.Sound.{AreParts, ArePartsOf, AreRowsOf, AreSetsOf, AreTold, FailsRightly, IsDoubleListOf, IsRowList, IsRowOf, IsWideElimination, added_rows, determining_rows, double_list, doubles, eliminated_by, enlarging_rows, fail_of, fail_of_double, fail_of_thin, first_part, flat_basis_and_row, flat_rows, row_list}
+use Rattle.pm_client.specs.Sound.{AreParts, ArePartsOf, AreRowsOf, AreSetsOf, AreTold, FailsRightly, HoldsOf, IsDoubleListOf, IsRowList, IsRowOf, IsWideElimination, IsWideFeasibility, added_rows, determining_rows, double_list, doubles, eliminated_by, enlarging_rows, fail_of, fail_of_double, fail_of_program, fail_of_thin, first_part, flat_basis_and_row, flat_rows, row_list}
 use Rattle.pm_dd.specs.Refusals.{IsEliminationFail, IsShown, ShowsMany, ShowsWide}
 use Rattle.pm_dd.specs.declared.fails.DdFail.{DdFail}
 use Rattle.pm_dd.specs.declared.fails.DdFail.TheVariants as double
@@ -15,7 +15,7 @@ use Rattle.pm_geom.specs.declared.evidence.Evidence.TheVariants as evidence
 use Rattle.pm_incidence.proofs.Products.{stays_turned, zero_stays}
 use Rattle.pm_incidence.specs.FromSets.{IsSetsFail, IsTurnedSetsFail}
 use Rattle.pm_incidence.specs.FromSets as from_sets
-use Rattle.pm_incidence.specs.Thinning.{IsFacetsFail, IsThinFail, IsWideIncidence, IsWideReduction, half_spaces}
+use Rattle.pm_incidence.specs.Thinning.{IsFacetsFail, IsThinFail, IsWideReduction, half_spaces}
 use Rattle.pm_incidence.specs.declared.fails.ThinFail.{ThinFail}
 use Rattle.pm_incidence.specs.declared.fails.ThinFail.TheVariants as thinning
 use Rattle.pm_elim.specs.EliminationSteps.{EliminationStep}
@@ -29,6 +29,12 @@ use Rattle.pm_props.specs.declared.object_type.ObjectType.{ObjectType}
 use Rattle.pm_props.specs.declared.property.PropId.TheVariants.{AffineHull, Equations, Facets, Inequalities, InputLineality, LinealitySpace, Points, Vertices}
 use Rattle.pm_props.specs.declared.property.PropId.{PropId}
 use Rattle.pm_props.specs.declared.standard.StandardClient.{StandardClient}
+use Rattle.pm_props.specs.declared.standard.StandardClient.TheVariants as client
+use Rattle.pm_simplex.specs.Generated.{no_objective}
+use Rattle.pm_simplex.specs.Answers.{ShowsProgram}
+use Rattle.pm_simplex.specs.Fails as linear
+use Rattle.pm_simplex.specs.declared.fails.LpFail.{LpFail}
+use Rattle.pm_simplex.specs.declared.fails.LpFail.TheVariants as program
 use Rattle.std.proofs.Common.{ap, inl, inr, refl, subst, sym, true, ◌∙◌}
 use Rattle.std.proofs.lemmas.List.{append-nil}
 use Rattle.std.specs.List.{Contains}
@@ -116,6 +122,21 @@ halves_added Polytope n A = refl
 halves_added Cone n A = sym (append-nil A)
 halves_added Fan n A = sym (append-nil A)
 
+-- so EQUATIONS, and the half-spaces as they are taken, are two parts
+pub halves_read : (v : ViewSeen) (E A : List Row) → AreRowsOf v Equations E → AreRowsOf v Inequalities A → ArePartsOf v Equations Inequalities E (half_spaces v.of v.cols A)
+halves_read v E A e a = record {
+  first_cols = e.cols;
+  second_cols = a.cols;
+  first_rows = e.rows;
+  second_rows = a.rows;
+  reads_first = e.reads;
+  reads_second = a.reads;
+  ys = A;
+  first_primitive = e.primitive;
+  second_primitive = a.primitive;
+  added = halves_added v.of v.cols A;
+}
+
 -- a row that was read
 generator_row : (v : ViewSeen) (p : PropId) (X : List Row) (x : Row) → AreRowsOf v p X → IsTrue (is_generator p) → Contains X x → (IsZero x → ⊥) → IsRowOf v is_generator x
 generator_row v p X x h kind c some = row_of v is_generator p h.cols h.rows X x h.reads kind h.primitive c some
@@ -152,26 +173,7 @@ module _ (v : ViewSeen) (thinning_takes : eliminated_by v.kind.name ≡ flat_row
   pub fails_by_inequalities : IsTrue (bytes_eq v.kind.name (codes "thin_inequalities_v")) → (E A V : List Row) (f : ThinFail) → AreRowsOf v Equations E → AreRowsOf v Inequalities A → AreRowsOf v Vertices V → IsFacetsFail v.of v.cols A E V f → FailsRightly v (fail_of_thin f)
   fails_by_inequalities named E A V (thinning.Wide (evidence.E1 step)) e a g h =
       wide_reduction E (half_spaces v.of v.cols A) V
-      (record {
-        first = Equations;
-        second = Inequalities;
-        other = Vertices;
-        parts = refl;
-        told = refl;
-        read = record {
-          first_cols = e.cols;
-          second_cols = a.cols;
-          first_rows = e.rows;
-          second_rows = a.rows;
-          reads_first = e.reads;
-          reads_second = a.reads;
-          ys = A;
-          first_primitive = e.primitive;
-          second_primitive = a.primitive;
-          added = halves_added v.of v.cols A;
-        };
-        others = g;
-      })
+      (record { first = Equations; second = Inequalities; other = Vertices; parts = refl; told = refl; read = halves_read v E A e a; others = g })
       step h
   fails_by_inequalities named E A V (thinning.Wide (evidence.E4 x y)) e a g h =
       let some : IsZero y → ⊥ = λ z. h.wide (zero_stays y x z) in
@@ -181,9 +183,29 @@ module _ (v : ViewSeen) (thinning_takes : eliminated_by v.kind.name ≡ flat_row
         wide = λ s. h.wide (stays_turned x y s);
       })
   fails_by_inequalities named E A V (thinning.Wide w) e a g h = absurd h
-  fails_by_inequalities named E A V (thinning.Many (evidence.E5Rows places)) e a g h = record { named = named; equations = E; inequalities = A; reads_equations = e; reads_inequalities = a; shown = h }
+  fails_by_inequalities named E A V (thinning.Many (evidence.E5Rows places)) e a g h = record { named = rw named refl; equations = E; inequalities = A; reads_equations = e; reads_inequalities = a; shown = h }
   fails_by_inequalities named E A V (thinning.Many w) e a g h = absurd h
   fails_by_inequalities named E A V thinning.Memory e a g h = tt
+
+-- ---- linear programs
+-- whether there is a point
+module _ (v : ViewSeen) (kind : v.kind ≡ standard_kind client.FeasibleLp) (E A : List Row) (e : AreRowsOf v Equations E) (a : AreRowsOf v Inequalities A) where
+  pub wide_feasibility : (w : Evidence) → ShowsProgram (half_spaces v.of v.cols A) E (no_objective v.cols) w → IsWideFeasibility v w
+  wide_feasibility w h = record {
+    named = subst (λ (k : Kind). bytes_eq k.name (codes "feasible_lp") ≡ true) (sym kind) refl;
+    equations = E;
+    inequalities = half_spaces v.of v.cols A;
+    read = halves_read v E A e a;
+    shown = h;
+  }
+
+  holds_feasibility : (w : Evidence) → ShowsProgram (half_spaces v.of v.cols A) E (no_objective v.cols) w → HoldsOf w v
+  holds_feasibility (evidence.E3 basis enter leave row column) h = inr (wide_feasibility (evidence.E3 basis enter leave row column) h)
+  holds_feasibility w h = absurd h.shown
+
+  pub fails_by_feasibility : (f : LpFail) → linear.IfWide f (ShowsProgram (half_spaces v.of v.cols A) E (no_objective v.cols)) → FailsRightly v (fail_of_program f)
+  fails_by_feasibility (program.Wide w) h = holds_feasibility w h
+  fails_by_feasibility program.Memory h = tt
 
 -- ---- rows from sets
 module _ (v : ViewSeen) (sets_take : eliminated_by v.kind.name ≡ row_list ∷ determining_rows ∷ []) where

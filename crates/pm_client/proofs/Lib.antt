@@ -13,4 +13,5 @@ pub mod Machine
 pub mod FreshOrders
 pub mod Examples
 mod ThinningExamples
+mod ProgramExamples
 mod LatticeExamples

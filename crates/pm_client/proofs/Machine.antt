@@ -5,7 +5,7 @@ use Rattle.std.proofs.Common.{SFits, ap, arith, eqb, of_z, to_z, true, w64, ◌�
 use Rattle.std.proofs.lemmas.Bool.Decides.{Decides-eqb, Decides-like}
 use Rattle.std.proofs.lemmas.Int.{ints, to_z-of_z, to_z_pos}
 use Rattle.std.specs.Int.{saturate_signed}
-use Rattle.std.specs.Prelude.{IsTrue, nat_lt, ℕ, ◌<◌, ◌^◌, ◌≡◌, ◌↔◌}
+use Rattle.std.specs.Prelude.{IsTrue, ℕ, ◌<◌, ◌^◌, ◌≡◌, ◌↔◌}
 use lib.IntN.{negsuc, pos, ℤ, ◌+ℤ◌, ◌-ℤ◌}
 use lib.Signed.{◌<ℤ◌, ◌≤ℤ◌}
 

@@ -9,7 +9,7 @@ use Rattle.pm_matrix.specs.FractionRows.{ArePrimitiveRowsOf, IsPrimitiveRowOf}
 use Rattle.pm_object.specs.Reading.{ViewSeen, fact_of}
 use Rattle.pm_props.specs.declared.property.PropId.{PropId}
 use Rattle.pm_types.specs.Values.{matrix}
-use Rattle.std.proofs.Common.{arith, get_or, inl, inr, length, subst, sym, ◌∙◌}
+use Rattle.std.proofs.Common.{arith, get_or, inl, inr, subst, sym, ◌∙◌}
 use Rattle.std.proofs.lemmas.List.Elements.{Contains-get_or}
 use Rattle.std.proofs.lemmas.List.{get_or_default}
 use Rattle.std.specs.List.{Contains}

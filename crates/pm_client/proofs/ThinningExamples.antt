@@ -25,7 +25,7 @@ use Rattle.std.specs.Prelude.{List, None, Option, Some, [], length, map, ℕ, �
 use lib.IntN.{pos, ℤ, ◌*ℤ◌}
 
 -- ---- what the view has
-none_primitive : ArePrimitiveRowsOf [] []
+pub none_primitive : ArePrimitiveRowsOf [] []
 none_primitive = record { count = refl; each = λ i l. absurd (omega arith); multiple = λ i l. absurd (omega arith) }
 
 none_of : (p : PropId) → Reads no_points p 0 [] → AreRowsOf no_points p []
@@ -36,7 +36,7 @@ value_rows (matrix n rows) = rows
 value_rows v = []
 
 -- a value without rows has no others
-no_others : (v : ViewSeen) (p : PropId) (n : ℕ) (rows : List (List Ratio)) (X : List Row) → Reads v p 0 [] → Reads v p n rows → ArePrimitiveRowsOf rows X → X ≡ []
+pub no_others : (v : ViewSeen) (p : PropId) (n : ℕ) (rows : List (List Ratio)) (X : List Row) → Reads v p 0 [] → Reads v p n rows → ArePrimitiveRowsOf rows X → X ≡ []
 no_others v p n [] [] h reads primitive = refl
 no_others v p n [] (x ∷ X) h reads primitive = absurd (let c = primitive.count in omega arith)
 no_others v p n (r ∷ rows) X h reads primitive = absurd (different (sym h ∙ reads))
@@ -148,7 +148,7 @@ determining = record {
   determining = record { lines = single 1 ∷ []; pivots = 0 ∷ []; lineality = null_all; set = []; listed = Contains_among (here {xs = []}); rows = refl };
 }
 
-no_end : (xs : List Row) (x : Row) → [] ≡ xs ++ x ∷ [] → ⊥
+pub no_end : (xs : List Row) (x : Row) → [] ≡ xs ++ x ∷ [] → ⊥
 no_end xs x e = let l = ap length e ∙ length-append xs (x ∷ []) in omega arith
 
 pub thinning_is_read : ThinningIsRead

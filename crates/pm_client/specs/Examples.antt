@@ -1,5 +1,5 @@
 -- The definitions of starts and of row lists read on small lists: what holds of them, and what does not.
-use Rattle.pm_client.specs.Sound.{AreEnlarging, AreParts, ArePartsOf, AreRowsOf, AreSetsOf, IsCrowdedLattice, IsCrowdedThinning, IsDeterminingList, IsDoubleListOf, IsEliminated, IsFlatBasisAndRow, IsFlatList, IsWideForSets, added_rows, are_parts, are_told, determining_rows, double_list, doubles, eliminated_by, enlarging_rows, fail_of, fail_of_double, fail_of_lattice, fail_of_thin, first_part, flat_basis_and_row, flat_rows, row_list, sets_of_rows, takes_sets, thins}
+use Rattle.pm_client.specs.Sound.{AreEnlarging, AreParts, ArePartsOf, AreRowsOf, AreSetsOf, HoldsOf, IsCrowdedLattice, IsCrowdedThinning, IsDeterminingList, IsDoubleListOf, IsEliminated, IsFlatBasisAndRow, IsFlatList, IsWideFeasibility, IsWideForSets, IsWideProgramOf, IsWideThinningOf, added_rows, are_parts, are_told, determining_rows, double_list, doubles, eliminated_by, enlarging_rows, fail_of, fail_of_double, fail_of_lattice, fail_of_program, fail_of_thin, first_part, flat_basis_and_row, flat_rows, line_basis_and_row, line_rows, row_list, sets_of_rows, takes_sets, thins, thins_by_programs, thins_inequalities}
 use Rattle.pm_props.specs.Properties.{is_generator, is_half_space}
 use Rattle.pm_client.specs.Starts.{Clients, after_start, has_client, kind_at, next_count, place_in, same_kind, started_once}
 use Rattle.pm_client.specs.declared.ClientFail.TheVariants as fail
@@ -8,11 +8,16 @@ use Rattle.pm_elim.specs.declared.evidence.ElimFail.TheVariants as elimination
 use Rattle.pm_geom.specs.Graphs.{sets_of}
 use Rattle.pm_geom.specs.Meets.{AreTooManyMeets}
 use Rattle.pm_geom.specs.declared.evidence.Evidence.{Evidence}
+use Rattle.pm_geom.specs.declared.evidence.Evidence.TheVariants.{E3, E4}
+use Rattle.pm_incidence.specs.Thinning.{AreManyFacets}
 use Rattle.pm_incidence.specs.declared.fails.ThinFail.TheVariants as thinning
 use Rattle.pm_lattice.specs.declared.lattice.LatticeFail.TheVariants as closing
 use Rattle.pm_props.specs.declared.object_type.ObjectType.TheVariants.{Cone, Polytope}
 use Rattle.pm_algebra.specs.Rows.{Row}
 use Rattle.pm_object.specs.Reading.{ViewSeen}
+use Rattle.pm_simplex.specs.Generated.{IsWideThinning, no_objective}
+use Rattle.pm_simplex.specs.Answers.{ShowsProgram}
+use Rattle.pm_simplex.specs.declared.fails.LpFail.TheVariants as linear
 use Rattle.pm_types.specs.Values.{IndexSets, matrix, sets}
 use Rattle.pm_props.specs.declared.kind.Kind.{Kind}
 use Rattle.pm_props.specs.declared.property.PropId.TheVariants.{AffineHull, Equations, Facets, Inequalities, InputLineality, LinealitySpace, Points, Vertices, VerticesInFacets}
@@ -181,6 +186,39 @@ pub record ThinningIsRead : Type 0 where
   pub of_thinning : eliminated_by (codes "thin_inequalities_v") ≡ flat_rows ∷ flat_basis_and_row ∷ []
   pub of_sets : eliminated_by (codes "vertices_from_sets") ≡ row_list ∷ determining_rows ∷ []
   pub memory : fail_of_thin thinning.Memory ≡ fail.Memory
+
+-- a view of a polytope with one column for a client of this name, whose INEQUALITIES and EQUATIONS have no row
+abbrev pub without_rows : List ℕ → ViewSeen
+without_rows name = record no_rows { kind = named name 1 2 }
+
+pub record ProgramsAreRead : Type 0 where
+  -- what clients eliminate that thin by linear programs
+  pub thinning_client : thins_by_programs (codes "thin_points_lp") ≡ true
+  pub not_thinning : thins_by_programs (codes "thin_points_f") ≡ false
+  pub of_thinning : eliminated_by (codes "thin_inequalities_lp") ≡ line_rows ∷ line_basis_and_row ∷ []
+  pub thins_rows : thins_inequalities (codes "thin_inequalities_lp") ≡ true
+  pub thins_points : thins_inequalities (codes "thin_points_lp") ≡ false
+  -- the opposite of x0 >= 0 is not in its cone: the row spans no line, and is reduced by the empty basis
+  pub lines : IsEliminated line_rows no_rows []
+  pub not_lines : ¬ (IsEliminated line_rows no_rows (single 1 ∷ []))
+  pub basis_and_row : IsEliminated line_basis_and_row no_rows (single 1 ∷ [])
+  pub no_basis_and_row : ¬ (IsEliminated line_basis_and_row no_rows [])
+  -- evidence is of a program of what was read, with what is added
+  pub thinned : (e : Evidence) → IsWideThinning 1 (single 1 ∷ []) [] e → IsWideThinningOf (without_rows (codes "thin_inequalities_lp")) e
+  pub these_rows : (e : Evidence) → IsWideThinningOf (without_rows (codes "thin_inequalities_lp")) e → IsWideThinning 1 (single 1 ∷ []) [] e
+  pub feasible : (e : Evidence) → ShowsProgram (single 1 ∷ []) [] (no_objective 1) e → IsWideFeasibility (without_rows (codes "feasible_lp")) e
+  pub this_program : (e : Evidence) → IsWideFeasibility (without_rows (codes "feasible_lp")) e → ShowsProgram (single 1 ∷ []) [] (no_objective 1) e
+  -- such evidence holds of the view
+  pub held : (basis : List ℕ) (enter leave row column : ℕ) → ShowsProgram (single 1 ∷ []) [] (no_objective 1) (E3 basis enter leave row column) → HoldsOf (E3 basis enter leave row column) (without_rows (codes "feasible_lp"))
+  pub not_held : (basis : List ℕ) (enter leave row column : ℕ) → ¬ (HoldsOf (E3 basis enter leave row column) no_rows)
+  -- a client of another name has no program, and of no client a product is evidence of one
+  pub other_client : (e : Evidence) → ¬ (IsWideProgramOf no_rows e)
+  pub product : (name : List ℕ) → ¬ (IsWideProgramOf (without_rows name) (E4 (single 1) (single 1)))
+  -- too many facets are among the rows that were read, with what is added
+  pub crowded : (places : List ℕ) → AreManyFacets Polytope 1 [] [] places → IsCrowdedThinning (without_rows (codes "thin_inequalities_lp")) places
+  -- what such a failure is to a client
+  pub wide : (e : Evidence) → fail_of_program (linear.Wide e) ≡ fail.Failed e
+  pub memory : fail_of_program linear.Memory ≡ fail.Memory
 
 -- a view of a cone with one column for a client of this name, which reads these sets
 abbrev pub with_sets : List ℕ → IndexSets → ViewSeen

@@ -29,12 +29,18 @@ use Rattle.pm_hull.specs.HullRefusals.{IsDoubleList}
 use Rattle.pm_props.specs.declared.object_type.ObjectType.{ObjectType}
 use Rattle.pm_props.specs.declared.object_type.ObjectType.TheVariants.{Polytope}
 use Rattle.pm_geom.specs.declared.evidence.Evidence.{Evidence}
-use Rattle.pm_geom.specs.declared.evidence.Evidence.TheVariants.{E1, E2, E4, E5Faces, E5Rays, E5Rows}
+use Rattle.pm_geom.specs.declared.evidence.Evidence.TheVariants.{E1, E2, E3, E4, E5Faces, E5Rays, E5Rows}
 use Rattle.pm_matrix.specs.FractionRows.{ArePrimitiveRowsOf}
 use Rattle.pm_object.specs.Reading.{DraftSeen, ViewSeen, answer_of, fact_of}
 use Rattle.pm_types.specs.Runs.{MayAnswer}
 use Rattle.pm_types.specs.Values.{Fact, IndexSets, matrix, sets}
 use Rattle.pm_props.specs.Properties.{is_generator, is_half_space}
+use Rattle.pm_simplex.specs.Generated.{IsWideThinning, no_objective}
+use Rattle.pm_simplex.specs.Lineality.{MarkLines, line_group}
+use Rattle.pm_simplex.specs.Lineality as lineality
+use Rattle.pm_simplex.specs.Answers.{ShowsProgram}
+use Rattle.pm_simplex.specs.declared.fails.LpFail.{LpFail}
+use Rattle.pm_simplex.specs.declared.fails.LpFail.TheVariants as linear
 use Rattle.pm_props.specs.declared.property.PropId.{PropId}
 use Rattle.pm_props.specs.declared.property.PropId.TheVariants.{Points, InputLineality, Inequalities, Equations, Vertices, LinealitySpace, Facets, AffineHull, VerticesInFacets}
 use Rattle.pm_client.specs.declared.ClientFail.{ClientFail}
@@ -167,6 +173,24 @@ pub record IsFlatBasisAndRow (v : ViewSeen) (X : List Row) : Type 0 where
   pub read : AreTold v lines rows others
   pub flat : IsBasisAndRow v.cols rows lines others X
 
+-- X are the lines, and then those rows of the list whose opposite is in the cone of all: they span the lineality
+pub record IsLineList (v : ViewSeen) (X : List Row) : Type 0 where
+  pub lines : List Row
+  pub rows : List Row
+  pub read : AreParts v lines rows
+  pub marks : List Bool
+  pub marked : MarkLines rows lines marks
+  pub group : X ≡ line_group rows lines marks
+
+-- X is the echelon basis of these, and then some row of the list
+pub record IsLineBasisAndRow (v : ViewSeen) (X : List Row) : Type 0 where
+  pub lines : List Row
+  pub rows : List Row
+  pub read : AreParts v lines rows
+  pub marks : List Bool
+  pub marked : MarkLines rows lines marks
+  pub last : lineality.IsBasisAndRow v.cols rows lines marks X
+
 -- the sets of those rows of the property that lie together: VERTICES_IN_FACETS has sets of VERTICES, and turned sets of FACETS
 abbrev pub sets_of_rows : PropId → IndexSets → List (List ℕ)
 sets_of_rows Facets s = turned s
@@ -192,7 +216,7 @@ pub record IsDeterminingList (v : ViewSeen) (X : List Row) : Type 0 where
   pub read : AreSetsOf v first second equations inequalities in_sets
   pub determining : IsDetermining v.cols equations inequalities in_sets X
 
--- which lists of rows a client may eliminate: the row list; its first part, the double description list, and the rows of that which enlarge the span; the rows in the lineality, and their basis with a row; rows that determine the row of a set
+-- which lists of rows a client may eliminate: the row list; its first part, the double description list, and the rows of that which enlarge the span; the rows in the lineality, and their basis with a row, by the other description or by linear programs; rows that determine the row of a set
 pub data Eliminated : Type 0 where
   row_list : Eliminated
   first_part : Eliminated
@@ -200,6 +224,8 @@ pub data Eliminated : Type 0 where
   enlarging_rows : Eliminated
   flat_rows : Eliminated
   flat_basis_and_row : Eliminated
+  line_rows : Eliminated
+  line_basis_and_row : Eliminated
   determining_rows : Eliminated
 
 -- the client of this name does double description
@@ -210,6 +236,14 @@ doubles name = bytes_eq name (codes "dd_vertices") || (bytes_eq name (codes "dd_
 abbrev pub thins : List ℕ → Bool
 thins name = bytes_eq name (codes "thin_points_f") || bytes_eq name (codes "thin_inequalities_v")
 
+-- it thins a description by linear programs
+abbrev pub thins_by_programs : List ℕ → Bool
+thins_by_programs name = bytes_eq name (codes "thin_points_lp") || bytes_eq name (codes "thin_inequalities_lp")
+
+-- it thins INEQUALITIES, by VERTICES or by linear programs
+abbrev pub thins_inequalities : List ℕ → Bool
+thins_inequalities name = bytes_eq name (codes "thin_inequalities_v") || bytes_eq name (codes "thin_inequalities_lp")
+
 -- it finds rows from sets
 abbrev pub takes_sets : List ℕ → Bool
 takes_sets name = bytes_eq name (codes "vertices_from_sets") || bytes_eq name (codes "facets_from_sets")
@@ -219,6 +253,7 @@ abbrev pub eliminated_by : List ℕ → List Eliminated
 eliminated_by name =
     if doubles name then first_part ∷ double_list ∷ enlarging_rows ∷ []
     else if thins name then flat_rows ∷ flat_basis_and_row ∷ []
+    else if thins_by_programs name then line_rows ∷ line_basis_and_row ∷ []
     else if takes_sets name then row_list ∷ determining_rows ∷ []
     else row_list ∷ []
 
@@ -230,6 +265,8 @@ IsEliminated double_list v X = IsDoubleListOf v X
 IsEliminated enlarging_rows v X = (D : List Row) × IsDoubleListOf v D × AreEnlarging D X
 IsEliminated flat_rows v X = IsFlatList v X
 IsEliminated flat_basis_and_row v X = IsFlatBasisAndRow v X
+IsEliminated line_rows v X = IsLineList v X
+IsEliminated line_basis_and_row v X = IsLineBasisAndRow v X
 IsEliminated determining_rows v X = IsDeterminingList v X
 
 -- a step in the elimination of a list of its client leaves the range
@@ -274,9 +311,29 @@ IsWideForSets v first second =
     (IsTrue (bytes_eq v.kind.name (codes "vertices_from_sets")) × IsWideDetermined v AffineHull Facets first second)
     ⊎ (IsTrue (bytes_eq v.kind.name (codes "facets_from_sets")) × IsWideDetermined v LinealitySpace Vertices second first)
 
+-- the client thins by linear programs, and in the program of a row of its list, or of its opposite, over some of the rows a pivot leaves the range
+pub record IsWideThinningOf (v : ViewSeen) (e : Evidence) : Type 0 where
+  pub named : IsTrue (thins_by_programs v.kind.name)
+  pub lines : List Row
+  pub rows : List Row
+  pub read : AreParts v lines rows
+  pub shown : IsWideThinning v.cols rows lines e
+
+-- the client asks whether INEQUALITIES, with what is added, and EQUATIONS have a point, and in that program, whose objective is 0, a pivot leaves the range
+pub record IsWideFeasibility (v : ViewSeen) (e : Evidence) : Type 0 where
+  pub named : IsTrue (bytes_eq v.kind.name (codes "feasible_lp"))
+  pub equations : List Row
+  pub inequalities : List Row
+  pub read : ArePartsOf v Equations Inequalities equations inequalities
+  pub shown : ShowsProgram inequalities equations (no_objective v.cols) e
+
+-- the evidence is of a program of the client
+abbrev pub IsWideProgramOf : ViewSeen → Evidence → Type 0
+IsWideProgramOf v e = IsWideThinningOf v e ⊎ IsWideFeasibility v e
+
 -- the client thins INEQUALITIES, and at more than 2,048 places of these and of what is added stand facet rows
 pub record IsCrowdedThinning (v : ViewSeen) (places : List ℕ) : Type 0 where
-  pub named : IsTrue (bytes_eq v.kind.name (codes "thin_inequalities_v"))
+  pub named : IsTrue (thins_inequalities v.kind.name)
   pub equations : List Row
   pub inequalities : List Row
   pub reads_equations : AreRowsOf v Equations equations
@@ -290,15 +347,15 @@ pub record IsCrowdedLattice (v : ViewSeen) (faces : List (List ℕ)) : Type 0 wh
   pub reads : fact_of VerticesInFacets v.facts ≡ Some (sets index.rows index.cols)
   pub shown : AreTooManyMeets index.cols (sets_of index.rows) faces
 
--- the evidence holds of the view: a step of an elimination leaves the range, or one with two extreme rays; a front has too many of these, or a thing too many facets or faces; or the product of a generator's row with a half-space's row leaves the range, or of a row that a set determines with one that was read. Evidence of another kind holds of no view so far
+-- the evidence holds of the view: a step of an elimination leaves the range, or one with two extreme rays, or a pivot of a linear program; a front has too many of these, or a thing too many facets or faces; or the product of a generator's row with a half-space's row leaves the range, or of a row that a set determines with one that was read
 abbrev pub HoldsOf : Evidence → ViewSeen → Type 0
 HoldsOf (E1 e) v = IsWideElimination v e
 HoldsOf (E2 front first second column) v = IsWideDoubling v front first second column
+HoldsOf (E3 basis enter leave row column) v = IsWideProgramOf v (E3 basis enter leave row column)
 HoldsOf (E4 first second) v = AreWideRows v first second ⊎ IsWideForSets v first second
 HoldsOf (E5Rays front rays) v = IsCrowdedDoubling v front rays
 HoldsOf (E5Rows places) v = IsCrowdedThinning v places
 HoldsOf (E5Faces faces) v = IsCrowdedLattice v faces
-HoldsOf e v = ⊥
 
 -- the draft has a value for each target of the view's kind, in its form and canonical, and they are right wherever what was read is
 abbrev pub IsSound : ViewSeen → DraftSeen → Type 0
@@ -330,6 +387,11 @@ abbrev pub fail_of_thin : ThinFail → ClientFail
 fail_of_thin (thinning.Wide e) = Failed e
 fail_of_thin (thinning.Many e) = Failed e
 fail_of_thin thinning.Memory = Memory
+
+-- the failure of a client whose linear program was given up
+abbrev pub fail_of_program : LpFail → ClientFail
+fail_of_program (linear.Wide e) = Failed e
+fail_of_program linear.Memory = Memory
 
 -- the failure of a client whose closing of sets was given up
 abbrev pub fail_of_lattice : LatticeFail → ClientFail

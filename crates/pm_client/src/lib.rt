@@ -1,7 +1,7 @@
 //! Clients, which answer properties of an object from others, and running the first client of a kind.
 #![tactic(auto)]
 
-ghost use Rattle.pm_client.specs.Examples.{DoublesAreRead, LatticesAreRead, RowListsAreRead, StartsAreRead, ThinningIsRead};
+ghost use Rattle.pm_client.specs.Examples.{DoublesAreRead, LatticesAreRead, ProgramsAreRead, RowListsAreRead, StartsAreRead, ThinningIsRead};
 ghost use Rattle.pm_client.specs.Sound.{FailsRightly, IsSound};
 ghost use Rattle.pm_client.specs.Starts.{started_once};
 ghost use Rattle.std.specs.Prelude.{IfErr, OnOk, [], ℕ, ◌≡◌};
@@ -12,6 +12,7 @@ use pm_hull::DdFail;
 use pm_incidence::{IncFail, ThinFail};
 use pm_lattice::LatticeFail;
 use pm_object::{Draft, View};
+use pm_simplex::LpFail;
 use pm_types::Kind;
 use std::alloc::{AllocError, AllocFailed, Global};
 
@@ -88,6 +89,20 @@ impl From<ThinFail> for ClientFail {
             ThinFail::Wide(evidence) => ClientFail::Failed(evidence),
             ThinFail::Many(evidence) => ClientFail::Failed(evidence),
             ThinFail::Memory => ClientFail::Memory,
+        }
+    }
+}
+
+impl From<LpFail> for ClientFail {
+    ghost use Rattle.pm_client.specs.Sound.{fail_of_program};
+    ghost use Rattle.std.specs.Prelude.{◌≡◌};
+
+    ghost from_gives = { λ f e. e ≡ fail_of_program f };
+
+    fn from(fail: LpFail) -> ClientFail {
+        match fail {
+            LpFail::Wide(evidence) => ClientFail::Failed(evidence),
+            LpFail::Memory => ClientFail::Memory,
         }
     }
 }
@@ -169,6 +184,11 @@ pub fn example_doubles()
 /// The definitions of thinning and of rows from sets read on a view without rows.
 pub fn example_thinning()
     ensures { ThinningIsRead }
+{}
+
+/// The definitions of linear programs read on views without rows.
+pub fn example_programs()
+    ensures { ProgramsAreRead }
 {}
 
 /// The definitions of too many faces read on views with sets and without.

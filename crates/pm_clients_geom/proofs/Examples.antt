@@ -216,4 +216,23 @@ thinned_are_read = record {
   kept_facet = record { may = one_not_zero; kept = λ h. refl; either = inl refl };
   no_facet = record { may = none_not_zero; kept = λ h. absurd (zero_listed h); either = inr refl };
   lost_facet = λ h. let e = ap length (h.kept one_not_zero) in omega arith;
+  put = record {
+    facets = single 1 ∷ [];
+    possible = record { may = one_not_zero; kept = λ h. refl; either = inl refl };
+    few = one_few;
+    few_hull = none_few;
+    in_range = All-cons (All InRange) (single 1) [] (All-cons InRange (pos 1) [] (lit< tt) (All-nil InRange)) (All-nil (All InRange));
+    hull_in_range = All-nil (All InRange);
+    draft = refl;
+  };
+  not_put = λ h. no_draft h.draft;
+  none_put = record {
+    facets = [];
+    possible = record { may = none_not_zero; kept = λ h. absurd (zero_listed h); either = inr refl };
+    few = none_few;
+    few_hull = none_few;
+    in_range = All-nil (All InRange);
+    hull_in_range = All-nil (All InRange);
+    draft = refl;
+  };
 }

@@ -45,7 +45,7 @@ use Rattle.pm_types.specs.Right.{InSet, PairCutsOut, Right, RightAll, RightPair,
 use Rattle.pm_types.specs.Things.{IsOfType, IsThing, Thing}
 use Rattle.pm_types.specs.Values.{matrix}
 use Rattle.pm_types.specs.Views.{ratios}
-use Rattle.std.proofs.Common.{ap, arith, inl, inr, refl, subst, suc, sym, true, true≢false, ◌∙◌}
+use Rattle.std.proofs.Common.{ap, arith, refl, subst, suc, sym, true, true≢false, ◌∙◌}
 use Rattle.std.proofs.lemmas.Bool.{eq-eqb, leb-true}
 use Rattle.std.proofs.lemmas.Int.{ints}
 use Rattle.std.proofs.lemmas.List.{append-nil}
@@ -159,41 +159,48 @@ facets_forms of n F c range some = let h = hull_forms of n F c range in record {
 pub primitive_some : (F : List Row) → All IsPrimitive F → AreNotZero F
 primitive_some F h = All_among (λ (x : Row). ¬ (IsZero x)) F (λ x i. primitive_not_zero x (among_All IsPrimitive i h))
 
--- ---- FACETS and AFFINE_HULL, where the rows that were read say what G and L generate; F are facet rows F', or none where no thing has those
-module _ (v : ViewSeen) (view : IsView v) (targets : v.kind.targets ≡ set_of (Facets ∷ AffineHull ∷ [])) (fresh : IsFresh facets_tag v.kind) (G L F' F H : List Row)
-    (found : (t : Thing) (o : Orders) → t.of ≡ v.of → t.cols ≡ v.cols → RightAll v.facts t o → AreFacets v.cols G L F' H × ((x : Row) → length x ≡ t.cols → InSet t x ↔ InCone G L x))
+-- some rows generate the thing, and have the facet rows F and the rows H that vanish
+pub record AreFacetsOf (t : Thing) (n : ℕ) (F H : List Row) : Type 0 where
+  pub rays : List Row
+  pub lines : List Row
+  pub facets : AreFacets n rays lines F H
+  pub same : (x : Row) → length x ≡ t.cols → InSet t x ↔ InCone rays lines x
+
+-- ---- FACETS and AFFINE_HULL, where the rows that were read say which these are; F are the facet rows F', or none where no thing has those
+module _ (v : ViewSeen) (view : IsView v) (targets : v.kind.targets ≡ set_of (Facets ∷ AffineHull ∷ [])) (fresh : IsFresh facets_tag v.kind) (F' F H : List Row)
+    (found : (t : Thing) (o : Orders) → t.of ≡ v.of → t.cols ≡ v.cols → RightAll v.facts t o → AreFacetsOf t v.cols F' H)
     (kept : AreNotZero F' → F ≡ F') (few : AreFewRows v.cols F) (few_hull : AreFewRows v.cols H) (not_zero : AreNotZero F) (range : All (All InRange) F) (range_hull : All (All InRange) H) where
   no_fan : ¬ (v.of ≡ Fan)
   no_fan = not_fan v Facets view (target_named v.kind Facets (has_listed v.kind.targets (Facets ∷ AffineHull ∷ []) Facets targets)) refl refl
 
-  facet_puts : List Put
+  abbrev pub facet_puts : List Put
   facet_puts = put Facets (matrix (cols_over v.cols (map ratios F)) (map ratios F)) ∷ put AffineHull (matrix (cols_over v.cols (map ratios H)) (map ratios H)) ∷ []
 
   facets_formed : AreFormed v facet_puts
-  unfolding facet_puts
   facets_formed = (
     (facets_forms v.of v.cols F (ratios_columned v.cols F view.some_cols view.few_cols few.few few.cols) range not_zero, put_states v.cols (map ratios F)),
     ((hull_forms v.of v.cols H (ratios_columned v.cols H view.some_cols view.few_cols few_hull.few few_hull.cols) range_hull, put_states v.cols (map ratios H)), tt),
   )
 
   facets_are_right : AreRight v facet_puts
-  unfolding facet_puts
   facets_are_right t o of cols right meets =
       let none : ¬ (t.of ≡ Fan) = λ e. no_fan (sym of ∙ e) in
       let w = found t o of cols right in
-      let same = w.1 in
-      let is : F' ≡ F = sym (kept (primitive_some F' w.0.primitive)) in
-      let found' : AreGenerators t.cols (IsValid t.cols G L) F H = subst (λ (X : List Row). AreGenerators t.cols (IsValid t.cols G L) X H) is (subst (λ n. AreGenerators n (IsValid n G L) F' H) (sym cols) w.0) in
+      let same = w.same in
+      let is : F' ≡ F = sym (kept (primitive_some F' w.facets.primitive)) in
+      let found' : AreGenerators t.cols (IsValid t.cols w.rays w.lines) F H = subst (λ (X : List Row). AreGenerators t.cols (IsValid t.cols w.rays w.lines) X H) is (subst (λ n. AreGenerators n (IsValid n w.rays w.lines) F' H) (sym cols) w.facets) in
       let o' : Orders = record { rays = o.rays; facets = F; cones = o.cones } in
-      let f = facets_right t o right.thing right.orders none G L F H same found' v.kind (cols_over v.cols (map ratios F)) (objective_of t (place_of v.sub Facets)) in
-      let h = hull_right t o right.thing right.orders none G L F H same found' v.kind (cols_over v.cols (map ratios H)) o' (objective_of t (place_of v.sub AffineHull)) in
+      let f = facets_right t o right.thing right.orders none w.rays w.lines F H same found' v.kind (cols_over v.cols (map ratios F)) (objective_of t (place_of v.sub Facets)) in
+      let h = hull_right t o right.thing right.orders none w.rays w.lines F H same found' v.kind (cols_over v.cols (map ratios H)) o' (objective_of t (place_of v.sub AffineHull)) in
       fresh_facets v (put Facets (matrix (cols_over v.cols (map ratios F)) (map ratios F)) ∷ put AffineHull (matrix (cols_over v.cols (map ratios H)) (map ratios H)) ∷ []) t o o' view.only
-      (facet_orders t o right.thing right.orders none G L F H same found') right
+      (facet_orders t o right.thing right.orders none w.rays w.lines F H same found') right
       (record { right = f.0; canonical = f.1 }, (record { right = h.0; canonical = h.1 }, tt)) fresh refl
+
+  pub facets_sound_as : (new : DraftSeen) → new ≡ record { kind = v.kind; values = facet_puts } → IsSound v new
+  facets_sound_as new draft = sound_alone v facet_puts new (record { targets = targets; draft = draft }) (refl, (refl, tt)) facets_formed facets_are_right
 
   pub put_facets_sound : (a b : FractionMatrix) (old mid new : DraftSeen) → a ≡ as_put v.cols (map ratios F) → b ≡ as_put v.cols (map ratios H) → old ≡ record { kind = v.kind; values = [] }
       → mid ≡ record old { values = old.values ++ record { property = Facets; value = matrix a.cols a.rows } ∷ [] } → new ≡ record mid { values = mid.values ++ record { property = AffineHull; value = matrix b.cols b.rows } ∷ [] } → IsSound v new
-  unfolding facet_puts
   put_facets_sound a b old mid new same_a same_b empty first_put second_put =
       sound_alone v facet_puts new
       (subst (λ z. ArePut v (put Facets (matrix z.cols z.rows) ∷ put AffineHull (matrix (cols_over v.cols (map ratios H)) (map ratios H)) ∷ []) new) same_a
@@ -210,7 +217,8 @@ module _ (v : ViewSeen) (view : IsView v) (first second : PropId) (kind : FindsF
       → mid ≡ record old { values = old.values ++ record { property = Facets; value = matrix a.cols a.rows } ∷ [] } → new ≡ record mid { values = mid.values ++ record { property = AffineHull; value = matrix b.cols b.rows } ∷ [] } → IsSound v new
   facets_sound =
       let no_fan : ¬ (v.of ≡ Fan) = not_fan v Facets view (target_named v.kind Facets (has_listed v.kind.targets (Facets ∷ AffineHull ∷ []) Facets kind.targets)) refl refl in
-      put_facets_sound v view kind.targets is_fresh G L F F H (λ t o of cols right. (facets, generated v first second L G kind.parts kind.generators read t o right (λ e. no_fan (sym of ∙ e)))) (λ h. refl)
+      put_facets_sound v view kind.targets is_fresh F F H
+      (λ t o of cols right. record { rays = G; lines = L; facets = facets; same = generated v first second L G kind.parts kind.generators read t o right (λ e. no_fan (sym of ∙ e)) }) (λ h. refl)
       (record { cols = order_cols v.cols (IsValid v.cols G L) F facets.order; few = few }) (record { cols = facets.basis.echelon.cols; few = few_hull }) (primitive_some F facets.primitive) range range_hull
 
 -- ---- VERTICES

@@ -5,16 +5,15 @@ use Rattle.pm_algebra.specs.Numbers.{InRange, Ratio}
 use Rattle.pm_algebra.specs.Rows.{HasCols, Row, entry}
 use Rattle.pm_client.proofs.Puts.{IsPut, sound_one}
 use Rattle.pm_client.proofs.ReadValues.{read_right}
-use Rattle.pm_client.proofs.ViewLaws.{has_listed}
 use Rattle.pm_client.specs.Sound.{AreRowsOf, AreSetsOf, IsSound, added_rows}
-use Rattle.pm_clients_geom.proofs.FoundHulls.{by_facets, facets_forms, first_of, generated, primitive_some, rows_pair, vertices_forms}
+use Rattle.pm_clients_geom.proofs.FoundHulls.{AreFacetsOf, by_facets, facets_forms, facets_sound_as, first_of, generated, primitive_some, rows_pair, vertices_forms}
 use Rattle.pm_clients_geom.proofs.PutMatrices.{put_states, ratios_columned}
 use Rattle.pm_clients_geom.proofs.PutRays.{ray_rows}
 use Rattle.pm_clients_geom.specs.Hulls.{AreFewRows}
 use Rattle.pm_clients_geom.specs.Lists.{ReadsParts}
-use Rattle.pm_clients_geom.specs.Matrices.{AreNotZero, AreRays, as_put, cols_over}
+use Rattle.pm_clients_geom.specs.Matrices.{AreRays, as_put, cols_over}
 use Rattle.pm_clients_geom.specs.Rays.{ArePutRays}
-use Rattle.pm_clients_geom.specs.Thinned.{ArePossibleFacets, ArePossibleRays}
+use Rattle.pm_clients_geom.specs.Thinned.{ArePossibleFacets, ArePossibleRays, ArePutFacets}
 use Rattle.pm_dd.specs.Fronts.{HalfSpaces}
 use Rattle.pm_elim.specs.NullSpaces.{IsNullBasis}
 use Rattle.pm_geom.specs.Cones.{IsOrder, IsValid}
@@ -40,7 +39,7 @@ use Rattle.pm_types.specs.Right.{CutsOutOf, InSet, IsIncidence, Right, RightAll,
 use Rattle.pm_types.specs.Things.{Thing}
 use Rattle.pm_types.specs.Values.{IndexSets, matrix, sets}
 use Rattle.pm_types.specs.Views.{ratios}
-use Rattle.std.proofs.Common.{ap, arith, inl, inr, lit≤, refl, subst, suc, sym, true, true≢false, ◌∙◌}
+use Rattle.std.proofs.Common.{arith, inl, inr, lit≤, refl, subst, suc, sym, true, true≢false, ◌∙◌}
 use Rattle.std.proofs.lemmas.Bool.{and_parts, leb-true, ltb-true}
 use Rattle.std.proofs.lemmas.List.Elements.{All-cons, All-nil}
 use Rattle.std.proofs.lemmas.List.{append-nil}
@@ -116,12 +115,17 @@ points_found v no_fan L G E A V K points halves thinned t o of cols right =
 -- and what is thinned from INEQUALITIES are its facet rows
 pub inequalities_found : (v : ViewSeen) → ¬ (v.of ≡ Fan) → (E A L G F H : List Row) → ReadsParts v Equations Inequalities E A → ReadsParts v LinealitySpace Vertices L G
     → (CutsOutOf v.of v.cols (InCone G L) A E → AreGenerators v.cols (IsValid v.cols G L) F H)
-    → (t : Thing) (o : Orders) → t.of ≡ v.of → t.cols ≡ v.cols → RightAll v.facts t o → AreGenerators v.cols (IsValid v.cols G L) F H × ((x : Row) → length x ≡ t.cols → InSet t x ↔ InCone G L x)
+    → (t : Thing) (o : Orders) → t.of ≡ v.of → t.cols ≡ v.cols → RightAll v.facts t o → AreFacetsOf t v.cols F H
 inequalities_found v no_fan E A L G F H halves rays thinned t o of cols right =
     let same = generated v LinealitySpace Vertices L G refl refl rays t o right (λ e. no_fan (sym of ∙ e)) in
     let cut = rows_cut t halves.second_rows halves.first_rows (rows_pair v E A t o of cols right no_fan halves) A E
     (primitive_stand halves.second_rows A halves.second_primitive) (primitive_stand halves.first_rows E halves.first_primitive) G L same in
-    (thinned (subst (λ k. CutsOutOf k v.cols (InCone G L) A E) of (subst (λ n. CutsOutOf t.of n (InCone G L) A E) cols cut)), same)
+    record { rays = G; lines = L; facets = thinned (subst (λ k. CutsOutOf k v.cols (InCone G L) A E) of (subst (λ n. CutsOutOf t.of n (InCone G L) A E) cols cut)); same = same }
+
+-- the facet rows that were put, and the rows that vanish, are sound
+pub thinned_facets_sound : (v : ViewSeen) → IsView v → v.kind.targets ≡ set_of (Facets ∷ AffineHull ∷ []) → IsFresh facets_tag v.kind → (F H : List Row)
+    → ((t : Thing) (o : Orders) → t.of ≡ v.of → t.cols ≡ v.cols → RightAll v.facts t o → AreFacetsOf t v.cols F H) → (new : DraftSeen) → ArePutFacets v F H new → IsSound v new
+thinned_facets_sound v view targets fresh F H found new h = facets_sound_as v view targets fresh F h.facets H found h.possible.kept h.few h.few_hull h.possible.may h.in_range h.hull_in_range new h.draft
 
 -- facet rows, or none in their place, are few
 pub possible_few : (v : ViewSeen) (F' F : List Row) → AreFewRows v.cols F' → ArePossibleFacets F' F → AreFewRows v.cols F

@@ -15,3 +15,7 @@ pub mod FoundHulls
 pub mod SetCounts
 pub mod ZeroPlaces
 pub mod FoundThinned
+pub mod FailingThinned
+pub mod PointLaws
+pub mod RightRows
+mod RedundancyExamples

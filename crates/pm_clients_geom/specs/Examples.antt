@@ -5,7 +5,7 @@ use Rattle.pm_client.specs.Examples.{no_rows, single}
 use Rattle.pm_clients_geom.specs.Hulls.{AreFewRows, ArePossible, ArePutGenerators, FindsFacets, MayGenerate}
 use Rattle.pm_clients_geom.specs.Lists.{ReadsParts}
 use Rattle.pm_clients_geom.specs.Places.{AreZeroPlaces}
-use Rattle.pm_clients_geom.specs.Thinned.{ArePossibleFacets, ArePossibleRays}
+use Rattle.pm_clients_geom.specs.Thinned.{ArePossibleFacets, ArePossibleRays, ArePutFacets}
 use Rattle.pm_clients_geom.specs.Rays.{ArePutRays, IsOverFirst, IsPutRay}
 use Rattle.pm_object.specs.Reading.{DraftSeen, Put}
 use Rattle.pm_props.specs.Kinds.{standard_kind}
@@ -117,3 +117,8 @@ pub record ThinnedAreRead : Type 0 where
   pub kept_facet : ArePossibleFacets (single 1 ∷ []) (single 1 ∷ [])
   pub no_facet : ArePossibleFacets (single 0 ∷ []) []
   pub lost_facet : ¬ (ArePossibleFacets (single 1 ∷ []) [])
+  -- facet rows and rows that vanish are put
+  pub put : ArePutFacets no_rows (single 1 ∷ []) [] (drafted (record { property = Facets; value = matrix 1 (ratios (single 1) ∷ []) } ∷ record { property = AffineHull; value = matrix 0 [] } ∷ []))
+  pub not_put : ¬ (ArePutFacets no_rows (single 1 ∷ []) [] (drafted []))
+  -- none are put where one is zero
+  pub none_put : ArePutFacets no_rows (single 0 ∷ []) [] (drafted (record { property = Facets; value = matrix 0 [] } ∷ record { property = AffineHull; value = matrix 0 [] } ∷ []))

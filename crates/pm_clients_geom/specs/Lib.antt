@@ -8,4 +8,8 @@ pub mod Hulls
 pub mod Thinned
 pub mod Pairs
 pub mod Places
+pub mod Redundancy
+pub mod Points
+pub mod Laws
 pub mod Examples
+pub mod RedundancyExamples

@@ -1,8 +1,15 @@
 -- What the clients put that thin one description of a thing by the other, or find one from sets.
+use Rattle.pm_algebra.specs.Numbers.{InRange}
 use Rattle.pm_algebra.specs.Rows.{Row}
-use Rattle.pm_clients_geom.specs.Matrices.{AreNotZero, AreRays}
+use Rattle.pm_clients_geom.specs.Hulls.{AreFewRows}
+use Rattle.pm_clients_geom.specs.Matrices.{AreNotZero, AreRays, cols_over}
+use Rattle.pm_object.specs.Reading.{DraftSeen, ViewSeen}
 use Rattle.pm_props.specs.declared.object_type.ObjectType.{ObjectType}
-use Rattle.std.specs.Prelude.{List, [], ◌≡◌, ◌⊎◌}
+use Rattle.pm_props.specs.declared.property.PropId.TheVariants.{AffineHull, Facets}
+use Rattle.pm_types.specs.Values.{matrix}
+use Rattle.pm_types.specs.Views.{ratios}
+use Rattle.std.specs.List.{All}
+use Rattle.std.specs.Prelude.{List, [], map, ◌∷◌, ◌≡◌, ◌⊎◌}
 
 -- V is V' wherever these may be rays of a thing of that type, and else there are none
 pub record ArePossibleRays (of : ObjectType) (V' V : List Row) : Type 0 where
@@ -15,3 +22,18 @@ pub record ArePossibleFacets (F' F : List Row) : Type 0 where
   pub may : AreNotZero F
   pub kept : AreNotZero F' → F ≡ F'
   pub either : (F ≡ F') ⊎ (F ≡ [])
+
+-- the facet rows F', or none where one of these is zero, and the rows H that vanish were put as FACETS and AFFINE_HULL
+pub record ArePutFacets (v : ViewSeen) (F' H : List Row) (new : DraftSeen) : Type 0 where
+  pub facets : List Row
+  pub possible : ArePossibleFacets F' facets
+  pub few : AreFewRows v.cols facets
+  pub few_hull : AreFewRows v.cols H
+  pub in_range : All (All InRange) facets
+  pub hull_in_range : All (All InRange) H
+  pub draft : new ≡ record {
+    kind = v.kind;
+    values = record { property = Facets; value = matrix (cols_over v.cols (map ratios facets)) (map ratios facets) }
+        ∷ record { property = AffineHull; value = matrix (cols_over v.cols (map ratios H)) (map ratios H) }
+        ∷ [];
+  }

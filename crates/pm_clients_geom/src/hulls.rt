@@ -78,7 +78,9 @@ impl Family for HullFamily {
 /// The two parts of a row list, as primitive whole rows.
 #[derive(Debug, Drop)]
 pub(crate) struct Parts {
+    /// The lines, or the equations.
     pub(crate) first: Vec<Ints>,
+    /// The points or rays, or the inequalities or facets.
     pub(crate) second: Vec<Ints>,
 }
 

@@ -1,14 +1,18 @@
 //! Clients that find dimensions, counts, truth values, null spaces, and one description from its twin, from the other by
-//! double description, from both by thinning, or from sets of incidences.
+//! double description, from both by thinning, from itself by linear programs, or from sets of incidences; and whether a polytope has a point.
 #![tactic(auto)]
 
+ghost use Rattle.pm_clients_geom.specs.Laws.{FacetsAreThinned, FeasibleHasPoint, VerticesAreThinned};
+ghost use Rattle.pm_clients_geom.specs.RedundancyExamples.{FamilyIsRead, PointsAreRead};
 ghost use Rattle.pm_clients_geom.specs.Examples.{FamiliesAreRead, HullsAreRead, MatricesAreRead, RaysAreRead, ThinnedAreRead};
 
 mod dims;
 mod firsts;
 mod hulls;
 mod lists;
+mod points;
 mod rays;
+mod redundancy;
 mod rows;
 mod sizes;
 mod thinning;
@@ -16,6 +20,8 @@ mod truths;
 
 pub use dims::DimClient;
 pub use hulls::HullClient;
+pub use points::has_point;
+pub use redundancy::RedundancyClient;
 pub use rows::RowsClient;
 pub use sizes::SizeClient;
 pub use thinning::ThinClient;
@@ -44,4 +50,29 @@ pub fn example_hulls()
 /// The definitions of what is put of thinned rows, read on one row.
 pub fn example_thinned()
     ensures { ThinnedAreRead }
+{}
+
+/// What is thinned from right POINTS with INPUT_LINEALITY is right for VERTICES and LINEALITY_SPACE.
+pub fn law_vertices_are_thinned()
+    ensures { VerticesAreThinned }
+{}
+
+/// What is thinned from right INEQUALITIES with EQUATIONS is right for FACETS and AFFINE_HULL.
+pub fn law_facets_are_thinned()
+    ensures { FacetsAreThinned }
+{}
+
+/// Whether right INEQUALITIES with EQUATIONS have a point is right for FEASIBLE.
+pub fn law_feasible_has_point()
+    ensures { FeasibleHasPoint }
+{}
+
+/// Which clients of linear programs there are, and how these fail.
+pub fn example_redundancy()
+    ensures { FamilyIsRead }
+{}
+
+/// Inequalities of a line with a point, and without one.
+pub fn example_points()
+    ensures { PointsAreRead }
 {}

@@ -1,10 +1,14 @@
 // The clients that thin one description of a thing by the other, and those that find one from sets of incidences.
 
 ghost use Rattle.pm_client.specs.Sound.{FailsRightly, IsSound};
-ghost use Rattle.pm_clients_geom.specs.Thinned.{ArePossibleFacets, ArePossibleRays};
+ghost use Rattle.pm_client.specs.declared.ClientFail.TheVariants.{Memory};
+ghost use Rattle.pm_clients_geom.specs.Hulls.{AreFewRows};
+ghost use Rattle.pm_clients_geom.specs.Thinned.{ArePossibleFacets, ArePossibleRays, ArePutFacets};
 ghost use Rattle.pm_props.specs.Kinds.{standard_kind};
+ghost use Rattle.pm_props.specs.Sets.{set_of};
+ghost use Rattle.pm_props.specs.declared.property.PropId.TheVariants as property;
 ghost use Rattle.pm_props.specs.declared.standard.StandardClient.TheVariants as client;
-ghost use Rattle.std.specs.Prelude.{All, IfErr, OnOk, [], length, ◌<◌, ◌≡◌};
+ghost use Rattle.std.specs.Prelude.{All, IfErr, OnOk, [], length, ◌<◌, ◌∷◌, ◌≡◌};
 
 use crate::hulls::{put_generators, read_parts};
 use crate::rays::{are_not_zero, are_rays, matrix_of_rays};
@@ -115,11 +119,7 @@ fn thin_inequalities_v(alloc: Global, view: &View, draft: &mut Draft) -> Result<
         &halves.first,
         &generators,
     )?;
-    let rows = possible_facets(alloc, found.facets);
-    let facets = matrix_over_one(alloc, &rows, view.cols())?;
-    let hull = matrix_over_one(alloc, &found.hull, view.cols())?;
-    put_value(draft, PropId::Facets, Value::Mat(facets))?;
-    put_value(draft, PropId::AffineHull, Value::Mat(hull))?;
+    put_facets(alloc, view, draft, found)?;
     Ok(())
 }
 
@@ -162,6 +162,31 @@ fn facets_of_sets(alloc: Global, view: &View, draft: &mut Draft) -> Result<(), C
     let rows = possible_facets(alloc, found);
     let facets = matrix_over_one(alloc, &rows, view.cols())?;
     put_value(draft, PropId::Facets, Value::Mat(facets))?;
+    Ok(())
+}
+
+/// Puts facet rows and rows that vanish as FACETS and AFFINE_HULL. Want of memory alone ends it.
+pub(crate) fn put_facets(
+    alloc: Global,
+    view: &View,
+    draft: &mut Draft,
+    found: Facets,
+) -> Result<(), ClientFail>
+    requires facets { AreFewRows view.now.cols found.facets.items }
+    requires hull { AreFewRows view.now.cols found.hull.items }
+    requires targets { view.now.kind.targets
+        ≡ set_of (property.Facets ∷ property.AffineHull ∷ []) }
+    requires empty { draft.old ≡ record { kind = view.now.kind; values = [] } }
+    ensures draft { draft.new.kind ≡ draft.old.kind }
+    ensures put { OnOk result (ArePutFacets view.now found.facets.items
+        found.hull.items draft.new) }
+    ensures failed { IfErr result (λ e. e ≡ Memory) }
+{
+    let rows = possible_facets(alloc, found.facets);
+    let facets = matrix_over_one(alloc, &rows, view.cols())?;
+    let hull = matrix_over_one(alloc, &found.hull, view.cols())?;
+    put_value(draft, PropId::Facets, Value::Mat(facets))?;
+    put_value(draft, PropId::AffineHull, Value::Mat(hull))?;
     Ok(())
 }
 

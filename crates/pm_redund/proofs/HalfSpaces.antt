@@ -22,7 +22,8 @@ use Rattle.pm_incidence.specs.Thinning.{AreManyFacets, half_spaces}
 use Rattle.pm_props.specs.declared.object_type.ObjectType.{ObjectType}
 use Rattle.pm_props.specs.declared.object_type.ObjectType.TheVariants.{Cone, Fan, Polytope}
 use Rattle.pm_redund.proofs.Canonical.{apart_at, extreme_at, place_at}
-use Rattle.pm_redund.specs.Redundancy.{AreManyThinPlaces, AreThinPlaces, LeavesNoPoint, MarkLines}
+use Rattle.pm_redund.specs.Redundancy.{AreManyThinPlaces, AreThinPlaces, LeavesNoPoint}
+use Rattle.pm_simplex.specs.Lineality.{MarkLines}
 use Rattle.pm_types.specs.Right.{CutsOutOf, Solves, empty, proper}
 use Rattle.std.proofs.Common.{ap, arith, inl, inr, refl, subst, sym, ◌∙◌}
 use Rattle.std.proofs.Math.Seq.{get_or-append_seam}

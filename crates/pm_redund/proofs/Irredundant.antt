@@ -16,7 +16,8 @@ use Rattle.pm_geom.specs.Cones.{InLineality, IsExtreme, SameModulo}
 use Rattle.pm_geom.specs.Generators.{IsLinealityBasis}
 use Rattle.pm_geom.specs.StatedOrder.{rows_marked}
 use Rattle.pm_redund.proofs.Marked.{among_place, at_marked, marked_among, marked_at, set_keeps}
-use Rattle.pm_redund.specs.Redundancy.{IsKept, IsThinnedTo, MarkLines, line_group}
+use Rattle.pm_redund.specs.Redundancy.{IsKept, IsThinnedTo}
+use Rattle.pm_simplex.specs.Lineality.{MarkLines, line_group}
 use Rattle.std.proofs.Common.{arith, inl, inr, subst, sym, ◌∙◌}
 use Rattle.std.proofs.lemmas.Bool.{cases_eq}
 use Rattle.std.proofs.lemmas.Int.{by_lt_z, ints}

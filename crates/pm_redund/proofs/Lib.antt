@@ -1,6 +1,6 @@
 mod ValidCuts
 mod Programs
-mod Lifted
+pub mod Lifted
 mod Marked
 mod Irredundant
 mod Steps

@@ -5,7 +5,7 @@ use Rattle.pm_bases.specs.Bases.{row_at}
 use Rattle.pm_dd.proofs.Marks.{marked_more, marked_skip}
 use Rattle.pm_fraction.specs.Fractions.{ratio_of}
 use Rattle.pm_geom.specs.StatedOrder.{rows_marked}
-use Rattle.pm_redund.specs.Generated.{equations_of, lifted, no_objective, tied}
+use Rattle.pm_simplex.specs.Generated.{equations_of, lifted, no_objective, tied}
 use Rattle.std.proofs.Common.{ap, arith, refl, ◌∙◌}
 use Rattle.std.proofs.Math.ListN.{drop_of_length-le}
 use Rattle.std.proofs.lemmas.List.{append-nil, append_assoc, length-append, length-replicate}

@@ -9,8 +9,9 @@ use Rattle.pm_incidence.specs.Thinning.{AreManyFacets, IsReductionFail, half_spa
 use Rattle.pm_incidence.specs.declared.fails.ThinFail.{ThinFail}
 use Rattle.pm_incidence.specs.declared.fails.ThinFail.TheVariants.{Many, Memory, Wide}
 use Rattle.pm_props.specs.declared.object_type.ObjectType.{ObjectType}
-use Rattle.pm_redund.specs.Generated.{IsProgramFail}
-use Rattle.pm_redund.specs.Redundancy.{AreManyThinPlaces, AreThinPlaces, IsHalvesFail, IsRowsFail, IsThinFail, MarkLines, line_group}
+use Rattle.pm_redund.specs.Redundancy.{IsProgramFail}
+use Rattle.pm_redund.specs.Redundancy.{AreManyThinPlaces, AreThinPlaces, IsHalvesFail, IsRowsFail, IsThinFail}
+use Rattle.pm_simplex.specs.Lineality.{MarkLines, line_group}
 use Rattle.std.proofs.Common.{inl, inr, refl}
 use Rattle.std.specs.List.{Contains}
 use Rattle.std.specs.Prelude.{Bool, Err, IfErr, List, Ok, Result, [], ℕ, ◌++◌, ◌∷◌}

@@ -8,7 +8,8 @@ use Rattle.pm_incidence.proofs.Described.{cone_apart}
 use Rattle.pm_incidence.specs.Examples.{pair}
 use Rattle.pm_incidence.specs.ThinExamples.{diagonal, x_axis, x_turned, y_axis}
 use Rattle.pm_redund.specs.Examples.{ProgramsAreRead, RedundancyIsRead, RefusalsAreRead, bits, fan_of_three}
-use Rattle.pm_redund.specs.Redundancy.{AreKeptPlaces, IsEnough, IsKept, IsRedundant, IsThinnedTo, LeavesNoPoint, MarkLines}
+use Rattle.pm_redund.specs.Redundancy.{AreKeptPlaces, IsEnough, IsKept, IsRedundant, IsThinnedTo, LeavesNoPoint}
+use Rattle.pm_simplex.specs.Lineality.{MarkLines}
 use Rattle.pm_props.specs.declared.object_type.ObjectType.TheVariants.{Polytope}
 use Rattle.std.proofs.Common.{arith, refl}
 use Rattle.std.proofs.lemmas.Int.{ints}

@@ -7,7 +7,8 @@ use Rattle.pm_bases.proofs.Spans.{place_of}
 use Rattle.pm_bases.specs.Bases.{row_at}
 use Rattle.pm_geom.specs.StatedOrder.{rows_marked}
 use Rattle.pm_redund.proofs.Marked.{IsMore, at_marked, cone_of_marked, marked_at, marked_below, more_cone, set_keeps, set_kept, set_less, set_more, set_off}
-use Rattle.pm_redund.specs.Redundancy.{IsEnough, IsKept, IsThinnedTo, MarkLines}
+use Rattle.pm_redund.specs.Redundancy.{IsEnough, IsKept, IsThinnedTo}
+use Rattle.pm_simplex.specs.Lineality.{MarkLines}
 use Rattle.std.proofs.Common.{arith, inl, inr, refl, subst, sym, ◌∙◌}
 use Rattle.std.proofs.Math.Seq.{get_or-append_seam}
 use Rattle.std.proofs.lemmas.Bool.{cases_eq}

@@ -11,19 +11,10 @@ use Rattle.pm_incidence.specs.declared.fails.ThinFail.{ThinFail}
 use Rattle.pm_incidence.specs.declared.fails.ThinFail.TheVariants.{Many, Memory, Wide}
 use Rattle.pm_props.specs.declared.object_type.ObjectType.{ObjectType}
 use Rattle.pm_props.specs.declared.object_type.ObjectType.TheVariants.{Polytope}
-use Rattle.pm_redund.specs.Generated.{IsWideThinning}
+use Rattle.pm_simplex.specs.Generated.{IsWideThinning}
+use Rattle.pm_simplex.specs.Lineality.{IsBasisAndRow, MarkLines, line_group}
 use Rattle.std.specs.List.{All, AllPairs, Contains}
-use Rattle.std.specs.Prelude.{Bool, IsTrue, List, [], false, get_or, length, slice_set, true, ℕ, ◌++◌, ◌<◌, ◌↔◌, ◌∷◌, ◌≡◌, ◌⊎◌}
-
--- ---- the lineality of cone(G) + span(L)
--- the marks say of which rows of G the opposite is in the cone
-pub record MarkLines (G L : List Row) (lines : List Bool) : Type 0 where
-  pub as_many : length lines ≡ length G
-  pub each : (i : ℕ) → i < length G → IsTrue (get_or lines i false) ↔ InCone G L (opposite (row_at G i))
-
--- the lines, and then these rows: they span the lineality
-abbrev pub line_group : List Row → List Row → List Bool → List Row
-line_group G L lines = L ++ rows_marked true lines G
+use Rattle.std.specs.Prelude.{Bool, IsTrue, List, false, get_or, length, slice_set, true, ℕ, ◌<◌, ◌≡◌, ◌⊎◌}
 
 -- ---- rows that are enough, and of which none is redundant
 -- the marked rows generate the cone
@@ -65,15 +56,6 @@ abbrev pub LeavesNoPoint : ObjectType → ℕ → List Row → List Row → Type
 LeavesNoPoint of n A E = (of ≡ Polytope) × InCone (half_spaces of n A) E (opposite (unit n 0))
 
 -- ---- what a refusal shows
--- the echelon basis of the rows that span the lineality, and then some row of G
-pub record IsBasisAndRow (n : ℕ) (G L : List Row) (lines : List Bool) (X : List Row) : Type 0 where
-  pub basis : List Row
-  pub pivots : List ℕ
-  pub is_basis : IsBasisOf n (line_group G L lines) basis pivots
-  pub row : Row
-  pub listed : Contains G row
-  pub rows : X ≡ basis ++ row ∷ []
-
 -- a step in the elimination of these, or of the row by their basis, leaves the range
 pub record IsWideReduction (n : ℕ) (G L : List Row) (e : EliminationStep) : Type 0 where
   pub lines : List Bool
@@ -111,3 +93,10 @@ IsRowsFail of n A E (Wide e) = IsWideThinning n (half_spaces of n A) E e
 IsRowsFail of n A E (Many (E5Rows places)) = AreManyFacets of n A E places
 IsRowsFail of n A E (Many e) = ⊥
 IsRowsFail of n A E Memory = Unit {0}
+
+-- ---- one row
+-- the refusal is want of memory, or has evidence of a program
+abbrev pub IsProgramFail : ℕ → List Row → List Row → ThinFail → Type 0
+IsProgramFail n G L (Wide e) = IsWideThinning n G L e
+IsProgramFail n G L (Many e) = ⊥
+IsProgramFail n G L Memory = Unit {0}

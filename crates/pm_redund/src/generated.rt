@@ -4,7 +4,8 @@ ghost use Rattle.pm_algebra.specs.Cones.{InCone};
 ghost use Rattle.pm_algebra.specs.Numbers.{InRange};
 ghost use Rattle.pm_algebra.specs.Rows.{HasCols};
 ghost use Rattle.pm_geom.specs.StatedOrder.{rows_marked};
-ghost use Rattle.pm_redund.specs.Generated.{IsProgramFail, equations_of, lifted, no_objective, turned};
+ghost use Rattle.pm_redund.specs.Redundancy.{IsProgramFail};
+ghost use Rattle.pm_simplex.specs.Generated.{equations_of, lifted, no_objective, turned};
 ghost use Rattle.std.specs.List.{Contains};
 ghost use Rattle.std.specs.Prelude.{IfErr, IfOk, IsTrue, length, pos, true, ◌+◌, ◌<◌, ◌^◌, ◌∷◌, ◌≡◌, ◌≤◌, ◌↔◌};
 

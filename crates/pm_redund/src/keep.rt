@@ -1,8 +1,9 @@
 // Which rows are kept: some that are enough, and of these none that the others generate.
 
 ghost use Rattle.pm_algebra.specs.Rows.{HasCols};
-ghost use Rattle.pm_redund.specs.Generated.{IsProgramFail};
-ghost use Rattle.pm_redund.specs.Redundancy.{AreKeptPlaces, IsEnough, IsKept, IsThinnedTo, MarkLines};
+ghost use Rattle.pm_redund.specs.Redundancy.{IsProgramFail};
+ghost use Rattle.pm_redund.specs.Redundancy.{AreKeptPlaces, IsEnough, IsKept, IsThinnedTo};
+ghost use Rattle.pm_simplex.specs.Lineality.{MarkLines};
 ghost use Rattle.std.specs.Prelude.{IfErr, IfOk, IsTrue, OnOk, length, ◌+◌, ◌<◌, ◌^◌, ◌≡◌, ◌≤◌, ◌↔◌};
 
 use crate::generated::is_generated;

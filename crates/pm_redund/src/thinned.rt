@@ -5,7 +5,8 @@ ghost use Rattle.pm_bases.specs.Bases.{IsEchelonBasis};
 ghost use Rattle.pm_elim.specs.Evidence.{IfWide, IsEvidence};
 ghost use Rattle.pm_geom.specs.StatedOrder.{rows_marked};
 ghost use Rattle.pm_incidence.specs.Thinning.{AreSortedThinned, IsReductionFail, IsThinned};
-ghost use Rattle.pm_redund.specs.Redundancy.{AreThinPlaces, IsEnough, IsThinFail, MarkLines, line_group};
+ghost use Rattle.pm_redund.specs.Redundancy.{AreThinPlaces, IsEnough, IsThinFail};
+ghost use Rattle.pm_simplex.specs.Lineality.{MarkLines, line_group};
 ghost use Rattle.std.specs.List.{All};
 ghost use Rattle.std.specs.Prelude.{IfErr, IfOk, [], get_or, length, true, ℕ, ◌++◌, ◌<◌, ◌^◌, ◌∷◌, ◌≡◌, ◌≤◌};
 

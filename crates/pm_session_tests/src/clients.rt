@@ -3,7 +3,7 @@
 ghost use Rattle.std.specs.Prelude.{◌≡◌};
 
 use pm_client::{Client, ClientFail, Numbered};
-use pm_clients_geom::{DimClient, HullClient, TestClient};
+use pm_clients_geom::{DimClient, HullClient, RedundancyClient, TestClient};
 use pm_object::{Draft, View};
 use pm_types::Kind;
 use std::alloc::Global;
@@ -67,6 +67,17 @@ pub fn some_standard(rt: &(impl Abort + AllocGlobal)) -> Vec<Box<dyn Client>> {
     }
     for k in 0..TestClient::COUNT {
         let client = Box::new(alloc, TestClient::new(k)).expect(rt, "a client");
+        clients.push(client).expect(rt, "a place for a client");
+    }
+    clients
+}
+
+// The standard clients of linear programs.
+pub fn of_programs(rt: &(impl Abort + AllocGlobal)) -> Vec<Box<dyn Client>> {
+    let alloc = rt.alloc();
+    let mut clients: Vec<Box<dyn Client>> = Vec::new(alloc);
+    for k in 0..RedundancyClient::COUNT {
+        let client = Box::new(alloc, RedundancyClient::new(k)).expect(rt, "a client");
         clients.push(client).expect(rt, "a place for a client");
     }
     clients

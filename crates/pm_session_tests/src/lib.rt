@@ -8,4 +8,6 @@ mod crowded;
 #[cfg(test)]
 mod no_rows;
 #[cfg(test)]
+mod programs;
+#[cfg(test)]
 mod sessions;

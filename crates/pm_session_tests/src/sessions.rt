@@ -12,7 +12,7 @@ use pm_types::standard_kinds;
 use std::process::Abort;
 
 // The book of a text, whose rules are of standard clients.
-fn book(rt: &(impl Abort + AllocGlobal), text: &str) -> Book {
+pub fn book(rt: &(impl Abort + AllocGlobal), text: &str) -> Book {
     let kinds = standard_kinds(rt.alloc()).expect(rt, "the kinds");
     read_book(rt.alloc(), text, &kinds).expect(rt, "a book")
 }

@@ -13,3 +13,5 @@ pub mod Starts
 pub mod Systems
 pub mod StartLaws
 pub mod Answers
+pub mod Generated
+pub mod Lineality

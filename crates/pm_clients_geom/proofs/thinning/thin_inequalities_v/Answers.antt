@@ -2,14 +2,14 @@ use Rattle.pm_client.proofs.Failing.{fails_by_inequalities}
 use Rattle.pm_client.proofs.FreshOrders.{fresh_kind}
 use Rattle.pm_client.proofs.ViewLaws.{has_listed, not_fan, source_named}
 use Rattle.pm_client.specs.Sound.{FailsRightly, eliminated_by, flat_basis_and_row, flat_rows}
-use Rattle.pm_clients_geom.proofs.FoundHulls.{echelon_few, put_facets_sound}
-use Rattle.pm_clients_geom.proofs.FoundThinned.{first_rows_of, inequalities_found, possible_few, second_rows_of}
+use Rattle.pm_clients_geom.proofs.FoundHulls.{echelon_few}
+use Rattle.pm_clients_geom.proofs.FoundThinned.{first_rows_of, inequalities_found, second_rows_of, thinned_facets_sound}
 use Rattle.pm_clients_geom.proofs.thinning.thin_inequalities_v.Goals as goal
 use Rattle.pm_props.specs.Properties.{facets_tag}
 use Rattle.pm_props.specs.declared.kind.Kind.{Kind}
 use Rattle.pm_props.specs.declared.property.PropId.TheVariants.{AffineHull, Equations, Facets, Inequalities, LinealitySpace, Vertices}
 use Rattle.pm_props.specs.declared.property.PropId.{PropId}
-use Rattle.std.proofs.Common.{ap, refl, subst, sym, true, ◌∙◌}
+use Rattle.std.proofs.Common.{ap, refl, subst, sym, true}
 use Rattle.std.proofs.lemmas.Result.{err_from_is_err_and}
 use Rattle.std.specs.Prelude.{List, [], codes, ◌∷◌, ◌≡◌}
 use Rattle.std.specs.Str.{bytes_eq}
@@ -32,12 +32,6 @@ read_parts-requires-2-clause-first c = has_listed _ sources LinealitySpace (ap (
 pub read_parts-requires-2-clause-second : goal.read_parts-requires-2-clause-second
 read_parts-requires-2-clause-second c = has_listed _ sources Vertices (ap (λ k. k.sources) c.requires.kind)
 
-pub put_value-requires-clause-target : goal.put_value-requires-clause-target
-put_value-requires-clause-target c = has_listed _ targets Facets (ap (λ d. d.kind.targets) c.requires.empty ∙ ap (λ k. k.targets) c.requires.kind)
-
-pub put_value-requires-2-clause-target : goal.put_value-requires-2-clause-target
-put_value-requires-2-clause-target c = has_listed _ targets AffineHull (ap (λ d. d.kind.targets) c.in_ok-put_value.ensures.ok ∙ ap (λ d. d.kind.targets) c.requires.empty ∙ ap (λ k. k.targets) c.requires.kind)
-
 pub returns-in_err-found-clause-failed : goal.returns-in_err-found-clause-failed
 returns-in_err-found-clause-failed c =
     let v = c.args.view.now in
@@ -49,15 +43,13 @@ returns-in_err-found-clause-failed c =
     (first_rows_of c.in_ok-halves.ensures.read) (second_rows_of c.in_ok-halves.ensures.read) (second_rows_of c.in_ok-rays.ensures.read)
     (rw (c.of.ensures.value, c.deref.ensures.value, c.deref-2.ensures.value, c.cols.ensures.value) at c.in_err-found.ensures.failed)))
 
-pub matrix_over_one-requires : goal.matrix_over_one-requires
-matrix_over_one-requires c =
-    rw (c.deref-3.ensures.value, c.cols-2.ensures.value)
-    (possible_few c.args.view.now c.in_ok-found.found.facets.items c.possible_facets-rows.result.items (record { cols = rw c.cols.ensures.value at c.in_ok-found.ensures.cols; few = c.in_ok-found.ensures.few }) c.possible_facets-rows.ensures).cols
+pub put_facets-requires-clause-facets : goal.put_facets-requires-clause-facets
+put_facets-requires-clause-facets c = record { cols = rw c.cols.ensures.value at c.in_ok-found.ensures.cols; few = c.in_ok-found.ensures.few }
 
-pub matrix_over_one-requires-2 : goal.matrix_over_one-requires-2
-matrix_over_one-requires-2 c =
+pub put_facets-requires-clause-hull : goal.put_facets-requires-clause-hull
+put_facets-requires-clause-hull c =
     let b = rw c.cols.ensures.value at c.in_ok-found.ensures.echelon in
-    rw (c.deref-4.ensures.value, c.cols-3.ensures.value) (echelon_few c.args.view.now c.cols.ensures.view c.in_ok-found.found.hull.items b.0 b.1).cols
+    echelon_few c.args.view.now c.cols.ensures.view c.in_ok-found.found.hull.items b.0 b.1
 
 pub returns-clause-sound : goal.returns-clause-sound
 returns-clause-sound c =
@@ -68,13 +60,7 @@ returns-clause-sound c =
     let no_fan = not_fan v Inequalities view (source_named v.kind Inequalities (has_listed _ sources Inequalities sources_are)) refl refl in
     let fresh = fresh_kind facets_tag v.kind targets sources Facets targets_are sources_are refl refl refl in
     let g = rw (c.of.ensures.value, c.deref.ensures.value, c.deref-2.ensures.value, c.cols.ensures.value) at c.in_ok-found.ensures.facets in
-    let b = rw c.cols.ensures.value at c.in_ok-found.ensures.echelon in
-    put_facets_sound v view targets_are fresh c.in_ok-rays.rays.second.items c.in_ok-rays.rays.first.items c.in_ok-found.found.facets.items c.possible_facets-rows.result.items c.in_ok-found.found.hull.items
+    thinned_facets_sound v view targets_are fresh c.in_ok-found.found.facets.items c.in_ok-found.found.hull.items
     (inequalities_found v no_fan c.in_ok-halves.halves.first.items c.in_ok-halves.halves.second.items c.in_ok-rays.rays.first.items c.in_ok-rays.rays.second.items c.in_ok-found.found.facets.items c.in_ok-found.found.hull.items
     c.in_ok-halves.ensures.read c.in_ok-rays.ensures.read (g c.in_ok-rays.ensures.first_few.cols))
-    c.possible_facets-rows.ensures.kept
-    (possible_few v c.in_ok-found.found.facets.items c.possible_facets-rows.result.items (record { cols = rw c.cols.ensures.value at c.in_ok-found.ensures.cols; few = c.in_ok-found.ensures.few }) c.possible_facets-rows.ensures)
-    (echelon_few v view c.in_ok-found.found.hull.items b.0 b.1) c.possible_facets-rows.ensures.may
-    (rw c.deref-3.ensures.value at c.in_ok-facets.ensures.in_range) (rw c.deref-4.ensures.value at c.in_ok-hull.ensures.in_range) c.in_ok-facets.facets c.in_ok-hull.hull
-    c.args.draft.now c.put_value.new.draft c.put_value-2.new.draft (rw (c.deref-3.ensures.value, c.cols-2.ensures.value) at c.in_ok-facets.ensures.rows) (rw (c.deref-4.ensures.value, c.cols-3.ensures.value) at c.in_ok-hull.ensures.rows)
-    c.requires.empty c.in_ok-put_value.ensures.ok c.in_ok-put_value-2.ensures.ok
+    c.put_facets.new.draft c.in_ok-put_facets.ensures.put

@@ -1,5 +1,5 @@
 use Rattle.pm_redund.proofs.generated.equations.Given as goal
-use Rattle.pm_redund.specs.Generated.{lifted}
+use Rattle.pm_simplex.specs.Generated.{lifted}
 use Rattle.std.proofs.Common.{take, ◌≡◌}
 
 abbrev pub invariant-loop-line : goal.invariant-loop-line

@@ -3,7 +3,7 @@ use Rattle.pm_geom.specs.StatedOrder.{rows_marked}
 use Rattle.pm_redund.proofs.Lifted.{lift_more, lift_skip}
 use Rattle.pm_redund.proofs.generated.lifted_rows.Goals as goal
 use Rattle.pm_redund.proofs.generated.lifted_rows.Goals.{then-marks-i+in_ok-headed+in_ok-push, else-marks-i}
-use Rattle.pm_redund.specs.Generated.{lifted}
+use Rattle.pm_simplex.specs.Generated.{lifted}
 use Rattle.std.proofs.Common.{[], arith, drop, length, pos, subst, sym, true, ◌+◌, ◌++◌, ◌<◌, ◌∙◌, ◌∷◌, ◌≡◌}
 use Rattle.std.proofs.lemmas.List.{get_or_default}
 

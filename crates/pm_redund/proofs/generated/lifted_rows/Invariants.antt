@@ -1,6 +1,6 @@
 use Rattle.pm_geom.specs.StatedOrder.{rows_marked}
 use Rattle.pm_redund.proofs.generated.lifted_rows.Given as goal
-use Rattle.pm_redund.specs.Generated.{lifted}
+use Rattle.pm_simplex.specs.Generated.{lifted}
 use Rattle.std.proofs.Common.{drop, true, ◌++◌, ◌≡◌}
 
 abbrev pub invariant-loop-i : goal.invariant-loop-i

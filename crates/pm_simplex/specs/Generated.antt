@@ -4,8 +4,6 @@ use Rattle.pm_algebra.specs.Rows.{Row, opposite}
 use Rattle.pm_fraction.specs.Fractions.{ratio_of}
 use Rattle.pm_geom.specs.declared.evidence.Evidence.{Evidence}
 use Rattle.pm_geom.specs.StatedOrder.{rows_marked}
-use Rattle.pm_incidence.specs.declared.fails.ThinFail.{ThinFail}
-use Rattle.pm_incidence.specs.declared.fails.ThinFail.TheVariants.{Many, Memory, Wide}
 use Rattle.pm_simplex.specs.Answers.{ShowsProgram}
 use Rattle.std.specs.List.{Contains}
 use Rattle.std.specs.Prelude.{Bool, List, [], if◌then◌else◌, map, replicate, true, ℕ, ◌+◌, ◌++◌, ◌∷◌}
@@ -42,9 +40,3 @@ pub record IsWideThinning (n : ℕ) (G L : List Row) (e : Evidence) : Type 0 whe
   pub opposed : Bool
   pub listed : Contains G row
   pub shown : IsWideProgram n (rows_marked true marks G) L opposed row e
-
--- the refusal is want of memory, or has such evidence
-abbrev pub IsProgramFail : ℕ → List Row → List Row → ThinFail → Type 0
-IsProgramFail n G L (Wide e) = IsWideThinning n G L e
-IsProgramFail n G L (Many e) = ⊥
-IsProgramFail n G L Memory = Unit {0}

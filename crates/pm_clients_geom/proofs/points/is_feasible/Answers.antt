@@ -1,0 +1,37 @@
+use Rattle.pm_clients_geom.proofs.PointLaws.{infeasible_has_none, optimal_has_point, unbounded_has_point}
+use Rattle.pm_clients_geom.proofs.points.is_feasible.Goals as goal
+use Rattle.pm_redund.proofs.Lifted.{objective_length}
+use Rattle.std.proofs.Common.{arith, false, refl, true, ◌≡◌}
+
+pub maximise_rows-requires-clause-some : goal.maximise_rows-requires-clause-some
+maximise_rows-requires-clause-some c = rw (c.deref.ensures.value, c.in_ok-objective.ensures, objective_length c.args.cols) c.requires.some_columns
+
+pub maximise_rows-requires-clause-few : goal.maximise_rows-requires-clause-few
+maximise_rows-requires-clause-few c =
+    let f = c.requires.few_inequalities in
+    let g = c.requires.few_equations in
+    let h = c.requires.few_columns in
+    rw (c.deref.ensures.value, c.in_ok-objective.ensures, objective_length c.args.cols) (omega arith)
+
+pub maximise_rows-requires-clause-inequality_cols : goal.maximise_rows-requires-clause-inequality_cols
+maximise_rows-requires-clause-inequality_cols c = rw (c.deref.ensures.value, c.in_ok-objective.ensures, objective_length c.args.cols) c.requires.inequality_cols
+
+pub maximise_rows-requires-clause-equation_cols : goal.maximise_rows-requires-clause-equation_cols
+maximise_rows-requires-clause-equation_cols c = rw (c.deref.ensures.value, c.in_ok-objective.ensures, objective_length c.args.cols) c.requires.equation_cols
+
+pub returns-in-Ok-Infeasible-clause-found : goal.returns-in-Ok-Infeasible-clause-found
+returns-in-Ok-Infeasible-clause-found c =
+    let answer = rw c.in-Ok-Infeasible.field-0-is at c.in-Ok-Infeasible.ensures.answer in (
+      λ t. absurd (let e : false ≡ true = t in cc),
+      λ h. absurd (infeasible_has_none c.args.cols c.args.inequalities.now c.args.equations.now answer h),
+    )
+
+pub returns-in-Ok-Optimal-clause-found : goal.returns-in-Ok-Optimal-clause-found
+returns-in-Ok-Optimal-clause-found c =
+    let answer = rw (c.in-Ok-Optimal.field-0-is, c.deref.ensures.value, c.in_ok-objective.ensures) at c.in-Ok-Optimal.ensures.answer in
+    (λ t. optimal_has_point c.args.cols c.args.inequalities.now c.args.equations.now answer, λ h. refl)
+
+pub returns-in-Ok-Unbounded-clause-found : goal.returns-in-Ok-Unbounded-clause-found
+returns-in-Ok-Unbounded-clause-found c =
+    let answer = rw (c.in-Ok-Unbounded.field-0-is, c.deref.ensures.value, c.in_ok-objective.ensures) at c.in-Ok-Unbounded.ensures.answer in
+    (λ t. unbounded_has_point c.args.cols c.args.inequalities.now c.args.equations.now answer, λ h. refl)

@@ -1,0 +1,94 @@
+// Whether inequalities and equations have a point: where they have none, and only there, the program of the objective 0 is infeasible.
+
+ghost use Rattle.pm_algebra.specs.Rows.{HasCols};
+ghost use Rattle.pm_clients_geom.specs.Points.{HasPoint};
+ghost use Rattle.pm_elim.specs.Evidence.{unit};
+ghost use Rattle.pm_incidence.specs.Thinning.{half_spaces};
+ghost use Rattle.pm_props.specs.declared.object_type.ObjectType.TheVariants.{Polytope};
+ghost use Rattle.pm_simplex.specs.Generated.{no_objective};
+ghost use Rattle.pm_simplex.specs.Answers.{ShowsProgram};
+ghost use Rattle.pm_simplex.specs.Fails.{IfWide};
+ghost use Rattle.std.specs.Prelude.{IfErr, IfOk, IsTrue, length, ◌<◌, ◌^◌, ◌≡◌, ◌↔◌};
+
+use pm_fraction::Fraction;
+use pm_simplex::{LpAnswer, LpFail, maximise_rows};
+use pm_vector::Ints;
+use std::alloc::{AllocError, Global};
+
+/// The row (1, 0, .., 0).
+fn first_unit(alloc: Global, cols: usize) -> Result<Ints, AllocError>
+    requires { 0 < cols }
+    ensures { IfOk result (λ r. r ≡ unit cols 0) }
+{
+    let mut entries = vec![in alloc; 0i128; cols]?;
+    entries[0] = 1;
+    Ok(Ints::from_vec(entries))
+}
+
+/// The half-spaces of a polytope: its inequalities, and then the row (1, 0, .., 0).
+fn with_first(alloc: Global, cols: usize, inequalities: Vec<Ints>) -> Result<Vec<Ints>, AllocError>
+    requires { 0 < cols }
+    ensures { IfOk result (λ v. v.items ≡ half_spaces Polytope cols inequalities.items) }
+{
+    let mut rows = inequalities;
+    rows.push(first_unit(alloc, cols)?)?;
+    Ok(rows)
+}
+
+/// The objective 0.
+fn no_objective(alloc: Global, cols: usize) -> Result<Vec<Fraction>, AllocError>
+    ensures { IfOk result (λ v. v.items ≡ no_objective cols) }
+{
+    vec![in alloc; Fraction::zero(); cols]
+}
+
+/// Whether rows have a point, by their program as it stands.
+fn is_feasible(
+    alloc: Global,
+    cols: usize,
+    inequalities: &[Ints],
+    equations: &[Ints],
+) -> Result<bool, LpFail>
+    requires inequality_cols { HasCols cols inequalities.now }
+    requires equation_cols { HasCols cols equations.now }
+    requires few_inequalities { length inequalities.now < 2 ^ 29 }
+    requires few_equations { length equations.now < 2 ^ 29 }
+    requires some_columns { 0 < cols }
+    requires few_columns { cols < 2 ^ 29 }
+    ensures found { IfOk result (λ b. IsTrue b ↔ HasPoint cols inequalities.now equations.now) }
+    ensures wide { IfErr result (λ f. IfWide f
+        (ShowsProgram inequalities.now equations.now (no_objective cols))) }
+{
+    let objective = no_objective(alloc, cols)?;
+    match maximise_rows(alloc, inequalities, equations, &objective) {
+        Ok(LpAnswer::Infeasible { .. }) => Ok(false),
+        Ok(LpAnswer::Optimal { .. }) => Ok(true),
+        Ok(LpAnswer::Unbounded { .. }) => Ok(true),
+        Err(fail) => Err(fail),
+    }
+}
+
+/// Whether the inequalities and equations of a polytope have a point. `Wide` only where a pivot of their program leaves the range, which the evidence (E3) shows;
+/// the half-spaces of that program end with the row (1, 0, .., 0).
+pub fn has_point(
+    alloc: Global,
+    cols: usize,
+    inequalities: Vec<Ints>,
+    equations: &[Ints],
+) -> Result<bool, LpFail>
+    requires inequality_cols { HasCols cols inequalities.items }
+    requires equation_cols { HasCols cols equations.now }
+    requires few_inequalities { length inequalities.items < 2 ^ 28 }
+    requires few_equations { length equations.now < 2 ^ 28 }
+    requires some_columns { 0 < cols }
+    requires few_columns { cols < 2 ^ 28 }
+    ensures found { IfOk result (λ b.
+        IsTrue b ↔ HasPoint cols inequalities.items equations.now) }
+    ensures wide { IfErr result (λ f. IfWide f
+        (ShowsProgram (half_spaces Polytope cols inequalities.items)
+        equations.now (no_objective cols))) }
+{
+    let rows = with_first(alloc, cols, inequalities)?;
+    let found = is_feasible(alloc, cols, &rows, equations)?;
+    Ok(found)
+}

@@ -1,0 +1,109 @@
+// The clients that thin a description by linear programs, and the one that asks whether there is a point.
+
+ghost use Rattle.pm_client.specs.Sound.{FailsRightly, IsSound};
+ghost use Rattle.pm_clients_geom.specs.Redundancy.{FailsForProgram};
+ghost use Rattle.pm_props.specs.Kinds.{standard_kind};
+ghost use Rattle.pm_props.specs.declared.standard.StandardClient.TheVariants as client;
+ghost use Rattle.std.specs.Prelude.{IfErr, OnOk, [], ◌≡◌};
+
+use crate::hulls::{put_generators, read_parts};
+use crate::points::has_point;
+use crate::thinning::put_facets;
+use pm_client::{ClientFail, Family, FamilyClient, put_value};
+use pm_object::{Draft, View};
+use pm_redund::{thin_rays, thin_rows};
+use pm_types::{ObjectType, PropId, StandardClient, Value};
+use std::alloc::Global;
+
+/// The standard clients of linear programs over half-spaces or generators.
+#[derive(Debug, Drop)]
+pub struct RedundancyFamily;
+
+/// A client of linear programs: number 0 is `thin_points_lp`, 1 `thin_inequalities_lp`, 2 `feasible_lp`.
+/// It fails for want of memory, and where a pivot of one of its programs leaves the range; the first two also where a step of an elimination does, and
+/// number 1 where there are more than 2,048 facets.
+pub type RedundancyClient = FamilyClient<RedundancyFamily>;
+
+impl Family for RedundancyFamily {
+    ghost use Rattle.pm_client.specs.Families.{clients_of};
+    ghost use Rattle.pm_clients_geom.specs.Redundancy.{RedundancyFails, thins_or_asks};
+    ghost use Rattle.std.specs.Prelude.{length, refl};
+
+    ghost is_member = { thins_or_asks };
+
+    ghost Stays = { λ _ _. Unit {0} };
+
+    ghost Fails = { RedundancyFails };
+
+    ghost COUNT = { length (clients_of thins_or_asks) };
+
+    const COUNT: u8 = 3;
+
+    fn client(number: u8) -> StandardClient {
+        [
+            StandardClient::ThinPointsLp,
+            StandardClient::ThinInequalitiesLp,
+            StandardClient::FeasibleLp,
+        ][usize::from(number)]
+    }
+
+    fn answer(
+        client: StandardClient,
+        alloc: Global,
+        view: &View,
+        draft: &mut Draft,
+    ) -> Result<(), ClientFail> {
+        match client {
+            StandardClient::ThinPointsLp => thin_points_lp(alloc, view, draft),
+            StandardClient::ThinInequalitiesLp => thin_inequalities_lp(alloc, view, draft),
+            StandardClient::FeasibleLp => feasible_lp(alloc, view, draft),
+            _ => unreachable!(),
+        }
+    }
+
+    ghost counted = { refl };
+}
+
+// VERTICES and LINEALITY_SPACE: the extreme rays among POINTS, and the lineality.
+fn thin_points_lp(alloc: Global, view: &View, draft: &mut Draft) -> Result<(), ClientFail>
+    requires kind { view.now.kind ≡ standard_kind client.ThinPointsLp }
+    requires empty { draft.old ≡ record { kind = view.now.kind; values = [] } }
+    ensures draft { draft.new.kind ≡ draft.old.kind }
+    ensures sound { OnOk result (IsSound view.now draft.new) }
+    ensures failed { IfErr result (FailsRightly view.now) }
+{
+    let points = read_parts(alloc, view, PropId::InputLineality, PropId::Points)?;
+    let found = thin_rays(alloc, view.of(), view.cols(), &points.second, &points.first)?;
+    put_generators(alloc, view, draft, found)?;
+    Ok(())
+}
+
+// FACETS and AFFINE_HULL: the facet rows among INEQUALITIES, and the rows that vanish.
+fn thin_inequalities_lp(alloc: Global, view: &View, draft: &mut Draft) -> Result<(), ClientFail>
+    requires kind { view.now.kind ≡ standard_kind client.ThinInequalitiesLp }
+    requires empty { draft.old ≡ record { kind = view.now.kind; values = [] } }
+    ensures draft { draft.new.kind ≡ draft.old.kind }
+    ensures sound { OnOk result (IsSound view.now draft.new) }
+    ensures failed { IfErr result (FailsRightly view.now) }
+{
+    let halves = read_parts(alloc, view, PropId::Equations, PropId::Inequalities)?;
+    let found = thin_rows(alloc, view.of(), view.cols(), &halves.second, &halves.first)?;
+    put_facets(alloc, view, draft, found)?;
+    Ok(())
+}
+
+// FEASIBLE: INEQUALITIES and EQUATIONS have a point.
+fn feasible_lp(alloc: Global, view: &View, draft: &mut Draft) -> Result<(), ClientFail>
+    requires kind { view.now.kind ≡ standard_kind client.FeasibleLp }
+    requires empty { draft.old ≡ record { kind = view.now.kind; values = [] } }
+    ensures draft { draft.new.kind ≡ draft.old.kind }
+    ensures sound { OnOk result (IsSound view.now draft.new) }
+    ensures failed { IfErr result (FailsRightly view.now) }
+    ensures fails { IfErr result (FailsForProgram view.now) }
+{
+    prove!(view.of() == ObjectType::Polytope);
+    let halves = read_parts(alloc, view, PropId::Equations, PropId::Inequalities)?;
+    let is_feasible = has_point(alloc, view.cols(), halves.second, &halves.first)?;
+    put_value(draft, PropId::Feasible, Value::Bool(is_feasible))?;
+    Ok(())
+}
