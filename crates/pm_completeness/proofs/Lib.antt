@@ -1,0 +1,4 @@
+pub mod Runs
+pub mod Complete
+pub mod Objects
+pub mod Examples

@@ -1,0 +1,3 @@
+pub mod Completeness
+pub mod Objects
+pub mod Examples
