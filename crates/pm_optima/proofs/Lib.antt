@@ -1,0 +1,12 @@
+pub mod Maxima
+pub mod Lists
+pub mod Turned
+pub mod ByRays
+pub mod Scales
+pub mod QuotientLaws
+pub mod Levels
+pub mod Places
+pub mod Refusals
+pub mod Faces
+pub mod Optima
+pub mod Examples
