@@ -3,17 +3,18 @@ use Rattle.pm_algebra.proofs.Lists.{All_among, Among, among_append, here, there}
 use Rattle.pm_algebra.specs.Numbers.{InRange, Ratio}
 use Rattle.pm_algebra.specs.Rows.{Row}
 use Rattle.pm_build.proofs.RowLaws.{length_headed, length_headed_rows, power_below, power_up}
-use Rattle.pm_build.proofs.ShapeLaws.{corners_cols, curve_cols, is_unit, opposite_cols}
+use Rattle.pm_build.proofs.Vectors.{corners_cols, curve_cols, is_unit, opposite_cols}
 use Rattle.pm_build.specs.Conditions.{cyclic_refusal, is_cyclic_size, shape_refusal}
 use Rattle.pm_build.specs.Laws.{HaveForms, ShapesHaveForms}
-use Rattle.pm_build.specs.Objects.{polytope_with, value_over}
+use Rattle.pm_build.specs.Objects.{polytope_with}
+use Rattle.pm_object.specs.Known.{value_over}
 use Rattle.pm_build.specs.Rows.{curve, curve_points, headed, headed_rows, opposite_units, simplex_corners, unit, units}
-use Rattle.pm_build.specs.declared.fail.Condition.TheVariants as condition
+use Rattle.pm_object.specs.declared.held.Condition.TheVariants as condition
 use Rattle.pm_matrix.specs.Matrices.{IsFraction}
 use Rattle.pm_props.specs.declared.object_type.ObjectType.TheVariants.{Polytope}
 use Rattle.pm_props.specs.declared.property.PropId.TheVariants.{Equations, Inequalities, InputLineality, Points}
 use Rattle.pm_props.specs.declared.property.PropId.{PropId}
-use Rattle.pm_relations.proofs.WholeRows.{ratios_fractions, ratios_primitive}
+use Rattle.pm_types.proofs.WholeRows.{ratios_fractions, ratios_primitive}
 use Rattle.pm_types.specs.Forms.{FormsIn, HasPrimitiveRow, agrees_with, is_column_count, is_formed, is_matrix_form, is_row, is_row_of_entries}
 use Rattle.pm_types.specs.Values.{PropertyValue, matrix}
 use Rattle.pm_types.specs.Views.{ratios}

@@ -1,15 +1,9 @@
 pub mod RowLaws
 pub mod Read
-pub mod Points
-pub mod Assembled
-pub mod ShapeLaws
 pub mod PaddedRows
 pub mod Examples
-pub mod ReadRights
-pub mod PolarLaws
-pub mod ProductLaws
-pub mod PyramidLaws
-pub mod BuiltExamples
 pub mod Extended
 pub mod FormLaws
 pub mod OtherForms
+pub mod Vectors
+pub mod Refused

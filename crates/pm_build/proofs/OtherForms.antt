@@ -3,21 +3,22 @@ use Rattle.pm_algebra.proofs.Lists.{Among, among_All, here, there}
 use Rattle.pm_algebra.specs.Numbers.{InRange, Ratio}
 use Rattle.pm_build.proofs.Extended.{length_padded, length_spread, padded_fractions, padded_primitive, spread_fractions, spread_primitive}
 use Rattle.pm_build.proofs.FormLaws.{IsGood, IsHalf, good_forms, nought, one_value, two_values}
-use Rattle.pm_build.proofs.Read.{cols_between, formed_is, formed_rows, held_forms, known_cols, rows_cols, rows_few}
-use Rattle.pm_build.proofs.ReadRights.{conditions, refused}
+use Rattle.pm_object.proofs.KnownValues.{IsHeldRow, known_columns, known_rows, polytope_is}
+use Rattle.pm_build.proofs.Refused.{conditions, refused}
 use Rattle.pm_build.proofs.RowLaws.{length_ratios}
-use Rattle.pm_build.specs.Conditions.{IsKnown, IsOfRows, IsReadable, are_few, cols_at, held_rows, is_polytope, is_true, polar_reads, polar_refusal, product_reads, product_refusal, pyramid_reads, pyramid_refusal, rows_at}
+use Rattle.pm_build.specs.Conditions.{are_few, polar_reads, polar_refusal, product_reads, product_refusal, pyramid_reads, pyramid_refusal}
+use Rattle.pm_object.specs.Known.{IsKnown, IsOfRows, IsReadable, cols_at, held_rows, is_true, rows_at, value_over}
 use Rattle.pm_build.specs.Laws.{HaveForms, OthersHaveForms}
-use Rattle.pm_build.specs.Objects.{both_rows, padded, polar_of, product_cols, product_of, pyramid_lines, pyramid_of, pyramid_points, spread, value_over}
+use Rattle.pm_build.specs.Objects.{both_rows, padded, polar_of, product_cols, product_of, pyramid_lines, pyramid_of, pyramid_points, spread}
 use Rattle.pm_build.specs.Rows.{apex_row}
-use Rattle.pm_build.specs.declared.fail.Condition.TheVariants as condition
+use Rattle.pm_object.specs.declared.held.Condition.TheVariants as condition
 use Rattle.pm_object.specs.Formed.{IsFormed}
-use Rattle.pm_object.specs.State.{State, cols_of, is_held, read_at, value_of}
+use Rattle.pm_object.specs.State.{State, cols_of, is_held, read_at, value_of, is_polytope}
 use Rattle.pm_props.specs.declared.object_type.ObjectType.{ObjectType}
 use Rattle.pm_props.specs.declared.object_type.ObjectType.TheVariants.{Cone, Fan, Polytope}
 use Rattle.pm_props.specs.declared.property.PropId.TheVariants.{AffineHull, Bounded, Centered, Equations, Facets, FullDim, Inequalities, InputLineality, LinealitySpace, Points, Vertices}
 use Rattle.pm_props.specs.declared.property.PropId.{PropId}
-use Rattle.pm_relations.proofs.WholeRows.{ratios_fractions, ratios_primitive}
+use Rattle.pm_types.proofs.WholeRows.{ratios_fractions, ratios_primitive}
 use Rattle.pm_types.specs.Forms.{FormsIn, first_is_below, is_column_count, is_matrix_form, is_row, is_row_of_entries, is_zero_row}
 use Rattle.pm_types.specs.Values.{PropertyValue, matrix}
 use Rattle.pm_types.specs.Views.{ratios}
@@ -32,47 +33,17 @@ use Rattle.std.specs.Prelude.{Bool, IsTrue, List, None, Option, Some, [], if◌t
 use lib.IntN.{pos}
 
 -- ---- rows that are read
--- the rows that the object holds, in their form
-record HasRows (p : PropId) (o : State) : Type 0 where
-  m : ℕ
-  forms : FormsIn o.of (cols_at o) p (matrix m (rows_at p o))
-
-has_rows : (p : PropId) (o : State) → IsOfRows p → IsFormed o → is_some (cols_of o.held) ≡ true → is_some (value_of p (read_at None o.held)) ≡ true → HasRows p o
-has_rows p o r f k h = by (value_of p (read_at None o.held)) refl h
-  where
-    by_value : (v : PropertyValue) → value_of p (read_at None o.held) ≡ Some v → FormsIn o.of (cols_at o) p v → formed_rows v ≡ true → HasRows p o
-    by_value (matrix m rows) e g t = record { m = m; forms = subst (λ z. FormsIn o.of (cols_at o) p (matrix m z)) (sym (ap held_rows e)) g }
-    by_value v e g t = absurd (true≢false (sym t))
-
-    by : (x : Option PropertyValue) → value_of p (read_at None o.held) ≡ x → is_some x ≡ true → HasRows p o
-    by None e t = absurd (true≢false (sym t))
-    by (Some v) e t = let g = held_forms o p v f k e in by_value v e g (sym (formed_is p r v) ∙ g.formed)
-
--- they are good rows of n columns, not too many
+-- good rows of n columns, not too many
 record AreRead (p : PropId) (o : State) : Type 0 where
   few : length (rows_at p o) ≤ 2048
   good : All (IsGood (cols_at o) (is_row Polytope p)) (rows_at p o)
 
-read_forms : (p : PropId) (o : State) → IsOfRows p → o.of ≡ Polytope → HasRows p o → AreRead p o
-read_forms p o r e w = record { few = rows_few o.of (cols_at o) p w.m (rows_at p o) r w.forms; good = good }
-  where
-    form : is_matrix_form w.m (rows_at p o) ≡ true
-    form = sym (formed_is p r (matrix w.m (rows_at p o))) ∙ w.forms.formed
-
-    lengths : All (λ x. is_row_of_entries w.m x ≡ true) (rows_at p o)
-    lengths = AllPass-from_list_all (is_row_of_entries w.m) (rows_at p o) (and_parts (nat_le (length (rows_at p o)) 2048 && is_column_count (rows_at p o) w.m) (list_all (is_row_of_entries w.m) (rows_at p o)) form).1
-
-    tests : All (λ x. is_row Polytope p x ≡ true) (rows_at p o)
-    tests = AllPass-from_list_all (is_row Polytope p) (rows_at p o) (subst (λ (k : ObjectType). list_all (is_row k p) (rows_at p o) ≡ true) e w.forms.rows)
-
-    good : All (IsGood (cols_at o) (is_row Polytope p)) (rows_at p o)
-    good i d l = record { cols = eqb-true _ w.m (lengths i d l) ∙ rows_cols o.of (cols_at o) p w.m (rows_at p o) r w.forms (omega arith); passes = tests i d l; entries = w.forms.entries i d l; primitive = w.forms.primitive i d l }
-
 read : (ps : List PropId) (p : PropId) (o : State) → IsOfRows p → IsFormed o → o.of ≡ Polytope → IsKnown ps o → Among p ps → AreRead p o
-read ps p o r f e k i = read_forms p o r e (has_rows p o r f k.cols (among_All (λ q. IsTrue (is_held q (read_at None o.held))) i k.held))
-
-columns : (ps : List PropId) (o : State) → IsFormed o → IsKnown ps o → (1 ≤ cols_at o) × (cols_at o ≤ 33)
-columns ps o f k = cols_between o (cols_at o) f (sym (known_cols (cols_of o.held) k.cols))
+read ps p o r f e k i =
+    let w = known_rows ps p o r f k i in record {
+      few = w.few;
+      good = All-weaker (IsHeldRow o.of p (cols_at o)) (IsGood (cols_at o) (is_row Polytope p)) (λ x g. record { cols = g.cols; passes = subst (λ (t : ObjectType). is_row t p x ≡ true) e g.passes; entries = g.entries; primitive = g.primitive }) (rows_at p o) w.each;
+    }
 
 -- ---- rows that are put in other columns
 padded_good : (k n m : ℕ) (test other : List Ratio → Bool) → n + k ≡ m → ((r : List Ratio) → test r ≡ true → other (padded k r) ≡ true) → (rows : List (List Ratio)) → All (IsGood n test) rows → All (IsGood m other) (map (padded k) rows)
@@ -96,11 +67,6 @@ line_is_line [] h = refl
 line_is_line (q ∷ r) h = h
 
 -- ---- where no condition fails
-polytope_is : (t : ObjectType) → is_polytope t ≡ true → t ≡ Polytope
-polytope_is Polytope h = refl
-polytope_is Cone h = absurd (true≢false (sym h))
-polytope_is Fan h = absurd (true≢false (sym h))
-
 -- of products and of pyramids
 three_parts : (p c r : Bool) → (if not p then Some condition.OfType else if not c then Some condition.Columns else if not r then Some condition.Rows else None) ≡ None → (p ≡ true) × (c ≡ true) × (r ≡ true)
 three_parts false c r h = absurd (refused h)
@@ -114,7 +80,7 @@ polar_forms a f r h =
     let parts = conditions (is_polytope a.of) (is_true Bounded a) (is_true FullDim a) (is_true Centered a) (list_all (is_row Polytope Points) (rows_at Facets a)) h in
     let of = polytope_is a.of parts.0 in
     let k = r of in
-    let n = columns polar_reads a f k in
+    let n = known_columns polar_reads a f k in
     let facets = read polar_reads Facets a tt f of k (there (there (there here))) in
     let tests = AllPass-from_list_all (is_row Polytope Points) (rows_at Facets a) parts.3 in
     let good : All (IsGood (cols_at a) (is_row Polytope Points)) (rows_at Facets a) = λ i d l. let g = facets.good i d l in record { cols = g.cols; passes = tests i d l; entries = g.entries; primitive = g.primitive } in
@@ -146,8 +112,8 @@ product_forms a b f g r s h =
     let og = polytope_is b.of types.1 in
     let k = r of in
     let l = s og in
-    let n = columns product_reads a f k in
-    let m = columns product_reads b g l in
+    let n = known_columns product_reads a f k in
+    let m = known_columns product_reads b g l in
     two_values (product_cols a b) Inequalities Equations (value_over (product_cols a b) (both_rows Facets a b)) (value_over (product_cols a b) (both_rows AffineHull a b))
     (both_forms a b Facets Inequalities tt (λ k r t. refl) (λ k r t. refl)
     (read product_reads Facets a tt f of k here) (read product_reads Facets b tt g og l here) n.0 m.0 few
@@ -182,7 +148,7 @@ pyramid_forms a f r h =
     let few = leb-true (cols_at a) 32 parts.1 in
     let count = leb-true (length (rows_at Vertices a)) 2047 parts.2 in
     let k = r of in
-    let n = columns pyramid_reads a f k in
+    let n = known_columns pyramid_reads a f k in
     let vertices = read pyramid_reads Vertices a tt f of k here in
     let lines = read pyramid_reads LinealitySpace a tt f of k (there here) in
     let e = length-append (map (padded 1) (rows_at Vertices a)) (ratios (apex_row (cols_at a)) ∷ []) in

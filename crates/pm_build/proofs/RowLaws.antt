@@ -1,7 +1,8 @@
 -- Rows of standard polytopes: their lengths, and how they are made entry by entry and row by row.
 use Rattle.pm_algebra.specs.Numbers.{Ratio}
 use Rattle.pm_algebra.specs.Rows.{Row}
-use Rattle.pm_build.specs.Objects.{cols_over, zeros}
+use Rattle.pm_build.specs.Objects.{zeros}
+use Rattle.pm_object.specs.Known.{cols_over}
 use Rattle.pm_build.specs.Rows.{apex_row, curve, headed, headed_rows, opposite_units, unit}
 use Rattle.pm_types.specs.Views.{over_one, ratios}
 use Rattle.std.proofs.Common.{add-one, ap, arith, refl, subst, sym, ◌∙◌}

@@ -1,17 +1,18 @@
 -- The definitions read on small numbers and small objects: what holds, and what does not.
 use Rattle.std.specs.Prelude.{ℕ, ◌≡◌, ◌≢◌, Bool, true, false, List, [], ◌∷◌, None, Some, codes}
 use Rattle.pm_algebra.specs.Rows.{Row}
-use Rattle.pm_object.specs.State.{HeldValue, State}
+use Rattle.pm_object.specs.State.{HeldValue, State, word_of}
 use Rattle.pm_object.specs.declared.held.Origin.TheVariants.{Given}
 use Rattle.pm_props.specs.declared.object_type.ObjectType.TheVariants.{Cone, Polytope}
 use Rattle.pm_props.specs.declared.property.PropId.{PropId}
 use Rattle.pm_props.specs.declared.property.PropId.TheVariants.{AffineHull, Bounded, Centered, ConeAmbientDim, Equations, Facets, FullDim, Inequalities, InputLineality, LinealitySpace, Points, Vertices}
 use Rattle.pm_types.specs.Values.{PropertyValue, matrix, truth, whole}
 use Rattle.pm_types.specs.Views.{ratios}
-use Rattle.pm_build.specs.Conditions.{cols_at, cyclic_refusal, is_true, polar_refusal, product_refusal, pyramid_refusal, rows_at, shape_refusal, word_of}
-use Rattle.pm_build.specs.Objects.{both_rows, cross_of, cube_of, cyclic_of, padded, polar_of, polytope_with, product_of, put_below, pyramid_of, simplex_of, spread, value_over}
+use Rattle.pm_build.specs.Conditions.{cyclic_refusal, polar_refusal, product_refusal, pyramid_refusal, shape_refusal}
+use Rattle.pm_object.specs.Known.{cols_at, is_true, rows_at, value_over}
+use Rattle.pm_build.specs.Objects.{both_rows, cross_of, cube_of, cyclic_of, padded, polar_of, polytope_with, product_of, put_below, pyramid_of, simplex_of, spread}
 use Rattle.pm_build.specs.Rows.{apex_row, curve, curve_points, opposite_units, simplex_corners, unit, units}
-use Rattle.pm_build.specs.declared.fail.Condition.TheVariants as condition
+use Rattle.pm_object.specs.declared.held.Condition.TheVariants as condition
 use lib.IntN.{ℤ, pos, negsuc}
 
 -- 1
@@ -67,6 +68,7 @@ segment_with bounded full centered = record {
   excluded = [];
   rounds = [];
   disabled = [];
+  programs = [];
 }
 
 -- the segment, for which all conditions hold

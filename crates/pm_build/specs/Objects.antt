@@ -9,22 +9,13 @@ use Rattle.pm_props.specs.declared.property.PropId.{PropId}
 use Rattle.pm_props.specs.declared.property.PropId.TheVariants.{AffineHull, Equations, Facets, Inequalities, InputLineality, LinealitySpace, Points, Vertices}
 use Rattle.pm_types.specs.Values.{PropertyValue, matrix}
 use Rattle.pm_types.specs.Views.{over_one, ratios}
-use Rattle.pm_build.specs.Conditions.{cols_at, rows_at}
+use Rattle.pm_object.specs.Known.{cols_at, rows_at, value_over}
 use Rattle.pm_build.specs.Rows.{apex_row, curve_points, headed_rows, opposite_units, simplex_corners}
 use lib.IntN.{pos}
 
 -- a polytope with these values, all of them given
 abbrev pub polytope_with : List (PropId × PropertyValue) → SavedFile
 polytope_with values = record { of = Polytope; values = values; stored = 0; failed = []; programs = []; ignored = [] }
-
--- n columns, but none where there is no row
-abbrev pub cols_over : ℕ → List (List Ratio) → ℕ
-cols_over n [] = 0
-cols_over n (r ∷ rows) = n
-
--- rows of n columns, as a value
-abbrev pub value_over : ℕ → List (List Ratio) → PropertyValue
-value_over n rows = matrix (cols_over n rows) rows
 
 -- the matrix, and these rows below its own
 abbrev pub put_below : FractionMatrix → List (List Ratio) → FractionMatrix

@@ -1,8 +1,10 @@
 // The calls that build objects.
 
-ghost use Rattle.pm_build.specs.Conditions.{IsReadable, IsRefused, cyclic_refusal, matrix_of, polar_reads, polar_refusal, product_reads, product_refusal, pyramid_reads, pyramid_refusal, shape_refusal};
+ghost use Rattle.pm_build.specs.Conditions.{cyclic_refusal, polar_reads, polar_refusal, product_reads, product_refusal, pyramid_reads, pyramid_refusal, shape_refusal};
+ghost use Rattle.pm_object.specs.Known.{IsReadable, matrix_of};
 ghost use Rattle.pm_build.specs.Objects.{cross_of, cube_of, cyclic_of, polar_of, polytope_with, product_of, pyramid_of, simplex_of};
 ghost use Rattle.pm_files.specs.Views.{file_of};
+ghost use Rattle.pm_object.specs.State.{IsRefused};
 ghost use Rattle.pm_types.specs.Views.{view_of};
 ghost use Rattle.std.specs.Prelude.{IfErr, IfOk, None, OnOk, [], map, ◌∷◌, ◌≡◌};
 
@@ -10,12 +12,10 @@ use crate::combined::{both_rows, pyramid_lines, pyramid_points, same_rows};
 use crate::conditions::{
     cyclic_refusal, polar_refusal, product_refusal, pyramid_refusal, shape_refusal,
 };
-use crate::fail::BuildFail;
-use crate::reading::matrix_at;
 use crate::shapes::{curve_rows, opposite_rows, simplex_rows};
 use pm_files::FileObject;
 use pm_matrix::Matrix;
-use pm_object::Object;
+use pm_object::{BuildFail, Object, matrix_at};
 use pm_types::{ObjectType, PropId, PropSet, Value};
 use std::alloc::{AllocError, Global};
 

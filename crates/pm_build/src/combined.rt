@@ -1,17 +1,16 @@
 // Rows of polytopes that are made of others.
 
-ghost use Rattle.pm_build.specs.Objects.{both_rows, cols_over, padded, product_cols, put_below, pyramid_lines, pyramid_points, spread};
+ghost use Rattle.pm_build.specs.Objects.{both_rows, padded, product_cols, put_below, pyramid_lines, pyramid_points, spread};
+ghost use Rattle.pm_object.specs.Known.{IsKnown, IsOfRows, cols_at, cols_over};
 ghost use Rattle.pm_build.specs.Rows.{apex_row};
 ghost use Rattle.pm_types.specs.Views.{ratios};
-ghost use Rattle.pm_build.specs.Conditions.{IsKnown, IsOfRows, cols_at};
 ghost use Rattle.pm_props.specs.declared.property.PropId.TheVariants.{LinealitySpace, Vertices};
 ghost use Rattle.std.specs.Prelude.{IfOk, OnOk, [], length, map, suc, ◌+◌, ◌<◌, ◌^◌, ◌∷◌, ◌≡◌, ◌≤◌};
 
-use crate::reading::{cols_at, matrix_at};
 use crate::rows::{origin_row, put_row};
 use pm_fraction::Fraction;
 use pm_matrix::Matrix;
-use pm_object::Object;
+use pm_object::{Object, cols_at, matrix_at};
 use pm_types::PropId;
 use std::alloc::{AllocError, Global};
 

@@ -1,12 +1,12 @@
 // The conditions, in the order in which they are tried.
 
-ghost use Rattle.pm_build.specs.Conditions.{IsKnown, IsOfRows, IsReadable, are_few, cyclic_refusal, polar_reads, polar_refusal, product_reads, product_refusal, pyramid_reads, pyramid_refusal, shape_refusal};
+ghost use Rattle.pm_build.specs.Conditions.{are_few, cyclic_refusal, polar_reads, polar_refusal, product_reads, product_refusal, pyramid_reads, pyramid_refusal, shape_refusal};
+ghost use Rattle.pm_object.specs.Known.{IsKnown, IsOfRows, IsReadable};
 ghost use Rattle.std.specs.Prelude.{[], ◌∷◌, ◌≡◌};
 
-use crate::fail::Condition;
-use crate::reading::{are_points, cols_at, is_polytope, is_true, matrix_at};
+use crate::reading::are_points;
 use crate::shapes::is_cyclic_size;
-use pm_object::Object;
+use pm_object::{Condition, Object, cols_at, is_polytope, is_true, matrix_at};
 use pm_types::PropId;
 
 pub(crate) fn shape_refusal(d: u32) -> Option<Condition>

@@ -1,6 +1,6 @@
 // Objects that were given values.
 
-ghost use Rattle.pm_build.specs.Conditions.{IsReadable};
+ghost use Rattle.pm_object.specs.Known.{IsReadable};
 ghost use Rattle.pm_object.specs.State.{is_held, read_at};
 ghost use Rattle.pm_types.specs.Forms.{is_formed};
 ghost use Rattle.pm_types.specs.Views.{view_of};

@@ -2,7 +2,7 @@
 use Rattle.pm_algebra.proofs.Lists.{Contains_among, among_Contains, among_append, here, there}
 use Rattle.pm_algebra.specs.Rows.{IsZero, Row}
 use Rattle.pm_client.proofs.ReadRows.{row_of}
-use Rattle.pm_client.specs.Sound.{AreParts, ArePartsOf, AreRowsOf, AreSetsOf, AreTold, FailsRightly, HoldsOf, IsDoubleListOf, IsRowList, IsRowOf, IsWideElimination, IsWideFeasibility, added_rows, determining_rows, double_list, doubles, eliminated_by, enlarging_rows, fail_of, fail_of_double, fail_of_program, fail_of_thin, first_part, flat_basis_and_row, flat_rows, row_list}
+use Rattle.pm_client.specs.Sound.{AreParts, ArePartsOf, AreRowsOf, AreSetsOf, AreTold, FailsRightly, HoldsOf, IsDoubleListOf, IsRowList, IsRowOf, IsWideElimination, IsWideFeasibility, added_rows, determining_rows, double_list, doubles, eliminated_by, enlarging_rows, fail_of, fail_of_double, fail_of_program, fail_of_thin, first_part, flat_basis_and_row, flat_rows, row_list, IsConeList, cone_rows}
 use Rattle.pm_dd.specs.Refusals.{IsEliminationFail, IsShown, ShowsMany, ShowsWide}
 use Rattle.pm_dd.specs.declared.fails.DdFail.{DdFail}
 use Rattle.pm_dd.specs.declared.fails.DdFail.TheVariants as double
@@ -52,6 +52,14 @@ fails_by_list v X Memory takes listed h = tt
 -- a standard client whose name says so
 pub takes_row_list : (v : ViewSeen) (c : StandardClient) → v.kind ≡ standard_kind c → eliminated_by (standard_kind c).name ≡ row_list ∷ [] → TakesRowList v
 takes_row_list v c kind alone = subst (λ (k : Kind). Contains (eliminated_by k.name) row_list) (sym kind) (subst (λ ls. Contains ls row_list) (sym alone) (Contains_among (here {xs = []})))
+
+-- a cone's rows
+pub fails_by_cone : (v : ViewSeen) (X : List Row) (f : ElimFail) → Contains (eliminated_by v.kind.name) cone_rows → IsConeList v X → IfWide f (λ e. IsEvidence v.cols X e) → FailsRightly v (fail_of f)
+fails_by_cone v X (Wide e) takes listed h = record { list = cone_rows; named = takes; rows = X; listed = listed; shown = h }
+fails_by_cone v X Memory takes listed h = tt
+
+pub takes_cones : (v : ViewSeen) → v.kind ≡ standard_kind client.FanDims → Contains (eliminated_by v.kind.name) cone_rows
+takes_cones v kind = subst (λ (k : Kind). Contains (eliminated_by k.name) cone_rows) (sym kind) (Contains_among (here {xs = []}))
 
 -- ---- double description
 module _ (v : ViewSeen) (named : IsTrue (doubles v.kind.name)) where
@@ -200,7 +208,7 @@ module _ (v : ViewSeen) (kind : v.kind ≡ standard_kind client.FeasibleLp) (E A
   }
 
   holds_feasibility : (w : Evidence) → ShowsProgram (half_spaces v.of v.cols A) E (no_objective v.cols) w → HoldsOf w v
-  holds_feasibility (evidence.E3 basis enter leave row column) h = inr (wide_feasibility (evidence.E3 basis enter leave row column) h)
+  holds_feasibility (evidence.E3 basis enter leave row column) h = inr (inl (wide_feasibility (evidence.E3 basis enter leave row column) h))
   holds_feasibility w h = absurd h.shown
 
   pub fails_by_feasibility : (f : LpFail) → linear.IfWide f (ShowsProgram (half_spaces v.of v.cols A) E (no_objective v.cols)) → FailsRightly v (fail_of_program f)
@@ -246,14 +254,14 @@ module _ (v : ViewSeen) (sets_take : eliminated_by v.kind.name ≡ row_list ∷ 
 
   pub fails_by_facet_sets : IsTrue (bytes_eq v.kind.name (codes "vertices_from_sets")) → (E A : List Row) (in_sets : List (List ℕ)) (f : ThinFail) → AreSetsOf v AffineHull Facets E A in_sets → added_rows v.of v.cols Facets ≡ [] → IsSetsFail v.cols E A in_sets f → FailsRightly v (fail_of_thin f)
   fails_by_facet_sets named E A in_sets (thinning.Wide (evidence.E1 step)) read none h = wide_by_sets AffineHull Facets E A in_sets read none step h
-  fails_by_facet_sets named E A in_sets (thinning.Wide (evidence.E4 x y)) read none h = inr (inl (named, record { equations = E; inequalities = A; in_sets = in_sets; read = read; wide = h }))
+  fails_by_facet_sets named E A in_sets (thinning.Wide (evidence.E4 x y)) read none h = inr (inl (inl (named, record { equations = E; inequalities = A; in_sets = in_sets; read = read; wide = h })))
   fails_by_facet_sets named E A in_sets (thinning.Wide e) read none h = absurd h
   fails_by_facet_sets named E A in_sets (thinning.Many e) read none h = absurd h
   fails_by_facet_sets named E A in_sets thinning.Memory read none h = tt
 
   pub fails_by_ray_sets : IsTrue (bytes_eq v.kind.name (codes "facets_from_sets")) → (E A : List Row) (in_sets : List (List ℕ)) (f : ThinFail) → AreSetsOf v LinealitySpace Vertices E A in_sets → added_rows v.of v.cols Vertices ≡ [] → IsTurnedSetsFail v.cols E A in_sets f → FailsRightly v (fail_of_thin f)
   fails_by_ray_sets named E A in_sets (thinning.Wide (evidence.E1 step)) read none h = wide_by_sets LinealitySpace Vertices E A in_sets read none step h
-  fails_by_ray_sets named E A in_sets (thinning.Wide (evidence.E4 x y)) read none h = inr (inr (named, record { equations = E; inequalities = A; in_sets = in_sets; read = read; wide = h }))
+  fails_by_ray_sets named E A in_sets (thinning.Wide (evidence.E4 x y)) read none h = inr (inl (inr (named, record { equations = E; inequalities = A; in_sets = in_sets; read = read; wide = h })))
   fails_by_ray_sets named E A in_sets (thinning.Wide e) read none h = absurd h
   fails_by_ray_sets named E A in_sets (thinning.Many e) read none h = absurd h
   fails_by_ray_sets named E A in_sets thinning.Memory read none h = tt

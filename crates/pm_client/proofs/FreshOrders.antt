@@ -39,7 +39,7 @@ module _ (v : ViewSeen) (puts : List Put) (t : Thing) (o o' : Orders) (sources :
   fresh_rays fresh facets cones = record {
     orders = o';
     keeps = record { rays = λ n. absurd (n fresh); facets = λ n. facets; cones = λ n. cones };
-    read = read_in_orders v.facts t o o' orders (λ f c. record { rays = inl (fresh.sources f.property (sources f c)); facets = inr facets }) read;
+    read = read_in_orders v.facts t o o' orders (λ f c. record { rays = inl (fresh.sources f.property (sources f c)); facets = inr facets; cones = inr cones }) read;
     each = each;
   }
 
@@ -47,7 +47,7 @@ module _ (v : ViewSeen) (puts : List Put) (t : Thing) (o o' : Orders) (sources :
   fresh_facets fresh rays = record {
     orders = o';
     keeps = record { rays = λ n. rays; facets = λ n. absurd (n fresh); cones = λ n. absurd (n fresh) };
-    read = read_in_orders v.facts t o o' orders (λ f c. record { rays = inr rays; facets = inl (fresh.sources f.property (sources f c)) }) read;
+    read = read_in_orders v.facts t o o' orders (λ f c. record { rays = inr rays; facets = inl (fresh.sources f.property (sources f c)); cones = inl (fresh.sources f.property (sources f c)) }) read;
     each = each;
   }
 

@@ -14,4 +14,6 @@ pub mod FreshOrders
 pub mod Examples
 mod ThinningExamples
 mod ProgramExamples
+mod OptimumExamples
 mod LatticeExamples
+pub mod ConeExamples

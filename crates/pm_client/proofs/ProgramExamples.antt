@@ -6,16 +6,18 @@ use Rattle.pm_algebra.specs.Rows.{Row, dot, opposite}
 use Rattle.pm_bases.specs.Bases.{row_at}
 use Rattle.pm_client.proofs.ThinningExamples.{no_end, no_others, none_primitive}
 use Rattle.pm_client.specs.Examples.{ProgramsAreRead, no_rows, single, without_rows}
-use Rattle.pm_client.specs.Sound.{AreParts, ArePartsOf, IsLineList, IsWideFeasibility, IsWideProgramOf, IsWideThinningOf, are_parts}
+use Rattle.pm_client.specs.Sound.{AreParts, ArePartsOf, IsLineList, IsWideFeasibility, IsWideOptimum, IsWideProgramOf, IsWideThinningOf, are_parts, finds_optimum}
 use Rattle.pm_dd.proofs.ZeroRows.{no_basis}
 use Rattle.pm_elim.specs.Evidence.{IsBasisOf}
 use Rattle.pm_geom.specs.declared.evidence.Evidence.{Evidence}
 use Rattle.pm_geom.specs.declared.evidence.Evidence.TheVariants.{E3}
-use Rattle.pm_props.specs.declared.property.PropId.TheVariants.{AffineHull, Equations, Inequalities, InputLineality, LinealitySpace}
+use Rattle.pm_props.specs.declared.property.PropId.TheVariants.{AffineHull, Equations, Facets, Inequalities, InputLineality, LinealitySpace}
 use Rattle.pm_props.specs.declared.property.PropId.{PropId}
 use Rattle.pm_simplex.specs.Generated.{IsWideThinning, no_objective}
 use Rattle.pm_simplex.specs.Lineality.{MarkLines, line_group}
 use Rattle.pm_simplex.specs.Answers.{ShowsProgram}
+use Rattle.pm_simplex.specs.declared.sense.Sense.TheVariants.{Maximal, Minimal}
+use Rattle.pm_simplex.specs.declared.sense.Sense.{Sense}
 use Rattle.std.proofs.Common.{ap, arith, false, inl, inr, refl, subst, suc, sym, true, true≢false, zero, ◌∙◌}
 use Rattle.std.proofs.lemmas.Int.{ints}
 use Rattle.std.specs.Option.{is_some}
@@ -98,8 +100,23 @@ feasible_rows name e h =
     let r = these_parts name h.equations h.inequalities h.read in
     subst (λ A. ShowsProgram A [] (no_objective 1) e) r.1 (subst (λ E. ShowsProgram h.inequalities E (no_objective 1) e) r.0 h.shown)
 
+-- double description finds no optimum
+pub finds_none : (sense : Sense) (p : PropId) → finds_optimum (codes "dd_vertices") sense p ≡ false
+finds_none Maximal Facets = refl
+finds_none Maximal Inequalities = refl
+finds_none Maximal p = refl
+finds_none Minimal Facets = refl
+finds_none Minimal Inequalities = refl
+finds_none Minimal p = refl
+
+pub no_optimum : (e : Evidence) → ¬ (IsWideOptimum no_rows e)
+no_optimum e h = true≢false (sym h.named ∙ finds_none h.sense h.second)
+
 no_program : (e : Evidence) → ¬ (IsWideProgramOf no_rows e)
-no_program e h = elim h [ inl w ↦ true≢false (sym w.named) | inr w ↦ true≢false (sym w.named) ]
+no_program e h = elim h [
+  | inl w ↦ true≢false (sym w.named)
+  | inr w ↦ elim w [ inl f ↦ true≢false (sym f.named) | inr f ↦ no_optimum e f ]
+]
 
 pub programs_are_read : ProgramsAreRead
 programs_are_read = record {
@@ -123,10 +140,10 @@ programs_are_read = record {
   these_rows = λ e h. thinned_rows (codes "thin_inequalities_lp") e h;
   feasible = λ e h. record { named = refl; equations = []; inequalities = single 1 ∷ []; read = read_parts (codes "feasible_lp"); shown = h };
   this_program = λ e h. feasible_rows (codes "feasible_lp") e h;
-  held = λ basis enter leave row column h. inr (record { named = refl; equations = []; inequalities = single 1 ∷ []; read = read_parts (codes "feasible_lp"); shown = h });
+  held = λ basis enter leave row column h. inr (inl (record { named = refl; equations = []; inequalities = single 1 ∷ []; read = read_parts (codes "feasible_lp"); shown = h }));
   not_held = λ basis enter leave row column h. no_program (E3 basis enter leave row column) h;
   other_client = no_program;
-  product = λ name h. elim h [ inl w ↦ w.shown.shown.shown | inr w ↦ w.shown.shown ];
+  product = λ name h. elim h [ inl w ↦ w.shown.shown.shown | inr w ↦ elim w [ inl f ↦ f.shown.shown | inr f ↦ f.shown.shown ] ];
   crowded = λ places h. record {
     named = refl;
     equations = [];

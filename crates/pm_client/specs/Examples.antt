@@ -1,10 +1,11 @@
 -- The definitions of starts and of row lists read on small lists: what holds of them, and what does not.
-use Rattle.pm_client.specs.Sound.{AreEnlarging, AreParts, ArePartsOf, AreRowsOf, AreSetsOf, HoldsOf, IsCrowdedLattice, IsCrowdedThinning, IsDeterminingList, IsDoubleListOf, IsEliminated, IsFlatBasisAndRow, IsFlatList, IsWideFeasibility, IsWideForSets, IsWideProgramOf, IsWideThinningOf, added_rows, are_parts, are_told, determining_rows, double_list, doubles, eliminated_by, enlarging_rows, fail_of, fail_of_double, fail_of_lattice, fail_of_program, fail_of_thin, first_part, flat_basis_and_row, flat_rows, line_basis_and_row, line_rows, row_list, sets_of_rows, takes_sets, thins, thins_by_programs, thins_inequalities}
+use Rattle.pm_client.specs.Sound.{AreEnlarging, AreParts, ArePartsOf, AreRowsOf, AreSetsOf, HoldsOf, IsCrowdedLattice, IsWideAtRays, IsWideDual, IsWideFace, IsWideForPrograms, IsWideOptimum, ReadsObjective, finds_at_rays, finds_face, finds_optimum, optimum, IsCrowdedThinning, IsDeterminingList, IsDoubleListOf, IsEliminated, IsFlatBasisAndRow, IsFlatList, IsWideFeasibility, IsWideForSets, IsWideProgramOf, IsWideThinningOf, added_rows, are_parts, are_told, determining_rows, double_list, doubles, eliminated_by, enlarging_rows, fail_of, fail_of_double, fail_of_lattice, fail_of_program, fail_of_thin, first_part, flat_basis_and_row, flat_rows, line_basis_and_row, line_rows, row_list, sets_of_rows, takes_sets, thins, thins_by_programs, thins_inequalities, IsConeList, cone_rows}
 use Rattle.pm_props.specs.Properties.{is_generator, is_half_space}
 use Rattle.pm_client.specs.Starts.{Clients, after_start, has_client, kind_at, next_count, place_in, same_kind, started_once}
 use Rattle.pm_client.specs.declared.ClientFail.TheVariants as fail
 use Rattle.pm_dd.specs.declared.fails.DdFail.TheVariants as double
 use Rattle.pm_elim.specs.declared.evidence.ElimFail.TheVariants as elimination
+use Rattle.pm_geom.specs.Faces.{ray}
 use Rattle.pm_geom.specs.Graphs.{sets_of}
 use Rattle.pm_geom.specs.Meets.{AreTooManyMeets}
 use Rattle.pm_geom.specs.declared.evidence.Evidence.{Evidence}
@@ -12,16 +13,19 @@ use Rattle.pm_geom.specs.declared.evidence.Evidence.TheVariants.{E3, E4}
 use Rattle.pm_incidence.specs.Thinning.{AreManyFacets}
 use Rattle.pm_incidence.specs.declared.fails.ThinFail.TheVariants as thinning
 use Rattle.pm_lattice.specs.declared.lattice.LatticeFail.TheVariants as closing
-use Rattle.pm_props.specs.declared.object_type.ObjectType.TheVariants.{Cone, Polytope}
+use Rattle.pm_props.specs.declared.object_type.ObjectType.TheVariants.{Cone, Fan, Polytope}
+use Rattle.pm_algebra.specs.Numbers.{Ratio}
 use Rattle.pm_algebra.specs.Rows.{Row}
 use Rattle.pm_object.specs.Reading.{ViewSeen}
 use Rattle.pm_simplex.specs.Generated.{IsWideThinning, no_objective}
 use Rattle.pm_simplex.specs.Answers.{ShowsProgram}
+use Rattle.pm_simplex.specs.OptimumEvidence.{ShowsDualRow, ShowsFace, ShowsValue}
+use Rattle.pm_simplex.specs.declared.sense.Sense.TheVariants.{Maximal, Minimal}
 use Rattle.pm_simplex.specs.declared.fails.LpFail.TheVariants as linear
-use Rattle.pm_types.specs.Values.{IndexSets, matrix, sets}
+use Rattle.pm_types.specs.Values.{IndexSets, extended, finite, matrix, sets}
 use Rattle.pm_props.specs.declared.kind.Kind.{Kind}
-use Rattle.pm_props.specs.declared.property.PropId.TheVariants.{AffineHull, Equations, Facets, Inequalities, InputLineality, LinealitySpace, Points, Vertices, VerticesInFacets}
-use Rattle.std.specs.Prelude.{List, None, Some, [], codes, false, true, ℕ, ◌-◌, ◌^◌, ◌∷◌, ◌≡◌}
+use Rattle.pm_props.specs.declared.property.PropId.TheVariants.{AffineHull, Equations, Facets, Inequalities, InputLineality, LinealitySpace, LinearObjective, MaximalCones, MaximalValue, MinimalValue, Points, Vertices, VerticesInFacets}
+use Rattle.std.specs.Prelude.{List, None, Some, [], codes, false, true, ℕ, ◌-◌, ◌^◌, ◌∷◌, ◌≡◌, ◌++◌}
 use lib.IntN.{pos}
 
 -- a kind of this name and these sets
@@ -220,6 +224,61 @@ pub record ProgramsAreRead : Type 0 where
   pub wide : (e : Evidence) → fail_of_program (linear.Wide e) ≡ fail.Failed e
   pub memory : fail_of_program linear.Memory ≡ fail.Memory
 
+-- the objective 0 of one column, and the value 0
+abbrev pub nothing : Ratio
+nothing = record { num = pos 0; den = pos 1 }
+
+-- a view of a linear program of a polytope with one column for a client of this name: the half-spaces, rays and lines have no row, the objective is 0, and so is its greatest value
+abbrev pub of_program : List ℕ → ViewSeen
+of_program name = record {
+  of = Polytope;
+  cols = 1;
+  kind = named name 1 2;
+  sub = Some 0;
+  facts = record { place = None; property = Inequalities; value = matrix 0 [] }
+      ∷ record { place = None; property = Equations; value = matrix 0 [] }
+      ∷ record { place = None; property = Facets; value = matrix 0 [] }
+      ∷ record { place = None; property = AffineHull; value = matrix 0 [] }
+      ∷ record { place = None; property = Vertices; value = matrix 0 [] }
+      ∷ record { place = None; property = LinealitySpace; value = matrix 0 [] }
+      ∷ record { place = Some 0; property = LinearObjective; value = matrix 1 ((nothing ∷ []) ∷ []) }
+      ∷ record { place = Some 0; property = MaximalValue; value = extended (finite nothing) }
+      ∷ [];
+}
+
+pub record OptimaAreRead : Type 0 where
+  -- what clients find, by their names
+  pub over_rows : finds_optimum (codes "lp_max_rows") Maximal Inequalities ≡ true
+  pub other_sense : finds_optimum (codes "lp_max_rows") Minimal Inequalities ≡ false
+  pub over_facets : finds_optimum (codes "lp_min") Minimal Facets ≡ true
+  pub not_over_facets : finds_optimum (codes "lp_min_rows") Minimal Facets ≡ false
+  pub not_over_vertices : finds_optimum (codes "lp_max_v") Maximal Vertices ≡ false
+  pub at_rays : finds_at_rays (codes "lp_min_v") Minimal ≡ true
+  pub not_at_rays : finds_at_rays (codes "lp_min_v") Maximal ≡ false
+  pub at_face : finds_face (codes "lp_max_face") Maximal ≡ true
+  pub not_at_face : finds_face (codes "lp_max_face") Minimal ≡ false
+  pub greatest : optimum Maximal ≡ MaximalValue
+  pub least : optimum Minimal ≡ MinimalValue
+  -- the objective is the row that was read
+  pub objective : ReadsObjective (of_program (codes "lp_max")) (nothing ∷ [])
+  pub other_objective : ¬ (ReadsObjective (of_program (codes "lp_max")) [])
+  pub no_objective : (c : List Ratio) → ¬ (ReadsObjective no_rows c)
+  -- evidence is of the program of what was read: x0 >= 0 is added to INEQUALITIES, and not to FACETS
+  pub of_rows : (e : Evidence) → ShowsProgram (single 1 ∷ []) [] (nothing ∷ []) e → IsWideOptimum (of_program (codes "lp_max_rows")) e
+  pub of_facets : (e : Evidence) → ShowsProgram [] [] (nothing ∷ []) e → IsWideOptimum (of_program (codes "lp_max")) e
+  pub not_optimum : (e : Evidence) → ¬ (IsWideOptimum no_rows e)
+  pub held : (basis : List ℕ) (enter leave row column : ℕ) → ShowsProgram [] [] (nothing ∷ []) (E3 basis enter leave row column) → HoldsOf (E3 basis enter leave row column) (of_program (codes "lp_max"))
+  -- or of a dual of it, or of the rays that were read
+  pub of_dual : (e : Evidence) → ShowsDualRow [] [] (nothing ∷ []) e → IsWideDual (of_program (codes "lp_max")) e
+  pub not_dual : (e : Evidence) → ¬ (IsWideDual no_rows e)
+  pub of_rays : (e : Evidence) → ShowsValue Maximal (nothing ∷ []) [] [] e → IsWideAtRays (of_program (codes "lp_max_v")) e
+  pub not_rays : (e : Evidence) → ¬ (IsWideAtRays no_rows e)
+  pub of_face : (e : Evidence) → ShowsFace Maximal (nothing ∷ []) nothing [] e → IsWideFace (of_program (codes "lp_max_face")) e
+  -- no least value was read
+  pub not_face : (e : Evidence) → ¬ (IsWideFace (of_program (codes "lp_min_face")) e)
+  pub held_product : (x y : Row) → ShowsDualRow [] [] (nothing ∷ []) (E4 x y) → HoldsOf (E4 x y) (of_program (codes "lp_max"))
+  pub not_held : (x y : Row) → ¬ (IsWideForPrograms no_rows (E4 x y))
+
 -- a view of a cone with one column for a client of this name, which reads these sets
 abbrev pub with_sets : List ℕ → IndexSets → ViewSeen
 with_sets name index = record {
@@ -245,3 +304,33 @@ pub record LatticesAreRead : Type 0 where
   -- what such a failure is to a client
   pub many : (e : Evidence) → fail_of_lattice (closing.Many e) ≡ fail.Failed e
   pub memory : fail_of_lattice closing.Memory ≡ fail.Memory
+
+-- a view of a fan with one column, which reads these rays and lines, and one maximal cone, of the second ray
+abbrev pub of_fan : List (List Ratio) → List (List Ratio) → ViewSeen
+of_fan rays lines = record {
+  of = Fan;
+  cols = 1;
+  kind = named (codes "fan_dims") 1 2;
+  sub = None;
+  facts = record { place = None; property = Vertices; value = matrix 1 rays }
+      ∷ record { place = None; property = LinealitySpace; value = matrix 1 lines }
+      ∷ record { place = None; property = MaximalCones; value = sets ((1 ∷ []) ∷ []) 2 }
+      ∷ [];
+}
+
+-- what spans that cone
+pub record SpansCone (rays lines : List (List Ratio)) (X : List Row) : Type 0 where
+  pub V : List Row
+  pub L : List Row
+  pub reads_rays : AreRowsOf (of_fan rays lines) Vertices V
+  pub reads_lines : AreRowsOf (of_fan rays lines) LinealitySpace L
+  pub rows : X ≡ L ++ ray V 1 ∷ []
+
+pub record ConesAreRead : Type 0 where
+  -- the lines, and then the ray that the set names, and nothing else
+  pub cone : (rays lines : List (List Ratio)) (X : List Row) → SpansCone rays lines X → IsEliminated cone_rows (of_fan rays lines) X
+  pub only_cone : (rays lines : List (List Ratio)) (X : List Row) → IsConeList (of_fan rays lines) X → SpansCone rays lines X
+  pub none_read : (X : List Row) → ¬ (IsConeList no_rows X)
+  -- what clients eliminate, by their names
+  pub of_cones : eliminated_by (codes "fan_dims") ≡ cone_rows ∷ []
+  pub not_of_cones : eliminated_by (codes "fan_dim") ≡ row_list ∷ []

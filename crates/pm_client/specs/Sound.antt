@@ -1,5 +1,5 @@
 -- When a run of a client is sound, and which evidence holds of a view.
-use Rattle.std.specs.Prelude.{ℕ, ◌≡◌, ◌++◌, ◌||◌, ◌⊎◌, Bool, true, false, IsTrue, if◌then◌else◌, codes, Option, List, [], ◌∷◌, Some}
+use Rattle.std.specs.Prelude.{ℕ, ◌≡◌, ◌++◌, ◌||◌, ◌⊎◌, Bool, true, false, IsTrue, if◌then◌else◌, codes, Option, List, [], ◌∷◌, Some, map}
 use Rattle.std.specs.List.{Contains}
 use Rattle.std.specs.Str.{bytes_eq}
 use Rattle.pm_algebra.specs.Divisors.{IsPrimitive}
@@ -21,6 +21,7 @@ use Rattle.pm_elim.specs.Evidence.{IsEvidence, unit}
 use Rattle.pm_elim.specs.declared.evidence.ElimFail.{ElimFail}
 use Rattle.pm_elim.specs.declared.evidence.ElimFail.TheVariants as elimination
 use Rattle.pm_geom.specs.Evidence.{IsWideProduct}
+use Rattle.pm_geom.specs.Faces.{ray}
 use Rattle.pm_geom.specs.Graphs.{sets_of}
 use Rattle.pm_geom.specs.Meets.{AreTooManyMeets}
 use Rattle.pm_geom.specs.RayEvidence.{IsCrowded, IsWidePair}
@@ -33,16 +34,20 @@ use Rattle.pm_geom.specs.declared.evidence.Evidence.TheVariants.{E1, E2, E3, E4,
 use Rattle.pm_matrix.specs.FractionRows.{ArePrimitiveRowsOf}
 use Rattle.pm_object.specs.Reading.{DraftSeen, ViewSeen, answer_of, fact_of}
 use Rattle.pm_types.specs.Runs.{MayAnswer}
-use Rattle.pm_types.specs.Values.{Fact, IndexSets, matrix, sets}
+use Rattle.pm_types.specs.Values.{Fact, IndexSets, extended, finite, matrix, sets}
 use Rattle.pm_props.specs.Properties.{is_generator, is_half_space}
 use Rattle.pm_simplex.specs.Generated.{IsWideThinning, no_objective}
 use Rattle.pm_simplex.specs.Lineality.{MarkLines, line_group}
 use Rattle.pm_simplex.specs.Lineality as lineality
 use Rattle.pm_simplex.specs.Answers.{ShowsProgram}
+use Rattle.pm_simplex.specs.OptimumEvidence.{ShowsDualRow, ShowsFace, ShowsValue}
+use Rattle.pm_simplex.specs.Senses.{objective_in, ratio_in}
+use Rattle.pm_simplex.specs.declared.sense.Sense.{Sense}
+use Rattle.pm_simplex.specs.declared.sense.Sense.TheVariants.{Maximal, Minimal}
 use Rattle.pm_simplex.specs.declared.fails.LpFail.{LpFail}
 use Rattle.pm_simplex.specs.declared.fails.LpFail.TheVariants as linear
 use Rattle.pm_props.specs.declared.property.PropId.{PropId}
-use Rattle.pm_props.specs.declared.property.PropId.TheVariants.{Points, InputLineality, Inequalities, Equations, Vertices, LinealitySpace, Facets, AffineHull, VerticesInFacets}
+use Rattle.pm_props.specs.declared.property.PropId.TheVariants.{Points, InputLineality, Inequalities, Equations, Vertices, LinealitySpace, Facets, AffineHull, VerticesInFacets, LinearObjective, MaximalValue, MinimalValue, MaximalCones}
 use Rattle.pm_client.specs.declared.ClientFail.{ClientFail}
 use Rattle.pm_client.specs.declared.ClientFail.TheVariants.{Memory, Failed}
 
@@ -216,7 +221,19 @@ pub record IsDeterminingList (v : ViewSeen) (X : List Row) : Type 0 where
   pub read : AreSetsOf v first second equations inequalities in_sets
   pub determining : IsDetermining v.cols equations inequalities in_sets X
 
--- which lists of rows a client may eliminate: the row list; its first part, the double description list, and the rows of that which enlarge the span; the rows in the lineality, and their basis with a row, by the other description or by linear programs; rows that determine the row of a set
+-- X are the rows that span a maximal cone of a fan: LINEALITY_SPACE, and then the rays of a set of MAXIMAL_CONES
+pub record IsConeList (v : ViewSeen) (X : List Row) : Type 0 where
+  pub lines : List Row
+  pub rays : List Row
+  pub reads_lines : AreRowsOf v LinealitySpace lines
+  pub reads_rays : AreRowsOf v Vertices rays
+  pub index : IndexSets
+  pub reads : fact_of MaximalCones v.facts ≡ Some (sets index.rows index.cols)
+  pub set : List ℕ
+  pub listed : Contains index.rows set
+  pub rows : X ≡ lines ++ map (ray rays) set
+
+-- which lists of rows a client may eliminate: the row list; its first part, the double description list, and the rows of that which enlarge the span; the rows in the lineality, and their basis with a row, by the other description or by linear programs; rows that determine the row of a set; rows that span a maximal cone
 pub data Eliminated : Type 0 where
   row_list : Eliminated
   first_part : Eliminated
@@ -227,6 +244,7 @@ pub data Eliminated : Type 0 where
   line_rows : Eliminated
   line_basis_and_row : Eliminated
   determining_rows : Eliminated
+  cone_rows : Eliminated
 
 -- the client of this name does double description
 abbrev pub doubles : List ℕ → Bool
@@ -248,13 +266,14 @@ thins_inequalities name = bytes_eq name (codes "thin_inequalities_v") || bytes_e
 abbrev pub takes_sets : List ℕ → Bool
 takes_sets name = bytes_eq name (codes "vertices_from_sets") || bytes_eq name (codes "facets_from_sets")
 
--- those that the client of this name eliminates: one that neither does double description nor thins takes the row list
+-- those that the client of this name eliminates: one that neither does double description nor thins nor finds the dimensions of cones takes the row list
 abbrev pub eliminated_by : List ℕ → List Eliminated
 eliminated_by name =
     if doubles name then first_part ∷ double_list ∷ enlarging_rows ∷ []
     else if thins name then flat_rows ∷ flat_basis_and_row ∷ []
     else if thins_by_programs name then line_rows ∷ line_basis_and_row ∷ []
     else if takes_sets name then row_list ∷ determining_rows ∷ []
+    else if bytes_eq name (codes "fan_dims") then cone_rows ∷ []
     else row_list ∷ []
 
 -- X is this list of the view
@@ -268,6 +287,7 @@ IsEliminated flat_basis_and_row v X = IsFlatBasisAndRow v X
 IsEliminated line_rows v X = IsLineList v X
 IsEliminated line_basis_and_row v X = IsLineBasisAndRow v X
 IsEliminated determining_rows v X = IsDeterminingList v X
+IsEliminated cone_rows v X = IsConeList v X
 
 -- a step in the elimination of a list of its client leaves the range
 pub record IsWideElimination (v : ViewSeen) (e : EliminationStep) : Type 0 where
@@ -327,9 +347,90 @@ pub record IsWideFeasibility (v : ViewSeen) (e : Evidence) : Type 0 where
   pub read : ArePartsOf v Equations Inequalities equations inequalities
   pub shown : ShowsProgram inequalities equations (no_objective v.cols) e
 
--- the evidence is of a program of the client
+-- c is the objective of the program that is asked
+abbrev pub ReadsObjective : ViewSeen → List Ratio → Type 0
+ReadsObjective v c = (n : ℕ) × Reads v LinearObjective n (c ∷ [])
+
+-- the client of this name finds the optimum in that sense over FACETS, with a dual, or over INEQUALITIES
+abbrev pub finds_optimum : List ℕ → Sense → PropId → Bool
+finds_optimum name Maximal Facets = bytes_eq name (codes "lp_max")
+finds_optimum name Minimal Facets = bytes_eq name (codes "lp_min")
+finds_optimum name Maximal Inequalities = bytes_eq name (codes "lp_max_rows")
+finds_optimum name Minimal Inequalities = bytes_eq name (codes "lp_min_rows")
+finds_optimum name sense p = false
+
+-- it finds the optimum at VERTICES
+abbrev pub finds_at_rays : List ℕ → Sense → Bool
+finds_at_rays name Maximal = bytes_eq name (codes "lp_max_v")
+finds_at_rays name Minimal = bytes_eq name (codes "lp_min_v")
+
+-- it finds the rays at the optimum
+abbrev pub finds_face : List ℕ → Sense → Bool
+finds_face name Maximal = bytes_eq name (codes "lp_max_face")
+finds_face name Minimal = bytes_eq name (codes "lp_min_face")
+
+-- the optimum in that sense, as a property
+abbrev pub optimum : Sense → PropId
+optimum Maximal = MaximalValue
+optimum Minimal = MinimalValue
+
+-- the client finds an optimum over half-spaces, with what is added, and in their program, of the objective whose greatest value is asked, a pivot leaves the range
+pub record IsWideOptimum (v : ViewSeen) (e : Evidence) : Type 0 where
+  pub sense : Sense
+  pub first : PropId
+  pub second : PropId
+  pub named : IsTrue (finds_optimum v.kind.name sense second)
+  pub parts : IsTrue (are_parts first second)
+  pub equations : List Row
+  pub inequalities : List Row
+  pub read : ArePartsOf v first second equations inequalities
+  pub objective : List Ratio
+  pub reads_objective : ReadsObjective v objective
+  pub shown : ShowsProgram inequalities equations (objective_in sense objective) e
+
+-- the client finds an optimum over FACETS, and a row of a dual of their program leaves the range
+pub record IsWideDual (v : ViewSeen) (e : Evidence) : Type 0 where
+  pub sense : Sense
+  pub named : IsTrue (finds_optimum v.kind.name sense Facets)
+  pub equations : List Row
+  pub inequalities : List Row
+  pub reads_equations : AreRowsOf v AffineHull equations
+  pub reads_inequalities : AreRowsOf v Facets inequalities
+  pub objective : List Ratio
+  pub reads_objective : ReadsObjective v objective
+  pub shown : ShowsDualRow inequalities equations (objective_in sense objective) e
+
+-- the client finds an optimum at VERTICES, and the product of its objective with one of these or a line leaves the range, or the optimum does
+pub record IsWideAtRays (v : ViewSeen) (e : Evidence) : Type 0 where
+  pub sense : Sense
+  pub named : IsTrue (finds_at_rays v.kind.name sense)
+  pub lines : List Row
+  pub rays : List Row
+  pub reads_lines : AreRowsOf v LinealitySpace lines
+  pub reads_rays : AreRowsOf v Vertices rays
+  pub objective : List Ratio
+  pub reads_objective : ReadsObjective v objective
+  pub shown : ShowsValue sense objective rays lines e
+
+-- the client finds the rays at an optimum, and the row that vanishes at the optimum leaves the range, or its product with a ray does
+pub record IsWideFace (v : ViewSeen) (e : Evidence) : Type 0 where
+  pub sense : Sense
+  pub named : IsTrue (finds_face v.kind.name sense)
+  pub rays : List Row
+  pub reads_rays : AreRowsOf v Vertices rays
+  pub objective : List Ratio
+  pub reads_objective : ReadsObjective v objective
+  pub value : Ratio
+  pub reads_value : fact_of (optimum sense) v.facts ≡ Some (extended (finite value))
+  pub shown : ShowsFace sense objective (ratio_in sense value) rays e
+
+-- the evidence is of a product of a client of linear programs
+abbrev pub IsWideForPrograms : ViewSeen → Evidence → Type 0
+IsWideForPrograms v e = IsWideDual v e ⊎ IsWideAtRays v e ⊎ IsWideFace v e
+
+-- the evidence is of a pivot in a program of the client
 abbrev pub IsWideProgramOf : ViewSeen → Evidence → Type 0
-IsWideProgramOf v e = IsWideThinningOf v e ⊎ IsWideFeasibility v e
+IsWideProgramOf v e = IsWideThinningOf v e ⊎ IsWideFeasibility v e ⊎ IsWideOptimum v e
 
 -- the client thins INEQUALITIES, and at more than 2,048 places of these and of what is added stand facet rows
 pub record IsCrowdedThinning (v : ViewSeen) (places : List ℕ) : Type 0 where
@@ -347,12 +448,12 @@ pub record IsCrowdedLattice (v : ViewSeen) (faces : List (List ℕ)) : Type 0 wh
   pub reads : fact_of VerticesInFacets v.facts ≡ Some (sets index.rows index.cols)
   pub shown : AreTooManyMeets index.cols (sets_of index.rows) faces
 
--- the evidence holds of the view: a step of an elimination leaves the range, or one with two extreme rays, or a pivot of a linear program; a front has too many of these, or a thing too many facets or faces; or the product of a generator's row with a half-space's row leaves the range, or of a row that a set determines with one that was read
+-- the evidence holds of the view: a step of an elimination leaves the range, or one with two extreme rays, or a pivot of a linear program; a front has too many of these, or a thing too many facets or faces; or the product of a generator's row with a half-space's row leaves the range, or of a row that a set determines with one that was read, or of an objective with a ray, or a row of a dual does
 abbrev pub HoldsOf : Evidence → ViewSeen → Type 0
 HoldsOf (E1 e) v = IsWideElimination v e
 HoldsOf (E2 front first second column) v = IsWideDoubling v front first second column
 HoldsOf (E3 basis enter leave row column) v = IsWideProgramOf v (E3 basis enter leave row column)
-HoldsOf (E4 first second) v = AreWideRows v first second ⊎ IsWideForSets v first second
+HoldsOf (E4 first second) v = AreWideRows v first second ⊎ IsWideForSets v first second ⊎ IsWideForPrograms v (E4 first second)
 HoldsOf (E5Rays front rays) v = IsCrowdedDoubling v front rays
 HoldsOf (E5Rows places) v = IsCrowdedThinning v places
 HoldsOf (E5Faces faces) v = IsCrowdedLattice v faces

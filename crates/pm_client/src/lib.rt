@@ -1,7 +1,7 @@
 //! Clients, which answer properties of an object from others, and running the first client of a kind.
 #![tactic(auto)]
 
-ghost use Rattle.pm_client.specs.Examples.{DoublesAreRead, LatticesAreRead, ProgramsAreRead, RowListsAreRead, StartsAreRead, ThinningIsRead};
+ghost use Rattle.pm_client.specs.Examples.{ConesAreRead, DoublesAreRead, LatticesAreRead, OptimaAreRead, ProgramsAreRead, RowListsAreRead, StartsAreRead, ThinningIsRead};
 ghost use Rattle.pm_client.specs.Sound.{FailsRightly, IsSound};
 ghost use Rattle.pm_client.specs.Starts.{started_once};
 ghost use Rattle.std.specs.Prelude.{IfErr, OnOk, [], ℕ, ◌≡◌};
@@ -23,7 +23,8 @@ mod values;
 pub use boxes::{place_of, run_first};
 pub use family::{Family, FamilyClient, Numbered};
 pub use values::{
-    counts_of, edges_of, lattice_of, matrix_of, primitive_rows, put_value, sets_of, whole_of,
+    counts_of, edges_of, lattice_of, matrix_of, number_of, primitive_rows, put_value, sets_of,
+    whole_of,
 };
 
 /// Why a client did not answer.
@@ -189,6 +190,16 @@ pub fn example_thinning()
 /// The definitions of linear programs read on views without rows.
 pub fn example_programs()
     ensures { ProgramsAreRead }
+{}
+
+/// The definitions of optima of linear programs read on a view without rows.
+pub fn example_optima()
+    ensures { OptimaAreRead }
+{}
+
+/// Which rows span a maximal cone of a fan.
+pub fn example_cones()
+    ensures { ConesAreRead }
 {}
 
 /// The definitions of too many faces read on views with sets and without.

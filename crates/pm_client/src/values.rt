@@ -3,18 +3,18 @@
 ghost use Rattle.pm_client.specs.declared.ClientFail.TheVariants.{Memory};
 ghost use Rattle.pm_matrix.specs.FractionRows.{ArePrimitiveRowsOf};
 ghost use Rattle.pm_object.specs.Reading.{drafted, fact_of};
-ghost use Rattle.pm_types.specs.Forms.{FormsIn, HasPrimitiveRow};
+ghost use Rattle.pm_types.specs.Forms.{FormsIn, HasPrimitiveRow, is_of_numbers};
 ghost use Rattle.pm_props.specs.Properties.{is_of_counts, is_of_edges, is_of_lattices, is_of_matrices, is_of_sets, is_of_whole_numbers};
 ghost use Rattle.pm_props.specs.Properties.{value_kind};
 ghost use Rattle.pm_props.specs.Sets.{has};
-ghost use Rattle.pm_types.specs.Values.{counts, edges, lattice, matrix, sets, whole};
-ghost use Rattle.pm_types.specs.Views.{view_of};
+ghost use Rattle.pm_types.specs.Values.{counts, edges, extended, lattice, matrix, sets, whole};
+ghost use Rattle.pm_types.specs.Views.{extended_of, view_of};
 ghost use Rattle.std.specs.Prelude.{All, IfErr, IfOk, IsTrue, None, OnErr, OnOk, Some, [], length, ◌++◌, ◌∷◌, ◌≡◌, ◌≤◌};
 
 use crate::ClientFail;
 use pm_matrix::{Matrix, RowsFail};
 use pm_object::{Draft, View};
-use pm_types::{Counts, Lattice, PropId, Sets, Value};
+use pm_types::{Counts, Lattice, Number, PropId, Sets, Value};
 use pm_vector::Ints;
 use std::alloc::Global;
 
@@ -94,6 +94,19 @@ pub fn lattice_of<'b>(view: &'b View<'_>, p: PropId) -> &'b Lattice
         unreachable!()
     };
     found
+}
+
+/// The number of a source whose values are fractions or infinities.
+pub fn number_of(view: &View, p: PropId) -> Number
+    requires source { IsTrue (has view.now.kind.sources p) }
+    requires numbers { IsTrue (is_of_numbers (value_kind p)) }
+    ensures value { fact_of p view.now.facts ≡ Some (extended (extended_of result)) }
+    ensures forms { FormsIn view.now.of view.now.cols p (extended (extended_of result)) }
+{
+    let Some(Value::Number(x)) = view.value(p) else {
+        unreachable!()
+    };
+    *x
 }
 
 /// The primitive whole rows of a matrix, of which each is made within the range. Want of memory alone ends it.

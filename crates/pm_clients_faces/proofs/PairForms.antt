@@ -9,7 +9,7 @@ use Rattle.pm_matrix.specs.Matrices.{FractionMatrix}
 use Rattle.pm_props.specs.declared.object_type.ObjectType.TheVariants.{Cone, Fan, Polytope}
 use Rattle.pm_props.specs.declared.object_type.ObjectType.{ObjectType}
 use Rattle.pm_props.specs.declared.property.PropId.TheVariants.{F2Vector}
-use Rattle.pm_relations.proofs.WholeRows.{ratios_rows_fractions, ratios_rows_of_entries, ratios_rows_primitive}
+use Rattle.pm_types.proofs.WholeRows.{ratios_rows_fractions, ratios_rows_of_entries, ratios_rows_primitive}
 use Rattle.pm_types.specs.Forms.{FormsIn, is_lattice_form, is_row, is_row_of_entries}
 use Rattle.pm_types.specs.Runs.{states_rows}
 use Rattle.pm_types.specs.Values.{matrix}

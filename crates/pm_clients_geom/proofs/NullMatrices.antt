@@ -18,7 +18,7 @@ use Rattle.pm_matrix.specs.Matrices.{FractionMatrix}
 use Rattle.pm_object.specs.Reading.{DraftSeen, IsView, ViewSeen}
 use Rattle.pm_relations.proofs.Found.{echelon_is_right}
 use Rattle.pm_relations.proofs.PrimitiveStanding.{hull_primitive, lineality_primitive}
-use Rattle.pm_relations.proofs.WholeRows.{polytope_lineality_first}
+use Rattle.pm_relations.proofs.FlatLineality.{polytope_lineality_first}
 use Rattle.pm_types.specs.Canonical.{IsCanonical, IsEchelonBasisOf, Vanishing}
 use Rattle.pm_props.specs.Kinds.{standard_kind}
 use Rattle.pm_types.specs.Right.{InLines, Right, RightAll, objective_of}

@@ -19,8 +19,9 @@ use Rattle.pm_matrix.specs.Matrices.{FractionMatrix, IsFraction}
 use Rattle.pm_props.specs.declared.object_type.ObjectType.TheVariants.{Cone, Fan, Polytope}
 use Rattle.pm_props.specs.declared.object_type.ObjectType.{ObjectType}
 use Rattle.pm_props.specs.declared.property.PropId.TheVariants.{Vertices}
-use Rattle.pm_relations.proofs.Standing.{length_ratios, stands_ratios}
-use Rattle.pm_relations.proofs.WholeRows.{ratios_fractions, ratios_primitive}
+use Rattle.pm_relations.proofs.Standing.{stands_ratios}
+use Rattle.pm_types.proofs.WholeRows.{length_ratios}
+use Rattle.pm_types.proofs.WholeRows.{ratios_fractions, ratios_primitive}
 use Rattle.pm_types.specs.Canonical.{EachIs, IsRayRow}
 use Rattle.pm_types.specs.Forms.{HasPrimitiveRow, first_is_below, is_row, is_zero_row}
 use Rattle.pm_types.specs.Things.{Thing}

@@ -1,5 +1,5 @@
 -- The worked examples of what is held alone.
-use Rattle.std.proofs.Common.{◌≡◌, true, Bool, not, ◌&&◌, ◌||◌, eqb, IsTrue, None, Some, List, [], ◌∷◌, ◌⊎◌, ℕ, zero, suc, inl, inr, refl, true≢false, sym, ap, subst}
+use Rattle.std.proofs.Common.{◌≡◌, true, Bool, not, ◌&&◌, ◌||◌, eqb, IsTrue, Option, None, Some, List, [], ◌∷◌, ◌⊎◌, ℕ, zero, suc, inl, inr, refl, true≢false, sym, ap, subst}
 use Rattle.std.specs.List.{list_all}
 use Rattle.std.specs.Prelude.{slice_get}
 use Rattle.std.proofs.lemmas.Bool.{and_from, and_parts, eqb-true, not-true, or_cases}
@@ -56,26 +56,36 @@ descriptions_read = record {
   without_columns = λ h. true≢false (sym h.columns);
   of_polytopes = refl;
   of_cones = refl;
+  of_programs = refl;
+  not_of_polytopes = refl;
+  objective = refl;
+  no_objective = λ h. true≢false (sym h);
+  none_asked = tt;
 }
 
 -- ---- an object
-abbrev is_free : Rule → Bool
-is_free rule = not (is_barred_on all_clients segment None (record { 0 = 0 }) rule)
+abbrev is_free : Option ℕ → Rule → Bool
+is_free sub rule = not (is_barred_on all_clients segment sub (record { 0 = 0 }) rule)
 
-all_free : list_all is_free standard_rules ≡ true
+all_free : list_all (is_free None) standard_rules ≡ true
 unfolding only union has
 all_free = refl
 
-free_at : (rules : List Rule) (k : ℕ) (rule : Rule) → slice_get rules k ≡ Some rule → list_all is_free rules ≡ true → is_free rule ≡ true
-free_at [] k rule at h = absurd (true≢false (sym (ap is_some at)))
-free_at (r ∷ rules) zero rule at h = subst (λ q. is_free q ≡ true) (same_Some r rule at) (and_parts (is_free r) (list_all is_free rules) h).0
-free_at (r ∷ rules) (suc k) rule at h = free_at rules k rule at (and_parts (is_free r) (list_all is_free rules) h).1
+all_free_for_program : list_all (is_free (Some 0)) standard_rules ≡ true
+unfolding only union has
+all_free_for_program = refl
+
+free_at : (sub : Option ℕ) (rules : List Rule) (k : ℕ) (rule : Rule) → slice_get rules k ≡ Some rule → list_all (is_free sub) rules ≡ true → is_free sub rule ≡ true
+free_at sub [] k rule at h = absurd (true≢false (sym (ap is_some at)))
+free_at sub (r ∷ rules) zero rule at h = subst (λ q. is_free sub q ≡ true) (same_Some r rule at) (and_parts (is_free sub r) (list_all (is_free sub) rules) h).0
+free_at sub (r ∷ rules) (suc k) rule at h = free_at sub rules k rule at (and_parts (is_free sub r) (list_all (is_free sub) rules) h).1
 
 pub objects_read : ObjectsAreRead
 unfolding only union has
 objects_read = record {
   alone = record { first = refl; second = refl; columns = refl; no_other = alone_by [] refl };
-  free = λ id rule at. not-true (is_barred_on all_clients segment None id rule) (free_at standard_rules id.0 rule at all_free);
+  free = λ id rule at. not-true (is_barred_on all_clients segment None id rule) (free_at None standard_rules id.0 rule at all_free);
+  free_for_programs = λ id rule at. not-true (is_barred_on all_clients segment (Some 0) id rule) (free_at (Some 0) standard_rules id.0 rule at all_free_for_program);
   disabled = λ h. true≢false (h (record { 0 = 1 }) (standard_rule client.DdFacets) refl);
   no_clients = λ h. true≢false (h (record { 0 = 0 }) (standard_rule client.DdVertices) refl);
 }

@@ -1,5 +1,5 @@
 -- Where a chain leads to a property, none is wanting.
-use Rattle.std.proofs.Common.{None, ◌∙◌, sym}
+use Rattle.std.proofs.Common.{◌∙◌, sym}
 use Rattle.std.proofs.lemmas.Bool.{and_parts}
 use Rattle.std.specs.Prelude.{not}
 use Rattle.pm_machine.specs.Chains.{held_names}
@@ -12,10 +12,10 @@ use Rattle.pm_completeness.specs.Completeness.{BarsNone}
 use Rattle.pm_completeness.specs.Objects.{SomeChainLeads}
 
 pub some_chain_leads : SomeChainLeads
-some_chain_leads c not_fan d listed alone nothing p of_table lacking =
+some_chain_leads sub c not_fan d listed alone objective nothing p of_table lacking =
     let free : BarsNone lacking.barred = λ id rule at. lacking.are_barred.each id rule at ∙ nothing id rule at in
-    let found = book_is_complete c.object.of not_fan d listed (held_names None c.object) alone lacking.barred free p (has-set_of_filter (is_in_use None c.object.of) p ∙ of_table) in
+    let found = book_is_complete sub c.object.of not_fan d listed (held_names sub c.object) alone objective lacking.barred free p (has-set_of_filter (is_in_use sub c.object.of) p ∙ of_table) in
     lacking.none.none found.0 (record {
       enabled = found.1.enabled;
-      ends = λ q h. found.1.ends q (and_parts (has (only p) q) (not (has (held_names None c.object) q)) (sym (has-difference (only p) (held_names None c.object) q) ∙ h)).0;
+      ends = λ q h. found.1.ends q (and_parts (has (only p) q) (not (has (held_names sub c.object) q)) (sym (has-difference (only p) (held_names sub c.object) q) ∙ h)).0;
     })

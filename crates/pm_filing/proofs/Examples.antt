@@ -13,6 +13,9 @@ files_are_loaded = record {
   second_label = λ rule. refl;
   no_label = λ rule. refl;
   is_marked = λ rule. refl;
+  programs = λ rule. refl;
+  second_place = refl;
+  second_mark = λ rule. refl;
   is_read_over = λ rule. refl;
 }
 
@@ -26,5 +29,8 @@ objects_are_saved = record {
   marked_again = λ rule. refl;
   not_false = λ rule. refl;
   not_of_a_program = λ rule. refl;
-  no_value_of_a_program = λ book. refl;
+  of_its_program = λ rule. refl;
+  not_of_another = λ rule. refl;
+  programs = λ rule. refl;
+  no_value_of_a_program = λ rule. refl;
 }

@@ -81,7 +81,7 @@ agrees_now of n held p v are fits = by (cols_of held) refl
     by (Some m) e = subst (λ k. agrees_with k p v ≡ true) (sym (known of n m held are e)) fits.columns
 
 -- ---- the next of several values
-in_middle : {X : Type 0} (xs : List X) (x : X) (ys : List X) → Among x (xs ++ x ∷ ys)
+pub in_middle : {X : Type 0} (xs : List X) (x : X) (ys : List X) → Among x (xs ++ x ∷ ys)
 in_middle [] x ys = here
 in_middle (y ∷ xs) x ys = there (in_middle xs x ys)
 

@@ -17,3 +17,8 @@ pub mod Wholeness
 pub mod Saved
 pub mod Returning
 pub mod Returned
+pub mod SavedPrograms
+pub mod Objectives
+mod ProgramsFit
+pub mod ProgramsRead
+pub mod FlatLists

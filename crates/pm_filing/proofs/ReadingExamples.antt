@@ -23,6 +23,7 @@ types = record {
   cone = refl;
   polytope = refl;
   fan = refl;
+  unknown = refl;
   no_text = refl;
   none = refl;
   no_object = refl;

@@ -1,38 +1,44 @@
 -- What was written of a whole file is read as that file, with its values in the order of their names.
 use Rattle.std.proofs.lemmas.Option.{same_Some as some_is, none-some as none_some}
 use Rattle.pm_filing.proofs.HeldSets.{both_ways}
-use Rattle.std.proofs.Common.{refl, sym, ap, subst, arith, inl, inr, ◌∙◌, ◌≡◌, ◌++◌, ◌∷◌, ◌&&◌, ◌||◌, ℕ, suc, zero, List, [], Option, Some, None, Ok, Err, Bool, true, false, true≢false, Ordering, Less, Equal, Greater}
-use Rattle.std.proofs.lemmas.Bool.{and_from, and_parts, leb-true}
+use Rattle.std.proofs.Common.{refl, sym, ap, subst, arith, inl, inr, ◌∙◌, ◌≡◌, ◌++◌, ◌∷◌, ◌&&◌, ◌||◌, ◌+◌, ◌≤◌, ℕ, suc, zero, List, [], Option, Some, None, Ok, Err, Bool, true, false, true≢false, Ordering, Less, Equal, Greater}
+use Rattle.std.proofs.lemmas.Bool.{and_from, and_parts, leb-true, lt-ltb}
+use Rattle.std.proofs.lemmas.List.{length-map}
 use Rattle.std.specs.Cmp.Lexicographic.{slice_cmp}
 use Rattle.std.specs.Fmt.{digits}
 use Rattle.std.specs.List.{list_all, list_any}
-use Rattle.std.specs.Option.{is_some}
+use Rattle.std.specs.Option.{is_some, unwrap_or}
 use Rattle.std.specs.Ordering.{match_ordering, nat_cmp}
-use Rattle.std.specs.Prelude.{⊤, codes, if◌then◌else◌, map, nat_eq, nat_le, not, option_and_then, option_map}
+use Rattle.std.specs.Prelude.{⊤, codes, flat_map, if◌then◌else◌, length, map, nat_eq, nat_le, nat_lt, not, option_and_then, option_map}
 use Rattle.std.specs.Str.{bytes_eq}
 use Rattle.std.proofs.lemmas.Slice.Eq.{bytes_eq-Decides}
-use Rattle.pm_algebra.proofs.Filters.{any_from, any_to, among_map}
+use Rattle.pm_algebra.proofs.Filters.{any_from, any_to, among_map, map_among}
+use Rattle.pm_algebra.specs.Numbers.{Ratio}
 use Rattle.pm_algebra.proofs.Lists.{Among, Contains_among, among_All, among_Contains, among_append, among_append_left, among_append_right, here, there}
 use Rattle.pm_files.proofs.Ascending.{Ascends, IsBefore, contents_ascend, found_first, heading_ascends, key_is, none_at, put_ascends, same_members, values_ascend}
-use Rattle.pm_files.proofs.Members.{no_programs, not_computed, others, past_names, type_stands}
+use Rattle.pm_files.proofs.Members.{no_programs, not_computed, others, past_names, past_programs, type_stands}
 use Rattle.pm_filing.proofs.ReadBack.{values_back}
-use Rattle.pm_files.specs.Files.{Mark, SavedFile, contents, evidence_text, file_json, heading, is_in, is_other_name, is_stored, mark_json, marks_json, stored_keys, type_text, with_programs, with_values}
+use Rattle.pm_files.specs.Files.{Mark, SavedFile, SavedProgram, contents, evidence_text, file_json, heading, is_in, is_other_name, is_stored, mark_json, marks_json, program_json, stored_keys, type_text, with_name, with_objective, with_programs, with_values}
 use Rattle.pm_files.specs.ValueJson.{array_of, json_of}
-use Rattle.pm_filing.proofs.Fitting.{map_append, states_n}
+use Rattle.pm_filing.proofs.Fitting.{states_n}
+use Rattle.pm_filing.proofs.FlatLists.{among_flat}
+use Rattle.pm_filing.proofs.ProgramsRead.{ProgramsAt, key_is_LP, none_there, programs_at, same_test, some_there}
+use Rattle.pm_filing.specs.Filing.{name_told, objective_value}
 use Rattle.pm_filing.proofs.HeldSets.{set_of-has}
-use Rattle.pm_filing.proofs.SuitLaws.{all_at}
-use Rattle.pm_filing.proofs.Wholeness.{OfMembers, of_members, still_there}
-use Rattle.pm_filing.specs.FileParts.{Part, data_in, is_hidden, is_other_form, is_programs_key, is_read_over, names_read_over, no_type, or_else_fault, part_at, parts_in, property_at, read_as, then_read, type_in, type_named, unknown_type, value}
-use Rattle.pm_filing.specs.FileReadings.{ArePassed, Passes, Reads, Seen, cols_after, cols_of_value, named_values, seen, seen_in, seen_of}
-use Rattle.pm_filing.specs.Profiles.{Profile, are_different, each_read, evidence_of, file_in, file_with, if_different, is_profile_2, is_two, list_read, mark_of, mark_with, marks_in, names_held, objectives_in, profile_in, programs_by, programs_in, programs_with, same_label, stored_by, stored_property, values_in}
+use Rattle.pm_filing.proofs.SuitLaws.{all_at, from_file}
+use Rattle.pm_filing.proofs.Wholeness.{OfMembers, of_members, still_there, values_append}
+use Rattle.pm_filing.specs.FileParts.{Part, data_in, is_hidden, is_other_form, is_programs_key, is_read_over, no_type, objective_by, objective_in, objectives_from, objectives_of, or_else_fault, part_at, programs, parts_in, property_at, read_as, then_read, type_in, type_named, unknown_type, value}
+use Rattle.pm_filing.specs.FileReadings.{ArePassed, Named, Passes, Reads, Seen, cols_after, cols_of_value, named_values, seen, seen_in, seen_of}
+use Rattle.pm_filing.specs.Profiles.{Profile, are_different, each_read, evidence_of, file_in, file_with, if_different, is_profile_2, is_two, list_read, mark_of, mark_with, marks_in, names_held, objectives_in, profile_in, program_name_of, program_names, programs_by, programs_in, programs_with, same_label, stored_by, stored_property, values_in}
 use Rattle.pm_filing.specs.Views.{Suits}
-use Rattle.pm_filing.specs.Whole.{IsReadType, IsSameFile, IsWhole, are_of_different, are_of_table, is_mark, is_of_one}
-use Rattle.pm_json.specs.Readings.{Read, reading}
+use Rattle.pm_filing.specs.Whole.{AreMarks, IsSameFile, IsWhole, all_values, are_of_different, are_of_table, is_mark, is_of_one, objective_of}
+use Rattle.pm_json.specs.Readings.{Read, and_then, reading}
 use Rattle.pm_object.proofs.Formed.{agrees_dimension, ambient_is, dimension_of, is_not}
-use Rattle.pm_object.specs.State.{ambient_in, file_value}
+use Rattle.pm_object.specs.State.{ambient_in, file_value, is_polytope}
 use Rattle.pm_object.specs.declared.held.Origin.TheVariants.{Given}
 use Rattle.pm_props.proofs.NameLemmas.{named_in_exactly}
 use Rattle.pm_props.proofs.Places.{same_property_is, same_property_refl}
+use Rattle.pm_props.specs.NameWords.{is_name}
 use Rattle.pm_props.specs.Names.{property_named_in}
 use Rattle.pm_props.specs.Places.{same_property}
 use Rattle.pm_props.specs.Properties.{has as has_property, is_ambient, is_of_edges, is_of_lattices, name_in, value_kind}
@@ -42,10 +48,10 @@ use Rattle.pm_props.specs.declared.object_type.ObjectType.TheVariants.{Polytope,
 use Rattle.pm_props.specs.declared.property.PropId.{PropId}
 use Rattle.pm_props.specs.declared.property.PropId.TheVariants.{ConeAmbientDim, LinearObjective}
 use Rattle.pm_rules.specs.Words.{is_label}
-use Rattle.pm_types.specs.Forms.{AreFractions, is_formed, stated_cols}
+use Rattle.pm_types.specs.Forms.{AreFractions, is_formed, rows_in, stated_cols}
 use Rattle.pm_types.specs.Values.{PropertyValue, matrix, sets, whole, truth, extended, edges, lattice, counts, finite, plus_infinity, minus_infinity}
 use Rattle.serde_json.proofs.Views.{get_member-put, get_member-put_other}
-use Rattle.serde_json.specs.Data.{Data, Members, member, no_items, no_members, number, object, put, string, unsigned}
+use Rattle.serde_json.specs.Data.{Data, Items, Members, member, no_items, no_members, number, object, put, string, unsigned}
 use Rattle.serde_json.specs.Find.{as_number, as_object, as_str, get, get_member}
 use Rattle.serde_json.specs.View.{items_of}
 use Rattle.serde_json.specs.Written.{compact_text}
@@ -72,9 +78,17 @@ value_at of k d = value_by (property_at of k d) d
 abbrev as_parts : Values → List Part
 as_parts vs = map (λ v. value v.0 v.1) vs
 
--- at the key stands a value, or nothing, and it is not read over
+abbrev objectives_told : Read (List (Option PropertyValue)) → List Part
+objectives_told (Ok vs) = programs vs ∷ []
+objectives_told (Err why) = []
+
+-- what is read at a key
+abbrev parts_at : ObjectType → List ℕ → Data → List Part
+parts_at of k d = if is_programs_key of k then objectives_told (objectives_of d) else as_parts (value_at of k d)
+
+-- at the key stand a value or programs, or nothing, and it is not read over
 record IsFine (of : ObjectType) (k : List ℕ) (d : Data) : Type 0 where
-  parts : part_at of k d ≡ Ok (as_parts (value_at of k d))
+  parts : part_at of k d ≡ Ok (parts_at of k d)
   told : is_read_over of k d ≡ false
 
 abbrev AreFine : ObjectType → Members → Type 0
@@ -95,14 +109,14 @@ abbrev told : ObjectType → Members → Values
 told of no_members = []
 told of (member k d ms) = value_at of k d ++ told of ms
 
-parts_told : (of : ObjectType) (ms : Members) → AreFine of ms → parts_in of ms ≡ Ok (as_parts (told of ms))
-parts_told of no_members a = refl
-parts_told of (member k d ms) a =
-    rw (a.0.parts, parts_told of ms a.1) (ap (λ (ps : List Part). Ok ps) (sym (map_append (λ (v : PropId × PropertyValue). value v.0 v.1) (value_at of k d) (told of ms))))
+-- all parts, in the order of their keys
+abbrev parts_of : ObjectType → Members → List Part
+parts_of of no_members = []
+parts_of of (member k d ms) = parts_at of k d ++ parts_of of ms
 
-none_over : (of : ObjectType) (ms : Members) → AreFine of ms → names_read_over of ms ≡ []
-none_over of no_members a = refl
-none_over of (member k d ms) a = rw a.0.told (none_over of ms a.1)
+parts_told : (of : ObjectType) (ms : Members) → AreFine of ms → parts_in of ms ≡ Ok (parts_of of ms)
+parts_told of no_members a = refl
+parts_told of (member k d ms) a = rw (a.0.parts, parts_told of ms a.1) refl
 
 hidden_fine : (of : ObjectType) (k : List ℕ) (d : Data) → is_hidden k ≡ true → is_programs_key of k ≡ false → property_named_in of k ≡ None → IsFine of k d
 hidden_fine of k d h p n = record { parts = rw (p, n) refl; told = rw h refl }
@@ -143,6 +157,9 @@ value_fine of p v h r = record {
   parts = rw (no_programs_key of p, name_found of p h, same_form p v, r) refl;
   told = rw (name_found of p h, same_form p v) (and_false (not (is_hidden (name_in of p)) && not (is_programs_key of (name_in of p))));
 }
+
+programs_fine : (of : ObjectType) (d : Data) (vs : List (Option PropertyValue)) → is_programs_key of (codes "LP") ≡ true → objectives_of d ≡ Ok vs → IsFine of (codes "LP") d
+programs_fine of d vs n is = record { parts = rw (n, is) refl; told = rw n refl }
 
 values_fine : (of : ObjectType) (vs : Values) (ms : Members) → ((v : PropId × PropertyValue) → Among v vs → IsFine of (name_in of v.0) (json_of v.0 v.1)) → AreFine of ms → AreFine of (with_values of vs ms)
 values_fine of [] ms f a = a
@@ -296,9 +313,21 @@ values_of_parts : (vs : Values) → values_in (as_parts vs) ≡ vs
 values_of_parts [] = refl
 values_of_parts (v ∷ vs) = ap (λ l. v ∷ l) (values_of_parts vs)
 
-no_names : (vs : List (Option PropertyValue)) → programs_with vs [] [] ≡ []
-no_names [] = refl
-no_names (v ∷ vs) = refl
+-- the values of the parts are those that are told
+values_at_key : (of : ObjectType) (k : List ℕ) (d : Data) → values_in (parts_at of k d) ≡ value_at of k d
+values_at_key of k d = by (is_programs_key of k) refl
+  where
+    no_values : (r : Read (List (Option PropertyValue))) → values_in (objectives_told r) ≡ []
+    no_values (Ok vs) = refl
+    no_values (Err why) = refl
+
+    by : (b : Bool) → is_programs_key of k ≡ b → values_in (if b then objectives_told (objectives_of d) else as_parts (value_at of k d)) ≡ value_at of k d
+    by true e = no_values (objectives_of d) ∙ sym (ap (λ n. value_by (read_as n d) d) (ap (property_named_in of) (key_is_LP of k e) ∙ programs_unnamed of))
+    by false e = values_of_parts (value_at of k d)
+
+told_values : (of : ObjectType) (ms : Members) → values_in (parts_of of ms) ≡ told of ms
+told_values of no_members = refl
+told_values of (member k d ms) = values_append (parts_at of k d) (parts_of of ms) ∙ ap (λ vs. vs ++ values_in (parts_of of ms)) (values_at_key of k d) ∙ ap (λ vs. value_at of k d ++ vs) (told_values of ms)
 
 -- ---- stored values
 abbrev props_by : ℕ → Option PropId → List PropId → List PropId
@@ -432,25 +461,137 @@ known_after : (of : ObjectType) (n : ℕ) (p : PropId) (v : PropertyValue) {c : 
 known_after of n p v s unknown = value_tells of n p v s
 known_after of n p v s known = known
 
-pub all_pass : (of : ObjectType) (n : ℕ) (vs : Values) (c : Option ℕ) → ((v : PropId × PropertyValue) → Among v vs → Suits of n v.0 v.1) → IsKnown n c → ArePassed of c (named_values of (as_parts vs))
+pub all_pass : (of : ObjectType) (n : ℕ) (xs : List Named) (c : Option ℕ) → ((x : Named) → Among x xs → Suits of n x.property x.value) → IsKnown n c → ArePassed of c xs
 all_pass of n [] c f k = tt
-all_pass of n (v ∷ vs) c f k = (passes of n v.0 v.1 (f v here) k, all_pass of n vs (cols_after c v.0 v.1) (λ w i. f w (there i)) (known_after of n v.0 v.1 (f v here) k))
+all_pass of n (x ∷ xs) c f k = (passes of n x.property x.value (f x here) k, all_pass of n xs (cols_after c x.property x.value) (λ y i. f y (there i)) (known_after of n x.property x.value (f x here) k))
+
+-- ---- a program
+-- a program that is written: it has a name that it may have, its objective is one, and its marks are such
+record IsProgram (p : SavedProgram) : Type 0 where
+  word : is_name (name_told p) ≡ true
+  objective : (rows : List (List Ratio)) → p.objective ≡ Some rows → (is_formed LinearObjective (objective_value rows) ≡ true) × AreFractions (objective_value rows)
+  marks : AreMarks p.failed
+
+abbrev objective_read : SavedProgram → Option PropertyValue
+objective_read p = option_map objective_value p.objective
+
+objective_back : (p : SavedProgram) → IsProgram p → objective_in (program_json p) ≡ Ok (objective_read p)
+objective_back p is = by p.name p.objective is.objective
+  where
+    by : (name : Option (List ℕ)) (o : Option (List (List Ratio))) → ((rows : List (List Ratio)) → o ≡ Some rows → (is_formed LinearObjective (objective_value rows) ≡ true) × AreFractions (objective_value rows))
+        → objective_by (get (codes "LINEAR_OBJECTIVE") (object (with_objective o (with_name name (put (codes "_excluded") (marks_json p.failed) no_members))))) ≡ Ok (option_map objective_value o)
+    by None None f = refl
+    by (Some name) None f = refl
+    by None (Some rows) f = let (form, fractions) = f rows refl in ap (λ r. and_then r (λ v. Ok (Some v))) (values_back LinearObjective (objective_value rows) form fractions)
+    by (Some name) (Some rows) f = let (form, fractions) = f rows refl in ap (λ r. and_then r (λ v. Ok (Some v))) (values_back LinearObjective (objective_value rows) form fractions)
+
+objectives_back : (k : ℕ) (ps : List SavedProgram) → ((p : SavedProgram) → Among p ps → IsProgram p) → k + length ps ≤ 4 → objectives_from k (items_of (map program_json ps)) ≡ Ok (map objective_read ps)
+objectives_back k [] f l = refl
+objectives_back k (p ∷ ps) f l =
+    let room : nat_lt k 4 ≡ true = lt-ltb k 4 (omega (arith, l)) in
+    rw (room, objective_back p (f p here), objectives_back (suc k) ps (λ q i. f q (there i)) (omega (arith, l))) refl
+
+-- marks are read back
+marks_read : (ms : List Mark) → AreMarks ms → list_read same_label mark_of (Some (marks_json ms)) ≡ Some ms
+marks_read ms a =
+    ap (λ r. option_and_then (if_different same_label) r) (marks_back ms a.marks)
+    ∙ ap (λ (t : Bool). if t then Some ms else None) a.labels
+
+program_marks : (p : SavedProgram) → IsProgram p → marks_in (program_json p) ≡ Some p.failed
+program_marks p is = by p.name p.objective ∙ marks_read p.failed is.marks
+  where
+    by : (name : Option (List ℕ)) (o : Option (List (List Ratio)))
+        → list_read same_label mark_of (get (codes "_excluded") (object (with_objective o (with_name name (put (codes "_excluded") (marks_json p.failed) no_members))))) ≡ list_read same_label mark_of (Some (marks_json p.failed))
+    by None None = refl
+    by (Some name) None = refl
+    by None (Some rows) = refl
+    by (Some name) (Some rows) = refl
+
+program_name : (p : SavedProgram) → IsProgram p → program_name_of (program_json p) ≡ Some (name_told p)
+program_name p is = by p.name p.objective is.word
+  where
+    by : (name : Option (List ℕ)) (o : Option (List (List Ratio))) → is_name (unwrap_or name []) ≡ true
+        → program_name_of (object (with_objective o (with_name name (put (codes "_excluded") (marks_json p.failed) no_members)))) ≡ Some (unwrap_or name [])
+    by None o h = absurd (true≢false (sym h))
+    by (Some name) None h = ap (λ (t : Bool). if t then Some name else None) h
+    by (Some name) (Some rows) h = ap (λ (t : Bool). if t then Some name else None) h
+
+marks_each : (ps : List SavedProgram) → ((p : SavedProgram) → Among p ps → IsProgram p) → each_read marks_in (items_of (map program_json ps)) ≡ Some (map (λ p. p.failed) ps)
+marks_each [] f = refl
+marks_each (p ∷ ps) f = rw (program_marks p (f p here), marks_each ps (λ q i. f q (there i))) refl
+
+names_each : (ps : List SavedProgram) → ((p : SavedProgram) → Among p ps → IsProgram p) → each_read program_name_of (items_of (map program_json ps)) ≡ Some (map name_told ps)
+names_each [] f = refl
+names_each (p ∷ ps) f = rw (program_name p (f p here), names_each ps (λ q i. f q (there i))) refl
+
+-- a program again, of its name, its objective and its marks
+program_again : (p : SavedProgram) → IsProgram p → record { name = Some (name_told p); objective = option_map rows_in (objective_read p); failed = p.failed } ≡ p
+program_again p is = ap (λ (n : Option (List ℕ)). record { name = n; objective = option_map rows_in (objective_read p); failed = p.failed }) (named p.name is.word) ∙ ap (λ (o : Option (List (List Ratio))). record { name = p.name; objective = o; failed = p.failed }) (rows p.objective)
+  where
+    named : (name : Option (List ℕ)) → is_name (unwrap_or name []) ≡ true → Some (unwrap_or name []) ≡ name
+    named None h = absurd (true≢false (sym h))
+    named (Some name) h = refl
+
+    rows : (o : Option (List (List Ratio))) → option_map rows_in (option_map objective_value o) ≡ o
+    rows None = refl
+    rows (Some rs) = refl
+
+programs_again : (ps : List SavedProgram) → ((p : SavedProgram) → Among p ps → IsProgram p) → programs_with (map objective_read ps) (map name_told ps) (map (λ p. p.failed) ps) ≡ ps
+programs_again [] f = refl
+programs_again (p ∷ ps) f = ap (λ q. q ∷ programs_with (map objective_read ps) (map name_told ps) (map (λ p. p.failed) ps)) (program_again p (f p here)) ∙ ap (λ qs. p ∷ qs) (programs_again ps (λ q i. f q (there i)))
 
 -- ---- the keys of a file
--- a file without programs
-abbrev plain : ObjectType → ℕ → List Mark → Values → SavedFile
-plain of stored failed vs = record { of = of; values = vs; stored = stored; failed = failed; programs = []; ignored = [] }
-
 abbrev file_members : SavedFile → Members
 file_members f = put (codes "_computed") (array_of (map string (stored_keys f.of f.stored (contents f)))) (contents f)
 
 -- what stands under a key that is no property's
-pub under_key : (f : SavedFile) (k : List ℕ) → f.programs ≡ [] → are_of_table f.of f.values ≡ true → property_named_in f.of k ≡ None → bytes_eq k (codes "_computed") ≡ false → get_member k (file_members f) ≡ get_member k (heading f)
-under_key f k none table n c =
-    past_names k f c ∙ ap (λ ps. get_member k (with_programs ps (with_values f.of f.values (heading f)))) none ∙ others f.of k f.values (heading f) (unnamed f.of k f.values n table)
+pub under_key : (f : SavedFile) (k : List ℕ) → are_of_table f.of f.values ≡ true → property_named_in f.of k ≡ None → bytes_eq k (codes "_computed") ≡ false → bytes_eq k (codes "LP") ≡ false → get_member k (file_members f) ≡ get_member k (heading f)
+under_key f k table n c l =
+    past_names k f c ∙ past_programs k f.programs (with_values f.of f.values (heading f)) l ∙ others f.of k f.values (heading f) (unnamed f.of k f.values n table)
 
-contents_are : (f : SavedFile) → f.programs ≡ [] → contents f ≡ with_values f.of f.values (heading f)
-contents_are f none = ap (λ ps. with_programs ps (with_values f.of f.values (heading f))) none
+-- under the key of programs they stand, where there are such
+abbrev programs_there : List SavedProgram → Option Data
+programs_there [] = None
+programs_there (p ∷ ps) = Some (array_of (map program_json (p ∷ ps)))
+
+programs_stand : (f : SavedFile) → are_of_table f.of f.values ≡ true → get_member (codes "LP") (file_members f) ≡ programs_there f.programs
+programs_stand f table = past_names (codes "LP") f refl ∙ by f.programs
+  where
+    by : (ps : List SavedProgram) → get_member (codes "LP") (with_programs ps (with_values f.of f.values (heading f))) ≡ programs_there ps
+    by [] = others f.of (codes "LP") f.values (heading f) (unnamed f.of (codes "LP") f.values (programs_unnamed f.of) table)
+    by (p ∷ ps) = get_member-put (codes "LP") (array_of (map program_json (p ∷ ps))) (with_values f.of f.values (heading f))
+
+-- each program of a whole file is one
+each_program : (f : SavedFile) → IsWhole f → (p : SavedProgram) → Among p f.programs → IsProgram p
+each_program f w p i = record {
+  word = all_at is_name (map name_told f.programs) w.programs.words (among_map name_told i);
+  objective = λ rows e.
+      let v : Among {X = PropId × PropertyValue} (LinearObjective, objective_value rows) (objective_of p.objective) = subst (λ (o : Option (List (List Ratio))). Among {X = PropId × PropertyValue} (LinearObjective, objective_value rows) (objective_of o)) (sym e) here in
+      let all : Among {X = PropId × PropertyValue} (LinearObjective, objective_value rows) (all_values f) = among_append_right f.values (among_flat (λ (q : SavedProgram). objective_of q.objective) i v) in
+      ((among_All (λ (u : PropId × PropertyValue). Suits f.of w.suit.0 u.0 u.1) all w.suit.1).formed, among_All (λ (u : PropId × PropertyValue). AreFractions u.1) all w.entries);
+  marks = among_All (λ (q : SavedProgram). AreMarks q.failed) i w.marks_of_programs;
+}
+
+few_names : (f : SavedFile) → IsWhole f → length f.programs ≤ 4
+few_names f w = let same = length-map f.programs name_told in let few = leb-true (length (map name_told f.programs)) 4 w.programs.few in omega (arith, same, few)
+
+has_key : (f : SavedFile) (p : SavedProgram) (ps : List SavedProgram) → IsWhole f → f.programs ≡ p ∷ ps → is_programs_key f.of (codes "LP") ≡ true
+has_key f p ps w e = by f.of (w.programs.polytope (some_there_are (length (map name_told f.programs)) (ap (λ qs. length (map name_told qs)) e)))
+  where
+    some_there_are : (n : ℕ) → n ≡ suc (length (map name_told ps)) → nat_lt 0 n ≡ true
+    some_there_are n h = grind (arith, h)
+
+    by : (of : ObjectType) → is_polytope of ≡ true → is_programs_key of (codes "LP") ≡ true
+    by Polytope h = refl
+    by Cone h = absurd (true≢false (sym h))
+    by Fan h = absurd (true≢false (sym h))
+
+-- the programs are read
+programs_read : (f : SavedFile) (p : SavedProgram) (ps : List SavedProgram) → IsWhole f → f.programs ≡ p ∷ ps → objectives_of (array_of (map program_json (p ∷ ps))) ≡ Ok (map objective_read (p ∷ ps))
+programs_read f p ps w e =
+    let most : length (p ∷ ps) ≤ 4 = subst (λ (qs : List SavedProgram). length qs ≤ 4) e (few_names f w) in
+    let few : 0 + length (p ∷ ps) ≤ 4 = omega (arith, most) in
+    objectives_back 0 (p ∷ ps) (λ q i. each_program f w q (subst (λ qs. Among q qs) (sym e) i)) few
 
 -- no property has the name of a key of the profile
 heading_lacks : (f : SavedFile) (p : PropId) → has_property f.of p ≡ true → get_member (name_in f.of p) (heading f) ≡ None
@@ -465,31 +606,39 @@ heading_lacks f p h =
     apart k n e = none_some p (sym n ∙ ap (property_named_in f.of) (sym e) ∙ name_found f.of p h)
 
 -- what stands under the name of a property
-under_name : (f : SavedFile) (p : PropId) → f.programs ≡ [] → get_member (name_in f.of p) (file_members f) ≡ get_member (name_in f.of p) (with_values f.of f.values (heading f))
-under_name f p none = past_names (name_in f.of p) f (not_computed f.of p) ∙ ap (get_member (name_in f.of p)) (contents_are f none)
+under_name : (f : SavedFile) (p : PropId) → get_member (name_in f.of p) (file_members f) ≡ get_member (name_in f.of p) (with_values f.of f.values (heading f))
+under_name f p = past_names (name_in f.of p) f (not_computed f.of p) ∙ past_programs (name_in f.of p) f.programs (with_values f.of f.values (heading f)) (no_programs f.of p)
 
-value_stands : (f : SavedFile) (v : PropId × PropertyValue) → f.programs ≡ [] → IsWhole f → Among v f.values → get_member (name_in f.of v.0) (file_members f) ≡ Some (json_of v.0 v.1)
-value_stands f v none w i = under_name f v.0 none ∙ stands f.of f.values v.0 v.1 (heading f) (all_at (λ (u : PropId × PropertyValue). has_property f.of u.0) f.values w.table i) w.table w.once i
+value_stands : (f : SavedFile) (v : PropId × PropertyValue) → IsWhole f → Among v f.values → get_member (name_in f.of v.0) (file_members f) ≡ Some (json_of v.0 v.1)
+value_stands f v w i = under_name f v.0 ∙ stands f.of f.values v.0 v.1 (heading f) (all_at (λ (u : PropId × PropertyValue). has_property f.of u.0) f.values w.table i) w.table w.once i
 
 value_back : (f : SavedFile) (v : PropId × PropertyValue) → IsWhole f → Among v f.values → reading v.0 (json_of v.0 v.1) ≡ Ok v.1
 value_back f v w i =
-    let suits = among_All (λ (u : PropId × PropertyValue). Suits f.of w.suit.0 u.0 u.1) i w.suit.1 in
-    values_back v.0 v.1 suits.formed (among_All (λ (u : PropId × PropertyValue). AreFractions u.1) i w.entries)
+    let all : Among v (all_values f) = among_append_left (flat_map (λ (p : SavedProgram). objective_of p.objective) f.programs) i in
+    let suits = among_All (λ (u : PropId × PropertyValue). Suits f.of w.suit.0 u.0 u.1) all w.suit.1 in
+    values_back v.0 v.1 suits.formed (among_All (λ (u : PropId × PropertyValue). AreFractions u.1) all w.entries)
 
-file_fine : (f : SavedFile) → f.programs ≡ [] → IsWhole f → AreFine f.of (file_members f)
-file_fine f none w =
+file_fine : (f : SavedFile) → IsWhole f → AreFine f.of (file_members f)
+file_fine f w =
     let keys = array_of (map string (stored_keys f.of f.stored (contents f))) in
-    put_fine f.of (codes "_computed") keys (contents f) (hidden_fine f.of (codes "_computed") keys refl (no_key (codes "_computed") refl f.of) (computed_unnamed f.of))
-    (subst (AreFine f.of) (sym (contents_are f none))
-    (values_fine f.of f.values (heading f) (λ v i. value_fine f.of v.0 v.1 (all_at (λ (u : PropId × PropertyValue). has_property f.of u.0) f.values w.table i) (value_back f v w i)) (heading_fine f)))
+    put_fine f.of (codes "_computed") keys (contents f) (hidden_fine f.of (codes "_computed") keys refl (no_key (codes "_computed") refl f.of) (computed_unnamed f.of)) (by f.programs refl)
+  where
+    values : AreFine f.of (with_values f.of f.values (heading f))
+    values = values_fine f.of f.values (heading f) (λ v i. value_fine f.of v.0 v.1 (all_at (λ (u : PropId × PropertyValue). has_property f.of u.0) f.values w.table i) (value_back f v w i)) (heading_fine f)
+
+    by : (ps : List SavedProgram) → f.programs ≡ ps → AreFine f.of (with_programs ps (with_values f.of f.values (heading f)))
+    by [] e = values
+    by (p ∷ ps) e =
+        let d = array_of (map program_json (p ∷ ps)) in
+        put_fine f.of (codes "LP") d (with_values f.of f.values (heading f)) (programs_fine f.of d (map objective_read (p ∷ ps)) (has_key f p ps w e) (programs_read f p ps w e)) values
 
 file_ascends : (f : SavedFile) → Ascends (file_members f)
 file_ascends f = put_ascends (codes "_computed") (array_of (map string (stored_keys f.of f.stored (contents f)))) (contents f) (contents_ascend f)
 
 -- ---- the values that are read are those of the file
-in_told : (f : SavedFile) (v : PropId × PropertyValue) → f.programs ≡ [] → IsWhole f → Among v f.values → Among v (told f.of (file_members f))
-in_told f v none w i =
-    told_to f.of (file_members f) v.0 v.1 (json_of v.0 v.1) (value_stands f v none w i) (all_at (λ (u : PropId × PropertyValue). has_property f.of u.0) f.values w.table i) (value_back f v w i) (same_form v.0 v.1)
+in_told : (f : SavedFile) (v : PropId × PropertyValue) → IsWhole f → Among v f.values → Among v (told f.of (file_members f))
+in_told f v w i =
+    told_to f.of (file_members f) v.0 v.1 (json_of v.0 v.1) (value_stands f v w i) (all_at (λ (u : PropId × PropertyValue). has_property f.of u.0) f.values w.table i) (value_back f v w i) (same_form v.0 v.1)
 
 value_ok_is : (a b : PropertyValue) (r : Read PropertyValue) → r ≡ Ok a → r ≡ Ok b → a ≡ b
 value_ok_is a b r h k = ap (or_that a) (sym h ∙ k)
@@ -498,8 +647,8 @@ value_ok_is a b r h k = ap (or_that a) (sym h ∙ k)
     or_that x (Ok y) = y
     or_that x (Err why) = x
 
-told_in : (f : SavedFile) (p : PropId) (v : PropertyValue) → f.programs ≡ [] → IsWhole f → Holds p v (told f.of (file_members f)) → Holds p v f.values
-told_in f p v none w i = by (is_of_one f.values p) refl
+told_in : (f : SavedFile) (p : PropId) (v : PropertyValue) → IsWhole f → Holds p v (told f.of (file_members f)) → Holds p v f.values
+told_in f p v w i = by (is_of_one f.values p) refl
   where
     t : IsTold f.of (file_members f) p v
     t = told_from f.of (file_members f) p v (file_ascends f) i
@@ -508,33 +657,33 @@ told_in f p v none w i = by (is_of_one f.values p) refl
     by true e =
         let (u, j, same) = any_to (λ (x : PropId × PropertyValue). same_property p x.0) f.values e in
         let is : p ≡ u.0 = same_property_is p u.0 same in
-        let written : t.d ≡ json_of u.0 u.1 = some_is t.d (json_of u.0 u.1) (sym t.at ∙ ap (λ q. get_member (name_in f.of q) (file_members f)) is ∙ value_stands f u none w j) in
+        let written : t.d ≡ json_of u.0 u.1 = some_is t.d (json_of u.0 u.1) (sym t.at ∙ ap (λ q. get_member (name_in f.of q) (file_members f)) is ∙ value_stands f u w j) in
         let back : v ≡ u.1 = value_ok_is v u.1 (reading p t.d) t.read (ap (λ q. reading q t.d) is ∙ ap (reading u.0) written ∙ value_back f u w j) in
         subst (λ q. Holds q v f.values) (sym is) (subst (λ x. Holds u.0 x f.values) (sym back) j)
     by false e =
-        absurd (none_some t.d (sym (heading_lacks f p t.table) ∙ sym (others f.of (name_in f.of p) f.values (heading f) (unheld f.of p f.values t.table e w.table)) ∙ sym (under_name f p none) ∙ t.at))
+        absurd (none_some t.d (sym (heading_lacks f p t.table) ∙ sym (others f.of (name_in f.of p) f.values (heading f) (unheld f.of p f.values t.table e w.table)) ∙ sym (under_name f p) ∙ t.at))
 
 -- ---- the profile
-stored_told : (f : SavedFile) → f.programs ≡ [] → IsWhole f → (p : PropId) → has f.stored p ≡ true → has (names_held (as_parts (told f.of (file_members f)))) p ≡ true
-stored_told f none w p s =
+stored_told : (f : SavedFile) → IsWhole f → (p : PropId) → has f.stored p ≡ true → has (names_held (parts_of f.of (file_members f))) p ≡ true
+stored_told f w p s =
     let vs = told f.of (file_members f) in
     let (u, j, same) = any_to (λ (x : PropId × PropertyValue). same_property p x.0) f.values (w.stored p s) in
-    ap (λ xs. has (set_of (map (λ (x : PropId × PropertyValue). x.0) xs)) p) (values_of_parts vs)
+    ap (λ xs. has (set_of (map (λ (x : PropId × PropertyValue). x.0) xs)) p) (told_values f.of (file_members f))
     ∙ set_of-has (map (λ x. x.0) vs) p
-    ∙ any_from (λ q. same_property q p) (among_map (λ (x : PropId × PropertyValue). x.0) (in_told f u none w j)) (subst (λ q. same_property q p ≡ true) (same_property_is p u.0 same) (same_property_refl p))
+    ∙ any_from (λ q. same_property q p) (among_map (λ (x : PropId × PropertyValue). x.0) (in_told f u w j)) (subst (λ q. same_property q p ≡ true) (same_property_is p u.0 same) (same_property_refl p))
 
 abbrev stored_of : SavedFile → List PropId
 stored_of f = stored_props f.of f.stored (contents f)
 
-stored_is : (f : SavedFile) → f.programs ≡ [] → IsWhole f → stored_by f.of (names_held (as_parts (told f.of (file_members f)))) (get (codes "_computed") (file_json f)) ≡ Some (set_of (stored_of f))
-stored_is f none w =
-    let held = names_held (as_parts (told f.of (file_members f))) in
+stored_is : (f : SavedFile) → IsWhole f → stored_by f.of (names_held (parts_of f.of (file_members f))) (get (codes "_computed") (file_json f)) ≡ Some (set_of (stored_of f))
+stored_is f w =
+    let held = names_held (parts_of f.of (file_members f)) in
     ap (stored_by f.of held) (get_member-put (codes "_computed") (array_of (map string (stored_keys f.of f.stored (contents f)))) (contents f))
-    ∙ ap (λ r. option_map set_of (option_and_then (if_different same_property) r)) (stored_read f.of f.stored held (contents f) (stored_told f none w))
+    ∙ ap (λ r. option_map set_of (option_and_then (if_different same_property) r)) (stored_read f.of f.stored held (contents f) (stored_told f w))
     ∙ ap (λ (t : Bool). option_map set_of (if t then Some (stored_of f) else None)) (stored_differ f.of f.stored (contents f) (contents_ascend f))
 
-stored_same : (f : SavedFile) → f.programs ≡ [] → IsWhole f → (p : PropId) → has (set_of (stored_of f)) p ≡ has f.stored p
-stored_same f none w p = set_of-has (stored_of f) p ∙ both_ways (list_any (λ q. same_property q p) (stored_of f)) (has f.stored p) to from
+stored_same : (f : SavedFile) → IsWhole f → (p : PropId) → has (set_of (stored_of f)) p ≡ has f.stored p
+stored_same f w p = set_of-has (stored_of f) p ∙ both_ways (list_any (λ q. same_property q p) (stored_of f)) (has f.stored p) to from
   where
     to : list_any (λ q. same_property q p) (stored_of f) ≡ true → has f.stored p ≡ true
     to e = let (q, i, same) = any_to (λ (r : PropId). same_property r p) (stored_of f) e in subst (λ r. has f.stored r ≡ true) (same_property_is q p same) (stored_from f.of f.stored (contents f) q i).kept
@@ -545,41 +694,65 @@ stored_same f none w p = set_of-has (stored_of f) p ∙ both_ways (list_any (λ 
         let is : p ≡ u.0 = same_property_is p u.0 same in
         let table : has_property f.of p ≡ true = subst (λ q. has_property f.of q ≡ true) (sym is) (all_at (λ (x : PropId × PropertyValue). has_property f.of x.0) f.values w.table j) in
         let found : is_some (get_member (name_in f.of p) (contents f)) ≡ true =
-        ap is_some (ap (λ q. get_member (name_in f.of q) (contents f)) is ∙ sym (past_names (name_in f.of u.0) f (not_computed f.of u.0)) ∙ value_stands f u none w j) in
+        ap is_some (ap (λ q. get_member (name_in f.of q) (contents f)) is ∙ sym (past_names (name_in f.of u.0) f (not_computed f.of u.0)) ∙ value_stands f u w j) in
         any_from (λ q. same_property q p) (stored_to f.of f.stored (contents f) p table s found) (same_property_refl p)
 
-marks_are : (f : SavedFile) → f.programs ≡ [] → IsWhole f → marks_in (file_json f) ≡ Some f.failed
-marks_are f none w =
-    ap (list_read same_label mark_of) (under_key f (codes "_excluded") none w.table (excluded_unnamed f.of) refl ∙ get_member-put (codes "_excluded") (marks_json f.failed) (put (codes "_profile") (number (unsigned 2)) (put (codes "_type") (string (type_text f.of)) no_members)))
-    ∙ ap (λ r. option_and_then (if_different same_label) r) (marks_back f.failed w.marks)
-    ∙ ap (λ (t : Bool). if t then Some f.failed else None) w.labels
+marks_are : (f : SavedFile) → IsWhole f → marks_in (file_json f) ≡ Some f.failed
+marks_are f w =
+    ap (list_read same_label mark_of) (under_key f (codes "_excluded") w.table (excluded_unnamed f.of) refl refl ∙ get_member-put (codes "_excluded") (marks_json f.failed) (put (codes "_profile") (number (unsigned 2)) (put (codes "_type") (string (type_text f.of)) no_members)))
+    ∙ marks_read f.failed w.marks
 
-is_newer : (f : SavedFile) → f.programs ≡ [] → IsWhole f → is_profile_2 (file_json f) ≡ true
-is_newer f none w = ap (λ o. is_two (option_and_then as_number o)) (under_key f (codes "_profile") none w.table (profile_unnamed f.of) refl)
+is_newer : (f : SavedFile) → IsWhole f → is_profile_2 (file_json f) ≡ true
+is_newer f w = ap (λ o. is_two (option_and_then as_number o)) (under_key f (codes "_profile") w.table (profile_unnamed f.of) refl refl)
 
-no_programs_in : (f : SavedFile) → f.programs ≡ [] → IsWhole f → programs_in f.of (file_json f) ≡ no_items
-no_programs_in f none w =
-    ap (λ o. if is_programs_key f.of (codes "LP") then programs_by o else no_items) (under_key f (codes "LP") none w.table (programs_unnamed f.of) refl) ∙ by (is_programs_key f.of (codes "LP"))
+abbrev programs_of_file : SavedFile → Items
+programs_of_file f = items_of (map program_json f.programs)
+
+programs_are_in : (f : SavedFile) → IsWhole f → programs_in f.of (file_json f) ≡ programs_of_file f
+programs_are_in f w = ap (λ o. if is_programs_key f.of (codes "LP") then programs_by o else no_items) (programs_stand f w.table) ∙ by f.programs refl
   where
-    by : (b : Bool) → (if b then no_items else no_items) ≡ no_items
-    by true = refl
-    by false = refl
+    nothing : (b : Bool) → (if b then no_items else no_items) ≡ no_items
+    nothing true = refl
+    nothing false = refl
+
+    by : (ps : List SavedProgram) → f.programs ≡ ps → (if is_programs_key f.of (codes "LP") then programs_by (programs_there ps) else no_items) ≡ items_of (map program_json ps)
+    by [] e = nothing (is_programs_key f.of (codes "LP"))
+    by (p ∷ ps) e = ap (λ b. if b then programs_by (programs_there (p ∷ ps)) else no_items) (has_key f p ps w e)
+
+names_are : (f : SavedFile) → IsWhole f → program_names (programs_of_file f) ≡ Some (map name_told f.programs)
+names_are f w =
+    ap (λ r. option_and_then (if_different bytes_eq) r) (names_each f.programs (each_program f w))
+    ∙ ap (λ (t : Bool). if t then Some (map name_told f.programs) else None) (same_test (map name_told f.programs) ∙ w.programs.different)
 
 abbrev profile_of : SavedFile → Profile
-profile_of f = record { stored = set_of (stored_of f); failed = f.failed; names = []; marks = [] }
+profile_of f = record { stored = set_of (stored_of f); failed = f.failed; names = map name_told f.programs; marks = map (λ p. p.failed) f.programs }
 
-profile_is : (f : SavedFile) → f.programs ≡ [] → IsWhole f → profile_in f.of (names_held (as_parts (told f.of (file_members f)))) (file_json f) no_items ≡ Ok (profile_of f)
-profile_is f none w = rw (is_newer f none w, stored_is f none w, marks_are f none w) refl
+profile_is : (f : SavedFile) → IsWhole f → profile_in f.of (names_held (parts_of f.of (file_members f))) (file_json f) (programs_of_file f) ≡ Ok (profile_of f)
+profile_is f w = rw (is_newer f w, stored_is f w, marks_are f w, marks_each f.programs (each_program f w), names_are f w) refl
 
 -- the file that is read
 abbrev file_again : SavedFile → SavedFile
-file_again f = file_with f.of (file_json f) (as_parts (told f.of (file_members f))) (profile_of f)
+file_again f = file_with f.of (file_json f) (parts_of f.of (file_members f)) (profile_of f)
 
-file_is : (f : SavedFile) → f.programs ≡ [] → IsWhole f → file_in f.of (file_json f) (as_parts (told f.of (file_members f))) ≡ Ok (file_again f)
-file_is f none w =
-    let parts = as_parts (told f.of (file_members f)) in
-    ap (λ ds. then_read (profile_in f.of (names_held parts) (file_json f) ds) (λ profile. Ok (file_with f.of (file_json f) parts profile))) (no_programs_in f none w)
-    ∙ ap (λ r. then_read r (λ profile. Ok (file_with f.of (file_json f) parts profile))) (profile_is f none w)
+file_is : (f : SavedFile) → IsWhole f → file_in f.of (file_json f) (parts_of f.of (file_members f)) ≡ Ok (file_again f)
+file_is f w =
+    let parts = parts_of f.of (file_members f) in
+    ap (λ ds. then_read (profile_in f.of (names_held parts) (file_json f) ds) (λ profile. Ok (file_with f.of (file_json f) parts profile))) (programs_are_in f w)
+    ∙ ap (λ r. then_read r (λ profile. Ok (file_with f.of (file_json f) parts profile))) (profile_is f w)
+
+-- the objectives that are read are those of the programs
+objectives_are : (f : SavedFile) → IsWhole f → objectives_in (parts_of f.of (file_members f)) ≡ map objective_read f.programs
+objectives_are f w = by f.programs refl
+  where
+    at : ProgramsAt f.of (get_member (codes "LP") (file_members f)) (objectives_in (parts_of f.of (file_members f)))
+    at = programs_at f.of (file_members f) (parts_of f.of (file_members f)) (file_ascends f) (parts_told f.of (file_members f) (file_fine f w))
+
+    by : (ps : List SavedProgram) → f.programs ≡ ps → objectives_in (parts_of f.of (file_members f)) ≡ map objective_read ps
+    by [] e = none_there f.of at (programs_stand f w.table ∙ ap programs_there e)
+    by (p ∷ ps) e = some_there f.of (array_of (map program_json (p ∷ ps))) (map objective_read (p ∷ ps)) at (programs_stand f w.table ∙ ap programs_there e) (has_key f p ps w e) (programs_read f p ps w e)
+
+same_programs : (f : SavedFile) → IsWhole f → (file_again f).programs ≡ f.programs
+same_programs f w = ap (λ vs. programs_with vs (map name_told f.programs) (map (λ p. p.failed) f.programs)) (objectives_are f w) ∙ programs_again f.programs (each_program f w)
 
 -- ---- it is written as the same bytes
 get_same : (of : ObjectType) (vs ws : Values) (ms : Members) → are_of_table of vs ≡ true → are_of_table of ws ≡ true → are_of_different vs ≡ true → are_of_different ws ≡ true
@@ -618,44 +791,72 @@ keys_same of s t (member k d ms) h = ap (λ b. if b then k ∷ stored_keys of s 
     by None = refl
     by (Some p) = h p
 
-members_same : (f : SavedFile) → f.programs ≡ [] → IsWhole f → file_members (file_again f) ≡ file_members f
-members_same f none w =
+members_same : (f : SavedFile) → IsWhole f → file_members (file_again f) ≡ file_members f
+members_same f w =
     let g = file_again f in
+    let parts = parts_of f.of (file_members f) in
     let vs = told f.of (file_members f) in
-    let m : OfMembers f.of (file_members f) (values_in (as_parts vs)) = of_members f.of (file_members f) (as_parts vs) (file_ascends f) (parts_told f.of (file_members f) (file_fine f none w)) in
-    let table : are_of_table f.of vs ≡ true = subst (λ xs. are_of_table f.of xs ≡ true) (values_of_parts vs) m.table in
-    let once : are_of_different vs ≡ true = subst (λ xs. are_of_different xs ≡ true) (values_of_parts vs) m.once in
+    let m : OfMembers f.of (file_members f) (values_in parts) = of_members f.of (file_members f) parts (file_ascends f) (parts_told f.of (file_members f) (file_fine f w)) in
+    let table : are_of_table f.of vs ≡ true = subst (λ xs. are_of_table f.of xs ≡ true) (told_values f.of (file_members f)) m.table in
+    let once : are_of_different vs ≡ true = subst (λ xs. are_of_different xs ≡ true) (told_values f.of (file_members f)) m.once in
     let values : with_values f.of vs (heading f) ≡ with_values f.of f.values (heading f) =
     same_members (with_values f.of vs (heading f)) (with_values f.of f.values (heading f)) (values_ascend f.of vs (heading f) (heading_ascends f)) (values_ascend f.of f.values (heading f) (heading_ascends f))
-    (get_same f.of vs f.values (heading f) table w.table once w.once (λ v i. told_in f v.0 v.1 none w i) (λ v i. in_told f v none w i)) in
+    (get_same f.of vs f.values (heading f) table w.table once w.once (λ v i. told_in f v.0 v.1 w i) (λ v i. in_told f v w i)) in
     let all : contents g ≡ contents f =
-    contents_are g (no_names (objectives_in (as_parts vs))) ∙ ap (λ xs. with_values f.of xs (heading f)) (values_of_parts vs) ∙ values ∙ sym (contents_are f none) in
+    ap (λ ps. with_programs ps (with_values f.of (values_in parts) (heading f))) (same_programs f w)
+    ∙ ap (λ xs. with_programs f.programs (with_values f.of xs (heading f))) (told_values f.of (file_members f))
+    ∙ ap (with_programs f.programs) values in
     ap (λ ms. put (codes "_computed") (array_of (map string (stored_keys f.of (set_of (stored_of f)) ms))) ms) all
-    ∙ ap (λ ks. put (codes "_computed") (array_of (map string ks)) (contents f)) (keys_same f.of (set_of (stored_of f)) f.stored (contents f) (stored_same f none w))
+    ∙ ap (λ ks. put (codes "_computed") (array_of (map string ks)) (contents f)) (keys_same f.of (set_of (stored_of f)) f.stored (contents f) (stored_same f w))
 
 -- ---- the whole
-type_is : (f : SavedFile) → IsReadType f.of → type_in (file_json f) ≡ Ok f.of
-type_is f t = ap (λ o. then_read (or_else_fault no_type (option_and_then as_str o)) (λ text. or_else_fault unknown_type (type_named text))) (type_stands f) ∙ ap (or_else_fault unknown_type) t
+type_back : (of : ObjectType) → type_named (type_text of) ≡ Some of
+type_back Polytope = refl
+type_back Cone = refl
+type_back Fan = refl
 
-pub returned : (bytes : List ℕ) (f : SavedFile) → IsWhole f → IsReadType f.of → f.programs ≡ [] → data_in bytes ≡ Ok (file_json f) → (g : SavedFile) × Reads bytes g × IsSameFile f g
-returned bytes f w t none found =
-    let vs = told f.of (file_members f) in
-    let s : Seen = record { of = f.of; top = file_json f; parts = as_parts vs } in
+type_is : (f : SavedFile) → type_in (file_json f) ≡ Ok f.of
+type_is f = ap (λ o. then_read (or_else_fault no_type (option_and_then as_str o)) (λ text. or_else_fault unknown_type (type_named text))) (type_stands f) ∙ ap (or_else_fault unknown_type) (type_back f.of)
+
+-- each value that is tested suits the column count of the file
+each_suits : (f : SavedFile) (w : IsWhole f) → (x : Named) → Among x (named_values f.of (parts_of f.of (file_members f))) → Suits f.of w.suit.0 x.property x.value
+each_suits f w x i = elim (from_file f.of (parts_of f.of (file_members f)) x i) [
+  | inl j ↦
+      let own = told_in f x.property x.value w (subst (λ xs. Among {X = PropId × PropertyValue} (x.property, x.value) xs) (told_values f.of (file_members f)) j) in
+      at (x.property, x.value) (among_append_left (flat_map (λ (p : SavedProgram). objective_of p.objective) f.programs) own)
+  | inr e ↦
+      let (p, k, is) = map_among objective_read f.programs (subst (λ vs. Among (Some x.value) vs) (objectives_are f w) e.1) in
+      subst (λ q. Suits f.of w.suit.0 q x.value) (sym e.0) (one p k p.objective refl is)
+]
+  where
+    at : (v : PropId × PropertyValue) → Among v (all_values f) → Suits f.of w.suit.0 v.0 v.1
+    at v j = among_All (λ (u : PropId × PropertyValue). Suits f.of w.suit.0 u.0 u.1) j w.suit.1
+
+    one : (p : SavedProgram) → Among p f.programs → (o : Option (List (List Ratio))) → p.objective ≡ o → Some x.value ≡ option_map objective_value o → Suits f.of w.suit.0 LinearObjective x.value
+    one p k None e is = absurd (none_some x.value (sym is))
+    one p k (Some rows) e is =
+        let v : Among {X = PropId × PropertyValue} (LinearObjective, objective_value rows) (objective_of p.objective) = subst (λ (o : Option (List (List Ratio))). Among {X = PropId × PropertyValue} (LinearObjective, objective_value rows) (objective_of o)) (sym e) here in
+        subst (λ z. Suits f.of w.suit.0 LinearObjective z) (sym (some_is x.value (objective_value rows) is))
+        (at (LinearObjective, objective_value rows) (among_append_right f.values (among_flat (λ (q : SavedProgram). objective_of q.objective) k v)))
+
+pub returned : (bytes : List ℕ) (f : SavedFile) → IsWhole f → data_in bytes ≡ Ok (file_json f) → (g : SavedFile) × Reads bytes g × IsSameFile f g
+returned bytes f w found =
+    let parts = parts_of f.of (file_members f) in
+    let s : Seen = record { of = f.of; top = file_json f; parts = parts } in
     let seen_is : seen bytes ≡ Ok s =
     ap (λ r. then_read r seen_in) found
-    ∙ ap (λ r. then_read r (seen_of (file_json f) (file_members f))) (type_is f t)
-    ∙ ap (λ r. then_read r (λ parts. Ok (record { of = f.of; top = file_json f; parts = parts }))) (parts_told f.of (file_members f) (file_fine f none w)) in
-    let passed : ArePassed f.of None (named_values f.of (as_parts vs)) =
-    all_pass f.of w.suit.0 vs None (λ v i. among_All (λ (u : PropId × PropertyValue). Suits f.of w.suit.0 u.0 u.1) (told_in f v.0 v.1 none w i) w.suit.1) unknown in (
+    ∙ ap (λ r. then_read r (seen_of (file_json f) (file_members f))) (type_is f)
+    ∙ ap (λ r. then_read r (λ parts. Ok (record { of = f.of; top = file_json f; parts = parts }))) (parts_told f.of (file_members f) (file_fine f w)) in
+    let passed : ArePassed f.of None (named_values f.of parts) = all_pass f.of w.suit.0 (named_values f.of parts) None (each_suits f w) unknown in (
       file_again f,
-      (s, seen_is, (passed, file_is f none w)),
+      (s, seen_is, (passed, file_is f w)),
       record {
         of = refl;
-        values = λ v i. Contains_among (subst (λ xs. Among v xs) (sym (values_of_parts vs)) (in_told f v none w (among_Contains f.values i)));
-        no_others = λ v i. Contains_among (told_in f v.0 v.1 none w (subst (λ xs. Among v xs) (values_of_parts vs) (among_Contains (values_in (as_parts vs)) i)));
-        stored = stored_same f none w;
+        values = λ v i. Contains_among (subst (λ xs. Among v xs) (sym (told_values f.of (file_members f))) (in_told f v w (among_Contains f.values i)));
+        no_others = λ v i. Contains_among (told_in f v.0 v.1 w (subst (λ xs. Among v xs) (told_values f.of (file_members f)) (among_Contains (values_in parts) i)));
+        stored = stored_same f w;
         failed = refl;
-        programs = no_names (objectives_in (as_parts vs)) ∙ sym none;
-        again = ap (λ ms. compact_text (object ms) ++ 10 ∷ []) (members_same f none w);
+        programs = same_programs f w;
+        again = ap (λ ms. compact_text (object ms) ++ 10 ∷ []) (members_same f w);
       },
     )

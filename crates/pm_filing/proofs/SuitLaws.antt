@@ -1,13 +1,12 @@
 -- The values of a file that is read suit one column count.
 use Rattle.std.proofs.lemmas.Option.{same_Some as some_is}
-use Rattle.pm_algebra.proofs.Lists.{All_among, Among, here, there, among_append_right}
-use Rattle.pm_filing.specs.FileParts.{FileRead, Part, value, programs, then_read}
-use Rattle.pm_filing.specs.FileReadings.{ArePassed, Named, Reads, cols_of_value, named_objective, named_objectives, named_values}
-use Rattle.pm_files.specs.Files.{SavedFile}
-use Rattle.pm_filing.specs.Profiles.{Profile, file_in, file_with, profile_in, names_held, programs_in, values_in}
+use Rattle.pm_algebra.proofs.Lists.{Among, here, there, among_append, among_append_left, among_append_right}
+use Rattle.pm_filing.specs.FileParts.{Part, value, programs}
+use Rattle.pm_filing.specs.FileReadings.{ArePassed, ArePassedIn, Named, Seen, cols_of_value, named_objective, named_objectives, named_values}
+use Rattle.pm_filing.specs.Profiles.{objectives_in, values_in}
 use Rattle.pm_filing.specs.ReadingViews.{are_formed_values}
-use Rattle.pm_filing.specs.Views.{AllSuit, Suits}
-use Rattle.pm_object.proofs.Formed.{agrees_free, agrees_itself, ambient_is, dimension_of}
+use Rattle.pm_filing.specs.Views.{Suits}
+use Rattle.pm_object.proofs.Formed.{agrees_free, agrees_itself, ambient_is, dimension_of, only}
 use Rattle.pm_object.specs.State.{ambient_in}
 use Rattle.pm_props.proofs.Places.{same_property_is}
 use Rattle.pm_props.specs.Properties.{is_ambient}
@@ -16,11 +15,10 @@ use Rattle.pm_props.specs.declared.property.PropId.{PropId}
 use Rattle.pm_props.specs.declared.property.PropId.TheVariants.{ConeAmbientDim, LinearObjective}
 use Rattle.pm_types.specs.Forms.{HavePrimitiveRows, agrees_with, are_rows, is_formed, stated_cols}
 use Rattle.pm_types.specs.Values.{PropertyValue, whole}
-use Rattle.serde_json.specs.Data.{Data}
 use Rattle.std.proofs.Common.{ap, arith, false, inl, inr, refl, subst, sym, true, true≢false, ◌∙◌}
-use Rattle.std.specs.List.{All, list_all}
+use Rattle.std.specs.List.{list_all}
 use Rattle.std.specs.Option.{is_some}
-use Rattle.std.specs.Prelude.{Bool, Err, List, None, Ok, Option, Some, [], if◌then◌else◌, nat_eq, ℕ, ◌&&◌, ◌++◌, ◌∷◌, ◌≡◌, ◌⊎◌}
+use Rattle.std.specs.Prelude.{Bool, List, None, Option, Some, [], if◌then◌else◌, nat_eq, ℕ, ◌&&◌, ◌++◌, ◌∷◌, ◌≡◌, ◌⊎◌}
 use lib.IntN.{pos}
 
 -- the value passes the tests of columns and rows where n columns are known
@@ -91,74 +89,57 @@ one_count of (y ∷ xs) d (p, h) = by (cols_of_value y.property y.value) refl h 
         (n, cons_agree of n y xs (record { columns = others_agree n y.property y.value (d y here) e; rows = p.rows; primitive = p.primitive }) all)
 
 -- ---- the values of a file among those that are tested
-first_or : {X : Type 0} {x y : X} {ys : List X} → Among x (y ∷ ys) → (x ≡ y) ⊎ Among x ys
-first_or here = inl refl
-first_or (there i) = inr i
+pub record Tested (of : ObjectType) (parts : List Part) (v : PropId × PropertyValue) : Type 0 where
+  pub x : Named
+  pub among : Among x (named_values of parts)
+  pub property : x.property ≡ v.0
+  pub value : x.value ≡ v.1
 
-record Tested (of : ObjectType) (parts : List Part) (v : PropId × PropertyValue) : Type 0 where
-  x : Named
-  among : Among x (named_values of parts)
-  property : x.property ≡ v.0
-  value : x.value ≡ v.1
-
-is_tested : (of : ObjectType) (parts : List Part) {v : PropId × PropertyValue} → Among v (values_in parts) → Tested of parts v
+pub is_tested : (of : ObjectType) (parts : List Part) {v : PropId × PropertyValue} → Among v (values_in parts) → Tested of parts v
 is_tested of [] i = elim i [ ]
 is_tested of (value p w ∷ parts) here = record { x = _; among = here; property = refl; value = refl }
 is_tested of (value p w ∷ parts) (there i) = let t = is_tested of parts i in record { x = t.x; among = there t.among; property = t.property; value = t.value }
 is_tested of (programs vs ∷ parts) i = let t = is_tested of parts i in record { x = t.x; among = among_append_right (named_objectives vs) t.among; property = t.property; value = t.value }
 
+-- so is an objective
+pub objective_tested : (of : ObjectType) (parts : List Part) (v : PropertyValue) → Among (Some v) (objectives_in parts) → Tested of parts (LinearObjective, v)
+objective_tested of [] v i = elim i [ ]
+objective_tested of (value p w ∷ parts) v i = let t = objective_tested of parts v i in record { x = t.x; among = there t.among; property = t.property; value = t.value }
+objective_tested of (programs vs ∷ parts) v i = elim (among_append vs (objectives_in parts) i) [
+  | inl j ↦ let (x, k, p, w) = named vs j in record { x = x; among = among_append_left (named_values of parts) k; property = p; value = w }
+  | inr j ↦ let t = objective_tested of parts v j in record { x = t.x; among = among_append_right (named_objectives vs) t.among; property = t.property; value = t.value }
+]
+  where
+    named : (us : List (Option PropertyValue)) → Among (Some v) us → (x : Named) × Among x (named_objectives us) × (x.property ≡ LinearObjective) × (x.value ≡ v)
+    named (u ∷ us) here = (_, here, refl, refl)
+    named (u ∷ us) (there j) = let (x, k, p, w) = named us j in (x, among_append_right (named_objective u) k, p, w)
+    named [] j = elim j [ ]
+
 -- a value that is tested is one of the file, or an objective
-from_file : (of : ObjectType) (parts : List Part) (x : Named) → Among x (named_values of parts) → Among (x.property, x.value) (values_in parts) ⊎ (x.property ≡ LinearObjective)
+pub from_file : (of : ObjectType) (parts : List Part) (x : Named) → Among x (named_values of parts) → Among (x.property, x.value) (values_in parts) ⊎ ((x.property ≡ LinearObjective) × Among (Some x.value) (objectives_in parts))
 from_file of [] x i = elim i [ ]
 from_file of (value p w ∷ parts) x here = inl here
 from_file of (value p w ∷ parts) x (there i) = elim (from_file of parts x i) [ inl j ↦ inl (there j) | inr e ↦ inr e ]
-from_file of (programs vs ∷ parts) x i = by vs i (λ j. from_file of parts x j)
+from_file of (programs vs ∷ parts) x i = elim (among_append (named_objectives vs) (named_values of parts) i) [
+  | inl j ↦ let (e, k) = named vs j in inr (e, among_append_left (objectives_in parts) k)
+  | inr j ↦ later (from_file of parts x j)
+]
   where
-    one : (v : Option PropertyValue) (ys : List Named) → Among x (named_objective v ++ ys) → (x.property ≡ LinearObjective) ⊎ Among x ys
-    one None ys j = inr j
-    one (Some w) ys j = elim (first_or j) [ inl e ↦ inl (ap (λ (z : Named). z.property) e) | inr k ↦ inr k ]
+    one : (v : Option PropertyValue) → Among x (named_objective v) → (x.property ≡ LinearObjective) × (v ≡ Some x.value)
+    one None j = elim j [ ]
+    one (Some w) j = let same = only j in (ap (λ (z : Named). z.property) same, ap (λ (z : Named). Some z.value) (sym same))
 
-    grouped : (v : Option PropertyValue) (ys zs : List Named) → (named_objective v ++ ys) ++ zs ≡ named_objective v ++ (ys ++ zs)
-    grouped None ys zs = refl
-    grouped (Some w) ys zs = refl
-
-    by : (us : List (Option PropertyValue)) → Among x (named_objectives us ++ named_values of parts)
-        → (Among x (named_values of parts) → Among (x.property, x.value) (values_in parts) ⊎ (x.property ≡ LinearObjective)) → Among (x.property, x.value) (values_in parts) ⊎ (x.property ≡ LinearObjective)
-    by [] j rest = rest j
-    by (u ∷ us) j rest = elim (one u (named_objectives us ++ named_values of parts) (subst (λ z. Among x z) (grouped u (named_objectives us) (named_values of parts)) j)) [
-      | inl e ↦ inr e
-      | inr k ↦ by us k rest
+    named : (us : List (Option PropertyValue)) → Among x (named_objectives us) → (x.property ≡ LinearObjective) × Among (Some x.value) us
+    named [] j = elim j [ ]
+    named (u ∷ us) j = elim (among_append (named_objective u) (named_objectives us) j) [
+      | inl k ↦ let (e, same) = one u k in (e, subst (λ z. Among z (u ∷ us)) same here)
+      | inr k ↦ let (e, l) = named us k in (e, there l)
     ]
 
+    later : Among (x.property, x.value) (values_in parts) ⊎ ((x.property ≡ LinearObjective) × Among (Some x.value) (objectives_in parts)) → Among (x.property, x.value) (values_in parts) ⊎ ((x.property ≡ LinearObjective) × Among (Some x.value) (vs ++ objectives_in parts))
+    later r = elim r [ inl j ↦ inl j | inr e ↦ inr (e.0, among_append_right vs e.1) ]
+
 -- ---- the whole
-abbrev ok_of : SavedFile → FileRead SavedFile
-ok_of f = Ok f
-
-record OfParts (of : ObjectType) (parts : List Part) (f : SavedFile) : Type 0 where
-  type : f.of ≡ of
-  values : f.values ≡ values_in parts
-
-ok_is : (a b : SavedFile) → ok_of a ≡ ok_of b → a ≡ b
-ok_is a b h = ap file_at h
-  where
-    file_at : FileRead SavedFile → SavedFile
-    file_at (Ok x) = x
-    file_at (Err w) = a
-
-of_parts : (of : ObjectType) (d : Data) (parts : List Part) (f : SavedFile) → file_in of d parts ≡ Ok f → OfParts of parts f
-of_parts of d parts f e = by (profile_in of (names_held parts) d (programs_in of d)) e
-  where
-    by : (r : FileRead Profile) → then_read r (λ profile. Ok (file_with of d parts profile)) ≡ Ok f → OfParts of parts f
-    by (Ok p) h = let same = ok_is _ _ h in record { type = sym (ap (λ (z : SavedFile). z.of) same); values = sym (ap (λ (z : SavedFile). z.values) same) }
-    by (Err w) h = absurd (not_both (ap is_read h))
-      where
-        is_read : FileRead SavedFile → Bool
-        is_read (Ok x) = true
-        is_read (Err v) = false
-
-        not_both : is_read (Err w) ≡ is_read (Ok f) → ⊥
-        not_both k = true≢false (sym k)
-
 pub all_at : {X : Type 0} (p : X → Bool) {x : X} (xs : List X) → list_all p xs ≡ true → Among x xs → p x ≡ true
 all_at p [] h i = elim i [ ]
 all_at p (y ∷ xs) h here = left (p y) (list_all p xs) h
@@ -172,33 +153,28 @@ all_at p (y ∷ xs) h (there i) = all_at p xs (right (p y) (list_all p xs) h) i
     right true b k = k
     right false b k = absurd (true≢false (sym k))
 
--- what is read as a file, whose values have their forms
-pub read_suits : (bytes : List ℕ) (f : SavedFile) → Reads bytes f → are_formed_values f.values ≡ true → AllSuit f.of f.values
-read_suits bytes f (s, seen, (passed, is)) formed =
-    (count.0, subst (λ of. All (λ (v : PropId × PropertyValue). Suits of count.0 v.0 v.1) f.values) (sym parts.type) (All_among (λ (v : PropId × PropertyValue). Suits s.of count.0 v.0 v.1) f.values suits))
+-- what is tested suits one column count, where it has its form
+pub record TestedSuits (s : Seen) : Type 0 where
+  pub count : ℕ
+  pub suits : (v : PropId × PropertyValue) → Tested s.of s.parts v → is_formed v.0 v.1 ≡ true → Suits s.of count v.0 v.1
+
+pub tested_suits : (s : Seen) → ArePassedIn s → are_formed_values (values_in s.parts) ≡ true → TestedSuits s
+tested_suits s passed formed = record { count = count.0; suits = suits }
   where
-    parts : OfParts s.of s.parts f
-    parts = of_parts s.of s.top s.parts f is
-
-    formed_at : (v : PropId × PropertyValue) → Among v (values_in s.parts) → is_formed v.0 v.1 ≡ true
-    formed_at v i = all_at (λ (w : PropId × PropertyValue). is_formed w.0 w.1) (values_in s.parts) (subst (λ z. are_formed_values z ≡ true) parts.values formed) i
-
     dimensions : Dimensions (named_values s.of s.parts)
     dimensions x i a = elim (from_file s.of s.parts x i) [
-      | inl j ↦ formed_at (x.property, x.value) j
-      | inr e ↦ absurd (true≢false (sym (ap is_ambient (sym e) ∙ a)))
+      | inl j ↦ all_at (λ (w : PropId × PropertyValue). is_formed w.0 w.1) (values_in s.parts) formed j
+      | inr e ↦ absurd (true≢false (sym (ap is_ambient (sym e.0) ∙ a)))
     ]
 
     count : (n : ℕ) × AllAgree s.of n (named_values s.of s.parts)
     count = one_count s.of (named_values s.of s.parts) dimensions passed
 
-    suits : (v : PropId × PropertyValue) → Among v f.values → Suits s.of count.0 v.0 v.1
-    suits v i =
-        let j = subst (λ z. Among v z) parts.values i in
-        let t = is_tested s.of s.parts j in
+    suits : (v : PropId × PropertyValue) → Tested s.of s.parts v → is_formed v.0 v.1 ≡ true → Suits s.of count.0 v.0 v.1
+    suits v t form =
         let a = count.1 t.x t.among in
         record {
-          formed = formed_at v j;
+          formed = form;
           columns = subst (λ w. agrees_with count.0 v.0 w ≡ true) t.value (subst (λ p. agrees_with count.0 p t.x.value ≡ true) t.property a.columns);
           rows = subst (λ w. are_rows s.of v.0 w ≡ true) t.value (subst (λ p. are_rows s.of p t.x.value ≡ true) t.property a.rows);
           primitive = subst HavePrimitiveRows t.value a.primitive;

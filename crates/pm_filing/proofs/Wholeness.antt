@@ -1,25 +1,36 @@
 -- A file that was read is whole.
 use Rattle.std.proofs.lemmas.Option.{none-some as none_some, same_Some as some_is}
-use Rattle.std.proofs.Common.{refl, sym, ap, subst, ◌∙◌, ◌≡◌, ◌++◌, ◌∷◌, ◌&&◌, ℕ, List, [], Option, Some, None, Ok, Err, Bool, true, false, true≢false, Ordering, Less, Equal, Greater}
-use Rattle.std.proofs.lemmas.Bool.{and_from}
+use Rattle.std.proofs.Common.{refl, sym, ap, arith, inl, inr, length-append, subst, ◌∙◌, ◌≡◌, ◌≤◌, ◌<◌, ◌++◌, ◌∷◌, ◌&&◌, ℕ, List, [], Option, Some, None, Ok, Err, Bool, true, false, true≢false, Ordering, Less, Equal, Greater}
+use Rattle.std.proofs.lemmas.Bool.{and_from, le-leb, ltb-true}
 use Rattle.std.specs.List.{All, list_all}
 use Rattle.std.specs.Option.{is_some}
 use Rattle.std.specs.Ordering.{match_ordering, nat_cmp}
 use Rattle.std.specs.Cmp.Lexicographic.{slice_cmp}
-use Rattle.std.specs.Prelude.{codes, if◌then◌else◌, length, map, nat_le, not, option_and_then, option_map}
+use Rattle.std.specs.Prelude.{codes, if◌then◌else◌, flat_map, length, map, nat_le, nat_lt, not, option_and_then, option_map}
 use Rattle.std.specs.Str.{bytes_eq, is_utf8}
 use Rattle.pm_algebra.proofs.Filters.{any_from, any_to, map_among}
-use Rattle.pm_algebra.proofs.Lists.{All_among, Among, here, there}
+use Rattle.pm_algebra.proofs.Lists.{All_among, Among, among_All, among_append, among_append_left, here, there}
 use Rattle.pm_files.proofs.Ascending.{Ascends, found_first, none_at, read_ascends}
-use Rattle.pm_files.specs.Files.{Mark, SavedFile}
+use Rattle.pm_files.specs.Files.{Mark, SavedFile, SavedProgram}
 use Rattle.pm_filing.proofs.HeldSets.{set_of-has}
-use Rattle.pm_filing.proofs.SuitLaws.{read_suits}
+use Rattle.pm_filing.proofs.FileParts.{objectives-formed, values-formed}
+use Rattle.pm_filing.proofs.FlatLists.{flat_among}
+use Rattle.pm_filing.proofs.Objectives.{objective_is}
+use Rattle.pm_filing.proofs.ProgramsRead.{AreNames, IsFront, count, each_count, few_programs, front_names, names_front, of_read, only_polytopes, plain_count, plain_differ, plain_words, programs_at, same_test}
+use Rattle.pm_filing.proofs.SuitLaws.{Tested, TestedSuits, all_at, is_tested, objective_tested, tested_suits}
+use Rattle.pm_filing.specs.Filing.{name_told}
 use Rattle.pm_filing.specs.FileParts.{FileFault, FileRead, Part, at_key, data_in, json_in, longest_file, members_in, no_type, not_json, objectives_of, or_else_fault, part_at, parts_in, programs, programs_part, property_at, read_as, then_read, too_long, type_in, value, value_part, is_programs_key, is_other_form}
-use Rattle.pm_filing.specs.FileReadings.{Named, ReadsSeen, Seen, named_objectives, named_values, seen, seen_in, seen_of}
-use Rattle.pm_filing.specs.Profiles.{Profile, are_different, different_read, each_read, evidence_of, file_with, full_profile, if_different, if_held, is_profile_2, list_read, mark_among, mark_by, mark_of, mark_with, marks_in, names_held, or_bad, plain_profile, profile_in, program_names, programs_in, same_label, stored_by, stored_property, values_in}
-use Rattle.pm_filing.specs.ReadingViews.{HaveFractions, are_formed_values}
-use Rattle.pm_filing.specs.Views.{AllSuit}
-use Rattle.pm_filing.specs.Whole.{IsWhole, are_of_different, are_of_table, is_mark, is_of_one}
+use Rattle.pm_filing.specs.FileReadings.{Named, ReadsSeen, Seen, named_values, seen, seen_in, seen_of}
+use Rattle.pm_filing.specs.Profiles.{Profile, are_different, different_read, each_read, evidence_of, file_with, full_profile, if_different, if_held, if_name, is_profile_2, list_read, mark_among, mark_by, mark_of, mark_with, marks_in, names_held, no_marks, objectives_in, or_bad, plain_profile, profile_in, program_name_of, program_names, programs_by, programs_in, programs_with, same_label, stored_by, stored_property, values_in}
+use Rattle.pm_filing.specs.ReadingViews.{HaveFractions, are_formed_parts, is_formed_objective}
+use Rattle.pm_filing.specs.Views.{AllSuit, Suits}
+use Rattle.pm_filing.specs.Whole.{AreMarks, IsWhole, all_values, are_of_different, are_of_table, is_mark, is_of_one, objective_of}
+use Rattle.pm_object.proofs.Formed.{only}
+use Rattle.pm_object.specs.Formed.{are_different as names_differ}
+use Rattle.pm_object.specs.State.{is_polytope}
+use Rattle.pm_algebra.specs.Numbers.{Ratio}
+use Rattle.pm_props.specs.NameWords.{is_name}
+use Rattle.pm_props.specs.declared.property.PropId.TheVariants.{LinearObjective}
 use Rattle.pm_json.specs.Readings.{Read, and_then, reading}
 use Rattle.pm_props.proofs.Members.{has-empty}
 use Rattle.pm_props.proofs.NameLemmas.{named_in_exactly}
@@ -31,9 +42,9 @@ use Rattle.pm_props.specs.Sets.{has, set_of}
 use Rattle.pm_props.specs.declared.object_type.ObjectType.{ObjectType}
 use Rattle.pm_props.specs.declared.property.PropId.{PropId}
 use Rattle.pm_rules.specs.Words.{is_label}
-use Rattle.pm_types.specs.Forms.{AreFractions}
+use Rattle.pm_types.specs.Forms.{AreFractions, is_formed, rows_in}
 use Rattle.pm_types.specs.Values.{PropertyValue}
-use Rattle.serde_json.specs.Data.{Data, Items, Members, item, member, no_items, no_members}
+use Rattle.serde_json.specs.Data.{Data, Items, Members, array, boolean, item, member, no_items, no_members, null, number, object, string}
 use Rattle.serde_json.specs.Find.{as_array, as_object, as_str, get, get_member}
 use Rattle.serde_json.specs.Read.{read}
 
@@ -135,7 +146,7 @@ one_part of k d part h = by (is_programs_key of k) (key_from k _ part h)
     by true g = objectives (objectives_of d) g
     by false g = at (property_named_in of k) refl g
 
-values_append : (xs ys : List Part) → values_in (xs ++ ys) ≡ values_in xs ++ values_in ys
+pub values_append : (xs ys : List Part) → values_in (xs ++ ys) ≡ values_in xs ++ values_in ys
 values_append [] ys = refl
 values_append (value p v ∷ xs) ys = ap (λ l. (p, v) ∷ l) (values_append xs ys)
 values_append (programs vs ∷ xs) ys = values_append xs ys
@@ -206,7 +217,7 @@ each_from {A} read_item (item d ds) xs h x i =
 list_was_read : {A : Type 0} (same : A → A → Bool) (read_item : Data → Option A) (found : Option Data) (xs : List A) → list_read same read_item found ≡ Some xs → WasRead same read_item xs
 list_was_read {A} same read_item None xs h = subst (λ (ys : List A). WasRead same read_item ys) (some_is [] xs h) (record { different = refl; each = λ x i. elim i [ ] })
 list_was_read {A} same read_item (Some d) xs h =
-    let (ds, array, k) = then_from (different_read same read_item) (as_array d) xs h in
+    let (ds, listed, k) = then_from (different_read same read_item) (as_array d) xs h in
     let (ys, each, g) = then_from (if_different same) (each_read read_item ds) xs k in
     let (different, is) = if_from (are_different same ys) (Some ys) xs g in
     subst (λ (zs : List A). WasRead same read_item zs) (some_is ys xs is) (record { different = different; each = each_from read_item ds ys each })
@@ -267,54 +278,139 @@ mark_among_from (item label (item text no_items)) m h = mark_by_from (as_str lab
 mark_among_from (item label (item text (item d ds))) m h = absurd (none_some m h)
 
 mark_from : (d : Data) (m : Mark) → mark_of d ≡ Some m → is_mark m ≡ true
-mark_from d m h = let (ds, array, k) = then_from mark_among (as_array d) m h in mark_among_from ds m k
+mark_from d m h = let (ds, listed, k) = then_from mark_among (as_array d) m h in mark_among_from ds m k
 
 pub all_among : {A : Type 0} (test : A → Bool) (xs : List A) → ((x : A) → Among x xs → test x ≡ true) → list_all test xs ≡ true
 all_among test [] f = refl
 all_among test (x ∷ xs) f = and_from (test x) (list_all test xs) (f x here) (all_among test xs (λ y i. f y (there i)))
 
--- ---- the profile
-record WholeProfile (vs : List (PropId × PropertyValue)) (p : Profile) : Type 0 where
-  stored : (q : PropId) → has p.stored q ≡ true → is_of_one vs q ≡ true
-  marks : list_all is_mark p.failed ≡ true
-  labels : are_different same_label p.failed ≡ true
+marks_from : (d : Data) (ms : List Mark) → marks_in d ≡ Some ms → AreMarks ms
+marks_from d ms h =
+    let r = list_was_read same_label mark_of (get (codes "_excluded") d) ms h in
+    record { marks = all_among is_mark ms (λ x i. let (e, k) = r.each x i in mark_from e x k); labels = r.different }
 
-profile_from : (of : ObjectType) (parts : List Part) (d : Data) (ds : Items) (p : Profile) → profile_in of (names_held parts) d ds ≡ Ok p → WholeProfile (values_in parts) p
+pub marks_of_all : (ps : List SavedProgram) → All (λ (p : SavedProgram). AreMarks p.failed) ps → list_all (λ p. list_all is_mark p.failed) ps ≡ true
+marks_of_all ps h = all_among (λ (p : SavedProgram). list_all is_mark p.failed) ps (λ p i. (among_All (λ (q : SavedProgram). AreMarks q.failed) i h).marks)
+
+-- the own values of a whole file suit one column count
+pub own_suit : (f : SavedFile) → IsWhole f → AllSuit f.of f.values
+own_suit f w = (
+  w.suit.0,
+  All_among (λ (v : PropId × PropertyValue). Suits f.of w.suit.0 v.0 v.1) f.values (λ v i.
+      among_All (λ (u : PropId × PropertyValue). Suits f.of w.suit.0 u.0 u.1) (among_append_left (flat_map (λ (p : SavedProgram). objective_of p.objective) f.programs) i) w.suit.1),
+)
+
+-- ---- the profile
+record WholeProfile (vs : List (PropId × PropertyValue)) (ds : Items) (p : Profile) : Type 0 where
+  stored : (q : PropId) → has p.stored q ≡ true → is_of_one vs q ≡ true
+  marks : AreMarks p.failed
+  names : count ds ≤ 4 → AreNames p.names
+  number : length p.names ≡ count ds
+  each : (ms : List Mark) → Among ms p.marks → AreMarks ms
+
+word_from : (d : Data) (name : List ℕ) → program_name_of d ≡ Some name → is_name name ≡ true
+word_from d name h =
+    let (word, found, k) = then_from if_name (option_and_then as_str (get (codes "_name") d)) name h in
+    let (t, is) = if_from (is_name word) (Some word) name k in
+    subst (λ z. is_name z ≡ true) (some_is word name is) t
+
+names_from : (ds : Items) (names : List (List ℕ)) → program_names ds ≡ Some names → (length names ≡ count ds) × (list_all is_name names ≡ true) × (names_differ names ≡ true)
+names_from ds names h =
+    let (ys, each, g) = then_from (if_different bytes_eq) (each_read program_name_of ds) names h in
+    let (different, is) = if_from (are_different bytes_eq ys) (Some ys) names g in
+    let same : ys ≡ names = some_is ys names is in
+    let read : each_read program_name_of ds ≡ Some names = each ∙ ap Some same in (
+      each_count program_name_of ds names read,
+      all_among is_name names (λ x i. let (d, e) = each_from program_name_of ds names read x i in word_from d x e),
+      subst (λ zs. names_differ zs ≡ true) same (sym (same_test ys) ∙ different),
+    )
+
+no_mark_among : (ds : Items) (ms : List Mark) → Among ms (no_marks ds) → AreMarks ms
+no_mark_among no_items ms i = elim i [ ]
+no_mark_among (item d ds) ms here = record { marks = refl; labels = refl }
+no_mark_among (item d ds) ms (there i) = no_mark_among ds ms i
+
+profile_from : (of : ObjectType) (parts : List Part) (d : Data) (ds : Items) (p : Profile) → profile_in of (names_held parts) d ds ≡ Ok p → WholeProfile (values_in parts) ds p
 profile_from of parts d ds p h = by (is_profile_2 d) h
   where
     held : ℕ
     held = names_held parts
 
-    full : full_profile of held d ds ≡ Ok p → WholeProfile (values_in parts) p
+    full : full_profile of held d ds ≡ Ok p → WholeProfile (values_in parts) ds p
     full g =
         let (stored, s, g1) = ok_from (or_bad (codes "_computed") (stored_by of held (get (codes "_computed") d))) _ p g in
         let (failed, m, g2) = ok_from (or_bad (codes "_excluded") (marks_in d)) _ p g1 in
         let (marks, n, g3) = ok_from (or_bad (codes "_excluded") (each_read marks_in ds)) _ p g2 in
         let (names, o, g4) = ok_from (or_bad (codes "_name") (program_names ds)) _ p g3 in
         let is = ok_is _ p g4 in
-        let r = list_was_read same_label mark_of (get (codes "_excluded") d) failed (some_from _ (marks_in d) failed m) in
-        subst (λ (z : Profile). WholeProfile (values_in parts) z) is (record {
+        let told = names_from ds names (some_from _ (program_names ds) names o) in
+        subst (λ (z : Profile). WholeProfile (values_in parts) ds z) is (record {
           stored = stored_from of parts (get (codes "_computed") d) stored (some_from _ (stored_by of held (get (codes "_computed") d)) stored s);
-          marks = all_among is_mark failed (λ x i. let (e, k) = r.each x i in mark_from e x k);
-          labels = r.different;
+          marks = marks_from d failed (some_from _ (marks_in d) failed m);
+          names = λ few. record { few = subst (λ k. k ≤ 4) (sym told.0) few; words = told.1; different = told.2 };
+          number = told.0;
+          each = λ ms i. let (e, k) = each_from marks_in ds marks (some_from _ (each_read marks_in ds) marks n) ms i in marks_from e ms k;
         })
 
-    by : (b : Bool) → (if b then full_profile of held d ds else Ok (plain_profile ds)) ≡ Ok p → WholeProfile (values_in parts) p
+    by : (b : Bool) → (if b then full_profile of held d ds else Ok (plain_profile ds)) ≡ Ok p → WholeProfile (values_in parts) ds p
     by true g = full g
-    by false g = subst (λ (z : Profile). WholeProfile (values_in parts) z) (ok_is (plain_profile ds) p g) (record { stored = λ q t. absurd (true≢false (sym t ∙ has-empty q)); marks = refl; labels = refl })
+    by false g = subst (λ (z : Profile). WholeProfile (values_in parts) ds z) (ok_is (plain_profile ds) p g) (record {
+      stored = λ q t. absurd (true≢false (sym t ∙ has-empty q));
+      marks = record { marks = refl; labels = refl };
+      names = λ few. record { few = subst (λ k. k ≤ 4) (sym (plain_count 0 ds)) few; words = plain_words ds few; different = plain_differ ds few };
+      number = plain_count 0 ds;
+      each = λ ms i. no_mark_among ds ms i;
+    })
+
+-- ---- the values and objectives
+record OfFile (of : ObjectType) (parts : List Part) (v : PropId × PropertyValue) : Type 0 where
+  tested : Tested of parts v
+  formed : is_formed v.0 v.1 ≡ true
+
+objective_formed : (parts : List Part) (v : PropertyValue) → are_formed_parts parts ≡ true → Among (Some v) (objectives_in parts) → is_formed LinearObjective v ≡ true
+objective_formed parts v h i = all_at is_formed_objective (objectives_in parts) (objectives-formed parts h) i
+
+all_of_file : (of : ObjectType) (parts : List Part) (names : List (List ℕ)) (marks : List (List Mark)) → are_formed_parts parts ≡ true → (v : PropId × PropertyValue)
+    → Among v (values_in parts ++ flat_map (λ p. objective_of p.objective) (programs_with (objectives_in parts) names marks)) → OfFile of parts v
+all_of_file of parts names marks formed v i = elim (among_append (values_in parts) (flat_map (λ (p : SavedProgram). objective_of p.objective) (programs_with (objectives_in parts) names marks)) i) [
+  | inl j ↦ record { tested = is_tested of parts j; formed = all_at (λ (w : PropId × PropertyValue). is_formed w.0 w.1) (values_in parts) (values-formed parts formed) j }
+  | inr j ↦ by_program (flat_among (λ (p : SavedProgram). objective_of p.objective) (programs_with (objectives_in parts) names marks) j)
+]
+  where
+    one : (w : Option PropertyValue) → Among w (objectives_in parts) → Among v (objective_of (option_map rows_in w)) → OfFile of parts v
+    one None k l = elim l [ ]
+    one (Some x) k l =
+        let form = objective_formed parts x formed k in
+        let same : v ≡ (LinearObjective, x) = only l ∙ ap (λ (z : PropertyValue). (LinearObjective, z)) (objective_is x form) in
+        subst (λ (z : PropId × PropertyValue). OfFile of parts z) (sym same) (record { tested = objective_tested of parts x k; formed = form })
+
+    by_program : (p : SavedProgram) × Among p (programs_with (objectives_in parts) names marks) × Among v (objective_of p.objective) → OfFile of parts v
+    by_program (p, k, l) =
+        let r = of_read (objectives_in parts) names marks p k in
+        one r.v r.among (subst (λ (o : Option (List (List Ratio))). Among v (objective_of o)) r.objective l)
+
+fractions_at : (xs : List Named) → HaveFractions xs → (x : Named) → Among x xs → AreFractions x.value
+fractions_at [] h x i = elim i [ ]
+fractions_at (y ∷ xs) h x here = h.0
+fractions_at (y ∷ xs) h x (there i) = fractions_at xs h.1 x i
 
 -- ---- the whole
-entries_from : (of : ObjectType) (parts : List Part) → HaveFractions (named_values of parts) → (v : PropId × PropertyValue) → Among v (values_in parts) → AreFractions v.1
-entries_from of [] h v i = elim i [ ]
-entries_from of (value p w ∷ parts) h v here = h.0
-entries_from of (value p w ∷ parts) h v (there i) = entries_from of parts h.1 v i
-entries_from of (programs vs ∷ parts) h v i = entries_from of parts (behind (named_objectives vs) h) v i
-  where
-    behind : (xs : List Named) → HaveFractions (xs ++ named_values of parts) → HaveFractions (named_values of parts)
-    behind [] g = g
-    behind (x ∷ xs) g = behind xs g.1
+got : (k : List ℕ) (d : Data) (ms : Members) → as_object d ≡ Some ms → get k d ≡ get_member k ms
+got k null ms h = absurd (none_some ms h)
+got k (boolean b) ms h = absurd (none_some ms h)
+got k (number n) ms h = absurd (none_some ms h)
+got k (string s) ms h = absurd (none_some ms h)
+got k (array ds) ms h = absurd (none_some ms h)
+got k (object ns) ms h = ap (get_member k) (some_is ns ms h)
 
-pub read_whole : (bytes : List ℕ) (s : Seen) (f : SavedFile) → seen bytes ≡ Ok s → ReadsSeen s f → are_formed_values f.values ≡ true → HaveFractions (named_values s.of s.parts) → IsWhole f
+polytope_from : (of : ObjectType) (found : Option Data) (xs ys : List (List ℕ)) → IsFront xs ys → length ys ≡ count (if is_programs_key of (codes "LP") then programs_by found else no_items) → nat_lt 0 (length xs) ≡ true → is_polytope of ≡ true
+polytope_from of found xs ys f n h =
+    let more = ltb-true 0 (length xs) h in
+    let all = ap length f.whole ∙ length-append xs f.rest in
+    let some_there : 0 < count (if is_programs_key of (codes "LP") then programs_by found else no_items) = omega (arith, n, all, more) in
+    ap is_polytope (only_polytopes of found some_there)
+
+pub read_whole : (bytes : List ℕ) (s : Seen) (f : SavedFile) → seen bytes ≡ Ok s → ReadsSeen s f → are_formed_parts s.parts ≡ true → HaveFractions (named_values s.of s.parts) → IsWhole f
 read_whole bytes s f is r formed entries =
     let (d, found, k) = ok_from (data_in bytes) seen_in s is in
     let (ms, members, k1) = ok_from (members_in d) (λ ms. then_read (type_in d) (seen_of d ms)) s k in
@@ -323,17 +419,29 @@ read_whole bytes s f is r formed entries =
     let seen_is : record { of = of; top = d; parts = parts } ≡ s = ok_is _ s k3 in
     let (p, profile, k4) = ok_from (profile_in s.of (names_held s.parts) s.top (programs_in s.of s.top)) (λ profile. Ok (file_with s.of s.top s.parts profile)) f r.1 in
     let file_is : file_with s.of s.top s.parts p ≡ f = ok_is _ f k4 in
-    let m : OfMembers of ms (values_in parts) = of_members of ms parts (data_ascends bytes d ms found members) told in
-    let w : WholeProfile (values_in s.parts) p = profile_from s.of s.parts s.top (programs_in s.of s.top) p profile in
-    let suit : AllSuit f.of f.values = read_suits bytes f (s, is, r) formed in
-    let table : are_of_table s.of (values_in s.parts) ≡ true = subst (λ (z : Seen). are_of_table z.of (values_in z.parts) ≡ true) seen_is m.table in
-    let once : are_of_different (values_in s.parts) ≡ true = subst (λ (z : Seen). are_of_different (values_in z.parts) ≡ true) seen_is m.once in
-    record {
-      table = subst (λ (z : SavedFile). are_of_table z.of z.values ≡ true) file_is table;
-      once = subst (λ (z : SavedFile). are_of_different z.values ≡ true) file_is once;
-      suit = suit;
-      entries = subst (λ (z : SavedFile). All (λ (v : PropId × PropertyValue). AreFractions v.1) z.values) file_is (All_among (λ (v : PropId × PropertyValue). AreFractions v.1) (values_in s.parts) (entries_from s.of s.parts entries));
-      stored = subst (λ (z : SavedFile). (q : PropId) → has z.stored q ≡ true → is_of_one z.values q ≡ true) file_is w.stored;
-      marks = subst (λ (z : SavedFile). list_all is_mark z.failed ≡ true) file_is w.marks;
-      labels = subst (λ (z : SavedFile). are_different same_label z.failed ≡ true) file_is w.labels;
-    }
+    let ascends = data_ascends bytes d ms found members in
+    let m : OfMembers of ms (values_in parts) = of_members of ms parts ascends told in
+    let there_are = few_programs of (programs_at of ms parts ascends told) in
+    let few_of : count (programs_in of d) ≤ 4 =
+    subst (λ (x : Option Data). count (if is_programs_key of (codes "LP") then programs_by x else no_items) ≤ 4) (sym (got (codes "LP") d ms (some_from no_type (as_object d) ms members))) there_are in
+    let few : count (programs_in s.of s.top) ≤ 4 = subst (λ (z : Seen). count (programs_in z.of z.top) ≤ 4) seen_is few_of in
+    let w : WholeProfile (values_in s.parts) (programs_in s.of s.top) p = profile_from s.of s.parts s.top (programs_in s.of s.top) p profile in
+    let suits : TestedSuits s = tested_suits s r.0 (values-formed s.parts formed) in
+    let front = names_front (objectives_in s.parts) p.names p.marks in
+    let names = front_names (map name_told (programs_with (objectives_in s.parts) p.names p.marks)) p.names front (w.names few) in
+    let every = all_of_file s.of s.parts p.names p.marks formed in
+    subst IsWhole file_is (record {
+      table = subst (λ (z : Seen). are_of_table z.of (values_in z.parts) ≡ true) seen_is m.table;
+      once = subst (λ (z : Seen). are_of_different (values_in z.parts) ≡ true) seen_is m.once;
+      suit = (suits.count, All_among (λ (v : PropId × PropertyValue). Suits s.of suits.count v.0 v.1) (all_values (file_with s.of s.top s.parts p)) (λ v i. let e = every v i in suits.suits v e.tested e.formed));
+      entries = All_among (λ (v : PropId × PropertyValue). AreFractions v.1) (all_values (file_with s.of s.top s.parts p)) (λ v i. let e = every v i in subst AreFractions e.tested.value (fractions_at (named_values s.of s.parts) entries e.tested.x e.tested.among));
+      stored = w.stored;
+      marks = w.marks;
+      programs = record {
+        few = le-leb (length (map name_told (programs_with (objectives_in s.parts) p.names p.marks))) 4 names.few;
+        words = names.words;
+        different = names.different;
+        polytope = polytope_from s.of (get (codes "LP") s.top) (map name_told (programs_with (objectives_in s.parts) p.names p.marks)) p.names front w.number;
+      };
+      marks_of_programs = All_among (λ (q : SavedProgram). AreMarks q.failed) (programs_with (objectives_in s.parts) p.names p.marks) (λ q i. w.each q.failed (of_read (objectives_in s.parts) p.names p.marks q i).failed);
+    })

@@ -7,7 +7,7 @@ use Rattle.pm_json.specs.declared.fail.ValueFail.TheVariants.{Shape, Limit}
 use Rattle.pm_props.specs.Names.{property_named_in}
 use Rattle.pm_props.specs.Properties.{is_of_edges, is_of_lattices, value_kind}
 use Rattle.pm_props.specs.declared.object_type.ObjectType.{ObjectType}
-use Rattle.pm_props.specs.declared.object_type.ObjectType.TheVariants.{Polytope, Cone}
+use Rattle.pm_props.specs.declared.object_type.ObjectType.TheVariants.{Polytope, Cone, Fan}
 use Rattle.pm_props.specs.declared.property.PropId.{PropId}
 use Rattle.pm_props.specs.declared.property.PropId.TheVariants.{LinearObjective}
 use Rattle.pm_types.specs.Values.{PropertyValue}
@@ -59,9 +59,13 @@ abbrev pub data_in : List ℕ → FileRead Data
 data_in bytes = if nat_le (length bytes) longest_file then or_else_fault not_json (json_in bytes) else Err too_long
 
 -- ---- the type
--- polytopes and cones are known so far
+-- the type of this text
 abbrev pub type_named : List ℕ → Option ObjectType
-type_named text = if bytes_eq text (type_text Polytope) then Some Polytope else if bytes_eq text (type_text Cone) then Some Cone else None
+type_named text =
+    if bytes_eq text (type_text Polytope) then Some Polytope
+    else if bytes_eq text (type_text Cone) then Some Cone
+    else if bytes_eq text (type_text Fan) then Some Fan
+    else None
 
 abbrev pub type_in : Data → FileRead ObjectType
 type_in d = then_read (or_else_fault no_type (option_and_then as_str (get (codes "_type") d))) (λ text. or_else_fault unknown_type (type_named text))

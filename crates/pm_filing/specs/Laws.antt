@@ -1,11 +1,11 @@
 -- What holds of objects and their files.
-use Rattle.std.specs.Prelude.{◌≡◌, ℕ, IsTrue, List, [], Ok}
+use Rattle.std.specs.Prelude.{◌≡◌, ℕ, IsTrue, List, Ok}
 use Rattle.pm_files.specs.Files.{SavedFile, file_json}
 use Rattle.pm_files.specs.ValueJson.{json_of}
 use Rattle.pm_filing.specs.FileParts.{data_in}
 use Rattle.pm_filing.specs.FileReadings.{Reads}
 use Rattle.pm_filing.specs.Filing.{loaded_object, saved_file}
-use Rattle.pm_filing.specs.Whole.{IsReadType, IsSameFile, IsWhole}
+use Rattle.pm_filing.specs.Whole.{IsSameFile, IsWhole}
 use Rattle.pm_json.specs.Readings.{reading}
 use Rattle.pm_object.specs.Formed.{IsFormed}
 use Rattle.pm_object.specs.Honest.{IsKept}
@@ -28,6 +28,6 @@ LoadedIsKept = (book : List Rule) (f : SavedFile) → IsKept (loaded_object book
 abbrev pub SavedIsWhole : Type 0
 SavedIsWhole = (book : List Rule) (o : State) → IsBook book → IsFormed o → IsWhole (saved_file book o)
 
--- bytes that are the JSON of a whole file without programs, of a type of which files are read, are read as that file, with its values in another order
+-- bytes that are the JSON of a whole file are read as that file, with its values in another order
 abbrev pub FilesAreReadBack : Type 0
-FilesAreReadBack = (bytes : List ℕ) (f : SavedFile) → IsWhole f → IsReadType f.of → f.programs ≡ [] → data_in bytes ≡ Ok (file_json f) → (g : SavedFile) × Reads bytes g × IsSameFile f g
+FilesAreReadBack = (bytes : List ℕ) (f : SavedFile) → IsWhole f → data_in bytes ≡ Ok (file_json f) → (g : SavedFile) × Reads bytes g × IsSameFile f g

@@ -1,9 +1,9 @@
 -- The profile of a data file: which values were stored, which rules failed, and the names of its linear programs; and the file as a whole.
-use Rattle.std.specs.Prelude.{ℕ, suc, Bool, true, false, not, ◌&&◌, ◌||◌, ◌==◌, List, [], ◌∷◌, ◌++◌, map, codes, decimal, length, nat_le, Option, Some, None, option_and_then, option_map, unwrap_or, Ok, Err, if◌then◌else◌}
-use Rattle.std.specs.List.{list_all, list_any}
-use Rattle.std.specs.Char.{is_ascii_alphabetic, is_ascii_alphanumeric}
+use Rattle.std.specs.Prelude.{ℕ, suc, Bool, true, false, not, ◌&&◌, ◌==◌, List, [], ◌∷◌, ◌++◌, map, codes, decimal, Option, Some, None, option_and_then, option_map, unwrap_or, Ok, Err, if◌then◌else◌}
+use Rattle.std.specs.List.{list_any}
 use Rattle.std.specs.Str.{bytes_eq}
 use Rattle.pm_json.specs.Readings.{Read}
+use Rattle.pm_props.specs.NameWords.{is_name}
 use Rattle.pm_props.specs.Names.{property_named_in}
 use Rattle.pm_props.specs.Places.{same_property}
 use Rattle.pm_props.specs.Sets.{has, set_of}
@@ -98,19 +98,11 @@ abbrev pub marks_in : Data → Option (List Mark)
 marks_in d = list_read same_label mark_of (get (codes "_excluded") d)
 
 -- ---- names of programs
-abbrev pub is_name_byte : ℕ → Bool
-is_name_byte b = is_ascii_alphanumeric b || b == 95
-
--- a letter, then letters, digits or _, at most 32 bytes
-abbrev pub is_program_name : List ℕ → Bool
-is_program_name [] = false
-is_program_name (b ∷ bs) = is_ascii_alphabetic b && list_all is_name_byte bs && nat_le (length bs) 31
-
-abbrev pub if_program_name : List ℕ → Option (List ℕ)
-if_program_name name = if is_program_name name then Some name else None
+abbrev pub if_name : List ℕ → Option (List ℕ)
+if_name name = if is_name name then Some name else None
 
 abbrev pub program_name_of : Data → Option (List ℕ)
-program_name_of d = option_and_then if_program_name (option_and_then as_str (get (codes "_name") d))
+program_name_of d = option_and_then if_name (option_and_then as_str (get (codes "_name") d))
 
 -- the names of the programs, no two the same
 abbrev pub program_names : Items → Option (List (List ℕ))

@@ -3,14 +3,14 @@ use Rattle.std.specs.Prelude.{ℕ, List, [], ◌∷◌, Option, None, Some, Ok, 
 use Rattle.pm_fraction.specs.Fractions.{ratio_of}
 use Rattle.pm_json.specs.declared.fail.ValueFail.TheVariants.{Shape, Number, Limit}
 use Rattle.pm_props.specs.Sets.{only, union}
-use Rattle.pm_props.specs.declared.object_type.ObjectType.TheVariants.{Cone, Polytope}
+use Rattle.pm_props.specs.declared.object_type.ObjectType.TheVariants.{Cone, Fan, Polytope}
 use Rattle.pm_props.specs.declared.property.PropId.TheVariants.{ConeAmbientDim, ConeDim, Facets, Graph, HasseDiagram, LinearObjective, Points, Vertices}
 use Rattle.pm_types.specs.Values.{matrix, whole}
 use Rattle.serde_json.specs.Data.{Data, Members, Items, object, no_members, no_items, null}
 use Rattle.serde_json.specs.Find.{as_array, as_object}
 use Rattle.serde_json.specs.Read.{read}
 use Rattle.pm_filing.specs.FileParts.{value, programs, bad_property, bad_profile, data_in, ignored_in, is_hidden, is_other_form, is_programs_key, json_in, members_in, no_type, not_json, objectives_of, part_at, parts_in, property_at, type_in, unknown_type}
-use Rattle.pm_filing.specs.Profiles.{evidence_of, is_profile_2, is_program_name, mark_of, marks_in, plain_names_from, profile_in, program_names, stored_by}
+use Rattle.pm_filing.specs.Profiles.{evidence_of, is_profile_2, mark_of, marks_in, plain_names_from, profile_in, program_names, stored_by}
 use Rattle.pm_props.specs.Properties.{name_in}
 use Rattle.pm_props.specs.declared.property.PropId.{PropId}
 use Rattle.pm_filing.specs.FileReadings.{ArePassed, IsFirstBad, Named, Passes, cols_after, named_values}
@@ -51,7 +51,8 @@ pub record TypesAreRead : Type 0 where
   -- the type is a text of the top
   pub cone : type_in (json (codes "{\"_type\":\"polytope::Cone<Rational>\"}")) ≡ Ok Cone
   pub polytope : type_in (json (codes "{\"_type\":\"polytope::Polytope<Rational>\"}")) ≡ Ok Polytope
-  pub fan : type_in (json (codes "{\"_type\":\"fan::PolyhedralFan<Rational>\"}")) ≡ Err unknown_type
+  pub fan : type_in (json (codes "{\"_type\":\"fan::PolyhedralFan<Rational>\"}")) ≡ Ok Fan
+  pub unknown : type_in (json (codes "{\"_type\":\"topaz::SimplicialComplex\"}")) ≡ Err unknown_type
   pub no_text : type_in (json (codes "{\"_type\":3}")) ≡ Err no_type
   pub none : type_in (json (codes "{}")) ≡ Err no_type
   pub no_object : members_in (json (codes "[]")) ≡ Err no_type
@@ -115,7 +116,7 @@ pub record ProfilesAreRead : Type 0 where
   pub names : program_names (items (codes "[{\"_name\":\"top\"},{\"_name\":\"low\"}]")) ≡ Some (codes "top" ∷ codes "low" ∷ [])
   pub name_twice : program_names (items (codes "[{\"_name\":\"top\"},{\"_name\":\"top\"}]")) ≡ None
   pub nameless : program_names (items (codes "[{}]")) ≡ None
-  pub no_name : is_program_name (codes "_a") ≡ false
+  pub no_name : program_names (items (codes "[{\"_name\":\"_a\"}]")) ≡ None
   pub plain : plain_names_from 0 (items (codes "[{},{}]")) ≡ codes "lp0" ∷ codes "lp1" ∷ []
   -- in profile 1 nothing is stored
   pub older : profile_in Polytope 0 (json (codes "{\"_computed\":1}")) no_items ≡ Ok (record { stored = 0; failed = []; names = []; marks = [] })

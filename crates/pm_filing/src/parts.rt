@@ -39,6 +39,9 @@ fn type_named(text: &str) -> Option<ObjectType>
     if text == type_text(ObjectType::Cone) {
         return Some(ObjectType::Cone);
     }
+    if text == type_text(ObjectType::Fan) {
+        return Some(ObjectType::Fan);
+    }
     None
 }
 

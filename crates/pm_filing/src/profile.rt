@@ -1,8 +1,9 @@
 // The profile of a data file: which values were stored, which rules failed, and the names of its linear programs.
 
 ghost use Rattle.pm_filing.specs.FileParts.{bad_profile, out_of_memory};
-ghost use Rattle.pm_filing.specs.Profiles.{different_read, each_read, evidence_of, full_profile, is_name_byte, is_profile_2, is_program_name, mark_among, mark_of, mark_with, marks_in, no_marks, plain_names_from, plain_profile, profile_in, program_name_of, program_names, same_label, stored_by, stored_property};
+ghost use Rattle.pm_filing.specs.Profiles.{different_read, each_read, evidence_of, full_profile, is_profile_2, mark_among, mark_of, mark_with, marks_in, no_marks, plain_names_from, plain_profile, profile_in, program_name_of, program_names, same_label, stored_by, stored_property};
 ghost use Rattle.pm_filing.specs.ReadingViews.{all_marks_seen, fault_of, marks_seen, profile_seen};
+ghost use Rattle.pm_props.specs.NameWords.{is_name, is_name_byte};
 ghost use Rattle.pm_props.specs.Places.{same_property};
 ghost use Rattle.pm_props.specs.Sets.{set_of};
 ghost use Rattle.serde_json.specs.Find.{get};
@@ -220,13 +221,13 @@ fn is_name_byte(b: u8) -> bool
 }
 
 /// Whether this is a letter, then letters, digits or `_`, of at most 32 bytes.
-fn is_program_name(name: &[u8]) -> bool
-    ensures { result ≡ is_program_name name.now }
+fn is_name(name: &[u8]) -> bool
+    ensures { result ≡ is_name name.now }
 {
     match name {
         [] => false,
         [first, rest @ ..] => {
-            first.is_ascii_alphabetic() && are_name_bytes(rest) && rest.len() <= 31
+            first.is_ascii_alphabetic() && are_name_bytes(rest) && name.len() <= 32
         }
     }
 }
@@ -251,7 +252,7 @@ fn program_name_of(json: &Json) -> Option<&str>
         return None;
     };
     match found.as_str() {
-        Some(name) if is_program_name(name.as_bytes()) => Some(name),
+        Some(name) if is_name(name.as_bytes()) => Some(name),
         _ => None,
     }
 }

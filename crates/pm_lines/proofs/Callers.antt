@@ -1,7 +1,7 @@
 -- A caller's loop: what the lines that were answered so far are, of all that a source had left.
 use Rattle.std.proofs.Common.{◌≡◌, ℕ, Bool, true, false, List, [], ◌∷◌, ◌++◌, take, drop, Option, Some, refl, ap, sym, ◌∙◌, append_assoc, append-nil}
 use Rattle.std.proofs.lemmas.List.{take-append-drop}
-use Rattle.pm_script.specs.Lines.{Line, lines_of}
+use Rattle.pm_command.specs.Lines.{Line, lines_of}
 use Rattle.pm_lines.proofs.LineLaws.{ended_line, whole_at_break}
 use Rattle.pm_lines.specs.Coming.{Answers, BreaksOff, Exceeds, IsOver, ReaderSeen}
 use Rattle.pm_lines.specs.Whole.{whole_lines}

@@ -1,8 +1,8 @@
 -- Lines of bytes in two parts.
 use Rattle.std.proofs.Common.{◌≡◌, ◌+◌, ◌-◌, subst, ℕ, zero, suc, ◌<◌, ◌≤◌, List, [], ◌∷◌, ◌++◌, take, drop, length, get_or, filter, ap, sym, ◌∙◌, refl, arith, true, false}
 use Rattle.std.proofs.lemmas.List.{drop-drop, drop-take, take_all}
-use Rattle.pm_script.proofs.Breaks.{NoBreak, lines_of-other}
-use Rattle.pm_script.specs.Lines.{Line, lines_of, onto_first}
+use Rattle.pm_command.proofs.Breaks.{NoBreak, lines_of-other}
+use Rattle.pm_command.specs.Lines.{Line, lines_of, onto_first}
 use Rattle.pm_lines.specs.Whole.{HasNoBreak, whole_lines}
 
 abbrev pub ended_line : List ℕ → Line

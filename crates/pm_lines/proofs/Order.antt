@@ -1,7 +1,7 @@
 -- The lines of a script lie in order: those that an LF ended, and then at most one that none did.
 use Rattle.std.proofs.Common.{◌≡◌, ℕ, ◌≤◌, true, not, List, [], ◌∷◌, ◌++◌, filter, length, refl, ap, arith, inl, inr, eqb}
 use Rattle.std.proofs.lemmas.Bool.{cases_Bool, cond_both}
-use Rattle.pm_script.specs.Lines.{Line, lines_of, onto_first}
+use Rattle.pm_command.specs.Lines.{Line, lines_of, onto_first}
 use Rattle.pm_lines.specs.Laws.{WholeLinesFirst}
 
 -- each line but the last was ended by an LF

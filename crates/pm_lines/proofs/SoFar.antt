@@ -5,7 +5,7 @@ use Rattle.std.proofs.lemmas.List.{drop-drop, take-append-drop}
 use Rattle.pm_lines.proofs.LineLaws.{clear_append, last_line, lines_at_break, lines_of-open, whole_of-open}
 use Rattle.pm_lines.specs.Coming.{Answers, BreaksOff, Ended, Exceeds, Gave, IsOver, ReaderSeen, Refilled, most_bytes}
 use Rattle.pm_lines.specs.Whole.{HasNoBreak, whole_lines}
-use Rattle.pm_script.specs.Lines.{Line, lines_of}
+use Rattle.pm_command.specs.Lines.{Line, lines_of}
 use Rattle.pm_store.specs.Outside.{IsAtEnd, Stays}
 
 -- n bytes more were given, and all that was given stands in the line at hand and after it

@@ -1,6 +1,6 @@
 -- A reader of lines, and what the next of its calls may answer.
 use Rattle.std.specs.Prelude.{◌≡◌, ℕ, ◌+◌, ◌<◌, ◌≤◌, Bool, true, false, List, [], ◌∷◌, ◌++◌, take, drop, length, Option, Some}
-use Rattle.pm_script.specs.Lines.{Line, lines_of}
+use Rattle.pm_command.specs.Lines.{Line, lines_of}
 use Rattle.pm_lines.specs.Whole.{HasNoBreak, whole_lines}
 
 -- The line at hand, the bytes that the source gave and that stand in no line yet, how many it gave in all,

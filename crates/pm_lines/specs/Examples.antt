@@ -1,6 +1,6 @@
 -- Lines as they come, worked by hand: what holds, and what does not. 10 is LF.
 use Rattle.std.specs.Prelude.{◌≡◌, ℕ, true, false, List, [], ◌∷◌, Some}
-use Rattle.pm_script.specs.Lines.{Line}
+use Rattle.pm_command.specs.Lines.{Line}
 use Rattle.pm_lines.specs.Coming.{Answers, BreaksOff, Exceeds, IsOver, ReaderSeen, no_line}
 use Rattle.pm_lines.specs.Whole.{whole_lines}
 

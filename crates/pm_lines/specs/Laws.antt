@@ -1,6 +1,6 @@
 -- How the lines of a script lie.
 use Rattle.std.specs.Prelude.{◌≡◌, ℕ, ◌≤◌, not, List, ◌++◌, filter, length}
-use Rattle.pm_script.specs.Lines.{Line, lines_of}
+use Rattle.pm_command.specs.Lines.{Line, lines_of}
 use Rattle.pm_lines.specs.Whole.{whole_lines}
 
 -- the lines of a script that no LF ended

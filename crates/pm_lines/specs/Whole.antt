@@ -1,6 +1,6 @@
 -- The lines that an LF ended.
 use Rattle.std.specs.Prelude.{ℕ, ◌≢◌, List, [], ◌∷◌, filter}
-use Rattle.pm_script.specs.Lines.{Line, lines_of}
+use Rattle.pm_command.specs.Lines.{Line, lines_of}
 
 -- the lines of a script that an LF ended
 abbrev pub whole_lines : List ℕ → List Line

@@ -7,7 +7,7 @@ ghost use Rattle.pm_lines.specs.declared.reader.LinesFail.TheVariants.{Fault, Me
 ghost use Rattle.pm_store.specs.Outside.{IsAtEnd, Loses, Rose, Stays};
 
 use crate::chunk::Chunk;
-use pm_script::{Line, first_break};
+use pm_command::{Line, first_break};
 use pm_store::{Failed, Source};
 use std::alloc::{AllocError, Global};
 use std::marker::Model;

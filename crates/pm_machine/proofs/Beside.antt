@@ -1,11 +1,13 @@
 -- A step that touches no file is the same beside any store.
 use Rattle.pm_client.specs.Starts.{Clients}
-use Rattle.pm_machine.specs.Events.{Configuration}
+use Rattle.pm_machine.proofs.BesideBuilding.{build_beside, make_beside, parts_beside, product_beside}
+use Rattle.pm_machine.proofs.BesideObjects.{becomes_beside, beside, gains_beside, loses_beside, stays_beside, unloads_beside}
+use Rattle.pm_machine.specs.Building.{face_fan_building, normal_fan_building, polar_building, product_wanted, pyramid_building, wanted_of}
 use Rattle.pm_machine.specs.Parts.{StepInPart}
-use Rattle.pm_machine.specs.Steps.{Becomes, CopyStep, DisableStep, DropStep, EnsureStep, ExplainStep, FileRead, Gains, GiveStep, HasBytes, HasNone, HistoryStep, IsFree, IsLookedAt, LoadStep, Looks, LookupStep, Loses, Machine, NewStep, OriginStep, RulesStep, Stays, Step, Store, TakeStep, UnloadStep, Unloads}
-use Rattle.pm_object.specs.State.{State}
+use Rattle.pm_machine.specs.Machines.{IsFree, Machine, Stays, Store}
+use Rattle.pm_machine.specs.Steps.{CopyStep, DisableStep, DropStep, EnsureStep, ExplainStep, FileRead, GiveStep, HasBytes, HasNone, HistoryStep, IsLookedAt, LoadStep, Looks, LookupStep, NewObjectStep, NewOf, NewProgramStep, NewStep, OriginStep, RulesStep, Step, TakeStep, UnloadStep}
 use Rattle.pm_rules.specs.declared.rule.Rule.{Rule}
-use Rattle.pm_script.specs.Commands.{RefSeen, Spoken, blank, new_object, take_value, give_value, look_up, ensure_values, explain_values, tell_history, show_rules, disable_rule, unload_client, copy_object, drop_object, tell_origin, load_object, save_object, is_on_files}
+use Rattle.pm_command.specs.Commands.{RefSeen, Spoken, blank, new_object, take_value, give_value, look_up, ensure_values, explain_values, tell_history, show_rules, disable_rule, unload_client, copy_object, drop_object, tell_origin, load_object, save_object, make_object, build_polar, build_pyramid, build_normal_fan, build_face_fan, build_product, is_on_files}
 use Rattle.pm_script.specs.Replies.{ReplySeen, done, ensured, explained, lists_rules, loaded, nothing, planned, refused, shows, tells, tells_origin, undef}
 use Rattle.pm_script.specs.declared.refusal.Refusal.TheVariants.{UnknownName, NameTaken, UnknownType, UnknownProperty, BadValue, AlreadyHeld, Sealed, ObjectsFull, NoChain, Crowded, BadFile, UnknownRule}
 use Rattle.pm_store.specs.Files.{FilesStay, file_of, read_part}
@@ -13,31 +15,28 @@ use Rattle.std.specs.Option.{is_some}
 use Rattle.std.proofs.Common.{ap, arith, false, inl, inr, refl, subst, sym, true≢false, ◌∙◌}
 use Rattle.std.specs.Prelude.{IfOk, IfSome, List, None, OnErr, Ok, Err, Option, Result, Some, option_map, ℕ, ◌≡◌}
 
--- the machine beside another store
-abbrev pub beside : Store → Machine → Machine
-beside k m = record m { store = k }
+new_object_beside : (k : Store) (old new : Machine) (name text : List ℕ) (reply : ReplySeen) → NewObjectStep old name text reply new → NewObjectStep (beside k old) name text reply (beside k new)
+new_object_beside k old new name text (refused UnknownType nothing) (h, s) = (h, stays_beside k old new s)
+new_object_beside k old new name text (refused NameTaken nothing) (h, i, s) = (h, i, stays_beside k old new s)
+new_object_beside k old new name text (refused ObjectsFull nothing) (h, i, l, s) = (h, i, l, stays_beside k old new s)
+new_object_beside k old new name text (done t) (of, h, i, l, e, g) = (of, h, i, l, e, gains_beside k _ _ old new g)
+new_object_beside k old new name text reply h = absurd h
 
-stays_beside : (k : Store) (old new : Machine) → Stays old new → Stays (beside k old) (beside k new)
-stays_beside k old new s = record { names = s.names; objects = s.objects; clients = s.clients; store = refl }
+new_program_beside : (k : Store) (old new : Machine) (name sub text : List ℕ) (reply : ReplySeen) → NewProgramStep old name sub text reply new → NewProgramStep (beside k old) name sub text reply (beside k new)
+new_program_beside k old new name sub text (refused UnknownType nothing) (inl (h, s)) = inl (h, stays_beside k old new s)
+new_program_beside k old new name sub text (refused UnknownType nothing) (inr (h, (o, i, w, s))) = inr (h, (o, i, w, stays_beside k old new s))
+new_program_beside k old new name sub text (refused UnknownName nothing) (h, i, s) = (h, i, stays_beside k old new s)
+new_program_beside k old new name sub text (refused NameTaken nothing) (h, (o, i, w, s)) = (h, (o, i, w, stays_beside k old new s))
+new_program_beside k old new name sub text (refused ObjectsFull nothing) (h, (o, i, w, s)) = (h, (o, i, w, stays_beside k old new s))
+new_program_beside k old new name sub text (done t) (h, o, i, w, e, b) = (h, o, i, w, e, becomes_beside k _ _ old new b)
+new_program_beside k old new name sub text reply h = absurd h
 
-becomes_beside : (k : Store) (name : List ℕ) (c : Configuration) (old new : Machine) → Becomes name c old new → Becomes name c (beside k old) (beside k new)
-becomes_beside k name c old new b = record { names = b.names; object = b.object; others = b.others; clients = b.clients; store = refl }
-
-pub gains_beside : (k : Store) (name : List ℕ) (o : State) (old new : Machine) → Gains name o old new → Gains name o (beside k old) (beside k new)
-gains_beside k name o old new g = record { names = g.names; object = g.object; others = g.others; clients = g.clients; store = refl }
-
-loses_beside : (k : Store) (name : List ℕ) (old new : Machine) → Loses name old new → Loses name (beside k old) (beside k new)
-loses_beside k name old new l = record { names = l.names; object = l.object; others = l.others; clients = l.clients; store = refl }
-
-unloads_beside : (k : Store) (name : List ℕ) (old new : Machine) → Unloads name old new → Unloads name (beside k old) (beside k new)
-unloads_beside k name old new u = record { names = u.names; objects = u.objects; clients = u.clients; store = refl }
+new_of_beside : (k : Store) (old new : Machine) (name : List ℕ) (sub : Option (List ℕ)) (text : List ℕ) (reply : ReplySeen) → NewOf old name sub text reply new → NewOf (beside k old) name sub text reply (beside k new)
+new_of_beside k old new name None text reply h = new_object_beside k old new name text reply h
+new_of_beside k old new name (Some sub) text reply h = new_program_beside k old new name sub text reply h
 
 new_beside : (k : Store) (old new : Machine) (ref : RefSeen) (text : List ℕ) (reply : ReplySeen) → NewStep old ref text reply new → NewStep (beside k old) ref text reply (beside k new)
-new_beside k old new ref text (refused UnknownType nothing) (h, s) = (h, stays_beside k old new s)
-new_beside k old new ref text (refused NameTaken nothing) (h, i, s) = (h, i, stays_beside k old new s)
-new_beside k old new ref text (refused ObjectsFull nothing) (h, i, l, s) = (h, i, l, stays_beside k old new s)
-new_beside k old new ref text done (of, h, i, l, g) = (of, h, i, l, gains_beside k _ _ old new g)
-new_beside k old new ref text reply h = absurd h
+new_beside k old new ref text reply h = new_of_beside k old new ref.name ref.sub text reply h
 
 take_beside : (k : Store) (old new : Machine) (ref : RefSeen) (text json : List ℕ) (reply : ReplySeen) → TakeStep old ref text json reply new → TakeStep (beside k old) ref text json reply (beside k new)
 take_beside k old new ref text json (refused UnknownName nothing) (h, s) = (h, stays_beside k old new s)
@@ -45,7 +44,7 @@ take_beside k old new ref text json (refused UnknownProperty nothing) (o, h, i, 
 take_beside k old new ref text json (refused AlreadyHeld nothing) (o, h, p, i, t, s) = (o, h, p, i, t, stays_beside k old new s)
 take_beside k old new ref text json (refused Sealed nothing) (o, h, p, i, t, s) = (o, h, p, i, t, stays_beside k old new s)
 take_beside k old new ref text json (refused (BadValue why) nothing) (o, h, p, i, t, s) = (o, h, p, i, t, stays_beside k old new s)
-take_beside k old new ref text json done (o, h, p, i, v, t, b) = (o, h, p, i, v, t, becomes_beside k _ _ old new b)
+take_beside k old new ref text json (done r) (o, h, p, i, v, t, e, b) = (o, h, p, i, v, t, e, becomes_beside k _ _ old new b)
 take_beside k old new ref text json reply h = absurd h
 
 give_beside : (k : Store) (old new : Machine) (book : List Rule) (ref : RefSeen) (text : List ℕ) (reply : ReplySeen) → GiveStep book old ref text reply new → GiveStep book (beside k old) ref text reply (beside k new)
@@ -88,12 +87,12 @@ copy_beside : (k : Store) (old new : Machine) (name to : List ℕ) (reply : Repl
 copy_beside k old new name to (refused UnknownName nothing) (h, s) = (h, stays_beside k old new s)
 copy_beside k old new name to (refused NameTaken nothing) (h, i, s) = (h, i, stays_beside k old new s)
 copy_beside k old new name to (refused ObjectsFull nothing) (h, i, l, s) = (h, i, l, stays_beside k old new s)
-copy_beside k old new name to done (o, h, i, l, g) = (o, h, i, l, gains_beside k _ _ old new g)
+copy_beside k old new name to (done t) (e, o, h, i, l, g) = (e, o, h, i, l, gains_beside k _ _ old new g)
 copy_beside k old new name to reply h = absurd h
 
 drop_beside : (k : Store) (old new : Machine) (name : List ℕ) (reply : ReplySeen) → DropStep old name reply new → DropStep (beside k old) name reply (beside k new)
 drop_beside k old new name (refused UnknownName nothing) (h, s) = (h, stays_beside k old new s)
-drop_beside k old new name done (h, l) = (h, loses_beside k _ old new l)
+drop_beside k old new name (done t) (e, h, l) = (e, h, loses_beside k _ old new l)
 drop_beside k old new name reply h = absurd h
 
 origin_beside : (k : Store) (old new : Machine) (ref : RefSeen) (text : List ℕ) (reply : ReplySeen) → OriginStep old ref text reply new → OriginStep (beside k old) ref text reply (beside k new)
@@ -110,12 +109,12 @@ rules_beside k old new book reply h = absurd h
 disable_beside : (k : Store) (old new : Machine) (book : List Rule) (name label : List ℕ) (reply : ReplySeen) → DisableStep book old name label reply new → DisableStep book (beside k old) name label reply (beside k new)
 disable_beside k old new book name label (refused UnknownName nothing) (h, s) = (h, stays_beside k old new s)
 disable_beside k old new book name label (refused UnknownRule nothing) (h, i, s) = (h, i, stays_beside k old new s)
-disable_beside k old new book name label done (o, h, i, b) = (o, h, i, becomes_beside k _ _ old new b)
+disable_beside k old new book name label (done t) (e, o, h, i, b) = (e, o, h, i, becomes_beside k _ _ old new b)
 disable_beside k old new book name label reply h = absurd h
 
 unload_beside : (k : Store) (old new : Machine) (name : List ℕ) (reply : ReplySeen) → UnloadStep old name reply new → UnloadStep (beside k old) name reply (beside k new)
 unload_beside k old new name (refused UnknownRule nothing) (h, s) = (h, stays_beside k old new s)
-unload_beside k old new name done (h, u) = (h, unloads_beside k _ old new u)
+unload_beside k old new name (done t) (e, h, u) = (e, h, unloads_beside k _ old new u)
 unload_beside k old new name reply h = absurd h
 
 step_beside : (k : Store) (book : List Rule) (old new : Machine) (command : Spoken) (reply : ReplySeen) → is_on_files command ≡ false → Step book old command reply new → Step book (beside k old) command reply (beside k new)
@@ -135,14 +134,20 @@ step_beside k book old new (drop_object name) reply e h = drop_beside k old new 
 step_beside k book old new (tell_origin ref text) reply e h = origin_beside k old new ref text reply h
 step_beside k book old new (load_object name file) reply e h = absurd (true≢false e)
 step_beside k book old new (save_object name file) reply e h = absurd (true≢false e)
+step_beside k book old new (make_object to shape) reply e h = make_beside k old new to shape reply h
+step_beside k book old new (build_polar name to) reply e h = build_beside k book polar_building old name to reply new h
+step_beside k book old new (build_pyramid name to) reply e h = build_beside k book pyramid_building old name to reply new h
+step_beside k book old new (build_normal_fan name to) reply e h = build_beside k book normal_fan_building old name to reply new h
+step_beside k book old new (build_face_fan name to) reply e h = build_beside k book face_fan_building old name to reply new h
+step_beside k book old new (build_product first second to) reply e h = product_beside k book old first second to reply new h
 
 part_beside : (k : Store) (book : List Rule) (old new : Machine) (command : Spoken) → is_on_files command ≡ false → StepInPart book old command new → StepInPart book (beside k old) command (beside k new)
 part_beside k book old new (give_value ref text) e (inl s) = inl (stays_beside k old new s)
-part_beside k book old new (give_value ref text) e (inr g) = inr (record { object = g.object; named = g.named; property = g.property; is_property = g.is_property; now = g.now; ensured = g.ensured; becomes = becomes_beside k _ _ old new g.becomes })
+part_beside k book old new (give_value ref text) e (inr g) = inr (record { found = g.found; named = g.named; property = g.property; is_property = g.is_property; now = g.now; ensured = g.ensured; becomes = becomes_beside k _ _ old new g.becomes })
 part_beside k book old new (ensure_values ref words) e (inl s) = inl (stays_beside k old new s)
-part_beside k book old new (ensure_values ref words) e (inr g) = inr (record { object = g.object; named = g.named; asked = g.asked; is_asked = g.is_asked; now = g.now; ensured = g.ensured; becomes = becomes_beside k _ _ old new g.becomes })
+part_beside k book old new (ensure_values ref words) e (inr g) = inr (record { found = g.found; named = g.named; asked = g.asked; is_asked = g.is_asked; now = g.now; ensured = g.ensured; becomes = becomes_beside k _ _ old new g.becomes })
 part_beside k book old new (explain_values ref words) e (inl s) = inl (stays_beside k old new s)
-part_beside k book old new (explain_values ref words) e (inr g) = inr (record { object = g.object; named = g.named; becomes = becomes_beside k _ _ old new g.becomes })
+part_beside k book old new (explain_values ref words) e (inr g) = inr (record { found = g.found; named = g.named; becomes = becomes_beside k _ _ old new g.becomes })
 part_beside k book old new (load_object name file) e h = absurd (true≢false e)
 part_beside k book old new (save_object name file) e h = absurd (true≢false e)
 part_beside k book old new blank e s = stays_beside k old new s
@@ -156,6 +161,12 @@ part_beside k book old new (unload_client name) e s = stays_beside k old new s
 part_beside k book old new (copy_object name to) e s = stays_beside k old new s
 part_beside k book old new (drop_object name) e s = stays_beside k old new s
 part_beside k book old new (tell_origin ref text) e s = stays_beside k old new s
+part_beside k book old new (make_object to shape) e s = stays_beside k old new s
+part_beside k book old new (build_polar name to) e h = parts_beside k book (wanted_of name polar_building.reads) old new h
+part_beside k book old new (build_pyramid name to) e h = parts_beside k book (wanted_of name pyramid_building.reads) old new h
+part_beside k book old new (build_normal_fan name to) e h = parts_beside k book (wanted_of name normal_fan_building.reads) old new h
+part_beside k book old new (build_face_fan name to) e h = parts_beside k book (wanted_of name face_fan_building.reads) old new h
+part_beside k book old new (build_product first second to) e h = parts_beside k book (product_wanted first second) old new h
 
 -- the same, of what a call answers
 pub answered_beside : {E F : Type 0} (view : F → ReplySeen) (k : Store) (book : List Rule) (old new : Machine) (command : Spoken) (r : Result F E) → is_on_files command ≡ false

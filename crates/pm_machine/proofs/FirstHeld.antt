@@ -1,5 +1,5 @@
 -- How a value came to be held, from the code's values.
-use Rattle.pm_machine.proofs.Kept.{decide}
+use Rattle.pm_machine.proofs.KeptObjects.{decide}
 use Rattle.pm_machine.proofs.Names.{not_mapped}
 use Rattle.pm_machine.specs.Steps.{origin_of}
 use Rattle.pm_object.proofs.Find.{is_other, is_property}
@@ -13,7 +13,7 @@ use Rattle.pm_props.specs.declared.property.PropId.{PropId}
 use Rattle.pm_props.specs.contracts.property.PropId.{the_type}
 use Rattle.std.proofs.Common.{ap, inl, inr, refl, subst, sym, ◌∙◌, ◌≢◌}
 use Rattle.std.specs.Option.{option_map}
-use Rattle.std.specs.Prelude.{Bool, IfNone, List, None, Option, Some, [], false, find, if◌then◌else◌, map, true, ◌&&◌, ◌∷◌, ◌≡◌}
+use Rattle.std.specs.Prelude.{Bool, IfNone, List, None, Option, Some, [], false, find, if◌then◌else◌, map, true, ℕ, ◌&&◌, ◌∷◌, ◌≡◌}
 use denote.Enum.Bare.{sameb}
 
 differs : (p q : PropId) → q ≢ p → (b : Bool) → same_property p q ≡ b → same_property p q ≡ false
@@ -27,18 +27,18 @@ same_test p q = elim (decide (sameb the_type q p)) [
   | inr e ↦ e ∙ sym (differs p q (is_other q p e) (same_property p q) refl)
 ]
 
--- the value is one of the property that the object itself holds
-abbrev is_own : PropId → Held → Bool
-is_own p h = same_place h.place (place_of None h.id) && same_property p h.id
+-- the value is one of the property, and is read there
+abbrev is_read_as : Option ℕ → PropId → Held → Bool
+is_read_as sub p h = same_place h.place (place_of sub h.id) && same_property p h.id
 
-pub origin_is : (p : PropId) (xs : List Held) → origin_of p (read_at None (map held_seen xs)) ≡ option_map (λ h. h.origin) (find (is_own p) xs)
-origin_is p [] = refl
-origin_is p (h ∷ xs) = elim (decide (same_place h.place (place_of None h.id))) [
+pub origin_is : (sub : Option ℕ) (p : PropId) (xs : List Held) → origin_of p (read_at sub (map held_seen xs)) ≡ option_map (λ h. h.origin) (find (is_read_as sub p) xs)
+origin_is sub p [] = refl
+origin_is sub p (h ∷ xs) = elim (decide (same_place h.place (place_of sub h.id))) [
   | inl here' ↦ elim (decide (same_property p h.id)) [
     | inl same ↦ rw (here', same) refl
-    | inr other ↦ rw (here', other) (origin_is p xs)
+    | inr other ↦ rw (here', other) (origin_is sub p xs)
   ]
-  | inr away ↦ rw away (origin_is p xs)
+  | inr away ↦ rw away (origin_is sub p xs)
 ]
 
 value_is : (p : PropId) (held : List HeldValue) → value_of p held ≡ option_map (λ h. h.value) (find (λ (h : HeldValue). same_property p h.property) held)

@@ -206,7 +206,7 @@ known_from o formed h = by (value_of ConeAmbientDim o.held) refl h
     by : (v : Option PropertyValue) → value_of ConeAmbientDim o.held ≡ v → is_some v ≡ true → is_some (cols_of o.held) ≡ true
     by None e k = absurd (true≢false (sym k))
     by (Some v) e k =
-        let d = held_dimension o.of (cols_of o.held) o.held v (λ g i. formed.each g (Contains_among i)) e in
+        let d = held_dimension o.of (cols_of o.held) (length o.programs) o.held v (λ g i. formed.each g (Contains_among i)) e in
         ap (λ z. is_some (or_else (ambient_in z) (first_cols o.held))) (e ∙ ap Some d.value)
 
 some_rule : (a b : Rule) → Some a ≡ Some b → a ≡ b

@@ -1,120 +1,145 @@
 -- A step leaves each object honest: by the definitions alone.
 use Rattle.pm_algebra.proofs.Lists.{among_Contains}
-use Rattle.pm_machine.proofs.Traces.{ensuring_in_part_keeps, reaching_keeps}
-use Rattle.pm_machine.specs.declared.round.Ending.{Ending}
+use Rattle.pm_machine.proofs.KeptBuilding.{build_keeps, make_keeps, parts_honest, product_keeps}
+use Rattle.pm_machine.proofs.KeptObjects.{all_honest, becomes_kept, becomes_part_honest, decide, ensured_kept, other_bytes, same_bytes, stays_honest, stays_kept, with_one}
+use Rattle.pm_machine.specs.Building.{face_fan_building, normal_fan_building, polar_building, product_wanted, pyramid_building, wanted_of}
 use Rattle.pm_machine.specs.declared.round.Ending.TheVariants as ending
-use Rattle.pm_machine.specs.Events.{Configuration, Ensured, EnsuredInPart, at_rest, configuration, unsettled}
+use Rattle.pm_machine.specs.Events.{Configuration, EnsuredInPart, configuration}
 use Rattle.pm_machine.specs.Parts.{AllHonest, IsSettled, StepInPart}
-use Rattle.pm_machine.specs.Steps.{AllKept, Becomes, CopyStep, DisableStep, DropStep, EnsureStep, EnsuredAll, Ensures, ExplainStep, ExplainedAll, Gave, Given, Files, GiveStep, Gives, HistoryStep, LoadStep, Looks, LookupStep, Machine, NewStep, OriginStep, Puts, RulesStep, SaveStep, Stays, Step, TakeStep, TakeValue, UnloadStep, disabling, given_value, object_at, whole_of, no_json, faulty, value}
+use Rattle.pm_machine.specs.Machines.{Becomes, Files, Machine}
+use Rattle.pm_machine.specs.Steps.{AllKept, CopyStep, DisableStep, DropStep, EnsureStep, EnsuredAll, Ensures, ExplainStep, ExplainedAll, Gave, Given, GiveStep, Gives, HistoryStep, LoadStep, Looks, LookupStep, Named, NewObjectStep, NewOf, NewProgramStep, NewStep, OriginStep, Puts, RulesStep, SaveStep, Step, TakeStep, TakeValue, UnloadStep, disabling, named_at, part_named, no_json, faulty, value}
+use Rattle.pm_command.specs.Grammar.{ref_text}
 use Rattle.pm_object.proofs.Formed.{only}
+use Rattle.pm_object.proofs.Objectives.{objective_is_kept}
+use Rattle.pm_props.proofs.Places.{same_property_is}
+use Rattle.pm_props.specs.declared.property.PropId.TheVariants.{LinearObjective}
 use Rattle.pm_object.proofs.Honesty.{based_is_kept, empty_is_kept, honesty_is_of_values, settled_is_kept, unsealed_has_no_rounds}
-use Rattle.pm_object.specs.Honest.{IsHonest, IsKept, is_based}
-use Rattle.pm_object.specs.State.{HeldValue, State, is_disabled, is_held, is_sealed, read_at, take_refusal, with_disabled}
+use Rattle.pm_object.specs.Honest.{IsKept, is_based}
+use Rattle.pm_object.specs.State.{HeldValue, State, given_at, is_disabled, is_given_at, is_held, is_sealed_at, place_named, read_at, take_refusal, with_disabled, with_held, with_program}
 use Rattle.pm_object.specs.declared.held.TakeFail.{TakeFail}
 use Rattle.pm_object.specs.declared.held.TakeFail.TheVariants as fail
 use Rattle.pm_rules.specs.declared.rule.Rule.{Rule}
-use Rattle.pm_script.specs.Commands.{RefSeen, Spoken, blank, new_object, take_value, give_value, look_up, ensure_values, explain_values, tell_history, show_rules, disable_rule, unload_client, copy_object, drop_object, tell_origin, load_object, save_object}
+use Rattle.pm_command.specs.Commands.{RefSeen, Spoken, blank, new_object, take_value, give_value, look_up, ensure_values, explain_values, tell_history, show_rules, disable_rule, unload_client, copy_object, drop_object, tell_origin, load_object, save_object, make_object, build_polar, build_pyramid, build_normal_fan, build_face_fan, build_product}
 use Rattle.pm_script.specs.Replies.{ReplySeen, done, ensured, explained, lists_rules, loaded, nothing, planned, refused, shows, tells, tells_origin, undef}
 use Rattle.pm_script.specs.declared.refusal.Refusal.TheVariants.{UnknownName, NameTaken, UnknownType, UnknownProperty, BadValue, AlreadyHeld, Sealed, ObjectsFull, NoChain, Crowded, StoreFault, BadFile, NoSuchFile, UnknownRule, NotFit}
-use Rattle.pm_script.specs.declared.refusal.Condition.TheVariants as condition
+use Rattle.pm_object.specs.declared.held.Condition.TheVariants as condition
 use Rattle.pm_filing.proofs.Loaded.{loaded_is_kept}
 use Rattle.pm_props.specs.Sets.{only as only_property}
 use Rattle.pm_types.specs.Values.{PropertyValue}
 use Rattle.pm_props.specs.declared.property.PropId.{PropId}
 use Rattle.pm_props.specs.declared.set.PropSet.{PropSet}
-use Rattle.std.proofs.Common.{ap, bytes_eq, false, inl, inr, refl, subst, sym, true, true≢false, ◌∙◌, ◌≢◌}
-use Rattle.std.proofs.lemmas.Slice.Eq.{bytes_eq-Decides}
+use Rattle.std.proofs.Common.{ap, bytes_eq, false, inl, inr, refl, subst, sym, true, true≢false, ◌∙◌}
 use Rattle.std.specs.List.{Contains}
-use Rattle.std.specs.Option.{is_some}
-use Rattle.std.specs.Prelude.{Bool, IfSome, List, None, Option, Some, [], if◌then◌else◌, ℕ, ◌∷◌, ◌≡◌, ◌⊎◌}
-
-pub decide : (b : Bool) → (b ≡ true) ⊎ (b ≡ false)
-decide true = inl refl
-decide false = inr refl
+use Rattle.std.specs.Option.{is_some, option_and_then, option_map}
+use Rattle.std.specs.Prelude.{Bool, IfSome, List, None, Option, Some, [], if◌then◌else◌, not, ℕ, ◌∷◌, ◌≡◌}
 
 -- ---- steps
-same_bytes : (q name : List ℕ) → bytes_eq q name ≡ true → q ≡ name
-same_bytes q name e = (bytes_eq-Decides q name).0 e
-
-other_bytes : (q name : List ℕ) → bytes_eq q name ≡ false → q ≢ name
-other_bytes q name e f = true≢false (sym ((bytes_eq-Decides q name).1 f) ∙ e)
-
-with_one : (name : List ℕ) (o : State) (old new : Machine) → new.object name ≡ Some o → ((q : List ℕ) → q ≢ name → new.object q ≡ old.object q) → IsKept o → AllKept old → AllKept new
-with_one name o old new is others kept all = record {
-  each = λ q. elim (decide (bytes_eq q name)) [
-    | inl e ↦ subst (λ z. IfSome z IsKept) (sym (ap new.object (same_bytes q name e) ∙ is)) kept
-    | inr e ↦ subst (λ z. IfSome z IsKept) (sym (others q (other_bytes q name e))) (all.each q)
-  ];
-}
-
 looks_kept : (old new : Machine) → Looks old new → AllKept old → AllKept new
 looks_kept old new l all = record { each = λ q. subst (λ z. IfSome z IsKept) (sym (l.objects q)) (all.each q) }
 
-becomes_kept : (name : List ℕ) (c : Configuration) (old new : Machine) → Becomes name c old new → IsKept c.object → AllKept old → AllKept new
-becomes_kept name c old new b kept all = with_one name c.object old new b.object b.others kept all
-
-ensured_kept : (book : List Rule) (asked : PropSet) (ending : Ending) (old new : Configuration) → Ensured book None asked ending old new → IsKept old.object → IsKept new.object
-ensured_kept book asked ending old new e kept = reaching_keeps book None asked unsettled at_rest old new e.reaches kept
-
-stays_kept : (old new : Machine) → Stays old new → AllKept old → AllKept new
-stays_kept old new s all = record { each = λ q. subst (λ z. IfSome z IsKept) (sym (s.objects q)) (all.each q) }
+some_is : {A : Type 0} {a b : A} → Some a ≡ Some b → a ≡ b
+some_is h = cc
 
 pub some_not_none : {A : Type 0} {a : A} → Some a ≡ None → ⊥
 some_not_none e = true≢false (ap is_some e)
 
-object_is : (m : Machine) (ref : RefSeen) (o : State) → object_at m ref ≡ Some o → m.object ref.name ≡ Some o
-object_is m ref o e = by ref.sub e
+-- the object that a REF names is the one of its name
+and_then_some : {A B : Type 0} (f : A → Option B) (x : Option A) (b : B) → option_and_then f x ≡ Some b → (a : A) × (x ≡ Some a) × (f a ≡ Some b)
+and_then_some f None b e = absurd (some_not_none (sym e))
+and_then_some f (Some a) b e = (a, refl, e)
+
+part_object : (o : State) (part : Option (List ℕ)) (x : Named) → part_named o part ≡ Some x → x.object ≡ o
+part_object o None x e = ap (λ (z : Named). z.object) (sym (some_is e))
+part_object o (Some name) x e = by (place_named name o) e
   where
-    by : (sub : Option (List ℕ)) → whole_of sub (m.object ref.name) ≡ Some o → m.object ref.name ≡ Some o
-    by None h = h
-    by (Some s) h = absurd (some_not_none (sym h))
+    by : (place : Option ℕ) → option_map (λ s. record { object = o; sub = Some s }) place ≡ Some x → x.object ≡ o
+    by None h = absurd (some_not_none (sym h))
+    by (Some s) h = ap (λ (z : Named). z.object) (sym (some_is h))
 
-pub kept_at : (m : Machine) (ref : RefSeen) (o : State) → object_at m ref ≡ Some o → AllKept m → IsKept o
-kept_at m ref o e all = subst (λ z. IfSome z IsKept) (object_is m ref o e) (all.each ref.name)
+pub kept_at : (m : Machine) (ref : RefSeen) (x : Named) → named_at m ref ≡ Some x → AllKept m → IsKept x.object
+kept_at m ref x e all =
+    let (o, at, part) = and_then_some (λ o. part_named o ref.sub) (m.object ref.name) x e in
+    subst IsKept (sym (part_object o ref.sub x part)) (subst (λ z. IfSome z IsKept) at (all.each ref.name))
 
-refusal_unsealed : (o : State) (p : PropId) (v : PropertyValue) → take_refusal o p v ≡ None → is_sealed o ≡ false
-refusal_unsealed o p v e = by _ (is_held p (read_at None o.held)) (is_sealed o) e
+-- an object that takes a value was not sealed
+refusal_unsealed : (o : State) (sub : Option ℕ) (p : PropId) (v : PropertyValue) → take_refusal o sub p v ≡ None → is_sealed_at sub o ≡ false
+refusal_unsealed o sub p v e = by _ (is_held p (read_at sub o.held)) (is_sealed_at sub o) e
   where
     by : (x : Option TakeFail) (a b : Bool) → (if a then Some fail.AlreadyHeld else (if b then Some fail.Sealed else x)) ≡ None → b ≡ false
     by x true b h = absurd (some_not_none h)
     by x false true h = absurd (some_not_none h)
     by x false false h = refl
 
-taken_unsealed : (o : State) (p : PropId) (g : Given) (v : PropertyValue) → TakeValue o p g None (Some v) → is_sealed o ≡ false
-taken_unsealed o p no_json v h = absurd h
-taken_unsealed o p (faulty e) v h = absurd h
-taken_unsealed o p (value w) v h = refusal_unsealed o p w h.1.0
+-- a program takes its objective alone
+refusal_given : (o : State) (sub : Option ℕ) (p : PropId) (v : PropertyValue) → take_refusal o sub p v ≡ None → is_given_at o.of sub p ≡ true
+refusal_given o sub p v e = by _ (is_held p (read_at sub o.held)) (is_sealed_at sub o) (is_given_at o.of sub p) e
+  where
+    by : (x : Option TakeFail) (a b c : Bool) → (if a then Some fail.AlreadyHeld else (if b then Some fail.Sealed else (if not c then Some fail.NotOfType else x))) ≡ None → c ≡ true
+    by x true b c h = absurd (some_not_none h)
+    by x false true c h = absurd (some_not_none h)
+    by x false false true h = refl
+    by x false false false h = absurd (some_not_none h)
 
-one_given : (p : PropId) (v : PropertyValue) (h : HeldValue) → Contains (given_value p v ∷ []) h → is_based h.origin ≡ true
-one_given p v h i = ap (λ (z : HeldValue). is_based z.origin) (only (among_Contains (given_value p v ∷ []) i))
+taken_free : (o : State) (sub : Option ℕ) (p : PropId) (g : Given) (v : PropertyValue) → TakeValue o sub p g None (Some v) → take_refusal o sub p v ≡ None
+taken_free o sub p no_json v h = absurd h
+taken_free o sub p (faulty e) v h = absurd h
+taken_free o sub p (value w) v (same, (can, _)) = subst (λ z. take_refusal o sub p z ≡ None) (sym (some_is same)) can
+
+one_given : (p : PropId) (v : PropertyValue) (h : HeldValue) → Contains (given_at None p v ∷ []) h → is_based h.origin ≡ true
+one_given p v h i = ap (λ (z : HeldValue). is_based z.origin) (only (among_Contains (given_at None p v ∷ []) i))
+
+-- what is given leaves an object kept: to itself while no round was started, to a program its objective at any time
+given_is_kept : (o : State) (sub : Option ℕ) (p : PropId) (v : PropertyValue) → take_refusal o sub p v ≡ None → IsKept o → IsKept (with_held o (given_at sub p v ∷ []))
+given_is_kept o None p v e kept = based_is_kept o (given_at None p v ∷ []) (unsealed_has_no_rounds o (refusal_unsealed o None p v e)) (one_given p v) kept
+given_is_kept o (Some s) p v e kept = subst (λ q. IsKept (with_held o (given_at (Some s) q v ∷ []))) (same_property_is LinearObjective p (refusal_given o (Some s) p v e)) (objective_is_kept o s v kept)
+
+-- a program more leaves an object kept
+program_is_kept : (o : State) (name : List ℕ) → IsKept o → IsKept (with_program o name)
+program_is_kept o name kept = record { honest = honesty_is_of_values o (with_program o name) refl refl kept.honest; based = kept.based }
+
+new_object_keeps : (old new : Machine) (name text : List ℕ) (reply : ReplySeen) → NewObjectStep old name text reply new → AllKept old → AllKept new
+new_object_keeps old new name text (refused UnknownType nothing) (h, s) all = stays_kept old new s all
+new_object_keeps old new name text (refused NameTaken nothing) (h, k, s) all = stays_kept old new s all
+new_object_keeps old new name text (refused ObjectsFull nothing) (h, k, l, s) all = stays_kept old new s all
+new_object_keeps old new name text (done t) (of, h, k, l, told, g) all = with_one name _ old new g.object g.others (empty_is_kept of) all
+new_object_keeps old new name text reply h all = absurd h
+
+new_program_keeps : (old new : Machine) (name sub text : List ℕ) (reply : ReplySeen) → NewProgramStep old name sub text reply new → AllKept old → AllKept new
+new_program_keeps old new name sub text (refused UnknownType nothing) (inl (h, s)) all = stays_kept old new s all
+new_program_keeps old new name sub text (refused UnknownType nothing) (inr (h, (o, at, why, s))) all = stays_kept old new s all
+new_program_keeps old new name sub text (refused UnknownName nothing) (h, k, s) all = stays_kept old new s all
+new_program_keeps old new name sub text (refused NameTaken nothing) (h, (o, at, why, s)) all = stays_kept old new s all
+new_program_keeps old new name sub text (refused ObjectsFull nothing) (h, (o, at, why, s)) all = stays_kept old new s all
+new_program_keeps old new name sub text (done t) (h, o, at, free, told, becomes) all =
+    becomes_kept name _ old new becomes (program_is_kept o sub (subst (λ z. IfSome z IsKept) at (all.each name))) all
+new_program_keeps old new name sub text reply h all = absurd h
+
+new_of_keeps : (old new : Machine) (name : List ℕ) (sub : Option (List ℕ)) (text : List ℕ) (reply : ReplySeen) → NewOf old name sub text reply new → AllKept old → AllKept new
+new_of_keeps old new name None text reply h all = new_object_keeps old new name text reply h all
+new_of_keeps old new name (Some sub) text reply h all = new_program_keeps old new name sub text reply h all
 
 new_keeps : (old new : Machine) (ref : RefSeen) (text : List ℕ) (reply : ReplySeen) → NewStep old ref text reply new → AllKept old → AllKept new
-new_keeps old new ref text (refused UnknownType nothing) (h, s) all = stays_kept old new s all
-new_keeps old new ref text (refused NameTaken nothing) (h, k, s) all = stays_kept old new s all
-new_keeps old new ref text (refused ObjectsFull nothing) (h, k, l, s) all = stays_kept old new s all
-new_keeps old new ref text done (of, h, k, l, g) all = with_one ref.name _ old new g.object g.others (empty_is_kept of) all
-new_keeps old new ref text reply h all = absurd h
+new_keeps old new ref text reply h all = new_of_keeps old new ref.name ref.sub text reply h all
 
 take_keeps : (old new : Machine) (ref : RefSeen) (text json : List ℕ) (reply : ReplySeen) → TakeStep old ref text json reply new → AllKept old → AllKept new
 take_keeps old new ref text json (refused UnknownName nothing) (h, s) all = stays_kept old new s all
 take_keeps old new ref text json (refused UnknownProperty nothing) (o, h, k, s) all = stays_kept old new s all
-take_keeps old new ref text json done (o, at, p, named, v, taken, becomes) all =
-    becomes_kept ref.name _ old new becomes
-    (based_is_kept o (given_value p v ∷ []) (unsealed_has_no_rounds o (taken_unsealed o p _ v taken)) (one_given p v) (kept_at old ref o at all)) all
+take_keeps old new ref text json (done t) (x, at, p, named, v, taken, told, becomes) all =
+    becomes_kept ref.name _ old new becomes (given_is_kept x.object x.sub p v (taken_free x.object x.sub p _ v taken) (kept_at old ref x at all)) all
 take_keeps old new ref text json (refused AlreadyHeld nothing) (o, at, p, named, taken, s) all = stays_kept old new s all
 take_keeps old new ref text json (refused Sealed nothing) (o, at, p, named, taken, s) all = stays_kept old new s all
 take_keeps old new ref text json (refused (BadValue why) nothing) (o, at, p, named, taken, s) all = stays_kept old new s all
 take_keeps old new ref text json reply h all = absurd h
 
-given_kept : (book : List Rule) (old new : Configuration) (name : List ℕ) (p : PropId) (reply : ReplySeen) → Gives book old name p reply new → IsKept old.object → IsKept new.object
-given_kept book old new name p (refused NoChain more) (e, _) kept = ensured_kept book (only_property p) ending.NoChain old new e kept
-given_kept book old new name p (refused Crowded more) (e, _) kept = ensured_kept book (only_property p) ending.Crowded old new e kept
-given_kept book old new name p (shows n of q v t) (e, same, typed, is, held, rounds) kept = ensured_kept book (only_property p) ending.Found old new e kept
-given_kept book old new name p reply h kept = absurd h
+given_kept : (book : List Rule) (old new : Configuration) (sub : Option ℕ) (name : List ℕ) (p : PropId) (reply : ReplySeen) → Gives book old sub name p reply new → IsKept old.object → IsKept new.object
+given_kept book old new sub name p (refused NoChain more) (e, _) kept = ensured_kept book sub (only_property p) ending.NoChain old new e kept
+given_kept book old new sub name p (refused Crowded more) (e, _) kept = ensured_kept book sub (only_property p) ending.Crowded old new e kept
+given_kept book old new sub name p (shows n of q v t) (e, same, typed, is, held, rounds) kept = ensured_kept book sub (only_property p) ending.Found old new e kept
+given_kept book old new sub name p reply h kept = absurd h
 
 gave_keeps : (book : List Rule) (old new : Machine) (ref : RefSeen) (text : List ℕ) (reply : ReplySeen) → Gave book old ref text reply new → AllKept old → AllKept new
-gave_keeps book old new ref text reply (o, at, p, named, c, gives, becomes) all =
-    becomes_kept ref.name c old new becomes (given_kept book (configuration o old.clients) c ref.name p reply gives (kept_at old ref o at all)) all
+gave_keeps book old new ref text reply (x, at, p, named, c, gives, becomes) all =
+    becomes_kept ref.name c old new becomes (given_kept book (configuration x.object old.clients) c x.sub (ref_text ref) p reply gives (kept_at old ref x at all)) all
 
 give_keeps : (book : List Rule) (old new : Machine) (ref : RefSeen) (text : List ℕ) (reply : ReplySeen) → GiveStep book old ref text reply new → AllKept old → AllKept new
 give_keeps book old new ref text (refused UnknownName nothing) (h, s) all = stays_kept old new s all
@@ -124,15 +149,15 @@ give_keeps book old new ref text (refused Crowded more) h all = gave_keeps book 
 give_keeps book old new ref text (shows name of p v t) h all = gave_keeps book old new ref text (shows name of p v t) h all
 give_keeps book old new ref text reply h all = absurd h
 
-all_ensured_kept : (book : List Rule) (old new : Configuration) (asked : PropSet) (reply : ReplySeen) → Ensures book old asked reply new → IsKept old.object → IsKept new.object
-all_ensured_kept book old new asked (refused NoChain more) (e, _) kept = ensured_kept book asked ending.NoChain old new e kept
-all_ensured_kept book old new asked (refused Crowded more) (e, _) kept = ensured_kept book asked ending.Crowded old new e kept
-all_ensured_kept book old new asked (ensured t) (e, _) kept = ensured_kept book asked ending.Found old new e kept
-all_ensured_kept book old new asked reply h kept = absurd h
+all_ensured_kept : (book : List Rule) (old new : Configuration) (sub : Option ℕ) (asked : PropSet) (reply : ReplySeen) → Ensures book old sub asked reply new → IsKept old.object → IsKept new.object
+all_ensured_kept book old new sub asked (refused NoChain more) (e, _) kept = ensured_kept book sub asked ending.NoChain old new e kept
+all_ensured_kept book old new sub asked (refused Crowded more) (e, _) kept = ensured_kept book sub asked ending.Crowded old new e kept
+all_ensured_kept book old new sub asked (ensured t) (e, _) kept = ensured_kept book sub asked ending.Found old new e kept
+all_ensured_kept book old new sub asked reply h kept = absurd h
 
 ensured_all_keeps : (book : List Rule) (old new : Machine) (ref : RefSeen) (words : List (List ℕ)) (reply : ReplySeen) → EnsuredAll book old ref words reply new → AllKept old → AllKept new
-ensured_all_keeps book old new ref words reply (o, at, asked, named, c, ensures, becomes) all =
-    becomes_kept ref.name c old new becomes (all_ensured_kept book (configuration o old.clients) c asked reply ensures (kept_at old ref o at all)) all
+ensured_all_keeps book old new ref words reply (x, at, asked, named, c, ensures, becomes) all =
+    becomes_kept ref.name c old new becomes (all_ensured_kept book (configuration x.object old.clients) c x.sub asked reply ensures (kept_at old ref x at all)) all
 
 ensure_keeps : (book : List Rule) (old new : Machine) (ref : RefSeen) (words : List (List ℕ)) (reply : ReplySeen) → EnsureStep book old ref words reply new → AllKept old → AllKept new
 ensure_keeps book old new ref words (refused UnknownName nothing) (h, s) all = stays_kept old new s all
@@ -143,7 +168,7 @@ ensure_keeps book old new ref words (ensured t) h all = ensured_all_keeps book o
 ensure_keeps book old new ref words reply h all = absurd h
 
 explained_keeps : (book : List Rule) (old new : Machine) (ref : RefSeen) (words : List (List ℕ)) (reply : ReplySeen) → ExplainedAll book old ref words reply new → AllKept old → AllKept new
-explained_keeps book old new ref words reply (o, at, asked, named, explains, becomes) all = becomes_kept ref.name _ old new becomes (settled_is_kept o (kept_at old ref o at all)) all
+explained_keeps book old new ref words reply (x, at, asked, named, explains, becomes) all = becomes_kept ref.name _ old new becomes (settled_is_kept x.object (kept_at old ref x at all)) all
 
 explain_keeps : (book : List Rule) (old new : Machine) (ref : RefSeen) (words : List (List ℕ)) (reply : ReplySeen) → ExplainStep book old ref words reply new → AllKept old → AllKept new
 explain_keeps book old new ref words (refused UnknownName nothing) (h, s) all = stays_kept old new s all
@@ -175,25 +200,25 @@ disabled_kept o label kept = by (is_disabled label o.disabled)
 disable_keeps : (book : List Rule) (old new : Machine) (name label : List ℕ) (reply : ReplySeen) → DisableStep book old name label reply new → AllKept old → AllKept new
 disable_keeps book old new name label (refused UnknownName nothing) (h, s) all = stays_kept old new s all
 disable_keeps book old new name label (refused UnknownRule nothing) (h, k, s) all = stays_kept old new s all
-disable_keeps book old new name label done (o, at, known, becomes) all =
+disable_keeps book old new name label (done t) (told, o, at, known, becomes) all =
     becomes_kept name _ old new becomes (disabled_kept o label (subst (λ z. IfSome z IsKept) at (all.each name))) all
 disable_keeps book old new name label reply h all = absurd h
 
 unload_keeps : (old new : Machine) (name : List ℕ) (reply : ReplySeen) → UnloadStep old name reply new → AllKept old → AllKept new
 unload_keeps old new name (refused UnknownRule nothing) (h, s) all = stays_kept old new s all
-unload_keeps old new name done (h, u) all = record { each = λ q. subst (λ z. IfSome z IsKept) (sym (u.objects q)) (all.each q) }
+unload_keeps old new name (done t) (told, h, u) all = record { each = λ q. subst (λ z. IfSome z IsKept) (sym (u.objects q)) (all.each q) }
 unload_keeps old new name reply h all = absurd h
 
 copy_keeps : (old new : Machine) (name to : List ℕ) (reply : ReplySeen) → CopyStep old name to reply new → AllKept old → AllKept new
 copy_keeps old new name to (refused UnknownName nothing) (h, s) all = stays_kept old new s all
 copy_keeps old new name to (refused NameTaken nothing) (h, k, s) all = stays_kept old new s all
 copy_keeps old new name to (refused ObjectsFull nothing) (h, k, l, s) all = stays_kept old new s all
-copy_keeps old new name to done (o, at, k, l, g) all = with_one to o old new g.object g.others (subst (λ z. IfSome z IsKept) at (all.each name)) all
+copy_keeps old new name to (done t) (told, o, at, k, l, g) all = with_one to o old new g.object g.others (subst (λ z. IfSome z IsKept) at (all.each name)) all
 copy_keeps old new name to reply h all = absurd h
 
 drop_keeps : (old new : Machine) (name : List ℕ) (reply : ReplySeen) → DropStep old name reply new → AllKept old → AllKept new
 drop_keeps old new name (refused UnknownName nothing) (h, s) all = stays_kept old new s all
-drop_keeps old new name done (h, l) all = record {
+drop_keeps old new name (done t) (told, h, l) all = record {
   each = λ q. elim (decide (bytes_eq q name)) [
     | inl e ↦ subst (λ z. IfSome z IsKept) (sym (ap new.object (same_bytes q name e) ∙ l.object)) tt
     | inr e ↦ subst (λ z. IfSome z IsKept) (sym (l.others q (other_bytes q name e))) (all.each q)
@@ -228,7 +253,7 @@ save_keeps : (book : List Rule) (old new : Machine) (name file : List ℕ) (repl
 save_keeps book old new name file (refused UnknownName nothing) (h, s) all = stays_kept old new s all
 save_keeps book old new name file (refused (NotFit condition.Size) nothing) (o, at, long, s) all = stays_kept old new s all
 save_keeps book old new name file (refused StoreFault nothing) (o, at, short, fails, p) all = puts_kept _ old new p all
-save_keeps book old new name file done (o, at, short, p, again) all = puts_kept _ old new p all
+save_keeps book old new name file (done t) (told, o, at, short, p, again) all = puts_kept _ old new p all
 save_keeps book old new name file reply h all = absurd h
 
 pub steps_keep : (book : List Rule) (old new : Machine) (command : Spoken) (reply : ReplySeen) → Step book old command reply new → AllKept old → AllKept new
@@ -248,37 +273,27 @@ steps_keep book old new (drop_object name) reply h all = drop_keeps old new name
 steps_keep book old new (tell_origin ref text) reply h all = origin_keeps old new ref text reply h all
 steps_keep book old new (load_object name file) reply h all = load_keeps book old new name file reply h all
 steps_keep book old new (save_object name file) reply h all = save_keeps book old new name file reply h all
+steps_keep book old new (make_object to shape) reply h all = make_keeps old new to shape reply h all
+steps_keep book old new (build_polar name to) reply h all = build_keeps book polar_building old new name to reply h all
+steps_keep book old new (build_pyramid name to) reply h all = build_keeps book pyramid_building old new name to reply h all
+steps_keep book old new (build_normal_fan name to) reply h all = build_keeps book normal_fan_building old new name to reply h all
+steps_keep book old new (build_face_fan name to) reply h all = build_keeps book face_fan_building old new name to reply h all
+steps_keep book old new (build_product first second to) reply h all = product_keeps book old new first second to reply h all
 
 -- ---- a step that was broken off
-honest_of : (x : Option State) → IfSome x IsKept → IfSome x IsHonest
-honest_of None h = tt
-honest_of (Some o) h = h.honest
-
-pub all_honest : (m : Machine) → AllKept m → AllHonest m
-all_honest m all = record { each = λ q. honest_of (m.object q) (all.each q) }
-
-pub stays_honest : (old new : Machine) → Stays old new → AllKept old → AllHonest new
-stays_honest old new s all = record { each = λ q. subst (λ z. IfSome z IsHonest) (sym (s.objects q)) (honest_of (old.object q) (all.each q)) }
-
-part_honest : (book : List Rule) (asked : PropSet) (old new : Machine) (ref : RefSeen) (o : State) (now : Configuration) → object_at old ref ≡ Some o → EnsuredInPart book None asked (configuration o old.clients) now
+part_honest : (book : List Rule) (asked : PropSet) (old new : Machine) (ref : RefSeen) (x : Named) (now : Configuration) → named_at old ref ≡ Some x → EnsuredInPart book x.sub asked (configuration x.object old.clients) now
     → Becomes ref.name now old new → AllKept old → AllHonest new
-part_honest book asked old new ref o now named part becomes all = record {
-  each = λ q. elim (decide (bytes_eq q ref.name)) [
-    | inl e ↦ subst (λ z. IfSome z IsHonest) (sym (ap new.object (same_bytes q ref.name e) ∙ becomes.object))
-        (ensuring_in_part_keeps book None asked _ now part (kept_at old ref o named all))
-    | inr e ↦ subst (λ z. IfSome z IsHonest) (sym (becomes.others q (other_bytes q ref.name e))) (honest_of (old.object q) (all.each q))
-  ];
-}
+part_honest book asked old new ref x now named part becomes all = becomes_part_honest book x.sub asked old new ref.name x.object now (kept_at old ref x named all) part becomes all
 
 settled_honest : (old new : Machine) (ref : RefSeen) → IsSettled old ref new → AllKept old → AllHonest new
 settled_honest old new ref s all =
-    all_honest new (becomes_kept ref.name _ old new s.becomes (settled_is_kept s.object (kept_at old ref s.object s.named all)) all)
+    all_honest new (becomes_kept ref.name _ old new s.becomes (settled_is_kept s.found.object (kept_at old ref s.found s.named all)) all)
 
 pub steps_in_part_keep : (book : List Rule) (old new : Machine) (command : Spoken) → StepInPart book old command new → AllKept old → AllHonest new
 steps_in_part_keep book old new (give_value ref text) (inl s) all = stays_honest old new s all
-steps_in_part_keep book old new (give_value ref text) (inr g) all = part_honest book (only_property g.property) old new ref g.object g.now g.named g.ensured g.becomes all
+steps_in_part_keep book old new (give_value ref text) (inr g) all = part_honest book (only_property g.property) old new ref g.found g.now g.named g.ensured g.becomes all
 steps_in_part_keep book old new (ensure_values ref words) (inl s) all = stays_honest old new s all
-steps_in_part_keep book old new (ensure_values ref words) (inr g) all = part_honest book g.asked old new ref g.object g.now g.named g.ensured g.becomes all
+steps_in_part_keep book old new (ensure_values ref words) (inr g) all = part_honest book g.asked old new ref g.found g.now g.named g.ensured g.becomes all
 steps_in_part_keep book old new (explain_values ref words) (inl s) all = stays_honest old new s all
 steps_in_part_keep book old new (explain_values ref words) (inr s) all = settled_honest old new ref s all
 steps_in_part_keep book old new (tell_history name) s all = stays_honest old new s all
@@ -295,3 +310,9 @@ steps_in_part_keep book old new (tell_origin ref text) s all = stays_honest old 
 steps_in_part_keep book old new (load_object name file) l all = all_honest new (looks_kept old new l all)
 steps_in_part_keep book old new (save_object name file) (inl s) all = stays_honest old new s all
 steps_in_part_keep book old new (save_object name file) (inr (o, at, p)) all = all_honest new (puts_kept _ old new p all)
+steps_in_part_keep book old new (make_object to shape) s all = stays_honest old new s all
+steps_in_part_keep book old new (build_polar name to) h all = parts_honest book (wanted_of name polar_building.reads) old new h all
+steps_in_part_keep book old new (build_pyramid name to) h all = parts_honest book (wanted_of name pyramid_building.reads) old new h all
+steps_in_part_keep book old new (build_normal_fan name to) h all = parts_honest book (wanted_of name normal_fan_building.reads) old new h all
+steps_in_part_keep book old new (build_face_fan name to) h all = parts_honest book (wanted_of name face_fan_building.reads) old new h all
+steps_in_part_keep book old new (build_product first second to) h all = parts_honest book (product_wanted first second) old new h all

@@ -1,7 +1,11 @@
 pub mod Traces
+pub mod KeptObjects
+pub mod KeptBuilding
 pub mod Kept
 pub mod Barred
 pub mod BarredReasons
+pub mod BesideObjects
+pub mod BesideBuilding
 pub mod Beside
 pub mod Faults
 pub mod Running
@@ -14,4 +18,14 @@ pub mod Names
 pub mod FirstHeld
 pub mod Unloading
 pub mod Refused
+pub mod Spoken
+pub mod Ensuring
+pub mod Growth
+pub mod Adding
+pub mod Fits
+pub mod BuildSteps
+pub mod BuildNames
+pub mod BuildParts
+pub mod Told
 pub mod Examples
+pub mod BuildingExamples

@@ -1,7 +1,10 @@
 -- Objects by name, and the steps that change one.
 use Rattle.pm_client.specs.Starts.{Clients}
 use Rattle.pm_props.specs.declared.object_type.ObjectType.{ObjectType}
-use Rattle.pm_machine.proofs.Kept.{all_honest, steps_in_part_keep, steps_keep}
+use Rattle.pm_machine.proofs.Ensuring.{stays_part}
+use Rattle.pm_machine.proofs.Kept.{steps_in_part_keep, steps_keep}
+use Rattle.pm_machine.proofs.KeptObjects.{all_honest}
+use Rattle.pm_machine.specs.Building.{face_fan_building, normal_fan_building, polar_building, product_wanted, pyramid_building, wanted_of}
 use Rattle.pm_machine.proofs.Beside.{looks_of_stays}
 use Rattle.pm_machine.specs.Chains.{AreBarred, held_names, table}
 use Rattle.pm_machine.specs.Events.{Configuration, Ensured, EnsuredInPart, at_rest, configuration}
@@ -9,7 +12,12 @@ use Rattle.pm_machine.specs.declared.round.Ending.{Ending}
 use Rattle.pm_machine.specs.declared.round.Ending.TheVariants as ending
 use Rattle.pm_machine.specs.Parts.{AllHonest, StepInPart}
 use Rattle.pm_machine.specs.Reasons.{AreReasons}
-use Rattle.pm_machine.specs.Steps.{AllKept, Becomes, DisableStep, EnsureStep, Ensures, ExplainStep, Explains, Gains, Given, GiveStep, Gives, Loses, Machine, Stays, Step, TakeStep, TakeValue, Taken, asked_in, disabling, faulty, given_by, has_label, later_rounds, named_rounds, no_json, property_named, rounds_beside, rule_names, settled_object, value, whole_of, without_name}
+use Rattle.pm_machine.specs.Machines.{Becomes, Gains, Loses, Machine, Stays, later_rounds, no_rounds, without_name}
+use Rattle.pm_command.specs.Grammar.{ref_text}
+use Rattle.pm_object.specs.State.{program_refusal, with_program}
+use Rattle.pm_object.specs.declared.held.ProgramFail.{ProgramFail}
+use Rattle.pm_machine.specs.Steps.{NewProgramStep, ProgramRefuses, is_program_word}
+use Rattle.pm_machine.specs.Steps.{AllKept, DisableStep, EnsureStep, Ensures, ExplainStep, Explains, Given, GiveStep, Gives, Step, TakeStep, TakeValue, Taken, asked_in, disabling, faulty, given_by, has_label, Named, named_at, named_rounds, names_told, no_json, part_named, property_named, rounds_beside, settled_object, value}
 use Rattle.pm_object.proofs.Names.{names_held}
 use Rattle.pm_object.specs.State.{ObjectSeen, RoundSeen, State, is_held, read_at, value_of}
 use Rattle.pm_object.specs.Views.{round_seen}
@@ -17,7 +25,7 @@ use Rattle.pm_object.specs.declared.held.Round.{Round}
 use Rattle.pm_plan.specs.Plans.{HasNoPlan, IsCrowded, IsPlan}
 use Rattle.pm_rules.specs.declared.rule.Rule.{Rule}
 use Rattle.pm_rules.specs.declared.table.TableRow.{TableRow}
-use Rattle.pm_script.specs.Commands.{RefSeen, Spoken, blank, new_object, take_value, give_value, look_up, ensure_values, explain_values, tell_history, show_rules, disable_rule, unload_client, copy_object, drop_object, tell_origin, load_object, save_object}
+use Rattle.pm_command.specs.Commands.{RefSeen, Spoken, blank, new_object, take_value, give_value, look_up, ensure_values, explain_values, tell_history, show_rules, disable_rule, unload_client, copy_object, drop_object, tell_origin, load_object, save_object, make_object, build_polar, build_pyramid, build_normal_fan, build_face_fan, build_product}
 use Rattle.pm_script.specs.Replies.{NamesSeen, Remarks, ReplySeen, Rounds, done, ensured, explained, lists_rules, nothing, planned, refused, remarks, shows, tells, tells_origin, told, undef, loaded}
 use Rattle.pm_script.specs.declared.names.Bar.{Bar}
 use Rattle.pm_script.specs.declared.refusal.Refusal.{Refusal}
@@ -39,7 +47,7 @@ use Rattle.indexmap.specs.IndexMap.{insert_entry}
 use Rattle.std.proofs.lemmas.List.{length-map, map-append}
 use Rattle.std.specs.HashMap.{HashMap, UpdatesBy, get, get_by_text, keys}
 use Rattle.std.specs.Map.{keys_of, lookup, remove_entry}
-use Rattle.std.specs.Option.{IsSome, is_some, option_map}
+use Rattle.std.specs.Option.{IsSome, is_some, option_and_then, option_map}
 use Rattle.std.specs.String.{string_eq}
 use Rattle.std.specs.Prelude.{Bool, String, Err, IfOk, List, None, Ok, OnErr, OnOk, Option, Result, Some, [], cond, drop, length, map, string_bytes, ℕ, ◌++◌, ◌∷◌, ◌≡◌, ◌⊎◌}
 
@@ -169,64 +177,63 @@ is_of_taking Sealed = true
 is_of_taking (BadValue w) = true
 is_of_taking w = false
 
-not_taken : (o : State) (p : PropId) (w : Refusal) (g : Given) → is_of_taking w ≡ false → TakeValue o p g (Some w) None → ⊥
-not_taken o p AlreadyHeld g e h = true≢false e
-not_taken o p Sealed g e h = true≢false e
-not_taken o p (BadValue v) g e h = true≢false e
-not_taken o p BadCommand no_json e h = h
-not_taken o p BadCommand (faulty f) e h = h
-not_taken o p BadCommand (value v) e h = h
-not_taken o p UnknownName no_json e h = h
-not_taken o p UnknownName (faulty f) e h = h
-not_taken o p UnknownName (value v) e h = h
-not_taken o p NameTaken no_json e h = h
-not_taken o p NameTaken (faulty f) e h = h
-not_taken o p NameTaken (value v) e h = h
-not_taken o p UnknownType no_json e h = h
-not_taken o p UnknownType (faulty f) e h = h
-not_taken o p UnknownType (value v) e h = h
-not_taken o p UnknownProperty no_json e h = h
-not_taken o p UnknownProperty (faulty f) e h = h
-not_taken o p UnknownProperty (value v) e h = h
-not_taken o p ObjectsFull no_json e h = h
-not_taken o p ObjectsFull (faulty f) e h = h
-not_taken o p ObjectsFull (value v) e h = h
-not_taken o p NoChain no_json e h = h
-not_taken o p NoChain (faulty f) e h = h
-not_taken o p NoChain (value v) e h = h
-not_taken o p Crowded no_json e h = h
-not_taken o p Crowded (faulty f) e h = h
-not_taken o p Crowded (value v) e h = h
-not_taken o p StoreFault no_json e h = h
-not_taken o p (BadFile y) no_json e h = h
-not_taken o p NoSuchFile no_json e h = h
-not_taken o p (NotFit y) no_json e h = h
-not_taken o p LineTooLong no_json e h = h
-not_taken o p StoreFault (faulty f) e h = h
-not_taken o p (BadFile y) (faulty f) e h = h
-not_taken o p NoSuchFile (faulty f) e h = h
-not_taken o p (NotFit y) (faulty f) e h = h
-not_taken o p LineTooLong (faulty f) e h = h
-not_taken o p StoreFault (value v) e h = h
-not_taken o p (BadFile y) (value v) e h = h
-not_taken o p NoSuchFile (value v) e h = h
-not_taken o p (NotFit y) (value v) e h = h
-not_taken o p LineTooLong (value v) e h = h
-not_taken o p UnknownRule no_json e h = h
-not_taken o p UnknownRule (faulty f) e h = h
-not_taken o p UnknownRule (value v) e h = h
+not_taken : (o : State) (sub : Option ℕ) (p : PropId) (w : Refusal) (g : Given) → is_of_taking w ≡ false → TakeValue o sub p g (Some w) None → ⊥
+not_taken o sub p AlreadyHeld g e h = true≢false e
+not_taken o sub p Sealed g e h = true≢false e
+not_taken o sub p (BadValue v) g e h = true≢false e
+not_taken o sub p BadCommand no_json e h = h
+not_taken o sub p BadCommand (faulty f) e h = h
+not_taken o sub p BadCommand (value v) e h = h
+not_taken o sub p UnknownName no_json e h = h
+not_taken o sub p UnknownName (faulty f) e h = h
+not_taken o sub p UnknownName (value v) e h = h
+not_taken o sub p NameTaken no_json e h = h
+not_taken o sub p NameTaken (faulty f) e h = h
+not_taken o sub p NameTaken (value v) e h = h
+not_taken o sub p UnknownType no_json e h = h
+not_taken o sub p UnknownType (faulty f) e h = h
+not_taken o sub p UnknownType (value v) e h = h
+not_taken o sub p UnknownProperty no_json e h = h
+not_taken o sub p UnknownProperty (faulty f) e h = h
+not_taken o sub p UnknownProperty (value v) e h = h
+not_taken o sub p ObjectsFull no_json e h = h
+not_taken o sub p ObjectsFull (faulty f) e h = h
+not_taken o sub p ObjectsFull (value v) e h = h
+not_taken o sub p NoChain no_json e h = h
+not_taken o sub p NoChain (faulty f) e h = h
+not_taken o sub p NoChain (value v) e h = h
+not_taken o sub p Crowded no_json e h = h
+not_taken o sub p Crowded (faulty f) e h = h
+not_taken o sub p Crowded (value v) e h = h
+not_taken o sub p StoreFault no_json e h = h
+not_taken o sub p (BadFile y) no_json e h = h
+not_taken o sub p NoSuchFile no_json e h = h
+not_taken o sub p (NotFit y) no_json e h = h
+not_taken o sub p LineTooLong no_json e h = h
+not_taken o sub p StoreFault (faulty f) e h = h
+not_taken o sub p (BadFile y) (faulty f) e h = h
+not_taken o sub p NoSuchFile (faulty f) e h = h
+not_taken o sub p (NotFit y) (faulty f) e h = h
+not_taken o sub p LineTooLong (faulty f) e h = h
+not_taken o sub p StoreFault (value v) e h = h
+not_taken o sub p (BadFile y) (value v) e h = h
+not_taken o sub p NoSuchFile (value v) e h = h
+not_taken o sub p (NotFit y) (value v) e h = h
+not_taken o sub p LineTooLong (value v) e h = h
+not_taken o sub p UnknownRule no_json e h = h
+not_taken o sub p UnknownRule (faulty f) e h = h
+not_taken o sub p UnknownRule (value v) e h = h
 
 -- ---- steps of the machine whose objects are given
 abbrev pub ref_with : List ℕ → Option (List ℕ) → RefSeen
 ref_with name sub = record { name = name; sub = sub }
 
-at_whole : (sub : Option (List ℕ)) (x : Option State) (o : State) → is_some sub ≡ false → x ≡ Some o → whole_of sub x ≡ Some o
-at_whole None x o e is = is
-at_whole (Some s) x o e is = absurd (true≢false e)
+-- what a REF names, with what it names of its object
+abbrev pub named_of : State → Option ℕ → Named
+named_of o sub = record { object = o; sub = sub }
 
-pub at_part : (sub : Option (List ℕ)) (x : Option State) → is_some sub ≡ true → whole_of sub x ≡ None
-at_part None x e = absurd (true≢false (sym e))
-at_part (Some s) x e = refl
+pub no_object : (m : Machine) (ref : RefSeen) → m.object ref.name ≡ None → named_at m ref ≡ None
+no_object m ref none = ap (λ x. option_and_then (λ o. part_named o ref.sub) x) none
 
 module _ {ns ms : List (List ℕ)} {old new : List ℕ → Option State} {name : List ℕ} {o o' : State} (w : IsWritten ns ms old new name o o') where
   pub stays_with : (clients : Clients) → o' ≡ o → Stays (machine_with ns old clients) (machine_with ms new clients)
@@ -236,63 +243,74 @@ module _ {ns ms : List (List ℕ)} {old new : List ℕ → Option State} {name :
   stays_if_err (Ok x) clients same = tt
   stays_if_err (Err e) clients same = stays_with clients same
 
-  module _ (sub : Option (List ℕ)) (text : List ℕ) (whole : is_some sub ≡ false) where
-    at : whole_of sub (old name) ≡ Some o
-    at = at_whole sub (old name) o whole w.was
+  -- the object has no program of the part's name
+  no_part : (part : Option (List ℕ)) (clients : Clients) → part_named o part ≡ None → named_at (machine_with ns old clients) (ref_with name part) ≡ None
+  no_part part clients none = ap (λ x. option_and_then (λ z. part_named z part) x) w.was ∙ none
 
-    pub take_unknown : (clients : Clients) (json : List ℕ) → property_named o.of text ≡ None → o' ≡ o
-        → TakeStep (machine_with ns old clients) (ref_with name sub) text json (refused UnknownProperty nothing) (machine_with ms new clients)
-    take_unknown clients json none same = (o, at, none, stays_with clients same)
+  pub part_unknown : (part : Option (List ℕ)) (clients : Clients) → part_named o part ≡ None → o' ≡ o
+      → (named_at (machine_with ns old clients) (ref_with name part) ≡ None) × Stays (machine_with ns old clients) (machine_with ms new clients)
+  part_unknown part clients none same = (no_part part clients none, stays_with clients same)
 
-    pub take_refused : (clients : Clients) (json : List ℕ) (p : PropId) (why : Refusal) → property_named o.of text ≡ Some p → Taken o p (given_by p (read json)) (Some why) o'
-        → TakeStep (machine_with ns old clients) (ref_with name sub) text json (refused why nothing) (machine_with ms new clients)
+  pub part_found : (part : Option (List ℕ)) (sub : Option ℕ) (clients : Clients) → part_named o part ≡ Some (named_of o sub) → named_at (machine_with ns old clients) (ref_with name part) ≡ Some (named_of o sub)
+  part_found part sub clients is = ap (λ x. option_and_then (λ z. part_named z part) x) w.was ∙ is
+
+  module _ (part : Option (List ℕ)) (sub : Option ℕ) (found : part_named o part ≡ Some (named_of o sub)) (text : List ℕ) where
+    at : (clients : Clients) → named_at (machine_with ns old clients) (ref_with name part) ≡ Some (named_of o sub)
+    at clients = part_found part sub clients found
+
+    pub take_unknown : (clients : Clients) (json : List ℕ) → property_named o.of sub text ≡ None → o' ≡ o
+        → TakeStep (machine_with ns old clients) (ref_with name part) text json (refused UnknownProperty nothing) (machine_with ms new clients)
+    take_unknown clients json none same = (named_of o sub, at clients, none, stays_with clients same)
+
+    pub take_refused : (clients : Clients) (json : List ℕ) (p : PropId) (why : Refusal) → property_named o.of sub text ≡ Some p → Taken o sub p (given_by p (read json)) (Some why) o'
+        → TakeStep (machine_with ns old clients) (ref_with name part) text json (refused why nothing) (machine_with ms new clients)
     take_refused clients json p why named t = by why t.0
       where
         stays : Stays (machine_with ns old clients) (machine_with ms new clients)
         stays = stays_with clients t.1
 
-        by : (y : Refusal) → TakeValue o p (given_by p (read json)) (Some y) None → TakeStep (machine_with ns old clients) (ref_with name sub) text json (refused y nothing) (machine_with ms new clients)
-        by AlreadyHeld h = (o, at, p, named, h, stays)
-        by Sealed h = (o, at, p, named, h, stays)
-        by (BadValue v) h = (o, at, p, named, h, stays)
-        by BadCommand h = absurd (not_taken o p BadCommand (given_by p (read json)) refl h)
-        by UnknownName h = absurd (not_taken o p UnknownName (given_by p (read json)) refl h)
-        by NameTaken h = absurd (not_taken o p NameTaken (given_by p (read json)) refl h)
-        by UnknownType h = absurd (not_taken o p UnknownType (given_by p (read json)) refl h)
-        by UnknownProperty h = absurd (not_taken o p UnknownProperty (given_by p (read json)) refl h)
-        by ObjectsFull h = absurd (not_taken o p ObjectsFull (given_by p (read json)) refl h)
-        by NoChain h = absurd (not_taken o p NoChain (given_by p (read json)) refl h)
-        by Crowded h = absurd (not_taken o p Crowded (given_by p (read json)) refl h)
-        by StoreFault h = absurd (not_taken o p StoreFault (given_by p (read json)) refl h)
-        by (BadFile y) h = absurd (not_taken o p (BadFile y) (given_by p (read json)) refl h)
-        by NoSuchFile h = absurd (not_taken o p NoSuchFile (given_by p (read json)) refl h)
-        by (NotFit y) h = absurd (not_taken o p (NotFit y) (given_by p (read json)) refl h)
-        by LineTooLong h = absurd (not_taken o p LineTooLong (given_by p (read json)) refl h)
-        by UnknownRule h = absurd (not_taken o p UnknownRule (given_by p (read json)) refl h)
+        by : (y : Refusal) → TakeValue o sub p (given_by p (read json)) (Some y) None → TakeStep (machine_with ns old clients) (ref_with name part) text json (refused y nothing) (machine_with ms new clients)
+        by AlreadyHeld h = (named_of o sub, at clients, p, named, h, stays)
+        by Sealed h = (named_of o sub, at clients, p, named, h, stays)
+        by (BadValue v) h = (named_of o sub, at clients, p, named, h, stays)
+        by BadCommand h = absurd (not_taken o sub p BadCommand (given_by p (read json)) refl h)
+        by UnknownName h = absurd (not_taken o sub p UnknownName (given_by p (read json)) refl h)
+        by NameTaken h = absurd (not_taken o sub p NameTaken (given_by p (read json)) refl h)
+        by UnknownType h = absurd (not_taken o sub p UnknownType (given_by p (read json)) refl h)
+        by UnknownProperty h = absurd (not_taken o sub p UnknownProperty (given_by p (read json)) refl h)
+        by ObjectsFull h = absurd (not_taken o sub p ObjectsFull (given_by p (read json)) refl h)
+        by NoChain h = absurd (not_taken o sub p NoChain (given_by p (read json)) refl h)
+        by Crowded h = absurd (not_taken o sub p Crowded (given_by p (read json)) refl h)
+        by StoreFault h = absurd (not_taken o sub p StoreFault (given_by p (read json)) refl h)
+        by (BadFile y) h = absurd (not_taken o sub p (BadFile y) (given_by p (read json)) refl h)
+        by NoSuchFile h = absurd (not_taken o sub p NoSuchFile (given_by p (read json)) refl h)
+        by (NotFit y) h = absurd (not_taken o sub p (NotFit y) (given_by p (read json)) refl h)
+        by LineTooLong h = absurd (not_taken o sub p LineTooLong (given_by p (read json)) refl h)
+        by UnknownRule h = absurd (not_taken o sub p UnknownRule (given_by p (read json)) refl h)
 
-    pub take_done : (clients : Clients) (json : List ℕ) (p : PropId) → property_named o.of text ≡ Some p → Taken o p (given_by p (read json)) None o'
-        → TakeStep (machine_with ns old clients) (ref_with name sub) text json done (machine_with ms new clients)
+    pub take_done : (clients : Clients) (json : List ℕ) (p : PropId) → property_named o.of sub text ≡ Some p → Taken o sub p (given_by p (read json)) None o'
+        → TakeStep (machine_with ns old clients) (ref_with name part) text json (done no_rounds) (machine_with ms new clients)
     take_done clients json p named (v, t, same) =
-        (o, at, p, named, v, t, record { names = w.names; object = w.is ∙ ap Some same; others = w.others; clients = refl; store = refl })
+        (named_of o sub, at clients, p, named, v, t, refl, record { names = w.names; object = w.is ∙ ap Some same; others = w.others; clients = refl; store = refl })
 
-    pub give_unknown : (book : List Rule) (clients : Clients) → property_named o.of text ≡ None → o' ≡ o
-        → GiveStep book (machine_with ns old clients) (ref_with name sub) text (refused UnknownProperty nothing) (machine_with ms new clients)
-    give_unknown book clients none same = (o, at, none, stays_with clients same)
+    pub give_unknown : (book : List Rule) (clients : Clients) → property_named o.of sub text ≡ None → o' ≡ o
+        → GiveStep book (machine_with ns old clients) (ref_with name part) text (refused UnknownProperty nothing) (machine_with ms new clients)
+    give_unknown book clients none same = (named_of o sub, at clients, none, stays_with clients same)
 
     becomes : (clients after : Clients) → Becomes name (configuration o' after) (machine_with ns old clients) (machine_with ms new after)
     becomes clients after = record { names = w.names; object = w.is; others = w.others; clients = refl; store = refl }
 
-    pub give_step : {F E : Type 0} (view : F → ReplySeen) (r : Result F E) (book : List Rule) (clients after : Clients) (p : PropId) (called : List ℕ) → property_named o.of text ≡ Some p → called ≡ name
-        → IfOk r (λ x. Gives book (configuration o clients) called p (view x) (configuration o' after))
-        → IfOk r (λ x. GiveStep book (machine_with ns old clients) (ref_with name sub) text (view x) (machine_with ms new after))
+    pub give_step : {F E : Type 0} (view : F → ReplySeen) (r : Result F E) (book : List Rule) (clients after : Clients) (p : PropId) (called : List ℕ) → property_named o.of sub text ≡ Some p → called ≡ ref_text (ref_with name part)
+        → IfOk r (λ x. Gives book (configuration o clients) sub called p (view x) (configuration o' after))
+        → IfOk r (λ x. GiveStep book (machine_with ns old clients) (ref_with name part) text (view x) (machine_with ms new after))
     give_step view (Err x) book clients after p called named call g = tt
     give_step view (Ok x) book clients after p called named call g = by (view x) g
       where
-        by : (reply : ReplySeen) → Gives book (configuration o clients) called p reply (configuration o' after) → GiveStep book (machine_with ns old clients) (ref_with name sub) text reply (machine_with ms new after)
-        by (refused NoChain more) e = (o, at, p, named, configuration o' after, e, becomes clients after)
-        by (refused Crowded more) e = (o, at, p, named, configuration o' after, e, becomes clients after)
-        by (shows s of q v t) (e, same, typed, one, held, rounds) = (o, at, p, named, configuration o' after, (e, same ∙ call, typed, one, held, rounds), becomes clients after)
-        by done e = absurd e
+        by : (reply : ReplySeen) → Gives book (configuration o clients) sub called p reply (configuration o' after) → GiveStep book (machine_with ns old clients) (ref_with name part) text reply (machine_with ms new after)
+        by (refused NoChain more) e = (named_of o sub, at clients, p, named, configuration o' after, e, becomes clients after)
+        by (refused Crowded more) e = (named_of o sub, at clients, p, named, configuration o' after, e, becomes clients after)
+        by (shows s of q v t) (e, same, typed, one, held, rounds) = (named_of o sub, at clients, p, named, configuration o' after, (e, same ∙ call, typed, one, held, rounds), becomes clients after)
+        by (done t) e = absurd e
         by (ensured t) e = absurd e
         by (explained chain weight rows names) e = absurd e
         by (tells t excluded) e = absurd e
@@ -316,40 +334,40 @@ module _ {ns ms : List (List ℕ)} {old new : List ℕ → Option State} {name :
         by (refused LineTooLong more) e = absurd e
         by (refused UnknownRule more) e = absurd e
 
-    pub gave_in_part : {T E : Type 0} (r : Result T E) (book : List Rule) (clients after : Clients) (p : PropId) → property_named o.of text ≡ Some p
-        → OnErr r (EnsuredInPart book None (only p) (configuration o clients) (configuration o' after))
-        → OnErr r (StepInPart book (machine_with ns old clients) (give_value (ref_with name sub) text) (machine_with ms new after))
+    pub gave_in_part : {T E : Type 0} (r : Result T E) (book : List Rule) (clients after : Clients) (p : PropId) → property_named o.of sub text ≡ Some p
+        → OnErr r (EnsuredInPart book sub (only p) (configuration o clients) (configuration o' after))
+        → OnErr r (StepInPart book (machine_with ns old clients) (give_value (ref_with name part) text) (machine_with ms new after))
     gave_in_part (Ok x) book clients after p named e = tt
     gave_in_part (Err x) book clients after p named e =
-        inr (record { object = o; named = at; property = p; is_property = named; now = configuration o' after; ensured = e; becomes = becomes clients after })
+        inr (record { found = named_of o sub; named = at clients; property = p; is_property = named; now = configuration o' after; ensured = e; becomes = becomes clients after })
 
-  module _ (sub : Option (List ℕ)) (words : List (List ℕ)) (whole : is_some sub ≡ false) where
-    asked_at : whole_of sub (old name) ≡ Some o
-    asked_at = at_whole sub (old name) o whole w.was
+  module _ (part : Option (List ℕ)) (sub : Option ℕ) (found : part_named o part ≡ Some (named_of o sub)) (words : List (List ℕ)) where
+    asked_at : (clients : Clients) → named_at (machine_with ns old clients) (ref_with name part) ≡ Some (named_of o sub)
+    asked_at clients = part_found part sub clients found
 
     asked_becomes : (clients after : Clients) → Becomes name (configuration o' after) (machine_with ns old clients) (machine_with ms new after)
     asked_becomes clients after = record { names = w.names; object = w.is; others = w.others; clients = refl; store = refl }
 
-    pub ensure_unknown : (book : List Rule) (clients : Clients) → asked_in o.of words ≡ None → o' ≡ o
-        → EnsureStep book (machine_with ns old clients) (ref_with name sub) words (refused UnknownProperty nothing) (machine_with ms new clients)
-    ensure_unknown book clients none same = (o, asked_at, none, stays_with clients same)
+    pub ensure_unknown : (book : List Rule) (clients : Clients) → asked_in o.of sub words ≡ None → o' ≡ o
+        → EnsureStep book (machine_with ns old clients) (ref_with name part) words (refused UnknownProperty nothing) (machine_with ms new clients)
+    ensure_unknown book clients none same = (named_of o sub, asked_at clients, none, stays_with clients same)
 
-    pub explain_unknown : (book : List Rule) (clients : Clients) → asked_in o.of words ≡ None → o' ≡ o
-        → ExplainStep book (machine_with ns old clients) (ref_with name sub) words (refused UnknownProperty nothing) (machine_with ms new clients)
-    explain_unknown book clients none same = (o, asked_at, none, stays_with clients same)
+    pub explain_unknown : (book : List Rule) (clients : Clients) → asked_in o.of sub words ≡ None → o' ≡ o
+        → ExplainStep book (machine_with ns old clients) (ref_with name part) words (refused UnknownProperty nothing) (machine_with ms new clients)
+    explain_unknown book clients none same = (named_of o sub, asked_at clients, none, stays_with clients same)
 
-    pub ensure_step : {F E : Type 0} (view : F → ReplySeen) (r : Result F E) (book : List Rule) (clients after : Clients) (asked : PropSet) → asked_in o.of words ≡ Some asked
-        → IfOk r (λ x. Ensures book (configuration o clients) asked (view x) (configuration o' after))
-        → IfOk r (λ x. EnsureStep book (machine_with ns old clients) (ref_with name sub) words (view x) (machine_with ms new after))
+    pub ensure_step : {F E : Type 0} (view : F → ReplySeen) (r : Result F E) (book : List Rule) (clients after : Clients) (asked : PropSet) → asked_in o.of sub words ≡ Some asked
+        → IfOk r (λ x. Ensures book (configuration o clients) sub asked (view x) (configuration o' after))
+        → IfOk r (λ x. EnsureStep book (machine_with ns old clients) (ref_with name part) words (view x) (machine_with ms new after))
     ensure_step view (Err x) book clients after asked is g = tt
     ensure_step view (Ok x) book clients after asked is g = by (view x) g
       where
-        by : (reply : ReplySeen) → Ensures book (configuration o clients) asked reply (configuration o' after) → EnsureStep book (machine_with ns old clients) (ref_with name sub) words reply (machine_with ms new after)
-        by (refused NoChain more) e = (o, asked_at, asked, is, configuration o' after, e, asked_becomes clients after)
-        by (refused Crowded more) e = (o, asked_at, asked, is, configuration o' after, e, asked_becomes clients after)
-        by (ensured t) e = (o, asked_at, asked, is, configuration o' after, e, asked_becomes clients after)
+        by : (reply : ReplySeen) → Ensures book (configuration o clients) sub asked reply (configuration o' after) → EnsureStep book (machine_with ns old clients) (ref_with name part) words reply (machine_with ms new after)
+        by (refused NoChain more) e = (named_of o sub, asked_at clients, asked, is, configuration o' after, e, asked_becomes clients after)
+        by (refused Crowded more) e = (named_of o sub, asked_at clients, asked, is, configuration o' after, e, asked_becomes clients after)
+        by (ensured t) e = (named_of o sub, asked_at clients, asked, is, configuration o' after, e, asked_becomes clients after)
         by (shows s of q v t) e = absurd e
-        by done e = absurd e
+        by (done t) e = absurd e
         by (explained chain weight rows names) e = absurd e
         by (tells t excluded) e = absurd e
         by (lists_rules n t) e = absurd e
@@ -372,33 +390,33 @@ module _ {ns ms : List (List ℕ)} {old new : List ℕ → Option State} {name :
         by (refused LineTooLong more) e = absurd e
         by (refused UnknownRule more) e = absurd e
 
-    pub ensured_partly : {T E : Type 0} (r : Result T E) (book : List Rule) (clients after : Clients) (asked : PropSet) → asked_in o.of words ≡ Some asked
-        → OnErr r (EnsuredInPart book None asked (configuration o clients) (configuration o' after))
-        → OnErr r (StepInPart book (machine_with ns old clients) (ensure_values (ref_with name sub) words) (machine_with ms new after))
+    pub ensured_partly : {T E : Type 0} (r : Result T E) (book : List Rule) (clients after : Clients) (asked : PropSet) → asked_in o.of sub words ≡ Some asked
+        → OnErr r (EnsuredInPart book sub asked (configuration o clients) (configuration o' after))
+        → OnErr r (StepInPart book (machine_with ns old clients) (ensure_values (ref_with name part) words) (machine_with ms new after))
     ensured_partly (Ok x) book clients after asked is e = tt
     ensured_partly (Err x) book clients after asked is e =
-        inr (record { object = o; named = asked_at; asked = asked; is_asked = is; now = configuration o' after; ensured = e; becomes = asked_becomes clients after })
+        inr (record { found = named_of o sub; named = asked_at clients; asked = asked; is_asked = is; now = configuration o' after; ensured = e; becomes = asked_becomes clients after })
 
     settled_becomes : (clients : Clients) → o' ≡ settled_object o → Becomes name (configuration (settled_object o) clients) (machine_with ns old clients) (machine_with ms new clients)
     settled_becomes clients same = record { names = w.names; object = w.is ∙ ap Some same; others = w.others; clients = refl; store = refl }
 
-    pub explain_step : {F E : Type 0} (view : F → ReplySeen) (r : Result F E) (book : List Rule) (clients : Clients) (asked : PropSet) → asked_in o.of words ≡ Some asked
-        → IfOk r (λ x. Explains book clients (settled_object o) asked (view x)) → IfOk r (λ x. o' ≡ settled_object o)
-        → IfOk r (λ x. ExplainStep book (machine_with ns old clients) (ref_with name sub) words (view x) (machine_with ms new clients))
+    pub explain_step : {F E : Type 0} (view : F → ReplySeen) (r : Result F E) (book : List Rule) (clients : Clients) (asked : PropSet) → asked_in o.of sub words ≡ Some asked
+        → IfOk r (λ x. Explains book clients (settled_object o) sub asked (view x)) → IfOk r (λ x. o' ≡ settled_object o)
+        → IfOk r (λ x. ExplainStep book (machine_with ns old clients) (ref_with name part) words (view x) (machine_with ms new clients))
     explain_step view (Err x) book clients asked is g same = tt
     explain_step view (Ok x) book clients asked is g same = by (view x) g
       where
-        by : (reply : ReplySeen) → Explains book clients (settled_object o) asked reply → ExplainStep book (machine_with ns old clients) (ref_with name sub) words reply (machine_with ms new clients)
-        by (explained chain weight rows names) e = (o, asked_at, asked, is, e, settled_becomes clients same)
-        by (refused NoChain (planned barred rows names)) e = (o, asked_at, asked, is, e, settled_becomes clients same)
-        by (refused Crowded (planned barred rows names)) e = (o, asked_at, asked, is, e, settled_becomes clients same)
+        by : (reply : ReplySeen) → Explains book clients (settled_object o) sub asked reply → ExplainStep book (machine_with ns old clients) (ref_with name part) words reply (machine_with ms new clients)
+        by (explained chain weight rows names) e = (named_of o sub, asked_at clients, asked, is, e, settled_becomes clients same)
+        by (refused NoChain (planned barred rows names)) e = (named_of o sub, asked_at clients, asked, is, e, settled_becomes clients same)
+        by (refused Crowded (planned barred rows names)) e = (named_of o sub, asked_at clients, asked, is, e, settled_becomes clients same)
         by (refused NoChain nothing) e = absurd e
         by (refused NoChain (told always t)) e = absurd e
         by (refused Crowded nothing) e = absurd e
         by (refused Crowded (told always t)) e = absurd e
         by (ensured t) e = absurd e
         by (shows s of q v t) e = absurd e
-        by done e = absurd e
+        by (done t) e = absurd e
         by (tells t excluded) e = absurd e
         by (lists_rules n t) e = absurd e
         by (loaded names) e = absurd e
@@ -421,10 +439,10 @@ module _ {ns ms : List (List ℕ)} {old new : List ℕ → Option State} {name :
         by (refused UnknownRule more) e = absurd e
 
     pub explained_in_part : {T E : Type 0} (r : Result T E) (book : List Rule) (clients : Clients) → OnErr r ((o' ≡ o) ⊎ (o' ≡ settled_object o))
-        → OnErr r (StepInPart book (machine_with ns old clients) (explain_values (ref_with name sub) words) (machine_with ms new clients))
+        → OnErr r (StepInPart book (machine_with ns old clients) (explain_values (ref_with name part) words) (machine_with ms new clients))
     explained_in_part (Ok x) book clients e = tt
     explained_in_part (Err x) book clients (inl same) = inl (stays_with clients same)
-    explained_in_part (Err x) book clients (inr same) = inr (record { object = o; named = asked_at; becomes = settled_becomes clients same })
+    explained_in_part (Err x) book clients (inr same) = inr (record { found = named_of o sub; named = asked_at clients; becomes = settled_becomes clients same })
 
 -- ---- a label that is disabled
 module _ {ns ms : List (List ℕ)} {old new : List ℕ → Option State} {name : List ℕ} {o o' : State} (w : IsWritten ns ms old new name o o') where
@@ -433,34 +451,45 @@ module _ {ns ms : List (List ℕ)} {old new : List ℕ → Option State} {name :
   disable_unknown clients book label none same = (λ e. true≢false (ap is_some (sym w.was ∙ e)), none, stays_with w clients same)
 
   pub disable_done : (clients : Clients) (book : List Rule) (label : List ℕ) → has_label label book ≡ true → o' ≡ disabling o label
-      → DisableStep book (machine_with ns old clients) name label done (machine_with ms new clients)
-  disable_done clients book label known same = (o, w.was, known, record { names = w.names; object = w.is ∙ ap Some same; others = w.others; clients = refl; store = refl })
+      → DisableStep book (machine_with ns old clients) name label (done no_rounds) (machine_with ms new clients)
+  disable_done clients book label known same = (refl, o, w.was, known, record { names = w.names; object = w.is ∙ ap Some same; others = w.others; clients = refl; store = refl })
+
+-- ---- a linear program more
+module _ {ns ms : List (List ℕ)} {old new : List ℕ → Option State} {name : List ℕ} {o o' : State} (w : IsWritten ns ms old new name o o') where
+  pub program_refused : (clients : Clients) (sub : List ℕ) (why : ProgramFail) → program_refusal o sub ≡ Some why → o' ≡ o
+      → ProgramRefuses (machine_with ns old clients) name sub why (machine_with ms new clients)
+  program_refused clients sub why refusal same = (o, w.was, refusal, stays_with w clients same)
+
+  pub program_done : (clients : Clients) (sub text : List ℕ) → is_program_word text ≡ true → program_refusal o sub ≡ None → o' ≡ with_program o sub
+      → NewProgramStep (machine_with ns old clients) name sub text (done no_rounds) (machine_with ms new clients)
+  program_done clients sub text word free same =
+      (word, o, w.was, free, refl, record { names = w.names; object = w.is ∙ ap Some same; others = w.others; clients = refl; store = refl })
 
 -- how ensuring ended, of what was asked
-pub ended_so : (book : List Rule) (e : Ending) (old new : Configuration) (p : PropId) (asked : PropSet) → asked ≡ only p → Ensured book None asked e old new → Ensured book None (only p) e old new
-ended_so book e old new p asked one so = subst (λ z. Ensured book None z e old new) one so
+pub ended_so : (book : List Rule) (sub : Option ℕ) (e : Ending) (old new : Configuration) (p : PropId) (asked : PropSet) → asked ≡ only p → Ensured book sub asked e old new → Ensured book sub (only p) e old new
+ended_so book sub e old new p asked one so = subst (λ z. Ensured book sub z e old new) one so
 
 same_number : (n k : ℕ) → n ≡ k → eqb n k ≡ true
 same_number n k e = grind arith
 
-pub found_held : (book : List Rule) (old new : Configuration) (asked : PropSet) (p : PropId) → asked ≡ only p → Ensured book None asked ending.Found old new → is_held p (read_at None new.object.held) ≡ true
-found_held book old new asked p one e =
-    sym (names_held (read_at None new.object.held) p) ∙ e.ends p (ap (λ z. has z p) one ∙ has-only p p ∙ same_number (number p) (number p) refl)
+pub found_held : (book : List Rule) (sub : Option ℕ) (old new : Configuration) (asked : PropSet) (p : PropId) → asked ≡ only p → Ensured book sub asked ending.Found old new → is_held p (read_at sub new.object.held) ≡ true
+found_held book sub old new asked p one e =
+    sym (names_held (read_at sub new.object.held) p) ∙ e.ends p (ap (λ z. has z p) one ∙ has-only p p ∙ same_number (number p) (number p) refl)
 
 -- what was ensured wholly was ensured in part
-pub whole_is_part : {T E : Type 0} (r : Result T E) (book : List Rule) (asked : PropSet) (p : PropId) (ending : Ending) (old new : Configuration) → asked ≡ only p
-    → Ensured book None asked ending old new → OnErr r (EnsuredInPart book None (only p) old new)
-whole_is_part (Ok x) book asked p ending old new is e = tt
-whole_is_part (Err x) book asked p ending old new is e = subst (λ z. EnsuredInPart book None z old new) is (at_rest, e.reaches)
+pub whole_is_part : {T E : Type 0} (r : Result T E) (book : List Rule) (sub : Option ℕ) (asked : PropSet) (p : PropId) (ending : Ending) (old new : Configuration) → asked ≡ only p
+    → Ensured book sub asked ending old new → OnErr r (EnsuredInPart book sub (only p) old new)
+whole_is_part (Ok x) book sub asked p ending old new is e = tt
+whole_is_part (Err x) book sub asked p ending old new is e = subst (λ z. EnsuredInPart book sub z old new) is (at_rest, e.reaches)
 
-pub ensured_in_part : {T E : Type 0} (r : Result T E) (book : List Rule) (asked : PropSet) (ending : Ending) (old new : Configuration) → Ensured book None asked ending old new → OnErr r (EnsuredInPart book None asked old new)
-ensured_in_part (Ok x) book asked ending old new e = tt
-ensured_in_part (Err x) book asked ending old new e = (at_rest, e.reaches)
+pub ensured_in_part : {T E : Type 0} (r : Result T E) (book : List Rule) (sub : Option ℕ) (asked : PropSet) (ending : Ending) (old new : Configuration) → Ensured book sub asked ending old new → OnErr r (EnsuredInPart book sub asked old new)
+ensured_in_part (Ok x) book sub asked ending old new e = tt
+ensured_in_part (Err x) book sub asked ending old new e = (at_rest, e.reaches)
 
-pub part_of : {T E : Type 0} (r : Result T E) (book : List Rule) (asked : PropSet) (p : PropId) (old new : Configuration) → asked ≡ only p
-    → EnsuredInPart book None asked old new → OnErr r (EnsuredInPart book None (only p) old new)
-part_of (Ok x) book asked p old new is e = tt
-part_of (Err x) book asked p old new is e = subst (λ z. EnsuredInPart book None z old new) is e
+pub part_of : {T E : Type 0} (r : Result T E) (book : List Rule) (sub : Option ℕ) (asked : PropSet) (p : PropId) (old new : Configuration) → asked ≡ only p
+    → EnsuredInPart book sub asked old new → OnErr r (EnsuredInPart book sub (only p) old new)
+part_of (Ok x) book sub asked p old new is e = tt
+part_of (Err x) book sub asked p old new is e = subst (λ z. EnsuredInPart book sub z old new) is e
 
 -- ---- a step that answered, and one that did not
 pub stays_in_part : (book : List Rule) (old new : Machine) (command : Spoken) → Stays old new → StepInPart book old command new
@@ -480,6 +509,12 @@ stays_in_part book old new (drop_object name) s = s
 stays_in_part book old new (tell_origin ref text) s = s
 stays_in_part book old new (load_object name file) s = looks_of_stays old new s
 stays_in_part book old new (save_object name file) s = inl s
+stays_in_part book old new (make_object to shape) s = s
+stays_in_part book old new (build_polar name to) s = stays_part book (wanted_of name polar_building.reads) old new s
+stays_in_part book old new (build_pyramid name to) s = stays_part book (wanted_of name pyramid_building.reads) old new s
+stays_in_part book old new (build_normal_fan name to) s = stays_part book (wanted_of name normal_fan_building.reads) old new s
+stays_in_part book old new (build_face_fan name to) s = stays_part book (wanted_of name face_fan_building.reads) old new s
+stays_in_part book old new (build_product first second to) s = stays_part book (product_wanted first second) old new s
 
 pub kept_if_ok : {E F : Type 0} (view : F → ReplySeen) (book : List Rule) (old new : Machine) (command : Spoken) (r : Result F E)
     → IfOk r (λ x. Step book old command (view x) new) → OnOk r (AllKept old → AllKept new)
@@ -496,18 +531,18 @@ on_err_of (Ok x) p = tt
 on_err_of (Err e) p = p
 
 -- ---- what was ensured is told with its rounds
-pub gives_shown : {F E : Type 0} (view : F → ReplySeen) (r : Result F E) (book : List Rule) (old new : Configuration) (name : List ℕ) (p : PropId) (of : ObjectType) (v : PropertyValue) (t : Rounds)
-    → of ≡ old.object.of → value_of p (read_at None new.object.held) ≡ Some v → t ≡ named_rounds book (later_rounds old.object new.object) → Ensured book None (only p) ending.Found old new → IfOk r (λ x. view x ≡ shows name of p v t)
-    → IfOk r (λ x. Gives book old name p (view x) new)
-gives_shown view (Err x) book old new name p of v t type held rounds e s = tt
-gives_shown view (Ok x) book old new name p of v t type held rounds e s = subst (λ z. Gives book old name p z new) (sym s) (e, refl, type, refl, held, rounds)
+pub gives_shown : {F E : Type 0} (view : F → ReplySeen) (r : Result F E) (book : List Rule) (old new : Configuration) (sub : Option ℕ) (name : List ℕ) (p : PropId) (of : ObjectType) (v : PropertyValue) (t : Rounds)
+    → of ≡ old.object.of → value_of p (read_at sub new.object.held) ≡ Some v → t ≡ named_rounds book new.object (later_rounds old.object new.object) → Ensured book sub (only p) ending.Found old new → IfOk r (λ x. view x ≡ shows name of p v t)
+    → IfOk r (λ x. Gives book old sub name p (view x) new)
+gives_shown view (Err x) book old new sub name p of v t type held rounds e s = tt
+gives_shown view (Ok x) book old new sub name p of v t type held rounds e s = subst (λ z. Gives book old sub name p z new) (sym s) (e, refl, type, refl, held, rounds)
 
 -- ---- rounds with their names
-pub rounds_named : (book : List Rule) (names : NamesSeen) (rounds later : List RoundSeen) → names ≡ rule_names book → rounds ≡ later
-    → record { rounds = rounds; names = names } ≡ named_rounds book later
-rounds_named book names rounds later is same = cc
+pub rounds_named : (book : List Rule) (o : State) (names : NamesSeen) (rounds later : List RoundSeen) → names ≡ names_told book o → rounds ≡ later
+    → record { rounds = rounds; names = names } ≡ named_rounds book o later
+rounds_named book o names rounds later is same = cc
 
-pub beside_named : (always : Bool) (book : List Rule) (names : NamesSeen) (rounds : List RoundSeen) (old new : State) → names ≡ rule_names book → rounds ≡ later_rounds old new
+pub beside_named : (always : Bool) (book : List Rule) (names : NamesSeen) (rounds : List RoundSeen) (old new : State) → names ≡ names_told book new → rounds ≡ later_rounds old new
     → remarks always rounds [] None names ≡ rounds_beside always book old new
 beside_named always book names rounds old new is same = ap (λ z. remarks always z [] None names) same ∙ ap (λ z. remarks always (later_rounds old new) [] None z) is
 
@@ -516,41 +551,41 @@ pub later_is : (before : ℕ) (rounds : List Round) (old new : State) (later : L
 later_is before rounds old new later count seen_so is =
     is ∙ ap (λ n. drop n new.rounds) (count ∙ sym (length-map rounds round_seen) ∙ ap length seen_so)
 
-pub gives_no_chain : (book : List Rule) (old new : Configuration) (name : List ℕ) (p : PropId) (reply : ReplySeen) (more : Remarks) → reply ≡ refused NoChain more → more ≡ rounds_beside false book old.object new.object
-    → Ensured book None (only p) ending.NoChain old new → Gives book old name p reply new
-gives_no_chain book old new name p reply more is told' e = subst (λ z. Gives book old name p z new) (sym is) (e, told')
+pub gives_no_chain : (book : List Rule) (old new : Configuration) (sub : Option ℕ) (name : List ℕ) (p : PropId) (reply : ReplySeen) (more : Remarks) → reply ≡ refused NoChain more → more ≡ rounds_beside false book old.object new.object
+    → Ensured book sub (only p) ending.NoChain old new → Gives book old sub name p reply new
+gives_no_chain book old new sub name p reply more is told' e = subst (λ z. Gives book old sub name p z new) (sym is) (e, told')
 
-pub gives_crowded : (book : List Rule) (old new : Configuration) (name : List ℕ) (p : PropId) (reply : ReplySeen) (more : Remarks) → reply ≡ refused Crowded more → more ≡ rounds_beside false book old.object new.object
-    → Ensured book None (only p) ending.Crowded old new → Gives book old name p reply new
-gives_crowded book old new name p reply more is told' e = subst (λ z. Gives book old name p z new) (sym is) (e, told')
+pub gives_crowded : (book : List Rule) (old new : Configuration) (sub : Option ℕ) (name : List ℕ) (p : PropId) (reply : ReplySeen) (more : Remarks) → reply ≡ refused Crowded more → more ≡ rounds_beside false book old.object new.object
+    → Ensured book sub (only p) ending.Crowded old new → Gives book old sub name p reply new
+gives_crowded book old new sub name p reply more is told' e = subst (λ z. Gives book old sub name p z new) (sym is) (e, told')
 
-pub ensures_no_chain : (book : List Rule) (old new : Configuration) (asked : PropSet) (reply : ReplySeen) (more : Remarks) → reply ≡ refused NoChain more → more ≡ rounds_beside true book old.object new.object
-    → Ensured book None asked ending.NoChain old new → Ensures book old asked reply new
-ensures_no_chain book old new asked reply more is told' e = subst (λ z. Ensures book old asked z new) (sym is) (e, told')
+pub ensures_no_chain : (book : List Rule) (old new : Configuration) (sub : Option ℕ) (asked : PropSet) (reply : ReplySeen) (more : Remarks) → reply ≡ refused NoChain more → more ≡ rounds_beside true book old.object new.object
+    → Ensured book sub asked ending.NoChain old new → Ensures book old sub asked reply new
+ensures_no_chain book old new sub asked reply more is told' e = subst (λ z. Ensures book old sub asked z new) (sym is) (e, told')
 
-pub ensures_crowded : (book : List Rule) (old new : Configuration) (asked : PropSet) (reply : ReplySeen) (more : Remarks) → reply ≡ refused Crowded more → more ≡ rounds_beside true book old.object new.object
-    → Ensured book None asked ending.Crowded old new → Ensures book old asked reply new
-ensures_crowded book old new asked reply more is told' e = subst (λ z. Ensures book old asked z new) (sym is) (e, told')
+pub ensures_crowded : (book : List Rule) (old new : Configuration) (sub : Option ℕ) (asked : PropSet) (reply : ReplySeen) (more : Remarks) → reply ≡ refused Crowded more → more ≡ rounds_beside true book old.object new.object
+    → Ensured book sub asked ending.Crowded old new → Ensures book old sub asked reply new
+ensures_crowded book old new sub asked reply more is told' e = subst (λ z. Ensures book old sub asked z new) (sym is) (e, told')
 
 -- ---- a plan is told with the names of the book
 pub planned_so : (P : PropSet → PropSet → Type 0) (names names' held held' : PropSet) → names ≡ names' → held ≡ held' → P names held → P names' held'
 planned_so P names names' held held' n h p = subst (λ z. P z held') n (subst (λ z. P names z) h p)
 
-pub explains_found : {F E : Type 0} (view : F → ReplySeen) (r : Result F E) (book : List Rule) (clients : Clients) (o : State) (asked : PropSet) (chain : List RuleId) (weight : Cost) (rows : List TableRow) (barred : List RuleId)
-    → AreBarred book clients o None barred → IsPlan book (table None o.of) barred (held_names None o) asked chain weight rows → IfOk r (λ x. view x ≡ explained chain weight rows (rule_names book)) → IfOk r (λ x. Explains book clients o asked (view x))
-explains_found view (Err x) book clients o asked chain weight rows barred are plan h = tt
-explains_found view (Ok x) book clients o asked chain weight rows barred are plan h = subst (λ z. Explains book clients o asked z) (sym h) (barred, are, plan, refl)
+pub explains_found : {F E : Type 0} (view : F → ReplySeen) (r : Result F E) (book : List Rule) (clients : Clients) (o : State) (sub : Option ℕ) (asked : PropSet) (chain : List RuleId) (weight : Cost) (rows : List TableRow) (barred : List RuleId)
+    → AreBarred book clients o sub barred → IsPlan book (table sub o.of) barred (held_names sub o) asked chain weight rows → IfOk r (λ x. view x ≡ explained chain weight rows (names_told book o)) → IfOk r (λ x. Explains book clients o sub asked (view x))
+explains_found view (Err x) book clients o sub asked chain weight rows barred are plan h = tt
+explains_found view (Ok x) book clients o sub asked chain weight rows barred are plan h = subst (λ z. Explains book clients o sub asked z) (sym h) (barred, are, plan, refl)
 
-pub explains_none : {F E : Type 0} (view : F → ReplySeen) (r : Result F E) (book : List Rule) (clients : Clients) (o : State) (asked : PropSet) (rows : List TableRow) (barred : List RuleId) → AreBarred book clients o None barred
-    → HasNoPlan book (table None o.of) barred (held_names None o) asked rows
-    → IfOk r (λ x. (list : List (RuleId × Bar)) × AreReasons book clients o None list × (view x ≡ refused NoChain (planned list rows (rule_names book)))) → IfOk r (λ x. Explains book clients o asked (view x))
-explains_none view (Err x) book clients o asked rows barred are none h = tt
-explains_none view (Ok x) book clients o asked rows barred are none (told', reasons, is) =
-    subst (λ z. Explains book clients o asked z) (sym is) (barred, are, none, reasons, refl)
+pub explains_none : {F E : Type 0} (view : F → ReplySeen) (r : Result F E) (book : List Rule) (clients : Clients) (o : State) (sub : Option ℕ) (asked : PropSet) (rows : List TableRow) (barred : List RuleId) → AreBarred book clients o sub barred
+    → HasNoPlan book (table sub o.of) barred (held_names sub o) asked rows
+    → IfOk r (λ x. (list : List (RuleId × Bar)) × AreReasons book clients o sub list × (view x ≡ refused NoChain (planned list rows (names_told book o)))) → IfOk r (λ x. Explains book clients o sub asked (view x))
+explains_none view (Err x) book clients o sub asked rows barred are none h = tt
+explains_none view (Ok x) book clients o sub asked rows barred are none (told', reasons, is) =
+    subst (λ z. Explains book clients o sub asked z) (sym is) (barred, are, none, reasons, refl)
 
-pub explains_crowded : {F E : Type 0} (view : F → ReplySeen) (r : Result F E) (book : List Rule) (clients : Clients) (o : State) (asked : PropSet) (rows : List TableRow) (barred : List RuleId) → AreBarred book clients o None barred
-    → IsCrowded book (table None o.of) barred (held_names None o) asked rows
-    → IfOk r (λ x. (list : List (RuleId × Bar)) × AreReasons book clients o None list × (view x ≡ refused Crowded (planned list rows (rule_names book)))) → IfOk r (λ x. Explains book clients o asked (view x))
-explains_crowded view (Err x) book clients o asked rows barred are crowded h = tt
-explains_crowded view (Ok x) book clients o asked rows barred are crowded (told', reasons, is) =
-    subst (λ z. Explains book clients o asked z) (sym is) (barred, are, crowded, reasons, refl)
+pub explains_crowded : {F E : Type 0} (view : F → ReplySeen) (r : Result F E) (book : List Rule) (clients : Clients) (o : State) (sub : Option ℕ) (asked : PropSet) (rows : List TableRow) (barred : List RuleId) → AreBarred book clients o sub barred
+    → IsCrowded book (table sub o.of) barred (held_names sub o) asked rows
+    → IfOk r (λ x. (list : List (RuleId × Bar)) × AreReasons book clients o sub list × (view x ≡ refused Crowded (planned list rows (names_told book o)))) → IfOk r (λ x. Explains book clients o sub asked (view x))
+explains_crowded view (Err x) book clients o sub asked rows barred are crowded h = tt
+explains_crowded view (Ok x) book clients o sub asked rows barred are crowded (told', reasons, is) =
+    subst (λ z. Explains book clients o sub asked z) (sym is) (barred, are, crowded, reasons, refl)

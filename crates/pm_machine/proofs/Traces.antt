@@ -1,5 +1,6 @@
 -- Traces of events: one after another, and what they keep. By the definitions alone.
 use Rattle.pm_machine.specs.Events.{Configuration, EnsuredInPart, Event, IsTrace, MayOccur, Phase, Reaches, Stands, after_event, after_events, phase_after, phase_after_all, at_rest, begun, columns, committed, excluded, over, running, settled, started, turn, turns, unsettled, written}
+use Rattle.pm_machine.specs.Running.{HasPlace}
 use Rattle.pm_object.proofs.Formed.{held_stays}
 use Rattle.pm_object.proofs.Honesty.{commit_is_honest, honesty_is_of_values, settled_is_kept}
 use Rattle.pm_object.specs.Honest.{IsHonest, IsKept}
@@ -9,7 +10,7 @@ use Rattle.pm_props.specs.declared.kind.RuleId.{RuleId}
 use Rattle.pm_props.specs.declared.property.PropId.{PropId}
 use Rattle.pm_props.specs.declared.set.PropSet.{PropSet}
 use Rattle.std.proofs.Common.{ap, arith, refl, subst, sym, ◌∙◌}
-use Rattle.std.specs.Prelude.{List, Option, [], length, true, ℕ, ◌++◌, ◌∷◌, ◌≡◌}
+use Rattle.std.specs.Prelude.{IfSome, List, Option, [], length, true, ℕ, ◌++◌, ◌<◌, ◌∷◌, ◌≡◌}
 
 -- ---- one after another
 module _ (book : List Rule) (sub : Option ℕ) (asked : PropSet) where
@@ -57,6 +58,26 @@ events_hold sub p c (e ∷ events) h = events_hold sub p (after_event sub e c) e
 pub reaching_holds : (book : List Rule) (sub : Option ℕ) (asked : PropSet) (phase later : Phase) (old new : Configuration) (p : PropId) → Reaches book sub asked phase old later new
     → is_held p old.object.held ≡ true → is_held p new.object.held ≡ true
 reaching_holds book sub asked phase later old new p r h = subst (λ (c : Configuration). is_held p c.object.held ≡ true) (sym r.becomes) (events_hold sub p old r.events h)
+
+-- ---- the programs of an object stay
+event_programs : (sub : Option ℕ) (c : Configuration) (e : Event) → (after_event sub e c).object.programs ≡ c.object.programs
+event_programs sub c settled = refl
+event_programs sub c (begun chain) = refl
+event_programs sub c (started kind) = refl
+event_programs sub c (committed answer) = refl
+event_programs sub c (excluded e) = refl
+event_programs sub c (written r) = refl
+
+events_programs : (sub : Option ℕ) (c : Configuration) (events : List Event) → (after_events sub events c).object.programs ≡ c.object.programs
+events_programs sub c [] = refl
+events_programs sub c (e ∷ events) = events_programs sub (after_event sub e c) events ∙ event_programs sub c e
+
+pub reaching_programs : (book : List Rule) (sub : Option ℕ) (asked : PropSet) (phase later : Phase) (old new : Configuration) → Reaches book sub asked phase old later new → new.object.programs ≡ old.object.programs
+reaching_programs book sub asked phase later old new r = ap (λ (c : Configuration). c.object.programs) r.becomes ∙ events_programs sub old r.events
+
+-- who asks a program that the object has, asks one that it has later
+pub still_placed : (book : List Rule) (sub : Option ℕ) (asked : PropSet) (phase later : Phase) (old new : Configuration) → Reaches book sub asked phase old later new → HasPlace sub old.object → HasPlace sub new.object
+still_placed book sub asked phase later old new r within = subst (λ ps. IfSome sub (λ s. s < length ps)) (sym (reaching_programs book sub asked phase later old new r)) within
 
 -- ---- honesty
 not_empty : {X : Type 0} (xs : List X) (x : X) → xs ++ x ∷ [] ≡ [] → ⊥

@@ -1,10 +1,11 @@
 -- The definitions of phases, events and exclusions read on small things: what holds of them and what does not.
-use Rattle.std.specs.Prelude.{ℕ, ◌≡◌, ◌≢◌, Bool, true, false, Option, Some, None, List, [], String, codes, length, string_bytes, ◌∷◌}
+use Rattle.std.specs.Prelude.{ℕ, ◌≡◌, ◌≢◌, ◌++◌, Bool, true, false, Option, Some, None, List, [], String, codes, length, string_bytes, ◌∷◌}
 use Rattle.pm_geom.specs.declared.evidence.Evidence.TheVariants.{E4}
-use Rattle.pm_props.specs.declared.object_type.ObjectType.TheVariants.{Cone, Polytope}
+use Rattle.pm_props.specs.declared.object_type.ObjectType.{ObjectType}
+use Rattle.pm_props.specs.declared.object_type.ObjectType.TheVariants.{Cone, Fan, Polytope}
 use Rattle.pm_machine.specs.Chains.{IsFirstWrong, is_excluded, is_wrong, some_wrong}
 use Rattle.pm_machine.specs.Events.{Configuration, MayOccur, at_rest, begun, committed, excluded, over, phase_after_all, running, settled, started, turn, unsettled, written}
-use Rattle.pm_object.specs.State.{HeldValue, RoundSeen, State, empty_object}
+use Rattle.pm_object.specs.State.{HeldValue, RoundSeen, State, empty_object, with_program}
 use Rattle.pm_object.specs.declared.held.Excluded.{Excluded}
 use Rattle.pm_object.specs.declared.held.Origin.TheVariants.{Computed, Given}
 use Rattle.pm_object.specs.declared.held.RoundEnd.TheVariants as end
@@ -13,7 +14,7 @@ use Rattle.pm_machine.specs.Reasons.{first_reason}
 use Rattle.pm_rules.specs.declared.rule.Rule.{Rule}
 use Rattle.pm_script.specs.declared.names.Bar.TheVariants as bar
 use Rattle.pm_props.specs.Sets.{set_of}
-use Rattle.pm_types.specs.Values.{Fact, truth, whole}
+use Rattle.pm_types.specs.Values.{Fact, PropertyValue, extended, matrix, plus_infinity, truth, whole as whole_number}
 use Rattle.pm_client.specs.Starts.{Clients}
 use Rattle.pm_files.specs.Files.{SavedFile}
 use Rattle.pm_filing.specs.FileParts.{bad_profile, bad_row, not_json, too_long}
@@ -23,16 +24,19 @@ use Rattle.pm_script.specs.declared.refusal.FileWhy.TheVariants as file_why
 use Rattle.std.specs.declared.alloc.Global.{Global}
 use Rattle.pm_store.specs.Files.{file_of}
 use Rattle.pm_store.specs.Outside.{Rose}
-use Rattle.pm_machine.specs.Steps.{CopyStep, DropStep, Ensures, Explains, Files, Gives, IsFault, IsSavedWhole, LoadStep, Machine, SaveStep, Stays, Store, bytes_of, asked_in, later_rounds, origin_of, rule_names, settled_object, without_name}
+use Rattle.pm_machine.specs.Machines.{Files, Machine, Stays, Store, later_rounds, without_name}
+use Rattle.pm_machine.specs.Steps.{CopyStep, DropStep, Ensures, Explains, Given as ReadValue, Gives, HistoryStep, IsFault, IsSavedWhole, LoadStep, LookupStep, NewStep, SaveStep, TakeValue, bytes_of, asked_in, is_program_word, named_at, names_told, origin_of, part_named, property_named, settled_object, type_word, value}
+use Rattle.pm_command.specs.Commands.{RefSeen}
 use Rattle.pm_rules.specs.declared.table.TableRow.{TableRow}
-use Rattle.pm_script.specs.Replies.{NamesSeen, Remarks, done, explained, loaded, nothing, refused, remarks}
-use Rattle.pm_script.specs.declared.refusal.Refusal.TheVariants.{Crowded, NoChain, NoSuchFile, ObjectsFull, StoreFault, UnknownName}
+use Rattle.pm_script.specs.Replies.{NamesSeen, Remarks, Rounds, done, explained, loaded, nothing, refused, remarks, shows, tells}
+use Rattle.pm_script.specs.declared.refusal.ValueWhy.TheVariants as value_why
+use Rattle.pm_script.specs.declared.refusal.Refusal.TheVariants.{BadValue, Crowded, NoChain, NoSuchFile, ObjectsFull, Sealed, StoreFault, UnknownName, UnknownType}
 use Rattle.pm_weights.specs.declared.Cost.{Cost}
 use lib.IntN.{pos}
 use Rattle.pm_props.specs.declared.kind.Kind.{Kind}
 use Rattle.pm_props.specs.declared.kind.RuleId.{RuleId}
 use Rattle.pm_props.specs.declared.property.PropId.{PropId}
-use Rattle.pm_props.specs.declared.property.PropId.TheVariants.{ConeAmbientDim, ConeDim, Facets, FullDim, MaximalValue, Pointed, Vertices}
+use Rattle.pm_props.specs.declared.property.PropId.TheVariants.{ConeAmbientDim, ConeDim, Facets, FullDim, LinearObjective, MaximalFace, MaximalValue, Pointed, Vertices}
 use Rattle.pm_props.specs.declared.set.PropSet.{PropSet}
 
 abbrev pub third : RuleId
@@ -128,12 +132,12 @@ pub record ObjectsAreRead : Type 0 where
   pub first_goes : without_name (codes "a") (codes "a" ∷ codes "b" ∷ codes "c" ∷ []) ≡ codes "b" ∷ codes "c" ∷ []
   pub middle_goes : without_name (codes "b") (codes "a" ∷ codes "b" ∷ codes "c" ∷ []) ≡ codes "a" ∷ codes "c" ∷ []
   pub none_goes : without_name (codes "d") (codes "a" ∷ codes "b" ∷ []) ≡ codes "a" ∷ codes "b" ∷ []
-  pub is_gone : (name : List ℕ) (old new : Machine) → DropStep old name done new → new.object name ≡ None
-  pub not_twice : (name : List ℕ) (old new : Machine) → old.object name ≡ None → DropStep old name done new → ⊥
-  -- a copy is as its object is: with its exclusions, rounds and disabled labels
-  pub same : (name to : List ℕ) (old new : Machine) → CopyStep old name to done new → new.object to ≡ old.object name
-  pub not_over : (name to : List ℕ) (old new : Machine) → old.object to ≢ None → CopyStep old name to done new → ⊥
-  pub not_of_nothing : (name to : List ℕ) (old new : Machine) → old.object name ≡ None → CopyStep old name to done new → ⊥
+  pub is_gone : (name : List ℕ) (old new : Machine) (t : Rounds) → DropStep old name (done t) new → new.object name ≡ None
+  pub not_twice : (name : List ℕ) (old new : Machine) (t : Rounds) → old.object name ≡ None → DropStep old name (done t) new → ⊥
+  -- a copy is as its object is: with its exclusions, rounds, disabled labels and linear programs
+  pub same : (name to : List ℕ) (old new : Machine) (t : Rounds) → CopyStep old name to (done t) new → new.object to ≡ old.object name
+  pub not_over : (name to : List ℕ) (old new : Machine) (t : Rounds) → old.object to ≢ None → CopyStep old name to (done t) new → ⊥
+  pub not_of_nothing : (name to : List ℕ) (old new : Machine) (t : Rounds) → old.object name ≡ None → CopyStep old name to (done t) new → ⊥
   pub not_full : (name to : List ℕ) (old new : Machine) → length old.names ≡ 31 → CopyStep old name to (refused ObjectsFull nothing) new → ⊥
   -- the origin of the value of the property
   pub was_given : origin_of Pointed (found FullDim true ∷ given Pointed true ∷ []) ≡ Some Given
@@ -146,7 +150,7 @@ with_rounds rounds = record (empty_object Polytope) { rounds = rounds }
 
 -- the column count 1, which goes without saying
 abbrev pub one_column : HeldValue
-one_column = record { place = None; property = ConeAmbientDim; value = whole (pos 1); origin = Given }
+one_column = record { place = None; property = ConeAmbientDim; value = whole_number (pos 1); origin = Given }
 
 -- what `ensure`, `give` and `explain` ask and tell
 pub record AnswersAreRead : Type 0 where
@@ -154,20 +158,82 @@ pub record AnswersAreRead : Type 0 where
   pub later : (r s : RoundSeen) → later_rounds (with_rounds (r ∷ [])) (with_rounds (r ∷ s ∷ [])) ≡ s ∷ []
   pub none_later : (r : RoundSeen) → later_rounds (with_rounds (r ∷ [])) (with_rounds (r ∷ [])) ≡ []
   -- each word names a property of the type
-  pub asked : asked_in Polytope (codes "VERTICES" ∷ codes "FACETS" ∷ []) ≡ Some (set_of (Vertices ∷ Facets ∷ []))
-  pub of_a_cone : asked_in Cone (codes "RAYS" ∷ []) ≡ Some (set_of (Vertices ∷ []))
-  pub no_name : asked_in Polytope (codes "VERTICES" ∷ codes "RAYS" ∷ []) ≡ None
+  pub asked : asked_in Polytope None (codes "VERTICES" ∷ codes "FACETS" ∷ []) ≡ Some (set_of (Vertices ∷ Facets ∷ []))
+  pub of_a_cone : asked_in Cone None (codes "RAYS" ∷ []) ≡ Some (set_of (Vertices ∷ []))
+  pub no_name : asked_in Polytope None (codes "VERTICES" ∷ codes "RAYS" ∷ []) ≡ None
   -- an object that is settled knows its column count
   pub settled_holds : (settled_object (empty_object Polytope)).held ≡ one_column ∷ []
   -- the rounds beside a refusal are told of `ensure` always, of `give` only where they are traced
-  pub ensure_tells : (book : List Rule) (old new : Configuration) (asked : PropSet) (more : Remarks) → Ensures book old asked (refused NoChain more) new → more ≡ remarks true (later_rounds old.object new.object) [] None (rule_names book)
-  pub give_tells : (book : List Rule) (old new : Configuration) (name : List ℕ) (p : PropId) (more : Remarks) → Gives book old name p (refused NoChain more) new → more ≡ remarks false (later_rounds old.object new.object) [] None (rule_names book)
-  pub crowded_tells : (book : List Rule) (old new : Configuration) (asked : PropSet) (more : Remarks) → Ensures book old asked (refused Crowded more) new → more ≡ remarks true (later_rounds old.object new.object) [] None (rule_names book)
+  pub ensure_tells : (book : List Rule) (old new : Configuration) (sub : Option ℕ) (asked : PropSet) (more : Remarks) → Ensures book old sub asked (refused NoChain more) new → more ≡ remarks true (later_rounds old.object new.object) [] None (names_told book new.object)
+  pub give_tells : (book : List Rule) (old new : Configuration) (sub : Option ℕ) (name : List ℕ) (p : PropId) (more : Remarks) → Gives book old sub name p (refused NoChain more) new → more ≡ remarks false (later_rounds old.object new.object) [] None (names_told book new.object)
+  pub crowded_tells : (book : List Rule) (old new : Configuration) (sub : Option ℕ) (asked : PropSet) (more : Remarks) → Ensures book old sub asked (refused Crowded more) new → more ≡ remarks true (later_rounds old.object new.object) [] None (names_told book new.object)
   -- no other refusal comes of asking
-  pub no_other : (book : List Rule) (old new : Configuration) (asked : PropSet) → Ensures book old asked (refused UnknownName nothing) new → ⊥
-  pub no_other_reason : (book : List Rule) (clients : Clients) (o : State) (asked : PropSet) → Explains book clients o asked (refused UnknownName nothing) → ⊥
-  -- the labels are those of the book
-  pub explain_names : (book : List Rule) (clients : Clients) (o : State) (asked : PropSet) (chain : List RuleId) (weight : Cost) (rows : List TableRow) (names : NamesSeen) → Explains book clients o asked (explained chain weight rows names) → names ≡ rule_names book
+  pub no_other : (book : List Rule) (old new : Configuration) (sub : Option ℕ) (asked : PropSet) → Ensures book old sub asked (refused UnknownName nothing) new → ⊥
+  pub no_other_reason : (book : List Rule) (clients : Clients) (o : State) (sub : Option ℕ) (asked : PropSet) → Explains book clients o sub asked (refused UnknownName nothing) → ⊥
+  -- the labels are those of the book, and the programs those of the object
+  pub explain_names : (book : List Rule) (clients : Clients) (o : State) (sub : Option ℕ) (asked : PropSet) (chain : List RuleId) (weight : Cost) (rows : List TableRow) (names : NamesSeen) → Explains book clients o sub asked (explained chain weight rows names) → names ≡ names_told book o
+
+-- a polytope with linear programs of these names
+abbrev pub with_programs : List (List ℕ) → State
+with_programs names = record (empty_object Polytope) { programs = names }
+
+abbrev pub one_program : State
+one_program = with_programs (codes "a" ∷ [])
+
+abbrev pub two_programs : State
+two_programs = with_programs (codes "a" ∷ codes "b" ∷ [])
+
+-- REFs of an object, and of a program of it
+abbrev pub whole : List ℕ → RefSeen
+whole name = record { name = name; sub = None }
+
+abbrev pub part : List ℕ → List ℕ → RefSeen
+part name sub = record { name = name; sub = Some sub }
+
+-- the first of the programs has this computed value
+abbrev pub with_optimum : State → State
+with_optimum o = record o { held = record { place = Some 0; property = MaximalValue; value = extended plus_infinity; origin = Computed } ∷ [] }
+
+-- a round was started for who asks this program, if one is asked
+abbrev pub with_round_for : Option ℕ → State → State
+with_round_for sub o = record o { rounds = record { sub = sub; weight = record { class = 0; minor = 0 }; chain = []; end = end.Done } ∷ [] }
+
+-- what a REF with a part names, when a linear program is made, what it takes and what is told of it
+pub record ProgramsAreRead : Type 0 where
+  pub the_object : part_named one_program None ≡ Some (record { object = one_program; sub = None })
+  pub the_second : part_named two_programs (Some (codes "b")) ≡ Some (record { object = two_programs; sub = Some 1 })
+  pub no_such_program : part_named one_program (Some (codes "b")) ≡ None
+  pub of_no_object : (m : Machine) (ref : RefSeen) → m.object ref.name ≡ None → named_at m ref ≡ None
+  -- the words for types
+  pub a_fan : type_word (codes "Fan") ≡ Some Fan
+  pub no_type : type_word (codes "LP") ≡ None
+  pub for_programs : is_program_word (codes "LP") ≡ true
+  pub for_no_programs : is_program_word (codes "Polytope") ≡ false
+  -- LP comes with a part alone, and a part with LP alone
+  pub no_object_of_it : (old new : Machine) (name : List ℕ) (t : Rounds) → NewStep old (whole name) (codes "LP") (done t) new → ⊥
+  pub no_program_of_it : (old new : Machine) (name sub : List ℕ) (t : Rounds) → NewStep old (part name sub) (codes "Polytope") (done t) new → ⊥
+  pub is_made : (old new : Machine) (name sub : List ℕ) (t : Rounds) → NewStep old (part name sub) (codes "LP") (done t) new → (o : State) × (old.object name ≡ Some o) × (new.object name ≡ Some (with_program o sub))
+  pub of_nothing : (old new : Machine) (name sub : List ℕ) (t : Rounds) → old.object name ≡ None → NewStep old (part name sub) (codes "LP") (done t) new → ⊥
+  pub of_no_polytope : (old new : Machine) (name sub : List ℕ) (t : Rounds) → old.object name ≡ Some (empty_object Cone) → NewStep old (part name sub) (codes "LP") (done t) new → ⊥
+  pub cone_has_none : (old : Machine) (name sub : List ℕ) → old.object name ≡ Some (empty_object Cone) → Stays old old → NewStep old (part name sub) (codes "LP") (refused UnknownType nothing) old
+  pub not_twice : (old new : Machine) (name : List ℕ) (t : Rounds) → old.object name ≡ Some one_program → NewStep old (part name (codes "a")) (codes "LP") (done t) new → ⊥
+  pub a_fifth : (old new : Machine) (name sub : List ℕ) (t : Rounds) (o : State) → old.object name ≡ Some o → length o.programs ≡ 4 → NewStep old (part name sub) (codes "LP") (done t) new → ⊥
+  -- a program has its own properties
+  pub its_own : property_named Polytope (Some 0) (codes "MAXIMAL_VALUE") ≡ Some MaximalValue
+  pub not_of_the_object : property_named Polytope None (codes "MAXIMAL_VALUE") ≡ None
+  pub not_of_programs : property_named Polytope (Some 0) (codes "VERTICES") ≡ None
+  pub asked_of_it : asked_in Polytope (Some 0) (codes "MAXIMAL_VALUE" ∷ codes "MAXIMAL_FACE" ∷ []) ≡ Some (set_of (MaximalValue ∷ MaximalFace ∷ []))
+  -- it takes its objective alone, until it is sealed
+  pub optimum_is_computed : TakeValue one_program (Some 0) MaximalValue (value (extended plus_infinity)) (Some (BadValue value_why.Computed)) None
+  pub objective_is_given : TakeValue one_program (Some 0) LinearObjective (value (matrix 0 [])) (Some (BadValue value_why.Computed)) None → ⊥
+  pub is_sealed : (g : ReadValue) → TakeValue (with_optimum two_programs) (Some 0) LinearObjective g (Some Sealed) None
+  pub other_is_open : (g : ReadValue) → TakeValue (with_optimum two_programs) (Some 1) LinearObjective g (Some Sealed) None → ⊥
+  pub sealed_by_a_round : (g : ReadValue) → TakeValue (with_round_for (Some 1) two_programs) (Some 1) LinearObjective g (Some Sealed) None
+  pub open_beside_a_round : (g : ReadValue) → TakeValue (with_round_for None two_programs) (Some 1) LinearObjective g (Some Sealed) None → ⊥
+  -- what is told names the program that is asked
+  pub programs_told : (book : List Rule) → (names_told book two_programs).programs ≡ codes "a" ∷ codes "b" ∷ []
+  pub is_shown : (old new : Machine) (name sub text : List ℕ) (n : List ℕ) (of : ObjectType) (p : PropId) (v : PropertyValue) (t : Rounds) → LookupStep old (part name sub) text (shows n of p v t) new → n ≡ name ++ codes "." ++ sub
+  pub history_tells : (book : List Rule) (old new : Machine) (name : List ℕ) (t : Rounds) (excluded : List Excluded) → old.object name ≡ Some two_programs → HistoryStep book old name (tells t excluded) new → t.names.programs ≡ codes "a" ∷ codes "b" ∷ []
 
 -- a store that tells this one file
 abbrev pub one_file : List ℕ → List ℕ → Store
@@ -180,15 +246,15 @@ pub record FilesAreKept : Type 0 where
   pub not_over : (book : List Rule) (old new : Machine) (name file : List ℕ) (names : List (List ℕ)) → old.object name ≢ None → LoadStep book old name file (loaded names) new → ⊥
   pub not_of_nothing : (book : List Rule) (old new : Machine) (name : List ℕ) (names : List (List ℕ)) → old.store ≡ one_file (codes "g") [] → LoadStep book old name (codes "f") (loaded names) new → ⊥
   pub it_is_there : (book : List Rule) (old new : Machine) (name : List ℕ) → old.store ≡ one_file (codes "f") [] → LoadStep book old name (codes "f") (refused NoSuchFile nothing) new → ⊥
-  pub not_in_between : (book : List Rule) (old new : Machine) (name file : List ℕ) → LoadStep book old name file done new → ⊥
+  pub not_in_between : (book : List Rule) (old new : Machine) (name file : List ℕ) (t : Rounds) → LoadStep book old name file (done t) new → ⊥
   -- the file has the bytes of the object, and the objects stay
-  pub has_bytes : (book : List Rule) (old new : Machine) (name : List ℕ) → old.store ≡ one_file (codes "f") [] → SaveStep book old name (codes "f") done new
+  pub has_bytes : (book : List Rule) (old new : Machine) (name : List ℕ) (t : Rounds) → old.store ≡ one_file (codes "f") [] → SaveStep book old name (codes "f") (done t) new
       → (o : State) × (all : Files) × (old.object name ≡ Some o) × (new.store.files ≡ Some all) × (file_of all (codes "f") ≡ Some (bytes_of book o))
-  pub objects_stay : (book : List Rule) (old new : Machine) (name file q : List ℕ) → SaveStep book old name file done new → new.object q ≡ old.object q
-  pub no_object : (book : List Rule) (old new : Machine) (name file : List ℕ) → old.object name ≡ None → SaveStep book old name file done new → ⊥
+  pub objects_stay : (book : List Rule) (old new : Machine) (name file q : List ℕ) (t : Rounds) → SaveStep book old name file (done t) new → new.object q ≡ old.object q
+  pub no_object : (book : List Rule) (old new : Machine) (name file : List ℕ) (t : Rounds) → old.object name ≡ None → SaveStep book old name file (done t) new → ⊥
   pub it_failed : (book : List Rule) (old new : Machine) (name file : List ℕ) → SaveStep book old name file (refused StoreFault nothing) new → Rose old.store.faults new.store.faults
   -- what was saved is loaded again
-  pub loaded_again : (book : List Rule) (old new : Machine) (name file : List ℕ) → SaveStep book old name file done new → (o : State) × (old.object name ≡ Some o) × IsSavedWhole book o
+  pub loaded_again : (book : List Rule) (old new : Machine) (name file : List ℕ) (t : Rounds) → SaveStep book old name file (done t) new → (o : State) × (old.object name ≡ Some o) × IsSavedWhole book o
   -- a fault is told as it is
   pub limit : IsFault file_why.Limit too_long
   pub no_limit : ¬ (IsFault file_why.Limit not_json)

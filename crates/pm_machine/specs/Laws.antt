@@ -1,9 +1,10 @@
 -- The laws of honesty: by the definitions alone, for any clients.
 use Rattle.std.specs.Prelude.{List}
 use Rattle.pm_machine.specs.Parts.{AllHonest, StepInPart}
-use Rattle.pm_machine.specs.Steps.{AllKept, Machine, Step}
+use Rattle.pm_machine.specs.Machines.{Machine}
+use Rattle.pm_machine.specs.Steps.{AllKept, Step}
 use Rattle.pm_rules.specs.declared.rule.Rule.{Rule}
-use Rattle.pm_script.specs.Commands.{Spoken}
+use Rattle.pm_command.specs.Commands.{Spoken}
 use Rattle.pm_script.specs.Replies.{ReplySeen}
 
 -- whatever a step answers, each object stays honest, and kept

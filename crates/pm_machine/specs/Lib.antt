@@ -3,8 +3,12 @@ pub mod Reasons
 pub mod Events
 pub mod Moves
 pub mod Running
+pub mod Machines
+pub mod Building
+pub mod Built
 pub mod Steps
 pub mod Parts
 pub mod Sessions
 pub mod Laws
 pub mod Examples
+pub mod BuildingExamples

@@ -1,41 +1,43 @@
 -- What stands where memory ran out in a command: a first part of its events, maybe none or all.
-use Rattle.std.specs.Prelude.{◌≡◌, ◌⊎◌, List, ℕ, None, Some, IfSome}
+use Rattle.std.specs.Prelude.{◌≡◌, ◌⊎◌, List, ℕ, Some, IfSome}
 use Rattle.pm_machine.specs.Events.{Configuration, EnsuredInPart, configuration}
-use Rattle.pm_machine.specs.Steps.{Becomes, Looks, Machine, Puts, Stays, bytes_of, asked_in, object_at, property_named, settled_object}
+use Rattle.pm_machine.specs.Machines.{Becomes, Machine, Stays}
+use Rattle.pm_machine.specs.Steps.{Looks, Named, Puts, asked_of, bytes_of, named_at, property_at, settled_object}
 use Rattle.pm_object.specs.Honest.{IsHonest}
 use Rattle.pm_object.specs.State.{State}
 use Rattle.pm_rules.specs.declared.rule.Rule.{Rule}
 use Rattle.pm_store.specs.Files.{IsPutInPart}
-use Rattle.pm_script.specs.Commands.{RefSeen, Spoken, ensure_values, explain_values, give_value, load_object, save_object}
+use Rattle.pm_command.specs.Commands.{RefSeen, Spoken, ensure_values, explain_values, give_value, load_object, save_object, build_polar, build_pyramid, build_normal_fan, build_face_fan, build_product}
+use Rattle.pm_machine.specs.Building.{EnsuresInPart, face_fan_building, normal_fan_building, polar_building, product_wanted, pyramid_building, wanted_of}
 use Rattle.pm_props.specs.Sets.{only}
 use Rattle.pm_props.specs.declared.property.PropId.{PropId}
 use Rattle.pm_props.specs.declared.set.PropSet.{PropSet}
 
--- the object that REF names is ensured the property in part
+-- what REF names is ensured the property in part
 pub record GaveInPart (book : List Rule) (old : Machine) (ref : RefSeen) (text : List ℕ) (new : Machine) : Type 0 where
-  pub object : State
-  pub named : object_at old ref ≡ Some object
+  pub found : Named
+  pub named : named_at old ref ≡ Some found
   pub property : PropId
-  pub is_property : property_named object.of text ≡ Some property
+  pub is_property : property_at found text ≡ Some property
   pub now : Configuration
-  pub ensured : EnsuredInPart book None (only property) (configuration object old.clients) now
+  pub ensured : EnsuredInPart book found.sub (only property) (configuration found.object old.clients) now
   pub becomes : Becomes ref.name now old new
 
--- the object that REF names is ensured what the words ask for, in part
+-- what REF names is ensured what the words ask for, in part
 pub record EnsuredPartly (book : List Rule) (old : Machine) (ref : RefSeen) (words : List (List ℕ)) (new : Machine) : Type 0 where
-  pub object : State
-  pub named : object_at old ref ≡ Some object
+  pub found : Named
+  pub named : named_at old ref ≡ Some found
   pub asked : PropSet
-  pub is_asked : asked_in object.of words ≡ Some asked
+  pub is_asked : asked_of found words ≡ Some asked
   pub now : Configuration
-  pub ensured : EnsuredInPart book None asked (configuration object old.clients) now
+  pub ensured : EnsuredInPart book found.sub asked (configuration found.object old.clients) now
   pub becomes : Becomes ref.name now old new
 
 -- the object that REF names is settled
 pub record IsSettled (old : Machine) (ref : RefSeen) (new : Machine) : Type 0 where
-  pub object : State
-  pub named : object_at old ref ≡ Some object
-  pub becomes : Becomes ref.name (configuration (settled_object object) old.clients) old new
+  pub found : Named
+  pub named : named_at old ref ≡ Some found
+  pub becomes : Becomes ref.name (configuration (settled_object found.object) old.clients) old new
 
 -- nothing changes, or the object's file is written in part
 abbrev pub SavedInPart : List Rule → Machine → List ℕ → List ℕ → Machine → Type 0
@@ -48,6 +50,11 @@ StepInPart book old (ensure_values ref words) new = Stays old new ⊎ EnsuredPar
 StepInPart book old (explain_values ref words) new = Stays old new ⊎ IsSettled old ref new
 StepInPart book old (load_object name file) new = Looks old new
 StepInPart book old (save_object name file) new = SavedInPart book old name file new
+StepInPart book old (build_polar name to) new = EnsuresInPart book (wanted_of name polar_building.reads) old new
+StepInPart book old (build_pyramid name to) new = EnsuresInPart book (wanted_of name pyramid_building.reads) old new
+StepInPart book old (build_normal_fan name to) new = EnsuresInPart book (wanted_of name normal_fan_building.reads) old new
+StepInPart book old (build_face_fan name to) new = EnsuresInPart book (wanted_of name face_fan_building.reads) old new
+StepInPart book old (build_product first second to) new = EnsuresInPart book (product_wanted first second) old new
 StepInPart book old command new = Stays old new
 
 -- each object is honest

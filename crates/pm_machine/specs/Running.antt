@@ -1,5 +1,5 @@
 -- What the functions of a round do, each in terms of the events that it makes.
-use Rattle.std.specs.Prelude.{ℕ, suc, ◌+◌, ◌++◌, ◌≡◌, ◌⊎◌, ◌&&◌, false, true, Option, None, Some, List, [], ◌∷◌, if◌then◌else◌, nat_eq}
+use Rattle.std.specs.Prelude.{ℕ, suc, ◌+◌, ◌++◌, ◌<◌, ◌≡◌, ◌⊎◌, ◌&&◌, false, true, IfSome, IsTrue, Option, None, Some, List, [], ◌∷◌, if◌then◌else◌, length, nat_eq}
 use Rattle.std.specs.List.{list_any}
 use Rattle.pm_client.specs.Sound.{HoldsOf}
 use Rattle.pm_client.specs.Starts.{after_start, has_client}
@@ -17,15 +17,26 @@ use Rattle.pm_object.specs.declared.held.RoundEnd.{RoundEnd}
 use Rattle.pm_object.specs.declared.held.RoundEnd.TheVariants as end
 use Rattle.pm_object.specs.declared.held.Why.TheVariants as why
 use Rattle.pm_rules.specs.Chains.{IsChain, reached}
-use Rattle.pm_rules.specs.Rules.{is_barred, rule_at}
+use Rattle.pm_rules.specs.Rules.{EachTag, is_barred, rule_at}
 use Rattle.pm_rules.specs.declared.rule.Rule.{Rule}
 use Rattle.pm_types.specs.Runs.{MayAnswer, missing, shown}
+use Rattle.pm_props.specs.Kinds.{IsFresh, names_of}
 use Rattle.pm_props.specs.Places.{same_place}
-use Rattle.pm_props.specs.Sets.{IsSubset}
+use Rattle.pm_props.specs.Properties.{has_program}
+use Rattle.pm_props.specs.Sets.{IsSubset, has}
 use Rattle.pm_types.specs.Values.{Fact}
+use Rattle.pm_props.specs.declared.kind.Kind.{Kind}
 use Rattle.pm_props.specs.declared.kind.RuleId.{RuleId}
 use Rattle.pm_props.specs.declared.property.PropId.{PropId}
 use Rattle.pm_props.specs.declared.set.PropSet.{PropSet}
+
+-- the object has the program that is asked, if one is
+abbrev pub HasPlace : Option ℕ → State → Type 0
+HasPlace sub o = IfSome sub (λ s. s < length o.programs)
+
+-- where it has a name of linear programs, the kind is fresh in no tag
+abbrev pub IsStale : Kind → Type 0
+IsStale kind = (p : PropId) → IsTrue (has (names_of kind) p) → IsTrue (has_program p) → EachTag (λ tag. IsFresh tag kind → ⊥)
 
 -- ---- a turn of a rule
 -- what is missing of the answer of the rule's client is added

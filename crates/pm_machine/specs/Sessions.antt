@@ -2,9 +2,11 @@
 use Rattle.indexmap.specs.IndexMap.{keys}
 use Rattle.std.specs.HashMap.{get_by_text}
 use Rattle.std.specs.Option.{option_map}
-use Rattle.std.specs.Prelude.{ℕ, Bool, Option, Some, List, [], map, string_bytes}
+use Rattle.std.specs.Prelude.{ℕ, Bool, IsTrue, Option, Some, List, [], map, string_bytes}
+use Rattle.pm_command.specs.Commands.{Spoken, new_object}
+use Rattle.pm_command.specs.Grammar.{is_sub}
 use Rattle.pm_client.specs.Starts.{Clients}
-use Rattle.pm_machine.specs.Steps.{Files, Machine}
+use Rattle.pm_machine.specs.Machines.{Files, Machine}
 use Rattle.pm_machine.specs.declared.session.Session.{Session}
 use Rattle.pm_rules.specs.declared.rule.Rule.{Rule}
 
@@ -28,3 +30,8 @@ machine_of s clients = machine_at s clients (Some []) 0
 -- memory ran out: the session answers nothing else
 abbrev pub is_spent : Session → Bool
 is_spent s = s.spent
+
+-- the name of the linear program that the command makes, if it makes one, is a name
+abbrev pub MakesNamed : Spoken → Type 0
+MakesNamed (new_object ref text) = IsTrue (is_sub ref.sub)
+MakesNamed command = Unit {0}

@@ -1,5 +1,5 @@
 -- The machine: what each command may answer, and what it changes. Each refusal comes exactly where its line says, and the lines of one command exclude each other.
-use Rattle.std.specs.Prelude.{ℕ, ◌≡◌, ◌≢◌, Bool, true, false, ◌++◌, ◌<◌, ◌≤◌, List, [], ◌∷◌, drop, filter, find, length, map, not, Option, Some, None, option_and_then, option_map, IfSome, if◌then◌else◌, codes, string_bytes}
+use Rattle.std.specs.Prelude.{ℕ, ◌≡◌, ◌≢◌, ◌⊎◌, Bool, true, false, ◌++◌, ◌<◌, ◌≤◌, List, [], ◌∷◌, find, length, map, Option, Some, None, option_and_then, option_map, IfSome, if◌then◌else◌, codes, string_bytes}
 use Rattle.std.specs.Prelude.{Result, Ok, Err}
 use Rattle.std.specs.List.{list_any}
 use Rattle.std.specs.Str.{bytes_eq}
@@ -8,39 +8,42 @@ use Rattle.serde_json.specs.Read.{read}
 use Rattle.pm_books.specs.Writing.{text_of}
 use Rattle.pm_client.specs.Starts.{Clients}
 use Rattle.pm_props.specs.declared.object_type.ObjectType.{ObjectType}
-use Rattle.pm_props.specs.declared.object_type.ObjectType.TheVariants.{Polytope, Cone}
+use Rattle.pm_props.specs.declared.object_type.ObjectType.TheVariants.{Polytope, Cone, Fan}
 use Rattle.pm_json.specs.Readings.{reading}
 use Rattle.pm_json.specs.declared.fail.ValueFail.{ValueFail}
 use Rattle.pm_json.specs.declared.fail.ValueFail.TheVariants as fault
 use Rattle.pm_machine.specs.Chains.{AreBarred, held_names, table}
 use Rattle.pm_machine.specs.Events.{Configuration, Ensured, configuration}
+use Rattle.pm_machine.specs.Building.{BuildStep, MakeStep, ProductStep, face_fan_building, normal_fan_building, polar_building, pyramid_building}
+use Rattle.pm_machine.specs.Machines.{Becomes, Files, Gains, IsFree, Loses, Machine, OthersStay, Stays, Store, later_rounds, most_objects, no_rounds}
 use Rattle.pm_machine.specs.Reasons.{AreReasons}
 use Rattle.pm_machine.specs.declared.round.Ending.TheVariants as ending
 use Rattle.pm_object.specs.Honest.{IsKept}
-use Rattle.pm_object.specs.State.{CanTake, CannotTake, HeldValue, RoundSeen, State, empty_object, is_disabled, is_held, is_sealed, read_at, settling, value_of, with_disabled, with_held}
+use Rattle.pm_object.specs.State.{CanTake, CannotTake, HeldValue, RoundSeen, State, empty_object, given_at, is_disabled, is_held, is_sealed_at, place_named, program_refusal, read_at, settling, value_of, with_disabled, with_held, with_program}
 use Rattle.pm_object.specs.declared.held.Origin.{Origin}
-use Rattle.pm_object.specs.declared.held.Origin.TheVariants.{Given as Given'}
+use Rattle.pm_object.specs.declared.held.ProgramFail.{ProgramFail}
+use Rattle.pm_object.specs.declared.held.ProgramFail.TheVariants as no_program
 use Rattle.pm_object.specs.declared.held.TakeFail.TheVariants as fail
-use Rattle.pm_filing.specs.Whole.{IsLoadedAgain, IsReadType}
+use Rattle.pm_filing.specs.Whole.{IsLoadedAgain}
 use Rattle.pm_filing.specs.Filing.{loaded_object, read_over, saved_file}
 use Rattle.pm_filing.specs.FileParts.{FileFault, bad_profile, bad_property, bad_row, no_type, not_json, too_long, unknown_type}
 use Rattle.pm_filing.specs.FileReadings.{Reads, Refuses}
 use Rattle.pm_files.specs.Files.{SavedFile, file_bytes}
 use Rattle.pm_plan.specs.Plans.{HasNoPlan, IsCrowded, IsPlan}
-use Rattle.pm_script.specs.declared.refusal.Condition.TheVariants as condition
+use Rattle.pm_object.specs.declared.held.Condition.TheVariants as condition
 use Rattle.pm_script.specs.declared.refusal.FileWhy.{FileWhy}
 use Rattle.pm_script.specs.declared.refusal.FileWhy.TheVariants as file_why
 use Rattle.pm_store.specs.Files.{AreTold, FilesStay, IsPut, IsPutInPart, file_of, read_part}
 use Rattle.pm_store.specs.Outside.{Rose}
 use Rattle.pm_rules.specs.declared.rule.Rule.{Rule}
-use Rattle.pm_script.specs.Commands.{RefSeen, Spoken, blank, new_object, take_value, give_value, look_up, ensure_values, explain_values, tell_history, show_rules, disable_rule, unload_client, copy_object, drop_object, tell_origin, load_object, save_object}
+use Rattle.pm_command.specs.Commands.{RefSeen, Spoken, blank, new_object, take_value, give_value, look_up, ensure_values, explain_values, tell_history, show_rules, disable_rule, unload_client, copy_object, drop_object, tell_origin, load_object, save_object, make_object, build_polar, build_pyramid, build_normal_fan, build_face_fan, build_product}
+use Rattle.pm_command.specs.Grammar.{ref_text}
 use Rattle.pm_script.specs.Replies.{NamesSeen, Remarks, ReplySeen, Rounds, done, ensured, explained, lists_rules, loaded, nothing, planned, refused, remarks, shows, tells, tells_origin, undef}
 use Rattle.pm_script.specs.declared.refusal.Refusal.{Refusal}
 use Rattle.pm_script.specs.declared.refusal.Refusal.TheVariants.{UnknownName, NameTaken, UnknownType, UnknownProperty, BadValue, AlreadyHeld, Sealed, ObjectsFull, NoChain, Crowded, StoreFault, BadFile, NoSuchFile, UnknownRule, NotFit}
 use Rattle.pm_script.specs.declared.refusal.ValueWhy.{ValueWhy}
 use Rattle.pm_script.specs.declared.refusal.ValueWhy.TheVariants as value_why
-use Rattle.pm_props.specs.Properties.{is_built}
-use Rattle.pm_props.specs.Names.{property_named_in}
+use Rattle.pm_props.specs.Names.{program_named, property_named_in}
 use Rattle.pm_props.specs.Places.{same_property}
 use Rattle.pm_props.specs.Sets.{only, set_of}
 use Rattle.pm_types.specs.Values.{PropertyValue}
@@ -48,90 +51,35 @@ use Rattle.pm_props.specs.declared.kind.RuleId.{RuleId}
 use Rattle.pm_props.specs.declared.property.PropId.{PropId}
 use Rattle.pm_props.specs.declared.set.PropSet.{PropSet}
 
--- files, each with its name
-abbrev pub Files : Type 0
-Files = List (List ℕ × List ℕ)
+-- what a REF names: an object, and a linear program of it where the REF has a part
+pub record Named : Type 0 where
+  pub object : State
+  pub sub : Option ℕ
 
--- what stands outside: the files, where a store tells them, and how many faults it counted
-pub record Store : Type 0 where
-  pub files : Option Files
-  pub faults : ℕ
+abbrev pub part_named : State → Option (List ℕ) → Option Named
+part_named o None = Some (record { object = o; sub = None })
+part_named o (Some name) = option_map (λ s. record { object = o; sub = Some s }) (place_named name o)
 
--- the names of the objects in the order in which they came, the object of each name, the clients as kinds with counts of their starts, and what stands outside
-pub record Machine : Type 0 where
-  pub names : List (List ℕ)
-  pub object : List ℕ → Option State
-  pub clients : Clients
-  pub store : Store
+-- the object that a REF names, and the place of its program where the REF has a part
+abbrev pub named_at : Machine → RefSeen → Option Named
+named_at m ref = option_and_then (λ o. part_named o ref.sub) (m.object ref.name)
 
--- the greatest number of objects
-abbrev pub most_objects : ℕ
-most_objects = 32
+-- the type that a word names
+abbrev pub type_word : List ℕ → Option ObjectType
+type_word text = if bytes_eq text (codes "Polytope") then Some Polytope else if bytes_eq text (codes "Cone") then Some Cone else if bytes_eq text (codes "Fan") then Some Fan else None
 
--- the objects of other names stay
-abbrev pub OthersStay : List ℕ → Machine → Machine → Type 0
-OthersStay name old new = (q : List ℕ) → q ≢ name → new.object q ≡ old.object q
+-- the word for linear programs
+abbrev pub is_program_word : List ℕ → Bool
+is_program_word text = bytes_eq text (codes "LP")
 
--- nothing changes
-pub record Stays (old new : Machine) : Type 0 where
-  pub names : new.names ≡ old.names
-  pub objects : (q : List ℕ) → new.object q ≡ old.object q
-  pub clients : new.clients ≡ old.clients
-  pub store : new.store ≡ old.store
+-- the property that a word names: in the table of the type, or, where a linear program is asked, in that of programs
+abbrev pub property_named : ObjectType → Option ℕ → List ℕ → Option PropId
+property_named of None text = property_named_in of text
+property_named of (Some s) text = program_named text
 
--- the object of the name and the clients become those of the configuration; all else stays
-pub record Becomes (name : List ℕ) (c : Configuration) (old new : Machine) : Type 0 where
-  pub names : new.names ≡ old.names
-  pub object : new.object name ≡ Some c.object
-  pub others : OthersStay name old new
-  pub clients : new.clients ≡ c.clients
-  pub store : new.store ≡ old.store
-
--- one object more, of a new name, which comes last; all else stays
-pub record Gains (name : List ℕ) (o : State) (old new : Machine) : Type 0 where
-  pub names : new.names ≡ old.names ++ name ∷ []
-  pub object : new.object name ≡ Some o
-  pub others : OthersStay name old new
-  pub clients : new.clients ≡ old.clients
-  pub store : new.store ≡ old.store
-
--- the names without this one, in their order
-abbrev pub without_name : List ℕ → List (List ℕ) → List (List ℕ)
-without_name name names = filter (λ q. not (bytes_eq name q)) names
-
--- the object of the name goes; all else stays
-pub record Loses (name : List ℕ) (old new : Machine) : Type 0 where
-  pub names : new.names ≡ without_name name old.names
-  pub object : new.object name ≡ None
-  pub others : OthersStay name old new
-  pub clients : new.clients ≡ old.clients
-  pub store : new.store ≡ old.store
-
--- what a REF names: so far no object has parts
-abbrev pub whole_of : Option (List ℕ) → Option State → Option State
-whole_of None o = o
-whole_of (Some sub) o = None
-
--- the object that a REF names
-abbrev pub object_at : Machine → RefSeen → Option State
-object_at m ref = whole_of ref.sub (m.object ref.name)
-
--- the type that a word names, if it is built; a part of an object is of none of these
-abbrev pub type_word : Option (List ℕ) → List ℕ → Option ObjectType
-type_word None text = if bytes_eq text (codes "Polytope") then Some Polytope else if bytes_eq text (codes "Cone") then Some Cone else None
-type_word (Some sub) text = None
-
--- the type of a new object
-abbrev pub type_named : RefSeen → List ℕ → Option ObjectType
-type_named ref text = type_word ref.sub text
-
--- the property, if it is built
-abbrev pub built_one : PropId → Option PropId
-built_one p = if is_built p then Some p else None
-
--- the property that a word names in the table of the type, if it is built
-abbrev pub property_named : ObjectType → List ℕ → Option PropId
-property_named of text = option_and_then built_one (property_named_in of text)
+-- the property that a word names there
+abbrev pub property_at : Named → List ℕ → Option PropId
+property_at x text = property_named x.object.of x.sub text
 
 -- the reason of a fault in reading order; want of memory is no fault of a value
 abbrev pub why_of : ValueFail → Option ValueWhy
@@ -141,13 +89,36 @@ why_of fault.Index = Some value_why.Index
 why_of fault.Limit = Some value_why.Limit
 why_of fault.Memory = None
 
+-- `new NAME TYPE`
+abbrev pub NewObjectStep : Machine → List ℕ → List ℕ → ReplySeen → Machine → Type 0
+NewObjectStep old name text (refused UnknownType nothing) new = (type_word text ≡ None) × Stays old new
+NewObjectStep old name text (refused NameTaken nothing) new = (type_word text ≢ None) × (old.object name ≢ None) × Stays old new
+NewObjectStep old name text (refused ObjectsFull nothing) new = (type_word text ≢ None) × (old.object name ≡ None) × (most_objects ≤ length old.names) × Stays old new
+NewObjectStep old name text (done t) new = (of : ObjectType) × (type_word text ≡ Some of) × (old.object name ≡ None) × (length old.names < most_objects) × (t ≡ no_rounds) × Gains name (empty_object of) old new
+NewObjectStep old name text reply new = ⊥
+
+-- the object of the name gets no linear program of that name, for this reason
+abbrev pub ProgramRefuses : Machine → List ℕ → List ℕ → ProgramFail → Machine → Type 0
+ProgramRefuses old name sub why new = (o : State) × (old.object name ≡ Some o) × (program_refusal o sub ≡ Some why) × Stays old new
+
+-- `new NAME.SUB LP`
+abbrev pub NewProgramStep : Machine → List ℕ → List ℕ → List ℕ → ReplySeen → Machine → Type 0
+NewProgramStep old name sub text (refused UnknownType nothing) new =
+    ((is_program_word text ≡ false) × Stays old new) ⊎ ((is_program_word text ≡ true) × ProgramRefuses old name sub no_program.NotPolytope new)
+NewProgramStep old name sub text (refused UnknownName nothing) new = (is_program_word text ≡ true) × (old.object name ≡ None) × Stays old new
+NewProgramStep old name sub text (refused NameTaken nothing) new = (is_program_word text ≡ true) × ProgramRefuses old name sub no_program.NameTaken new
+NewProgramStep old name sub text (refused ObjectsFull nothing) new = (is_program_word text ≡ true) × ProgramRefuses old name sub no_program.Full new
+NewProgramStep old name sub text (done t) new = (is_program_word text ≡ true) × (o : State) × (old.object name ≡ Some o) × (program_refusal o sub ≡ None)
+    × (t ≡ no_rounds) × Becomes name (configuration (with_program o sub) old.clients) old new
+NewProgramStep old name sub text reply new = ⊥
+
+abbrev pub NewOf : Machine → List ℕ → Option (List ℕ) → List ℕ → ReplySeen → Machine → Type 0
+NewOf old name None text reply new = NewObjectStep old name text reply new
+NewOf old name (Some sub) text reply new = NewProgramStep old name sub text reply new
+
 -- `new REF TYPE`
 abbrev pub NewStep : Machine → RefSeen → List ℕ → ReplySeen → Machine → Type 0
-NewStep old ref text (refused UnknownType nothing) new = (type_named ref text ≡ None) × Stays old new
-NewStep old ref text (refused NameTaken nothing) new = (type_named ref text ≢ None) × (old.object ref.name ≢ None) × Stays old new
-NewStep old ref text (refused ObjectsFull nothing) new = (type_named ref text ≢ None) × (old.object ref.name ≡ None) × (most_objects ≤ length old.names) × Stays old new
-NewStep old ref text done new = (of : ObjectType) × (type_named ref text ≡ Some of) × (old.object ref.name ≡ None) × (length old.names < most_objects) × Gains ref.name (empty_object of) old new
-NewStep old ref text reply new = ⊥
+NewStep old ref text reply new = NewOf old ref.name ref.sub text reply new
 
 -- what a JSON text gives for a property: no JSON, a fault in reading order, or a value
 pub data Given : Type 0 where
@@ -163,103 +134,102 @@ abbrev pub given_by : PropId → Option Data → Given
 given_by p None = no_json
 given_by p (Some d) = given_of (reading p d)
 
--- The object takes the value that the text gives, unless the first of these holds: it is held, the object is sealed, the text is no JSON, a fault of the value in reading order, its columns differ, a row fails its test or has no primitive row within the range.
-abbrev pub TakeValue : State → PropId → Given → Option Refusal → Option PropertyValue → Type 0
-TakeValue o p g (Some AlreadyHeld) v = is_held p (read_at None o.held) ≡ true
-TakeValue o p g (Some Sealed) v = (is_held p (read_at None o.held) ≡ false) × (is_sealed o ≡ true)
-TakeValue o p no_json (Some (BadValue value_why.Json)) v = (is_held p (read_at None o.held) ≡ false) × (is_sealed o ≡ false)
-TakeValue o p (faulty e) (Some (BadValue why)) v = (is_held p (read_at None o.held) ≡ false) × (is_sealed o ≡ false) × (why_of e ≡ Some why)
-TakeValue o p (value w) (Some (BadValue value_why.Columns)) v = CannotTake o p w fail.Columns
-TakeValue o p (value w) (Some (BadValue value_why.Row)) v = CannotTake o p w fail.NotAThing
-TakeValue o p (value w) None v = (v ≡ Some w) × CanTake o p w
-TakeValue o p g why v = ⊥
-
-abbrev pub given_value : PropId → PropertyValue → HeldValue
-given_value p v = record { place = None; property = p; value = v; origin = Given' }
+-- The object, or its program at a place, takes the value that the text gives, unless the first of these holds: it is held, the object (the program) is sealed, the text is no JSON, a fault of the value in reading order, it is another value of a program than its objective, its columns differ, a row fails its test or has no primitive row within the range.
+abbrev pub TakeValue : State → Option ℕ → PropId → Given → Option Refusal → Option PropertyValue → Type 0
+TakeValue o sub p g (Some AlreadyHeld) v = is_held p (read_at sub o.held) ≡ true
+TakeValue o sub p g (Some Sealed) v = (is_held p (read_at sub o.held) ≡ false) × (is_sealed_at sub o ≡ true)
+TakeValue o sub p no_json (Some (BadValue value_why.Json)) v = (is_held p (read_at sub o.held) ≡ false) × (is_sealed_at sub o ≡ false)
+TakeValue o sub p (faulty e) (Some (BadValue why)) v = (is_held p (read_at sub o.held) ≡ false) × (is_sealed_at sub o ≡ false) × (why_of e ≡ Some why)
+TakeValue o sub p (value w) (Some (BadValue value_why.Computed)) v = CannotTake o sub p w fail.NotOfType
+TakeValue o sub p (value w) (Some (BadValue value_why.Columns)) v = CannotTake o sub p w fail.Columns
+TakeValue o sub p (value w) (Some (BadValue value_why.Row)) v = CannotTake o sub p w fail.NotAThing
+TakeValue o sub p (value w) None v = (v ≡ Some w) × CanTake o sub p w
+TakeValue o sub p g why v = ⊥
 
 -- what taking does to the object: it takes the value, or it stays and there is a reason
-abbrev pub Taken : State → PropId → Given → Option Refusal → State → Type 0
-Taken o p g (Some why) new = TakeValue o p g (Some why) None × (new ≡ o)
-Taken o p g None new = (v : PropertyValue) × TakeValue o p g None (Some v) × (new ≡ with_held o (given_value p v ∷ []))
+abbrev pub Taken : State → Option ℕ → PropId → Given → Option Refusal → State → Type 0
+Taken o sub p g (Some why) new = TakeValue o sub p g (Some why) None × (new ≡ o)
+Taken o sub p g None new = (v : PropertyValue) × TakeValue o sub p g None (Some v) × (new ≡ with_held o (given_at sub p v ∷ []))
 
 -- the value is not taken for this reason
 abbrev pub TakeRefuses : Machine → RefSeen → List ℕ → List ℕ → Refusal → Machine → Type 0
-TakeRefuses old ref text json why new = (o : State) × (object_at old ref ≡ Some o) × (p : PropId) × (property_named o.of text ≡ Some p)
-    × TakeValue o p (given_by p (read json)) (Some why) None × Stays old new
+TakeRefuses old ref text json why new = (x : Named) × (named_at old ref ≡ Some x) × (p : PropId) × (property_at x text ≡ Some p)
+    × TakeValue x.object x.sub p (given_by p (read json)) (Some why) None × Stays old new
 
 -- `take REF PROP JSON`
 abbrev pub TakeStep : Machine → RefSeen → List ℕ → List ℕ → ReplySeen → Machine → Type 0
-TakeStep old ref text json (refused UnknownName nothing) new = (object_at old ref ≡ None) × Stays old new
-TakeStep old ref text json (refused UnknownProperty nothing) new = (o : State) × (object_at old ref ≡ Some o) × (property_named o.of text ≡ None) × Stays old new
+TakeStep old ref text json (refused UnknownName nothing) new = (named_at old ref ≡ None) × Stays old new
+TakeStep old ref text json (refused UnknownProperty nothing) new = (x : Named) × (named_at old ref ≡ Some x) × (property_at x text ≡ None) × Stays old new
 TakeStep old ref text json (refused AlreadyHeld nothing) new = TakeRefuses old ref text json AlreadyHeld new
 TakeStep old ref text json (refused Sealed nothing) new = TakeRefuses old ref text json Sealed new
 TakeStep old ref text json (refused (BadValue why) nothing) new = TakeRefuses old ref text json (BadValue why) new
-TakeStep old ref text json done new = (o : State) × (object_at old ref ≡ Some o) × (p : PropId) × (property_named o.of text ≡ Some p)
-    × (v : PropertyValue) × TakeValue o p (given_by p (read json)) None (Some v) × Becomes ref.name (configuration (with_held o (given_value p v ∷ [])) old.clients) old new
+TakeStep old ref text json (done t) new = (x : Named) × (named_at old ref ≡ Some x) × (p : PropId) × (property_at x text ≡ Some p)
+    × (v : PropertyValue) × TakeValue x.object x.sub p (given_by p (read json)) None (Some v) × (t ≡ no_rounds)
+    × Becomes ref.name (configuration (with_held x.object (given_at x.sub p v ∷ [])) old.clients) old new
 TakeStep old ref text json reply new = ⊥
 
--- the label and the weight of each rule of the book; so far no object has programs
-abbrev pub rule_names : List Rule → NamesSeen
-rule_names book = record { rules = map (λ rule. (rule.label, rule.weight)) book; programs = [] }
+-- the label and the weight of each rule of the book, and the names of the object's programs
+abbrev pub names_told : List Rule → State → NamesSeen
+names_told book o = record { rules = map (λ rule. (rule.label, rule.weight)) book; programs = o.programs }
 
-abbrev pub named_rounds : List Rule → List RoundSeen → Rounds
-named_rounds book rounds = record { rounds = rounds; names = rule_names book }
-
--- the rounds that the object new has beyond those of old
-abbrev pub later_rounds : State → State → List RoundSeen
-later_rounds old new = drop (length old.rounds) new.rounds
+abbrev pub named_rounds : List Rule → State → List RoundSeen → Rounds
+named_rounds book o rounds = record { rounds = rounds; names = names_told book o }
 
 -- what is said of them beside a refusal: always, or where they are traced
 abbrev pub rounds_beside : Bool → List Rule → State → State → Remarks
-rounds_beside always book old new = remarks always (later_rounds old new) [] None (rule_names book)
+rounds_beside always book old new = remarks always (later_rounds old new) [] None (names_told book new)
 
--- the object ensures the property p, and its value is shown; or no chain leads there, or too many sets of names cost less
-abbrev pub Gives : List Rule → Configuration → List ℕ → PropId → ReplySeen → Configuration → Type 0
-Gives book old name p (refused NoChain more) new = Ensured book None (only p) ending.NoChain old new × (more ≡ rounds_beside false book old.object new.object)
-Gives book old name p (refused Crowded more) new = Ensured book None (only p) ending.Crowded old new × (more ≡ rounds_beside false book old.object new.object)
-Gives book old name p (shows n of q v t) new = Ensured book None (only p) ending.Found old new × (n ≡ name) × (of ≡ old.object.of) × (q ≡ p) × (value_of p (read_at None new.object.held) ≡ Some v)
-    × (t ≡ named_rounds book (later_rounds old.object new.object))
-Gives book old name p reply new = ⊥
+-- the object ensures the property p, of this program if one is asked, and its value is shown; or no chain leads there, or too many sets of names cost less
+abbrev pub Gives : List Rule → Configuration → Option ℕ → List ℕ → PropId → ReplySeen → Configuration → Type 0
+Gives book old sub name p (refused NoChain more) new = Ensured book sub (only p) ending.NoChain old new × (more ≡ rounds_beside false book old.object new.object)
+Gives book old sub name p (refused Crowded more) new = Ensured book sub (only p) ending.Crowded old new × (more ≡ rounds_beside false book old.object new.object)
+Gives book old sub name p (shows n of q v t) new = Ensured book sub (only p) ending.Found old new × (n ≡ name) × (of ≡ old.object.of) × (q ≡ p) × (value_of p (read_at sub new.object.held) ≡ Some v)
+    × (t ≡ named_rounds book new.object (later_rounds old.object new.object))
+Gives book old sub name p reply new = ⊥
 
--- the object that REF names does so for the property of this name
+-- what REF names does so for the property of this name
 abbrev pub Gave : List Rule → Machine → RefSeen → List ℕ → ReplySeen → Machine → Type 0
-Gave book old ref text reply new = (o : State) × (object_at old ref ≡ Some o) × (p : PropId) × (property_named o.of text ≡ Some p)
-    × (c : Configuration) × Gives book (configuration o old.clients) ref.name p reply c × Becomes ref.name c old new
+Gave book old ref text reply new = (x : Named) × (named_at old ref ≡ Some x) × (p : PropId) × (property_at x text ≡ Some p)
+    × (c : Configuration) × Gives book (configuration x.object old.clients) x.sub (ref_text ref) p reply c × Becomes ref.name c old new
 
 -- `give REF PROP`
 abbrev pub GiveStep : List Rule → Machine → RefSeen → List ℕ → ReplySeen → Machine → Type 0
-GiveStep book old ref text (refused UnknownName nothing) new = (object_at old ref ≡ None) × Stays old new
-GiveStep book old ref text (refused UnknownProperty nothing) new = (o : State) × (object_at old ref ≡ Some o) × (property_named o.of text ≡ None) × Stays old new
+GiveStep book old ref text (refused UnknownName nothing) new = (named_at old ref ≡ None) × Stays old new
+GiveStep book old ref text (refused UnknownProperty nothing) new = (x : Named) × (named_at old ref ≡ Some x) × (property_at x text ≡ None) × Stays old new
 GiveStep book old ref text (refused NoChain more) new = Gave book old ref text (refused NoChain more) new
 GiveStep book old ref text (refused Crowded more) new = Gave book old ref text (refused Crowded more) new
 GiveStep book old ref text (shows name of p v t) new = Gave book old ref text (shows name of p v t) new
 GiveStep book old ref text reply new = ⊥
 
--- the properties that the words name, if each names one
-abbrev pub all_named : ObjectType → List (List ℕ) → Option (List PropId)
-all_named of [] = Some []
-all_named of (word ∷ words) = option_and_then (λ p. option_map (λ ps. p ∷ ps) (all_named of words)) (property_named of word)
+-- the properties that the words name there, if each names one
+abbrev pub all_named : ObjectType → Option ℕ → List (List ℕ) → Option (List PropId)
+all_named of sub [] = Some []
+all_named of sub (word ∷ words) = option_and_then (λ p. option_map (λ ps. p ∷ ps) (all_named of sub words)) (property_named of sub word)
 
 -- the same as a set: a property that is named twice counts once
-abbrev pub asked_in : ObjectType → List (List ℕ) → Option PropSet
-asked_in of words = option_map set_of (all_named of words)
+abbrev pub asked_in : ObjectType → Option ℕ → List (List ℕ) → Option PropSet
+asked_in of sub words = option_map set_of (all_named of sub words)
 
--- the object ensures what is asked; or no chain leads there, or too many sets of names cost less
-abbrev pub Ensures : List Rule → Configuration → PropSet → ReplySeen → Configuration → Type 0
-Ensures book old asked (refused NoChain more) new = Ensured book None asked ending.NoChain old new × (more ≡ rounds_beside true book old.object new.object)
-Ensures book old asked (refused Crowded more) new = Ensured book None asked ending.Crowded old new × (more ≡ rounds_beside true book old.object new.object)
-Ensures book old asked (ensured t) new = Ensured book None asked ending.Found old new × (t ≡ named_rounds book (later_rounds old.object new.object))
-Ensures book old asked reply new = ⊥
+-- what the words ask of what a REF names
+abbrev pub asked_of : Named → List (List ℕ) → Option PropSet
+asked_of x words = asked_in x.object.of x.sub words
 
--- the object that REF names does so for what these words ask
+-- the object ensures what is asked, of this program if one is asked; or no chain leads there, or too many sets of names cost less
+abbrev pub Ensures : List Rule → Configuration → Option ℕ → PropSet → ReplySeen → Configuration → Type 0
+Ensures book old sub asked (refused NoChain more) new = Ensured book sub asked ending.NoChain old new × (more ≡ rounds_beside true book old.object new.object)
+Ensures book old sub asked (refused Crowded more) new = Ensured book sub asked ending.Crowded old new × (more ≡ rounds_beside true book old.object new.object)
+Ensures book old sub asked (ensured t) new = Ensured book sub asked ending.Found old new × (t ≡ named_rounds book new.object (later_rounds old.object new.object))
+Ensures book old sub asked reply new = ⊥
+
+-- what REF names does so for what these words ask
 abbrev pub EnsuredAll : List Rule → Machine → RefSeen → List (List ℕ) → ReplySeen → Machine → Type 0
-EnsuredAll book old ref words reply new = (o : State) × (object_at old ref ≡ Some o) × (asked : PropSet) × (asked_in o.of words ≡ Some asked)
-    × (c : Configuration) × Ensures book (configuration o old.clients) asked reply c × Becomes ref.name c old new
+EnsuredAll book old ref words reply new = (x : Named) × (named_at old ref ≡ Some x) × (asked : PropSet) × (asked_of x words ≡ Some asked)
+    × (c : Configuration) × Ensures book (configuration x.object old.clients) x.sub asked reply c × Becomes ref.name c old new
 
 -- `ensure REF PROP ..`
 abbrev pub EnsureStep : List Rule → Machine → RefSeen → List (List ℕ) → ReplySeen → Machine → Type 0
-EnsureStep book old ref words (refused UnknownName nothing) new = (object_at old ref ≡ None) × Stays old new
-EnsureStep book old ref words (refused UnknownProperty nothing) new = (o : State) × (object_at old ref ≡ Some o) × (asked_in o.of words ≡ None) × Stays old new
+EnsureStep book old ref words (refused UnknownName nothing) new = (named_at old ref ≡ None) × Stays old new
+EnsureStep book old ref words (refused UnknownProperty nothing) new = (x : Named) × (named_at old ref ≡ Some x) × (asked_of x words ≡ None) × Stays old new
 EnsureStep book old ref words (refused NoChain more) new = EnsuredAll book old ref words (refused NoChain more) new
 EnsureStep book old ref words (refused Crowded more) new = EnsuredAll book old ref words (refused Crowded more) new
 EnsureStep book old ref words (ensured t) new = EnsuredAll book old ref words (ensured t) new
@@ -269,25 +239,25 @@ EnsureStep book old ref words reply new = ⊥
 abbrev pub settled_object : State → State
 settled_object o = with_held o (settling o)
 
--- the chain is least from what the settled object holds to all that is asked, among those that avoid the rules barred on it, and the table proves it least; or no chain leads there, or too many sets of names cost less: then the barred rules are told with their reasons, and the table
-abbrev pub Explains : List Rule → Clients → State → PropSet → ReplySeen → Type 0
-Explains book clients o asked (explained chain weight rows names) = (barred : List RuleId) × AreBarred book clients o None barred
-    × IsPlan book (table None o.of) barred (held_names None o) asked chain weight rows × (names ≡ rule_names book)
-Explains book clients o asked (refused NoChain (planned told rows names)) = (barred : List RuleId) × AreBarred book clients o None barred
-    × HasNoPlan book (table None o.of) barred (held_names None o) asked rows × AreReasons book clients o None told × (names ≡ rule_names book)
-Explains book clients o asked (refused Crowded (planned told rows names)) = (barred : List RuleId) × AreBarred book clients o None barred
-    × IsCrowded book (table None o.of) barred (held_names None o) asked rows × AreReasons book clients o None told × (names ≡ rule_names book)
-Explains book clients o asked reply = ⊥
+-- the chain is least from what the settled object holds to all that is asked, of this program if one is asked, among those that avoid the rules barred there, and the table proves it least; or no chain leads there, or too many sets of names cost less: then the barred rules are told with their reasons, and the table
+abbrev pub Explains : List Rule → Clients → State → Option ℕ → PropSet → ReplySeen → Type 0
+Explains book clients o sub asked (explained chain weight rows names) = (barred : List RuleId) × AreBarred book clients o sub barred
+    × IsPlan book (table sub o.of) barred (held_names sub o) asked chain weight rows × (names ≡ names_told book o)
+Explains book clients o sub asked (refused NoChain (planned told rows names)) = (barred : List RuleId) × AreBarred book clients o sub barred
+    × HasNoPlan book (table sub o.of) barred (held_names sub o) asked rows × AreReasons book clients o sub told × (names ≡ names_told book o)
+Explains book clients o sub asked (refused Crowded (planned told rows names)) = (barred : List RuleId) × AreBarred book clients o sub barred
+    × IsCrowded book (table sub o.of) barred (held_names sub o) asked rows × AreReasons book clients o sub told × (names ≡ names_told book o)
+Explains book clients o sub asked reply = ⊥
 
 -- the object that REF names is settled, and it is explained how what these words ask would be found
 abbrev pub ExplainedAll : List Rule → Machine → RefSeen → List (List ℕ) → ReplySeen → Machine → Type 0
-ExplainedAll book old ref words reply new = (o : State) × (object_at old ref ≡ Some o) × (asked : PropSet) × (asked_in o.of words ≡ Some asked)
-    × Explains book old.clients (settled_object o) asked reply × Becomes ref.name (configuration (settled_object o) old.clients) old new
+ExplainedAll book old ref words reply new = (x : Named) × (named_at old ref ≡ Some x) × (asked : PropSet) × (asked_of x words ≡ Some asked)
+    × Explains book old.clients (settled_object x.object) x.sub asked reply × Becomes ref.name (configuration (settled_object x.object) old.clients) old new
 
 -- `explain REF PROP ..`
 abbrev pub ExplainStep : List Rule → Machine → RefSeen → List (List ℕ) → ReplySeen → Machine → Type 0
-ExplainStep book old ref words (refused UnknownName nothing) new = (object_at old ref ≡ None) × Stays old new
-ExplainStep book old ref words (refused UnknownProperty nothing) new = (o : State) × (object_at old ref ≡ Some o) × (asked_in o.of words ≡ None) × Stays old new
+ExplainStep book old ref words (refused UnknownName nothing) new = (named_at old ref ≡ None) × Stays old new
+ExplainStep book old ref words (refused UnknownProperty nothing) new = (x : Named) × (named_at old ref ≡ Some x) × (asked_of x words ≡ None) × Stays old new
 ExplainStep book old ref words (explained chain weight rows names) new = ExplainedAll book old ref words (explained chain weight rows names) new
 ExplainStep book old ref words (refused NoChain (planned told rows names)) new = ExplainedAll book old ref words (refused NoChain (planned told rows names)) new
 ExplainStep book old ref words (refused Crowded (planned told rows names)) new = ExplainedAll book old ref words (refused Crowded (planned told rows names)) new
@@ -296,20 +266,16 @@ ExplainStep book old ref words reply new = ⊥
 -- `history NAME`
 abbrev pub HistoryStep : List Rule → Machine → List ℕ → ReplySeen → Machine → Type 0
 HistoryStep book old name (refused UnknownName nothing) new = (old.object name ≡ None) × Stays old new
-HistoryStep book old name (tells t excluded) new = (o : State) × (old.object name ≡ Some o) × (t ≡ named_rounds book o.rounds) × (excluded ≡ o.excluded) × Stays old new
+HistoryStep book old name (tells t excluded) new = (o : State) × (old.object name ≡ Some o) × (t ≡ named_rounds book o o.rounds) × (excluded ≡ o.excluded) × Stays old new
 HistoryStep book old name reply new = ⊥
-
--- no rounds, and no names
-abbrev pub no_rounds : Rounds
-no_rounds = record { rounds = []; names = record { rules = []; programs = [] } }
 
 -- `lookup REF PROP`
 abbrev pub LookupStep : Machine → RefSeen → List ℕ → ReplySeen → Machine → Type 0
-LookupStep old ref text (refused UnknownName nothing) new = (object_at old ref ≡ None) × Stays old new
-LookupStep old ref text (refused UnknownProperty nothing) new = (o : State) × (object_at old ref ≡ Some o) × (property_named o.of text ≡ None) × Stays old new
-LookupStep old ref text undef new = (o : State) × (object_at old ref ≡ Some o) × (p : PropId) × (property_named o.of text ≡ Some p) × (value_of p (read_at None o.held) ≡ None) × Stays old new
-LookupStep old ref text (shows name of p v t) new = (o : State) × (object_at old ref ≡ Some o) × (property_named o.of text ≡ Some p) × (name ≡ ref.name) × (of ≡ o.of)
-    × (value_of p (read_at None o.held) ≡ Some v) × (t ≡ no_rounds) × Stays old new
+LookupStep old ref text (refused UnknownName nothing) new = (named_at old ref ≡ None) × Stays old new
+LookupStep old ref text (refused UnknownProperty nothing) new = (x : Named) × (named_at old ref ≡ Some x) × (property_at x text ≡ None) × Stays old new
+LookupStep old ref text undef new = (x : Named) × (named_at old ref ≡ Some x) × (p : PropId) × (property_at x text ≡ Some p) × (value_of p (read_at x.sub x.object.held) ≡ None) × Stays old new
+LookupStep old ref text (shows name of p v t) new = (x : Named) × (named_at old ref ≡ Some x) × (property_at x text ≡ Some p) × (name ≡ ref_text ref) × (of ≡ x.object.of)
+    × (value_of p (read_at x.sub x.object.held) ≡ Some v) × (t ≡ no_rounds) × Stays old new
 LookupStep old ref text reply new = ⊥
 
 -- `copy NAME NEW`
@@ -317,13 +283,13 @@ abbrev pub CopyStep : Machine → List ℕ → List ℕ → ReplySeen → Machin
 CopyStep old name to (refused UnknownName nothing) new = (old.object name ≡ None) × Stays old new
 CopyStep old name to (refused NameTaken nothing) new = (old.object name ≢ None) × (old.object to ≢ None) × Stays old new
 CopyStep old name to (refused ObjectsFull nothing) new = (old.object name ≢ None) × (old.object to ≡ None) × (most_objects ≤ length old.names) × Stays old new
-CopyStep old name to done new = (o : State) × (old.object name ≡ Some o) × (old.object to ≡ None) × (length old.names < most_objects) × Gains to o old new
+CopyStep old name to (done t) new = (t ≡ no_rounds) × (o : State) × (old.object name ≡ Some o) × (old.object to ≡ None) × (length old.names < most_objects) × Gains to o old new
 CopyStep old name to reply new = ⊥
 
 -- `drop NAME`
 abbrev pub DropStep : Machine → List ℕ → ReplySeen → Machine → Type 0
 DropStep old name (refused UnknownName nothing) new = (old.object name ≡ None) × Stays old new
-DropStep old name done new = (old.object name ≢ None) × Loses name old new
+DropStep old name (done t) new = (t ≡ no_rounds) × (old.object name ≢ None) × Loses name old new
 DropStep old name reply new = ⊥
 
 -- how the value of a property came to be held, if it is held
@@ -332,17 +298,13 @@ origin_of p held = option_map (λ h. h.origin) (find (λ h. same_property p h.pr
 
 -- `origin REF PROP`
 abbrev pub OriginStep : Machine → RefSeen → List ℕ → ReplySeen → Machine → Type 0
-OriginStep old ref text (refused UnknownName nothing) new = (object_at old ref ≡ None) × Stays old new
-OriginStep old ref text (refused UnknownProperty nothing) new = (o : State) × (object_at old ref ≡ Some o) × (property_named o.of text ≡ None) × Stays old new
-OriginStep old ref text undef new = (o : State) × (object_at old ref ≡ Some o) × (p : PropId) × (property_named o.of text ≡ Some p) × (value_of p (read_at None o.held) ≡ None) × Stays old new
-OriginStep old ref text (tells_origin g) new = (o : State) × (object_at old ref ≡ Some o) × (p : PropId) × (property_named o.of text ≡ Some p) × (origin_of p (read_at None o.held) ≡ Some g) × Stays old new
+OriginStep old ref text (refused UnknownName nothing) new = (named_at old ref ≡ None) × Stays old new
+OriginStep old ref text (refused UnknownProperty nothing) new = (x : Named) × (named_at old ref ≡ Some x) × (property_at x text ≡ None) × Stays old new
+OriginStep old ref text undef new = (x : Named) × (named_at old ref ≡ Some x) × (p : PropId) × (property_at x text ≡ Some p) × (value_of p (read_at x.sub x.object.held) ≡ None) × Stays old new
+OriginStep old ref text (tells_origin g) new = (x : Named) × (named_at old ref ≡ Some x) × (p : PropId) × (property_at x text ≡ Some p) × (origin_of p (read_at x.sub x.object.held) ≡ Some g) × Stays old new
 OriginStep old ref text reply new = ⊥
 
 -- ---- files
--- a new object may have the name: no object has it, and there is room for one more
-abbrev pub IsFree : Machine → List ℕ → Type 0
-IsFree m name = (m.object name ≡ None) × (length m.names < most_objects)
-
 -- the files that are told, if they are, are as before; the count of faults does not fall
 pub record IsLookedAt (old new : Store) : Type 0 where
   pub files : FilesStay old.files new.files
@@ -427,9 +389,9 @@ most_written = 8388608
 abbrev pub bytes_of : List Rule → State → List ℕ
 bytes_of book o = file_bytes (saved_file book o)
 
--- the bytes of the object's file are read as a file of which the same object is loaded, where files of its type are read
+-- the bytes of the object's file are read as a file of which the same object is loaded
 abbrev pub IsSavedWhole : List Rule → State → Type 0
-IsSavedWhole book o = IsReadType o.of → (f : SavedFile) × Reads (bytes_of book o) f × IsLoadedAgain book o f
+IsSavedWhole book o = (f : SavedFile) × Reads (bytes_of book o) f × IsLoadedAgain book o f
 
 -- `save NAME FILE`
 abbrev pub SaveStep : List Rule → Machine → List ℕ → List ℕ → ReplySeen → Machine → Type 0
@@ -437,7 +399,7 @@ SaveStep book old name file (refused UnknownName nothing) new = (old.object name
 SaveStep book old name file (refused (NotFit condition.Size) nothing) new = (o : State) × (old.object name ≡ Some o) × (most_written < length (bytes_of book o)) × Stays old new
 SaveStep book old name file (refused StoreFault nothing) new = (o : State) × (old.object name ≡ Some o) × (length (bytes_of book o) ≤ most_written)
     × Fails old new × Puts (IsPutInPart file (bytes_of book o)) old new
-SaveStep book old name file done new = (o : State) × (old.object name ≡ Some o) × (length (bytes_of book o) ≤ most_written)
+SaveStep book old name file (done t) new = (t ≡ no_rounds) × (o : State) × (old.object name ≡ Some o) × (length (bytes_of book o) ≤ most_written)
     × Puts (IsPut file (bytes_of book o)) old new × IsSavedWhole book o
 SaveStep book old name file reply new = ⊥
 
@@ -458,7 +420,7 @@ disabling o label = if is_disabled label o.disabled then o else with_disabled o 
 abbrev pub DisableStep : List Rule → Machine → List ℕ → List ℕ → ReplySeen → Machine → Type 0
 DisableStep book old name label (refused UnknownName nothing) new = (old.object name ≡ None) × Stays old new
 DisableStep book old name label (refused UnknownRule nothing) new = (old.object name ≢ None) × (has_label label book ≡ false) × Stays old new
-DisableStep book old name label done new = (o : State) × (old.object name ≡ Some o) × (has_label label book ≡ true) × Becomes name (configuration (disabling o label) old.clients) old new
+DisableStep book old name label (done t) new = (t ≡ no_rounds) × (o : State) × (old.object name ≡ Some o) × (has_label label book ≡ true) × Becomes name (configuration (disabling o label) old.clients) old new
 DisableStep book old name label reply new = ⊥
 
 -- some client has the name
@@ -480,7 +442,7 @@ pub record Unloads (name : List ℕ) (old new : Machine) : Type 0 where
 -- `unload CLIENT`
 abbrev pub UnloadStep : Machine → List ℕ → ReplySeen → Machine → Type 0
 UnloadStep old name (refused UnknownRule nothing) new = (is_client name old.clients ≡ false) × Stays old new
-UnloadStep old name done new = (is_client name old.clients ≡ true) × Unloads name old new
+UnloadStep old name (done t) new = (t ≡ no_rounds) × (is_client name old.clients ≡ true) × Unloads name old new
 UnloadStep old name reply new = ⊥
 
 -- from the machine old the reply to the command may be given, and it goes on as new
@@ -501,6 +463,12 @@ Step book old (drop_object name) reply new = DropStep old name reply new
 Step book old (tell_origin ref text) reply new = OriginStep old ref text reply new
 Step book old (load_object name file) reply new = LoadStep book old name file reply new
 Step book old (save_object name file) reply new = SaveStep book old name file reply new
+Step book old (make_object to shape) reply new = MakeStep old to shape reply new
+Step book old (build_polar name to) reply new = BuildStep book polar_building old name to reply new
+Step book old (build_pyramid name to) reply new = BuildStep book pyramid_building old name to reply new
+Step book old (build_normal_fan name to) reply new = BuildStep book normal_fan_building old name to reply new
+Step book old (build_face_fan name to) reply new = BuildStep book face_fan_building old name to reply new
+Step book old (build_product first second to) reply new = ProductStep book old first second to reply new
 
 -- each object is honest, and while it has no round each of its values was given or stored
 pub record AllKept (m : Machine) : Type 0 where

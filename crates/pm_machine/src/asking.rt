@@ -2,7 +2,10 @@
 
 ghost use Rattle.pm_machine.specs.Events.{EnsuredInPart, configuration};
 ghost use Rattle.pm_machine.specs.Reasons.{AreReasons};
-ghost use Rattle.pm_machine.specs.Steps.{Ensures, Explains, Gives, asked_in, named_rounds, rule_names, no_rounds, settled_object};
+ghost use Rattle.pm_machine.specs.Machines.{no_rounds};
+ghost use Rattle.pm_machine.specs.Building.{rules_told};
+ghost use Rattle.pm_machine.specs.Running.{HasPlace};
+ghost use Rattle.pm_machine.specs.Steps.{Ensures, Explains, Gives, asked_in, named_rounds, names_told, settled_object};
 ghost use Rattle.pm_object.specs.Views.{round_seen};
 ghost use Rattle.pm_props.specs.Sets.{only};
 ghost use Rattle.pm_props.specs.declared.kind.RuleId.{RuleId};
@@ -23,21 +26,22 @@ use pm_script::{Names, Refusal, Reply};
 use pm_types::{ObjectType, PropId, PropSet, Value};
 use std::alloc::{AllocError, Global};
 
-/// The properties that the words name; None where one names none of the table, or one that is not built.
-pub fn asked_in(of: ObjectType, words: &[String]) -> Option<PropSet>
-    ensures { result ≡ asked_in of (map string_bytes words.now) }
+/// The properties that the words name for an object of the type, of which this program is asked if one is; None where one names
+/// none.
+pub fn asked_in(of: ObjectType, sub: Option<u8>, words: &[String]) -> Option<PropSet>
+    ensures { result ≡ asked_in of sub (map string_bytes words.now) }
 {
     let mut asked = PropSet::empty();
     for word in words {
-        let p = property_named(of, word.as_str())?;
+        let p = property_named(of, sub, word.as_str())?;
         asked = asked.with(p);
     }
     Some(asked)
 }
 
-// The label and the weight of each rule.
-fn rule_names(alloc: Global, rules: &[Rule]) -> Result<Names, AllocError>
-    ensures { IfOk result (λ n. names_seen n ≡ rule_names rules.now) }
+/// The label and the weight of each rule.
+pub fn rule_names(alloc: Global, rules: &[Rule]) -> Result<Names, AllocError>
+    ensures { IfOk result (λ n. names_seen n ≡ rules_told rules.now) }
 {
     let mut names = Names::none(alloc);
     for rule in rules {
@@ -46,8 +50,20 @@ fn rule_names(alloc: Global, rules: &[Rule]) -> Result<Names, AllocError>
     Ok(names)
 }
 
-// The rounds of the object after the first so many.
-fn rounds_after(alloc: Global, object: &Object, before: usize) -> Result<Vec<Round>, AllocError>
+// The label and the weight of each rule, and the names of the object's programs.
+fn names_told(alloc: Global, rules: &[Rule], object: &Object) -> Result<Names, AllocError>
+    ensures { IfOk result (λ n. names_seen n ≡ names_told rules.now object.now.state) }
+{
+    let mut names = rule_names(alloc, rules)?;
+    for place in 0..object.programs() {
+        let name = object.program_name(place);
+        names.subs.push(String::from_str(alloc, name)?)?;
+    }
+    Ok(names)
+}
+
+/// The rounds of the object after the first so many.
+pub fn rounds_after(alloc: Global, object: &Object, before: usize) -> Result<Vec<Round>, AllocError>
     ensures { IfOk result (λ v. map round_seen v.items
         ≡ drop before object.now.state.rounds) }
 {
@@ -62,12 +78,12 @@ fn rounds_after(alloc: Global, object: &Object, before: usize) -> Result<Vec<Rou
 /// The reply that shows a value that is held.
 pub fn show_held(
     alloc: Global,
-    name: &str,
+    name: String,
     of: ObjectType,
     prop: PropId,
     v: &Value,
 ) -> Result<Reply, AllocError>
-    ensures { IfOk result (λ r. seen r ≡ shows name.now of prop (view_of v.now) no_rounds) }
+    ensures { IfOk result (λ r. seen r ≡ shows (string_bytes name) of prop (view_of v.now) no_rounds) }
 {
     show(
         alloc,
@@ -83,18 +99,18 @@ pub fn show_held(
 // The reply that shows a value, with the rounds that found it.
 fn show(
     alloc: Global,
-    name: &str,
+    name: String,
     of: ObjectType,
     prop: PropId,
     v: &Value,
     rounds: Vec<Round>,
     names: Names,
 ) -> Result<Reply, AllocError>
-    ensures { IfOk result (λ r. seen r ≡ shows name.now of prop (view_of v.now)
+    ensures { IfOk result (λ r. seen r ≡ shows (string_bytes name) of prop (view_of v.now)
         (record { rounds = map round_seen rounds.items; names = names_seen names })) }
 {
     Ok(Reply::Value {
-        name: String::from_str(alloc, name)?,
+        name,
         of,
         prop,
         value: v.copy(alloc)?,
@@ -103,30 +119,32 @@ fn show(
     })
 }
 
-/// Ensures a property, and shows its value.
+/// Ensures a property, of this program if one is asked, and shows its value after the name.
 pub fn give_value(
     alloc: Global,
     object: &mut Object,
     book: &Book,
+    sub: Option<u8>,
     p: PropId,
-    name: &str,
+    name: String,
     clients: &mut Vec<Box<dyn Client>>,
 ) -> Result<Reply, AllocError>
+    requires place { HasPlace sub object.old.state }
     ensures gives { IfOk result (λ r. Gives book.now
-        (configuration object.old.state (map tally clients.old.items)) name.now p (seen r)
+        (configuration object.old.state (map tally clients.old.items)) sub (string_bytes name) p (seen r)
         (configuration object.new.state (map tally clients.new.items))) }
-    ensures err { OnErr result (EnsuredInPart book.now None (only p)
+    ensures err { OnErr result (EnsuredInPart book.now sub (only p)
         (configuration object.old.state (map tally clients.old.items))
         (configuration object.new.state (map tally clients.new.items))) }
 {
     let of = object.of();
     let before = object.rounds().len();
-    let ending = ensure(alloc, object, book, PropSet::of(p), clients)?;
+    let ending = ensure(alloc, object, book, sub, PropSet::of(p), clients)?;
     let rounds = rounds_after(alloc, object, before)?;
-    let names = rule_names(alloc, book.rules())?;
+    let names = names_told(alloc, book.rules(), object)?;
     match ending {
         Ending::Found => {
-            let Some(v) = object.lookup(None, p) else {
+            let Some(v) = object.lookup(sub, p) else {
                 unreachable!()
             };
             show(alloc, name, of, p, v, rounds, names)
@@ -136,25 +154,27 @@ pub fn give_value(
     }
 }
 
-/// Ensures what is asked, and tells the rounds.
+/// Ensures what is asked, of this program if one is asked, and tells the rounds.
 pub fn ensure_values(
     alloc: Global,
     object: &mut Object,
     book: &Book,
+    sub: Option<u8>,
     asked: PropSet,
     clients: &mut Vec<Box<dyn Client>>,
 ) -> Result<Reply, AllocError>
+    requires place { HasPlace sub object.old.state }
     ensures made { IfOk result (λ r. Ensures book.now
-        (configuration object.old.state (map tally clients.old.items)) asked (seen r)
+        (configuration object.old.state (map tally clients.old.items)) sub asked (seen r)
         (configuration object.new.state (map tally clients.new.items))) }
-    ensures err { OnErr result (EnsuredInPart book.now None asked
+    ensures err { OnErr result (EnsuredInPart book.now sub asked
         (configuration object.old.state (map tally clients.old.items))
         (configuration object.new.state (map tally clients.new.items))) }
 {
     let before = object.rounds().len();
-    let ending = ensure(alloc, object, book, asked, clients)?;
+    let ending = ensure(alloc, object, book, sub, asked, clients)?;
     let rounds = rounds_after(alloc, object, before)?;
-    let names = rule_names(alloc, book.rules())?;
+    let names = names_told(alloc, book.rules(), object)?;
     match ending {
         Ending::Found => Ok(Reply::Ensured { rounds, names }),
         Ending::NoChain => Ok(Reply::refused_after(alloc, Refusal::NoChain, true, rounds, names)),
@@ -168,15 +188,16 @@ fn refuse_plan(
     book: &Book,
     clients: &[Box<dyn Client>],
     object: &Object,
+    sub: Option<u8>,
     why: Refusal,
     table: Table,
 ) -> Result<Reply, AllocError>
     ensures { IfOk result (λ r. (told : List (RuleId × Bar))
-        × AreReasons book.now (map tally clients.now) object.now.state None told
-        × (seen r ≡ refused why (planned told table.rows.items (rule_names book.now)))) }
+        × AreReasons book.now (map tally clients.now) object.now.state sub told
+        × (seen r ≡ refused why (planned told table.rows.items (names_told book.now object.now.state)))) }
 {
-    let barred = reasons(alloc, book.rules(), clients, object, None)?;
-    let names = rule_names(alloc, book.rules())?;
+    let barred = reasons(alloc, book.rules(), clients, object, sub)?;
+    let names = names_told(alloc, book.rules(), object)?;
     Ok(Reply::Refused {
         why,
         ensured: false,
@@ -187,12 +208,12 @@ fn refuse_plan(
     })
 }
 
-// The plan, with the names of its rules.
-fn tell_plan(alloc: Global, book: &Book, found: Plan) -> Result<Reply, AllocError>
+// The plan, with the names of its rules and of the object's programs.
+fn tell_plan(alloc: Global, book: &Book, object: &Object, found: Plan) -> Result<Reply, AllocError>
     ensures { IfOk result (λ r. seen r ≡ explained found.chain.items found.weight
-        found.table.rows.items (rule_names book.now)) }
+        found.table.rows.items (names_told book.now object.now.state)) }
 {
-    let names = rule_names(alloc, book.rules())?;
+    let names = names_told(alloc, book.rules(), object)?;
     let Plan {
         chain,
         weight,
@@ -211,54 +232,56 @@ fn plan_values(
     alloc: Global,
     object: &Object,
     book: &Book,
+    sub: Option<u8>,
     asked: PropSet,
     clients: &[Box<dyn Client>],
 ) -> Result<Reply, AllocError>
-    ensures { IfOk result (λ r. Explains book.now (map tally clients.now) object.now.state asked
+    ensures { IfOk result (λ r. Explains book.now (map tally clients.now) object.now.state sub asked
         (seen r)) }
 {
     let rules = book.rules();
-    let barred = barred_rules(alloc, rules, clients, object, None)?;
-    let names = table(None, object.of());
-    let held = object.names(None);
+    let barred = barred_rules(alloc, rules, clients, object, sub)?;
+    let names = table(sub, object.of());
+    let held = object.names(sub);
     match plan(alloc, book, names, held, &barred, asked) {
-        Ok(found) => tell_plan(alloc, book, found),
+        Ok(found) => tell_plan(alloc, book, object, found),
         Err(PlanEnd::NoChain(table)) => {
-            refuse_plan(alloc, book, clients, object, Refusal::NoChain, table)
+            refuse_plan(alloc, book, clients, object, sub, Refusal::NoChain, table)
         }
         Err(PlanEnd::Crowded(table)) => {
-            refuse_plan(alloc, book, clients, object, Refusal::Crowded, table)
+            refuse_plan(alloc, book, clients, object, sub, Refusal::Crowded, table)
         }
         Err(PlanEnd::Memory) => Err(AllocError),
     }
 }
 
-/// Settles the object, and says how what is asked would be found.
+/// Settles the object, and says how what is asked would be found, for this program if one is asked.
 pub fn explain_values(
     alloc: Global,
     object: &mut Object,
     book: &Book,
+    sub: Option<u8>,
     asked: PropSet,
     clients: &[Box<dyn Client>],
 ) -> Result<Reply, AllocError>
     ensures explains { IfOk result (λ r. Explains book.now (map tally clients.now)
-        (settled_object object.old.state) asked (seen r)) }
+        (settled_object object.old.state) sub asked (seen r)) }
     ensures settled { IfOk result (λ r. object.new.state ≡ settled_object object.old.state) }
     ensures err { OnErr result ((object.new.state ≡ object.old.state)
         ⊎ (object.new.state ≡ settled_object object.old.state)) }
 {
     object.settle(alloc)?;
-    plan_values(alloc, object, book, asked, clients)
+    plan_values(alloc, object, book, sub, asked, clients)
 }
 
 /// The rounds and the exclusions of the object.
 pub fn tell_history(alloc: Global, object: &Object, book: &Book) -> Result<Reply, AllocError>
     ensures { IfOk result (λ r. seen r
-        ≡ tells (named_rounds book.now object.now.state.rounds) object.now.state.excluded) }
+        ≡ tells (named_rounds book.now object.now.state object.now.state.rounds) object.now.state.excluded) }
 {
     Ok(Reply::History {
         rounds: copy_rounds(alloc, object.rounds())?,
         excluded: copy_excluded(alloc, object.excluded())?,
-        names: rule_names(alloc, book.rules())?,
+        names: names_told(alloc, book.rules(), object)?,
     })
 }

@@ -1,7 +1,8 @@
 // The laws of honesty, and examples.
 
+ghost use Rattle.pm_machine.specs.BuildingExamples.{ObjectsAreBuilt, ShapesAreMade, WantedIsEnsured};
 ghost use Rattle.pm_machine.specs.Events.{EventsKeep};
-ghost use Rattle.pm_machine.specs.Examples.{AnswersAreRead, ConditionsAreRead, EventsAreRead, ExclusionsAreRead, FilesAreKept, ObjectsAreRead, ReasonsAreRead};
+ghost use Rattle.pm_machine.specs.Examples.{AnswersAreRead, ConditionsAreRead, EventsAreRead, ExclusionsAreRead, FilesAreKept, ObjectsAreRead, ProgramsAreRead, ReasonsAreRead};
 ghost use Rattle.pm_machine.specs.Reasons.{BarredHaveReasons};
 ghost use Rattle.pm_machine.specs.Laws.{StepsInPartKeep, StepsKeep};
 
@@ -55,7 +56,27 @@ pub fn example_answers()
     ensures { AnswersAreRead }
 {}
 
+/// What a REF with a part names, when a linear program is made, what it takes and what is told of it.
+pub fn example_programs()
+    ensures { ProgramsAreRead }
+{}
+
 /// What `load` and `save` change, and when they are not done.
 pub fn example_files()
     ensures { FilesAreKept }
+{}
+
+/// Which standard polytopes `make` makes, when, and what it changes.
+pub fn example_shapes()
+    ensures { ShapesAreMade }
+{}
+
+/// What the commands that build objects ensure of others, and in which order.
+pub fn example_wanted()
+    ensures { WantedIsEnsured }
+{}
+
+/// What is built of other objects and when, and what is told.
+pub fn example_building()
+    ensures { ObjectsAreBuilt }
 {}

@@ -2,9 +2,11 @@
 #![tactic(auto)]
 
 mod asking;
+mod building;
 mod chain;
 mod files;
 mod laws;
+mod making;
 mod moving;
 mod naming;
 mod origins;
@@ -14,8 +16,9 @@ mod session;
 mod taking;
 
 pub use laws::{
-    example_answers, example_conditions, example_events, example_exclusions, example_files,
-    example_objects, example_reasons, law_barred_have_reasons, law_events_keep,
-    law_steps_in_part_keep, law_steps_keep,
+    example_answers, example_building, example_conditions, example_events, example_exclusions,
+    example_files, example_objects, example_programs, example_reasons, example_shapes,
+    example_wanted, law_barred_have_reasons, law_events_keep, law_steps_in_part_keep,
+    law_steps_keep,
 };
 pub use session::Session;

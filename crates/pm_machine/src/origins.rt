@@ -9,26 +9,26 @@ use crate::chain::are_same;
 use pm_object::{Held, Object, Origin};
 use pm_types::PropId;
 
-// Whether the value is one of the property that the object itself holds.
-fn is_own(h: &Held, p: PropId) -> bool
-    ensures { result ≡ (same_place h.now.place (place_of None h.now.id) && same_property p h.now.id) }
+// Whether the value is one of the property, and is read by who asks this program, if one is asked.
+fn is_read_as(h: &Held, sub: Option<u8>, p: PropId) -> bool
+    ensures { result ≡ (same_place h.now.place (place_of sub h.now.id) && same_property p h.now.id) }
 {
-    are_same(h.place, h.id.place(None)) && h.id == p
+    are_same(h.place, h.id.place(sub)) && h.id == p
 }
 
-// How the first of these values that is one of the property came to be held.
-fn first_origin(held: &[Held], p: PropId) -> Option<Origin>
+// How the first of these values that is one of the property, and is read there, came to be held.
+fn first_origin(held: &[Held], sub: Option<u8>, p: PropId) -> Option<Origin>
     ensures { result ≡ option_map (λ h. h.origin)
-        (find (λ h. same_place h.place (place_of None h.id) && same_property p h.id) held.now) }
+        (find (λ h. same_place h.place (place_of sub h.id) && same_property p h.id) held.now) }
 {
-    let h = held.iter().find(|h| is_own(h, p))?;
+    let h = held.iter().find(|h| is_read_as(h, sub, p))?;
     Some(h.origin)
 }
 
-/// How the object's value of a property came to be held, if it is held.
-pub fn origin_of(object: &Object, p: PropId) -> Option<Origin>
-    ensures origin { result ≡ origin_of p (read_at None object.now.state.held) }
-    ensures none { IfNone result (value_of p (read_at None object.now.state.held) ≡ None) }
+/// How the value of a property that is read by who asks this program, if one is asked, came to be held, if it is held.
+pub fn origin_of(object: &Object, sub: Option<u8>, p: PropId) -> Option<Origin>
+    ensures origin { result ≡ origin_of p (read_at sub object.now.state.held) }
+    ensures none { IfNone result (value_of p (read_at sub object.now.state.held) ≡ None) }
 {
-    first_origin(object.held(), p)
+    first_origin(object.held(), sub, p)
 }

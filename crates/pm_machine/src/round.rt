@@ -4,7 +4,7 @@ ghost use Rattle.pm_client.specs.Sound.{FailsRightly, IsSound};
 ghost use Rattle.pm_client.specs.Starts.{after_start, has_client};
 ghost use Rattle.pm_machine.specs.Chains.{AllHeld, held_names, table};
 ghost use Rattle.pm_machine.specs.Events.{Ensured, EnsuredInPart, ReachesInPart, StartedRule, at_rest, columns, configuration, turns};
-ghost use Rattle.pm_machine.specs.Running.{BreaksTurn, FollowsChain, MayFollow, NextRound, RunsRound, RunsRule, TakesTurn};
+ghost use Rattle.pm_machine.specs.Running.{BreaksTurn, FollowsChain, HasPlace, IsStale, MayFollow, NextRound, RunsRound, RunsRule, TakesTurn};
 ghost use Rattle.pm_object.specs.Honest.{facts};
 ghost use Rattle.pm_object.specs.Reading.{view_for};
 ghost use Rattle.pm_object.specs.State.{cols_of, is_held};
@@ -70,36 +70,41 @@ fn run_client(
 // Commits what the client of a rule answered, or rolls back and excludes the rule with its evidence; nothing changes where memory is wanting.
 fn end_run(
     object: &mut Object,
+    sub: Option<u8>,
     id: RuleId,
     rule: &Rule,
     mut transaction: Transaction,
     draft: &mut Draft,
     ran: Result<(), ClientFail>,
 ) -> Result<RoundEnd, AllocError>
-    requires in_use { IsKindOf None object.old.state.of rule.now.kind }
-    requires started { StartedRule None rule.now object.old.state }
-    requires begun { transaction ≡ begun None rule.now.kind }
+    requires place { HasPlace sub object.old.state }
+    requires in_use { IsKindOf sub object.old.state.of rule.now.kind }
+    requires stale { IsStale rule.now.kind }
+    requires started { StartedRule sub rule.now object.old.state }
+    requires begun { transaction ≡ begun sub rule.now.kind }
     requires spare { targets_of rule.now.kind ≤ object.old.spare }
     requires kind { draft.old.kind ≡ rule.now.kind }
     requires sound { OnOk ran (IsSound
-        (view_for object.old.state None rule.now.kind
+        (view_for object.old.state sub rule.now.kind
         (columns object.old.state)) draft.old) }
     requires failed { IfErr ran (FailsRightly
-        (view_for object.old.state None rule.now.kind
+        (view_for object.old.state sub rule.now.kind
         (columns object.old.state))) }
-    ensures ok { IfOk result (λ end. RunsRule None id rule.now object.old.state end
+    ensures ok { IfOk result (λ end. RunsRule sub id rule.now object.old.state end
         object.new.state) }
     ensures err { OnErr result (object.new.state ≡ object.old.state) }
 {
     match ran {
         Ok(()) => {
+            // Its values have their forms.
+            let _of = object.of();
             move_values(&mut transaction, draft);
             transaction.commit(object);
             Ok(RoundEnd::Done)
         }
         Err(fail) => {
             transaction.roll_back();
-            exclude_failed(object, id, rule, fail)
+            exclude_failed(object, sub, id, rule, fail)
         }
     }
 }
@@ -107,14 +112,15 @@ fn end_run(
 // Excludes a rule whose client failed, with its evidence; nothing changes where memory is wanting.
 fn exclude_failed(
     object: &mut Object,
+    sub: Option<u8>,
     id: RuleId,
     rule: &Rule,
     fail: ClientFail,
 ) -> Result<RoundEnd, AllocError>
-    requires started { StartedRule None rule.now object.old.state }
+    requires started { StartedRule sub rule.now object.old.state }
     requires failed { FailsRightly
-        (view_for object.old.state None rule.now.kind (columns object.old.state)) fail }
-    ensures ok { IfOk result (λ end. RunsRule None id rule.now object.old.state end
+        (view_for object.old.state sub rule.now.kind (columns object.old.state)) fail }
+    ensures ok { IfOk result (λ end. RunsRule sub id rule.now object.old.state end
         object.new.state) }
     ensures err { OnErr result (object.new.state ≡ object.old.state) }
 {
@@ -124,7 +130,7 @@ fn exclude_failed(
             let number = evidence.number();
             let excluded = Excluded {
                 rule: id,
-                sub: place_of_rule(None, rule),
+                sub: place_of_rule(sub, rule),
                 why: Why::Failed(evidence),
             };
             object.exclude(excluded)?;
@@ -137,55 +143,60 @@ fn exclude_failed(
 fn run_rule(
     alloc: Global,
     object: &mut Object,
+    sub: Option<u8>,
     id: RuleId,
     rule: &Rule,
     clients: &mut Vec<Box<dyn Client>>,
 ) -> Result<RoundEnd, AllocError>
     requires there { IsTrue (has_client rule.now.kind (map tally clients.old.items)) }
-    requires in_use { IsKindOf None object.old.state.of rule.now.kind }
-    requires may { StartedRule None rule.now object.old.state }
+    requires place { HasPlace sub object.old.state }
+    requires in_use { IsKindOf sub object.old.state.of rule.now.kind }
+    requires stale { IsStale rule.now.kind }
+    requires may { StartedRule sub rule.now object.old.state }
     ensures started { OnOk result (map tally clients.new.items ≡ after_start rule.now.kind
         (map tally clients.old.items)) }
-    ensures ok { IfOk result (λ end. RunsRule None id rule.now object.old.state end
+    ensures ok { IfOk result (λ end. RunsRule sub id rule.now object.old.state end
         object.new.state) }
-    ensures err { OnErr result (BreaksTurn None rule.now
+    ensures err { OnErr result (BreaksTurn sub rule.now
         (configuration object.old.state (map tally clients.old.items))
         (configuration object.new.state (map tally clients.new.items))) }
 {
-    let transaction = Transaction::begin(alloc, object, None, rule)?;
+    let transaction = Transaction::begin(alloc, object, sub, rule)?;
     let mut draft = Draft::new(alloc, &rule.kind);
     let ran = run_client(alloc, object, &transaction, clients, &mut draft);
-    end_run(object, id, rule, transaction, &mut draft, ran)
+    end_run(object, sub, id, rule, transaction, &mut draft, ran)
 }
 
 // A turn of a rule: it is excluded where a precondition is held with the wrong value; else its client is run.
 fn take_turn(
     alloc: Global,
     object: &mut Object,
+    sub: Option<u8>,
     id: RuleId,
     rule: &Rule,
     clients: &mut Vec<Box<dyn Client>>,
 ) -> Result<RoundEnd, AllocError>
     requires there { IsTrue (has_client rule.now.kind (map tally clients.old.items)) }
     requires rule { IsRule rule.now }
+    requires place { HasPlace sub object.old.state }
     requires dimension { IsTrue (is_held ConeAmbientDim object.old.state.held) }
-    requires enabled { IsEnabled (table None object.old.state.of) []
-        (held_names None object.old.state) id rule.now }
-    ensures ok { IfOk result (λ end. TakesTurn None id rule.now
+    requires enabled { IsEnabled (table sub object.old.state.of) []
+        (held_names sub object.old.state) id rule.now }
+    ensures ok { IfOk result (λ end. TakesTurn sub id rule.now
         (configuration object.old.state (map tally clients.old.items)) end
         (configuration object.new.state (map tally clients.new.items))) }
-    ensures err { OnErr result (BreaksTurn None rule.now
+    ensures err { OnErr result (BreaksTurn sub rule.now
         (configuration object.old.state (map tally clients.old.items))
         (configuration object.new.state (map tally clients.new.items))) }
 {
     // Its values have their forms.
     let _of = object.of();
-    let Some(p) = first_wrong(rule, object, None) else {
-        return run_rule(alloc, object, id, rule, clients);
+    let Some(p) = first_wrong(rule, object, sub) else {
+        return run_rule(alloc, object, sub, id, rule, clients);
     };
     object.exclude(Excluded {
         rule: id,
-        sub: place_of_rule(None, rule),
+        sub: place_of_rule(sub, rule),
         why: Why::False(p),
     })?;
     Ok(RoundEnd::False(id, p))
@@ -196,25 +207,27 @@ fn follow_chain(
     alloc: Global,
     object: &mut Object,
     rules: &[Rule],
+    sub: Option<u8>,
     chain: &[RuleId],
     clients: &mut Vec<Box<dyn Client>>,
 ) -> Result<RoundEnd, AllocError>
     requires book { IsBook rules.now }
+    requires place { HasPlace sub object.old.state }
     requires dimension { IsTrue (is_held ConeAmbientDim object.old.state.held) }
-    requires may { MayFollow rules.now None chain.now
+    requires may { MayFollow rules.now sub chain.now
         (configuration object.old.state (map tally clients.old.items)) }
-    ensures ok { IfOk result (λ end. FollowsChain rules.now None chain.now
+    ensures ok { IfOk result (λ end. FollowsChain rules.now sub chain.now
         (configuration object.old.state (map tally clients.old.items)) end
         (configuration object.new.state (map tally clients.new.items))) }
     ensures dimension { OnOk result (IsTrue (is_held ConeAmbientDim object.new.state.held)) }
-    ensures err { OnErr result ((asked : PropSet) → ReachesInPart rules.now None asked
+    ensures err { OnErr result ((asked : PropSet) → ReachesInPart rules.now sub asked
         (turns chain.now chain.now)
         (configuration object.old.state (map tally clients.old.items))
         (configuration object.new.state (map tally clients.new.items))) }
 {
     for id in chain {
         let rule = &rules[usize::from(id.0)];
-        let end = take_turn(alloc, object, *id, rule, clients)?;
+        let end = take_turn(alloc, object, sub, *id, rule, clients)?;
         let RoundEnd::Done = end else {
             return Ok(end);
         };
@@ -227,26 +240,28 @@ fn run_round(
     alloc: Global,
     object: &mut Object,
     rules: &[Rule],
+    sub: Option<u8>,
     chain: Vec<RuleId>,
     weight: Cost,
     clients: &mut Vec<Box<dyn Client>>,
 ) -> Result<(), AllocError>
     requires book { IsBook rules.now }
+    requires place { HasPlace sub object.old.state }
     requires dimension { IsTrue (is_held ConeAmbientDim object.old.state.held) }
     requires weighs { weight ≡ weigh rules.now chain.items }
-    requires may { MayFollow rules.now None chain.items
+    requires may { MayFollow rules.now sub chain.items
         (configuration object.old.state (map tally clients.old.items)) }
-    ensures ok { OnOk result (RunsRound rules.now None chain.items
+    ensures ok { OnOk result (RunsRound rules.now sub chain.items
         (configuration object.old.state (map tally clients.old.items))
         (configuration object.new.state (map tally clients.new.items))) }
-    ensures err { OnErr result ((asked : PropSet) → ReachesInPart rules.now None asked
+    ensures err { OnErr result ((asked : PropSet) → ReachesInPart rules.now sub asked
         (turns chain.items chain.items)
         (configuration object.old.state (map tally clients.old.items))
         (configuration object.new.state (map tally clients.new.items))) }
 {
-    let end = follow_chain(alloc, object, rules, &chain, clients)?;
+    let end = follow_chain(alloc, object, rules, sub, &chain, clients)?;
     let round = Round {
-        sub: None,
+        sub,
         weight,
         chain,
         end,
@@ -260,22 +275,24 @@ fn next_round(
     alloc: Global,
     object: &mut Object,
     book: &Book,
+    sub: Option<u8>,
     asked: PropSet,
     clients: &mut Vec<Box<dyn Client>>,
 ) -> Result<Option<Ending>, AllocError>
+    requires place { HasPlace sub object.old.state }
     requires dimension { IsTrue (is_held ConeAmbientDim object.old.state.held) }
-    requires missing { AllHeld None asked object.old.state → ⊥ }
-    ensures ok { IfOk result (λ ending. NextRound book.now None asked ending
+    requires missing { AllHeld sub asked object.old.state → ⊥ }
+    ensures ok { IfOk result (λ ending. NextRound book.now sub asked ending
         (configuration object.old.state (map tally clients.old.items))
         (configuration object.new.state (map tally clients.new.items))) }
-    ensures err { OnErr result (ReachesInPart book.now None asked at_rest
+    ensures err { OnErr result (ReachesInPart book.now sub asked at_rest
         (configuration object.old.state (map tally clients.old.items))
         (configuration object.new.state (map tally clients.new.items))) }
 {
     let rules = book.rules();
-    let barred = barred_rules(alloc, rules, clients, object, None)?;
-    let names = table(None, object.of());
-    let held = object.names(None);
+    let barred = barred_rules(alloc, rules, clients, object, sub)?;
+    let names = table(sub, object.of());
+    let held = object.names(sub);
     let missing = asked.difference(held);
     match plan(alloc, book, names, held, &barred, missing) {
         Ok(
@@ -285,7 +302,7 @@ fn next_round(
                 table: _,
             },
         ) => {
-            run_round(alloc, object, rules, chain, weight, clients)?;
+            run_round(alloc, object, rules, sub, chain, weight, clients)?;
             Ok(None)
         }
         Err(PlanEnd::NoChain(_)) => Ok(Some(Ending::NoChain)),
@@ -294,24 +311,27 @@ fn next_round(
     }
 }
 
-/// Settles the object, and starts rounds until what is asked is held, or no chain leads there, or too many sets of names cost less.
+/// Settles the object, and starts rounds for who asks this program of it, if one is asked, until what is asked is held, or no
+/// chain leads there, or too many sets of names cost less.
 pub fn ensure(
     alloc: Global,
     object: &mut Object,
     book: &Book,
+    sub: Option<u8>,
     asked: PropSet,
     clients: &mut Vec<Box<dyn Client>>,
 ) -> Result<Ending, AllocError>
-    ensures ok { IfOk result (λ ending. Ensured book.now None asked ending
+    requires place { HasPlace sub object.old.state }
+    ensures ok { IfOk result (λ ending. Ensured book.now sub asked ending
         (configuration object.old.state (map tally clients.old.items))
         (configuration object.new.state (map tally clients.new.items))) }
-    ensures err { OnErr result (EnsuredInPart book.now None asked
+    ensures err { OnErr result (EnsuredInPart book.now sub asked
         (configuration object.old.state (map tally clients.old.items))
         (configuration object.new.state (map tally clients.new.items))) }
 {
     object.settle(alloc)?;
-    while !asked.is_subset(object.names(None)) {
-        if let Some(ending) = next_round(alloc, object, book, asked, clients)? {
+    while !asked.is_subset(object.names(sub)) {
+        if let Some(ending) = next_round(alloc, object, book, sub, asked, clients)? {
             return Ok(ending);
         }
     }

@@ -1,26 +1,32 @@
 // A session: named objects, the book, and its steps.
 
 ghost use Rattle.pm_machine.specs.Parts.{AllHonest, SavedInPart, StepInPart};
-ghost use Rattle.pm_machine.specs.Sessions.{book_of, is_spent, machine_at, machine_of};
-ghost use Rattle.pm_machine.specs.Steps.{AllKept, CopyStep, DisableStep, DropStep, EnsureStep, ExplainStep, Gains, GiveStep, FileRead, HistoryStep, LoadStep, Looks, LookupStep, NewStep, OriginStep, RulesStep, SaveStep, Stays, Step, TakeStep, UnloadStep, most_objects, object_at, type_word};
-ghost use Rattle.pm_script.specs.Commands.{blank, ensure_values, explain_values, give_value, is_on_files, seen_ref, spoken};
+ghost use Rattle.pm_machine.specs.Running.{HasPlace};
+ghost use Rattle.pm_machine.specs.Sessions.{MakesNamed, book_of, is_spent, machine_at, machine_of};
+ghost use Rattle.pm_machine.specs.Machines.{Gains, Stays, most_objects};
+ghost use Rattle.pm_machine.specs.Steps.{AllKept, CopyStep, DisableStep, DropStep, EnsureStep, ExplainStep, GiveStep, FileRead, HistoryStep, LoadStep, Looks, LookupStep, NewStep, OriginStep, NewObjectStep, NewProgramStep, RulesStep, SaveStep, Step, TakeStep, UnloadStep, is_program_word, named_at, part_named, type_word};
+ghost use Rattle.pm_command.specs.Commands.{blank, ensure_values, explain_values, give_value, is_on_files, seen_ref, spoken};
+ghost use Rattle.pm_command.specs.Grammar.{is_sub, ref_text};
+ghost use Rattle.pm_props.specs.NameWords.{is_name};
 ghost use Rattle.pm_script.specs.Replies.{seen};
 ghost use Rattle.std.specs.Bool.{OnFalse, OnTrue};
-ghost use Rattle.std.specs.Option.{is_some, option_map};
-ghost use Rattle.std.specs.Prelude.{IfOk, List, None, OnErr, OnOk, Option, Some, [], false, length, map, string_bytes, true, ℕ, ◌⊎◌, ◌+◌, ◌<◌, ◌≡◌, ◌≢◌, ◌≤◌};
+ghost use Rattle.std.specs.Option.{option_map};
+ghost use Rattle.std.specs.Prelude.{IfOk, IfSome, IsTrue, List, None, OnErr, OnOk, Option, Some, [], false, length, map, string_bytes, true, ℕ, ◌⊎◌, ◌+◌, ◌<◌, ◌≡◌, ◌≢◌, ◌≤◌};
 
 use crate::asking::{asked_in, ensure_values, explain_values, give_value, show_held, tell_history};
 use crate::files::{MOST_WRITTEN, why_of_file};
+use crate::making::Building;
 use crate::naming::{has_label, place_named};
 use crate::origins::origin_of;
 use crate::taking::{property_named, take_text};
 use indexmap::IndexMap;
 use pm_books::book_text;
 use pm_client::Client;
+use pm_command::{Command, Ref};
 use pm_filing::{load_object, save_object};
-use pm_object::Object;
+use pm_object::{Object, ProgramFail};
 use pm_rules::Book;
-use pm_script::{Command, Condition, Ref, Refusal, Reply};
+use pm_script::{Condition, Refusal, Reply};
 use pm_store::{Store, StoreFail};
 use pm_types::ObjectType;
 use std::alloc::{AllocError, Global};
@@ -31,23 +37,53 @@ pub const MOST_OBJECTS: usize = 32;
 /// Objects by name, in the order in which they came, and the book of rules.
 #[derive(Drop)]
 pub struct Session {
-    book: Book,
-    objects: IndexMap<String, Object>,
+    pub(crate) book: Book,
+    pub(crate) objects: IndexMap<String, Object>,
     spent: bool,
 }
 
-// The type of a new object; a part of an object is of none.
-fn type_named(is_part: bool, text: &str) -> Option<ObjectType>
-    ensures { (sub : Option (List ℕ)) → is_some sub ≡ is_part → result ≡ type_word sub text.now }
+// The type that a word names.
+fn type_named(text: &str) -> Option<ObjectType>
+    ensures { result ≡ type_word text.now }
 {
-    if is_part {
-        return None;
-    }
     match text {
         "Polytope" => Some(ObjectType::Polytope),
         "Cone" => Some(ObjectType::Cone),
+        "Fan" => Some(ObjectType::Fan),
         _ => None,
     }
+}
+
+// Whether the word is the one for linear programs.
+fn is_program_word(text: &str) -> bool
+    ensures { result ≡ is_program_word text.now }
+{
+    text == "LP"
+}
+
+// The REF as it is written.
+fn ref_text(alloc: Global, obj: &Ref) -> Result<String, AllocError>
+    ensures { IfOk result (λ t. string_bytes t ≡ ref_text (seen_ref obj.now)) }
+{
+    let mut text = String::from_str(alloc, obj.name.as_str())?;
+    if let Some(sub) = &obj.sub {
+        text.push_str(".")?;
+        text.push_str(sub.as_str())?;
+    }
+    Ok(text)
+}
+
+// The place of the program that the REF names of its object, if it names one; None where the object has no such program.
+fn place_in(object: &Object, obj: &Ref) -> Option<Option<u8>>
+    ensures named { option_map (λ s. record { object = object.now.state; sub = s }) result
+        ≡ part_named object.now.state (option_map string_bytes obj.now.sub) }
+    ensures within { IfSome result (λ s. HasPlace s object.now.state) }
+{
+    let Some(name) = &obj.sub else {
+        return Some(None);
+    };
+    let place = object.program(name.as_str())?;
+    Some(Some(place))
 }
 
 impl Session {
@@ -72,15 +108,14 @@ impl Session {
         self.objects.get(name)
     }
 
-    // The object that a REF names; so far no object has parts.
-    fn find(&self, obj: &Ref) -> Option<&Object>
-        ensures { option_map (λ o. o.now.state) result
-            ≡ object_at (machine_of self.now []) (seen_ref obj.now) }
+    // The object that a REF names, and the place of its program where the REF has a part.
+    fn find(&self, obj: &Ref) -> Option<(&Object, Option<u8>)>
+        ensures { option_map (λ x. record { object = x.0.now.state; sub = x.1 }) result
+            ≡ named_at (machine_of self.now []) (seen_ref obj.now) }
     {
-        match &obj.sub {
-            Some(_) => None,
-            None => self.objects.get(obj.name.as_str()),
-        }
+        let object = self.objects.get(obj.name.as_str())?;
+        let sub = place_in(object, obj)?;
+        Some((object, sub))
     }
 
     // `lookup REF PROP`
@@ -95,20 +130,20 @@ impl Session {
             (machine_of self.now (map tally clients.now)) (seen_ref obj.now) prop.now (seen r)
             (machine_of self.now (map tally clients.now))) }
     {
-        let Some(object) = self.find(obj) else {
+        let Some((object, sub)) = self.find(obj) else {
             return Ok(Reply::refused(alloc, Refusal::UnknownName));
         };
-        let Some(p) = property_named(object.of(), prop) else {
+        let Some(p) = property_named(object.of(), sub, prop) else {
             return Ok(Reply::refused(alloc, Refusal::UnknownProperty));
         };
-        match object.lookup(None, p) {
-            Some(v) => show_held(alloc, obj.name.as_str(), object.of(), p, v),
+        match object.lookup(sub, p) {
+            Some(v) => show_held(alloc, ref_text(alloc, obj)?, object.of(), p, v),
             None => Ok(Reply::Undef),
         }
     }
 
     // Whether no object more may be made.
-    fn is_full(&self) -> bool
+    pub(crate) fn is_full(&self) -> bool
         ensures full { OnTrue result (most_objects ≤ length (machine_of self.now []).names) }
         ensures free { OnFalse result (length (machine_of self.now []).names < most_objects) }
     {
@@ -116,7 +151,7 @@ impl Session {
     }
 
     // Adds an object of a new name.
-    fn add(&mut self, name: String, object: Object) -> Result<(), AllocError>
+    pub(crate) fn add(&mut self, name: String, object: Object) -> Result<(), AllocError>
         requires { (machine_of self.old []).object (string_bytes name) ≡ None }
         ensures gains { OnOk result (Gains (string_bytes name) object.state
             (machine_of self.old []) (machine_of self.new [])) }
@@ -128,25 +163,23 @@ impl Session {
         Ok(())
     }
 
-    // `new REF TYPE`
-    fn do_new(
+    // `new NAME TYPE`
+    fn do_new_object(
         &mut self,
         alloc: Global,
         name: String,
-        sub: Option<String>,
         of: &str,
         clients: &[Box<dyn Client>],
     ) -> Result<Reply, AllocError>
-        ensures step { IfOk result (λ r. NewStep
-            (machine_of self.old (map tally clients.now))
-            (record { name = string_bytes name; sub = option_map string_bytes sub }) of.now (seen r)
+        ensures step { IfOk result (λ r. NewObjectStep
+            (machine_of self.old (map tally clients.now)) (string_bytes name) of.now (seen r)
             (machine_of self.new (map tally clients.now))) }
         ensures err { OnErr result (Stays (machine_of self.old (map tally clients.now))
             (machine_of self.new (map tally clients.now))) }
         ensures book { book_of self.new ≡ book_of self.old }
         ensures spent { is_spent self.new ≡ is_spent self.old }
     {
-        let Some(of) = type_named(sub.is_some(), of) else {
+        let Some(of) = type_named(of) else {
             return Ok(Reply::refused(alloc, Refusal::UnknownType));
         };
         if self.objects.get(&name).is_some() {
@@ -156,7 +189,65 @@ impl Session {
             return Ok(Reply::refused(alloc, Refusal::ObjectsFull));
         }
         self.add(name, Object::new(alloc, of))?;
-        Ok(Reply::Done)
+        Ok(Reply::done(alloc))
+    }
+
+    // `new NAME.SUB LP`
+    fn do_new_program(
+        &mut self,
+        alloc: Global,
+        name: &str,
+        sub: &str,
+        of: &str,
+        clients: &[Box<dyn Client>],
+    ) -> Result<Reply, AllocError>
+        requires part { IsTrue (is_name sub.now) }
+        ensures step { IfOk result (λ r. NewProgramStep
+            (machine_of self.old (map tally clients.now)) name.now sub.now of.now (seen r)
+            (machine_of self.new (map tally clients.now))) }
+        ensures err { OnErr result (Stays (machine_of self.old (map tally clients.now))
+            (machine_of self.new (map tally clients.now))) }
+        ensures book { book_of self.new ≡ book_of self.old }
+        ensures spent { is_spent self.new ≡ is_spent self.old }
+    {
+        if !is_program_word(of) {
+            return Ok(Reply::refused(alloc, Refusal::UnknownType));
+        }
+        let Some(object) = self.objects.get_mut(name) else {
+            return Ok(Reply::refused(alloc, Refusal::UnknownName));
+        };
+        match object.add_program(alloc, sub) {
+            Ok(_) => Ok(Reply::done(alloc)),
+            Err(ProgramFail::NotPolytope) => Ok(Reply::refused(alloc, Refusal::UnknownType)),
+            Err(ProgramFail::NameTaken) => Ok(Reply::refused(alloc, Refusal::NameTaken)),
+            Err(ProgramFail::Full) => Ok(Reply::refused(alloc, Refusal::ObjectsFull)),
+            Err(ProgramFail::Memory) => Err(AllocError),
+        }
+    }
+
+    // `new REF TYPE`
+    fn do_new(
+        &mut self,
+        alloc: Global,
+        name: String,
+        sub: Option<String>,
+        of: &str,
+        clients: &[Box<dyn Client>],
+    ) -> Result<Reply, AllocError>
+        requires part { IsTrue (is_sub (option_map string_bytes sub)) }
+        ensures step { IfOk result (λ r. NewStep
+            (machine_of self.old (map tally clients.now))
+            (record { name = string_bytes name; sub = option_map string_bytes sub }) of.now (seen r)
+            (machine_of self.new (map tally clients.now))) }
+        ensures err { OnErr result (Stays (machine_of self.old (map tally clients.now))
+            (machine_of self.new (map tally clients.now))) }
+        ensures book { book_of self.new ≡ book_of self.old }
+        ensures spent { is_spent self.new ≡ is_spent self.old }
+    {
+        match sub {
+            None => self.do_new_object(alloc, name, of, clients),
+            Some(sub) => self.do_new_program(alloc, name.as_str(), sub.as_str(), of, clients),
+        }
     }
 
     // `copy NAME NEW`
@@ -186,7 +277,7 @@ impl Session {
         }
         let copy = object.copy(alloc)?;
         self.add(new, copy)?;
-        Ok(Reply::Done)
+        Ok(Reply::done(alloc))
     }
 
     // `drop NAME`
@@ -197,7 +288,7 @@ impl Session {
         ensures spent { is_spent self.new ≡ is_spent self.old }
     {
         match self.objects.shift_remove(name) {
-            Some(_) => Reply::Done,
+            Some(_) => Reply::done(alloc),
             None => Reply::refused(alloc, Refusal::UnknownName),
         }
     }
@@ -207,13 +298,13 @@ impl Session {
         ensures { OriginStep (machine_of self.now (map tally clients.now)) (seen_ref obj.now)
             prop.now (seen result) (machine_of self.now (map tally clients.now)) }
     {
-        let Some(object) = self.find(obj) else {
+        let Some((object, sub)) = self.find(obj) else {
             return Reply::refused(alloc, Refusal::UnknownName);
         };
-        let Some(p) = property_named(object.of(), prop) else {
+        let Some(p) = property_named(object.of(), sub, prop) else {
             return Reply::refused(alloc, Refusal::UnknownProperty);
         };
-        match origin_of(object, p) {
+        match origin_of(object, sub, p) {
             Some(origin) => Reply::Origin(origin),
             None => Reply::Undef,
         }
@@ -237,18 +328,18 @@ impl Session {
         ensures book { book_of self.new ≡ book_of self.old }
         ensures spent { is_spent self.new ≡ is_spent self.old }
     {
-        if obj.sub.is_some() {
-            return Ok(Reply::refused(alloc, Refusal::UnknownName));
-        }
         let Some(object) = self.objects.get_mut(obj.name.as_str()) else {
             return Ok(Reply::refused(alloc, Refusal::UnknownName));
         };
-        let Some(p) = property_named(object.of(), prop) else {
+        let Some(sub) = place_in(object, obj) else {
+            return Ok(Reply::refused(alloc, Refusal::UnknownName));
+        };
+        let Some(p) = property_named(object.of(), sub, prop) else {
             return Ok(Reply::refused(alloc, Refusal::UnknownProperty));
         };
-        match take_text(alloc, object, p, json) {
+        match take_text(alloc, object, sub, p, json) {
             Ok(Some(why)) => Ok(Reply::refused(alloc, why)),
-            Ok(None) => Ok(Reply::Done),
+            Ok(None) => Ok(Reply::done(alloc)),
             Err(fail) => Err(fail),
         }
     }
@@ -271,16 +362,17 @@ impl Session {
         ensures book { book_of self.new ≡ book_of self.old }
         ensures spent { is_spent self.new ≡ is_spent self.old }
     {
-        if obj.sub.is_some() {
-            return Ok(Reply::refused(alloc, Refusal::UnknownName));
-        }
         let Some(object) = self.objects.get_mut(obj.name.as_str()) else {
             return Ok(Reply::refused(alloc, Refusal::UnknownName));
         };
-        let Some(p) = property_named(object.of(), prop) else {
+        let Some(sub) = place_in(object, obj) else {
+            return Ok(Reply::refused(alloc, Refusal::UnknownName));
+        };
+        let Some(p) = property_named(object.of(), sub, prop) else {
             return Ok(Reply::refused(alloc, Refusal::UnknownProperty));
         };
-        give_value(alloc, object, &self.book, p, obj.name.as_str(), clients)
+        let name = ref_text(alloc, obj)?;
+        give_value(alloc, object, &self.book, sub, p, name, clients)
     }
 
     // `ensure REF PROP ..`
@@ -302,16 +394,16 @@ impl Session {
         ensures book { book_of self.new ≡ book_of self.old }
         ensures spent { is_spent self.new ≡ is_spent self.old }
     {
-        if obj.sub.is_some() {
-            return Ok(Reply::refused(alloc, Refusal::UnknownName));
-        }
         let Some(object) = self.objects.get_mut(obj.name.as_str()) else {
             return Ok(Reply::refused(alloc, Refusal::UnknownName));
         };
-        let Some(asked) = asked_in(object.of(), props) else {
+        let Some(sub) = place_in(object, obj) else {
+            return Ok(Reply::refused(alloc, Refusal::UnknownName));
+        };
+        let Some(asked) = asked_in(object.of(), sub, props) else {
             return Ok(Reply::refused(alloc, Refusal::UnknownProperty));
         };
-        ensure_values(alloc, object, &self.book, asked, clients)
+        ensure_values(alloc, object, &self.book, sub, asked, clients)
     }
 
     // `explain REF PROP ..`
@@ -333,16 +425,16 @@ impl Session {
         ensures book { book_of self.new ≡ book_of self.old }
         ensures spent { is_spent self.new ≡ is_spent self.old }
     {
-        if obj.sub.is_some() {
-            return Ok(Reply::refused(alloc, Refusal::UnknownName));
-        }
         let Some(object) = self.objects.get_mut(obj.name.as_str()) else {
             return Ok(Reply::refused(alloc, Refusal::UnknownName));
         };
-        let Some(asked) = asked_in(object.of(), props) else {
+        let Some(sub) = place_in(object, obj) else {
+            return Ok(Reply::refused(alloc, Refusal::UnknownName));
+        };
+        let Some(asked) = asked_in(object.of(), sub, props) else {
             return Ok(Reply::refused(alloc, Refusal::UnknownProperty));
         };
-        explain_values(alloc, object, &self.book, asked, clients)
+        explain_values(alloc, object, &self.book, sub, asked, clients)
     }
 
     // `history NAME`
@@ -397,7 +489,7 @@ impl Session {
             return Ok(Reply::refused(alloc, Refusal::UnknownRule));
         }
         object.disable(alloc, label)?;
-        Ok(Reply::Done)
+        Ok(Reply::done(alloc))
     }
 
     // `unload CLIENT`
@@ -410,7 +502,7 @@ impl Session {
             return Reply::refused(alloc, Refusal::UnknownRule);
         };
         clients.remove(place);
-        Reply::Done
+        Reply::done(alloc)
     }
 
     // `load NAME FILE`
@@ -498,7 +590,7 @@ impl Session {
             return Ok(Reply::refused(alloc, Refusal::NotFit(Condition::Size)));
         }
         match store.put(alloc, file, &bytes) {
-            Ok(()) => Ok(Reply::Done),
+            Ok(()) => Ok(Reply::done(alloc)),
             Err(StoreFail::Failed) => Ok(Reply::refused(alloc, Refusal::StoreFault)),
             Err(StoreFail::Memory) => Err(AllocError),
         }
@@ -512,6 +604,7 @@ impl Session {
         clients: &mut Vec<Box<dyn Client>>,
     ) -> Result<Reply, AllocError>
         requires spoken { spoken c ≢ blank }
+        requires named { MakesNamed (spoken c) }
         requires own { is_on_files (spoken c) ≡ false }
         ensures step { IfOk result (λ r. Step (book_of self.old)
             (machine_of self.old (map tally clients.old.items)) (spoken c) (seen r)
@@ -539,6 +632,22 @@ impl Session {
             Command::Origin { obj, prop } => Ok(self.do_origin(alloc, &obj, &prop, clients)),
             Command::Load { .. } => unreachable!(),
             Command::Save { .. } => unreachable!(),
+            Command::Make { new, shape } => self.do_make(alloc, new, shape, clients),
+            Command::Polar { name, new } => {
+                self.do_build(alloc, Building::Polar, &name, new, clients)
+            }
+            Command::Pyramid { name, new } => {
+                self.do_build(alloc, Building::Pyramid, &name, new, clients)
+            }
+            Command::NormalFan { name, new } => {
+                self.do_build(alloc, Building::NormalFan, &name, new, clients)
+            }
+            Command::FaceFan { name, new } => {
+                self.do_build(alloc, Building::FaceFan, &name, new, clients)
+            }
+            Command::Product { first, second, new } => {
+                self.do_product(alloc, &first, &second, new, clients)
+            }
         }
     }
 
@@ -579,6 +688,7 @@ impl Session {
         store: &mut F,
     ) -> Result<Reply, AllocError>
         requires spoken { spoken c ≢ blank }
+        requires named { MakesNamed (spoken c) }
         ensures step { IfOk result (λ r. Step (book_of self.old)
             (machine_at self.old (map tally clients.old.items) (F.files store.old) (F.faults store.old))
             (spoken c) (seen r)
@@ -600,6 +710,7 @@ impl Session {
 
     /// One step of the machine beside its store. Where memory is wanting a first part of its events occurred, maybe none
     /// or all; then the session answers nothing else, and changes nothing.
+    /// The name of a linear program that the command makes is one by the grammar of lines.
     pub fn step<F: Store>(
         &mut self,
         alloc: Global,
@@ -608,6 +719,7 @@ impl Session {
         store: &mut F,
     ) -> Result<Reply, AllocError>
         requires spoken { spoken c ≢ blank }
+        requires named { MakesNamed (spoken c) }
         ensures step { IfOk result (λ r. Step (book_of self.old)
             (machine_at self.old (map tally clients.old.items) (F.files store.old) (F.faults store.old))
             (spoken c) (seen r)

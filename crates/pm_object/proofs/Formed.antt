@@ -1,13 +1,14 @@
 -- Values that are added leave all values of an object in their forms, with one column count.
 use Rattle.pm_algebra.proofs.Lists.{Among, Contains_among, among_Contains, among_append, here, there}
 use Rattle.pm_props.specs.declared.object_type.ObjectType.{ObjectType}
-use Rattle.pm_object.specs.Formed.{IsFormedIn, IsFormed, are_once, is_numbered, stands_at}
+use Rattle.pm_object.specs.Formed.{IsBacked, IsFormedIn, IsFormed, are_once, is_numbered, is_placed, speaks_of_rays, stands_at}
+use Rattle.pm_object.specs.Honest.{has_tag}
 use Rattle.pm_object.specs.declared.held.Held.{Held as HeldOf}
 use Rattle.pm_object.specs.State.{HeldValue, State, agrees, ambient_in, cols_of, empty_object, first_cols, is_held, or_else, read_at, value_of, with_excluded, with_held}
 use Rattle.pm_object.specs.declared.held.Excluded.{Excluded}
 use Rattle.pm_props.proofs.Places.{same_place_is, same_property_is}
 use Rattle.pm_types.specs.Forms.{agrees_with, is_dimension, is_formed, stated_cols, states}
-use Rattle.pm_props.specs.Properties.{has_program, is_ambient}
+use Rattle.pm_props.specs.Properties.{has_program, is_ambient, rays_tag}
 use Rattle.pm_props.specs.Places.{place_of, same_place, same_property}
 use Rattle.pm_types.specs.Values.{PropertyValue, matrix, sets, whole, truth, extended, edges, lattice, counts}
 use Rattle.pm_props.specs.declared.property.PropId.{PropId}
@@ -16,7 +17,7 @@ use Rattle.std.proofs.Common.{ap, arith, false, inl, inr, refl, subst, sym, true
 use Rattle.std.proofs.lemmas.Bool.{and_from, and_parts, or_parts}
 use Rattle.std.proofs.lemmas.List.Folds.{list_any-append}
 use Rattle.std.specs.Option.{is_some}
-use Rattle.std.specs.Prelude.{Bool, List, map, None, Option, Some, [], if◌then◌else◌, nat_eq, not, ℕ, ◌&&◌, ◌++◌, ◌||◌, ◌≡◌, ◌⊎◌, ◌∷◌}
+use Rattle.std.specs.Prelude.{Bool, List, map, None, Option, Some, [], if◌then◌else◌, length, nat_eq, nat_lt, not, ℕ, ◌&&◌, ◌++◌, ◌||◌, ◌≡◌, ◌⊎◌, ◌∷◌}
 use lib.IntN.{pos, negsuc}
 
 decide : (b : Bool) → (b ≡ true) ⊎ (b ≡ false)
@@ -157,12 +158,12 @@ some_is a b h = cc
 number_agrees : (m n : ℕ) → states n (whole (pos m)) ≡ true → m ≡ n
 number_agrees m n h = grind arith
 
-abbrev pub Each : ObjectType → Option ℕ → List HeldValue → Type 0
-Each of n held = (h : HeldValue) → Among h held → IsFormedIn of n h
+abbrev pub Each : ObjectType → Option ℕ → ℕ → List HeldValue → Type 0
+Each of n k held = (h : HeldValue) → Among h held → IsFormedIn of n k h
 
 -- the value of the dimension, if it is held
-pub held_dimension : (of : ObjectType) (n : Option ℕ) (held : List HeldValue) (v : PropertyValue) → Each of n held → value_of ConeAmbientDim held ≡ Some v → IsDimension v
-held_dimension of n held v each e =
+pub held_dimension : (of : ObjectType) (n : Option ℕ) (k : ℕ) (held : List HeldValue) (v : PropertyValue) → Each of n k held → value_of ConeAmbientDim held ≡ Some v → IsDimension v
+held_dimension of n k held v each e =
     let (h, i, p, is) = value_among ConeAmbientDim held v e in
     dimension_of v (subst (λ q. is_formed q v ≡ true) p (subst (λ w. is_formed h.property w ≡ true) is (each h i).formed))
 
@@ -175,9 +176,9 @@ agrees_dimension n m h e v a = by (is_ambient h.property) (ambient_is h.property
     by false k g = absurd (true≢false (sym k))
 
 -- where the column count is known it stays
-pub cols_stay : (of : ObjectType) (held : List HeldValue) (h : HeldValue) (n : ℕ) → Each of (cols_of held) held → IsFormedIn of (cols_of held) h
+pub cols_stay : (of : ObjectType) (k : ℕ) (held : List HeldValue) (h : HeldValue) (n : ℕ) → Each of (cols_of held) k held → IsFormedIn of (cols_of held) k h
     → cols_of held ≡ Some n → cols_of (held ++ h ∷ []) ≡ Some n
-cols_stay of held h n each fits e = by (value_of ConeAmbientDim held) refl
+cols_stay of k held h n each fits e = by (value_of ConeAmbientDim held) refl
   where
     new : (v : Option PropertyValue) → value_of ConeAmbientDim held ≡ None → value_of ConeAmbientDim (held ++ h ∷ []) ≡ v → or_else (ambient_in v) (first_cols (held ++ h ∷ [])) ≡ Some n
     new v none is = at (same_property ConeAmbientDim h.property) refl
@@ -202,18 +203,18 @@ cols_stay of held h n each fits e = by (value_of ConeAmbientDim held) refl
     by : (v : Option PropertyValue) → value_of ConeAmbientDim held ≡ v → cols_of (held ++ h ∷ []) ≡ Some n
     by None is = new (value_of ConeAmbientDim (held ++ h ∷ [])) is refl
     by (Some v) is =
-        let d = held_dimension of (cols_of held) held v each is in
+        let d = held_dimension of (cols_of held) k held v each is in
         let old : or_else (ambient_in (Some (whole (pos d.n)))) (first_cols held) ≡ Some n = ap (λ w. or_else (ambient_in w) (first_cols held)) (sym (is ∙ ap Some d.value)) ∙ e in
         ap (λ w. or_else (ambient_in w) (first_cols (held ++ h ∷ []))) (value_stays ConeAmbientDim held (h ∷ []) v is ∙ ap Some d.value) ∙ old
 
 -- where it is unknown all agree with what the new value states
-agrees_then : (of : ObjectType) (held : List HeldValue) (h : HeldValue) → Each of (cols_of held) held → IsFormedIn of (cols_of held) h → cols_of held ≡ None
+agrees_then : (of : ObjectType) (k : ℕ) (held : List HeldValue) (h : HeldValue) → Each of (cols_of held) k held → IsFormedIn of (cols_of held) k h → cols_of held ≡ None
     → (g : HeldValue) → Among g (held ++ h ∷ []) → agrees (cols_of (held ++ h ∷ [])) g.property g.value ≡ true
-agrees_then of held h each fits e g i = by (value_of ConeAmbientDim held) refl
+agrees_then of k held h each fits e g i = by (value_of ConeAmbientDim held) refl
   where
     by : (v : Option PropertyValue) → value_of ConeAmbientDim held ≡ v → agrees (cols_of (held ++ h ∷ [])) g.property g.value ≡ true
     by (Some v) is =
-        let d = held_dimension of (cols_of held) held v each is in
+        let d = held_dimension of (cols_of held) k held v each is in
         let old : Some d.n ≡ None = ap (λ w. or_else (ambient_in w) (first_cols held)) (sym (is ∙ ap Some d.value)) ∙ e in
         absurd (true≢false (ap is_some old))
     by None none = at (same_property ConeAmbientDim h.property) refl
@@ -256,20 +257,20 @@ agrees_then of held h each fits e g i = by (value_of ConeAmbientDim held) refl
             last : Among g (h ∷ []) → agrees (first_cols (h ∷ [])) g.property g.value ≡ true
             last k = subst (λ z. agrees (first_cols (h ∷ [])) z.property z.value ≡ true) (sym (only k)) (itself (nat_eq (stated_cols h.property h.value) 0) refl s)
 
-pub each_push : (of : ObjectType) (held : List HeldValue) (h : HeldValue) → Each of (cols_of held) held → IsFormedIn of (cols_of held) h → Each of (cols_of (held ++ h ∷ [])) (held ++ h ∷ [])
-each_push of held h each fits = by (cols_of held) refl
+pub each_push : (of : ObjectType) (k : ℕ) (held : List HeldValue) (h : HeldValue) → Each of (cols_of held) k held → IsFormedIn of (cols_of held) k h → Each of (cols_of (held ++ h ∷ [])) k (held ++ h ∷ [])
+each_push of k held h each fits = by (cols_of held) refl
   where
-    part : (g : HeldValue) → Among g (held ++ h ∷ []) → IsFormedIn of (cols_of held) g
+    part : (g : HeldValue) → Among g (held ++ h ∷ []) → IsFormedIn of (cols_of held) k g
     part g i = elim (among_append held (h ∷ []) i) [ inl j ↦ each g j | inr j ↦ last g j ]
       where
-        last : (g : HeldValue) → Among g (h ∷ []) → IsFormedIn of (cols_of held) g
-        last g k = subst (λ z. IsFormedIn of (cols_of held) z) (sym (only k)) fits
+        last : (g : HeldValue) → Among g (h ∷ []) → IsFormedIn of (cols_of held) k g
+        last g j = subst (λ z. IsFormedIn of (cols_of held) k z) (sym (only j)) fits
 
-    by : (c : Option ℕ) → cols_of held ≡ c → Each of (cols_of (held ++ h ∷ [])) (held ++ h ∷ [])
+    by : (c : Option ℕ) → cols_of held ≡ c → Each of (cols_of (held ++ h ∷ [])) k (held ++ h ∷ [])
     by (Some n) e g i =
         let p = part g i in
-        record { formed = p.formed; columns = subst (λ c. agrees c g.property g.value ≡ true) (e ∙ sym (cols_stay of held h n each fits e)) p.columns; rows = p.rows; entries = p.entries; primitive = p.primitive; placed = p.placed; table = p.table }
-    by None e g i = let p = part g i in record { formed = p.formed; columns = agrees_then of held h each fits e g i; rows = p.rows; entries = p.entries; primitive = p.primitive; placed = p.placed; table = p.table }
+        record { formed = p.formed; columns = subst (λ c. agrees c g.property g.value ≡ true) (e ∙ sym (cols_stay of k held h n each fits e)) p.columns; rows = p.rows; entries = p.entries; primitive = p.primitive; placed = p.placed; table = p.table }
+    by None e g i = let p = part g i in record { formed = p.formed; columns = agrees_then of k held h each fits e g i; rows = p.rows; entries = p.entries; primitive = p.primitive; placed = p.placed; table = p.table }
 
 -- ---- no two values of one property at one place
 abbrev pub IsNew : HeldValue → List HeldValue → Type 0
@@ -354,12 +355,54 @@ held_stays p xs ys e = by (value_of p xs) refl e
     by None is k = absurd (true≢false (sym k))
     by (Some v) is k = ap is_some (value_stays p xs ys v is)
 
+-- ---- values that speak of the order of the rays
+read_push : (held : List HeldValue) (h : HeldValue) → read_at None (held ++ h ∷ []) ≡ read_at None held ++ read_at None (h ∷ [])
+read_push [] h = refl
+read_push (x ∷ held) h = by (same_place x.place (place_of None x.property)) (read_push held h)
+  where
+    by : (t : Bool) → read_at None (held ++ h ∷ []) ≡ read_at None held ++ read_at None (h ∷ [])
+        → (if t then x ∷ read_at None (held ++ h ∷ []) else read_at None (held ++ h ∷ [])) ≡ (if t then x ∷ read_at None held else read_at None held) ++ read_at None (h ∷ [])
+    by true e = ap (λ t. x ∷ t) e
+    by false e = e
+
+-- what is not of programs stands in the object itself
+pub own_place : (k : ℕ) (p : PropId) (place : Option ℕ) → has_program p ≡ false → is_placed k p place ≡ true → place ≡ None
+own_place k p None e h = refl
+own_place k p (Some s) e h = absurd (true≢false (sym (and_parts (has_program p) (nat_lt s k) h).0 ∙ e))
+
+alone_speaks : (h : HeldValue) → h.place ≡ None → rays_tag h.property ≡ true → speaks_of_rays (h ∷ []) ≡ true
+alone_speaks h own tagged = ap (λ t. has_tag rays_tag (if t then h ∷ [] else [])) (ap (λ q. same_place q (place_of None h.property)) own ∙ ap (same_place None) (place_none h.property)) ∙ ap (λ t. t || false) tagged
+
+speaks_push : (held : List HeldValue) (h : HeldValue) → speaks_of_rays (held ++ h ∷ []) ≡ (speaks_of_rays held || speaks_of_rays (h ∷ []))
+speaks_push held h = ap (has_tag rays_tag) (read_push held h) ∙ list_any-append (λ (g : HeldValue). rays_tag g.property) (read_at None held) (read_at None (h ∷ []))
+
+pub backed_push : (k : ℕ) (held : List HeldValue) (h : HeldValue) → is_placed k h.property h.place ≡ true → IsBacked h.property held → (has_tag rays_tag held ≡ true → speaks_of_rays held ≡ true)
+    → has_tag rays_tag (held ++ h ∷ []) ≡ true → speaks_of_rays (held ++ h ∷ []) ≡ true
+backed_push k held h placed backed old e = speaks_push held h ∙ elim (decide (has_tag rays_tag held)) [
+  | inl y ↦ or_left (speaks_of_rays held) (speaks_of_rays (h ∷ [])) (old y)
+  | inr n ↦ (let tagged = its_own (rays_tag h.property) (sym (ap (λ t. t || (rays_tag h.property || false)) n) ∙ sym (list_any-append (λ (g : HeldValue). rays_tag g.property) held (h ∷ [])) ∙ e) in
+      elim (decide (has_program h.property)) [
+        | inl y ↦ or_left (speaks_of_rays held) (speaks_of_rays (h ∷ [])) (backed (and_from (has_program h.property) (rays_tag h.property) y tagged))
+        | inr m ↦ or_right (speaks_of_rays held) (speaks_of_rays (h ∷ [])) (alone_speaks h (own_place k h.property h.place m placed) tagged)
+      ])
+]
+  where
+    its_own : (b : Bool) → (false || (b || false)) ≡ true → b ≡ true
+    its_own true e = refl
+    its_own false e = e
+
+-- what is of no program may join
+pub backed_own : (p : PropId) (held : List HeldValue) → has_program p ≡ false → IsBacked p held
+backed_own p held e h = absurd (true≢false (sym (and_parts (has_program p) (rays_tag p) h).0 ∙ e))
+
 -- an object with one value more, which was in its form
-pub formed_push : (o : State) (h : HeldValue) → IsFormed o → IsNew h o.held → IsFormedIn o.of (cols_of o.held) h → IsFormed (with_held o (h ∷ []))
-formed_push o h f new fits = record {
-  each = λ g i. each_push o.of o.held h (λ k j. f.each k (Contains_among j)) fits g (among_Contains (o.held ++ h ∷ []) i);
+pub formed_push : (o : State) (h : HeldValue) → IsFormed o → IsNew h o.held → IsBacked h.property o.held → IsFormedIn o.of (cols_of o.held) (length o.programs) h → IsFormed (with_held o (h ∷ []))
+formed_push o h f new backed fits = record {
+  each = λ g i. each_push o.of (length o.programs) o.held h (λ k j. f.each k (Contains_among j)) fits g (among_Contains (o.held ++ h ∷ []) i);
   once = once_push o.held h f.once new;
+  backed = backed_push (length o.programs) o.held h fits.placed backed f.backed;
   numbered = f.numbered;
+  programs = f.programs;
   dimension = λ s. held_stays ConeAmbientDim o.held (h ∷ []) (f.dimension s);
 }
 
@@ -368,17 +411,19 @@ map_push f [] x = refl
 map_push f (y ∷ ys) x = ap (λ t. f y ∷ t) (map_push f ys x)
 
 -- the same, of the code's lists
-pub formed_pushed : (o : State) (f : HeldOf → HeldValue) (xs ys : List HeldOf) (x : HeldOf) → o.held ≡ map f xs → ys ≡ xs ++ x ∷ [] → IsFormed o → IsNew (f x) o.held → IsFormedIn o.of (cols_of o.held) (f x) → IsFormed (record o { held = map f ys })
-formed_pushed o f xs ys x is e formed new fits =
+pub formed_pushed : (o : State) (f : HeldOf → HeldValue) (xs ys : List HeldOf) (x : HeldOf) → o.held ≡ map f xs → ys ≡ xs ++ x ∷ [] → IsFormed o → IsNew (f x) o.held → IsBacked (f x).property o.held → IsFormedIn o.of (cols_of o.held) (length o.programs) (f x) → IsFormed (record o { held = map f ys })
+formed_pushed o f xs ys x is e formed new backed fits =
     let same : map f ys ≡ o.held ++ f x ∷ [] = ap (λ t. map f t) e ∙ map_push f xs x ∙ ap (λ t. t ++ f x ∷ []) (sym is) in
-    subst (λ z. IsFormed (record o { held = z })) (sym same) (formed_push o (f x) formed new fits)
+    subst (λ z. IsFormed (record o { held = z })) (sym same) (formed_push o (f x) formed new backed fits)
 
 -- ---- an exclusion more
 pub formed_excluded : (o : State) (e : Excluded) → IsFormed o → is_numbered e.why ≡ true → IsFormed (with_excluded o e)
 formed_excluded o e f n = record {
   each = f.each;
   once = f.once;
+  backed = f.backed;
   numbered = λ g i. elim (among_append o.excluded (e ∷ []) (among_Contains (o.excluded ++ e ∷ []) i)) [ inl j ↦ f.numbered g (Contains_among j) | inr j ↦ subst (λ (z : Excluded). is_numbered z.why ≡ true) (sym (only j)) n ];
+  programs = f.programs;
   dimension = f.dimension;
 }
 
@@ -387,6 +432,8 @@ pub formed_empty : (of : ObjectType) → IsFormed (empty_object of)
 formed_empty of = record {
   each = λ h i. elim (among_Contains [] i) [ ];
   once = refl;
+  backed = λ h. absurd (true≢false (sym h));
   numbered = λ e i. elim (among_Contains [] i) [ ];
+  programs = record { few = refl; words = refl; different = refl; polytope = λ h. absurd (true≢false (sym h)) };
   dimension = λ s. absurd (true≢false (sym s));
 }

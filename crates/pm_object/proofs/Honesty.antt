@@ -20,7 +20,7 @@ use Rattle.std.specs.List.{Contains}
 use Rattle.std.specs.Option.{unwrap_or}
 use Rattle.std.specs.Prelude.{Bool, List, Option, suc, [], ◌||◌, if◌then◌else◌, length, map, nat_eq, not, ℕ, ◌++◌, ◌∷◌, ◌≡◌}
 
-facts_append : (xs ys : List HeldValue) → facts (xs ++ ys) ≡ facts xs ++ facts ys
+pub facts_append : (xs ys : List HeldValue) → facts (xs ++ ys) ≡ facts xs ++ facts ys
 facts_append [] ys = refl
 facts_append (x ∷ xs) ys = ap (λ t. record { place = x.place; property = x.property; value = x.value } ∷ t) (facts_append xs ys)
 

@@ -1,7 +1,12 @@
 pub mod Find
 pub mod Formed
+pub mod Given
+pub mod Programs
 pub mod Settling
 pub mod Drafts
 pub mod Viewing
 pub mod Honesty
+pub mod Objectives
 pub mod Names
+pub mod KnownValues
+pub mod ProgramExamples

@@ -1,14 +1,14 @@
 -- What goes without saying leaves all values of an object in their forms.
 use Rattle.pm_algebra.proofs.Lists.{Contains_among, all_append, here, there}
-use Rattle.pm_object.proofs.Formed.{Each, formed_push, held_dimension, held_stays, is_not, new_unheld, value_among, value_later, value_stays}
-use Rattle.pm_object.specs.Formed.{IsFormedIn, IsFormed, stands_at}
+use Rattle.pm_object.proofs.Formed.{backed_own, own_place, Each, formed_push, held_dimension, held_stays, is_not, new_unheld, value_among, value_later, value_stays}
+use Rattle.pm_object.specs.Formed.{IsFormedIn, IsFormed, is_placed, stands_at}
 use Rattle.pm_object.specs.declared.held.Held.{Held as HeldOf}
 use Rattle.pm_algebra.specs.Numbers.{Ratio}
 use Rattle.pm_object.specs.State.{HeldValue, State, agrees, ambient_in, cols_of, first_cols, is_held, has_rounds, names_to_settle, only_if, or_else, settled, settling, value_of, with_held}
 use Rattle.pm_matrix.specs.Matrices.{IsFraction}
 use Rattle.pm_types.specs.Forms.{HasPrimitiveRow, cols_in, is_column_count, is_dimension, is_formed, is_matrix_form, is_matrix_of, is_row_of_entries, stated_cols}
 use Rattle.pm_props.specs.Places.{same_place, same_property}
-use Rattle.pm_props.specs.Properties.{has, is_columned, is_of_matrices}
+use Rattle.pm_props.specs.Properties.{has, has_program, is_columned, is_of_matrices}
 use Rattle.pm_props.specs.Properties.{value_kind}
 use Rattle.pm_types.specs.Values.{PropertyValue, matrix, sets, whole, truth, extended, edges, lattice, counts}
 use Rattle.pm_props.specs.declared.property.PropId.{PropId}
@@ -21,7 +21,7 @@ use Rattle.std.proofs.lemmas.List.Elements.{All-nil}
 use Rattle.std.proofs.lemmas.List.Folds.{list_any-append}
 use Rattle.std.specs.List.{All, AllByRecursion, list_all}
 use Rattle.std.specs.Option.{is_some, unwrap_or}
-use Rattle.std.specs.Prelude.{Bool, IfSome, List, None, Option, Some, [], if◌then◌else◌, length, map, nat_eq, nat_le, not, ℕ, ◌&&◌, ◌||◌, ◌++◌, ◌^◌, ◌<◌, ◌≡◌, ◌∷◌}
+use Rattle.std.specs.Prelude.{Bool, IfSome, List, None, Option, Some, [], if◌then◌else◌, length, map, nat_eq, nat_le, nat_lt, not, ℕ, ◌&&◌, ◌||◌, ◌++◌, ◌^◌, ◌<◌, ◌≡◌, ◌∷◌}
 use lib.IntN.{pos}
 
 -- the properties that are settled as matrices without rows
@@ -38,11 +38,11 @@ no_rows_agree (Some n) equations = refl
 no_rows_agree (Some n) space = refl
 no_rows_agree (Some n) hull = refl
 
-plain_formed : (of : ObjectType) (c : Option ℕ) (n : ℕ) {p : PropId} → Plain p → has of p ≡ true → IsFormedIn of c (settled n p)
-plain_formed of c n lineality t = record { formed = refl; columns = no_rows_agree c lineality; rows = refl; entries = All-nil (All IsFraction); primitive = All-nil HasPrimitiveRow; placed = refl; table = t }
-plain_formed of c n equations t = record { formed = refl; columns = no_rows_agree c equations; rows = refl; entries = All-nil (All IsFraction); primitive = All-nil HasPrimitiveRow; placed = refl; table = t }
-plain_formed of c n space t = record { formed = refl; columns = no_rows_agree c space; rows = refl; entries = All-nil (All IsFraction); primitive = All-nil HasPrimitiveRow; placed = refl; table = t }
-plain_formed of c n hull t = record { formed = refl; columns = no_rows_agree c hull; rows = refl; entries = All-nil (All IsFraction); primitive = All-nil HasPrimitiveRow; placed = refl; table = t }
+plain_formed : (of : ObjectType) (c : Option ℕ) (k n : ℕ) {p : PropId} → Plain p → has of p ≡ true → IsFormedIn of c k (settled n p)
+plain_formed of c k n lineality t = record { formed = refl; columns = no_rows_agree c lineality; rows = refl; entries = All-nil (All IsFraction); primitive = All-nil HasPrimitiveRow; placed = refl; table = λ e. t }
+plain_formed of c k n equations t = record { formed = refl; columns = no_rows_agree c equations; rows = refl; entries = All-nil (All IsFraction); primitive = All-nil HasPrimitiveRow; placed = refl; table = λ e. t }
+plain_formed of c k n space t = record { formed = refl; columns = no_rows_agree c space; rows = refl; entries = All-nil (All IsFraction); primitive = All-nil HasPrimitiveRow; placed = refl; table = λ e. t }
+plain_formed of c k n hull t = record { formed = refl; columns = no_rows_agree c hull; rows = refl; entries = All-nil (All IsFraction); primitive = All-nil HasPrimitiveRow; placed = refl; table = λ e. t }
 
 with_nothing : (o : State) → with_held o [] ≡ o
 with_nothing o = ap (λ t. record o { held = t }) (append-nil o.held)
@@ -77,6 +77,12 @@ new_still p n names held new a =
     list_any-append (λ (g : HeldValue). same_property p g.property && same_place g.place None) held (map (settled n) names)
     ∙ ap (λ t. t || stands_at None p (map (settled n) names)) new ∙ none_settled p n names a
 
+plain_own : {p : PropId} → Plain p → has_program p ≡ false
+plain_own lineality = refl
+plain_own equations = refl
+plain_own space = refl
+plain_own hull = refl
+
 settle_more : (o : State) (n : ℕ) (names : List PropId) (b : Bool) (p : PropId) → IsFormed (with_held o (map (settled n) names)) → (b ≡ true → MaySettle o.of o.held p) → AreApart p names
     → IsFormed (with_held o (map (settled n) (names ++ only_if b p)))
 settle_more o n names false p f may a = subst (λ t. IsFormed (with_held o (map (settled n) t))) (sym (append-nil names)) f
@@ -85,7 +91,7 @@ settle_more o n names true p f may a =
     let last : with_held (with_held o (map (settled n) names)) (settled n p ∷ []) ≡ with_held o (map (settled n) (names ++ p ∷ [])) =
     with_last o (map (settled n) names) (settled n p ∷ []) ∙ ap (λ t. with_held o t) (sym (map_append (settled n) names (p ∷ []))) in
     subst IsFormed last
-    (formed_push (with_held o (map (settled n) names)) (settled n p) f (new_still p n names o.held m.new a) (plain_formed o.of (cols_of (o.held ++ map (settled n) names)) n m.plain m.table))
+    (formed_push (with_held o (map (settled n) names)) (settled n p) f (new_still p n names o.held m.new a) (backed_own p (o.held ++ map (settled n) names) (plain_own m.plain)) (plain_formed o.of (cols_of (o.held ++ map (settled n) names)) (length o.programs) n m.plain m.table))
 
 -- ---- a known column count is from 1 to 33
 and_left : (a b : Bool) → (a && b) ≡ true → a ≡ true
@@ -129,29 +135,29 @@ matrix_range p v f k = by (is_columned p) refl v f k
 some_is : (a b : ℕ) → Some a ≡ Some b → a ≡ b
 some_is a b h = cc
 
-first_range : (of : ObjectType) (c : Option ℕ) (held : List HeldValue) (n : ℕ) → Each of c held → first_cols held ≡ Some n → is_dimension (pos n) ≡ true
-first_range of c [] n each e = absurd (true≢false (sym (ap is_some e)))
-first_range of c (x ∷ held) n each e = by (nat_eq (stated_cols x.property x.value) 0) refl (λ h. first_range of c held n (λ g i. each g (there i)) h) e
+first_range : (of : ObjectType) (c : Option ℕ) (k : ℕ) (held : List HeldValue) (n : ℕ) → Each of c k held → first_cols held ≡ Some n → is_dimension (pos n) ≡ true
+first_range of c k [] n each e = absurd (true≢false (sym (ap is_some e)))
+first_range of c k (x ∷ held) n each e = by (nat_eq (stated_cols x.property x.value) 0) refl (λ h. first_range of c k held n (λ g i. each g (there i)) h) e
   where
     by : (t : Bool) → nat_eq (stated_cols x.property x.value) 0 ≡ t → (first_cols held ≡ Some n → is_dimension (pos n) ≡ true)
         → (if t then first_cols held else Some (stated_cols x.property x.value)) ≡ Some n → is_dimension (pos n) ≡ true
     by true s rest h = rest h
     by false s rest h = subst (λ k. is_dimension (pos k) ≡ true) (some_is _ _ h) (matrix_range x.property x.value (each x here).formed s)
 
-pub cols_range : (of : ObjectType) (held : List HeldValue) (n : ℕ) → Each of (cols_of held) held → cols_of held ≡ Some n → is_dimension (pos n) ≡ true
-cols_range of held n each e = by (value_of ConeAmbientDim held) refl
+pub cols_range : (of : ObjectType) (k : ℕ) (held : List HeldValue) (n : ℕ) → Each of (cols_of held) k held → cols_of held ≡ Some n → is_dimension (pos n) ≡ true
+cols_range of k held n each e = by (value_of ConeAmbientDim held) refl
   where
     by : (v : Option PropertyValue) → value_of ConeAmbientDim held ≡ v → is_dimension (pos n) ≡ true
-    by None is = first_range of (cols_of held) held n each (ap (λ w. or_else (ambient_in w) (first_cols held)) (sym is) ∙ e)
+    by None is = first_range of (cols_of held) k held n each (ap (λ w. or_else (ambient_in w) (first_cols held)) (sym is) ∙ e)
     by (Some v) is =
-        let d = held_dimension of (cols_of held) held v each is in
+        let d = held_dimension of (cols_of held) k held v each is in
         let old : Some d.n ≡ Some n = ap (λ w. or_else (ambient_in w) (first_cols held)) (sym (is ∙ ap Some d.value)) ∙ e in
         subst (λ k. is_dimension (pos k) ≡ true) (some_is _ _ old) d.range
 
 pub cols_fit : (o : State) (c : Option ℕ) → IsFormed o → c ≡ cols_of o.held → IfSome c (λ n. n < 2 ^ 63)
 cols_fit o None f e = tt
 cols_fit o (Some n) f e =
-    let range : is_dimension (pos n) ≡ true = cols_range o.of o.held n (λ g i. f.each g (Contains_among i)) (sym e) in
+    let range : is_dimension (pos n) ≡ true = cols_range o.of (length o.programs) o.held n (λ g i. f.each g (Contains_among i)) (sym e) in
     let few = leb-true n 33 (and_right (nat_le 1 n) (nat_le n 33) range) in
     omega arith
 
@@ -161,21 +167,21 @@ all_have_it Polytope = refl
 all_have_it Cone = refl
 all_have_it Fan = refl
 
-dimension_fits : (of : ObjectType) (held : List HeldValue) → Each of (cols_of held) held → IsFormedIn of (cols_of held) (settled (unwrap_or (cols_of held) 1) ConeAmbientDim)
-dimension_fits of held each = by (cols_of held) refl
+dimension_fits : (of : ObjectType) (k : ℕ) (held : List HeldValue) → Each of (cols_of held) k held → IsFormedIn of (cols_of held) k (settled (unwrap_or (cols_of held) 1) ConeAmbientDim)
+dimension_fits of k held each = by (cols_of held) refl
   where
     same_number : (n : ℕ) → nat_eq n n ≡ true
     same_number n = grind arith
 
-    by : (c : Option ℕ) → cols_of held ≡ c → IsFormedIn of c (settled (unwrap_or c 1) ConeAmbientDim)
-    by None e = record { formed = refl; columns = refl; rows = refl; entries = All-nil (All IsFraction); primitive = All-nil HasPrimitiveRow; placed = refl; table = all_have_it of }
-    by (Some n) e = record { formed = cols_range of held n each e; columns = same_number n; rows = refl; entries = All-nil (All IsFraction); primitive = All-nil HasPrimitiveRow; placed = refl; table = all_have_it of }
+    by : (c : Option ℕ) → cols_of held ≡ c → IsFormedIn of c k (settled (unwrap_or c 1) ConeAmbientDim)
+    by None e = record { formed = refl; columns = refl; rows = refl; entries = All-nil (All IsFraction); primitive = All-nil HasPrimitiveRow; placed = refl; table = λ e. all_have_it of }
+    by (Some n) e = record { formed = cols_range of k held n each e; columns = same_number n; rows = refl; entries = All-nil (All IsFraction); primitive = All-nil HasPrimitiveRow; placed = refl; table = λ e. all_have_it of }
 
 dimension_settled : (o : State) (n : ℕ) (a : Bool) → n ≡ unwrap_or (cols_of o.held) 1 → IsFormed o → (a ≡ true → stands_at None ConeAmbientDim o.held ≡ false) → IsFormed (with_held o (map (settled n) (only_if a ConeAmbientDim)))
 dimension_settled o n false is f new = subst IsFormed (sym (with_nothing o)) f
 dimension_settled o n true is f new =
-    formed_push o (settled n ConeAmbientDim) f (new refl)
-    (subst (λ k. IsFormedIn o.of (cols_of o.held) (settled k ConeAmbientDim)) (sym is) (dimension_fits o.of o.held (λ g i. f.each g (Contains_among i))))
+    formed_push o (settled n ConeAmbientDim) f (new refl) (backed_own ConeAmbientDim o.held refl)
+    (subst (λ k. IsFormedIn o.of (cols_of o.held) (length o.programs) (settled k ConeAmbientDim)) (sym is) (dimension_fits o.of (length o.programs) o.held (λ g i. f.each g (Contains_among i))))
 
 -- a, b, c, d, e say which of the properties are settled
 names_settled : (o : State) (n : ℕ) (a b c d e : Bool) → n ≡ unwrap_or (cols_of o.held) 1 → IsFormed o → (a ≡ true → stands_at None ConeAmbientDim o.held ≡ false)
@@ -197,13 +203,17 @@ names_settled o n a b c d e is f ma mb mc md me =
     settle_more o n (A ++ B ++ C ++ D) e AffineHull fourth me
     (all_append (λ q. same_property AffineHull q ≡ false) (A ++ B ++ C) D (apart_three AffineHull refl refl refl) (apart_if d AffineHull LinealitySpace refl))
 
--- what is held is of the type's table
-in_table : (o : State) (p : PropId) → IsFormed o → is_held p o.held ≡ true → has o.of p ≡ true
-in_table o p f e = by (value_of p o.held) refl e
+-- what is held of the object itself is of the type's table
+in_table : (o : State) (p : PropId) → IsFormed o → has_program p ≡ false → is_held p o.held ≡ true → has o.of p ≡ true
+in_table o p f own e = by (value_of p o.held) refl e
   where
     by : (v : Option PropertyValue) → value_of p o.held ≡ v → is_some v ≡ true → has o.of p ≡ true
     by None is k = absurd (true≢false (sym k))
-    by (Some v) is k = let (h, i, same, w) = value_among p o.held v is in subst (λ q. has o.of q ≡ true) same (f.each h (Contains_among i)).table
+    by (Some v) is k =
+        let (h, i, same, w) = value_among p o.held v is in
+        let fits = f.each h (Contains_among i) in
+        let place = own_place (length o.programs) h.property h.place (subst (λ q. has_program q ≡ false) (sym same) own) fits.placed in
+        subst (λ q. has o.of q ≡ true) same (fits.table place)
 
 unheld : (p : PropId) (held : List HeldValue) → not (is_held p held) ≡ true → stands_at None p held ≡ false
 unheld p held e = new_unheld None p held (is_not (is_held p held) e)
@@ -225,16 +235,16 @@ formed_settle o f = by (has_rounds o)
     by true = subst IsFormed (sym (with_nothing o)) f
     by false =
         names_settled o (unwrap_or (cols_of o.held) 1) _ _ _ _ _ refl f (λ h. unheld ConeAmbientDim o.held h)
-        (λ h. record { plain = lineality; table = in_table o Points f (and_left (held Points) (not (held InputLineality)) h); new = unheld InputLineality o.held (and_right (held Points) (not (held InputLineality)) h) })
-        (λ h. record { plain = equations; table = in_table o Inequalities f (and_left (held Inequalities) (not (held Equations)) h); new = unheld Equations o.held (and_right (held Inequalities) (not (held Equations)) h) })
+        (λ h. record { plain = lineality; table = in_table o Points f refl (and_left (held Points) (not (held InputLineality)) h); new = unheld InputLineality o.held (and_right (held Points) (not (held InputLineality)) h) })
+        (λ h. record { plain = equations; table = in_table o Inequalities f refl (and_left (held Inequalities) (not (held Equations)) h); new = unheld Equations o.held (and_right (held Inequalities) (not (held Equations)) h) })
         (λ h.
         let first = first_of_five (held Vertices) (not (held Points)) (not (held Inequalities)) (not (held Facets && held AffineHull)) (not (held LinealitySpace)) h in
         let last = last_of_five (held Vertices) (not (held Points)) (not (held Inequalities)) (not (held Facets && held AffineHull)) (not (held LinealitySpace)) h in
-        record { plain = space; table = in_table o Vertices f first; new = unheld LinealitySpace o.held last })
+        record { plain = space; table = in_table o Vertices f refl first; new = unheld LinealitySpace o.held last })
         (λ h.
         let first = first_of_five (held Facets) (not (held Points)) (not (held Inequalities)) (not (held Vertices)) (not (held AffineHull)) h in
         let last = last_of_five (held Facets) (not (held Points)) (not (held Inequalities)) (not (held Vertices)) (not (held AffineHull)) h in
-        record { plain = hull; table = in_table o Facets f first; new = unheld AffineHull o.held last })
+        record { plain = hull; table = in_table o Facets f refl first; new = unheld AffineHull o.held last })
 
 -- the same, of the code's lists
 pub formed_settled : (o : State) (f : HeldOf → HeldValue) (xs ys zs : List HeldOf) → o.held ≡ map f xs → zs ≡ xs ++ ys → map f ys ≡ settling o → IsFormed o → IsFormed (record o { held = map f zs })

@@ -3,22 +3,26 @@ use Rattle.pm_algebra.proofs.Filters.{among_map, filter_among, map_among}
 use Rattle.pm_algebra.proofs.Lists.{Among, Contains_among, among_Contains}
 use Rattle.pm_object.proofs.Formed.{value_among}
 use Rattle.pm_object.proofs.Settling.{cols_range}
-use Rattle.pm_object.specs.Formed.{IsFormed}
+use Rattle.pm_object.specs.Formed.{IsFormed, is_placed}
 use Rattle.pm_object.specs.Honest.{facts}
 use Rattle.pm_object.specs.Reading.{IsView, IsViewed, fact_of, view_for}
-use Rattle.pm_object.specs.State.{HeldValue, State, agrees, cols_of, read_at, value_of}
+use Rattle.pm_object.specs.State.{HeldValue, State, agrees, cols_of, is_polytope, read_at, value_of}
 use Rattle.pm_types.proofs.Kept.{among_shown, named_from, shown_among}
 use Rattle.pm_props.proofs.Places.{same_place_is, same_property_is}
 use Rattle.pm_types.specs.Forms.{FormsIn, is_dimension}
 use Rattle.pm_types.specs.Runs.{is_named, shown}
 use Rattle.pm_props.specs.Places.{place_of, same_place, same_property}
+use Rattle.pm_props.specs.Properties.{has_program}
 use Rattle.pm_props.specs.Sets.{has}
 use Rattle.pm_types.specs.Values.{Fact, PropertyValue}
 use Rattle.pm_props.specs.declared.kind.Kind.{Kind}
+use Rattle.pm_props.specs.declared.object_type.ObjectType.TheVariants.{Polytope}
+use Rattle.pm_props.specs.declared.object_type.ObjectType.{ObjectType}
 use Rattle.pm_props.specs.declared.property.PropId.{PropId}
-use Rattle.std.proofs.Common.{ap, false, refl, subst, sym, true, true≢false, ◌∙◌}
+use Rattle.std.proofs.Common.{ap, arith, false, refl, subst, sym, true, true≢false, ◌∙◌}
+use Rattle.std.proofs.lemmas.Bool.{and_parts}
 use Rattle.std.specs.Option.{is_some, option_map}
-use Rattle.std.specs.Prelude.{Bool, IfSome, IsTrue, List, None, Option, Some, [], if◌then◌else◌, nat_le, ℕ, ◌&&◌, ◌≡◌, ◌∷◌}
+use Rattle.std.specs.Prelude.{Bool, IfSome, IsTrue, List, None, Option, Some, [], if◌then◌else◌, length, nat_le, nat_lt, not, ℕ, ◌&&◌, ◌≡◌, ◌∷◌}
 use lib.IntN.{pos}
 
 -- what is read at a place stands there, and is held
@@ -79,18 +83,35 @@ value_forms o n sub p v f e is =
     let (h, i, q, w) = value_among p (read_at sub o.held) v is in
     subst (λ z. FormsIn o.of n p z) w (subst (λ z. FormsIn o.of n z h.value) q (forms_of o n f e h (among_read sub o.held i).0))
 
+-- only a polytope holds a value of a linear program
+is_polytope_only : (of : ObjectType) → is_polytope of ≡ true → of ≡ Polytope
+is_polytope_only Polytope h = refl
+is_polytope_only of h = absurd (true≢false (sym h))
+
+within : (s k : ℕ) → nat_lt s k ≡ true → nat_lt 0 k ≡ true
+within s k h = grind arith
+
+of_programs_only : (o : State) → IsFormed o → (h : HeldValue) → is_placed (length o.programs) h.property h.place ≡ true → has_program h.property ≡ true → o.of ≡ Polytope
+of_programs_only o f h = by h.place
+  where
+    by : (place : Option ℕ) → is_placed (length o.programs) h.property place ≡ true → has_program h.property ≡ true → o.of ≡ Polytope
+    by None at program = absurd (true≢false (sym at ∙ ap not program))
+    by (Some s) at program = is_polytope_only o.of (f.programs.polytope (within s (length o.programs) (and_parts (has_program h.property) (nat_lt s (length o.programs)) at).1))
+
 pub is_view : (o : State) (sub : Option ℕ) (kind : Kind) (n : ℕ) → IsFormed o → IsViewed o sub kind n → IsView (view_for o sub kind n)
 is_view o sub kind n f viewed = record {
   some_cols = and_left (nat_le 1 n) (nat_le n 33) range;
   few_cols = and_right (nat_le 1 n) (nat_le n 33) range;
   sources = λ p h. named p h (value_of p (read_at sub o.held)) refl (viewed.sources p h);
   only = λ g i. source g (among_Contains (shown kind sub (facts o.held)) i);
+  placed = λ g i. placed g (among_Contains (shown kind sub (facts o.held)) i);
+  programs = λ g i. of_polytope g (shown_among kind sub (facts o.held) (among_Contains (shown kind sub (facts o.held)) i));
   forms = λ g i. formed g (shown_among kind sub (facts o.held) (among_Contains (shown kind sub (facts o.held)) i));
   in_use = viewed.in_use;
 }
   where
     range : is_dimension (pos n) ≡ true
-    range = cols_range o.of o.held n (λ g i. f.each g (Contains_among i)) viewed.cols
+    range = cols_range o.of (length o.programs) o.held n (λ g i. f.each g (Contains_among i)) viewed.cols
 
     and_left : (a b : Bool) → (a && b) ≡ true → a ≡ true
     and_left true b h = refl
@@ -100,10 +121,14 @@ is_view o sub kind n f viewed = record {
     and_right true b h = h
     and_right false b h = absurd (true≢false (sym h))
 
+    shown_as : (g : Fact) → Among g (shown kind sub (facts o.held)) → (has kind.sources g.property && same_place g.place (place_of sub g.property)) ≡ true
+    shown_as g i = (filter_among (λ f. has kind.sources f.property && same_place f.place (place_of sub f.property)) (facts o.held) i).1
+
     source : (g : Fact) → Among g (shown kind sub (facts o.held)) → has kind.sources g.property ≡ true
-    source g i =
-        and_left (has kind.sources g.property) (same_place g.place (place_of sub g.property))
-        (filter_among (λ f. has kind.sources f.property && same_place f.place (place_of sub f.property)) (facts o.held) i).1
+    source g i = and_left (has kind.sources g.property) (same_place g.place (place_of sub g.property)) (shown_as g i)
+
+    placed : (g : Fact) → Among g (shown kind sub (facts o.held)) → g.place ≡ place_of sub g.property
+    placed g i = same_place_is g.place (place_of sub g.property) (and_right (has kind.sources g.property) (same_place g.place (place_of sub g.property)) (shown_as g i))
 
     named : (p : PropId) → IsTrue (has kind.sources p) → (v : Option PropertyValue) → value_of p (read_at sub o.held) ≡ v → is_some v ≡ true → is_named (shown kind sub (facts o.held)) sub p ≡ true
     named p h None is k = absurd (true≢false (sym k))
@@ -114,6 +139,11 @@ is_view o sub kind n f viewed = record {
         let shown' = among_shown kind sub (facts o.held) (fact_among o.held g j) source at in
         subst (λ z. is_named (shown kind sub (facts o.held)) sub z ≡ true) q
         (named_from sub (shown kind sub (facts o.held)) (record { place = g.place; property = g.property; value = g.value }) shown' at)
+
+    of_polytope : (g : Fact) → Among g (facts o.held) → has_program g.property ≡ true → o.of ≡ Polytope
+    of_polytope g i program =
+        let (h, j, is) = map_among (λ k. record { place = k.place; property = k.property; value = k.value }) o.held i in
+        of_programs_only o f h (f.each h (Contains_among j)).placed (subst (λ z. has_program z.property ≡ true) is program)
 
     formed : (g : Fact) → Among g (facts o.held) → FormsIn o.of n g.property g.value
     formed g i =

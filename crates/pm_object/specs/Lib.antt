@@ -4,3 +4,5 @@ pub mod Honest
 pub mod Views
 pub mod Reading
 pub mod Laws
+pub mod Known
+pub mod Examples

@@ -2,7 +2,9 @@
 use Rattle.std.specs.Prelude.{ℕ, suc, ◌≡◌, IsTrue, Option, Some, None, List, [], ◌∷◌, ◌++◌, nat_le, if◌then◌else◌}
 use Rattle.std.specs.List.{Contains}
 use Rattle.pm_props.specs.declared.object_type.ObjectType.{ObjectType}
+use Rattle.pm_props.specs.declared.object_type.ObjectType.TheVariants.{Polytope}
 use Rattle.pm_props.specs.Places.{place_of, same_property}
+use Rattle.pm_props.specs.Properties.{has_program}
 use Rattle.pm_types.specs.Runs.{shown, is_named}
 use Rattle.pm_types.specs.Forms.{FormsIn}
 use Rattle.pm_props.specs.Kinds.{IsKindOf}
@@ -31,12 +33,14 @@ pub record IsViewed (o : State) (sub : Option ℕ) (kind : Kind) (n : ℕ) : Typ
   pub sources : (p : PropId) → IsTrue (has kind.sources p) → IsTrue (is_held p (read_at sub o.held))
   pub in_use : IsKindOf sub o.of kind
 
--- what is so of every view: n is from 1 to 33, all sources are there and nothing else, the values have their forms, and all names of the kind are in use
+-- what is so of every view: n is from 1 to 33, all sources are there and nothing else, those of linear programs at the program that is asked, which is a polytope's, the values have their forms, and all names of the kind are in use
 pub record IsView (v : ViewSeen) : Type 0 where
   pub some_cols : IsTrue (nat_le 1 v.cols)
   pub few_cols : IsTrue (nat_le v.cols 33)
   pub sources : (p : PropId) → IsTrue (has v.kind.sources p) → IsTrue (is_named v.facts v.sub p)
   pub only : (f : Fact) → Contains v.facts f → IsTrue (has v.kind.sources f.property)
+  pub placed : (f : Fact) → Contains v.facts f → f.place ≡ place_of v.sub f.property
+  pub programs : (f : Fact) → Contains v.facts f → IsTrue (has_program f.property) → v.of ≡ Polytope
   pub forms : (f : Fact) → Contains v.facts f → FormsIn v.of v.cols f.property f.value
   pub in_use : IsKindOf v.sub v.of v.kind
 

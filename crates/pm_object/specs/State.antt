@@ -1,9 +1,10 @@
 -- An object, as contracts see it. A place is None for the object itself, and the number of a linear program for that program of it.
-use Rattle.std.specs.Prelude.{ℕ, ◌≡◌, ◌⊎◌, ◌||◌, ◌&&◌, Bool, true, false, not, Option, Some, None, List, [], ◌∷◌, ◌++◌, filter, length, map, nat_eq, if◌then◌else◌}
+use Rattle.std.specs.Prelude.{ℕ, suc, ◌≡◌, ◌⊎◌, ◌||◌, ◌&&◌, Bool, true, false, not, Option, Some, None, List, [], ◌∷◌, ◌++◌, codes, filter, length, map, nat_eq, nat_le, if◌then◌else◌}
 use Rattle.std.specs.List.{list_any}
 use Rattle.std.specs.Str.{bytes_eq}
 use Rattle.std.specs.Option.{is_some, unwrap_or}
 use Rattle.pm_props.specs.declared.object_type.ObjectType.{ObjectType}
+use Rattle.pm_props.specs.declared.object_type.ObjectType.TheVariants.{Polytope}
 use Rattle.pm_types.specs.Forms.{HavePrimitiveRows, stated_cols, agrees_with, are_rows}
 use Rattle.pm_props.specs.Properties.{has}
 use Rattle.pm_props.specs.Places.{place_of, same_place, same_property}
@@ -11,15 +12,21 @@ use Rattle.pm_props.specs.Sets.{set_of}
 use Rattle.pm_props.specs.declared.set.PropSet.{PropSet}
 use Rattle.pm_types.specs.Values.{PropertyValue, matrix, whole}
 use Rattle.pm_props.specs.declared.property.PropId.{PropId}
-use Rattle.pm_props.specs.declared.property.PropId.TheVariants.{ConeAmbientDim, Points, InputLineality, Inequalities, Equations, Vertices, LinealitySpace, Facets, AffineHull}
+use Rattle.pm_props.specs.declared.property.PropId.TheVariants.{ConeAmbientDim, Points, InputLineality, Inequalities, Equations, Vertices, LinealitySpace, Facets, AffineHull, LinearObjective}
 use Rattle.pm_props.specs.declared.kind.RuleId.{RuleId}
 use Rattle.pm_weights.specs.declared.Cost.{Cost}
+use Rattle.pm_object.specs.declared.held.BuildFail.{BuildFail}
+use Rattle.pm_object.specs.declared.held.BuildFail.TheVariants.{NotFit, Memory}
+use Rattle.pm_object.specs.declared.held.Condition.{Condition}
+use Rattle.pm_object.specs.declared.held.Condition.TheVariants as condition
 use Rattle.pm_object.specs.declared.held.Origin.{Origin}
 use Rattle.pm_object.specs.declared.held.Origin.TheVariants.{Given, Stored, Computed}
 use Rattle.pm_object.specs.declared.held.Excluded.{Excluded}
 use Rattle.pm_object.specs.declared.held.RoundEnd.{RoundEnd}
 use Rattle.pm_object.specs.declared.held.TakeFail.{TakeFail}
 use Rattle.pm_object.specs.declared.held.TakeFail.TheVariants as refused
+use Rattle.pm_object.specs.declared.held.ProgramFail.{ProgramFail}
+use Rattle.pm_object.specs.declared.held.ProgramFail.TheVariants as program
 use lib.IntN.{pos}
 
 -- a place, a property, its value, and how the value came to be held
@@ -36,13 +43,14 @@ pub record RoundSeen : Type 0 where
   pub chain : List RuleId
   pub end : RoundEnd
 
--- the object's type, its held values in order, the excluded rules, the rounds, and the disabled labels
+-- the object's type, its held values in order, the excluded rules, the rounds, the disabled labels, and the names of its linear programs, by place
 pub record State : Type 0 where
   pub of : ObjectType
   pub held : List HeldValue
   pub excluded : List Excluded
   pub rounds : List RoundSeen
   pub disabled : List (List ℕ)
+  pub programs : List (List ℕ)
 
 -- the state, and for how many values more the object has memory
 pub record ObjectSeen : Type 0 where
@@ -50,7 +58,7 @@ pub record ObjectSeen : Type 0 where
   pub spare : ℕ
 
 abbrev pub empty_object : ObjectType → State
-empty_object of = record { of = of; held = []; excluded = []; rounds = []; disabled = [] }
+empty_object of = record { of = of; held = []; excluded = []; rounds = []; disabled = []; programs = [] }
 
 -- the values that are read by who asks this program, if one is asked: the object's own, and that program's
 abbrev pub read_at : Option ℕ → List HeldValue → List HeldValue
@@ -85,6 +93,23 @@ holds_stored held = list_any (λ h. is_stored h.origin) held
 abbrev pub is_sealed : State → Bool
 is_sealed o = has_rounds o || holds_stored o.held
 
+abbrev pub is_computed : Origin → Bool
+is_computed Computed = true
+is_computed origin = false
+
+-- a value that a rule computed stands at the place
+abbrev pub holds_computed_at : Option ℕ → List HeldValue → Bool
+holds_computed_at place held = list_any (λ h. is_computed h.origin && same_place h.place place) held
+
+-- a round was started for who asks this program
+abbrev pub has_rounds_at : Option ℕ → List RoundSeen → Bool
+has_rounds_at place rounds = list_any (λ r. same_place r.sub place) rounds
+
+-- whether the object is sealed, or the linear program at a place: it holds a computed value, or a round was started for it
+abbrev pub is_sealed_at : Option ℕ → State → Bool
+is_sealed_at None o = is_sealed o
+is_sealed_at (Some s) o = holds_computed_at (Some s) o.held || has_rounds_at (Some s) o.rounds
+
 abbrev pub is_disabled : List ℕ → List (List ℕ) → Bool
 is_disabled label [] = false
 is_disabled label (other ∷ labels) = bytes_eq other label || is_disabled label labels
@@ -111,23 +136,57 @@ abbrev pub agrees : Option ℕ → PropId → PropertyValue → Bool
 agrees None p v = true
 agrees (Some n) p v = agrees_with n p v
 
--- the first reason not to take the value, in the order in which it is asked, before its primitive rows are asked for
-abbrev pub take_refusal : State → PropId → PropertyValue → Option TakeFail
-take_refusal o p v = if is_held p (read_at None o.held) then Some refused.AlreadyHeld
-    else if is_sealed o then Some refused.Sealed
-    else if not (has o.of p) then Some refused.NotOfType
+-- whether a value of the property may be given there: one of the type's table to the object, the objective to a linear program
+abbrev pub is_given_at : ObjectType → Option ℕ → PropId → Bool
+is_given_at of None p = has of p
+is_given_at of (Some s) p = same_property LinearObjective p
+
+-- the first reason not to take the value, for the object or for the program at a place, in the order in which it is asked, before its primitive rows are asked for
+abbrev pub take_refusal : State → Option ℕ → PropId → PropertyValue → Option TakeFail
+take_refusal o sub p v = if is_held p (read_at sub o.held) then Some refused.AlreadyHeld
+    else if is_sealed_at sub o then Some refused.Sealed
+    else if not (is_given_at o.of sub p) then Some refused.NotOfType
     else if not (agrees (cols_of o.held) p v) then Some refused.Columns
     else if not (are_rows o.of p v) then Some refused.NotAThing
     else None
 
 -- there is none, and the primitive rows are made within the range
-abbrev pub CanTake : State → PropId → PropertyValue → Type 0
-CanTake o p v = (take_refusal o p v ≡ None) × HavePrimitiveRows v
+abbrev pub CanTake : State → Option ℕ → PropId → PropertyValue → Type 0
+CanTake o sub p v = (take_refusal o sub p v ≡ None) × HavePrimitiveRows v
 
 -- e is that reason; where there is none the value is no such thing, as some primitive row is not made within the range
-abbrev pub CannotTake : State → PropId → PropertyValue → TakeFail → Type 0
-CannotTake o p v refused.NotAThing = (take_refusal o p v ≡ Some refused.NotAThing) ⊎ ((take_refusal o p v ≡ None) × ¬ (HavePrimitiveRows v))
-CannotTake o p v e = take_refusal o p v ≡ Some e
+abbrev pub CannotTake : State → Option ℕ → PropId → PropertyValue → TakeFail → Type 0
+CannotTake o sub p v refused.NotAThing = (take_refusal o sub p v ≡ Some refused.NotAThing) ⊎ ((take_refusal o sub p v ≡ None) × ¬ (HavePrimitiveRows v))
+CannotTake o sub p v e = take_refusal o sub p v ≡ Some e
+
+-- a given value of the property, where it stands for who asks this program, if one is asked
+abbrev pub given_at : Option ℕ → PropId → PropertyValue → HeldValue
+given_at sub p v = record { place = place_of sub p; property = p; value = v; origin = Given }
+
+-- ---- linear programs
+-- the greatest number of linear programs of an object
+abbrev pub most_programs : ℕ
+most_programs = 4
+
+-- the place of a name in a list, counted from k
+abbrev pub place_from : ℕ → List ℕ → List (List ℕ) → Option ℕ
+place_from k name [] = None
+place_from k name (other ∷ names) = if bytes_eq other name then Some k else place_from (suc k) name names
+
+-- the place of the object's program of this name
+abbrev pub place_named : List ℕ → State → Option ℕ
+place_named name o = place_from 0 name o.programs
+
+abbrev pub is_polytope : ObjectType → Bool
+is_polytope Polytope = true
+is_polytope of = false
+
+-- the first reason not to add a program of this name
+abbrev pub program_refusal : State → List ℕ → Option ProgramFail
+program_refusal o name = if not (is_polytope o.of) then Some program.NotPolytope
+    else if is_some (place_named name o) then Some program.NameTaken
+    else if nat_le most_programs (length o.programs) then Some program.Full
+    else None
 
 -- ---- the object with more; all else as it was
 abbrev pub with_held : State → List HeldValue → State
@@ -141,6 +200,10 @@ with_excluded o e = record o { excluded = o.excluded ++ e ∷ [] }
 
 abbrev pub with_disabled : State → List ℕ → State
 with_disabled o label = record o { disabled = o.disabled ++ label ∷ [] }
+
+-- one linear program more, without an objective
+abbrev pub with_program : State → List ℕ → State
+with_program o name = record o { programs = o.programs ++ name ∷ [] }
 
 -- a value of a file, which was given or stored
 abbrev pub file_value : Origin → PropId → PropertyValue → HeldValue
@@ -172,3 +235,20 @@ settled n p = record { place = None; property = p; value = settled_value n p; or
 -- these, as given values: the column count (1 where it is unknown), and matrices without rows
 abbrev pub settling : State → List HeldValue
 settling o = map (settled (unwrap_or (cols_of o.held) 1)) (settling_names o)
+
+-- ---- why an object is not built
+-- the word of a condition
+abbrev pub word_of : Condition → List ℕ
+word_of condition.OfType = codes "type"
+word_of condition.Bounded = codes "BOUNDED"
+word_of condition.FullDim = codes "FULL_DIM"
+word_of condition.Centered = codes "CENTERED"
+word_of condition.Feasible = codes "FEASIBLE"
+word_of condition.Columns = codes "columns"
+word_of condition.Rows = codes "rows"
+word_of condition.Size = codes "size"
+
+-- the answer names this condition, the first that fails; want of memory may come at any time
+abbrev pub IsRefused : Option Condition → BuildFail → Type 0
+IsRefused first (NotFit c) = first ≡ Some c
+IsRefused first Memory = Unit {0}

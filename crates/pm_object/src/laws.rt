@@ -1,6 +1,6 @@
 // Laws of honesty.
 
-ghost use Rattle.pm_object.specs.Laws.{CommitIsHonest, EmptyIsKept, BasedIsKept, HonestyIsOfValues, SettledIsKept};
+ghost use Rattle.pm_object.specs.Laws.{BasedIsKept, CommitIsHonest, EmptyIsKept, HonestyIsOfValues, ObjectiveIsKept, SettledIsKept};
 
 /// An object that holds nothing is honest.
 pub fn law_empty_is_kept()
@@ -10,6 +10,11 @@ pub fn law_empty_is_kept()
 /// An object without rounds stays honest with more given and stored values.
 pub fn law_based_is_kept()
     ensures { BasedIsKept }
+{}
+
+/// An object stays honest with an objective that is given to a program of it, also once rounds were started for it.
+pub fn law_objective_is_kept()
+    ensures { ObjectiveIsKept }
 {}
 
 /// Settling leaves an object honest.

@@ -4,7 +4,9 @@
 
 mod copies;
 mod draft;
+mod examples;
 mod held;
+mod known;
 mod laws;
 mod object;
 mod settled;
@@ -13,11 +15,18 @@ mod view;
 
 pub use copies::{copy_excluded, copy_rounds};
 pub use draft::Draft;
-pub use held::{Excluded, Held, Origin, Round, RoundEnd, TakeFail, Why};
+pub use examples::{
+    example_given, example_placed, example_places, example_programs, example_refused_programs,
+    example_sealed, example_taken,
+};
+pub use held::{
+    BuildFail, Condition, Excluded, Held, Origin, ProgramFail, Round, RoundEnd, TakeFail, Why,
+};
+pub use known::{cols_at, is_polytope, is_true, matrix_at, sets_at};
 pub use laws::{
     law_based_is_kept, law_commit_is_honest, law_empty_is_kept, law_honesty_is_of_values,
-    law_settled_is_kept,
+    law_objective_is_kept, law_settled_is_kept,
 };
-pub use object::Object;
+pub use object::{MOST_PROGRAMS, Object};
 pub use tests_of_values::{agrees, are_rows, require_primitive_rows, stated_cols};
 pub use view::View;

@@ -2,13 +2,14 @@
 
 ghost use Rattle.pm_types.specs.Values.{whole};
 ghost use Rattle.pm_props.specs.declared.property.PropId.TheVariants.{ConeAmbientDim};
-ghost use Rattle.pm_object.specs.State.{CanTake, CannotTake, State, agrees, ambient_in, cols_of, empty_object, is_disabled, file_value, has_rounds, holds_stored, is_held, is_sealed, names_of, names_to_settle, read_at, settling, settling_names, value_of, with_disabled, with_excluded, with_held, with_round};
+ghost use Rattle.pm_object.specs.State.{CanTake, CannotTake, State, given_at, has_rounds_at, holds_computed_at, is_given_at, is_sealed_at, place_from, place_named, program_refusal, with_program, agrees, ambient_in, cols_of, empty_object, is_disabled, file_value, has_rounds, holds_stored, is_held, is_sealed, names_of, names_to_settle, read_at, settling, settling_names, value_of, with_disabled, with_excluded, with_held, with_round};
 ghost use Rattle.pm_types.specs.Forms.{HavePrimitiveRows, are_rows, is_formed};
-ghost use Rattle.pm_object.specs.Formed.{IsFormed, IsFormedIn, is_numbered};
+ghost use Rattle.pm_object.specs.Formed.{IsBacked, IsFormed, IsFormedIn, is_numbered};
 ghost use Rattle.pm_props.specs.Properties.{has as has_property};
 ghost use Rattle.pm_object.specs.Views.{held_seen, round_seen};
 ghost use Rattle.pm_object.specs.Laws.{computed_at};
 ghost use Rattle.pm_object.specs.declared.held.Origin.TheVariants.{Given, Stored};
+ghost use Rattle.pm_props.specs.NameWords.{is_name};
 ghost use Rattle.pm_props.specs.Places.{place_of, same_place};
 ghost use Rattle.pm_types.specs.Views.{view_of};
 ghost use Rattle.pm_object.specs.Reading.{view_for};
@@ -16,16 +17,19 @@ ghost use Rattle.pm_props.specs.Kinds.{IsKindOf};
 ghost use Rattle.pm_props.specs.Sets.{has};
 ghost use Rattle.pm_props.specs.declared.property.PropId.{PropId};
 ghost use Rattle.std.specs.Option.{is_some, option_map, unwrap_or};
-ghost use Rattle.std.specs.Prelude.{IfErr, IfOk, IfSome, IsTrue, false, if◌then◌else◌, None, OnErr, OnOk, Some, [], map, not, string_bytes, ◌&&◌, ◌+◌, ◌++◌, ◌<◌, ◌≤◌, ◌^◌, ◌∷◌, ◌≡◌, ◌≢◌};
+ghost use Rattle.std.specs.Prelude.{IfErr, IfOk, IfSome, IsTrue, false, if◌then◌else◌, None, OnErr, OnOk, Some, [], length, map, not, slice_get, string_bytes, ◌&&◌, ◌+◌, ◌++◌, ◌<◌, ◌≤◌, ◌^◌, ◌∷◌, ◌≡◌, ◌≢◌};
 
 use crate::copies::{copy_excluded, copy_held, copy_labels, copy_rounds};
-use crate::held::{Excluded, Held, Origin, Round, TakeFail};
+use crate::held::{Excluded, Held, Origin, ProgramFail, Round, TakeFail};
 use crate::settled::{push_if, settled_values};
 use crate::tests_of_values::{agrees, are_rows, first_cols, reads_entries, require_primitive_rows};
 use crate::view::View;
 use pm_types::{Kind, ObjectType, PropId, PropSet, Value};
 use std::alloc::{AllocError, Global};
 use std::marker::Model;
+
+/// The greatest number of linear programs of an object.
+pub const MOST_PROGRAMS: u8 = 4;
 
 /// An object: a polytope, cone or fan with what is known of it.
 #[derive(Debug, Drop)]
@@ -35,6 +39,7 @@ pub struct Object {
     excluded: Vec<Excluded>,
     rounds: Vec<Round>,
     disabled: Vec<String>,
+    programs: Vec<String>,
 }
 
 impl Model for Object {
@@ -46,11 +51,11 @@ impl Model for Object {
     ghost Value = { ObjectSeen };
 
     ghost view = { λ o. record {
-      state = record { of = o.of; held = map held_seen o.held.items; excluded = o.excluded.items; rounds = map round_seen o.rounds.items; disabled = map string_bytes o.disabled.items };
+      state = record { of = o.of; held = map held_seen o.held.items; excluded = o.excluded.items; rounds = map round_seen o.rounds.items; disabled = map string_bytes o.disabled.items; programs = map string_bytes o.programs.items };
       spare = vec_capacity o.held - vec_len o.held;
     } };
 
-    ghost invariant = { λ o. IsFormed (record { of = o.of; held = map held_seen o.held.items; excluded = o.excluded.items; rounds = map round_seen o.rounds.items; disabled = map string_bytes o.disabled.items }) };
+    ghost invariant = { λ o. IsFormed (record { of = o.of; held = map held_seen o.held.items; excluded = o.excluded.items; rounds = map round_seen o.rounds.items; disabled = map string_bytes o.disabled.items; programs = map string_bytes o.programs.items }) };
 }
 
 impl Object {
@@ -64,6 +69,7 @@ impl Object {
             excluded: Vec::new(alloc),
             rounds: Vec::new(alloc),
             disabled: Vec::new(alloc),
+            programs: Vec::new(alloc),
         }
     }
 
@@ -109,6 +115,82 @@ impl Object {
         ensures { result ≡ is_sealed self.now.state }
     {
         self.has_rounds() || holds_stored(&self.held)
+    }
+
+    /// Whether the object is sealed, or the linear program at a place: it holds a computed value, or a round was started
+    /// for it.
+    pub fn is_sealed_at(&self, sub: Option<u8>) -> bool
+        ensures { result ≡ is_sealed_at sub self.now.state }
+    {
+        match sub {
+            None => self.is_sealed(),
+            Some(place) => holds_computed(&self.held, place) || has_rounds_for(&self.rounds, place),
+        }
+    }
+
+    /// How many linear programs the object has, at most four.
+    pub fn programs(&self) -> u8
+        ensures value { result ≡ length self.now.state.programs }
+        ensures few { result ≤ 4 }
+        ensures formed { IsFormed self.now.state }
+    {
+        self.programs.len() as u8
+    }
+
+    /// The name of the linear program at a place.
+    pub fn program_name(&self, sub: u8) -> &str
+        requires { sub < length self.now.state.programs }
+        ensures { Some result.now ≡ slice_get self.now.state.programs sub }
+    {
+        self.programs[usize::from(sub)].as_str()
+    }
+
+    /// The place of the linear program of a name; None exactly where the object has no such program.
+    pub fn program(&self, name: &str) -> Option<u8>
+        ensures value { result ≡ place_named name.now self.now.state }
+        ensures within { IfSome result (λ s. s < length self.now.state.programs) }
+    {
+        let place = place_of_name(&self.programs, name)?;
+        Some(place as u8)
+    }
+
+    /// Adds a linear program without an objective, and answers its place, unless the first of these holds: the object is no
+    /// polytope (`NotPolytope`), a program of it has the name (`NameTaken`), it has four (`Full`). Nothing changes where
+    /// the answer is not Ok.
+    pub fn add_program(&mut self, alloc: Global, name: &str) -> Result<u8, ProgramFail>
+        requires name { IsTrue (is_name name.now) }
+        ensures place { IfOk result (λ s. s ≡ length self.old.state.programs) }
+        ensures ok { OnOk result (program_refusal self.old.state name.now ≡ None) }
+        ensures added { OnOk result (self.new.state ≡ with_program self.old.state name.now) }
+        ensures refused { IfErr result (λ e. e ≢ ProgramFail.Memory → program_refusal self.old.state name.now ≡ Some e) }
+        ensures unchanged { OnErr result (self.new.state ≡ self.old.state) }
+    {
+        self.may_add_program(name)?;
+        let place = self.programs();
+        let Ok(copy) = String::from_str(alloc, name) else {
+            return Err(ProgramFail::Memory);
+        };
+        if self.programs.push(copy).is_err() {
+            return Err(ProgramFail::Memory);
+        }
+        Ok(place)
+    }
+
+    // The first reason not to add a program of a name, if there is one.
+    fn may_add_program(&self, name: &str) -> Result<(), ProgramFail>
+        ensures ok { OnOk result (program_refusal self.now.state name.now ≡ None) }
+        ensures refused { IfErr result (λ e. program_refusal self.now.state name.now ≡ Some e) }
+    {
+        if self.of != ObjectType::Polytope {
+            return Err(ProgramFail::NotPolytope);
+        }
+        if self.program(name).is_some() {
+            return Err(ProgramFail::NameTaken);
+        }
+        if self.programs() >= MOST_PROGRAMS {
+            return Err(ProgramFail::Full);
+        }
+        Ok(())
     }
 
     /// The value of a property that is read by who asks this program, if one is asked; None exactly where none is held.
@@ -170,14 +252,39 @@ impl Object {
     /// fails the tests of its property, or its primitive row is not made within the range (`NotAThing`). Nothing changes where the answer is not Ok.
     pub fn take(&mut self, p: PropId, v: Value) -> Result<(), TakeFail>
         requires formed { IsTrue (is_formed p (view_of v)) }
-        ensures ok { OnOk result (CanTake self.old.state p (view_of v)) }
-        ensures added { OnOk result (self.new.state ≡ with_held self.old.state (record { place = None; property = p; value = view_of v; origin = Given } ∷ [])) }
-        ensures refused { IfErr result (λ e. e ≢ TakeFail.Memory → CannotTake self.old.state p (view_of v) e) }
+        ensures ok { OnOk result (CanTake self.old.state None p (view_of v)) }
+        ensures added { OnOk result (self.new.state ≡ with_held self.old.state (given_at None p (view_of v) ∷ [])) }
+        ensures refused { IfErr result (λ e. e ≢ TakeFail.Memory → CannotTake self.old.state None p (view_of v) e) }
         ensures unchanged { OnErr result (self.new.state ≡ self.old.state) }
     {
-        self.may_take(p, &v)?;
+        self.take_at(None, p, v)
+    }
+
+    /// The same for the linear program at a place: it is sealed where it holds a computed value or a round was started for
+    /// it, and takes its objective alone (`NotOfType` for any other property).
+    pub fn take_in(&mut self, sub: u8, p: PropId, v: Value) -> Result<(), TakeFail>
+        requires formed { IsTrue (is_formed p (view_of v)) }
+        requires place { sub < length self.old.state.programs }
+        ensures ok { OnOk result (CanTake self.old.state (Some sub) p (view_of v)) }
+        ensures added { OnOk result (self.new.state ≡ with_held self.old.state (given_at (Some sub) p (view_of v) ∷ [])) }
+        ensures refused { IfErr result (λ e. e ≢ TakeFail.Memory → CannotTake self.old.state (Some sub) p (view_of v) e) }
+        ensures unchanged { OnErr result (self.new.state ≡ self.old.state) }
+    {
+        self.take_at(Some(sub), p, v)
+    }
+
+    // Adds a given value to the object, or to the program at a place.
+    fn take_at(&mut self, sub: Option<u8>, p: PropId, v: Value) -> Result<(), TakeFail>
+        requires formed { IsTrue (is_formed p (view_of v)) }
+        requires place { IfSome sub (λ s. s < length self.old.state.programs) }
+        ensures ok { OnOk result (CanTake self.old.state sub p (view_of v)) }
+        ensures added { OnOk result (self.new.state ≡ with_held self.old.state (given_at sub p (view_of v) ∷ [])) }
+        ensures refused { IfErr result (λ e. e ≢ TakeFail.Memory → CannotTake self.old.state sub p (view_of v) e) }
+        ensures unchanged { OnErr result (self.new.state ≡ self.old.state) }
+    {
+        self.may_take(sub, p, &v)?;
         let given = Held {
-            place: None,
+            place: p.place(sub),
             id: p,
             value: v,
             origin: Origin::Given,
@@ -240,20 +347,22 @@ impl Object {
     }
 
     // The first reason not to take a given value, if there is one.
-    fn may_take(&self, p: PropId, v: &Value) -> Result<(), TakeFail>
+    fn may_take(&self, sub: Option<u8>, p: PropId, v: &Value) -> Result<(), TakeFail>
         requires formed { IsTrue (is_formed p (view_of v.now)) }
-        ensures ok { OnOk result (CanTake self.now.state p (view_of v.now)) }
-        ensures missing { OnOk result (is_held p (read_at None self.now.state.held) ≡ false) }
-        ensures fits { OnOk result (IsFormedIn self.now.state.of (cols_of self.now.state.held) (record { place = None; property = p; value = view_of v.now; origin = Given })) }
-        ensures refused { IfErr result (λ e. e ≢ TakeFail.Memory → CannotTake self.now.state p (view_of v.now) e) }
+        requires place { IfSome sub (λ s. s < length self.now.state.programs) }
+        ensures ok { OnOk result (CanTake self.now.state sub p (view_of v.now)) }
+        ensures missing { OnOk result (is_held p (read_at sub self.now.state.held) ≡ false) }
+        ensures fits { OnOk result (IsFormedIn self.now.state.of (cols_of self.now.state.held) (length self.now.state.programs) (given_at sub p (view_of v.now))) }
+        ensures given { OnOk result (IsTrue (is_given_at self.now.state.of sub p)) }
+        ensures refused { IfErr result (λ e. e ≢ TakeFail.Memory → CannotTake self.now.state sub p (view_of v.now) e) }
     {
-        if self.holds(None, p) {
+        if self.holds(sub, p) {
             return Err(TakeFail::AlreadyHeld);
         }
-        if self.is_sealed() {
+        if self.is_sealed_at(sub) {
             return Err(TakeFail::Sealed);
         }
-        if !p.is_in(self.of) {
+        if !is_given_at(self.of, sub, p) {
             return Err(TakeFail::NotOfType);
         }
         if !agrees(self.cols(), p, v) {
@@ -374,7 +483,7 @@ impl Object {
         }
     }
 
-    /// An object that holds the same, with the same exclusions, rounds and disabled labels.
+    /// An object that holds the same, with the same exclusions, rounds, disabled labels and linear programs.
     pub fn copy(&self, alloc: Global) -> Result<Object, AllocError>
         ensures { IfOk result (λ o. o.state ≡ self.now.state) }
     {
@@ -384,6 +493,7 @@ impl Object {
             excluded: copy_excluded(alloc, &self.excluded)?,
             rounds: copy_rounds(alloc, &self.rounds)?,
             disabled: copy_labels(alloc, &self.disabled)?,
+            programs: copy_labels(alloc, &self.programs)?,
         })
     }
 
@@ -428,11 +538,13 @@ impl Object {
         self.held.reserve(more)
     }
 
-    /// Adds a computed value of a property that is not held there, of an object with room for it. Takes no memory.
+    /// Adds a computed value of a property that is not held there, of an object with room for it. One of a program that
+    /// speaks of the order of the rays is added only where a value of the object itself does. Takes no memory.
     pub fn add_computed(&mut self, sub: Option<u8>, p: PropId, v: Value)
         requires room { 0 < self.old.spare }
         requires missing { is_held p (read_at sub self.old.state.held) ≡ false }
-        requires formed { IsFormedIn self.old.state.of (cols_of self.old.state.held) (computed_at sub p (view_of v)) }
+        requires formed { IsFormedIn self.old.state.of (cols_of self.old.state.held) (length self.old.state.programs) (computed_at sub p (view_of v)) }
+        requires backed { IsBacked p self.old.state.held }
         ensures added { self.new.state ≡ with_held self.old.state (computed_at sub p (view_of v) ∷ []) }
         ensures spare { self.old.spare ≤ self.new.spare + 1 }
     {
@@ -453,6 +565,53 @@ fn are_alone(facets: bool, points: bool, inequalities: bool, vertices: bool, hul
     ensures { result ≡ (facets && not points && not inequalities && not vertices && not hull) }
 {
     facets && !points && !inequalities && !vertices && !hull
+}
+
+// Whether a value of the property may be given to the object, or to a program of it.
+fn is_given_at(of: ObjectType, sub: Option<u8>, p: PropId) -> bool
+    ensures { result ≡ is_given_at of sub p }
+{
+    match sub {
+        None => p.is_in(of),
+        Some(_) => p == PropId::LinearObjective,
+    }
+}
+
+// Whether a computed value stands in the program at the place.
+fn holds_computed(held: &[Held], place: u8) -> bool
+    ensures { result ≡ holds_computed_at (Some place) (map held_seen held.now) }
+{
+    for h in held {
+        if h.origin == Origin::Computed && h.place == Some(place) {
+            return true;
+        }
+    }
+    false
+}
+
+// Whether a round was started for the program at the place.
+fn has_rounds_for(rounds: &[Round], place: u8) -> bool
+    ensures { result ≡ has_rounds_at (Some place) (map round_seen rounds.now) }
+{
+    for r in rounds {
+        if r.sub == Some(place) {
+            return true;
+        }
+    }
+    false
+}
+
+// The place of a name in a list.
+fn place_of_name(names: &[String], name: &str) -> Option<usize>
+    ensures value { result ≡ place_from 0 name.now (map string_bytes names.now) }
+    ensures within { IfSome result (λ s. s < length names.now) }
+{
+    for (i, other) in names.iter().enumerate() {
+        if other.as_str() == name {
+            return Some(i);
+        }
+    }
+    None
 }
 
 // Whether one of the values is stored.

@@ -17,10 +17,11 @@ use Rattle.pm_geom.specs.Programs.{IsTimes}
 use Rattle.pm_matrix.specs.FractionRows.{IsLeastDenominator, IsPrimitiveRowOf}
 use Rattle.pm_optima.proofs.Optima.{finite_optimum, none_optimum}
 use Rattle.pm_optima.specs.Examples.{EvidenceIsRead, ObjectivesAreRead, QuotientsAreRead, SensesAreRead, along, best_at, ends, x_alone}
-use Rattle.pm_optima.specs.Objectives.{AreZeroPlaces, IsLevelRow, IsPrimitiveLevel, IsScaleOf}
+use Rattle.pm_optima.specs.Objectives.{AreZeroPlaces, IsPrimitiveLevel, IsScaleOf}
+use Rattle.pm_simplex.specs.OptimumEvidence.{IsLevelRow}
 use Rattle.pm_optima.specs.Quotients.{Grows, HasNone, IsBest, Rises, Turns}
-use Rattle.pm_optima.specs.Senses.{IsOptimum}
-use Rattle.pm_optima.specs.declared.sense.Sense.TheVariants.{Maximal, Minimal}
+use Rattle.pm_simplex.specs.Senses.{IsOptimum}
+use Rattle.pm_simplex.specs.declared.sense.Sense.TheVariants.{Maximal, Minimal}
 use Rattle.pm_types.specs.Values.{finite, minus_infinity, plus_infinity}
 use Rattle.std.proofs.Common.{ap, arith, inl, inr, refl, suc, sym, zero, ◌∙◌}
 use Rattle.std.proofs.lemmas.Int.{ints}

@@ -6,12 +6,13 @@ use Rattle.pm_geom.specs.Faces.{ray}
 use Rattle.pm_geom.specs.declared.evidence.Evidence.TheVariants.{E4}
 use Rattle.pm_matrix.specs.FractionRows.{IsPrimitiveRowOf}
 use Rattle.pm_optima.proofs.Levels.{level_vanishes, scale_of}
-use Rattle.pm_optima.proofs.Turned.{objective_length, turned_scale, value_of_ratio}
-use Rattle.pm_optima.specs.Evidence.{IsWideLevel, ShowsFace, ShowsProduct}
+use Rattle.pm_optima.proofs.Turned.{turned_scale}
+use Rattle.pm_simplex.proofs.Senses.{objective_length, value_of_ratio}
+use Rattle.pm_simplex.specs.OptimumEvidence.{IsWideLevel, ShowsFace, ShowsProduct}
 use Rattle.pm_optima.specs.Objectives.{AreZeroPlaces, IsPrimitiveLevel, IsScaleOf}
-use Rattle.pm_optima.specs.Senses.{objective_in, ratio_in, row_in, value_in}
-use Rattle.pm_optima.specs.declared.sense.Sense.TheVariants.{Maximal, Minimal}
-use Rattle.pm_optima.specs.declared.sense.Sense.{Sense}
+use Rattle.pm_simplex.specs.Senses.{objective_in, ratio_in, row_in, value_in}
+use Rattle.pm_simplex.specs.declared.sense.Sense.TheVariants.{Maximal, Minimal}
+use Rattle.pm_simplex.specs.declared.sense.Sense.{Sense}
 use Rattle.pm_simplex.specs.Fails.{IfWide}
 use Rattle.pm_simplex.specs.declared.fails.LpFail.TheVariants as fail
 use Rattle.pm_simplex.specs.declared.fails.LpFail.{LpFail}

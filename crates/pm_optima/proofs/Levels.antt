@@ -9,7 +9,8 @@ use Rattle.pm_elim.proofs.ExtendedLaws.{length-unit, unit_one, unit_zero}
 use Rattle.pm_elim.specs.Evidence.{unit}
 use Rattle.pm_geom.specs.Programs.{IsTimes}
 use Rattle.pm_optima.proofs.Maxima.{products}
-use Rattle.pm_optima.specs.Objectives.{IsLevelRow, IsScaleOf}
+use Rattle.pm_optima.specs.Objectives.{IsScaleOf}
+use Rattle.pm_simplex.specs.OptimumEvidence.{IsLevelRow}
 use Rattle.pm_types.specs.Programs.{HasValueAt}
 use Rattle.std.proofs.Common.{ap, arith, suc, sym, zero, ◌∙◌}
 use Rattle.std.proofs.lemmas.Int.{ints}

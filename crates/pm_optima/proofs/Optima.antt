@@ -11,13 +11,14 @@ use Rattle.pm_geom.specs.declared.evidence.Evidence.{Evidence}
 use Rattle.pm_matrix.specs.FractionRows.{IsPrimitiveRowOf}
 use Rattle.pm_optima.proofs.ByRays.{grows_found, maximum_at, maximum_found, no_point_found}
 use Rattle.pm_optima.proofs.Lists.{products_length}
-use Rattle.pm_optima.proofs.Turned.{objective_length, turned_products, turned_scale, value_twice}
-use Rattle.pm_optima.specs.Evidence.{IsWideMaximum, ShowsProduct, ShowsValue}
+use Rattle.pm_optima.proofs.Turned.{turned_products, turned_scale}
+use Rattle.pm_simplex.proofs.Senses.{objective_length, value_twice}
+use Rattle.pm_simplex.specs.OptimumEvidence.{IsWideMaximum, ShowsProduct, ShowsValue}
 use Rattle.pm_optima.specs.Objectives.{IsScaleOf}
 use Rattle.pm_optima.specs.Quotients.{Grows, HasNone, IsBest}
-use Rattle.pm_optima.specs.Senses.{IsOptimum, objective_in, row_in, value_in}
+use Rattle.pm_simplex.specs.Senses.{IsOptimum, objective_in, row_in, value_in}
 use Rattle.pm_optima.specs.declared.quotients.Best.{Best}
-use Rattle.pm_optima.specs.declared.sense.Sense.{Sense}
+use Rattle.pm_simplex.specs.declared.sense.Sense.{Sense}
 use Rattle.pm_simplex.specs.Fails.{IfWide}
 use Rattle.pm_simplex.specs.declared.fails.LpFail.TheVariants as fail
 use Rattle.pm_simplex.specs.declared.fails.LpFail.{LpFail}

@@ -3,7 +3,7 @@ use Rattle.pm_algebra.specs.Rows.{Row}
 use Rattle.pm_bases.specs.Bases.{row_at}
 use Rattle.pm_geom.specs.Evidence.{IsWideProduct}
 use Rattle.pm_geom.specs.declared.evidence.Evidence.TheVariants.{E4}
-use Rattle.pm_optima.specs.Evidence.{ShowsProduct}
+use Rattle.pm_simplex.specs.OptimumEvidence.{ShowsProduct}
 use Rattle.pm_simplex.specs.Fails.{IfWide}
 use Rattle.pm_simplex.specs.declared.fails.LpFail.TheVariants as fail
 use Rattle.pm_simplex.specs.declared.fails.LpFail.{LpFail}

@@ -4,12 +4,12 @@ use Rattle.pm_algebra.specs.Numbers.{Ratio}
 use Rattle.pm_algebra.specs.Rows.{Row}
 use Rattle.pm_geom.specs.ProgramExamples.{ratio, row, wholes}
 use Rattle.pm_geom.specs.declared.evidence.Evidence.TheVariants.{E4, E5Rows}
-use Rattle.pm_optima.specs.Evidence.{ShowsLevel, ShowsMaximum, ShowsProduct}
-use Rattle.pm_optima.specs.Objectives.{AreZeroPlaces, IsLevelRow, IsPrimitiveLevel, IsScaleOf}
+use Rattle.pm_simplex.specs.OptimumEvidence.{IsLevelRow, ShowsLevel, ShowsMaximum, ShowsProduct}
+use Rattle.pm_optima.specs.Objectives.{AreZeroPlaces, IsPrimitiveLevel, IsScaleOf}
 use Rattle.pm_optima.specs.Quotients.{Grows, HasNone, IsBest, IsBestOf, Rises, Turns}
-use Rattle.pm_optima.specs.Senses.{IsOptimum, objective_in, ratio_in, row_in, value_in}
+use Rattle.pm_simplex.specs.Senses.{IsOptimum, objective_in, ratio_in, row_in, value_in}
 use Rattle.pm_optima.specs.declared.quotients.Best.{Best}
-use Rattle.pm_optima.specs.declared.sense.Sense.TheVariants.{Maximal, Minimal}
+use Rattle.pm_simplex.specs.declared.sense.Sense.TheVariants.{Maximal, Minimal}
 use Rattle.pm_types.specs.Values.{finite, minus_infinity, plus_infinity}
 use Rattle.std.specs.Prelude.{List, None, Some, [], ℕ, ◌∷◌, ◌≡◌, ◌^◌}
 use lib.IntN.{negsuc, pos}

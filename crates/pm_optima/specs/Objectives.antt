@@ -1,12 +1,11 @@
 -- An objective and the primitive whole row in its direction; and the row that vanishes where it has a value.
 use Rattle.pm_algebra.specs.Numbers.{Ratio}
 use Rattle.pm_algebra.specs.Rows.{Row, Stands, dot, entry, ratio_at}
-use Rattle.pm_fraction.specs.Arithmetic.{opposite_of, sum_of}
-use Rattle.pm_fraction.specs.Fractions.{IsLowestTermsOf}
 use Rattle.pm_geom.specs.Faces.{ray}
 use Rattle.pm_matrix.specs.FractionRows.{IsPrimitiveRowOf}
+use Rattle.pm_simplex.specs.OptimumEvidence.{IsLevelRow}
 use Rattle.std.specs.List.{AllPairs, Contains}
-use Rattle.std.specs.Prelude.{List, length, map, suc, ℕ, ◌<◌, ◌≡◌, ◌↔◌}
+use Rattle.std.specs.Prelude.{List, length, map, ℕ, ◌<◌, ◌≡◌, ◌↔◌}
 use lib.IntN.{pos, ℤ, ◌*ℤ◌}
 use lib.Signed.{◌<ℤ◌}
 
@@ -18,13 +17,7 @@ pub record IsScaleOf (c : List Ratio) (w : Row) (s : Ratio) : Type 0 where
   pub denominators : (i : ℕ) → i < length c → pos 0 <ℤ (ratio_at c i).den
   pub same : (i : ℕ) → i < length c → s.num *ℤ (entry w i *ℤ (ratio_at c i).den) ≡ s.den *ℤ (ratio_at c i).num
 
--- r is the row v e0 - c of fractions in lowest terms, which vanishes where c has the value v
-pub record IsLevelRow (c : List Ratio) (v : Ratio) (r : List Ratio) : Type 0 where
-  pub cols : length r ≡ length c
-  pub first : IsLowestTermsOf (sum_of v (opposite_of (ratio_at c 0))) (ratio_at r 0)
-  pub others : (i : ℕ) → suc i < length c → ratio_at r (suc i) ≡ opposite_of (ratio_at c (suc i))
-
--- w is the primitive row of that row
+-- w is the primitive row of the row v e0 - c
 pub record IsPrimitiveLevel (c : List Ratio) (v : Ratio) (w : Row) : Type 0 where
   pub fractions : List Ratio
   pub level : IsLevelRow c v fractions

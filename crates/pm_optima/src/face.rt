@@ -3,9 +3,9 @@
 ghost use Rattle.pm_algebra.specs.Rows.{HasCols, ratio_at};
 ghost use Rattle.pm_elim.specs.Evidence.{unit};
 ghost use Rattle.pm_fraction.specs.Arithmetic.{opposite_of};
-ghost use Rattle.pm_optima.specs.Evidence.{IsWideLevel, ShowsFace, ShowsProduct};
+ghost use Rattle.pm_simplex.specs.OptimumEvidence.{IsWideLevel, ShowsFace, ShowsProduct};
 ghost use Rattle.pm_optima.specs.Objectives.{AreZeroPlaces, IsPrimitiveLevel};
-ghost use Rattle.pm_optima.specs.Senses.{objective_in, ratio_in, value_in};
+ghost use Rattle.pm_simplex.specs.Senses.{objective_in, ratio_in, value_in};
 ghost use Rattle.pm_simplex.specs.Fails.{IfWide};
 ghost use Rattle.pm_types.specs.Forms.{HasPrimitiveRow, is_counts_form};
 ghost use Rattle.pm_types.specs.Programs.{ArePlacesOfValue};
@@ -14,10 +14,9 @@ ghost use Rattle.std.specs.Prelude.{IfErr, IfNone, IfOk, IfSome, IsTrue, length,
 
 use crate::objective::primitive_objective;
 use crate::products::wide_pair;
-use crate::sense::Sense;
 use pm_fraction::Fraction;
 use pm_matrix::{RowFail, primitive_row};
-use pm_simplex::LpFail;
+use pm_simplex::{LpFail, Sense};
 use pm_vector::{Ints, Wide, dot};
 use std::alloc::{AllocError, Global};
 

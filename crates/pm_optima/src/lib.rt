@@ -8,11 +8,10 @@ mod objective;
 mod products;
 mod quotients;
 mod rays;
-mod sense;
 
 pub use face::places_of_value;
+pub use pm_simplex::Sense;
 pub use rays::value_at_rays;
-pub use sense::Sense;
 
 /// The greatest value, the least value, and what the opposites are.
 pub fn example_senses()

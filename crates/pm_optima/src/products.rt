@@ -2,7 +2,7 @@
 
 ghost use Rattle.pm_algebra.specs.Rows.{HasCols, dot as dot_of};
 ghost use Rattle.pm_geom.specs.declared.evidence.Evidence.TheVariants.{E4};
-ghost use Rattle.pm_optima.specs.Evidence.{ShowsProduct};
+ghost use Rattle.pm_simplex.specs.OptimumEvidence.{ShowsProduct};
 ghost use Rattle.pm_simplex.specs.Fails.{IfWide};
 ghost use Rattle.pm_simplex.specs.declared.fails.LpFail.TheVariants as fail;
 ghost use Rattle.std.specs.Prelude.{IfErr, IfOk, length, map, ◌≡◌};

@@ -2,8 +2,8 @@
 
 ghost use Rattle.pm_algebra.specs.Cones.{InCone};
 ghost use Rattle.pm_algebra.specs.Rows.{HasCols, entry};
-ghost use Rattle.pm_optima.specs.Evidence.{ShowsValue};
-ghost use Rattle.pm_optima.specs.Senses.{IsOptimum};
+ghost use Rattle.pm_simplex.specs.OptimumEvidence.{ShowsValue};
+ghost use Rattle.pm_simplex.specs.Senses.{IsOptimum};
 ghost use Rattle.pm_simplex.specs.Fails.{IfWide};
 ghost use Rattle.pm_types.specs.Forms.{HasPrimitiveRow};
 ghost use Rattle.pm_types.specs.Views.{extended_of};
@@ -12,9 +12,8 @@ ghost use Rattle.std.specs.Prelude.{All, IfErr, IfOk, length, pos, ◌<◌, ◌�
 use crate::objective::{primitive_objective, scale};
 use crate::products::{products, wide_pair};
 use crate::quotients::{greatest_quotient, grows};
-use crate::sense::Sense;
 use pm_fraction::Fraction;
-use pm_simplex::LpFail;
+use pm_simplex::{LpFail, Sense};
 use pm_types::Number;
 use pm_vector::Ints;
 use std::alloc::Global;

@@ -3,3 +3,5 @@
 
 #[cfg(test)]
 mod optima;
+#[cfg(test)]
+mod programs;

@@ -15,7 +15,7 @@ use std::process::Abort;
 
 /// What is expected: a value, an infinity, or that a number leaves the range.
 #[derive(Clone, Copy)]
-enum Expected {
+pub(crate) enum Expected {
     Value(i128, i128),
     Plus,
     Minus,
@@ -190,7 +190,7 @@ const FACES: &[Face] = &[
     ),
 ];
 
-fn whole_rows(rt: &impl Abort, alloc: Global, table: &[&[i128]]) -> Vec<Ints> {
+pub(crate) fn whole_rows(rt: &impl Abort, alloc: Global, table: &[&[i128]]) -> Vec<Ints> {
     let mut rows = Vec::new(alloc);
     for entries in table {
         let mut row = Ints::new(alloc);
@@ -204,11 +204,11 @@ fn whole_rows(rt: &impl Abort, alloc: Global, table: &[&[i128]]) -> Vec<Ints> {
     rows
 }
 
-fn fraction(rt: &impl Abort, parts: (i128, i128)) -> Fraction {
+pub(crate) fn fraction(rt: &impl Abort, parts: (i128, i128)) -> Fraction {
     Fraction::new(parts.0, parts.1).expect(rt, "a fraction")
 }
 
-fn fractions(rt: &impl Abort, alloc: Global, parts: &[(i128, i128)]) -> Vec<Fraction> {
+pub(crate) fn fractions(rt: &impl Abort, alloc: Global, parts: &[(i128, i128)]) -> Vec<Fraction> {
     let mut row = Vec::new(alloc);
     for pair in parts {
         row.push(fraction(rt, *pair))
@@ -228,7 +228,7 @@ fn has_primitive_row(alloc: Global, row: &[Fraction]) -> bool
 }
 
 /// Whether each row has as many entries.
-fn have_cols(rows: &[Ints], cols: usize) -> bool
+pub(crate) fn have_cols(rows: &[Ints], cols: usize) -> bool
     ensures { IsTrue result → HasCols cols rows.now }
 {
     for i in 0..rows.len() {
@@ -297,7 +297,7 @@ fn is_number(number: Number, expected: Expected) -> bool {
 }
 
 /// Whether the answer is as expected.
-fn fits(answer: Result<Number, LpFail>, expected: Expected) -> bool {
+pub(crate) fn fits(answer: Result<Number, LpFail>, expected: Expected) -> bool {
     match answer {
         Ok(number) => is_number(number, expected),
         Err(LpFail::Wide(evidence)) => {

@@ -10,7 +10,7 @@ use Rattle.pm_algebra.specs.Divisors.{IsPrimitive}
 use Rattle.pm_algebra.specs.Rows.{Row, Stands, dot, entry, plus, times}
 use Rattle.pm_geom.proofs.Apart.{not_below, not_below_at, products}
 use Rattle.pm_geom.specs.Programs.{IsAttained, IsNotExceeded, IsTimes, IsWithoutBound}
-use Rattle.pm_relations.proofs.Standing.{length_ratios, ratio_at_ratios}
+use Rattle.pm_types.proofs.WholeRows.{length_ratios, ratio_at_ratios}
 use Rattle.pm_types.specs.Programs.{HasValueAt}
 use Rattle.pm_types.specs.Views.{ratios}
 use Rattle.std.proofs.Common.{T, ap, arith, inl, inr, refl, subst, sym, ◌∙◌}

@@ -110,7 +110,7 @@ const STANDARD: &[Asked] = &[
     (&[], Some((0, 5)), true),
     (&[], Some((0, 6)), false),
     (&[], None, false),
-    (&[RuleId(27)], None, true),
+    (&[RuleId(30)], None, true),
     (&[RuleId(0)], None, false),
 ];
 

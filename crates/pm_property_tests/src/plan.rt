@@ -276,11 +276,11 @@ fn standard_answer(
 fn the_standard_book(rt: HostRuntime) {
     let held = [PropId::Vertices, PropId::Facets];
     let answer = standard_answer(&rt, names_of_cones(), &held, PropId::VerticesInFacets);
-    assert!(rt; is_planned(answer, &[RuleId(27)], minor(5), 1));
+    assert!(rt; is_planned(answer, &[RuleId(30)], minor(5), 1));
 }
 
 // The rules `cone_dim_v` and `lineality_dim`, in either order before `combinatorial_dim`.
-const DIMENSIONS: &[RuleId] = &[RuleId(12), RuleId(15), RuleId(16)];
+const DIMENSIONS: &[RuleId] = &[RuleId(14), RuleId(17), RuleId(18)];
 
 // The dimension of a polytope from its vertices. Below 6 there are CONE_DIM, LINEALITY_DIM, both, AFFINE_HULL, and
 // POINTS with INPUT_LINEALITY.

@@ -193,6 +193,8 @@ const STANDARD_BOOK: &str =
     dd_facets : rule FACETS, AFFINE_HULL : POINTS, INPUT_LINEALITY { dd_facets } weight 40;\n\
     dd_facets_v : rule FACETS, AFFINE_HULL : VERTICES, LINEALITY_SPACE { dd_facets_v } weight 30;\n\
     dd_vertices_f : rule VERTICES, LINEALITY_SPACE : FACETS, AFFINE_HULL { dd_vertices_f } weight 30;\n\
+    thin_points_lp : rule VERTICES, LINEALITY_SPACE : POINTS, INPUT_LINEALITY { thin_points_lp } weight 60;\n\
+    thin_inequalities_lp : rule FACETS, AFFINE_HULL : INEQUALITIES, EQUATIONS { thin_inequalities_lp } weight 60;\n\
     thin_points_f : rule VERTICES, LINEALITY_SPACE : POINTS, INPUT_LINEALITY, FACETS, AFFINE_HULL { thin_points_f } weight 10;\n\
     thin_inequalities_v : rule FACETS, AFFINE_HULL : INEQUALITIES, EQUATIONS, VERTICES, LINEALITY_SPACE { thin_inequalities_v } weight 10;\n\
     vertices_from_sets : rule VERTICES : FACETS, AFFINE_HULL, VERTICES_IN_FACETS { vertices_from_sets } weight 20;\n\
@@ -211,6 +213,7 @@ const STANDARD_BOOK: &str =
     n_facets : rule N_FACETS : FACETS { n_facets } weight 1;\n\
     n_facets_sets : rule N_FACETS : VERTICES_IN_FACETS { n_facets_sets } weight 1;\n\
     feasible : rule FEASIBLE : CONE_DIM { feasible } weight 1;\n\
+    feasible_lp : rule FEASIBLE : INEQUALITIES, EQUATIONS { feasible_lp } weight 15;\n\
     bounded : rule BOUNDED : VERTICES, LINEALITY_SPACE { bounded } weight 1;\n\
     far_face : rule FAR_FACE : VERTICES { far_face } weight 1;\n\
     pointed : rule POINTED : LINEALITY_DIM { pointed } weight 1;\n\
@@ -232,7 +235,20 @@ const STANDARD_BOOK: &str =
     diameter : rule DIAMETER : GRAPH { diameter } weight 4;\n\
     dual_diameter : rule DUAL_DIAMETER : DUAL_GRAPH { dual_diameter } weight 4;\n\
     n_edges : rule N_EDGES : GRAPH { n_edges } weight 1;\n\
-    n_ridges : rule N_RIDGES : DUAL_GRAPH { n_ridges } weight 1;\n";
+    n_ridges : rule N_RIDGES : DUAL_GRAPH { n_ridges } weight 1;\n\
+    lp_max : rule LP.MAXIMAL_VALUE, LP.MAXIMAL_DUAL : FACETS, AFFINE_HULL, LP.LINEAR_OBJECTIVE { lp_max } weight 20;\n\
+    lp_min : rule LP.MINIMAL_VALUE, LP.MINIMAL_DUAL : FACETS, AFFINE_HULL, LP.LINEAR_OBJECTIVE { lp_min } weight 20;\n\
+    lp_max_rows : rule LP.MAXIMAL_VALUE : INEQUALITIES, EQUATIONS, LP.LINEAR_OBJECTIVE { lp_max_rows } weight 25;\n\
+    lp_min_rows : rule LP.MINIMAL_VALUE : INEQUALITIES, EQUATIONS, LP.LINEAR_OBJECTIVE { lp_min_rows } weight 25;\n\
+    lp_max_v : rule LP.MAXIMAL_VALUE : VERTICES, LINEALITY_SPACE, LP.LINEAR_OBJECTIVE { lp_max_v } weight 6;\n\
+    lp_min_v : rule LP.MINIMAL_VALUE : VERTICES, LINEALITY_SPACE, LP.LINEAR_OBJECTIVE { lp_min_v } weight 6;\n\
+    lp_max_face : rule LP.MAXIMAL_FACE : VERTICES, LP.LINEAR_OBJECTIVE, LP.MAXIMAL_VALUE { lp_max_face } weight 3;\n\
+    lp_min_face : rule LP.MINIMAL_FACE : VERTICES, LP.LINEAR_OBJECTIVE, LP.MINIMAL_VALUE { lp_min_face } weight 3;\n\
+    fan_dims : rule MAXIMAL_CONES_DIMS : VERTICES, LINEALITY_SPACE, MAXIMAL_CONES { fan_dims } weight 4;\n\
+    fan_dim : rule FAN_DIM : MAXIMAL_CONES_DIMS { fan_dim } weight 1;\n\
+    fan_pure : rule PURE : MAXIMAL_CONES_DIMS { fan_pure } weight 1;\n\
+    fan_simplicial : rule SIMPLICIAL : LINEALITY_DIM, MAXIMAL_CONES, MAXIMAL_CONES_DIMS { fan_simplicial } weight 1;\n\
+    fan_size : rule N_MAXIMAL_CONES : MAXIMAL_CONES { fan_size } weight 1;\n";
 
 fn standard(rt: &(impl Abort + AllocGlobal)) -> Book {
     standard_book(rt.alloc()).expect(rt, "the book")
@@ -250,7 +266,7 @@ fn the_standard_book_is_read_back(rt: HostRuntime) {
 }
 
 // The rule for incidences, and properties of a cone with both descriptions.
-const INCIDENCE: RuleId = RuleId(27);
+const INCIDENCE: RuleId = RuleId(30);
 
 const BOTH: &[PropId] = &[PropId::Vertices, PropId::Facets];
 

@@ -13,7 +13,6 @@ pub fn value_of(rt: &(impl Abort + AllocGlobal), p: PropId, text: &str) -> Value
     ensures { IsTrue (is_formed p (view_of result)) }
 {
     let json = serde_json::Value::from_str(rt.alloc(), text).expect(rt, "JSON");
-    assert!(rt; p.row().is_accepted);
     read_value(rt.alloc(), p, &json).expect(rt, "a value")
 }
 

@@ -16,7 +16,7 @@ use Rattle.pm_props.specs.declared.property.Tables.TheVariants as tables
 use Rattle.pm_props.specs.declared.property.ValueKind.{ValueKind}
 use Rattle.pm_props.specs.declared.property.ValueKind.TheVariants as kind
 
--- a property of one name, which speaks of no order, describes nothing, and is not accepted yet
+-- a property of one name, which speaks of no order and describes nothing
 abbrev pub plain : ℕ → List ℕ → ValueKind → Tables → RowSeen
 plain number name kind tables = record {
   number = number;
@@ -31,47 +31,46 @@ plain number name kind tables = record {
   is_half = false;
   columns = columns.Free;
   test = test.Any;
-  is_accepted = false;
 }
 
 -- the table
 abbrev pub row : PropId → RowSeen
-row ConeAmbientDim = record (plain 0 (codes "CONE_AMBIENT_DIM") kind.Int tables.All) { fan_name = codes "FAN_AMBIENT_DIM"; columns = columns.Value; is_accepted = true }
-row Points = record (plain 1 (codes "POINTS") kind.Mat tables.PolytopesAndCones) { cone_name = codes "INPUT_RAYS"; describes = describes.Generators; is_half = true; columns = columns.Rows; test = test.Point; is_accepted = true }
-row InputLineality = record (plain 2 (codes "INPUT_LINEALITY") kind.Mat tables.PolytopesAndCones) { describes = describes.Generators; is_half = true; columns = columns.Rows; test = test.Line; is_accepted = true }
-row Inequalities = record (plain 3 (codes "INEQUALITIES") kind.Mat tables.PolytopesAndCones) { describes = describes.HalfSpaces; is_half = true; columns = columns.Rows; is_accepted = true }
-row Equations = record (plain 4 (codes "EQUATIONS") kind.Mat tables.PolytopesAndCones) { describes = describes.HalfSpaces; is_half = true; columns = columns.Rows; is_accepted = true }
-row Vertices = record (plain 5 (codes "VERTICES") kind.Mat tables.All) { cone_name = codes "RAYS"; fan_name = codes "RAYS"; speaks_of_rays = true; describes = describes.Generators; columns = columns.Rows; test = test.Ray; is_accepted = true }
-row LinealitySpace = record (plain 6 (codes "LINEALITY_SPACE") kind.Mat tables.All) { describes = describes.Generators; columns = columns.Rows; test = test.Line; is_accepted = true }
-row Facets = record (plain 7 (codes "FACETS") kind.Mat tables.PolytopesAndCones) { speaks_of_facets = true; describes = describes.HalfSpaces; columns = columns.Rows; test = test.NotZero; is_accepted = true }
-row AffineHull = record (plain 8 (codes "AFFINE_HULL") kind.Mat tables.PolytopesAndCones) { cone_name = codes "LINEAR_SPAN"; describes = describes.HalfSpaces; columns = columns.Rows; is_accepted = true }
-row VerticesInFacets = record (plain 9 (codes "VERTICES_IN_FACETS") kind.Sets tables.PolytopesAndCones) { cone_name = codes "RAYS_IN_FACETS"; speaks_of_rays = true; speaks_of_facets = true; is_accepted = true }
-row ConeDim = record (plain 10 (codes "CONE_DIM") kind.Int tables.PolytopesAndCones) { is_accepted = true }
-row LinealityDim = record (plain 11 (codes "LINEALITY_DIM") kind.Int tables.All) { is_accepted = true }
-row CombinatorialDim = record (plain 12 (codes "COMBINATORIAL_DIM") kind.Int tables.PolytopesAndCones) { is_accepted = true }
-row NVertices = record (plain 13 (codes "N_VERTICES") kind.Int tables.All) { cone_name = codes "N_RAYS"; fan_name = codes "N_RAYS"; is_accepted = true }
-row NFacets = record (plain 14 (codes "N_FACETS") kind.Int tables.PolytopesAndCones) { is_accepted = true }
-row Feasible = record (plain 15 (codes "FEASIBLE") kind.Bool tables.Polytopes) { is_accepted = true }
-row Bounded = record (plain 16 (codes "BOUNDED") kind.Bool tables.Polytopes) { is_accepted = true }
-row Pointed = record (plain 17 (codes "POINTED") kind.Bool tables.All) { is_accepted = true }
-row FullDim = record (plain 18 (codes "FULL_DIM") kind.Bool tables.PolytopesAndCones) { is_accepted = true }
-row Centered = record (plain 19 (codes "CENTERED") kind.Bool tables.Polytopes) { is_accepted = true }
-row Simple = record (plain 20 (codes "SIMPLE") kind.Bool tables.PolytopesAndCones) { is_accepted = true }
-row Simplicial = record (plain 21 (codes "SIMPLICIAL") kind.Bool tables.All) { is_accepted = true }
-row VertexSizes = record (plain 22 (codes "VERTEX_SIZES") kind.Counts tables.PolytopesAndCones) { cone_name = codes "RAY_SIZES"; speaks_of_rays = true; is_accepted = true }
-row FacetSizes = record (plain 23 (codes "FACET_SIZES") kind.Counts tables.PolytopesAndCones) { speaks_of_facets = true; is_accepted = true }
-row HasseDiagram = record (plain 24 (codes "HASSE_DIAGRAM") kind.Lattice tables.PolytopesAndCones) { speaks_of_rays = true; is_accepted = true }
-row FVector = record (plain 25 (codes "F_VECTOR") kind.Counts tables.PolytopesAndCones) { is_accepted = true }
-row F2Vector = record (plain 26 (codes "F2_VECTOR") kind.Mat tables.PolytopesAndCones) { is_accepted = true }
-row HVector = record (plain 27 (codes "H_VECTOR") kind.Counts tables.Polytopes) { is_accepted = true }
-row Graph = record (plain 28 (codes "GRAPH") kind.Edges tables.PolytopesAndCones) { speaks_of_rays = true; is_accepted = true }
-row DualGraph = record (plain 29 (codes "DUAL_GRAPH") kind.Edges tables.PolytopesAndCones) { speaks_of_facets = true; is_accepted = true }
-row Diameter = record (plain 30 (codes "DIAMETER") kind.Int tables.PolytopesAndCones) { is_accepted = true }
-row DualDiameter = record (plain 31 (codes "DUAL_DIAMETER") kind.Int tables.PolytopesAndCones) { is_accepted = true }
-row NEdges = record (plain 32 (codes "N_EDGES") kind.Int tables.PolytopesAndCones) { is_accepted = true }
-row NRidges = record (plain 33 (codes "N_RIDGES") kind.Int tables.PolytopesAndCones) { is_accepted = true }
-row VertexDegrees = record (plain 34 (codes "VERTEX_DEGREES") kind.Counts tables.PolytopesAndCones) { cone_name = codes "RAY_DEGREES"; speaks_of_rays = true; is_accepted = true }
-row FarFace = record (plain 35 (codes "FAR_FACE") kind.Counts tables.Polytopes) { speaks_of_rays = true; is_accepted = true }
+row ConeAmbientDim = record (plain 0 (codes "CONE_AMBIENT_DIM") kind.Int tables.All) { fan_name = codes "FAN_AMBIENT_DIM"; columns = columns.Value }
+row Points = record (plain 1 (codes "POINTS") kind.Mat tables.PolytopesAndCones) { cone_name = codes "INPUT_RAYS"; describes = describes.Generators; is_half = true; columns = columns.Rows; test = test.Point }
+row InputLineality = record (plain 2 (codes "INPUT_LINEALITY") kind.Mat tables.PolytopesAndCones) { describes = describes.Generators; is_half = true; columns = columns.Rows; test = test.Line }
+row Inequalities = record (plain 3 (codes "INEQUALITIES") kind.Mat tables.PolytopesAndCones) { describes = describes.HalfSpaces; is_half = true; columns = columns.Rows }
+row Equations = record (plain 4 (codes "EQUATIONS") kind.Mat tables.PolytopesAndCones) { describes = describes.HalfSpaces; is_half = true; columns = columns.Rows }
+row Vertices = record (plain 5 (codes "VERTICES") kind.Mat tables.All) { cone_name = codes "RAYS"; fan_name = codes "RAYS"; speaks_of_rays = true; describes = describes.Generators; columns = columns.Rows; test = test.Ray }
+row LinealitySpace = record (plain 6 (codes "LINEALITY_SPACE") kind.Mat tables.All) { describes = describes.Generators; columns = columns.Rows; test = test.Line }
+row Facets = record (plain 7 (codes "FACETS") kind.Mat tables.PolytopesAndCones) { speaks_of_facets = true; describes = describes.HalfSpaces; columns = columns.Rows; test = test.NotZero }
+row AffineHull = record (plain 8 (codes "AFFINE_HULL") kind.Mat tables.PolytopesAndCones) { cone_name = codes "LINEAR_SPAN"; describes = describes.HalfSpaces; columns = columns.Rows }
+row VerticesInFacets = record (plain 9 (codes "VERTICES_IN_FACETS") kind.Sets tables.PolytopesAndCones) { cone_name = codes "RAYS_IN_FACETS"; speaks_of_rays = true; speaks_of_facets = true }
+row ConeDim = plain 10 (codes "CONE_DIM") kind.Int tables.PolytopesAndCones
+row LinealityDim = plain 11 (codes "LINEALITY_DIM") kind.Int tables.All
+row CombinatorialDim = plain 12 (codes "COMBINATORIAL_DIM") kind.Int tables.PolytopesAndCones
+row NVertices = record (plain 13 (codes "N_VERTICES") kind.Int tables.All) { cone_name = codes "N_RAYS"; fan_name = codes "N_RAYS" }
+row NFacets = plain 14 (codes "N_FACETS") kind.Int tables.PolytopesAndCones
+row Feasible = plain 15 (codes "FEASIBLE") kind.Bool tables.Polytopes
+row Bounded = plain 16 (codes "BOUNDED") kind.Bool tables.Polytopes
+row Pointed = plain 17 (codes "POINTED") kind.Bool tables.All
+row FullDim = plain 18 (codes "FULL_DIM") kind.Bool tables.PolytopesAndCones
+row Centered = plain 19 (codes "CENTERED") kind.Bool tables.Polytopes
+row Simple = plain 20 (codes "SIMPLE") kind.Bool tables.PolytopesAndCones
+row Simplicial = plain 21 (codes "SIMPLICIAL") kind.Bool tables.All
+row VertexSizes = record (plain 22 (codes "VERTEX_SIZES") kind.Counts tables.PolytopesAndCones) { cone_name = codes "RAY_SIZES"; speaks_of_rays = true }
+row FacetSizes = record (plain 23 (codes "FACET_SIZES") kind.Counts tables.PolytopesAndCones) { speaks_of_facets = true }
+row HasseDiagram = record (plain 24 (codes "HASSE_DIAGRAM") kind.Lattice tables.PolytopesAndCones) { speaks_of_rays = true }
+row FVector = plain 25 (codes "F_VECTOR") kind.Counts tables.PolytopesAndCones
+row F2Vector = plain 26 (codes "F2_VECTOR") kind.Mat tables.PolytopesAndCones
+row HVector = plain 27 (codes "H_VECTOR") kind.Counts tables.Polytopes
+row Graph = record (plain 28 (codes "GRAPH") kind.Edges tables.PolytopesAndCones) { speaks_of_rays = true }
+row DualGraph = record (plain 29 (codes "DUAL_GRAPH") kind.Edges tables.PolytopesAndCones) { speaks_of_facets = true }
+row Diameter = plain 30 (codes "DIAMETER") kind.Int tables.PolytopesAndCones
+row DualDiameter = plain 31 (codes "DUAL_DIAMETER") kind.Int tables.PolytopesAndCones
+row NEdges = plain 32 (codes "N_EDGES") kind.Int tables.PolytopesAndCones
+row NRidges = plain 33 (codes "N_RIDGES") kind.Int tables.PolytopesAndCones
+row VertexDegrees = record (plain 34 (codes "VERTEX_DEGREES") kind.Counts tables.PolytopesAndCones) { cone_name = codes "RAY_DEGREES"; speaks_of_rays = true }
+row FarFace = record (plain 35 (codes "FAR_FACE") kind.Counts tables.Polytopes) { speaks_of_rays = true }
 row MaximalCones = record (plain 36 (codes "MAXIMAL_CONES") kind.Sets tables.Fans) { speaks_of_rays = true; speaks_of_facets = true }
 row NMaximalCones = plain 37 (codes "N_MAXIMAL_CONES") kind.Int tables.Fans
 row MaximalConesDims = record (plain 38 (codes "MAXIMAL_CONES_DIMS") kind.Counts tables.Fans) { speaks_of_facets = true }
@@ -194,10 +193,6 @@ abbrev pub name_in : ObjectType → PropId → List ℕ
 name_in of p = name_for of (row p)
 
 -- ---- its values
--- commands accept it; a book may name every property
-abbrev pub is_built : PropId → Bool
-is_built p = (row p).is_accepted
-
 abbrev pub are_rows_of_columns : Columns → Bool
 are_rows_of_columns columns.Rows = true
 are_rows_of_columns c = false

@@ -8,7 +8,7 @@ use Rattle.pm_props.specs.declared.property.ValueKind.{ValueKind}
 
 -- its number; its names in the tables of polytopes (or programs), of cones and of fans; the form of its values; the tables that have it;
 -- whether it speaks of the order of the rays, of the facets; what its rows do to the cone, and whether it is half of a pair that
--- describes the cone; how it is tied to the number of columns; what each row has to pass; whether commands accept it
+-- describes the cone; how it is tied to the number of columns; what each row has to pass
 pub record RowSeen : Type 0 where
   pub number : ℕ
   pub first_name : List ℕ
@@ -22,4 +22,3 @@ pub record RowSeen : Type 0 where
   pub is_half : Bool
   pub columns : Columns
   pub test : RowTest
-  pub is_accepted : Bool

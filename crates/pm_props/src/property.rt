@@ -208,8 +208,6 @@ pub struct PropertyRow {
     pub columns: Columns,
     /// What each given row has to pass.
     pub test: RowTest,
-    /// Whether commands accept it. A book may name every property.
-    pub is_accepted: bool,
 }
 
 impl Model for PropertyRow {
@@ -230,12 +228,11 @@ impl Model for PropertyRow {
       is_half = r.is_half;
       columns = r.columns;
       test = r.test;
-      is_accepted = r.is_accepted;
     } };
 }
 
 impl PropertyRow {
-    // A property of one name, which speaks of no order, describes nothing, and is not accepted yet.
+    // A property of one name, which speaks of no order, and describes nothing.
     fn plain(number: u8, name: &'static str, kind: ValueKind, tables: Tables) -> PropertyRow
         ensures { result ≡ plain number name.now kind tables }
     {
@@ -252,7 +249,6 @@ impl PropertyRow {
             is_half: false,
             columns: Columns::Free,
             test: RowTest::Any,
-            is_accepted: false,
         }
     }
 }
@@ -280,71 +276,64 @@ impl PropId {
     {
         match self {
             Self::ConeAmbientDim => property!(0 "CONE_AMBIENT_DIM" Int All
-                | fan_name: "FAN_AMBIENT_DIM", columns: Columns::Value, is_accepted: true),
+                | fan_name: "FAN_AMBIENT_DIM", columns: Columns::Value),
             Self::Points => property!(1 "POINTS" Mat PolytopesAndCones
                 | cone_name: "INPUT_RAYS", describes: Describes::Generators, is_half: true,
-                  columns: Columns::Rows, test: RowTest::Point, is_accepted: true),
+                  columns: Columns::Rows, test: RowTest::Point),
             Self::InputLineality => property!(2 "INPUT_LINEALITY" Mat PolytopesAndCones
                 | describes: Describes::Generators, is_half: true, columns: Columns::Rows,
-                  test: RowTest::Line, is_accepted: true),
+                  test: RowTest::Line),
             Self::Inequalities => property!(3 "INEQUALITIES" Mat PolytopesAndCones
-                | describes: Describes::HalfSpaces, is_half: true, columns: Columns::Rows,
-                  is_accepted: true),
+                | describes: Describes::HalfSpaces, is_half: true, columns: Columns::Rows),
             Self::Equations => property!(4 "EQUATIONS" Mat PolytopesAndCones
-                | describes: Describes::HalfSpaces, is_half: true, columns: Columns::Rows,
-                  is_accepted: true),
+                | describes: Describes::HalfSpaces, is_half: true, columns: Columns::Rows),
             Self::Vertices => property!(5 "VERTICES" Mat All
                 | cone_name: "RAYS", fan_name: "RAYS", speaks_of_rays: true,
-                  describes: Describes::Generators, columns: Columns::Rows, test: RowTest::Ray,
-                  is_accepted: true),
+                  describes: Describes::Generators, columns: Columns::Rows, test: RowTest::Ray),
             Self::LinealitySpace => property!(6 "LINEALITY_SPACE" Mat All
-                | describes: Describes::Generators, columns: Columns::Rows, test: RowTest::Line,
-                  is_accepted: true),
+                | describes: Describes::Generators, columns: Columns::Rows, test: RowTest::Line),
             Self::Facets => property!(7 "FACETS" Mat PolytopesAndCones
                 | speaks_of_facets: true, describes: Describes::HalfSpaces,
-                  columns: Columns::Rows, test: RowTest::NotZero, is_accepted: true),
+                  columns: Columns::Rows, test: RowTest::NotZero),
             Self::AffineHull => property!(8 "AFFINE_HULL" Mat PolytopesAndCones
                 | cone_name: "LINEAR_SPAN", describes: Describes::HalfSpaces,
-                  columns: Columns::Rows, is_accepted: true),
+                  columns: Columns::Rows),
             Self::VerticesInFacets => property!(9 "VERTICES_IN_FACETS" Sets PolytopesAndCones
-                | cone_name: "RAYS_IN_FACETS", speaks_of_rays: true, speaks_of_facets: true,
-                  is_accepted: true),
-            Self::ConeDim => property!(10 "CONE_DIM" Int PolytopesAndCones | is_accepted: true),
-            Self::LinealityDim => property!(11 "LINEALITY_DIM" Int All | is_accepted: true),
-            Self::CombinatorialDim => property!(12 "COMBINATORIAL_DIM" Int PolytopesAndCones
-                | is_accepted: true),
+                | cone_name: "RAYS_IN_FACETS", speaks_of_rays: true, speaks_of_facets: true),
+            Self::ConeDim => property!(10 "CONE_DIM" Int PolytopesAndCones),
+            Self::LinealityDim => property!(11 "LINEALITY_DIM" Int All),
+            Self::CombinatorialDim => property!(12 "COMBINATORIAL_DIM" Int PolytopesAndCones),
             Self::NVertices => property!(13 "N_VERTICES" Int All
-                | cone_name: "N_RAYS", fan_name: "N_RAYS", is_accepted: true),
-            Self::NFacets => property!(14 "N_FACETS" Int PolytopesAndCones | is_accepted: true),
-            Self::Feasible => property!(15 "FEASIBLE" Bool Polytopes | is_accepted: true),
-            Self::Bounded => property!(16 "BOUNDED" Bool Polytopes | is_accepted: true),
-            Self::Pointed => property!(17 "POINTED" Bool All | is_accepted: true),
-            Self::FullDim => property!(18 "FULL_DIM" Bool PolytopesAndCones | is_accepted: true),
-            Self::Centered => property!(19 "CENTERED" Bool Polytopes | is_accepted: true),
-            Self::Simple => property!(20 "SIMPLE" Bool PolytopesAndCones | is_accepted: true),
-            Self::Simplicial => property!(21 "SIMPLICIAL" Bool All | is_accepted: true),
+                | cone_name: "N_RAYS", fan_name: "N_RAYS"),
+            Self::NFacets => property!(14 "N_FACETS" Int PolytopesAndCones),
+            Self::Feasible => property!(15 "FEASIBLE" Bool Polytopes),
+            Self::Bounded => property!(16 "BOUNDED" Bool Polytopes),
+            Self::Pointed => property!(17 "POINTED" Bool All),
+            Self::FullDim => property!(18 "FULL_DIM" Bool PolytopesAndCones),
+            Self::Centered => property!(19 "CENTERED" Bool Polytopes),
+            Self::Simple => property!(20 "SIMPLE" Bool PolytopesAndCones),
+            Self::Simplicial => property!(21 "SIMPLICIAL" Bool All),
             Self::VertexSizes => property!(22 "VERTEX_SIZES" Counts PolytopesAndCones
-                | cone_name: "RAY_SIZES", speaks_of_rays: true, is_accepted: true),
+                | cone_name: "RAY_SIZES", speaks_of_rays: true),
             Self::FacetSizes => property!(23 "FACET_SIZES" Counts PolytopesAndCones
-                | speaks_of_facets: true, is_accepted: true),
+                | speaks_of_facets: true),
             Self::HasseDiagram => property!(24 "HASSE_DIAGRAM" Lattice PolytopesAndCones
-                | speaks_of_rays: true, is_accepted: true),
-            Self::FVector => property!(25 "F_VECTOR" Counts PolytopesAndCones | is_accepted: true),
-            Self::F2Vector => property!(26 "F2_VECTOR" Mat PolytopesAndCones | is_accepted: true),
-            Self::HVector => property!(27 "H_VECTOR" Counts Polytopes | is_accepted: true),
+                | speaks_of_rays: true),
+            Self::FVector => property!(25 "F_VECTOR" Counts PolytopesAndCones),
+            Self::F2Vector => property!(26 "F2_VECTOR" Mat PolytopesAndCones),
+            Self::HVector => property!(27 "H_VECTOR" Counts Polytopes),
             Self::Graph => property!(28 "GRAPH" Edges PolytopesAndCones
-                | speaks_of_rays: true, is_accepted: true),
+                | speaks_of_rays: true),
             Self::DualGraph => property!(29 "DUAL_GRAPH" Edges PolytopesAndCones
-                | speaks_of_facets: true, is_accepted: true),
-            Self::Diameter => property!(30 "DIAMETER" Int PolytopesAndCones | is_accepted: true),
-            Self::DualDiameter => property!(31 "DUAL_DIAMETER" Int PolytopesAndCones
-                | is_accepted: true),
-            Self::NEdges => property!(32 "N_EDGES" Int PolytopesAndCones | is_accepted: true),
-            Self::NRidges => property!(33 "N_RIDGES" Int PolytopesAndCones | is_accepted: true),
+                | speaks_of_facets: true),
+            Self::Diameter => property!(30 "DIAMETER" Int PolytopesAndCones),
+            Self::DualDiameter => property!(31 "DUAL_DIAMETER" Int PolytopesAndCones),
+            Self::NEdges => property!(32 "N_EDGES" Int PolytopesAndCones),
+            Self::NRidges => property!(33 "N_RIDGES" Int PolytopesAndCones),
             Self::VertexDegrees => property!(34 "VERTEX_DEGREES" Counts PolytopesAndCones
-                | cone_name: "RAY_DEGREES", speaks_of_rays: true, is_accepted: true),
+                | cone_name: "RAY_DEGREES", speaks_of_rays: true),
             Self::FarFace => property!(35 "FAR_FACE" Counts Polytopes
-                | speaks_of_rays: true, is_accepted: true),
+                | speaks_of_rays: true),
             Self::MaximalCones => property!(36 "MAXIMAL_CONES" Sets Fans
                 | speaks_of_rays: true, speaks_of_facets: true),
             Self::NMaximalCones => property!(37 "N_MAXIMAL_CONES" Int Fans),

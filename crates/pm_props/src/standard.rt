@@ -1,6 +1,6 @@
 // The standard rules and their clients.
 
-ghost use Rattle.pm_props.specs.Kinds.{built, standard_clients, standard_kind, standard_kinds_list, standard_row, unbuilt, where_true};
+ghost use Rattle.pm_props.specs.Kinds.{plain_rule, standard_clients, standard_kind, standard_kinds_list, standard_row, where_true};
 ghost use Rattle.std.specs.Prelude.{IfOk, length, ◌≡◌, ◌≤◌};
 ghost use Rattle.std.specs.Str.{IsAscii};
 
@@ -134,41 +134,25 @@ pub enum StandardClient {
     FanSize,
 }
 
-/// A standard rule: the kind of its client, whose name is the rule's label; what it weighs, of class 0; and whether its
-/// client is built. The standard book has the rules whose clients are.
+/// A standard rule: the kind of its client, whose name is the rule's label, and what it weighs, of class 0.
 #[derive(Clone, Copy, Debug)]
 pub struct StandardRule {
     /// The kind of its client.
     pub kind: Kind,
     /// What the rule weighs.
     pub weight: u32,
-    /// Whether the client is built.
-    pub is_built: bool,
 }
 
 impl StandardRule {
-    // A rule under no condition, whose client is not built.
-    fn unbuilt(name: &str, targets: &[PropId], sources: &[PropId], weight: u32) -> StandardRule
+    // A rule under no condition.
+    fn plain(name: &str, targets: &[PropId], sources: &[PropId], weight: u32) -> StandardRule
         requires short { length name.now ≤ 32 }
         requires ascii { IsAscii name.now }
-        ensures { result ≡ unbuilt name.now targets.now sources.now weight }
+        ensures { result ≡ plain_rule name.now targets.now sources.now weight }
     {
         StandardRule {
             kind: Kind::finding(name, targets, sources),
             weight,
-            is_built: false,
-        }
-    }
-
-    // A rule under no condition, whose client is built.
-    fn built(name: &str, targets: &[PropId], sources: &[PropId], weight: u32) -> StandardRule
-        requires short { length name.now ≤ 32 }
-        requires ascii { IsAscii name.now }
-        ensures { result ≡ built name.now targets.now sources.now weight }
-    {
-        StandardRule {
-            is_built: true,
-            ..StandardRule::unbuilt(name, targets, sources, weight)
         }
     }
 
@@ -186,18 +170,18 @@ impl StandardRule {
     }
 }
 
-// A rule: its label, what it finds, from what, if these are true; its weight, and whether its client is built.
+// A rule: its label, what it finds, from what, if these are true, and its weight.
 macro_rules! rule {
-    ($label:literal: $($target:ident),+ from $($source:ident),+; $weight:literal, $state:ident) => {
-        StandardRule::$state(
+    ($label:literal: $($target:ident),+ from $($source:ident),+; $weight:literal) => {
+        StandardRule::plain(
             $label,
             &[$(PropId::$target),+],
             &[$(PropId::$source),+],
             $weight,
         )
     };
-    ($label:literal: $($target:ident),+ from $($source:ident),+ if $($must:ident),+; $weight:literal, $state:ident) => {
-        rule!($label: $($target),+ from $($source),+; $weight, $state).where_true(&[$(PropId::$must),+])
+    ($label:literal: $($target:ident),+ from $($source:ident),+ if $($must:ident),+; $weight:literal) => {
+        rule!($label: $($target),+ from $($source),+; $weight).where_true(&[$(PropId::$must),+])
     };
 }
 
@@ -276,96 +260,92 @@ impl StandardClient {
     {
         match self {
             Self::DdVertices =>
-                rule!("dd_vertices": Vertices, LinealitySpace from Inequalities, Equations; 40, built),
+                rule!("dd_vertices": Vertices, LinealitySpace from Inequalities, Equations; 40),
             Self::DdFacets =>
-                rule!("dd_facets": Facets, AffineHull from Points, InputLineality; 40, built),
+                rule!("dd_facets": Facets, AffineHull from Points, InputLineality; 40),
             Self::DdFacetsV =>
-                rule!("dd_facets_v": Facets, AffineHull from Vertices, LinealitySpace; 30, built),
+                rule!("dd_facets_v": Facets, AffineHull from Vertices, LinealitySpace; 30),
             Self::DdVerticesF =>
-                rule!("dd_vertices_f": Vertices, LinealitySpace from Facets, AffineHull; 30, built),
+                rule!("dd_vertices_f": Vertices, LinealitySpace from Facets, AffineHull; 30),
             Self::ThinPointsLp =>
-                rule!("thin_points_lp": Vertices, LinealitySpace from Points, InputLineality; 60, unbuilt),
+                rule!("thin_points_lp": Vertices, LinealitySpace from Points, InputLineality; 60),
             Self::ThinInequalitiesLp =>
-                rule!("thin_inequalities_lp": Facets, AffineHull from Inequalities, Equations; 60, unbuilt),
+                rule!("thin_inequalities_lp": Facets, AffineHull from Inequalities, Equations; 60),
             Self::ThinPointsF =>
-                rule!("thin_points_f": Vertices, LinealitySpace from Points, InputLineality, Facets, AffineHull; 10, built),
+                rule!("thin_points_f": Vertices, LinealitySpace from Points, InputLineality, Facets, AffineHull; 10),
             Self::ThinInequalitiesV =>
-                rule!("thin_inequalities_v": Facets, AffineHull from Inequalities, Equations, Vertices, LinealitySpace; 10, built),
+                rule!("thin_inequalities_v": Facets, AffineHull from Inequalities, Equations, Vertices, LinealitySpace; 10),
             Self::VerticesFromSets =>
-                rule!("vertices_from_sets": Vertices from Facets, AffineHull, VerticesInFacets; 20, built),
+                rule!("vertices_from_sets": Vertices from Facets, AffineHull, VerticesInFacets; 20),
             Self::FacetsFromSets =>
-                rule!("facets_from_sets": Facets from Vertices, LinealitySpace, VerticesInFacets; 20, built),
+                rule!("facets_from_sets": Facets from Vertices, LinealitySpace, VerticesInFacets; 20),
             Self::PointsFromVertices =>
-                rule!("points_from_vertices": Points, InputLineality from Vertices, LinealitySpace; 5, built),
+                rule!("points_from_vertices": Points, InputLineality from Vertices, LinealitySpace; 5),
             Self::InequalitiesFromFacets =>
-                rule!("inequalities_from_facets": Inequalities, Equations from Facets, AffineHull; 5, built),
+                rule!("inequalities_from_facets": Inequalities, Equations from Facets, AffineHull; 5),
             Self::LinealityFromFacets =>
-                rule!("lineality_from_facets": LinealitySpace from Facets, AffineHull; 5, built),
+                rule!("lineality_from_facets": LinealitySpace from Facets, AffineHull; 5),
             Self::HullFromVertices =>
-                rule!("hull_from_vertices": AffineHull from Vertices, LinealitySpace; 5, built),
-            Self::ConeDimV => rule!("cone_dim_v": ConeDim from Vertices, LinealitySpace; 4, built),
-            Self::ConeDimSpan => rule!("cone_dim_span": ConeDim from AffineHull; 1, built),
-            Self::ConeDimPoints =>
-                rule!("cone_dim_points": ConeDim from Points, InputLineality; 8, built),
-            Self::LinealityDim =>
-                rule!("lineality_dim": LinealityDim from LinealitySpace; 1, built),
+                rule!("hull_from_vertices": AffineHull from Vertices, LinealitySpace; 5),
+            Self::ConeDimV => rule!("cone_dim_v": ConeDim from Vertices, LinealitySpace; 4),
+            Self::ConeDimSpan => rule!("cone_dim_span": ConeDim from AffineHull; 1),
+            Self::ConeDimPoints => rule!("cone_dim_points": ConeDim from Points, InputLineality; 8),
+            Self::LinealityDim => rule!("lineality_dim": LinealityDim from LinealitySpace; 1),
             Self::CombinatorialDim =>
-                rule!("combinatorial_dim": CombinatorialDim from ConeDim, LinealityDim; 1, built),
-            Self::NVertices => rule!("n_vertices": NVertices from Vertices; 1, built),
-            Self::NVerticesSets =>
-                rule!("n_vertices_sets": NVertices from VerticesInFacets; 1, built),
-            Self::NFacets => rule!("n_facets": NFacets from Facets; 1, built),
-            Self::NFacetsSets => rule!("n_facets_sets": NFacets from VerticesInFacets; 1, built),
-            Self::Feasible => rule!("feasible": Feasible from ConeDim; 1, built),
-            Self::FeasibleLp =>
-                rule!("feasible_lp": Feasible from Inequalities, Equations; 15, unbuilt),
-            Self::Bounded => rule!("bounded": Bounded from Vertices, LinealitySpace; 1, built),
-            Self::FarFace => rule!("far_face": FarFace from Vertices; 1, built),
-            Self::Pointed => rule!("pointed": Pointed from LinealityDim; 1, built),
-            Self::FullDim => rule!("full_dim": FullDim from ConeDim; 1, built),
-            Self::Centered => rule!("centered": Centered from Facets, AffineHull; 1, built),
-            Self::Incidence => rule!("incidence": VerticesInFacets from Vertices, Facets; 5, built),
-            Self::VertexSizes => rule!("vertex_sizes": VertexSizes from VerticesInFacets; 2, built),
-            Self::FacetSizes => rule!("facet_sizes": FacetSizes from VerticesInFacets; 2, built),
-            Self::Simple => rule!("simple": Simple from VertexSizes, CombinatorialDim; 1, built),
+                rule!("combinatorial_dim": CombinatorialDim from ConeDim, LinealityDim; 1),
+            Self::NVertices => rule!("n_vertices": NVertices from Vertices; 1),
+            Self::NVerticesSets => rule!("n_vertices_sets": NVertices from VerticesInFacets; 1),
+            Self::NFacets => rule!("n_facets": NFacets from Facets; 1),
+            Self::NFacetsSets => rule!("n_facets_sets": NFacets from VerticesInFacets; 1),
+            Self::Feasible => rule!("feasible": Feasible from ConeDim; 1),
+            Self::FeasibleLp => rule!("feasible_lp": Feasible from Inequalities, Equations; 15),
+            Self::Bounded => rule!("bounded": Bounded from Vertices, LinealitySpace; 1),
+            Self::FarFace => rule!("far_face": FarFace from Vertices; 1),
+            Self::Pointed => rule!("pointed": Pointed from LinealityDim; 1),
+            Self::FullDim => rule!("full_dim": FullDim from ConeDim; 1),
+            Self::Centered => rule!("centered": Centered from Facets, AffineHull; 1),
+            Self::Incidence => rule!("incidence": VerticesInFacets from Vertices, Facets; 5),
+            Self::VertexSizes => rule!("vertex_sizes": VertexSizes from VerticesInFacets; 2),
+            Self::FacetSizes => rule!("facet_sizes": FacetSizes from VerticesInFacets; 2),
+            Self::Simple => rule!("simple": Simple from VertexSizes, CombinatorialDim; 1),
             Self::Simplicial =>
-                rule!("simplicial": Simplicial from FacetSizes, CombinatorialDim; 1, built),
-            Self::Faces => rule!("faces": HasseDiagram from VerticesInFacets; 50, built),
-            Self::FVector => rule!("f_vector": FVector from HasseDiagram; 2, built),
-            Self::F2Vector => rule!("f2_vector": F2Vector from HasseDiagram; 3, built),
+                rule!("simplicial": Simplicial from FacetSizes, CombinatorialDim; 1),
+            Self::Faces => rule!("faces": HasseDiagram from VerticesInFacets; 50),
+            Self::FVector => rule!("f_vector": FVector from HasseDiagram; 2),
+            Self::F2Vector => rule!("f2_vector": F2Vector from HasseDiagram; 3),
             Self::HVector =>
-                rule!("h_vector": HVector from FVector, CombinatorialDim if Bounded, Simplicial; 2, built),
-            Self::GraphOfSets => rule!("graph_of_sets": Graph from VerticesInFacets; 15, built),
-            Self::GraphOfFaces => rule!("graph_of_faces": Graph from HasseDiagram; 3, built),
-            Self::DualGraph => rule!("dual_graph": DualGraph from VerticesInFacets; 15, built),
-            Self::VertexDegrees => rule!("vertex_degrees": VertexDegrees from Graph; 1, built),
-            Self::Diameter => rule!("diameter": Diameter from Graph; 4, built),
-            Self::DualDiameter => rule!("dual_diameter": DualDiameter from DualGraph; 4, built),
-            Self::NEdges => rule!("n_edges": NEdges from Graph; 1, built),
-            Self::NRidges => rule!("n_ridges": NRidges from DualGraph; 1, built),
+                rule!("h_vector": HVector from FVector, CombinatorialDim if Bounded, Simplicial; 2),
+            Self::GraphOfSets => rule!("graph_of_sets": Graph from VerticesInFacets; 15),
+            Self::GraphOfFaces => rule!("graph_of_faces": Graph from HasseDiagram; 3),
+            Self::DualGraph => rule!("dual_graph": DualGraph from VerticesInFacets; 15),
+            Self::VertexDegrees => rule!("vertex_degrees": VertexDegrees from Graph; 1),
+            Self::Diameter => rule!("diameter": Diameter from Graph; 4),
+            Self::DualDiameter => rule!("dual_diameter": DualDiameter from DualGraph; 4),
+            Self::NEdges => rule!("n_edges": NEdges from Graph; 1),
+            Self::NRidges => rule!("n_ridges": NRidges from DualGraph; 1),
             Self::LpMax =>
-                rule!("lp_max": MaximalValue, MaximalDual from Facets, AffineHull, LinearObjective; 20, unbuilt),
+                rule!("lp_max": MaximalValue, MaximalDual from Facets, AffineHull, LinearObjective; 20),
             Self::LpMin =>
-                rule!("lp_min": MinimalValue, MinimalDual from Facets, AffineHull, LinearObjective; 20, unbuilt),
+                rule!("lp_min": MinimalValue, MinimalDual from Facets, AffineHull, LinearObjective; 20),
             Self::LpMaxRows =>
-                rule!("lp_max_rows": MaximalValue from Inequalities, Equations, LinearObjective; 25, unbuilt),
+                rule!("lp_max_rows": MaximalValue from Inequalities, Equations, LinearObjective; 25),
             Self::LpMinRows =>
-                rule!("lp_min_rows": MinimalValue from Inequalities, Equations, LinearObjective; 25, unbuilt),
+                rule!("lp_min_rows": MinimalValue from Inequalities, Equations, LinearObjective; 25),
             Self::LpMaxV =>
-                rule!("lp_max_v": MaximalValue from Vertices, LinealitySpace, LinearObjective; 6, unbuilt),
+                rule!("lp_max_v": MaximalValue from Vertices, LinealitySpace, LinearObjective; 6),
             Self::LpMinV =>
-                rule!("lp_min_v": MinimalValue from Vertices, LinealitySpace, LinearObjective; 6, unbuilt),
+                rule!("lp_min_v": MinimalValue from Vertices, LinealitySpace, LinearObjective; 6),
             Self::LpMaxFace =>
-                rule!("lp_max_face": MaximalFace from Vertices, MaximalValue, LinearObjective; 3, unbuilt),
+                rule!("lp_max_face": MaximalFace from Vertices, MaximalValue, LinearObjective; 3),
             Self::LpMinFace =>
-                rule!("lp_min_face": MinimalFace from Vertices, MinimalValue, LinearObjective; 3, unbuilt),
+                rule!("lp_min_face": MinimalFace from Vertices, MinimalValue, LinearObjective; 3),
             Self::FanDims =>
-                rule!("fan_dims": MaximalConesDims from Vertices, LinealitySpace, MaximalCones; 4, unbuilt),
-            Self::FanDim => rule!("fan_dim": FanDim from MaximalConesDims; 1, unbuilt),
-            Self::FanPure => rule!("fan_pure": Pure from MaximalConesDims; 1, unbuilt),
+                rule!("fan_dims": MaximalConesDims from Vertices, LinealitySpace, MaximalCones; 4),
+            Self::FanDim => rule!("fan_dim": FanDim from MaximalConesDims; 1),
+            Self::FanPure => rule!("fan_pure": Pure from MaximalConesDims; 1),
             Self::FanSimplicial =>
-                rule!("fan_simplicial": Simplicial from MaximalConesDims, MaximalCones, LinealityDim; 1, unbuilt),
-            Self::FanSize => rule!("fan_size": NMaximalCones from MaximalCones; 1, unbuilt),
+                rule!("fan_simplicial": Simplicial from MaximalConesDims, MaximalCones, LinealityDim; 1),
+            Self::FanSize => rule!("fan_size": NMaximalCones from MaximalCones; 1),
         }
     }
 

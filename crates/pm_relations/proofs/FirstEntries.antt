@@ -19,7 +19,7 @@ use Rattle.pm_relations.proofs.Dimensions.{no_rows, zero_rows}
 use Rattle.pm_relations.proofs.Spans.{thing_cols}
 use Rattle.pm_relations.proofs.Standing.{in_order_at, in_order_length, ratios_at, stand_at, stand_length}
 use Rattle.pm_relations.proofs.Twins.{alike_inside, alike_valid, facet_rows_cut_out, in_order_to, lines_of, orders_of, rays_generate, rays_of, valid_from_facets}
-use Rattle.pm_relations.proofs.WholeRows.{polytope_lineality_first}
+use Rattle.pm_relations.proofs.FlatLineality.{polytope_lineality_first}
 use Rattle.pm_relations.specs.FirstEntries.{BoundedIsFound, CenteredIsFound, FarFaceIsFound, HasPositiveFirst, HasZeroFirst}
 use Rattle.pm_types.specs.Right.{InLines, InOrder, IsBasis, IsCentered, StandFor}
 use Rattle.pm_types.specs.Things.{IsOfType}

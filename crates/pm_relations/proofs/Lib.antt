@@ -5,10 +5,12 @@ pub mod Spans
 pub mod Dimensions
 pub mod Found
 pub mod PrimitiveStanding
-pub mod WholeRows
+pub mod FlatLineality
 pub mod Twins
 pub mod FirstEntries
 pub mod Orders
+pub mod FanCones
+pub mod FanDims
 pub mod Hulls
 pub mod Sizes
 pub mod Thinning

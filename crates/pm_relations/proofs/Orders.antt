@@ -82,7 +82,7 @@ abbrev pub total : (Row → ℕ) → List Row → ℕ
 total size [] = 0
 total size (v ∷ V) = size v + total size V
 
-total_ones : (X : List Row) → total (λ v. 1) X ≡ length X
+pub total_ones : (X : List Row) → total (λ v. 1) X ≡ length X
 total_ones [] = refl
 total_ones (x ∷ X) = let e = total_ones X in omega arith
 
@@ -97,7 +97,7 @@ module _ (R : Row → Row → Type 0) (back : (v w : Row) → R v w → R w v) (
   Once [] = Unit {0}
   Once (v ∷ V) = ((w : Row) → Among w V → ¬ (R v w)) × Once V
 
-  once_from : (V : List Row) → AllPairs (λ v w. ¬ (R v w)) V → Once V
+  pub once_from : (V : List Row) → AllPairs (λ v w. ¬ (R v w)) V → Once V
   once_from [] h = tt
   once_from (v ∷ V) h = (
     λ w i. among_All (λ w. ¬ (R v w)) i (λ k d l. h 0 (suc k) d (omega arith) (omega arith)),
@@ -128,7 +128,7 @@ module _ (R : Row → Row → Type 0) (back : (v w : Row) → R v w → R w v) (
       take here t = absurd (n (on v w z r (back z w t)))
       take (there {xs} k) t = (_, k, t)
 
-  same_total : (size : Row → ℕ) (V W : List Row) → Once V → Once W → ((v : Row) → Among v V → Partner v W) → ((w : Row) → Among w W → Partner w V) → ((v w : Row) → Among v V → Among w W → R v w → size v ≡ size w) → total size V ≡ total size W
+  pub same_total : (size : Row → ℕ) (V W : List Row) → Once V → Once W → ((v : Row) → Among v V → Partner v W) → ((w : Row) → Among w W → Partner w V) → ((v w : Row) → Among v V → Among w W → R v w → size v ≡ size w) → total size V ≡ total size W
   same_total size [] [] a b f g s = refl
   same_total size [] (w ∷ W) a b f g s = absurd (elim (g w here).1 [ ])
   same_total size (v ∷ V) W a b f g s =

@@ -18,7 +18,7 @@ use Rattle.pm_relations.proofs.Dimensions.{dimensions_are_determined}
 use Rattle.pm_relations.proofs.Orders.{Holds, as_many_facets, as_many_rays, facets_hold, holds_set, orders_total, total}
 use Rattle.pm_relations.specs.Sizes.{has_place, holding, place_sizes, set_sizes}
 use Rattle.pm_types.specs.Forms.{are_indices}
-use Rattle.pm_types.specs.Right.{IsIncidence, Right, one_if_zero, tight, vanishing}
+use Rattle.pm_types.specs.Right.{IsIncidence, IsSimplicial, IsSimplicialTruth, Right, one_if_zero, tight, vanishing}
 use Rattle.pm_types.specs.Things.{AreOrders, AreOrdersOf, Thing}
 use Rattle.pm_types.specs.Values.{counts, sets, truth, whole}
 use Rattle.std.proofs.Common.{ap, arith, eqb, false, inl, inr, leb, ltb, refl, subst, sym, true, true≢false, ◌∙◌, ◌&&◌}
@@ -407,15 +407,20 @@ module _ (t : Thing) (o : Orders) (orders : AreOrders t o) (no_fan : ¬ (t.of �
 
   -- simplicial: each facet holds as many rays as the dimension says
   pub simplicial_by_sizes : Right FacetSizes (counts ks) t o c → Right Simplicial (truth b) t o e
-  simplicial_by_sizes sizes = (
-    no_fan,
-    λ p q. (
-      λ y.
-          let all = subst (λ zs. All (λ z. z ≡ k) zs) (sizes p q) (says.0 y) in
-          record { d = k; dim = dim; sizes = All_among (λ a. pos (tight p.rays a) ≡ k) p.facets (facets_as p q o p orders q (mapped_all (λ a. pos (tight p.rays a)) k o.facets all)) },
-      λ s.
-          let same = dim_is s.d s.dim in
-          let own : (a : Row) → Among a p.facets → pos (tight p.rays a) ≡ k = λ a i. among_All (λ a. pos (tight p.rays a) ≡ s.d) i s.sizes ∙ same in
-          says.1 (subst (λ zs. All (λ z. z ≡ k) zs) (sym (sizes p q)) (all_mapped (λ a. pos (tight p.rays a)) k o.facets (facets_as p q p o q orders own))),
-    ),
-  )
+  simplicial_by_sizes sizes = by t.of refl
+    where
+      of_facets : (p : Orders) → AreOrders t p → IsTrue b ↔ IsSimplicial t p
+      of_facets p q = (
+        λ y.
+            let all = subst (λ zs. All (λ z. z ≡ k) zs) (sizes p q) (says.0 y) in
+            record { d = k; dim = dim; sizes = All_among (λ a. pos (tight p.rays a) ≡ k) p.facets (facets_as p q o p orders q (mapped_all (λ a. pos (tight p.rays a)) k o.facets all)) },
+        λ s.
+            let same = dim_is s.d s.dim in
+            let own : (a : Row) → Among a p.facets → pos (tight p.rays a) ≡ k = λ a i. among_All (λ a. pos (tight p.rays a) ≡ s.d) i s.sizes ∙ same in
+            says.1 (subst (λ zs. All (λ z. z ≡ k) zs) (sym (sizes p q)) (all_mapped (λ a. pos (tight p.rays a)) k o.facets (facets_as p q p o q orders own))),
+      )
+
+      by : (of : ObjectType) → t.of ≡ of → IsSimplicialTruth of t b
+      by Polytope e = of_facets
+      by Cone e = of_facets
+      by Fan e = absurd (no_fan e)

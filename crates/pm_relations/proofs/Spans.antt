@@ -36,7 +36,7 @@ thing_cols t h = cols_of t.of t.cols t.generators t.lines t.cones h.kind
 
 -- ---- the lineality
 -- what lines span is in the lineality where the lines are
-lineality_span : (G L K : List Row) → ((k : Row) → Among k K → InLineality (InCone G L) k) → {x : Row} → InSpan K x → InLineality (InCone G L) x
+pub lineality_span : (G L K : List Row) → ((k : Row) → Among k K → InLineality (InCone G L) k) → {x : Row} → InSpan K x → InLineality (InCone G L) x
 lineality_span G L K f {x} h = record {
   inside = in_through G L [] K (λ g i. elim i [ ]) (λ k i. let s = f k i in (s.inside, s.opposed)) h;
   opposed = in_through G L [] K (λ g i. elim i [ ]) (λ k i. let s = f k i in (s.inside, s.opposed)) (lines_opposite K x h);

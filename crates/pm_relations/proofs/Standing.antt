@@ -7,7 +7,7 @@ use Rattle.pm_algebra.specs.Rows.{Row, SameDirection, Stands, dot, entry, ratio_
 use Rattle.pm_geom.specs.Faces.{ray}
 use Rattle.pm_types.specs.Right.{InOrder, StandFor}
 use Rattle.pm_types.specs.Things.{AreObjectives}
-use Rattle.pm_types.specs.Views.{over_one, ratios}
+use Rattle.pm_types.specs.Views.{ratios}
 use Rattle.std.proofs.Common.{arith, ap, refl, sym, ◌∙◌}
 use Rattle.std.proofs.lemmas.Int.{ints}
 use Rattle.std.specs.List.{slice_index_or}
@@ -15,6 +15,7 @@ use Rattle.std.specs.Prelude.{List, [], length, map, suc, zero, ℕ, ◌∷◌, 
 use lib.IntN.{pos, ℤ, ◌*ℤ◌}
 use lib.Signed.{◌<ℤ◌}
 use native.Mathlib.Decide.{dec_lt}
+use Rattle.pm_types.proofs.WholeRows.{length_ratios, ratio_at_ratios}
 
 entry_past : (x : Row) (i : ℕ) → length x ≤ i → entry x i ≡ pos 0
 entry_past [] i l = refl
@@ -91,15 +92,6 @@ in_order_at R (v ∷ vs) (x ∷ xs) h zero l = h.0
 in_order_at R (v ∷ vs) (x ∷ xs) h (suc j) l = in_order_at R vs xs h.1 j (omega arith)
 
 -- ---- whole numbers over 1
-pub ratio_at_ratios : (x : Row) (i : ℕ) → ratio_at (ratios x) i ≡ over_one (entry x i)
-ratio_at_ratios [] i = refl
-ratio_at_ratios (a ∷ x) zero = refl
-ratio_at_ratios (a ∷ x) (suc i) = ratio_at_ratios x i
-
-pub length_ratios : (x : Row) → length x ≡ length (ratios x)
-length_ratios [] = refl
-length_ratios (a ∷ x) = ap suc (length_ratios x)
-
 pub stands_ratios : (x : Row) → Stands (ratios x) x
 stands_ratios x = record {
   p = pos 1;

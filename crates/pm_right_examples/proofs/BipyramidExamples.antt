@@ -321,8 +321,7 @@ bipyramid_counts_are_read = record {
   facet_sizes_refused = λ h. five_not_six (sym (h bipyramid_orders are_orders));
   dimension = dimension;
   simplicial = simplicial;
-  simplicial_refused = λ h. true≢false (sym ((h.1 bipyramid_orders are_orders).1 ((simplicial.1 bipyramid_orders are_orders).0 refl)));
+  simplicial_refused = λ h. true≢false (sym ((h bipyramid_orders are_orders).1 ((simplicial bipyramid_orders are_orders).0 refl)));
   not_simple = not_simple;
   simple_refused = λ h. true≢false (sym ((not_simple bipyramid_orders are_orders).1 ((h bipyramid_orders are_orders).0 refl)));
-  of_no_fan = λ t o b e h. h.0 e;
 }

@@ -60,7 +60,7 @@ vanishing a la = (
   λ h. record { cols = la; holds = λ x l k. dot_comm a x ∙ dot-same x a [] (none_to_zero a h) ∙ dot-nil x },
 )
 
-solid : IsRank (square ++ []) 3
+pub solid : IsRank (square ++ []) 3
 solid = (rank_is_left 3 square [] square_cols tt [] tt none_independent vanishing 3).1 refl
 
 no_lineality : HasDimension 3 (InLineality (InCone square [])) 0

@@ -17,3 +17,4 @@ pub mod SquareFaces
 pub mod SquareGraphs
 pub mod StandingExamples
 pub mod ThingExamples
+pub mod FanExamples

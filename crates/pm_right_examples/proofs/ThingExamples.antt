@@ -172,7 +172,7 @@ unfolding without
 plus_needed v here = apart _ [] (negsuc 0 ∷ []) _ tt tt tt
 plus_needed v (there i) = elim i [ ]
 
-plus_order : IsOrder 1 (InCone (single (pos 1)) []) (single (pos 1))
+pub plus_order : IsOrder 1 (InCone (single (pos 1)) []) (single (pos 1))
 plus_order = order_of_apart 1 (single (pos 1)) [] (refl, tt) tt (pos 1 ∷ []) tt tt plus_needed
 
 minus_needed : (v : Row) (i : Among v (single (negsuc 0))) → ¬ (InCone (without i) [] v)
@@ -180,13 +180,13 @@ unfolding without
 minus_needed v here = apart _ [] (pos 1 ∷ []) _ tt tt tt
 minus_needed v (there i) = elim i [ ]
 
-minus_order : IsOrder 1 (InCone (single (negsuc 0)) []) (single (negsuc 0))
+pub minus_order : IsOrder 1 (InCone (single (negsuc 0)) []) (single (negsuc 0))
 minus_order = order_of_apart 1 (single (negsuc 0)) [] (refl, tt) tt (negsuc 0 ∷ []) tt tt minus_needed
 
-plus_extreme : IsExtremeRay 1 (single (pos 1)) [] (pos 1 ∷ [])
+pub plus_extreme : IsExtremeRay 1 (single (pos 1)) [] (pos 1 ∷ [])
 plus_extreme = among_All (λ v. IsExtremeRay 1 (single (pos 1)) [] v) (here {xs = []}) plus_order.each
 
-minus_extreme : IsExtremeRay 1 (single (negsuc 0)) [] (negsuc 0 ∷ [])
+pub minus_extreme : IsExtremeRay 1 (single (negsuc 0)) [] (negsuc 0 ∷ [])
 minus_extreme = among_All (λ v. IsExtremeRay 1 (single (negsuc 0)) [] v) (here {xs = []}) minus_order.each
 
 -- rows that are alike in a cone with no lineality are alike in the fan

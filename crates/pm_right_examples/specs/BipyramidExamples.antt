@@ -1,9 +1,9 @@
 -- A cone with five extreme rays and six facets, over a bipyramid: which counts are right.
-use Rattle.std.specs.Prelude.{ℕ, Bool, false, true, List, [], ◌∷◌, ◌≡◌}
+use Rattle.std.specs.Prelude.{ℕ, false, true, List, [], ◌∷◌}
 use Rattle.pm_algebra.specs.Rows.{Row}
 use Rattle.pm_types.specs.Things.{Thing, IsThing, AreOrders}
 use Rattle.pm_geom.specs.Things.{Orders}
-use Rattle.pm_props.specs.declared.object_type.ObjectType.TheVariants.{Cone, Fan}
+use Rattle.pm_props.specs.declared.object_type.ObjectType.TheVariants.{Cone}
 use Rattle.pm_right_examples.specs.RayExamples.{thing_of}
 use Rattle.pm_types.specs.Right.{Right}
 use Rattle.pm_types.specs.Values.{PropertyValue, counts, sets, truth, whole}
@@ -80,5 +80,3 @@ pub record BipyramidCountsAreRead : Type 0 where
   pub simplicial_refused : ¬ (BipyramidHas Simplicial (truth false))
   pub not_simple : BipyramidHas Simple (truth false)
   pub simple_refused : ¬ (BipyramidHas Simple (truth true))
-  -- of a fan no value of SIMPLICIAL is right yet
-  pub of_no_fan : (t : Thing) (o : Orders) (b : Bool) → t.of ≡ Fan → ¬ (Right Simplicial (truth b) t o [])

@@ -6,3 +6,4 @@ pub mod GraphExamples
 pub mod RayExamples
 pub mod RowExamples
 pub mod ThingExamples
+pub mod FanExamples

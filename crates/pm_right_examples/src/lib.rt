@@ -9,6 +9,7 @@ ghost use Rattle.pm_right_examples.specs.FaceExamples.{EmptyFacesAreRead, HVecto
 ghost use Rattle.pm_right_examples.specs.GraphExamples.{BipyramidGraphsAreRead, EmptyGraphsAreRead, LineGraphsAreRead, SegmentGraphsAreRead, SegmentNumbersAreRead, SquareGraphsAreRead};
 ghost use Rattle.pm_right_examples.specs.RayExamples.{EmptyValuesAreRead, HalfLineValuesAreRead, LineDimensionsAreRead, LineIsUnbounded, SegmentsAreRead, SquareIsBounded};
 ghost use Rattle.pm_right_examples.specs.RowExamples.{BasesAreRight, FacetRowsAreRead, GeneratorsAreRead, HalfSpacesAreRead, PairsAreRead, RayRowsAreRead, RowsAreRead};
+ghost use Rattle.pm_right_examples.specs.FanExamples.{ConeDimsAreRead, MaximalConesAreRead, SimplicialFansAreRead};
 ghost use Rattle.pm_right_examples.specs.ThingExamples.{ColumnsAreRead, ConeOrdersAreRead, FanOrdersAreRead, FanValuesAreRead, FansAreRead, ThingsAreRead};
 
 /// What is right for VERTICES_IN_FACETS of the unit square, and what is not.
@@ -204,4 +205,19 @@ pub fn example_square_graphs()
 /// The graphs of a bipyramid, of rays and of facets, and the degrees in their order.
 pub fn example_bipyramid_graphs()
     ensures { BipyramidGraphsAreRead }
+{}
+
+/// Which rays the maximal cones of a fan have, how many cones there are, and what is not right.
+pub fn example_maximal_cones()
+    ensures { MaximalConesAreRead }
+{}
+
+/// The dimensions of the maximal cones of small fans, the greatest of them, and whether they are one.
+pub fn example_cone_dims()
+    ensures { ConeDimsAreRead }
+{}
+
+/// Fans that are simplicial, and one that is not.
+pub fn example_simplicial_fans()
+    ensures { SimplicialFansAreRead }
 {}

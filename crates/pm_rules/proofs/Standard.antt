@@ -9,7 +9,7 @@ use Rattle.std.proofs.lemmas.List.Kept.{AllPairs-cons}
 use Rattle.std.proofs.lemmas.List.Sums.{AllPass-from_list_all}
 use Rattle.std.proofs.lemmas.Slice.Eq.{bytes_eq-Decides}
 use Rattle.pm_props.proofs.Every.{all_properties}
-use Rattle.pm_props.specs.Kinds.{built_clients, conditions_of, standard_kind, standard_kinds_list, standard_row}
+use Rattle.pm_props.specs.Kinds.{conditions_of, standard_clients, standard_kind, standard_kinds_list, standard_row}
 use Rattle.pm_props.specs.Properties.{count, every_property, is_of_truth_values, value_kind}
 use Rattle.pm_props.specs.Sets.{has, only, union, intersection}
 use Rattle.pm_weights.specs.Weights.{most}
@@ -97,7 +97,7 @@ fit_IsRule r h =
 abbrev makes_rule : StandardClient → Bool
 makes_rule c = is_fit (standard_row c)
 
-standard_are_fit : list_all makes_rule built_clients ≡ true
+standard_are_fit : list_all makes_rule standard_clients ≡ true
 unfolding only union intersection has
 standard_are_fit = refl
 
@@ -120,9 +120,9 @@ pub standard_IsBook : IsBook standard_rules
 standard_IsBook = record {
   few = lit≤ tt;
   labels = differ standard_rules refl;
-  each = All-map IsRule standard_rule built_clients
-      (All-weaker (λ c. makes_rule c ≡ true) (λ c. IsRule (standard_rule c)) (λ c. fit_IsRule (standard_row c)) built_clients
-      (AllPass-from_list_all makes_rule built_clients standard_are_fit));
+  each = All-map IsRule standard_rule standard_clients
+      (All-weaker (λ c. makes_rule c ≡ true) (λ c. IsRule (standard_rule c)) (λ c. fit_IsRule (standard_row c)) standard_clients
+      (AllPass-from_list_all makes_rule standard_clients standard_are_fit));
 }
 
 -- ---- kinds by their names
@@ -158,11 +158,11 @@ first_kind kind = find (λ (k : Kind). bytes_eq k.name kind.name) standard_kinds
 abbrev is_first : StandardClient → Bool
 is_first c = found_is (first_kind (standard_kind c)) (standard_kind c)
 
-are_first : list_all is_first built_clients ≡ true
+are_first : list_all is_first standard_clients ≡ true
 unfolding union only
 are_first = refl
 
 pub standard_first : FirstKinds standard_kinds_list standard_rules
-standard_first = All-map (λ (r : Rule). first_kind r.kind ≡ Some r.kind) standard_rule built_clients
-    (All-weaker (λ c. is_first c ≡ true) (λ c. first_kind (standard_kind c) ≡ Some (standard_kind c)) (λ c. is_found (first_kind (standard_kind c)) (standard_kind c)) built_clients
-    (AllPass-from_list_all is_first built_clients are_first))
+standard_first = All-map (λ (r : Rule). first_kind r.kind ≡ Some r.kind) standard_rule standard_clients
+    (All-weaker (λ c. is_first c ≡ true) (λ c. first_kind (standard_kind c) ≡ Some (standard_kind c)) (λ c. is_found (first_kind (standard_kind c)) (standard_kind c)) standard_clients
+    (AllPass-from_list_all is_first standard_clients are_first))

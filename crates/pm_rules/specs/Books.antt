@@ -7,7 +7,7 @@ use Rattle.pm_props.specs.declared.set.PropSet.{PropSet}
 use Rattle.pm_props.specs.declared.kind.Kind.{Kind}
 use Rattle.pm_props.specs.Properties.{count, value_kind}
 use Rattle.pm_props.specs.Sets.{has, IsWithin}
-use Rattle.pm_props.specs.Kinds.{built_clients, standard_row}
+use Rattle.pm_props.specs.Kinds.{standard_clients, standard_row}
 use Rattle.pm_props.specs.declared.standard.StandardClient.{StandardClient}
 use Rattle.pm_props.specs.declared.standard.StandardRule.{StandardRule}
 use Rattle.pm_weights.specs.Weights.{IsWeight}
@@ -62,6 +62,6 @@ rule_of r = record {
 abbrev pub standard_rule : StandardClient → Rule
 standard_rule c = rule_of (standard_row c)
 
--- the rules of the standard book: those whose clients are built
+-- the rules of the standard book
 abbrev pub standard_rules : List Rule
-standard_rules = map standard_rule built_clients
+standard_rules = map standard_rule standard_clients

@@ -72,13 +72,12 @@ impl Book {
     }
 }
 
-/// The rules whose clients are built, under the labels of their clients.
+/// The rules of the standard clients, under the labels of their clients.
 pub fn standard_book(alloc: Global) -> Result<Book, AllocError>
     ensures { IfOk result (λ b. b ≡ standard_rules) }
 {
     let rules = StandardClient::every()
         .iter()
-        .filter(|client| client.row().is_built)
         .map(|client| standard_rule(*client))
         .collect(alloc)?;
     Ok(Book { rules })

@@ -1,11 +1,5 @@
-pub mod Breaks
-pub mod Commands
 pub mod Pieces
 pub mod Written
-pub mod Splits
-pub mod Grammar
-pub mod FirstWords
-pub mod Asked
 pub mod Halves
 pub mod Counted
 pub mod ReplyExamples

@@ -7,7 +7,7 @@ use Rattle.pm_script.specs.Examples.{RepliesAreRead}
 pub replies_are_read : RepliesAreRead
 unfolding digits union only
 replies_are_read = record {
-  done = refl;
+  ended = refl;
   failed = refl;
   found_false = refl;
   excluded = refl;
@@ -19,6 +19,15 @@ replies_are_read = record {
   always_told = refl;
   told_if_traced = refl;
   else_untold = refl;
+  carried_out = refl;
+  made_untold = refl;
+  made_traced = refl;
+  of_object = refl;
+  of_objective = refl;
+  of_program = refl;
+  elsewhere = refl;
+  of_cone = refl;
+  of_polytope = refl;
   given = refl;
   stored = refl;
   computed = refl;
@@ -26,8 +35,12 @@ replies_are_read = record {
   read_over = refl;
   marked = refl;
   too_long = refl;
+  bounded = refl;
+  full_dim = refl;
+  feasible = refl;
+  columns = refl;
+  rows = refl;
+  another_type = refl;
+  no_interior = refl;
   not_json = refl;
-  four = refl;
-  not_five = refl;
-  no_words = refl;
 }

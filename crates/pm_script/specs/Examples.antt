@@ -1,5 +1,5 @@
 -- Texts of replies read on small ones: what they are and what they are not.
-use Rattle.std.specs.Prelude.{ℕ, ◌≡◌, true, false, Option, Some, None, [], ◌∷◌, codes}
+use Rattle.std.specs.Prelude.{ℕ, pos, ◌≡◌, true, false, Option, Some, None, [], ◌∷◌, codes}
 use Rattle.pm_geom.specs.declared.evidence.Evidence.TheVariants.{E4}
 use Rattle.pm_object.specs.State.{RoundSeen}
 use Rattle.pm_object.specs.declared.held.Excluded.{Excluded}
@@ -9,12 +9,13 @@ use Rattle.pm_object.specs.declared.held.RoundEnd.TheVariants as end
 use Rattle.pm_object.specs.declared.held.Why.TheVariants as why
 use Rattle.pm_props.specs.Sets.{set_of}
 use Rattle.pm_props.specs.declared.kind.RuleId.{RuleId}
-use Rattle.pm_props.specs.declared.property.PropId.TheVariants.{ConeAmbientDim, Inequalities, Equations, Pointed}
-use Rattle.pm_script.specs.Replies.{NamesSeen, Rounds, barred_text, ensured, excluded_text, exclusion_text, loaded, nothing, property_set_text, refused, reply_text, round_text, rule_text, tells_origin, told}
-use Rattle.pm_script.specs.Words.{are_asked}
+use Rattle.pm_props.specs.declared.property.PropId.TheVariants.{ConeAmbientDim, Inequalities, Equations, LinearObjective, MaximalValue, Pointed, Vertices}
+use Rattle.pm_props.specs.declared.object_type.ObjectType.TheVariants.{Cone, Polytope}
+use Rattle.pm_types.specs.Values.{extended, finite, truth}
+use Rattle.pm_script.specs.Replies.{NamesSeen, Rounds, barred_text, done, ensured, excluded_text, exclusion_text, false_text, loaded, name_shown, no_rounds, nothing, property_set_text, refusal_text, refused, reply_text, round_text, rule_text, shows, tells_origin, told}
 use Rattle.pm_script.specs.declared.names.Bar.TheVariants as bar
 use Rattle.pm_script.specs.declared.refusal.Refusal.TheVariants.{BadFile, NoChain, NotFit}
-use Rattle.pm_script.specs.declared.refusal.Condition.TheVariants as condition
+use Rattle.pm_object.specs.declared.held.Condition.TheVariants as condition
 use Rattle.pm_script.specs.declared.refusal.FileWhy.TheVariants as file_why
 
 abbrev pub first : RuleId
@@ -39,7 +40,7 @@ abbrev pub failure : Excluded
 failure = record { rule = second; sub = None; why = why.Failed (E4 [] []) }
 
 pub record RepliesAreRead : Type 0 where
-  pub done : round_text two_names (round_of None end.Done) ≡ codes "round 6: a b -> done\n"
+  pub ended : round_text two_names (round_of None end.Done) ≡ codes "round 6: a b -> done\n"
   pub failed : round_text two_names (round_of None (end.Failed second 4)) ≡ codes "round 6: a b -> failed b E4\n"
   pub found_false : round_text two_names (round_of (Some 0) (end.False first Pointed)) ≡ codes "round 6 @x: a b -> false a POINTED\n"
   pub excluded : excluded_text two_names failure ≡ codes "excluded b failed E4\n"
@@ -51,6 +52,17 @@ pub record RepliesAreRead : Type 0 where
   pub always_told : reply_text false (refused NoChain (told true one_round)) ≡ codes "no 10 NoChain\nround 6: a b -> done\n"
   pub told_if_traced : reply_text true (refused NoChain (told false one_round)) ≡ codes "no 10 NoChain\nround 6: a b -> done\n"
   pub else_untold : reply_text false (refused NoChain (told false one_round)) ≡ codes "no 10 NoChain\n"
+  -- what a new object is made of is traced too
+  pub carried_out : reply_text true (done no_rounds) ≡ codes "ok\n"
+  pub made_untold : reply_text false (done one_round) ≡ codes "ok\n"
+  pub made_traced : reply_text true (done one_round) ≡ codes "ok\nround 6: a b -> done\n"
+  -- a property of programs is shown without LP., and another one by its name in the table of the type
+  pub of_object : reply_text false (shows (codes "s") Polytope Pointed (truth true) no_rounds) ≡ codes "s POINTED true\n"
+  pub of_objective : name_shown Polytope MaximalValue ≡ codes "MAXIMAL_VALUE"
+  pub of_program : reply_text false (shows (codes "sq.a") Polytope MaximalValue (extended (finite (record { num = pos 2; den = pos 1 }))) no_rounds) ≡ codes "sq.a MAXIMAL_VALUE \"2\"\n"
+  pub elsewhere : false_text LinearObjective ≡ codes "false LP.LINEAR_OBJECTIVE"
+  pub of_cone : name_shown Cone Vertices ≡ codes "RAYS"
+  pub of_polytope : name_shown Polytope Vertices ≡ codes "VERTICES"
   pub given : reply_text false (tells_origin origin.Given) ≡ codes "given\n"
   pub stored : reply_text false (tells_origin origin.Stored) ≡ codes "stored\n"
   pub computed : reply_text true (tells_origin origin.Computed) ≡ codes "computed\n"
@@ -58,7 +70,11 @@ pub record RepliesAreRead : Type 0 where
   pub read_over : reply_text false (loaded (codes "A" ∷ codes "LP.B" ∷ [])) ≡ codes "ok ignored A LP.B\n"
   pub marked : exclusion_text (why.Stored 1) ≡ codes "failed E1"
   pub too_long : reply_text false (refused (NotFit condition.Size) nothing) ≡ codes "no 17 NotFit size\n"
+  pub bounded : refusal_text (NotFit condition.Bounded) ≡ codes "17 NotFit BOUNDED"
+  pub full_dim : refusal_text (NotFit condition.FullDim) ≡ codes "17 NotFit FULL_DIM"
+  pub feasible : refusal_text (NotFit condition.Feasible) ≡ codes "17 NotFit FEASIBLE"
+  pub columns : refusal_text (NotFit condition.Columns) ≡ codes "17 NotFit columns"
+  pub rows : refusal_text (NotFit condition.Rows) ≡ codes "17 NotFit rows"
+  pub another_type : reply_text false (refused (NotFit condition.OfType) nothing) ≡ codes "no 17 NotFit type\n"
+  pub no_interior : reply_text false (refused (NotFit condition.Centered) nothing) ≡ codes "no 17 NotFit CENTERED\n"
   pub not_json : reply_text false (refused (BadFile file_why.NotJson) nothing) ≡ codes "no 13 BadFile NotJson\n"
-  pub four : are_asked (codes "A" ∷ codes "B" ∷ codes "A" ∷ codes "C" ∷ codes "D" ∷ []) ≡ true
-  pub not_five : are_asked (codes "A" ∷ codes "B" ∷ codes "C" ∷ codes "D" ∷ codes "E" ∷ []) ≡ false
-  pub no_words : are_asked (codes "a" ∷ []) ≡ false

@@ -3,7 +3,7 @@ use Rattle.std.specs.Prelude.{ℕ, ◌-◌, ◌/◌, ◌%◌, ◌^◌, List, [],
 use Rattle.std.specs.Fmt.{digits}
 use Rattle.std.specs.List.{slice_get}
 use Rattle.pm_geom.specs.Evidence.{evidence_number}
-use Rattle.pm_object.specs.State.{RoundSeen}
+use Rattle.pm_object.specs.State.{RoundSeen, word_of}
 use Rattle.pm_object.specs.Views.{round_seen}
 use Rattle.pm_object.specs.declared.held.Excluded.{Excluded}
 use Rattle.pm_object.specs.declared.held.Origin.{Origin}
@@ -23,15 +23,14 @@ use Rattle.pm_script.specs.declared.names.Bar.{Bar}
 use Rattle.pm_script.specs.declared.names.Bar.TheVariants as bar
 use Rattle.pm_script.specs.declared.names.Names.{Names}
 use Rattle.pm_props.specs.declared.object_type.ObjectType.{ObjectType}
-use Rattle.pm_props.specs.Properties.{first_name, name_in}
+use Rattle.pm_props.specs.Names.{program_name}
+use Rattle.pm_props.specs.Properties.{first_name, has_program, name_in}
 use Rattle.pm_types.specs.Values.{PropertyValue}
 use Rattle.pm_types.specs.Views.{view_of}
 use Rattle.pm_props.specs.declared.property.PropId.{PropId}
 use Rattle.pm_script.specs.Values.{value_text}
 use Rattle.pm_script.specs.declared.refusal.Refusal.{Refusal}
 use Rattle.pm_script.specs.declared.refusal.Refusal.TheVariants.{BadCommand, UnknownName, NameTaken, UnknownType, UnknownProperty, BadValue, AlreadyHeld, Sealed, ObjectsFull, NoChain, Crowded, StoreFault, BadFile, NoSuchFile, LineTooLong, UnknownRule, NotFit}
-use Rattle.pm_script.specs.declared.refusal.Condition.{Condition}
-use Rattle.pm_script.specs.declared.refusal.Condition.TheVariants as condition
 use Rattle.pm_script.specs.declared.refusal.FileWhy.{FileWhy}
 use Rattle.pm_script.specs.declared.refusal.FileWhy.TheVariants as file_why
 use Rattle.pm_script.specs.declared.refusal.ValueWhy.{ValueWhy}
@@ -49,15 +48,19 @@ pub record Rounds : Type 0 where
   pub rounds : List RoundSeen
   pub names : NamesSeen
 
+-- no rounds, and no names
+abbrev pub no_rounds : Rounds
+no_rounds = record { rounds = []; names = record { rules = []; programs = [] } }
+
 -- What follows a refusal: nothing; the rounds of the command, which are always shown (true), or where they are traced; or the rules that are barred, each with the reason, and the table of the planner.
 pub data Remarks : Type 0 where
   nothing : Remarks
   told : Bool → Rounds → Remarks
   planned : List (RuleId × Bar) → List TableRow → NamesSeen → Remarks
 
--- done; shows name of p v, the value v of the property p of the object of that name and type, with the rounds that found it; ensured, by these rounds; explained, by a chain with its weight and table; tells, what happened to an object; lists_rules n text, where the book has n rules and this text; tells_origin, how a value came to be held; loaded, with the names that were read over; undef, where no value is held; refused, why, and what is said beside it
+-- done, after these rounds; shows name of p v, the value v of the property p of what has that name, an object of that type or a program of one, with the rounds that found it; ensured, by these rounds; explained, by a chain with its weight and table; tells, what happened to an object; lists_rules n text, where the book has n rules and this text; tells_origin, how a value came to be held; loaded, with the names that were read over; undef, where no value is held; refused, why, and what is said beside it
 pub data ReplySeen : Type 0 where
-  done : ReplySeen
+  done : Rounds → ReplySeen
   shows : List ℕ → ObjectType → PropId → PropertyValue → Rounds → ReplySeen
   ensured : Rounds → ReplySeen
   explained : List RuleId → Cost → List TableRow → NamesSeen → ReplySeen
@@ -80,7 +83,7 @@ remarks always rounds barred None names = told always (record { rounds = rounds;
 
 -- what the code's reply says
 abbrev pub seen : Reply → ReplySeen
-seen reply.Done = done
+seen (reply.Done rounds names) = done (record { rounds = map round_seen rounds.items; names = names_seen names })
 seen (reply.Value name of p v rounds names) = shows (string_bytes name) of p (view_of v) (record { rounds = map round_seen rounds.items; names = names_seen names })
 seen (reply.Ensured rounds names) = ensured (record { rounds = map round_seen rounds.items; names = names_seen names })
 seen (reply.Explained chain weight table names) = explained chain.items weight table.rows.items (names_seen names)
@@ -111,9 +114,6 @@ file_why_text (file_why.BadProperty name why) = codes "BadProperty " ++ string_b
 file_why_text (file_why.BadRow name) = codes "BadRow " ++ string_bytes name
 file_why_text (file_why.BadProfile key) = codes "BadProfile " ++ string_bytes key
 
-abbrev pub condition_text : Condition → List ℕ
-condition_text condition.Size = codes "size"
-
 abbrev pub refusal_text : Refusal → List ℕ
 refusal_text BadCommand = codes "1 BadCommand"
 refusal_text UnknownName = codes "2 UnknownName"
@@ -131,7 +131,7 @@ refusal_text (BadFile why) = codes "13 BadFile " ++ file_why_text why
 refusal_text NoSuchFile = codes "14 NoSuchFile"
 refusal_text LineTooLong = codes "15 LineTooLong"
 refusal_text UnknownRule = codes "16 UnknownRule"
-refusal_text (NotFit condition) = codes "17 NotFit " ++ condition_text condition
+refusal_text (NotFit condition) = codes "17 NotFit " ++ word_of condition
 
 -- the label of a rule, and its weight
 abbrev pub label_in : Option (List ℕ × Weight) → List ℕ
@@ -238,10 +238,14 @@ abbrev pub ignored_text : List (List ℕ) → List ℕ
 ignored_text [] = []
 ignored_text (name ∷ names) = codes " ignored" ++ flat_map spaced_name (name ∷ names)
 
--- the reply's lines, each with its LF; rounds that found a value are shown where they are traced
+-- the name of a property as it is asked of an object of the type, or of a linear program
+abbrev pub name_shown : ObjectType → PropId → List ℕ
+name_shown of p = if has_program p then program_name p else name_in of p
+
+-- the reply's lines, each with its LF; rounds that found a value, or what a new object is made of, are shown where they are traced
 abbrev pub reply_text : Bool → ReplySeen → List ℕ
-reply_text trace done = codes "ok\n"
-reply_text trace (shows name of p v t) = name ++ codes " " ++ name_in of p ++ codes " " ++ value_text p v ++ codes "\n" ++ (if trace then rounds_text t else [])
+reply_text trace (done t) = codes "ok\n" ++ (if trace then rounds_text t else [])
+reply_text trace (shows name of p v t) = name ++ codes " " ++ name_shown of p ++ codes " " ++ value_text p v ++ codes "\n" ++ (if trace then rounds_text t else [])
 reply_text trace (ensured t) = codes "ok " ++ decimal (length t.rounds) ++ codes "\n" ++ rounds_text t
 reply_text trace (explained chain weight rows names) = codes "plan " ++ cost_text weight ++ codes "\n" ++ flat_map (rule_text names) chain ++ flat_map table_row_text rows
 reply_text trace (tells t excluded) = codes "rounds " ++ decimal (length t.rounds) ++ codes "\n" ++ rounds_text t ++ flat_map (excluded_text t.names) excluded

@@ -1,8 +1,9 @@
 // Refusals of commands.
 
-ghost use Rattle.pm_script.specs.Replies.{condition_text, file_why_text, refusal_text, why_text};
+ghost use Rattle.pm_script.specs.Replies.{file_why_text, refusal_text, why_text};
 ghost use Rattle.std.specs.Prelude.{OnOk, codes, string_bytes, ◌++◌, ◌≡◌};
 
+use pm_object::Condition;
 use std::alloc::AllocError;
 
 /// Why a value is refused.
@@ -45,13 +46,6 @@ pub enum FileWhy {
     BadProfile { key: String },
 }
 
-/// The condition that does not hold.
-#[derive(Clone, Copy, Debug, PartialEq, Eq)]
-pub enum Condition {
-    /// The text has at most 8,388,608 bytes.
-    Size,
-}
-
 /// Why a command is refused.
 #[derive(Debug, Drop)]
 pub enum Refusal {
@@ -87,7 +81,7 @@ pub enum Refusal {
     LineTooLong,
     /// 16: no rule of the book has the label, or no client has the name.
     UnknownRule,
-    /// 17: a condition does not hold.
+    /// 17: this condition does not hold.
     NotFit(Condition),
 }
 
@@ -104,15 +98,6 @@ fn why_text(why: ValueWhy) -> &'static str
         ValueWhy::Computed => "computed",
         ValueWhy::Columns => "columns",
         ValueWhy::Row => "row",
-    }
-}
-
-/// The word of a condition.
-fn condition_text(condition: Condition) -> &'static str
-    ensures { result.now ≡ condition_text condition }
-{
-    match condition {
-        Condition::Size => "size",
     }
 }
 
@@ -177,7 +162,7 @@ pub fn push_refusal(text: &mut String, why: &Refusal) -> Result<(), AllocError>
         Refusal::UnknownRule => text.push_str("16 UnknownRule"),
         Refusal::NotFit(condition) => {
             text.push_str("17 NotFit ")?;
-            text.push_str(condition_text(*condition))
+            text.push_str(condition.word())
         }
     }
 }

@@ -1,9 +1,8 @@
 // Replies.
 
 ghost use Rattle.pm_object.specs.Views.{round_seen};
-ghost use Rattle.pm_props.specs.Properties.{name_in};
 ghost use Rattle.pm_weights.specs.Weights.{cost_text};
-ghost use Rattle.pm_script.specs.Replies.{ignored_text, is_refusal, loaded, names_seen, nothing, origin_text, refused, remarks, remarks_text, reply_text, rounds_text, rule_text, seen, spaced_name, table_row_text};
+ghost use Rattle.pm_script.specs.Replies.{done, ignored_text, is_refusal, loaded, name_shown, names_seen, no_rounds, nothing, origin_text, refused, remarks, remarks_text, reply_text, rounds_text, rule_text, seen, spaced_name, table_row_text};
 ghost use Rattle.pm_script.specs.Values.{value_text};
 ghost use Rattle.pm_types.specs.Views.{view_of};
 ghost use Rattle.std.specs.Prelude.{Bool, IfOk, false, None, OnOk, [], codes, decimal, flat_map, if◌then◌else◌, length, map, string_bytes, ◌++◌, ◌||◌, ◌≡◌};
@@ -22,9 +21,12 @@ use std::fmt::Write;
 /// What is replied to a command.
 #[derive(Debug, Drop)]
 pub enum Reply {
-    /// The command was carried out.
-    Done,
-    /// A value of an object's property, with the rounds that found it; `name` is the REF that was asked.
+    /// The command was carried out, after these rounds; there are none but for commands that build objects.
+    Done {
+        rounds: Vec<Round>,
+        names: Names,
+    },
+    /// A value of an object's property, or of a program's, with the rounds that found it; `name` is the REF that was asked.
     Value {
         name: String,
         of: ObjectType,
@@ -76,6 +78,16 @@ pub enum Reply {
 }
 
 impl Reply {
+    /// The command was carried out, without rounds.
+    pub fn done(alloc: Global) -> Reply
+        ensures { seen result ≡ done no_rounds }
+    {
+        Reply::Done {
+            rounds: Vec::new(alloc),
+            names: Names::none(alloc),
+        }
+    }
+
     /// Whether the reply is a refusal.
     pub fn is_refusal(&self) -> bool
         ensures { result ≡ is_refusal (seen self.now) }
@@ -119,7 +131,17 @@ impl Reply {
     }
 }
 
-/// Writes a value of a property, after the name of its object.
+/// The name of a property as it is asked of an object of the type, or of a linear program.
+fn name_shown(of: ObjectType, prop: PropId) -> &'static str
+    ensures { result.now ≡ name_shown of prop }
+{
+    match prop.row().first_name.strip_prefix("LP.") {
+        Some(name) => name,
+        None => prop.name_in(of),
+    }
+}
+
+/// Writes a value of a property, after the name of its object or program.
 fn push_shown(
     text: &mut String,
     of: ObjectType,
@@ -127,11 +149,11 @@ fn push_shown(
     value: &Value,
 ) -> Result<(), AllocError>
     ensures { OnOk result (string_bytes text.new ≡ string_bytes text.old
-        ++ codes " " ++ name_in of prop ++ codes " " ++ value_text prop (view_of value.now)
+        ++ codes " " ++ name_shown of prop ++ codes " " ++ value_text prop (view_of value.now)
         ++ codes "\n") }
 {
     text.push_str(" ")?;
-    text.push_str(prop.name_in(of))?;
+    text.push_str(name_shown(of, prop))?;
     text.push_str(" ")?;
     push_value(text, prop, value)?;
     text.push_str("\n")
@@ -277,7 +299,11 @@ fn reply_lines(alloc: Global, r: &Reply, trace: bool) -> Result<String, AllocErr
     ensures { IfOk result (λ t. string_bytes t ≡ reply_text trace (seen r.now)) }
 {
     match r {
-        Reply::Done => String::from_str(alloc, "ok\n"),
+        Reply::Done { rounds, names } => {
+            let mut text = String::from_str(alloc, "ok\n")?;
+            push_told(&mut text, trace, rounds, names)?;
+            Ok(text)
+        }
         Reply::Origin(origin) => String::from_str(alloc, origin_line(*origin)),
         Reply::Loaded { ignored } => loaded_line(alloc, ignored),
         Reply::Undef => String::from_str(alloc, "undef\n"),

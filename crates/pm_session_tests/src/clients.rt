@@ -4,6 +4,7 @@ ghost use Rattle.std.specs.Prelude.{◌≡◌};
 
 use pm_client::{Client, ClientFail, Numbered};
 use pm_clients_geom::{DimClient, HullClient, RedundancyClient, TestClient};
+use pm_clients_lp::LpClient;
 use pm_object::{Draft, View};
 use pm_types::Kind;
 use std::alloc::Global;
@@ -78,6 +79,17 @@ pub fn of_programs(rt: &(impl Abort + AllocGlobal)) -> Vec<Box<dyn Client>> {
     let mut clients: Vec<Box<dyn Client>> = Vec::new(alloc);
     for k in 0..RedundancyClient::COUNT {
         let client = Box::new(alloc, RedundancyClient::new(k)).expect(rt, "a client");
+        clients.push(client).expect(rt, "a place for a client");
+    }
+    clients
+}
+
+// The standard clients of optima.
+pub fn of_optima(rt: &(impl Abort + AllocGlobal)) -> Vec<Box<dyn Client>> {
+    let alloc = rt.alloc();
+    let mut clients: Vec<Box<dyn Client>> = Vec::new(alloc);
+    for k in 0..LpClient::COUNT {
+        let client = Box::new(alloc, LpClient::new(k)).expect(rt, "a client");
         clients.push(client).expect(rt, "a place for a client");
     }
     clients

@@ -8,6 +8,8 @@ mod crowded;
 #[cfg(test)]
 mod no_rows;
 #[cfg(test)]
+mod optima;
+#[cfg(test)]
 mod programs;
 #[cfg(test)]
 mod sessions;

@@ -3,9 +3,9 @@ use Rattle.std.proofs.Common.{ap, inl, inr, refl, sym, ◌∙◌, ◌≡◌, ◌
 use Rattle.pm_lines.specs.Coming.{BreaksOff, Exceeds, IsOver, ReaderSeen, most_bytes}
 use Rattle.pm_lines.specs.declared.reader.LinesFail.{LinesFail}
 use Rattle.pm_lines.specs.declared.reader.LinesFail.TheVariants as line
-use Rattle.pm_machine.specs.Steps.{Machine, Stays}
+use Rattle.pm_machine.specs.Machines.{Machine, Stays}
 use Rattle.pm_rules.specs.declared.rule.Rule.{Rule}
-use Rattle.pm_script.specs.Lines.{Line}
+use Rattle.pm_command.specs.Lines.{Line}
 use Rattle.pm_script.specs.Replies.{ReplySeen}
 use Rattle.pm_shell.proofs.Reading.{HasRead, goes_on, read_breaks, read_exceeds, read_over}
 use Rattle.pm_shell.proofs.Runs.{SoFar, so_far_fails, so_far_halts, so_far_whole}

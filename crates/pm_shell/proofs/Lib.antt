@@ -6,3 +6,4 @@ pub mod Came
 pub mod Outcomes
 pub mod Books
 pub mod Worked
+pub mod DemoTexts

@@ -1,23 +1,28 @@
 -- What an outcome over the lines gives for a whole run.
-use Rattle.std.proofs.Common.{inl, inr, refl, subst, ◌≡◌, ◌⊎◌, ℕ, Bool, true, false, List, [], ◌∷◌, ◌++◌, Option, Some, None, Result, Ok, Err, OnErr, IfOk}
+use Rattle.std.proofs.Common.{inl, inr, refl, subst, sym, ◌≡◌, ◌⊎◌, ℕ, Bool, true, false, List, [], ◌∷◌, ◌++◌, Option, Some, None, Result, Ok, Err, OnErr, IfOk}
 use Rattle.pm_client.specs.Starts.{Clients}
-use Rattle.pm_machine.proofs.Kept.{all_honest, stays_honest, steps_in_part_keep}
+use Rattle.pm_machine.proofs.Kept.{steps_in_part_keep}
+use Rattle.pm_machine.proofs.KeptObjects.{all_honest, stays_honest}
 use Rattle.pm_machine.specs.Parts.{AllHonest, StepInPart}
 use Rattle.pm_machine.specs.Sessions.{book_of, machine_at, machine_of}
-use Rattle.pm_machine.specs.Steps.{AllKept, Files, Machine, Stays}
+use Rattle.pm_machine.specs.Machines.{Files, Machine, Stays}
+use Rattle.pm_machine.specs.Steps.{AllKept}
 use Rattle.pm_machine.specs.declared.session.Session.{Session}
 use Rattle.pm_rules.specs.declared.rule.Rule.{Rule}
-use Rattle.pm_script.specs.Commands.{Spoken}
-use Rattle.pm_script.specs.Lines.{Line}
+use Rattle.pm_command.specs.Commands.{Spoken}
+use Rattle.pm_command.specs.Lines.{Line}
 use Rattle.pm_script.specs.Replies.{ReplySeen, is_refusal}
 use Rattle.pm_shell.proofs.Came.{CameTo}
 use Rattle.pm_shell.proofs.Runs.{kept_run}
 use Rattle.pm_shell.proofs.Shown.{kept_by}
 use Rattle.pm_shell.specs.Chosen.{IsBook}
-use Rattle.pm_shell.specs.Ends.{AnswersOne, Ended, HasOutcome, InHand, NextInHand, Ran, World, status_of}
+use Rattle.pm_shell.specs.Demo.{demo_text}
+use Rattle.pm_shell.specs.Ends.{AnswersOne, DidNotRun, Ended, EndedBy, HasOutcome, InHand, IsBadBook, NextInHand, Ran, RanScript, RanWords, World, status_of}
 use Rattle.pm_shell.specs.Run.{Answers, Starts, command_at, text_of_reply}
 use Rattle.pm_shell.specs.declared.status.RunFail.{RunFail}
 use Rattle.pm_shell.specs.declared.status.RunFail.TheVariants as why
+use Rattle.pm_shell.specs.declared.status.Status.{Status}
+use Rattle.pm_shell.specs.declared.status.Status.TheVariants.{OutOfMemory}
 use Rattle.pm_machine.proofs.Beside.{files_stay}
 use Rattle.pm_store.specs.Files.{FilesStay}
 use Rattle.pm_store.specs.Outside.{Gains}
@@ -94,11 +99,40 @@ one_told book trace old new line reply had has (Ok b) answers told = record { re
 one_told book trace old new line reply had has (Err e) answers told = tt
 
 -- ---- how a run ended
-pub ended_by : (said : WordsSeen) (w : World) (book : List Rule) (r : Result Bool RunFail) → IsBook said.rules w.before w.files book → Ran book said.trace w r
-    → Ended said (status_of r) w
-ended_by said w book (Ok false) is ran = (book, is, ran)
-ended_by said w book (Ok true) is ran = (book, is, ran)
-ended_by said w book (Err why.SourceFault) is ran = (book, is, ran)
-ended_by said w book (Err why.SinkFault) is ran = (book, is, ran)
-ended_by said w book (Err why.Memory) is ran = inr (book, is, ran)
-ended_by said w book (Err why.TooLong) is ran = (book, is, ran)
+pub ended_by : (said : WordsSeen) (w : World) (r : Result Bool RunFail) → RanWords said w r → Ended said (status_of r) w
+ended_by said w (Ok false) ran = ran
+ended_by said w (Ok true) ran = ran
+ended_by said w (Err why.SourceFault) ran = ran
+ended_by said w (Err why.SinkFault) ran = ran
+ended_by said w (Err why.Memory) ran = inr ran
+ended_by said w (Err why.TooLong) ran = ran
+
+-- a run of the demo in place of the source, of which nothing was read
+pub demo_ran : (said : WordsSeen) (n : ℕ) (book other : List Rule) (trace : Bool) (script same had has left : Option (List ℕ)) (files mid kept : Option Files) (given before after : Clients) (text : List ℕ) (r : Result Bool RunFail) (status : Status) → status ≡ status_of r → said.demo ≡ Some n → same ≡ script
+    → text ≡ demo_text n → trace ≡ said.trace → IsBook said.rules given files book → given ≡ before → FilesStay files mid → other ≡ book
+    → Ran other trace (record { script = Some text; left = left; had = had; has = has; files = mid; kept = kept; before = before; after = after }) r
+    → Ended said status (record { script = script; left = same; had = had; has = has; files = files; kept = kept; before = before; after = after })
+demo_ran said n book other trace script same had has left files mid kept given before after text r status so is unread told traced found these stay this ran =
+    subst (λ z. Ended said z (record { script = script; left = same; had = had; has = has; files = files; kept = kept; before = before; after = after })) (sym so) (ended_by said (record { script = script; left = same; had = had; has = has; files = files; kept = kept; before = before; after = after }) r
+    (subst (λ z. RanScript z said (record { script = script; left = same; had = had; has = has; files = files; kept = kept; before = before; after = after }) r) (sym is) (
+      unread,
+      left,
+      (
+        book,
+        subst (λ z. IsBook said.rules z files book) these found,
+        ran_later book said.trace (Some (demo_text n)) left had has files mid kept before after r stay
+            (subst (λ z. Ran book z (record { script = Some (demo_text n); left = left; had = had; has = has; files = mid; kept = kept; before = before; after = after }) r) traced
+            (subst (λ z. Ran book trace (record { script = Some z; left = left; had = had; has = has; files = mid; kept = kept; before = before; after = after }) r) told
+            (subst (λ z. Ran z trace (record { script = Some text; left = left; had = had; has = has; files = mid; kept = kept; before = before; after = after }) r) this ran))),
+      ),
+    )))
+
+-- memory ran out before anything was read
+pub not_run : (said : Option WordsSeen) (w : World) → DidNotRun w → EndedBy said OutOfMemory w
+not_run None w h = h
+not_run (Some said) w h = inl h
+
+-- ---- the book
+-- the words that were read are those that were given
+pub bad_for : (given : Option WordsSeen) (said : WordsSeen) (clients : Clients) (files : Option Files) (old new : ℕ) → given ≡ Some said → IsBadBook (Some said) clients files old new → IsBadBook given clients files old new
+bad_for given said clients files old new is h = subst (λ z. IsBadBook z clients files old new) (sym is) h

@@ -5,7 +5,7 @@ use Rattle.std.proofs.lemmas.Bool.{cases_Bool}
 use Rattle.pm_lines.proofs.Callers.{Answered, answered_all, answered_before, answered_ended, answered_last, answered_none, answered_whole}
 use Rattle.pm_lines.specs.Coming.{Answers, BreaksOff, Exceeds, IsOver, ReaderSeen, most_bytes}
 use Rattle.pm_lines.specs.Whole.{whole_lines}
-use Rattle.pm_script.specs.Lines.{Line, lines_of}
+use Rattle.pm_command.specs.Lines.{Line, lines_of}
 use Rattle.pm_shell.specs.Ends.{IsRead}
 use Rattle.pm_shell.specs.declared.status.RunFail.TheVariants as why
 

@@ -1,9 +1,10 @@
 -- Runs go on line by line, keep every object honest, and show right values.
 use Rattle.std.proofs.Common.{ap, inl, inr, refl, subst, sym, ◌∙◌, ◌≡◌, ◌||◌, ◌⊎◌, ℕ, Bool, true, false, List, [], ◌∷◌, ◌++◌, Option, Some, None, Err, append_assoc, append-nil}
 use Rattle.pm_client.specs.Starts.{Clients}
-use Rattle.pm_machine.specs.Steps.{AllKept, Machine, Stays}
+use Rattle.pm_machine.specs.Machines.{Machine, Stays}
+use Rattle.pm_machine.specs.Steps.{AllKept}
 use Rattle.pm_rules.specs.declared.rule.Rule.{Rule}
-use Rattle.pm_script.specs.Lines.{Line}
+use Rattle.pm_command.specs.Lines.{Line}
 use Rattle.pm_script.specs.Replies.{ReplySeen}
 use Rattle.pm_shell.proofs.Shown.{kept_by, shows_right}
 use Rattle.pm_shell.specs.Ends.{AnsweredAll, AnswersOne, BrokeOff, GainsWithin, HasOutcome, InHand, NextInHand, Stopped}

@@ -1,16 +1,19 @@
 -- A value that is shown stands in an honest object.
-use Rattle.std.proofs.Common.{ap, subst, sym, refl, ◌∙◌, ◌≡◌, ℕ, IfSome, List, [], ◌∷◌, Option, Some, None}
+use Rattle.std.proofs.Common.{ap, subst, sym, refl, ◌∙◌, ◌≡◌, ℕ, List, [], ◌∷◌, Option, Some, None}
+use Rattle.std.proofs.lemmas.Option.{same_Some}
+use Rattle.std.specs.Option.{option_and_then, option_map}
 use Rattle.pm_props.specs.declared.object_type.ObjectType.{ObjectType}
-use Rattle.pm_machine.proofs.Kept.{steps_keep}
+use Rattle.pm_machine.proofs.Kept.{kept_at, some_not_none, steps_keep}
 use Rattle.pm_machine.specs.Events.{Configuration, Ensured, Event, after_event, after_events, begun, committed, configuration, excluded, settled, started, written}
 use Rattle.pm_machine.specs.declared.round.Ending.{Ending}
 use Rattle.pm_machine.specs.declared.round.Ending.TheVariants.{Found}
-use Rattle.pm_machine.specs.Steps.{AllKept, Machine, Step, whole_of}
-use Rattle.pm_object.specs.Honest.{IsKept}
-use Rattle.pm_object.specs.State.{State, read_at, value_of}
+use Rattle.pm_machine.specs.Machines.{Machine}
+use Rattle.pm_machine.specs.Steps.{AllKept, Named, NewOf, Step, named_at, part_named}
+use Rattle.pm_object.specs.State.{State, place_from, place_named, read_at, value_of}
 use Rattle.pm_rules.specs.declared.rule.Rule.{Rule}
-use Rattle.pm_script.specs.Commands.{Spoken, blank, new_object, take_value, give_value, look_up, ensure_values, explain_values, tell_history, show_rules, disable_rule, unload_client, copy_object, drop_object, tell_origin, load_object, save_object}
-use Rattle.pm_script.specs.Lines.{Line}
+use Rattle.pm_command.specs.Commands.{RefSeen, Spoken, blank, new_object, take_value, give_value, look_up, ensure_values, explain_values, tell_history, show_rules, disable_rule, unload_client, copy_object, drop_object, tell_origin, load_object, save_object, make_object, build_polar, build_pyramid, build_normal_fan, build_face_fan, build_product}
+use Rattle.pm_command.specs.Grammar.{ref_text}
+use Rattle.pm_command.specs.Lines.{Line}
 use Rattle.pm_script.specs.Replies.{ReplySeen, Rounds, done, ensured, explained, lists_rules, loaded, refused, shows, tells, tells_origin, undef}
 use Rattle.pm_script.specs.declared.refusal.Refusal.{Refusal}
 use Rattle.pm_shell.specs.Run.{Answers, AnswersTo, command_at, refusal_of}
@@ -30,7 +33,7 @@ kept_to book old new why None None h all = absurd h
 pub kept_by : (book : List Rule) (old new : Machine) (line : Line) (reply : Option ReplySeen) → Answers book old line reply new → AllKept old → AllKept new
 kept_by book old new line reply answers all = kept_to book old new (refusal_of line) (command_at line) reply answers all
 
--- ---- events keep the type
+-- ---- events keep the type and the programs
 of_event : (sub : Option ℕ) (e : Event) (c : Configuration) → (after_event sub e c).object.of ≡ c.object.of
 of_event sub settled c = refl
 of_event sub (begun chain) c = refl
@@ -46,48 +49,90 @@ of_events sub (e ∷ events) c = of_events sub events (after_event sub e c) ∙ 
 of_ensured : (book : List Rule) (sub : Option ℕ) (asked : PropSet) (ending : Ending) (old new : Configuration) → Ensured book sub asked ending old new → new.object.of ≡ old.object.of
 of_ensured book sub asked ending old new e = ap (λ (c : Configuration). c.object.of) e.reaches.becomes ∙ of_events sub e.reaches.events old
 
+programs_event : (sub : Option ℕ) (e : Event) (c : Configuration) → (after_event sub e c).object.programs ≡ c.object.programs
+programs_event sub settled c = refl
+programs_event sub (begun chain) c = refl
+programs_event sub (started kind) c = refl
+programs_event sub (committed answer) c = refl
+programs_event sub (excluded e) c = refl
+programs_event sub (written r) c = refl
+
+programs_events : (sub : Option ℕ) (events : List Event) (c : Configuration) → (after_events sub events c).object.programs ≡ c.object.programs
+programs_events sub [] c = refl
+programs_events sub (e ∷ events) c = programs_events sub events (after_event sub e c) ∙ programs_event sub e c
+
+programs_ensured : (book : List Rule) (sub : Option ℕ) (asked : PropSet) (ending : Ending) (old new : Configuration) → Ensured book sub asked ending old new → new.object.programs ≡ old.object.programs
+programs_ensured book sub asked ending old new e = ap (λ (c : Configuration). c.object.programs) e.reaches.becomes ∙ programs_events sub e.reaches.events old
+
+-- ---- what a REF names
+-- another object with the same programs has the same part at the same place
+part_again : (x : Option State) (part : Option (List ℕ)) (found : Named) (o : State) → option_and_then (λ y. part_named y part) x ≡ Some found → o.programs ≡ found.object.programs
+    → part_named o part ≡ Some (record { object = o; sub = found.sub })
+part_again None part found o at same = absurd (some_not_none (sym at))
+part_again (Some y) None found o at same = ap (λ (z : Named). Some (record { object = o; sub = z.sub })) (same_Some _ _ at)
+part_again (Some y) (Some name) found o at same = by (place_named name y) refl at
+  where
+    by : (place : Option ℕ) → place_named name y ≡ place → option_map {U = Named} (λ s. record { object = y; sub = Some s }) place ≡ Some found
+        → option_map {U = Named} (λ s. record { object = o; sub = Some s }) (place_named name o) ≡ Some (record { object = o; sub = found.sub })
+    by None is h = absurd (some_not_none (sym h))
+    by (Some s) is h =
+        let e : record { object = y; sub = Some s } ≡ found = same_Some _ _ h in
+        let there : place_named name o ≡ Some s = ap (place_from 0 name) (same ∙ sym (ap (λ (z : Named). z.object.programs) e)) ∙ is in
+        ap (option_map {U = Named} (λ k. record { object = o; sub = Some k })) there ∙ ap (λ (z : Named). Some (record { object = o; sub = z.sub })) e
+
+named_again : (old new : Machine) (ref : RefSeen) (found : Named) (o : State) → named_at old ref ≡ Some found → new.object ref.name ≡ Some o → o.programs ≡ found.object.programs
+    → named_at new ref ≡ Some (record { object = o; sub = found.sub })
+named_again old new ref found o at is same =
+    ap (option_and_then (λ y. part_named y ref.sub)) is ∙ part_again (old.object ref.name) ref.sub found o at same
+
 -- ---- what a step shows
-whole_of-some : (sub : Option (List ℕ)) (x : Option State) (o : State) → whole_of sub x ≡ Some o → x ≡ Some o
-whole_of-some None x o is = is
-whole_of-some (Some sub) x o is = absurd (cc is)
+shown_by : (m : Machine) (ref : RefSeen) (text : List ℕ) (of : ObjectType) (p : PropId) (v : PropertyValue) (found : Named)
+    → AllKept m → text ≡ ref_text ref → named_at m ref ≡ Some found → found.object.of ≡ of → value_of p (read_at found.sub found.object.held) ≡ Some v → IsShown text of p v m
+shown_by m ref text of p v found all is at typed held =
+    record { ref = ref; spelled = is; found = found; named = at; typed = typed; held = held; honest = (kept_at m ref found at all).honest }
 
-shown_by : (m : Machine) (name key : List ℕ) (of : ObjectType) (p : PropId) (v : PropertyValue) (o : State)
-    → AllKept m → name ≡ key → m.object key ≡ Some o → o.of ≡ of → value_of p (read_at None o.held) ≡ Some v → IsShown name of p v m
-shown_by m name key of p v o all is at typed held =
-    let kept : IsKept o = subst (λ (x : Option State). IfSome x IsKept) at (all.each key) in
-    record { object = o; named = ap m.object is ∙ at; typed = typed; held = held; honest = kept.honest }
+none_made : (old new : Machine) (name : List ℕ) (sub : Option (List ℕ)) (word text : List ℕ) (of : ObjectType) (p : PropId) (v : PropertyValue) (t : Rounds) → NewOf old name sub word (shows text of p v t) new → ⊥
+none_made old new name None word text of p v t h = h
+none_made old new name (Some sub) word text of p v t h = h
 
-shown_step : (book : List Rule) (old new : Machine) (command : Spoken) (name : List ℕ) (of : ObjectType) (p : PropId) (v : PropertyValue) (t : Rounds)
-    → Step book old command (shows name of p v t) new → AllKept new → IsShown name of p v new
-shown_step book old new blank name of p v t h all = absurd h
-shown_step book old new (new_object ref text) name of p v t h all = absurd h
-shown_step book old new (take_value ref text json) name of p v t h all = absurd h
-shown_step book old new show_rules name of p v t h all = absurd h
-shown_step book old new (disable_rule key label) name of p v t h all = absurd h
-shown_step book old new (unload_client client) name of p v t h all = absurd h
-shown_step book old new (copy_object key to) name of p v t h all = absurd h
-shown_step book old new (drop_object key) name of p v t h all = absurd h
-shown_step book old new (tell_origin ref text) name of p v t h all = absurd h
-shown_step book old new (load_object key file) name of p v t h all = absurd h
-shown_step book old new (save_object key file) name of p v t h all = absurd h
-shown_step book old new (ensure_values ref words) name of p v t h all = absurd h
-shown_step book old new (explain_values ref words) name of p v t h all = absurd h
-shown_step book old new (tell_history key) name of p v t h all = absurd h
-shown_step book old new (give_value ref text) name of p v t (o, at, q, named, c, (so, is, typed, same, held, rounds), becomes) all =
-    shown_by new name ref.name of p v c.object all is becomes.object
-    (of_ensured book None _ Found (configuration o old.clients) c so ∙ sym typed) (subst (λ z. value_of z (read_at None c.object.held) ≡ Some v) (sym same) held)
-shown_step book old new (look_up ref text) name of p v t (o, at, named, is, typed, held, none, stays) all =
-    shown_by new name ref.name of p v o all is (stays.objects ref.name ∙ whole_of-some ref.sub (old.object ref.name) o at) (sym typed) held
+shown_step : (book : List Rule) (old new : Machine) (command : Spoken) (text : List ℕ) (of : ObjectType) (p : PropId) (v : PropertyValue) (t : Rounds)
+    → Step book old command (shows text of p v t) new → AllKept new → IsShown text of p v new
+shown_step book old new blank text of p v t h all = absurd h
+shown_step book old new (new_object ref word) text of p v t h all = absurd (none_made old new ref.name ref.sub word text of p v t h)
+shown_step book old new (take_value ref word json) text of p v t h all = absurd h
+shown_step book old new show_rules text of p v t h all = absurd h
+shown_step book old new (disable_rule key label) text of p v t h all = absurd h
+shown_step book old new (unload_client client) text of p v t h all = absurd h
+shown_step book old new (copy_object key to) text of p v t h all = absurd h
+shown_step book old new (drop_object key) text of p v t h all = absurd h
+shown_step book old new (tell_origin ref word) text of p v t h all = absurd h
+shown_step book old new (load_object key file) text of p v t h all = absurd h
+shown_step book old new (save_object key file) text of p v t h all = absurd h
+shown_step book old new (make_object to shape) text of p v t h all = absurd h
+shown_step book old new (build_polar key to) text of p v t h all = absurd h
+shown_step book old new (build_pyramid key to) text of p v t h all = absurd h
+shown_step book old new (build_normal_fan key to) text of p v t h all = absurd h
+shown_step book old new (build_face_fan key to) text of p v t h all = absurd h
+shown_step book old new (build_product first second to) text of p v t h all = absurd h
+shown_step book old new (ensure_values ref words) text of p v t h all = absurd h
+shown_step book old new (explain_values ref words) text of p v t h all = absurd h
+shown_step book old new (tell_history key) text of p v t h all = absurd h
+shown_step book old new (give_value ref word) text of p v t (x, at, q, named, c, (so, is, typed, same, held, rounds), becomes) all =
+    shown_by new ref text of p v (record { object = c.object; sub = x.sub }) all is
+    (named_again old new ref x c.object at becomes.object (programs_ensured book x.sub _ Found (configuration x.object old.clients) c so))
+    (of_ensured book x.sub _ Found (configuration x.object old.clients) c so ∙ sym typed) (subst (λ z. value_of z (read_at x.sub c.object.held) ≡ Some v) (sym same) held)
+shown_step book old new (look_up ref word) text of p v t (x, at, named, is, typed, held, none, stays) all =
+    shown_by new ref text of p v x all is (ap (option_and_then (λ y. part_named y ref.sub)) (stays.objects ref.name) ∙ at) (sym typed) held
 
-shown_to : (book : List Rule) (old new : Machine) (why : Refusal) (command : Option Spoken) (name : List ℕ) (of : ObjectType) (p : PropId) (v : PropertyValue) (t : Rounds)
-    → AnswersTo book old why command (Some (shows name of p v t)) new → AllKept new → IsShown name of p v new
-shown_to book old new why (Some command) name of p v t step all = shown_step book old new command name of p v t step all
-shown_to book old new why None name of p v t (reply_is, is) all = absurd (cc reply_is)
+shown_to : (book : List Rule) (old new : Machine) (why : Refusal) (command : Option Spoken) (text : List ℕ) (of : ObjectType) (p : PropId) (v : PropertyValue) (t : Rounds)
+    → AnswersTo book old why command (Some (shows text of p v t)) new → AllKept new → IsShown text of p v new
+shown_to book old new why (Some command) text of p v t step all = shown_step book old new command text of p v t step all
+shown_to book old new why None text of p v t (reply_is, is) all = absurd (cc reply_is)
 
 pub shows_right : (book : List Rule) (old new : Machine) (line : Line) (reply : Option ReplySeen) → Answers book old line reply new → AllKept new → Shows reply new
 shows_right book old new line None answers all = tt
-shows_right book old new line (Some (shows name of p v t)) answers all = shown_to book old new (refusal_of line) (command_at line) name of p v t answers all
-shows_right book old new line (Some done) answers all = tt
+shows_right book old new line (Some (shows text of p v t)) answers all = shown_to book old new (refusal_of line) (command_at line) text of p v t answers all
+shows_right book old new line (Some (done t)) answers all = tt
 shows_right book old new line (Some (tells_origin g)) answers all = tt
 shows_right book old new line (Some (loaded names)) answers all = tt
 shows_right book old new line (Some undef) answers all = tt

@@ -6,12 +6,13 @@ use Rattle.pm_lines.specs.Whole.{whole_lines}
 use Rattle.pm_lines.specs.declared.reader.LinesFail.{LinesFail}
 use Rattle.pm_lines.specs.declared.reader.LinesFail.TheVariants as line
 use Rattle.pm_machine.specs.Parts.{AllHonest, StepInPart}
-use Rattle.pm_machine.specs.Steps.{Files, Machine, Stays}
+use Rattle.pm_machine.specs.Machines.{Files, Machine, Stays}
 use Rattle.pm_rules.specs.declared.rule.Rule.{Rule}
-use Rattle.pm_script.specs.Commands.{Spoken}
-use Rattle.pm_script.specs.Lines.{Line, lines_of}
+use Rattle.pm_command.specs.Commands.{Spoken}
+use Rattle.pm_command.specs.Lines.{Line, lines_of}
 use Rattle.pm_script.specs.Replies.{ReplySeen}
 use Rattle.pm_shell.specs.Chosen.{IsBook, IsRefusedBook}
+use Rattle.pm_shell.specs.Demo.{demo_text}
 use Rattle.pm_shell.specs.Run.{Answers, Run, Starts, any_refused, command_at, is_refused, replies_text, text_if, text_of_reply}
 use Rattle.pm_shell.specs.declared.status.RunFail.{RunFail}
 use Rattle.pm_shell.specs.declared.status.RunFail.TheVariants as why
@@ -150,18 +151,27 @@ Ran book trace w outcome = (lines : List Line) × IsRead w.script w.left outcome
 abbrev pub RanBook : WordsSeen → World → Result Bool RunFail → Type 0
 RanBook said w outcome = (book : List Rule) × IsBook said.rules w.before w.files book × Ran book said.trace w outcome
 
+-- The lines are those of the source; or of the demo of this number, and of the source nothing was read.
+abbrev pub RanScript : Option ℕ → WordsSeen → World → Result Bool RunFail → Type 0
+RanScript None said w outcome = RanBook said w outcome
+RanScript (Some n) said w outcome = (w.left ≡ w.script) × (left : Option (List ℕ)) × RanBook said (record w { script = Some (demo_text n); left = left }) outcome
+
+-- so it was with the script that the words say
+abbrev pub RanWords : WordsSeen → World → Result Bool RunFail → Type 0
+RanWords said w outcome = RanScript said.demo said w outcome
+
 -- nothing was read, nothing was told, no client was started, and no file was written
 abbrev pub DidNotRun : World → Type 0
 DidNotRun w = (w.left ≡ w.script) × (w.has ≡ w.had) × (w.after ≡ w.before) × FilesStay w.files w.kept
 
 -- so a run with this status ended; memory may have run out before it
 abbrev pub Ended : WordsSeen → Status → World → Type 0
-Ended said Answered w = RanBook said w (Ok false)
-Ended said SomeRefused w = RanBook said w (Ok true)
-Ended said SourceFault w = RanBook said w (Err why.SourceFault)
-Ended said SinkFault w = RanBook said w (Err why.SinkFault)
-Ended said OutOfMemory w = DidNotRun w ⊎ RanBook said w (Err why.Memory)
-Ended said TooLong w = RanBook said w (Err why.TooLong)
+Ended said Answered w = RanWords said w (Ok false)
+Ended said SomeRefused w = RanWords said w (Ok true)
+Ended said SourceFault w = RanWords said w (Err why.SourceFault)
+Ended said SinkFault w = RanWords said w (Err why.SinkFault)
+Ended said OutOfMemory w = DidNotRun w ⊎ RanWords said w (Err why.Memory)
+Ended said TooLong w = RanWords said w (Err why.TooLong)
 Ended said BadBook w = DidNotRun w
 Ended said BadWords w = DidNotRun w
 

@@ -2,12 +2,12 @@
 -- 10 is LF, 110 and 111 are letters.
 use Rattle.std.specs.Prelude.{ℕ, ◌≡◌, ◌++◌, Bool, true, false, List, [], ◌∷◌, Option, Some, None, Ok, Err}
 use Rattle.pm_client.specs.Starts.{Clients}
-use Rattle.pm_machine.specs.Steps.{Machine}
+use Rattle.pm_machine.specs.Machines.{Machine}
 use Rattle.pm_props.specs.Kinds.{standard_kinds_list}
 use Rattle.pm_props.specs.declared.kind.Kind.{Kind}
 use Rattle.pm_rules.specs.Books.{standard_rules}
 use Rattle.pm_rules.specs.declared.rule.Rule.{Rule}
-use Rattle.pm_script.specs.Lines.{Line, is_too_long}
+use Rattle.pm_command.specs.Lines.{Line, is_too_long}
 use Rattle.pm_script.specs.Replies.{nothing, refused}
 use Rattle.pm_script.specs.declared.refusal.Refusal.{Refusal}
 use Rattle.pm_script.specs.declared.refusal.Refusal.TheVariants.{BadCommand, LineTooLong}

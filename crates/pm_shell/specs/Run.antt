@@ -1,10 +1,11 @@
 -- A run of the machine over the lines of a script.
 use Rattle.std.specs.Prelude.{ℕ, ◌≡◌, ◌||◌, Bool, false, if◌then◌else◌, Option, Some, None, List, [], ◌∷◌, ◌++◌}
 use Rattle.pm_client.specs.Starts.{Clients}
-use Rattle.pm_machine.specs.Steps.{Files, Machine, Step}
+use Rattle.pm_machine.specs.Machines.{Files, Machine}
+use Rattle.pm_machine.specs.Steps.{Step}
 use Rattle.pm_rules.specs.declared.rule.Rule.{Rule}
-use Rattle.pm_script.specs.Commands.{Spoken, blank, command_of}
-use Rattle.pm_script.specs.Lines.{Line, is_too_long, text_of}
+use Rattle.pm_command.specs.Commands.{Spoken, blank, command_of}
+use Rattle.pm_command.specs.Lines.{Line, is_too_long, text_of}
 use Rattle.pm_script.specs.Replies.{ReplySeen, is_refusal, nothing, refused, reply_text}
 use Rattle.pm_script.specs.declared.refusal.Refusal.{Refusal}
 use Rattle.pm_script.specs.declared.refusal.Refusal.TheVariants.{BadCommand, LineTooLong}

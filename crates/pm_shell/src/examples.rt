@@ -1,5 +1,6 @@
 // The definitions of a run, worked by hand.
 
+ghost use Rattle.pm_shell.specs.DemoExamples.{DemoIsRead};
 ghost use Rattle.pm_shell.specs.Examples.{BooksAreChosen, LinesAreRead, LinesAreRefused};
 
 /// Which lines a run read, how a line is refused, and which book a run goes by: what holds, and what does not.
@@ -7,4 +8,9 @@ pub(crate) fn example_runs()
     ensures lines { LinesAreRead }
     ensures refusals { LinesAreRefused }
     ensures books { BooksAreChosen }
+{}
+
+/// The script of the demo: its lines, and that each of them is a command.
+pub(crate) fn example_demo()
+    ensures { DemoIsRead }
 {}

@@ -1,27 +1,30 @@
 // Lines answered as they come.
 
-ghost use Rattle.pm_machine.specs.Sessions.{book_of, machine_at};
-ghost use Rattle.pm_machine.specs.Steps.{AllKept, Stays};
-ghost use Rattle.pm_script.specs.Commands.{spoken};
-ghost use Rattle.pm_script.specs.Lines.{Line};
+ghost use Rattle.pm_machine.specs.Sessions.{MakesNamed, book_of, machine_at};
+ghost use Rattle.pm_machine.specs.Machines.{Stays};
+ghost use Rattle.pm_machine.specs.Steps.{AllKept};
+ghost use Rattle.pm_command.specs.Commands.{spoken};
+ghost use Rattle.pm_command.specs.Lines.{Line};
 ghost use Rattle.pm_script.specs.Replies.{ReplySeen, is_refusal, nothing, refused, seen};
 ghost use Rattle.pm_shell.specs.Ends.{AnswersOne, HasOutcome, InHand, IsRead};
 ghost use Rattle.pm_shell.specs.Run.{Answers, command_at, refusal_of, text_of_reply};
 ghost use Rattle.pm_store.specs.Outside.{Gains, GainsPart, Rose};
 ghost use Rattle.std.specs.Option.{option_map};
-ghost use Rattle.std.specs.Prelude.{IfErr, IfOk, IsErrOf, List, OnErr, Some, map, ◌≡◌, ◌≤◌, ◌⊎◌};
+ghost use Rattle.std.specs.Prelude.{IfErr, IfOk, IfSome, IsErrOf, List, OnErr, Some, map, ◌≡◌, ◌≤◌, ◌⊎◌};
 
 use crate::status::RunFail;
 use pm_client::Client;
+use pm_command::{Command, Line, LineFail, read_line};
 use pm_lines::LineReader;
 use pm_machine::Session;
-use pm_script::{Command, Line, LineFail, Refusal, Reply, read_line, reply_bytes};
+use pm_script::{Refusal, Reply, reply_bytes};
 use pm_store::{Sink, Source, Store, write_all};
 use std::alloc::{AllocError, Global};
 
 /// The command that a line speaks, if it speaks one; a line that is too long speaks none.
 fn command_at(alloc: Global, line: &Line<'_>) -> Result<Option<Command>, AllocError>
-    ensures { IfOk result (λ c. command_at line.now ≡ option_map spoken c) }
+    ensures command { IfOk result (λ c. command_at line.now ≡ option_map spoken c) }
+    ensures named { IfOk result (λ c. IfSome c (λ d. MakesNamed (spoken d))) }
 {
     if line.is_too_long() {
         return Ok(None);

@@ -4,6 +4,7 @@
 ghost use Rattle.std.specs.Prelude.{IfErr, ◌≡◌, ◌⊎◌};
 
 mod book;
+mod demo;
 mod examples;
 mod lines;
 mod run;
@@ -14,8 +15,12 @@ mod tests;
 use pm_client::{Client, Numbered};
 use pm_clients_comb::SetsClient;
 use pm_clients_faces::FaceClient;
-use pm_clients_geom::{DimClient, HullClient, RowsClient, SizeClient, TestClient, ThinClient};
+use pm_clients_fans::FanClient;
+use pm_clients_geom::{
+    DimClient, HullClient, RedundancyClient, RowsClient, SizeClient, TestClient, ThinClient,
+};
 use pm_clients_graph::GraphClient;
+use pm_clients_lp::LpClient;
 use pm_store::{DirStore, StdSink, StdSource};
 use run::polymake;
 use status::Status;
@@ -66,6 +71,7 @@ fn main(rt: HostRuntime) -> ExitCode {
     let alloc = rt.alloc();
     let mut clients: Vec<Box<dyn Client>> = Vec::new(alloc);
     box_all!(HullClient, alloc, clients);
+    box_all!(RedundancyClient, alloc, clients);
     box_all!(ThinClient, alloc, clients);
     box_all!(RowsClient, alloc, clients);
     box_all!(DimClient, alloc, clients);
@@ -74,6 +80,8 @@ fn main(rt: HostRuntime) -> ExitCode {
     box_all!(SetsClient, alloc, clients);
     box_all!(FaceClient, alloc, clients);
     box_all!(GraphClient, alloc, clients);
+    box_all!(LpClient, alloc, clients);
+    box_all!(FanClient, alloc, clients);
     let mut source = StdSource::new(rt.stdin());
     let mut sink = StdSink::new(rt.stdout());
     let mut store = DirStore::new(&rt);

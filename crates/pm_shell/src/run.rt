@@ -4,9 +4,10 @@ ghost use Rattle.pm_shell.specs.Ends.{Ended, EndedBy, IsBadBook, IsUnrun, Ran};
 ghost use Rattle.pm_store.specs.Outside.{Rose};
 ghost use Rattle.pm_words.specs.Spoken.{seen_words};
 ghost use Rattle.pm_words.specs.Words.{words_of};
-ghost use Rattle.std.specs.Prelude.{IsErrOf, None, Some, map, string_bytes, ◌≡◌, ◌≢◌, ◌≤◌, ◌⊎◌};
+ghost use Rattle.std.specs.Prelude.{IsErrOf, List, None, Option, Some, map, string_bytes, ℕ, ◌≡◌, ◌≢◌, ◌≤◌, ◌⊎◌};
 
 use crate::book::{NoBook, chosen_book};
+use crate::demo::{TextSource, demo_script};
 use crate::lines::answer_lines;
 use crate::status::{RunFail, Status, ended};
 use pm_client::Client;
@@ -48,6 +49,36 @@ fn run_script<S: Source, K: Sink, F: Store>(
     answer_lines(alloc, &mut session, clients, source, trace, sink, store)
 }
 
+/// Answers the lines of a text.
+fn run_text<K: Sink, F: Store>(
+    alloc: Global,
+    book: Book,
+    clients: &mut Vec<Box<dyn Client>>,
+    text: String,
+    trace: bool,
+    sink: &mut K,
+    store: &mut F,
+) -> Result<bool, RunFail>
+    ensures run { (left : Option (List ℕ)) × Ran book trace (record {
+      script = Some (string_bytes text);
+      left = left;
+      had = K.taken sink.old;
+      has = K.taken sink.new;
+      files = F.files store.old;
+      kept = F.files store.new;
+      before = map tally clients.old.items;
+      after = map tally clients.new.items;
+    }) result }
+    ensures no_source_fault { ¬ (IsErrOf result RunFail.SourceFault) }
+    ensures sink_fault { IsErrOf result RunFail.SinkFault →
+        Rose (K.faults sink.old) (K.faults sink.new) }
+    ensures sink_count { K.faults sink.old ≤ K.faults sink.new }
+    ensures store_count { F.faults store.old ≤ F.faults store.new }
+{
+    let mut source = TextSource::new(text);
+    run_script(alloc, book, clients, &mut source, trace, sink, store)
+}
+
 /// Answers the lines of a script as the words say.
 fn run_words<S: Source, K: Sink, F: Store>(
     alloc: Global,
@@ -86,15 +117,24 @@ fn run_words<S: Source, K: Sink, F: Store>(
         Err(NoBook::Refused) => return Status::BadBook,
         Err(NoBook::Memory) => return Status::OutOfMemory,
     };
-    ended(run_script(alloc, book, clients, source, said.trace, sink, store))
+    match said.demo {
+        None => ended(run_script(alloc, book, clients, source, said.trace, sink, store)),
+        Some(n) => {
+            let Ok(script) = demo_script(alloc, n) else {
+                return Status::OutOfMemory;
+            };
+            ended(run_text(alloc, book, clients, script, said.trace, sink, store))
+        }
+    }
 }
 
 /// Answers the lines of a script by steps of the machine, each line as soon as it was read, and its reply is written
 /// before the next one is read. Memory: the line at hand and what one read gave.
 ///
-/// The words are those after the program's name: `--trace` traces rounds, and `--rules NAME` takes the rules of the
-/// store's file of this name in place of the standard book. The script is what the source has left, where it tells
-/// that, and the text is what the sink takes, where it tells that.
+/// The words are those after the program's name: `--trace` traces rounds, `--rules NAME` takes the rules of the store's
+/// file of this name in place of the standard book, and `--demo N` the script of the demo in place of the source, which
+/// is not read. Else the script is what the source has left, where it tells that, and the text is what the sink takes,
+/// where it tells that.
 ///
 /// `BadWords` comes exactly where the words are not those of the program, if memory does not run out before, and
 /// `BadBook` where the named book cannot be had or is refused: then nothing is read of the source, written or started.

@@ -24,3 +24,4 @@ pub mod Beginning
 pub mod Listed
 pub mod Answers
 pub mod ProgramRows
+pub mod Senses

@@ -15,3 +15,5 @@ pub mod StartLaws
 pub mod Answers
 pub mod Generated
 pub mod Lineality
+pub mod Senses
+pub mod OptimumEvidence

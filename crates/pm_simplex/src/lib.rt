@@ -14,6 +14,7 @@ mod moves;
 mod pivot;
 mod program;
 mod ratio_test;
+mod sense;
 mod simplex;
 mod sizes;
 mod start;
@@ -28,6 +29,7 @@ ghost use Rattle.pm_simplex.specs.ProgramLaws.{ContradictionExcludes, LeastAuxil
 pub use fails::LpFail;
 pub use linear::{Objective, maximise, maximise_rows};
 pub use pm_dual::LpAnswer;
+pub use sense::Sense;
 
 /// An optimal dictionary has a dual of its value.
 pub fn law_optimal_gives_dual()

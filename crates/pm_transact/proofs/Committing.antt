@@ -2,13 +2,13 @@
 use Rattle.pm_algebra.proofs.Lists.{Among, Contains_among, among_append_right, here, there}
 use Rattle.pm_transact.specs.Commits.{FitsObject, added}
 use Rattle.pm_object.proofs.Formed.{cols_stay, value_later, value_stays}
-use Rattle.pm_object.specs.Formed.{IsFormed, IsFormedIn}
-use Rattle.pm_object.specs.Honest.{facts}
+use Rattle.pm_object.specs.Formed.{IsBacked, IsFormed, IsFormedIn, speaks_of_rays}
+use Rattle.pm_object.specs.Honest.{facts, has_tag}
 use Rattle.pm_object.specs.Laws.{computed, computed_at}
 use Rattle.pm_object.specs.Reading.{Put, answer_at, drafted, fact_at, without}
 use Rattle.pm_object.specs.State.{HeldValue, State, cols_of, is_held, read_at, value_of, with_held}
 use Rattle.pm_props.proofs.Places.{same_place_refl, same_property_is}
-use Rattle.pm_props.specs.Properties.{every_property, number}
+use Rattle.pm_props.specs.Properties.{every_property, number, rays_tag}
 use Rattle.pm_types.specs.Runs.{is_named, missing}
 use Rattle.pm_props.specs.Places.{place_of, same_place, same_property}
 use Rattle.pm_props.specs.Sets.{has, members}
@@ -16,6 +16,7 @@ use Rattle.pm_types.specs.Values.{Fact, PropertyValue}
 use Rattle.pm_props.specs.declared.property.PropId.{PropId}
 use Rattle.pm_object.specs.declared.held.Origin.TheVariants.{Computed}
 use Rattle.std.proofs.Common.{ap, append-nil, arith, drop, false, get_or, inl, inr, refl, subst, sym, true, true≢false, ◌∙◌}
+use Rattle.std.proofs.lemmas.List.Folds.{list_any-append}
 use Rattle.std.specs.Option.{is_some}
 use Rattle.std.specs.Prelude.{Bool, Err, IfSome, List, None, Ok, OnOk, Option, Result, Some, [], if◌then◌else◌, filter, length, nat_eq, nat_le, not, suc, zero, ℕ, ◌&&◌, ◌+◌, ◌++◌, ◌<◌, ◌≤◌, ◌∷◌, ◌||◌, ◌≡◌, ◌⊎◌}
 
@@ -169,6 +170,12 @@ split_first sub now held p ps values =
     ∙ ap (λ t. t ++ computed (missing sub (facts held) others)) (missing_one sub held p (drafted p values)))
     ∙ ap (λ t. record now { held = t }) (sym (append_assoc now.held (added sub p (is_held p (read_at sub held)) (drafted p values)) (computed (missing sub (facts held) others))))
 
+-- ---- what speaks of the order of the rays
+pub speaks_still : (held more : List HeldValue) → speaks_of_rays held ≡ true → speaks_of_rays (held ++ more) ≡ true
+speaks_still held more h =
+    ap (has_tag rays_tag) (read_append None held more) ∙ list_any-append (λ (g : HeldValue). rays_tag g.property) (read_at None held) (read_at None more)
+    ∙ ap (λ t. t || has_tag rays_tag (read_at None more)) h
+
 -- ---- the loop
 pub record StillToCommit (sub : Option ℕ) (o : State) (values0 : List Put) (targets : List PropId) (now : State) (values : List Put) (i : ℕ) : Type 0 where
   pub ascending : ascends 0 (drop i targets) ≡ true
@@ -176,10 +183,12 @@ pub record StillToCommit (sub : Option ℕ) (o : State) (values0 : List Put) (ta
   pub held : (p : PropId) → Among p (drop i targets) → is_held p (read_at sub now.held) ≡ is_held p (read_at sub o.held)
   pub cols : cols_of now.held ≡ cols_of o.held
   pub of : now.of ≡ o.of
+  pub programs : now.programs ≡ o.programs
+  pub speaks : speaks_of_rays o.held ≡ true → speaks_of_rays now.held ≡ true
   pub drafts : (p : PropId) → Among p (drop i targets) → drafted p values ≡ drafted p values0
 
 pub start_to_commit : (sub : Option ℕ) (o : State) (values : List Put) (s : ℕ) → StillToCommit sub o values (members s) o values 0
-start_to_commit sub o values s = record { ascending = members_ascend s; rest = refl; held = λ p i. refl; cols = refl; of = refl; drafts = λ p i. refl }
+start_to_commit sub o values s = record { ascending = members_ascend s; rest = refl; held = λ p i. refl; cols = refl; of = refl; programs = refl; speaks = λ h. h; drafts = λ p i. refl }
 
 pub drop_at : {X : Type 0} (xs : List X) (i : ℕ) (x : X) → i < length xs → x ≡ get_or xs i x → drop i xs ≡ x ∷ drop (i + 1) xs
 drop_at [] i x h e = absurd (omega arith)
@@ -210,6 +219,8 @@ next_to_commit sub o values0 targets now values i p new left first is cols out s
       held = λ q j. ap (λ t. is_held q (read_at sub t.held)) is ∙ held_still sub q p now.held (is_held p (read_at sub now.held)) (drafted p values) (differs q j) ∙ s.held q (later q j);
       cols = cols ∙ s.cols;
       of = ap (λ t. t.of) is ∙ s.of;
+      programs = ap (λ t. t.programs) is ∙ s.programs;
+      speaks = λ h. subst (λ (t : State). speaks_of_rays t.held ≡ true) (sym is) (speaks_still now.held (added sub p (is_held p (read_at sub now.held)) (drafted p values)) (s.speaks h));
       drafts = λ q j. ap (λ t. drafted q t) out ∙ drafted_still q p values (differs q j) ∙ s.drafts q (later q j);
     }
 
@@ -221,23 +232,34 @@ answer_among sub (q ∷ ps) values {p} v (there i) e = among_append_right (fact_
 
 pub fits_at : (sub : Option ℕ) (o : State) (values0 : List Put) (targets : List PropId) (now : State) (values : List Put) (i : ℕ) (p : PropId) → drop i targets ≡ p ∷ drop (i + 1) targets
     → Among p targets → FitsObject o (answer_at sub targets values0) → StillToCommit sub o values0 targets now values i
-    → IfSome (drafted p values) (λ v. IsFormedIn now.of (cols_of now.held) (computed_at sub p v))
+    → IfSome (drafted p values) (λ v. IsFormedIn now.of (cols_of now.held) (length now.programs) (computed_at sub p v))
 fits_at sub o values0 targets now values i p first in_targets fits s = by (drafted p values) refl
   where
-    by : (d : Option PropertyValue) → drafted p values ≡ d → IfSome d (λ v. IsFormedIn now.of (cols_of now.held) (computed_at sub p v))
+    by : (d : Option PropertyValue) → drafted p values ≡ d → IfSome d (λ v. IsFormedIn now.of (cols_of now.held) (length now.programs) (computed_at sub p v))
     by None e = tt
     by (Some v) e =
         let old : drafted p values0 ≡ Some v = sym (s.drafts p (subst (λ t. Among p t) (sym first) here)) ∙ e in
-        subst (λ c. IsFormedIn now.of c (computed_at sub p v)) (sym s.cols) (subst (λ t. IsFormedIn t (cols_of o.held) (computed_at sub p v)) (sym s.of)
-        (fits.each (record { place = place_of sub p; property = p; value = v }) (Contains_among (answer_among sub targets values0 v in_targets old))))
+        subst (λ c. IsFormedIn now.of c (length now.programs) (computed_at sub p v)) (sym s.cols) (subst (λ t. IsFormedIn t (cols_of o.held) (length now.programs) (computed_at sub p v)) (sym s.of)
+        (subst (λ t. IsFormedIn o.of (cols_of o.held) (length t) (computed_at sub p v)) (sym s.programs)
+        (fits.each (record { place = place_of sub p; property = p; value = v }) (Contains_among (answer_among sub targets values0 v in_targets old)))))
+
+pub backed_at : (sub : Option ℕ) (o : State) (values0 : List Put) (targets : List PropId) (now : State) (values : List Put) (i : ℕ) (p : PropId) → drop i targets ≡ p ∷ drop (i + 1) targets
+    → Among p targets → FitsObject o (answer_at sub targets values0) → StillToCommit sub o values0 targets now values i → IfSome (drafted p values) (λ v. IsBacked p now.held)
+backed_at sub o values0 targets now values i p first in_targets fits s = by (drafted p values) refl
+  where
+    by : (d : Option PropertyValue) → drafted p values ≡ d → IfSome d (λ v. IsBacked p now.held)
+    by None e = tt
+    by (Some v) e =
+        let old : drafted p values0 ≡ Some v = sym (s.drafts p (subst (λ t. Among p t) (sym first) here)) ∙ e in
+        λ h. s.speaks (fits.backed (record { place = place_of sub p; property = p; value = v }) (Contains_among (answer_among sub targets values0 v in_targets old)) h)
 
 -- the column count stays
-pub cols_same : (o : State) (h : HeldValue) → IsFormed o → IsFormedIn o.of (cols_of o.held) h → is_some (cols_of o.held) ≡ true → cols_of (o.held ++ h ∷ []) ≡ cols_of o.held
+pub cols_same : (o : State) (h : HeldValue) → IsFormed o → IsFormedIn o.of (cols_of o.held) (length o.programs) h → is_some (cols_of o.held) ≡ true → cols_of (o.held ++ h ∷ []) ≡ cols_of o.held
 cols_same o h f fits known = by (cols_of o.held) refl known
   where
     by : (c : Option ℕ) → cols_of o.held ≡ c → is_some c ≡ true → cols_of (o.held ++ h ∷ []) ≡ cols_of o.held
     by None e k = absurd (true≢false (sym k))
-    by (Some n) e k = cols_stay o.of o.held h n (λ g i. f.each g (Contains_among i)) fits e ∙ sym e
+    by (Some n) e k = cols_stay o.of (length o.programs) o.held h n (λ g i. f.each g (Contains_among i)) fits e ∙ sym e
 
 pub no_more : (o : State) → with_held o [] ≡ o
 no_more o = ap (λ t. record o { held = t }) (append-nil o.held)

@@ -1,6 +1,6 @@
 // The calls of a transaction.
 
-ghost use Rattle.pm_object.specs.Formed.{IsFormedIn};
+ghost use Rattle.pm_object.specs.Formed.{IsBacked, IsFormedIn};
 ghost use Rattle.pm_object.specs.Honest.{facts};
 ghost use Rattle.pm_object.specs.Laws.{computed, computed_at};
 ghost use Rattle.pm_object.specs.Reading.{drafted, place_in, view_for, without};
@@ -119,7 +119,8 @@ fn commit_one(object: &mut Object, sub: Option<u8>, values: &mut Vec<(PropId, Va
     requires known { IsTrue (is_some (cols_of object.old.state.held)) }
     requires room { vec_len values.old ≤ object.old.spare }
     requires fits { IfSome (drafted p (map put_seen values.old.items)) (λ v.
-        IsFormedIn object.old.state.of (cols_of object.old.state.held) (computed_at sub p v)) }
+        IsFormedIn object.old.state.of (cols_of object.old.state.held) (length object.old.state.programs) (computed_at sub p v)) }
+    requires backed { IfSome (drafted p (map put_seen values.old.items)) (λ v. IsBacked p object.old.state.held) }
     ensures added { object.new.state ≡ with_held object.old.state
         (added sub p (is_held p (read_at sub object.old.state.held)) (drafted p (map put_seen values.old.items))) }
     ensures cols { cols_of object.new.state.held ≡ cols_of object.old.state.held }

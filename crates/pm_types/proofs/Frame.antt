@@ -6,7 +6,7 @@ use Rattle.pm_props.specs.Properties.{facets_tag, rays_tag}
 use Rattle.pm_types.specs.Right.{Right}
 use Rattle.pm_types.specs.Values.{PropertyValue, counts, edges, extended, lattice, matrix, sets, truth, whole}
 use Rattle.pm_props.specs.declared.property.PropId.{PropId}
-use Rattle.pm_props.specs.declared.property.PropId.TheVariants.{ConeAmbientDim, Points, InputLineality, Inequalities, Equations, Vertices, LinealitySpace, Facets, AffineHull, VerticesInFacets, ConeDim, LinealityDim, CombinatorialDim, NVertices, NFacets, Feasible, Bounded, Pointed, FullDim, Centered, Simple, Simplicial, VertexSizes, FacetSizes, FarFace, HasseDiagram, FVector, F2Vector, HVector, Graph, DualGraph, Diameter, DualDiameter, NEdges, NRidges, VertexDegrees, LinearObjective, MaximalValue, MinimalValue, MaximalFace, MinimalFace, MaximalDual, MinimalDual}
+use Rattle.pm_props.specs.declared.property.PropId.TheVariants.{ConeAmbientDim, Points, InputLineality, Inequalities, Equations, Vertices, LinealitySpace, Facets, AffineHull, VerticesInFacets, ConeDim, LinealityDim, CombinatorialDim, NVertices, NFacets, Feasible, Bounded, Pointed, FullDim, Centered, Simple, Simplicial, VertexSizes, FacetSizes, FarFace, HasseDiagram, FVector, F2Vector, HVector, Graph, DualGraph, Diameter, DualDiameter, NEdges, NRidges, VertexDegrees, MaximalCones, NMaximalCones, MaximalConesDims, FanDim, Pure, LinearObjective, MaximalValue, MinimalValue, MaximalFace, MinimalFace, MaximalDual, MinimalDual}
 use Rattle.std.proofs.Common.{false, inl, inr, subst, sym, true, true≢false}
 use Rattle.std.specs.Prelude.{List, ◌≡◌, ◌⊎◌}
 
@@ -14,6 +14,7 @@ use Rattle.std.specs.Prelude.{List, ◌≡◌, ◌⊎◌}
 pub record Agrees (p : PropId) (o o' : Orders) : Type 0 where
   pub rays : (rays_tag p ≡ false) ⊎ (o'.rays ≡ o.rays)
   pub facets : (facets_tag p ≡ false) ⊎ (o'.facets ≡ o.facets)
+  pub cones : (facets_tag p ≡ false) ⊎ (o'.cones ≡ o.cones)
 
 tagged : {A : Type 0} {x y : A} → (true ≡ false) ⊎ (y ≡ x) → x ≡ y
 tagged (inl e) = absurd (true≢false e)
@@ -58,6 +59,13 @@ right_in_orders DualDiameter (whole k) t o o' c a h = h
 right_in_orders NEdges (whole k) t o o' c a h = h
 right_in_orders NRidges (whole k) t o o' c a h = h
 right_in_orders VertexDegrees (counts ks) t o o' c a h = subst (λ V. Right VertexDegrees (counts ks) t (record o' { rays = V }) c) (tagged a.rays) h
+right_in_orders MaximalCones (sets rows n) t o o' c a h =
+    subst (λ K. Right MaximalCones (sets rows n) t (record o' { cones = K }) c) (tagged a.cones)
+    (subst (λ V. Right MaximalCones (sets rows n) t (record o { rays = V }) c) (tagged a.rays) h)
+right_in_orders NMaximalCones (whole k) t o o' c a h = h
+right_in_orders MaximalConesDims (counts ks) t o o' c a h = subst (λ K. Right MaximalConesDims (counts ks) t (record o' { cones = K }) c) (tagged a.cones) h
+right_in_orders FanDim (whole k) t o o' c a h = h
+right_in_orders Pure (truth b) t o o' c a h = h
 right_in_orders LinearObjective (matrix n rows) t o o' c a h = h
 right_in_orders MaximalValue (extended x) t o o' c a h = h
 right_in_orders MinimalValue (extended x) t o o' c a h = h

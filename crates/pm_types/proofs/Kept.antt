@@ -16,7 +16,7 @@ use Rattle.pm_props.specs.Sets.{has, members}
 use Rattle.pm_types.specs.Values.{Fact, PropertyValue, matrix, truth}
 use Rattle.pm_props.specs.declared.kind.Kind.{Kind}
 use Rattle.pm_props.specs.declared.property.PropId.{PropId}
-use Rattle.pm_props.specs.declared.property.PropId.TheVariants.{Points, InputLineality, Inequalities, Equations, Feasible, Bounded, Pointed, FullDim, Centered, Simple, Simplicial}
+use Rattle.pm_props.specs.declared.property.PropId.TheVariants.{Points, InputLineality, Inequalities, Equations, Feasible, Bounded, Pointed, FullDim, Centered, Simple, Simplicial, Pure}
 use Rattle.std.proofs.Common.{arith, false, inl, inr, refl, subst, sym, true, true≢false, ◌∙◌}
 use Rattle.std.specs.List.{Contains, list_any}
 use Rattle.std.specs.Prelude.{Bool, List, None, Option, [], if◌then◌else◌, not, ℕ, ◌&&◌, ◌++◌, ◌≡◌, ◌⊎◌}
@@ -182,6 +182,7 @@ module _ (of : ObjectType) (n : ℕ) (kind : Kind) (sub : Option ℕ) (held answ
           truth_alone Centered b c r = r
           truth_alone Simple b c r = r
           truth_alone Simplicial b c r = r
+          truth_alone Pure b c r = r
           truth_alone p b c r = absurd r
 
       meets : Meets kind t o
@@ -192,7 +193,7 @@ module _ (of : ObjectType) (n : ℕ) (kind : Kind) (sub : Option ℕ) (held answ
 
       old : (f : Fact) → Among f held → RightFact f t found.orders
       old f i = right_in_orders f.property f.value t o found.orders (objective_of t f.place)
-          (record { rays = not_tagged rays_tag kind held found.orders.rays o.rays may.rays found.keeps.rays i; facets = not_tagged facets_tag kind held found.orders.facets o.facets may.facets found.keeps.facets i })
+          (record { rays = not_tagged rays_tag kind held found.orders.rays o.rays may.rays found.keeps.rays i; facets = not_tagged facets_tag kind held found.orders.facets o.facets may.facets found.keeps.facets i; cones = not_tagged facets_tag kind held found.orders.cones o.cones may.facets found.keeps.cones i })
           (right.each f (Contains_among i))
 
       answered : {f : Fact} → Among f (missing sub held answer) → Contains (shown kind sub held ++ answer) f

@@ -2,3 +2,4 @@ pub mod PrimitiveRows
 pub mod Frame
 pub mod Kept
 pub mod Bits
+pub mod WholeRows

@@ -1,13 +1,13 @@
 -- When a value of a property is right for a thing t with orders o. Each property has one line of `Right`; c is the objective of the program that a value belongs to.
 -- A half alone is right where the pair's line would make it so: what generates lies inside, what cuts out is valid.
-use Rattle.std.specs.Prelude.{ℕ, zero, suc, ◌+◌, ◌≡◌, ◌<◌, ◌↔◌, IsTrue, Option, None, Some, List, [], ◌∷◌, ◌++◌, if◌then◌else◌, length, map}
-use Rattle.std.specs.List.{All, AllPairs, Contains, list_all, slice_index_or}
+use Rattle.std.specs.Prelude.{Bool, ℕ, zero, suc, ◌+◌, ◌≡◌, ◌<◌, ◌≤◌, ◌↔◌, IsTrue, Option, None, Some, List, [], ◌∷◌, ◌++◌, if◌then◌else◌, length, map}
+use Rattle.std.specs.List.{All, AllPairs, Any, Contains, list_all, slice_index_or}
 use Rattle.pm_algebra.specs.Numbers.{Ratio}
 use Rattle.pm_algebra.specs.Divisors.{IsPrimitive}
 use Rattle.pm_algebra.specs.Rows.{Row, entry, dot, plus, HasCols, IsZero, Same, Stands}
 use Rattle.pm_algebra.specs.Cones.{InCone, InSpan, IsIndependent}
 use Rattle.pm_bases.specs.Bases.{IsRank}
-use Rattle.pm_geom.specs.Cones.{CutOut, IsFacetRow, IsValid, Vanishes, InLineality, SameModulo}
+use Rattle.pm_geom.specs.Cones.{CutOut, IsExtremeRay, IsFacetRow, IsOrder, IsValid, Vanishes, InLineality, SameModulo}
 use Rattle.pm_geom.specs.FaceCounts.{IsHasseDiagram, f2_of, f_of, h_of}
 use Rattle.pm_geom.specs.Faces.{ray}
 use Rattle.pm_geom.specs.Generators.{IsBefore}
@@ -22,7 +22,7 @@ use Rattle.pm_types.specs.Programs.{IsGreatest, IsGreatestFace, OfGreatest, oppo
 use Rattle.pm_types.specs.Values.{PropertyValue, matrix, sets, whole, truth, counts, edges, lattice, extended, Extended, finite, Fact}
 use Rattle.pm_types.specs.Views.{over_one}
 use Rattle.pm_props.specs.declared.property.PropId.{PropId}
-use Rattle.pm_props.specs.declared.property.PropId.TheVariants.{ConeAmbientDim, Points, InputLineality, Inequalities, Equations, Vertices, LinealitySpace, Facets, AffineHull, VerticesInFacets, ConeDim, LinealityDim, CombinatorialDim, NVertices, NFacets, Feasible, Bounded, Pointed, FullDim, Centered, Simple, Simplicial, VertexSizes, FacetSizes, FarFace, HasseDiagram, FVector, F2Vector, HVector, Graph, DualGraph, Diameter, DualDiameter, NEdges, NRidges, VertexDegrees, LinearObjective, MaximalValue, MinimalValue, MaximalFace, MinimalFace, MaximalDual, MinimalDual}
+use Rattle.pm_props.specs.declared.property.PropId.TheVariants.{ConeAmbientDim, Points, InputLineality, Inequalities, Equations, Vertices, LinealitySpace, Facets, AffineHull, VerticesInFacets, ConeDim, LinealityDim, CombinatorialDim, NVertices, NFacets, Feasible, Bounded, Pointed, FullDim, Centered, Simple, Simplicial, VertexSizes, FacetSizes, FarFace, HasseDiagram, FVector, F2Vector, HVector, Graph, DualGraph, Diameter, DualDiameter, NEdges, NRidges, VertexDegrees, MaximalCones, NMaximalCones, MaximalConesDims, FanDim, Pure, LinearObjective, MaximalValue, MinimalValue, MaximalFace, MinimalFace, MaximalDual, MinimalDual}
 use lib.IntN.{ℤ, pos, negsuc, ◌-ℤ◌, ◌*ℤ◌}
 use lib.Signed.{◌<ℤ◌, ◌≤ℤ◌}
 
@@ -222,6 +222,61 @@ pub record InSomeOrders (t : Thing) (P : Orders → Type 0) : Type 0 where
   pub are_orders : AreOrders t orders
   pub holds : P orders
 
+-- ---- fans (Ziegler, section 7.1)
+-- the generators of the cone at a place; with the fan's lines they generate it
+abbrev pub cone_at : Thing → ℕ → List Row
+cone_at t i = slice_index_or t.cones i []
+
+-- the dimension of the span of the cone of these generators is d, the lineality counted
+abbrev pub IsDimOfCone : Thing → List Row → ℕ → Type 0
+IsDimOfCone t G d = IsRank (G ++ t.lines) d
+
+-- row i holds exactly the places j of the rays V_j that are extreme rays of the cone at the place i
+abbrev pub AreConeRays : Thing → List Row → List ℕ → List (List ℕ) → Type 0
+AreConeRays t V [] [] = Unit {0}
+AreConeRays t V [] (r ∷ rows) = ⊥
+AreConeRays t V (i ∷ places) [] = ⊥
+AreConeRays t V (i ∷ places) (r ∷ rows) = ((j : ℕ) → Contains r j ↔ ((j < length V) × IsExtremeRay t.cols (cone_at t i) t.lines (ray V j))) × AreConeRays t V places rows
+
+-- as many numbers as places, each the dimension of the cone there
+abbrev pub AreConeDims : Thing → List ℕ → List ℤ → Type 0
+AreConeDims t [] [] = Unit {0}
+AreConeDims t [] (k ∷ ks) = ⊥
+AreConeDims t (i ∷ places) [] = ⊥
+AreConeDims t (i ∷ places) (k ∷ ks) = ((d : ℕ) × (k ≡ pos d) × IsDimOfCone t (cone_at t i) d) × AreConeDims t places ks
+
+-- d is the greatest dimension of a cone of the fan
+pub record IsGreatestDim (t : Thing) (d : ℕ) : Type 0 where
+  pub attained : Any (λ G. IsDimOfCone t G d) t.cones
+  pub greatest : All (λ G. (e : ℕ) → IsDimOfCone t G e → e ≤ d) t.cones
+
+-- k is the greatest dimension of a cone, or -1 where there is no cone
+abbrev pub IsFanDim : Thing → ℤ → Type 0
+IsFanDim t (pos d) = IsGreatestDim t d
+IsFanDim t (negsuc d) = (d ≡ 0) × (t.cones ≡ [])
+
+-- all cones have one dimension
+abbrev pub IsPure : Thing → Type 0
+IsPure t = (d : ℕ) × All (λ G. IsDimOfCone t G d) t.cones
+
+-- the cone of these generators has k extreme rays, up to positive scale and lineality
+pub record HasRays (t : Thing) (G : List Row) (k : ℕ) : Type 0 where
+  pub rays : List Row
+  pub order : IsOrder t.cols (InCone G t.lines) rays
+  pub as_many : length rays ≡ k
+
+-- each cone has as many extreme rays as its dimension is greater than that of the lineality
+pub record IsSimplicialFan (t : Thing) : Type 0 where
+  pub lineality : ℕ
+  pub is_lineality : IsLinealityDim t lineality
+  pub each : All (λ G. (k : ℕ) × HasRays t G k × IsDimOfCone t G (k + lineality)) t.cones
+
+-- b tells whether the fan is simplicial, or whether each facet is a simplex
+abbrev pub IsSimplicialTruth : ObjectType → Thing → Bool → Type 0
+IsSimplicialTruth Fan t b = IsTrue b ↔ IsSimplicialFan t
+IsSimplicialTruth Polytope t b = (p : Orders) → AreOrders t p → IsTrue b ↔ IsSimplicial t p
+IsSimplicialTruth Cone t b = (p : Orders) → AreOrders t p → IsTrue b ↔ IsSimplicial t p
+
 -- ---- duals of linear programs
 -- the rows stand for facet rows of different directions, in lexicographic order of their primitive whole rows
 pub record AreFacetDirections (t : Thing) (rows : List (List Ratio)) : Type 0 where
@@ -282,7 +337,7 @@ Right Pointed (truth b) t o c = IsTrue b ↔ ((x : Row) → length x ≡ t.cols 
 Right FullDim (truth b) t o c = IsTrue b ↔ IsConeDim t t.cols
 Right Centered (truth b) t o c = IsTrue b ↔ IsCentered t
 Right Simple (truth b) t o c = (p : Orders) → AreOrders t p → IsTrue b ↔ IsSimple t p
-Right Simplicial (truth b) t o c = ¬ (t.of ≡ Fan) × ((p : Orders) → AreOrders t p → IsTrue b ↔ IsSimplicial t p)
+Right Simplicial (truth b) t o c = IsSimplicialTruth t.of t b
 Right VertexSizes (counts ks) t o c = (p : Orders) → AreOrders t p → ks ≡ map (λ v. pos (vanishing p.facets v)) o.rays
 Right FacetSizes (counts ks) t o c = (p : Orders) → AreOrders t p → ks ≡ map (λ a. pos (tight p.rays a)) o.facets
 Right FarFace (counts ks) t o c = AreFarPlaces o.rays ks
@@ -297,6 +352,11 @@ Right DualDiameter (whole k) t o c = InSomeOrders t (λ p. (m : ℕ) × (k ≡ p
 Right NEdges (whole k) t o c = InSomeOrders t (λ p. (rows : List (List ℕ)) × IsRayGraph t p.rays rows × (k ≡ pos (edge_count rows)))
 Right NRidges (whole k) t o c = InSomeOrders t (λ p. (rows : List (List ℕ)) × IsFacetGraph t p.rays p.facets rows × (k ≡ pos (edge_count rows)))
 Right VertexDegrees (counts ks) t o c = (rows : List (List ℕ)) × IsRayGraph t o.rays rows × (ks ≡ map (λ row. pos (length row)) rows)
+Right MaximalCones (sets rows n) t o c = (n ≡ length o.rays) × AreConeRays t o.rays o.cones rows
+Right NMaximalCones (whole k) t o c = k ≡ pos (length t.cones)
+Right MaximalConesDims (counts ks) t o c = AreConeDims t o.cones ks
+Right FanDim (whole k) t o c = IsFanDim t k
+Right Pure (truth b) t o c = IsTrue b ↔ IsPure t
 Right LinearObjective (matrix n rows) t o c = rows ≡ c ∷ []
 Right MaximalValue (extended x) t o c = IsGreatest (InSet t) c x
 Right MinimalValue (extended x) t o c = IsGreatest (InSet t) (opposite_objective c) (opposite_extended x)

@@ -1,3 +1,4 @@
 pub mod Inversions
-pub mod Shapes
+pub mod Prefixes
+pub mod Walks
 pub mod Taken

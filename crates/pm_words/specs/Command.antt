@@ -10,12 +10,15 @@ rules_rule = record (new_rule (codes "rules")) { long = Some (codes "rules"); ac
 abbrev pub trace_rule : Rule
 trace_rule = record (new_rule (codes "trace")) { long = Some (codes "trace"); action = Some SetTrue }
 
+abbrev pub demo_rule : Rule
+demo_rule = record (new_rule (codes "demo")) { long = Some (codes "demo"); action = Some Set }
+
 -- no program's name before the words, no help and no version
 abbrev pub bare_app : App
 bare_app = on_top (λ s. record s { no_binary_name = true; disable_help_flag = true; disable_version_flag = true }) (new_app (codes "polymake"))
 
 abbrev pub words_app : App
-words_app = with_rule (with_rule bare_app rules_rule) trace_rule
+words_app = with_rule (with_rule (with_rule bare_app rules_rule) trace_rule) demo_rule
 
 -- the command takes the words
 unfoldable pub are_taken : List (List ℕ) → Bool

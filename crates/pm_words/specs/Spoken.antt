@@ -5,7 +5,7 @@ use Rattle.pm_words.specs.declared.Words.{Words}
 use Rattle.pm_words.specs.declared.grammar.Spoken.{Spoken}
 
 abbrev pub seen_words : Words → WordsSeen
-seen_words w = record { rules = option_map string_bytes w.rules; trace = w.trace }
+seen_words w = record { rules = option_map string_bytes w.rules; trace = w.trace; demo = w.demo }
 
 abbrev pub seen_spoken : Spoken → WordsSeen
-seen_spoken w = record { rules = option_map (λ name. name.now) w.rules; trace = w.trace }
+seen_spoken w = record { rules = option_map (λ name. name.now) w.rules; trace = w.trace; demo = w.demo }

@@ -8,7 +8,7 @@ use clap::error::ErrorKind;
 use clap::{Arg, ArgAction, ArgMatches, Command, Error};
 use std::alloc::{AllocError, Global};
 
-/// The program's command: two options, and neither help nor version.
+/// The program's command: three options, and neither help nor version.
 fn words_command<'a>(alloc: Global) -> Result<Command<'a>, AllocError>
     ensures { IfOk result (λ c. app_of c ≡ words_app) }
 {
@@ -18,12 +18,14 @@ fn words_command<'a>(alloc: Global) -> Result<Command<'a>, AllocError>
     let trace = Arg::new(alloc, "trace")
         .long("trace")
         .action(ArgAction::SetTrue);
+    let demo = Arg::new(alloc, "demo").long("demo").action(ArgAction::Set);
     let bare = Command::new(alloc, "polymake")
         .no_binary_name(true)
         .disable_help_flag(true)
         .disable_version_flag(true);
     let with_rules = bare.arg(rules)?;
-    let whole = with_rules.arg(trace)?;
+    let with_trace = with_rules.arg(trace)?;
+    let whole = with_trace.arg(demo)?;
     Ok(whole)
 }
 

@@ -16,13 +16,15 @@ use std::alloc::{AllocError, Global};
 use thiserror::Error;
 
 /// The most words that the program takes.
-const MOST_WORDS: usize = 3;
+const MOST_WORDS: usize = 5;
 
-/// What the words say: the file of the rules, if they name one, and whether rounds are traced.
+/// What the words say: the file of the rules, if they name one, whether rounds are traced, and the number of the demo,
+/// if they ask for one, which is from 1 to 8.
 #[derive(Debug, Drop)]
 pub struct Words {
     pub rules: Option<String>,
     pub trace: bool,
+    pub demo: Option<u32>,
 }
 
 /// Why words are not taken.
@@ -55,11 +57,12 @@ fn owned(alloc: Global, said: Spoken<'_>) -> Result<Words, AllocError>
     Ok(Words {
         rules,
         trace: said.trace,
+        demo: said.demo,
     })
 }
 
-/// Reads the words after the program's name: `--trace`, and `--rules NAME` or `--rules=NAME`,
-/// in any order, each at most once, where NAME is a file word.
+/// Reads the words after the program's name: `--trace`, `--rules NAME` or `--rules=NAME`, and `--demo N` or `--demo=N`,
+/// in any order, each at most once, where NAME is a file word and N one digit from 1 to 8.
 /// `BadWords` comes exactly where they are no such words.
 pub fn read_words(alloc: Global, words: &[String]) -> Result<Words, WordsFail>
     ensures said { IfOk result (λ w. words_of (map string_bytes words.now) ≡ Some (seen_words w)) }

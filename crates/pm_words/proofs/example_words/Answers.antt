@@ -12,6 +12,10 @@ returns c = record {
     apart_trace = refl;
     trace_joined = refl;
     joined_trace = refl;
+    first_demo = refl;
+    last_demo = refl;
+    all_three = refl;
+    all_apart = refl;
   };
   nothing = record {
     hyphens = refl;
@@ -29,5 +33,13 @@ returns c = record {
     trace_twice = refl;
     rules_twice = refl;
     stray_after = refl;
+    demo_0 = refl;
+    demo_9 = refl;
+    demo_12 = refl;
+    no_demo = refl;
+    empty_demo = refl;
+    demo_twice = refl;
+    stray_digit = refl;
+    demo_of_rules = refl;
   };
 }

@@ -7,7 +7,6 @@ use Rattle.pm_filing.specs.ReadingViews.{part_seen}
 use Rattle.pm_filing.specs.declared.parts.FilePart.{FilePart}
 use Rattle.pm_files.specs.Views.{file_of}
 use Rattle.pm_filing.proofs.DataRead.{if_ok}
-use Rattle.pm_json.proofs.Parts.{both_ok}
 use Rattle.pm_filing.proofs.Wholeness.{read_whole}
 use Rattle.pm_filing.specs.ReadingViews.{HaveFractions}
 use Rattle.pm_filing.proofs.read.read_object.Goals as goal
@@ -25,4 +24,4 @@ returns-clause-whole c =
     let s : Seen = record { of = of; top = view c.in_ok-json.json; parts = map part_seen c.in_ok-of.parts.items } in
     let passed = subst (λ (ps : List FilePart). ArePassed of None (named_values of (map part_seen ps))) c.deref.ensures.value c.in_ok-test_parts.ensures.ok in
     let entries = subst (λ (ps : List FilePart). HaveFractions (named_values of (map part_seen ps))) c.deref.ensures.value c.in_ok-test_parts.ensures.entries in
-    both_ok c.file_in.result (λ f h formed. read_whole c.args.bytes.now s (file_of f) (ap (λ r. then_read r seen_in) c.in_ok-json.ensures.ok ∙ c.in_ok-of.ensures.ok) (passed, h) formed entries) c.file_in.ensures.ok c.file_in.ensures.formed
+    if_ok c.file_in.result (λ f h. read_whole c.args.bytes.now s (file_of f) (ap (λ r. then_read r seen_in) c.in_ok-json.ensures.ok ∙ c.in_ok-of.ensures.ok) (passed, h) c.in_ok-of.ensures.formed entries) c.file_in.ensures.ok

@@ -21,7 +21,7 @@ returns-clause-again c =
     let is = c.in_ok-file.ensures in
     let told : IfOk c.object_bytes.result (λ bytes. IsUtf8 bytes.items × (read bytes.items ≡ Some (file_json (file_of c.in_ok-file.file)))) =
     both_ok c.object_bytes.result (λ bytes text back. (text, back)) c.object_bytes.ensures.utf8 c.object_bytes.ensures.reads_back in
-    both_ok c.object_bytes.result (λ bytes whole text typed short.
+    both_ok c.object_bytes.result (λ bytes whole text short.
     let found = data-read bytes.items bytes.items short text.0 refl ∙ ap (or_else_fault not_json) (text.1 ∙ ap (λ (f : SavedFile). Some (file_json f)) is) in
-    let (g, reads, same) = returned bytes.items (saved_file book o) (saved_whole book o is_book c.held-held.ensures.formed) typed refl found in
+    let (g, reads, same) = returned bytes.items (saved_file book o) (saved_whole book o is_book c.held-held.ensures.formed) found in
     (g, reads, loaded_again book o g is_book c.held-held.ensures.formed same, same.again ∙ sym (whole ∙ ap file_bytes is))) c.object_bytes.ensures.bytes told

@@ -6,4 +6,4 @@ use Rattle.pm_props.specs.Sets.{only, union}
 use Rattle.pm_machine.proofs.asking.asked_in.Given as goal
 
 abbrev pub invariant-loop-word : goal.invariant-loop-word
-invariant-loop-word l = option_map (λ ps. fold (λ s p. union s (only p)) l.asked ps) (all_named l.of (map string_bytes (drop l.word-index l.words))) ≡ asked_in l.of (map string_bytes l.words)
+invariant-loop-word l = option_map (λ ps. fold (λ s p. union s (only p)) l.asked ps) (all_named l.of l.sub (map string_bytes (drop l.word-index l.words))) ≡ asked_in l.of l.sub (map string_bytes l.words)

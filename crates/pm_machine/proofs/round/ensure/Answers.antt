@@ -1,9 +1,8 @@
 -- Rounds go on until what is asked is held, or there is no chain for it that is begun.
 use Rattle.std.proofs.Common.{rules}
-use Rattle.std.specs.Prelude.{None}
 use Rattle.pm_machine.proofs.Measure.{less_to_do}
 use Rattle.pm_machine.proofs.Rounds.{broken_further, ended, found_so, reaches_further, settles}
-use Rattle.pm_machine.proofs.Traces.{reaching_holds}
+use Rattle.pm_machine.proofs.Traces.{reaching_holds, still_placed}
 use Rattle.pm_machine.specs.Chains.{AllHeld}
 use Rattle.pm_props.specs.declared.property.PropId.TheVariants.{ConeAmbientDim}
 use Rattle.pm_machine.proofs.round.ensure.Goals as goal
@@ -13,6 +12,9 @@ loop-alloc-init g c = record { reaches = settles _ _ _ _ _ _ c.in_ok-settle.ensu
 
 pub next_round-requires-clause-dimension : goal.next_round-requires-clause-dimension
 next_round-requires-clause-dimension g c = c.loop-alloc.invariant.dimension
+
+pub next_round-requires-clause-place : goal.next_round-requires-clause-place
+next_round-requires-clause-place g c = still_placed _ _ _ _ _ _ _ c.loop-alloc.invariant.reaches c.requires.place
 
 pub returns-in_err-ending-clause-err : goal.returns-in_err-ending-clause-err
 returns-in_err-ending-clause-err g c = broken_further _ _ _ _ _ _ _ _ _ _ c.loop-alloc.invariant.reaches c.in_err-ending.ensures.err
@@ -24,7 +26,7 @@ returns-in-Some-clause-ok g c =
 
 pub loop-alloc-smaller : goal.loop-alloc-smaller
 loop-alloc-smaller g c =
-    let some : AllHeld None c.args.asked c.loop-alloc.object.state → ⊥ = search rules in
+    let some : AllHeld c.args.sub c.args.asked c.loop-alloc.object.state → ⊥ = search rules in
     less_to_do _ _ _ _ _ _ _ some (rw c.in_default.is at c.in_ok-ending.ensures.ok)
 
 pub loop-alloc-preserved : goal.loop-alloc-preserved

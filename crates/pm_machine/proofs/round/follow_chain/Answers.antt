@@ -1,5 +1,6 @@
 -- Turn after turn: the rules that are left may take their turns.
 use Rattle.pm_machine.proofs.Following.{all_followed, broken_at, drop_end, ends_at, next_turn, start_to_follow, turn_here, within_book}
+use Rattle.pm_machine.proofs.Traces.{still_placed}
 use Rattle.pm_machine.proofs.round.follow_chain.Goals as goal
 
 pub loop-id-init : goal.loop-id-init
@@ -42,3 +43,6 @@ loop-id-preserved g c =
 
 pub returns-clause-ok : goal.returns-clause-ok
 returns-clause-ok g c = all_followed _ _ _ _ _ _ _ _ (drop_end c.args.chain.now c.loop-id.id-index c.loop-id-test.false) c.loop-id.invariant
+
+pub take_turn-requires-clause-place : goal.take_turn-requires-clause-place
+take_turn-requires-clause-place g c = still_placed _ _ 0 _ _ _ _ (c.loop-id.invariant.reaches 0) c.requires.place

@@ -27,3 +27,6 @@ end_run-requires-clause-sound g c = rw c.in_ok-transaction.ensures.begun at c.ru
 
 pub end_run-requires-clause-failed : goal.end_run-requires-clause-failed
 end_run-requires-clause-failed g c = rw c.in_ok-transaction.ensures.begun at c.run_client-ran.ensures.failed
+
+pub end_run-requires-clause-place : goal.end_run-requires-clause-place
+end_run-requires-clause-place g c = rw c.begin.ensures.state c.requires.place

@@ -1,7 +1,7 @@
 use Rattle.pm_optima.proofs.Faces.{level_cols, level_product, level_wide, places_found}
 use Rattle.pm_optima.proofs.face.places_of_value.Goals as goal
 use Rattle.pm_optima.specs.Objectives.{IsPrimitiveLevel}
-use Rattle.pm_optima.specs.Senses.{objective_in, ratio_in}
+use Rattle.pm_simplex.specs.Senses.{objective_in, ratio_in}
 use Rattle.std.proofs.lemmas.Result.{IfErr-weaker, IfOk-weaker}
 
 pub zero_places-requires-clause-cols : goal.zero_places-requires-clause-cols

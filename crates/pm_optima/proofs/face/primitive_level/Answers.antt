@@ -1,7 +1,7 @@
 use Rattle.pm_algebra.specs.Numbers.{Ratio}
 use Rattle.pm_algebra.specs.Rows.{ratio_at}
 use Rattle.pm_optima.proofs.face.primitive_level.Goals as goal
-use Rattle.pm_optima.specs.Objectives.{IsLevelRow}
+use Rattle.pm_simplex.specs.OptimumEvidence.{IsLevelRow}
 use Rattle.pm_types.proofs.PrimitiveRows.{not_wide}
 use Rattle.std.proofs.Common.{inr, pos, ◌≡◌}
 use Rattle.std.proofs.lemmas.List.{get_or_read}

@@ -4,7 +4,7 @@ use Rattle.pm_optima.proofs.Levels.{scale_of}
 use Rattle.pm_optima.proofs.Optima.{endless_optimum, finite_optimum, line_product, none_optimum, turned_length, wide_optimum}
 use Rattle.pm_optima.proofs.rays.value_at_rays.Goals as goal
 use Rattle.pm_optima.specs.Quotients.{Grows, HasNone, IsBest}
-use Rattle.pm_optima.specs.Senses.{row_in}
+use Rattle.pm_simplex.specs.Senses.{row_in}
 use Rattle.pm_types.specs.Views.{extended_of}
 use Rattle.std.proofs.Common.{[], ap, length, map, true≢false, sym, ◌∙◌, ◌≡◌}
 use Rattle.std.proofs.lemmas.List.{get_or_read}

@@ -6,7 +6,7 @@ use Rattle.pm_lines.proofs.SoFar.{no_whole, told_ended, told_exceeds, told_last,
 use Rattle.pm_lines.specs.Coming.{ReaderSeen}
 use Rattle.pm_lines.specs.Whole.{HasNoBreak}
 use Rattle.pm_lines.specs.declared.reader.LinesFail.TheVariants.{Fault, TooLong}
-use Rattle.pm_script.specs.Lines.{Line}
+use Rattle.pm_command.specs.Lines.{Line}
 use Rattle.pm_lines.proofs.reader.LineReader.advance.Goals as goal
 
 abbrev line_of : ReaderSeen → Line

@@ -2,7 +2,7 @@
 use Rattle.std.proofs.Common.{sym, ◌∙◌}
 use Rattle.pm_machine.proofs.Beside.{answered_beside, broken_beside}
 use Rattle.pm_machine.specs.Sessions.{book_of}
-use Rattle.pm_script.specs.Commands.{spoken}
+use Rattle.pm_command.specs.Commands.{spoken}
 use Rattle.pm_script.specs.Replies.{seen}
 use Rattle.pm_machine.proofs.session.Session.do_any.Goals as goal
 

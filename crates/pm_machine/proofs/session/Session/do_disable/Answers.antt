@@ -17,7 +17,7 @@ returns-clause-step g c =
     let o' = c.disable.new.self in
     let w = written c.args.self.now.objects (c.get_mut.follows.lender o') _ c.args.name.now o o' refl c.in-Some.ensures.value (c.get_mut.follows.holds o').1 (c.get_mut.follows.holds o').3 in
     let known : has_label c.args.label.now c.args.self.now.book ≡ true = sym (ap (λ z. has_label c.args.label.now z) c.rules.ensures.value) ∙ sym c.has_label.ensures ∙ c.if-not-has_label.false in
-    disable_done w _ c.args.self.now.book _ known c.in_ok-disable.ensures.ok
+    rw c.done.ensures (disable_done w _ c.args.self.now.book _ known c.in_ok-disable.ensures.ok)
 
 pub returns-in_err-disable-clause-err : goal.returns-in_err-disable-clause-err
 returns-in_err-disable-clause-err g c =

@@ -2,8 +2,8 @@
 use Rattle.std.proofs.Common.{Some, ap, refl, sym, ◌∙◌, ◌≡◌}
 use Rattle.std.specs.Option.{option_map}
 use Rattle.std.specs.Prelude.{None, map, string_bytes}
-use Rattle.pm_machine.proofs.Names.{at_part, explain_step, explain_unknown, explained_in_part, map_some, written}
-use Rattle.pm_machine.specs.Steps.{asked_in}
+use Rattle.pm_machine.proofs.Names.{explain_step, explain_unknown, explained_in_part, named_of, part_unknown, written}
+use Rattle.pm_machine.specs.Steps.{asked_in, part_named}
 use Rattle.pm_script.specs.Replies.{seen}
 use Rattle.pm_machine.proofs.session.Session.do_explain.Goals as goal
 
@@ -12,8 +12,9 @@ returns-in_default-asked_in-clause-step g c =
     let name = string_bytes c.args.obj.now.name in
     let o = c.in-Some.object.now in
     let w = written c.args.self.now.objects (c.get_mut.follows.lender o) _ name o o c.as_str.ensures.value c.in-Some.ensures.value (c.get_mut.follows.holds o).1 (c.get_mut.follows.holds o).3 in
-    let none : asked_in o.state.of (map string_bytes c.args.props.now) ≡ None = ap (λ t. asked_in t (map string_bytes c.args.props.now)) (sym c.of.ensures.value) ∙ sym c.asked_in.ensures ∙ c.in_default-asked_in.is in
-    rw c.refused-in_default-asked_in.ensures (explain_unknown w (option_map string_bytes c.args.obj.now.sub) (map string_bytes c.args.props.now) (map_some string_bytes c.args.obj.now.sub ∙ sym c.is_some.ensures ∙ c.if-is_some.false) c.args.self.now.book _ none refl)
+    let found : part_named o.state (option_map string_bytes c.args.obj.now.sub) ≡ Some (named_of o.state c.in-Some-place_in.sub) = sym c.place_in.ensures.named ∙ ap (option_map (named_of o.state)) c.in-Some-place_in.is in
+    let none : asked_in o.state.of c.in-Some-place_in.sub (map string_bytes c.args.props.now) ≡ None = ap (λ t. asked_in t c.in-Some-place_in.sub (map string_bytes c.args.props.now)) (sym c.of.ensures.value) ∙ sym c.asked_in.ensures ∙ c.in_default-asked_in.is in
+    rw c.refused-in_default-asked_in.ensures (explain_unknown w (option_map string_bytes c.args.obj.now.sub) c.in-Some-place_in.sub found (map string_bytes c.args.props.now) c.args.self.now.book _ none refl)
 
 pub returns-clause-step : goal.returns-clause-step
 returns-clause-step g c =
@@ -21,8 +22,9 @@ returns-clause-step g c =
     let o = c.in-Some.object.now in
     let o' = c.explain_values.new.object in
     let w = written c.args.self.now.objects (c.get_mut.follows.lender o') _ name o o' c.as_str.ensures.value c.in-Some.ensures.value (c.get_mut.follows.holds o').1 (c.get_mut.follows.holds o').3 in
-    let named : asked_in o.state.of (map string_bytes c.args.props.now) ≡ Some c.in-Some-asked_in.asked = ap (λ t. asked_in t (map string_bytes c.args.props.now)) (sym c.of.ensures.value) ∙ sym c.asked_in.ensures ∙ c.in-Some-asked_in.is in
-    explain_step w (option_map string_bytes c.args.obj.now.sub) (map string_bytes c.args.props.now) (map_some string_bytes c.args.obj.now.sub ∙ sym c.is_some.ensures ∙ c.if-is_some.false) seen c.explain_values.result c.args.self.now.book _ c.in-Some-asked_in.asked named c.explain_values.ensures.explains c.explain_values.ensures.settled
+    let found : part_named o.state (option_map string_bytes c.args.obj.now.sub) ≡ Some (named_of o.state c.in-Some-place_in.sub) = sym c.place_in.ensures.named ∙ ap (option_map (named_of o.state)) c.in-Some-place_in.is in
+    let named : asked_in o.state.of c.in-Some-place_in.sub (map string_bytes c.args.props.now) ≡ Some c.in-Some-asked_in.asked = ap (λ t. asked_in t c.in-Some-place_in.sub (map string_bytes c.args.props.now)) (sym c.of.ensures.value) ∙ sym c.asked_in.ensures ∙ c.in-Some-asked_in.is in
+    explain_step w (option_map string_bytes c.args.obj.now.sub) c.in-Some-place_in.sub found (map string_bytes c.args.props.now) seen c.explain_values.result c.args.self.now.book _ c.in-Some-asked_in.asked named c.explain_values.ensures.explains c.explain_values.ensures.settled
 
 pub returns-clause-part : goal.returns-clause-part
 returns-clause-part g c =
@@ -30,11 +32,14 @@ returns-clause-part g c =
     let o = c.in-Some.object.now in
     let o' = c.explain_values.new.object in
     let w = written c.args.self.now.objects (c.get_mut.follows.lender o') _ name o o' c.as_str.ensures.value c.in-Some.ensures.value (c.get_mut.follows.holds o').1 (c.get_mut.follows.holds o').3 in
-    let named : asked_in o.state.of (map string_bytes c.args.props.now) ≡ Some c.in-Some-asked_in.asked = ap (λ t. asked_in t (map string_bytes c.args.props.now)) (sym c.of.ensures.value) ∙ sym c.asked_in.ensures ∙ c.in-Some-asked_in.is in
-    explained_in_part w (option_map string_bytes c.args.obj.now.sub) (map string_bytes c.args.props.now) (map_some string_bytes c.args.obj.now.sub ∙ sym c.is_some.ensures ∙ c.if-is_some.false) c.explain_values.result c.args.self.now.book _ c.explain_values.ensures.err
+    let found : part_named o.state (option_map string_bytes c.args.obj.now.sub) ≡ Some (named_of o.state c.in-Some-place_in.sub) = sym c.place_in.ensures.named ∙ ap (option_map (named_of o.state)) c.in-Some-place_in.is in
+    let named : asked_in o.state.of c.in-Some-place_in.sub (map string_bytes c.args.props.now) ≡ Some c.in-Some-asked_in.asked = ap (λ t. asked_in t c.in-Some-place_in.sub (map string_bytes c.args.props.now)) (sym c.of.ensures.value) ∙ sym c.asked_in.ensures ∙ c.in-Some-asked_in.is in
+    explained_in_part w (option_map string_bytes c.args.obj.now.sub) c.in-Some-place_in.sub found (map string_bytes c.args.props.now) c.explain_values.result c.args.self.now.book _ c.explain_values.ensures.err
 
-pub returns-then-is_some-clause-step : goal.returns-then-is_some-clause-step
-returns-then-is_some-clause-step g c = rw c.refused.ensures (
-  at_part (option_map string_bytes c.args.obj.now.sub) _ (map_some string_bytes c.args.obj.now.sub ∙ sym c.is_some.ensures ∙ c.if-is_some.true),
-  record { names = refl; objects = λ q. refl; clients = refl; store = refl },
-)
+pub returns-in_default-place_in-clause-step : goal.returns-in_default-place_in-clause-step
+returns-in_default-place_in-clause-step g c =
+    let name = string_bytes c.args.obj.now.name in
+    let o = c.in-Some.object.now in
+    let w = written c.args.self.now.objects (c.get_mut.follows.lender o) _ name o o c.as_str.ensures.value c.in-Some.ensures.value (c.get_mut.follows.holds o).1 (c.get_mut.follows.holds o).3 in
+    let missing : part_named o.state (option_map string_bytes c.args.obj.now.sub) ≡ None = sym c.place_in.ensures.named ∙ ap (option_map (named_of o.state)) c.in_default-place_in.is in
+    rw c.refused-in_default-place_in.ensures (part_unknown w (option_map string_bytes c.args.obj.now.sub) _ missing refl)

@@ -2,7 +2,7 @@
 use Rattle.std.proofs.Common.{None, Some, ap, refl, rules, ◌≡◌, ◌∙◌, sym}
 use Rattle.std.proofs.lemmas.Bool.{OnFalse_at}
 use Rattle.pm_machine.proofs.Beside.{bytes_found, file_answered, none_found}
-use Rattle.pm_machine.specs.Steps.{Store}
+use Rattle.pm_machine.specs.Machines.{Store}
 use Rattle.pm_object.specs.State.{ObjectSeen}
 use Rattle.pm_script.specs.Replies.{seen}
 use Rattle.std.specs.HashMap.{get_by_text}

@@ -20,7 +20,9 @@ returns-then-len-gt-MOST_WRITTEN-clause-step g c =
 pub returns-in-Ok-clause-step : goal.returns-in-Ok-clause-step
 returns-in-Ok-clause-step g c =
     let named : option_map (λ (o : ObjectSeen). o.state) (get_by_text c.args.self.now.objects c.args.name.now) ≡ Some c.in-Some.object.now.state = search rules in
-    let short : length c.in_ok-bytes.bytes.items ≤ most_written = search rules in (
+    let short : length c.in_ok-bytes.bytes.items ≤ most_written = search rules in
+    rw c.done.ensures (
+      refl,
       c.in-Some.object.now.state,
       named,
       subst (λ z. length z ≤ most_written) c.in_ok-bytes.ensures.file short,
@@ -31,7 +33,7 @@ returns-in-Ok-clause-step g c =
         files = subst (λ z. AreTold (IsPut c.args.file.now z) (g.F.Store.files c.args.store.now) (g.F.Store.files c.put.new.self)) (c.deref.ensures.value ∙ c.in_ok-bytes.ensures.file) c.in-Ok.ensures.puts;
         faults = c.put.ensures.never_falls;
       },
-      λ typed. let (f, reads, again, same) = c.in_ok-bytes.ensures.again typed short in (f, subst (λ z. Reads z f) c.in_ok-bytes.ensures.file reads, again),
+      let (f, reads, again, same) = c.in_ok-bytes.ensures.again short in (f, subst (λ z. Reads z f) c.in_ok-bytes.ensures.file reads, again),
     )
 
 pub returns-in-Err-Failed-clause-step : goal.returns-in-Err-Failed-clause-step

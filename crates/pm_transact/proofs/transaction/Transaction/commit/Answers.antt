@@ -9,7 +9,7 @@ use Rattle.pm_object.specs.Laws.{computed}
 use Rattle.pm_object.specs.Views.{put_seen}
 use Rattle.pm_props.specs.Sets.{members}
 use Rattle.pm_props.specs.declared.property.PropId.TheVariants.{ConeAmbientDim}
-use Rattle.pm_transact.proofs.Committing.{StillToCommit, all_committed, among_at, at_any, drop_at, fits_at, next_to_commit, start_to_commit}
+use Rattle.pm_transact.proofs.Committing.{StillToCommit, all_committed, among_at, at_any, backed_at, drop_at, fits_at, next_to_commit, start_to_commit}
 use Rattle.pm_transact.specs.Commits.{FitsObject}
 use Rattle.pm_transact.specs.Transactions.{TransactionSeen}
 use Rattle.pm_types.specs.Runs.{missing}
@@ -38,6 +38,19 @@ commit_one-requires-clause-fits c =
     let kind : members t.kind.targets ≡ members c.args.self.kind.targets = ap (λ (z : TransactionSeen). members z.kind.targets) c.self.view_is in
     let sub : t.sub ≡ c.args.self.sub = ap (λ (z : TransactionSeen). z.sub) c.self.view_is in
     fits_at t.sub o c.args.self.values xs c.loop-p.object.state (map put_seen c.loop-p.values.items) i _
+    (drop_at xs i _ c.loop-p-test.true (at_any xs i ConeAmbientDim c.loop-p-test.true)) (among_at xs i ConeAmbientDim c.loop-p-test.true)
+    (subst (λ s. FitsObject o (answer_at s xs c.args.self.values)) (sym sub) (subst (λ ps. FitsObject o (answer_at c.args.self.sub ps c.args.self.values)) (sym (items ∙ kind)) c.requires.fits)) c.loop-p.invariant.rest
+
+pub commit_one-requires-clause-backed : goal.commit_one-requires-clause-backed
+commit_one-requires-clause-backed c =
+    let t = c.self.inside in
+    let xs = c.deref-p-items.result.now in
+    let i = c.loop-p.p-index in
+    let o = c.args.object.now.state in
+    let items : xs ≡ members t.kind.targets = c.deref-p-items.ensures.value ∙ c.self.invariant in
+    let kind : members t.kind.targets ≡ members c.args.self.kind.targets = ap (λ (z : TransactionSeen). members z.kind.targets) c.self.view_is in
+    let sub : t.sub ≡ c.args.self.sub = ap (λ (z : TransactionSeen). z.sub) c.self.view_is in
+    backed_at t.sub o c.args.self.values xs c.loop-p.object.state (map put_seen c.loop-p.values.items) i _
     (drop_at xs i _ c.loop-p-test.true (at_any xs i ConeAmbientDim c.loop-p-test.true)) (among_at xs i ConeAmbientDim c.loop-p-test.true)
     (subst (λ s. FitsObject o (answer_at s xs c.args.self.values)) (sym sub) (subst (λ ps. FitsObject o (answer_at c.args.self.sub ps c.args.self.values)) (sym (items ∙ kind)) c.requires.fits)) c.loop-p.invariant.rest
 

@@ -1,0 +1,4 @@
+pub mod Fans
+pub mod FoundFans
+pub mod Shown
+pub mod Examples

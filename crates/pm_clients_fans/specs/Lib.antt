@@ -1,0 +1,4 @@
+pub mod Families
+pub mod Cones
+pub mod Numbers
+pub mod Examples

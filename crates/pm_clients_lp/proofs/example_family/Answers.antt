@@ -1,0 +1,16 @@
+use Rattle.pm_clients_lp.proofs.example_family.Goals as goal
+use Rattle.std.proofs.Common.{inl, inr, refl}
+
+pub returns : goal.returns
+returns c = record {
+  clients = refl;
+  not_of_points = refl;
+  memory = tt;
+  memory_for_rays = tt;
+  dual = λ e h. inr h;
+  product = λ h. h.shown.shown;
+  pivot = λ h. elim h.shown.shown [ inl p ↦ p | inr p ↦ p ];
+  face_pivot = λ h. elim h.shown [ inl p ↦ p.shown | inr p ↦ p.shown ];
+  rows = refl;
+  no_rows = refl;
+}

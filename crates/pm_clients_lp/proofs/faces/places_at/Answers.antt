@@ -1,0 +1,45 @@
+use Rattle.pm_clients_lp.proofs.Facts.{objective_cols, objective_some, objective_stays, program_view, rows_cols, rows_few}
+use Rattle.pm_clients_lp.proofs.Found.{none_at}
+use Rattle.pm_clients_lp.proofs.StandardKinds.{face_read, has_objective, has_rays}
+use Rattle.pm_clients_lp.proofs.faces.places_at.Goals as goal
+use Rattle.pm_clients_lp.specs.Reading.{ArePlacesAt}
+use Rattle.pm_props.specs.declared.object_type.ObjectType.TheVariants.{Polytope}
+use Rattle.pm_props.specs.declared.property.PropId.TheVariants.{Vertices}
+use Rattle.pm_types.specs.Forms.{is_counts_form}
+use Rattle.pm_types.specs.Views.{extended_of}
+use Rattle.std.proofs.Common.{refl, rules, subst, sym, true, ◌∙◌, ◌≡◌}
+
+pub prove-unreachable-requires : goal.prove-unreachable-requires
+prove-unreachable-requires c =
+    let v = c.args.view.now in
+    let other : ¬ (c.of.result ≡ Polytope) = search rules in
+    other (c.of.ensures.value ∙ program_view v c.of.ensures.view (has_objective _ c.args.sense (face_read v.kind c.args.sense c.requires.kind)))
+
+pub rows_of-requires-clause-source : goal.rows_of-requires-clause-source
+rows_of-requires-clause-source c = has_rays _ c.args.sense (face_read c.args.view.now.kind c.args.sense c.requires.kind)
+
+pub objective_of-objective-requires : goal.objective_of-objective-requires
+objective_of-objective-requires c = has_objective _ c.args.sense (face_read c.args.view.now.kind c.args.sense c.requires.kind)
+
+pub places_of_value-requires-clause-stays : goal.places_of_value-requires-clause-stays
+places_of_value-requires-clause-stays c = objective_stays c.args.view.now c.of.ensures.view c.objective_of-objective.result.now c.objective_of-objective.ensures
+
+pub places_of_value-requires-clause-some : goal.places_of_value-requires-clause-some
+places_of_value-requires-clause-some c = objective_some c.args.view.now c.of.ensures.view c.objective_of-objective.result.now c.objective_of-objective.ensures
+
+pub places_of_value-requires-clause-cols : goal.places_of_value-requires-clause-cols
+places_of_value-requires-clause-cols c =
+    let v = c.args.view.now in
+    rw (c.deref.ensures.value, objective_cols v c.of.ensures.view c.objective_of-objective.result.now c.objective_of-objective.ensures) (rows_cols v c.of.ensures.view Vertices refl c.in_ok-rays.rays.items c.in_ok-rays.ensures.read)
+
+pub places_of_value-requires-clause-few : goal.places_of_value-requires-clause-few
+places_of_value-requires-clause-few c = rw c.deref.ensures.value (rows_few c.args.view.now c.of.ensures.view Vertices refl c.in_ok-rays.rays.items c.in_ok-rays.ensures.read)
+
+pub returns : goal.returns
+returns c =
+    let v = c.args.view.now in
+    record {
+      places = subst (ArePlacesAt v c.args.sense (extended_of c.args.number)) (sym c.new.ensures.items) (none_at v c.args.sense c.args.number (λ q e. c.in_default.not-Finite q e) c.in_ok-rays.rays.items c.in_ok-rays.ensures.read c.objective_of-objective.result.now c.objective_of-objective.ensures);
+      form = subst (λ z. is_counts_form z ≡ true) (sym c.new.ensures.items) refl;
+      fails = tt;
+    }

@@ -1,0 +1,72 @@
+-- The clients of linear programs, by what they find from what, and how they fail.
+use Rattle.pm_client.specs.Sound.{FailsRightly, IsWideAtRays, IsWideDual, IsWideFace, IsWideOptimum}
+use Rattle.pm_client.specs.declared.ClientFail.{ClientFail}
+use Rattle.pm_client.specs.declared.ClientFail.TheVariants.{Failed, Memory}
+use Rattle.pm_geom.specs.declared.evidence.Evidence.{Evidence}
+use Rattle.pm_object.specs.Reading.{ViewSeen}
+use Rattle.pm_props.specs.declared.property.PropId.{PropId}
+use Rattle.pm_props.specs.declared.property.PropId.TheVariants.{MaximalDual, MaximalFace, MinimalDual, MinimalFace}
+use Rattle.pm_props.specs.declared.standard.StandardClient.{StandardClient}
+use Rattle.pm_props.specs.declared.standard.StandardClient.TheVariants as client
+use Rattle.pm_simplex.specs.declared.sense.Sense.{Sense}
+use Rattle.pm_simplex.specs.declared.sense.Sense.TheVariants.{Maximal, Minimal}
+use Rattle.std.specs.Prelude.{Bool, false, true, ◌⊎◌}
+
+-- ---- in each sense: the client of the optimum, with a dual, over FACETS; over INEQUALITIES; at VERTICES; and that of the rays at the optimum
+abbrev pub over_facets : Sense → StandardClient
+over_facets Maximal = client.LpMax
+over_facets Minimal = client.LpMin
+
+abbrev pub over_rows : Sense → StandardClient
+over_rows Maximal = client.LpMaxRows
+over_rows Minimal = client.LpMinRows
+
+abbrev pub at_rays : Sense → StandardClient
+at_rays Maximal = client.LpMaxV
+at_rays Minimal = client.LpMinV
+
+abbrev pub at_face : Sense → StandardClient
+at_face Maximal = client.LpMaxFace
+at_face Minimal = client.LpMinFace
+
+-- the rays at the optimum, and the dual, as properties
+abbrev pub face : Sense → PropId
+face Maximal = MaximalFace
+face Minimal = MinimalFace
+
+abbrev pub dual : Sense → PropId
+dual Maximal = MaximalDual
+dual Minimal = MinimalDual
+
+-- the clients of the family
+abbrev pub is_linear : StandardClient → Bool
+is_linear client.LpMax = true
+is_linear client.LpMin = true
+is_linear client.LpMaxRows = true
+is_linear client.LpMinRows = true
+is_linear client.LpMaxV = true
+is_linear client.LpMinV = true
+is_linear client.LpMaxFace = true
+is_linear client.LpMinFace = true
+is_linear c = false
+
+-- for want of memory, or with such evidence
+abbrev pub FailsBy : (Evidence → Type 0) → ClientFail → Type 0
+FailsBy P Memory = Unit {0}
+FailsBy P (Failed e) = P e
+
+-- with a pivot of the program of the client that leaves the range, or a row of its dual that does
+abbrev pub IsWideWithDual : ViewSeen → Evidence → Type 0
+IsWideWithDual v e = IsWideOptimum v e ⊎ IsWideDual v e
+
+-- each client fails with evidence of its own
+abbrev pub LinearFails : StandardClient → ViewSeen → ClientFail → Type 0
+LinearFails client.LpMax v e = FailsBy (IsWideWithDual v) e
+LinearFails client.LpMin v e = FailsBy (IsWideWithDual v) e
+LinearFails client.LpMaxRows v e = FailsBy (IsWideOptimum v) e
+LinearFails client.LpMinRows v e = FailsBy (IsWideOptimum v) e
+LinearFails client.LpMaxV v e = FailsBy (IsWideAtRays v) e
+LinearFails client.LpMinV v e = FailsBy (IsWideAtRays v) e
+LinearFails client.LpMaxFace v e = FailsBy (IsWideFace v) e
+LinearFails client.LpMinFace v e = FailsBy (IsWideFace v) e
+LinearFails c v e = FailsRightly v e

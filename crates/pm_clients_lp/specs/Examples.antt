@@ -1,0 +1,79 @@
+-- The clients of the family, and how they fail; the rows of duals read on a segment: what holds of them, and what does not.
+use Rattle.pm_algebra.specs.Numbers.{Ratio}
+use Rattle.pm_algebra.specs.Rows.{Row}
+use Rattle.pm_client.specs.Examples.{without_rows}
+use Rattle.pm_client.specs.Families.{clients_of}
+use Rattle.pm_client.specs.Sound.{IsWideDual}
+use Rattle.pm_client.specs.declared.ClientFail.TheVariants.{Failed, Memory}
+use Rattle.pm_clients_lp.specs.Clients.{LinearFails, is_linear}
+use Rattle.pm_clients_lp.specs.Programs.{AreMultiples, AreWeighted, IsDualMatrix, weighted}
+use Rattle.pm_clients_lp.specs.Reading.{is_of_rows}
+use Rattle.pm_geom.specs.ProgramExamples.{ratio, row, segment, wholes}
+use Rattle.pm_geom.specs.declared.evidence.Evidence.TheVariants.{E3, E4, E5Rows}
+use Rattle.pm_geom.specs.declared.evidence.Evidence.{Evidence}
+use Rattle.pm_object.specs.Reading.{ViewSeen}
+use Rattle.pm_props.specs.declared.property.PropId.TheVariants.{MaximalValue, Vertices}
+use Rattle.pm_props.specs.declared.standard.StandardClient.TheVariants as client
+use Rattle.pm_simplex.specs.OptimumEvidence.{IsMultipleRow, ShowsWideWeight}
+use Rattle.std.specs.Prelude.{[], codes, false, true, ◌∷◌, ◌≡◌, ◌^◌}
+use lib.IntN.{negsuc, pos}
+
+-- a view of the client lp_max without rows
+abbrev pub view : ViewSeen
+view = without_rows (codes "lp_max")
+
+pub record FamilyIsRead : Type 0 where
+  pub clients : clients_of is_linear ≡ client.LpMax ∷ client.LpMin ∷ client.LpMaxRows ∷ client.LpMinRows ∷ client.LpMaxV ∷ client.LpMinV ∷ client.LpMaxFace ∷ client.LpMinFace ∷ []
+  pub not_of_points : is_linear client.FeasibleLp ≡ false
+  -- memory may be wanting to each
+  pub memory : LinearFails client.LpMin view Memory
+  pub memory_for_rays : LinearFails client.LpMaxV view Memory
+  -- a row of the dual is evidence where one is found
+  pub dual : (e : Evidence) → IsWideDual view e → LinearFails client.LpMax view (Failed e)
+  -- a product is no evidence over INEQUALITIES, and a pivot none at VERTICES
+  pub product : ¬ (LinearFails client.LpMaxRows view (Failed (E4 (pos 1 ∷ []) (pos 1 ∷ []))))
+  pub pivot : ¬ (LinearFails client.LpMaxV view (Failed (E3 [] 0 0 0 0)))
+  pub face_pivot : ¬ (LinearFails client.LpMinFace view (Failed (E3 [] 0 0 0 0)))
+  -- rows are read of VERTICES, and none of an optimum
+  pub rows : is_of_rows Vertices ≡ true
+  pub no_rows : is_of_rows MaximalValue ≡ false
+
+-- one half, and nothing
+abbrev pub half : Ratio
+half = ratio (pos 1) (pos 2)
+
+abbrev pub null : Ratio
+null = ratio (pos 0) (pos 1)
+
+-- a row, and a multiplier, whose product leaves the range
+abbrev pub large : Row
+large = pos (2 ^ 64) ∷ []
+
+abbrev pub large_weight : Ratio
+large_weight = ratio (pos (2 ^ 64)) (pos 1)
+
+pub record DualsAreRead : Type 0 where
+  -- the row with multiplier 0 is left out
+  pub kept : weighted segment (null ∷ half ∷ []) ≡ (row (pos 1) (negsuc 0), half) ∷ []
+  -- the rows stand in the lexicographic order, and all of them
+  pub in_order : AreWeighted segment (half ∷ half ∷ []) ((row (pos 0) (pos 1), half) ∷ (row (pos 1) (negsuc 0), half) ∷ [])
+  pub turned : ¬ (AreWeighted segment (half ∷ half ∷ []) ((row (pos 1) (negsuc 0), half) ∷ (row (pos 0) (pos 1), half) ∷ []))
+  pub left_out : ¬ (AreWeighted segment (half ∷ half ∷ []) [])
+  -- one half of (2, -2) is (1, -1)
+  pub multiple : IsMultipleRow half (row (pos 2) (negsuc 1)) (wholes (row (pos 1) (negsuc 0)))
+  pub not_itself : ¬ (IsMultipleRow half (row (pos 2) (negsuc 1)) (wholes (row (pos 2) (negsuc 1))))
+  pub too_short : ¬ (IsMultipleRow half (row (pos 2) (negsuc 1)) [])
+  -- each row has its multiple
+  pub multiples : AreMultiples ((row (pos 2) (negsuc 1), half) ∷ []) (wholes (row (pos 1) (negsuc 0)) ∷ [])
+  pub fewer : ¬ (AreMultiples ((row (pos 2) (negsuc 1), half) ∷ []) [])
+  pub more : ¬ (AreMultiples [] (wholes (row (pos 1) (negsuc 0)) ∷ []))
+  -- without rows there is no column count
+  pub no_rows : IsDualMatrix 2 segment (null ∷ null ∷ []) (record { cols = 0; rows = [] })
+  pub with_cols : ¬ (IsDualMatrix 2 segment (null ∷ null ∷ []) (record { cols = 2; rows = [] }))
+  pub missing : ¬ (IsDualMatrix 2 segment (half ∷ null ∷ []) (record { cols = 0; rows = [] }))
+  -- the evidence names a row whose multiple leaves the range, and its multiplier, which is not 0
+  pub wide : ShowsWideWeight (large ∷ []) (large_weight ∷ []) (E4 large (row (pos (2 ^ 64)) (pos 1)))
+  pub other_parts : ¬ (ShowsWideWeight (large ∷ []) (large_weight ∷ []) (E4 large (row (pos 1) (pos 1))))
+  pub no_weight : ¬ (ShowsWideWeight (large ∷ []) (null ∷ []) (E4 large (row (pos 0) (pos 1))))
+  pub other_row : ¬ (ShowsWideWeight (large ∷ []) (large_weight ∷ []) (E4 (pos 1 ∷ []) (row (pos (2 ^ 64)) (pos 1))))
+  pub other_evidence : ¬ (ShowsWideWeight (large ∷ []) (large_weight ∷ []) (E5Rows []))

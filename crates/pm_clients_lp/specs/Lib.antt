@@ -1,0 +1,4 @@
+pub mod Clients
+pub mod Reading
+pub mod Programs
+pub mod Examples

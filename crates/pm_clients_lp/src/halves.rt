@@ -1,0 +1,86 @@
+// The clients that find an optimum over half-spaces, with a dual or without.
+
+ghost use Rattle.pm_client.specs.Sound.{FailsRightly, IsSound, IsWideOptimum};
+ghost use Rattle.pm_clients_lp.specs.Clients.{FailsBy, IsWideWithDual, over_facets, over_rows};
+ghost use Rattle.pm_elim.specs.Evidence.{unit};
+ghost use Rattle.pm_incidence.specs.Thinning.{half_spaces};
+ghost use Rattle.pm_props.specs.Kinds.{standard_kind};
+ghost use Rattle.pm_props.specs.declared.object_type.ObjectType.TheVariants.{Polytope};
+ghost use Rattle.std.specs.Prelude.{IfErr, IfOk, OnOk, [], ◌<◌, ◌≡◌};
+
+use crate::programs::{optimum_over, optimum_with_dual};
+use crate::properties::{dual_in, value_in};
+use crate::reading::{objective_of, put_number, rows_of};
+use pm_client::{ClientFail, put_value};
+use pm_object::{Draft, View};
+use pm_simplex::Sense;
+use pm_types::{ObjectType, PropId, Value};
+use pm_vector::Ints;
+use std::alloc::{AllocError, Global};
+
+/// The row (1, 0, .., 0).
+fn first_unit(alloc: Global, cols: usize) -> Result<Ints, AllocError>
+    requires { 0 < cols }
+    ensures { IfOk result (λ r. r ≡ unit cols 0) }
+{
+    let mut entries = vec![in alloc; 0i128; cols]?;
+    entries[0] = 1;
+    Ok(Ints::from_vec(entries))
+}
+
+/// The half-spaces of a polytope: its inequalities, and then the row (1, 0, .., 0).
+fn with_first(alloc: Global, cols: usize, inequalities: Vec<Ints>) -> Result<Vec<Ints>, AllocError>
+    requires { 0 < cols }
+    ensures { IfOk result (λ v. v.items ≡ half_spaces Polytope cols inequalities.items) }
+{
+    let mut rows = inequalities;
+    rows.push(first_unit(alloc, cols)?)?;
+    Ok(rows)
+}
+
+/// The optimum: that over INEQUALITIES with x0 >= 0, and EQUATIONS.
+pub(crate) fn value_from_rows(
+    sense: Sense,
+    alloc: Global,
+    view: &View,
+    draft: &mut Draft,
+) -> Result<(), ClientFail>
+    requires kind { view.now.kind ≡ standard_kind (over_rows sense) }
+    requires empty { draft.old ≡ record { kind = view.now.kind; values = [] } }
+    ensures draft { draft.new.kind ≡ draft.old.kind }
+    ensures sound { OnOk result (IsSound view.now draft.new) }
+    ensures failed { IfErr result (FailsRightly view.now) }
+    ensures fails { IfErr result (FailsBy (IsWideOptimum view.now)) }
+{
+    prove!(view.of() == ObjectType::Polytope);
+    let equations = rows_of(alloc, view, PropId::Equations)?;
+    let inequalities = rows_of(alloc, view, PropId::Inequalities)?;
+    let rows = with_first(alloc, view.cols(), inequalities)?;
+    let value = optimum_over(alloc, sense, &rows, &equations, objective_of(view))?;
+    put_number(draft, value_in(sense), value)?;
+    Ok(())
+}
+
+/// The optimum over FACETS and AFFINE_HULL, and a dual that shows it.
+pub(crate) fn value_with_dual(
+    sense: Sense,
+    alloc: Global,
+    view: &View,
+    draft: &mut Draft,
+) -> Result<(), ClientFail>
+    requires kind { view.now.kind ≡ standard_kind (over_facets sense) }
+    requires empty { draft.old ≡ record { kind = view.now.kind; values = [] } }
+    ensures draft { draft.new.kind ≡ draft.old.kind }
+    ensures sound { OnOk result (IsSound view.now draft.new) }
+    ensures failed { IfErr result (FailsRightly view.now) }
+    ensures fails { IfErr result (FailsBy (IsWideWithDual view.now)) }
+{
+    prove!(view.of() == ObjectType::Polytope);
+    let equations = rows_of(alloc, view, PropId::AffineHull)?;
+    let facets = rows_of(alloc, view, PropId::Facets)?;
+    let found = optimum_with_dual(alloc, sense, &facets, &equations, objective_of(view))?;
+    let _ = found.dual.cols();
+    put_number(draft, value_in(sense), found.value)?;
+    put_value(draft, dual_in(sense), Value::Mat(found.dual))?;
+    Ok(())
+}

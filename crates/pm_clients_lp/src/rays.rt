@@ -1,0 +1,37 @@
+// The clients that find an optimum at rays.
+
+ghost use Rattle.pm_client.specs.Sound.{FailsRightly, IsSound, IsWideAtRays};
+ghost use Rattle.pm_clients_lp.specs.Clients.{FailsBy, at_rays};
+ghost use Rattle.pm_props.specs.Kinds.{standard_kind};
+ghost use Rattle.std.specs.Prelude.{IfErr, OnOk, [], ◌≡◌};
+
+use crate::properties::value_in;
+use crate::reading::{objective_of, put_number, rows_of};
+use pm_client::ClientFail;
+use pm_object::{Draft, View};
+use pm_optima::value_at_rays;
+use pm_simplex::Sense;
+use pm_types::{ObjectType, PropId};
+use std::alloc::Global;
+
+/// The optimum: that at VERTICES and LINEALITY_SPACE.
+pub(crate) fn value_from_rays(
+    sense: Sense,
+    alloc: Global,
+    view: &View,
+    draft: &mut Draft,
+) -> Result<(), ClientFail>
+    requires kind { view.now.kind ≡ standard_kind (at_rays sense) }
+    requires empty { draft.old ≡ record { kind = view.now.kind; values = [] } }
+    ensures draft { draft.new.kind ≡ draft.old.kind }
+    ensures sound { OnOk result (IsSound view.now draft.new) }
+    ensures failed { IfErr result (FailsRightly view.now) }
+    ensures fails { IfErr result (FailsBy (IsWideAtRays view.now)) }
+{
+    prove!(view.of() == ObjectType::Polytope);
+    let lines = rows_of(alloc, view, PropId::LinealitySpace)?;
+    let rays = rows_of(alloc, view, PropId::Vertices)?;
+    let value = value_at_rays(alloc, sense, objective_of(view), &rays, &lines)?;
+    put_number(draft, value_in(sense), value)?;
+    Ok(())
+}

@@ -1,0 +1,10 @@
+pub mod Breaks
+pub mod Commands
+pub mod Splits
+pub mod Spaces
+pub mod Numbers
+pub mod BuildLines
+pub mod Grammar
+pub mod FirstWords
+pub mod Asked
+pub mod CommandExamples

@@ -1,0 +1,12 @@
+//! Commands: the lines of a script, and what each speaks.
+#![tactic(auto)]
+
+mod building;
+mod command;
+mod examples;
+mod lines;
+mod words;
+
+pub use command::{Command, LineFail, Ref, Shape, read_line};
+pub use examples::example_commands;
+pub use lines::{Line, first_break, is_silent, split_line};

@@ -1,0 +1,7 @@
+pub mod Examples
+pub mod ExampleDims
+pub mod Tails
+pub mod Kept
+pub mod Refused
+pub mod Forms
+pub mod Turns

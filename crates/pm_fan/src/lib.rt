@@ -1,0 +1,34 @@
+//! The dimensions of the cones of a fan, and the normal fan and the face fan of a polytope.
+#![tactic(auto)]
+
+ghost use Rattle.pm_fan.specs.Examples.{ConditionsAreRead, DimensionsAreRead, FansAreRead};
+ghost use Rattle.pm_fan.specs.Laws.{FansHaveForms};
+
+mod building;
+mod conditions;
+mod cones;
+mod dims;
+mod rows;
+
+pub use building::{face_fan, normal_fan};
+pub use dims::cone_dims;
+
+/// The values of normal fans and face fans have the forms of values that an object may hold.
+pub fn law_fans_have_forms()
+    ensures { FansHaveForms }
+{}
+
+/// Dimensions of small cones, and what is none.
+pub fn example_dimensions()
+    ensures { DimensionsAreRead }
+{}
+
+/// The fans of a square and of a point.
+pub fn example_fans()
+    ensures { FansAreRead }
+{}
+
+/// Which conditions fail, and which of them first.
+pub fn example_conditions()
+    ensures { ConditionsAreRead }
+{}
