@@ -5,3 +5,4 @@ pub mod Places
 pub mod NameLemmas
 pub mod NameBytes
 pub mod KindLemmas
+pub mod Ascii

@@ -231,128 +231,133 @@ impl Model for PropertyRow {
     } };
 }
 
-impl PropertyRow {
-    // A property of one name, which speaks of no order, and describes nothing.
-    fn plain(number: u8, name: &'static str, kind: ValueKind, tables: Tables) -> PropertyRow
-        ensures { result ≡ plain number name.now kind tables }
-    {
-        PropertyRow {
-            number,
-            first_name: name,
-            cone_name: name,
-            fan_name: name,
-            kind,
-            tables,
-            speaks_of_rays: false,
-            speaks_of_facets: false,
-            describes: Describes::Nothing,
-            is_half: false,
-            columns: Columns::Free,
-            test: RowTest::Any,
-        }
-    }
+// A row as the table holds it.
+#[derive(Clone, Copy)]
+struct Entry {
+    number: u8,
+    first_name: &'static str,
+    cone_name: &'static str,
+    fan_name: &'static str,
+    kind: ValueKind,
+    tables: Tables,
+    speaks_of_rays: bool,
+    speaks_of_facets: bool,
+    describes: Describes,
+    is_half: bool,
+    columns: Columns,
+    test: RowTest,
 }
+
+// What a row says of a property that speaks of no order, describes nothing and is asked nothing.
+const PLAIN: Entry = Entry {
+    number: 0,
+    first_name: "",
+    cone_name: "",
+    fan_name: "",
+    kind: ValueKind::Int,
+    tables: Tables::All,
+    speaks_of_rays: false,
+    speaks_of_facets: false,
+    describes: Describes::Nothing,
+    is_half: false,
+    columns: Columns::Free,
+    test: RowTest::Any,
+};
 
 /// How many properties there are.
 pub const COUNT: usize = 48;
 
-// A row: the number, the first name, the kind of value, the tables, and what differs from a plain property.
+// A row: the number, the first name (and those of cones and fans, where they differ), the kind of value, the tables, and
+// what differs from a plain property.
 macro_rules! property {
-    ($number:literal $name:literal $kind:ident $tables:ident) => {
-        PropertyRow::plain($number, $name, ValueKind::$kind, Tables::$tables)
+    ($number:literal $name:literal $kind:ident $tables:ident $(| $($field:ident: $value:expr),+)?) => {
+        property!($number $name, $name, $name; $kind $tables $(| $($field: $value),+)?)
     };
-    ($number:literal $name:literal $kind:ident $tables:ident | $($field:ident: $value:expr),+) => {
-        PropertyRow {
-            $($field: $value,)+
-            ..PropertyRow::plain($number, $name, ValueKind::$kind, Tables::$tables)
+    ($number:literal $first:literal, $cone:literal, $fan:literal; $kind:ident $tables:ident $(| $($field:ident: $value:expr),+)?) => {
+        Entry {
+            number: $number,
+            first_name: $first,
+            cone_name: $cone,
+            fan_name: $fan,
+            kind: ValueKind::$kind,
+            tables: Tables::$tables,
+            $($($field: $value,)+)?
+            ..PLAIN
         }
     };
 }
+
+// The table, in the order of the numbers.
+static TABLE: [Entry; COUNT] = [
+    property!(0 "CONE_AMBIENT_DIM", "CONE_AMBIENT_DIM", "FAN_AMBIENT_DIM"; Int All | columns: Columns::Value),
+    property!(1 "POINTS", "INPUT_RAYS", "POINTS"; Mat PolytopesAndCones | describes: Describes::Generators, is_half: true, columns: Columns::Rows, test: RowTest::Point),
+    property!(2 "INPUT_LINEALITY" Mat PolytopesAndCones | describes: Describes::Generators, is_half: true, columns: Columns::Rows, test: RowTest::Line),
+    property!(3 "INEQUALITIES" Mat PolytopesAndCones | describes: Describes::HalfSpaces, is_half: true, columns: Columns::Rows),
+    property!(4 "EQUATIONS" Mat PolytopesAndCones | describes: Describes::HalfSpaces, is_half: true, columns: Columns::Rows),
+    property!(5 "VERTICES", "RAYS", "RAYS"; Mat All | speaks_of_rays: true, describes: Describes::Generators, columns: Columns::Rows, test: RowTest::Ray),
+    property!(6 "LINEALITY_SPACE" Mat All | describes: Describes::Generators, columns: Columns::Rows, test: RowTest::Line),
+    property!(7 "FACETS" Mat PolytopesAndCones | speaks_of_facets: true, describes: Describes::HalfSpaces, columns: Columns::Rows, test: RowTest::NotZero),
+    property!(8 "AFFINE_HULL", "LINEAR_SPAN", "AFFINE_HULL"; Mat PolytopesAndCones | describes: Describes::HalfSpaces, columns: Columns::Rows),
+    property!(9 "VERTICES_IN_FACETS", "RAYS_IN_FACETS", "VERTICES_IN_FACETS"; Sets PolytopesAndCones | speaks_of_rays: true, speaks_of_facets: true),
+    property!(10 "CONE_DIM" Int PolytopesAndCones),
+    property!(11 "LINEALITY_DIM" Int All),
+    property!(12 "COMBINATORIAL_DIM" Int PolytopesAndCones),
+    property!(13 "N_VERTICES", "N_RAYS", "N_RAYS"; Int All),
+    property!(14 "N_FACETS" Int PolytopesAndCones),
+    property!(15 "FEASIBLE" Bool Polytopes),
+    property!(16 "BOUNDED" Bool Polytopes),
+    property!(17 "POINTED" Bool All),
+    property!(18 "FULL_DIM" Bool PolytopesAndCones),
+    property!(19 "CENTERED" Bool Polytopes),
+    property!(20 "SIMPLE" Bool PolytopesAndCones),
+    property!(21 "SIMPLICIAL" Bool All),
+    property!(22 "VERTEX_SIZES", "RAY_SIZES", "VERTEX_SIZES"; Counts PolytopesAndCones | speaks_of_rays: true),
+    property!(23 "FACET_SIZES" Counts PolytopesAndCones | speaks_of_facets: true),
+    property!(24 "HASSE_DIAGRAM" Lattice PolytopesAndCones | speaks_of_rays: true),
+    property!(25 "F_VECTOR" Counts PolytopesAndCones),
+    property!(26 "F2_VECTOR" Mat PolytopesAndCones),
+    property!(27 "H_VECTOR" Counts Polytopes),
+    property!(28 "GRAPH" Edges PolytopesAndCones | speaks_of_rays: true),
+    property!(29 "DUAL_GRAPH" Edges PolytopesAndCones | speaks_of_facets: true),
+    property!(30 "DIAMETER" Int PolytopesAndCones),
+    property!(31 "DUAL_DIAMETER" Int PolytopesAndCones),
+    property!(32 "N_EDGES" Int PolytopesAndCones),
+    property!(33 "N_RIDGES" Int PolytopesAndCones),
+    property!(34 "VERTEX_DEGREES", "RAY_DEGREES", "VERTEX_DEGREES"; Counts PolytopesAndCones | speaks_of_rays: true),
+    property!(35 "FAR_FACE" Counts Polytopes | speaks_of_rays: true),
+    property!(36 "MAXIMAL_CONES" Sets Fans | speaks_of_rays: true, speaks_of_facets: true),
+    property!(37 "N_MAXIMAL_CONES" Int Fans),
+    property!(38 "MAXIMAL_CONES_DIMS" Counts Fans | speaks_of_facets: true),
+    property!(39 "FAN_DIM" Int Fans),
+    property!(40 "PURE" Bool Fans),
+    property!(41 "LP.LINEAR_OBJECTIVE" Mat Programs | columns: Columns::Rows),
+    property!(42 "LP.MAXIMAL_VALUE" Number Programs),
+    property!(43 "LP.MINIMAL_VALUE" Number Programs),
+    property!(44 "LP.MAXIMAL_FACE" Counts Programs | speaks_of_rays: true),
+    property!(45 "LP.MINIMAL_FACE" Counts Programs | speaks_of_rays: true),
+    property!(46 "LP.MAXIMAL_DUAL" Mat Programs | columns: Columns::Rows),
+    property!(47 "LP.MINIMAL_DUAL" Mat Programs | columns: Columns::Rows),
+];
 
 impl PropId {
     /// The property's row in the table.
     pub fn row(self) -> PropertyRow
         ensures { result ≡ row self }
     {
-        match self {
-            Self::ConeAmbientDim => property!(0 "CONE_AMBIENT_DIM" Int All
-                | fan_name: "FAN_AMBIENT_DIM", columns: Columns::Value),
-            Self::Points => property!(1 "POINTS" Mat PolytopesAndCones
-                | cone_name: "INPUT_RAYS", describes: Describes::Generators, is_half: true,
-                  columns: Columns::Rows, test: RowTest::Point),
-            Self::InputLineality => property!(2 "INPUT_LINEALITY" Mat PolytopesAndCones
-                | describes: Describes::Generators, is_half: true, columns: Columns::Rows,
-                  test: RowTest::Line),
-            Self::Inequalities => property!(3 "INEQUALITIES" Mat PolytopesAndCones
-                | describes: Describes::HalfSpaces, is_half: true, columns: Columns::Rows),
-            Self::Equations => property!(4 "EQUATIONS" Mat PolytopesAndCones
-                | describes: Describes::HalfSpaces, is_half: true, columns: Columns::Rows),
-            Self::Vertices => property!(5 "VERTICES" Mat All
-                | cone_name: "RAYS", fan_name: "RAYS", speaks_of_rays: true,
-                  describes: Describes::Generators, columns: Columns::Rows, test: RowTest::Ray),
-            Self::LinealitySpace => property!(6 "LINEALITY_SPACE" Mat All
-                | describes: Describes::Generators, columns: Columns::Rows, test: RowTest::Line),
-            Self::Facets => property!(7 "FACETS" Mat PolytopesAndCones
-                | speaks_of_facets: true, describes: Describes::HalfSpaces,
-                  columns: Columns::Rows, test: RowTest::NotZero),
-            Self::AffineHull => property!(8 "AFFINE_HULL" Mat PolytopesAndCones
-                | cone_name: "LINEAR_SPAN", describes: Describes::HalfSpaces,
-                  columns: Columns::Rows),
-            Self::VerticesInFacets => property!(9 "VERTICES_IN_FACETS" Sets PolytopesAndCones
-                | cone_name: "RAYS_IN_FACETS", speaks_of_rays: true, speaks_of_facets: true),
-            Self::ConeDim => property!(10 "CONE_DIM" Int PolytopesAndCones),
-            Self::LinealityDim => property!(11 "LINEALITY_DIM" Int All),
-            Self::CombinatorialDim => property!(12 "COMBINATORIAL_DIM" Int PolytopesAndCones),
-            Self::NVertices => property!(13 "N_VERTICES" Int All
-                | cone_name: "N_RAYS", fan_name: "N_RAYS"),
-            Self::NFacets => property!(14 "N_FACETS" Int PolytopesAndCones),
-            Self::Feasible => property!(15 "FEASIBLE" Bool Polytopes),
-            Self::Bounded => property!(16 "BOUNDED" Bool Polytopes),
-            Self::Pointed => property!(17 "POINTED" Bool All),
-            Self::FullDim => property!(18 "FULL_DIM" Bool PolytopesAndCones),
-            Self::Centered => property!(19 "CENTERED" Bool Polytopes),
-            Self::Simple => property!(20 "SIMPLE" Bool PolytopesAndCones),
-            Self::Simplicial => property!(21 "SIMPLICIAL" Bool All),
-            Self::VertexSizes => property!(22 "VERTEX_SIZES" Counts PolytopesAndCones
-                | cone_name: "RAY_SIZES", speaks_of_rays: true),
-            Self::FacetSizes => property!(23 "FACET_SIZES" Counts PolytopesAndCones
-                | speaks_of_facets: true),
-            Self::HasseDiagram => property!(24 "HASSE_DIAGRAM" Lattice PolytopesAndCones
-                | speaks_of_rays: true),
-            Self::FVector => property!(25 "F_VECTOR" Counts PolytopesAndCones),
-            Self::F2Vector => property!(26 "F2_VECTOR" Mat PolytopesAndCones),
-            Self::HVector => property!(27 "H_VECTOR" Counts Polytopes),
-            Self::Graph => property!(28 "GRAPH" Edges PolytopesAndCones
-                | speaks_of_rays: true),
-            Self::DualGraph => property!(29 "DUAL_GRAPH" Edges PolytopesAndCones
-                | speaks_of_facets: true),
-            Self::Diameter => property!(30 "DIAMETER" Int PolytopesAndCones),
-            Self::DualDiameter => property!(31 "DUAL_DIAMETER" Int PolytopesAndCones),
-            Self::NEdges => property!(32 "N_EDGES" Int PolytopesAndCones),
-            Self::NRidges => property!(33 "N_RIDGES" Int PolytopesAndCones),
-            Self::VertexDegrees => property!(34 "VERTEX_DEGREES" Counts PolytopesAndCones
-                | cone_name: "RAY_DEGREES", speaks_of_rays: true),
-            Self::FarFace => property!(35 "FAR_FACE" Counts Polytopes
-                | speaks_of_rays: true),
-            Self::MaximalCones => property!(36 "MAXIMAL_CONES" Sets Fans
-                | speaks_of_rays: true, speaks_of_facets: true),
-            Self::NMaximalCones => property!(37 "N_MAXIMAL_CONES" Int Fans),
-            Self::MaximalConesDims => property!(38 "MAXIMAL_CONES_DIMS" Counts Fans
-                | speaks_of_facets: true),
-            Self::FanDim => property!(39 "FAN_DIM" Int Fans),
-            Self::Pure => property!(40 "PURE" Bool Fans),
-            Self::LinearObjective => property!(41 "LP.LINEAR_OBJECTIVE" Mat Programs
-                | columns: Columns::Rows),
-            Self::MaximalValue => property!(42 "LP.MAXIMAL_VALUE" Number Programs),
-            Self::MinimalValue => property!(43 "LP.MINIMAL_VALUE" Number Programs),
-            Self::MaximalFace => property!(44 "LP.MAXIMAL_FACE" Counts Programs
-                | speaks_of_rays: true),
-            Self::MinimalFace => property!(45 "LP.MINIMAL_FACE" Counts Programs
-                | speaks_of_rays: true),
-            Self::MaximalDual => property!(46 "LP.MAXIMAL_DUAL" Mat Programs
-                | columns: Columns::Rows),
-            Self::MinimalDual => property!(47 "LP.MINIMAL_DUAL" Mat Programs
-                | columns: Columns::Rows),
+        let entry = TABLE[self as usize];
+        PropertyRow {
+            number: entry.number,
+            first_name: entry.first_name,
+            cone_name: entry.cone_name,
+            fan_name: entry.fan_name,
+            kind: entry.kind,
+            tables: entry.tables,
+            speaks_of_rays: entry.speaks_of_rays,
+            speaks_of_facets: entry.speaks_of_facets,
+            describes: entry.describes,
+            is_half: entry.is_half,
+            columns: entry.columns,
+            test: entry.test,
         }
     }
 

@@ -1,8 +1,8 @@
 // The standard rules and their clients.
 
-ghost use Rattle.pm_props.specs.Kinds.{plain_rule, standard_clients, standard_kind, standard_kinds_list, standard_row, where_true};
-ghost use Rattle.std.specs.Prelude.{IfOk, length, ◌≡◌, ◌≤◌};
-ghost use Rattle.std.specs.Str.{IsAscii};
+ghost use Rattle.pm_props.specs.Kinds.{standard_clients, standard_kind, standard_kinds_list, standard_row, table_row};
+ghost use Rattle.std.specs.Prelude.{IfOk, length, nat_lt, true, ◌≡◌, ◌≤◌};
+ghost use Rattle.std.specs.List.{list_all};
 
 use crate::kind::Kind;
 use crate::property::PropId;
@@ -143,47 +143,91 @@ pub struct StandardRule {
     pub weight: u32,
 }
 
-impl StandardRule {
-    // A rule under no condition.
-    fn plain(name: &str, targets: &[PropId], sources: &[PropId], weight: u32) -> StandardRule
-        requires short { length name.now ≤ 32 }
-        requires ascii { IsAscii name.now }
-        ensures { result ≡ plain_rule name.now targets.now sources.now weight }
-    {
-        StandardRule {
-            kind: Kind::finding(name, targets, sources),
-            weight,
-        }
-    }
-
-    // The rule where these properties must be true.
-    fn where_true(self, must: &[PropId]) -> StandardRule
-        ensures { result ≡ where_true must.now self }
-    {
-        StandardRule {
-            kind: Kind {
-                must: PropSet::of_list(must),
-                ..self.kind
-            },
-            ..self
-        }
-    }
+// A row of the table: a rule's label, what it finds, from what, what must be true, and what it weighs.
+struct Entry {
+    label: &'static str,
+    targets: &'static [PropId],
+    sources: &'static [PropId],
+    must: &'static [PropId],
+    weight: u32,
 }
 
 // A rule: its label, what it finds, from what, if these are true, and its weight.
 macro_rules! rule {
-    ($label:literal: $($target:ident),+ from $($source:ident),+; $weight:literal) => {
-        StandardRule::plain(
-            $label,
-            &[$(PropId::$target),+],
-            &[$(PropId::$source),+],
-            $weight,
-        )
-    };
-    ($label:literal: $($target:ident),+ from $($source:ident),+ if $($must:ident),+; $weight:literal) => {
-        rule!($label: $($target),+ from $($source),+; $weight).where_true(&[$(PropId::$must),+])
+    ($label:literal: $($target:ident),+ from $($source:ident),+ $(if $($must:ident),+)?; $weight:literal) => {
+        Entry {
+            label: $label,
+            targets: &[$(PropId::$target),+],
+            sources: &[$(PropId::$source),+],
+            must: &[$($(PropId::$must),+)?],
+            weight: $weight,
+        }
     };
 }
+
+// The standard rules, in the order of the standard book.
+static RULES: [Entry; 60] = [
+    rule!("dd_vertices": Vertices, LinealitySpace from Inequalities, Equations; 40),
+    rule!("dd_facets": Facets, AffineHull from Points, InputLineality; 40),
+    rule!("dd_facets_v": Facets, AffineHull from Vertices, LinealitySpace; 30),
+    rule!("dd_vertices_f": Vertices, LinealitySpace from Facets, AffineHull; 30),
+    rule!("thin_points_lp": Vertices, LinealitySpace from Points, InputLineality; 60),
+    rule!("thin_inequalities_lp": Facets, AffineHull from Inequalities, Equations; 60),
+    rule!("thin_points_f": Vertices, LinealitySpace from Points, InputLineality, Facets, AffineHull; 10),
+    rule!("thin_inequalities_v": Facets, AffineHull from Inequalities, Equations, Vertices, LinealitySpace; 10),
+    rule!("vertices_from_sets": Vertices from Facets, AffineHull, VerticesInFacets; 20),
+    rule!("facets_from_sets": Facets from Vertices, LinealitySpace, VerticesInFacets; 20),
+    rule!("points_from_vertices": Points, InputLineality from Vertices, LinealitySpace; 5),
+    rule!("inequalities_from_facets": Inequalities, Equations from Facets, AffineHull; 5),
+    rule!("lineality_from_facets": LinealitySpace from Facets, AffineHull; 5),
+    rule!("hull_from_vertices": AffineHull from Vertices, LinealitySpace; 5),
+    rule!("cone_dim_v": ConeDim from Vertices, LinealitySpace; 4),
+    rule!("cone_dim_span": ConeDim from AffineHull; 1),
+    rule!("cone_dim_points": ConeDim from Points, InputLineality; 8),
+    rule!("lineality_dim": LinealityDim from LinealitySpace; 1),
+    rule!("combinatorial_dim": CombinatorialDim from ConeDim, LinealityDim; 1),
+    rule!("n_vertices": NVertices from Vertices; 1),
+    rule!("n_vertices_sets": NVertices from VerticesInFacets; 1),
+    rule!("n_facets": NFacets from Facets; 1),
+    rule!("n_facets_sets": NFacets from VerticesInFacets; 1),
+    rule!("feasible": Feasible from ConeDim; 1),
+    rule!("feasible_lp": Feasible from Inequalities, Equations; 15),
+    rule!("bounded": Bounded from Vertices, LinealitySpace; 1),
+    rule!("far_face": FarFace from Vertices; 1),
+    rule!("pointed": Pointed from LinealityDim; 1),
+    rule!("full_dim": FullDim from ConeDim; 1),
+    rule!("centered": Centered from Facets, AffineHull; 1),
+    rule!("incidence": VerticesInFacets from Vertices, Facets; 5),
+    rule!("vertex_sizes": VertexSizes from VerticesInFacets; 2),
+    rule!("facet_sizes": FacetSizes from VerticesInFacets; 2),
+    rule!("simple": Simple from VertexSizes, CombinatorialDim; 1),
+    rule!("simplicial": Simplicial from FacetSizes, CombinatorialDim; 1),
+    rule!("faces": HasseDiagram from VerticesInFacets; 50),
+    rule!("f_vector": FVector from HasseDiagram; 2),
+    rule!("f2_vector": F2Vector from HasseDiagram; 3),
+    rule!("h_vector": HVector from FVector, CombinatorialDim if Bounded, Simplicial; 2),
+    rule!("graph_of_sets": Graph from VerticesInFacets; 15),
+    rule!("graph_of_faces": Graph from HasseDiagram; 3),
+    rule!("dual_graph": DualGraph from VerticesInFacets; 15),
+    rule!("vertex_degrees": VertexDegrees from Graph; 1),
+    rule!("diameter": Diameter from Graph; 4),
+    rule!("dual_diameter": DualDiameter from DualGraph; 4),
+    rule!("n_edges": NEdges from Graph; 1),
+    rule!("n_ridges": NRidges from DualGraph; 1),
+    rule!("lp_max": MaximalValue, MaximalDual from Facets, AffineHull, LinearObjective; 20),
+    rule!("lp_min": MinimalValue, MinimalDual from Facets, AffineHull, LinearObjective; 20),
+    rule!("lp_max_rows": MaximalValue from Inequalities, Equations, LinearObjective; 25),
+    rule!("lp_min_rows": MinimalValue from Inequalities, Equations, LinearObjective; 25),
+    rule!("lp_max_v": MaximalValue from Vertices, LinealitySpace, LinearObjective; 6),
+    rule!("lp_min_v": MinimalValue from Vertices, LinealitySpace, LinearObjective; 6),
+    rule!("lp_max_face": MaximalFace from Vertices, MaximalValue, LinearObjective; 3),
+    rule!("lp_min_face": MinimalFace from Vertices, MinimalValue, LinearObjective; 3),
+    rule!("fan_dims": MaximalConesDims from Vertices, LinealitySpace, MaximalCones; 4),
+    rule!("fan_dim": FanDim from MaximalConesDims; 1),
+    rule!("fan_pure": Pure from MaximalConesDims; 1),
+    rule!("fan_simplicial": Simplicial from MaximalConesDims, MaximalCones, LinealityDim; 1),
+    rule!("fan_size": NMaximalCones from MaximalCones; 1),
+];
 
 impl StandardClient {
     /// These clients, in the order of the standard book.
@@ -258,95 +302,27 @@ impl StandardClient {
     pub fn row(self) -> StandardRule
         ensures { result ≡ standard_row self }
     {
-        match self {
-            Self::DdVertices =>
-                rule!("dd_vertices": Vertices, LinealitySpace from Inequalities, Equations; 40),
-            Self::DdFacets =>
-                rule!("dd_facets": Facets, AffineHull from Points, InputLineality; 40),
-            Self::DdFacetsV =>
-                rule!("dd_facets_v": Facets, AffineHull from Vertices, LinealitySpace; 30),
-            Self::DdVerticesF =>
-                rule!("dd_vertices_f": Vertices, LinealitySpace from Facets, AffineHull; 30),
-            Self::ThinPointsLp =>
-                rule!("thin_points_lp": Vertices, LinealitySpace from Points, InputLineality; 60),
-            Self::ThinInequalitiesLp =>
-                rule!("thin_inequalities_lp": Facets, AffineHull from Inequalities, Equations; 60),
-            Self::ThinPointsF =>
-                rule!("thin_points_f": Vertices, LinealitySpace from Points, InputLineality, Facets, AffineHull; 10),
-            Self::ThinInequalitiesV =>
-                rule!("thin_inequalities_v": Facets, AffineHull from Inequalities, Equations, Vertices, LinealitySpace; 10),
-            Self::VerticesFromSets =>
-                rule!("vertices_from_sets": Vertices from Facets, AffineHull, VerticesInFacets; 20),
-            Self::FacetsFromSets =>
-                rule!("facets_from_sets": Facets from Vertices, LinealitySpace, VerticesInFacets; 20),
-            Self::PointsFromVertices =>
-                rule!("points_from_vertices": Points, InputLineality from Vertices, LinealitySpace; 5),
-            Self::InequalitiesFromFacets =>
-                rule!("inequalities_from_facets": Inequalities, Equations from Facets, AffineHull; 5),
-            Self::LinealityFromFacets =>
-                rule!("lineality_from_facets": LinealitySpace from Facets, AffineHull; 5),
-            Self::HullFromVertices =>
-                rule!("hull_from_vertices": AffineHull from Vertices, LinealitySpace; 5),
-            Self::ConeDimV => rule!("cone_dim_v": ConeDim from Vertices, LinealitySpace; 4),
-            Self::ConeDimSpan => rule!("cone_dim_span": ConeDim from AffineHull; 1),
-            Self::ConeDimPoints => rule!("cone_dim_points": ConeDim from Points, InputLineality; 8),
-            Self::LinealityDim => rule!("lineality_dim": LinealityDim from LinealitySpace; 1),
-            Self::CombinatorialDim =>
-                rule!("combinatorial_dim": CombinatorialDim from ConeDim, LinealityDim; 1),
-            Self::NVertices => rule!("n_vertices": NVertices from Vertices; 1),
-            Self::NVerticesSets => rule!("n_vertices_sets": NVertices from VerticesInFacets; 1),
-            Self::NFacets => rule!("n_facets": NFacets from Facets; 1),
-            Self::NFacetsSets => rule!("n_facets_sets": NFacets from VerticesInFacets; 1),
-            Self::Feasible => rule!("feasible": Feasible from ConeDim; 1),
-            Self::FeasibleLp => rule!("feasible_lp": Feasible from Inequalities, Equations; 15),
-            Self::Bounded => rule!("bounded": Bounded from Vertices, LinealitySpace; 1),
-            Self::FarFace => rule!("far_face": FarFace from Vertices; 1),
-            Self::Pointed => rule!("pointed": Pointed from LinealityDim; 1),
-            Self::FullDim => rule!("full_dim": FullDim from ConeDim; 1),
-            Self::Centered => rule!("centered": Centered from Facets, AffineHull; 1),
-            Self::Incidence => rule!("incidence": VerticesInFacets from Vertices, Facets; 5),
-            Self::VertexSizes => rule!("vertex_sizes": VertexSizes from VerticesInFacets; 2),
-            Self::FacetSizes => rule!("facet_sizes": FacetSizes from VerticesInFacets; 2),
-            Self::Simple => rule!("simple": Simple from VertexSizes, CombinatorialDim; 1),
-            Self::Simplicial =>
-                rule!("simplicial": Simplicial from FacetSizes, CombinatorialDim; 1),
-            Self::Faces => rule!("faces": HasseDiagram from VerticesInFacets; 50),
-            Self::FVector => rule!("f_vector": FVector from HasseDiagram; 2),
-            Self::F2Vector => rule!("f2_vector": F2Vector from HasseDiagram; 3),
-            Self::HVector =>
-                rule!("h_vector": HVector from FVector, CombinatorialDim if Bounded, Simplicial; 2),
-            Self::GraphOfSets => rule!("graph_of_sets": Graph from VerticesInFacets; 15),
-            Self::GraphOfFaces => rule!("graph_of_faces": Graph from HasseDiagram; 3),
-            Self::DualGraph => rule!("dual_graph": DualGraph from VerticesInFacets; 15),
-            Self::VertexDegrees => rule!("vertex_degrees": VertexDegrees from Graph; 1),
-            Self::Diameter => rule!("diameter": Diameter from Graph; 4),
-            Self::DualDiameter => rule!("dual_diameter": DualDiameter from DualGraph; 4),
-            Self::NEdges => rule!("n_edges": NEdges from Graph; 1),
-            Self::NRidges => rule!("n_ridges": NRidges from DualGraph; 1),
-            Self::LpMax =>
-                rule!("lp_max": MaximalValue, MaximalDual from Facets, AffineHull, LinearObjective; 20),
-            Self::LpMin =>
-                rule!("lp_min": MinimalValue, MinimalDual from Facets, AffineHull, LinearObjective; 20),
-            Self::LpMaxRows =>
-                rule!("lp_max_rows": MaximalValue from Inequalities, Equations, LinearObjective; 25),
-            Self::LpMinRows =>
-                rule!("lp_min_rows": MinimalValue from Inequalities, Equations, LinearObjective; 25),
-            Self::LpMaxV =>
-                rule!("lp_max_v": MaximalValue from Vertices, LinealitySpace, LinearObjective; 6),
-            Self::LpMinV =>
-                rule!("lp_min_v": MinimalValue from Vertices, LinealitySpace, LinearObjective; 6),
-            Self::LpMaxFace =>
-                rule!("lp_max_face": MaximalFace from Vertices, MaximalValue, LinearObjective; 3),
-            Self::LpMinFace =>
-                rule!("lp_min_face": MinimalFace from Vertices, MinimalValue, LinearObjective; 3),
-            Self::FanDims =>
-                rule!("fan_dims": MaximalConesDims from Vertices, LinealitySpace, MaximalCones; 4),
-            Self::FanDim => rule!("fan_dim": FanDim from MaximalConesDims; 1),
-            Self::FanPure => rule!("fan_pure": Pure from MaximalConesDims; 1),
-            Self::FanSimplicial =>
-                rule!("fan_simplicial": Simplicial from MaximalConesDims, MaximalCones, LinealityDim; 1),
-            Self::FanSize => rule!("fan_size": NMaximalCones from MaximalCones; 1),
+        let entry = self.entry();
+        StandardRule {
+            kind: Kind {
+                must: PropSet::of_list(entry.must),
+                ..Kind::finding(entry.label, entry.targets, entry.sources)
+            },
+            weight: entry.weight,
         }
+    }
+
+    // The row of the table.
+    fn entry(self) -> &'static Entry
+        ensures label { result.now.label.now ≡ (table_row self).label }
+        ensures targets { result.now.targets.now ≡ (table_row self).targets }
+        ensures sources { result.now.sources.now ≡ (table_row self).sources }
+        ensures must { result.now.must.now ≡ (table_row self).must }
+        ensures weight { result.now.weight ≡ (table_row self).weight }
+        ensures short { length result.now.label.now ≤ 32 }
+        ensures ascii { list_all (λ b. nat_lt b 128) result.now.label.now ≡ true }
+    {
+        &RULES[self as usize]
     }
 
     /// The client's kind.
