@@ -2,3 +2,4 @@ pub mod Readings
 pub mod Grammar
 pub mod Laws
 pub mod Examples
+pub mod Texts

@@ -11,9 +11,11 @@ mod lattice;
 mod matrix;
 mod number;
 mod sets;
+mod text;
 mod value;
 
 pub use fail::ValueFail;
+pub use text::{TextFail, read_text};
 pub use value::read_value;
 
 /// A JSON value that is a value of a property is read as that value, so it is no other one.

@@ -7,7 +7,8 @@ use Rattle.pm_machine.specs.declared.round.Ending.TheVariants as ending
 use Rattle.pm_machine.specs.Events.{Configuration, EnsuredInPart, configuration}
 use Rattle.pm_machine.specs.Parts.{AllHonest, IsSettled, StepInPart}
 use Rattle.pm_machine.specs.Machines.{Becomes, Files, Machine}
-use Rattle.pm_machine.specs.Steps.{AllKept, CopyStep, DisableStep, DropStep, EnsureStep, EnsuredAll, Ensures, ExplainStep, ExplainedAll, Gave, Given, GiveStep, Gives, HistoryStep, LoadStep, Looks, LookupStep, Named, NewObjectStep, NewOf, NewProgramStep, NewStep, OriginStep, Puts, RulesStep, SaveStep, Step, TakeStep, TakeValue, UnloadStep, disabling, named_at, part_named, no_json, faulty, value}
+use Rattle.pm_json.specs.Texts.{Given, no_json, faulty, value}
+use Rattle.pm_machine.specs.Steps.{AllKept, CopyStep, DisableStep, DropStep, EnsureStep, EnsuredAll, Ensures, ExplainStep, ExplainedAll, Gave, GiveStep, Gives, HistoryStep, LoadStep, Looks, LookupStep, Named, NewObjectStep, NewOf, NewProgramStep, NewStep, OriginStep, Puts, RulesStep, SaveStep, Step, TakeStep, TakeValue, UnloadStep, disabling, named_at, part_named}
 use Rattle.pm_command.specs.Grammar.{ref_text}
 use Rattle.pm_object.proofs.Formed.{only}
 use Rattle.pm_object.proofs.Objectives.{objective_is_kept}

@@ -17,7 +17,8 @@ use Rattle.pm_command.specs.Grammar.{ref_text}
 use Rattle.pm_object.specs.State.{program_refusal, with_program}
 use Rattle.pm_object.specs.declared.held.ProgramFail.{ProgramFail}
 use Rattle.pm_machine.specs.Steps.{NewProgramStep, ProgramRefuses, is_program_word}
-use Rattle.pm_machine.specs.Steps.{AllKept, DisableStep, EnsureStep, Ensures, ExplainStep, Explains, Given, GiveStep, Gives, Step, TakeStep, TakeValue, Taken, asked_in, disabling, faulty, given_by, has_label, Named, named_at, named_rounds, names_told, no_json, part_named, property_named, rounds_beside, settled_object, value}
+use Rattle.pm_json.specs.Texts.{Given, faulty, given_by, no_json, value}
+use Rattle.pm_machine.specs.Steps.{AllKept, DisableStep, EnsureStep, Ensures, ExplainStep, Explains, GiveStep, Gives, Step, TakeStep, TakeValue, Taken, asked_in, disabling, has_label, Named, named_at, named_rounds, names_told, part_named, property_named, rounds_beside, settled_object}
 use Rattle.pm_object.proofs.Names.{names_held}
 use Rattle.pm_object.specs.State.{ObjectSeen, RoundSeen, State, is_held, read_at, value_of}
 use Rattle.pm_object.specs.Views.{round_seen}
@@ -38,7 +39,6 @@ use Rattle.pm_props.specs.declared.kind.RuleId.{RuleId}
 use Rattle.pm_props.specs.declared.property.PropId.{PropId}
 use Rattle.pm_props.specs.declared.set.PropSet.{PropSet}
 use Rattle.pm_weights.specs.declared.Cost.{Cost}
-use Rattle.serde_json.specs.Read.{read}
 use Rattle.std.proofs.Common.{ap, arith, bytes_eq, eqb, false, inl, inr, refl, subst, sym, true, true≢false, ◌∙◌, ◌≢◌}
 use Rattle.std.proofs.lemmas.Map.Text.{hash_map_updates_text}
 use Rattle.std.proofs.lemmas.Slice.Eq.{bytes_eq-Decides}
@@ -262,33 +262,33 @@ module _ {ns ms : List (List ℕ)} {old new : List ℕ → Option State} {name :
         → TakeStep (machine_with ns old clients) (ref_with name part) text json (refused UnknownProperty nothing) (machine_with ms new clients)
     take_unknown clients json none same = (named_of o sub, at clients, none, stays_with clients same)
 
-    pub take_refused : (clients : Clients) (json : List ℕ) (p : PropId) (why : Refusal) → property_named o.of sub text ≡ Some p → Taken o sub p (given_by p (read json)) (Some why) o'
+    pub take_refused : (clients : Clients) (json : List ℕ) (p : PropId) (why : Refusal) → property_named o.of sub text ≡ Some p → Taken o sub p (given_by p json) (Some why) o'
         → TakeStep (machine_with ns old clients) (ref_with name part) text json (refused why nothing) (machine_with ms new clients)
     take_refused clients json p why named t = by why t.0
       where
         stays : Stays (machine_with ns old clients) (machine_with ms new clients)
         stays = stays_with clients t.1
 
-        by : (y : Refusal) → TakeValue o sub p (given_by p (read json)) (Some y) None → TakeStep (machine_with ns old clients) (ref_with name part) text json (refused y nothing) (machine_with ms new clients)
+        by : (y : Refusal) → TakeValue o sub p (given_by p json) (Some y) None → TakeStep (machine_with ns old clients) (ref_with name part) text json (refused y nothing) (machine_with ms new clients)
         by AlreadyHeld h = (named_of o sub, at clients, p, named, h, stays)
         by Sealed h = (named_of o sub, at clients, p, named, h, stays)
         by (BadValue v) h = (named_of o sub, at clients, p, named, h, stays)
-        by BadCommand h = absurd (not_taken o sub p BadCommand (given_by p (read json)) refl h)
-        by UnknownName h = absurd (not_taken o sub p UnknownName (given_by p (read json)) refl h)
-        by NameTaken h = absurd (not_taken o sub p NameTaken (given_by p (read json)) refl h)
-        by UnknownType h = absurd (not_taken o sub p UnknownType (given_by p (read json)) refl h)
-        by UnknownProperty h = absurd (not_taken o sub p UnknownProperty (given_by p (read json)) refl h)
-        by ObjectsFull h = absurd (not_taken o sub p ObjectsFull (given_by p (read json)) refl h)
-        by NoChain h = absurd (not_taken o sub p NoChain (given_by p (read json)) refl h)
-        by Crowded h = absurd (not_taken o sub p Crowded (given_by p (read json)) refl h)
-        by StoreFault h = absurd (not_taken o sub p StoreFault (given_by p (read json)) refl h)
-        by (BadFile y) h = absurd (not_taken o sub p (BadFile y) (given_by p (read json)) refl h)
-        by NoSuchFile h = absurd (not_taken o sub p NoSuchFile (given_by p (read json)) refl h)
-        by (NotFit y) h = absurd (not_taken o sub p (NotFit y) (given_by p (read json)) refl h)
-        by LineTooLong h = absurd (not_taken o sub p LineTooLong (given_by p (read json)) refl h)
-        by UnknownRule h = absurd (not_taken o sub p UnknownRule (given_by p (read json)) refl h)
+        by BadCommand h = absurd (not_taken o sub p BadCommand (given_by p json) refl h)
+        by UnknownName h = absurd (not_taken o sub p UnknownName (given_by p json) refl h)
+        by NameTaken h = absurd (not_taken o sub p NameTaken (given_by p json) refl h)
+        by UnknownType h = absurd (not_taken o sub p UnknownType (given_by p json) refl h)
+        by UnknownProperty h = absurd (not_taken o sub p UnknownProperty (given_by p json) refl h)
+        by ObjectsFull h = absurd (not_taken o sub p ObjectsFull (given_by p json) refl h)
+        by NoChain h = absurd (not_taken o sub p NoChain (given_by p json) refl h)
+        by Crowded h = absurd (not_taken o sub p Crowded (given_by p json) refl h)
+        by StoreFault h = absurd (not_taken o sub p StoreFault (given_by p json) refl h)
+        by (BadFile y) h = absurd (not_taken o sub p (BadFile y) (given_by p json) refl h)
+        by NoSuchFile h = absurd (not_taken o sub p NoSuchFile (given_by p json) refl h)
+        by (NotFit y) h = absurd (not_taken o sub p (NotFit y) (given_by p json) refl h)
+        by LineTooLong h = absurd (not_taken o sub p LineTooLong (given_by p json) refl h)
+        by UnknownRule h = absurd (not_taken o sub p UnknownRule (given_by p json) refl h)
 
-    pub take_done : (clients : Clients) (json : List ℕ) (p : PropId) → property_named o.of sub text ≡ Some p → Taken o sub p (given_by p (read json)) None o'
+    pub take_done : (clients : Clients) (json : List ℕ) (p : PropId) → property_named o.of sub text ≡ Some p → Taken o sub p (given_by p json) None o'
         → TakeStep (machine_with ns old clients) (ref_with name part) text json (done no_rounds) (machine_with ms new clients)
     take_done clients json p named (v, t, same) =
         (named_of o sub, at clients, p, named, v, t, refl, record { names = w.names; object = w.is ∙ ap Some same; others = w.others; clients = refl; store = refl })

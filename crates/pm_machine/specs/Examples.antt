@@ -25,7 +25,8 @@ use Rattle.std.specs.declared.alloc.Global.{Global}
 use Rattle.pm_store.specs.Files.{file_of}
 use Rattle.pm_store.specs.Outside.{Rose}
 use Rattle.pm_machine.specs.Machines.{Files, Machine, Stays, Store, later_rounds, without_name}
-use Rattle.pm_machine.specs.Steps.{CopyStep, DropStep, Ensures, Explains, Given as ReadValue, Gives, HistoryStep, IsFault, IsSavedWhole, LoadStep, LookupStep, NewStep, SaveStep, TakeValue, bytes_of, asked_in, is_program_word, named_at, names_told, origin_of, part_named, property_named, settled_object, type_word, value}
+use Rattle.pm_json.specs.Texts.{Given as ReadValue, value}
+use Rattle.pm_machine.specs.Steps.{CopyStep, DropStep, Ensures, Explains, Gives, HistoryStep, IsFault, IsSavedWhole, LoadStep, LookupStep, NewStep, SaveStep, TakeValue, bytes_of, asked_in, is_program_word, named_at, names_told, origin_of, part_named, property_named, settled_object, type_word}
 use Rattle.pm_command.specs.Commands.{RefSeen}
 use Rattle.pm_rules.specs.declared.table.TableRow.{TableRow}
 use Rattle.pm_script.specs.Replies.{NamesSeen, Remarks, Rounds, done, explained, loaded, nothing, refused, remarks, shows, tells}

@@ -3,13 +3,11 @@ use Rattle.std.specs.Prelude.{ℕ, ◌≡◌, ◌≢◌, ◌⊎◌, Bool, true, 
 use Rattle.std.specs.Prelude.{Result, Ok, Err}
 use Rattle.std.specs.List.{list_any}
 use Rattle.std.specs.Str.{bytes_eq}
-use Rattle.serde_json.specs.Data.{Data}
-use Rattle.serde_json.specs.Read.{read}
 use Rattle.pm_books.specs.Writing.{text_of}
 use Rattle.pm_client.specs.Starts.{Clients}
 use Rattle.pm_props.specs.declared.object_type.ObjectType.{ObjectType}
 use Rattle.pm_props.specs.declared.object_type.ObjectType.TheVariants.{Polytope, Cone, Fan}
-use Rattle.pm_json.specs.Readings.{reading}
+use Rattle.pm_json.specs.Texts.{Given, faulty, given_by, no_json, value}
 use Rattle.pm_json.specs.declared.fail.ValueFail.{ValueFail}
 use Rattle.pm_json.specs.declared.fail.ValueFail.TheVariants as fault
 use Rattle.pm_machine.specs.Chains.{AreBarred, held_names, table}
@@ -120,20 +118,6 @@ NewOf old name (Some sub) text reply new = NewProgramStep old name sub text repl
 abbrev pub NewStep : Machine → RefSeen → List ℕ → ReplySeen → Machine → Type 0
 NewStep old ref text reply new = NewOf old ref.name ref.sub text reply new
 
--- what a JSON text gives for a property: no JSON, a fault in reading order, or a value
-pub data Given : Type 0 where
-  no_json : Given
-  faulty : ValueFail → Given
-  value : PropertyValue → Given
-
-abbrev pub given_of : Result PropertyValue ValueFail → Given
-given_of (Ok v) = value v
-given_of (Err e) = faulty e
-
-abbrev pub given_by : PropId → Option Data → Given
-given_by p None = no_json
-given_by p (Some d) = given_of (reading p d)
-
 -- The object, or its program at a place, takes the value that the text gives, unless the first of these holds: it is held, the object (the program) is sealed, the text is no JSON, a fault of the value in reading order, it is another value of a program than its objective, its columns differ, a row fails its test or has no primitive row within the range.
 abbrev pub TakeValue : State → Option ℕ → PropId → Given → Option Refusal → Option PropertyValue → Type 0
 TakeValue o sub p g (Some AlreadyHeld) v = is_held p (read_at sub o.held) ≡ true
@@ -154,7 +138,7 @@ Taken o sub p g None new = (v : PropertyValue) × TakeValue o sub p g None (Some
 -- the value is not taken for this reason
 abbrev pub TakeRefuses : Machine → RefSeen → List ℕ → List ℕ → Refusal → Machine → Type 0
 TakeRefuses old ref text json why new = (x : Named) × (named_at old ref ≡ Some x) × (p : PropId) × (property_at x text ≡ Some p)
-    × TakeValue x.object x.sub p (given_by p (read json)) (Some why) None × Stays old new
+    × TakeValue x.object x.sub p (given_by p json) (Some why) None × Stays old new
 
 -- `take REF PROP JSON`
 abbrev pub TakeStep : Machine → RefSeen → List ℕ → List ℕ → ReplySeen → Machine → Type 0
@@ -164,7 +148,7 @@ TakeStep old ref text json (refused AlreadyHeld nothing) new = TakeRefuses old r
 TakeStep old ref text json (refused Sealed nothing) new = TakeRefuses old ref text json Sealed new
 TakeStep old ref text json (refused (BadValue why) nothing) new = TakeRefuses old ref text json (BadValue why) new
 TakeStep old ref text json (done t) new = (x : Named) × (named_at old ref ≡ Some x) × (p : PropId) × (property_at x text ≡ Some p)
-    × (v : PropertyValue) × TakeValue x.object x.sub p (given_by p (read json)) None (Some v) × (t ≡ no_rounds)
+    × (v : PropertyValue) × TakeValue x.object x.sub p (given_by p json) None (Some v) × (t ≡ no_rounds)
     × Becomes ref.name (configuration (with_held x.object (given_at x.sub p v ∷ [])) old.clients) old new
 TakeStep old ref text json reply new = ⊥
 

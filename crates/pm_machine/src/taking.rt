@@ -1,14 +1,14 @@
 // Taking a value from a JSON text.
 
-ghost use Rattle.pm_machine.specs.Steps.{Given, TakeValue, Taken, given_by, property_named, value, why_of};
+ghost use Rattle.pm_json.specs.Texts.{Given, given_by, value};
+ghost use Rattle.pm_machine.specs.Steps.{TakeValue, Taken, property_named, why_of};
 ghost use Rattle.pm_machine.specs.Running.{HasPlace};
 ghost use Rattle.pm_object.specs.State.{CanTake, CannotTake, given_at, is_held, is_sealed_at, read_at, with_held};
 ghost use Rattle.pm_types.specs.Forms.{is_formed};
 ghost use Rattle.pm_types.specs.Views.{view_of};
-ghost use Rattle.serde_json.specs.Read.{read};
 ghost use Rattle.std.specs.Prelude.{IfErr, IfNone, IfOk, IfSome, IsTrue, None, OnErr, OnOk, Some, [], false, ◌∷◌, ◌≡◌, ◌≢◌};
 
-use pm_json::{ValueFail, read_value};
+use pm_json::{TextFail, ValueFail, read_text};
 use pm_object::{Object, TakeFail};
 use pm_script::{Refusal, ValueWhy};
 use pm_types::{ObjectType, PropId, Value};
@@ -106,25 +106,17 @@ pub fn take_text(
     json: &str,
 ) -> Result<Option<Refusal>, AllocError>
     requires place { HasPlace sub object.old.state }
-    ensures ok { IfOk result (λ why. Taken object.old.state sub p (given_by p (read json.now)) why
+    ensures ok { IfOk result (λ why. Taken object.old.state sub p (given_by p json.now) why
         object.new.state) }
     ensures err { OnErr result (object.new.state ≡ object.old.state) }
 {
     if let Some(why) = takes_none(object, sub, p) {
         return Ok(Some(why));
     }
-    let data = match serde_json::Value::from_str(alloc, json) {
-        Ok(data) => data,
-        Err(e) => {
-            if e.is_memory() {
-                return Err(AllocError);
-            }
-            return Ok(Some(Refusal::BadValue(ValueWhy::Json)));
-        }
-    };
-    match read_value(alloc, p, &data) {
+    match read_text(alloc, p, json) {
         Ok(v) => take_read(object, sub, p, v),
-        Err(fail) => match why_of(fail) {
+        Err(TextFail::NotJson) => Ok(Some(Refusal::BadValue(ValueWhy::Json))),
+        Err(TextFail::Fault(fail)) => match why_of(fail) {
             Some(why) => Ok(Some(Refusal::BadValue(why))),
             None => Err(AllocError),
         },

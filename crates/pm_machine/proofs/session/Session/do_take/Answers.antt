@@ -2,9 +2,9 @@
 use Rattle.std.proofs.Common.{Some, ap, refl, sym, ◌∙◌, ◌≡◌}
 use Rattle.std.specs.Option.{option_map}
 use Rattle.std.specs.Prelude.{None, string_bytes}
-use Rattle.serde_json.specs.Read.{read}
 use Rattle.pm_machine.proofs.Names.{named_of, part_unknown, stays_with, take_done, take_refused, take_unknown, written}
-use Rattle.pm_machine.specs.Steps.{Taken, given_by, part_named, property_named}
+use Rattle.pm_json.specs.Texts.{given_by}
+use Rattle.pm_machine.specs.Steps.{Taken, part_named, property_named}
 use Rattle.pm_machine.proofs.session.Session.do_take.Goals as goal
 
 pub returns-in_default-property_named-clause-step : goal.returns-in_default-property_named-clause-step
@@ -32,7 +32,7 @@ returns-in-Ok-Some-clause-step g c =
     let w = written c.args.self.now.objects (c.get_mut.follows.lender o') _ name o o' c.as_str.ensures.value c.in-Some.ensures.value (c.get_mut.follows.holds o').1 (c.get_mut.follows.holds o').3 in
     let found : part_named o.state (option_map string_bytes c.args.obj.now.sub) ≡ Some (named_of o.state c.in-Some-place_in.sub) = sym c.place_in.ensures.named ∙ ap (option_map (named_of o.state)) c.in-Some-place_in.is in
     let named : property_named o.state.of c.in-Some-place_in.sub c.args.prop.now ≡ Some c.in-Some-property_named.p = ap (λ t. property_named t c.in-Some-place_in.sub c.args.prop.now) (sym c.of.ensures.value) ∙ sym c.property_named.ensures ∙ c.in-Some-property_named.is in
-    let taken : Taken o.state c.in-Some-place_in.sub c.in-Some-property_named.p (given_by c.in-Some-property_named.p (read c.args.json.now)) (Some c.in-Ok-Some.why) o'.state = rw c.in-Ok-Some.field-0-is at c.in-Ok-Some.ensures.ok in
+    let taken : Taken o.state c.in-Some-place_in.sub c.in-Some-property_named.p (given_by c.in-Some-property_named.p c.args.json.now) (Some c.in-Ok-Some.why) o'.state = rw c.in-Ok-Some.field-0-is at c.in-Ok-Some.ensures.ok in
     rw c.refused-in-Ok-Some.ensures (take_refused w (option_map string_bytes c.args.obj.now.sub) c.in-Some-place_in.sub found c.args.prop.now _ c.args.json.now c.in-Some-property_named.p c.in-Ok-Some.why named taken)
 
 pub returns-in-Ok-None-clause-step : goal.returns-in-Ok-None-clause-step
@@ -43,7 +43,7 @@ returns-in-Ok-None-clause-step g c =
     let w = written c.args.self.now.objects (c.get_mut.follows.lender o') _ name o o' c.as_str.ensures.value c.in-Some.ensures.value (c.get_mut.follows.holds o').1 (c.get_mut.follows.holds o').3 in
     let found : part_named o.state (option_map string_bytes c.args.obj.now.sub) ≡ Some (named_of o.state c.in-Some-place_in.sub) = sym c.place_in.ensures.named ∙ ap (option_map (named_of o.state)) c.in-Some-place_in.is in
     let named : property_named o.state.of c.in-Some-place_in.sub c.args.prop.now ≡ Some c.in-Some-property_named.p = ap (λ t. property_named t c.in-Some-place_in.sub c.args.prop.now) (sym c.of.ensures.value) ∙ sym c.property_named.ensures ∙ c.in-Some-property_named.is in
-    let taken : Taken o.state c.in-Some-place_in.sub c.in-Some-property_named.p (given_by c.in-Some-property_named.p (read c.args.json.now)) None o'.state = rw c.in-Ok-None.field-0-is at c.in-Ok-None.ensures.ok in
+    let taken : Taken o.state c.in-Some-place_in.sub c.in-Some-property_named.p (given_by c.in-Some-property_named.p c.args.json.now) None o'.state = rw c.in-Ok-None.field-0-is at c.in-Ok-None.ensures.ok in
     rw c.done.ensures (take_done w (option_map string_bytes c.args.obj.now.sub) c.in-Some-place_in.sub found c.args.prop.now _ c.args.json.now c.in-Some-property_named.p named taken)
 
 pub returns-in_default-place_in-clause-step : goal.returns-in_default-place_in-clause-step
