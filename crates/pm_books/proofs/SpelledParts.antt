@@ -1,11 +1,11 @@
 -- What is spelled by the grammar is read: names and conditions.
-use Rattle.std.proofs.Common.{◌≡◌, ℕ, ◌<◌, Bool, true, false, eqb, Result, Ok, List, [], ◌∷◌, ◌++◌, inl, inr, map, refl, sym, ap, ◌∙◌, subst, arith, append_assoc, codes}
+use Rattle.std.proofs.Common.{◌≡◌, ℕ, ◌<◌, Bool, true, false, ◌&&◌, eqb, Result, Ok, List, [], ◌∷◌, ◌++◌, inl, inr, map, refl, sym, ap, ◌∙◌, subst, arith, append_assoc, codes}
 use Rattle.std.specs.List.{flat_map, list_all}
 use Rattle.std.proofs.lemmas.Bool.{cases_Bool, and_parts, eqb-true, false≢true}
 use Rattle.std.specs.Str.{bytes_eq}
 use Rattle.std.proofs.lemmas.Slice.Eq.{bytes_eq-Decides}
 use Rattle.pm_props.specs.declared.property.PropId.{PropId}
-use Rattle.pm_props.specs.declared.property.PropId.TheVariants.{ConeAmbientDim, Points, InputLineality, Inequalities, Equations, Vertices, LinealitySpace, Facets, AffineHull, VerticesInFacets, ConeDim, LinealityDim, CombinatorialDim, NVertices, NFacets, Feasible, Bounded, Pointed, FullDim, Centered, Simple, Simplicial, VertexSizes, FacetSizes, HasseDiagram, FVector, F2Vector, HVector, Graph, DualGraph, Diameter, DualDiameter, NEdges, NRidges, VertexDegrees, FarFace, MaximalCones, NMaximalCones, MaximalConesDims, FanDim, Pure, LinearObjective, MaximalValue, MinimalValue, MaximalFace, MinimalFace, MaximalDual, MinimalDual}
+use Rattle.pm_props.proofs.Every.{all_properties}
 use Rattle.pm_props.specs.declared.property.ValueKind.TheVariants as value
 use Rattle.pm_props.specs.declared.set.PropSet.{PropSet}
 use Rattle.pm_props.specs.Properties.{value_kind, first_name, cone_name, fan_name}
@@ -20,160 +20,21 @@ use Rattle.pm_books.specs.Reading.Due.{condition, comma}
 use Rattle.pm_books.specs.Grammar.{Condition, behind_comma, separated, name_item, condition_item, AddNames, AreNames, AddConditions, texts}
 
 -- ---- names are words
+abbrev has_words : PropId → Bool
+has_words p = is_word (first_name p) && (is_word (cone_name p) && is_word (fan_name p))
+
+words : (p : PropId) → (is_word (first_name p) ≡ true) × ((is_word (cone_name p) ≡ true) × (is_word (fan_name p) ≡ true))
+words p =
+    let both = and_parts (is_word (first_name p)) (is_word (cone_name p) && is_word (fan_name p)) (all_properties has_words refl p) in
+    (both.0, and_parts (is_word (cone_name p)) (is_word (fan_name p)) both.1)
+
 pub first_word : (p : PropId) → is_word (first_name p) ≡ true
-first_word ConeAmbientDim = refl
-first_word Points = refl
-first_word InputLineality = refl
-first_word Inequalities = refl
-first_word Equations = refl
-first_word Vertices = refl
-first_word LinealitySpace = refl
-first_word Facets = refl
-first_word AffineHull = refl
-first_word VerticesInFacets = refl
-first_word ConeDim = refl
-first_word LinealityDim = refl
-first_word CombinatorialDim = refl
-first_word NVertices = refl
-first_word NFacets = refl
-first_word Feasible = refl
-first_word Bounded = refl
-first_word Pointed = refl
-first_word FullDim = refl
-first_word Centered = refl
-first_word Simple = refl
-first_word Simplicial = refl
-first_word VertexSizes = refl
-first_word FacetSizes = refl
-first_word HasseDiagram = refl
-first_word FVector = refl
-first_word F2Vector = refl
-first_word HVector = refl
-first_word Graph = refl
-first_word DualGraph = refl
-first_word Diameter = refl
-first_word DualDiameter = refl
-first_word NEdges = refl
-first_word NRidges = refl
-first_word VertexDegrees = refl
-first_word FarFace = refl
-first_word MaximalCones = refl
-first_word NMaximalCones = refl
-first_word MaximalConesDims = refl
-first_word FanDim = refl
-first_word Pure = refl
-first_word LinearObjective = refl
-first_word MaximalValue = refl
-first_word MinimalValue = refl
-first_word MaximalFace = refl
-first_word MinimalFace = refl
-first_word MaximalDual = refl
-first_word MinimalDual = refl
-
-cone_word : (p : PropId) → is_word (cone_name p) ≡ true
-cone_word ConeAmbientDim = refl
-cone_word Points = refl
-cone_word InputLineality = refl
-cone_word Inequalities = refl
-cone_word Equations = refl
-cone_word Vertices = refl
-cone_word LinealitySpace = refl
-cone_word Facets = refl
-cone_word AffineHull = refl
-cone_word VerticesInFacets = refl
-cone_word ConeDim = refl
-cone_word LinealityDim = refl
-cone_word CombinatorialDim = refl
-cone_word NVertices = refl
-cone_word NFacets = refl
-cone_word Feasible = refl
-cone_word Bounded = refl
-cone_word Pointed = refl
-cone_word FullDim = refl
-cone_word Centered = refl
-cone_word Simple = refl
-cone_word Simplicial = refl
-cone_word VertexSizes = refl
-cone_word FacetSizes = refl
-cone_word HasseDiagram = refl
-cone_word FVector = refl
-cone_word F2Vector = refl
-cone_word HVector = refl
-cone_word Graph = refl
-cone_word DualGraph = refl
-cone_word Diameter = refl
-cone_word DualDiameter = refl
-cone_word NEdges = refl
-cone_word NRidges = refl
-cone_word VertexDegrees = refl
-cone_word FarFace = refl
-cone_word MaximalCones = refl
-cone_word NMaximalCones = refl
-cone_word MaximalConesDims = refl
-cone_word FanDim = refl
-cone_word Pure = refl
-cone_word LinearObjective = refl
-cone_word MaximalValue = refl
-cone_word MinimalValue = refl
-cone_word MaximalFace = refl
-cone_word MinimalFace = refl
-cone_word MaximalDual = refl
-cone_word MinimalDual = refl
-
-fan_word : (p : PropId) → is_word (fan_name p) ≡ true
-fan_word ConeAmbientDim = refl
-fan_word Points = refl
-fan_word InputLineality = refl
-fan_word Inequalities = refl
-fan_word Equations = refl
-fan_word Vertices = refl
-fan_word LinealitySpace = refl
-fan_word Facets = refl
-fan_word AffineHull = refl
-fan_word VerticesInFacets = refl
-fan_word ConeDim = refl
-fan_word LinealityDim = refl
-fan_word CombinatorialDim = refl
-fan_word NVertices = refl
-fan_word NFacets = refl
-fan_word Feasible = refl
-fan_word Bounded = refl
-fan_word Pointed = refl
-fan_word FullDim = refl
-fan_word Centered = refl
-fan_word Simple = refl
-fan_word Simplicial = refl
-fan_word VertexSizes = refl
-fan_word FacetSizes = refl
-fan_word HasseDiagram = refl
-fan_word FVector = refl
-fan_word F2Vector = refl
-fan_word HVector = refl
-fan_word Graph = refl
-fan_word DualGraph = refl
-fan_word Diameter = refl
-fan_word DualDiameter = refl
-fan_word NEdges = refl
-fan_word NRidges = refl
-fan_word VertexDegrees = refl
-fan_word FarFace = refl
-fan_word MaximalCones = refl
-fan_word NMaximalCones = refl
-fan_word MaximalConesDims = refl
-fan_word FanDim = refl
-fan_word Pure = refl
-fan_word LinearObjective = refl
-fan_word MaximalValue = refl
-fan_word MinimalValue = refl
-fan_word MaximalFace = refl
-fan_word MinimalFace = refl
-fan_word MaximalDual = refl
-fan_word MinimalDual = refl
+first_word p = (words p).0
 
 name_is_word : (text : List ℕ) (p : PropId) → IsNameOf text p → is_word text ≡ true
 name_is_word text p (inl e) = ap is_word e ∙ first_word p
-name_is_word text p (inr (inl e)) = ap is_word e ∙ cone_word p
-name_is_word text p (inr (inr e)) = ap is_word e ∙ fan_word p
+name_is_word text p (inr (inl e)) = ap is_word e ∙ (words p).1.0
+name_is_word text p (inr (inr e)) = ap is_word e ∙ (words p).1.1
 
 -- ---- lists of words
 pub head_same : {X : Type 0} (x y : X) (xs ys : List X) → x ∷ xs ≡ y ∷ ys → x ≡ y
