@@ -1,6 +1,6 @@
--- When a value of a property is right for a thing t with orders o. Each property has one line of `Right`; c is the objective of the program that a value belongs to.
+-- When a value of a property is right for a thing t with orders o. Each property has one line of `Means`; c is the objective of the program that a value belongs to.
 -- A half alone is right where the pair's line would make it so: what generates lies inside, what cuts out is valid.
-use Rattle.std.specs.Prelude.{Bool, ℕ, zero, suc, ◌+◌, ◌≡◌, ◌<◌, ◌≤◌, ◌↔◌, IsTrue, Option, None, Some, List, [], ◌∷◌, ◌++◌, if◌then◌else◌, length, map}
+use Rattle.std.specs.Prelude.{Bool, ℕ, zero, suc, ◌+◌, ◌≡◌, ◌<◌, ◌≤◌, ◌↔◌, IsTrue, true, false, Option, None, Some, List, [], ◌∷◌, ◌++◌, if◌then◌else◌, length, map}
 use Rattle.std.specs.List.{All, AllPairs, Any, Contains, list_all, slice_index_or}
 use Rattle.pm_algebra.specs.Numbers.{Ratio}
 use Rattle.pm_algebra.specs.Divisors.{IsPrimitive}
@@ -23,6 +23,7 @@ use Rattle.pm_types.specs.Values.{PropertyValue, matrix, sets, whole, truth, cou
 use Rattle.pm_types.specs.Views.{over_one}
 use Rattle.pm_props.specs.declared.property.PropId.{PropId}
 use Rattle.pm_props.specs.declared.property.PropId.TheVariants.{ConeAmbientDim, Points, InputLineality, Inequalities, Equations, Vertices, LinealitySpace, Facets, AffineHull, VerticesInFacets, ConeDim, LinealityDim, CombinatorialDim, NVertices, NFacets, Feasible, Bounded, Pointed, FullDim, Centered, Simple, Simplicial, VertexSizes, FacetSizes, FarFace, HasseDiagram, FVector, F2Vector, HVector, Graph, DualGraph, Diameter, DualDiameter, NEdges, NRidges, VertexDegrees, MaximalCones, NMaximalCones, MaximalConesDims, FanDim, Pure, LinearObjective, MaximalValue, MinimalValue, MaximalFace, MinimalFace, MaximalDual, MinimalDual}
+use Rattle.pm_props.specs.Properties.{facets_tag, rays_tag}
 use lib.IntN.{ℤ, pos, negsuc, ◌-ℤ◌, ◌*ℤ◌}
 use lib.Signed.{◌<ℤ◌, ◌≤ℤ◌}
 
@@ -314,57 +315,71 @@ AreDualRows t c rows x = rows ≡ []
 abbrev pub IsGreatestDual : Thing → List Ratio → List (List Ratio) → Type 0
 IsGreatestDual t c rows = OfGreatest (InSet t) c (AreDualRows t c rows)
 
--- the value v of the property p is right; a value of another form is never right
+-- what a tag shows of an order
+abbrev pub order_if : {A : Type 0} → Bool → List A → List A
+order_if true xs = xs
+order_if false xs = []
+
+-- the orders that the property may speak of, as its tags say; the others are empty
+abbrev pub shown_to : PropId → Orders → Orders
+shown_to p o = record { rays = order_if (rays_tag p) o.rays; facets = order_if (facets_tag p) o.facets; cones = order_if (facets_tag p) o.cones }
+
+-- What the value v of the property p says of the thing, and of the orders that it is shown; a value of another form says what never
+-- holds. A line that reads an order which its property's tags do not name reads the empty order.
+abbrev pub Means : PropId → PropertyValue → Thing → Orders → List Ratio → Type 0
+Means ConeAmbientDim (whole k) t o c = k ≡ pos t.cols
+Means Points (matrix n rows) t o c = RowsAre t (InSet t) rows
+Means InputLineality (matrix n rows) t o c = RowsAre t (InLines t) rows
+Means Inequalities (matrix n rows) t o c = RowsAre t (IsValid t.cols t.generators t.lines) rows
+Means Equations (matrix n rows) t o c = RowsAre t (Vanishes t.cols t.generators t.lines) rows
+Means Vertices (matrix n rows) t o c = RowsAreInOrder t (SameRay t) o.rays rows
+Means LinealitySpace (matrix n rows) t o c = RowsAreBasis t (InLines t) rows
+Means Facets (matrix n rows) t o c = RowsAreInOrder t (SameFacet t) o.facets rows
+Means AffineHull (matrix n rows) t o c = RowsAreBasis t (Vanishes t.cols t.generators t.lines) rows
+Means VerticesInFacets (sets rows n) t o c = (n ≡ length o.rays) × IsIncidence o.facets o.rays rows
+Means ConeDim (whole k) t o c = (d : ℕ) × (k ≡ pos d) × IsConeDim t d
+Means LinealityDim (whole k) t o c = (d : ℕ) × (k ≡ pos d) × IsLinealityDim t d
+Means CombinatorialDim (whole k) t o c = IsCombinatorialDim t k
+Means NVertices (whole k) t o c = (p : Orders) → AreOrders t p → k ≡ pos (length p.rays)
+Means NFacets (whole k) t o c = (p : Orders) → AreOrders t p → k ≡ pos (length p.facets)
+Means Feasible (truth b) t o c = IsTrue b ↔ ((x : Row) × (length x ≡ t.cols) × InSet t x × ¬ (IsZero x))
+Means Bounded (truth b) t o c = IsTrue b ↔ ((x : Row) → length x ≡ t.cols → InSet t x → entry x 0 ≡ pos 0 → IsZero x)
+Means Pointed (truth b) t o c = IsTrue b ↔ ((x : Row) → length x ≡ t.cols → InLines t x → IsZero x)
+Means FullDim (truth b) t o c = IsTrue b ↔ IsConeDim t t.cols
+Means Centered (truth b) t o c = IsTrue b ↔ IsCentered t
+Means Simple (truth b) t o c = (p : Orders) → AreOrders t p → IsTrue b ↔ IsSimple t p
+Means Simplicial (truth b) t o c = IsSimplicialTruth t.of t b
+Means VertexSizes (counts ks) t o c = (p : Orders) → AreOrders t p → ks ≡ map (λ v. pos (vanishing p.facets v)) o.rays
+Means FacetSizes (counts ks) t o c = (p : Orders) → AreOrders t p → ks ≡ map (λ a. pos (tight p.rays a)) o.facets
+Means FarFace (counts ks) t o c = AreFarPlaces o.rays ks
+Means HasseDiagram (lattice ranks) t o c = AreFaces t o.rays ranks
+Means FVector (counts ks) t o c = IsFVector t ks
+Means F2Vector (matrix n rows) t o c = IsOfFaces t (λ ranks. rows ≡ map (map (λ k. over_one (pos k))) (f2_of ranks))
+Means HVector (counts ks) t o c = IsHVector t ks
+Means Graph (edges rows) t o c = IsRayGraph t o.rays rows
+Means DualGraph (edges rows) t o c = InSomeOrders t (λ p. IsFacetGraph t p.rays o.facets rows)
+Means Diameter (whole k) t o c = InSomeOrders t (λ p. (m : ℕ) × (k ≡ pos m) × IsDiameter (length p.rays) (IsEdge t.cols t.generators t.lines p.rays) m)
+Means DualDiameter (whole k) t o c = InSomeOrders t (λ p. (m : ℕ) × (k ≡ pos m) × IsDiameter (length p.facets) (IsRidge t.cols t.generators t.lines p.rays p.facets) m)
+Means NEdges (whole k) t o c = InSomeOrders t (λ p. (rows : List (List ℕ)) × IsRayGraph t p.rays rows × (k ≡ pos (edge_count rows)))
+Means NRidges (whole k) t o c = InSomeOrders t (λ p. (rows : List (List ℕ)) × IsFacetGraph t p.rays p.facets rows × (k ≡ pos (edge_count rows)))
+Means VertexDegrees (counts ks) t o c = (rows : List (List ℕ)) × IsRayGraph t o.rays rows × (ks ≡ map (λ row. pos (length row)) rows)
+Means MaximalCones (sets rows n) t o c = (n ≡ length o.rays) × AreConeRays t o.rays o.cones rows
+Means NMaximalCones (whole k) t o c = k ≡ pos (length t.cones)
+Means MaximalConesDims (counts ks) t o c = AreConeDims t o.cones ks
+Means FanDim (whole k) t o c = IsFanDim t k
+Means Pure (truth b) t o c = IsTrue b ↔ IsPure t
+Means LinearObjective (matrix n rows) t o c = rows ≡ c ∷ []
+Means MaximalValue (extended x) t o c = IsGreatest (InSet t) c x
+Means MinimalValue (extended x) t o c = IsGreatest (InSet t) (opposite_objective c) (opposite_extended x)
+Means MaximalFace (counts ks) t o c = IsGreatestFace (InSet t) c o.rays ks
+Means MinimalFace (counts ks) t o c = IsGreatestFace (InSet t) (opposite_objective c) o.rays ks
+Means MaximalDual (matrix n rows) t o c = IsGreatestDual t c rows
+Means MinimalDual (matrix n rows) t o c = IsGreatestDual t (opposite_objective c) rows
+Means p v t o c = ⊥
+
+-- the value v of the property p is right: it means what is so, where it is shown the orders that it may speak of
 abbrev pub Right : PropId → PropertyValue → Thing → Orders → List Ratio → Type 0
-Right ConeAmbientDim (whole k) t o c = k ≡ pos t.cols
-Right Points (matrix n rows) t o c = RowsAre t (InSet t) rows
-Right InputLineality (matrix n rows) t o c = RowsAre t (InLines t) rows
-Right Inequalities (matrix n rows) t o c = RowsAre t (IsValid t.cols t.generators t.lines) rows
-Right Equations (matrix n rows) t o c = RowsAre t (Vanishes t.cols t.generators t.lines) rows
-Right Vertices (matrix n rows) t o c = RowsAreInOrder t (SameRay t) o.rays rows
-Right LinealitySpace (matrix n rows) t o c = RowsAreBasis t (InLines t) rows
-Right Facets (matrix n rows) t o c = RowsAreInOrder t (SameFacet t) o.facets rows
-Right AffineHull (matrix n rows) t o c = RowsAreBasis t (Vanishes t.cols t.generators t.lines) rows
-Right VerticesInFacets (sets rows n) t o c = (n ≡ length o.rays) × IsIncidence o.facets o.rays rows
-Right ConeDim (whole k) t o c = (d : ℕ) × (k ≡ pos d) × IsConeDim t d
-Right LinealityDim (whole k) t o c = (d : ℕ) × (k ≡ pos d) × IsLinealityDim t d
-Right CombinatorialDim (whole k) t o c = IsCombinatorialDim t k
-Right NVertices (whole k) t o c = (p : Orders) → AreOrders t p → k ≡ pos (length p.rays)
-Right NFacets (whole k) t o c = (p : Orders) → AreOrders t p → k ≡ pos (length p.facets)
-Right Feasible (truth b) t o c = IsTrue b ↔ ((x : Row) × (length x ≡ t.cols) × InSet t x × ¬ (IsZero x))
-Right Bounded (truth b) t o c = IsTrue b ↔ ((x : Row) → length x ≡ t.cols → InSet t x → entry x 0 ≡ pos 0 → IsZero x)
-Right Pointed (truth b) t o c = IsTrue b ↔ ((x : Row) → length x ≡ t.cols → InLines t x → IsZero x)
-Right FullDim (truth b) t o c = IsTrue b ↔ IsConeDim t t.cols
-Right Centered (truth b) t o c = IsTrue b ↔ IsCentered t
-Right Simple (truth b) t o c = (p : Orders) → AreOrders t p → IsTrue b ↔ IsSimple t p
-Right Simplicial (truth b) t o c = IsSimplicialTruth t.of t b
-Right VertexSizes (counts ks) t o c = (p : Orders) → AreOrders t p → ks ≡ map (λ v. pos (vanishing p.facets v)) o.rays
-Right FacetSizes (counts ks) t o c = (p : Orders) → AreOrders t p → ks ≡ map (λ a. pos (tight p.rays a)) o.facets
-Right FarFace (counts ks) t o c = AreFarPlaces o.rays ks
-Right HasseDiagram (lattice ranks) t o c = AreFaces t o.rays ranks
-Right FVector (counts ks) t o c = IsFVector t ks
-Right F2Vector (matrix n rows) t o c = IsOfFaces t (λ ranks. rows ≡ map (map (λ k. over_one (pos k))) (f2_of ranks))
-Right HVector (counts ks) t o c = IsHVector t ks
-Right Graph (edges rows) t o c = IsRayGraph t o.rays rows
-Right DualGraph (edges rows) t o c = InSomeOrders t (λ p. IsFacetGraph t p.rays o.facets rows)
-Right Diameter (whole k) t o c = InSomeOrders t (λ p. (m : ℕ) × (k ≡ pos m) × IsDiameter (length p.rays) (IsEdge t.cols t.generators t.lines p.rays) m)
-Right DualDiameter (whole k) t o c = InSomeOrders t (λ p. (m : ℕ) × (k ≡ pos m) × IsDiameter (length p.facets) (IsRidge t.cols t.generators t.lines p.rays p.facets) m)
-Right NEdges (whole k) t o c = InSomeOrders t (λ p. (rows : List (List ℕ)) × IsRayGraph t p.rays rows × (k ≡ pos (edge_count rows)))
-Right NRidges (whole k) t o c = InSomeOrders t (λ p. (rows : List (List ℕ)) × IsFacetGraph t p.rays p.facets rows × (k ≡ pos (edge_count rows)))
-Right VertexDegrees (counts ks) t o c = (rows : List (List ℕ)) × IsRayGraph t o.rays rows × (ks ≡ map (λ row. pos (length row)) rows)
-Right MaximalCones (sets rows n) t o c = (n ≡ length o.rays) × AreConeRays t o.rays o.cones rows
-Right NMaximalCones (whole k) t o c = k ≡ pos (length t.cones)
-Right MaximalConesDims (counts ks) t o c = AreConeDims t o.cones ks
-Right FanDim (whole k) t o c = IsFanDim t k
-Right Pure (truth b) t o c = IsTrue b ↔ IsPure t
-Right LinearObjective (matrix n rows) t o c = rows ≡ c ∷ []
-Right MaximalValue (extended x) t o c = IsGreatest (InSet t) c x
-Right MinimalValue (extended x) t o c = IsGreatest (InSet t) (opposite_objective c) (opposite_extended x)
-Right MaximalFace (counts ks) t o c = IsGreatestFace (InSet t) c o.rays ks
-Right MinimalFace (counts ks) t o c = IsGreatestFace (InSet t) (opposite_objective c) o.rays ks
-Right MaximalDual (matrix n rows) t o c = IsGreatestDual t c rows
-Right MinimalDual (matrix n rows) t o c = IsGreatestDual t (opposite_objective c) rows
-Right p v t o c = ⊥
+Right p v t o c = Means p v t (shown_to p o) c
 
 abbrev pub objective_of : Thing → Option ℕ → List Ratio
 objective_of t None = []
