@@ -1,7 +1,10 @@
 -- From each description the rules of the standard book, run in turn, lead to all properties of the table.
-use Rattle.std.proofs.Common.{◌≡◌, Bool, true, false, not, ◌||◌, IsTrue, Option, None, Some, List, [], ◌∷◌, ◌++◌, ℕ, eqb, inl, inr, refl, sym, subst, ◌∙◌}
+use Rattle.std.proofs.Common.{◌≡◌, Bool, true, false, not, ◌&&◌, ◌||◌, IsTrue, Option, None, Some, List, [], ◌∷◌, ◌++◌, ℕ, suc, eqb, inl, inr, refl, sym, subst, ◌∙◌}
+use Rattle.std.specs.Prelude.{if◌then◌else◌, slice_get}
+use Rattle.pm_props.specs.Kinds.{standard_clients}
+use Rattle.pm_props.specs.declared.standard.StandardClient.{StandardClient}
 use Rattle.std.specs.List.{All, list_all, list_any}
-use Rattle.std.proofs.lemmas.Bool.{both_ways, eqb-true, or_cases}
+use Rattle.std.proofs.lemmas.Bool.{and_from, and_parts, both_ways, cases_Bool, eqb-true, or_cases}
 use Rattle.std.proofs.lemmas.List.Elements.{All-cons, All-head, All-nil, All-tail}
 use Rattle.pm_algebra.proofs.Lists.{Among, among_Contains, here, there}
 use Rattle.pm_props.proofs.Every.{all_properties, has-set_of, has-set_of_filter}
@@ -10,14 +13,14 @@ use Rattle.pm_props.proofs.Numbers.{number_is}
 use Rattle.pm_props.specs.declared.object_type.ObjectType.{ObjectType}
 use Rattle.pm_props.specs.declared.object_type.ObjectType.TheVariants.{Cone, Fan, Polytope}
 use Rattle.pm_props.specs.declared.property.PropId.{PropId}
-use Rattle.pm_props.specs.declared.property.PropId.TheVariants.{AffineHull, ConeAmbientDim, Equations, Facets, Inequalities, InputLineality, LinealitySpace, LinearObjective, Points, Vertices}
+use Rattle.pm_props.specs.declared.property.PropId.TheVariants.{ConeAmbientDim, LinearObjective}
 use Rattle.pm_props.specs.declared.kind.RuleId.{RuleId}
 use Rattle.pm_props.specs.declared.set.PropSet.{PropSet}
 use Rattle.pm_props.specs.Properties.{every_property, is_in_use, number}
 use Rattle.pm_props.specs.Sets.{IsSubset, has, only, set_of, union, intersection}
 use Rattle.pm_rules.specs.Books.{standard_rules}
 use Rattle.pm_rules.specs.Chains.{LeadsTo, reached}
-use Rattle.pm_completeness.proofs.Runs.{Found, Stands, all_run, follow, grown, implied}
+use Rattle.pm_completeness.proofs.Runs.{Found, Stands, all_run, follow, grown, grown_at, implied, runs_at}
 use Rattle.pm_completeness.specs.Completeness.{BarsNone, HoldsAlone, HoldsObjective, StandardBookIsComplete, descriptions, names_for}
 
 -- the objective of the program that is asked, if one is
@@ -53,9 +56,48 @@ objective_held : (sub : Option ℕ) (held : PropSet) → HoldsObjective sub held
 objective_held None held h = All-nil (λ r. IsTrue (has held r))
 objective_held (Some s) held h = All-cons (λ r. IsTrue (has held r)) LinearObjective [] h (All-nil (λ r. IsTrue (has held r)))
 
-complete_by : (sub : Option ℕ) (of : ObjectType) (d : PropId × PropId) (ks : List ℕ) → has (start sub d) d.0 ≡ true → has (start sub d) d.1 ≡ true → all_run sub of (start sub d) ks ≡ true → covers sub of (grown (start sub d) ks) ≡ true
-    → IsCompleteFor sub of d
-complete_by sub of d ks first second run all held alone objective barred none p of_table = (found.chain, record { enabled = found.enabled; ends = ends })
+-- ---- the book's rules in order, and so again: those that may run and find something new
+-- the places of a list, from a number on
+abbrev places : {A : Type 0} → List A → ℕ → List ℕ
+places [] k = []
+places (x ∷ xs) k = k ∷ places xs (suc k)
+
+-- the rule may run, and finds something new
+abbrev is_due : Option ℕ → ObjectType → PropSet → Option StandardClient → Bool
+is_due sub of known o = not (eqb (grown_at known o) known) && runs_at sub of known o
+
+abbrev next_at : Bool → PropSet → Option StandardClient → PropSet
+next_at true known o = grown_at known o
+next_at false known o = known
+
+abbrev kept : Bool → ℕ → List ℕ → List ℕ
+kept true k ks = k ∷ ks
+kept false k ks = ks
+
+-- of these rules those that run in turn
+abbrev due : Option ℕ → ObjectType → PropSet → List ℕ → List ℕ
+due sub of known [] = []
+due sub of known (k ∷ ks) = kept (is_due sub of known (slice_get standard_clients k)) k (due sub of (next_at (is_due sub of known (slice_get standard_clients k)) known (slice_get standard_clients k)) ks)
+
+runs_kept : (sub : Option ℕ) (of : ObjectType) (known : PropSet) (k : ℕ) (ks : List ℕ) (b : Bool) → is_due sub of known (slice_get standard_clients k) ≡ b → ((now : PropSet) → all_run sub of now (due sub of now ks) ≡ true)
+    → all_run sub of known (kept b k (due sub of (next_at b known (slice_get standard_clients k)) ks)) ≡ true
+runs_kept sub of known k ks true e rest = and_from (runs_at sub of known (slice_get standard_clients k)) (all_run sub of (grown_at known (slice_get standard_clients k)) (due sub of (grown_at known (slice_get standard_clients k)) ks))
+    (and_parts (not (eqb (grown_at known (slice_get standard_clients k)) known)) (runs_at sub of known (slice_get standard_clients k)) e).1 (rest (grown_at known (slice_get standard_clients k)))
+runs_kept sub of known k ks false e rest = rest known
+
+due_run : (sub : Option ℕ) (of : ObjectType) (ks : List ℕ) (known : PropSet) → all_run sub of known (due sub of known ks) ≡ true
+due_run sub of [] known = refl
+due_run sub of (k ∷ ks) known = runs_kept sub of known k ks (is_due sub of known (slice_get standard_clients k)) refl (due_run sub of ks)
+
+-- three times the whole book
+abbrev turns : List ℕ
+turns = places standard_clients 0 ++ places standard_clients 0 ++ places standard_clients 0
+
+abbrev run_from : Option ℕ → ObjectType → PropId × PropId → List ℕ
+run_from sub of d = due sub of (start sub d) turns
+
+complete_by : (sub : Option ℕ) (of : ObjectType) (d : PropId × PropId) → has (start sub d) d.0 ≡ true → has (start sub d) d.1 ≡ true → covers sub of (grown (start sub d) (run_from sub of d)) ≡ true → IsCompleteFor sub of d
+complete_by sub of d first second all held alone objective barred none p of_table = (found.chain, record { enabled = found.enabled; ends = ends })
   where
     each_held : All (λ r. IsTrue (has held r)) (known_first sub d)
     each_held =
@@ -72,111 +114,42 @@ complete_by sub of d ks first second run all held alone objective barred none p 
       ];
     }
 
-    found : Found sub of barred held (grown (start sub d) ks)
-    found = follow sub of barred none ks (start sub d) held stands run
+    found : Found sub of barred held (grown (start sub d) (run_from sub of d))
+    found = follow sub of barred none (run_from sub of d) (start sub d) held stands (due_run sub of turns (start sub d))
 
-    known : IsTrue (has (grown (start sub d) ks) p)
-    known = implied (is_in_use sub of p) (has (grown (start sub d) ks) p) (all_properties (λ q. not (is_in_use sub of q) || has (grown (start sub d) ks) q) all p) (sym (has-set_of_filter (is_in_use sub of) p) ∙ of_table)
+    known : IsTrue (has (grown (start sub d) (run_from sub of d)) p)
+    known = implied (is_in_use sub of p) (has (grown (start sub d) (run_from sub of d)) p) (all_properties (λ q. not (is_in_use sub of q) || has (grown (start sub d) (run_from sub of d)) q) all p) (sym (has-set_of_filter (is_in_use sub of) p) ∙ of_table)
 
     ends : IsSubset (only p) (reached standard_rules held found.chain)
     ends q h = subst (λ r. IsTrue (has (reached standard_rules held found.chain) r)) (number_is p q (eqb-true (number p) (number q) (sym (has-only p q) ∙ h))) (found.ends p known)
 
--- ---- the rules, by their numbers in the standard book
--- first those that find the other descriptions
-abbrev by_points : List ℕ
-by_points = 1 ∷ 3 ∷ 11 ∷ []
+-- ---- each description of a type
+-- it is known at first, and when the rules have run all of the table is known
+abbrev is_covered : Option ℕ → ObjectType → PropId × PropId → Bool
+is_covered sub of d = (has (start sub d) d.0 && has (start sub d) d.1) && covers sub of (grown (start sub d) (run_from sub of d))
 
-abbrev by_inequalities : List ℕ
-by_inequalities = 0 ∷ 2 ∷ 10 ∷ []
+covered_for : (sub : Option ℕ) (of : ObjectType) (ds : List (PropId × PropId)) → list_all (is_covered sub of) ds ≡ true → {d : PropId × PropId} → Among d ds → is_covered sub of d ≡ true
+covered_for sub of [] h i = elim i [ ]
+covered_for sub of (c ∷ ds) h here = (and_parts (is_covered sub of c) (list_all (is_covered sub of) ds) h).0
+covered_for sub of (c ∷ ds) h (there i) = covered_for sub of ds (and_parts (is_covered sub of c) (list_all (is_covered sub of) ds) h).1 i
 
-abbrev by_vertices : List ℕ
-by_vertices = 2 ∷ 10 ∷ 11 ∷ []
+complete_for : (sub : Option ℕ) (of : ObjectType) → list_all (is_covered sub of) descriptions ≡ true → (d : PropId × PropId) → Among d descriptions → IsCompleteFor sub of d
+complete_for sub of h d i =
+    let both = and_parts (has (start sub d) d.0 && has (start sub d) d.1) (covers sub of (grown (start sub d) (run_from sub of d))) (covered_for sub of descriptions h i) in
+    let known = and_parts (has (start sub d) d.0) (has (start sub d) d.1) both.0 in
+    complete_by sub of d known.0 known.1 both.1
 
-abbrev by_facets : List ℕ
-by_facets = 3 ∷ 10 ∷ 11 ∷ []
-
--- and then all others
-abbrev for_cones : List ℕ
-for_cones = 14 ∷ 17 ∷ 18 ∷ 19 ∷ 21 ∷ 27 ∷ 28 ∷ 30 ∷ 31 ∷ 32 ∷ 33 ∷ 34 ∷ 35 ∷ 36 ∷ 37 ∷ 39 ∷ 41 ∷ 42 ∷ 43 ∷ 44 ∷ 45 ∷ 46 ∷ []
-
-abbrev for_polytopes : List ℕ
-for_polytopes = for_cones ++ 23 ∷ 25 ∷ 26 ∷ 29 ∷ 38 ∷ []
-
--- and those of linear programs
-abbrev for_programs : List ℕ
-for_programs = 47 ∷ 48 ∷ 53 ∷ 54 ∷ []
-
--- all of them, for who asks this program, if one is asked
-abbrev rules_for : Option ℕ → ObjectType → List ℕ → List ℕ
-rules_for None Polytope first = first ++ for_polytopes
-rules_for (Some s) Polytope first = first ++ for_polytopes ++ for_programs
-rules_for None of first = first ++ for_cones
-rules_for (Some s) of first = first ++ for_cones ++ for_programs
-
--- the description is known at first, these rules run in turn, and all of the table is known then
-abbrev Covered : Option ℕ → ObjectType → PropId × PropId → List ℕ → Type 0
-Covered sub of d first = (has (start sub d) d.0 ≡ true) × (has (start sub d) d.1 ≡ true)
-    × (all_run sub of (start sub d) (rules_for sub of first) ≡ true) × (covers sub of (grown (start sub d) (rules_for sub of first)) ≡ true)
-
-polytope_by_points : (sub : Option ℕ) → Covered sub Polytope (Points, InputLineality) by_points
+polytopes : (sub : Option ℕ) → list_all (is_covered sub Polytope) descriptions ≡ true
 unfolding only union intersection has
-polytope_by_points None = (refl, refl, refl, refl)
-polytope_by_points (Some s) = (refl, refl, refl, refl)
+polytopes None = refl
+polytopes (Some s) = refl
 
-polytope_by_inequalities : (sub : Option ℕ) → Covered sub Polytope (Inequalities, Equations) by_inequalities
+cones : (sub : Option ℕ) → list_all (is_covered sub Cone) descriptions ≡ true
 unfolding only union intersection has
-polytope_by_inequalities None = (refl, refl, refl, refl)
-polytope_by_inequalities (Some s) = (refl, refl, refl, refl)
-
-polytope_by_vertices : (sub : Option ℕ) → Covered sub Polytope (Vertices, LinealitySpace) by_vertices
-unfolding only union intersection has
-polytope_by_vertices None = (refl, refl, refl, refl)
-polytope_by_vertices (Some s) = (refl, refl, refl, refl)
-
-polytope_by_facets : (sub : Option ℕ) → Covered sub Polytope (Facets, AffineHull) by_facets
-unfolding only union intersection has
-polytope_by_facets None = (refl, refl, refl, refl)
-polytope_by_facets (Some s) = (refl, refl, refl, refl)
-
-cone_by_points : (sub : Option ℕ) → Covered sub Cone (Points, InputLineality) by_points
-unfolding only union intersection has
-cone_by_points None = (refl, refl, refl, refl)
-cone_by_points (Some s) = (refl, refl, refl, refl)
-
-cone_by_inequalities : (sub : Option ℕ) → Covered sub Cone (Inequalities, Equations) by_inequalities
-unfolding only union intersection has
-cone_by_inequalities None = (refl, refl, refl, refl)
-cone_by_inequalities (Some s) = (refl, refl, refl, refl)
-
-cone_by_vertices : (sub : Option ℕ) → Covered sub Cone (Vertices, LinealitySpace) by_vertices
-unfolding only union intersection has
-cone_by_vertices None = (refl, refl, refl, refl)
-cone_by_vertices (Some s) = (refl, refl, refl, refl)
-
-cone_by_facets : (sub : Option ℕ) → Covered sub Cone (Facets, AffineHull) by_facets
-unfolding only union intersection has
-cone_by_facets None = (refl, refl, refl, refl)
-cone_by_facets (Some s) = (refl, refl, refl, refl)
-
-complete_from : (sub : Option ℕ) (of : ObjectType) (d : PropId × PropId) (first : List ℕ) → Covered sub of d first → IsCompleteFor sub of d
-complete_from sub of d first (a, b, run, all) = complete_by sub of d (rules_for sub of first) a b run all
-
--- ---- each of them
-polytopes : (sub : Option ℕ) (d : PropId × PropId) → Among d descriptions → IsCompleteFor sub Polytope d
-polytopes sub d here = complete_from sub Polytope (Points, InputLineality) by_points (polytope_by_points sub)
-polytopes sub d (there here) = complete_from sub Polytope (Inequalities, Equations) by_inequalities (polytope_by_inequalities sub)
-polytopes sub d (there (there here)) = complete_from sub Polytope (Vertices, LinealitySpace) by_vertices (polytope_by_vertices sub)
-polytopes sub d (there (there (there here))) = complete_from sub Polytope (Facets, AffineHull) by_facets (polytope_by_facets sub)
-polytopes sub d (there (there (there (there i)))) = elim i [ ]
-
-cones : (sub : Option ℕ) (d : PropId × PropId) → Among d descriptions → IsCompleteFor sub Cone d
-cones sub d here = complete_from sub Cone (Points, InputLineality) by_points (cone_by_points sub)
-cones sub d (there here) = complete_from sub Cone (Inequalities, Equations) by_inequalities (cone_by_inequalities sub)
-cones sub d (there (there here)) = complete_from sub Cone (Vertices, LinealitySpace) by_vertices (cone_by_vertices sub)
-cones sub d (there (there (there here))) = complete_from sub Cone (Facets, AffineHull) by_facets (cone_by_facets sub)
-cones sub d (there (there (there (there i)))) = elim i [ ]
+cones None = refl
+cones (Some s) = refl
 
 pub book_is_complete : StandardBookIsComplete
-book_is_complete sub Polytope not_fan d listed = polytopes sub d (among_Contains descriptions listed)
-book_is_complete sub Cone not_fan d listed = cones sub d (among_Contains descriptions listed)
+book_is_complete sub Polytope not_fan d listed = complete_for sub Polytope (polytopes sub) d (among_Contains descriptions listed)
+book_is_complete sub Cone not_fan d listed = complete_for sub Cone (cones sub) d (among_Contains descriptions listed)
 book_is_complete sub Fan not_fan d listed = absurd (not_fan refl)
