@@ -1,0 +1,4 @@
+pub mod Examples
+pub mod Magnitudes
+pub mod Quotients
+pub mod Values

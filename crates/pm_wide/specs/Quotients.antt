@@ -1,0 +1,15 @@
+-- Rows that are a multiple of a row in the range.
+use Rattle.pm_algebra.specs.Numbers.{InRange}
+use Rattle.pm_algebra.specs.Rows.{Row, entry}
+use Rattle.std.specs.Prelude.{ℕ, ◌<◌, ◌≡◌}
+use lib.IntN.{pos, ℤ, ◌*ℤ◌}
+
+-- z is d times a number in the range
+pub record HasQuotient (z : ℤ) (d : ℕ) : Type 0 where
+  pub quotient : ℤ
+  pub in_range : InRange quotient
+  pub times : z ≡ pos d *ℤ quotient
+
+-- each of the first n entries of x is
+abbrev pub HaveQuotients : Row → ℕ → ℕ → Type 0
+HaveQuotients x d n = (i : ℕ) → i < n → HasQuotient (entry x i) d
