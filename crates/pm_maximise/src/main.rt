@@ -6,8 +6,6 @@
 #![tactic(auto)]
 
 mod problem;
-#[cfg(test)]
-mod tests;
 
 use pm_store::{Sink, StdSink, StdSource, read_up_to, write_all};
 use problem::{Fault, answer_line};

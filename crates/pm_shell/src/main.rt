@@ -9,8 +9,6 @@ mod examples;
 mod lines;
 mod run;
 mod status;
-#[cfg(test)]
-mod tests;
 
 use pm_client::{Client, Numbered};
 use pm_clients_comb::SetsClient;

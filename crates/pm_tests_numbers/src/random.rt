@@ -19,7 +19,20 @@ fn draw(state: &mut u64, bound: u64) -> u64
     (*state >> 33) % bound
 }
 
-/// So many rows with entries between -bound/2 and bound/2.
+/// A row with so many entries between -bound/2 and bound/2.
+fn random_row(rt: &impl Abort, alloc: Global, state: &mut u64, cols: usize, bound: u64) -> Ints
+    requires { 0 < bound }
+{
+    let mut row = Ints::new(alloc);
+    for _ in 0..cols {
+        let entry = i128::from(draw(state, bound)) - i128::from(bound / 2);
+        assert!(rt; is_in_range(entry));
+        row.push(entry).expect(rt, "room for an entry");
+    }
+    row
+}
+
+/// So many such rows.
 fn random_rows(
     rt: &impl Abort,
     alloc: Global,
@@ -34,12 +47,7 @@ fn random_rows(
 {
     let mut rows = Vec::new(alloc);
     for _ in 0..count {
-        let mut row = Ints::new(alloc);
-        for _ in 0..cols {
-            let entry = i128::from(draw(state, bound)) - i128::from(bound / 2);
-            assert!(rt; is_in_range(entry));
-            row.push(entry).expect(rt, "room for an entry");
-        }
+        let row = random_row(rt, alloc, state, cols, bound);
         assert!(rt; row.len() == cols);
         rows.push(row).expect(rt, "room for a row");
     }

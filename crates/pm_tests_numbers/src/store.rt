@@ -29,56 +29,58 @@ const READS: &str = "\
 5|6|1000|None\n\
 5|7|1000|None";
 
-// The fault of a read in pieces.
-fn fault_of(
-    rt: &impl Abort,
-    alloc: Global,
-    piece: usize,
-    call: u64,
-    limit: usize,
-) -> Option<ReadFail> {
+// A source of the text in pieces, which fails at a call.
+fn source_of(rt: &impl Abort, alloc: Global, piece: usize, call: u64) -> MemSource {
     assert!(rt; piece > 0);
     let text = TEXT.to_vec(alloc).expect(rt, "the text");
-    let calls = [call].to_vec(alloc).expect(rt, "the calls");
-    read_up_to(alloc, &mut MemSource::new(text, piece, calls), limit).err()
+    MemSource::new(text, piece, [call].to_vec(alloc).expect(rt, "the calls"))
 }
 
 #[test]
 fn reads_a_text_or_hands_on_a_fault(rt: HostRuntime) {
     for line in READS.lines() {
         let (piece, limit) = (size(&rt, line, 0), size(&rt, line, 2));
-        let fault = fault_of(&rt, rt.alloc(), piece, size(&rt, line, 1) as u64, limit);
+        let mut source = source_of(&rt, rt.alloc(), piece, size(&rt, line, 1) as u64);
+        let fault = read_up_to(rt.alloc(), &mut source, limit).err();
         let shown = format!(in rt.alloc(); "{fault:?}").expect(&rt, "room for a text");
         check(&rt, line, 3, &shown);
     }
 }
 
-// Which of these pieces are written whole: a + for each, or a -.
-fn written(rt: &impl Abort, alloc: Global, sink: &mut impl Sink, pieces: &str) -> String {
-    let mut signs = String::new(alloc);
-    for piece in pieces.split(';') {
+// Whether of these pieces those are written whole that have a +.
+fn are_written(sink: &mut impl Sink, pieces: &str, signs: &str) -> bool {
+    let mut are_so = true;
+    for (piece, sign) in pieces.split(';').zip(signs.split(';')) {
         let is_written = write_all(sink, piece.as_bytes()).is_ok();
-        signs
-            .push(if is_written { '+' } else { '-' })
-            .expect(rt, "room for a sign");
+        are_so = are_so && is_written == (sign == "+");
     }
-    signs
+    are_so
 }
 
 // The room of a sink, the call that fails, the pieces, which of them are written, and all that is written.
 const WRITES: &str = "\
-100|1|ok.;no.;yes.|+-+|ok.yes.\n\
-5|99|abc;def;f;|+--+|abcde";
+100|1|ok.;no.;yes.|+;-;+|ok.yes.\n\
+5|99|abc;def;f;|+;-;-;+|abcde";
+
+// A sink with room for so many bytes, which fails at a call.
+fn sink_of(rt: &impl Abort, alloc: Global, room: usize, call: u64) -> MemSink {
+    let calls = [call].to_vec(alloc).expect(rt, "the calls");
+    MemSink::new(alloc, room, calls).expect(rt, "a sink")
+}
 
 #[test]
 fn writes_what_there_is_room_for(rt: HostRuntime) {
     for line in WRITES.lines() {
-        let calls = [size(&rt, line, 1) as u64]
-            .to_vec(rt.alloc())
-            .expect(&rt, "the calls");
-        let mut sink = MemSink::new(rt.alloc(), size(&rt, line, 0), calls).expect(&rt, "a sink");
-        let signs = written(&rt, rt.alloc(), &mut sink, field(&rt, line, 2));
-        check(&rt, line, 3, &signs);
+        let mut sink = sink_of(
+            &rt,
+            rt.alloc(),
+            size(&rt, line, 0),
+            size(&rt, line, 1) as u64,
+        );
+        assert!(rt;
+            are_written(&mut sink, field(&rt, line, 2), field(&rt, line, 3)),
+            "{line}"
+        );
         assert!(rt; sink.bytes() == field(&rt, line, 4).as_bytes(), "{line}");
     }
 }
@@ -107,9 +109,9 @@ fn reads_and_writes_through_std(rt: HostRuntime) {
     assert!(rt; read_up_to(rt.alloc(), &mut broken, 1000).err() == Some(ReadFail::Fault));
     let mut out = [b'.'; 3];
     let mut sink = StdSink::new(out.as_mut_slice());
-    let signs = written(&rt, rt.alloc(), &mut sink, "ab;cd");
+    assert!(rt; are_written(&mut sink, "ab;cd", "+;-"));
     drop(sink);
-    assert!(rt; signs.as_str() == "+-" && out == *b"abc");
+    assert!(rt; out == *b"abc");
 }
 
 #[test]
@@ -145,19 +147,27 @@ fn tells_file_words(rt: HostRuntime) {
     }
 }
 
-// Calls of a store, one a line: a name, what is put there or a ? where it is got, and the answer.
+// The answer of a store to a line: a name, and what is put there or a ? where it is got.
+fn answer(rt: &impl Abort, alloc: Global, store: &mut impl Store, line: &str) -> String {
+    let (name, bytes) = (field(rt, line, 0), field(rt, line, 1));
+    let shown = if bytes == "?" {
+        format!(in alloc; "{:?}", store.get(alloc, name))
+    } else {
+        format!(in alloc; "{:?}", store.put(alloc, name, bytes.as_bytes()))
+    };
+    shown.expect(rt, "room for a text")
+}
+
+// Calls of a store, one a line with the answer behind it.
 fn check_calls(rt: &impl Abort, alloc: Global, store: &mut impl Store, calls: &str) {
     for line in calls.lines() {
-        let (name, bytes) = (field(rt, line, 0), field(rt, line, 1));
-        let shown = if bytes == "?" {
-            let found = store.get(alloc, name);
-            format!(in alloc; "{found:?}")
-        } else {
-            let put = store.put(alloc, name, bytes.as_bytes());
-            format!(in alloc; "{put:?}")
-        };
-        check(rt, line, 2, &shown.expect(rt, "room for a text"));
+        check(rt, line, 2, &answer(rt, alloc, store, line));
     }
+}
+
+// A store that fails at these calls.
+fn mem_store(rt: &impl Abort, alloc: Global, fail: &[u64]) -> MemStore {
+    MemStore::new(alloc, fail.to_vec(alloc).expect(rt, "the calls"))
 }
 
 // Calls, of which none fails.
@@ -184,25 +194,28 @@ b|?|Ok(None)";
 #[test]
 fn keeps_files_in_memory(rt: HostRuntime) {
     let alloc = rt.alloc();
-    check_calls(&rt, alloc, &mut MemStore::new(alloc, Vec::new(alloc)), KEPT);
-    let calls = [1, 2, 4].to_vec(alloc).expect(&rt, "the calls");
-    check_calls(&rt, alloc, &mut MemStore::new(alloc, calls), FAILING);
+    check_calls(&rt, alloc, &mut mem_store(&rt, alloc, &[]), KEPT);
+    check_calls(&rt, alloc, &mut mem_store(&rt, alloc, &[1, 2, 4]), FAILING);
 }
 
 // One byte more than a file may have.
 const MOST: usize = 8_388_609;
 
+// How many bytes a store keeps of so many.
+fn kept_of(rt: &impl Abort, alloc: Global, store: &mut impl Store, len: usize) -> Option<usize> {
+    let bytes = vec![in alloc; b' '; len].expect(rt, "room for a file");
+    assert!(rt; store.put(alloc, "a", &bytes).is_ok());
+    let found = store.get(alloc, "a").expect(rt, "a file");
+    found.map(|bytes| bytes.len())
+}
+
 #[test]
 fn cuts_long_files(rt: HostRuntime) {
     let alloc = rt.alloc();
-    let mut store = MemStore::new(alloc, Vec::new(alloc));
-    for len in MOST - 1..MOST + 2 {
-        let bytes = vec![in alloc; b' '; len].expect(&rt, "room for a file");
-        assert!(rt; store.put(alloc, "a", &bytes).is_ok());
-        let found = store.get(alloc, "a").expect(&rt, "a file");
-        let kept = found.expect(&rt, "a file of the name").len();
-        assert_eq!(rt; kept, len.min(MOST));
-    }
+    let mut store = mem_store(&rt, alloc, &[]);
+    assert!(rt; kept_of(&rt, alloc, &mut store, MOST - 1) == Some(MOST - 1));
+    assert!(rt; kept_of(&rt, alloc, &mut store, MOST) == Some(MOST));
+    assert!(rt; kept_of(&rt, alloc, &mut store, MOST + 1) == Some(MOST));
 }
 
 // A name that no other test and no part of the repository has.

@@ -18,15 +18,17 @@ const PRODUCTS: &str = "\
 18446744073709551616 0 0|-9223372036854775808 0 0|Err(Wide)\n\
 ||Ok(0)";
 
+fn product(rt: &impl Abort, alloc: Global, line: &str) -> String {
+    let a = row(rt, alloc, field(rt, line, 0));
+    let b = row(rt, alloc, field(rt, line, 1));
+    assert!(rt; a.len() == b.len());
+    format!(in alloc; "{:?}", dot(a.as_slice(), b.as_slice())).expect(rt, "room for a text")
+}
+
 #[test]
 fn products_at_the_ends_of_the_range(rt: HostRuntime) {
     for line in PRODUCTS.lines() {
-        let a = row(&rt, rt.alloc(), field(&rt, line, 0));
-        let b = row(&rt, rt.alloc(), field(&rt, line, 1));
-        assert!(rt; a.len() == b.len());
-        let product = dot(a.as_slice(), b.as_slice());
-        let shown = format!(in rt.alloc(); "{product:?}").expect(&rt, "room for a text");
-        check(&rt, line, 2, &shown);
+        check(&rt, line, 2, &product(&rt, rt.alloc(), line));
     }
 }
 

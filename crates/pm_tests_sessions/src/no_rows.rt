@@ -1,9 +1,10 @@
-// A client of the tests' own: INEQUALITIES without rows, from FACETS.
+// A session with a client of the tests' own: INEQUALITIES without rows, from FACETS.
 
 ghost use Rattle.pm_props.specs.Sets.{set_of};
 ghost use Rattle.pm_props.specs.declared.property.PropId.TheVariants.{Facets, Inequalities};
 ghost use Rattle.std.specs.Prelude.{codes, [], ◌∷◌, ◌≡◌};
 
+use crate::sessions::replies;
 use pm_client::{Client, ClientFail, put_value};
 use pm_matrix::Matrix;
 use pm_object::{Draft, View};
@@ -17,8 +18,8 @@ struct NoRows {
     starts: u64,
 }
 
-/// The kind of the client.
-pub fn no_rows_kind() -> Kind
+// The kind of the client.
+fn no_rows_kind() -> Kind
     ensures { result ≡ record { name = codes "no_rows"; targets = set_of (Inequalities ∷ []); sources = set_of (Facets ∷ []); must = 0; must_not = 0 } }
 {
     Kind {
@@ -58,8 +59,22 @@ impl Client for NoRows {
     }
 }
 
-/// Adds the client to others.
-pub fn with_no_rows(rt: &(impl Abort + AllocGlobal), clients: &mut Vec<Box<dyn Client>>) {
-    let client = Box::new(rt.alloc(), NoRows { starts: 0 }).expect(rt, "a client");
-    clients.push(client).expect(rt, "a place for a client");
+// A rule whose client answers no rows.
+const OF_NO_ROWS: &str = "e : rule INEQUALITIES : FACETS { no_rows } weight 1;\n";
+
+#[test]
+fn what_a_client_answers_is_kept(rt: HostRuntime) {
+    let mut clients: Vec<Box<dyn Client>> = Vec::new(rt.alloc());
+    let client = Box::new(rt.alloc(), NoRows { starts: 0 }).expect(&rt, "a client");
+    clients.push(client).expect(&rt, "a place for a client");
+    let told = replies(
+        &rt,
+        OF_NO_ROWS,
+        &[no_rows_kind()],
+        &mut clients,
+        "new p Polytope\ntake p FACETS [[0,1],[1,-1]]\ngive p INEQUALITIES\nhistory p\n",
+    );
+    assert!(rt;
+        told.as_slice() == b"ok\nok\np INEQUALITIES []\nrounds 1\nround 1: e -> done\n".as_slice()
+    );
 }

@@ -75,36 +75,3 @@ fn gives_the_lines_before_a_fault(rt: HostRuntime) {
         assert!(rt; answer == (*want, Some(LinesFail::Fault)), "at {call}");
     }
 }
-
-// The greatest script.
-const MOST: usize = 16_777_216;
-
-// A script of this length, of lines of `#`.
-fn long_script(rt: &impl Abort, alloc: Global, len: usize) -> MemSource {
-    let mut bytes = vec![in alloc; b'#'; len].expect(rt, "room for a script");
-    let mut is_break = false;
-    for b in bytes.iter_mut() {
-        if is_break {
-            *b = b'\n';
-        }
-        is_break = !is_break;
-    }
-    MemSource::new(bytes, 100_000, Vec::new(alloc))
-}
-
-// The length of the script, the lines that come, and what stands at the end.
-const LENGTHS: &[(usize, u64, Option<LinesFail>)] = &[
-    (MOST, 8_388_608, None),
-    (MOST + 1, 8_388_608, Some(LinesFail::TooLong)),
-];
-
-#[test]
-fn gives_the_lines_of_the_greatest_script(rt: HostRuntime) {
-    for (len, want, fail) in LENGTHS {
-        let mut source = long_script(&rt, rt.alloc(), *len);
-        assert!(rt;
-            count_lines(&mut source, rt.alloc()) == (*want, *fail),
-            "{len}"
-        );
-    }
-}

@@ -1,5 +1,5 @@
 -- The bytes of the script that are left.
-use Rattle.pm_session_tests.proofs.sessions.replies.Given as goal
+use Rattle.pm_tests_sessions.proofs.sessions.replies.Given as goal
 use Rattle.std.proofs.Common.{length}
 
 abbrev pub decreases-loop-rt : goal.decreases-loop-rt

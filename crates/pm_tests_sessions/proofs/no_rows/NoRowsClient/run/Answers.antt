@@ -1,5 +1,5 @@
-use Rattle.pm_session_tests.proofs.NoRows.{has_inequalities, no_rows_sound}
-use Rattle.pm_session_tests.proofs.no_rows.NoRowsClient.run.Goals as goal
+use Rattle.pm_tests_sessions.proofs.NoRows.{has_inequalities, no_rows_sound}
+use Rattle.pm_tests_sessions.proofs.no_rows.NoRowsClient.run.Goals as goal
 use Rattle.std.proofs.Common.{ap, ◌∙◌}
 
 pub put_value-requires-clause-target : goal.put_value-requires-clause-target
