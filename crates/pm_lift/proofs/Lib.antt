@@ -1,0 +1,15 @@
+pub mod Answered
+pub mod CellFacets
+pub mod Enough
+pub mod FoundCells
+pub mod LiftedRows
+pub mod Lifting
+pub mod Outcomes
+pub mod RowsMade
+pub mod SameSites
+pub mod SmallCells
+pub mod SmallDelaunay
+pub mod SmallRows
+pub mod Sorted
+pub mod Spheres
+pub mod ZeroSets
