@@ -122,9 +122,12 @@ fn face_values(alloc: Global, o: &Object) -> Result<FileObject, AllocError>
 
 /// The normal fan of a bounded polytope: its rays are the normals of the facets, its lineality are the rows of the affine
 /// hull, and its cones, one for each vertex, are spanned by the normals of the facets that hold the vertex; normals without
-/// their first coordinate, with their scale. Of a point it is the lineality alone. `NotFit` names the first condition that
-/// fails: the object is a polytope, BOUNDED and FEASIBLE are true, it has two columns at least, the sets of
-/// VERTICES_IN_FACETS are those of its facets and vertices and no normal is 0.
+/// their first coordinate, with their scale. Of a point it is the lineality alone.
+/// These values are right, in some order of the fan's rays and cones, for the normal fan of each polytope for which the
+/// values read are right: the fan with one cone for each vertex, of the objectives that are least there, and no other
+/// (`pm_laws_fans`, `law_normal_fan_is_described`).
+/// `NotFit` names the first condition that fails: the object is a polytope, BOUNDED and FEASIBLE are true, it has two
+/// columns at least, the sets of VERTICES_IN_FACETS are those of its facets and vertices and no normal is 0.
 pub fn normal_fan(alloc: Global, o: &Object) -> Result<FileObject, BuildFail>
     requires { IsReadable normal_reads o.now.state }
     ensures built { IfOk result (λ f. file_of f ≡ normal_fan_of o.now.state) }
@@ -139,8 +142,12 @@ pub fn normal_fan(alloc: Global, o: &Object) -> Result<FileObject, BuildFail>
 
 /// The face fan of a bounded polytope that has 0 in its interior: its rays are the vertices, without their first coordinate
 /// and with their scale, and its cones, one for each facet, are spanned by the vertices on the facet. Of a point it is the
-/// cone {0}. `NotFit` names the first condition that fails: the object is a polytope, BOUNDED and CENTERED are true, it has
-/// two columns at least, the sets of VERTICES_IN_FACETS are of its vertices and no vertex of several is 0.
+/// cone {0}.
+/// These values are right, in some order of the fan's rays and cones, for the face fan of each polytope for which the
+/// values read are right: the fan with one cone for each facet, the one over it, and no other (`pm_laws_fans`,
+/// `law_face_fan_is_described`).
+/// `NotFit` names the first condition that fails: the object is a polytope, BOUNDED and CENTERED are true, it has two
+/// columns at least, the sets of VERTICES_IN_FACETS are of its vertices and no vertex of several is 0.
 pub fn face_fan(alloc: Global, o: &Object) -> Result<FileObject, BuildFail>
     requires { IsReadable face_reads o.now.state }
     ensures built { IfOk result (λ f. file_of f ≡ face_fan_of o.now.state) }
