@@ -1,6 +1,8 @@
-//! The tests of lattices, graphs, thinning, rows from sets and linear programs, over their public calls.
+//! The tests of lattices, graphs, thinning, rows from sets, linear programs and cells of sites, over their public calls.
 #![tactic(auto)]
 
+#[cfg(test)]
+mod cells;
 #[cfg(test)]
 mod faces;
 #[cfg(test)]
