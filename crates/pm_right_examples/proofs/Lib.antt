@@ -7,6 +7,7 @@ pub mod FewNodes
 pub mod GraphExamples
 pub mod GraphTests
 pub mod OneList
+pub mod OrderExamples
 pub mod RankLists
 pub mod RayExamples
 pub mod RayRowExamples

@@ -55,7 +55,7 @@ zero_three a b c ea eb ec (suc (suc zero)) = ec
 zero_three a b c ea eb ec (suc (suc (suc i))) = refl
 
 -- ---- far places
-first_of : (a : ℕ) (as' : List ℕ) → Contains (a ∷ as') a
+pub first_of : (a : ℕ) (as' : List ℕ) → Contains (a ∷ as') a
 first_of a as' = Contains_among (here {xs = as'})
 
 second_of : (a b : ℕ) (as' : List ℕ) → Contains (a ∷ b ∷ as') b
@@ -67,7 +67,7 @@ map_pos_is [] (j ∷ js) e = absurd (let l = ap length e in omega arith)
 map_pos_is (i ∷ is) [] e = absurd (let l = ap length e in omega arith)
 map_pos_is (i ∷ is) (j ∷ js) e = let r = map_pos_is is js cc in cc
 
-far_at : (js : List ℕ) (V : List Row) → AreFarPlaces V (map pos js) → (j : ℕ) → Contains js j ↔ ((j < length V) × (entry (ray V j) 0 ≡ pos 0))
+pub far_at : (js : List ℕ) (V : List Row) → AreFarPlaces V (map pos js) → (j : ℕ) → Contains js j ↔ ((j < length V) × (entry (ray V j) 0 ≡ pos 0))
 far_at js V h j = subst (λ is. Contains is j ↔ ((j < length V) × (entry (ray V j) 0 ≡ pos 0))) (sym (map_pos_is js h.js h.places)) (h.far j)
 
 far_ascending : (js : List ℕ) (V : List Row) → AreFarPlaces V (map pos js) → AllPairs (λ i j. i < j) js

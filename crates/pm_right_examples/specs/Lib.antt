@@ -3,6 +3,7 @@ pub mod CanonicalExamples
 pub mod Examples
 pub mod FaceExamples
 pub mod GraphExamples
+pub mod OrderExamples
 pub mod RayExamples
 pub mod RowExamples
 pub mod ThingExamples

@@ -7,6 +7,7 @@ ghost use Rattle.pm_right_examples.specs.CanonicalExamples.{CanonicalLinesAreRea
 ghost use Rattle.pm_right_examples.specs.Examples.{EmptyDimensionsAreRead, SquareDimensionsAreRead, SquareSetsAreRead};
 ghost use Rattle.pm_right_examples.specs.FaceExamples.{EmptyFacesAreRead, HVectorsAreShort, LineFacesAreRead, SegmentCountsAreRead, SegmentFacesAreRead, SquareFacesAreRead};
 ghost use Rattle.pm_right_examples.specs.GraphExamples.{BipyramidGraphsAreRead, EmptyGraphsAreRead, LineGraphsAreRead, SegmentGraphsAreRead, SegmentNumbersAreRead, SquareGraphsAreRead};
+ghost use Rattle.pm_right_examples.specs.OrderExamples.{OrdersAreShown};
 ghost use Rattle.pm_right_examples.specs.RayExamples.{EmptyValuesAreRead, HalfLineValuesAreRead, LineDimensionsAreRead, LineIsUnbounded, SegmentsAreRead, SquareIsBounded};
 ghost use Rattle.pm_right_examples.specs.RowExamples.{BasesAreRight, FacetRowsAreRead, GeneratorsAreRead, HalfSpacesAreRead, PairsAreRead, RayRowsAreRead, RowsAreRead};
 ghost use Rattle.pm_right_examples.specs.FanExamples.{ConeDimsAreRead, MaximalConesAreRead, SimplicialFansAreRead};
@@ -80,6 +81,11 @@ pub fn example_half_spaces()
 /// Facts that are right together, and facts that are right alone.
 pub fn example_pairs()
     ensures { PairsAreRead }
+{}
+
+/// Which orders a property reads: those that its tags name, and no other.
+pub fn example_orders_shown()
+    ensures { OrdersAreShown }
 {}
 
 /// Which rows are right for VERTICES: in the order of the rays, up to positive scale and lineality.
