@@ -2,7 +2,7 @@
 use Rattle.pm_algebra.proofs.Lists.{Contains_among, among_Contains, among_append, here, there}
 use Rattle.pm_algebra.specs.Rows.{IsZero, Row}
 use Rattle.pm_client.proofs.ReadRows.{row_of}
-use Rattle.pm_client.specs.Sound.{AreParts, ArePartsOf, AreRowsOf, AreSetsOf, AreTold, FailsRightly, HoldsOf, IsDoubleListOf, IsRowList, IsRowOf, IsWideElimination, IsWideFeasibility, added_rows, determining_rows, double_list, doubles, eliminated_by, enlarging_rows, fail_of, fail_of_double, fail_of_program, fail_of_thin, first_part, flat_basis_and_row, flat_rows, row_list, IsConeList, cone_rows}
+use Rattle.pm_client.specs.Sound.{AreParts, ArePartsOf, AreRowsOf, AreSetsOf, AreTold, FailsRightly, HoldsOf, IsDoubleListOf, IsRowList, IsRowOf, IsWideElimination, IsWideFeasibility, added_rows, determining_rows, double_list, eliminated_by, enlarging_rows, fail_of, fail_of_double, fail_of_program, fail_of_thin, first_part, flat_basis_and_row, flat_rows, row_list, IsConeList, cone_rows, has_way, doubling, feasibility, products, determined_rays, determined_facets, facet_count}
 use Rattle.pm_dd.specs.Refusals.{IsEliminationFail, IsShown, ShowsMany, ShowsWide}
 use Rattle.pm_dd.specs.declared.fails.DdFail.{DdFail}
 use Rattle.pm_dd.specs.declared.fails.DdFail.TheVariants as double
@@ -62,10 +62,7 @@ pub takes_cones : (v : ViewSeen) → v.kind ≡ standard_kind client.FanDims →
 takes_cones v kind = subst (λ (k : Kind). Contains (eliminated_by k.name) cone_rows) (sym kind) (Contains_among (here {xs = []}))
 
 -- ---- double description
-module _ (v : ViewSeen) (named : IsTrue (doubles v.kind.name)) where
-  takes : eliminated_by v.kind.name ≡ first_part ∷ double_list ∷ enlarging_rows ∷ []
-  takes = rw named refl
-
+module _ (v : ViewSeen) (named : IsTrue (has_way v.kind.name doubling)) (takes : eliminated_by v.kind.name ≡ first_part ∷ double_list ∷ enlarging_rows ∷ []) where
   first_taken : Contains (eliminated_by v.kind.name) first_part
   first_taken = rw takes (Contains_among (here {xs = double_list ∷ enlarging_rows ∷ []}))
 
@@ -156,7 +153,7 @@ half_space_row v p X x h kind c some = row_of v is_half_space p h.cols h.rows X 
 one_of : (A E : List Row) (x : Row) → Contains (A ++ E) x → Contains A x ⊎ Contains E x
 one_of A E x c = elim (among_append A E (among_Contains (A ++ E) c)) [ inl i ↦ inl (Contains_among i) | inr i ↦ inr (Contains_among i) ]
 
-module _ (v : ViewSeen) (thinning_takes : eliminated_by v.kind.name ≡ flat_rows ∷ flat_basis_and_row ∷ []) where
+module _ (v : ViewSeen) (thinning_takes : eliminated_by v.kind.name ≡ flat_rows ∷ flat_basis_and_row ∷ []) (takes_products : IsTrue (has_way v.kind.name products)) where
   -- on an elimination
   wide_reduction : (L G A : List Row) → AreTold v L G A → (e : EliminationStep) → IsWideReduction v.cols G L A e → IsWideElimination v e
   wide_reduction L G A told e h = elim h.listed [
@@ -169,6 +166,7 @@ module _ (v : ViewSeen) (thinning_takes : eliminated_by v.kind.name ≡ flat_row
   fails_by_points L G A (thinning.Wide (evidence.E1 step)) l g a none h =
       wide_reduction L G A (record { first = InputLineality; second = Points; other = Facets; parts = refl; told = refl; read = parts_of v InputLineality Points L G l g none; others = a }) step h
   fails_by_points L G A (thinning.Wide (evidence.E4 x y)) l g a none h = inl (record {
+    named = takes_products;
     generator = generator_row v Points G x g refl h.generator (λ z. h.wide (zero_stays x y z));
     half_space = half_space_row v Facets A y a refl h.inequality (λ z. h.wide (stays_turned y x (zero_stays y x z)));
     wide = h.wide;
@@ -178,7 +176,7 @@ module _ (v : ViewSeen) (thinning_takes : eliminated_by v.kind.name ≡ flat_row
   fails_by_points L G A thinning.Memory l g a none h = tt
 
   -- INEQUALITIES by VERTICES
-  pub fails_by_inequalities : IsTrue (bytes_eq v.kind.name (codes "thin_inequalities_v")) → (E A V : List Row) (f : ThinFail) → AreRowsOf v Equations E → AreRowsOf v Inequalities A → AreRowsOf v Vertices V → IsFacetsFail v.of v.cols A E V f → FailsRightly v (fail_of_thin f)
+  pub fails_by_inequalities : IsTrue (has_way v.kind.name facet_count) → (E A V : List Row) (f : ThinFail) → AreRowsOf v Equations E → AreRowsOf v Inequalities A → AreRowsOf v Vertices V → IsFacetsFail v.of v.cols A E V f → FailsRightly v (fail_of_thin f)
   fails_by_inequalities named E A V (thinning.Wide (evidence.E1 step)) e a g h =
       wide_reduction E (half_spaces v.of v.cols A) V
       (record { first = Equations; second = Inequalities; other = Vertices; parts = refl; told = refl; read = halves_read v E A e a; others = g })
@@ -186,12 +184,13 @@ module _ (v : ViewSeen) (thinning_takes : eliminated_by v.kind.name ≡ flat_row
   fails_by_inequalities named E A V (thinning.Wide (evidence.E4 x y)) e a g h =
       let some : IsZero y → ⊥ = λ z. h.wide (zero_stays y x z) in
       inl (record {
+        named = takes_products;
         generator = generator_row v Vertices V x g refl h.inequality (λ z. h.wide (stays_turned x y (zero_stays x y z)));
         half_space = elim (one_of A E y h.generator) [ inl c ↦ half_space_row v Inequalities A y a refl c some | inr c ↦ half_space_row v Equations E y e refl c some ];
         wide = λ s. h.wide (stays_turned x y s);
       })
   fails_by_inequalities named E A V (thinning.Wide w) e a g h = absurd h
-  fails_by_inequalities named E A V (thinning.Many (evidence.E5Rows places)) e a g h = record { named = rw named refl; equations = E; inequalities = A; reads_equations = e; reads_inequalities = a; shown = h }
+  fails_by_inequalities named E A V (thinning.Many (evidence.E5Rows places)) e a g h = record { named = named; equations = E; inequalities = A; reads_equations = e; reads_inequalities = a; shown = h }
   fails_by_inequalities named E A V (thinning.Many w) e a g h = absurd h
   fails_by_inequalities named E A V thinning.Memory e a g h = tt
 
@@ -200,7 +199,7 @@ module _ (v : ViewSeen) (thinning_takes : eliminated_by v.kind.name ≡ flat_row
 module _ (v : ViewSeen) (kind : v.kind ≡ standard_kind client.FeasibleLp) (E A : List Row) (e : AreRowsOf v Equations E) (a : AreRowsOf v Inequalities A) where
   pub wide_feasibility : (w : Evidence) → ShowsProgram (half_spaces v.of v.cols A) E (no_objective v.cols) w → IsWideFeasibility v w
   wide_feasibility w h = record {
-    named = subst (λ (k : Kind). bytes_eq k.name (codes "feasible_lp") ≡ true) (sym kind) refl;
+    named = subst (λ (k : Kind). has_way k.name feasibility ≡ true) (sym kind) refl;
     equations = E;
     inequalities = half_spaces v.of v.cols A;
     read = halves_read v E A e a;
@@ -252,14 +251,14 @@ module _ (v : ViewSeen) (sets_take : eliminated_by v.kind.name ≡ row_list ∷ 
     }
   ]
 
-  pub fails_by_facet_sets : IsTrue (bytes_eq v.kind.name (codes "vertices_from_sets")) → (E A : List Row) (in_sets : List (List ℕ)) (f : ThinFail) → AreSetsOf v AffineHull Facets E A in_sets → added_rows v.of v.cols Facets ≡ [] → IsSetsFail v.cols E A in_sets f → FailsRightly v (fail_of_thin f)
+  pub fails_by_facet_sets : IsTrue (has_way v.kind.name determined_rays) → (E A : List Row) (in_sets : List (List ℕ)) (f : ThinFail) → AreSetsOf v AffineHull Facets E A in_sets → added_rows v.of v.cols Facets ≡ [] → IsSetsFail v.cols E A in_sets f → FailsRightly v (fail_of_thin f)
   fails_by_facet_sets named E A in_sets (thinning.Wide (evidence.E1 step)) read none h = wide_by_sets AffineHull Facets E A in_sets read none step h
   fails_by_facet_sets named E A in_sets (thinning.Wide (evidence.E4 x y)) read none h = inr (inl (inl (named, record { equations = E; inequalities = A; in_sets = in_sets; read = read; wide = h })))
   fails_by_facet_sets named E A in_sets (thinning.Wide e) read none h = absurd h
   fails_by_facet_sets named E A in_sets (thinning.Many e) read none h = absurd h
   fails_by_facet_sets named E A in_sets thinning.Memory read none h = tt
 
-  pub fails_by_ray_sets : IsTrue (bytes_eq v.kind.name (codes "facets_from_sets")) → (E A : List Row) (in_sets : List (List ℕ)) (f : ThinFail) → AreSetsOf v LinealitySpace Vertices E A in_sets → added_rows v.of v.cols Vertices ≡ [] → IsTurnedSetsFail v.cols E A in_sets f → FailsRightly v (fail_of_thin f)
+  pub fails_by_ray_sets : IsTrue (has_way v.kind.name determined_facets) → (E A : List Row) (in_sets : List (List ℕ)) (f : ThinFail) → AreSetsOf v LinealitySpace Vertices E A in_sets → added_rows v.of v.cols Vertices ≡ [] → IsTurnedSetsFail v.cols E A in_sets f → FailsRightly v (fail_of_thin f)
   fails_by_ray_sets named E A in_sets (thinning.Wide (evidence.E1 step)) read none h = wide_by_sets LinealitySpace Vertices E A in_sets read none step h
   fails_by_ray_sets named E A in_sets (thinning.Wide (evidence.E4 x y)) read none h = inr (inl (inr (named, record { equations = E; inequalities = A; in_sets = in_sets; read = read; wide = h })))
   fails_by_ray_sets named E A in_sets (thinning.Wide e) read none h = absurd h

@@ -2,7 +2,7 @@
 use Rattle.pm_client.proofs.ProgramExamples.{no_optimum}
 use Rattle.pm_client.proofs.ThinningExamples.{none_primitive}
 use Rattle.pm_client.specs.Examples.{OptimaAreRead, no_rows, nothing, of_program, single}
-use Rattle.pm_client.specs.Sound.{ArePartsOf, optimum, IsWideAtRays, IsWideDual, IsWideFace, IsWideOptimum, ReadsObjective, finds_at_rays, finds_face}
+use Rattle.pm_client.specs.Sound.{ArePartsOf, optimum, IsWideAtRays, IsWideDual, IsWideFace, IsWideOptimum, ReadsObjective, has_way, at_rays, at_face, dual}
 use Rattle.pm_client.proofs.ProgramExamples.{finds_none}
 use Rattle.pm_geom.specs.declared.evidence.Evidence.TheVariants.{E4}
 use Rattle.pm_geom.specs.declared.evidence.Evidence.{Evidence}
@@ -69,16 +69,20 @@ of_dual e h = record {
 }
 
 -- ---- other clients
-no_rays_found : (sense : Sense) → finds_at_rays (codes "dd_vertices") sense ≡ false
+no_dual_found : (sense : Sense) → has_way (codes "dd_vertices") (dual sense) ≡ false
+no_dual_found Maximal = refl
+no_dual_found Minimal = refl
+
+no_rays_found : (sense : Sense) → has_way (codes "dd_vertices") (at_rays sense) ≡ false
 no_rays_found Maximal = refl
 no_rays_found Minimal = refl
 
-no_face_found : (sense : Sense) → finds_face (codes "dd_vertices") sense ≡ false
+no_face_found : (sense : Sense) → has_way (codes "dd_vertices") (at_face sense) ≡ false
 no_face_found Maximal = refl
 no_face_found Minimal = refl
 
 no_dual : (e : Evidence) → ¬ (IsWideDual no_rows e)
-no_dual e h = true≢false (sym h.named ∙ finds_none h.sense Facets)
+no_dual e h = true≢false (sym h.named ∙ no_dual_found h.sense)
 
 no_rays : (e : Evidence) → ¬ (IsWideAtRays no_rows e)
 no_rays e h = true≢false (sym h.named ∙ no_rays_found h.sense)
@@ -87,7 +91,7 @@ no_face : (e : Evidence) → ¬ (IsWideFace no_rows e)
 no_face e h = true≢false (sym h.named ∙ no_face_found h.sense)
 
 -- no least value was read
-no_least : (sense : Sense) → finds_face (codes "lp_min_face") sense ≡ true → is_some (fact_of (optimum sense) (of_program (codes "lp_min_face")).facts) ≡ false
+no_least : (sense : Sense) → has_way (codes "lp_min_face") (at_face sense) ≡ true → is_some (fact_of (optimum sense) (of_program (codes "lp_min_face")).facts) ≡ false
 no_least Maximal h = absurd (true≢false (sym h))
 no_least Minimal h = refl
 

@@ -1,5 +1,6 @@
 -- The definitions of starts and of row lists read on small lists: what holds of them, and what does not.
-use Rattle.pm_client.specs.Sound.{AreEnlarging, AreParts, ArePartsOf, AreRowsOf, AreSetsOf, HoldsOf, IsCrowdedLattice, IsWideAtRays, IsWideDual, IsWideFace, IsWideForPrograms, IsWideOptimum, ReadsObjective, finds_at_rays, finds_face, finds_optimum, optimum, IsCrowdedThinning, IsDeterminingList, IsDoubleListOf, IsEliminated, IsFlatBasisAndRow, IsFlatList, IsWideFeasibility, IsWideForSets, IsWideProgramOf, IsWideThinningOf, added_rows, are_parts, are_told, determining_rows, double_list, doubles, eliminated_by, enlarging_rows, fail_of, fail_of_double, fail_of_lattice, fail_of_program, fail_of_thin, first_part, flat_basis_and_row, flat_rows, line_basis_and_row, line_rows, row_list, sets_of_rows, takes_sets, thins, thins_by_programs, thins_inequalities, IsConeList, cone_rows}
+use Rattle.pm_client.specs.Sound.{AreEnlarging, AreParts, ArePartsOf, AreRowsOf, AreSetsOf, HoldsOf, IsCrowdedLattice, IsWideAtRays, IsWideDual, IsWideFace, IsWideForPrograms, IsWideOptimum, ReadsObjective, finds_optimum, optimum, IsCrowdedThinning, IsDeterminingList, IsDoubleListOf, IsEliminated, IsFlatBasisAndRow, IsFlatList, IsWideFeasibility, IsWideForSets, IsWideProgramOf, IsWideThinningOf, added_rows, are_parts, are_told, determining_rows, double_list, eliminated_by, enlarging_rows, fail_of, fail_of_double, fail_of_lattice, fail_of_program, fail_of_thin, first_part, flat_basis_and_row, flat_rows, line_basis_and_row, line_rows, row_list, sets_of_rows, IsConeList, cone_rows, has_way}
+use Rattle.pm_client.specs.Ways as way
 use Rattle.pm_props.specs.Properties.{is_generator, is_half_space}
 use Rattle.pm_client.specs.Starts.{Clients, after_start, has_client, kind_at, next_count, place_in, same_kind, started_once}
 use Rattle.pm_client.specs.declared.ClientFail.TheVariants as fail
@@ -85,8 +86,8 @@ pub record RowListsAreRead : Type 0 where
   pub memory : fail_of elimination.Memory ≡ fail.Memory
   pub memory_of_double : fail_of_double double.Memory ≡ fail.Memory
   -- what clients eliminate, by their names
-  pub doubling : doubles (codes "dd_facets_v") ≡ true
-  pub not_doubling : doubles (codes "hull_from_vertices") ≡ false
+  pub doubling : has_way (codes "dd_facets_v") way.doubling ≡ true
+  pub not_doubling : has_way (codes "hull_from_vertices") way.doubling ≡ false
   pub of_double : eliminated_by (codes "dd_vertices") ≡ first_part ∷ double_list ∷ enlarging_rows ∷ []
   pub of_ranks : eliminated_by (codes "cone_dim_v") ≡ row_list ∷ []
 
@@ -183,10 +184,10 @@ pub record ThinningIsRead : Type 0 where
   pub not_wide : ¬ (IsWideForSets no_points (single 1) (single 1))
   pub not_crowded : ¬ (IsCrowdedThinning no_points [])
   -- what clients eliminate, by their names
-  pub thinning_client : thins (codes "thin_points_f") ≡ true
-  pub not_thinning : thins (codes "thin_points_lp") ≡ false
-  pub sets_client : takes_sets (codes "facets_from_sets") ≡ true
-  pub not_of_sets : takes_sets (codes "facet_sizes") ≡ false
+  pub thinning_client : has_way (codes "thin_inequalities_v") way.facet_count ≡ true
+  pub not_thinning : has_way (codes "thin_points_f") way.facet_count ≡ false
+  pub sets_client : has_way (codes "facets_from_sets") way.determined_facets ≡ true
+  pub not_of_sets : has_way (codes "facet_sizes") way.determined_facets ≡ false
   pub of_thinning : eliminated_by (codes "thin_inequalities_v") ≡ flat_rows ∷ flat_basis_and_row ∷ []
   pub of_sets : eliminated_by (codes "vertices_from_sets") ≡ row_list ∷ determining_rows ∷ []
   pub memory : fail_of_thin thinning.Memory ≡ fail.Memory
@@ -197,11 +198,11 @@ without_rows name = record no_rows { kind = named name 1 2 }
 
 pub record ProgramsAreRead : Type 0 where
   -- what clients eliminate that thin by linear programs
-  pub thinning_client : thins_by_programs (codes "thin_points_lp") ≡ true
-  pub not_thinning : thins_by_programs (codes "thin_points_f") ≡ false
+  pub thinning_client : has_way (codes "thin_points_lp") way.thinning_programs ≡ true
+  pub not_thinning : has_way (codes "thin_points_f") way.thinning_programs ≡ false
   pub of_thinning : eliminated_by (codes "thin_inequalities_lp") ≡ line_rows ∷ line_basis_and_row ∷ []
-  pub thins_rows : thins_inequalities (codes "thin_inequalities_lp") ≡ true
-  pub thins_points : thins_inequalities (codes "thin_points_lp") ≡ false
+  pub thins_rows : has_way (codes "thin_inequalities_lp") way.facet_count ≡ true
+  pub thins_points : has_way (codes "thin_points_lp") way.facet_count ≡ false
   -- the opposite of x0 >= 0 is not in its cone: the row spans no line, and is reduced by the empty basis
   pub lines : IsEliminated line_rows no_rows []
   pub not_lines : ¬ (IsEliminated line_rows no_rows (single 1 ∷ []))
@@ -253,10 +254,10 @@ pub record OptimaAreRead : Type 0 where
   pub over_facets : finds_optimum (codes "lp_min") Minimal Facets ≡ true
   pub not_over_facets : finds_optimum (codes "lp_min_rows") Minimal Facets ≡ false
   pub not_over_vertices : finds_optimum (codes "lp_max_v") Maximal Vertices ≡ false
-  pub at_rays : finds_at_rays (codes "lp_min_v") Minimal ≡ true
-  pub not_at_rays : finds_at_rays (codes "lp_min_v") Maximal ≡ false
-  pub at_face : finds_face (codes "lp_max_face") Maximal ≡ true
-  pub not_at_face : finds_face (codes "lp_max_face") Minimal ≡ false
+  pub at_rays : has_way (codes "lp_min_v") (way.at_rays Minimal) ≡ true
+  pub not_at_rays : has_way (codes "lp_min_v") (way.at_rays Maximal) ≡ false
+  pub at_face : has_way (codes "lp_max_face") (way.at_face Maximal) ≡ true
+  pub not_at_face : has_way (codes "lp_max_face") (way.at_face Minimal) ≡ false
   pub greatest : optimum Maximal ≡ MaximalValue
   pub least : optimum Minimal ≡ MinimalValue
   -- the objective is the row that was read
@@ -333,4 +334,4 @@ pub record ConesAreRead : Type 0 where
   pub none_read : (X : List Row) → ¬ (IsConeList no_rows X)
   -- what clients eliminate, by their names
   pub of_cones : eliminated_by (codes "fan_dims") ≡ cone_rows ∷ []
-  pub not_of_cones : eliminated_by (codes "fan_dim") ≡ row_list ∷ []
+  pub not_of_cones : eliminated_by (codes "fan_dim") ≡ []

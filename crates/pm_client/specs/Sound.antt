@@ -1,7 +1,6 @@
 -- When a run of a client is sound, and which evidence holds of a view.
-use Rattle.std.specs.Prelude.{ℕ, ◌≡◌, ◌++◌, ◌||◌, ◌⊎◌, Bool, true, false, IsTrue, if◌then◌else◌, codes, Option, List, [], ◌∷◌, Some, map}
+use Rattle.std.specs.Prelude.{ℕ, ◌≡◌, ◌++◌, ◌||◌, ◌⊎◌, Bool, true, false, IsTrue, Option, List, [], ◌∷◌, Some, map}
 use Rattle.std.specs.List.{Contains}
-use Rattle.std.specs.Str.{bytes_eq}
 use Rattle.pm_algebra.specs.Divisors.{IsPrimitive}
 use Rattle.pm_algebra.specs.Numbers.{Ratio}
 use Rattle.pm_algebra.specs.Rows.{Row, Stands}
@@ -48,6 +47,7 @@ use Rattle.pm_simplex.specs.declared.fails.LpFail.{LpFail}
 use Rattle.pm_simplex.specs.declared.fails.LpFail.TheVariants as linear
 use Rattle.pm_props.specs.declared.property.PropId.{PropId}
 use Rattle.pm_props.specs.declared.property.PropId.TheVariants.{Points, InputLineality, Inequalities, Equations, Vertices, LinealitySpace, Facets, AffineHull, VerticesInFacets, LinearObjective, MaximalValue, MinimalValue, MaximalCones}
+pub use Rattle.pm_client.specs.Ways.{Eliminated, row_list, first_part, double_list, enlarging_rows, flat_rows, flat_basis_and_row, line_rows, line_basis_and_row, determining_rows, cone_rows, doubling, thinning_programs, feasibility, optimum_over_facets, optimum_over_rows, products, determined_rays, determined_facets, dual, at_rays, at_face, facet_count, face_count, eliminated_by, has_way}
 use Rattle.pm_client.specs.declared.ClientFail.{ClientFail}
 use Rattle.pm_client.specs.declared.ClientFail.TheVariants.{Memory, Failed}
 
@@ -233,49 +233,6 @@ pub record IsConeList (v : ViewSeen) (X : List Row) : Type 0 where
   pub listed : Contains index.rows set
   pub rows : X ≡ lines ++ map (ray rays) set
 
--- which lists of rows a client may eliminate: the row list; its first part, the double description list, and the rows of that which enlarge the span; the rows in the lineality, and their basis with a row, by the other description or by linear programs; rows that determine the row of a set; rows that span a maximal cone
-pub data Eliminated : Type 0 where
-  row_list : Eliminated
-  first_part : Eliminated
-  double_list : Eliminated
-  enlarging_rows : Eliminated
-  flat_rows : Eliminated
-  flat_basis_and_row : Eliminated
-  line_rows : Eliminated
-  line_basis_and_row : Eliminated
-  determining_rows : Eliminated
-  cone_rows : Eliminated
-
--- the client of this name does double description
-abbrev pub doubles : List ℕ → Bool
-doubles name = bytes_eq name (codes "dd_vertices") || (bytes_eq name (codes "dd_facets") || (bytes_eq name (codes "dd_facets_v") || bytes_eq name (codes "dd_vertices_f")))
-
--- it thins one description by the other
-abbrev pub thins : List ℕ → Bool
-thins name = bytes_eq name (codes "thin_points_f") || bytes_eq name (codes "thin_inequalities_v")
-
--- it thins a description by linear programs
-abbrev pub thins_by_programs : List ℕ → Bool
-thins_by_programs name = bytes_eq name (codes "thin_points_lp") || bytes_eq name (codes "thin_inequalities_lp")
-
--- it thins INEQUALITIES, by VERTICES or by linear programs
-abbrev pub thins_inequalities : List ℕ → Bool
-thins_inequalities name = bytes_eq name (codes "thin_inequalities_v") || bytes_eq name (codes "thin_inequalities_lp")
-
--- it finds rows from sets
-abbrev pub takes_sets : List ℕ → Bool
-takes_sets name = bytes_eq name (codes "vertices_from_sets") || bytes_eq name (codes "facets_from_sets")
-
--- those that the client of this name eliminates: one that neither does double description nor thins nor finds the dimensions of cones takes the row list
-abbrev pub eliminated_by : List ℕ → List Eliminated
-eliminated_by name =
-    if doubles name then first_part ∷ double_list ∷ enlarging_rows ∷ []
-    else if thins name then flat_rows ∷ flat_basis_and_row ∷ []
-    else if thins_by_programs name then line_rows ∷ line_basis_and_row ∷ []
-    else if takes_sets name then row_list ∷ determining_rows ∷ []
-    else if bytes_eq name (codes "fan_dims") then cone_rows ∷ []
-    else row_list ∷ []
-
 -- X is this list of the view
 abbrev pub IsEliminated : Eliminated → ViewSeen → List Row → Type 0
 IsEliminated row_list v X = IsRowList v X
@@ -299,20 +256,21 @@ pub record IsWideElimination (v : ViewSeen) (e : EliminationStep) : Type 0 where
 
 -- the client does double description, and with two extreme rays of a front of its list a step leaves the range
 pub record IsWideDoubling (v : ViewSeen) (front : ℕ) (first second : Row) (column : Option ℕ) : Type 0 where
-  pub named : IsTrue (doubles v.kind.name)
+  pub named : IsTrue (has_way v.kind.name doubling)
   pub rows : List Row
   pub listed : IsDoubleListOf v rows
   pub shown : IsWidePair v.cols rows front first second column
 
 -- the client does double description, and a front of its list has more than 2,048 extreme rays
 pub record IsCrowdedDoubling (v : ViewSeen) (front : ℕ) (rays : List Row) : Type 0 where
-  pub named : IsTrue (doubles v.kind.name)
+  pub named : IsTrue (has_way v.kind.name doubling)
   pub rows : List Row
   pub listed : IsDoubleListOf v rows
   pub shown : IsCrowded v.cols rows front rays
 
 -- a row of a generator property and a row of a half-space property have a product that leaves the range
 pub record AreWideRows (v : ViewSeen) (first second : Row) : Type 0 where
+  pub named : IsTrue (has_way v.kind.name products)
   pub generator : IsRowOf v is_generator first
   pub half_space : IsRowOf v is_half_space second
   pub wide : IsWideProduct first second
@@ -328,12 +286,12 @@ pub record IsWideDetermined (v : ViewSeen) (first second : PropId) (x y : Row) :
 -- the client of this name does so; the ray comes first, be it determined or read
 abbrev pub IsWideForSets : ViewSeen → Row → Row → Type 0
 IsWideForSets v first second =
-    (IsTrue (bytes_eq v.kind.name (codes "vertices_from_sets")) × IsWideDetermined v AffineHull Facets first second)
-    ⊎ (IsTrue (bytes_eq v.kind.name (codes "facets_from_sets")) × IsWideDetermined v LinealitySpace Vertices second first)
+    (IsTrue (has_way v.kind.name determined_rays) × IsWideDetermined v AffineHull Facets first second)
+    ⊎ (IsTrue (has_way v.kind.name determined_facets) × IsWideDetermined v LinealitySpace Vertices second first)
 
 -- the client thins by linear programs, and in the program of a row of its list, or of its opposite, over some of the rows a pivot leaves the range
 pub record IsWideThinningOf (v : ViewSeen) (e : Evidence) : Type 0 where
-  pub named : IsTrue (thins_by_programs v.kind.name)
+  pub named : IsTrue (has_way v.kind.name thinning_programs)
   pub lines : List Row
   pub rows : List Row
   pub read : AreParts v lines rows
@@ -341,7 +299,7 @@ pub record IsWideThinningOf (v : ViewSeen) (e : Evidence) : Type 0 where
 
 -- the client asks whether INEQUALITIES, with what is added, and EQUATIONS have a point, and in that program, whose objective is 0, a pivot leaves the range
 pub record IsWideFeasibility (v : ViewSeen) (e : Evidence) : Type 0 where
-  pub named : IsTrue (bytes_eq v.kind.name (codes "feasible_lp"))
+  pub named : IsTrue (has_way v.kind.name feasibility)
   pub equations : List Row
   pub inequalities : List Row
   pub read : ArePartsOf v Equations Inequalities equations inequalities
@@ -353,21 +311,9 @@ ReadsObjective v c = (n : ℕ) × Reads v LinearObjective n (c ∷ [])
 
 -- the client of this name finds the optimum in that sense over FACETS, with a dual, or over INEQUALITIES
 abbrev pub finds_optimum : List ℕ → Sense → PropId → Bool
-finds_optimum name Maximal Facets = bytes_eq name (codes "lp_max")
-finds_optimum name Minimal Facets = bytes_eq name (codes "lp_min")
-finds_optimum name Maximal Inequalities = bytes_eq name (codes "lp_max_rows")
-finds_optimum name Minimal Inequalities = bytes_eq name (codes "lp_min_rows")
+finds_optimum name sense Facets = has_way name (optimum_over_facets sense)
+finds_optimum name sense Inequalities = has_way name (optimum_over_rows sense)
 finds_optimum name sense p = false
-
--- it finds the optimum at VERTICES
-abbrev pub finds_at_rays : List ℕ → Sense → Bool
-finds_at_rays name Maximal = bytes_eq name (codes "lp_max_v")
-finds_at_rays name Minimal = bytes_eq name (codes "lp_min_v")
-
--- it finds the rays at the optimum
-abbrev pub finds_face : List ℕ → Sense → Bool
-finds_face name Maximal = bytes_eq name (codes "lp_max_face")
-finds_face name Minimal = bytes_eq name (codes "lp_min_face")
 
 -- the optimum in that sense, as a property
 abbrev pub optimum : Sense → PropId
@@ -391,7 +337,7 @@ pub record IsWideOptimum (v : ViewSeen) (e : Evidence) : Type 0 where
 -- the client finds an optimum over FACETS, and a row of a dual of their program leaves the range
 pub record IsWideDual (v : ViewSeen) (e : Evidence) : Type 0 where
   pub sense : Sense
-  pub named : IsTrue (finds_optimum v.kind.name sense Facets)
+  pub named : IsTrue (has_way v.kind.name (dual sense))
   pub equations : List Row
   pub inequalities : List Row
   pub reads_equations : AreRowsOf v AffineHull equations
@@ -403,7 +349,7 @@ pub record IsWideDual (v : ViewSeen) (e : Evidence) : Type 0 where
 -- the client finds an optimum at VERTICES, and the product of its objective with one of these or a line leaves the range, or the optimum does
 pub record IsWideAtRays (v : ViewSeen) (e : Evidence) : Type 0 where
   pub sense : Sense
-  pub named : IsTrue (finds_at_rays v.kind.name sense)
+  pub named : IsTrue (has_way v.kind.name (at_rays sense))
   pub lines : List Row
   pub rays : List Row
   pub reads_lines : AreRowsOf v LinealitySpace lines
@@ -415,7 +361,7 @@ pub record IsWideAtRays (v : ViewSeen) (e : Evidence) : Type 0 where
 -- the client finds the rays at an optimum, and the row that vanishes at the optimum leaves the range, or its product with a ray does
 pub record IsWideFace (v : ViewSeen) (e : Evidence) : Type 0 where
   pub sense : Sense
-  pub named : IsTrue (finds_face v.kind.name sense)
+  pub named : IsTrue (has_way v.kind.name (at_face sense))
   pub rays : List Row
   pub reads_rays : AreRowsOf v Vertices rays
   pub objective : List Ratio
@@ -434,7 +380,7 @@ IsWideProgramOf v e = IsWideThinningOf v e ⊎ IsWideFeasibility v e ⊎ IsWideO
 
 -- the client thins INEQUALITIES, and at more than 2,048 places of these and of what is added stand facet rows
 pub record IsCrowdedThinning (v : ViewSeen) (places : List ℕ) : Type 0 where
-  pub named : IsTrue (thins_inequalities v.kind.name)
+  pub named : IsTrue (has_way v.kind.name facet_count)
   pub equations : List Row
   pub inequalities : List Row
   pub reads_equations : AreRowsOf v Equations equations
@@ -443,7 +389,7 @@ pub record IsCrowdedThinning (v : ViewSeen) (places : List ℕ) : Type 0 where
 
 -- the client closes the sets of VERTICES_IN_FACETS, and of these there are more meets, or more places in them, than a lattice may have
 pub record IsCrowdedLattice (v : ViewSeen) (faces : List (List ℕ)) : Type 0 where
-  pub named : IsTrue (bytes_eq v.kind.name (codes "faces"))
+  pub named : IsTrue (has_way v.kind.name face_count)
   pub index : IndexSets
   pub reads : fact_of VerticesInFacets v.facts ≡ Some (sets index.rows index.cols)
   pub shown : AreTooManyMeets index.cols (sets_of index.rows) faces

@@ -1,18 +1,16 @@
 -- The sets that the client puts are right, and where it fails a product of rows that it read leaves the range.
-use Rattle.pm_algebra.proofs.Lists.{Contains_among}
-use Rattle.pm_algebra.specs.Divisors.{IsPrimitive}
 use Rattle.pm_algebra.specs.Numbers.{Ratio}
-use Rattle.pm_algebra.specs.Rows.{IsZero, Row, Stands}
+use Rattle.pm_algebra.specs.Rows.{Row}
 use Rattle.pm_client.proofs.PlainValues.{Follows, sound_plain}
 use Rattle.pm_client.proofs.Puts.{IsPut}
 use Rattle.pm_client.proofs.ReadRows.{row_of}
-use Rattle.pm_client.proofs.ReadValues.{all_length, found, primitive_length, read_right}
-use Rattle.pm_client.specs.Sound.{FailsRightly, IsRowOf, IsSound, fail_of_incidence}
+use Rattle.pm_client.proofs.ReadValues.{all_length, primitive_length, read_right}
+use Rattle.pm_client.specs.Sound.{FailsRightly, IsSound, fail_of_incidence, has_way, products}
 use Rattle.pm_props.specs.Properties.{is_generator, is_half_space}
 use Rattle.pm_incidence.specs.declared.fails.IncFail.TheVariants.{Memory, Wide}
 use Rattle.pm_incidence.specs.declared.fails.IncFail.{IncFail}
 use Rattle.pm_geom.specs.declared.evidence.Evidence.TheVariants.{E4}
-use Rattle.pm_matrix.specs.FractionRows.{ArePrimitiveRowsOf, IsPrimitiveRowOf}
+use Rattle.pm_matrix.specs.FractionRows.{ArePrimitiveRowsOf}
 use Rattle.pm_incidence.proofs.Places.{incidence_form, incidence_is}
 use Rattle.pm_incidence.proofs.Products.{stays_turned, zero_stays}
 use Rattle.pm_incidence.specs.Incidence.{IsWideFor, incidence}
@@ -22,15 +20,13 @@ use Rattle.pm_types.proofs.PrimitiveRows.{few_rows}
 use Rattle.pm_relations.proofs.PrimitiveStanding.{primitive_stand}
 use Rattle.pm_types.specs.Forms.{FormsIn, is_formed}
 use Rattle.pm_props.specs.Kinds.{standard_kind}
+use Rattle.pm_props.specs.declared.kind.Kind.{Kind}
 use Rattle.pm_props.specs.declared.standard.StandardClient.TheVariants as client
 use Rattle.pm_types.specs.Values.{IndexSets, matrix, sets}
-use Rattle.pm_props.specs.declared.property.PropId.{PropId}
 use Rattle.pm_props.specs.declared.property.PropId.TheVariants.{Facets, Vertices, VerticesInFacets}
-use Rattle.std.proofs.Common.{ap, arith, get_or, inl, inr, refl, subst, sym, true, ◌∙◌}
-use Rattle.std.proofs.lemmas.List.{get_or_default}
-use Rattle.std.proofs.lemmas.List.Elements.{Contains-get_or}
-use Rattle.std.specs.List.{All, Contains}
-use Rattle.std.specs.Prelude.{Bool, IsTrue, List, Some, [], length, ℕ, ◌++◌, ◌∷◌, ◌≡◌}
+use Rattle.std.proofs.Common.{ap, arith, get_or, inl, refl, subst, sym, true}
+use Rattle.std.specs.List.{All}
+use Rattle.std.specs.Prelude.{List, Some, [], length, ℕ, ◌++◌, ◌∷◌, ◌≡◌}
 
 -- the view has these matrices, and these are the primitive rows of theirs
 pub record Reads (v : ViewSeen) (m k : ℕ) (facets vertices : List (List Ratio)) (F V : List Row) : Type 0 where
@@ -67,13 +63,14 @@ sets_sound v m k facets vertices F V s old new h e empty put =
     (subst (λ z. IsPut v VerticesInFacets (sets z.rows z.cols) old new) e (record { targets = ap (λ z. z.targets) h.kind; empty = empty; put = put })) (follows v m k facets vertices F V h)
 
 -- ---- the evidence
-pub fails_rightly : (v : ViewSeen) (m k : ℕ) (facets vertices : List (List Ratio)) (F V : List Row) (e : IncFail) → fact_of Facets v.facts ≡ Some (matrix m facets) → fact_of Vertices v.facts ≡ Some (matrix k vertices)
+pub fails_rightly : (v : ViewSeen) (m k : ℕ) (facets vertices : List (List Ratio)) (F V : List Row) (e : IncFail) → v.kind ≡ standard_kind client.Incidence → fact_of Facets v.facts ≡ Some (matrix m facets) → fact_of Vertices v.facts ≡ Some (matrix k vertices)
     → ArePrimitiveRowsOf facets F → ArePrimitiveRowsOf vertices V → IsWideFor F V e → FailsRightly v (fail_of_incidence e)
-fails_rightly v m k facets vertices F V Memory g h p q w = tt
-fails_rightly v m k facets vertices F V (Wide (E4 a x)) g h p q w =
+fails_rightly v m k facets vertices F V Memory kind g h p q w = tt
+fails_rightly v m k facets vertices F V (Wide (E4 a x)) kind g h p q w =
     inl (record {
+      named = subst (λ (z : Kind). has_way z.name products ≡ true) (sym kind) refl;
       generator = row_of v is_generator Vertices k vertices V a h refl q w.0 (λ z. w.2 (zero_stays a x z));
       half_space = row_of v is_half_space Facets m facets F x g refl p w.1 (λ z. w.2 (stays_turned x a (zero_stays x a z)));
       wide = w.2;
     })
-fails_rightly v m k facets vertices F V (Wide e) g h p q w = absurd w
+fails_rightly v m k facets vertices F V (Wide e) kind g h p q w = absurd w

@@ -3,7 +3,7 @@ use Rattle.pm_algebra.specs.Numbers.{Ratio}
 use Rattle.pm_client.proofs.PlainValues.{sound_counts, sound_plain}
 use Rattle.pm_client.proofs.Puts.{IsPut, sound_one}
 use Rattle.pm_client.proofs.ReadValues.{read_right}
-use Rattle.pm_client.specs.Sound.{FailsRightly, IsSound, fail_of_lattice}
+use Rattle.pm_client.specs.Sound.{FailsRightly, IsSound, fail_of_lattice, has_way, face_count}
 use Rattle.pm_client.specs.declared.ClientFail.{ClientFail}
 use Rattle.pm_client.specs.declared.ClientFail.TheVariants.{Failed, Memory}
 use Rattle.pm_clients_faces.proofs.FaceForms.{f_numbers_form, lattice_formed}
@@ -34,13 +34,12 @@ use Rattle.pm_types.specs.Things.{AreOrders, IsThing, Thing}
 use Rattle.pm_types.specs.Values.{IndexSets, counts, lattice, matrix, sets, whole}
 use Rattle.std.proofs.Common.{ap, arith, refl, subst, sym, true, ◌∙◌}
 use Rattle.std.proofs.lemmas.Bool.{le-leb}
-use Rattle.std.specs.Prelude.{List, Some, [], codes, if◌then◌else◌, length, map, ℕ, ◌≡◌}
-use Rattle.std.specs.Str.{bytes_eq}
+use Rattle.std.specs.Prelude.{List, Some, [], if◌then◌else◌, length, map, ℕ, ◌≡◌}
 use lib.IntN.{pos, ℤ}
 
 -- ---- failures
 pub fails_for_many : (v : ViewSeen) (index : IndexSets) (f : LatticeFail) → v.kind ≡ standard_kind client.Faces → fact_of VerticesInFacets v.facts ≡ Some (sets index.rows index.cols) → IsShown index f → FailsForMany v (fail_of_lattice f)
-fails_for_many v index (closing.Many (E5Faces faces)) kind reads h = record { named = ap (λ k. bytes_eq k.name (codes "faces")) kind; index = index; reads = reads; shown = h }
+fails_for_many v index (closing.Many (E5Faces faces)) kind reads h = record { named = ap (λ k. has_way k.name face_count) kind; index = index; reads = reads; shown = h }
 fails_for_many v index (closing.Many e) kind reads h = absurd h
 fails_for_many v index closing.Memory kind reads h = tt
 

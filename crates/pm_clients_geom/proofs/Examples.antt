@@ -187,8 +187,8 @@ no_draft e = let l = ap (λ (d : DraftSeen). length d.values) e in omega arith
 
 pub hulls_are_read : HullsAreRead
 hulls_are_read = record {
-  from_points = record { targets = refl; sources = refl; parts = refl; generators = refl; doubles = refl };
-  from_vertices = record { targets = refl; sources = refl; parts = refl; generators = refl; doubles = refl };
+  from_points = record { targets = refl; sources = refl; parts = refl; generators = refl; doubles = refl; lists = refl };
+  from_vertices = record { targets = refl; sources = refl; parts = refl; generators = refl; doubles = refl; lists = refl };
   turned = λ h. true≢false (sym h.parts);
   finds_rays = λ h. true≢false (sym h.generators);
   reads = reads;

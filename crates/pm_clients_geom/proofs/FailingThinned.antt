@@ -2,7 +2,7 @@
 use Rattle.pm_algebra.proofs.Lists.{Contains_among, here, there}
 use Rattle.pm_algebra.specs.Rows.{Row}
 use Rattle.pm_client.proofs.Failing.{halves_read}
-use Rattle.pm_client.specs.Sound.{AreParts, AreRowsOf, FailsRightly, HoldsOf, IsWideElimination, eliminated_by, fail_of_thin, line_basis_and_row, line_rows, thins_by_programs, thins_inequalities}
+use Rattle.pm_client.specs.Sound.{AreParts, AreRowsOf, FailsRightly, HoldsOf, IsWideElimination, eliminated_by, fail_of_thin, line_basis_and_row, line_rows, has_way, thinning_programs, facet_count}
 use Rattle.pm_elim.specs.EliminationSteps.{EliminationStep}
 use Rattle.pm_geom.specs.declared.evidence.Evidence.{Evidence}
 use Rattle.pm_geom.specs.declared.evidence.Evidence.TheVariants as evidence
@@ -21,9 +21,9 @@ use Rattle.std.proofs.Common.{inl, inr, refl, subst, sym, true}
 use Rattle.std.specs.Prelude.{IsTrue, List, [], ◌∷◌, ◌≡◌}
 
 -- a client of this kind thins by them
-module _ (v : ViewSeen) (c : StandardClient) (kind : v.kind ≡ standard_kind c) (by_programs : thins_by_programs (standard_kind c).name ≡ true) (alone : eliminated_by (standard_kind c).name ≡ line_rows ∷ line_basis_and_row ∷ []) (L G : List Row) (read : AreParts v L G) where
-  named_thinning : IsTrue (thins_by_programs v.kind.name)
-  named_thinning = subst (λ (k : Kind). thins_by_programs k.name ≡ true) (sym kind) by_programs
+module _ (v : ViewSeen) (c : StandardClient) (kind : v.kind ≡ standard_kind c) (by_programs : has_way (standard_kind c).name thinning_programs ≡ true) (alone : eliminated_by (standard_kind c).name ≡ line_rows ∷ line_basis_and_row ∷ []) (L G : List Row) (read : AreParts v L G) where
+  named_thinning : IsTrue (has_way v.kind.name thinning_programs)
+  named_thinning = subst (λ (k : Kind). has_way k.name thinning_programs ≡ true) (sym kind) by_programs
 
   lines_taken : eliminated_by v.kind.name ≡ line_rows ∷ line_basis_and_row ∷ []
   lines_taken = subst (λ (k : Kind). eliminated_by k.name ≡ line_rows ∷ line_basis_and_row ∷ []) (sym kind) alone
@@ -68,7 +68,7 @@ module _ (v : ViewSeen) (kind : v.kind ≡ standard_kind client.ThinInequalities
   fails_by_thin_rows (thinning.Wide (evidence.E1 step)) h = wide_lines v client.ThinInequalitiesLp kind refl refl E (half_spaces v.of v.cols A) both_read step h
   fails_by_thin_rows (thinning.Wide w) h = wide_program v client.ThinInequalitiesLp kind refl refl E (half_spaces v.of v.cols A) both_read w h
   fails_by_thin_rows (thinning.Many (evidence.E5Rows places)) h = record {
-    named = subst (λ (k : Kind). thins_inequalities k.name ≡ true) (sym kind) refl;
+    named = subst (λ (k : Kind). has_way k.name facet_count ≡ true) (sym kind) refl;
     equations = E;
     inequalities = A;
     reads_equations = e;

@@ -1,7 +1,7 @@
 -- What the clients of double description are for, and what they put.
 use Rattle.pm_algebra.specs.Numbers.{InRange, Ratio}
 use Rattle.pm_algebra.specs.Rows.{HasCols, Row}
-use Rattle.pm_client.specs.Sound.{are_parts, doubles}
+use Rattle.pm_client.specs.Sound.{are_parts, has_way, doubling, eliminated_by, first_part, double_list, enlarging_rows}
 use Rattle.pm_clients_geom.specs.Matrices.{AreRays, MayBeLines, cols_over}
 use Rattle.pm_clients_geom.specs.Rays.{ArePutRays}
 use Rattle.pm_object.specs.Reading.{DraftSeen, ViewSeen}
@@ -22,7 +22,8 @@ pub record FindsFacets (kind : Kind) (first second : PropId) : Type 0 where
   pub sources : kind.sources ≡ set_of (second ∷ first ∷ [])
   pub parts : IsTrue (are_parts first second)
   pub generators : IsTrue (is_generator second)
-  pub doubles : IsTrue (doubles kind.name)
+  pub doubles : IsTrue (has_way kind.name doubling)
+  pub lists : eliminated_by kind.name ≡ first_part ∷ double_list ∷ enlarging_rows ∷ []
 
 -- few rows of n entries
 pub record AreFewRows (n : ℕ) (X : List Row) : Type 0 where

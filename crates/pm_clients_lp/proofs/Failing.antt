@@ -2,7 +2,7 @@
 use Rattle.pm_algebra.specs.Numbers.{Ratio}
 use Rattle.pm_algebra.specs.Rows.{Row}
 use Rattle.pm_client.proofs.Failing.{halves_read}
-use Rattle.pm_clients_lp.proofs.StandardKinds.{face_named, facets_named, rays_named, rows_named}
+use Rattle.pm_clients_lp.proofs.StandardKinds.{face_named, dual_named, facets_named, rays_named, rows_named}
 use Rattle.pm_clients_lp.specs.Programs.{ShowsOptimum}
 use Rattle.pm_incidence.specs.Thinning.{half_spaces}
 use Rattle.pm_props.specs.Kinds.{standard_kind}
@@ -122,5 +122,5 @@ module _ (v : ViewSeen) (sense : Sense) (c : List Ratio) (reads : ReadsObjective
           reads_objective = reads;
           shown = p;
         })
-        | inr d ↦ inr (record { sense = sense; named = facets_named v.kind sense kind; equations = E; inequalities = A; reads_equations = equations; reads_inequalities = inequalities; objective = c; reads_objective = reads; shown = d })
+        | inr d ↦ inr (record { sense = sense; named = dual_named v.kind sense kind; equations = E; inequalities = A; reads_equations = equations; reads_inequalities = inequalities; objective = c; reads_objective = reads; shown = d })
       ]) f h

@@ -23,7 +23,7 @@ put_value-requires-clause-target c = has_listed _ (VerticesInFacets ∷ []) Vert
 pub returns-in_err-sets-clause-failed : goal.returns-in_err-sets-clause-failed
 returns-in_err-sets-clause-failed c =
     let w = fails_rightly c.args.view.now c.matrix_of.result.now.cols c.matrix_of-2.result.now.cols c.matrix_of.result.now.rows c.matrix_of-2.result.now.rows c.in_ok-facets.facets.items c.in_ok-vertices.vertices.items
-    c.in_err-sets.field-0.0 c.matrix_of.ensures.value c.matrix_of-2.ensures.value c.in_ok-facets.ensures.rows c.in_ok-vertices.ensures.rows (rw (c.deref.ensures.value, c.deref-2.ensures.value) at c.in_err-sets.ensures.failed) in
+    c.in_err-sets.field-0.0 c.requires.kind c.matrix_of.ensures.value c.matrix_of-2.ensures.value c.in_ok-facets.ensures.rows c.in_ok-vertices.ensures.rows (rw (c.deref.ensures.value, c.deref-2.ensures.value) at c.in_err-sets.ensures.failed) in
     let p = err_from_is_err_and c.from_residual-in_err-sets.result c.from_residual-in_err-sets.ensures.1 in
     rw (p.1, p.2) w
 

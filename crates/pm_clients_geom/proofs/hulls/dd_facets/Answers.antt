@@ -31,7 +31,7 @@ returns-in_err-found-clause-failed c =
     let kind = c.requires.kind in
     let w = err_from_is_err_and c.from_residual-in_err-found.result c.from_residual-in_err-found.ensures.1 in
     rw w.1 (subst (FailsRightly v) (sym w.2)
-    (fails_by_parts v kind.doubles c.in_ok-parts.parts.first.items c.in_ok-parts.parts.second.items c.in_err-found.field-0.0
+    (fails_by_parts v kind.doubles kind.lists c.in_ok-parts.parts.first.items c.in_ok-parts.parts.second.items c.in_err-found.field-0.0
     (parts_of_generators v c.args.first c.args.second c.in_ok-parts.parts.first.items c.in_ok-parts.parts.second.items kind.parts kind.generators c.in_ok-parts.ensures.read)
     (rw (c.deref.ensures.value, c.deref-2.ensures.value, c.cols.ensures.value) at c.in_err-found.ensures.shown)))
 

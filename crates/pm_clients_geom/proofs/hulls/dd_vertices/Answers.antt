@@ -1,7 +1,7 @@
 use Rattle.pm_client.proofs.Failing.{fails_by_parts}
 use Rattle.pm_client.proofs.FreshOrders.{fresh_kind}
 use Rattle.pm_client.proofs.ViewLaws.{has_listed, not_fan, source_named}
-use Rattle.pm_client.specs.Sound.{FailsRightly, doubles}
+use Rattle.pm_client.specs.Sound.{FailsRightly, has_way, doubling, eliminated_by, first_part, double_list, enlarging_rows}
 use Rattle.pm_clients_geom.proofs.FoundHulls.{by_rows, lines_few, parts_of_rows, rays_few, rays_sound}
 use Rattle.pm_clients_geom.proofs.hulls.dd_vertices.Goals as goal
 use Rattle.pm_hull.specs.Hulls.{half_spaces_of}
@@ -30,10 +30,11 @@ pub returns-in_err-found-clause-failed : goal.returns-in_err-found-clause-failed
 returns-in_err-found-clause-failed c =
     let v = c.args.view.now in
     let no_fan = not_fan v Inequalities c.cols.ensures.view (source_named v.kind Inequalities (has_listed _ sources Inequalities (ap (λ k. k.sources) c.requires.kind))) refl refl in
-    let named : doubles v.kind.name ≡ true = subst (λ (k : Kind). doubles k.name ≡ true) (sym c.requires.kind) refl in
+    let named : has_way v.kind.name doubling ≡ true = subst (λ (k : Kind). has_way k.name doubling ≡ true) (sym c.requires.kind) refl in
+    let takes : eliminated_by v.kind.name ≡ first_part ∷ double_list ∷ enlarging_rows ∷ [] = subst (λ (k : Kind). eliminated_by k.name ≡ first_part ∷ double_list ∷ enlarging_rows ∷ []) (sym c.requires.kind) refl in
     let w = err_from_is_err_and c.from_residual-in_err-found.result c.from_residual-in_err-found.ensures.1 in
     rw w.1 (subst (FailsRightly v) (sym w.2)
-    (fails_by_parts v named c.in_ok-parts.parts.first.items (half_spaces_of v.of v.cols c.in_ok-parts.parts.second.items) c.in_err-found.field-0.0
+    (fails_by_parts v named takes c.in_ok-parts.parts.first.items (half_spaces_of v.of v.cols c.in_ok-parts.parts.second.items) c.in_err-found.field-0.0
     (parts_of_rows v c.in_ok-parts.parts.first.items c.in_ok-parts.parts.second.items no_fan c.in_ok-parts.ensures.read)
     (rw (c.of-2.ensures.value, c.deref.ensures.value, c.deref-2.ensures.value, c.cols.ensures.value) at c.in_err-found.ensures.shown)))
 

@@ -1,7 +1,7 @@
 use Rattle.pm_client.proofs.Failing.{fails_by_parts}
 use Rattle.pm_client.proofs.FreshOrders.{fresh_kind}
 use Rattle.pm_client.proofs.ViewLaws.{has_listed, not_fan, source_named}
-use Rattle.pm_client.specs.Sound.{FailsRightly, doubles}
+use Rattle.pm_client.specs.Sound.{FailsRightly, has_way, doubling, eliminated_by, first_part, double_list, enlarging_rows}
 use Rattle.pm_clients_geom.proofs.FoundHulls.{by_facets, lines_few, parts_of_facets, rays_few, rays_sound}
 use Rattle.pm_clients_geom.proofs.hulls.dd_vertices_f.Goals as goal
 use Rattle.pm_props.specs.Properties.{rays_tag}
@@ -21,10 +21,11 @@ targets = Vertices ∷ LinealitySpace ∷ []
 pub returns-in_err-found-clause-failed : goal.returns-in_err-found-clause-failed
 returns-in_err-found-clause-failed c =
     let v = c.args.view.now in
-    let named : doubles v.kind.name ≡ true = subst (λ (k : Kind). doubles k.name ≡ true) (sym c.requires.kind) refl in
+    let named : has_way v.kind.name doubling ≡ true = subst (λ (k : Kind). has_way k.name doubling ≡ true) (sym c.requires.kind) refl in
+    let takes : eliminated_by v.kind.name ≡ first_part ∷ double_list ∷ enlarging_rows ∷ [] = subst (λ (k : Kind). eliminated_by k.name ≡ first_part ∷ double_list ∷ enlarging_rows ∷ []) (sym c.requires.kind) refl in
     let w = err_from_is_err_and c.from_residual-in_err-found.result c.from_residual-in_err-found.ensures.1 in
     rw w.1 (subst (FailsRightly v) (sym w.2)
-    (fails_by_parts v named c.in_ok-parts.parts.first.items c.in_ok-parts.parts.second.items c.in_err-found.field-0.0
+    (fails_by_parts v named takes c.in_ok-parts.parts.first.items c.in_ok-parts.parts.second.items c.in_err-found.field-0.0
     (parts_of_facets v c.in_ok-parts.parts.first.items c.in_ok-parts.parts.second.items c.in_ok-parts.ensures.read)
     (rw (c.deref.ensures.value, c.deref-2.ensures.value, c.cols.ensures.value) at c.in_err-found.ensures.shown)))
 

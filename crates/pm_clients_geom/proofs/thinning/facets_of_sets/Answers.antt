@@ -1,6 +1,6 @@
 use Rattle.pm_client.proofs.Failing.{fails_by_ray_sets}
 use Rattle.pm_client.proofs.ViewLaws.{has_listed, not_fan, target_named}
-use Rattle.pm_client.specs.Sound.{FailsRightly, determining_rows, eliminated_by, row_list}
+use Rattle.pm_client.specs.Sound.{FailsRightly, determining_rows, eliminated_by, row_list, has_way, determined_facets}
 use Rattle.pm_clients_geom.proofs.FoundThinned.{all_few, facet_sets, facets_from_sets_sound, no_vertex_added, sets_few}
 use Rattle.pm_clients_geom.proofs.thinning.facets_of_sets.Goals as goal
 use Rattle.pm_clients_geom.specs.Hulls.{AreFewRows}
@@ -34,7 +34,7 @@ pub returns-in_err-found-clause-failed : goal.returns-in_err-found-clause-failed
 returns-in_err-found-clause-failed c =
     let v = c.args.view.now in
     let takes : eliminated_by v.kind.name ≡ row_list ∷ determining_rows ∷ [] = subst (λ (k : Kind). eliminated_by k.name ≡ row_list ∷ determining_rows ∷ []) (sym c.requires.kind) refl in
-    let named : bytes_eq v.kind.name (codes "facets_from_sets") ≡ true = subst (λ (k : Kind). bytes_eq k.name (codes "facets_from_sets") ≡ true) (sym c.requires.kind) refl in
+    let named : has_way v.kind.name determined_facets ≡ true = subst (λ (k : Kind). has_way k.name determined_facets ≡ true) (sym c.requires.kind) refl in
     let w = err_from_is_err_and c.from_residual-in_err-found.result c.from_residual-in_err-found.ensures.1 in
     rw w.1 (subst (FailsRightly v) (sym w.2)
     (fails_by_ray_sets v takes named c.in_ok-rays.rays.first.items c.in_ok-rays.rays.second.items c.sets_of-sets.result.now.rows c.in_err-found.field-0.0

@@ -1,6 +1,6 @@
 use Rattle.pm_client.proofs.Failing.{fails_by_facet_sets}
 use Rattle.pm_client.proofs.ViewLaws.{has_listed, not_fan, source_named}
-use Rattle.pm_client.specs.Sound.{FailsRightly, determining_rows, eliminated_by, row_list}
+use Rattle.pm_client.specs.Sound.{FailsRightly, determining_rows, eliminated_by, row_list, has_way, determined_rays}
 use Rattle.pm_clients_geom.proofs.FoundHulls.{no_facet_added}
 use Rattle.pm_clients_geom.proofs.FoundThinned.{columns_few, ray_sets, vertices_sound}
 use Rattle.pm_clients_geom.proofs.thinning.rays_of_sets.Goals as goal
@@ -33,7 +33,7 @@ pub returns-in_err-found-clause-failed : goal.returns-in_err-found-clause-failed
 returns-in_err-found-clause-failed c =
     let v = c.args.view.now in
     let takes : eliminated_by v.kind.name ≡ row_list ∷ determining_rows ∷ [] = subst (λ (k : Kind). eliminated_by k.name ≡ row_list ∷ determining_rows ∷ []) (sym c.requires.kind) refl in
-    let named : bytes_eq v.kind.name (codes "vertices_from_sets") ≡ true = subst (λ (k : Kind). bytes_eq k.name (codes "vertices_from_sets") ≡ true) (sym c.requires.kind) refl in
+    let named : has_way v.kind.name determined_rays ≡ true = subst (λ (k : Kind). has_way k.name determined_rays ≡ true) (sym c.requires.kind) refl in
     let w = err_from_is_err_and c.from_residual-in_err-found.result c.from_residual-in_err-found.ensures.1 in
     rw w.1 (subst (FailsRightly v) (sym w.2)
     (fails_by_facet_sets v takes named c.in_ok-halves.halves.first.items c.in_ok-halves.halves.second.items (turned c.sets_of-sets.result.now) c.in_err-found.field-0.0

@@ -1,7 +1,7 @@
 use Rattle.pm_client.proofs.Failing.{fails_by_inequalities}
 use Rattle.pm_client.proofs.FreshOrders.{fresh_kind}
 use Rattle.pm_client.proofs.ViewLaws.{has_listed, not_fan, source_named}
-use Rattle.pm_client.specs.Sound.{FailsRightly, eliminated_by, flat_basis_and_row, flat_rows}
+use Rattle.pm_client.specs.Sound.{FailsRightly, eliminated_by, flat_basis_and_row, flat_rows, has_way, products, facet_count}
 use Rattle.pm_clients_geom.proofs.FoundHulls.{echelon_few}
 use Rattle.pm_clients_geom.proofs.FoundThinned.{first_rows_of, inequalities_found, second_rows_of, thinned_facets_sound}
 use Rattle.pm_clients_geom.proofs.thinning.thin_inequalities_v.Goals as goal
@@ -36,10 +36,10 @@ pub returns-in_err-found-clause-failed : goal.returns-in_err-found-clause-failed
 returns-in_err-found-clause-failed c =
     let v = c.args.view.now in
     let takes : eliminated_by v.kind.name ≡ flat_rows ∷ flat_basis_and_row ∷ [] = subst (λ (k : Kind). eliminated_by k.name ≡ flat_rows ∷ flat_basis_and_row ∷ []) (sym c.requires.kind) refl in
-    let named : bytes_eq v.kind.name (codes "thin_inequalities_v") ≡ true = subst (λ (k : Kind). bytes_eq k.name (codes "thin_inequalities_v") ≡ true) (sym c.requires.kind) refl in
+    let named : has_way v.kind.name facet_count ≡ true = subst (λ (k : Kind). has_way k.name facet_count ≡ true) (sym c.requires.kind) refl in
     let w = err_from_is_err_and c.from_residual-in_err-found.result c.from_residual-in_err-found.ensures.1 in
     rw w.1 (subst (FailsRightly v) (sym w.2)
-    (fails_by_inequalities v takes named c.in_ok-halves.halves.first.items c.in_ok-halves.halves.second.items c.in_ok-rays.rays.second.items c.in_err-found.field-0.0
+    (fails_by_inequalities v takes (subst (λ (k : Kind). has_way k.name products ≡ true) (sym c.requires.kind) refl) named c.in_ok-halves.halves.first.items c.in_ok-halves.halves.second.items c.in_ok-rays.rays.second.items c.in_err-found.field-0.0
     (first_rows_of c.in_ok-halves.ensures.read) (second_rows_of c.in_ok-halves.ensures.read) (second_rows_of c.in_ok-rays.ensures.read)
     (rw (c.of.ensures.value, c.deref.ensures.value, c.deref-2.ensures.value, c.cols.ensures.value) at c.in_err-found.ensures.failed)))
 

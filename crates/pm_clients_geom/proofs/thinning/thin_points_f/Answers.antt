@@ -1,7 +1,7 @@
 use Rattle.pm_client.proofs.Failing.{fails_by_points}
 use Rattle.pm_client.proofs.FreshOrders.{fresh_kind}
 use Rattle.pm_client.proofs.ViewLaws.{has_listed, not_fan, source_named}
-use Rattle.pm_client.specs.Sound.{FailsRightly, eliminated_by, flat_basis_and_row, flat_rows}
+use Rattle.pm_client.specs.Sound.{FailsRightly, eliminated_by, flat_basis_and_row, flat_rows, has_way, products}
 use Rattle.pm_clients_geom.proofs.FoundHulls.{echelon_few, rays_sound}
 use Rattle.pm_clients_geom.proofs.FoundThinned.{first_rows_of, no_point_added, points_found, second_rows_of}
 use Rattle.pm_clients_geom.proofs.thinning.thin_points_f.Goals as goal
@@ -9,7 +9,7 @@ use Rattle.pm_props.specs.Properties.{rays_tag}
 use Rattle.pm_props.specs.declared.kind.Kind.{Kind}
 use Rattle.pm_props.specs.declared.property.PropId.TheVariants.{AffineHull, Facets, InputLineality, LinealitySpace, Points, Vertices}
 use Rattle.pm_props.specs.declared.property.PropId.{PropId}
-use Rattle.std.proofs.Common.{ap, refl, subst, sym}
+use Rattle.std.proofs.Common.{ap, refl, subst, sym, true}
 use Rattle.std.proofs.lemmas.Result.{err_from_is_err_and}
 use Rattle.std.specs.Prelude.{List, [], ◌∷◌, ◌≡◌}
 
@@ -37,7 +37,7 @@ returns-in_err-found-clause-failed c =
     let takes : eliminated_by v.kind.name ≡ flat_rows ∷ flat_basis_and_row ∷ [] = subst (λ (k : Kind). eliminated_by k.name ≡ flat_rows ∷ flat_basis_and_row ∷ []) (sym c.requires.kind) refl in
     let w = err_from_is_err_and c.from_residual-in_err-found.result c.from_residual-in_err-found.ensures.1 in
     rw w.1 (subst (FailsRightly v) (sym w.2)
-    (fails_by_points v takes c.in_ok-points.points.first.items c.in_ok-points.points.second.items c.in_ok-halves.halves.second.items c.in_err-found.field-0.0
+    (fails_by_points v takes (subst (λ (k : Kind). has_way k.name products ≡ true) (sym c.requires.kind) refl) c.in_ok-points.points.first.items c.in_ok-points.points.second.items c.in_ok-halves.halves.second.items c.in_err-found.field-0.0
     (first_rows_of c.in_ok-points.ensures.read) (second_rows_of c.in_ok-points.ensures.read) (second_rows_of c.in_ok-halves.ensures.read) (no_point_added v.of v.cols)
     (rw c.cols.ensures.value at c.in_err-found.ensures.failed)))
 

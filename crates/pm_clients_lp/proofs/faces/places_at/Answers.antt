@@ -1,5 +1,12 @@
 use Rattle.pm_clients_lp.proofs.Facts.{objective_cols, objective_some, objective_stays, program_view, rows_cols, rows_few}
+use Rattle.pm_client.specs.Sound.{IsWideFace, optimum}
+use Rattle.pm_clients_lp.proofs.Failing.{face_fails}
 use Rattle.pm_clients_lp.proofs.Found.{none_at}
+use Rattle.pm_clients_lp.specs.Clients.{FailsBy}
+use Rattle.pm_object.specs.Reading.{fact_of}
+use Rattle.pm_types.specs.Values.{extended}
+use Rattle.std.proofs.lemmas.Result.{err_from_is_err_and}
+use Rattle.std.specs.Prelude.{Some}
 use Rattle.pm_clients_lp.proofs.StandardKinds.{face_read, has_objective, has_rays}
 use Rattle.pm_clients_lp.proofs.faces.places_at.Goals as goal
 use Rattle.pm_clients_lp.specs.Reading.{ArePlacesAt}
@@ -34,6 +41,15 @@ places_of_value-requires-clause-cols c =
 
 pub places_of_value-requires-clause-few : goal.places_of_value-requires-clause-few
 places_of_value-requires-clause-few c = rw c.deref.ensures.value (rows_few c.args.view.now c.of.ensures.view Vertices refl c.in_ok-rays.rays.items c.in_ok-rays.ensures.read)
+
+pub returns-in_err-places-in-Finite-clause-fails : goal.returns-in_err-places-in-Finite-clause-fails
+returns-in_err-places-in-Finite-clause-fails c =
+    let v = c.args.view.now in
+    let w = err_from_is_err_and c.from_residual-in_err-places-in-Finite.result c.from_residual-in_err-places-in-Finite.ensures.1 in
+    rw w.1 (subst (FailsBy (IsWideFace v)) (sym w.2)
+    (face_fails v c.args.sense c.objective_of-objective.result.now c.objective_of-objective.ensures c.in_err-places-in-Finite.field-0.0 c.requires.kind c.in_ok-rays.rays.items c.in_ok-rays.ensures.read _
+    (subst (λ z. fact_of (optimum c.args.sense) v.facts ≡ Some (extended (extended_of z))) c.in-Finite.is c.requires.value)
+    (rw (c.deref.ensures.value) at c.in_err-places-in-Finite.ensures.wide)))
 
 pub returns : goal.returns
 returns c =
