@@ -7,7 +7,6 @@ pub mod ViewLaws
 pub mod Failing
 pub mod Drafts
 pub mod Puts
-pub mod Filtered
 pub mod PlainValues
 pub mod Machine
 pub mod FreshOrders

@@ -1,5 +1,4 @@
 pub mod Starts
 pub mod Sound
-pub mod Families
 pub mod Examples
 pub mod Ways

@@ -1,13 +1,12 @@
 // Families of standard clients. A client of a family counts its starts, and hands the work on to the family.
 
-ghost use Rattle.pm_client.specs.Families.{clients_of, kinds_of};
 ghost use Rattle.pm_client.specs.Sound.{FailsRightly, IsSound};
 ghost use Rattle.pm_client.specs.Starts.{next_count, started_once};
 ghost use Rattle.pm_client.specs.declared.ClientFail.{ClientFail};
 ghost use Rattle.pm_object.specs.Reading.{ViewSeen};
 ghost use Rattle.pm_props.specs.Kinds.{standard_kind};
 ghost use Rattle.pm_props.specs.declared.standard.StandardClient.{StandardClient};
-ghost use Rattle.std.specs.Prelude.{Bool, IfErr, IsTrue, OnOk, Some, [], length, slice_get, ℕ, ◌<◌, ◌≡◌};
+ghost use Rattle.std.specs.Prelude.{IfErr, OnOk, [], ◌≡◌};
 
 use crate::{Client, ClientFail};
 use pm_object::{Draft, View};
@@ -17,78 +16,53 @@ use std::marker::PhantomData;
 
 /// Some of the standard clients, and what each of them does.
 pub trait Family: Drop {
-    // Which standard clients it has.
-    ghost is_member: { StandardClient → Bool };
+    /// What a client of the family does: one value for each of them.
+    type Work: Copy;
+
+    // The standard client that does the work.
+    ghost client_of: { Self.Work → StandardClient };
 
     // What is so of the view where a client answers.
-    ghost Stays: { StandardClient → ViewSeen → Type 0 };
+    ghost Stays: { Self.Work → ViewSeen → Type 0 };
 
     // How a client fails.
-    ghost Fails: { StandardClient → ViewSeen → ClientFail → Type 0 };
+    ghost Fails: { Self.Work → ViewSeen → ClientFail → Type 0 };
 
-    ghost COUNT: { ℕ };
+    /// The standard client that does the work.
+    fn client(work: Self::Work) -> StandardClient
+        ensures { result ≡ client_of work };
 
-    /// How many clients it has.
-    const COUNT: u8;
-
-    /// The client of that number, in the order of the standard book.
-    fn client(number: u8) -> StandardClient
-        requires { number < COUNT }
-        ensures { slice_get (clients_of is_member) number ≡ Some result };
-
-    /// Puts the targets of one of its clients into an empty draft, or says why not.
+    /// Puts the targets of the client of this work into an empty draft, or says why not.
     fn answer(
-        client: StandardClient,
+        work: Self::Work,
         alloc: Global,
         view: &View,
         draft: &mut Draft,
     ) -> Result<(), ClientFail>
-        requires member { IsTrue (is_member client) }
-        requires kind { view.now.kind ≡ standard_kind client }
+        requires kind { view.now.kind ≡ standard_kind (client_of work) }
         requires empty { draft.old ≡ record { kind = view.now.kind; values = [] } }
         ensures draft { draft.new.kind ≡ draft.old.kind }
         ensures sound { OnOk result (IsSound view.now draft.new) }
         ensures failed { IfErr result (FailsRightly view.now) }
-        ensures stays { OnOk result (Stays client view.now) }
-        ensures fails { IfErr result (Fails client view.now) };
-
-    // The count is that of all its clients.
-    ghost counted: { COUNT ≡ length (clients_of is_member) };
+        ensures stays { OnOk result (Stays work view.now) }
+        ensures fails { IfErr result (Fails work view.now) };
 }
 
 /// A client of a family, which counts its starts.
-#[derive(Debug, Drop)]
+#[derive(Drop)]
 pub struct FamilyClient<F: Family> {
-    client: StandardClient,
+    work: F::Work,
     starts: u64,
     family: PhantomData<F>,
-    ghost member: { IsTrue (F.is_member client) },
-}
-
-/// Clients that are numbered from 0.
-pub trait Numbered {
-    ghost COUNT: { ℕ };
-
-    /// How many such clients there are.
-    const COUNT: u8;
-}
-
-impl<F: Family> Numbered for FamilyClient<F> {
-    ghost COUNT = { F.COUNT };
-
-    const COUNT: u8 = F::COUNT;
 }
 
 impl<F: Family> FamilyClient<F> {
-    /// The client of that number, below `COUNT`, in the order of the standard book. It was never started.
-    pub fn new(number: u8) -> FamilyClient<F>
-        requires { number < F.COUNT }
-        ensures kind { slice_get (kinds_of F.is_member) number
-            ≡ Some (⟦<FamilyClient<F> as Client>⟧.tally result).0 }
-        ensures starts { (⟦<FamilyClient<F> as Client>⟧.tally result).1 ≡ 0 }
+    /// The client that does the work. It was never started.
+    pub fn new(work: F::Work) -> FamilyClient<F>
+        ensures { ⟦<FamilyClient<F> as Client>⟧.tally result ≡ (standard_kind (F.client_of work), 0) }
     {
         FamilyClient {
-            client: F::client(number),
+            work,
             starts: 0,
             family: PhantomData,
         }
@@ -97,7 +71,7 @@ impl<F: Family> FamilyClient<F> {
     // Counts one start more.
     fn count_start(&mut self)
         ensures count { self.new.starts ≡ next_count self.old.starts }
-        ensures client { self.new.client ≡ self.old.client }
+        ensures work { self.new.work ≡ self.old.work }
     {
         self.starts = self.starts.saturating_add(1);
     }
@@ -106,10 +80,10 @@ impl<F: Family> FamilyClient<F> {
 impl<F: Family> Client for FamilyClient<F> {
     ghost use Rattle.pm_props.specs.Kinds.{standard_kind};
 
-    ghost tally = { λ c. (standard_kind c.client, c.starts) };
+    ghost tally = { λ c. (standard_kind (F.client_of c.work), c.starts) };
 
     fn kind(&self) -> Kind {
-        self.client.kind()
+        F::client(self.work).kind()
     }
 
     fn starts(&self) -> u64 {
@@ -117,17 +91,17 @@ impl<F: Family> Client for FamilyClient<F> {
     }
 
     fn run(&mut self, alloc: Global, view: &View, draft: &mut Draft) -> Result<(), ClientFail>
-        requires kind { view.now.kind ≡ standard_kind self.old.client }
+        requires kind { view.now.kind ≡ standard_kind (F.client_of self.old.work) }
         requires empty { draft.old ≡ record { kind = view.now.kind; values = [] } }
-        ensures started { (standard_kind self.new.client, self.new.starts)
-            ≡ started_once (standard_kind self.old.client, self.old.starts) }
+        ensures started { (standard_kind (F.client_of self.new.work), self.new.starts)
+            ≡ started_once (standard_kind (F.client_of self.old.work), self.old.starts) }
         ensures draft { draft.new.kind ≡ draft.old.kind }
         ensures sound { OnOk result (IsSound view.now draft.new) }
         ensures failed { IfErr result (FailsRightly view.now) }
-        ensures stays { OnOk result (F.Stays self.old.client view.now) }
-        ensures fails { IfErr result (F.Fails self.old.client view.now) }
+        ensures stays { OnOk result (F.Stays self.old.work view.now) }
+        ensures fails { IfErr result (F.Fails self.old.work view.now) }
     {
         self.count_start();
-        F::answer(self.client, alloc, view, draft)
+        F::answer(self.work, alloc, view, draft)
     }
 }

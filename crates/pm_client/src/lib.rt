@@ -21,7 +21,7 @@ mod family;
 mod values;
 
 pub use boxes::{place_of, run_first};
-pub use family::{Family, FamilyClient, Numbered};
+pub use family::{Family, FamilyClient};
 pub use values::{
     counts_of, edges_of, lattice_of, matrix_of, number_of, primitive_rows, put_value, sets_of,
     whole_of,

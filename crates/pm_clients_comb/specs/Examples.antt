@@ -1,14 +1,7 @@
--- The clients of the family, and which are none; sizes of three sets of places below 4.
-use Rattle.pm_client.specs.Families.{clients_of}
-use Rattle.pm_clients_comb.specs.Families.{finds_sets}
-use Rattle.pm_props.specs.declared.standard.StandardClient.TheVariants as client
+-- Sizes of three sets of places below 4.
 use Rattle.pm_relations.specs.Sizes.{has_place, holding, place_sizes, set_sizes}
 use Rattle.std.specs.Prelude.{ℕ, List, [], false, true, ◌∷◌, ◌≡◌}
 use lib.IntN.{pos}
-
-pub record FamilyIsRead : Type 0 where
-  pub clients : clients_of finds_sets ≡ client.Incidence ∷ client.VertexSizes ∷ client.FacetSizes ∷ client.Simple ∷ client.Simplicial ∷ []
-  pub no_sets : finds_sets client.FullDim ≡ false
 
 abbrev pub three_sets : List (List ℕ)
 three_sets = (0 ∷ 2 ∷ 3 ∷ []) ∷ [] ∷ (2 ∷ []) ∷ []

@@ -1,4 +1,4 @@
 pub mod Incidence
-pub mod Families
+pub mod Works
 pub mod Examples
 pub mod Sizes

@@ -5,7 +5,7 @@ ghost use Rattle.pm_client.specs.declared.ClientFail.TheVariants.{Memory};
 ghost use Rattle.pm_clients_comb.specs.Incidence.{StaysInRange};
 ghost use Rattle.pm_props.specs.Kinds.{standard_kind};
 ghost use Rattle.pm_props.specs.declared.standard.StandardClient.TheVariants as client;
-ghost use Rattle.std.specs.Prelude.{IfErr, OnOk, [], ◌≡◌};
+ghost use Rattle.std.specs.Prelude.{IfErr, OnOk, [], ◌≡◌, map, ◌∷◌};
 
 use crate::sizes::{all_are, place_sizes, set_sizes};
 use pm_client::{
@@ -17,58 +17,77 @@ use pm_object::{Draft, View};
 use pm_types::{Counts, ObjectType, PropId, StandardClient, Value};
 use std::alloc::Global;
 
+/// The works of the clients that find sets, their sizes, and what these show.
+#[derive(Clone, Copy, Debug, PartialEq, Eq)]
+pub enum SetsWork {
+    Incidence,
+    VertexSizes,
+    FacetSizes,
+    Simple,
+    Simplicial,
+}
+
+impl SetsWork {
+    ghost use Rattle.pm_clients_comb.specs.Works.{sets_client};
+
+    /// All of them, in the order of the standard book.
+    pub fn every() -> [SetsWork; 5]
+        ensures { map sets_client result ≡ client.Incidence ∷ client.VertexSizes ∷ client.FacetSizes ∷ client.Simple ∷ client.Simplicial ∷ [] }
+    {
+        [
+            Self::Incidence,
+            Self::VertexSizes,
+            Self::FacetSizes,
+            Self::Simple,
+            Self::Simplicial,
+        ]
+    }
+}
+
 /// The standard clients that find sets, their sizes, and what these show.
 #[derive(Debug, Drop)]
 pub struct SetsFamily;
 
-/// A client that finds sets or sizes of sets: number 0 is `incidence`, 1 `vertex_sizes`, 2 `facet_sizes`, 3 `simple`,
-/// 4 `simplicial`. The first fails exactly where a product of the primitive whole rows that it reads leaves the range,
-/// the others for want of memory alone.
+/// A client that finds sets or sizes of sets. `incidence` fails exactly where a product of the primitive whole rows that it
+/// reads leaves the range, the others for want of memory alone.
 pub type SetsClient = FamilyClient<SetsFamily>;
 
 impl Family for SetsFamily {
-    ghost use Rattle.pm_client.specs.Families.{clients_of};
     ghost use Rattle.pm_client.specs.Sound.{FailsRightly};
-    ghost use Rattle.pm_clients_comb.specs.Families.{SetsStay, finds_sets};
-    ghost use Rattle.std.specs.Prelude.{length, refl};
+    ghost use Rattle.pm_clients_comb.specs.Works.{SetsStay, sets_client};
 
-    ghost is_member = { finds_sets };
+    type Work = SetsWork;
+
+    ghost client_of = { sets_client };
 
     ghost Stays = { SetsStay };
 
     ghost Fails = { λ _ v e. FailsRightly v e };
 
-    ghost COUNT = { length (clients_of finds_sets) };
-
-    const COUNT: u8 = 5;
-
-    fn client(number: u8) -> StandardClient {
-        [
-            StandardClient::Incidence,
-            StandardClient::VertexSizes,
-            StandardClient::FacetSizes,
-            StandardClient::Simple,
-            StandardClient::Simplicial,
-        ][usize::from(number)]
+    fn client(work: SetsWork) -> StandardClient {
+        match work {
+            SetsWork::Incidence => StandardClient::Incidence,
+            SetsWork::VertexSizes => StandardClient::VertexSizes,
+            SetsWork::FacetSizes => StandardClient::FacetSizes,
+            SetsWork::Simple => StandardClient::Simple,
+            SetsWork::Simplicial => StandardClient::Simplicial,
+        }
     }
 
     fn answer(
-        client: StandardClient,
+        work: SetsWork,
         alloc: Global,
         view: &View,
         draft: &mut Draft,
     ) -> Result<(), ClientFail> {
-        match client {
-            StandardClient::Incidence => vertices_in_facets(alloc, view, draft),
-            StandardClient::VertexSizes => vertex_sizes(alloc, view, draft),
-            StandardClient::FacetSizes => facet_sizes(alloc, view, draft),
-            StandardClient::Simple => simple(view, draft),
-            StandardClient::Simplicial => simplicial(view, draft),
-            _ => unreachable!(),
+        match work {
+            SetsWork::Incidence => vertices_in_facets(alloc, view, draft),
+            SetsWork::VertexSizes => vertex_sizes(alloc, view, draft),
+            SetsWork::FacetSizes => facet_sizes(alloc, view, draft),
+            SetsWork::Simple => simple(view, draft),
+            SetsWork::Simplicial => simplicial(view, draft),
         }
     }
-
-    ghost counted = { refl };
 }
 
 // VERTICES_IN_FACETS: which rows of VERTICES have product 0 with each row of FACETS.

@@ -1,17 +1,12 @@
 //! Clients that compare, count and intersect sets of rays and facets.
 #![tactic(auto)]
 
-ghost use Rattle.pm_clients_comb.specs.Examples.{FamilyIsRead, SizesAreRead};
+ghost use Rattle.pm_clients_comb.specs.Examples.{SizesAreRead};
 
 mod client;
 mod sizes;
 
-pub use client::SetsClient;
-
-/// Which clients the family has.
-pub fn example_family()
-    ensures { FamilyIsRead }
-{}
+pub use client::{SetsClient, SetsWork};
 
 /// Sizes of three sets.
 pub fn example_sizes()

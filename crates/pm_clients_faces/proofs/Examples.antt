@@ -1,13 +1,10 @@
 -- The examples hold.
-use Rattle.pm_clients_faces.specs.Examples.{FamilyIsRead, FewFacesAreRead, NumbersAreRead}
+use Rattle.pm_clients_faces.specs.Examples.{FewFacesAreRead, NumbersAreRead}
 use Rattle.pm_clients_faces.specs.Faces.{HasFewFaces}
 use Rattle.pm_clients_faces.specs.Examples.{no_sets}
 use Rattle.pm_lattice.proofs.Points.{no_sets_are_read}
 use Rattle.std.proofs.Common.{arith, refl}
 use Rattle.std.specs.Prelude.{[], ◌∷◌}
-
-pub family_is_read : FamilyIsRead
-family_is_read = record { clients = refl; no_faces = refl }
 
 pub numbers_are_read : NumbersAreRead
 numbers_are_read = record { few = refl; many = refl; counts = refl; pairs = refl; no_counts = refl; no_pairs = refl }

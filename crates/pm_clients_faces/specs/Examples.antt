@@ -1,9 +1,9 @@
--- The clients of the family, and which are none; numbers of faces of a segment, and of lists of too many ranks; a view with few faces, and one without sets.
-use Rattle.pm_client.specs.Families.{clients_of}
+-- Numbers of faces of a segment, and of lists of too many ranks; a view with few faces, and one without sets.
 use Rattle.pm_client.specs.declared.ClientFail.TheVariants.{Failed, Memory}
 use Rattle.pm_clients_faces.specs.Faces.{FailsForMany, HasFewFaces}
-use Rattle.pm_clients_faces.specs.Families.{FacesFail, FacesStay, finds_faces}
+use Rattle.pm_clients_faces.specs.Works.{FacesFail, FacesStay}
 use Rattle.pm_clients_faces.specs.Numbers.{f2_table, f_numbers, has_few_ranks}
+use Rattle.pm_clients_faces.specs.declared.client.FacesWork.TheVariants as work
 use Rattle.pm_geom.specs.declared.evidence.Evidence.TheVariants.{E5Faces, E5Rows}
 use Rattle.pm_object.specs.Reading.{ViewSeen}
 use Rattle.pm_props.specs.Kinds.{standard_kind}
@@ -14,10 +14,6 @@ use Rattle.pm_types.specs.Values.{Fact, sets}
 use Rattle.pm_types.specs.Views.{over_one}
 use Rattle.std.specs.Prelude.{ℕ, List, None, [], false, replicate, true, ◌∷◌, ◌≡◌}
 use lib.IntN.{pos}
-
-pub record FamilyIsRead : Type 0 where
-  pub clients : clients_of finds_faces ≡ client.Faces ∷ client.FVector ∷ client.F2Vector ∷ client.HVector ∷ []
-  pub no_faces : finds_faces client.VertexSizes ≡ false
 
 -- the faces of a segment: none of its ends, each, and both
 abbrev pub segment : List (List (List ℕ))
@@ -50,13 +46,13 @@ nothing_read = view_with []
 pub record FewFacesAreRead : Type 0 where
   pub few : HasFewFaces no_sets
   pub not_read : ¬ (HasFewFaces nothing_read)
-  pub answers : FacesStay client.Faces no_sets
-  pub no_answer : ¬ (FacesStay client.Faces nothing_read)
-  pub others_answer : FacesStay client.FVector nothing_read
+  pub answers : FacesStay work.Faces no_sets
+  pub no_answer : ¬ (FacesStay work.Faces nothing_read)
+  pub others_answer : FacesStay work.FVector nothing_read
   -- memory may be wanting to each; no evidence is that of too many faces here, nor of another kind
   pub memory : FailsForMany no_sets Memory
   pub not_many : ¬ (FailsForMany nothing_read (Failed (E5Faces [])))
   pub not_rows : ¬ (FailsForMany no_sets (Failed (E5Rows [])))
-  pub faces_fail : FacesFail client.Faces no_sets Memory
-  pub others_fail : FacesFail client.HVector no_sets Memory
-  pub others_do_not : ¬ (FacesFail client.HVector no_sets (Failed (E5Faces [])))
+  pub faces_fail : FacesFail work.Faces no_sets Memory
+  pub others_fail : FacesFail work.HVector no_sets Memory
+  pub others_do_not : ¬ (FacesFail work.HVector no_sets (Failed (E5Faces [])))

@@ -1,5 +1,5 @@
 pub mod Faces
-pub mod Families
+pub mod Works
 pub mod Numbers
 pub mod Laws
 pub mod Examples

@@ -5,7 +5,7 @@ ghost use Rattle.pm_client.specs.declared.ClientFail.TheVariants.{Memory};
 ghost use Rattle.pm_clients_faces.specs.Faces.{FailsForMany, HasFewFaces};
 ghost use Rattle.pm_props.specs.Kinds.{standard_kind};
 ghost use Rattle.pm_props.specs.declared.standard.StandardClient.TheVariants as client;
-ghost use Rattle.std.specs.Prelude.{IfErr, OnOk, [], ◌≡◌};
+ghost use Rattle.std.specs.Prelude.{IfErr, OnOk, [], ◌≡◌, map, ◌∷◌};
 
 use crate::numbers::{f_numbers, f2_table, h_numbers};
 use pm_client::{
@@ -16,56 +16,68 @@ use pm_object::{Draft, View};
 use pm_types::{Counts, ObjectType, PropId, StandardClient, Value};
 use std::alloc::Global;
 
+/// The works of the clients that find faces, and count them.
+#[derive(Clone, Copy, Debug, PartialEq, Eq)]
+pub enum FacesWork {
+    Faces,
+    FVector,
+    F2Vector,
+    HVector,
+}
+
+impl FacesWork {
+    ghost use Rattle.pm_clients_faces.specs.Works.{faces_client};
+
+    /// All of them, in the order of the standard book.
+    pub fn every() -> [FacesWork; 4]
+        ensures { map faces_client result ≡ client.Faces ∷ client.FVector ∷ client.F2Vector ∷ client.HVector ∷ [] }
+    {
+        [Self::Faces, Self::FVector, Self::F2Vector, Self::HVector]
+    }
+}
+
 /// The standard clients that find faces, and count them.
 #[derive(Debug, Drop)]
 pub struct FacesFamily;
 
-/// A client that finds faces or numbers of faces: number 0 is `faces`, 1 `f_vector`, 2 `f2_vector`, 3 `h_vector`.
-/// But for want of memory only the first fails, and it does so exactly where there are more faces than a lattice may have.
-/// A lattice of more than 34 ranks is that of no thing, since a thing has at most 33 columns; then numbers 1 and 2 put the
-/// empty list and the empty matrix.
+/// A client that finds faces or numbers of faces. But for want of memory only `faces` fails, and it does so exactly where
+/// there are more faces than a lattice may have. A lattice of more than 34 ranks is that of no thing, since a thing has at
+/// most 33 columns; then `f_vector` and `f2_vector` put the empty list and the empty matrix.
 pub type FaceClient = FamilyClient<FacesFamily>;
 
 impl Family for FacesFamily {
-    ghost use Rattle.pm_client.specs.Families.{clients_of};
-    ghost use Rattle.pm_clients_faces.specs.Families.{FacesFail, FacesStay, finds_faces};
-    ghost use Rattle.std.specs.Prelude.{length, refl};
+    ghost use Rattle.pm_clients_faces.specs.Works.{FacesFail, FacesStay, faces_client};
 
-    ghost is_member = { finds_faces };
+    type Work = FacesWork;
+
+    ghost client_of = { faces_client };
 
     ghost Stays = { FacesStay };
 
     ghost Fails = { FacesFail };
 
-    ghost COUNT = { length (clients_of finds_faces) };
-
-    const COUNT: u8 = 4;
-
-    fn client(number: u8) -> StandardClient {
-        [
-            StandardClient::Faces,
-            StandardClient::FVector,
-            StandardClient::F2Vector,
-            StandardClient::HVector,
-        ][usize::from(number)]
+    fn client(work: FacesWork) -> StandardClient {
+        match work {
+            FacesWork::Faces => StandardClient::Faces,
+            FacesWork::FVector => StandardClient::FVector,
+            FacesWork::F2Vector => StandardClient::F2Vector,
+            FacesWork::HVector => StandardClient::HVector,
+        }
     }
 
     fn answer(
-        client: StandardClient,
+        work: FacesWork,
         alloc: Global,
         view: &View,
         draft: &mut Draft,
     ) -> Result<(), ClientFail> {
-        match client {
-            StandardClient::Faces => hasse_diagram(alloc, view, draft),
-            StandardClient::FVector => f_vector(alloc, view, draft),
-            StandardClient::F2Vector => f2_vector(alloc, view, draft),
-            StandardClient::HVector => h_vector(alloc, view, draft),
-            _ => unreachable!(),
+        match work {
+            FacesWork::Faces => hasse_diagram(alloc, view, draft),
+            FacesWork::FVector => f_vector(alloc, view, draft),
+            FacesWork::F2Vector => f2_vector(alloc, view, draft),
+            FacesWork::HVector => h_vector(alloc, view, draft),
         }
     }
-
-    ghost counted = { refl };
 }
 
 // HASSE_DIAGRAM: the intersections of the sets of VERTICES_IN_FACETS, by rank.

@@ -1,13 +1,13 @@
 //! Clients that find the faces of a polytope or cone, and count them.
 #![tactic(auto)]
 
-ghost use Rattle.pm_clients_faces.specs.Examples.{FamilyIsRead, FewFacesAreRead, NumbersAreRead};
+ghost use Rattle.pm_clients_faces.specs.Examples.{FewFacesAreRead, NumbersAreRead};
 ghost use Rattle.pm_clients_faces.specs.Laws.{F2VectorIsFound, FVectorIsFound, HVectorIsFound, HasseDiagramIsFound, RanksAreFew};
 
 mod client;
 mod numbers;
 
-pub use client::FaceClient;
+pub use client::{FaceClient, FacesWork};
 
 /// The intersections of the sets of right VERTICES_IN_FACETS, by rank, are right for HASSE_DIAGRAM.
 pub fn law_hasse_diagram_is_found()
@@ -32,11 +32,6 @@ pub fn law_f2_vector_is_found()
 /// The h-vector of a right F_VECTOR is right for H_VECTOR.
 pub fn law_h_vector_is_found()
     ensures { HVectorIsFound }
-{}
-
-/// Which clients the family has.
-pub fn example_family()
-    ensures { FamilyIsRead }
 {}
 
 /// The numbers of faces of a segment, and of a list of 35 ranks.

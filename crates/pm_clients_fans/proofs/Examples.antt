@@ -1,15 +1,12 @@
--- The examples of the family and of numbers hold.
+-- The examples of numbers hold.
 use Rattle.pm_algebra.proofs.Lists.{Among, Contains_among, among_Contains, here, there}
-use Rattle.pm_clients_fans.specs.Examples.{FamilyIsRead, NumbersAreRead}
+use Rattle.pm_clients_fans.specs.Examples.{NumbersAreRead}
 use Rattle.std.proofs.Common.{arith, refl}
 use Rattle.std.proofs.lemmas.Int.{ints}
 use Rattle.std.proofs.lemmas.List.Elements.{All-cons, All-nil}
 use Rattle.std.specs.Prelude.{List, [], ◌∷◌, ◌≡◌}
 use lib.IntN.{pos, ℤ}
 use lib.Signed.{◌≤ℤ◌}
-
-pub family_is_read : FamilyIsRead
-family_is_read = record { clients = refl; no_fan = refl }
 
 abbrev three : List ℤ
 three = pos 1 ∷ pos 3 ∷ pos 2 ∷ []

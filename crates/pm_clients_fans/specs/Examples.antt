@@ -1,15 +1,8 @@
--- The clients of the family, and which are none; what numbers and sets show.
-use Rattle.pm_client.specs.Families.{clients_of}
-use Rattle.pm_clients_fans.specs.Families.{finds_fan}
+-- What numbers and sets show.
 use Rattle.pm_clients_fans.specs.Numbers.{IsMost}
-use Rattle.pm_props.specs.declared.standard.StandardClient.TheVariants as client
 use Rattle.pm_relations.specs.Fans.{AreOne, AreSimplices}
 use Rattle.std.specs.Prelude.{[], false, ◌∷◌, ◌≡◌}
 use lib.IntN.{pos, negsuc}
-
-pub record FamilyIsRead : Type 0 where
-  pub clients : clients_of finds_fan ≡ client.FanDims ∷ client.FanDim ∷ client.FanPure ∷ client.FanSimplicial ∷ client.FanSize ∷ []
-  pub no_fan : finds_fan client.Simplicial ≡ false
 
 pub record NumbersAreRead : Type 0 where
   -- the greatest, which is one of them

@@ -1,4 +1,4 @@
-pub mod Families
+pub mod Works
 pub mod Cones
 pub mod Numbers
 pub mod Examples

@@ -5,7 +5,7 @@ ghost use Rattle.pm_client.specs.declared.ClientFail.TheVariants.{Memory};
 ghost use Rattle.pm_clients_fans.specs.Cones.{ConesStay};
 ghost use Rattle.pm_props.specs.Kinds.{standard_kind};
 ghost use Rattle.pm_props.specs.declared.standard.StandardClient.TheVariants as client;
-ghost use Rattle.std.specs.Prelude.{IfErr, OnOk, [], ◌≡◌};
+ghost use Rattle.std.specs.Prelude.{IfErr, OnOk, [], ◌≡◌, map, ◌∷◌};
 
 use crate::dims::{are_one, are_simplices, dims_of, greatest};
 use pm_client::{
@@ -16,57 +16,76 @@ use pm_object::{Draft, View};
 use pm_types::{Counts, ObjectType, PropId, StandardClient, Value};
 use std::alloc::Global;
 
+/// The works of the clients of fans.
+#[derive(Clone, Copy, Debug, PartialEq, Eq)]
+pub enum FanWork {
+    FanDims,
+    FanDim,
+    FanPure,
+    FanSimplicial,
+    FanSize,
+}
+
+impl FanWork {
+    ghost use Rattle.pm_clients_fans.specs.Works.{fan_client};
+
+    /// All of them, in the order of the standard book.
+    pub fn every() -> [FanWork; 5]
+        ensures { map fan_client result ≡ client.FanDims ∷ client.FanDim ∷ client.FanPure ∷ client.FanSimplicial ∷ client.FanSize ∷ [] }
+    {
+        [
+            Self::FanDims,
+            Self::FanDim,
+            Self::FanPure,
+            Self::FanSimplicial,
+            Self::FanSize,
+        ]
+    }
+}
+
 /// The standard clients of fans.
 #[derive(Debug, Drop)]
 pub struct FanFamily;
 
-/// A client of fans: number 0 is `fan_dims`, 1 `fan_dim`, 2 `fan_pure`, 3 `fan_simplicial`, 4 `fan_size`. The first fails
-/// exactly where a step of the elimination of the rows of a maximal cone leaves the range, the others for want of memory
-/// alone.
+/// A client of fans. `fan_dims` fails exactly where a step of the elimination of the rows of a maximal cone leaves the
+/// range, the others for want of memory alone.
 pub type FanClient = FamilyClient<FanFamily>;
 
 impl Family for FanFamily {
-    ghost use Rattle.pm_client.specs.Families.{clients_of};
-    ghost use Rattle.pm_clients_fans.specs.Families.{FanFails, FanStays, finds_fan};
-    ghost use Rattle.std.specs.Prelude.{length, refl};
+    ghost use Rattle.pm_clients_fans.specs.Works.{FanFails, FanStays, fan_client};
 
-    ghost is_member = { finds_fan };
+    type Work = FanWork;
+
+    ghost client_of = { fan_client };
 
     ghost Stays = { FanStays };
 
     ghost Fails = { FanFails };
 
-    ghost COUNT = { length (clients_of finds_fan) };
-
-    const COUNT: u8 = 5;
-
-    fn client(number: u8) -> StandardClient {
-        [
-            StandardClient::FanDims,
-            StandardClient::FanDim,
-            StandardClient::FanPure,
-            StandardClient::FanSimplicial,
-            StandardClient::FanSize,
-        ][usize::from(number)]
+    fn client(work: FanWork) -> StandardClient {
+        match work {
+            FanWork::FanDims => StandardClient::FanDims,
+            FanWork::FanDim => StandardClient::FanDim,
+            FanWork::FanPure => StandardClient::FanPure,
+            FanWork::FanSimplicial => StandardClient::FanSimplicial,
+            FanWork::FanSize => StandardClient::FanSize,
+        }
     }
 
     fn answer(
-        client: StandardClient,
+        work: FanWork,
         alloc: Global,
         view: &View,
         draft: &mut Draft,
     ) -> Result<(), ClientFail> {
-        match client {
-            StandardClient::FanDims => fan_dims(alloc, view, draft),
-            StandardClient::FanDim => fan_dim(view, draft),
-            StandardClient::FanPure => fan_pure(view, draft),
-            StandardClient::FanSimplicial => fan_simplicial(view, draft),
-            StandardClient::FanSize => fan_size(view, draft),
-            _ => unreachable!(),
+        match work {
+            FanWork::FanDims => fan_dims(alloc, view, draft),
+            FanWork::FanDim => fan_dim(view, draft),
+            FanWork::FanPure => fan_pure(view, draft),
+            FanWork::FanSimplicial => fan_simplicial(view, draft),
+            FanWork::FanSize => fan_size(view, draft),
         }
     }
-
-    ghost counted = { refl };
 }
 
 // MAXIMAL_CONES_DIMS: the rank of LINEALITY_SPACE with the rays of each of MAXIMAL_CONES.

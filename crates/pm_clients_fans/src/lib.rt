@@ -1,17 +1,12 @@
 //! Clients of fans: the dimensions of maximal cones, and what these show.
 #![tactic(auto)]
 
-ghost use Rattle.pm_clients_fans.specs.Examples.{FamilyIsRead, NumbersAreRead};
+ghost use Rattle.pm_clients_fans.specs.Examples.{NumbersAreRead};
 
 mod client;
 mod dims;
 
-pub use client::FanClient;
-
-/// Which clients the family has.
-pub fn example_family()
-    ensures { FamilyIsRead }
-{}
+pub use client::{FanClient, FanWork};
 
 /// What some numbers and sets show.
 pub fn example_numbers()

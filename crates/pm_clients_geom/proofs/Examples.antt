@@ -1,9 +1,9 @@
--- The examples of families and matrices hold.
+-- The examples of matrices hold.
 use Rattle.pm_algebra.proofs.Lists.{All_among, Among, among_All, here, there}
 use Rattle.pm_algebra.specs.Numbers.{InRange, IsReduced, Ratio}
 use Rattle.pm_algebra.specs.Rows.{IsZero, Row, entry, ratio_at}
 use Rattle.pm_client.specs.Examples.{no_rows, single}
-use Rattle.pm_clients_geom.specs.Examples.{FamiliesAreRead, HullsAreRead, MatricesAreRead, RaysAreRead, ThinnedAreRead, drafted, far_second, one_half, two_one}
+use Rattle.pm_clients_geom.specs.Examples.{HullsAreRead, MatricesAreRead, RaysAreRead, ThinnedAreRead, drafted, far_second, one_half, two_one}
 use Rattle.pm_clients_geom.specs.Hulls.{AreFewRows, ArePossible}
 use Rattle.pm_clients_geom.specs.Lists.{ReadsParts}
 use Rattle.pm_clients_geom.specs.Matrices.{AreNotZero, AreRays, MayBeLines, MayBeRays}
@@ -27,9 +27,6 @@ use Rattle.std.specs.Option.{is_some}
 use Rattle.std.specs.Prelude.{Bool, List, [], length, map, ℕ, ◌<◌, ◌∷◌, ◌≡◌}
 use lib.IntN.{negsuc, pos}
 use lib.Signed.{◌≤ℤ◌}
-
-pub families_are_read : FamiliesAreRead
-families_are_read = record { hulls = refl; thinned = refl; not_thinned = refl; sizes = refl; no_hull = refl; rows = refl; dimensions = refl; truths = refl; no_truth = refl; no_dimension = refl }
 
 abbrev is_polytope : ObjectType → Bool
 is_polytope Polytope = true

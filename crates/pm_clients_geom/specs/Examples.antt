@@ -1,4 +1,4 @@
--- The definitions of families and of matrices that are put, read on small cases: what holds of them, and what does not.
+-- The definitions of matrices that are put, read on small cases: what holds of them, and what does not.
 use Rattle.pm_algebra.specs.Numbers.{Ratio}
 use Rattle.pm_algebra.specs.Rows.{Row}
 use Rattle.pm_client.specs.Examples.{no_rows, single}
@@ -11,27 +11,12 @@ use Rattle.pm_object.specs.Reading.{DraftSeen, Put}
 use Rattle.pm_props.specs.Kinds.{standard_kind}
 use Rattle.pm_props.specs.declared.property.PropId.TheVariants.{AffineHull, Equations, Facets, Inequalities, InputLineality, LinealitySpace, Points, Vertices}
 use Rattle.pm_types.specs.Values.{matrix}
-use Rattle.pm_client.specs.Families.{clients_of}
-use Rattle.pm_clients_geom.specs.Families.{finds_dimension, finds_hull, finds_rows, finds_size, finds_thinned, finds_truth}
 use Rattle.pm_clients_geom.specs.Matrices.{AreNotZero, AreRays, MayBeLines, MayBeRays, as_put}
 use Rattle.pm_props.specs.declared.object_type.ObjectType.TheVariants.{Cone, Polytope}
 use Rattle.pm_types.specs.Views.{over_one, ratios}
 use Rattle.pm_props.specs.declared.standard.StandardClient.TheVariants as client
 use Rattle.std.specs.Prelude.{List, [], false, ◌∷◌, ◌≡◌}
 use lib.IntN.{negsuc, pos}
-
-pub record FamiliesAreRead : Type 0 where
-  -- in the order of the standard book
-  pub rows : clients_of finds_rows ≡ client.PointsFromVertices ∷ client.InequalitiesFromFacets ∷ client.LinealityFromFacets ∷ client.HullFromVertices ∷ []
-  pub dimensions : clients_of finds_dimension ≡ client.ConeDimV ∷ client.ConeDimSpan ∷ client.ConeDimPoints ∷ client.LinealityDim ∷ client.CombinatorialDim ∷ []
-  pub truths : clients_of finds_truth ≡ client.Feasible ∷ client.Bounded ∷ client.Pointed ∷ client.FullDim ∷ client.Centered ∷ []
-  pub sizes : clients_of finds_size ≡ client.NVertices ∷ client.NVerticesSets ∷ client.NFacets ∷ client.NFacetsSets ∷ client.FarFace ∷ []
-  pub hulls : clients_of finds_hull ≡ client.DdVertices ∷ client.DdFacets ∷ client.DdFacetsV ∷ client.DdVerticesF ∷ []
-  pub thinned : clients_of finds_thinned ≡ client.ThinPointsF ∷ client.ThinInequalitiesV ∷ client.VerticesFromSets ∷ client.FacetsFromSets ∷ []
-  pub no_hull : finds_hull client.HullFromVertices ≡ false
-  pub not_thinned : finds_thinned client.ThinPointsLp ≡ false
-  pub no_truth : finds_truth client.ConeDimV ≡ false
-  pub no_dimension : finds_dimension client.Incidence ≡ false
 
 -- the row (1, 2) of fractions
 abbrev pub one_two : List Ratio

@@ -1,4 +1,4 @@
-pub mod Families
+pub mod Works
 pub mod Lists
 pub mod Ranks
 pub mod Stays

@@ -10,7 +10,7 @@ ghost use Rattle.pm_props.specs.Kinds.{standard_kind};
 ghost use Rattle.pm_props.specs.Sets.{has};
 ghost use Rattle.pm_props.specs.declared.property.PropId.TheVariants as property;
 ghost use Rattle.pm_props.specs.declared.standard.StandardClient.TheVariants as client;
-ghost use Rattle.std.specs.Prelude.{Contains, IfErr, IfOk, IsTrue, OnOk, [], ◌≡◌, ◌≤◌};
+ghost use Rattle.std.specs.Prelude.{Contains, IfErr, IfOk, IsTrue, OnOk, [], ◌≡◌, ◌≤◌, map, ◌∷◌};
 
 use crate::lists::row_list;
 use pm_client::{ClientFail, Family, FamilyClient, matrix_of, put_value, whole_of};
@@ -19,57 +19,77 @@ use pm_object::{Draft, View};
 use pm_types::{PropId, StandardClient, Value};
 use std::alloc::Global;
 
+/// The works of the clients that find a dimension.
+#[derive(Clone, Copy, Debug, PartialEq, Eq)]
+pub enum DimWork {
+    ConeDimV,
+    ConeDimSpan,
+    ConeDimPoints,
+    LinealityDim,
+    CombinatorialDim,
+}
+
+impl DimWork {
+    ghost use Rattle.pm_clients_geom.specs.Works.{dimension_client};
+
+    /// All of them, in the order of the standard book.
+    pub fn every() -> [DimWork; 5]
+        ensures { map dimension_client result ≡ client.ConeDimV ∷ client.ConeDimSpan ∷ client.ConeDimPoints ∷ client.LinealityDim ∷ client.CombinatorialDim ∷ [] }
+    {
+        [
+            Self::ConeDimV,
+            Self::ConeDimSpan,
+            Self::ConeDimPoints,
+            Self::LinealityDim,
+            Self::CombinatorialDim,
+        ]
+    }
+}
+
 /// The standard clients that find a dimension.
 #[derive(Debug, Drop)]
 pub struct DimFamily;
 
-/// A client that finds a dimension: number 0 is `cone_dim_v`, 1 `cone_dim_span`, 2 `cone_dim_points`, 3 `lineality_dim`, 4 `combinatorial_dim`.
-/// `cone_dim_v` and `cone_dim_points` fail exactly where the rank of their row list is Wide, the others never.
+/// A client that finds a dimension. `cone_dim_v` and `cone_dim_points` fail exactly where the rank of their row list is
+/// Wide, the others never.
 pub type DimClient = FamilyClient<DimFamily>;
 
 impl Family for DimFamily {
-    ghost use Rattle.pm_client.specs.Families.{clients_of};
-    ghost use Rattle.pm_clients_geom.specs.Families.{finds_dimension};
+    ghost use Rattle.pm_clients_geom.specs.Works.{dimension_client};
     ghost use Rattle.pm_clients_geom.specs.Stays.{DimFails, DimStays};
-    ghost use Rattle.std.specs.Prelude.{length, refl};
 
-    ghost is_member = { finds_dimension };
+    type Work = DimWork;
+
+    ghost client_of = { dimension_client };
 
     ghost Stays = { DimStays };
 
     ghost Fails = { DimFails };
 
-    ghost COUNT = { length (clients_of finds_dimension) };
-
-    const COUNT: u8 = 5;
-
-    fn client(number: u8) -> StandardClient {
-        [
-            StandardClient::ConeDimV,
-            StandardClient::ConeDimSpan,
-            StandardClient::ConeDimPoints,
-            StandardClient::LinealityDim,
-            StandardClient::CombinatorialDim,
-        ][usize::from(number)]
+    fn client(work: DimWork) -> StandardClient {
+        match work {
+            DimWork::ConeDimV => StandardClient::ConeDimV,
+            DimWork::ConeDimSpan => StandardClient::ConeDimSpan,
+            DimWork::ConeDimPoints => StandardClient::ConeDimPoints,
+            DimWork::LinealityDim => StandardClient::LinealityDim,
+            DimWork::CombinatorialDim => StandardClient::CombinatorialDim,
+        }
     }
 
     fn answer(
-        client: StandardClient,
+        work: DimWork,
         alloc: Global,
         view: &View,
         draft: &mut Draft,
     ) -> Result<(), ClientFail> {
-        match client {
-            StandardClient::ConeDimV => cone_dim_v(alloc, view, draft),
-            StandardClient::ConeDimSpan => cone_dim_span(view, draft),
-            StandardClient::ConeDimPoints => cone_dim_points(alloc, view, draft),
-            StandardClient::LinealityDim => lineality_dim(view, draft),
-            StandardClient::CombinatorialDim => combinatorial_dim(view, draft),
-            _ => unreachable!(),
+        match work {
+            DimWork::ConeDimV => cone_dim_v(alloc, view, draft),
+            DimWork::ConeDimSpan => cone_dim_span(view, draft),
+            DimWork::ConeDimPoints => cone_dim_points(alloc, view, draft),
+            DimWork::LinealityDim => lineality_dim(view, draft),
+            DimWork::CombinatorialDim => combinatorial_dim(view, draft),
         }
     }
-
-    ghost counted = { refl };
 }
 
 // The rank of the row list of two parts, to which nothing is added. It fails for want of memory, or where the elimination of the list leaves the range.

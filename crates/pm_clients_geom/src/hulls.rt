@@ -9,7 +9,7 @@ ghost use Rattle.pm_props.specs.Kinds.{standard_kind};
 ghost use Rattle.pm_props.specs.Sets.{has, set_of};
 ghost use Rattle.pm_props.specs.declared.property.PropId.TheVariants as property;
 ghost use Rattle.pm_props.specs.declared.standard.StandardClient.TheVariants as client;
-ghost use Rattle.std.specs.Prelude.{IfErr, IfOk, IsTrue, OnOk, [], length, ◌∷◌, ◌≡◌, ◌≤◌};
+ghost use Rattle.std.specs.Prelude.{IfErr, IfOk, IsTrue, OnOk, [], length, ◌∷◌, ◌≡◌, ◌≤◌, map};
 
 use crate::rays::{are_rays, matrix_of_rays};
 use crate::rows::{matrix_over_one, may_be_lines};
@@ -20,59 +20,77 @@ use pm_types::{ObjectType, PropId, StandardClient, Value};
 use pm_vector::Ints;
 use std::alloc::Global;
 
+/// The works of the clients of double description.
+#[derive(Clone, Copy, Debug, PartialEq, Eq)]
+pub enum HullWork {
+    DdVertices,
+    DdFacets,
+    DdFacetsV,
+    DdVerticesF,
+}
+
+impl HullWork {
+    ghost use Rattle.pm_clients_geom.specs.Works.{hull_client};
+
+    /// All of them, in the order of the standard book.
+    pub fn every() -> [HullWork; 4]
+        ensures { map hull_client result ≡ client.DdVertices ∷ client.DdFacets ∷ client.DdFacetsV ∷ client.DdVerticesF ∷ [] }
+    {
+        [
+            Self::DdVertices,
+            Self::DdFacets,
+            Self::DdFacetsV,
+            Self::DdVerticesF,
+        ]
+    }
+}
+
 /// The standard clients of double description.
 #[derive(Debug, Drop)]
 pub struct HullFamily;
 
-/// A client of double description: number 0 is `dd_vertices`, 1 `dd_facets`, 2 `dd_facets_v`, 3 `dd_vertices_f`.
-/// It fails for want of memory, where a step leaves the range, and where a cone on the way has too many extreme rays.
+/// A client of double description. It fails for want of memory, where a step leaves the range, and where a cone on the way
+/// has too many extreme rays.
 pub type HullClient = FamilyClient<HullFamily>;
 
 impl Family for HullFamily {
-    ghost use Rattle.pm_client.specs.Families.{clients_of};
     ghost use Rattle.pm_client.specs.Sound.{FailsRightly};
-    ghost use Rattle.pm_clients_geom.specs.Families.{finds_hull};
-    ghost use Rattle.std.specs.Prelude.{length, refl};
+    ghost use Rattle.pm_clients_geom.specs.Works.{hull_client};
 
-    ghost is_member = { finds_hull };
+    type Work = HullWork;
+
+    ghost client_of = { hull_client };
 
     ghost Stays = { λ _ _. Unit {0} };
 
     ghost Fails = { λ _ v e. FailsRightly v e };
 
-    ghost COUNT = { length (clients_of finds_hull) };
-
-    const COUNT: u8 = 4;
-
-    fn client(number: u8) -> StandardClient {
-        [
-            StandardClient::DdVertices,
-            StandardClient::DdFacets,
-            StandardClient::DdFacetsV,
-            StandardClient::DdVerticesF,
-        ][usize::from(number)]
+    fn client(work: HullWork) -> StandardClient {
+        match work {
+            HullWork::DdVertices => StandardClient::DdVertices,
+            HullWork::DdFacets => StandardClient::DdFacets,
+            HullWork::DdFacetsV => StandardClient::DdFacetsV,
+            HullWork::DdVerticesF => StandardClient::DdVerticesF,
+        }
     }
 
     fn answer(
-        client: StandardClient,
+        work: HullWork,
         alloc: Global,
         view: &View,
         draft: &mut Draft,
     ) -> Result<(), ClientFail> {
-        match client {
-            StandardClient::DdVertices => dd_vertices(alloc, view, draft),
-            StandardClient::DdFacets => {
+        match work {
+            HullWork::DdVertices => dd_vertices(alloc, view, draft),
+            HullWork::DdFacets => {
                 dd_facets(alloc, view, draft, PropId::InputLineality, PropId::Points)
             }
-            StandardClient::DdFacetsV => {
+            HullWork::DdFacetsV => {
                 dd_facets(alloc, view, draft, PropId::LinealitySpace, PropId::Vertices)
             }
-            StandardClient::DdVerticesF => dd_vertices_f(alloc, view, draft),
-            _ => unreachable!(),
+            HullWork::DdVerticesF => dd_vertices_f(alloc, view, draft),
         }
     }
-
-    ghost counted = { refl };
 }
 
 /// The two parts of a row list, as primitive whole rows.

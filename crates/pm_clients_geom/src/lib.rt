@@ -3,8 +3,8 @@
 #![tactic(auto)]
 
 ghost use Rattle.pm_clients_geom.specs.Laws.{FacetsAreThinned, FeasibleHasPoint, VerticesAreThinned};
-ghost use Rattle.pm_clients_geom.specs.RedundancyExamples.{FamilyIsRead, PointsAreRead};
-ghost use Rattle.pm_clients_geom.specs.Examples.{FamiliesAreRead, HullsAreRead, MatricesAreRead, RaysAreRead, ThinnedAreRead};
+ghost use Rattle.pm_clients_geom.specs.RedundancyExamples.{FailsAreRead, PointsAreRead};
+ghost use Rattle.pm_clients_geom.specs.Examples.{HullsAreRead, MatricesAreRead, RaysAreRead, ThinnedAreRead};
 
 mod dims;
 mod firsts;
@@ -18,19 +18,14 @@ mod sizes;
 mod thinning;
 mod truths;
 
-pub use dims::DimClient;
-pub use hulls::HullClient;
+pub use dims::{DimClient, DimWork};
+pub use hulls::{HullClient, HullWork};
 pub use points::has_point;
-pub use redundancy::RedundancyClient;
-pub use rows::RowsClient;
-pub use sizes::SizeClient;
-pub use thinning::ThinClient;
-pub use truths::TestClient;
-
-/// Which clients the families have, and which not.
-pub fn example_families()
-    ensures { FamiliesAreRead }
-{}
+pub use redundancy::{RedundancyClient, RedundancyWork};
+pub use rows::{RowsClient, RowsWork};
+pub use sizes::{SizeClient, SizeWork};
+pub use thinning::{ThinClient, ThinWork};
+pub use truths::{TestClient, TestWork};
 
 /// The definitions of matrices that are put, read on small ones.
 pub fn example_matrices()
@@ -67,9 +62,9 @@ pub fn law_feasible_has_point()
     ensures { FeasibleHasPoint }
 {}
 
-/// Which clients of linear programs there are, and how these fail.
+/// How the clients of linear programs fail.
 pub fn example_redundancy()
-    ensures { FamilyIsRead }
+    ensures { FailsAreRead }
 {}
 
 /// Inequalities of a line with a point, and without one.

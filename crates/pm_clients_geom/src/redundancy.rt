@@ -4,7 +4,7 @@ ghost use Rattle.pm_client.specs.Sound.{FailsRightly, IsSound};
 ghost use Rattle.pm_clients_geom.specs.Redundancy.{FailsForProgram};
 ghost use Rattle.pm_props.specs.Kinds.{standard_kind};
 ghost use Rattle.pm_props.specs.declared.standard.StandardClient.TheVariants as client;
-ghost use Rattle.std.specs.Prelude.{IfErr, OnOk, [], ◌≡◌};
+ghost use Rattle.std.specs.Prelude.{IfErr, OnOk, [], ◌≡◌, map, ◌∷◌};
 
 use crate::hulls::{put_generators, read_parts};
 use crate::points::has_point;
@@ -15,53 +15,70 @@ use pm_redund::{thin_rays, thin_rows};
 use pm_types::{ObjectType, PropId, StandardClient, Value};
 use std::alloc::Global;
 
+/// The works of the clients of linear programs over half-spaces or generators.
+#[derive(Clone, Copy, Debug, PartialEq, Eq)]
+pub enum RedundancyWork {
+    ThinPointsLp,
+    ThinInequalitiesLp,
+    FeasibleLp,
+}
+
+impl RedundancyWork {
+    ghost use Rattle.pm_clients_geom.specs.Works.{redundancy_client};
+
+    /// All of them, in the order of the standard book.
+    pub fn every() -> [RedundancyWork; 3]
+        ensures { map redundancy_client result ≡ client.ThinPointsLp ∷ client.ThinInequalitiesLp ∷ client.FeasibleLp ∷ [] }
+    {
+        [
+            Self::ThinPointsLp,
+            Self::ThinInequalitiesLp,
+            Self::FeasibleLp,
+        ]
+    }
+}
+
 /// The standard clients of linear programs over half-spaces or generators.
 #[derive(Debug, Drop)]
 pub struct RedundancyFamily;
 
-/// A client of linear programs: number 0 is `thin_points_lp`, 1 `thin_inequalities_lp`, 2 `feasible_lp`.
-/// It fails for want of memory, and where a pivot of one of its programs leaves the range; the first two also where a step of an elimination does, and
-/// number 1 where there are more than 2,048 facets.
+/// A client of linear programs. It fails for want of memory, and where a pivot of one of its programs leaves the range;
+/// those that thin also where a step of an elimination does, and `thin_inequalities_lp` where there are more than 2,048
+/// facets.
 pub type RedundancyClient = FamilyClient<RedundancyFamily>;
 
 impl Family for RedundancyFamily {
-    ghost use Rattle.pm_client.specs.Families.{clients_of};
-    ghost use Rattle.pm_clients_geom.specs.Redundancy.{RedundancyFails, thins_or_asks};
-    ghost use Rattle.std.specs.Prelude.{length, refl};
+    ghost use Rattle.pm_clients_geom.specs.Works.{redundancy_client};
+    ghost use Rattle.pm_clients_geom.specs.Redundancy.{RedundancyFails};
 
-    ghost is_member = { thins_or_asks };
+    type Work = RedundancyWork;
+
+    ghost client_of = { redundancy_client };
 
     ghost Stays = { λ _ _. Unit {0} };
 
     ghost Fails = { RedundancyFails };
 
-    ghost COUNT = { length (clients_of thins_or_asks) };
-
-    const COUNT: u8 = 3;
-
-    fn client(number: u8) -> StandardClient {
-        [
-            StandardClient::ThinPointsLp,
-            StandardClient::ThinInequalitiesLp,
-            StandardClient::FeasibleLp,
-        ][usize::from(number)]
+    fn client(work: RedundancyWork) -> StandardClient {
+        match work {
+            RedundancyWork::ThinPointsLp => StandardClient::ThinPointsLp,
+            RedundancyWork::ThinInequalitiesLp => StandardClient::ThinInequalitiesLp,
+            RedundancyWork::FeasibleLp => StandardClient::FeasibleLp,
+        }
     }
 
     fn answer(
-        client: StandardClient,
+        work: RedundancyWork,
         alloc: Global,
         view: &View,
         draft: &mut Draft,
     ) -> Result<(), ClientFail> {
-        match client {
-            StandardClient::ThinPointsLp => thin_points_lp(alloc, view, draft),
-            StandardClient::ThinInequalitiesLp => thin_inequalities_lp(alloc, view, draft),
-            StandardClient::FeasibleLp => feasible_lp(alloc, view, draft),
-            _ => unreachable!(),
+        match work {
+            RedundancyWork::ThinPointsLp => thin_points_lp(alloc, view, draft),
+            RedundancyWork::ThinInequalitiesLp => thin_inequalities_lp(alloc, view, draft),
+            RedundancyWork::FeasibleLp => feasible_lp(alloc, view, draft),
         }
     }
-
-    ghost counted = { refl };
 }
 
 // VERTICES and LINEALITY_SPACE: the extreme rays among POINTS, and the lineality.

@@ -14,7 +14,7 @@ ghost use Rattle.pm_props.specs.declared.standard.StandardClient.TheVariants as 
 ghost use Rattle.pm_props.specs.Properties.{has_program, of_fans, row};
 ghost use Rattle.pm_props.specs.Sets.{has};
 ghost use Rattle.pm_types.specs.Views.{ratios};
-ghost use Rattle.std.specs.Prelude.{All, false, IfErr, IfOk, IsTrue, OnOk, [], length, map, ◌<◌, ◌≡◌, ◌↔◌};
+ghost use Rattle.std.specs.Prelude.{All, false, IfErr, IfOk, IsTrue, OnOk, [], length, map, ◌<◌, ◌≡◌, ◌↔◌, ◌∷◌};
 
 use crate::lists::row_list;
 use pm_client::{ClientFail, Family, FamilyClient, matrix_of, put_value};
@@ -26,55 +26,73 @@ use pm_types::{ObjectType, PropId, StandardClient, Value};
 use pm_vector::Ints;
 use std::alloc::Global;
 
+/// The works of the clients that find rows.
+#[derive(Clone, Copy, Debug, PartialEq, Eq)]
+pub enum RowsWork {
+    PointsFromVertices,
+    InequalitiesFromFacets,
+    LinealityFromFacets,
+    HullFromVertices,
+}
+
+impl RowsWork {
+    ghost use Rattle.pm_clients_geom.specs.Works.{rows_client};
+
+    /// All of them, in the order of the standard book.
+    pub fn every() -> [RowsWork; 4]
+        ensures { map rows_client result ≡ client.PointsFromVertices ∷ client.InequalitiesFromFacets ∷ client.LinealityFromFacets ∷ client.HullFromVertices ∷ [] }
+    {
+        [
+            Self::PointsFromVertices,
+            Self::InequalitiesFromFacets,
+            Self::LinealityFromFacets,
+            Self::HullFromVertices,
+        ]
+    }
+}
+
 /// The standard clients that find rows.
 #[derive(Debug, Drop)]
 pub struct RowsFamily;
 
-/// A client that finds rows: number 0 is `points_from_vertices`, 1 `inequalities_from_facets`, 2 `lineality_from_facets`, 3 `hull_from_vertices`.
-/// The last two fail exactly where the null space of their row list is Wide, the others never.
+/// A client that finds rows. `lineality_from_facets` and `hull_from_vertices` fail exactly where the null space of their
+/// row list is Wide, the others never.
 pub type RowsClient = FamilyClient<RowsFamily>;
 
 impl Family for RowsFamily {
-    ghost use Rattle.pm_client.specs.Families.{clients_of};
-    ghost use Rattle.pm_clients_geom.specs.Families.{finds_rows};
+    ghost use Rattle.pm_clients_geom.specs.Works.{rows_client};
     ghost use Rattle.pm_clients_geom.specs.Stays.{RowsFail, RowsStay};
-    ghost use Rattle.std.specs.Prelude.{length, refl};
 
-    ghost is_member = { finds_rows };
+    type Work = RowsWork;
+
+    ghost client_of = { rows_client };
 
     ghost Stays = { RowsStay };
 
     ghost Fails = { RowsFail };
 
-    ghost COUNT = { length (clients_of finds_rows) };
-
-    const COUNT: u8 = 4;
-
-    fn client(number: u8) -> StandardClient {
-        [
-            StandardClient::PointsFromVertices,
-            StandardClient::InequalitiesFromFacets,
-            StandardClient::LinealityFromFacets,
-            StandardClient::HullFromVertices,
-        ][usize::from(number)]
+    fn client(work: RowsWork) -> StandardClient {
+        match work {
+            RowsWork::PointsFromVertices => StandardClient::PointsFromVertices,
+            RowsWork::InequalitiesFromFacets => StandardClient::InequalitiesFromFacets,
+            RowsWork::LinealityFromFacets => StandardClient::LinealityFromFacets,
+            RowsWork::HullFromVertices => StandardClient::HullFromVertices,
+        }
     }
 
     fn answer(
-        client: StandardClient,
+        work: RowsWork,
         alloc: Global,
         view: &View,
         draft: &mut Draft,
     ) -> Result<(), ClientFail> {
-        match client {
-            StandardClient::PointsFromVertices => points_from_vertices(alloc, view, draft),
-            StandardClient::InequalitiesFromFacets => inequalities_from_facets(alloc, view, draft),
-            StandardClient::LinealityFromFacets => lineality_from_facets(alloc, view, draft),
-            StandardClient::HullFromVertices => hull_from_vertices(alloc, view, draft),
-            _ => unreachable!(),
+        match work {
+            RowsWork::PointsFromVertices => points_from_vertices(alloc, view, draft),
+            RowsWork::InequalitiesFromFacets => inequalities_from_facets(alloc, view, draft),
+            RowsWork::LinealityFromFacets => lineality_from_facets(alloc, view, draft),
+            RowsWork::HullFromVertices => hull_from_vertices(alloc, view, draft),
         }
     }
-
-    ghost counted = { refl };
 }
 
 // POINTS and INPUT_LINEALITY: the rows of VERTICES and LINEALITY_SPACE.

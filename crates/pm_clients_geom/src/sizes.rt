@@ -5,7 +5,7 @@ ghost use Rattle.pm_client.specs.Sound.{IsSound};
 ghost use Rattle.pm_client.specs.declared.ClientFail.TheVariants.{Memory};
 ghost use Rattle.pm_props.specs.Kinds.{standard_kind};
 ghost use Rattle.pm_props.specs.declared.standard.StandardClient.TheVariants as client;
-ghost use Rattle.std.specs.Prelude.{IfErr, OnOk, [], ◌≡◌};
+ghost use Rattle.std.specs.Prelude.{IfErr, OnOk, [], ◌≡◌, map, ◌∷◌};
 
 use crate::firsts::zero_places;
 use pm_client::{ClientFail, Family, FamilyClient, matrix_of, put_value, sets_of};
@@ -13,57 +13,77 @@ use pm_object::{Draft, View};
 use pm_types::{Counts, ObjectType, PropId, StandardClient, Value};
 use std::alloc::Global;
 
+/// The works of the clients that count rays and facets, or list rays.
+#[derive(Clone, Copy, Debug, PartialEq, Eq)]
+pub enum SizeWork {
+    NVertices,
+    NVerticesSets,
+    NFacets,
+    NFacetsSets,
+    FarFace,
+}
+
+impl SizeWork {
+    ghost use Rattle.pm_clients_geom.specs.Works.{size_client};
+
+    /// All of them, in the order of the standard book.
+    pub fn every() -> [SizeWork; 5]
+        ensures { map size_client result ≡ client.NVertices ∷ client.NVerticesSets ∷ client.NFacets ∷ client.NFacetsSets ∷ client.FarFace ∷ [] }
+    {
+        [
+            Self::NVertices,
+            Self::NVerticesSets,
+            Self::NFacets,
+            Self::NFacetsSets,
+            Self::FarFace,
+        ]
+    }
+}
+
 /// The standard clients that count rays and facets or list rays.
 #[derive(Debug, Drop)]
 pub struct SizeFamily;
 
-/// A client that counts rays or facets or lists rays: number 0 is `n_vertices`, 1 `n_vertices_sets`, 2 `n_facets`,
-/// 3 `n_facets_sets`, 4 `far_face`. It fails for want of memory alone.
+/// A client that counts rays or facets or lists rays. It fails for want of memory alone.
 pub type SizeClient = FamilyClient<SizeFamily>;
 
 impl Family for SizeFamily {
-    ghost use Rattle.pm_client.specs.Families.{clients_of};
     ghost use Rattle.pm_client.specs.declared.ClientFail.TheVariants.{Memory};
-    ghost use Rattle.pm_clients_geom.specs.Families.{finds_size};
-    ghost use Rattle.std.specs.Prelude.{length, refl, ◌≡◌};
+    ghost use Rattle.pm_clients_geom.specs.Works.{size_client};
+    ghost use Rattle.std.specs.Prelude.{◌≡◌};
 
-    ghost is_member = { finds_size };
+    type Work = SizeWork;
+
+    ghost client_of = { size_client };
 
     ghost Stays = { λ _ _. Unit {0} };
 
     ghost Fails = { λ _ _ e. e ≡ Memory };
 
-    ghost COUNT = { length (clients_of finds_size) };
-
-    const COUNT: u8 = 5;
-
-    fn client(number: u8) -> StandardClient {
-        [
-            StandardClient::NVertices,
-            StandardClient::NVerticesSets,
-            StandardClient::NFacets,
-            StandardClient::NFacetsSets,
-            StandardClient::FarFace,
-        ][usize::from(number)]
+    fn client(work: SizeWork) -> StandardClient {
+        match work {
+            SizeWork::NVertices => StandardClient::NVertices,
+            SizeWork::NVerticesSets => StandardClient::NVerticesSets,
+            SizeWork::NFacets => StandardClient::NFacets,
+            SizeWork::NFacetsSets => StandardClient::NFacetsSets,
+            SizeWork::FarFace => StandardClient::FarFace,
+        }
     }
 
     fn answer(
-        client: StandardClient,
+        work: SizeWork,
         alloc: Global,
         view: &View,
         draft: &mut Draft,
     ) -> Result<(), ClientFail> {
-        match client {
-            StandardClient::NVertices => n_vertices(view, draft),
-            StandardClient::NVerticesSets => n_vertices_sets(view, draft),
-            StandardClient::NFacets => n_facets(view, draft),
-            StandardClient::NFacetsSets => n_facets_sets(view, draft),
-            StandardClient::FarFace => far_face(alloc, view, draft),
-            _ => unreachable!(),
+        match work {
+            SizeWork::NVertices => n_vertices(view, draft),
+            SizeWork::NVerticesSets => n_vertices_sets(view, draft),
+            SizeWork::NFacets => n_facets(view, draft),
+            SizeWork::NFacetsSets => n_facets_sets(view, draft),
+            SizeWork::FarFace => far_face(alloc, view, draft),
         }
     }
-
-    ghost counted = { refl };
 }
 
 // N_VERTICES: the number of rows of VERTICES.

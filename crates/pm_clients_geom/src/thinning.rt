@@ -8,7 +8,7 @@ ghost use Rattle.pm_props.specs.Kinds.{standard_kind};
 ghost use Rattle.pm_props.specs.Sets.{set_of};
 ghost use Rattle.pm_props.specs.declared.property.PropId.TheVariants as property;
 ghost use Rattle.pm_props.specs.declared.standard.StandardClient.TheVariants as client;
-ghost use Rattle.std.specs.Prelude.{All, IfErr, OnOk, [], length, ◌<◌, ◌∷◌, ◌≡◌};
+ghost use Rattle.std.specs.Prelude.{All, IfErr, OnOk, [], length, ◌<◌, ◌∷◌, ◌≡◌, map};
 
 use crate::hulls::{put_generators, read_parts};
 use crate::rays::{are_not_zero, are_rays, matrix_of_rays};
@@ -23,55 +23,73 @@ use pm_types::{ObjectType, PropId, StandardClient, Value};
 use pm_vector::Ints;
 use std::alloc::Global;
 
+/// The works of the clients that thin, and of those that find rows from sets.
+#[derive(Clone, Copy, Debug, PartialEq, Eq)]
+pub enum ThinWork {
+    ThinPointsF,
+    ThinInequalitiesV,
+    VerticesFromSets,
+    FacetsFromSets,
+}
+
+impl ThinWork {
+    ghost use Rattle.pm_clients_geom.specs.Works.{thinning_client};
+
+    /// All of them, in the order of the standard book.
+    pub fn every() -> [ThinWork; 4]
+        ensures { map thinning_client result ≡ client.ThinPointsF ∷ client.ThinInequalitiesV ∷ client.VerticesFromSets ∷ client.FacetsFromSets ∷ [] }
+    {
+        [
+            Self::ThinPointsF,
+            Self::ThinInequalitiesV,
+            Self::VerticesFromSets,
+            Self::FacetsFromSets,
+        ]
+    }
+}
+
 /// The standard clients that thin, and those that find rows from sets.
 #[derive(Debug, Drop)]
 pub struct ThinFamily;
 
-/// A client that thins or takes sets: number 0 is `thin_points_f`, 1 `thin_inequalities_v`, 2 `vertices_from_sets`, 3 `facets_from_sets`.
-/// It fails for want of memory, where a step of an elimination or a product leaves the range, and number 1 where there are more than 2,048 facets.
+/// A client that thins or takes sets. It fails for want of memory, where a step of an elimination or a product leaves the
+/// range, and `thin_inequalities_v` where there are more than 2,048 facets.
 pub type ThinClient = FamilyClient<ThinFamily>;
 
 impl Family for ThinFamily {
-    ghost use Rattle.pm_client.specs.Families.{clients_of};
     ghost use Rattle.pm_client.specs.Sound.{FailsRightly};
-    ghost use Rattle.pm_clients_geom.specs.Families.{finds_thinned};
-    ghost use Rattle.std.specs.Prelude.{length, refl};
+    ghost use Rattle.pm_clients_geom.specs.Works.{thinning_client};
 
-    ghost is_member = { finds_thinned };
+    type Work = ThinWork;
+
+    ghost client_of = { thinning_client };
 
     ghost Stays = { λ _ _. Unit {0} };
 
     ghost Fails = { λ _ v e. FailsRightly v e };
 
-    ghost COUNT = { length (clients_of finds_thinned) };
-
-    const COUNT: u8 = 4;
-
-    fn client(number: u8) -> StandardClient {
-        [
-            StandardClient::ThinPointsF,
-            StandardClient::ThinInequalitiesV,
-            StandardClient::VerticesFromSets,
-            StandardClient::FacetsFromSets,
-        ][usize::from(number)]
+    fn client(work: ThinWork) -> StandardClient {
+        match work {
+            ThinWork::ThinPointsF => StandardClient::ThinPointsF,
+            ThinWork::ThinInequalitiesV => StandardClient::ThinInequalitiesV,
+            ThinWork::VerticesFromSets => StandardClient::VerticesFromSets,
+            ThinWork::FacetsFromSets => StandardClient::FacetsFromSets,
+        }
     }
 
     fn answer(
-        client: StandardClient,
+        work: ThinWork,
         alloc: Global,
         view: &View,
         draft: &mut Draft,
     ) -> Result<(), ClientFail> {
-        match client {
-            StandardClient::ThinPointsF => thin_points_f(alloc, view, draft),
-            StandardClient::ThinInequalitiesV => thin_inequalities_v(alloc, view, draft),
-            StandardClient::VerticesFromSets => rays_of_sets(alloc, view, draft),
-            StandardClient::FacetsFromSets => facets_of_sets(alloc, view, draft),
-            _ => unreachable!(),
+        match work {
+            ThinWork::ThinPointsF => thin_points_f(alloc, view, draft),
+            ThinWork::ThinInequalitiesV => thin_inequalities_v(alloc, view, draft),
+            ThinWork::VerticesFromSets => rays_of_sets(alloc, view, draft),
+            ThinWork::FacetsFromSets => facets_of_sets(alloc, view, draft),
         }
     }
-
-    ghost counted = { refl };
 }
 
 // VERTICES and LINEALITY_SPACE: the extreme rays among POINTS, by FACETS, and the lineality.

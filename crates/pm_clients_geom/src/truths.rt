@@ -6,7 +6,7 @@ ghost use Rattle.pm_client.specs.declared.ClientFail.TheVariants.{Memory};
 ghost use Rattle.pm_props.specs.Kinds.{standard_kind};
 ghost use Rattle.pm_props.specs.declared.standard.StandardClient.TheVariants as client;
 ghost use Rattle.pm_relations.specs.FirstEntries.{HasPositiveFirst, HasZeroFirst};
-ghost use Rattle.std.specs.Prelude.{All, IfErr, IsTrue, OnOk, [], ◌≡◌, ◌↔◌};
+ghost use Rattle.std.specs.Prelude.{All, IfErr, IsTrue, OnOk, [], ◌≡◌, ◌↔◌, map, ◌∷◌};
 
 use crate::firsts::{has_positive_firsts, has_zero_firsts};
 use pm_client::{ClientFail, Family, FamilyClient, matrix_of, put_value, whole_of};
@@ -15,57 +15,77 @@ use pm_object::{Draft, View};
 use pm_types::{ObjectType, PropId, StandardClient, Value};
 use std::alloc::Global;
 
+/// The works of the clients that find a truth value.
+#[derive(Clone, Copy, Debug, PartialEq, Eq)]
+pub enum TestWork {
+    Feasible,
+    Bounded,
+    Pointed,
+    FullDim,
+    Centered,
+}
+
+impl TestWork {
+    ghost use Rattle.pm_clients_geom.specs.Works.{truth_client};
+
+    /// All of them, in the order of the standard book.
+    pub fn every() -> [TestWork; 5]
+        ensures { map truth_client result ≡ client.Feasible ∷ client.Bounded ∷ client.Pointed ∷ client.FullDim ∷ client.Centered ∷ [] }
+    {
+        [
+            Self::Feasible,
+            Self::Bounded,
+            Self::Pointed,
+            Self::FullDim,
+            Self::Centered,
+        ]
+    }
+}
+
 /// The standard clients that find truth values.
 #[derive(Debug, Drop)]
 pub struct TestFamily;
 
-/// A client that finds a truth value: number 0 is `feasible`, 1 `bounded`, 2 `pointed`,
-/// 3 `full_dim`, 4 `centered`. It fails for want of memory alone.
+/// A client that finds a truth value. It fails for want of memory alone.
 pub type TestClient = FamilyClient<TestFamily>;
 
 impl Family for TestFamily {
-    ghost use Rattle.pm_client.specs.Families.{clients_of};
     ghost use Rattle.pm_client.specs.declared.ClientFail.TheVariants.{Memory};
-    ghost use Rattle.pm_clients_geom.specs.Families.{finds_truth};
-    ghost use Rattle.std.specs.Prelude.{length, refl, ◌≡◌};
+    ghost use Rattle.pm_clients_geom.specs.Works.{truth_client};
+    ghost use Rattle.std.specs.Prelude.{◌≡◌};
 
-    ghost is_member = { finds_truth };
+    type Work = TestWork;
+
+    ghost client_of = { truth_client };
 
     ghost Stays = { λ _ _. Unit {0} };
 
     ghost Fails = { λ _ _ e. e ≡ Memory };
 
-    ghost COUNT = { length (clients_of finds_truth) };
-
-    const COUNT: u8 = 5;
-
-    fn client(number: u8) -> StandardClient {
-        [
-            StandardClient::Feasible,
-            StandardClient::Bounded,
-            StandardClient::Pointed,
-            StandardClient::FullDim,
-            StandardClient::Centered,
-        ][usize::from(number)]
+    fn client(work: TestWork) -> StandardClient {
+        match work {
+            TestWork::Feasible => StandardClient::Feasible,
+            TestWork::Bounded => StandardClient::Bounded,
+            TestWork::Pointed => StandardClient::Pointed,
+            TestWork::FullDim => StandardClient::FullDim,
+            TestWork::Centered => StandardClient::Centered,
+        }
     }
 
     fn answer(
-        client: StandardClient,
+        work: TestWork,
         _alloc: Global,
         view: &View,
         draft: &mut Draft,
     ) -> Result<(), ClientFail> {
-        match client {
-            StandardClient::Feasible => feasible(view, draft),
-            StandardClient::Bounded => bounded(view, draft),
-            StandardClient::Pointed => pointed(view, draft),
-            StandardClient::FullDim => full_dim(view, draft),
-            StandardClient::Centered => centered(view, draft),
-            _ => unreachable!(),
+        match work {
+            TestWork::Feasible => feasible(view, draft),
+            TestWork::Bounded => bounded(view, draft),
+            TestWork::Pointed => pointed(view, draft),
+            TestWork::FullDim => full_dim(view, draft),
+            TestWork::Centered => centered(view, draft),
         }
     }
-
-    ghost counted = { refl };
 }
 
 // FEASIBLE: CONE_DIM is not 0.

@@ -1,16 +1,8 @@
--- The clients of the family, and which are none; degrees and edges of small graphs.
-use Rattle.pm_client.specs.Families.{clients_of}
+-- Degrees and edges of small graphs.
 use Rattle.pm_clients_graph.specs.Degrees.{degrees}
-use Rattle.pm_clients_graph.specs.Families.{finds_graph}
 use Rattle.pm_geom.specs.Graphs.{edge_count}
-use Rattle.pm_props.specs.declared.standard.StandardClient.TheVariants as client
-use Rattle.std.specs.Prelude.{ℕ, List, [], false, ◌∷◌, ◌≡◌}
+use Rattle.std.specs.Prelude.{ℕ, List, [], ◌∷◌, ◌≡◌}
 use lib.IntN.{pos}
-
-pub record FamilyIsRead : Type 0 where
-  pub clients : clients_of finds_graph ≡ client.GraphOfSets ∷ client.GraphOfFaces ∷ client.DualGraph ∷ client.VertexDegrees ∷ client.Diameter ∷ client.DualDiameter ∷ client.NEdges ∷ client.NRidges ∷ []
-  -- one that makes the faces, and no graph of them
-  pub no_graph : finds_graph client.Faces ≡ false
 
 -- a path of three nodes, whose second is joined to the others, and a fourth node that is joined to none
 abbrev pub path_and_point : List (List ℕ)

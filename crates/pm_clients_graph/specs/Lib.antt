@@ -1,4 +1,4 @@
-pub mod Families
+pub mod Works
 pub mod Degrees
 pub mod Laws
 pub mod Examples

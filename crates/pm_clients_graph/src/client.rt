@@ -4,7 +4,7 @@ ghost use Rattle.pm_client.specs.Sound.{IsSound};
 ghost use Rattle.pm_client.specs.declared.ClientFail.TheVariants.{Memory};
 ghost use Rattle.pm_props.specs.Kinds.{standard_kind};
 ghost use Rattle.pm_props.specs.declared.standard.StandardClient.TheVariants as client;
-ghost use Rattle.std.specs.Prelude.{IfErr, OnOk, [], ◌≡◌};
+ghost use Rattle.std.specs.Prelude.{IfErr, OnOk, [], ◌≡◌, map, ◌∷◌};
 
 use crate::counts::{degrees, edge_count};
 use pm_client::{ClientFail, Family, FamilyClient, edges_of, lattice_of, put_value, sets_of};
@@ -12,63 +12,89 @@ use pm_object::{Draft, View};
 use pm_types::{Counts, ObjectType, PropId, StandardClient, Value};
 use std::alloc::Global;
 
+/// The works of the clients that find graphs, and what these show.
+#[derive(Clone, Copy, Debug, PartialEq, Eq)]
+pub enum GraphWork {
+    GraphOfSets,
+    GraphOfFaces,
+    DualGraph,
+    VertexDegrees,
+    Diameter,
+    DualDiameter,
+    NEdges,
+    NRidges,
+}
+
+impl GraphWork {
+    ghost use Rattle.pm_clients_graph.specs.Works.{graph_client};
+
+    /// All of them, in the order of the standard book.
+    pub fn every() -> [GraphWork; 8]
+        ensures { map graph_client result ≡ client.GraphOfSets ∷ client.GraphOfFaces ∷ client.DualGraph ∷ client.VertexDegrees ∷ client.Diameter ∷ client.DualDiameter ∷ client.NEdges ∷ client.NRidges ∷ [] }
+    {
+        [
+            Self::GraphOfSets,
+            Self::GraphOfFaces,
+            Self::DualGraph,
+            Self::VertexDegrees,
+            Self::Diameter,
+            Self::DualDiameter,
+            Self::NEdges,
+            Self::NRidges,
+        ]
+    }
+}
+
 /// The standard clients that find graphs, and what these show.
 #[derive(Debug, Drop)]
 pub struct GraphFamily;
 
-/// A client that finds a graph, or what a graph shows: number 0 is `graph_of_sets`, 1 `graph_of_faces`, 2 `dual_graph`,
-/// 3 `vertex_degrees`, 4 `diameter`, 5 `dual_diameter`, 6 `n_edges`, 7 `n_ridges`. Each fails for want of memory alone.
+/// A client that finds a graph, or what a graph shows. It fails for want of memory alone.
 pub type GraphClient = FamilyClient<GraphFamily>;
 
 impl Family for GraphFamily {
-    ghost use Rattle.pm_client.specs.Families.{clients_of};
     ghost use Rattle.pm_client.specs.declared.ClientFail.TheVariants.{Memory};
-    ghost use Rattle.pm_clients_graph.specs.Families.{finds_graph};
-    ghost use Rattle.std.specs.Prelude.{length, refl, ◌≡◌};
+    ghost use Rattle.pm_clients_graph.specs.Works.{graph_client};
+    ghost use Rattle.std.specs.Prelude.{◌≡◌};
 
-    ghost is_member = { finds_graph };
+    type Work = GraphWork;
+
+    ghost client_of = { graph_client };
 
     ghost Stays = { λ _ _. Unit {0} };
 
     ghost Fails = { λ _ _ e. e ≡ Memory };
 
-    ghost COUNT = { length (clients_of finds_graph) };
-
-    const COUNT: u8 = 8;
-
-    fn client(number: u8) -> StandardClient {
-        [
-            StandardClient::GraphOfSets,
-            StandardClient::GraphOfFaces,
-            StandardClient::DualGraph,
-            StandardClient::VertexDegrees,
-            StandardClient::Diameter,
-            StandardClient::DualDiameter,
-            StandardClient::NEdges,
-            StandardClient::NRidges,
-        ][usize::from(number)]
+    fn client(work: GraphWork) -> StandardClient {
+        match work {
+            GraphWork::GraphOfSets => StandardClient::GraphOfSets,
+            GraphWork::GraphOfFaces => StandardClient::GraphOfFaces,
+            GraphWork::DualGraph => StandardClient::DualGraph,
+            GraphWork::VertexDegrees => StandardClient::VertexDegrees,
+            GraphWork::Diameter => StandardClient::Diameter,
+            GraphWork::DualDiameter => StandardClient::DualDiameter,
+            GraphWork::NEdges => StandardClient::NEdges,
+            GraphWork::NRidges => StandardClient::NRidges,
+        }
     }
 
     fn answer(
-        client: StandardClient,
+        work: GraphWork,
         alloc: Global,
         view: &View,
         draft: &mut Draft,
     ) -> Result<(), ClientFail> {
-        match client {
-            StandardClient::GraphOfSets => graph_of_sets(alloc, view, draft),
-            StandardClient::GraphOfFaces => graph_of_faces(alloc, view, draft),
-            StandardClient::DualGraph => dual_graph(alloc, view, draft),
-            StandardClient::VertexDegrees => vertex_degrees(alloc, view, draft),
-            StandardClient::Diameter => diameter(alloc, view, draft),
-            StandardClient::DualDiameter => dual_diameter(alloc, view, draft),
-            StandardClient::NEdges => n_edges(view, draft),
-            StandardClient::NRidges => n_ridges(view, draft),
-            _ => unreachable!(),
+        match work {
+            GraphWork::GraphOfSets => graph_of_sets(alloc, view, draft),
+            GraphWork::GraphOfFaces => graph_of_faces(alloc, view, draft),
+            GraphWork::DualGraph => dual_graph(alloc, view, draft),
+            GraphWork::VertexDegrees => vertex_degrees(alloc, view, draft),
+            GraphWork::Diameter => diameter(alloc, view, draft),
+            GraphWork::DualDiameter => dual_diameter(alloc, view, draft),
+            GraphWork::NEdges => n_edges(view, draft),
+            GraphWork::NRidges => n_ridges(view, draft),
         }
     }
-
-    ghost counted = { refl };
 }
 
 // GRAPH: the graph of the indices of VERTICES_IN_FACETS.

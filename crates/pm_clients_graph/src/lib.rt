@@ -1,18 +1,13 @@
 //! Clients that find graphs, and what these show: degrees, diameters, numbers of edges.
 #![tactic(auto)]
 
-ghost use Rattle.pm_clients_graph.specs.Examples.{CountsAreRead, FamilyIsRead};
+ghost use Rattle.pm_clients_graph.specs.Examples.{CountsAreRead};
 ghost use Rattle.pm_clients_graph.specs.Laws.{DiameterIsFound, DualDiameterIsFound, DualGraphIsFound, EdgesAreCounted, GraphIsFoundByFaces, GraphIsFoundBySets, NeighboursAreCounted, RidgesAreCounted};
 
 mod client;
 mod counts;
 
-pub use client::GraphClient;
-
-/// Which clients the family has.
-pub fn example_family()
-    ensures { FamilyIsRead }
-{}
+pub use client::{GraphClient, GraphWork};
 
 /// Degrees and edges of two graphs.
 pub fn example_counts()

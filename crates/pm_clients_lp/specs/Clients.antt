@@ -1,7 +1,9 @@
 -- The clients of linear programs, by what they find from what, and how they fail.
-use Rattle.pm_client.specs.Sound.{FailsRightly, IsWideAtRays, IsWideDual, IsWideFace, IsWideOptimum}
+use Rattle.pm_client.specs.Sound.{IsWideAtRays, IsWideDual, IsWideFace, IsWideOptimum}
 use Rattle.pm_client.specs.declared.ClientFail.{ClientFail}
 use Rattle.pm_client.specs.declared.ClientFail.TheVariants.{Failed, Memory}
+use Rattle.pm_clients_lp.specs.declared.family.LpWork.{LpWork}
+use Rattle.pm_clients_lp.specs.declared.family.LpWork.TheVariants as work
 use Rattle.pm_geom.specs.declared.evidence.Evidence.{Evidence}
 use Rattle.pm_object.specs.Reading.{ViewSeen}
 use Rattle.pm_props.specs.declared.property.PropId.{PropId}
@@ -10,7 +12,7 @@ use Rattle.pm_props.specs.declared.standard.StandardClient.{StandardClient}
 use Rattle.pm_props.specs.declared.standard.StandardClient.TheVariants as client
 use Rattle.pm_simplex.specs.declared.sense.Sense.{Sense}
 use Rattle.pm_simplex.specs.declared.sense.Sense.TheVariants.{Maximal, Minimal}
-use Rattle.std.specs.Prelude.{Bool, false, true, ◌⊎◌}
+use Rattle.std.specs.Prelude.{◌⊎◌}
 
 -- ---- in each sense: the client of the optimum, with a dual, over FACETS; over INEQUALITIES; at VERTICES; and that of the rays at the optimum
 abbrev pub over_facets : Sense → StandardClient
@@ -38,17 +40,12 @@ abbrev pub dual : Sense → PropId
 dual Maximal = MaximalDual
 dual Minimal = MinimalDual
 
--- the clients of the family
-abbrev pub is_linear : StandardClient → Bool
-is_linear client.LpMax = true
-is_linear client.LpMin = true
-is_linear client.LpMaxRows = true
-is_linear client.LpMinRows = true
-is_linear client.LpMaxV = true
-is_linear client.LpMinV = true
-is_linear client.LpMaxFace = true
-is_linear client.LpMinFace = true
-is_linear c = false
+-- the standard client of each work
+abbrev pub linear_client : LpWork → StandardClient
+linear_client (work.OverFacets sense) = over_facets sense
+linear_client (work.OverRows sense) = over_rows sense
+linear_client (work.AtRays sense) = at_rays sense
+linear_client (work.AtFace sense) = at_face sense
 
 -- for want of memory, or with such evidence
 abbrev pub FailsBy : (Evidence → Type 0) → ClientFail → Type 0
@@ -60,13 +57,8 @@ abbrev pub IsWideWithDual : ViewSeen → Evidence → Type 0
 IsWideWithDual v e = IsWideOptimum v e ⊎ IsWideDual v e
 
 -- each client fails with evidence of its own
-abbrev pub LinearFails : StandardClient → ViewSeen → ClientFail → Type 0
-LinearFails client.LpMax v e = FailsBy (IsWideWithDual v) e
-LinearFails client.LpMin v e = FailsBy (IsWideWithDual v) e
-LinearFails client.LpMaxRows v e = FailsBy (IsWideOptimum v) e
-LinearFails client.LpMinRows v e = FailsBy (IsWideOptimum v) e
-LinearFails client.LpMaxV v e = FailsBy (IsWideAtRays v) e
-LinearFails client.LpMinV v e = FailsBy (IsWideAtRays v) e
-LinearFails client.LpMaxFace v e = FailsBy (IsWideFace v) e
-LinearFails client.LpMinFace v e = FailsBy (IsWideFace v) e
-LinearFails c v e = FailsRightly v e
+abbrev pub LinearFails : LpWork → ViewSeen → ClientFail → Type 0
+LinearFails (work.OverFacets sense) v e = FailsBy (IsWideWithDual v) e
+LinearFails (work.OverRows sense) v e = FailsBy (IsWideOptimum v) e
+LinearFails (work.AtRays sense) v e = FailsBy (IsWideAtRays v) e
+LinearFails (work.AtFace sense) v e = FailsBy (IsWideFace v) e

@@ -1,20 +1,20 @@
--- The clients of the family, and how they fail; the rows of duals read on a segment: what holds of them, and what does not.
+-- How the clients of the family fail; the rows of duals read on a segment: what holds of them, and what does not.
 use Rattle.pm_algebra.specs.Numbers.{Ratio}
 use Rattle.pm_algebra.specs.Rows.{Row}
 use Rattle.pm_client.specs.Examples.{without_rows}
-use Rattle.pm_client.specs.Families.{clients_of}
 use Rattle.pm_client.specs.Sound.{IsWideDual}
 use Rattle.pm_client.specs.declared.ClientFail.TheVariants.{Failed, Memory}
-use Rattle.pm_clients_lp.specs.Clients.{LinearFails, is_linear}
+use Rattle.pm_clients_lp.specs.Clients.{LinearFails}
 use Rattle.pm_clients_lp.specs.Programs.{AreMultiples, AreWeighted, IsDualMatrix, weighted}
 use Rattle.pm_clients_lp.specs.Reading.{is_of_rows}
+use Rattle.pm_clients_lp.specs.declared.family.LpWork.TheVariants as work
 use Rattle.pm_geom.specs.ProgramExamples.{ratio, row, segment, wholes}
 use Rattle.pm_geom.specs.declared.evidence.Evidence.TheVariants.{E3, E4, E5Rows}
 use Rattle.pm_geom.specs.declared.evidence.Evidence.{Evidence}
 use Rattle.pm_object.specs.Reading.{ViewSeen}
 use Rattle.pm_props.specs.declared.property.PropId.TheVariants.{MaximalValue, Vertices}
-use Rattle.pm_props.specs.declared.standard.StandardClient.TheVariants as client
 use Rattle.pm_simplex.specs.OptimumEvidence.{IsMultipleRow, ShowsWideWeight}
+use Rattle.pm_simplex.specs.declared.sense.Sense.TheVariants.{Maximal, Minimal}
 use Rattle.std.specs.Prelude.{[], codes, false, true, ◌∷◌, ◌≡◌, ◌^◌}
 use lib.IntN.{negsuc, pos}
 
@@ -22,18 +22,16 @@ use lib.IntN.{negsuc, pos}
 abbrev pub view : ViewSeen
 view = without_rows (codes "lp_max")
 
-pub record FamilyIsRead : Type 0 where
-  pub clients : clients_of is_linear ≡ client.LpMax ∷ client.LpMin ∷ client.LpMaxRows ∷ client.LpMinRows ∷ client.LpMaxV ∷ client.LpMinV ∷ client.LpMaxFace ∷ client.LpMinFace ∷ []
-  pub not_of_points : is_linear client.FeasibleLp ≡ false
+pub record FailsAreRead : Type 0 where
   -- memory may be wanting to each
-  pub memory : LinearFails client.LpMin view Memory
-  pub memory_for_rays : LinearFails client.LpMaxV view Memory
+  pub memory : LinearFails (work.OverFacets Minimal) view Memory
+  pub memory_for_rays : LinearFails (work.AtRays Maximal) view Memory
   -- a row of the dual is evidence where one is found
-  pub dual : (e : Evidence) → IsWideDual view e → LinearFails client.LpMax view (Failed e)
+  pub dual : (e : Evidence) → IsWideDual view e → LinearFails (work.OverFacets Maximal) view (Failed e)
   -- a product is no evidence over INEQUALITIES, and a pivot none at VERTICES
-  pub product : ¬ (LinearFails client.LpMaxRows view (Failed (E4 (pos 1 ∷ []) (pos 1 ∷ []))))
-  pub pivot : ¬ (LinearFails client.LpMaxV view (Failed (E3 [] 0 0 0 0)))
-  pub face_pivot : ¬ (LinearFails client.LpMinFace view (Failed (E3 [] 0 0 0 0)))
+  pub product : ¬ (LinearFails (work.OverRows Maximal) view (Failed (E4 (pos 1 ∷ []) (pos 1 ∷ []))))
+  pub pivot : ¬ (LinearFails (work.AtRays Maximal) view (Failed (E3 [] 0 0 0 0)))
+  pub face_pivot : ¬ (LinearFails (work.AtFace Minimal) view (Failed (E3 [] 0 0 0 0)))
   -- rows are read of VERTICES, and none of an optimum
   pub rows : is_of_rows Vertices ≡ true
   pub no_rows : is_of_rows MaximalValue ≡ false

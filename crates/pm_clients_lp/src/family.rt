@@ -1,5 +1,8 @@
 // The family of the clients of linear programs.
 
+ghost use Rattle.pm_props.specs.declared.standard.StandardClient.TheVariants as client;
+ghost use Rattle.std.specs.Prelude.{[], map, ◌∷◌, ◌≡◌};
+
 use crate::faces::face_at_value;
 use crate::halves::{value_from_rows, value_with_dual};
 use crate::rays::value_from_rays;
@@ -9,61 +12,84 @@ use pm_simplex::Sense;
 use pm_types::StandardClient;
 use std::alloc::Global;
 
+/// The works of the clients of linear programs, each in either sense.
+#[derive(Clone, Copy, Debug, PartialEq, Eq)]
+pub enum LpWork {
+    /// The optimum with a dual, over FACETS.
+    OverFacets(Sense),
+    /// The optimum over INEQUALITIES.
+    OverRows(Sense),
+    /// The optimum at VERTICES.
+    AtRays(Sense),
+    /// The rays at the optimum.
+    AtFace(Sense),
+}
+
+impl LpWork {
+    ghost use Rattle.pm_clients_lp.specs.Clients.{linear_client};
+
+    /// All of them, in the order of the standard book.
+    pub fn every() -> [LpWork; 8]
+        ensures { map linear_client result ≡ client.LpMax ∷ client.LpMin ∷ client.LpMaxRows ∷ client.LpMinRows
+            ∷ client.LpMaxV ∷ client.LpMinV ∷ client.LpMaxFace ∷ client.LpMinFace ∷ [] }
+    {
+        [
+            Self::OverFacets(Sense::Maximal),
+            Self::OverFacets(Sense::Minimal),
+            Self::OverRows(Sense::Maximal),
+            Self::OverRows(Sense::Minimal),
+            Self::AtRays(Sense::Maximal),
+            Self::AtRays(Sense::Minimal),
+            Self::AtFace(Sense::Maximal),
+            Self::AtFace(Sense::Minimal),
+        ]
+    }
+}
+
 /// The standard clients of linear programs over polytopes.
 #[derive(Debug, Drop)]
 pub struct LpFamily;
 
-/// A client of linear programs: number 0 is `lp_max`, 1 `lp_min`, 2 `lp_max_rows`, 3 `lp_min_rows`, 4 `lp_max_v`, 5 `lp_min_v`, 6 `lp_max_face`, 7 `lp_min_face`.
-/// It fails for want of memory; the first four where a pivot of their program leaves the range, and the first two where a row of the dual does;
-/// the others where a product of the objective with a ray or line does, or the optimum, or the row that vanishes at it.
+/// A client of linear programs. It fails for want of memory; the optima over half-spaces where a pivot of their program leaves
+/// the range, and those with a dual where a row of the dual does; the others where a product of the objective with a ray or
+/// line does, or the optimum, or the row that vanishes at it.
 pub type LpClient = FamilyClient<LpFamily>;
 
 impl Family for LpFamily {
-    ghost use Rattle.pm_client.specs.Families.{clients_of};
-    ghost use Rattle.pm_clients_lp.specs.Clients.{LinearFails, is_linear};
-    ghost use Rattle.std.specs.Prelude.{length, refl};
+    ghost use Rattle.pm_clients_lp.specs.Clients.{LinearFails, linear_client};
 
-    ghost is_member = { is_linear };
+    type Work = LpWork;
+
+    ghost client_of = { linear_client };
 
     ghost Stays = { λ _ _. Unit {0} };
 
     ghost Fails = { LinearFails };
 
-    ghost COUNT = { length (clients_of is_linear) };
-
-    const COUNT: u8 = 8;
-
-    fn client(number: u8) -> StandardClient {
-        [
-            StandardClient::LpMax,
-            StandardClient::LpMin,
-            StandardClient::LpMaxRows,
-            StandardClient::LpMinRows,
-            StandardClient::LpMaxV,
-            StandardClient::LpMinV,
-            StandardClient::LpMaxFace,
-            StandardClient::LpMinFace,
-        ][usize::from(number)]
+    fn client(work: LpWork) -> StandardClient {
+        match work {
+            LpWork::OverFacets(Sense::Maximal) => StandardClient::LpMax,
+            LpWork::OverFacets(Sense::Minimal) => StandardClient::LpMin,
+            LpWork::OverRows(Sense::Maximal) => StandardClient::LpMaxRows,
+            LpWork::OverRows(Sense::Minimal) => StandardClient::LpMinRows,
+            LpWork::AtRays(Sense::Maximal) => StandardClient::LpMaxV,
+            LpWork::AtRays(Sense::Minimal) => StandardClient::LpMinV,
+            LpWork::AtFace(Sense::Maximal) => StandardClient::LpMaxFace,
+            LpWork::AtFace(Sense::Minimal) => StandardClient::LpMinFace,
+        }
     }
 
     fn answer(
-        client: StandardClient,
+        work: LpWork,
         alloc: Global,
         view: &View,
         draft: &mut Draft,
     ) -> Result<(), ClientFail> {
-        match client {
-            StandardClient::LpMax => value_with_dual(Sense::Maximal, alloc, view, draft),
-            StandardClient::LpMin => value_with_dual(Sense::Minimal, alloc, view, draft),
-            StandardClient::LpMaxRows => value_from_rows(Sense::Maximal, alloc, view, draft),
-            StandardClient::LpMinRows => value_from_rows(Sense::Minimal, alloc, view, draft),
-            StandardClient::LpMaxV => value_from_rays(Sense::Maximal, alloc, view, draft),
-            StandardClient::LpMinV => value_from_rays(Sense::Minimal, alloc, view, draft),
-            StandardClient::LpMaxFace => face_at_value(Sense::Maximal, alloc, view, draft),
-            StandardClient::LpMinFace => face_at_value(Sense::Minimal, alloc, view, draft),
-            _ => unreachable!(),
+        match work {
+            LpWork::OverFacets(sense) => value_with_dual(sense, alloc, view, draft),
+            LpWork::OverRows(sense) => value_from_rows(sense, alloc, view, draft),
+            LpWork::AtRays(sense) => value_from_rays(sense, alloc, view, draft),
+            LpWork::AtFace(sense) => face_at_value(sense, alloc, view, draft),
         }
     }
-
-    ghost counted = { refl };
 }

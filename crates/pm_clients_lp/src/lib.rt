@@ -1,7 +1,7 @@
 //! Clients that find optima of linear programs over polytopes, from half-spaces or rays, with duals; and the rays at an optimum.
 #![tactic(auto)]
 
-ghost use Rattle.pm_clients_lp.specs.Examples.{DualsAreRead, FamilyIsRead};
+ghost use Rattle.pm_clients_lp.specs.Examples.{DualsAreRead, FailsAreRead};
 
 mod duals;
 mod faces;
@@ -13,12 +13,12 @@ mod rays;
 mod reading;
 
 pub use duals::dual_rows;
-pub use family::LpClient;
+pub use family::{LpClient, LpWork};
 pub use programs::{OptimumWithDual, optimum_over, optimum_with_dual};
 
-/// Which clients the family has, and how they fail.
-pub fn example_family()
-    ensures { FamilyIsRead }
+/// How the clients of the family fail.
+pub fn example_fails()
+    ensures { FailsAreRead }
 {}
 
 /// Rows of duals of a segment, and what is none.

@@ -10,15 +10,16 @@ mod lines;
 mod run;
 mod status;
 
-use pm_client::{Client, Numbered};
-use pm_clients_comb::SetsClient;
-use pm_clients_faces::FaceClient;
-use pm_clients_fans::FanClient;
+use pm_client::Client;
+use pm_clients_comb::{SetsClient, SetsWork};
+use pm_clients_faces::{FaceClient, FacesWork};
+use pm_clients_fans::{FanClient, FanWork};
 use pm_clients_geom::{
-    DimClient, HullClient, RedundancyClient, RowsClient, SizeClient, TestClient, ThinClient,
+    DimClient, DimWork, HullClient, HullWork, RedundancyClient, RedundancyWork, RowsClient,
+    RowsWork, SizeClient, SizeWork, TestClient, TestWork, ThinClient, ThinWork,
 };
-use pm_clients_graph::GraphClient;
-use pm_clients_lp::LpClient;
+use pm_clients_graph::{GraphClient, GraphWork};
+use pm_clients_lp::{LpClient, LpWork};
 use pm_store::{DirStore, StdSink, StdSource};
 use run::polymake;
 use status::Status;
@@ -53,9 +54,9 @@ fn words_after_name<R: Env + AllocGlobal>(rt: &R) -> Result<Vec<String>, Status>
 
 // Puts the clients of a family at the end of the list, each in a box; or ends the program for want of memory.
 macro_rules! box_all {
-    ($family:ident, $alloc:ident, $clients:ident) => {
-        for k in 0..$family::COUNT {
-            let Ok(client) = Box::new($alloc, $family::new(k)) else {
+    ($family:ident, $work:ident, $alloc:ident, $clients:ident) => {
+        for work in $work::every() {
+            let Ok(client) = Box::new($alloc, $family::new(work)) else {
                 return ExitCode::from(Status::OutOfMemory.number());
             };
             if $clients.push(client).is_err() {
@@ -68,18 +69,18 @@ macro_rules! box_all {
 fn main(rt: HostRuntime) -> ExitCode {
     let alloc = rt.alloc();
     let mut clients: Vec<Box<dyn Client>> = Vec::new(alloc);
-    box_all!(HullClient, alloc, clients);
-    box_all!(RedundancyClient, alloc, clients);
-    box_all!(ThinClient, alloc, clients);
-    box_all!(RowsClient, alloc, clients);
-    box_all!(DimClient, alloc, clients);
-    box_all!(SizeClient, alloc, clients);
-    box_all!(TestClient, alloc, clients);
-    box_all!(SetsClient, alloc, clients);
-    box_all!(FaceClient, alloc, clients);
-    box_all!(GraphClient, alloc, clients);
-    box_all!(LpClient, alloc, clients);
-    box_all!(FanClient, alloc, clients);
+    box_all!(HullClient, HullWork, alloc, clients);
+    box_all!(RedundancyClient, RedundancyWork, alloc, clients);
+    box_all!(ThinClient, ThinWork, alloc, clients);
+    box_all!(RowsClient, RowsWork, alloc, clients);
+    box_all!(DimClient, DimWork, alloc, clients);
+    box_all!(SizeClient, SizeWork, alloc, clients);
+    box_all!(TestClient, TestWork, alloc, clients);
+    box_all!(SetsClient, SetsWork, alloc, clients);
+    box_all!(FaceClient, FacesWork, alloc, clients);
+    box_all!(GraphClient, GraphWork, alloc, clients);
+    box_all!(LpClient, LpWork, alloc, clients);
+    box_all!(FanClient, FanWork, alloc, clients);
     let mut source = StdSource::new(rt.stdin());
     let mut sink = StdSink::new(rt.stdout());
     let mut store = DirStore::new(&rt);

@@ -1,10 +1,8 @@
-use Rattle.pm_clients_lp.proofs.example_family.Goals as goal
+use Rattle.pm_clients_lp.proofs.example_fails.Goals as goal
 use Rattle.std.proofs.Common.{inl, inr, refl}
 
 pub returns : goal.returns
 returns c = record {
-  clients = refl;
-  not_of_points = refl;
   memory = tt;
   memory_for_rays = tt;
   dual = λ e h. inr h;

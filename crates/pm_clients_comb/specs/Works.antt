@@ -1,0 +1,20 @@
+-- The works of the clients that find sets, and what sets show by their sizes.
+use Rattle.pm_clients_comb.specs.Incidence.{StaysInRange}
+use Rattle.pm_clients_comb.specs.declared.client.SetsWork.{SetsWork}
+use Rattle.pm_clients_comb.specs.declared.client.SetsWork.TheVariants as work
+use Rattle.pm_object.specs.Reading.{ViewSeen}
+use Rattle.pm_props.specs.declared.standard.StandardClient.{StandardClient}
+use Rattle.pm_props.specs.declared.standard.StandardClient.TheVariants as client
+
+-- the standard client of each work
+abbrev pub sets_client : SetsWork → StandardClient
+sets_client work.Incidence = client.Incidence
+sets_client work.VertexSizes = client.VertexSizes
+sets_client work.FacetSizes = client.FacetSizes
+sets_client work.Simple = client.Simple
+sets_client work.Simplicial = client.Simplicial
+
+-- where `incidence` answers, the products that it takes stay in the range
+abbrev pub SetsStay : SetsWork → ViewSeen → Type 0
+SetsStay work.Incidence v = StaysInRange v
+SetsStay w v = Unit {0}

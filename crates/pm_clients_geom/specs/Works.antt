@@ -1,0 +1,68 @@
+-- The standard client of each work of a family.
+use Rattle.pm_clients_geom.specs.declared.hulls.HullWork.{HullWork}
+use Rattle.pm_clients_geom.specs.declared.hulls.HullWork.TheVariants as hull
+use Rattle.pm_clients_geom.specs.declared.thinning.ThinWork.{ThinWork}
+use Rattle.pm_clients_geom.specs.declared.thinning.ThinWork.TheVariants as thin
+use Rattle.pm_clients_geom.specs.declared.redundancy.RedundancyWork.{RedundancyWork}
+use Rattle.pm_clients_geom.specs.declared.redundancy.RedundancyWork.TheVariants as redundancy
+use Rattle.pm_clients_geom.specs.declared.rows.RowsWork.{RowsWork}
+use Rattle.pm_clients_geom.specs.declared.rows.RowsWork.TheVariants as rows
+use Rattle.pm_clients_geom.specs.declared.dims.DimWork.{DimWork}
+use Rattle.pm_clients_geom.specs.declared.dims.DimWork.TheVariants as dimension
+use Rattle.pm_clients_geom.specs.declared.sizes.SizeWork.{SizeWork}
+use Rattle.pm_clients_geom.specs.declared.sizes.SizeWork.TheVariants as size
+use Rattle.pm_clients_geom.specs.declared.truths.TestWork.{TestWork}
+use Rattle.pm_clients_geom.specs.declared.truths.TestWork.TheVariants as truth
+use Rattle.pm_props.specs.declared.standard.StandardClient.{StandardClient}
+use Rattle.pm_props.specs.declared.standard.StandardClient.TheVariants as client
+
+-- of double description
+abbrev pub hull_client : HullWork → StandardClient
+hull_client hull.DdVertices = client.DdVertices
+hull_client hull.DdFacets = client.DdFacets
+hull_client hull.DdFacetsV = client.DdFacetsV
+hull_client hull.DdVerticesF = client.DdVerticesF
+
+-- of those that thin one description by the other, or find one from sets
+abbrev pub thinning_client : ThinWork → StandardClient
+thinning_client thin.ThinPointsF = client.ThinPointsF
+thinning_client thin.ThinInequalitiesV = client.ThinInequalitiesV
+thinning_client thin.VerticesFromSets = client.VerticesFromSets
+thinning_client thin.FacetsFromSets = client.FacetsFromSets
+
+-- of those that thin a description by linear programs, and of the one that asks whether there is a point
+abbrev pub redundancy_client : RedundancyWork → StandardClient
+redundancy_client redundancy.ThinPointsLp = client.ThinPointsLp
+redundancy_client redundancy.ThinInequalitiesLp = client.ThinInequalitiesLp
+redundancy_client redundancy.FeasibleLp = client.FeasibleLp
+
+-- of those that find rows
+abbrev pub rows_client : RowsWork → StandardClient
+rows_client rows.PointsFromVertices = client.PointsFromVertices
+rows_client rows.InequalitiesFromFacets = client.InequalitiesFromFacets
+rows_client rows.LinealityFromFacets = client.LinealityFromFacets
+rows_client rows.HullFromVertices = client.HullFromVertices
+
+-- of those that find a dimension
+abbrev pub dimension_client : DimWork → StandardClient
+dimension_client dimension.ConeDimV = client.ConeDimV
+dimension_client dimension.ConeDimSpan = client.ConeDimSpan
+dimension_client dimension.ConeDimPoints = client.ConeDimPoints
+dimension_client dimension.LinealityDim = client.LinealityDim
+dimension_client dimension.CombinatorialDim = client.CombinatorialDim
+
+-- of those that count rays or facets, or list rays
+abbrev pub size_client : SizeWork → StandardClient
+size_client size.NVertices = client.NVertices
+size_client size.NVerticesSets = client.NVerticesSets
+size_client size.NFacets = client.NFacets
+size_client size.NFacetsSets = client.NFacetsSets
+size_client size.FarFace = client.FarFace
+
+-- of those that find a truth value
+abbrev pub truth_client : TestWork → StandardClient
+truth_client truth.Feasible = client.Feasible
+truth_client truth.Bounded = client.Bounded
+truth_client truth.Pointed = client.Pointed
+truth_client truth.FullDim = client.FullDim
+truth_client truth.Centered = client.Centered
