@@ -81,8 +81,14 @@ fn check_by_incidence(rt: &impl Abort, alloc: Global, line: &str) {
     let vertices = vertices_by_incidence(alloc, of, cols, &generators, &description);
     let shown = format!(in alloc; "{vertices:?}").expect(rt, "room for a text");
     check(rt, line, 6, &shown);
-    let (facets, hull) = (&description.facets, &description.hull);
-    let facets = facets_by_incidence(alloc, of, cols, facets, hull, &generators);
+    let facets = facets_by_incidence(
+        alloc,
+        of,
+        cols,
+        &description.facets,
+        &description.hull,
+        &generators,
+    );
     let shown = format!(in alloc; "{facets:?}").expect(rt, "room for a text");
     check(rt, line, 7, &shown);
 }

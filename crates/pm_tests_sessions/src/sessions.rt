@@ -23,7 +23,7 @@ pub(crate) fn replies(
     let mut store = MemStore::new(alloc, Vec::new(alloc));
     let mut told: Vec<u8> = Vec::new(alloc);
     let mut rest = script.as_bytes();
-    while !rest.is_empty() {
+    'lines: while !rest.is_empty() {
         let (line, after) = split_line(rest);
         let command = read_line(alloc, line.text()).expect(rt, "a command");
         let reply = session

@@ -68,6 +68,14 @@ fn equal_rows(rt: &impl Abort, alloc: Global, count: &str) -> String {
     text
 }
 
+/// The JSON of a text, which is itself that, or a star and how many rows there are.
+fn json_of(rt: &impl Abort, alloc: Global, text: &str) -> String {
+    match text.strip_prefix('*') {
+        Some(count) => equal_rows(rt, alloc, count),
+        None => String::from_str(alloc, text).expect(rt, "room"),
+    }
+}
+
 /// An object that was given values, each behind a semicolon as a name and JSON, or a name, a star and how many rows [1,1] there are:
 /// with what goes without saying of them.
 pub(crate) fn given(rt: &impl Abort, alloc: Global, of: ObjectType, values: &str) -> Object {
@@ -75,10 +83,7 @@ pub(crate) fn given(rt: &impl Abort, alloc: Global, of: ObjectType, values: &str
     for item in values.split(';').skip(1) {
         let (name, text) = item.split_once(' ').expect(rt, "a name and a value");
         let p = property(rt, name);
-        let value = match text.strip_prefix('*') {
-            Some(count) => value_of(rt, alloc, p, &equal_rows(rt, alloc, count)),
-            None => value_of(rt, alloc, p, text),
-        };
+        let value = value_of(rt, alloc, p, &json_of(rt, alloc, text));
         assert!(rt; object.take(p, value) == Ok(()), "of {text}");
     }
     object.settle(alloc).expect(rt, "it is settled");

@@ -2,5 +2,5 @@
 use Rattle.pm_tests_sessions.proofs.sessions.replies.Given as goal
 use Rattle.std.proofs.Common.{length}
 
-abbrev pub decreases-loop-rt : goal.decreases-loop-rt
-decreases-loop-rt g l = length l.rest
+abbrev pub decreases-lines : goal.decreases-lines
+decreases-lines g l = length l.rest
