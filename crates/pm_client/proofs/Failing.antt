@@ -38,8 +38,7 @@ use Rattle.pm_simplex.specs.declared.fails.LpFail.TheVariants as program
 use Rattle.std.proofs.Common.{ap, inl, inr, refl, subst, sym, true, ◌∙◌}
 use Rattle.std.proofs.lemmas.List.{append-nil}
 use Rattle.std.specs.List.{Contains}
-use Rattle.std.specs.Prelude.{IsTrue, List, [], codes, ℕ, ◌++◌, ◌∷◌, ◌≡◌, ◌⊎◌}
-use Rattle.std.specs.Str.{bytes_eq}
+use Rattle.std.specs.Prelude.{IsTrue, List, [], ℕ, ◌++◌, ◌∷◌, ◌≡◌, ◌⊎◌}
 
 -- the client takes the row list
 abbrev pub TakesRowList : ViewSeen → Type 0

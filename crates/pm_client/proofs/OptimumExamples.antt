@@ -3,7 +3,6 @@ use Rattle.pm_client.proofs.ProgramExamples.{no_optimum}
 use Rattle.pm_client.proofs.ThinningExamples.{none_primitive}
 use Rattle.pm_client.specs.Examples.{OptimaAreRead, no_rows, nothing, of_program, single}
 use Rattle.pm_client.specs.Sound.{ArePartsOf, optimum, IsWideAtRays, IsWideDual, IsWideFace, IsWideOptimum, ReadsObjective, has_way, at_rays, at_face, dual}
-use Rattle.pm_client.proofs.ProgramExamples.{finds_none}
 use Rattle.pm_geom.specs.declared.evidence.Evidence.TheVariants.{E4}
 use Rattle.pm_geom.specs.declared.evidence.Evidence.{Evidence}
 use Rattle.pm_object.specs.Reading.{fact_of}

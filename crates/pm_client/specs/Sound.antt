@@ -1,5 +1,5 @@
 -- When a run of a client is sound, and which evidence holds of a view.
-use Rattle.std.specs.Prelude.{ℕ, ◌≡◌, ◌++◌, ◌||◌, ◌⊎◌, Bool, true, false, IsTrue, Option, List, [], ◌∷◌, Some, map}
+use Rattle.std.specs.Prelude.{ℕ, ◌≡◌, ◌++◌, ◌⊎◌, Bool, true, false, IsTrue, Option, List, [], ◌∷◌, Some, map}
 use Rattle.std.specs.List.{Contains}
 use Rattle.pm_algebra.specs.Divisors.{IsPrimitive}
 use Rattle.pm_algebra.specs.Numbers.{Ratio}

@@ -1,4 +1,5 @@
--- The ways in which a standard client may fail, a row of the standard book each: what it may show beside want of memory.
+-- The ways in which a standard client may fail, a row of the standard book each: what it may show beside want of
+-- memory.
 use Rattle.std.specs.Prelude.{ℕ, Bool, true, false, Option, None, Some, List, [], ◌∷◌, ◌++◌, find}
 use Rattle.std.specs.List.{flat_map, list_any}
 use Rattle.std.specs.Str.{bytes_eq}
@@ -8,7 +9,9 @@ use Rattle.pm_props.specs.declared.standard.StandardClient.TheVariants as client
 use Rattle.pm_simplex.specs.declared.sense.Sense.{Sense}
 use Rattle.pm_simplex.specs.declared.sense.Sense.TheVariants.{Maximal, Minimal}
 
--- which lists of rows a client may eliminate: the row list; its first part, the double description list, and the rows of that which enlarge the span; the rows in the lineality, and their basis with a row, by the other description or by linear programs; rows that determine the row of a set; rows that span a maximal cone
+-- which lists of rows a client may eliminate: the row list; its first part, the double description list, and the rows
+-- of that which enlarge the span; the rows in the lineality, and their basis with a row, by the other description or by
+-- linear programs; rows that determine the row of a set; rows that span a maximal cone
 pub data Eliminated : Type 0 where
   row_list : Eliminated
   first_part : Eliminated
@@ -21,7 +24,9 @@ pub data Eliminated : Type 0 where
   determining_rows : Eliminated
   cone_rows : Eliminated
 
--- a step in the elimination of a list (E1); two rays of a front (E2), or too many (E5); a pivot in a program (E3): of a row over the others, of a point, of an optimum; a product of rows that were read (E4), of a row that a set determines, of a dual, at rays, at a face; too many facets or faces (E5)
+-- a step in the elimination of a list (E1); two rays of a front (E2), or too many (E5); a pivot in a program (E3): of a
+-- row over the others, of a point, of an optimum; a product of rows that were read (E4), of a row that a set
+-- determines, of a dual, at rays, at a face; too many facets or faces (E5)
 pub data Way : Type 0 where
   eliminates : Eliminated → Way
   doubling : Way

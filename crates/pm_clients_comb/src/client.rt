@@ -48,8 +48,8 @@ impl SetsWork {
 #[derive(Debug, Drop)]
 pub struct SetsFamily;
 
-/// A client that finds sets or sizes of sets. `incidence` fails exactly where a product of the primitive whole rows that it
-/// reads leaves the range, the others for want of memory alone.
+/// A client that finds sets or sizes of sets. `incidence` fails exactly where a product of the primitive whole rows
+/// that it reads leaves the range, the others for want of memory alone.
 pub type SetsClient = FamilyClient<SetsFamily>;
 
 impl Family for SetsFamily {

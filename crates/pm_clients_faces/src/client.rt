@@ -40,9 +40,9 @@ impl FacesWork {
 #[derive(Debug, Drop)]
 pub struct FacesFamily;
 
-/// A client that finds faces or numbers of faces. But for want of memory only `faces` fails, and it does so exactly where
-/// there are more faces than a lattice may have. A lattice of more than 34 ranks is that of no thing, since a thing has at
-/// most 33 columns; then `f_vector` and `f2_vector` put the empty list and the empty matrix.
+/// A client that finds faces or numbers of faces. But for want of memory only `faces` fails, and it does so exactly
+/// where there are more faces than a lattice may have. A lattice of more than 34 ranks is that of no thing, since a
+/// thing has at most 33 columns; then `f_vector` and `f2_vector` put the empty list and the empty matrix.
 pub type FaceClient = FamilyClient<FacesFamily>;
 
 impl Family for FacesFamily {

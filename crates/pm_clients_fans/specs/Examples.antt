@@ -1,7 +1,7 @@
 -- What numbers and sets show.
 use Rattle.pm_clients_fans.specs.Numbers.{IsMost}
 use Rattle.pm_relations.specs.Fans.{AreOne, AreSimplices}
-use Rattle.std.specs.Prelude.{[], false, ◌∷◌, ◌≡◌}
+use Rattle.std.specs.Prelude.{[], ◌∷◌}
 use lib.IntN.{pos, negsuc}
 
 pub record NumbersAreRead : Type 0 where

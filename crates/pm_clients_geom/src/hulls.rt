@@ -49,8 +49,8 @@ impl HullWork {
 #[derive(Debug, Drop)]
 pub struct HullFamily;
 
-/// A client of double description. It fails for want of memory, where a step leaves the range, and where a cone on the way
-/// has too many extreme rays.
+/// A client of double description. It fails for want of memory, where a step leaves the range, and where a cone on the
+/// way has too many extreme rays.
 pub type HullClient = FamilyClient<HullFamily>;
 
 impl Family for HullFamily {

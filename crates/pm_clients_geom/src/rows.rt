@@ -55,8 +55,8 @@ impl RowsWork {
 #[derive(Debug, Drop)]
 pub struct RowsFamily;
 
-/// A client that finds rows. `lineality_from_facets` and `hull_from_vertices` fail exactly where the null space of their
-/// row list is Wide, the others never.
+/// A client that finds rows. `lineality_from_facets` and `hull_from_vertices` fail exactly where the null space of
+/// their row list is Wide, the others never.
 pub type RowsClient = FamilyClient<RowsFamily>;
 
 impl Family for RowsFamily {

@@ -52,8 +52,8 @@ impl ThinWork {
 #[derive(Debug, Drop)]
 pub struct ThinFamily;
 
-/// A client that thins or takes sets. It fails for want of memory, where a step of an elimination or a product leaves the
-/// range, and `thin_inequalities_v` where there are more than 2,048 facets.
+/// A client that thins or takes sets. It fails for want of memory, where a step of an elimination or a product leaves
+/// the range, and `thin_inequalities_v` where there are more than 2,048 facets.
 pub type ThinClient = FamilyClient<ThinFamily>;
 
 impl Family for ThinFamily {

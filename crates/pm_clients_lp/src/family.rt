@@ -50,9 +50,9 @@ impl LpWork {
 #[derive(Debug, Drop)]
 pub struct LpFamily;
 
-/// A client of linear programs. It fails for want of memory; the optima over half-spaces where a pivot of their program leaves
-/// the range, and those with a dual where a row of the dual does; the others where a product of the objective with a ray or
-/// line does, or the optimum, or the row that vanishes at it.
+/// A client of linear programs. It fails for want of memory; the optima over half-spaces where a pivot of their program
+/// leaves the range, and those with a dual where a row of the dual does; the others where a product of the objective
+/// with a ray or line does, or the optimum, or the row that vanishes at it.
 pub type LpClient = FamilyClient<LpFamily>;
 
 impl Family for LpFamily {

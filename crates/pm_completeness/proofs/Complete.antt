@@ -1,10 +1,10 @@
 -- From each description the rules of the standard book, run in turn, lead to all properties of the table.
 use Rattle.std.proofs.Common.{◌≡◌, Bool, true, false, not, ◌&&◌, ◌||◌, IsTrue, Option, None, Some, List, [], ◌∷◌, ◌++◌, ℕ, suc, eqb, inl, inr, refl, sym, subst, ◌∙◌}
-use Rattle.std.specs.Prelude.{if◌then◌else◌, slice_get}
+use Rattle.std.specs.Prelude.{slice_get}
 use Rattle.pm_props.specs.Kinds.{standard_clients}
 use Rattle.pm_props.specs.declared.standard.StandardClient.{StandardClient}
 use Rattle.std.specs.List.{All, list_all, list_any}
-use Rattle.std.proofs.lemmas.Bool.{and_from, and_parts, both_ways, cases_Bool, eqb-true, or_cases}
+use Rattle.std.proofs.lemmas.Bool.{and_from, and_parts, both_ways, eqb-true, or_cases}
 use Rattle.std.proofs.lemmas.List.Elements.{All-cons, All-head, All-nil, All-tail}
 use Rattle.pm_algebra.proofs.Lists.{Among, among_Contains, here, there}
 use Rattle.pm_props.proofs.Every.{all_properties, has-set_of, has-set_of_filter}

@@ -1,5 +1,4 @@
 -- The examples of the orders that a property reads hold.
-use Rattle.pm_geom.specs.Examples.{half_line, pair}
 use Rattle.pm_right_examples.proofs.RayExamples.{far_at, first_of, half_line_values_are_read}
 use Rattle.pm_right_examples.specs.OrderExamples.{OrdersAreShown, turned_orders}
 use Rattle.pm_right_examples.specs.RayExamples.{half_line_orders}
