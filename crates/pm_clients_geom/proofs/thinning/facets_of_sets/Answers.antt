@@ -9,8 +9,7 @@ use Rattle.pm_props.specs.declared.property.PropId.TheVariants.{Facets, Linealit
 use Rattle.pm_props.specs.declared.property.PropId.{PropId}
 use Rattle.std.proofs.Common.{ap, arith, refl, subst, sym, true, ◌∙◌}
 use Rattle.std.proofs.lemmas.Result.{err_from_is_err_and}
-use Rattle.std.specs.Prelude.{List, [], codes, ◌∷◌, ◌≡◌}
-use Rattle.std.specs.Str.{bytes_eq}
+use Rattle.std.specs.Prelude.{List, [], ◌∷◌, ◌≡◌}
 
 abbrev sources : List PropId
 sources = Vertices ∷ LinealitySpace ∷ VerticesInFacets ∷ []
