@@ -87,7 +87,26 @@ fn lie_level(rows: &[Ints]) -> bool
     true
 }
 
-// The number is in the field at this place, or the number of the evidence that it leaves the range.
+// A number as text.
+fn number_text(rt: &impl Abort, alloc: Global, number: Number) -> String {
+    match number {
+        Number::Finite(value) => value.text(alloc),
+        Number::Plus => String::from_str(alloc, "inf"),
+        Number::Minus => String::from_str(alloc, "-inf"),
+    }
+    .expect(rt, "room for a text")
+}
+
+// A refusal as text: the number of the evidence that something leaves the range.
+fn refusal_text(rt: &impl Abort, alloc: Global, fail: LpFail) -> String {
+    match fail {
+        LpFail::Wide(evidence) => format!(in alloc; "E{}", evidence.number()),
+        LpFail::Memory => String::from_str(alloc, "no memory"),
+    }
+    .expect(rt, "room for a text")
+}
+
+// The answer is in the field at this place.
 fn check_number(
     rt: &impl Abort,
     alloc: Global,
@@ -96,13 +115,10 @@ fn check_number(
     answer: Result<Number, LpFail>,
 ) {
     let shown = match answer {
-        Ok(Number::Finite(value)) => format!(in alloc; "{value}"),
-        Ok(Number::Plus) => format!(in alloc; "inf"),
-        Ok(Number::Minus) => format!(in alloc; "-inf"),
-        Err(LpFail::Wide(evidence)) => format!(in alloc; "E{}", evidence.number()),
-        Err(LpFail::Memory) => format!(in alloc; "no memory"),
+        Ok(number) => number_text(rt, alloc, number),
+        Err(fail) => refusal_text(rt, alloc, fail),
     };
-    check(rt, line, place, &shown.expect(rt, "room for a text"));
+    check(rt, line, place, &shown);
 }
 
 #[test]

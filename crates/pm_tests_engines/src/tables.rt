@@ -37,7 +37,7 @@ pub(crate) fn check(rt: &impl Abort, line: &str, place: usize, shown: &str) {
 }
 
 /// The row of the whole numbers of a text.
-fn row(rt: &impl Abort, alloc: Global, text: &str) -> Ints {
+pub(crate) fn row(rt: &impl Abort, alloc: Global, text: &str) -> Ints {
     let mut row = Ints::new(alloc);
     for word in text.split_whitespace() {
         let entry = word.parse::<i128>().expect(rt, "a whole number");

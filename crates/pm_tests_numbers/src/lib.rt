@@ -1,4 +1,4 @@
-//! The tests of whole rows, fractions, matrices, elimination, bit rows and wide numbers, and of where bytes come from and go, over their public calls.
+//! The tests of whole rows, fractions, matrices, elimination and bit rows, and of where bytes come from and go, over their public calls.
 #![tactic(auto)]
 
 #[cfg(test)]
@@ -17,5 +17,3 @@ mod store;
 mod tables;
 #[cfg(test)]
 mod vector;
-#[cfg(test)]
-mod wide;

@@ -2,7 +2,7 @@
 
 use pm_books::read_book;
 use pm_client::Client;
-use pm_command::{read_line, split_line};
+use pm_command::{Command, read_line, split_line};
 use pm_machine::Session;
 use pm_script::reply_bytes;
 use pm_store::MemStore;
@@ -25,10 +25,13 @@ pub(crate) fn replies(
     let mut rest = script.as_bytes();
     'lines: while !rest.is_empty() {
         let (line, after) = split_line(rest);
-        let command = read_line(alloc, line.text()).expect(rt, "a command");
-        let reply = session
-            .step(alloc, command, clients, &mut store)
-            .expect(rt, "memory for a step");
+        let reply = match read_line(alloc, line.text()) {
+            Ok(Command::Blank) => panic!(rt; "a line without a command"),
+            Ok(command) => session
+                .step(alloc, command, clients, &mut store)
+                .expect(rt, "memory for a step"),
+            Err(_) => panic!(rt; "a line that speaks no command"),
+        };
         let text = reply_bytes(alloc, &reply, false).expect(rt, "memory for a text");
         told.extend_from_slice(&text)
             .expect(rt, "memory for a reply");

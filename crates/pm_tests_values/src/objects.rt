@@ -93,7 +93,8 @@ fn failed_rule(rt: &impl Abort, alloc: Global) -> Excluded
 
 // An object that a round has left: its last rule failed.
 fn left_by_a_round(rt: &impl Abort, alloc: Global) -> Object {
-    let mut object = given(rt, alloc, ObjectType::Polytope, "");
+    let mut object = Object::new(alloc, ObjectType::Polytope);
+    object.settle(alloc).expect(rt, "it is settled");
     let round = Round {
         sub: None,
         weight: Cost { class: 1, minor: 2 },
