@@ -58,7 +58,7 @@ impl<T: Drop> From<AllocFailed<T>> for DdFail {
 
 /// Why a step was given up.
 #[derive(Debug, Drop)]
-pub(crate) enum StepFail {
+pub enum StepFail {
     /// The product of the next row with the ray at this place leaves the range.
     Product(usize),
     /// The combination of two adjacent rays, the next row being positive on the first and negative on the second, leaves the range in a column.

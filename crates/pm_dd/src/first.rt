@@ -39,7 +39,7 @@ pub(crate) fn all_but(
 }
 
 /// Copies of the equations and of the first rows.
-pub(crate) fn first_rows(
+pub fn first_rows(
     alloc: Global,
     equations: &[Ints],
     rows: &[Ints],
@@ -88,7 +88,7 @@ fn first_rays(
 }
 
 /// These rays, or a refusal with its evidence.
-pub(crate) fn start_rays(
+pub fn start_rays(
     alloc: Global,
     cols: usize,
     equations: &[Ints],

@@ -13,18 +13,19 @@ ghost use Rattle.std.specs.Prelude.{List, ℕ};
 mod combination;
 mod extreme;
 mod fails;
-mod first;
+pub mod first;
 mod leading;
 mod mixed;
 mod near;
 mod order;
 mod pairs;
-mod rays;
-mod run;
-mod step;
+pub mod rays;
+pub mod run;
+pub mod step;
 
 pub use extreme::extreme_rays;
-pub use fails::DdFail;
+pub use fails::{DdFail, StepFail};
+pub use pairs::MOST_RAYS;
 pub use pm_geom::descriptions::Generators;
 
 /// One step of double description: the extreme rays of the next cone are the kept ones and the combinations of adjacent pairs, and no two are alike.

@@ -20,7 +20,7 @@ use pm_vector::Ints;
 use std::alloc::Global;
 
 /// The most extreme rays that a cone on the way may have.
-pub(crate) const MOST_RAYS: usize = 2048;
+pub const MOST_RAYS: usize = 2048;
 
 /// The number of rows that an adjacent pair needs in common beyond the leading equations: the rank less these and 2.
 fn needed(rank: usize, equations: usize) -> usize

@@ -12,7 +12,7 @@ pub(crate) struct Ray {
 
 /// The rays of a front, with their zero sets.
 #[derive(Drop)]
-pub(crate) struct Rays {
+pub struct Rays {
     pub rows: Vec<Ints>,
     pub zeros: BitTable,
 }

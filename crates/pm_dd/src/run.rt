@@ -38,7 +38,7 @@ fn pair_evidence(
 }
 
 /// The refusal of the step at a front, whose rays these are. In the stated order the opposites of the equations stand before the front.
-fn refusal_of(
+pub fn refusal_of(
     alloc: Global,
     cols: usize,
     equations: &[Ints],
@@ -87,7 +87,7 @@ fn refusal_of(
 }
 
 /// The rays of a front with one row more, or a refusal with its evidence.
-fn rays_after(
+pub fn rays_after(
     alloc: Global,
     cols: usize,
     equations: &[Ints],

@@ -19,7 +19,7 @@ use pm_vector::{Ints, dot};
 use std::alloc::{AllocError, Global};
 
 /// The products of the next row with all rays.
-pub(crate) fn products(alloc: Global, row: &Ints, rays: &[Ints]) -> Result<Vec<i128>, StepFail>
+pub fn products(alloc: Global, row: &Ints, rays: &[Ints]) -> Result<Vec<i128>, StepFail>
     requires { HasCols (length row.now) rays.now }
     ensures products { IfOk result (λ v. AreProducts row.now rays.now v.items) }
     ensures wide { IfErr result (λ f. IfProduct f (λ i. (i < length rays.now) × ¬ (ProductsStay row.now (ray rays.now i)))) }

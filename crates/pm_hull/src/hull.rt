@@ -12,7 +12,7 @@ use crate::parts::double_list;
 use pm_dd::{DdFail, extreme_rays};
 use pm_elim::copies;
 use pm_geom::descriptions::{Facets, Generators};
-use pm_props::ObjectType;
+use pm_object_type::ObjectType;
 use pm_vector::Ints;
 use std::alloc::{AllocError, Global};
 

@@ -5,5 +5,6 @@ mod hull;
 mod parts;
 
 pub use hull::{to_facets, to_generators};
+pub use parts::{add_copies, both_ways};
 pub use pm_dd::DdFail;
 pub use pm_geom::descriptions::{Facets, Generators};

@@ -12,7 +12,7 @@ use pm_vector::{Ints, negate};
 use std::alloc::{AllocError, Global};
 
 /// Each row, and after it its opposite.
-fn both_ways(alloc: Global, rows: &[Ints]) -> Result<Vec<Ints>, AllocError>
+pub fn both_ways(alloc: Global, rows: &[Ints]) -> Result<Vec<Ints>, AllocError>
     ensures { IfOk result (λ v. v.items ≡ both_signs rows.now) }
 {
     let mut made = Vec::new(alloc);
@@ -26,7 +26,7 @@ fn both_ways(alloc: Global, rows: &[Ints]) -> Result<Vec<Ints>, AllocError>
 }
 
 /// Copies of rows, put behind others.
-fn add_copies(alloc: Global, rows: &[Ints], others: Vec<Ints>) -> Result<Vec<Ints>, AllocError>
+pub fn add_copies(alloc: Global, rows: &[Ints], others: Vec<Ints>) -> Result<Vec<Ints>, AllocError>
     ensures { IfOk result (λ v. v.items ≡ others.items ++ rows.now) }
 {
     let mut made = others;
