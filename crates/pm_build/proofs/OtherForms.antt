@@ -14,8 +14,8 @@ use Rattle.pm_build.specs.Rows.{apex_row}
 use Rattle.pm_object.specs.declared.held.Condition.TheVariants as condition
 use Rattle.pm_object.specs.Formed.{IsFormed}
 use Rattle.pm_object.specs.State.{State, cols_of, is_held, read_at, value_of, is_polytope}
-use Rattle.pm_props.specs.declared.object_type.ObjectType.{ObjectType}
-use Rattle.pm_props.specs.declared.object_type.ObjectType.TheVariants.{Cone, Fan, Polytope}
+use Rattle.pm_object_type.specs.declared.object_type.ObjectType.{ObjectType}
+use Rattle.pm_object_type.specs.declared.object_type.ObjectType.TheVariants.{Cone, Fan, Polytope}
 use Rattle.pm_props.specs.declared.property.PropId.TheVariants.{AffineHull, Bounded, Centered, Equations, Facets, FullDim, Inequalities, InputLineality, LinealitySpace, Points, Vertices}
 use Rattle.pm_props.specs.declared.property.PropId.{PropId}
 use Rattle.pm_types.proofs.WholeRows.{ratios_fractions, ratios_primitive}

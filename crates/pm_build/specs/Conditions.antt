@@ -8,8 +8,8 @@ use Rattle.pm_object.specs.declared.held.Condition.{Condition}
 use Rattle.pm_object.specs.declared.held.Condition.TheVariants as condition
 use Rattle.pm_object.specs.Known.{cols_at, is_true, rows_at}
 use Rattle.pm_object.specs.State.{State, is_polytope}
-use Rattle.pm_props.specs.declared.object_type.ObjectType.{ObjectType}
-use Rattle.pm_props.specs.declared.object_type.ObjectType.TheVariants.{Polytope, Cone, Fan}
+use Rattle.pm_object_type.specs.declared.object_type.ObjectType.{ObjectType}
+use Rattle.pm_object_type.specs.declared.object_type.ObjectType.TheVariants.{Polytope, Cone, Fan}
 use Rattle.pm_props.specs.declared.property.PropId.{PropId}
 use Rattle.pm_props.specs.declared.property.PropId.TheVariants.{AffineHull, Bounded, Centered, Facets, FullDim, LinealitySpace, Points, Vertices}
 use Rattle.pm_types.specs.Forms.{is_row, rows_in}

@@ -3,7 +3,7 @@ use Rattle.std.specs.Prelude.{ℕ, ◌≡◌, ◌≢◌, Bool, true, false, List
 use Rattle.pm_algebra.specs.Rows.{Row}
 use Rattle.pm_object.specs.State.{HeldValue, State, word_of}
 use Rattle.pm_object.specs.declared.held.Origin.TheVariants.{Given}
-use Rattle.pm_props.specs.declared.object_type.ObjectType.TheVariants.{Cone, Polytope}
+use Rattle.pm_object_type.specs.declared.object_type.ObjectType.TheVariants.{Cone, Polytope}
 use Rattle.pm_props.specs.declared.property.PropId.{PropId}
 use Rattle.pm_props.specs.declared.property.PropId.TheVariants.{AffineHull, Bounded, Centered, ConeAmbientDim, Equations, Facets, FullDim, Inequalities, InputLineality, LinealitySpace, Points, Vertices}
 use Rattle.pm_types.specs.Values.{PropertyValue, matrix, truth, whole}

@@ -4,7 +4,7 @@ use Rattle.std.specs.List.{All}
 use Rattle.pm_files.specs.Files.{SavedFile}
 use Rattle.pm_object.specs.Formed.{IsFormed}
 use Rattle.pm_object.specs.State.{State}
-use Rattle.pm_props.specs.declared.object_type.ObjectType.TheVariants.{Polytope}
+use Rattle.pm_object_type.specs.declared.object_type.ObjectType.TheVariants.{Polytope}
 use Rattle.pm_props.specs.declared.property.PropId.{PropId}
 use Rattle.pm_types.specs.Forms.{FormsIn}
 use Rattle.pm_types.specs.Values.{PropertyValue}

@@ -4,7 +4,7 @@ use Rattle.pm_algebra.specs.Numbers.{Ratio}
 use Rattle.pm_files.specs.Files.{SavedFile}
 use Rattle.pm_matrix.specs.Matrices.{FractionMatrix}
 use Rattle.pm_object.specs.State.{State}
-use Rattle.pm_props.specs.declared.object_type.ObjectType.TheVariants.{Polytope}
+use Rattle.pm_object_type.specs.declared.object_type.ObjectType.TheVariants.{Polytope}
 use Rattle.pm_props.specs.declared.property.PropId.{PropId}
 use Rattle.pm_props.specs.declared.property.PropId.TheVariants.{AffineHull, Equations, Facets, Inequalities, InputLineality, LinealitySpace, Points, Vertices}
 use Rattle.pm_types.specs.Values.{PropertyValue, matrix}

@@ -1,6 +1,6 @@
 // Tests of rows.
 
-ghost use Rattle.pm_props.specs.declared.object_type.ObjectType.TheVariants.{Polytope};
+ghost use Rattle.pm_object_type.specs.declared.object_type.ObjectType.TheVariants.{Polytope};
 ghost use Rattle.pm_props.specs.declared.property.PropId.TheVariants.{Points};
 ghost use Rattle.pm_types.specs.Forms.{first_is_below, is_below_nought, is_row};
 ghost use Rattle.std.specs.List.{list_all};

@@ -6,7 +6,7 @@ use Rattle.pm_object.specs.Known.{value_over}
 use Rattle.pm_object.specs.State.{HeldValue, State}
 use Rattle.pm_object.specs.declared.held.Condition.TheVariants as condition
 use Rattle.pm_object.specs.declared.held.Origin.TheVariants.{Given}
-use Rattle.pm_props.specs.declared.object_type.ObjectType.TheVariants.{Cone, Polytope}
+use Rattle.pm_object_type.specs.declared.object_type.ObjectType.TheVariants.{Cone, Polytope}
 use Rattle.pm_props.specs.declared.property.PropId.{PropId}
 use Rattle.pm_props.specs.declared.property.PropId.TheVariants.{AffineHull, Bounded, Centered, ConeAmbientDim, Facets, Feasible, LinealitySpace, MaximalCones, Vertices, VerticesInFacets}
 use Rattle.pm_types.specs.Values.{PropertyValue, sets, truth, whole}

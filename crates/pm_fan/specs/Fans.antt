@@ -6,7 +6,7 @@ use Rattle.pm_files.specs.Files.{SavedFile}
 use Rattle.pm_geom.specs.Graphs.{holds}
 use Rattle.pm_object.specs.Known.{cols_at, rows_at, sets_at, value_of_sets, value_over}
 use Rattle.pm_object.specs.State.{State}
-use Rattle.pm_props.specs.declared.object_type.ObjectType.TheVariants.{Fan}
+use Rattle.pm_object_type.specs.declared.object_type.ObjectType.TheVariants.{Fan}
 use Rattle.pm_props.specs.declared.property.PropId.{PropId}
 use Rattle.pm_props.specs.declared.property.PropId.TheVariants.{AffineHull, ConeAmbientDim, Facets, LinealitySpace, MaximalCones, Vertices, VerticesInFacets}
 use Rattle.pm_types.specs.Values.{IndexSets, PropertyValue, whole}

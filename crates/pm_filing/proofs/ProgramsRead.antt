@@ -23,8 +23,8 @@ use Rattle.pm_json.specs.Readings.{Read, and_then, before, reading}
 use Rattle.pm_object.specs.Formed.{are_different as names_differ}
 use Rattle.pm_props.specs.NameWords.{is_name}
 use Rattle.pm_props.specs.Names.{property_named_in}
-use Rattle.pm_props.specs.declared.object_type.ObjectType.{ObjectType}
-use Rattle.pm_props.specs.declared.object_type.ObjectType.TheVariants.{Polytope, Cone, Fan}
+use Rattle.pm_object_type.specs.declared.object_type.ObjectType.{ObjectType}
+use Rattle.pm_object_type.specs.declared.object_type.ObjectType.TheVariants.{Polytope, Cone, Fan}
 use Rattle.pm_props.specs.declared.property.PropId.{PropId}
 use Rattle.pm_types.specs.Forms.{rows_in}
 use Rattle.pm_types.specs.Values.{PropertyValue}

@@ -6,7 +6,7 @@ use Rattle.std.specs.Fmt.{digits}
 use Rattle.std.specs.Str.{chars, is_utf8}
 use Rattle.serde_json.proofs.OnLiterals.{serde_json_on_literals}
 use Rattle.pm_props.specs.Sets.{has, only, union}
-use Rattle.pm_props.specs.declared.object_type.ObjectType.TheVariants.{Polytope}
+use Rattle.pm_object_type.specs.declared.object_type.ObjectType.TheVariants.{Polytope}
 use Rattle.pm_props.specs.declared.property.PropId.TheVariants.{Facets, Points, Vertices}
 use Rattle.pm_types.specs.Forms.{HasPrimitiveRow}
 use Rattle.pm_filing.specs.FileReadings.{IsFirstBad}

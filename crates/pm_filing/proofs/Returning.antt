@@ -43,8 +43,8 @@ use Rattle.pm_props.specs.Names.{property_named_in}
 use Rattle.pm_props.specs.Places.{same_property}
 use Rattle.pm_props.specs.Properties.{has as has_property, is_ambient, is_of_edges, is_of_lattices, name_in, value_kind}
 use Rattle.pm_props.specs.Sets.{has, set_of}
-use Rattle.pm_props.specs.declared.object_type.ObjectType.{ObjectType}
-use Rattle.pm_props.specs.declared.object_type.ObjectType.TheVariants.{Polytope, Cone, Fan}
+use Rattle.pm_object_type.specs.declared.object_type.ObjectType.{ObjectType}
+use Rattle.pm_object_type.specs.declared.object_type.ObjectType.TheVariants.{Polytope, Cone, Fan}
 use Rattle.pm_props.specs.declared.property.PropId.{PropId}
 use Rattle.pm_props.specs.declared.property.PropId.TheVariants.{ConeAmbientDim, LinearObjective}
 use Rattle.pm_rules.specs.Words.{is_label}

@@ -35,7 +35,7 @@ use Rattle.pm_props.proofs.Places.{same_property_is, same_property_refl}
 use Rattle.pm_props.specs.Places.{place_of, same_place, same_property}
 use Rattle.pm_props.specs.Properties.{has as has_property}
 use Rattle.pm_props.specs.Sets.{has}
-use Rattle.pm_props.specs.declared.object_type.ObjectType.{ObjectType}
+use Rattle.pm_object_type.specs.declared.object_type.ObjectType.{ObjectType}
 use Rattle.pm_props.specs.declared.property.PropId.{PropId}
 use Rattle.pm_props.specs.declared.property.PropId.TheVariants.{ConeAmbientDim, LinearObjective}
 use Rattle.pm_rules.specs.Books.{IsBook, IsRule}

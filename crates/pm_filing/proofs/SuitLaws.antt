@@ -10,7 +10,7 @@ use Rattle.pm_object.proofs.Formed.{agrees_free, agrees_itself, ambient_is, dime
 use Rattle.pm_object.specs.State.{ambient_in}
 use Rattle.pm_props.proofs.Places.{same_property_is}
 use Rattle.pm_props.specs.Properties.{is_ambient}
-use Rattle.pm_props.specs.declared.object_type.ObjectType.{ObjectType}
+use Rattle.pm_object_type.specs.declared.object_type.ObjectType.{ObjectType}
 use Rattle.pm_props.specs.declared.property.PropId.{PropId}
 use Rattle.pm_props.specs.declared.property.PropId.TheVariants.{ConeAmbientDim, LinearObjective}
 use Rattle.pm_types.specs.Forms.{HavePrimitiveRows, agrees_with, are_rows, is_formed, stated_cols}

@@ -1,6 +1,6 @@
 -- The tests of columns and rows, some values at a time.
 use Rattle.std.proofs.Common.{add-one, refl, sym, ap, drop, drop-cons, get_or, length, map, suc, ◌+◌, ◌<◌, ◌∙◌, ◌≡◌, ◌++◌, inl, inr, ℕ, List, [], ◌∷◌, Option}
-use Rattle.pm_props.specs.declared.object_type.ObjectType.{ObjectType}
+use Rattle.pm_object_type.specs.declared.object_type.ObjectType.{ObjectType}
 use Rattle.pm_filing.specs.FileParts.{FileFault}
 use Rattle.pm_filing.specs.FileReadings.{ArePassed, HasBadRow, IsFirstBad, Named, cols_after, cols_after_all}
 use Rattle.pm_filing.specs.ReadingViews.{HaveFractions}

@@ -1,6 +1,6 @@
 -- Bytes are read as one file, or refused for one fault.
 use Rattle.std.proofs.Common.{sym, ap, subst, ◌∙◌, ◌≡◌, inl, inr, ℕ, List, [], ◌∷◌, Option, None, Ok, Err, Bool, true, false, true≢false}
-use Rattle.pm_props.specs.declared.object_type.ObjectType.{ObjectType}
+use Rattle.pm_object_type.specs.declared.object_type.ObjectType.{ObjectType}
 use Rattle.pm_filing.specs.FileParts.{FileFault, FileRead, bad_row}
 use Rattle.pm_files.specs.Files.{SavedFile}
 use Rattle.pm_filing.specs.FileReadings.{ArePassed, IsFirstBad, Named, Reads, ReadsSeen, Refuses, RefusesSeen, Seen, cols_after, named_values, seen}

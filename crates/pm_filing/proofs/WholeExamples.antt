@@ -13,7 +13,7 @@ use Rattle.pm_filing.specs.Views.{Suits}
 use Rattle.pm_matrix.specs.Matrices.{IsFraction}
 use Rattle.pm_props.proofs.Members.{has-empty}
 use Rattle.pm_props.specs.Sets.{has, only, union}
-use Rattle.pm_props.specs.declared.object_type.ObjectType.TheVariants.{Cone, Polytope}
+use Rattle.pm_object_type.specs.declared.object_type.ObjectType.TheVariants.{Cone, Polytope}
 use Rattle.pm_props.specs.declared.property.PropId.{PropId}
 use Rattle.pm_props.specs.declared.property.PropId.TheVariants.{ConeAmbientDim, FullDim, LinearObjective, Pointed}
 use Rattle.pm_types.specs.Forms.{AreFractions, HasPrimitiveRow, agrees_with}

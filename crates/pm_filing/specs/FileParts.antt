@@ -6,8 +6,8 @@ use Rattle.pm_json.specs.declared.fail.ValueFail.{ValueFail}
 use Rattle.pm_json.specs.declared.fail.ValueFail.TheVariants.{Shape, Limit}
 use Rattle.pm_props.specs.Names.{property_named_in}
 use Rattle.pm_props.specs.Properties.{is_of_edges, is_of_lattices, value_kind}
-use Rattle.pm_props.specs.declared.object_type.ObjectType.{ObjectType}
-use Rattle.pm_props.specs.declared.object_type.ObjectType.TheVariants.{Polytope, Cone, Fan}
+use Rattle.pm_object_type.specs.declared.object_type.ObjectType.{ObjectType}
+use Rattle.pm_object_type.specs.declared.object_type.ObjectType.TheVariants.{Polytope, Cone, Fan}
 use Rattle.pm_props.specs.declared.property.PropId.{PropId}
 use Rattle.pm_props.specs.declared.property.PropId.TheVariants.{LinearObjective}
 use Rattle.pm_types.specs.Values.{PropertyValue}

@@ -2,7 +2,7 @@
 use Rattle.std.specs.Prelude.{ℕ, ◌≡◌, ◌⊎◌, ⊤, IsTrue, List, [], ◌∷◌, ◌++◌, codes, nat_eq, Option, Some, None, Ok, Err, if◌then◌else◌}
 use Rattle.pm_object.specs.State.{agrees, ambient_in, or_else}
 use Rattle.pm_props.specs.Properties.{is_ambient, name_in}
-use Rattle.pm_props.specs.declared.object_type.ObjectType.{ObjectType}
+use Rattle.pm_object_type.specs.declared.object_type.ObjectType.{ObjectType}
 use Rattle.pm_props.specs.declared.property.PropId.{PropId}
 use Rattle.pm_props.specs.declared.property.PropId.TheVariants.{LinearObjective}
 use Rattle.pm_types.specs.Forms.{HavePrimitiveRows, are_rows, stated_cols}

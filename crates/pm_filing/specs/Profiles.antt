@@ -7,7 +7,7 @@ use Rattle.pm_props.specs.NameWords.{is_name}
 use Rattle.pm_props.specs.Names.{property_named_in}
 use Rattle.pm_props.specs.Places.{same_property}
 use Rattle.pm_props.specs.Sets.{has, set_of}
-use Rattle.pm_props.specs.declared.object_type.ObjectType.{ObjectType}
+use Rattle.pm_object_type.specs.declared.object_type.ObjectType.{ObjectType}
 use Rattle.pm_props.specs.declared.property.PropId.{PropId}
 use Rattle.pm_rules.specs.Words.{is_label}
 use Rattle.pm_types.specs.Forms.{rows_in}

@@ -3,7 +3,7 @@ use Rattle.std.specs.Prelude.{ℕ, List, [], ◌∷◌, Option, None, Some, Ok, 
 use Rattle.pm_fraction.specs.Fractions.{ratio_of}
 use Rattle.pm_json.specs.declared.fail.ValueFail.TheVariants.{Shape, Number, Limit}
 use Rattle.pm_props.specs.Sets.{only, union}
-use Rattle.pm_props.specs.declared.object_type.ObjectType.TheVariants.{Cone, Fan, Polytope}
+use Rattle.pm_object_type.specs.declared.object_type.ObjectType.TheVariants.{Cone, Fan, Polytope}
 use Rattle.pm_props.specs.declared.property.PropId.TheVariants.{ConeAmbientDim, ConeDim, Facets, Graph, HasseDiagram, LinearObjective, Points, Vertices}
 use Rattle.pm_types.specs.Values.{matrix, whole}
 use Rattle.serde_json.specs.Data.{Data, Members, Items, object, no_members, no_items, null}

@@ -1,7 +1,7 @@
 -- The code's values as contracts see them, and which of them an object may take.
 use Rattle.std.specs.Prelude.{ℕ, IsTrue, List}
 use Rattle.std.specs.List.{All}
-use Rattle.pm_props.specs.declared.object_type.ObjectType.{ObjectType}
+use Rattle.pm_object_type.specs.declared.object_type.ObjectType.{ObjectType}
 use Rattle.pm_props.specs.declared.property.PropId.{PropId}
 use Rattle.pm_types.specs.Forms.{HavePrimitiveRows, agrees_with, are_rows, is_formed}
 use Rattle.pm_types.specs.Values.{PropertyValue}

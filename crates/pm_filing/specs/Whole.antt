@@ -14,7 +14,7 @@ use Rattle.pm_object.specs.declared.held.Origin.TheVariants as origin
 use Rattle.pm_props.specs.Places.{same_property}
 use Rattle.pm_props.specs.Properties.{has as has_property}
 use Rattle.pm_props.specs.Sets.{has}
-use Rattle.pm_props.specs.declared.object_type.ObjectType.{ObjectType}
+use Rattle.pm_object_type.specs.declared.object_type.ObjectType.{ObjectType}
 use Rattle.pm_props.specs.declared.property.PropId.{PropId}
 use Rattle.pm_props.specs.declared.property.PropId.TheVariants.{LinearObjective}
 use Rattle.pm_rules.specs.Rules.{rule_at}

@@ -27,8 +27,8 @@ use Rattle.pm_geom.specs.Generators.{AreGenerators}
 use Rattle.pm_geom.proofs.Facets.{opposite-dot}
 use Rattle.pm_geom.proofs.Polar.{cols_at}
 use Rattle.pm_incidence.specs.Thinning.{Agree, HasPoint, IsBehind, half_spaces}
-use Rattle.pm_props.specs.declared.object_type.ObjectType.{ObjectType}
-use Rattle.pm_props.specs.declared.object_type.ObjectType.TheVariants.{Cone, Fan, Polytope}
+use Rattle.pm_object_type.specs.declared.object_type.ObjectType.{ObjectType}
+use Rattle.pm_object_type.specs.declared.object_type.ObjectType.TheVariants.{Cone, Fan, Polytope}
 use Rattle.pm_types.specs.Right.{CutsOutOf, Solves, empty, proper}
 use lib.IntN.{pos}
 use lib.Signed.{lt_z_yes, ◌<ℤ◌, ◌≤ℤ◌}

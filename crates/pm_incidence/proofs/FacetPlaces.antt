@@ -26,7 +26,7 @@ use Rattle.pm_dd.proofs.MixedLaws.{generators_as}
 use Rattle.pm_geom.specs.Generators.{AreGenerators}
 use Rattle.std.proofs.lemmas.List.{take_all}
 use Rattle.pm_incidence.specs.Thinning.{Agree, AreManyFacets, AreSortedThinned, AreThinPlaces, AreZeroSets, HasPoint, IsKept, MarkFull, half_spaces}
-use Rattle.pm_props.specs.declared.object_type.ObjectType.{ObjectType}
+use Rattle.pm_object_type.specs.declared.object_type.ObjectType.{ObjectType}
 use Rattle.pm_types.specs.Right.{CutsOutOf}
 use lib.IntN.{ℤ, pos}
 use lib.Signed.{◌<ℤ◌}

@@ -23,7 +23,7 @@ use Rattle.pm_geom.proofs.Polar.{cut_at, cut_from}
 use Rattle.pm_incidence.proofs.Described.{described_inside}
 use Rattle.pm_incidence.specs.ThinExamples.{orthant}
 use Rattle.pm_incidence.specs.Thinning.{AreFacetPlaces, AreManyFacets, half_spaces}
-use Rattle.pm_props.specs.declared.object_type.ObjectType.TheVariants.{Polytope}
+use Rattle.pm_object_type.specs.declared.object_type.ObjectType.TheVariants.{Polytope}
 use Rattle.pm_types.specs.Right.{CutsOutOf}
 use lib.IntN.{ℤ, pos}
 use lib.Signed.{lt_z_yes, ◌<ℤ◌, ◌≤ℤ◌}

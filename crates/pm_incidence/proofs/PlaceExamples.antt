@@ -14,7 +14,7 @@ use Rattle.pm_incidence.proofs.FacetPlaces.{facet_row}
 use Rattle.pm_incidence.proofs.Orthant.{orthant_few, orthant_many}
 use Rattle.pm_incidence.specs.ThinExamples.{FacetPlacesAreRead, half}
 use Rattle.pm_incidence.specs.Thinning.{AreFacetPlaces, AreZeroSets, IsFull, IsKept, MarkFull}
-use Rattle.pm_props.specs.declared.object_type.ObjectType.TheVariants.{Cone, Polytope}
+use Rattle.pm_object_type.specs.declared.object_type.ObjectType.TheVariants.{Cone, Polytope}
 use Rattle.pm_types.specs.Right.{CutsOutOf, Solves}
 use Rattle.std.proofs.Common.{arith, refl, sym, true≢false}
 use Rattle.std.proofs.lemmas.Int.{ints}

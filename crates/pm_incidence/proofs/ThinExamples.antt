@@ -16,7 +16,7 @@ use Rattle.pm_incidence.proofs.Products.{itself, unit_stays}
 use Rattle.pm_incidence.specs.Examples.{pair}
 use Rattle.pm_incidence.specs.ThinExamples.{KeptAreRead, ThinningIsRead, antidiagonal, bits, diagonal, large, larger, marks, sets, x_axis, x_turned, y_axis}
 use Rattle.pm_incidence.specs.Thinning.{AreKept, AreZeroSets, HasPoint, IsBasisAndRow, IsFull, IsKept, IsThinned, IsWideIncidence, MarkFull}
-use Rattle.pm_props.specs.declared.object_type.ObjectType.TheVariants.{Polytope}
+use Rattle.pm_object_type.specs.declared.object_type.ObjectType.TheVariants.{Polytope}
 use Rattle.std.proofs.Common.{ap, arith, inl, inr, refl, sym, true≢false}
 use Rattle.std.proofs.lemmas.Int.{ints}
 use Rattle.std.specs.List.{All, Contains}

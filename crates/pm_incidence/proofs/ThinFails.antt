@@ -3,8 +3,8 @@ use Rattle.pm_algebra.specs.Rows.{Row}
 use Rattle.pm_algebra.proofs.Lists.{Among, Contains_among, among_Contains, among_append, among_append_left, among_append_right, here, there}
 use Rattle.pm_incidence.proofs.Products.{stays_turned, unit_stays}
 use Rattle.pm_incidence.specs.SetRows.{IsWideWith}
-use Rattle.pm_props.specs.declared.object_type.ObjectType.{ObjectType}
-use Rattle.pm_props.specs.declared.object_type.ObjectType.TheVariants.{Cone, Fan, Polytope}
+use Rattle.pm_object_type.specs.declared.object_type.ObjectType.{ObjectType}
+use Rattle.pm_object_type.specs.declared.object_type.ObjectType.TheVariants.{Cone, Fan, Polytope}
 use Rattle.pm_elim.specs.EliminationSteps.{EliminationStep}
 use Rattle.pm_elim.specs.Evidence.{IfWide}
 use Rattle.pm_elim.specs.declared.evidence.ElimFail.{ElimFail}

@@ -7,7 +7,7 @@ use Rattle.pm_incidence.specs.Examples.{pair}
 use Rattle.pm_incidence.specs.FromSets.{AreCanonicalFor, AreDetermined, IsDetermining, IsSetsFail, IsTurnedSetsFail, determining, holders_from, rows_at, turned}
 use Rattle.pm_incidence.specs.Thinning.{AreFacetPlaces, AreKept, AreManyFacets, AreZeroSets, HasPoint, IsBasisAndRow, IsBehind, IsFacetsFail, IsKept, IsThinFail, IsThinned, IsWideIncidence, MarkFull, flat_group, half_spaces, is_flat}
 use Rattle.pm_incidence.specs.declared.fails.ThinFail.TheVariants.{Many, Memory, Wide}
-use Rattle.pm_props.specs.declared.object_type.ObjectType.TheVariants.{Cone, Fan, Polytope}
+use Rattle.pm_object_type.specs.declared.object_type.ObjectType.TheVariants.{Cone, Fan, Polytope}
 use Rattle.std.specs.List.{range_with_len}
 use Rattle.std.specs.Prelude.{ℕ, ◌-◌, ◌<◌, ◌≤◌, ◌^◌, ◌≡◌, Bool, List, [], ◌∷◌, false, map, true}
 use lib.IntN.{negsuc, pos}

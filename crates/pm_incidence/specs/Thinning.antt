@@ -23,8 +23,8 @@ use Rattle.pm_geom.specs.Generators.{VanishAt}
 use Rattle.pm_geom.specs.declared.evidence.Evidence.TheVariants.{E1, E4, E5Rows}
 use Rattle.pm_incidence.specs.declared.fails.ThinFail.{ThinFail}
 use Rattle.pm_incidence.specs.declared.fails.ThinFail.TheVariants.{Many, Memory, Wide}
-use Rattle.pm_props.specs.declared.object_type.ObjectType.{ObjectType}
-use Rattle.pm_props.specs.declared.object_type.ObjectType.TheVariants.{Cone, Fan, Polytope}
+use Rattle.pm_object_type.specs.declared.object_type.ObjectType.{ObjectType}
+use Rattle.pm_object_type.specs.declared.object_type.ObjectType.TheVariants.{Cone, Fan, Polytope}
 use Rattle.pm_types.specs.Right.{CutsOutOf}
 
 -- ---- what a refusal shows

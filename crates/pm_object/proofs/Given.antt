@@ -5,8 +5,8 @@ use Rattle.pm_object.specs.State.{HeldValue, agrees, given_at, is_given_at}
 use Rattle.pm_props.proofs.Places.{same_property_is}
 use Rattle.pm_props.specs.Places.{place_of, same_property}
 use Rattle.pm_props.specs.Properties.{has, has_program, of_programs, of_type, row}
-use Rattle.pm_props.specs.declared.object_type.ObjectType.{ObjectType}
-use Rattle.pm_props.specs.declared.object_type.ObjectType.TheVariants.{Polytope, Cone, Fan}
+use Rattle.pm_object_type.specs.declared.object_type.ObjectType.{ObjectType}
+use Rattle.pm_object_type.specs.declared.object_type.ObjectType.TheVariants.{Polytope, Cone, Fan}
 use Rattle.pm_props.specs.declared.property.PropId.{PropId}
 use Rattle.pm_props.specs.declared.property.PropId.TheVariants.{LinearObjective}
 use Rattle.pm_props.specs.declared.property.Tables.{Tables}

@@ -3,7 +3,7 @@ use Rattle.pm_algebra.proofs.Filters.{among_map, any_to, filter_among, map_among
 use Rattle.pm_algebra.proofs.Lists.{Among, Contains_among, among_Contains, among_append, here, there}
 use Rattle.pm_geom.specs.Things.{Orders}
 use Rattle.pm_types.specs.Things.{Thing}
-use Rattle.pm_props.specs.declared.object_type.ObjectType.{ObjectType}
+use Rattle.pm_object_type.specs.declared.object_type.ObjectType.{ObjectType}
 use Rattle.pm_object.specs.Honest.{HonestAnswer, IsHonest, IsKept, based, facts, has_tag, is_based}
 use Rattle.pm_object.specs.Laws.{computed}
 use Rattle.pm_object.specs.State.{HeldValue, State, cols_of, empty_object, has_rounds, holds_stored, is_sealed, names_to_settle, settled, settling, settling_names, with_held}

@@ -1,5 +1,5 @@
 -- What is read of objects that hold it: rows of n columns, not too many, and sets.
-use Rattle.pm_props.specs.declared.object_type.ObjectType.TheVariants.{Cone, Fan, Polytope}
+use Rattle.pm_object_type.specs.declared.object_type.ObjectType.TheVariants.{Cone, Fan, Polytope}
 use Rattle.std.proofs.lemmas.List.Sums.{AllPass-from_list_all}
 use Rattle.pm_matrix.specs.Matrices.{IsFraction}
 use Rattle.pm_object.specs.Known.{IsKnown, IsOfRows, IsOfSets, cols_at, held_rows, held_sets, matrix_in, rows_at, sets_at, sets_in, value_of_sets}
@@ -9,7 +9,7 @@ use Rattle.pm_object.proofs.Viewing.{value_forms}
 use Rattle.pm_object.specs.Formed.{IsFormed}
 use Rattle.pm_object.specs.State.{State, cols_of, read_at, value_of, is_polytope, is_held}
 use Rattle.pm_algebra.specs.Numbers.{Ratio}
-use Rattle.pm_props.specs.declared.object_type.ObjectType.{ObjectType}
+use Rattle.pm_object_type.specs.declared.object_type.ObjectType.{ObjectType}
 use Rattle.pm_props.specs.declared.property.PropId.TheVariants.{AffineHull, Facets, LinealitySpace, Vertices, VerticesInFacets}
 use Rattle.pm_props.specs.declared.property.PropId.{PropId}
 use Rattle.pm_types.specs.Forms.{FormsIn, agrees_with, is_column_count, is_dimension, is_formed, is_matrix_form, is_row_of_entries, is_sets_form, is_row, HasPrimitiveRow}

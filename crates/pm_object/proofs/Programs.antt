@@ -4,7 +4,7 @@ use Rattle.pm_object.specs.Formed.{ArePrograms, IsFormed, IsFormedIn, are_differ
 use Rattle.pm_object.specs.State.{HeldValue, State, cols_of, is_polytope, most_programs, place_from, program_refusal, with_program}
 use Rattle.pm_props.specs.NameWords.{is_name}
 use Rattle.pm_props.specs.Properties.{has_program}
-use Rattle.pm_props.specs.declared.object_type.ObjectType.{ObjectType}
+use Rattle.pm_object_type.specs.declared.object_type.ObjectType.{ObjectType}
 use Rattle.pm_props.specs.declared.property.PropId.{PropId}
 use Rattle.std.proofs.Common.{ap, arith, false, refl, subst, sym, true, true≢false, ◌∙◌}
 use Rattle.std.proofs.lemmas.Bool.{and_from, and_parts}

@@ -7,7 +7,7 @@ use Rattle.pm_object.specs.State.{RoundSeen, State, empty_object, given_at, is_g
 use Rattle.pm_object.specs.declared.held.ProgramFail.TheVariants.{Full, NameTaken, NotPolytope}
 use Rattle.pm_object.specs.declared.held.RoundEnd.TheVariants.{Done}
 use Rattle.pm_object.specs.declared.held.TakeFail.TheVariants.{AlreadyHeld, Columns, NotOfType, Sealed}
-use Rattle.pm_props.specs.declared.object_type.ObjectType.TheVariants.{Cone, Polytope}
+use Rattle.pm_object_type.specs.declared.object_type.ObjectType.TheVariants.{Cone, Polytope}
 use Rattle.pm_props.specs.declared.property.PropId.TheVariants.{ConeDim, Facets, LinearObjective, MaximalFace, MinimalFace, Vertices}
 use Rattle.pm_types.specs.Values.{PropertyValue, counts, matrix, whole}
 use Rattle.pm_types.specs.Views.{over_one}

@@ -5,7 +5,7 @@ use Rattle.std.specs.Str.{bytes_eq}
 use Rattle.pm_props.specs.NameWords.{is_name}
 use Rattle.pm_props.specs.Places.{same_place, same_property}
 use Rattle.pm_props.specs.Properties.{has, has_program, rays_tag}
-use Rattle.pm_props.specs.declared.object_type.ObjectType.{ObjectType}
+use Rattle.pm_object_type.specs.declared.object_type.ObjectType.{ObjectType}
 use Rattle.pm_props.specs.declared.property.PropId.{PropId}
 use Rattle.pm_types.specs.Forms.{AreFractions, HavePrimitiveRows, is_formed, are_rows}
 use Rattle.pm_props.specs.declared.property.PropId.TheVariants.{ConeAmbientDim}

@@ -4,7 +4,7 @@ use Rattle.std.specs.List.{All}
 use Rattle.std.specs.Option.{is_some, unwrap_or}
 use Rattle.pm_algebra.specs.Numbers.{Ratio}
 use Rattle.pm_matrix.specs.Matrices.{FractionMatrix}
-use Rattle.pm_props.specs.declared.object_type.ObjectType.TheVariants.{Polytope}
+use Rattle.pm_object_type.specs.declared.object_type.ObjectType.TheVariants.{Polytope}
 use Rattle.pm_props.specs.declared.property.PropId.{PropId}
 use Rattle.pm_props.specs.declared.property.PropId.TheVariants.{AffineHull, Facets, LinealitySpace, Vertices, VerticesInFacets}
 use Rattle.pm_types.specs.Forms.{rows_in}

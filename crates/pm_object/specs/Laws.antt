@@ -1,7 +1,7 @@
 -- The laws of honesty: an object stays honest where it gains values that were given or stored while no round was started, what goes without saying, or what a client may answer.
 use Rattle.std.specs.Prelude.{ℕ, ◌≡◌, true, Option, Some, List, [], ◌∷◌, map}
 use Rattle.std.specs.List.{Contains}
-use Rattle.pm_props.specs.declared.object_type.ObjectType.{ObjectType}
+use Rattle.pm_object_type.specs.declared.object_type.ObjectType.{ObjectType}
 use Rattle.pm_types.specs.Runs.{MayAnswer, MayRun, missing, shown}
 use Rattle.pm_props.specs.Places.{place_of}
 use Rattle.pm_types.specs.Values.{Fact, PropertyValue}

@@ -1,5 +1,5 @@
 -- A kind's names are in the table of a type exactly where a test of every property says so.
-use Rattle.pm_props.specs.declared.object_type.ObjectType.{ObjectType}
+use Rattle.pm_object_type.specs.declared.object_type.ObjectType.{ObjectType}
 use Rattle.pm_props.proofs.Every.{all_pass, all_properties}
 use Rattle.pm_props.specs.Kinds.{IsKindOf, is_in_or_unnamed, names_of}
 use Rattle.pm_props.specs.Properties.{every_property, is_in_use}

@@ -1,7 +1,7 @@
 -- Look-ups of properties by their names.
 use Rattle.std.specs.Prelude.{◌≡◌, ℕ, Bool, ◌&&◌, ◌||◌, ◌⊎◌, Option, List, drop, find}
 use Rattle.std.specs.Str.{bytes_eq}
-use Rattle.pm_props.specs.declared.object_type.ObjectType.{ObjectType}
+use Rattle.pm_object_type.specs.declared.object_type.ObjectType.{ObjectType}
 use Rattle.pm_props.specs.declared.property.PropId.{PropId}
 use Rattle.pm_props.specs.Properties.{every_property, first_name, cone_name, fan_name, name_in, has, has_program}
 

@@ -2,8 +2,8 @@
 use Rattle.std.specs.Prelude.{ℕ, Bool, true, false, ◌&&◌, ◌||◌, Option, List, [], ◌∷◌, codes, slice_get}
 use Rattle.std.specs.Option.{is_some}
 use Rattle.pm_props.specs.Rows.{RowSeen}
-use Rattle.pm_props.specs.declared.object_type.ObjectType.{ObjectType}
-use Rattle.pm_props.specs.declared.object_type.ObjectType.TheVariants.{Polytope, Cone, Fan}
+use Rattle.pm_object_type.specs.declared.object_type.ObjectType.{ObjectType}
+use Rattle.pm_object_type.specs.declared.object_type.ObjectType.TheVariants.{Polytope, Cone, Fan}
 use Rattle.pm_props.specs.declared.property.Columns.{Columns}
 use Rattle.pm_props.specs.declared.property.Columns.TheVariants as columns
 use Rattle.pm_props.specs.declared.property.Describes.{Describes}

@@ -6,9 +6,9 @@ ghost use Rattle.std.specs.Str.{IsAscii};
 ghost use Rattle.pm_props.specs.Kinds.{IsKindOf, conditions_of, finding, is_in_or_unnamed, names_of};
 
 use crate::client_name::ClientName;
-use crate::object_type::ObjectType;
 use crate::property::PropId;
 use crate::set::PropSet;
+use pm_object_type::ObjectType;
 
 /// The signature of a client: its name, and the properties that it finds, that it reads, that must be true and that
 /// must be false.
@@ -52,8 +52,8 @@ impl Kind {
         are_in(sub, of, self.names(), &PropId::every())
     }
 
-    // The kind of a client that finds these properties from those, under no condition.
-    pub(crate) fn finding(name: &str, targets: &[PropId], sources: &[PropId]) -> Kind
+    /// The kind of a client that finds these properties from those, under no condition; its name is at most 32 bytes of ASCII.
+    pub fn finding(name: &str, targets: &[PropId], sources: &[PropId]) -> Kind
         requires short { length name.now ≤ 32 }
         requires ascii { IsAscii name.now }
         ensures { result ≡ finding name.now targets.now sources.now }

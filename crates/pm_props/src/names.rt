@@ -4,8 +4,8 @@ ghost use Rattle.std.specs.Prelude.{◌≡◌, ◌↔◌, Some, IsTrue};
 ghost use Rattle.pm_props.specs.Properties.{has, has_program, name_in};
 ghost use Rattle.pm_props.specs.Names.{IsNameOf, is_name, is_program_name, program_name, property_named, property_named_in, program_named};
 
-use crate::object_type::ObjectType;
 use crate::property::PropId;
+use pm_object_type::ObjectType;
 
 impl PropId {
     /// The property with this name: any of its names, in the tables of polytopes, cones, fans or programs.

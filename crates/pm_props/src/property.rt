@@ -4,7 +4,7 @@ ghost use Rattle.pm_props.specs.Places.{place_of};
 ghost use Rattle.pm_props.specs.Properties.{count, every_property, generators_tag, half_spaces_tag, has, has_program, is_in_use, number, plain, property_at, row};
 ghost use Rattle.std.specs.Prelude.{slice_get, ◌<◌, ◌≡◌};
 
-use crate::object_type::ObjectType;
+use pm_object_type::ObjectType;
 use std::marker::Model;
 
 /// A property, by its number from 0 to 47.

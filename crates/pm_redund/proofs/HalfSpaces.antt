@@ -19,8 +19,8 @@ use Rattle.pm_incidence.proofs.Described.{cone_apart, described_inside, half_col
 use Rattle.pm_incidence.proofs.FacetPlaces.{halves_agree, valid_made}
 use Rattle.pm_redund.proofs.ValidCuts.{cut_valid, valid_cut}
 use Rattle.pm_incidence.specs.Thinning.{AreManyFacets, half_spaces}
-use Rattle.pm_props.specs.declared.object_type.ObjectType.{ObjectType}
-use Rattle.pm_props.specs.declared.object_type.ObjectType.TheVariants.{Cone, Fan, Polytope}
+use Rattle.pm_object_type.specs.declared.object_type.ObjectType.{ObjectType}
+use Rattle.pm_object_type.specs.declared.object_type.ObjectType.TheVariants.{Cone, Fan, Polytope}
 use Rattle.pm_redund.proofs.Canonical.{apart_at, extreme_at, place_at}
 use Rattle.pm_redund.specs.Redundancy.{AreManyThinPlaces, AreThinPlaces, LeavesNoPoint}
 use Rattle.pm_simplex.specs.Lineality.{MarkLines}

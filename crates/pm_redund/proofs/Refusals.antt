@@ -8,7 +8,7 @@ use Rattle.pm_incidence.specs.Fails.{thin_fail_of}
 use Rattle.pm_incidence.specs.Thinning.{AreManyFacets, IsReductionFail, half_spaces}
 use Rattle.pm_incidence.specs.declared.fails.ThinFail.{ThinFail}
 use Rattle.pm_incidence.specs.declared.fails.ThinFail.TheVariants.{Many, Memory, Wide}
-use Rattle.pm_props.specs.declared.object_type.ObjectType.{ObjectType}
+use Rattle.pm_object_type.specs.declared.object_type.ObjectType.{ObjectType}
 use Rattle.pm_redund.specs.Redundancy.{IsProgramFail}
 use Rattle.pm_redund.specs.Redundancy.{AreManyThinPlaces, AreThinPlaces, IsHalvesFail, IsRowsFail, IsThinFail}
 use Rattle.pm_simplex.specs.Lineality.{MarkLines, line_group}

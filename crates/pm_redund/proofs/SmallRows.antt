@@ -10,7 +10,7 @@ use Rattle.pm_incidence.specs.ThinExamples.{diagonal, x_axis, x_turned, y_axis}
 use Rattle.pm_redund.specs.Examples.{ProgramsAreRead, RedundancyIsRead, RefusalsAreRead, bits, fan_of_three}
 use Rattle.pm_redund.specs.Redundancy.{AreKeptPlaces, IsEnough, IsKept, IsRedundant, IsThinnedTo, LeavesNoPoint}
 use Rattle.pm_simplex.specs.Lineality.{MarkLines}
-use Rattle.pm_props.specs.declared.object_type.ObjectType.TheVariants.{Polytope}
+use Rattle.pm_object_type.specs.declared.object_type.ObjectType.TheVariants.{Polytope}
 use Rattle.std.proofs.Common.{arith, refl}
 use Rattle.std.proofs.lemmas.Int.{ints}
 use Rattle.std.specs.List.{Contains}

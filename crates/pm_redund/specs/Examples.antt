@@ -4,7 +4,7 @@ use Rattle.pm_fraction.specs.Fractions.{ratio_of}
 use Rattle.pm_geom.specs.declared.evidence.Evidence.TheVariants.{E4, E5Rows}
 use Rattle.pm_incidence.specs.ThinExamples.{diagonal, large, larger, x_axis, x_turned, y_axis}
 use Rattle.pm_incidence.specs.declared.fails.ThinFail.TheVariants.{Many, Memory, Wide}
-use Rattle.pm_props.specs.declared.object_type.ObjectType.TheVariants.{Cone, Polytope}
+use Rattle.pm_object_type.specs.declared.object_type.ObjectType.TheVariants.{Cone, Polytope}
 use Rattle.pm_simplex.specs.Generated.{equations_of, lifted, no_objective, tied, turned}
 use Rattle.pm_redund.specs.Redundancy.{AreKeptPlaces, IsEnough, IsRedundant, IsRowsFail, IsThinFail, IsThinnedTo, LeavesNoPoint}
 use Rattle.pm_simplex.specs.Lineality.{MarkLines, line_group}

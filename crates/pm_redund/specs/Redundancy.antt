@@ -9,8 +9,8 @@ use Rattle.pm_geom.specs.declared.evidence.Evidence.TheVariants.{E1, E5Rows}
 use Rattle.pm_incidence.specs.Thinning.{AreManyFacets, half_spaces}
 use Rattle.pm_incidence.specs.declared.fails.ThinFail.{ThinFail}
 use Rattle.pm_incidence.specs.declared.fails.ThinFail.TheVariants.{Many, Memory, Wide}
-use Rattle.pm_props.specs.declared.object_type.ObjectType.{ObjectType}
-use Rattle.pm_props.specs.declared.object_type.ObjectType.TheVariants.{Polytope}
+use Rattle.pm_object_type.specs.declared.object_type.ObjectType.{ObjectType}
+use Rattle.pm_object_type.specs.declared.object_type.ObjectType.TheVariants.{Polytope}
 use Rattle.pm_simplex.specs.Generated.{IsWideThinning}
 use Rattle.pm_simplex.specs.Lineality.{IsBasisAndRow, MarkLines, line_group}
 use Rattle.std.specs.List.{All, AllPairs, Contains}

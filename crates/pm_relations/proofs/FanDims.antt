@@ -11,8 +11,8 @@ use Rattle.pm_bases.specs.Bases.{IsRank, SameSpan}
 use Rattle.pm_geom.specs.Cones.{InLineality, IsExtremeRay, SameModulo}
 use Rattle.pm_geom.specs.Faces.{ray}
 use Rattle.pm_geom.specs.Things.{AreFanOrders, IsConeThing, IsFanThing, Orders}
-use Rattle.pm_props.specs.declared.object_type.ObjectType.TheVariants.{Fan}
-use Rattle.pm_props.specs.declared.object_type.ObjectType.{ObjectType}
+use Rattle.pm_object_type.specs.declared.object_type.ObjectType.TheVariants.{Fan}
+use Rattle.pm_object_type.specs.declared.object_type.ObjectType.{ObjectType}
 use Rattle.pm_props.specs.declared.property.PropId.TheVariants.{FanDim, LinealityDim, LinealitySpace, MaximalCones, MaximalConesDims, NMaximalCones, Pure, Simplicial, Vertices}
 use Rattle.pm_relations.proofs.Dimensions.{dimension_one}
 use Rattle.pm_relations.proofs.FanCones.{set_order, set_spans}

@@ -13,8 +13,8 @@ use Rattle.pm_geom.proofs.ValidRows.{null_in}
 use Rattle.pm_geom.specs.Cones.{InLineality, IsExtreme, IsOrder, IsValid, SameModulo, Vanishes}
 use Rattle.pm_geom.specs.Faces.{ray}
 use Rattle.pm_geom.specs.Things.{IsPolytopeThing}
-use Rattle.pm_props.specs.declared.object_type.ObjectType.TheVariants.{Cone, Fan, Polytope}
-use Rattle.pm_props.specs.declared.object_type.ObjectType.{ObjectType}
+use Rattle.pm_object_type.specs.declared.object_type.ObjectType.TheVariants.{Cone, Fan, Polytope}
+use Rattle.pm_object_type.specs.declared.object_type.ObjectType.{ObjectType}
 use Rattle.pm_relations.proofs.Dimensions.{no_rows, zero_rows}
 use Rattle.pm_relations.proofs.Spans.{thing_cols}
 use Rattle.pm_relations.proofs.Standing.{in_order_at, in_order_length, ratios_at, stand_at, stand_length}

@@ -2,8 +2,8 @@
 use Rattle.pm_algebra.proofs.RowLaws.{entry-opposite, length-opposite}
 use Rattle.pm_algebra.specs.Rows.{Row, entry, opposite}
 use Rattle.pm_types.specs.Things.{IsOfType, IsThing, Thing}
-use Rattle.pm_props.specs.declared.object_type.ObjectType.TheVariants.{Cone, Fan, Polytope}
-use Rattle.pm_props.specs.declared.object_type.ObjectType.{ObjectType}
+use Rattle.pm_object_type.specs.declared.object_type.ObjectType.TheVariants.{Cone, Fan, Polytope}
+use Rattle.pm_object_type.specs.declared.object_type.ObjectType.{ObjectType}
 use Rattle.pm_types.specs.Right.{InLines, InLinesOf}
 use Rattle.std.proofs.Common.{arith, ◌∙◌}
 use Rattle.std.proofs.lemmas.Int.{ints}

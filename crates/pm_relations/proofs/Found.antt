@@ -5,7 +5,7 @@ use Rattle.pm_bases.specs.Bases.{IsRank}
 use Rattle.pm_elim.specs.NullSpaces.{IsNullBasis}
 use Rattle.pm_types.specs.Things.{AreOrders, IsThing, Thing}
 use Rattle.pm_geom.specs.Things.{Orders}
-use Rattle.pm_props.specs.declared.object_type.ObjectType.TheVariants.{Fan}
+use Rattle.pm_object_type.specs.declared.object_type.ObjectType.TheVariants.{Fan}
 use Rattle.pm_relations.proofs.Dimensions.{cone_dim_is_found}
 use Rattle.pm_relations.proofs.Spans.{hull_is_found, lineality_is_found, pair_spans, vertices_span}
 use Rattle.pm_relations.proofs.Standing.{stand_for_ratios}

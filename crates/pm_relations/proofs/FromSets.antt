@@ -16,8 +16,8 @@ use Rattle.pm_geom.specs.Things.{AreConeOrders, Orders}
 use Rattle.pm_props.specs.Kinds.{IsFresh}
 use Rattle.pm_props.specs.Properties.{facets_tag, rays_tag}
 use Rattle.pm_props.specs.declared.kind.Kind.{Kind}
-use Rattle.pm_props.specs.declared.object_type.ObjectType.TheVariants.{Cone, Fan, Polytope}
-use Rattle.pm_props.specs.declared.object_type.ObjectType.{ObjectType}
+use Rattle.pm_object_type.specs.declared.object_type.ObjectType.TheVariants.{Cone, Fan, Polytope}
+use Rattle.pm_object_type.specs.declared.object_type.ObjectType.{ObjectType}
 use Rattle.pm_props.specs.declared.property.PropId.TheVariants.{Facets, Vertices, VerticesInFacets}
 use Rattle.pm_relations.proofs.Hulls.{alike_itself, each_ratios, each_stands, facet_alike, zero_line}
 use Rattle.pm_relations.proofs.Spans.{basis_lineality, hull_rows, thing_cols}

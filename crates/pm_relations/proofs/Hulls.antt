@@ -17,8 +17,8 @@ use Rattle.pm_geom.specs.Generators.{AreGenerators, IsLinealityBasis}
 use Rattle.pm_geom.specs.Things.{Orders}
 use Rattle.pm_hull.specs.Hulls.{InConeOf}
 use Rattle.pm_props.specs.declared.kind.Kind.{Kind}
-use Rattle.pm_props.specs.declared.object_type.ObjectType.TheVariants.{Cone, Fan, Polytope}
-use Rattle.pm_props.specs.declared.object_type.ObjectType.{ObjectType}
+use Rattle.pm_object_type.specs.declared.object_type.ObjectType.TheVariants.{Cone, Fan, Polytope}
+use Rattle.pm_object_type.specs.declared.object_type.ObjectType.{ObjectType}
 use Rattle.pm_props.specs.declared.property.PropId.TheVariants.{AffineHull, Facets, LinealitySpace, Vertices}
 use Rattle.pm_relations.proofs.Found.{echelon_is_right}
 use Rattle.pm_relations.proofs.Spans.{thing_cols}

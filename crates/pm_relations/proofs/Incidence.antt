@@ -7,8 +7,8 @@ use Rattle.pm_geom.specs.Cones.{IsExtreme, IsValid, SameModulo}
 use Rattle.pm_geom.specs.Faces.{ray}
 use Rattle.pm_types.specs.Things.{AreOrders, AreOrdersOf, Thing}
 use Rattle.pm_geom.specs.Things.{Orders}
-use Rattle.pm_props.specs.declared.object_type.ObjectType.{ObjectType}
-use Rattle.pm_props.specs.declared.object_type.ObjectType.TheVariants.{Polytope, Cone, Fan}
+use Rattle.pm_object_type.specs.declared.object_type.ObjectType.{ObjectType}
+use Rattle.pm_object_type.specs.declared.object_type.ObjectType.TheVariants.{Polytope, Cone, Fan}
 use Rattle.pm_relations.proofs.Standing.{in_order_at, in_order_length, ratios_at, stand_at, stand_length, zero_of_stands, zero_with_stands}
 use Rattle.pm_types.specs.Right.{InOrder, IsIncidence, Right, SameRayOf, StandFor}
 use Rattle.pm_types.specs.Values.{matrix, sets}

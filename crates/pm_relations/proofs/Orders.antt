@@ -11,8 +11,8 @@ use Rattle.pm_geom.proofs.Apart.{without, without_back, without_to}
 use Rattle.pm_geom.proofs.Facets.{order_as}
 use Rattle.pm_geom.specs.Cones.{InLineality, IsExtreme, IsExtremeRay, IsOrder, IsValid, SameModulo}
 use Rattle.pm_geom.specs.Things.{AreFanOrders, Orders}
-use Rattle.pm_props.specs.declared.object_type.ObjectType.TheVariants.{Cone, Fan, Polytope}
-use Rattle.pm_props.specs.declared.object_type.ObjectType.{ObjectType}
+use Rattle.pm_object_type.specs.declared.object_type.ObjectType.TheVariants.{Cone, Fan, Polytope}
+use Rattle.pm_object_type.specs.declared.object_type.ObjectType.{ObjectType}
 use Rattle.pm_props.specs.declared.property.PropId.TheVariants.{Facets, NFacets, NVertices, Vertices}
 use Rattle.pm_relations.proofs.Standing.{in_order_length, stand_length}
 use Rattle.pm_types.specs.Right.{Right, SameFacet, SameRay}

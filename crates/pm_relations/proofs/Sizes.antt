@@ -11,8 +11,8 @@ use Rattle.pm_geom.proofs.Facets.{dot-opposite}
 use Rattle.pm_geom.specs.Cones.{InLineality, IsExtreme, IsValid, SameModulo}
 use Rattle.pm_geom.specs.Faces.{ray}
 use Rattle.pm_geom.specs.Things.{AreConeOrders, Orders}
-use Rattle.pm_props.specs.declared.object_type.ObjectType.TheVariants.{Cone, Fan, Polytope}
-use Rattle.pm_props.specs.declared.object_type.ObjectType.{ObjectType}
+use Rattle.pm_object_type.specs.declared.object_type.ObjectType.TheVariants.{Cone, Fan, Polytope}
+use Rattle.pm_object_type.specs.declared.object_type.ObjectType.{ObjectType}
 use Rattle.pm_props.specs.declared.property.PropId.TheVariants.{CombinatorialDim, FacetSizes, NFacets, NVertices, Simple, Simplicial, VertexSizes, VerticesInFacets}
 use Rattle.pm_relations.proofs.Dimensions.{dimensions_are_determined}
 use Rattle.pm_relations.proofs.Orders.{Holds, as_many_facets, as_many_rays, facets_hold, holds_set, orders_total, total}

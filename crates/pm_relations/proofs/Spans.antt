@@ -16,8 +16,8 @@ use Rattle.pm_geom.proofs.Spans.{generators_span, order_spans, vanishing_is_null
 use Rattle.pm_geom.specs.Cones.{InLineality, IsOrder, IsValid, SameModulo, Vanishes}
 use Rattle.pm_types.specs.Things.{AreOrdersOf, IsOfType, IsThing, Thing}
 use Rattle.pm_geom.specs.Things.{Orders}
-use Rattle.pm_props.specs.declared.object_type.ObjectType.{ObjectType}
-use Rattle.pm_props.specs.declared.object_type.ObjectType.TheVariants.{Polytope, Cone, Fan}
+use Rattle.pm_object_type.specs.declared.object_type.ObjectType.{ObjectType}
+use Rattle.pm_object_type.specs.declared.object_type.ObjectType.TheVariants.{Polytope, Cone, Fan}
 use Rattle.pm_relations.proofs.StandingSpans.{order_same, stand_for_same}
 use Rattle.pm_types.specs.Canonical.{IsEchelonBasisOf}
 use Rattle.pm_relations.specs.Laws.{HullIsFound, LinealityIsFound, PairSpans, VerticesSpan}

@@ -4,8 +4,8 @@ use Rattle.pm_algebra.specs.Cones.{InCone}
 use Rattle.pm_algebra.specs.Numbers.{Ratio}
 use Rattle.pm_algebra.specs.Rows.{Row, dot}
 use Rattle.pm_dd.specs.Fronts.{HalfSpaces}
-use Rattle.pm_props.specs.declared.object_type.ObjectType.TheVariants.{Cone, Fan, Polytope}
-use Rattle.pm_props.specs.declared.object_type.ObjectType.{ObjectType}
+use Rattle.pm_object_type.specs.declared.object_type.ObjectType.TheVariants.{Cone, Fan, Polytope}
+use Rattle.pm_object_type.specs.declared.object_type.ObjectType.{ObjectType}
 use Rattle.pm_relations.proofs.Hulls.{stand_cut}
 use Rattle.pm_types.specs.Right.{CutsOutOf, InSet, PairCutsOut, Solves, StandFor, empty, proper}
 use Rattle.pm_types.specs.Things.{Thing}

@@ -11,8 +11,8 @@ use Rattle.pm_geom.proofs.Polar.{bipolar, cut_at, cut_from}
 use Rattle.pm_geom.specs.Cones.{InLineality, IsExtreme, IsOrder, IsValid, SameModulo, Vanishes}
 use Rattle.pm_geom.specs.Things.{AreConeOrders, IsPolytopeThing, Orders}
 use Rattle.pm_types.specs.Things.{AreOrdersOf, IsOfType}
-use Rattle.pm_props.specs.declared.object_type.ObjectType.TheVariants.{Cone, Fan, Polytope}
-use Rattle.pm_props.specs.declared.object_type.ObjectType.{ObjectType}
+use Rattle.pm_object_type.specs.declared.object_type.ObjectType.TheVariants.{Cone, Fan, Polytope}
+use Rattle.pm_object_type.specs.declared.object_type.ObjectType.{ObjectType}
 use Rattle.pm_relations.proofs.Spans.{basis_lineality, hull_rows, thing_cols}
 use Rattle.pm_relations.specs.Laws.{FacetsCutOut, VerticesGenerate}
 use Rattle.pm_types.specs.Right.{CutsOutOf, CutsOutPolytope, InLinesOf, InOrder, IsBasis, SameRayOf, Solves, empty, proper}

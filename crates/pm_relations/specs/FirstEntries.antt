@@ -5,7 +5,7 @@ use Rattle.pm_algebra.specs.Numbers.{Ratio}
 use Rattle.pm_algebra.specs.Rows.{ratio_at}
 use Rattle.pm_types.specs.Things.{Thing, IsThing, AreOrders}
 use Rattle.pm_geom.specs.Things.{Orders}
-use Rattle.pm_props.specs.declared.object_type.ObjectType.TheVariants.{Fan, Polytope}
+use Rattle.pm_object_type.specs.declared.object_type.ObjectType.TheVariants.{Fan, Polytope}
 use Rattle.pm_types.specs.Right.{Right}
 use Rattle.pm_types.specs.Values.{matrix, truth, counts}
 use Rattle.pm_props.specs.declared.property.PropId.TheVariants.{Vertices, LinealitySpace, Facets, AffineHull, Bounded, FarFace, Centered}

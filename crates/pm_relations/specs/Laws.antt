@@ -6,7 +6,7 @@ use Rattle.pm_bases.specs.Bases.{IsRank, SameSpan}
 use Rattle.pm_elim.specs.NullSpaces.{IsNullBasis}
 use Rattle.pm_types.specs.Things.{Thing, IsThing, AreOrders}
 use Rattle.pm_geom.specs.Things.{Orders}
-use Rattle.pm_props.specs.declared.object_type.ObjectType.TheVariants.{Fan}
+use Rattle.pm_object_type.specs.declared.object_type.ObjectType.TheVariants.{Fan}
 use Rattle.pm_types.specs.Canonical.{IsCanonical, IsEchelonBasisOf, Vanishing}
 use Rattle.pm_types.specs.Right.{InLines, PairCutsOut, PairGenerates, Right, StandFor}
 use Rattle.pm_types.specs.Values.{PropertyValue, matrix, truth, whole}

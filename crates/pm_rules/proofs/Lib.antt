@@ -4,4 +4,3 @@ pub mod NeededNames
 pub mod Opens
 pub mod Refutes
 pub mod RowOrder
-pub mod Standard

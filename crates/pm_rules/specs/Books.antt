@@ -1,5 +1,5 @@
 -- Books of rules.
-use Rattle.std.specs.Prelude.{◌≡◌, ◌≢◌, ℕ, ◌^◌, ◌<◌, ◌≤◌, false, IsTrue, List, Some, length, find, map, All, AllPairs}
+use Rattle.std.specs.Prelude.{◌≡◌, ◌≢◌, ℕ, ◌^◌, ◌<◌, ◌≤◌, false, IsTrue, List, Some, length, find, All, AllPairs}
 use Rattle.std.specs.Str.{bytes_eq}
 use Rattle.pm_props.specs.declared.property.PropId.{PropId}
 use Rattle.pm_props.specs.declared.property.ValueKind.TheVariants as value
@@ -7,9 +7,6 @@ use Rattle.pm_props.specs.declared.set.PropSet.{PropSet}
 use Rattle.pm_props.specs.declared.kind.Kind.{Kind}
 use Rattle.pm_props.specs.Properties.{count, value_kind}
 use Rattle.pm_props.specs.Sets.{has, IsWithin}
-use Rattle.pm_props.specs.Kinds.{standard_clients, standard_row}
-use Rattle.pm_props.specs.declared.standard.StandardClient.{StandardClient}
-use Rattle.pm_props.specs.declared.standard.StandardRule.{StandardRule}
 use Rattle.pm_weights.specs.Weights.{IsWeight}
 use Rattle.pm_rules.specs.declared.rule.Rule.{Rule}
 use Rattle.pm_rules.specs.Rules.{conditions}
@@ -48,20 +45,3 @@ pub record IsBook (rules : List Rule) : Type 0 where
 -- the kind of each rule is the first of its name among these
 abbrev pub FirstKinds : List Kind → List Rule → Type 0
 FirstKinds kinds rules = All (λ rule. find (λ kind. bytes_eq kind.name rule.kind.name) kinds ≡ Some rule.kind) rules
-
--- the rule of a standard client, under its name, with the conditions of its kind
-abbrev pub rule_of : StandardRule → Rule
-rule_of r = record {
-  label = r.kind.name;
-  kind = r.kind;
-  weight = record { class = 0; minor = r.weight };
-  must = r.kind.must;
-  must_not = r.kind.must_not;
-}
-
-abbrev pub standard_rule : StandardClient → Rule
-standard_rule c = rule_of (standard_row c)
-
--- the rules of the standard book
-abbrev pub standard_rules : List Rule
-standard_rules = map standard_rule standard_clients

@@ -1,14 +1,12 @@
 // Books of rules.
 
-ghost use Rattle.std.specs.Prelude.{◌≡◌, ◌==◌, IfOk, length};
+ghost use Rattle.std.specs.Prelude.{◌≡◌, ◌==◌, length};
 ghost use Rattle.std.specs.Option.{option_copied};
 ghost use Rattle.pm_rules.specs.Rules.{rule_at};
-ghost use Rattle.pm_rules.specs.Books.{IsBook, standard_rule, standard_rules};
+ghost use Rattle.pm_rules.specs.Books.{IsBook};
 
 use crate::rule::Rule;
-use pm_props::{RuleId, StandardClient};
-use pm_weights::Weight;
-use std::alloc::{AllocError, Global};
+use pm_props::RuleId;
 use std::marker::Model;
 
 /// The greatest number of rules in a book.
@@ -69,33 +67,5 @@ impl Book {
         ensures { option_copied result ≡ rule_at self.now id }
     {
         self.rules.get(usize::from(id.0))
-    }
-}
-
-/// The rules of the standard clients, under the labels of their clients.
-pub fn standard_book(alloc: Global) -> Result<Book, AllocError>
-    ensures { IfOk result (λ b. b ≡ standard_rules) }
-{
-    let rules = StandardClient::every()
-        .iter()
-        .map(|client| standard_rule(*client))
-        .collect(alloc)?;
-    Ok(Book { rules })
-}
-
-// The rule of a standard client.
-fn standard_rule(client: StandardClient) -> Rule
-    ensures { result ≡ standard_rule client }
-{
-    let kind = client.kind();
-    Rule {
-        label: kind.name,
-        kind,
-        weight: Weight {
-            class: 0,
-            minor: client.row().weight,
-        },
-        must: kind.must,
-        must_not: kind.must_not,
     }
 }

@@ -1,8 +1,6 @@
 // Laws on chains and certificates.
 
-ghost use Rattle.pm_rules.specs.Books.{FirstKinds, standard_rules};
 ghost use Rattle.pm_rules.specs.Laws.{UsefulPartLeads, CertificateBounds, CertificateExcludes};
-ghost use Rattle.pm_props.specs.Kinds.{standard_kinds_list};
 
 /// A chain without its rules that are not useful leads to the same names and weighs no more.
 pub fn law_useful_part()
@@ -17,9 +15,4 @@ pub fn law_certificate_bounds()
 /// Where a table is a certificate that there is no chain, no chain of any rules leads to the asked names.
 pub fn law_certificate_excludes()
     ensures { CertificateExcludes }
-{}
-
-/// The kind of each standard rule is the first of its name among the standard kinds, so what is printed of the standard book is read back with these.
-pub fn law_standard_kinds_are_first()
-    ensures { FirstKinds standard_kinds_list standard_rules }
 {}

@@ -10,10 +10,8 @@ mod table;
 mod useful;
 mod word;
 
-pub use book::{Book, standard_book};
-pub use laws::{
-    law_certificate_bounds, law_certificate_excludes, law_standard_kinds_are_first, law_useful_part,
-};
+pub use book::Book;
+pub use laws::{law_certificate_bounds, law_certificate_excludes, law_useful_part};
 pub use pm_props::{ClientName, Kind, PropId, PropSet, RuleId};
 pub use pm_weights::{Cost, Weight};
 pub use rule::Rule;

@@ -8,7 +8,7 @@ use Rattle.pm_bases.specs.Bases.{IsEchelonBasis}
 use Rattle.pm_geom.specs.Cones.{Vanishes}
 use Rattle.pm_geom.specs.Generators.{IsBefore, VanishAt}
 use Rattle.pm_types.specs.Things.{Thing}
-use Rattle.pm_props.specs.declared.object_type.ObjectType.TheVariants.{Polytope}
+use Rattle.pm_object_type.specs.declared.object_type.ObjectType.TheVariants.{Polytope}
 use Rattle.pm_props.specs.Kinds.{IsFresh}
 use Rattle.pm_props.specs.Properties.{rays_tag, facets_tag}
 use Rattle.pm_types.specs.Right.{InLines, IsBasis}

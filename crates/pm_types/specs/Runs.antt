@@ -3,7 +3,7 @@ use Rattle.std.specs.Prelude.{ℕ, ◌≡◌, ◌&&◌, Bool, true, false, IsTru
 use Rattle.std.specs.List.{All, Contains, list_any}
 use Rattle.pm_types.specs.Things.{Thing}
 use Rattle.pm_geom.specs.Things.{Orders}
-use Rattle.pm_props.specs.declared.object_type.ObjectType.{ObjectType}
+use Rattle.pm_object_type.specs.declared.object_type.ObjectType.{ObjectType}
 use Rattle.pm_types.specs.Canonical.{IsCanonical}
 use Rattle.pm_types.specs.Forms.{FormsIn}
 use Rattle.pm_props.specs.Kinds.{IsFresh}

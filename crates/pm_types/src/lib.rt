@@ -11,10 +11,7 @@ mod value;
 pub use lattice::Lattice;
 pub use number::Number;
 pub use pm_geom::Evidence;
-pub use pm_props::{
-    ClientName, Kind, ObjectType, PropId, PropSet, RuleId, StandardClient, ValueKind,
-    standard_kinds,
-};
+pub use pm_props::{ClientName, Kind, ObjectType, PropId, PropSet, RuleId, ValueKind};
 pub use value::{Counts, Sets, Value};
 
 /// Where the facts that an object holds are right, so are they with what a client may answer, in orders that the client

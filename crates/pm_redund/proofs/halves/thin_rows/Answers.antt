@@ -1,5 +1,5 @@
 use Rattle.pm_incidence.proofs.Described.{if_ok, units_echelon}
-use Rattle.pm_props.specs.declared.object_type.ObjectType.TheVariants.{Polytope}
+use Rattle.pm_object_type.specs.declared.object_type.ObjectType.TheVariants.{Polytope}
 use Rattle.pm_redund.proofs.HalfSpaces.{facets_of, last_marked, many_facets, no_facets}
 use Rattle.pm_redund.proofs.Refusals.{if_err, rows_of_halves}
 use Rattle.pm_redund.proofs.halves.thin_rows.Goals as goal

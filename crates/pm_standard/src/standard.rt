@@ -1,12 +1,10 @@
 // The standard rules and their clients.
 
-ghost use Rattle.pm_props.specs.Kinds.{standard_clients, standard_kind, standard_kinds_list, standard_row, table_row};
+ghost use Rattle.pm_standard.specs.Table.{standard_clients, standard_kind, standard_kinds_list, standard_row, table_row};
 ghost use Rattle.std.specs.Prelude.{IfOk, length, nat_lt, true, ◌≡◌, ◌≤◌};
 ghost use Rattle.std.specs.List.{list_all};
 
-use crate::kind::Kind;
-use crate::property::PropId;
-use crate::set::PropSet;
+use pm_props::{Kind, PropId, PropSet};
 use std::alloc::{AllocError, Global};
 
 /// The standard clients, named by what they find and from what.

@@ -9,7 +9,8 @@ use Rattle.std.proofs.lemmas.List.Kept.{AllPairs-cons}
 use Rattle.std.proofs.lemmas.List.Sums.{AllPass-from_list_all}
 use Rattle.std.proofs.lemmas.Slice.Eq.{bytes_eq-Decides}
 use Rattle.pm_props.proofs.Every.{all_properties}
-use Rattle.pm_props.specs.Kinds.{conditions_of, standard_clients, standard_kind, standard_kinds_list, standard_row}
+use Rattle.pm_props.specs.Kinds.{conditions_of}
+use Rattle.pm_standard.specs.Table.{standard_clients, standard_kind, standard_kinds_list, standard_row}
 use Rattle.pm_props.specs.Properties.{count, every_property, is_of_truth_values, value_kind}
 use Rattle.pm_props.specs.Sets.{has, only, union, intersection}
 use Rattle.pm_weights.specs.Weights.{most}
@@ -17,11 +18,12 @@ use Rattle.pm_props.specs.declared.kind.Kind.{Kind}
 use Rattle.pm_props.specs.declared.property.PropId.{PropId}
 use Rattle.pm_props.specs.declared.property.ValueKind.{ValueKind}
 use Rattle.pm_props.specs.declared.property.ValueKind.TheVariants as value
-use Rattle.pm_props.specs.declared.standard.StandardClient.{StandardClient}
-use Rattle.pm_props.specs.declared.standard.StandardRule.{StandardRule}
+use Rattle.pm_standard.specs.declared.standard.StandardClient.{StandardClient}
+use Rattle.pm_standard.specs.declared.standard.StandardRule.{StandardRule}
 use Rattle.pm_rules.specs.declared.rule.Rule.{Rule}
 use Rattle.pm_rules.specs.Words.{is_label}
-use Rattle.pm_rules.specs.Books.{FirstKinds, IsNamed, IsRule, IsBook, rule_of, standard_rule, standard_rules}
+use Rattle.pm_rules.specs.Books.{FirstKinds, IsNamed, IsRule, IsBook}
+use Rattle.pm_standard.specs.Book.{rule_of, standard_rule, standard_rules}
 use Rattle.pm_rules.proofs.Labels.{label_is_word}
 
 -- ---- each rule

@@ -1,0 +1,119 @@
+-- The standard rules and their clients: what each finds, from what, and what it weighs.
+use Rattle.std.specs.Prelude.{ℕ, List, [], ◌∷◌, codes, map}
+use Rattle.pm_props.specs.Kinds.{finding}
+use Rattle.pm_props.specs.Sets.{set_of}
+use Rattle.pm_props.specs.declared.kind.Kind.{Kind}
+use Rattle.pm_props.specs.declared.property.PropId.{PropId}
+use Rattle.pm_props.specs.declared.property.PropId.TheVariants.{Points, InputLineality, Inequalities, Equations, Vertices, LinealitySpace, Facets, AffineHull, VerticesInFacets, ConeDim, LinealityDim, CombinatorialDim, NVertices, NFacets, Feasible, Bounded, Pointed, FullDim, Centered, Simple, Simplicial, VertexSizes, FacetSizes, HasseDiagram, FVector, F2Vector, HVector, Graph, DualGraph, Diameter, DualDiameter, NEdges, NRidges, VertexDegrees, FarFace, MaximalCones, NMaximalCones, MaximalConesDims, FanDim, Pure, LinearObjective, MaximalValue, MinimalValue, MaximalFace, MinimalFace, MaximalDual, MinimalDual}
+use Rattle.pm_standard.specs.declared.standard.StandardClient.{StandardClient}
+use Rattle.pm_standard.specs.declared.standard.StandardRule.{StandardRule}
+use Rattle.pm_standard.specs.declared.standard.StandardClient.TheVariants as client
+
+-- a row of the table of rules: its label, what it finds, from what, what must be true, and what it weighs
+pub record RuleRow : Type 0 where
+  pub label : List ℕ
+  pub targets : List PropId
+  pub sources : List PropId
+  pub must : List PropId
+  pub weight : ℕ
+
+-- a rule under no condition
+abbrev pub plain_rule : List ℕ → List PropId → List PropId → ℕ → RuleRow
+plain_rule label targets sources weight = record { label = label; targets = targets; sources = sources; must = []; weight = weight }
+
+-- the rule where these properties must be true
+abbrev pub where_true : List PropId → RuleRow → RuleRow
+where_true must r = record r { must = must }
+
+-- the standard rules: label, targets, sources, weight
+abbrev pub table_row : StandardClient → RuleRow
+table_row client.DdVertices = plain_rule (codes "dd_vertices") (Vertices ∷ LinealitySpace ∷ []) (Inequalities ∷ Equations ∷ []) 40
+table_row client.DdFacets = plain_rule (codes "dd_facets") (Facets ∷ AffineHull ∷ []) (Points ∷ InputLineality ∷ []) 40
+table_row client.DdFacetsV = plain_rule (codes "dd_facets_v") (Facets ∷ AffineHull ∷ []) (Vertices ∷ LinealitySpace ∷ []) 30
+table_row client.DdVerticesF = plain_rule (codes "dd_vertices_f") (Vertices ∷ LinealitySpace ∷ []) (Facets ∷ AffineHull ∷ []) 30
+table_row client.ThinPointsLp = plain_rule (codes "thin_points_lp") (Vertices ∷ LinealitySpace ∷ []) (Points ∷ InputLineality ∷ []) 60
+table_row client.ThinInequalitiesLp = plain_rule (codes "thin_inequalities_lp") (Facets ∷ AffineHull ∷ []) (Inequalities ∷ Equations ∷ []) 60
+table_row client.ThinPointsF = plain_rule (codes "thin_points_f") (Vertices ∷ LinealitySpace ∷ []) (Points ∷ InputLineality ∷ Facets ∷ AffineHull ∷ []) 10
+table_row client.ThinInequalitiesV = plain_rule (codes "thin_inequalities_v") (Facets ∷ AffineHull ∷ []) (Inequalities ∷ Equations ∷ Vertices ∷ LinealitySpace ∷ []) 10
+table_row client.VerticesFromSets = plain_rule (codes "vertices_from_sets") (Vertices ∷ []) (Facets ∷ AffineHull ∷ VerticesInFacets ∷ []) 20
+table_row client.FacetsFromSets = plain_rule (codes "facets_from_sets") (Facets ∷ []) (Vertices ∷ LinealitySpace ∷ VerticesInFacets ∷ []) 20
+table_row client.PointsFromVertices = plain_rule (codes "points_from_vertices") (Points ∷ InputLineality ∷ []) (Vertices ∷ LinealitySpace ∷ []) 5
+table_row client.InequalitiesFromFacets = plain_rule (codes "inequalities_from_facets") (Inequalities ∷ Equations ∷ []) (Facets ∷ AffineHull ∷ []) 5
+table_row client.LinealityFromFacets = plain_rule (codes "lineality_from_facets") (LinealitySpace ∷ []) (Facets ∷ AffineHull ∷ []) 5
+table_row client.HullFromVertices = plain_rule (codes "hull_from_vertices") (AffineHull ∷ []) (Vertices ∷ LinealitySpace ∷ []) 5
+table_row client.ConeDimV = plain_rule (codes "cone_dim_v") (ConeDim ∷ []) (Vertices ∷ LinealitySpace ∷ []) 4
+table_row client.ConeDimSpan = plain_rule (codes "cone_dim_span") (ConeDim ∷ []) (AffineHull ∷ []) 1
+table_row client.ConeDimPoints = plain_rule (codes "cone_dim_points") (ConeDim ∷ []) (Points ∷ InputLineality ∷ []) 8
+table_row client.LinealityDim = plain_rule (codes "lineality_dim") (LinealityDim ∷ []) (LinealitySpace ∷ []) 1
+table_row client.CombinatorialDim = plain_rule (codes "combinatorial_dim") (CombinatorialDim ∷ []) (ConeDim ∷ LinealityDim ∷ []) 1
+table_row client.NVertices = plain_rule (codes "n_vertices") (NVertices ∷ []) (Vertices ∷ []) 1
+table_row client.NVerticesSets = plain_rule (codes "n_vertices_sets") (NVertices ∷ []) (VerticesInFacets ∷ []) 1
+table_row client.NFacets = plain_rule (codes "n_facets") (NFacets ∷ []) (Facets ∷ []) 1
+table_row client.NFacetsSets = plain_rule (codes "n_facets_sets") (NFacets ∷ []) (VerticesInFacets ∷ []) 1
+table_row client.Feasible = plain_rule (codes "feasible") (Feasible ∷ []) (ConeDim ∷ []) 1
+table_row client.FeasibleLp = plain_rule (codes "feasible_lp") (Feasible ∷ []) (Inequalities ∷ Equations ∷ []) 15
+table_row client.Bounded = plain_rule (codes "bounded") (Bounded ∷ []) (Vertices ∷ LinealitySpace ∷ []) 1
+table_row client.FarFace = plain_rule (codes "far_face") (FarFace ∷ []) (Vertices ∷ []) 1
+table_row client.Pointed = plain_rule (codes "pointed") (Pointed ∷ []) (LinealityDim ∷ []) 1
+table_row client.FullDim = plain_rule (codes "full_dim") (FullDim ∷ []) (ConeDim ∷ []) 1
+table_row client.Centered = plain_rule (codes "centered") (Centered ∷ []) (Facets ∷ AffineHull ∷ []) 1
+table_row client.Incidence = plain_rule (codes "incidence") (VerticesInFacets ∷ []) (Vertices ∷ Facets ∷ []) 5
+table_row client.VertexSizes = plain_rule (codes "vertex_sizes") (VertexSizes ∷ []) (VerticesInFacets ∷ []) 2
+table_row client.FacetSizes = plain_rule (codes "facet_sizes") (FacetSizes ∷ []) (VerticesInFacets ∷ []) 2
+table_row client.Simple = plain_rule (codes "simple") (Simple ∷ []) (VertexSizes ∷ CombinatorialDim ∷ []) 1
+table_row client.Simplicial = plain_rule (codes "simplicial") (Simplicial ∷ []) (FacetSizes ∷ CombinatorialDim ∷ []) 1
+table_row client.Faces = plain_rule (codes "faces") (HasseDiagram ∷ []) (VerticesInFacets ∷ []) 50
+table_row client.FVector = plain_rule (codes "f_vector") (FVector ∷ []) (HasseDiagram ∷ []) 2
+table_row client.F2Vector = plain_rule (codes "f2_vector") (F2Vector ∷ []) (HasseDiagram ∷ []) 3
+table_row client.HVector = where_true (Bounded ∷ Simplicial ∷ []) (plain_rule (codes "h_vector") (HVector ∷ []) (FVector ∷ CombinatorialDim ∷ []) 2)
+table_row client.GraphOfSets = plain_rule (codes "graph_of_sets") (Graph ∷ []) (VerticesInFacets ∷ []) 15
+table_row client.GraphOfFaces = plain_rule (codes "graph_of_faces") (Graph ∷ []) (HasseDiagram ∷ []) 3
+table_row client.DualGraph = plain_rule (codes "dual_graph") (DualGraph ∷ []) (VerticesInFacets ∷ []) 15
+table_row client.VertexDegrees = plain_rule (codes "vertex_degrees") (VertexDegrees ∷ []) (Graph ∷ []) 1
+table_row client.Diameter = plain_rule (codes "diameter") (Diameter ∷ []) (Graph ∷ []) 4
+table_row client.DualDiameter = plain_rule (codes "dual_diameter") (DualDiameter ∷ []) (DualGraph ∷ []) 4
+table_row client.NEdges = plain_rule (codes "n_edges") (NEdges ∷ []) (Graph ∷ []) 1
+table_row client.NRidges = plain_rule (codes "n_ridges") (NRidges ∷ []) (DualGraph ∷ []) 1
+table_row client.LpMax = plain_rule (codes "lp_max") (MaximalValue ∷ MaximalDual ∷ []) (Facets ∷ AffineHull ∷ LinearObjective ∷ []) 20
+table_row client.LpMin = plain_rule (codes "lp_min") (MinimalValue ∷ MinimalDual ∷ []) (Facets ∷ AffineHull ∷ LinearObjective ∷ []) 20
+table_row client.LpMaxRows = plain_rule (codes "lp_max_rows") (MaximalValue ∷ []) (Inequalities ∷ Equations ∷ LinearObjective ∷ []) 25
+table_row client.LpMinRows = plain_rule (codes "lp_min_rows") (MinimalValue ∷ []) (Inequalities ∷ Equations ∷ LinearObjective ∷ []) 25
+table_row client.LpMaxV = plain_rule (codes "lp_max_v") (MaximalValue ∷ []) (Vertices ∷ LinealitySpace ∷ LinearObjective ∷ []) 6
+table_row client.LpMinV = plain_rule (codes "lp_min_v") (MinimalValue ∷ []) (Vertices ∷ LinealitySpace ∷ LinearObjective ∷ []) 6
+table_row client.LpMaxFace = plain_rule (codes "lp_max_face") (MaximalFace ∷ []) (Vertices ∷ MaximalValue ∷ LinearObjective ∷ []) 3
+table_row client.LpMinFace = plain_rule (codes "lp_min_face") (MinimalFace ∷ []) (Vertices ∷ MinimalValue ∷ LinearObjective ∷ []) 3
+table_row client.FanDims = plain_rule (codes "fan_dims") (MaximalConesDims ∷ []) (Vertices ∷ LinealitySpace ∷ MaximalCones ∷ []) 4
+table_row client.FanDim = plain_rule (codes "fan_dim") (FanDim ∷ []) (MaximalConesDims ∷ []) 1
+table_row client.FanPure = plain_rule (codes "fan_pure") (Pure ∷ []) (MaximalConesDims ∷ []) 1
+table_row client.FanSimplicial = plain_rule (codes "fan_simplicial") (Simplicial ∷ []) (MaximalConesDims ∷ MaximalCones ∷ LinealityDim ∷ []) 1
+table_row client.FanSize = plain_rule (codes "fan_size") (NMaximalCones ∷ []) (MaximalCones ∷ []) 1
+
+-- the rule that a row says: the kind of its client, which bears the label as its name, and the weight
+abbrev pub rule_in : RuleRow → StandardRule
+rule_in r = record { kind = record (finding r.label r.targets r.sources) { must = set_of r.must }; weight = r.weight }
+
+abbrev pub standard_row : StandardClient → StandardRule
+standard_row c = rule_in (table_row c)
+
+-- all of them, in the order of the standard book
+abbrev pub standard_clients : List StandardClient
+standard_clients =
+    client.DdVertices ∷ client.DdFacets ∷ client.DdFacetsV ∷ client.DdVerticesF ∷ client.ThinPointsLp
+    ∷ client.ThinInequalitiesLp ∷ client.ThinPointsF ∷ client.ThinInequalitiesV ∷ client.VerticesFromSets ∷ client.FacetsFromSets
+    ∷ client.PointsFromVertices ∷ client.InequalitiesFromFacets ∷ client.LinealityFromFacets ∷ client.HullFromVertices ∷ client.ConeDimV
+    ∷ client.ConeDimSpan ∷ client.ConeDimPoints ∷ client.LinealityDim ∷ client.CombinatorialDim ∷ client.NVertices
+    ∷ client.NVerticesSets ∷ client.NFacets ∷ client.NFacetsSets ∷ client.Feasible ∷ client.FeasibleLp
+    ∷ client.Bounded ∷ client.FarFace ∷ client.Pointed ∷ client.FullDim ∷ client.Centered
+    ∷ client.Incidence ∷ client.VertexSizes ∷ client.FacetSizes ∷ client.Simple ∷ client.Simplicial
+    ∷ client.Faces ∷ client.FVector ∷ client.F2Vector ∷ client.HVector ∷ client.GraphOfSets
+    ∷ client.GraphOfFaces ∷ client.DualGraph ∷ client.VertexDegrees ∷ client.Diameter ∷ client.DualDiameter
+    ∷ client.NEdges ∷ client.NRidges ∷ client.LpMax ∷ client.LpMin ∷ client.LpMaxRows
+    ∷ client.LpMinRows ∷ client.LpMaxV ∷ client.LpMinV ∷ client.LpMaxFace ∷ client.LpMinFace
+    ∷ client.FanDims ∷ client.FanDim ∷ client.FanPure ∷ client.FanSimplicial ∷ client.FanSize ∷ []
+
+abbrev pub standard_kind : StandardClient → Kind
+standard_kind c = (standard_row c).kind
+
+-- their kinds
+abbrev pub standard_kinds_list : List Kind
+standard_kinds_list = map standard_kind standard_clients
