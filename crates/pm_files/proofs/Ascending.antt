@@ -13,7 +13,7 @@ use Rattle.serde_json.specs.Data.{Data, Members, no_members, member, put, object
 use Rattle.serde_json.specs.Find.{as_object, get_member}
 use Rattle.serde_json.specs.Read.{max_depth, number_of, of_items, of_json, of_members, read}
 use Rattle.pm_props.specs.Properties.{name_in}
-use Rattle.pm_props.specs.declared.object_type.ObjectType.{ObjectType}
+use Rattle.pm_object_type.specs.declared.object_type.ObjectType.{ObjectType}
 use Rattle.pm_props.specs.declared.property.PropId.{PropId}
 use Rattle.pm_types.specs.Values.{PropertyValue}
 use Rattle.pm_files.specs.Files.{SavedFile, SavedProgram, contents, heading, marks_json, program_json, type_text, with_programs, with_values}

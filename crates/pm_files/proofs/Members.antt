@@ -5,8 +5,8 @@ use Rattle.std.proofs.lemmas.Slice.Eq.{bytes_eq-Decides}
 use Rattle.std.specs.List.{list_all}
 use Rattle.std.specs.Prelude.{codes, map, not}
 use Rattle.pm_props.specs.Properties.{name_in}
-use Rattle.pm_props.specs.declared.object_type.ObjectType.{ObjectType}
-use Rattle.pm_props.specs.declared.object_type.ObjectType.TheVariants.{Polytope, Cone, Fan}
+use Rattle.pm_object_type.specs.declared.object_type.ObjectType.{ObjectType}
+use Rattle.pm_object_type.specs.declared.object_type.ObjectType.TheVariants.{Polytope, Cone, Fan}
 use Rattle.pm_props.specs.declared.property.PropId.{PropId}
 use Rattle.pm_props.specs.declared.property.PropId.TheVariants.{ConeAmbientDim}
 use Rattle.pm_types.specs.Values.{PropertyValue}

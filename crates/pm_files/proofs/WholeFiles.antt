@@ -6,7 +6,7 @@ use Rattle.std.specs.Prelude.{codes}
 use Rattle.std.specs.Ordering.{match_ordering}
 use Rattle.pm_algebra.specs.Numbers.{Ratio}
 use Rattle.pm_props.specs.Properties.{name_in}
-use Rattle.pm_props.specs.declared.object_type.ObjectType.{ObjectType}
+use Rattle.pm_object_type.specs.declared.object_type.ObjectType.{ObjectType}
 use Rattle.pm_props.specs.declared.property.PropId.{PropId}
 use Rattle.pm_types.specs.Values.{PropertyValue}
 use Rattle.serde_json.specs.Data.{Data, Members, no_members, member, put, depth, members_depth, string, number, unsigned}

@@ -2,7 +2,7 @@
 use Rattle.std.specs.Prelude.{[], ◌∷◌, ◌++◌, None, Some, codes, true, false, ◌≡◌, ◌≢◌}
 use Rattle.pm_fraction.specs.Fractions.{ratio_of}
 use Rattle.pm_props.specs.Sets.{only}
-use Rattle.pm_props.specs.declared.object_type.ObjectType.TheVariants.{Cone, Polytope}
+use Rattle.pm_object_type.specs.declared.object_type.ObjectType.TheVariants.{Cone, Polytope}
 use Rattle.pm_props.specs.declared.property.PropId.TheVariants.{ConeDim, Points, Vertices}
 use Rattle.pm_types.specs.Values.{matrix, whole}
 use Rattle.serde_json.specs.Written.{compact_text}

@@ -8,6 +8,7 @@ use Rattle.pm_types.specs.Values.{PropertyValue, matrix, sets, whole, truth, ext
 use Rattle.serde_json.specs.Data.{Data, unsigned, boolean, number, string, array, object, no_members, member}
 use Rattle.serde_json.specs.Find.{of_integer}
 use Rattle.serde_json.specs.View.{items_of}
+use Rattle.serde_json.specs.Written.{compact_text}
 use lib.IntN.{ℤ}
 
 abbrev pub array_of : List Data → Data
@@ -82,3 +83,7 @@ json_of p (extended x) = extended_json x
 json_of p (edges rows) = edges_json rows
 json_of p (lattice ranks) = lattice_json ranks
 json_of p (counts ks) = counts_json ks
+
+-- its text, without spaces, as replies show the value
+abbrev pub value_text : PropId → PropertyValue → List ℕ
+value_text p v = compact_text (json_of p v)

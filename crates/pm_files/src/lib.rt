@@ -10,7 +10,7 @@ mod value;
 mod write;
 
 pub use file::{FileObject, FileProgram};
-pub use value::value_json;
+pub use value::{value_json, value_text};
 pub use write::{object_bytes, type_text};
 
 /// The JSON of a value nests three levels at most.

@@ -1,10 +1,11 @@
 // Values of properties as JSON.
 
-ghost use Rattle.pm_files.specs.ValueJson.{cols_json, counts_json, edges_json, extended_json, fraction_json, json_of, lattice_json, matrix_json, objective_json, row_json, rows_json, set_json, sets_json, whole_json};
+ghost use Rattle.pm_files.specs.ValueJson.{cols_json, counts_json, edges_json, extended_json, fraction_json, json_of, lattice_json, matrix_json, objective_json, row_json, rows_json, set_json, sets_json, value_text, whole_json};
 ghost use Rattle.pm_types.specs.Lists.{lists_of};
 ghost use Rattle.pm_types.specs.Views.{extended_of, view_of};
+ghost use Rattle.serde_json.specs.Read.{read};
 ghost use Rattle.serde_json.specs.View.{view};
-ghost use Rattle.std.specs.Prelude.{IfOk, map, ◌≡◌};
+ghost use Rattle.std.specs.Prelude.{IfOk, Some, map, string_bytes, ◌≡◌};
 
 use pm_fraction::Fraction;
 use pm_matrix::Matrix;
@@ -173,4 +174,14 @@ pub fn value_json(alloc: Global, p: PropId, v: &Value) -> Result<Json, AllocErro
         Value::Lattice(lattice) => lattice_json(alloc, lattice.ranks()),
         Value::Number(number) => extended_json(alloc, number),
     }
+}
+
+/// The text of a value of a property: its JSON without spaces, which is read as that JSON.
+pub fn value_text(alloc: Global, p: PropId, v: &Value) -> Result<String, AllocError>
+    ensures text { IfOk result (λ t. string_bytes t ≡ value_text p (view_of v.now)) }
+    ensures reads_back { IfOk result (λ t. read (string_bytes t) ≡ Some (json_of p (view_of v.now))) }
+{
+    let json = value_json(alloc, p, v)?;
+    let text = json.to_string(alloc)?;
+    Ok(text)
 }

@@ -1,4 +1,3 @@
-pub mod Pieces
 pub mod Written
 pub mod Halves
 pub mod Counted

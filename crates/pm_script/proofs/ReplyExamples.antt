@@ -1,11 +1,12 @@
 -- Texts of small replies, written out.
 use Rattle.std.proofs.Common.{refl}
 use Rattle.std.specs.Fmt.{digits}
+use Rattle.serde_json.proofs.OnLiterals.{serde_json_on_literals}
 use Rattle.pm_props.specs.Sets.{only, union}
 use Rattle.pm_script.specs.Examples.{RepliesAreRead}
 
 pub replies_are_read : RepliesAreRead
-unfolding digits union only
+unfolding digits union only serde_json_on_literals
 replies_are_read = record {
   ended = refl;
   failed = refl;

@@ -10,7 +10,7 @@ use Rattle.pm_object.specs.declared.held.Why.TheVariants as why
 use Rattle.pm_props.specs.Sets.{set_of}
 use Rattle.pm_props.specs.declared.kind.RuleId.{RuleId}
 use Rattle.pm_props.specs.declared.property.PropId.TheVariants.{ConeAmbientDim, Inequalities, Equations, LinearObjective, MaximalValue, Pointed, Vertices}
-use Rattle.pm_props.specs.declared.object_type.ObjectType.TheVariants.{Cone, Polytope}
+use Rattle.pm_object_type.specs.declared.object_type.ObjectType.TheVariants.{Cone, Polytope}
 use Rattle.pm_types.specs.Values.{extended, finite, truth}
 use Rattle.pm_script.specs.Replies.{NamesSeen, Rounds, barred_text, done, ensured, excluded_text, exclusion_text, false_text, loaded, name_shown, no_rounds, nothing, property_set_text, refusal_text, refused, reply_text, round_text, rule_text, shows, tells_origin, told}
 use Rattle.pm_script.specs.declared.names.Bar.TheVariants as bar

@@ -22,13 +22,13 @@ use Rattle.pm_rules.specs.declared.table.TableRow.{TableRow}
 use Rattle.pm_script.specs.declared.names.Bar.{Bar}
 use Rattle.pm_script.specs.declared.names.Bar.TheVariants as bar
 use Rattle.pm_script.specs.declared.names.Names.{Names}
-use Rattle.pm_props.specs.declared.object_type.ObjectType.{ObjectType}
+use Rattle.pm_object_type.specs.declared.object_type.ObjectType.{ObjectType}
 use Rattle.pm_props.specs.Names.{program_name}
 use Rattle.pm_props.specs.Properties.{first_name, has_program, name_in}
 use Rattle.pm_types.specs.Values.{PropertyValue}
 use Rattle.pm_types.specs.Views.{view_of}
 use Rattle.pm_props.specs.declared.property.PropId.{PropId}
-use Rattle.pm_script.specs.Values.{value_text}
+use Rattle.pm_files.specs.ValueJson.{value_text}
 use Rattle.pm_script.specs.declared.refusal.Refusal.{Refusal}
 use Rattle.pm_script.specs.declared.refusal.Refusal.TheVariants.{BadCommand, UnknownName, NameTaken, UnknownType, UnknownProperty, BadValue, AlreadyHeld, Sealed, ObjectsFull, NoChain, Crowded, StoreFault, BadFile, NoSuchFile, LineTooLong, UnknownRule, NotFit}
 use Rattle.pm_script.specs.declared.refusal.FileWhy.{FileWhy}

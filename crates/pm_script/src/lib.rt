@@ -6,7 +6,6 @@ mod examples;
 mod names;
 mod refusal;
 mod reply;
-mod value_text;
 
 pub use examples::example_replies;
 pub use names::{Bar, Names};

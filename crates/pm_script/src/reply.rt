@@ -1,16 +1,16 @@
 // Replies.
 
+ghost use Rattle.pm_files.specs.ValueJson.{value_text};
 ghost use Rattle.pm_object.specs.Views.{round_seen};
 ghost use Rattle.pm_weights.specs.Weights.{cost_text};
 ghost use Rattle.pm_script.specs.Replies.{done, ignored_text, is_refusal, loaded, name_shown, names_seen, no_rounds, nothing, origin_text, refused, remarks, remarks_text, reply_text, rounds_text, rule_text, seen, spaced_name, table_row_text};
-ghost use Rattle.pm_script.specs.Values.{value_text};
 ghost use Rattle.pm_types.specs.Views.{view_of};
 ghost use Rattle.std.specs.Prelude.{Bool, IfOk, false, None, OnOk, [], codes, decimal, flat_map, if◌then◌else◌, length, map, string_bytes, ◌++◌, ◌||◌, ◌≡◌};
 
 use crate::chains::{push_barred, push_exclusions, push_rounds, push_rows, push_rules_of};
 use crate::names::{Bar, Names};
 use crate::refusal::{Refusal, push_refusal};
-use crate::value_text::push_value;
+use pm_files::value_text;
 use pm_object::{Excluded, Origin, Round};
 use pm_rules::Table;
 use pm_types::{ObjectType, PropId, RuleId, Value};
@@ -143,6 +143,7 @@ fn name_shown(of: ObjectType, prop: PropId) -> &'static str
 
 /// Writes a value of a property, after the name of its object or program.
 fn push_shown(
+    alloc: Global,
     text: &mut String,
     of: ObjectType,
     prop: PropId,
@@ -155,7 +156,7 @@ fn push_shown(
     text.push_str(" ")?;
     text.push_str(name_shown(of, prop))?;
     text.push_str(" ")?;
-    push_value(text, prop, value)?;
+    text.push_str(value_text(alloc, prop, value)?.as_str())?;
     text.push_str("\n")
 }
 
@@ -316,7 +317,7 @@ fn reply_lines(alloc: Global, r: &Reply, trace: bool) -> Result<String, AllocErr
             names,
         } => {
             let mut text = String::from_str(alloc, name)?;
-            push_shown(&mut text, *of, *prop, value)?;
+            push_shown(alloc, &mut text, *of, *prop, value)?;
             push_told(&mut text, trace, rounds, names)?;
             Ok(text)
         }
