@@ -5,9 +5,9 @@ use Rattle.pm_client.proofs.Failing.{halves_read}
 use Rattle.pm_clients_lp.proofs.StandardKinds.{face_named, dual_named, facets_named, rays_named, rows_named}
 use Rattle.pm_clients_lp.specs.Programs.{ShowsOptimum}
 use Rattle.pm_incidence.specs.Thinning.{half_spaces}
-use Rattle.pm_props.specs.Kinds.{standard_kind}
-use Rattle.pm_props.specs.declared.object_type.ObjectType.TheVariants.{Cone, Fan, Polytope}
-use Rattle.pm_props.specs.declared.object_type.ObjectType.{ObjectType}
+use Rattle.pm_standard.specs.Table.{standard_kind}
+use Rattle.pm_object_type.specs.declared.object_type.ObjectType.TheVariants.{Cone, Fan, Polytope}
+use Rattle.pm_object_type.specs.declared.object_type.ObjectType.{ObjectType}
 use Rattle.pm_props.specs.declared.property.PropId.TheVariants.{AffineHull, Equations, Facets, Inequalities, LinealitySpace, Vertices}
 use Rattle.pm_simplex.specs.Answers.{ShowsProgram}
 use Rattle.pm_simplex.specs.OptimumEvidence.{ShowsFace, ShowsValue}

@@ -15,7 +15,7 @@ use Rattle.pm_geom.specs.Cones.{InLineality}
 use Rattle.pm_geom.specs.Faces.{ray}
 use Rattle.pm_geom.specs.Things.{Orders}
 use Rattle.pm_object.specs.Reading.{DraftSeen, IsView, ViewSeen, fact_of}
-use Rattle.pm_props.specs.declared.object_type.ObjectType.TheVariants.{Polytope}
+use Rattle.pm_object_type.specs.declared.object_type.ObjectType.TheVariants.{Polytope}
 use Rattle.pm_props.specs.declared.property.PropId.TheVariants.{LinealitySpace, Vertices}
 use Rattle.pm_relations.proofs.FlatLineality.{polytope_lineality_first}
 use Rattle.pm_relations.proofs.Hulls.{lines_of, rays_generate}

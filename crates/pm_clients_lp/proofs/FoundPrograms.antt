@@ -28,7 +28,7 @@ use Rattle.pm_geom.specs.Things.{Orders}
 use Rattle.pm_incidence.specs.Thinning.{half_spaces}
 use Rattle.pm_matrix.specs.Matrices.{FractionMatrix, IsMatrix}
 use Rattle.pm_object.specs.Reading.{DraftSeen, IsView, ViewSeen}
-use Rattle.pm_props.specs.declared.object_type.ObjectType.TheVariants.{Polytope}
+use Rattle.pm_object_type.specs.declared.object_type.ObjectType.TheVariants.{Polytope}
 use Rattle.pm_props.specs.declared.property.PropId.TheVariants.{AffineHull, Equations, Facets, Inequalities}
 use Rattle.pm_relations.proofs.Hulls.{facets_bound}
 use Rattle.pm_relations.proofs.PrimitiveStanding.{primitive_stand}

@@ -4,7 +4,7 @@ use Rattle.pm_client.specs.Ways as way
 use Rattle.pm_client.specs.Sound.{finds_optimum, optimum, has_way}
 use Rattle.pm_clients_lp.specs.Clients.{at_face, at_rays, dual, face, over_facets, over_rows}
 use Rattle.pm_object.specs.Reading.{drafted}
-use Rattle.pm_props.specs.Kinds.{standard_kind}
+use Rattle.pm_standard.specs.Table.{standard_kind}
 use Rattle.pm_props.specs.Sets.{has, set_of}
 use Rattle.pm_props.specs.declared.kind.Kind.{Kind}
 use Rattle.pm_props.specs.declared.property.PropId.TheVariants.{AffineHull, Equations, Facets, Inequalities, LinealitySpace, LinearObjective, MaximalDual, MaximalFace, MaximalValue, MinimalDual, MinimalFace, MinimalValue, Vertices}

@@ -16,7 +16,7 @@ use Rattle.pm_elim.specs.Evidence.{unit}
 use Rattle.pm_geom.proofs.Duality.{direction_is_without_bound, infeasible_has_no_point, optimum_is_maximum}
 use Rattle.pm_geom.specs.Programs.{Solves}
 use Rattle.pm_incidence.specs.Thinning.{half_spaces}
-use Rattle.pm_props.specs.declared.object_type.ObjectType.TheVariants.{Polytope}
+use Rattle.pm_object_type.specs.declared.object_type.ObjectType.TheVariants.{Polytope}
 use Rattle.pm_relations.proofs.Thinning.{solves_as}
 use Rattle.pm_types.specs.Programs.{IsGreatest}
 use Rattle.pm_types.specs.Right.{CutsOutPolytope, empty, proper}

@@ -4,7 +4,7 @@ ghost use Rattle.pm_client.specs.Sound.{FailsRightly, IsSound, IsWideFace, optim
 ghost use Rattle.pm_clients_lp.specs.Clients.{FailsBy, at_face};
 ghost use Rattle.pm_clients_lp.specs.Reading.{ArePlacesAt};
 ghost use Rattle.pm_object.specs.Reading.{fact_of};
-ghost use Rattle.pm_props.specs.Kinds.{standard_kind};
+ghost use Rattle.pm_standard.specs.Table.{standard_kind};
 ghost use Rattle.pm_types.specs.Forms.{is_counts_form};
 ghost use Rattle.pm_types.specs.Values.{extended};
 ghost use Rattle.pm_types.specs.Views.{extended_of};

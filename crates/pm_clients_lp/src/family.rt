@@ -1,6 +1,6 @@
 // The family of the clients of linear programs.
 
-ghost use Rattle.pm_props.specs.declared.standard.StandardClient.TheVariants as client;
+ghost use Rattle.pm_standard.specs.declared.standard.StandardClient.TheVariants as client;
 ghost use Rattle.std.specs.Prelude.{[], map, ◌∷◌, ◌≡◌};
 
 use crate::faces::face_at_value;
@@ -9,7 +9,7 @@ use crate::rays::value_from_rays;
 use pm_client::{ClientFail, Family, FamilyClient};
 use pm_object::{Draft, View};
 use pm_simplex::Sense;
-use pm_types::StandardClient;
+use pm_standard::StandardClient;
 use std::alloc::Global;
 
 /// The works of the clients of linear programs, each in either sense.
@@ -62,7 +62,7 @@ impl Family for LpFamily {
 
     ghost client_of = { linear_client };
 
-    ghost Stays = { λ _ _. Unit {0} };
+    ghost Stays = { λ _ _ _. Unit {0} };
 
     ghost Fails = { LinearFails };
 

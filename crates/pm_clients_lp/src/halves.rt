@@ -4,8 +4,8 @@ ghost use Rattle.pm_client.specs.Sound.{FailsRightly, IsSound, IsWideOptimum};
 ghost use Rattle.pm_clients_lp.specs.Clients.{FailsBy, IsWideWithDual, over_facets, over_rows};
 ghost use Rattle.pm_elim.specs.Evidence.{unit};
 ghost use Rattle.pm_incidence.specs.Thinning.{half_spaces};
-ghost use Rattle.pm_props.specs.Kinds.{standard_kind};
-ghost use Rattle.pm_props.specs.declared.object_type.ObjectType.TheVariants.{Polytope};
+ghost use Rattle.pm_standard.specs.Table.{standard_kind};
+ghost use Rattle.pm_object_type.specs.declared.object_type.ObjectType.TheVariants.{Polytope};
 ghost use Rattle.std.specs.Prelude.{IfErr, IfOk, OnOk, [], ◌<◌, ◌≡◌};
 
 use crate::programs::{optimum_over, optimum_with_dual};

@@ -13,7 +13,7 @@ ghost use Rattle.std.specs.Prelude.{IfErr, IfOk, length, ◌+◌, ◌<◌, ◌^�
 use crate::duals::dual_rows;
 use pm_fraction::Fraction;
 use pm_matrix::Matrix;
-use pm_simplex::{LpAnswer, LpFail, Sense, maximise_rows};
+use pm_simplex::{LpAnswer, LpFail, Sense, maximise_by_dictionaries, maximise_rows};
 use pm_types::Number;
 use pm_vector::Ints;
 use std::alloc::Global;
@@ -104,8 +104,35 @@ fn dual_of(
     }
 }
 
+/// The same by the dictionaries of the simplex method alone: a row that leaves the range is then one of the dual of an optimal dictionary.
+fn optimum_by_dictionaries(
+    alloc: Global,
+    sense: Sense,
+    inequalities: &[Ints],
+    equations: &[Ints],
+    objective: &[Fraction],
+) -> Result<OptimumWithDual, LpFail>
+    requires some { 0 < length objective.now }
+    requires few { length inequalities.now + length equations.now + length objective.now
+        < 2 ^ 31 }
+    requires inequality_cols { HasCols (length objective.now) inequalities.now }
+    requires equation_cols { HasCols (length objective.now) equations.now }
+    ensures found { IfOk result (λ f. IsFoundWithDual sense inequalities.now equations.now
+        objective.now (extended_of f.value) f.dual) }
+    ensures wide { IfErr result (λ f. IfWide f (ShowsOptimum inequalities.now
+        equations.now (objective_in sense objective.now))) }
+{
+    let turned = sense.objective(alloc, objective)?;
+    let answer = maximise_by_dictionaries(alloc, inequalities, equations, &turned)?;
+    let dual = dual_of(alloc, objective.len(), inequalities, &answer)?;
+    Ok(OptimumWithDual {
+        value: optimum_told(sense, &answer),
+        dual,
+    })
+}
+
 /// The same optimum, and the rows of a dual that shows it.
-/// `Wide` only where a pivot of the program leaves the range (E3), or a row of the dual does, or its primitive row (E4).
+/// `Wide` only where a pivot of the program leaves the range (E3), or a row of the dual of an optimal dictionary does, or its primitive row (E4).
 pub fn optimum_with_dual(
     alloc: Global,
     sense: Sense,
@@ -124,9 +151,14 @@ pub fn optimum_with_dual(
         equations.now (objective_in sense objective.now))) }
 {
     let answer = answer_in(alloc, sense, inequalities, equations, objective)?;
-    let dual = dual_of(alloc, objective.len(), inequalities, &answer)?;
-    Ok(OptimumWithDual {
-        value: optimum_told(sense, &answer),
-        dual,
-    })
+    match dual_of(alloc, objective.len(), inequalities, &answer) {
+        Ok(dual) => Ok(OptimumWithDual {
+            value: optimum_told(sense, &answer),
+            dual,
+        }),
+        Err(LpFail::Memory) => Err(LpFail::Memory),
+        Err(LpFail::Wide(_)) => {
+            optimum_by_dictionaries(alloc, sense, inequalities, equations, objective)
+        }
+    }
 }

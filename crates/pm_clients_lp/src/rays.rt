@@ -2,7 +2,7 @@
 
 ghost use Rattle.pm_client.specs.Sound.{FailsRightly, IsSound, IsWideAtRays};
 ghost use Rattle.pm_clients_lp.specs.Clients.{FailsBy, at_rays};
-ghost use Rattle.pm_props.specs.Kinds.{standard_kind};
+ghost use Rattle.pm_standard.specs.Table.{standard_kind};
 ghost use Rattle.std.specs.Prelude.{IfErr, OnOk, [], ◌≡◌};
 
 use crate::properties::value_in;

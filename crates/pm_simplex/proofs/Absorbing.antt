@@ -6,7 +6,7 @@ use Rattle.pm_algebra.specs.Rows.{Row}
 use Rattle.pm_bases.specs.Bases.{column}
 use Rattle.pm_geom.specs.declared.evidence.Evidence.{Evidence}
 use Rattle.pm_programs.specs.Dictionaries.{at, row_of}
-use Rattle.pm_simplex.proofs.EvidenceLaws.{lawful_is_shown}
+use Rattle.pm_simplex.proofs.EvidenceLaws.{absorbing_objectives, lawful_is_shown}
 use Rattle.pm_simplex.proofs.Layouts.{basis_other, basis_own, count_N, count_P, here_zero, laid_out_next, others_other, settled_next, sum_kept}
 use Rattle.pm_simplex.specs.Comparisons.{rows_of}
 use Rattle.pm_simplex.specs.Evidence.{IsShownBy, IsWidePivot}
@@ -144,7 +144,7 @@ module _ (y : Layout) (S : List Row) (d d' : Dictionary) (n j : ℕ) (h : IsAbso
       none r rd e ed he q h = mul_cancel he (let f = ap (λ z. z *ℤ rd) h in let z : pos 0 *ℤ rd ≡ pos 0 = simp ring in let w : ed *ℤ pos 0 ≡ pos 0 = simp ring in omega (arith, ints))
 
   pub absorb_is_shown : (e : Evidence) → IsWidePivot d n j e → IsShownBy y S e
-  absorb_is_shown e w = lawful_is_shown y S d n j e h.laid_out ln lj (record { not_zero = nz; kind = inl free }) w
+  absorb_is_shown e w = lawful_is_shown y S d n j e h.laid_out ln lj (free.0, (let a = free.1 in omega arith)) (let a = h.residuals n (omega arith) within in omega arith) (absorbing_objectives y S d n h) (record { not_zero = nz; kind = inl free }) w
 
 -- ---- no pivot
 pub absorbing_skip : (y : Layout) (S : List Row) (d : Dictionary) (n : ℕ) → IsAbsorbing y S d n → y.slacks ≤ n → n < y.slacks + y.residuals

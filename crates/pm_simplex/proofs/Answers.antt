@@ -8,6 +8,7 @@ use Rattle.pm_programs.specs.Dictionaries.{at, row_of}
 use Rattle.pm_simplex.proofs.Arranged.{at_objective, enters_no_help, enters_no_residual}
 use Rattle.pm_simplex.proofs.Certificates.{optimal_gives_dual}
 use Rattle.pm_simplex.proofs.Directions.{unbounded_gives_direction}
+use Rattle.pm_simplex.proofs.EvidenceLaws.{feasible}
 use Rattle.pm_simplex.proofs.Infeasible.{contradiction_excludes, least_auxiliary_excludes}
 use Rattle.pm_simplex.proofs.KeyColumns.{in_other}
 use Rattle.pm_simplex.proofs.Listed.{listed}
@@ -16,6 +17,7 @@ use Rattle.pm_simplex.proofs.Points.{feasible_gives_point}
 use Rattle.pm_simplex.proofs.Solutions.{at_basic, at_other, sorted}
 use Rattle.pm_simplex.specs.Answers.{IsProgram, IsReady, IsStuck, Program}
 use Rattle.pm_simplex.specs.Comparisons.{direction, key_of, rows_of}
+use Rattle.pm_simplex.specs.OptimalDuals.{IsDictionaryDual}
 use Rattle.pm_simplex.specs.ProgramLaws.{AreMultipliersOf, IsSystem, dual_of, signed_by}
 use Rattle.pm_simplex.specs.Phases.{IsPhaseSystem}
 use Rattle.pm_simplex.specs.Running.{IsArranged, IsContradiction, IsOptimalAt, IsResidualColumn, IsState, IsUnboundedAt, IsWithoutHelp}
@@ -93,14 +95,38 @@ module _ (y : Layout) (g : Program) (d : Dictionary) (pr : IsProgram y g) (st : 
     point_cols : length point ≡ length g.objective
     point_cols = lists.count ∙ sym pr.cols
 
+    dual_listed : (dual : List Ratio) → Lists (λ c. signed_by true (key_of d (y.slacks + y.residuals) c)) y.cols (y.slacks + y.residuals) dual → dual ≡ dual_of y d (y.slacks + y.residuals)
+    dual_listed dual ld =
+        listed _ y.cols (y.slacks + y.residuals) dual ld
+        ∙ map_as (λ c. key_of d (y.slacks + y.residuals) c) (λ c. key_found c d.others.items (row_of (rows_of d) (y.slacks + y.residuals))) y.cols (y.slacks + y.residuals)
+        (λ j l u. in_other (column d.basis.items (y.slacks + y.residuals)) d.others.items (row_of (rows_of d) (y.slacks + y.residuals)) j (λ e. (let o = arr.objective in omega arith)))
+
+    -- it is the dual of an optimal dictionary
+    pub dictionary_dual : IsOptimalAt y d (y.slacks + y.residuals) → (dual : List Ratio) → Lists (λ c. signed_by true (key_of d (y.slacks + y.residuals) c)) y.cols (y.slacks + y.residuals) dual → IsDictionaryDual y g.system dual
+    dictionary_dual opt dual ld = record {
+      basis = d.basis.items;
+      others = d.others.items;
+      fractions = rows_of d;
+      row = y.slacks + y.residuals;
+      optimal = record {
+        dictionary = st.dictionary;
+        constant = st.constant;
+        within = st.within;
+        objective = arr.objective;
+        feasible = feasible y g.system d (y.slacks + y.residuals) st;
+        without = out.absent;
+        settled = λ i k li lk r n. (arr.settled i li r).zero k lk n;
+        free = opt.free;
+        slack = opt.slack;
+      };
+      is = dual_listed dual ld;
+    }
+
     pub optimal : IsOptimalAt y d (y.slacks + y.residuals) → (dual : List Ratio) → Lists (λ c. signed_by true (key_of d (y.slacks + y.residuals) c)) y.cols (y.slacks + y.residuals) dual
         → IsOptimal g.inequalities g.equations g.objective (at (rows_of d) (y.slacks + y.residuals) 0) point dual
     optimal opt dual ld =
         let facts = feasible_gives_point y g.inequalities g.equations g.objective pr.equations.objective pr.equations.k g.system d (y.slacks + y.residuals) pr.equations.times pr.equations.system st arr.objective first_settled in
-        let dual_is : dual ≡ dual_of y d (y.slacks + y.residuals) =
-        listed _ y.cols (y.slacks + y.residuals) dual ld
-        ∙ map_as (λ c. key_of d (y.slacks + y.residuals) c) (λ c. key_found c d.others.items (row_of (rows_of d) (y.slacks + y.residuals))) y.cols (y.slacks + y.residuals)
-        (λ j l u. in_other (column d.basis.items (y.slacks + y.residuals)) d.others.items (row_of (rows_of d) (y.slacks + y.residuals)) j (λ e. (let o = arr.objective in omega arith))) in
+        let dual_is = dual_listed dual ld in
         subst (λ q. IsOptimal g.inequalities g.equations g.objective (at (rows_of d) (y.slacks + y.residuals) 0) q dual) (sym point_is)
         (subst (λ q. IsOptimal g.inequalities g.equations g.objective (at (rows_of d) (y.slacks + y.residuals) 0) (solution 0 0 d.basis.items (rows_of d) y.cols) q) (sym dual_is)
         (record {

@@ -13,7 +13,7 @@ use Rattle.pm_programs.specs.Pivots.{IsLexFeasible, IsRatioTest}
 use Rattle.pm_programs.specs.Tableaux.{pivot_rows}
 use Rattle.pm_simplex.proofs.Arranged.{arranged_next}
 use Rattle.pm_simplex.proofs.Compare.{lex_at}
-use Rattle.pm_simplex.proofs.EvidenceLaws.{lawful_is_shown, not_below}
+use Rattle.pm_simplex.proofs.EvidenceLaws.{arranged_objectives, lawful_is_shown, not_below}
 use Rattle.pm_simplex.proofs.KeyColumns.{length_upward, upward_at}
 use Rattle.pm_simplex.proofs.Layouts.{laid_out_next}
 use Rattle.pm_simplex.proofs.Least.{direction_sign, hinders_sign, not_zero_num}
@@ -21,6 +21,7 @@ use Rattle.pm_simplex.proofs.Limbs.{signs_below}
 use Rattle.pm_simplex.proofs.RowOrder.{signed_is}
 use Rattle.pm_simplex.specs.Comparisons.{HindersAt, IsLeastOf, rows_of}
 use Rattle.pm_simplex.specs.Evidence.{IsShownBy, IsWidePivot}
+use Rattle.pm_simplex.proofs.Steps.{signed_inside}
 use Rattle.pm_simplex.specs.Running.{IsAbsorbing, IsArranged, IsLaidOut, IsPivotOf, IsState, IsWithoutHelp}
 use Rattle.pm_simplex.specs.States.{is_signed, key_columns, upward}
 use Rattle.pm_simplex.specs.declared.dictionary.Dictionary.{Dictionary}
@@ -161,7 +162,7 @@ module _ (y : Layout) (S : List Row) (d : Dictionary) (h : IsAbsorbing y S d (y.
     later = let e = h.help in let p = y.some in omega arith
 
     pub begin_is_shown : (e : Evidence) → IsWidePivot d l y.cols e → IsShownBy y S e
-    begin_is_shown e w = lawful_is_shown y S d l y.cols e h.laid_out least.within help_in
+    begin_is_shown e w = lawful_is_shown y S d l y.cols e h.laid_out least.within help_in (later, (let a = h.help in omega arith)) (signed_inside y (column d.basis.items l) least.hinders.signed) (arranged_objectives y d arranged)
         (record { not_zero = nz; kind = inr (inr (inl (h.help, λ f. (let q = f l least.within least.hinders.signed in omega (arith, ints))))) }) w
 
     module _ (pv : IsPivotOf d l y.cols d') where

@@ -8,22 +8,22 @@ use Rattle.pm_simplex.proofs.Least.{direction_sign, hinders_sign, not_zero_num}
 use Rattle.pm_simplex.proofs.RowOrder.{below_is, opposite}
 use Rattle.pm_simplex.specs.Comparisons.{HindersAt, IsKeyBelow, IsRowBelow, direction, key_of, rows_of}
 use Rattle.pm_programs.specs.Dictionaries.{at, row_of}
-use Rattle.pm_simplex.specs.Evidence.{IsLawful, IsShownBy, IsWidePivot, StepIsLawful}
+use Rattle.pm_simplex.specs.Evidence.{HasObjectives, IsLawful, IsShownBy, IsWidePivot, PivotsHavePlaces, StepIsLawful}
 use Rattle.pm_geom.specs.declared.evidence.Evidence.{Evidence}
 use Rattle.pm_programs.specs.Lex.{IsLexPositive, key, keys}
 use Rattle.pm_simplex.specs.Fails.{IfWide}
-use Rattle.pm_simplex.specs.Running.{IsLaidOut, IsState}
+use Rattle.pm_simplex.specs.Running.{IsAbsorbing, IsArranged, IsFreeColumn, IsLaidOut, IsSlackColumn, IsState}
 use Rattle.pm_simplex.specs.declared.fails.LpFail.{LpFail}
 use Rattle.pm_simplex.specs.declared.fails.LpFail.TheVariants.{Memory, Wide}
 use Rattle.pm_simplex.specs.Sizes.{IsQuotientBelow}
-use Rattle.pm_simplex.specs.States.{is_signed, key_columns}
+use Rattle.pm_simplex.specs.States.{auxiliary, is_signed, key_columns, objective_column}
 use Rattle.pm_programs.specs.Tableaux.{pivot_row}
 use Rattle.pm_simplex.specs.declared.dictionary.Dictionary.{Dictionary}
 use Rattle.pm_simplex.specs.declared.layout.Layout.{Layout}
 use Rattle.std.proofs.Common.{arith, inl, inr, refl, subst, sym, ◌∙◌}
 use Rattle.std.proofs.lemmas.Int.{ints}
 use Rattle.std.proofs.lemmas.List.{length-map}
-use Rattle.std.specs.Prelude.{Bool, IsTrue, List, length, ℕ, ◌<◌, ◌≡◌}
+use Rattle.std.specs.Prelude.{Bool, IsTrue, List, length, true, ℕ, ◌+◌, ◌<◌, ◌≡◌, ◌⊎◌}
 use lib.IntN.{neg_ℤ, pos, ℤ, ◌*ℤ◌}
 use lib.Signed.{◌<ℤ◌, ◌≤ℤ◌}
 use native.Mathlib.Decide.{ℕ_discrete}
@@ -54,7 +54,7 @@ module _ (y : Layout) (S : List Row) (d : Dictionary) (st : IsLaidOut y S d) whe
       let o = opposite y d st.shaped j lj S st.dictionary (direction up) (direction_sign up) (row_at st.dictionary.whole l) (row_at st.dictionary.whole i) 0 in
       omega (arith, ints)
 
-feasible : (y : Layout) (S : List Row) (d : Dictionary) (z : ℕ) (st : IsState y S d z) → (i : ℕ) → i < length d.basis.items → IsTrue (is_signed y (column d.basis.items i)) → pos 0 ≤ℤ (at (rows_of d) i 0).num
+pub feasible : (y : Layout) (S : List Row) (d : Dictionary) (z : ℕ) (st : IsState y S d z) → (i : ℕ) → i < length d.basis.items → IsTrue (is_signed y (column d.basis.items i)) → pos 0 ≤ℤ (at (rows_of d) i 0).num
 feasible y S d z st i li si =
     let w = st.dictionary.entries i 0 li st.some in
     let wi : i < length st.dictionary.whole = (let a = st.dictionary.tableau.tableau.as_many in omega arith) in
@@ -94,8 +94,9 @@ step_is_lawful y S d z l e st en least = record {
     same_below a f h = let q = h.below in omega (arith, ints)
 
 -- evidence of a lawful pivot
-pub lawful_is_shown : (y : Layout) (S : List Row) (d : Dictionary) (l j : ℕ) (e : Evidence) → IsLaidOut y S d → l < length d.basis.items → j < length d.others.items → IsLawful y d.basis.items d.others.items (rows_of d) l j → IsWidePivot d l j e → IsShownBy y S e
-lawful_is_shown y S d l j e h ll lj law w =
+pub lawful_is_shown : (y : Layout) (S : List Row) (d : Dictionary) (l j : ℕ) (e : Evidence) → IsLaidOut y S d → l < length d.basis.items → j < length d.others.items
+    → (0 < column d.others.items j) × (column d.others.items j < objective_column y) → column d.basis.items l < objective_column y → HasObjectives y d.basis.items → IsLawful y d.basis.items d.others.items (rows_of d) l j → IsWidePivot d l j e → IsShownBy y S e
+lawful_is_shown y S d l j e h ll lj enters leaves objectives law w =
     subst (λ z. IsShownBy y S z) (sym w.is)
     (record {
       others = d.others.items;
@@ -114,11 +115,35 @@ lawful_is_shown y S d l j e h ll lj law w =
       enter_is = refl;
       row_is = refl;
       place_is = refl;
+      enters = enters;
+      leaves = leaves;
+      objectives = objectives;
       lawful = law;
       wide = w.wide;
     })
+
+-- where the two objectives have the last rows
+pub arranged_objectives : (y : Layout) (d : Dictionary) → IsArranged y d → HasObjectives y d.basis.items
+arranged_objectives y d a = record { objective = (y.slacks + y.residuals, (let e = a.count in omega arith), a.objective); phase = (y.slacks + y.residuals + 1, (let e = a.count in omega arith), a.phase) }
+
+pub absorbing_objectives : (y : Layout) (S : List Row) (d : Dictionary) (n : ℕ) → IsAbsorbing y S d n → HasObjectives y d.basis.items
+absorbing_objectives y S d n a = record { objective = (y.slacks + y.residuals, (let e = a.count in omega arith), a.objective); phase = (y.slacks + y.residuals + 1, (let e = a.count in omega arith), a.phase) }
+
+-- a variable that may enter is no constant and no objective
+pub entering_inside : (y : Layout) (c : ℕ) (up : Bool) → (IsFreeColumn y c ⊎ (IsSlackColumn y c × (up ≡ true))) → (0 < c) × (c < objective_column y)
+entering_inside y c up (inl f) = (f.0, (let a = f.1 in omega arith))
+entering_inside y c up (inr s) = ((let a = s.0.0 in let b = y.some in omega arith), (let a = s.0.1 in omega arith))
 
 -- what is so of the evidence of a failure
 pub wide_as : (f : LpFail) (P Q : Evidence → Type 0) → ((e : Evidence) → P e → Q e) → IfWide f P → IfWide f Q
 wide_as (Wide e) P Q h p = h e p
 wide_as Memory P Q h p = tt
+
+-- what is no evidence
+pub pivots_have_places : PivotsHavePlaces
+pivots_have_places = record {
+  no_constant = λ y S P leave row place h. let a = h.enters.0 in omega arith;
+  no_objective_enters = λ y S P leave row place h. let a = h.enters.1 in omega arith;
+  no_objective_leaves = λ y S P enter row place h. let a = h.leaves in omega arith;
+  none_without = λ y S enter leave row place h. let a = h.objectives.objective.1 in omega arith;
+}

@@ -16,7 +16,7 @@ use Rattle.pm_programs.specs.Dictionaries.{AllFit, IsDictionaryOf, at, row_of}
 use Rattle.pm_programs.specs.Lex.{IsBounded, IsLexBelow, key}
 use Rattle.pm_programs.specs.Pivots.{IsLexFeasible, IsRatioTest, Writes}
 use Rattle.pm_simplex.specs.Running.{IsEntering, IsFreeColumn, IsPivotOf, IsSlackColumn, IsState, objective_vector}
-use Rattle.pm_simplex.specs.States.{auxiliary, columns_of, is_signed, key_columns, key_found, key_sign, key_vector}
+use Rattle.pm_simplex.specs.States.{auxiliary, columns_of, is_signed, key_columns, key_found, key_sign, key_vector, objective_column}
 use Rattle.pm_programs.specs.Tableaux.{pivot_rows}
 use Rattle.pm_simplex.specs.declared.dictionary.Dictionary.{Dictionary}
 use Rattle.pm_simplex.specs.declared.entering.Entering.{Entering}
@@ -33,6 +33,9 @@ use native.Mathlib.Decide.{ℕ_discrete}
 -- ---- columns
 pub not_signed_objective : (y : Layout) (c : ℕ) → auxiliary y < c → ¬ (IsTrue (is_signed y c))
 not_signed_objective y c l h = elim (signed_is y c h) [ inl w ↦ (let a = w.1 in omega arith) | inr e ↦ omega arith ]
+
+pub signed_inside : (y : Layout) (c : ℕ) → IsTrue (is_signed y c) → c < objective_column y
+signed_inside y c h = elim (signed_is y c h) [ inl w ↦ (let a = w.1 in omega arith) | inr e ↦ omega arith ]
 
 not_key_objective : (y : Layout) (k c : ℕ) → k < length (key_columns y) → auxiliary y < c → ¬ (column (key_columns y) k ≡ c)
 not_key_objective y zero c l o e = omega arith

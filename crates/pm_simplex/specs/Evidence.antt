@@ -8,11 +8,11 @@ use Rattle.pm_programs.specs.Dictionaries.{IsDictionaryOf, IsWidePlace, at}
 use Rattle.pm_simplex.specs.Comparisons.{IsLeastOf, direction, rows_of}
 use Rattle.pm_simplex.specs.Running.{IsEntering, IsFreeColumn, IsResidualColumn, IsSlackColumn, IsState}
 use Rattle.pm_simplex.specs.Sizes.{IsQuotientBelow}
-use Rattle.pm_simplex.specs.States.{auxiliary, is_signed}
+use Rattle.pm_simplex.specs.States.{auxiliary, is_signed, objective_column, phase_column}
 use Rattle.pm_simplex.specs.declared.dictionary.Dictionary.{Dictionary}
 use Rattle.pm_simplex.specs.declared.entering.Entering.{Entering}
 use Rattle.pm_simplex.specs.declared.layout.Layout.{Layout}
-use Rattle.std.specs.Prelude.{Bool, IsTrue, List, length, slice_set, true, ℕ, ◌<◌, ◌≡◌, ◌⊎◌}
+use Rattle.std.specs.Prelude.{Bool, IsTrue, List, [], length, slice_set, true, ℕ, ◌<◌, ◌≡◌, ◌⊎◌}
 use lib.IntN.{pos, ◌*ℤ◌}
 use lib.Signed.{◌<ℤ◌, ◌≤ℤ◌}
 
@@ -36,7 +36,12 @@ pub record IsLawful (y : Layout) (P N : List ℕ) (D : List (List Ratio)) (l j :
   pub not_zero : ¬ ((at D l j).num ≡ pos 0)
   pub kind : IsFreeColumn y (column N j) ⊎ (IsResidualColumn y (column P l) ⊎ (((column N j ≡ auxiliary y) × ¬ (IsFeasibleAt y P D)) ⊎ ((z : ℕ) × (z < length P) × IsByRatioTest y P N D z l j)))
 
--- in the dictionary of the basis P, which is unique, the variable `enter` enters for `leave` by a lawful pivot, and the new fraction of the variable `row` in the column `place` has an operation that leaves the range
+-- both objectives are among the basic variables P
+pub record HasObjectives (y : Layout) (P : List ℕ) : Type 0 where
+  pub objective : (i : ℕ) × (i < length P) × (column P i ≡ objective_column y)
+  pub phase : (i : ℕ) × (i < length P) × (column P i ≡ phase_column y)
+
+-- in the dictionary of the basis P, which is unique and writes both objectives, the variable `enter` enters for `leave`, none of them a constant or an objective, by a lawful pivot, and the new fraction of the variable `row` in the column `place` has an operation that leaves the range
 pub record IsPivotEvidence (y : Layout) (S : List Row) (P : List ℕ) (enter leave row place : ℕ) : Type 0 where
   pub others : List ℕ
   pub fractions : List (List Ratio)
@@ -54,6 +59,9 @@ pub record IsPivotEvidence (y : Layout) (S : List Row) (P : List ℕ) (enter lea
   pub enter_is : column others j ≡ enter
   pub row_is : column (slice_set P l enter) i ≡ row
   pub place_is : column (slice_set others j leave) k ≡ place
+  pub enters : (0 < enter) × (enter < objective_column y)
+  pub leaves : leave < objective_column y
+  pub objectives : HasObjectives y P
   pub lawful : IsLawful y P others fractions l j
   pub wide : IsWidePlace fractions l j i k
 
@@ -74,3 +82,10 @@ pub record IsWidePivot (d : Dictionary) (l j : ℕ) (e : Evidence) : Type 0 wher
 -- a pivot by the lexicographic rule is lawful
 abbrev pub StepIsLawful : Type 0
 StepIsLawful = (y : Layout) (S : List Row) (d : Dictionary) (z l : ℕ) (e : Entering) → IsState y S d z → IsEntering y d z e → IsLeastOf y d e.place e.up (length d.basis.items) l → IsLawful y d.basis.items d.others.items (rows_of d) l e.place
+
+-- no constant enters, no objective enters or leaves, and no dictionary is without an objective
+pub record PivotsHavePlaces : Type 0 where
+  pub no_constant : (y : Layout) (S : List Row) (P : List ℕ) (leave row place : ℕ) → ¬ (IsShownBy y S (E3 P 0 leave row place))
+  pub no_objective_enters : (y : Layout) (S : List Row) (P : List ℕ) (leave row place : ℕ) → ¬ (IsShownBy y S (E3 P (objective_column y) leave row place))
+  pub no_objective_leaves : (y : Layout) (S : List Row) (P : List ℕ) (enter row place : ℕ) → ¬ (IsShownBy y S (E3 P enter (objective_column y) row place))
+  pub none_without : (y : Layout) (S : List Row) (enter leave row place : ℕ) → ¬ (IsShownBy y S (E3 [] enter leave row place))

@@ -16,4 +16,5 @@ pub mod Answers
 pub mod Generated
 pub mod Lineality
 pub mod Senses
+pub mod OptimalDuals
 pub mod OptimumEvidence

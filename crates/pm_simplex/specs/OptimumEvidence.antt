@@ -11,6 +11,7 @@ use Rattle.pm_geom.specs.Programs.{IsMaximum, IsOptimal}
 use Rattle.pm_geom.specs.declared.evidence.Evidence.TheVariants.{E4}
 use Rattle.pm_geom.specs.declared.evidence.Evidence.{Evidence}
 use Rattle.pm_matrix.specs.FractionRows.{IsPrimitiveRowOf}
+use Rattle.pm_simplex.specs.OptimalDuals.{IsDualOfDictionary}
 use Rattle.pm_simplex.specs.Senses.{objective_in}
 use Rattle.pm_simplex.specs.declared.sense.Sense.{Sense}
 use Rattle.pm_types.specs.Forms.{HasPrimitiveRow}
@@ -105,10 +106,11 @@ abbrev pub ShowsWideWeight : List Row → List Ratio → Evidence → Type 0
 ShowsWideWeight A y (E4 first second) = IsWideWeight A y first second
 ShowsWideWeight A y e = ⊥
 
--- so it does for a dual that shows the greatest value of c
+-- so it does for the dual of an optimal dictionary, which shows the greatest value of c
 pub record ShowsDualRow (A E : List Row) (c : List Ratio) (e : Evidence) : Type 0 where
   pub value : Ratio
   pub point : List Ratio
   pub dual : List Ratio
   pub optimal : IsOptimal A E c value point dual
+  pub of_dictionary : IsDualOfDictionary A E c dual
   pub shown : ShowsWideWeight A dual e

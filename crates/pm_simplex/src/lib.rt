@@ -22,12 +22,12 @@ mod start;
 ghost use Rattle.pm_simplex.specs.StartLaws.{StartIsAbsorbing};
 ghost use Rattle.pm_simplex.specs.StateExample.{StateIsThere};
 ghost use Rattle.pm_simplex.specs.Phases.{PhaseIsBounded, PhaseIsLeast};
-ghost use Rattle.pm_simplex.specs.Evidence.{StepIsLawful};
+ghost use Rattle.pm_simplex.specs.Evidence.{PivotsHavePlaces, StepIsLawful};
 ghost use Rattle.pm_simplex.specs.Solutions.{ColumnSolves, FeasibleGivesPoint, UnboundedGivesDirection};
 ghost use Rattle.pm_simplex.specs.ProgramLaws.{ContradictionExcludes, LeastAuxiliaryExcludes, OptimalGivesDual};
 
 pub use fails::LpFail;
-pub use linear::{Objective, maximise, maximise_rows};
+pub use linear::{Objective, maximise, maximise_by_dictionaries, maximise_rows};
 pub use pm_dual::LpAnswer;
 pub use sense::Sense;
 
@@ -84,4 +84,9 @@ pub fn law_start_is_absorbing()
 /// A residual that is a constant other than 0 gives multipliers of infeasibility.
 pub fn law_contradiction_excludes()
     ensures { ContradictionExcludes }
+{}
+
+/// A pivot is at a place: no constant enters, and no objective leaves.
+pub fn example_pivots()
+    ensures { PivotsHavePlaces }
 {}

@@ -4,6 +4,7 @@ ghost use Rattle.pm_algebra.specs.Rows.{HasCols};
 ghost use Rattle.pm_matrix.specs.FractionRows.{ArePrimitiveRowsOf};
 ghost use Rattle.pm_dual.specs.Answers.{IsAnswer};
 ghost use Rattle.pm_simplex.specs.Answers.{IsAnswerOf, ShowsProgram, ShowsProgramOf};
+ghost use Rattle.pm_simplex.specs.OptimalDuals.{HasDictionaryDual};
 ghost use Rattle.pm_simplex.specs.Fails.{IfWide};
 ghost use Rattle.pm_simplex.specs.declared.fails.LpFail.TheVariants.{Memory};
 ghost use Rattle.pm_types.specs.Forms.{HasPrimitiveRow};
@@ -43,6 +44,29 @@ fn primitive_rows(alloc: Global, matrix: &Matrix) -> Result<Vec<Ints>, LpFail>
     }
 }
 
+/// The same answer by the dictionaries of the simplex method alone: the dual of an optimum is that of an optimal dictionary.
+pub fn maximise_by_dictionaries(
+    alloc: Global,
+    inequalities: &[Ints],
+    equations: &[Ints],
+    objective: &[Fraction],
+) -> Result<LpAnswer, LpFail>
+    requires some { 0 < length objective.now }
+    requires few { length inequalities.now + length equations.now + length objective.now < 2 ^ 31 }
+    requires inequality_cols { HasCols (length objective.now) inequalities.now }
+    requires equation_cols { HasCols (length objective.now) equations.now }
+    ensures answer { IfOk result (IsAnswer inequalities.now equations.now objective.now) }
+    ensures dual { IfOk result (HasDictionaryDual inequalities.now equations.now objective.now) }
+    ensures wide { IfErr result (λ f. IfWide f (ShowsProgram inequalities.now equations.now objective.now)) }
+{
+    let y = Layout {
+        cols: objective.len(),
+        slacks: inequalities.len(),
+        residuals: equations.len(),
+    };
+    by_dictionaries(alloc, y, inequalities, equations, objective)
+}
+
 /// The greatest value of the objective over the x with first coordinate 1, a.x >= 0 for the inequalities a and b.x = 0 for the equations b,
 /// all whole rows of as many entries as the objective has. `Wide` only where a pivot of a dictionary of the program leaves the range, which the evidence (E3) shows.
 pub fn maximise_rows(
@@ -61,12 +85,7 @@ pub fn maximise_rows(
     if let Some(answer) = quick_answer(alloc, inequalities, equations, objective)? {
         return Ok(answer);
     }
-    let y = Layout {
-        cols: objective.len(),
-        slacks: inequalities.len(),
-        residuals: equations.len(),
-    };
-    by_dictionaries(alloc, y, inequalities, equations, objective)
+    maximise_by_dictionaries(alloc, inequalities, equations, objective)
 }
 
 /// The same for matrices, whose primitive whole rows are taken, and have to be made within the range.

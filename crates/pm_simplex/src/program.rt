@@ -6,6 +6,7 @@ ghost use Rattle.pm_dual.specs.Answers.{IsAnswer};
 ghost use Rattle.pm_simplex.specs.Answers.{IsProgram, IsReady, IsStuck, Program, program_of};
 ghost use Rattle.pm_simplex.specs.Evidence.{IsShownBy};
 ghost use Rattle.pm_simplex.specs.Fails.{IfWide};
+ghost use Rattle.pm_simplex.specs.OptimalDuals.{IsDictionaryAnswer};
 ghost use Rattle.pm_simplex.specs.Phases.{IsPhaseSystem};
 ghost use Rattle.pm_simplex.specs.Running.{IsAbsorbing};
 ghost use Rattle.std.specs.Prelude.{IfErr, IfOk, List, MatchOption, length, ◌+◌, ◌<◌, ◌≡◌, ◌^◌};
@@ -44,6 +45,7 @@ fn second_phase(alloc: Global, d: &mut Dictionary, y: Layout) -> Result<LpAnswer
     requires program { IsProgram y program }
     requires ready { IsReady y program.system d.old }
     ensures answer { IfOk result (IsAnswer program.inequalities program.equations program.objective) }
+    ensures dual { IfOk result (IsDictionaryAnswer y program.system) }
     ensures wide { IfErr result (λ f. IfWide f (IsShownBy y program.system)) }
 {
     let objective = y.slacks + y.residuals;
@@ -66,6 +68,7 @@ fn after_equations(alloc: Global, d: &mut Dictionary, y: Layout) -> Result<LpAns
     requires program { IsProgram y program }
     requires absorbing { IsAbsorbing y program.system d.old (y.slacks + y.residuals) }
     ensures answer { IfOk result (IsAnswer program.inequalities program.equations program.objective) }
+    ensures dual { IfOk result (IsDictionaryAnswer y program.system) }
     ensures wide { IfErr result (λ f. IfWide f (IsShownBy y program.system)) }
 {
     match first_phase(alloc, d, y)? {
@@ -82,6 +85,7 @@ fn from_start(alloc: Global, d: &mut Dictionary, y: Layout) -> Result<LpAnswer, 
     requires program { IsProgram y program }
     requires absorbing { IsAbsorbing y program.system d.old y.slacks }
     ensures answer { IfOk result (IsAnswer program.inequalities program.equations program.objective) }
+    ensures dual { IfOk result (IsDictionaryAnswer y program.system) }
     ensures wide { IfErr result (λ f. IfWide f (IsShownBy y program.system)) }
 {
     match absorb(alloc, d, y)? {
@@ -111,6 +115,7 @@ pub(crate) fn by_dictionaries(
     requires b_cols { HasCols y.cols b.now }
     requires cols { length c.now ≡ y.cols }
     ensures answer { IfOk result (IsAnswer a.now b.now c.now) }
+    ensures dual { IfOk result (IsDictionaryAnswer y program.system) }
     ensures wide { IfErr result (λ f. IfWide f (IsShownBy y program.system)) }
 {
     let mut d = Dictionary::start(alloc, y, a, b, c)?;

@@ -2,7 +2,7 @@ use Rattle.pm_clients_lp.proofs.Facts.{program_view}
 use Rattle.pm_clients_lp.proofs.Found.{places_sound}
 use Rattle.pm_clients_lp.proofs.StandardKinds.{face_found, face_read, has_face, has_objective, has_value}
 use Rattle.pm_clients_lp.proofs.faces.face_at_value.Goals as goal
-use Rattle.pm_props.specs.declared.object_type.ObjectType.TheVariants.{Polytope}
+use Rattle.pm_object_type.specs.declared.object_type.ObjectType.TheVariants.{Polytope}
 use Rattle.pm_types.specs.Views.{extended_of}
 use Rattle.std.proofs.Common.{ap, rules, ◌∙◌, ◌≡◌}
 

@@ -10,7 +10,7 @@ use Rattle.std.specs.Prelude.{Some}
 use Rattle.pm_clients_lp.proofs.StandardKinds.{face_read, has_objective, has_rays}
 use Rattle.pm_clients_lp.proofs.faces.places_at.Goals as goal
 use Rattle.pm_clients_lp.specs.Reading.{ArePlacesAt}
-use Rattle.pm_props.specs.declared.object_type.ObjectType.TheVariants.{Polytope}
+use Rattle.pm_object_type.specs.declared.object_type.ObjectType.TheVariants.{Polytope}
 use Rattle.pm_props.specs.declared.property.PropId.TheVariants.{Vertices}
 use Rattle.pm_types.specs.Forms.{is_counts_form}
 use Rattle.pm_types.specs.Views.{extended_of}

@@ -8,7 +8,7 @@ use Rattle.pm_clients_lp.proofs.halves.value_from_rows.Goals as goal
 use Rattle.pm_clients_lp.specs.Clients.{FailsBy}
 use Rattle.pm_elim.specs.Evidence.{unit}
 use Rattle.pm_incidence.proofs.Described.{half_cols}
-use Rattle.pm_props.specs.declared.object_type.ObjectType.TheVariants.{Polytope}
+use Rattle.pm_object_type.specs.declared.object_type.ObjectType.TheVariants.{Polytope}
 use Rattle.pm_props.specs.declared.property.PropId.TheVariants.{Equations, Inequalities, LinearObjective}
 use Rattle.pm_types.specs.Views.{extended_of}
 use Rattle.std.proofs.Common.{[], ap, arith, refl, rules, subst, sym, ◌∙◌, ◌∷◌, ◌≡◌}

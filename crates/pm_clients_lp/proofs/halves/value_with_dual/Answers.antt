@@ -6,7 +6,7 @@ use Rattle.pm_clients_lp.proofs.FoundPrograms.{facets_sound}
 use Rattle.pm_clients_lp.proofs.StandardKinds.{dual_missing, facet_sources, facets_found, facets_read, has_dual, has_optimum}
 use Rattle.pm_clients_lp.proofs.halves.value_with_dual.Goals as goal
 use Rattle.pm_clients_lp.specs.Clients.{FailsBy, IsWideWithDual, dual}
-use Rattle.pm_props.specs.declared.object_type.ObjectType.TheVariants.{Polytope}
+use Rattle.pm_object_type.specs.declared.object_type.ObjectType.TheVariants.{Polytope}
 use Rattle.pm_props.specs.declared.property.PropId.TheVariants.{AffineHull, Facets, LinearObjective}
 use Rattle.pm_types.specs.Values.{extended}
 use Rattle.pm_types.specs.Views.{extended_of}

@@ -6,7 +6,7 @@ use Rattle.pm_clients_lp.proofs.Found.{rays_sound}
 use Rattle.pm_clients_lp.proofs.StandardKinds.{has_optimum, ray_sources, rays_found, rays_read}
 use Rattle.pm_clients_lp.proofs.rays.value_from_rays.Goals as goal
 use Rattle.pm_clients_lp.specs.Clients.{FailsBy}
-use Rattle.pm_props.specs.declared.object_type.ObjectType.TheVariants.{Polytope}
+use Rattle.pm_object_type.specs.declared.object_type.ObjectType.TheVariants.{Polytope}
 use Rattle.pm_props.specs.declared.property.PropId.TheVariants.{LinealitySpace, LinearObjective, Vertices}
 use Rattle.pm_client.specs.Sound.{fail_of_program}
 use Rattle.pm_types.specs.Views.{extended_of}

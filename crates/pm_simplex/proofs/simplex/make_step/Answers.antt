@@ -1,7 +1,7 @@
 use Rattle.pm_simplex.proofs.Arranged.{arranged_next, enters_no_help, enters_no_residual, without_next}
-use Rattle.pm_simplex.proofs.EvidenceLaws.{laid_out, lawful_is_shown, step_is_lawful, wide_as}
+use Rattle.pm_simplex.proofs.EvidenceLaws.{arranged_objectives, entering_inside, laid_out, lawful_is_shown, step_is_lawful, wide_as}
 use Rattle.pm_simplex.proofs.Least.{not_zero_num}
-use Rattle.pm_simplex.proofs.Steps.{later_column, raised_next, state_next}
+use Rattle.pm_simplex.proofs.Steps.{later_column, raised_next, signed_inside, state_next}
 use Rattle.pm_simplex.proofs.simplex.make_step.Goals as goal
 use Rattle.pm_simplex.specs.Evidence.{IsShownBy, IsWidePivot}
 use Rattle.std.proofs.lemmas.Result.{err_from_is_err_and}
@@ -13,6 +13,7 @@ returns-in_err-pivot_or_evidence-clause-wide g c =
     rw (p.1, p.2)
     (wide_as c.in_err-pivot_or_evidence.field-0.0 (IsWidePivot c.args.d.now c.in-Some-leaving.leaves c.in-Some.enters.place) (IsShownBy c.args.y g.system)
     (λ e w. lawful_is_shown c.args.y g.system c.args.d.now c.in-Some-leaving.leaves c.in-Some.enters.place e (laid_out c.args.y g.system c.args.d.now c.args.z c.requires.0) c.in-Some-leaving.ensures.least.within en.within
+    (entering_inside c.args.y _ c.in-Some.enters.up en.may_enter) (signed_inside c.args.y _ c.in-Some-leaving.ensures.least.hinders.signed) (arranged_objectives c.args.y c.args.d.now c.requires.1)
     (step_is_lawful c.args.y g.system c.args.d.now c.args.z c.in-Some-leaving.leaves c.in-Some.enters c.requires.0 en c.in-Some-leaving.ensures.least) w)
     c.in_err-pivot_or_evidence.ensures.wide)
 

@@ -1,4 +1,4 @@
-use Rattle.pm_simplex.proofs.linear.maximise_rows.Given as goal
+use Rattle.pm_simplex.proofs.linear.maximise_by_dictionaries.Given as goal
 use Rattle.pm_simplex.specs.Answers.{program_of}
 
 abbrev pub ghost-by_dictionaries : goal.ghost-by_dictionaries
