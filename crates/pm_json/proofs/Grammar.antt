@@ -287,22 +287,23 @@ sets_more d no_items es set s is one t =
     }
 sets_more d (item e ds) es set s is one t = record { each = (one, t.each); stated = t.stated }
 
-last_told : (d : Data) (ds : Items) (n : ℕ) (s : SetsSeen) → is_some (as_object d) ≡ true → stated_of d ≡ Ok n → stated_last n ds ≡ Ok s → SetsTold (item d ds) s
-last_told d no_items n s is st e =
-    subst (SetsTold (item d no_items)) (same_Ok (record { rows = []; stated = Some n }) s e) (record {
+last_told : (d : Data) (ds : Items) (s : SetsSeen) → is_some (as_object d) ≡ true → stated_last d ds ≡ Ok s → SetsTold (item d ds) s
+last_told d no_items s is e =
+    and_then-ok (stated_of d) (λ n. Ok (record { rows = []; stated = Some n })) s e
+    (λ n st g. subst (SetsTold (item d no_items)) (same_Ok (record { rows = []; stated = Some n }) s g) (record {
       each = subst (λ (b : Bool). AreItems IsSetOf (if b then no_items else item d no_items) []) (sym is) tt;
       stated = subst (λ (b : Bool). Stated (if b then Some d else None) (Some n)) (sym is) (stated_told d n st);
-    })
-last_told d (item x ds) n s is st e = absurd (err_ok Shape s e)
+    }))
+last_told d (item x ds) s is e = absurd (err_ok Shape s e)
 
 sets_list_told : (k : ℕ) (ds : Items) (s : SetsSeen) → sets_from k ds ≡ Ok s → SetsTold ds s
 sets_list_told k no_items s e = subst (SetsTold no_items) (same_Ok (record { rows = []; stated = None }) s e) (record { each = tt; stated = tt })
 sets_list_told k (item d ds) s e = by (is_some (as_object d)) refl e (λ x f. sets_list_told (suc k) ds x f)
   where
     by : (t : Bool) → is_some (as_object d) ≡ t
-        → (if t then and_then (stated_of d) (λ n. stated_last n ds) else and_then (items_of d) (λ es. if ltb k 2048 then and_then (set_from [] es) (λ set. before_sets set (sets_from (suc k) ds)) else Err Limit)) ≡ Ok s
+        → (if t then stated_last d ds else and_then (items_of d) (λ es. if ltb k 2048 then and_then (set_from [] es) (λ set. before_sets set (sets_from (suc k) ds)) else Err Limit)) ≡ Ok s
         → ((x : SetsSeen) → sets_from (suc k) ds ≡ Ok x → SetsTold ds x) → SetsTold (item d ds) s
-    by true is f rest = and_then-ok (stated_of d) (λ n. stated_last n ds) s f (λ n st g. last_told d ds n s is st g)
+    by true is f rest = last_told d ds s is f
     by false is f rest =
         and_then-ok (items_of d) (λ es. if ltb k 2048 then and_then (set_from [] es) (λ set. before_sets set (sets_from (suc k) ds)) else Err Limit) s f
         (λ es listed g. let p = then-ok (ltb k 2048) (and_then (set_from [] es) (λ set. before_sets set (sets_from (suc k) ds))) Limit s g in

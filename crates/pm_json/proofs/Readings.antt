@@ -1,13 +1,14 @@
 -- Rows, matrices and sets of JSON, an item at a time.
 use Rattle.std.proofs.Common.{refl, sym, ap, ◌∙◌, ◌≡◌, ◌<◌, ℕ, suc, List, [], ◌∷◌, ◌++◌, length, Some, Ok, Err, false, String, Global, append_assoc, length-append, arith, eqb}
-use Rattle.std.proofs.lemmas.Bool.{true≢false, lt-ltb, ne_eqb}
+use Rattle.std.proofs.lemmas.Bool.{true≢false, eqb-true, lt-ltb, ne_eqb}
 use Rattle.std.proofs.lemmas.Option.{none-some, same_Some}
+use Rattle.std.specs.Prelude.{IfErr, IfOk, true}
 use Rattle.serde_json.specs.Data.{Data, null, boolean, number, string, array, object, Items, item}
 use Rattle.serde_json.specs.Find.{as_object}
 use Rattle.serde_json.specs.View.{items_view, members_view}
 use Rattle.serde_json.specs.declared.value.Value.{Value}
 use Rattle.pm_algebra.specs.Numbers.{Ratio}
-use Rattle.pm_json.specs.Readings.{Read, and_then, before, entry_of, items_of, later_row_from, later_rows_from, has_one_member, SetsSeen, before_sets, stated_last, with_front}
+use Rattle.pm_json.specs.Readings.{Read, and_then, before, entry_of, items_of, later_row_from, later_rows_from, has_one_member, SetsSeen, before_sets, stated_last, stated_of, with_front}
 use Rattle.pm_json.specs.declared.fail.ValueFail.TheVariants.{Shape}
 
 abbrev pub Entry : Type 0
@@ -61,6 +62,16 @@ has_one_member-length (string s) es e = absurd (none-some (members_view es) (sym
 has_one_member-length (array ds) es e = absurd (none-some (members_view es) (sym e))
 
 -- nothing may stand behind the column count
-pub stated_last-more : (n : ℕ) (vs : List Value) → eqb (length vs) 0 ≡ false → stated_last n (items_view vs) ≡ Err Shape
-stated_last-more n [] h = absurd (true≢false h)
-stated_last-more n (v ∷ vs) h = refl
+pub stated_last-more : (d : Data) (vs : List Value) → eqb (length vs) 0 ≡ false → stated_last d (items_view vs) ≡ Err Shape
+stated_last-more d [] h = absurd (true≢false h)
+stated_last-more d (v ∷ vs) h = refl
+
+pub stated_last-ok : (r : Read ℕ) (d : Data) (vs : List Value) → eqb (length vs) 0 ≡ true → r ≡ stated_of d → IfOk r (λ n. stated_last d (items_view vs) ≡ Ok (record { rows = []; stated = Some n }))
+stated_last-ok (Ok n) d [] h e = rw (sym e) refl
+stated_last-ok (Err f) d [] h e = tt
+stated_last-ok r d (v ∷ vs) h e = absurd (let q = eqb-true (suc (length vs)) 0 h in omega arith)
+
+pub stated_last-fault : (r : Read ℕ) (d : Data) (vs : List Value) → eqb (length vs) 0 ≡ true → r ≡ stated_of d → IfErr r (λ f. stated_last d (items_view vs) ≡ Err f)
+stated_last-fault (Ok n) d [] h e = tt
+stated_last-fault (Err f) d [] h e = rw (sym e) refl
+stated_last-fault r d (v ∷ vs) h e = absurd (let q = eqb-true (suc (length vs)) 0 h in omega arith)

@@ -76,17 +76,18 @@ stated_keeps_limit d n e =
     and_then-ok (cols_member d) count_of n e
     (λ c _ f. and_then-ok (whole_number_of c) count_up_to_2048 n f (λ z _ g. count_keeps_limit z n g))
 
-last_keeps_limits : (k n : ℕ) (ds : Items) (s : SetsSeen) → k ≤ 2048 → n ≤ 2048 → stated_last n ds ≡ Ok s → KeepsLimits k s
-last_keeps_limits k n no_items s h count e =
-    subst (KeepsLimits k) (same_Ok (record { rows = []; stated = Some n }) s e) (record { few = omega arith; indices = refl; count = count })
-last_keeps_limits k n (item d ds) s h count e = absurd (err_ok Shape s e)
+last_keeps_limits : (k : ℕ) (d : Data) (ds : Items) (s : SetsSeen) → k ≤ 2048 → stated_last d ds ≡ Ok s → KeepsLimits k s
+last_keeps_limits k d no_items s h e =
+    and_then-ok (stated_of d) (λ n. Ok (record { rows = []; stated = Some n })) s e
+    (λ n is g. subst (KeepsLimits k) (same_Ok (record { rows = []; stated = Some n }) s g) (record { few = omega arith; indices = refl; count = stated_keeps_limit d n is }))
+last_keeps_limits k d (item x ds) s h e = absurd (err_ok Shape s e)
 
 sets_keep_limits_from : (k : ℕ) (ds : Items) (s : SetsSeen) → k ≤ 2048 → sets_from k ds ≡ Ok s → KeepsLimits k s
 sets_keep_limits_from k no_items s h e = subst (KeepsLimits k) (same_Ok (record { rows = []; stated = None }) s e) (record { few = omega arith; indices = refl; count = tt })
 sets_keep_limits_from k (item d ds) s h e =
     let others : Read SetsSeen = and_then (items_of d) (λ es. cond (ltb k 2048) (and_then (set_from [] es) (λ set. before_sets set (sets_from (suc k) ds))) (Err Limit)) in
-    either-ok (is_some (as_object d)) (and_then (stated_of d) (λ n. stated_last n ds)) others s e
-    (λ f. and_then-ok (stated_of d) (λ n. stated_last n ds) s f (λ n is g. last_keeps_limits k n ds s h (stated_keeps_limit d n is) g))
+    either-ok (is_some (as_object d)) (stated_last d ds) others s e
+    (λ f. last_keeps_limits k d ds s h f)
     (λ f. and_then-ok (items_of d) (λ es. cond (ltb k 2048) (and_then (set_from [] es) (λ set. before_sets set (sets_from (suc k) ds))) (Err Limit)) s f
     (λ es _ g. let p = then-ok (ltb k 2048) (and_then (set_from [] es) (λ set. before_sets set (sets_from (suc k) ds))) Limit s g in
     and_then-ok (set_from [] es) (λ set. before_sets set (sets_from (suc k) ds)) s p.1

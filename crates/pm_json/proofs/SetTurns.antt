@@ -56,13 +56,13 @@ pub sets_from-end : (front : List (List ℕ)) (k : ℕ) → with_front_sets fron
 sets_from-end front k = ap (λ sets. Ok (record { rows = sets; stated = None })) (append-nil front)
 
 pub sets_from-stated : (front : List (List ℕ)) (k n : ℕ) (d : Data) (ds : Items) → is_some (as_object d) ≡ true
-    → and_then (stated_of d) (λ m. stated_last m ds) ≡ Ok (record { rows = []; stated = Some n })
+    → stated_last d ds ≡ Ok (record { rows = []; stated = Some n })
     → with_front_sets front (sets_from k (item d ds)) ≡ Ok (record { rows = front; stated = Some n })
 sets_from-stated front k n d ds object is = rw (object, is) (ap (λ sets. Ok (record { rows = sets; stated = Some n })) (append-nil front))
 
 -- the faults: of the column count, of an item that is no array, of a set, and a set too many
 pub sets_from-not_stated : (front : List (List ℕ)) (k : ℕ) (d : Data) (ds : Items) (fault : ValueFail) → is_some (as_object d) ≡ true
-    → and_then (stated_of d) (λ m. stated_last m ds) ≡ Err fault → with_front_sets front (sets_from k (item d ds)) ≡ Err fault
+    → stated_last d ds ≡ Err fault → with_front_sets front (sets_from k (item d ds)) ≡ Err fault
 sets_from-not_stated front k d ds fault object is = rw (object, is) refl
 
 pub sets_from-no_items : (front : List (List ℕ)) (k : ℕ) (d : Data) (ds : Items) (fault : ValueFail) → is_some (as_object d) ≡ false → items_of d ≡ Err fault

@@ -207,16 +207,16 @@ pub record SetsSeen : Type 0 where
 abbrev pub before_sets : List ℕ → Read SetsSeen → Read SetsSeen
 before_sets set others = and_then others (λ s. Ok (record s { rows = set ∷ s.rows }))
 
--- nothing stands behind the column count
-abbrev pub stated_last : ℕ → Items → Read SetsSeen
-stated_last n no_items = Ok (record { rows = []; stated = Some n })
-stated_last n (item d ds) = Err Shape
+-- an object is no set: the last one states the column count, and one that is not last has a wrong shape
+abbrev pub stated_last : Data → Items → Read SetsSeen
+stated_last d no_items = and_then (stated_of d) (λ n. Ok (record { rows = []; stated = Some n }))
+stated_last d (item e ds) = Err Shape
 
 -- the sets, of which k came before
 abbrev pub sets_from : ℕ → Items → Read SetsSeen
 sets_from k no_items = Ok (record { rows = []; stated = None })
 sets_from k (item d ds) =
-    if is_some (as_object d) then and_then (stated_of d) (λ n. stated_last n ds)
+    if is_some (as_object d) then stated_last d ds
     else and_then (items_of d) (λ es. if nat_lt k 2048 then and_then (set_from [] es) (λ set. before_sets set (sets_from (suc k) ds)) else Err Limit)
 
 -- the least number above each index of a set, of each set

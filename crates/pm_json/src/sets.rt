@@ -1,6 +1,6 @@
 // Sets from JSON.
 
-ghost use Rattle.pm_json.specs.Readings.{above_set, above_sets, and_then, cols_member, has_index, has_one_member, set_from, sets_from, sets_of, stated_last, stated_of, with_index};
+ghost use Rattle.pm_json.specs.Readings.{above_set, above_sets, cols_member, has_index, has_one_member, set_from, sets_from, sets_of, stated_last, stated_of, with_index};
 ghost use Rattle.pm_types.specs.Views.{view_of};
 ghost use Rattle.serde_json.specs.View.{items_view, view};
 ghost use Rattle.std.specs.List.{insert};
@@ -107,15 +107,13 @@ fn read_stated(v: &Value) -> Result<u32, ValueFail>
 
 /// The n of `{"cols":n}`, behind which nothing stands.
 fn read_last(v: &Value, behind: &[Value]) -> Result<u32, ValueFail>
-    ensures ok { IfOk result (λ n. and_then (stated_of (view v.now)) (λ k. stated_last k (items_view behind.now)) ≡ Ok (record { rows = []; stated = Some n })) }
-    ensures fault { IfErr result (λ e. and_then (stated_of (view v.now)) (λ k. stated_last k (items_view behind.now)) ≡ Err e) }
+    ensures ok { IfOk result (λ n. stated_last (view v.now) (items_view behind.now) ≡ Ok (record { rows = []; stated = Some n })) }
+    ensures fault { IfErr result (λ e. stated_last (view v.now) (items_view behind.now) ≡ Err e) }
 {
-    let n = read_stated(v)?;
-    if behind.is_empty() {
-        Ok(n)
-    } else {
-        Err(ValueFail::Shape)
+    if !behind.is_empty() {
+        return Err(ValueFail::Shape);
     }
+    read_stated(v)
 }
 
 /// The sets, and the column count behind them.
