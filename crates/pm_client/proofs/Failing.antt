@@ -2,12 +2,13 @@
 use Rattle.pm_algebra.proofs.Lists.{Contains_among, among_Contains, among_append, here, there}
 use Rattle.pm_algebra.specs.Rows.{IsZero, Row}
 use Rattle.pm_client.proofs.ReadRows.{row_of}
-use Rattle.pm_client.specs.Sound.{AreParts, ArePartsOf, AreRowsOf, AreSetsOf, AreTold, FailsRightly, HoldsOf, IsDoubleListOf, IsRowList, IsRowOf, IsWideElimination, IsWideFeasibility, added_rows, determining_rows, double_list, eliminated_by, enlarging_rows, fail_of, fail_of_double, fail_of_program, fail_of_thin, first_part, flat_basis_and_row, flat_rows, row_list, IsConeList, cone_rows, has_way, doubling, feasibility, products, determined_rays, determined_facets, facet_count}
+use Rattle.pm_client.specs.Sound.{AreParts, ArePartsOf, AreRowsOf, AreSetsOf, AreTold, EliminatesIn, FailsRightly, HoldsOf, IsDoubleListOf, IsRowList, IsRowOf, IsWideElimination, IsWideFeasibility, added_rows, determining_rows, double_list, eliminated_by, enlarging_rows, fail_of, fail_of_double, fail_of_program, fail_of_thin, first_part, flat_basis_and_row, flat_rows, row_list, IsConeList, cone_rows, has_way, doubling, feasibility, products, determined_rays, determined_facets, facet_count}
 use Rattle.pm_dd.specs.Refusals.{IsEliminationFail, IsShown, ShowsMany, ShowsWide}
 use Rattle.pm_dd.specs.declared.fails.DdFail.{DdFail}
 use Rattle.pm_dd.specs.declared.fails.DdFail.TheVariants as double
 use Rattle.pm_elim.specs.Evidence.{IfWide, IsEvidence}
 use Rattle.pm_elim.specs.declared.evidence.ElimFail.{ElimFail}
+use Rattle.pm_elim.specs.declared.evidence.ElimList.{ElimList}
 use Rattle.pm_elim.specs.declared.evidence.ElimFail.TheVariants.{Memory, Wide}
 use Rattle.pm_geom.specs.StatedOrder.{rows_marked}
 use Rattle.pm_geom.specs.declared.evidence.Evidence.{Evidence}
@@ -21,15 +22,15 @@ use Rattle.pm_incidence.specs.declared.fails.ThinFail.TheVariants as thinning
 use Rattle.pm_elim.specs.EliminationSteps.{EliminationStep}
 use Rattle.pm_hull.specs.HullRefusals.{IsShownOnParts}
 use Rattle.pm_object.specs.Reading.{ViewSeen}
-use Rattle.pm_props.specs.Kinds.{standard_kind}
+use Rattle.pm_standard.specs.Table.{standard_kind}
 use Rattle.pm_props.specs.Properties.{is_generator, is_half_space}
 use Rattle.pm_props.specs.declared.kind.Kind.{Kind}
-use Rattle.pm_props.specs.declared.object_type.ObjectType.TheVariants.{Cone, Fan, Polytope}
-use Rattle.pm_props.specs.declared.object_type.ObjectType.{ObjectType}
+use Rattle.pm_object_type.specs.declared.object_type.ObjectType.TheVariants.{Cone, Fan, Polytope}
+use Rattle.pm_object_type.specs.declared.object_type.ObjectType.{ObjectType}
 use Rattle.pm_props.specs.declared.property.PropId.TheVariants.{AffineHull, Equations, Facets, Inequalities, InputLineality, LinealitySpace, Points, Vertices}
 use Rattle.pm_props.specs.declared.property.PropId.{PropId}
-use Rattle.pm_props.specs.declared.standard.StandardClient.{StandardClient}
-use Rattle.pm_props.specs.declared.standard.StandardClient.TheVariants as client
+use Rattle.pm_standard.specs.declared.standard.StandardClient.{StandardClient}
+use Rattle.pm_standard.specs.declared.standard.StandardClient.TheVariants as client
 use Rattle.pm_simplex.specs.Generated.{no_objective}
 use Rattle.pm_simplex.specs.Answers.{ShowsProgram}
 use Rattle.pm_simplex.specs.Fails as linear
@@ -47,6 +48,10 @@ TakesRowList v = Contains (eliminated_by v.kind.name) row_list
 pub fails_by_list : (v : ViewSeen) (X : List Row) (f : ElimFail) → TakesRowList v → IsRowList v X → IfWide f (λ e. IsEvidence v.cols X e) → FailsRightly v (fail_of f)
 fails_by_list v X (Wide e) takes listed h = record { list = row_list; named = takes; rows = X; listed = listed; shown = h }
 fails_by_list v X Memory takes listed h = tt
+
+pub eliminates_in : (Lists : ElimList → Type 0) (f : ElimFail) → IfWide f (λ e. Lists e.list) → EliminatesIn Lists (fail_of f)
+eliminates_in Lists (Wide e) h = h
+eliminates_in Lists Memory h = tt
 
 -- a standard client whose name says so
 pub takes_row_list : (v : ViewSeen) (c : StandardClient) → v.kind ≡ standard_kind c → eliminated_by (standard_kind c).name ≡ row_list ∷ [] → TakesRowList v

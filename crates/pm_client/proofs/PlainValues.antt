@@ -5,7 +5,7 @@ use Rattle.pm_client.proofs.Puts.{IsPut, is_alone, sound_one}
 use Rattle.pm_client.specs.Sound.{IsSound}
 use Rattle.pm_geom.specs.Things.{Orders}
 use Rattle.pm_types.specs.Things.{Thing}
-use Rattle.pm_props.specs.declared.object_type.ObjectType.{ObjectType}
+use Rattle.pm_object_type.specs.declared.object_type.ObjectType.{ObjectType}
 use Rattle.pm_matrix.specs.Matrices.{IsFraction}
 use Rattle.pm_object.specs.Reading.{DraftSeen, ViewSeen}
 use Rattle.pm_types.specs.Canonical.{IsCanonical}

@@ -14,7 +14,7 @@ use Rattle.pm_geom.specs.declared.evidence.Evidence.TheVariants.{E3, E4}
 use Rattle.pm_incidence.specs.Thinning.{AreManyFacets}
 use Rattle.pm_incidence.specs.declared.fails.ThinFail.TheVariants as thinning
 use Rattle.pm_lattice.specs.declared.lattice.LatticeFail.TheVariants as closing
-use Rattle.pm_props.specs.declared.object_type.ObjectType.TheVariants.{Cone, Fan, Polytope}
+use Rattle.pm_object_type.specs.declared.object_type.ObjectType.TheVariants.{Cone, Fan, Polytope}
 use Rattle.pm_algebra.specs.Numbers.{Ratio}
 use Rattle.pm_algebra.specs.Rows.{Row}
 use Rattle.pm_object.specs.Reading.{ViewSeen}

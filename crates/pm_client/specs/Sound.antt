@@ -26,8 +26,8 @@ use Rattle.pm_geom.specs.Meets.{AreTooManyMeets}
 use Rattle.pm_geom.specs.RayEvidence.{IsCrowded, IsWidePair}
 use Rattle.pm_geom.specs.StatedOrder.{rows_marked}
 use Rattle.pm_hull.specs.HullRefusals.{IsDoubleList}
-use Rattle.pm_props.specs.declared.object_type.ObjectType.{ObjectType}
-use Rattle.pm_props.specs.declared.object_type.ObjectType.TheVariants.{Polytope}
+use Rattle.pm_object_type.specs.declared.object_type.ObjectType.{ObjectType}
+use Rattle.pm_object_type.specs.declared.object_type.ObjectType.TheVariants.{Polytope}
 use Rattle.pm_geom.specs.declared.evidence.Evidence.{Evidence}
 use Rattle.pm_geom.specs.declared.evidence.Evidence.TheVariants.{E1, E2, E3, E4, E5Faces, E5Rays, E5Rows}
 use Rattle.pm_matrix.specs.FractionRows.{ArePrimitiveRowsOf}
@@ -50,6 +50,8 @@ use Rattle.pm_props.specs.declared.property.PropId.TheVariants.{Points, InputLin
 pub use Rattle.pm_client.specs.Ways.{Eliminated, row_list, first_part, double_list, enlarging_rows, flat_rows, flat_basis_and_row, line_rows, line_basis_and_row, determining_rows, cone_rows, doubling, thinning_programs, feasibility, optimum_over_facets, optimum_over_rows, products, determined_rays, determined_facets, dual, at_rays, at_face, facet_count, face_count, eliminated_by, has_way}
 use Rattle.pm_client.specs.declared.ClientFail.{ClientFail}
 use Rattle.pm_client.specs.declared.ClientFail.TheVariants.{Memory, Failed}
+use Rattle.pm_elim.specs.declared.evidence.ElimList.{ElimList}
+use Rattle.pm_elim.specs.declared.evidence.ElimList.TheVariants as elimination_list
 
 -- x is the primitive whole row in the direction of a row of a value of the view, of a property of that kind
 pub record IsRowOf (v : ViewSeen) (of_kind : PropId → Bool) (x : Row) : Type 0 where
@@ -412,6 +414,20 @@ IsSound v draft = MayAnswer v.of v.cols v.kind v.sub v.facts (answer_of v.sub dr
 abbrev pub FailsRightly : ViewSeen → ClientFail → Type 0
 FailsRightly v Memory = Unit {0}
 FailsRightly v (Failed e) = HoldsOf e v
+
+-- evidence of an elimination is of such a list: of the rows as they stand, say, or of what a null space extends them to
+abbrev pub EliminatesIn : (ElimList → Type 0) → ClientFail → Type 0
+EliminatesIn Lists (Failed (E1 e)) = Lists e.list
+EliminatesIn Lists (Failed e) = Unit {0}
+EliminatesIn Lists Memory = Unit {0}
+
+-- as a rank eliminates
+abbrev pub EliminatesRows : ClientFail → Type 0
+EliminatesRows f = EliminatesIn (λ l. l ≡ elimination_list.Rows) f
+
+-- as a null space does
+abbrev pub EliminatesExtended : ClientFail → Type 0
+EliminatesExtended f = EliminatesIn (λ l. (l ≡ elimination_list.Rows) ⊎ (l ≡ elimination_list.Extended)) f
 
 -- the failure of a client whose elimination was given up
 abbrev pub fail_of : ElimFail → ClientFail

@@ -3,14 +3,15 @@
 ghost use Rattle.pm_client.specs.Sound.{FailsRightly, IsSound};
 ghost use Rattle.pm_client.specs.Starts.{next_count, started_once};
 ghost use Rattle.pm_client.specs.declared.ClientFail.{ClientFail};
-ghost use Rattle.pm_object.specs.Reading.{ViewSeen};
-ghost use Rattle.pm_props.specs.Kinds.{standard_kind};
-ghost use Rattle.pm_props.specs.declared.standard.StandardClient.{StandardClient};
+ghost use Rattle.pm_object.specs.Reading.{DraftSeen, ViewSeen};
+ghost use Rattle.pm_standard.specs.Table.{standard_kind};
+ghost use Rattle.pm_standard.specs.declared.standard.StandardClient.{StandardClient};
 ghost use Rattle.std.specs.Prelude.{IfErr, OnOk, [], ◌≡◌};
 
 use crate::{Client, ClientFail};
 use pm_object::{Draft, View};
-use pm_types::{Kind, StandardClient};
+use pm_standard::StandardClient;
+use pm_types::Kind;
 use std::alloc::Global;
 use std::marker::PhantomData;
 
@@ -22,8 +23,8 @@ pub trait Family: Drop {
     // The standard client that does the work.
     ghost client_of: { Self.Work → StandardClient };
 
-    // What is so of the view where a client answers.
-    ghost Stays: { Self.Work → ViewSeen → Type 0 };
+    // What is so of the view and of what is put where a client answers.
+    ghost Stays: { Self.Work → ViewSeen → DraftSeen → Type 0 };
 
     // How a client fails.
     ghost Fails: { Self.Work → ViewSeen → ClientFail → Type 0 };
@@ -44,7 +45,7 @@ pub trait Family: Drop {
         ensures draft { draft.new.kind ≡ draft.old.kind }
         ensures sound { OnOk result (IsSound view.now draft.new) }
         ensures failed { IfErr result (FailsRightly view.now) }
-        ensures stays { OnOk result (Stays work view.now) }
+        ensures stays { OnOk result (Stays work view.now draft.new) }
         ensures fails { IfErr result (Fails work view.now) };
 }
 
@@ -78,7 +79,7 @@ impl<F: Family> FamilyClient<F> {
 }
 
 impl<F: Family> Client for FamilyClient<F> {
-    ghost use Rattle.pm_props.specs.Kinds.{standard_kind};
+    ghost use Rattle.pm_standard.specs.Table.{standard_kind};
 
     ghost tally = { λ c. (standard_kind (F.client_of c.work), c.starts) };
 
@@ -98,7 +99,7 @@ impl<F: Family> Client for FamilyClient<F> {
         ensures draft { draft.new.kind ≡ draft.old.kind }
         ensures sound { OnOk result (IsSound view.now draft.new) }
         ensures failed { IfErr result (FailsRightly view.now) }
-        ensures stays { OnOk result (F.Stays self.old.work view.now) }
+        ensures stays { OnOk result (F.Stays self.old.work view.now draft.new) }
         ensures fails { IfErr result (F.Fails self.old.work view.now) }
     {
         self.count_start();

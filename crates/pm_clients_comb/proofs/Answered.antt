@@ -19,9 +19,9 @@ use Rattle.pm_relations.proofs.Incidence.{incidence_is_right}
 use Rattle.pm_types.proofs.PrimitiveRows.{few_rows}
 use Rattle.pm_relations.proofs.PrimitiveStanding.{primitive_stand}
 use Rattle.pm_types.specs.Forms.{FormsIn, is_formed}
-use Rattle.pm_props.specs.Kinds.{standard_kind}
+use Rattle.pm_standard.specs.Table.{standard_kind}
 use Rattle.pm_props.specs.declared.kind.Kind.{Kind}
-use Rattle.pm_props.specs.declared.standard.StandardClient.TheVariants as client
+use Rattle.pm_standard.specs.declared.standard.StandardClient.TheVariants as client
 use Rattle.pm_types.specs.Values.{IndexSets, matrix, sets}
 use Rattle.pm_props.specs.declared.property.PropId.TheVariants.{Facets, Vertices, VerticesInFacets}
 use Rattle.std.proofs.Common.{ap, arith, get_or, inl, refl, subst, sym, true}

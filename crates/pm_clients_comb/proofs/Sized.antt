@@ -4,7 +4,7 @@ use Rattle.pm_client.proofs.Puts.{IsPut}
 use Rattle.pm_client.proofs.ReadValues.{read_right}
 use Rattle.pm_client.specs.Sound.{IsSound}
 use Rattle.pm_object.specs.Reading.{DraftSeen, ViewSeen, fact_of}
-use Rattle.pm_props.specs.declared.object_type.ObjectType.TheVariants.{Fan}
+use Rattle.pm_object_type.specs.declared.object_type.ObjectType.TheVariants.{Fan}
 use Rattle.pm_props.specs.declared.property.PropId.TheVariants.{CombinatorialDim, FacetSizes, Simple, Simplicial, VertexSizes, VerticesInFacets}
 use Rattle.pm_relations.proofs.Sizes.{simple_by_sizes, simplicial_by_sizes, sizes_of_facets, sizes_of_rays}
 use Rattle.pm_relations.specs.Sizes.{has_place, holding, place_sizes, set_sizes}

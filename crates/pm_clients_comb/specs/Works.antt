@@ -3,8 +3,8 @@ use Rattle.pm_clients_comb.specs.Incidence.{StaysInRange}
 use Rattle.pm_clients_comb.specs.declared.client.SetsWork.{SetsWork}
 use Rattle.pm_clients_comb.specs.declared.client.SetsWork.TheVariants as work
 use Rattle.pm_object.specs.Reading.{ViewSeen}
-use Rattle.pm_props.specs.declared.standard.StandardClient.{StandardClient}
-use Rattle.pm_props.specs.declared.standard.StandardClient.TheVariants as client
+use Rattle.pm_standard.specs.declared.standard.StandardClient.{StandardClient}
+use Rattle.pm_standard.specs.declared.standard.StandardClient.TheVariants as client
 
 -- the standard client of each work
 abbrev pub sets_client : SetsWork → StandardClient

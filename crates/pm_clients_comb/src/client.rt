@@ -3,8 +3,8 @@
 ghost use Rattle.pm_client.specs.Sound.{FailsRightly, IsSound};
 ghost use Rattle.pm_client.specs.declared.ClientFail.TheVariants.{Memory};
 ghost use Rattle.pm_clients_comb.specs.Incidence.{StaysInRange};
-ghost use Rattle.pm_props.specs.Kinds.{standard_kind};
-ghost use Rattle.pm_props.specs.declared.standard.StandardClient.TheVariants as client;
+ghost use Rattle.pm_standard.specs.Table.{standard_kind};
+ghost use Rattle.pm_standard.specs.declared.standard.StandardClient.TheVariants as client;
 ghost use Rattle.std.specs.Prelude.{IfErr, OnOk, [], ◌≡◌, map, ◌∷◌};
 
 use crate::sizes::{all_are, place_sizes, set_sizes};
@@ -14,7 +14,8 @@ use pm_client::{
 };
 use pm_incidence::incidence;
 use pm_object::{Draft, View};
-use pm_types::{Counts, ObjectType, PropId, StandardClient, Value};
+use pm_standard::StandardClient;
+use pm_types::{Counts, ObjectType, PropId, Value};
 use std::alloc::Global;
 
 /// The works of the clients that find sets, their sizes, and what these show.
@@ -60,7 +61,7 @@ impl Family for SetsFamily {
 
     ghost client_of = { sets_client };
 
-    ghost Stays = { SetsStay };
+    ghost Stays = { λ w v _. SetsStay w v };
 
     ghost Fails = { λ _ v e. FailsRightly v e };
 

@@ -23,11 +23,11 @@ use Rattle.pm_lattice.specs.declared.lattice.LatticeFail.{LatticeFail}
 use Rattle.pm_lattice.specs.declared.lattice.LatticeFail.TheVariants as closing
 use Rattle.pm_matrix.specs.Matrices.{FractionMatrix}
 use Rattle.pm_object.specs.Reading.{DraftSeen, ViewSeen, fact_of}
-use Rattle.pm_props.specs.Kinds.{standard_kind}
+use Rattle.pm_standard.specs.Table.{standard_kind}
 use Rattle.pm_props.specs.Places.{place_of}
-use Rattle.pm_props.specs.declared.object_type.ObjectType.TheVariants.{Fan}
+use Rattle.pm_object_type.specs.declared.object_type.ObjectType.TheVariants.{Fan}
 use Rattle.pm_props.specs.declared.property.PropId.TheVariants.{CombinatorialDim, F2Vector, FVector, HVector, HasseDiagram, VerticesInFacets}
-use Rattle.pm_props.specs.declared.standard.StandardClient.TheVariants as client
+use Rattle.pm_standard.specs.declared.standard.StandardClient.TheVariants as client
 use Rattle.pm_types.specs.Forms.{FormsIn}
 use Rattle.pm_types.specs.Right.{Right, objective_of}
 use Rattle.pm_types.specs.Things.{AreOrders, IsThing, Thing}

@@ -6,8 +6,8 @@ use Rattle.pm_clients_faces.specs.Numbers.{f2_table, has_few_ranks}
 use Rattle.pm_geom.specs.FaceCounts.{f2_entry, f2_of, inclusion_count, inner, inner_faces, is_within}
 use Rattle.pm_graph.specs.Counts.{f2_matrix, whole}
 use Rattle.pm_matrix.specs.Matrices.{FractionMatrix}
-use Rattle.pm_props.specs.declared.object_type.ObjectType.TheVariants.{Cone, Fan, Polytope}
-use Rattle.pm_props.specs.declared.object_type.ObjectType.{ObjectType}
+use Rattle.pm_object_type.specs.declared.object_type.ObjectType.TheVariants.{Cone, Fan, Polytope}
+use Rattle.pm_object_type.specs.declared.object_type.ObjectType.{ObjectType}
 use Rattle.pm_props.specs.declared.property.PropId.TheVariants.{F2Vector}
 use Rattle.pm_types.proofs.WholeRows.{ratios_rows_fractions, ratios_rows_of_entries, ratios_rows_primitive}
 use Rattle.pm_types.specs.Forms.{FormsIn, is_lattice_form, is_row, is_row_of_entries}

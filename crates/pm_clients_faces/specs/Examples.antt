@@ -6,10 +6,10 @@ use Rattle.pm_clients_faces.specs.Numbers.{f2_table, f_numbers, has_few_ranks}
 use Rattle.pm_clients_faces.specs.declared.client.FacesWork.TheVariants as work
 use Rattle.pm_geom.specs.declared.evidence.Evidence.TheVariants.{E5Faces, E5Rows}
 use Rattle.pm_object.specs.Reading.{ViewSeen}
-use Rattle.pm_props.specs.Kinds.{standard_kind}
-use Rattle.pm_props.specs.declared.object_type.ObjectType.TheVariants.{Cone}
+use Rattle.pm_standard.specs.Table.{standard_kind}
+use Rattle.pm_object_type.specs.declared.object_type.ObjectType.TheVariants.{Cone}
 use Rattle.pm_props.specs.declared.property.PropId.TheVariants.{VerticesInFacets}
-use Rattle.pm_props.specs.declared.standard.StandardClient.TheVariants as client
+use Rattle.pm_standard.specs.declared.standard.StandardClient.TheVariants as client
 use Rattle.pm_types.specs.Values.{Fact, sets}
 use Rattle.pm_types.specs.Views.{over_one}
 use Rattle.std.specs.Prelude.{ℕ, List, None, [], false, replicate, true, ◌∷◌, ◌≡◌}

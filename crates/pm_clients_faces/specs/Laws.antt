@@ -5,7 +5,7 @@ use Rattle.pm_geom.specs.Graphs.{sets_of}
 use Rattle.pm_geom.specs.Meets.{AreMeetsByRank}
 use Rattle.pm_geom.specs.Things.{Orders}
 use Rattle.pm_graph.specs.HVectors.{AreHNumbers, HasNoHVector}
-use Rattle.pm_props.specs.declared.object_type.ObjectType.TheVariants.{Fan}
+use Rattle.pm_object_type.specs.declared.object_type.ObjectType.TheVariants.{Fan}
 use Rattle.pm_props.specs.declared.property.PropId.TheVariants.{CombinatorialDim, F2Vector, FVector, HVector, HasseDiagram, VerticesInFacets}
 use Rattle.pm_types.specs.Right.{Right}
 use Rattle.pm_types.specs.Things.{AreOrders, IsThing, Thing}

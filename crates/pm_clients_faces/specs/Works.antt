@@ -5,8 +5,8 @@ use Rattle.pm_clients_faces.specs.Faces.{FailsForMany, HasFewFaces}
 use Rattle.pm_clients_faces.specs.declared.client.FacesWork.{FacesWork}
 use Rattle.pm_clients_faces.specs.declared.client.FacesWork.TheVariants as work
 use Rattle.pm_object.specs.Reading.{ViewSeen}
-use Rattle.pm_props.specs.declared.standard.StandardClient.{StandardClient}
-use Rattle.pm_props.specs.declared.standard.StandardClient.TheVariants as client
+use Rattle.pm_standard.specs.declared.standard.StandardClient.{StandardClient}
+use Rattle.pm_standard.specs.declared.standard.StandardClient.TheVariants as client
 use Rattle.std.specs.Prelude.{◌≡◌}
 
 -- the standard client of each work

@@ -3,8 +3,8 @@
 ghost use Rattle.pm_client.specs.Sound.{FailsRightly, IsSound};
 ghost use Rattle.pm_client.specs.declared.ClientFail.TheVariants.{Memory};
 ghost use Rattle.pm_clients_faces.specs.Faces.{FailsForMany, HasFewFaces};
-ghost use Rattle.pm_props.specs.Kinds.{standard_kind};
-ghost use Rattle.pm_props.specs.declared.standard.StandardClient.TheVariants as client;
+ghost use Rattle.pm_standard.specs.Table.{standard_kind};
+ghost use Rattle.pm_standard.specs.declared.standard.StandardClient.TheVariants as client;
 ghost use Rattle.std.specs.Prelude.{IfErr, OnOk, [], ◌≡◌, map, ◌∷◌};
 
 use crate::numbers::{f_numbers, f2_table, h_numbers};
@@ -13,7 +13,8 @@ use pm_client::{
 };
 use pm_lattice::faces;
 use pm_object::{Draft, View};
-use pm_types::{Counts, ObjectType, PropId, StandardClient, Value};
+use pm_standard::StandardClient;
+use pm_types::{Counts, ObjectType, PropId, Value};
 use std::alloc::Global;
 
 /// The works of the clients that find faces, and count them.
@@ -52,7 +53,7 @@ impl Family for FacesFamily {
 
     ghost client_of = { faces_client };
 
-    ghost Stays = { FacesStay };
+    ghost Stays = { λ w v _. FacesStay w v };
 
     ghost Fails = { FacesFail };
 

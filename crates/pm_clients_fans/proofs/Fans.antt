@@ -3,8 +3,8 @@ use Rattle.pm_object.specs.Reading.{IsView, ViewSeen}
 use Rattle.pm_props.specs.Kinds.{names_of}
 use Rattle.pm_props.specs.Properties.{has_program, is_in_use, of_cones, of_polytopes, row}
 use Rattle.pm_props.specs.Sets.{has}
-use Rattle.pm_props.specs.declared.object_type.ObjectType.TheVariants.{Cone, Fan, Polytope}
-use Rattle.pm_props.specs.declared.object_type.ObjectType.{ObjectType}
+use Rattle.pm_object_type.specs.declared.object_type.ObjectType.TheVariants.{Cone, Fan, Polytope}
+use Rattle.pm_object_type.specs.declared.object_type.ObjectType.{ObjectType}
 use Rattle.pm_props.specs.declared.property.PropId.{PropId}
 use Rattle.std.proofs.Common.{false, refl, sym, true, true≢false, ◌∙◌}
 use Rattle.std.specs.Option.{is_some}

@@ -23,7 +23,7 @@ use Rattle.pm_geom.specs.Cones.{IsExtremeRay, SameModulo}
 use Rattle.pm_geom.specs.Faces.{ray}
 use Rattle.pm_geom.specs.Things.{AreFanOrders, IsFanThing, Orders}
 use Rattle.pm_object.specs.Reading.{DraftSeen, ViewSeen, fact_of}
-use Rattle.pm_props.specs.declared.object_type.ObjectType.TheVariants.{Fan}
+use Rattle.pm_object_type.specs.declared.object_type.ObjectType.TheVariants.{Fan}
 use Rattle.pm_props.specs.declared.property.PropId.TheVariants.{FanDim, LinealityDim, LinealitySpace, MaximalCones, MaximalConesDims, NMaximalCones, Pure, Simplicial, Vertices}
 use Rattle.pm_relations.proofs.FanDims.{cone_spans, fan_orders, fan_thing, greatest_right, none_right, pure_right, simplicial_right, size_right}
 use Rattle.pm_relations.proofs.PrimitiveStanding.{primitive_stand}

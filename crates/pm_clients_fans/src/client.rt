@@ -3,8 +3,10 @@
 ghost use Rattle.pm_client.specs.Sound.{FailsRightly, IsSound};
 ghost use Rattle.pm_client.specs.declared.ClientFail.TheVariants.{Memory};
 ghost use Rattle.pm_clients_fans.specs.Cones.{ConesStay};
-ghost use Rattle.pm_props.specs.Kinds.{standard_kind};
-ghost use Rattle.pm_props.specs.declared.standard.StandardClient.TheVariants as client;
+ghost use Rattle.pm_clients_fans.specs.Works.{FanFails};
+ghost use Rattle.pm_clients_fans.specs.declared.client.FanWork.TheVariants as work;
+ghost use Rattle.pm_standard.specs.Table.{standard_kind};
+ghost use Rattle.pm_standard.specs.declared.standard.StandardClient.TheVariants as client;
 ghost use Rattle.std.specs.Prelude.{IfErr, OnOk, [], ◌≡◌, map, ◌∷◌};
 
 use crate::dims::{are_one, are_simplices, dims_of, greatest};
@@ -13,7 +15,8 @@ use pm_client::{
     whole_of,
 };
 use pm_object::{Draft, View};
-use pm_types::{Counts, ObjectType, PropId, StandardClient, Value};
+use pm_standard::StandardClient;
+use pm_types::{Counts, ObjectType, PropId, Value};
 use std::alloc::Global;
 
 /// The works of the clients of fans.
@@ -58,7 +61,7 @@ impl Family for FanFamily {
 
     ghost client_of = { fan_client };
 
-    ghost Stays = { FanStays };
+    ghost Stays = { λ w v _. FanStays w v };
 
     ghost Fails = { FanFails };
 
@@ -95,6 +98,7 @@ fn fan_dims(alloc: Global, view: &View, draft: &mut Draft) -> Result<(), ClientF
     ensures draft { draft.new.kind ≡ draft.old.kind }
     ensures sound { OnOk result (IsSound view.now draft.new) }
     ensures failed { IfErr result (FailsRightly view.now) }
+    ensures fails { IfErr result (FanFails work.FanDims view.now) }
     ensures stays { OnOk result (ConesStay view.now) }
 {
     prove!(view.of() == ObjectType::Fan);

@@ -3,6 +3,7 @@
 ghost use Rattle.pm_algebra.specs.Rows.{HasCols};
 ghost use Rattle.pm_clients_fans.specs.Numbers.{IsMost};
 ghost use Rattle.pm_elim.specs.Evidence.{IfWide};
+ghost use Rattle.pm_elim.specs.declared.evidence.ElimList.TheVariants as list;
 ghost use Rattle.pm_fan.specs.Dimensions.{AreDimensions, IsConeEvidence, NoConeEvidence};
 ghost use Rattle.pm_relations.specs.Fans.{AreOne, AreSimplices};
 ghost use Rattle.pm_types.specs.Forms.{is_counts_form, is_sets_form};
@@ -34,6 +35,7 @@ pub(crate) fn dims_of(
     ensures form { IfOk result (λ d. IsTrue (is_counts_form d.items)) }
     ensures stay { OnOk result (cones.now.cols ≡ length rays.now → NoConeEvidence cols rays.now lines.now cones.now.rows) }
     ensures wide { IfErr result (λ f. IfWide f (IsConeEvidence cols rays.now lines.now cones.now.rows)) }
+    ensures list { IfErr result (λ f. IfWide f (λ e. e.list ≡ list.Rows)) }
 {
     if cones.cols() as usize != rays.len() {
         return Ok(Vec::new(alloc));

@@ -16,8 +16,8 @@ use Rattle.pm_fraction.specs.Fractions.{IsLowestTermsOf, ratio_of}
 use Rattle.pm_object.specs.Reading.{DraftSeen, Put}
 use Rattle.pm_props.specs.declared.property.PropId.TheVariants.{Equations, Inequalities}
 use Rattle.pm_types.specs.Views.{ratios}
-use Rattle.pm_props.specs.declared.object_type.ObjectType.TheVariants.{Polytope}
-use Rattle.pm_props.specs.declared.object_type.ObjectType.{ObjectType}
+use Rattle.pm_object_type.specs.declared.object_type.ObjectType.TheVariants.{Polytope}
+use Rattle.pm_object_type.specs.declared.object_type.ObjectType.{ObjectType}
 use Rattle.std.proofs.Common.{ap, arith, false, inl, inr, lit<, lit≤, refl, suc, sym, true, true≢false, zero}
 use Rattle.std.proofs.lemmas.Int.{ints}
 use Rattle.std.proofs.lemmas.List.Elements.{All-cons, All-nil}

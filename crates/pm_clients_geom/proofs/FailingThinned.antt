@@ -10,11 +10,11 @@ use Rattle.pm_incidence.specs.Thinning.{half_spaces}
 use Rattle.pm_incidence.specs.declared.fails.ThinFail.{ThinFail}
 use Rattle.pm_incidence.specs.declared.fails.ThinFail.TheVariants as thinning
 use Rattle.pm_object.specs.Reading.{ViewSeen}
-use Rattle.pm_props.specs.Kinds.{standard_kind}
+use Rattle.pm_standard.specs.Table.{standard_kind}
 use Rattle.pm_props.specs.declared.kind.Kind.{Kind}
 use Rattle.pm_props.specs.declared.property.PropId.TheVariants.{Equations, Inequalities}
-use Rattle.pm_props.specs.declared.standard.StandardClient.{StandardClient}
-use Rattle.pm_props.specs.declared.standard.StandardClient.TheVariants as client
+use Rattle.pm_standard.specs.declared.standard.StandardClient.{StandardClient}
+use Rattle.pm_standard.specs.declared.standard.StandardClient.TheVariants as client
 use Rattle.pm_redund.specs.Redundancy.{IsRowsFail, IsThinFail, IsWideReduction}
 use Rattle.pm_simplex.specs.Generated.{IsWideThinning}
 use Rattle.std.proofs.Common.{inl, inr, refl, subst, sym, true}

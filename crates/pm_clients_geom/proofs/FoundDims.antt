@@ -14,8 +14,8 @@ use Rattle.pm_client.proofs.ViewLaws.{few_columns, has_listed, not_fan, target_n
 use Rattle.pm_clients_geom.specs.Ranks.{IsListRank}
 use Rattle.pm_geom.specs.Things.{Orders}
 use Rattle.pm_types.specs.Things.{Thing}
-use Rattle.pm_props.specs.declared.object_type.ObjectType.TheVariants.{Cone, Fan, Polytope}
-use Rattle.pm_props.specs.declared.object_type.ObjectType.{ObjectType}
+use Rattle.pm_object_type.specs.declared.object_type.ObjectType.TheVariants.{Cone, Fan, Polytope}
+use Rattle.pm_object_type.specs.declared.object_type.ObjectType.{ObjectType}
 use Rattle.pm_object.specs.Reading.{DraftSeen, IsView, ViewSeen, fact_of}
 use Rattle.pm_relations.proofs.Dimensions.{cone_dim_is_found, cone_dim_is_left, lineality_dim_is_found}
 use Rattle.pm_types.proofs.PrimitiveRows.{few_rows}

@@ -6,8 +6,8 @@ use Rattle.pm_client.proofs.ReadValues.{read_right}
 use Rattle.pm_client.specs.Sound.{IsSound}
 use Rattle.pm_clients_geom.specs.Places.{AreZeroPlaces}
 use Rattle.pm_object.specs.Reading.{DraftSeen, ViewSeen, fact_of}
-use Rattle.pm_props.specs.declared.object_type.ObjectType.TheVariants.{Fan, Polytope}
-use Rattle.pm_props.specs.declared.object_type.ObjectType.{ObjectType}
+use Rattle.pm_object_type.specs.declared.object_type.ObjectType.TheVariants.{Fan, Polytope}
+use Rattle.pm_object_type.specs.declared.object_type.ObjectType.{ObjectType}
 use Rattle.pm_props.specs.declared.property.PropId.TheVariants.{AffineHull, Bounded, Centered, Facets, FarFace, LinealitySpace, Vertices}
 use Rattle.pm_relations.proofs.FirstEntries.{bounded_is_found, centered_is_found, far_face_is_found}
 use Rattle.pm_relations.specs.FirstEntries.{HasPositiveFirst, HasZeroFirst}

@@ -33,8 +33,8 @@ use Rattle.pm_props.specs.Kinds.{IsFresh}
 use Rattle.pm_props.specs.Places.{place_of}
 use Rattle.pm_props.specs.Properties.{facets_tag, is_generator, rays_tag}
 use Rattle.pm_props.specs.Sets.{set_of}
-use Rattle.pm_props.specs.declared.object_type.ObjectType.TheVariants.{Cone, Fan, Polytope}
-use Rattle.pm_props.specs.declared.object_type.ObjectType.{ObjectType}
+use Rattle.pm_object_type.specs.declared.object_type.ObjectType.TheVariants.{Cone, Fan, Polytope}
+use Rattle.pm_object_type.specs.declared.object_type.ObjectType.{ObjectType}
 use Rattle.pm_props.specs.declared.property.PropId.TheVariants.{AffineHull, Equations, Facets, Inequalities, InputLineality, LinealitySpace, Points, Vertices}
 use Rattle.pm_props.specs.declared.property.PropId.{PropId}
 use Rattle.pm_relations.proofs.Hulls.{facet_orders, facets_bound, facets_right, hull_right, lines_right, order_cols, points_generate, ray_orders, rays_generate, rays_right, rows_bound}

@@ -26,8 +26,8 @@ use Rattle.pm_props.specs.Kinds.{IsFresh}
 use Rattle.pm_props.specs.Places.{place_of}
 use Rattle.pm_props.specs.Properties.{facets_tag, rays_tag}
 use Rattle.pm_props.specs.Sets.{has, set_of}
-use Rattle.pm_props.specs.declared.object_type.ObjectType.TheVariants.{Cone, Fan, Polytope}
-use Rattle.pm_props.specs.declared.object_type.ObjectType.{ObjectType}
+use Rattle.pm_object_type.specs.declared.object_type.ObjectType.TheVariants.{Cone, Fan, Polytope}
+use Rattle.pm_object_type.specs.declared.object_type.ObjectType.{ObjectType}
 use Rattle.pm_props.specs.declared.property.PropId.TheVariants.{AffineHull, Equations, Facets, Inequalities, InputLineality, LinealitySpace, Points, Vertices, VerticesInFacets}
 use Rattle.pm_props.specs.declared.property.PropId.{PropId}
 use Rattle.pm_relations.proofs.FromSets.{ArePlaced, facets_order, placed_facets, placed_inside, placed_rays, rays_order, sets_of_facets, sets_of_rays}

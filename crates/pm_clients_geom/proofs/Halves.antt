@@ -6,17 +6,18 @@ use Rattle.pm_client.specs.Sound.{IsSound}
 use Rattle.pm_clients_geom.proofs.PutMatrices.{equations_forms, inequalities_forms, lines_forms, points_forms, put_states}
 use Rattle.pm_clients_geom.specs.Matrices.{as_put, cols_over}
 use Rattle.pm_clients_geom.specs.Pairs.{LacksPair}
+use Rattle.pm_clients_geom.specs.Stays.{RepeatsRows}
 use Rattle.pm_algebra.specs.Numbers.{Ratio}
 use Rattle.pm_matrix.specs.Matrices.{FractionMatrix}
-use Rattle.pm_object.specs.Reading.{DraftSeen, ViewSeen, fact_of}
+use Rattle.pm_object.specs.Reading.{DraftSeen, Put, ViewSeen, drafted, fact_of}
 use Rattle.pm_relations.proofs.Twins.{facets_cut_out, vertices_generate}
 use Rattle.pm_types.specs.Forms.{FormsIn}
-use Rattle.pm_props.specs.Kinds.{standard_kind}
+use Rattle.pm_standard.specs.Table.{standard_kind}
 use Rattle.pm_types.specs.Right.{objective_of}
-use Rattle.pm_types.specs.Values.{matrix}
+use Rattle.pm_types.specs.Values.{PropertyValue, matrix}
 use Rattle.pm_props.specs.declared.property.PropId.TheVariants.{AffineHull, Equations, Facets, Inequalities, InputLineality, LinealitySpace, Points, Vertices}
 use Rattle.pm_props.specs.declared.property.PropId.{PropId}
-use Rattle.pm_props.specs.declared.standard.StandardClient.TheVariants as client
+use Rattle.pm_standard.specs.declared.standard.StandardClient.TheVariants as client
 use Rattle.std.proofs.Common.{ap, refl, subst, sym, ◌∙◌}
 use Rattle.std.specs.Prelude.{List, Some, [], ℕ, ◌++◌, ◌∷◌, ◌≡◌}
 
@@ -26,6 +27,13 @@ pub record ReadsTwo (v : ViewSeen) (p q : PropId) (m k : ℕ) (first second : Li
   pub second_read : fact_of q v.facts ≡ Some (matrix k second)
   pub first_forms : FormsIn v.of v.cols p (matrix m first)
   pub second_forms : FormsIn v.of v.cols q (matrix k second)
+
+-- what two puts leave in an empty draft
+both_put : (q r : PropId) (x y : PropertyValue) (old mid new : DraftSeen) → old.values ≡ [] → mid ≡ record old { values = old.values ++ record { property = q; value = x } ∷ [] }
+    → new ≡ record mid { values = mid.values ++ record { property = r; value = y } ∷ [] } → new.values ≡ record { property = q; value = x } ∷ record { property = r; value = y } ∷ []
+both_put q r x y old mid new none first second =
+    ap (λ (d : DraftSeen). d.values) second
+    ∙ ap (λ (vs : List Put). vs ++ record { property = r; value = y } ∷ []) (ap (λ (d : DraftSeen). d.values) first ∙ ap (λ (vs : List Put). vs ++ record { property = q; value = x } ∷ []) none)
 
 -- ---- POINTS and INPUT_LINEALITY
 module _ (v : ViewSeen) (m k : ℕ) (rays lines : List (List Ratio)) (h : ReadsTwo v Vertices LinealitySpace m k rays lines) (free : LacksPair v Points InputLineality) where
@@ -48,6 +56,16 @@ module _ (v : ViewSeen) (m k : ℕ) (rays lines : List (List Ratio)) (h : ReadsT
       sound_pair v Points InputLineality (matrix a.cols a.rows) (matrix b.cols b.rows) new (two_put v Points InputLineality (matrix a.cols a.rows) (matrix b.cols b.rows) old mid empty first new (ap (λ z. z.targets) kind) second)
       (subst (λ z. AreRightHalves v Points InputLineality (matrix z.cols z.rows) (matrix b.cols b.rows)) (sym same_a) (subst (λ z. AreRightHalves v Points InputLineality (matrix (cols_over m rays) rays) (matrix z.cols z.rows)) (sym same_b) points_answer))
 
+  -- the rows are repeated
+  pub points_repeated : (a b : FractionMatrix) (old mid new : DraftSeen) → a ≡ as_put m rays → b ≡ as_put k lines → old ≡ record { kind = v.kind; values = [] }
+      → mid ≡ record old { values = old.values ++ record { property = Points; value = matrix a.cols a.rows } ∷ [] } → new ≡ record mid { values = mid.values ++ record { property = InputLineality; value = matrix b.cols b.rows } ∷ [] }
+      → RepeatsRows v Vertices Points new × RepeatsRows v LinealitySpace InputLineality new
+  points_repeated a b old mid new same_a same_b empty first second =
+      let values = both_put Points InputLineality (matrix a.cols a.rows) (matrix b.cols b.rows) old mid new (ap (λ (d : DraftSeen). d.values) empty) first second in (
+        record { cols = m; rows = rays; reads = h.first_read; put = ap (drafted Points) values ∙ ap (λ (z : FractionMatrix). Some (matrix z.cols z.rows)) same_a },
+        record { cols = k; rows = lines; reads = h.second_read; put = ap (drafted InputLineality) values ∙ ap (λ (z : FractionMatrix). Some (matrix z.cols z.rows)) same_b },
+      )
+
 -- ---- INEQUALITIES and EQUATIONS
 module _ (v : ViewSeen) (m k : ℕ) (facets hull : List (List Ratio)) (h : ReadsTwo v Facets AffineHull m k facets hull) (free : LacksPair v Inequalities Equations) where
   inequalities_answer : AreRightHalves v Inequalities Equations (matrix (cols_over m facets) facets) (matrix (cols_over k hull) hull)
@@ -68,3 +86,13 @@ module _ (v : ViewSeen) (m k : ℕ) (facets hull : List (List Ratio)) (h : Reads
   inequalities_sound a b old mid new kind same_a same_b empty first second =
       sound_pair v Inequalities Equations (matrix a.cols a.rows) (matrix b.cols b.rows) new (two_put v Inequalities Equations (matrix a.cols a.rows) (matrix b.cols b.rows) old mid empty first new (ap (λ z. z.targets) kind) second)
       (subst (λ z. AreRightHalves v Inequalities Equations (matrix z.cols z.rows) (matrix b.cols b.rows)) (sym same_a) (subst (λ z. AreRightHalves v Inequalities Equations (matrix (cols_over m facets) facets) (matrix z.cols z.rows)) (sym same_b) inequalities_answer))
+
+  -- the rows are repeated
+  pub inequalities_repeated : (a b : FractionMatrix) (old mid new : DraftSeen) → a ≡ as_put m facets → b ≡ as_put k hull → old ≡ record { kind = v.kind; values = [] }
+      → mid ≡ record old { values = old.values ++ record { property = Inequalities; value = matrix a.cols a.rows } ∷ [] } → new ≡ record mid { values = mid.values ++ record { property = Equations; value = matrix b.cols b.rows } ∷ [] }
+      → RepeatsRows v Facets Inequalities new × RepeatsRows v AffineHull Equations new
+  inequalities_repeated a b old mid new same_a same_b empty first second =
+      let values = both_put Inequalities Equations (matrix a.cols a.rows) (matrix b.cols b.rows) old mid new (ap (λ (d : DraftSeen). d.values) empty) first second in (
+        record { cols = m; rows = facets; reads = h.first_read; put = ap (drafted Inequalities) values ∙ ap (λ (z : FractionMatrix). Some (matrix z.cols z.rows)) same_a },
+        record { cols = k; rows = hull; reads = h.second_read; put = ap (drafted Equations) values ∙ ap (λ (z : FractionMatrix). Some (matrix z.cols z.rows)) same_b },
+      )

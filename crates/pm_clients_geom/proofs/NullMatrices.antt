@@ -12,21 +12,21 @@ use Rattle.pm_elim.proofs.PrefixLaws.{at_most_columns}
 use Rattle.pm_elim.specs.NullSpaces.{IsNullBasis}
 use Rattle.pm_geom.specs.Things.{Orders}
 use Rattle.pm_types.specs.Things.{Thing}
-use Rattle.pm_props.specs.declared.object_type.ObjectType.TheVariants.{Cone, Fan, Polytope}
-use Rattle.pm_props.specs.declared.object_type.ObjectType.{ObjectType}
+use Rattle.pm_object_type.specs.declared.object_type.ObjectType.TheVariants.{Cone, Fan, Polytope}
+use Rattle.pm_object_type.specs.declared.object_type.ObjectType.{ObjectType}
 use Rattle.pm_matrix.specs.Matrices.{FractionMatrix}
 use Rattle.pm_object.specs.Reading.{DraftSeen, IsView, ViewSeen}
 use Rattle.pm_relations.proofs.Found.{echelon_is_right}
 use Rattle.pm_relations.proofs.PrimitiveStanding.{hull_primitive, lineality_primitive}
 use Rattle.pm_relations.proofs.FlatLineality.{polytope_lineality_first}
 use Rattle.pm_types.specs.Canonical.{IsCanonical, IsEchelonBasisOf, Vanishing}
-use Rattle.pm_props.specs.Kinds.{standard_kind}
+use Rattle.pm_standard.specs.Table.{standard_kind}
 use Rattle.pm_types.specs.Right.{InLines, Right, RightAll, objective_of}
 use Rattle.pm_props.specs.Places.{place_of}
 use Rattle.pm_types.specs.Values.{matrix}
 use Rattle.pm_types.specs.Views.{ratios}
 use Rattle.pm_props.specs.declared.property.PropId.TheVariants.{AffineHull, Facets, LinealitySpace, Vertices}
-use Rattle.pm_props.specs.declared.standard.StandardClient.TheVariants as client
+use Rattle.pm_standard.specs.declared.standard.StandardClient.TheVariants as client
 use Rattle.std.proofs.Common.{ap, arith, false, inl, inr, refl, subst, sym, true, true≢false, ◌∙◌}
 use Rattle.std.proofs.lemmas.Bool.{leb-true}
 use Rattle.std.proofs.lemmas.List.Elements.{All-nil}

@@ -10,7 +10,7 @@ use Rattle.pm_geom.specs.Programs.{IsInfeasible, IsOptimal, IsUnbounded}
 use Rattle.pm_geom.specs.Programs as programs
 use Rattle.pm_algebra.specs.Numbers.{Ratio}
 use Rattle.pm_incidence.specs.Thinning.{half_spaces}
-use Rattle.pm_props.specs.declared.object_type.ObjectType.TheVariants.{Polytope}
+use Rattle.pm_object_type.specs.declared.object_type.ObjectType.TheVariants.{Polytope}
 use Rattle.pm_redund.proofs.Lifted.{objective_length}
 use Rattle.pm_simplex.specs.Generated.{no_objective}
 use Rattle.pm_relations.proofs.Thinning.{solves_as}

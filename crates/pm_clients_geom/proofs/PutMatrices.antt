@@ -3,8 +3,8 @@ use Rattle.pm_algebra.specs.Numbers.{InRange, Ratio}
 use Rattle.pm_algebra.specs.Rows.{HasCols, Row, entry}
 use Rattle.pm_clients_geom.proofs.RowLists.{IsColumned}
 use Rattle.pm_clients_geom.specs.Matrices.{MayBeLines, cols_over}
-use Rattle.pm_props.specs.declared.object_type.ObjectType.{ObjectType}
-use Rattle.pm_props.specs.declared.object_type.ObjectType.TheVariants.{Cone, Fan, Polytope}
+use Rattle.pm_object_type.specs.declared.object_type.ObjectType.{ObjectType}
+use Rattle.pm_object_type.specs.declared.object_type.ObjectType.TheVariants.{Cone, Fan, Polytope}
 use Rattle.pm_types.proofs.WholeRows.{ratios_rows_fractions, ratios_rows_of_entries, ratios_rows_primitive}
 use Rattle.pm_types.specs.Forms.{FormsIn, first_is_nought, first_is_below, is_column_count, is_nought, is_row, is_row_of_entries, is_zero_row}
 use Rattle.pm_types.specs.Runs.{states_rows}

@@ -16,8 +16,8 @@ use Rattle.pm_fraction.specs.declared.error.NumError.{NumError}
 use Rattle.pm_fraction.specs.Fractions.{IsLowestTermsOf, IsTooWide, ratio_of}
 use Rattle.pm_matrix.specs.FractionRows.{IsLeastDenominator, numerator_over}
 use Rattle.pm_matrix.specs.Matrices.{FractionMatrix, IsFraction}
-use Rattle.pm_props.specs.declared.object_type.ObjectType.TheVariants.{Cone, Fan, Polytope}
-use Rattle.pm_props.specs.declared.object_type.ObjectType.{ObjectType}
+use Rattle.pm_object_type.specs.declared.object_type.ObjectType.TheVariants.{Cone, Fan, Polytope}
+use Rattle.pm_object_type.specs.declared.object_type.ObjectType.{ObjectType}
 use Rattle.pm_props.specs.declared.property.PropId.TheVariants.{Vertices}
 use Rattle.pm_relations.proofs.Standing.{stands_ratios}
 use Rattle.pm_types.proofs.WholeRows.{length_ratios}

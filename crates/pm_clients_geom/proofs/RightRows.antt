@@ -15,10 +15,10 @@ use Rattle.pm_geom.specs.Generators.{AreGenerators}
 use Rattle.pm_geom.specs.Things.{Orders}
 use Rattle.pm_incidence.specs.Thinning.{half_spaces}
 use Rattle.pm_object.specs.Reading.{DraftSeen, ViewSeen}
-use Rattle.pm_props.specs.Kinds.{standard_kind}
-use Rattle.pm_props.specs.declared.object_type.ObjectType.TheVariants.{Fan, Polytope}
+use Rattle.pm_standard.specs.Table.{standard_kind}
+use Rattle.pm_object_type.specs.declared.object_type.ObjectType.TheVariants.{Fan, Polytope}
 use Rattle.pm_props.specs.declared.property.PropId.TheVariants.{Equations, Feasible, Inequalities}
-use Rattle.pm_props.specs.declared.standard.StandardClient.TheVariants as client
+use Rattle.pm_standard.specs.declared.standard.StandardClient.TheVariants as client
 use Rattle.pm_simplex.specs.Generated.{no_objective}
 use Rattle.pm_relations.proofs.Hulls.{facet_orders, facets_right, hull_right, lines_right, points_generate, ray_orders, rays_right}
 use Rattle.pm_relations.proofs.PrimitiveStanding.{primitive_stand}

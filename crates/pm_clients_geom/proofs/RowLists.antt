@@ -8,7 +8,7 @@ use Rattle.pm_client.specs.Sound.{are_parts}
 use Rattle.pm_clients_geom.specs.Hulls.{AreFewRows}
 use Rattle.pm_props.specs.Properties.{number}
 use Rattle.pm_props.specs.Sets.{has, set_of}
-use Rattle.pm_props.specs.declared.object_type.ObjectType.{ObjectType}
+use Rattle.pm_object_type.specs.declared.object_type.ObjectType.{ObjectType}
 use Rattle.pm_matrix.specs.FractionRows.{ArePrimitiveRowsOf}
 use Rattle.pm_types.proofs.PrimitiveRows.{few_rows}
 use Rattle.pm_types.specs.Forms.{FormsIn, is_matrix_form}

@@ -8,13 +8,13 @@ use Rattle.pm_clients_geom.specs.Places.{AreZeroPlaces}
 use Rattle.pm_clients_geom.specs.Thinned.{ArePossibleFacets, ArePossibleRays, ArePutFacets}
 use Rattle.pm_clients_geom.specs.Rays.{ArePutRays, IsOverFirst, IsPutRay}
 use Rattle.pm_object.specs.Reading.{DraftSeen, Put}
-use Rattle.pm_props.specs.Kinds.{standard_kind}
+use Rattle.pm_standard.specs.Table.{standard_kind}
 use Rattle.pm_props.specs.declared.property.PropId.TheVariants.{AffineHull, Equations, Facets, Inequalities, InputLineality, LinealitySpace, Points, Vertices}
 use Rattle.pm_types.specs.Values.{matrix}
 use Rattle.pm_clients_geom.specs.Matrices.{AreNotZero, AreRays, MayBeLines, MayBeRays, as_put}
-use Rattle.pm_props.specs.declared.object_type.ObjectType.TheVariants.{Cone, Polytope}
+use Rattle.pm_object_type.specs.declared.object_type.ObjectType.TheVariants.{Cone, Polytope}
 use Rattle.pm_types.specs.Views.{over_one, ratios}
-use Rattle.pm_props.specs.declared.standard.StandardClient.TheVariants as client
+use Rattle.pm_standard.specs.declared.standard.StandardClient.TheVariants as client
 use Rattle.std.specs.Prelude.{List, [], false, ◌∷◌, ◌≡◌}
 use lib.IntN.{negsuc, pos}
 

@@ -6,7 +6,7 @@ use Rattle.pm_clients_geom.specs.Matrices.{AreRays, MayBeLines, cols_over}
 use Rattle.pm_clients_geom.specs.Rays.{ArePutRays}
 use Rattle.pm_object.specs.Reading.{DraftSeen, ViewSeen}
 use Rattle.pm_props.specs.declared.kind.Kind.{Kind}
-use Rattle.pm_props.specs.declared.object_type.ObjectType.{ObjectType}
+use Rattle.pm_object_type.specs.declared.object_type.ObjectType.{ObjectType}
 use Rattle.pm_props.specs.declared.property.PropId.{PropId}
 use Rattle.pm_props.specs.declared.property.PropId.TheVariants.{AffineHull, Facets, LinealitySpace, Vertices}
 use Rattle.pm_props.specs.Properties.{is_generator}

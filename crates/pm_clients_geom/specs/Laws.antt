@@ -6,7 +6,7 @@ use Rattle.pm_clients_geom.specs.Points.{HasPoint}
 use Rattle.pm_geom.specs.Cones.{IsValid}
 use Rattle.pm_geom.specs.Generators.{AreGenerators}
 use Rattle.pm_geom.specs.Things.{Orders}
-use Rattle.pm_props.specs.declared.object_type.ObjectType.TheVariants.{Fan, Polytope}
+use Rattle.pm_object_type.specs.declared.object_type.ObjectType.TheVariants.{Fan, Polytope}
 use Rattle.pm_props.specs.declared.property.PropId.TheVariants.{AffineHull, Facets, Feasible, LinealitySpace, Vertices}
 use Rattle.pm_types.specs.Canonical.{EachIs, IsRayRow}
 use Rattle.pm_types.specs.Right.{CutsOutOf, PairCutsOut, PairGenerates, Right, StandFor}

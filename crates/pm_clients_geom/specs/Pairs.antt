@@ -1,5 +1,5 @@
 -- Clients that find both halves of a pair.
-use Rattle.pm_props.specs.declared.object_type.ObjectType.TheVariants.{Fan}
+use Rattle.pm_object_type.specs.declared.object_type.ObjectType.TheVariants.{Fan}
 use Rattle.pm_object.specs.Reading.{ViewSeen, fact_of}
 use Rattle.pm_props.specs.declared.property.PropId.{PropId}
 use Rattle.std.specs.Prelude.{None, ◌≡◌}

@@ -2,8 +2,8 @@
 use Rattle.pm_algebra.specs.Numbers.{InRange, Ratio}
 use Rattle.pm_algebra.specs.Rows.{Row, entry, ratio_at}
 use Rattle.pm_fraction.specs.Fractions.{IsLowestTermsOf, ratio_of}
-use Rattle.pm_props.specs.declared.object_type.ObjectType.{ObjectType}
-use Rattle.pm_props.specs.declared.object_type.ObjectType.TheVariants.{Polytope}
+use Rattle.pm_object_type.specs.declared.object_type.ObjectType.{ObjectType}
+use Rattle.pm_object_type.specs.declared.object_type.ObjectType.TheVariants.{Polytope}
 use Rattle.pm_types.specs.Canonical.{EachIs}
 use Rattle.pm_types.specs.Views.{ratios}
 use Rattle.std.specs.List.{All}

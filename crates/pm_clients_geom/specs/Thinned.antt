@@ -4,7 +4,7 @@ use Rattle.pm_algebra.specs.Rows.{Row}
 use Rattle.pm_clients_geom.specs.Hulls.{AreFewRows}
 use Rattle.pm_clients_geom.specs.Matrices.{AreNotZero, AreRays, cols_over}
 use Rattle.pm_object.specs.Reading.{DraftSeen, ViewSeen}
-use Rattle.pm_props.specs.declared.object_type.ObjectType.{ObjectType}
+use Rattle.pm_object_type.specs.declared.object_type.ObjectType.{ObjectType}
 use Rattle.pm_props.specs.declared.property.PropId.TheVariants.{AffineHull, Facets}
 use Rattle.pm_types.specs.Values.{matrix}
 use Rattle.pm_types.specs.Views.{ratios}

@@ -13,8 +13,8 @@ use Rattle.pm_clients_geom.specs.declared.sizes.SizeWork.{SizeWork}
 use Rattle.pm_clients_geom.specs.declared.sizes.SizeWork.TheVariants as size
 use Rattle.pm_clients_geom.specs.declared.truths.TestWork.{TestWork}
 use Rattle.pm_clients_geom.specs.declared.truths.TestWork.TheVariants as truth
-use Rattle.pm_props.specs.declared.standard.StandardClient.{StandardClient}
-use Rattle.pm_props.specs.declared.standard.StandardClient.TheVariants as client
+use Rattle.pm_standard.specs.declared.standard.StandardClient.{StandardClient}
+use Rattle.pm_standard.specs.declared.standard.StandardClient.TheVariants as client
 
 -- of double description
 abbrev pub hull_client : HullWork → StandardClient

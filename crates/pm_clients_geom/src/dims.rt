@@ -1,22 +1,23 @@
 // The clients that find dimensions.
 
-ghost use Rattle.pm_client.specs.Sound.{FailsRightly, IsSound, added_rows, are_parts, eliminated_by, row_list as whole_list};
+ghost use Rattle.pm_client.specs.Sound.{EliminatesRows, FailsRightly, IsSound, added_rows, are_parts, eliminated_by, row_list as whole_list};
 ghost use Rattle.pm_client.specs.declared.ClientFail.TheVariants.{Memory};
 ghost use Rattle.pm_clients_geom.specs.Lists.{StaysInRange};
 ghost use Rattle.pm_clients_geom.specs.Ranks.{IsListRank};
 ghost use Rattle.pm_elim.specs.declared.evidence.ElimList.TheVariants as list;
 ghost use Rattle.pm_object.specs.Reading.{IsView};
-ghost use Rattle.pm_props.specs.Kinds.{standard_kind};
+ghost use Rattle.pm_standard.specs.Table.{standard_kind};
 ghost use Rattle.pm_props.specs.Sets.{has};
 ghost use Rattle.pm_props.specs.declared.property.PropId.TheVariants as property;
-ghost use Rattle.pm_props.specs.declared.standard.StandardClient.TheVariants as client;
+ghost use Rattle.pm_standard.specs.declared.standard.StandardClient.TheVariants as client;
 ghost use Rattle.std.specs.Prelude.{Contains, IfErr, IfOk, IsTrue, OnOk, [], ◌≡◌, ◌≤◌, map, ◌∷◌};
 
 use crate::lists::row_list;
 use pm_client::{ClientFail, Family, FamilyClient, matrix_of, put_value, whole_of};
 use pm_elim::rank;
 use pm_object::{Draft, View};
-use pm_types::{PropId, StandardClient, Value};
+use pm_standard::StandardClient;
+use pm_types::{PropId, Value};
 use std::alloc::Global;
 
 /// The works of the clients that find a dimension.
@@ -62,7 +63,7 @@ impl Family for DimFamily {
 
     ghost client_of = { dimension_client };
 
-    ghost Stays = { DimStays };
+    ghost Stays = { λ w v _. DimStays w v };
 
     ghost Fails = { DimFails };
 
@@ -109,6 +110,7 @@ fn rank_of_list(
     ensures view { OnOk result (IsView view.now) }
     ensures stays { OnOk result (StaysInRange view.now first second list.Rows) }
     ensures failed { IfErr result (FailsRightly view.now) }
+    ensures fails { IfErr result (λ e. FailsRightly view.now e × EliminatesRows e) }
 {
     let rows = row_list(alloc, view, first, second)?;
     let rank = rank(alloc, &rows, view.cols())?;
@@ -124,6 +126,7 @@ fn cone_dim_v(alloc: Global, view: &View, draft: &mut Draft) -> Result<(), Clien
     ensures stays { OnOk result (StaysInRange view.now property.LinealitySpace
         property.Vertices list.Rows) }
     ensures failed { IfErr result (FailsRightly view.now) }
+    ensures fails { IfErr result (λ e. FailsRightly view.now e × EliminatesRows e) }
 {
     let dim = rank_of_list(alloc, view, PropId::LinealitySpace, PropId::Vertices)?;
     put_value(draft, PropId::ConeDim, Value::Int(dim as i64))?;
@@ -153,6 +156,7 @@ fn cone_dim_points(alloc: Global, view: &View, draft: &mut Draft) -> Result<(), 
     ensures stays { OnOk result (StaysInRange view.now property.InputLineality
         property.Points list.Rows) }
     ensures failed { IfErr result (FailsRightly view.now) }
+    ensures fails { IfErr result (λ e. FailsRightly view.now e × EliminatesRows e) }
 {
     let dim = rank_of_list(alloc, view, PropId::InputLineality, PropId::Points)?;
     put_value(draft, PropId::ConeDim, Value::Int(dim as i64))?;

@@ -5,10 +5,10 @@ ghost use Rattle.pm_client.specs.Sound.{FailsRightly, IsSound, are_parts};
 ghost use Rattle.pm_client.specs.declared.ClientFail.TheVariants.{Memory};
 ghost use Rattle.pm_clients_geom.specs.Hulls.{AreFewRows, ArePossible, ArePutGenerators, FindsFacets};
 ghost use Rattle.pm_clients_geom.specs.Lists.{ReadsParts};
-ghost use Rattle.pm_props.specs.Kinds.{standard_kind};
+ghost use Rattle.pm_standard.specs.Table.{standard_kind};
 ghost use Rattle.pm_props.specs.Sets.{has, set_of};
 ghost use Rattle.pm_props.specs.declared.property.PropId.TheVariants as property;
-ghost use Rattle.pm_props.specs.declared.standard.StandardClient.TheVariants as client;
+ghost use Rattle.pm_standard.specs.declared.standard.StandardClient.TheVariants as client;
 ghost use Rattle.std.specs.Prelude.{IfErr, IfOk, IsTrue, OnOk, [], length, ◌∷◌, ◌≡◌, ◌≤◌, map};
 
 use crate::rays::{are_rays, matrix_of_rays};
@@ -16,7 +16,8 @@ use crate::rows::{matrix_over_one, may_be_lines};
 use pm_client::{ClientFail, Family, FamilyClient, matrix_of, primitive_rows, put_value};
 use pm_hull::{Generators, to_facets, to_generators};
 use pm_object::{Draft, View};
-use pm_types::{ObjectType, PropId, StandardClient, Value};
+use pm_standard::StandardClient;
+use pm_types::{ObjectType, PropId, Value};
 use pm_vector::Ints;
 use std::alloc::Global;
 
@@ -61,7 +62,7 @@ impl Family for HullFamily {
 
     ghost client_of = { hull_client };
 
-    ghost Stays = { λ _ _. Unit {0} };
+    ghost Stays = { λ _ _ _. Unit {0} };
 
     ghost Fails = { λ _ v e. FailsRightly v e };
 

@@ -4,7 +4,7 @@ ghost use Rattle.pm_algebra.specs.Rows.{HasCols};
 ghost use Rattle.pm_clients_geom.specs.Points.{HasPoint};
 ghost use Rattle.pm_elim.specs.Evidence.{unit};
 ghost use Rattle.pm_incidence.specs.Thinning.{half_spaces};
-ghost use Rattle.pm_props.specs.declared.object_type.ObjectType.TheVariants.{Polytope};
+ghost use Rattle.pm_object_type.specs.declared.object_type.ObjectType.TheVariants.{Polytope};
 ghost use Rattle.pm_simplex.specs.Generated.{no_objective};
 ghost use Rattle.pm_simplex.specs.Answers.{ShowsProgram};
 ghost use Rattle.pm_simplex.specs.Fails.{IfWide};

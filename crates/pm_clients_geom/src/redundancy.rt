@@ -2,8 +2,8 @@
 
 ghost use Rattle.pm_client.specs.Sound.{FailsRightly, IsSound};
 ghost use Rattle.pm_clients_geom.specs.Redundancy.{FailsForProgram};
-ghost use Rattle.pm_props.specs.Kinds.{standard_kind};
-ghost use Rattle.pm_props.specs.declared.standard.StandardClient.TheVariants as client;
+ghost use Rattle.pm_standard.specs.Table.{standard_kind};
+ghost use Rattle.pm_standard.specs.declared.standard.StandardClient.TheVariants as client;
 ghost use Rattle.std.specs.Prelude.{IfErr, OnOk, [], ◌≡◌, map, ◌∷◌};
 
 use crate::hulls::{put_generators, read_parts};
@@ -12,7 +12,8 @@ use crate::thinning::put_facets;
 use pm_client::{ClientFail, Family, FamilyClient, put_value};
 use pm_object::{Draft, View};
 use pm_redund::{thin_rays, thin_rows};
-use pm_types::{ObjectType, PropId, StandardClient, Value};
+use pm_standard::StandardClient;
+use pm_types::{ObjectType, PropId, Value};
 use std::alloc::Global;
 
 /// The works of the clients of linear programs over half-spaces or generators.
@@ -55,7 +56,7 @@ impl Family for RedundancyFamily {
 
     ghost client_of = { redundancy_client };
 
-    ghost Stays = { λ _ _. Unit {0} };
+    ghost Stays = { λ _ _ _. Unit {0} };
 
     ghost Fails = { RedundancyFails };
 

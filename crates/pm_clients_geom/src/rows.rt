@@ -2,15 +2,17 @@
 
 ghost use Rattle.pm_algebra.specs.Numbers.{InRange};
 ghost use Rattle.pm_algebra.specs.Rows.{HasCols};
-ghost use Rattle.pm_client.specs.Sound.{FailsRightly, IsSound};
+ghost use Rattle.pm_client.specs.Sound.{EliminatesExtended, FailsRightly, IsSound};
 ghost use Rattle.pm_client.specs.declared.ClientFail.TheVariants.{Memory};
 ghost use Rattle.pm_clients_geom.specs.Lists.{StaysInRange};
 ghost use Rattle.pm_clients_geom.specs.Matrices.{MayBeLines, as_put};
 ghost use Rattle.pm_clients_geom.specs.Pairs.{LacksPair};
+ghost use Rattle.pm_clients_geom.specs.Stays.{RowsStay};
+ghost use Rattle.pm_clients_geom.specs.declared.rows.RowsWork.TheVariants as work;
 ghost use Rattle.pm_elim.specs.declared.evidence.ElimList.TheVariants as list;
-ghost use Rattle.pm_props.specs.Kinds.{standard_kind};
+ghost use Rattle.pm_standard.specs.Table.{standard_kind};
 ghost use Rattle.pm_props.specs.declared.property.PropId.TheVariants as property;
-ghost use Rattle.pm_props.specs.declared.standard.StandardClient.TheVariants as client;
+ghost use Rattle.pm_standard.specs.declared.standard.StandardClient.TheVariants as client;
 ghost use Rattle.pm_props.specs.Properties.{has_program, of_fans, row};
 ghost use Rattle.pm_props.specs.Sets.{has};
 ghost use Rattle.pm_types.specs.Views.{ratios};
@@ -22,7 +24,8 @@ use pm_elim::null_space;
 use pm_fraction::Fraction;
 use pm_matrix::{Matrix, MatrixFail};
 use pm_object::{Draft, View};
-use pm_types::{ObjectType, PropId, StandardClient, Value};
+use pm_standard::StandardClient;
+use pm_types::{ObjectType, PropId, Value};
 use pm_vector::Ints;
 use std::alloc::Global;
 
@@ -61,7 +64,7 @@ pub type RowsClient = FamilyClient<RowsFamily>;
 
 impl Family for RowsFamily {
     ghost use Rattle.pm_clients_geom.specs.Works.{rows_client};
-    ghost use Rattle.pm_clients_geom.specs.Stays.{RowsFail, RowsStay};
+    ghost use Rattle.pm_clients_geom.specs.Stays.{RowsFail};
 
     type Work = RowsWork;
 
@@ -101,6 +104,7 @@ fn points_from_vertices(alloc: Global, view: &View, draft: &mut Draft) -> Result
     requires empty { draft.old ≡ record { kind = view.now.kind; values = [] } }
     ensures draft { draft.new.kind ≡ draft.old.kind }
     ensures sound { OnOk result (IsSound view.now draft.new) }
+    ensures stays { OnOk result (RowsStay work.PointsFromVertices view.now draft.new) }
     ensures failed { IfErr result (λ e. e ≡ Memory) }
 {
     reads_no_half(view, PropId::Points, PropId::InputLineality);
@@ -117,6 +121,7 @@ fn inequalities_from_facets(alloc: Global, view: &View, draft: &mut Draft) -> Re
     requires empty { draft.old ≡ record { kind = view.now.kind; values = [] } }
     ensures draft { draft.new.kind ≡ draft.old.kind }
     ensures sound { OnOk result (IsSound view.now draft.new) }
+    ensures stays { OnOk result (RowsStay work.InequalitiesFromFacets view.now draft.new) }
     ensures failed { IfErr result (λ e. e ≡ Memory) }
 {
     reads_no_half(view, PropId::Inequalities, PropId::Equations);
@@ -138,6 +143,7 @@ fn lineality_from_facets(alloc: Global, view: &View, draft: &mut Draft) -> Resul
     ensures stays_extended { OnOk result (StaysInRange view.now property.AffineHull
         property.Facets list.Extended) }
     ensures failed { IfErr result (FailsRightly view.now) }
+    ensures fails { IfErr result (λ e. FailsRightly view.now e × EliminatesExtended e) }
 {
     let rows = row_list(alloc, view, PropId::AffineHull, PropId::Facets)?;
     let null = null_space(alloc, &rows, view.cols())?;
@@ -162,6 +168,7 @@ fn hull_from_vertices(alloc: Global, view: &View, draft: &mut Draft) -> Result<(
     ensures stays_extended { OnOk result (StaysInRange view.now property.LinealitySpace
         property.Vertices list.Extended) }
     ensures failed { IfErr result (FailsRightly view.now) }
+    ensures fails { IfErr result (λ e. FailsRightly view.now e × EliminatesExtended e) }
 {
     let rows = row_list(alloc, view, PropId::LinealitySpace, PropId::Vertices)?;
     let null = null_space(alloc, &rows, view.cols())?;

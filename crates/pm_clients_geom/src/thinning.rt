@@ -4,10 +4,10 @@ ghost use Rattle.pm_client.specs.Sound.{FailsRightly, IsSound};
 ghost use Rattle.pm_client.specs.declared.ClientFail.TheVariants.{Memory};
 ghost use Rattle.pm_clients_geom.specs.Hulls.{AreFewRows};
 ghost use Rattle.pm_clients_geom.specs.Thinned.{ArePossibleFacets, ArePossibleRays, ArePutFacets};
-ghost use Rattle.pm_props.specs.Kinds.{standard_kind};
+ghost use Rattle.pm_standard.specs.Table.{standard_kind};
 ghost use Rattle.pm_props.specs.Sets.{set_of};
 ghost use Rattle.pm_props.specs.declared.property.PropId.TheVariants as property;
-ghost use Rattle.pm_props.specs.declared.standard.StandardClient.TheVariants as client;
+ghost use Rattle.pm_standard.specs.declared.standard.StandardClient.TheVariants as client;
 ghost use Rattle.std.specs.Prelude.{All, IfErr, OnOk, [], length, ◌<◌, ◌∷◌, ◌≡◌, map};
 
 use crate::hulls::{put_generators, read_parts};
@@ -19,7 +19,8 @@ use pm_incidence::{
     facets_by_incidence, facets_from_sets, vertices_by_incidence, vertices_from_sets,
 };
 use pm_object::{Draft, View};
-use pm_types::{ObjectType, PropId, StandardClient, Value};
+use pm_standard::StandardClient;
+use pm_types::{ObjectType, PropId, Value};
 use pm_vector::Ints;
 use std::alloc::Global;
 
@@ -64,7 +65,7 @@ impl Family for ThinFamily {
 
     ghost client_of = { thinning_client };
 
-    ghost Stays = { λ _ _. Unit {0} };
+    ghost Stays = { λ _ _ _. Unit {0} };
 
     ghost Fails = { λ _ v e. FailsRightly v e };
 

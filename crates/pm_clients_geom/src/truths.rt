@@ -3,8 +3,8 @@
 
 ghost use Rattle.pm_client.specs.Sound.{IsSound};
 ghost use Rattle.pm_client.specs.declared.ClientFail.TheVariants.{Memory};
-ghost use Rattle.pm_props.specs.Kinds.{standard_kind};
-ghost use Rattle.pm_props.specs.declared.standard.StandardClient.TheVariants as client;
+ghost use Rattle.pm_standard.specs.Table.{standard_kind};
+ghost use Rattle.pm_standard.specs.declared.standard.StandardClient.TheVariants as client;
 ghost use Rattle.pm_relations.specs.FirstEntries.{HasPositiveFirst, HasZeroFirst};
 ghost use Rattle.std.specs.Prelude.{All, IfErr, IsTrue, OnOk, [], ◌≡◌, ◌↔◌, map, ◌∷◌};
 
@@ -12,7 +12,8 @@ use crate::firsts::{has_positive_firsts, has_zero_firsts};
 use pm_client::{ClientFail, Family, FamilyClient, matrix_of, put_value, whole_of};
 use pm_matrix::Matrix;
 use pm_object::{Draft, View};
-use pm_types::{ObjectType, PropId, StandardClient, Value};
+use pm_standard::StandardClient;
+use pm_types::{ObjectType, PropId, Value};
 use std::alloc::Global;
 
 /// The works of the clients that find a truth value.
@@ -58,7 +59,7 @@ impl Family for TestFamily {
 
     ghost client_of = { truth_client };
 
-    ghost Stays = { λ _ _. Unit {0} };
+    ghost Stays = { λ _ _ _. Unit {0} };
 
     ghost Fails = { λ _ _ e. e ≡ Memory };
 

@@ -10,7 +10,7 @@ use Rattle.pm_geom.specs.Graphs.{IsGraph, edge_count}
 use Rattle.pm_graph.specs.Edges.{IsFaceGraph, IsIndexEdge, IsSetEdge, whole_of}
 use Rattle.pm_graph.specs.Levels.{HasGreatestDistance}
 use Rattle.pm_object.specs.Reading.{DraftSeen, ViewSeen, fact_of}
-use Rattle.pm_props.specs.declared.object_type.ObjectType.TheVariants.{Fan}
+use Rattle.pm_object_type.specs.declared.object_type.ObjectType.TheVariants.{Fan}
 use Rattle.pm_props.specs.declared.property.PropId.TheVariants.{Diameter, DualDiameter, DualGraph, Graph, HasseDiagram, NEdges, NRidges, VertexDegrees, VerticesInFacets}
 use Rattle.pm_types.proofs.Bits.{bits_from_fits}
 use Rattle.pm_types.specs.Forms.{FormsIn, has_64_bits}

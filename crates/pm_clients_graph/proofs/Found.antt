@@ -6,8 +6,8 @@ use Rattle.pm_geom.specs.Things.{AreConeOrders, Orders}
 use Rattle.pm_graph.proofs.RightFaces.{face_edges_are_edges}
 use Rattle.pm_graph.proofs.RightGraphs.{dual_greatest_distance_is_diameter, greatest_distance_is_diameter, index_edges_are_edges, set_edges_are_ridges, sets_are_facets}
 use Rattle.pm_graph.specs.Edges.{IsFaceEdge, IsIndexEdge, IsSetEdge, whole_of}
-use Rattle.pm_props.specs.declared.object_type.ObjectType.TheVariants.{Cone, Fan, Polytope}
-use Rattle.pm_props.specs.declared.object_type.ObjectType.{ObjectType}
+use Rattle.pm_object_type.specs.declared.object_type.ObjectType.TheVariants.{Cone, Fan, Polytope}
+use Rattle.pm_object_type.specs.declared.object_type.ObjectType.{ObjectType}
 use Rattle.pm_relations.proofs.Spans.{thing_cols}
 use Rattle.pm_types.specs.Things.{AreOrdersOf}
 use Rattle.std.proofs.Common.{arith, refl, subst, sym, ◌∙◌}

@@ -3,7 +3,7 @@ use Rattle.pm_client.proofs.ViewLaws.{has_listed, not_fan, source_named}
 use Rattle.pm_object.specs.Reading.{IsView, ViewSeen}
 use Rattle.pm_props.specs.Properties.{has_program, number, of_fans, row}
 use Rattle.pm_props.specs.Sets.{has, set_of}
-use Rattle.pm_props.specs.declared.object_type.ObjectType.TheVariants.{Fan}
+use Rattle.pm_object_type.specs.declared.object_type.ObjectType.TheVariants.{Fan}
 use Rattle.pm_props.specs.declared.property.PropId.{PropId}
 use Rattle.std.proofs.Common.{[], false, refl, true, ◌∙◌}
 use Rattle.std.proofs.lemmas.Bool.{eq-eqb}

@@ -4,7 +4,7 @@ use Rattle.pm_clients_graph.specs.Degrees.{degrees}
 use Rattle.pm_geom.specs.Graphs.{AreNeighbours, IsGraph, IsGreatestDistance, edge_count}
 use Rattle.pm_geom.specs.Things.{Orders}
 use Rattle.pm_graph.specs.Edges.{IsFaceGraph, IsIndexEdge, IsSetEdge}
-use Rattle.pm_props.specs.declared.object_type.ObjectType.TheVariants.{Fan}
+use Rattle.pm_object_type.specs.declared.object_type.ObjectType.TheVariants.{Fan}
 use Rattle.pm_props.specs.declared.property.PropId.TheVariants.{Diameter, DualDiameter, DualGraph, Graph, HasseDiagram, NEdges, NRidges, VertexDegrees, VerticesInFacets}
 use Rattle.pm_types.specs.Right.{Right}
 use Rattle.pm_types.specs.Things.{AreOrders, IsThing, Thing}

@@ -1,8 +1,8 @@
 -- The works of the clients that find graphs, and what these show.
 use Rattle.pm_clients_graph.specs.declared.client.GraphWork.{GraphWork}
 use Rattle.pm_clients_graph.specs.declared.client.GraphWork.TheVariants as work
-use Rattle.pm_props.specs.declared.standard.StandardClient.{StandardClient}
-use Rattle.pm_props.specs.declared.standard.StandardClient.TheVariants as client
+use Rattle.pm_standard.specs.declared.standard.StandardClient.{StandardClient}
+use Rattle.pm_standard.specs.declared.standard.StandardClient.TheVariants as client
 
 -- the standard client of each work
 abbrev pub graph_client : GraphWork → StandardClient

@@ -2,14 +2,15 @@
 
 ghost use Rattle.pm_client.specs.Sound.{IsSound};
 ghost use Rattle.pm_client.specs.declared.ClientFail.TheVariants.{Memory};
-ghost use Rattle.pm_props.specs.Kinds.{standard_kind};
-ghost use Rattle.pm_props.specs.declared.standard.StandardClient.TheVariants as client;
+ghost use Rattle.pm_standard.specs.Table.{standard_kind};
+ghost use Rattle.pm_standard.specs.declared.standard.StandardClient.TheVariants as client;
 ghost use Rattle.std.specs.Prelude.{IfErr, OnOk, [], ◌≡◌, map, ◌∷◌};
 
 use crate::counts::{degrees, edge_count};
 use pm_client::{ClientFail, Family, FamilyClient, edges_of, lattice_of, put_value, sets_of};
 use pm_object::{Draft, View};
-use pm_types::{Counts, ObjectType, PropId, StandardClient, Value};
+use pm_standard::StandardClient;
+use pm_types::{Counts, ObjectType, PropId, Value};
 use std::alloc::Global;
 
 /// The works of the clients that find graphs, and what these show.
@@ -61,7 +62,7 @@ impl Family for GraphFamily {
 
     ghost client_of = { graph_client };
 
-    ghost Stays = { λ _ _. Unit {0} };
+    ghost Stays = { λ _ _ _. Unit {0} };
 
     ghost Fails = { λ _ _ e. e ≡ Memory };
 

@@ -12,8 +12,8 @@ use Rattle.pm_object.proofs.KnownValues.{IsHeldRow, known_columns, known_rows, k
 use Rattle.pm_object.specs.Formed.{IsFormed}
 use Rattle.pm_object.specs.Known.{IsReadable, cols_at, is_true, rows_at, sets_at, value_of_sets, value_over}
 use Rattle.pm_object.specs.State.{State, is_polytope}
-use Rattle.pm_props.specs.declared.object_type.ObjectType.TheVariants.{Fan}
-use Rattle.pm_props.specs.declared.object_type.ObjectType.{ObjectType}
+use Rattle.pm_object_type.specs.declared.object_type.ObjectType.TheVariants.{Fan}
+use Rattle.pm_object_type.specs.declared.object_type.ObjectType.{ObjectType}
 use Rattle.pm_props.specs.declared.property.PropId.TheVariants.{AffineHull, Bounded, Centered, ConeAmbientDim, Facets, Feasible, LinealitySpace, MaximalCones, Vertices, VerticesInFacets}
 use Rattle.pm_props.specs.declared.property.PropId.{PropId}
 use Rattle.pm_types.specs.Forms.{FormsIn, HasPrimitiveRow, agrees_with, are_indices, is_column_count, is_formed, is_matrix_form, is_row, is_row_of_entries, is_sets_form}

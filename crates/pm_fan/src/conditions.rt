@@ -4,7 +4,7 @@ ghost use Rattle.pm_fan.specs.Conditions.{are_of_facets, are_of_vertices, face_r
 ghost use Rattle.pm_fan.specs.Fans.{face_fan_of, normal_fan_of};
 ghost use Rattle.pm_files.specs.Views.{file_of};
 ghost use Rattle.pm_object.specs.Known.{IsKnown, IsReadable, cols_at};
-ghost use Rattle.pm_props.specs.declared.object_type.ObjectType.TheVariants.{Polytope};
+ghost use Rattle.pm_object_type.specs.declared.object_type.ObjectType.TheVariants.{Polytope};
 ghost use Rattle.pm_props.specs.declared.property.PropId.TheVariants.{Facets, Vertices, VerticesInFacets};
 ghost use Rattle.std.specs.Prelude.{IfNone, IfSome, Some, [], true, ◌∷◌, ◌≡◌, ◌≤◌};
 

@@ -2,6 +2,7 @@
 
 ghost use Rattle.pm_algebra.specs.Rows.{HasCols};
 ghost use Rattle.pm_elim.specs.Evidence.{IfWide};
+ghost use Rattle.pm_elim.specs.declared.evidence.ElimList.TheVariants as list;
 ghost use Rattle.pm_fan.specs.Dimensions.{AreDimensions, ArePlaces, IsConeEvidence, NoConeEvidence, cone_rows};
 ghost use Rattle.std.specs.List.{All};
 ghost use Rattle.std.specs.Prelude.{IfErr, IfOk, OnOk, length, ◌<◌, ◌^◌, ◌≡◌};
@@ -45,6 +46,7 @@ pub fn cone_dims(
     ensures dims { IfOk result (λ d. AreDimensions rays.now lineality.now cones.now.rows d.items) }
     ensures never_wide { OnOk result (NoConeEvidence cols rays.now lineality.now cones.now.rows) }
     ensures wide { IfErr result (λ f. IfWide f (IsConeEvidence cols rays.now lineality.now cones.now.rows)) }
+    ensures list { IfErr result (λ f. IfWide f (λ e. e.list ≡ list.Rows)) }
 {
     let mut dims = Vec::new(alloc);
     for set in cones.rows() {

@@ -1,7 +1,7 @@
 use Rattle.pm_client.proofs.ViewLaws.{has_listed, not_fan, source_named}
 use Rattle.pm_clients_comb.proofs.Sized.{facet_sizes_sound}
 use Rattle.pm_clients_comb.proofs.client.facet_sizes.Goals as goal
-use Rattle.pm_props.specs.declared.object_type.ObjectType.TheVariants.{Fan}
+use Rattle.pm_object_type.specs.declared.object_type.ObjectType.TheVariants.{Fan}
 use Rattle.pm_props.specs.declared.property.PropId.TheVariants.{FacetSizes, VerticesInFacets}
 use Rattle.std.proofs.Common.{[], ap, refl, rules, sym, ◌∙◌, ◌∷◌, ◌≡◌}
 

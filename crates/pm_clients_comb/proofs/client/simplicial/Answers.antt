@@ -2,7 +2,7 @@ use Rattle.pm_client.proofs.Machine.{cast_back}
 use Rattle.pm_client.proofs.ViewLaws.{has_listed, not_fan, source_named}
 use Rattle.pm_clients_comb.proofs.Sized.{simplicial_sound}
 use Rattle.pm_clients_comb.proofs.client.simplicial.Goals as goal
-use Rattle.pm_props.specs.declared.object_type.ObjectType.TheVariants.{Fan}
+use Rattle.pm_object_type.specs.declared.object_type.ObjectType.TheVariants.{Fan}
 use Rattle.pm_props.specs.declared.property.PropId.TheVariants.{CombinatorialDim, FacetSizes, Simplicial}
 use Rattle.pm_props.specs.declared.property.PropId.{PropId}
 use Rattle.std.proofs.Common.{[], ap, refl, rules, subst, sym, ◌∙◌, ◌∷◌, ◌≡◌}

@@ -2,7 +2,7 @@ use Rattle.pm_client.proofs.Machine.{cast_back}
 use Rattle.pm_client.proofs.ViewLaws.{has_listed, not_fan, source_named}
 use Rattle.pm_clients_faces.proofs.Answered.{h_numbers_sound}
 use Rattle.pm_clients_faces.proofs.client.h_vector.Goals as goal
-use Rattle.pm_props.specs.declared.object_type.ObjectType.TheVariants.{Fan}
+use Rattle.pm_object_type.specs.declared.object_type.ObjectType.TheVariants.{Fan}
 use Rattle.pm_props.specs.declared.property.PropId.TheVariants.{CombinatorialDim, FVector, HVector}
 use Rattle.pm_props.specs.declared.property.PropId.{PropId}
 use Rattle.std.proofs.Common.{[], ap, refl, rules, sym, ◌∙◌, ◌∷◌, ◌≡◌}

@@ -3,7 +3,7 @@ use Rattle.pm_client.specs.Sound.{fail_of_lattice}
 use Rattle.pm_clients_faces.proofs.Answered.{faces_sound, fails_for_many, fails_rightly}
 use Rattle.pm_clients_faces.proofs.FaceForms.{sets_below}
 use Rattle.pm_clients_faces.proofs.client.hasse_diagram.Goals as goal
-use Rattle.pm_props.specs.declared.object_type.ObjectType.TheVariants.{Fan}
+use Rattle.pm_object_type.specs.declared.object_type.ObjectType.TheVariants.{Fan}
 use Rattle.pm_props.specs.declared.property.PropId.TheVariants.{HasseDiagram, VerticesInFacets}
 use Rattle.std.proofs.Common.{[], ap, refl, rules, sym, ◌∙◌, ◌∷◌, ◌≡◌}
 use Rattle.std.proofs.lemmas.Result.{err_from_is_err_and}

@@ -1,15 +1,16 @@
 use Rattle.pm_client.proofs.ViewLaws.{has_listed, target_named}
-use Rattle.pm_client.proofs.Failing.{takes_cones}
-use Rattle.pm_client.specs.Sound.{FailsRightly}
+use Rattle.pm_client.proofs.Failing.{eliminates_in, takes_cones}
 use Rattle.pm_clients_fans.proofs.Fans.{fan_view}
 use Rattle.pm_clients_fans.proofs.FoundFans.{dims_sound, fails_rightly, rows_cols}
+use Rattle.pm_client.specs.Sound.{EliminatesRows, FailsRightly}
+use Rattle.pm_elim.specs.declared.evidence.ElimList.TheVariants as list
 use Rattle.pm_clients_fans.proofs.client.fan_dims.Goals as goal
 use Rattle.pm_object.specs.Reading.{IsView, ViewSeen}
-use Rattle.pm_props.specs.Kinds.{standard_kind}
-use Rattle.pm_props.specs.declared.object_type.ObjectType.TheVariants.{Fan}
+use Rattle.pm_standard.specs.Table.{standard_kind}
+use Rattle.pm_object_type.specs.declared.object_type.ObjectType.TheVariants.{Fan}
 use Rattle.pm_props.specs.declared.property.PropId.TheVariants.{LinealitySpace, MaximalCones, MaximalConesDims, Vertices}
 use Rattle.pm_props.specs.declared.property.PropId.{PropId}
-use Rattle.pm_props.specs.declared.standard.StandardClient.TheVariants as client
+use Rattle.pm_standard.specs.declared.standard.StandardClient.TheVariants as client
 use Rattle.std.proofs.Common.{[], ap, refl, rules, subst, sym, ◌∙◌, ◌∷◌, ◌≡◌}
 use Rattle.std.proofs.lemmas.Result.{err_from_is_err_and}
 use Rattle.std.specs.Prelude.{List}
@@ -78,3 +79,14 @@ returns-clause-sound c =
     (record { cols = c.matrix_of-2.result.now.cols; rows = c.matrix_of-2.result.now.rows; reads = c.matrix_of-2.ensures.value; primitive = c.in_ok-lines.ensures.rows })
     c.in_ok-dims.dims.items c.in_ok-dims.ensures.form (rw (← c.deref.ensures.value, ← c.deref-2.ensures.value) c.in_ok-dims.ensures.dims)
     (record { targets = ap (λ k. k.targets) c.requires.kind; empty = c.requires.empty; put = rw c.from_vec.ensures at c.in_ok-put_value.ensures.ok })
+
+pub returns-in_err-dims-clause-fails : goal.returns-in_err-dims-clause-fails
+returns-in_err-dims-clause-fails c =
+    let v = c.args.view.now in
+    let w = err_from_is_err_and c.from_residual-in_err-dims.result c.from_residual-in_err-dims.ensures.1 in
+    rw w.1 (subst (λ e. FailsRightly v e × EliminatesRows e) (sym w.2) (
+      fails_rightly v c.in_ok-rays.rays.items c.in_ok-lines.lines.items c.sets_of-cones.result.now c.in_err-dims.field-0.0 (takes_cones v c.requires.kind)
+          (record { rays = record { cols = c.matrix_of.result.now.cols; rows = c.matrix_of.result.now.rows; reads = c.matrix_of.ensures.value; primitive = c.in_ok-rays.ensures.rows }; lines = record { cols = c.matrix_of-2.result.now.cols; rows = c.matrix_of-2.result.now.rows; reads = c.matrix_of-2.ensures.value; primitive = c.in_ok-lines.ensures.rows }; reads = c.sets_of-cones.ensures.value })
+          (rw (← c.deref.ensures.value, ← c.deref-2.ensures.value, ← c.cols.ensures.value) c.in_err-dims.ensures.wide),
+      eliminates_in (λ l. l ≡ list.Rows) c.in_err-dims.field-0.0 c.in_err-dims.ensures.list,
+    ))

@@ -2,7 +2,7 @@ use Rattle.pm_clients_geom.proofs.FoundDims.{rank_of_vertices}
 use Rattle.pm_client.proofs.Failing.{takes_row_list}
 use Rattle.pm_client.proofs.ViewLaws.{has_listed}
 use Rattle.pm_clients_geom.proofs.dims.cone_dim_v.Goals as goal
-use Rattle.pm_props.specs.declared.standard.StandardClient.TheVariants.{ConeDimV}
+use Rattle.pm_standard.specs.declared.standard.StandardClient.TheVariants.{ConeDimV}
 use Rattle.pm_props.specs.declared.property.PropId.TheVariants.{ConeDim, LinealitySpace, Vertices}
 use Rattle.std.proofs.Common.{[], ap, refl, ◌∙◌, ◌∷◌}
 

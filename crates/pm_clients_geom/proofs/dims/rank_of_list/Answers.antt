@@ -1,7 +1,8 @@
-use Rattle.std.proofs.Common.{subst, sym}
+use Rattle.std.proofs.Common.{subst, sym, ◌≡◌}
 use Rattle.std.proofs.lemmas.Result.{err_from_is_err_and}
-use Rattle.pm_client.proofs.Failing.{fails_by_list}
-use Rattle.pm_client.specs.Sound.{FailsRightly}
+use Rattle.pm_client.proofs.Failing.{eliminates_in, fails_by_list}
+use Rattle.pm_client.specs.Sound.{EliminatesRows, FailsRightly}
+use Rattle.pm_elim.specs.declared.evidence.ElimList.TheVariants as list
 use Rattle.pm_clients_geom.proofs.FoundDims.{rank_at_most}
 use Rattle.pm_clients_geom.proofs.dims.rank_of_list.Goals as goal
 
@@ -36,3 +37,14 @@ returns-in_err-rank-clause-failed c =
     let w = err_from_is_err_and c.from_residual-in_err-rank.result c.from_residual-in_err-rank.ensures.1 in
     rw w.1 (subst (FailsRightly c.args.view.now) (sym w.2)
     (fails_by_list c.args.view.now c.in_ok-rows.rows.items c.in_err-rank.field-0.0 c.requires.eliminates (record { first = c.args.first; second = c.args.second; parts = c.requires.parts; list = c.in_ok-rows.ensures.listed }) (rw (← c.deref.ensures.value, ← c.cols.ensures.value) c.in_err-rank.ensures.wide)))
+
+pub returns-clause-fails : goal.returns-clause-fails
+returns-clause-fails c = tt
+
+pub returns-in_err-rank-clause-fails : goal.returns-in_err-rank-clause-fails
+returns-in_err-rank-clause-fails c =
+    let w = err_from_is_err_and c.from_residual-in_err-rank.result c.from_residual-in_err-rank.ensures.1 in
+    rw w.1 (subst (λ e. FailsRightly c.args.view.now e × EliminatesRows e) (sym w.2) (
+      fails_by_list c.args.view.now c.in_ok-rows.rows.items c.in_err-rank.field-0.0 c.requires.eliminates (record { first = c.args.first; second = c.args.second; parts = c.requires.parts; list = c.in_ok-rows.ensures.listed }) (rw (← c.deref.ensures.value, ← c.cols.ensures.value) c.in_err-rank.ensures.wide),
+      eliminates_in (λ l. l ≡ list.Rows) c.in_err-rank.field-0.0 c.in_err-rank.ensures.list,
+    ))

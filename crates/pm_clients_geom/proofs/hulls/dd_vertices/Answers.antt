@@ -7,7 +7,7 @@ use Rattle.pm_clients_geom.proofs.hulls.dd_vertices.Goals as goal
 use Rattle.pm_hull.specs.Hulls.{half_spaces_of}
 use Rattle.pm_props.specs.Properties.{rays_tag}
 use Rattle.pm_props.specs.declared.kind.Kind.{Kind}
-use Rattle.pm_props.specs.declared.object_type.ObjectType.TheVariants.{Fan}
+use Rattle.pm_object_type.specs.declared.object_type.ObjectType.TheVariants.{Fan}
 use Rattle.pm_props.specs.declared.property.PropId.TheVariants.{Equations, Inequalities, LinealitySpace, Vertices}
 use Rattle.pm_props.specs.declared.property.PropId.{PropId}
 use Rattle.std.proofs.Common.{ap, refl, rules, subst, sym, true, ◌∙◌}

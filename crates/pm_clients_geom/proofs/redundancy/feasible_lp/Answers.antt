@@ -7,11 +7,11 @@ use Rattle.pm_clients_geom.proofs.RightRows.{point_fails, point_sound, program_a
 use Rattle.pm_clients_geom.proofs.redundancy.feasible_lp.Goals as goal
 use Rattle.pm_clients_geom.specs.Redundancy.{FailsForProgram}
 use Rattle.pm_object.specs.Reading.{IsView, ViewSeen}
-use Rattle.pm_props.specs.Kinds.{standard_kind}
-use Rattle.pm_props.specs.declared.object_type.ObjectType.TheVariants.{Polytope}
+use Rattle.pm_standard.specs.Table.{standard_kind}
+use Rattle.pm_object_type.specs.declared.object_type.ObjectType.TheVariants.{Polytope}
 use Rattle.pm_props.specs.declared.property.PropId.TheVariants.{Equations, Feasible, Inequalities}
 use Rattle.pm_props.specs.declared.property.PropId.{PropId}
-use Rattle.pm_props.specs.declared.standard.StandardClient.TheVariants as client
+use Rattle.pm_standard.specs.declared.standard.StandardClient.TheVariants as client
 use Rattle.std.proofs.Common.{ap, refl, rules, subst, sym, ◌∙◌}
 use Rattle.std.proofs.lemmas.Result.{err_from_is_err_and}
 use Rattle.std.specs.Prelude.{List, [], ◌∷◌, ◌≡◌}

@@ -1,14 +1,15 @@
 use Rattle.std.proofs.lemmas.Result.{err_from_is_err_and}
-use Rattle.pm_client.proofs.Failing.{fails_by_list, takes_row_list}
-use Rattle.pm_client.specs.Sound.{FailsRightly}
+use Rattle.pm_client.proofs.Failing.{eliminates_in, fails_by_list, takes_row_list}
+use Rattle.pm_client.specs.Sound.{EliminatesExtended, FailsRightly}
+use Rattle.pm_elim.specs.declared.evidence.ElimList.TheVariants as elimination_list
 use Rattle.pm_clients_geom.proofs.NullMatrices.{hull_sound}
 use Rattle.pm_client.proofs.ViewLaws.{has_listed, not_fan, target_named}
 use Rattle.pm_clients_geom.proofs.rows.hull_from_vertices.Goals as goal
-use Rattle.pm_props.specs.declared.standard.StandardClient.TheVariants.{HullFromVertices}
+use Rattle.pm_standard.specs.declared.standard.StandardClient.TheVariants.{HullFromVertices}
 use Rattle.pm_props.specs.declared.property.PropId.TheVariants.{AffineHull, LinealitySpace, Vertices}
 use Rattle.pm_props.specs.declared.property.PropId.{PropId}
 use Rattle.std.proofs.Common.{ap, refl, ◌∙◌, subst, sym}
-use Rattle.std.specs.Prelude.{List, [], ◌∷◌}
+use Rattle.std.specs.Prelude.{List, [], ◌∷◌, ◌≡◌, ◌⊎◌}
 
 abbrev sources : List PropId
 sources = Vertices ∷ LinealitySpace ∷ []
@@ -49,3 +50,11 @@ returns-in_err-null-clause-failed c =
     let w = err_from_is_err_and c.from_residual-in_err-null.result c.from_residual-in_err-null.ensures.1 in
     rw w.1 (subst (FailsRightly c.args.view.now) (sym w.2)
     (fails_by_list c.args.view.now c.in_ok-rows.rows.items c.in_err-null.field-0.0 (takes_row_list c.args.view.now HullFromVertices c.requires.kind refl) (record { first = LinealitySpace; second = Vertices; parts = refl; list = c.in_ok-rows.ensures.listed }) (rw (← c.deref.ensures.value, ← c.cols.ensures.value) c.in_err-null.ensures.wide)))
+
+pub returns-in_err-null-clause-fails : goal.returns-in_err-null-clause-fails
+returns-in_err-null-clause-fails c =
+    let w = err_from_is_err_and c.from_residual-in_err-null.result c.from_residual-in_err-null.ensures.1 in
+    rw w.1 (subst (λ e. FailsRightly c.args.view.now e × EliminatesExtended e) (sym w.2) (
+      fails_by_list c.args.view.now c.in_ok-rows.rows.items c.in_err-null.field-0.0 (takes_row_list c.args.view.now HullFromVertices c.requires.kind refl) (record { first = LinealitySpace; second = Vertices; parts = refl; list = c.in_ok-rows.ensures.listed }) (rw (← c.deref.ensures.value, ← c.cols.ensures.value) c.in_err-null.ensures.wide),
+      eliminates_in (λ l. (l ≡ elimination_list.Rows) ⊎ (l ≡ elimination_list.Extended)) c.in_err-null.field-0.0 c.in_err-null.ensures.list,
+    ))

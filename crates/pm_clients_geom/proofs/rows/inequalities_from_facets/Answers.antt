@@ -1,5 +1,5 @@
 use Rattle.pm_client.proofs.ViewLaws.{has_listed}
-use Rattle.pm_clients_geom.proofs.Halves.{inequalities_sound}
+use Rattle.pm_clients_geom.proofs.Halves.{inequalities_repeated, inequalities_sound}
 use Rattle.pm_clients_geom.proofs.rows.inequalities_from_facets.Goals as goal
 use Rattle.pm_props.specs.declared.property.PropId.TheVariants.{Facets, AffineHull, Inequalities, Equations}
 use Rattle.pm_props.specs.declared.property.PropId.{PropId}
@@ -38,4 +38,11 @@ returns-clause-sound c =
     inequalities_sound c.args.view.now c.matrix_of.result.now.cols c.matrix_of-2.result.now.cols c.matrix_of.result.now.rows c.matrix_of-2.result.now.rows
     (record { first_read = c.matrix_of.ensures.value; second_read = c.matrix_of-2.ensures.value; first_forms = c.matrix_of.ensures.forms; second_forms = c.matrix_of-2.ensures.forms }) c.reads_no_half.ensures
     c.in_ok-inequalities.inequalities c.in_ok-equations.equations c.args.draft.now c.put_value.new.draft c.put_value-2.new.draft c.requires.kind c.in_ok-inequalities.ensures.rows c.in_ok-equations.ensures.rows c.requires.empty
+    c.in_ok-put_value.ensures.ok c.in_ok-put_value-2.ensures.ok
+
+pub returns-clause-stays : goal.returns-clause-stays
+returns-clause-stays c =
+    inequalities_repeated c.args.view.now c.matrix_of.result.now.cols c.matrix_of-2.result.now.cols c.matrix_of.result.now.rows c.matrix_of-2.result.now.rows
+    (record { first_read = c.matrix_of.ensures.value; second_read = c.matrix_of-2.ensures.value; first_forms = c.matrix_of.ensures.forms; second_forms = c.matrix_of-2.ensures.forms }) c.reads_no_half.ensures
+    c.in_ok-inequalities.inequalities c.in_ok-equations.equations c.args.draft.now c.put_value.new.draft c.put_value-2.new.draft c.in_ok-inequalities.ensures.rows c.in_ok-equations.ensures.rows c.requires.empty
     c.in_ok-put_value.ensures.ok c.in_ok-put_value-2.ensures.ok

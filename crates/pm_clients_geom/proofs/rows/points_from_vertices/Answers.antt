@@ -1,5 +1,5 @@
 use Rattle.pm_client.proofs.ViewLaws.{has_listed}
-use Rattle.pm_clients_geom.proofs.Halves.{points_sound}
+use Rattle.pm_clients_geom.proofs.Halves.{points_repeated, points_sound}
 use Rattle.pm_clients_geom.proofs.rows.points_from_vertices.Goals as goal
 use Rattle.pm_props.specs.declared.property.PropId.TheVariants.{Vertices, LinealitySpace, Points, InputLineality}
 use Rattle.pm_props.specs.declared.property.PropId.{PropId}
@@ -38,4 +38,11 @@ returns-clause-sound c =
     points_sound c.args.view.now c.matrix_of.result.now.cols c.matrix_of-2.result.now.cols c.matrix_of.result.now.rows c.matrix_of-2.result.now.rows
     (record { first_read = c.matrix_of.ensures.value; second_read = c.matrix_of-2.ensures.value; first_forms = c.matrix_of.ensures.forms; second_forms = c.matrix_of-2.ensures.forms }) c.reads_no_half.ensures
     c.in_ok-points.points c.in_ok-lines.lines c.args.draft.now c.put_value.new.draft c.put_value-2.new.draft c.requires.kind c.in_ok-points.ensures.rows c.in_ok-lines.ensures.rows c.requires.empty
+    c.in_ok-put_value.ensures.ok c.in_ok-put_value-2.ensures.ok
+
+pub returns-clause-stays : goal.returns-clause-stays
+returns-clause-stays c =
+    points_repeated c.args.view.now c.matrix_of.result.now.cols c.matrix_of-2.result.now.cols c.matrix_of.result.now.rows c.matrix_of-2.result.now.rows
+    (record { first_read = c.matrix_of.ensures.value; second_read = c.matrix_of-2.ensures.value; first_forms = c.matrix_of.ensures.forms; second_forms = c.matrix_of-2.ensures.forms }) c.reads_no_half.ensures
+    c.in_ok-points.points c.in_ok-lines.lines c.args.draft.now c.put_value.new.draft c.put_value-2.new.draft c.in_ok-points.ensures.rows c.in_ok-lines.ensures.rows c.requires.empty
     c.in_ok-put_value.ensures.ok c.in_ok-put_value-2.ensures.ok

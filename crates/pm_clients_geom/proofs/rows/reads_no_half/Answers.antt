@@ -1,6 +1,6 @@
 use Rattle.pm_client.proofs.ViewLaws.{not_fan, target_named}
 use Rattle.pm_clients_geom.proofs.rows.reads_no_half.Goals as goal
-use Rattle.pm_props.specs.declared.object_type.ObjectType.TheVariants.{Fan}
+use Rattle.pm_object_type.specs.declared.object_type.ObjectType.TheVariants.{Fan}
 use Rattle.std.proofs.Common.{rules, sym, ◌≡◌, ◌∙◌}
 
 pub prove-unreachable-requires : goal.prove-unreachable-requires

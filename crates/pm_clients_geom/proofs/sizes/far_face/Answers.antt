@@ -3,11 +3,11 @@ use Rattle.pm_clients_geom.proofs.FoundFirsts.{far_face_follows}
 use Rattle.pm_clients_geom.proofs.Polytopes.{polytope_view}
 use Rattle.pm_clients_geom.proofs.sizes.far_face.Goals as goal
 use Rattle.pm_object.specs.Reading.{IsView, ViewSeen}
-use Rattle.pm_props.specs.Kinds.{standard_kind}
+use Rattle.pm_standard.specs.Table.{standard_kind}
 use Rattle.pm_props.specs.Properties.{is_of_matrices, value_kind}
-use Rattle.pm_props.specs.declared.object_type.ObjectType.TheVariants.{Polytope}
+use Rattle.pm_object_type.specs.declared.object_type.ObjectType.TheVariants.{Polytope}
 use Rattle.pm_props.specs.declared.property.PropId.TheVariants.{FarFace, Vertices}
-use Rattle.pm_props.specs.declared.standard.StandardClient.TheVariants as client
+use Rattle.pm_standard.specs.declared.standard.StandardClient.TheVariants as client
 use Rattle.pm_types.proofs.PrimitiveRows.{few_rows}
 use Rattle.pm_types.specs.Forms.{is_matrix_form}
 use Rattle.std.proofs.Common.{[], ap, refl, rules, ◌∙◌, ◌∷◌, ◌≡◌}

@@ -3,11 +3,11 @@ use Rattle.pm_clients_geom.proofs.FoundFirsts.{bounded_follows}
 use Rattle.pm_clients_geom.proofs.Polytopes.{polytope_view}
 use Rattle.pm_clients_geom.proofs.truths.bounded.Goals as goal
 use Rattle.pm_object.specs.Reading.{IsView, ViewSeen}
-use Rattle.pm_props.specs.Kinds.{standard_kind}
-use Rattle.pm_props.specs.declared.object_type.ObjectType.TheVariants.{Polytope}
+use Rattle.pm_standard.specs.Table.{standard_kind}
+use Rattle.pm_object_type.specs.declared.object_type.ObjectType.TheVariants.{Polytope}
 use Rattle.pm_props.specs.declared.property.PropId.TheVariants.{Bounded, LinealitySpace, Vertices}
 use Rattle.pm_props.specs.declared.property.PropId.{PropId}
-use Rattle.pm_props.specs.declared.standard.StandardClient.TheVariants as client
+use Rattle.pm_standard.specs.declared.standard.StandardClient.TheVariants as client
 use Rattle.std.proofs.Common.{[], ap, refl, rules, ◌∙◌, ◌∷◌, ◌≡◌}
 use Rattle.std.specs.Prelude.{List}
 

@@ -2,7 +2,7 @@ use Rattle.pm_clients_graph.proofs.Answered.{diameter_sound}
 use Rattle.pm_clients_graph.proofs.OneSource.{has_alone, no_fan_reads}
 use Rattle.pm_clients_graph.proofs.client.diameter.Goals as goal
 use Rattle.pm_props.specs.declared.property.PropId.TheVariants.{Diameter, Graph}
-use Rattle.pm_props.specs.declared.object_type.ObjectType.TheVariants.{Fan}
+use Rattle.pm_object_type.specs.declared.object_type.ObjectType.TheVariants.{Fan}
 use Rattle.pm_clients_graph.proofs.EdgeForms.{index_sets, sets_below, sets_of_edges}
 use Rattle.std.proofs.Common.{SFits, ap, arith, length, refl, rules, sym, w64, ◌∙◌, ◌≡◌}
 

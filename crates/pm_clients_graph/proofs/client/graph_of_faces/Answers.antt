@@ -1,7 +1,7 @@
 use Rattle.pm_clients_graph.proofs.OneSource.{has_alone, no_fan_reads}
 use Rattle.pm_clients_graph.proofs.client.graph_of_faces.Goals as goal
 use Rattle.pm_props.specs.declared.property.PropId.TheVariants.{Graph, HasseDiagram}
-use Rattle.pm_props.specs.declared.object_type.ObjectType.TheVariants.{Fan}
+use Rattle.pm_object_type.specs.declared.object_type.ObjectType.TheVariants.{Fan}
 use Rattle.pm_clients_graph.proofs.Answered.{graph_of_faces_sound}
 use Rattle.pm_clients_graph.proofs.EdgeForms.{few_in_whole}
 use Rattle.std.proofs.Common.{ap, arith, refl, rules, sym, ◌∙◌, ◌≡◌}

@@ -1,7 +1,7 @@
 use Rattle.pm_clients_graph.proofs.OneSource.{has_alone, no_fan_reads}
 use Rattle.pm_clients_graph.proofs.client.graph_of_sets.Goals as goal
 use Rattle.pm_props.specs.declared.property.PropId.TheVariants.{Graph, VerticesInFacets}
-use Rattle.pm_props.specs.declared.object_type.ObjectType.TheVariants.{Fan}
+use Rattle.pm_object_type.specs.declared.object_type.ObjectType.TheVariants.{Fan}
 use Rattle.pm_clients_graph.proofs.Answered.{graph_of_sets_sound}
 use Rattle.pm_clients_graph.proofs.EdgeForms.{sets_below}
 use Rattle.std.proofs.Common.{ap, ◌∙◌, refl, rules, sym, ◌≡◌}
