@@ -10,7 +10,7 @@ use Rattle.pm_object.specs.declared.held.Origin.TheVariants as origin
 use Rattle.pm_props.proofs.Places.{same_property_is, same_property_refl}
 use Rattle.pm_props.specs.Places.{place_of, same_place, same_property}
 use Rattle.pm_props.specs.Properties.{has, is_ambient}
-use Rattle.pm_props.specs.declared.object_type.ObjectType.{ObjectType}
+use Rattle.pm_object_type.specs.declared.object_type.ObjectType.{ObjectType}
 use Rattle.pm_props.specs.declared.property.PropId.{PropId}
 use Rattle.pm_props.specs.declared.property.PropId.TheVariants.{ConeAmbientDim}
 use Rattle.pm_types.specs.Forms.{FormsIn, agrees_with, is_formed, stated_cols, states}

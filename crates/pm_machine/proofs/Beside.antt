@@ -2,7 +2,7 @@
 use Rattle.pm_client.specs.Starts.{Clients}
 use Rattle.pm_machine.proofs.BesideBuilding.{build_beside, make_beside, parts_beside, product_beside}
 use Rattle.pm_machine.proofs.BesideObjects.{becomes_beside, beside, gains_beside, loses_beside, stays_beside, unloads_beside}
-use Rattle.pm_machine.specs.Building.{face_fan_building, normal_fan_building, polar_building, product_wanted, pyramid_building, wanted_of}
+use Rattle.pm_machine.specs.Building.{ArePolytopes, IsAPolytope, MayHaveBegun, face_fan_building, normal_fan_building, polar_building, product_wanted, pyramid_building, wanted_of}
 use Rattle.pm_machine.specs.Parts.{StepInPart}
 use Rattle.pm_machine.specs.Machines.{IsFree, Machine, Stays, Store}
 use Rattle.pm_machine.specs.Steps.{CopyStep, DisableStep, DropStep, EnsureStep, ExplainStep, FileRead, GiveStep, HasBytes, HasNone, HistoryStep, IsLookedAt, LoadStep, Looks, LookupStep, NewObjectStep, NewOf, NewProgramStep, NewStep, OriginStep, RulesStep, Step, TakeStep, UnloadStep}
@@ -141,13 +141,17 @@ step_beside k book old new (build_normal_fan name to) reply e h = build_beside k
 step_beside k book old new (build_face_fan name to) reply e h = build_beside k book face_fan_building old name to reply new h
 step_beside k book old new (build_product first second to) reply e h = product_beside k book old first second to reply new h
 
+begun_beside : (k : Store) (AreOfType : Type 0) (to : List ℕ) (old new : Machine) → MayHaveBegun AreOfType to old new → MayHaveBegun AreOfType to (beside k old) (beside k new)
+begun_beside k AreOfType to old new (inl s) = inl (stays_beside k old new s)
+begun_beside k AreOfType to old new (inr h) = inr h
+
 part_beside : (k : Store) (book : List Rule) (old new : Machine) (command : Spoken) → is_on_files command ≡ false → StepInPart book old command new → StepInPart book (beside k old) command (beside k new)
 part_beside k book old new (give_value ref text) e (inl s) = inl (stays_beside k old new s)
 part_beside k book old new (give_value ref text) e (inr g) = inr (record { found = g.found; named = g.named; property = g.property; is_property = g.is_property; now = g.now; ensured = g.ensured; becomes = becomes_beside k _ _ old new g.becomes })
 part_beside k book old new (ensure_values ref words) e (inl s) = inl (stays_beside k old new s)
 part_beside k book old new (ensure_values ref words) e (inr g) = inr (record { found = g.found; named = g.named; asked = g.asked; is_asked = g.is_asked; now = g.now; ensured = g.ensured; becomes = becomes_beside k _ _ old new g.becomes })
 part_beside k book old new (explain_values ref words) e (inl s) = inl (stays_beside k old new s)
-part_beside k book old new (explain_values ref words) e (inr g) = inr (record { found = g.found; named = g.named; becomes = becomes_beside k _ _ old new g.becomes })
+part_beside k book old new (explain_values ref words) e (inr g) = inr (record { found = g.found; named = g.named; asked = g.asked; is_asked = g.is_asked; becomes = becomes_beside k _ _ old new g.becomes })
 part_beside k book old new (load_object name file) e h = absurd (true≢false e)
 part_beside k book old new (save_object name file) e h = absurd (true≢false e)
 part_beside k book old new blank e s = stays_beside k old new s
@@ -162,11 +166,11 @@ part_beside k book old new (copy_object name to) e s = stays_beside k old new s
 part_beside k book old new (drop_object name) e s = stays_beside k old new s
 part_beside k book old new (tell_origin ref text) e s = stays_beside k old new s
 part_beside k book old new (make_object to shape) e s = stays_beside k old new s
-part_beside k book old new (build_polar name to) e h = parts_beside k book (wanted_of name polar_building.reads) old new h
-part_beside k book old new (build_pyramid name to) e h = parts_beside k book (wanted_of name pyramid_building.reads) old new h
-part_beside k book old new (build_normal_fan name to) e h = parts_beside k book (wanted_of name normal_fan_building.reads) old new h
-part_beside k book old new (build_face_fan name to) e h = parts_beside k book (wanted_of name face_fan_building.reads) old new h
-part_beside k book old new (build_product first second to) e h = parts_beside k book (product_wanted first second) old new h
+part_beside k book old new (build_polar name to) e h = (begun_beside k (IsAPolytope old name) to old new h.0, parts_beside k book (wanted_of name polar_building.reads) old new h.1)
+part_beside k book old new (build_pyramid name to) e h = (begun_beside k (IsAPolytope old name) to old new h.0, parts_beside k book (wanted_of name pyramid_building.reads) old new h.1)
+part_beside k book old new (build_normal_fan name to) e h = (begun_beside k (IsAPolytope old name) to old new h.0, parts_beside k book (wanted_of name normal_fan_building.reads) old new h.1)
+part_beside k book old new (build_face_fan name to) e h = (begun_beside k (IsAPolytope old name) to old new h.0, parts_beside k book (wanted_of name face_fan_building.reads) old new h.1)
+part_beside k book old new (build_product first second to) e h = (begun_beside k (ArePolytopes old first second) to old new h.0, parts_beside k book (product_wanted first second) old new h.1)
 
 -- the same, of what a call answers
 pub answered_beside : {E F : Type 0} (view : F → ReplySeen) (k : Store) (book : List Rule) (old new : Machine) (command : Spoken) (r : Result F E) → is_on_files command ≡ false

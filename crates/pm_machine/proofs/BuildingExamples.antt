@@ -3,16 +3,16 @@ use Rattle.pm_build.specs.Conditions.{polar_refusal, product_refusal}
 use Rattle.pm_build.specs.Objects.{polar_of, product_of}
 use Rattle.pm_machine.proofs.Examples.{of_object}
 use Rattle.pm_machine.proofs.Kept.{some_not_none}
-use Rattle.pm_machine.specs.Building.{BuildStep, EndsAt, EnsuresAll, EnsuresInPart, IsAPolytope, IsNoPolytope, ProductStep, Wanted, object_of, polar_building}
+use Rattle.pm_machine.specs.Building.{BuildStep, EndsAt, EnsuresAll, EnsuresInPart, IsAPolytope, IsNoPolytope, MayHaveBegun, ProductStep, Wanted, object_of, polar_building}
 use Rattle.pm_machine.specs.BuildingExamples.{ObjectsAreBuilt, ShapesAreMade, WantedIsEnsured}
 use Rattle.pm_machine.specs.Machines.{Machine, Stays}
 use Rattle.pm_machine.specs.declared.round.Ending.TheVariants as ending
 use Rattle.pm_object.specs.State.{RoundSeen, State, empty_object, is_polytope}
-use Rattle.pm_props.specs.declared.object_type.ObjectType.TheVariants.{Cone, Polytope}
+use Rattle.pm_object_type.specs.declared.object_type.ObjectType.TheVariants.{Cone, Polytope}
 use Rattle.pm_rules.specs.declared.rule.Rule.{Rule}
 use Rattle.pm_script.specs.Replies.{Rounds, done}
 use Rattle.std.proofs.Common.{ap, arith, inl, inr, refl, sym, true≢false, ◌∙◌}
-use Rattle.std.specs.Prelude.{List, None, Some, [], ℕ, ◌∷◌, ◌≡◌}
+use Rattle.std.specs.Prelude.{List, None, Some, [], ℕ, ◌∷◌, ◌≡◌, ◌≢◌}
 
 pub shapes_are_made : ShapesAreMade
 shapes_are_made = record {
@@ -48,6 +48,18 @@ no_end book old new w rounds h = elim h [ inl e ↦ e.0 refl | inr m ↦ m.4 ]
 nothing_of_it : (book : List Rule) (old new : Machine) (w : Wanted) → old.object w.name ≡ None → EnsuresInPart book (w ∷ []) old new → Stays old new
 nothing_of_it book old new w none h = elim h [ inl s ↦ s | inr m ↦ elim m [ inl p ↦ absurd (some_not_none (sym p.named ∙ none)) | inr q ↦ absurd (some_not_none (sym q.2.named ∙ none)) ] ]
 
+-- the object of the name is a cone, so it is no polytope
+cone_is_none : (old : Machine) (name : List ℕ) → old.object name ≡ Some (empty_object Cone) → IsAPolytope old name → ⊥
+cone_is_none old name is (o, at, not_so) = not_so (ap (λ (p : State). is_polytope p.of) (of_object old name (empty_object Cone) o is at))
+
+none_taken : (old new : Machine) (name to : List ℕ) → old.object to ≢ None → MayHaveBegun (IsAPolytope old name) to old new → Stays old new
+none_taken old new name to taken (inl s) = s
+none_taken old new name to taken (inr h) = absurd (taken h.0.0)
+
+none_begun : (old new : Machine) (name to : List ℕ) → old.object name ≡ Some (empty_object Cone) → MayHaveBegun (IsAPolytope old name) to old new → Stays old new
+none_begun old new name to is (inl s) = s
+none_begun old new name to is (inr h) = absurd (cone_is_none old name is h.1)
+
 pub wanted_is_ensured : WantedIsEnsured
 wanted_is_ensured = record {
   in_order = refl;
@@ -60,12 +72,10 @@ wanted_is_ensured = record {
   nothing_ends = λ book old new e rounds h. h;
   found_is_no_end = no_end;
   not_begun = λ book old w ws s. inl s;
+  none_for_a_taken_name = none_taken;
+  none_for_a_cone = none_begun;
   in_part_of_no_object = nothing_of_it;
 }
-
--- the object of the name is a cone, so it is no polytope
-cone_is_none : (old : Machine) (name : List ℕ) → old.object name ≡ Some (empty_object Cone) → IsAPolytope old name → ⊥
-cone_is_none old name is (o, at, not_so) = not_so (ap (λ (p : State). is_polytope p.of) (of_object old name (empty_object Cone) o is at))
 
 polytope_is_one : (old : Machine) (name : List ℕ) → old.object name ≡ Some (empty_object Polytope) → IsNoPolytope old name → ⊥
 polytope_is_one old name is (o, at, so) = true≢false (sym (ap (λ (p : State). is_polytope p.of) (of_object old name (empty_object Polytope) o is at)) ∙ so)

@@ -8,7 +8,7 @@ use Rattle.pm_machine.specs.Steps.{HasBytes, HasNone, LoadStep, SaveStep, bytes_
 use Rattle.pm_object.specs.State.{State, empty_object, is_polytope, place_named, program_refusal}
 use Rattle.pm_object.specs.declared.held.ProgramFail.{ProgramFail}
 use Rattle.pm_object.specs.declared.held.ProgramFail.TheVariants as no_program
-use Rattle.pm_props.specs.declared.object_type.ObjectType.TheVariants.{Cone}
+use Rattle.pm_object_type.specs.declared.object_type.ObjectType.TheVariants.{Cone}
 use Rattle.std.specs.Option.{is_some, option_and_then}
 use Rattle.pm_rules.specs.declared.rule.Rule.{Rule}
 use Rattle.pm_script.specs.Replies.{Rounds, done, loaded, nothing, refused}
@@ -187,6 +187,6 @@ files_are_kept = record {
   row = λ name. refl;
   no_row = λ name e. true≢false (sym (ap is_of_row e));
   as_before = λ book old new name file h. inl h;
-  objects_stay_so = λ book old new name file q h. elim h [ inl s ↦ s.objects q | inr w ↦ w.2.objects q ];
+  objects_stay_so = λ book old new name file q h. elim h [ inl s ↦ s.objects q | inr w ↦ w.3.objects q ];
   of_no_object = λ book old new name file none h. elim h [ inl s ↦ s | inr w ↦ absurd (some_not_none (sym w.1 ∙ none)) ];
 }

@@ -286,8 +286,8 @@ part_honest : (book : List Rule) (asked : PropSet) (old new : Machine) (ref : Re
     → Becomes ref.name now old new → AllKept old → AllHonest new
 part_honest book asked old new ref x now named part becomes all = becomes_part_honest book x.sub asked old new ref.name x.object now (kept_at old ref x named all) part becomes all
 
-settled_honest : (old new : Machine) (ref : RefSeen) → IsSettled old ref new → AllKept old → AllHonest new
-settled_honest old new ref s all =
+settled_honest : (old new : Machine) (ref : RefSeen) (words : List (List ℕ)) → IsSettled old ref words new → AllKept old → AllHonest new
+settled_honest old new ref words s all =
     all_honest new (becomes_kept ref.name _ old new s.becomes (settled_is_kept s.found.object (kept_at old ref s.found s.named all)) all)
 
 pub steps_in_part_keep : (book : List Rule) (old new : Machine) (command : Spoken) → StepInPart book old command new → AllKept old → AllHonest new
@@ -296,7 +296,7 @@ steps_in_part_keep book old new (give_value ref text) (inr g) all = part_honest 
 steps_in_part_keep book old new (ensure_values ref words) (inl s) all = stays_honest old new s all
 steps_in_part_keep book old new (ensure_values ref words) (inr g) all = part_honest book g.asked old new ref g.found g.now g.named g.ensured g.becomes all
 steps_in_part_keep book old new (explain_values ref words) (inl s) all = stays_honest old new s all
-steps_in_part_keep book old new (explain_values ref words) (inr s) all = settled_honest old new ref s all
+steps_in_part_keep book old new (explain_values ref words) (inr s) all = settled_honest old new ref words s all
 steps_in_part_keep book old new (tell_history name) s all = stays_honest old new s all
 steps_in_part_keep book old new blank s all = stays_honest old new s all
 steps_in_part_keep book old new (new_object ref text) s all = stays_honest old new s all
@@ -310,10 +310,10 @@ steps_in_part_keep book old new (drop_object name) s all = stays_honest old new 
 steps_in_part_keep book old new (tell_origin ref text) s all = stays_honest old new s all
 steps_in_part_keep book old new (load_object name file) l all = all_honest new (looks_kept old new l all)
 steps_in_part_keep book old new (save_object name file) (inl s) all = stays_honest old new s all
-steps_in_part_keep book old new (save_object name file) (inr (o, at, p)) all = all_honest new (puts_kept _ old new p all)
+steps_in_part_keep book old new (save_object name file) (inr (o, at, short, p)) all = all_honest new (puts_kept _ old new p all)
 steps_in_part_keep book old new (make_object to shape) s all = stays_honest old new s all
-steps_in_part_keep book old new (build_polar name to) h all = parts_honest book (wanted_of name polar_building.reads) old new h all
-steps_in_part_keep book old new (build_pyramid name to) h all = parts_honest book (wanted_of name pyramid_building.reads) old new h all
-steps_in_part_keep book old new (build_normal_fan name to) h all = parts_honest book (wanted_of name normal_fan_building.reads) old new h all
-steps_in_part_keep book old new (build_face_fan name to) h all = parts_honest book (wanted_of name face_fan_building.reads) old new h all
-steps_in_part_keep book old new (build_product first second to) h all = parts_honest book (product_wanted first second) old new h all
+steps_in_part_keep book old new (build_polar name to) h all = parts_honest book (wanted_of name polar_building.reads) old new h.1 all
+steps_in_part_keep book old new (build_pyramid name to) h all = parts_honest book (wanted_of name pyramid_building.reads) old new h.1 all
+steps_in_part_keep book old new (build_normal_fan name to) h all = parts_honest book (wanted_of name normal_fan_building.reads) old new h.1 all
+steps_in_part_keep book old new (build_face_fan name to) h all = parts_honest book (wanted_of name face_fan_building.reads) old new h.1 all
+steps_in_part_keep book old new (build_product first second to) h all = parts_honest book (product_wanted first second) old new h.1 all

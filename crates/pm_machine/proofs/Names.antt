@@ -1,6 +1,6 @@
 -- Objects by name, and the steps that change one.
 use Rattle.pm_client.specs.Starts.{Clients}
-use Rattle.pm_props.specs.declared.object_type.ObjectType.{ObjectType}
+use Rattle.pm_object_type.specs.declared.object_type.ObjectType.{ObjectType}
 use Rattle.pm_machine.proofs.Ensuring.{stays_part}
 use Rattle.pm_machine.proofs.Kept.{steps_in_part_keep, steps_keep}
 use Rattle.pm_machine.proofs.KeptObjects.{all_honest}
@@ -438,11 +438,11 @@ module _ {ns ms : List (List ℕ)} {old new : List ℕ → Option State} {name :
         by (refused LineTooLong more) e = absurd e
         by (refused UnknownRule more) e = absurd e
 
-    pub explained_in_part : {T E : Type 0} (r : Result T E) (book : List Rule) (clients : Clients) → OnErr r ((o' ≡ o) ⊎ (o' ≡ settled_object o))
+    pub explained_in_part : {T E : Type 0} (r : Result T E) (book : List Rule) (clients : Clients) (asked : PropSet) → asked_in o.of sub words ≡ Some asked → OnErr r ((o' ≡ o) ⊎ (o' ≡ settled_object o))
         → OnErr r (StepInPart book (machine_with ns old clients) (explain_values (ref_with name part) words) (machine_with ms new clients))
-    explained_in_part (Ok x) book clients e = tt
-    explained_in_part (Err x) book clients (inl same) = inl (stays_with clients same)
-    explained_in_part (Err x) book clients (inr same) = inr (record { found = named_of o sub; named = asked_at clients; becomes = settled_becomes clients same })
+    explained_in_part (Ok x) book clients asked is e = tt
+    explained_in_part (Err x) book clients asked is (inl same) = inl (stays_with clients same)
+    explained_in_part (Err x) book clients asked is (inr same) = inr (record { found = named_of o sub; named = asked_at clients; asked = asked; is_asked = is; becomes = settled_becomes clients same })
 
 -- ---- a label that is disabled
 module _ {ns ms : List (List ℕ)} {old new : List ℕ → Option State} {name : List ℕ} {o o' : State} (w : IsWritten ns ms old new name o o') where
@@ -510,11 +510,16 @@ stays_in_part book old new (tell_origin ref text) s = s
 stays_in_part book old new (load_object name file) s = looks_of_stays old new s
 stays_in_part book old new (save_object name file) s = inl s
 stays_in_part book old new (make_object to shape) s = s
-stays_in_part book old new (build_polar name to) s = stays_part book (wanted_of name polar_building.reads) old new s
-stays_in_part book old new (build_pyramid name to) s = stays_part book (wanted_of name pyramid_building.reads) old new s
-stays_in_part book old new (build_normal_fan name to) s = stays_part book (wanted_of name normal_fan_building.reads) old new s
-stays_in_part book old new (build_face_fan name to) s = stays_part book (wanted_of name face_fan_building.reads) old new s
-stays_in_part book old new (build_product first second to) s = stays_part book (product_wanted first second) old new s
+stays_in_part book old new (build_polar name to) s = (inl s, stays_part book (wanted_of name polar_building.reads) old new s)
+stays_in_part book old new (build_pyramid name to) s = (inl s, stays_part book (wanted_of name pyramid_building.reads) old new s)
+stays_in_part book old new (build_normal_fan name to) s = (inl s, stays_part book (wanted_of name normal_fan_building.reads) old new s)
+stays_in_part book old new (build_face_fan name to) s = (inl s, stays_part book (wanted_of name face_fan_building.reads) old new s)
+stays_in_part book old new (build_product first second to) s = (inl s, stays_part book (product_wanted first second) old new s)
+
+-- a step in part is one of the command that is said
+pub part_as : {T E : Type 0} (r : Result T E) (book : List Rule) (said command : Spoken) (old new : Machine) → said ≡ command → OnErr r (StepInPart book old command new) → OnErr r (StepInPart book old said new)
+part_as (Ok x) book said command old new is h = tt
+part_as (Err x) book said command old new is h = subst (λ z. StepInPart book old z new) (sym is) h
 
 pub kept_if_ok : {E F : Type 0} (view : F → ReplySeen) (book : List Rule) (old new : Machine) (command : Spoken) (r : Result F E)
     → IfOk r (λ x. Step book old command (view x) new) → OnOk r (AllKept old → AllKept new)

@@ -203,3 +203,11 @@ abbrev pub EnsuresInPart : List Rule → List Wanted → Machine → Machine →
 EnsuresInPart book [] old new = Stays old new
 EnsuresInPart book (w ∷ ws) old new = Stays old new ⊎ (EnsuresOneInPart book w old new
     ⊎ ((mid : Machine) × (rounds : List RoundSeen) × EnsuresOne book w ending.Found rounds old mid × EnsuresInPart book ws mid new))
+
+-- nothing changed, or the new name was free and the objects are of the type that the command takes: a command that would be refused for a name or a type begins no round
+abbrev pub MayHaveBegun : Type 0 → List ℕ → Machine → Machine → Type 0
+MayHaveBegun AreOfType to old new = Stays old new ⊎ (IsFree old to × AreOfType)
+
+-- a building command in part: some first of what it reads is ensured, where it may begin at all
+abbrev pub BuiltInPart : List Rule → List Wanted → Type 0 → List ℕ → Machine → Machine → Type 0
+BuiltInPart book ws AreOfType to old new = MayHaveBegun AreOfType to old new × EnsuresInPart book ws old new

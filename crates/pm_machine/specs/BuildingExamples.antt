@@ -5,14 +5,14 @@ use Rattle.pm_build.specs.Objects.{cross_of, cube_of, cyclic_of, polar_of, produ
 use Rattle.pm_command.specs.Commands.{ShapeSeen, cross_shape, cube_shape, cyclic_shape, simplex_shape}
 use Rattle.pm_fan.specs.Conditions.{face_refusal, normal_refusal}
 use Rattle.pm_fan.specs.Fans.{face_fan_of, fan_with, normal_fan_of}
-use Rattle.pm_machine.specs.Building.{BuildStep, Building, EndsAt, EnsuresAll, EnsuresInPart, MakeStep, ProductStep, Wanted, face_fan_building, normal_fan_building, object_of, polar_building, product_wanted, pyramid_building, rounds_told, shape_condition, shape_file, told_rounds, wanted_of}
+use Rattle.pm_machine.specs.Building.{BuildStep, Building, EndsAt, EnsuresAll, EnsuresInPart, IsAPolytope, MakeStep, MayHaveBegun, ProductStep, Wanted, face_fan_building, normal_fan_building, object_of, polar_building, product_wanted, pyramid_building, rounds_told, shape_condition, shape_file, told_rounds, wanted_of}
 use Rattle.pm_machine.specs.Machines.{IsFree, Machine, Stays}
 use Rattle.pm_machine.specs.declared.round.Ending.{Ending}
 use Rattle.pm_machine.specs.declared.round.Ending.TheVariants as ending
 use Rattle.pm_object.specs.State.{RoundSeen, State, empty_object}
 use Rattle.pm_object.specs.declared.held.Condition.TheVariants as condition
 use Rattle.pm_object.specs.declared.held.Origin.TheVariants.{Given}
-use Rattle.pm_props.specs.declared.object_type.ObjectType.TheVariants.{Cone, Fan, Polytope}
+use Rattle.pm_object_type.specs.declared.object_type.ObjectType.TheVariants.{Cone, Fan, Polytope}
 use Rattle.pm_props.specs.declared.property.PropId.{PropId}
 use Rattle.pm_props.specs.declared.property.PropId.TheVariants.{AffineHull, Bounded, Centered, ConeAmbientDim, Facets, FullDim, LinealitySpace, Vertices}
 use Rattle.pm_rules.specs.declared.rule.Rule.{Rule}
@@ -72,6 +72,9 @@ pub record WantedIsEnsured : Type 0 where
   pub found_is_no_end : (book : List Rule) (old new : Machine) (w : Wanted) (rounds : List RoundSeen) → EndsAt book (w ∷ []) ending.Found rounds old new → ⊥
   -- in part: nothing at all, and nothing of no object
   pub not_begun : (book : List Rule) (old : Machine) (w : Wanted) (ws : List Wanted) → Stays old old → EnsuresInPart book (w ∷ ws) old old
+  -- of a name that is taken, and for an object of another type, nothing begins
+  pub none_for_a_taken_name : (old new : Machine) (name to : List ℕ) → old.object to ≢ None → MayHaveBegun (IsAPolytope old name) to old new → Stays old new
+  pub none_for_a_cone : (old new : Machine) (name to : List ℕ) → old.object name ≡ Some (empty_object Cone) → MayHaveBegun (IsAPolytope old name) to old new → Stays old new
   pub in_part_of_no_object : (book : List Rule) (old new : Machine) (w : Wanted) → old.object w.name ≡ None → EnsuresInPart book (w ∷ []) old new → Stays old new
 
 -- objects that are built of one, and of two

@@ -17,7 +17,7 @@ use Rattle.pm_object.specs.State.{HeldValue, RoundSeen, State, file_value, has_r
 use Rattle.pm_object.specs.declared.held.BuildFail.{BuildFail}
 use Rattle.pm_object.specs.declared.held.BuildFail.TheVariants as fail
 use Rattle.pm_object.specs.declared.held.Origin.TheVariants as origin
-use Rattle.pm_props.specs.declared.object_type.ObjectType.{ObjectType}
+use Rattle.pm_object_type.specs.declared.object_type.ObjectType.{ObjectType}
 use Rattle.pm_props.specs.declared.property.PropId.{PropId}
 use Rattle.pm_props.specs.declared.property.PropId.TheVariants.{ConeAmbientDim}
 use Rattle.pm_rules.specs.declared.rule.Rule.{Rule}

@@ -1,7 +1,7 @@
 -- Chains on an object. Who asks names a linear program of it, or none; what is read and barred then is what stands at that place.
 use Rattle.std.specs.Prelude.{◌≡◌, ◌≤◌, ◌||◌, ◌&&◌, Bool, IsTrue, false, true, not, ℕ, Option, None, Some, List, filter, nat_eq, if◌then◌else◌}
 use Rattle.std.specs.List.{list_any}
-use Rattle.pm_props.specs.declared.object_type.ObjectType.{ObjectType}
+use Rattle.pm_object_type.specs.declared.object_type.ObjectType.{ObjectType}
 use Rattle.pm_client.specs.Starts.{Clients, has_client}
 use Rattle.pm_object.specs.State.{HeldValue, State, is_disabled, names_of, read_at, value_of}
 use Rattle.pm_rules.specs.Rules.{is_barred, rule_at}

@@ -1,8 +1,8 @@
 -- The definitions of phases, events and exclusions read on small things: what holds of them and what does not.
 use Rattle.std.specs.Prelude.{ℕ, ◌≡◌, ◌≢◌, ◌++◌, Bool, true, false, Option, Some, None, List, [], String, codes, length, string_bytes, ◌∷◌}
 use Rattle.pm_geom.specs.declared.evidence.Evidence.TheVariants.{E4}
-use Rattle.pm_props.specs.declared.object_type.ObjectType.{ObjectType}
-use Rattle.pm_props.specs.declared.object_type.ObjectType.TheVariants.{Cone, Fan, Polytope}
+use Rattle.pm_object_type.specs.declared.object_type.ObjectType.{ObjectType}
+use Rattle.pm_object_type.specs.declared.object_type.ObjectType.TheVariants.{Cone, Fan, Polytope}
 use Rattle.pm_machine.specs.Chains.{IsFirstWrong, is_excluded, is_wrong, some_wrong}
 use Rattle.pm_machine.specs.Events.{Configuration, MayOccur, at_rest, begun, committed, excluded, over, phase_after_all, running, settled, started, turn, unsettled, written}
 use Rattle.pm_object.specs.State.{HeldValue, RoundSeen, State, empty_object, with_program}

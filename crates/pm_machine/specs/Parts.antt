@@ -1,14 +1,14 @@
 -- What stands where memory ran out in a command: a first part of its events, maybe none or all.
-use Rattle.std.specs.Prelude.{◌≡◌, ◌⊎◌, List, ℕ, Some, IfSome}
+use Rattle.std.specs.Prelude.{◌≡◌, ◌≤◌, ◌⊎◌, List, ℕ, Some, IfSome, length}
 use Rattle.pm_machine.specs.Events.{Configuration, EnsuredInPart, configuration}
 use Rattle.pm_machine.specs.Machines.{Becomes, Machine, Stays}
-use Rattle.pm_machine.specs.Steps.{Looks, Named, Puts, asked_of, bytes_of, named_at, property_at, settled_object}
+use Rattle.pm_machine.specs.Steps.{Looks, Named, Puts, asked_of, bytes_of, most_written, named_at, property_at, settled_object}
 use Rattle.pm_object.specs.Honest.{IsHonest}
 use Rattle.pm_object.specs.State.{State}
 use Rattle.pm_rules.specs.declared.rule.Rule.{Rule}
 use Rattle.pm_store.specs.Files.{IsPutInPart}
 use Rattle.pm_command.specs.Commands.{RefSeen, Spoken, ensure_values, explain_values, give_value, load_object, save_object, build_polar, build_pyramid, build_normal_fan, build_face_fan, build_product}
-use Rattle.pm_machine.specs.Building.{EnsuresInPart, face_fan_building, normal_fan_building, polar_building, product_wanted, pyramid_building, wanted_of}
+use Rattle.pm_machine.specs.Building.{ArePolytopes, BuiltInPart, IsAPolytope, face_fan_building, normal_fan_building, polar_building, product_wanted, pyramid_building, wanted_of}
 use Rattle.pm_props.specs.Sets.{only}
 use Rattle.pm_props.specs.declared.property.PropId.{PropId}
 use Rattle.pm_props.specs.declared.set.PropSet.{PropSet}
@@ -33,28 +33,31 @@ pub record EnsuredPartly (book : List Rule) (old : Machine) (ref : RefSeen) (wor
   pub ensured : EnsuredInPart book found.sub asked (configuration found.object old.clients) now
   pub becomes : Becomes ref.name now old new
 
--- the object that REF names is settled
-pub record IsSettled (old : Machine) (ref : RefSeen) (new : Machine) : Type 0 where
+-- the object that REF names is settled, for words that ask for something
+pub record IsSettled (old : Machine) (ref : RefSeen) (words : List (List ℕ)) (new : Machine) : Type 0 where
   pub found : Named
   pub named : named_at old ref ≡ Some found
+  pub asked : PropSet
+  pub is_asked : asked_of found words ≡ Some asked
   pub becomes : Becomes ref.name (configuration (settled_object found.object) old.clients) old new
 
--- nothing changes, or the object's file is written in part
+-- nothing changes, or the object's file, which is not too long, is written in part
 abbrev pub SavedInPart : List Rule → Machine → List ℕ → List ℕ → Machine → Type 0
-SavedInPart book old name file new = Stays old new ⊎ ((o : State) × (old.object name ≡ Some o) × Puts (IsPutInPart file (bytes_of book o)) old new)
+SavedInPart book old name file new = Stays old new ⊎ ((o : State) × (old.object name ≡ Some o) × (length (bytes_of book o) ≤ most_written)
+    × Puts (IsPutInPart file (bytes_of book o)) old new)
 
 -- of the events of the command first ones occurred: those of a command that ensures nothing are all or none
 abbrev pub StepInPart : List Rule → Machine → Spoken → Machine → Type 0
 StepInPart book old (give_value ref text) new = Stays old new ⊎ GaveInPart book old ref text new
 StepInPart book old (ensure_values ref words) new = Stays old new ⊎ EnsuredPartly book old ref words new
-StepInPart book old (explain_values ref words) new = Stays old new ⊎ IsSettled old ref new
+StepInPart book old (explain_values ref words) new = Stays old new ⊎ IsSettled old ref words new
 StepInPart book old (load_object name file) new = Looks old new
 StepInPart book old (save_object name file) new = SavedInPart book old name file new
-StepInPart book old (build_polar name to) new = EnsuresInPart book (wanted_of name polar_building.reads) old new
-StepInPart book old (build_pyramid name to) new = EnsuresInPart book (wanted_of name pyramid_building.reads) old new
-StepInPart book old (build_normal_fan name to) new = EnsuresInPart book (wanted_of name normal_fan_building.reads) old new
-StepInPart book old (build_face_fan name to) new = EnsuresInPart book (wanted_of name face_fan_building.reads) old new
-StepInPart book old (build_product first second to) new = EnsuresInPart book (product_wanted first second) old new
+StepInPart book old (build_polar name to) new = BuiltInPart book (wanted_of name polar_building.reads) (IsAPolytope old name) to old new
+StepInPart book old (build_pyramid name to) new = BuiltInPart book (wanted_of name pyramid_building.reads) (IsAPolytope old name) to old new
+StepInPart book old (build_normal_fan name to) new = BuiltInPart book (wanted_of name normal_fan_building.reads) (IsAPolytope old name) to old new
+StepInPart book old (build_face_fan name to) new = BuiltInPart book (wanted_of name face_fan_building.reads) (IsAPolytope old name) to old new
+StepInPart book old (build_product first second to) new = BuiltInPart book (product_wanted first second) (ArePolytopes old first second) to old new
 StepInPart book old command new = Stays old new
 
 -- each object is honest

@@ -3,7 +3,7 @@
 ghost use Rattle.pm_build.specs.Conditions.{product_reads};
 ghost use Rattle.pm_command.specs.Commands.{seen_shape};
 ghost use Rattle.pm_files.specs.Views.{file_of};
-ghost use Rattle.pm_machine.specs.Building.{BuildStep, EnsuresInPart, EnsuresOneInPart, MakeStep, ProductStep, product_wanted, wanted_of};
+ghost use Rattle.pm_machine.specs.Building.{ArePolytopes, BuildStep, EnsuresInPart, EnsuresOneInPart, IsAPolytope, MakeStep, MayHaveBegun, ProductStep, product_wanted, wanted_of};
 ghost use Rattle.pm_machine.specs.Built.{Builds, HasRead, IsBarred, IsFitting, Makes, Multiplies, TellsAll, TellsOne, building_of};
 ghost use Rattle.pm_machine.specs.Machines.{IsFree, Stays};
 ghost use Rattle.pm_machine.specs.Sessions.{book_of, is_spent, machine_of};
@@ -206,6 +206,9 @@ impl Session {
             (wanted_of name.now (building_of what).reads)
             (machine_of self.old (map tally clients.old.items))
             (machine_of self.new (map tally clients.new.items))) }
+        ensures begun { OnErr result (MayHaveBegun (IsAPolytope (machine_of self.old []) name.now)
+            (string_bytes new) (machine_of self.old (map tally clients.old.items))
+            (machine_of self.new (map tally clients.new.items))) }
         ensures book { book_of self.new ≡ book_of self.old }
         ensures spent { is_spent self.new ≡ is_spent self.old }
     {
@@ -319,6 +322,9 @@ impl Session {
         ensures part { OnErr result (EnsuresInPart (book_of self.old)
             (product_wanted first.now second.now)
             (machine_of self.old (map tally clients.old.items))
+            (machine_of self.new (map tally clients.new.items))) }
+        ensures begun { OnErr result (MayHaveBegun (ArePolytopes (machine_of self.old []) first.now second.now)
+            (string_bytes new) (machine_of self.old (map tally clients.old.items))
             (machine_of self.new (map tally clients.new.items))) }
         ensures book { book_of self.new ≡ book_of self.old }
         ensures spent { is_spent self.new ≡ is_spent self.old }

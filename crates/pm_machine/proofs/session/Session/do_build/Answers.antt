@@ -1,5 +1,5 @@
 -- What is read is ensured, or not found; then the object is made, or a condition fails.
-use Rattle.std.proofs.Common.{ap, subst, sym, true, true≢false, ◌∙◌, ◌≡◌}
+use Rattle.std.proofs.Common.{ap, inr, subst, sym, true, true≢false, ◌∙◌, ◌≡◌}
 use Rattle.std.specs.Option.{option_map}
 use Rattle.std.specs.Prelude.{None, [], false, map, string_bytes}
 use Rattle.pm_machine.proofs.BuildSteps.{build_answered, if_broken, of_polytopes, reads_done, stays_with}
@@ -77,3 +77,28 @@ returns-in-Found-clause-part g c =
     let none = ap (map round_seen) c.new-rounds.ensures.items in
     let all = from_nothing _ _ _ _ _ _ _ _ _ ws c.in-Found.is none c.in_ok-ending.ensures.ok in
     if_broken c.build_read.result (λ s. all_in_part _ _ _ _ _ _ all (stays_with _ (machine_of c.ensure_all.new.self []) (machine_of c.build_read.new.self []) s)) c.build_read.ensures.err
+
+-- past the tests the name is free and the object a polytope
+pub returns-in_err-ending-clause-begun : goal.returns-in_err-ending-clause-begun
+returns-in_err-ending-clause-begun g c =
+    let poly : is_polytope c.in-Some.object.now.state.of ≡ true = sym c.is_polytope-fits.ensures ∙ c.if-not-fits.false in
+    on_err_of c.from_residual-in_err-ending.result (inr (
+      subst (IsFree (machine_of c.args.self.now [])) c.as_str.ensures.value c.in_default-bars.ensures.none,
+      (c.in-Some.object.now.state, ap (option_map (λ (z : ObjectSeen). z.state)) (sym c.in-Some.ensures.value), λ e. true≢false (sym poly ∙ e)),
+    ))
+
+pub returns-in_err-names-clause-begun : goal.returns-in_err-names-clause-begun
+returns-in_err-names-clause-begun g c =
+    let poly : is_polytope c.in-Some.object.now.state.of ≡ true = sym c.is_polytope-fits.ensures ∙ c.if-not-fits.false in
+    on_err_of c.from_residual-in_err-names.result (inr (
+      subst (IsFree (machine_of c.args.self.now [])) c.as_str.ensures.value c.in_default-bars.ensures.none,
+      (c.in-Some.object.now.state, ap (option_map (λ (z : ObjectSeen). z.state)) (sym c.in-Some.ensures.value), λ e. true≢false (sym poly ∙ e)),
+    ))
+
+pub returns-in-Found-clause-begun : goal.returns-in-Found-clause-begun
+returns-in-Found-clause-begun g c =
+    let poly : is_polytope c.in-Some.object.now.state.of ≡ true = sym c.is_polytope-fits.ensures ∙ c.if-not-fits.false in
+    on_err_of c.build_read.result (inr (
+      subst (IsFree (machine_of c.args.self.now [])) c.as_str.ensures.value c.in_default-bars.ensures.none,
+      (c.in-Some.object.now.state, ap (option_map (λ (z : ObjectSeen). z.state)) (sym c.in-Some.ensures.value), λ e. true≢false (sym poly ∙ e)),
+    ))

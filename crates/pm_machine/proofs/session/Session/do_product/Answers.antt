@@ -1,5 +1,5 @@
 -- What is read of both is ensured, or not found; then the product is made, or a condition fails.
-use Rattle.std.proofs.Common.{ap, refl, subst, sym, true≢false, ◌∙◌, ◌≡◌}
+use Rattle.std.proofs.Common.{ap, inr, refl, subst, sym, true≢false, ◌∙◌, ◌≡◌}
 use Rattle.std.proofs.lemmas.Bool.{and_parts}
 use Rattle.std.specs.Option.{option_map}
 use Rattle.std.specs.Prelude.{None, [], false, map, string_bytes}
@@ -85,3 +85,31 @@ returns-in-Found-clause-part g c =
 
 pub returns-in_err-ending-clause-part : goal.returns-in_err-ending-clause-part
 returns-in_err-ending-clause-part g c = on_err_of c.from_residual.result c.in_err-ending.ensures.part
+
+-- past the tests the name is free and both objects are polytopes
+pub returns-in_err-ending-clause-begun : goal.returns-in_err-ending-clause-begun
+returns-in_err-ending-clause-begun g c =
+    let fit = and_parts (is_polytope c.in-Some.a.now.state.of) (is_polytope c.in-Some-get.b.now.state.of) (sym c.are_polytopes-fits.ensures ∙ c.if-not-fits.false) in
+    let poly : ArePolytopes (machine_of c.args.self.now []) c.args.first.now c.args.second.now = (
+      (c.in-Some.a.now.state, ap (option_map (λ (z : ObjectSeen). z.state)) (sym c.in-Some.ensures.value), λ e. true≢false (sym fit.0 ∙ e)),
+      (c.in-Some-get.b.now.state, ap (option_map (λ (z : ObjectSeen). z.state)) (sym c.in-Some-get.ensures.value), λ e. true≢false (sym fit.1 ∙ e)),
+    ) in
+    on_err_of c.from_residual.result (inr (subst (IsFree (machine_of c.args.self.now [])) c.as_str.ensures.value c.in_default-bars.ensures.none, poly))
+
+pub returns-in_err-names-clause-begun : goal.returns-in_err-names-clause-begun
+returns-in_err-names-clause-begun g c =
+    let fit = and_parts (is_polytope c.in-Some.a.now.state.of) (is_polytope c.in-Some-get.b.now.state.of) (sym c.are_polytopes-fits.ensures ∙ c.if-not-fits.false) in
+    let poly : ArePolytopes (machine_of c.args.self.now []) c.args.first.now c.args.second.now = (
+      (c.in-Some.a.now.state, ap (option_map (λ (z : ObjectSeen). z.state)) (sym c.in-Some.ensures.value), λ e. true≢false (sym fit.0 ∙ e)),
+      (c.in-Some-get.b.now.state, ap (option_map (λ (z : ObjectSeen). z.state)) (sym c.in-Some-get.ensures.value), λ e. true≢false (sym fit.1 ∙ e)),
+    ) in
+    on_err_of c.from_residual-in_err-names.result (inr (subst (IsFree (machine_of c.args.self.now [])) c.as_str.ensures.value c.in_default-bars.ensures.none, poly))
+
+pub returns-in-Found-clause-begun : goal.returns-in-Found-clause-begun
+returns-in-Found-clause-begun g c =
+    let fit = and_parts (is_polytope c.in-Some.a.now.state.of) (is_polytope c.in-Some-get.b.now.state.of) (sym c.are_polytopes-fits.ensures ∙ c.if-not-fits.false) in
+    let poly : ArePolytopes (machine_of c.args.self.now []) c.args.first.now c.args.second.now = (
+      (c.in-Some.a.now.state, ap (option_map (λ (z : ObjectSeen). z.state)) (sym c.in-Some.ensures.value), λ e. true≢false (sym fit.0 ∙ e)),
+      (c.in-Some-get.b.now.state, ap (option_map (λ (z : ObjectSeen). z.state)) (sym c.in-Some-get.ensures.value), λ e. true≢false (sym fit.1 ∙ e)),
+    ) in
+    on_err_of c.multiply_read.result (inr (subst (IsFree (machine_of c.args.self.now [])) c.as_str.ensures.value c.in_default-bars.ensures.none, poly))

@@ -58,9 +58,11 @@ returns-in-Err-Failed-clause-step g c =
 pub returns-clause-part : goal.returns-clause-part
 returns-clause-part g c =
     let named : option_map (λ (o : ObjectSeen). o.state) (get_by_text c.args.self.now.objects c.args.name.now) ≡ Some c.in-Some.object.now.state = search rules in
+    let short : length c.in_ok-bytes.bytes.items ≤ most_written = search rules in
     inr (
       c.in-Some.object.now.state,
       named,
+      subst (λ z. length z ≤ most_written) c.in_ok-bytes.ensures.file short,
       record {
         names = refl;
         objects = λ q. refl;
