@@ -11,7 +11,7 @@ use Rattle.pm_books.specs.Grammar.{IsBookText}
 use Rattle.pm_books.specs.declared.fail.BookFail.{BookFail}
 use Rattle.pm_books.specs.declared.fail.BookFail.TheVariants as book
 use Rattle.pm_client.specs.Starts.{Clients}
-use Rattle.pm_props.specs.Kinds.{standard_kinds_list}
+use Rattle.pm_standard.specs.Table.{standard_kinds_list}
 use Rattle.pm_props.specs.declared.kind.Kind.{Kind}
 use Rattle.pm_rules.specs.declared.rule.Rule.{Rule}
 use Rattle.pm_shell.specs.Chosen.{IsBook, IsRefusedBook, IsRefusedFile, IsRefusedText, IsTextOf, has_standard_name, kinds_of, most_book, without_standard_names}

@@ -1,5 +1,5 @@
 -- What an outcome over the lines gives for a whole run.
-use Rattle.std.proofs.Common.{inl, inr, refl, subst, sym, ◌≡◌, ◌⊎◌, ℕ, Bool, true, false, List, [], ◌∷◌, ◌++◌, Option, Some, None, Result, Ok, Err, OnErr, IfOk}
+use Rattle.std.proofs.Common.{arith, inl, inr, refl, subst, sym, ◌≡◌, ◌≤◌, ◌⊎◌, ℕ, Bool, true, false, List, [], ◌∷◌, ◌++◌, Option, Some, None, Result, Ok, Err, OnErr, IfOk}
 use Rattle.pm_client.specs.Starts.{Clients}
 use Rattle.pm_machine.proofs.Kept.{steps_in_part_keep}
 use Rattle.pm_machine.proofs.KeptObjects.{all_honest, stays_honest}
@@ -59,7 +59,7 @@ new_kept s clients files faults none = record { each = λ q. rw (none q) tt }
 pub came : (book : List Rule) (trace : Bool) (s s' : Session) (before after : Clients) (script left had has : Option (List ℕ)) (files kept : Option Files) (faults faults' : ℕ) (r : Result Bool RunFail)
     → book_of s ≡ book → ((q : List ℕ) → (machine_of s []).object q ≡ None) → (machine_of s []).names ≡ []
     → CameTo (book_of s) trace script left had has (machine_at s before files faults) r (machine_at s' after kept faults')
-    → Ran book trace (record { script = script; left = left; had = had; has = has; files = files; kept = kept; before = before; after = after }) r
+    → Ran book trace (record { script = script; left = left; had = had; has = has; files = files; kept = kept; counted = faults; counts = faults'; before = before; after = after }) r
 came book trace s s' before after script left had has files kept faults faults' r is none names (lines, read, ran) = (
   lines,
   read,
@@ -71,6 +71,8 @@ came book trace s s' before after script left had has files kept faults faults' 
     honest = outcome_honest (book_of s) trace had has (machine_at s before files faults) (machine_at s' after kept faults') lines r ran (new_kept s before files faults none);
     left = refl;
     kept = refl;
+    counted = omega arith;
+    counts = refl;
   },
 )
 
@@ -80,11 +82,11 @@ told_later None mid m clients stay s = record { none = s.none; names = s.names; 
 told_later (Some all) mid m clients stay s = record { none = s.none; names = s.names; has = s.has; store = subst (λ z. FilesStay z m.store.files) stay s.store }
 
 -- the same run, as it was told before the book was read
-pub ran_later : (book : List Rule) (trace : Bool) (script left had has : Option (List ℕ)) (before mid kept : Option Files) (first after : Clients) (r : Result Bool RunFail) → FilesStay before mid
-    → Ran book trace (record { script = script; left = left; had = had; has = has; files = mid; kept = kept; before = first; after = after }) r
-    → Ran book trace (record { script = script; left = left; had = had; has = has; files = before; kept = kept; before = first; after = after }) r
-ran_later book trace script left had has before mid kept first after r stay (lines, read, f) =
-    (lines, read, record { start = f.start; end = f.end; starts = told_later before mid f.start first stay f.starts; ran = f.ran; honest = f.honest; left = f.left; kept = f.kept })
+pub ran_later : (book : List Rule) (trace : Bool) (script left had has : Option (List ℕ)) (before mid kept : Option Files) (counted middle counts : ℕ) (first after : Clients) (r : Result Bool RunFail) → FilesStay before mid → counted ≤ middle
+    → Ran book trace (record { script = script; left = left; had = had; has = has; files = mid; kept = kept; counted = middle; counts = counts; before = first; after = after }) r
+    → Ran book trace (record { script = script; left = left; had = had; has = has; files = before; kept = kept; counted = counted; counts = counts; before = first; after = after }) r
+ran_later book trace script left had has before mid kept counted middle counts first after r stay rises (lines, read, f) =
+    (lines, read, record { start = f.start; end = f.end; starts = told_later before mid f.start first stay f.starts; ran = f.ran; honest = f.honest; left = f.left; kept = f.kept; counted = (let u = f.counted in omega arith); counts = f.counts })
 
 -- ---- a command in part
 pub hand_of : {T E : Type 0} (r : Result T E) (book : List Rule) (old new : Machine) (line : Line) (command : Spoken) → command_at line ≡ Some command → StepInPart book old command new
@@ -108,22 +110,22 @@ ended_by said w (Err why.Memory) ran = inr ran
 ended_by said w (Err why.TooLong) ran = ran
 
 -- a run of the demo in place of the source, of which nothing was read
-pub demo_ran : (said : WordsSeen) (n : ℕ) (book other : List Rule) (trace : Bool) (script same had has left : Option (List ℕ)) (files mid kept : Option Files) (given before after : Clients) (text : List ℕ) (r : Result Bool RunFail) (status : Status) → status ≡ status_of r → said.demo ≡ Some n → same ≡ script
-    → text ≡ demo_text n → trace ≡ said.trace → IsBook said.rules given files book → given ≡ before → FilesStay files mid → other ≡ book
-    → Ran other trace (record { script = Some text; left = left; had = had; has = has; files = mid; kept = kept; before = before; after = after }) r
-    → Ended said status (record { script = script; left = same; had = had; has = has; files = files; kept = kept; before = before; after = after })
-demo_ran said n book other trace script same had has left files mid kept given before after text r status so is unread told traced found these stay this ran =
-    subst (λ z. Ended said z (record { script = script; left = same; had = had; has = has; files = files; kept = kept; before = before; after = after })) (sym so) (ended_by said (record { script = script; left = same; had = had; has = has; files = files; kept = kept; before = before; after = after }) r
-    (subst (λ z. RanScript z said (record { script = script; left = same; had = had; has = has; files = files; kept = kept; before = before; after = after }) r) (sym is) (
+pub demo_ran : (said : WordsSeen) (n : ℕ) (book other : List Rule) (trace : Bool) (script same had has left : Option (List ℕ)) (files mid kept : Option Files) (counted middle counts : ℕ) (given before after : Clients) (text : List ℕ) (r : Result Bool RunFail) (status : Status) → status ≡ status_of r → said.demo ≡ Some n → same ≡ script
+    → text ≡ demo_text n → trace ≡ said.trace → IsBook said.rules given files book → given ≡ before → FilesStay files mid → counted ≤ middle → other ≡ book
+    → Ran other trace (record { script = Some text; left = left; had = had; has = has; files = mid; kept = kept; counted = middle; counts = counts; before = before; after = after }) r
+    → Ended said status (record { script = script; left = same; had = had; has = has; files = files; kept = kept; counted = counted; counts = counts; before = before; after = after })
+demo_ran said n book other trace script same had has left files mid kept counted middle counts given before after text r status so is unread told traced found these stay rises this ran =
+    subst (λ z. Ended said z (record { script = script; left = same; had = had; has = has; files = files; kept = kept; counted = counted; counts = counts; before = before; after = after })) (sym so) (ended_by said (record { script = script; left = same; had = had; has = has; files = files; kept = kept; counted = counted; counts = counts; before = before; after = after }) r
+    (subst (λ z. RanScript z said (record { script = script; left = same; had = had; has = has; files = files; kept = kept; counted = counted; counts = counts; before = before; after = after }) r) (sym is) (
       unread,
       left,
       (
         book,
         subst (λ z. IsBook said.rules z files book) these found,
-        ran_later book said.trace (Some (demo_text n)) left had has files mid kept before after r stay
-            (subst (λ z. Ran book z (record { script = Some (demo_text n); left = left; had = had; has = has; files = mid; kept = kept; before = before; after = after }) r) traced
-            (subst (λ z. Ran book trace (record { script = Some z; left = left; had = had; has = has; files = mid; kept = kept; before = before; after = after }) r) told
-            (subst (λ z. Ran z trace (record { script = Some text; left = left; had = had; has = has; files = mid; kept = kept; before = before; after = after }) r) this ran))),
+        ran_later book said.trace (Some (demo_text n)) left had has files mid kept counted middle counts before after r stay rises
+            (subst (λ z. Ran book z (record { script = Some (demo_text n); left = left; had = had; has = has; files = mid; kept = kept; counted = middle; counts = counts; before = before; after = after }) r) traced
+            (subst (λ z. Ran book trace (record { script = Some z; left = left; had = had; has = has; files = mid; kept = kept; counted = middle; counts = counts; before = before; after = after }) r) told
+            (subst (λ z. Ran z trace (record { script = Some text; left = left; had = had; has = has; files = mid; kept = kept; counted = middle; counts = counts; before = before; after = after }) r) this ran))),
       ),
     )))
 

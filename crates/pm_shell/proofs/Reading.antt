@@ -6,7 +6,7 @@ use Rattle.pm_lines.proofs.Callers.{Answered, answered_all, answered_before, ans
 use Rattle.pm_lines.specs.Coming.{Answers, BreaksOff, Exceeds, IsOver, ReaderSeen, most_bytes}
 use Rattle.pm_lines.specs.Whole.{whole_lines}
 use Rattle.pm_command.specs.Lines.{Line, lines_of}
-use Rattle.pm_shell.specs.Ends.{IsRead}
+use Rattle.pm_shell.specs.Ends.{IsRead, IsReadSoFar}
 use Rattle.pm_shell.specs.declared.status.RunFail.TheVariants as why
 
 -- the first lines came of all that the source had left, and so many bytes were read
@@ -160,14 +160,16 @@ dropped all first left r h n =
     ∙ ap (λ (k : ℕ). drop (k + n) all) p.count
 
 pub read_breaks : (script mid left : Option (List ℕ)) (first : List Line) (r new : ReaderSeen) → HasRead script mid first r → r.at_end ≡ false
-    → IfSome mid (λ all. BreaksOff all left r new) → IsRead script left (Err why.SourceFault) first
-read_breaks None mid left first r new s goes_on breaks = tt
-read_breaks (Some all) mid left first r new s goes_on breaks =
+    → IfSome mid (λ all. BreaksOff all left r new) → new.read ≤ most_bytes → IsRead script left (Err why.SourceFault) first
+read_breaks None mid left first r new s goes_on breaks bound = tt
+read_breaks (Some all) mid left first r new s goes_on breaks bound =
     let h = s.some goes_on in
     let b : BreaksOff h.answered.rest left r new = rw h.answered.left_is at breaks in
     let within = b.1.within in
+    let read = b.1.read in
     let count = h.count in (
       r.read + b.0,
+      omega arith,
       omega arith,
       b.1.others ∙ ap (λ (t : List ℕ). Some t) (dropped all first mid r h b.0),
       sym (answered_whole all first mid left r new h.answered goes_on b) ∙ ap whole_lines (taken all first mid r h b.0),
@@ -188,21 +190,33 @@ read_exceeds (Some all) mid left first r s goes_on exceeds =
       sym (answered_before all first mid left r h.answered goes_on x) ∙ ap whole_lines (taken all first mid r h x.0 ∙ ap (λ (k : ℕ). take k all) full),
     )
 
--- ---- the lines of a script go on behind the first ones
-pub record GoesOn (script : Option (List ℕ)) (first : List Line) : Type 0 where
+-- ---- the lines of what was read go on behind the first ones
+pub record GoesOn (script left : Option (List ℕ)) (first : List Line) : Type 0 where
   pub others : List Line
-  pub lines : IfSome script (λ all. first ++ others ≡ lines_of all)
+  pub lines : IfSome script (λ all. IsReadSoFar all left (first ++ others))
 
-goes_some : (script left : Option (List ℕ)) (first : List Line) (r : ReaderSeen) → IfSome script (λ all. Reads all first left r) → GoesOn script first
-goes_some None left first r h = record { others = []; lines = tt }
-goes_some (Some all) left first r h = record { others = lines_of (r.given ++ h.answered.rest); lines = sym h.answered.lines }
+goes_some : (script left : Option (List ℕ)) (first : List Line) (r : ReaderSeen) → r.at_end ≡ false → r.read ≤ most_bytes → IfSome script (λ all. Reads all first left r) → GoesOn script left first
+goes_some None left first r on bound h = record { others = []; lines = tt }
+goes_some (Some all) left first r on bound h =
+    let a = h.answered in
+    let count = h.count in
+    record {
+      others = whole_lines (r.given ++ take 0 a.rest);
+      lines = inr (
+        r.read + 0,
+        omega arith,
+        omega arith,
+        a.left_is ∙ ap (λ (t : List ℕ). Some t) (dropped all first left r h 0),
+        sym (a.adds on (r.given ++ take 0 a.rest)) ∙ ap whole_lines (taken all first left r h 0),
+      );
+    }
 
-goes_whole : (script left : Option (List ℕ)) (first : List Line) → IfSome script (λ all. ReadsAll all first left) → GoesOn script first
+goes_whole : (script left : Option (List ℕ)) (first : List Line) → IfSome script (λ all. ReadsAll all first left) → GoesOn script left first
 goes_whole None left first h = record { others = []; lines = tt }
-goes_whole (Some all) left first h = record { others = []; lines = append-nil first ∙ h.lines }
+goes_whole (Some all) left first h = record { others = []; lines = inl (append-nil first ∙ h.lines, h.short, h.none) }
 
-pub goes_on : (script left : Option (List ℕ)) (first : List Line) (r : ReaderSeen) → HasRead script left first r → GoesOn script first
-goes_on script left first r s = elim (cases_Bool r.at_end) [
+pub goes_on : (script left : Option (List ℕ)) (first : List Line) (r : ReaderSeen) → r.read ≤ most_bytes → HasRead script left first r → GoesOn script left first
+goes_on script left first r bound s = elim (cases_Bool r.at_end) [
   | inl e ↦ goes_whole script left first (s.whole e)
-  | inr e ↦ goes_some script left first r (s.some e)
+  | inr e ↦ goes_some script left first r e bound (s.some e)
 ]

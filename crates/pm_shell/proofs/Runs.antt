@@ -1,7 +1,9 @@
 -- Runs go on line by line, keep every object honest, and show right values.
 use Rattle.std.proofs.Common.{ap, inl, inr, refl, subst, sym, ◌∙◌, ◌≡◌, ◌||◌, ◌⊎◌, ℕ, Bool, true, false, List, [], ◌∷◌, ◌++◌, Option, Some, None, Err, append_assoc, append-nil}
 use Rattle.pm_client.specs.Starts.{Clients}
+use Rattle.pm_machine.proofs.KeptObjects.{all_honest}
 use Rattle.pm_machine.specs.Machines.{Machine, Stays}
+use Rattle.pm_machine.specs.Parts.{AllHonest}
 use Rattle.pm_machine.specs.Steps.{AllKept}
 use Rattle.pm_rules.specs.declared.rule.Rule.{Rule}
 use Rattle.pm_command.specs.Lines.{Line}
@@ -18,19 +20,19 @@ use Rattle.pm_store.specs.Outside.{Gains, GainsPart}
 -- ---- honesty
 pub kept_run : (book : List Rule) (old new : Machine) (lines : List Line) (replies : List (Option ReplySeen)) → Run book old lines replies new → AllKept old → AllKept new
 kept_run book old new [] [] is all = subst AllKept (sym is) all
-kept_run book old new (line ∷ lines) (reply ∷ replies) (mid, first, right, rest) all =
+kept_run book old new (line ∷ lines) (reply ∷ replies) (mid, first, right, honest, rest) all =
     kept_run book mid new lines replies rest (kept_by book old mid line reply first all)
 kept_run book old new [] (reply ∷ replies) h all = absurd h
 kept_run book old new (line ∷ lines) [] h all = absurd h
 
 -- ---- one line more
 next_right : (book : List Rule) (old mid new : Machine) (lines : List Line) (replies : List (Option ReplySeen)) (line : Line) (reply : Option ReplySeen)
-    → Run book old lines replies mid → Answers book mid line reply new → Shows reply new → Run book old (lines ++ line ∷ []) (replies ++ reply ∷ []) new
-next_right book old mid new [] [] line reply is answers right = (new, subst (λ (m : Machine). Answers book m line reply new) is answers, right, refl)
-next_right book old mid new (l ∷ lines) (r ∷ replies) line reply (next, first, right, rest) answers last =
-    (next, first, right, next_right book next mid new lines replies line reply rest answers last)
-next_right book old mid new [] (r ∷ replies) line reply h answers last = absurd h
-next_right book old mid new (l ∷ lines) [] line reply h answers last = absurd h
+    → Run book old lines replies mid → Answers book mid line reply new → Shows reply new → AllHonest new → Run book old (lines ++ line ∷ []) (replies ++ reply ∷ []) new
+next_right book old mid new [] [] line reply is answers right last = (new, subst (λ (m : Machine). Answers book m line reply new) is answers, right, last, refl)
+next_right book old mid new (l ∷ lines) (r ∷ replies) line reply (next, first, right, honest, rest) answers shown last =
+    (next, first, right, honest, next_right book next mid new lines replies line reply rest answers shown last)
+next_right book old mid new [] (r ∷ replies) line reply h answers shown last = absurd h
+next_right book old mid new (l ∷ lines) [] line reply h answers shown last = absurd h
 
 replies_text-append : (trace : Bool) (replies : List (Option ReplySeen)) (reply : Option ReplySeen)
     → replies_text trace (replies ++ reply ∷ []) ≡ replies_text trace replies ++ text_if trace reply
@@ -75,7 +77,7 @@ so_far_next book now_book trace had between has old mid new first line some last
     let kept : AllKept new = kept_by book mid new line one.reply answers s.kept in
     record {
       replies = s.replies ++ one.reply ∷ [];
-      run = next_right book old mid new first s.replies line one.reply s.run answers (shows_right book mid new line one.reply answers kept);
+      run = next_right book old mid new first s.replies line one.reply s.run answers (shows_right book mid new line one.reply answers kept) (all_honest new kept);
       told = Gains-then had between has (replies_text trace s.replies) (text_if trace one.reply) (replies_text trace (s.replies ++ one.reply ∷ [])) s.told one.told
           (sym (replies_text-append trace s.replies one.reply));
       refusal = ap (λ (b : Bool). b || last) s.refusal ∙ ap (λ (b : Bool). any_refused s.replies || b) one.refusal ∙ sym (any_refused-append s.replies one.reply);
@@ -104,7 +106,7 @@ so_far_part book now_book trace had between has old mid new lines first others l
       whole = whole;
       replies = s.replies;
       reply = reply;
-      run = next_right book old mid new first s.replies line (Some reply) s.run answers (shows_right book mid new line (Some reply) answers kept);
+      run = next_right book old mid new first s.replies line (Some reply) s.run answers (shows_right book mid new line (Some reply) answers kept) (all_honest new kept);
       told = within had between has (replies_text trace s.replies) (text_of_reply trace reply) s.told part;
     }
 

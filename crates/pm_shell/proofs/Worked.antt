@@ -1,7 +1,7 @@
 -- The examples hold.
-use Rattle.std.proofs.Common.{arith, refl, ◌≡◌, ◌≤◌, ◌++◌, ℕ, zero, suc, true, false, List, [], ◌∷◌, Option, Some, Err, append-nil, drop, take}
+use Rattle.std.proofs.Common.{arith, inl, inr, refl, ◌≡◌, ◌≤◌, ◌++◌, ℕ, zero, suc, true, false, List, [], ◌∷◌, Option, Some, Err, append-nil, drop, take}
 use Rattle.pm_lines.specs.Whole.{whole_lines}
-use Rattle.pm_props.specs.Kinds.{standard_kinds_list}
+use Rattle.pm_standard.specs.Table.{standard_kinds_list}
 use Rattle.pm_props.specs.declared.kind.Kind.{Kind}
 use Rattle.pm_shell.specs.Chosen.{has_standard_name, kinds_of}
 use Rattle.pm_shell.specs.Ends.{IsRead}
@@ -17,25 +17,26 @@ three (suc (suc (suc n))) few e = omega arith
 
 fewer_are_not : IsRead (Some two_lines) (Some []) (Err SourceFault) [] → ⊥
 fewer_are_not h =
-    let all : h.0 ≡ 3 = three h.0 h.1 h.2 in
-    let none : [] ≡ whole_lines (take 3 two_lines) = rw all at h.3 in
+    let all : h.0 ≡ 3 = three h.0 h.1 h.3 in
+    let none : [] ≡ whole_lines (take 3 two_lines) = rw all at h.4 in
     cc
 
 last_is_not : IsRead (Some two_lines) (Some []) (Err SourceFault) both → ⊥
 last_is_not h =
-    let all : h.0 ≡ 3 = three h.0 h.1 h.2 in
-    let none : both ≡ whole_lines (take 3 two_lines) = rw all at h.3 in
+    let all : h.0 ≡ 3 = three h.0 h.1 h.3 in
+    let none : both ≡ whole_lines (take 3 two_lines) = rw all at h.4 in
     cc
 
 pub lines_are_read : LinesAreRead
 lines_are_read = record {
   whole = λ some. (refl, omega arith, refl);
   not_whole = λ some h. let e = h.2 in cc;
-  broken = (3, omega arith, refl, refl);
-  broken_before = (2, omega arith, refl, refl);
+  broken = (3, omega arith, omega arith, refl, refl);
+  broken_before = (2, omega arith, omega arith, refl, refl);
   not_last = last_is_not;
   not_fewer = fewer_are_not;
-  untaken = λ left. refl;
+  untaken = inl (refl, omega arith, refl);
+  untaken_before = inr (2, omega arith, omega arith, refl, refl);
   short = λ left lines h. let many = h.0 in omega arith;
 }
 

@@ -4,9 +4,9 @@ use Rattle.std.specs.List.{list_any}
 use Rattle.std.specs.Str.{IsUtf8, bytes_eq}
 use Rattle.pm_books.specs.Grammar.{IsBookText}
 use Rattle.pm_client.specs.Starts.{Clients}
-use Rattle.pm_props.specs.Kinds.{standard_kinds_list}
+use Rattle.pm_standard.specs.Table.{standard_kinds_list}
 use Rattle.pm_props.specs.declared.kind.Kind.{Kind}
-use Rattle.pm_rules.specs.Books.{standard_rules}
+use Rattle.pm_standard.specs.Book.{standard_rules}
 use Rattle.pm_rules.specs.declared.rule.Rule.{Rule}
 use Rattle.pm_store.specs.Files.{file_of}
 

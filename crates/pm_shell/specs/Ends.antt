@@ -107,21 +107,26 @@ HasOutcome book trace had has old lines (Err why.SinkFault) new = BrokeOff book 
 HasOutcome book trace had has old lines (Err why.Memory) new = Stopped book trace had has old lines new
 HasOutcome book trace had has old lines (Err why.TooLong) new = (some_refused : Bool) × AnsweredAll book trace had has some_refused old lines new
 
+-- all of the script was read, and is no longer than the most; or first bytes of it, no more than the most, and of these the lines that an LF ended
+abbrev pub IsReadSoFar : List ℕ → Option (List ℕ) → List Line → Type 0
+IsReadSoFar all left lines = ((lines ≡ lines_of all) × (length all ≤ most_bytes) × (left ≡ Some []))
+    ⊎ ((n : ℕ) × (n ≤ length all) × (n ≤ most_bytes) × (left ≡ Some (drop n all)) × (lines ≡ whole_lines (take n all)))
+
 -- Which lines these are, with this outcome, of what the source told before to have left, if it did, and what it tells now:
 -- all lines of a script that was read to its end;
--- all lines of it, of which the first ones are answered, where the sink failed or memory ran out;
+-- all lines of what was read so far, of which the first ones are answered, where the sink failed or memory ran out (then more may be gone of the source);
 -- all whole lines of what the source gave until it failed, without a last one that no LF ended;
 -- all whole lines of the most bytes of a script, where it has more, of which one is gone.
 abbrev pub IsRead : Option (List ℕ) → Option (List ℕ) → Result Bool RunFail → List Line → Type 0
 IsRead script left (Ok some_refused) lines = IfSome script (λ all. (lines ≡ lines_of all) × (length all ≤ most_bytes) × (left ≡ Some []))
 IsRead script left (Err why.SourceFault) lines =
-    IfSome script (λ all. (n : ℕ) × (n ≤ length all) × (left ≡ Some (drop n all)) × (lines ≡ whole_lines (take n all)))
-IsRead script left (Err why.SinkFault) lines = IfSome script (λ all. lines ≡ lines_of all)
-IsRead script left (Err why.Memory) lines = IfSome script (λ all. lines ≡ lines_of all)
+    IfSome script (λ all. (n : ℕ) × (n ≤ length all) × (n ≤ most_bytes) × (left ≡ Some (drop n all)) × (lines ≡ whole_lines (take n all)))
+IsRead script left (Err why.SinkFault) lines = IfSome script (λ all. IsReadSoFar all left lines)
+IsRead script left (Err why.Memory) lines = (mid : Option (List ℕ)) × IfSome script (λ all. IsReadSoFar all mid lines)
 IsRead script left (Err why.TooLong) lines =
     IfSome script (λ all. (most_bytes < length all) × (left ≡ Some (drop (most_bytes + 1) all)) × (lines ≡ whole_lines (take most_bytes all)))
 
--- What was told before and after: what the source has left, what the sink took, the files of the store; and the clients.
+-- What was told before and after: what the source has left, what the sink took, the files of the store, the count of its faults; and the clients.
 pub record World : Type 0 where
   pub script : Option (List ℕ)
   pub left : Option (List ℕ)
@@ -129,10 +134,12 @@ pub record World : Type 0 where
   pub has : Option (List ℕ)
   pub files : Option Files
   pub kept : Option Files
+  pub counted : ℕ
+  pub counts : ℕ
   pub before : Clients
   pub after : Clients
 
--- a machine without objects over the clients and the files before ran so; at its end every object is honest, and these are the clients and the files
+-- a machine without objects over the clients and the files before ran so; at its end every object is honest, and these are the clients, the files and the count of faults, which did not fall before it began
 pub record FromNoObjects (w : World) (Ran : Machine → Machine → Type 0) : Type 0 where
   pub start : Machine
   pub end : Machine
@@ -141,6 +148,8 @@ pub record FromNoObjects (w : World) (Ran : Machine → Machine → Type 0) : Ty
   pub honest : AllHonest end
   pub left : end.clients ≡ w.after
   pub kept : end.store.files ≡ w.kept
+  pub counted : w.counted ≤ start.store.faults
+  pub counts : end.store.faults ≡ w.counts
 
 -- from a machine without objects the lines that were read came to this outcome
 abbrev pub Ran : List Rule → Bool → World → Result Bool RunFail → Type 0

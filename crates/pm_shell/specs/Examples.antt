@@ -3,9 +3,9 @@
 use Rattle.std.specs.Prelude.{ℕ, ◌≡◌, ◌++◌, Bool, true, false, List, [], ◌∷◌, Option, Some, None, Ok, Err}
 use Rattle.pm_client.specs.Starts.{Clients}
 use Rattle.pm_machine.specs.Machines.{Machine}
-use Rattle.pm_props.specs.Kinds.{standard_kinds_list}
+use Rattle.pm_standard.specs.Table.{standard_kinds_list}
 use Rattle.pm_props.specs.declared.kind.Kind.{Kind}
-use Rattle.pm_rules.specs.Books.{standard_rules}
+use Rattle.pm_standard.specs.Book.{standard_rules}
 use Rattle.pm_rules.specs.declared.rule.Rule.{Rule}
 use Rattle.pm_command.specs.Lines.{Line, is_too_long}
 use Rattle.pm_script.specs.Replies.{nothing, refused}
@@ -41,8 +41,9 @@ pub record LinesAreRead : Type 0 where
   pub broken_before : IsRead (Some two_lines) (Some (111 ∷ [])) (Err SourceFault) first_line
   pub not_last : ¬ (IsRead (Some two_lines) (Some []) (Err SourceFault) both)
   pub not_fewer : ¬ (IsRead (Some two_lines) (Some []) (Err SourceFault) [])
-  -- where the sink failed, the lines of the script are all of them, answered or not
-  pub untaken : (left : Option (List ℕ)) → IsRead (Some two_lines) left (Err SinkFault) both
+  -- where the sink failed, the lines are those of what was read, answered or not
+  pub untaken : IsRead (Some two_lines) (Some []) (Err SinkFault) both
+  pub untaken_before : IsRead (Some two_lines) (Some (111 ∷ [])) (Err SinkFault) first_line
   -- a short script is not too long
   pub short : (left : Option (List ℕ)) (lines : List Line) → ¬ (IsRead (Some two_lines) left (Err TooLong) lines)
 

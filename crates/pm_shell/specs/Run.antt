@@ -2,6 +2,7 @@
 use Rattle.std.specs.Prelude.{ℕ, ◌≡◌, ◌||◌, Bool, false, if◌then◌else◌, Option, Some, None, List, [], ◌∷◌, ◌++◌}
 use Rattle.pm_client.specs.Starts.{Clients}
 use Rattle.pm_machine.specs.Machines.{Files, Machine}
+use Rattle.pm_machine.specs.Parts.{AllHonest}
 use Rattle.pm_machine.specs.Steps.{Step}
 use Rattle.pm_rules.specs.declared.rule.Rule.{Rule}
 use Rattle.pm_command.specs.Commands.{Spoken, blank, command_of}
@@ -32,10 +33,10 @@ AnswersTo book old why None None new = ⊥
 abbrev pub Answers : List Rule → Machine → Line → Option ReplySeen → Machine → Type 0
 Answers book old line reply new = AnswersTo book old (refusal_of line) (command_at line) reply new
 
--- it answers so to the lines, one after another, and each value that it shows is right when it is shown
+-- it answers so to the lines, one after another, each value that it shows is right when it is shown, and after each line every object is honest
 abbrev pub Run : List Rule → Machine → List Line → List (Option ReplySeen) → Machine → Type 0
 Run book old [] [] new = new ≡ old
-Run book old (line ∷ lines) (reply ∷ replies) new = (mid : Machine) × Answers book old line reply mid × Shows reply mid × Run book mid lines replies new
+Run book old (line ∷ lines) (reply ∷ replies) new = (mid : Machine) × Answers book old line reply mid × Shows reply mid × AllHonest mid × Run book mid lines replies new
 Run book old [] (reply ∷ replies) new = ⊥
 Run book old (line ∷ lines) [] new = ⊥
 

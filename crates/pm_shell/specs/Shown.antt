@@ -2,7 +2,7 @@
 use Rattle.std.specs.Prelude.{ℕ, ◌≡◌, List, Option, Some, None}
 use Rattle.pm_command.specs.Commands.{RefSeen}
 use Rattle.pm_command.specs.Grammar.{ref_text}
-use Rattle.pm_props.specs.declared.object_type.ObjectType.{ObjectType}
+use Rattle.pm_object_type.specs.declared.object_type.ObjectType.{ObjectType}
 use Rattle.pm_machine.specs.Machines.{Machine}
 use Rattle.pm_machine.specs.Steps.{Named, named_at}
 use Rattle.pm_object.specs.Honest.{IsHonest}

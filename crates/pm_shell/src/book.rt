@@ -1,7 +1,7 @@
 // The book of a run.
 
 ghost use Rattle.pm_books.specs.declared.fail.BookFail.TheVariants.{Memory as BookMemory};
-ghost use Rattle.pm_props.specs.Kinds.{standard_kinds_list};
+ghost use Rattle.pm_standard.specs.Table.{standard_kinds_list};
 ghost use Rattle.pm_shell.specs.Chosen.{IsBook, IsRefusedBook, IsRefusedText, IsTextOf, kinds_of, without_standard_names};
 ghost use Rattle.pm_shell.specs.declared.book.NoBook.TheVariants.{Memory, Refused};
 ghost use Rattle.pm_store.specs.Files.{FilesStay};
@@ -14,8 +14,9 @@ ghost use Rattle.std.specs.Str.{bytes_eq};
 
 use pm_books::{BookFail, read_book};
 use pm_client::Client;
-use pm_props::{Kind, standard_kinds};
-use pm_rules::{Book, standard_book};
+use pm_props::Kind;
+use pm_rules::Book;
+use pm_standard::{standard_book, standard_kinds};
 use pm_store::{Store, StoreFail};
 use pm_words::Words;
 use std::alloc::{AllocError, Global};

@@ -34,6 +34,8 @@ fn run_script<S: Source, K: Sink, F: Store>(
       has = K.taken sink.new;
       files = F.files store.old;
       kept = F.files store.new;
+      counted = F.faults store.old;
+      counts = F.faults store.new;
       before = map tally clients.old.items;
       after = map tally clients.new.items;
     }) result }
@@ -66,6 +68,8 @@ fn run_text<K: Sink, F: Store>(
       has = K.taken sink.new;
       files = F.files store.old;
       kept = F.files store.new;
+      counted = F.faults store.old;
+      counts = F.faults store.new;
       before = map tally clients.old.items;
       after = map tally clients.new.items;
     }) result }
@@ -96,6 +100,8 @@ fn run_words<S: Source, K: Sink, F: Store>(
       has = K.taken sink.new;
       files = F.files store.old;
       kept = F.files store.new;
+      counted = F.faults store.old;
+      counts = F.faults store.new;
       before = map tally clients.old.items;
       after = map tally clients.new.items;
     }) }
@@ -157,6 +163,8 @@ pub fn polymake<S: Source, K: Sink, F: Store>(
       has = K.taken sink.new;
       files = F.files store.old;
       kept = F.files store.new;
+      counted = F.faults store.old;
+      counts = F.faults store.new;
       before = map tally clients.old.items;
       after = map tally clients.new.items;
     }) }

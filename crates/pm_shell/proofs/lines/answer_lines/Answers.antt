@@ -48,7 +48,7 @@ returns-in_err-there-clause-outcome g c =
     let p = err_from_is_err_and c.from_residual.result c.from_residual.ensures.1 in
     let i = c.loop-reader.invariant in
     rw p.1 (came_breaking (book_of c.args.session.now) c.args.trace _ _ _ _ _ _ _ c.loop-reader.reader c.advance.new.self c.loop-reader.some_refused c.advance.result c.in_err-there.field-0.0 p.0
-    i.going c.in_err-there.was p.2 (λ e. (c.advance.ensures.stays e).0) c.advance.ensures.fault c.advance.ensures.too_long)
+    i.going c.in_err-there.was p.2 (λ e. (c.advance.ensures.stays e).0) i.bound c.advance.ensures.bound c.advance.ensures.fault c.advance.ensures.too_long)
 
 pub returns-in_err-refused-clause-outcome : goal.returns-in_err-refused-clause-outcome
 returns-in_err-refused-clause-outcome g c =
@@ -58,7 +58,7 @@ returns-in_err-refused-clause-outcome g c =
     let read = read_next _ _ _ i.going.first c.loop-reader.reader c.advance.new.self i.going.read on
     (c.in_ok-there.ensures.line c.if-not-there.false) (c.in_ok-there.ensures.last c.if-not-there.false) c.in_ok-there.ensures.bound in
     rw p.1 (came_failing (book_of c.args.session.now) (book_of c.loop-reader.session) c.args.trace _ _ _ _ _ _ _ _ c.advance.new.self i.going.first c.advance.new.self.line c.loop-reader.some_refused p.0
-    read i.going.so_far i.book (rw (sym p.2) at c.in_err-refused.ensures.which)
+    c.in_ok-there.ensures.bound read i.going.so_far i.book (rw (sym p.2) at c.in_err-refused.ensures.which)
     (λ h. rw c.line.ensures at (c.answer_next.ensures.part (cc (c.in_err-refused.was, p.2, h))))
     (λ h. ap g.K.Sink.taken (c.answer_next.ensures.memory (cc (c.in_err-refused.was, p.2, h))))
     (λ h. rw c.line.ensures at (c.answer_next.ensures.hand (cc (c.in_err-refused.was, p.2, h)))))
