@@ -2,7 +2,7 @@
 use Rattle.pm_algebra.proofs.Lists.{Among, among_Contains, here, there}
 use Rattle.pm_algebra.specs.Numbers.{Ratio}
 use Rattle.pm_fan.specs.Fans.{fan_with}
-use Rattle.pm_build_laws.specs.Laws.{settled_facts}
+use Rattle.pm_laws_build.specs.Laws.{settled_facts}
 use Rattle.pm_geom.specs.Things.{Orders}
 use Rattle.pm_props.specs.declared.property.PropId.TheVariants.{ConeAmbientDim, LinealitySpace, MaximalCones, Vertices}
 use Rattle.pm_types.specs.Right.{Right, RightAll, RightFact, RightTogether}

@@ -10,7 +10,7 @@ use Rattle.pm_laws_fans.proofs.Described.{pointed_described}
 use Rattle.pm_laws_fans.proofs.FanRows.{sets_right}
 use Rattle.pm_laws_fans.proofs.Members.{cut_stand, order_length, rests_order, stand_length}
 use Rattle.pm_laws_fans.proofs.NormalRows.{fan_thing_of, polytope_of, refused}
-use Rattle.pm_build_laws.proofs.ReadRights.{RightRows, read_rows, read_value, right_vertices, true_value}
+use Rattle.pm_laws_build.proofs.ReadRights.{RightRows, read_rows, read_value, right_vertices, true_value}
 use Rattle.pm_laws_fans.proofs.ReadSets.{RightSets, read_sets}
 use Rattle.pm_laws_fans.specs.Laws.{DescribesFan, FaceFanIsDescribed, cone_of, fan_of}
 use Rattle.pm_geom.proofs.Polar.{cols_at}

@@ -9,7 +9,7 @@ use Rattle.pm_fan.specs.Fans.{cut, has_members, holders_from, normal_rays, with_
 use Rattle.pm_laws_fans.proofs.Described.{fan_described}
 use Rattle.pm_laws_fans.proofs.FanRows.{rests_independent, sets_right}
 use Rattle.pm_laws_fans.proofs.Members.{cut_stand, held_at_sets, holders_are, kept_among, kept_once, kept_order, kept_rows, kept_stand, order_length, rests_order, stand_length, used_all, used_each}
-use Rattle.pm_build_laws.proofs.ReadRights.{RightRows, read_rows, read_value, right_facets, right_hull, right_vertices, true_value}
+use Rattle.pm_laws_build.proofs.ReadRights.{RightRows, read_rows, read_value, right_facets, right_hull, right_vertices, true_value}
 use Rattle.pm_laws_fans.proofs.ReadSets.{RightSets, read_sets}
 use Rattle.pm_laws_fans.specs.Laws.{NormalFanIsDescribed, cone_of, fan_of}
 use Rattle.pm_geom.proofs.Facets.{vanishes_line}
@@ -35,7 +35,7 @@ use Rattle.pm_object.specs.Known.{is_true, rows_at, sets_at}
 use Rattle.pm_object.specs.State.{read_at, value_of}
 use Rattle.pm_object.specs.declared.held.Condition.{Condition}
 use Rattle.pm_object.specs.declared.held.Condition.TheVariants as condition
-use Rattle.pm_props.specs.declared.object_type.ObjectType.TheVariants.{Fan, Polytope}
+use Rattle.pm_object_type.specs.declared.object_type.ObjectType.TheVariants.{Fan, Polytope}
 use Rattle.pm_props.specs.declared.property.PropId.TheVariants.{AffineHull, Bounded, Facets, Feasible, Vertices, VerticesInFacets}
 use Rattle.pm_types.specs.Right.{AreConeRays, InLinesOf, InOrder, IsBasis, IsIncidence, RowsAreBasis, RowsAreInOrder, SameRayOf}
 use Rattle.pm_types.specs.Things.{AreOrdersOf as AreOrdersOfType, IsOfType, IsThing, Thing}

@@ -1,7 +1,7 @@
 -- The sets that are read of a polytope, as right sets.
 use Rattle.pm_algebra.proofs.Lists.{Among, among_All}
-use Rattle.pm_build_laws.proofs.ReadRights.{read_value}
-use Rattle.pm_build_laws.specs.Laws.{ReadRight}
+use Rattle.pm_laws_build.proofs.ReadRights.{read_value}
+use Rattle.pm_laws_build.specs.Laws.{ReadRight}
 use Rattle.pm_geom.specs.Things.{Orders}
 use Rattle.pm_object.specs.Known.{held_sets, sets_at, value_of_sets}
 use Rattle.pm_object.specs.State.{State, is_held, read_at, value_of}

@@ -9,7 +9,7 @@ use Rattle.pm_geom.specs.Examples.{square}
 use Rattle.pm_geom.specs.ThingExamples.{right}
 use Rattle.pm_laws_fans.specs.Laws.{DescribesFan, IsFaceFanOf, IsNormalFanOf}
 use Rattle.pm_laws_normal_fans.specs.Examples.{even_corners, over_edges, quadrants}
-use Rattle.pm_props.specs.declared.object_type.ObjectType.TheVariants.{Cone, Fan, Polytope}
+use Rattle.pm_object_type.specs.declared.object_type.ObjectType.TheVariants.{Cone, Fan, Polytope}
 use Rattle.pm_types.specs.Things.{Thing}
 use lib.IntN.{pos}
 

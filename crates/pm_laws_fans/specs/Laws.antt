@@ -1,6 +1,6 @@
 -- What the fans of polytopes describe.
 use Rattle.std.specs.Prelude.{suc, ◌≡◌, None}
-use Rattle.pm_build_laws.specs.Laws.{ReadRight, settled_facts}
+use Rattle.pm_laws_build.specs.Laws.{ReadRight, settled_facts}
 use Rattle.pm_files.specs.Files.{SavedFile}
 use Rattle.pm_fan.specs.Conditions.{face_reads, face_refusal, normal_reads, normal_refusal}
 use Rattle.pm_fan.specs.Fans.{face_fan_of, normal_fan_of}
@@ -10,7 +10,7 @@ use Rattle.pm_laws_normal_fans.specs.Fans.{Fan}
 use Rattle.pm_laws_normal_fans.specs.NormalFans.{IsNormalFan}
 use Rattle.pm_laws_normal_fans.specs.Sums.{Cone, In}
 use Rattle.pm_object.specs.State.{State}
-use Rattle.pm_props.specs.declared.object_type.ObjectType.TheVariants.{Fan as OfFan}
+use Rattle.pm_object_type.specs.declared.object_type.ObjectType.TheVariants.{Fan as OfFan}
 use Rattle.pm_types.specs.Right.{RightAll}
 use Rattle.pm_types.specs.Things.{IsThing, Thing}
 

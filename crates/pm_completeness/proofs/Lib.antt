@@ -1,4 +1,0 @@
-pub mod Runs
-pub mod Complete
-pub mod Objects
-pub mod Examples

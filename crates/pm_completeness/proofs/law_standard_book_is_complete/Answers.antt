@@ -1,5 +1,0 @@
-use Rattle.pm_completeness.proofs.Complete.{book_is_complete}
-use Rattle.pm_completeness.proofs.law_standard_book_is_complete.Goals as goal
-
-pub returns : goal.returns
-returns c = book_is_complete

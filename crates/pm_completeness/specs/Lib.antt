@@ -1,3 +1,0 @@
-pub mod Completeness
-pub mod Objects
-pub mod Examples

@@ -1,0 +1,11 @@
+pub mod BipyramidExamples
+pub mod CanonicalExamples
+pub mod Examples
+pub mod FaceExamples
+pub mod GraphExamples
+pub mod OrderExamples
+pub mod RayExamples
+pub mod RowExamples
+pub mod ThingExamples
+pub mod FanExamples
+pub mod PrismExamples

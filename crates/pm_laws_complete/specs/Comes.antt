@@ -1,0 +1,57 @@
+-- The value comes: what is asked of an object is found wherever a chain leads to it and nothing that started failed.
+use Rattle.pm_command.specs.Commands.{RefSeen}
+use Rattle.pm_laws_complete.specs.Completeness.{HoldsAlone, HoldsObjective, descriptions}
+use Rattle.pm_laws_complete.specs.Objects.{BarsNothing}
+use Rattle.pm_machine.specs.Chains.{AreBarred, held_names, still_missing, table}
+use Rattle.pm_machine.specs.Events.{Configuration, Ensured, Event, after_event, begun, committed, configuration, excluded, settled, started, written}
+use Rattle.pm_machine.specs.Machines.{Machine}
+use Rattle.pm_machine.specs.Steps.{GiveStep}
+use Rattle.pm_machine.specs.declared.round.Ending.{Ending}
+use Rattle.pm_machine.specs.declared.round.Ending.TheVariants.{Crowded, Found}
+use Rattle.pm_object_type.specs.declared.object_type.ObjectType.TheVariants.{Fan}
+use Rattle.pm_props.specs.Properties.{is_in_use}
+use Rattle.pm_props.specs.Sets.{only}
+use Rattle.pm_props.specs.declared.kind.RuleId.{RuleId}
+use Rattle.pm_props.specs.declared.property.PropId.{PropId}
+use Rattle.pm_props.specs.declared.set.PropSet.{PropSet}
+use Rattle.pm_rules.specs.Chains.{LeadsTo}
+use Rattle.pm_rules.specs.declared.rule.Rule.{Rule}
+use Rattle.pm_script.specs.Replies.{Remarks, refused}
+use Rattle.pm_script.specs.declared.refusal.Refusal.TheVariants.{NoChain}
+use Rattle.pm_standard.specs.Book.{standard_rules}
+use Rattle.std.specs.List.{Contains}
+use Rattle.std.specs.Prelude.{Bool, IsTrue, List, Option, [], false, true, ℕ, ◌∷◌, ◌≡◌}
+
+-- the event is that a rule is excluded: its client failed, or it found a false precondition
+abbrev pub is_exclusion : Event → Bool
+is_exclusion (excluded e) = true
+is_exclusion settled = false
+is_exclusion (begun chain) = false
+is_exclusion (started kind) = false
+is_exclusion (committed answer) = false
+is_exclusion (written r) = false
+
+-- none of the events is
+abbrev pub ExcludesNone : List Event → Type 0
+ExcludesNone [] = Unit {0}
+ExcludesNone (e ∷ events) = (is_exclusion e ≡ false) × ExcludesNone events
+
+-- a chain of rules that are not barred now leads to what is asked and missing now
+abbrev pub SomeChainLeadsNow : List Rule → Option ℕ → PropSet → Configuration → Type 0
+SomeChainLeadsNow book sub asked c = (barred : List RuleId) → AreBarred book c.clients c.object sub barred
+    → (chain : List RuleId) × LeadsTo book (table sub c.object.of) barred (held_names sub c.object) (still_missing sub asked c.object) chain
+
+-- where one does as the object is settled, and no rule is excluded, the ending is that all is found, or that the planner was crowded
+abbrev pub ValueComes : Type 0
+ValueComes = (book : List Rule) (sub : Option ℕ) (asked : PropSet) (ending : Ending) (old new : Configuration) (e : Ensured book sub asked ending old new)
+    → ExcludesNone e.reaches.events → SomeChainLeadsNow book sub asked (after_event sub settled old) → ¬ (ending ≡ Crowded) → ending ≡ Found
+
+-- so `give` is not refused for want of a chain, where one led there as the object was settled and no rule that it started was excluded
+abbrev pub GiveComes : Type 0
+GiveComes = (book : List Rule) (old new : Machine) (ref : RefSeen) (text : List ℕ) (more : Remarks) (g : GiveStep book old ref text (refused NoChain more) new)
+    → ExcludesNone g.5.0.reaches.events → SomeChainLeadsNow book g.0.sub (only g.2) (after_event g.0.sub settled (configuration g.0.object old.clients)) → ⊥
+
+-- by the standard book one leads there where the settled object is a polytope or cone that holds one description alone, and nothing is barred for it
+abbrev pub StandardChainLeadsNow : Type 0
+StandardChainLeadsNow = (sub : Option ℕ) (c : Configuration) → ¬ (c.object.of ≡ Fan) → (d : PropId × PropId) → Contains descriptions d → HoldsAlone d (held_names sub c.object) → HoldsObjective sub (held_names sub c.object)
+    → BarsNothing sub c → (p : PropId) → IsTrue (is_in_use sub c.object.of p) → SomeChainLeadsNow standard_rules sub (only p) c

@@ -1,0 +1,4 @@
+pub mod Completeness
+pub mod Objects
+pub mod Examples
+pub mod Comes

@@ -1,0 +1,47 @@
+//! What the standard book finds: of a polytope or cone that holds one of the four descriptions, each property of its type;
+//! and what a command finds by any book: all that is asked, where a chain leads to it and no client fails.
+//! It has no code.
+#![tactic(auto)]
+
+ghost use Rattle.pm_laws_complete.specs.Comes.{GiveComes, StandardChainLeadsNow, ValueComes};
+ghost use Rattle.pm_laws_complete.specs.Completeness.{StandardBookIsComplete};
+ghost use Rattle.pm_laws_complete.specs.Examples.{DescriptionsAreRead, ObjectsAreRead};
+ghost use Rattle.pm_laws_complete.specs.Objects.{SomeChainLeads};
+
+/// From each of the four descriptions the standard book has a chain to each property of polytopes, and of cones.
+pub fn law_standard_book_is_complete()
+    ensures { StandardBookIsComplete }
+{}
+
+/// Where an object holds one description alone, and no rule is barred for it, no property of its table is refused for want of a chain.
+pub fn law_some_chain_leads()
+    ensures { SomeChainLeads }
+{}
+
+/// Where a chain of rules that are not barred leads from the settled object to what is asked, the planner is not crowded and
+/// no started rule fails or finds a false precondition, all that is asked is found.
+pub fn law_value_comes()
+    ensures { ValueComes }
+{}
+
+/// So `give` is not refused for want of a chain, where one led there as the object was settled and no rule that it started failed
+/// or found a false precondition.
+pub fn law_give_comes()
+    ensures { GiveComes }
+{}
+
+/// By the standard book one leads there, where the settled object is a polytope or cone that holds one description alone, and
+/// nothing is barred for it: then the value comes, or the planner is crowded, or a rule failed.
+pub fn law_standard_chain_leads_now()
+    ensures { StandardChainLeadsNow }
+{}
+
+/// Which names are held where a description is, and no other name that has a tag.
+pub fn example_descriptions()
+    ensures { DescriptionsAreRead }
+{}
+
+/// When no rule is barred for an object.
+pub fn example_objects()
+    ensures { ObjectsAreRead }
+{}
