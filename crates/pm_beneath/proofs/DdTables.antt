@@ -1,0 +1,19 @@
+-- What double description of the polar hands out at a front is a table of the facets.
+use Rattle.pm_algebra.proofs.RowLaws.{dot_comm}
+use Rattle.pm_algebra.specs.Rows.{Row}
+use Rattle.pm_bases.specs.Bases.{row_at}
+use Rattle.pm_beneath.specs.CellLists.{IsFacetTable}
+use Rattle.pm_dd.specs.Building.{AreProducts}
+use Rattle.pm_dd.specs.Tables.{IsRayTable}
+use Rattle.pm_geom.specs.Faces.{ray}
+use Rattle.std.specs.Prelude.{ℕ, Bool, List}
+use Rattle.std.proofs.Common.{◌∙◌}
+use lib.IntN.{ℤ}
+
+pub facet_table : (n : ℕ) (E J : List Row) (f : ℕ) (V : List Row) (Z : List (List Bool)) (vs : List ℤ) → IsRayTable n E J f V Z → AreProducts (row_at J f) V vs → IsFacetTable J V vs Z f
+facet_table n E J f V Z vs t p = record {
+  values_many = p.as_many;
+  zeros_many = t.as_many;
+  values = λ i l. p.each i l ∙ dot_comm (row_at J f) (ray V i);
+  zeros = λ i q l m. let z = (t.zeros i l).exact q in (λ h. dot_comm (ray V i) (row_at J q) ∙ (z.0 h).1, λ e. z.1 (m, dot_comm (row_at J q) (ray V i) ∙ e));
+}

@@ -1,0 +1,12 @@
+mod ListedCells
+mod CellTurns
+mod DdTables
+mod FrontLaws
+mod NameLaws
+mod RunLaws
+mod LeadLaws
+mod PlaceLaws
+mod DoubleLists
+mod SortedLaws
+mod RunOutcomes
+mod PlaceOutcomes

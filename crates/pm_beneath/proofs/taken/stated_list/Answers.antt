@@ -1,0 +1,59 @@
+use Rattle.pm_beneath.proofs.LeadLaws.{signs_long}
+use Rattle.pm_beneath.proofs.PlaceOutcomes.{marks_many, stated_made}
+use Rattle.pm_beneath.proofs.taken.stated_list.Goals as goal
+use Rattle.pm_dd.proofs.LeadingLaws.{rest_of}
+use Rattle.pm_dd.specs.Fronts.{both_signs}
+use Rattle.pm_elim.specs.Enlarging.{MarkEnlarging}
+use Rattle.pm_hull.proofs.HullLaws.{double_list_made, list_cols, list_length}
+use Rattle.std.proofs.Common.{ap, arith, length, ◌*◌, ◌++◌, ◌≡◌, ◌≤◌, ◌∙◌}
+
+pub enlarging-requires-clause-columns : goal.enlarging-requires-clause-columns
+enlarging-requires-clause-columns c =
+    let list : c.in_ok-list.list.items ≡ both_signs c.in_ok-basis.basis.items ++ c.args.rays.now = rw (c.in_ok-signs.ensures, c.deref.ensures.value) at c.in_ok-list.ensures in
+    let double = double_list_made c.args.cols c.args.lineality.now c.args.rays.now c.in_ok-basis.basis.items c.in_ok-list.list.items c.in_ok-basis.ensures.basis.0 c.in_ok-basis.ensures.basis.1 list in
+    rw c.deref-2.ensures.value (list_cols c.args.cols c.args.lineality.now c.args.rays.now c.in_ok-list.list.items double c.requires.ray_cols)
+
+pub enlarging-requires-clause-few_rows : goal.enlarging-requires-clause-few_rows
+enlarging-requires-clause-few_rows c =
+    let list : c.in_ok-list.list.items ≡ both_signs c.in_ok-basis.basis.items ++ c.args.rays.now = rw (c.in_ok-signs.ensures, c.deref.ensures.value) at c.in_ok-list.ensures in
+    let double = double_list_made c.args.cols c.args.lineality.now c.args.rays.now c.in_ok-basis.basis.items c.in_ok-list.list.items c.in_ok-basis.ensures.basis.0 c.in_ok-basis.ensures.basis.1 list in
+    let l = list_length c.args.cols c.args.lineality.now c.args.rays.now c.in_ok-list.list.items double in
+    rw c.deref-2.ensures.value (omega arith)
+
+pub slice_bounds-in_stated_order-count : goal.slice_bounds-in_stated_order-count
+slice_bounds-in_stated_order-count c =
+    let list : c.in_ok-list.list.items ≡ both_signs c.in_ok-basis.basis.items ++ c.args.rays.now = rw (c.in_ok-signs.ensures, c.deref.ensures.value) at c.in_ok-list.ensures in
+    let marks : MarkEnlarging c.in_ok-list.list.items c.in_ok-marks.marks.items = rw c.deref-2.ensures.value at c.in_ok-marks.ensures.marks in
+    let a = marks.as_many in
+    let b = ap length list ∙ signs_long c.in_ok-basis.basis.items c.args.rays.now in
+    let n = c.len-lead.ensures in
+    let o = c.in_ok-basis.basis.ok.0 in
+    rw c.deref-3.ensures.value (omega arith)
+
+pub slice_bounds-in_stated_order-start : goal.slice_bounds-in_stated_order-start
+slice_bounds-in_stated_order-start c =
+    let list : c.in_ok-list.list.items ≡ both_signs c.in_ok-basis.basis.items ++ c.args.rays.now = rw (c.in_ok-signs.ensures, c.deref.ensures.value) at c.in_ok-list.ensures in
+    let marks : MarkEnlarging c.in_ok-list.list.items c.in_ok-marks.marks.items = rw c.deref-2.ensures.value at c.in_ok-marks.ensures.marks in
+    let a = marks.as_many in
+    let b = ap length list ∙ signs_long c.in_ok-basis.basis.items c.args.rays.now in
+    let n = c.len-lead.ensures in
+    let o = c.in_ok-basis.basis.ok.0 in
+    let h : 2 * c.len-lead.result ≤ length c.deref-3.result.now = rw c.deref-3.ensures.value (omega arith) in
+    h
+
+pub in_stated_order-requires-clause-as_many : goal.in_stated_order-requires-clause-as_many
+in_stated_order-requires-clause-as_many c =
+    let list : c.in_ok-list.list.items ≡ both_signs c.in_ok-basis.basis.items ++ c.args.rays.now = rw (c.in_ok-signs.ensures, c.deref.ensures.value) at c.in_ok-list.ensures in
+    let marks : MarkEnlarging c.in_ok-list.list.items c.in_ok-marks.marks.items = rw c.deref-2.ensures.value at c.in_ok-marks.ensures.marks in
+    let lead : c.len-lead.result ≡ length c.in_ok-basis.basis.items = c.len-lead.ensures ∙ c.in_ok-basis.basis.ok.0 in
+    rw (c.deref-3.ensures.value, lead, rest_of c.in_ok-marks.marks.items (2 * length c.in_ok-basis.basis.items)) (marks_many c.in_ok-basis.basis.items c.args.rays.now c.in_ok-list.list.items c.in_ok-marks.marks.items list marks.as_many)
+
+pub returns-clause-stated : goal.returns-clause-stated
+returns-clause-stated c =
+    let list : c.in_ok-list.list.items ≡ both_signs c.in_ok-basis.basis.items ++ c.args.rays.now = rw (c.in_ok-signs.ensures, c.deref.ensures.value) at c.in_ok-list.ensures in
+    let marks : MarkEnlarging c.in_ok-list.list.items c.in_ok-marks.marks.items = rw c.deref-2.ensures.value at c.in_ok-marks.ensures.marks in
+    let lead : c.len-lead.result ≡ length c.in_ok-basis.basis.items = c.len-lead.ensures ∙ c.in_ok-basis.basis.ok.0 in
+    stated_made c.args.cols c.args.lineality.now c.args.rays.now c.in_ok-basis.basis.items c.in_ok-list.list.items c.in_ok-taken.taken.rows.items c.in_ok-basis.ensures.basis.0 c.in_ok-marks.marks.items c.in_ok-taken.taken.places.items c.in_ok-taken.taken.start c.in_ok-basis.ensures.basis.1 list marks
+    (rw (c.deref-3.ensures.value, lead, rest_of c.in_ok-marks.marks.items (2 * length c.in_ok-basis.basis.items)) at c.in_ok-taken.ensures.places)
+    (rw (c.deref-3.ensures.value, lead, rest_of c.in_ok-marks.marks.items (2 * length c.in_ok-basis.basis.items)) at c.in_ok-taken.ensures.rows)
+    (rw (c.deref-3.ensures.value, lead, rest_of c.in_ok-marks.marks.items (2 * length c.in_ok-basis.basis.items)) at c.in_ok-taken.ensures.start)

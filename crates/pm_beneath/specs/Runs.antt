@@ -1,0 +1,53 @@
+-- The cells of all fronts, as double description takes the rows.
+use Rattle.std.specs.Prelude.{ℕ, zero, suc, ◌+◌, ◌≡◌, ◌<◌, ◌↔◌, List, [], ◌∷◌, ◌++◌, length, map, take}
+use Rattle.pm_algebra.specs.Rows.{Row}
+use Rattle.pm_dd.specs.Fronts.{HalfSpaces}
+use Rattle.pm_dd.specs.Refusals.{IsMemory, IsShown, IsShownOnRows}
+use Rattle.pm_geom.specs.Cones.{IsOrder}
+use Rattle.pm_geom.specs.FaceCounts.{IsLexBefore}
+use Rattle.pm_geom.specs.Graphs.{IsAscending}
+use Rattle.std.specs.List.{All, AllPairs, Contains}
+use Rattle.pm_beneath.specs.CellLists.{AreNextCells}
+use Rattle.pm_beneath.specs.declared.run.RunFail.{RunFail}
+use Rattle.pm_beneath.specs.declared.run.RunFail.TheVariants.{Engine, Crowd}
+
+-- 0, 1, .., k - 1
+abbrev pub below : ℕ → List ℕ
+below zero = []
+below (suc k) = below k ++ k ∷ []
+
+-- T has the cells of the first start + d rows of J: the first `start` alone, and then d steps, each with the facet rows of its front
+abbrev pub IsRun : ℕ → List Row → List Row → ℕ → ℕ → List (List ℕ) → Type 0
+IsRun n E J start zero T = T ≡ below start ∷ []
+IsRun n E J start (suc d) U = (T : List (List ℕ)) × IsRun n E J start d T × ((V : List Row) × IsOrder n (HalfSpaces E (take (start + d) J)) V × AreNextCells J V (start + d) T U)
+
+-- so for f rows
+abbrev pub IsRunTo : ℕ → List Row → List Row → ℕ → ℕ → List (List ℕ) → Type 0
+IsRunTo n E J start f T = (d : ℕ) × (f ≡ start + d) × IsRun n E J start d T
+
+-- A and B have the same sets
+abbrev pub HaveSameSets : List (List ℕ) → List (List ℕ) → Type 0
+HaveSameSets A B = (s : List ℕ) → Contains A s ↔ Contains B s
+
+-- the refusal is want of memory, or has the sets of T, each once, and more than 2,048
+abbrev pub IsCrowdOf : ℕ → List (List ℕ) → RunFail → Type 0
+IsCrowdOf front T (Engine f) = IsMemory f
+IsCrowdOf front T (Crowd f cells) = (f ≡ front) × HaveSameSets (map (λ s. s.items) cells.items) T × AllPairs IsLexBefore (map (λ s. s.items) cells.items) × (2048 < length cells.items)
+
+-- T has the cells of the first f rows, each once, and more than 2,048
+pub record IsCrowdedRun (n : ℕ) (E J : List Row) (start f : ℕ) (T : List (List ℕ)) : Type 0 where
+  pub run : IsRunTo n E J start f T
+  pub within : f < suc (length J)
+  pub ordered : AllPairs IsLexBefore T
+  pub ascending : All (IsAscending f) T
+  pub many : 2048 < length T
+
+-- the refusal is shown by double description, or there is a front with more than 2,048 cells
+abbrev pub IsRunFail : ℕ → List Row → List Row → ℕ → RunFail → Type 0
+IsRunFail n E J start (Engine f) = IsShownOnRows n E J start f
+IsRunFail n E J start (Crowd f cells) = IsCrowdedRun n E J start f (map (λ s. s.items) cells.items)
+
+-- so on the list X that the rows are taken from
+abbrev pub IsListFail : ℕ → List Row → List Row → List Row → ℕ → RunFail → Type 0
+IsListFail n X E J start (Engine f) = IsShown n X f
+IsListFail n X E J start (Crowd f cells) = IsCrowdedRun n E J start f (map (λ s. s.items) cells.items)

@@ -1,0 +1,60 @@
+// The call.
+
+ghost use Rattle.pm_algebra.specs.Rows.{HasCols};
+ghost use Rattle.pm_beneath.specs.Placed.{IsPlacingTriangulation, IsShownPlace};
+ghost use Rattle.pm_hull.specs.Hulls.{AreFacets};
+ghost use Rattle.pm_laws_placing.specs.Triangulations.{IsTriangulation};
+ghost use Rattle.std.specs.Prelude.{IfErr, IfOk, length, map, ◌<◌, ◌^◌, ◌≤◌};
+
+use crate::fails::PlaceFail;
+use crate::names::ordered_cells;
+use crate::placed::all_placed;
+use crate::run::MOST_CELLS;
+use pm_geom::descriptions::Facets;
+use pm_vector::Ints;
+use std::alloc::Global;
+
+/// The facets of a cone, and its placing triangulation.
+#[derive(Drop)]
+pub struct Placing {
+    /// As `to_facets` answers them.
+    pub facets: Facets,
+    /// For each cell the places of its rays: each once, rising, in lexicographic order.
+    pub simplices: Vec<Vec<u32>>,
+}
+
+/// The facet rows of cone(rays) + span(lineality) and the echelon basis of the rows that vanish on it, as `to_facets` answers them, and the placing triangulation of that cone.
+///
+/// The rows of the double description list, which is the echelon basis of the lineality both ways and then the rays, are taken in the stated order: first those that enlarge the span of the rows before them. The first cell has the rays among these. Each later ray joins the cells' faces on the facets of the cone so far that it is beyond (De Loera, Rambau and Santos, Triangulations, section 4.3).
+/// The cells are a triangulation of the cone. Each stands once, as a rising list of places of rays, in lexicographic order; there are at most 2,048 of them.
+///
+/// `Wide` and `Many` come only with evidence on the lineality, or on the double description list; `Crowded` only with the cells of a front that has more than 2,048.
+pub fn place(
+    alloc: Global,
+    cols: usize,
+    rays: &[Ints],
+    lineality: &[Ints],
+) -> Result<Placing, PlaceFail>
+    requires ray_cols { HasCols cols rays.now }
+    requires line_cols { HasCols cols lineality.now }
+    requires few_rays { length rays.now < 2 ^ 28 }
+    requires few_lines { length lineality.now < 2 ^ 28 }
+    requires few_columns { cols < 2 ^ 30 }
+    ensures facets { IfOk result (λ p. AreFacets cols rays.now lineality.now p.facets.facets.items p.facets.hull.items) }
+    ensures few_facets { IfOk result (λ p. length p.facets.facets.items ≤ 2048) }
+    ensures cells { IfOk result (λ p. IsPlacingTriangulation cols lineality.now rays.now (map (λ s. s.items) p.simplices.items)) }
+    ensures triangulation { IfOk result (λ p. IsTriangulation cols rays.now lineality.now (map (λ s. s.items) p.simplices.items)) }
+    ensures few_cells { IfOk result (λ p. length p.simplices.items ≤ MOST_CELLS) }
+    ensures shown { IfErr result (IsShownPlace cols lineality.now rays.now) }
+{
+    let placed = all_placed(alloc, cols, rays, lineality)?;
+    let simplices = ordered_cells(alloc, &placed.whole.cells, &placed.taken.places, rays.len())?;
+    let whole = placed.whole;
+    Ok(Placing {
+        facets: Facets {
+            facets: whole.facets,
+            hull: whole.hull,
+        },
+        simplices,
+    })
+}

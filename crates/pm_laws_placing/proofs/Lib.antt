@@ -1,0 +1,15 @@
+pub mod LeastSums
+pub mod PlacingStep
+pub mod FacetSpans
+pub mod FullSums
+pub mod CellMasks
+pub mod CellSteps
+pub mod Places
+pub mod Starts
+pub mod Sequences
+pub mod Triangulates
+pub mod Examples
+pub mod PlacedSquare
+pub mod Different
+pub mod Meets
+pub mod Once

@@ -1,0 +1,4 @@
+pub mod Triangulations
+pub mod Placing
+pub mod LeastSums
+pub mod Examples
