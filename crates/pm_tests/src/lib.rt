@@ -1,0 +1,14 @@
+//! Tests of what no reply of the program shows: cells of sites, the checker of tables, wide numbers, sources and stores in memory, and
+//! the texts of errors.
+#![tactic(auto)]
+
+#[cfg(test)]
+mod cells;
+#[cfg(test)]
+mod memory;
+#[cfg(test)]
+mod numbers;
+#[cfg(test)]
+mod plans;
+#[cfg(test)]
+mod rows;

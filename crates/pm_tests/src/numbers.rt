@@ -1,0 +1,90 @@
+// Numbers of up to 512 bits, values as keys and in order, and copies.
+
+use crate::rows::site;
+use pm_bits::BitRow;
+use pm_elim::{DualFail, dual_basis};
+use pm_fraction::Fraction;
+use pm_matrix::Matrix;
+use pm_wide::{WideInt, combine_primitive};
+use std::collections::{BTreeMap, HashSet};
+
+const MOST: i128 = 170_141_183_460_469_231_731_687_303_715_884_105_727;
+
+const HALF: i128 = 85_070_591_730_234_615_865_843_651_857_942_052_864;
+
+// Products of the greatest numbers, whose difference is in the range; and a combination whose entries leave it before they are divided.
+#[test]
+fn wide_numbers_come_back_into_the_range(rt: HostRuntime) {
+    let square = WideInt::product(MOST, MOST);
+    assert!(rt; square.narrow().is_none() && square.is_positive());
+    let difference = square.minus(WideInt::product(MOST, MOST - 1));
+    assert!(rt; difference.expect(&rt, "a difference").narrow() == Some(MOST));
+    let mut row = [MOST, 2];
+    let other = [0, 1];
+    let answer = combine_primitive(MOST, row.as_mut_slice(), MOST, other.as_slice());
+    assert!(rt; answer.is_ok() && row == [MOST, 1]);
+    let answer = combine_primitive(MOST, row.as_mut_slice(), 1, other.as_slice());
+    assert!(rt; answer.is_err() && row == [MOST, 1]);
+}
+
+// The rows that a list is dual to; rows that are dependent; and a step that leaves the range where the first row is left out.
+#[test]
+fn dual_rows_are_found(rt: HostRuntime) {
+    let alloc = rt.alloc();
+    let rows = [
+        site(&rt, alloc, 1, 0, 0),
+        site(&rt, alloc, 1, 1, 0),
+        site(&rt, alloc, 1, 1, 1),
+    ];
+    let found = dual_basis(alloc, rows.as_slice(), 3);
+    let shown = format!(in alloc; "{found:?}").expect(&rt, "room for a text");
+    assert_eq!(rt;
+        shown.as_str(),
+        "Ok([Ints { entries: [1, -1, 0] }, Ints { entries: [0, 1, -1] }, Ints { entries: [0, 0, 1] }])"
+    );
+    let twice = [site(&rt, alloc, 1, 2, 3), site(&rt, alloc, 2, 4, 6)];
+    let found = dual_basis(alloc, twice.as_slice(), 3);
+    assert!(rt; matches!(&found, Err(DualFail::Dependent)));
+    let wide = [
+        site(&rt, alloc, 1, 0, 0),
+        site(&rt, alloc, 3, HALF, 0),
+        site(&rt, alloc, 5, 1, 1),
+    ];
+    let found = dual_basis(alloc, wide.as_slice(), 3);
+    let shown = format!(in alloc; "{found:?}").expect(&rt, "room for a text");
+    assert_eq!(rt;
+        shown.as_str(),
+        "Err(Wide(ElimEvidence { list: Without(0), front: 1, basis: [Ints { entries: [3, 85070591730234615865843651857942052864, 0] }], part: Ints { entries: [5, 1, 1] }, by: 0, column: 1 }))"
+    );
+}
+
+// The same number is one key; the row that has the first difference comes first; a matrix that is copied and turned.
+#[test]
+fn values_are_keys_and_have_an_order(rt: HostRuntime) {
+    let half = Fraction::new(1, 2).expect(&rt, "a number");
+    let same = Fraction::read("2/4").expect(&rt, "a number");
+    let mut seen = HashSet::new(rt.alloc());
+    seen.insert(half).expect(&rt, "room for a number");
+    seen.insert(same).expect(&rt, "room for a number");
+    assert!(rt; seen.len() == 1);
+    let numbers = [half, Fraction::zero(), half.neg()].to_vec(rt.alloc());
+    let mut numbers = numbers.expect(&rt, "room for numbers");
+    numbers.sort().expect(&rt, "room to sort");
+    assert!(rt; numbers.as_slice() == [half.neg(), Fraction::zero(), half].as_slice());
+    let mut rows = BTreeMap::new(rt.alloc());
+    for name in ["a", "b"] {
+        let mut row = BitRow::with_len(rt.alloc(), 70).expect(&rt, "room for a row");
+        assert!(rt; row.len() == 70);
+        row.set(3);
+        let inserted: Result<_, _> = rows.insert(row, name);
+        inserted.expect(&rt, "room for a name");
+    }
+    assert!(rt; rows.len() == 1 && rows.values().next() == Some(&"b"));
+    let mut matrix = Matrix::new(rt.alloc(), 2);
+    matrix
+        .push_row([half, same].as_slice())
+        .expect(&rt, "room for a row");
+    let copy = matrix.copy(rt.alloc()).expect(&rt, "a copy");
+    let turned = copy.transpose(rt.alloc()).expect(&rt, "the columns");
+    assert!(rt; turned.rows() == 2 && turned.cols() == 1);
+}
