@@ -16,6 +16,7 @@ import cdd_files
 import command
 import normaliz_files
 import polymake_files
+import rows_files
 from entries import row_text
 
 BRIDGES = {
@@ -24,6 +25,7 @@ BRIDGES = {
     "from-cdd": (cdd_files.from_words, cdd_files.from_cdd),
     "to-cdd": (cdd_files.to_words, cdd_files.to_cdd),
     "from-normaliz": (normaliz_files.from_words, normaliz_files.from_normaliz),
+    "from-rows": (rows_files.from_words, rows_files.from_rows),
 }
 
 
@@ -112,6 +114,35 @@ def polymake(paths, folder, names):
     if missing:
         raise Absent(f"polymake did not save {', '.join(missing)}: {said[1][-400:]}")
     return saved
+
+
+PROGRAMS_SCRIPT = """use application "polytope";
+my ($programs, $fan, $unbounded, $made) = @ARGV;
+for my $it (@{load($programs)->LP}) {
+    print join(" ", $it->name, $it->MAXIMAL_VALUE, $it->MINIMAL_VALUE, $it->MAXIMAL_FACE), "\\n";
+}
+my $read = load($fan);
+my @truths = map { $read->give($_) ? "true" : "false" } qw(PURE SIMPLICIAL);
+my @counts = map { $read->give($_) } qw(N_RAYS N_MAXIMAL_CONES LINEALITY_DIM);
+print join(" ", $read->FAN_DIM, @truths, @counts), "\\n";
+my $new = new Polytope(INEQUALITIES => [[0,1,0],[0,0,1],[-1,1,1]]);
+$new->F_VECTOR;
+save($new, $unbounded);
+my $normal = fan::normal_fan(cube(3));
+$normal->give($_) for qw(RAYS MAXIMAL_CONES LINEALITY_SPACE FAN_DIM PURE SIMPLICIAL N_RAYS N_MAXIMAL_CONES);
+save($normal, $made);
+"""
+
+
+def polymake_programs(folder, paths):
+    """What polymake finds of a file with programs and of a fan, and files that it makes itself."""
+    script = folder / "programs.pl"
+    script.write_text(PROGRAMS_SCRIPT)
+    wrote, told = ran(["polymake", "--script", script, *paths], folder)
+    missing = [it.name for it in paths if not it.is_file()]
+    if missing:
+        raise Absent(f"polymake did not save {', '.join(missing)}: {told[-400:]}")
+    return wrote.splitlines()
 
 
 def matrix_text(name, rows, in_brackets):

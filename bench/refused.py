@@ -27,7 +27,7 @@ def bad_polymake():
     yield bad("_application polytope\nPOINTS\n1 0\n", 1, "before version 4")
     yield bad('{"POINTS":[["1"]]}', 1, "no '_type'")
     yield bad('{\n"POINTS":[["1"]],\n"_type":"polytope::Polytope<Float>"}', 3, "Polytope<Float>")
-    yield bad(data('"N_FACETS":1', '"fan::PolyhedralFan<Rational>"'), 1, "PolyhedralFan")
+    yield bad(data('"N_FACETS":1', '"fan::PolyhedralComplex<Rational>"'), 1, "PolyhedralComplex")
     yield bad(data('"POINTS":[["1","0"],["1"]]'), 2, "row 2: a row of 1 entries in a matrix of 2")
     yield bad(data('"POINTS":[["1","0"],\n["1","0"],\n["1"]]'), 4, "row 3")
     yield bad(data('"POINTS":[["1","0.5"]]'), 2, "'0.5' is no fraction")
@@ -77,6 +77,41 @@ def bad_polymake():
     pair = data('"FACETS":[["1","1"]],\n"AFFINE_HULL":[]')
     yield bad(pair, 3, "AFFINE_HULL: it is left out beside FACETS", "--only", "FACETS")
     yield bad(pair, None, "'_type' is asked for", "--only", "_type")
+    doubtful = data('"INEQUALITIES":[["0","1"]],\n"F_VECTOR":["1"]')
+    yield bad(doubtful, 3, "may be unbounded", "--only", "F_VECTOR")
+    yield bad(data('"FACETS":[{"cols":2}],\n"AFFINE_HULL":[{"cols":2}]'), 2, "may be unbounded")
+
+
+def bad_fans_and_programs():
+    bad = lambda text, line, told, *words: BadFile("from-polymake", text, line, told, words)
+    of_fan = '"fan::PolyhedralFan<Rational>"'
+    given = '"INPUT_RAYS":[["1"]],\n"INPUT_CONES":[[0]]'
+    yield bad(data(given, of_fan), 2, "RAYS and MAXIMAL_CONES")
+    yield bad(data('"RAYS":[["1"]],\n"MAXIMAL_CONES":[["x"]]', of_fan), 3, "no whole number")
+    rows = '"POINTS":[["1","1"]],\n'
+    yield bad(data(f'{rows}"LP":[["0","1"]]'), 3, "no linear programs")
+    program = lambda name, entries: data(f'{rows}"LP":[{{{name}"LINEAR_OBJECTIVE":[{entries}]}}]')
+    yield bad(program("", '"0"'), 3, "lp0: LINEAR_OBJECTIVE: 1 columns")
+    yield bad(program('"_id":"a",', '"0","x"'), 3, "a: LINEAR_OBJECTIVE: 'x' is no fraction")
+
+
+def bad_rows():
+    bad = lambda text, line, told, *words: BadFile("from-rows", text, line, told, words)
+    yield bad("", None, "no rows of points or inequalities")
+    yield bad("1 2\n1\n", 2, "row 2: 1 entry, where the first row has 2")
+    yield bad("x,y\n1,2\n", 1, "row 1: 'x' is no fraction")
+    yield bad("1,,2\n", 1, "an entry is missing")
+    yield bad("1 2\n1 2,\n", 2, "row 2: an entry is missing")
+    yield bad("1 1/0\n", 1, "divides by zero")
+    yield bad("1 1e99999\n", 1, "is no fraction")
+    yield bad("1 1e9999\n", 1, "digits")
+    yield bad("1 2\ninequalities\n1 2\n", 2, "'points' and 'inequalities' are two descriptions")
+    yield bad("points\n1 2\ndirections\n1\n", 3, "directions: rows of 1 entry do not suit")
+    yield bad("directions\n1 2\n", 1, "directions without a point")
+    yield bad("points\n", None, "no row tells how many columns")
+    yield bad("1 2\nmaximize\n1 2 3\n1 2 3\n", 2, "one row is wanted")
+    yield bad("1 2\nmaximize\n1 2 3\nminimize\n1 2 3\n", 4, "a second objective")
+    yield bad("1 2\nmaximize\n1 2\n", 2, "a linear program is one of a polytope", "--cone")
 
 
 def cdd(rows, size="1 3 rational", head="H-representation\n", tail=""):
@@ -96,7 +131,8 @@ def bad_cdd():
         "'noise here' is not understood",
     )
     yield bad(cdd("1 0 1", head="name\nsecond name\nH-representation\n"), 2, "is not understood")
-    yield bad(cdd("1 0 1", size="1 3 real"), 3, "numbers of the kind 'real'")
+    yield bad(cdd("1 0 1", size="1 3 complex"), 3, "numbers of the kind 'complex'")
+    yield bad(cdd("1 0 1e", size="1 3 real"), 4, "row 1: '1e' is no fraction")
     yield bad(cdd("1 0 1", size="1 3"), 3, "no size")
     yield bad(cdd("1 0 1", size="-1 3 rational"), 3, "'-1' is no number of rows")
     yield bad(cdd("1 0 1", size="1 x rational"), 3, "'x' is no number of columns")
@@ -122,7 +158,11 @@ def bad_cdd():
     yield bad(
         cdd("1 0 1", head=linear.format("1 1") + "linearity 1 1\n"), 3, "a second 'linearity'"
     )
-    yield bad(cdd("1 0 1", tail="nonnegative\n"), 6, "'nonnegative' changes what the file means")
+    yield bad(cdd("1 0 1", tail="maximize\n1\n1\n"), 6, "maximize: 2 entries")
+    yield bad(cdd("1\n0", size="1 3 rational"), 4, "row 1: 1 entries")
+    generators = cdd("1 0 1", head="V-representation\n", tail="nonnegative\n")
+    yield bad(generators, 6, "'nonnegative' is of inequalities alone")
+    yield bad(cdd("0 0 1", tail="maximize 0 1 1\n"), 6, "is one of a polytope", "--cone")
     yield bad(cdd("1 0 1", tail="hull\n"), 6, "'hull' changes what the file means")
     yield bad(cdd("1 0 1", tail="frobnicate 3\n"), 6, "the option 'frobnicate' is not known")
     yield bad(cdd("1 0 1", tail="maximize\n0 1\n"), 6, "maximize: 2 entries")
@@ -161,7 +201,9 @@ def bad_normaliz():
     yield bad("amb_space 2\ncone 1\n1 0\ncone 1\n1 1\n", 4, "a second 'cone'")
     yield bad("amb_space 2\ncone 1\n1 0\ninequalities 1\n1 1\n", 4, "an intersection")
     yield bad("amb_space 2\n/* a\ncomment */\nequations 1\n1 1\n", 4, "no coordinate is negative")
-    yield bad("amb_space 2\ncone 1\n1 0\ngrading\n1 1\n", 4, "'grading' is not understood")
+    yield bad("amb_space 2\ncone 1\n1 0\ngrading\n1\n", 5, "row 1: 1 entries")
+    yield bad("amb_space 2\ncone 1\n1 0\ngrading\nunit_vector\n", 5, "is no unit vector")
+    yield bad("amb_space 2\ncone 1\n1 0\ndehomogenization\n1 1\n", 4, "is not understood")
     yield bad("amb_space 2\ncone 1\n1 0\nsigns\n1 1\n", 4, "'signs' is not understood")
     yield bad("amb_space 2\ncongruences 1\n1 0 2\n", 2, "is not understood")
     yield bad("amb_space 2\npolytope 1\n1\ncone 1\n1 1\n", 4, "'cone' beside 'polytope'")
@@ -182,6 +224,15 @@ def bad_replies():
         yield bad(bridge, "s VERTICES [[1,2]]\ns FACETS [[1]]\n", 2, "FACETS: 1 columns")
         yield bad(bridge, "s VERTICES [[1,2],[1]]\n", 1, "VERTICES: row 2")
         yield bad(bridge, "rule N_FACETS 4\n", 1, "not to be told apart")
+        yield bad(bridge, 's.a LINEAR_OBJECTIVE "1"\n', 1, "LINEAR_OBJECTIVE: no row")
+        yield bad(bridge, "s.a VERTICES [[1]]\n", 1, "no property of linear programs")
+        yield bad(bridge, "s.a LINEAR_OBJECTIVE [1]\n", 1, "linear program", "--cone")
+    yield bad("to-polymake", 's.a MAXIMAL_VALUE "1"\n', None, "without its objective")
+    fan = 'f RAYS [["1"]]\nf LINEALITY_SPACE []\n'
+    yield bad("to-polymake", "f RAYS [[1]]\n", None, "RAYS without LINEALITY_SPACE", "--fan")
+    yield bad("to-polymake", f"{fan}f FACETS []\n", 3, "no property of fans", "--fan")
+    file = data('"RAYS":[["1"]],"MAXIMAL_CONES":[[0]]', '"fan::PolyhedralFan<Rational>"')
+    yield bad("to-cdd", file, None, "a fan has no file")
     yield bad("to-polymake", "s AFFINE_HULL []\n", None, "AFFINE_HULL: it has no rows")
     for half in ("VERTICES", "FACETS", "POINTS", "INPUT_LINEALITY", "INEQUALITIES", "EQUATIONS"):
         yield bad("to-polymake", f"s {half} [[1,2]]\n", None, f"{half} without")
@@ -196,4 +247,5 @@ def bad_replies():
 
 
 def bad_files():
-    return [*bad_polymake(), *bad_cdd(), *bad_normaliz(), *bad_replies()]
+    others = [*bad_fans_and_programs(), *bad_rows()]
+    return [*bad_polymake(), *bad_cdd(), *bad_normaliz(), *bad_replies(), *others]

@@ -3,8 +3,8 @@
 from dataclasses import dataclass, field
 
 import command
-from entries import WHOLE, row_of, row_text, shown
-from properties import Thing
+from entries import WHOLE, decimal_of, row_of, row_text, shown
+from properties import Program, Thing
 from refusals import Fault, Refusal
 from polymake_files import read_shown
 from scripts import script_lines
@@ -23,10 +23,13 @@ HARMLESS = set(
 
 # Options that change which polyhedron or program is meant.
 CHANGING = set(
-    """bound eliminate equality hull nonnegative partial_enumeration preprojection project
+    """bound eliminate equality hull partial_enumeration preprojection project
     projection restart strict_inequality testin truncate voronoi""".split()
 )
 
+
+# What a program is called here, which has no name in these files.
+PROGRAM = "lp"
 
 # What lrslib writes for a number of rows that it does not know yet.
 UNTOLD = "*****"
@@ -44,6 +47,9 @@ class CddFile:
     count: int | None = None
     rows: list = field(default_factory=list)
     lines: list = field(default_factory=list)
+    objective: list | None = None
+    objective_line: int | None = None
+    is_nonnegative: bool = False
 
 
 def words_of_lines(text):
@@ -72,7 +78,6 @@ class Reader:
         self.notes = notes
         self.file = CddFile()
         self.is_named = False
-        self.objective = None
 
     def next(self, what):
         """The next line, or a refusal that names what is missing."""
@@ -105,7 +110,7 @@ class Reader:
             self.file.what = words[0]
         elif words[0] == "linearity":
             self.read_linearity(line, words)
-        elif words[0] in CHANGING or words[0] in HARMLESS:
+        elif words[0] in CHANGING or words[0] in HARMLESS or words == ["nonnegative"]:
             self.read_option(line, words)
         elif not self.is_named and self.file.what is None and self.file.linear is None:
             self.is_named = True
@@ -131,10 +136,11 @@ class Reader:
         if len(words) != 3:
             raise Refusal(line, "no size: rows, columns, and 'integer' or 'rational'")
         self.file.kind = words[2]
-        if words[2] not in ("integer", "rational"):
-            raise Refusal(
-                line, f"numbers of the kind {shown(words[2])}: neither 'integer' nor 'rational'"
-            )
+        if words[2] not in ("integer", "rational", "real"):
+            told = f"numbers of the kind {shown(words[2])}: not 'integer', 'rational' or 'real'"
+            raise Refusal(line, told)
+        if words[2] == "real":
+            self.notes.tell(line, "real: each number is taken as it stands, 0.1 as 1/10")
         self.file.columns = count_of(words[1], line, "number of columns")
         if self.file.columns == 0:
             raise Refusal(line, "no columns")
@@ -142,20 +148,41 @@ class Reader:
             self.file.count = count_of(words[0], line, "number of rows")
 
     def read_rows(self):
-        file = self.file
+        """The lines up to 'end', a row on each, or rows that run over their ends."""
+        file, found = self.file, []
         while True:
             line, words = self.next("'end'")
             if words == ["end"]:
                 break
             if words[0] == "begin":
                 raise Refusal(line, "a second 'begin'")
-            file.rows.append(self.read_row(line, words, len(file.rows) + 1))
-            file.lines.append(line)
+            found.append((line, words))
+        for at, (row_line, words) in enumerate(self.unwrapped(found), 1):
+            file.rows.append(self.read_row(row_line, words, at))
+            file.lines.append(row_line)
         if file.count is not None and len(file.rows) != file.count:
             raise Refusal(line, f"{len(file.rows)} rows, where {file.count} are announced")
         over = next((it for it in file.linear or [] if not 1 <= it <= len(file.rows)), None)
         if over is not None:
             raise Refusal(file.linear_line, f"'linearity' names row {over} of {len(file.rows)}")
+
+    def unwrapped(self, lines):
+        """The rows with their lines, also where rows run over ends of lines."""
+        columns, count = self.file.columns, self.file.count
+        entries = [(line, it) for line, words in lines for it in words]
+        are_rows = all(len(words) == columns for _, words in lines)
+        if are_rows or count is None or len(entries) != count * columns:
+            return lines
+        told = "rows run over ends of lines: read by the count of their entries"
+        self.notes.tell(lines[0][0], told)
+        rows = [entries[it : it + columns] for it in range(0, len(entries), columns)]
+        return [(row[0][0], [it for _, it in row]) for row in rows]
+
+    def row_of(self, words):
+        """A row of fractions, and of decimals where the numbers are 'real'."""
+        if self.file.kind == "real":
+            return [decimal_of(it) for it in words]
+        return row_of(words)
 
     def read_row(self, line, words, number):
         if len(words) != self.file.columns:
@@ -164,7 +191,7 @@ class Reader:
                 f"row {number}: {len(words)} entries, where there are {self.file.columns} columns",
             )
         try:
-            row = row_of(words)
+            row = self.row_of(words)
         except Fault as fault:
             raise Refusal(line, f"row {number}: {fault.text}") from None
         if self.file.kind == "integer" and any("/" in it for it in words):
@@ -182,28 +209,43 @@ class Reader:
                 self.read_option(line, words)
 
     def read_objective(self, line, words):
-        """The objective stands on the same line or on the next one."""
-        if self.objective is not None:
+        """The objective stands on the same line or on the next ones."""
+        if self.file.objective is not None:
             raise Refusal(line, "a second objective")
-        self.objective = words[0]
         entries = words[1:] or self.next("the objective")[1]
+        while len(entries) < self.file.columns and self.begins_with_number():
+            entries = entries + self.next("the objective")[1]
         if len(entries) != self.file.columns:
             raise Refusal(
                 line,
                 f"{words[0]}: {len(entries)} entries, where there are {self.file.columns} columns",
             )
         try:
-            row_of(entries)
+            self.file.objective, self.file.objective_line = self.row_of(entries), line
         except Fault as fault:
             raise Refusal(line, f"{words[0]}: {fault.text}") from None
-        self.notes.tell(line, f"{words[0]}: linear programs are not taken: left out")
+        asked = "MAXIMAL_VALUE" if words[0] == "maximize" else "MINIMAL_VALUE"
+        self.notes.tell(line, f"{words[0]}: the program {PROGRAM}, whose {asked} is meant")
+
+    def begins_with_number(self):
+        """Whether a next line goes on with numbers."""
+        return self.at < len(self.lines) and self.lines[self.at][1][0][0] in "+-.0123456789"
 
     def read_option(self, line, words):
+        if words == ["nonnegative"]:
+            self.read_nonnegative(line)
+            return
         if words[0] in CHANGING:
             raise Refusal(line, f"the option '{words[0]}' changes what the file means")
         if words[0] not in HARMLESS:
             raise Refusal(line, f"the option {shown(words[0])} is not known here")
         self.notes.tell(line, f"{words[0]}: an option of a computation: left out")
+
+    def read_nonnegative(self, line):
+        if self.file.what == GENERATORS:
+            raise Refusal(line, "'nonnegative' is of inequalities alone")
+        self.file.is_nonnegative = True
+        self.notes.tell(line, "nonnegative: a row x >= 0 is added for each coordinate")
 
 
 def without_first(row, line):
@@ -217,6 +259,9 @@ def parted(file):
     """The rows that are not linear and those that are, each with its line."""
     linear = set(file.linear or [])
     pairs = list(zip(file.rows, file.lines))
+    if file.is_nonnegative:
+        unit = lambda at: [row_of([int(it == at)])[0] for it in range(file.columns)]
+        pairs += [(unit(it), None) for it in range(1, file.columns)]
     kept = [it for at, it in enumerate(pairs, 1) if at not in linear]
     return kept, [it for at, it in enumerate(pairs, 1) if at in linear]
 
@@ -264,13 +309,20 @@ def polytope_of(file):
     thing = Thing("Polytope")
     for name, pairs in zip(names, (kept, linear)):
         thing.put(name, [row for row, _ in pairs], file.columns)
+    if file.objective is not None:
+        thing.programs.append(Program(PROGRAM, {"LINEAR_OBJECTIVE": file.objective}))
     return thing
 
 
 def read_cdd(text, type_name, notes):
-    """The polyhedron or the cone of a file."""
+    """The polyhedron with its linear program, or the cone, of a file."""
     file = Reader(text, notes).read()
-    return cone_of(file) if type_name == "Cone" else polytope_of(file)
+    if type_name == "Polytope":
+        return polytope_of(file)
+    if file.objective is not None:
+        told = "a linear program is one of a polytope, and not of a cone"
+        raise Refusal(file.objective_line, told)
+    return cone_of(file)
 
 
 DESCRIPTIONS = {
@@ -358,4 +410,9 @@ def to_words():
 
 def to_cdd(options, text, notes):
     thing = read_shown(options, text, notes)
+    if thing.type_name == "Fan":
+        raise Refusal(None, "a fan has no file of cddlib")
+    if thing.programs:
+        names = ", ".join(it.name for it in thing.programs)
+        notes.tell(1, f"the linear programs {names}: left out")
     return cdd_text(thing, options.what, options.name or "replies")

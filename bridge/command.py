@@ -4,7 +4,6 @@ import argparse
 import sys
 from dataclasses import dataclass, field
 
-from properties import TYPES
 from refusals import Notes, Refusal
 
 
@@ -36,18 +35,18 @@ def add_type(words, told):
         "--cone",
         dest="type_name",
         action="store_const",
-        const=TYPES[1],
-        default=TYPES[0],
+        const="Cone",
+        default="Polytope",
         help=told,
     )
 
 
-def text_of(options, given):
-    """All of the file or of standard input, as text."""
+def text_at(path, given=None):
+    """All of a file, or of what is given where no file is named, as text."""
     try:
-        if options.file is None:
+        if path is None:
             return given.read().decode("utf-8")
-        with open(options.file, "rb") as file:
+        with open(path, "rb") as file:
             return file.read().decode("utf-8")
     except OSError as fault:
         raise Refusal(None, fault.strerror or "cannot be read") from None
@@ -62,7 +61,7 @@ def run(words, convert, arguments=None, streams=None):
     options, notes = words.parse_args(arguments), Notes()
     place = options.file or "standard input"
     try:
-        written = convert(options, text_of(options, streams.given), notes)
+        written = convert(options, text_at(options.file, streams.given), notes)
     except Refusal as refusal:
         line = "" if refusal.line is None else f"{refusal.line}:"
         print(f"{words.prog}: {place}:{line} {refusal.text}", file=streams.told)

@@ -1,4 +1,4 @@
-"""Single numbers: texts p and p/q, and whole JSON numbers. Nothing else is a fraction here."""
+"""Single numbers: texts p and p/q, and whole JSON numbers; decimals where a file may have them."""
 
 import re
 from fractions import Fraction
@@ -7,6 +7,7 @@ from refusals import Fault
 
 FRACTION = re.compile(r"-?[0-9]+(/[0-9]+)?", re.ASCII)
 WHOLE = re.compile(r"-?[0-9]+", re.ASCII)
+DECIMAL = re.compile(r"[-+]?(?:[0-9]+\.?[0-9]*|\.[0-9]+)(?:[eE]([-+]?[0-9]{1,4}))?", re.ASCII)
 MOST_DIGITS = 4000
 
 
@@ -22,6 +23,16 @@ def fraction_of(entry):
         return Fraction(entry)
     except ZeroDivisionError:
         raise Fault(f"{shown(entry)} divides by zero") from None
+
+
+def decimal_of(text):
+    """The fraction that a text is, exactly: p, p/q, or a decimal, of which 0.1 is 1/10."""
+    found = DECIMAL.fullmatch(text)
+    if not found:
+        return fraction_of(text.removeprefix("+"))
+    if len(text) > MOST_DIGITS or abs(int(found[1] or 0)) > MOST_DIGITS:
+        raise Fault(f"a number of more than {MOST_DIGITS} digits")
+    return Fraction(text)
 
 
 def whole_of(entry):

@@ -34,8 +34,12 @@ GOALS = set(
     HilbertBasis HilbertSeries HSOP Incidence InternalIndex IsPointed KeepOrder LatticePoints
     MaximalSubspace ModuleGenerators Multiplicity NoGradingDenom NumberLatticePoints PrimalMode Rank
     RecessionRank Sublattice SupportHyperplanes Triangulation TriangulationSize VerticesFloat
-    VerticesOfPolyhedron Volume""".split()
+    VerticesOfPolyhedron Volume total_degree""".split()
 )
+
+
+# Sections that say how lattice points are counted, and do not change the cone.
+GRADINGS = {"grading"}
 
 
 @dataclass
@@ -113,6 +117,8 @@ class Reader:
                 self.notes.tell(line, f"{name}: a goal or an option of Normaliz: left out")
             elif name in SECTIONS:
                 self.read_section(line, name, tokens[1:])
+            elif name in GRADINGS:
+                self.read_grading(line, name, tokens[1:])
             elif name == "amb_space":
                 raise Refusal(line, "a second 'amb_space'")
             else:
@@ -131,6 +137,19 @@ class Reader:
 
     def length(self, name):
         return None if self.dimension is None else self.dimension + SECTIONS[name]
+
+    def read_grading(self, line, name, tokens):
+        """A row, here or on the next line, in brackets or not; or 'unit_vector' and its place."""
+        told = "it counts lattice points, and does not change the cone: left out"
+        self.notes.tell(line, f"{name}: {told}")
+        if not tokens:
+            line, tokens = self.lines.next(f"the row of '{name}'")
+        if tokens[0] == "unit_vector":
+            if len(tokens) != 2 or not WHOLE.fullmatch(tokens[1]):
+                raise Refusal(line, f"{shown(' '.join(tokens))} is no unit vector")
+            return
+        row = [it for it in tokens if it not in ("[", "]", ",", ";")]
+        row_at(line, row, self.dimension, 1)
 
     def read_section(self, line, name, tokens):
         """A matrix by the count of its rows, or in brackets, which may begin on the next line."""

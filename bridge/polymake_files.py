@@ -4,15 +4,29 @@ import json
 import re
 
 import command
+import far_face
 from json_places import line_of_row, members
-from properties import PAIRS, PROPERTIES, TYPES, Thing, by_name
+from properties import (
+    MOST_PROGRAMS,
+    PAIRS,
+    PROGRAM_PROPERTIES,
+    PROPERTIES,
+    TYPES,
+    Kind,
+    Program,
+    Thing,
+    by_name,
+)
 from refusals import Fault, Refusal
 from replies import read_replies
-from scripts import script_lines
-from values import compact, put_value, written
+from scripts import NAME, script_lines
+from values import compact, put_program_value, put_value, written
 
 NAMESPACE = {"polymake": ["https://polymake.org", "4.6"]}
-TYPE = re.compile(r"polytope::(Polytope|Cone)<Rational>")
+PROFILE = re.compile(r'"_profile"\s*:\s*2\s*[,}]')
+
+# What polymake names a subobject that has no name.
+UNNAMED = re.compile(r"unnamed#[0-9]+")
 
 # What polymake holds of the empty polytope, and has another meaning here.
 OF_THE_EMPTY = {
@@ -27,11 +41,12 @@ def type_of(found):
     if "_type" not in found:
         raise Refusal(1, "no '_type': no data file of an object of polymake")
     member = found["_type"]
-    named = TYPE.fullmatch(member.value) if isinstance(member.value, str) else None
+    named = next((it for it, full in TYPES.items() if full == member.value), None)
     if not named:
-        known = " nor ".join(f"polytope::{it}<Rational>" for it in TYPES)
+        *others, last = TYPES.values()
+        known = f"{', '.join(others)} nor {last}"
         raise Refusal(member.line, f"the type {json.dumps(member.value)} is neither {known}")
-    return named[1]
+    return named
 
 
 def attachments(found):
@@ -46,8 +61,6 @@ def why_left(member, items, attached):
     """Why a member is left out, or None where it is taken."""
     if member.key in attached:
         return "an attachment, which is no property"
-    if member.key == "LP":
-        return "linear programs are not taken"
     if member.key not in items:
         return "no property that this program takes"
     if not items[member.key].is_of_polymake:
@@ -81,7 +94,7 @@ def chosen(found, only, type_name, items):
         return list(found.values())
     names = {it.polytope: it.name(type_name) for it in PROPERTIES}
     for name in only:
-        if name not in items:
+        if name not in items and not (name == "LP" and type_name == "Polytope"):
             raise Refusal(None, f"'{name}' is asked for, and no property that this program takes")
         if name not in found:
             raise Refusal(None, f"{name}: it is asked for, and the file does not have it")
@@ -94,8 +107,99 @@ def chosen(found, only, type_name, items):
     return [found[it] for it in only]
 
 
+def judged(found, items, type_name):
+    """What tells whether a file's facets are all there are, whatever is asked of it."""
+    thing = Thing(type_name)
+    for member in found.values():
+        if member.key in items and member.value is not None:
+            try:
+                put_value(thing, items[member.key], member.value)
+            except Fault:
+                thing.values.pop(items[member.key].polytope, None)
+    return thing
+
+
+def leave_out_in_doubt(thing, found, notes):
+    """Where facets may be wanting, one description is taken, and what is left out is named."""
+    names = {it.polytope: it.name(thing.type_name) for it in PROPERTIES}
+    is_nothing = thing.is_said_empty() or thing.values.get("FACETS") == []
+    left, pair = far_face.keep_description(thing)
+    if pair is None or pair[0] == "FACETS" and is_nothing:
+        first = names[next(iter(left), "FACETS")]
+        told = "nothing that is taken is a description"
+        raise Refusal(found[first].line, f"{first}: {far_face.IN_DOUBT}, and {told}")
+    anew = f"found anew from {pair[0]}"
+    for of_facets, why in ((True, far_face.IN_DOUBT), (False, anew)):
+        told = [names[it] for it in left if (it in far_face.OF_FACETS) == of_facets]
+        if told:
+            notes.tell(found[told[0]].line, f"{', '.join(told)}: {why}: left out")
+    if pair[0] == "FACETS":
+        told = f"{far_face.IN_DOUBT}: taken as INEQUALITIES, with AFFINE_HULL as EQUATIONS"
+        notes.tell(found["FACETS"].line, f"FACETS: {told}")
+
+
+def is_saved(text):
+    """Whether this program saved the file: then its facets are all there are."""
+    return bool(PROFILE.search(text))
+
+
+def name_of(entry, at, taken, tell):
+    """The name of a program here: that which the file has, where it is one, else lp0 and so on."""
+    name = entry.get("_name", entry.get("_id"))
+    if isinstance(name, str) and NAME.fullmatch(name) and name not in taken:
+        return name
+    others = (f"lp{it}" for it in range(at, at + 2 * MOST_PROGRAMS))
+    new = next(it for it in others if it not in taken)
+    if isinstance(name, str) and not UNNAMED.fullmatch(name):
+        tell(f"the program '{name}' is {new} here")
+    return new
+
+
+def put_objective(thing, program, entry):
+    value = entry["LINEAR_OBJECTIVE"]
+    try:
+        put_program_value(thing, program, "LINEAR_OBJECTIVE", value)
+    except Fault as fault:
+        raise Fault(f"{program.name}: LINEAR_OBJECTIVE: {fault.text}") from None
+
+
+def put_programs(thing, value, tell):
+    """Holds the linear programs of a file by their objectives; the rest is found of them."""
+    entries = value if isinstance(value, list) else [value]
+    if not all(isinstance(it, dict) for it in entries):
+        raise Fault("no linear programs")
+    left = {}
+    for at, entry in enumerate(entries[:MOST_PROGRAMS]):
+        program = Program(name_of(entry, at, [it.name for it in thing.programs], tell))
+        left |= {k: None for k in entry if not k.startswith("_") and k != "LINEAR_OBJECTIVE"}
+        thing.programs.append(program)
+        if "LINEAR_OBJECTIVE" in entry:
+            put_objective(thing, program, entry)
+    if left:
+        tell(f"{', '.join(sorted(left))}: found anew from LINEAR_OBJECTIVE: left out")
+    if len(entries) > MOST_PROGRAMS:
+        tell(f"{len(entries)} programs, of which {MOST_PROGRAMS} are taken, and the others left out")
+
+
+def put_member(thing, member, items, notes):
+    """Holds what a member says."""
+    if member.key == "LP" and thing.type_name == "Polytope":
+        put_programs(thing, member.value, lambda it: notes.tell(member.line, f"LP: {it}"))
+    else:
+        put_value(thing, items[member.key], member.value)
+
+
+def check_fan(thing, found):
+    """A fan is given by its rays and its maximal cones."""
+    if thing.type_name != "Fan" or thing.has("VERTICES", "MAXIMAL_CONES"):
+        return
+    other = found.get("INPUT_RAYS", found["_type"])
+    told = "a fan is read by RAYS and MAXIMAL_CONES: ask polymake for both, and save it anew"
+    raise Refusal(other.line, told)
+
+
 def read_polymake(text, notes, only=None):
-    """The polytope or the cone of a data file."""
+    """The polytope, the cone or the fan of a data file."""
     if text.lstrip().startswith(("<", "_")):
         raise Refusal(
             1, "a file of polymake before version 4: let polymake load it and save it anew"
@@ -106,24 +210,29 @@ def read_polymake(text, notes, only=None):
     for member in chosen(found, only, thing.type_name, items):
         if member.key.startswith("_"):
             continue
-        why = why_left(member, items, attached)
+        is_program = member.key == "LP" and thing.type_name == "Polytope"
+        why = None if is_program else why_left(member, items, attached)
         if why:
             notes.tell(member.line, f"{member.key}: {why}: left out")
             continue
         try:
-            put_value(thing, items[member.key], member.value)
+            put_member(thing, member, items, notes)
         except Fault as fault:
             row = "" if fault.row is None else f"row {fault.row + 1}: "
             line = line_of_row(text, member, fault.row)
             raise Refusal(line, f"{member.key}: {row}{fault.text}") from None
     check_points(thing, found)
-    leave_out_of_empty(thing, found, notes)
+    check_fan(thing, found)
+    if is_saved(text) or far_face.are_whole(judged(found, items, thing.type_name)):
+        leave_out_of_empty(thing, found, notes)
+    elif far_face.may_lack(thing):
+        leave_out_in_doubt(thing, found, notes)
     return thing
 
 
 def with_far_row(thing, rows):
     """The inequalities of a polytope with x0 >= 0: in a file, polymake does not add it."""
-    if thing.type_name == "Cone":
+    if thing.type_name != "Polytope":
         return rows
     far = [1, *[0] * (thing.columns - 1)]
     return rows if far in rows else [*rows, far]
@@ -133,6 +242,8 @@ def check_halves(thing):
     """Of a half of a description alone polymake thinks that it is all."""
     halves = [*PAIRS.items(), ("INPUT_LINEALITY", "POINTS"), ("EQUATIONS", "INEQUALITIES")]
     names = {it.polytope: it.name(thing.type_name) for it in PROPERTIES}
+    if thing.type_name == "Fan":
+        halves = [("VERTICES", "LINEALITY_SPACE"), ("MAXIMAL_CONES", "VERTICES")]
     for first, second in halves:
         if thing.has(first) and not thing.has(second):
             told = f"{names[first]} without {names[second]}"
@@ -144,12 +255,39 @@ def leave_out_foreign(thing, notes):
     for item in PROPERTIES:
         if not item.is_of_polymake and thing.values.pop(item.polytope, None) is not None:
             notes.tell(1, f"{item.name(thing.type_name)}: polymake has it in another form: left out")
+    for program in thing.programs:
+        for name in [it for it in program.values if not why_none(thing, program, it) is None]:
+            notes.tell(1, f"{program.name}.{name}: {why_none(thing, program, name)}: left out")
+            del program.values[name]
+
+
+def why_none(thing, program, name):
+    """Why polymake's file holds no such value of a program, or None where it does."""
+    if not PROGRAM_PROPERTIES[name][1]:
+        return "polymake has none"
+    if name.endswith("_FACE") and not thing.has("VERTICES"):
+        return "it counts VERTICES, which are not shown"
+    if program.values[name] == {"MAXIMAL_VALUE": "-inf", "MINIMAL_VALUE": "inf"}.get(name):
+        return "there is no point, and then polymake has none"
+    return None
+
+
+def program_entry(program):
+    """A program as a subobject of polymake's file."""
+    if "LINEAR_OBJECTIVE" not in program.values:
+        told = "LINEAR_OBJECTIVE is not shown: look it up too"
+        raise Refusal(None, f"the program {program.name} without its objective: {told}")
+    held = {"_id": program.name}
+    for name, (kind, _) in PROGRAM_PROPERTIES.items():
+        if name in program.values:
+            held[name] = written(kind, program.values[name])
+    return held
 
 
 def polymake_text(thing):
     """A data file that polymake loads."""
     check_halves(thing)
-    held = {"_ns": NAMESPACE, "_type": f"polytope::{thing.type_name}<Rational>"}
+    held = {"_ns": NAMESPACE, "_type": TYPES[thing.type_name]}
     for item in PROPERTIES:
         name, value = item.name(thing.type_name), thing.values.get(item.polytope)
         if value is None:
@@ -163,6 +301,8 @@ def polymake_text(thing):
             value = with_far_row(thing, value)
         columns = thing.columns if item.polytope in COLUMNED else None
         held[name] = written(item.kind, value, columns)
+    if thing.programs:
+        held["LP"] = [program_entry(it) for it in thing.programs]
     return compact(held) + "\n"
 
 
@@ -171,14 +311,24 @@ COLUMNED = {it for pair in PAIRS.items() for it in pair}
 
 def data_text(thing):
     """A data file of this program: keys in byte order, and all values are given."""
-    held = {"_type": f"polytope::{thing.type_name}<Rational>"}
-    if thing.columns is not None:
-        held["CONE_AMBIENT_DIM"] = thing.columns
+    held = {"_type": TYPES[thing.type_name]}
     for item in PROPERTIES:
-        if item.polytope in thing.values and item.polytope != "CONE_AMBIENT_DIM":
+        if item.polytope == "CONE_AMBIENT_DIM" and thing.columns is not None:
+            held[item.name(thing.type_name)] = thing.columns
+        elif item.polytope in thing.values:
             value = written(item.kind, thing.values[item.polytope])
             held[item.name(thing.type_name)] = value
+    if thing.programs:
+        held |= {"_profile": 2, "_computed": [], "_excluded": []}
+        held["LP"] = [named_entry(it) for it in thing.programs]
     return compact(dict(sorted(held.items()))) + "\n"
+
+
+def named_entry(program):
+    """A program as this program saves it: its objective and its name."""
+    objective = program.values.get("LINEAR_OBJECTIVE")
+    held = {} if objective is None else {"LINEAR_OBJECTIVE": written(Kind.ROW, objective)}
+    return {**held, "_excluded": [], "_name": program.name}
 
 
 def list_of_names(text):
@@ -220,6 +370,8 @@ def to_words():
     )
     command.add_file(words, needed=False)
     command.add_type(words, "replies are of a cone; else of a polytope")
+    told = "replies are of a fan"
+    words.add_argument("--fan", dest="type_name", action="store_const", const="Fan", help=told)
     words.add_argument("--name", metavar="NAME", help="the object, where replies show several")
     return words
 

@@ -14,74 +14,115 @@ class Kind(Enum):
     TRUTH = "truth value"
     EDGES = "edges"
     LATTICE = "lattice"
+    ROW = "row"
+    EXTENDED = "extended number"
 
 
 @dataclass(frozen=True)
 class Property:
-    """A property: its names of polytopes and of cones, None where they do not have it.
+    """A property: its first name, and its name for each type that has it.
 
     Of some properties polymake's files hold no value in this form.
     """
 
     polytope: str
-    cone: str | None
+    names: dict
     kind: Kind
     is_of_polymake: bool = True
 
     def name(self, type_name):
-        return self.cone if type_name == "Cone" else self.polytope
+        return self.names.get(type_name)
+
+
+def named(polytope, kind, cone=None, fan=None, **more):
+    """A property of polytopes, and of cones and fans where they have a name for it."""
+    names = {"Polytope": polytope, "Cone": cone, "Fan": fan}
+    return Property(polytope, {k: it for k, it in names.items() if it}, kind, **more)
 
 
 def same(name, kind):
-    """A property of one name."""
-    return Property(name, name, kind)
+    """A property of polytopes and cones, of one name."""
+    return named(name, kind, cone=name)
+
+
+def everywhere(name, kind):
+    """A property of polytopes, cones and fans, of one name."""
+    return named(name, kind, cone=name, fan=name)
 
 
 def here(name, kind):
     """A property of one name, whose values polymake's files do not hold in this form."""
-    return Property(name, name, kind, is_of_polymake=False)
+    return named(name, kind, cone=name, is_of_polymake=False)
+
+
+def of_fans(name, kind, **more):
+    return Property(name, {"Fan": name}, kind, **more)
 
 
 PROPERTIES = (
-    same("CONE_AMBIENT_DIM", Kind.WHOLE),
-    Property("POINTS", "INPUT_RAYS", Kind.MATRIX),
+    named("CONE_AMBIENT_DIM", Kind.WHOLE, cone="CONE_AMBIENT_DIM", fan="FAN_AMBIENT_DIM"),
+    named("POINTS", Kind.MATRIX, cone="INPUT_RAYS"),
     same("INPUT_LINEALITY", Kind.MATRIX),
     same("INEQUALITIES", Kind.MATRIX),
     same("EQUATIONS", Kind.MATRIX),
-    Property("VERTICES", "RAYS", Kind.MATRIX),
-    same("LINEALITY_SPACE", Kind.MATRIX),
+    named("VERTICES", Kind.MATRIX, cone="RAYS", fan="RAYS"),
+    everywhere("LINEALITY_SPACE", Kind.MATRIX),
     same("FACETS", Kind.MATRIX),
-    Property("AFFINE_HULL", "LINEAR_SPAN", Kind.MATRIX),
-    Property("VERTICES_IN_FACETS", "RAYS_IN_FACETS", Kind.SETS),
+    named("AFFINE_HULL", Kind.MATRIX, cone="LINEAR_SPAN"),
+    named("VERTICES_IN_FACETS", Kind.SETS, cone="RAYS_IN_FACETS"),
     same("CONE_DIM", Kind.WHOLE),
-    same("LINEALITY_DIM", Kind.WHOLE),
+    everywhere("LINEALITY_DIM", Kind.WHOLE),
     same("COMBINATORIAL_DIM", Kind.WHOLE),
-    Property("N_VERTICES", "N_RAYS", Kind.WHOLE),
+    named("N_VERTICES", Kind.WHOLE, cone="N_RAYS", fan="N_RAYS"),
     same("N_FACETS", Kind.WHOLE),
-    Property("FEASIBLE", None, Kind.TRUTH),
-    Property("BOUNDED", None, Kind.TRUTH),
-    same("POINTED", Kind.TRUTH),
+    named("FEASIBLE", Kind.TRUTH),
+    named("BOUNDED", Kind.TRUTH),
+    everywhere("POINTED", Kind.TRUTH),
     same("FULL_DIM", Kind.TRUTH),
-    Property("CENTERED", None, Kind.TRUTH),
+    named("CENTERED", Kind.TRUTH),
     same("SIMPLE", Kind.TRUTH),
-    same("SIMPLICIAL", Kind.TRUTH),
-    Property("VERTEX_SIZES", "RAY_SIZES", Kind.COUNTS),
+    everywhere("SIMPLICIAL", Kind.TRUTH),
+    named("VERTEX_SIZES", Kind.COUNTS, cone="RAY_SIZES"),
     same("FACET_SIZES", Kind.COUNTS),
     here("HASSE_DIAGRAM", Kind.LATTICE),
     same("F_VECTOR", Kind.COUNTS),
     same("F2_VECTOR", Kind.MATRIX),
-    Property("H_VECTOR", None, Kind.COUNTS),
+    named("H_VECTOR", Kind.COUNTS),
     here("GRAPH", Kind.EDGES),
     here("DUAL_GRAPH", Kind.EDGES),
     here("DIAMETER", Kind.WHOLE),
     here("DUAL_DIAMETER", Kind.WHOLE),
     here("N_EDGES", Kind.WHOLE),
     here("N_RIDGES", Kind.WHOLE),
-    Property("VERTEX_DEGREES", "RAY_DEGREES", Kind.COUNTS, is_of_polymake=False),
-    Property("FAR_FACE", None, Kind.COUNTS),
+    named("VERTEX_DEGREES", Kind.COUNTS, cone="RAY_DEGREES", is_of_polymake=False),
+    named("FAR_FACE", Kind.COUNTS),
+    of_fans("MAXIMAL_CONES", Kind.SETS),
+    of_fans("N_MAXIMAL_CONES", Kind.WHOLE),
+    of_fans("MAXIMAL_CONES_DIMS", Kind.COUNTS, is_of_polymake=False),
+    of_fans("FAN_DIM", Kind.WHOLE),
+    of_fans("PURE", Kind.TRUTH),
 )
 
-TYPES = ("Polytope", "Cone")
+# The properties of a linear program: their kinds, and whether polymake's files hold them.
+PROGRAM_PROPERTIES = {
+    "LINEAR_OBJECTIVE": (Kind.ROW, True),
+    "MAXIMAL_VALUE": (Kind.EXTENDED, True),
+    "MINIMAL_VALUE": (Kind.EXTENDED, True),
+    "MAXIMAL_FACE": (Kind.COUNTS, True),
+    "MINIMAL_FACE": (Kind.COUNTS, True),
+    "MAXIMAL_DUAL": (Kind.MATRIX, False),
+    "MINIMAL_DUAL": (Kind.MATRIX, False),
+}
+
+# How many programs a polytope may have.
+MOST_PROGRAMS = 4
+
+# The types by their names here, with those of polymake's files.
+TYPES = {
+    "Polytope": "polytope::Polytope<Rational>",
+    "Cone": "polytope::Cone<Rational>",
+    "Fan": "fan::PolyhedralFan<Rational>",
+}
 
 # Each matrix that describes a thing, with the one that completes it; the first names of both.
 PAIRS = {
@@ -98,8 +139,16 @@ def by_name(type_name):
 
 
 @dataclass
+class Program:
+    """A linear program of a polytope: its name, and the values of its properties by their names."""
+
+    name: str
+    values: dict = field(default_factory=dict)
+
+
+@dataclass
 class Thing:
-    """A polytope or a cone by values: of each first name of a property its value.
+    """A polytope, a cone or a fan by values: of each first name of a property its value.
 
     A matrix is a list of rows of fractions, sets are a pair of their rows and the column count, edges
     are for each node the list of its neighbours, a lattice is for each rank the list of its faces.
@@ -108,6 +157,7 @@ class Thing:
     type_name: str
     values: dict = field(default_factory=dict)
     columns: int | None = None
+    programs: list = field(default_factory=list)
 
     def has(self, *names):
         return all(it in self.values for it in names)

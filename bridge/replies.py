@@ -1,21 +1,23 @@
-"""Replies of this program: the lines `NAME PROP VALUE` of `give` and `lookup`."""
+"""Replies of this program: the lines `NAME PROP VALUE` of `give` and `lookup`, NAME.SUB of programs."""
 
 import json
 import re
 
-from properties import Thing, by_name
+from properties import PROGRAM_PROPERTIES, Program, Thing, by_name
 from refusals import Fault, Refusal
 from scripts import check_name
-from values import READER, put_value
+from values import READER, put_program_value, put_value
 
-VALUE = re.compile(r"([A-Za-z][A-Za-z0-9_]*) ([A-Z][A-Z0-9_]*) (.+)", re.ASCII)
+VALUE = re.compile(
+    r"([A-Za-z][A-Za-z0-9_]*)(?:\.([A-Za-z][A-Za-z0-9_]*))? ([A-Z][A-Z0-9_]*) (.+)", re.ASCII
+)
 
 # Words that begin other replies, after which a label stands that may look like a property.
 OTHERS = ("rule", "excluded", "barred")
 
 
 def value_lines(lines):
-    """Of each line that shows a value: its number, the object, the property and the text."""
+    """Of each line with a value: its number, the object, its program, the property and the text."""
     for number, line in enumerate(lines, 1):
         found = VALUE.fullmatch(line)
         if not found:
@@ -52,16 +54,30 @@ def one_object(found, name):
     return found
 
 
+def put_shown(thing, sub, prop, value):
+    """Holds a value of the object, or of a linear program of it."""
+    if sub is None:
+        put_value(thing, by_name(thing.type_name)[prop], value)
+        return
+    program = next((it for it in thing.programs if it.name == sub), None)
+    if program is None:
+        program = Program(sub)
+        thing.programs.append(program)
+    put_program_value(thing, program, prop, value)
+
+
 def read_replies(text, type_name, name=None):
-    """The values of one object that the replies show."""
-    thing, items, texts = Thing(type_name), by_name(type_name), {}
-    for number, _, prop, shown in one_object(list(value_lines(text.splitlines())), name):
-        if prop not in items:
-            raise Refusal(number, f"{prop}: no property of {type_name.lower()}s that is known here")
-        if texts.setdefault(prop, shown) != shown:
+    """The values of one object that the replies show, and of its linear programs."""
+    thing, texts = Thing(type_name), {}
+    for number, _, sub, prop, shown in one_object(list(value_lines(text.splitlines())), name):
+        known = by_name(type_name) if sub is None else PROGRAM_PROPERTIES
+        if prop not in known or sub is not None and type_name != "Polytope":
+            kind = type_name.lower() if sub is None else "linear program"
+            raise Refusal(number, f"{prop}: no property of {kind}s that is known here")
+        if texts.setdefault((sub, prop), shown) != shown:
             raise Refusal(number, f"{prop}: another value than before")
         try:
-            put_value(thing, items[prop], read_text(shown))
+            put_shown(thing, sub, prop, read_text(shown))
         except Fault as fault:
             row = "" if fault.row is None else f"row {fault.row + 1}: "
             raise Refusal(number, f"{prop}: {row}{fault.text}") from None

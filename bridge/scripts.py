@@ -2,7 +2,7 @@
 
 import re
 
-from properties import PROPERTIES
+from properties import PROPERTIES, Kind
 from refusals import Refusal
 from values import compact, written
 
@@ -25,3 +25,8 @@ def script_lines(name, thing):
         if item.polytope in values:
             value = compact(written(item.kind, values[item.polytope]))
             yield f"take {name} {item.name(thing.type_name)} {value}"
+    for program in thing.programs:
+        yield f"new {name}.{program.name} LP"
+        if "LINEAR_OBJECTIVE" in program.values:
+            value = compact(written(Kind.ROW, program.values["LINEAR_OBJECTIVE"]))
+            yield f"take {name}.{program.name} LINEAR_OBJECTIVE {value}"

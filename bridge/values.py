@@ -3,7 +3,7 @@
 import json
 
 from entries import fraction_of, row_of, whole_of
-from properties import Kind
+from properties import PROGRAM_PROPERTIES, Kind
 from refusals import Fault
 
 
@@ -163,7 +163,20 @@ def read_truth(value):
     return value
 
 
+def read_row(value):
+    """A row of fractions, dense or sparse."""
+    return matrix_row(value, None)
+
+
+def read_extended(value):
+    """A fraction, or one of both infinities, as a text."""
+    return value if value in ("inf", "-inf") else str(fraction_of(value))
+
+
 READ = {
+    Kind.MATRIX: lambda value: read_matrix(value)[0],
+    Kind.ROW: read_row,
+    Kind.EXTENDED: read_extended,
     Kind.SETS: read_sets,
     Kind.COUNTS: read_counts,
     Kind.WHOLE: whole_of,
@@ -186,6 +199,15 @@ def put_value(thing, item, value):
     thing.values[item.polytope] = rows
 
 
+def put_program_value(thing, program, name, value):
+    """Reads a value of a linear program, whose rows have the columns of its polytope."""
+    kind, _ = PROGRAM_PROPERTIES[name]
+    found = READ[kind](value)
+    if kind is Kind.ROW:
+        agree(thing, len(found))
+    program.values[name] = found
+
+
 def agree(thing, columns):
     """All matrices have one column count."""
     if thing.columns is not None and thing.columns != columns:
@@ -198,6 +220,8 @@ def written(kind, value, columns=None):
     if kind is Kind.MATRIX:
         rows = [[str(it) for it in row] for row in value]
         return rows if rows or columns is None else [{"cols": columns}]
+    if kind is Kind.ROW:
+        return [str(it) for it in value]
     if kind is Kind.SETS:
         rows, count = value
         return [*rows, {"cols": count}]

@@ -1,0 +1,204 @@
+"""Asks this program about a data file: what it holds, or the values of properties."""
+
+import difflib
+import os
+import re
+import shutil
+import sys
+import tempfile
+from pathlib import Path
+
+import command
+import looks
+import why
+from polymake_files import data_text, read_polymake
+from properties import PROGRAM_PROPERTIES, Kind, by_name
+from refusals import Notes, Refusal
+from session import Ended, Session
+
+PROPERTY = re.compile(r"(?:([A-Za-z][A-Za-z0-9_]{0,31})\.)?([A-Z][A-Z0-9_]*)", re.ASCII)
+OBJECT = "p"
+
+
+class Asked:
+    """A data file: its text as the program loads it, and what it holds."""
+
+    def __init__(self, path, notes):
+        self.path = path
+        text = command.text_at(path)
+        self.form = looks.form_of(text)
+        is_saved = self.form is looks.SAVED
+        self.thing = read_polymake(text, Notes()) if is_saved else looks.read_thing(text, notes)
+        self.data = text if is_saved else data_text(self.thing)
+
+    def references(self, word):
+        """The objects and properties that a word asks for: p VERTICES, or p.lp MAXIMAL_VALUE."""
+        found = PROPERTY.fullmatch(word)
+        if not found:
+            told = "is no property, whose names are like N_FACETS: docs/properties.md has all"
+            raise Refusal(None, f"'{word}' {told}")
+        program, name = found.groups()
+        names = [it.name for it in self.thing.programs]
+        if program not in (None, "LP"):
+            return [(f"{OBJECT}.{program}", name)]
+        if name in PROGRAM_PROPERTIES and (names or program):
+            if not names:
+                raise Refusal(None, f"'{word}' is asked, and the file has no linear program")
+            return [(f"{OBJECT}.{it}", name) for it in names]
+        return [(OBJECT, name)]
+
+
+def words():
+    told = command.parser("ask", "Asks this program about a data file; ./polymake calls it.")
+    told.add_argument("--program", required=True, metavar="PATH", help="the built program")
+    told.add_argument("--trace", action="store_true", help="print the rounds behind each value")
+    told.add_argument("--rules", metavar="NAME", help="a book of this folder")
+    told.add_argument("file", metavar="FILE", help="the data file")
+    told.add_argument("properties", metavar="PROP", nargs="*", help="what is asked")
+    return told
+
+
+def program_words(options, folder):
+    """The words of the program, whose book stands in the folder that it runs in."""
+    found = ["--trace"] if options.trace else []
+    if options.rules is not None:
+        if Path(options.rules).is_file():
+            shutil.copy(options.rules, folder)
+        found += ["--rules", options.rules]
+    return found
+
+
+def say(text):
+    print(f"polymake: {text}", file=sys.stderr)
+
+
+def count_of(thing, item):
+    """How many rows a matrix or sets have."""
+    value = thing.values[item.polytope]
+    if item.kind not in (Kind.MATRIX, Kind.SETS):
+        return ""
+    return f" ({len(value[0] if item.kind is Kind.SETS else value)})"
+
+
+# What is worth asking, by its first names.
+WORTH_ASKING = ("VERTICES", "FACETS", "F_VECTOR", "FAN_DIM", "SIMPLICIAL", "PURE")
+
+
+def not_held(thing):
+    """Two properties that the file does not hold."""
+    known = {it.polytope: name for name, it in by_name(thing.type_name).items()}
+    return [known[it] for it in WORTH_ASKING if it in known and it not in thing.values][:2]
+
+
+def held_lines(asked):
+    """What a file holds, and what to type."""
+    thing = asked.thing
+    held = [
+        f"{item.name(thing.type_name)}{count_of(thing, item)}"
+        for name in by_name(thing.type_name)
+        for item in [by_name(thing.type_name)[name]]
+        if item.polytope in thing.values
+    ]
+    kind = f"a {thing.type_name.lower()} {asked.form}"
+    yield f"{asked.path}: {kind}, with {', '.join(held) or 'no values'}"
+    for program in thing.programs:
+        yield f"{asked.path}: its linear program {program.name}, with {', '.join(program.values)}"
+    example = " ".join(not_held(thing))
+    if thing.programs:
+        example = f"{thing.programs[0].name}.MAXIMAL_VALUE"
+    told = f"./polymake {asked.path} {example}; docs/properties.md has all of them"
+    yield f"ask for properties: {told}"
+
+
+def tell_unknown(asked, name, in_program):
+    """A name that the type does not have, and the nearest one."""
+    if name in PROGRAM_PROPERTIES and not in_program:
+        say(f"{name} is a property of linear programs, and the file has none")
+        return
+    known = PROGRAM_PROPERTIES if in_program else by_name(asked.thing.type_name)
+    kind = "linear programs" if in_program else f"{asked.thing.type_name.lower()}s"
+    near = difflib.get_close_matches(name, known, 1, 0.5)
+    hint = f"is {near[0]} meant? " if near else ""
+    say(f"{name} is no property of {kind}: {hint}docs/properties.md has all of them")
+
+
+def tell_refusal(asked, reference, name, reply):
+    """What the reply to a property that was refused says, in words."""
+    if reply.startswith("no 2 "):
+        names = ", ".join(it.name for it in asked.thing.programs)
+        known = f"it has {names}" if names else "it has none"
+        say(f"the file has no linear program '{reference.partition('.')[2]}': {known}")
+    elif reply.startswith("no 5 "):
+        tell_unknown(asked, name, "." in reference)
+    elif reply.startswith("no 11 "):
+        say(f"{name}: too many chains cost less: ask first for what it is found from, like VERTICES")
+
+
+def give_all(session, asked, wanted):
+    """The properties that are asked, and those that were refused."""
+    refused = []
+    for reference, name in wanted:
+        lines = session.ask(f"give {reference} {name}")
+        print("\n".join(lines), flush=True)
+        if lines[0].startswith("no "):
+            refused.append((reference, name, lines[0]))
+    for it in refused:
+        tell_refusal(asked, *it)
+    tell_why(session, asked, refused)
+    return refused
+
+
+def tell_why(session, asked, refused):
+    """Why no chain led to properties, in words."""
+    names = [
+        f"{reference.partition('.')[2]}.{name}".lstrip(".")
+        for reference, name, reply in refused
+        if reply.startswith("no 10 ")
+    ]
+    if names:
+        for line in why.lines(session, asked.thing, OBJECT, asked.path, names):
+            say(line)
+
+
+def run(asked, options, folder):
+    """Exit status 0, or 1 where a line was refused."""
+    wanted = [it for word in options.properties for it in asked.references(word)]
+    (folder / "p.json").write_text(asked.data)
+    with Session(options.program, program_words(options, folder), folder) as session:
+        lines = session.ask(f"load {OBJECT} p.json")
+        print("\n".join(lines), flush=True)
+        if lines[0].startswith("no "):
+            told = "docs/from-polymake.md has what a file may hold"
+            say(f"{asked.path}: the program refuses it, '{lines[0]}': {told}")
+            return 1
+        return 1 if give_all(session, asked, wanted) else 0
+
+
+def answered(options, notes):
+    """The exit status of a call whose file is understood."""
+    asked = Asked(options.file, notes)
+    for line, text in notes.told:
+        say(f"{options.file}:{line}: {text}")
+    if not options.properties:
+        print("\n".join(held_lines(asked)), flush=True)
+        return 0
+    with tempfile.TemporaryDirectory() as folder:
+        return run(asked, options, Path(folder))
+
+
+def main(arguments=None):
+    options = words().parse_args(arguments)
+    try:
+        return answered(options, Notes())
+    except Refusal as refusal:
+        line = "" if refusal.line is None else f"{refusal.line}:"
+        say(f"{options.file}:{line} {refusal.text}")
+        return 2
+    except Ended as ended:
+        print("".join(f"{it}\n" for it in ended.lines), end="")
+        if ended.status == 2:
+            say("the program does not take these words; ./polymake --help tells them")
+        return ended.status
+    except OSError:
+        os.dup2(os.open(os.devnull, os.O_WRONLY), sys.stdout.fileno())
+        return 4

@@ -1,0 +1,158 @@
+"""Why a property was not found: which rules failed by what, what is held, and what to try."""
+
+import re
+from dataclasses import dataclass
+
+from properties import PAIRS, PROGRAM_PROPERTIES, by_name
+
+RULE = re.compile(r"(\S+) : rule (.*?) : (.*?) \{ (\S+) \} weight")
+EXCLUDED = re.compile(r"excluded (\S+) (failed|false) (\S+)(?: @(\S+))?")
+
+# What each kind of evidence shows.
+EVIDENCE = {
+    "E1": "a step of an elimination of its rows needs numbers of more than 127 bits",
+    "E2": "two rays on the way of double description combine to numbers of more than 127 bits",
+    "E3": "a pivot of a linear program over its rows needs numbers of more than 127 bits",
+    "E4": "the product of two of its rows needs more than 127 bits",
+    "E5": "more than 2,048 rays or facets come up",
+}
+TOO_MANY_FACES = "more than 65,536 faces come up, or 4,000,000 indices in them"
+
+DESCRIPTIONS = ("POINTS", "INEQUALITIES", "VERTICES", "FACETS")
+GENERATORS = ("POINTS", "VERTICES")
+
+# The client that finds all faces, whose E5 speaks of these.
+OF_FACES = "faces"
+
+
+@dataclass(frozen=True)
+class Rule:
+    """A rule of the book: its label, what it finds of what, and its client."""
+
+    label: str
+    targets: tuple
+    sources: tuple
+    client: str
+
+
+@dataclass(frozen=True)
+class Exclusion:
+    """A rule that is not tried again: it failed by evidence, or a condition is false."""
+
+    rule: Rule
+    how: str
+    what: str
+    program: str | None
+
+
+def rules_of(lines):
+    """The rules of a book as the program prints it, by their labels."""
+    found = {}
+    for line in lines:
+        it = RULE.match(line)
+        if it:
+            names = [tuple(part.split(", ")) for part in it.group(2, 3)]
+            found[it[1]] = Rule(it[1], *names, it[4])
+    return found
+
+
+def exclusions_of(lines, rules):
+    """The exclusions that a history tells."""
+    for line in lines:
+        it = EXCLUDED.fullmatch(line)
+        if it and it[1] in rules:
+            yield Exclusion(rules[it[1]], it[2], it[3], it[4])
+
+
+class Told:
+    """What the session tells of the object after a refusal."""
+
+    def __init__(self, session, thing, name):
+        self.type_name = thing.type_name
+        self.rules = rules_of(session.ask("rules"))
+        self.exclusions = list(exclusions_of(session.ask(f"history {name}"), self.rules))
+        self.held = {"given": [], "stored": [], "computed": []}
+        for prop in by_name(thing.type_name):
+            origin = session.ask(f"origin {name} {prop}")[0]
+            if not prop.endswith("_AMBIENT_DIM"):
+                self.held.get(origin, []).append(prop)
+
+    def names(self, rule_names):
+        """The names of a rule, as the object's type has them."""
+        known = {it.polytope: name for name, it in by_name(self.type_name).items()}
+        return ", ".join(known.get(it, it.removeprefix("LP.")) for it in rule_names)
+
+
+def finds(told, rule):
+    return f"{rule.label} (finds {told.names(rule.targets)} from {told.names(rule.sources)})"
+
+
+def reason(told, exclusion):
+    """Why a rule is not tried again, in words."""
+    rule = exclusion.rule
+    place = f" for the program {exclusion.program}" if exclusion.program else ""
+    if exclusion.how == "false":
+        condition = told.names([exclusion.what])
+        return f"{finds(told, rule)} was not tried: of this object {condition} is not as it asks"
+    shown = EVIDENCE.get(exclusion.what, "it cannot go on")
+    if exclusion.what == "E5" and rule.client == OF_FACES:
+        shown = TOO_MANY_FACES
+    return f"{finds(told, rule)} failed{place} by {exclusion.what}: {shown}"
+
+
+def held_lines(told, path):
+    """What is held all the same."""
+    computed = told.held["computed"]
+    if computed:
+        yield f"found all the same: {', '.join(computed)}; ./polymake {path} {computed[0]} shows it"
+    elif told.held["given"] or told.held["stored"]:
+        yield f"held: {', '.join(told.held['stored'] + told.held['given'])}; nothing more was found"
+
+
+def described(told):
+    """The first descriptions that were given."""
+    first = {it.polytope: name for name, it in by_name(told.type_name).items()}
+    given = {*told.held["given"], *told.held["stored"]}
+    return [it for it in DESCRIPTIONS if first.get(it) in given]
+
+
+def other_program(told, path, given):
+    """How a program without the limit is asked."""
+    word = "--ext" if given in GENERATORS else "--ine"
+    pair = " ".join(told.names([it]) for it in (given, PAIRS[given]))
+    words = f"--cone {word}" if told.type_name == "Cone" else word
+    asked = f"./polymake {path} {pair} | bridge/to-cdd {words} > rows && lrs rows"
+    return f"to try: an answer that is not proved, by lrslib: {asked}"
+
+
+def next_lines(told, path):
+    """What to try, by the kinds of evidence."""
+    given = described(told)
+    kinds = {it.what for it in told.exclusions if it.how == "failed"}
+    if not given and not kinds:
+        yield f"to try: give a description, which is one of {told.names(DESCRIPTIONS)}"
+        return
+    if kinds & {"E2", "E5"}:
+        order = "double description takes them one by one"
+        yield f"to try: the same rows in another order, sorted for instance: {order}"
+    if kinds & {"E1", "E2", "E3", "E4"}:
+        ways = "move it to the origin, round to fewer places, scale denominators away"
+        yield f"to try: smaller numbers: {ways}"
+    if "E5" in kinds:
+        yield "to try: what needs no more rows than 2,048, of a smaller object"
+    if given and told.type_name != "Fan" and kinds:
+        yield other_program(told, path, given[0])
+
+
+def lines(session, thing, name, path, refused):
+    """What is said after refusals for want of a chain, a line each."""
+    told = Told(session, thing, name)
+    names = ", ".join(refused)
+    yield f"{names}: not found, since no chain of rules is left that leads there"
+    if not told.exclusions:
+        what = told.held["given"] + told.held["stored"]
+        yield f"no rule failed: nothing leads there from {', '.join(what) or 'nothing'}"
+    for it in told.exclusions:
+        yield reason(told, it)
+    yield from held_lines(told, path)
+    yield from next_lines(told, path)
