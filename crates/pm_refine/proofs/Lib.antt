@@ -1,0 +1,11 @@
+pub mod Answered
+pub mod ConeFacets
+pub mod Cuts
+pub mod Examples
+pub mod Found
+pub mod Indexed
+pub mod Kept
+pub mod Outcomes
+pub mod RaysMade
+pub mod Taken
+pub mod Tests

@@ -1,0 +1,6 @@
+use Rattle.pm_elim.specs.NullSpaces.{IsNull}
+use Rattle.pm_refine.proofs.products.is_null.Given as goal
+use Rattle.std.proofs.Common.{take}
+
+abbrev pub invariant-loop-row : goal.invariant-loop-row
+invariant-loop-row l = IsNull (take l.row-index l.equations) l.ray
