@@ -1,4 +1,4 @@
-//! Tests of what no reply of the program shows: cells of sites, the checker of tables, wide numbers, sources and stores in memory, and
+//! Tests of what no reply of the program shows: cells of sites, a placing triangulation, the checker of tables, wide numbers, sources and stores in memory, and
 //! the texts of errors.
 #![tactic(auto)]
 
@@ -8,6 +8,8 @@ mod cells;
 mod memory;
 #[cfg(test)]
 mod numbers;
+#[cfg(test)]
+mod placing;
 #[cfg(test)]
 mod plans;
 #[cfg(test)]
