@@ -1,2 +1,4 @@
 pub mod RowSums
 pub mod Optimum
+pub mod Exact
+pub mod Examples

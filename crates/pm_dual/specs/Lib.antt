@@ -1,2 +1,4 @@
 pub mod Answers
 pub mod Quotients
+pub mod Exact
+pub mod Examples

@@ -1,6 +1,9 @@
 //! Linear programs, quickly: a search by the dual simplex method in whole numbers, whose answer counts only where exact products show it.
 #![tactic(auto)]
 
+ghost use Rattle.pm_dual.specs.Exact.{AnswersAreExact};
+ghost use Rattle.pm_dual.specs.Examples.{MaximaAreRead};
+
 mod answer;
 mod check;
 mod quick;
@@ -13,3 +16,14 @@ mod wide;
 
 pub use answer::LpAnswer;
 pub use quick::quick_answer;
+
+/// An answer that is right is an optimum exactly where there is a greatest value, which is its own, `Unbounded` exactly
+/// where there is no bound, and `Infeasible` exactly where there is no point.
+pub fn law_answers_are_exact()
+    ensures { AnswersAreExact }
+{}
+
+/// Small programs with a greatest value, and without.
+pub fn example_maxima()
+    ensures { MaximaAreRead }
+{}

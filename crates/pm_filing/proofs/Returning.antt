@@ -783,7 +783,7 @@ get_same of vs ws ms tv tw ov ow to from k = by (property_named_in of k) refl
         let is = (named_in_exactly of k p).0 e in
         ap (λ q. get_member q (with_values of vs ms)) is.1 ∙ at p is.0 (is_of_one vs p) refl ∙ ap (λ q. get_member q (with_values of ws ms)) (sym is.1)
 
-keys_same : (of : ObjectType) (s t : ℕ) (ms : Members) → ((p : PropId) → has s p ≡ has t p) → stored_keys of s ms ≡ stored_keys of t ms
+pub keys_same : (of : ObjectType) (s t : ℕ) (ms : Members) → ((p : PropId) → has s p ≡ has t p) → stored_keys of s ms ≡ stored_keys of t ms
 keys_same of s t no_members h = refl
 keys_same of s t (member k d ms) h = ap (λ b. if b then k ∷ stored_keys of s ms else stored_keys of s ms) (by (property_named_in of k)) ∙ ap (λ ks. if is_stored of t k then k ∷ ks else ks) (keys_same of s t ms h)
   where

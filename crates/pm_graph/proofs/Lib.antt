@@ -15,4 +15,5 @@ pub mod Pairs
 pub mod RightGraphs
 pub mod Rising
 pub mod RightFaces
+pub mod RightSources
 pub mod Examples

@@ -4,7 +4,7 @@ use Rattle.pm_algebra.specs.Rows.{HasCols, Row}
 use Rattle.pm_geom.specs.Cones.{IsOrder, IsValid}
 use Rattle.pm_geom.specs.FaceCounts.{IsHasseDiagram}
 use Rattle.pm_geom.specs.Graphs.{AreNeighbours, IsDiameter, IsEdge, IsGraph, IsGreatestDistance, IsRidge}
-use Rattle.pm_graph.specs.Edges.{IsFaceEdge, IsIndexEdge, IsSetEdge, whole_of}
+use Rattle.pm_graph.specs.Edges.{IsFaceEdge, IsFaceGraph, IsIndexEdge, IsSetEdge, whole_of}
 use Rattle.pm_types.specs.Right.{IsIncidence}
 use Rattle.std.specs.Prelude.{ℕ, ◌↔◌, ◌≡◌, List, length}
 
@@ -32,3 +32,13 @@ DualGreatestDistanceIsDiameter = (n : ℕ) (G L : List Row) → HasCols n G → 
 abbrev pub FaceEdgesAreEdges : Type 0
 FaceEdgesAreEdges = (n : ℕ) (G L : List Row) → HasCols n G → HasCols n L → (V : List Row) → IsOrder n (InCone G L) V →
     (ranks : List (List (List ℕ))) → IsHasseDiagram n G L V ranks → (length (whole_of ranks) ≡ length V) × ((i j : ℕ) → IsFaceEdge ranks i j ↔ IsEdge n G L V i j)
+
+-- so the graph of such sets or faces is that of the rays, and the graph of the sets that of the facets
+pub record GraphsAreRight (n : ℕ) (G L V F : List Row) : Type 0 where
+  pub by_sets : (rows : List (List ℕ)) → IsIncidence F V rows → (g : List (List ℕ)) → IsGraph (length V) (IsIndexEdge (record { rows = rows; cols = length V })) g → IsGraph (length V) (IsEdge n G L V) g
+  pub by_faces : (ranks : List (List (List ℕ))) → IsHasseDiagram n G L V ranks → (g : List (List ℕ)) → IsFaceGraph ranks g → IsGraph (length V) (IsEdge n G L V) g
+  pub of_facets : (rows : List (List ℕ)) → IsIncidence F V rows → (g : List (List ℕ)) → IsGraph (length rows) (IsSetEdge rows) g → IsGraph (length F) (IsRidge n G L V F) g
+
+-- for each cone, with any orders of its extreme rays and facet rows
+abbrev pub RightSourcesGiveGraphs : Type 0
+RightSourcesGiveGraphs = (n : ℕ) (G L : List Row) → HasCols n G → HasCols n L → (V F : List Row) → IsOrder n (InCone G L) V → IsOrder n (IsValid n G L) F → GraphsAreRight n G L V F

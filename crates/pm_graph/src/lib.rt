@@ -4,7 +4,7 @@
 #![tactic(auto)]
 
 ghost use Rattle.pm_graph.specs.Examples.{EdgesAreRead};
-ghost use Rattle.pm_graph.specs.Laws.{DualGreatestDistanceIsDiameter, FaceEdgesAreEdges, GreatestDistanceIsDiameter, IndexEdgesAreEdges, SetEdgesAreRidges};
+ghost use Rattle.pm_graph.specs.Laws.{DualGreatestDistanceIsDiameter, FaceEdgesAreEdges, GreatestDistanceIsDiameter, IndexEdgesAreEdges, RightSourcesGiveGraphs, SetEdgesAreRidges};
 
 mod bits;
 mod counts;
@@ -44,6 +44,11 @@ pub fn law_dual_greatest_distance_is_diameter()
 /// Where the lists are all faces by rank, the edges of the whole set are the edges of the rays.
 pub fn law_face_edges_are_edges()
     ensures { FaceEdgesAreEdges }
+{}
+
+/// Of right sets, or of all faces, the graph that is found is the graph of the rays, or of the facets.
+pub fn law_right_sources_give_graphs()
+    ensures { RightSourcesGiveGraphs }
 {}
 
 /// Which indices, sets, places and rows of bits are joined, and which are not.

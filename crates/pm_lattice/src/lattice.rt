@@ -80,8 +80,9 @@ fn evidence_of(alloc: Global, rows: &BitTable, faces: &[BitRow]) -> Result<Evide
 /// the greatest number of strict inclusions of faces below it. Faces of one rank are in lexicographic
 /// order.
 ///
-/// Where the sets hold the vertices of the facets of a polytope, these are its faces. `Many` comes only
-/// with evidence of too many faces, and `Memory` only where memory is lacking.
+/// Where the sets hold the vertices of the facets of a polytope, these are exactly its faces, each under
+/// its rank (`law_lattice_is_hasse_diagram`, `law_meets_are_faces`). `Many` comes only with evidence of too
+/// many faces, and `Memory` only where memory is lacking.
 pub fn faces(alloc: Global, s: &Sets) -> Result<Lattice, LatticeFail>
     requires { All (λ row. All (λ j. j < s.now.cols) row) s.now.rows }
     ensures lattice { IfOk result (IsFaceLattice s.now) }

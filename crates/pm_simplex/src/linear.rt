@@ -69,6 +69,8 @@ pub fn maximise_by_dictionaries(
 
 /// The greatest value of the objective over the x with first coordinate 1, a.x >= 0 for the inequalities a and b.x = 0 for the equations b,
 /// all whole rows of as many entries as the objective has. `Wide` only where a pivot of a dictionary of the program leaves the range, which the evidence (E3) shows.
+/// The answer is an optimum exactly where there is a greatest value, which is its own, `Unbounded` exactly where there is no
+/// bound, and `Infeasible` exactly where there is no point (`law_answers_are_exact` of `pm_dual`).
 pub fn maximise_rows(
     alloc: Global,
     inequalities: &[Ints],

@@ -1,0 +1,4 @@
+pub mod MarksAgain
+pub mod HeldAgain
+pub mod SavedAgain
+pub mod Examples

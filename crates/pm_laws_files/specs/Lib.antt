@@ -1,0 +1,2 @@
+pub mod SavedAgain
+pub mod Examples

@@ -1,0 +1,10 @@
+pub mod Merged
+pub mod FanRays
+pub mod OrdersExist
+pub mod Renamed
+pub mod SameGraphs
+pub mod Sums
+pub mod EdgeCounts
+pub mod Graphs
+pub mod Examples
+pub mod SquareExamples
