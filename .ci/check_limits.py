@@ -54,6 +54,39 @@ def check_cube(random, runs, count):
     runs.tries(script)
 
 
+def pyramids(sides, below, beside):
+    """A polygon on a parabola, a point above it, and points below it one under the other; if beside, a point beyond one side of the polygon.
+    The point above makes a cell with each triangle of the polygon's placing, and so does the first below it; each further one sees as many
+    facets as the polygon has sides, and the point beside sees two. There are never more facets than twice the sides and four."""
+    polygon = [(1, t, t * t, 0) for t in range(sides)]
+    x, y = sides // 2, sides * sides // 3
+    points = polygon + [(1, x, y, 1)] + [(1, x, y, -2**k) for k in range(below)]
+    cells = 2 * (sides - 2) + (below - 1) * sides
+    if beside:
+        points.append((4, 2, 1, 0))
+        cells += 2
+    return points, cells
+
+
+def check_cells(runs):
+    """2,048 cells are answered, and 2,049 are too many, of which the client shows a front."""
+    script = Script('cells of pyramids')
+    for name, sides, below, beside in [('p', 54, 37, False), ('q', 293, 6, True)]:
+        points, cells = pyramids(sides, below, beside)
+        script.says(f'new {name} Cone')
+        script.says(f'take {name} RAYS {fractions_spelled(points)}')
+        if cells <= 2048:
+            script.says(f'ensure {name} PLACING_TRIANGULATION', 'ok 1')
+            script.wanted.append('round 25: placing -> done')
+        else:
+            script.says(f'ensure {name} PLACING_TRIANGULATION', 'no 10 NoChain')
+            script.wanted += ['round 25: placing -> failed placing E5', 'round 35: bb_facets_v -> failed bb_facets_v E5']
+    status, wrote = runs.run('\n'.join(script.commands + ['give p PLACING_TRIANGULATION']) + '\n', script.words, script.files)
+    lines = wrote.decode().split('\n')[:-1]
+    runs.wants((status, lines[:-1]), (1, script.wanted), f'{script.name}: {wrote[-80:]}')
+    runs.wants((lines[-1].count('[') - 1, lines[-1][-13:]), (2048, f',{{"cols":{54 + 38}}}]'), f'{script.name}: 2,048 cells')
+
+
 def equal_rows(count):
     return '[' + ','.join(['[1,1]'] * count) + ']'
 

@@ -101,6 +101,7 @@ PROPERTIES = (
     of_fans("MAXIMAL_CONES_DIMS", Kind.COUNTS, is_of_polymake=False),
     of_fans("FAN_DIM", Kind.WHOLE),
     of_fans("PURE", Kind.TRUTH),
+    here("PLACING_TRIANGULATION", Kind.SETS),
 )
 
 # The properties of a linear program: their kinds, and whether polymake's files hold them.

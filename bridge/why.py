@@ -14,7 +14,7 @@ EVIDENCE = {
     "E2": "two rays on the way of double description combine to numbers of more than 127 bits",
     "E3": "a pivot of a linear program over its rows needs numbers of more than 127 bits",
     "E4": "the product of two of its rows needs more than 127 bits",
-    "E5": "more than 2,048 rays or facets come up",
+    "E5": "more than 2,048 rays, facets or cells come up",
 }
 TOO_MANY_FACES = "more than 65,536 faces come up, or 4,000,000 indices in them"
 

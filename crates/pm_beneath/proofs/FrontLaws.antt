@@ -5,7 +5,8 @@ use Rattle.pm_algebra.specs.Rows.{Row}
 use Rattle.pm_laws_placing.proofs.Places.{Rising, stated_below}
 use Rattle.pm_beneath.specs.CellLists.{AreNextCells}
 use Rattle.pm_laws_placing.specs.Placing.{places_marked, stated_places}
-use Rattle.pm_beneath.specs.Runs.{HaveSameSets, IsRunTo, below}
+use Rattle.pm_beneath.specs.Runs.{IsRunTo, below}
+use Rattle.pm_laws_placing.specs.PlacedCells.{HaveSameSets}
 use Rattle.pm_dd.proofs.Marks.{beq_turned}
 use Rattle.pm_dd.specs.Fronts.{HalfSpaces}
 use Rattle.pm_geom.specs.Cones.{IsOrder}

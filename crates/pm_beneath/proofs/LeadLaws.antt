@@ -7,7 +7,7 @@ use Rattle.pm_algebra.specs.Rows.{Row, entry, opposite}
 use Rattle.pm_bases.specs.Bases.{column, row_at}
 use Rattle.pm_laws_placing.proofs.LeastSums.{bool_cases}
 use Rattle.pm_laws_placing.specs.Placing.{places_marked, stated_places}
-use Rattle.pm_laws_placing.specs.Triangulations.{rows_at}
+use Rattle.pm_geom.specs.Triangulations.{rows_at}
 use Rattle.pm_dd.proofs.LeadingLaws.{arrangement}
 use Rattle.pm_dd.specs.Arrangement.{IsArrangement, Leads, alternating}
 use Rattle.pm_dd.specs.Fronts.{both_signs}

@@ -7,6 +7,6 @@ mod RunLaws
 mod LeadLaws
 mod PlaceLaws
 mod DoubleLists
-mod SortedLaws
+pub mod SortedLaws
 mod RunOutcomes
 mod PlaceOutcomes

@@ -8,7 +8,7 @@ use Rattle.pm_laws_placing.proofs.Places.{Rising, rising_of}
 use Rattle.pm_beneath.specs.Names.{AreNames, NamesKeepSteps, named, named_by}
 use Rattle.pm_laws_placing.specs.Placing.{IsExchange, IsNextCells, IsOnlyOff}
 use Rattle.pm_beneath.specs.Runs.{below}
-use Rattle.pm_laws_placing.specs.Triangulations.{rows_at}
+use Rattle.pm_geom.specs.Triangulations.{rows_at}
 use Rattle.pm_geom.specs.Faces.{ray}
 use Rattle.pm_geom.specs.Graphs.{IsAscending}
 use Rattle.std.specs.Prelude.{ℕ, zero, suc, ◌==◌, ◌<◌, ◌≤◌, ◌≡◌, ◌⊎◌, List, [], ◌∷◌, length, map}

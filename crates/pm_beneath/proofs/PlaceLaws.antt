@@ -5,7 +5,7 @@ use Rattle.pm_beneath.proofs.RunLaws.{run_is_placing}
 use Rattle.pm_beneath.specs.Names.{named}
 use Rattle.pm_laws_placing.specs.Placing.{IsPlacing, places_marked, stated_places}
 use Rattle.pm_beneath.specs.Runs.{IsRunTo}
-use Rattle.pm_laws_placing.specs.Triangulations.{rows_at}
+use Rattle.pm_geom.specs.Triangulations.{rows_at}
 use Rattle.pm_dd.specs.Arrangement.{Leads}
 use Rattle.pm_dd.specs.Fronts.{both_signs}
 use Rattle.pm_elim.specs.Enlarging.{MarkEnlarging}

@@ -13,12 +13,14 @@ use Rattle.pm_beneath.proofs.PlaceLaws.{all_placed, run_places, stated_many}
 use Rattle.pm_beneath.proofs.RunLaws.{names}
 use Rattle.pm_beneath.proofs.SortedLaws.{ordered_apart}
 use Rattle.pm_beneath.specs.Names.{AreNames, named}
-use Rattle.pm_beneath.specs.Placed.{AreCrowdedCells, IsPlacingTriangulation, IsShownPlace, PlacedCellsTriangulate, fail_of_engine}
+use Rattle.pm_beneath.specs.Placed.{IsShownPlace, PlacedCellsTriangulate, fail_of_engine}
 use Rattle.pm_beneath.proofs.FrontLaws.{all_within}
 use Rattle.pm_beneath.specs.PlacedRuns.{FitsPlaces, IsPlaceFailOf, IsPlacedRun}
-use Rattle.pm_beneath.specs.Runs.{HaveSameSets, IsCrowdedRun, IsListFail, IsRunTo}
+use Rattle.pm_beneath.specs.Runs.{IsCrowdedRun, IsListFail, IsRunTo}
+use Rattle.pm_geom.specs.declared.evidence.Evidence.{Evidence}
+use Rattle.pm_geom.specs.declared.evidence.Evidence.TheVariants.{E1, E2, E3, E4, E5Cells, E5Faces, E5Rays, E5Rows}
 use Rattle.pm_beneath.specs.declared.fails.PlaceFail.{PlaceFail}
-use Rattle.pm_beneath.specs.declared.fails.PlaceFail.TheVariants.{Crowded, Many, Memory, Wide}
+use Rattle.pm_beneath.specs.declared.fails.PlaceFail.TheVariants.{Many, Memory, Wide}
 use Rattle.pm_beneath.specs.declared.run.RunFail.{RunFail}
 use Rattle.pm_beneath.specs.declared.run.RunFail.TheVariants.{Crowd, Engine}
 use Rattle.pm_beneath.specs.StatedLists.{IsStatedList}
@@ -39,8 +41,9 @@ use Rattle.pm_hull.proofs.HullLaws.{facets_of, list_generators}
 use Rattle.pm_hull.specs.HullRefusals.{IsDoubleList}
 use Rattle.pm_hull.specs.Hulls.{AreFacets}
 use Rattle.pm_laws_placing.proofs.Places.{length_stated}
+use Rattle.pm_laws_placing.specs.PlacedCells.{AreCrowdedCells, HaveSameSets, IsPlacingTriangulation}
 use Rattle.pm_laws_placing.specs.Placing.{places_marked, stated_places}
-use Rattle.pm_laws_placing.specs.Triangulations.{IsIndependentModulo, IsTriangulation, rows_at}
+use Rattle.pm_geom.specs.Triangulations.{IsIndependentModulo, IsTriangulation, rows_at}
 use Rattle.std.proofs.Common.{arith, ap, inl, inr, refl, subst, sym, ◌∙◌}
 use Rattle.std.proofs.lemmas.List.{length-drop, length-map}
 use Rattle.std.specs.List.{All, AllPairs}
@@ -74,7 +77,7 @@ marks_fail n L G D d elimination.Memory h = tt
 
 pub list_fail : (n : ℕ) (L G D : List Row) → IsDoubleList n L G D → (f : DdFail) → IsShown n D f → IsShownPlace n L G (fail_of_engine f)
 list_fail n L G D d (dd.Wide e) h = inr (D, d, h)
-list_fail n L G D d (dd.Many e) h = inr (D, d, h)
+list_fail n L G D d (dd.Many e) h = inl (inr (D, d, h))
 list_fail n L G D d dd.Memory h = tt
 
 -- ---- the list that is taken
@@ -165,15 +168,21 @@ module _ (n : ℕ) (L G B D J : List Row) (places : List ℕ) (start : ℕ) (hL 
   pub shown : (f : RunFail) (p : PlaceFail) (lead : ℕ) → lead ≡ 2 * length B → IsListFail n D B J start f → IsPlaceFailOf (length G) lead places f p → IsShownPlace n L G p
   shown (Engine e) p lead le h q = rw q (list_fail n L G D is_double e h)
   shown (Crowd f cells) (Wide e) lead le h q = absurd q
-  shown (Crowd f cells) (Many e) lead le h q = absurd q
-  shown (Crowd f cells) (Crowded g made) lead le h q =
-      let same : HaveSameSets (map (λ s. s.items) made.items) (map (named (length G) places) (map (λ s. s.items) cells.items)) = subst (λ (Z : List (List ℕ)). HaveSameSets (map (λ s. s.items) made.items) Z) (sym (map_twice (named (length G) places) (λ s. s.items) cells.items)) q.1 in
+  shown (Crowd f cells) (Many (E5Cells g made)) lead le h q =
+      let same : HaveSameSets made (map (named (length G) places) (map (λ s. s.items) cells.items)) = subst (λ (Z : List (List ℕ)). HaveSameSets made Z) (sym (map_twice (named (length G) places) (λ s. s.items) cells.items)) q.1 in
       let differ = apart f (let a = h.within in omega arith) (map (λ s. s.items) cells.items) h.ascending h.ordered in
-      let many : length made.items ≡ length cells.items = q.3 (subst (λ (Z : List (List ℕ)). AllPairs (λ s t. ¬ (s ≡ t)) Z) (map_twice (named (length G) places) (λ s. s.items) cells.items) differ) in
+      let many : length made ≡ length (map (λ s. named (length G) places s.items) cells.items) = q.3 (subst (λ (Z : List (List ℕ)). AllPairs (λ s t. ¬ (s ≡ t)) Z) (map_twice (named (length G) places) (λ s. s.items) cells.items) differ) in
       let m = h.many in
       let e1 = length-map cells.items (λ s. s.items) in
-      let e2 = length-map made.items (λ s. s.items) in
-      subst (λ (k : ℕ). AreCrowdedCells n L G k (map (λ s. s.items) made.items)) (sym (q.0 ∙ ap (λ (z : ℕ). f + z) le)) (crowded f (map (λ s. s.items) cells.items) (map (λ s. s.items) made.items) h same q.2 (omega arith))
+      let e2 = length-map cells.items (λ s. named (length G) places s.items) in
+      inr (subst (λ (k : ℕ). AreCrowdedCells n L G k made) (sym (q.0 ∙ ap (λ (z : ℕ). f + z) le)) (crowded f (map (λ s. s.items) cells.items) made h same q.2 (omega arith)))
+  shown (Crowd f cells) (Many (E1 a)) lead le h q = absurd q
+  shown (Crowd f cells) (Many (E2 a b d e)) lead le h q = absurd q
+  shown (Crowd f cells) (Many (E3 a b d e g)) lead le h q = absurd q
+  shown (Crowd f cells) (Many (E4 a b)) lead le h q = absurd q
+  shown (Crowd f cells) (Many (E5Rays a b)) lead le h q = absurd q
+  shown (Crowd f cells) (Many (E5Rows a)) lead le h q = absurd q
+  shown (Crowd f cells) (Many (E5Faces a)) lead le h q = absurd q
   shown (Crowd f cells) Memory lead le h q = tt
 
 pub placed_cells : {A : Type 0} (items : A → List ℕ) (n : ℕ) (L G : List Row) (places : List ℕ) (cells : List A) (S : List (List ℕ)) → HasCols n L → HasCols n G → IsPlacedRun n L G places (map items cells) → HaveSameSets S (map (λ s. named (length G) places (items s)) cells) → AllPairs IsLexBefore S → IsPlacingTriangulation n L G S

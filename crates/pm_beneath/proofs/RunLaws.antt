@@ -12,7 +12,7 @@ use Rattle.pm_beneath.specs.CellLists.{AreNextCells}
 use Rattle.pm_beneath.specs.Names.{AreNames, RunIsPlacing, named}
 use Rattle.pm_laws_placing.specs.Placing.{IsCellStep, IsFirstCell, IsNextCells, IsPlacing, places_marked, stated_places}
 use Rattle.pm_beneath.specs.Runs.{IsRun, below}
-use Rattle.pm_laws_placing.specs.Triangulations.{rows_at}
+use Rattle.pm_geom.specs.Triangulations.{rows_at}
 use Rattle.pm_dd.proofs.Fronts.{signs_cut_out}
 use Rattle.pm_dd.specs.Arrangement.{alternating}
 use Rattle.pm_dd.specs.Fronts.{HalfSpaces, both_signs}

@@ -2,7 +2,7 @@
 use Rattle.std.specs.Prelude.{ℕ, List, ◌++◌, length}
 use Rattle.pm_algebra.specs.Rows.{HasCols, Row}
 use Rattle.pm_laws_placing.specs.Placing.{IsPlacing}
-use Rattle.pm_laws_placing.specs.Triangulations.{IsTriangulation}
+use Rattle.pm_geom.specs.Triangulations.{IsTriangulation}
 use Rattle.pm_dd.specs.Fronts.{both_signs}
 use Rattle.pm_elim.specs.Evidence.{IsBasisOf}
 

@@ -8,7 +8,7 @@ use Rattle.pm_elim.specs.Enlarging.{MarkEnlarging}
 use Rattle.pm_elim.specs.Evidence.{IsBasisOf}
 use Rattle.pm_laws_placing.specs.Placing.{IsNextCells, IsPlacing, places_marked, stated_places}
 use Rattle.pm_beneath.specs.Runs.{IsRun, below}
-use Rattle.pm_laws_placing.specs.Triangulations.{rows_at}
+use Rattle.pm_geom.specs.Triangulations.{rows_at}
 
 -- some place of s has the name j in O
 abbrev pub named_by : List ℕ → List ℕ → ℕ → Bool

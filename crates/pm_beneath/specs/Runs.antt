@@ -1,13 +1,14 @@
 -- The cells of all fronts, as double description takes the rows.
-use Rattle.std.specs.Prelude.{ℕ, zero, suc, ◌+◌, ◌≡◌, ◌<◌, ◌↔◌, List, [], ◌∷◌, ◌++◌, length, map, take}
+use Rattle.std.specs.Prelude.{ℕ, zero, suc, ◌+◌, ◌≡◌, ◌<◌, List, [], ◌∷◌, ◌++◌, length, map, take}
 use Rattle.pm_algebra.specs.Rows.{Row}
 use Rattle.pm_dd.specs.Fronts.{HalfSpaces}
 use Rattle.pm_dd.specs.Refusals.{IsMemory, IsShown, IsShownOnRows}
 use Rattle.pm_geom.specs.Cones.{IsOrder}
 use Rattle.pm_geom.specs.FaceCounts.{IsLexBefore}
 use Rattle.pm_geom.specs.Graphs.{IsAscending}
-use Rattle.std.specs.List.{All, AllPairs, Contains}
+use Rattle.std.specs.List.{All, AllPairs}
 use Rattle.pm_beneath.specs.CellLists.{AreNextCells}
+use Rattle.pm_laws_placing.specs.PlacedCells.{HaveSameSets}
 use Rattle.pm_beneath.specs.declared.run.RunFail.{RunFail}
 use Rattle.pm_beneath.specs.declared.run.RunFail.TheVariants.{Engine, Crowd}
 
@@ -24,10 +25,6 @@ IsRun n E J start (suc d) U = (T : List (List ℕ)) × IsRun n E J start d T × 
 -- so for f rows
 abbrev pub IsRunTo : ℕ → List Row → List Row → ℕ → ℕ → List (List ℕ) → Type 0
 IsRunTo n E J start f T = (d : ℕ) × (f ≡ start + d) × IsRun n E J start d T
-
--- A and B have the same sets
-abbrev pub HaveSameSets : List (List ℕ) → List (List ℕ) → Type 0
-HaveSameSets A B = (s : List ℕ) → Contains A s ↔ Contains B s
 
 -- the refusal is want of memory, or has the sets of T, each once, and more than 2,048
 abbrev pub IsCrowdOf : ℕ → List (List ℕ) → RunFail → Type 0

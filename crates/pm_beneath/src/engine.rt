@@ -1,9 +1,10 @@
 // The call.
 
 ghost use Rattle.pm_algebra.specs.Rows.{HasCols};
-ghost use Rattle.pm_beneath.specs.Placed.{IsPlacingTriangulation, IsShownPlace};
+ghost use Rattle.pm_beneath.specs.Placed.{IsShownPlace};
 ghost use Rattle.pm_hull.specs.Hulls.{AreFacets};
-ghost use Rattle.pm_laws_placing.specs.Triangulations.{IsTriangulation};
+ghost use Rattle.pm_geom.specs.Triangulations.{IsTriangulation};
+ghost use Rattle.pm_laws_placing.specs.PlacedCells.{IsPlacingTriangulation};
 ghost use Rattle.std.specs.Prelude.{IfErr, IfOk, length, map, ◌<◌, ◌^◌, ◌≤◌};
 
 use crate::fails::PlaceFail;
@@ -28,7 +29,7 @@ pub struct Placing {
 /// The rows of the double description list, which is the echelon basis of the lineality both ways and then the rays, are taken in the stated order: first those that enlarge the span of the rows before them. The first cell has the rays among these. Each later ray joins the cells' faces on the facets of the cone so far that it is beyond (De Loera, Rambau and Santos, Triangulations, section 4.3).
 /// The cells are a triangulation of the cone. Each stands once, as a rising list of places of rays, in lexicographic order; there are at most 2,048 of them.
 ///
-/// `Wide` and `Many` come only with evidence on the lineality, or on the double description list; `Crowded` only with the cells of a front that has more than 2,048.
+/// `Wide` and `Many` come only with evidence on the lineality, or on the double description list, or with the cells of a front that has more than 2,048.
 pub fn place(
     alloc: Global,
     cols: usize,

@@ -12,12 +12,9 @@ pub enum PlaceFail {
     /// A number leaves the range: in a step of an elimination, or of double description.
     #[error("a step leaves the range")]
     Wide(Evidence),
-    /// Some cone on the way has more than 2,048 facets.
-    #[error("more than 2,048 facets")]
+    /// Some cone on the way has more than 2,048 facets, or more than 2,048 cells.
+    #[error("more than 2,048 facets or cells")]
     Many(Evidence),
-    /// The first `front` rows of the stated order have these cells, more than 2,048.
-    #[error("more than 2,048 cells")]
-    Crowded { front: u32, cells: Vec<Vec<u32>> },
     #[error("out of memory")]
     Memory,
 }

@@ -1,7 +1,7 @@
 // Cells by the places of the rays as they were handed in.
 
 ghost use Rattle.pm_beneath.specs.Names.{named, named_by};
-ghost use Rattle.pm_beneath.specs.Runs.{HaveSameSets};
+ghost use Rattle.pm_laws_placing.specs.PlacedCells.{HaveSameSets};
 ghost use Rattle.pm_geom.specs.FaceCounts.{IsLexBefore};
 ghost use Rattle.std.specs.Prelude.{All, AllPairs, IfOk, length, map, ◌<◌, ◌^◌, ◌≡◌, ◌≤◌};
 

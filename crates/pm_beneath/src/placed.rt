@@ -16,6 +16,7 @@ use crate::names::ordered_cells;
 use crate::run::{MOST_CELLS, RunFail};
 use crate::taken::{StatedList, Taken, stated_list};
 use crate::whole::{Whole, all_fronts};
+use pm_geom::{Evidence, PlaceSets};
 use pm_vector::Ints;
 use std::alloc::{AllocError, Global};
 
@@ -54,10 +55,10 @@ fn place_fail(alloc: Global, fail: RunFail, places: &[u32], many: usize, lead: u
     match fail {
         RunFail::Engine(fail) => PlaceFail::from(fail),
         RunFail::Crowd(front, crowd) => match ordered_cells(alloc, &crowd, places, many) {
-            Ok(cells) => PlaceFail::Crowded {
+            Ok(cells) => PlaceFail::Many(Evidence::E5Cells {
                 front: (front + lead) as u32,
-                cells,
-            },
+                cells: PlaceSets::from_vec(cells),
+            }),
             Err(AllocError) => PlaceFail::Memory,
         },
     }

@@ -2,12 +2,13 @@
 
 ghost use Rattle.pm_algebra.specs.Rows.{HasCols};
 ghost use Rattle.pm_bases.specs.Bases.{IsRank, SameSpan};
-ghost use Rattle.pm_beneath.specs.Runs.{HaveSameSets, IsCrowdOf, IsRunFail, IsRunTo, below};
+ghost use Rattle.pm_beneath.specs.Runs.{IsCrowdOf, IsRunFail, IsRunTo, below};
 ghost use Rattle.pm_dd.specs.Form.{AreReduced};
 ghost use Rattle.pm_dd.specs.Fronts.{HalfSpaces};
 ghost use Rattle.pm_dd.specs.Tables.{IsRayTable};
 ghost use Rattle.pm_geom.specs.Cones.{IsOrder};
 ghost use Rattle.pm_geom.specs.Graphs.{IsAscending};
+ghost use Rattle.pm_laws_placing.specs.PlacedCells.{HaveSameSets};
 ghost use Rattle.std.specs.Prelude.{All, IfErr, IfOk, [], length, map, take, ◌++◌, ◌+◌, ◌<◌, ◌^◌, ◌∷◌, ◌≡◌, ◌≤◌};
 
 use crate::fronts::{Front, next_front};

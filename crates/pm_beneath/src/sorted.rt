@@ -1,6 +1,6 @@
 // Sets of places in lexicographic order.
 
-ghost use Rattle.pm_beneath.specs.Runs.{HaveSameSets};
+ghost use Rattle.pm_laws_placing.specs.PlacedCells.{HaveSameSets};
 ghost use Rattle.pm_geom.specs.FaceCounts.{IsLexBefore};
 ghost use Rattle.std.specs.Prelude.{AllPairs, IfOk, length, map, ◌≡◌, ◌≤◌};
 

@@ -5,7 +5,7 @@ ghost use Rattle.pm_beneath.specs.Placed.{IsShownPlace};
 ghost use Rattle.pm_beneath.specs.StatedLists.{IsStatedList};
 ghost use Rattle.pm_elim.specs.Evidence.{IfWide, IsBasisOf, IsEvidence};
 ghost use Rattle.pm_laws_placing.specs.Placing.{places_marked, stated_places};
-ghost use Rattle.pm_laws_placing.specs.Triangulations.{rows_at};
+ghost use Rattle.pm_geom.specs.Triangulations.{rows_at};
 ghost use Rattle.std.specs.Prelude.{All, IfErr, IfOk, List, length, true, ◌++◌, ◌<◌, ◌^◌, ◌≡◌, ℕ};
 
 use crate::fails::PlaceFail;

@@ -15,4 +15,5 @@ mod ThinningExamples
 mod ProgramExamples
 mod OptimumExamples
 mod LatticeExamples
+mod CellExamples
 pub mod ConeExamples

@@ -64,7 +64,7 @@ plain_columns n ConeAmbientDim x h other = absurd (true≢false other)
 plain_columns n p (matrix m rows) h other = absurd (true≢false (sym h))
 plain_columns n p x h other = no_columns (is_columned p) n
 
-plain_form : (of : ObjectType) (n : ℕ) (p : PropId) (x : PropertyValue) → is_plain x ≡ true → is_ambient p ≡ false → is_formed p x ≡ true → FormsIn of n p x
+pub plain_form : (of : ObjectType) (n : ℕ) (p : PropId) (x : PropertyValue) → is_plain x ≡ true → is_ambient p ≡ false → is_formed p x ≡ true → FormsIn of n p x
 plain_form of n p x plain other formed = record { formed = formed; columns = plain_columns n p x plain other; rows = plain_rows of p x plain; entries = plain_entries x plain; primitive = plain_primitive x plain }
 
 plain_canonical : (kind : Kind) (p : PropId) (x : PropertyValue) (t : Thing) → is_plain x ≡ true → IsCanonical kind p x t

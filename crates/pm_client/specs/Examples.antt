@@ -1,5 +1,5 @@
 -- The definitions of starts and of row lists read on small lists: what holds of them, and what does not.
-use Rattle.pm_client.specs.Sound.{AreEnlarging, AreParts, ArePartsOf, AreRowsOf, AreSetsOf, HoldsOf, IsCrowdedLattice, IsWideAtRays, IsWideDual, IsWideFace, IsWideForPrograms, IsWideOptimum, ReadsObjective, finds_optimum, optimum, IsCrowdedThinning, IsDeterminingList, IsDoubleListOf, IsEliminated, IsFlatBasisAndRow, IsFlatList, IsWideFeasibility, IsWideForSets, IsWideProgramOf, IsWideThinningOf, added_rows, are_parts, are_told, determining_rows, double_list, eliminated_by, enlarging_rows, fail_of, fail_of_double, fail_of_lattice, fail_of_program, fail_of_thin, first_part, flat_basis_and_row, flat_rows, line_basis_and_row, line_rows, row_list, sets_of_rows, IsConeList, cone_rows, has_way}
+use Rattle.pm_client.specs.Sound.{AreEnlarging, AreParts, ArePartsOf, AreRowsOf, AreSetsOf, HoldsOf, IsCrowdedLattice, IsCrowdedPlacing, IsWideAtRays, IsWideDual, IsWideFace, IsWideForPrograms, IsWideOptimum, ReadsObjective, finds_optimum, optimum, IsCrowdedThinning, IsDeterminingList, IsDoubleListOf, IsEliminated, IsFlatBasisAndRow, IsFlatList, IsWideFeasibility, IsWideForSets, IsWideProgramOf, IsWideThinningOf, added_rows, are_parts, are_told, determining_rows, double_list, eliminated_by, enlarging_rows, fail_of, fail_of_double, fail_of_lattice, fail_of_program, fail_of_thin, first_part, flat_basis_and_row, flat_rows, line_basis_and_row, line_rows, row_list, sets_of_rows, IsConeList, cone_rows, has_way}
 use Rattle.pm_client.specs.Ways as way
 use Rattle.pm_props.specs.Properties.{is_generator, is_half_space}
 use Rattle.pm_client.specs.Starts.{Clients, after_start, has_client, kind_at, next_count, place_in, same_kind, started_once}
@@ -13,6 +13,7 @@ use Rattle.pm_geom.specs.declared.evidence.Evidence.{Evidence}
 use Rattle.pm_geom.specs.declared.evidence.Evidence.TheVariants.{E3, E4}
 use Rattle.pm_incidence.specs.Thinning.{AreManyFacets}
 use Rattle.pm_incidence.specs.declared.fails.ThinFail.TheVariants as thinning
+use Rattle.pm_laws_placing.specs.PlacedCells.{AreCrowdedCells}
 use Rattle.pm_lattice.specs.declared.lattice.LatticeFail.TheVariants as closing
 use Rattle.pm_object_type.specs.declared.object_type.ObjectType.TheVariants.{Cone, Fan, Polytope}
 use Rattle.pm_algebra.specs.Numbers.{Ratio}
@@ -88,6 +89,9 @@ pub record RowListsAreRead : Type 0 where
   -- what clients eliminate, by their names
   pub doubling : has_way (codes "dd_facets_v") way.doubling ≡ true
   pub not_doubling : has_way (codes "hull_from_vertices") way.doubling ≡ false
+  pub placing : has_way (codes "bb_facets") way.cell_count ≡ true
+  pub not_placing : has_way (codes "dd_facets") way.cell_count ≡ false
+  pub placing_doubles : has_way (codes "placing") way.doubling ≡ true
   pub of_double : eliminated_by (codes "dd_vertices") ≡ first_part ∷ double_list ∷ enlarging_rows ∷ []
   pub of_ranks : eliminated_by (codes "cone_dim_v") ≡ row_list ∷ []
 
@@ -305,6 +309,30 @@ pub record LatticesAreRead : Type 0 where
   -- what such a failure is to a client
   pub many : (e : Evidence) → fail_of_lattice (closing.Many e) ≡ fail.Failed e
   pub memory : fail_of_lattice closing.Memory ≡ fail.Memory
+
+-- a view of a cone with one column, for the client of this name: VERTICES and LINEALITY_SPACE have no row
+abbrev pub without_rays : List ℕ → ViewSeen
+without_rays name = record {
+  of = Cone;
+  cols = 1;
+  kind = named name 1 2;
+  sub = None;
+  facts = record { place = None; property = Vertices; value = matrix 0 [] }
+      ∷ record { place = None; property = LinealitySpace; value = matrix 0 [] }
+      ∷ [];
+}
+
+-- a view for the same client that reads nothing
+abbrev pub nothing_placed : ViewSeen
+nothing_placed = record { of = Cone; cols = 1; kind = named (codes "placing") 1 2; sub = None; facts = [] }
+
+pub record CellsAreRead : Type 0 where
+  -- the evidence is of the rays and lines that the client read: more cells of a front of these than 2,048
+  pub crowded : (front : ℕ) (cells : List (List ℕ)) → AreCrowdedCells 1 [] [] front cells → IsCrowdedPlacing (without_rays (codes "placing")) front cells
+  pub few : (front : ℕ) → ¬ (IsCrowdedPlacing (without_rays (codes "placing")) front ([] ∷ (0 ∷ []) ∷ []))
+  pub none_read : (front : ℕ) (cells : List (List ℕ)) → ¬ (IsCrowdedPlacing nothing_placed front cells)
+  -- a client of another name has no such evidence
+  pub other_client : (front : ℕ) (cells : List (List ℕ)) → ¬ (IsCrowdedPlacing (without_rays (codes "dd_facets_v")) front cells)
 
 -- a view of a fan with one column, which reads these rays and lines, and one maximal cone, of the second ray
 abbrev pub of_fan : List (List Ratio) → List (List Ratio) → ViewSeen

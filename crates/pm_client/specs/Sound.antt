@@ -10,6 +10,7 @@ use Rattle.pm_incidence.specs.declared.fails.IncFail.{IncFail}
 use Rattle.pm_incidence.specs.declared.fails.IncFail.TheVariants as incidence
 use Rattle.pm_incidence.specs.declared.fails.ThinFail.{ThinFail}
 use Rattle.pm_incidence.specs.declared.fails.ThinFail.TheVariants as thinning
+use Rattle.pm_laws_placing.specs.PlacedCells.{AreCrowdedCells}
 use Rattle.pm_lattice.specs.declared.lattice.LatticeFail.{LatticeFail}
 use Rattle.pm_lattice.specs.declared.lattice.LatticeFail.TheVariants as closing
 use Rattle.pm_incidence.specs.FromSets.{IsDetermining, IsWideSign, turned}
@@ -29,7 +30,7 @@ use Rattle.pm_hull.specs.HullRefusals.{IsDoubleList}
 use Rattle.pm_object_type.specs.declared.object_type.ObjectType.{ObjectType}
 use Rattle.pm_object_type.specs.declared.object_type.ObjectType.TheVariants.{Polytope}
 use Rattle.pm_geom.specs.declared.evidence.Evidence.{Evidence}
-use Rattle.pm_geom.specs.declared.evidence.Evidence.TheVariants.{E1, E2, E3, E4, E5Faces, E5Rays, E5Rows}
+use Rattle.pm_geom.specs.declared.evidence.Evidence.TheVariants.{E1, E2, E3, E4, E5Cells, E5Faces, E5Rays, E5Rows}
 use Rattle.pm_matrix.specs.FractionRows.{ArePrimitiveRowsOf}
 use Rattle.pm_object.specs.Reading.{DraftSeen, ViewSeen, answer_of, fact_of}
 use Rattle.pm_types.specs.Runs.{MayAnswer}
@@ -47,7 +48,7 @@ use Rattle.pm_simplex.specs.declared.fails.LpFail.{LpFail}
 use Rattle.pm_simplex.specs.declared.fails.LpFail.TheVariants as linear
 use Rattle.pm_props.specs.declared.property.PropId.{PropId}
 use Rattle.pm_props.specs.declared.property.PropId.TheVariants.{Points, InputLineality, Inequalities, Equations, Vertices, LinealitySpace, Facets, AffineHull, VerticesInFacets, LinearObjective, MaximalValue, MinimalValue, MaximalCones}
-pub use Rattle.pm_client.specs.Ways.{Eliminated, row_list, first_part, double_list, enlarging_rows, flat_rows, flat_basis_and_row, line_rows, line_basis_and_row, determining_rows, cone_rows, doubling, thinning_programs, feasibility, optimum_over_facets, optimum_over_rows, products, determined_rays, determined_facets, dual, at_rays, at_face, facet_count, face_count, eliminated_by, has_way}
+pub use Rattle.pm_client.specs.Ways.{Eliminated, row_list, first_part, double_list, enlarging_rows, flat_rows, flat_basis_and_row, line_rows, line_basis_and_row, determining_rows, cone_rows, doubling, thinning_programs, feasibility, optimum_over_facets, optimum_over_rows, products, determined_rays, determined_facets, dual, at_rays, at_face, facet_count, face_count, cell_count, eliminated_by, has_way}
 use Rattle.pm_client.specs.declared.ClientFail.{ClientFail}
 use Rattle.pm_client.specs.declared.ClientFail.TheVariants.{Memory, Failed}
 use Rattle.pm_elim.specs.declared.evidence.ElimList.{ElimList}
@@ -270,6 +271,14 @@ pub record IsCrowdedDoubling (v : ViewSeen) (front : ℕ) (rays : List Row) : Ty
   pub listed : IsDoubleListOf v rows
   pub shown : IsCrowded v.cols rows front rays
 
+-- the client places the rays, and of a front of its list there are more than 2,048 cells
+pub record IsCrowdedPlacing (v : ViewSeen) (front : ℕ) (cells : List (List ℕ)) : Type 0 where
+  pub named : IsTrue (has_way v.kind.name cell_count)
+  pub lines : List Row
+  pub rays : List Row
+  pub read : AreParts v lines rays
+  pub shown : AreCrowdedCells v.cols lines rays front cells
+
 -- a row of a generator property and a row of a half-space property have a product that leaves the range
 pub record AreWideRows (v : ViewSeen) (first second : Row) : Type 0 where
   pub named : IsTrue (has_way v.kind.name products)
@@ -396,7 +405,7 @@ pub record IsCrowdedLattice (v : ViewSeen) (faces : List (List ℕ)) : Type 0 wh
   pub reads : fact_of VerticesInFacets v.facts ≡ Some (sets index.rows index.cols)
   pub shown : AreTooManyMeets index.cols (sets_of index.rows) faces
 
--- the evidence holds of the view: a step of an elimination leaves the range, or one with two extreme rays, or a pivot of a linear program; a front has too many of these, or a thing too many facets or faces; or the product of a generator's row with a half-space's row leaves the range, or of a row that a set determines with one that was read, or of an objective with a ray, or a row of a dual does
+-- the evidence holds of the view: a step of an elimination leaves the range, or one with two extreme rays, or a pivot of a linear program; a front has too many of these, or of cells, or a thing too many facets or faces; or the product of a generator's row with a half-space's row leaves the range, or of a row that a set determines with one that was read, or of an objective with a ray, or a row of a dual does
 abbrev pub HoldsOf : Evidence → ViewSeen → Type 0
 HoldsOf (E1 e) v = IsWideElimination v e
 HoldsOf (E2 front first second column) v = IsWideDoubling v front first second column
@@ -405,6 +414,7 @@ HoldsOf (E4 first second) v = AreWideRows v first second ⊎ IsWideForSets v fir
 HoldsOf (E5Rays front rays) v = IsCrowdedDoubling v front rays
 HoldsOf (E5Rows places) v = IsCrowdedThinning v places
 HoldsOf (E5Faces faces) v = IsCrowdedLattice v faces
+HoldsOf (E5Cells front cells) v = IsCrowdedPlacing v front cells
 
 -- the draft has a value for each target of the view's kind, in its form and canonical, and they are right wherever what was read is
 abbrev pub IsSound : ViewSeen → DraftSeen → Type 0

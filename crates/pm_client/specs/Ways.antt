@@ -26,7 +26,7 @@ pub data Eliminated : Type 0 where
 
 -- a step in the elimination of a list (E1); two rays of a front (E2), or too many (E5); a pivot in a program (E3): of a
 -- row over the others, of a point, of an optimum; a product of rows that were read (E4), of a row that a set
--- determines, of a dual, at rays, at a face; too many facets or faces (E5)
+-- determines, of a dual, at rays, at a face; too many facets, faces or cells (E5)
 pub data Way : Type 0 where
   eliminates : Eliminated → Way
   doubling : Way
@@ -42,6 +42,7 @@ pub data Way : Type 0 where
   at_face : Sense → Way
   facet_count : Way
   face_count : Way
+  cell_count : Way
 
 abbrev pub same_sense : Sense → Sense → Bool
 same_sense Maximal Maximal = true
@@ -63,10 +64,14 @@ is_way (at_rays a) (at_rays b) = same_sense a b
 is_way (at_face a) (at_face b) = same_sense a b
 is_way facet_count facet_count = true
 is_way face_count face_count = true
+is_way cell_count cell_count = true
 is_way a b = false
 
 abbrev pub by_doubling : List Way
 by_doubling = eliminates first_part ∷ eliminates double_list ∷ eliminates enlarging_rows ∷ doubling ∷ []
+
+abbrev pub by_placing : List Way
+by_placing = by_doubling ++ cell_count ∷ []
 
 abbrev pub by_thinning : List Way
 by_thinning = eliminates flat_rows ∷ eliminates flat_basis_and_row ∷ products ∷ []
@@ -105,6 +110,9 @@ ways client.LpMinV = at_rays Minimal ∷ []
 ways client.LpMaxFace = at_face Maximal ∷ []
 ways client.LpMinFace = at_face Minimal ∷ []
 ways client.FanDims = eliminates cone_rows ∷ []
+ways client.BbFacets = by_placing
+ways client.BbFacetsV = by_placing
+ways client.Placing = by_placing
 ways c = []
 
 -- ---- by the name of a kind

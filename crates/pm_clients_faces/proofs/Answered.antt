@@ -12,7 +12,7 @@ use Rattle.pm_clients_faces.proofs.PairForms.{f2_table_form}
 use Rattle.pm_clients_faces.proofs.RightFaces.{f2_vector_is_found, f_vector_is_found, h_vector_is_found, hasse_diagram_is_found, ranks_are_few}
 use Rattle.pm_clients_faces.specs.Faces.{FailsForMany}
 use Rattle.pm_clients_faces.specs.Numbers.{f2_table, f_numbers, has_few_ranks}
-use Rattle.pm_geom.specs.FaceCounts.{f_of}
+use Rattle.pm_geom.specs.FaceCounts.{f2_entry, f_of, inner}
 use Rattle.pm_geom.specs.Meets.{IsSmallLattice}
 use Rattle.pm_geom.specs.Things.{Orders}
 use Rattle.pm_geom.specs.declared.evidence.Evidence.TheVariants.{E5Faces}
@@ -34,6 +34,8 @@ use Rattle.pm_types.specs.Things.{AreOrders, IsThing, Thing}
 use Rattle.pm_types.specs.Values.{IndexSets, counts, lattice, matrix, sets, whole}
 use Rattle.std.proofs.Common.{ap, arith, refl, subst, sym, true, ◌∙◌}
 use Rattle.std.proofs.lemmas.Bool.{le-leb}
+use Rattle.std.proofs.lemmas.List.FromFn.{length-map-range_with_len}
+use Rattle.std.specs.List.{range_with_len}
 use Rattle.std.specs.Prelude.{List, Some, [], if◌then◌else◌, length, map, ℕ, ◌≡◌}
 use lib.IntN.{pos, ℤ}
 
@@ -65,7 +67,7 @@ as_value t o d a = Right F2Vector (matrix a.cols a.rows) t o d
 
 pairs_right : (t : Thing) (o : Orders) → IsThing t → AreOrders t o → ¬ (t.of ≡ Fan) → (ranks : List (List (List ℕ))) (c d : List Ratio) → Right HasseDiagram (lattice ranks) t o c → Right F2Vector (matrix (f2_table ranks).cols (f2_table ranks).rows) t o d
 pairs_right t o thing orders no_fan ranks c d right =
-    subst (λ b. as_value t o d (if b then f2_matrix ranks else record { cols = 0; rows = [] })) (sym (right_few t o thing orders no_fan ranks c right)) (f2_vector_is_found t o orders ranks (f2_matrix ranks).cols c d right)
+    subst (λ b. as_value t o d (if b then f2_matrix ranks else record { cols = 0; rows = [] })) (sym (right_few t o thing orders no_fan ranks c right)) (f2_vector_is_found t o orders ranks (f2_matrix ranks).cols (sym (length-map-range_with_len (λ i. map (f2_entry ranks i) (range_with_len 0 (length (inner ranks)))) 0 (length (inner ranks)))) c d right)
 
 -- ---- the clients
 module _ (v : ViewSeen) (no_fan : ¬ (v.of ≡ Fan)) (old new : DraftSeen) where

@@ -4,6 +4,7 @@ use Rattle.pm_clients_faces.specs.Numbers.{f_numbers, has_few_ranks}
 use Rattle.pm_geom.specs.FaceCounts.{at_rank, f_of, inner}
 use Rattle.pm_geom.specs.Graphs.{IsAscending}
 use Rattle.pm_geom.specs.Meets.{AreMeetsByRank, IsSmallLattice}
+use Rattle.pm_types.proofs.Indices.{ascending_lists}
 use Rattle.pm_types.specs.Forms.{are_indices, has_64_bits, is_counts_form, is_lattice_form, is_sets_form}
 use Rattle.std.proofs.Common.{arith, leb, length-take-le, ltb, refl, suc}
 use Rattle.std.proofs.lemmas.Bool.{and_from, and_parts, le-leb, leb-true, lt-ltb, ltb-true}
@@ -37,25 +38,10 @@ few_places rows n form =
     leb-true n 2048 (and_parts (leb (length rows) 2048) (leb n 2048) p.0).1
 
 -- ---- lattices
--- rising indices below n, from low on
-face_formed : (m n low : ℕ) (set : List ℕ) → n ≤ m → All (λ j. low ≤ j) set → All (λ j. j < n) set → AllPairs (λ i j. i < j) set → are_indices m low set ≡ true
-face_formed m n low [] l above below rises = refl
-face_formed m n low (j ∷ set) l above below rises =
-    let a : low ≤ j = All-head (λ i. low ≤ i) j set above in
-    let b : j < n = All-head (λ i. i < n) j set below in
-    and_from (leb low j && ltb j m) (are_indices m (suc j) set) (and_from (leb low j) (ltb j m) (le-leb low j a) (lt-ltb j m (omega arith)))
-    (face_formed m n (suc j) set l (λ i d k. rises 0 (suc i) d (omega arith) (omega arith)) (All-tail (λ i. i < n) j set below) (λ i k d p q. rises (suc i) (suc k) d (omega arith) (omega arith)))
-
-faces_formed : (m n : ℕ) (faces : List (List ℕ)) → n ≤ m → ((set : List ℕ) → Among set faces → IsAscending n set) → list_all (are_indices m 0) faces ≡ true
-faces_formed m n [] l h = refl
-faces_formed m n (set ∷ faces) l h =
-    let a = h set here in
-    and_from (are_indices m 0 set) (list_all (are_indices m 0) faces) (face_formed m n 0 set l (λ i d k. omega arith) a.0 a.1) (faces_formed m n faces l (λ s i. h s (there i)))
-
 ranks_formed : (m n : ℕ) (ranks : List (List (List ℕ))) → n ≤ m → ((k : ℕ) (set : List ℕ) → Contains (at_rank ranks k) set → IsAscending n set) → list_all (list_all (are_indices m 0)) ranks ≡ true
 ranks_formed m n [] l h = refl
 ranks_formed m n (faces ∷ ranks) l h =
-    and_from (list_all (are_indices m 0) faces) (list_all (list_all (are_indices m 0)) ranks) (faces_formed m n faces l (λ set i. h 0 set (Contains_among i))) (ranks_formed m n ranks l (λ k set c. h (suc k) set c))
+    and_from (list_all (are_indices m 0) faces) (list_all (list_all (are_indices m 0)) ranks) (ascending_lists m n faces l (λ set i. h 0 set (Contains_among i))) (ranks_formed m n ranks l (λ k set c. h (suc k) set c))
 
 pub lattice_formed : (rows : List (List ℕ)) (n : ℕ) (sets : List (ℕ → Bool)) (ranks : List (List (List ℕ))) → is_sets_form rows n ≡ true → AreMeetsByRank n sets ranks → IsSmallLattice ranks → is_lattice_form ranks ≡ true
 lattice_formed rows n sets ranks form meets small =

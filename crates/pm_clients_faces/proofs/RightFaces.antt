@@ -11,7 +11,7 @@ use Rattle.pm_clients_faces.specs.Laws.{F2VectorIsFound, FVectorIsFound, HVector
 use Rattle.pm_geom.proofs.Dimension.{rank_exists}
 use Rattle.pm_geom.proofs.Reduce.{extremes_generate}
 use Rattle.pm_geom.specs.Cones.{InLineality, IsOrder}
-use Rattle.pm_geom.specs.FaceCounts.{IsHasseDiagram, f_of}
+use Rattle.pm_geom.specs.FaceCounts.{IsHasseDiagram, f2_of, f_of}
 use Rattle.pm_geom.specs.Faces.{HasRank}
 use Rattle.pm_geom.specs.Graphs.{sets_of}
 use Rattle.pm_geom.specs.Meets.{AreMeetsByRank}
@@ -23,10 +23,11 @@ use Rattle.pm_ranks.proofs.Whole.{whole_has_rank, whole_is_face}
 use Rattle.pm_relations.proofs.Spans.{basis_lineality, thing_cols}
 use Rattle.pm_relations.proofs.Twins.{lines_of, orders_of}
 use Rattle.pm_types.specs.Right.{h_vector_of}
-use Rattle.std.proofs.Common.{ap, arith, refl, subst, ◌∙◌}
+use Rattle.pm_types.specs.Views.{over_one}
+use Rattle.std.proofs.Common.{ap, arith, refl, subst, sym, ◌∙◌}
 use Rattle.std.proofs.lemmas.Int.{ints}
 use Rattle.std.proofs.lemmas.List.{length-map}
-use Rattle.std.specs.Prelude.{List, [], length, suc, true, zero, ℕ, ◌++◌, ◌+◌, ◌↔◌, ◌≡◌, ◌≤◌}
+use Rattle.std.specs.Prelude.{List, [], length, map, suc, true, zero, ℕ, ◌++◌, ◌+◌, ◌↔◌, ◌≡◌, ◌≤◌}
 use lib.IntN.{pos, ℤ, ◌-ℤ◌}
 
 pub hasse_diagram_is_found : HasseDiagramIsFound
@@ -68,7 +69,7 @@ pub f_vector_is_found : FVectorIsFound
 f_vector_is_found t o orders ranks c d right = record { orders = o; are_orders = orders; ranks = ranks; faces = right; number = refl }
 
 pub f2_vector_is_found : F2VectorIsFound
-f2_vector_is_found t o orders ranks n c d right = record { orders = o; are_orders = orders; ranks = ranks; faces = right; number = refl }
+f2_vector_is_found t o orders ranks n as_many c d right = (as_many ∙ sym (length-map (f2_of ranks) (map (λ k. over_one (pos k)))), record { orders = o; are_orders = orders; ranks = ranks; faces = right; number = refl })
 
 -- the h-vector of an f-vector with as many entries as the dimension, which is 1 less than the rank of the whole
 numbers_of : (f h : List ℤ) (d : ℤ) (k : ℕ) → d ≡ pos k -ℤ pos 1 → k ≤ 33 → ((m : ℕ) → k ≡ suc m → length f ≡ m) → AreHNumbers f d h → (HasNoHVector f d → h ≡ []) → h ≡ h_vector_of f d

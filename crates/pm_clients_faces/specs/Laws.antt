@@ -29,7 +29,7 @@ FVectorIsFound = (t : Thing) (o : Orders) → AreOrders t o → (ranks : List (L
 
 -- the numbers of pairs of faces are right for F2_VECTOR
 abbrev pub F2VectorIsFound : Type 0
-F2VectorIsFound = (t : Thing) (o : Orders) → AreOrders t o → (ranks : List (List (List ℕ))) (n : ℕ) (c d : List Ratio) → Right HasseDiagram (lattice ranks) t o c → Right F2Vector (matrix n (map (map (λ k. over_one (pos k))) (f2_of ranks))) t o d
+F2VectorIsFound = (t : Thing) (o : Orders) → AreOrders t o → (ranks : List (List (List ℕ))) (n : ℕ) → n ≡ length (f2_of ranks) → (c d : List Ratio) → Right HasseDiagram (lattice ranks) t o c → Right F2Vector (matrix n (map (map (λ k. over_one (pos k))) (f2_of ranks))) t o d
 
 -- the h-vector of a right F_VECTOR in the dimension COMBINATORIAL_DIM, empty where there is none, is right for H_VECTOR
 abbrev pub HVectorIsFound : Type 0

@@ -9,7 +9,7 @@ use Rattle.pm_algebra.specs.Rows.{HasCols, IsZero, Row, entry, opposite}
 use Rattle.pm_bases.specs.Bases.{IsEchelonBasis}
 use Rattle.pm_client.proofs.Drafts.{put}
 use Rattle.pm_client.proofs.FreshOrders.{fresh_facets, fresh_kind, fresh_rays}
-use Rattle.pm_client.proofs.Puts.{AreFormed, ArePut, AreRight, sound_alone, two_put}
+use Rattle.pm_client.proofs.Puts.{AreFormed, ArePut, AreRight, IsRightPut, sound_alone, two_put}
 use Rattle.pm_client.proofs.ReadValues.{found, read_right}
 use Rattle.pm_client.proofs.ViewLaws.{has_listed, not_fan, target_named}
 use Rattle.pm_client.specs.Sound.{AreParts, IsSound, added_rows, are_parts}
@@ -42,7 +42,7 @@ use Rattle.pm_relations.proofs.PrimitiveStanding.{primitive_stand}
 use Rattle.pm_types.specs.Canonical.{EachIs, IsCanonical, IsRayRow}
 use Rattle.pm_types.specs.Forms.{FormsIn, HasPrimitiveRow, is_row, is_row_of_entries}
 use Rattle.pm_types.specs.Right.{InSet, PairCutsOut, Right, RightAll, RightPair, objective_of}
-use Rattle.pm_types.specs.Things.{IsOfType, IsThing, Thing}
+use Rattle.pm_types.specs.Things.{AreOrders, IsOfType, IsThing, Thing}
 use Rattle.pm_types.specs.Values.{matrix}
 use Rattle.pm_types.specs.Views.{ratios}
 use Rattle.std.proofs.Common.{ap, arith, refl, subst, suc, sym, true, true≢false, ◌∙◌}
@@ -50,7 +50,7 @@ use Rattle.std.proofs.lemmas.Bool.{eq-eqb, leb-true}
 use Rattle.std.proofs.lemmas.Int.{ints}
 use Rattle.std.proofs.lemmas.List.{append-nil}
 use Rattle.std.proofs.lemmas.List.Elements.{All-cons, All-nil}
-use Rattle.std.specs.List.{All, list_all}
+use Rattle.std.specs.List.{All, AllByRecursion, list_all}
 use Rattle.std.specs.Prelude.{IsTrue, List, [], length, map, not, ℕ, ◌++◌, ◌↔◌, ◌∷◌, ◌≡◌, ◌≤◌}
 use lib.IntN.{neg_ℤ, pos, ℤ}
 use lib.Signed.{◌≤ℤ◌}
@@ -122,7 +122,7 @@ generated v AffineHull Facets L G parts gen read t o right none = absurd (true�
 generated v p q L G parts gen read t o right none = absurd (true≢false (sym parts))
 
 -- no part of such a row list has the tag of facets
-none_of_facets : (first second : PropId) → IsTrue (are_parts first second) → IsTrue (is_generator second) → list_all (λ q. not (facets_tag q)) (second ∷ first ∷ []) ≡ true
+pub none_of_facets : (first second : PropId) → IsTrue (are_parts first second) → IsTrue (is_generator second) → list_all (λ q. not (facets_tag q)) (second ∷ first ∷ []) ≡ true
 none_of_facets InputLineality Points parts gen = refl
 none_of_facets LinealitySpace Vertices parts gen = refl
 none_of_facets Equations Inequalities parts gen = absurd (true≢false (sym gen))
@@ -167,6 +167,33 @@ pub record AreFacetsOf (t : Thing) (n : ℕ) (F H : List Row) : Type 0 where
   pub same : (x : Row) → length x ≡ t.cols → InSet t x ↔ InCone rays lines x
 
 -- ---- FACETS and AFFINE_HULL, where the rows that were read say which these are; F are the facet rows F', or none where no thing has those
+abbrev pub hull_puts : ViewSeen → List Row → List Row → List Put
+hull_puts v F H = put Facets (matrix (cols_over v.cols (map ratios F)) (map ratios F)) ∷ put AffineHull (matrix (cols_over v.cols (map ratios H)) (map ratios H)) ∷ []
+
+-- the orders with the facets F
+abbrev pub with_facets : Orders → List Row → Orders
+with_facets o F = record { rays = o.rays; facets = F; cones = o.cones }
+
+module _ (v : ViewSeen) (view : IsView v) (no_fan : ¬ (v.of ≡ Fan)) (F' F H : List Row)
+    (found : (t : Thing) (o : Orders) → t.of ≡ v.of → t.cols ≡ v.cols → RightAll v.facts t o → AreFacetsOf t v.cols F' H)
+    (kept : AreNotZero F' → F ≡ F') (few : AreFewRows v.cols F) (few_hull : AreFewRows v.cols H) (not_zero : AreNotZero F) (range : All (All InRange) F) (range_hull : All (All InRange) H) where
+  pub hull_formed : AreFormed v (hull_puts v F H)
+  hull_formed = (
+    (facets_forms v.of v.cols F (ratios_columned v.cols F view.some_cols view.few_cols few.few few.cols) range not_zero, put_states v.cols (map ratios F)),
+    ((hull_forms v.of v.cols H (ratios_columned v.cols H view.some_cols view.few_cols few_hull.few few_hull.cols) range_hull, put_states v.cols (map ratios H)), tt),
+  )
+
+  pub hull_found : (t : Thing) (o : Orders) → t.of ≡ v.of → t.cols ≡ v.cols → RightAll v.facts t o → AreOrders t (with_facets o F) × AllByRecursion (IsRightPut v t (with_facets o F)) (hull_puts v F H)
+  hull_found t o of cols right =
+      let none : ¬ (t.of ≡ Fan) = λ e. no_fan (sym of ∙ e) in
+      let w = found t o of cols right in
+      let same = w.same in
+      let is : F' ≡ F = sym (kept (primitive_some F' w.facets.primitive)) in
+      let found' : AreGenerators t.cols (IsValid t.cols w.rays w.lines) F H = subst (λ (X : List Row). AreGenerators t.cols (IsValid t.cols w.rays w.lines) X H) is (subst (λ n. AreGenerators n (IsValid n w.rays w.lines) F' H) (sym cols) w.facets) in
+      let f = facets_right t o right.thing right.orders none w.rays w.lines F H same found' v.kind (cols_over v.cols (map ratios F)) (objective_of t (place_of v.sub Facets)) in
+      let h = hull_right t o right.thing right.orders none w.rays w.lines F H same found' v.kind (cols_over v.cols (map ratios H)) (with_facets o F) (objective_of t (place_of v.sub AffineHull)) in
+      (facet_orders t o right.thing right.orders none w.rays w.lines F H same found', (record { right = f.0; canonical = f.1 }, (record { right = h.0; canonical = h.1 }, tt)))
+
 module _ (v : ViewSeen) (view : IsView v) (targets : v.kind.targets ≡ set_of (Facets ∷ AffineHull ∷ [])) (fresh : IsFresh facets_tag v.kind) (F' F H : List Row)
     (found : (t : Thing) (o : Orders) → t.of ≡ v.of → t.cols ≡ v.cols → RightAll v.facts t o → AreFacetsOf t v.cols F' H)
     (kept : AreNotZero F' → F ≡ F') (few : AreFewRows v.cols F) (few_hull : AreFewRows v.cols H) (not_zero : AreNotZero F) (range : All (All InRange) F) (range_hull : All (All InRange) H) where
@@ -174,27 +201,15 @@ module _ (v : ViewSeen) (view : IsView v) (targets : v.kind.targets ≡ set_of (
   no_fan = not_fan v Facets view (target_named v.kind Facets (has_listed v.kind.targets (Facets ∷ AffineHull ∷ []) Facets targets)) refl refl
 
   abbrev pub facet_puts : List Put
-  facet_puts = put Facets (matrix (cols_over v.cols (map ratios F)) (map ratios F)) ∷ put AffineHull (matrix (cols_over v.cols (map ratios H)) (map ratios H)) ∷ []
+  facet_puts = hull_puts v F H
 
   facets_formed : AreFormed v facet_puts
-  facets_formed = (
-    (facets_forms v.of v.cols F (ratios_columned v.cols F view.some_cols view.few_cols few.few few.cols) range not_zero, put_states v.cols (map ratios F)),
-    ((hull_forms v.of v.cols H (ratios_columned v.cols H view.some_cols view.few_cols few_hull.few few_hull.cols) range_hull, put_states v.cols (map ratios H)), tt),
-  )
+  facets_formed = hull_formed v view no_fan F' F H found kept few few_hull not_zero range range_hull
 
   facets_are_right : AreRight v facet_puts
   facets_are_right t o of cols right meets =
-      let none : ¬ (t.of ≡ Fan) = λ e. no_fan (sym of ∙ e) in
-      let w = found t o of cols right in
-      let same = w.same in
-      let is : F' ≡ F = sym (kept (primitive_some F' w.facets.primitive)) in
-      let found' : AreGenerators t.cols (IsValid t.cols w.rays w.lines) F H = subst (λ (X : List Row). AreGenerators t.cols (IsValid t.cols w.rays w.lines) X H) is (subst (λ n. AreGenerators n (IsValid n w.rays w.lines) F' H) (sym cols) w.facets) in
-      let o' : Orders = record { rays = o.rays; facets = F; cones = o.cones } in
-      let f = facets_right t o right.thing right.orders none w.rays w.lines F H same found' v.kind (cols_over v.cols (map ratios F)) (objective_of t (place_of v.sub Facets)) in
-      let h = hull_right t o right.thing right.orders none w.rays w.lines F H same found' v.kind (cols_over v.cols (map ratios H)) o' (objective_of t (place_of v.sub AffineHull)) in
-      fresh_facets v (put Facets (matrix (cols_over v.cols (map ratios F)) (map ratios F)) ∷ put AffineHull (matrix (cols_over v.cols (map ratios H)) (map ratios H)) ∷ []) t o o' view.only
-      (facet_orders t o right.thing right.orders none w.rays w.lines F H same found') right
-      (record { right = f.0; canonical = f.1 }, (record { right = h.0; canonical = h.1 }, tt)) fresh refl
+      let w = hull_found v view no_fan F' F H found kept few few_hull not_zero range range_hull t o of cols right in
+      fresh_facets v (hull_puts v F H) t o (with_facets o F) view.only w.0 right w.1 fresh refl
 
   pub facets_sound_as : (new : DraftSeen) → new ≡ record { kind = v.kind; values = facet_puts } → IsSound v new
   facets_sound_as new draft = sound_alone v facet_puts new (record { targets = targets; draft = draft }) (refl, (refl, tt)) facets_formed facets_are_right

@@ -12,6 +12,7 @@ pub mod Examples
 pub mod RowCounts
 pub mod PutRays
 pub mod FoundHulls
+pub mod FoundPlaced
 pub mod SetCounts
 pub mod ZeroPlaces
 pub mod FoundThinned

@@ -5,6 +5,7 @@ pub mod Stays
 pub mod Matrices
 pub mod Rays
 pub mod Hulls
+pub mod PlacedRays
 pub mod Thinned
 pub mod Pairs
 pub mod Places

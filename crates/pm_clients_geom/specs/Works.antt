@@ -1,6 +1,8 @@
 -- The standard client of each work of a family.
 use Rattle.pm_clients_geom.specs.declared.hulls.HullWork.{HullWork}
 use Rattle.pm_clients_geom.specs.declared.hulls.HullWork.TheVariants as hull
+use Rattle.pm_clients_geom.specs.declared.placing.PlaceWork.{PlaceWork}
+use Rattle.pm_clients_geom.specs.declared.placing.PlaceWork.TheVariants as place
 use Rattle.pm_clients_geom.specs.declared.thinning.ThinWork.{ThinWork}
 use Rattle.pm_clients_geom.specs.declared.thinning.ThinWork.TheVariants as thin
 use Rattle.pm_clients_geom.specs.declared.redundancy.RedundancyWork.{RedundancyWork}
@@ -22,6 +24,12 @@ hull_client hull.DdVertices = client.DdVertices
 hull_client hull.DdFacets = client.DdFacets
 hull_client hull.DdFacetsV = client.DdFacetsV
 hull_client hull.DdVerticesF = client.DdVerticesF
+
+-- of those that place rays
+abbrev pub place_client : PlaceWork → StandardClient
+place_client place.BbFacets = client.BbFacets
+place_client place.BbFacetsV = client.BbFacetsV
+place_client place.Placing = client.Placing
 
 -- of those that thin one description by the other, or find one from sets
 abbrev pub thinning_client : ThinWork → StandardClient

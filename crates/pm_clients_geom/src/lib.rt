@@ -1,5 +1,5 @@
 //! Clients that find dimensions, counts, truth values, null spaces, and one description from its twin, from the other by
-//! double description, from both by thinning, from itself by linear programs, or from sets of incidences; and whether a polytope has a point.
+//! double description or by placing rays, from both by thinning, from itself by linear programs, or from sets of incidences; and whether a polytope has a point.
 #![tactic(auto)]
 
 ghost use Rattle.pm_clients_geom.specs.Laws.{FacetsAreThinned, FeasibleHasPoint, VerticesAreThinned};
@@ -10,6 +10,7 @@ mod dims;
 mod firsts;
 mod hulls;
 mod lists;
+mod placing;
 mod points;
 mod rays;
 mod redundancy;
@@ -20,6 +21,7 @@ mod truths;
 
 pub use dims::{DimClient, DimWork};
 pub use hulls::{HullClient, HullWork};
+pub use placing::{PlaceClient, PlaceWork};
 pub use points::has_point;
 pub use redundancy::{RedundancyClient, RedundancyWork};
 pub use rows::{RowsClient, RowsWork};

@@ -6,6 +6,7 @@ use Rattle.pm_geom.specs.Graphs.{AreNeighbours, IsGraph, holds}
 use Rattle.pm_graph.proofs.Holds.{contains_holds}
 use Rattle.pm_graph.specs.Edges.{IsFaceEdge, IsIndexEdge, IsSetEdge, whole_of}
 use Rattle.pm_graph.specs.Levels.{AreBelow}
+use Rattle.pm_types.proofs.Indices.{ascending_indices}
 use Rattle.pm_types.specs.Forms.{are_indices, are_joined_back, has_64_bits, is_counts_form, is_edges_form, is_joined_back, is_lattice_form, is_sets_form, joins}
 use Rattle.pm_types.specs.Values.{IndexSets}
 use Rattle.std.proofs.Common.{arith, inl, inr, leb, ltb, refl, subst, sym, true, ◌&&◌, ◌∙◌}
@@ -79,22 +80,9 @@ pub record JoinsNodes (n : ℕ) (E : ℕ → ℕ → Type 0) : Type 0 where
   pub apart : (i j : ℕ) → E i j → ¬ (i ≡ j)
   pub back : (i j : ℕ) → E i j → E j i
 
-ascending_indices : (n low : ℕ) (r : List ℕ) → ((j : ℕ) → Among j r → (low ≤ j) × (j < n)) → AllPairs (λ i j. i < j) r → are_indices n low r ≡ true
-ascending_indices n low [] f h = refl
-ascending_indices n low (k ∷ r) f h =
-    let own = f k here in
-    let later : (j : ℕ) → Among j r → k < j = λ j i. (let c = Contains_among i in subst (λ z. k < z) c.2 (h 0 (suc c.0) j (omega arith) (let l = c.1 in omega arith))) in
-    and_from (leb low k && ltb k n) (are_indices n (suc k) r) (and_from (leb low k) (ltb k n) (le-leb low k own.0) (lt-ltb k n own.1))
-    (ascending_indices n (suc k) r (λ j i. (later j i, (f j (there i)).1)) (λ a b d l m. h (suc a) (suc b) d (omega arith) (omega arith)))
-
 module _ (n : ℕ) (E : ℕ → ℕ → Type 0) (rows : List (List ℕ)) (g : IsGraph n E rows) (few : n ≤ 2048) (nodes : JoinsNodes n E) where
   each_row : list_all (are_indices (length rows) 0) rows ≡ true
-  each_row = subst (λ m. list_all (are_indices m 0) rows ≡ true) (sym g.nodes) (list_all-from_AllPass (are_indices n 0) rows (λ k d l.
-      let row = g.ascending k d l in
-      ascending_indices n 0 (slice_index_or rows k d) (λ j i. (omega arith, at j i row.0)) row.1))
-    where
-      at : {r : List ℕ} (j : ℕ) → Among j r → All (λ j. j < n) r → j < n
-      at j i all = let c = Contains_among i in subst (λ z. z < n) c.2 (all c.0 j c.1)
+  each_row = subst (λ m. list_all (are_indices m 0) rows ≡ true) (sym g.nodes) (list_all-from_AllPass (are_indices n 0) rows (λ k d l. ascending_indices n n (slice_index_or rows k d) (omega arith) (g.ascending k d l)))
 
   row_joined : (i : ℕ) → i < n → (row : List ℕ) → row ≡ slice_index_or rows i [] → is_joined_back rows i row ≡ true
   row_joined i l row e = list_all-from_AllPass (joins rows i) row (All_among (λ j. joins rows i j ≡ true) row (λ j a.

@@ -63,7 +63,7 @@ vanishing a la = (
 pub solid : IsRank (square ++ []) 3
 solid = (rank_is_left 3 square [] square_cols tt [] tt none_independent vanishing 3).1 refl
 
-no_lineality : HasDimension 3 (InLineality (InCone square [])) 0
+pub no_lineality : HasDimension 3 (InLineality (InCone square [])) 0
 no_lineality = no_lines 3 (InLineality (InCone square [])) (λ x l s. (pointed x l).0 s)
 
 pub square_dimensions_are_read : SquareDimensionsAreRead

@@ -57,8 +57,8 @@ empty_faces_are_read = record {
   no_face = diagrams_are_read.not_none 2;
   f_vector = empty_f;
   whole_counted = λ h. let e : pos 1 ∷ [] ≡ [] = number_of empty_thing empty_lattice empty_only (λ r. pos 1 ∷ [] ≡ map pos (f_of r)) h in cc;
-  f2_vector = record { orders = no_orders; are_orders = empty_are_orders; ranks = empty_lattice; faces = diagrams_are_read.empty 2; number = refl };
-  pair_counted = λ h. let e : (over_one (pos 1) ∷ []) ∷ [] ≡ [] = number_of empty_thing empty_lattice empty_only (λ r. (over_one (pos 1) ∷ []) ∷ [] ≡ map (map (λ k. over_one (pos k))) (f2_of r)) h in cc;
+  f2_vector = (refl, record { orders = no_orders; are_orders = empty_are_orders; ranks = empty_lattice; faces = diagrams_are_read.empty 2; number = refl });
+  pair_counted = λ h. let e : (over_one (pos 1) ∷ []) ∷ [] ≡ [] = number_of empty_thing empty_lattice empty_only (λ r. (over_one (pos 1) ∷ []) ∷ [] ≡ map (map (λ k. over_one (pos k))) (f2_of r)) h.1 in cc;
   h_vector = record { f = []; d = negsuc 0; faces = empty_f; dim = empty_dimension; numbers = refl };
   of_a_point = λ h. let e : pos 1 ∷ [] ≡ [] = h_vector_is empty_thing empty_lattice empty_only (negsuc 0) empty_dimension (pos 1 ∷ []) h in cc;
 }
@@ -84,7 +84,7 @@ line_faces_are_read = record {
   turned = λ d. let e = line_only line_orders line_are_orders (((0 ∷ []) ∷ []) ∷ ([] ∷ []) ∷ []) d in cc;
   f_vector = line_f;
   whole_counted = λ h. let e : pos 1 ∷ [] ≡ [] = number_of line_thing ray_lattice line_only (λ r. pos 1 ∷ [] ≡ map pos (f_of r)) h in cc;
-  f2_vector = record { orders = line_orders; are_orders = line_are_orders; ranks = ray_lattice; faces = line_faces; number = refl };
+  f2_vector = (refl, record { orders = line_orders; are_orders = line_are_orders; ranks = ray_lattice; faces = line_faces; number = refl });
   h_vector = record { f = []; d = pos 0; faces = line_f; dim = line_dimensions_are_read.combinatorial_dim; numbers = refl };
   no_h_vector = λ h. let e : [] ≡ pos 1 ∷ [] = h_vector_is line_thing ray_lattice line_only (pos 0) line_dimensions_are_read.combinatorial_dim [] h in cc;
 }
@@ -132,9 +132,10 @@ segment_counts_are_read = record {
   whole_counted = λ h. let e = f_is (pos 2 ∷ pos 1 ∷ []) h in cc;
   too_many = λ h. let e = f_is (pos 3 ∷ []) h in cc;
   none_counted = λ h. let e = f_is [] h in cc;
-  f2_vector = record { orders = segment_orders; are_orders = segment_are_orders; ranks = segment_lattice; faces = two_ends segment_orders segment_are_orders; number = refl };
-  pairs_counted = λ h. let e : pos 4 ≡ pos 2 = ap first_number (number_of segment_thing segment_lattice ends_only (λ r. (over_one (pos 4) ∷ []) ∷ [] ≡ map (map (λ k. over_one (pos k))) (f2_of r)) h) in omega (arith, ints);
-  no_row = λ h. let e : [] ≡ (over_one (pos 2) ∷ []) ∷ [] = number_of segment_thing segment_lattice ends_only (λ r. [] ≡ map (map (λ k. over_one (pos k))) (f2_of r)) h in cc;
+  f2_vector = (refl, record { orders = segment_orders; are_orders = segment_are_orders; ranks = segment_lattice; faces = two_ends segment_orders segment_are_orders; number = refl });
+  pairs_counted = λ h. let e : pos 4 ≡ pos 2 = ap first_number (number_of segment_thing segment_lattice ends_only (λ r. (over_one (pos 4) ∷ []) ∷ [] ≡ map (map (λ k. over_one (pos k))) (f2_of r)) h.1) in omega (arith, ints);
+  wide = λ h. let e : 2 ≡ 1 = h.0 in omega arith;
+  no_row = λ h. let e : [] ≡ (over_one (pos 2) ∷ []) ∷ [] = number_of segment_thing segment_lattice ends_only (λ r. [] ≡ map (map (λ k. over_one (pos k))) (f2_of r)) h.1 in cc;
   h_vector = record { f = pos 2 ∷ []; d = pos 1; faces = ends_f; dim = segment_dimension; numbers = refl };
   dimension_less = λ h. let e = h_is (pos 1 ∷ []) h in cc;
   dimension_more = λ h. let e = h_is (pos 1 ∷ pos 0 ∷ negsuc 0 ∷ []) h in cc;

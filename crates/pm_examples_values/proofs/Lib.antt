@@ -20,3 +20,4 @@ pub mod StandingExamples
 pub mod ThingExamples
 pub mod FanExamples
 pub mod PrismExamples
+mod PlacingExamples

@@ -118,6 +118,6 @@ square_faces_are_read = record {
   faces = faces;
   diagonal = λ d. let e = one_diagram 3 square [] square square_cols tt square_is_read.order with_diagonal square_lattice d faces in cc;
   f_vector = square_f;
-  f2_vector = record { orders = square_orders; are_orders = square_sets_are_read.orders; ranks = square_lattice; faces = faces; number = refl };
+  f2_vector = (refl, record { orders = square_orders; are_orders = square_sets_are_read.orders; ranks = square_lattice; faces = faces; number = refl });
   h_vector = record { f = pos 4 ∷ pos 4 ∷ []; d = pos 2; faces = square_f; dim = square_dimensions_are_read.combinatorial_dim; numbers = refl };
 }

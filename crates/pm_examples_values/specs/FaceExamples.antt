@@ -74,6 +74,8 @@ pub record SegmentCountsAreRead : Type 0 where
   pub none_counted : ¬ (EndsHave FVector (counts []))
   pub f2_vector : EndsHave F2Vector (whole_matrix 1 ((pos 2 ∷ []) ∷ []))
   pub pairs_counted : ¬ (EndsHave F2Vector (whole_matrix 1 ((pos 4 ∷ []) ∷ [])))
+  -- with as many columns as rows
+  pub wide : ¬ (EndsHave F2Vector (whole_matrix 2 ((pos 2 ∷ []) ∷ [])))
   pub no_row : ¬ (EndsHave F2Vector (whole_matrix 0 []))
   pub h_vector : EndsHave HVector (counts (pos 1 ∷ pos 1 ∷ []))
   pub dimension_less : ¬ (EndsHave HVector (counts (pos 1 ∷ [])))

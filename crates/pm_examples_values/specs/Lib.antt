@@ -9,3 +9,4 @@ pub mod RowExamples
 pub mod ThingExamples
 pub mod FanExamples
 pub mod PrismExamples
+pub mod PlacingExamples

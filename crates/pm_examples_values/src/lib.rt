@@ -8,6 +8,7 @@ ghost use Rattle.pm_examples_values.specs.Examples.{EmptyDimensionsAreRead, Squa
 ghost use Rattle.pm_examples_values.specs.FaceExamples.{EmptyFacesAreRead, HVectorsAreShort, LineFacesAreRead, SegmentCountsAreRead, SegmentFacesAreRead, SquareFacesAreRead};
 ghost use Rattle.pm_examples_values.specs.GraphExamples.{BipyramidGraphsAreRead, EmptyGraphsAreRead, LineGraphsAreRead, SegmentGraphsAreRead, SegmentNumbersAreRead, SquareGraphsAreRead};
 ghost use Rattle.pm_examples_values.specs.OrderExamples.{OrdersAreShown};
+ghost use Rattle.pm_examples_values.specs.PlacingExamples.{TriangulationsAreRead};
 ghost use Rattle.pm_examples_values.specs.PrismExamples.{PrismCountsAreRead};
 ghost use Rattle.pm_examples_values.specs.RayExamples.{EmptyValuesAreRead, HalfLineValuesAreRead, LineDimensionsAreRead, LineIsUnbounded, SegmentsAreRead, SquareIsBounded};
 ghost use Rattle.pm_examples_values.specs.RowExamples.{BasesAreRight, FacetRowsAreRead, GeneratorsAreRead, HalfSpacesAreRead, PairsAreRead, RayRowsAreRead, RowsAreRead};
@@ -232,4 +233,9 @@ pub fn example_cone_dims()
 /// Fans that are simplicial, and one that is not.
 pub fn example_simplicial_fans()
     ensures { SimplicialFansAreRead }
+{}
+
+/// What is right for PLACING_TRIANGULATION of the unit square, and what is not.
+pub fn example_triangulations()
+    ensures { TriangulationsAreRead }
 {}

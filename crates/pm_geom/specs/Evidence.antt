@@ -5,7 +5,7 @@ use Rattle.pm_geom.specs.declared.evidence.Evidence.TheVariants.{E1, E2, E3, E4}
 use Rattle.pm_vector.specs.Products.{ProductsStay}
 use Rattle.std.specs.Prelude.{ℕ}
 
--- the digit in the name of the evidence: of a step of an elimination, of two extreme rays, of a pivot, of a product; and of too many rays, rows or faces
+-- the digit in the name of the evidence: of a step of an elimination, of two extreme rays, of a pivot, of a product; and of too many rays, rows, faces or cells
 abbrev pub evidence_number : Evidence → ℕ
 evidence_number (E1 step) = 1
 evidence_number (E2 front first second column) = 2

@@ -6,6 +6,7 @@ pub mod Examples
 pub mod Evidence
 pub mod Graphs
 pub mod FaceCounts
+pub mod Triangulations
 pub mod Meets
 pub mod GraphExamples
 pub mod Generators

@@ -48,6 +48,11 @@ pub enum Evidence {
     E5Faces {
         faces: PlaceSets,
     },
+    /// More than 2,048 cells of the placing triangulation of the first `front` rows.
+    E5Cells {
+        front: u32,
+        cells: PlaceSets,
+    },
 }
 
 impl Evidence {
@@ -63,6 +68,7 @@ impl Evidence {
             Evidence::E5Rays { .. } => 5,
             Evidence::E5Rows { .. } => 5,
             Evidence::E5Faces { .. } => 5,
+            Evidence::E5Cells { .. } => 5,
         }
     }
 
@@ -109,6 +115,10 @@ impl Evidence {
             }),
             Evidence::E5Faces { faces } => Ok(Evidence::E5Faces {
                 faces: faces.copy(alloc)?,
+            }),
+            Evidence::E5Cells { front, cells } => Ok(Evidence::E5Cells {
+                front: *front,
+                cells: cells.copy(alloc)?,
             }),
         }
     }

@@ -12,7 +12,7 @@ use Rattle.pm_elim.specs.declared.evidence.ElimFail.TheVariants.{Memory, Wide}
 use Rattle.pm_incidence.specs.Fails.{exchanged, thin_fail_of}
 use Rattle.pm_incidence.specs.Thinning.{IsFacetsFail, IsInsideFail, IsRanged, IsReductionFail, IsThinFail, IsWideReduction, flat_group, half_spaces}
 use Rattle.pm_elim.specs.Evidence.{IsBasisOf, IsEvidence, unit}
-use Rattle.pm_geom.specs.declared.evidence.Evidence.TheVariants.{E1, E2, E3, E4, E5Faces, E5Rays, E5Rows}
+use Rattle.pm_geom.specs.declared.evidence.Evidence.TheVariants.{E1, E2, E3, E4, E5Cells, E5Faces, E5Rays, E5Rows}
 use Rattle.pm_incidence.specs.declared.fails.ThinFail.{ThinFail}
 use Rattle.pm_incidence.specs.declared.fails.ThinFail.TheVariants as thin
 use Rattle.std.proofs.Common.{inl, inr, refl, subst, sym}
@@ -31,6 +31,7 @@ thin_of_reduction n G L A B P b (thin.Wide (E4 a c)) h = absurd h
 thin_of_reduction n G L A B P b (thin.Wide (E5Rays a c)) h = absurd h
 thin_of_reduction n G L A B P b (thin.Wide (E5Rows a)) h = absurd h
 thin_of_reduction n G L A B P b (thin.Wide (E5Faces a)) h = absurd h
+thin_of_reduction n G L A B P b (thin.Wide (E5Cells a z)) h = absurd h
 thin_of_reduction n G L A B P b (thin.Many e) h = absurd h
 thin_of_reduction n G L A B P b thin.Memory h = tt
 
@@ -63,6 +64,7 @@ facets_fail of n A E V (thin.Wide (E4 a c)) h r = elim (half_space of n A E a (a
 facets_fail of n A E V (thin.Wide (E5Rays a c)) h r = absurd h
 facets_fail of n A E V (thin.Wide (E5Rows a)) h r = absurd h
 facets_fail of n A E V (thin.Wide (E5Faces a)) h r = absurd h
+facets_fail of n A E V (thin.Wide (E5Cells a b)) h r = absurd h
 facets_fail of n A E V (thin.Many e) h r = absurd h
 facets_fail of n A E V thin.Memory h r = tt
 
@@ -75,6 +77,7 @@ facets_reduction of n A E V B P b (thin.Wide (E4 a c)) h = absurd h
 facets_reduction of n A E V B P b (thin.Wide (E5Rays a c)) h = absurd h
 facets_reduction of n A E V B P b (thin.Wide (E5Rows a)) h = absurd h
 facets_reduction of n A E V B P b (thin.Wide (E5Faces a)) h = absurd h
+facets_reduction of n A E V B P b (thin.Wide (E5Cells a z)) h = absurd h
 facets_reduction of n A E V B P b (thin.Many e) h = absurd h
 facets_reduction of n A E V B P b thin.Memory h = tt
 
@@ -86,6 +89,7 @@ facets_inside of n A E V (thin.Wide (E4 a c)) h = h
 facets_inside of n A E V (thin.Wide (E5Rays a c)) h = absurd h
 facets_inside of n A E V (thin.Wide (E5Rows a)) h = absurd h
 facets_inside of n A E V (thin.Wide (E5Faces a)) h = absurd h
+facets_inside of n A E V (thin.Wide (E5Cells a b)) h = absurd h
 facets_inside of n A E V (thin.Many e) h = absurd h
 facets_inside of n A E V thin.Memory h = tt
 
@@ -97,6 +101,7 @@ inside_of A E V v (thin.Wide (E4 a b)) c h = record { generator = h.1; inequalit
 inside_of A E V v (thin.Wide (E5Rays a b)) c h = absurd h
 inside_of A E V v (thin.Wide (E5Rows a)) c h = absurd h
 inside_of A E V v (thin.Wide (E5Faces a)) c h = absurd h
+inside_of A E V v (thin.Wide (E5Cells a b)) c h = absurd h
 inside_of A E V v (thin.Many e) c h = absurd h
 inside_of A E V v thin.Memory c h = tt
 
@@ -108,6 +113,7 @@ wide_more v A B (thin.Wide (E4 a b)) g h = (h.0, g b h.1, h.2)
 wide_more v A B (thin.Wide (E5Rays a b)) g h = absurd h
 wide_more v A B (thin.Wide (E5Rows a)) g h = absurd h
 wide_more v A B (thin.Wide (E5Faces a)) g h = absurd h
+wide_more v A B (thin.Wide (E5Cells a b)) g h = absurd h
 wide_more v A B (thin.Many e) g h = absurd h
 wide_more v A B thin.Memory g h = tt
 

@@ -7,7 +7,7 @@ use Rattle.pm_algebra.specs.Cones.{InCone, InSpan, combination}
 use Rattle.pm_algebra.specs.Rows.{Row, entry, plus, times}
 use Rattle.pm_laws_placing.proofs.LeastSums.{Zero, bool_cases, entry-over, combination-over, independent, length-over}
 use Rattle.pm_laws_placing.specs.LeastSums.{at, has, Within, InCell, IsLeastCell, over}
-use Rattle.pm_laws_placing.specs.Triangulations.{rows_at, shared}
+use Rattle.pm_geom.specs.Triangulations.{rows_at, shared}
 use Rattle.pm_geom.proofs.Independent.{combination_append}
 use Rattle.pm_geom.specs.Faces.{ray}
 use Rattle.pm_geom.specs.Graphs.{holds}

@@ -11,7 +11,7 @@ use Rattle.pm_laws_placing.proofs.LeastSums.{bool_cases, exchanged, nonneg_at, n
 use Rattle.pm_laws_placing.proofs.PlacingStep.{dot_parts_zero, parts_zero, placing_step}
 use Rattle.pm_laws_placing.specs.LeastSums.{IsLeastCell, IsLeastList, IsPlaced, Walls, Within, at, has}
 use Rattle.pm_laws_placing.specs.Placing.{IsExchange, IsNextCells, IsOnlyOff}
-use Rattle.pm_laws_placing.specs.Triangulations.{rows_at}
+use Rattle.pm_geom.specs.Triangulations.{rows_at}
 use Rattle.pm_geom.proofs.Facets.{facet_rows_cut_out}
 use Rattle.pm_geom.proofs.Independent.{decide_zero}
 use Rattle.pm_geom.proofs.Lineality.{facet_order_cuts_out}

@@ -11,7 +11,7 @@ use Rattle.pm_laws_placing.proofs.CellMasks.{Without, among_rows_at, rows_at_amo
 use Rattle.pm_laws_placing.proofs.CellSteps.{Carried}
 use Rattle.pm_laws_placing.proofs.FacetSpans.{on_lines}
 use Rattle.pm_laws_placing.specs.Placing.{IsOnlyOff}
-use Rattle.pm_laws_placing.specs.Triangulations.{rows_at, shared}
+use Rattle.pm_geom.specs.Triangulations.{rows_at, shared}
 use Rattle.pm_geom.proofs.Facets.{opposite-dot, valid_by_products}
 use Rattle.pm_geom.proofs.Independent.{combination_append}
 use Rattle.pm_geom.proofs.Polar.{cols_at}

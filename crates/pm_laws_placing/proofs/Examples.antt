@@ -5,7 +5,7 @@ use Rattle.pm_algebra.proofs.Ring.{ring}
 use Rattle.pm_algebra.specs.Cones.{InCone, combination}
 use Rattle.pm_algebra.specs.Rows.{IsZero, Row, dot, entry}
 use Rattle.pm_laws_placing.specs.Examples.{SquareIsTriangulated, lower, upper}
-use Rattle.pm_laws_placing.specs.Triangulations.{IsIndependentModulo, IsTriangulation, rows_at, shared}
+use Rattle.pm_geom.specs.Triangulations.{IsIndependentModulo, IsTriangulation, rows_at, shared}
 use Rattle.pm_geom.proofs.Apart.{not_below, not_below_at, products}
 use Rattle.pm_geom.proofs.ShortRows.{at_three, by_three}
 use Rattle.pm_geom.specs.Examples.{square, triple}

@@ -8,7 +8,7 @@ use Rattle.pm_laws_placing.proofs.CellMasks.{At, among_rows_at, at_here, at_of, 
 use Rattle.pm_laws_placing.proofs.CellSteps.{Carried, among_map}
 use Rattle.pm_laws_placing.proofs.LeastSums.{bool_cases, least_cells_triangulate}
 use Rattle.pm_laws_placing.specs.LeastSums.{InCell, IsCellList, common, has}
-use Rattle.pm_laws_placing.specs.Triangulations.{rows_at, shared}
+use Rattle.pm_geom.specs.Triangulations.{rows_at, shared}
 use Rattle.pm_geom.specs.Graphs.{holds}
 use Rattle.std.specs.Prelude.{ℕ, ◌<◌, ◌&&◌, ◌≡◌, Bool, true, false, List, map}
 use Rattle.std.proofs.Common.{refl, sym, subst, ◌∙◌, inl, inr}

@@ -15,7 +15,7 @@ use Rattle.pm_laws_placing.proofs.Places.{Rising, front_marked, length_stated, m
 use Rattle.pm_laws_placing.proofs.Starts.{Free, carried_first, free_independent}
 use Rattle.pm_laws_placing.specs.LeastSums.{IsLeastCell, Within, has}
 use Rattle.pm_laws_placing.specs.Placing.{IsCellStep, IsExchange, IsOnlyOff, IsPlacing, places_marked, stated_places}
-use Rattle.pm_laws_placing.specs.Triangulations.{rows_at}
+use Rattle.pm_geom.specs.Triangulations.{rows_at}
 use Rattle.pm_geom.proofs.Facets.{order_as}
 use Rattle.pm_geom.proofs.Polar.{cols_at, membership_decided}
 use Rattle.pm_geom.proofs.Reduce.{same_modulo_as}

@@ -11,7 +11,7 @@ use Rattle.pm_laws_placing.proofs.CellMasks.{At, among_holds, among_rows_at, at_
 use Rattle.pm_laws_placing.proofs.LeastSums.{combination-over, entry-over, length-over}
 use Rattle.pm_laws_placing.proofs.PlacingStep.{past}
 use Rattle.pm_laws_placing.specs.LeastSums.{IsLeast, IsLeastCell, IsLexNegative, Within, at, has, over}
-use Rattle.pm_laws_placing.specs.Triangulations.{IsIndependentModulo, rows_at}
+use Rattle.pm_geom.specs.Triangulations.{IsIndependentModulo, rows_at}
 use Rattle.pm_geom.proofs.Independent.{decide_zero}
 use Rattle.pm_geom.specs.Faces.{ray}
 use Rattle.std.specs.Prelude.{ℕ, zero, suc, ◌<◌, ◌≤◌, ◌≡◌, Bool, false, List, [], ◌∷◌, ◌++◌, length}

@@ -13,7 +13,7 @@ use Rattle.pm_laws_placing.proofs.Sequences.{State, last_state, length_both, st_
 use Rattle.pm_laws_placing.proofs.Starts.{Free, free_independent}
 use Rattle.pm_laws_placing.specs.LeastSums.{InCell, IsCellList, IsLeastCell}
 use Rattle.pm_laws_placing.specs.Placing.{IsPlacing, PlacingTriangulates, stated_places}
-use Rattle.pm_laws_placing.specs.Triangulations.{IsIndependentModulo, IsTriangulation, rows_at, shared}
+use Rattle.pm_geom.specs.Triangulations.{IsIndependentModulo, IsTriangulation, rows_at, shared}
 use Rattle.pm_geom.specs.Faces.{ray}
 use Rattle.pm_geom.specs.Graphs.{IsAscending}
 use Rattle.std.specs.Prelude.{ℕ, zero, suc, ◌+◌, ◌<◌, ◌≤◌, ◌≡◌, ◌↔◌, Bool, List, [], ◌∷◌, ◌++◌, length, map, take}

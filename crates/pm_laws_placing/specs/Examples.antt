@@ -1,7 +1,7 @@
 -- Triangulations of the unit square: what is one, and what is none.
 use Rattle.std.specs.Prelude.{ℕ, List, [], ◌∷◌}
 use Rattle.pm_laws_placing.specs.Placing.{IsPlacing}
-use Rattle.pm_laws_placing.specs.Triangulations.{IsTriangulation}
+use Rattle.pm_geom.specs.Triangulations.{IsTriangulation}
 use Rattle.pm_geom.specs.Examples.{square}
 
 -- the triangles on either side of the diagonal from (1,0,1) to (1,1,0)

@@ -1,4 +1,4 @@
-pub mod Triangulations
 pub mod Placing
+pub mod PlacedCells
 pub mod LeastSums
 pub mod Examples

@@ -9,7 +9,7 @@ use Rattle.pm_elim.specs.Enlarging.{MarkEnlarging}
 use Rattle.pm_geom.specs.Cones.{IsOrder, IsValid, SameModulo}
 use Rattle.pm_geom.specs.Faces.{ray}
 use Rattle.pm_geom.specs.Graphs.{IsAscending}
-use Rattle.pm_laws_placing.specs.Triangulations.{IsTriangulation}
+use Rattle.pm_geom.specs.Triangulations.{IsTriangulation}
 use lib.IntN.{pos}
 use lib.Signed.{◌<ℤ◌}
 

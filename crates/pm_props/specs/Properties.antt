@@ -9,7 +9,7 @@ use Rattle.pm_props.specs.declared.property.Columns.TheVariants as columns
 use Rattle.pm_props.specs.declared.property.Describes.{Describes}
 use Rattle.pm_props.specs.declared.property.Describes.TheVariants as describes
 use Rattle.pm_props.specs.declared.property.PropId.{PropId}
-use Rattle.pm_props.specs.declared.property.PropId.TheVariants.{ConeAmbientDim, Points, InputLineality, Inequalities, Equations, Vertices, LinealitySpace, Facets, AffineHull, VerticesInFacets, ConeDim, LinealityDim, CombinatorialDim, NVertices, NFacets, Feasible, Bounded, Pointed, FullDim, Centered, Simple, Simplicial, VertexSizes, FacetSizes, HasseDiagram, FVector, F2Vector, HVector, Graph, DualGraph, Diameter, DualDiameter, NEdges, NRidges, VertexDegrees, FarFace, MaximalCones, NMaximalCones, MaximalConesDims, FanDim, Pure, LinearObjective, MaximalValue, MinimalValue, MaximalFace, MinimalFace, MaximalDual, MinimalDual}
+use Rattle.pm_props.specs.declared.property.PropId.TheVariants.{ConeAmbientDim, Points, InputLineality, Inequalities, Equations, Vertices, LinealitySpace, Facets, AffineHull, VerticesInFacets, ConeDim, LinealityDim, CombinatorialDim, NVertices, NFacets, Feasible, Bounded, Pointed, FullDim, Centered, Simple, Simplicial, VertexSizes, FacetSizes, HasseDiagram, FVector, F2Vector, HVector, Graph, DualGraph, Diameter, DualDiameter, NEdges, NRidges, VertexDegrees, FarFace, MaximalCones, NMaximalCones, MaximalConesDims, FanDim, Pure, LinearObjective, MaximalValue, MinimalValue, MaximalFace, MinimalFace, MaximalDual, MinimalDual, PlacingTriangulation}
 use Rattle.pm_props.specs.declared.property.RowTest.TheVariants as test
 use Rattle.pm_props.specs.declared.property.Tables.{Tables}
 use Rattle.pm_props.specs.declared.property.Tables.TheVariants as tables
@@ -83,14 +83,15 @@ row MaximalFace = record (plain 44 (codes "LP.MAXIMAL_FACE") kind.Counts tables.
 row MinimalFace = record (plain 45 (codes "LP.MINIMAL_FACE") kind.Counts tables.Programs) { speaks_of_rays = true }
 row MaximalDual = record (plain 46 (codes "LP.MAXIMAL_DUAL") kind.Mat tables.Programs) { columns = columns.Rows }
 row MinimalDual = record (plain 47 (codes "LP.MINIMAL_DUAL") kind.Mat tables.Programs) { columns = columns.Rows }
+row PlacingTriangulation = record (plain 48 (codes "PLACING_TRIANGULATION") kind.Sets tables.PolytopesAndCones) { speaks_of_rays = true }
 
 -- every property, in the order of the numbers
 abbrev pub every_property : List PropId
-every_property = ConeAmbientDim ∷ Points ∷ InputLineality ∷ Inequalities ∷ Equations ∷ Vertices ∷ LinealitySpace ∷ Facets ∷ AffineHull ∷ VerticesInFacets ∷ ConeDim ∷ LinealityDim ∷ CombinatorialDim ∷ NVertices ∷ NFacets ∷ Feasible ∷ Bounded ∷ Pointed ∷ FullDim ∷ Centered ∷ Simple ∷ Simplicial ∷ VertexSizes ∷ FacetSizes ∷ HasseDiagram ∷ FVector ∷ F2Vector ∷ HVector ∷ Graph ∷ DualGraph ∷ Diameter ∷ DualDiameter ∷ NEdges ∷ NRidges ∷ VertexDegrees ∷ FarFace ∷ MaximalCones ∷ NMaximalCones ∷ MaximalConesDims ∷ FanDim ∷ Pure ∷ LinearObjective ∷ MaximalValue ∷ MinimalValue ∷ MaximalFace ∷ MinimalFace ∷ MaximalDual ∷ MinimalDual ∷ []
+every_property = ConeAmbientDim ∷ Points ∷ InputLineality ∷ Inequalities ∷ Equations ∷ Vertices ∷ LinealitySpace ∷ Facets ∷ AffineHull ∷ VerticesInFacets ∷ ConeDim ∷ LinealityDim ∷ CombinatorialDim ∷ NVertices ∷ NFacets ∷ Feasible ∷ Bounded ∷ Pointed ∷ FullDim ∷ Centered ∷ Simple ∷ Simplicial ∷ VertexSizes ∷ FacetSizes ∷ HasseDiagram ∷ FVector ∷ F2Vector ∷ HVector ∷ Graph ∷ DualGraph ∷ Diameter ∷ DualDiameter ∷ NEdges ∷ NRidges ∷ VertexDegrees ∷ FarFace ∷ MaximalCones ∷ NMaximalCones ∷ MaximalConesDims ∷ FanDim ∷ Pure ∷ LinearObjective ∷ MaximalValue ∷ MinimalValue ∷ MaximalFace ∷ MinimalFace ∷ MaximalDual ∷ MinimalDual ∷ PlacingTriangulation ∷ []
 
 -- how many there are
 abbrev pub count : ℕ
-count = 48
+count = 49
 
 abbrev pub number : PropId → ℕ
 number p = (row p).number

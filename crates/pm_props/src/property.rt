@@ -7,7 +7,7 @@ ghost use Rattle.std.specs.Prelude.{slice_get, ◌<◌, ◌≡◌};
 use pm_object_type::ObjectType;
 use std::marker::Model;
 
-/// A property, by its number from 0 to 47.
+/// A property, by its number from 0 to 48.
 #[derive(Clone, Copy, Debug, PartialEq, Eq, Hash)]
 pub enum PropId {
     /// 0: CONE_AMBIENT_DIM, the number of columns.
@@ -106,6 +106,8 @@ pub enum PropId {
     MaximalDual,
     /// 47: LP.MINIMAL_DUAL, facet rows that prove that no value is less.
     MinimalDual,
+    /// 48: PLACING_TRIANGULATION, for each cell the places of its rays.
+    PlacingTriangulation,
 }
 
 /// The form that a property's values have.
@@ -265,7 +267,7 @@ const PLAIN: Entry = Entry {
 };
 
 /// How many properties there are.
-pub const COUNT: usize = 48;
+pub const COUNT: usize = 49;
 
 // A row: the number, the first name (and those of cones and fans, where they differ), the kind of value, the tables, and
 // what differs from a plain property.
@@ -337,6 +339,7 @@ static TABLE: [Entry; COUNT] = [
     property!(45 "LP.MINIMAL_FACE" Counts Programs | speaks_of_rays: true),
     property!(46 "LP.MAXIMAL_DUAL" Mat Programs | columns: Columns::Rows),
     property!(47 "LP.MINIMAL_DUAL" Mat Programs | columns: Columns::Rows),
+    property!(48 "PLACING_TRIANGULATION" Sets PolytopesAndCones | speaks_of_rays: true),
 ];
 
 impl PropId {
@@ -414,6 +417,7 @@ impl PropId {
             Self::MinimalFace,
             Self::MaximalDual,
             Self::MinimalDual,
+            Self::PlacingTriangulation,
         ]
     }
 

@@ -3,7 +3,7 @@ use Rattle.pm_algebra.specs.Rows.{Row}
 use Rattle.pm_elim.specs.Evidence.{IfWide, IsEvidence}
 use Rattle.pm_elim.specs.declared.evidence.ElimFail.{ElimFail}
 use Rattle.pm_elim.specs.declared.evidence.ElimFail.TheVariants as elimination
-use Rattle.pm_geom.specs.declared.evidence.Evidence.TheVariants.{E1, E2, E3, E4, E5Faces, E5Rays, E5Rows}
+use Rattle.pm_geom.specs.declared.evidence.Evidence.TheVariants.{E1, E2, E3, E4, E5Cells, E5Faces, E5Rays, E5Rows}
 use Rattle.pm_incidence.specs.Fails.{thin_fail_of}
 use Rattle.pm_incidence.specs.Thinning.{AreManyFacets, IsReductionFail, half_spaces}
 use Rattle.pm_incidence.specs.declared.fails.ThinFail.{ThinFail}
@@ -25,6 +25,7 @@ thin_of_program n G L (Wide (E4 a b)) h = h
 thin_of_program n G L (Wide (E5Rays a b)) h = h
 thin_of_program n G L (Wide (E5Rows a)) h = h
 thin_of_program n G L (Wide (E5Faces a)) h = h
+thin_of_program n G L (Wide (E5Cells a b)) h = h
 thin_of_program n G L (Many e) h = absurd h
 thin_of_program n G L Memory h = tt
 
@@ -36,6 +37,7 @@ halves_of_thin n G L (Wide (E4 a b)) h = h
 halves_of_thin n G L (Wide (E5Rays a b)) h = h
 halves_of_thin n G L (Wide (E5Rows a)) h = h
 halves_of_thin n G L (Wide (E5Faces a)) h = h
+halves_of_thin n G L (Wide (E5Cells a b)) h = h
 halves_of_thin n G L (Many e) h = absurd h
 halves_of_thin n G L Memory h = tt
 
@@ -47,6 +49,7 @@ rows_of_halves of n A E many (Wide (E4 a b)) h = h
 rows_of_halves of n A E many (Wide (E5Rays a b)) h = h
 rows_of_halves of n A E many (Wide (E5Rows a)) h = h
 rows_of_halves of n A E many (Wide (E5Faces a)) h = h
+rows_of_halves of n A E many (Wide (E5Cells a b)) h = h
 rows_of_halves of n A E many (Many (E1 e)) h = absurd h
 rows_of_halves of n A E many (Many (E2 a b c d)) h = absurd h
 rows_of_halves of n A E many (Many (E3 a b c d e)) h = absurd h
@@ -54,6 +57,7 @@ rows_of_halves of n A E many (Many (E4 a b)) h = absurd h
 rows_of_halves of n A E many (Many (E5Rays a b)) h = absurd h
 rows_of_halves of n A E many (Many (E5Rows a)) h = many a h
 rows_of_halves of n A E many (Many (E5Faces a)) h = absurd h
+rows_of_halves of n A E many (Many (E5Cells a b)) h = absurd h
 rows_of_halves of n A E many Memory h = tt
 
 pub rows_of_program : (of : ObjectType) (n : ℕ) (A E : List Row) (f : ThinFail) → IsProgramFail n (half_spaces of n A) E f → IsRowsFail of n A E f
@@ -64,6 +68,7 @@ rows_of_program of n A E (Wide (E4 a b)) h = h
 rows_of_program of n A E (Wide (E5Rays a b)) h = h
 rows_of_program of n A E (Wide (E5Rows a)) h = h
 rows_of_program of n A E (Wide (E5Faces a)) h = h
+rows_of_program of n A E (Wide (E5Cells a b)) h = h
 rows_of_program of n A E (Many e) h = absurd h
 rows_of_program of n A E Memory h = tt
 
@@ -83,6 +88,7 @@ thin_of_reduction n G L B P ks t (Wide (E4 a c)) h = absurd h
 thin_of_reduction n G L B P ks t (Wide (E5Rays a c)) h = absurd h
 thin_of_reduction n G L B P ks t (Wide (E5Rows a)) h = absurd h
 thin_of_reduction n G L B P ks t (Wide (E5Faces a)) h = absurd h
+thin_of_reduction n G L B P ks t (Wide (E5Cells a b)) h = absurd h
 thin_of_reduction n G L B P ks t (Many e) h = absurd h
 thin_of_reduction n G L B P ks t Memory h = tt
 

@@ -15,3 +15,4 @@ pub mod Hulls
 pub mod Sizes
 pub mod Thinning
 pub mod FromSets
+pub mod Triangulations

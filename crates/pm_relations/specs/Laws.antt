@@ -6,14 +6,16 @@ use Rattle.pm_bases.specs.Bases.{IsRank, SameSpan}
 use Rattle.pm_elim.specs.NullSpaces.{IsNullBasis}
 use Rattle.pm_types.specs.Things.{Thing, IsThing, AreOrders}
 use Rattle.pm_geom.specs.Things.{Orders}
+use Rattle.pm_geom.specs.Triangulations.{IsTriangulation}
+use Rattle.std.specs.List.{AllPairs}
 use Rattle.pm_object_type.specs.declared.object_type.ObjectType.TheVariants.{Fan}
 use Rattle.pm_types.specs.Canonical.{IsCanonical, IsEchelonBasisOf, Vanishing}
 use Rattle.pm_types.specs.Right.{InLines, PairCutsOut, PairGenerates, Right, StandFor}
-use Rattle.pm_types.specs.Values.{PropertyValue, matrix, truth, whole}
+use Rattle.pm_types.specs.Values.{PropertyValue, matrix, sets, truth, whole}
 use Rattle.pm_types.specs.Views.{ratios}
 use Rattle.pm_props.specs.declared.kind.Kind.{Kind}
 use Rattle.pm_props.specs.declared.property.PropId.{PropId}
-use Rattle.pm_props.specs.declared.property.PropId.TheVariants.{Points, InputLineality, Inequalities, Equations, Vertices, LinealitySpace, Facets, AffineHull, ConeDim, LinealityDim, CombinatorialDim, Feasible, Pointed, FullDim}
+use Rattle.pm_props.specs.declared.property.PropId.TheVariants.{Points, InputLineality, Inequalities, Equations, Vertices, LinealitySpace, Facets, AffineHull, ConeDim, LinealityDim, CombinatorialDim, Feasible, Pointed, FullDim, PlacingTriangulation}
 use lib.IntN.{ℤ, pos, ◌-ℤ◌}
 
 -- two right values of the property are equal
@@ -88,3 +90,8 @@ FacetsCutOut = (t : Thing) (o : Orders) → IsThing t → AreOrders t o → ¬ (
 -- any two orders of a thing have as many rays, and as many facets
 abbrev pub OrdersAreAsLong : Type 0
 OrdersAreAsLong = (t : Thing) (o p : Orders) → AreOrders t o → AreOrders t p → (length o.rays ≡ length p.rays) × (length o.facets ≡ length p.facets)
+
+-- a triangulation over whole rows that stand for right VERTICES, with those for LINEALITY_SPACE as lines, is right for PLACING_TRIANGULATION
+abbrev pub PlacingIsFound : Type 0
+PlacingIsFound = (t : Thing) (o : Orders) → IsThing t → AreOrders t o → ¬ (t.of ≡ Fan) → (n m : ℕ) (rays lines : List (List Ratio)) (c d e : List Ratio) → Right Vertices (matrix n rays) t o c → Right LinealitySpace (matrix m lines) t o d →
+    (xs ls : List Row) → StandFor rays xs → StandFor lines ls → (T : List (List ℕ)) → AllPairs (λ r s. ¬ (r ≡ s)) T → IsTriangulation t.cols xs ls T → Right PlacingTriangulation (sets T (length rays)) t o e

@@ -3,7 +3,7 @@
 #![tactic(auto)]
 
 ghost use Rattle.pm_relations.specs.FirstEntries.{BoundedIsFound, CenteredIsFound, FarFaceIsFound};
-ghost use Rattle.pm_relations.specs.Laws.{CombinatorialDimIsFound, ConeDimIsFound, ConeDimIsLeft, DimensionsAreDetermined, DimensionsExist, EchelonIsRight, FacetsCutOut, FeasibleIsFound, FullDimIsFound, HullIsFound, LinealityDimIsFound, LinealityIsFound, OrdersAreAsLong, PairSpans, PointedIsFound, VerticesGenerate, VerticesSpan};
+ghost use Rattle.pm_relations.specs.Laws.{CombinatorialDimIsFound, ConeDimIsFound, ConeDimIsLeft, DimensionsAreDetermined, DimensionsExist, EchelonIsRight, FacetsCutOut, FeasibleIsFound, FullDimIsFound, HullIsFound, LinealityDimIsFound, LinealityIsFound, OrdersAreAsLong, PairSpans, PlacingIsFound, PointedIsFound, VerticesGenerate, VerticesSpan};
 
 /// There are right values of CONE_DIM and of LINEALITY_DIM.
 pub fn law_dimensions_exist()
@@ -103,4 +103,9 @@ pub fn law_far_face_is_found()
 /// CENTERED says whether the first entry is 0 in each row that vanishes and positive in each facet row.
 pub fn law_centered_is_found()
     ensures { CenteredIsFound }
+{}
+
+/// A triangulation over right VERTICES, with LINEALITY_SPACE as lines, is right for PLACING_TRIANGULATION.
+pub fn law_placing_is_found()
+    ensures { PlacingIsFound }
 {}

@@ -15,8 +15,9 @@ use pm_clients_comb::{SetsClient, SetsWork};
 use pm_clients_faces::{FaceClient, FacesWork};
 use pm_clients_fans::{FanClient, FanWork};
 use pm_clients_geom::{
-    DimClient, DimWork, HullClient, HullWork, RedundancyClient, RedundancyWork, RowsClient,
-    RowsWork, SizeClient, SizeWork, TestClient, TestWork, ThinClient, ThinWork,
+    DimClient, DimWork, HullClient, HullWork, PlaceClient, PlaceWork, RedundancyClient,
+    RedundancyWork, RowsClient, RowsWork, SizeClient, SizeWork, TestClient, TestWork, ThinClient,
+    ThinWork,
 };
 use pm_clients_graph::{GraphClient, GraphWork};
 use pm_clients_lp::{LpClient, LpWork};
@@ -81,6 +82,7 @@ fn main(rt: HostRuntime) -> ExitCode {
     box_all!(GraphClient, GraphWork, alloc, clients);
     box_all!(LpClient, LpWork, alloc, clients);
     box_all!(FanClient, FanWork, alloc, clients);
+    box_all!(PlaceClient, PlaceWork, alloc, clients);
     let mut source = StdSource::new(rt.stdin());
     let mut sink = StdSink::new(rt.stdout());
     let mut store = DirStore::new(&rt);

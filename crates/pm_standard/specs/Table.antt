@@ -4,7 +4,7 @@ use Rattle.pm_props.specs.Kinds.{finding}
 use Rattle.pm_props.specs.Sets.{set_of}
 use Rattle.pm_props.specs.declared.kind.Kind.{Kind}
 use Rattle.pm_props.specs.declared.property.PropId.{PropId}
-use Rattle.pm_props.specs.declared.property.PropId.TheVariants.{Points, InputLineality, Inequalities, Equations, Vertices, LinealitySpace, Facets, AffineHull, VerticesInFacets, ConeDim, LinealityDim, CombinatorialDim, NVertices, NFacets, Feasible, Bounded, Pointed, FullDim, Centered, Simple, Simplicial, VertexSizes, FacetSizes, HasseDiagram, FVector, F2Vector, HVector, Graph, DualGraph, Diameter, DualDiameter, NEdges, NRidges, VertexDegrees, FarFace, MaximalCones, NMaximalCones, MaximalConesDims, FanDim, Pure, LinearObjective, MaximalValue, MinimalValue, MaximalFace, MinimalFace, MaximalDual, MinimalDual}
+use Rattle.pm_props.specs.declared.property.PropId.TheVariants.{Points, InputLineality, Inequalities, Equations, Vertices, LinealitySpace, Facets, AffineHull, VerticesInFacets, ConeDim, LinealityDim, CombinatorialDim, NVertices, NFacets, Feasible, Bounded, Pointed, FullDim, Centered, Simple, Simplicial, VertexSizes, FacetSizes, HasseDiagram, FVector, F2Vector, HVector, Graph, DualGraph, Diameter, DualDiameter, NEdges, NRidges, VertexDegrees, FarFace, MaximalCones, NMaximalCones, MaximalConesDims, FanDim, Pure, LinearObjective, MaximalValue, MinimalValue, MaximalFace, MinimalFace, MaximalDual, MinimalDual, PlacingTriangulation}
 use Rattle.pm_standard.specs.declared.standard.StandardClient.{StandardClient}
 use Rattle.pm_standard.specs.declared.standard.StandardRule.{StandardRule}
 use Rattle.pm_standard.specs.declared.standard.StandardClient.TheVariants as client
@@ -87,6 +87,9 @@ table_row client.FanDim = plain_rule (codes "fan_dim") (FanDim ∷ []) (MaximalC
 table_row client.FanPure = plain_rule (codes "fan_pure") (Pure ∷ []) (MaximalConesDims ∷ []) 1
 table_row client.FanSimplicial = plain_rule (codes "fan_simplicial") (Simplicial ∷ []) (MaximalConesDims ∷ MaximalCones ∷ LinealityDim ∷ []) 1
 table_row client.FanSize = plain_rule (codes "fan_size") (NMaximalCones ∷ []) (MaximalCones ∷ []) 1
+table_row client.BbFacets = plain_rule (codes "bb_facets") (Facets ∷ AffineHull ∷ []) (Points ∷ InputLineality ∷ []) 45
+table_row client.BbFacetsV = plain_rule (codes "bb_facets_v") (Facets ∷ AffineHull ∷ PlacingTriangulation ∷ []) (Vertices ∷ LinealitySpace ∷ []) 35
+table_row client.Placing = plain_rule (codes "placing") (PlacingTriangulation ∷ []) (Vertices ∷ LinealitySpace ∷ []) 25
 
 -- the rule that a row says: the kind of its client, which bears the label as its name, and the weight
 abbrev pub rule_in : RuleRow → StandardRule
@@ -109,7 +112,8 @@ standard_clients =
     ∷ client.GraphOfFaces ∷ client.DualGraph ∷ client.VertexDegrees ∷ client.Diameter ∷ client.DualDiameter
     ∷ client.NEdges ∷ client.NRidges ∷ client.LpMax ∷ client.LpMin ∷ client.LpMaxRows
     ∷ client.LpMinRows ∷ client.LpMaxV ∷ client.LpMinV ∷ client.LpMaxFace ∷ client.LpMinFace
-    ∷ client.FanDims ∷ client.FanDim ∷ client.FanPure ∷ client.FanSimplicial ∷ client.FanSize ∷ []
+    ∷ client.FanDims ∷ client.FanDim ∷ client.FanPure ∷ client.FanSimplicial ∷ client.FanSize
+    ∷ client.BbFacets ∷ client.BbFacetsV ∷ client.Placing ∷ []
 
 abbrev pub standard_kind : StandardClient → Kind
 standard_kind c = (standard_row c).kind

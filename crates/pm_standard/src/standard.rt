@@ -130,6 +130,12 @@ pub enum StandardClient {
     FanSimplicial,
     /// N_MAXIMAL_CONES from MAXIMAL_CONES.
     FanSize,
+    /// FACETS and AFFINE_HULL from POINTS, INPUT_LINEALITY, by beneath-beyond.
+    BbFacets,
+    /// FACETS, AFFINE_HULL and PLACING_TRIANGULATION from VERTICES, LINEALITY_SPACE.
+    BbFacetsV,
+    /// PLACING_TRIANGULATION from VERTICES, LINEALITY_SPACE.
+    Placing,
 }
 
 /// A standard rule: the kind of its client, whose name is the rule's label, and what it weighs, of class 0.
@@ -164,7 +170,7 @@ macro_rules! rule {
 }
 
 // The standard rules, in the order of the standard book.
-static RULES: [Entry; 60] = [
+static RULES: [Entry; 63] = [
     rule!("dd_vertices": Vertices, LinealitySpace from Inequalities, Equations; 40),
     rule!("dd_facets": Facets, AffineHull from Points, InputLineality; 40),
     rule!("dd_facets_v": Facets, AffineHull from Vertices, LinealitySpace; 30),
@@ -225,11 +231,14 @@ static RULES: [Entry; 60] = [
     rule!("fan_pure": Pure from MaximalConesDims; 1),
     rule!("fan_simplicial": Simplicial from MaximalConesDims, MaximalCones, LinealityDim; 1),
     rule!("fan_size": NMaximalCones from MaximalCones; 1),
+    rule!("bb_facets": Facets, AffineHull from Points, InputLineality; 45),
+    rule!("bb_facets_v": Facets, AffineHull, PlacingTriangulation from Vertices, LinealitySpace; 35),
+    rule!("placing": PlacingTriangulation from Vertices, LinealitySpace; 25),
 ];
 
 impl StandardClient {
     /// These clients, in the order of the standard book.
-    pub fn every() -> [StandardClient; 60]
+    pub fn every() -> [StandardClient; 63]
         ensures { result ≡ standard_clients }
     {
         [
@@ -293,6 +302,9 @@ impl StandardClient {
             Self::FanPure,
             Self::FanSimplicial,
             Self::FanSize,
+            Self::BbFacets,
+            Self::BbFacetsV,
+            Self::Placing,
         ]
     }
 

@@ -3,3 +3,4 @@ pub mod Frame
 pub mod Kept
 pub mod Bits
 pub mod WholeRows
+pub mod Indices

@@ -13,6 +13,7 @@ use Rattle.pm_geom.specs.Faces.{ray}
 use Rattle.pm_geom.specs.Generators.{IsBefore}
 use Rattle.pm_geom.specs.Graphs.{IsDiameter, IsEdge, IsGraph, IsRidge, edge_count}
 use Rattle.pm_geom.specs.Programs.{IsTimes}
+use Rattle.pm_geom.specs.Triangulations.{IsTriangulation}
 use Rattle.pm_types.specs.Things.{Thing, IsThing, AreOrders}
 use Rattle.pm_geom.specs.Things.{Orders}
 use Rattle.pm_object_type.specs.declared.object_type.ObjectType.{ObjectType}
@@ -22,7 +23,7 @@ use Rattle.pm_types.specs.Programs.{IsGreatest, IsGreatestFace, OfGreatest, oppo
 use Rattle.pm_types.specs.Values.{PropertyValue, matrix, sets, whole, truth, counts, edges, lattice, extended, Extended, finite, Fact}
 use Rattle.pm_types.specs.Views.{over_one}
 use Rattle.pm_props.specs.declared.property.PropId.{PropId}
-use Rattle.pm_props.specs.declared.property.PropId.TheVariants.{ConeAmbientDim, Points, InputLineality, Inequalities, Equations, Vertices, LinealitySpace, Facets, AffineHull, VerticesInFacets, ConeDim, LinealityDim, CombinatorialDim, NVertices, NFacets, Feasible, Bounded, Pointed, FullDim, Centered, Simple, Simplicial, VertexSizes, FacetSizes, FarFace, HasseDiagram, FVector, F2Vector, HVector, Graph, DualGraph, Diameter, DualDiameter, NEdges, NRidges, VertexDegrees, MaximalCones, NMaximalCones, MaximalConesDims, FanDim, Pure, LinearObjective, MaximalValue, MinimalValue, MaximalFace, MinimalFace, MaximalDual, MinimalDual}
+use Rattle.pm_props.specs.declared.property.PropId.TheVariants.{ConeAmbientDim, Points, InputLineality, Inequalities, Equations, Vertices, LinealitySpace, Facets, AffineHull, VerticesInFacets, ConeDim, LinealityDim, CombinatorialDim, NVertices, NFacets, Feasible, Bounded, Pointed, FullDim, Centered, Simple, Simplicial, VertexSizes, FacetSizes, FarFace, HasseDiagram, FVector, F2Vector, HVector, Graph, DualGraph, Diameter, DualDiameter, NEdges, NRidges, VertexDegrees, MaximalCones, NMaximalCones, MaximalConesDims, FanDim, Pure, LinearObjective, MaximalValue, MinimalValue, MaximalFace, MinimalFace, MaximalDual, MinimalDual, PlacingTriangulation}
 use Rattle.pm_props.specs.Properties.{facets_tag, rays_tag}
 use lib.IntN.{ℤ, pos, negsuc, ◌-ℤ◌, ◌*ℤ◌}
 use lib.Signed.{◌<ℤ◌, ◌≤ℤ◌}
@@ -278,6 +279,14 @@ IsSimplicialTruth Fan t b = IsTrue b ↔ IsSimplicialFan t
 IsSimplicialTruth Polytope t b = (p : Orders) → AreOrders t p → IsTrue b ↔ IsSimplicial t p
 IsSimplicialTruth Cone t b = (p : Orders) → AreOrders t p → IsTrue b ↔ IsSimplicial t p
 
+-- ---- triangulations (De Loera, Rambau and Santos, sections 2.1 and 2.3)
+-- different sets of places of the rays V, which are a triangulation of the thing, with rows that span its lineality
+pub record AreSimplices (t : Thing) (V : List Row) (T : List (List ℕ)) : Type 0 where
+  pub different : AllPairs (λ r s. ¬ (r ≡ s)) T
+  pub lines : List Row
+  pub basis : IsBasis t.cols (InLines t) lines
+  pub triangulation : IsTriangulation t.cols V lines T
+
 -- ---- duals of linear programs
 -- the rows stand for facet rows of different directions, in lexicographic order of their primitive whole rows
 pub record AreFacetDirections (t : Thing) (rows : List (List Ratio)) : Type 0 where
@@ -354,7 +363,7 @@ Means FacetSizes (counts ks) t o c = (p : Orders) → AreOrders t p → ks ≡ m
 Means FarFace (counts ks) t o c = AreFarPlaces o.rays ks
 Means HasseDiagram (lattice ranks) t o c = AreFaces t o.rays ranks
 Means FVector (counts ks) t o c = IsFVector t ks
-Means F2Vector (matrix n rows) t o c = IsOfFaces t (λ ranks. rows ≡ map (map (λ k. over_one (pos k))) (f2_of ranks))
+Means F2Vector (matrix n rows) t o c = (n ≡ length rows) × IsOfFaces t (λ ranks. rows ≡ map (map (λ k. over_one (pos k))) (f2_of ranks))
 Means HVector (counts ks) t o c = IsHVector t ks
 Means Graph (edges rows) t o c = IsRayGraph t o.rays rows
 Means DualGraph (edges rows) t o c = InSomeOrders t (λ p. IsFacetGraph t p.rays o.facets rows)
@@ -375,6 +384,7 @@ Means MaximalFace (counts ks) t o c = IsGreatestFace (InSet t) c o.rays ks
 Means MinimalFace (counts ks) t o c = IsGreatestFace (InSet t) (opposite_objective c) o.rays ks
 Means MaximalDual (matrix n rows) t o c = IsGreatestDual t c rows
 Means MinimalDual (matrix n rows) t o c = IsGreatestDual t (opposite_objective c) rows
+Means PlacingTriangulation (sets rows n) t o c = (n ≡ length o.rays) × AreSimplices t o.rays rows
 Means p v t o c = ⊥
 
 -- the value v of the property p is right: it means what is so, where it is shown the orders that it may speak of

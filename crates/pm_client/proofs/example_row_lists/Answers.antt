@@ -18,6 +18,9 @@ returns c = record {
   memory_of_double = refl;
   doubling = refl;
   not_doubling = refl;
+  placing = refl;
+  not_placing = refl;
+  placing_doubles = refl;
   of_double = refl;
   of_ranks = refl;
 }

@@ -1,5 +1,5 @@
 use Rattle.pm_beneath.proofs.taken.rows_of.Given as goal
-use Rattle.pm_laws_placing.specs.Triangulations.{rows_at}
+use Rattle.pm_geom.specs.Triangulations.{rows_at}
 use Rattle.std.proofs.Common.{take, ◌≡◌}
 
 abbrev pub invariant-loop-place : goal.invariant-loop-place

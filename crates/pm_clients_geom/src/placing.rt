@@ -1,0 +1,179 @@
+// The clients that place rays: facets and the placing triangulation, by beneath-beyond.
+
+ghost use Rattle.pm_client.specs.Sound.{FailsRightly, IsSound};
+ghost use Rattle.pm_clients_geom.specs.PlacedRays.{ArePlaced, PlacesRays, fail_of_place};
+ghost use Rattle.pm_object.specs.Reading.{IsView};
+ghost use Rattle.pm_standard.specs.Table.{standard_kind};
+ghost use Rattle.pm_standard.specs.declared.standard.StandardClient.TheVariants as client;
+ghost use Rattle.std.specs.Prelude.{IfErr, IfOk, OnOk, [], map, ◌∷◌, ◌≡◌};
+
+use crate::hulls::{Parts, read_parts};
+use crate::rows::matrix_over_one;
+use pm_beneath::{Facets, PlaceFail, place};
+use pm_client::{ClientFail, Family, FamilyClient, put_value};
+use pm_object::{Draft, View};
+use pm_standard::StandardClient;
+use pm_types::{PropId, Sets, Value};
+use std::alloc::Global;
+
+/// The works of the clients that place rays.
+#[derive(Clone, Copy, Debug, PartialEq, Eq)]
+pub enum PlaceWork {
+    BbFacets,
+    BbFacetsV,
+    Placing,
+}
+
+impl PlaceWork {
+    ghost use Rattle.pm_clients_geom.specs.Works.{place_client};
+
+    /// All of them, in the order of the standard book.
+    pub fn every() -> [PlaceWork; 3]
+        ensures { map place_client result ≡ client.BbFacets ∷ client.BbFacetsV ∷ client.Placing ∷ [] }
+    {
+        [Self::BbFacets, Self::BbFacetsV, Self::Placing]
+    }
+}
+
+/// The standard clients that place rays.
+#[derive(Debug, Drop)]
+pub struct PlaceFamily;
+
+/// A client that places rays (De Loera, Rambau and Santos, Triangulations, section 4.3). It fails for want of memory,
+/// where a step leaves the range, and where a cone on the way has too many facets or cells.
+pub type PlaceClient = FamilyClient<PlaceFamily>;
+
+impl Family for PlaceFamily {
+    ghost use Rattle.pm_client.specs.Sound.{FailsRightly};
+    ghost use Rattle.pm_clients_geom.specs.Works.{place_client};
+
+    type Work = PlaceWork;
+
+    ghost client_of = { place_client };
+
+    ghost Stays = { λ _ _ _. Unit {0} };
+
+    ghost Fails = { λ _ v e. FailsRightly v e };
+
+    fn client(work: PlaceWork) -> StandardClient {
+        match work {
+            PlaceWork::BbFacets => StandardClient::BbFacets,
+            PlaceWork::BbFacetsV => StandardClient::BbFacetsV,
+            PlaceWork::Placing => StandardClient::Placing,
+        }
+    }
+
+    fn answer(
+        work: PlaceWork,
+        alloc: Global,
+        view: &View,
+        draft: &mut Draft,
+    ) -> Result<(), ClientFail> {
+        match work {
+            PlaceWork::BbFacets => bb_facets(alloc, view, draft),
+            PlaceWork::BbFacetsV => bb_facets_v(alloc, view, draft),
+            PlaceWork::Placing => placing(alloc, view, draft),
+        }
+    }
+}
+
+/// The rows that were read, and what was found by placing them.
+#[derive(Drop)]
+struct Placed {
+    parts: Parts,
+    facets: Facets,
+    cells: Sets,
+}
+
+// The failure of a client whose placing was given up.
+fn client_fail(fail: PlaceFail) -> ClientFail
+    ensures { result ≡ fail_of_place fail }
+{
+    match fail {
+        PlaceFail::Wide(evidence) => ClientFail::Failed(evidence),
+        PlaceFail::Many(evidence) => ClientFail::Failed(evidence),
+        PlaceFail::Memory => ClientFail::Memory,
+    }
+}
+
+// Places the rows of the second property, with those of the first as lines.
+fn place_rows(
+    alloc: Global,
+    view: &View,
+    first: PropId,
+    second: PropId,
+) -> Result<Placed, ClientFail>
+    requires kind { PlacesRays view.now.kind first second }
+    ensures placed { IfOk result (λ p. ArePlaced view.now first second
+        p.parts.first.items p.parts.second.items
+        p.facets.facets.items p.facets.hull.items p.cells) }
+    ensures view { IfOk result (λ _. IsView view.now) }
+    ensures failed { IfErr result (FailsRightly view.now) }
+{
+    let parts = read_parts(alloc, view, first, second)?;
+    match place(alloc, view.cols(), &parts.second, &parts.first) {
+        Ok(found) => {
+            let cells = Sets::from_vec(found.simplices, parts.second.len() as u32);
+            Ok(Placed {
+                parts,
+                facets: found.facets,
+                cells,
+            })
+        }
+        Err(fail) => Err(client_fail(fail)),
+    }
+}
+
+// FACETS and AFFINE_HULL of what POINTS generate with INPUT_LINEALITY as lines.
+fn bb_facets(alloc: Global, view: &View, draft: &mut Draft) -> Result<(), ClientFail>
+    requires kind { view.now.kind ≡ standard_kind client.BbFacets }
+    requires empty { draft.old ≡ record { kind = view.now.kind; values = [] } }
+    ensures draft { draft.new.kind ≡ draft.old.kind }
+    ensures sound { OnOk result (IsSound view.now draft.new) }
+    ensures failed { IfErr result (FailsRightly view.now) }
+{
+    let placed = place_rows(alloc, view, PropId::InputLineality, PropId::Points)?;
+    let facets = matrix_over_one(alloc, &placed.facets.facets, view.cols())?;
+    let hull = matrix_over_one(alloc, &placed.facets.hull, view.cols())?;
+    put_value(draft, PropId::Facets, Value::Mat(facets))?;
+    put_value(draft, PropId::AffineHull, Value::Mat(hull))?;
+    Ok(())
+}
+
+// FACETS, AFFINE_HULL and PLACING_TRIANGULATION of what VERTICES generate with LINEALITY_SPACE as lines.
+fn bb_facets_v(alloc: Global, view: &View, draft: &mut Draft) -> Result<(), ClientFail>
+    requires kind { view.now.kind ≡ standard_kind client.BbFacetsV }
+    requires empty { draft.old ≡ record { kind = view.now.kind; values = [] } }
+    ensures draft { draft.new.kind ≡ draft.old.kind }
+    ensures sound { OnOk result (IsSound view.now draft.new) }
+    ensures failed { IfErr result (FailsRightly view.now) }
+{
+    let placed = place_rows(alloc, view, PropId::LinealitySpace, PropId::Vertices)?;
+    let facets = matrix_over_one(alloc, &placed.facets.facets, view.cols())?;
+    let hull = matrix_over_one(alloc, &placed.facets.hull, view.cols())?;
+    put_value(draft, PropId::Facets, Value::Mat(facets))?;
+    put_value(draft, PropId::AffineHull, Value::Mat(hull))?;
+    put_value(
+        draft,
+        PropId::PlacingTriangulation,
+        Value::Sets(placed.cells),
+    )?;
+    Ok(())
+}
+
+// PLACING_TRIANGULATION of what VERTICES generate with LINEALITY_SPACE as lines.
+fn placing(alloc: Global, view: &View, draft: &mut Draft) -> Result<(), ClientFail>
+    requires kind { view.now.kind ≡ standard_kind client.Placing }
+    requires empty { draft.old ≡ record { kind = view.now.kind; values = [] } }
+    ensures draft { draft.new.kind ≡ draft.old.kind }
+    ensures sound { OnOk result (IsSound view.now draft.new) }
+    ensures failed { IfErr result (FailsRightly view.now) }
+{
+    let placed = place_rows(alloc, view, PropId::LinealitySpace, PropId::Vertices)?;
+    put_value(
+        draft,
+        PropId::PlacingTriangulation,
+        Value::Sets(placed.cells),
+    )?;
+    Ok(())
+}
