@@ -1,5 +1,5 @@
 -- When an object is built, and why not: the conditions, in the order in which they are tried.
-use Rattle.std.specs.Prelude.{ℕ, suc, ◌^◌, ◌+◌, ◌≡◌, ◌&&◌, Bool, true, false, not, IsTrue, Option, None, Some, List, [], ◌∷◌, if◌then◌else◌, length, nat_le, nat_lt}
+use Rattle.std.specs.Prelude.{ℕ, suc, ◌^◌, ◌*◌, ◌+◌, ◌≡◌, ◌&&◌, Bool, true, false, not, IsTrue, Option, None, Some, List, [], ◌∷◌, if◌then◌else◌, length, nat_eq, nat_le, nat_lt}
 use Rattle.std.specs.List.{All}
 use Rattle.std.specs.Option.{is_some, unwrap_or}
 use Rattle.pm_algebra.specs.Numbers.{Ratio}
@@ -11,10 +11,11 @@ use Rattle.pm_object.specs.State.{State, is_polytope}
 use Rattle.pm_object_type.specs.declared.object_type.ObjectType.{ObjectType}
 use Rattle.pm_object_type.specs.declared.object_type.ObjectType.TheVariants.{Polytope, Cone, Fan}
 use Rattle.pm_props.specs.declared.property.PropId.{PropId}
-use Rattle.pm_props.specs.declared.property.PropId.TheVariants.{AffineHull, Bounded, Centered, Facets, FullDim, LinealitySpace, Points, Vertices}
+use Rattle.pm_props.specs.declared.property.PropId.TheVariants.{AffineHull, Bounded, Centered, Facets, Feasible, FullDim, LinealitySpace, Points, Vertices}
 use Rattle.pm_types.specs.Forms.{is_row, rows_in}
 use Rattle.std.specs.List.{list_all}
 use Rattle.pm_types.specs.Values.{PropertyValue, matrix, truth}
+use Rattle.pm_build.specs.Points.{far, points}
 
 -- ---- what is read
 -- what is read for a polar
@@ -28,6 +29,10 @@ product_reads = Facets ∷ AffineHull ∷ []
 -- what is read for a pyramid
 abbrev pub pyramid_reads : List PropId
 pyramid_reads = Vertices ∷ LinealitySpace ∷ []
+
+-- what is read of each polytope for a sum
+abbrev pub sum_reads : List PropId
+sum_reads = Feasible ∷ Vertices ∷ LinealitySpace ∷ []
 
 -- ---- conditions
 -- a cube, simplex or cross-polytope has at most 32 dimensions
@@ -67,4 +72,16 @@ abbrev pub pyramid_refusal : State → Option Condition
 pyramid_refusal o = if not (is_polytope o.of) then Some condition.OfType
     else if not (nat_le (cols_at o) 32) then Some condition.Columns
     else if not (nat_le (length (rows_at Vertices o)) 2047) then Some condition.Rows
+    else None
+
+-- how many rows the sum has as points: one for each pair of points, and the far rows of both
+abbrev pub sum_count : State → State → ℕ
+sum_count a b = length (points (rows_at Vertices a)) * length (points (rows_at Vertices b)) + (length (far (rows_at Vertices a)) + length (far (rows_at Vertices b)))
+
+-- two polytopes, not empty, of as many columns, whose sum has not too many points or lines
+abbrev pub sum_refusal : State → State → Option Condition
+sum_refusal a b = if not (is_polytope a.of && is_polytope b.of) then Some condition.OfType
+    else if not (is_true Feasible a && is_true Feasible b) then Some condition.Feasible
+    else if not (nat_eq (cols_at a) (cols_at b)) then Some condition.Columns
+    else if not (nat_le (sum_count a b) 2048 && are_few LinealitySpace a b) then Some condition.Rows
     else None

@@ -1,5 +1,9 @@
 pub mod Rows
+pub mod Points
+pub mod SumSteps
 pub mod Conditions
 pub mod Objects
+pub mod Sums
 pub mod Laws
 pub mod Examples
+pub mod SumExamples

@@ -1,8 +1,9 @@
 // The calls that build objects.
 
-ghost use Rattle.pm_build.specs.Conditions.{cyclic_refusal, polar_reads, polar_refusal, product_reads, product_refusal, pyramid_reads, pyramid_refusal, shape_refusal};
+ghost use Rattle.pm_build.specs.Conditions.{cyclic_refusal, polar_reads, polar_refusal, product_reads, product_refusal, pyramid_reads, pyramid_refusal, shape_refusal, sum_reads, sum_refusal};
 ghost use Rattle.pm_object.specs.Known.{IsReadable, matrix_of};
 ghost use Rattle.pm_build.specs.Objects.{cross_of, cube_of, cyclic_of, polar_of, polytope_with, product_of, pyramid_of, simplex_of};
+ghost use Rattle.pm_build.specs.Sums.{IsSumFile, IsSumRefused};
 ghost use Rattle.pm_files.specs.Views.{file_of};
 ghost use Rattle.pm_object.specs.State.{IsRefused};
 ghost use Rattle.pm_types.specs.Views.{view_of};
@@ -10,9 +11,11 @@ ghost use Rattle.std.specs.Prelude.{IfErr, IfOk, None, OnOk, [], map, ◌∷◌,
 
 use crate::combined::{both_rows, pyramid_lines, pyramid_points, same_rows};
 use crate::conditions::{
-    cyclic_refusal, polar_refusal, product_refusal, pyramid_refusal, shape_refusal,
+    cyclic_refusal, polar_refusal, product_refusal, pyramid_refusal, shape_refusal, sum_refusal,
 };
+use crate::fails::SumFail;
 use crate::shapes::{curve_rows, opposite_rows, simplex_rows};
+use crate::summands::{sum_lines, sum_points};
 use pm_files::FileObject;
 use pm_matrix::Matrix;
 use pm_object::{BuildFail, Object, matrix_at};
@@ -153,5 +156,29 @@ pub fn pyramid(alloc: Global, o: &Object) -> Result<FileObject, BuildFail>
     }
     let points = pyramid_points(alloc, o)?;
     let lines = pyramid_lines(alloc, o)?;
+    Ok(with_both(alloc, PropId::Points, points, PropId::InputLineality, lines)?)
+}
+
+/// The Minkowski sum of two polytopes: as its points the sums of the points of each vertex of the first and each of the
+/// second, in order, then the far rows of the first, then those of the second; and the lines of both.
+/// These values are right for the sum of all points of each two polytopes for which the values read are right, bounded or
+/// not (`pm_laws_build`, `law_sum_is_described`).
+/// `NotFit` names the first condition that fails: both objects are polytopes, FEASIBLE is true of both, they have as many
+/// columns, the sum has at most 2,048 points and at most 2,048 lines.
+/// `Wide` exactly where a number on the way to the sum of two points leaves the range, with the primitive rows of the first
+/// such pair and its first such column. For primitive rows v and w these numbers are v_0 p, and p v_k, q w_k and their sum,
+/// where p = w_0/g and q = v_0/g for the greatest common divisor g of v_0 and w_0.
+pub fn minkowski(alloc: Global, a: &Object, b: &Object) -> Result<FileObject, SumFail>
+    requires first { IsReadable sum_reads a.now.state }
+    requires second { IsReadable sum_reads b.now.state }
+    ensures built { IfOk result (λ f. IsSumFile a.now.state b.now.state (file_of f)) }
+    ensures fits { OnOk result (sum_refusal a.now.state b.now.state ≡ None) }
+    ensures refused { IfErr result (IsSumRefused a.now.state b.now.state) }
+{
+    if let Some(condition) = sum_refusal(a, b) {
+        return Err(SumFail::NotFit(condition));
+    }
+    let points = sum_points(alloc, a, b)?;
+    let lines = sum_lines(alloc, a, b)?;
     Ok(with_both(alloc, PropId::Points, points, PropId::InputLineality, lines)?)
 }

@@ -1,11 +1,13 @@
 // The conditions, in the order in which they are tried.
 
-ghost use Rattle.pm_build.specs.Conditions.{are_few, cyclic_refusal, polar_reads, polar_refusal, product_reads, product_refusal, pyramid_reads, pyramid_refusal, shape_refusal};
+ghost use Rattle.pm_build.specs.Conditions.{are_few, cyclic_refusal, polar_reads, polar_refusal, product_reads, product_refusal, pyramid_reads, pyramid_refusal, shape_refusal, sum_count, sum_reads, sum_refusal};
 ghost use Rattle.pm_object.specs.Known.{IsKnown, IsOfRows, IsReadable};
+ghost use Rattle.pm_props.specs.declared.property.PropId.TheVariants.{Vertices};
 ghost use Rattle.std.specs.Prelude.{[], ◌∷◌, ◌≡◌};
 
 use crate::reading::are_points;
 use crate::shapes::is_cyclic_size;
+use crate::summands::count_points;
 use pm_object::{Condition, Object, cols_at, is_polytope, is_true, matrix_at};
 use pm_types::PropId;
 
@@ -85,6 +87,39 @@ pub(crate) fn pyramid_refusal(o: &Object) -> Option<Condition>
         return Some(Condition::Columns);
     }
     if matrix_at(o, PropId::Vertices).rows() > 2047 {
+        return Some(Condition::Rows);
+    }
+    None
+}
+
+// How many points the sum has.
+fn sum_count(a: &Object, b: &Object) -> usize
+    requires first { IsKnown (Vertices ∷ []) a.now.state }
+    requires second { IsKnown (Vertices ∷ []) b.now.state }
+    ensures { result ≡ sum_count a.now.state b.now.state }
+{
+    let first = matrix_at(a, PropId::Vertices);
+    let second = matrix_at(b, PropId::Vertices);
+    let points = count_points(first);
+    let others = count_points(second);
+    points * others + (first.rows() - points + (second.rows() - others))
+}
+
+pub(crate) fn sum_refusal(a: &Object, b: &Object) -> Option<Condition>
+    requires first { IsReadable sum_reads a.now.state }
+    requires second { IsReadable sum_reads b.now.state }
+    ensures { result ≡ sum_refusal a.now.state b.now.state }
+{
+    if !(is_polytope(a) && is_polytope(b)) {
+        return Some(Condition::OfType);
+    }
+    if !(is_true(a, PropId::Feasible) && is_true(b, PropId::Feasible)) {
+        return Some(Condition::Feasible);
+    }
+    if cols_at(a) != cols_at(b) {
+        return Some(Condition::Columns);
+    }
+    if !(sum_count(a, b) <= 2048 && are_few(PropId::LinealitySpace, a, b)) {
         return Some(Condition::Rows);
     }
     None

@@ -2,6 +2,7 @@
 
 ghost use Rattle.pm_build.specs.Objects.{put_below};
 ghost use Rattle.pm_build.specs.Rows.{headed, unit};
+ghost use Rattle.pm_object.specs.Known.{cols_over};
 ghost use Rattle.pm_types.specs.Views.{ratios};
 ghost use Rattle.std.specs.Prelude.{IfOk, OnOk, [], length, replicate, ◌+◌, ◌<◌, ◌^◌, ◌∷◌, ◌≡◌, pos};
 
@@ -18,6 +19,17 @@ pub(crate) fn put_row(matrix: &mut Matrix, row: &[Fraction]) -> Result<(), Alloc
         Ok(()) => Ok(()),
         Err(MatrixFail::Ragged) => unreachable!(),
         Err(MatrixFail::Memory) => Err(AllocError),
+    }
+}
+
+/// The same rows; without rows it states no column count.
+pub(crate) fn stated(alloc: Global, matrix: Matrix) -> Matrix
+    ensures { result ≡ record { cols = cols_over matrix.cols matrix.rows; rows = matrix.rows } }
+{
+    if matrix.rows() == 0 {
+        Matrix::new(alloc, 0)
+    } else {
+        matrix
     }
 }
 

@@ -4,8 +4,9 @@ use Rattle.pm_algebra.proofs.Lists.{Among, here, there}
 use Rattle.pm_algebra.specs.Cones.{InCone}
 use Rattle.pm_algebra.specs.Rows.{Row, Same, dot, entry, plus, times}
 use Rattle.pm_laws_build.proofs.PyramidLaws.{pyramid_above}
-use Rattle.pm_laws_build.specs.Built.{InCube, InPolar, InProduct, InPyramid}
-use Rattle.pm_laws_build.specs.Examples.{OthersAreRead, ShapesAreRead, even_segment, five, generated, high_segment, long_segment, unit_segment}
+use Rattle.pm_laws_build.specs.Built.{InCube, InPolar, InProduct, InPyramid, IsSum}
+use Rattle.pm_laws_normal_fans.proofs.ExampleSums.{sums_are_read}
+use Rattle.pm_laws_build.specs.Examples.{MinkowskiSumsAreRead, OthersAreRead, ShapesAreRead, even_segment, five, generated, high_segment, long_segment, unit_segment}
 use Rattle.pm_build.specs.Rows.{apex_row}
 use Rattle.pm_types.specs.Right.{InSet}
 use Rattle.std.proofs.Common.{arith, refl, subst}
@@ -201,4 +202,28 @@ others = record {
   no_pyramid = λ h.
       let w = over_segment _ (pos 1) (pos 0) (pos 0) ((h.cone (pos 1 ∷ pos 0 ∷ pos 0 ∷ []) refl).0 (in_generator here)) in
       let p : pos 0 ≤ℤ negsuc 0 = on_two (negsuc 0 ∷ pos 1 ∷ []) (pos 1 ∷ pos 1 ∷ []) (pos 1 ∷ pos 2 ∷ []) (pos 1 ∷ pos 0 ∷ []) (omega (arith, ints)) (omega (arith, ints)) w.0 in omega (arith, ints);
+}
+
+five_at : (x : Row) → length x ≡ 2 → InSet five x → entry x 1 ≡ pos 5 *ℤ entry x 0
+five_at [] e h = absurd (omega arith)
+five_at (a ∷ []) e h = absurd (omega arith)
+five_at (a ∷ b ∷ []) e h = five_out a b h
+five_at (a ∷ b ∷ c ∷ x) e h = absurd (omega arith)
+
+no_five : ¬ (IsSum five five five)
+no_five h =
+    let w = (h.points (pos 1 ∷ pos 5 ∷ []) refl (omega (arith, ints))).0 (in_generator here) in
+    let a = five_at w.first w.first_cols w.of_first in
+    let b = five_at w.second w.second_cols w.of_second in
+    let c : entry w.first 0 ≡ w.factor *ℤ pos 1 = w.sum.first in
+    let d : entry w.second 0 ≡ w.factor *ℤ pos 1 = w.sum.second in
+    let e : w.factor *ℤ pos 5 ≡ entry w.first 1 +ℤ entry w.second 1 = w.sum.others 0 in
+    let f = w.positive in
+    omega (arith, ints)
+
+pub minkowski_sums : MinkowskiSumsAreRead
+minkowski_sums = record {
+  square = record { of = refl; cols = refl; points = λ x e up. sums_are_read.of_edges.sum x e };
+  no_point = no_five;
+  no_column_more = λ h. let e : 3 ≡ 2 = h.cols in omega arith;
 }

@@ -5,4 +5,10 @@ pub mod ReadRights
 pub mod PolarLaws
 pub mod ProductLaws
 pub mod PyramidLaws
+pub mod SomeThings
+pub mod ExistingShapes
+pub mod ExistingOthers
+pub mod SumRows
+pub mod SumDescribed
 pub mod Examples
+pub mod ExistenceExamples

@@ -59,7 +59,7 @@ pub first_entry : (x : Row) → dot (pos 1 ∷ []) x ≡ entry x 0
 first_entry [] = refl
 first_entry (a ∷ x) = simp ring (omega (arith, ints))
 
-first_generated : (P : List Row) → ((p : Row) → Among p P → pos 0 <ℤ entry p 0) → (x : Row) → InCone P [] x → pos 0 ≤ℤ entry x 0
+pub first_generated : (P : List Row) → ((p : Row) → Among p P → pos 0 <ℤ entry p 0) → (x : Row) → InCone P [] x → pos 0 ≤ℤ entry x 0
 first_generated P first x h =
     subst (λ z. pos 0 ≤ℤ z) (first_entry x)
     (dot_in (pos 1 ∷ []) P [] (λ g i. subst (λ z. pos 0 ≤ℤ z) (sym (first_entry g)) (let up = first g i in omega (arith, ints))) (λ l i. elim i [ ]) h)

@@ -95,7 +95,7 @@ spread_length l (c ∷ b) h = let e = length-append (nothing l) b in let f = len
 module _ (t s u : Thing) (A E B F : List Row) (n m : ℕ) (tn : t.cols ≡ n) (sm : s.cols ≡ m) (some_n : 1 ≤ n) (some_m : 1 ≤ m)
     (ha : HasCols t.cols A) (he : HasCols t.cols E) (hb : HasCols s.cols B) (hf : HasCols s.cols F)
     (first : (x : Row) → length x ≡ t.cols → InSet t x ↔ Solves A E x) (second : (x : Row) → length x ≡ s.cols → InSet s x ↔ Solves B F x) where
-  cols_of : (X Y : List Row) → HasCols t.cols X → HasCols s.cols Y → HasCols (n + m - 1) (both_whole (m - 1) (n - 1) X Y)
+  pub cols_of : (X Y : List Row) → HasCols t.cols X → HasCols s.cols Y → HasCols (n + m - 1) (both_whole (m - 1) (n - 1) X Y)
   cols_of X Y hx hy = all_from (λ x. length x ≡ n + m - 1) (both_whole (m - 1) (n - 1) X Y)
       (each_both (m - 1) (n - 1) (λ x. length x ≡ n + m - 1) X Y
       (λ a i. let e = length-append a (nothing (m - 1)) in let f = length-replicate (m - 1) (pos 0) in let g = all_at (λ (y : Row). length y ≡ t.cols) i hx in omega arith)
@@ -139,10 +139,10 @@ module _ (t s u : Thing) (A E B F : List Row) (n m : ℕ) (tn : t.cols ≡ n) (s
           (λ b i. sym (sees_right b) ∙ among_All (λ e. dot e z ≡ pos 0) (second_both (m - 1) (n - 1) E F i) r.equations),
     )
 
-    to_product : Solves (both_whole (m - 1) (n - 1) A B) (both_whole (m - 1) (n - 1) E F) z → InProduct t s z
+    pub to_product : Solves (both_whole (m - 1) (n - 1) A B) (both_whole (m - 1) (n - 1) E F) z → InProduct t s z
     to_product r = let w = from_solved r in record { first = (first left left_cols).1 w.0; second = (second right right_cols).1 w.1 }
 
-    from_product : InProduct t s z → Solves (both_whole (m - 1) (n - 1) A B) (both_whole (m - 1) (n - 1) E F) z
+    pub from_product : InProduct t s z → Solves (both_whole (m - 1) (n - 1) A B) (both_whole (m - 1) (n - 1) E F) z
     from_product w = to_solved ((first left left_cols).0 w.first) ((second right right_cols).0 w.second)
 
 pub product_described : ProductIsDescribed

@@ -106,17 +106,17 @@ line_is S K f l i = let (k, j, is) = map_among (padded_whole 1) K i in subst S (
 point_is : (S : Row → Type 0) (n : ℕ) (P : List Row) → ((p : Row) → Among p P → S (padded_whole 1 p)) → S (apex_row n) → (g : Row) → Among g (points_above n P) → S g
 point_is S n P f h g i = elim (among_append (map (padded_whole 1) P) (apex_row n ∷ []) i) [ inl j ↦ line_is S P f g j | inr j ↦ only_is S (apex_row n) h g j ]
 
-apex_among : (n : ℕ) (P : List Row) → Among (apex_row n) (points_above n P)
+pub apex_among : (n : ℕ) (P : List Row) → Among (apex_row n) (points_above n P)
 apex_among n P = among_append_right (map (padded_whole 1) P) here
 
 -- a row is the sum of a row of the cone, with 0 behind it, and a multiple of the apex
-record HasParts (n : ℕ) (G L : List Row) (z : Row) : Type 0 where
-  x : Row
-  k : ℤ
-  cols : length x ≡ n
-  inside : InCone G L x
-  not_negative : pos 0 ≤ℤ k
-  sum : Same z (plus (x ++ pos 0 ∷ []) (times k (apex_row n)))
+pub record HasParts (n : ℕ) (G L : List Row) (z : Row) : Type 0 where
+  pub x : Row
+  pub k : ℤ
+  pub cols : length x ≡ n
+  pub inside : InCone G L x
+  pub not_negative : pos 0 ≤ℤ k
+  pub sum : Same z (plus (x ++ pos 0 ∷ []) (times k (apex_row n)))
 
 module _ (d : ℕ) (G L P K : List Row) (hg : HasCols (suc d) G) (hl : HasCols (suc d) L) (hp : HasCols (suc d) P) (hk : HasCols (suc d) K) (same : (x : Row) → length x ≡ suc d → InCone G L x ↔ InCone P K x) where
   point_cols : (p : Row) → Among p P → length p ≡ suc d
@@ -211,13 +211,13 @@ module _ (d : ℕ) (G L P K : List Row) (hg : HasCols (suc d) G) (hl : HasCols (
       subst (λ w. HasParts (suc d) G L (c ∷ w)) (sym is) (parts_of c (take d z) (entry z d) (length-take-le d z (omega arith)) (subst (λ w. InCone (points_above (suc d) P) (lines_above K) (c ∷ w)) is h))
 
 -- the rows of a pyramid generate the sums
-record IsAbove (n : ℕ) (G L P K : List Row) : Type 0 where
-  points_cols : HasCols (suc n) (points_above n P)
-  lines_cols : HasCols (suc n) (lines_above K)
-  generated : (z : Row) → HasParts n G L z → InCone (points_above n P) (lines_above K) z
-  generating : (z : Row) → length z ≡ suc n → InCone (points_above n P) (lines_above K) z → HasParts n G L z
+pub record IsAbove (n : ℕ) (G L P K : List Row) : Type 0 where
+  pub points_cols : HasCols (suc n) (points_above n P)
+  pub lines_cols : HasCols (suc n) (lines_above K)
+  pub generated : (z : Row) → HasParts n G L z → InCone (points_above n P) (lines_above K) z
+  pub generating : (z : Row) → length z ≡ suc n → InCone (points_above n P) (lines_above K) z → HasParts n G L z
 
-above : (n : ℕ) (G L P K : List Row) → 1 ≤ n → HasCols n G → HasCols n L → HasCols n P → HasCols n K → ((x : Row) → length x ≡ n → InCone G L x ↔ InCone P K x) → IsAbove n G L P K
+pub above : (n : ℕ) (G L P K : List Row) → 1 ≤ n → HasCols n G → HasCols n L → HasCols n P → HasCols n K → ((x : Row) → length x ≡ n → InCone G L x ↔ InCone P K x) → IsAbove n G L P K
 above zero G L P K some hg hl hp hk same = absurd (omega arith)
 above (suc d) G L P K some hg hl hp hk same = record {
   points_cols = points_above_cols d G L P K hg hl hp hk same;

@@ -33,10 +33,10 @@ headed_stand (v ∷ V) = (stands_ratios (headed v), headed_stand V)
 headed_among : (V : List Row) (P : Row → Type 0) → ((v : Row) → Among v V → P (headed v)) → (x : Row) → Among x (map headed V) → P x
 headed_among V P f x i = let (v, j, is) = map_among headed V i in subst P (sym is) (f v j)
 
-headed_cols : (n d : ℕ) (V : List Row) → n ≡ suc d → ((v : Row) → Among v V → length v ≡ d) → HasCols n (map headed V)
+pub headed_cols : (n d : ℕ) (V : List Row) → n ≡ suc d → ((v : Row) → Among v V → length v ≡ d) → HasCols n (map headed V)
 headed_cols n d V e f = all_from (λ x. length x ≡ n) (map headed V) (headed_among V (λ x. length x ≡ n) (λ v i. ap suc (f v i) ∙ sym e))
 
-headed_first : (V : List Row) (x : Row) → Among x (map headed V) → pos 0 <ℤ entry x 0
+pub headed_first : (V : List Row) (x : Row) → Among x (map headed V) → pos 0 <ℤ entry x 0
 headed_first V = headed_among V (λ x. pos 0 <ℤ entry x 0) (λ v i. omega (arith, ints))
 
 no_rows : (V : List Row) → headed_rows V ≡ [] → length V ≡ 0
@@ -95,7 +95,7 @@ dot_headed : (s : ℤ) (i d : ℕ) (x : Row) → i < d → length x ≡ suc d �
 dot_headed s i d [] h l = absurd (omega arith)
 dot_headed s i d (a ∷ y) h l = let e = dot_unit s i d y h in simp ring (omega (arith, ints))
 
-cube_to : (d : ℕ) (x : Row) → length x ≡ suc d → InCube d x → (a : Row) → Among a (map headed (opposite_units d d)) → pos 0 ≤ℤ dot a x
+pub cube_to : (d : ℕ) (x : Row) → length x ≡ suc d → InCube d x → (a : Row) → Among a (map headed (opposite_units d d)) → pos 0 ≤ℤ dot a x
 cube_to d x lx c = headed_among (opposite_units d d) (λ a. pos 0 ≤ℤ dot a x) each
   where
     value : (s : ℤ) (i : ℕ) → i < d → (s ≡ pos 1) ⊎ (s ≡ negsuc 0) → pos 0 ≤ℤ dot (headed (unit s i d)) x
@@ -105,7 +105,7 @@ cube_to d x lx c = headed_among (opposite_units d d) (λ a. pos 0 ≤ℤ dot a x
     each : (v : Row) → Among v (opposite_units d d) → pos 0 ≤ℤ dot (headed v) x
     each v j = let w = is_unit d d v j in subst (λ z. pos 0 ≤ℤ dot (headed z) x) (sym w.is) (value w.s w.i w.within w.sign)
 
-cube_from : (d : ℕ) (x : Row) → length x ≡ suc d → ((a : Row) → Among a (map headed (opposite_units d d)) → pos 0 ≤ℤ dot a x) → InCube d x
+pub cube_from : (d : ℕ) (x : Row) → length x ≡ suc d → ((a : Row) → Among a (map headed (opposite_units d d)) → pos 0 ≤ℤ dot a x) → InCube d x
 cube_from d x lx f = record {
   within = λ i l.
       let (a, b) = among_units d d i l in

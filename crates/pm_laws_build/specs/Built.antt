@@ -6,6 +6,7 @@ use Rattle.pm_object_type.specs.declared.object_type.ObjectType.TheVariants.{Pol
 use Rattle.pm_types.specs.Right.{InSet}
 use Rattle.pm_types.specs.Things.{Thing}
 use Rattle.pm_build.specs.Rows.{apex_row, curve_points, headed, opposite_units, simplex_corners}
+use Rattle.pm_laws_normal_fans.specs.Sums.{InMinkowskiSum}
 use lib.IntN.{ℤ, pos, neg_ℤ}
 use lib.Signed.{◌<ℤ◌, ◌≤ℤ◌}
 
@@ -74,3 +75,7 @@ pub record IsPyramid (t u : Thing) : Type 0 where
   pub of : u.of ≡ Polytope
   pub cols : u.cols ≡ suc t.cols
   pub cone : (z : Row) → length z ≡ suc t.cols → InSet u z ↔ InPyramid t z
+
+-- the Minkowski sum of t and s: all sums of a point of t and a point of s
+abbrev pub IsSum : Thing → Thing → Thing → Type 0
+IsSum t s u = HasPoints u t.cols (InMinkowskiSum t.cols (InSet t) (InSet s))

@@ -3,7 +3,9 @@ use Rattle.std.specs.Prelude.{ℕ, List, [], ◌∷◌}
 use Rattle.pm_algebra.specs.Rows.{Row}
 use Rattle.pm_object_type.specs.declared.object_type.ObjectType.TheVariants.{Polytope}
 use Rattle.pm_types.specs.Things.{Thing}
-use Rattle.pm_laws_build.specs.Built.{InCube, InHull, InPolar, InProduct, InPyramid, IsCross, IsCube, IsCyclic, IsPolar, IsProduct, IsPyramid, IsSimplex}
+use Rattle.pm_laws_build.specs.Built.{InCube, InHull, InPolar, InProduct, InPyramid, IsCross, IsCube, IsCyclic, IsPolar, IsProduct, IsPyramid, IsSimplex, IsSum}
+use Rattle.pm_laws_normal_fans.specs.Examples.{first_edge, second_edge, unit_square}
+use Rattle.pm_laws_normal_fans.specs.Sums.{Cone}
 use lib.IntN.{pos, negsuc}
 
 -- the polytope of these rows of n entries
@@ -77,3 +79,15 @@ pub record OthersAreRead : Type 0 where
   pub under : ¬ (InPyramid unit_segment (pos 1 ∷ pos 0 ∷ negsuc 0 ∷ []))
   pub pyramid : IsPyramid unit_segment triangle
   pub no_pyramid : ¬ (IsPyramid far_segment triangle)
+
+-- the polytope that a cone of n columns stands for
+abbrev pub of_cone : ℕ → Cone → Thing
+of_cone n P = record { of = Polytope; cols = n; generators = P.generators; lines = P.lines; cones = []; objective = λ s. [] }
+
+-- sums of edges and of points
+pub record MinkowskiSumsAreRead : Type 0 where
+  -- the square is the sum of two of its edges
+  pub square : IsSum (of_cone 3 first_edge) (of_cone 3 second_edge) (of_cone 3 unit_square)
+  -- 5 + 5 is not 5, and lies on the line
+  pub no_point : ¬ (IsSum five five five)
+  pub no_column_more : ¬ (IsSum five five high_segment)

@@ -11,10 +11,11 @@ use Rattle.pm_props.specs.declared.property.PropId.{PropId}
 use Rattle.pm_types.specs.Right.{Right, RightAll}
 use Rattle.pm_types.specs.Things.{AreOrders, IsThing, Thing}
 use Rattle.pm_types.specs.Values.{Fact, PropertyValue}
-use Rattle.pm_laws_build.specs.Built.{IsCross, IsCube, IsCyclic, IsPolar, IsProduct, IsPyramid, IsSimplex}
-use Rattle.pm_build.specs.Conditions.{polar_reads, polar_refusal, product_reads, pyramid_reads}
+use Rattle.pm_laws_build.specs.Built.{IsCross, IsCube, IsCyclic, IsPolar, IsProduct, IsPyramid, IsSimplex, IsSum}
+use Rattle.pm_build.specs.Conditions.{polar_reads, polar_refusal, product_reads, pyramid_reads, sum_reads, sum_refusal}
 use Rattle.pm_object.specs.Known.{IsKnown, cols_at}
 use Rattle.pm_build.specs.Objects.{cross_of, cube_of, cyclic_of, polar_of, product_of, pyramid_of, simplex_of}
+use Rattle.pm_build.specs.Sums.{IsSumFile}
 
 -- the object that is given these values
 abbrev pub opened : SavedFile → State
@@ -65,3 +66,7 @@ ProductIsDescribed = (a b : State) (t : Thing) (o : Orders) (s : Thing) (p : Ord
 -- those of a polar of such a polytope, where no condition fails
 abbrev pub PolarIsDescribed : Type 0
 PolarIsDescribed = (a : State) (t : Thing) (o : Orders) (u : Thing) → ReadRight polar_reads a t o → polar_refusal a ≡ None → IsPolar t u → Describes (polar_of a) u
+
+-- those of a sum of two such polytopes, bounded or not, where no condition fails
+abbrev pub SumIsDescribed : Type 0
+SumIsDescribed = (a b : State) (t : Thing) (o : Orders) (s : Thing) (p : Orders) (u : Thing) (f : SavedFile) → ReadRight sum_reads a t o → ReadRight sum_reads b s p → sum_refusal a b ≡ None → IsSumFile a b f → IsSum t s u → Describes f u

@@ -1,3 +1,5 @@
 pub mod Built
 pub mod Laws
+pub mod Existence
 pub mod Examples
+pub mod ExistenceExamples

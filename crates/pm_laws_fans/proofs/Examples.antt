@@ -12,17 +12,20 @@ use Rattle.pm_geom.specs.Examples.{square, triple}
 use Rattle.pm_geom.specs.ThingExamples.{right}
 use Rattle.pm_geom.specs.Things.{AreFanOrders, IsConeThing, IsFanThing, Orders}
 use Rattle.pm_laws_fans.proofs.Described.{pointed_described}
-use Rattle.pm_laws_fans.specs.Examples.{FansAreRead, fan_thing, polytope, zero_objective}
+use Rattle.pm_laws_fans.specs.Examples.{FansAreRead, RefinementsOfFansAreRead, fan_thing, polytope, zero_objective}
 use Rattle.pm_laws_fans.specs.Laws.{DescribesFan, IsNormalFanOf}
 use Rattle.pm_laws_normal_fans.proofs.ExampleFaceFans.{face_fans_are_read}
 use Rattle.pm_laws_normal_fans.proofs.ExampleNormalFans.{normal_fans_are_read}
-use Rattle.pm_laws_normal_fans.proofs.ExampleVertices.{vertices_are_read}
+use Rattle.pm_laws_normal_fans.proofs.ExampleRefinements.{refinements_are_read}
+use Rattle.pm_laws_normal_fans.proofs.ExampleVertices.{square_polytope, vertices_are_read}
 use Rattle.pm_laws_normal_fans.proofs.Places.{no_pairs}
 use Rattle.pm_props.specs.declared.property.PropId.TheVariants.{ConeAmbientDim, LinealitySpace}
 use Rattle.pm_types.specs.Right.{AreConeRays, InLines, RowsAreBasis, StandFor}
 use Rattle.pm_types.specs.Things.{AreObjectives, IsThing, Thing}
 use Rattle.pm_types.specs.Values.{Fact, matrix, whole}
-use Rattle.std.proofs.Common.{arith, refl, subst, sym}
+use Rattle.pm_object_type.specs.declared.object_type.ObjectType.TheVariants.{Cone, Fan, Polytope}
+use Rattle.pm_object_type.specs.declared.object_type.ObjectType.{ObjectType}
+use Rattle.std.proofs.Common.{Bool, ap, arith, false, refl, subst, sym, true, true≢false}
 use Rattle.std.proofs.lemmas.Int.{ints}
 use Rattle.std.specs.List.{Any, Contains}
 use Rattle.std.specs.Prelude.{List, None, [], length, suc, zero, ℕ, ◌<◌, ◌∷◌, ◌≡◌}
@@ -141,4 +144,24 @@ fans_are_read = record {
   apex = apex_described;
   line = not_line;
   plane = not_plane;
+}
+
+-- ---- common refinements
+abbrev is_fan : ObjectType → Bool
+is_fan Fan = true
+is_fan t = false
+
+abbrev is_polytope : ObjectType → Bool
+is_polytope Polytope = true
+is_polytope t = false
+
+pub refinements_of_fans_are_read : RefinementsOfFansAreRead
+refinements_of_fans_are_read = record {
+  refined = record { of = refl; cols = refl; second_cols = refl; cones = refinements_are_read.of_itself };
+  one_ray = λ h. refinements_are_read.left_out h.cones;
+  refined_cone = λ h. let e : false ≡ true = ap is_fan h.of in true≢false (sym e);
+  refined_columns = λ h. let e : 2 ≡ 1 = h.cols in omega arith;
+  other_columns = λ h. let e : 2 ≡ 1 = h.second_cols in omega arith;
+  bounded = record { of = refl; bounded = square_polytope };
+  no_polytope = λ h. let e : false ≡ true = ap is_polytope h.of in true≢false (sym e);
 }

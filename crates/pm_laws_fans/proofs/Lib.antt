@@ -5,3 +5,6 @@ pub mod FanRows
 pub mod NormalRows
 pub mod FaceRows
 pub mod Examples
+pub mod ReadFans
+pub mod RefinedRows
+pub mod SumFans

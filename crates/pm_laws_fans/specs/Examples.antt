@@ -6,8 +6,8 @@ use Rattle.pm_algebra.specs.Rows.{Row}
 use Rattle.pm_fan.specs.Examples.{fitting, point_values, square_values}
 use Rattle.pm_fan.specs.Fans.{face_fan_of, normal_fan_of}
 use Rattle.pm_geom.specs.Examples.{square}
-use Rattle.pm_geom.specs.ThingExamples.{right}
-use Rattle.pm_laws_fans.specs.Laws.{DescribesFan, IsFaceFanOf, IsNormalFanOf}
+use Rattle.pm_geom.specs.ThingExamples.{right, two_rays}
+use Rattle.pm_laws_fans.specs.Laws.{DescribesFan, IsBounded, IsFaceFanOf, IsNormalFanOf, IsRefinementOfFans}
 use Rattle.pm_laws_normal_fans.specs.Examples.{even_corners, over_edges, quadrants}
 use Rattle.pm_object_type.specs.declared.object_type.ObjectType.TheVariants.{Cone, Fan, Polytope}
 use Rattle.pm_types.specs.Things.{Thing}
@@ -42,3 +42,19 @@ pub record FansAreRead : Type 0 where
   pub apex : DescribesFan (face_fan_of (fitting point_values)) (fan_thing 1 ([] ∷ []) [])
   pub line : ¬ (DescribesFan (face_fan_of (fitting point_values)) (fan_thing 1 ([] ∷ []) (right ∷ [])))
   pub plane : ¬ (DescribesFan (normal_fan_of (fitting square_values)) (fan_thing 1 ([] ∷ []) []))
+
+-- the fan of the two rays of the line
+abbrev pub rays_of_line : Thing
+rays_of_line = fan_thing 1 two_rays []
+
+-- which fans are common refinements of which, and which polytopes are bounded
+pub record RefinementsOfFansAreRead : Type 0 where
+  -- the two rays are their own refinement; one of them is not, nor is a fan of another type or of more columns
+  pub refined : IsRefinementOfFans rays_of_line rays_of_line rays_of_line
+  pub one_ray : ¬ (IsRefinementOfFans rays_of_line rays_of_line (fan_thing 1 ((right ∷ []) ∷ []) []))
+  pub refined_cone : ¬ (IsRefinementOfFans rays_of_line rays_of_line (record rays_of_line { of = Cone }))
+  pub refined_columns : ¬ (IsRefinementOfFans rays_of_line rays_of_line (fan_thing 2 two_rays []))
+  pub other_columns : ¬ (IsRefinementOfFans rays_of_line (fan_thing 2 two_rays []) rays_of_line)
+  -- the square is bounded; a fan is no polytope
+  pub bounded : IsBounded (polytope 3 square)
+  pub no_polytope : ¬ (IsBounded rays_of_line)

@@ -1,5 +1,5 @@
 -- From the parts to the call on two fans.
-use Rattle.pm_algebra.proofs.Lists.{All_among, among_All, among_Any, among_Contains}
+use Rattle.pm_algebra.proofs.Lists.{All_among, all_at, all_from, among_All, among_Any, among_Contains}
 use Rattle.pm_algebra.specs.Rows.{HasCols, Row}
 use Rattle.pm_geom.specs.Cones.{IsExtreme}
 use Rattle.pm_geom.specs.Generators.{AreGenerators, IsBefore, IsCanonicalRay, VanishAt}
@@ -15,7 +15,7 @@ use Rattle.pm_refine.proofs.Found.{is_intersection, placed}
 use Rattle.pm_refine.specs.CutRows.{AreFacetsOf, CutRows, IsRowOf, IsSmallFan, cuts_at, fan_from}
 use Rattle.pm_refine.specs.Fails.{IsConeFail, IsFacetRowOf, IsRefineFail, IsStepFail, IsWideCut, IsWideRay, turned}
 use Rattle.pm_refine.specs.Refined.{AreRaySets, AreRefined}
-use Rattle.pm_refine.specs.Steps.{AreKeptBefore, IsPlaced}
+use Rattle.pm_refine.specs.Steps.{AreKeptBefore, IsCutOutBy, IsPlaced}
 use Rattle.pm_refine.specs.declared.fails.RefineFail.{RefineFail}
 use Rattle.pm_refine.specs.declared.fails.RefineFail.TheVariants.{Memory, NotMade}
 use Rattle.std.proofs.Common.{arith, inl, inr, refl, subst, sym}
@@ -123,6 +123,21 @@ module _ {A : Type 0} (items : A → List Row) (n : ℕ) (first second : List A)
 -- what is kept has rays of n entries
 pub kept_cols : (n : ℕ) (C D : List CutRows) (i j : ℕ) (K : List Row) (kept : List Intersection) → AreKeptBefore n C D i j K kept → All (λ a. HasCols n a.rays) kept
 kept_cols n C D i j K kept k = All_among (λ a. HasCols n a.rays) kept (λ a ia. (among_All (IsPlaced n C D) ia (placed n C D i j K kept k)).cols)
+
+-- so do all rays, and the lines
+pub rays_cols : (n : ℕ) (kept : List Intersection) (R : List Row) → All (λ a. HasCols n a.rays) kept → AreAllRays kept R → HasCols n R
+rays_cols n kept R h all = all_from (λ x. length x ≡ n) R (λ r i.
+    let (a, ia, c) = among_Any (λ a. Contains a.rays r) kept (among_All (λ r. Any (λ a. Contains a.rays r) kept) i all.each) in
+    all_at (λ (x : Row). length x ≡ n) (among_Contains a.rays c) (among_All (λ a. HasCols n a.rays) ia h))
+
+pub lines_cols : (n : ℕ) (C D : List CutRows) (i j : ℕ) (K : List Row) (kept : List Intersection) → AreKeptBefore n C D i j K kept → HasCols n K
+lines_cols n C D i j K kept k = elim k.lines [
+  | inl none ↦ rw none.1 tt
+  | inr w ↦ (let (a, ia, c) = among_Any (IsCutOutBy n C D K) k.listed w in c.generators.basis.echelon.basis.cols)
+]
+
+pub no_cols : (n : ℕ) (R K : List Row) → R ≡ [] → K ≡ [] → HasCols n R × HasCols n K
+no_cols n R K e f = rw (e, f) (tt, tt)
 
 -- the rays of what is kept are orders of its fan
 pub orders_of : (n : ℕ) (f g : Fan) (K : List Row) (kept : List Intersection) (R : List Row) → AreRefined n f g K kept → AreAllRays kept R → IsFan n f → IsFan n g → HasRefinedRays n f g K kept R

@@ -9,3 +9,6 @@ pub mod Outcomes
 pub mod RaysMade
 pub mod Taken
 pub mod Tests
+pub mod ObjectFans
+pub mod ObjectRefinements
+pub mod ObjectExamples

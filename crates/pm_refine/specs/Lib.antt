@@ -4,3 +4,6 @@ pub mod Fails
 pub mod RaySets
 pub mod Refined
 pub mod Steps
+pub mod ObjectFans
+pub mod ObjectRefinements
+pub mod ObjectExamples

@@ -3,16 +3,22 @@
 #![tactic(auto)]
 
 ghost use Rattle.pm_refine.specs.Examples.{FailsAreRead, RefinedAreRead, StepsAreRead};
+ghost use Rattle.pm_refine.specs.ObjectExamples.{ObjectsAreRead};
 
 mod cones;
 mod fails;
 mod keep;
+mod object_fails;
+mod object_fans;
+mod objects;
 mod pairs;
 mod products;
 mod rays;
 mod refinement;
 
 pub use fails::RefineFail;
+pub use object_fails::RefinementFail;
+pub use objects::refine;
 pub use refinement::{Intersection, Refinement, common_refinement};
 
 /// Half-planes on the two sides of two lines in the plane, and which of their intersections are kept.
@@ -28,4 +34,9 @@ pub fn example_refined()
 /// What refusals show, and what they do not.
 pub fn example_fails()
     ensures { FailsAreRead }
+{}
+
+/// The fan {0} of the line as an object: what it is, which conditions fail, and what its refinement is not.
+pub fn example_objects()
+    ensures { ObjectsAreRead }
 {}

@@ -1,5 +1,6 @@
 // The common refinement.
 
+ghost use Rattle.pm_algebra.specs.Rows.{HasCols};
 ghost use Rattle.pm_laws_normal_fans.specs.Fans.{IsFan};
 ghost use Rattle.pm_laws_normal_fans.specs.Refinements.{AreAllRays, HasRefinedRays};
 ghost use Rattle.pm_refine.specs.CutRows.{AreFacetsOf, AreSmall, IsSmallFan, cut_rows, fan_from, intersection_of};
@@ -79,6 +80,7 @@ pub fn common_refinement(
     ensures refined { IfOk result (λ r. IsFan cols (fan_from (map (λ c. c.items) first.now) first_lines.now) → IsFan cols (fan_from (map (λ c. c.items) second.now) second_lines.now) → AreRefined cols (fan_from (map (λ c. c.items) first.now) first_lines.now) (fan_from (map (λ c. c.items) second.now) second_lines.now) r.lineality.items (map intersection_of r.cones.items)) }
     ensures rays { IfOk result (λ r. AreAllRays (map intersection_of r.cones.items) r.rays.items) }
     ensures orders { IfOk result (λ r. IsFan cols (fan_from (map (λ c. c.items) first.now) first_lines.now) → IsFan cols (fan_from (map (λ c. c.items) second.now) second_lines.now) → HasRefinedRays cols (fan_from (map (λ c. c.items) first.now) first_lines.now) (fan_from (map (λ c. c.items) second.now) second_lines.now) r.lineality.items (map intersection_of r.cones.items) r.rays.items) }
+    ensures cols { IfOk result (λ r. HasCols cols r.rays.items × HasCols cols r.lineality.items) }
     ensures sets { IfOk result (λ r. AreRaySets r.rays.items (map intersection_of r.cones.items) (map (λ s. s.items) r.sets.items)) }
     ensures failed { IfErr result (IsRefineFail cols (fan_from (map (λ c. c.items) first.now) first_lines.now) (fan_from (map (λ c. c.items) second.now) second_lines.now)) }
 {

@@ -1,4 +1,4 @@
-//! Tests of what no reply of the program shows: cells of sites, a placing triangulation, the checker of tables, wide numbers, sources and stores in memory, and
+//! Tests of what no reply of the program shows: cells of sites, a placing triangulation, sums and refinements, the checker of tables, wide numbers, sources and stores in memory, and
 //! the texts of errors.
 #![tactic(auto)]
 
@@ -14,3 +14,5 @@ mod placing;
 mod plans;
 #[cfg(test)]
 mod rows;
+#[cfg(test)]
+mod sums;

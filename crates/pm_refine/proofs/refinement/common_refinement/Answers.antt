@@ -1,6 +1,6 @@
 use Rattle.pm_laws_normal_fans.proofs.Places.{map_length}
 use Rattle.pm_laws_normal_fans.specs.Refinements.{AreAllRays}
-use Rattle.pm_refine.proofs.Answered.{first_refused, kept_cols, orders_empty, orders_of, refined_empty, second_refused, step_fail}
+use Rattle.pm_refine.proofs.Answered.{first_refused, kept_cols, lines_cols, no_cols, orders_empty, orders_of, rays_cols, refined_empty, second_refused, step_fail}
 use Rattle.pm_refine.proofs.Found.{refined}
 use Rattle.pm_refine.proofs.RaysMade.{ray_sets_found}
 use Rattle.pm_refine.proofs.refinement.common_refinement.Goals as goal
@@ -60,3 +60,16 @@ returns-clause-orders c =
     let whole : AreAllRays (map intersection_of c.in_ok-kept.kept.cones.items) c.in_ok-rays.rays.items = rw c.deref-3.ensures.value at all in
     λ ff fg. orders_of c.args.cols _ _ c.in_ok-kept.kept.lineality.items (map intersection_of c.in_ok-kept.kept.cones.items) c.in_ok-rays.rays.items
     (refined c.args.cols _ _ (map cut_rows c.in_ok-firsts.firsts.items) (map cut_rows c.in_ok-seconds.seconds.items) c.requires.first c.requires.second c.in_ok-firsts.ensures.facets c.in_ok-seconds.ensures.facets (length c.in_ok-firsts.firsts.items) c.in_ok-kept.kept.lineality.items (map intersection_of c.in_ok-kept.kept.cones.items) (sym (map_length cut_rows c.in_ok-firsts.firsts.items)) (rw (c.deref.ensures.value, c.deref-2.ensures.value) at c.in_ok-kept.ensures.kept) ff fg) whole ff fg
+
+pub returns-then-is_empty-clause-cols : goal.returns-then-is_empty-clause-cols
+returns-then-is_empty-clause-cols c = no_cols c.args.cols c.new-then-is_empty-2.result.items c.new-then-is_empty.result.items c.new-then-is_empty-2.ensures.items c.new-then-is_empty.ensures.items
+
+pub returns-clause-cols : goal.returns-clause-cols
+returns-clause-cols c =
+    let before = rw (c.deref.ensures.value, c.deref-2.ensures.value) at c.in_ok-kept.ensures.kept in
+    let cols = kept_cols c.args.cols (map cut_rows c.in_ok-firsts.firsts.items) (map cut_rows c.in_ok-seconds.seconds.items) (length c.in_ok-firsts.firsts.items) 0 c.in_ok-kept.kept.lineality.items (map intersection_of c.in_ok-kept.kept.cones.items) before in
+    let all : AreAllRays (map intersection_of c.deref-3.result.now) c.in_ok-rays.rays.items = c.in_ok-rays.ensures c.args.cols (rw c.deref-3.ensures.value cols) in
+    let whole : AreAllRays (map intersection_of c.in_ok-kept.kept.cones.items) c.in_ok-rays.rays.items = rw c.deref-3.ensures.value at all in (
+      rays_cols c.args.cols (map intersection_of c.in_ok-kept.kept.cones.items) c.in_ok-rays.rays.items cols whole,
+      lines_cols c.args.cols (map cut_rows c.in_ok-firsts.firsts.items) (map cut_rows c.in_ok-seconds.seconds.items) (length c.in_ok-firsts.firsts.items) 0 c.in_ok-kept.kept.lineality.items (map intersection_of c.in_ok-kept.kept.cones.items) before,
+    )

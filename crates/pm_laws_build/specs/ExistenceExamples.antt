@@ -1,0 +1,21 @@
+-- Which built things there are, and which there are not: a thing has at most 33 columns.
+use Rattle.std.specs.Prelude.{ℕ, ◌+◌, ◌≤◌}
+use Rattle.pm_laws_build.specs.Built.{IsCross, IsCube, IsCyclic, IsProduct, IsPyramid, IsSimplex}
+use Rattle.pm_laws_build.specs.Examples.{even_segment}
+use Rattle.pm_laws_build.specs.Existence.{IsSomePolytope, SomeThing}
+use Rattle.pm_object_type.specs.declared.object_type.ObjectType.TheVariants.{Cone}
+use Rattle.pm_types.specs.Things.{Thing}
+
+pub record ExistenceIsRead : Type 0 where
+  -- in 32 dimensions, and in none more
+  pub largest : SomeThing (IsCube 32)
+  pub no_cube : (d : ℕ) → 33 ≤ d → ¬ (SomeThing (IsCube d))
+  pub no_simplex : (d : ℕ) → 33 ≤ d → ¬ (SomeThing (IsSimplex d))
+  pub no_cross : (d : ℕ) → 33 ≤ d → ¬ (SomeThing (IsCross d))
+  pub no_cyclic : (d n : ℕ) → 33 ≤ d → ¬ (SomeThing (IsCyclic d n))
+  -- the cyclic polytope of no points is empty
+  pub no_points : SomeThing (IsCyclic 2 0)
+  pub no_product : (t s : Thing) → 35 ≤ t.cols + s.cols → ¬ (SomeThing (IsProduct t s))
+  pub no_pyramid : (t : Thing) → 33 ≤ t.cols → ¬ (SomeThing (IsPyramid t))
+  -- a cone is no polytope
+  pub not_cone : ¬ (IsSomePolytope (record even_segment { of = Cone }))

@@ -1,0 +1,21 @@
+use Rattle.pm_object.proofs.KnownValues.{held_forms, sets_is}
+use Rattle.pm_object.specs.Known.{value_of_sets}
+use Rattle.pm_props.specs.declared.property.PropId.TheVariants.{MaximalCones}
+use Rattle.pm_refine.proofs.ObjectFans.{no_cones_read}
+use Rattle.pm_refine.proofs.object_fans.cones_at.Goals as goal
+use Rattle.pm_types.specs.Views.{view_of}
+use Rattle.std.proofs.Common.{Some, ap, sym, ◌∙◌}
+
+pub unreachable-requires-in_default-as_sets : goal.unreachable-requires-in_default-as_sets
+unreachable-requires-in_default-as_sets c = no_cones_read c.args.o.now.state (view_of c.in-Some.value.now) c.lookup.ensures.formed c.requires.known c.in-Some.ensures.value c.in_default-as_sets.ensures
+
+pub returns-clause-value : goal.returns-clause-value
+returns-clause-value c =
+    let is = sets_is (view_of c.in-Some.value.now) c.in-Some-as_sets.sets.now c.in-Some-as_sets.ensures in
+    sym c.in-Some.ensures.value ∙ ap Some is
+
+pub returns-clause-forms : goal.returns-clause-forms
+returns-clause-forms c =
+    let s = c.in-Some-as_sets.sets.now in
+    let is = sets_is (view_of c.in-Some.value.now) s c.in-Some-as_sets.ensures in
+    held_forms c.args.o.now.state MaximalCones (value_of_sets s) c.lookup.ensures.formed c.requires.known (sym c.in-Some.ensures.value ∙ ap Some is)

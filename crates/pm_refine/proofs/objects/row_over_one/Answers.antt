@@ -1,0 +1,25 @@
+use Rattle.pm_algebra.specs.Rows.{entry}
+use Rattle.pm_refine.proofs.objects.row_over_one.Goals as goal
+use Rattle.pm_types.specs.Views.{over_one}
+use Rattle.pm_vector.proofs.Kept.{kept}
+use Rattle.std.proofs.Common.{pos, refl, sym}
+use Rattle.std.proofs.lemmas.List.{map_more, take_all}
+
+pub unreachable-requires : goal.unreachable-requires
+unreachable-requires c =
+    let entries = c.as_slice-entries.result.now in
+    let in_range = rw (← c.as_slice-entries.ensures.value) at c.as_slice-entries.ensures.in_range in
+    let small = in_range c.loop-x.x-index (pos 0) c.loop-x-test.true in
+    c.in_default.ensures.wide.1 (rw (kept (entry entries c.loop-x.x-index) small) small)
+
+pub loop-x-preserved : goal.loop-x-preserved
+loop-x-preserved c =
+    let entries = c.as_slice-entries.result.now in
+    let in_range = rw (← c.as_slice-entries.ensures.value) at c.as_slice-entries.ensures.in_range in
+    let small = in_range c.loop-x.x-index (pos 0) c.loop-x-test.true in
+    rw (c.in_ok-push.ensures.items, c.in-Ok.ensures.ok, kept (entry entries c.loop-x.x-index) small, c.loop-x.invariant)
+    (sym (map_more over_one entries c.loop-x.x-index (pos 0) c.loop-x-test.true))
+
+pub returns : goal.returns
+returns c =
+    rw (c.loop-x.invariant, take_all c.loop-x.x-index c.as_slice-entries.result.now c.loop-x-test.false, c.as_slice-entries.ensures.value) refl
