@@ -1,12 +1,21 @@
 -- Lines that make objects, or build one of others.
-use Rattle.std.proofs.Common.{refl, sym, ap, subst, ◌∙◌, ◌≡◌, ℕ, true, List, [], ◌∷◌, ◌++◌, Option, Some, None, option_map, codes, decimal, cond, ◌&&◌}
+use Rattle.std.proofs.Common.{refl, sym, ap, subst, ◌∙◌, ◌≡◌, ℕ, false, true, List, [], ◌∷◌, ◌++◌, Option, Some, None, option_map, codes, decimal, cond, ◌&&◌}
 use Rattle.std.proofs.lemmas.Bool.{and_parts, and_from}
-use Rattle.std.proofs.lemmas.Option.{none-some, cond_some, option_and_then_some}
+use Rattle.std.proofs.lemmas.Option.{none-some, cond_some, option_and_then_some, same_Some}
+use Rattle.std.specs.Prelude.{find, option_and_then}
 use Rattle.std.specs.Str.{IsUtf8, bytes_eq}
 use Rattle.pm_command.proofs.Numbers.{decimal_lacks_space, number_is, number_of-decimal}
-use Rattle.pm_command.proofs.Spaces.{behind, cond_either, name_is_some, name_of_two, option_map_some, regroup, regroup_take, rest_of_name, same_bytes, split_is_some, whole_line}
+use Rattle.pm_command.proofs.Spaces.{behind, cond_either, name_is_some, name_of_two, option_map_some, regroup, rest_of_name, same_bytes, split_is_some, whole_line}
 use Rattle.pm_command.proofs.Splits.{after_first-lacks, before_first-lacks}
-use Rattle.pm_command.specs.Commands.{ShapeSeen, Spoken, build_face_fan, build_line, build_normal_fan, build_polar, build_product, build_pyramid, cross_shape, cube_shape, cyclic_of, cyclic_shape, face_fan_line, make_line, make_object, normal_fan_line, of_names, polar_line, product_line, pyramid_line, shape_of, simplex_shape, two_names}
+use Rattle.pm_command.specs.Commands.{ShapeSeen, Spoken, build_line, build_object, built_line, cross_shape, cube_shape, cyclic_of, cyclic_shape, line_of, make_line, make_object, of_names, of_three_names, shape_of, simplex_shape, two_names}
+use Rattle.pm_command.specs.Builders.{builder_named, every_builder, word_of}
+use Rattle.pm_command.specs.Lines.{is_silent}
+use Rattle.pm_command.specs.declared.building.Binary.{Binary}
+use Rattle.pm_command.specs.declared.building.Binary.TheVariants.{Product}
+use Rattle.pm_command.specs.declared.building.Builder.{Builder}
+use Rattle.pm_command.specs.declared.building.Builder.TheVariants.{One, Two}
+use Rattle.pm_command.specs.declared.building.Unary.{Unary}
+use Rattle.pm_command.specs.declared.building.Unary.TheVariants.{FaceFan, NormalFan, Polar, Pyramid}
 use Rattle.pm_command.specs.Grammar.{Speaks, is_made_number, is_shape, shape_text}
 use Rattle.pm_command.specs.Words.{first_word, is_name, number_of, rest}
 
@@ -34,9 +43,36 @@ two_spoken name new n t = rw (name_of_two name new n, rest_of_name name new n, n
 pub names_spoken : (speak : List ℕ → List ℕ → Spoken) (name new : List ℕ) → is_name name ≡ true → is_name new ≡ true → of_names speak (two_names (name ++ 32 ∷ new)) ≡ Some (speak name new)
 names_spoken speak name new n t = ap (of_names speak) (two_spoken name new n t)
 
-pub product_spoken : (first second new : List ℕ) → is_name first ≡ true → is_name second ≡ true → is_name new ≡ true
-    → product_line (first ++ 32 ∷ (second ++ 32 ∷ new)) ≡ Some (build_product first second new)
-product_spoken first second new f s n = rw (name_of_two first (second ++ 32 ∷ new) f, rest_of_name first (second ++ 32 ∷ new) f, f) (names_spoken (build_product first) second new s n)
+three_spoken : (speak : List ℕ → List ℕ → List ℕ → Spoken) (first second new : List ℕ) → is_name first ≡ true → is_name second ≡ true → is_name new ≡ true
+    → of_three_names speak (first_word (first ++ 32 ∷ (second ++ 32 ∷ new))) (two_names (rest (first ++ 32 ∷ (second ++ 32 ∷ new)))) ≡ Some (speak first second new)
+three_spoken speak first second new f s n = rw (name_of_two first (second ++ 32 ∷ new) f, rest_of_name first (second ++ 32 ∷ new) f, f) (names_spoken (speak first) second new s n)
+
+-- the words of a line of this builder, behind its own
+abbrev pub line_behind : Builder → List ℕ → List ℕ
+line_behind b words = word_of b ++ 32 ∷ words
+
+-- it is read by the builder of its word
+pub record IsOfBuilder (b : Builder) (words : List ℕ) : Type 0 where
+  pub sounds : is_silent (line_behind b words) ≡ false
+  pub no_rules : bytes_eq (line_behind b words) (codes "rules") ≡ false
+  pub line : line_of (first_word (line_behind b words)) (rest (line_behind b words)) ≡ built_line b words
+
+pub of_builder : (b : Builder) (words : List ℕ) → IsOfBuilder b words
+of_builder (One Polar) words = record { sounds = refl; no_rules = refl; line = refl }
+of_builder (One Pyramid) words = record { sounds = refl; no_rules = refl; line = refl }
+of_builder (One NormalFan) words = record { sounds = refl; no_rules = refl; line = refl }
+of_builder (One FaceFan) words = record { sounds = refl; no_rules = refl; line = refl }
+of_builder (Two Product) words = record { sounds = refl; no_rules = refl; line = refl }
+
+pub one_spoken : (what : Unary) (name new : List ℕ) → (is_name name && is_name new) ≡ true → built_line (One what) (name ++ 32 ∷ new) ≡ Some (build_object (One what) (name ∷ []) new)
+one_spoken what name new h = let p = and_parts (is_name name) (is_name new) h in names_spoken (λ name new. build_object (One what) (name ∷ []) new) name new p.0 p.1
+
+pub two_are_spoken : (what : Binary) (first second new : List ℕ) → (is_name first && is_name second && is_name new) ≡ true
+    → built_line (Two what) (first ++ 32 ∷ (second ++ 32 ∷ new)) ≡ Some (build_object (Two what) (first ∷ second ∷ []) new)
+two_are_spoken what first second new h =
+    let p = and_parts (is_name first && is_name second) (is_name new) h in
+    let q = and_parts (is_name first) (is_name second) p.0 in
+    three_spoken (λ first second new. build_object (Two what) (first ∷ second ∷ []) new) first second new q.0 q.1 p.1
 
 -- ---- lines as they are read
 record Numbered (word : List ℕ) (make : ℕ → ShapeSeen) (others : List ℕ) (shape : ShapeSeen) : Type 0 where
@@ -134,54 +170,44 @@ names_read speak words s e =
     let p = option_map_some (λ (n : List ℕ × List ℕ). speak n.0 n.1) (two_names words) s e in
     record { name = p.0.0; new = p.0.1; two = two_read words p.0 p.1; is = p.2 }
 
-polar_read : (text : List ℕ) (s : Spoken) → IsUtf8 text → first_word text ≡ codes "polar" → polar_line (rest text) ≡ Some s → Speaks text s
-polar_read text s u f e =
-    let b = names_read build_polar (rest text) s e in
-    subst (Speaks text) b.is (record { utf8 = u; same = whole_line text (codes "polar") b.name b.new f b.two.line ∙ sym (regroup (codes "polar ") b.name b.new); allowed = b.two.are })
+one_read : (what : Unary) (text : List ℕ) (s : Spoken) → IsUtf8 text → first_word text ≡ word_of (One what) → built_line (One what) (rest text) ≡ Some s → Speaks text s
+one_read what text s u f e =
+    let b = names_read (λ name new. build_object (One what) (name ∷ []) new) (rest text) s e in
+    subst (Speaks text) b.is (record { utf8 = u; same = whole_line text (word_of (One what)) b.name b.new f b.two.line; allowed = b.two.are })
 
-pyramid_read : (text : List ℕ) (s : Spoken) → IsUtf8 text → first_word text ≡ codes "pyramid" → pyramid_line (rest text) ≡ Some s → Speaks text s
-pyramid_read text s u f e =
-    let b = names_read build_pyramid (rest text) s e in
-    subst (Speaks text) b.is (record { utf8 = u; same = whole_line text (codes "pyramid") b.name b.new f b.two.line ∙ sym (regroup (codes "pyramid ") b.name b.new); allowed = b.two.are })
-
-normal_fan_read : (text : List ℕ) (s : Spoken) → IsUtf8 text → first_word text ≡ codes "normalfan" → normal_fan_line (rest text) ≡ Some s → Speaks text s
-normal_fan_read text s u f e =
-    let b = names_read build_normal_fan (rest text) s e in
-    subst (Speaks text) b.is (record { utf8 = u; same = whole_line text (codes "normalfan") b.name b.new f b.two.line ∙ sym (regroup (codes "normalfan ") b.name b.new); allowed = b.two.are })
-
-face_fan_read : (text : List ℕ) (s : Spoken) → IsUtf8 text → first_word text ≡ codes "facefan" → face_fan_line (rest text) ≡ Some s → Speaks text s
-face_fan_read text s u f e =
-    let b = names_read build_face_fan (rest text) s e in
-    subst (Speaks text) b.is (record { utf8 = u; same = whole_line text (codes "facefan") b.name b.new f b.two.line ∙ sym (regroup (codes "facefan ") b.name b.new); allowed = b.two.are })
-
-product_read : (text : List ℕ) (s : Spoken) → IsUtf8 text → first_word text ≡ codes "product" → product_line (rest text) ≡ Some s → Speaks text s
-product_read text s u f e =
+two_are_read : (what : Binary) (text : List ℕ) (s : Spoken) → IsUtf8 text → first_word text ≡ word_of (Two what) → built_line (Two what) (rest text) ≡ Some s → Speaks text s
+two_are_read what text s u f e =
     let words : List ℕ = rest text in
     let first : List ℕ = first_word words in
-    cond_either (is_name first) (of_names (build_product first) (two_names (rest words))) None (Some s) e
-    (λ n g. let b = names_read (build_product first) (rest words) s g in
+    let speak : (List ℕ → List ℕ → Spoken) = λ second new. build_object (Two what) (first ∷ second ∷ []) new in
+    cond_either (is_name first) (of_names speak (two_names (rest words))) None (Some s) e
+    (λ n g. let b = names_read speak (rest words) s g in
     let p = and_parts (is_name b.name) (is_name b.new) b.two.are in
     let line : words ≡ first ++ 32 ∷ (b.name ++ 32 ∷ b.new) = behind words (split_is_some (rest words) b.name b.new b.two.line) ∙ ap (λ (w : List ℕ). first ++ 32 ∷ w) b.two.line in
     subst (Speaks text) b.is (record {
       utf8 = u;
-      same = whole_line text (codes "product") first (b.name ++ 32 ∷ b.new) f line ∙ sym (regroup_take (codes "product ") first b.name b.new);
+      same = whole_line text (word_of (Two what)) first (b.name ++ 32 ∷ b.new) f line;
       allowed = and_from (is_name first && is_name b.name) (is_name b.new) (and_from (is_name first) (is_name b.name) n p.0) p.1;
     }))
     (λ _ g. absurd (none-some s g))
+
+builder_read : (b : Builder) (text : List ℕ) (s : Spoken) → IsUtf8 text → first_word text ≡ word_of b → built_line b (rest text) ≡ Some s → Speaks text s
+builder_read (One what) text s u f e = one_read what text s u f e
+builder_read (Two what) text s u f e = two_are_read what text s u f e
+
+-- the builder that is found is that of the word
+found_is_named : (word : List ℕ) (bs : List Builder) (b : Builder) → find (λ b. bytes_eq word (word_of b)) bs ≡ Some b → word ≡ word_of b
+found_is_named word [] b e = absurd (none-some b e)
+found_is_named word (c ∷ bs) b e =
+    cond_either (bytes_eq word (word_of c)) (Some c) (find (λ b. bytes_eq word (word_of b)) bs) (Some b) e
+    (λ is f. same_bytes word (word_of c) is ∙ ap word_of (same_Some c b f))
+    (λ _ f. found_is_named word bs b f)
 
 pub built_read : (text : List ℕ) (s : Spoken) → IsUtf8 text → build_line (first_word text) (rest text) ≡ Some s → Speaks text s
 built_read text s u e =
     let first : List ℕ = first_word text in
     let words : List ℕ = rest text in
-    let product : Option Spoken = cond (bytes_eq first (codes "product")) (product_line words) None in
-    let face_fan : Option Spoken = cond (bytes_eq first (codes "facefan")) (face_fan_line words) product in
-    let normal_fan : Option Spoken = cond (bytes_eq first (codes "normalfan")) (normal_fan_line words) face_fan in
-    let pyramid : Option Spoken = cond (bytes_eq first (codes "pyramid")) (pyramid_line words) normal_fan in
-    let polar : Option Spoken = cond (bytes_eq first (codes "polar")) (polar_line words) pyramid in
-    cond_either (bytes_eq first (codes "make")) (make_line words) polar (Some s) e (λ is f. make_read text s u (same_bytes first (codes "make") is) f)
-    (λ _ f. cond_either (bytes_eq first (codes "polar")) (polar_line words) pyramid (Some s) f (λ is g. polar_read text s u (same_bytes first (codes "polar") is) g)
-    (λ _ g. cond_either (bytes_eq first (codes "pyramid")) (pyramid_line words) normal_fan (Some s) g (λ is h. pyramid_read text s u (same_bytes first (codes "pyramid") is) h)
-    (λ _ h. cond_either (bytes_eq first (codes "normalfan")) (normal_fan_line words) face_fan (Some s) h (λ is k. normal_fan_read text s u (same_bytes first (codes "normalfan") is) k)
-    (λ _ k. cond_either (bytes_eq first (codes "facefan")) (face_fan_line words) product (Some s) k (λ is l. face_fan_read text s u (same_bytes first (codes "facefan") is) l)
-    (λ _ l. cond_either (bytes_eq first (codes "product")) (product_line words) None (Some s) l (λ is m. product_read text s u (same_bytes first (codes "product") is) m)
-    (λ _ m. absurd (none-some s m)))))))
+    cond_either (bytes_eq first (codes "make")) (make_line words) (option_and_then (λ b. built_line b words) (builder_named first)) (Some s) e
+    (λ is f. make_read text s u (same_bytes first (codes "make") is) f)
+    (λ _ f. option_and_then_some (λ b. built_line b words) (builder_named first) s f
+    (λ b named g. builder_read b text s u (found_is_named first every_builder b named) g))

@@ -1,7 +1,6 @@
 -- What a line speaks, by its first word.
 use Rattle.std.proofs.Common.{List, bytes_eq, codes, false, refl, true, ℕ, ◌≡◌}
-use Rattle.std.specs.Prelude.{None}
-use Rattle.pm_command.specs.Commands.{build_line, chain_line, copy_line, disable_line, drop_line, ensure_line, file_line, explain_line, face_fan_line, give_line, history_line, line_of, load_line, lookup_line, make_line, new_line, normal_fan_line, object_line, origin_line, polar_line, product_line, pyramid_line, save_line, take_line, unload_line}
+use Rattle.pm_command.specs.Commands.{build_line, chain_line, copy_line, disable_line, drop_line, ensure_line, file_line, explain_line, give_line, history_line, line_of, load_line, lookup_line, new_line, object_line, origin_line, save_line, take_line, unload_line}
 
 pub is_new : (first words : List ℕ) → bytes_eq first (codes "new") ≡ true → line_of first words ≡ new_line words
 is_new first words a = rw (a) refl
@@ -61,25 +60,3 @@ is_save first words a b = rw (a, b) refl
 
 pub is_on_building : (first words : List ℕ) → bytes_eq first (codes "load") ≡ false → bytes_eq first (codes "save") ≡ false → file_line first words ≡ build_line first words
 is_on_building first words a b = rw (a, b) refl
-
--- ---- commands that make objects
-pub is_make : (first words : List ℕ) → bytes_eq first (codes "make") ≡ true → build_line first words ≡ make_line words
-is_make first words a = rw (a) refl
-
-pub is_polar : (first words : List ℕ) → bytes_eq first (codes "make") ≡ false → bytes_eq first (codes "polar") ≡ true → build_line first words ≡ polar_line words
-is_polar first words a b = rw (a, b) refl
-
-pub is_pyramid : (first words : List ℕ) → bytes_eq first (codes "make") ≡ false → bytes_eq first (codes "polar") ≡ false → bytes_eq first (codes "pyramid") ≡ true → build_line first words ≡ pyramid_line words
-is_pyramid first words a b d = rw (a, b, d) refl
-
-pub is_normal_fan : (first words : List ℕ) → bytes_eq first (codes "make") ≡ false → bytes_eq first (codes "polar") ≡ false → bytes_eq first (codes "pyramid") ≡ false → bytes_eq first (codes "normalfan") ≡ true → build_line first words ≡ normal_fan_line words
-is_normal_fan first words a b d e = rw (a, b, d, e) refl
-
-pub is_face_fan : (first words : List ℕ) → bytes_eq first (codes "make") ≡ false → bytes_eq first (codes "polar") ≡ false → bytes_eq first (codes "pyramid") ≡ false → bytes_eq first (codes "normalfan") ≡ false → bytes_eq first (codes "facefan") ≡ true → build_line first words ≡ face_fan_line words
-is_face_fan first words a b d e f = rw (a, b, d, e, f) refl
-
-pub is_product : (first words : List ℕ) → bytes_eq first (codes "make") ≡ false → bytes_eq first (codes "polar") ≡ false → bytes_eq first (codes "pyramid") ≡ false → bytes_eq first (codes "normalfan") ≡ false → bytes_eq first (codes "facefan") ≡ false → bytes_eq first (codes "product") ≡ true → build_line first words ≡ product_line words
-is_product first words a b d e f k = rw (a, b, d, e, f, k) refl
-
-pub is_none : (first words : List ℕ) → bytes_eq first (codes "make") ≡ false → bytes_eq first (codes "polar") ≡ false → bytes_eq first (codes "pyramid") ≡ false → bytes_eq first (codes "normalfan") ≡ false → bytes_eq first (codes "facefan") ≡ false → bytes_eq first (codes "product") ≡ false → build_line first words ≡ None
-is_none first words a b d e f k = rw (a, b, d, e, f, k) refl

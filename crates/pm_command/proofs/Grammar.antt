@@ -10,8 +10,10 @@ use Rattle.std.specs.List.{All, list_all, before_first, after_first, join_with_b
 use Rattle.std.specs.Str.{IsUtf8, is_utf8, bytes_eq}
 use Rattle.pm_command.proofs.Splits.{lacks, before_first-lacks, after_first-lacks, split_first, lacks-passes}
 use Rattle.pm_command.proofs.Spaces.{name_lacks, name_is_some, name_of_two, rest_of_name, behind, whole_line, regroup, regroup_take, cond_either, option_map_some, same_bytes}
-use Rattle.pm_command.proofs.BuildLines.{built_read, make_spoken, names_spoken, product_spoken}
-use Rattle.pm_command.specs.Commands.{RefSeen, Spoken, blank, new_object, take_value, give_value, look_up, ensure_values, explain_values, tell_history, show_rules, disable_rule, unload_client, copy_object, drop_object, load_object, save_object, tell_origin, make_object, build_polar, build_pyramid, build_normal_fan, build_face_fan, build_product, part_of, ref_of, property_of, type_of, json_of, of_both, new_line, take_line, give_line, lookup_line, asked_of, ensure_line, explain_line, history_line, disable_line, unload_line, copy_line, drop_line, origin_line, object_line, chain_line, line_of, command_of, file_line, load_line, save_line, build_line}
+use Rattle.pm_command.proofs.BuildLines.{built_read, make_spoken, of_builder, one_spoken, two_are_spoken}
+use Rattle.pm_command.specs.Builders.{word_of}
+use Rattle.pm_command.specs.declared.building.Builder.TheVariants.{One, Two}
+use Rattle.pm_command.specs.Commands.{RefSeen, Spoken, blank, new_object, take_value, give_value, look_up, ensure_values, explain_values, tell_history, show_rules, disable_rule, unload_client, copy_object, drop_object, load_object, save_object, tell_origin, make_object, build_object, part_of, ref_of, property_of, type_of, json_of, of_both, new_line, take_line, give_line, lookup_line, asked_of, ensure_line, explain_line, history_line, disable_line, unload_line, copy_line, drop_line, origin_line, object_line, chain_line, line_of, command_of, file_line, load_line, save_line, build_line}
 use Rattle.pm_command.specs.Grammar.{part_text, ref_text, is_sub, is_ref, spaced, are_some_asked, is_shape, shape_text, Speaks}
 use Rattle.pm_command.specs.Lines.{is_silent}
 use Rattle.pm_rules.specs.Words.{is_label, is_word}
@@ -203,27 +205,13 @@ spoken_is_read text (make_object new shape) h =
     let p = and_parts (is_name new) (is_shape shape) h.allowed in
     let e = h.same ∙ regroup (codes "make ") new (shape_text shape) in
     rw e (heard (codes "make " ++ (new ++ 32 ∷ shape_text shape)) refl refl (subst IsUtf8 e h.utf8) ∙ make_spoken new shape p.0 p.1)
-spoken_is_read text (build_polar name new) h =
-    let p = and_parts (is_name name) (is_name new) h.allowed in
-    let e = h.same ∙ regroup (codes "polar ") name new in
-    rw e (heard (codes "polar " ++ (name ++ 32 ∷ new)) refl refl (subst IsUtf8 e h.utf8) ∙ names_spoken build_polar name new p.0 p.1)
-spoken_is_read text (build_pyramid name new) h =
-    let p = and_parts (is_name name) (is_name new) h.allowed in
-    let e = h.same ∙ regroup (codes "pyramid ") name new in
-    rw e (heard (codes "pyramid " ++ (name ++ 32 ∷ new)) refl refl (subst IsUtf8 e h.utf8) ∙ names_spoken build_pyramid name new p.0 p.1)
-spoken_is_read text (build_normal_fan name new) h =
-    let p = and_parts (is_name name) (is_name new) h.allowed in
-    let e = h.same ∙ regroup (codes "normalfan ") name new in
-    rw e (heard (codes "normalfan " ++ (name ++ 32 ∷ new)) refl refl (subst IsUtf8 e h.utf8) ∙ names_spoken build_normal_fan name new p.0 p.1)
-spoken_is_read text (build_face_fan name new) h =
-    let p = and_parts (is_name name) (is_name new) h.allowed in
-    let e = h.same ∙ regroup (codes "facefan ") name new in
-    rw e (heard (codes "facefan " ++ (name ++ 32 ∷ new)) refl refl (subst IsUtf8 e h.utf8) ∙ names_spoken build_face_fan name new p.0 p.1)
-spoken_is_read text (build_product first second new) h =
-    let p = and_parts (is_name first && is_name second) (is_name new) h.allowed in
-    let q = and_parts (is_name first) (is_name second) p.0 in
-    let e = h.same ∙ regroup_take (codes "product ") first second new in
-    rw e (heard (codes "product " ++ (first ++ 32 ∷ (second ++ 32 ∷ new))) refl refl (subst IsUtf8 e h.utf8) ∙ product_spoken first second new q.0 q.1 p.1)
+spoken_is_read text (build_object (One what) (name ∷ []) new) h =
+    let b = of_builder (One what) (name ++ 32 ∷ new) in
+    rw h.same (heard (word_of (One what) ++ 32 ∷ (name ++ 32 ∷ new)) b.sounds b.no_rules (subst IsUtf8 h.same h.utf8) ∙ b.line ∙ one_spoken what name new h.allowed)
+spoken_is_read text (build_object (Two what) (first ∷ second ∷ []) new) h =
+    let b = of_builder (Two what) (first ++ 32 ∷ (second ++ 32 ∷ new)) in
+    rw h.same (heard (word_of (Two what) ++ 32 ∷ (first ++ 32 ∷ (second ++ 32 ∷ new))) b.sounds b.no_rules (subst IsUtf8 h.same h.utf8) ∙ b.line ∙ two_are_spoken what first second new h.allowed)
+spoken_is_read text (build_object builder names new) h = absurd h
 spoken_is_read text (drop_object name) h =
     rw h.same (heard (codes "drop " ++ name) refl refl (subst IsUtf8 h.same h.utf8) ∙ cond-true (is_name name) (Some (drop_object name)) None h.allowed)
 spoken_is_read text (tell_origin r w) h =

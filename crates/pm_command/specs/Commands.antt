@@ -4,7 +4,7 @@
 -- `load NAME FILE` makes an object of what a file holds, and `save NAME FILE` writes an object to a file; FILE is a word that names a file.
 -- `copy NAME NEW` makes an object of the name NEW that is as that of NAME, and `drop NAME` lets an object go; `origin REF PROP` asks how a value came to be held.
 -- `make NEW SHAPE N ..` makes a polytope of the name NEW: `cube N`, `simplex N` or `cross N` of the dimension N, or `cyclic N M` of the dimension N with M points; a number is from 1 to 9999, in decimal digits of which the first is not 0.
--- `polar NAME NEW`, `pyramid NAME NEW`, `normalfan NAME NEW` and `facefan NAME NEW` make an object of the name NEW of that of NAME, and `product NAME NAME NEW` makes one of two.
+-- `WORD NAME NEW` and `WORD NAME NAME NEW` build an object of the name NEW of one other, or of two; the words are those of Builders.antt.
 -- `new REF TYPE` makes an object; `take REF PROP JSON` gives it a value, and the JSON text is all that stands after the third space, one byte at least; `give REF PROP` asks for a value, and `lookup REF PROP` for one that is held.
 -- A line of spaces and tabs alone, or whose first byte is #, is blank. Any other line is no command, and so is one that is no UTF-8.
 use Rattle.std.specs.Prelude.{ℕ, Bool, true, false, ◌&&◌, List, [], ◌∷◌, map, string_bytes, Option, Some, None, option_map, option_and_then, if◌then◌else◌, codes}
@@ -18,7 +18,10 @@ use Rattle.pm_command.specs.declared.command.Ref.{Ref}
 use Rattle.pm_command.specs.declared.command.Command.{Command}
 use Rattle.pm_command.specs.declared.command.Shape.{Shape}
 use Rattle.pm_command.specs.declared.command.Shape.TheVariants as shape
-use Rattle.pm_command.specs.declared.command.Command.TheVariants.{Blank, New, Take, Give, Lookup, Ensure, Explain, History, Rules, Disable, Unload, Copy, DropObject, Origin, Load, Save, Make, Polar, Pyramid, NormalFan, FaceFan, Product}
+use Rattle.pm_command.specs.declared.command.Command.TheVariants.{Blank, New, Take, Give, Lookup, Ensure, Explain, History, Rules, Disable, Unload, Copy, DropObject, Origin, Load, Save, Make, Build}
+use Rattle.pm_command.specs.Builders.{builder_named, builder_of, operands_of}
+use Rattle.pm_command.specs.declared.building.Builder.{Builder}
+use Rattle.pm_command.specs.declared.building.Builder.TheVariants.{One, Two}
 
 -- a REF, by the bytes of its words
 pub record RefSeen : Type 0 where
@@ -51,11 +54,7 @@ pub data Spoken : Type 0 where
   load_object : List ℕ → List ℕ → Spoken
   save_object : List ℕ → List ℕ → Spoken
   make_object : List ℕ → ShapeSeen → Spoken
-  build_polar : List ℕ → List ℕ → Spoken
-  build_pyramid : List ℕ → List ℕ → Spoken
-  build_normal_fan : List ℕ → List ℕ → Spoken
-  build_face_fan : List ℕ → List ℕ → Spoken
-  build_product : List ℕ → List ℕ → List ℕ → Spoken
+  build_object : Builder → List (List ℕ) → List ℕ → Spoken
 
 abbrev pub part_of : List ℕ → List ℕ → Option RefSeen
 part_of name sub = if is_name name && is_name sub then Some (record { name = name; sub = Some sub }) else None
@@ -164,34 +163,20 @@ two_names words = if is_name (first_word words) && is_name (rest words) then Som
 abbrev pub of_names : (List ℕ → List ℕ → Spoken) → Option (List ℕ × List ℕ) → Option Spoken
 of_names speak names = option_map (λ n. speak n.0 n.1) names
 
-abbrev pub polar_line : List ℕ → Option Spoken
-polar_line words = of_names build_polar (two_names words)
+-- what is spoken of the names of two objects and of the new one
+abbrev pub of_three_names : (List ℕ → List ℕ → List ℕ → Spoken) → List ℕ → Option (List ℕ × List ℕ) → Option Spoken
+of_three_names speak first names = if is_name first then of_names (speak first) names else None
 
-abbrev pub pyramid_line : List ℕ → Option Spoken
-pyramid_line words = of_names build_pyramid (two_names words)
-
-abbrev pub normal_fan_line : List ℕ → Option Spoken
-normal_fan_line words = of_names build_normal_fan (two_names words)
-
-abbrev pub face_fan_line : List ℕ → Option Spoken
-face_fan_line words = of_names build_face_fan (two_names words)
-
-abbrev pub product_of : List ℕ → Option (List ℕ × List ℕ) → Option Spoken
-product_of first names = if is_name first then of_names (build_product first) names else None
-
-abbrev pub product_line : List ℕ → Option Spoken
-product_line words = product_of (first_word words) (two_names (rest words))
+-- the names of the objects that an object is built of, and its own
+abbrev pub built_line : Builder → List ℕ → Option Spoken
+built_line (One what) words = of_names (λ name new. build_object (One what) (name ∷ []) new) (two_names words)
+built_line (Two what) words = of_three_names (λ first second new. build_object (Two what) (first ∷ second ∷ []) new) (first_word words) (two_names (rest words))
 
 -- a command that makes an object, or builds one of others, by its first word and what stands after it
 abbrev pub build_line : List ℕ → List ℕ → Option Spoken
 build_line first words =
     if bytes_eq first (codes "make") then make_line words
-    else (if bytes_eq first (codes "polar") then polar_line words
-    else (if bytes_eq first (codes "pyramid") then pyramid_line words
-    else (if bytes_eq first (codes "normalfan") then normal_fan_line words
-    else (if bytes_eq first (codes "facefan") then face_fan_line words
-    else (if bytes_eq first (codes "product") then product_line words
-    else None)))))
+    else option_and_then (λ b. built_line b words) (builder_named first)
 
 -- a command on files, by its first word and what stands after it
 abbrev pub file_line : List ℕ → List ℕ → Option Spoken
@@ -266,8 +251,4 @@ spoken (Origin obj prop) = tell_origin (seen_ref obj) (string_bytes prop)
 spoken (Load name file) = load_object (string_bytes name) (string_bytes file)
 spoken (Save name file) = save_object (string_bytes name) (string_bytes file)
 spoken (Make new made) = make_object (string_bytes new) (seen_shape made)
-spoken (Polar name new) = build_polar (string_bytes name) (string_bytes new)
-spoken (Pyramid name new) = build_pyramid (string_bytes name) (string_bytes new)
-spoken (NormalFan name new) = build_normal_fan (string_bytes name) (string_bytes new)
-spoken (FaceFan name new) = build_face_fan (string_bytes name) (string_bytes new)
-spoken (Product one other new) = build_product (string_bytes one) (string_bytes other) (string_bytes new)
+spoken (Build what new) = build_object (builder_of what) (operands_of what) (string_bytes new)

@@ -1,7 +1,10 @@
 -- Words and lines: what they speak, and what they do not.
 use Rattle.std.specs.Prelude.{◌≡◌, true, false, [], ◌∷◌, Some, None, codes}
-use Rattle.pm_command.specs.Commands.{build_face_fan, build_normal_fan, build_polar, build_product, build_pyramid, command_of, cross_shape, cube_shape, cyclic_shape, make_object, simplex_shape}
+use Rattle.pm_command.specs.Commands.{build_object, command_of, cross_shape, cube_shape, cyclic_shape, make_object, simplex_shape}
 use Rattle.pm_command.specs.Words.{are_asked}
+use Rattle.pm_command.specs.declared.building.Binary.TheVariants.{Product}
+use Rattle.pm_command.specs.declared.building.Builder.TheVariants.{One, Two}
+use Rattle.pm_command.specs.declared.building.Unary.TheVariants.{FaceFan, NormalFan, Polar, Pyramid}
 
 pub record CommandsAreRead : Type 0 where
   pub four : are_asked (codes "A" ∷ codes "B" ∷ codes "A" ∷ codes "C" ∷ codes "D" ∷ []) ≡ true
@@ -11,11 +14,11 @@ pub record CommandsAreRead : Type 0 where
   pub simplex : command_of (codes "make t simplex 10") ≡ Some (make_object (codes "t") (simplex_shape 10))
   pub cross : command_of (codes "make t cross 9999") ≡ Some (make_object (codes "t") (cross_shape 9999))
   pub cyclic : command_of (codes "make t cyclic 3 12") ≡ Some (make_object (codes "t") (cyclic_shape 3 12))
-  pub polar : command_of (codes "polar t p") ≡ Some (build_polar (codes "t") (codes "p"))
-  pub pyramid : command_of (codes "pyramid t p") ≡ Some (build_pyramid (codes "t") (codes "p"))
-  pub normal_fan : command_of (codes "normalfan t f") ≡ Some (build_normal_fan (codes "t") (codes "f"))
-  pub face_fan : command_of (codes "facefan t f") ≡ Some (build_face_fan (codes "t") (codes "f"))
-  pub product : command_of (codes "product s t p") ≡ Some (build_product (codes "s") (codes "t") (codes "p"))
+  pub polar : command_of (codes "polar t p") ≡ Some (build_object (One Polar) (codes "t" ∷ []) (codes "p"))
+  pub pyramid : command_of (codes "pyramid t p") ≡ Some (build_object (One Pyramid) (codes "t" ∷ []) (codes "p"))
+  pub normal_fan : command_of (codes "normalfan t f") ≡ Some (build_object (One NormalFan) (codes "t" ∷ []) (codes "f"))
+  pub face_fan : command_of (codes "facefan t f") ≡ Some (build_object (One FaceFan) (codes "t" ∷ []) (codes "f"))
+  pub product : command_of (codes "product s t p") ≡ Some (build_object (Two Product) (codes "s" ∷ codes "t" ∷ []) (codes "p"))
 
 pub record NoCommandsAreRead : Type 0 where
   pub zero_cube : command_of (codes "make t cube 0") ≡ None

@@ -1,8 +1,10 @@
 -- The grammar of lines: the texts that speak a command, by cases.
-use Rattle.std.specs.Prelude.{ℕ, ◌≡◌, ◌&&◌, ◌++◌, Bool, true, IsTrue, List, length, nat_le, Option, Some, None, codes, decimal}
+use Rattle.std.specs.Prelude.{ℕ, ◌≡◌, ◌&&◌, ◌++◌, Bool, true, IsTrue, List, [], ◌∷◌, length, nat_le, Option, Some, None, codes, decimal}
 use Rattle.std.specs.List.{join_with_byte}
 use Rattle.std.specs.Str.{IsUtf8}
-use Rattle.pm_command.specs.Commands.{RefSeen, Spoken, blank, new_object, take_value, give_value, look_up, ensure_values, explain_values, tell_history, show_rules, disable_rule, unload_client, copy_object, drop_object, tell_origin, load_object, save_object, ShapeSeen, cube_shape, simplex_shape, cross_shape, cyclic_shape, make_object, build_polar, build_pyramid, build_normal_fan, build_face_fan, build_product}
+use Rattle.pm_command.specs.Commands.{RefSeen, Spoken, blank, new_object, take_value, give_value, look_up, ensure_values, explain_values, tell_history, show_rules, disable_rule, unload_client, copy_object, drop_object, tell_origin, load_object, save_object, ShapeSeen, cube_shape, simplex_shape, cross_shape, cyclic_shape, make_object, build_object}
+use Rattle.pm_command.specs.Builders.{word_of}
+use Rattle.pm_command.specs.declared.building.Builder.TheVariants.{One, Two}
 use Rattle.pm_command.specs.Lines.{is_silent}
 use Rattle.pm_rules.specs.Words.{is_label, is_word}
 use Rattle.pm_store.specs.FileWords.{is_file_word}
@@ -75,8 +77,6 @@ Speaks text (tell_origin obj prop) = IsLine text (codes "origin " ++ ref_text ob
 Speaks text (load_object name file) = IsLine text (codes "load " ++ name ++ codes " " ++ file) (is_name name && is_file_word file)
 Speaks text (save_object name file) = IsLine text (codes "save " ++ name ++ codes " " ++ file) (is_name name && is_file_word file)
 Speaks text (make_object new shape) = IsLine text (codes "make " ++ new ++ codes " " ++ shape_text shape) (is_name new && is_shape shape)
-Speaks text (build_polar name new) = IsLine text (codes "polar " ++ name ++ codes " " ++ new) (is_name name && is_name new)
-Speaks text (build_pyramid name new) = IsLine text (codes "pyramid " ++ name ++ codes " " ++ new) (is_name name && is_name new)
-Speaks text (build_normal_fan name new) = IsLine text (codes "normalfan " ++ name ++ codes " " ++ new) (is_name name && is_name new)
-Speaks text (build_face_fan name new) = IsLine text (codes "facefan " ++ name ++ codes " " ++ new) (is_name name && is_name new)
-Speaks text (build_product first second new) = IsLine text (codes "product " ++ first ++ codes " " ++ second ++ codes " " ++ new) (is_name first && is_name second && is_name new)
+Speaks text (build_object (One what) (name ∷ []) new) = IsLine text (spaced (word_of (One what) ∷ name ∷ new ∷ [])) (is_name name && is_name new)
+Speaks text (build_object (Two what) (first ∷ second ∷ []) new) = IsLine text (spaced (word_of (Two what) ∷ first ∷ second ∷ new ∷ [])) (is_name first && is_name second && is_name new)
+Speaks text (build_object builder names new) = ⊥

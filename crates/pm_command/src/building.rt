@@ -1,6 +1,7 @@
 // Commands that make objects, and that build them of others.
 
-ghost use Rattle.pm_command.specs.Commands.{build_line, cyclic_of, face_fan_line, make_line, normal_fan_line, polar_line, product_line, pyramid_line, seen_shape, shape_of, spoken, two_names};
+ghost use Rattle.pm_command.specs.Builders.{builder_named, builder_of};
+ghost use Rattle.pm_command.specs.Commands.{build_line, built_line, cyclic_of, make_line, seen_shape, shape_of, spoken, two_names};
 ghost use Rattle.pm_command.specs.Words.{first_word, number_of, rest};
 ghost use Rattle.pm_command.specs.declared.command.LineFail.{LineFail};
 ghost use Rattle.std.specs.Option.{option_map};
@@ -9,6 +10,68 @@ ghost use Rattle.std.specs.Prelude.{IfErr, IfOk, None, Some, string_bytes, ◌�
 use crate::command::{Command, LineFail, Shape};
 use crate::words::{is_name, is_number_word, split_word};
 use std::alloc::Global;
+
+/// What is built of one object.
+#[derive(Clone, Copy, Debug, PartialEq, Eq)]
+pub enum Unary {
+    /// The polar of a polytope.
+    Polar,
+    /// The pyramid over a polytope.
+    Pyramid,
+    /// The normal fan of a polytope.
+    NormalFan,
+    /// The face fan of a polytope.
+    FaceFan,
+}
+
+/// What is built of two objects.
+#[derive(Clone, Copy, Debug, PartialEq, Eq)]
+pub enum Binary {
+    /// The product of two polytopes.
+    Product,
+}
+
+/// What is built, of one object or of two.
+#[derive(Clone, Copy, Debug, PartialEq, Eq)]
+pub enum Builder {
+    One(Unary),
+    Two(Binary),
+}
+
+/// What is built, and the names of the objects that it is built of.
+#[derive(Debug, Drop)]
+pub enum Building {
+    One(Unary, String),
+    Two(Binary, String, String),
+}
+
+impl Builder {
+    /// What the first word of a line builds.
+    fn named(word: &str) -> Option<Builder>
+        ensures { result ≡ builder_named word.now }
+    {
+        match word {
+            "polar" => Some(Builder::One(Unary::Polar)),
+            "pyramid" => Some(Builder::One(Unary::Pyramid)),
+            "normalfan" => Some(Builder::One(Unary::NormalFan)),
+            "facefan" => Some(Builder::One(Unary::FaceFan)),
+            "product" => Some(Builder::Two(Binary::Product)),
+            _ => None,
+        }
+    }
+}
+
+impl Building {
+    /// What is built.
+    pub fn builder(&self) -> Builder
+        ensures { result ≡ builder_of self.now }
+    {
+        match self {
+            Building::One(what, _) => Builder::One(*what),
+            Building::Two(what, _, _) => Builder::Two(*what),
+        }
+    }
+}
 
 /// The number that a word writes, from 1 to 9999.
 fn read_number(word: &str) -> Option<u32>
@@ -77,57 +140,32 @@ fn read_names(alloc: Global, words: &str) -> Result<(String, String), LineFail>
     }
 }
 
-/// The words after `polar`.
-fn read_polar(alloc: Global, words: &str) -> Result<Command, LineFail>
-    ensures ok { IfOk result (λ c. polar_line words.now ≡ Some (spoken c)) }
-    ensures refused { IfErr result (λ e. e ≡ LineFail.BadCommand → polar_line words.now ≡ None) }
+/// The words after that of a command that builds an object of others.
+fn read_building(alloc: Global, builder: Builder, words: &str) -> Result<Command, LineFail>
+    ensures ok { IfOk result (λ c. built_line builder words.now ≡ Some (spoken c)) }
+    ensures refused { IfErr result (λ e. e ≡ LineFail.BadCommand → built_line builder words.now ≡ None) }
 {
-    let (name, new) = read_names(alloc, words)?;
-    Ok(Command::Polar { name, new })
-}
-
-/// The words after `pyramid`.
-fn read_pyramid(alloc: Global, words: &str) -> Result<Command, LineFail>
-    ensures ok { IfOk result (λ c. pyramid_line words.now ≡ Some (spoken c)) }
-    ensures refused { IfErr result (λ e. e ≡ LineFail.BadCommand → pyramid_line words.now ≡ None) }
-{
-    let (name, new) = read_names(alloc, words)?;
-    Ok(Command::Pyramid { name, new })
-}
-
-/// The words after `normalfan`.
-fn read_normal_fan(alloc: Global, words: &str) -> Result<Command, LineFail>
-    ensures ok { IfOk result (λ c. normal_fan_line words.now ≡ Some (spoken c)) }
-    ensures refused { IfErr result (λ e. e ≡ LineFail.BadCommand → normal_fan_line words.now ≡ None) }
-{
-    let (name, new) = read_names(alloc, words)?;
-    Ok(Command::NormalFan { name, new })
-}
-
-/// The words after `facefan`.
-fn read_face_fan(alloc: Global, words: &str) -> Result<Command, LineFail>
-    ensures ok { IfOk result (λ c. face_fan_line words.now ≡ Some (spoken c)) }
-    ensures refused { IfErr result (λ e. e ≡ LineFail.BadCommand → face_fan_line words.now ≡ None) }
-{
-    let (name, new) = read_names(alloc, words)?;
-    Ok(Command::FaceFan { name, new })
-}
-
-/// The words after `product`.
-fn read_product(alloc: Global, words: &str) -> Result<Command, LineFail>
-    ensures ok { IfOk result (λ c. product_line words.now ≡ Some (spoken c)) }
-    ensures refused { IfErr result (λ e. e ≡ LineFail.BadCommand → product_line words.now ≡ None) }
-{
-    let (first, others) = split_word(words);
-    if !is_name(first) {
-        return Err(LineFail::BadCommand);
+    match builder {
+        Builder::One(what) => {
+            let (name, new) = read_names(alloc, words)?;
+            Ok(Command::Build {
+                what: Building::One(what, name),
+                new,
+            })
+        }
+        Builder::Two(what) => {
+            let (first, others) = split_word(words);
+            if !is_name(first) {
+                return Err(LineFail::BadCommand);
+            }
+            let (second, new) = read_names(alloc, others)?;
+            let first = String::from_str(alloc, first)?;
+            Ok(Command::Build {
+                what: Building::Two(what, first, second),
+                new,
+            })
+        }
     }
-    let (second, new) = read_names(alloc, others)?;
-    Ok(Command::Product {
-        first: String::from_str(alloc, first)?,
-        second,
-        new,
-    })
 }
 
 /// The command of this first word that makes an object, or builds one of others.
@@ -137,18 +175,8 @@ pub fn read_build_words(alloc: Global, first: &str, words: &str) -> Result<Comma
         → build_line first.now words.now ≡ None) }
 {
     if first == "make" {
-        read_make(alloc, words)
-    } else if first == "polar" {
-        read_polar(alloc, words)
-    } else if first == "pyramid" {
-        read_pyramid(alloc, words)
-    } else if first == "normalfan" {
-        read_normal_fan(alloc, words)
-    } else if first == "facefan" {
-        read_face_fan(alloc, words)
-    } else if first == "product" {
-        read_product(alloc, words)
-    } else {
-        Err(LineFail::BadCommand)
+        return read_make(alloc, words);
     }
+    let builder = Builder::named(first).ok_or(LineFail::BadCommand)?;
+    read_building(alloc, builder, words)
 }

@@ -8,7 +8,7 @@ ghost use Rattle.std.specs.List.{list_all, list_any};
 ghost use Rattle.std.specs.Prelude.{IfErr, IfOk, None, OnOk, Some, false, length, map, nat_le, string_bytes, true, ◌≡◌};
 ghost use Rattle.std.specs.Str.{bytes_eq};
 
-use crate::building::read_build_words;
+use crate::building::{Building, read_build_words};
 use crate::lines::is_silent;
 use crate::words::{
     is_client_word, is_label, is_name, is_property_word, is_type_word, split_dot, split_word,
@@ -122,30 +122,9 @@ pub enum Command {
         new: String,
         shape: Shape,
     },
-    /// `polar NAME NEW`
-    Polar {
-        name: String,
-        new: String,
-    },
-    /// `pyramid NAME NEW`
-    Pyramid {
-        name: String,
-        new: String,
-    },
-    /// `normalfan NAME NEW`
-    NormalFan {
-        name: String,
-        new: String,
-    },
-    /// `facefan NAME NEW`
-    FaceFan {
-        name: String,
-        new: String,
-    },
-    /// `product NAME NAME NEW`
-    Product {
-        first: String,
-        second: String,
+    /// `WORD NAME NEW`, `WORD NAME NAME NEW`
+    Build {
+        what: Building,
         new: String,
     },
 }

@@ -7,6 +7,7 @@ mod examples;
 mod lines;
 mod words;
 
+pub use building::{Binary, Builder, Building, Unary};
 pub use command::{Command, LineFail, Ref, Shape, read_line};
 pub use examples::example_commands;
 pub use lines::{Line, first_break, is_silent, split_line};

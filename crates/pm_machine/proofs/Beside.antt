@@ -1,13 +1,14 @@
 -- A step that touches no file is the same beside any store.
 use Rattle.pm_client.specs.Starts.{Clients}
-use Rattle.pm_machine.proofs.BesideBuilding.{build_beside, make_beside, parts_beside, product_beside}
+use Rattle.pm_machine.proofs.BesideBuilding.{build_beside, make_beside, parts_beside}
 use Rattle.pm_machine.proofs.BesideObjects.{becomes_beside, beside, gains_beside, loses_beside, stays_beside, unloads_beside}
-use Rattle.pm_machine.specs.Building.{ArePolytopes, IsAPolytope, MayHaveBegun, face_fan_building, normal_fan_building, polar_building, product_wanted, pyramid_building, wanted_of}
+use Rattle.pm_machine.specs.Building.{MayHaveBegun, row_of, wanted_all}
+use Rattle.pm_command.specs.declared.building.Builder.{Builder}
 use Rattle.pm_machine.specs.Parts.{StepInPart}
 use Rattle.pm_machine.specs.Machines.{IsFree, Machine, Stays, Store}
 use Rattle.pm_machine.specs.Steps.{CopyStep, DisableStep, DropStep, EnsureStep, ExplainStep, FileRead, GiveStep, HasBytes, HasNone, HistoryStep, IsLookedAt, LoadStep, Looks, LookupStep, NewObjectStep, NewOf, NewProgramStep, NewStep, OriginStep, RulesStep, Step, TakeStep, UnloadStep}
 use Rattle.pm_rules.specs.declared.rule.Rule.{Rule}
-use Rattle.pm_command.specs.Commands.{RefSeen, Spoken, blank, new_object, take_value, give_value, look_up, ensure_values, explain_values, tell_history, show_rules, disable_rule, unload_client, copy_object, drop_object, tell_origin, load_object, save_object, make_object, build_polar, build_pyramid, build_normal_fan, build_face_fan, build_product, is_on_files}
+use Rattle.pm_command.specs.Commands.{RefSeen, Spoken, blank, new_object, take_value, give_value, look_up, ensure_values, explain_values, tell_history, show_rules, disable_rule, unload_client, copy_object, drop_object, tell_origin, load_object, save_object, make_object, build_object, is_on_files}
 use Rattle.pm_script.specs.Replies.{ReplySeen, done, ensured, explained, lists_rules, loaded, nothing, planned, refused, shows, tells, tells_origin, undef}
 use Rattle.pm_script.specs.declared.refusal.Refusal.TheVariants.{UnknownName, NameTaken, UnknownType, UnknownProperty, BadValue, AlreadyHeld, Sealed, ObjectsFull, NoChain, Crowded, BadFile, UnknownRule}
 use Rattle.pm_store.specs.Files.{FilesStay, file_of, read_part}
@@ -135,15 +136,11 @@ step_beside k book old new (tell_origin ref text) reply e h = origin_beside k ol
 step_beside k book old new (load_object name file) reply e h = absurd (true≢false e)
 step_beside k book old new (save_object name file) reply e h = absurd (true≢false e)
 step_beside k book old new (make_object to shape) reply e h = make_beside k old new to shape reply h
-step_beside k book old new (build_polar name to) reply e h = build_beside k book polar_building old name to reply new h
-step_beside k book old new (build_pyramid name to) reply e h = build_beside k book pyramid_building old name to reply new h
-step_beside k book old new (build_normal_fan name to) reply e h = build_beside k book normal_fan_building old name to reply new h
-step_beside k book old new (build_face_fan name to) reply e h = build_beside k book face_fan_building old name to reply new h
-step_beside k book old new (build_product first second to) reply e h = product_beside k book old first second to reply new h
+step_beside k book old new (build_object builder names to) reply e h = build_beside k book builder old names to reply new h
 
-begun_beside : (k : Store) (AreOfType : Type 0) (to : List ℕ) (old new : Machine) → MayHaveBegun AreOfType to old new → MayHaveBegun AreOfType to (beside k old) (beside k new)
-begun_beside k AreOfType to old new (inl s) = inl (stays_beside k old new s)
-begun_beside k AreOfType to old new (inr h) = inr h
+begun_beside : (k : Store) (b : Builder) (names : List (List ℕ)) (to : List ℕ) (old new : Machine) → MayHaveBegun b names to old new → MayHaveBegun b names to (beside k old) (beside k new)
+begun_beside k b names to old new (inl s) = inl (stays_beside k old new s)
+begun_beside k b names to old new (inr h) = inr h
 
 part_beside : (k : Store) (book : List Rule) (old new : Machine) (command : Spoken) → is_on_files command ≡ false → StepInPart book old command new → StepInPart book (beside k old) command (beside k new)
 part_beside k book old new (give_value ref text) e (inl s) = inl (stays_beside k old new s)
@@ -166,11 +163,7 @@ part_beside k book old new (copy_object name to) e s = stays_beside k old new s
 part_beside k book old new (drop_object name) e s = stays_beside k old new s
 part_beside k book old new (tell_origin ref text) e s = stays_beside k old new s
 part_beside k book old new (make_object to shape) e s = stays_beside k old new s
-part_beside k book old new (build_polar name to) e h = (begun_beside k (IsAPolytope old name) to old new h.0, parts_beside k book (wanted_of name polar_building.reads) old new h.1)
-part_beside k book old new (build_pyramid name to) e h = (begun_beside k (IsAPolytope old name) to old new h.0, parts_beside k book (wanted_of name pyramid_building.reads) old new h.1)
-part_beside k book old new (build_normal_fan name to) e h = (begun_beside k (IsAPolytope old name) to old new h.0, parts_beside k book (wanted_of name normal_fan_building.reads) old new h.1)
-part_beside k book old new (build_face_fan name to) e h = (begun_beside k (IsAPolytope old name) to old new h.0, parts_beside k book (wanted_of name face_fan_building.reads) old new h.1)
-part_beside k book old new (build_product first second to) e h = (begun_beside k (ArePolytopes old first second) to old new h.0, parts_beside k book (product_wanted first second) old new h.1)
+part_beside k book old new (build_object builder names to) e h = (begun_beside k builder names to old new h.0, parts_beside k book (wanted_all (row_of builder).reads names) old new h.1)
 
 -- the same, of what a call answers
 pub answered_beside : {E F : Type 0} (view : F → ReplySeen) (k : Store) (book : List Rule) (old new : Machine) (command : Spoken) (r : Result F E) → is_on_files command ≡ false

@@ -1,16 +1,16 @@
 -- A step that builds objects is the same beside any store.
 use Rattle.pm_command.specs.Commands.{ShapeSeen}
+use Rattle.pm_command.specs.declared.building.Builder.{Builder}
 use Rattle.pm_machine.proofs.BesideObjects.{becomes_beside, beside, gains_beside, stays_beside}
-use Rattle.pm_machine.specs.Building.{BuildStep, Building, EndsAt, EnsuresAll, EnsuresInPart, EnsuresOne, EnsuresOneInPart, MakeStep, ProductStep, Reads, ReadsBoth, Wanted, product_wanted, wanted_of}
+use Rattle.pm_machine.specs.Building.{BuildStep, DoesNotRead, EndsAt, EnsuresAll, EnsuresInPart, EnsuresOne, EnsuresOneInPart, MakeStep, Reads, Wanted, is_crowded, is_made, is_taken, no_chain, no_room, no_such_name, not_fit, other_type, row_of, wanted_all}
 use Rattle.pm_machine.specs.Machines.{Machine, Store}
 use Rattle.pm_machine.specs.declared.round.Ending.{Ending}
 use Rattle.pm_machine.specs.declared.round.Ending.TheVariants as ending
 use Rattle.pm_object.specs.State.{RoundSeen, State}
-use Rattle.pm_object.specs.declared.held.Condition.{Condition}
 use Rattle.pm_object.specs.declared.held.Condition.TheVariants as condition
 use Rattle.pm_rules.specs.declared.rule.Rule.{Rule}
-use Rattle.pm_script.specs.Replies.{Remarks, ReplySeen, done, nothing, planned, refused, told}
-use Rattle.pm_script.specs.declared.refusal.Refusal.TheVariants.{UnknownName, NameTaken, ObjectsFull, NoChain, Crowded, NotFit}
+use Rattle.pm_script.specs.Replies.{Remarks, ReplySeen, done, nothing, refused, told}
+use Rattle.pm_script.specs.declared.refusal.Refusal.TheVariants.{NameTaken, ObjectsFull, NoChain, Crowded, NotFit}
 use Rattle.std.proofs.Common.{inl, inr}
 use Rattle.std.specs.Prelude.{List, [], ℕ, ◌∷◌}
 
@@ -52,64 +52,19 @@ make_beside k old new to shape (refused (NotFit c) nothing) (h, i, s) = (h, i, s
 make_beside k old new to shape (done t) (h, i, is, g) = (h, i, is, gains_beside k _ _ old new g)
 make_beside k old new to shape reply h = absurd h
 
-module _ (k : Store) (book : List Rule) (b : Building) (old : Machine) (name to : List ℕ) where
-  reads_beside : (rounds : List RoundSeen) (o : State) (mid : Machine) → Reads book b name to rounds o old mid → Reads book b name to rounds o (beside k old) (beside k mid)
-  reads_beside rounds o mid r = record { free = r.free; polytope = r.polytope; ensured = all_beside k book (wanted_of name b.reads) rounds old mid r.ensured; object = r.object }
+module _ (k : Store) (book : List Rule) (b : Builder) (old : Machine) (names : List (List ℕ)) (to : List ℕ) where
+  reads_beside : (rounds : List RoundSeen) (os : List State) (mid : Machine) → Reads book b names to rounds os old mid → Reads book b names to rounds os (beside k old) (beside k mid)
+  reads_beside rounds os mid r = record { free = r.free; types = r.types; ensured = all_beside k book (wanted_all (row_of b).reads names) rounds old mid r.ensured; objects = r.objects }
 
-  unfit_beside : (c : Condition) (more : Remarks) (new : Machine) → BuildStep book b old name to (refused (NotFit c) more) new → BuildStep book b (beside k old) name to (refused (NotFit c) more) (beside k new)
-  unfit_beside condition.OfType nothing new (h, i, s) = (h, i, stays_beside k old new s)
-  unfit_beside condition.OfType (told always t) new (rounds, o, reads, h, is) = (rounds, o, reads_beside rounds o new reads, h, is)
-  unfit_beside condition.OfType (planned barred rows names) new (rounds, o, reads, h, is) = (rounds, o, reads_beside rounds o new reads, h, is)
-  unfit_beside condition.Bounded more new (rounds, o, reads, h, is) = (rounds, o, reads_beside rounds o new reads, h, is)
-  unfit_beside condition.FullDim more new (rounds, o, reads, h, is) = (rounds, o, reads_beside rounds o new reads, h, is)
-  unfit_beside condition.Centered more new (rounds, o, reads, h, is) = (rounds, o, reads_beside rounds o new reads, h, is)
-  unfit_beside condition.Feasible more new (rounds, o, reads, h, is) = (rounds, o, reads_beside rounds o new reads, h, is)
-  unfit_beside condition.Columns more new (rounds, o, reads, h, is) = (rounds, o, reads_beside rounds o new reads, h, is)
-  unfit_beside condition.Rows more new (rounds, o, reads, h, is) = (rounds, o, reads_beside rounds o new reads, h, is)
-  unfit_beside condition.Size more new (rounds, o, reads, h, is) = (rounds, o, reads_beside rounds o new reads, h, is)
+  not_beside : (e : Ending) (more : Remarks) (new : Machine) → DoesNotRead book b names to e more old new → DoesNotRead book b names to e more (beside k old) (beside k new)
+  not_beside e more new d = record { free = d.free; types = d.types; rounds = d.rounds; ends = ends_beside k book (wanted_all (row_of b).reads names) e d.rounds old new d.ends; told = d.told }
 
-  pub build_beside : (reply : ReplySeen) (new : Machine) → BuildStep book b old name to reply new → BuildStep book b (beside k old) name to reply (beside k new)
-  build_beside (refused UnknownName nothing) new (h, s) = (h, stays_beside k old new s)
-  build_beside (refused NameTaken nothing) new (h, i, s) = (h, i, stays_beside k old new s)
-  build_beside (refused ObjectsFull nothing) new (h, i, l, s) = (h, i, l, stays_beside k old new s)
-  build_beside (refused NoChain more) new d =
-      record { free = d.free; polytope = d.polytope; rounds = d.rounds; ends = ends_beside k book (wanted_of name b.reads) ending.NoChain d.rounds old new d.ends; told = d.told }
-  build_beside (refused Crowded more) new d =
-      record { free = d.free; polytope = d.polytope; rounds = d.rounds; ends = ends_beside k book (wanted_of name b.reads) ending.Crowded d.rounds old new d.ends; told = d.told }
-  build_beside (refused (NotFit c) more) new h = unfit_beside c more new h
-  build_beside (done t) new (rounds, o, mid, reads, h, g, is) = (rounds, o, beside k mid, reads_beside rounds o mid reads, h, gains_beside k _ _ mid new g, is)
-  build_beside reply new h = absurd h
-
-module _ (k : Store) (book : List Rule) (old : Machine) (first second to : List ℕ) where
-  both_beside : (rounds : List RoundSeen) (a b : State) (mid : Machine) → ReadsBoth book first second to rounds a b old mid → ReadsBoth book first second to rounds a b (beside k old) (beside k mid)
-  both_beside rounds a b mid r = record {
-    free = r.free;
-    polytopes = r.polytopes;
-    ensured = all_beside k book (product_wanted first second) rounds old mid r.ensured;
-    first_object = r.first_object;
-    second_object = r.second_object;
-  }
-
-  unfit_both_beside : (c : Condition) (more : Remarks) (new : Machine) → ProductStep book old first second to (refused (NotFit c) more) new → ProductStep book (beside k old) first second to (refused (NotFit c) more) (beside k new)
-  unfit_both_beside condition.OfType nothing new (h, i, l, s) = (h, i, l, stays_beside k old new s)
-  unfit_both_beside condition.OfType (told always t) new (rounds, a, b, reads, h, is) = (rounds, a, b, both_beside rounds a b new reads, h, is)
-  unfit_both_beside condition.OfType (planned barred rows names) new (rounds, a, b, reads, h, is) = (rounds, a, b, both_beside rounds a b new reads, h, is)
-  unfit_both_beside condition.Bounded more new (rounds, a, b, reads, h, is) = (rounds, a, b, both_beside rounds a b new reads, h, is)
-  unfit_both_beside condition.FullDim more new (rounds, a, b, reads, h, is) = (rounds, a, b, both_beside rounds a b new reads, h, is)
-  unfit_both_beside condition.Centered more new (rounds, a, b, reads, h, is) = (rounds, a, b, both_beside rounds a b new reads, h, is)
-  unfit_both_beside condition.Feasible more new (rounds, a, b, reads, h, is) = (rounds, a, b, both_beside rounds a b new reads, h, is)
-  unfit_both_beside condition.Columns more new (rounds, a, b, reads, h, is) = (rounds, a, b, both_beside rounds a b new reads, h, is)
-  unfit_both_beside condition.Rows more new (rounds, a, b, reads, h, is) = (rounds, a, b, both_beside rounds a b new reads, h, is)
-  unfit_both_beside condition.Size more new (rounds, a, b, reads, h, is) = (rounds, a, b, both_beside rounds a b new reads, h, is)
-
-  pub product_beside : (reply : ReplySeen) (new : Machine) → ProductStep book old first second to reply new → ProductStep book (beside k old) first second to reply (beside k new)
-  product_beside (refused UnknownName nothing) new (h, s) = (h, stays_beside k old new s)
-  product_beside (refused NameTaken nothing) new (h, i, s) = (h, i, stays_beside k old new s)
-  product_beside (refused ObjectsFull nothing) new (h, i, l, s) = (h, i, l, stays_beside k old new s)
-  product_beside (refused NoChain more) new d =
-      record { free = d.free; polytopes = d.polytopes; rounds = d.rounds; ends = ends_beside k book (product_wanted first second) ending.NoChain d.rounds old new d.ends; told = d.told }
-  product_beside (refused Crowded more) new d =
-      record { free = d.free; polytopes = d.polytopes; rounds = d.rounds; ends = ends_beside k book (product_wanted first second) ending.Crowded d.rounds old new d.ends; told = d.told }
-  product_beside (refused (NotFit c) more) new h = unfit_both_beside c more new h
-  product_beside (done t) new (rounds, a, b, mid, reads, h, g, is) = (rounds, a, b, beside k mid, both_beside rounds a b mid reads, h, gains_beside k _ _ mid new g, is)
-  product_beside reply new h = absurd h
+  pub build_beside : (reply : ReplySeen) (new : Machine) → BuildStep book b old names to reply new → BuildStep book b (beside k old) names to reply (beside k new)
+  build_beside _ new (no_such_name h s) = no_such_name h (stays_beside k old new s)
+  build_beside _ new (is_taken h i s) = is_taken h i (stays_beside k old new s)
+  build_beside _ new (no_room h i l s) = no_room h i l (stays_beside k old new s)
+  build_beside _ new (other_type h i l s) = other_type h i l (stays_beside k old new s)
+  build_beside _ new (no_chain {more = more} d) = no_chain (not_beside ending.NoChain more new d)
+  build_beside _ new (is_crowded {more = more} d) = is_crowded (not_beside ending.Crowded more new d)
+  build_beside _ new (not_fit rounds os reads apart h is) = not_fit rounds os (reads_beside rounds os new reads) apart h is
+  build_beside _ new (is_made {mid = mid} rounds os f reads h g is) = is_made {mid = beside k mid} rounds os f (reads_beside rounds os mid reads) h (gains_beside k _ _ mid new g) is

@@ -1,33 +1,35 @@
 -- The steps of the commands that build objects, from what their functions do.
-use Rattle.pm_algebra.proofs.Lists.{among_append_left, among_append_right}
-use Rattle.pm_build.specs.Conditions.{polar_reads, product_reads, product_refusal, pyramid_reads}
-use Rattle.pm_build.specs.Objects.{product_of}
 use Rattle.pm_client.specs.Starts.{Clients}
 use Rattle.pm_command.specs.Commands.{ShapeSeen}
-use Rattle.pm_fan.specs.Conditions.{face_reads, normal_reads}
+use Rattle.pm_command.specs.declared.building.Binary.TheVariants.{Product}
+use Rattle.pm_command.specs.declared.building.Builder.{Builder}
+use Rattle.pm_command.specs.declared.building.Builder.TheVariants.{One, Two}
+use Rattle.pm_command.specs.declared.building.Unary.TheVariants.{FaceFan, NormalFan, Polar, Pyramid}
 use Rattle.pm_files.specs.Views.{file_of}
 use Rattle.pm_files.specs.declared.file.FileObject.{FileObject}
 use Rattle.pm_machine.proofs.Ensuring.{all_stay}
-use Rattle.pm_machine.proofs.Growth.{has_read, wanted_one}
-use Rattle.pm_machine.specs.Building.{ArePolytopes, BuildStep, Building, EnsuresAll, IsAPolytope, MakeStep, ProductStep, Reads, ReadsBoth, object_of, product_wanted, shape_condition, shape_file, told_rounds, wanted_of}
-use Rattle.pm_machine.specs.Built.{Builds, HasRead, IsBarred, Makes, Multiplies, building_of, remarks_of}
+use Rattle.pm_machine.proofs.Growth.{all_have_read}
+use Rattle.pm_machine.specs.Building.{BuildStep, EnsuresAll, MakeStep, Makes, ObjectsAre, Unfit, are_named, are_of, first_of, is_made, is_taken, no_room, not_fit, object_of, row_of, same_type, second_of, shape_condition, shape_file, told_rounds, wanted_all}
+use Rattle.pm_machine.specs.Built.{Builds, HasRead, HaveRead, IsBarred, IsBuilt, IsRead, IsUnfit, MakesBuilt, remarks_of}
 use Rattle.pm_machine.specs.Machines.{Gains, IsFree, Machine, Stays, most_objects, no_rounds}
-use Rattle.pm_machine.specs.declared.making.Building.{Building as Named}
-use Rattle.pm_machine.specs.declared.making.Building.TheVariants as named
 use Rattle.pm_object.specs.State.{IsRefused, RoundSeen, State, is_polytope}
 use Rattle.pm_object.specs.declared.held.BuildFail.{BuildFail}
 use Rattle.pm_object.specs.declared.held.BuildFail.TheVariants as fail
 use Rattle.pm_object.specs.declared.held.Condition.{Condition}
 use Rattle.pm_object.specs.declared.held.Condition.TheVariants as condition
-use Rattle.pm_props.specs.declared.property.PropId.TheVariants.{AffineHull, Bounded, Centered, Facets, Feasible, FullDim, LinealitySpace, Vertices, VerticesInFacets}
+use Rattle.pm_object_type.specs.declared.object_type.ObjectType.{ObjectType}
+use Rattle.pm_object_type.specs.declared.object_type.ObjectType.TheVariants.{Cone, Fan, Polytope}
+use Rattle.pm_props.specs.declared.property.PropId.{PropId}
 use Rattle.pm_rules.specs.declared.rule.Rule.{Rule}
-use Rattle.pm_script.specs.Replies.{NamesSeen, Remarks, ReplySeen, Rounds, done, nothing, refused}
+use Rattle.pm_script.specs.Replies.{NamesSeen, ReplySeen, Rounds, done, nothing, refused}
 use Rattle.pm_script.specs.declared.refusal.Refusal.{Refusal}
 use Rattle.pm_script.specs.declared.refusal.Refusal.TheVariants.{NameTaken, ObjectsFull, NotFit}
 use Rattle.std.proofs.Common.{ap, false, inl, inr, refl, subst, sym, true, true≢false, ◌∙◌, ◌≢◌}
+use Rattle.std.proofs.lemmas.Bool.{and_from, and_parts}
 use Rattle.std.proofs.lemmas.Option.{same_Some}
+use Rattle.std.specs.List.{AllByRecursion, list_all}
 use Rattle.std.specs.Option.{is_some}
-use Rattle.std.specs.Prelude.{Bool, Err, IfErr, IfOk, List, None, Ok, OnErr, OnOk, Option, Result, Some, [], if◌then◌else◌, length, map, not, ℕ, ◌&&◌, ◌∷◌, ◌≡◌, ◌≤◌, ◌⊎◌}
+use Rattle.std.specs.Prelude.{Bool, Err, IfErr, IfOk, List, None, Ok, OnErr, OnOk, Option, Result, Some, [], drop, get_or, if◌then◌else◌, length, map, not, ℕ, ◌&&◌, ◌∷◌, ◌≡◌, ◌≤◌, ◌⊎◌}
 
 -- the machine with these clients
 abbrev pub with_clients : Clients → Machine → Machine
@@ -54,17 +56,10 @@ make_barred m to shape why new h s = elim (barred_so m to why h) [
   | inr (is, none, full) ↦ subst (λ z. MakeStep m to shape (refused z nothing) new) (sym is) (none, full, s)
 ]
 
-pub build_barred : (book : List Rule) (b : Building) (m : Machine) (name to : List ℕ) (why : Refusal) (new : Machine) → m.object name ≢ None → IsBarred m to why → Stays m new → BuildStep book b m name to (refused why nothing) new
-build_barred book b m name to why new named h s = elim (barred_so m to why h) [
-  | inl (is, taken) ↦ subst (λ z. BuildStep book b m name to (refused z nothing) new) (sym is) (named, taken, s)
-  | inr (is, none, full) ↦ subst (λ z. BuildStep book b m name to (refused z nothing) new) (sym is) (named, none, full, s)
-]
-
-pub product_barred : (book : List Rule) (m : Machine) (first second to : List ℕ) (why : Refusal) (new : Machine) → m.object first ≢ None → m.object second ≢ None → IsBarred m to why → Stays m new
-    → ProductStep book m first second to (refused why nothing) new
-product_barred book m first second to why new named named' h s = elim (barred_so m to why h) [
-  | inl (is, taken) ↦ subst (λ z. ProductStep book m first second to (refused z nothing) new) (sym is) ((named, named'), taken, s)
-  | inr (is, none, full) ↦ subst (λ z. ProductStep book m first second to (refused z nothing) new) (sym is) ((named, named'), none, full, s)
+pub build_barred : (book : List Rule) (b : Builder) (m : Machine) (names : List (List ℕ)) (to : List ℕ) (why : Refusal) (new : Machine) → are_named m names ≡ true → IsBarred m to why → Stays m new → BuildStep book b m names to (refused why nothing) new
+build_barred book b m names to why new named h s = elim (barred_so m to why h) [
+  | inl (is, taken) ↦ subst (λ z. BuildStep book b m names to (refused z nothing) new) (sym is) (is_taken named taken s)
+  | inr (is, none, full) ↦ subst (λ z. BuildStep book b m names to (refused z nothing) new) (sym is) (no_room named none full s)
 ]
 
 -- ---- what was built
@@ -73,7 +68,7 @@ abbrev pub MadeSo : List ℕ → Result FileObject BuildFail → Rounds → Repl
 MadeSo to built t reply old new = ((f : FileObject) × (built ≡ Ok f) × (reply ≡ done t) × Gains to (object_of (file_of f)) old new)
     ⊎ ((c : Condition) × (built ≡ Err (fail.NotFit c)) × (reply ≡ refused (NotFit c) (remarks_of t)) × Stays old new)
 
-made_so : (to : List ℕ) (built : Result FileObject BuildFail) (t : Rounds) (reply : ReplySeen) (old new : Machine) → Makes to built t reply old new → MadeSo to built t reply old new
+made_so : (to : List ℕ) (built : Result FileObject BuildFail) (t : Rounds) (reply : ReplySeen) (old new : Machine) → MakesBuilt to built t reply old new → MadeSo to built t reply old new
 made_so to (Ok f) t (done told) old new (is, g) = inl (f, refl, ap done is, g)
 made_so to (Err (fail.NotFit c)) t (refused (NotFit d) more) old new (same, is, s) = inr (c, refl, ap (λ z. refused (NotFit z) more) same ∙ ap (λ z. refused (NotFit c) z) is, s)
 made_so to built t reply old new h = absurd h
@@ -110,39 +105,24 @@ made_step to shape built t reply clients old new free none file fits refused' (i
     )
 
 pub make_step : {F E : Type 0} (view : F → ReplySeen) (r : Result F E) (to : List ℕ) (shape : ShapeSeen) (built : Result FileObject BuildFail) (t : Rounds) (clients : Clients) (old new : Machine) → IsFree old to → t ≡ no_rounds
-    → IfOk built (λ f. file_of f ≡ shape_file shape) → OnOk built (shape_condition shape ≡ None) → IfErr built (IsRefused (shape_condition shape)) → IfOk r (λ x. Makes to built t (view x) old new)
+    → IfOk built (λ f. file_of f ≡ shape_file shape) → OnOk built (shape_condition shape ≡ None) → IfErr built (IsRefused (shape_condition shape)) → IfOk r (λ x. MakesBuilt to built t (view x) old new)
     → IfOk r (λ x. MakeStep (with_clients clients old) to shape (view x) (with_clients clients new))
 make_step view (Ok x) to shape built t clients old new free none file fits refused' h =
     made_step to shape built t (view x) clients old new free none file fits refused' (made_so to built t (view x) old new h)
 make_step view (Err e) to shape built t clients old new free none file fits refused' h = tt
 
--- an object that was made of another
-built_so : (b : Building) (name to : List ℕ) (built : Result FileObject BuildFail) (t : Rounds) (reply : ReplySeen) (old new : Machine) (o : State) → old.object name ≡ Some o
-    → IfOk built (λ f. file_of f ≡ b.file o) → OnOk built (b.refusal o ≡ None) → IfErr built (IsRefused (b.refusal o)) → MadeSo to built t reply old new → Builds b name to t reply old new
-built_so b name to built t reply old new o at file fits refused' (inl (f, is, said, g)) =
-    subst (λ z. Builds b name to t z old new) (sym said)
-    (o, at, on_ok (b.refusal o ≡ None) built f is fits, refl, subst (λ z. Gains to (object_of z) old new) (if_ok (λ f. file_of f ≡ b.file o) built f is file) g)
-built_so b name to built t reply old new o at file fits refused' (inr (c, is, said, s)) =
-    subst (λ z. Builds b name to t z old new) (sym said) (o, at, if_err (IsRefused (b.refusal o)) built (fail.NotFit c) is refused', refl, s)
+-- an object that was made of others
+built_so : (b : Builder) (names : List (List ℕ)) (to : List ℕ) (built : Result FileObject BuildFail) (t : Rounds) (reply : ReplySeen) (old new : Machine) → IsBuilt b old names built → MadeSo to built t reply old new → Builds b names to t reply old new
+built_so b names to built t reply old new i (inl (f, is, said, g)) =
+    subst (λ z. Builds b names to t z old new) (sym said)
+    (i.objects, file_of f, i.are, if_ok (λ f. Makes b i.objects (file_of f)) built f is i.made, refl, g)
+built_so b names to built t reply old new i (inr (c, is, said, s)) =
+    subst (λ z. Builds b names to t z old new) (sym said) (i.objects, i.are, if_err (IsUnfit (Unfit b i.objects)) built (fail.NotFit c) is i.unfit, refl, s)
 
-pub builds_one : {F E : Type 0} (view : F → ReplySeen) (r : Result F E) (b : Building) (name to : List ℕ) (built : Result FileObject BuildFail) (t : Rounds) (old new : Machine) (o : State) → old.object name ≡ Some o
-    → IfOk built (λ f. file_of f ≡ b.file o) → OnOk built (b.refusal o ≡ None) → IfErr built (IsRefused (b.refusal o)) → IfOk r (λ x. Makes to built t (view x) old new) → IfOk r (λ x. Builds b name to t (view x) old new)
-builds_one view (Ok x) b name to built t old new o at file fits refused' h = built_so b name to built t (view x) old new o at file fits refused' (made_so to built t (view x) old new h)
-builds_one view (Err e) b name to built t old new o at file fits refused' h = tt
-
-multiplied_so : (first second to : List ℕ) (built : Result FileObject BuildFail) (t : Rounds) (reply : ReplySeen) (old new : Machine) (a b : State) → old.object first ≡ Some a → old.object second ≡ Some b
-    → IfOk built (λ f. file_of f ≡ product_of a b) → OnOk built (product_refusal a b ≡ None) → IfErr built (IsRefused (product_refusal a b)) → MadeSo to built t reply old new → Multiplies first second to t reply old new
-multiplied_so first second to built t reply old new a b at at' file fits refused' (inl (f, is, said, g)) =
-    subst (λ z. Multiplies first second to t z old new) (sym said)
-    (a, b, at, at', on_ok (product_refusal a b ≡ None) built f is fits, refl, subst (λ z. Gains to (object_of z) old new) (if_ok (λ f. file_of f ≡ product_of a b) built f is file) g)
-multiplied_so first second to built t reply old new a b at at' file fits refused' (inr (c, is, said, s)) =
-    subst (λ z. Multiplies first second to t z old new) (sym said) (a, b, at, at', if_err (IsRefused (product_refusal a b)) built (fail.NotFit c) is refused', refl, s)
-
-pub multiplies_two : {F E : Type 0} (view : F → ReplySeen) (r : Result F E) (first second to : List ℕ) (built : Result FileObject BuildFail) (t : Rounds) (old new : Machine) (a b : State) → old.object first ≡ Some a → old.object second ≡ Some b
-    → IfOk built (λ f. file_of f ≡ product_of a b) → OnOk built (product_refusal a b ≡ None) → IfErr built (IsRefused (product_refusal a b)) → IfOk r (λ x. Makes to built t (view x) old new)
-    → IfOk r (λ x. Multiplies first second to t (view x) old new)
-multiplies_two view (Ok x) first second to built t old new a b at at' file fits refused' h = multiplied_so first second to built t (view x) old new a b at at' file fits refused' (made_so to built t (view x) old new h)
-multiplies_two view (Err e) first second to built t old new a b at at' file fits refused' h = tt
+pub builds_all : {F E : Type 0} (view : F → ReplySeen) (r : Result F E) (b : Builder) (names : List (List ℕ)) (to : List ℕ) (built : Result FileObject BuildFail) (t : Rounds) (old new : Machine) → IsBuilt b old names built
+    → IfOk r (λ x. MakesBuilt to built t (view x) old new) → IfOk r (λ x. Builds b names to t (view x) old new)
+builds_all view (Ok x) b names to built t old new i h = built_so b names to built t (view x) old new i (made_so to built t (view x) old new h)
+builds_all view (Err e) b names to built t old new i h = tt
 
 -- ---- a polytope is not refused for its type
 past : (t : Bool) (d : Condition) (x : Option Condition) (c : Condition) → t ≡ true → (if not t then Some d else x) ≡ Some c → x ≡ Some c
@@ -181,106 +161,105 @@ columns_apart e = cc
 rows_apart : condition.Rows ≢ condition.OfType
 rows_apart e = cc
 
--- no polytope is refused for its type
-abbrev pub IsOfPolytopes : Building → Type 0
-IsOfPolytopes b = (o : State) (c : Condition) → is_polytope o.of ≡ true → b.refusal o ≡ Some c → c ≢ condition.OfType
+-- objects of the type are not refused for it
+abbrev pub IsOfItsType : Builder → Type 0
+IsOfItsType b = (os : List State) (c : Condition) → list_all (λ o. same_type (row_of b).of o.of) os ≡ true → Unfit b os c → c ≢ condition.OfType
 
-pub of_polytopes : (what : Named) → IsOfPolytopes (building_of what)
-of_polytopes named.Polar o c is h =
-    unless _ condition.Bounded _ c bounded_apart (unless _ condition.FullDim _ c full_apart (unless _ condition.Centered _ c centered_apart (unless _ condition.Rows _ c rows_apart never))) (past (is_polytope o.of) condition.OfType _ c is h)
-of_polytopes named.Pyramid o c is h = unless _ condition.Columns _ c columns_apart (unless _ condition.Rows _ c rows_apart never) (past (is_polytope o.of) condition.OfType _ c is h)
-of_polytopes named.NormalFan o c is h =
-    unless _ condition.Bounded _ c bounded_apart (unless _ condition.Feasible _ c feasible_apart (unless _ condition.Columns _ c columns_apart (unless _ condition.Rows _ c rows_apart (rows_last _ c)))) (past (is_polytope o.of) condition.OfType _ c is h)
-of_polytopes named.FaceFan o c is h =
-    unless _ condition.Bounded _ c bounded_apart (unless _ condition.Centered _ c centered_apart (unless _ condition.Columns _ c columns_apart (unless _ condition.Rows _ c rows_apart (rows_last _ c)))) (past (is_polytope o.of) condition.OfType _ c is h)
+polytope_is : (o : State) → same_type Polytope o.of ≡ true → is_polytope o.of ≡ true
+polytope_is o h = by o.of h
+  where
+    by : (type : ObjectType) → same_type Polytope type ≡ true → is_polytope type ≡ true
+    by Polytope e = refl
+    by Cone e = absurd (true≢false (sym e))
+    by Fan e = absurd (true≢false (sym e))
+
+first_polytope : (os : List State) → list_all (λ o. same_type Polytope o.of) os ≡ true → is_polytope (first_of os).of ≡ true
+first_polytope [] h = refl
+first_polytope (o ∷ os) h = polytope_is o (and_parts (same_type Polytope o.of) (list_all (λ o. same_type Polytope o.of) os) h).0
+
+second_polytope : (os : List State) → list_all (λ o. same_type Polytope o.of) os ≡ true → is_polytope (second_of os).of ≡ true
+second_polytope [] h = refl
+second_polytope (o ∷ os) h = first_polytope os (and_parts (same_type Polytope o.of) (list_all (λ o. same_type Polytope o.of) os) h).1
 
 both_true : (a b : Bool) → a ≡ true → b ≡ true → (a && b) ≡ true
 both_true a b e f = cc
 
-product_of_polytopes : (a b : State) (c : Condition) → is_polytope a.of ≡ true → is_polytope b.of ≡ true → product_refusal a b ≡ Some c → c ≢ condition.OfType
-product_of_polytopes a b c is is' h =
-    unless _ condition.Columns _ c columns_apart (unless _ condition.Rows _ c rows_apart never) (past (is_polytope a.of && is_polytope b.of) condition.OfType _ c (both_true (is_polytope a.of) (is_polytope b.of) is is') h)
+-- a line a row
+pub of_its_type : (what : Builder) → IsOfItsType what
+of_its_type (One Polar) os c is h =
+    unless _ condition.Bounded _ c bounded_apart (unless _ condition.FullDim _ c full_apart (unless _ condition.Centered _ c centered_apart (unless _ condition.Rows _ c rows_apart never)))
+    (past (is_polytope (first_of os).of) condition.OfType _ c (first_polytope os is) h)
+of_its_type (One Pyramid) os c is h = unless _ condition.Columns _ c columns_apart (unless _ condition.Rows _ c rows_apart never) (past (is_polytope (first_of os).of) condition.OfType _ c (first_polytope os is) h)
+of_its_type (One NormalFan) os c is h =
+    unless _ condition.Bounded _ c bounded_apart (unless _ condition.Feasible _ c feasible_apart (unless _ condition.Columns _ c columns_apart (unless _ condition.Rows _ c rows_apart (rows_last _ c))))
+    (past (is_polytope (first_of os).of) condition.OfType _ c (first_polytope os is) h)
+of_its_type (One FaceFan) os c is h =
+    unless _ condition.Bounded _ c bounded_apart (unless _ condition.Centered _ c centered_apart (unless _ condition.Columns _ c columns_apart (unless _ condition.Rows _ c rows_apart (rows_last _ c))))
+    (past (is_polytope (first_of os).of) condition.OfType _ c (first_polytope os is) h)
+of_its_type (Two Product) os c is h =
+    unless _ condition.Columns _ c columns_apart (unless _ condition.Rows _ c rows_apart never)
+    (past (is_polytope (first_of os).of && is_polytope (second_of os).of) condition.OfType _ c (both_true (is_polytope (first_of os).of) (is_polytope (second_of os).of) (first_polytope os is) (second_polytope os is)) h)
+
+-- the objects that were read are of the type
+read_types : (type : ObjectType) (ps : List PropId) (m : Machine) (names : List (List ℕ)) (os : List State) → AllByRecursion (λ n. HasRead type ps (m.object n)) names → ObjectsAre m names os → list_all (λ o. same_type type o.of) os ≡ true
+read_types type ps m names [] read are = refl
+read_types type ps m [] (o ∷ os) read are = absurd (cons_nil are)
+  where
+    cons_nil : [] ≡ Some o ∷ map (λ o. Some o) os → ⊥
+    cons_nil e = cc
+read_types type ps m (n ∷ ns) (o ∷ os) (r, rs) are =
+    let at : m.object n ≡ Some o = ap (λ z. get_or z 0 None) are in
+    and_from (same_type type o.of) (list_all (λ o. same_type type o.of) os) (subst (λ (z : State). same_type type z.of ≡ true) (same_Some _ _ (sym r.is ∙ at)) r.of_type) (read_types type ps m ns os rs (ap (drop 1) are))
+
+-- ---- the objects that were found
+pub read_there : (type : ObjectType) (ps : List PropId) (m : Machine) (name given : List ℕ) (o : State) → given ≡ name → m.object given ≡ Some o → HasRead type ps (m.object name) → IsRead ps o
+read_there type ps m name given o same at r = subst (IsRead ps) (same_Some _ _ (sym r.is ∙ sym (ap m.object same) ∙ at)) r.read
+
+pub one_object : (m : Machine) (name given : List ℕ) (o : State) → given ≡ name → m.object given ≡ Some o → ObjectsAre m (name ∷ []) (o ∷ [])
+one_object m name given o same at = ap (λ z. z ∷ []) (sym (ap m.object same) ∙ at)
+
+pub two_objects : (m : Machine) (first second given other : List ℕ) (o p : State) → given ≡ first → other ≡ second → m.object given ≡ Some o → m.object other ≡ Some p → ObjectsAre m (first ∷ second ∷ []) (o ∷ p ∷ [])
+two_objects m first second given other o p same same' at at' = ap (λ z. z ∷ m.object second ∷ []) (sym (ap m.object same) ∙ at) ∙ ap (λ z. Some o ∷ z ∷ []) (sym (ap m.object same') ∙ at')
+
+-- ---- objects that stay
+same_objects : (old new : Machine) (names : List (List ℕ)) → Stays old new → map new.object names ≡ map old.object names
+same_objects old new [] s = refl
+same_objects old new (n ∷ ns) s = ap (λ z. z ∷ map new.object ns) (s.objects n) ∙ ap (λ z. old.object n ∷ z) (same_objects old new ns s)
 
 -- ---- the steps where all was found
-build_step : (book : List Rule) (b : Building) (name to : List ℕ) (rounds : List RoundSeen) (t : Rounds) (reply : ReplySeen) (clients : Clients) (old mid new : Machine) → IsFree old to → IsAPolytope old name
-    → EnsuresAll book (wanted_of name b.reads) rounds old (with_clients clients mid) → t ≡ told_rounds book rounds → IsOfPolytopes b → HasRead b.reads name mid → Builds b name to t reply mid new
-    → BuildStep book b old name to reply (with_clients clients new)
-build_step book b name to rounds t (done told) clients old mid new free poly all is of read (o, at, fits, same, g) =
-    (rounds, o, with_clients clients mid, record { free = free; polytope = poly; ensured = all; object = at }, fits, gains_with clients to _ mid new g, same ∙ is)
-build_step book b name to rounds t (refused (NotFit c) more) clients old mid new free poly all is of read (o, at, fails, same, s) =
-    by c more (of o c (ap (λ z. is_polytope z.of) (same_Some _ _ (sym at ∙ read.object_is)) ∙ read.polytope) fails) fails (same ∙ ap remarks_of is)
-  where
-    reads : Reads book b name to rounds o old (with_clients clients new)
-    reads = record { free = free; polytope = poly; ensured = all_stay book (wanted_of name b.reads) rounds old (with_clients clients mid) (with_clients clients new) all (stays_with clients mid new s); object = s.objects name ∙ at }
-
-    by : (c : Condition) (more : Remarks) → c ≢ condition.OfType → b.refusal o ≡ Some c → more ≡ remarks_of (told_rounds book rounds) → BuildStep book b old name to (refused (NotFit c) more) (with_clients clients new)
-    by condition.OfType m apart r e = absurd (apart refl)
-    by condition.Bounded m apart r e = (rounds, o, reads, r, e)
-    by condition.FullDim m apart r e = (rounds, o, reads, r, e)
-    by condition.Centered m apart r e = (rounds, o, reads, r, e)
-    by condition.Feasible m apart r e = (rounds, o, reads, r, e)
-    by condition.Columns m apart r e = (rounds, o, reads, r, e)
-    by condition.Rows m apart r e = (rounds, o, reads, r, e)
-    by condition.Size m apart r e = (rounds, o, reads, r, e)
-build_step book b name to rounds t reply clients old mid new free poly all is of read h = absurd h
-
-pub build_answered : {F E : Type 0} (view : F → ReplySeen) (r : Result F E) (book : List Rule) (b : Building) (name to : List ℕ) (rounds : List RoundSeen) (t : Rounds) (clients : Clients) (old mid new : Machine) → IsFree old to → IsAPolytope old name
-    → EnsuresAll book (wanted_of name b.reads) rounds old (with_clients clients mid) → t ≡ told_rounds book rounds → IsOfPolytopes b → HasRead b.reads name mid → IfOk r (λ x. Builds b name to t (view x) mid new)
-    → IfOk r (λ x. BuildStep book b old name to (view x) (with_clients clients new))
-build_answered view (Ok x) book b name to rounds t clients old mid new free poly all is of read h = build_step book b name to rounds t (view x) clients old mid new free poly all is of read h
-build_answered view (Err e) book b name to rounds t clients old mid new free poly all is of read h = tt
-
-product_step : (book : List Rule) (first second to : List ℕ) (rounds : List RoundSeen) (t : Rounds) (reply : ReplySeen) (clients : Clients) (old mid new : Machine) → IsFree old to → ArePolytopes old first second
-    → EnsuresAll book (product_wanted first second) rounds old (with_clients clients mid) → t ≡ told_rounds book rounds → (ps : _) → HasRead ps first mid → HasRead ps second mid → Multiplies first second to t reply mid new
-    → ProductStep book old first second to reply (with_clients clients new)
-product_step book first second to rounds t (done told) clients old mid new free poly all is ps read read' (a, b, at, at', fits, same, g) =
-    (rounds, a, b, with_clients clients mid, record { free = free; polytopes = poly; ensured = all; first_object = at; second_object = at' }, fits, gains_with clients to _ mid new g, same ∙ is)
-product_step book first second to rounds t (refused (NotFit c) more) clients old mid new free poly all is ps read read' (a, b, at, at', fails, same, s) =
-    by c more
-    (product_of_polytopes a b c (ap (λ z. is_polytope z.of) (same_Some _ _ (sym at ∙ read.object_is)) ∙ read.polytope) (ap (λ z. is_polytope z.of) (same_Some _ _ (sym at' ∙ read'.object_is)) ∙ read'.polytope) fails)
-    fails (same ∙ ap remarks_of is)
-  where
-    reads : ReadsBoth book first second to rounds a b old (with_clients clients new)
-    reads = record {
+build_step : (book : List Rule) (b : Builder) (names : List (List ℕ)) (to : List ℕ) (rounds : List RoundSeen) (t : Rounds) (reply : ReplySeen) (clients : Clients) (old mid new : Machine) → IsFree old to → are_of (row_of b).of old names ≡ true
+    → EnsuresAll book (wanted_all (row_of b).reads names) rounds old (with_clients clients mid) → t ≡ told_rounds book rounds → IsOfItsType b → HaveRead b mid names → Builds b names to t reply mid new
+    → BuildStep book b old names to reply (with_clients clients new)
+build_step book b names to rounds t (done told) clients old mid new free types all is of read (os, f, are, fits, same, g) =
+    is_made {mid = with_clients clients mid} rounds os f (record { free = free; types = types; ensured = all; objects = are }) fits (gains_with clients to _ mid new g) (same ∙ is)
+build_step book b names to rounds t (refused (NotFit c) more) clients old mid new free types all is of read (os, are, fails, same, s) =
+    not_fit rounds os
+    (record {
       free = free;
-      polytopes = poly;
-      ensured = all_stay book (product_wanted first second) rounds old (with_clients clients mid) (with_clients clients new) all (stays_with clients mid new s);
-      first_object = s.objects first ∙ at;
-      second_object = s.objects second ∙ at';
-    }
+      types = types;
+      ensured = all_stay book (wanted_all (row_of b).reads names) rounds old (with_clients clients mid) (with_clients clients new) all (stays_with clients mid new s);
+      objects = same_objects mid new names s ∙ are;
+    })
+    (of os c (read_types (row_of b).of (row_of b).reads mid names os read are) fails) fails (same ∙ ap remarks_of is)
+build_step book b names to rounds t reply clients old mid new free types all is of read h = absurd h
 
-    by : (c : Condition) (more : Remarks) → c ≢ condition.OfType → product_refusal a b ≡ Some c → more ≡ remarks_of (told_rounds book rounds) → ProductStep book old first second to (refused (NotFit c) more) (with_clients clients new)
-    by condition.OfType m apart r e = absurd (apart refl)
-    by condition.Bounded m apart r e = (rounds, a, b, reads, r, e)
-    by condition.FullDim m apart r e = (rounds, a, b, reads, r, e)
-    by condition.Centered m apart r e = (rounds, a, b, reads, r, e)
-    by condition.Feasible m apart r e = (rounds, a, b, reads, r, e)
-    by condition.Columns m apart r e = (rounds, a, b, reads, r, e)
-    by condition.Rows m apart r e = (rounds, a, b, reads, r, e)
-    by condition.Size m apart r e = (rounds, a, b, reads, r, e)
-product_step book first second to rounds t reply clients old mid new free poly all is ps read read' h = absurd h
+pub build_answered : {F E : Type 0} (view : F → ReplySeen) (r : Result F E) (book : List Rule) (b : Builder) (names : List (List ℕ)) (to : List ℕ) (rounds : List RoundSeen) (t : Rounds) (clients : Clients) (old mid new : Machine) → IsFree old to → are_of (row_of b).of old names ≡ true
+    → EnsuresAll book (wanted_all (row_of b).reads names) rounds old (with_clients clients mid) → t ≡ told_rounds book rounds → IsOfItsType b → HaveRead b mid names → IfOk r (λ x. Builds b names to t (view x) mid new)
+    → IfOk r (λ x. BuildStep book b old names to (view x) (with_clients clients new))
+build_answered view (Ok x) book b names to rounds t clients old mid new free types all is of read h = build_step book b names to rounds t (view x) clients old mid new free types all is of read h
+build_answered view (Err e) book b names to rounds t clients old mid new free types all is of read h = tt
 
-pub product_answered : {F E : Type 0} (view : F → ReplySeen) (r : Result F E) (book : List Rule) (first second to : List ℕ) (rounds : List RoundSeen) (t : Rounds) (clients : Clients) (old mid new : Machine) → IsFree old to
-    → ArePolytopes old first second → EnsuresAll book (product_wanted first second) rounds old (with_clients clients mid) → t ≡ told_rounds book rounds → (ps : _) → HasRead ps first mid → HasRead ps second mid
-    → IfOk r (λ x. Multiplies first second to t (view x) mid new) → IfOk r (λ x. ProductStep book old first second to (view x) (with_clients clients new))
-product_answered view (Ok x) book first second to rounds t clients old mid new free poly all is ps read read' h = product_step book first second to rounds t (view x) clients old mid new free poly all is ps read read' h
-product_answered view (Err e) book first second to rounds t clients old mid new free poly all is ps read read' h = tt
+-- ---- what is read: a line a row
+pub reads_done : (what : Builder) (book : List Rule) (names : List (List ℕ)) (rounds : List RoundSeen) (old new : Machine) → EnsuresAll book (wanted_all (row_of what).reads names) rounds old new → are_of (row_of what).of old names ≡ true → HaveRead what new names
+reads_done (One Polar) book names rounds old new all types = all_have_read book rounds old new (One Polar) _ _ names refl all types
+reads_done (One Pyramid) book names rounds old new all types = all_have_read book rounds old new (One Pyramid) _ _ names refl all types
+reads_done (One NormalFan) book names rounds old new all types = all_have_read book rounds old new (One NormalFan) _ _ names refl all types
+reads_done (One FaceFan) book names rounds old new all types = all_have_read book rounds old new (One FaceFan) _ _ names refl all types
+reads_done (Two Product) book names rounds old new all types = all_have_read book rounds old new (Two Product) _ _ names refl all types
 
--- ---- what is read
-pub reads_done : (what : Named) (book : List Rule) (name : List ℕ) (rounds : List RoundSeen) (old new : Machine) → EnsuresAll book (wanted_of name (building_of what).reads) rounds old new → IsAPolytope old name → HasRead (building_of what).reads name new
-reads_done named.Polar book name rounds old new all poly = has_read book _ rounds old new name Bounded (FullDim ∷ Centered ∷ Facets ∷ []) all poly (wanted_one book name polar_reads)
-reads_done named.Pyramid book name rounds old new all poly = has_read book _ rounds old new name Vertices (LinealitySpace ∷ []) all poly (wanted_one book name pyramid_reads)
-reads_done named.NormalFan book name rounds old new all poly =
-    has_read book _ rounds old new name Bounded (Feasible ∷ AffineHull ∷ VerticesInFacets ∷ Facets ∷ Vertices ∷ []) all poly (wanted_one book name normal_reads)
-reads_done named.FaceFan book name rounds old new all poly = has_read book _ rounds old new name Bounded (Centered ∷ VerticesInFacets ∷ Vertices ∷ []) all poly (wanted_one book name face_reads)
-
-pub first_read : (book : List Rule) (first second : List ℕ) (rounds : List RoundSeen) (old new : Machine) → EnsuresAll book (product_wanted first second) rounds old new → IsAPolytope old first → HasRead product_reads first new
-first_read book first second rounds old new all poly =
-    has_read book (product_wanted first second) rounds old new first Facets (AffineHull ∷ []) all poly (λ q i. among_append_left (wanted_of second product_reads) (wanted_one book first product_reads q i))
-
-pub second_read : (book : List Rule) (first second : List ℕ) (rounds : List RoundSeen) (old new : Machine) → EnsuresAll book (product_wanted first second) rounds old new → IsAPolytope old second → HasRead product_reads second new
-second_read book first second rounds old new all poly =
-    has_read book (product_wanted first second) rounds old new second Facets (AffineHull ∷ []) all poly (λ q i. among_append_right (wanted_of first product_reads) (wanted_one book second product_reads q i))
+-- what was asked of a type was asked of that of the row
+pub of_row : {answer : Bool} (type : ObjectType) (b : Builder) (m : Machine) (names : List (List ℕ)) → type ≡ (row_of b).of → are_of type m names ≡ answer → are_of (row_of b).of m names ≡ answer
+of_row {answer} type b m names same h = subst (λ z. are_of z m names ≡ answer) same h
 
 -- ---- where memory ran out
 pub if_broken : {T E P Q : Type 0} (r : Result T E) → (P → Q) → OnErr r P → OnErr r Q

@@ -1,18 +1,21 @@
 -- The examples of building, by what the definitions say.
-use Rattle.pm_build.specs.Conditions.{polar_refusal, product_refusal}
-use Rattle.pm_build.specs.Objects.{polar_of, product_of}
-use Rattle.pm_machine.proofs.Examples.{of_object}
+use Rattle.pm_command.specs.declared.building.Builder.{Builder}
+use Rattle.pm_files.specs.Files.{SavedFile}
 use Rattle.pm_machine.proofs.Kept.{some_not_none}
-use Rattle.pm_machine.specs.Building.{BuildStep, EndsAt, EnsuresAll, EnsuresInPart, IsAPolytope, IsNoPolytope, MayHaveBegun, ProductStep, Wanted, object_of, polar_building}
-use Rattle.pm_machine.specs.BuildingExamples.{ObjectsAreBuilt, ShapesAreMade, WantedIsEnsured}
-use Rattle.pm_machine.specs.Machines.{Machine, Stays}
+use Rattle.pm_machine.specs.Building.{BuildStep, DoesNotRead, EndsAt, EnsuresAll, EnsuresInPart, Makes, MayHaveBegun, ObjectsAre, Unfit, Wanted, are_named, are_of, is_crowded, is_made, is_of_type, no_chain, no_such_name, not_fit, object_of, other_type, row_of, same_type, told_rounds}
+use Rattle.pm_machine.specs.BuildingExamples.{ObjectsAreBuilt, OperandsAreRead, ShapesAreMade, WantedIsEnsured}
+use Rattle.pm_machine.specs.Machines.{IsFree, Machine, Stays}
 use Rattle.pm_machine.specs.declared.round.Ending.TheVariants as ending
-use Rattle.pm_object.specs.State.{RoundSeen, State, empty_object, is_polytope}
-use Rattle.pm_object_type.specs.declared.object_type.ObjectType.TheVariants.{Cone, Polytope}
+use Rattle.pm_object.specs.declared.held.Condition.TheVariants as condition
+use Rattle.pm_object.specs.State.{RoundSeen, State, empty_object}
+use Rattle.pm_object_type.specs.declared.object_type.ObjectType.TheVariants.{Cone, Fan, Polytope}
 use Rattle.pm_rules.specs.declared.rule.Rule.{Rule}
-use Rattle.pm_script.specs.Replies.{Rounds, done}
-use Rattle.std.proofs.Common.{ap, arith, inl, inr, refl, sym, true≢false, ◌∙◌}
-use Rattle.std.specs.Prelude.{List, None, Some, [], ℕ, ◌∷◌, ◌≡◌, ◌≢◌}
+use Rattle.pm_script.specs.Replies.{Remarks, Rounds, done, nothing, refused, undef}
+use Rattle.pm_script.specs.declared.refusal.Refusal.TheVariants.{Crowded, NoChain, NotFit}
+use Rattle.std.proofs.Common.{ap, arith, false, inl, inr, refl, sym, true, true≢false, ◌∙◌}
+use Rattle.std.proofs.lemmas.Bool.{and_parts}
+use Rattle.std.specs.Option.{is_some}
+use Rattle.std.specs.Prelude.{Bool, List, None, Some, [], ℕ, ◌&&◌, ◌∷◌, ◌≡◌, ◌≢◌}
 
 pub shapes_are_made : ShapesAreMade
 shapes_are_made = record {
@@ -48,24 +51,39 @@ no_end book old new w rounds h = elim h [ inl e ↦ e.0 refl | inr m ↦ m.4 ]
 nothing_of_it : (book : List Rule) (old new : Machine) (w : Wanted) → old.object w.name ≡ None → EnsuresInPart book (w ∷ []) old new → Stays old new
 nothing_of_it book old new w none h = elim h [ inl s ↦ s | inr m ↦ elim m [ inl p ↦ absurd (some_not_none (sym p.named ∙ none)) | inr q ↦ absurd (some_not_none (sym q.2.named ∙ none)) ] ]
 
+-- ---- operands
+and_false : (x : Bool) → (x && false) ≡ false
+and_false true = refl
+and_false false = refl
+
 -- the object of the name is a cone, so it is no polytope
-cone_is_none : (old : Machine) (name : List ℕ) → old.object name ≡ Some (empty_object Cone) → IsAPolytope old name → ⊥
-cone_is_none old name is (o, at, not_so) = not_so (ap (λ (p : State). is_polytope p.of) (of_object old name (empty_object Cone) o is at))
+cone_is_none : (b : Builder) (old : Machine) (name : List ℕ) → (row_of b).of ≡ Polytope → old.object name ≡ Some (empty_object Cone) → is_of_type (row_of b).of (old.object name) ≡ false
+cone_is_none b old name type is = ap (is_of_type (row_of b).of) is ∙ ap (λ z. same_type z Cone) type
 
-none_taken : (old new : Machine) (name to : List ℕ) → old.object to ≢ None → MayHaveBegun (IsAPolytope old name) to old new → Stays old new
-none_taken old new name to taken (inl s) = s
-none_taken old new name to taken (inr h) = absurd (taken h.0.0)
+one_is_none : (b : Builder) (old : Machine) (name : List ℕ) → is_of_type (row_of b).of (old.object name) ≡ false → are_of (row_of b).of old (name ∷ []) ≡ true → ⊥
+one_is_none b old name none all = true≢false (sym (and_parts (is_of_type (row_of b).of (old.object name)) true all).0 ∙ none)
 
-none_begun : (old new : Machine) (name to : List ℕ) → old.object name ≡ Some (empty_object Cone) → MayHaveBegun (IsAPolytope old name) to old new → Stays old new
-none_begun old new name to is (inl s) = s
-none_begun old new name to is (inr h) = absurd (cone_is_none old name is h.1)
+second_is_none : (b : Builder) (old : Machine) (first second : List ℕ) → is_of_type (row_of b).of (old.object second) ≡ false → are_of (row_of b).of old (first ∷ second ∷ []) ≡ true → ⊥
+second_is_none b old first second none all = one_is_none b old second none (and_parts (is_of_type (row_of b).of (old.object first)) (are_of (row_of b).of old (second ∷ [])) all).1
+
+none_taken : (b : Builder) (old new : Machine) (names : List (List ℕ)) (to : List ℕ) → old.object to ≢ None → MayHaveBegun b names to old new → Stays old new
+none_taken b old new names to taken (inl s) = s
+none_taken b old new names to taken (inr h) = absurd (taken h.0.0)
+
+none_begun : (b : Builder) (old new : Machine) (name to : List ℕ) → (row_of b).of ≡ Polytope → old.object name ≡ Some (empty_object Cone) → MayHaveBegun b (name ∷ []) to old new → Stays old new
+none_begun b old new name to type is (inl s) = s
+none_begun b old new name to type is (inr h) = absurd (one_is_none b old name (cone_is_none b old name type is) h.1)
 
 pub wanted_is_ensured : WantedIsEnsured
 wanted_is_ensured = record {
   in_order = refl;
   first_before = refl;
+  of_one_alone = refl;
   for_polar = refl;
   for_pyramid = refl;
+  for_normal_fan = refl;
+  for_face_fan = refl;
+  for_product = refl;
   nothing_wanted = λ book old new rounds h. h.1;
   without_rounds = λ book old new rounds h. h.0;
   of_no_object = not_ensured;
@@ -77,40 +95,108 @@ wanted_is_ensured = record {
   in_part_of_no_object = nothing_of_it;
 }
 
-polytope_is_one : (old : Machine) (name : List ℕ) → old.object name ≡ Some (empty_object Polytope) → IsNoPolytope old name → ⊥
-polytope_is_one old name is (o, at, so) = true≢false (sym (ap (λ (p : State). is_polytope p.of) (of_object old name (empty_object Polytope) o is at)) ∙ so)
+second_missing : (m : Machine) (first second : List ℕ) → m.object second ≡ None → are_named m (first ∷ second ∷ []) ≡ false
+second_missing m first second none = ap (λ z. is_some (m.object first) && (is_some z && true)) none ∙ and_false (is_some (m.object first))
 
-nothing_is_there : (old : Machine) (name : List ℕ) → old.object name ≡ None → IsAPolytope old name → ⊥
-nothing_is_there old name none (o, at, so) = some_not_none (sym at ∙ none)
+second_cone : (m : Machine) (first second : List ℕ) → m.object second ≡ Some (empty_object Cone) → are_of Polytope m (first ∷ second ∷ []) ≡ false
+second_cone m first second is = ap (λ z. is_of_type Polytope (m.object first) && (is_of_type Polytope z && true)) is ∙ and_false (is_of_type Polytope (m.object first))
 
-built : (book : List Rule) (old new : Machine) (name to : List ℕ) (t : Rounds) → BuildStep book polar_building old name to (done t) new
-    → (o : State) × (polar_refusal o ≡ None) × (new.object to ≡ Some (object_of (polar_of o)))
-built book old new name to t (rounds, o, mid, reads, fits, gains, told) = (o, fits, gains.object)
+both_there : (m : Machine) (first second : List ℕ) (o p : State) → m.object first ≡ Some o → m.object second ≡ Some p → are_named m (first ∷ second ∷ []) ≡ true
+both_there m first second o p at at' = ap (λ z. is_some z && (is_some (m.object second) && true)) at ∙ ap (λ z. is_some z && true) at'
 
-multiplied : (book : List Rule) (old new : Machine) (first second to : List ℕ) (t : Rounds) → ProductStep book old first second to (done t) new
-    → (a : State) × (b : State) × (product_refusal a b ≡ None) × (new.object to ≡ Some (object_of (product_of a b)))
-multiplied book old new first second to t (rounds, a, b, mid, reads, fits, gains, told) = (a, b, fits, gains.object)
+both_fans : (m : Machine) (first second : List ℕ) → m.object first ≡ Some (empty_object Fan) → m.object second ≡ Some (empty_object Fan) → are_of Fan m (first ∷ second ∷ []) ≡ true
+both_fans m first second at at' = ap (λ z. is_of_type Fan z && (is_of_type Fan (m.object second) && true)) at ∙ ap (λ z. is_of_type Fan z && true) at'
+
+objects_in_order : (m : Machine) (first second : List ℕ) (o p : State) → m.object first ≡ Some o → m.object second ≡ Some p → ObjectsAre m (first ∷ second ∷ []) (o ∷ p ∷ [])
+objects_in_order m first second o p at at' = ap (λ z. z ∷ m.object second ∷ []) at ∙ ap (λ z. Some o ∷ z ∷ []) at'
+
+one_for_two : (m : Machine) (first second : List ℕ) (o : State) → ObjectsAre m (first ∷ second ∷ []) (o ∷ []) → ⊥
+one_for_two m first second o h = cc
+
+pub operands_are_read : OperandsAreRead
+operands_are_read = record {
+  polytope = refl;
+  cone = refl;
+  fan = refl;
+  no_cone = refl;
+  no_fan = refl;
+  no_polytope = refl;
+  cone_is_no_fan = refl;
+  nothing_is_none = refl;
+  both_are_there = both_there;
+  second_is_missing = second_missing;
+  both_are_fans = both_fans;
+  second_is_a_cone = second_cone;
+  in_order = objects_in_order;
+  not_one_for_two = one_for_two;
+  of_polar = refl;
+  of_pyramid = refl;
+  of_normal_fan = refl;
+  of_face_fan = refl;
+  of_product = refl;
+}
+
+-- ---- steps
+module _ (book : List Rule) (b : Builder) (old : Machine) (names : List (List ℕ)) (to : List ℕ) where
+  built : (new : Machine) (t : Rounds) → BuildStep book b old names to (done t) new → (os : List State) × (f : SavedFile) × Makes b os f × (new.object to ≡ Some (object_of f))
+  built new t (is_made rounds os f reads made g is) = (os, f, made, g.object)
+
+  told_so : (new : Machine) (t : Rounds) → BuildStep book b old names to (done t) new → (rounds : List RoundSeen) × (t ≡ told_rounds book rounds)
+  told_so new t (is_made rounds os f reads made g is) = (rounds, is)
+
+  typed_so : (new : Machine) (t : Rounds) → BuildStep book b old names to (done t) new → are_of (row_of b).of old names ≡ true
+  typed_so new t (is_made rounds os f reads made g is) = reads.types
+
+  free_so : (new : Machine) (t : Rounds) → BuildStep book b old names to (done t) new → IsFree old to
+  free_so new t (is_made rounds os f reads made g is) = reads.free
+
+  unfit_so : (new : Machine) (more : Remarks) → BuildStep book b old names to (refused (NotFit condition.Centered) more) new → (os : List State) × ObjectsAre new names os × Unfit b os condition.Centered
+  unfit_so new more (not_fit rounds os reads apart fails is) = (os, reads.objects, fails)
+
+  lacking : (new : Machine) (more : Remarks) → BuildStep book b old names to (refused NoChain more) new → DoesNotRead book b names to ending.NoChain more old new
+  lacking new more (no_chain d) = d
+
+  crowding : (new : Machine) (more : Remarks) → BuildStep book b old names to (refused Crowded more) new → DoesNotRead book b names to ending.Crowded more old new
+  crowding new more (is_crowded d) = d
+
+  none_else : (new : Machine) → BuildStep book b old names to undef new → ⊥
+  none_else new h = elim h [ ]
+
+one_cone : (book : List Rule) (b : Builder) (old : Machine) (name to : List ℕ) → (row_of b).of ≡ Polytope → old.object name ≡ Some (empty_object Cone) → IsFree old to → Stays old old → BuildStep book b old (name ∷ []) to (refused (NotFit condition.OfType) nothing) old
+one_cone book b old name to type is free s = other_type (ap (λ z. is_some z && true) is) free (ap (λ z. z && true) (cone_is_none b old name type is)) s
+
+one_polytope : (book : List Rule) (b : Builder) (old new : Machine) (name to : List ℕ) → (row_of b).of ≡ Polytope → old.object name ≡ Some (empty_object Polytope) → BuildStep book b old (name ∷ []) to (refused (NotFit condition.OfType) nothing) new → ⊥
+one_polytope book b old new name to type is (other_type named free types s) =
+    true≢false (sym (ap (λ z. is_of_type (row_of b).of z && true) is ∙ ap (λ z. same_type z Polytope && true) type) ∙ types)
+one_polytope book b old new name to type is (not_fit rounds os reads apart fails told) = apart refl
 
 pub objects_are_built : ObjectsAreBuilt
 objects_are_built = record {
-  polar = λ o. (refl, refl);
-  normal_fan = λ o. (refl, refl);
-  face_fan = λ o. (refl, refl);
-  is_built = built;
-  rounds_are_told = λ book b old new name to t (rounds, o, mid, reads, fits, gains, told). (rounds, told);
-  of_nothing = λ book b old new name to t none (rounds, o, mid, reads, fits, gains, told). nothing_is_there old name none reads.polytope;
-  not_over = λ book b old new name to t taken (rounds, o, mid, reads, fits, gains, told). taken reads.free.0;
-  of_no_cone = λ book b old new name to t is (rounds, o, mid, reads, fits, gains, told). cone_is_none old name is reads.polytope;
-  cone_is_refused = λ book b old name to is free s. (free, (empty_object Cone, is, refl), s);
-  polytope_is_not = λ book b old new name to is h. polytope_is_one old name is h.1;
-  unknown_first = λ book b old name to none s. (none, s);
-  is_not_fit = λ book b old new name to more (rounds, o, reads, fails, told). (o, reads.object, fails);
-  no_chain_tells = λ book b old new name to more h. (h.rounds, h.told);
-  no_other = λ book b old new name to h. h;
-  is_product = multiplied;
-  without_second = λ book old new first second to t none (rounds, a, b, mid, reads, fits, gains, told). nothing_is_there old second none reads.polytopes.1;
-  second_is_unknown = λ book old first second to none s. (inr none, s);
-  second_is_no_cone = λ book old new first second to t is (rounds, a, b, mid, reads, fits, gains, told). cone_is_none old second is reads.polytopes.1;
-  not_product_over = λ book old new first second to t taken (rounds, a, b, mid, reads, fits, gains, told). taken reads.free.0;
-  crowded_tells = λ book old new first second to more h. (h.rounds, h.told);
+  polar = λ o f h. h;
+  pyramid = λ o f h. h;
+  normal_fan = λ o f h. h;
+  face_fan = λ o f h. h;
+  product = λ a b f h. h;
+  polar_unfit = λ o c h. h;
+  pyramid_unfit = λ o c h. h;
+  normal_fan_unfit = λ o c h. h;
+  face_fan_unfit = λ o c h. h;
+  product_unfit = λ a b c h. h;
+  is_built = λ book b old new names to t h. built book b old names to new t h;
+  rounds_are_told = λ book b old new names to t h. told_so book b old names to new t h;
+  of_nothing = λ book b old new name to t none h. one_is_none b old name (ap (is_of_type (row_of b).of) none) (typed_so book b old (name ∷ []) to new t h);
+  not_over = λ book b old new names to t taken h. taken (free_so book b old names to new t h).0;
+  of_no_cone = λ book b old new name to t type is h. one_is_none b old name (cone_is_none b old name type is) (typed_so book b old (name ∷ []) to new t h);
+  cone_is_refused = one_cone;
+  polytope_is_not = one_polytope;
+  unknown_first = λ book b old name to none s. no_such_name (ap (λ z. is_some z && true) none) s;
+  taken_before_rounds = λ book b old new names to more taken h. taken (lacking book b old names to new more h).free.0;
+  type_before_rounds = λ book b old new name to more type is h. one_is_none b old name (cone_is_none b old name type is) (crowding book b old (name ∷ []) to new more h).types;
+  is_not_fit = λ book b old new names to more h. unfit_so book b old names to new more h;
+  no_chain_tells = λ book b old new names to more h. let d = lacking book b old names to new more h in (d.rounds, d.told);
+  crowded_tells = λ book b old new names to more h. let d = crowding book b old names to new more h in (d.rounds, d.told);
+  no_other = λ book b old new names to h. none_else book b old names to new h;
+  without_second = λ book b old new first second to t none h. second_is_none b old first second (ap (is_of_type (row_of b).of) none) (typed_so book b old (first ∷ second ∷ []) to new t h);
+  second_is_unknown = λ book b old first second to none s. no_such_name (second_missing old first second none) s;
+  second_is_no_cone = λ book b old new first second to t type is h. second_is_none b old first second (cone_is_none b old second type is) (typed_so book b old (first ∷ second ∷ []) to new t h);
 }

@@ -1,16 +1,18 @@
 -- What objects hold stays while properties are ensured, and what was ensured is held after it: by the definitions alone.
 use Rattle.pm_algebra.proofs.Filters.{among_map}
-use Rattle.pm_algebra.proofs.Lists.{All_among, Among, here, there}
+use Rattle.pm_algebra.proofs.Lists.{All_among, Among, among_append_left, among_append_right, here, there}
+use Rattle.pm_command.specs.declared.building.Builder.{Builder}
 use Rattle.pm_machine.proofs.KeptObjects.{decide}
-use Rattle.pm_machine.specs.Building.{EnsuresAll, EnsuresOne, IsAPolytope, Wanted, wanted_of}
-use Rattle.pm_machine.specs.Built.{HasRead}
+use Rattle.pm_machine.specs.Building.{EnsuresAll, EnsuresOne, Wanted, are_of, is_of_type, row_of, same_type, wanted_all, wanted_of}
+use Rattle.pm_machine.specs.Built.{HasRead, HaveRead}
 use Rattle.pm_machine.specs.Events.{Configuration, Ensured, Event, IsTrace, after_event, after_events, at_rest, begun, committed, excluded, phase_after_all, settled, started, unsettled, written}
 use Rattle.pm_machine.specs.Machines.{Machine}
 use Rattle.pm_machine.specs.declared.round.Ending.{Ending}
 use Rattle.pm_machine.specs.declared.round.Ending.TheVariants as ending
 use Rattle.pm_object.proofs.Formed.{held_stays, value_later}
 use Rattle.pm_object.proofs.Names.{names_held}
-use Rattle.pm_object.specs.State.{HeldValue, RoundSeen, State, cols_of, has_rounds, is_held, is_polytope, names_to_settle, only_if, read_at, settled as settled_at, settling, value_of, with_held}
+use Rattle.pm_object.specs.State.{HeldValue, RoundSeen, State, cols_of, has_rounds, is_held, names_to_settle, only_if, read_at, settled as settled_at, settling, value_of, with_held}
+use Rattle.pm_object_type.specs.declared.object_type.ObjectType.{ObjectType}
 use Rattle.pm_props.proofs.Members.{has-only}
 use Rattle.pm_props.specs.Places.{place_of, same_place}
 use Rattle.pm_props.specs.Properties.{number}
@@ -21,7 +23,9 @@ use Rattle.pm_props.specs.declared.set.PropSet.{PropSet}
 use Rattle.pm_rules.specs.declared.rule.Rule.{Rule}
 use Rattle.pm_types.specs.Values.{PropertyValue}
 use Rattle.std.proofs.Common.{ap, arith, bytes_eq, eqb, false, inl, inr, refl, subst, suc, sym, true, true≢false, ◌∙◌, ◌≢◌}
+use Rattle.std.proofs.lemmas.Bool.{and_parts}
 use Rattle.std.proofs.lemmas.List.{append-nil, append_assoc}
+use Rattle.std.specs.List.{AllByRecursion}
 use Rattle.std.proofs.lemmas.Option.{none-some, same_Some}
 use Rattle.std.proofs.lemmas.Slice.Eq.{bytes_eq-Decides}
 use Rattle.std.specs.Option.{is_some, unwrap_or}
@@ -203,25 +207,46 @@ module _ (book : List Rule) where
       )
   all_read (v ∷ ws) rounds old new o (there i) (m, first, more, one, others, are) is = all_read ws more m new o i others is
 
-  -- the polytope of the name has been read
-  pub has_read : (ws : List Wanted) (rounds : List RoundSeen) (old new : Machine) (name : List ℕ) (p : PropId) (ps : List PropId) → EnsuresAll book ws rounds old new → IsAPolytope old name
-      → ((q : PropId) → Among q (p ∷ ps) → Among (record { name = name; property = q }) ws) → HasRead (p ∷ ps) name new
-  has_read ws rounds old new name p ps all (o, at, poly) wanted =
-      let g = all_grow ws rounds old new name o all at in
-      record {
-        object = g.object;
-        object_is = g.is;
-        polytope = is_so (is_polytope g.object.of) (λ e. poly (ap is_polytope (sym g.grows.of) ∙ e));
-        read = record {
-          held = All_among (λ q. IsTrue (is_held q (read_at None g.object.held))) (p ∷ ps) (λ q i. (all_read ws rounds old new g.object (wanted q i) all g.is).0);
-          settled = (all_read ws rounds old new g.object (wanted p here) all g.is).1;
-        };
-      }
+  -- the object of the name has been read
+  has_read : (ws : List Wanted) (rounds : List RoundSeen) (old new : Machine) (name : List ℕ) (type : ObjectType) (p : PropId) (ps : List PropId) → EnsuresAll book ws rounds old new → is_of_type type (old.object name) ≡ true
+      → ((q : PropId) → Among q (p ∷ ps) → Among (record { name = name; property = q }) ws) → HasRead type (p ∷ ps) (new.object name)
+  has_read ws rounds old new name type p ps all typed wanted = by (old.object name) refl typed
     where
-      is_so : (b : Bool) → b ≢ false → b ≡ true
-      is_so true h = refl
-      is_so false h = absurd (h refl)
+      by : (x : Option State) → old.object name ≡ x → is_of_type type x ≡ true → HasRead type (p ∷ ps) (new.object name)
+      by None at t = absurd (true≢false (sym t))
+      by (Some o) at t =
+          let g = all_grow ws rounds old new name o all at in
+          record {
+            object = g.object;
+            is = g.is;
+            of_type = subst (λ z. same_type type z ≡ true) (sym g.grows.of) t;
+            read = record {
+              held = All_among (λ q. IsTrue (is_held q (read_at None g.object.held))) (p ∷ ps) (λ q i. (all_read ws rounds old new g.object (wanted q i) all g.is).0);
+              settled = (all_read ws rounds old new g.object (wanted p here) all g.is).1;
+            };
+          }
 
   -- what is wanted of one object
-  pub wanted_one : (name : List ℕ) (ps : List PropId) (q : PropId) → Among q ps → Among (record { name = name; property = q }) (wanted_of name ps)
+  wanted_one : (name : List ℕ) (ps : List PropId) (q : PropId) → Among q ps → Among (record { name = name; property = q }) (wanted_of name ps)
   wanted_one name ps q i = among_map (λ p. record { name = name; property = p }) i
+
+  -- and of each of several
+  wanted_each : (ps : List PropId) (names : List (List ℕ)) (n : List ℕ) → Among n names → (q : PropId) → Among q ps → Among (record { name = n; property = q }) (wanted_all ps names)
+  wanted_each ps [] n j q i = elim j [ ]
+  wanted_each ps (m ∷ []) n here q i = wanted_one n ps q i
+  wanted_each ps (m ∷ []) n (there j) q i = elim j [ ]
+  wanted_each ps (m ∷ k ∷ ns) n here q i = among_append_left (wanted_all ps (k ∷ ns)) (wanted_one n ps q i)
+  wanted_each ps (m ∷ k ∷ ns) n (there j) q i = among_append_right (wanted_of m ps) (wanted_each ps (k ∷ ns) n j q i)
+
+  each_read : (ws : List Wanted) (rounds : List RoundSeen) (old new : Machine) (type : ObjectType) (p : PropId) (ps : List PropId) (names : List (List ℕ)) → EnsuresAll book ws rounds old new
+      → ((n : List ℕ) → Among n names → (q : PropId) → Among q (p ∷ ps) → Among (record { name = n; property = q }) ws) → are_of type old names ≡ true → AllByRecursion (λ n. HasRead type (p ∷ ps) (new.object n)) names
+  each_read ws rounds old new type p ps [] all wanted types = tt
+  each_read ws rounds old new type p ps (n ∷ ns) all wanted types =
+      let t = and_parts (is_of_type type (old.object n)) (are_of type old ns) types in
+      (has_read ws rounds old new n type p ps all t.0 (wanted n here), each_read ws rounds old new type p ps ns all (λ m i. wanted m (there i)) t.1)
+
+  -- what is read of the objects of a command has been read
+  pub all_have_read : (rounds : List RoundSeen) (old new : Machine) (b : Builder) (p : PropId) (ps : List PropId) (names : List (List ℕ)) → (row_of b).reads ≡ p ∷ ps → EnsuresAll book (wanted_all (row_of b).reads names) rounds old new → are_of (row_of b).of old names ≡ true → HaveRead b new names
+  all_have_read rounds old new b p ps names same all types =
+      subst (λ z. AllByRecursion (λ n. HasRead (row_of b).of z (new.object n)) names) (sym same)
+      (each_read (wanted_all (p ∷ ps) names) rounds old new (row_of b).of p ps names (subst (λ z. EnsuresAll book (wanted_all z names) rounds old new) same all) (wanted_each (p ∷ ps) names) types)

@@ -1,8 +1,8 @@
 -- A step leaves each object honest: by the definitions alone.
 use Rattle.pm_algebra.proofs.Lists.{among_Contains}
-use Rattle.pm_machine.proofs.KeptBuilding.{build_keeps, make_keeps, parts_honest, product_keeps}
+use Rattle.pm_machine.proofs.KeptBuilding.{build_keeps, make_keeps, parts_honest}
 use Rattle.pm_machine.proofs.KeptObjects.{all_honest, becomes_kept, becomes_part_honest, decide, ensured_kept, other_bytes, same_bytes, stays_honest, stays_kept, with_one}
-use Rattle.pm_machine.specs.Building.{face_fan_building, normal_fan_building, polar_building, product_wanted, pyramid_building, wanted_of}
+use Rattle.pm_machine.specs.Building.{row_of, wanted_all}
 use Rattle.pm_machine.specs.declared.round.Ending.TheVariants as ending
 use Rattle.pm_machine.specs.Events.{Configuration, EnsuredInPart, configuration}
 use Rattle.pm_machine.specs.Parts.{AllHonest, IsSettled, StepInPart}
@@ -20,7 +20,7 @@ use Rattle.pm_object.specs.State.{HeldValue, State, given_at, is_disabled, is_gi
 use Rattle.pm_object.specs.declared.held.TakeFail.{TakeFail}
 use Rattle.pm_object.specs.declared.held.TakeFail.TheVariants as fail
 use Rattle.pm_rules.specs.declared.rule.Rule.{Rule}
-use Rattle.pm_command.specs.Commands.{RefSeen, Spoken, blank, new_object, take_value, give_value, look_up, ensure_values, explain_values, tell_history, show_rules, disable_rule, unload_client, copy_object, drop_object, tell_origin, load_object, save_object, make_object, build_polar, build_pyramid, build_normal_fan, build_face_fan, build_product}
+use Rattle.pm_command.specs.Commands.{RefSeen, Spoken, blank, new_object, take_value, give_value, look_up, ensure_values, explain_values, tell_history, show_rules, disable_rule, unload_client, copy_object, drop_object, tell_origin, load_object, save_object, make_object, build_object}
 use Rattle.pm_script.specs.Replies.{ReplySeen, done, ensured, explained, lists_rules, loaded, nothing, planned, refused, shows, tells, tells_origin, undef}
 use Rattle.pm_script.specs.declared.refusal.Refusal.TheVariants.{UnknownName, NameTaken, UnknownType, UnknownProperty, BadValue, AlreadyHeld, Sealed, ObjectsFull, NoChain, Crowded, StoreFault, BadFile, NoSuchFile, UnknownRule, NotFit}
 use Rattle.pm_object.specs.declared.held.Condition.TheVariants as condition
@@ -275,11 +275,7 @@ steps_keep book old new (tell_origin ref text) reply h all = origin_keeps old ne
 steps_keep book old new (load_object name file) reply h all = load_keeps book old new name file reply h all
 steps_keep book old new (save_object name file) reply h all = save_keeps book old new name file reply h all
 steps_keep book old new (make_object to shape) reply h all = make_keeps old new to shape reply h all
-steps_keep book old new (build_polar name to) reply h all = build_keeps book polar_building old new name to reply h all
-steps_keep book old new (build_pyramid name to) reply h all = build_keeps book pyramid_building old new name to reply h all
-steps_keep book old new (build_normal_fan name to) reply h all = build_keeps book normal_fan_building old new name to reply h all
-steps_keep book old new (build_face_fan name to) reply h all = build_keeps book face_fan_building old new name to reply h all
-steps_keep book old new (build_product first second to) reply h all = product_keeps book old new first second to reply h all
+steps_keep book old new (build_object builder names to) reply h all = build_keeps book builder old new names to reply h all
 
 -- ---- a step that was broken off
 part_honest : (book : List Rule) (asked : PropSet) (old new : Machine) (ref : RefSeen) (x : Named) (now : Configuration) → named_at old ref ≡ Some x → EnsuredInPart book x.sub asked (configuration x.object old.clients) now
@@ -312,8 +308,4 @@ steps_in_part_keep book old new (load_object name file) l all = all_honest new (
 steps_in_part_keep book old new (save_object name file) (inl s) all = stays_honest old new s all
 steps_in_part_keep book old new (save_object name file) (inr (o, at, short, p)) all = all_honest new (puts_kept _ old new p all)
 steps_in_part_keep book old new (make_object to shape) s all = stays_honest old new s all
-steps_in_part_keep book old new (build_polar name to) h all = parts_honest book (wanted_of name polar_building.reads) old new h.1 all
-steps_in_part_keep book old new (build_pyramid name to) h all = parts_honest book (wanted_of name pyramid_building.reads) old new h.1 all
-steps_in_part_keep book old new (build_normal_fan name to) h all = parts_honest book (wanted_of name normal_fan_building.reads) old new h.1 all
-steps_in_part_keep book old new (build_face_fan name to) h all = parts_honest book (wanted_of name face_fan_building.reads) old new h.1 all
-steps_in_part_keep book old new (build_product first second to) h all = parts_honest book (product_wanted first second) old new h.1 all
+steps_in_part_keep book old new (build_object builder names to) h all = parts_honest book (wanted_all (row_of builder).reads names) old new h.1 all

@@ -1,11 +1,11 @@
 -- Steps that build objects leave each object honest: by the definitions alone.
 use Rattle.pm_algebra.proofs.Filters.{map_among}
 use Rattle.pm_algebra.proofs.Lists.{among_Contains}
-use Rattle.pm_build.specs.Objects.{product_of}
 use Rattle.pm_command.specs.Commands.{ShapeSeen}
+use Rattle.pm_command.specs.declared.building.Builder.{Builder}
 use Rattle.pm_files.specs.Files.{SavedFile}
 use Rattle.pm_machine.proofs.KeptObjects.{becomes_kept, becomes_part_honest, ensured_kept, stays_honest, stays_kept, with_one}
-use Rattle.pm_machine.specs.Building.{BuildStep, Building, EndsAt, EnsuresAll, EnsuresInPart, EnsuresOne, EnsuresOneInPart, MakeStep, ProductStep, Wanted, object_of, product_wanted, shape_file, wanted_of}
+use Rattle.pm_machine.specs.Building.{BuildStep, EndsAt, EnsuresAll, EnsuresInPart, EnsuresOne, EnsuresOneInPart, MakeStep, Wanted, is_crowded, is_made, is_taken, no_chain, no_room, no_such_name, not_fit, object_of, other_type, row_of, shape_file, wanted_all}
 use Rattle.pm_machine.specs.Events.{configuration}
 use Rattle.pm_machine.specs.Machines.{Machine}
 use Rattle.pm_machine.specs.Parts.{AllHonest}
@@ -15,14 +15,13 @@ use Rattle.pm_machine.specs.declared.round.Ending.TheVariants as ending
 use Rattle.pm_object.proofs.Honesty.{based_is_kept, empty_is_kept}
 use Rattle.pm_object.specs.Honest.{IsKept, is_based}
 use Rattle.pm_object.specs.State.{HeldValue, RoundSeen, empty_object, file_value}
-use Rattle.pm_object.specs.declared.held.Condition.{Condition}
 use Rattle.pm_object.specs.declared.held.Condition.TheVariants as condition
 use Rattle.pm_object.specs.declared.held.Origin.TheVariants as origin
 use Rattle.pm_props.specs.Sets.{only}
 use Rattle.pm_props.specs.declared.property.PropId.{PropId}
 use Rattle.pm_rules.specs.declared.rule.Rule.{Rule}
-use Rattle.pm_script.specs.Replies.{Remarks, ReplySeen, done, nothing, planned, refused, told}
-use Rattle.pm_script.specs.declared.refusal.Refusal.TheVariants.{UnknownName, NameTaken, ObjectsFull, NoChain, Crowded, NotFit}
+use Rattle.pm_script.specs.Replies.{ReplySeen, done, nothing, refused}
+use Rattle.pm_script.specs.declared.refusal.Refusal.TheVariants.{NameTaken, ObjectsFull, NoChain, Crowded, NotFit}
 use Rattle.pm_types.specs.Values.{PropertyValue}
 use Rattle.std.proofs.Common.{ap, inl, inr, refl, subst, true}
 use Rattle.std.specs.List.{Contains}
@@ -60,52 +59,16 @@ make_keeps old new to shape (refused (NotFit c) nothing) (h, k, s) all = stays_k
 make_keeps old new to shape (done t) (h, k, is, g) all = with_one to (object_of (shape_file shape)) old new g.object g.others (made_is_kept (shape_file shape)) all
 make_keeps old new to shape reply h all = absurd h
 
--- where a condition fails
-unfit_keeps : (book : List Rule) (b : Building) (old new : Machine) (name to : List ℕ) (c : Condition) (more : Remarks) → BuildStep book b old name to (refused (NotFit c) more) new → AllKept old → AllKept new
-unfit_keeps book b old new name to condition.OfType nothing (h, k, s) all = stays_kept old new s all
-unfit_keeps book b old new name to condition.OfType (told always t) (rounds, o, reads, h, is) all = all_keep book (wanted_of name b.reads) rounds old new reads.ensured all
-unfit_keeps book b old new name to condition.OfType (planned barred rows names) (rounds, o, reads, h, is) all = all_keep book (wanted_of name b.reads) rounds old new reads.ensured all
-unfit_keeps book b old new name to condition.Bounded more (rounds, o, reads, h, is) all = all_keep book (wanted_of name b.reads) rounds old new reads.ensured all
-unfit_keeps book b old new name to condition.FullDim more (rounds, o, reads, h, is) all = all_keep book (wanted_of name b.reads) rounds old new reads.ensured all
-unfit_keeps book b old new name to condition.Centered more (rounds, o, reads, h, is) all = all_keep book (wanted_of name b.reads) rounds old new reads.ensured all
-unfit_keeps book b old new name to condition.Feasible more (rounds, o, reads, h, is) all = all_keep book (wanted_of name b.reads) rounds old new reads.ensured all
-unfit_keeps book b old new name to condition.Columns more (rounds, o, reads, h, is) all = all_keep book (wanted_of name b.reads) rounds old new reads.ensured all
-unfit_keeps book b old new name to condition.Rows more (rounds, o, reads, h, is) all = all_keep book (wanted_of name b.reads) rounds old new reads.ensured all
-unfit_keeps book b old new name to condition.Size more (rounds, o, reads, h, is) all = all_keep book (wanted_of name b.reads) rounds old new reads.ensured all
-
-pub build_keeps : (book : List Rule) (b : Building) (old new : Machine) (name to : List ℕ) (reply : ReplySeen) → BuildStep book b old name to reply new → AllKept old → AllKept new
-build_keeps book b old new name to (refused UnknownName nothing) (h, s) all = stays_kept old new s all
-build_keeps book b old new name to (refused NameTaken nothing) (h, k, s) all = stays_kept old new s all
-build_keeps book b old new name to (refused ObjectsFull nothing) (h, k, l, s) all = stays_kept old new s all
-build_keeps book b old new name to (refused NoChain more) d all = ends_keep book (wanted_of name b.reads) ending.NoChain d.rounds old new d.ends all
-build_keeps book b old new name to (refused Crowded more) d all = ends_keep book (wanted_of name b.reads) ending.Crowded d.rounds old new d.ends all
-build_keeps book b old new name to (refused (NotFit c) more) h all = unfit_keeps book b old new name to c more h all
-build_keeps book b old new name to (done t) (rounds, o, mid, reads, h, g, is) all =
-    with_one to (object_of (b.file o)) mid new g.object g.others (made_is_kept (b.file o)) (all_keep book (wanted_of name b.reads) rounds old mid reads.ensured all)
-build_keeps book b old new name to reply h all = absurd h
-
-unfit_product_keeps : (book : List Rule) (old new : Machine) (first second to : List ℕ) (c : Condition) (more : Remarks) → ProductStep book old first second to (refused (NotFit c) more) new → AllKept old → AllKept new
-unfit_product_keeps book old new first second to condition.OfType nothing (h, k, l, s) all = stays_kept old new s all
-unfit_product_keeps book old new first second to condition.OfType (told always t) (rounds, a, b, reads, h, is) all = all_keep book (product_wanted first second) rounds old new reads.ensured all
-unfit_product_keeps book old new first second to condition.OfType (planned barred rows names) (rounds, a, b, reads, h, is) all = all_keep book (product_wanted first second) rounds old new reads.ensured all
-unfit_product_keeps book old new first second to condition.Bounded more (rounds, a, b, reads, h, is) all = all_keep book (product_wanted first second) rounds old new reads.ensured all
-unfit_product_keeps book old new first second to condition.FullDim more (rounds, a, b, reads, h, is) all = all_keep book (product_wanted first second) rounds old new reads.ensured all
-unfit_product_keeps book old new first second to condition.Centered more (rounds, a, b, reads, h, is) all = all_keep book (product_wanted first second) rounds old new reads.ensured all
-unfit_product_keeps book old new first second to condition.Feasible more (rounds, a, b, reads, h, is) all = all_keep book (product_wanted first second) rounds old new reads.ensured all
-unfit_product_keeps book old new first second to condition.Columns more (rounds, a, b, reads, h, is) all = all_keep book (product_wanted first second) rounds old new reads.ensured all
-unfit_product_keeps book old new first second to condition.Rows more (rounds, a, b, reads, h, is) all = all_keep book (product_wanted first second) rounds old new reads.ensured all
-unfit_product_keeps book old new first second to condition.Size more (rounds, a, b, reads, h, is) all = all_keep book (product_wanted first second) rounds old new reads.ensured all
-
-pub product_keeps : (book : List Rule) (old new : Machine) (first second to : List ℕ) (reply : ReplySeen) → ProductStep book old first second to reply new → AllKept old → AllKept new
-product_keeps book old new first second to (refused UnknownName nothing) (h, s) all = stays_kept old new s all
-product_keeps book old new first second to (refused NameTaken nothing) (h, k, s) all = stays_kept old new s all
-product_keeps book old new first second to (refused ObjectsFull nothing) (h, k, l, s) all = stays_kept old new s all
-product_keeps book old new first second to (refused NoChain more) d all = ends_keep book (product_wanted first second) ending.NoChain d.rounds old new d.ends all
-product_keeps book old new first second to (refused Crowded more) d all = ends_keep book (product_wanted first second) ending.Crowded d.rounds old new d.ends all
-product_keeps book old new first second to (refused (NotFit c) more) h all = unfit_product_keeps book old new first second to c more h all
-product_keeps book old new first second to (done t) (rounds, a, b, mid, reads, h, g, is) all =
-    with_one to (object_of (product_of a b)) mid new g.object g.others (made_is_kept (product_of a b)) (all_keep book (product_wanted first second) rounds old mid reads.ensured all)
-product_keeps book old new first second to reply h all = absurd h
+pub build_keeps : (book : List Rule) (b : Builder) (old new : Machine) (names : List (List ℕ)) (to : List ℕ) (reply : ReplySeen) → BuildStep book b old names to reply new → AllKept old → AllKept new
+build_keeps book b old new names to _ (no_such_name h s) all = stays_kept old new s all
+build_keeps book b old new names to _ (is_taken h k s) all = stays_kept old new s all
+build_keeps book b old new names to _ (no_room h k l s) all = stays_kept old new s all
+build_keeps book b old new names to _ (other_type h k l s) all = stays_kept old new s all
+build_keeps book b old new names to _ (no_chain d) all = ends_keep book (wanted_all (row_of b).reads names) ending.NoChain d.rounds old new d.ends all
+build_keeps book b old new names to _ (is_crowded d) all = ends_keep book (wanted_all (row_of b).reads names) ending.Crowded d.rounds old new d.ends all
+build_keeps book b old new names to _ (not_fit rounds os reads apart h is) all = all_keep book (wanted_all (row_of b).reads names) rounds old new reads.ensured all
+build_keeps book b old new names to _ (is_made {mid = mid} rounds os f reads h g is) all =
+    with_one to (object_of f) mid new g.object g.others (made_is_kept f) (all_keep book (wanted_all (row_of b).reads names) rounds old mid reads.ensured all)
 
 -- ---- a step that was broken off
 one_part_honest : (book : List Rule) (w : Wanted) (old new : Machine) → EnsuresOneInPart book w old new → AllKept old → AllHonest new

@@ -25,7 +25,6 @@ pub mod Adding
 pub mod Fits
 pub mod BuildSteps
 pub mod BuildNames
-pub mod BuildParts
 pub mod Told
 pub mod Examples
 pub mod BuildingExamples

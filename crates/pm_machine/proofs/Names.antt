@@ -4,7 +4,7 @@ use Rattle.pm_object_type.specs.declared.object_type.ObjectType.{ObjectType}
 use Rattle.pm_machine.proofs.Ensuring.{stays_part}
 use Rattle.pm_machine.proofs.Kept.{steps_in_part_keep, steps_keep}
 use Rattle.pm_machine.proofs.KeptObjects.{all_honest}
-use Rattle.pm_machine.specs.Building.{face_fan_building, normal_fan_building, polar_building, product_wanted, pyramid_building, wanted_of}
+use Rattle.pm_machine.specs.Building.{row_of, wanted_all}
 use Rattle.pm_machine.proofs.Beside.{looks_of_stays}
 use Rattle.pm_machine.specs.Chains.{AreBarred, held_names, table}
 use Rattle.pm_machine.specs.Events.{Configuration, Ensured, EnsuredInPart, at_rest, configuration}
@@ -26,7 +26,7 @@ use Rattle.pm_object.specs.declared.held.Round.{Round}
 use Rattle.pm_plan.specs.Plans.{HasNoPlan, IsCrowded, IsPlan}
 use Rattle.pm_rules.specs.declared.rule.Rule.{Rule}
 use Rattle.pm_rules.specs.declared.table.TableRow.{TableRow}
-use Rattle.pm_command.specs.Commands.{RefSeen, Spoken, blank, new_object, take_value, give_value, look_up, ensure_values, explain_values, tell_history, show_rules, disable_rule, unload_client, copy_object, drop_object, tell_origin, load_object, save_object, make_object, build_polar, build_pyramid, build_normal_fan, build_face_fan, build_product}
+use Rattle.pm_command.specs.Commands.{RefSeen, Spoken, blank, new_object, take_value, give_value, look_up, ensure_values, explain_values, tell_history, show_rules, disable_rule, unload_client, copy_object, drop_object, tell_origin, load_object, save_object, make_object, build_object}
 use Rattle.pm_script.specs.Replies.{NamesSeen, Remarks, ReplySeen, Rounds, done, ensured, explained, lists_rules, nothing, planned, refused, remarks, shows, tells, tells_origin, told, undef, loaded}
 use Rattle.pm_script.specs.declared.names.Bar.{Bar}
 use Rattle.pm_script.specs.declared.refusal.Refusal.{Refusal}
@@ -510,11 +510,7 @@ stays_in_part book old new (tell_origin ref text) s = s
 stays_in_part book old new (load_object name file) s = looks_of_stays old new s
 stays_in_part book old new (save_object name file) s = inl s
 stays_in_part book old new (make_object to shape) s = s
-stays_in_part book old new (build_polar name to) s = (inl s, stays_part book (wanted_of name polar_building.reads) old new s)
-stays_in_part book old new (build_pyramid name to) s = (inl s, stays_part book (wanted_of name pyramid_building.reads) old new s)
-stays_in_part book old new (build_normal_fan name to) s = (inl s, stays_part book (wanted_of name normal_fan_building.reads) old new s)
-stays_in_part book old new (build_face_fan name to) s = (inl s, stays_part book (wanted_of name face_fan_building.reads) old new s)
-stays_in_part book old new (build_product first second to) s = (inl s, stays_part book (product_wanted first second) old new s)
+stays_in_part book old new (build_object builder names to) s = (inl s, stays_part book (wanted_all (row_of builder).reads names) old new s)
 
 -- a step in part is one of the command that is said
 pub part_as : {T E : Type 0} (r : Result T E) (book : List Rule) (said command : Spoken) (old new : Machine) → said ≡ command → OnErr r (StepInPart book old command new) → OnErr r (StepInPart book old said new)

@@ -1,8 +1,14 @@
 -- The commands that build objects: what each reads and ensures, and the object that it makes.
-use Rattle.std.specs.Prelude.{ℕ, ◌≡◌, ◌≢◌, ◌⊎◌, ◌≤◌, ◌++◌, false, List, [], ◌∷◌, length, map, Option, Some, None}
+use Rattle.std.specs.Prelude.{ℕ, ◌≡◌, ◌≢◌, ◌⊎◌, ◌≤◌, ◌++◌, Bool, false, true, List, [], ◌∷◌, length, map, Option, Some, None}
+use Rattle.std.specs.List.{list_all}
+use Rattle.std.specs.Option.{is_some}
 use Rattle.pm_build.specs.Conditions.{cyclic_refusal, polar_reads, polar_refusal, product_reads, product_refusal, pyramid_reads, pyramid_refusal, shape_refusal}
 use Rattle.pm_build.specs.Objects.{cross_of, cube_of, cyclic_of, polar_of, product_of, pyramid_of, simplex_of}
 use Rattle.pm_command.specs.Commands.{ShapeSeen, cube_shape, simplex_shape, cross_shape, cyclic_shape}
+use Rattle.pm_command.specs.declared.building.Binary.TheVariants.{Product}
+use Rattle.pm_command.specs.declared.building.Builder.{Builder}
+use Rattle.pm_command.specs.declared.building.Builder.TheVariants.{One, Two}
+use Rattle.pm_command.specs.declared.building.Unary.TheVariants.{FaceFan, NormalFan, Polar, Pyramid}
 use Rattle.pm_fan.specs.Conditions.{face_reads, face_refusal, normal_reads, normal_refusal}
 use Rattle.pm_fan.specs.Fans.{face_fan_of, normal_fan_of}
 use Rattle.pm_files.specs.Files.{SavedFile}
@@ -10,10 +16,12 @@ use Rattle.pm_machine.specs.Events.{Configuration, Ensured, EnsuredInPart, confi
 use Rattle.pm_machine.specs.Machines.{Becomes, Gains, IsFree, Machine, Stays, later_rounds, most_objects, no_rounds}
 use Rattle.pm_machine.specs.declared.round.Ending.{Ending}
 use Rattle.pm_machine.specs.declared.round.Ending.TheVariants as ending
-use Rattle.pm_object.specs.State.{RoundSeen, State, empty_object, file_value, is_polytope}
+use Rattle.pm_object.specs.State.{RoundSeen, State, empty_object, file_value}
 use Rattle.pm_object.specs.declared.held.Condition.{Condition}
 use Rattle.pm_object.specs.declared.held.Condition.TheVariants as condition
 use Rattle.pm_object.specs.declared.held.Origin.TheVariants as origin
+use Rattle.pm_object_type.specs.declared.object_type.ObjectType.{ObjectType}
+use Rattle.pm_object_type.specs.declared.object_type.ObjectType.TheVariants.{Cone, Fan, Polytope}
 use Rattle.pm_props.specs.Sets.{only}
 use Rattle.pm_props.specs.declared.property.PropId.{PropId}
 use Rattle.pm_rules.specs.declared.rule.Rule.{Rule}
@@ -90,104 +98,99 @@ told_rounds book rounds = record { rounds = rounds; names = rules_told book }
 abbrev pub rounds_told : List Rule → List RoundSeen → Remarks
 rounds_told book rounds = remarks false rounds [] None (rules_told book)
 
--- ---- new objects of one
--- what is read of an object for a new one, the first reason not to make it, and its values
-pub record Building : Type 0 where
+-- ---- the table
+-- a command that builds an object of others takes objects of this type, and ensures these properties of each, in their order
+pub record Row : Type 0 where
+  pub of : ObjectType
   pub reads : List PropId
-  pub refusal : State → Option Condition
-  pub file : State → SavedFile
 
-abbrev pub polar_building : Building
-polar_building = record { reads = polar_reads; refusal = polar_refusal; file = polar_of }
+abbrev pub row_of : Builder → Row
+row_of (One Polar) = record { of = Polytope; reads = polar_reads }
+row_of (One Pyramid) = record { of = Polytope; reads = pyramid_reads }
+row_of (One NormalFan) = record { of = Polytope; reads = normal_reads }
+row_of (One FaceFan) = record { of = Polytope; reads = face_reads }
+row_of (Two Product) = record { of = Polytope; reads = product_reads }
 
-abbrev pub pyramid_building : Building
-pyramid_building = record { reads = pyramid_reads; refusal = pyramid_refusal; file = pyramid_of }
+abbrev pub first_of : List State → State
+first_of [] = empty_object Polytope
+first_of (o ∷ os) = o
 
-abbrev pub normal_fan_building : Building
-normal_fan_building = record { reads = normal_reads; refusal = normal_refusal; file = normal_fan_of }
+abbrev pub second_of : List State → State
+second_of [] = empty_object Polytope
+second_of (o ∷ os) = first_of os
 
-abbrev pub face_fan_building : Building
-face_fan_building = record { reads = face_reads; refusal = face_refusal; file = face_fan_of }
+-- of these objects nothing is made, for this condition: the first that fails
+abbrev pub Unfit : Builder → List State → Condition → Type 0
+Unfit (One Polar) os c = polar_refusal (first_of os) ≡ Some c
+Unfit (One Pyramid) os c = pyramid_refusal (first_of os) ≡ Some c
+Unfit (One NormalFan) os c = normal_refusal (first_of os) ≡ Some c
+Unfit (One FaceFan) os c = face_refusal (first_of os) ≡ Some c
+Unfit (Two Product) os c = product_refusal (first_of os) (second_of os) ≡ Some c
 
--- the object of the name is no polytope
-abbrev pub IsNoPolytope : Machine → List ℕ → Type 0
-IsNoPolytope m name = (o : State) × (m.object name ≡ Some o) × (is_polytope o.of ≡ false)
+-- of these objects one with these values is made: no condition fails
+abbrev pub Makes : Builder → List State → SavedFile → Type 0
+Makes (One Polar) os f = (polar_refusal (first_of os) ≡ None) × (f ≡ polar_of (first_of os))
+Makes (One Pyramid) os f = (pyramid_refusal (first_of os) ≡ None) × (f ≡ pyramid_of (first_of os))
+Makes (One NormalFan) os f = (normal_refusal (first_of os) ≡ None) × (f ≡ normal_fan_of (first_of os))
+Makes (One FaceFan) os f = (face_refusal (first_of os) ≡ None) × (f ≡ face_fan_of (first_of os))
+Makes (Two Product) os f = (product_refusal (first_of os) (second_of os) ≡ None) × (f ≡ product_of (first_of os) (second_of os))
 
-abbrev pub IsAPolytope : Machine → List ℕ → Type 0
-IsAPolytope m name = (o : State) × (m.object name ≡ Some o) × (is_polytope o.of ≢ false)
+-- ---- the objects of a command
+-- each name is that of an object
+abbrev pub are_named : Machine → List (List ℕ) → Bool
+are_named m names = list_all (λ n. is_some (m.object n)) names
 
--- what is read of the object of the name, a polytope, is ensured by these rounds; the object is then o
-pub record Reads (book : List Rule) (b : Building) (name to : List ℕ) (rounds : List RoundSeen) (o : State) (old mid : Machine) : Type 0 where
+abbrev pub same_type : ObjectType → ObjectType → Bool
+same_type Polytope Polytope = true
+same_type Cone Cone = true
+same_type Fan Fan = true
+same_type a b = false
+
+abbrev pub is_of_type : ObjectType → Option State → Bool
+is_of_type type None = false
+is_of_type type (Some o) = same_type type o.of
+
+-- each name is that of an object of the type
+abbrev pub are_of : ObjectType → Machine → List (List ℕ) → Bool
+are_of type m names = list_all (λ n. is_of_type type (m.object n)) names
+
+-- the objects of these names
+abbrev pub ObjectsAre : Machine → List (List ℕ) → List State → Type 0
+ObjectsAre m names os = map m.object names ≡ map (λ o. Some o) os
+
+-- what is read of each, that of the first object before that of the next
+abbrev pub wanted_all : List PropId → List (List ℕ) → List Wanted
+wanted_all ps [] = []
+wanted_all ps (n ∷ []) = wanted_of n ps
+wanted_all ps (n ∷ k ∷ ns) = wanted_of n ps ++ wanted_all ps (k ∷ ns)
+
+-- what is read of the objects, which are of the type, is ensured by these rounds; they are then these
+pub record Reads (book : List Rule) (b : Builder) (names : List (List ℕ)) (to : List ℕ) (rounds : List RoundSeen) (os : List State) (old mid : Machine) : Type 0 where
   pub free : IsFree old to
-  pub polytope : IsAPolytope old name
-  pub ensured : EnsuresAll book (wanted_of name b.reads) rounds old mid
-  pub object : mid.object name ≡ Some o
-
--- what is read of it is not found
-pub record DoesNotRead (book : List Rule) (b : Building) (name to : List ℕ) (e : Ending) (more : Remarks) (old new : Machine) : Type 0 where
-  pub free : IsFree old to
-  pub polytope : IsAPolytope old name
-  pub rounds : List RoundSeen
-  pub ends : EndsAt book (wanted_of name b.reads) e rounds old new
-  pub told : more ≡ rounds_told book rounds
-
--- `polar NAME NEW`, `pyramid NAME NEW`, `normalfan NAME NEW`, `facefan NAME NEW`; what was ensured stays also where the object is not made
-abbrev pub BuildStep : List Rule → Building → Machine → List ℕ → List ℕ → ReplySeen → Machine → Type 0
-BuildStep book b old name to (refused UnknownName nothing) new = (old.object name ≡ None) × Stays old new
-BuildStep book b old name to (refused NameTaken nothing) new = (old.object name ≢ None) × (old.object to ≢ None) × Stays old new
-BuildStep book b old name to (refused ObjectsFull nothing) new = (old.object name ≢ None) × (old.object to ≡ None) × (most_objects ≤ length old.names) × Stays old new
-BuildStep book b old name to (refused (NotFit condition.OfType) nothing) new = IsFree old to × IsNoPolytope old name × Stays old new
-BuildStep book b old name to (refused NoChain more) new = DoesNotRead book b name to ending.NoChain more old new
-BuildStep book b old name to (refused Crowded more) new = DoesNotRead book b name to ending.Crowded more old new
-BuildStep book b old name to (refused (NotFit c) more) new = (rounds : List RoundSeen) × (o : State) × Reads book b name to rounds o old new
-    × (b.refusal o ≡ Some c) × (more ≡ rounds_told book rounds)
-BuildStep book b old name to (done t) new = (rounds : List RoundSeen) × (o : State) × (mid : Machine) × Reads book b name to rounds o old mid
-    × (b.refusal o ≡ None) × Gains to (object_of (b.file o)) mid new × (t ≡ told_rounds book rounds)
-BuildStep book b old name to reply new = ⊥
-
--- ---- the product of two
--- what is read of both, that of the first before that of the second
-abbrev pub product_wanted : List ℕ → List ℕ → List Wanted
-product_wanted first second = wanted_of first product_reads ++ wanted_of second product_reads
-
--- both are polytopes
-abbrev pub ArePolytopes : Machine → List ℕ → List ℕ → Type 0
-ArePolytopes m first second = IsAPolytope m first × IsAPolytope m second
-
--- what is read of both is ensured by these rounds; the objects are then a and b
-pub record ReadsBoth (book : List Rule) (first second to : List ℕ) (rounds : List RoundSeen) (a b : State) (old mid : Machine) : Type 0 where
-  pub free : IsFree old to
-  pub polytopes : ArePolytopes old first second
-  pub ensured : EnsuresAll book (product_wanted first second) rounds old mid
-  pub first_object : mid.object first ≡ Some a
-  pub second_object : mid.object second ≡ Some b
+  pub types : are_of (row_of b).of old names ≡ true
+  pub ensured : EnsuresAll book (wanted_all (row_of b).reads names) rounds old mid
+  pub objects : ObjectsAre mid names os
 
 -- what is read of them is not found
-pub record DoesNotReadBoth (book : List Rule) (first second to : List ℕ) (e : Ending) (more : Remarks) (old new : Machine) : Type 0 where
+pub record DoesNotRead (book : List Rule) (b : Builder) (names : List (List ℕ)) (to : List ℕ) (e : Ending) (more : Remarks) (old new : Machine) : Type 0 where
   pub free : IsFree old to
-  pub polytopes : ArePolytopes old first second
+  pub types : are_of (row_of b).of old names ≡ true
   pub rounds : List RoundSeen
-  pub ends : EndsAt book (product_wanted first second) e rounds old new
+  pub ends : EndsAt book (wanted_all (row_of b).reads names) e rounds old new
   pub told : more ≡ rounds_told book rounds
 
--- both names are of objects
-abbrev pub AreNamed : Machine → List ℕ → List ℕ → Type 0
-AreNamed m first second = (m.object first ≢ None) × (m.object second ≢ None)
-
--- `product NAME NAME NEW`
-abbrev pub ProductStep : List Rule → Machine → List ℕ → List ℕ → List ℕ → ReplySeen → Machine → Type 0
-ProductStep book old first second to (refused UnknownName nothing) new = ((old.object first ≡ None) ⊎ (old.object second ≡ None)) × Stays old new
-ProductStep book old first second to (refused NameTaken nothing) new = AreNamed old first second × (old.object to ≢ None) × Stays old new
-ProductStep book old first second to (refused ObjectsFull nothing) new = AreNamed old first second × (old.object to ≡ None) × (most_objects ≤ length old.names) × Stays old new
-ProductStep book old first second to (refused (NotFit condition.OfType) nothing) new = IsFree old to × AreNamed old first second
-    × (IsNoPolytope old first ⊎ IsNoPolytope old second) × Stays old new
-ProductStep book old first second to (refused NoChain more) new = DoesNotReadBoth book first second to ending.NoChain more old new
-ProductStep book old first second to (refused Crowded more) new = DoesNotReadBoth book first second to ending.Crowded more old new
-ProductStep book old first second to (refused (NotFit c) more) new = (rounds : List RoundSeen) × (a : State) × (b : State) × ReadsBoth book first second to rounds a b old new
-    × (product_refusal a b ≡ Some c) × (more ≡ rounds_told book rounds)
-ProductStep book old first second to (done t) new = (rounds : List RoundSeen) × (a : State) × (b : State) × (mid : Machine) × ReadsBoth book first second to rounds a b old mid
-    × (product_refusal a b ≡ None) × Gains to (object_of (product_of a b)) mid new × (t ≡ told_rounds book rounds)
-ProductStep book old first second to reply new = ⊥
+-- `WORD NAME NEW`, `WORD NAME NAME NEW`: the ways in which it may end; what was ensured stays also where the object is not made
+pub data BuildStep (book : List Rule) (b : Builder) (old : Machine) (names : List (List ℕ)) (to : List ℕ) : ReplySeen → Machine → Type 0 where
+  no_such_name : {new : Machine} → are_named old names ≡ false → Stays old new → BuildStep book b old names to (refused UnknownName nothing) new
+  is_taken : {new : Machine} → are_named old names ≡ true → old.object to ≢ None → Stays old new → BuildStep book b old names to (refused NameTaken nothing) new
+  no_room : {new : Machine} → are_named old names ≡ true → old.object to ≡ None → most_objects ≤ length old.names → Stays old new → BuildStep book b old names to (refused ObjectsFull nothing) new
+  other_type : {new : Machine} → are_named old names ≡ true → IsFree old to → are_of (row_of b).of old names ≡ false → Stays old new → BuildStep book b old names to (refused (NotFit condition.OfType) nothing) new
+  no_chain : {new : Machine} {more : Remarks} → DoesNotRead book b names to ending.NoChain more old new → BuildStep book b old names to (refused NoChain more) new
+  is_crowded : {new : Machine} {more : Remarks} → DoesNotRead book b names to ending.Crowded more old new → BuildStep book b old names to (refused Crowded more) new
+  not_fit : {new : Machine} {more : Remarks} {c : Condition} (rounds : List RoundSeen) (os : List State) → Reads book b names to rounds os old new → c ≢ condition.OfType → Unfit b os c
+      → more ≡ rounds_told book rounds → BuildStep book b old names to (refused (NotFit c) more) new
+  is_made : {new mid : Machine} {t : Rounds} (rounds : List RoundSeen) (os : List State) (f : SavedFile) → Reads book b names to rounds os old mid → Makes b os f → Gains to (object_of f) mid new
+      → t ≡ told_rounds book rounds → BuildStep book b old names to (done t) new
 
 -- ---- want of memory
 -- the object of the name is ensured the property in part
@@ -204,10 +207,10 @@ EnsuresInPart book [] old new = Stays old new
 EnsuresInPart book (w ∷ ws) old new = Stays old new ⊎ (EnsuresOneInPart book w old new
     ⊎ ((mid : Machine) × (rounds : List RoundSeen) × EnsuresOne book w ending.Found rounds old mid × EnsuresInPart book ws mid new))
 
--- nothing changed, or the new name was free and the objects are of the type that the command takes: a command that would be refused for a name or a type begins no round
-abbrev pub MayHaveBegun : Type 0 → List ℕ → Machine → Machine → Type 0
-MayHaveBegun AreOfType to old new = Stays old new ⊎ (IsFree old to × AreOfType)
+-- nothing changed, or the new name was free and the objects are of the row's type: a command that would be refused for a name or a type begins no round
+abbrev pub MayHaveBegun : Builder → List (List ℕ) → List ℕ → Machine → Machine → Type 0
+MayHaveBegun b names to old new = Stays old new ⊎ (IsFree old to × (are_of (row_of b).of old names ≡ true))
 
--- a building command in part: some first of what it reads is ensured, where it may begin at all
-abbrev pub BuiltInPart : List Rule → List Wanted → Type 0 → List ℕ → Machine → Machine → Type 0
-BuiltInPart book ws AreOfType to old new = MayHaveBegun AreOfType to old new × EnsuresInPart book ws old new
+-- a command of this row in part: some first of what it reads is ensured, where it may begin at all
+abbrev pub BuiltInPart : List Rule → Builder → List (List ℕ) → List ℕ → Machine → Machine → Type 0
+BuiltInPart book b names to old new = MayHaveBegun b names to old new × EnsuresInPart book (wanted_all (row_of b).reads names) old new

@@ -1,20 +1,26 @@
 -- The commands that build objects read on small machines: what they make and when, what they tell, and what they do not.
-use Rattle.std.specs.Prelude.{ℕ, ◌≡◌, ◌≢◌, None, Some, List, [], ◌∷◌, codes, length}
-use Rattle.pm_build.specs.Conditions.{polar_refusal, product_refusal}
-use Rattle.pm_build.specs.Objects.{cross_of, cube_of, cyclic_of, polar_of, product_of, simplex_of}
+use Rattle.std.specs.Prelude.{ℕ, ◌≡◌, ◌≢◌, false, true, None, Some, List, [], ◌∷◌, codes, length}
+use Rattle.pm_build.specs.Conditions.{polar_refusal, product_refusal, pyramid_refusal}
+use Rattle.pm_build.specs.Objects.{cross_of, cube_of, cyclic_of, polar_of, product_of, pyramid_of, simplex_of}
 use Rattle.pm_command.specs.Commands.{ShapeSeen, cross_shape, cube_shape, cyclic_shape, simplex_shape}
+use Rattle.pm_command.specs.declared.building.Binary.TheVariants.{Product}
+use Rattle.pm_command.specs.declared.building.Builder.{Builder}
+use Rattle.pm_command.specs.declared.building.Builder.TheVariants.{One, Two}
+use Rattle.pm_command.specs.declared.building.Unary.TheVariants.{FaceFan, NormalFan, Polar, Pyramid}
+use Rattle.pm_files.specs.Files.{SavedFile}
 use Rattle.pm_fan.specs.Conditions.{face_refusal, normal_refusal}
 use Rattle.pm_fan.specs.Fans.{face_fan_of, fan_with, normal_fan_of}
-use Rattle.pm_machine.specs.Building.{BuildStep, Building, EndsAt, EnsuresAll, EnsuresInPart, IsAPolytope, MakeStep, MayHaveBegun, ProductStep, Wanted, face_fan_building, normal_fan_building, object_of, polar_building, product_wanted, pyramid_building, rounds_told, shape_condition, shape_file, told_rounds, wanted_of}
+use Rattle.pm_machine.specs.Building.{BuildStep, EndsAt, EnsuresAll, EnsuresInPart, MakeStep, Makes, MayHaveBegun, ObjectsAre, Unfit, Wanted, are_named, are_of, is_of_type, object_of, rounds_told, row_of, same_type, shape_condition, shape_file, told_rounds, wanted_all, wanted_of}
 use Rattle.pm_machine.specs.Machines.{IsFree, Machine, Stays}
 use Rattle.pm_machine.specs.declared.round.Ending.{Ending}
 use Rattle.pm_machine.specs.declared.round.Ending.TheVariants as ending
 use Rattle.pm_object.specs.State.{RoundSeen, State, empty_object}
+use Rattle.pm_object.specs.declared.held.Condition.{Condition}
 use Rattle.pm_object.specs.declared.held.Condition.TheVariants as condition
 use Rattle.pm_object.specs.declared.held.Origin.TheVariants.{Given}
 use Rattle.pm_object_type.specs.declared.object_type.ObjectType.TheVariants.{Cone, Fan, Polytope}
 use Rattle.pm_props.specs.declared.property.PropId.{PropId}
-use Rattle.pm_props.specs.declared.property.PropId.TheVariants.{AffineHull, Bounded, Centered, ConeAmbientDim, Facets, FullDim, LinealitySpace, Vertices}
+use Rattle.pm_props.specs.declared.property.PropId.TheVariants.{AffineHull, Bounded, Centered, ConeAmbientDim, Facets, Feasible, FullDim, LinealitySpace, Vertices, VerticesInFacets}
 use Rattle.pm_rules.specs.declared.rule.Rule.{Rule}
 use Rattle.pm_script.specs.Replies.{Remarks, Rounds, done, nothing, refused, undef}
 use Rattle.pm_script.specs.declared.refusal.Refusal.TheVariants.{Crowded, NameTaken, NoChain, NotFit, ObjectsFull, UnknownName}
@@ -57,11 +63,15 @@ pub record ShapesAreMade : Type 0 where
 -- what is ensured before an object is built
 pub record WantedIsEnsured : Type 0 where
   pub in_order : wanted_of (codes "a") (Facets ∷ AffineHull ∷ []) ≡ wanted (codes "a") Facets ∷ wanted (codes "a") AffineHull ∷ []
-  -- for a product the first polytope before the second
-  pub first_before : product_wanted (codes "a") (codes "b")
+  -- of two the first object before the second
+  pub first_before : wanted_all (Facets ∷ AffineHull ∷ []) (codes "a" ∷ codes "b" ∷ [])
       ≡ wanted (codes "a") Facets ∷ wanted (codes "a") AffineHull ∷ wanted (codes "b") Facets ∷ wanted (codes "b") AffineHull ∷ []
-  pub for_polar : polar_building.reads ≡ Bounded ∷ FullDim ∷ Centered ∷ Facets ∷ []
-  pub for_pyramid : pyramid_building.reads ≡ Vertices ∷ LinealitySpace ∷ []
+  pub of_one_alone : wanted_all (Facets ∷ []) (codes "a" ∷ []) ≡ wanted (codes "a") Facets ∷ []
+  pub for_polar : (row_of (One Polar)).reads ≡ Bounded ∷ FullDim ∷ Centered ∷ Facets ∷ []
+  pub for_pyramid : (row_of (One Pyramid)).reads ≡ Vertices ∷ LinealitySpace ∷ []
+  pub for_normal_fan : (row_of (One NormalFan)).reads ≡ Bounded ∷ Feasible ∷ AffineHull ∷ VerticesInFacets ∷ Facets ∷ Vertices ∷ []
+  pub for_face_fan : (row_of (One FaceFan)).reads ≡ Bounded ∷ Centered ∷ VerticesInFacets ∷ Vertices ∷ []
+  pub for_product : (row_of (Two Product)).reads ≡ Facets ∷ AffineHull ∷ []
   -- nothing to ensure changes nothing, by no rounds
   pub nothing_wanted : (book : List Rule) (old new : Machine) (rounds : List RoundSeen) → EnsuresAll book [] rounds old new → Stays old new
   pub without_rounds : (book : List Rule) (old new : Machine) (rounds : List RoundSeen) → EnsuresAll book [] rounds old new → rounds ≡ []
@@ -73,41 +83,75 @@ pub record WantedIsEnsured : Type 0 where
   -- in part: nothing at all, and nothing of no object
   pub not_begun : (book : List Rule) (old : Machine) (w : Wanted) (ws : List Wanted) → Stays old old → EnsuresInPart book (w ∷ ws) old old
   -- of a name that is taken, and for an object of another type, nothing begins
-  pub none_for_a_taken_name : (old new : Machine) (name to : List ℕ) → old.object to ≢ None → MayHaveBegun (IsAPolytope old name) to old new → Stays old new
-  pub none_for_a_cone : (old new : Machine) (name to : List ℕ) → old.object name ≡ Some (empty_object Cone) → MayHaveBegun (IsAPolytope old name) to old new → Stays old new
+  pub none_for_a_taken_name : (b : Builder) (old new : Machine) (names : List (List ℕ)) (to : List ℕ) → old.object to ≢ None → MayHaveBegun b names to old new → Stays old new
+  pub none_for_a_cone : (b : Builder) (old new : Machine) (name to : List ℕ) → (row_of b).of ≡ Polytope → old.object name ≡ Some (empty_object Cone) → MayHaveBegun b (name ∷ []) to old new → Stays old new
   pub in_part_of_no_object : (book : List Rule) (old new : Machine) (w : Wanted) → old.object w.name ≡ None → EnsuresInPart book (w ∷ []) old new → Stays old new
+
+-- the objects that a command names
+pub record OperandsAreRead : Type 0 where
+  -- of which type they are
+  pub polytope : same_type Polytope Polytope ≡ true
+  pub cone : same_type Cone Cone ≡ true
+  pub fan : same_type Fan Fan ≡ true
+  pub no_cone : same_type Polytope Cone ≡ false
+  pub no_fan : same_type Polytope Fan ≡ false
+  pub no_polytope : same_type Fan Polytope ≡ false
+  pub cone_is_no_fan : same_type Fan Cone ≡ false
+  pub nothing_is_none : is_of_type Fan None ≡ false
+  -- each of them counts
+  pub both_are_there : (m : Machine) (first second : List ℕ) (o p : State) → m.object first ≡ Some o → m.object second ≡ Some p → are_named m (first ∷ second ∷ []) ≡ true
+  pub second_is_missing : (m : Machine) (first second : List ℕ) → m.object second ≡ None → are_named m (first ∷ second ∷ []) ≡ false
+  pub both_are_fans : (m : Machine) (first second : List ℕ) → m.object first ≡ Some (empty_object Fan) → m.object second ≡ Some (empty_object Fan) → are_of Fan m (first ∷ second ∷ []) ≡ true
+  pub second_is_a_cone : (m : Machine) (first second : List ℕ) → m.object second ≡ Some (empty_object Cone) → are_of Polytope m (first ∷ second ∷ []) ≡ false
+  -- they stand in the order of their names
+  pub in_order : (m : Machine) (first second : List ℕ) (o p : State) → m.object first ≡ Some o → m.object second ≡ Some p → ObjectsAre m (first ∷ second ∷ []) (o ∷ p ∷ [])
+  pub not_one_for_two : (m : Machine) (first second : List ℕ) (o : State) → ObjectsAre m (first ∷ second ∷ []) (o ∷ []) → ⊥
+  -- of which type those of each command are
+  pub of_polar : (row_of (One Polar)).of ≡ Polytope
+  pub of_pyramid : (row_of (One Pyramid)).of ≡ Polytope
+  pub of_normal_fan : (row_of (One NormalFan)).of ≡ Polytope
+  pub of_face_fan : (row_of (One FaceFan)).of ≡ Polytope
+  pub of_product : (row_of (Two Product)).of ≡ Polytope
 
 -- objects that are built of one, and of two
 pub record ObjectsAreBuilt : Type 0 where
-  -- each command has its conditions and its values
-  pub polar : (o : State) → (polar_building.refusal o ≡ polar_refusal o) × (polar_building.file o ≡ polar_of o)
-  pub normal_fan : (o : State) → (normal_fan_building.refusal o ≡ normal_refusal o) × (normal_fan_building.file o ≡ normal_fan_of o)
-  pub face_fan : (o : State) → (face_fan_building.refusal o ≡ face_refusal o) × (face_fan_building.file o ≡ face_fan_of o)
+  -- each command has its values, where no condition fails
+  pub polar : (o : State) (f : SavedFile) → Makes (One Polar) (o ∷ []) f → (polar_refusal o ≡ None) × (f ≡ polar_of o)
+  pub pyramid : (o : State) (f : SavedFile) → Makes (One Pyramid) (o ∷ []) f → (pyramid_refusal o ≡ None) × (f ≡ pyramid_of o)
+  pub normal_fan : (o : State) (f : SavedFile) → Makes (One NormalFan) (o ∷ []) f → (normal_refusal o ≡ None) × (f ≡ normal_fan_of o)
+  pub face_fan : (o : State) (f : SavedFile) → Makes (One FaceFan) (o ∷ []) f → (face_refusal o ≡ None) × (f ≡ face_fan_of o)
+  pub product : (a b : State) (f : SavedFile) → Makes (Two Product) (a ∷ b ∷ []) f → (product_refusal a b ≡ None) × (f ≡ product_of a b)
+  -- and the first of its conditions
+  pub polar_unfit : (o : State) (c : Condition) → Unfit (One Polar) (o ∷ []) c → polar_refusal o ≡ Some c
+  pub pyramid_unfit : (o : State) (c : Condition) → Unfit (One Pyramid) (o ∷ []) c → pyramid_refusal o ≡ Some c
+  pub normal_fan_unfit : (o : State) (c : Condition) → Unfit (One NormalFan) (o ∷ []) c → normal_refusal o ≡ Some c
+  pub face_fan_unfit : (o : State) (c : Condition) → Unfit (One FaceFan) (o ∷ []) c → face_refusal o ≡ Some c
+  pub product_unfit : (a b : State) (c : Condition) → Unfit (Two Product) (a ∷ b ∷ []) c → product_refusal a b ≡ Some c
   -- the new object is that of what was read, and the rounds behind it are told
-  pub is_built : (book : List Rule) (old new : Machine) (name to : List ℕ) (t : Rounds) → BuildStep book polar_building old name to (done t) new
-      → (o : State) × (polar_refusal o ≡ None) × (new.object to ≡ Some (object_of (polar_of o)))
-  pub rounds_are_told : (book : List Rule) (b : Building) (old new : Machine) (name to : List ℕ) (t : Rounds) → BuildStep book b old name to (done t) new
+  pub is_built : (book : List Rule) (b : Builder) (old new : Machine) (names : List (List ℕ)) (to : List ℕ) (t : Rounds) → BuildStep book b old names to (done t) new
+      → (os : List State) × (f : SavedFile) × Makes b os f × (new.object to ≡ Some (object_of f))
+  pub rounds_are_told : (book : List Rule) (b : Builder) (old new : Machine) (names : List (List ℕ)) (to : List ℕ) (t : Rounds) → BuildStep book b old names to (done t) new
       → (rounds : List RoundSeen) × (t ≡ told_rounds book rounds)
   -- of no object, under no name that is held, and of no cone
-  pub of_nothing : (book : List Rule) (b : Building) (old new : Machine) (name to : List ℕ) (t : Rounds) → old.object name ≡ None → BuildStep book b old name to (done t) new → ⊥
-  pub not_over : (book : List Rule) (b : Building) (old new : Machine) (name to : List ℕ) (t : Rounds) → old.object to ≢ None → BuildStep book b old name to (done t) new → ⊥
-  pub of_no_cone : (book : List Rule) (b : Building) (old new : Machine) (name to : List ℕ) (t : Rounds) → old.object name ≡ Some (empty_object Cone) → BuildStep book b old name to (done t) new → ⊥
-  pub cone_is_refused : (book : List Rule) (b : Building) (old : Machine) (name to : List ℕ) → old.object name ≡ Some (empty_object Cone) → IsFree old to → Stays old old
-      → BuildStep book b old name to (refused (NotFit condition.OfType) nothing) old
-  pub polytope_is_not : (book : List Rule) (b : Building) (old new : Machine) (name to : List ℕ) → old.object name ≡ Some (empty_object Polytope) → BuildStep book b old name to (refused (NotFit condition.OfType) nothing) new → ⊥
-  pub unknown_first : (book : List Rule) (b : Building) (old : Machine) (name to : List ℕ) → old.object name ≡ None → Stays old old → BuildStep book b old name to (refused UnknownName nothing) old
+  pub of_nothing : (book : List Rule) (b : Builder) (old new : Machine) (name to : List ℕ) (t : Rounds) → old.object name ≡ None → BuildStep book b old (name ∷ []) to (done t) new → ⊥
+  pub not_over : (book : List Rule) (b : Builder) (old new : Machine) (names : List (List ℕ)) (to : List ℕ) (t : Rounds) → old.object to ≢ None → BuildStep book b old names to (done t) new → ⊥
+  pub of_no_cone : (book : List Rule) (b : Builder) (old new : Machine) (name to : List ℕ) (t : Rounds) → (row_of b).of ≡ Polytope → old.object name ≡ Some (empty_object Cone) → BuildStep book b old (name ∷ []) to (done t) new → ⊥
+  pub cone_is_refused : (book : List Rule) (b : Builder) (old : Machine) (name to : List ℕ) → (row_of b).of ≡ Polytope → old.object name ≡ Some (empty_object Cone) → IsFree old to → Stays old old
+      → BuildStep book b old (name ∷ []) to (refused (NotFit condition.OfType) nothing) old
+  pub polytope_is_not : (book : List Rule) (b : Builder) (old new : Machine) (name to : List ℕ) → (row_of b).of ≡ Polytope → old.object name ≡ Some (empty_object Polytope) → BuildStep book b old (name ∷ []) to (refused (NotFit condition.OfType) nothing) new → ⊥
+  pub unknown_first : (book : List Rule) (b : Builder) (old : Machine) (name to : List ℕ) → old.object name ≡ None → Stays old old → BuildStep book b old (name ∷ []) to (refused UnknownName nothing) old
+  -- the name is looked at before a round
+  pub taken_before_rounds : (book : List Rule) (b : Builder) (old new : Machine) (names : List (List ℕ)) (to : List ℕ) (more : Remarks) → old.object to ≢ None → BuildStep book b old names to (refused NoChain more) new → ⊥
+  pub type_before_rounds : (book : List Rule) (b : Builder) (old new : Machine) (name to : List ℕ) (more : Remarks) → (row_of b).of ≡ Polytope → old.object name ≡ Some (empty_object Cone) → BuildStep book b old (name ∷ []) to (refused Crowded more) new → ⊥
   -- a condition that is named failed of what was read, which stays
-  pub is_not_fit : (book : List Rule) (b : Building) (old new : Machine) (name to : List ℕ) (more : Remarks) → BuildStep book b old name to (refused (NotFit condition.Centered) more) new
-      → (o : State) × (new.object name ≡ Some o) × (b.refusal o ≡ Some condition.Centered)
-  pub no_chain_tells : (book : List Rule) (b : Building) (old new : Machine) (name to : List ℕ) (more : Remarks) → BuildStep book b old name to (refused NoChain more) new
+  pub is_not_fit : (book : List Rule) (b : Builder) (old new : Machine) (names : List (List ℕ)) (to : List ℕ) (more : Remarks) → BuildStep book b old names to (refused (NotFit condition.Centered) more) new
+      → (os : List State) × ObjectsAre new names os × Unfit b os condition.Centered
+  pub no_chain_tells : (book : List Rule) (b : Builder) (old new : Machine) (names : List (List ℕ)) (to : List ℕ) (more : Remarks) → BuildStep book b old names to (refused NoChain more) new
       → (rounds : List RoundSeen) × (more ≡ rounds_told book rounds)
-  pub no_other : (book : List Rule) (b : Building) (old new : Machine) (name to : List ℕ) → BuildStep book b old name to undef new → ⊥
-  -- of two: their product, and none where one of them is not there or is a cone
-  pub is_product : (book : List Rule) (old new : Machine) (first second to : List ℕ) (t : Rounds) → ProductStep book old first second to (done t) new
-      → (a : State) × (b : State) × (product_refusal a b ≡ None) × (new.object to ≡ Some (object_of (product_of a b)))
-  pub without_second : (book : List Rule) (old new : Machine) (first second to : List ℕ) (t : Rounds) → old.object second ≡ None → ProductStep book old first second to (done t) new → ⊥
-  pub second_is_unknown : (book : List Rule) (old : Machine) (first second to : List ℕ) → old.object second ≡ None → Stays old old → ProductStep book old first second to (refused UnknownName nothing) old
-  pub second_is_no_cone : (book : List Rule) (old new : Machine) (first second to : List ℕ) (t : Rounds) → old.object second ≡ Some (empty_object Cone) → ProductStep book old first second to (done t) new → ⊥
-  pub not_product_over : (book : List Rule) (old new : Machine) (first second to : List ℕ) (t : Rounds) → old.object to ≢ None → ProductStep book old first second to (done t) new → ⊥
-  pub crowded_tells : (book : List Rule) (old new : Machine) (first second to : List ℕ) (more : Remarks) → ProductStep book old first second to (refused Crowded more) new
+  pub crowded_tells : (book : List Rule) (b : Builder) (old new : Machine) (names : List (List ℕ)) (to : List ℕ) (more : Remarks) → BuildStep book b old names to (refused Crowded more) new
       → (rounds : List RoundSeen) × (more ≡ rounds_told book rounds)
+  pub no_other : (book : List Rule) (b : Builder) (old new : Machine) (names : List (List ℕ)) (to : List ℕ) → BuildStep book b old names to undef new → ⊥
+  -- of two: none where the second is not there or is a cone
+  pub without_second : (book : List Rule) (b : Builder) (old new : Machine) (first second to : List ℕ) (t : Rounds) → old.object second ≡ None → BuildStep book b old (first ∷ second ∷ []) to (done t) new → ⊥
+  pub second_is_unknown : (book : List Rule) (b : Builder) (old : Machine) (first second to : List ℕ) → old.object second ≡ None → Stays old old → BuildStep book b old (first ∷ second ∷ []) to (refused UnknownName nothing) old
+  pub second_is_no_cone : (book : List Rule) (b : Builder) (old new : Machine) (first second to : List ℕ) (t : Rounds) → (row_of b).of ≡ Polytope → old.object second ≡ Some (empty_object Cone) → BuildStep book b old (first ∷ second ∷ []) to (done t) new → ⊥

@@ -1,21 +1,19 @@
 -- What the functions of building do, each in the terms of the commands.
-use Rattle.std.specs.Prelude.{ℕ, ◌≡◌, ◌≢◌, ◌⊎◌, ◌≤◌, ◌++◌, IsTrue, [], false, true, List, length, map, None, Result, Ok, Err, Some}
-use Rattle.std.specs.List.{All}
-use Rattle.pm_build.specs.Conditions.{product_refusal}
-use Rattle.pm_build.specs.Objects.{product_of}
+use Rattle.std.specs.Prelude.{ℕ, ◌≡◌, ◌≢◌, ◌⊎◌, ◌≤◌, ◌++◌, IsTrue, [], false, true, IfErr, IfOk, List, Option, length, map, None, Result, Ok, Err, Some}
+use Rattle.std.specs.List.{All, AllByRecursion}
 use Rattle.pm_files.specs.Files.{SavedFile}
 use Rattle.pm_files.specs.Views.{file_of}
 use Rattle.pm_files.specs.declared.file.FileObject.{FileObject}
 use Rattle.pm_filing.specs.Whole.{are_of_different, are_of_table}
-use Rattle.pm_machine.specs.Building.{Building, EndsAt, EnsuresAll, EnsuresOne, Wanted, face_fan_building, normal_fan_building, object_of, polar_building, pyramid_building}
+use Rattle.pm_machine.specs.Building.{EndsAt, EnsuresAll, EnsuresOne, Makes, ObjectsAre, Unfit, Wanted, object_of, row_of, same_type}
+use Rattle.pm_command.specs.declared.building.Builder.{Builder}
 use Rattle.pm_machine.specs.Machines.{Gains, Machine, Stays, most_objects}
-use Rattle.pm_machine.specs.declared.making.Building.{Building as Named}
-use Rattle.pm_machine.specs.declared.making.Building.TheVariants as named
 use Rattle.pm_machine.specs.declared.round.Ending.{Ending}
 use Rattle.pm_machine.specs.declared.round.Ending.TheVariants as ending
-use Rattle.pm_object.specs.State.{HeldValue, RoundSeen, State, file_value, has_rounds, is_held, is_polytope, read_at}
+use Rattle.pm_object.specs.State.{HeldValue, RoundSeen, State, file_value, has_rounds, is_held, read_at}
 use Rattle.pm_object.specs.declared.held.BuildFail.{BuildFail}
 use Rattle.pm_object.specs.declared.held.BuildFail.TheVariants as fail
+use Rattle.pm_object.specs.declared.held.Condition.{Condition}
 use Rattle.pm_object.specs.declared.held.Origin.TheVariants as origin
 use Rattle.pm_object_type.specs.declared.object_type.ObjectType.{ObjectType}
 use Rattle.pm_props.specs.declared.property.PropId.{PropId}
@@ -28,13 +26,6 @@ use Rattle.pm_types.specs.Forms.{FormsIn}
 use Rattle.pm_types.specs.Values.{PropertyValue}
 
 -- ---- new objects
--- what the code's word for it builds
-abbrev pub building_of : Named → Building
-building_of named.Polar = polar_building
-building_of named.Pyramid = pyramid_building
-building_of named.NormalFan = normal_fan_building
-building_of named.FaceFan = face_fan_building
-
 -- values of different properties of the type's table, each of which has its form for one column count
 pub record AreFitting (of : ObjectType) (values : List (PropId × PropertyValue)) : Type 0 where
   pub cols : ℕ
@@ -66,10 +57,10 @@ abbrev pub remarks_of : Rounds → Remarks
 remarks_of t = remarks false t.rounds [] None t.names
 
 -- the object of the values that were built is made, and these rounds are told; or a condition fails
-abbrev pub Makes : List ℕ → Result FileObject BuildFail → Rounds → ReplySeen → Machine → Machine → Type 0
-Makes to (Ok f) t (done told) old new = (told ≡ t) × Gains to (object_of (file_of f)) old new
-Makes to (Err (fail.NotFit c)) t (refused (NotFit d) more) old new = (d ≡ c) × (more ≡ remarks_of t) × Stays old new
-Makes to built t reply old new = ⊥
+abbrev pub MakesBuilt : List ℕ → Result FileObject BuildFail → Rounds → ReplySeen → Machine → Machine → Type 0
+MakesBuilt to (Ok f) t (done told) old new = (told ≡ t) × Gains to (object_of (file_of f)) old new
+MakesBuilt to (Err (fail.NotFit c)) t (refused (NotFit d) more) old new = (d ≡ c) × (more ≡ remarks_of t) × Stays old new
+MakesBuilt to built t reply old new = ⊥
 
 -- ---- ensuring
 -- all of these are ensured, or one of them ends so
@@ -90,23 +81,31 @@ pub record TellsAll (book : List Rule) (ws : List Wanted) (e : Ending) (before a
   pub told : after ≡ before ++ rounds
 
 -- ---- building
--- the object of the name is a polytope that holds these properties, and it was settled
-pub record HasRead (ps : List PropId) (name : List ℕ) (m : Machine) : Type 0 where
+-- an object of the type is found, which holds these properties, and it was settled
+pub record HasRead (type : ObjectType) (ps : List PropId) (found : Option State) : Type 0 where
   pub object : State
-  pub object_is : m.object name ≡ Some object
-  pub polytope : is_polytope object.of ≡ true
+  pub is : found ≡ Some object
+  pub of_type : same_type type object.of ≡ true
   pub read : IsRead ps object
 
--- an object is made of that of the name, and these rounds are told; or the first condition that fails is told
-abbrev pub Builds : Building → List ℕ → List ℕ → Rounds → ReplySeen → Machine → Machine → Type 0
-Builds b name to t (done told) old new = (o : State) × (old.object name ≡ Some o) × (b.refusal o ≡ None) × (told ≡ t) × Gains to (object_of (b.file o)) old new
-Builds b name to t (refused (NotFit c) more) old new = (o : State) × (old.object name ≡ Some o) × (b.refusal o ≡ Some c) × (more ≡ remarks_of t) × Stays old new
-Builds b name to t reply old new = ⊥
+-- each object of a name is so for the row
+abbrev pub HaveRead : Builder → Machine → List (List ℕ) → Type 0
+HaveRead b m names = AllByRecursion (λ n. HasRead (row_of b).of (row_of b).reads (m.object n)) names
 
--- the same of two objects
-abbrev pub Multiplies : List ℕ → List ℕ → List ℕ → Rounds → ReplySeen → Machine → Machine → Type 0
-Multiplies first second to t (done told) old new = (a : State) × (b : State) × (old.object first ≡ Some a) × (old.object second ≡ Some b)
-    × (product_refusal a b ≡ None) × (told ≡ t) × Gains to (object_of (product_of a b)) old new
-Multiplies first second to t (refused (NotFit c) more) old new = (a : State) × (b : State) × (old.object first ≡ Some a) × (old.object second ≡ Some b)
-    × (product_refusal a b ≡ Some c) × (more ≡ remarks_of t) × Stays old new
-Multiplies first second to t reply old new = ⊥
+-- the answer names a condition that fails; want of memory may come at any time
+abbrev pub IsUnfit : (Condition → Type 0) → BuildFail → Type 0
+IsUnfit unfit (fail.NotFit c) = unfit c
+IsUnfit unfit fail.Memory = Unit {0}
+
+-- what was built of the objects of these names: values by the row, unless a condition fails
+pub record IsBuilt (b : Builder) (m : Machine) (names : List (List ℕ)) (built : Result FileObject BuildFail) : Type 0 where
+  pub objects : List State
+  pub are : ObjectsAre m names objects
+  pub made : IfOk built (λ f. Makes b objects (file_of f))
+  pub unfit : IfErr built (IsUnfit (Unfit b objects))
+
+-- an object is made of those of the names, and these rounds are told; or a condition that fails is told
+abbrev pub Builds : Builder → List (List ℕ) → List ℕ → Rounds → ReplySeen → Machine → Machine → Type 0
+Builds b names to t (done told) old new = (os : List State) × (f : SavedFile) × ObjectsAre old names os × Makes b os f × (told ≡ t) × Gains to (object_of f) old new
+Builds b names to t (refused (NotFit c) more) old new = (os : List State) × ObjectsAre old names os × Unfit b os c × (more ≡ remarks_of t) × Stays old new
+Builds b names to t reply old new = ⊥

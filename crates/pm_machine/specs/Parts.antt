@@ -7,8 +7,8 @@ use Rattle.pm_object.specs.Honest.{IsHonest}
 use Rattle.pm_object.specs.State.{State}
 use Rattle.pm_rules.specs.declared.rule.Rule.{Rule}
 use Rattle.pm_store.specs.Files.{IsPutInPart}
-use Rattle.pm_command.specs.Commands.{RefSeen, Spoken, ensure_values, explain_values, give_value, load_object, save_object, build_polar, build_pyramid, build_normal_fan, build_face_fan, build_product}
-use Rattle.pm_machine.specs.Building.{ArePolytopes, BuiltInPart, IsAPolytope, face_fan_building, normal_fan_building, polar_building, product_wanted, pyramid_building, wanted_of}
+use Rattle.pm_command.specs.Commands.{RefSeen, Spoken, ensure_values, explain_values, give_value, load_object, save_object, build_object}
+use Rattle.pm_machine.specs.Building.{BuiltInPart}
 use Rattle.pm_props.specs.Sets.{only}
 use Rattle.pm_props.specs.declared.property.PropId.{PropId}
 use Rattle.pm_props.specs.declared.set.PropSet.{PropSet}
@@ -53,11 +53,7 @@ StepInPart book old (ensure_values ref words) new = Stays old new ⊎ EnsuredPar
 StepInPart book old (explain_values ref words) new = Stays old new ⊎ IsSettled old ref words new
 StepInPart book old (load_object name file) new = Looks old new
 StepInPart book old (save_object name file) new = SavedInPart book old name file new
-StepInPart book old (build_polar name to) new = BuiltInPart book (wanted_of name polar_building.reads) (IsAPolytope old name) to old new
-StepInPart book old (build_pyramid name to) new = BuiltInPart book (wanted_of name pyramid_building.reads) (IsAPolytope old name) to old new
-StepInPart book old (build_normal_fan name to) new = BuiltInPart book (wanted_of name normal_fan_building.reads) (IsAPolytope old name) to old new
-StepInPart book old (build_face_fan name to) new = BuiltInPart book (wanted_of name face_fan_building.reads) (IsAPolytope old name) to old new
-StepInPart book old (build_product first second to) new = BuiltInPart book (product_wanted first second) (ArePolytopes old first second) to old new
+StepInPart book old (build_object builder names to) new = BuiltInPart book builder names to old new
 StepInPart book old command new = Stays old new
 
 -- each object is honest

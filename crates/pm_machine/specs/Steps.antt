@@ -12,7 +12,7 @@ use Rattle.pm_json.specs.declared.fail.ValueFail.{ValueFail}
 use Rattle.pm_json.specs.declared.fail.ValueFail.TheVariants as fault
 use Rattle.pm_machine.specs.Chains.{AreBarred, held_names, table}
 use Rattle.pm_machine.specs.Events.{Configuration, Ensured, configuration}
-use Rattle.pm_machine.specs.Building.{BuildStep, MakeStep, ProductStep, face_fan_building, normal_fan_building, polar_building, pyramid_building}
+use Rattle.pm_machine.specs.Building.{BuildStep, MakeStep}
 use Rattle.pm_machine.specs.Machines.{Becomes, Files, Gains, IsFree, Loses, Machine, OthersStay, Stays, Store, later_rounds, most_objects, no_rounds}
 use Rattle.pm_machine.specs.Reasons.{AreReasons}
 use Rattle.pm_machine.specs.declared.round.Ending.TheVariants as ending
@@ -34,7 +34,7 @@ use Rattle.pm_script.specs.declared.refusal.FileWhy.TheVariants as file_why
 use Rattle.pm_store.specs.Files.{AreTold, FilesStay, IsPut, IsPutInPart, file_of, read_part}
 use Rattle.pm_store.specs.Outside.{Rose}
 use Rattle.pm_rules.specs.declared.rule.Rule.{Rule}
-use Rattle.pm_command.specs.Commands.{RefSeen, Spoken, blank, new_object, take_value, give_value, look_up, ensure_values, explain_values, tell_history, show_rules, disable_rule, unload_client, copy_object, drop_object, tell_origin, load_object, save_object, make_object, build_polar, build_pyramid, build_normal_fan, build_face_fan, build_product}
+use Rattle.pm_command.specs.Commands.{RefSeen, Spoken, blank, new_object, take_value, give_value, look_up, ensure_values, explain_values, tell_history, show_rules, disable_rule, unload_client, copy_object, drop_object, tell_origin, load_object, save_object, make_object, build_object}
 use Rattle.pm_command.specs.Grammar.{ref_text}
 use Rattle.pm_script.specs.Replies.{NamesSeen, Remarks, ReplySeen, Rounds, done, ensured, explained, lists_rules, loaded, nothing, planned, refused, remarks, shows, tells, tells_origin, undef}
 use Rattle.pm_script.specs.declared.refusal.Refusal.{Refusal}
@@ -448,11 +448,7 @@ Step book old (tell_origin ref text) reply new = OriginStep old ref text reply n
 Step book old (load_object name file) reply new = LoadStep book old name file reply new
 Step book old (save_object name file) reply new = SaveStep book old name file reply new
 Step book old (make_object to shape) reply new = MakeStep old to shape reply new
-Step book old (build_polar name to) reply new = BuildStep book polar_building old name to reply new
-Step book old (build_pyramid name to) reply new = BuildStep book pyramid_building old name to reply new
-Step book old (build_normal_fan name to) reply new = BuildStep book normal_fan_building old name to reply new
-Step book old (build_face_fan name to) reply new = BuildStep book face_fan_building old name to reply new
-Step book old (build_product first second to) reply new = ProductStep book old first second to reply new
+Step book old (build_object builder names to) reply new = BuildStep book builder old names to reply new
 
 -- each object is honest, and while it has no round each of its values was given or stored
 pub record AllKept (m : Machine) : Type 0 where

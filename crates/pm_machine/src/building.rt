@@ -1,38 +1,75 @@
 // The commands that build objects.
 
-ghost use Rattle.pm_build.specs.Conditions.{product_reads};
+ghost use Rattle.pm_command.specs.Builders.{builder_of, operands_of};
 ghost use Rattle.pm_command.specs.Commands.{seen_shape};
 ghost use Rattle.pm_files.specs.Views.{file_of};
-ghost use Rattle.pm_machine.specs.Building.{ArePolytopes, BuildStep, EnsuresInPart, EnsuresOneInPart, IsAPolytope, MakeStep, MayHaveBegun, ProductStep, product_wanted, wanted_of};
-ghost use Rattle.pm_machine.specs.Built.{Builds, HasRead, IsBarred, IsFitting, Makes, Multiplies, TellsAll, TellsOne, building_of};
+ghost use Rattle.pm_machine.specs.Building.{BuildStep, BuiltInPart, EnsuresInPart, EnsuresOneInPart, MakeStep, are_named, are_of, is_of_type, row_of, same_type, wanted_all, wanted_of};
+ghost use Rattle.pm_machine.specs.Built.{Builds, HaveRead, IsBarred, IsBuilt, IsFitting, MakesBuilt, TellsAll, TellsOne};
 ghost use Rattle.pm_machine.specs.Machines.{IsFree, Stays};
 ghost use Rattle.pm_machine.specs.Sessions.{book_of, is_spent, machine_of};
-ghost use Rattle.pm_object.specs.State.{is_polytope};
 ghost use Rattle.pm_object.specs.Views.{round_seen};
 ghost use Rattle.pm_script.specs.Replies.{names_seen, seen};
 ghost use Rattle.std.specs.Option.{is_some};
-ghost use Rattle.std.specs.Prelude.{IfNone, IfOk, IfSome, IsTrue, None, OnErr, OnOk, [], map, string_bytes, ◌&&◌, ◌≡◌};
+ghost use Rattle.std.specs.Prelude.{IfNone, IfOk, IfSome, IsTrue, None, OnErr, [], map, string_bytes, true, ◌≡◌};
 
 use crate::asking::{rounds_after, rule_names};
-use crate::making::{Building, build_product, build_shape, object_of, product_reads};
+use crate::making::{build_one, build_shape, build_two, object_of, row_of};
 use crate::round::{Ending, ensure};
 use crate::session::Session;
 use pm_client::Client;
-use pm_command::Shape;
+use pm_command::{Building, Shape};
 use pm_files::FileObject;
-use pm_object::{BuildFail, Condition, Object, Round, is_polytope};
+use pm_object::{BuildFail, Condition, Round};
+use pm_object_type::ObjectType;
 use pm_script::{Names, Refusal, Reply};
 use pm_types::{PropId, PropSet};
 use std::alloc::{AllocError, Global};
 
-// Whether both objects are polytopes.
-fn are_polytopes(a: &Object, b: &Object) -> bool
-    ensures { result ≡ (is_polytope a.now.state.of && is_polytope b.now.state.of) }
+// Whether the types are the same.
+fn is_type(a: ObjectType, b: ObjectType) -> bool
+    ensures { result ≡ same_type a b }
 {
-    is_polytope(a) && is_polytope(b)
+    a == b
 }
 
 impl Session {
+    // Whether an object has the name.
+    fn has(&self, name: &str) -> bool
+        ensures { result ≡ is_some ((machine_of self.now []).object name.now) }
+    {
+        self.objects.get(name).is_some()
+    }
+
+    // Whether each name is that of an object.
+    fn are_named(&self, what: &Building) -> bool
+        ensures { result ≡ are_named (machine_of self.now []) (operands_of what.now) }
+    {
+        match what {
+            Building::One(_, name) => self.has(name),
+            Building::Two(_, first, second) => self.has(first) && self.has(second),
+        }
+    }
+
+    // Whether an object of the type has the name.
+    fn is_of(&self, of: ObjectType, name: &str) -> bool
+        ensures { result ≡ is_of_type of ((machine_of self.now []).object name.now) }
+    {
+        match self.objects.get(name) {
+            Some(object) => is_type(of, object.of()),
+            None => false,
+        }
+    }
+
+    // Whether each name is that of an object of the type.
+    fn are_of(&self, of: ObjectType, what: &Building) -> bool
+        ensures { result ≡ are_of of (machine_of self.now []) (operands_of what.now) }
+    {
+        match what {
+            Building::One(_, name) => self.is_of(of, name),
+            Building::Two(_, first, second) => self.is_of(of, first) && self.is_of(of, second),
+        }
+    }
+
     // Why no new object may have the name, if so.
     fn bars(&self, name: &str) -> Option<Refusal>
         ensures some { IfSome result (IsBarred (machine_of self.now []) name.now) }
@@ -58,7 +95,7 @@ impl Session {
     ) -> Result<Reply, AllocError>
         requires fitting { IfOk built (λ f. IsFitting (file_of f)) }
         requires free { (machine_of self.old []).object (string_bytes new) ≡ None }
-        ensures made { IfOk result (λ r. Makes (string_bytes new) built
+        ensures made { IfOk result (λ r. MakesBuilt (string_bytes new) built
             (record { rounds = map round_seen rounds.items; names = names_seen names }) (seen r)
             (machine_of self.old []) (machine_of self.new [])) }
         ensures err { OnErr result (Stays (machine_of self.old []) (machine_of self.new [])) }
@@ -163,190 +200,125 @@ impl Session {
         Ok(Ending::Found)
     }
 
-    // Makes an object of that of a name, of which was read what is needed.
-    fn build_read(
+    // Ensures what a command reads of its objects, that of the first before that of the second.
+    fn ensure_operands(
         &mut self,
         alloc: Global,
-        what: Building,
-        name: &str,
-        new: String,
-        rounds: Vec<Round>,
-        names: Names,
-    ) -> Result<Reply, AllocError>
-        requires read { HasRead (building_of what).reads name.now (machine_of self.old []) }
-        requires free { (machine_of self.old []).object (string_bytes new) ≡ None }
-        ensures builds { IfOk result (λ r. Builds (building_of what) name.now (string_bytes new)
-            (record { rounds = map round_seen rounds.items; names = names_seen names }) (seen r)
-            (machine_of self.old []) (machine_of self.new [])) }
-        ensures err { OnErr result (Stays (machine_of self.old []) (machine_of self.new [])) }
-        ensures book { book_of self.new ≡ book_of self.old }
-        ensures spent { is_spent self.new ≡ is_spent self.old }
-    {
-        let Some(object) = self.objects.get(name) else {
-            unreachable!()
-        };
-        let built = what.build(alloc, object);
-        self.add_made(alloc, new, built, rounds, names)
-    }
-
-    // `polar NAME NEW`, `pyramid NAME NEW`, `normalfan NAME NEW`, `facefan NAME NEW`
-    pub(crate) fn do_build(
-        &mut self,
-        alloc: Global,
-        what: Building,
-        name: &str,
-        new: String,
-        clients: &mut Vec<Box<dyn Client>>,
-    ) -> Result<Reply, AllocError>
-        ensures step { IfOk result (λ r. BuildStep (book_of self.old) (building_of what)
-            (machine_of self.old (map tally clients.old.items)) name.now (string_bytes new)
-            (seen r)
-            (machine_of self.new (map tally clients.new.items))) }
-        ensures part { OnErr result (EnsuresInPart (book_of self.old)
-            (wanted_of name.now (building_of what).reads)
-            (machine_of self.old (map tally clients.old.items))
-            (machine_of self.new (map tally clients.new.items))) }
-        ensures begun { OnErr result (MayHaveBegun (IsAPolytope (machine_of self.old []) name.now)
-            (string_bytes new) (machine_of self.old (map tally clients.old.items))
-            (machine_of self.new (map tally clients.new.items))) }
-        ensures book { book_of self.new ≡ book_of self.old }
-        ensures spent { is_spent self.new ≡ is_spent self.old }
-    {
-        let Some(object) = self.objects.get(name) else {
-            return Ok(Reply::refused(alloc, Refusal::UnknownName));
-        };
-        let fits = is_polytope(object);
-        if let Some(why) = self.bars(new.as_str()) {
-            return Ok(Reply::refused(alloc, why));
-        }
-        if !fits {
-            return Ok(Reply::refused(alloc, Refusal::NotFit(Condition::OfType)));
-        }
-        let reads = what.reads(alloc)?;
-        let mut rounds = Vec::new(alloc);
-        let ending = self.ensure_all(alloc, name, &reads, clients, &mut rounds)?;
-        let names = rule_names(alloc, self.book.rules())?;
-        match ending {
-            Ending::Found => self.build_read(alloc, what, name, new, rounds, names),
-            Ending::NoChain => Ok(Reply::refused_after(
-                alloc,
-                Refusal::NoChain,
-                false,
-                rounds,
-                names,
-            )),
-            Ending::Crowded => Ok(Reply::refused_after(
-                alloc,
-                Refusal::Crowded,
-                false,
-                rounds,
-                names,
-            )),
-        }
-    }
-
-    // Ensures what is read of both objects of a product, that of the first before that of the second.
-    fn ensure_both(
-        &mut self,
-        alloc: Global,
-        first: &str,
-        second: &str,
+        what: &Building,
         clients: &mut Vec<Box<dyn Client>>,
         rounds: &mut Vec<Round>,
     ) -> Result<Ending, AllocError>
-        requires first { IsTrue (is_some ((machine_of self.old []).object first.now)) }
-        requires second { IsTrue (is_some ((machine_of self.old []).object second.now)) }
+        requires named { are_named (machine_of self.old []) (operands_of what.now) ≡ true }
         ensures ok { IfOk result (λ e. TellsAll (book_of self.old)
-            (product_wanted first.now second.now) e
+            (wanted_all (row_of (builder_of what.now)).reads (operands_of what.now)) e
             (map round_seen rounds.old.items) (map round_seen rounds.new.items)
             (machine_of self.old (map tally clients.old.items))
             (machine_of self.new (map tally clients.new.items))) }
         ensures part { OnErr result (EnsuresInPart (book_of self.old)
-            (product_wanted first.now second.now)
+            (wanted_all (row_of (builder_of what.now)).reads (operands_of what.now))
             (machine_of self.old (map tally clients.old.items))
             (machine_of self.new (map tally clients.new.items))) }
         ensures book { book_of self.new ≡ book_of self.old }
         ensures spent { is_spent self.new ≡ is_spent self.old }
     {
-        let reads = product_reads(alloc)?;
-        let ending = self.ensure_all(alloc, first, &reads, clients, rounds)?;
-        let Ending::Found = ending else {
-            return Ok(ending);
-        };
-        self.ensure_all(alloc, second, &reads, clients, rounds)
+        let row = row_of(what.builder());
+        match what {
+            Building::One(_, name) => self.ensure_all(alloc, name, row.reads, clients, rounds),
+            Building::Two(_, first, second) => {
+                let ending = self.ensure_all(alloc, first, row.reads, clients, rounds)?;
+                let Ending::Found = ending else {
+                    return Ok(ending);
+                };
+                self.ensure_all(alloc, second, row.reads, clients, rounds)
+            }
+        }
     }
 
-    // Makes the product of two objects, of which was read what is needed.
-    fn multiply_read(
+    // What is built of the objects of a command, of which was read what is needed.
+    fn build(&self, alloc: Global, what: &Building) -> Result<FileObject, BuildFail>
+        requires { HaveRead (builder_of what.now) (machine_of self.now [])
+            (operands_of what.now) }
+        ensures built { IsBuilt (builder_of what.now) (machine_of self.now [])
+            (operands_of what.now) result }
+        ensures fitting { IfOk result (λ f. IsFitting (file_of f)) }
+    {
+        match what {
+            Building::One(what, name) => {
+                let Some(object) = self.objects.get(name.as_str()) else {
+                    unreachable!()
+                };
+                build_one(alloc, *what, object)
+            }
+            Building::Two(what, first, second) => {
+                let Some(a) = self.objects.get(first.as_str()) else {
+                    unreachable!()
+                };
+                let Some(b) = self.objects.get(second.as_str()) else {
+                    unreachable!()
+                };
+                build_two(alloc, *what, a, b)
+            }
+        }
+    }
+
+    // Makes an object of others, of which was read what is needed.
+    fn build_read(
         &mut self,
         alloc: Global,
-        first: &str,
-        second: &str,
+        what: &Building,
         new: String,
         rounds: Vec<Round>,
         names: Names,
     ) -> Result<Reply, AllocError>
-        requires first { HasRead product_reads first.now (machine_of self.old []) }
-        requires second { HasRead product_reads second.now (machine_of self.old []) }
+        requires read { HaveRead (builder_of what.now) (machine_of self.old [])
+            (operands_of what.now) }
         requires free { (machine_of self.old []).object (string_bytes new) ≡ None }
-        ensures builds { IfOk result (λ r. Multiplies first.now second.now (string_bytes new)
+        ensures builds { IfOk result (λ r. Builds (builder_of what.now)
+            (operands_of what.now) (string_bytes new)
             (record { rounds = map round_seen rounds.items; names = names_seen names }) (seen r)
             (machine_of self.old []) (machine_of self.new [])) }
         ensures err { OnErr result (Stays (machine_of self.old []) (machine_of self.new [])) }
         ensures book { book_of self.new ≡ book_of self.old }
         ensures spent { is_spent self.new ≡ is_spent self.old }
     {
-        let Some(a) = self.objects.get(first) else {
-            unreachable!()
-        };
-        let Some(b) = self.objects.get(second) else {
-            unreachable!()
-        };
-        let built = build_product(alloc, a, b);
+        let built = self.build(alloc, what);
         self.add_made(alloc, new, built, rounds, names)
     }
 
-    // `product NAME NAME NEW`
-    pub(crate) fn do_product(
+    // `WORD NAME NEW`, `WORD NAME NAME NEW`
+    pub(crate) fn do_build(
         &mut self,
         alloc: Global,
-        first: &str,
-        second: &str,
+        what: &Building,
         new: String,
         clients: &mut Vec<Box<dyn Client>>,
     ) -> Result<Reply, AllocError>
-        ensures step { IfOk result (λ r. ProductStep (book_of self.old)
-            (machine_of self.old (map tally clients.old.items)) first.now second.now
-            (string_bytes new) (seen r)
+        ensures step { IfOk result (λ r. BuildStep (book_of self.old)
+            (builder_of what.now) (machine_of self.old (map tally clients.old.items))
+            (operands_of what.now) (string_bytes new) (seen r)
             (machine_of self.new (map tally clients.new.items))) }
-        ensures part { OnErr result (EnsuresInPart (book_of self.old)
-            (product_wanted first.now second.now)
+        ensures part { OnErr result (BuiltInPart (book_of self.old)
+            (builder_of what.now) (operands_of what.now) (string_bytes new)
             (machine_of self.old (map tally clients.old.items))
-            (machine_of self.new (map tally clients.new.items))) }
-        ensures begun { OnErr result (MayHaveBegun (ArePolytopes (machine_of self.old []) first.now second.now)
-            (string_bytes new) (machine_of self.old (map tally clients.old.items))
             (machine_of self.new (map tally clients.new.items))) }
         ensures book { book_of self.new ≡ book_of self.old }
         ensures spent { is_spent self.new ≡ is_spent self.old }
     {
-        let Some(a) = self.objects.get(first) else {
+        if !self.are_named(what) {
             return Ok(Reply::refused(alloc, Refusal::UnknownName));
-        };
-        let Some(b) = self.objects.get(second) else {
-            return Ok(Reply::refused(alloc, Refusal::UnknownName));
-        };
-        let fits = are_polytopes(a, b);
+        }
         if let Some(why) = self.bars(new.as_str()) {
             return Ok(Reply::refused(alloc, why));
         }
-        if !fits {
+        let row = row_of(what.builder());
+        if !self.are_of(row.of, what) {
             return Ok(Reply::refused(alloc, Refusal::NotFit(Condition::OfType)));
         }
         let mut rounds = Vec::new(alloc);
-        let ending = self.ensure_both(alloc, first, second, clients, &mut rounds)?;
+        let ending = self.ensure_operands(alloc, what, clients, &mut rounds)?;
         let names = rule_names(alloc, self.book.rules())?;
         match ending {
-            Ending::Found => self.multiply_read(alloc, first, second, new, rounds, names),
+            Ending::Found => self.build_read(alloc, what, new, rounds, names),
             Ending::NoChain => Ok(Reply::refused_after(
                 alloc,
                 Refusal::NoChain,

@@ -1,6 +1,6 @@
 // The laws of honesty, and examples.
 
-ghost use Rattle.pm_machine.specs.BuildingExamples.{ObjectsAreBuilt, ShapesAreMade, WantedIsEnsured};
+ghost use Rattle.pm_machine.specs.BuildingExamples.{ObjectsAreBuilt, OperandsAreRead, ShapesAreMade, WantedIsEnsured};
 ghost use Rattle.pm_machine.specs.Events.{EventsKeep};
 ghost use Rattle.pm_machine.specs.Examples.{AnswersAreRead, ConditionsAreRead, EventsAreRead, ExclusionsAreRead, FilesAreKept, ObjectsAreRead, ProgramsAreRead, ReasonsAreRead};
 ghost use Rattle.pm_machine.specs.Reasons.{BarredHaveReasons};
@@ -79,4 +79,9 @@ pub fn example_wanted()
 /// What is built of other objects and when, and what is told.
 pub fn example_building()
     ensures { ObjectsAreBuilt }
+{}
+
+/// Which objects a command that builds of others names, of which type they are, and in which order.
+pub fn example_operands()
+    ensures { OperandsAreRead }
 {}

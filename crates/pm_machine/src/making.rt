@@ -1,105 +1,114 @@
 // New objects, of the values that are built.
 
-ghost use Rattle.pm_build.specs.Conditions.{product_reads, product_refusal};
-ghost use Rattle.pm_build.specs.Objects.{product_of};
 ghost use Rattle.pm_command.specs.Commands.{seen_shape};
 ghost use Rattle.pm_files.specs.Views.{file_of};
-ghost use Rattle.pm_machine.specs.Building.{object_of, shape_condition, shape_file};
+ghost use Rattle.pm_machine.specs.Building.{Makes, Unfit, object_of, row_of, shape_condition, shape_file};
 ghost use Rattle.pm_filing.specs.Views.{value_seen};
-ghost use Rattle.pm_machine.specs.Built.{AreFitting, IsFitting, IsRead, building_of, given_values};
+ghost use Rattle.pm_machine.specs.Built.{AreFitting, IsFitting, IsRead, IsUnfit, given_values};
 ghost use Rattle.pm_object.specs.State.{IsRefused};
-ghost use Rattle.std.specs.Prelude.{IfErr, IfOk, None, OnOk, [], map, ◌≡◌};
+ghost use Rattle.std.specs.Prelude.{IfErr, IfOk, None, OnOk, [], map, ◌∷◌, ◌≡◌};
 
 use pm_build::{cross, cube, cyclic, polar, product, pyramid, simplex};
-use pm_command::Shape;
+use pm_command::{Binary, Builder, Shape, Unary};
 use pm_fan::{face_fan, normal_fan};
 use pm_files::FileObject;
 use pm_object::{BuildFail, Object};
+use pm_object_type::ObjectType;
 use pm_types::{PropId, Value};
 use std::alloc::{AllocError, Global};
 
-/// What is built of one polytope.
-#[derive(Clone, Copy, Debug, PartialEq, Eq)]
-pub enum Building {
-    /// Its polar.
-    Polar,
-    /// The pyramid over it.
-    Pyramid,
-    /// Its normal fan.
-    NormalFan,
-    /// Its face fan.
-    FaceFan,
+/// A command that builds an object of others: the type of these, and the properties that are ensured of each, in their order.
+#[derive(Clone, Copy, Debug)]
+pub struct Row {
+    pub of: ObjectType,
+    pub reads: &'static [PropId],
 }
 
-impl Building {
-    /// The properties that are read of the polytope, in the order in which they are ensured.
-    pub fn reads(self, alloc: Global) -> Result<Vec<PropId>, AllocError>
-        ensures { IfOk result (λ v. v.items ≡ (building_of self).reads) }
-    {
-        match self {
-            Building::Polar => Ok(vec![in alloc;
+/// The row of a command.
+pub fn row_of(what: Builder) -> Row
+    ensures of { result.of ≡ (row_of what).of }
+    ensures reads { result.reads.now ≡ (row_of what).reads }
+{
+    match what {
+        Builder::One(Unary::Polar) => Row {
+            of: ObjectType::Polytope,
+            reads: &[
                 PropId::Bounded,
                 PropId::FullDim,
                 PropId::Centered,
                 PropId::Facets,
-            ]?),
-            Building::Pyramid => Ok(vec![in alloc; PropId::Vertices, PropId::LinealitySpace]?),
-            Building::NormalFan => Ok(vec![in alloc;
+            ],
+        },
+        Builder::One(Unary::Pyramid) => Row {
+            of: ObjectType::Polytope,
+            reads: &[PropId::Vertices, PropId::LinealitySpace],
+        },
+        Builder::One(Unary::NormalFan) => Row {
+            of: ObjectType::Polytope,
+            reads: &[
                 PropId::Bounded,
                 PropId::Feasible,
                 PropId::AffineHull,
                 PropId::VerticesInFacets,
                 PropId::Facets,
                 PropId::Vertices,
-            ]?),
-            Building::FaceFan => Ok(vec![in alloc;
+            ],
+        },
+        Builder::One(Unary::FaceFan) => Row {
+            of: ObjectType::Polytope,
+            reads: &[
                 PropId::Bounded,
                 PropId::Centered,
                 PropId::VerticesInFacets,
                 PropId::Vertices,
-            ]?),
-        }
-    }
-
-    /// The values of what is built, of a polytope that holds what is read. `NotFit` names the first condition that fails.
-    pub fn build(self, alloc: Global, object: &Object) -> Result<FileObject, BuildFail>
-        requires { IsRead (building_of self).reads object.now.state }
-        ensures built { IfOk result (λ f. file_of f ≡ (building_of self).file object.now.state) }
-        ensures fits { OnOk result ((building_of self).refusal object.now.state ≡ None) }
-        ensures fitting { IfOk result (λ f. IsFitting (file_of f)) }
-        ensures refused { IfErr result (IsRefused ((building_of self).refusal object.now.state)) }
-    {
-        // Its values have their forms.
-        let _of = object.of();
-        match self {
-            Building::Polar => polar(alloc, object),
-            Building::Pyramid => pyramid(alloc, object),
-            Building::NormalFan => normal_fan(alloc, object),
-            Building::FaceFan => face_fan(alloc, object),
-        }
+            ],
+        },
+        Builder::Two(Binary::Product) => Row {
+            of: ObjectType::Polytope,
+            reads: &[PropId::Facets, PropId::AffineHull],
+        },
     }
 }
 
-/// The properties that are read of each polytope of a product, in the order in which they are ensured.
-pub fn product_reads(alloc: Global) -> Result<Vec<PropId>, AllocError>
-    ensures { IfOk result (λ v. v.items ≡ product_reads) }
-{
-    Ok(vec![in alloc; PropId::Facets, PropId::AffineHull]?)
-}
-
-/// The values of the product of two polytopes that hold what is read. `NotFit` names the first condition that fails.
-pub fn build_product(alloc: Global, a: &Object, b: &Object) -> Result<FileObject, BuildFail>
-    requires first { IsRead product_reads a.now.state }
-    requires second { IsRead product_reads b.now.state }
-    ensures built { IfOk result (λ f. file_of f ≡ product_of a.now.state b.now.state) }
-    ensures fits { OnOk result (product_refusal a.now.state b.now.state ≡ None) }
+/// The values of what is built of one object that holds what is read. `NotFit` names the first condition that fails.
+pub fn build_one(alloc: Global, what: Unary, object: &Object) -> Result<FileObject, BuildFail>
+    requires { IsRead (row_of (Builder.One what)).reads object.now.state }
+    ensures made { IfOk result (λ f. Makes (Builder.One what) (object.now.state ∷ [])
+        (file_of f)) }
     ensures fitting { IfOk result (λ f. IsFitting (file_of f)) }
-    ensures refused { IfErr result (IsRefused (product_refusal a.now.state b.now.state)) }
+    ensures unfit { IfErr result (IsUnfit (Unfit (Builder.One what) (object.now.state ∷ []))) }
+{
+    // Its values have their forms.
+    let _of = object.of();
+    match what {
+        Unary::Polar => polar(alloc, object),
+        Unary::Pyramid => pyramid(alloc, object),
+        Unary::NormalFan => normal_fan(alloc, object),
+        Unary::FaceFan => face_fan(alloc, object),
+    }
+}
+
+/// The values of what is built of two objects that hold what is read. `NotFit` names the first condition that fails.
+pub fn build_two(
+    alloc: Global,
+    what: Binary,
+    a: &Object,
+    b: &Object,
+) -> Result<FileObject, BuildFail>
+    requires first { IsRead (row_of (Builder.Two what)).reads a.now.state }
+    requires second { IsRead (row_of (Builder.Two what)).reads b.now.state }
+    ensures made { IfOk result (λ f. Makes (Builder.Two what)
+        (a.now.state ∷ b.now.state ∷ []) (file_of f)) }
+    ensures fitting { IfOk result (λ f. IsFitting (file_of f)) }
+    ensures unfit { IfErr result (IsUnfit
+        (Unfit (Builder.Two what) (a.now.state ∷ b.now.state ∷ []))) }
 {
     // Their values have their forms.
     let _first = a.of();
     let _second = b.of();
-    product(alloc, a, b)
+    match what {
+        Binary::Product => product(alloc, a, b),
+    }
 }
 
 /// The values of a standard polytope. `NotFit` where its numbers are too large, or too small.

@@ -15,7 +15,6 @@ ghost use Rattle.std.specs.Prelude.{IfOk, IfSome, IsTrue, List, None, OnErr, OnO
 
 use crate::asking::{asked_in, ensure_values, explain_values, give_value, show_held, tell_history};
 use crate::files::{MOST_WRITTEN, why_of_file};
-use crate::making::Building;
 use crate::naming::{has_label, place_named};
 use crate::origins::origin_of;
 use crate::taking::{property_named, take_text};
@@ -633,21 +632,7 @@ impl Session {
             Command::Load { .. } => unreachable!(),
             Command::Save { .. } => unreachable!(),
             Command::Make { new, shape } => self.do_make(alloc, new, shape, clients),
-            Command::Polar { name, new } => {
-                self.do_build(alloc, Building::Polar, &name, new, clients)
-            }
-            Command::Pyramid { name, new } => {
-                self.do_build(alloc, Building::Pyramid, &name, new, clients)
-            }
-            Command::NormalFan { name, new } => {
-                self.do_build(alloc, Building::NormalFan, &name, new, clients)
-            }
-            Command::FaceFan { name, new } => {
-                self.do_build(alloc, Building::FaceFan, &name, new, clients)
-            }
-            Command::Product { first, second, new } => {
-                self.do_product(alloc, &first, &second, new, clients)
-            }
+            Command::Build { what, new } => self.do_build(alloc, &what, new, clients),
         }
     }
 

@@ -11,7 +11,9 @@ use Rattle.pm_machine.specs.Machines.{Machine}
 use Rattle.pm_machine.specs.Steps.{AllKept, Named, NewOf, Step, named_at, part_named}
 use Rattle.pm_object.specs.State.{State, place_from, place_named, read_at, value_of}
 use Rattle.pm_rules.specs.declared.rule.Rule.{Rule}
-use Rattle.pm_command.specs.Commands.{RefSeen, Spoken, blank, new_object, take_value, give_value, look_up, ensure_values, explain_values, tell_history, show_rules, disable_rule, unload_client, copy_object, drop_object, tell_origin, load_object, save_object, make_object, build_polar, build_pyramid, build_normal_fan, build_face_fan, build_product}
+use Rattle.pm_command.specs.declared.building.Builder.{Builder}
+use Rattle.pm_machine.specs.Building.{BuildStep}
+use Rattle.pm_command.specs.Commands.{RefSeen, Spoken, blank, new_object, take_value, give_value, look_up, ensure_values, explain_values, tell_history, show_rules, disable_rule, unload_client, copy_object, drop_object, tell_origin, load_object, save_object, make_object, build_object}
 use Rattle.pm_command.specs.Grammar.{ref_text}
 use Rattle.pm_command.specs.Lines.{Line}
 use Rattle.pm_script.specs.Replies.{ReplySeen, Rounds, done, ensured, explained, lists_rules, loaded, refused, shows, tells, tells_origin, undef}
@@ -95,6 +97,9 @@ none_made : (old new : Machine) (name : List ℕ) (sub : Option (List ℕ)) (wor
 none_made old new name None word text of p v t h = h
 none_made old new name (Some sub) word text of p v t h = h
 
+none_built : (book : List Rule) (builder : Builder) (old new : Machine) (names : List (List ℕ)) (to text : List ℕ) (of : ObjectType) (p : PropId) (v : PropertyValue) (t : Rounds) → BuildStep book builder old names to (shows text of p v t) new → ⊥
+none_built book builder old new names to text of p v t h = elim h [ ]
+
 shown_step : (book : List Rule) (old new : Machine) (command : Spoken) (text : List ℕ) (of : ObjectType) (p : PropId) (v : PropertyValue) (t : Rounds)
     → Step book old command (shows text of p v t) new → AllKept new → IsShown text of p v new
 shown_step book old new blank text of p v t h all = absurd h
@@ -109,11 +114,7 @@ shown_step book old new (tell_origin ref word) text of p v t h all = absurd h
 shown_step book old new (load_object key file) text of p v t h all = absurd h
 shown_step book old new (save_object key file) text of p v t h all = absurd h
 shown_step book old new (make_object to shape) text of p v t h all = absurd h
-shown_step book old new (build_polar key to) text of p v t h all = absurd h
-shown_step book old new (build_pyramid key to) text of p v t h all = absurd h
-shown_step book old new (build_normal_fan key to) text of p v t h all = absurd h
-shown_step book old new (build_face_fan key to) text of p v t h all = absurd h
-shown_step book old new (build_product first second to) text of p v t h all = absurd h
+shown_step book old new (build_object builder names to) text of p v t h all = absurd (none_built book builder old new names to text of p v t h)
 shown_step book old new (ensure_values ref words) text of p v t h all = absurd h
 shown_step book old new (explain_values ref words) text of p v t h all = absurd h
 shown_step book old new (tell_history key) text of p v t h all = absurd h
