@@ -77,7 +77,7 @@ def random_value(random, name):
         rows = [[Fraction(first)] + [Fraction(random.randint(-9, 9), random.randint(1, 9)) for _ in range(2)] for _ in range(random.randint(0, 4))]
         rows = [row for row in rows if any(row)]
         return spelled_matrix(random, rows), fractions_spelled(rows)
-    if name == 'VERTICES_IN_FACETS':
+    if name in ('VERTICES_IN_FACETS', 'PLACING_TRIANGULATION'):
         sets = [random.sample(range(6), random.randint(0, 4)) for _ in range(random.randint(0, 4))]
         count = random.choice([6, 9, max((i + 1 for one in sets for i in one), default=0)])
         return sets_spelled(sets, count), sets_spelled([sorted(one) for one in sets], count)
@@ -197,7 +197,7 @@ def check_words_of_program(runs):
         status, wrote = runs.run(script, words.split(), files)
         lines = wrote.decode().split('\n')
         if demo is None:
-            runs.wants((status, lines[0]), (0, 'rules 1' if has_book else 'rules 60'), f'the words {words}')
+            runs.wants((status, lines[0]), (0, 'rules 1' if has_book else 'rules 63'), f'the words {words}')
         else:
             # with a book of one rule the vertices of the demo are not found
             runs.wants(f'a N_VERTICES {2 ** demo}' in lines, not has_book, f'the words {words}')
