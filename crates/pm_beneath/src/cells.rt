@@ -1,7 +1,7 @@
 // The cells of a front with one row more.
 
 ghost use Rattle.pm_beneath.specs.CellLists.{cells_below, joined_cells, set_places};
-ghost use Rattle.std.specs.Prelude.{All, IfOk, length, map, pos, ◌++◌, ◌<◌, ◌≡◌};
+ghost use Rattle.std.specs.Prelude.{All, IfOk, length, map, pos, ◌++◌, ◌<◌, ◌≡◌, ◌≤◌};
 ghost use lib.Signed.{lt_z};
 
 use pm_bits::{BitRow, BitTable};
@@ -22,6 +22,21 @@ fn members_of(alloc: Global, cell: &[u32], zeros: &BitRow) -> Result<Vec<u32>, A
     Ok(made)
 }
 
+/// How many places of a cell are members of a row of bits.
+fn count_members(cell: &[u32], zeros: &BitRow) -> usize
+    requires { All (λ k. k < length zeros.now) cell.now }
+    ensures count { result ≡ length (set_places zeros.now cell.now) }
+    ensures few { result ≤ length cell.now }
+{
+    let mut count = 0;
+    for k in cell {
+        if zeros.get(*k as usize) {
+            count += 1;
+        }
+    }
+    count
+}
+
 /// The cells that one facet row gives, put behind others: for each cell of which all rays but one are on it, these and the new one.
 fn add_joined(
     alloc: Global,
@@ -35,8 +50,8 @@ fn add_joined(
 {
     let mut made = others;
     for cell in cells {
-        let mut kept = members_of(alloc, cell, zeros)?;
-        if kept.len() + 1 == cell.len() {
+        if count_members(cell, zeros) + 1 == cell.len() {
+            let mut kept = members_of(alloc, cell, zeros)?;
             kept.push(new)?;
             made.push(kept)?;
         }
