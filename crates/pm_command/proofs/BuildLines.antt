@@ -11,7 +11,7 @@ use Rattle.pm_command.specs.Commands.{ShapeSeen, Spoken, build_line, build_objec
 use Rattle.pm_command.specs.Builders.{builder_named, every_builder, word_of}
 use Rattle.pm_command.specs.Lines.{is_silent}
 use Rattle.pm_command.specs.declared.building.Binary.{Binary}
-use Rattle.pm_command.specs.declared.building.Binary.TheVariants.{Product}
+use Rattle.pm_command.specs.declared.building.Binary.TheVariants.{Minkowski, Product, Refine}
 use Rattle.pm_command.specs.declared.building.Builder.{Builder}
 use Rattle.pm_command.specs.declared.building.Builder.TheVariants.{One, Two}
 use Rattle.pm_command.specs.declared.building.Unary.{Unary}
@@ -63,6 +63,8 @@ of_builder (One Pyramid) words = record { sounds = refl; no_rules = refl; line =
 of_builder (One NormalFan) words = record { sounds = refl; no_rules = refl; line = refl }
 of_builder (One FaceFan) words = record { sounds = refl; no_rules = refl; line = refl }
 of_builder (Two Product) words = record { sounds = refl; no_rules = refl; line = refl }
+of_builder (Two Minkowski) words = record { sounds = refl; no_rules = refl; line = refl }
+of_builder (Two Refine) words = record { sounds = refl; no_rules = refl; line = refl }
 
 pub one_spoken : (what : Unary) (name new : List ℕ) → (is_name name && is_name new) ≡ true → built_line (One what) (name ++ 32 ∷ new) ≡ Some (build_object (One what) (name ∷ []) new)
 one_spoken what name new h = let p = and_parts (is_name name) (is_name new) h in names_spoken (λ name new. build_object (One what) (name ∷ []) new) name new p.0 p.1

@@ -19,6 +19,8 @@ commands_are_read = record {
   normal_fan = refl;
   face_fan = refl;
   product = refl;
+  minkowski = refl;
+  refine = refl;
 }
 
 pub no_commands_are_read : NoCommandsAreRead

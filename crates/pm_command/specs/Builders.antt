@@ -1,7 +1,7 @@
 -- The commands that build an object of others, a row each: the word, and of how many objects.
 use Rattle.std.specs.Prelude.{ℕ, List, [], ◌∷◌, find, string_bytes, codes, Option}
 use Rattle.std.specs.Str.{bytes_eq}
-use Rattle.pm_command.specs.declared.building.Binary.TheVariants.{Product}
+use Rattle.pm_command.specs.declared.building.Binary.TheVariants.{Minkowski, Product, Refine}
 use Rattle.pm_command.specs.declared.building.Builder.{Builder}
 use Rattle.pm_command.specs.declared.building.Builder.TheVariants.{One, Two}
 use Rattle.pm_command.specs.declared.building.Building.{Building}
@@ -15,9 +15,11 @@ word_of (One Pyramid) = codes "pyramid"
 word_of (One NormalFan) = codes "normalfan"
 word_of (One FaceFan) = codes "facefan"
 word_of (Two Product) = codes "product"
+word_of (Two Minkowski) = codes "minkowski"
+word_of (Two Refine) = codes "refine"
 
 abbrev pub every_builder : List Builder
-every_builder = One Polar ∷ One Pyramid ∷ One NormalFan ∷ One FaceFan ∷ Two Product ∷ []
+every_builder = One Polar ∷ One Pyramid ∷ One NormalFan ∷ One FaceFan ∷ Two Product ∷ Two Minkowski ∷ Two Refine ∷ []
 
 -- the one of this word
 abbrev pub builder_named : List ℕ → Option Builder

@@ -2,7 +2,7 @@
 use Rattle.std.specs.Prelude.{◌≡◌, true, false, [], ◌∷◌, Some, None, codes}
 use Rattle.pm_command.specs.Commands.{build_object, command_of, cross_shape, cube_shape, cyclic_shape, make_object, simplex_shape}
 use Rattle.pm_command.specs.Words.{are_asked}
-use Rattle.pm_command.specs.declared.building.Binary.TheVariants.{Product}
+use Rattle.pm_command.specs.declared.building.Binary.TheVariants.{Minkowski, Product, Refine}
 use Rattle.pm_command.specs.declared.building.Builder.TheVariants.{One, Two}
 use Rattle.pm_command.specs.declared.building.Unary.TheVariants.{FaceFan, NormalFan, Polar, Pyramid}
 
@@ -19,6 +19,8 @@ pub record CommandsAreRead : Type 0 where
   pub normal_fan : command_of (codes "normalfan t f") ≡ Some (build_object (One NormalFan) (codes "t" ∷ []) (codes "f"))
   pub face_fan : command_of (codes "facefan t f") ≡ Some (build_object (One FaceFan) (codes "t" ∷ []) (codes "f"))
   pub product : command_of (codes "product s t p") ≡ Some (build_object (Two Product) (codes "s" ∷ codes "t" ∷ []) (codes "p"))
+  pub minkowski : command_of (codes "minkowski s t p") ≡ Some (build_object (Two Minkowski) (codes "s" ∷ codes "t" ∷ []) (codes "p"))
+  pub refine : command_of (codes "refine s t f") ≡ Some (build_object (Two Refine) (codes "s" ∷ codes "t" ∷ []) (codes "f"))
 
 pub record NoCommandsAreRead : Type 0 where
   pub zero_cube : command_of (codes "make t cube 0") ≡ None

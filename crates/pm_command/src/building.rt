@@ -29,6 +29,10 @@ pub enum Unary {
 pub enum Binary {
     /// The product of two polytopes.
     Product,
+    /// The Minkowski sum of two polytopes.
+    Minkowski,
+    /// The common refinement of two fans.
+    Refine,
 }
 
 /// What is built, of one object or of two.
@@ -56,6 +60,8 @@ impl Builder {
             "normalfan" => Some(Builder::One(Unary::NormalFan)),
             "facefan" => Some(Builder::One(Unary::FaceFan)),
             "product" => Some(Builder::Two(Binary::Product)),
+            "minkowski" => Some(Builder::Two(Binary::Minkowski)),
+            "refine" => Some(Builder::Two(Binary::Refine)),
             _ => None,
         }
     }

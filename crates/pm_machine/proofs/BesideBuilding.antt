@@ -2,15 +2,14 @@
 use Rattle.pm_command.specs.Commands.{ShapeSeen}
 use Rattle.pm_command.specs.declared.building.Builder.{Builder}
 use Rattle.pm_machine.proofs.BesideObjects.{becomes_beside, beside, gains_beside, stays_beside}
-use Rattle.pm_machine.specs.Building.{BuildStep, DoesNotRead, EndsAt, EnsuresAll, EnsuresInPart, EnsuresOne, EnsuresOneInPart, MakeStep, Reads, Wanted, is_crowded, is_made, is_taken, no_chain, no_room, no_such_name, not_fit, other_type, row_of, wanted_all}
+use Rattle.pm_machine.specs.Building.{BuildStep, DoesNotRead, EndsAt, EnsuresAll, EnsuresInPart, EnsuresOne, EnsuresOneInPart, MakeStep, Reads, Wanted, is_crowded, is_made, is_taken, no_chain, no_room, no_such_name, not_fit, not_made, other_type, row_of, wanted_all}
 use Rattle.pm_machine.specs.Machines.{Machine, Store}
 use Rattle.pm_machine.specs.declared.round.Ending.{Ending}
 use Rattle.pm_machine.specs.declared.round.Ending.TheVariants as ending
 use Rattle.pm_object.specs.State.{RoundSeen, State}
-use Rattle.pm_object.specs.declared.held.Condition.TheVariants as condition
 use Rattle.pm_rules.specs.declared.rule.Rule.{Rule}
-use Rattle.pm_script.specs.Replies.{Remarks, ReplySeen, done, nothing, refused, told}
-use Rattle.pm_script.specs.declared.refusal.Refusal.TheVariants.{NameTaken, ObjectsFull, NoChain, Crowded, NotFit}
+use Rattle.pm_script.specs.Replies.{Remarks, ReplySeen, done, nothing, refused}
+use Rattle.pm_script.specs.declared.refusal.Refusal.TheVariants.{NameTaken, ObjectsFull, NotFit}
 use Rattle.std.proofs.Common.{inl, inr}
 use Rattle.std.specs.Prelude.{List, [], ℕ, ◌∷◌}
 
@@ -67,4 +66,5 @@ module _ (k : Store) (book : List Rule) (b : Builder) (old : Machine) (names : L
   build_beside _ new (no_chain {more = more} d) = no_chain (not_beside ending.NoChain more new d)
   build_beside _ new (is_crowded {more = more} d) = is_crowded (not_beside ending.Crowded more new d)
   build_beside _ new (not_fit rounds os reads apart h is) = not_fit rounds os (reads_beside rounds os new reads) apart h is
+  build_beside _ new (not_made rounds os reads h is) = not_made rounds os (reads_beside rounds os new reads) h is
   build_beside _ new (is_made {mid = mid} rounds os f reads h g is) = is_made {mid = beside k mid} rounds os f (reads_beside rounds os mid reads) h (gains_beside k _ _ mid new g) is

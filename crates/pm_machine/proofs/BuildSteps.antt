@@ -1,7 +1,7 @@
 -- The steps of the commands that build objects, from what their functions do.
 use Rattle.pm_client.specs.Starts.{Clients}
 use Rattle.pm_command.specs.Commands.{ShapeSeen}
-use Rattle.pm_command.specs.declared.building.Binary.TheVariants.{Product}
+use Rattle.pm_command.specs.declared.building.Binary.TheVariants.{Minkowski, Product, Refine}
 use Rattle.pm_command.specs.declared.building.Builder.{Builder}
 use Rattle.pm_command.specs.declared.building.Builder.TheVariants.{One, Two}
 use Rattle.pm_command.specs.declared.building.Unary.TheVariants.{FaceFan, NormalFan, Polar, Pyramid}
@@ -9,8 +9,10 @@ use Rattle.pm_files.specs.Views.{file_of}
 use Rattle.pm_files.specs.declared.file.FileObject.{FileObject}
 use Rattle.pm_machine.proofs.Ensuring.{all_stay}
 use Rattle.pm_machine.proofs.Growth.{all_have_read}
-use Rattle.pm_machine.specs.Building.{BuildStep, EnsuresAll, MakeStep, Makes, ObjectsAre, Unfit, are_named, are_of, first_of, is_made, is_taken, no_room, not_fit, object_of, row_of, same_type, second_of, shape_condition, shape_file, told_rounds, wanted_all}
-use Rattle.pm_machine.specs.Built.{Builds, HasRead, HaveRead, IsBarred, IsBuilt, IsRead, IsUnfit, MakesBuilt, remarks_of}
+use Rattle.pm_machine.specs.Building.{BuildStep, EnsuresAll, MakeStep, Makes, ObjectsAre, Unfit, Unmade, are_named, are_of, is_made, is_taken, no_room, not_fit, not_made, object_of, row_of, same_type, shape_condition, shape_file, told_rounds, wanted_all}
+use Rattle.pm_machine.specs.Built.{Builds, HasRead, HaveRead, IsBarred, IsBuilt, IsRead, IsUnbuilt, MakesBuilt, of_built, remarks_of}
+use Rattle.pm_machine.specs.declared.unbuilt.Unbuilt.{Unbuilt}
+use Rattle.pm_machine.specs.declared.unbuilt.Unbuilt.TheVariants as unbuilt
 use Rattle.pm_machine.specs.Machines.{Gains, IsFree, Machine, Stays, most_objects, no_rounds}
 use Rattle.pm_object.specs.State.{IsRefused, RoundSeen, State, is_polytope}
 use Rattle.pm_object.specs.declared.held.BuildFail.{BuildFail}
@@ -20,10 +22,12 @@ use Rattle.pm_object.specs.declared.held.Condition.TheVariants as condition
 use Rattle.pm_object_type.specs.declared.object_type.ObjectType.{ObjectType}
 use Rattle.pm_object_type.specs.declared.object_type.ObjectType.TheVariants.{Cone, Fan, Polytope}
 use Rattle.pm_props.specs.declared.property.PropId.{PropId}
+use Rattle.pm_refine.specs.ObjectFans.{is_fan}
 use Rattle.pm_rules.specs.declared.rule.Rule.{Rule}
 use Rattle.pm_script.specs.Replies.{NamesSeen, ReplySeen, Rounds, done, nothing, refused}
+use Rattle.pm_script.specs.declared.refusal.NotMadeWhy.{NotMadeWhy}
 use Rattle.pm_script.specs.declared.refusal.Refusal.{Refusal}
-use Rattle.pm_script.specs.declared.refusal.Refusal.TheVariants.{NameTaken, ObjectsFull, NotFit}
+use Rattle.pm_script.specs.declared.refusal.Refusal.TheVariants.{NameTaken, ObjectsFull, NotFit, NotMade}
 use Rattle.std.proofs.Common.{ap, false, inl, inr, refl, subst, sym, true, true≢false, ◌∙◌, ◌≢◌}
 use Rattle.std.proofs.lemmas.Bool.{and_from, and_parts}
 use Rattle.std.proofs.lemmas.Option.{same_Some}
@@ -63,14 +67,16 @@ build_barred book b m names to why new named h s = elim (barred_so m to why h) [
 ]
 
 -- ---- what was built
--- made of a file with these values, or refused for this condition
-abbrev pub MadeSo : List ℕ → Result FileObject BuildFail → Rounds → ReplySeen → Machine → Machine → Type 0
+-- made of a file with these values, or refused for this condition, or for this reason
+abbrev pub MadeSo : List ℕ → Result FileObject Unbuilt → Rounds → ReplySeen → Machine → Machine → Type 0
 MadeSo to built t reply old new = ((f : FileObject) × (built ≡ Ok f) × (reply ≡ done t) × Gains to (object_of (file_of f)) old new)
-    ⊎ ((c : Condition) × (built ≡ Err (fail.NotFit c)) × (reply ≡ refused (NotFit c) (remarks_of t)) × Stays old new)
+    ⊎ (((c : Condition) × (built ≡ Err (unbuilt.NotFit c)) × (reply ≡ refused (NotFit c) (remarks_of t)) × Stays old new)
+    ⊎ ((why : NotMadeWhy) × (built ≡ Err (unbuilt.NotMade why)) × (reply ≡ refused (NotMade why) (remarks_of t)) × Stays old new))
 
-made_so : (to : List ℕ) (built : Result FileObject BuildFail) (t : Rounds) (reply : ReplySeen) (old new : Machine) → MakesBuilt to built t reply old new → MadeSo to built t reply old new
+made_so : (to : List ℕ) (built : Result FileObject Unbuilt) (t : Rounds) (reply : ReplySeen) (old new : Machine) → MakesBuilt to built t reply old new → MadeSo to built t reply old new
 made_so to (Ok f) t (done told) old new (is, g) = inl (f, refl, ap done is, g)
-made_so to (Err (fail.NotFit c)) t (refused (NotFit d) more) old new (same, is, s) = inr (c, refl, ap (λ z. refused (NotFit z) more) same ∙ ap (λ z. refused (NotFit c) z) is, s)
+made_so to (Err (unbuilt.NotFit c)) t (refused (NotFit d) more) old new (same, is, s) = inr (inl (c, refl, ap (λ z. refused (NotFit z) more) same ∙ ap (λ z. refused (NotFit c) z) is, s))
+made_so to (Err (unbuilt.NotMade why)) t (refused (NotMade told) more) old new (same, is, s) = inr (inr (why, refl, ap (λ z. refused (NotMade z) more) same ∙ ap (λ z. refused (NotMade why) z) is, s))
 made_so to built t reply old new h = absurd h
 
 if_ok : {A E : Type 0} (P : A → Type 0) (r : Result A E) (a : A) → r ≡ Ok a → IfOk r P → P a
@@ -88,38 +94,33 @@ none_told f xs names none is = ap (λ z. record { rounds = map f z; names = name
 
 -- `make`
 made_step : (to : List ℕ) (shape : ShapeSeen) (built : Result FileObject BuildFail) (t : Rounds) (reply : ReplySeen) (clients : Clients) (old new : Machine) → IsFree old to → t ≡ no_rounds
-    → IfOk built (λ f. file_of f ≡ shape_file shape) → OnOk built (shape_condition shape ≡ None) → IfErr built (IsRefused (shape_condition shape)) → MadeSo to built t reply old new
+    → IfOk built (λ f. file_of f ≡ shape_file shape) → OnOk built (shape_condition shape ≡ None) → IfErr built (IsRefused (shape_condition shape)) → MakesBuilt to (of_built built) t reply old new
     → MakeStep (with_clients clients old) to shape reply (with_clients clients new)
-made_step to shape built t reply clients old new free none file fits refused' (inl (f, is, said, g)) =
-    subst (λ z. MakeStep (with_clients clients old) to shape z (with_clients clients new)) (sym said) (
-      free,
-      on_ok (shape_condition shape ≡ None) built f is fits,
-      none,
-      gains_with clients to _ old new (subst (λ z. Gains to (object_of z) old new) (if_ok (λ f. file_of f ≡ shape_file shape) built f is file) g),
-    )
-made_step to shape built t reply clients old new free none file fits refused' (inr (c, is, said, s)) =
-    subst (λ z. MakeStep (with_clients clients old) to shape z (with_clients clients new)) (sym (said ∙ ap (λ z. refused (NotFit c) (remarks_of z)) none)) (
-      free,
-      if_err (IsRefused (shape_condition shape)) built (fail.NotFit c) is refused',
-      stays_with clients old new s,
-    )
+made_step to shape (Ok f) t (done told) clients old new free none file fits refused' (is, g) =
+    (free, fits, is ∙ none, gains_with clients to _ old new (subst (λ z. Gains to (object_of z) old new) file g))
+made_step to shape (Err (fail.NotFit c)) t (refused (NotFit d) more) clients old new free none file fits refused' (same, is, s) =
+    subst (λ z. MakeStep (with_clients clients old) to shape z (with_clients clients new)) (sym (ap (λ z. refused (NotFit z) more) same ∙ ap (λ z. refused (NotFit c) z) (is ∙ ap remarks_of none)))
+    (free, refused', stays_with clients old new s)
+made_step to shape built t reply clients old new free none file fits refused' h = absurd h
 
 pub make_step : {F E : Type 0} (view : F → ReplySeen) (r : Result F E) (to : List ℕ) (shape : ShapeSeen) (built : Result FileObject BuildFail) (t : Rounds) (clients : Clients) (old new : Machine) → IsFree old to → t ≡ no_rounds
-    → IfOk built (λ f. file_of f ≡ shape_file shape) → OnOk built (shape_condition shape ≡ None) → IfErr built (IsRefused (shape_condition shape)) → IfOk r (λ x. MakesBuilt to built t (view x) old new)
+    → IfOk built (λ f. file_of f ≡ shape_file shape) → OnOk built (shape_condition shape ≡ None) → IfErr built (IsRefused (shape_condition shape)) → IfOk r (λ x. MakesBuilt to (of_built built) t (view x) old new)
     → IfOk r (λ x. MakeStep (with_clients clients old) to shape (view x) (with_clients clients new))
 make_step view (Ok x) to shape built t clients old new free none file fits refused' h =
-    made_step to shape built t (view x) clients old new free none file fits refused' (made_so to built t (view x) old new h)
+    made_step to shape built t (view x) clients old new free none file fits refused' h
 make_step view (Err e) to shape built t clients old new free none file fits refused' h = tt
 
 -- an object that was made of others
-built_so : (b : Builder) (names : List (List ℕ)) (to : List ℕ) (built : Result FileObject BuildFail) (t : Rounds) (reply : ReplySeen) (old new : Machine) → IsBuilt b old names built → MadeSo to built t reply old new → Builds b names to t reply old new
+built_so : (b : Builder) (names : List (List ℕ)) (to : List ℕ) (built : Result FileObject Unbuilt) (t : Rounds) (reply : ReplySeen) (old new : Machine) → IsBuilt b old names built → MadeSo to built t reply old new → Builds b names to t reply old new
 built_so b names to built t reply old new i (inl (f, is, said, g)) =
     subst (λ z. Builds b names to t z old new) (sym said)
     (i.objects, file_of f, i.are, if_ok (λ f. Makes b i.objects (file_of f)) built f is i.made, refl, g)
-built_so b names to built t reply old new i (inr (c, is, said, s)) =
-    subst (λ z. Builds b names to t z old new) (sym said) (i.objects, i.are, if_err (IsUnfit (Unfit b i.objects)) built (fail.NotFit c) is i.unfit, refl, s)
+built_so b names to built t reply old new i (inr (inl (c, is, said, s))) =
+    subst (λ z. Builds b names to t z old new) (sym said) (i.objects, i.are, if_err (IsUnbuilt (Unfit b i.objects) (Unmade b i.objects)) built (unbuilt.NotFit c) is i.unbuilt, refl, s)
+built_so b names to built t reply old new i (inr (inr (why, is, said, s))) =
+    subst (λ z. Builds b names to t z old new) (sym said) (i.objects, i.are, if_err (IsUnbuilt (Unfit b i.objects) (Unmade b i.objects)) built (unbuilt.NotMade why) is i.unbuilt, refl, s)
 
-pub builds_all : {F E : Type 0} (view : F → ReplySeen) (r : Result F E) (b : Builder) (names : List (List ℕ)) (to : List ℕ) (built : Result FileObject BuildFail) (t : Rounds) (old new : Machine) → IsBuilt b old names built
+pub builds_all : {F E : Type 0} (view : F → ReplySeen) (r : Result F E) (b : Builder) (names : List (List ℕ)) (to : List ℕ) (built : Result FileObject Unbuilt) (t : Rounds) (old new : Machine) → IsBuilt b old names built
     → IfOk r (λ x. MakesBuilt to built t (view x) old new) → IfOk r (λ x. Builds b names to t (view x) old new)
 builds_all view (Ok x) b names to built t old new i h = built_so b names to built t (view x) old new i (made_so to built t (view x) old new h)
 builds_all view (Err e) b names to built t old new i h = tt
@@ -173,32 +174,56 @@ polytope_is o h = by o.of h
     by Cone e = absurd (true≢false (sym e))
     by Fan e = absurd (true≢false (sym e))
 
-first_polytope : (os : List State) → list_all (λ o. same_type Polytope o.of) os ≡ true → is_polytope (first_of os).of ≡ true
-first_polytope [] h = refl
-first_polytope (o ∷ os) h = polytope_is o (and_parts (same_type Polytope o.of) (list_all (λ o. same_type Polytope o.of) os) h).0
-
-second_polytope : (os : List State) → list_all (λ o. same_type Polytope o.of) os ≡ true → is_polytope (second_of os).of ≡ true
-second_polytope [] h = refl
-second_polytope (o ∷ os) h = first_polytope os (and_parts (same_type Polytope o.of) (list_all (λ o. same_type Polytope o.of) os) h).1
+fan_is : (o : State) → same_type Fan o.of ≡ true → is_fan o.of ≡ true
+fan_is o h = by o.of h
+  where
+    by : (type : ObjectType) → same_type Fan type ≡ true → is_fan type ≡ true
+    by Fan e = refl
+    by Cone e = absurd (true≢false (sym e))
+    by Polytope e = absurd (true≢false (sym e))
 
 both_true : (a b : Bool) → a ≡ true → b ≡ true → (a && b) ≡ true
 both_true a b e f = cc
 
+-- one object of the type, and two
+one_of : (type : ObjectType) (o : State) → list_all (λ o. same_type type o.of) (o ∷ []) ≡ true → same_type type o.of ≡ true
+one_of type o h = (and_parts (same_type type o.of) true h).0
+
+two_of : (type : ObjectType) (a b : State) → list_all (λ o. same_type type o.of) (a ∷ b ∷ []) ≡ true → (same_type type a.of ≡ true) × (same_type type b.of ≡ true)
+two_of type a b h = let p = and_parts (same_type type a.of) (same_type type b.of && true) h in (p.0, (and_parts (same_type type b.of) true p.1).0)
+
+one_polytope : (o : State) → list_all (λ o. same_type Polytope o.of) (o ∷ []) ≡ true → is_polytope o.of ≡ true
+one_polytope o h = polytope_is o (one_of Polytope o h)
+
+two_polytopes : (a b : State) → list_all (λ o. same_type Polytope o.of) (a ∷ b ∷ []) ≡ true → (is_polytope a.of && is_polytope b.of) ≡ true
+two_polytopes a b h = let p = two_of Polytope a b h in both_true (is_polytope a.of) (is_polytope b.of) (polytope_is a p.0) (polytope_is b p.1)
+
+two_fans : (a b : State) → list_all (λ o. same_type Fan o.of) (a ∷ b ∷ []) ≡ true → (is_fan a.of && is_fan b.of) ≡ true
+two_fans a b h = let p = two_of Fan a b h in both_true (is_fan a.of) (is_fan b.of) (fan_is a p.0) (fan_is b p.1)
+
 -- a line a row
 pub of_its_type : (what : Builder) → IsOfItsType what
-of_its_type (One Polar) os c is h =
+of_its_type (One Polar) (o ∷ []) c is h =
     unless _ condition.Bounded _ c bounded_apart (unless _ condition.FullDim _ c full_apart (unless _ condition.Centered _ c centered_apart (unless _ condition.Rows _ c rows_apart never)))
-    (past (is_polytope (first_of os).of) condition.OfType _ c (first_polytope os is) h)
-of_its_type (One Pyramid) os c is h = unless _ condition.Columns _ c columns_apart (unless _ condition.Rows _ c rows_apart never) (past (is_polytope (first_of os).of) condition.OfType _ c (first_polytope os is) h)
-of_its_type (One NormalFan) os c is h =
+    (past (is_polytope o.of) condition.OfType _ c (one_polytope o is) h)
+of_its_type (One Pyramid) (o ∷ []) c is h = unless _ condition.Columns _ c columns_apart (unless _ condition.Rows _ c rows_apart never) (past (is_polytope o.of) condition.OfType _ c (one_polytope o is) h)
+of_its_type (One NormalFan) (o ∷ []) c is h =
     unless _ condition.Bounded _ c bounded_apart (unless _ condition.Feasible _ c feasible_apart (unless _ condition.Columns _ c columns_apart (unless _ condition.Rows _ c rows_apart (rows_last _ c))))
-    (past (is_polytope (first_of os).of) condition.OfType _ c (first_polytope os is) h)
-of_its_type (One FaceFan) os c is h =
+    (past (is_polytope o.of) condition.OfType _ c (one_polytope o is) h)
+of_its_type (One FaceFan) (o ∷ []) c is h =
     unless _ condition.Bounded _ c bounded_apart (unless _ condition.Centered _ c centered_apart (unless _ condition.Columns _ c columns_apart (unless _ condition.Rows _ c rows_apart (rows_last _ c))))
-    (past (is_polytope (first_of os).of) condition.OfType _ c (first_polytope os is) h)
-of_its_type (Two Product) os c is h =
+    (past (is_polytope o.of) condition.OfType _ c (one_polytope o is) h)
+of_its_type (Two Product) (a ∷ b ∷ []) c is h =
     unless _ condition.Columns _ c columns_apart (unless _ condition.Rows _ c rows_apart never)
-    (past (is_polytope (first_of os).of && is_polytope (second_of os).of) condition.OfType _ c (both_true (is_polytope (first_of os).of) (is_polytope (second_of os).of) (first_polytope os is) (second_polytope os is)) h)
+    (past (is_polytope a.of && is_polytope b.of) condition.OfType _ c (two_polytopes a b is) h)
+of_its_type (Two Minkowski) (a ∷ b ∷ []) c is h =
+    unless _ condition.Feasible _ c feasible_apart (unless _ condition.Columns _ c columns_apart (unless _ condition.Rows _ c rows_apart never))
+    (past (is_polytope a.of && is_polytope b.of) condition.OfType _ c (two_polytopes a b is) h)
+of_its_type (Two Refine) (a ∷ b ∷ []) c is (inl h) =
+    unless _ condition.Columns _ c columns_apart (unless _ condition.Columns _ c columns_apart never)
+    (past (is_fan a.of && is_fan b.of) condition.OfType _ c (two_fans a b is) h)
+of_its_type (Two Refine) (a ∷ b ∷ []) c is (inr h) = λ e. rows_apart (sym h.1 ∙ e)
+of_its_type what os c is h = absurd h
 
 -- the objects that were read are of the type
 read_types : (type : ObjectType) (ps : List PropId) (m : Machine) (names : List (List ℕ)) (os : List State) → AllByRecursion (λ n. HasRead type ps (m.object n)) names → ObjectsAre m names os → list_all (λ o. same_type type o.of) os ≡ true
@@ -241,6 +266,15 @@ build_step book b names to rounds t (refused (NotFit c) more) clients old mid ne
       objects = same_objects mid new names s ∙ are;
     })
     (of os c (read_types (row_of b).of (row_of b).reads mid names os read are) fails) fails (same ∙ ap remarks_of is)
+build_step book b names to rounds t (refused (NotMade why) more) clients old mid new free types all is of read (os, are, shown, same, s) =
+    not_made rounds os
+    (record {
+      free = free;
+      types = types;
+      ensured = all_stay book (wanted_all (row_of b).reads names) rounds old (with_clients clients mid) (with_clients clients new) all (stays_with clients mid new s);
+      objects = same_objects mid new names s ∙ are;
+    })
+    shown (same ∙ ap remarks_of is)
 build_step book b names to rounds t reply clients old mid new free types all is of read h = absurd h
 
 pub build_answered : {F E : Type 0} (view : F → ReplySeen) (r : Result F E) (book : List Rule) (b : Builder) (names : List (List ℕ)) (to : List ℕ) (rounds : List RoundSeen) (t : Rounds) (clients : Clients) (old mid new : Machine) → IsFree old to → are_of (row_of b).of old names ≡ true
@@ -256,6 +290,8 @@ reads_done (One Pyramid) book names rounds old new all types = all_have_read boo
 reads_done (One NormalFan) book names rounds old new all types = all_have_read book rounds old new (One NormalFan) _ _ names refl all types
 reads_done (One FaceFan) book names rounds old new all types = all_have_read book rounds old new (One FaceFan) _ _ names refl all types
 reads_done (Two Product) book names rounds old new all types = all_have_read book rounds old new (Two Product) _ _ names refl all types
+reads_done (Two Minkowski) book names rounds old new all types = all_have_read book rounds old new (Two Minkowski) _ _ names refl all types
+reads_done (Two Refine) book names rounds old new all types = all_have_read book rounds old new (Two Refine) _ _ names refl all types
 
 -- what was asked of a type was asked of that of the row
 pub of_row : {answer : Bool} (type : ObjectType) (b : Builder) (m : Machine) (names : List (List ℕ)) → type ≡ (row_of b).of → are_of type m names ≡ answer → are_of (row_of b).of m names ≡ answer

@@ -1,17 +1,21 @@
 -- The examples of building, by what the definitions say.
+use Rattle.pm_command.specs.declared.building.Binary.TheVariants.{Refine}
 use Rattle.pm_command.specs.declared.building.Builder.{Builder}
+use Rattle.pm_command.specs.declared.building.Builder.TheVariants.{Two}
 use Rattle.pm_files.specs.Files.{SavedFile}
 use Rattle.pm_machine.proofs.Kept.{some_not_none}
-use Rattle.pm_machine.specs.Building.{BuildStep, DoesNotRead, EndsAt, EnsuresAll, EnsuresInPart, Makes, MayHaveBegun, ObjectsAre, Unfit, Wanted, are_named, are_of, is_crowded, is_made, is_of_type, no_chain, no_such_name, not_fit, object_of, other_type, row_of, same_type, told_rounds}
+use Rattle.pm_machine.specs.Building.{BuildStep, DoesNotRead, EndsAt, EnsuresAll, EnsuresInPart, Makes, MayHaveBegun, ObjectsAre, Unfit, Unmade, Wanted, are_named, are_of, is_crowded, is_made, is_of_type, no_chain, no_such_name, not_fit, not_made, object_of, other_type, rounds_told, row_of, same_type, told_rounds}
 use Rattle.pm_machine.specs.BuildingExamples.{ObjectsAreBuilt, OperandsAreRead, ShapesAreMade, WantedIsEnsured}
 use Rattle.pm_machine.specs.Machines.{IsFree, Machine, Stays}
 use Rattle.pm_machine.specs.declared.round.Ending.TheVariants as ending
 use Rattle.pm_object.specs.declared.held.Condition.TheVariants as condition
 use Rattle.pm_object.specs.State.{RoundSeen, State, empty_object}
 use Rattle.pm_object_type.specs.declared.object_type.ObjectType.TheVariants.{Cone, Fan, Polytope}
+use Rattle.pm_refine.specs.ObjectFans.{refine_refusal}
 use Rattle.pm_rules.specs.declared.rule.Rule.{Rule}
 use Rattle.pm_script.specs.Replies.{Remarks, Rounds, done, nothing, refused, undef}
-use Rattle.pm_script.specs.declared.refusal.Refusal.TheVariants.{Crowded, NoChain, NotFit}
+use Rattle.pm_script.specs.declared.refusal.NotMadeWhy.{NotMadeWhy}
+use Rattle.pm_script.specs.declared.refusal.Refusal.TheVariants.{Crowded, NoChain, NotFit, NotMade}
 use Rattle.std.proofs.Common.{ap, arith, false, inl, inr, refl, sym, true, true≢false, ◌∙◌}
 use Rattle.std.proofs.lemmas.Bool.{and_parts}
 use Rattle.std.specs.Option.{is_some}
@@ -84,6 +88,8 @@ wanted_is_ensured = record {
   for_normal_fan = refl;
   for_face_fan = refl;
   for_product = refl;
+  for_minkowski = refl;
+  for_refine = refl;
   nothing_wanted = λ book old new rounds h. h.1;
   without_rounds = λ book old new rounds h. h.0;
   of_no_object = not_ensured;
@@ -134,6 +140,8 @@ operands_are_read = record {
   of_normal_fan = refl;
   of_face_fan = refl;
   of_product = refl;
+  of_minkowski = refl;
+  of_refine = refl;
 }
 
 -- ---- steps
@@ -153,6 +161,12 @@ module _ (book : List Rule) (b : Builder) (old : Machine) (names : List (List �
   unfit_so : (new : Machine) (more : Remarks) → BuildStep book b old names to (refused (NotFit condition.Centered) more) new → (os : List State) × ObjectsAre new names os × Unfit b os condition.Centered
   unfit_so new more (not_fit rounds os reads apart fails is) = (os, reads.objects, fails)
 
+  unmade_so : (new : Machine) (why : NotMadeWhy) (more : Remarks) → BuildStep book b old names to (refused (NotMade why) more) new → (os : List State) × ObjectsAre new names os × Unmade b os why
+  unmade_so new why more (not_made rounds os reads shown is) = (os, reads.objects, shown)
+
+  unmade_told : (new : Machine) (why : NotMadeWhy) (more : Remarks) → BuildStep book b old names to (refused (NotMade why) more) new → (rounds : List RoundSeen) × (more ≡ rounds_told book rounds)
+  unmade_told new why more (not_made rounds os reads shown is) = (rounds, is)
+
   lacking : (new : Machine) (more : Remarks) → BuildStep book b old names to (refused NoChain more) new → DoesNotRead book b names to ending.NoChain more old new
   lacking new more (no_chain d) = d
 
@@ -170,6 +184,13 @@ one_polytope book b old new name to type is (other_type named free types s) =
     true≢false (sym (ap (λ z. is_of_type (row_of b).of z && true) is ∙ ap (λ z. same_type z Polytope && true) type) ∙ types)
 one_polytope book b old new name to type is (not_fit rounds os reads apart fails told) = apart refl
 
+columns_unfit : (a b : State) → Unfit (Two Refine) (a ∷ b ∷ []) condition.Columns → refine_refusal a b ≡ Some condition.Columns
+columns_unfit a b (inl h) = h
+columns_unfit a b (inr h) = absurd (columns_apart h.1)
+  where
+    columns_apart : condition.Columns ≡ condition.Rows → ⊥
+    columns_apart e = cc
+
 pub objects_are_built : ObjectsAreBuilt
 objects_are_built = record {
   polar = λ o f h. h;
@@ -177,11 +198,23 @@ objects_are_built = record {
   normal_fan = λ o f h. h;
   face_fan = λ o f h. h;
   product = λ a b f h. h;
+  minkowski = λ a b f h. h;
+  refine = λ a b f h. h;
+  not_of_one = λ a f h. h;
+  not_of_two = λ a b f h. h;
   polar_unfit = λ o c h. h;
   pyramid_unfit = λ o c h. h;
   normal_fan_unfit = λ o c h. h;
   face_fan_unfit = λ o c h. h;
   product_unfit = λ a b c h. h;
+  minkowski_unfit = λ a b c h. h;
+  refine_unfit = columns_unfit;
+  large_refinement = λ a b fits large. inr (fits, refl, large);
+  wide_sum = λ a b v w k h. h;
+  sum_without_pair = λ a b i j e h. h;
+  no_intersection = λ a b i j e h. h;
+  refinement_without_rows = λ a b v w k h. h;
+  product_is_made = λ a b why h. h;
   is_built = λ book b old new names to t h. built book b old names to new t h;
   rounds_are_told = λ book b old new names to t h. told_so book b old names to new t h;
   of_nothing = λ book b old new name to t none h. one_is_none b old name (ap (is_of_type (row_of b).of) none) (typed_so book b old (name ∷ []) to new t h);
@@ -193,6 +226,8 @@ objects_are_built = record {
   taken_before_rounds = λ book b old new names to more taken h. taken (lacking book b old names to new more h).free.0;
   type_before_rounds = λ book b old new name to more type is h. one_is_none b old name (cone_is_none b old name type is) (crowding book b old (name ∷ []) to new more h).types;
   is_not_fit = λ book b old new names to more h. unfit_so book b old names to new more h;
+  is_not_made = λ book b old new names to why more h. unmade_so book b old names to new why more h;
+  not_made_tells = λ book b old new names to why more h. unmade_told book b old names to new why more h;
   no_chain_tells = λ book b old new names to more h. let d = lacking book b old names to new more h in (d.rounds, d.told);
   crowded_tells = λ book b old new names to more h. let d = crowding book b old names to new more h in (d.rounds, d.told);
   no_other = λ book b old new names to h. none_else book b old names to new h;

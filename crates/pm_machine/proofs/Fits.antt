@@ -2,29 +2,39 @@
 use Rattle.pm_algebra.proofs.Lists.{Contains_among}
 use Rattle.pm_build.proofs.FormLaws.{shapes_forms}
 use Rattle.pm_build.proofs.OtherForms.{others_forms}
+use Rattle.pm_build.proofs.SumForms.{sums_forms}
+use Rattle.pm_build.specs.Conditions.{sum_refusal}
+use Rattle.pm_build.specs.Laws.{HaveForms}
 use Rattle.pm_build.specs.Objects.{product_cols}
+use Rattle.pm_build.specs.Sums.{IsSumFile, IsSumRefused}
+use Rattle.pm_build.specs.declared.fails.SumFail.{SumFail}
+use Rattle.pm_build.specs.declared.fails.SumFail.TheVariants as sum
 use Rattle.pm_command.specs.Commands.{ShapeSeen, cross_shape, cube_shape, cyclic_shape, simplex_shape}
 use Rattle.pm_fan.proofs.Forms.{fans_forms}
 use Rattle.pm_fan.specs.Fans.{fan_cols}
 use Rattle.pm_files.specs.Files.{SavedFile}
 use Rattle.pm_files.specs.Views.{file_of}
 use Rattle.pm_files.specs.declared.file.FileObject.{FileObject}
-use Rattle.pm_machine.specs.Building.{Makes, row_of, shape_condition, shape_file}
-use Rattle.pm_machine.specs.Built.{IsFitting, IsRead, IsUnfit}
-use Rattle.pm_command.specs.declared.building.Binary.{Binary}
-use Rattle.pm_command.specs.declared.building.Binary.TheVariants.{Product}
+use Rattle.pm_machine.specs.Building.{Makes, Unfit, Unmade, row_of, shape_condition, shape_file}
+use Rattle.pm_machine.specs.Built.{IsFitting, IsRead, IsUnbuilt, IsUnfit, of_built, of_refinement, of_sum}
+use Rattle.pm_command.specs.declared.building.Binary.TheVariants.{Minkowski, Product, Refine}
 use Rattle.pm_command.specs.declared.building.Builder.TheVariants.{One, Two}
 use Rattle.pm_command.specs.declared.building.Unary.{Unary}
 use Rattle.pm_command.specs.declared.building.Unary.TheVariants.{FaceFan, NormalFan, Polar, Pyramid}
 use Rattle.pm_object.proofs.Formed.{dimension_of, value_among}
 use Rattle.pm_object.specs.Formed.{IsFormed}
-use Rattle.pm_object.specs.Known.{IsReadable, cols_at}
+use Rattle.pm_object.specs.Known.{IsKnown, IsReadable, cols_at}
 use Rattle.pm_object.specs.State.{IsRefused, State, ambient_in, cols_of, first_cols, has_rounds, is_held, or_else, value_of}
 use Rattle.pm_object.specs.declared.held.BuildFail.{BuildFail}
 use Rattle.pm_object.specs.declared.held.BuildFail.TheVariants as fail
 use Rattle.pm_object.specs.declared.held.Condition.{Condition}
 use Rattle.pm_props.specs.declared.property.PropId.{PropId}
 use Rattle.pm_props.specs.declared.property.PropId.TheVariants.{ConeAmbientDim}
+use Rattle.pm_refine.specs.ObjectFans.{IsReadableFan, refine_reads, refine_refusal}
+use Rattle.pm_refine.specs.ObjectRefinements.{HaveForms as HaveFanForms, IsRefinementFile, IsRefinementRefused}
+use Rattle.pm_refine.specs.declared.object_fails.RefinementFail.{RefinementFail}
+use Rattle.pm_refine.specs.declared.object_fails.RefinementFail.TheVariants as refinement
+use Rattle.pm_script.specs.declared.refusal.NotMadeWhy.{NotMadeWhy}
 use Rattle.pm_types.specs.Forms.{is_formed}
 use Rattle.pm_types.specs.Values.{PropertyValue}
 use Rattle.std.proofs.Common.{ap, inl, inr, refl, subst, suc, sym, true, true≢false, ◌∙◌}
@@ -42,12 +52,18 @@ knows_cols o formed held = by (value_of ConeAmbientDim o.held) refl held
         let d = dimension_of v (subst (λ q. is_formed q v ≡ true) p (subst (λ z. is_formed h.property z ≡ true) w (formed.each h (Contains_among i)).formed)) in
         ap (λ z. is_some (or_else (ambient_in z) (first_cols o.held))) (e ∙ ap Some d.value)
 
-pub readable : (ps : List PropId) (o : State) → IsFormed o → IsRead ps o → IsReadable ps o
-readable ps o formed read is = record { held = read.held; cols = by read.settled }
+known : (ps : List PropId) (o : State) → IsFormed o → IsRead ps o → IsKnown ps o
+known ps o formed read = record { held = read.held; cols = by read.settled }
   where
     by : (is_held ConeAmbientDim o.held ≡ true) ⊎ (has_rounds o ≡ true) → is_some (cols_of o.held) ≡ true
     by (inl h) = knows_cols o formed h
     by (inr h) = knows_cols o formed (formed.dimension h)
+
+pub readable : (ps : List PropId) (o : State) → IsFormed o → IsRead ps o → IsReadable ps o
+readable ps o formed read is = known ps o formed read
+
+pub readable_fan : (o : State) → IsFormed o → IsRead refine_reads o → IsReadableFan o
+readable_fan o formed read is = known refine_reads o formed read
 
 -- ---- values that fit
 -- a line a row
@@ -57,8 +73,15 @@ one_fits Pyramid o formed read f (fits, is) = subst IsFitting (sym is) (record {
 one_fits NormalFan o formed read f (fits, is) = subst IsFitting (sym is) (record { cols = fan_cols o; forms = fans_forms.normal o formed read fits; table = refl; different = refl })
 one_fits FaceFan o formed read f (fits, is) = subst IsFitting (sym is) (record { cols = fan_cols o; forms = fans_forms.face o formed read fits; table = refl; different = refl })
 
-two_fit : (what : Binary) (a b : State) → IsFormed a → IsFormed b → IsReadable (row_of (Two what)).reads a → IsReadable (row_of (Two what)).reads b → (f : SavedFile) → Makes (Two what) (a ∷ b ∷ []) f → IsFitting f
-two_fit Product a b formed formed' read read' f (fits, is) = subst IsFitting (sym is) (record { cols = product_cols a b; forms = others_forms.product a b formed formed' read read' fits; table = refl; different = refl })
+product_fits : (a b : State) → IsFormed a → IsFormed b → IsReadable (row_of (Two Product)).reads a → IsReadable (row_of (Two Product)).reads b → (f : SavedFile) → Makes (Two Product) (a ∷ b ∷ []) f → IsFitting f
+product_fits a b formed formed' read read' f (fits, is) = subst IsFitting (sym is) (record { cols = product_cols a b; forms = others_forms.product a b formed formed' read read' fits; table = refl; different = refl })
+
+sum_fits : (a b : State) → IsFormed a → IsFormed b → IsReadable (row_of (Two Minkowski)).reads a → IsReadable (row_of (Two Minkowski)).reads b → (f : SavedFile) → Makes (Two Minkowski) (a ∷ b ∷ []) f → IsFitting f
+sum_fits a b formed formed' read read' f (fits, is) =
+    subst IsFitting (sym is.file) (record { cols = cols_at a; forms = subst (HaveForms (cols_at a)) is.file (sums_forms a b f formed formed' read read' fits is); table = refl; different = refl })
+
+refinement_fits : (a b : State) (f : SavedFile) → IsRefinementFile a b f → HaveFanForms (cols_at a) f → IsFitting f
+refinement_fits a b f is forms = subst IsFitting (sym is.file_is) (record { cols = cols_at a; forms = subst (HaveFanForms (cols_at a)) is.file_is forms; table = refl; different = refl })
 
 shape_fits : (shape : ShapeSeen) → shape_condition shape ≡ None → IsFitting (shape_file shape)
 shape_fits (cube_shape d) fits = record { cols = suc d; forms = shapes_forms.cube d fits; table = refl; different = refl }
@@ -74,17 +97,7 @@ pub built_one_fits : (what : Unary) (o : State) (r : Result FileObject BuildFail
 built_one_fits what o (Ok x) formed read made = one_fits what o formed (readable (row_of (One what)).reads o formed read) (file_of x) made
 built_one_fits what o (Err e) formed read made = tt
 
-pub built_two_fit : (what : Binary) (a b : State) (r : Result FileObject BuildFail) → IsFormed a → IsFormed b → IsRead (row_of (Two what)).reads a → IsRead (row_of (Two what)).reads b
-    → IfOk r (λ x. Makes (Two what) (a ∷ b ∷ []) (file_of x)) → IfOk r (λ x. IsFitting (file_of x))
-built_two_fit what a b (Ok x) formed formed' read read' made =
-    two_fit what a b formed formed' (readable (row_of (Two what)).reads a formed read) (readable (row_of (Two what)).reads b formed' read') (file_of x) made
-built_two_fit what a b (Err e) formed formed' read read' made = tt
-
 -- ---- what the builders say, in the terms of a row
--- of two there is but one
-pub only_product : (what : Binary) → what ≡ Product
-only_product Product = refl
-
 pub makes_if : (r : Result FileObject BuildFail) (f : SavedFile) (P : Type 0) → IfOk r (λ x. file_of x ≡ f) → OnOk r P → IfOk r (λ x. P × (file_of x ≡ f))
 makes_if (Ok x) f P is p = (p, is)
 makes_if (Err e) f P is p = tt
@@ -93,6 +106,62 @@ pub unfit_if : (r : Result FileObject BuildFail) (first : Option Condition) → 
 unfit_if (Ok x) first h = tt
 unfit_if (Err (fail.NotFit c)) first h = h
 unfit_if (Err fail.Memory) first h = tt
+
+-- what is built of two
+module _ (a b : State) where
+  pub product_fitting : (r : Result FileObject BuildFail) → IsFormed a → IsFormed b → IsRead (row_of (Two Product)).reads a → IsRead (row_of (Two Product)).reads b
+      → IfOk r (λ x. Makes (Two Product) (a ∷ b ∷ []) (file_of x)) → IfOk (of_built r) (λ x. IsFitting (file_of x))
+  product_fitting (Ok x) formed formed' read read' made = product_fits a b formed formed' (readable _ a formed read) (readable _ b formed' read') (file_of x) made
+  product_fitting (Err (fail.NotFit c)) formed formed' read read' made = tt
+  product_fitting (Err fail.Memory) formed formed' read read' made = tt
+
+  pub sum_made : (r : Result FileObject SumFail) → IfOk r (λ x. IsSumFile a b (file_of x)) → OnOk r (sum_refusal a b ≡ None) → IfOk (of_sum r) (λ x. Makes (Two Minkowski) (a ∷ b ∷ []) (file_of x))
+  sum_made (Ok x) is fits = (fits, is)
+  sum_made (Err (sum.NotFit c)) is fits = tt
+  sum_made (Err (sum.Wide v w k)) is fits = tt
+  sum_made (Err sum.Memory) is fits = tt
+
+  pub sum_fitting : (r : Result FileObject SumFail) → IsFormed a → IsFormed b → IsRead (row_of (Two Minkowski)).reads a → IsRead (row_of (Two Minkowski)).reads b → IfOk r (λ x. IsSumFile a b (file_of x)) → OnOk r (sum_refusal a b ≡ None)
+      → IfOk (of_sum r) (λ x. IsFitting (file_of x))
+  sum_fitting (Ok x) formed formed' read read' is fits = sum_fits a b formed formed' (readable _ a formed read) (readable _ b formed' read') (file_of x) (fits, is)
+  sum_fitting (Err (sum.NotFit c)) formed formed' read read' is fits = tt
+  sum_fitting (Err (sum.Wide v w k)) formed formed' read read' is fits = tt
+  sum_fitting (Err sum.Memory) formed formed' read read' is fits = tt
+
+  pub sum_unbuilt : (r : Result FileObject SumFail) → IfErr r (IsSumRefused a b) → IfErr (of_sum r) (IsUnbuilt (Unfit (Two Minkowski) (a ∷ b ∷ [])) (Unmade (Two Minkowski) (a ∷ b ∷ [])))
+  sum_unbuilt (Ok x) h = tt
+  sum_unbuilt (Err (sum.NotFit c)) h = h
+  sum_unbuilt (Err (sum.Wide v w k)) h = h
+  sum_unbuilt (Err sum.Memory) h = tt
+
+  pub refinement_made : (r : Result FileObject RefinementFail) → IfOk r (λ x. IsRefinementFile a b (file_of x)) → OnOk r (refine_refusal a b ≡ None) → IfOk (of_refinement r) (λ x. Makes (Two Refine) (a ∷ b ∷ []) (file_of x))
+  refinement_made (Ok x) is fits = (fits, is)
+  refinement_made (Err (refinement.NotFit c)) is fits = tt
+  refinement_made (Err (refinement.NotMade i j e)) is fits = tt
+  refinement_made (Err refinement.Memory) is fits = tt
+
+  pub refinement_fitting : (r : Result FileObject RefinementFail) → IfOk r (λ x. IsRefinementFile a b (file_of x)) → IfOk r (λ x. HaveFanForms (cols_at a) (file_of x)) → IfOk (of_refinement r) (λ x. IsFitting (file_of x))
+  refinement_fitting (Ok x) is forms = refinement_fits a b (file_of x) is forms
+  refinement_fitting (Err (refinement.NotFit c)) is forms = tt
+  refinement_fitting (Err (refinement.NotMade i j e)) is forms = tt
+  refinement_fitting (Err refinement.Memory) is forms = tt
+
+  pub refinement_unbuilt : (r : Result FileObject RefinementFail) → IfErr r (IsRefinementRefused a b) → IfErr (of_refinement r) (IsUnbuilt (Unfit (Two Refine) (a ∷ b ∷ [])) (Unmade (Two Refine) (a ∷ b ∷ [])))
+  refinement_unbuilt (Ok x) h = tt
+  refinement_unbuilt (Err (refinement.NotFit c)) h = h
+  refinement_unbuilt (Err (refinement.NotMade i j e)) h = h
+  refinement_unbuilt (Err refinement.Memory) h = tt
+
+-- what was built by conditions alone
+pub still_made : (r : Result FileObject BuildFail) (P : FileObject → Type 0) → IfOk r P → IfOk (of_built r) P
+still_made (Ok x) P h = h
+still_made (Err (fail.NotFit c)) P h = tt
+still_made (Err fail.Memory) P h = tt
+
+pub still_unbuilt : (r : Result FileObject BuildFail) (P : Condition → Type 0) (Q : NotMadeWhy → Type 0) → IfErr r (IsUnfit P) → IfErr (of_built r) (IsUnbuilt P Q)
+still_unbuilt (Ok x) P Q h = tt
+still_unbuilt (Err (fail.NotFit c)) P Q h = h
+still_unbuilt (Err fail.Memory) P Q h = tt
 
 pub built_shape_fits : (shape : ShapeSeen) (r : Result FileObject BuildFail) → IfOk r (λ x. file_of x ≡ shape_file shape) → OnOk r (shape_condition shape ≡ None) → IfOk r (λ x. IsFitting (file_of x))
 built_shape_fits shape r = fits_if_ok r (shape_file shape) (shape_condition shape ≡ None) (shape_fits shape)

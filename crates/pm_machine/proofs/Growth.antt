@@ -22,7 +22,7 @@ use Rattle.pm_props.specs.declared.property.PropId.TheVariants.{AffineHull, Cone
 use Rattle.pm_props.specs.declared.set.PropSet.{PropSet}
 use Rattle.pm_rules.specs.declared.rule.Rule.{Rule}
 use Rattle.pm_types.specs.Values.{PropertyValue}
-use Rattle.std.proofs.Common.{ap, arith, bytes_eq, eqb, false, inl, inr, refl, subst, suc, sym, true, true≢false, ◌∙◌, ◌≢◌}
+use Rattle.std.proofs.Common.{ap, arith, bytes_eq, eqb, false, inl, inr, refl, subst, suc, sym, true, true≢false, ◌∙◌}
 use Rattle.std.proofs.lemmas.Bool.{and_parts}
 use Rattle.std.proofs.lemmas.List.{append-nil, append_assoc}
 use Rattle.std.specs.List.{AllByRecursion}

@@ -5,7 +5,7 @@ use Rattle.pm_command.specs.Commands.{ShapeSeen}
 use Rattle.pm_command.specs.declared.building.Builder.{Builder}
 use Rattle.pm_files.specs.Files.{SavedFile}
 use Rattle.pm_machine.proofs.KeptObjects.{becomes_kept, becomes_part_honest, ensured_kept, stays_honest, stays_kept, with_one}
-use Rattle.pm_machine.specs.Building.{BuildStep, EndsAt, EnsuresAll, EnsuresInPart, EnsuresOne, EnsuresOneInPart, MakeStep, Wanted, is_crowded, is_made, is_taken, no_chain, no_room, no_such_name, not_fit, object_of, other_type, row_of, shape_file, wanted_all}
+use Rattle.pm_machine.specs.Building.{BuildStep, EndsAt, EnsuresAll, EnsuresInPart, EnsuresOne, EnsuresOneInPart, MakeStep, Wanted, is_crowded, is_made, is_taken, no_chain, no_room, no_such_name, not_fit, not_made, object_of, other_type, row_of, shape_file, wanted_all}
 use Rattle.pm_machine.specs.Events.{configuration}
 use Rattle.pm_machine.specs.Machines.{Machine}
 use Rattle.pm_machine.specs.Parts.{AllHonest}
@@ -15,13 +15,12 @@ use Rattle.pm_machine.specs.declared.round.Ending.TheVariants as ending
 use Rattle.pm_object.proofs.Honesty.{based_is_kept, empty_is_kept}
 use Rattle.pm_object.specs.Honest.{IsKept, is_based}
 use Rattle.pm_object.specs.State.{HeldValue, RoundSeen, empty_object, file_value}
-use Rattle.pm_object.specs.declared.held.Condition.TheVariants as condition
 use Rattle.pm_object.specs.declared.held.Origin.TheVariants as origin
 use Rattle.pm_props.specs.Sets.{only}
 use Rattle.pm_props.specs.declared.property.PropId.{PropId}
 use Rattle.pm_rules.specs.declared.rule.Rule.{Rule}
 use Rattle.pm_script.specs.Replies.{ReplySeen, done, nothing, refused}
-use Rattle.pm_script.specs.declared.refusal.Refusal.TheVariants.{NameTaken, ObjectsFull, NoChain, Crowded, NotFit}
+use Rattle.pm_script.specs.declared.refusal.Refusal.TheVariants.{NameTaken, ObjectsFull, NotFit}
 use Rattle.pm_types.specs.Values.{PropertyValue}
 use Rattle.std.proofs.Common.{ap, inl, inr, refl, subst, true}
 use Rattle.std.specs.List.{Contains}
@@ -67,6 +66,7 @@ build_keeps book b old new names to _ (other_type h k l s) all = stays_kept old 
 build_keeps book b old new names to _ (no_chain d) all = ends_keep book (wanted_all (row_of b).reads names) ending.NoChain d.rounds old new d.ends all
 build_keeps book b old new names to _ (is_crowded d) all = ends_keep book (wanted_all (row_of b).reads names) ending.Crowded d.rounds old new d.ends all
 build_keeps book b old new names to _ (not_fit rounds os reads apart h is) all = all_keep book (wanted_all (row_of b).reads names) rounds old new reads.ensured all
+build_keeps book b old new names to _ (not_made rounds os reads h is) all = all_keep book (wanted_all (row_of b).reads names) rounds old new reads.ensured all
 build_keeps book b old new names to _ (is_made {mid = mid} rounds os f reads h g is) all =
     with_one to (object_of f) mid new g.object g.others (made_is_kept f) (all_keep book (wanted_all (row_of b).reads names) rounds old mid reads.ensured all)
 

@@ -30,7 +30,7 @@ use Rattle.pm_command.specs.Commands.{RefSeen, Spoken, blank, new_object, take_v
 use Rattle.pm_script.specs.Replies.{NamesSeen, Remarks, ReplySeen, Rounds, done, ensured, explained, lists_rules, nothing, planned, refused, remarks, shows, tells, tells_origin, told, undef, loaded}
 use Rattle.pm_script.specs.declared.names.Bar.{Bar}
 use Rattle.pm_script.specs.declared.refusal.Refusal.{Refusal}
-use Rattle.pm_script.specs.declared.refusal.Refusal.TheVariants.{BadCommand, UnknownName, NameTaken, UnknownType, UnknownProperty, BadValue, AlreadyHeld, Sealed, ObjectsFull, NoChain, Crowded, LineTooLong, UnknownRule, StoreFault, BadFile, NoSuchFile, NotFit}
+use Rattle.pm_script.specs.declared.refusal.Refusal.TheVariants.{BadCommand, UnknownName, NameTaken, UnknownType, UnknownProperty, BadValue, AlreadyHeld, Sealed, ObjectsFull, NoChain, Crowded, LineTooLong, UnknownRule, StoreFault, BadFile, NoSuchFile, NotFit, NotMade}
 use Rattle.pm_props.proofs.Members.{has-only}
 use Rattle.pm_props.specs.Properties.{number}
 use Rattle.pm_props.specs.Sets.{has, only}
@@ -209,16 +209,19 @@ not_taken o sub p StoreFault no_json e h = h
 not_taken o sub p (BadFile y) no_json e h = h
 not_taken o sub p NoSuchFile no_json e h = h
 not_taken o sub p (NotFit y) no_json e h = h
+not_taken o sub p (NotMade y) no_json e h = h
 not_taken o sub p LineTooLong no_json e h = h
 not_taken o sub p StoreFault (faulty f) e h = h
 not_taken o sub p (BadFile y) (faulty f) e h = h
 not_taken o sub p NoSuchFile (faulty f) e h = h
 not_taken o sub p (NotFit y) (faulty f) e h = h
+not_taken o sub p (NotMade y) (faulty f) e h = h
 not_taken o sub p LineTooLong (faulty f) e h = h
 not_taken o sub p StoreFault (value v) e h = h
 not_taken o sub p (BadFile y) (value v) e h = h
 not_taken o sub p NoSuchFile (value v) e h = h
 not_taken o sub p (NotFit y) (value v) e h = h
+not_taken o sub p (NotMade y) (value v) e h = h
 not_taken o sub p LineTooLong (value v) e h = h
 not_taken o sub p UnknownRule no_json e h = h
 not_taken o sub p UnknownRule (faulty f) e h = h
@@ -285,6 +288,7 @@ module _ {ns ms : List (List ℕ)} {old new : List ℕ → Option State} {name :
         by (BadFile y) h = absurd (not_taken o sub p (BadFile y) (given_by p json) refl h)
         by NoSuchFile h = absurd (not_taken o sub p NoSuchFile (given_by p json) refl h)
         by (NotFit y) h = absurd (not_taken o sub p (NotFit y) (given_by p json) refl h)
+        by (NotMade y) h = absurd (not_taken o sub p (NotMade y) (given_by p json) refl h)
         by LineTooLong h = absurd (not_taken o sub p LineTooLong (given_by p json) refl h)
         by UnknownRule h = absurd (not_taken o sub p UnknownRule (given_by p json) refl h)
 
@@ -331,6 +335,7 @@ module _ {ns ms : List (List ℕ)} {old new : List ℕ → Option State} {name :
         by (refused (BadFile y) more) e = absurd e
         by (refused NoSuchFile more) e = absurd e
         by (refused (NotFit y) more) e = absurd e
+        by (refused (NotMade y) more) e = absurd e
         by (refused LineTooLong more) e = absurd e
         by (refused UnknownRule more) e = absurd e
 
@@ -387,6 +392,7 @@ module _ {ns ms : List (List ℕ)} {old new : List ℕ → Option State} {name :
         by (refused (BadFile y) more) e = absurd e
         by (refused NoSuchFile more) e = absurd e
         by (refused (NotFit y) more) e = absurd e
+        by (refused (NotMade y) more) e = absurd e
         by (refused LineTooLong more) e = absurd e
         by (refused UnknownRule more) e = absurd e
 
@@ -435,6 +441,7 @@ module _ {ns ms : List (List ℕ)} {old new : List ℕ → Option State} {name :
         by (refused (BadFile y) more) e = absurd e
         by (refused NoSuchFile more) e = absurd e
         by (refused (NotFit y) more) e = absurd e
+        by (refused (NotMade y) more) e = absurd e
         by (refused LineTooLong more) e = absurd e
         by (refused UnknownRule more) e = absurd e
 

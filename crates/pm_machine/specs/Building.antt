@@ -2,10 +2,10 @@
 use Rattle.std.specs.Prelude.{ℕ, ◌≡◌, ◌≢◌, ◌⊎◌, ◌≤◌, ◌++◌, Bool, false, true, List, [], ◌∷◌, length, map, Option, Some, None}
 use Rattle.std.specs.List.{list_all}
 use Rattle.std.specs.Option.{is_some}
-use Rattle.pm_build.specs.Conditions.{cyclic_refusal, polar_reads, polar_refusal, product_reads, product_refusal, pyramid_reads, pyramid_refusal, shape_refusal}
+use Rattle.pm_build.specs.Conditions.{cyclic_refusal, polar_reads, polar_refusal, product_reads, product_refusal, pyramid_reads, pyramid_refusal, shape_refusal, sum_reads, sum_refusal}
 use Rattle.pm_build.specs.Objects.{cross_of, cube_of, cyclic_of, polar_of, product_of, pyramid_of, simplex_of}
 use Rattle.pm_command.specs.Commands.{ShapeSeen, cube_shape, simplex_shape, cross_shape, cyclic_shape}
-use Rattle.pm_command.specs.declared.building.Binary.TheVariants.{Product}
+use Rattle.pm_command.specs.declared.building.Binary.TheVariants.{Minkowski, Product, Refine}
 use Rattle.pm_command.specs.declared.building.Builder.{Builder}
 use Rattle.pm_command.specs.declared.building.Builder.TheVariants.{One, Two}
 use Rattle.pm_command.specs.declared.building.Unary.TheVariants.{FaceFan, NormalFan, Polar, Pyramid}
@@ -26,7 +26,14 @@ use Rattle.pm_props.specs.Sets.{only}
 use Rattle.pm_props.specs.declared.property.PropId.{PropId}
 use Rattle.pm_rules.specs.declared.rule.Rule.{Rule}
 use Rattle.pm_script.specs.Replies.{NamesSeen, Remarks, ReplySeen, Rounds, done, nothing, refused, remarks}
-use Rattle.pm_script.specs.declared.refusal.Refusal.TheVariants.{UnknownName, NameTaken, ObjectsFull, NoChain, Crowded, NotFit}
+use Rattle.pm_script.specs.declared.refusal.Refusal.TheVariants.{UnknownName, NameTaken, ObjectsFull, NoChain, Crowded, NotFit, NotMade}
+use Rattle.pm_script.specs.declared.refusal.NotMadeWhy.{NotMadeWhy}
+use Rattle.pm_script.specs.declared.refusal.NotMadeWhy.TheVariants.{Combination, Pair}
+use Rattle.pm_build.specs.Sums.{IsSumFile, IsSumRefused}
+use Rattle.pm_build.specs.declared.fails.SumFail.TheVariants as sum
+use Rattle.pm_refine.specs.ObjectFans.{refine_reads, refine_refusal}
+use Rattle.pm_refine.specs.ObjectRefinements.{IsRefinementFile, IsRefinementRefused}
+use Rattle.pm_refine.specs.declared.object_fails.RefinementFail.TheVariants as refinement
 
 -- ---- new objects
 -- the object of these values alone, all of them given
@@ -110,30 +117,36 @@ row_of (One Pyramid) = record { of = Polytope; reads = pyramid_reads }
 row_of (One NormalFan) = record { of = Polytope; reads = normal_reads }
 row_of (One FaceFan) = record { of = Polytope; reads = face_reads }
 row_of (Two Product) = record { of = Polytope; reads = product_reads }
-
-abbrev pub first_of : List State → State
-first_of [] = empty_object Polytope
-first_of (o ∷ os) = o
-
-abbrev pub second_of : List State → State
-second_of [] = empty_object Polytope
-second_of (o ∷ os) = first_of os
+row_of (Two Minkowski) = record { of = Polytope; reads = sum_reads }
+row_of (Two Refine) = record { of = Fan; reads = refine_reads }
 
 -- of these objects nothing is made, for this condition: the first that fails
 abbrev pub Unfit : Builder → List State → Condition → Type 0
-Unfit (One Polar) os c = polar_refusal (first_of os) ≡ Some c
-Unfit (One Pyramid) os c = pyramid_refusal (first_of os) ≡ Some c
-Unfit (One NormalFan) os c = normal_refusal (first_of os) ≡ Some c
-Unfit (One FaceFan) os c = face_refusal (first_of os) ≡ Some c
-Unfit (Two Product) os c = product_refusal (first_of os) (second_of os) ≡ Some c
+Unfit (One Polar) (o ∷ []) c = polar_refusal o ≡ Some c
+Unfit (One Pyramid) (o ∷ []) c = pyramid_refusal o ≡ Some c
+Unfit (One NormalFan) (o ∷ []) c = normal_refusal o ≡ Some c
+Unfit (One FaceFan) (o ∷ []) c = face_refusal o ≡ Some c
+Unfit (Two Product) (a ∷ b ∷ []) c = product_refusal a b ≡ Some c
+Unfit (Two Minkowski) (a ∷ b ∷ []) c = IsSumRefused a b (sum.NotFit c)
+Unfit (Two Refine) (a ∷ b ∷ []) c = IsRefinementRefused a b (refinement.NotFit c)
+Unfit builder os c = ⊥
+
+-- of these objects nothing is made, for this reason, and with what shows it
+abbrev pub Unmade : Builder → List State → NotMadeWhy → Type 0
+Unmade (Two Minkowski) (a ∷ b ∷ []) (Combination v w k) = IsSumRefused a b (sum.Wide v w k)
+Unmade (Two Refine) (a ∷ b ∷ []) (Pair i j evidence) = IsRefinementRefused a b (refinement.NotMade i j evidence)
+Unmade builder os why = ⊥
 
 -- of these objects one with these values is made: no condition fails
 abbrev pub Makes : Builder → List State → SavedFile → Type 0
-Makes (One Polar) os f = (polar_refusal (first_of os) ≡ None) × (f ≡ polar_of (first_of os))
-Makes (One Pyramid) os f = (pyramid_refusal (first_of os) ≡ None) × (f ≡ pyramid_of (first_of os))
-Makes (One NormalFan) os f = (normal_refusal (first_of os) ≡ None) × (f ≡ normal_fan_of (first_of os))
-Makes (One FaceFan) os f = (face_refusal (first_of os) ≡ None) × (f ≡ face_fan_of (first_of os))
-Makes (Two Product) os f = (product_refusal (first_of os) (second_of os) ≡ None) × (f ≡ product_of (first_of os) (second_of os))
+Makes (One Polar) (o ∷ []) f = (polar_refusal o ≡ None) × (f ≡ polar_of o)
+Makes (One Pyramid) (o ∷ []) f = (pyramid_refusal o ≡ None) × (f ≡ pyramid_of o)
+Makes (One NormalFan) (o ∷ []) f = (normal_refusal o ≡ None) × (f ≡ normal_fan_of o)
+Makes (One FaceFan) (o ∷ []) f = (face_refusal o ≡ None) × (f ≡ face_fan_of o)
+Makes (Two Product) (a ∷ b ∷ []) f = (product_refusal a b ≡ None) × (f ≡ product_of a b)
+Makes (Two Minkowski) (a ∷ b ∷ []) f = (sum_refusal a b ≡ None) × IsSumFile a b f
+Makes (Two Refine) (a ∷ b ∷ []) f = (refine_refusal a b ≡ None) × IsRefinementFile a b f
+Makes builder os f = ⊥
 
 -- ---- the objects of a command
 -- each name is that of an object
@@ -189,6 +202,8 @@ pub data BuildStep (book : List Rule) (b : Builder) (old : Machine) (names : Lis
   is_crowded : {new : Machine} {more : Remarks} → DoesNotRead book b names to ending.Crowded more old new → BuildStep book b old names to (refused Crowded more) new
   not_fit : {new : Machine} {more : Remarks} {c : Condition} (rounds : List RoundSeen) (os : List State) → Reads book b names to rounds os old new → c ≢ condition.OfType → Unfit b os c
       → more ≡ rounds_told book rounds → BuildStep book b old names to (refused (NotFit c) more) new
+  not_made : {new : Machine} {more : Remarks} {why : NotMadeWhy} (rounds : List RoundSeen) (os : List State) → Reads book b names to rounds os old new → Unmade b os why
+      → more ≡ rounds_told book rounds → BuildStep book b old names to (refused (NotMade why) more) new
   is_made : {new mid : Machine} {t : Rounds} (rounds : List RoundSeen) (os : List State) (f : SavedFile) → Reads book b names to rounds os old mid → Makes b os f → Gains to (object_of f) mid new
       → t ≡ told_rounds book rounds → BuildStep book b old names to (done t) new
 

@@ -1,16 +1,23 @@
 -- The commands that build objects read on small machines: what they make and when, what they tell, and what they do not.
 use Rattle.std.specs.Prelude.{ℕ, ◌≡◌, ◌≢◌, false, true, None, Some, List, [], ◌∷◌, codes, length}
-use Rattle.pm_build.specs.Conditions.{polar_refusal, product_refusal, pyramid_refusal}
+use Rattle.pm_build.specs.Conditions.{polar_refusal, product_refusal, pyramid_refusal, sum_refusal}
+use Rattle.pm_algebra.specs.Rows.{Row}
+use Rattle.pm_build.specs.Sums.{IsFirstWideSum, IsSumFile}
+use Rattle.pm_geom.specs.declared.evidence.Evidence.{Evidence}
+use Rattle.pm_refine.specs.ObjectFans.{refine_refusal}
+use Rattle.pm_refine.specs.ObjectRefinements.{IsLarge, IsRefinementFile, IsShownByObjects}
+use Rattle.pm_script.specs.declared.refusal.NotMadeWhy.{NotMadeWhy}
+use Rattle.pm_script.specs.declared.refusal.NotMadeWhy.TheVariants.{Combination, Pair}
 use Rattle.pm_build.specs.Objects.{cross_of, cube_of, cyclic_of, polar_of, product_of, pyramid_of, simplex_of}
 use Rattle.pm_command.specs.Commands.{ShapeSeen, cross_shape, cube_shape, cyclic_shape, simplex_shape}
-use Rattle.pm_command.specs.declared.building.Binary.TheVariants.{Product}
+use Rattle.pm_command.specs.declared.building.Binary.TheVariants.{Minkowski, Product, Refine}
 use Rattle.pm_command.specs.declared.building.Builder.{Builder}
 use Rattle.pm_command.specs.declared.building.Builder.TheVariants.{One, Two}
 use Rattle.pm_command.specs.declared.building.Unary.TheVariants.{FaceFan, NormalFan, Polar, Pyramid}
 use Rattle.pm_files.specs.Files.{SavedFile}
 use Rattle.pm_fan.specs.Conditions.{face_refusal, normal_refusal}
 use Rattle.pm_fan.specs.Fans.{face_fan_of, fan_with, normal_fan_of}
-use Rattle.pm_machine.specs.Building.{BuildStep, EndsAt, EnsuresAll, EnsuresInPart, MakeStep, Makes, MayHaveBegun, ObjectsAre, Unfit, Wanted, are_named, are_of, is_of_type, object_of, rounds_told, row_of, same_type, shape_condition, shape_file, told_rounds, wanted_all, wanted_of}
+use Rattle.pm_machine.specs.Building.{BuildStep, EndsAt, EnsuresAll, EnsuresInPart, MakeStep, Makes, MayHaveBegun, ObjectsAre, Unfit, Unmade, Wanted, are_named, are_of, is_of_type, object_of, rounds_told, row_of, same_type, shape_condition, shape_file, told_rounds, wanted_all, wanted_of}
 use Rattle.pm_machine.specs.Machines.{IsFree, Machine, Stays}
 use Rattle.pm_machine.specs.declared.round.Ending.{Ending}
 use Rattle.pm_machine.specs.declared.round.Ending.TheVariants as ending
@@ -20,10 +27,10 @@ use Rattle.pm_object.specs.declared.held.Condition.TheVariants as condition
 use Rattle.pm_object.specs.declared.held.Origin.TheVariants.{Given}
 use Rattle.pm_object_type.specs.declared.object_type.ObjectType.TheVariants.{Cone, Fan, Polytope}
 use Rattle.pm_props.specs.declared.property.PropId.{PropId}
-use Rattle.pm_props.specs.declared.property.PropId.TheVariants.{AffineHull, Bounded, Centered, ConeAmbientDim, Facets, Feasible, FullDim, LinealitySpace, Vertices, VerticesInFacets}
+use Rattle.pm_props.specs.declared.property.PropId.TheVariants.{AffineHull, Bounded, Centered, ConeAmbientDim, Facets, Feasible, FullDim, LinealitySpace, MaximalCones, Vertices, VerticesInFacets}
 use Rattle.pm_rules.specs.declared.rule.Rule.{Rule}
 use Rattle.pm_script.specs.Replies.{Remarks, Rounds, done, nothing, refused, undef}
-use Rattle.pm_script.specs.declared.refusal.Refusal.TheVariants.{Crowded, NameTaken, NoChain, NotFit, ObjectsFull, UnknownName}
+use Rattle.pm_script.specs.declared.refusal.Refusal.TheVariants.{Crowded, NameTaken, NoChain, NotFit, NotMade, ObjectsFull, UnknownName}
 use Rattle.pm_types.specs.Values.{whole}
 use lib.IntN.{pos}
 
@@ -72,6 +79,8 @@ pub record WantedIsEnsured : Type 0 where
   pub for_normal_fan : (row_of (One NormalFan)).reads ≡ Bounded ∷ Feasible ∷ AffineHull ∷ VerticesInFacets ∷ Facets ∷ Vertices ∷ []
   pub for_face_fan : (row_of (One FaceFan)).reads ≡ Bounded ∷ Centered ∷ VerticesInFacets ∷ Vertices ∷ []
   pub for_product : (row_of (Two Product)).reads ≡ Facets ∷ AffineHull ∷ []
+  pub for_minkowski : (row_of (Two Minkowski)).reads ≡ Feasible ∷ Vertices ∷ LinealitySpace ∷ []
+  pub for_refine : (row_of (Two Refine)).reads ≡ Vertices ∷ LinealitySpace ∷ MaximalCones ∷ []
   -- nothing to ensure changes nothing, by no rounds
   pub nothing_wanted : (book : List Rule) (old new : Machine) (rounds : List RoundSeen) → EnsuresAll book [] rounds old new → Stays old new
   pub without_rounds : (book : List Rule) (old new : Machine) (rounds : List RoundSeen) → EnsuresAll book [] rounds old new → rounds ≡ []
@@ -112,6 +121,8 @@ pub record OperandsAreRead : Type 0 where
   pub of_normal_fan : (row_of (One NormalFan)).of ≡ Polytope
   pub of_face_fan : (row_of (One FaceFan)).of ≡ Polytope
   pub of_product : (row_of (Two Product)).of ≡ Polytope
+  pub of_minkowski : (row_of (Two Minkowski)).of ≡ Polytope
+  pub of_refine : (row_of (Two Refine)).of ≡ Fan
 
 -- objects that are built of one, and of two
 pub record ObjectsAreBuilt : Type 0 where
@@ -121,12 +132,26 @@ pub record ObjectsAreBuilt : Type 0 where
   pub normal_fan : (o : State) (f : SavedFile) → Makes (One NormalFan) (o ∷ []) f → (normal_refusal o ≡ None) × (f ≡ normal_fan_of o)
   pub face_fan : (o : State) (f : SavedFile) → Makes (One FaceFan) (o ∷ []) f → (face_refusal o ≡ None) × (f ≡ face_fan_of o)
   pub product : (a b : State) (f : SavedFile) → Makes (Two Product) (a ∷ b ∷ []) f → (product_refusal a b ≡ None) × (f ≡ product_of a b)
+  pub minkowski : (a b : State) (f : SavedFile) → Makes (Two Minkowski) (a ∷ b ∷ []) f → (sum_refusal a b ≡ None) × IsSumFile a b f
+  pub refine : (a b : State) (f : SavedFile) → Makes (Two Refine) (a ∷ b ∷ []) f → (refine_refusal a b ≡ None) × IsRefinementFile a b f
+  -- of as many objects as it names
+  pub not_of_one : (a : State) (f : SavedFile) → Makes (Two Product) (a ∷ []) f → ⊥
+  pub not_of_two : (a b : State) (f : SavedFile) → Makes (One Polar) (a ∷ b ∷ []) f → ⊥
   -- and the first of its conditions
   pub polar_unfit : (o : State) (c : Condition) → Unfit (One Polar) (o ∷ []) c → polar_refusal o ≡ Some c
   pub pyramid_unfit : (o : State) (c : Condition) → Unfit (One Pyramid) (o ∷ []) c → pyramid_refusal o ≡ Some c
   pub normal_fan_unfit : (o : State) (c : Condition) → Unfit (One NormalFan) (o ∷ []) c → normal_refusal o ≡ Some c
   pub face_fan_unfit : (o : State) (c : Condition) → Unfit (One FaceFan) (o ∷ []) c → face_refusal o ≡ Some c
   pub product_unfit : (a b : State) (c : Condition) → Unfit (Two Product) (a ∷ b ∷ []) c → product_refusal a b ≡ Some c
+  pub minkowski_unfit : (a b : State) (c : Condition) → Unfit (Two Minkowski) (a ∷ b ∷ []) c → sum_refusal a b ≡ Some c
+  pub refine_unfit : (a b : State) → Unfit (Two Refine) (a ∷ b ∷ []) condition.Columns → refine_refusal a b ≡ Some condition.Columns
+  pub large_refinement : (a b : State) → refine_refusal a b ≡ None → IsLarge a b → Unfit (Two Refine) (a ∷ b ∷ []) condition.Rows
+  -- where none fails, but nothing is made: a sum for two rows and a column, a refinement for a pair of cones, no other for anything
+  pub wide_sum : (a b : State) (v w : Row) (k : ℕ) → Unmade (Two Minkowski) (a ∷ b ∷ []) (Combination v w k) → (sum_refusal a b ≡ None) × IsFirstWideSum a b v w k
+  pub sum_without_pair : (a b : State) (i j : ℕ) (e : Evidence) → Unmade (Two Minkowski) (a ∷ b ∷ []) (Pair i j e) → ⊥
+  pub no_intersection : (a b : State) (i j : ℕ) (e : Evidence) → Unmade (Two Refine) (a ∷ b ∷ []) (Pair i j e) → (refine_refusal a b ≡ None) × IsShownByObjects a b i j e
+  pub refinement_without_rows : (a b : State) (v w : Row) (k : ℕ) → Unmade (Two Refine) (a ∷ b ∷ []) (Combination v w k) → ⊥
+  pub product_is_made : (a b : State) (why : NotMadeWhy) → Unmade (Two Product) (a ∷ b ∷ []) why → ⊥
   -- the new object is that of what was read, and the rounds behind it are told
   pub is_built : (book : List Rule) (b : Builder) (old new : Machine) (names : List (List ℕ)) (to : List ℕ) (t : Rounds) → BuildStep book b old names to (done t) new
       → (os : List State) × (f : SavedFile) × Makes b os f × (new.object to ≡ Some (object_of f))
@@ -146,6 +171,10 @@ pub record ObjectsAreBuilt : Type 0 where
   -- a condition that is named failed of what was read, which stays
   pub is_not_fit : (book : List Rule) (b : Builder) (old new : Machine) (names : List (List ℕ)) (to : List ℕ) (more : Remarks) → BuildStep book b old names to (refused (NotFit condition.Centered) more) new
       → (os : List State) × ObjectsAre new names os × Unfit b os condition.Centered
+  pub is_not_made : (book : List Rule) (b : Builder) (old new : Machine) (names : List (List ℕ)) (to : List ℕ) (why : NotMadeWhy) (more : Remarks) → BuildStep book b old names to (refused (NotMade why) more) new
+      → (os : List State) × ObjectsAre new names os × Unmade b os why
+  pub not_made_tells : (book : List Rule) (b : Builder) (old new : Machine) (names : List (List ℕ)) (to : List ℕ) (why : NotMadeWhy) (more : Remarks) → BuildStep book b old names to (refused (NotMade why) more) new
+      → (rounds : List RoundSeen) × (more ≡ rounds_told book rounds)
   pub no_chain_tells : (book : List Rule) (b : Builder) (old new : Machine) (names : List (List ℕ)) (to : List ℕ) (more : Remarks) → BuildStep book b old names to (refused NoChain more) new
       → (rounds : List RoundSeen) × (more ≡ rounds_told book rounds)
   pub crowded_tells : (book : List Rule) (b : Builder) (old new : Machine) (names : List (List ℕ)) (to : List ℕ) (more : Remarks) → BuildStep book b old names to (refused Crowded more) new

@@ -5,7 +5,11 @@ use Rattle.pm_files.specs.Files.{SavedFile}
 use Rattle.pm_files.specs.Views.{file_of}
 use Rattle.pm_files.specs.declared.file.FileObject.{FileObject}
 use Rattle.pm_filing.specs.Whole.{are_of_different, are_of_table}
-use Rattle.pm_machine.specs.Building.{EndsAt, EnsuresAll, EnsuresOne, Makes, ObjectsAre, Unfit, Wanted, object_of, row_of, same_type}
+use Rattle.pm_build.specs.declared.fails.SumFail.{SumFail}
+use Rattle.pm_build.specs.declared.fails.SumFail.TheVariants as sum
+use Rattle.pm_machine.specs.Building.{EndsAt, EnsuresAll, EnsuresOne, Makes, ObjectsAre, Unfit, Unmade, Wanted, object_of, row_of, same_type}
+use Rattle.pm_machine.specs.declared.unbuilt.Unbuilt.{Unbuilt}
+use Rattle.pm_machine.specs.declared.unbuilt.Unbuilt.TheVariants as unbuilt
 use Rattle.pm_command.specs.declared.building.Builder.{Builder}
 use Rattle.pm_machine.specs.Machines.{Gains, Machine, Stays, most_objects}
 use Rattle.pm_machine.specs.declared.round.Ending.{Ending}
@@ -18,10 +22,14 @@ use Rattle.pm_object.specs.declared.held.Origin.TheVariants as origin
 use Rattle.pm_object_type.specs.declared.object_type.ObjectType.{ObjectType}
 use Rattle.pm_props.specs.declared.property.PropId.{PropId}
 use Rattle.pm_props.specs.declared.property.PropId.TheVariants.{ConeAmbientDim}
+use Rattle.pm_refine.specs.declared.object_fails.RefinementFail.{RefinementFail}
+use Rattle.pm_refine.specs.declared.object_fails.RefinementFail.TheVariants as refinement
 use Rattle.pm_rules.specs.declared.rule.Rule.{Rule}
 use Rattle.pm_script.specs.Replies.{Remarks, ReplySeen, Rounds, done, refused, remarks}
+use Rattle.pm_script.specs.declared.refusal.NotMadeWhy.{NotMadeWhy}
+use Rattle.pm_script.specs.declared.refusal.NotMadeWhy.TheVariants.{Combination, Pair}
 use Rattle.pm_script.specs.declared.refusal.Refusal.{Refusal}
-use Rattle.pm_script.specs.declared.refusal.Refusal.TheVariants.{NameTaken, ObjectsFull, NotFit}
+use Rattle.pm_script.specs.declared.refusal.Refusal.TheVariants.{NameTaken, ObjectsFull, NotFit, NotMade}
 use Rattle.pm_types.specs.Forms.{FormsIn}
 use Rattle.pm_types.specs.Values.{PropertyValue}
 
@@ -56,10 +64,11 @@ IsBarred m name why = ⊥
 abbrev pub remarks_of : Rounds → Remarks
 remarks_of t = remarks false t.rounds [] None t.names
 
--- the object of the values that were built is made, and these rounds are told; or a condition fails
-abbrev pub MakesBuilt : List ℕ → Result FileObject BuildFail → Rounds → ReplySeen → Machine → Machine → Type 0
+-- the object of the values that were built is made, and these rounds are told; or a condition fails, or it is not made
+abbrev pub MakesBuilt : List ℕ → Result FileObject Unbuilt → Rounds → ReplySeen → Machine → Machine → Type 0
 MakesBuilt to (Ok f) t (done told) old new = (told ≡ t) × Gains to (object_of (file_of f)) old new
-MakesBuilt to (Err (fail.NotFit c)) t (refused (NotFit d) more) old new = (d ≡ c) × (more ≡ remarks_of t) × Stays old new
+MakesBuilt to (Err (unbuilt.NotFit c)) t (refused (NotFit d) more) old new = (d ≡ c) × (more ≡ remarks_of t) × Stays old new
+MakesBuilt to (Err (unbuilt.NotMade why)) t (refused (NotMade told) more) old new = (told ≡ why) × (more ≡ remarks_of t) × Stays old new
 MakesBuilt to built t reply old new = ⊥
 
 -- ---- ensuring
@@ -97,15 +106,40 @@ abbrev pub IsUnfit : (Condition → Type 0) → BuildFail → Type 0
 IsUnfit unfit (fail.NotFit c) = unfit c
 IsUnfit unfit fail.Memory = Unit {0}
 
--- what was built of the objects of these names: values by the row, unless a condition fails
-pub record IsBuilt (b : Builder) (m : Machine) (names : List (List ℕ)) (built : Result FileObject BuildFail) : Type 0 where
+-- the answer names a condition that fails, or why nothing is made; want of memory may come at any time
+abbrev pub IsUnbuilt : (Condition → Type 0) → (NotMadeWhy → Type 0) → Unbuilt → Type 0
+IsUnbuilt unfit unmade (unbuilt.NotFit c) = unfit c
+IsUnbuilt unfit unmade (unbuilt.NotMade why) = unmade why
+IsUnbuilt unfit unmade unbuilt.Memory = Unit {0}
+
+-- the answers of the builders, in these terms
+abbrev pub of_built : Result FileObject BuildFail → Result FileObject Unbuilt
+of_built (Ok f) = Ok f
+of_built (Err (fail.NotFit c)) = Err (unbuilt.NotFit c)
+of_built (Err fail.Memory) = Err unbuilt.Memory
+
+abbrev pub of_sum : Result FileObject SumFail → Result FileObject Unbuilt
+of_sum (Ok f) = Ok f
+of_sum (Err (sum.NotFit c)) = Err (unbuilt.NotFit c)
+of_sum (Err (sum.Wide v w k)) = Err (unbuilt.NotMade (Combination v w k))
+of_sum (Err sum.Memory) = Err unbuilt.Memory
+
+abbrev pub of_refinement : Result FileObject RefinementFail → Result FileObject Unbuilt
+of_refinement (Ok f) = Ok f
+of_refinement (Err (refinement.NotFit c)) = Err (unbuilt.NotFit c)
+of_refinement (Err (refinement.NotMade i j evidence)) = Err (unbuilt.NotMade (Pair i j evidence))
+of_refinement (Err refinement.Memory) = Err unbuilt.Memory
+
+-- what was built of the objects of these names: values by the row, unless a condition fails or nothing is made
+pub record IsBuilt (b : Builder) (m : Machine) (names : List (List ℕ)) (built : Result FileObject Unbuilt) : Type 0 where
   pub objects : List State
   pub are : ObjectsAre m names objects
   pub made : IfOk built (λ f. Makes b objects (file_of f))
-  pub unfit : IfErr built (IsUnfit (Unfit b objects))
+  pub unbuilt : IfErr built (IsUnbuilt (Unfit b objects) (Unmade b objects))
 
--- an object is made of those of the names, and these rounds are told; or a condition that fails is told
+-- an object is made of those of the names, and these rounds are told; or it is told which condition fails, or why none is made
 abbrev pub Builds : Builder → List (List ℕ) → List ℕ → Rounds → ReplySeen → Machine → Machine → Type 0
 Builds b names to t (done told) old new = (os : List State) × (f : SavedFile) × ObjectsAre old names os × Makes b os f × (told ≡ t) × Gains to (object_of f) old new
 Builds b names to t (refused (NotFit c) more) old new = (os : List State) × ObjectsAre old names os × Unfit b os c × (more ≡ remarks_of t) × Stays old new
+Builds b names to t (refused (NotMade why) more) old new = (os : List State) × ObjectsAre old names os × Unmade b os why × (more ≡ remarks_of t) × Stays old new
 Builds b names to t reply old new = ⊥

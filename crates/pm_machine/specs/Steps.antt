@@ -1,6 +1,5 @@
 -- The machine: what each command may answer, and what it changes. Each refusal comes exactly where its line says, and the lines of one command exclude each other.
 use Rattle.std.specs.Prelude.{ℕ, ◌≡◌, ◌≢◌, ◌⊎◌, Bool, true, false, ◌++◌, ◌<◌, ◌≤◌, List, [], ◌∷◌, find, length, map, Option, Some, None, option_and_then, option_map, IfSome, if◌then◌else◌, codes, string_bytes}
-use Rattle.std.specs.Prelude.{Result, Ok, Err}
 use Rattle.std.specs.List.{list_any}
 use Rattle.std.specs.Str.{bytes_eq}
 use Rattle.pm_books.specs.Writing.{text_of}

@@ -16,10 +16,11 @@ use crate::asking::{rounds_after, rule_names};
 use crate::making::{build_one, build_shape, build_two, object_of, row_of};
 use crate::round::{Ending, ensure};
 use crate::session::Session;
+use crate::unbuilt::{Unbuilt, of_built};
 use pm_client::Client;
 use pm_command::{Building, Shape};
 use pm_files::FileObject;
-use pm_object::{BuildFail, Condition, Round};
+use pm_object::{Condition, Round};
 use pm_object_type::ObjectType;
 use pm_script::{Names, Refusal, Reply};
 use pm_types::{PropId, PropSet};
@@ -84,12 +85,12 @@ impl Session {
         None
     }
 
-    // Adds the object of the values that were built, or says which condition fails, and tells the rounds.
+    // Adds the object of the values that were built, or says which condition fails, or why it is not made, and tells the rounds.
     fn add_made(
         &mut self,
         alloc: Global,
         new: String,
-        built: Result<FileObject, BuildFail>,
+        built: Result<FileObject, Unbuilt>,
         rounds: Vec<Round>,
         names: Names,
     ) -> Result<Reply, AllocError>
@@ -108,11 +109,15 @@ impl Session {
                 self.add(new, object)?;
                 Ok(Reply::Done { rounds, names })
             }
-            Err(BuildFail::NotFit(condition)) => {
+            Err(Unbuilt::NotFit(condition)) => {
                 let why = Refusal::NotFit(condition);
                 Ok(Reply::refused_after(alloc, why, false, rounds, names))
             }
-            Err(BuildFail::Memory) => Err(AllocError),
+            Err(Unbuilt::NotMade(reason)) => {
+                let why = Refusal::NotMade(reason);
+                Ok(Reply::refused_after(alloc, why, false, rounds, names))
+            }
+            Err(Unbuilt::Memory) => Err(AllocError),
         }
     }
 
@@ -135,7 +140,7 @@ impl Session {
         if let Some(why) = self.bars(new.as_str()) {
             return Ok(Reply::refused(alloc, why));
         }
-        let built = build_shape(alloc, shape);
+        let built = of_built(build_shape(alloc, shape));
         self.add_made(alloc, new, built, Vec::new(alloc), Names::none(alloc))
     }
 
@@ -235,7 +240,7 @@ impl Session {
     }
 
     // What is built of the objects of a command, of which was read what is needed.
-    fn build(&self, alloc: Global, what: &Building) -> Result<FileObject, BuildFail>
+    fn build(&self, alloc: Global, what: &Building) -> Result<FileObject, Unbuilt>
         requires { HaveRead (builder_of what.now) (machine_of self.now [])
             (operands_of what.now) }
         ensures built { IsBuilt (builder_of what.now) (machine_of self.now [])
@@ -247,7 +252,7 @@ impl Session {
                 let Some(object) = self.objects.get(name.as_str()) else {
                     unreachable!()
                 };
-                build_one(alloc, *what, object)
+                of_built(build_one(alloc, *what, object))
             }
             Building::Two(what, first, second) => {
                 let Some(a) = self.objects.get(first.as_str()) else {

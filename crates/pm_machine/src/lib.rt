@@ -14,6 +14,7 @@ mod reasons;
 mod round;
 mod session;
 mod taking;
+mod unbuilt;
 
 pub use laws::{
     example_answers, example_building, example_conditions, example_events, example_exclusions,

@@ -2,18 +2,20 @@
 
 ghost use Rattle.pm_command.specs.Commands.{seen_shape};
 ghost use Rattle.pm_files.specs.Views.{file_of};
-ghost use Rattle.pm_machine.specs.Building.{Makes, Unfit, object_of, row_of, shape_condition, shape_file};
+ghost use Rattle.pm_machine.specs.Building.{Makes, Unfit, Unmade, object_of, row_of, shape_condition, shape_file};
 ghost use Rattle.pm_filing.specs.Views.{value_seen};
-ghost use Rattle.pm_machine.specs.Built.{AreFitting, IsFitting, IsRead, IsUnfit, given_values};
+ghost use Rattle.pm_machine.specs.Built.{AreFitting, IsFitting, IsRead, IsUnbuilt, IsUnfit, given_values};
 ghost use Rattle.pm_object.specs.State.{IsRefused};
 ghost use Rattle.std.specs.Prelude.{IfErr, IfOk, None, OnOk, [], map, ◌∷◌, ◌≡◌};
 
-use pm_build::{cross, cube, cyclic, polar, product, pyramid, simplex};
+use crate::unbuilt::{Unbuilt, of_built, of_refinement, of_sum};
+use pm_build::{cross, cube, cyclic, minkowski, polar, product, pyramid, simplex};
 use pm_command::{Binary, Builder, Shape, Unary};
 use pm_fan::{face_fan, normal_fan};
 use pm_files::FileObject;
 use pm_object::{BuildFail, Object};
 use pm_object_type::ObjectType;
+use pm_refine::refine;
 use pm_types::{PropId, Value};
 use std::alloc::{AllocError, Global};
 
@@ -67,6 +69,18 @@ pub fn row_of(what: Builder) -> Row
             of: ObjectType::Polytope,
             reads: &[PropId::Facets, PropId::AffineHull],
         },
+        Builder::Two(Binary::Minkowski) => Row {
+            of: ObjectType::Polytope,
+            reads: &[PropId::Feasible, PropId::Vertices, PropId::LinealitySpace],
+        },
+        Builder::Two(Binary::Refine) => Row {
+            of: ObjectType::Fan,
+            reads: &[
+                PropId::Vertices,
+                PropId::LinealitySpace,
+                PropId::MaximalCones,
+            ],
+        },
     }
 }
 
@@ -88,26 +102,24 @@ pub fn build_one(alloc: Global, what: Unary, object: &Object) -> Result<FileObje
     }
 }
 
-/// The values of what is built of two objects that hold what is read. `NotFit` names the first condition that fails.
-pub fn build_two(
-    alloc: Global,
-    what: Binary,
-    a: &Object,
-    b: &Object,
-) -> Result<FileObject, BuildFail>
+/// The values of what is built of two objects that hold what is read. `NotFit` names the first condition that fails, `NotMade` why nothing is made where none does.
+pub fn build_two(alloc: Global, what: Binary, a: &Object, b: &Object) -> Result<FileObject, Unbuilt>
     requires first { IsRead (row_of (Builder.Two what)).reads a.now.state }
     requires second { IsRead (row_of (Builder.Two what)).reads b.now.state }
     ensures made { IfOk result (λ f. Makes (Builder.Two what)
         (a.now.state ∷ b.now.state ∷ []) (file_of f)) }
     ensures fitting { IfOk result (λ f. IsFitting (file_of f)) }
-    ensures unfit { IfErr result (IsUnfit
-        (Unfit (Builder.Two what) (a.now.state ∷ b.now.state ∷ []))) }
+    ensures unbuilt { IfErr result (IsUnbuilt
+        (Unfit (Builder.Two what) (a.now.state ∷ b.now.state ∷ []))
+        (Unmade (Builder.Two what) (a.now.state ∷ b.now.state ∷ []))) }
 {
     // Their values have their forms.
     let _first = a.of();
     let _second = b.of();
     match what {
-        Binary::Product => product(alloc, a, b),
+        Binary::Product => of_built(product(alloc, a, b)),
+        Binary::Minkowski => of_sum(minkowski(alloc, a, b)),
+        Binary::Refine => of_refinement(refine(alloc, a, b)),
     }
 }
 

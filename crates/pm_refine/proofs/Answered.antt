@@ -11,7 +11,8 @@ use Rattle.pm_laws_normal_fans.proofs.Refinements.{kept_are_refinement}
 use Rattle.pm_laws_normal_fans.specs.Fans.{Fan, InIntersection, IsFan}
 use Rattle.pm_laws_normal_fans.specs.Refinements.{AreAllIntersections, AreAllRays, AreKeptIntersections, HasRefinedRays, Intersection, IsEarlier, IsIntersection, IsWithin}
 use Rattle.pm_algebra.specs.Divisors.{IsPrimitive}
-use Rattle.pm_refine.proofs.Found.{is_intersection, placed}
+use Rattle.pm_refine.proofs.Cuts.{few_rows}
+use Rattle.pm_refine.proofs.Found.{found_kept, is_intersection, placed}
 use Rattle.pm_refine.specs.CutRows.{AreFacetsOf, CutRows, IsRowOf, IsSmallFan, cuts_at, fan_from}
 use Rattle.pm_refine.specs.Fails.{IsConeFail, IsFacetRowOf, IsRefineFail, IsStepFail, IsWideCut, IsWideRay, turned}
 use Rattle.pm_refine.specs.Refined.{AreRaySets, AreRefined}
@@ -20,7 +21,7 @@ use Rattle.pm_refine.specs.declared.fails.RefineFail.{RefineFail}
 use Rattle.pm_refine.specs.declared.fails.RefineFail.TheVariants.{Memory, NotMade}
 use Rattle.std.proofs.Common.{arith, inl, inr, refl, subst, sym}
 use Rattle.std.specs.List.{All, Any, Contains}
-use Rattle.std.specs.Prelude.{List, [], length, map, ℕ, ◌<◌, ◌≡◌, ◌⊎◌}
+use Rattle.std.specs.Prelude.{List, [], length, map, ℕ, ◌<◌, ◌≡◌, ◌≤◌, ◌⊎◌}
 
 pub turned_twice : {A : Type 0} (items : A → List Row) (n : ℕ) (cones : List A) (lines : List Row) (f : RefineFail) → IsConeFail n (fan_from (map items cones) lines) f → IsConeFail n (fan_from (map items cones) lines) (turned (turned f))
 turned_twice items n cones lines (NotMade i j e) h = h
@@ -138,6 +139,26 @@ lines_cols n C D i j K kept k = elim k.lines [
 
 pub no_cols : (n : ℕ) (R K : List Row) → R ≡ [] → K ≡ [] → HasCols n R × HasCols n K
 no_cols n R K e f = rw (e, f) (tt, tt)
+
+-- all rays are primitive
+pub rays_primitive : (n : ℕ) (C D : List CutRows) (i j : ℕ) (K : List Row) (kept : List Intersection) (R : List Row) → AreKeptBefore n C D i j K kept → AreAllRays kept R → All IsPrimitive R
+rays_primitive n C D i j K kept R k all = All_among IsPrimitive R (λ r ir.
+    let (a, ia, c) = among_Any (λ a. Contains a.rays r) kept (among_All (λ r. Any (λ a. Contains a.rays r) kept) ir all.each) in
+    let (L, f) = found_kept n C D i j K kept k a ia in
+    among_All IsPrimitive (among_Contains a.rays c) f.generators.primitive)
+
+-- there are no more lines than columns
+pub lines_few : (n : ℕ) (C D : List CutRows) (i j : ℕ) (K : List Row) (kept : List Intersection) → AreKeptBefore n C D i j K kept → length K ≤ n
+lines_few n C D i j K kept k = elim k.lines [
+  | inl none ↦ rw none.1 (omega arith)
+  | inr w ↦ (let (a, ia, c) = among_Any (IsCutOutBy n C D K) k.listed w in few_rows n K c.generators.pivots c.generators.basis.echelon)
+]
+
+pub none_primitive : (R : List Row) → R ≡ [] → All IsPrimitive R
+none_primitive R e = rw e (All_among IsPrimitive [] (λ r i. elim i [ ]))
+
+pub none_few : (n : ℕ) (K : List Row) → K ≡ [] → length K ≤ n
+none_few n K e = rw e (omega arith)
 
 -- the rays of what is kept are orders of its fan
 pub orders_of : (n : ℕ) (f g : Fan) (K : List Row) (kept : List Intersection) (R : List Row) → AreRefined n f g K kept → AreAllRays kept R → IsFan n f → IsFan n g → HasRefinedRays n f g K kept R

@@ -7,6 +7,7 @@ pub mod Indexed
 pub mod Kept
 pub mod Outcomes
 pub mod RaysMade
+pub mod RefinedForms
 pub mod Taken
 pub mod Tests
 pub mod ObjectFans

@@ -1,5 +1,6 @@
 -- The common refinement of the fans of two objects, as a new fan (Ziegler, Lectures on Polytopes, section 7.1).
 use Rattle.std.specs.Prelude.{ℕ, ◌<◌, ◌≤◌, ◌≡◌, ◌⊎◌, None, Some, List, [], ◌∷◌, length, map}
+use Rattle.std.specs.List.{All}
 use Rattle.pm_algebra.specs.Rows.{Row}
 use Rattle.pm_files.specs.Files.{SavedFile}
 use Rattle.pm_geom.specs.declared.evidence.Evidence.{Evidence}
@@ -18,6 +19,7 @@ use Rattle.pm_refine.specs.declared.fails.RefineFail.{RefineFail}
 use Rattle.pm_refine.specs.declared.fails.RefineFail.TheVariants as engine
 use Rattle.pm_refine.specs.declared.object_fails.RefinementFail.{RefinementFail}
 use Rattle.pm_refine.specs.declared.object_fails.RefinementFail.TheVariants.{Memory, NotFit, NotMade}
+use Rattle.pm_types.specs.Forms.{FormsIn}
 use Rattle.pm_types.specs.Values.{PropertyValue, sets, whole}
 use Rattle.pm_types.specs.Views.{ratios}
 use lib.IntN.{pos}
@@ -45,6 +47,10 @@ refined_values n lines rays sets' = (ConeAmbientDim, whole (pos n)) ∷ (Vertice
 -- the fan that is given these values
 abbrev pub fan_given : List (PropId × PropertyValue) → SavedFile
 fan_given values = record { of = OfFan; values = values; stored = 0; failed = []; programs = []; ignored = [] }
+
+-- each value has the form of its property for a fan of n columns, and its rows pass their tests
+abbrev pub HaveForms : ℕ → SavedFile → Type 0
+HaveForms n f = All (λ (v : PropId × PropertyValue). FormsIn OfFan n v.0 v.1) f.values
 
 -- the new fan: it has at most 2,048 rays and at most 2,048 cones
 pub record IsRefinementFile (a b : State) (file : SavedFile) : Type 0 where

@@ -1,11 +1,13 @@
 // The common refinement of the fans of two objects.
 
+ghost use Rattle.pm_algebra.specs.Divisors.{IsPrimitive};
+ghost use Rattle.pm_algebra.specs.Numbers.{InRange};
 ghost use Rattle.pm_algebra.specs.Rows.{HasCols};
 ghost use Rattle.pm_files.specs.Views.{file_of};
 ghost use Rattle.pm_object.specs.Known.{IsKnown, cols_at, cols_over};
 ghost use Rattle.pm_refine.specs.CutRows.{intersection_of};
 ghost use Rattle.pm_refine.specs.ObjectFans.{IsReadableFan, are_of_rays, refine_reads, refine_refusal};
-ghost use Rattle.pm_refine.specs.ObjectRefinements.{IsRefinementFile, IsRefinementOf, IsRefinementRefused, IsShownByFans, fan_given, refined_values};
+ghost use Rattle.pm_refine.specs.ObjectRefinements.{HaveForms, IsRefinementFile, IsRefinementOf, IsRefinementRefused, IsShownByFans, fan_given, refined_values};
 ghost use Rattle.pm_types.specs.Views.{ratios};
 ghost use Rattle.std.specs.Prelude.{All, IfErr, IfOk, None, OnOk, length, map, true, ◌<◌, ◌^◌, ◌≡◌, ◌≤◌};
 
@@ -30,6 +32,8 @@ fn refinement_of(alloc: Global, a: &Object, b: &Object) -> Result<Refinement, Re
     requires columns { cols_at b.now.state ≡ cols_at a.now.state }
     ensures refinement { IfOk result (λ r. IsRefinementOf a.now.state b.now.state r.lineality.items (map intersection_of r.cones.items) r.rays.items (map (λ s. s.items) r.sets.items)) }
     ensures cols { IfOk result (λ r. HasCols (cols_at a.now.state) r.rays.items × HasCols (cols_at a.now.state) r.lineality.items) }
+    ensures primitive { IfOk result (λ r. All IsPrimitive r.rays.items) }
+    ensures few_lines { IfOk result (λ r. length r.lineality.items ≤ cols_at a.now.state) }
     ensures failed { IfErr result (IsShownByFans a.now.state b.now.state) }
 {
     let first = fan_rows(alloc, a)?;
@@ -46,7 +50,8 @@ fn refinement_of(alloc: Global, a: &Object, b: &Object) -> Result<Refinement, Re
 
 /// A row of whole numbers as fractions over 1.
 fn row_over_one(alloc: Global, row: &Ints) -> Result<Vec<Fraction>, AllocError>
-    ensures { IfOk result (λ v. v.items ≡ ratios row.now) }
+    ensures row { IfOk result (λ v. v.items ≡ ratios row.now) }
+    ensures in_range { IfOk result (λ v. All InRange row.now) }
 {
     let mut fractions = Vec::new(alloc);
     let entries = row.as_slice();
@@ -62,7 +67,8 @@ fn row_over_one(alloc: Global, row: &Ints) -> Result<Vec<Fraction>, AllocError>
 /// Rows of whole numbers as a matrix of fractions over 1. Without rows it states no column count.
 fn matrix_over_one(alloc: Global, rows: &[Ints], cols: usize) -> Result<Matrix, AllocError>
     requires { HasCols cols rows.now }
-    ensures { IfOk result (λ m. m ≡ record { cols = cols_over cols (map ratios rows.now); rows = map ratios rows.now }) }
+    ensures matrix { IfOk result (λ m. m ≡ record { cols = cols_over cols (map ratios rows.now); rows = map ratios rows.now }) }
+    ensures in_range { IfOk result (λ m. All (All InRange) rows.now) }
 {
     let mut matrix = Matrix::new(alloc, if rows.is_empty() { 0 } else { cols });
     for row in rows {
@@ -106,7 +112,8 @@ fn refined_fan(alloc: Global, n: usize, r: &Refinement) -> Result<FileObject, Al
     requires rays { HasCols n r.now.rays.items }
     requires lines { HasCols n r.now.lineality.items }
     requires sets { All (λ s. All (λ j. j < 2 ^ 32) s) (map (λ s. s.items) r.now.sets.items) }
-    ensures { IfOk result (λ f. file_of f ≡ fan_given (refined_values n r.now.lineality.items r.now.rays.items (map (λ s. s.items) r.now.sets.items))) }
+    ensures fan { IfOk result (λ f. file_of f ≡ fan_given (refined_values n r.now.lineality.items r.now.rays.items (map (λ s. s.items) r.now.sets.items))) }
+    ensures in_range { IfOk result (λ f. All (All InRange) r.now.rays.items × All (All InRange) r.now.lineality.items) }
 {
     let rays = matrix_over_one(alloc, &r.rays, n)?;
     let lines = matrix_over_one(alloc, &r.lineality, n)?;
@@ -130,6 +137,7 @@ fn refined_fan(alloc: Global, n: usize, r: &Refinement) -> Result<FileObject, Al
 /// The common refinement of two fans: as its cones the maximal ones among the intersections of a cone of the first and a cone
 /// of the second, in order, of equal ones the first; as its rays all their rays, primitive, with zeros in the pivot columns of
 /// the common lineality, in lexicographic order.
+/// Each value has its form for a fan of as many columns.
 /// These values are right, in some order of the fan's rays and cones, for the common refinement of each two fans for which
 /// the values read are right, and for no other (`pm_laws_fans`, `law_refinement_is_described`).
 /// `NotFit` names the first condition that fails: both objects are fans, they have as many columns, the sets of MAXIMAL_CONES
@@ -141,6 +149,7 @@ pub fn refine(alloc: Global, a: &Object, b: &Object) -> Result<FileObject, Refin
     requires first { IsReadableFan a.now.state }
     requires second { IsReadableFan b.now.state }
     ensures built { IfOk result (λ f. IsRefinementFile a.now.state b.now.state (file_of f)) }
+    ensures forms { IfOk result (λ f. HaveForms (cols_at a.now.state) (file_of f)) }
     ensures fits { OnOk result (refine_refusal a.now.state b.now.state ≡ None) }
     ensures refused { IfErr result (IsRefinementRefused a.now.state b.now.state) }
 {

@@ -1,12 +1,13 @@
 // The common refinement.
 
+ghost use Rattle.pm_algebra.specs.Divisors.{IsPrimitive};
 ghost use Rattle.pm_algebra.specs.Rows.{HasCols};
 ghost use Rattle.pm_laws_normal_fans.specs.Fans.{IsFan};
 ghost use Rattle.pm_laws_normal_fans.specs.Refinements.{AreAllRays, HasRefinedRays};
 ghost use Rattle.pm_refine.specs.CutRows.{AreFacetsOf, AreSmall, IsSmallFan, cut_rows, fan_from, intersection_of};
 ghost use Rattle.pm_refine.specs.Fails.{IsConeFail, IsRefineFail, turned};
 ghost use Rattle.pm_refine.specs.Refined.{AreRaySets, AreRefined};
-ghost use Rattle.std.specs.Prelude.{IfErr, IfOk, map, ◌<◌, ◌^◌};
+ghost use Rattle.std.specs.Prelude.{All, IfErr, IfOk, length, map, ◌<◌, ◌^◌, ◌≤◌};
 
 use crate::cones::facets_of_cones;
 use crate::fails::{RefineFail, with_places_turned};
@@ -81,6 +82,8 @@ pub fn common_refinement(
     ensures rays { IfOk result (λ r. AreAllRays (map intersection_of r.cones.items) r.rays.items) }
     ensures orders { IfOk result (λ r. IsFan cols (fan_from (map (λ c. c.items) first.now) first_lines.now) → IsFan cols (fan_from (map (λ c. c.items) second.now) second_lines.now) → HasRefinedRays cols (fan_from (map (λ c. c.items) first.now) first_lines.now) (fan_from (map (λ c. c.items) second.now) second_lines.now) r.lineality.items (map intersection_of r.cones.items) r.rays.items) }
     ensures cols { IfOk result (λ r. HasCols cols r.rays.items × HasCols cols r.lineality.items) }
+    ensures primitive { IfOk result (λ r. All IsPrimitive r.rays.items) }
+    ensures few_lines { IfOk result (λ r. length r.lineality.items ≤ cols) }
     ensures sets { IfOk result (λ r. AreRaySets r.rays.items (map intersection_of r.cones.items) (map (λ s. s.items) r.sets.items)) }
     ensures failed { IfErr result (IsRefineFail cols (fan_from (map (λ c. c.items) first.now) first_lines.now) (fan_from (map (λ c. c.items) second.now) second_lines.now)) }
 {

@@ -43,5 +43,7 @@ replies_are_read = record {
   rows = refl;
   another_type = refl;
   no_interior = refl;
+  no_sum = refl;
+  no_intersection = refl;
   not_json = refl;
 }

@@ -14,7 +14,8 @@ use Rattle.pm_object_type.specs.declared.object_type.ObjectType.TheVariants.{Con
 use Rattle.pm_types.specs.Values.{extended, finite, truth}
 use Rattle.pm_script.specs.Replies.{NamesSeen, Rounds, barred_text, done, ensured, excluded_text, exclusion_text, false_text, loaded, name_shown, no_rounds, nothing, property_set_text, refusal_text, refused, reply_text, round_text, rule_text, shows, tells_origin, told}
 use Rattle.pm_script.specs.declared.names.Bar.TheVariants as bar
-use Rattle.pm_script.specs.declared.refusal.Refusal.TheVariants.{BadFile, NoChain, NotFit}
+use Rattle.pm_script.specs.declared.refusal.NotMadeWhy.TheVariants.{Combination, Pair}
+use Rattle.pm_script.specs.declared.refusal.Refusal.TheVariants.{BadFile, NoChain, NotFit, NotMade}
 use Rattle.pm_object.specs.declared.held.Condition.TheVariants as condition
 use Rattle.pm_script.specs.declared.refusal.FileWhy.TheVariants as file_why
 
@@ -77,4 +78,6 @@ pub record RepliesAreRead : Type 0 where
   pub rows : refusal_text (NotFit condition.Rows) ≡ codes "17 NotFit rows"
   pub another_type : reply_text false (refused (NotFit condition.OfType) nothing) ≡ codes "no 17 NotFit type\n"
   pub no_interior : reply_text false (refused (NotFit condition.Centered) nothing) ≡ codes "no 17 NotFit CENTERED\n"
+  pub no_sum : reply_text false (refused (NotMade (Combination [] [] 1)) nothing) ≡ codes "no 18 NotMade combination\n"
+  pub no_intersection : refusal_text (NotMade (Pair 0 1 (E4 [] []))) ≡ codes "18 NotMade E4"
   pub not_json : reply_text false (refused (BadFile file_why.NotJson) nothing) ≡ codes "no 13 BadFile NotJson\n"

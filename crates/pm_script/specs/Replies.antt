@@ -30,9 +30,11 @@ use Rattle.pm_types.specs.Views.{view_of}
 use Rattle.pm_props.specs.declared.property.PropId.{PropId}
 use Rattle.pm_files.specs.ValueJson.{value_text}
 use Rattle.pm_script.specs.declared.refusal.Refusal.{Refusal}
-use Rattle.pm_script.specs.declared.refusal.Refusal.TheVariants.{BadCommand, UnknownName, NameTaken, UnknownType, UnknownProperty, BadValue, AlreadyHeld, Sealed, ObjectsFull, NoChain, Crowded, StoreFault, BadFile, NoSuchFile, LineTooLong, UnknownRule, NotFit}
+use Rattle.pm_script.specs.declared.refusal.Refusal.TheVariants.{BadCommand, UnknownName, NameTaken, UnknownType, UnknownProperty, BadValue, AlreadyHeld, Sealed, ObjectsFull, NoChain, Crowded, StoreFault, BadFile, NoSuchFile, LineTooLong, UnknownRule, NotFit, NotMade}
 use Rattle.pm_script.specs.declared.refusal.FileWhy.{FileWhy}
 use Rattle.pm_script.specs.declared.refusal.FileWhy.TheVariants as file_why
+use Rattle.pm_script.specs.declared.refusal.NotMadeWhy.{NotMadeWhy}
+use Rattle.pm_script.specs.declared.refusal.NotMadeWhy.TheVariants.{Combination, Pair}
 use Rattle.pm_script.specs.declared.refusal.ValueWhy.{ValueWhy}
 use Rattle.pm_script.specs.declared.refusal.ValueWhy.TheVariants.{Json, Shape, Number, Index, Limit, Computed, Columns, Row}
 use Rattle.pm_script.specs.declared.reply.Reply.{Reply}
@@ -114,6 +116,10 @@ file_why_text (file_why.BadProperty name why) = codes "BadProperty " ++ string_b
 file_why_text (file_why.BadRow name) = codes "BadRow " ++ string_bytes name
 file_why_text (file_why.BadProfile key) = codes "BadProfile " ++ string_bytes key
 
+abbrev pub not_made_text : NotMadeWhy → List ℕ
+not_made_text (Combination first second column) = codes "combination"
+not_made_text (Pair a b evidence) = codes "E" ++ decimal (evidence_number evidence)
+
 abbrev pub refusal_text : Refusal → List ℕ
 refusal_text BadCommand = codes "1 BadCommand"
 refusal_text UnknownName = codes "2 UnknownName"
@@ -132,6 +138,7 @@ refusal_text NoSuchFile = codes "14 NoSuchFile"
 refusal_text LineTooLong = codes "15 LineTooLong"
 refusal_text UnknownRule = codes "16 UnknownRule"
 refusal_text (NotFit condition) = codes "17 NotFit " ++ word_of condition
+refusal_text (NotMade why) = codes "18 NotMade " ++ not_made_text why
 
 -- the label of a rule, and its weight
 abbrev pub label_in : Option (List ℕ × Weight) → List ℕ

@@ -10,5 +10,5 @@ mod reply;
 pub use examples::example_replies;
 pub use names::{Bar, Names};
 pub use pm_object::Condition;
-pub use refusal::{FileWhy, Refusal, ValueWhy};
+pub use refusal::{FileWhy, NotMadeWhy, Refusal, ValueWhy};
 pub use reply::{Reply, reply_bytes};

@@ -1,9 +1,11 @@
 // Refusals of commands.
 
-ghost use Rattle.pm_script.specs.Replies.{file_why_text, refusal_text, why_text};
+ghost use Rattle.pm_script.specs.Replies.{file_why_text, not_made_text, refusal_text, why_text};
 ghost use Rattle.std.specs.Prelude.{OnOk, codes, string_bytes, ◌++◌, ◌≡◌};
 
+use pm_geom::Evidence;
 use pm_object::Condition;
+use pm_vector::Ints;
 use std::alloc::AllocError;
 
 /// Why a value is refused.
@@ -46,6 +48,23 @@ pub enum FileWhy {
     BadProfile { key: String },
 }
 
+/// Why an object is not made of two others, and what shows it.
+#[derive(Debug, Drop)]
+pub enum NotMadeWhy {
+    /// A number on the way to the sum of the points of these two rows leaves the range, first in this column.
+    Combination {
+        first: Ints,
+        second: Ints,
+        column: u32,
+    },
+    /// This evidence holds of the cones at these places of the two fans.
+    Pair {
+        a: u32,
+        b: u32,
+        evidence: Evidence,
+    },
+}
+
 /// Why a command is refused.
 #[derive(Debug, Drop)]
 pub enum Refusal {
@@ -83,6 +102,8 @@ pub enum Refusal {
     UnknownRule,
     /// 17: this condition does not hold.
     NotFit(Condition),
+    /// 18: a number on the way to the new object leaves the range, or too many rows are needed.
+    NotMade(NotMadeWhy),
 }
 
 /// The word of a reason.
@@ -133,6 +154,19 @@ fn push_file_why(text: &mut String, why: &FileWhy) -> Result<(), AllocError>
     }
 }
 
+/// Writes why an object is not made.
+fn push_not_made(text: &mut String, why: &NotMadeWhy) -> Result<(), AllocError>
+    ensures { OnOk result (string_bytes text.new ≡ string_bytes text.old ++ not_made_text why.now) }
+{
+    match why {
+        NotMadeWhy::Combination { .. } => text.push_str("combination"),
+        NotMadeWhy::Pair { evidence, .. } => {
+            let number = evidence.number();
+            write!(text, "E{number}")
+        }
+    }
+}
+
 /// Writes the number and the name of a refusal, and the reason where it has one.
 pub fn push_refusal(text: &mut String, why: &Refusal) -> Result<(), AllocError>
     ensures { OnOk result (string_bytes text.new ≡ string_bytes text.old ++ refusal_text why.now) }
@@ -163,6 +197,10 @@ pub fn push_refusal(text: &mut String, why: &Refusal) -> Result<(), AllocError>
         Refusal::NotFit(condition) => {
             text.push_str("17 NotFit ")?;
             text.push_str(condition.word())
+        }
+        Refusal::NotMade(why) => {
+            text.push_str("18 NotMade ")?;
+            push_not_made(text, why)
         }
     }
 }

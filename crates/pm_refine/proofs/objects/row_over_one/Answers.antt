@@ -20,6 +20,6 @@ loop-x-preserved c =
     rw (c.in_ok-push.ensures.items, c.in-Ok.ensures.ok, kept (entry entries c.loop-x.x-index) small, c.loop-x.invariant)
     (sym (map_more over_one entries c.loop-x.x-index (pos 0) c.loop-x-test.true))
 
-pub returns : goal.returns
-returns c =
+pub returns-clause-row : goal.returns-clause-row
+returns-clause-row c =
     rw (c.loop-x.invariant, take_all c.loop-x.x-index c.as_slice-entries.result.now c.loop-x-test.false, c.as_slice-entries.ensures.value) refl

@@ -1,6 +1,6 @@
 use Rattle.pm_laws_normal_fans.proofs.Places.{map_length}
 use Rattle.pm_laws_normal_fans.specs.Refinements.{AreAllRays}
-use Rattle.pm_refine.proofs.Answered.{first_refused, kept_cols, lines_cols, no_cols, orders_empty, orders_of, rays_cols, refined_empty, second_refused, step_fail}
+use Rattle.pm_refine.proofs.Answered.{first_refused, kept_cols, lines_cols, lines_few, no_cols, none_few, none_primitive, orders_empty, orders_of, rays_cols, rays_primitive, refined_empty, second_refused, step_fail}
 use Rattle.pm_refine.proofs.Found.{refined}
 use Rattle.pm_refine.proofs.RaysMade.{ray_sets_found}
 use Rattle.pm_refine.proofs.refinement.common_refinement.Goals as goal
@@ -73,3 +73,22 @@ returns-clause-cols c =
       rays_cols c.args.cols (map intersection_of c.in_ok-kept.kept.cones.items) c.in_ok-rays.rays.items cols whole,
       lines_cols c.args.cols (map cut_rows c.in_ok-firsts.firsts.items) (map cut_rows c.in_ok-seconds.seconds.items) (length c.in_ok-firsts.firsts.items) 0 c.in_ok-kept.kept.lineality.items (map intersection_of c.in_ok-kept.kept.cones.items) before,
     )
+
+pub returns-then-is_empty-clause-primitive : goal.returns-then-is_empty-clause-primitive
+returns-then-is_empty-clause-primitive c = none_primitive c.new-then-is_empty-2.result.items c.new-then-is_empty-2.ensures.items
+
+pub returns-then-is_empty-clause-few_lines : goal.returns-then-is_empty-clause-few_lines
+returns-then-is_empty-clause-few_lines c = none_few c.args.cols c.new-then-is_empty.result.items c.new-then-is_empty.ensures.items
+
+pub returns-clause-primitive : goal.returns-clause-primitive
+returns-clause-primitive c =
+    let before = rw (c.deref.ensures.value, c.deref-2.ensures.value) at c.in_ok-kept.ensures.kept in
+    let cols = kept_cols c.args.cols (map cut_rows c.in_ok-firsts.firsts.items) (map cut_rows c.in_ok-seconds.seconds.items) (length c.in_ok-firsts.firsts.items) 0 c.in_ok-kept.kept.lineality.items (map intersection_of c.in_ok-kept.kept.cones.items) before in
+    let all : AreAllRays (map intersection_of c.deref-3.result.now) c.in_ok-rays.rays.items = c.in_ok-rays.ensures c.args.cols (rw c.deref-3.ensures.value cols) in
+    let whole : AreAllRays (map intersection_of c.in_ok-kept.kept.cones.items) c.in_ok-rays.rays.items = rw c.deref-3.ensures.value at all in
+    rays_primitive c.args.cols (map cut_rows c.in_ok-firsts.firsts.items) (map cut_rows c.in_ok-seconds.seconds.items) (length c.in_ok-firsts.firsts.items) 0 c.in_ok-kept.kept.lineality.items (map intersection_of c.in_ok-kept.kept.cones.items) c.in_ok-rays.rays.items before whole
+
+pub returns-clause-few_lines : goal.returns-clause-few_lines
+returns-clause-few_lines c =
+    let before = rw (c.deref.ensures.value, c.deref-2.ensures.value) at c.in_ok-kept.ensures.kept in
+    lines_few c.args.cols (map cut_rows c.in_ok-firsts.firsts.items) (map cut_rows c.in_ok-seconds.seconds.items) (length c.in_ok-firsts.firsts.items) 0 c.in_ok-kept.kept.lineality.items (map intersection_of c.in_ok-kept.kept.cones.items) before

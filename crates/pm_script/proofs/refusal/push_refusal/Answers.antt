@@ -59,3 +59,7 @@ pub returns-in_ok-push_str-in-NotFit : goal.returns-in_ok-push_str-in-NotFit
 returns-in_ok-push_str-in-NotFit c =
     written_twice c.push_str-in-NotFit-2.result _ _ _ _ _ _ c.in_ok-push_str-in-NotFit.ensures.bytes c.push_str-in-NotFit-2.ensures.bytes
     (ap refusal_text c.in-NotFit.is ∙ ap (λ z. codes "17 NotFit " ++ z) (sym c.word.ensures))
+
+pub returns-in_ok-push_str-in-NotMade : goal.returns-in_ok-push_str-in-NotMade
+returns-in_ok-push_str-in-NotMade c =
+    written_behind c.push_not_made.result _ _ _ _ _ _ c.in_ok-push_str-in-NotMade.ensures.bytes c.push_not_made.ensures (ap refusal_text c.in-NotMade.is)

@@ -4,6 +4,7 @@ use Rattle.std.specs.Option.{option_map}
 use Rattle.std.specs.Prelude.{[], string_bytes, ◌∷◌}
 use Rattle.pm_command.specs.declared.building.Builder.TheVariants.{One, Two}
 use Rattle.pm_machine.proofs.BuildSteps.{one_object, read_there, two_objects}
+use Rattle.pm_machine.proofs.Fits.{still_made, still_unbuilt}
 use Rattle.pm_machine.specs.Built.{HaveRead}
 use Rattle.pm_machine.specs.Sessions.{machine_of}
 use Rattle.pm_object.specs.State.{ObjectSeen}
@@ -28,8 +29,8 @@ pub returns-in-Some-clause-built : goal.returns-in-Some-clause-built
 returns-in-Some-clause-built c = rw c.in-One.is (record {
   objects = c.in-Some.object.now.state ∷ [];
   are = one_object (machine_of c.args.self.now []) (string_bytes c.in-One.name) _ _ c.as_str.ensures.value (ap (option_map (λ (z : ObjectSeen). z.state)) (sym c.in-Some.ensures.value));
-  made = c.build_one.ensures.made;
-  unfit = c.build_one.ensures.unfit;
+  made = rw c.of_built.ensures (still_made c.build_one.result _ c.build_one.ensures.made);
+  unbuilt = rw c.of_built.ensures (still_unbuilt c.build_one.result _ _ c.build_one.ensures.unfit);
 })
 
 pub returns-in-Some-get-2-clause-built : goal.returns-in-Some-get-2-clause-built
@@ -39,5 +40,8 @@ returns-in-Some-get-2-clause-built c = rw c.in-Two.is (record {
       two_objects (machine_of c.args.self.now []) (string_bytes c.in-Two.first) (string_bytes c.in-Two.second) _ _ _ _ c.as_str-in-Two.ensures.value c.as_str-in-Two-2.ensures.value
       (ap (option_map (λ (z : ObjectSeen). z.state)) (sym c.in-Some-get.ensures.value)) (ap (option_map (λ (z : ObjectSeen). z.state)) (sym c.in-Some-get-2.ensures.value));
   made = c.build_two.ensures.made;
-  unfit = c.build_two.ensures.unfit;
+  unbuilt = c.build_two.ensures.unbuilt;
 })
+
+pub returns-in-Some-clause-fitting : goal.returns-in-Some-clause-fitting
+returns-in-Some-clause-fitting c = rw c.of_built.ensures (still_made c.build_one.result _ c.build_one.ensures.fitting)
