@@ -1,8 +1,9 @@
 """The greatest sizes that are answered, and the first that are not: tables of plans, facets, products; and many rows that cut nothing off."""
 import heapq
+from math import cos, pi, sin
 
 from check_plans import NUMBERS, Rule, weight_text
-from running import Script, fractions_spelled
+from running import Script, fractions_spelled, spelled
 
 THINNED = {'thinned': 'i : rule FACETS, AFFINE_HULL : INEQUALITIES, EQUATIONS, VERTICES, LINEALITY_SPACE { thin_inequalities_v } weight 10;\n',
            'programs': 'i : rule FACETS, AFFINE_HULL : INEQUALITIES, EQUATIONS { thin_inequalities_lp } weight 60;\n'}
@@ -85,6 +86,32 @@ def check_cells(runs):
     lines = wrote.decode().split('\n')[:-1]
     runs.wants((status, lines[:-1]), (1, script.wanted), f'{script.name}: {wrote[-80:]}')
     runs.wants((lines[-1].count('[') - 1, lines[-1][-13:]), (2048, f',{{"cols":{54 + 38}}}]'), f'{script.name}: 2,048 cells')
+
+
+def wheel(count, at):
+    """A complete fan of so many cones over a plane of four dimensions, whose other two are its lineality."""
+    turns = [2 * pi * k / count for k in range(count)]
+    rays = [[0] * at + [round(1000 * cos(x)), round(1000 * sin(x))] + [0] * (2 - at) for x in turns]
+    lines = [[int(i == k) for i in range(4)] for k in range(4) if k not in (at, at + 1)]
+    return spelled(rays), spelled(lines), spelled([[k, (k + 1) % count] for k in range(count)])
+
+
+def check_refined(runs):
+    """Of two fans over planes that share no line each cone of the one meets each of the other: 2,048 cones are made, and more are too many."""
+    script = Script('refinements of wheels')
+    for count, other, wanted in [(32, 64, 'ok'), (46, 45, 'no 17 NotFit rows')]:
+        for name, values in [('a', wheel(count, 0)), ('b', wheel(other, 2))]:
+            script.says(f'new {name} Fan')
+            for prop, value in zip(['RAYS', 'LINEALITY_SPACE', 'MAXIMAL_CONES'], values):
+                script.says(f'take {name} {prop} {value}')
+        script.says('refine a b c', wanted)
+        if wanted == 'ok':
+            script.gives('c', 'N_MAXIMAL_CONES', str(count * other))
+            script.gives('c', 'N_RAYS', str(count + other))
+            script.says('drop c')
+        for name in 'ab':
+            script.says(f'drop {name}')
+    runs.tries(script)
 
 
 def equal_rows(count):
