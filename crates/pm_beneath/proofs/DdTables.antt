@@ -1,7 +1,7 @@
 -- What double description of the polar hands out at a front is a table of the facets.
-use Rattle.pm_algebra.proofs.RowLaws.{dot_comm}
-use Rattle.pm_algebra.specs.Rows.{Row}
-use Rattle.pm_bases.specs.Bases.{row_at}
+use Rattle.pm_vector.proofs.RowLaws.{dot_comm}
+use Rattle.pm_vector.specs.Rows.{Row}
+use Rattle.pm_vector.specs.Bases.{row_at}
 use Rattle.pm_beneath.specs.CellLists.{IsFacetTable}
 use Rattle.pm_dd.specs.Building.{AreProducts}
 use Rattle.pm_dd.specs.Tables.{IsRayTable}

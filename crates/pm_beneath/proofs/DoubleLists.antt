@@ -1,9 +1,9 @@
 -- The double description list of lines and rays.
-use Rattle.pm_algebra.proofs.ConeLaws.{in_generator, in_line, in_line_opposite, in_through}
-use Rattle.pm_algebra.proofs.Lists.{Among, here, there}
-use Rattle.pm_algebra.proofs.RowLaws.{length-opposite}
-use Rattle.pm_algebra.specs.Cones.{InSpan}
-use Rattle.pm_algebra.specs.Rows.{HasCols, Row, opposite}
+use Rattle.pm_vector.proofs.ConeLaws.{in_generator, in_line, in_line_opposite, in_through}
+use Rattle.pm_vector.proofs.Lists.{Among, here, there}
+use Rattle.pm_vector.proofs.RowLaws.{length-opposite}
+use Rattle.pm_vector.specs.Cones.{InSpan}
+use Rattle.pm_vector.specs.Rows.{HasCols, Row, opposite}
 use Rattle.pm_laws_placing.proofs.Triangulates.{placing_triangulates}
 use Rattle.pm_beneath.specs.DoubleLists.{DoubleListTriangulates}
 use Rattle.pm_dd.specs.Fronts.{both_signs}

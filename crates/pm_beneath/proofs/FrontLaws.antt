@@ -1,7 +1,7 @@
 -- What a turn of the loop over the fronts needs.
-use Rattle.pm_algebra.proofs.Filters.{among_map}
-use Rattle.pm_algebra.proofs.Lists.{AllPairs_cons, All_among, Among, Contains_among, among_All, among_Contains, among_append, among_append_left, among_append_right, here, there}
-use Rattle.pm_algebra.specs.Rows.{Row}
+use Rattle.pm_vector.proofs.Filters.{among_map}
+use Rattle.pm_vector.proofs.Lists.{AllPairs_cons, All_among, Among, Contains_among, among_All, among_Contains, among_append, among_append_left, among_append_right, here, there}
+use Rattle.pm_vector.specs.Rows.{Row}
 use Rattle.pm_laws_placing.proofs.Places.{Rising, stated_below}
 use Rattle.pm_beneath.specs.CellLists.{AreNextCells}
 use Rattle.pm_laws_placing.specs.Placing.{places_marked, stated_places}

@@ -1,10 +1,10 @@
 -- The marks of the list of the lines both ways and the rays.
-use Rattle.pm_algebra.proofs.ConeLaws.{in_line_opposite}
-use Rattle.pm_algebra.proofs.Lists.{Among, among_append, among_append_right, here, there}
-use Rattle.pm_algebra.proofs.RowLaws.{dot_comm, entry-opposite}
-use Rattle.pm_algebra.specs.Cones.{InSpan}
-use Rattle.pm_algebra.specs.Rows.{Row, entry, opposite}
-use Rattle.pm_bases.specs.Bases.{column, row_at}
+use Rattle.pm_vector.proofs.ConeLaws.{in_line_opposite}
+use Rattle.pm_vector.proofs.Lists.{Among, among_append, among_append_right, here, there}
+use Rattle.pm_vector.proofs.RowLaws.{dot_comm, entry-opposite}
+use Rattle.pm_vector.specs.Cones.{InSpan}
+use Rattle.pm_vector.specs.Rows.{Row, entry, opposite}
+use Rattle.pm_vector.specs.Bases.{column, row_at}
 use Rattle.pm_laws_placing.proofs.LeastSums.{bool_cases}
 use Rattle.pm_laws_placing.specs.Placing.{places_marked, stated_places}
 use Rattle.pm_geom.specs.Triangulations.{rows_at}

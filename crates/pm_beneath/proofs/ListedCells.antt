@@ -1,7 +1,7 @@
 -- The listed cells are those of the next front.
-use Rattle.pm_algebra.proofs.Filters.{among_filter, filter_among}
-use Rattle.pm_algebra.proofs.Lists.{AllPairs_cons, All_among, Among, Contains_among, among_All, among_Contains, among_append, among_append_left, among_append_right, here, there}
-use Rattle.pm_algebra.specs.Rows.{Row, dot, entry}
+use Rattle.pm_vector.proofs.Filters.{among_filter, filter_among}
+use Rattle.pm_vector.proofs.Lists.{AllPairs_cons, All_among, Among, Contains_among, among_All, among_Contains, among_append, among_append_left, among_append_right, here, there}
+use Rattle.pm_vector.specs.Rows.{Row, dot, entry}
 use Rattle.pm_laws_placing.proofs.LeastSums.{bool_cases}
 use Rattle.pm_laws_placing.proofs.Places.{Distinct, Rising, rising_distinct, rising_of}
 use Rattle.pm_beneath.specs.CellLists.{IsFacetTable, ListedCellsAreNext, cells_below, joined_cells}

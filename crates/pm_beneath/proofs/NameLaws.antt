@@ -1,7 +1,7 @@
 -- Cells under other names.
-use Rattle.pm_algebra.proofs.Filters.{among_filter, among_map, any_from, any_to, filter_among, map_among}
-use Rattle.pm_algebra.proofs.Lists.{All_among, Among, Contains_among, among_All, among_Contains, here, there}
-use Rattle.pm_algebra.specs.Rows.{Row, dot}
+use Rattle.pm_vector.proofs.Filters.{among_filter, among_map, any_from, any_to, filter_among, map_among}
+use Rattle.pm_vector.proofs.Lists.{All_among, Among, Contains_among, among_All, among_Contains, here, there}
+use Rattle.pm_vector.specs.Rows.{Row, dot}
 use Rattle.pm_beneath.proofs.FrontLaws.{among_below, below_among, rising_below, rising_pairs}
 use Rattle.pm_beneath.proofs.ListedCells.{rising_filter}
 use Rattle.pm_laws_placing.proofs.Places.{Rising, rising_of}

@@ -1,5 +1,5 @@
 -- What the call answers, by the cells of all fronts.
-use Rattle.pm_algebra.specs.Rows.{HasCols, Row}
+use Rattle.pm_vector.specs.Rows.{HasCols, Row}
 use Rattle.pm_laws_placing.proofs.Places.{length_stated}
 use Rattle.pm_beneath.proofs.RunLaws.{run_is_placing}
 use Rattle.pm_beneath.specs.Names.{named}

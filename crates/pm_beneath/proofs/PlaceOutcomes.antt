@@ -1,11 +1,11 @@
 -- What the call answers and refuses, by the list that is taken.
-use Rattle.pm_algebra.proofs.Lists.{All_among, Any_among, Contains_among, among_All, among_Any, among_Contains}
-use Rattle.pm_algebra.proofs.Filters.{map_among}
-use Rattle.pm_algebra.specs.Cones.{InCone}
-use Rattle.pm_algebra.specs.Rows.{HasCols, Row}
-use Rattle.pm_bases.proofs.Columns.{basis_is_independent}
-use Rattle.pm_bases.proofs.Rank.{independent_are_few}
-use Rattle.pm_bases.proofs.Spans.{span_at, span_to}
+use Rattle.pm_vector.proofs.Lists.{All_among, Any_among, Contains_among, among_All, among_Any, among_Contains}
+use Rattle.pm_vector.proofs.Filters.{map_among}
+use Rattle.pm_vector.specs.Cones.{InCone}
+use Rattle.pm_vector.specs.Rows.{HasCols, Row}
+use Rattle.pm_vector.proofs.Columns.{basis_is_independent}
+use Rattle.pm_vector.proofs.Rank.{independent_are_few}
+use Rattle.pm_vector.proofs.Spans.{span_at, span_to}
 use Rattle.pm_beneath.proofs.DoubleLists.{double_list_triangulates}
 use Rattle.pm_beneath.proofs.LeadLaws.{leads, signs_long, taken_arranged}
 use Rattle.pm_beneath.proofs.NameLaws.{named_apart, named_ascending}

@@ -1,9 +1,9 @@
 -- The cells of all fronts, as double description takes the rows, are those of the placing.
-use Rattle.pm_algebra.proofs.Filters.{among_map, map_among}
-use Rattle.pm_algebra.proofs.Lists.{All_among, Among, Contains_among, all_append, all_from, among_All, among_Contains, among_append, among_append_left, among_append_right, here, there}
-use Rattle.pm_algebra.proofs.RowLaws.{length-opposite}
-use Rattle.pm_algebra.specs.Rows.{HasCols, Row}
-use Rattle.pm_bases.specs.Bases.{row_at}
+use Rattle.pm_vector.proofs.Filters.{among_map, map_among}
+use Rattle.pm_vector.proofs.Lists.{All_among, Among, Contains_among, all_append, all_from, among_All, among_Contains, among_append, among_append_left, among_append_right, here, there}
+use Rattle.pm_vector.proofs.RowLaws.{length-opposite}
+use Rattle.pm_vector.specs.Rows.{HasCols, Row}
+use Rattle.pm_vector.specs.Bases.{row_at}
 use Rattle.pm_beneath.proofs.FrontLaws.{among_below, below_among, below_ascending}
 use Rattle.pm_beneath.proofs.NameLaws.{in_named, named_ascending, named_in, names_keep_steps}
 use Rattle.pm_laws_placing.proofs.Places.{in_list, length_stated, nth_append, stated_below, stated_fresh, take_among, take_append}
@@ -20,8 +20,8 @@ use Rattle.pm_elim.specs.Enlarging.{MarkEnlarging}
 use Rattle.pm_elim.specs.Evidence.{IsBasisOf}
 use Rattle.pm_geom.proofs.Facets.{facet_rows_cut_out, order_as, valid_by_products}
 use Rattle.pm_geom.proofs.Polar.{cols_at, cut_at, cut_from}
-use Rattle.pm_algebra.proofs.ConeLaws.{in_generator}
-use Rattle.pm_algebra.proofs.RowLaws.{dot_comm}
+use Rattle.pm_vector.proofs.ConeLaws.{in_generator}
+use Rattle.pm_vector.proofs.RowLaws.{dot_comm}
 use Rattle.pm_geom.specs.Cones.{IsOrder, IsValid}
 use Rattle.pm_geom.specs.Faces.{ray}
 use Rattle.pm_geom.specs.Graphs.{IsAscending}

@@ -1,6 +1,6 @@
 -- What refusals on the way show.
-use Rattle.pm_algebra.specs.Rows.{Row}
-use Rattle.pm_bases.specs.Bases.{row_at}
+use Rattle.pm_vector.specs.Rows.{Row}
+use Rattle.pm_vector.specs.Bases.{row_at}
 use Rattle.pm_beneath.proofs.FrontLaws.{next_same, run_more}
 use Rattle.pm_beneath.specs.CellLists.{AreNextCells}
 use Rattle.pm_beneath.specs.Runs.{IsCrowdOf, IsRunFail, IsRunTo}

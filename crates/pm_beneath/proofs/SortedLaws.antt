@@ -1,6 +1,6 @@
 -- Sets in lexicographic order, each once.
-use Rattle.pm_algebra.proofs.Filters.{among_map, map_among}
-use Rattle.pm_algebra.proofs.Lists.{AllPairs_cons, Among, Contains_among, all_at, among_Any, among_Contains, here}
+use Rattle.pm_vector.proofs.Filters.{among_map, map_among}
+use Rattle.pm_vector.proofs.Lists.{AllPairs_cons, Among, Contains_among, all_at, among_Any, among_Contains, here}
 use Rattle.pm_geom.specs.FaceCounts.{IsLexBefore}
 use Rattle.std.proofs.Common.{arith, ap, refl, sym, subst, ◌∙◌}
 use Rattle.std.proofs.lemmas.Cmp.{eq_by_cmp_equiv, nat_list_cmp_total, on_equiv, nat_list_eq_equiv, ranked, tied_itself}

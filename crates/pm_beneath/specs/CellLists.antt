@@ -1,7 +1,7 @@
 -- The cells of the next front as a list: what the code makes.
 use Rattle.std.specs.Prelude.{ℕ, ◌+◌, ◌<◌, ◌==◌, ◌≡◌, ◌↔◌, Bool, IsTrue, cond, List, [], ◌∷◌, ◌++◌, length}
 use Rattle.std.specs.List.{All, filter}
-use Rattle.pm_algebra.specs.Rows.{Row, dot, entry}
+use Rattle.pm_vector.specs.Rows.{Row, dot, entry}
 use Rattle.pm_laws_placing.specs.Placing.{IsNextCells}
 use Rattle.pm_bits.specs.Sets.{has}
 use Rattle.pm_geom.specs.Faces.{ray}

@@ -1,6 +1,6 @@
 -- The placing triangulation of the double description list of lines and rays.
 use Rattle.std.specs.Prelude.{ℕ, List, ◌++◌, length}
-use Rattle.pm_algebra.specs.Rows.{HasCols, Row}
+use Rattle.pm_vector.specs.Rows.{HasCols, Row}
 use Rattle.pm_laws_placing.specs.Placing.{IsPlacing}
 use Rattle.pm_geom.specs.Triangulations.{IsTriangulation}
 use Rattle.pm_dd.specs.Fronts.{both_signs}

@@ -1,7 +1,7 @@
 -- Cells by the places of the rays as they were handed in.
 use Rattle.std.specs.Prelude.{ℕ, ◌+◌, ◌==◌, ◌≡◌, ◌<◌, Bool, true, List, ◌++◌, length, map}
 use Rattle.std.specs.List.{All, filter, list_any, slice_index_or}
-use Rattle.pm_algebra.specs.Rows.{HasCols, Row}
+use Rattle.pm_vector.specs.Rows.{HasCols, Row}
 use Rattle.pm_dd.specs.Arrangement.{alternating}
 use Rattle.pm_dd.specs.Fronts.{both_signs}
 use Rattle.pm_elim.specs.Enlarging.{MarkEnlarging}

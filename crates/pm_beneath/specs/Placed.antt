@@ -1,6 +1,6 @@
 -- What `place` answers and refuses.
 use Rattle.std.specs.Prelude.{ℕ, ◌⊎◌, List}
-use Rattle.pm_algebra.specs.Rows.{HasCols, Row}
+use Rattle.pm_vector.specs.Rows.{HasCols, Row}
 use Rattle.pm_beneath.specs.declared.fails.PlaceFail.{PlaceFail}
 use Rattle.pm_beneath.specs.declared.fails.PlaceFail.TheVariants.{Many, Memory, Wide}
 use Rattle.pm_dd.specs.declared.fails.DdFail.{DdFail}

@@ -1,7 +1,7 @@
 -- What is known of a run before its cells are put in order.
 use Rattle.std.specs.Prelude.{ℕ, ◌+◌, ◌^◌, ◌≡◌, ◌<◌, List, length, map}
 use Rattle.std.specs.List.{All, AllPairs}
-use Rattle.pm_algebra.specs.Rows.{Row}
+use Rattle.pm_vector.specs.Rows.{Row}
 use Rattle.pm_beneath.specs.Names.{named}
 use Rattle.pm_beneath.specs.Placed.{fail_of_engine}
 use Rattle.pm_beneath.specs.Runs.{IsRunTo}

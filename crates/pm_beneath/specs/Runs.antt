@@ -1,6 +1,6 @@
 -- The cells of all fronts, as double description takes the rows.
 use Rattle.std.specs.Prelude.{ℕ, zero, suc, ◌+◌, ◌≡◌, ◌<◌, List, [], ◌∷◌, ◌++◌, length, map, take}
-use Rattle.pm_algebra.specs.Rows.{Row}
+use Rattle.pm_vector.specs.Rows.{Row}
 use Rattle.pm_dd.specs.Fronts.{HalfSpaces}
 use Rattle.pm_dd.specs.Refusals.{IsMemory, IsShown, IsShownOnRows}
 use Rattle.pm_geom.specs.Cones.{IsOrder}

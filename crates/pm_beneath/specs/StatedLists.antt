@@ -1,6 +1,6 @@
 -- The double description list of lines and rays, and how its rows are taken.
 use Rattle.std.specs.Prelude.{ℕ, ◌*◌, ◌≡◌, Bool, true, List, ◌++◌, drop, length}
-use Rattle.pm_algebra.specs.Rows.{Row}
+use Rattle.pm_vector.specs.Rows.{Row}
 use Rattle.pm_dd.specs.Arrangement.{Leads}
 use Rattle.pm_dd.specs.Fronts.{both_signs}
 use Rattle.pm_elim.specs.Enlarging.{MarkEnlarging}

@@ -1,6 +1,6 @@
 // The call.
 
-ghost use Rattle.pm_algebra.specs.Rows.{HasCols};
+ghost use Rattle.pm_vector.specs.Rows.{HasCols};
 ghost use Rattle.pm_beneath.specs.Placed.{IsShownPlace};
 ghost use Rattle.pm_hull.specs.Hulls.{AreFacets};
 ghost use Rattle.pm_geom.specs.Triangulations.{IsTriangulation};

@@ -1,7 +1,7 @@
 // One front more: the rays of pm_dd's step, which are the facet rows, and the cells.
 
-ghost use Rattle.pm_algebra.specs.Rows.{HasCols};
-ghost use Rattle.pm_bases.specs.Bases.{IsRank, SameSpan, row_at};
+ghost use Rattle.pm_vector.specs.Rows.{HasCols};
+ghost use Rattle.pm_vector.specs.Bases.{IsRank, SameSpan, row_at};
 ghost use Rattle.pm_beneath.specs.CellLists.{AreNextCells};
 ghost use Rattle.pm_dd.specs.Building.{AreProducts};
 ghost use Rattle.pm_dd.specs.Form.{AreReduced};

@@ -1,6 +1,6 @@
 // The facets and the cells of the double description list of a lineality and rays.
 
-ghost use Rattle.pm_algebra.specs.Rows.{HasCols};
+ghost use Rattle.pm_vector.specs.Rows.{HasCols};
 ghost use Rattle.pm_beneath.specs.Placed.{IsShownPlace};
 ghost use Rattle.pm_beneath.specs.PlacedRuns.{FitsPlaces, IsPlaceFailOf, IsPlacedRun};
 ghost use Rattle.pm_beneath.specs.Runs.{IsListFail, IsRunTo};

@@ -1,7 +1,7 @@
 // The loop over the fronts.
 
-ghost use Rattle.pm_algebra.specs.Rows.{HasCols};
-ghost use Rattle.pm_bases.specs.Bases.{IsRank, SameSpan};
+ghost use Rattle.pm_vector.specs.Rows.{HasCols};
+ghost use Rattle.pm_vector.specs.Bases.{IsRank, SameSpan};
 ghost use Rattle.pm_beneath.specs.Runs.{IsCrowdOf, IsRunFail, IsRunTo, below};
 ghost use Rattle.pm_dd.specs.Form.{AreReduced};
 ghost use Rattle.pm_dd.specs.Fronts.{HalfSpaces};

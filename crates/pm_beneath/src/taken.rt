@@ -1,6 +1,6 @@
 // The order in which the rays are taken.
 
-ghost use Rattle.pm_algebra.specs.Rows.{HasCols};
+ghost use Rattle.pm_vector.specs.Rows.{HasCols};
 ghost use Rattle.pm_beneath.specs.Placed.{IsShownPlace};
 ghost use Rattle.pm_beneath.specs.StatedLists.{IsStatedList};
 ghost use Rattle.pm_elim.specs.Evidence.{IfWide, IsBasisOf, IsEvidence};

@@ -1,6 +1,6 @@
 // The facets and the cells of all rows, on a list and its arrangement.
 
-ghost use Rattle.pm_algebra.specs.Rows.{HasCols};
+ghost use Rattle.pm_vector.specs.Rows.{HasCols};
 ghost use Rattle.pm_beneath.specs.Runs.{IsListFail, IsRunTo};
 ghost use Rattle.pm_dd.specs.Arrangement.{IsArrangement};
 ghost use Rattle.pm_dd.specs.Refusals.{IsEliminationFail};

@@ -3,7 +3,7 @@ use Rattle.std.proofs.Common.{◌≡◌, ℕ, suc, Bool, true, false, Result, Ok
 use Rattle.std.specs.List.{flat_map, All, AllByRecursion, AllZip}
 use Rattle.std.specs.Str.{bytes_eq}
 use Rattle.std.specs.Result.{IfOk}
-use Rattle.pm_algebra.proofs.Lists.{all_append}
+use Rattle.pm_vector.proofs.Lists.{all_append}
 use Rattle.pm_props.specs.declared.property.PropId.{PropId}
 use Rattle.pm_props.specs.declared.kind.Kind.{Kind}
 use Rattle.pm_props.specs.Properties.{first_name}

@@ -1,5 +1,5 @@
 -- The examples, computed.
-use Rattle.pm_algebra.specs.Rows.{Row, entry}
+use Rattle.pm_vector.specs.Rows.{Row, entry}
 use Rattle.pm_build.specs.Examples.{ConditionsAreRead, ObjectsAreRead, RowsAreRead}
 use Rattle.std.proofs.Common.{ap, arith, refl, ◌≡◌}
 use Rattle.std.proofs.lemmas.Int.{ints}

@@ -1,6 +1,6 @@
 -- Rows with zeros among their entries: their primitive rows are made within the range where those of the rows are.
-use Rattle.pm_algebra.specs.Numbers.{InRange, Ratio}
-use Rattle.pm_algebra.specs.Rows.{ratio_at}
+use Rattle.pm_vector.specs.Numbers.{InRange, Ratio}
+use Rattle.pm_vector.specs.Rows.{ratio_at}
 use Rattle.pm_build.proofs.PaddedRows.{zeros_at}
 use Rattle.pm_build.specs.Objects.{padded, spread, zeros}
 use Rattle.pm_matrix.specs.FractionRows.{IsLeastDenominator, numerator_over}

@@ -1,7 +1,7 @@
 -- The values of new objects have the forms of values that an object may hold.
-use Rattle.pm_algebra.proofs.Lists.{All_among, Among, among_append, here, there}
-use Rattle.pm_algebra.specs.Numbers.{InRange, Ratio}
-use Rattle.pm_algebra.specs.Rows.{Row}
+use Rattle.pm_vector.proofs.Lists.{All_among, Among, among_append, here, there}
+use Rattle.pm_vector.specs.Numbers.{InRange, Ratio}
+use Rattle.pm_vector.specs.Rows.{Row}
 use Rattle.pm_build.proofs.RowLaws.{length_headed, length_headed_rows, power_below, power_up}
 use Rattle.pm_build.proofs.Vectors.{corners_cols, curve_cols, is_unit, opposite_cols}
 use Rattle.pm_build.specs.Conditions.{cyclic_refusal, is_cyclic_size, shape_refusal}

@@ -1,6 +1,6 @@
 -- The values of polars, products and pyramids have the forms of values that an object may hold.
-use Rattle.pm_algebra.proofs.Lists.{Among, among_All, here, there}
-use Rattle.pm_algebra.specs.Numbers.{InRange, Ratio}
+use Rattle.pm_vector.proofs.Lists.{Among, among_All, here, there}
+use Rattle.pm_vector.specs.Numbers.{InRange, Ratio}
 use Rattle.pm_build.proofs.Extended.{length_padded, length_spread, padded_fractions, padded_primitive, spread_fractions, spread_primitive}
 use Rattle.pm_build.proofs.FormLaws.{IsGood, IsHalf, good_forms, nought, one_value, two_values}
 use Rattle.pm_object.proofs.KnownValues.{IsHeldRow, known_columns, known_rows, polytope_is}

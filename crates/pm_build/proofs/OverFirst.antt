@@ -1,8 +1,8 @@
 -- A row that is divided by its first entry: its fractions stay in the range, and it stands for the row.
-use Rattle.pm_algebra.proofs.Ring.{ring}
-use Rattle.pm_algebra.proofs.Signs.{mul_cancel, pos_cancel}
-use Rattle.pm_algebra.specs.Numbers.{InRange, InRangeRatio, IsReduced, Ratio}
-use Rattle.pm_algebra.specs.Rows.{Row, Stands, entry, ratio_at}
+use Rattle.pm_vector.proofs.Ring.{ring}
+use Rattle.pm_vector.proofs.Signs.{mul_cancel, pos_cancel}
+use Rattle.pm_vector.specs.Numbers.{InRange, InRangeRatio, IsReduced, Ratio}
+use Rattle.pm_vector.specs.Rows.{Row, Stands, entry, ratio_at}
 use Rattle.pm_build.specs.SumSteps.{IsOverFirst}
 use Rattle.pm_fraction.proofs.Bezout.{divides_product, quotient_of}
 use Rattle.pm_fraction.proofs.Quotients.{whole_reduced}

@@ -1,7 +1,7 @@
 -- Rows with zeros behind them, or behind their first entries: what stands for them, and products with them.
-use Rattle.pm_algebra.proofs.Ring.{ring}
-use Rattle.pm_algebra.specs.Numbers.{Ratio}
-use Rattle.pm_algebra.specs.Rows.{Row, Stands, dot, entry, ratio_at}
+use Rattle.pm_vector.proofs.Ring.{ring}
+use Rattle.pm_vector.specs.Numbers.{Ratio}
+use Rattle.pm_vector.specs.Rows.{Row, Stands, dot, entry, ratio_at}
 use Rattle.pm_build.specs.Objects.{padded, spread, zeros}
 use Rattle.pm_types.specs.Right.{StandFor}
 use Rattle.pm_types.specs.Views.{over_one}

@@ -1,10 +1,10 @@
 -- The rows that stand for points: how many they are, and their primitive rows.
-use Rattle.pm_algebra.proofs.Filters.{filter_among}
-use Rattle.pm_algebra.proofs.Lists.{All_among, all_from, among_All, among_Contains}
-use Rattle.pm_algebra.proofs.Ring.{ring}
-use Rattle.pm_algebra.proofs.Signs.{mul_pos, pos_cancel}
-use Rattle.pm_algebra.specs.Numbers.{Ratio}
-use Rattle.pm_algebra.specs.Rows.{HasCols, Row, Stands, entry}
+use Rattle.pm_vector.proofs.Filters.{filter_among}
+use Rattle.pm_vector.proofs.Lists.{All_among, all_from, among_All, among_Contains}
+use Rattle.pm_vector.proofs.Ring.{ring}
+use Rattle.pm_vector.proofs.Signs.{mul_pos, pos_cancel}
+use Rattle.pm_vector.specs.Numbers.{Ratio}
+use Rattle.pm_vector.specs.Rows.{HasCols, Row, Stands, entry}
 use Rattle.pm_build.specs.Points.{is_point, is_positive, points}
 use Rattle.pm_matrix.specs.FractionRows.{ArePrimitiveRowsOf}
 use Rattle.pm_object.proofs.KnownValues.{formed_is, rows_cols}

@@ -1,5 +1,5 @@
 -- The rows of both objects, as they are read.
-use Rattle.pm_algebra.specs.Numbers.{Ratio}
+use Rattle.pm_vector.specs.Numbers.{Ratio}
 use Rattle.pm_build.specs.Objects.{both_rows, padded, spread}
 use Rattle.pm_object.specs.Known.{cols_at, rows_at}
 use Rattle.pm_object.specs.State.{State}

@@ -1,6 +1,6 @@
 -- Rows of standard polytopes: their lengths, and how they are made entry by entry and row by row.
-use Rattle.pm_algebra.specs.Numbers.{Ratio}
-use Rattle.pm_algebra.specs.Rows.{Row}
+use Rattle.pm_vector.specs.Numbers.{Ratio}
+use Rattle.pm_vector.specs.Rows.{Row}
 use Rattle.pm_build.specs.Objects.{zeros}
 use Rattle.pm_object.specs.Known.{cols_over}
 use Rattle.pm_build.specs.Rows.{apex_row, curve, headed, headed_rows, opposite_units, unit}

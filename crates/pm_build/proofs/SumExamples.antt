@@ -1,6 +1,6 @@
 -- The examples of sums.
-use Rattle.pm_algebra.specs.Numbers.{IsReduced}
-use Rattle.pm_algebra.specs.Rows.{Row, entry, ratio_at}
+use Rattle.pm_vector.specs.Numbers.{IsReduced}
+use Rattle.pm_vector.specs.Rows.{Row, entry, ratio_at}
 use Rattle.pm_build.specs.SumExamples.{SumsAreRead, half, over, quarter, thin, thinner}
 use Rattle.pm_build.specs.SumSteps.{AreFactors, ColumnStays, IsOverFirst, IsSumRow, IsWideAt, SumStays, sum_entry}
 use Rattle.pm_build.specs.Sums.{IsFirstWide}

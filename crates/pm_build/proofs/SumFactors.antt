@@ -1,5 +1,5 @@
 -- The factors of two rows: the quotients of their first entries by the greatest common divisor of these.
-use Rattle.pm_algebra.specs.Numbers.{InRange}
+use Rattle.pm_vector.specs.Numbers.{InRange}
 use Rattle.std.proofs.Common.{ap, arith, sym, to_z, zero}
 use Rattle.std.proofs.Math.Nat.{div-mul_cancel, eq-zero_of_zero-dvd}
 use Rattle.std.proofs.lemmas.Int.{ints, to_z_pos}

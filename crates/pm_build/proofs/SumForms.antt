@@ -1,10 +1,10 @@
 -- The values of a Minkowski sum have the forms of values that an object may hold.
-use Rattle.pm_algebra.proofs.Filters.{filter_among, map_among}
-use Rattle.pm_algebra.proofs.Lists.{All_among, Among, all_at, among_All, among_append, here, there}
-use Rattle.pm_algebra.proofs.Ring.{ring}
-use Rattle.pm_algebra.proofs.Signs.{mul_pos, pos_cancel}
-use Rattle.pm_algebra.specs.Numbers.{InRange, Ratio}
-use Rattle.pm_algebra.specs.Rows.{Row, entry, ratio_at}
+use Rattle.pm_vector.proofs.Filters.{filter_among, map_among}
+use Rattle.pm_vector.proofs.Lists.{All_among, Among, all_at, among_All, among_append, here, there}
+use Rattle.pm_vector.proofs.Ring.{ring}
+use Rattle.pm_vector.proofs.Signs.{mul_pos, pos_cancel}
+use Rattle.pm_vector.specs.Numbers.{InRange, Ratio}
+use Rattle.pm_vector.specs.Rows.{Row, entry, ratio_at}
 use Rattle.pm_build.proofs.FormLaws.{IsGood, good_forms, two_values}
 use Rattle.pm_build.proofs.OverFirst.{over_fractions, over_one_first, over_primitive}
 use Rattle.pm_build.proofs.PointLaws.{points_cols, points_up}

@@ -1,6 +1,6 @@
 -- The row of the sum of two points: its factors, its entries one by one, and the first number that leaves the range.
-use Rattle.pm_algebra.specs.Numbers.{InRange, Ratio}
-use Rattle.pm_algebra.specs.Rows.{Row, entry}
+use Rattle.pm_vector.specs.Numbers.{InRange, Ratio}
+use Rattle.pm_vector.specs.Rows.{Row, entry}
 use Rattle.pm_build.specs.Objects.{put_below}
 use Rattle.pm_build.specs.Points.{pairs, pairs_with}
 use Rattle.pm_build.specs.SumSteps.{ColumnStays, IsSumRow, NumbersStay, SumStays, sum_entry}

@@ -1,6 +1,6 @@
 -- The vectors of standard polytopes: how many entries each has, and which the opposite units are.
-use Rattle.pm_algebra.proofs.Lists.{Among, among_append, here, there}
-use Rattle.pm_algebra.specs.Rows.{Row}
+use Rattle.pm_vector.proofs.Lists.{Among, among_append, here, there}
+use Rattle.pm_vector.specs.Rows.{Row}
 use Rattle.pm_build.proofs.RowLaws.{length_curve, length_unit}
 use Rattle.pm_build.specs.Rows.{curve, curve_points, opposite_units, simplex_corners, unit, units}
 use Rattle.std.proofs.Common.{ap, arith, inl, inr, refl, ◌∙◌}

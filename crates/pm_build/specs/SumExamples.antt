@@ -1,7 +1,7 @@
 -- The definitions of sums read on small rows: what holds, and what does not.
 use Rattle.std.specs.Prelude.{ℕ, ◌≡◌, Bool, true, false, List, [], ◌∷◌, None, Some}
-use Rattle.pm_algebra.specs.Numbers.{Ratio}
-use Rattle.pm_algebra.specs.Rows.{Row}
+use Rattle.pm_vector.specs.Numbers.{Ratio}
+use Rattle.pm_vector.specs.Rows.{Row}
 use Rattle.pm_build.specs.Conditions.{sum_count, sum_refusal}
 use Rattle.pm_build.specs.Examples.{held, no, one, segment}
 use Rattle.pm_build.specs.Points.{far, is_point, pairs, points}

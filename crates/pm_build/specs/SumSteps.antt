@@ -3,8 +3,8 @@
 -- their points has the row of the numbers v_0 p and p v_k + q w_k, which is then divided by its first entry.
 use Rattle.std.specs.Prelude.{ℕ, zero, suc, ◌<◌, ◌≡◌, List, length, unsigned_abs}
 use Rattle.std.specs.Int.{IsGcd}
-use Rattle.pm_algebra.specs.Numbers.{InRange, Ratio}
-use Rattle.pm_algebra.specs.Rows.{Row, entry, ratio_at}
+use Rattle.pm_vector.specs.Numbers.{InRange, Ratio}
+use Rattle.pm_vector.specs.Rows.{Row, entry, ratio_at}
 use Rattle.pm_fraction.specs.Fractions.{IsLowestTermsOf, ratio_of}
 use lib.IntN.{ℤ, pos, ◌*ℤ◌, ◌+ℤ◌}
 

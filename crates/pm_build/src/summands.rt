@@ -1,6 +1,6 @@
 // The rows of a Minkowski sum.
 
-ghost use Rattle.pm_algebra.specs.Rows.{HasCols, entry};
+ghost use Rattle.pm_vector.specs.Rows.{HasCols, entry};
 ghost use Rattle.pm_build.specs.Conditions.{sum_reads};
 ghost use Rattle.pm_build.specs.Objects.{put_below};
 ghost use Rattle.pm_build.specs.Points.{far, is_point, is_positive, pairs, pairs_with, points};

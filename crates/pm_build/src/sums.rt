@@ -1,7 +1,7 @@
 // The row of the sum of two points.
 
-ghost use Rattle.pm_algebra.specs.Numbers.{InRange};
-ghost use Rattle.pm_algebra.specs.Rows.{entry};
+ghost use Rattle.pm_vector.specs.Numbers.{InRange};
+ghost use Rattle.pm_vector.specs.Rows.{entry};
 ghost use Rattle.pm_build.specs.SumSteps.{AreFactors, ColumnStays, IsOverFirst, IsSumBefore, IsSumRow, sum_entry};
 ghost use Rattle.pm_build.specs.Sums.{IsWideSum};
 ghost use Rattle.pm_fraction.specs.Fractions.{IsLowestTermsOf, ratio_of};

@@ -1,7 +1,7 @@
 -- The examples of the rows that span a maximal cone.
-use Rattle.pm_algebra.proofs.Lists.{Among, Contains_among, among_Contains, here, there}
-use Rattle.pm_algebra.specs.Numbers.{Ratio}
-use Rattle.pm_algebra.specs.Rows.{Row}
+use Rattle.pm_vector.proofs.Lists.{Among, Contains_among, among_Contains, here, there}
+use Rattle.pm_vector.specs.Numbers.{Ratio}
+use Rattle.pm_vector.specs.Rows.{Row}
 use Rattle.pm_client.specs.Examples.{ConesAreRead, SpansCone, of_fan}
 use Rattle.pm_client.specs.Sound.{IsConeList}
 use Rattle.pm_geom.specs.Faces.{ray}

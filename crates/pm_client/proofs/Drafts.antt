@@ -1,6 +1,6 @@
 -- Drafts into which values were put: the facts of their answers are the values of the targets.
-use Rattle.pm_algebra.proofs.Filters.{filter_among}
-use Rattle.pm_algebra.proofs.Lists.{All_among, Among, among_append, here, there}
+use Rattle.pm_vector.proofs.Filters.{filter_among}
+use Rattle.pm_vector.proofs.Lists.{All_among, Among, among_append, here, there}
 use Rattle.pm_object.specs.Reading.{Put, answer_at, drafted, fact_at}
 use Rattle.pm_props.proofs.Every.{has-set_of}
 use Rattle.pm_props.proofs.Places.{same_property_is}

@@ -1,9 +1,9 @@
 -- The examples of what is eliminated hold.
-use Rattle.pm_algebra.proofs.ConeLaws.{in_line_times, none_to_zero}
-use Rattle.pm_algebra.proofs.Lists.{here}
-use Rattle.pm_algebra.specs.Cones.{InSpan}
-use Rattle.pm_algebra.specs.Rows.{Row}
-use Rattle.pm_bases.specs.Bases.{row_at}
+use Rattle.pm_vector.proofs.ConeLaws.{in_line_times, none_to_zero}
+use Rattle.pm_vector.proofs.Lists.{here}
+use Rattle.pm_vector.specs.Cones.{InSpan}
+use Rattle.pm_vector.specs.Rows.{Row}
+use Rattle.pm_vector.specs.Bases.{row_at}
 use Rattle.pm_client.specs.Examples.{DoublesAreRead, no_rows, single}
 use Rattle.pm_client.specs.Sound.{AreParts, ArePartsOf, IsDoubleListOf, are_parts}
 use Rattle.pm_dd.proofs.ZeroRows.{no_basis}

@@ -1,6 +1,6 @@
 -- Where an elimination of the row list, double description of its two parts, thinning, a linear program, or finding rows from sets was given up, so is the client, with evidence that holds of the view.
-use Rattle.pm_algebra.proofs.Lists.{Contains_among, among_Contains, among_append, here, there}
-use Rattle.pm_algebra.specs.Rows.{IsZero, Row}
+use Rattle.pm_vector.proofs.Lists.{Contains_among, among_Contains, among_append, here, there}
+use Rattle.pm_vector.specs.Rows.{IsZero, Row}
 use Rattle.pm_client.proofs.ReadRows.{row_of}
 use Rattle.pm_client.specs.Sound.{AreParts, ArePartsOf, AreRowsOf, AreSetsOf, AreTold, EliminatesIn, FailsRightly, HoldsOf, IsDoubleListOf, IsRowList, IsRowOf, IsWideElimination, IsWideFeasibility, added_rows, determining_rows, double_list, eliminated_by, enlarging_rows, fail_of, fail_of_double, fail_of_program, fail_of_thin, first_part, flat_basis_and_row, flat_rows, row_list, IsConeList, cone_rows, has_way, doubling, feasibility, products, determined_rays, determined_facets, facet_count}
 use Rattle.pm_dd.specs.Refusals.{IsEliminationFail, IsShown, ShowsMany, ShowsWide}

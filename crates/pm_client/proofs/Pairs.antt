@@ -1,5 +1,5 @@
 -- A client that finds both halves of a pair, POINTS with INPUT_LINEALITY or INEQUALITIES with EQUATIONS, and reads no half of it: when its draft is sound.
-use Rattle.pm_algebra.proofs.Lists.{Among, Contains_among, among_Contains, among_append, here, there}
+use Rattle.pm_vector.proofs.Lists.{Among, Contains_among, among_Contains, among_append, here, there}
 use Rattle.pm_client.proofs.Drafts.{fact_put, put}
 use Rattle.pm_client.proofs.Puts.{ArePut, FoundIn, sound_puts}
 use Rattle.pm_client.proofs.ViewLaws.{none_among}

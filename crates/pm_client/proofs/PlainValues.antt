@@ -1,5 +1,5 @@
 -- Values that are no matrices: whole numbers, truth values, sets. A client that puts one for its target is sound where it is right wherever what was read is.
-use Rattle.pm_algebra.specs.Numbers.{Ratio}
+use Rattle.pm_vector.specs.Numbers.{Ratio}
 use Rattle.pm_client.proofs.Machine.{small_bits}
 use Rattle.pm_client.proofs.Puts.{IsPut, is_alone, sound_one}
 use Rattle.pm_client.specs.Sound.{IsSound}

@@ -1,5 +1,5 @@
 -- Values that a client puts into an empty draft, in any order and of any number: when the draft is sound.
-use Rattle.pm_algebra.proofs.Lists.{Among, Contains_among, among_Contains, among_append, among_append_left, among_append_right}
+use Rattle.pm_vector.proofs.Lists.{Among, Contains_among, among_Contains, among_append, among_append_left, among_append_right}
 use Rattle.pm_client.proofs.Drafts.{all_answered, all_placed, answer_put, answered, fact_put, facts_of, properties_of, put, targets_drafted}
 use Rattle.pm_client.specs.Sound.{IsSound}
 use Rattle.pm_geom.specs.Things.{Orders}

@@ -1,8 +1,8 @@
 -- Rows of what a client reads, as evidence names them.
-use Rattle.pm_algebra.proofs.Lists.{Contains_among}
-use Rattle.pm_algebra.specs.Divisors.{IsPrimitive}
-use Rattle.pm_algebra.specs.Numbers.{Ratio}
-use Rattle.pm_algebra.specs.Rows.{IsZero, Row, Stands}
+use Rattle.pm_vector.proofs.Lists.{Contains_among}
+use Rattle.pm_vector.specs.Divisors.{IsPrimitive}
+use Rattle.pm_vector.specs.Numbers.{Ratio}
+use Rattle.pm_vector.specs.Rows.{IsZero, Row, Stands}
 use Rattle.pm_client.proofs.ReadValues.{found}
 use Rattle.pm_client.specs.Sound.{IsRowOf}
 use Rattle.pm_matrix.specs.FractionRows.{ArePrimitiveRowsOf, IsPrimitiveRowOf}

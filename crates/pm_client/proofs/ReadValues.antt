@@ -1,7 +1,7 @@
 -- What a client reads of a view: values of its facts, which are right where the facts are, and rows with the thing's columns.
-use Rattle.pm_algebra.proofs.Lists.{Among, Contains_among, here, there}
-use Rattle.pm_algebra.specs.Numbers.{Ratio}
-use Rattle.pm_algebra.specs.Rows.{Row}
+use Rattle.pm_vector.proofs.Lists.{Among, Contains_among, here, there}
+use Rattle.pm_vector.specs.Numbers.{Ratio}
+use Rattle.pm_vector.specs.Rows.{Row}
 use Rattle.pm_matrix.specs.FractionRows.{ArePrimitiveRowsOf}
 use Rattle.pm_geom.specs.Things.{Orders}
 use Rattle.pm_types.specs.Things.{Thing}

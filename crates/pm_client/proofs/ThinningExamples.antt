@@ -1,11 +1,11 @@
 -- The examples of thinning and of rows from sets hold.
-use Rattle.pm_algebra.proofs.ConeLaws.{in_line_times}
-use Rattle.pm_algebra.proofs.Lists.{Contains_among, here}
-use Rattle.pm_algebra.proofs.Ring.{ring}
-use Rattle.pm_algebra.specs.Cones.{InSpan}
-use Rattle.pm_algebra.specs.Numbers.{Ratio}
-use Rattle.pm_algebra.specs.Rows.{Row}
-use Rattle.pm_bases.proofs.Spans.{same_span_refl}
+use Rattle.pm_vector.proofs.ConeLaws.{in_line_times}
+use Rattle.pm_vector.proofs.Lists.{Contains_among, here}
+use Rattle.pm_vector.proofs.Ring.{ring}
+use Rattle.pm_vector.specs.Cones.{InSpan}
+use Rattle.pm_vector.specs.Numbers.{Ratio}
+use Rattle.pm_vector.specs.Rows.{Row}
+use Rattle.pm_vector.proofs.Spans.{same_span_refl}
 use Rattle.pm_elim.specs.NullSpaces.{IsNullBasis}
 use Rattle.pm_incidence.specs.FromSets.{holders_from, turned}
 use Rattle.pm_incidence.specs.Thinning.{IsBasisAndRow, flat_group}

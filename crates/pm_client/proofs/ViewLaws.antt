@@ -1,5 +1,5 @@
 -- What is so of a view and of its kind: which properties the kind names; it is of no fan where the kind names a property that fans do not have; it has few columns, and no fact of a property that it has no value of.
-use Rattle.pm_algebra.proofs.Lists.{Among, among_Contains, here, there}
+use Rattle.pm_vector.proofs.Lists.{Among, among_Contains, here, there}
 use Rattle.pm_object_type.specs.declared.object_type.ObjectType.TheVariants.{Fan}
 use Rattle.pm_object.specs.Reading.{IsView, ViewSeen, fact_of}
 use Rattle.pm_props.proofs.Every.{has-set_of}

@@ -16,8 +16,8 @@ use Rattle.pm_incidence.specs.declared.fails.ThinFail.TheVariants as thinning
 use Rattle.pm_laws_placing.specs.PlacedCells.{AreCrowdedCells}
 use Rattle.pm_lattice.specs.declared.lattice.LatticeFail.TheVariants as closing
 use Rattle.pm_object_type.specs.declared.object_type.ObjectType.TheVariants.{Cone, Fan, Polytope}
-use Rattle.pm_algebra.specs.Numbers.{Ratio}
-use Rattle.pm_algebra.specs.Rows.{Row}
+use Rattle.pm_vector.specs.Numbers.{Ratio}
+use Rattle.pm_vector.specs.Rows.{Row}
 use Rattle.pm_object.specs.Reading.{ViewSeen}
 use Rattle.pm_simplex.specs.Generated.{IsWideThinning, no_objective}
 use Rattle.pm_simplex.specs.Answers.{ShowsProgram}

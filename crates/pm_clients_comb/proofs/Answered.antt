@@ -1,6 +1,6 @@
 -- The sets that the client puts are right, and where it fails a product of rows that it read leaves the range.
-use Rattle.pm_algebra.specs.Numbers.{Ratio}
-use Rattle.pm_algebra.specs.Rows.{Row}
+use Rattle.pm_vector.specs.Numbers.{Ratio}
+use Rattle.pm_vector.specs.Rows.{Row}
 use Rattle.pm_client.proofs.PlainValues.{Follows, sound_plain}
 use Rattle.pm_client.proofs.Puts.{IsPut}
 use Rattle.pm_client.proofs.ReadRows.{row_of}

@@ -1,7 +1,7 @@
 -- Where the products that the client `incidence` takes stay in the range.
 use Rattle.std.specs.Prelude.{ℕ, List}
-use Rattle.pm_algebra.specs.Numbers.{Ratio}
-use Rattle.pm_algebra.specs.Rows.{Row}
+use Rattle.pm_vector.specs.Numbers.{Ratio}
+use Rattle.pm_vector.specs.Rows.{Row}
 use Rattle.pm_client.specs.Sound.{Reads}
 use Rattle.pm_incidence.specs.Incidence.{AllStay}
 use Rattle.pm_matrix.specs.FractionRows.{ArePrimitiveRowsOf}

@@ -1,5 +1,5 @@
 -- What the clients put is sound, and how they fail.
-use Rattle.pm_algebra.specs.Numbers.{Ratio}
+use Rattle.pm_vector.specs.Numbers.{Ratio}
 use Rattle.pm_client.proofs.PlainValues.{sound_counts, sound_plain}
 use Rattle.pm_client.proofs.Puts.{IsPut, sound_one}
 use Rattle.pm_client.proofs.ReadValues.{read_right}

@@ -1,12 +1,12 @@
 -- Rows of n entries span at most n dimensions.
-use Rattle.pm_algebra.proofs.ConeLaws.{dot_in, in_zero, none_to_zero}
-use Rattle.pm_algebra.proofs.Lists.{all_at}
-use Rattle.pm_algebra.proofs.RowLaws.{length-opposite}
-use Rattle.pm_algebra.specs.Cones.{InSpan}
-use Rattle.pm_algebra.specs.Rows.{HasCols, Row, opposite}
-use Rattle.pm_bases.proofs.Rank.{independent_are_few}
-use Rattle.pm_bases.proofs.Spans.{span_at, span_of, span_to}
-use Rattle.pm_bases.specs.Bases.{IsRank}
+use Rattle.pm_vector.proofs.ConeLaws.{dot_in, in_zero, none_to_zero}
+use Rattle.pm_vector.proofs.Lists.{all_at}
+use Rattle.pm_vector.proofs.RowLaws.{length-opposite}
+use Rattle.pm_vector.specs.Cones.{InSpan}
+use Rattle.pm_vector.specs.Rows.{HasCols, Row, opposite}
+use Rattle.pm_vector.proofs.Rank.{independent_are_few}
+use Rattle.pm_vector.proofs.Spans.{span_at, span_of, span_to}
+use Rattle.pm_vector.specs.Bases.{IsRank}
 use Rattle.pm_elim.proofs.PrefixLaws.{at_most_columns}
 use Rattle.pm_elim.specs.Evidence.{unit}
 use Rattle.pm_geom.specs.Cones.{IsValid}

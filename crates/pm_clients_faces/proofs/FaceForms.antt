@@ -1,5 +1,5 @@
 -- The forms of lattices, and of their numbers of faces.
-use Rattle.pm_algebra.proofs.Lists.{Among, Contains_among, here, there}
+use Rattle.pm_vector.proofs.Lists.{Among, Contains_among, here, there}
 use Rattle.pm_clients_faces.specs.Numbers.{f_numbers, has_few_ranks}
 use Rattle.pm_geom.specs.FaceCounts.{at_rank, f_of, inner}
 use Rattle.pm_geom.specs.Graphs.{IsAscending}

@@ -1,6 +1,6 @@
 -- The form of the matrix of numbers of pairs of faces.
-use Rattle.pm_algebra.specs.Numbers.{InRange, Ratio}
-use Rattle.pm_algebra.specs.Rows.{HasCols, Row}
+use Rattle.pm_vector.specs.Numbers.{InRange, Ratio}
+use Rattle.pm_vector.specs.Rows.{HasCols, Row}
 use Rattle.pm_clients_faces.proofs.FaceForms.{few_inner, inner_sizes}
 use Rattle.pm_clients_faces.specs.Numbers.{f2_table, has_few_ranks}
 use Rattle.pm_geom.specs.FaceCounts.{f2_entry, f2_of, inclusion_count, inner, inner_faces, is_within}

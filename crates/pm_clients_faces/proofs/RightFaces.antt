@@ -1,10 +1,10 @@
 -- Right faces and numbers of faces, found from other values that are right.
-use Rattle.pm_algebra.proofs.Lists.{all_append}
-use Rattle.pm_algebra.specs.Cones.{InCone, InSpan}
-use Rattle.pm_algebra.specs.Rows.{HasCols, Row}
-use Rattle.pm_bases.proofs.Rank.{rank_is_determined}
-use Rattle.pm_bases.proofs.Spans.{same_span_refl}
-use Rattle.pm_bases.specs.Bases.{IsRank}
+use Rattle.pm_vector.proofs.Lists.{all_append}
+use Rattle.pm_vector.specs.Cones.{InCone, InSpan}
+use Rattle.pm_vector.specs.Rows.{HasCols, Row}
+use Rattle.pm_vector.proofs.Rank.{rank_is_determined}
+use Rattle.pm_vector.proofs.Spans.{same_span_refl}
+use Rattle.pm_vector.specs.Bases.{IsRank}
 use Rattle.pm_clients_faces.proofs.Columns.{rank_by_columns}
 use Rattle.pm_clients_faces.proofs.HForms.{no_numbers, numbers_are}
 use Rattle.pm_clients_faces.specs.Laws.{F2VectorIsFound, FVectorIsFound, HVectorIsFound, HasseDiagramIsFound, RanksAreFew}

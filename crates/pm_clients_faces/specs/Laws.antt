@@ -1,5 +1,5 @@
 -- How right values of faces, and of their numbers, are found from other values that are right.
-use Rattle.pm_algebra.specs.Numbers.{Ratio}
+use Rattle.pm_vector.specs.Numbers.{Ratio}
 use Rattle.pm_geom.specs.FaceCounts.{f2_of, f_of}
 use Rattle.pm_geom.specs.Graphs.{sets_of}
 use Rattle.pm_geom.specs.Meets.{AreMeetsByRank}

@@ -1,5 +1,5 @@
 -- The examples of numbers hold.
-use Rattle.pm_algebra.proofs.Lists.{Among, Contains_among, among_Contains, here, there}
+use Rattle.pm_vector.proofs.Lists.{Among, Contains_among, among_Contains, here, there}
 use Rattle.pm_clients_fans.specs.Examples.{NumbersAreRead}
 use Rattle.std.proofs.Common.{arith, refl}
 use Rattle.std.proofs.lemmas.Int.{ints}

@@ -5,11 +5,11 @@ use Rattle.pm_elim.specs.declared.evidence.ElimFail.TheVariants.{Memory, Wide}
 use Rattle.pm_elim.specs.declared.evidence.ElimFail.{ElimFail}
 use Rattle.pm_elim.specs.Evidence.{IfWide}
 use Rattle.pm_client.proofs.Failing.{fails_by_cone}
-use Rattle.pm_algebra.proofs.Lists.{Among, among_All, among_Contains, here, there, all_from}
-use Rattle.pm_algebra.specs.Cones.{InSpan}
-use Rattle.pm_algebra.specs.Numbers.{Ratio}
-use Rattle.pm_algebra.specs.Rows.{Row, HasCols}
-use Rattle.pm_bases.proofs.Spans.{same_span_trans}
+use Rattle.pm_vector.proofs.Lists.{Among, among_All, among_Contains, here, there, all_from}
+use Rattle.pm_vector.specs.Cones.{InSpan}
+use Rattle.pm_vector.specs.Numbers.{Ratio}
+use Rattle.pm_vector.specs.Rows.{Row, HasCols}
+use Rattle.pm_vector.proofs.Spans.{same_span_trans}
 use Rattle.pm_client.proofs.Machine.{cast_back}
 use Rattle.pm_client.proofs.PlainValues.{sound_count, sound_counts, sound_truth, sound_whole}
 use Rattle.pm_client.proofs.Puts.{IsPut}

@@ -1,11 +1,11 @@
 -- What numbers and sets show, place by place.
 use Rattle.std.proofs.lemmas.List.Elements.{All-push, Contains-get_or}
 use Rattle.pm_client.proofs.Machine.{cast_back}
-use Rattle.pm_algebra.proofs.Lists.{All_among, Among, here, there, among_Contains}
-use Rattle.pm_algebra.specs.Rows.{Row}
-use Rattle.pm_bases.proofs.Rank.{independent_are_few}
-use Rattle.pm_bases.proofs.Spans.{span_at, span_to}
-use Rattle.pm_bases.specs.Bases.{IsRank}
+use Rattle.pm_vector.proofs.Lists.{All_among, Among, here, there, among_Contains}
+use Rattle.pm_vector.specs.Rows.{Row}
+use Rattle.pm_vector.proofs.Rank.{independent_are_few}
+use Rattle.pm_vector.proofs.Spans.{span_at, span_to}
+use Rattle.pm_vector.specs.Bases.{IsRank}
 use Rattle.pm_clients_fans.specs.Numbers.{IsMost}
 use Rattle.pm_fan.specs.Dimensions.{AreDimensions, ArePlaces, IsDimension, cone_rows}
 use Rattle.pm_geom.specs.Faces.{ray}

@@ -1,6 +1,6 @@
 -- What the client `fan_dims` reads, and where it answers.
 use Rattle.std.specs.Prelude.{◌≡◌, Some, List, length}
-use Rattle.pm_algebra.specs.Rows.{Row}
+use Rattle.pm_vector.specs.Rows.{Row}
 use Rattle.pm_client.specs.Sound.{AreRowsOf}
 use Rattle.pm_fan.specs.Dimensions.{NoConeEvidence}
 use Rattle.pm_object.specs.Reading.{ViewSeen, fact_of}

@@ -1,6 +1,6 @@
 // Dimensions of maximal cones, and what these show.
 
-ghost use Rattle.pm_algebra.specs.Rows.{HasCols};
+ghost use Rattle.pm_vector.specs.Rows.{HasCols};
 ghost use Rattle.pm_clients_fans.specs.Numbers.{IsMost};
 ghost use Rattle.pm_elim.specs.Evidence.{IfWide};
 ghost use Rattle.pm_elim.specs.declared.evidence.ElimList.TheVariants as list;

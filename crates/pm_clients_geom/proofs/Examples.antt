@@ -1,7 +1,7 @@
 -- The examples of matrices hold.
-use Rattle.pm_algebra.proofs.Lists.{All_among, Among, among_All, here, there}
-use Rattle.pm_algebra.specs.Numbers.{InRange, IsReduced, Ratio}
-use Rattle.pm_algebra.specs.Rows.{IsZero, Row, entry, ratio_at}
+use Rattle.pm_vector.proofs.Lists.{All_among, Among, among_All, here, there}
+use Rattle.pm_vector.specs.Numbers.{InRange, IsReduced, Ratio}
+use Rattle.pm_vector.specs.Rows.{IsZero, Row, entry, ratio_at}
 use Rattle.pm_client.specs.Examples.{no_rows, single}
 use Rattle.pm_clients_geom.specs.Examples.{HullsAreRead, MatricesAreRead, RaysAreRead, ThinnedAreRead, drafted, far_second, one_half, two_one}
 use Rattle.pm_clients_geom.specs.Hulls.{AreFewRows, ArePossible}

@@ -1,6 +1,6 @@
 -- Where thinning by linear programs was given up, so is the client, with evidence that holds of the view.
-use Rattle.pm_algebra.proofs.Lists.{Contains_among, here, there}
-use Rattle.pm_algebra.specs.Rows.{Row}
+use Rattle.pm_vector.proofs.Lists.{Contains_among, here, there}
+use Rattle.pm_vector.specs.Rows.{Row}
 use Rattle.pm_client.proofs.Failing.{halves_read}
 use Rattle.pm_client.specs.Sound.{AreParts, AreRowsOf, FailsRightly, HoldsOf, IsWideElimination, eliminated_by, fail_of_thin, line_basis_and_row, line_rows, has_way, thinning_programs, facet_count}
 use Rattle.pm_elim.specs.EliminationSteps.{EliminationStep}

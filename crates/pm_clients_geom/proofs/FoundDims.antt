@@ -1,10 +1,10 @@
 -- The dimensions that follow from what was read.
-use Rattle.pm_algebra.proofs.Lists.{Contains_among}
-use Rattle.pm_algebra.specs.Numbers.{Ratio}
-use Rattle.pm_algebra.specs.Rows.{Row}
-use Rattle.pm_bases.proofs.Rank.{independent_are_few}
-use Rattle.pm_bases.proofs.Spans.{span_at, span_to}
-use Rattle.pm_bases.specs.Bases.{IsRank}
+use Rattle.pm_vector.proofs.Lists.{Contains_among}
+use Rattle.pm_vector.specs.Numbers.{Ratio}
+use Rattle.pm_vector.specs.Rows.{Row}
+use Rattle.pm_vector.proofs.Rank.{independent_are_few}
+use Rattle.pm_vector.proofs.Spans.{span_at, span_to}
+use Rattle.pm_vector.specs.Bases.{IsRank}
 use Rattle.pm_client.proofs.ReadValues.{found, read_right}
 use Rattle.pm_client.specs.Sound.{IsSound, added_rows}
 use Rattle.pm_client.proofs.Machine.{bits_below, cast_back, cast_difference, difference_bits, found_bits, found_less}

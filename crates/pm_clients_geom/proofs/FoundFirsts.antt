@@ -1,5 +1,5 @@
 -- What follows from first entries: whether a polytope is bounded or centered, and its far face.
-use Rattle.pm_algebra.specs.Numbers.{Ratio}
+use Rattle.pm_vector.specs.Numbers.{Ratio}
 use Rattle.pm_client.proofs.PlainValues.{sound_counts, sound_truth}
 use Rattle.pm_client.proofs.Puts.{IsPut}
 use Rattle.pm_client.proofs.ReadValues.{read_right}

@@ -1,12 +1,12 @@
 -- What the clients of double description put is sound.
-use Rattle.pm_algebra.proofs.ConeLaws.{in_line}
-use Rattle.pm_algebra.proofs.Lists.{All_among, Contains_among, all_at, among_All}
-use Rattle.pm_algebra.proofs.RowLaws.{entry-opposite, length-opposite}
-use Rattle.pm_algebra.specs.Cones.{InCone}
-use Rattle.pm_algebra.specs.Divisors.{IsPrimitive}
-use Rattle.pm_algebra.specs.Numbers.{InRange, Ratio}
-use Rattle.pm_algebra.specs.Rows.{HasCols, IsZero, Row, entry, opposite}
-use Rattle.pm_bases.specs.Bases.{IsEchelonBasis}
+use Rattle.pm_vector.proofs.ConeLaws.{in_line}
+use Rattle.pm_vector.proofs.Lists.{All_among, Contains_among, all_at, among_All}
+use Rattle.pm_vector.proofs.RowLaws.{entry-opposite, length-opposite}
+use Rattle.pm_vector.specs.Cones.{InCone}
+use Rattle.pm_vector.specs.Divisors.{IsPrimitive}
+use Rattle.pm_vector.specs.Numbers.{InRange, Ratio}
+use Rattle.pm_vector.specs.Rows.{HasCols, IsZero, Row, entry, opposite}
+use Rattle.pm_vector.specs.Bases.{IsEchelonBasis}
 use Rattle.pm_client.proofs.Drafts.{put}
 use Rattle.pm_client.proofs.FreshOrders.{fresh_facets, fresh_kind, fresh_rays}
 use Rattle.pm_client.proofs.Puts.{AreFormed, ArePut, AreRight, IsRightPut, sound_alone, two_put}

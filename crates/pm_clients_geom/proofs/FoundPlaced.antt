@@ -1,7 +1,7 @@
 -- What the clients that place rays put is sound, and how they fail.
-use Rattle.pm_algebra.proofs.Lists.{Contains_among}
-use Rattle.pm_algebra.specs.Numbers.{InRange}
-use Rattle.pm_algebra.specs.Rows.{Row}
+use Rattle.pm_vector.proofs.Lists.{Contains_among}
+use Rattle.pm_vector.specs.Numbers.{InRange}
+use Rattle.pm_vector.specs.Rows.{Row}
 use Rattle.pm_beneath.specs.Placed.{IsShownPlace}
 use Rattle.pm_beneath.specs.declared.fails.PlaceFail.{PlaceFail}
 use Rattle.pm_beneath.specs.declared.fails.PlaceFail.TheVariants as place

@@ -1,8 +1,8 @@
 -- What the clients put that thin one description of a thing by the other, or find one from sets of incidences, is sound.
-use Rattle.pm_algebra.proofs.Lists.{All_among, all_at}
-use Rattle.pm_algebra.specs.Cones.{InCone}
-use Rattle.pm_algebra.specs.Numbers.{InRange, Ratio}
-use Rattle.pm_algebra.specs.Rows.{HasCols, Row, entry}
+use Rattle.pm_vector.proofs.Lists.{All_among, all_at}
+use Rattle.pm_vector.specs.Cones.{InCone}
+use Rattle.pm_vector.specs.Numbers.{InRange, Ratio}
+use Rattle.pm_vector.specs.Rows.{HasCols, Row, entry}
 use Rattle.pm_client.proofs.Puts.{IsPut, sound_one}
 use Rattle.pm_client.proofs.ReadValues.{read_right}
 use Rattle.pm_client.specs.Sound.{AreRowsOf, AreSetsOf, IsSound, added_rows}

@@ -7,7 +7,7 @@ use Rattle.pm_clients_geom.proofs.PutMatrices.{equations_forms, inequalities_for
 use Rattle.pm_clients_geom.specs.Matrices.{as_put, cols_over}
 use Rattle.pm_clients_geom.specs.Pairs.{LacksPair}
 use Rattle.pm_clients_geom.specs.Stays.{RepeatsRows}
-use Rattle.pm_algebra.specs.Numbers.{Ratio}
+use Rattle.pm_vector.specs.Numbers.{Ratio}
 use Rattle.pm_matrix.specs.Matrices.{FractionMatrix}
 use Rattle.pm_object.specs.Reading.{DraftSeen, Put, ViewSeen, drafted, fact_of}
 use Rattle.pm_relations.proofs.Twins.{facets_cut_out, vertices_generate}

@@ -1,7 +1,7 @@
 -- The null space of a row list, as a value.
-use Rattle.pm_algebra.proofs.Lists.{All_among, all_at, among_All}
-use Rattle.pm_algebra.specs.Numbers.{InRange}
-use Rattle.pm_algebra.specs.Rows.{HasCols, Row, entry}
+use Rattle.pm_vector.proofs.Lists.{All_among, all_at, among_All}
+use Rattle.pm_vector.specs.Numbers.{InRange}
+use Rattle.pm_vector.specs.Rows.{HasCols, Row, entry}
 use Rattle.pm_client.proofs.Puts.{IsPut, sound_one}
 use Rattle.pm_client.proofs.ReadValues.{read_right}
 use Rattle.pm_client.specs.Sound.{IsListOf, IsSound, added_rows}

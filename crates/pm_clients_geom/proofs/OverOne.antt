@@ -1,6 +1,6 @@
 -- Matrices of whole rows over 1, made row by row.
-use Rattle.pm_algebra.specs.Numbers.{InRange, Ratio}
-use Rattle.pm_algebra.specs.Rows.{Row}
+use Rattle.pm_vector.specs.Numbers.{InRange, Ratio}
+use Rattle.pm_vector.specs.Rows.{Row}
 use Rattle.pm_matrix.specs.Matrices.{FractionMatrix}
 use Rattle.pm_types.specs.Views.{ratios}
 use Rattle.std.proofs.Common.{ap, get_or, map, subst, sym, take, ◌++◌, ◌+◌, ◌<◌, ◌∙◌}

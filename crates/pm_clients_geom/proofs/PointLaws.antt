@@ -1,14 +1,14 @@
 -- Whether inequalities and equations have a point, by the answers of their program.
-use Rattle.pm_algebra.proofs.Lists.{all_append, append_all}
-use Rattle.pm_algebra.proofs.RowLaws.{dot_comm}
-use Rattle.pm_algebra.specs.Rows.{Row, dot, entry}
+use Rattle.pm_vector.proofs.Lists.{all_append, append_all}
+use Rattle.pm_vector.proofs.RowLaws.{dot_comm}
+use Rattle.pm_vector.specs.Rows.{Row, dot, entry}
 use Rattle.pm_clients_geom.specs.Points.{HasPoint}
 use Rattle.pm_elim.proofs.DotLaws.{dot-unit}
 use Rattle.pm_elim.specs.Evidence.{unit}
 use Rattle.pm_geom.proofs.Duality.{direction_is_without_bound, infeasible_has_no_point, optimum_is_maximum}
 use Rattle.pm_geom.specs.Programs.{IsInfeasible, IsOptimal, IsUnbounded}
 use Rattle.pm_geom.specs.Programs as programs
-use Rattle.pm_algebra.specs.Numbers.{Ratio}
+use Rattle.pm_vector.specs.Numbers.{Ratio}
 use Rattle.pm_incidence.specs.Thinning.{half_spaces}
 use Rattle.pm_object_type.specs.declared.object_type.ObjectType.TheVariants.{Polytope}
 use Rattle.pm_redund.proofs.Lifted.{objective_length}

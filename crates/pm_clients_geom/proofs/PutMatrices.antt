@@ -1,6 +1,6 @@
 -- The forms of the matrices that clients put.
-use Rattle.pm_algebra.specs.Numbers.{InRange, Ratio}
-use Rattle.pm_algebra.specs.Rows.{HasCols, Row, entry}
+use Rattle.pm_vector.specs.Numbers.{InRange, Ratio}
+use Rattle.pm_vector.specs.Rows.{HasCols, Row, entry}
 use Rattle.pm_clients_geom.proofs.RowLists.{IsColumned}
 use Rattle.pm_clients_geom.specs.Matrices.{MayBeLines, cols_over}
 use Rattle.pm_object_type.specs.declared.object_type.ObjectType.{ObjectType}

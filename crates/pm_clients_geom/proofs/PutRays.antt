@@ -1,10 +1,10 @@
 -- A ray that is divided by its first entry: its fractions stay in the range, it stands for the ray, and it has the form of a row of VERTICES.
-use Rattle.pm_algebra.proofs.Ring.{ring}
-use Rattle.pm_algebra.proofs.Signs.{mul_cancel, pos_cancel}
-use Rattle.pm_algebra.specs.Divisors.{IsPrimitive}
-use Rattle.pm_algebra.specs.Numbers.{InRange, InRangeRatio, IsReduced, Ratio}
-use Rattle.pm_algebra.specs.Rows.{HasCols, IsZero, Row, Stands, entry, ratio_at}
-use Rattle.pm_algebra.proofs.RowLaws.{entry-times}
+use Rattle.pm_vector.proofs.Ring.{ring}
+use Rattle.pm_vector.proofs.Signs.{mul_cancel, pos_cancel}
+use Rattle.pm_vector.specs.Divisors.{IsPrimitive}
+use Rattle.pm_vector.specs.Numbers.{InRange, InRangeRatio, IsReduced, Ratio}
+use Rattle.pm_vector.specs.Rows.{HasCols, IsZero, Row, Stands, entry, ratio_at}
+use Rattle.pm_vector.proofs.RowLaws.{entry-times}
 use Rattle.pm_clients_geom.proofs.OverOne.{taken_more}
 use Rattle.pm_clients_geom.specs.Matrices.{MayBeRays, as_put, cols_over}
 use Rattle.pm_clients_geom.specs.Rays.{ArePutRays, IsOverFirst, IsPutRay}

@@ -1,7 +1,7 @@
 -- The examples of points hold.
-use Rattle.pm_algebra.proofs.Lists.{among_All, here}
-use Rattle.pm_algebra.proofs.Ring.{ring}
-use Rattle.pm_algebra.specs.Rows.{Row, dot, entry}
+use Rattle.pm_vector.proofs.Lists.{among_All, here}
+use Rattle.pm_vector.proofs.Ring.{ring}
+use Rattle.pm_vector.specs.Rows.{Row, dot, entry}
 use Rattle.pm_clients_geom.specs.RedundancyExamples.{PointsAreRead, pair}
 use Rattle.pm_types.specs.Right.{Solves}
 use Rattle.std.proofs.Common.{arith, refl}

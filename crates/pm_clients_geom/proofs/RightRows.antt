@@ -1,6 +1,6 @@
 -- What the clients put that ask linear programs is sound.
-use Rattle.pm_algebra.specs.Cones.{InCone}
-use Rattle.pm_algebra.specs.Rows.{HasCols, IsZero, Row}
+use Rattle.pm_vector.specs.Cones.{InCone}
+use Rattle.pm_vector.specs.Rows.{HasCols, IsZero, Row}
 use Rattle.pm_client.proofs.PlainValues.{sound_truth}
 use Rattle.pm_client.proofs.Puts.{IsPut}
 use Rattle.pm_client.proofs.Failing.{wide_feasibility}

@@ -1,5 +1,5 @@
 -- The number of rows of a matrix that was read.
-use Rattle.pm_algebra.specs.Numbers.{Ratio}
+use Rattle.pm_vector.specs.Numbers.{Ratio}
 use Rattle.pm_client.proofs.PlainValues.{is_of_64_bits, sound_count}
 use Rattle.pm_client.proofs.Puts.{IsPut}
 use Rattle.pm_client.proofs.ReadValues.{read_right}

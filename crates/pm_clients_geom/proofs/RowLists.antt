@@ -1,7 +1,7 @@
 -- The parts of a row list have the columns of the view, and so has the list.
-use Rattle.pm_algebra.proofs.Lists.{all_append, all_from, among_All}
-use Rattle.pm_algebra.specs.Numbers.{Ratio}
-use Rattle.pm_algebra.specs.Rows.{HasCols, Row}
+use Rattle.pm_vector.proofs.Lists.{all_append, all_from, among_All}
+use Rattle.pm_vector.specs.Numbers.{Ratio}
+use Rattle.pm_vector.specs.Rows.{HasCols, Row}
 use Rattle.pm_client.proofs.ReadValues.{all_length, primitive_length}
 use Rattle.pm_client.proofs.ViewLaws.{has_listed}
 use Rattle.pm_client.specs.Sound.{are_parts}

@@ -1,5 +1,5 @@
 -- The places of rows whose first entry is 0, one row after the other.
-use Rattle.pm_algebra.specs.Numbers.{Ratio}
+use Rattle.pm_vector.specs.Numbers.{Ratio}
 use Rattle.pm_clients_geom.specs.Places.{AreZeroPlaces}
 use Rattle.pm_relations.specs.FirstEntries.{HasZeroFirst}
 use Rattle.pm_types.specs.Forms.{has_64_bits, is_counts_form}

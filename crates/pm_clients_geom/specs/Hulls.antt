@@ -1,6 +1,6 @@
 -- What the clients of double description are for, and what they put.
-use Rattle.pm_algebra.specs.Numbers.{InRange, Ratio}
-use Rattle.pm_algebra.specs.Rows.{HasCols, Row}
+use Rattle.pm_vector.specs.Numbers.{InRange, Ratio}
+use Rattle.pm_vector.specs.Rows.{HasCols, Row}
 use Rattle.pm_client.specs.Sound.{are_parts, has_way, doubling, eliminated_by, first_part, double_list, enlarging_rows}
 use Rattle.pm_clients_geom.specs.Matrices.{AreRays, MayBeLines, cols_over}
 use Rattle.pm_clients_geom.specs.Rays.{ArePutRays}

@@ -1,7 +1,7 @@
 -- What is found by linear programs is right: redundant points and inequalities (Ziegler, Lectures on Polytopes, lectures 1 and 2), and whether there is a point.
-use Rattle.pm_algebra.specs.Cones.{InCone}
-use Rattle.pm_algebra.specs.Numbers.{Ratio}
-use Rattle.pm_algebra.specs.Rows.{HasCols, Row}
+use Rattle.pm_vector.specs.Cones.{InCone}
+use Rattle.pm_vector.specs.Numbers.{Ratio}
+use Rattle.pm_vector.specs.Rows.{HasCols, Row}
 use Rattle.pm_clients_geom.specs.Points.{HasPoint}
 use Rattle.pm_geom.specs.Cones.{IsValid}
 use Rattle.pm_geom.specs.Generators.{AreGenerators}

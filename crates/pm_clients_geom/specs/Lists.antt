@@ -1,6 +1,6 @@
 -- The two parts of the row list that a client reads, and what becomes of the list.
-use Rattle.pm_algebra.specs.Rows.{Row}
-use Rattle.pm_algebra.specs.Numbers.{Ratio}
+use Rattle.pm_vector.specs.Rows.{Row}
+use Rattle.pm_vector.specs.Numbers.{Ratio}
 use Rattle.pm_client.specs.Sound.{IsListOf, Reads}
 use Rattle.pm_elim.specs.Evidence.{NoEvidence}
 use Rattle.pm_elim.specs.declared.evidence.ElimList.{ElimList}

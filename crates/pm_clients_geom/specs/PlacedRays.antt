@@ -1,5 +1,5 @@
 -- What the clients that place rays are for, what they find, and how they fail.
-use Rattle.pm_algebra.specs.Rows.{Row}
+use Rattle.pm_vector.specs.Rows.{Row}
 use Rattle.pm_beneath.specs.declared.fails.PlaceFail.{PlaceFail}
 use Rattle.pm_beneath.specs.declared.fails.PlaceFail.TheVariants as place
 use Rattle.pm_client.specs.Sound.{are_parts, cell_count, double_list, doubling, eliminated_by, enlarging_rows, first_part, has_way}

@@ -1,7 +1,7 @@
 -- Places of rows by their first entries.
 use Rattle.std.specs.Prelude.{ℕ, ◌≡◌, ◌<◌, ◌↔◌, List, [], map}
 use Rattle.std.specs.List.{AllPairs, Contains, slice_index_or}
-use Rattle.pm_algebra.specs.Numbers.{Ratio}
+use Rattle.pm_vector.specs.Numbers.{Ratio}
 use Rattle.pm_relations.specs.FirstEntries.{HasZeroFirst}
 use lib.IntN.{ℤ, pos}
 

@@ -1,5 +1,5 @@
 -- Points of inequalities and equations (Ziegler, Lectures on Polytopes, section 1.5): a row with a positive first entry is a point, once it is divided by that entry.
-use Rattle.pm_algebra.specs.Rows.{Row, entry}
+use Rattle.pm_vector.specs.Rows.{Row, entry}
 use Rattle.pm_types.specs.Right.{Solves}
 use Rattle.std.specs.Prelude.{List, length, ℕ, ◌≡◌}
 use lib.IntN.{pos}

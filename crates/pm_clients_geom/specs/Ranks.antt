@@ -1,6 +1,6 @@
 -- The rank of the row list that a client reads.
-use Rattle.pm_algebra.specs.Rows.{Row}
-use Rattle.pm_bases.specs.Bases.{IsRank}
+use Rattle.pm_vector.specs.Rows.{Row}
+use Rattle.pm_vector.specs.Bases.{IsRank}
 use Rattle.pm_client.specs.Sound.{IsListOf}
 use Rattle.pm_object.specs.Reading.{ViewSeen}
 use Rattle.pm_props.specs.declared.property.PropId.{PropId}

@@ -1,5 +1,5 @@
 -- How the clients of the family fail; inequalities of a line that have a point, and that have none.
-use Rattle.pm_algebra.specs.Rows.{Row}
+use Rattle.pm_vector.specs.Rows.{Row}
 use Rattle.pm_client.specs.Examples.{without_rows}
 use Rattle.pm_client.specs.Sound.{IsWideElimination}
 use Rattle.pm_client.specs.declared.ClientFail.TheVariants.{Failed, Memory}

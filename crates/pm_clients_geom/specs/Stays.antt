@@ -2,7 +2,7 @@
 use Rattle.pm_client.specs.Sound.{EliminatesExtended, EliminatesRows, FailsRightly, Reads}
 use Rattle.pm_client.specs.declared.ClientFail.{ClientFail}
 use Rattle.pm_client.specs.declared.ClientFail.TheVariants.{Memory}
-use Rattle.pm_algebra.specs.Numbers.{Ratio}
+use Rattle.pm_vector.specs.Numbers.{Ratio}
 use Rattle.pm_clients_geom.specs.Lists.{StaysInRange}
 use Rattle.pm_clients_geom.specs.Matrices.{cols_over}
 use Rattle.pm_clients_geom.specs.declared.dims.DimWork.{DimWork}

@@ -1,6 +1,6 @@
 -- What the clients put that thin one description of a thing by the other, or find one from sets.
-use Rattle.pm_algebra.specs.Numbers.{InRange}
-use Rattle.pm_algebra.specs.Rows.{Row}
+use Rattle.pm_vector.specs.Numbers.{InRange}
+use Rattle.pm_vector.specs.Rows.{Row}
 use Rattle.pm_clients_geom.specs.Hulls.{AreFewRows}
 use Rattle.pm_clients_geom.specs.Matrices.{AreNotZero, AreRays, cols_over}
 use Rattle.pm_object.specs.Reading.{DraftSeen, ViewSeen}

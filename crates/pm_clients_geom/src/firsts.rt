@@ -1,6 +1,6 @@
 // The first entries of the rows of a matrix of fractions: whether all are positive or 0, and which are 0.
 
-ghost use Rattle.pm_algebra.specs.Rows.{ratio_at};
+ghost use Rattle.pm_vector.specs.Rows.{ratio_at};
 ghost use Rattle.pm_clients_geom.specs.Places.{AreZeroPlaces};
 ghost use Rattle.pm_relations.specs.FirstEntries.{HasPositiveFirst, HasZeroFirst};
 ghost use Rattle.pm_types.specs.Forms.{is_counts_form};

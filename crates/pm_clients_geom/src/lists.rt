@@ -1,6 +1,6 @@
 // The row list that a client reads, as primitive whole rows.
 
-ghost use Rattle.pm_algebra.specs.Rows.{HasCols};
+ghost use Rattle.pm_vector.specs.Rows.{HasCols};
 ghost use Rattle.pm_client.specs.Sound.{IsListOf, added_rows, are_parts};
 ghost use Rattle.pm_client.specs.declared.ClientFail.TheVariants.{Memory};
 ghost use Rattle.pm_props.specs.Sets.{has};

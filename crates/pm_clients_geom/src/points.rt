@@ -1,6 +1,6 @@
 // Whether inequalities and equations have a point: where they have none, and only there, the program of the objective 0 is infeasible.
 
-ghost use Rattle.pm_algebra.specs.Rows.{HasCols};
+ghost use Rattle.pm_vector.specs.Rows.{HasCols};
 ghost use Rattle.pm_clients_geom.specs.Points.{HasPoint};
 ghost use Rattle.pm_elim.specs.Evidence.{unit};
 ghost use Rattle.pm_incidence.specs.Thinning.{half_spaces};

@@ -1,7 +1,7 @@
 // Generators as values: the rays of a polytope divided by their first coordinate, where that is not 0.
 
-ghost use Rattle.pm_algebra.specs.Numbers.{InRange};
-ghost use Rattle.pm_algebra.specs.Rows.{HasCols, IsZero, entry};
+ghost use Rattle.pm_vector.specs.Numbers.{InRange};
+ghost use Rattle.pm_vector.specs.Rows.{HasCols, IsZero, entry};
 ghost use Rattle.pm_client.specs.declared.ClientFail.TheVariants.{Memory};
 ghost use Rattle.pm_clients_geom.specs.Matrices.{AreNotZero, AreRays, MayBeLines, MayBeRays, as_put};
 ghost use Rattle.pm_clients_geom.specs.Rays.{ArePutRays, IsOverFirst, IsPutRay};

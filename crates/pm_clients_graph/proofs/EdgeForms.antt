@@ -1,5 +1,5 @@
 -- What the forms of sets, lattices and edges bound, and the form of a graph's lists of neighbours.
-use Rattle.pm_algebra.proofs.Lists.{All_among, Among, Contains_among, here, there}
+use Rattle.pm_vector.proofs.Lists.{All_among, Among, Contains_among, here, there}
 use Rattle.pm_clients_graph.specs.Degrees.{degrees}
 use Rattle.pm_geom.specs.FaceCounts.{at_rank}
 use Rattle.pm_geom.specs.Graphs.{AreNeighbours, IsGraph, holds}

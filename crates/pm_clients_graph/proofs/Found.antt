@@ -1,5 +1,5 @@
 -- The graphs of right sets and faces are right, and so is what right graphs show.
-use Rattle.pm_algebra.specs.Rows.{Row}
+use Rattle.pm_vector.specs.Rows.{Row}
 use Rattle.pm_clients_graph.specs.Laws.{DiameterIsFound, DualDiameterIsFound, DualGraphIsFound, EdgesAreCounted, GraphIsFoundByFaces, GraphIsFoundBySets, NeighboursAreCounted, RidgesAreCounted}
 use Rattle.pm_geom.specs.Graphs.{IsAscending, IsEdge, IsGraph, IsRidge}
 use Rattle.pm_geom.specs.Things.{AreConeOrders, Orders}

@@ -1,5 +1,5 @@
 -- How a graph is found from right sets or faces, and what a right graph shows (Ziegler, Lectures on Polytopes, sections 2.2 and 3.2). t is a cone or polytope with orders o.
-use Rattle.pm_algebra.specs.Numbers.{Ratio}
+use Rattle.pm_vector.specs.Numbers.{Ratio}
 use Rattle.pm_clients_graph.specs.Degrees.{degrees}
 use Rattle.pm_geom.specs.Graphs.{AreNeighbours, IsGraph, IsGreatestDistance, edge_count}
 use Rattle.pm_geom.specs.Things.{Orders}

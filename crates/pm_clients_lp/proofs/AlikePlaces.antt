@@ -1,11 +1,11 @@
 -- An objective has its greatest value at a ray exactly where it has it at each row that is alike to the ray.
-use Rattle.pm_algebra.proofs.ConeLaws.{in_cone_set}
-use Rattle.pm_algebra.proofs.Ring.{ring}
-use Rattle.pm_algebra.proofs.RowLaws.{dot-difference, dot-plus, dot-same, dot-times, dot_comm, entry-opposite, entry-plus}
-use Rattle.pm_algebra.proofs.Signs.{mul_cancel}
-use Rattle.pm_algebra.specs.Cones.{InCone}
-use Rattle.pm_algebra.specs.Numbers.{Ratio}
-use Rattle.pm_algebra.specs.Rows.{Row, difference, dot, entry, opposite, plus, times}
+use Rattle.pm_vector.proofs.ConeLaws.{in_cone_set}
+use Rattle.pm_vector.proofs.Ring.{ring}
+use Rattle.pm_vector.proofs.RowLaws.{dot-difference, dot-plus, dot-same, dot-times, dot_comm, entry-opposite, entry-plus}
+use Rattle.pm_vector.proofs.Signs.{mul_cancel}
+use Rattle.pm_vector.specs.Cones.{InCone}
+use Rattle.pm_vector.specs.Numbers.{Ratio}
+use Rattle.pm_vector.specs.Rows.{Row, difference, dot, entry, opposite, plus, times}
 use Rattle.pm_geom.proofs.Facets.{dot-opposite}
 use Rattle.pm_geom.specs.Cones.{InLineality, SameModulo}
 use Rattle.pm_geom.specs.Faces.{ray}
@@ -109,14 +109,14 @@ module _ (n : ℕ) (G L : List Row) (flat : (x : Row) → length x ≡ n → InL
       from p h a b z e f g = let i = ap (λ y. p *ℤ y) g in let o : h *ℤ pos 0 ≡ pos 0 = simp ring in let q : p *ℤ pos 0 ≡ pos 0 = simp ring in omega (arith, ints)
 
   -- at a ray, and at a row that stands for a row that is alike to it
-  value_alike : (r : List Ratio) (v' x y : Row) → SameModulo n (InCone G L) v' x → Rattle.pm_algebra.specs.Rows.Stands r x → Rattle.pm_algebra.specs.Rows.Stands r y → HasValueAt c v y ↔ HasValueAt c v v'
+  value_alike : (r : List Ratio) (v' x y : Row) → SameModulo n (InCone G L) v' x → Rattle.pm_vector.specs.Rows.Stands r x → Rattle.pm_vector.specs.Rows.Stands r y → HasValueAt c v y ↔ HasValueAt c v v'
   value_alike r v' x y s p q = (
     λ h. (at_value v').1 ((alike v' x s).1 (zero_with_stands D q p ((at_value y).0 h))),
     λ h. (at_value y).1 (zero_with_stands D p q ((alike v' x s).0 ((at_value v').0 h))),
   )
 
 module _ (n : ℕ) (G L : List Row) (flat : (x : Row) → length x ≡ n → InLineality (InCone G L) x → entry x 0 ≡ pos 0) (c : List Ratio) where
-  extended_alike : (e : Extended) → IsGreatest (InCone G L) c e → (r : List Ratio) (v x y : Row) → SameModulo n (InCone G L) v x → Rattle.pm_algebra.specs.Rows.Stands r x → Rattle.pm_algebra.specs.Rows.Stands r y → HasExtendedAt c e y ↔ HasExtendedAt c e v
+  extended_alike : (e : Extended) → IsGreatest (InCone G L) c e → (r : List Ratio) (v x y : Row) → SameModulo n (InCone G L) v x → Rattle.pm_vector.specs.Rows.Stands r x → Rattle.pm_vector.specs.Rows.Stands r y → HasExtendedAt c e y ↔ HasExtendedAt c e v
   extended_alike (finite q) m r v x y s p k = value_alike n G L flat c q m r v x y s p k
   extended_alike plus_infinity m r v x y s p k = (λ h. h, λ h. h)
   extended_alike minus_infinity m r v x y s p k = (λ h. h, λ h. h)

@@ -1,6 +1,6 @@
 -- A matrix of the rows of a dual has its form.
-use Rattle.pm_algebra.specs.Numbers.{Ratio}
-use Rattle.pm_algebra.specs.Rows.{Row}
+use Rattle.pm_vector.specs.Numbers.{Ratio}
+use Rattle.pm_vector.specs.Rows.{Row}
 use Rattle.pm_clients_lp.proofs.WeightedRows.{multiples_length}
 use Rattle.pm_clients_lp.specs.Clients.{dual}
 use Rattle.pm_clients_lp.specs.Programs.{IsDualMatrixOf, cols_over, weighted}

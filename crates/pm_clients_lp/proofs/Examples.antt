@@ -1,7 +1,7 @@
 -- The examples of duals hold.
-use Rattle.pm_algebra.specs.Numbers.{Ratio}
-use Rattle.pm_algebra.specs.Rows.{Row, entry, ratio_at}
-use Rattle.pm_bases.specs.Bases.{row_at}
+use Rattle.pm_vector.specs.Numbers.{Ratio}
+use Rattle.pm_vector.specs.Rows.{Row, entry, ratio_at}
+use Rattle.pm_vector.specs.Bases.{row_at}
 use Rattle.pm_clients_lp.specs.Examples.{DualsAreRead, half, large, large_weight, null}
 use Rattle.pm_clients_lp.specs.Programs.{AreMultiples, AreWeighted, weighted}
 use Rattle.pm_fraction.proofs.Quotients.{whole_reduced}

@@ -1,11 +1,11 @@
 -- Rows that stand for right FACETS are facet rows, and no two of them are the same.
-use Rattle.pm_algebra.proofs.RowLaws.{entry-opposite, entry-plus, entry-times, length-opposite, length-plus, length-times}
-use Rattle.pm_algebra.proofs.Ring.{ring}
-use Rattle.pm_algebra.proofs.Signs.{mul_nonneg, mul_pos, weaken}
-use Rattle.pm_algebra.specs.Cones.{IsConeSet}
-use Rattle.pm_algebra.specs.Numbers.{Ratio}
-use Rattle.pm_algebra.specs.Rows.{HasCols, Row, Same, entry, opposite, plus, times}
-use Rattle.pm_algebra.proofs.Lists.{all_at}
+use Rattle.pm_vector.proofs.RowLaws.{entry-opposite, entry-plus, entry-times, length-opposite, length-plus, length-times}
+use Rattle.pm_vector.proofs.Ring.{ring}
+use Rattle.pm_vector.proofs.Signs.{mul_nonneg, mul_pos, weaken}
+use Rattle.pm_vector.specs.Cones.{IsConeSet}
+use Rattle.pm_vector.specs.Numbers.{Ratio}
+use Rattle.pm_vector.specs.Rows.{HasCols, Row, Same, entry, opposite, plus, times}
+use Rattle.pm_vector.proofs.Lists.{all_at}
 use Rattle.pm_dd.proofs.AlikeLaws.{line_opposite, line_plus, line_times}
 use Rattle.pm_dd.proofs.StepLaws.{at_place}
 use Rattle.pm_geom.proofs.Reduce.{extreme_as, same_modulo_as}

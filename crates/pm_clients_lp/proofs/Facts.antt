@@ -1,8 +1,8 @@
 -- What was read of a view: its forms, and what is right of it in the program that is asked.
-use Rattle.pm_algebra.proofs.Lists.{Contains_among, all_from, among_All}
-use Rattle.pm_algebra.proofs.Signs.{mul_cancel, mul_nonneg, nonneg_cancel, weaken}
-use Rattle.pm_algebra.specs.Numbers.{Ratio}
-use Rattle.pm_algebra.specs.Rows.{HasCols, Row, Stands, entry}
+use Rattle.pm_vector.proofs.Lists.{Contains_among, all_from, among_All}
+use Rattle.pm_vector.proofs.Signs.{mul_cancel, mul_nonneg, nonneg_cancel, weaken}
+use Rattle.pm_vector.specs.Numbers.{Ratio}
+use Rattle.pm_vector.specs.Rows.{HasCols, Row, Stands, entry}
 use Rattle.pm_client.proofs.ReadValues.{all_length, found, primitive_length}
 use Rattle.pm_client.specs.Sound.{AreRowsOf, ReadsObjective}
 use Rattle.pm_clients_lp.specs.Reading.{is_of_rows}
@@ -152,7 +152,7 @@ not_behind (q ∷ r) x h s =
     sign (negsuc n) e = absurd (true≢false e)
 
     turned : (p k a d z : ℤ) → p *ℤ (a *ℤ d) ≡ k *ℤ z → pos 0 ≤ℤ k → pos 0 ≤ℤ z → pos 0 ≤ℤ (d *ℤ (p *ℤ a))
-    turned p k a d z e hk hz = let m = mul_nonneg hk hz in let l : d *ℤ (p *ℤ a) ≡ p *ℤ (a *ℤ d) = simp Rattle.pm_algebra.proofs.Ring.ring in omega (arith, ints)
+    turned p k a d z e hk hz = let m = mul_nonneg hk hz in let l : d *ℤ (p *ℤ a) ≡ p *ℤ (a *ℤ d) = simp Rattle.pm_vector.proofs.Ring.ring in omega (arith, ints)
 
 level_first : (r : List Ratio) (x : Row) → first_is_nought r ≡ true → Stands r x → entry x 0 ≡ pos 0
 level_first [] [] h s = refl
@@ -166,7 +166,7 @@ level_first (q ∷ r) x h s =
     none (negsuc n) e = absurd (true≢false (sym e))
 
     turned : (p k a d z : ℤ) → p *ℤ (a *ℤ d) ≡ k *ℤ z → z ≡ pos 0 → d *ℤ (p *ℤ a) ≡ d *ℤ (p *ℤ pos 0)
-    turned p k a d z e f = let g = ap (λ y. k *ℤ y) f in let l : d *ℤ (p *ℤ a) ≡ p *ℤ (a *ℤ d) = simp Rattle.pm_algebra.proofs.Ring.ring in let r : d *ℤ (p *ℤ pos 0) ≡ k *ℤ pos 0 = simp Rattle.pm_algebra.proofs.Ring.ring in l ∙ e ∙ g ∙ sym r
+    turned p k a d z e f = let g = ap (λ y. k *ℤ y) f in let l : d *ℤ (p *ℤ a) ≡ p *ℤ (a *ℤ d) = simp Rattle.pm_vector.proofs.Ring.ring in let r : d *ℤ (p *ℤ pos 0) ≡ k *ℤ pos 0 = simp Rattle.pm_vector.proofs.Ring.ring in l ∙ e ∙ g ∙ sym r
 
 -- what a test of rows says of the primitive rows
 module _ (P : Row → Type 0) (test : List Ratio → Bool) (step : (r : List Ratio) (x : Row) → test r ≡ true → Stands r x → P x) where

@@ -1,6 +1,6 @@
 -- How the clients fail: with evidence of their own, which holds of the view.
-use Rattle.pm_algebra.specs.Numbers.{Ratio}
-use Rattle.pm_algebra.specs.Rows.{Row}
+use Rattle.pm_vector.specs.Numbers.{Ratio}
+use Rattle.pm_vector.specs.Rows.{Row}
 use Rattle.pm_client.proofs.Failing.{halves_read}
 use Rattle.pm_clients_lp.proofs.StandardKinds.{face_named, dual_named, facets_named, rays_named, rows_named}
 use Rattle.pm_clients_lp.specs.Programs.{ShowsOptimum}

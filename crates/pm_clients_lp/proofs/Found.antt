@@ -1,8 +1,8 @@
 -- What the clients put is right.
-use Rattle.pm_algebra.proofs.Lists.{Among, among_Contains}
-use Rattle.pm_algebra.specs.Cones.{InCone}
-use Rattle.pm_algebra.specs.Numbers.{Ratio}
-use Rattle.pm_algebra.specs.Rows.{Row, entry}
+use Rattle.pm_vector.proofs.Lists.{Among, among_Contains}
+use Rattle.pm_vector.specs.Cones.{InCone}
+use Rattle.pm_vector.specs.Numbers.{Ratio}
+use Rattle.pm_vector.specs.Rows.{Row, entry}
 use Rattle.pm_client.proofs.Puts.{IsPut}
 use Rattle.pm_client.specs.Sound.{AreRowsOf, IsSound, ReadsObjective, optimum}
 use Rattle.pm_clients_lp.proofs.AlikePlaces.{places_alike}

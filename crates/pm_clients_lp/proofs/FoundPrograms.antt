@@ -1,10 +1,10 @@
 -- What the clients over half-spaces put is right.
-use Rattle.pm_algebra.proofs.Lists.{Among, Contains_among, all_at}
-use Rattle.pm_algebra.specs.Cones.{InCone}
-use Rattle.pm_algebra.specs.Divisors.{IsPrimitive}
-use Rattle.pm_algebra.specs.Numbers.{Ratio}
-use Rattle.pm_algebra.specs.Rows.{HasCols, IsZero, Row, dot}
-use Rattle.pm_algebra.proofs.RowLaws.{dot_comm, length-opposite}
+use Rattle.pm_vector.proofs.Lists.{Among, Contains_among, all_at}
+use Rattle.pm_vector.specs.Cones.{InCone}
+use Rattle.pm_vector.specs.Divisors.{IsPrimitive}
+use Rattle.pm_vector.specs.Numbers.{Ratio}
+use Rattle.pm_vector.specs.Rows.{HasCols, IsZero, Row, dot}
+use Rattle.pm_vector.proofs.RowLaws.{dot_comm, length-opposite}
 use Rattle.pm_client.proofs.Puts.{IsPut}
 use Rattle.pm_client.proofs.ReadValues.{found}
 use Rattle.pm_client.specs.Sound.{AreRowsOf, IsSound, ReadsObjective, optimum}

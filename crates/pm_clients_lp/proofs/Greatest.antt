@@ -1,10 +1,10 @@
 -- The greatest value of an objective on a cone that rows of n entries generate is the one on each set that has the same rows of n entries.
-use Rattle.pm_algebra.proofs.ConeLaws.{in_same}
-use Rattle.pm_algebra.proofs.Lists.{all_at}
-use Rattle.pm_algebra.proofs.RowLaws.{dot-same, dot_comm}
-use Rattle.pm_algebra.specs.Cones.{InCone}
-use Rattle.pm_algebra.specs.Numbers.{Ratio}
-use Rattle.pm_algebra.specs.Rows.{HasCols, Row, Same, dot, entry}
+use Rattle.pm_vector.proofs.ConeLaws.{in_same}
+use Rattle.pm_vector.proofs.Lists.{all_at}
+use Rattle.pm_vector.proofs.RowLaws.{dot-same, dot_comm}
+use Rattle.pm_vector.specs.Cones.{InCone}
+use Rattle.pm_vector.specs.Numbers.{Ratio}
+use Rattle.pm_vector.specs.Rows.{HasCols, Row, Same, dot, entry}
 use Rattle.pm_elim.proofs.DotLaws.{dot-unit}
 use Rattle.pm_elim.specs.Evidence.{unit}
 use Rattle.pm_geom.proofs.ValidRows.{null_in}

@@ -1,5 +1,5 @@
 -- What is put in each sense: optima, rays at optima; their forms and when they are sound.
-use Rattle.pm_algebra.specs.Numbers.{Ratio}
+use Rattle.pm_vector.specs.Numbers.{Ratio}
 use Rattle.pm_client.proofs.Drafts.{put}
 use Rattle.pm_client.proofs.Puts.{IsPut, same_orders, sound_alone, sound_one, two_put}
 use Rattle.pm_client.specs.Sound.{IsSound, optimum}

@@ -1,12 +1,12 @@
 -- What answers of linear programs over half-spaces tell of a thing that these cut out.
-use Rattle.pm_algebra.proofs.Lists.{all_append, append_all}
-use Rattle.pm_algebra.proofs.RowLaws.{dot_comm}
-use Rattle.pm_algebra.specs.Cones.{InCone}
-use Rattle.pm_algebra.specs.Numbers.{Ratio}
-use Rattle.pm_algebra.specs.Rows.{HasCols, Row, dot, entry}
+use Rattle.pm_vector.proofs.Lists.{all_append, append_all}
+use Rattle.pm_vector.proofs.RowLaws.{dot_comm}
+use Rattle.pm_vector.specs.Cones.{InCone}
+use Rattle.pm_vector.specs.Numbers.{Ratio}
+use Rattle.pm_vector.specs.Rows.{HasCols, Row, dot, entry}
 use Rattle.pm_clients_lp.proofs.Greatest.{fit, fit_length, fit_same, greatest_as}
 use Rattle.pm_clients_lp.specs.Programs.{greatest_in}
-use Rattle.pm_algebra.proofs.ConeLaws.{in_same}
+use Rattle.pm_vector.proofs.ConeLaws.{in_same}
 use Rattle.pm_dd.specs.Fronts.{HalfSpaces}
 use Rattle.pm_dual.specs.Answers.{IsAnswer}
 use Rattle.pm_dual.specs.declared.answer.LpAnswer.TheVariants.{Infeasible, Optimal, Unbounded}

@@ -1,6 +1,6 @@
 -- How the clients of the family fail; the rows of duals read on a segment: what holds of them, and what does not.
-use Rattle.pm_algebra.specs.Numbers.{Ratio}
-use Rattle.pm_algebra.specs.Rows.{Row}
+use Rattle.pm_vector.specs.Numbers.{Ratio}
+use Rattle.pm_vector.specs.Rows.{Row}
 use Rattle.pm_client.specs.Examples.{without_rows}
 use Rattle.pm_client.specs.Sound.{IsWideDual}
 use Rattle.pm_client.specs.declared.ClientFail.TheVariants.{Failed, Memory}

@@ -1,6 +1,6 @@
 -- What the clients of linear programs read, and the rays that they find at a value.
-use Rattle.pm_algebra.specs.Numbers.{Ratio}
-use Rattle.pm_algebra.specs.Rows.{Row}
+use Rattle.pm_vector.specs.Numbers.{Ratio}
+use Rattle.pm_vector.specs.Rows.{Row}
 use Rattle.pm_client.specs.Sound.{AreRowsOf, ReadsObjective}
 use Rattle.pm_object.specs.Reading.{ViewSeen}
 use Rattle.pm_props.specs.declared.property.PropId.{PropId}

@@ -1,6 +1,6 @@
 // Optima over half-spaces, with a dual or without.
 
-ghost use Rattle.pm_algebra.specs.Rows.{HasCols};
+ghost use Rattle.pm_vector.specs.Rows.{HasCols};
 ghost use Rattle.pm_clients_lp.specs.Programs.{HasMultipliers, IsDualMatrixOf, IsFoundWithDual, ShowsOptimum, ShowsWeightOf, greatest_in};
 ghost use Rattle.pm_dual.specs.Answers.{IsAnswer};
 ghost use Rattle.pm_geom.specs.Programs.{Solves};

@@ -6,11 +6,11 @@ use Rattle.std.specs.Ordering.{int_cmp}
 use Rattle.std.specs.Cmp.Lexicographic.{slice_cmp}
 use Rattle.std.proofs.Common.{arith, subst}
 use Rattle.std.proofs.lemmas.List.Sorted.{All-permutation}
-use Rattle.pm_algebra.specs.Divisors.{IsPrimitive}
-use Rattle.pm_algebra.specs.Rows.{HasCols, Row}
-use Rattle.pm_algebra.proofs.Ring.{ring}
-use Rattle.pm_algebra.proofs.RowLaws.{entry-times}
-use Rattle.pm_algebra.proofs.Lists.{all_from, among_All}
+use Rattle.pm_vector.specs.Divisors.{IsPrimitive}
+use Rattle.pm_vector.specs.Rows.{HasCols, Row}
+use Rattle.pm_vector.proofs.Ring.{ring}
+use Rattle.pm_vector.proofs.RowLaws.{entry-times}
+use Rattle.pm_vector.proofs.Lists.{all_from, among_All}
 use Rattle.pm_elim.specs.NullSpaces.{IsNullBasis}
 use Rattle.pm_elim.proofs.DualLaws.{null_basis_unique}
 use Rattle.pm_geom.specs.Cones.{CutOut, IsExtreme, IsOrder, SameModulo}

@@ -4,15 +4,15 @@ use Rattle.std.proofs.Common.{ap, arith, inl, inr, refl, subst, sym, ◌∙◌}
 use Rattle.std.proofs.Math.Seq.{take-append-add}
 use Rattle.std.proofs.lemmas.Int.{ints}
 use Rattle.std.proofs.lemmas.List.{get_or-append-add, get_or-drop, length-append, length-drop, length-map, length-take-le, take-append-drop}
-use Rattle.pm_algebra.specs.Cones.{IsIndependent}
-use Rattle.pm_algebra.specs.Divisors.{IsPrimitive}
-use Rattle.pm_algebra.specs.Rows.{HasCols, Row, dot, opposite}
-use Rattle.pm_algebra.proofs.ConeLaws.{in_line}
-use Rattle.pm_algebra.proofs.Filters.{among_map}
-use Rattle.pm_algebra.proofs.Lists.{Among, Contains_among, all_append, all_at, all_from, among_All, among_Contains, among_append, among_append_left, among_append_right, append_all}
-use Rattle.pm_bases.specs.Bases.{IsRank, SameSpan, row_at}
-use Rattle.pm_bases.proofs.Rank.{rank_is_determined}
-use Rattle.pm_bases.proofs.Spans.{same_span, same_span_sym, span_from}
+use Rattle.pm_vector.specs.Cones.{IsIndependent}
+use Rattle.pm_vector.specs.Divisors.{IsPrimitive}
+use Rattle.pm_vector.specs.Rows.{HasCols, Row, dot, opposite}
+use Rattle.pm_vector.proofs.ConeLaws.{in_line}
+use Rattle.pm_vector.proofs.Filters.{among_map}
+use Rattle.pm_vector.proofs.Lists.{Among, Contains_among, all_append, all_at, all_from, among_All, among_Contains, among_append, among_append_left, among_append_right, append_all}
+use Rattle.pm_vector.specs.Bases.{IsRank, SameSpan, row_at}
+use Rattle.pm_vector.proofs.Rank.{rank_is_determined}
+use Rattle.pm_vector.proofs.Spans.{same_span, same_span_sym, span_from}
 use Rattle.pm_elim.proofs.DotLaws.{null_of_span}
 use Rattle.pm_elim.specs.NullSpaces.{IsNull, IsNullBasis}
 use Rattle.pm_geom.specs.Cones.{CutOut, InLineality, IsExtreme, IsOrder}

@@ -13,9 +13,9 @@ use Rattle.std.proofs.lemmas.Cmp.{int_ranked}
 use Rattle.std.proofs.lemmas.List.{get_or_default}
 use Rattle.std.proofs.lemmas.List.Edits.{length-swap, swapped_from_swap}
 use Rattle.std.proofs.lemmas.List.Sorted.{All-permutation, Contains-permutation, IsPermutation-keeps, ranks_by, sorted_far}
-use Rattle.pm_algebra.specs.Cones.{IsConeSet}
-use Rattle.pm_algebra.specs.Rows.{HasCols, Row, entry}
-use Rattle.pm_algebra.proofs.Lists.{Among, Any_among, Contains_among, among_Contains}
+use Rattle.pm_vector.specs.Cones.{IsConeSet}
+use Rattle.pm_vector.specs.Rows.{HasCols, Row, entry}
+use Rattle.pm_vector.proofs.Lists.{Among, Any_among, Contains_among, among_Contains}
 use Rattle.pm_geom.specs.Cones.{IsExtreme, IsOrder, SameModulo}
 use Rattle.pm_geom.specs.Faces.{ray}
 use Rattle.pm_geom.specs.Generators.{IsBefore}

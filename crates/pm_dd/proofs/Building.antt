@@ -4,14 +4,14 @@ use Rattle.std.specs.List.{All}
 use Rattle.std.proofs.Common.{arith, refl, sym, subst, ap, ◌∙◌, inl, inr}
 use Rattle.std.proofs.lemmas.Int.{ints}
 use Rattle.std.proofs.lemmas.List.{ext_get_or, get_or-append-add, get_or-drop, get_or-take, get_or_append_left, get_or_default, get_or_push, length-append, length-drop, length-take-le, length_push}
-use Rattle.pm_algebra.specs.Cones.{InSpan, IsConeSet}
-use Rattle.pm_algebra.specs.Divisors.{IsPrimitive}
-use Rattle.pm_algebra.specs.Rows.{Row, difference, dot, entry, times, HasCols, IsZero, Same}
-use Rattle.pm_algebra.proofs.Ring.{ring}
-use Rattle.pm_algebra.proofs.Signs.{mul_cancel, mul_pos}
-use Rattle.pm_algebra.proofs.Lists.{all_from, among_All}
-use Rattle.pm_algebra.proofs.RowLaws.{dot-same, dot-times, entry-difference, entry-opposite, entry-plus, entry-times, length-difference, length-times}
-use Rattle.pm_bases.specs.Bases.{IsRank, row_at}
+use Rattle.pm_vector.specs.Cones.{InSpan, IsConeSet}
+use Rattle.pm_vector.specs.Divisors.{IsPrimitive}
+use Rattle.pm_vector.specs.Rows.{Row, difference, dot, entry, times, HasCols, IsZero, Same}
+use Rattle.pm_vector.proofs.Ring.{ring}
+use Rattle.pm_vector.proofs.Signs.{mul_cancel, mul_pos}
+use Rattle.pm_vector.proofs.Lists.{all_from, among_All}
+use Rattle.pm_vector.proofs.RowLaws.{dot-same, dot-times, entry-difference, entry-opposite, entry-plus, entry-times, length-difference, length-times}
+use Rattle.pm_vector.specs.Bases.{IsRank, row_at}
 use Rattle.pm_bits.specs.Table.{Table}
 use Rattle.pm_bits.specs.Sets.{has, IsIntersection}
 use Rattle.pm_elim.specs.Duals.{IsDualBasis}

@@ -4,16 +4,16 @@ use Rattle.std.specs.Prelude.{ℕ, zero, suc, ◌+◌, ◌≡◌, ◌<◌, ◌�
 use Rattle.std.specs.List.{Contains}
 use Rattle.std.proofs.Common.{arith, sym, subst, ap, ◌∙◌, inl, inr}
 use Rattle.std.proofs.lemmas.Int.{ints, by_lt_z}
-use Rattle.pm_algebra.specs.Rows.{Row, dot, plus, times, HasCols}
-use Rattle.pm_algebra.specs.Cones.{InCone, InSpan, IsIndependent}
-use Rattle.pm_algebra.proofs.Ring.{ring}
-use Rattle.pm_algebra.proofs.Signs.{mul_nonneg, weaken}
-use Rattle.pm_algebra.proofs.Lists.{Among, here, there, all_at, all_from, among_All, among_Contains, Contains_among}
-use Rattle.pm_algebra.proofs.RowLaws.{dot-plus, dot-times, dot_comm, entry-plus, entry-times, length-plus, length-times}
-use Rattle.pm_algebra.proofs.ConeLaws.{in_generator, in_line, in_line_opposite, in_plus, in_same, in_through}
-use Rattle.pm_bases.specs.Bases.{IsRank, row_at}
-use Rattle.pm_bases.proofs.Rank.{independent_are_few}
-use Rattle.pm_bases.proofs.Spans.{same_span_refl, span_at, span_from, span_of, span_to, span_times}
+use Rattle.pm_vector.specs.Rows.{Row, dot, plus, times, HasCols}
+use Rattle.pm_vector.specs.Cones.{InCone, InSpan, IsIndependent}
+use Rattle.pm_vector.proofs.Ring.{ring}
+use Rattle.pm_vector.proofs.Signs.{mul_nonneg, weaken}
+use Rattle.pm_vector.proofs.Lists.{Among, here, there, all_at, all_from, among_All, among_Contains, Contains_among}
+use Rattle.pm_vector.proofs.RowLaws.{dot-plus, dot-times, dot_comm, entry-plus, entry-times, length-plus, length-times}
+use Rattle.pm_vector.proofs.ConeLaws.{in_generator, in_line, in_line_opposite, in_plus, in_same, in_through}
+use Rattle.pm_vector.specs.Bases.{IsRank, row_at}
+use Rattle.pm_vector.proofs.Rank.{independent_are_few}
+use Rattle.pm_vector.proofs.Spans.{same_span_refl, span_at, span_from, span_of, span_to, span_times}
 use Rattle.pm_elim.proofs.DotLaws.{dot_span_zero}
 use Rattle.pm_geom.specs.Cones.{CutOut, IsExtreme, IsOrder, Vanishes}
 use Rattle.pm_geom.specs.Faces.{ray}

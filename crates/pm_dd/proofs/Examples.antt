@@ -3,16 +3,16 @@ use Rattle.std.specs.Prelude.{ℕ, zero, suc, ◌≡◌, ◌<◌, ◌↔◌, Boo
 use Rattle.std.specs.List.{All}
 use Rattle.std.proofs.Common.{ap, arith, refl, subst, sym}
 use Rattle.std.proofs.lemmas.Int.{ints}
-use Rattle.pm_algebra.specs.Cones.{InSpan}
-use Rattle.pm_algebra.specs.Divisors.{IsPrimitive}
-use Rattle.pm_algebra.specs.Rows.{IsZero, Row, dot, entry, opposite, times}
-use Rattle.pm_algebra.proofs.ConeLaws.{dot_in, in_line, in_zero}
-use Rattle.pm_algebra.proofs.Lists.{Among, All_among, Contains_among, among_All, among_Contains, here, there}
-use Rattle.pm_algebra.proofs.Ring.{ring}
-use Rattle.pm_bases.specs.Bases.{row_at}
-use Rattle.pm_bases.specs.Examples.{pair}
-use Rattle.pm_bases.proofs.Examples.{primitive_by_one}
-use Rattle.pm_bases.proofs.Spans.{span_times}
+use Rattle.pm_vector.specs.Cones.{InSpan}
+use Rattle.pm_vector.specs.Divisors.{IsPrimitive}
+use Rattle.pm_vector.specs.Rows.{IsZero, Row, dot, entry, opposite, times}
+use Rattle.pm_vector.proofs.ConeLaws.{dot_in, in_line, in_zero}
+use Rattle.pm_vector.proofs.Lists.{Among, All_among, Contains_among, among_All, among_Contains, here, there}
+use Rattle.pm_vector.proofs.Ring.{ring}
+use Rattle.pm_vector.specs.Bases.{row_at}
+use Rattle.pm_vector.specs.BasisExamples.{pair}
+use Rattle.pm_vector.proofs.BasisExamples.{primitive_by_one}
+use Rattle.pm_vector.proofs.Spans.{span_times}
 use Rattle.pm_elim.specs.Enlarging.{MarkEnlarging}
 use Rattle.pm_geom.specs.Cones.{CutOut, InLineality, IsExtreme, IsOrder}
 use Rattle.pm_geom.specs.Faces.{ray}

@@ -2,8 +2,8 @@
 use Rattle.std.specs.Prelude.{ℕ, ◌-◌, ◌≡◌, ◌<◌, Bool, List, ◌++◌, length, take}
 use Rattle.std.proofs.Common.{arith, ◌∙◌, inl, inr}
 use Rattle.std.proofs.lemmas.Int.{ints}
-use Rattle.pm_algebra.specs.Rows.{Row, entry, HasCols}
-use Rattle.pm_bases.specs.Bases.{IsRank, row_at}
+use Rattle.pm_vector.specs.Rows.{Row, entry, HasCols}
+use Rattle.pm_vector.specs.Bases.{IsRank, row_at}
 use Rattle.pm_bits.specs.Sets.{IsSubset, common_count}
 use Rattle.pm_bits.specs.Table.{Table}
 use Rattle.pm_bits.proofs.Common.{has-met_row, length-met_row, member_count-met_row, met_row}

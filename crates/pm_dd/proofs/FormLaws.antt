@@ -1,14 +1,14 @@
 -- The form of rays is kept along the steps.
 use Rattle.std.specs.Prelude.{ℕ, suc, ◌+◌, ◌≡◌, ◌<◌, ◌≤◌, List, ◌++◌, length, take}
 use Rattle.std.specs.List.{All}
-use Rattle.pm_algebra.specs.Divisors.{IsPrimitive}
-use Rattle.pm_algebra.specs.Rows.{Row, entry}
-use Rattle.pm_algebra.proofs.Lists.{All_among, Among, among_All, here, there}
+use Rattle.pm_vector.specs.Divisors.{IsPrimitive}
+use Rattle.pm_vector.specs.Rows.{Row, entry}
+use Rattle.pm_vector.proofs.Lists.{All_among, Among, among_All, here, there}
 use Rattle.pm_geom.specs.Generators.{VanishAt}
 use Rattle.pm_dd.specs.Form.{AreReduced, KeepForm, KeepsForm}
 use Rattle.pm_elim.specs.Duals.{IsDualBasis}
 use Rattle.pm_geom.specs.Faces.{ray}
-use Rattle.pm_bases.specs.Bases.{column}
+use Rattle.pm_vector.specs.Bases.{column}
 use Rattle.pm_dd.proofs.StepLaws.{place_of}
 use Rattle.std.proofs.Common.{arith, refl, subst}
 use Rattle.std.proofs.lemmas.List.{length-append, length-take-le}

@@ -5,16 +5,16 @@ use Rattle.std.proofs.Common.{arith, refl, sym, subst, ap, ◌∙◌, inl, inr}
 use Rattle.std.proofs.lemmas.Bool.{cases_lt}
 use Rattle.std.proofs.lemmas.Int.{ints}
 use Rattle.std.proofs.lemmas.List.{get_or-drop, get_or_default, length-append, length-drop, length-take-le, take_more}
-use Rattle.pm_algebra.specs.Rows.{Row, dot, plus, times, opposite, HasCols, Same}
-use Rattle.pm_algebra.specs.Cones.{InSpan, IsIndependent}
-use Rattle.pm_algebra.proofs.Ring.{ring}
-use Rattle.pm_algebra.proofs.Signs.{mul_pos}
-use Rattle.pm_algebra.proofs.Lists.{Among, here, there, all_append, all_at, all_from, among_All, among_append, among_append_left, among_append_right, among_Contains, append_all, Contains_among}
-use Rattle.pm_algebra.proofs.RowLaws.{dot-plus, dot-times, dot_comm, dot-same, length-opposite}
-use Rattle.pm_algebra.proofs.ConeLaws.{in_line}
-use Rattle.pm_bases.specs.Bases.{IsRank, SameSpan, row_at}
-use Rattle.pm_bases.proofs.Rank.{independent_are_few}
-use Rattle.pm_bases.proofs.Spans.{same_span, same_span_sym, same_span_trans, span_from, span_of}
+use Rattle.pm_vector.specs.Rows.{Row, dot, plus, times, opposite, HasCols, Same}
+use Rattle.pm_vector.specs.Cones.{InSpan, IsIndependent}
+use Rattle.pm_vector.proofs.Ring.{ring}
+use Rattle.pm_vector.proofs.Signs.{mul_pos}
+use Rattle.pm_vector.proofs.Lists.{Among, here, there, all_append, all_at, all_from, among_All, among_append, among_append_left, among_append_right, among_Contains, append_all, Contains_among}
+use Rattle.pm_vector.proofs.RowLaws.{dot-plus, dot-times, dot_comm, dot-same, length-opposite}
+use Rattle.pm_vector.proofs.ConeLaws.{in_line}
+use Rattle.pm_vector.specs.Bases.{IsRank, SameSpan, row_at}
+use Rattle.pm_vector.proofs.Rank.{independent_are_few}
+use Rattle.pm_vector.proofs.Spans.{same_span, same_span_sym, same_span_trans, span_from, span_of}
 use Rattle.pm_elim.specs.NullSpaces.{IsNull}
 use Rattle.pm_elim.proofs.DotLaws.{dot_span_zero}
 use Rattle.pm_geom.specs.Cones.{CutOut, InLineality, IsExtreme, IsOrder, MultipleModulo, SameModulo}

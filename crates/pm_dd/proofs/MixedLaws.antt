@@ -6,10 +6,10 @@ use Rattle.std.proofs.Common.{arith, inl, inr, refl, subst, sym, ◌∙◌}
 use Rattle.std.proofs.lemmas.Bool.{cases_lt}
 use Rattle.std.proofs.lemmas.List.{length_push}
 use Rattle.std.proofs.lemmas.List.Sorted.{Contains-permutation, IsPermutation-sym}
-use Rattle.pm_algebra.specs.Rows.{HasCols, Row, opposite}
-use Rattle.pm_algebra.proofs.Lists.{Among, Contains_among, all_from, among_Contains, among_append, among_append_left, among_append_right, here, there}
-use Rattle.pm_algebra.proofs.RowLaws.{length-opposite}
-use Rattle.pm_bases.specs.Bases.{row_at}
+use Rattle.pm_vector.specs.Rows.{HasCols, Row, opposite}
+use Rattle.pm_vector.proofs.Lists.{Among, Contains_among, all_from, among_Contains, among_append, among_append_left, among_append_right, here, there}
+use Rattle.pm_vector.proofs.RowLaws.{length-opposite}
+use Rattle.pm_vector.specs.Bases.{row_at}
 use Rattle.pm_geom.specs.Cones.{CutOut, InLineality}
 use Rattle.pm_geom.specs.Generators.{AreGenerators}
 use Rattle.pm_geom.proofs.Facets.{order_as}

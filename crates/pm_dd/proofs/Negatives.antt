@@ -3,8 +3,8 @@ use Rattle.std.specs.Prelude.{ℕ, ◌+◌, ◌≡◌, ◌<◌, ◌≤◌, Bool,
 use Rattle.std.proofs.Common.{arith, sym, subst, ap, ◌∙◌, inl, inr}
 use Rattle.std.proofs.lemmas.Bool.{cases_lt}
 use Rattle.std.proofs.lemmas.List.{drop_all, drop_more}
-use Rattle.pm_algebra.specs.Rows.{Row, entry}
-use Rattle.pm_bases.specs.Bases.{row_at}
+use Rattle.pm_vector.specs.Rows.{Row, entry}
+use Rattle.pm_vector.specs.Bases.{row_at}
 use Rattle.pm_dd.specs.Description.{Source, kept, pair, IsSource}
 use Rattle.pm_dd.specs.Building.{AreNegativesLeft, AreProducts, IsBuilt, IsMade, IsNextNegative, SeenPairs}
 use Rattle.pm_dd.proofs.Building.{built_same, pairs_more, pairs_row, pairs_skip}

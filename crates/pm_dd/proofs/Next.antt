@@ -3,13 +3,13 @@ use Rattle.std.specs.Prelude.{ℕ, ◌<◌, List, [], ◌∷◌, length, get_or}
 use Rattle.std.proofs.Common.{arith, subst}
 use Rattle.std.proofs.lemmas.Int.{ints}
 use Rattle.std.proofs.lemmas.List.{get_or_default}
-use Rattle.pm_algebra.specs.Rows.{Row, opposite}
+use Rattle.pm_vector.specs.Rows.{Row, opposite}
 use Rattle.pm_geom.specs.Cones.{CutOut, SameModulo, IsExtreme}
 use Rattle.pm_geom.specs.Faces.{ray}
 use Rattle.pm_dd.specs.Description.{kept, source_row, IsRayStep, NextIsOrder}
-use Rattle.pm_algebra.proofs.Ring.{ring}
-use Rattle.pm_algebra.proofs.Signs.{weaken}
-use Rattle.pm_algebra.proofs.RowLaws.{entry-plus, entry-times, entry-opposite}
+use Rattle.pm_vector.proofs.Ring.{ring}
+use Rattle.pm_vector.proofs.Signs.{weaken}
+use Rattle.pm_vector.proofs.RowLaws.{entry-plus, entry-times, entry-opposite}
 use Rattle.pm_geom.proofs.Polar.{cols_at}
 use Rattle.pm_dd.proofs.AlikeLaws.{alike_sym, alike_trans}
 use Rattle.pm_dd.proofs.Description.{cut_cone_set}
@@ -44,7 +44,7 @@ next_is_order n A a hA la flat V oV W ss nx = record {
     step : IsRayStep n (CutOut (a ∷ A)) A a V
     step = step_is_complete n A a hA la flat V oV
 
-    cs : Rattle.pm_algebra.specs.Cones.IsConeSet (CutOut (a ∷ A))
+    cs : Rattle.pm_vector.specs.Cones.IsConeSet (CutOut (a ∷ A))
     cs = cut_cone_set (a ∷ A)
 
     row_extreme : (k : ℕ) → k < length W → IsExtreme n (CutOut (a ∷ A)) (ray W k)

@@ -5,15 +5,15 @@ use Rattle.std.proofs.Common.{arith, refl, sym, subst, ap, ◌∙◌, inl, inr}
 use Rattle.std.proofs.lemmas.Bool.{cases_lt}
 use Rattle.std.proofs.lemmas.Int.{ints}
 use Rattle.std.proofs.lemmas.List.{append_assoc, get_or-drop, get_or-take, get_or_default, length-append}
-use Rattle.pm_algebra.specs.Rows.{Row, entry, HasCols}
-use Rattle.pm_algebra.specs.Cones.{InSpan, IsIndependent, combination}
-use Rattle.pm_algebra.proofs.Ring.{ring}
-use Rattle.pm_algebra.proofs.Lists.{Among, here, there, all_append, all_from, among_append, among_append_left, among_append_right, among_Contains}
-use Rattle.pm_algebra.proofs.RowLaws.{entry-plus, entry-times}
-use Rattle.pm_algebra.proofs.ConeLaws.{combination_none, in_line}
-use Rattle.pm_bases.specs.Bases.{IsRank, SameSpan, row_at}
-use Rattle.pm_bases.proofs.Rank.{rank_is_determined}
-use Rattle.pm_bases.proofs.Spans.{same_span, same_span_refl, same_span_sym, same_span_trans, span_of}
+use Rattle.pm_vector.specs.Rows.{Row, entry, HasCols}
+use Rattle.pm_vector.specs.Cones.{InSpan, IsIndependent, combination}
+use Rattle.pm_vector.proofs.Ring.{ring}
+use Rattle.pm_vector.proofs.Lists.{Among, here, there, all_append, all_from, among_append, among_append_left, among_append_right, among_Contains}
+use Rattle.pm_vector.proofs.RowLaws.{entry-plus, entry-times}
+use Rattle.pm_vector.proofs.ConeLaws.{combination_none, in_line}
+use Rattle.pm_vector.specs.Bases.{IsRank, SameSpan, row_at}
+use Rattle.pm_vector.proofs.Rank.{rank_is_determined}
+use Rattle.pm_vector.proofs.Spans.{same_span, same_span_refl, same_span_sym, same_span_trans, span_of}
 use Rattle.pm_bits.specs.Sets.{has}
 use Rattle.pm_elim.specs.Enlarging.{MarkEnlarging}
 use Rattle.pm_geom.specs.Cones.{CutOut, SameModulo}

@@ -1,8 +1,8 @@
 -- The refusal of a pair is one of the step.
 use Rattle.std.specs.Prelude.{ℕ, ◌<◌, List, length}
 use Rattle.std.proofs.Common.{arith, refl, sym, subst}
-use Rattle.pm_algebra.specs.Rows.{Row, entry}
-use Rattle.pm_bases.specs.Bases.{row_at}
+use Rattle.pm_vector.specs.Rows.{Row, entry}
+use Rattle.pm_vector.specs.Bases.{row_at}
 use Rattle.pm_bits.specs.Table.{Table}
 use Rattle.pm_dd.specs.Building.{AreProducts}
 use Rattle.pm_dd.specs.StepFails.{IsPairFailOf, IsStepFail, IsWideSource, IsWideTablePair}

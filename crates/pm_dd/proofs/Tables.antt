@@ -5,13 +5,13 @@ use Rattle.std.proofs.Common.{arith, refl, sym, subst, ◌∙◌, inl, inr}
 use Rattle.std.proofs.lemmas.Bool.{and_parts, and_from, cases_lt}
 use Rattle.std.proofs.lemmas.List.{get_or-take, get_or_past, length-append, length-take-le, length-map}
 use Rattle.std.proofs.lemmas.List.Sums.{length-filter}
-use Rattle.pm_algebra.specs.Rows.{Row, dot, HasCols}
-use Rattle.pm_algebra.specs.Cones.{InSpan}
-use Rattle.pm_algebra.proofs.Ring.{ring}
-use Rattle.pm_algebra.proofs.Lists.{Among, here, there, all_append, all_from, among_append, among_append_left, among_append_right, among_Contains, Contains_among}
-use Rattle.pm_algebra.proofs.ConeLaws.{in_line, in_line_opposite}
-use Rattle.pm_bases.specs.Bases.{IsRank, SameSpan, row_at}
-use Rattle.pm_bases.proofs.Spans.{same_span, same_span_trans}
+use Rattle.pm_vector.specs.Rows.{Row, dot, HasCols}
+use Rattle.pm_vector.specs.Cones.{InSpan}
+use Rattle.pm_vector.proofs.Ring.{ring}
+use Rattle.pm_vector.proofs.Lists.{Among, here, there, all_append, all_from, among_append, among_append_left, among_append_right, among_Contains, Contains_among}
+use Rattle.pm_vector.proofs.ConeLaws.{in_line, in_line_opposite}
+use Rattle.pm_vector.specs.Bases.{IsRank, SameSpan, row_at}
+use Rattle.pm_vector.proofs.Spans.{same_span, same_span_trans}
 use Rattle.pm_bits.specs.Sets.{has, IsIntersection, IsSubset, member_count}
 use Rattle.pm_bits.specs.Table.{Table, OtherContains}
 use Rattle.pm_geom.specs.Cones.{CutOut, IsOrder}

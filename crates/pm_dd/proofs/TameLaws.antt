@@ -7,12 +7,12 @@ use Rattle.std.proofs.lemmas.Nat.{mul-lt, pow_pos}
 use Rattle.std.proofs.Math.Nat.{mul-suc}
 use Rattle.std.proofs.Math.Seq.{take-length}
 use Rattle.std.proofs.lemmas.List.{get_or-take, get_or_past}
-use Rattle.pm_algebra.specs.Divisors.{IsPrimitiveOf}
-use Rattle.pm_algebra.specs.Rows.{HasCols, Row, dot, entry, opposite}
-use Rattle.pm_algebra.proofs.Lists.{Among, among_All, among_append}
-use Rattle.pm_algebra.proofs.Ring.{ring}
-use Rattle.pm_algebra.proofs.RowLaws.{entry-opposite, entry-times}
-use Rattle.pm_bases.specs.Bases.{row_at}
+use Rattle.pm_vector.specs.Divisors.{IsPrimitiveOf}
+use Rattle.pm_vector.specs.Rows.{HasCols, Row, dot, entry, opposite}
+use Rattle.pm_vector.proofs.Lists.{Among, among_All, among_append}
+use Rattle.pm_vector.proofs.Ring.{ring}
+use Rattle.pm_vector.proofs.RowLaws.{entry-opposite, entry-times}
+use Rattle.pm_vector.specs.Bases.{row_at}
 use Rattle.pm_elim.specs.EliminationSteps.{EliminationStep}
 use Rattle.pm_elim.specs.Evidence.{IsEvidence, IsWideStep}
 use Rattle.pm_elim.specs.Steps.{IsFactors, IsPivotRow, ReducedBy, StepIsWide}
@@ -104,7 +104,7 @@ pivot_small r c x h p = elim p.primitive [ inl a ↦ primitive_small r x h a | i
 -- ---- no elimination leaves the range
 no_wide_step : (m : ℕ) (X : List Row) (e : EliminationStep) → EliminationIsSmall m X → ¬ (IsWideStep m X e)
 no_wide_step m X e s w = elim w.step [
-  | inl next ↦ never_wide e.part (row_at e.basis e.by) (Rattle.pm_bases.specs.Bases.column w.pivots e.by) e.column
+  | inl next ↦ never_wide e.part (row_at e.basis e.by) (Rattle.pm_vector.specs.Bases.column w.pivots e.by) e.column
       (s.part e.front e.basis w.pivots w.within w.basis e.by (let l = next.within in omega arith) e.part next.reduced)
       (s.basis e.front e.basis w.pivots w.basis e.by next.within) next.wide
   | inr older ↦

@@ -1,13 +1,13 @@
 -- Zero rows, and what no rows span.
 use Rattle.std.specs.Prelude.{ℕ, ◌≡◌, []}
 use Rattle.std.proofs.Common.{arith, refl, ◌∙◌}
-use Rattle.pm_algebra.specs.Cones.{InSpan}
-use Rattle.pm_algebra.specs.Rows.{IsZero, Row, dot, times}
-use Rattle.pm_algebra.proofs.ConeLaws.{combination_none}
-use Rattle.pm_algebra.proofs.Ring.{ring}
-use Rattle.pm_algebra.proofs.RowLaws.{dot-same, dot-times, entry-plus, entry-times}
-use Rattle.pm_algebra.proofs.Signs.{mul_cancel}
-use Rattle.pm_bases.specs.Bases.{IsEchelonBasis}
+use Rattle.pm_vector.specs.Cones.{InSpan}
+use Rattle.pm_vector.specs.Rows.{IsZero, Row, dot, times}
+use Rattle.pm_vector.proofs.ConeLaws.{combination_none}
+use Rattle.pm_vector.proofs.Ring.{ring}
+use Rattle.pm_vector.proofs.RowLaws.{dot-same, dot-times, entry-plus, entry-times}
+use Rattle.pm_vector.proofs.Signs.{mul_cancel}
+use Rattle.pm_vector.specs.Bases.{IsEchelonBasis}
 use lib.IntN.{pos}
 
 pub dot_zero : (b x : Row) → IsZero x → dot b x ≡ pos 0

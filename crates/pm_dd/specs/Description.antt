@@ -2,9 +2,9 @@
 use Rattle.std.specs.Prelude.{ℕ, ◌≡◌, ◌<◌, ◌⊎◌, ◌↔◌, List, ◌∷◌, length, get_or}
 use Rattle.std.specs.List.{Contains}
 use Rattle.pm_geom.specs.Faces.{ray}
-use Rattle.pm_algebra.specs.Rows.{Row, dot, plus, times, HasCols, opposite}
+use Rattle.pm_vector.specs.Rows.{Row, dot, plus, times, HasCols, opposite}
 use Rattle.pm_geom.specs.Cones.{CutOut, InLineality, SameModulo, IsExtreme, IsOrder}
-use Rattle.pm_algebra.specs.Cones.{InCone}
+use Rattle.pm_vector.specs.Cones.{InCone}
 use lib.IntN.{pos, neg_ℤ}
 use lib.Signed.{◌<ℤ◌, ◌≤ℤ◌}
 

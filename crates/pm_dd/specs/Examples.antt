@@ -1,7 +1,7 @@
 -- The definitions read on the quadrant x >= 0, y >= 0 and on small lists: what holds of them, and what does not.
 use Rattle.std.specs.Prelude.{[], ◌∷◌, List}
-use Rattle.pm_algebra.specs.Rows.{Row}
-use Rattle.pm_bases.specs.Examples.{pair}
+use Rattle.pm_vector.specs.Rows.{Row}
+use Rattle.pm_vector.specs.BasisExamples.{pair}
 use Rattle.pm_geom.specs.Cones.{CutOut}
 use Rattle.pm_geom.specs.Generators.{AreGenerators, IsBefore}
 use Rattle.pm_geom.specs.StatedOrder.{IsStatedOrder}

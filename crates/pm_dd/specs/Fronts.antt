@@ -1,8 +1,8 @@
 -- Fronts of a list of rows, and equations that lead.
 use Rattle.std.specs.Prelude.{ℕ, suc, ◌≡◌, ◌<◌, ◌≤◌, ◌↔◌, List, [], ◌∷◌, ◌++◌, length, take, drop}
-use Rattle.pm_algebra.specs.Rows.{Row, opposite, HasCols}
-use Rattle.pm_algebra.specs.Cones.{InSpan, IsIndependent}
-use Rattle.pm_bases.specs.Bases.{IsRank, SameSpan, row_at}
+use Rattle.pm_vector.specs.Rows.{Row, opposite, HasCols}
+use Rattle.pm_vector.specs.Cones.{InSpan, IsIndependent}
+use Rattle.pm_vector.specs.Bases.{IsRank, SameSpan, row_at}
 use Rattle.pm_elim.specs.NullSpaces.{IsNull}
 use Rattle.pm_geom.specs.Cones.{CutOut, IsOrder}
 use Rattle.pm_dd.specs.Description.{IsRayStep, IsNext, IsDual, Source}

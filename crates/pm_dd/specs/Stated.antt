@@ -1,8 +1,8 @@
 -- The laws of the stated order, and of adjacency without a list of rays.
 use Rattle.std.specs.Prelude.{ℕ, ◌<◌, None, Some, List, length, take}
-use Rattle.pm_algebra.specs.Rows.{Row, HasCols}
-use Rattle.pm_algebra.specs.Cones.{IsIndependent}
-use Rattle.pm_bases.specs.Bases.{IsRank, SameSpan, row_at}
+use Rattle.pm_vector.specs.Rows.{Row, HasCols}
+use Rattle.pm_vector.specs.Cones.{IsIndependent}
+use Rattle.pm_vector.specs.Bases.{IsRank, SameSpan, row_at}
 use Rattle.pm_geom.specs.Cones.{CutOut, IsOrder}
 use Rattle.pm_geom.specs.Faces.{ray}
 use Rattle.pm_dd.specs.Description.{Adjacent}

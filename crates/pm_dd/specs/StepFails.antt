@@ -1,8 +1,8 @@
 -- What the refusal of one step shows.
 use Rattle.std.specs.Prelude.{ℕ, suc, ◌≡◌, ◌<◌, Bool, List, length, take}
 use Rattle.std.specs.List.{All, AllPairs}
-use Rattle.pm_algebra.specs.Rows.{Row, entry}
-use Rattle.pm_bases.specs.Bases.{row_at}
+use Rattle.pm_vector.specs.Rows.{Row, entry}
+use Rattle.pm_vector.specs.Bases.{row_at}
 use Rattle.pm_bits.specs.Sets.{IsIntersection}
 use Rattle.pm_bits.specs.Table.{Table, OtherContains}
 use Rattle.pm_elim.specs.Steps.{IsFactors}

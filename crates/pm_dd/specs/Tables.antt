@@ -1,8 +1,8 @@
 -- The rays of a front, with their zero sets as rows of bits.
 use Rattle.std.specs.Prelude.{ℕ, suc, ◌+◌, ◌≡◌, ◌<◌, ◌≤◌, ◌↔◌, Bool, IsTrue, List, [], ◌++◌, length, take}
 use Rattle.std.specs.List.{slice_index_or}
-use Rattle.pm_algebra.specs.Rows.{Row, dot, HasCols}
-use Rattle.pm_bases.specs.Bases.{IsRank, row_at}
+use Rattle.pm_vector.specs.Rows.{Row, dot, HasCols}
+use Rattle.pm_vector.specs.Bases.{IsRank, row_at}
 use Rattle.pm_bits.specs.Sets.{has, IsIntersection, IsSubset, member_count}
 use Rattle.pm_bits.specs.Table.{Table, OtherContains}
 use Rattle.pm_geom.specs.Cones.{IsOrder}

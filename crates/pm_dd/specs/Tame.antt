@@ -1,8 +1,8 @@
 -- Tame rows: those on which double description never leaves the range.
 use Rattle.std.specs.Prelude.{ℕ, ◌<◌, ◌≤◌, ◌^◌, Bool, true, List, length, take, unsigned_abs}
 use Rattle.std.specs.List.{All, AllPairs}
-use Rattle.pm_algebra.specs.Rows.{Row, entry}
-use Rattle.pm_bases.specs.Bases.{row_at}
+use Rattle.pm_vector.specs.Rows.{Row, entry}
+use Rattle.pm_vector.specs.Bases.{row_at}
 use Rattle.pm_elim.specs.Enlarging.{MarkEnlarging}
 use Rattle.pm_elim.specs.Evidence.{IsBasisOf, Lists}
 use Rattle.pm_elim.specs.Steps.{ReducedBy}

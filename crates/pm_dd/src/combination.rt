@@ -1,6 +1,6 @@
 // The combination of two rays that vanishes on the next row.
 
-ghost use Rattle.pm_algebra.specs.Numbers.{InRange};
+ghost use Rattle.pm_vector.specs.Numbers.{InRange};
 ghost use Rattle.pm_dd.specs.Building.{IsCombination};
 ghost use Rattle.pm_dd.specs.StepFails.{IfColumn, IsWideFactors};
 ghost use Rattle.std.specs.Prelude.{IfErr, IfOk, length, pos, ◌<ℤ◌, ◌≡◌};

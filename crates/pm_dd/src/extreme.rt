@@ -1,6 +1,6 @@
 // The extreme rays of the cone that rows cut out.
 
-ghost use Rattle.pm_algebra.specs.Rows.{HasCols};
+ghost use Rattle.pm_vector.specs.Rows.{HasCols};
 ghost use Rattle.pm_dd.specs.Refusals.{IsEliminationFail, IsMemory, IsShown};
 ghost use Rattle.pm_dd.specs.Tame.{AreTame};
 ghost use Rattle.pm_elim.specs.NullSpaces.{IsNullBasis};

@@ -1,7 +1,7 @@
 // The start: the dual rows of the first rows, which are independent.
 
-ghost use Rattle.pm_algebra.specs.Cones.{IsIndependent};
-ghost use Rattle.pm_algebra.specs.Rows.{HasCols};
+ghost use Rattle.pm_vector.specs.Cones.{IsIndependent};
+ghost use Rattle.pm_vector.specs.Rows.{HasCols};
 ghost use Rattle.pm_dd.specs.Building.{AllBut};
 ghost use Rattle.pm_dd.specs.Form.{AreReduced};
 ghost use Rattle.pm_dd.specs.Refusals.{IsShownOnRows};

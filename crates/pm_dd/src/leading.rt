@@ -1,7 +1,7 @@
 // Equations that lead a list: rows with their opposites after them.
 
-ghost use Rattle.pm_algebra.specs.Rows.{opposite};
-ghost use Rattle.pm_bases.specs.Bases.{row_at};
+ghost use Rattle.pm_vector.specs.Rows.{opposite};
+ghost use Rattle.pm_vector.specs.Bases.{row_at};
 ghost use Rattle.pm_dd.specs.Arrangement.{Leads};
 ghost use Rattle.std.specs.Prelude.{IfOk, IsTrue, length, ◌*◌, ◌+◌, ◌<◌, ◌≡◌, ◌≤◌, ℕ};
 

@@ -7,7 +7,7 @@ ghost use Rattle.pm_dd.specs.Fronts.{DdStep, DualWithEquations, NextWithEquation
 ghost use Rattle.pm_dd.specs.Stated.{AdjacentInAll, StatedOrderSpans, StepFailShows};
 ghost use Rattle.pm_dd.specs.Filters.{AdjacentNeedRank, FewHaveThird};
 ghost use Rattle.pm_dd.specs.Tables.{CountFilter, NearFilter, ScanIsRight, ZeroSetOfPair, ZeroSetsGrow};
-ghost use Rattle.pm_algebra.specs.Rows.{Row};
+ghost use Rattle.pm_vector.specs.Rows.{Row};
 ghost use Rattle.std.specs.Prelude.{List, ℕ};
 
 mod combination;

@@ -1,6 +1,6 @@
 // The rays that may be adjacent to one of the other sign: those with enough rows in common with the union of the zero sets there.
 
-ghost use Rattle.pm_algebra.specs.Rows.{entry};
+ghost use Rattle.pm_vector.specs.Rows.{entry};
 ghost use Rattle.pm_bits.specs.Sets.{IsSubset};
 ghost use Rattle.pm_dd.specs.Building.{AreNegativesLeft, IsPassed};
 ghost use Rattle.pm_dd.specs.Tables.{zero_set};

@@ -1,6 +1,6 @@
 // In which order the rows are taken.
 
-ghost use Rattle.pm_algebra.specs.Rows.{HasCols};
+ghost use Rattle.pm_vector.specs.Rows.{HasCols};
 ghost use Rattle.pm_dd.specs.Arrangement.{IsArrangement};
 ghost use Rattle.pm_dd.specs.Refusals.{IsShown};
 ghost use Rattle.pm_geom.specs.StatedOrder.{rows_marked};

@@ -1,9 +1,9 @@
 // The combinations of adjacent pairs of rays.
 
-ghost use Rattle.pm_algebra.specs.Cones.{InSpan};
-ghost use Rattle.pm_algebra.specs.Numbers.{InRange};
-ghost use Rattle.pm_algebra.specs.Rows.{HasCols, entry};
-ghost use Rattle.pm_bases.specs.Bases.{IsRank, row_at};
+ghost use Rattle.pm_vector.specs.Cones.{InSpan};
+ghost use Rattle.pm_vector.specs.Numbers.{InRange};
+ghost use Rattle.pm_vector.specs.Rows.{HasCols, entry};
+ghost use Rattle.pm_vector.specs.Bases.{IsRank, row_at};
 ghost use Rattle.pm_dd.specs.Building.{AreProducts, IsBuilt, IsNoPair, IsPairRay, SeenKept};
 ghost use Rattle.pm_dd.specs.Form.{KeepForm};
 ghost use Rattle.pm_dd.specs.StepFails.{IsPairFailOf, IsStepFail};

@@ -1,12 +1,12 @@
 // All steps, and what a refusal of one shows.
 
-ghost use Rattle.pm_algebra.specs.Rows.{HasCols};
+ghost use Rattle.pm_vector.specs.Rows.{HasCols};
 ghost use Rattle.pm_dd.specs.Form.{AreReduced};
 ghost use Rattle.pm_dd.specs.Fronts.{HalfSpaces};
 ghost use Rattle.pm_dd.specs.Refusals.{IsShownOnRows};
 ghost use Rattle.pm_dd.specs.StepFails.{IsStepFail};
 ghost use Rattle.pm_dd.specs.Tables.{IsRayTable};
-ghost use Rattle.pm_bases.specs.Bases.{IsRank, SameSpan};
+ghost use Rattle.pm_vector.specs.Bases.{IsRank, SameSpan};
 ghost use Rattle.pm_geom.specs.Cones.{IsOrder};
 ghost use Rattle.std.specs.Prelude.{IfErr, IfOk, length, take, ◌*◌, ◌++◌, ◌+◌, ◌<◌, ◌^◌, ◌≡◌, ◌≤◌};
 

@@ -1,8 +1,8 @@
 // One step of double description: the rays of a front with one row more.
 
-ghost use Rattle.pm_algebra.specs.Cones.{InSpan};
-ghost use Rattle.pm_algebra.specs.Rows.{HasCols};
-ghost use Rattle.pm_bases.specs.Bases.{IsRank, row_at};
+ghost use Rattle.pm_vector.specs.Cones.{InSpan};
+ghost use Rattle.pm_vector.specs.Rows.{HasCols};
+ghost use Rattle.pm_vector.specs.Bases.{IsRank, row_at};
 ghost use Rattle.pm_dd.specs.Building.{AreProducts, IsBuilt, NextZeros, SeenKept};
 ghost use Rattle.pm_dd.specs.Form.{KeepForm};
 ghost use Rattle.pm_dd.specs.StepFails.{IfProduct, IsStepFail};

@@ -1,9 +1,9 @@
 -- No program is such in two ways: a greatest value, no bound and no point exclude one another.
-use Rattle.pm_algebra.proofs.Ring.{ring}
-use Rattle.pm_algebra.proofs.RowLaws.{dot-plus, dot-times, entry-plus, entry-times}
-use Rattle.pm_algebra.proofs.Signs.{mul_le, mul_nonneg, mul_pos}
-use Rattle.pm_algebra.specs.Numbers.{Ratio}
-use Rattle.pm_algebra.specs.Rows.{Row, dot, entry, plus, times}
+use Rattle.pm_vector.proofs.Ring.{ring}
+use Rattle.pm_vector.proofs.RowLaws.{dot-plus, dot-times, entry-plus, entry-times}
+use Rattle.pm_vector.proofs.Signs.{mul_le, mul_nonneg, mul_pos}
+use Rattle.pm_vector.specs.Numbers.{Ratio}
+use Rattle.pm_vector.specs.Rows.{Row, dot, entry, plus, times}
 use Rattle.pm_dual.specs.Answers.{IsAnswer}
 use Rattle.pm_dual.specs.Exact.{AnswersAreExact, HasMaximum, IsExact}
 use Rattle.pm_dual.specs.declared.answer.LpAnswer.TheVariants.{Infeasible, Optimal, Unbounded}

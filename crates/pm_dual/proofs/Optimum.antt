@@ -1,10 +1,10 @@
 -- Why the checks show the definitions.
-use Rattle.pm_algebra.proofs.Ring.{ring}
-use Rattle.pm_algebra.proofs.RowLaws.{entry-plus, entry-times, length-times}
-use Rattle.pm_algebra.proofs.Signs.{mul_cancel, mul_nonneg, mul_pos, nonneg_cancel}
-use Rattle.pm_algebra.specs.Cones.{combination}
-use Rattle.pm_algebra.specs.Numbers.{Ratio}
-use Rattle.pm_algebra.specs.Rows.{Row, Same, dot, entry, plus, ratio_at, times}
+use Rattle.pm_vector.proofs.Ring.{ring}
+use Rattle.pm_vector.proofs.RowLaws.{entry-plus, entry-times, length-times}
+use Rattle.pm_vector.proofs.Signs.{mul_cancel, mul_nonneg, mul_pos, nonneg_cancel}
+use Rattle.pm_vector.specs.Cones.{combination}
+use Rattle.pm_vector.specs.Numbers.{Ratio}
+use Rattle.pm_vector.specs.Rows.{Row, Same, dot, entry, plus, ratio_at, times}
 use Rattle.pm_dual.specs.Quotients.{AreQuotients}
 use Rattle.pm_fraction.specs.Fractions.{IsLowestTermsOf, ratio_of}
 use Rattle.pm_geom.specs.Programs.{IsInfeasible, IsOptimal, IsTimes, IsUnbounded, Solves}

@@ -1,10 +1,10 @@
 -- Lists of rows, place by place.
-use Rattle.pm_algebra.proofs.Ring.{ring}
-use Rattle.pm_algebra.proofs.RowLaws.{entry-difference, entry-plus, entry-times}
-use Rattle.pm_algebra.specs.Cones.{combination}
-use Rattle.pm_algebra.specs.Numbers.{Ratio}
-use Rattle.pm_algebra.specs.Rows.{Row, Same, difference, entry, plus, ratio_at, times}
-use Rattle.pm_bases.specs.Bases.{row_at}
+use Rattle.pm_vector.proofs.Ring.{ring}
+use Rattle.pm_vector.proofs.RowLaws.{entry-difference, entry-plus, entry-times}
+use Rattle.pm_vector.specs.Cones.{combination}
+use Rattle.pm_vector.specs.Numbers.{Ratio}
+use Rattle.pm_vector.specs.Rows.{Row, Same, difference, entry, plus, ratio_at, times}
+use Rattle.pm_vector.specs.Bases.{row_at}
 use Rattle.pm_fraction.specs.Fractions.{IsLowestTermsOf, ratio_of}
 use Rattle.std.proofs.Common.{ap, arith, below_more, refl, subst, sym, take, drop, ◌∙◌}
 use Rattle.std.proofs.lemmas.Int.{ints, to_z-of_z}

@@ -1,6 +1,6 @@
 -- What the answers of a linear program are right for.
-use Rattle.pm_algebra.specs.Numbers.{Ratio}
-use Rattle.pm_algebra.specs.Rows.{Row}
+use Rattle.pm_vector.specs.Numbers.{Ratio}
+use Rattle.pm_vector.specs.Rows.{Row}
 use Rattle.pm_dual.specs.declared.answer.LpAnswer.TheVariants.{Infeasible, Optimal, Unbounded}
 use Rattle.pm_dual.specs.declared.answer.LpAnswer.{LpAnswer}
 use Rattle.pm_geom.specs.Programs.{IsInfeasible, IsOptimal, IsTimes, IsUnbounded}

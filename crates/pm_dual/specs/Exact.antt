@@ -1,6 +1,6 @@
 -- What an answer of a linear program says of all of its points: each answer is given exactly where the program is such (Chvatal, Linear Programming, chapter 5).
-use Rattle.pm_algebra.specs.Numbers.{Ratio}
-use Rattle.pm_algebra.specs.Rows.{Row}
+use Rattle.pm_vector.specs.Numbers.{Ratio}
+use Rattle.pm_vector.specs.Rows.{Row}
 use Rattle.pm_dual.specs.Answers.{IsAnswer}
 use Rattle.pm_dual.specs.declared.answer.LpAnswer.TheVariants.{Infeasible, Optimal, Unbounded}
 use Rattle.pm_dual.specs.declared.answer.LpAnswer.{LpAnswer}

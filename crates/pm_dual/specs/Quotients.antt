@@ -1,6 +1,6 @@
 -- Whole rows divided by one number.
-use Rattle.pm_algebra.specs.Numbers.{Ratio}
-use Rattle.pm_algebra.specs.Rows.{Row, entry, ratio_at}
+use Rattle.pm_vector.specs.Numbers.{Ratio}
+use Rattle.pm_vector.specs.Rows.{Row, entry, ratio_at}
 use Rattle.pm_fraction.specs.Fractions.{IsLowestTermsOf, ratio_of}
 use Rattle.std.specs.Prelude.{List, length, ℕ, ◌<◌, ◌≡◌}
 use lib.IntN.{ℤ}

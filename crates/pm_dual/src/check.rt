@@ -1,8 +1,8 @@
 // The three answers, checked by exact products.
 
-ghost use Rattle.pm_algebra.specs.Cones.{combination};
-ghost use Rattle.pm_algebra.specs.Numbers.{Ratio};
-ghost use Rattle.pm_algebra.specs.Rows.{HasCols, Same, entry, plus, times as times_of};
+ghost use Rattle.pm_vector.specs.Cones.{combination};
+ghost use Rattle.pm_vector.specs.Numbers.{Ratio};
+ghost use Rattle.pm_vector.specs.Rows.{HasCols, Same, entry, plus, times as times_of};
 ghost use Rattle.pm_dual.specs.Answers.{IsAnswer, IsAnswerOfTimes};
 ghost use Rattle.std.specs.Prelude.{IfOk, IfSome, IsTrue, List, [], length, pos, ◌+◌, ◌++◌, ◌<◌, ◌<ℤ◌, ◌∷◌, ◌≡◌, ◌≤ℤ◌, ℕ};
 

@@ -1,6 +1,6 @@
 // The answer that a search finds, where exact products show it.
 
-ghost use Rattle.pm_algebra.specs.Rows.{HasCols};
+ghost use Rattle.pm_vector.specs.Rows.{HasCols};
 ghost use Rattle.pm_dual.specs.Answers.{IsAnswer};
 ghost use Rattle.std.specs.Prelude.{IfOk, IfSome, length, ◌<◌};
 

@@ -1,7 +1,7 @@
 // Exact products and sums of rows.
 
-ghost use Rattle.pm_algebra.specs.Cones.{combination};
-ghost use Rattle.pm_algebra.specs.Rows.{HasCols, Same, dot as dot_of, plus, times};
+ghost use Rattle.pm_vector.specs.Cones.{combination};
+ghost use Rattle.pm_vector.specs.Rows.{HasCols, Same, dot as dot_of, plus, times};
 ghost use Rattle.pm_geom.specs.Programs.{Solves};
 ghost use Rattle.std.specs.List.{AllByRecursion};
 ghost use Rattle.std.specs.Prelude.{IsTrue, length, pos, ◌≡◌, ◌≤ℤ◌};

@@ -1,7 +1,7 @@
 // Rows of fractions as whole rows, and back.
 
-ghost use Rattle.pm_algebra.specs.Numbers.{InRange};
-ghost use Rattle.pm_algebra.specs.Rows.{entry, ratio_at};
+ghost use Rattle.pm_vector.specs.Numbers.{InRange};
+ghost use Rattle.pm_vector.specs.Rows.{entry, ratio_at};
 ghost use Rattle.pm_dual.specs.Quotients.{AreQuotients};
 ghost use Rattle.pm_geom.specs.Programs.{IsTimes};
 ghost use Rattle.std.specs.Prelude.{All, IfOk, IfSome, length, pos, ◌*ℤ◌, ◌<ℤ◌, ◌≡◌};

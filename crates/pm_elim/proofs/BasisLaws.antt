@@ -1,9 +1,9 @@
 -- The echelon basis of the first rows, and that no step so far left the range.
-use Rattle.pm_algebra.specs.Rows.{HasCols, Row}
-use Rattle.pm_algebra.proofs.Lists.{all_at}
-use Rattle.pm_bases.proofs.Spans.{at_place, same_span_refl, same_span_sym, same_span_trans}
-use Rattle.pm_bases.proofs.Unique.{echelon_is_unique}
-use Rattle.pm_bases.specs.Bases.{IsEchelonBasis, SameSpan, row_at}
+use Rattle.pm_vector.specs.Rows.{HasCols, Row}
+use Rattle.pm_vector.proofs.Lists.{all_at}
+use Rattle.pm_vector.proofs.Spans.{at_place, same_span_refl, same_span_sym, same_span_trans}
+use Rattle.pm_vector.proofs.Unique.{echelon_is_unique}
+use Rattle.pm_vector.specs.Bases.{IsEchelonBasis, SameSpan, row_at}
 use Rattle.pm_elim.proofs.RoundLaws.{span_with_row}
 use Rattle.pm_elim.specs.Bases.{IsSomeEchelonBasis}
 use Rattle.pm_elim.specs.Evidence.{IfWide, IsBasisOf, IsWideRound, IsWideStep}

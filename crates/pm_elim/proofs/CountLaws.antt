@@ -1,10 +1,10 @@
 -- Rank and nullity: how many rows the echelon basis of a null space has.
-use Rattle.pm_algebra.specs.Cones.{InSpan, IsIndependent}
-use Rattle.pm_algebra.specs.Rows.{Row}
-use Rattle.pm_bases.proofs.Columns.{basis_is_independent, column_found}
-use Rattle.pm_bases.proofs.Rank.{independent_are_few}
-use Rattle.pm_bases.proofs.Spans.{span_at, span_from, span_to}
-use Rattle.pm_bases.specs.Bases.{IsEchelonBasis, column, row_at}
+use Rattle.pm_vector.specs.Cones.{InSpan, IsIndependent}
+use Rattle.pm_vector.specs.Rows.{Row}
+use Rattle.pm_vector.proofs.Columns.{basis_is_independent, column_found}
+use Rattle.pm_vector.proofs.Rank.{independent_are_few}
+use Rattle.pm_vector.proofs.Spans.{span_at, span_from, span_to}
+use Rattle.pm_vector.specs.Bases.{IsEchelonBasis, column, row_at}
 use Rattle.pm_elim.proofs.ExtendedLaws.{combination_last, first_entry}
 use Rattle.pm_elim.proofs.InTurn.{pivot_below}
 use Rattle.pm_elim.proofs.PrefixLaws.{pivot_at_least}

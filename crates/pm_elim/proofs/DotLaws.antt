@@ -1,13 +1,13 @@
 -- Products with combinations, columns and unit rows.
-use Rattle.pm_algebra.proofs.ConeLaws.{combination_none, dot_combination_lines}
-use Rattle.pm_algebra.proofs.Lists.{Among, all_at, all_from}
-use Rattle.pm_algebra.proofs.Ring.{ring}
-use Rattle.pm_algebra.proofs.RowLaws.{dot-nil, dot-same, dot-times, dot_comm, entry-plus, entry-times}
-use Rattle.pm_algebra.proofs.Signs.{mul_cancel}
-use Rattle.pm_algebra.specs.Cones.{InSpan, combination}
-use Rattle.pm_algebra.specs.Rows.{Row, dot, entry, times}
-use Rattle.pm_bases.specs.Bases.{SameSpan, row_at}
-use Rattle.pm_bases.proofs.Spans.{span_at, span_to, place_of}
+use Rattle.pm_vector.proofs.ConeLaws.{combination_none, dot_combination_lines}
+use Rattle.pm_vector.proofs.Lists.{Among, all_at, all_from}
+use Rattle.pm_vector.proofs.Ring.{ring}
+use Rattle.pm_vector.proofs.RowLaws.{dot-nil, dot-same, dot-times, dot_comm, entry-plus, entry-times}
+use Rattle.pm_vector.proofs.Signs.{mul_cancel}
+use Rattle.pm_vector.specs.Cones.{InSpan, combination}
+use Rattle.pm_vector.specs.Rows.{Row, dot, entry, times}
+use Rattle.pm_vector.specs.Bases.{SameSpan, row_at}
+use Rattle.pm_vector.proofs.Spans.{span_at, span_to, place_of}
 use Rattle.pm_elim.specs.Evidence.{column_of, unit}
 use Rattle.pm_elim.specs.NullSpaces.{IsNull}
 use Rattle.std.proofs.Common.{arith, refl, replicate, subst, sym, ◌∙◌}

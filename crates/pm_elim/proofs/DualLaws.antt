@@ -1,18 +1,18 @@
 -- Dual rows: where they are found, and that there is one for each place.
-use Rattle.pm_algebra.proofs.ConeLaws.{dot_combination_lines, in_line}
-use Rattle.pm_algebra.proofs.Lists.{Among, all_at, all_from}
-use Rattle.pm_algebra.proofs.Ring.{neg_one_mul, ring}
-use Rattle.pm_algebra.proofs.RowLaws.{dot-difference, dot-nil, dot-plus, dot-same, dot-times, dot_comm, entry-difference, entry-opposite, entry-times, length-difference, length-opposite, row_equal}
-use Rattle.pm_algebra.proofs.Signs.{mul_cancel}
-use Rattle.pm_algebra.specs.Cones.{InSpan, IsIndependent, combination}
-use Rattle.pm_algebra.specs.Divisors.{IsPrimitive}
-use Rattle.pm_algebra.specs.Rows.{Row, difference, dot, entry, opposite}
-use Rattle.pm_algebra.proofs.Primitive.{primitive_unique}
-use Rattle.pm_bases.proofs.Columns.{coefficient, column_found, row_cols, zero_at_columns}
-use Rattle.pm_bases.proofs.Unique.{echelon_is_unique}
-use Rattle.pm_bases.proofs.Rank.{independent_are_few}
-use Rattle.pm_bases.proofs.Spans.{at_place, place_of, same_span, span_at, span_from}
-use Rattle.pm_bases.specs.Bases.{column, row_at}
+use Rattle.pm_vector.proofs.ConeLaws.{dot_combination_lines, in_line}
+use Rattle.pm_vector.proofs.Lists.{Among, all_at, all_from}
+use Rattle.pm_vector.proofs.Ring.{neg_one_mul, ring}
+use Rattle.pm_vector.proofs.RowLaws.{dot-difference, dot-nil, dot-plus, dot-same, dot-times, dot_comm, entry-difference, entry-opposite, entry-times, length-difference, length-opposite, row_equal}
+use Rattle.pm_vector.proofs.Signs.{mul_cancel}
+use Rattle.pm_vector.specs.Cones.{InSpan, IsIndependent, combination}
+use Rattle.pm_vector.specs.Divisors.{IsPrimitive}
+use Rattle.pm_vector.specs.Rows.{Row, difference, dot, entry, opposite}
+use Rattle.pm_vector.proofs.PrimitiveLaws.{primitive_unique}
+use Rattle.pm_vector.proofs.Columns.{coefficient, column_found, row_cols, zero_at_columns}
+use Rattle.pm_vector.proofs.Unique.{echelon_is_unique}
+use Rattle.pm_vector.proofs.Rank.{independent_are_few}
+use Rattle.pm_vector.proofs.Spans.{at_place, place_of, same_span, span_at, span_from}
+use Rattle.pm_vector.specs.Bases.{column, row_at}
 use Rattle.pm_elim.proofs.CountLaws.{at_most}
 use Rattle.pm_elim.specs.Duals.{DualBasisIsUnique, IsDualBasis, IsDualRow}
 use Rattle.pm_elim.specs.Evidence.{IsBasisOf}

@@ -1,9 +1,9 @@
 -- The mark of the next row.
-use Rattle.pm_algebra.specs.Cones.{InSpan}
-use Rattle.pm_algebra.specs.Rows.{Row}
-use Rattle.pm_bases.proofs.Rank.{basis_gives_rank, rank_is_determined}
-use Rattle.pm_bases.proofs.Spans.{same_span_appended, same_span_sym, same_span_trans, span_from, span_to}
-use Rattle.pm_bases.specs.Bases.{IsEchelonBasis, SameSpan, row_at}
+use Rattle.pm_vector.specs.Cones.{InSpan}
+use Rattle.pm_vector.specs.Rows.{Row}
+use Rattle.pm_vector.proofs.Rank.{basis_gives_rank, rank_is_determined}
+use Rattle.pm_vector.proofs.Spans.{same_span_appended, same_span_sym, same_span_trans, span_from, span_to}
+use Rattle.pm_vector.specs.Bases.{IsEchelonBasis, SameSpan, row_at}
 use Rattle.pm_elim.specs.Evidence.{IsBasisOf}
 use Rattle.std.proofs.Common.{ap, arith, inl, inr, subst, sym, ◌∙◌}
 use Rattle.std.proofs.lemmas.Bool.{cases_lt}

@@ -1,5 +1,5 @@
 -- Evidence is a step of the elimination of the list that it names.
-use Rattle.pm_algebra.specs.Rows.{Row}
+use Rattle.pm_vector.specs.Rows.{Row}
 use Rattle.pm_elim.proofs.BasisLaws.{basis_unique}
 use Rattle.pm_elim.specs.Evidence.{IfWide, IsBasisOf, IsEvidence, IsExtendedListOf, IsWideStep, Lists, NoEvidence}
 use Rattle.pm_elim.specs.ExtendedLists.{IsWideOnExtended}

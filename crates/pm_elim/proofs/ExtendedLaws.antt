@@ -1,12 +1,12 @@
 -- The span of the extended list of a basis: the rows whose first entries are the products of the basis rows with the others.
-use Rattle.pm_algebra.proofs.ConeLaws.{combination_none}
-use Rattle.pm_algebra.proofs.Lists.{all_from}
-use Rattle.pm_algebra.proofs.RowLaws.{dot-nil, dot-same, dot-times, dot_comm, entry-plus, entry-times}
-use Rattle.pm_algebra.proofs.Signs.{mul_cancel}
-use Rattle.pm_algebra.specs.Cones.{InSpan, combination}
-use Rattle.pm_algebra.specs.Rows.{HasCols, Row, dot, entry, times}
-use Rattle.pm_bases.proofs.Spans.{place_of}
-use Rattle.pm_bases.specs.Bases.{row_at}
+use Rattle.pm_vector.proofs.ConeLaws.{combination_none}
+use Rattle.pm_vector.proofs.Lists.{all_from}
+use Rattle.pm_vector.proofs.RowLaws.{dot-nil, dot-same, dot-times, dot_comm, entry-plus, entry-times}
+use Rattle.pm_vector.proofs.Signs.{mul_cancel}
+use Rattle.pm_vector.specs.Cones.{InSpan, combination}
+use Rattle.pm_vector.specs.Rows.{HasCols, Row, dot, entry, times}
+use Rattle.pm_vector.proofs.Spans.{place_of}
+use Rattle.pm_vector.specs.Bases.{row_at}
 use Rattle.pm_elim.proofs.BasisLaws.{row_length}
 use Rattle.pm_elim.proofs.DotLaws.{dot-unit, dot_same_within, entry-column, entry-combination}
 use Rattle.pm_elim.specs.Evidence.{IsExtended, column_of, unit}

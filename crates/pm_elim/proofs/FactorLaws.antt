@@ -1,6 +1,6 @@
 -- Two numbers divided by their greatest common divisor.
-use Rattle.pm_algebra.proofs.Divisors.{quotient_is}
-use Rattle.pm_algebra.specs.Numbers.{InRange}
+use Rattle.pm_vector.proofs.DivisorLaws.{quotient_is}
+use Rattle.pm_vector.specs.Numbers.{InRange}
 use Rattle.pm_elim.specs.Steps.{IsFactors}
 use Rattle.std.proofs.Common.{arith, ◌<◌, ◌^◌}
 use Rattle.std.proofs.lemmas.Int.{ints}

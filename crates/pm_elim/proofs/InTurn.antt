@@ -1,7 +1,7 @@
 -- A row, reduced by the first rows of a basis.
-use Rattle.pm_algebra.specs.Rows.{Row, entry}
-use Rattle.pm_bases.proofs.Columns.{row_cols}
-use Rattle.pm_bases.specs.Bases.{IsReducedBasis, column, row_at}
+use Rattle.pm_vector.specs.Rows.{Row, entry}
+use Rattle.pm_vector.proofs.Columns.{row_cols}
+use Rattle.pm_vector.specs.Bases.{IsReducedBasis, column, row_at}
 use Rattle.pm_elim.proofs.ReductionLaws.{reduced_more, reduced_unique}
 use Rattle.pm_elim.specs.Steps.{IsReducedOnce, ReducedBy, StepStays}
 use Rattle.std.proofs.Common.{add-one, arith, inl, inr, refl, ◌∙◌}

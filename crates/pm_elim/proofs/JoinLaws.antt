@@ -1,16 +1,16 @@
 -- A new row joins an echelon basis, whose rows are first reduced by it.
-use Rattle.pm_algebra.proofs.ConeLaws.{in_line, in_plus, in_same}
-use Rattle.pm_algebra.proofs.Lists.{Among, all_from, among_append, among_append_left, among_append_right, here, there}
-use Rattle.pm_algebra.proofs.Ring.{ring}
-use Rattle.pm_algebra.proofs.RowLaws.{entry-difference, entry-plus, entry-times}
-use Rattle.pm_algebra.proofs.Signs.{pos_cancel, mul_pos}
-use Rattle.pm_algebra.specs.Cones.{InSpan}
-use Rattle.pm_algebra.specs.Divisors.{IsPrimitive, IsPrimitiveOf}
-use Rattle.pm_algebra.specs.Rows.{Row, entry}
-use Rattle.pm_bases.proofs.Columns.{row_cols}
-use Rattle.pm_bases.proofs.Insert.{inserted}
-use Rattle.pm_bases.proofs.Spans.{at_place, place_of, same_span, span_difference, span_divide, span_times}
-use Rattle.pm_bases.specs.Bases.{IsEchelonBasis, SameSpan, column, row_at}
+use Rattle.pm_vector.proofs.ConeLaws.{in_line, in_plus, in_same}
+use Rattle.pm_vector.proofs.Lists.{Among, all_from, among_append, among_append_left, among_append_right, here, there}
+use Rattle.pm_vector.proofs.Ring.{ring}
+use Rattle.pm_vector.proofs.RowLaws.{entry-difference, entry-plus, entry-times}
+use Rattle.pm_vector.proofs.Signs.{pos_cancel, mul_pos}
+use Rattle.pm_vector.specs.Cones.{InSpan}
+use Rattle.pm_vector.specs.Divisors.{IsPrimitive, IsPrimitiveOf}
+use Rattle.pm_vector.specs.Rows.{Row, entry}
+use Rattle.pm_vector.proofs.Columns.{row_cols}
+use Rattle.pm_vector.proofs.Insert.{inserted}
+use Rattle.pm_vector.proofs.Spans.{at_place, place_of, same_span, span_difference, span_divide, span_times}
+use Rattle.pm_vector.specs.Bases.{IsEchelonBasis, SameSpan, column, row_at}
 use Rattle.pm_elim.proofs.ReductionLaws.{once_keeps_zero, once_length, once_zero}
 use Rattle.pm_elim.proofs.StepLaws.{p_positive as factor_positive, step_entry, step_multiple}
 use Rattle.pm_elim.specs.Rounds.{AllReducedOnce, IsNewRow}

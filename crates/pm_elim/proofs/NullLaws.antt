@@ -1,14 +1,14 @@
 -- The tails of the echelon basis of the extended list are the echelon basis of the null space.
-use Rattle.pm_algebra.proofs.ConeLaws.{combination_none}
-use Rattle.pm_algebra.proofs.Lists.{all_at, all_from}
-use Rattle.pm_algebra.proofs.Ring.{ring}
-use Rattle.pm_algebra.proofs.RowLaws.{dot-same, entry-plus, entry-times}
-use Rattle.pm_algebra.proofs.Signs.{mul_cancel}
-use Rattle.pm_algebra.specs.Cones.{InSpan, combination}
-use Rattle.pm_algebra.specs.Rows.{HasCols, Row, dot, entry}
-use Rattle.pm_bases.proofs.Columns.{coefficient, combination_at}
-use Rattle.pm_bases.proofs.Spans.{at_place, place_of, same_span_sym, span_at, span_from, span_to}
-use Rattle.pm_bases.specs.Bases.{SameSpan, column, row_at}
+use Rattle.pm_vector.proofs.ConeLaws.{combination_none}
+use Rattle.pm_vector.proofs.Lists.{all_at, all_from}
+use Rattle.pm_vector.proofs.Ring.{ring}
+use Rattle.pm_vector.proofs.RowLaws.{dot-same, entry-plus, entry-times}
+use Rattle.pm_vector.proofs.Signs.{mul_cancel}
+use Rattle.pm_vector.specs.Cones.{InSpan, combination}
+use Rattle.pm_vector.specs.Rows.{HasCols, Row, dot, entry}
+use Rattle.pm_vector.proofs.Columns.{coefficient, combination_at}
+use Rattle.pm_vector.proofs.Spans.{at_place, place_of, same_span_sym, span_at, span_from, span_to}
+use Rattle.pm_vector.specs.Bases.{SameSpan, column, row_at}
 use Rattle.pm_elim.proofs.DotLaws.{dot_span_zero, null_of_span}
 use Rattle.pm_elim.proofs.ExtendedLaws.{products_of_span, span_of_products}
 use Rattle.pm_elim.proofs.TailLaws.{combination_drop, combination_tails, drop-padded, late, padded, padded_first, padded_last, padded_length, tail_basis, tail_row}

@@ -1,6 +1,6 @@
 -- The first rows of a basis, reduced by a new row.
-use Rattle.pm_algebra.specs.Rows.{Row}
-use Rattle.pm_bases.specs.Bases.{row_at}
+use Rattle.pm_vector.specs.Rows.{Row}
+use Rattle.pm_vector.specs.Bases.{row_at}
 use Rattle.pm_elim.specs.Rounds.{AllReducedOnce}
 use Rattle.pm_elim.specs.Steps.{IsReducedOnce, StepStays}
 use Rattle.std.proofs.Common.{arith, below_more, get_or, refl, set, ◌≢◌, ◌∙◌}

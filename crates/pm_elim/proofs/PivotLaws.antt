@@ -1,10 +1,10 @@
 -- The pivot row: it is determined, and what it keeps of its row.
-use Rattle.pm_algebra.proofs.Divisors.{primitive_row_unique}
-use Rattle.pm_algebra.proofs.Ring.{ring}
-use Rattle.pm_algebra.proofs.RowLaws.{entry-opposite, entry-times, length-opposite}
-use Rattle.pm_algebra.proofs.Signs.{mul_cancel, mul_pos, pos_cancel}
-use Rattle.pm_algebra.specs.Divisors.{IsPrimitive, IsPrimitiveOf}
-use Rattle.pm_algebra.specs.Rows.{Row, Same, entry, opposite, times}
+use Rattle.pm_vector.proofs.DivisorLaws.{primitive_row_unique}
+use Rattle.pm_vector.proofs.Ring.{ring}
+use Rattle.pm_vector.proofs.RowLaws.{entry-opposite, entry-times, length-opposite}
+use Rattle.pm_vector.proofs.Signs.{mul_cancel, mul_pos, pos_cancel}
+use Rattle.pm_vector.specs.Divisors.{IsPrimitive, IsPrimitiveOf}
+use Rattle.pm_vector.specs.Rows.{Row, Same, entry, opposite, times}
 use Rattle.pm_elim.proofs.StepLaws.{Multiple, primitive_multiple}
 use Rattle.pm_elim.specs.Steps.{IsPivotRow}
 use Rattle.std.proofs.Common.{Bool, IsTrue, T, arith, false, inl, inr, refl, subst, sym, true, ◌∙◌}

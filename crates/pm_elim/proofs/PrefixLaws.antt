@@ -1,9 +1,9 @@
 -- The first rows of an echelon basis are one, and no step is left among them.
-use Rattle.pm_algebra.proofs.Lists.{all_from}
-use Rattle.pm_algebra.specs.Rows.{Row, entry}
-use Rattle.pm_bases.proofs.Columns.{row_cols}
-use Rattle.pm_bases.proofs.Spans.{place_of, same_span_refl}
-use Rattle.pm_bases.specs.Bases.{IsEchelonBasis, column, row_at}
+use Rattle.pm_vector.proofs.Lists.{all_from}
+use Rattle.pm_vector.specs.Rows.{Row, entry}
+use Rattle.pm_vector.proofs.Columns.{row_cols}
+use Rattle.pm_vector.proofs.Spans.{place_of, same_span_refl}
+use Rattle.pm_vector.specs.Bases.{IsEchelonBasis, column, row_at}
 use Rattle.pm_elim.proofs.BasisLaws.{basis_unique}
 use Rattle.pm_elim.proofs.EvidenceLaws.{evidence_on_rows, step_on_rows}
 use Rattle.pm_elim.proofs.InTurn.{pivot_below}

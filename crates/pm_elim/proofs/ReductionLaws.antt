@@ -1,13 +1,13 @@
 -- The reduction of a row by the rows of a basis, in turn: it is determined, and what it does to the row.
-use Rattle.pm_algebra.proofs.ConeLaws.{in_line, in_plus, in_same, in_zero}
-use Rattle.pm_algebra.proofs.Lists.{Among, here, there}
-use Rattle.pm_algebra.proofs.Ring.{ring}
-use Rattle.pm_algebra.proofs.RowLaws.{entry-difference, entry-plus, entry-times}
-use Rattle.pm_algebra.proofs.Signs.{mul_pos, times_both}
-use Rattle.pm_algebra.specs.Cones.{InSpan}
-use Rattle.pm_algebra.specs.Rows.{HasCols, Row, entry}
-use Rattle.pm_bases.proofs.Spans.{span_times}
-use Rattle.pm_bases.specs.Bases.{column, row_at}
+use Rattle.pm_vector.proofs.ConeLaws.{in_line, in_plus, in_same, in_zero}
+use Rattle.pm_vector.proofs.Lists.{Among, here, there}
+use Rattle.pm_vector.proofs.Ring.{ring}
+use Rattle.pm_vector.proofs.RowLaws.{entry-difference, entry-plus, entry-times}
+use Rattle.pm_vector.proofs.Signs.{mul_pos, times_both}
+use Rattle.pm_vector.specs.Cones.{InSpan}
+use Rattle.pm_vector.specs.Rows.{HasCols, Row, entry}
+use Rattle.pm_vector.proofs.Spans.{span_times}
+use Rattle.pm_vector.specs.Bases.{column, row_at}
 use Rattle.pm_elim.proofs.StepLaws.{p_positive as factor_positive, reduced_once_unique, step_entry, step_keeps_zero, step_length, step_multiple, step_zero}
 use Rattle.pm_elim.specs.Steps.{IsReducedOnce, IsStep, ReducedBy, SameDirectionModulo}
 use Rattle.std.proofs.Common.{arith, inl, inr, refl, subst, sym, ◌∙◌}

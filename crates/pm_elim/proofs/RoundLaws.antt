@@ -1,12 +1,12 @@
 -- One round of an elimination.
-use Rattle.pm_algebra.proofs.ConeLaws.{in_same, in_zero}
-use Rattle.pm_algebra.proofs.Ring.{ring}
-use Rattle.pm_algebra.proofs.RowLaws.{entry-difference, entry-times}
-use Rattle.pm_algebra.specs.Cones.{InSpan}
-use Rattle.pm_algebra.specs.Rows.{IsZero, Row, entry}
-use Rattle.pm_bases.proofs.Rank.{mul_not_zero}
-use Rattle.pm_bases.proofs.Spans.{same_span_appended, same_span_extended, same_span_refl, span_divide}
-use Rattle.pm_bases.specs.Bases.{IsEchelonBasis, SameSpan, column}
+use Rattle.pm_vector.proofs.ConeLaws.{in_same, in_zero}
+use Rattle.pm_vector.proofs.Ring.{ring}
+use Rattle.pm_vector.proofs.RowLaws.{entry-difference, entry-times}
+use Rattle.pm_vector.specs.Cones.{InSpan}
+use Rattle.pm_vector.specs.Rows.{IsZero, Row, entry}
+use Rattle.pm_vector.proofs.Rank.{mul_not_zero}
+use Rattle.pm_vector.proofs.Spans.{same_span_appended, same_span_extended, same_span_refl, span_divide}
+use Rattle.pm_vector.specs.Bases.{IsEchelonBasis, SameSpan, column}
 use Rattle.pm_elim.proofs.PivotLaws.{Proportional, pivot_column_unique, pivot_keeps_zero, pivot_length, pivot_primitive, pivot_proportional, pivot_row_unique}
 use Rattle.pm_elim.proofs.ReductionLaws.{reduced_length, reduced_modulo, reduced_unique, reduced_zero}
 use Rattle.pm_elim.specs.Evidence.{IsWideOnNext, IsWideRound}

@@ -1,10 +1,10 @@
 -- One elimination step: it is determined, and what it does to a row.
-use Rattle.pm_algebra.proofs.Divisors.{primitive_row_unique}
-use Rattle.pm_algebra.proofs.Ring.{ring}
-use Rattle.pm_algebra.proofs.RowLaws.{entry-difference, entry-times, length-difference}
-use Rattle.pm_algebra.proofs.Signs.{mul_cancel, pos_cancel}
-use Rattle.pm_algebra.specs.Divisors.{IsPrimitiveOf}
-use Rattle.pm_algebra.specs.Rows.{Row, Same, difference, entry, times}
+use Rattle.pm_vector.proofs.DivisorLaws.{primitive_row_unique}
+use Rattle.pm_vector.proofs.Ring.{ring}
+use Rattle.pm_vector.proofs.RowLaws.{entry-difference, entry-times, length-difference}
+use Rattle.pm_vector.proofs.Signs.{mul_cancel, pos_cancel}
+use Rattle.pm_vector.specs.Divisors.{IsPrimitiveOf}
+use Rattle.pm_vector.specs.Rows.{Row, Same, difference, entry, times}
 use Rattle.pm_elim.specs.Steps.{IsFactors, IsReducedOnce, IsStep, StepStays}
 use Rattle.pm_vector.specs.Differences.{DifferenceStays}
 use Rattle.std.proofs.Common.{ap, arith, inl, inr, refl, sym, ◌∙◌}

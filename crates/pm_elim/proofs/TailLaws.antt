@@ -1,14 +1,14 @@
 -- The rows of an echelon basis with pivots from a column on, without their entries before it.
-use Rattle.pm_algebra.proofs.ConeLaws.{combination_none}
-use Rattle.pm_algebra.proofs.Lists.{all_from}
-use Rattle.pm_algebra.proofs.Ring.{ring}
-use Rattle.pm_algebra.proofs.RowLaws.{entry-plus, entry-times}
-use Rattle.pm_algebra.specs.Cones.{combination}
-use Rattle.pm_algebra.specs.Divisors.{IsPrimitive}
-use Rattle.pm_algebra.specs.Rows.{Row, entry}
-use Rattle.pm_bases.proofs.Columns.{coefficient, row_cols}
-use Rattle.pm_bases.proofs.Spans.{place_of}
-use Rattle.pm_bases.specs.Bases.{IsEchelonBasis, column, row_at}
+use Rattle.pm_vector.proofs.ConeLaws.{combination_none}
+use Rattle.pm_vector.proofs.Lists.{all_from}
+use Rattle.pm_vector.proofs.Ring.{ring}
+use Rattle.pm_vector.proofs.RowLaws.{entry-plus, entry-times}
+use Rattle.pm_vector.specs.Cones.{combination}
+use Rattle.pm_vector.specs.Divisors.{IsPrimitive}
+use Rattle.pm_vector.specs.Rows.{Row, entry}
+use Rattle.pm_vector.proofs.Columns.{coefficient, row_cols}
+use Rattle.pm_vector.proofs.Spans.{place_of}
+use Rattle.pm_vector.specs.Bases.{IsEchelonBasis, column, row_at}
 use Rattle.pm_elim.specs.ExtendedLists.{tail_columns, tails}
 use Rattle.std.proofs.Common.{ap, arith, inl, inr, refl, replicate, subst, sym, ◌∙◌}
 use Rattle.std.proofs.lemmas.Bool.{cases_lt}

@@ -1,6 +1,6 @@
 -- Echelon bases, as values.
-use Rattle.pm_algebra.specs.Rows.{Row}
-use Rattle.pm_bases.specs.Bases.{IsEchelonBasis}
+use Rattle.pm_vector.specs.Rows.{Row}
+use Rattle.pm_vector.specs.Bases.{IsEchelonBasis}
 use Rattle.std.specs.Prelude.{List, ℕ}
 
 -- the rows of a basis and their pivot columns

@@ -1,7 +1,7 @@
 -- Dual rows.
-use Rattle.pm_algebra.specs.Divisors.{IsPrimitive}
-use Rattle.pm_algebra.specs.Rows.{Row, dot, entry}
-use Rattle.pm_bases.specs.Bases.{column, row_at}
+use Rattle.pm_vector.specs.Divisors.{IsPrimitive}
+use Rattle.pm_vector.specs.Rows.{Row, dot, entry}
+use Rattle.pm_vector.specs.Bases.{column, row_at}
 use Rattle.pm_elim.specs.NullSpaces.{IsNullBasis}
 use Rattle.pm_elim.specs.declared.evidence.DualFail.{DualFail}
 use Rattle.pm_elim.specs.declared.evidence.DualFail.TheVariants.{Dependent, Memory, Wide}

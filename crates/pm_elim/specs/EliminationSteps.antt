@@ -1,5 +1,5 @@
 -- One step of an elimination, as evidence names it.
-use Rattle.pm_algebra.specs.Rows.{Row}
+use Rattle.pm_vector.specs.Rows.{Row}
 use Rattle.pm_elim.specs.declared.evidence.ElimList.{ElimList}
 use Rattle.std.specs.Prelude.{List, ℕ}
 

@@ -1,6 +1,6 @@
-use Rattle.pm_algebra.specs.Cones.{InSpan}
-use Rattle.pm_algebra.specs.Rows.{Row}
-use Rattle.pm_bases.specs.Bases.{row_at}
+use Rattle.pm_vector.specs.Cones.{InSpan}
+use Rattle.pm_vector.specs.Rows.{Row}
+use Rattle.pm_vector.specs.Bases.{row_at}
 use Rattle.std.specs.Prelude.{Bool, IsTrue, List, false, length, slice_index_or, take, ℕ, ◌<◌, ◌≡◌, ◌↔◌}
 
 -- one mark for each row of X, true where the row is not in the span of those before it

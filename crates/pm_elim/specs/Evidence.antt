@@ -1,6 +1,6 @@
 -- Evidence that the elimination of a list of rows leaves the range: one step of it, which anyone can check.
-use Rattle.pm_algebra.specs.Rows.{Row, entry}
-use Rattle.pm_bases.specs.Bases.{IsEchelonBasis, SameSpan, column, row_at}
+use Rattle.pm_vector.specs.Rows.{Row, entry}
+use Rattle.pm_vector.specs.Bases.{IsEchelonBasis, SameSpan, column, row_at}
 use Rattle.pm_elim.specs.Rounds.{IsWideOnSome}
 use Rattle.pm_elim.specs.Steps.{IsPivotRow, ReducedBy, StepIsWide}
 use Rattle.pm_elim.specs.EliminationSteps.{EliminationStep}

@@ -1,6 +1,6 @@
 -- How a null space is found: in the echelon basis of the extended list of a basis B.
-use Rattle.pm_algebra.specs.Rows.{Row}
-use Rattle.pm_bases.specs.Bases.{column}
+use Rattle.pm_vector.specs.Rows.{Row}
+use Rattle.pm_vector.specs.Bases.{column}
 use Rattle.pm_elim.specs.Evidence.{IsBasisOf, IsExtended, IsWideStep}
 use Rattle.pm_elim.specs.EliminationSteps.{EliminationStep}
 use Rattle.std.specs.Prelude.{List, drop, length, map, ℕ, ◌+◌, ◌-◌, ◌<◌, ◌≡◌, ◌≤◌}

@@ -1,7 +1,7 @@
 -- Null spaces.
-use Rattle.pm_algebra.specs.Cones.{InSpan}
-use Rattle.pm_algebra.specs.Rows.{Row, dot}
-use Rattle.pm_bases.specs.Bases.{IsEchelonBasis}
+use Rattle.pm_vector.specs.Cones.{InSpan}
+use Rattle.pm_vector.specs.Rows.{Row, dot}
+use Rattle.pm_vector.specs.Bases.{IsEchelonBasis}
 use Rattle.std.specs.List.{AllByRecursion}
 use Rattle.std.specs.Prelude.{List, length, ℕ, ◌↔◌, ◌≡◌}
 use lib.IntN.{pos}

@@ -1,7 +1,7 @@
 -- One round of an elimination: a further row joins the basis.
-use Rattle.pm_algebra.specs.Divisors.{IsPrimitive}
-use Rattle.pm_algebra.specs.Rows.{Row, entry}
-use Rattle.pm_bases.specs.Bases.{column, row_at}
+use Rattle.pm_vector.specs.Divisors.{IsPrimitive}
+use Rattle.pm_vector.specs.Rows.{Row, entry}
+use Rattle.pm_vector.specs.Bases.{column, row_at}
 use Rattle.pm_elim.specs.Steps.{IsReducedOnce, StepIsWide, StepStays}
 use Rattle.std.specs.Prelude.{List, length, ℕ, ◌<◌, ◌≡◌}
 use lib.IntN.{pos}

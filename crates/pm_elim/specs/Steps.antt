@@ -1,8 +1,8 @@
 -- Elimination of whole rows, step by step.
-use Rattle.pm_algebra.specs.Cones.{InSpan}
-use Rattle.pm_algebra.specs.Divisors.{IsPrimitiveOf}
-use Rattle.pm_algebra.specs.Rows.{Row, difference, entry, opposite}
-use Rattle.pm_bases.specs.Bases.{column, row_at}
+use Rattle.pm_vector.specs.Cones.{InSpan}
+use Rattle.pm_vector.specs.Divisors.{IsPrimitiveOf}
+use Rattle.pm_vector.specs.Rows.{Row, difference, entry, opposite}
+use Rattle.pm_vector.specs.Bases.{column, row_at}
 use Rattle.pm_vector.specs.Differences.{EntryStays}
 use Rattle.std.specs.Int.{IsGcd}
 use Rattle.std.specs.Prelude.{List, [], length, take, unsigned_abs, ℕ, ◌<◌, ◌∷◌, ◌≡◌, ◌⊎◌}

@@ -1,8 +1,8 @@
 // Dual rows.
 
-ghost use Rattle.pm_algebra.specs.Cones.{IsIndependent};
-ghost use Rattle.pm_algebra.specs.Rows.{HasCols, dot, opposite};
-ghost use Rattle.pm_bases.specs.Bases.{column};
+ghost use Rattle.pm_vector.specs.Cones.{IsIndependent};
+ghost use Rattle.pm_vector.specs.Rows.{HasCols, dot, opposite};
+ghost use Rattle.pm_vector.specs.Bases.{column};
 ghost use Rattle.pm_elim.specs.Duals.{DualBasisIsUnique, IfDependent, IfDualWide, IsDualBasis, IsDualRow};
 ghost use Rattle.pm_elim.specs.Evidence.{IfWide, IsEvidence};
 ghost use Rattle.pm_elim.specs.NullSpaces.{IsNullBasis};

@@ -1,7 +1,7 @@
 // The echelon basis of a list of rows, row by row, and their rank.
 
-ghost use Rattle.pm_algebra.specs.Rows.{HasCols};
-ghost use Rattle.pm_bases.specs.Bases.{IsRank};
+ghost use Rattle.pm_vector.specs.Rows.{HasCols};
+ghost use Rattle.pm_vector.specs.Bases.{IsRank};
 ghost use Rattle.pm_elim.specs.Evidence.{IfWide, IsBasisOf, IsEvidence, IsWideStep, NoEvidence};
 ghost use Rattle.pm_elim.specs.Refusals.{IfWideStep, IsFailOf};
 ghost use Rattle.pm_elim.specs.EliminationSteps.{EliminationStep};

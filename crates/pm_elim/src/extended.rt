@@ -1,7 +1,7 @@
 // The extended list of a basis: for each column the row of its entries and then a unit row.
 
-ghost use Rattle.pm_algebra.specs.Numbers.{InRange};
-ghost use Rattle.pm_algebra.specs.Rows.{HasCols};
+ghost use Rattle.pm_vector.specs.Numbers.{InRange};
+ghost use Rattle.pm_vector.specs.Rows.{HasCols};
 ghost use Rattle.pm_elim.specs.Evidence.{IsExtended, column_of, unit};
 ghost use Rattle.std.specs.Prelude.{All, IfOk, OnOk, drop, length, ◌+◌, ◌++◌, ◌<◌, ◌≡◌, ◌≤◌};
 

@@ -1,6 +1,6 @@
 // Which rows of a list enlarge the span of those before them.
 
-ghost use Rattle.pm_algebra.specs.Rows.{HasCols};
+ghost use Rattle.pm_vector.specs.Rows.{HasCols};
 ghost use Rattle.pm_elim.specs.Enlarging.{MarkEnlarging};
 ghost use Rattle.pm_elim.specs.Evidence.{IfWide, IsEvidence, NoEvidence};
 ghost use Rattle.std.specs.Prelude.{IfErr, IfOk, OnOk, length, ◌<◌, ◌^◌, ◌≡◌};

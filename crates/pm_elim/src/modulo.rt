@@ -1,7 +1,7 @@
 // The reduction of a row by an echelon basis.
 
-ghost use Rattle.pm_algebra.specs.Rows.{HasCols, entry};
-ghost use Rattle.pm_bases.specs.Bases.{IsEchelonBasis, column};
+ghost use Rattle.pm_vector.specs.Rows.{HasCols, entry};
+ghost use Rattle.pm_vector.specs.Bases.{IsEchelonBasis, column};
 ghost use Rattle.pm_elim.specs.Evidence.{IfWide, IsEvidence};
 ghost use Rattle.pm_elim.specs.Refusals.{IfWideStep, IsReductionFail};
 ghost use Rattle.pm_elim.specs.Steps.{ReducedBy, SameDirectionModulo};

@@ -1,7 +1,7 @@
 // Null spaces.
 
-ghost use Rattle.pm_algebra.specs.Rows.{HasCols, Row};
-ghost use Rattle.pm_bases.specs.Bases.{IsEchelonBasis, IsRank};
+ghost use Rattle.pm_vector.specs.Rows.{HasCols, Row};
+ghost use Rattle.pm_vector.specs.Bases.{IsEchelonBasis, IsRank};
 ghost use Rattle.pm_elim.specs.Evidence.{IfWide, IsEvidence, IsExtended, IsWideStep, NoEvidence};
 ghost use Rattle.pm_elim.specs.NullSpaces.{IsNullBasis};
 ghost use Rattle.pm_elim.specs.ExtendedLists.{AreTails, IsExtendedBasis, IsWideOnExtended};

@@ -1,7 +1,7 @@
 // The older basis rows are reduced by a new one.
 
-ghost use Rattle.pm_algebra.specs.Rows.{HasCols, entry};
-ghost use Rattle.pm_bases.specs.Bases.{row_at};
+ghost use Rattle.pm_vector.specs.Rows.{HasCols, entry};
+ghost use Rattle.pm_vector.specs.Bases.{row_at};
 ghost use Rattle.pm_elim.specs.Rounds.{AllReducedOnce, AllStay};
 ghost use Rattle.pm_elim.specs.Steps.{StepIsWide};
 ghost use Rattle.std.specs.Prelude.{IfNone, IfSome, length, pos, vec_len, ◌<ℤ◌, ◌<◌, ◌≡◌};

@@ -1,6 +1,6 @@
 // The reduction of a row by the rows of a basis, in turn.
 
-ghost use Rattle.pm_bases.specs.Bases.{IsEchelonBasis};
+ghost use Rattle.pm_vector.specs.Bases.{IsEchelonBasis};
 ghost use Rattle.pm_elim.specs.Evidence.{IsWideOnNext};
 ghost use Rattle.pm_elim.specs.Refusals.{IfWideStep};
 ghost use Rattle.pm_elim.specs.Steps.{ReducedBy, ReductionStays};

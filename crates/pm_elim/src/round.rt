@@ -1,8 +1,8 @@
 // One round of an elimination: a further row is taken into the basis.
 
-ghost use Rattle.pm_algebra.specs.Cones.{InSpan};
-ghost use Rattle.pm_algebra.specs.Rows.{HasCols, Row, entry};
-ghost use Rattle.pm_bases.specs.Bases.{IsEchelonBasis, SameSpan, column};
+ghost use Rattle.pm_vector.specs.Cones.{InSpan};
+ghost use Rattle.pm_vector.specs.Rows.{HasCols, Row, entry};
+ghost use Rattle.pm_vector.specs.Bases.{IsEchelonBasis, SameSpan, column};
 ghost use Rattle.pm_elim.specs.Evidence.{IsWideOnNext, IsWideRound};
 ghost use Rattle.pm_elim.specs.Refusals.{IfWideStep};
 ghost use Rattle.pm_elim.specs.Rounds.{AllStay, IsNewRow, IsWideOnSome};

@@ -1,6 +1,6 @@
 // One elimination step.
 
-ghost use Rattle.pm_algebra.specs.Rows.{entry};
+ghost use Rattle.pm_vector.specs.Rows.{entry};
 ghost use Rattle.pm_elim.specs.Steps.{IsFactors, IsReducedOnce, StepIsWide, StepStays};
 ghost use Rattle.std.specs.Prelude.{IfErr, IfNone, IfSome, IsTrue, OnErr, OnOk, length, pos, ◌<ℤ◌, ◌<◌, ◌≡◌, ◌↔◌};
 

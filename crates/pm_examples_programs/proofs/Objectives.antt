@@ -1,13 +1,13 @@
 -- Objectives of whole numbers: their values, and bounds of them by a row that is not negative on the generators.
-use Rattle.pm_algebra.proofs.ConeLaws.{dot_in}
-use Rattle.pm_algebra.proofs.Lists.{among_Contains, Contains_among, Among, here, there}
-use Rattle.pm_algebra.proofs.Ring.{left_comm, mul_assoc, mul_one, neg-mul, one_mul, ring}
-use Rattle.pm_algebra.proofs.RowLaws.{length-times, plus-dot, row_equal, times-dot, entry-times}
-use Rattle.pm_algebra.proofs.Signs.{le_cancel, mul_cancel, mul_le, mul_pos, pos_cancel, weaken}
-use Rattle.pm_algebra.specs.Cones.{InCone}
-use Rattle.pm_algebra.specs.Numbers.{Ratio}
-use Rattle.pm_algebra.specs.Divisors.{IsPrimitive}
-use Rattle.pm_algebra.specs.Rows.{Row, Stands, dot, entry, plus, times}
+use Rattle.pm_vector.proofs.ConeLaws.{dot_in}
+use Rattle.pm_vector.proofs.Lists.{among_Contains, Contains_among, Among, here, there}
+use Rattle.pm_vector.proofs.Ring.{left_comm, mul_assoc, mul_one, neg-mul, one_mul, ring}
+use Rattle.pm_vector.proofs.RowLaws.{length-times, plus-dot, row_equal, times-dot, entry-times}
+use Rattle.pm_vector.proofs.Signs.{le_cancel, mul_cancel, mul_le, mul_pos, pos_cancel, weaken}
+use Rattle.pm_vector.specs.Cones.{InCone}
+use Rattle.pm_vector.specs.Numbers.{Ratio}
+use Rattle.pm_vector.specs.Divisors.{IsPrimitive}
+use Rattle.pm_vector.specs.Rows.{Row, Stands, dot, entry, plus, times}
 use Rattle.pm_geom.proofs.Apart.{not_below, not_below_at, products}
 use Rattle.pm_geom.specs.Programs.{IsAttained, IsNotExceeded, IsTimes, IsWithoutBound}
 use Rattle.pm_types.proofs.WholeRows.{length_ratios, ratio_at_ratios}

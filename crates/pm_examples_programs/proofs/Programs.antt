@@ -1,14 +1,14 @@
 -- Values, faces and dual rows of programs on the empty polytope, the half line, the unit square and a segment.
-use Rattle.pm_algebra.proofs.ConeLaws.{in_generator, none_to_zero}
-use Rattle.pm_algebra.proofs.Lists.{All_among, AllPairs_cons, Among, among_All, among_Contains, here, there}
-use Rattle.pm_algebra.proofs.Ring.{ring}
-use Rattle.pm_algebra.proofs.RowLaws.{dot-zeros, length-zeros, row_equal, times-dot, zeros}
-use Rattle.pm_algebra.proofs.Signs.{mul_cancel, mul_le, mul_pos, weaken}
-use Rattle.pm_algebra.specs.Cones.{InCone}
-use Rattle.pm_algebra.specs.Divisors.{IsPrimitive}
-use Rattle.pm_algebra.specs.Numbers.{Ratio}
-use Rattle.pm_algebra.specs.Rows.{Row, dot, entry, plus, ratio_at, times}
-use Rattle.pm_bases.proofs.Examples.{primitive_by_one}
+use Rattle.pm_vector.proofs.ConeLaws.{in_generator, none_to_zero}
+use Rattle.pm_vector.proofs.Lists.{All_among, AllPairs_cons, Among, among_All, among_Contains, here, there}
+use Rattle.pm_vector.proofs.Ring.{ring}
+use Rattle.pm_vector.proofs.RowLaws.{dot-zeros, length-zeros, row_equal, times-dot, zeros}
+use Rattle.pm_vector.proofs.Signs.{mul_cancel, mul_le, mul_pos, weaken}
+use Rattle.pm_vector.specs.Cones.{InCone}
+use Rattle.pm_vector.specs.Divisors.{IsPrimitive}
+use Rattle.pm_vector.specs.Numbers.{Ratio}
+use Rattle.pm_vector.specs.Rows.{Row, dot, entry, plus, ratio_at, times}
+use Rattle.pm_vector.proofs.BasisExamples.{primitive_by_one}
 use Rattle.pm_fraction.proofs.Quotients.{whole_reduced}
 use Rattle.pm_geom.proofs.ShortRows.{at_two, by_two}
 use Rattle.pm_geom.proofs.SmallThings.{half_line_is_read}
@@ -26,7 +26,7 @@ use Rattle.pm_types.specs.Right.{AreDualRows, AreFacetDirections, IsBoundBy, Sta
 use Rattle.pm_types.specs.Values.{Extended, finite, minus_infinity, plus_infinity}
 use Rattle.pm_types.specs.Views.{over_one, ratios}
 use Rattle.std.proofs.Common.{ap, arith, refl, subst, sym, ◌∙◌}
-use Rattle.pm_algebra.specs.Numbers.{IsReduced}
+use Rattle.pm_vector.specs.Numbers.{IsReduced}
 use Rattle.pm_matrix.specs.Matrices.{IsFraction}
 use Rattle.std.proofs.lemmas.Int.{ints}
 use Rattle.std.proofs.lemmas.List.Elements.{All-nil}

@@ -1,7 +1,7 @@
 -- Linear programs on small polytopes: which values, faces and dual rows are right.
 use Rattle.std.specs.Prelude.{ℕ, ◌≡◌, List, [], ◌∷◌, false, map, true}
-use Rattle.pm_algebra.specs.Numbers.{Ratio}
-use Rattle.pm_algebra.specs.Rows.{Row}
+use Rattle.pm_vector.specs.Numbers.{Ratio}
+use Rattle.pm_vector.specs.Rows.{Row}
 use Rattle.pm_geom.specs.Examples.{edges, half_line, pair, square, triple}
 use Rattle.pm_geom.specs.Things.{Orders}
 use Rattle.pm_object_type.specs.declared.object_type.ObjectType.TheVariants.{Polytope}

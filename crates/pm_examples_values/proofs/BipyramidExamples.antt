@@ -1,12 +1,12 @@
 -- The cone over a bipyramid: its counts.
 use Rattle.pm_relations.proofs.Standing.{whole_objective}
-use Rattle.pm_algebra.proofs.ConeLaws.{dot_in, in_cone_set, in_generator, none_from_zero, none_to_zero}
-use Rattle.pm_algebra.proofs.Lists.{All_among, Among, Contains_among, all_at, among_Contains, here, there}
-use Rattle.pm_algebra.proofs.Ring.{ring}
-use Rattle.pm_algebra.proofs.RowLaws.{dot-nil, dot-same, dot_comm}
-use Rattle.pm_algebra.specs.Cones.{InCone, InSpan}
-use Rattle.pm_algebra.specs.Rows.{HasCols, IsZero, Row, Same, dot, entry}
-use Rattle.pm_bases.specs.Bases.{IsRank}
+use Rattle.pm_vector.proofs.ConeLaws.{dot_in, in_cone_set, in_generator, none_from_zero, none_to_zero}
+use Rattle.pm_vector.proofs.Lists.{All_among, Among, Contains_among, all_at, among_Contains, here, there}
+use Rattle.pm_vector.proofs.Ring.{ring}
+use Rattle.pm_vector.proofs.RowLaws.{dot-nil, dot-same, dot_comm}
+use Rattle.pm_vector.specs.Cones.{InCone, InSpan}
+use Rattle.pm_vector.specs.Rows.{HasCols, IsZero, Row, Same, dot, entry}
+use Rattle.pm_vector.specs.Bases.{IsRank}
 use Rattle.pm_geom.proofs.Apart.{apart, not_below, not_below_at, order_of_apart, products, without}
 use Rattle.pm_geom.proofs.Facets.{dot-opposite, order_as}
 use Rattle.pm_geom.proofs.ValidRows.{Tables, facet_order, in_valid, valid_in}

@@ -1,17 +1,17 @@
 -- Matrices of the half line and of a line that are canonical, and such that are not.
-use Rattle.pm_algebra.proofs.ConeLaws.{in_generator, in_line, none_from_zero}
-use Rattle.pm_algebra.proofs.Lists.{AllPairs_cons, All_among, Among, all_at, among_All, here, there}
-use Rattle.pm_algebra.proofs.Ring.{ring}
-use Rattle.pm_algebra.proofs.RowLaws.{entry-times}
-use Rattle.pm_algebra.proofs.Signs.{mul_cancel, mul_pos, pos_cancel}
-use Rattle.pm_algebra.specs.Cones.{InCone, InSpan, IsIndependent}
-use Rattle.pm_algebra.specs.Divisors.{IsPrimitive}
-use Rattle.pm_algebra.specs.Numbers.{Ratio}
-use Rattle.pm_algebra.specs.Rows.{IsZero, Row, Stands, entry, ratio_at, times}
-use Rattle.pm_bases.proofs.Examples.{primitive_by_one}
-use Rattle.pm_bases.proofs.Spans.{same_span}
-use Rattle.pm_bases.proofs.Unique.{echelon_is_unique}
-use Rattle.pm_bases.specs.Bases.{IsEchelonBasis, SameSpan}
+use Rattle.pm_vector.proofs.ConeLaws.{in_generator, in_line, none_from_zero}
+use Rattle.pm_vector.proofs.Lists.{AllPairs_cons, All_among, Among, all_at, among_All, here, there}
+use Rattle.pm_vector.proofs.Ring.{ring}
+use Rattle.pm_vector.proofs.RowLaws.{entry-times}
+use Rattle.pm_vector.proofs.Signs.{mul_cancel, mul_pos, pos_cancel}
+use Rattle.pm_vector.specs.Cones.{InCone, InSpan, IsIndependent}
+use Rattle.pm_vector.specs.Divisors.{IsPrimitive}
+use Rattle.pm_vector.specs.Numbers.{Ratio}
+use Rattle.pm_vector.specs.Rows.{IsZero, Row, Stands, entry, ratio_at, times}
+use Rattle.pm_vector.proofs.BasisExamples.{primitive_by_one}
+use Rattle.pm_vector.proofs.Spans.{same_span}
+use Rattle.pm_vector.proofs.Unique.{echelon_is_unique}
+use Rattle.pm_vector.specs.Bases.{IsEchelonBasis, SameSpan}
 use Rattle.pm_geom.proofs.Apart.{lineality_spanned}
 use Rattle.pm_geom.proofs.ShortRows.{by_two}
 use Rattle.pm_geom.proofs.SmallThings.{line_is_read}

@@ -1,14 +1,14 @@
 -- The dimensions of the unit square and of the empty polytope.
 use Rattle.pm_relations.proofs.Standing.{whole_denominators}
-use Rattle.pm_algebra.proofs.ConeLaws.{in_generator, none_from_zero, none_to_zero}
-use Rattle.pm_algebra.proofs.Lists.{All_among, here, there}
-use Rattle.pm_algebra.proofs.Ring.{ring}
-use Rattle.pm_algebra.proofs.RowLaws.{dot-nil, dot-same, dot_comm}
-use Rattle.pm_algebra.specs.Cones.{InCone, InSpan, IsIndependent}
-use Rattle.pm_algebra.specs.Rows.{HasCols, IsZero, Row}
-use Rattle.pm_bases.proofs.Rank.{rank_is_determined}
-use Rattle.pm_bases.proofs.Spans.{same_span_refl}
-use Rattle.pm_bases.specs.Bases.{IsRank}
+use Rattle.pm_vector.proofs.ConeLaws.{in_generator, none_from_zero, none_to_zero}
+use Rattle.pm_vector.proofs.Lists.{All_among, here, there}
+use Rattle.pm_vector.proofs.Ring.{ring}
+use Rattle.pm_vector.proofs.RowLaws.{dot-nil, dot-same, dot_comm}
+use Rattle.pm_vector.specs.Cones.{InCone, InSpan, IsIndependent}
+use Rattle.pm_vector.specs.Rows.{HasCols, IsZero, Row}
+use Rattle.pm_vector.proofs.Rank.{rank_is_determined}
+use Rattle.pm_vector.proofs.Spans.{same_span_refl}
+use Rattle.pm_vector.specs.Bases.{IsRank}
 use Rattle.pm_geom.proofs.Dimension.{rank_is_left}
 use Rattle.pm_geom.proofs.ShortRows.{by_three}
 use Rattle.pm_geom.proofs.SmallThings.{empty_is_read}

@@ -1,10 +1,10 @@
 -- Echelon bases of one row.
-use Rattle.pm_bases.proofs.Examples.{primitive_by_one}
-use Rattle.pm_bases.proofs.Columns.{basis_is_independent}
-use Rattle.pm_bases.specs.Bases.{IsEchelonBasis, column, row_at}
-use Rattle.pm_algebra.specs.Cones.{IsIndependent}
-use Rattle.pm_algebra.specs.Rows.{Row, entry}
-use Rattle.pm_algebra.specs.Divisors.{IsPrimitive}
+use Rattle.pm_vector.proofs.BasisExamples.{primitive_by_one}
+use Rattle.pm_vector.proofs.Columns.{basis_is_independent}
+use Rattle.pm_vector.specs.Bases.{IsEchelonBasis, column, row_at}
+use Rattle.pm_vector.specs.Cones.{IsIndependent}
+use Rattle.pm_vector.specs.Rows.{Row, entry}
+use Rattle.pm_vector.specs.Divisors.{IsPrimitive}
 use Rattle.std.proofs.Common.{arith, refl}
 use Rattle.std.specs.Prelude.{[], length, suc, zero, ℕ, ◌∷◌, ◌≡◌, ◌<◌}
 use lib.IntN.{pos}

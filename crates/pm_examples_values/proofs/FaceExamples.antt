@@ -1,6 +1,6 @@
 -- The faces of the empty polytope, a line and a segment, and the numbers of faces in whatever orders.
-use Rattle.pm_algebra.specs.Numbers.{Ratio}
-use Rattle.pm_algebra.specs.Rows.{Row}
+use Rattle.pm_vector.specs.Numbers.{Ratio}
+use Rattle.pm_vector.specs.Rows.{Row}
 use Rattle.pm_geom.proofs.SmallCounts.{diagrams_are_read}
 use Rattle.pm_geom.proofs.SmallThings.{empty_is_read}
 use Rattle.pm_geom.specs.Cones.{IsOrder}
@@ -8,7 +8,7 @@ use Rattle.pm_geom.specs.Examples.{triple}
 use Rattle.pm_geom.specs.FaceCounts.{f_of, f2_of}
 use Rattle.pm_geom.specs.GraphExamples.{empty_lattice, ray_lattice, segment_lattice}
 use Rattle.pm_geom.specs.Things.{Orders}
-use Rattle.pm_algebra.specs.Cones.{InCone}
+use Rattle.pm_vector.specs.Cones.{InCone}
 use Rattle.pm_relations.proofs.Dimensions.{dimensions_are_determined}
 use Rattle.pm_relations.proofs.Orders.{as_many_rays}
 use Rattle.pm_examples_values.proofs.DimensionExamples.{whole_is}

@@ -1,14 +1,14 @@
 -- Maximal cones of fans, their dimensions, and what is not right for them.
-use Rattle.pm_algebra.proofs.ConeLaws.{in_cone_set, in_line, in_line_times}
-use Rattle.pm_algebra.proofs.Lists.{All_among, Among, Any_among, Contains_among, among_All, among_Any, among_Contains, here, there}
-use Rattle.pm_algebra.specs.Cones.{InCone, InSpan}
-use Rattle.pm_algebra.specs.Divisors.{IsPrimitive}
-use Rattle.pm_algebra.specs.Rows.{Row, entry}
-use Rattle.pm_bases.proofs.Columns.{basis_is_independent}
-use Rattle.pm_bases.proofs.Examples.{bases_are_read, primitive_by_one}
-use Rattle.pm_bases.proofs.Rank.{basis_gives_rank, rank_is_determined}
-use Rattle.pm_bases.proofs.Spans.{same_span, same_span_refl}
-use Rattle.pm_bases.specs.Bases.{IsRank, IsReducedBasis, SameSpan, column, row_at}
+use Rattle.pm_vector.proofs.ConeLaws.{in_cone_set, in_line, in_line_times}
+use Rattle.pm_vector.proofs.Lists.{All_among, Among, Any_among, Contains_among, among_All, among_Any, among_Contains, here, there}
+use Rattle.pm_vector.specs.Cones.{InCone, InSpan}
+use Rattle.pm_vector.specs.Divisors.{IsPrimitive}
+use Rattle.pm_vector.specs.Rows.{Row, entry}
+use Rattle.pm_vector.proofs.Columns.{basis_is_independent}
+use Rattle.pm_vector.proofs.BasisExamples.{bases_are_read, primitive_by_one}
+use Rattle.pm_vector.proofs.Rank.{basis_gives_rank, rank_is_determined}
+use Rattle.pm_vector.proofs.Spans.{same_span, same_span_refl}
+use Rattle.pm_vector.specs.Bases.{IsRank, IsReducedBasis, SameSpan, column, row_at}
 use Rattle.pm_geom.proofs.Apart.{apart, order_of_apart}
 use Rattle.pm_geom.proofs.Square.{square_is_read}
 use Rattle.pm_geom.specs.Cones.{IsExtremeRay}

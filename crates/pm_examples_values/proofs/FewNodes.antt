@@ -1,7 +1,7 @@
 -- Graphs of cones with at most two rays and two facets, in whatever orders, and diameters.
-use Rattle.pm_algebra.proofs.Lists.{Among, Contains_among, here}
-use Rattle.pm_algebra.specs.Cones.{InCone}
-use Rattle.pm_algebra.specs.Rows.{HasCols, Row}
+use Rattle.pm_vector.proofs.Lists.{Among, Contains_among, here}
+use Rattle.pm_vector.specs.Cones.{InCone}
+use Rattle.pm_vector.specs.Rows.{HasCols, Row}
 use Rattle.pm_geom.proofs.SmallGraphs.{distance_at_most}
 use Rattle.pm_geom.specs.Cones.{IsOrder, IsValid}
 use Rattle.pm_geom.specs.Graphs.{IsDiameter, IsEdge, IsGraph, IsRidge, IsWalk}

@@ -1,7 +1,7 @@
 -- Tests that tell the graph of the rays and that of the facets, by which rays lie on which facets.
-use Rattle.pm_algebra.specs.Cones.{InCone}
-use Rattle.pm_algebra.specs.Rows.{HasCols, Row, dot}
-use Rattle.pm_algebra.proofs.Lists.{AllPairs_cons, All_among, Among, among_All, here, there}
+use Rattle.pm_vector.specs.Cones.{InCone}
+use Rattle.pm_vector.specs.Rows.{HasCols, Row, dot}
+use Rattle.pm_vector.proofs.Lists.{AllPairs_cons, All_among, Among, among_All, here, there}
 use Rattle.pm_geom.specs.Cones.{IsOrder, IsValid}
 use Rattle.pm_geom.specs.Faces.{ray}
 use Rattle.pm_geom.specs.Graphs.{IsAscending, IsEdge, IsGraph, IsRidge, holds}

@@ -1,7 +1,7 @@
 -- Sorted lists are determined by their members; so a graph has one list of neighbours, and an order of the rays one list of all faces.
-use Rattle.pm_algebra.proofs.Lists.{Among, Contains_among, among_All, among_Contains, here, there}
-use Rattle.pm_algebra.specs.Cones.{InCone}
-use Rattle.pm_algebra.specs.Rows.{HasCols, Row}
+use Rattle.pm_vector.proofs.Lists.{Among, Contains_among, among_All, among_Contains, here, there}
+use Rattle.pm_vector.specs.Cones.{InCone}
+use Rattle.pm_vector.specs.Rows.{HasCols, Row}
 use Rattle.pm_geom.specs.Cones.{IsOrder}
 use Rattle.pm_geom.specs.FaceCounts.{IsHasseDiagram, IsLexBefore, at_rank}
 use Rattle.pm_geom.specs.Graphs.{IsAscending, IsGraph, holds}

@@ -1,8 +1,8 @@
 -- The examples of triangulations of the square hold.
-use Rattle.pm_algebra.proofs.ConeLaws.{none_to_zero}
-use Rattle.pm_algebra.proofs.Lists.{all_at, among_All, here}
-use Rattle.pm_algebra.proofs.RowLaws.{entry-plus, entry-times}
-use Rattle.pm_algebra.specs.Rows.{Row}
+use Rattle.pm_vector.proofs.ConeLaws.{none_to_zero}
+use Rattle.pm_vector.proofs.Lists.{all_at, among_All, here}
+use Rattle.pm_vector.proofs.RowLaws.{entry-plus, entry-times}
+use Rattle.pm_vector.specs.Rows.{Row}
 use Rattle.pm_examples_values.proofs.DimensionExamples.{no_lineality}
 use Rattle.pm_examples_values.specs.Examples.{square_thing}
 use Rattle.pm_examples_values.specs.PlacingExamples.{TriangulationsAreRead}

@@ -1,12 +1,12 @@
 -- The prism over a triangle: its counts.
 use Rattle.pm_relations.proofs.Standing.{whole_objective}
-use Rattle.pm_algebra.proofs.ConeLaws.{dot_in, in_cone_set, in_generator, none_from_zero, none_to_zero}
-use Rattle.pm_algebra.proofs.Lists.{All_among, Among, all_at, here, there}
-use Rattle.pm_algebra.proofs.Ring.{ring}
-use Rattle.pm_algebra.proofs.RowLaws.{dot-nil, dot-same, dot_comm}
-use Rattle.pm_algebra.specs.Cones.{InCone, InSpan}
-use Rattle.pm_algebra.specs.Rows.{HasCols, IsZero, Row, dot}
-use Rattle.pm_bases.specs.Bases.{IsRank}
+use Rattle.pm_vector.proofs.ConeLaws.{dot_in, in_cone_set, in_generator, none_from_zero, none_to_zero}
+use Rattle.pm_vector.proofs.Lists.{All_among, Among, all_at, here, there}
+use Rattle.pm_vector.proofs.Ring.{ring}
+use Rattle.pm_vector.proofs.RowLaws.{dot-nil, dot-same, dot_comm}
+use Rattle.pm_vector.specs.Cones.{InCone, InSpan}
+use Rattle.pm_vector.specs.Rows.{HasCols, IsZero, Row, dot}
+use Rattle.pm_vector.specs.Bases.{IsRank}
 use Rattle.pm_geom.proofs.Apart.{apart, not_below, order_of_apart, products, without}
 use Rattle.pm_geom.proofs.Facets.{order_as}
 use Rattle.pm_geom.proofs.ShortRows.{first_entry}

@@ -1,7 +1,7 @@
 -- Faces of the least and of the greatest rank, lists that are all faces, and the faces of cones with one ray and with two.
-use Rattle.pm_algebra.proofs.Lists.{AllPairs_cons, All_among, Among, Any_among, all_at, here, there}
-use Rattle.pm_algebra.specs.Cones.{InCone}
-use Rattle.pm_algebra.specs.Rows.{HasCols, Row}
+use Rattle.pm_vector.proofs.Lists.{AllPairs_cons, All_among, Among, Any_among, all_at, here, there}
+use Rattle.pm_vector.specs.Cones.{InCone}
+use Rattle.pm_vector.specs.Rows.{HasCols, Row}
 use Rattle.pm_geom.specs.Cones.{IsOrder}
 use Rattle.pm_geom.specs.FaceCounts.{IsHasseDiagram, IsLexBefore, SamePlaces, at_rank}
 use Rattle.pm_geom.specs.Faces.{HasChain, HasRank, IsStrictlyIn}

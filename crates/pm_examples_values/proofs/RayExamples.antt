@@ -1,13 +1,13 @@
 -- The half line, segments, a line, the square and the empty polytope: truth values, dimensions and far faces.
 use Rattle.pm_relations.proofs.Standing.{whole_objective}
-use Rattle.pm_algebra.proofs.ConeLaws.{dot_in, in_generator, in_line, in_line_opposite, in_same, none_to_zero}
-use Rattle.pm_algebra.proofs.Lists.{All_among, Among, Contains_among, among_Contains, here, there}
-use Rattle.pm_algebra.proofs.Ring.{ring}
-use Rattle.pm_algebra.proofs.RowLaws.{dot-nil, dot-same, dot_comm, length-opposite}
-use Rattle.pm_algebra.specs.Cones.{InCone}
-use Rattle.pm_algebra.specs.Rows.{IsZero, Row, Same, dot, entry, opposite}
-use Rattle.pm_bases.proofs.Rank.{rank_is_determined}
-use Rattle.pm_bases.specs.Bases.{IsRank}
+use Rattle.pm_vector.proofs.ConeLaws.{dot_in, in_generator, in_line, in_line_opposite, in_same, none_to_zero}
+use Rattle.pm_vector.proofs.Lists.{All_among, Among, Contains_among, among_Contains, here, there}
+use Rattle.pm_vector.proofs.Ring.{ring}
+use Rattle.pm_vector.proofs.RowLaws.{dot-nil, dot-same, dot_comm, length-opposite}
+use Rattle.pm_vector.specs.Cones.{InCone}
+use Rattle.pm_vector.specs.Rows.{IsZero, Row, Same, dot, entry, opposite}
+use Rattle.pm_vector.proofs.Rank.{rank_is_determined}
+use Rattle.pm_vector.specs.Bases.{IsRank}
 use Rattle.pm_geom.proofs.Apart.{apart, lineality_spanned, not_below_at}
 use Rattle.pm_geom.proofs.Dimension.{rank_is_left}
 use Rattle.pm_geom.proofs.Facets.{dot-opposite}

@@ -1,12 +1,12 @@
 -- Rays and facet rows of the half line and of a line in their order, and bases of the lineality and of the rows that vanish.
-use Rattle.pm_algebra.proofs.ConeLaws.{combination_none, dot_in, in_generator, in_line, in_line_times, in_zero}
-use Rattle.pm_algebra.proofs.Lists.{Among, all_at, among_All, here, there}
-use Rattle.pm_algebra.proofs.Ring.{ring}
-use Rattle.pm_algebra.proofs.RowLaws.{dot-plus, dot-same, dot-times, dot_comm, entry-plus, entry-times, plus-dot, times-dot}
-use Rattle.pm_algebra.proofs.Signs.{mul_cancel, mul_nonneg, nonneg_cancel, weaken}
-use Rattle.pm_algebra.specs.Cones.{InCone, InSpan, IsIndependent, combination}
-use Rattle.pm_algebra.specs.Rows.{Row, Stands, dot, entry, opposite, plus, times}
-use Rattle.pm_bases.proofs.Spans.{span_of}
+use Rattle.pm_vector.proofs.ConeLaws.{combination_none, dot_in, in_generator, in_line, in_line_times, in_zero}
+use Rattle.pm_vector.proofs.Lists.{Among, all_at, among_All, here, there}
+use Rattle.pm_vector.proofs.Ring.{ring}
+use Rattle.pm_vector.proofs.RowLaws.{dot-plus, dot-same, dot-times, dot_comm, entry-plus, entry-times, plus-dot, times-dot}
+use Rattle.pm_vector.proofs.Signs.{mul_cancel, mul_nonneg, nonneg_cancel, weaken}
+use Rattle.pm_vector.specs.Cones.{InCone, InSpan, IsIndependent, combination}
+use Rattle.pm_vector.specs.Rows.{Row, Stands, dot, entry, opposite, plus, times}
+use Rattle.pm_vector.proofs.Spans.{span_of}
 use Rattle.pm_geom.proofs.Apart.{apart, not_below, not_below_at, null, null_at, order_of_apart, products, without}
 use Rattle.pm_geom.proofs.Facets.{dot-opposite, opposite-dot}
 use Rattle.pm_geom.proofs.ShortRows.{at_three, at_two}

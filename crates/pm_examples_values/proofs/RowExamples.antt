@@ -1,9 +1,9 @@
 -- Rows of the half line, of a line and of the empty polytope, alone and in pairs.
-use Rattle.pm_algebra.proofs.ConeLaws.{dot_in, in_generator, in_line, in_line_times, in_of, lines_opposite, none_from_zero, none_to_zero}
-use Rattle.pm_algebra.proofs.Lists.{All_among, Among, Contains_among, all_at, among_All, among_Contains, here, there}
-use Rattle.pm_algebra.proofs.Ring.{ring}
-use Rattle.pm_algebra.specs.Cones.{InCone, InSpan}
-use Rattle.pm_algebra.specs.Rows.{IsZero, Row, dot, entry}
+use Rattle.pm_vector.proofs.ConeLaws.{dot_in, in_generator, in_line, in_line_times, in_of, lines_opposite, none_from_zero, none_to_zero}
+use Rattle.pm_vector.proofs.Lists.{All_among, Among, Contains_among, all_at, among_All, among_Contains, here, there}
+use Rattle.pm_vector.proofs.Ring.{ring}
+use Rattle.pm_vector.specs.Cones.{InCone, InSpan}
+use Rattle.pm_vector.specs.Rows.{IsZero, Row, dot, entry}
 use Rattle.pm_geom.proofs.Apart.{apart, lineality_spanned, not_below, not_below_at, null, null_at, products}
 use Rattle.pm_geom.proofs.ShortRows.{at_three, by_three, by_two, first_entry}
 use Rattle.pm_geom.proofs.SmallThings.{half_line_is_read}

@@ -1,11 +1,11 @@
 -- The segment from 0 to 1 and the empty polytope: their orders, and the segment's dimension.
-use Rattle.pm_algebra.proofs.ConeLaws.{in_generator, none_from_zero, none_to_zero}
-use Rattle.pm_algebra.proofs.Lists.{Among, here, there}
-use Rattle.pm_algebra.proofs.Ring.{ring}
-use Rattle.pm_algebra.proofs.RowLaws.{dot-nil, dot-same, dot_comm}
-use Rattle.pm_algebra.specs.Cones.{InCone, InSpan}
-use Rattle.pm_algebra.specs.Rows.{HasCols, IsZero, Row}
-use Rattle.pm_bases.specs.Bases.{IsRank}
+use Rattle.pm_vector.proofs.ConeLaws.{in_generator, none_from_zero, none_to_zero}
+use Rattle.pm_vector.proofs.Lists.{Among, here, there}
+use Rattle.pm_vector.proofs.Ring.{ring}
+use Rattle.pm_vector.proofs.RowLaws.{dot-nil, dot-same, dot_comm}
+use Rattle.pm_vector.specs.Cones.{InCone, InSpan}
+use Rattle.pm_vector.specs.Rows.{HasCols, IsZero, Row}
+use Rattle.pm_vector.specs.Bases.{IsRank}
 use Rattle.pm_geom.proofs.Apart.{apart, lineality_spanned, order_of_apart, without}
 use Rattle.pm_geom.proofs.Dimension.{rank_is_left}
 use Rattle.pm_geom.proofs.ShortRows.{at_two, by_two, first_entry}

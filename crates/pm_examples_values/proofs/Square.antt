@@ -1,7 +1,7 @@
 -- The sets of the unit square.
 use Rattle.pm_relations.proofs.Standing.{whole_denominators}
-use Rattle.pm_algebra.proofs.Lists.{Among, here, there, among_Contains, Contains_among}
-use Rattle.pm_algebra.specs.Rows.{Row, dot}
+use Rattle.pm_vector.proofs.Lists.{Among, here, there, among_Contains, Contains_among}
+use Rattle.pm_vector.specs.Rows.{Row, dot}
 use Rattle.pm_geom.proofs.Square.{square_is_read}
 use Rattle.pm_geom.specs.Examples.{square}
 use Rattle.pm_geom.specs.Faces.{ray}

@@ -1,8 +1,8 @@
 -- The graphs of the unit square and of a bipyramid.
-use Rattle.pm_algebra.proofs.Lists.{Among, Contains_among, here, there}
-use Rattle.pm_algebra.proofs.Ring.{ring}
-use Rattle.pm_algebra.specs.Cones.{InCone}
-use Rattle.pm_algebra.specs.Rows.{HasCols, dot}
+use Rattle.pm_vector.proofs.Lists.{Among, Contains_among, here, there}
+use Rattle.pm_vector.proofs.Ring.{ring}
+use Rattle.pm_vector.specs.Cones.{InCone}
+use Rattle.pm_vector.specs.Rows.{HasCols, dot}
 use Rattle.pm_geom.proofs.ShortRows.{by_three}
 use Rattle.pm_geom.proofs.SmallGraphs.{square_graph_is_read}
 use Rattle.pm_geom.proofs.Square.{square_is_read}

@@ -1,12 +1,12 @@
 -- A whole row that stands for a row of whole numbers has its direction; what cones and products say of the one they say of the other.
 use Rattle.pm_relations.proofs.Standing.{same_direction, stands_ratios}
-use Rattle.pm_algebra.proofs.ConeLaws.{in_divide, in_generator, in_line, in_of, in_same, in_through, in_times, lines_opposite}
-use Rattle.pm_algebra.proofs.Lists.{All_among, Among, among_All, here, there}
-use Rattle.pm_algebra.proofs.Ring.{ring}
-use Rattle.pm_algebra.proofs.RowLaws.{dot-same, dot-times, dot_comm, same_sym}
-use Rattle.pm_algebra.proofs.Signs.{mul_cancel, mul_nonneg, nonneg_cancel, weaken}
-use Rattle.pm_algebra.specs.Cones.{InCone}
-use Rattle.pm_algebra.specs.Rows.{Row, SameDirection, Stands, dot, entry, ratio_at, times}
+use Rattle.pm_vector.proofs.ConeLaws.{in_divide, in_generator, in_line, in_of, in_same, in_through, in_times, lines_opposite}
+use Rattle.pm_vector.proofs.Lists.{All_among, Among, among_All, here, there}
+use Rattle.pm_vector.proofs.Ring.{ring}
+use Rattle.pm_vector.proofs.RowLaws.{dot-same, dot-times, dot_comm, same_sym}
+use Rattle.pm_vector.proofs.Signs.{mul_cancel, mul_nonneg, nonneg_cancel, weaken}
+use Rattle.pm_vector.specs.Cones.{InCone}
+use Rattle.pm_vector.specs.Rows.{Row, SameDirection, Stands, dot, entry, ratio_at, times}
 use Rattle.pm_relations.proofs.Standing.{stand_for_ratios}
 use Rattle.pm_geom.proofs.Polar.{cut_at, cut_from}
 use Rattle.pm_types.specs.Right.{Solves, StandFor}

@@ -4,14 +4,14 @@ use Rattle.pm_examples_values.proofs.StandingExamples.{stand_among, stands_in, s
 use Rattle.pm_relations.proofs.Standing.{stand_for_ratios}
 use Rattle.pm_examples_values.proofs.RayRowExamples.{first_place}
 use Rattle.pm_examples_values.proofs.RowExamples.{all_one, first_row}
-use Rattle.pm_algebra.proofs.Signs.{nonneg_cancel}
+use Rattle.pm_vector.proofs.Signs.{nonneg_cancel}
 use Rattle.pm_examples_values.proofs.RayExamples.{half_line_are_orders}
-use Rattle.pm_algebra.proofs.RowLaws.{entry-plus, entry-times}
-use Rattle.pm_algebra.proofs.Ring.{ring}
-use Rattle.pm_algebra.proofs.ConeLaws.{in_generator, in_of, in_through, none_to_zero, lines_opposite, none_from_zero, in_line_times}
-use Rattle.pm_algebra.proofs.Lists.{All_among, Among, among_All, here, there, AllPairs_cons, Any_among, Contains_among, among_Contains}
-use Rattle.pm_algebra.specs.Cones.{InCone, InSpan}
-use Rattle.pm_algebra.specs.Rows.{ratio_at, Row, opposite, entry, Stands, dot}
+use Rattle.pm_vector.proofs.RowLaws.{entry-plus, entry-times}
+use Rattle.pm_vector.proofs.Ring.{ring}
+use Rattle.pm_vector.proofs.ConeLaws.{in_generator, in_of, in_through, none_to_zero, lines_opposite, none_from_zero, in_line_times}
+use Rattle.pm_vector.proofs.Lists.{All_among, Among, among_All, here, there, AllPairs_cons, Any_among, Contains_among, among_Contains}
+use Rattle.pm_vector.specs.Cones.{InCone, InSpan}
+use Rattle.pm_vector.specs.Rows.{ratio_at, Row, opposite, entry, Stands, dot}
 use Rattle.pm_geom.proofs.Apart.{apart, lineality_spanned, order_of_apart, without}
 use Rattle.pm_geom.proofs.Refusals.{is_refused}
 use Rattle.pm_geom.proofs.SmallThings.{empty_is_read, half_line_is_read}

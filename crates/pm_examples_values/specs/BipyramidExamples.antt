@@ -1,6 +1,6 @@
 -- A cone with five extreme rays and six facets, over a bipyramid: which counts are right.
 use Rattle.std.specs.Prelude.{ℕ, false, true, List, [], ◌∷◌}
-use Rattle.pm_algebra.specs.Rows.{Row}
+use Rattle.pm_vector.specs.Rows.{Row}
 use Rattle.pm_types.specs.Things.{Thing, IsThing, AreOrders}
 use Rattle.pm_geom.specs.Things.{Orders}
 use Rattle.pm_object_type.specs.declared.object_type.ObjectType.TheVariants.{Cone}

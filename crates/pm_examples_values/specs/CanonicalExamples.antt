@@ -1,7 +1,7 @@
 -- The half line from 0, the cone over it and a line in the plane: which matrices are canonical.
 use Rattle.std.specs.Prelude.{ℕ, List, [], ◌∷◌, codes}
-use Rattle.pm_algebra.specs.Numbers.{Ratio}
-use Rattle.pm_algebra.specs.Rows.{Row}
+use Rattle.pm_vector.specs.Numbers.{Ratio}
+use Rattle.pm_vector.specs.Rows.{Row}
 use Rattle.pm_geom.specs.Examples.{pair, triple}
 use Rattle.pm_types.specs.Things.{Thing}
 use Rattle.pm_types.specs.Canonical.{IsCanonical}

@@ -1,6 +1,6 @@
 -- The unit square with its vertices in the order (1,0,0), (1,0,1), (1,1,0), (1,1,1) and its edges in the order x1 >= 0, x2 >= 0, x2 <= 1, x1 <= 1, and the empty polytope: which values are right.
 use Rattle.std.specs.Prelude.{ℕ, List, [], ◌∷◌, false, true}
-use Rattle.pm_algebra.specs.Numbers.{Ratio}
+use Rattle.pm_vector.specs.Numbers.{Ratio}
 use Rattle.pm_geom.specs.Examples.{square, edges}
 use Rattle.pm_types.specs.Things.{Thing, IsThing, AreOrders}
 use Rattle.pm_geom.specs.Things.{Orders}

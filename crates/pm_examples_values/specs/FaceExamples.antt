@@ -1,6 +1,6 @@
 -- The empty polytope, a line, a segment and the unit square: which face lattices, f-vectors, f2-vectors and h-vectors are right.
 use Rattle.std.specs.Prelude.{ℕ, List, [], ◌∷◌, ◌≡◌}
-use Rattle.pm_algebra.specs.Rows.{Row}
+use Rattle.pm_vector.specs.Rows.{Row}
 use Rattle.pm_geom.specs.Examples.{pair}
 use Rattle.pm_geom.specs.GraphExamples.{empty_lattice, ray_lattice, segment_lattice, square_lattice}
 use Rattle.pm_geom.specs.Things.{Orders}

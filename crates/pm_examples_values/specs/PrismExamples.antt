@@ -1,6 +1,6 @@
 -- The prism over a triangle, as a polytope: it is simple, and not simplicial.
 use Rattle.std.specs.Prelude.{false, true, List, [], ◌∷◌}
-use Rattle.pm_algebra.specs.Rows.{Row}
+use Rattle.pm_vector.specs.Rows.{Row}
 use Rattle.pm_types.specs.Things.{Thing, IsThing, AreOrders}
 use Rattle.pm_geom.specs.Things.{Orders}
 use Rattle.pm_object_type.specs.declared.object_type.ObjectType.TheVariants.{Polytope}

@@ -1,6 +1,6 @@
 -- The half line from 0, segments, a line, the square, the empty polytope: which values are right.
 use Rattle.std.specs.Prelude.{ℕ, List, [], ◌∷◌, false, true}
-use Rattle.pm_algebra.specs.Rows.{Row}
+use Rattle.pm_vector.specs.Rows.{Row}
 use Rattle.pm_geom.specs.Examples.{half_line, pair, triple}
 use Rattle.pm_types.specs.Things.{Thing, IsThing, AreOrders}
 use Rattle.pm_geom.specs.Things.{Orders}

@@ -1,7 +1,7 @@
 -- The half line from 0, a line, the empty polytope: which matrices are right, alone and in pairs.
 use Rattle.std.specs.Prelude.{ℕ, List, [], ◌∷◌, None, map}
-use Rattle.pm_algebra.specs.Numbers.{Ratio}
-use Rattle.pm_algebra.specs.Rows.{Row}
+use Rattle.pm_vector.specs.Numbers.{Ratio}
+use Rattle.pm_vector.specs.Rows.{Row}
 use Rattle.pm_geom.specs.Examples.{half_line, pair, triple}
 use Rattle.pm_types.specs.Things.{Thing, AreOrders}
 use Rattle.pm_geom.specs.Things.{Orders}

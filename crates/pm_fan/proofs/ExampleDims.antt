@@ -1,12 +1,12 @@
 -- The examples of dimensions.
-use Rattle.pm_algebra.proofs.ConeLaws.{in_line}
-use Rattle.pm_algebra.proofs.Lists.{Among, here, there}
-use Rattle.pm_algebra.specs.Divisors.{IsPrimitive}
-use Rattle.pm_algebra.specs.Rows.{Row, entry}
-use Rattle.pm_bases.proofs.Examples.{bases_are_read, primitive_by_one}
-use Rattle.pm_bases.proofs.Rank.{basis_gives_rank, rank_is_determined}
-use Rattle.pm_bases.proofs.Spans.{same_span, same_span_refl}
-use Rattle.pm_bases.specs.Bases.{IsRank, IsReducedBasis, SameSpan, column, row_at}
+use Rattle.pm_vector.proofs.ConeLaws.{in_line}
+use Rattle.pm_vector.proofs.Lists.{Among, here, there}
+use Rattle.pm_vector.specs.Divisors.{IsPrimitive}
+use Rattle.pm_vector.specs.Rows.{Row, entry}
+use Rattle.pm_vector.proofs.BasisExamples.{bases_are_read, primitive_by_one}
+use Rattle.pm_vector.proofs.Rank.{basis_gives_rank, rank_is_determined}
+use Rattle.pm_vector.proofs.Spans.{same_span, same_span_refl}
+use Rattle.pm_vector.specs.Bases.{IsRank, IsReducedBasis, SameSpan, column, row_at}
 use Rattle.pm_fan.specs.Examples.{DimensionsAreRead, axes}
 use Rattle.std.proofs.Common.{arith, refl}
 use Rattle.std.proofs.lemmas.List.Elements.{All-cons, All-nil}

@@ -1,6 +1,6 @@
 -- The values of new fans have the forms of values that an object may hold.
-use Rattle.pm_algebra.proofs.Lists.{All_among, Among, among_All, here, there}
-use Rattle.pm_algebra.specs.Numbers.{Ratio}
+use Rattle.pm_vector.proofs.Lists.{All_among, Among, among_All, here, there}
+use Rattle.pm_vector.specs.Numbers.{Ratio}
 use Rattle.pm_fan.proofs.Kept.{all_ascend, holders_ascend, kept_among, kept_few, kept_length}
 use Rattle.pm_fan.proofs.Refused.{face_parts, normal_parts}
 use Rattle.pm_fan.proofs.Tails.{primitive_behind}

@@ -1,6 +1,6 @@
 -- Rows whose set has members, and the places of the sets that hold an index among those.
-use Rattle.pm_algebra.proofs.Lists.{Among, here, there}
-use Rattle.pm_algebra.specs.Numbers.{Ratio}
+use Rattle.pm_vector.proofs.Lists.{Among, here, there}
+use Rattle.pm_vector.specs.Numbers.{Ratio}
 use Rattle.pm_fan.specs.Fans.{has_members, holders_from, with_members}
 use Rattle.pm_geom.specs.Graphs.{holds}
 use Rattle.pm_types.specs.Forms.{are_indices}

@@ -1,7 +1,7 @@
 -- The primitive row of a row without its first entry is made within the range where that of the row is.
-use Rattle.pm_algebra.proofs.Divisors.{common_divisor}
-use Rattle.pm_algebra.specs.Numbers.{InRange, Ratio}
-use Rattle.pm_algebra.specs.Rows.{ratio_at}
+use Rattle.pm_vector.proofs.DivisorLaws.{common_divisor}
+use Rattle.pm_vector.specs.Numbers.{InRange, Ratio}
+use Rattle.pm_vector.specs.Rows.{ratio_at}
 use Rattle.pm_matrix.proofs.MultipleLaws.{IsLcm-from_gcd, gcd_positive}
 use Rattle.pm_matrix.specs.FractionRows.{IsLeastDenominator, numerator_over}
 use Rattle.pm_matrix.specs.Multiples.{IsLcm}

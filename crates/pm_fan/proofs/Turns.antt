@@ -1,11 +1,11 @@
 -- The turns of the loops: one value, one set, one index more.
-use Rattle.pm_algebra.proofs.Filters.{among_map, map_among}
-use Rattle.pm_algebra.proofs.Lists.{Among, all_append, all_at, all_from, among_All, among_Contains}
-use Rattle.pm_algebra.specs.Numbers.{Ratio}
-use Rattle.pm_algebra.specs.Rows.{HasCols, Row}
-use Rattle.pm_bases.proofs.Rank.{independent_are_few}
-use Rattle.pm_bases.proofs.Spans.{at_place, span_at, span_to}
-use Rattle.pm_bases.specs.Bases.{IsRank}
+use Rattle.pm_vector.proofs.Filters.{among_map, map_among}
+use Rattle.pm_vector.proofs.Lists.{Among, all_append, all_at, all_from, among_All, among_Contains}
+use Rattle.pm_vector.specs.Numbers.{Ratio}
+use Rattle.pm_vector.specs.Rows.{HasCols, Row}
+use Rattle.pm_vector.proofs.Rank.{independent_are_few}
+use Rattle.pm_vector.proofs.Spans.{at_place, span_at, span_to}
+use Rattle.pm_vector.specs.Bases.{IsRank}
 use Rattle.pm_fan.specs.Dimensions.{AreDimensions, IsDimension, cone_rows}
 use Rattle.pm_fan.specs.Fans.{cut, has_members, with_members}
 use Rattle.pm_geom.specs.Faces.{ray}

@@ -1,8 +1,8 @@
 -- The dimensions of the cones of a fan (Ziegler, Lectures on Polytopes, section 7.1): each is that of the span of the cone.
 use Rattle.std.specs.Prelude.{ℕ, List, [], ◌∷◌, ◌++◌, ◌+◌, ◌<◌, ◌^◌, length, map}
 use Rattle.std.specs.List.{All, Contains}
-use Rattle.pm_algebra.specs.Rows.{Row}
-use Rattle.pm_bases.specs.Bases.{IsRank}
+use Rattle.pm_vector.specs.Rows.{Row}
+use Rattle.pm_vector.specs.Bases.{IsRank}
 use Rattle.pm_elim.specs.EliminationSteps.{EliminationStep}
 use Rattle.pm_elim.specs.Evidence.{IsEvidence, NoEvidence}
 use Rattle.pm_elim.specs.declared.evidence.ElimList.TheVariants as list

@@ -1,6 +1,6 @@
 -- The definitions read on a square, a segment and a point, and on small cones: what holds, and what does not.
 use Rattle.std.specs.Prelude.{ℕ, ◌≡◌, Bool, true, false, List, [], ◌∷◌, ◌++◌, None, Some, map}
-use Rattle.pm_algebra.specs.Rows.{Row}
+use Rattle.pm_vector.specs.Rows.{Row}
 use Rattle.pm_files.specs.Files.{SavedFile}
 use Rattle.pm_object.specs.Known.{value_over}
 use Rattle.pm_object.specs.State.{HeldValue, State}

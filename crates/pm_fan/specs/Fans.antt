@@ -1,7 +1,7 @@
 -- The values of new fans: the normal fan and the face fan of a polytope (Ziegler, Lectures on Polytopes, examples 7.2 and 7.3).
 use Rattle.std.specs.Prelude.{ℕ, suc, ◌-◌, Bool, true, false, List, [], ◌∷◌, drop, filter, length, map, nat_eq, if◌then◌else◌}
 use Rattle.std.specs.List.{range_with_len}
-use Rattle.pm_algebra.specs.Numbers.{Ratio}
+use Rattle.pm_vector.specs.Numbers.{Ratio}
 use Rattle.pm_files.specs.Files.{SavedFile}
 use Rattle.pm_geom.specs.Graphs.{holds}
 use Rattle.pm_object.specs.Known.{cols_at, rows_at, sets_at, value_of_sets, value_over}

@@ -1,6 +1,6 @@
 // The dimensions of the cones of a fan.
 
-ghost use Rattle.pm_algebra.specs.Rows.{HasCols};
+ghost use Rattle.pm_vector.specs.Rows.{HasCols};
 ghost use Rattle.pm_elim.specs.Evidence.{IfWide};
 ghost use Rattle.pm_elim.specs.declared.evidence.ElimList.TheVariants as list;
 ghost use Rattle.pm_fan.specs.Dimensions.{AreDimensions, ArePlaces, IsConeEvidence, NoConeEvidence, cone_rows};

@@ -1,6 +1,6 @@
 -- Values as JSON: what is written, and what is not.
 use Rattle.std.specs.Prelude.{ℕ, List, [], ◌∷◌, codes, true, false, ◌≡◌, ◌≢◌}
-use Rattle.pm_algebra.specs.Numbers.{Ratio}
+use Rattle.pm_vector.specs.Numbers.{Ratio}
 use Rattle.pm_fraction.specs.Fractions.{ratio_of}
 use Rattle.pm_props.specs.declared.property.PropId.{PropId}
 use Rattle.pm_props.specs.declared.property.PropId.TheVariants.{Bounded, ConeDim, FVector, Graph, HasseDiagram, LinearObjective, MaximalValue, Points, VerticesInFacets}

@@ -1,7 +1,7 @@
 -- What a data file holds of an object, and what is written for it: one JSON object, its keys in byte order (polymake's data format: Assarf, Gawrilow et al., Computing convex hulls and counting integer points with polymake).
 use Rattle.std.specs.Prelude.{ℕ, Bool, false, not, List, [], ◌∷◌, ◌++◌, map, Option, Some, None, codes, decimal, if◌then◌else◌}
 use Rattle.std.specs.Str.{bytes_eq}
-use Rattle.pm_algebra.specs.Numbers.{Ratio}
+use Rattle.pm_vector.specs.Numbers.{Ratio}
 use Rattle.pm_props.specs.Names.{property_named_in}
 use Rattle.pm_props.specs.Properties.{name_in}
 use Rattle.pm_props.specs.Sets.{has}

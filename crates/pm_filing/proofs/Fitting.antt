@@ -1,7 +1,7 @@
 -- A value that suits a column count may be added to an object whose values suit it.
 use Rattle.std.proofs.lemmas.Option.{same_Some as some_is}
-use Rattle.pm_algebra.proofs.Filters.{among_map, any_from, map_among}
-use Rattle.pm_algebra.proofs.Lists.{Among, among_All, among_Contains, among_append_left, here, there}
+use Rattle.pm_vector.proofs.Filters.{among_map, any_from, map_among}
+use Rattle.pm_vector.proofs.Lists.{Among, among_All, among_Contains, among_append_left, here, there}
 use Rattle.pm_filing.specs.Filing.{loaded_value}
 use Rattle.pm_filing.proofs.SuitLaws.{all_at}
 use Rattle.pm_filing.specs.Profiles.{are_different}

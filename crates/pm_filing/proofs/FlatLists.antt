@@ -1,7 +1,7 @@
 -- What stands in lists put one behind another.
 use Rattle.std.proofs.Common.{inl, inr, ◌++◌, ◌∷◌, List, []}
 use Rattle.std.specs.Prelude.{flat_map}
-use Rattle.pm_algebra.proofs.Lists.{Among, among_append, among_append_left, among_append_right, here, there}
+use Rattle.pm_vector.proofs.Lists.{Among, among_append, among_append_left, among_append_right, here, there}
 
 pub flat_among : {X Y : Type 0} (f : X → List Y) (xs : List X) {y : Y} → Among y (flat_map f xs) → (x : X) × Among x xs × Among y (f x)
 flat_among f [] i = elim i [ ]

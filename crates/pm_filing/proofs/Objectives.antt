@@ -4,7 +4,7 @@ use Rattle.std.proofs.lemmas.Bool.{and_parts, eqb-true}
 use Rattle.std.proofs.lemmas.List.{length-append}
 use Rattle.std.specs.List.{list_all}
 use Rattle.std.specs.Prelude.{Bool, flat_map, map, nat_eq, nat_le}
-use Rattle.pm_algebra.specs.Numbers.{Ratio}
+use Rattle.pm_vector.specs.Numbers.{Ratio}
 use Rattle.pm_files.specs.Files.{SavedProgram}
 use Rattle.pm_filing.specs.Filing.{entries_of, mark_read, marks_of_programs, name_told, objective_held, objective_rows, objective_value, objectives_held, with_programs}
 use Rattle.pm_object.specs.State.{State}

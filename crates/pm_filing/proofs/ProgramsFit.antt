@@ -7,9 +7,9 @@ use Rattle.std.specs.List.{list_all, list_any}
 use Rattle.std.specs.Option.{is_some}
 use Rattle.std.specs.Prelude.{Bool, IfSome, List, None, Option, Some, [], flat_map, if◌then◌else◌, length, map, nat_eq, nat_le, nat_lt, not, option_map, suc, ℕ, ◌&&◌, ◌+◌, ◌++◌, ◌∷◌, ◌≡◌}
 use Rattle.std.specs.Str.{bytes_eq}
-use Rattle.pm_algebra.proofs.Filters.{among_map}
-use Rattle.pm_algebra.proofs.Lists.{Among, among_All, among_append_left, among_append_right, here}
-use Rattle.pm_algebra.specs.Numbers.{Ratio}
+use Rattle.pm_vector.proofs.Filters.{among_map}
+use Rattle.pm_vector.proofs.Lists.{Among, among_All, among_append_left, among_append_right, here}
+use Rattle.pm_vector.specs.Numbers.{Ratio}
 use Rattle.pm_files.specs.Files.{SavedFile, SavedProgram}
 use Rattle.pm_files.specs.Views.{program_of}
 use Rattle.pm_files.specs.declared.file.FileProgram.{FileProgram}

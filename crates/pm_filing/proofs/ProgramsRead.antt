@@ -11,8 +11,8 @@ use Rattle.std.specs.Option.{is_some}
 use Rattle.std.specs.Ordering.{match_ordering, nat_cmp}
 use Rattle.std.specs.Prelude.{codes, if◌then◌else◌, length, map, nat_le, nat_lt, not, option_and_then, option_map}
 use Rattle.std.specs.Str.{bytes_eq}
-use Rattle.pm_algebra.proofs.Lists.{Among, here, there}
-use Rattle.pm_algebra.specs.Numbers.{Ratio}
+use Rattle.pm_vector.proofs.Lists.{Among, here, there}
+use Rattle.pm_vector.specs.Numbers.{Ratio}
 use Rattle.pm_files.proofs.Ascending.{Ascends, key_is, none_at}
 use Rattle.pm_files.specs.Files.{Mark, SavedProgram}
 use Rattle.pm_filing.specs.FileParts.{FileRead, Part, at_key, is_other_form, is_programs_key, objective_in, objectives_from, objectives_of, part_at, parts_in, programs, programs_of, programs_part, property_at, read_as, then_read, value, value_part}

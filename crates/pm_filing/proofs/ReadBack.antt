@@ -6,7 +6,7 @@ use Rattle.std.proofs.lemmas.Slice.Eq.{bytes_eq-Decides}
 use Rattle.std.specs.List.{All, list_all, sum_by}
 use Rattle.std.specs.Prelude.{codes, if◌then◌else◌, not}
 use Rattle.serde_json.specs.View.{items_of as listed}
-use Rattle.pm_algebra.specs.Numbers.{Ratio}
+use Rattle.pm_vector.specs.Numbers.{Ratio}
 use Rattle.pm_fraction.proofs.ReadsBack.{reads_text}
 use Rattle.pm_fraction.specs.Text.{text_of}
 use Rattle.pm_matrix.specs.Matrices.{IsFraction}

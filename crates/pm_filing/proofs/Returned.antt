@@ -8,8 +8,8 @@ use Rattle.std.specs.List.{AllPairs, Contains, list_any}
 use Rattle.std.specs.Option.{is_none, is_some}
 use Rattle.std.specs.Prelude.{filter, flat_map, fold, if◌then◌else◌, map, nat_lt, not, option_map, option_to_list, slice_get}
 use Rattle.std.specs.Str.{bytes_eq}
-use Rattle.pm_algebra.proofs.Filters.{among_filter, among_map, any_from, any_to, filter_among, map_among}
-use Rattle.pm_algebra.proofs.Lists.{Among, Contains_among, among_All, among_Contains, among_append, among_append_left, among_append_right, here, there}
+use Rattle.pm_vector.proofs.Filters.{among_filter, among_map, any_from, any_to, filter_among, map_among}
+use Rattle.pm_vector.proofs.Lists.{Among, Contains_among, among_All, among_Contains, among_append, among_append_left, among_append_right, here, there}
 use Rattle.pm_files.specs.Files.{Mark, SavedFile}
 use Rattle.pm_filing.proofs.HeldSets.{set_of-has}
 use Rattle.pm_filing.proofs.FlatLists.{among_flat, flat_among}
@@ -36,7 +36,7 @@ use Rattle.pm_rules.specs.Rules.{rule_at}
 use Rattle.pm_rules.specs.declared.rule.Rule.{Rule}
 use Rattle.pm_types.specs.Forms.{is_formed, rows_in}
 use Rattle.pm_types.specs.Values.{PropertyValue}
-use Rattle.pm_algebra.specs.Numbers.{Ratio}
+use Rattle.pm_vector.specs.Numbers.{Ratio}
 
 -- ---- held values
 -- what stands somewhere

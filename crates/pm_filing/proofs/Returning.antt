@@ -12,9 +12,9 @@ use Rattle.std.specs.Ordering.{match_ordering, nat_cmp}
 use Rattle.std.specs.Prelude.{⊤, codes, flat_map, if◌then◌else◌, length, map, nat_eq, nat_le, nat_lt, not, option_and_then, option_map}
 use Rattle.std.specs.Str.{bytes_eq}
 use Rattle.std.proofs.lemmas.Slice.Eq.{bytes_eq-Decides}
-use Rattle.pm_algebra.proofs.Filters.{any_from, any_to, among_map, map_among}
-use Rattle.pm_algebra.specs.Numbers.{Ratio}
-use Rattle.pm_algebra.proofs.Lists.{Among, Contains_among, among_All, among_Contains, among_append, among_append_left, among_append_right, here, there}
+use Rattle.pm_vector.proofs.Filters.{any_from, any_to, among_map, map_among}
+use Rattle.pm_vector.specs.Numbers.{Ratio}
+use Rattle.pm_vector.proofs.Lists.{Among, Contains_among, among_All, among_Contains, among_append, among_append_left, among_append_right, here, there}
 use Rattle.pm_files.proofs.Ascending.{Ascends, IsBefore, contents_ascend, found_first, heading_ascends, key_is, none_at, put_ascends, same_members, values_ascend}
 use Rattle.pm_files.proofs.Members.{no_programs, not_computed, others, past_names, past_programs, type_stands}
 use Rattle.pm_filing.proofs.ReadBack.{values_back}

@@ -7,9 +7,9 @@ use Rattle.std.specs.List.{list_all, list_any}
 use Rattle.std.specs.Option.{is_none, is_some, unwrap_or}
 use Rattle.std.specs.Prelude.{filter, flat_map, fold, if◌then◌else◌, map, nat_le, not, slice_get}
 use Rattle.std.specs.Str.{bytes_eq}
-use Rattle.pm_algebra.proofs.Filters.{among_filter, among_map, any_from, any_to, filter_among, map_among}
-use Rattle.pm_algebra.proofs.Lists.{All_among, Among, Contains_among, among_All, among_append, here, there}
-use Rattle.pm_algebra.specs.Numbers.{Ratio}
+use Rattle.pm_vector.proofs.Filters.{among_filter, among_map, any_from, any_to, filter_among, map_among}
+use Rattle.pm_vector.proofs.Lists.{All_among, Among, Contains_among, among_All, among_append, here, there}
+use Rattle.pm_vector.specs.Numbers.{Ratio}
 use Rattle.pm_files.specs.Files.{Mark, SavedProgram}
 use Rattle.pm_filing.proofs.FlatLists.{flat_among}
 use Rattle.pm_filing.proofs.Objectives.{objective_is, rows_of_objective}

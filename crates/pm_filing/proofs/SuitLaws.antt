@@ -1,6 +1,6 @@
 -- The values of a file that is read suit one column count.
 use Rattle.std.proofs.lemmas.Option.{same_Some as some_is}
-use Rattle.pm_algebra.proofs.Lists.{Among, here, there, among_append, among_append_left, among_append_right}
+use Rattle.pm_vector.proofs.Lists.{Among, here, there, among_append, among_append_left, among_append_right}
 use Rattle.pm_filing.specs.FileParts.{Part, value, programs}
 use Rattle.pm_filing.specs.FileReadings.{ArePassed, ArePassedIn, Named, Seen, cols_of_value, named_objective, named_objectives, named_values}
 use Rattle.pm_filing.specs.Profiles.{objectives_in, values_in}

@@ -4,7 +4,7 @@ use Rattle.std.proofs.lemmas.Bool.{eqb-true}
 use Rattle.std.proofs.lemmas.List.Elements.{All-nil}
 use Rattle.std.specs.List.{All}
 use Rattle.std.specs.Option.{is_some}
-use Rattle.pm_algebra.proofs.Lists.{All_among, Among, Contains_among, among_All, among_Contains, here, there}
+use Rattle.pm_vector.proofs.Lists.{All_among, Among, Contains_among, among_All, among_Contains, here, there}
 use Rattle.pm_files.specs.Files.{SavedProgram}
 use Rattle.pm_filing.specs.Examples.{program}
 use Rattle.pm_filing.specs.Whole.{AreMarks}

@@ -8,8 +8,8 @@ use Rattle.std.specs.Ordering.{match_ordering, nat_cmp}
 use Rattle.std.specs.Cmp.Lexicographic.{slice_cmp}
 use Rattle.std.specs.Prelude.{codes, if◌then◌else◌, flat_map, length, map, nat_le, nat_lt, not, option_and_then, option_map}
 use Rattle.std.specs.Str.{bytes_eq, is_utf8}
-use Rattle.pm_algebra.proofs.Filters.{any_from, any_to, map_among}
-use Rattle.pm_algebra.proofs.Lists.{All_among, Among, among_All, among_append, among_append_left, here, there}
+use Rattle.pm_vector.proofs.Filters.{any_from, any_to, map_among}
+use Rattle.pm_vector.proofs.Lists.{All_among, Among, among_All, among_append, among_append_left, here, there}
 use Rattle.pm_files.proofs.Ascending.{Ascends, found_first, none_at, read_ascends}
 use Rattle.pm_files.specs.Files.{Mark, SavedFile, SavedProgram}
 use Rattle.pm_filing.proofs.HeldSets.{set_of-has}
@@ -28,7 +28,7 @@ use Rattle.pm_filing.specs.Whole.{AreMarks, IsWhole, all_values, are_of_differen
 use Rattle.pm_object.proofs.Formed.{only}
 use Rattle.pm_object.specs.Formed.{are_different as names_differ}
 use Rattle.pm_object.specs.State.{is_polytope}
-use Rattle.pm_algebra.specs.Numbers.{Ratio}
+use Rattle.pm_vector.specs.Numbers.{Ratio}
 use Rattle.pm_props.specs.NameWords.{is_name}
 use Rattle.pm_props.specs.declared.property.PropId.TheVariants.{LinearObjective}
 use Rattle.pm_json.specs.Readings.{Read, and_then, reading}

@@ -1,6 +1,6 @@
 -- Objects and files read on small ones: what each has of the other, and what not.
 use Rattle.std.specs.Prelude.{ℕ, ◌≡◌, true, false, Option, Some, None, List, [], ◌∷◌, codes}
-use Rattle.pm_algebra.specs.Numbers.{Ratio}
+use Rattle.pm_vector.specs.Numbers.{Ratio}
 use Rattle.pm_files.specs.Files.{Mark, SavedFile, SavedProgram}
 use Rattle.pm_filing.specs.Filing.{loaded_object, mark_written, marks_of_programs, objectives_held, rule_labelled, saved_file}
 use Rattle.pm_geom.specs.declared.evidence.Evidence.TheVariants.{E4}

@@ -3,7 +3,7 @@ use Rattle.std.specs.Prelude.{ℕ, Bool, false, true, Option, Some, None, List, 
 use Rattle.std.specs.List.{list_any}
 use Rattle.std.specs.Option.{is_none, unwrap_or}
 use Rattle.std.specs.Str.{bytes_eq}
-use Rattle.pm_algebra.specs.Numbers.{Ratio}
+use Rattle.pm_vector.specs.Numbers.{Ratio}
 use Rattle.pm_files.specs.Files.{Mark, SavedFile, SavedProgram}
 use Rattle.pm_geom.specs.Evidence.{evidence_number}
 use Rattle.pm_object.specs.State.{HeldValue, State, empty_object, file_value, given_at, read_at, settling, value_of, with_held}

@@ -2,7 +2,7 @@
 use Rattle.std.specs.Prelude.{◌≡◌, ◌⊎◌, ◌&&◌, ◌||◌, ◌++◌, ◌∷◌, ℕ, Bool, true, IsTrue, List, [], Option, None, Some, flat_map, if◌then◌else◌, length, map, nat_le, nat_lt}
 use Rattle.std.specs.List.{All, Contains, list_all, list_any}
 use Rattle.std.specs.Option.{is_none, is_some}
-use Rattle.pm_algebra.specs.Numbers.{Ratio}
+use Rattle.pm_vector.specs.Numbers.{Ratio}
 use Rattle.pm_files.specs.Files.{Mark, SavedFile, file_bytes}
 use Rattle.pm_filing.specs.Filing.{failure_of, is_own_found, loaded_object, marked, name_told, objective_value, unsettled_object}
 use Rattle.pm_filing.specs.Profiles.{are_different, same_label}

@@ -1,6 +1,6 @@
 -- Whole files, marks and loaded values read on small ones: what holds of them, and what does not.
 use Rattle.std.specs.Prelude.{◌≡◌, ℕ, true, false, None, Some, List, [], ◌∷◌, codes}
-use Rattle.pm_algebra.specs.Numbers.{Ratio}
+use Rattle.pm_vector.specs.Numbers.{Ratio}
 use Rattle.pm_files.specs.Files.{Mark, SavedFile, SavedProgram}
 use Rattle.pm_filing.specs.Examples.{excluded_second, greatest, polytope_with, program, row, small_file, small_object, small_polytope, two_programs, two_rules}
 use Rattle.pm_filing.specs.Filing.{each_label_once}

@@ -1,6 +1,6 @@
 -- Products and exact quotients of numbers of 128 bits, as the code computes them.
-use Rattle.pm_algebra.proofs.Ring.{ring}
-use Rattle.pm_algebra.specs.Numbers.{InRange}
+use Rattle.pm_vector.proofs.Ring.{ring}
+use Rattle.pm_vector.specs.Numbers.{InRange}
 use Rattle.std.proofs.Common.{ap, arith, refl, sym}
 use Rattle.std.proofs.lemmas.Int.{fits_signed_from_abs, fits_signed_mul, ints, quot_fits, to_z-of_z, unsigned_abs-mul}
 use Rattle.std.specs.Int.{IsGcd, cast_signed, cast_unsigned, w128, ◌∣◌}

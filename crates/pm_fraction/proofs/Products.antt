@@ -1,6 +1,6 @@
 -- The product of two fractions is in lowest terms, once each numerator and the other's denominator are cancelled.
-use Rattle.pm_algebra.proofs.Signs.{mul_pos, pos_cancel}
-use Rattle.pm_algebra.specs.Numbers.{IsReduced, Ratio}
+use Rattle.pm_vector.proofs.Signs.{mul_pos, pos_cancel}
+use Rattle.pm_vector.specs.Numbers.{IsReduced, Ratio}
 use Rattle.pm_fraction.proofs.Bezout.{Bezout, from_gcd}
 use Rattle.pm_fraction.proofs.Reduced.{bezout_of, product_reduced, product_same, reduced_from}
 use Rattle.pm_fraction.specs.Arithmetic.{product_of}

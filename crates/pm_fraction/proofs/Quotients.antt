@@ -1,7 +1,7 @@
 -- Opposites, inverses and quotients of whole numbers in lowest terms.
-use Rattle.pm_algebra.proofs.Ring.{neg-mul, ring}
-use Rattle.pm_algebra.proofs.Signs.{mul_cancel}
-use Rattle.pm_algebra.specs.Numbers.{IsReduced, Ratio, SameRatio}
+use Rattle.pm_vector.proofs.Ring.{neg-mul, ring}
+use Rattle.pm_vector.proofs.Signs.{mul_cancel}
+use Rattle.pm_vector.specs.Numbers.{IsReduced, Ratio, SameRatio}
 use Rattle.pm_fraction.proofs.Bezout.{Bezout, cancel, from_gcd, swap}
 use Rattle.pm_fraction.proofs.Products.{not_zero}
 use Rattle.pm_fraction.proofs.Reduced.{bezout_of, reduced_from}

@@ -1,5 +1,5 @@
 -- What `read` answers on the text of a fraction is that fraction.
-use Rattle.pm_algebra.specs.Numbers.{InRange, InRangeRatio, IsReduced, Ratio}
+use Rattle.pm_vector.specs.Numbers.{InRange, InRangeRatio, IsReduced, Ratio}
 use Rattle.pm_fraction.proofs.Products.{not_zero}
 use Rattle.pm_fraction.proofs.Quotients.{same_through}
 use Rattle.pm_fraction.proofs.Reduced.{same_reduced}

@@ -1,7 +1,7 @@
 -- Fractions in lowest terms: a number has one, and what the arithmetic makes is one.
-use Rattle.pm_algebra.proofs.Ring.{ring}
-use Rattle.pm_algebra.proofs.Signs.{mul_cancel, mul_le, pos_cancel, weaken}
-use Rattle.pm_algebra.specs.Numbers.{IsReduced, Ratio, SameRatio}
+use Rattle.pm_vector.proofs.Ring.{ring}
+use Rattle.pm_vector.proofs.Signs.{mul_cancel, mul_le, pos_cancel, weaken}
+use Rattle.pm_vector.specs.Numbers.{IsReduced, Ratio, SameRatio}
 use Rattle.pm_fraction.proofs.Bezout.{Bezout, add_multiple, cancel, coprime, divide, from_gcd, product, swap}
 use Rattle.pm_fraction.specs.Fractions.{ratio_of}
 use Rattle.std.proofs.Common.{ap, ap₂, arith, subst, sym, ◌∙◌}

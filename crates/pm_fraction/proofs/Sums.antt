@@ -1,7 +1,7 @@
 -- The sum of two fractions over the least common denominator, in lowest terms.
-use Rattle.pm_algebra.proofs.Ring.{ring}
-use Rattle.pm_algebra.proofs.Signs.{mul_cancel, mul_pos}
-use Rattle.pm_algebra.specs.Numbers.{IsReduced, Ratio}
+use Rattle.pm_vector.proofs.Ring.{ring}
+use Rattle.pm_vector.proofs.Signs.{mul_cancel, mul_pos}
+use Rattle.pm_vector.specs.Numbers.{IsReduced, Ratio}
 use Rattle.pm_fraction.proofs.Bezout.{euclid}
 use Rattle.pm_fraction.proofs.Machine.{exact_quotient, gcd_positive}
 use Rattle.pm_fraction.proofs.Products.{bezout_from, not_zero, positive_factor}

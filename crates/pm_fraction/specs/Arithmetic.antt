@@ -1,5 +1,5 @@
 -- Sums, products and quotients of fractions.
-use Rattle.pm_algebra.specs.Numbers.{InRange, Ratio}
+use Rattle.pm_vector.specs.Numbers.{InRange, Ratio}
 use Rattle.std.specs.Int.{IsGcd}
 use Rattle.std.specs.Prelude.{if◌then◌else◌, int_div, int_lt, unsigned_abs}
 use lib.IntN.{neg_ℤ, pos, ℤ, ◌*ℤ◌, ◌+ℤ◌}

@@ -1,5 +1,5 @@
 -- Fractions of whole numbers, in lowest terms.
-use Rattle.pm_algebra.specs.Numbers.{InRangeRatio, IsReduced, Ratio, SameRatio}
+use Rattle.pm_vector.specs.Numbers.{InRangeRatio, IsReduced, Ratio, SameRatio}
 use Rattle.std.specs.Prelude.{Bool, int_lt, ℕ, if◌then◌else◌, ◌≢◌}
 use lib.IntN.{neg_ℤ, pos, ℤ}
 

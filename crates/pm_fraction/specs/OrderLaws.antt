@@ -1,7 +1,7 @@
 -- The laws of the order of fractions, which `Ord` asks for: it is total, and two pairs tie only where they are one pair.
-use Rattle.pm_algebra.proofs.Ring.{ring}
-use Rattle.pm_algebra.proofs.Signs.{mul_pos, pos_cancel}
-use Rattle.pm_algebra.specs.Numbers.{Ratio}
+use Rattle.pm_vector.proofs.Ring.{ring}
+use Rattle.pm_vector.proofs.Signs.{mul_pos, pos_cancel}
+use Rattle.pm_vector.specs.Numbers.{Ratio}
 use Rattle.pm_fraction.specs.Order.{cross_cmp, fraction_cmp, parts_cmp, positive_den}
 use Rattle.std.proofs.Common.{ap, ap₂, arith, refl, subst, sym, ◌∙◌}
 use Rattle.std.proofs.lemmas.Cmp.{int_cmp_total, int_ranked, on_total, tied_itself, then_total}

@@ -1,5 +1,5 @@
 -- Fractions as texts: an optional `-`, digits, and optionally `/` and digits.
-use Rattle.pm_algebra.specs.Numbers.{Ratio}
+use Rattle.pm_vector.specs.Numbers.{Ratio}
 use Rattle.pm_fraction.specs.Fractions.{IsLowestTermsOf, ratio_of, signed}
 use Rattle.pm_fraction.specs.declared.error.NumError.TheVariants.{DivideByZero, NotANumber, Wide, ZeroDenominator}
 use Rattle.pm_fraction.specs.declared.error.NumError.{NumError}

@@ -2,7 +2,7 @@
 
 ghost use Rattle.std.specs.Prelude.{◌≡◌, ◌≢◌, ◌⊎◌, ◌↔◌, ℤ, pos, ◌<ℤ◌, IfOk, IfErr, OnOk, OnErr, IsErrOf, unsigned_abs};
 ghost use Rattle.std.specs.Int.{◌∣◌};
-ghost use Rattle.pm_algebra.specs.Numbers.{InRangeRatio};
+ghost use Rattle.pm_vector.specs.Numbers.{InRangeRatio};
 ghost use Rattle.pm_fraction.specs.Fractions.{IsLowestTermsOf, IsTooWide, ratio_of};
 ghost use Rattle.pm_fraction.specs.Arithmetic.{AreTermsInRange, SumLeaves, SumStays, terms, opposite_of, product_of, quotient_of, sum_of};
 

@@ -16,7 +16,7 @@ pub struct Fraction {
 }
 
 impl Model for Fraction {
-    ghost use Rattle.pm_algebra.specs.Numbers.{IsReduced, Ratio};
+    ghost use Rattle.pm_vector.specs.Numbers.{IsReduced, Ratio};
 
     ghost Value = { Ratio };
 
@@ -28,7 +28,7 @@ impl Model for Fraction {
 }
 
 impl Fraction {
-    ghost use Rattle.pm_algebra.specs.Numbers.{InRange, InRangeRatio, IsReduced};
+    ghost use Rattle.pm_vector.specs.Numbers.{InRange, InRangeRatio, IsReduced};
     ghost use Rattle.pm_fraction.specs.Fractions.{IsLowestTermsOf, IsTooWide, is_quotient_negative, ratio_of, signed};
     ghost use Rattle.pm_fraction.specs.Arithmetic.{inverse_of, opposite_of};
 

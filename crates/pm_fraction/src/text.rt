@@ -74,7 +74,7 @@ impl fmt::Display for Fraction {
 }
 
 impl Fraction {
-    ghost use Rattle.pm_algebra.specs.Numbers.{Ratio};
+    ghost use Rattle.pm_vector.specs.Numbers.{Ratio};
     ghost use Rattle.pm_fraction.specs.declared.error.NumError.{NumError};
     ghost use Rattle.std.specs.Prelude.{Result, Ok};
 

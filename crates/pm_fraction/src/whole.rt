@@ -2,7 +2,7 @@
 
 ghost use Rattle.std.specs.Prelude.{◌≡◌, ◌<◌, ◌≤◌, ◌^◌, ℤ, pos, ◌+ℤ◌, ◌*ℤ◌, ◌<ℤ◌, neg_ℤ, IfOk, IfErr, OnOk, IsTrue, ◌↔◌, unsigned_abs, int_div};
 ghost use Rattle.std.specs.Int.{IsGcd, ◌∣◌};
-ghost use Rattle.pm_algebra.specs.Numbers.{InRange};
+ghost use Rattle.pm_vector.specs.Numbers.{InRange};
 ghost use Rattle.pm_fraction.specs.Divisors.{IsCancelled};
 ghost use Rattle.pm_fraction.specs.Fractions.{signed};
 
@@ -17,7 +17,7 @@ pub(crate) struct Whole {
 
 impl Model for Whole {
     ghost use Rattle.std.specs.Prelude.{ℤ};
-    ghost use Rattle.pm_algebra.specs.Numbers.{InRange};
+    ghost use Rattle.pm_vector.specs.Numbers.{InRange};
 
     ghost Value = { ℤ };
 

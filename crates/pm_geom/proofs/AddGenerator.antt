@@ -1,10 +1,10 @@
 -- One more generator v: the rows x of which some p x - q v with p > 0 and q >= 0 is in a set that finitely many rows cut out are cut out by finitely many rows.
-use Rattle.pm_algebra.proofs.ConeLaws.{After}
-use Rattle.pm_algebra.proofs.Lists.{Among, all_at, all_from, here, there}
-use Rattle.pm_algebra.proofs.Ring.{ring}
-use Rattle.pm_algebra.proofs.RowLaws.{dot-difference, length-difference, length-plus, length-times, plus-dot, times-dot}
-use Rattle.pm_algebra.proofs.Signs.{mul_nonneg, nonneg_cancel}
-use Rattle.pm_algebra.specs.Rows.{Row, difference, dot, plus, times}
+use Rattle.pm_vector.proofs.ConeLaws.{After}
+use Rattle.pm_vector.proofs.Lists.{Among, all_at, all_from, here, there}
+use Rattle.pm_vector.proofs.Ring.{ring}
+use Rattle.pm_vector.proofs.RowLaws.{dot-difference, length-difference, length-plus, length-times, plus-dot, times-dot}
+use Rattle.pm_vector.proofs.Signs.{mul_nonneg, nonneg_cancel}
+use Rattle.pm_vector.specs.Rows.{Row, difference, dot, plus, times}
 use Rattle.pm_geom.proofs.Cuts.{CutBy, cut_as, cut_both, cut_each, cut_if, cut_one}
 use Rattle.pm_geom.specs.Cones.{CutOut}
 use Rattle.std.proofs.Common.{arith, inl, inr, refl, ◌∙◌}

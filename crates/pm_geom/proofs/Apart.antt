@@ -1,10 +1,10 @@
 -- Orders by separation: where each row of V is apart from the cone of the other rows and the lines K, and one row is positive on all of V, V is an order of cone(V) + span(K).
-use Rattle.pm_algebra.proofs.ConeLaws.{dot_in, in_cone_set, in_divide, in_generator, in_of, in_plus, in_same, in_times}
-use Rattle.pm_algebra.proofs.Lists.{AllPairs_cons, All_among, Among, Any_among, here, there}
-use Rattle.pm_algebra.proofs.RowLaws.{same_sym}
-use Rattle.pm_algebra.proofs.Signs.{weaken}
-use Rattle.pm_algebra.specs.Cones.{InCone}
-use Rattle.pm_algebra.specs.Rows.{HasCols, Row, dot, opposite}
+use Rattle.pm_vector.proofs.ConeLaws.{dot_in, in_cone_set, in_divide, in_generator, in_of, in_plus, in_same, in_times}
+use Rattle.pm_vector.proofs.Lists.{AllPairs_cons, All_among, Among, Any_among, here, there}
+use Rattle.pm_vector.proofs.RowLaws.{same_sym}
+use Rattle.pm_vector.proofs.Signs.{weaken}
+use Rattle.pm_vector.specs.Cones.{InCone}
+use Rattle.pm_vector.specs.Rows.{HasCols, Row, dot, opposite}
 use Rattle.pm_geom.proofs.Extreme.{extreme, in_lines, like_generator}
 use Rattle.pm_geom.proofs.Facets.{dot-opposite}
 use Rattle.pm_geom.proofs.Polar.{cols_at}

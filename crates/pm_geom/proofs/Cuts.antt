@@ -1,6 +1,6 @@
 -- Sets of rows that finitely many rows cut out: closed under conjunction, over finite lists too.
-use Rattle.pm_algebra.proofs.Lists.{Among, all_append, append_all, here, there}
-use Rattle.pm_algebra.specs.Rows.{HasCols, Row, dot}
+use Rattle.pm_vector.proofs.Lists.{Among, all_append, append_all, here, there}
+use Rattle.pm_vector.specs.Rows.{HasCols, Row, dot}
 use Rattle.pm_geom.specs.Cones.{CutOut}
 use Rattle.std.proofs.Common.{inl, inr}
 use Rattle.std.specs.List.{AllByRecursion}

@@ -1,13 +1,13 @@
 -- The dimension of the span of a cone: there is one, it is n less the number of rows of a basis of those that vanish, and it is 0 for {0} alone.
-use Rattle.pm_algebra.proofs.ConeLaws.{combination_none, in_generator, in_line, in_line_opposite, in_zero, none_to_zero}
-use Rattle.pm_algebra.proofs.Lists.{Among, all_append, all_at, all_from, among_append, among_append_left, among_append_right, here, there}
-use Rattle.pm_algebra.proofs.Ring.{ring}
-use Rattle.pm_algebra.proofs.RowLaws.{dot-nil, dot-same, dot_comm, entry-plus, entry-times, length-opposite}
-use Rattle.pm_algebra.specs.Cones.{InCone, InSpan, IsIndependent, combination}
-use Rattle.pm_algebra.specs.Rows.{HasCols, IsZero, Row, dot, entry, opposite}
-use Rattle.pm_bases.proofs.Rank.{independent_are_few, rank_is_determined}
-use Rattle.pm_bases.proofs.Spans.{at_place, same_span, same_span_refl, span_at, span_from, span_of, span_to}
-use Rattle.pm_bases.specs.Bases.{IsRank, SameSpan, row_at}
+use Rattle.pm_vector.proofs.ConeLaws.{combination_none, in_generator, in_line, in_line_opposite, in_zero, none_to_zero}
+use Rattle.pm_vector.proofs.Lists.{Among, all_append, all_at, all_from, among_append, among_append_left, among_append_right, here, there}
+use Rattle.pm_vector.proofs.Ring.{ring}
+use Rattle.pm_vector.proofs.RowLaws.{dot-nil, dot-same, dot_comm, entry-plus, entry-times, length-opposite}
+use Rattle.pm_vector.specs.Cones.{InCone, InSpan, IsIndependent, combination}
+use Rattle.pm_vector.specs.Rows.{HasCols, IsZero, Row, dot, entry, opposite}
+use Rattle.pm_vector.proofs.Rank.{independent_are_few, rank_is_determined}
+use Rattle.pm_vector.proofs.Spans.{at_place, same_span, same_span_refl, span_at, span_from, span_of, span_to}
+use Rattle.pm_vector.specs.Bases.{IsRank, SameSpan, row_at}
 use Rattle.pm_elim.proofs.DotLaws.{dot_span_zero}
 use Rattle.pm_geom.proofs.Facets.{dot-opposite}
 use Rattle.pm_geom.proofs.Independent.{decide_zero, independent_both, independent_more, self_zero, units, units_cols, units_entry, units_independent, units_length, units_past}

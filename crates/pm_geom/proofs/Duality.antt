@@ -1,10 +1,10 @@
 -- Weak duality, and that multipliers exclude a point.
-use Rattle.pm_algebra.proofs.Ring.{ring}
-use Rattle.pm_algebra.proofs.RowLaws.{dot-plus, dot-same, dot-times, dot_comm, entry-times}
-use Rattle.pm_algebra.proofs.Signs.{le_cancel, mul_cancel, mul_le, mul_nonneg, mul_pos, nonneg_cancel, pos_cancel}
-use Rattle.pm_algebra.specs.Cones.{combination}
-use Rattle.pm_algebra.specs.Numbers.{Ratio}
-use Rattle.pm_algebra.specs.Rows.{Row, dot, entry, plus, ratio_at, times}
+use Rattle.pm_vector.proofs.Ring.{ring}
+use Rattle.pm_vector.proofs.RowLaws.{dot-plus, dot-same, dot-times, dot_comm, entry-times}
+use Rattle.pm_vector.proofs.Signs.{le_cancel, mul_cancel, mul_le, mul_nonneg, mul_pos, nonneg_cancel, pos_cancel}
+use Rattle.pm_vector.specs.Cones.{combination}
+use Rattle.pm_vector.specs.Numbers.{Ratio}
+use Rattle.pm_vector.specs.Rows.{Row, dot, entry, plus, ratio_at, times}
 use Rattle.pm_geom.specs.Duality.{DirectionIsWithoutBound, InfeasibleExcludes, InfeasibleHasNoPoint, OptimumIsMaximum, WeakDuality}
 use Rattle.pm_geom.specs.Programs.{AreMultipliers, IsDual, IsTimes, Solves}
 use Rattle.std.proofs.Common.{ap, arith, refl, sym, ◌∙◌}

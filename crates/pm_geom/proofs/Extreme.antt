@@ -1,11 +1,11 @@
 -- A generator that the others do not generate is extreme; each extreme ray is like a generator; and a row whose opposite is in the cone needs the lines alone.
-use Rattle.pm_algebra.proofs.ConeLaws.{After, in_divide, in_generator, in_more, in_plus, in_same, in_times, in_to_after, lines_opposite}
-use Rattle.pm_algebra.proofs.Lists.{Among, here, there}
-use Rattle.pm_algebra.proofs.Ring.{mul_assoc, ring}
-use Rattle.pm_algebra.proofs.RowLaws.{entry-difference, entry-opposite, entry-plus, entry-times, length-difference, length-times}
-use Rattle.pm_algebra.proofs.Signs.{mul_pos, times_both, weaken}
-use Rattle.pm_algebra.specs.Cones.{InCone, IsConeSet}
-use Rattle.pm_algebra.specs.Rows.{Row, Same, difference, entry, opposite, plus, times}
+use Rattle.pm_vector.proofs.ConeLaws.{After, in_divide, in_generator, in_more, in_plus, in_same, in_times, in_to_after, lines_opposite}
+use Rattle.pm_vector.proofs.Lists.{Among, here, there}
+use Rattle.pm_vector.proofs.Ring.{mul_assoc, ring}
+use Rattle.pm_vector.proofs.RowLaws.{entry-difference, entry-opposite, entry-plus, entry-times, length-difference, length-times}
+use Rattle.pm_vector.proofs.Signs.{mul_pos, times_both, weaken}
+use Rattle.pm_vector.specs.Cones.{InCone, IsConeSet}
+use Rattle.pm_vector.specs.Rows.{Row, Same, difference, entry, opposite, plus, times}
 use Rattle.pm_geom.specs.Cones.{IsExtreme, MultipleModulo, SameModulo}
 use Rattle.std.proofs.Common.{arith, sym, ◌∙◌}
 use Rattle.std.proofs.lemmas.Int.{by_lt_z, ints}

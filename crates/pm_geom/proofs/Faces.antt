@@ -1,11 +1,11 @@
 -- Faces are exactly the intersections of facets.
-use Rattle.pm_algebra.proofs.ConeLaws.{After, dot_in, in_line, in_to_after, lines_opposite}
-use Rattle.pm_algebra.proofs.Lists.{All_among, Among, Contains_among, among_All, among_Contains, here, there}
-use Rattle.pm_algebra.proofs.Ring.{ring}
-use Rattle.pm_algebra.proofs.RowLaws.{dot-difference, dot-zeros, dot_comm, length-opposite, length-plus, length-zeros, plus-dot, zeros}
-use Rattle.pm_algebra.proofs.Signs.{mul_cancel, mul_nonneg, weaken}
-use Rattle.pm_algebra.specs.Cones.{InCone}
-use Rattle.pm_algebra.specs.Rows.{Row, difference, dot, opposite, plus}
+use Rattle.pm_vector.proofs.ConeLaws.{After, dot_in, in_line, in_to_after, lines_opposite}
+use Rattle.pm_vector.proofs.Lists.{All_among, Among, Contains_among, among_All, among_Contains, here, there}
+use Rattle.pm_vector.proofs.Ring.{ring}
+use Rattle.pm_vector.proofs.RowLaws.{dot-difference, dot-zeros, dot_comm, length-opposite, length-plus, length-zeros, plus-dot, zeros}
+use Rattle.pm_vector.proofs.Signs.{mul_cancel, mul_nonneg, weaken}
+use Rattle.pm_vector.specs.Cones.{InCone}
+use Rattle.pm_vector.specs.Rows.{Row, difference, dot, opposite, plus}
 use Rattle.pm_geom.proofs.Facets.{Duals, duals, facet_rows_cut_out, opposite-dot, order_as, order_generates, vanishes_line}
 use Rattle.pm_geom.proofs.Polar.{cols_at}
 use Rattle.pm_geom.specs.Cones.{InLineality, IsExtreme, IsValid, Vanishes}

@@ -1,10 +1,10 @@
 -- Any order will do; and facet rows, which are the extreme rows among the valid ones.
-use Rattle.pm_algebra.proofs.ConeLaws.{dot_in, in_cone_set, in_generator, in_line, in_line_opposite, in_of, in_through, lines_opposite}
-use Rattle.pm_algebra.proofs.Lists.{All_among, Among, all_append, among_All, among_append, among_append_left, among_append_right, here, there}
-use Rattle.pm_algebra.proofs.Ring.{neg_one_mul}
-use Rattle.pm_algebra.proofs.RowLaws.{dot-times, dot_comm, length-opposite, times-dot}
-use Rattle.pm_algebra.specs.Cones.{InCone}
-use Rattle.pm_algebra.specs.Rows.{HasCols, Row, dot, opposite}
+use Rattle.pm_vector.proofs.ConeLaws.{dot_in, in_cone_set, in_generator, in_line, in_line_opposite, in_of, in_through, lines_opposite}
+use Rattle.pm_vector.proofs.Lists.{All_among, Among, all_append, among_All, among_append, among_append_left, among_append_right, here, there}
+use Rattle.pm_vector.proofs.Ring.{neg_one_mul}
+use Rattle.pm_vector.proofs.RowLaws.{dot-times, dot_comm, length-opposite, times-dot}
+use Rattle.pm_vector.specs.Cones.{InCone}
+use Rattle.pm_vector.specs.Rows.{HasCols, Row, dot, opposite}
 use Rattle.pm_geom.proofs.Polar.{bipolar, cols_at, cut_at, cut_from, cut_is_generated}
 use Rattle.pm_geom.proofs.Reduce.{alike_in, extreme_as, extremes_generate, same_modulo_as}
 use Rattle.pm_geom.specs.Cones.{CutOut, InLineality, IsExtreme, IsOrder, IsValid, SameModulo, Vanishes}

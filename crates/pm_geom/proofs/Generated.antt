@@ -1,9 +1,9 @@
 -- Every generated cone is cut out by finitely many rows.
-use Rattle.pm_algebra.proofs.ConeLaws.{in_from_after, in_to_after, line_from_after, line_to_after, none_from_zero, none_to_zero}
-use Rattle.pm_algebra.proofs.Ring.{ring}
-use Rattle.pm_algebra.proofs.RowLaws.{dot-zeros, length-opposite, length-zeros, zeros}
-use Rattle.pm_algebra.specs.Cones.{InCone}
-use Rattle.pm_algebra.specs.Rows.{HasCols, IsZero, Row, entry, opposite}
+use Rattle.pm_vector.proofs.ConeLaws.{in_from_after, in_to_after, line_from_after, line_to_after, none_from_zero, none_to_zero}
+use Rattle.pm_vector.proofs.Ring.{ring}
+use Rattle.pm_vector.proofs.RowLaws.{dot-zeros, length-opposite, length-zeros, zeros}
+use Rattle.pm_vector.specs.Cones.{InCone}
+use Rattle.pm_vector.specs.Rows.{HasCols, IsZero, Row, entry, opposite}
 use Rattle.pm_geom.proofs.AddGenerator.{cut_after}
 use Rattle.pm_geom.proofs.Cuts.{CutBy, cut_as}
 use Rattle.pm_geom.specs.Cones.{CutOut}

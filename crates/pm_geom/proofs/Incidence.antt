@@ -1,9 +1,9 @@
 -- Whether a facet row vanishes on a ray does not depend on the representatives, up to positive scale, vanishing rows and lineality.
-use Rattle.pm_algebra.proofs.Ring.{ring}
-use Rattle.pm_algebra.proofs.RowLaws.{dot-plus, dot-same, dot-times, dot_comm, length-opposite, plus-dot, times-dot}
-use Rattle.pm_algebra.proofs.Signs.{mul_cancel, mul_pos, times_both}
-use Rattle.pm_algebra.specs.Cones.{InCone}
-use Rattle.pm_algebra.specs.Rows.{Row, dot, opposite, plus, times}
+use Rattle.pm_vector.proofs.Ring.{ring}
+use Rattle.pm_vector.proofs.RowLaws.{dot-plus, dot-same, dot-times, dot_comm, length-opposite, plus-dot, times-dot}
+use Rattle.pm_vector.proofs.Signs.{mul_cancel, mul_pos, times_both}
+use Rattle.pm_vector.specs.Cones.{InCone}
+use Rattle.pm_vector.specs.Rows.{Row, dot, opposite, plus, times}
 use Rattle.pm_geom.proofs.Facets.{dot-opposite}
 use Rattle.pm_geom.specs.Cones.{InLineality, IsValid, SameModulo}
 use Rattle.std.proofs.Common.{arith, sym, ◌∙◌}

@@ -1,13 +1,13 @@
 -- Independent rows: one more, two lists that are orthogonal, and the unit rows.
-use Rattle.pm_algebra.proofs.ConeLaws.{combination_none, dot_combination_lines, in_combination_lines, in_line, in_line_opposite, in_same, lines_opposite}
-use Rattle.pm_algebra.proofs.Lists.{Among}
-use Rattle.pm_algebra.proofs.Ring.{ring}
-use Rattle.pm_algebra.proofs.RowLaws.{dot-nil, dot-plus, dot-same, dot_comm, entry-opposite, entry-plus, entry-times, length-zeros, zeros}
-use Rattle.pm_algebra.proofs.Signs.{sq_nonneg}
-use Rattle.pm_algebra.specs.Cones.{InSpan, IsIndependent, combination}
-use Rattle.pm_algebra.specs.Rows.{HasCols, IsZero, Row, dot, entry, plus, times}
-use Rattle.pm_bases.proofs.Rank.{mul_not_zero}
-use Rattle.pm_bases.proofs.Spans.{span_divide}
+use Rattle.pm_vector.proofs.ConeLaws.{combination_none, dot_combination_lines, in_combination_lines, in_line, in_line_opposite, in_same, lines_opposite}
+use Rattle.pm_vector.proofs.Lists.{Among}
+use Rattle.pm_vector.proofs.Ring.{ring}
+use Rattle.pm_vector.proofs.RowLaws.{dot-nil, dot-plus, dot-same, dot_comm, entry-opposite, entry-plus, entry-times, length-zeros, zeros}
+use Rattle.pm_vector.proofs.Signs.{sq_nonneg}
+use Rattle.pm_vector.specs.Cones.{InSpan, IsIndependent, combination}
+use Rattle.pm_vector.specs.Rows.{HasCols, IsZero, Row, dot, entry, plus, times}
+use Rattle.pm_vector.proofs.Rank.{mul_not_zero}
+use Rattle.pm_vector.proofs.Spans.{span_divide}
 use Rattle.std.proofs.Common.{ap, arith, inl, inr, refl, sym, ◌∙◌}
 use Rattle.std.proofs.lemmas.Bool.{cases_lt}
 use Rattle.std.proofs.lemmas.Int.{by_lt_z, ints}

@@ -1,10 +1,10 @@
 -- Any order of the facet rows will do, with any rows that span those that vanish: they cut out the cone, and the rows with product 0 with each of them are its lineality.
-use Rattle.pm_algebra.proofs.ConeLaws.{dot_in, in_line}
-use Rattle.pm_algebra.proofs.Lists.{All_among, Among, all_at, all_from, among_All, among_append, among_append_left, among_append_right}
-use Rattle.pm_algebra.proofs.RowLaws.{dot_comm, length-opposite}
-use Rattle.pm_algebra.specs.Cones.{InCone, InSpan}
-use Rattle.pm_algebra.specs.Rows.{HasCols, Row, dot, opposite}
-use Rattle.pm_bases.proofs.Spans.{same_span_sym}
+use Rattle.pm_vector.proofs.ConeLaws.{dot_in, in_line}
+use Rattle.pm_vector.proofs.Lists.{All_among, Among, all_at, all_from, among_All, among_append, among_append_left, among_append_right}
+use Rattle.pm_vector.proofs.RowLaws.{dot_comm, length-opposite}
+use Rattle.pm_vector.specs.Cones.{InCone, InSpan}
+use Rattle.pm_vector.specs.Rows.{HasCols, Row, dot, opposite}
+use Rattle.pm_vector.proofs.Spans.{same_span_sym}
 use Rattle.pm_elim.proofs.DotLaws.{null_of_span}
 use Rattle.pm_elim.specs.NullSpaces.{IsNull}
 use Rattle.pm_geom.proofs.Facets.{Duals, dot-opposite, duals, order_as, order_generates, vanishes_line}

@@ -1,9 +1,9 @@
 -- Membership, Farkas, the bipolar theorem, and: a cone that finitely many rows cut out is generated.
-use Rattle.pm_algebra.proofs.ConeLaws.{dot_in, in_generator}
-use Rattle.pm_algebra.proofs.Lists.{Among, all_at, all_from, here, there}
-use Rattle.pm_algebra.proofs.RowLaws.{dot_comm}
-use Rattle.pm_algebra.specs.Cones.{InCone}
-use Rattle.pm_algebra.specs.Rows.{HasCols, Row, dot}
+use Rattle.pm_vector.proofs.ConeLaws.{dot_in, in_generator}
+use Rattle.pm_vector.proofs.Lists.{Among, all_at, all_from, here, there}
+use Rattle.pm_vector.proofs.RowLaws.{dot_comm}
+use Rattle.pm_vector.specs.Cones.{InCone}
+use Rattle.pm_vector.specs.Rows.{HasCols, Row, dot}
 use Rattle.pm_geom.proofs.Cuts.{CutBy}
 use Rattle.pm_geom.proofs.Generated.{cut_in}
 use Rattle.pm_geom.specs.Cones.{CutOut, IsValid}

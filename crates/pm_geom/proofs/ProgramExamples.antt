@@ -1,7 +1,7 @@
 -- The definitions of linear programs on small programs.
-use Rattle.pm_algebra.proofs.Ring.{ring}
-use Rattle.pm_algebra.proofs.Signs.{mul_pos}
-use Rattle.pm_algebra.specs.Rows.{Row, dot, entry, ratio_at}
+use Rattle.pm_vector.proofs.Ring.{ring}
+use Rattle.pm_vector.proofs.Signs.{mul_pos}
+use Rattle.pm_vector.specs.Rows.{Row, dot, entry, ratio_at}
 use Rattle.pm_geom.proofs.Duality.{direction_is_without_bound, infeasible_excludes, infeasible_has_no_point, optimum_is_maximum, weak_duality}
 use Rattle.pm_geom.specs.ProgramExamples.{ProgramsAreRead, nothing, positive_line, ratio, row, segment, wholes}
 use Rattle.pm_geom.specs.Programs.{HasValue, IsAttained, IsDual, IsInfeasible, IsOptimal, IsPoint, IsTimes, IsUnbounded, Solves}

@@ -1,10 +1,10 @@
 -- The extreme rays with the lineality generate the cone: the generators are parted into lines and the others, and of the others those that the rest generates are dropped.
-use Rattle.pm_algebra.proofs.ConeLaws.{in_cone_set, in_divide, in_generator, in_line, in_line_opposite, in_of, in_plus, in_same, in_through, in_times, lines_opposite}
-use Rattle.pm_algebra.proofs.Lists.{AllPairs_cons, All_among, Among, Any_among, all_append, all_from, among_append, among_append_left, among_append_right, here, there}
-use Rattle.pm_algebra.proofs.RowLaws.{entry-opposite, entry-plus, entry-times, length-opposite}
-use Rattle.pm_algebra.proofs.Signs.{weaken}
-use Rattle.pm_algebra.specs.Cones.{InCone, IsConeSet}
-use Rattle.pm_algebra.specs.Rows.{HasCols, Row, opposite}
+use Rattle.pm_vector.proofs.ConeLaws.{in_cone_set, in_divide, in_generator, in_line, in_line_opposite, in_of, in_plus, in_same, in_through, in_times, lines_opposite}
+use Rattle.pm_vector.proofs.Lists.{AllPairs_cons, All_among, Among, Any_among, all_append, all_from, among_append, among_append_left, among_append_right, here, there}
+use Rattle.pm_vector.proofs.RowLaws.{entry-opposite, entry-plus, entry-times, length-opposite}
+use Rattle.pm_vector.proofs.Signs.{weaken}
+use Rattle.pm_vector.specs.Cones.{InCone, IsConeSet}
+use Rattle.pm_vector.specs.Rows.{HasCols, Row, opposite}
 use Rattle.pm_geom.proofs.Extreme.{extreme, in_lines, like_generator}
 use Rattle.pm_geom.proofs.Polar.{cols_at, membership_decided}
 use Rattle.pm_geom.specs.Cones.{InLineality, IsExtreme, IsOrder, MultipleModulo, SameModulo}

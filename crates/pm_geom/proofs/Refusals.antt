@@ -1,9 +1,9 @@
 -- What the definitions refuse: a list with one extreme ray twice, a list with a row that is not extreme, a row that only a multiple parts, and cones that are over no polytope.
-use Rattle.pm_algebra.proofs.ConeLaws.{dot_in, in_generator, in_zero}
-use Rattle.pm_algebra.proofs.Lists.{Among, among_All, here, there}
-use Rattle.pm_algebra.proofs.Ring.{ring}
-use Rattle.pm_algebra.specs.Cones.{InCone}
-use Rattle.pm_algebra.specs.Rows.{Row, entry, opposite}
+use Rattle.pm_vector.proofs.ConeLaws.{dot_in, in_generator, in_zero}
+use Rattle.pm_vector.proofs.Lists.{Among, among_All, here, there}
+use Rattle.pm_vector.proofs.Ring.{ring}
+use Rattle.pm_vector.specs.Cones.{InCone}
+use Rattle.pm_vector.specs.Rows.{Row, entry, opposite}
 use Rattle.pm_geom.proofs.Apart.{apart, not_below_at, on_row}
 use Rattle.pm_geom.proofs.ShortRows.{at_three, at_two}
 use Rattle.pm_geom.proofs.Square.{midpoint}

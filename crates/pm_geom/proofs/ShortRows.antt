@@ -1,8 +1,8 @@
 -- Rows of two and of three entries, taken apart and compared by their entries.
-use Rattle.pm_algebra.proofs.ConeLaws.{dot_in}
-use Rattle.pm_algebra.proofs.Ring.{ring}
-use Rattle.pm_algebra.specs.Cones.{InCone}
-use Rattle.pm_algebra.specs.Rows.{Row, Same, dot, entry}
+use Rattle.pm_vector.proofs.ConeLaws.{dot_in}
+use Rattle.pm_vector.proofs.Ring.{ring}
+use Rattle.pm_vector.specs.Cones.{InCone}
+use Rattle.pm_vector.specs.Rows.{Row, Same, dot, entry}
 use Rattle.pm_geom.proofs.Apart.{not_below, not_below_at, null, null_at, products}
 use Rattle.std.proofs.Common.{T, arith, refl}
 use Rattle.std.proofs.lemmas.Int.{ints}

@@ -1,8 +1,8 @@
 -- Counts of faces of small polytopes, and the diagrams of the cone {0} and of a ray.
-use Rattle.pm_algebra.proofs.ConeLaws.{dot_in}
-use Rattle.pm_algebra.proofs.Lists.{AllPairs_cons, All_among, Among, Any_among, here, there}
-use Rattle.pm_algebra.proofs.RowLaws.{dot-zeros, length-zeros, zeros}
-use Rattle.pm_algebra.specs.Rows.{Row, dot}
+use Rattle.pm_vector.proofs.ConeLaws.{dot_in}
+use Rattle.pm_vector.proofs.Lists.{AllPairs_cons, All_among, Among, Any_among, here, there}
+use Rattle.pm_vector.proofs.RowLaws.{dot-zeros, length-zeros, zeros}
+use Rattle.pm_vector.specs.Rows.{Row, dot}
 use Rattle.pm_geom.specs.FaceCounts.{AreFacesOfRank, IsHasseDiagram, IsLexBefore, SamePlaces, at_rank}
 use Rattle.pm_geom.specs.Faces.{HasChain, HasRank, IsFace, IsStrictlyIn, ray}
 use Rattle.pm_geom.specs.GraphExamples.{CountsAreRead, DiagramsAreRead, HVectorsAreRead, empty_lattice, one, ray_lattice}

@@ -1,9 +1,9 @@
 -- The two rays of the line as a fan, its orders, and what is none.
-use Rattle.pm_algebra.proofs.ConeLaws.{in_generator, in_more, in_zero, lines_opposite, none_to_zero}
-use Rattle.pm_algebra.proofs.Lists.{AllPairs_cons, All_among, Among, Any_among, among_All, among_Any, here, there}
-use Rattle.pm_algebra.proofs.RowLaws.{entry-plus, entry-times}
-use Rattle.pm_algebra.specs.Cones.{InCone, InSpan}
-use Rattle.pm_algebra.specs.Rows.{Row, entry, opposite}
+use Rattle.pm_vector.proofs.ConeLaws.{in_generator, in_more, in_zero, lines_opposite, none_to_zero}
+use Rattle.pm_vector.proofs.Lists.{AllPairs_cons, All_among, Among, Any_among, among_All, among_Any, here, there}
+use Rattle.pm_vector.proofs.RowLaws.{entry-plus, entry-times}
+use Rattle.pm_vector.specs.Cones.{InCone, InSpan}
+use Rattle.pm_vector.specs.Rows.{Row, entry, opposite}
 use Rattle.pm_geom.proofs.Apart.{apart, lineality_spanned, order_of_apart, without}
 use Rattle.pm_geom.specs.Cones.{InLineality, IsExtremeRay, IsOrder, SameModulo}
 use Rattle.pm_geom.specs.Examples.{pair}

@@ -1,9 +1,9 @@
 -- Index lists, the graph of the unit square, and graphs of no, one and two nodes.
-use Rattle.pm_algebra.proofs.ConeLaws.{in_generator}
-use Rattle.pm_algebra.proofs.Lists.{AllPairs_cons, All_among, Among, among_Contains, here, there}
-use Rattle.pm_algebra.proofs.RowLaws.{dot-plus}
+use Rattle.pm_vector.proofs.ConeLaws.{in_generator}
+use Rattle.pm_vector.proofs.Lists.{AllPairs_cons, All_among, Among, among_Contains, here, there}
+use Rattle.pm_vector.proofs.RowLaws.{dot-plus}
 use Rattle.pm_geom.proofs.Square.{square_is_read}
-use Rattle.pm_algebra.specs.Rows.{dot}
+use Rattle.pm_vector.specs.Rows.{dot}
 use Rattle.pm_geom.specs.Examples.{edges, square}
 use Rattle.pm_geom.specs.Faces.{IsFace, ray}
 use Rattle.pm_geom.specs.GraphExamples.{IndexListsAreRead, SmallGraphsAreRead, SquareGraphIsRead, apart_graph, point_graph, square_graph}

@@ -1,6 +1,6 @@
 -- Ranks of the faces of a segment, inclusions of sets of places, and rows in lexicographic order.
-use Rattle.pm_algebra.proofs.ConeLaws.{dot_in}
-use Rattle.pm_algebra.specs.Rows.{Row, dot, entry}
+use Rattle.pm_vector.proofs.ConeLaws.{dot_in}
+use Rattle.pm_vector.specs.Rows.{Row, dot, entry}
 use Rattle.pm_geom.proofs.Apart.{not_below, not_below_at, products}
 use Rattle.pm_geom.specs.Cones.{IsValid}
 use Rattle.pm_geom.specs.Examples.{pair, segment}

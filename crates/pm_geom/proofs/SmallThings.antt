@@ -1,10 +1,10 @@
 -- The half line, the empty polytope and a line.
-use Rattle.pm_algebra.proofs.ConeLaws.{dot_in, in_generator, none_from_zero, none_to_zero}
-use Rattle.pm_algebra.proofs.Lists.{Among, here, there}
-use Rattle.pm_algebra.proofs.Ring.{ring}
-use Rattle.pm_algebra.proofs.RowLaws.{dot-nil, dot-same, entry-opposite, length-opposite}
-use Rattle.pm_algebra.specs.Cones.{InCone}
-use Rattle.pm_algebra.specs.Rows.{HasCols, Row, dot, opposite}
+use Rattle.pm_vector.proofs.ConeLaws.{dot_in, in_generator, none_from_zero, none_to_zero}
+use Rattle.pm_vector.proofs.Lists.{Among, here, there}
+use Rattle.pm_vector.proofs.Ring.{ring}
+use Rattle.pm_vector.proofs.RowLaws.{dot-nil, dot-same, entry-opposite, length-opposite}
+use Rattle.pm_vector.specs.Cones.{InCone}
+use Rattle.pm_vector.specs.Rows.{HasCols, Row, dot, opposite}
 use Rattle.pm_geom.proofs.Apart.{apart, lineality_spanned, order_of_apart, without}
 use Rattle.pm_geom.proofs.Apart.{not_below_at}
 use Rattle.pm_geom.proofs.ShortRows.{at_three, at_two, by_three, by_two, first_entry}

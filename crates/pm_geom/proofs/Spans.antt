@@ -1,11 +1,11 @@
 -- The span of a cone: that of its generators and lines, of any rows that generate it, and of an order of its extreme rays with its lineality; and the rows that vanish on it.
-use Rattle.pm_algebra.proofs.ConeLaws.{combination_none, in_divide, in_generator, in_line, in_line_opposite, in_plus, in_same, in_through, in_times, in_zero}
-use Rattle.pm_algebra.proofs.Lists.{Among, all_at, all_from, among_All, among_append, among_append_left, among_append_right, here, there}
-use Rattle.pm_algebra.proofs.Ring.{ring}
-use Rattle.pm_algebra.proofs.RowLaws.{dot_comm, entry-difference, entry-plus, entry-times, same_sym}
-use Rattle.pm_algebra.specs.Cones.{InCone, InSpan, combination}
-use Rattle.pm_algebra.specs.Rows.{HasCols, Row, dot, entry, plus, times}
-use Rattle.pm_bases.proofs.Spans.{same_span, same_span_sym, span_difference}
+use Rattle.pm_vector.proofs.ConeLaws.{combination_none, in_divide, in_generator, in_line, in_line_opposite, in_plus, in_same, in_through, in_times, in_zero}
+use Rattle.pm_vector.proofs.Lists.{Among, all_at, all_from, among_All, among_append, among_append_left, among_append_right, here, there}
+use Rattle.pm_vector.proofs.Ring.{ring}
+use Rattle.pm_vector.proofs.RowLaws.{dot_comm, entry-difference, entry-plus, entry-times, same_sym}
+use Rattle.pm_vector.specs.Cones.{InCone, InSpan, combination}
+use Rattle.pm_vector.specs.Rows.{HasCols, Row, dot, entry, plus, times}
+use Rattle.pm_vector.proofs.Spans.{same_span, same_span_sym, span_difference}
 use Rattle.pm_elim.proofs.DotLaws.{null_of_span}
 use Rattle.pm_elim.specs.NullSpaces.{IsNull}
 use Rattle.pm_geom.proofs.Facets.{order_generates}

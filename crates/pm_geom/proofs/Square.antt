@@ -1,9 +1,9 @@
 -- The unit square: its vertices and its edges.
-use Rattle.pm_algebra.proofs.ConeLaws.{in_generator, in_of, lines_opposite}
-use Rattle.pm_algebra.proofs.Lists.{Among, among_All, here, there}
-use Rattle.pm_algebra.proofs.Ring.{ring}
-use Rattle.pm_algebra.specs.Cones.{InCone}
-use Rattle.pm_algebra.specs.Rows.{HasCols, Row}
+use Rattle.pm_vector.proofs.ConeLaws.{in_generator, in_of, lines_opposite}
+use Rattle.pm_vector.proofs.Lists.{Among, among_All, here, there}
+use Rattle.pm_vector.proofs.Ring.{ring}
+use Rattle.pm_vector.specs.Cones.{InCone}
+use Rattle.pm_vector.specs.Rows.{HasCols, Row}
 use Rattle.pm_geom.proofs.Apart.{apart, lineality_spanned, on_row, order_of_apart, without}
 use Rattle.pm_geom.proofs.Facets.{order_generates}
 use Rattle.pm_geom.proofs.Reduce.{extreme_as}

@@ -1,9 +1,9 @@
 -- Where rows F and lines E are valid and vanish on a cone, and cut it out, the valid rows are cone(F) + span(E).
-use Rattle.pm_algebra.proofs.ConeLaws.{dot_in, in_generator, in_line, in_line_opposite}
-use Rattle.pm_algebra.proofs.Lists.{Among, all_from, here, there}
-use Rattle.pm_algebra.proofs.RowLaws.{dot_comm, length-opposite}
-use Rattle.pm_algebra.specs.Cones.{InCone, InSpan}
-use Rattle.pm_algebra.specs.Rows.{HasCols, Row, dot, opposite}
+use Rattle.pm_vector.proofs.ConeLaws.{dot_in, in_generator, in_line, in_line_opposite}
+use Rattle.pm_vector.proofs.Lists.{Among, all_from, here, there}
+use Rattle.pm_vector.proofs.RowLaws.{dot_comm, length-opposite}
+use Rattle.pm_vector.specs.Cones.{InCone, InSpan}
+use Rattle.pm_vector.specs.Rows.{HasCols, Row, dot, opposite}
 use Rattle.pm_geom.proofs.Apart.{cond_first, cond_second, not_below, not_below_at, null, null_at, products}
 use Rattle.pm_geom.proofs.Facets.{dot-opposite, opposite-dot, order_as, valid_by_products, vanishes_line}
 use Rattle.pm_geom.proofs.Polar.{bipolar, cols_at, cut_from}

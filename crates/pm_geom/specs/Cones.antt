@@ -2,8 +2,8 @@
 -- A set of rows of n entries is a predicate S: the cone that rows generate (`InCone G L`), the cone that rows cut out (`CutOut B`), or the rows that are valid on a cone (`IsValid n G L`).
 use Rattle.std.specs.Prelude.{ℕ, ◌≡◌, List, length}
 use Rattle.std.specs.List.{All, AllByRecursion, AllPairs, Any}
-use Rattle.pm_algebra.specs.Rows.{Row, dot, plus, times, opposite, Same}
-use Rattle.pm_algebra.specs.Cones.{InCone}
+use Rattle.pm_vector.specs.Rows.{Row, dot, plus, times, opposite, Same}
+use Rattle.pm_vector.specs.Cones.{InCone}
 use lib.IntN.{ℤ, pos}
 use lib.Signed.{◌<ℤ◌, ◌≤ℤ◌}
 

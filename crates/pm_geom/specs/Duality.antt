@@ -1,6 +1,6 @@
 -- What the answers of a linear program tell of all of its points (Chvatal, Linear Programming, chapter 5).
-use Rattle.pm_algebra.specs.Numbers.{Ratio}
-use Rattle.pm_algebra.specs.Rows.{Row}
+use Rattle.pm_vector.specs.Numbers.{Ratio}
+use Rattle.pm_vector.specs.Rows.{Row}
 use Rattle.pm_geom.specs.Programs.{HasNoPoint, HasValue, IsDual, IsInfeasible, IsMaximum, IsOptimal, IsPoint, IsUnbounded, IsWithoutBound, Solves}
 use Rattle.std.specs.Prelude.{List}
 use lib.IntN.{◌*ℤ◌}

@@ -1,5 +1,5 @@
 -- Evidence that there is no answer, where two lists of rows alone are asked.
-use Rattle.pm_algebra.specs.Rows.{Row}
+use Rattle.pm_vector.specs.Rows.{Row}
 use Rattle.pm_geom.specs.declared.evidence.Evidence.{Evidence}
 use Rattle.pm_geom.specs.declared.evidence.Evidence.TheVariants.{E1, E2, E3, E4}
 use Rattle.pm_vector.specs.Products.{ProductsStay}

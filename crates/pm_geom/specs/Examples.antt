@@ -1,8 +1,8 @@
 -- The definitions read on small things: what holds of them, and what does not.
 use Rattle.std.specs.Prelude.{ℕ, ◌≡◌, ◌↔◌, List, [], ◌∷◌, length}
 use Rattle.std.specs.List.{All}
-use Rattle.pm_algebra.specs.Rows.{Row}
-use Rattle.pm_algebra.specs.Cones.{InCone, InSpan}
+use Rattle.pm_vector.specs.Rows.{Row}
+use Rattle.pm_vector.specs.Cones.{InCone, InSpan}
 use Rattle.pm_geom.specs.Cones.{CutOut, IsValid, Vanishes, IsExtremeRay, IsFacetRow, IsOrder}
 use Rattle.pm_geom.specs.Things.{IsPolytopeThing}
 use lib.IntN.{pos, negsuc}

@@ -1,5 +1,5 @@
 -- All faces of a cone by their ranks, and the numbers that count them.
-use Rattle.pm_algebra.specs.Rows.{Row}
+use Rattle.pm_vector.specs.Rows.{Row}
 use Rattle.pm_geom.specs.Faces.{HasRank}
 use Rattle.pm_geom.specs.Graphs.{IsAscending, holds}
 use Rattle.std.specs.Cmp.Lexicographic.{slice_cmp}

@@ -1,5 +1,5 @@
 -- Ranks, inclusions and lexicographic order read on small things: what holds, and what does not.
-use Rattle.pm_algebra.specs.Rows.{Row}
+use Rattle.pm_vector.specs.Rows.{Row}
 use Rattle.pm_geom.specs.Examples.{pair, segment}
 use Rattle.pm_geom.specs.Faces.{HasRank, IsStrictlyIn}
 use Rattle.pm_geom.specs.Generators.{IsBefore}

@@ -1,7 +1,7 @@
 -- Faces of a cone by an order V of its extreme rays (Ziegler, Lectures on Polytopes, lecture 2). A set of places of V is a test on places.
 use Rattle.std.specs.Prelude.{ℕ, zero, suc, ◌≡◌, ◌<◌, ◌↔◌, Bool, IsTrue, List, [], length}
 use Rattle.std.specs.List.{slice_index_or}
-use Rattle.pm_algebra.specs.Rows.{Row, dot}
+use Rattle.pm_vector.specs.Rows.{Row, dot}
 use Rattle.pm_geom.specs.Cones.{IsValid}
 use lib.IntN.{pos}
 

@@ -1,10 +1,10 @@
 -- Generators of a cone in canonical form (Ziegler, Lectures on Polytopes, section 1.1; Gawrilow and Joswig, polymake). The cone is a set S of rows of n entries: what rows cut out, or the rows that are valid on a cone, whose lineality are the rows that vanish.
 use Rattle.std.specs.Prelude.{ℕ, ◌≡◌, ◌<◌, ◌↔◌, List, length}
 use Rattle.std.specs.List.{All, AllPairs}
-use Rattle.pm_algebra.specs.Cones.{InSpan}
-use Rattle.pm_algebra.specs.Divisors.{IsPrimitive}
-use Rattle.pm_algebra.specs.Rows.{Row, entry}
-use Rattle.pm_bases.specs.Bases.{IsEchelonBasis}
+use Rattle.pm_vector.specs.Cones.{InSpan}
+use Rattle.pm_vector.specs.Divisors.{IsPrimitive}
+use Rattle.pm_vector.specs.Rows.{Row, entry}
+use Rattle.pm_vector.specs.Bases.{IsEchelonBasis}
 use Rattle.pm_geom.specs.Cones.{InLineality, IsExtreme, IsOrder}
 use lib.IntN.{pos}
 use lib.Signed.{◌<ℤ◌}

@@ -1,5 +1,5 @@
 -- The definitions of graphs and counts read on small things: what holds of them, and what does not.
-use Rattle.pm_algebra.specs.Rows.{Row}
+use Rattle.pm_vector.specs.Rows.{Row}
 use Rattle.pm_geom.specs.Examples.{square}
 use Rattle.pm_geom.specs.FaceCounts.{IsHasseDiagram, IsLexBefore, f2_of, f_of, h_of}
 use Rattle.pm_geom.specs.Graphs.{AreNeighbours, IsAscending, IsConnected, IsDiameter, IsDistance, IsEdge, IsGraph, IsGreatestDistance, IsWalk, edge_count, holds, sets_of}

@@ -1,5 +1,5 @@
 -- Sets of indices as lists, graphs as lists of neighbours, and the graphs of the rays and of the facets of a cone.
-use Rattle.pm_algebra.specs.Rows.{Row, dot}
+use Rattle.pm_vector.specs.Rows.{Row, dot}
 use Rattle.pm_geom.specs.Faces.{HasRank, IsFace, ray}
 use Rattle.std.specs.List.{All, AllPairs, Contains, count_by, list_any, slice_index_or}
 use Rattle.std.specs.Prelude.{ℕ, zero, suc, ◌+◌, ◌<◌, ◌≤◌, ◌==◌, ◌≡◌, ◌↔◌, ◌||◌, ◌⊎◌, Bool, IsTrue, true, List, [], ◌∷◌, length, map, nat_lt}

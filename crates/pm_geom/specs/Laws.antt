@@ -1,9 +1,9 @@
 -- The laws of cones that this crate proves (Ziegler, Lectures on Polytopes, lectures 1 and 2).
 use Rattle.std.specs.Prelude.{ℕ, ◌+◌, ◌≡◌, ◌<◌, ◌↔◌, ◌⊎◌, Bool, IsTrue, List, [], ◌++◌, length}
 use Rattle.std.specs.List.{All, Contains}
-use Rattle.pm_algebra.specs.Rows.{Row, difference, dot, HasCols, IsZero, Same}
-use Rattle.pm_algebra.specs.Cones.{InCone, InSpan, IsIndependent}
-use Rattle.pm_bases.specs.Bases.{IsRank, SameSpan}
+use Rattle.pm_vector.specs.Rows.{Row, difference, dot, HasCols, IsZero, Same}
+use Rattle.pm_vector.specs.Cones.{InCone, InSpan, IsIndependent}
+use Rattle.pm_vector.specs.Bases.{IsRank, SameSpan}
 use Rattle.pm_elim.specs.NullSpaces.{IsNull}
 use Rattle.pm_geom.specs.Cones.{CutOut, IsValid, Vanishes, InLineality, IsOrder}
 use Rattle.pm_geom.specs.Faces.{IsFace, ray}

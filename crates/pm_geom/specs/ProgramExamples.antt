@@ -1,6 +1,6 @@
 -- The definitions of linear programs read on small programs: what holds of them, and what does not.
-use Rattle.pm_algebra.specs.Numbers.{Ratio}
-use Rattle.pm_algebra.specs.Rows.{Row}
+use Rattle.pm_vector.specs.Numbers.{Ratio}
+use Rattle.pm_vector.specs.Rows.{Row}
 use Rattle.pm_geom.specs.Programs.{HasNoPoint, IsDirection, IsDual, IsInfeasible, IsMaximum, IsOptimal, IsPoint, IsUnbounded, IsWithoutBound, Solves}
 use Rattle.std.specs.Prelude.{List, [], map, ◌∷◌}
 use lib.IntN.{ℤ, negsuc, pos}

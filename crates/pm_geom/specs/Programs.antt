@@ -1,7 +1,7 @@
 -- Linear programs (Chvatal, Linear Programming, chapters 1 and 5): the greatest c.x over the points x with first coordinate 1, a.x >= 0 for the rows a of A and b.x = 0 for the rows b of B.
-use Rattle.pm_algebra.specs.Cones.{combination}
-use Rattle.pm_algebra.specs.Numbers.{Ratio}
-use Rattle.pm_algebra.specs.Rows.{Row, Same, dot, entry, plus, ratio_at}
+use Rattle.pm_vector.specs.Cones.{combination}
+use Rattle.pm_vector.specs.Numbers.{Ratio}
+use Rattle.pm_vector.specs.Rows.{Row, Same, dot, entry, plus, ratio_at}
 use Rattle.std.specs.List.{AllByRecursion}
 use Rattle.std.specs.Prelude.{List, [], length, ℕ, ◌+◌, ◌++◌, ◌<◌, ◌∷◌, ◌≡◌}
 use lib.IntN.{pos, ℤ, ◌*ℤ◌}

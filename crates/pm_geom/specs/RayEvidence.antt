@@ -1,8 +1,8 @@
 -- What evidence of double description shows of the rows X, with n entries each, that were handed in.
 use Rattle.std.specs.Prelude.{ℕ, ◌≡◌, ◌<◌, ◌⊎◌, Bool, true, Option, None, Some, List, length, take}
 use Rattle.std.specs.List.{All, AllPairs, Contains}
-use Rattle.pm_algebra.specs.Rows.{Row, dot, entry}
-use Rattle.pm_bases.specs.Bases.{row_at}
+use Rattle.pm_vector.specs.Rows.{Row, dot, entry}
+use Rattle.pm_vector.specs.Bases.{row_at}
 use Rattle.pm_elim.specs.EliminationSteps.{EliminationStep}
 use Rattle.pm_elim.specs.Enlarging.{MarkEnlarging}
 use Rattle.pm_elim.specs.Evidence.{IsEvidence}

@@ -1,8 +1,8 @@
 -- The order in which double description takes the rows of a list, when a refusal is to be shown: first those that enlarge the span.
 use Rattle.std.specs.Prelude.{ℕ, ◌≡◌, ◌≤◌, Bool, true, false, cond, List, [], ◌∷◌, ◌++◌, length}
 use Rattle.std.specs.Bool.{beq}
-use Rattle.pm_algebra.specs.Rows.{Row}
-use Rattle.pm_bases.specs.Bases.{IsRank}
+use Rattle.pm_vector.specs.Rows.{Row}
+use Rattle.pm_vector.specs.Bases.{IsRank}
 use Rattle.pm_elim.specs.Enlarging.{MarkEnlarging}
 
 -- the rows of X whose mark is b, in list order

@@ -1,5 +1,5 @@
 -- Fans and their orders read on the two rays of the line: what holds of them, and what does not.
-use Rattle.pm_algebra.specs.Rows.{Row}
+use Rattle.pm_vector.specs.Rows.{Row}
 use Rattle.pm_geom.specs.Examples.{pair}
 use Rattle.pm_geom.specs.Things.{AreFanOrders, IsFanThing}
 use Rattle.std.specs.Prelude.{List, [], ℕ, ◌∷◌}

@@ -1,8 +1,8 @@
 -- Lists of rows that describe a cone, a polytope or a fan, and orders of its rays and facets (Ziegler, Lectures on Polytopes, lectures 1, 2 and 7).
 use Rattle.std.specs.Prelude.{ℕ, ◌≡◌, ◌<◌, ◌⊎◌, List, [], length}
 use Rattle.std.specs.List.{All, AllPairs, Any, Contains, slice_index_or}
-use Rattle.pm_algebra.specs.Rows.{Row, entry, HasCols, IsZero}
-use Rattle.pm_algebra.specs.Cones.{InCone, InSpan}
+use Rattle.pm_vector.specs.Rows.{Row, entry, HasCols, IsZero}
+use Rattle.pm_vector.specs.Cones.{InCone, InSpan}
 use Rattle.pm_geom.specs.Cones.{InLineality, SameModulo, IsExtremeRay, IsOrder, IsValid}
 use lib.IntN.{pos}
 use lib.Signed.{◌<ℤ◌, ◌≤ℤ◌}

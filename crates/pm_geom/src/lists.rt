@@ -14,7 +14,7 @@ pub struct RowList {
 }
 
 impl Model for RowList {
-    ghost use Rattle.pm_algebra.specs.Rows.{Row};
+    ghost use Rattle.pm_vector.specs.Rows.{Row};
     ghost use Rattle.std.specs.Prelude.{List};
 
     ghost Value = { List Row };

@@ -1,5 +1,5 @@
 -- Edges of tables, read for the sets that they hold.
-use Rattle.pm_algebra.proofs.Lists.{Among, Contains_among, among_Contains, here, there}
+use Rattle.pm_vector.proofs.Lists.{Among, Contains_among, among_Contains, here, there}
 use Rattle.pm_bits.specs.Sets.{has}
 use Rattle.pm_bits.specs.Table.{Table, row_at}
 use Rattle.pm_geom.specs.Graphs.{IsGraph, holds}

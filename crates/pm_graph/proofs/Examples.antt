@@ -1,5 +1,5 @@
 -- The examples of edges hold.
-use Rattle.pm_algebra.proofs.Lists.{Among, among_Any, among_Contains}
+use Rattle.pm_vector.proofs.Lists.{Among, among_Any, among_Contains}
 use Rattle.pm_bits.specs.Sets.{has}
 use Rattle.pm_bits.specs.Table.{row_at}
 use Rattle.pm_graph.specs.Edges.{HasFace, IsFaceEdge, IsIndexEdge, IsRowEdge, IsSetEdge, NoThirdIndex, NoThirdRow, NoThirdSet}

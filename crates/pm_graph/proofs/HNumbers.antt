@@ -1,8 +1,8 @@
 -- Sums of terms with alternating signs.
 use Rattle.pm_geom.specs.FaceCounts.{alternated, h_entry, h_of, h_sum, h_term}
 use Rattle.pm_graph.specs.HVectors.{HasHVector, HaveFit, plain_term}
-use Rattle.pm_algebra.proofs.Ring.{ring}
-use Rattle.pm_algebra.proofs.Signs.{mul_nonneg}
+use Rattle.pm_vector.proofs.Ring.{ring}
+use Rattle.pm_vector.proofs.Signs.{mul_nonneg}
 use Rattle.std.proofs.Common.{ap, ap₂, arith, refl, subst, sym, ◌∙◌}
 use Rattle.std.proofs.lemmas.Int.{ints}
 use Rattle.std.proofs.lemmas.List.FromFn.{get_or-map-range_with_len, length-map-range_with_len, map-range_with_len_more}

@@ -1,5 +1,5 @@
 -- What is marked level by level are the nodes by their distance.
-use Rattle.pm_algebra.proofs.Lists.{All_among, Among, Contains_among, among_Contains, here, there}
+use Rattle.pm_vector.proofs.Lists.{All_among, Among, Contains_among, among_Contains, here, there}
 use Rattle.pm_geom.specs.Graphs.{AreNeighbours, IsDistance, IsWalk}
 use Rattle.pm_graph.proofs.Marks.{seen_below, seen_replicate, seen_set, true_or_not, unseen_replicate, unseen_set}
 use Rattle.pm_graph.specs.Levels.{AreBelow, AreNew, IsEccentricity, IsSeen, MarksNeighbours, unseen_count}

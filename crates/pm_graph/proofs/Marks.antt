@@ -1,5 +1,5 @@
 -- Marking the nodes of lists.
-use Rattle.pm_algebra.proofs.Lists.{Among, Contains_among, among_All, among_Contains, here, there}
+use Rattle.pm_vector.proofs.Lists.{Among, Contains_among, among_All, among_Contains, here, there}
 use Rattle.pm_geom.specs.Graphs.{AreNeighbours}
 use Rattle.pm_graph.specs.Levels.{AreBelow, AreNew, IsSeen, MarksNeighbours, unseen_count}
 use Rattle.std.proofs.Common.{ap, arith, get_or, inl, inr, refl, subst, sym, ◌∙◌}

@@ -1,5 +1,5 @@
 -- The turns of the loops that find the neighbours of rows.
-use Rattle.pm_algebra.proofs.Lists.{All_among, Contains_among}
+use Rattle.pm_vector.proofs.Lists.{All_among, Contains_among}
 use Rattle.pm_bits.specs.Sets.{IsIntersection, has}
 use Rattle.pm_bits.specs.Table.{OtherContains, Table, row_at}
 use Rattle.pm_geom.specs.Graphs.{IsAscending, IsGraph}

@@ -1,5 +1,5 @@
 -- The turns of the loops that join the pairs of a lattice of faces.
-use Rattle.pm_algebra.proofs.Lists.{All_among, AllPairs_cons, Among, Contains_among, among_Contains, here, there}
+use Rattle.pm_vector.proofs.Lists.{All_among, AllPairs_cons, Among, Contains_among, among_Contains, here, there}
 use Rattle.pm_bits.specs.Sets.{IsEmpty, has, members}
 use Rattle.pm_geom.specs.Graphs.{IsAscending, IsGraph}
 use Rattle.pm_graph.proofs.Marks.{contains_more, true_or_not}

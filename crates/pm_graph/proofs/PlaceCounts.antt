@@ -1,5 +1,5 @@
 -- Pairs of faces counted by the columns of their indices.
-use Rattle.pm_algebra.proofs.Lists.{Among, among_All, here, there}
+use Rattle.pm_vector.proofs.Lists.{Among, among_All, here, there}
 use Rattle.pm_bits.specs.Sets.{has, member_count}
 use Rattle.pm_geom.specs.FaceCounts.{inclusion_count, is_within}
 use Rattle.pm_geom.specs.Graphs.{holds}

@@ -1,8 +1,8 @@
 -- The graph of all faces is that of the cone.
-use Rattle.pm_algebra.proofs.Lists.{Among, Contains_among, among_All, among_Contains, here, there}
-use Rattle.pm_algebra.specs.Rows.{HasCols, Row}
+use Rattle.pm_vector.proofs.Lists.{Among, Contains_among, among_All, among_Contains, here, there}
+use Rattle.pm_vector.specs.Rows.{HasCols, Row}
 use Rattle.pm_geom.specs.Cones.{IsOrder}
-use Rattle.pm_algebra.specs.Cones.{InCone}
+use Rattle.pm_vector.specs.Cones.{InCone}
 use Rattle.pm_geom.specs.FaceCounts.{IsHasseDiagram, SamePlaces, at_rank}
 use Rattle.pm_geom.specs.Faces.{IsFace}
 use Rattle.pm_geom.specs.Graphs.{IsEdge, holds, pair_of}

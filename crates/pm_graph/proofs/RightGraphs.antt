@@ -1,6 +1,6 @@
 -- Graphs of right sets are the graphs of the cone.
-use Rattle.pm_algebra.proofs.Lists.{Among, Contains_among, among_Contains, here, there}
-use Rattle.pm_algebra.specs.Rows.{Row, dot}
+use Rattle.pm_vector.proofs.Lists.{Among, Contains_among, among_Contains, here, there}
+use Rattle.pm_vector.specs.Rows.{Row, dot}
 use Rattle.pm_geom.specs.Faces.{ray}
 use Rattle.pm_geom.specs.Graphs.{AreNeighbours, IsEdge, IsGreatestDistance, IsRidge}
 use Rattle.pm_graph.specs.Laws.{DualGreatestDistanceIsDiameter, GreatestDistanceIsDiameter, IndexEdgesAreEdges, SetEdgesAreRidges}

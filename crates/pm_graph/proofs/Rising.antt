@@ -1,5 +1,5 @@
 -- Lists of indices that rise.
-use Rattle.pm_algebra.proofs.Lists.{Among, Contains_among, here, there}
+use Rattle.pm_vector.proofs.Lists.{Among, Contains_among, here, there}
 use Rattle.std.proofs.Common.{arith, inl, inr, refl, subst}
 use Rattle.std.proofs.lemmas.Bool.{cases_lt}
 use Rattle.std.specs.List.{AllPairs}

@@ -1,6 +1,6 @@
 -- The symmetric table of pairs of faces.
-use Rattle.pm_algebra.proofs.Lists.{Among, here, there}
-use Rattle.pm_algebra.specs.Numbers.{Ratio}
+use Rattle.pm_vector.proofs.Lists.{Among, here, there}
+use Rattle.pm_vector.specs.Numbers.{Ratio}
 use Rattle.pm_geom.specs.FaceCounts.{f2_entry, f2_of, inclusion_count, inner}
 use Rattle.pm_graph.proofs.PlaceCounts.{range_among}
 use Rattle.pm_graph.specs.Counts.{IsTriangle, f2_matrix, lower_count, lower_counts, mirrored, whole}

@@ -1,5 +1,5 @@
 -- Counts of faces, found by rows of bits, and as a matrix.
-use Rattle.pm_algebra.specs.Numbers.{Ratio}
+use Rattle.pm_vector.specs.Numbers.{Ratio}
 use Rattle.pm_fraction.specs.Fractions.{ratio_of}
 use Rattle.pm_bits.specs.Sets.{has}
 use Rattle.pm_geom.specs.FaceCounts.{f2_of, inclusion_count, inner}

@@ -1,6 +1,6 @@
 -- What the graphs of sets and of a lattice are, where these are those of a cone: cone(G) + span(L), with an order V of its extreme rays and an order F of its facet rows (Ziegler, Lectures on Polytopes, lectures 2 and 3).
-use Rattle.pm_algebra.specs.Cones.{InCone}
-use Rattle.pm_algebra.specs.Rows.{HasCols, Row}
+use Rattle.pm_vector.specs.Cones.{InCone}
+use Rattle.pm_vector.specs.Rows.{HasCols, Row}
 use Rattle.pm_geom.specs.Cones.{IsOrder, IsValid}
 use Rattle.pm_geom.specs.FaceCounts.{IsHasseDiagram}
 use Rattle.pm_geom.specs.Graphs.{AreNeighbours, IsDiameter, IsEdge, IsGraph, IsGreatestDistance, IsRidge}

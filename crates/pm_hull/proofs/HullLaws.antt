@@ -4,15 +4,15 @@ use Rattle.std.specs.List.{Any}
 use Rattle.std.proofs.Common.{arith, inl, inr, refl, subst, sym, ◌∙◌}
 use Rattle.std.proofs.lemmas.Int.{by_lt_z, ints}
 use Rattle.std.proofs.lemmas.List.{append_assoc, drop_more, length-append, length-replicate, length-set}
-use Rattle.pm_algebra.specs.Cones.{InCone}
-use Rattle.pm_algebra.specs.Rows.{HasCols, IsZero, Row, dot, entry, opposite}
-use Rattle.pm_algebra.proofs.ConeLaws.{dot_in, in_generator, in_line, in_line_opposite, in_zero}
-use Rattle.pm_algebra.proofs.Lists.{Any_among, all_append, all_at, all_from, among_All, append_all}
-use Rattle.pm_algebra.proofs.RowLaws.{dot_comm, entry-opposite, length-opposite}
-use Rattle.pm_bases.specs.Bases.{row_at}
-use Rattle.pm_bases.proofs.Rank.{independent_are_few}
-use Rattle.pm_bases.proofs.Columns.{basis_is_independent}
-use Rattle.pm_bases.proofs.Spans.{same_span_sym, span_at, span_to}
+use Rattle.pm_vector.specs.Cones.{InCone}
+use Rattle.pm_vector.specs.Rows.{HasCols, IsZero, Row, dot, entry, opposite}
+use Rattle.pm_vector.proofs.ConeLaws.{dot_in, in_generator, in_line, in_line_opposite, in_zero}
+use Rattle.pm_vector.proofs.Lists.{Any_among, all_append, all_at, all_from, among_All, append_all}
+use Rattle.pm_vector.proofs.RowLaws.{dot_comm, entry-opposite, length-opposite}
+use Rattle.pm_vector.specs.Bases.{row_at}
+use Rattle.pm_vector.proofs.Rank.{independent_are_few}
+use Rattle.pm_vector.proofs.Columns.{basis_is_independent}
+use Rattle.pm_vector.proofs.Spans.{same_span_sym, span_at, span_to}
 use Rattle.pm_dd.specs.Fronts.{HalfSpaces, both_signs}
 use Rattle.pm_dd.proofs.Fronts.{signs_cut_out}
 use Rattle.pm_dd.proofs.MixedLaws.{generators_as}

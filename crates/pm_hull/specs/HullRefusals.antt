@@ -1,6 +1,6 @@
 -- What a refusal shows of a list with a first part and a second part.
 use Rattle.std.specs.Prelude.{ℕ, ◌≡◌, ◌⊎◌, List, ◌++◌}
-use Rattle.pm_algebra.specs.Rows.{Row}
+use Rattle.pm_vector.specs.Rows.{Row}
 use Rattle.pm_dd.specs.Fronts.{both_signs}
 use Rattle.pm_dd.specs.Refusals.{IsEliminationFail, IsShown}
 use Rattle.pm_dd.specs.declared.fails.DdFail.{DdFail}

@@ -1,6 +1,6 @@
 -- What the two calls of this crate answer (Ziegler, Lectures on Polytopes, lectures 1 and 2).
 use Rattle.std.specs.Prelude.{ℕ, ◌≡◌, ◌⊎◌, List, [], ◌∷◌, ◌++◌, length}
-use Rattle.pm_algebra.specs.Rows.{Row, entry, IsZero}
+use Rattle.pm_vector.specs.Rows.{Row, entry, IsZero}
 use Rattle.pm_dd.specs.Fronts.{HalfSpaces}
 use Rattle.pm_elim.specs.Evidence.{unit}
 use Rattle.pm_geom.specs.Cones.{IsValid}

@@ -1,6 +1,6 @@
 // The two calls.
 
-ghost use Rattle.pm_algebra.specs.Rows.{HasCols, entry};
+ghost use Rattle.pm_vector.specs.Rows.{HasCols, entry};
 ghost use Rattle.pm_dd.specs.Fronts.{HalfSpaces};
 ghost use Rattle.pm_geom.specs.Generators.{AreGenerators};
 ghost use Rattle.pm_hull.specs.HullRefusals.{IsShownOnParts};

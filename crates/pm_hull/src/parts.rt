@@ -1,6 +1,6 @@
 // Lists that have a first part, taken both ways, and a second part.
 
-ghost use Rattle.pm_algebra.specs.Rows.{HasCols};
+ghost use Rattle.pm_vector.specs.Rows.{HasCols};
 ghost use Rattle.pm_dd.specs.Fronts.{both_signs};
 ghost use Rattle.pm_dd.specs.Refusals.{IsEliminationFail};
 ghost use Rattle.pm_hull.specs.HullRefusals.{IsDoubleList};

@@ -4,7 +4,7 @@ use Rattle.std.specs.List.{All, AllPairs, Contains}
 use Rattle.std.proofs.Common.{ap, arith, inl, inr, subst, sym, ◌∙◌}
 use Rattle.std.proofs.Math.Seq.{get_or-append_seam}
 use Rattle.std.proofs.lemmas.List.{get_or_append_left, length-append}
-use Rattle.pm_algebra.proofs.Lists.{AllPairs_cons, All_among, Among, Contains_among, among_All, among_Contains, among_append, among_append_left, among_append_right, here, there}
+use Rattle.pm_vector.proofs.Lists.{AllPairs_cons, All_among, Among, Contains_among, among_All, among_Contains, among_append, among_append_left, among_append_right, here, there}
 use native.Mathlib.Decide.{ℕ_discrete}
 
 pub length_more : {X : Type 0} (xs more : List X) (x : X) (k : ℕ) → length xs ≡ k → more ≡ xs ++ x ∷ [] → length more ≡ k + 1

@@ -6,16 +6,16 @@ use Rattle.std.proofs.lemmas.Bool.{cases_lt}
 use Rattle.std.proofs.lemmas.Int.{by_lt_z, ints}
 use Rattle.std.proofs.lemmas.List.{length-append}
 use Rattle.std.proofs.lemmas.List.FromFn.{get_or-map-range_with_len, get_or-range_with_len, length-map-range_with_len, length-range_with_len}
-use Rattle.pm_algebra.specs.Cones.{InCone, InSpan, combination}
-use Rattle.pm_algebra.specs.Rows.{HasCols, IsZero, Row, dot, entry, opposite}
-use Rattle.pm_algebra.proofs.ConeLaws.{dot_in, in_generator, in_line, in_line_opposite, in_zero}
-use Rattle.pm_algebra.proofs.Lists.{All_among, Among, Any_among, among_Any, all_append, all_at, all_from, among_All, append_all}
-use Rattle.pm_algebra.proofs.Ring.{ring}
-use Rattle.pm_algebra.proofs.RowLaws.{dot_comm, entry-opposite, entry-plus, entry-times, length-opposite}
-use Rattle.pm_bases.specs.Bases.{IsEchelonBasis, row_at}
-use Rattle.pm_bases.proofs.Columns.{coefficient, combination_at, combination_zero}
-use Rattle.pm_bases.proofs.Examples.{primitive_by_one}
-use Rattle.pm_bases.proofs.Spans.{place_of}
+use Rattle.pm_vector.specs.Cones.{InCone, InSpan, combination}
+use Rattle.pm_vector.specs.Rows.{HasCols, IsZero, Row, dot, entry, opposite}
+use Rattle.pm_vector.proofs.ConeLaws.{dot_in, in_generator, in_line, in_line_opposite, in_zero}
+use Rattle.pm_vector.proofs.Lists.{All_among, Among, Any_among, among_Any, all_append, all_at, all_from, among_All, append_all}
+use Rattle.pm_vector.proofs.Ring.{ring}
+use Rattle.pm_vector.proofs.RowLaws.{dot_comm, entry-opposite, entry-plus, entry-times, length-opposite}
+use Rattle.pm_vector.specs.Bases.{IsEchelonBasis, row_at}
+use Rattle.pm_vector.proofs.Columns.{coefficient, combination_at, combination_zero}
+use Rattle.pm_vector.proofs.BasisExamples.{primitive_by_one}
+use Rattle.pm_vector.proofs.Spans.{place_of}
 use Rattle.pm_dd.specs.Fronts.{HalfSpaces}
 use Rattle.pm_dd.proofs.MixedLaws.{generators_as}
 use Rattle.pm_dd.proofs.ZeroRows.{dot_zero, no_basis, zero_of_span}

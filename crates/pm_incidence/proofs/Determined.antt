@@ -1,18 +1,18 @@
 -- The rows on which the equations and the inequalities of an extreme row vanish, with zeros in the pivot columns of the lineality's basis: they are multiples of one row, which is the extreme row up to scale and lineality.
-use Rattle.pm_algebra.proofs.ConeLaws.{in_divide, in_line, in_plus, in_same, in_zero}
-use Rattle.pm_algebra.proofs.Divisors.{abs-zero}
-use Rattle.pm_algebra.proofs.Filters.{among_filter, among_map, filter_among, map_among}
-use Rattle.pm_algebra.proofs.Lists.{All_among, Among, Contains_among, all_append, all_at, all_from, among_All, among_append_left, among_append_right, among_Contains, append_all, here, there}
-use Rattle.pm_algebra.proofs.Ring.{ring}
-use Rattle.pm_algebra.proofs.RowLaws.{dot-difference, dot-plus, dot-same, dot-times, dot_comm, entry-difference, entry-opposite, entry-plus, entry-times, length-difference, length-opposite, length-plus, length-times}
-use Rattle.pm_algebra.proofs.Signs.{mul_cancel, mul_nonneg, mul_pos, nonneg_cancel, times_both, weaken}
-use Rattle.pm_algebra.specs.Cones.{InSpan}
-use Rattle.pm_algebra.specs.Divisors.{IsPrimitive}
-use Rattle.pm_algebra.specs.Rows.{IsZero, Row, difference, dot, entry, opposite, plus, times}
-use Rattle.pm_bases.proofs.Columns.{row_cols, zero_at_columns}
-use Rattle.pm_bases.proofs.Spans.{at_place, place_of, same_span, span_at, span_times}
-use Rattle.pm_bases.proofs.Unique.{echelon_is_unique}
-use Rattle.pm_bases.specs.Bases.{IsReducedBasis, column, row_at}
+use Rattle.pm_vector.proofs.ConeLaws.{in_divide, in_line, in_plus, in_same, in_zero}
+use Rattle.pm_vector.proofs.DivisorLaws.{abs-zero}
+use Rattle.pm_vector.proofs.Filters.{among_filter, among_map, filter_among, map_among}
+use Rattle.pm_vector.proofs.Lists.{All_among, Among, Contains_among, all_append, all_at, all_from, among_All, among_append_left, among_append_right, among_Contains, append_all, here, there}
+use Rattle.pm_vector.proofs.Ring.{ring}
+use Rattle.pm_vector.proofs.RowLaws.{dot-difference, dot-plus, dot-same, dot-times, dot_comm, entry-difference, entry-opposite, entry-plus, entry-times, length-difference, length-opposite, length-plus, length-times}
+use Rattle.pm_vector.proofs.Signs.{mul_cancel, mul_nonneg, mul_pos, nonneg_cancel, times_both, weaken}
+use Rattle.pm_vector.specs.Cones.{InSpan}
+use Rattle.pm_vector.specs.Divisors.{IsPrimitive}
+use Rattle.pm_vector.specs.Rows.{IsZero, Row, difference, dot, entry, opposite, plus, times}
+use Rattle.pm_vector.proofs.Columns.{row_cols, zero_at_columns}
+use Rattle.pm_vector.proofs.Spans.{at_place, place_of, same_span, span_at, span_times}
+use Rattle.pm_vector.proofs.Unique.{echelon_is_unique}
+use Rattle.pm_vector.specs.Bases.{IsReducedBasis, column, row_at}
 use Rattle.pm_dd.proofs.ZeroRows.{zero_of_span}
 use Rattle.pm_dd.specs.Fronts.{HalfSpaces}
 use Rattle.pm_elim.proofs.DotLaws.{dot-unit, dot_span_zero}

@@ -1,11 +1,11 @@
 -- Each row that is found is 0, or spans the null space of the rows that determine the row of its set.
-use Rattle.pm_algebra.proofs.ConeLaws.{in_line_opposite, in_same}
-use Rattle.pm_algebra.proofs.Lists.{Among, here, there}
-use Rattle.pm_algebra.proofs.RowLaws.{entry-opposite}
-use Rattle.pm_algebra.specs.Cones.{InSpan}
-use Rattle.pm_algebra.specs.Rows.{IsZero, Row, opposite}
-use Rattle.pm_bases.proofs.Spans.{same_span, span_from, span_to}
-use Rattle.pm_bases.specs.Bases.{SameSpan, row_at}
+use Rattle.pm_vector.proofs.ConeLaws.{in_line_opposite, in_same}
+use Rattle.pm_vector.proofs.Lists.{Among, here, there}
+use Rattle.pm_vector.proofs.RowLaws.{entry-opposite}
+use Rattle.pm_vector.specs.Cones.{InSpan}
+use Rattle.pm_vector.specs.Rows.{IsZero, Row, opposite}
+use Rattle.pm_vector.proofs.Spans.{same_span, span_from, span_to}
+use Rattle.pm_vector.specs.Bases.{SameSpan, row_at}
 use Rattle.pm_dd.specs.Fronts.{HalfSpaces}
 use Rattle.pm_elim.specs.NullSpaces.{IsNull, IsNullBasis}
 use Rattle.pm_incidence.proofs.Determined.{AreFound, lineality_basis, one_lineality}

@@ -1,6 +1,6 @@
 -- The examples of incidence hold.
-use Rattle.pm_algebra.proofs.Lists.{all_at, among_Contains}
-use Rattle.pm_algebra.specs.Rows.{Row, entry}
+use Rattle.pm_vector.proofs.Lists.{all_at, among_Contains}
+use Rattle.pm_vector.specs.Rows.{Row, entry}
 use Rattle.pm_incidence.specs.Examples.{IncidenceIsRead, ShortRowsAreRead, pair, vertices}
 use Rattle.pm_incidence.specs.Short.{IsLittle}
 use Rattle.std.proofs.Common.{ap, arith, refl}

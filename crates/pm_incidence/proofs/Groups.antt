@@ -4,9 +4,9 @@ use Rattle.std.proofs.Common.{ap, arith, eqb, inl, refl, subst, sym, ◌∙◌}
 use Rattle.std.proofs.lemmas.Bool.{eq-eqb, eqb-true}
 use Rattle.std.proofs.lemmas.Int.{ints}
 use Rattle.std.proofs.lemmas.List.{length-append}
-use Rattle.pm_algebra.specs.Rows.{HasCols, Row, dot}
-use Rattle.pm_algebra.proofs.Lists.{Among, all_append, here, there}
-use Rattle.pm_bases.specs.Bases.{row_at}
+use Rattle.pm_vector.specs.Rows.{HasCols, Row, dot}
+use Rattle.pm_vector.proofs.Lists.{Among, all_append, here, there}
+use Rattle.pm_vector.specs.Bases.{row_at}
 use Rattle.pm_dd.proofs.Marks.{marked_lengths}
 use Rattle.pm_dd.proofs.StepLaws.{at_place, place_of}
 use Rattle.pm_elim.specs.EliminationSteps.{EliminationStep}

@@ -6,12 +6,12 @@ use Rattle.std.proofs.lemmas.Bool.{cases_eq, cases_lt}
 use Rattle.std.proofs.lemmas.Int.{ints}
 use Rattle.std.proofs.lemmas.List.{get_or-append_right, get_or-replicate, get_or_append_left, get_or_past, length-append, length-replicate}
 use Rattle.std.proofs.lemmas.List.FromFn.{get_or-map-range_with_len, get_or-range_with_len, length-map-range_with_len, length-range_with_len}
-use Rattle.pm_algebra.specs.Cones.{InCone}
-use Rattle.pm_algebra.specs.Rows.{HasCols, IsZero, Row, Same, dot, entry, opposite, plus, times}
-use Rattle.pm_algebra.proofs.Lists.{Any_among, all_at, here}
-use Rattle.pm_algebra.proofs.Ring.{ring}
-use Rattle.pm_algebra.proofs.RowLaws.{dot_comm, entry-opposite, entry-plus, entry-times, length-opposite}
-use Rattle.pm_bases.specs.Bases.{row_at}
+use Rattle.pm_vector.specs.Cones.{InCone}
+use Rattle.pm_vector.specs.Rows.{HasCols, IsZero, Row, Same, dot, entry, opposite, plus, times}
+use Rattle.pm_vector.proofs.Lists.{Any_among, all_at, here}
+use Rattle.pm_vector.proofs.Ring.{ring}
+use Rattle.pm_vector.proofs.RowLaws.{dot_comm, entry-opposite, entry-plus, entry-times, length-opposite}
+use Rattle.pm_vector.specs.Bases.{row_at}
 use Rattle.pm_dd.specs.Fronts.{HalfSpaces}
 use Rattle.pm_dd.proofs.StepLaws.{at_place, place_of}
 use Rattle.pm_dd.proofs.ZeroRows.{dot_zero}

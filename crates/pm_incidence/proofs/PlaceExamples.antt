@@ -1,10 +1,10 @@
 -- The examples of places of facets hold.
-use Rattle.pm_algebra.proofs.ConeLaws.{dot_in}
-use Rattle.pm_algebra.proofs.Lists.{Among, Any_among, here, there}
-use Rattle.pm_algebra.proofs.Ring.{ring}
-use Rattle.pm_algebra.specs.Cones.{InCone, combination}
-use Rattle.pm_algebra.specs.Rows.{HasCols, Row, dot, entry, opposite, plus, times}
-use Rattle.pm_bases.specs.Bases.{row_at}
+use Rattle.pm_vector.proofs.ConeLaws.{dot_in}
+use Rattle.pm_vector.proofs.Lists.{Among, Any_among, here, there}
+use Rattle.pm_vector.proofs.Ring.{ring}
+use Rattle.pm_vector.specs.Cones.{InCone, combination}
+use Rattle.pm_vector.specs.Rows.{HasCols, Row, dot, entry, opposite, plus, times}
+use Rattle.pm_vector.specs.Bases.{row_at}
 use Rattle.pm_bits.specs.Sets.{IsSubset, has}
 use Rattle.pm_dd.specs.Fronts.{HalfSpaces}
 use Rattle.pm_dd.specs.Tables.{IsZeroSet, zero_set}

@@ -1,6 +1,6 @@
 -- The places of the vertices on a facet: they are found, ascend, and lie below the count of the vertices.
-use Rattle.pm_algebra.proofs.Lists.{Among, Contains_among, among_Contains, here, there}
-use Rattle.pm_algebra.specs.Rows.{Row, dot}
+use Rattle.pm_vector.proofs.Lists.{Among, Contains_among, among_Contains, here, there}
+use Rattle.pm_vector.specs.Rows.{Row, dot}
 use Rattle.pm_incidence.specs.Incidence.{incidence, places_from}
 use Rattle.pm_geom.specs.Faces.{ray}
 use Rattle.pm_types.specs.Forms.{are_indices, is_sets_form}

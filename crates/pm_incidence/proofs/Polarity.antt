@@ -1,8 +1,8 @@
 -- The rows that are valid on a cone are those that its rays, with its lineality as equations, cut out; and canonical rows are so for every name of a set.
-use Rattle.pm_algebra.proofs.ConeLaws.{in_generator, in_line, in_line_opposite}
-use Rattle.pm_algebra.proofs.Lists.{all_at, all_from}
-use Rattle.pm_algebra.proofs.RowLaws.{dot_comm, length-opposite}
-use Rattle.pm_algebra.specs.Rows.{HasCols, Row, dot, opposite}
+use Rattle.pm_vector.proofs.ConeLaws.{in_generator, in_line, in_line_opposite}
+use Rattle.pm_vector.proofs.Lists.{all_at, all_from}
+use Rattle.pm_vector.proofs.RowLaws.{dot_comm, length-opposite}
+use Rattle.pm_vector.specs.Rows.{HasCols, Row, dot, opposite}
 use Rattle.pm_dd.specs.Fronts.{HalfSpaces}
 use Rattle.pm_geom.proofs.Facets.{dot-opposite, order_as, valid_by_products}
 use Rattle.pm_geom.proofs.Polar.{cols_at, cut_at, cut_from}

@@ -1,9 +1,9 @@
 -- Products of rows that stay in the range, and rows whose product leaves it.
-use Rattle.pm_algebra.proofs.Lists.{Among, among_Contains, here, there}
-use Rattle.pm_algebra.proofs.Ring.{ring}
-use Rattle.pm_algebra.proofs.RowLaws.{dot_comm}
-use Rattle.pm_algebra.specs.Numbers.{InRange}
-use Rattle.pm_algebra.specs.Rows.{IsZero, Row, dot, entry}
+use Rattle.pm_vector.proofs.Lists.{Among, among_Contains, here, there}
+use Rattle.pm_vector.proofs.Ring.{ring}
+use Rattle.pm_vector.proofs.RowLaws.{dot_comm}
+use Rattle.pm_vector.specs.Numbers.{InRange}
+use Rattle.pm_vector.specs.Rows.{IsZero, Row, dot, entry}
 use Rattle.pm_elim.specs.Evidence.{unit}
 use Rattle.std.proofs.lemmas.Bool.{cases_lt}
 use Rattle.pm_incidence.specs.declared.fails.IncFail.TheVariants.{Memory, Wide}

@@ -1,13 +1,13 @@
 -- The examples of rows from sets hold.
-use Rattle.pm_algebra.proofs.ConeLaws.{dot_in, in_line, in_of, in_zero, lines_opposite, none_from_zero, none_to_zero}
-use Rattle.pm_algebra.proofs.Lists.{All_among, Among, Contains_among, all_at, among_Contains, here, there}
-use Rattle.pm_algebra.proofs.Ring.{ring}
-use Rattle.pm_algebra.proofs.RowLaws.{entry-plus, entry-times}
-use Rattle.pm_algebra.specs.Cones.{InCone, InSpan, combination}
-use Rattle.pm_algebra.specs.Divisors.{IsPrimitive}
-use Rattle.pm_algebra.specs.Rows.{IsZero, Row, dot, entry, opposite, plus, times}
-use Rattle.pm_bases.proofs.Examples.{primitive_by_one}
-use Rattle.pm_bases.specs.Bases.{IsEchelonBasis, column, row_at}
+use Rattle.pm_vector.proofs.ConeLaws.{dot_in, in_line, in_of, in_zero, lines_opposite, none_from_zero, none_to_zero}
+use Rattle.pm_vector.proofs.Lists.{All_among, Among, Contains_among, all_at, among_Contains, here, there}
+use Rattle.pm_vector.proofs.Ring.{ring}
+use Rattle.pm_vector.proofs.RowLaws.{entry-plus, entry-times}
+use Rattle.pm_vector.specs.Cones.{InCone, InSpan, combination}
+use Rattle.pm_vector.specs.Divisors.{IsPrimitive}
+use Rattle.pm_vector.specs.Rows.{IsZero, Row, dot, entry, opposite, plus, times}
+use Rattle.pm_vector.proofs.BasisExamples.{primitive_by_one}
+use Rattle.pm_vector.specs.Bases.{IsEchelonBasis, column, row_at}
 use Rattle.pm_elim.proofs.DualLaws.{null_basis_unique}
 use Rattle.pm_elim.specs.NullSpaces.{IsNull, IsNullBasis}
 use Rattle.pm_geom.proofs.Apart.{lineality_spanned}

@@ -1,10 +1,10 @@
 -- What the code of rows from sets keeps: pivot columns found in a basis, the lists that it eliminates, its refusals.
-use Rattle.pm_algebra.proofs.Filters.{among_map, filter_among, map_among}
-use Rattle.pm_algebra.proofs.Lists.{Among, Contains_among, all_append, all_from, among_Contains, here, there}
-use Rattle.pm_algebra.proofs.RowLaws.{length-opposite}
-use Rattle.pm_algebra.specs.Rows.{HasCols, Row, entry}
-use Rattle.pm_bases.proofs.Spans.{at_place}
-use Rattle.pm_bases.specs.Bases.{IsEchelonBasis, column, row_at}
+use Rattle.pm_vector.proofs.Filters.{among_map, filter_among, map_among}
+use Rattle.pm_vector.proofs.Lists.{Among, Contains_among, all_append, all_from, among_Contains, here, there}
+use Rattle.pm_vector.proofs.RowLaws.{length-opposite}
+use Rattle.pm_vector.specs.Rows.{HasCols, Row, entry}
+use Rattle.pm_vector.proofs.Spans.{at_place}
+use Rattle.pm_vector.specs.Bases.{IsEchelonBasis, column, row_at}
 use Rattle.pm_elim.proofs.ExtendedLaws.{length-unit}
 use Rattle.pm_elim.proofs.PrefixLaws.{at_most_columns}
 use Rattle.pm_elim.specs.Evidence.{IfWide, IsEvidence, unit}

@@ -1,5 +1,5 @@
 -- Products of short rows.
-use Rattle.pm_algebra.specs.Rows.{Row, dot, entry}
+use Rattle.pm_vector.specs.Rows.{Row, dot, entry}
 use Rattle.pm_incidence.specs.Short.{IsLittle, IsShort}
 use Rattle.pm_incidence.proofs.Products.{only_one}
 use Rattle.pm_incidence.specs.Incidence.{AllStay}

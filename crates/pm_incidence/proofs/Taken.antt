@@ -3,8 +3,8 @@ use Rattle.std.specs.Prelude.{ℕ, ◌+◌, ◌≡◌, ◌<◌, ◌≤◌, ◌�
 use Rattle.std.specs.List.{AllByRecursion}
 use Rattle.std.proofs.Common.{add-one, refl, sym, ◌∙◌}
 use Rattle.std.proofs.lemmas.List.{get_or_default, take_all}
-use Rattle.pm_algebra.specs.Rows.{Row}
-use Rattle.pm_algebra.proofs.Lists.{all_append, all_at, among_Contains}
+use Rattle.pm_vector.specs.Rows.{Row}
+use Rattle.pm_vector.proofs.Lists.{all_append, all_at, among_Contains}
 use Rattle.pm_dd.proofs.Fronts.{take_suc}
 use Rattle.pm_incidence.proofs.Products.{listed}
 

@@ -1,15 +1,15 @@
 -- The examples of thinning and of rows from sets hold.
-use Rattle.pm_algebra.proofs.Lists.{AllPairs_cons, All_among, Among, Any_among, Contains_among, all_at, among_All, among_Any, among_Contains, here, there}
-use Rattle.pm_algebra.proofs.RowLaws.{entry-times}
-use Rattle.pm_algebra.specs.Cones.{InSpan, combination}
-use Rattle.pm_algebra.specs.Divisors.{IsPrimitive}
-use Rattle.pm_algebra.specs.Numbers.{InRange}
-use Rattle.pm_algebra.specs.Rows.{Row, difference, dot, entry, plus, times}
-use Rattle.pm_bases.proofs.Examples.{primitive_by_one}
-use Rattle.pm_bases.proofs.Spans.{same_span_refl}
-use Rattle.pm_bases.proofs.Unique.{echelon_is_unique}
+use Rattle.pm_vector.proofs.Lists.{AllPairs_cons, All_among, Among, Any_among, Contains_among, all_at, among_All, among_Any, among_Contains, here, there}
+use Rattle.pm_vector.proofs.RowLaws.{entry-times}
+use Rattle.pm_vector.specs.Cones.{InSpan, combination}
+use Rattle.pm_vector.specs.Divisors.{IsPrimitive}
+use Rattle.pm_vector.specs.Numbers.{InRange}
+use Rattle.pm_vector.specs.Rows.{Row, difference, dot, entry, plus, times}
+use Rattle.pm_vector.proofs.BasisExamples.{primitive_by_one}
+use Rattle.pm_vector.proofs.Spans.{same_span_refl}
+use Rattle.pm_vector.proofs.Unique.{echelon_is_unique}
 use Rattle.pm_bits.specs.Sets.{IsSubset, has}
-use Rattle.pm_bases.specs.Bases.{IsEchelonBasis, column, row_at}
+use Rattle.pm_vector.specs.Bases.{IsEchelonBasis, column, row_at}
 use Rattle.pm_dd.specs.Tables.{IsZeroSet, zero_set}
 use Rattle.pm_incidence.proofs.Described.{cone_apart}
 use Rattle.pm_incidence.proofs.Products.{itself, unit_stays}

@@ -1,6 +1,6 @@
 -- The refusals of eliminations, as refusals of thinning.
-use Rattle.pm_algebra.specs.Rows.{Row}
-use Rattle.pm_algebra.proofs.Lists.{Among, Contains_among, among_Contains, among_append, among_append_left, among_append_right, here, there}
+use Rattle.pm_vector.specs.Rows.{Row}
+use Rattle.pm_vector.proofs.Lists.{Among, Contains_among, among_Contains, among_append, among_append_left, among_append_right, here, there}
 use Rattle.pm_incidence.proofs.Products.{stays_turned, unit_stays}
 use Rattle.pm_incidence.specs.SetRows.{IsWideWith}
 use Rattle.pm_object_type.specs.declared.object_type.ObjectType.{ObjectType}

@@ -8,17 +8,17 @@ use Rattle.std.proofs.Common.{arith, inl, inr, subst, sym, ◌∙◌}
 use Rattle.std.proofs.lemmas.Int.{ints}
 use Rattle.std.proofs.lemmas.List.{get_or_default}
 use Rattle.std.proofs.lemmas.List.Sorted.{All-permutation, length_permutation}
-use Rattle.pm_algebra.specs.Cones.{InCone, InSpan, IsConeSet}
-use Rattle.pm_algebra.specs.Divisors.{IsPrimitive}
-use Rattle.pm_algebra.specs.Rows.{HasCols, Row, difference, dot, entry, opposite}
-use Rattle.pm_algebra.proofs.ConeLaws.{in_generator, in_line, in_line_opposite, in_through, lines_opposite}
-use Rattle.pm_algebra.proofs.Filters.{among_filter, filter_among}
-use Rattle.pm_algebra.proofs.Lists.{All_among, Among, Any_among, Contains_among, all_from, among_All, among_append, among_append_left, among_append_right}
-use Rattle.pm_algebra.proofs.Ring.{ring}
-use Rattle.pm_algebra.proofs.RowLaws.{entry-difference, entry-opposite, entry-plus, entry-times, length-difference, length-opposite}
-use Rattle.pm_algebra.proofs.Signs.{mul_cancel, mul_pos, weaken}
-use Rattle.pm_bases.specs.Bases.{row_at}
-use Rattle.pm_bases.proofs.Spans.{span_of, span_to}
+use Rattle.pm_vector.specs.Cones.{InCone, InSpan, IsConeSet}
+use Rattle.pm_vector.specs.Divisors.{IsPrimitive}
+use Rattle.pm_vector.specs.Rows.{HasCols, Row, difference, dot, entry, opposite}
+use Rattle.pm_vector.proofs.ConeLaws.{in_generator, in_line, in_line_opposite, in_through, lines_opposite}
+use Rattle.pm_vector.proofs.Filters.{among_filter, filter_among}
+use Rattle.pm_vector.proofs.Lists.{All_among, Among, Any_among, Contains_among, all_from, among_All, among_append, among_append_left, among_append_right}
+use Rattle.pm_vector.proofs.Ring.{ring}
+use Rattle.pm_vector.proofs.RowLaws.{entry-difference, entry-opposite, entry-plus, entry-times, length-difference, length-opposite}
+use Rattle.pm_vector.proofs.Signs.{mul_cancel, mul_pos, weaken}
+use Rattle.pm_vector.specs.Bases.{row_at}
+use Rattle.pm_vector.proofs.Spans.{span_of, span_to}
 use Rattle.pm_elim.specs.Evidence.{IsBasisOf}
 use Rattle.pm_geom.specs.Cones.{CutOut, InLineality, IsExtreme, IsOrder, SameModulo}
 use Rattle.pm_geom.specs.Generators.{AreGenerators, IsLinealityBasis, VanishAt}

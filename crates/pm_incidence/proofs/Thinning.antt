@@ -3,12 +3,12 @@ use Rattle.std.specs.Prelude.{ℕ, zero, suc, ◌≡◌, ◌<◌, ◌≤◌, ◌
 use Rattle.std.specs.List.{Contains}
 use Rattle.std.proofs.Common.{arith, ◌∙◌, inl, inr, refl, subst, sym}
 use Rattle.std.proofs.lemmas.Int.{ints}
-use Rattle.pm_algebra.specs.Cones.{InCone}
-use Rattle.pm_algebra.specs.Rows.{HasCols, Row, dot, opposite}
-use Rattle.pm_algebra.proofs.ConeLaws.{in_generator, in_line, in_line_opposite}
-use Rattle.pm_algebra.proofs.Lists.{Among, Contains_among, all_append, among_Contains, among_append, among_append_right, here, there}
-use Rattle.pm_algebra.proofs.RowLaws.{length-opposite}
-use Rattle.pm_bases.specs.Bases.{row_at}
+use Rattle.pm_vector.specs.Cones.{InCone}
+use Rattle.pm_vector.specs.Rows.{HasCols, Row, dot, opposite}
+use Rattle.pm_vector.proofs.ConeLaws.{in_generator, in_line, in_line_opposite}
+use Rattle.pm_vector.proofs.Lists.{Among, Contains_among, all_append, among_Contains, among_append, among_append_right, here, there}
+use Rattle.pm_vector.proofs.RowLaws.{length-opposite}
+use Rattle.pm_vector.specs.Bases.{row_at}
 use Rattle.pm_bits.specs.Sets.{IsSubset, has}
 use Rattle.pm_elim.specs.NullSpaces.{IsNull}
 use Rattle.pm_geom.specs.Cones.{CutOut, InLineality, IsExtreme, SameModulo}

@@ -1,8 +1,8 @@
 -- Sets turned: for each column the places of the sets that have it. The sets of the rows of V are found from those of the rows of F.
-use Rattle.pm_algebra.proofs.Filters.{among_map, any_from, any_to, map_among}
-use Rattle.pm_algebra.proofs.Lists.{All_among, Among, among_All, Contains_among, among_Contains, here, there}
-use Rattle.pm_algebra.proofs.RowLaws.{dot_comm}
-use Rattle.pm_algebra.specs.Rows.{Row, dot}
+use Rattle.pm_vector.proofs.Filters.{among_map, any_from, any_to, map_among}
+use Rattle.pm_vector.proofs.Lists.{All_among, Among, among_All, Contains_among, among_Contains, here, there}
+use Rattle.pm_vector.proofs.RowLaws.{dot_comm}
+use Rattle.pm_vector.specs.Rows.{Row, dot}
 use Rattle.pm_geom.specs.Faces.{ray}
 use Rattle.pm_incidence.specs.FromSets.{holders_from, turned}
 use Rattle.pm_types.specs.Right.{IsIncidence}

@@ -1,5 +1,5 @@
 -- Incidence read on three facets and three vertices of the plane, and short rows: what holds, and what does not.
-use Rattle.pm_algebra.specs.Rows.{Row}
+use Rattle.pm_vector.specs.Rows.{Row}
 use Rattle.pm_geom.specs.declared.evidence.Evidence.TheVariants.{E4}
 use Rattle.pm_incidence.specs.Incidence.{IsWideFor, incidence, places_from}
 use Rattle.pm_incidence.specs.Short.{IsShort}

@@ -1,10 +1,10 @@
 -- The extreme rows of a cone that equations E and inequalities A cut out, from the sets of inequalities on which they vanish (Ziegler, Lectures on Polytopes, lecture 2): each is, up to positive scale and lineality, the one row on which the equations and these inequalities vanish.
 use Rattle.std.specs.Prelude.{ℕ, suc, ◌≡◌, ◌<◌, ◌++◌, ◌⊎◌, ◌↔◌, List, [], ◌∷◌, filter, if◌then◌else◌, length, map, nat_eq, nat_lt}
 use Rattle.std.specs.List.{All, Contains, list_any, range_with_len, slice_index_or}
-use Rattle.pm_algebra.specs.Cones.{InSpan}
-use Rattle.pm_algebra.specs.Divisors.{IsPrimitive}
-use Rattle.pm_algebra.specs.Rows.{IsZero, Row}
-use Rattle.pm_bases.specs.Bases.{row_at}
+use Rattle.pm_vector.specs.Cones.{InSpan}
+use Rattle.pm_vector.specs.Divisors.{IsPrimitive}
+use Rattle.pm_vector.specs.Rows.{IsZero, Row}
+use Rattle.pm_vector.specs.Bases.{row_at}
 use Rattle.pm_elim.specs.EliminationSteps.{EliminationStep}
 use Rattle.pm_elim.specs.Evidence.{IsEvidence, unit}
 use Rattle.pm_elim.specs.NullSpaces.{IsNull, IsNullBasis}

@@ -1,7 +1,7 @@
 -- Which rows of V lie on which rows of F.
 use Rattle.std.specs.Prelude.{ℕ, suc, ◌==◌, List, [], ◌∷◌, map, if◌then◌else◌, unsigned_abs}
 use Rattle.std.specs.List.{Contains}
-use Rattle.pm_algebra.specs.Rows.{Row, dot}
+use Rattle.pm_vector.specs.Rows.{Row, dot}
 use Rattle.pm_geom.specs.Evidence.{IsWideProduct}
 use Rattle.pm_geom.specs.declared.evidence.Evidence.TheVariants.{E4}
 use Rattle.pm_incidence.specs.declared.fails.IncFail.{IncFail}

@@ -1,5 +1,5 @@
 -- Rows whose products fit 64 bits.
-use Rattle.pm_algebra.specs.Rows.{Row}
+use Rattle.pm_vector.specs.Rows.{Row}
 use Rattle.std.specs.Prelude.{All, length, unsigned_abs, ◌<◌, ◌≤◌, ◌^◌}
 use lib.IntN.{ℤ}
 

@@ -1,6 +1,6 @@
 -- The definitions of thinning and of rows from sets, read on rows of two entries and sets of three places: what holds, and what does not.
-use Rattle.pm_algebra.specs.Cones.{InCone}
-use Rattle.pm_algebra.specs.Rows.{Row}
+use Rattle.pm_vector.specs.Cones.{InCone}
+use Rattle.pm_vector.specs.Rows.{Row}
 use Rattle.pm_elim.specs.Evidence.{unit}
 use Rattle.pm_geom.specs.declared.evidence.Evidence.TheVariants.{E4, E5Rows}
 use Rattle.pm_incidence.specs.Examples.{pair}

@@ -6,17 +6,17 @@ use lib.Signed.{◌<ℤ◌}
 use Rattle.std.specs.List.Sorted.{IsPermutation, IsSorted}
 use Rattle.std.specs.Ordering.{int_cmp}
 use Rattle.std.specs.Cmp.Lexicographic.{slice_cmp}
-use Rattle.pm_algebra.specs.Numbers.{InRange}
-use Rattle.pm_algebra.specs.Divisors.{IsPrimitiveOf}
-use Rattle.pm_algebra.specs.Rows.{HasCols, Row, dot, entry}
-use Rattle.pm_bases.specs.Bases.{row_at}
+use Rattle.pm_vector.specs.Numbers.{InRange}
+use Rattle.pm_vector.specs.Divisors.{IsPrimitiveOf}
+use Rattle.pm_vector.specs.Rows.{HasCols, Row, dot, entry}
+use Rattle.pm_vector.specs.Bases.{row_at}
 use Rattle.pm_bits.specs.Sets.{IsSubset, has}
 use Rattle.pm_dd.specs.Fronts.{HalfSpaces}
 use Rattle.pm_dd.specs.Tables.{IsZeroSet, zero_set}
 use Rattle.pm_elim.specs.EliminationSteps.{EliminationStep}
 use Rattle.pm_elim.specs.Evidence.{IsBasisOf, IsEvidence, unit}
 use Rattle.pm_elim.specs.Steps.{SameDirectionModulo}
-use Rattle.pm_algebra.specs.Cones.{InCone}
+use Rattle.pm_vector.specs.Cones.{InCone}
 use Rattle.pm_geom.specs.Cones.{IsFacetRow, IsValid, SameModulo}
 use Rattle.pm_geom.specs.Evidence.{IsWideProduct}
 use Rattle.pm_geom.specs.Generators.{VanishAt}

@@ -1,8 +1,8 @@
 // One description of a thing sharpened by the other: the vertices among points, and the facet rows among inequalities.
 
-ghost use Rattle.pm_algebra.specs.Cones.{InCone};
-ghost use Rattle.pm_algebra.specs.Rows.{HasCols, entry};
-ghost use Rattle.pm_bases.specs.Bases.{IsEchelonBasis};
+ghost use Rattle.pm_vector.specs.Cones.{InCone};
+ghost use Rattle.pm_vector.specs.Rows.{HasCols, entry};
+ghost use Rattle.pm_vector.specs.Bases.{IsEchelonBasis};
 ghost use Rattle.pm_elim.specs.Evidence.{unit};
 ghost use Rattle.pm_geom.specs.Generators.{AreGenerators};
 ghost use Rattle.pm_incidence.specs.Thinning.{HasPoint, IsThinFail, half_spaces};

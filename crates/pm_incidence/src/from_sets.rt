@@ -1,7 +1,7 @@
 // Rows from sets: the extreme rays from facets and the sets of facets on which they lie, and the facet rows from rays and the sets of these.
 
-ghost use Rattle.pm_algebra.specs.Rows.{HasCols, Row, dot as dot_of, entry, opposite};
-ghost use Rattle.pm_bases.specs.Bases.{IsEchelonBasis};
+ghost use Rattle.pm_vector.specs.Rows.{HasCols, Row, dot as dot_of, entry, opposite};
+ghost use Rattle.pm_vector.specs.Bases.{IsEchelonBasis};
 ghost use Rattle.pm_dd.specs.Fronts.{HalfSpaces};
 ghost use Rattle.pm_elim.specs.Evidence.{unit};
 ghost use Rattle.pm_elim.specs.NullSpaces.{IsNullBasis};

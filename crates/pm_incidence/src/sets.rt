@@ -1,6 +1,6 @@
 // Which vertices lie on which facets.
 
-ghost use Rattle.pm_algebra.specs.Rows.{dot};
+ghost use Rattle.pm_vector.specs.Rows.{dot};
 ghost use Rattle.pm_incidence.specs.Incidence.{AllStay, IsWideFor, incidence, places_from};
 ghost use Rattle.pm_incidence.specs.Short.{IsShort};
 ghost use Rattle.pm_types.specs.Right.{IsIncidence};

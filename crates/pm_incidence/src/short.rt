@@ -1,6 +1,6 @@
 // Products of short rows, in 64 bits.
 
-ghost use Rattle.pm_algebra.specs.Rows.{dot};
+ghost use Rattle.pm_vector.specs.Rows.{dot};
 ghost use Rattle.pm_incidence.specs.Incidence.{places_from};
 ghost use Rattle.pm_incidence.specs.Short.{IsLittle, IsShort};
 ghost use Rattle.std.specs.Prelude.{All, IfOk, IsTrue, length, unsigned_abs, ◌==◌, ◌≡◌, ◌≤◌, ◌↔◌};

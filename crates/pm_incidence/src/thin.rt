@@ -1,8 +1,8 @@
 // Thinning: of rows that generate a cone the extreme ones, by the inequalities that cut it out.
 
-ghost use Rattle.pm_algebra.specs.Cones.{InCone};
-ghost use Rattle.pm_algebra.specs.Rows.{HasCols, Row};
-ghost use Rattle.pm_bases.specs.Bases.{IsEchelonBasis, row_at};
+ghost use Rattle.pm_vector.specs.Cones.{InCone};
+ghost use Rattle.pm_vector.specs.Rows.{HasCols, Row};
+ghost use Rattle.pm_vector.specs.Bases.{IsEchelonBasis, row_at};
 ghost use Rattle.pm_dd.specs.Fronts.{HalfSpaces};
 ghost use Rattle.pm_elim.specs.Evidence.{IfWide, IsBasisOf, IsEvidence};
 ghost use Rattle.pm_geom.specs.Cones.{IsValid};

@@ -1,6 +1,6 @@
 // On which inequalities rows vanish, as rows of bits; and which rows are kept by them.
 
-ghost use Rattle.pm_algebra.specs.Rows.{HasCols};
+ghost use Rattle.pm_vector.specs.Rows.{HasCols};
 ghost use Rattle.pm_bits.specs.Sets.{IsSubset, has};
 ghost use Rattle.pm_dd.specs.Tables.{IsZeroSet, zero_set};
 ghost use Rattle.pm_incidence.specs.Short.{IsShort};

@@ -1,6 +1,6 @@
 -- Texts that write fractions.
-use Rattle.pm_algebra.proofs.Divisors.{common_divisor}
-use Rattle.pm_algebra.specs.Numbers.{Ratio}
+use Rattle.pm_vector.proofs.DivisorLaws.{common_divisor}
+use Rattle.pm_vector.specs.Numbers.{Ratio}
 use Rattle.pm_fraction.proofs.Digits.{own_digits}
 use Rattle.pm_fraction.proofs.Quotients.{same_through, sizes_lowest}
 use Rattle.pm_fraction.proofs.Reduced.{same_reduced}

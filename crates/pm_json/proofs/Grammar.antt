@@ -3,7 +3,7 @@ use Rattle.std.proofs.Common.{refl, sym, ap, subst, arith, ◌∙◌, ◌≡◌,
 use Rattle.std.proofs.lemmas.Bool.{and_from, and_parts, eqb-true, eq-eqb, leb-true, ne_eqb}
 use Rattle.std.specs.List.{list_all, sum_by}
 use Rattle.std.specs.Prelude.{⊤, if◌then◌else◌, is_some, not}
-use Rattle.pm_algebra.specs.Numbers.{Ratio}
+use Rattle.pm_vector.specs.Numbers.{Ratio}
 use Rattle.pm_json.proofs.Parts.{and_then-ok, else-ok, err_ok, same_Ok, then-ok}
 use Rattle.pm_json.specs.Grammar.{AreItems, AreSetsOf, HasCols, IsArrayOf, IsColsOf, IsEntryOf, IsIndexOf, IsJsonOf, IsMatrixOf, IsRowOf, IsSetOf, IsTextOf, StatesCols, are_apart}
 use Rattle.pm_json.specs.Readings.{Read, SetsSeen, above_sets, and_then, before, before_sets, cols_member, count_of, count_up_to_2048, counts_from, edges_with, entries_from, entry_of, face_from, faces_from, first_row_of, has_index, index_below_2048, index_of, items_of, later_row_from, later_rows_from, matrix_from, matrix_of, matrix_reading, matrix_with, nodes_from, number_value_of, object_behind, only_cols, or_fault, ranks_from, reading, reading_of, rows_before, rows_from, set_from, sets_from, sets_of, sets_with, stated_last, stated_of, whole_count_of, whole_number_of, whole_of, whole_value, with_cols, with_index}

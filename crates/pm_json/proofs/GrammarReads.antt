@@ -4,7 +4,7 @@ use Rattle.std.proofs.lemmas.Bool.{and_from, and_parts, cases_lt, eqb-false, eqb
 use Rattle.std.proofs.lemmas.List.Sums.{sum_by-cons}
 use Rattle.std.specs.List.{list_all, sum_by}
 use Rattle.std.specs.Prelude.{if◌then◌else◌, is_some, not}
-use Rattle.pm_algebra.specs.Numbers.{Ratio}
+use Rattle.pm_vector.specs.Numbers.{Ratio}
 use Rattle.pm_json.proofs.Grammar.{IsCountOf, Stated, are_new, has_put, is_not}
 use Rattle.pm_json.proofs.Parts.{and_then-ok, else-ok, err_ok, same_Ok}
 use Rattle.pm_json.proofs.SetLimits.{above_sets_bound, set_keeps_limits}

@@ -3,7 +3,7 @@ use Rattle.std.proofs.Common.{refl, subst, ap, ◌∙◌, ◌≡◌, ◌<◌, �
 use Rattle.std.proofs.lemmas.Bool.{and_from, and_parts, eq-eqb, eqb-true, le-leb, leb-true, ltb-false, ltb-true}
 use Rattle.std.specs.List.{list_all}
 use Rattle.serde_json.specs.Data.{Data, Items, no_items, item}
-use Rattle.pm_algebra.specs.Numbers.{Ratio}
+use Rattle.pm_vector.specs.Numbers.{Ratio}
 use Rattle.pm_types.specs.Forms.{is_row_of_entries, is_column_count, is_matrix_form, is_number, is_table_form}
 use Rattle.pm_matrix.specs.Matrices.{FractionMatrix}
 use Rattle.std.specs.Prelude.{None, Option, Some}

@@ -7,7 +7,7 @@ use Rattle.serde_json.specs.Data.{Data, null, boolean, number, string, array, ob
 use Rattle.serde_json.specs.Find.{as_object}
 use Rattle.serde_json.specs.View.{items_view, members_view}
 use Rattle.serde_json.specs.declared.value.Value.{Value}
-use Rattle.pm_algebra.specs.Numbers.{Ratio}
+use Rattle.pm_vector.specs.Numbers.{Ratio}
 use Rattle.pm_json.specs.Readings.{Read, and_then, before, entry_of, items_of, later_row_from, later_rows_from, has_one_member, SetsSeen, before_sets, stated_last, stated_of, with_front}
 use Rattle.pm_json.specs.declared.fail.ValueFail.TheVariants.{Shape}
 

@@ -1,6 +1,6 @@
 -- Texts of values: which value they are, and which they are not.
 use Rattle.std.specs.Prelude.{◌≡◌, ℕ, true, false, List, [], ◌∷◌, Option, Some, None, codes}
-use Rattle.pm_algebra.specs.Numbers.{Ratio}
+use Rattle.pm_vector.specs.Numbers.{Ratio}
 use Rattle.pm_fraction.specs.Fractions.{ratio_of}
 use Rattle.pm_json.specs.Grammar.{IsJsonOf, IsSetOf, are_apart}
 use Rattle.pm_props.specs.declared.property.PropId.TheVariants.{Bounded, ConeAmbientDim, FVector, Graph, LinearObjective, Points, VerticesInFacets}

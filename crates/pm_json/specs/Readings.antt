@@ -13,7 +13,7 @@ use Rattle.std.specs.Char.{is_ascii_digit}
 use Rattle.std.specs.List.{list_all, list_any, sum_by}
 use Rattle.std.specs.Str.{bytes_eq}
 use Rattle.std.specs.Str.Parse.{digits_value, signed_digits_value, starts_with_minus, without_leading_sign}
-use Rattle.pm_algebra.specs.Numbers.{Ratio}
+use Rattle.pm_vector.specs.Numbers.{Ratio}
 use Rattle.pm_fraction.specs.Fractions.{ratio_of, signed}
 use Rattle.pm_fraction.specs.Text.{bottom_text, top_text}
 use Rattle.pm_types.specs.Forms.{are_joined_back, has_64_bits, is_dimension, is_number}

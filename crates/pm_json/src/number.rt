@@ -1,6 +1,6 @@
 // Numbers from JSON.
 
-ghost use Rattle.pm_algebra.specs.Numbers.{InRange};
+ghost use Rattle.pm_vector.specs.Numbers.{InRange};
 ghost use Rattle.pm_json.specs.Readings.{count_of, entry_of, index_below_2048, index_of, items_of, number_of, ratio_of_text, whole_fraction_of, whole_number_of};
 ghost use Rattle.pm_types.specs.Views.{over_one};
 ghost use Rattle.serde_json.specs.View.{items_view, number_view, view};

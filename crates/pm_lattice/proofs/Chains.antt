@@ -1,5 +1,5 @@
 -- Chains of intersections: what decides the rank of one.
-use Rattle.pm_algebra.proofs.Lists.{Among, Contains_among, among_All, among_Contains, here, there, All_among}
+use Rattle.pm_vector.proofs.Lists.{Among, Contains_among, among_All, among_Contains, here, there, All_among}
 use Rattle.pm_geom.specs.FaceCounts.{SamePlaces}
 use Rattle.pm_geom.specs.Faces.{IsStrictlyIn}
 use Rattle.pm_geom.specs.Meets.{HasMeetChain, HasMeetRank, IsMeet}

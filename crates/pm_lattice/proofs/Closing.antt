@@ -1,5 +1,5 @@
 -- The turns of the loop that closes rows under intersection.
-use Rattle.pm_algebra.proofs.Lists.{All_among, Among, Contains_among, among_All, among_Contains, among_append, among_append_left, among_append_right, here, there}
+use Rattle.pm_vector.proofs.Lists.{All_among, Among, Contains_among, among_All, among_Contains, among_append, among_append_left, among_append_right, here, there}
 use Rattle.pm_bits.specs.Sets.{has, member_count}
 use Rattle.pm_geom.specs.Meets.{IsMeet}
 use Rattle.pm_lattice.specs.Closures.{AreMeets, IsBefore, IsClosed, bit_sets, place_count}

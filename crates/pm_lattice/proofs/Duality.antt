@@ -1,5 +1,5 @@
 -- A table turned: the faces that the meets of its rows share are the meets of the table's rows.
-use Rattle.pm_algebra.proofs.Lists.{All_among, Among, Contains_among, among_All, among_Contains, here, there}
+use Rattle.pm_vector.proofs.Lists.{All_among, Among, Contains_among, among_All, among_Contains, here, there}
 use Rattle.pm_bits.specs.Sets.{IsSubset, has}
 use Rattle.pm_bits.specs.Table.{Table, row_at}
 use Rattle.pm_geom.specs.FaceCounts.{SamePlaces}

@@ -1,5 +1,5 @@
 -- What `faces` answers, from the faces as rows of bits.
-use Rattle.pm_algebra.proofs.Lists.{All_among, Among, among_All, here, there}
+use Rattle.pm_vector.proofs.Lists.{All_among, Among, among_All, here, there}
 use Rattle.pm_bits.specs.Sets.{has, member_count, members}
 use Rattle.pm_geom.specs.Graphs.{IsAscending, holds, sets_of}
 use Rattle.pm_geom.specs.Meets.{AreMeetsByRank, AreTooManyMeets, HasMeetChain, HasMeetRank, IsMeet, IsSmallLattice}

@@ -1,5 +1,5 @@
 -- Where sets hold the vertices of the facets, their meets by rank are the faces by rank.
-use Rattle.pm_algebra.proofs.Lists.{All_among, Among, Any_among, Contains_among, among_Contains}
+use Rattle.pm_vector.proofs.Lists.{All_among, Among, Any_among, Contains_among, among_Contains}
 use Rattle.pm_geom.specs.FaceCounts.{SamePlaces, at_rank}
 use Rattle.pm_geom.specs.Faces.{HasRank}
 use Rattle.pm_geom.specs.Graphs.{IsAscending, holds, sets_of}

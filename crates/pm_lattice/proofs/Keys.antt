@@ -1,5 +1,5 @@
 -- Keys in the order of rows of bits: what an insert leaves, and that a strict part of a face comes after it.
-use Rattle.pm_algebra.proofs.Lists.{Among, Contains_among, among_Contains, among_append, here, there}
+use Rattle.pm_vector.proofs.Lists.{Among, Contains_among, among_Contains, among_append, here, there}
 use Rattle.pm_bits.proofs.Differences.{Less-from_first}
 use Rattle.pm_bits.specs.Laws.{row_cmp_total, rows_tie}
 use Rattle.pm_bits.specs.Sets.{HasFirstDifference, first_difference_cmp, has, row_cmp}

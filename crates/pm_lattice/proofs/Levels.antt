@@ -1,5 +1,5 @@
 -- The faces of one rank, as lists in lexicographic order; and all of them together as the lattice.
-use Rattle.pm_algebra.proofs.Lists.{AllPairs_cons, Among, Contains_among, among_Contains, here, there}
+use Rattle.pm_vector.proofs.Lists.{AllPairs_cons, Among, Contains_among, among_Contains, here, there}
 use Rattle.pm_bits.specs.Sets.{HasFirstDifference, first_difference_cmp, has, members, row_cmp}
 use Rattle.pm_geom.specs.FaceCounts.{IsLexBefore, SamePlaces, at_rank}
 use Rattle.pm_geom.specs.Graphs.{IsAscending, holds}

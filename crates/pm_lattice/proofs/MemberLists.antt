@@ -1,5 +1,5 @@
 -- Rows of bits as ascending lists of their places.
-use Rattle.pm_algebra.proofs.Lists.{All_among, AllPairs_cons, Among, here, there}
+use Rattle.pm_vector.proofs.Lists.{All_among, AllPairs_cons, Among, here, there}
 use Rattle.pm_bits.specs.Sets.{HasFirstDifference, has, member_count, members}
 use Rattle.pm_geom.specs.FaceCounts.{IsLexBefore}
 use Rattle.pm_geom.specs.Graphs.{IsAscending, holds}

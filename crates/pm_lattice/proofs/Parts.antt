@@ -1,5 +1,5 @@
 -- The parts of a face: what it shares with the rows that do not contain it.
-use Rattle.pm_algebra.proofs.Lists.{All_among, Among, Any_among, Contains_among, among_All, among_append_left, among_append_right, here, there}
+use Rattle.pm_vector.proofs.Lists.{All_among, Among, Any_among, Contains_among, among_All, among_append_left, among_append_right, here, there}
 use Rattle.pm_bits.specs.Sets.{IsIntersection, IsSubset, has}
 use Rattle.pm_geom.specs.FaceCounts.{SamePlaces}
 use Rattle.pm_lattice.specs.Parts.{Covers, IsOpening, IsPartOf, both, row_of}

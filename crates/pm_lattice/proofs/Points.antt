@@ -1,5 +1,5 @@
 -- A point, and no sets at all, read.
-use Rattle.pm_algebra.proofs.Lists.{AllPairs_cons, All_among, Among, Contains_among, among_Contains, here, there}
+use Rattle.pm_vector.proofs.Lists.{AllPairs_cons, All_among, Among, Contains_among, among_Contains, here, there}
 use Rattle.pm_geom.specs.FaceCounts.{IsLexBefore, at_rank}
 use Rattle.pm_geom.specs.Faces.{IsStrictlyIn}
 use Rattle.pm_geom.specs.Graphs.{IsAscending, holds, sets_of}

@@ -1,5 +1,5 @@
 -- Ranks from the last face to the first: the parts of a face come after it, and its rank is one more than their greatest.
-use Rattle.pm_algebra.proofs.Lists.{Among, Contains_among, among_All, among_Contains, here, there}
+use Rattle.pm_vector.proofs.Lists.{Among, Contains_among, among_All, among_Contains, here, there}
 use Rattle.pm_bits.specs.Laws.{row_cmp_total}
 use Rattle.pm_bits.specs.Sets.{has, member_count}
 use Rattle.pm_geom.specs.FaceCounts.{SamePlaces}

@@ -1,5 +1,5 @@
 -- Faces that cover what each of them shares with the rows are all intersections.
-use Rattle.pm_algebra.proofs.Lists.{All_among, Among, Contains_among, among_All, among_Contains, here, there}
+use Rattle.pm_vector.proofs.Lists.{All_among, Among, Contains_among, among_All, among_Contains, here, there}
 use Rattle.pm_bits.specs.Sets.{has}
 use Rattle.pm_geom.specs.FaceCounts.{SamePlaces}
 use Rattle.pm_geom.specs.Meets.{IsMeet}

@@ -1,5 +1,5 @@
 -- Meets of small sets of indices.
-use Rattle.pm_algebra.proofs.Lists.{Among, Contains_among, among_Contains, here, there}
+use Rattle.pm_vector.proofs.Lists.{Among, Contains_among, among_Contains, here, there}
 use Rattle.pm_geom.specs.FaceCounts.{SamePlaces}
 use Rattle.pm_geom.specs.Graphs.{holds, sets_of}
 use Rattle.pm_geom.specs.Meets.{HasMeetChain, HasMeetRank, IsMeet}

@@ -1,6 +1,6 @@
 -- Rows of bits that differ, sorted: each is before those after it.
 use Rattle.std.specs.List.{IsDistinct}
-use Rattle.pm_algebra.proofs.Lists.{all_from, among_All}
+use Rattle.pm_vector.proofs.Lists.{all_from, among_All}
 use Rattle.pm_bits.specs.Laws.{row_cmp_total}
 use Rattle.pm_bits.specs.Sets.{row_cmp}
 use Rattle.pm_lattice.proofs.Keys.{before_trans, equal_rows}

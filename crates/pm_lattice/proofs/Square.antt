@@ -1,5 +1,5 @@
 -- The unit square, read.
-use Rattle.pm_algebra.proofs.Lists.{Among, Contains_among, among_All, among_Contains, here, there}
+use Rattle.pm_vector.proofs.Lists.{Among, Contains_among, among_All, among_Contains, here, there}
 use Rattle.pm_geom.specs.Faces.{IsStrictlyIn}
 use Rattle.pm_geom.specs.Graphs.{holds, sets_of}
 use Rattle.pm_geom.specs.Meets.{HasMeetChain, HasMeetRank, IsMeet}

@@ -1,5 +1,5 @@
 -- Sets whose meets are not graded, read.
-use Rattle.pm_algebra.proofs.Lists.{Among, here, there}
+use Rattle.pm_vector.proofs.Lists.{Among, here, there}
 use Rattle.pm_geom.specs.FaceCounts.{SamePlaces}
 use Rattle.pm_geom.specs.Faces.{IsStrictlyIn}
 use Rattle.pm_geom.specs.Graphs.{holds, sets_of}

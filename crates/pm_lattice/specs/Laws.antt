@@ -1,6 +1,6 @@
 -- What meets are where the sets hold the vertices of the facets, and which pairs are meets.
-use Rattle.pm_algebra.specs.Cones.{InCone}
-use Rattle.pm_algebra.specs.Rows.{HasCols, Row}
+use Rattle.pm_vector.specs.Cones.{InCone}
+use Rattle.pm_vector.specs.Rows.{HasCols, Row}
 use Rattle.pm_geom.specs.Cones.{IsOrder, IsValid}
 use Rattle.pm_geom.specs.FaceCounts.{IsHasseDiagram}
 use Rattle.pm_geom.specs.Faces.{HasRank, IsFace}

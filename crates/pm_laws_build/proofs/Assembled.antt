@@ -1,8 +1,8 @@
 -- The values of a new object, with what goes without saying of them, are right together.
-use Rattle.pm_algebra.proofs.ConeLaws.{in_generator}
-use Rattle.pm_algebra.proofs.Lists.{All_among, Among, all_at, among_Contains, here, there}
-use Rattle.pm_algebra.specs.Numbers.{Ratio}
-use Rattle.pm_algebra.specs.Rows.{HasCols, Row}
+use Rattle.pm_vector.proofs.ConeLaws.{in_generator}
+use Rattle.pm_vector.proofs.Lists.{All_among, Among, all_at, among_Contains, here, there}
+use Rattle.pm_vector.specs.Numbers.{Ratio}
+use Rattle.pm_vector.specs.Rows.{HasCols, Row}
 use Rattle.pm_laws_build.specs.Laws.{settled_facts}
 use Rattle.pm_build.specs.Objects.{polytope_with}
 use Rattle.pm_object.specs.Known.{cols_over}

@@ -1,8 +1,8 @@
 -- The examples of built things.
-use Rattle.pm_algebra.proofs.ConeLaws.{dot_in, in_generator, in_zero}
-use Rattle.pm_algebra.proofs.Lists.{Among, here, there}
-use Rattle.pm_algebra.specs.Cones.{InCone}
-use Rattle.pm_algebra.specs.Rows.{Row, Same, dot, entry, plus, times}
+use Rattle.pm_vector.proofs.ConeLaws.{dot_in, in_generator, in_zero}
+use Rattle.pm_vector.proofs.Lists.{Among, here, there}
+use Rattle.pm_vector.specs.Cones.{InCone}
+use Rattle.pm_vector.specs.Rows.{Row, Same, dot, entry, plus, times}
 use Rattle.pm_laws_build.proofs.PyramidLaws.{pyramid_above}
 use Rattle.pm_laws_build.specs.Built.{InCube, InPolar, InProduct, InPyramid, IsSum}
 use Rattle.pm_laws_normal_fans.proofs.ExampleSums.{sums_are_read}

@@ -1,11 +1,11 @@
 -- There are polars and pyramids of polytopes, and products of two.
-use Rattle.pm_algebra.proofs.ConeLaws.{dot_in, in_cone_set, in_generator, in_line, in_line_opposite, in_times}
-use Rattle.pm_algebra.proofs.Filters.{among_map, map_among}
-use Rattle.pm_algebra.proofs.Lists.{Among, all_at, all_from, among_append, among_append_left, among_append_right}
-use Rattle.pm_algebra.proofs.RowLaws.{dot-nil, dot-same, dot_comm, entry-plus, entry-times, length-opposite, length-times}
-use Rattle.pm_algebra.proofs.Signs.{mul_pos}
-use Rattle.pm_algebra.specs.Cones.{InCone}
-use Rattle.pm_algebra.specs.Rows.{HasCols, IsZero, Row, dot, entry, opposite, times}
+use Rattle.pm_vector.proofs.ConeLaws.{dot_in, in_cone_set, in_generator, in_line, in_line_opposite, in_times}
+use Rattle.pm_vector.proofs.Filters.{among_map, map_among}
+use Rattle.pm_vector.proofs.Lists.{Among, all_at, all_from, among_append, among_append_left, among_append_right}
+use Rattle.pm_vector.proofs.RowLaws.{dot-nil, dot-same, dot_comm, entry-plus, entry-times, length-opposite, length-times}
+use Rattle.pm_vector.proofs.Signs.{mul_pos}
+use Rattle.pm_vector.specs.Cones.{InCone}
+use Rattle.pm_vector.specs.Rows.{HasCols, IsZero, Row, dot, entry, opposite, times}
 use Rattle.pm_build.specs.Rows.{apex_row}
 use Rattle.pm_geom.proofs.Facets.{opposite-dot}
 use Rattle.pm_geom.proofs.Polar.{cut_at, cut_from, generated_is_cut}

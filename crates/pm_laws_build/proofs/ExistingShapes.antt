@@ -1,8 +1,8 @@
 -- There are cubes, simplices, cross-polytopes and cyclic polytopes.
-use Rattle.pm_algebra.proofs.ConeLaws.{in_generator, none_to_zero}
-use Rattle.pm_algebra.proofs.Lists.{Among, here}
-use Rattle.pm_algebra.specs.Cones.{InCone}
-use Rattle.pm_algebra.specs.Rows.{IsZero, Row, entry}
+use Rattle.pm_vector.proofs.ConeLaws.{in_generator, none_to_zero}
+use Rattle.pm_vector.proofs.Lists.{Among, here}
+use Rattle.pm_vector.specs.Cones.{InCone}
+use Rattle.pm_vector.specs.Rows.{IsZero, Row, entry}
 use Rattle.pm_build.proofs.PaddedRows.{nothing_at}
 use Rattle.pm_build.proofs.Vectors.{corners_cols, curve_cols, opposite_cols}
 use Rattle.pm_build.specs.Rows.{curve_points, headed, opposite_units, simplex_corners}

@@ -1,11 +1,11 @@
 -- A polytope is told by its points: what is so of these is so of the whole cone.
-use Rattle.pm_algebra.proofs.ConeLaws.{dot_in, in_cone_set, in_generator, in_zero, none_to_zero}
-use Rattle.pm_algebra.proofs.Lists.{All_among, Among, among_All, here}
-use Rattle.pm_algebra.proofs.Ring.{ring}
-use Rattle.pm_algebra.proofs.RowLaws.{dot-nil, dot-plus, dot-same, dot-times, entry-plus, entry-times, length-plus, length-times, times-dot}
-use Rattle.pm_algebra.proofs.Signs.{mul_cancel, mul_le, mul_nonneg, nonneg_cancel}
-use Rattle.pm_algebra.specs.Cones.{InCone, IsConeSet}
-use Rattle.pm_algebra.specs.Rows.{HasCols, Row, dot, entry, plus, times}
+use Rattle.pm_vector.proofs.ConeLaws.{dot_in, in_cone_set, in_generator, in_zero, none_to_zero}
+use Rattle.pm_vector.proofs.Lists.{All_among, Among, among_All, here}
+use Rattle.pm_vector.proofs.Ring.{ring}
+use Rattle.pm_vector.proofs.RowLaws.{dot-nil, dot-plus, dot-same, dot-times, entry-plus, entry-times, length-plus, length-times, times-dot}
+use Rattle.pm_vector.proofs.Signs.{mul_cancel, mul_le, mul_nonneg, nonneg_cancel}
+use Rattle.pm_vector.specs.Cones.{InCone, IsConeSet}
+use Rattle.pm_vector.specs.Rows.{HasCols, Row, dot, entry, plus, times}
 use Rattle.pm_geom.proofs.Polar.{bipolar, cut_at, cut_from}
 use Rattle.pm_geom.specs.Things.{IsPolytopeThing}
 use Rattle.pm_types.specs.Right.{CutsOutPolytope, Solves, empty, proper}

@@ -1,11 +1,11 @@
 -- What the facet rows of a polytope with 0 in its interior describe, taken as points.
-use Rattle.pm_algebra.proofs.ConeLaws.{dot_in, in_cone_set, none_from_zero, none_to_zero}
-use Rattle.pm_algebra.proofs.Lists.{Among, among_All, here, there}
-use Rattle.pm_algebra.proofs.RowLaws.{dot_comm, entry-plus, entry-times}
-use Rattle.pm_algebra.proofs.Signs.{mul_pos, pos_cancel}
-use Rattle.pm_algebra.specs.Cones.{InCone}
-use Rattle.pm_algebra.specs.Numbers.{Ratio}
-use Rattle.pm_algebra.specs.Rows.{HasCols, IsZero, Row, dot, entry, times}
+use Rattle.pm_vector.proofs.ConeLaws.{dot_in, in_cone_set, none_from_zero, none_to_zero}
+use Rattle.pm_vector.proofs.Lists.{Among, among_All, here, there}
+use Rattle.pm_vector.proofs.RowLaws.{dot_comm, entry-plus, entry-times}
+use Rattle.pm_vector.proofs.Signs.{mul_pos, pos_cancel}
+use Rattle.pm_vector.specs.Cones.{InCone}
+use Rattle.pm_vector.specs.Numbers.{Ratio}
+use Rattle.pm_vector.specs.Rows.{HasCols, IsZero, Row, dot, entry, times}
 use Rattle.pm_laws_build.proofs.Assembled.{points_described, polytope_thing, settled_cols, settled_some}
 use Rattle.pm_build.proofs.PaddedRows.{nothing, nothing_at, nothing_dot}
 use Rattle.pm_laws_build.proofs.Points.{closing, generated_by_points}

@@ -1,7 +1,7 @@
 -- What the facet rows and the rows of the affine hulls of two polytopes describe in the columns of their product.
-use Rattle.pm_algebra.proofs.Filters.{among_map, map_among}
-use Rattle.pm_algebra.proofs.Lists.{Among, all_at, all_from, among_All, among_append, among_append_left, among_append_right, here, there}
-use Rattle.pm_algebra.specs.Rows.{HasCols, Row, dot, entry}
+use Rattle.pm_vector.proofs.Filters.{among_map, map_among}
+use Rattle.pm_vector.proofs.Lists.{Among, all_at, all_from, among_All, among_append, among_append_left, among_append_right, here, there}
+use Rattle.pm_vector.specs.Rows.{HasCols, Row, dot, entry}
 use Rattle.pm_laws_build.proofs.Assembled.{both_described, both_settled, polytope_cuts, polytope_thing}
 use Rattle.pm_build.proofs.PaddedRows.{dot_padded, dot_spread, nothing, padded_stand, padded_whole, spread_stand, spread_whole, stand_append, stand_length}
 use Rattle.pm_laws_build.proofs.Points.{cut_out_by_points, solution, solved_by_cut}

@@ -1,12 +1,12 @@
 -- What the vertices and the lineality of a polytope, in one column more, and the apex describe.
-use Rattle.pm_algebra.proofs.ConeLaws.{dot_in, in_generator, in_line, in_line_opposite, in_line_times, in_plus, in_same, in_times}
-use Rattle.pm_algebra.proofs.Filters.{among_map, map_among}
-use Rattle.pm_algebra.proofs.Lists.{Among, all_at, all_from, among_append, among_append_left, among_append_right, here, there}
-use Rattle.pm_algebra.proofs.Ring.{one_mul, ring}
-use Rattle.pm_algebra.proofs.RowLaws.{dot-times, dot_comm, length-opposite, length-times, same_sym}
-use Rattle.pm_algebra.specs.Cones.{InCone}
-use Rattle.pm_algebra.specs.Numbers.{Ratio}
-use Rattle.pm_algebra.specs.Rows.{HasCols, Row, Same, Stands, dot, entry, opposite, plus, times}
+use Rattle.pm_vector.proofs.ConeLaws.{dot_in, in_generator, in_line, in_line_opposite, in_line_times, in_plus, in_same, in_times}
+use Rattle.pm_vector.proofs.Filters.{among_map, map_among}
+use Rattle.pm_vector.proofs.Lists.{Among, all_at, all_from, among_append, among_append_left, among_append_right, here, there}
+use Rattle.pm_vector.proofs.Ring.{one_mul, ring}
+use Rattle.pm_vector.proofs.RowLaws.{dot-times, dot_comm, length-opposite, length-times, same_sym}
+use Rattle.pm_vector.specs.Cones.{InCone}
+use Rattle.pm_vector.specs.Numbers.{Ratio}
+use Rattle.pm_vector.specs.Rows.{HasCols, Row, Same, Stands, dot, entry, opposite, plus, times}
 use Rattle.pm_laws_build.proofs.Assembled.{both_settled, generated_described}
 use Rattle.pm_build.proofs.PaddedRows.{dot_padded, nothing, nothing_dot, padded_stand, padded_whole, stand_append}
 use Rattle.pm_laws_build.proofs.ReadRights.{RightRows, read_rows, right_lines, right_vertices}

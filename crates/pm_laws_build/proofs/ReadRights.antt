@@ -1,8 +1,8 @@
 -- The values that are read of a polytope, as right rows.
-use Rattle.pm_algebra.specs.Numbers.{Ratio}
+use Rattle.pm_vector.specs.Numbers.{Ratio}
 use Rattle.pm_object.specs.Known.{held_rows, rows_at, truth_in}
 use Rattle.pm_geom.specs.Things.{Orders}
-use Rattle.pm_algebra.proofs.Lists.{Among, among_All}
+use Rattle.pm_vector.proofs.Lists.{Among, among_All}
 use Rattle.pm_laws_build.specs.Laws.{ReadRight}
 use Rattle.pm_object.specs.State.{State, is_held, read_at, value_of}
 use Rattle.pm_props.specs.declared.property.PropId.TheVariants.{AffineHull, Facets, LinealitySpace, Vertices}

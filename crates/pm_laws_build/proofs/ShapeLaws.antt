@@ -1,8 +1,8 @@
 -- What the rows of the cube, the simplex, the cross-polytope and the cyclic polytope describe.
-use Rattle.pm_algebra.proofs.Filters.{among_map, map_among}
-use Rattle.pm_algebra.proofs.Lists.{Among, all_at, all_from, among_append_left, among_append_right, here, there}
-use Rattle.pm_algebra.proofs.Ring.{ring}
-use Rattle.pm_algebra.specs.Rows.{HasCols, Row, dot, entry}
+use Rattle.pm_vector.proofs.Filters.{among_map, map_among}
+use Rattle.pm_vector.proofs.Lists.{Among, all_at, all_from, among_append_left, among_append_right, here, there}
+use Rattle.pm_vector.proofs.Ring.{ring}
+use Rattle.pm_vector.specs.Rows.{HasCols, Row, dot, entry}
 use Rattle.pm_laws_build.proofs.Assembled.{cols_settled, inequalities_described, points_described, polytope_cuts, polytope_thing}
 use Rattle.pm_laws_build.proofs.Points.{cut_out_by_points, generated_by_points, solution, solved_by_cut}
 use Rattle.pm_build.proofs.RowLaws.{length_headed_rows}

@@ -1,7 +1,7 @@
 -- Polytopes that are given by generators and lines, or by the rows that cut them out: they are things, and have orders.
-use Rattle.pm_algebra.proofs.ConeLaws.{none_to_zero}
-use Rattle.pm_algebra.specs.Rows.{HasCols, Row, dot, entry}
-use Rattle.pm_algebra.specs.Numbers.{Ratio}
+use Rattle.pm_vector.proofs.ConeLaws.{none_to_zero}
+use Rattle.pm_vector.specs.Rows.{HasCols, Row, dot, entry}
+use Rattle.pm_vector.specs.Numbers.{Ratio}
 use Rattle.pm_build.proofs.PaddedRows.{nothing, nothing_dot, zeros_at}
 use Rattle.pm_build.specs.Objects.{zeros}
 use Rattle.pm_geom.proofs.Facets.{facet_rows_cut_out}

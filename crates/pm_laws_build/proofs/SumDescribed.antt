@@ -1,12 +1,12 @@
 -- The rows of a Minkowski sum describe the sum.
-use Rattle.pm_algebra.proofs.ConeLaws.{in_cone_set, in_line, in_line_opposite, none_to_zero}
-use Rattle.pm_algebra.proofs.Filters.{filter_among}
-use Rattle.pm_algebra.proofs.Lists.{Among, all_at, here, there}
-use Rattle.pm_algebra.proofs.Ring.{ring}
-use Rattle.pm_algebra.proofs.RowLaws.{entry-times, length-opposite, length-times}
-use Rattle.pm_algebra.proofs.Signs.{mul_pos, nonneg_cancel, weaken}
-use Rattle.pm_algebra.specs.Cones.{InCone}
-use Rattle.pm_algebra.specs.Rows.{HasCols, IsZero, Row, entry, opposite, times}
+use Rattle.pm_vector.proofs.ConeLaws.{in_cone_set, in_line, in_line_opposite, none_to_zero}
+use Rattle.pm_vector.proofs.Filters.{filter_among}
+use Rattle.pm_vector.proofs.Lists.{Among, all_at, here, there}
+use Rattle.pm_vector.proofs.Ring.{ring}
+use Rattle.pm_vector.proofs.RowLaws.{entry-times, length-opposite, length-times}
+use Rattle.pm_vector.proofs.Signs.{mul_pos, nonneg_cancel, weaken}
+use Rattle.pm_vector.specs.Cones.{InCone}
+use Rattle.pm_vector.specs.Rows.{HasCols, IsZero, Row, entry, opposite, times}
 use Rattle.pm_build.proofs.PaddedRows.{stand_append, stand_length}
 use Rattle.pm_build.proofs.Refused.{refused}
 use Rattle.pm_build.specs.Conditions.{sum_reads}

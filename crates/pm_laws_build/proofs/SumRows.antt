@@ -1,10 +1,10 @@
 -- The rows of a Minkowski sum stand for the sums of the rows of both polytopes.
-use Rattle.pm_algebra.proofs.Lists.{Among, here, there}
-use Rattle.pm_algebra.proofs.Ring.{ring}
-use Rattle.pm_algebra.proofs.RowLaws.{entry-plus, entry-times, length-plus, length-times}
-use Rattle.pm_algebra.proofs.Signs.{mul_pos, pos_cancel}
-use Rattle.pm_algebra.specs.Numbers.{Ratio}
-use Rattle.pm_algebra.specs.Rows.{Row, Stands, entry, ratio_at, times}
+use Rattle.pm_vector.proofs.Lists.{Among, here, there}
+use Rattle.pm_vector.proofs.Ring.{ring}
+use Rattle.pm_vector.proofs.RowLaws.{entry-plus, entry-times, length-plus, length-times}
+use Rattle.pm_vector.proofs.Signs.{mul_pos, pos_cancel}
+use Rattle.pm_vector.specs.Numbers.{Ratio}
+use Rattle.pm_vector.specs.Rows.{Row, Stands, entry, ratio_at, times}
 use Rattle.pm_build.specs.Points.{far as far_rows, is_point, is_positive as is_above, pairs, pairs_with, points as point_rows}
 use Rattle.pm_build.specs.SumSteps.{IsSumRow}
 use Rattle.pm_build.specs.Sums.{AreSums}

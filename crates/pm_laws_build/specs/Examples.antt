@@ -1,6 +1,6 @@
 -- Built things read on segments: what lies in them, and what does not.
 use Rattle.std.specs.Prelude.{ℕ, List, [], ◌∷◌}
-use Rattle.pm_algebra.specs.Rows.{Row}
+use Rattle.pm_vector.specs.Rows.{Row}
 use Rattle.pm_object_type.specs.declared.object_type.ObjectType.TheVariants.{Polytope}
 use Rattle.pm_types.specs.Things.{Thing}
 use Rattle.pm_laws_build.specs.Built.{InCube, InHull, InPolar, InProduct, InPyramid, IsCross, IsCube, IsCyclic, IsPolar, IsProduct, IsPyramid, IsSimplex, IsSum}

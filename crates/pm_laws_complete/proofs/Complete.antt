@@ -6,7 +6,7 @@ use Rattle.pm_standard.specs.declared.standard.StandardClient.{StandardClient}
 use Rattle.std.specs.List.{All, list_all, list_any}
 use Rattle.std.proofs.lemmas.Bool.{and_from, and_parts, both_ways, eqb-true, or_cases}
 use Rattle.std.proofs.lemmas.List.Elements.{All-cons, All-head, All-nil, All-tail}
-use Rattle.pm_algebra.proofs.Lists.{Among, among_Contains, here, there}
+use Rattle.pm_vector.proofs.Lists.{Among, among_Contains, here, there}
 use Rattle.pm_props.proofs.Every.{all_properties, has-set_of, has-set_of_filter}
 use Rattle.pm_props.proofs.Members.{has-only}
 use Rattle.pm_props.proofs.Numbers.{number_is}

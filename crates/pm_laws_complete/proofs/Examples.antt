@@ -3,7 +3,7 @@ use Rattle.std.proofs.Common.{◌≡◌, true, Bool, not, ◌&&◌, ◌||◌, eq
 use Rattle.std.specs.List.{list_all}
 use Rattle.std.specs.Prelude.{slice_get}
 use Rattle.std.proofs.lemmas.Bool.{and_from, and_parts, eqb-true, not-true, or_cases}
-use Rattle.pm_algebra.proofs.Lists.{Among, Contains_among, among_Contains, here, there}
+use Rattle.pm_vector.proofs.Lists.{Among, Contains_among, among_Contains, here, there}
 use Rattle.pm_props.proofs.Every.{all_properties}
 use Rattle.pm_props.proofs.Numbers.{number_is}
 use Rattle.std.proofs.lemmas.Option.{same_Some}

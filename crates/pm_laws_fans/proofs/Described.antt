@@ -1,6 +1,6 @@
 -- The values of a new fan are right together.
-use Rattle.pm_algebra.proofs.Lists.{Among, among_Contains, here, there}
-use Rattle.pm_algebra.specs.Numbers.{Ratio}
+use Rattle.pm_vector.proofs.Lists.{Among, among_Contains, here, there}
+use Rattle.pm_vector.specs.Numbers.{Ratio}
 use Rattle.pm_fan.specs.Fans.{fan_with}
 use Rattle.pm_laws_build.specs.Laws.{settled_facts}
 use Rattle.pm_geom.specs.Things.{Orders}

@@ -1,8 +1,8 @@
 -- The fans of squares, and what the values of small fans describe.
-use Rattle.pm_algebra.proofs.ConeLaws.{in_line, lines_opposite, none_to_zero}
-use Rattle.pm_algebra.proofs.Lists.{AllPairs_cons, All_among, Among, Contains_among, among_Contains, here, there}
-use Rattle.pm_algebra.specs.Cones.{InCone, InSpan}
-use Rattle.pm_algebra.specs.Rows.{Row, ratio_at}
+use Rattle.pm_vector.proofs.ConeLaws.{in_line, lines_opposite, none_to_zero}
+use Rattle.pm_vector.proofs.Lists.{AllPairs_cons, All_among, Among, Contains_among, among_Contains, here, there}
+use Rattle.pm_vector.specs.Cones.{InCone, InSpan}
+use Rattle.pm_vector.specs.Rows.{Row, ratio_at}
 use Rattle.pm_laws_build.specs.Laws.{settled_facts}
 use Rattle.pm_fan.proofs.Examples.{fans}
 use Rattle.pm_fan.specs.Examples.{fitting, point_values, pointed_fan_of, square_values}

@@ -1,9 +1,9 @@
 -- The rows of a face fan describe the face fan.
-use Rattle.pm_algebra.proofs.ConeLaws.{in_zero, lines_opposite}
-use Rattle.pm_algebra.proofs.Lists.{All_among, Among, Contains_among, all_from, among_All, among_Any, among_Contains, here, there}
-use Rattle.pm_algebra.proofs.RowLaws.{dot_comm, entry-plus, entry-times, length-zeros, zeros}
-use Rattle.pm_algebra.specs.Cones.{InCone, InSpan}
-use Rattle.pm_algebra.specs.Rows.{HasCols, IsZero, Row, dot, entry}
+use Rattle.pm_vector.proofs.ConeLaws.{in_zero, lines_opposite}
+use Rattle.pm_vector.proofs.Lists.{All_among, Among, Contains_among, all_from, among_All, among_Any, among_Contains, here, there}
+use Rattle.pm_vector.proofs.RowLaws.{dot_comm, entry-plus, entry-times, length-zeros, zeros}
+use Rattle.pm_vector.specs.Cones.{InCone, InSpan}
+use Rattle.pm_vector.specs.Rows.{HasCols, IsZero, Row, dot, entry}
 use Rattle.pm_fan.specs.Conditions.{face_reads}
 use Rattle.pm_fan.specs.Fans.{cut, fan_cols, fan_with, is_point, only_apex}
 use Rattle.pm_laws_fans.proofs.Described.{pointed_described}

@@ -1,10 +1,10 @@
 -- The cones, rays and lines of a fan of shadows, and of each fan with the same cones, as rows and sets.
-use Rattle.pm_algebra.proofs.Lists.{Among, here, there}
-use Rattle.pm_algebra.proofs.Ring.{ring}
-use Rattle.pm_algebra.proofs.RowLaws.{dot-nil, dot-plus, dot-same, dot-times, dot_comm, entry-plus, entry-times}
-use Rattle.pm_algebra.proofs.Signs.{mul_cancel}
-use Rattle.pm_algebra.specs.Cones.{InCone, IsIndependent, combination}
-use Rattle.pm_algebra.specs.Rows.{Row, dot, entry, times}
+use Rattle.pm_vector.proofs.Lists.{Among, here, there}
+use Rattle.pm_vector.proofs.Ring.{ring}
+use Rattle.pm_vector.proofs.RowLaws.{dot-nil, dot-plus, dot-same, dot-times, dot_comm, entry-plus, entry-times}
+use Rattle.pm_vector.proofs.Signs.{mul_cancel}
+use Rattle.pm_vector.specs.Cones.{InCone, IsIndependent, combination}
+use Rattle.pm_vector.specs.Rows.{Row, dot, entry, times}
 use Rattle.pm_geom.proofs.Reduce.{extreme_as}
 use Rattle.pm_geom.specs.Cones.{IsExtremeRay}
 use Rattle.pm_geom.specs.Faces.{ray}

@@ -1,8 +1,8 @@
 -- Sets of places, and the rows that stand at the sets with members.
-use Rattle.pm_algebra.proofs.Filters.{any_from, any_to}
-use Rattle.pm_algebra.proofs.Lists.{AllPairs_cons, Among, Any_among, Contains_among, among_Any, among_Contains, here, there}
-use Rattle.pm_algebra.specs.Numbers.{Ratio}
-use Rattle.pm_algebra.specs.Rows.{HasCols, Row, Stands, dot}
+use Rattle.pm_vector.proofs.Filters.{any_from, any_to}
+use Rattle.pm_vector.proofs.Lists.{AllPairs_cons, Among, Any_among, Contains_among, among_Any, among_Contains, here, there}
+use Rattle.pm_vector.specs.Numbers.{Ratio}
+use Rattle.pm_vector.specs.Rows.{HasCols, Row, Stands, dot}
 use Rattle.pm_fan.specs.Fans.{cut, has_members, holders_from, with_members}
 use Rattle.pm_geom.specs.Faces.{ray}
 use Rattle.pm_geom.specs.Graphs.{holds}

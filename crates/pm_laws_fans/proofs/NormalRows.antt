@@ -1,9 +1,9 @@
 -- The rows of a normal fan describe the normal fan.
-use Rattle.pm_algebra.proofs.ConeLaws.{lines_opposite}
-use Rattle.pm_algebra.proofs.Lists.{All_among, Contains_among, all_from, among_All, here, there}
-use Rattle.pm_algebra.proofs.RowLaws.{dot_comm, entry-plus, entry-times}
-use Rattle.pm_algebra.specs.Cones.{InCone, InSpan}
-use Rattle.pm_algebra.specs.Rows.{HasCols, IsZero, Row, dot, entry}
+use Rattle.pm_vector.proofs.ConeLaws.{lines_opposite}
+use Rattle.pm_vector.proofs.Lists.{All_among, Contains_among, all_from, among_All, here, there}
+use Rattle.pm_vector.proofs.RowLaws.{dot_comm, entry-plus, entry-times}
+use Rattle.pm_vector.specs.Cones.{InCone, InSpan}
+use Rattle.pm_vector.specs.Rows.{HasCols, IsZero, Row, dot, entry}
 use Rattle.pm_fan.specs.Conditions.{normal_reads}
 use Rattle.pm_fan.specs.Fans.{cut, has_members, holders_from, normal_rays, with_members}
 use Rattle.pm_laws_fans.proofs.Described.{fan_described}

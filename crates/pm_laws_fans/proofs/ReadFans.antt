@@ -1,11 +1,11 @@
 -- The values that are read of a fan, as a fan by rows: it has the same cones.
-use Rattle.pm_algebra.proofs.ConeLaws.{in_cone_set, in_generator, in_line, in_of, in_through, in_zero, lines_opposite}
-use Rattle.pm_algebra.proofs.Filters.{map_among}
-use Rattle.pm_algebra.proofs.Lists.{All_among, Among, all_at, all_from, among_All, among_Any, among_Contains}
-use Rattle.pm_algebra.proofs.RowLaws.{entry-opposite, entry-plus, length-opposite, length-zeros, zeros}
-use Rattle.pm_algebra.specs.Cones.{InCone, InSpan}
-use Rattle.pm_algebra.specs.Numbers.{Ratio}
-use Rattle.pm_algebra.specs.Rows.{HasCols, Row, Stands, entry, opposite, times}
+use Rattle.pm_vector.proofs.ConeLaws.{in_cone_set, in_generator, in_line, in_of, in_through, in_zero, lines_opposite}
+use Rattle.pm_vector.proofs.Filters.{map_among}
+use Rattle.pm_vector.proofs.Lists.{All_among, Among, all_at, all_from, among_All, among_Any, among_Contains}
+use Rattle.pm_vector.proofs.RowLaws.{entry-opposite, entry-plus, length-opposite, length-zeros, zeros}
+use Rattle.pm_vector.specs.Cones.{InCone, InSpan}
+use Rattle.pm_vector.specs.Numbers.{Ratio}
+use Rattle.pm_vector.specs.Rows.{HasCols, Row, Stands, entry, opposite, times}
 use Rattle.pm_dd.proofs.AlikeLaws.{alike_trans}
 use Rattle.pm_geom.specs.Cones.{InLineality, IsExtremeRay, IsOrder, SameModulo}
 use Rattle.pm_geom.specs.Faces.{ray}

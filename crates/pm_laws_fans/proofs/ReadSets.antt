@@ -1,5 +1,5 @@
 -- The sets that are read of a polytope, as right sets.
-use Rattle.pm_algebra.proofs.Lists.{Among, among_All}
+use Rattle.pm_vector.proofs.Lists.{Among, among_All}
 use Rattle.pm_laws_build.proofs.ReadRights.{read_value}
 use Rattle.pm_laws_build.specs.Laws.{ReadRight}
 use Rattle.pm_geom.specs.Things.{Orders}

@@ -1,9 +1,9 @@
 -- The values of a common refinement describe it.
-use Rattle.pm_algebra.proofs.ConeLaws.{in_line}
-use Rattle.pm_algebra.proofs.Lists.{All_among, Among, all_at, all_from, among_All, among_Any, among_Contains, here, there}
-use Rattle.pm_algebra.specs.Cones.{InCone, InSpan, IsIndependent}
-use Rattle.pm_algebra.specs.Rows.{HasCols, Row}
-use Rattle.pm_bases.proofs.Columns.{basis_is_independent}
+use Rattle.pm_vector.proofs.ConeLaws.{in_line}
+use Rattle.pm_vector.proofs.Lists.{All_among, Among, all_at, all_from, among_All, among_Any, among_Contains, here, there}
+use Rattle.pm_vector.specs.Cones.{InCone, InSpan, IsIndependent}
+use Rattle.pm_vector.specs.Rows.{HasCols, Row}
+use Rattle.pm_vector.proofs.Columns.{basis_is_independent}
 use Rattle.pm_geom.proofs.Reduce.{extreme_as}
 use Rattle.pm_geom.specs.Cones.{IsExtremeRay, SameModulo}
 use Rattle.pm_geom.specs.Faces.{ray}

@@ -1,8 +1,8 @@
 -- The definitions read on the fans of squares and of a point: what holds, and what does not.
 use Rattle.std.specs.Prelude.{ℕ, List, [], ◌∷◌, map}
 use Rattle.std.specs.List.{range_with_len}
-use Rattle.pm_algebra.specs.Numbers.{Ratio}
-use Rattle.pm_algebra.specs.Rows.{Row}
+use Rattle.pm_vector.specs.Numbers.{Ratio}
+use Rattle.pm_vector.specs.Rows.{Row}
 use Rattle.pm_fan.specs.Examples.{fitting, point_values, square_values}
 use Rattle.pm_fan.specs.Fans.{face_fan_of, normal_fan_of}
 use Rattle.pm_geom.specs.Examples.{square}

@@ -1,5 +1,5 @@
 -- The examples, computed.
-use Rattle.pm_algebra.proofs.Lists.{among_All, here}
+use Rattle.pm_vector.proofs.Lists.{among_All, here}
 use Rattle.pm_files.specs.Files.{SavedProgram}
 use Rattle.pm_filing.specs.Examples.{two_rules}
 use Rattle.pm_laws_files.specs.Examples.{LabelsAreRead}

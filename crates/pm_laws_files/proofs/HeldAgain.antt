@@ -1,7 +1,7 @@
 -- Values that are loaded of a file, and saved again.
-use Rattle.pm_algebra.proofs.Filters.{among_filter, among_map, any_from, any_to, filter_among, map_among}
-use Rattle.pm_algebra.proofs.Lists.{Among, among_append, among_append_left}
-use Rattle.pm_algebra.specs.Numbers.{Ratio}
+use Rattle.pm_vector.proofs.Filters.{among_filter, among_map, any_from, any_to, filter_among, map_among}
+use Rattle.pm_vector.proofs.Lists.{Among, among_append, among_append_left}
+use Rattle.pm_vector.specs.Numbers.{Ratio}
 use Rattle.pm_files.specs.Files.{SavedProgram}
 use Rattle.pm_filing.proofs.HeldSets.{both_ways, set_of-has}
 use Rattle.pm_filing.specs.Filing.{found_names, is_found, is_own_found, loaded_value, objective_held, objective_rows, objective_value, objectives_held, origin_in, own, property_with_value}

@@ -1,6 +1,6 @@
 -- Marks that are read, and written again.
-use Rattle.pm_algebra.proofs.Filters.{any_from, any_to}
-use Rattle.pm_algebra.proofs.Lists.{Among, among_append, here, there}
+use Rattle.pm_vector.proofs.Filters.{any_from, any_to}
+use Rattle.pm_vector.proofs.Lists.{Among, among_append, here, there}
 use Rattle.pm_files.specs.Files.{Mark, SavedProgram}
 use Rattle.pm_filing.specs.Filing.{each_label_once, label_in, labelled_from, mark_by, mark_read, mark_written, marked, marks_of_programs, rule_labelled, with_mark}
 use Rattle.pm_filing.specs.Profiles.{are_different, same_label}

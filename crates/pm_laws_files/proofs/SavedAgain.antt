@@ -1,6 +1,6 @@
 -- The object of a whole file, to which settling adds nothing, is saved as the bytes of the file again, where the book has all labels.
-use Rattle.pm_algebra.proofs.Filters.{among_map, any_from, any_to}
-use Rattle.pm_algebra.proofs.Lists.{Among, Contains_among, among_All, among_Contains, here, there}
+use Rattle.pm_vector.proofs.Filters.{among_map, any_from, any_to}
+use Rattle.pm_vector.proofs.Lists.{Among, Contains_among, among_All, among_Contains, here, there}
 use Rattle.pm_files.specs.Files.{Mark, SavedFile, SavedProgram, contents, file_bytes}
 use Rattle.pm_filing.proofs.Returning.{keys_same, returned}
 use Rattle.pm_filing.proofs.Unique.{readings_are_unique}
@@ -20,7 +20,7 @@ use Rattle.pm_props.specs.declared.property.PropId.{PropId}
 use Rattle.pm_props.specs.declared.property.PropId.TheVariants.{LinearObjective}
 use Rattle.pm_rules.specs.declared.rule.Rule.{Rule}
 use Rattle.pm_types.specs.Values.{PropertyValue}
-use Rattle.pm_algebra.specs.Numbers.{Ratio}
+use Rattle.pm_vector.specs.Numbers.{Ratio}
 use Rattle.serde_json.specs.Data.{object, put, string}
 use Rattle.serde_json.specs.Written.{compact_text}
 use Rattle.std.proofs.Common.{ap, arith, refl, subst, sym, true, true≢false, ◌∙◌}

@@ -1,9 +1,9 @@
 -- A set that is closed as cones are, and has the generators of a cone, has the cone.
-use Rattle.pm_algebra.proofs.Lists.{Among, here, there}
-use Rattle.pm_algebra.proofs.Ring.{ring}
-use Rattle.pm_algebra.proofs.RowLaws.{entry-opposite, entry-times, same_sym}
-use Rattle.pm_algebra.specs.Cones.{InCone, IsConeSet, combination}
-use Rattle.pm_algebra.specs.Rows.{Row, opposite}
+use Rattle.pm_vector.proofs.Lists.{Among, here, there}
+use Rattle.pm_vector.proofs.Ring.{ring}
+use Rattle.pm_vector.proofs.RowLaws.{entry-opposite, entry-times, same_sym}
+use Rattle.pm_vector.specs.Cones.{InCone, IsConeSet, combination}
+use Rattle.pm_vector.specs.Rows.{Row, opposite}
 use Rattle.std.proofs.Common.{arith}
 use Rattle.std.proofs.lemmas.Int.{by_lt_z, ints}
 use Rattle.std.specs.List.{AllByRecursion}

@@ -1,9 +1,9 @@
 -- The face fan of a square with 0 inside.
-use Rattle.pm_algebra.proofs.ConeLaws.{in_generator, in_zero}
-use Rattle.pm_algebra.proofs.Lists.{All_among, Among, Any_among, Contains_among, among_All, here, there}
-use Rattle.pm_algebra.proofs.Ring.{ring}
-use Rattle.pm_algebra.specs.Cones.{InCone}
-use Rattle.pm_algebra.specs.Rows.{HasCols, IsZero, Row, dot, entry}
+use Rattle.pm_vector.proofs.ConeLaws.{in_generator, in_zero}
+use Rattle.pm_vector.proofs.Lists.{All_among, Among, Any_among, Contains_among, among_All, here, there}
+use Rattle.pm_vector.proofs.Ring.{ring}
+use Rattle.pm_vector.specs.Cones.{InCone}
+use Rattle.pm_vector.specs.Rows.{HasCols, IsZero, Row, dot, entry}
 use Rattle.pm_geom.proofs.Apart.{apart, order_of_apart, without}
 use Rattle.pm_geom.proofs.ShortRows.{at_three, by_three, first_entry}
 use Rattle.pm_geom.proofs.Square.{square_is_read}

@@ -1,14 +1,14 @@
 -- Intersections of the rays of the line: which are listed, and which are kept.
-use Rattle.pm_algebra.proofs.ConeLaws.{in_generator, in_line, in_zero, lines_opposite, none_to_zero}
-use Rattle.pm_algebra.proofs.Lists.{AllPairs_cons, All_among, Among, Any_among, Contains_among, among_All, among_Any, here, there}
-use Rattle.pm_algebra.proofs.Ring.{ring}
-use Rattle.pm_algebra.proofs.RowLaws.{entry-times, length-opposite}
-use Rattle.pm_algebra.proofs.Signs.{mul_le, pos_cancel, weaken}
-use Rattle.pm_algebra.specs.Cones.{InCone, InSpan}
-use Rattle.pm_algebra.specs.Divisors.{IsPrimitive}
-use Rattle.pm_algebra.specs.Rows.{Row, entry, opposite, times}
-use Rattle.pm_bases.proofs.Examples.{primitive_by_one}
-use Rattle.pm_bases.specs.Bases.{IsEchelonBasis}
+use Rattle.pm_vector.proofs.ConeLaws.{in_generator, in_line, in_zero, lines_opposite, none_to_zero}
+use Rattle.pm_vector.proofs.Lists.{AllPairs_cons, All_among, Among, Any_among, Contains_among, among_All, among_Any, here, there}
+use Rattle.pm_vector.proofs.Ring.{ring}
+use Rattle.pm_vector.proofs.RowLaws.{entry-times, length-opposite}
+use Rattle.pm_vector.proofs.Signs.{mul_le, pos_cancel, weaken}
+use Rattle.pm_vector.specs.Cones.{InCone, InSpan}
+use Rattle.pm_vector.specs.Divisors.{IsPrimitive}
+use Rattle.pm_vector.specs.Rows.{Row, entry, opposite, times}
+use Rattle.pm_vector.proofs.BasisExamples.{primitive_by_one}
+use Rattle.pm_vector.specs.Bases.{IsEchelonBasis}
 use Rattle.pm_geom.proofs.Apart.{apart, lineality_spanned, order_of_apart, without}
 use Rattle.pm_geom.proofs.SmallFans.{fans_are_read}
 use Rattle.pm_geom.specs.Cones.{InLineality, IsExtreme, IsOrder, SameModulo}

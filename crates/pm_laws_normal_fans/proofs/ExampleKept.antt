@@ -1,8 +1,8 @@
 -- The kept intersections of the rays of the line are their common refinement.
-use Rattle.pm_algebra.proofs.ConeLaws.{in_generator, in_line}
-use Rattle.pm_algebra.proofs.Lists.{AllPairs_cons, All_among, Among, Any_among, Contains_among, among_All, among_Contains, here, there}
-use Rattle.pm_algebra.proofs.Ring.{ring}
-use Rattle.pm_algebra.specs.Rows.{Row, entry}
+use Rattle.pm_vector.proofs.ConeLaws.{in_generator, in_line}
+use Rattle.pm_vector.proofs.Lists.{AllPairs_cons, All_among, Among, Any_among, Contains_among, among_All, among_Contains, here, there}
+use Rattle.pm_vector.proofs.Ring.{ring}
+use Rattle.pm_vector.specs.Rows.{Row, entry}
 use Rattle.pm_geom.proofs.SmallFans.{fan_orders_are_read, fans_are_read}
 use Rattle.pm_geom.specs.Generators.{IsBefore}
 use Rattle.pm_geom.specs.ThingExamples.{left, right}

@@ -1,11 +1,11 @@
 -- The normal fans of the square and of a point.
-use Rattle.pm_algebra.proofs.ConeLaws.{in_generator, none_from_zero}
-use Rattle.pm_algebra.proofs.Lists.{All_among, Among, Any_among, Contains_among, among_Any, here, there}
-use Rattle.pm_algebra.proofs.Ring.{ring}
-use Rattle.pm_algebra.proofs.RowLaws.{dot_comm, entry-plus}
-use Rattle.pm_algebra.proofs.Signs.{mul_nonneg, weaken}
-use Rattle.pm_algebra.specs.Cones.{InCone, InSpan}
-use Rattle.pm_algebra.specs.Rows.{HasCols, IsZero, Row, dot, entry, plus, times}
+use Rattle.pm_vector.proofs.ConeLaws.{in_generator, none_from_zero}
+use Rattle.pm_vector.proofs.Lists.{All_among, Among, Any_among, Contains_among, among_Any, here, there}
+use Rattle.pm_vector.proofs.Ring.{ring}
+use Rattle.pm_vector.proofs.RowLaws.{dot_comm, entry-plus}
+use Rattle.pm_vector.proofs.Signs.{mul_nonneg, weaken}
+use Rattle.pm_vector.specs.Cones.{InCone, InSpan}
+use Rattle.pm_vector.specs.Rows.{HasCols, IsZero, Row, dot, entry, plus, times}
 use Rattle.pm_geom.proofs.Apart.{apart}
 use Rattle.pm_geom.proofs.Lineality.{valid_generated}
 use Rattle.pm_geom.proofs.Reduce.{same_modulo_as}

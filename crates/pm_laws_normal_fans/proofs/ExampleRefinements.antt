@@ -1,9 +1,9 @@
 -- Common refinements of fans of the line.
-use Rattle.pm_algebra.proofs.ConeLaws.{in_generator, in_line, in_zero, none_to_zero}
-use Rattle.pm_algebra.proofs.Lists.{here}
-use Rattle.pm_algebra.proofs.Ring.{ring}
-use Rattle.pm_algebra.specs.Cones.{InCone, InSpan}
-use Rattle.pm_algebra.specs.Rows.{Row, entry, plus, times}
+use Rattle.pm_vector.proofs.ConeLaws.{in_generator, in_line, in_zero, none_to_zero}
+use Rattle.pm_vector.proofs.Lists.{here}
+use Rattle.pm_vector.proofs.Ring.{ring}
+use Rattle.pm_vector.specs.Cones.{InCone, InSpan}
+use Rattle.pm_vector.specs.Rows.{Row, entry, plus, times}
 use Rattle.pm_geom.proofs.Apart.{apart}
 use Rattle.pm_geom.proofs.ShortRows.{first_entry}
 use Rattle.pm_geom.specs.ThingExamples.{left, right}

@@ -1,7 +1,7 @@
 -- The rows of the normal fan of the square.
-use Rattle.pm_algebra.proofs.ConeLaws.{in_generator, in_line}
-use Rattle.pm_algebra.proofs.Lists.{Among, All_among, Any_among, among_All, among_Any, among_Contains, here, there}
-use Rattle.pm_algebra.specs.Rows.{Row, dot, entry}
+use Rattle.pm_vector.proofs.ConeLaws.{in_generator, in_line}
+use Rattle.pm_vector.proofs.Lists.{Among, All_among, Any_among, among_All, among_Any, among_Contains, here, there}
+use Rattle.pm_vector.specs.Rows.{Row, dot, entry}
 use Rattle.pm_geom.proofs.Apart.{apart}
 use Rattle.pm_geom.specs.Cones.{IsExtreme, IsExtremeRay, SameModulo}
 use Rattle.pm_geom.specs.Examples.{edges, pair, square, triple}
@@ -14,7 +14,7 @@ use Rattle.std.proofs.Common.{arith, refl}
 use Rattle.std.proofs.lemmas.Int.{ints}
 use Rattle.std.specs.List.{Any, Contains}
 use Rattle.std.specs.Prelude.{List, [], ◌∷◌, ◌≡◌}
-use Rattle.pm_algebra.specs.Cones.{InSpan}
+use Rattle.pm_vector.specs.Cones.{InSpan}
 use lib.IntN.{pos}
 
 no_orders : ¬ (AreOrdersOf 3 unit_square edges square)

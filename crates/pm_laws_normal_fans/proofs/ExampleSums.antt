@@ -1,8 +1,8 @@
 -- The square as the sum of two of its edges.
-use Rattle.pm_algebra.proofs.ConeLaws.{in_generator, in_through}
-use Rattle.pm_algebra.proofs.Lists.{All_among, Among, Any_among, Contains_among, among_All, among_Any, among_Contains, here, there}
-use Rattle.pm_algebra.specs.Cones.{InCone}
-use Rattle.pm_algebra.specs.Rows.{Row, entry, times}
+use Rattle.pm_vector.proofs.ConeLaws.{in_generator, in_through}
+use Rattle.pm_vector.proofs.Lists.{All_among, Among, Any_among, Contains_among, among_All, among_Any, among_Contains, here, there}
+use Rattle.pm_vector.specs.Cones.{InCone}
+use Rattle.pm_vector.specs.Rows.{Row, entry, times}
 use Rattle.pm_geom.proofs.Apart.{apart}
 use Rattle.pm_geom.proofs.Polar.{cols_at}
 use Rattle.pm_geom.proofs.ShortRows.{first_entry}

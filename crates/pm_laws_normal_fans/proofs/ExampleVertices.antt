@@ -1,10 +1,10 @@
 -- Vertices of the square, and objectives that are least there.
-use Rattle.pm_algebra.proofs.ConeLaws.{dot_in, in_generator, none_to_zero}
-use Rattle.pm_algebra.proofs.Lists.{Among, among_All, here}
-use Rattle.pm_algebra.proofs.Ring.{ring}
-use Rattle.pm_algebra.proofs.Signs.{mul_nonneg}
-use Rattle.pm_algebra.specs.Cones.{InCone}
-use Rattle.pm_algebra.specs.Rows.{IsZero, Row, dot, entry}
+use Rattle.pm_vector.proofs.ConeLaws.{dot_in, in_generator, none_to_zero}
+use Rattle.pm_vector.proofs.Lists.{Among, among_All, here}
+use Rattle.pm_vector.proofs.Ring.{ring}
+use Rattle.pm_vector.proofs.Signs.{mul_nonneg}
+use Rattle.pm_vector.specs.Cones.{InCone}
+use Rattle.pm_vector.specs.Rows.{IsZero, Row, dot, entry}
 use Rattle.pm_geom.proofs.Apart.{not_below, not_below_at, products}
 use Rattle.pm_geom.proofs.ShortRows.{by_three}
 use Rattle.pm_geom.proofs.Square.{square_is_read}

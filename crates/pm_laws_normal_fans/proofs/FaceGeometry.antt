@@ -1,12 +1,12 @@
 -- The vertices of a polytope on whose facets 0 does not lie: of several each is on some facet, and one alone is on
 -- none.
-use Rattle.pm_algebra.proofs.Filters.{any_from, any_to}
-use Rattle.pm_algebra.proofs.Lists.{All_among, Among, Any_among, among_All, here, there}
-use Rattle.pm_algebra.proofs.Ring.{ring}
-use Rattle.pm_algebra.proofs.RowLaws.{dot-difference, dot_comm, dot-zeros, entry-difference, entry-plus, entry-times, length-difference, length-zeros, zeros}
-use Rattle.pm_algebra.proofs.Signs.{mul_pos}
-use Rattle.pm_algebra.specs.Cones.{InCone}
-use Rattle.pm_algebra.specs.Rows.{HasCols, Row, difference, dot, entry}
+use Rattle.pm_vector.proofs.Filters.{any_from, any_to}
+use Rattle.pm_vector.proofs.Lists.{All_among, Among, Any_among, among_All, here, there}
+use Rattle.pm_vector.proofs.Ring.{ring}
+use Rattle.pm_vector.proofs.RowLaws.{dot-difference, dot_comm, dot-zeros, entry-difference, entry-plus, entry-times, length-difference, length-zeros, zeros}
+use Rattle.pm_vector.proofs.Signs.{mul_pos}
+use Rattle.pm_vector.specs.Cones.{InCone}
+use Rattle.pm_vector.specs.Rows.{HasCols, Row, difference, dot, entry}
 use Rattle.pm_geom.proofs.Facets.{facet_rows_cut_out, vanishes_line}
 use Rattle.pm_geom.proofs.Lineality.{facet_order_cuts_out, valid_generated}
 use Rattle.pm_geom.proofs.Polar.{cut_from}

@@ -1,11 +1,11 @@
 -- Normal fans and face fans are fans of shadows.
-use Rattle.pm_algebra.proofs.ConeLaws.{in_zero, none_from_zero, none_to_zero}
-use Rattle.pm_algebra.proofs.Lists.{All_among, Among, among_All, among_Any}
-use Rattle.pm_algebra.proofs.Ring.{ring}
-use Rattle.pm_algebra.proofs.RowLaws.{dot-nil, dot-plus, dot-same, dot-times, dot_comm, entry-opposite, entry-plus, length-opposite}
-use Rattle.pm_algebra.proofs.Signs.{mul_cancel, weaken}
-use Rattle.pm_algebra.specs.Cones.{InCone}
-use Rattle.pm_algebra.specs.Rows.{HasCols, Row, Same, dot, entry, opposite, plus, times}
+use Rattle.pm_vector.proofs.ConeLaws.{in_zero, none_from_zero, none_to_zero}
+use Rattle.pm_vector.proofs.Lists.{All_among, Among, among_All, among_Any}
+use Rattle.pm_vector.proofs.Ring.{ring}
+use Rattle.pm_vector.proofs.RowLaws.{dot-nil, dot-plus, dot-same, dot-times, dot_comm, entry-opposite, entry-plus, length-opposite}
+use Rattle.pm_vector.proofs.Signs.{mul_cancel, weaken}
+use Rattle.pm_vector.specs.Cones.{InCone}
+use Rattle.pm_vector.specs.Rows.{HasCols, Row, Same, dot, entry, opposite, plus, times}
 use Rattle.pm_geom.proofs.Facets.{order_as, order_generates, vanishes_line}
 use Rattle.pm_geom.proofs.Lineality.{valid_generated}
 use Rattle.pm_geom.proofs.Polar.{bipolar}

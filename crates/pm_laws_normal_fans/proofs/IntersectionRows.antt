@@ -1,11 +1,11 @@
 -- The rows of an intersection of two cones: from facet rows of both to generators in canonical form.
-use Rattle.pm_algebra.proofs.ConeLaws.{in_line}
-use Rattle.pm_algebra.proofs.Lists.{All_among, Among, all_at, all_from, among_All, among_append, among_append_left, among_append_right}
-use Rattle.pm_algebra.proofs.RowLaws.{length-opposite}
-use Rattle.pm_algebra.specs.Cones.{InSpan}
-use Rattle.pm_algebra.specs.Rows.{HasCols, Row, dot, opposite}
-use Rattle.pm_bases.proofs.Spans.{same_span}
-use Rattle.pm_bases.proofs.Unique.{echelon_is_unique}
+use Rattle.pm_vector.proofs.ConeLaws.{in_line}
+use Rattle.pm_vector.proofs.Lists.{All_among, Among, all_at, all_from, among_All, among_append, among_append_left, among_append_right}
+use Rattle.pm_vector.proofs.RowLaws.{length-opposite}
+use Rattle.pm_vector.specs.Cones.{InSpan}
+use Rattle.pm_vector.specs.Rows.{HasCols, Row, dot, opposite}
+use Rattle.pm_vector.proofs.Spans.{same_span}
+use Rattle.pm_vector.proofs.Unique.{echelon_is_unique}
 use Rattle.pm_geom.proofs.Facets.{order_as, vanishes_line}
 use Rattle.pm_geom.proofs.Lineality.{facet_order_cuts_out}
 use Rattle.pm_geom.proofs.Polar.{cols_at, cut_at, cut_from}

@@ -1,6 +1,6 @@
 -- Intersections that come one after another, of which the maximal ones are kept.
-use Rattle.pm_algebra.proofs.Filters.{among_filter, filter_among}
-use Rattle.pm_algebra.proofs.Lists.{All_among, Among, Any_among, Contains_among, among_All, among_Any, among_Contains, among_append, among_append_left, among_append_right, here, there}
+use Rattle.pm_vector.proofs.Filters.{among_filter, filter_among}
+use Rattle.pm_vector.proofs.Lists.{All_among, Among, Any_among, Contains_among, among_All, among_Any, among_Contains, among_append, among_append_left, among_append_right, here, there}
 use Rattle.pm_laws_normal_fans.proofs.Places.{among_at}
 use Rattle.pm_laws_normal_fans.specs.Fans.{Fan}
 use Rattle.pm_laws_normal_fans.specs.Refinements.{AreKeptIntersections, Intersection, IsEarlier, IsWithin, KeptWith, KeptWithout, Tells}

@@ -1,10 +1,10 @@
 -- Rows without a first entry, and the first entries that they get back from a row on which they are to vanish.
-use Rattle.pm_algebra.proofs.Filters.{among_filter, among_map, filter_among, map_among}
-use Rattle.pm_algebra.proofs.Lists.{Among}
-use Rattle.pm_algebra.proofs.Ring.{ring}
-use Rattle.pm_algebra.proofs.RowLaws.{dot-nil, dot_comm, dot-same, plus-dot, times-dot, entry-opposite, entry-plus, entry-times, length-times}
-use Rattle.pm_algebra.specs.Cones.{InCone, combination}
-use Rattle.pm_algebra.specs.Rows.{Row, Same, dot, entry, opposite, plus, times}
+use Rattle.pm_vector.proofs.Filters.{among_filter, among_map, filter_among, map_among}
+use Rattle.pm_vector.proofs.Lists.{Among}
+use Rattle.pm_vector.proofs.Ring.{ring}
+use Rattle.pm_vector.proofs.RowLaws.{dot-nil, dot_comm, dot-same, plus-dot, times-dot, entry-opposite, entry-plus, entry-times, length-times}
+use Rattle.pm_vector.specs.Cones.{InCone, combination}
+use Rattle.pm_vector.specs.Rows.{Row, Same, dot, entry, opposite, plus, times}
 use Rattle.pm_geom.proofs.Facets.{opposite-dot}
 use Rattle.pm_laws_normal_fans.specs.Shadows.{held, is_zero, rest, rests}
 use Rattle.std.proofs.Common.{ap, arith, refl, sym, true, true≢false, ◌∙◌}

@@ -1,10 +1,10 @@
 -- The normal fan of a sum is the common refinement of the normal fans.
-use Rattle.pm_algebra.proofs.ConeLaws.{in_cone_set}
-use Rattle.pm_algebra.specs.Rows.{Row, SameDirection}
+use Rattle.pm_vector.proofs.ConeLaws.{in_cone_set}
+use Rattle.pm_vector.specs.Rows.{Row, SameDirection}
 use Rattle.pm_laws_normal_fans.proofs.SumLaws.{InBoth, IsConeOfSum, IsMaximalPair, IsPointed, cone_at_sum, cone_together, least_multiple, sum_pointed, summands_unique, together, together_cols, together_in, together_point, vertices_of_sum}
 use Rattle.pm_laws_normal_fans.proofs.Vertices.{at_vertex, determined}
 use Rattle.pm_laws_normal_fans.specs.Sums.{Cone, In, InMinkowskiSum, IsBoundedPolytope, IsLeastAt, IsSumOf, IsVertex}
-use Rattle.pm_algebra.proofs.Signs.{weaken}
+use Rattle.pm_vector.proofs.Signs.{weaken}
 use Rattle.std.proofs.Common.{sym}
 use Rattle.std.specs.Prelude.{ℕ, ◌↔◌}
 

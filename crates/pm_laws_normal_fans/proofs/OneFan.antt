@@ -1,6 +1,6 @@
 -- A polytope has one normal fan and one face fan.
-use Rattle.pm_algebra.proofs.Lists.{Among, among_Any, here, there}
-use Rattle.pm_algebra.specs.Rows.{Row, dot}
+use Rattle.pm_vector.proofs.Lists.{Among, among_Any, here, there}
+use Rattle.pm_vector.specs.Rows.{Row, dot}
 use Rattle.pm_geom.proofs.Facets.{facet_rows_cut_out}
 use Rattle.pm_geom.proofs.Reduce.{extremes_generate}
 use Rattle.pm_geom.specs.Cones.{SameModulo}

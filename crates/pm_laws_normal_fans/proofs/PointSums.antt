@@ -1,7 +1,7 @@
 -- Sums of rows by points.
-use Rattle.pm_algebra.proofs.Ring.{ring}
-use Rattle.pm_algebra.proofs.RowLaws.{dot-plus, dot-same, dot-nil, dot-times, entry-plus, entry-times, length-plus, length-times}
-use Rattle.pm_algebra.specs.Rows.{Row, dot, entry, plus, times}
+use Rattle.pm_vector.proofs.Ring.{ring}
+use Rattle.pm_vector.proofs.RowLaws.{dot-plus, dot-same, dot-nil, dot-times, entry-plus, entry-times, length-plus, length-times}
+use Rattle.pm_vector.specs.Rows.{Row, dot, entry, plus, times}
 use Rattle.pm_laws_normal_fans.specs.Sums.{IsPointSum, value}
 use Rattle.std.proofs.Common.{arith, refl, sym, ap, ◌∙◌}
 use Rattle.std.proofs.lemmas.Int.{ints}

@@ -1,17 +1,17 @@
 -- The rays of the kept intersections as orders, and inclusion by products.
-use Rattle.pm_algebra.proofs.ConeLaws.{dot_in, in_line, lines_opposite}
-use Rattle.pm_algebra.proofs.Filters.{among_map, map_among}
-use Rattle.pm_algebra.proofs.Lists.{All_among, Among, Any_among, Contains_among, all_at, all_from, among_All, among_Any, among_Contains}
-use Rattle.pm_algebra.proofs.Primitive.{primitive_unique}
-use Rattle.pm_algebra.proofs.Ring.{ring}
-use Rattle.pm_algebra.proofs.RowLaws.{entry-plus, entry-times, length-opposite, row_equal}
-use Rattle.pm_algebra.specs.Cones.{InCone, InSpan}
-use Rattle.pm_algebra.specs.Divisors.{IsPrimitive}
-use Rattle.pm_algebra.specs.Rows.{HasCols, Row, dot, entry, opposite}
-use Rattle.pm_bases.proofs.Columns.{zero_by_columns}
-use Rattle.pm_bases.proofs.Spans.{same_span_refl}
-use Rattle.pm_bases.proofs.Unique.{echelon_is_unique}
-use Rattle.pm_bases.specs.Bases.{column}
+use Rattle.pm_vector.proofs.ConeLaws.{dot_in, in_line, lines_opposite}
+use Rattle.pm_vector.proofs.Filters.{among_map, map_among}
+use Rattle.pm_vector.proofs.Lists.{All_among, Among, Any_among, Contains_among, all_at, all_from, among_All, among_Any, among_Contains}
+use Rattle.pm_vector.proofs.PrimitiveLaws.{primitive_unique}
+use Rattle.pm_vector.proofs.Ring.{ring}
+use Rattle.pm_vector.proofs.RowLaws.{entry-plus, entry-times, length-opposite, row_equal}
+use Rattle.pm_vector.specs.Cones.{InCone, InSpan}
+use Rattle.pm_vector.specs.Divisors.{IsPrimitive}
+use Rattle.pm_vector.specs.Rows.{HasCols, Row, dot, entry, opposite}
+use Rattle.pm_vector.proofs.Columns.{zero_by_columns}
+use Rattle.pm_vector.proofs.Spans.{same_span_refl}
+use Rattle.pm_vector.proofs.Unique.{echelon_is_unique}
+use Rattle.pm_vector.specs.Bases.{column}
 use Rattle.pm_geom.proofs.Facets.{dot-opposite}
 use Rattle.pm_geom.proofs.Polar.{cols_at, cut_at, cut_from}
 use Rattle.pm_geom.proofs.Reduce.{extreme_as}

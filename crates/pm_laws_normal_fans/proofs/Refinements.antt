@@ -1,10 +1,10 @@
 -- The intersections that are kept are the common refinement.
-use Rattle.pm_algebra.proofs.ConeLaws.{in_of, in_zero, lines_opposite, none_to_zero}
-use Rattle.pm_algebra.proofs.Filters.{map_among}
-use Rattle.pm_algebra.proofs.Lists.{All_among, Among, all_append, among_All, among_Any, among_Contains, among_append, among_append_left, among_append_right, here}
-use Rattle.pm_algebra.proofs.RowLaws.{length-opposite}
-use Rattle.pm_algebra.specs.Cones.{InCone, InSpan}
-use Rattle.pm_algebra.specs.Rows.{HasCols, IsZero, Row, opposite}
+use Rattle.pm_vector.proofs.ConeLaws.{in_of, in_zero, lines_opposite, none_to_zero}
+use Rattle.pm_vector.proofs.Filters.{map_among}
+use Rattle.pm_vector.proofs.Lists.{All_among, Among, all_append, among_All, among_Any, among_Contains, among_append, among_append_left, among_append_right, here}
+use Rattle.pm_vector.proofs.RowLaws.{length-opposite}
+use Rattle.pm_vector.specs.Cones.{InCone, InSpan}
+use Rattle.pm_vector.specs.Rows.{HasCols, IsZero, Row, opposite}
 use Rattle.pm_geom.proofs.Facets.{order_as, order_generates}
 use Rattle.pm_geom.proofs.Polar.{cut_at, cut_from, cut_is_generated, generated_is_cut}
 use Rattle.pm_geom.proofs.Spans.{order_cols}

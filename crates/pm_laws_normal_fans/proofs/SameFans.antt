@@ -1,7 +1,7 @@
 -- Fans with the same cones have the same orders, but for the places of the cones.
-use Rattle.pm_algebra.proofs.Lists.{All_among, Among, Any_among, Contains_among, among_All, among_Any, among_Contains, here, there}
-use Rattle.pm_algebra.specs.Cones.{InSpan}
-use Rattle.pm_algebra.specs.Rows.{Row}
+use Rattle.pm_vector.proofs.Lists.{All_among, Among, Any_among, Contains_among, among_All, among_Any, among_Contains, here, there}
+use Rattle.pm_vector.specs.Cones.{InSpan}
+use Rattle.pm_vector.specs.Rows.{Row}
 use Rattle.pm_geom.proofs.Reduce.{extreme_as, same_modulo_as}
 use Rattle.pm_geom.specs.Cones.{IsExtremeRay, SameModulo}
 use Rattle.pm_geom.specs.Things.{AreFanOrders, Orders}

@@ -1,5 +1,5 @@
 -- The common refinement depends on the cones of the two fans alone, and not on their places and generators.
-use Rattle.pm_algebra.specs.Rows.{Row}
+use Rattle.pm_vector.specs.Rows.{Row}
 use Rattle.pm_laws_normal_fans.specs.Fans.{Fan, InIntersection, InPlace, IsCommonRefinement, IsConeAt, IsMaximalIntersection, IsSameFan}
 use Rattle.pm_laws_normal_fans.specs.Refinements.{RefinementOfSame}
 use Rattle.std.specs.Prelude.{length, ℕ, ◌<◌, ◌≡◌}

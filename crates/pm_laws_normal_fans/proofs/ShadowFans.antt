@@ -1,13 +1,13 @@
 -- The shadows of the facets of a cone are a fan, whose rays are those of the cone's extreme rays that lie on some of
 -- these facets.
-use Rattle.pm_algebra.proofs.ConeLaws.{in_generator}
-use Rattle.pm_algebra.proofs.Filters.{among_map, map_among}
-use Rattle.pm_algebra.proofs.Lists.{AllPairs_cons, All_among, Among, Any_among, Contains_among, all_from, among_All, among_Any, among_Contains, here, there}
-use Rattle.pm_algebra.proofs.Ring.{ring}
-use Rattle.pm_algebra.proofs.RowLaws.{dot-plus, dot-same, dot-times, dot_comm, entry-difference, entry-opposite, entry-plus, entry-times, length-difference, length-opposite}
-use Rattle.pm_algebra.proofs.Signs.{mul_pos}
-use Rattle.pm_algebra.specs.Cones.{InCone, InSpan}
-use Rattle.pm_algebra.specs.Rows.{HasCols, Row, difference, dot, entry, opposite, plus, times}
+use Rattle.pm_vector.proofs.ConeLaws.{in_generator}
+use Rattle.pm_vector.proofs.Filters.{among_map, map_among}
+use Rattle.pm_vector.proofs.Lists.{AllPairs_cons, All_among, Among, Any_among, Contains_among, all_from, among_All, among_Any, among_Contains, here, there}
+use Rattle.pm_vector.proofs.Ring.{ring}
+use Rattle.pm_vector.proofs.RowLaws.{dot-plus, dot-same, dot-times, dot_comm, entry-difference, entry-opposite, entry-plus, entry-times, length-difference, length-opposite}
+use Rattle.pm_vector.proofs.Signs.{mul_pos}
+use Rattle.pm_vector.specs.Cones.{InCone, InSpan}
+use Rattle.pm_vector.specs.Rows.{HasCols, Row, difference, dot, entry, opposite, plus, times}
 use Rattle.pm_geom.proofs.Facets.{opposite-dot, valid_by_products}
 use Rattle.pm_geom.proofs.Faces.{difference-dot}
 use Rattle.pm_geom.proofs.Polar.{cols_at}

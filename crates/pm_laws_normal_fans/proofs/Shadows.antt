@@ -1,11 +1,11 @@
 -- The fan of the shadows of the facets of a cone.
-use Rattle.pm_algebra.proofs.ConeLaws.{dot_in, in_divide, in_generator, in_line, in_line_opposite, in_of, in_plus, in_same, in_times, in_to_after, in_zero, lines_opposite}
-use Rattle.pm_algebra.proofs.Lists.{Among, here, there}
-use Rattle.pm_algebra.proofs.Ring.{ring}
-use Rattle.pm_algebra.proofs.RowLaws.{dot-difference, dot_comm, dot-plus, dot-same, dot-times, entry-difference, entry-opposite, entry-plus, entry-times, length-opposite, same_sym}
-use Rattle.pm_algebra.proofs.Signs.{le_cancel, mul_nonneg, mul_pos, mul_cancel, times_both, weaken}
-use Rattle.pm_algebra.specs.Cones.{InCone, InSpan, IsConeSet}
-use Rattle.pm_algebra.specs.Rows.{HasCols, Row, Same, difference, dot, entry, opposite, plus, times}
+use Rattle.pm_vector.proofs.ConeLaws.{dot_in, in_divide, in_generator, in_line, in_line_opposite, in_of, in_plus, in_same, in_times, in_to_after, in_zero, lines_opposite}
+use Rattle.pm_vector.proofs.Lists.{Among, here, there}
+use Rattle.pm_vector.proofs.Ring.{ring}
+use Rattle.pm_vector.proofs.RowLaws.{dot-difference, dot_comm, dot-plus, dot-same, dot-times, entry-difference, entry-opposite, entry-plus, entry-times, length-opposite, same_sym}
+use Rattle.pm_vector.proofs.Signs.{le_cancel, mul_nonneg, mul_pos, mul_cancel, times_both, weaken}
+use Rattle.pm_vector.specs.Cones.{InCone, InSpan, IsConeSet}
+use Rattle.pm_vector.specs.Rows.{HasCols, Row, Same, difference, dot, entry, opposite, plus, times}
 use Rattle.pm_geom.proofs.Facets.{opposite-dot}
 use Rattle.pm_geom.proofs.Polar.{cols_at}
 use Rattle.pm_geom.specs.Cones.{InLineality, IsExtreme, IsOrder, IsValid, MultipleModulo, SameModulo}

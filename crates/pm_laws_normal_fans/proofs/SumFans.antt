@@ -1,5 +1,5 @@
 -- The normal fan of a sum is the common refinement of the normal fans.
-use Rattle.pm_algebra.specs.Rows.{Row}
+use Rattle.pm_vector.specs.Rows.{Row}
 use Rattle.pm_laws_normal_fans.proofs.NormalFans.{maximal_pairs, sum_vertex}
 use Rattle.pm_laws_normal_fans.specs.Fans.{Fan, InIntersection, IsCommonRefinement, IsMaximalIntersection}
 use Rattle.pm_laws_normal_fans.specs.Laws.{NormalOfSum}

@@ -1,9 +1,9 @@
 -- The cone of a sum of two bounded cones: its vertices, and the objectives that are least there.
-use Rattle.pm_algebra.proofs.Ring.{ring}
-use Rattle.pm_algebra.proofs.RowLaws.{dot-nil, entry-opposite, entry-plus, entry-times, length-opposite, length-times, length-zeros, zeros}
-use Rattle.pm_algebra.proofs.Signs.{mul_cancel, mul_pos, nonneg_cancel, weaken}
-use Rattle.pm_algebra.specs.Cones.{IsConeSet}
-use Rattle.pm_algebra.specs.Rows.{IsZero, Row, Same, SameDirection, entry, opposite, plus, times}
+use Rattle.pm_vector.proofs.Ring.{ring}
+use Rattle.pm_vector.proofs.RowLaws.{dot-nil, entry-opposite, entry-plus, entry-times, length-opposite, length-times, length-zeros, zeros}
+use Rattle.pm_vector.proofs.Signs.{mul_cancel, mul_pos, nonneg_cancel, weaken}
+use Rattle.pm_vector.specs.Cones.{IsConeSet}
+use Rattle.pm_vector.specs.Rows.{IsZero, Row, Same, SameDirection, entry, opposite, plus, times}
 use Rattle.pm_geom.specs.Cones.{InLineality, IsExtreme, MultipleModulo}
 use Rattle.pm_laws_normal_fans.proofs.Numbers.{factor, least_direction, least_first, least_sum, mixed_first, mixed_other, part_other, split_first, split_other}
 use Rattle.pm_laws_normal_fans.proofs.PointSums.{first-joined, joined, length-joined, others-joined, value-joined, value-same, value-sum, value-times}

@@ -1,12 +1,12 @@
 -- The rows of a sum: sums of vertices, and the far rows.
-use Rattle.pm_algebra.proofs.ConeLaws.{in_cone_set, in_generator, in_zero}
-use Rattle.pm_algebra.proofs.Filters.{among_filter, among_map, filter_among, map_among}
-use Rattle.pm_algebra.proofs.Lists.{All_among, Among, Any_among, Contains_among, all_from, among_Contains, among_append, among_append_left, among_append_right, here, there}
-use Rattle.pm_algebra.proofs.Ring.{ring}
-use Rattle.pm_algebra.proofs.RowLaws.{entry-plus, entry-times, length-plus, length-times, length-zeros, zeros}
-use Rattle.pm_algebra.proofs.Signs.{weaken}
-use Rattle.pm_algebra.specs.Cones.{InCone}
-use Rattle.pm_algebra.specs.Rows.{Row, entry, plus, times}
+use Rattle.pm_vector.proofs.ConeLaws.{in_cone_set, in_generator, in_zero}
+use Rattle.pm_vector.proofs.Filters.{among_filter, among_map, filter_among, map_among}
+use Rattle.pm_vector.proofs.Lists.{All_among, Among, Any_among, Contains_among, all_from, among_Contains, among_append, among_append_left, among_append_right, here, there}
+use Rattle.pm_vector.proofs.Ring.{ring}
+use Rattle.pm_vector.proofs.RowLaws.{entry-plus, entry-times, length-plus, length-times, length-zeros, zeros}
+use Rattle.pm_vector.proofs.Signs.{weaken}
+use Rattle.pm_vector.specs.Cones.{InCone}
+use Rattle.pm_vector.specs.Rows.{Row, entry, plus, times}
 use Rattle.pm_geom.proofs.Polar.{cols_at}
 use Rattle.pm_geom.specs.Things.{IsPolytopeThing}
 use Rattle.pm_laws_normal_fans.proofs.Generate.{sum_is_generated}

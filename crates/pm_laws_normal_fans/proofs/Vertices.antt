@@ -1,12 +1,12 @@
 -- Vertices of a bounded cone: each is determined by the objectives that are least there, and what is least at a point
 -- is least at some vertex.
-use Rattle.pm_algebra.proofs.ConeLaws.{in_divide, in_of, in_same, in_to_after}
-use Rattle.pm_algebra.proofs.Lists.{Among, among_All, here, there}
-use Rattle.pm_algebra.proofs.Ring.{ring}
-use Rattle.pm_algebra.proofs.RowLaws.{dot-difference, entry-difference, entry-opposite, entry-plus, entry-times, length-difference, length-opposite, dot-plus}
-use Rattle.pm_algebra.proofs.Signs.{mul_nonneg, mul_pos, pos_cancel, weaken}
-use Rattle.pm_algebra.specs.Cones.{InCone}
-use Rattle.pm_algebra.specs.Rows.{HasCols, Row, Same, SameDirection, difference, dot, entry, opposite, plus, times}
+use Rattle.pm_vector.proofs.ConeLaws.{in_divide, in_of, in_same, in_to_after}
+use Rattle.pm_vector.proofs.Lists.{Among, among_All, here, there}
+use Rattle.pm_vector.proofs.Ring.{ring}
+use Rattle.pm_vector.proofs.RowLaws.{dot-difference, entry-difference, entry-opposite, entry-plus, entry-times, length-difference, length-opposite, dot-plus}
+use Rattle.pm_vector.proofs.Signs.{mul_nonneg, mul_pos, pos_cancel, weaken}
+use Rattle.pm_vector.specs.Cones.{InCone}
+use Rattle.pm_vector.specs.Rows.{HasCols, Row, Same, SameDirection, difference, dot, entry, opposite, plus, times}
 use Rattle.pm_geom.proofs.Polar.{cols_at, cut_at, cut_from, generated_is_cut}
 use Rattle.pm_geom.proofs.Reduce.{extremes_generate}
 use Rattle.pm_geom.specs.Cones.{IsExtreme}

@@ -1,7 +1,7 @@
 -- The definitions read on the square, on segments and on fans of the line: what holds, and what does not.
 use Rattle.std.specs.Prelude.{◌≡◌, Bool, List, [], ◌∷◌, nat_eq}
-use Rattle.pm_algebra.specs.Cones.{InCone}
-use Rattle.pm_algebra.specs.Rows.{Row, entry}
+use Rattle.pm_vector.specs.Cones.{InCone}
+use Rattle.pm_vector.specs.Rows.{Row, entry}
 use Rattle.pm_geom.specs.Examples.{edges, half_line, pair, square, triple}
 use Rattle.pm_geom.specs.ThingExamples.{left, right, two_rays}
 use Rattle.pm_laws_normal_fans.specs.FaceFans.{AreHull, AreOrdersOf, InConeOver, IsCenteredPolytope, IsFaceFan}

@@ -1,8 +1,8 @@
 -- The face fan of a polytope with 0 in its interior, by its maximal cones, those over the facets (Ziegler, Lectures on
 -- Polytopes, example 7.2).
 use Rattle.std.specs.Prelude.{ℕ, suc, ◌≡◌, ◌<◌, ◌↔◌, List, length}
-use Rattle.pm_algebra.specs.Cones.{InSpan}
-use Rattle.pm_algebra.specs.Rows.{Row, entry, HasCols}
+use Rattle.pm_vector.specs.Cones.{InSpan}
+use Rattle.pm_vector.specs.Rows.{Row, entry, HasCols}
 use Rattle.pm_geom.specs.Cones.{IsFacetRow, IsOrder, IsValid, Vanishes}
 use Rattle.pm_geom.specs.Things.{IsPolytopeThing}
 use Rattle.pm_laws_normal_fans.specs.Fans.{Fan, IsConeAt}

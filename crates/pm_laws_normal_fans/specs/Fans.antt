@@ -1,8 +1,8 @@
 -- Fans by their maximal cones, and the common refinement of two fans (Ziegler, Lectures on Polytopes, section 7.1).
 use Rattle.std.specs.Prelude.{ℕ, ◌≡◌, ◌<◌, ◌↔◌, List, [], length}
 use Rattle.std.specs.List.{slice_index_or}
-use Rattle.pm_algebra.specs.Cones.{InCone, InSpan}
-use Rattle.pm_algebra.specs.Rows.{Row, IsZero}
+use Rattle.pm_vector.specs.Cones.{InCone, InSpan}
+use Rattle.pm_vector.specs.Rows.{Row, IsZero}
 use Rattle.pm_geom.specs.Things.{IsFanThing}
 
 -- the generators of each cone, and the lines of all of them

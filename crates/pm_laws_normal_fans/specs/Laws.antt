@@ -1,6 +1,6 @@
 -- The laws of normal fans and face fans, and of sums.
 use Rattle.std.specs.Prelude.{ℕ, suc, ◌↔◌, List, [], ◌++◌}
-use Rattle.pm_algebra.specs.Rows.{Row}
+use Rattle.pm_vector.specs.Rows.{Row}
 use Rattle.pm_geom.specs.Things.{IsPolytopeThing}
 use Rattle.pm_laws_normal_fans.specs.FaceFans.{AreHull, AreOrdersOf, IsCenteredPolytope, IsFaceFan}
 use Rattle.pm_laws_normal_fans.specs.Fans.{Fan, HasOneFan, IsCommonRefinement}

@@ -2,7 +2,7 @@
 -- 7.3).
 -- A cone has the objectives that are least at the vertex: the sign is this project's own, Ziegler takes greatest.
 use Rattle.std.specs.Prelude.{ℕ, suc, ◌≡◌, ◌<◌, ◌↔◌, length}
-use Rattle.pm_algebra.specs.Rows.{Row}
+use Rattle.pm_vector.specs.Rows.{Row}
 use Rattle.pm_laws_normal_fans.specs.Fans.{Fan, InPlace}
 use Rattle.pm_laws_normal_fans.specs.Sums.{IsLeastAt, IsVertex}
 

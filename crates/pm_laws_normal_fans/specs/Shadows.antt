@@ -3,8 +3,8 @@
 -- the polytope.
 use Rattle.std.specs.Prelude.{ℕ, zero, suc, ◌≡◌, ◌<◌, ◌↔◌, Bool, true, false, List, [], ◌∷◌, filter, length, map}
 use Rattle.std.specs.List.{All, AllPairs, Any, Contains, range_with_len}
-use Rattle.pm_algebra.specs.Cones.{InCone}
-use Rattle.pm_algebra.specs.Rows.{Row, dot, entry}
+use Rattle.pm_vector.specs.Cones.{InCone}
+use Rattle.pm_vector.specs.Rows.{Row, dot, entry}
 use Rattle.pm_geom.specs.Cones.{IsExtremeRay, SameModulo}
 use Rattle.pm_geom.specs.Faces.{ray}
 use Rattle.pm_geom.specs.Things.{AreFanOrders}

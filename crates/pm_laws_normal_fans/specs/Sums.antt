@@ -4,8 +4,8 @@
 -- x_d/x_0).
 use Rattle.std.specs.Prelude.{ℕ, zero, suc, ◌≡◌, ◌↔◌, ◌++◌, Bool, true, false, not, List, [], ◌∷◌, filter, length, map}
 use Rattle.std.specs.List.{All, Any, Contains}
-use Rattle.pm_algebra.specs.Cones.{InCone}
-use Rattle.pm_algebra.specs.Rows.{Row, dot, entry, plus, times, HasCols, IsZero}
+use Rattle.pm_vector.specs.Cones.{InCone}
+use Rattle.pm_vector.specs.Rows.{Row, dot, entry, plus, times, HasCols, IsZero}
 use Rattle.pm_geom.specs.Cones.{IsExtreme}
 use Rattle.pm_geom.specs.Things.{IsPolytopeThing}
 use Rattle.pm_laws_normal_fans.specs.Shadows.{rest}

@@ -1,6 +1,6 @@
 -- Graphs that are the same but for the names of their nodes have as many edges; and a graph has its like under other names.
-use Rattle.pm_algebra.proofs.Filters.{any_from, any_to}
-use Rattle.pm_algebra.proofs.Lists.{AllPairs_cons, All_among, Among, Contains_among, among_All, among_Contains, here, there}
+use Rattle.pm_vector.proofs.Filters.{any_from, any_to}
+use Rattle.pm_vector.proofs.Lists.{AllPairs_cons, All_among, Among, Contains_among, among_All, among_Contains, here, there}
 use Rattle.pm_geom.specs.Graphs.{IsAscending, IsGraph, edge_count, edge_count_from, holds}
 use Rattle.pm_laws_normal_fans.proofs.Places.{among_at, by_order, no_pairs}
 use Rattle.pm_laws_orders.proofs.SameGraphs.{IsSameGraph}

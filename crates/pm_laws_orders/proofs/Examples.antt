@@ -1,8 +1,8 @@
 -- The examples of orders.
-use Rattle.pm_algebra.proofs.ConeLaws.{in_cone_set}
-use Rattle.pm_algebra.proofs.Lists.{AllPairs_cons, All_among, Among, Any_among, Contains_among, among_All, among_Any, among_Contains, here, there}
-use Rattle.pm_algebra.specs.Cones.{InCone, IsConeSet}
-use Rattle.pm_algebra.specs.Rows.{Row, entry}
+use Rattle.pm_vector.proofs.ConeLaws.{in_cone_set}
+use Rattle.pm_vector.proofs.Lists.{AllPairs_cons, All_among, Among, Any_among, Contains_among, among_All, among_Any, among_Contains, here, there}
+use Rattle.pm_vector.specs.Cones.{InCone, IsConeSet}
+use Rattle.pm_vector.specs.Rows.{Row, entry}
 use Rattle.pm_relations.proofs.Orders.{alike_back}
 use Rattle.pm_geom.proofs.SmallThings.{half_line_is_read}
 use Rattle.pm_geom.specs.Cones.{IsExtreme, IsOrder, SameModulo}

@@ -1,18 +1,18 @@
 -- A fan has an order of the rays of its cones.
-use Rattle.pm_algebra.proofs.ConeLaws.{in_divide, in_first, in_from_after, in_of, in_same, in_to_after, lines_opposite}
-use Rattle.pm_algebra.proofs.Lists.{AllPairs_cons, Among, Any_among, among_All, among_Any, here, there}
-use Rattle.pm_algebra.proofs.Ring.{ring}
-use Rattle.pm_algebra.proofs.RowLaws.{entry-difference, entry-plus, entry-times, length-difference}
-use Rattle.pm_algebra.proofs.Signs.{weaken}
-use Rattle.pm_algebra.specs.Cones.{InCone, InSpan}
-use Rattle.pm_algebra.specs.Rows.{HasCols, Row, difference, entry, opposite, plus, times}
+use Rattle.pm_vector.proofs.ConeLaws.{in_divide, in_first, in_from_after, in_of, in_same, in_to_after, lines_opposite}
+use Rattle.pm_vector.proofs.Lists.{AllPairs_cons, Among, Any_among, among_All, among_Any, here, there}
+use Rattle.pm_vector.proofs.Ring.{ring}
+use Rattle.pm_vector.proofs.RowLaws.{entry-difference, entry-plus, entry-times, length-difference}
+use Rattle.pm_vector.proofs.Signs.{weaken}
+use Rattle.pm_vector.specs.Cones.{InCone, InSpan}
+use Rattle.pm_vector.specs.Rows.{HasCols, Row, difference, entry, opposite, plus, times}
 use Rattle.pm_geom.proofs.Polar.{membership_decided}
 use Rattle.pm_geom.proofs.Reduce.{extremes_generate}
 use Rattle.pm_geom.specs.Cones.{InLineality, IsExtreme, IsExtremeRay, IsOrder, SameModulo}
 use Rattle.pm_laws_normal_fans.proofs.Places.{no_pairs}
 use Rattle.pm_laws_orders.proofs.Merged.{Apart, IsMerged, merged}
 use Rattle.pm_relations.proofs.Orders.{alike_on}
-use Rattle.pm_algebra.proofs.ConeLaws.{in_cone_set}
+use Rattle.pm_vector.proofs.ConeLaws.{in_cone_set}
 use Rattle.std.proofs.Common.{ap, arith, inl, inr, sym, ◌∙◌}
 use Rattle.std.proofs.lemmas.Int.{ints}
 use Rattle.std.specs.List.{AllPairs, Any}

@@ -1,8 +1,8 @@
 -- The graphs of a cone in two orders are the same but for the names of their nodes.
-use Rattle.pm_algebra.proofs.ConeLaws.{in_cone_set}
-use Rattle.pm_algebra.proofs.Lists.{among_All}
-use Rattle.pm_algebra.specs.Cones.{InCone}
-use Rattle.pm_algebra.specs.Rows.{HasCols, Row, dot}
+use Rattle.pm_vector.proofs.ConeLaws.{in_cone_set}
+use Rattle.pm_vector.proofs.Lists.{among_All}
+use Rattle.pm_vector.specs.Cones.{InCone}
+use Rattle.pm_vector.specs.Rows.{HasCols, Row, dot}
 use Rattle.pm_geom.proofs.Incidence.{same_zero}
 use Rattle.pm_geom.proofs.Reduce.{same_modulo_as}
 use Rattle.pm_geom.specs.Cones.{IsExtreme, IsOrder, IsValid, SameModulo}

@@ -1,6 +1,6 @@
 -- Two lists without rows that are alike, put together without such rows.
-use Rattle.pm_algebra.proofs.Lists.{Among, here, there}
-use Rattle.pm_algebra.specs.Rows.{Row}
+use Rattle.pm_vector.proofs.Lists.{Among, here, there}
+use Rattle.pm_vector.specs.Rows.{Row}
 use Rattle.std.proofs.Common.{inl, inr}
 use Rattle.std.specs.Prelude.{List, [], ◌∷◌, ◌⊎◌}
 

@@ -1,7 +1,7 @@
 -- Each thing has orders, and what speaks of none is right in all or in none.
-use Rattle.pm_algebra.proofs.Lists.{All_among, Any_among, Contains_among, among_All}
-use Rattle.pm_algebra.specs.Cones.{InCone, InSpan}
-use Rattle.pm_algebra.specs.Rows.{Row}
+use Rattle.pm_vector.proofs.Lists.{All_among, Any_among, Contains_among, among_All}
+use Rattle.pm_vector.specs.Cones.{InCone, InSpan}
+use Rattle.pm_vector.specs.Rows.{Row}
 use Rattle.pm_geom.proofs.Facets.{facet_rows_cut_out}
 use Rattle.pm_geom.proofs.Reduce.{extremes_generate}
 use Rattle.pm_geom.specs.Cones.{InLineality, IsExtremeRay, SameModulo}

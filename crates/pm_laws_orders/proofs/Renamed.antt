@@ -1,7 +1,7 @@
 -- Two orders of one set: each place of the one has its place in the other, with a row that is alike.
-use Rattle.pm_algebra.proofs.Lists.{among_All, among_Any}
-use Rattle.pm_algebra.specs.Cones.{IsConeSet}
-use Rattle.pm_algebra.specs.Rows.{Row}
+use Rattle.pm_vector.proofs.Lists.{among_All, among_Any}
+use Rattle.pm_vector.specs.Cones.{IsConeSet}
+use Rattle.pm_vector.specs.Rows.{Row}
 use Rattle.pm_geom.specs.Cones.{IsExtreme, IsOrder, SameModulo}
 use Rattle.pm_geom.specs.Faces.{ray}
 use Rattle.pm_laws_normal_fans.proofs.Places.{among_at, by_order, place_at}

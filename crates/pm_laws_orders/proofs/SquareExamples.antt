@@ -1,5 +1,5 @@
 -- The examples of the square's graphs.
-use Rattle.pm_algebra.specs.Rows.{ratio_at}
+use Rattle.pm_vector.specs.Rows.{ratio_at}
 use Rattle.pm_geom.proofs.SmallGraphs.{square_graph_is_read}
 use Rattle.pm_geom.proofs.Square.{square_is_read}
 use Rattle.pm_geom.specs.Examples.{edges, square, triple}

@@ -1,6 +1,6 @@
 -- Sums of numbers, and how many elements a list has.
-use Rattle.pm_algebra.proofs.Filters.{any_to}
-use Rattle.pm_algebra.proofs.Lists.{Among, among_All, here}
+use Rattle.pm_vector.proofs.Filters.{any_to}
+use Rattle.pm_vector.proofs.Lists.{Among, among_All, here}
 use Rattle.pm_geom.specs.Graphs.{IsAscending, holds}
 use Rattle.pm_laws_normal_fans.proofs.Places.{pairs_head, pairs_tail}
 use Rattle.std.proofs.Common.{ap, arith, false, refl, sym, true, true≢false, ◌∙◌}

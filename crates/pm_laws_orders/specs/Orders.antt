@@ -1,5 +1,5 @@
 -- Orders of a thing, and the values that are right in some of them and in all.
-use Rattle.pm_algebra.specs.Numbers.{Ratio}
+use Rattle.pm_vector.specs.Numbers.{Ratio}
 use Rattle.pm_geom.specs.Graphs.{IsDiameter, IsEdge, IsRidge, edge_count}
 use Rattle.pm_geom.specs.Things.{Orders}
 use Rattle.pm_object_type.specs.declared.object_type.ObjectType.TheVariants.{Fan}

@@ -1,10 +1,10 @@
 -- Cells as index sets, and as masks over the rows that were placed.
-use Rattle.pm_algebra.proofs.ConeLaws.{NonNeg, combination-plus, combination_none, in_plus, in_times, in_zero}
-use Rattle.pm_algebra.proofs.Lists.{Among, here, there}
-use Rattle.pm_algebra.proofs.Ring.{ring}
-use Rattle.pm_algebra.proofs.RowLaws.{entry-plus, entry-times, length-plus}
-use Rattle.pm_algebra.specs.Cones.{InCone, InSpan, combination}
-use Rattle.pm_algebra.specs.Rows.{Row, entry, plus, times}
+use Rattle.pm_vector.proofs.ConeLaws.{NonNeg, combination-plus, combination_none, in_plus, in_times, in_zero}
+use Rattle.pm_vector.proofs.Lists.{Among, here, there}
+use Rattle.pm_vector.proofs.Ring.{ring}
+use Rattle.pm_vector.proofs.RowLaws.{entry-plus, entry-times, length-plus}
+use Rattle.pm_vector.specs.Cones.{InCone, InSpan, combination}
+use Rattle.pm_vector.specs.Rows.{Row, entry, plus, times}
 use Rattle.pm_laws_placing.proofs.LeastSums.{Zero, bool_cases, entry-over, combination-over, independent, length-over}
 use Rattle.pm_laws_placing.specs.LeastSums.{at, has, Within, InCell, IsLeastCell, over}
 use Rattle.pm_geom.specs.Triangulations.{rows_at, shared}

@@ -1,9 +1,9 @@
 -- One step of the placing triangulation keeps that the cells carry the least sums, and that each spans the cone.
-use Rattle.pm_algebra.proofs.ConeLaws.{in_generator, in_line}
-use Rattle.pm_algebra.proofs.Lists.{All_among, Among, Contains_among, all_append, all_from, among_All, among_Any, among_Contains, among_append, among_append_left, among_append_right, here, there}
-use Rattle.pm_algebra.specs.Cones.{InSpan}
-use Rattle.pm_algebra.specs.Rows.{HasCols, Row, dot}
-use Rattle.pm_bases.proofs.Spans.{span_of}
+use Rattle.pm_vector.proofs.ConeLaws.{in_generator, in_line}
+use Rattle.pm_vector.proofs.Lists.{All_among, Among, Contains_among, all_append, all_from, among_All, among_Any, among_Contains, among_append, among_append_left, among_append_right, here, there}
+use Rattle.pm_vector.specs.Cones.{InSpan}
+use Rattle.pm_vector.specs.Rows.{HasCols, Row, dot}
+use Rattle.pm_vector.proofs.Spans.{span_of}
 use Rattle.pm_laws_placing.proofs.CellMasks.{At, Without, among_holds, among_rows_at, at_among, at_below, at_has, at_of, at_ray, cell_free, has_at, holds_among, holds_not, length_rows_at, mask, rows_at_among, without}
 use Rattle.pm_laws_placing.proofs.FacetSpans.{exchanged_span, facet_span, on_lines}
 use Rattle.pm_laws_placing.proofs.FullSums.{Full, Spans, full}

@@ -1,12 +1,12 @@
 -- New cells differ: two with the same wall come from one facet and from one cell.
-use Rattle.pm_algebra.proofs.ConeLaws.{combination_none, dot_combination_lines, in_combination_lines, in_generator, in_line, in_line_opposite, in_plus, in_same, in_times, in_zero}
-use Rattle.pm_algebra.proofs.Lists.{Among, Contains_among, among_Contains, among_append, among_append_left, among_append_right, here, there}
-use Rattle.pm_algebra.proofs.Ring.{ring}
-use Rattle.pm_algebra.proofs.RowLaws.{dot-difference, dot-nil, dot-plus, dot-same, dot-times, dot_comm, entry-difference, entry-plus, entry-times, length-difference, length-opposite}
-use Rattle.pm_algebra.proofs.Signs.{mul_pos, weaken}
-use Rattle.pm_algebra.specs.Cones.{InCone, InSpan, combination}
-use Rattle.pm_algebra.specs.Rows.{HasCols, Row, difference, dot, entry, opposite, plus, times}
-use Rattle.pm_bases.proofs.Spans.{span_of}
+use Rattle.pm_vector.proofs.ConeLaws.{combination_none, dot_combination_lines, in_combination_lines, in_generator, in_line, in_line_opposite, in_plus, in_same, in_times, in_zero}
+use Rattle.pm_vector.proofs.Lists.{Among, Contains_among, among_Contains, among_append, among_append_left, among_append_right, here, there}
+use Rattle.pm_vector.proofs.Ring.{ring}
+use Rattle.pm_vector.proofs.RowLaws.{dot-difference, dot-nil, dot-plus, dot-same, dot-times, dot_comm, entry-difference, entry-plus, entry-times, length-difference, length-opposite}
+use Rattle.pm_vector.proofs.Signs.{mul_pos, weaken}
+use Rattle.pm_vector.specs.Cones.{InCone, InSpan, combination}
+use Rattle.pm_vector.specs.Rows.{HasCols, Row, difference, dot, entry, opposite, plus, times}
+use Rattle.pm_vector.proofs.Spans.{span_of}
 use Rattle.pm_laws_placing.proofs.CellMasks.{Without, among_rows_at, rows_at_among, shared_to, without}
 use Rattle.pm_laws_placing.proofs.CellSteps.{Carried}
 use Rattle.pm_laws_placing.proofs.FacetSpans.{on_lines}

@@ -1,9 +1,9 @@
 -- The unit square and its triangles.
-use Rattle.pm_algebra.proofs.ConeLaws.{dot_in, in_generator, in_of, in_zero, none_to_zero}
-use Rattle.pm_algebra.proofs.Lists.{All_among, Among, Any_among, Contains_among, among_All, among_Any, among_Contains, here, there}
-use Rattle.pm_algebra.proofs.Ring.{ring}
-use Rattle.pm_algebra.specs.Cones.{InCone, combination}
-use Rattle.pm_algebra.specs.Rows.{IsZero, Row, dot, entry}
+use Rattle.pm_vector.proofs.ConeLaws.{dot_in, in_generator, in_of, in_zero, none_to_zero}
+use Rattle.pm_vector.proofs.Lists.{All_among, Among, Any_among, Contains_among, among_All, among_Any, among_Contains, here, there}
+use Rattle.pm_vector.proofs.Ring.{ring}
+use Rattle.pm_vector.specs.Cones.{InCone, combination}
+use Rattle.pm_vector.specs.Rows.{IsZero, Row, dot, entry}
 use Rattle.pm_laws_placing.specs.Examples.{SquareIsTriangulated, lower, upper}
 use Rattle.pm_geom.specs.Triangulations.{IsIndependentModulo, IsTriangulation, rows_at, shared}
 use Rattle.pm_geom.proofs.Apart.{not_below, not_below_at, products}

@@ -1,12 +1,12 @@
 -- Each least sum on a face lies within a least sum whose rows span the face.
-use Rattle.pm_algebra.proofs.ConeLaws.{NonNeg, dot_combination, in_generator, in_line, in_of, in_plus, in_same, in_times, in_zero}
-use Rattle.pm_algebra.proofs.Lists.{All_among, Among, all_append, all_from, among_All, among_append_left, among_append_right, among_append, here, there}
-use Rattle.pm_algebra.proofs.Ring.{one_mul, ring}
-use Rattle.pm_algebra.proofs.RowLaws.{dot-plus, dot-times, entry-difference, entry-plus, entry-times}
-use Rattle.pm_algebra.proofs.Signs.{mul_cancel, mul_nonneg, mul_pos}
-use Rattle.pm_algebra.specs.Cones.{InCone, InSpan, combination}
-use Rattle.pm_algebra.specs.Rows.{HasCols, Row, difference, dot, entry, plus, times}
-use Rattle.pm_bases.proofs.Spans.{span_difference, span_divide, span_of}
+use Rattle.pm_vector.proofs.ConeLaws.{NonNeg, dot_combination, in_generator, in_line, in_of, in_plus, in_same, in_times, in_zero}
+use Rattle.pm_vector.proofs.Lists.{All_among, Among, all_append, all_from, among_All, among_append_left, among_append_right, among_append, here, there}
+use Rattle.pm_vector.proofs.Ring.{one_mul, ring}
+use Rattle.pm_vector.proofs.RowLaws.{dot-plus, dot-times, entry-difference, entry-plus, entry-times}
+use Rattle.pm_vector.proofs.Signs.{mul_cancel, mul_nonneg, mul_pos}
+use Rattle.pm_vector.specs.Cones.{InCone, InSpan, combination}
+use Rattle.pm_vector.specs.Rows.{HasCols, Row, difference, dot, entry, plus, times}
+use Rattle.pm_vector.proofs.Spans.{span_difference, span_divide, span_of}
 use Rattle.pm_laws_placing.proofs.FacetSpans.{Lifted, facet_span, length-raised, lifted, on_lines, raised, raised-dot, valid_dot}
 use Rattle.pm_laws_placing.proofs.LeastSums.{entry-over}
 use Rattle.pm_laws_placing.proofs.PlacingStep.{Wall, least_head, least_tail, least_wall, least_zero, length_above, no_more, wall_or_room}

@@ -1,11 +1,11 @@
 -- Least sums triangulate.
-use Rattle.pm_algebra.proofs.ConeLaws.{After, NonNeg, combination-plus, combination-times, combination_none, in_combination, in_combination_lines, in_generator, in_line, in_line_opposite, in_of, in_plus, in_same, in_times, in_to_after, lines_opposite}
-use Rattle.pm_algebra.proofs.Lists.{Among, among_All, among_Contains}
-use Rattle.pm_algebra.proofs.Ring.{add-mul, neg-mul, neg_one_mul, one_mul, ring}
-use Rattle.pm_algebra.proofs.RowLaws.{dot-difference, entry-difference, entry-opposite, entry-plus, entry-times, length-difference, length-plus, length-times}
-use Rattle.pm_algebra.proofs.Signs.{mul_cancel, mul_nonneg, mul_pos, nonneg_cancel, times_both, weaken}
-use Rattle.pm_algebra.specs.Cones.{InCone, combination}
-use Rattle.pm_algebra.specs.Rows.{HasCols, Row, Same, difference, dot, entry, opposite, plus, times}
+use Rattle.pm_vector.proofs.ConeLaws.{After, NonNeg, combination-plus, combination-times, combination_none, in_combination, in_combination_lines, in_generator, in_line, in_line_opposite, in_of, in_plus, in_same, in_times, in_to_after, lines_opposite}
+use Rattle.pm_vector.proofs.Lists.{Among, among_All, among_Contains}
+use Rattle.pm_vector.proofs.Ring.{add-mul, neg-mul, neg_one_mul, one_mul, ring}
+use Rattle.pm_vector.proofs.RowLaws.{dot-difference, entry-difference, entry-opposite, entry-plus, entry-times, length-difference, length-plus, length-times}
+use Rattle.pm_vector.proofs.Signs.{mul_cancel, mul_nonneg, mul_pos, nonneg_cancel, times_both, weaken}
+use Rattle.pm_vector.specs.Cones.{InCone, combination}
+use Rattle.pm_vector.specs.Rows.{HasCols, Row, Same, difference, dot, entry, opposite, plus, times}
 use Rattle.pm_geom.proofs.AddGenerator.{Best, best}
 use Rattle.pm_geom.proofs.Cuts.{CutBy}
 use Rattle.pm_geom.proofs.Generated.{cut_in}

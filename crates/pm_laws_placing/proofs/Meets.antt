@@ -1,9 +1,9 @@
 -- Two cells' cones meet in the cone of their common rows.
-use Rattle.pm_algebra.proofs.ConeLaws.{NonNeg, in_combination_lines, in_divide, in_generator, in_line, in_line_opposite, in_plus, in_same}
-use Rattle.pm_algebra.proofs.Lists.{Among, Contains_among}
-use Rattle.pm_algebra.proofs.RowLaws.{same_sym}
-use Rattle.pm_algebra.specs.Cones.{InCone}
-use Rattle.pm_algebra.specs.Rows.{HasCols, Row}
+use Rattle.pm_vector.proofs.ConeLaws.{NonNeg, in_combination_lines, in_divide, in_generator, in_line, in_line_opposite, in_plus, in_same}
+use Rattle.pm_vector.proofs.Lists.{Among, Contains_among}
+use Rattle.pm_vector.proofs.RowLaws.{same_sym}
+use Rattle.pm_vector.specs.Cones.{InCone}
+use Rattle.pm_vector.specs.Rows.{HasCols, Row}
 use Rattle.pm_laws_placing.proofs.CellMasks.{At, among_rows_at, at_here, at_of, at_ray, at_there, holds_among, length_rows_at, mask, shared_from, sum_in, to_cell}
 use Rattle.pm_laws_placing.proofs.CellSteps.{Carried, among_map}
 use Rattle.pm_laws_placing.proofs.LeastSums.{bool_cases, least_cells_triangulate}

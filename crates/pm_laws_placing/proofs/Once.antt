@@ -1,5 +1,5 @@
 -- No cell is made twice.
-use Rattle.pm_algebra.proofs.Lists.{among_Contains}
+use Rattle.pm_vector.proofs.Lists.{among_Contains}
 use Rattle.pm_laws_placing.proofs.Sequences.{difference_of, one_facet, same_places, states}
 use Rattle.pm_laws_placing.specs.Placing.{NewCellsAreOnce, places_marked}
 use Rattle.std.specs.Prelude.{true, length}

@@ -1,10 +1,10 @@
 -- The vertices of the unit square, placed one by one.
-use Rattle.pm_algebra.proofs.ConeLaws.{none_to_zero}
-use Rattle.pm_algebra.proofs.Lists.{AllPairs_cons, All_among, Among, Contains_among, among_Contains, here, there}
-use Rattle.pm_algebra.proofs.Ring.{ring}
-use Rattle.pm_algebra.specs.Cones.{InCone, InSpan}
-use Rattle.pm_algebra.specs.Rows.{HasCols, Row, dot}
-use Rattle.pm_bases.specs.Bases.{row_at}
+use Rattle.pm_vector.proofs.ConeLaws.{none_to_zero}
+use Rattle.pm_vector.proofs.Lists.{AllPairs_cons, All_among, Among, Contains_among, among_Contains, here, there}
+use Rattle.pm_vector.proofs.Ring.{ring}
+use Rattle.pm_vector.specs.Cones.{InCone, InSpan}
+use Rattle.pm_vector.specs.Rows.{HasCols, Row, dot}
+use Rattle.pm_vector.specs.Bases.{row_at}
 use Rattle.pm_laws_placing.proofs.Examples.{one}
 use Rattle.pm_laws_placing.proofs.Triangulates.{placing_triangulates}
 use Rattle.pm_laws_placing.specs.Examples.{SquareIsPlaced, lower, upper}

@@ -1,5 +1,5 @@
 -- The places of a list in the stated order.
-use Rattle.pm_algebra.proofs.Lists.{Among, among_append, among_append_left, among_append_right, here, there}
+use Rattle.pm_vector.proofs.Lists.{Among, among_append, among_append_left, among_append_right, here, there}
 use Rattle.pm_laws_placing.proofs.LeastSums.{bool_cases}
 use Rattle.pm_laws_placing.specs.LeastSums.{has}
 use Rattle.pm_laws_placing.specs.Placing.{places_marked, stated_places}

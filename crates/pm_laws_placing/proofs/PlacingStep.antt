@@ -1,11 +1,11 @@
 -- Placing one more row.
-use Rattle.pm_algebra.proofs.ConeLaws.{NonNeg, combination-times, dot_combination, dot_in, in_combination_lines, in_line, in_line_opposite, in_plus, in_same, in_times, lines_opposite}
-use Rattle.pm_algebra.proofs.Lists.{All_among, Among, Any_among, Contains_among, among_All, among_append_left, among_Contains, here, there}
-use Rattle.pm_algebra.proofs.Ring.{add-mul, neg_one_mul, one_mul, ring}
-use Rattle.pm_algebra.proofs.RowLaws.{dot-nil, dot-plus, dot-times, entry-plus, entry-times, length-plus, length-times}
-use Rattle.pm_algebra.proofs.Signs.{mul_cancel, mul_nonneg, mul_pos, times_both, weaken}
-use Rattle.pm_algebra.specs.Cones.{InCone, InSpan, combination}
-use Rattle.pm_algebra.specs.Rows.{HasCols, Row, dot, entry, plus, times}
+use Rattle.pm_vector.proofs.ConeLaws.{NonNeg, combination-times, dot_combination, dot_in, in_combination_lines, in_line, in_line_opposite, in_plus, in_same, in_times, lines_opposite}
+use Rattle.pm_vector.proofs.Lists.{All_among, Among, Any_among, Contains_among, among_All, among_append_left, among_Contains, here, there}
+use Rattle.pm_vector.proofs.Ring.{add-mul, neg_one_mul, one_mul, ring}
+use Rattle.pm_vector.proofs.RowLaws.{dot-nil, dot-plus, dot-times, entry-plus, entry-times, length-plus, length-times}
+use Rattle.pm_vector.proofs.Signs.{mul_cancel, mul_nonneg, mul_pos, times_both, weaken}
+use Rattle.pm_vector.specs.Cones.{InCone, InSpan, combination}
+use Rattle.pm_vector.specs.Rows.{HasCols, Row, dot, entry, plus, times}
 use Rattle.pm_laws_placing.specs.LeastSums.{at, has, Within, IsLexNegative, over, IsLeast, IsLeastCell, Walls, IsPlaced, IsLeastList, PlacingStep}
 use Rattle.pm_laws_placing.proofs.LeastSums.{neg_one, entry-over, nonneg_from, nonneg_at, exchanged, bool_cases}
 use Rattle.pm_geom.proofs.Facets.{dot-opposite}

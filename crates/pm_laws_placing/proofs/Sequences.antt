@@ -1,11 +1,11 @@
 -- The cells of all rows are a triangulation.
-use Rattle.pm_algebra.proofs.ConeLaws.{in_generator, in_line, in_line_opposite, in_of, in_through}
-use Rattle.pm_algebra.proofs.Lists.{All_among, Among, Any_among, Contains_among, all_append, all_from, among_All, among_Any, among_Contains, among_append, among_append_left, among_append_right, here, there}
-use Rattle.pm_algebra.proofs.RowLaws.{length-opposite}
-use Rattle.pm_algebra.specs.Cones.{InCone, InSpan}
-use Rattle.pm_algebra.specs.Rows.{HasCols, Row, opposite}
-use Rattle.pm_bases.proofs.Spans.{at_place, span_of}
-use Rattle.pm_bases.specs.Bases.{row_at}
+use Rattle.pm_vector.proofs.ConeLaws.{in_generator, in_line, in_line_opposite, in_of, in_through}
+use Rattle.pm_vector.proofs.Lists.{All_among, Among, Any_among, Contains_among, all_append, all_from, among_All, among_Any, among_Contains, among_append, among_append_left, among_append_right, here, there}
+use Rattle.pm_vector.proofs.RowLaws.{length-opposite}
+use Rattle.pm_vector.specs.Cones.{InCone, InSpan}
+use Rattle.pm_vector.specs.Rows.{HasCols, Row, opposite}
+use Rattle.pm_vector.proofs.Spans.{at_place, span_of}
+use Rattle.pm_vector.specs.Bases.{row_at}
 use Rattle.pm_laws_placing.proofs.CellSteps.{Carried, among_map, carried_on, map_among}
 use Rattle.pm_laws_placing.proofs.CellMasks.{among_rows_at, mask, rows_at_among}
 use Rattle.pm_laws_placing.proofs.Different.{same_cell, same_facet}

@@ -1,11 +1,11 @@
 -- The first cell: the rays among the rows that enlarge the span.
-use Rattle.pm_algebra.proofs.ConeLaws.{in_line, in_same}
-use Rattle.pm_algebra.proofs.Lists.{All_among, Among, Any_among, among_append_left, here, there}
-use Rattle.pm_algebra.proofs.Ring.{ring}
-use Rattle.pm_algebra.proofs.RowLaws.{entry-difference, entry-plus, entry-times}
-use Rattle.pm_algebra.specs.Cones.{InCone, InSpan, combination}
-use Rattle.pm_algebra.specs.Rows.{Row, entry}
-use Rattle.pm_bases.proofs.Spans.{span_difference, span_divide, span_of}
+use Rattle.pm_vector.proofs.ConeLaws.{in_line, in_same}
+use Rattle.pm_vector.proofs.Lists.{All_among, Among, Any_among, among_append_left, here, there}
+use Rattle.pm_vector.proofs.Ring.{ring}
+use Rattle.pm_vector.proofs.RowLaws.{entry-difference, entry-plus, entry-times}
+use Rattle.pm_vector.specs.Cones.{InCone, InSpan, combination}
+use Rattle.pm_vector.specs.Rows.{Row, entry}
+use Rattle.pm_vector.proofs.Spans.{span_difference, span_divide, span_of}
 use Rattle.pm_laws_placing.proofs.CellSteps.{Carried}
 use Rattle.pm_laws_placing.proofs.CellMasks.{At, among_holds, among_rows_at, at_among, at_has, at_here, at_of, at_there, has_at, length_rows_at, mask}
 use Rattle.pm_laws_placing.proofs.LeastSums.{combination-over, entry-over, length-over}

@@ -1,9 +1,9 @@
 -- The last cells of the placing are a triangulation.
-use Rattle.pm_algebra.proofs.ConeLaws.{in_line, in_of}
-use Rattle.pm_algebra.proofs.Lists.{All_among, Among, Any_among, among_All, among_Any, among_Contains, among_append_left, among_append_right, here, there}
-use Rattle.pm_algebra.specs.Cones.{InCone, InSpan}
-use Rattle.pm_algebra.specs.Rows.{HasCols, Row}
-use Rattle.pm_bases.proofs.Spans.{place_of, span_of}
+use Rattle.pm_vector.proofs.ConeLaws.{in_line, in_of}
+use Rattle.pm_vector.proofs.Lists.{All_among, Among, Any_among, among_All, among_Any, among_Contains, among_append_left, among_append_right, here, there}
+use Rattle.pm_vector.specs.Cones.{InCone, InSpan}
+use Rattle.pm_vector.specs.Rows.{HasCols, Row}
+use Rattle.pm_vector.proofs.Spans.{place_of, span_of}
 use Rattle.pm_laws_placing.proofs.CellSteps.{Carried, among_map, map_among}
 use Rattle.pm_laws_placing.proofs.CellMasks.{among_rows_at, at_has, cell_free, holds_among, mask, rows_at_among, shared_to, without}
 use Rattle.pm_laws_placing.proofs.LeastSums.{least_cells_triangulate}

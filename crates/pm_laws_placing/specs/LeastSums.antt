@@ -1,8 +1,8 @@
 -- Least sums over the list W of the rows that were placed, the last placed first. A cell is a mask over the places of W.
 use Rattle.std.specs.Prelude.{ℕ, ◌≡◌, ◌⊎◌, ◌&&◌, Bool, true, false, List, [], ◌∷◌, ◌++◌, length, get_or}
 use Rattle.std.specs.List.{All, AllByRecursion, Any, Contains}
-use Rattle.pm_algebra.specs.Cones.{InCone, InSpan, combination}
-use Rattle.pm_algebra.specs.Rows.{HasCols, Row, Same, dot, plus, times}
+use Rattle.pm_vector.specs.Cones.{InCone, InSpan, combination}
+use Rattle.pm_vector.specs.Rows.{HasCols, Row, Same, dot, plus, times}
 use Rattle.pm_geom.specs.Cones.{CutOut}
 use Rattle.pm_geom.specs.Faces.{ray}
 use lib.IntN.{ℤ, pos, negsuc, ◌*ℤ◌}

@@ -1,7 +1,7 @@
 -- The cells of the placing triangulation of lines and rays, by the rows of double description (De Loera, Rambau and Santos, Triangulations, section 4.3).
 use Rattle.std.specs.Prelude.{ℕ, ◌<◌, ◌↔◌, List, ◌++◌, length}
 use Rattle.std.specs.List.{All, AllPairs, Contains}
-use Rattle.pm_algebra.specs.Rows.{Row}
+use Rattle.pm_vector.specs.Rows.{Row}
 use Rattle.pm_dd.specs.Fronts.{both_signs}
 use Rattle.pm_elim.specs.Evidence.{IsBasisOf}
 use Rattle.pm_geom.specs.FaceCounts.{IsLexBefore}

@@ -2,9 +2,9 @@
 use Rattle.std.specs.Prelude.{ℕ, suc, ◌+◌, ◌≡◌, ◌<◌, ◌≤◌, ◌↔◌, ◌⊎◌, Bool, true, false, cond, List, [], ◌∷◌, ◌++◌, length, map, take}
 use Rattle.std.specs.Bool.{beq}
 use Rattle.std.specs.List.{All, Contains, slice_index_or}
-use Rattle.pm_algebra.specs.Rows.{HasCols, Row, dot}
-use Rattle.pm_algebra.specs.Cones.{InCone, InSpan}
-use Rattle.pm_bases.specs.Bases.{row_at}
+use Rattle.pm_vector.specs.Rows.{HasCols, Row, dot}
+use Rattle.pm_vector.specs.Cones.{InCone, InSpan}
+use Rattle.pm_vector.specs.Bases.{row_at}
 use Rattle.pm_elim.specs.Enlarging.{MarkEnlarging}
 use Rattle.pm_geom.specs.Cones.{IsOrder, IsValid, SameModulo}
 use Rattle.pm_geom.specs.Faces.{ray}

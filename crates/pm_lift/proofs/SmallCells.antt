@@ -1,8 +1,8 @@
 -- Three sites on a line, and no site: affine functions, lower faces and cells.
-use Rattle.pm_algebra.proofs.Lists.{All_among, AllPairs_cons, Among, Any_among, here, there}
-use Rattle.pm_algebra.proofs.Ring.{ring}
-use Rattle.pm_algebra.specs.Numbers.{Ratio}
-use Rattle.pm_algebra.specs.Rows.{Row, dot, entry, ratio_at}
+use Rattle.pm_vector.proofs.Lists.{All_among, AllPairs_cons, Among, Any_among, here, there}
+use Rattle.pm_vector.proofs.Ring.{ring}
+use Rattle.pm_vector.specs.Numbers.{Ratio}
+use Rattle.pm_vector.specs.Rows.{Row, dot, entry, ratio_at}
 use Rattle.pm_geom.specs.FaceCounts.{IsLexBefore, SamePlaces}
 use Rattle.pm_geom.specs.Faces.{ray}
 use Rattle.pm_geom.specs.Graphs.{IsAscending, holds}

@@ -1,9 +1,9 @@
 -- The Delaunay cells of 0, 1 and 3 on a line, and of the corners of the unit square.
-use Rattle.pm_algebra.proofs.Lists.{All_among, AllPairs_cons, Among, Any_among, here, there}
-use Rattle.pm_algebra.proofs.Ring.{neg_one_mul, ring}
-use Rattle.pm_algebra.proofs.Signs.{mul_pos}
-use Rattle.pm_algebra.specs.Numbers.{IsBelow, SameRatio}
-use Rattle.pm_algebra.specs.Rows.{Row, difference, dot, entry, ratio_at}
+use Rattle.pm_vector.proofs.Lists.{All_among, AllPairs_cons, Among, Any_among, here, there}
+use Rattle.pm_vector.proofs.Ring.{neg_one_mul, ring}
+use Rattle.pm_vector.proofs.Signs.{mul_pos}
+use Rattle.pm_vector.specs.Numbers.{IsBelow, SameRatio}
+use Rattle.pm_vector.specs.Rows.{Row, difference, dot, entry, ratio_at}
 use Rattle.pm_geom.specs.FaceCounts.{IsLexBefore, SamePlaces}
 use Rattle.pm_geom.specs.Faces.{ray}
 use Rattle.pm_geom.specs.Graphs.{IsAscending, holds}

@@ -1,9 +1,9 @@
 -- The lifted rows of one point, the places of three rows, and the refusals of one far point.
-use Rattle.pm_algebra.proofs.Divisors.{IsPrimitive-from_one, IsPrimitiveOf-from_one}
-use Rattle.pm_algebra.proofs.Ring.{ring}
-use Rattle.pm_algebra.specs.Divisors.{IsGcdOf, IsPrimitiveOf}
-use Rattle.pm_algebra.specs.Numbers.{InRange, Ratio}
-use Rattle.pm_algebra.specs.Rows.{Row, SameDirection, dot, entry, ratio_at, times}
+use Rattle.pm_vector.proofs.DivisorLaws.{IsPrimitive-from_one, IsPrimitiveOf-from_one}
+use Rattle.pm_vector.proofs.Ring.{ring}
+use Rattle.pm_vector.specs.Divisors.{IsGcdOf, IsPrimitiveOf}
+use Rattle.pm_vector.specs.Numbers.{InRange, Ratio}
+use Rattle.pm_vector.specs.Rows.{Row, SameDirection, dot, entry, ratio_at, times}
 use Rattle.pm_geom.specs.Evidence.{IsWideProduct}
 use Rattle.pm_geom.specs.Faces.{ray}
 use Rattle.pm_geom.specs.declared.evidence.Evidence.TheVariants.{E4}

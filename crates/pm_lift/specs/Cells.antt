@@ -4,8 +4,8 @@
 -- sites is a test on their places.
 use Rattle.std.specs.Prelude.{ℕ, ◌≡◌, ◌<◌, ◌↔◌, Bool, IsTrue, List, drop, length, map}
 use Rattle.std.specs.List.{All, AllPairs, Any}
-use Rattle.pm_algebra.specs.Numbers.{Ratio}
-use Rattle.pm_algebra.specs.Rows.{Row, dot, entry, ratio_at}
+use Rattle.pm_vector.specs.Numbers.{Ratio}
+use Rattle.pm_vector.specs.Rows.{Row, dot, entry, ratio_at}
 use Rattle.pm_geom.specs.FaceCounts.{IsLexBefore, SamePlaces}
 use Rattle.pm_geom.specs.Faces.{ray}
 use Rattle.pm_geom.specs.Graphs.{IsAscending, holds}

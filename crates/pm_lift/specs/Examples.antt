@@ -1,7 +1,7 @@
 -- The definitions read on small lists of sites: what holds of them, and what does not.
 use Rattle.std.specs.Prelude.{ℕ, ◌≡◌, List, [], ◌∷◌}
-use Rattle.pm_algebra.specs.Numbers.{Ratio}
-use Rattle.pm_algebra.specs.Rows.{Row}
+use Rattle.pm_vector.specs.Numbers.{Ratio}
+use Rattle.pm_vector.specs.Rows.{Row}
 use Rattle.pm_geom.specs.Graphs.{holds}
 use Rattle.pm_geom.specs.declared.evidence.Evidence.TheVariants.{E4}
 use Rattle.pm_lift.specs.Cells.{AreCells, AreSites, IsCell, IsLowerFace, IsUnder, Touches, square_of, squares}

@@ -1,8 +1,8 @@
 -- What is known of cells, of lifted rows and of empty spheres.
 use Rattle.std.specs.Prelude.{ℕ, suc, ◌≡◌, ◌<◌, ◌↔◌, Bool, IsTrue, List, [], ◌∷◌, ◌++◌, length}
 use Rattle.std.specs.List.{Contains}
-use Rattle.pm_algebra.specs.Numbers.{Ratio, SameRatio}
-use Rattle.pm_algebra.specs.Rows.{HasCols, Row, SameDirection, dot, entry, ratio_at}
+use Rattle.pm_vector.specs.Numbers.{Ratio, SameRatio}
+use Rattle.pm_vector.specs.Rows.{HasCols, Row, SameDirection, dot, entry, ratio_at}
 use Rattle.pm_geom.specs.Cones.{IsOrder, IsValid, SameModulo}
 use Rattle.pm_geom.specs.Faces.{ray}
 use Rattle.pm_lift.specs.Cells.{AreCells, AreSites, IsCell, square_of, squares}

@@ -1,9 +1,9 @@
 -- Lifted rows: sites with their heights in a last entry, and the row that points upwards (Ziegler, Lectures on
 -- Polytopes, section 5.1). A facet row of their cone that is positive on the row upwards is one of a lower face.
 use Rattle.std.specs.Prelude.{ℕ, suc, ◌≡◌, ◌<◌, List, [], ◌∷◌, ◌++◌, drop, length}
-use Rattle.pm_algebra.specs.Divisors.{IsPrimitiveOf}
-use Rattle.pm_algebra.specs.Numbers.{Ratio}
-use Rattle.pm_algebra.specs.Rows.{HasCols, Row, SameDirection, dot, entry, ratio_at, times}
+use Rattle.pm_vector.specs.Divisors.{IsPrimitiveOf}
+use Rattle.pm_vector.specs.Numbers.{Ratio}
+use Rattle.pm_vector.specs.Rows.{HasCols, Row, SameDirection, dot, entry, ratio_at, times}
 use Rattle.pm_elim.specs.Evidence.{unit}
 use Rattle.pm_geom.specs.Faces.{ray}
 use lib.IntN.{◌*ℤ◌}

@@ -1,9 +1,9 @@
 -- What a refusal shows of sites and heights.
 use Rattle.std.specs.Prelude.{ℕ, suc, ◌≡◌, ◌<◌, ◌⊎◌, List, [], ◌∷◌, ◌++◌, drop, length}
 use Rattle.std.specs.List.{Contains}
-use Rattle.pm_algebra.specs.Divisors.{IsPrimitiveOf}
-use Rattle.pm_algebra.specs.Numbers.{Ratio}
-use Rattle.pm_algebra.specs.Rows.{Row, entry, ratio_at}
+use Rattle.pm_vector.specs.Divisors.{IsPrimitiveOf}
+use Rattle.pm_vector.specs.Numbers.{Ratio}
+use Rattle.pm_vector.specs.Rows.{Row, entry, ratio_at}
 use Rattle.pm_dd.specs.declared.fails.DdFail.TheVariants as facets
 use Rattle.pm_geom.specs.Cones.{IsValid}
 use Rattle.pm_geom.specs.Evidence.{IsWideProduct}

@@ -1,8 +1,8 @@
 -- Empty spheres of sets of sites, Delaunay's condition (Edelsbrunner, Algorithms in Combinatorial Geometry, chapter 13;
 -- De Loera, Rambau and Santos, Triangulations, section 2.2).
 use Rattle.std.specs.Prelude.{ℕ, ◌≡◌, ◌<◌, Bool, IsTrue, List, drop, length}
-use Rattle.pm_algebra.specs.Numbers.{IsBelow, Ratio, SameRatio}
-use Rattle.pm_algebra.specs.Rows.{Row, difference, dot, entry}
+use Rattle.pm_vector.specs.Numbers.{IsBelow, Ratio, SameRatio}
+use Rattle.pm_vector.specs.Rows.{Row, difference, dot, entry}
 use Rattle.pm_geom.specs.Faces.{ray}
 use lib.IntN.{ℤ, pos, ◌*ℤ◌, ◌-ℤ◌}
 use lib.Signed.{◌<ℤ◌}

@@ -1,7 +1,7 @@
 -- On which rows a facet row vanishes, as a list of places.
 use Rattle.std.specs.Prelude.{ℕ, suc, ◌==◌, List, [], ◌∷◌, ◌++◌, if◌then◌else◌, int_lt, unsigned_abs}
 use Rattle.std.specs.List.{AllPairs, Contains}
-use Rattle.pm_algebra.specs.Rows.{Row, dot, entry}
+use Rattle.pm_vector.specs.Rows.{Row, dot, entry}
 use Rattle.pm_geom.specs.Cones.{IsOrder, IsValid}
 use Rattle.pm_geom.specs.FaceCounts.{IsLexBefore}
 use Rattle.pm_lift.specs.Lifting.{upwards}

@@ -1,6 +1,6 @@
 // The sets of rows on which facet rows vanish.
 
-ghost use Rattle.pm_algebra.specs.Rows.{HasCols, dot as dot_of};
+ghost use Rattle.pm_vector.specs.Rows.{HasCols, dot as dot_of};
 ghost use Rattle.pm_lift.specs.Refusals.{ArePair, IsRowsFail, IsWideOf};
 ghost use Rattle.pm_lift.specs.ZeroSets.{AreLowerSets, lower_sets, places_from};
 ghost use Rattle.pm_lift.specs.Lifting.{upwards};

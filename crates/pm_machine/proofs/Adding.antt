@@ -1,6 +1,6 @@
 -- A value that has its form for the column count of those that are held may be added to them.
-use Rattle.pm_algebra.proofs.Filters.{any_from, map_among}
-use Rattle.pm_algebra.proofs.Lists.{Among, among_All, among_append_left, here, there}
+use Rattle.pm_vector.proofs.Filters.{any_from, map_among}
+use Rattle.pm_vector.proofs.Lists.{Among, among_All, among_append_left, here, there}
 use Rattle.pm_filing.specs.Views.{value_seen}
 use Rattle.pm_filing.specs.Whole.{are_of_different}
 use Rattle.pm_machine.specs.Built.{AreFitting, given_values}

@@ -1,5 +1,5 @@
 -- The values of new objects fit, and an object that was settled knows its columns.
-use Rattle.pm_algebra.proofs.Lists.{Contains_among}
+use Rattle.pm_vector.proofs.Lists.{Contains_among}
 use Rattle.pm_build.proofs.FormLaws.{shapes_forms}
 use Rattle.pm_build.proofs.OtherForms.{others_forms}
 use Rattle.pm_build.proofs.SumForms.{sums_forms}

@@ -1,6 +1,6 @@
 -- Following a chain: what its rules find in turn, and what stands where the round ends.
-use Rattle.pm_algebra.proofs.Filters.{among_filter, among_map, filter_among, map_among}
-use Rattle.pm_algebra.proofs.Lists.{Among, Contains_among, among_All, among_append_right, here, there}
+use Rattle.pm_vector.proofs.Filters.{among_filter, among_map, filter_among, map_among}
+use Rattle.pm_vector.proofs.Lists.{Among, Contains_among, among_All, among_append_right, here, there}
 use Rattle.pm_client.specs.Starts.{Clients, after_start, after_start_at, has_client, place_in, same_kind, started_at}
 use Rattle.pm_transact.proofs.Committing.{at_any, drop_at, named_held, read_append}
 use Rattle.pm_machine.proofs.Traces.{reaches_itself, reaches_through}

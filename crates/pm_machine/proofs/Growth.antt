@@ -1,6 +1,6 @@
 -- What objects hold stays while properties are ensured, and what was ensured is held after it: by the definitions alone.
-use Rattle.pm_algebra.proofs.Filters.{among_map}
-use Rattle.pm_algebra.proofs.Lists.{All_among, Among, among_append_left, among_append_right, here, there}
+use Rattle.pm_vector.proofs.Filters.{among_map}
+use Rattle.pm_vector.proofs.Lists.{All_among, Among, among_append_left, among_append_right, here, there}
 use Rattle.pm_command.specs.declared.building.Builder.{Builder}
 use Rattle.pm_machine.proofs.KeptObjects.{decide}
 use Rattle.pm_machine.specs.Building.{EnsuresAll, EnsuresOne, Wanted, are_of, is_of_type, row_of, same_type, wanted_all, wanted_of}

@@ -1,5 +1,5 @@
 -- A step leaves each object honest: by the definitions alone.
-use Rattle.pm_algebra.proofs.Lists.{among_Contains}
+use Rattle.pm_vector.proofs.Lists.{among_Contains}
 use Rattle.pm_machine.proofs.KeptBuilding.{build_keeps, make_keeps, parts_honest}
 use Rattle.pm_machine.proofs.KeptObjects.{all_honest, becomes_kept, becomes_part_honest, decide, ensured_kept, other_bytes, same_bytes, stays_honest, stays_kept, with_one}
 use Rattle.pm_machine.specs.Building.{row_of, wanted_all}

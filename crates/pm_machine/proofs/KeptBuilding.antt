@@ -1,6 +1,6 @@
 -- Steps that build objects leave each object honest: by the definitions alone.
-use Rattle.pm_algebra.proofs.Filters.{map_among}
-use Rattle.pm_algebra.proofs.Lists.{among_Contains}
+use Rattle.pm_vector.proofs.Filters.{map_among}
+use Rattle.pm_vector.proofs.Lists.{among_Contains}
 use Rattle.pm_command.specs.Commands.{ShapeSeen}
 use Rattle.pm_command.specs.declared.building.Builder.{Builder}
 use Rattle.pm_files.specs.Files.{SavedFile}

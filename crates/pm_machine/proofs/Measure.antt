@@ -1,5 +1,5 @@
 -- Rounds come to an end: with each that does not find all, one rule more is excluded.
-use Rattle.pm_algebra.proofs.Lists.{Among, here, there}
+use Rattle.pm_vector.proofs.Lists.{Among, here, there}
 use Rattle.pm_client.specs.Starts.{Clients}
 use Rattle.pm_machine.proofs.Barred.{any_push}
 use Rattle.pm_machine.specs.Chains.{AllHeld, place_of_rule}

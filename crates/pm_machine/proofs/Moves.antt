@@ -1,6 +1,6 @@
 -- From a draft to a transaction, one target after another.
-use Rattle.pm_algebra.proofs.Filters.{filter_among}
-use Rattle.pm_algebra.proofs.Lists.{Among, here, there}
+use Rattle.pm_vector.proofs.Filters.{filter_among}
+use Rattle.pm_vector.proofs.Lists.{Among, here, there}
 use Rattle.pm_machine.specs.Moves.{moved}
 use Rattle.pm_object.specs.Reading.{DraftSeen, Put, answer_at, answer_of, drafted, fact_at, without}
 use Rattle.pm_props.proofs.Every.{among_every}

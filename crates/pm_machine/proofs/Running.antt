@@ -1,6 +1,6 @@
 -- From a rule that is enabled to a run that may be, and from a run to a round.
-use Rattle.pm_algebra.proofs.Filters.{among_filter, among_map, filter_among, map_among}
-use Rattle.pm_algebra.proofs.Lists.{Among, Contains_among, among_All, among_Contains, here, there}
+use Rattle.pm_vector.proofs.Filters.{among_filter, among_map, filter_among, map_among}
+use Rattle.pm_vector.proofs.Lists.{Among, Contains_among, among_All, among_Contains, here, there}
 use Rattle.pm_transact.proofs.Committing.{above, ascends, both, named_held}
 use Rattle.pm_transact.specs.Commits.{FitsObject}
 use Rattle.pm_machine.specs.Events.{columns}

@@ -1,7 +1,7 @@
 -- The commands that build objects read on small machines: what they make and when, what they tell, and what they do not.
 use Rattle.std.specs.Prelude.{ℕ, ◌≡◌, ◌≢◌, false, true, None, Some, List, [], ◌∷◌, codes, length}
 use Rattle.pm_build.specs.Conditions.{polar_refusal, product_refusal, pyramid_refusal, sum_refusal}
-use Rattle.pm_algebra.specs.Rows.{Row}
+use Rattle.pm_vector.specs.Rows.{Row}
 use Rattle.pm_build.specs.Sums.{IsFirstWideSum, IsSumFile}
 use Rattle.pm_geom.specs.declared.evidence.Evidence.{Evidence}
 use Rattle.pm_refine.specs.ObjectFans.{refine_refusal}

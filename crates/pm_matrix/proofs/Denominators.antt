@@ -1,7 +1,7 @@
 -- Least common denominators, one denominator on.
-use Rattle.pm_algebra.specs.Numbers.{IsReduced, Ratio}
+use Rattle.pm_vector.specs.Numbers.{IsReduced, Ratio}
 use Rattle.pm_matrix.specs.FractionRows.{IsLeastDenominator}
-use Rattle.pm_algebra.specs.Rows.{ratio_at}
+use Rattle.pm_vector.specs.Rows.{ratio_at}
 use Rattle.pm_matrix.specs.Multiples.{IsLcm}
 use Rattle.pm_matrix.specs.Wideness.{DenominatorsStay, IsFirstWideDenominator}
 use Rattle.std.proofs.Common.{arith, below_more, inl, inr, length, pos, refl, ◌*◌, ◌+◌, ◌<◌, ◌^◌, ◌≡◌, ◌≤◌, ℕ}

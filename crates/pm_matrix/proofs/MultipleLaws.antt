@@ -1,5 +1,5 @@
 -- The least common multiple of two numbers, a / g * b for their greatest common divisor g.
-use Rattle.pm_algebra.proofs.Divisors.{common_divisor}
+use Rattle.pm_vector.proofs.DivisorLaws.{common_divisor}
 use Rattle.pm_matrix.specs.Multiples.{IsLcm}
 use Rattle.std.proofs.Common.{ap, arith, inl, inr, ◌*◌, ◌/◌, ◌<◌, ◌≡◌, ◌∙◌, ℕ}
 use Rattle.std.proofs.Math.Nat.{div-mul_cancel, dvd-mul_left, dvd-mul_right, dvd_of_mul-dvd-mul_left, dvd_of_mul-dvd-mul_right, mul-dvd-mul_left, mul-dvd-mul_right, mul_comm}

@@ -1,10 +1,10 @@
 -- The numerators over the least common denominator, and the row that they make.
-use Rattle.pm_algebra.proofs.Ring.{mul_assoc, ring}
-use Rattle.pm_algebra.proofs.RowLaws.{entry-times}
-use Rattle.pm_algebra.proofs.Signs.{times_both}
-use Rattle.pm_algebra.specs.Divisors.{IsPrimitive, IsPrimitiveOf}
-use Rattle.pm_algebra.specs.Numbers.{InRange, IsReduced, Ratio}
-use Rattle.pm_algebra.specs.Rows.{IsZero, Row, Same, Stands, entry, ratio_at, times}
+use Rattle.pm_vector.proofs.Ring.{mul_assoc, ring}
+use Rattle.pm_vector.proofs.RowLaws.{entry-times}
+use Rattle.pm_vector.proofs.Signs.{times_both}
+use Rattle.pm_vector.specs.Divisors.{IsPrimitive, IsPrimitiveOf}
+use Rattle.pm_vector.specs.Numbers.{InRange, IsReduced, Ratio}
+use Rattle.pm_vector.specs.Rows.{IsZero, Row, Same, Stands, entry, ratio_at, times}
 use Rattle.pm_matrix.specs.FractionRows.{IsLeastDenominator, numerator_over, numerators_over}
 use Rattle.pm_matrix.specs.Wideness.{DenominatorsStay, IsFirstWideNumerator, NumeratorsStay}
 use Rattle.pm_vector.proofs.Kept.{kept}

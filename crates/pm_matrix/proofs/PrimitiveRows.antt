@@ -1,6 +1,6 @@
 -- The primitive rows so far.
-use Rattle.pm_algebra.specs.Numbers.{Ratio}
-use Rattle.pm_algebra.specs.Rows.{Row, Stands}
+use Rattle.pm_vector.specs.Numbers.{Ratio}
+use Rattle.pm_vector.specs.Rows.{Row, Stands}
 use Rattle.pm_matrix.specs.FractionRows.{ArePrimitiveRowsOf, IsPrimitiveRowOf}
 use Rattle.pm_matrix.specs.Wideness.{IsWideInRow, IsWideRow, RowStays, RowsStay}
 use Rattle.pm_matrix.specs.declared.fails.RowsFail.TheVariants.{Memory, Wide}

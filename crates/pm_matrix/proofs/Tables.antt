@@ -1,6 +1,6 @@
 -- Rows of fractions, one row or one entry on. V stands for the type of a row in memory, of which `items` gives the entries.
-use Rattle.pm_algebra.specs.Numbers.{Ratio}
-use Rattle.pm_algebra.specs.Rows.{ratio_at}
+use Rattle.pm_vector.specs.Numbers.{Ratio}
+use Rattle.pm_vector.specs.Rows.{ratio_at}
 use Rattle.pm_matrix.specs.Matrices.{FractionMatrix, IsFraction, IsMatrix, IsTransposeOf}
 use Rattle.std.proofs.Common.{All, ap, arith, below_more, get_or, length, map, pos, refl, sym, take, ◌++◌, ◌+◌, ◌<◌, ◌≡◌, ◌∙◌, ℕ, List, [], ◌∷◌}
 use Rattle.std.proofs.lemmas.List.Elements.{All-nil, All-push}

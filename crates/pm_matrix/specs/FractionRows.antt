@@ -1,7 +1,7 @@
 -- Rows of fractions, and the whole rows in their direction.
-use Rattle.pm_algebra.specs.Divisors.{IsPrimitiveOf}
-use Rattle.pm_algebra.specs.Numbers.{Ratio}
-use Rattle.pm_algebra.specs.Rows.{Row, Stands, ratio_at}
+use Rattle.pm_vector.specs.Divisors.{IsPrimitiveOf}
+use Rattle.pm_vector.specs.Numbers.{Ratio}
+use Rattle.pm_vector.specs.Rows.{Row, Stands, ratio_at}
 use Rattle.std.specs.Int.{◌∣◌}
 use Rattle.std.specs.List.{slice_index_or}
 use Rattle.std.specs.Prelude.{List, [], length, map, unsigned_abs, ℕ, ◌/◌, ◌<◌, ◌≡◌, ◌↔◌}

@@ -1,6 +1,6 @@
 -- Matrices of fractions.
-use Rattle.pm_algebra.specs.Numbers.{InRangeRatio, IsReduced, Ratio}
-use Rattle.pm_algebra.specs.Rows.{ratio_at}
+use Rattle.pm_vector.specs.Numbers.{InRangeRatio, IsReduced, Ratio}
+use Rattle.pm_vector.specs.Rows.{ratio_at}
 use Rattle.std.specs.List.{All, slice_index_or}
 use Rattle.std.specs.Prelude.{List, [], length, ℕ, ◌<◌, ◌≡◌}
 

@@ -1,8 +1,8 @@
 -- When the primitive row of a row of fractions is made within the range. The numbers on the way are, column by column, the least common
 -- multiple of the denominators so far, and then, column by column, the numerator over the last of these.
-use Rattle.pm_algebra.specs.Numbers.{InRange, Ratio}
+use Rattle.pm_vector.specs.Numbers.{InRange, Ratio}
 use Rattle.pm_matrix.specs.FractionRows.{IsLeastDenominator, numerator_over}
-use Rattle.pm_algebra.specs.Rows.{ratio_at}
+use Rattle.pm_vector.specs.Rows.{ratio_at}
 use Rattle.pm_matrix.specs.declared.fails.RowFail.TheVariants.{Memory, Wide}
 use Rattle.pm_matrix.specs.declared.fails.RowFail.{RowFail}
 use Rattle.pm_matrix.specs.declared.fails.RowsFail.TheVariants.{Memory as NoMemory, Wide as WideRow}

@@ -1,8 +1,8 @@
 // Matrices of fractions.
 
-ghost use Rattle.pm_algebra.specs.Numbers.{Ratio};
+ghost use Rattle.pm_vector.specs.Numbers.{Ratio};
 ghost use Rattle.pm_matrix.specs.FractionRows.{ArePrimitiveRowsOf};
-ghost use Rattle.pm_algebra.specs.Rows.{ratio_at};
+ghost use Rattle.pm_vector.specs.Rows.{ratio_at};
 ghost use Rattle.pm_matrix.specs.Matrices.{FractionMatrix, IsFraction, IsMatrix, IsTransposeOf};
 ghost use Rattle.pm_matrix.specs.Wideness.{IsWideRow, RowsStay};
 ghost use Rattle.std.specs.Prelude.{All, IfErr, IfOk, IsErrOf, OnErr, OnOk, [], length, map, slice_index_or, ◌++◌, ◌^◌, ◌<◌, ◌∷◌, ◌≡◌, ◌≢◌, ◌↔◌};

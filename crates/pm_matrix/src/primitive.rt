@@ -1,8 +1,8 @@
 // The primitive whole row of a row of fractions.
 
-ghost use Rattle.pm_algebra.specs.Divisors.{IsPrimitive};
-ghost use Rattle.pm_algebra.specs.Numbers.{InRange, IsReduced, Ratio};
-ghost use Rattle.pm_algebra.specs.Rows.{IsZero, Stands, ratio_at};
+ghost use Rattle.pm_vector.specs.Divisors.{IsPrimitive};
+ghost use Rattle.pm_vector.specs.Numbers.{InRange, IsReduced, Ratio};
+ghost use Rattle.pm_vector.specs.Rows.{IsZero, Stands, ratio_at};
 ghost use Rattle.pm_matrix.specs.FractionRows.{IsLeastDenominator, IsPrimitiveRowOf, numerator_over, numerators_over};
 ghost use Rattle.pm_matrix.specs.Multiples.{IsLcm};
 ghost use Rattle.pm_matrix.specs.Wideness.{DenominatorsStay, IsWideAt, IsWideInRow, NumeratorsStay, RowStays};

@@ -1,5 +1,5 @@
 -- Rows that have so many entries at each place.
-use Rattle.pm_algebra.specs.Rows.{HasCols, Row}
+use Rattle.pm_vector.specs.Rows.{HasCols, Row}
 use Rattle.std.proofs.Common.{arith, get_or}
 use Rattle.std.specs.Prelude.{ℕ, suc, List, [], ◌∷◌, length, ◌<◌, ◌≡◌}
 

@@ -1,6 +1,6 @@
 // A linear program as three lines of JSON, and its answer as a line.
 
-ghost use Rattle.pm_algebra.specs.Rows.{HasCols};
+ghost use Rattle.pm_vector.specs.Rows.{HasCols};
 ghost use Rattle.std.specs.Prelude.{IfOk, IsTrue, length, ◌≡◌, ◌<◌, ◌≤◌, ◌^◌};
 
 use pm_fraction::Fraction;

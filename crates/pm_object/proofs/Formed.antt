@@ -1,5 +1,5 @@
 -- Values that are added leave all values of an object in their forms, with one column count.
-use Rattle.pm_algebra.proofs.Lists.{Among, Contains_among, among_Contains, among_append, here, there}
+use Rattle.pm_vector.proofs.Lists.{Among, Contains_among, among_Contains, among_append, here, there}
 use Rattle.pm_object_type.specs.declared.object_type.ObjectType.{ObjectType}
 use Rattle.pm_object.specs.Formed.{IsBacked, IsFormedIn, IsFormed, are_once, is_numbered, is_placed, speaks_of_rays, stands_at}
 use Rattle.pm_object.specs.Honest.{has_tag}

@@ -1,6 +1,6 @@
 -- An object stays honest.
-use Rattle.pm_algebra.proofs.Filters.{among_map, any_to, filter_among, map_among}
-use Rattle.pm_algebra.proofs.Lists.{Among, Contains_among, among_Contains, among_append, here, there}
+use Rattle.pm_vector.proofs.Filters.{among_map, any_to, filter_among, map_among}
+use Rattle.pm_vector.proofs.Lists.{Among, Contains_among, among_Contains, among_append, here, there}
 use Rattle.pm_geom.specs.Things.{Orders}
 use Rattle.pm_types.specs.Things.{Thing}
 use Rattle.pm_object_type.specs.declared.object_type.ObjectType.{ObjectType}

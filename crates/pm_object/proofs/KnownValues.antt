@@ -3,12 +3,12 @@ use Rattle.pm_object_type.specs.declared.object_type.ObjectType.TheVariants.{Con
 use Rattle.std.proofs.lemmas.List.Sums.{AllPass-from_list_all}
 use Rattle.pm_matrix.specs.Matrices.{IsFraction}
 use Rattle.pm_object.specs.Known.{IsKnown, IsOfRows, IsOfSets, cols_at, held_rows, held_sets, matrix_in, rows_at, sets_at, sets_in, value_of_sets}
-use Rattle.pm_algebra.proofs.Lists.{Contains_among, Among, among_All}
+use Rattle.pm_vector.proofs.Lists.{Contains_among, Among, among_All}
 use Rattle.pm_object.proofs.Settling.{cols_range}
 use Rattle.pm_object.proofs.Viewing.{value_forms}
 use Rattle.pm_object.specs.Formed.{IsFormed}
 use Rattle.pm_object.specs.State.{State, cols_of, read_at, value_of, is_polytope, is_held}
-use Rattle.pm_algebra.specs.Numbers.{Ratio}
+use Rattle.pm_vector.specs.Numbers.{Ratio}
 use Rattle.pm_object_type.specs.declared.object_type.ObjectType.{ObjectType}
 use Rattle.pm_props.specs.declared.property.PropId.TheVariants.{AffineHull, Facets, LinealitySpace, Vertices, VerticesInFacets}
 use Rattle.pm_props.specs.declared.property.PropId.{PropId}

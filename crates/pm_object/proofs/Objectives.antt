@@ -1,7 +1,7 @@
 -- An object stays honest with an objective that is given to a program of it: it is right in all orders, or in none.
-use Rattle.pm_algebra.proofs.Filters.{map_among}
-use Rattle.pm_algebra.proofs.Lists.{Among, Contains_among, among_Contains, among_append, among_append_left, among_append_right, here}
-use Rattle.pm_algebra.specs.Numbers.{Ratio}
+use Rattle.pm_vector.proofs.Filters.{map_among}
+use Rattle.pm_vector.proofs.Lists.{Among, Contains_among, among_Contains, among_append, among_append_left, among_append_right, here}
+use Rattle.pm_vector.specs.Numbers.{Ratio}
 use Rattle.pm_geom.specs.Things.{Orders}
 use Rattle.pm_object.proofs.Formed.{only}
 use Rattle.pm_object.proofs.Honesty.{facts_append}

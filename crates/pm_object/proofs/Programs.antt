@@ -1,5 +1,5 @@
 -- An object with one linear program more.
-use Rattle.pm_algebra.proofs.Lists.{Contains_among}
+use Rattle.pm_vector.proofs.Lists.{Contains_among}
 use Rattle.pm_object.specs.Formed.{ArePrograms, IsFormed, IsFormedIn, are_different, is_placed}
 use Rattle.pm_object.specs.State.{HeldValue, State, cols_of, is_polytope, most_programs, place_from, program_refusal, with_program}
 use Rattle.pm_props.specs.NameWords.{is_name}

@@ -1,9 +1,9 @@
 -- What goes without saying leaves all values of an object in their forms.
-use Rattle.pm_algebra.proofs.Lists.{Contains_among, all_append, here, there}
+use Rattle.pm_vector.proofs.Lists.{Contains_among, all_append, here, there}
 use Rattle.pm_object.proofs.Formed.{backed_own, own_place, Each, formed_push, held_dimension, held_stays, is_not, new_unheld, value_among, value_later, value_stays}
 use Rattle.pm_object.specs.Formed.{IsFormedIn, IsFormed, is_placed, stands_at}
 use Rattle.pm_object.specs.declared.held.Held.{Held as HeldOf}
-use Rattle.pm_algebra.specs.Numbers.{Ratio}
+use Rattle.pm_vector.specs.Numbers.{Ratio}
 use Rattle.pm_object.specs.State.{HeldValue, State, agrees, ambient_in, cols_of, first_cols, is_held, has_rounds, names_to_settle, only_if, or_else, settled, settling, value_of, with_held}
 use Rattle.pm_matrix.specs.Matrices.{IsFraction}
 use Rattle.pm_types.specs.Forms.{HasPrimitiveRow, cols_in, is_column_count, is_dimension, is_formed, is_matrix_form, is_matrix_of, is_row_of_entries, stated_cols}

@@ -1,6 +1,6 @@
 -- What stands in a view.
-use Rattle.pm_algebra.proofs.Filters.{among_map, filter_among, map_among}
-use Rattle.pm_algebra.proofs.Lists.{Among, Contains_among, among_Contains}
+use Rattle.pm_vector.proofs.Filters.{among_map, filter_among, map_among}
+use Rattle.pm_vector.proofs.Lists.{Among, Contains_among, among_Contains}
 use Rattle.pm_object.proofs.Formed.{value_among}
 use Rattle.pm_object.proofs.Settling.{cols_range}
 use Rattle.pm_object.specs.Formed.{IsFormed, is_placed}

@@ -1,6 +1,6 @@
 -- A polytope with the linear programs a and b: where their values stand, which are taken, and what seals a program.
 use Rattle.std.specs.Prelude.{ℕ, ◌≡◌, true, false, None, Some, Option, List, [], ◌∷◌, codes}
-use Rattle.pm_algebra.specs.Numbers.{Ratio}
+use Rattle.pm_vector.specs.Numbers.{Ratio}
 use Rattle.pm_object.specs.Formed.{ArePrograms, IsBacked, are_different, is_placed}
 use Rattle.pm_object.specs.Laws.{computed_at}
 use Rattle.pm_object.specs.State.{RoundSeen, State, empty_object, given_at, is_given_at, is_sealed_at, place_from, place_named, program_refusal, take_refusal, with_held, with_program, with_round}

@@ -1,11 +1,11 @@
 -- The optimum on a cone that rays and lines generate, by their products with the primitive row of the objective.
-use Rattle.pm_algebra.proofs.Lists.{Among, all_at, among_All}
-use Rattle.pm_algebra.proofs.Ring.{ring}
-use Rattle.pm_algebra.proofs.Signs.{mul_le, weaken}
-use Rattle.pm_algebra.specs.Cones.{InCone}
-use Rattle.pm_algebra.specs.Numbers.{Ratio}
-use Rattle.pm_algebra.specs.Rows.{HasCols, Row, dot, entry}
-use Rattle.pm_bases.specs.Bases.{row_at}
+use Rattle.pm_vector.proofs.Lists.{Among, all_at, among_All}
+use Rattle.pm_vector.proofs.Ring.{ring}
+use Rattle.pm_vector.proofs.Signs.{mul_le, weaken}
+use Rattle.pm_vector.specs.Cones.{InCone}
+use Rattle.pm_vector.specs.Numbers.{Ratio}
+use Rattle.pm_vector.specs.Rows.{HasCols, Row, dot, entry}
+use Rattle.pm_vector.specs.Bases.{row_at}
 use Rattle.pm_geom.specs.Programs.{HasNoPoint, IsMaximum, IsWithoutBound}
 use Rattle.pm_optima.proofs.Lists.{among_place, place_among, product_at, products_length}
 use Rattle.pm_optima.proofs.Maxima.{grows_by_line, grows_by_ray, is_maximum, no_point, value_at}

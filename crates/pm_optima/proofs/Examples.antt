@@ -1,13 +1,13 @@
 -- The examples of optima hold.
-use Rattle.pm_algebra.proofs.Lists.{All_among, Among, here, there}
-use Rattle.pm_algebra.proofs.ConeLaws.{in_generator}
-use Rattle.pm_algebra.proofs.Ring.{ring}
-use Rattle.pm_algebra.proofs.RowLaws.{entry-times}
-use Rattle.pm_algebra.proofs.Signs.{mul_le}
-use Rattle.pm_algebra.specs.Cones.{InCone}
-use Rattle.pm_algebra.specs.Numbers.{Ratio}
-use Rattle.pm_algebra.specs.Rows.{HasCols, Row, Same, Stands, dot, entry, opposite, ratio_at, times}
-use Rattle.pm_bases.specs.Bases.{row_at}
+use Rattle.pm_vector.proofs.Lists.{All_among, Among, here, there}
+use Rattle.pm_vector.proofs.ConeLaws.{in_generator}
+use Rattle.pm_vector.proofs.Ring.{ring}
+use Rattle.pm_vector.proofs.RowLaws.{entry-times}
+use Rattle.pm_vector.proofs.Signs.{mul_le}
+use Rattle.pm_vector.specs.Cones.{InCone}
+use Rattle.pm_vector.specs.Numbers.{Ratio}
+use Rattle.pm_vector.specs.Rows.{HasCols, Row, Same, Stands, dot, entry, opposite, ratio_at, times}
+use Rattle.pm_vector.specs.Bases.{row_at}
 use Rattle.pm_fraction.proofs.Quotients.{whole_reduced}
 use Rattle.pm_fraction.specs.Arithmetic.{opposite_of}
 use Rattle.pm_fraction.specs.Fractions.{IsLowestTermsOf, ratio_of}

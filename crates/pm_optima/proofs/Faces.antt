@@ -1,6 +1,6 @@
 -- The places of the rays at which an objective has a value, by the row that vanishes there; and what the refusals show.
-use Rattle.pm_algebra.specs.Numbers.{Ratio}
-use Rattle.pm_algebra.specs.Rows.{HasCols, Row, Stands}
+use Rattle.pm_vector.specs.Numbers.{Ratio}
+use Rattle.pm_vector.specs.Rows.{HasCols, Row, Stands}
 use Rattle.pm_elim.specs.Evidence.{unit}
 use Rattle.pm_geom.specs.Faces.{ray}
 use Rattle.pm_geom.specs.declared.evidence.Evidence.TheVariants.{E4}

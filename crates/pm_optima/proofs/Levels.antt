@@ -1,9 +1,9 @@
 -- The row that vanishes where an objective has a value.
-use Rattle.pm_algebra.proofs.Ring.{ring}
-use Rattle.pm_algebra.proofs.RowLaws.{dot-difference, dot_comm, entry-difference, length-difference}
-use Rattle.pm_algebra.proofs.Signs.{mul_cancel, mul_pos}
-use Rattle.pm_algebra.specs.Numbers.{Ratio}
-use Rattle.pm_algebra.specs.Rows.{Row, Stands, difference, dot, entry, ratio_at}
+use Rattle.pm_vector.proofs.Ring.{ring}
+use Rattle.pm_vector.proofs.RowLaws.{dot-difference, dot_comm, entry-difference, length-difference}
+use Rattle.pm_vector.proofs.Signs.{mul_cancel, mul_pos}
+use Rattle.pm_vector.specs.Numbers.{Ratio}
+use Rattle.pm_vector.specs.Rows.{Row, Stands, difference, dot, entry, ratio_at}
 use Rattle.pm_elim.proofs.DotLaws.{dot-unit}
 use Rattle.pm_elim.proofs.ExtendedLaws.{length-unit, unit_one, unit_zero}
 use Rattle.pm_elim.specs.Evidence.{unit}

@@ -1,7 +1,7 @@
 -- Rows of a list by their places, and products with them.
-use Rattle.pm_algebra.proofs.Lists.{Among, here, there}
-use Rattle.pm_algebra.specs.Rows.{Row, dot, entry}
-use Rattle.pm_bases.specs.Bases.{row_at}
+use Rattle.pm_vector.proofs.Lists.{Among, here, there}
+use Rattle.pm_vector.specs.Rows.{Row, dot, entry}
+use Rattle.pm_vector.specs.Bases.{row_at}
 use Rattle.std.proofs.Common.{ap, arith, refl, suc, zero}
 use Rattle.std.specs.Prelude.{List, [], length, map, ℕ, ◌<◌, ◌∷◌, ◌≡◌}
 

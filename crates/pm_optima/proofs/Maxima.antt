@@ -1,12 +1,12 @@
 -- The greatest value of an objective at the points of a cone, by the products with its rays and lines.
-use Rattle.pm_algebra.proofs.ConeLaws.{dot_in, in_generator, in_line, in_line_opposite}
-use Rattle.pm_algebra.proofs.Lists.{Among}
-use Rattle.pm_algebra.proofs.Ring.{ring}
-use Rattle.pm_algebra.proofs.RowLaws.{dot-difference, dot-same, dot-times, dot_comm, entry-opposite, entry-times, length-opposite, length-times, times-dot}
-use Rattle.pm_algebra.proofs.Signs.{le_cancel, mul_cancel, mul_le, mul_pos, weaken}
-use Rattle.pm_algebra.specs.Cones.{InCone}
-use Rattle.pm_algebra.specs.Numbers.{Ratio}
-use Rattle.pm_algebra.specs.Rows.{Row, difference, dot, entry, opposite, ratio_at, times}
+use Rattle.pm_vector.proofs.ConeLaws.{dot_in, in_generator, in_line, in_line_opposite}
+use Rattle.pm_vector.proofs.Lists.{Among}
+use Rattle.pm_vector.proofs.Ring.{ring}
+use Rattle.pm_vector.proofs.RowLaws.{dot-difference, dot-same, dot-times, dot_comm, entry-opposite, entry-times, length-opposite, length-times, times-dot}
+use Rattle.pm_vector.proofs.Signs.{le_cancel, mul_cancel, mul_le, mul_pos, weaken}
+use Rattle.pm_vector.specs.Cones.{InCone}
+use Rattle.pm_vector.specs.Numbers.{Ratio}
+use Rattle.pm_vector.specs.Rows.{Row, difference, dot, entry, opposite, ratio_at, times}
 use Rattle.pm_geom.specs.Programs.{HasNoPoint, IsMaximum, IsTimes, IsWithoutBound}
 use Rattle.pm_optima.specs.Objectives.{IsScaleOf}
 use Rattle.pm_types.specs.Programs.{HasValueAt}

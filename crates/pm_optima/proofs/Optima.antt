@@ -1,8 +1,8 @@
 -- The optimum that the products tell of, in either sense, and what the refusals show.
-use Rattle.pm_algebra.specs.Cones.{InCone}
-use Rattle.pm_algebra.specs.Numbers.{Ratio}
-use Rattle.pm_algebra.specs.Rows.{HasCols, Row, dot, entry}
-use Rattle.pm_bases.specs.Bases.{row_at}
+use Rattle.pm_vector.specs.Cones.{InCone}
+use Rattle.pm_vector.specs.Numbers.{Ratio}
+use Rattle.pm_vector.specs.Rows.{HasCols, Row, dot, entry}
+use Rattle.pm_vector.specs.Bases.{row_at}
 use Rattle.pm_fraction.specs.Arithmetic.{product_of}
 use Rattle.pm_fraction.specs.Fractions.{IsLowestTermsOf, IsTooWide}
 use Rattle.pm_geom.specs.Programs.{IsMaximum}

@@ -1,5 +1,5 @@
 -- The places of the rows on which a row vanishes, one row after the other.
-use Rattle.pm_algebra.specs.Rows.{Row, dot}
+use Rattle.pm_vector.specs.Rows.{Row, dot}
 use Rattle.pm_geom.specs.Faces.{ray}
 use Rattle.pm_optima.specs.Objectives.{AreZeroPlaces}
 use Rattle.pm_types.specs.Forms.{has_64_bits, is_counts_form}

@@ -1,9 +1,9 @@
 -- Quotients of numbers of the range, and the greatest one so far.
-use Rattle.pm_algebra.proofs.Ring.{ring}
-use Rattle.pm_algebra.proofs.Signs.{le_cancel, mul_cancel, mul_le, pos_cancel, weaken}
-use Rattle.pm_algebra.specs.Numbers.{InRange, Ratio}
-use Rattle.pm_algebra.specs.Rows.{Row, entry}
-use Rattle.pm_bases.specs.Bases.{row_at}
+use Rattle.pm_vector.proofs.Ring.{ring}
+use Rattle.pm_vector.proofs.Signs.{le_cancel, mul_cancel, mul_le, pos_cancel, weaken}
+use Rattle.pm_vector.specs.Numbers.{InRange, Ratio}
+use Rattle.pm_vector.specs.Rows.{Row, entry}
+use Rattle.pm_vector.specs.Bases.{row_at}
 use Rattle.pm_fraction.proofs.Reduced.{bezout_of}
 use Rattle.pm_fraction.specs.Fractions.{IsLowestTermsOf, IsTooWide, ratio_of}
 use Rattle.pm_fraction.specs.declared.error.NumError.TheVariants.{Wide, ZeroDenominator}

@@ -1,9 +1,9 @@
 -- The fraction by which the primitive row of an objective is multiplied, found at a place where that row is not 0.
-use Rattle.pm_algebra.proofs.Ring.{mul_assoc, ring}
-use Rattle.pm_algebra.proofs.RowLaws.{entry-times}
-use Rattle.pm_algebra.proofs.Signs.{mul_cancel, mul_pos, pos_cancel, times_both}
-use Rattle.pm_algebra.specs.Numbers.{InRange, Ratio}
-use Rattle.pm_algebra.specs.Rows.{Row, Stands, entry, ratio_at}
+use Rattle.pm_vector.proofs.Ring.{mul_assoc, ring}
+use Rattle.pm_vector.proofs.RowLaws.{entry-times}
+use Rattle.pm_vector.proofs.Signs.{mul_cancel, mul_pos, pos_cancel, times_both}
+use Rattle.pm_vector.specs.Numbers.{InRange, Ratio}
+use Rattle.pm_vector.specs.Rows.{Row, Stands, entry, ratio_at}
 use Rattle.pm_fraction.proofs.Quotients.{wide_same}
 use Rattle.pm_fraction.specs.Arithmetic.{quotient_of}
 use Rattle.pm_fraction.specs.Fractions.{IsLowestTermsOf, IsTooWide, ratio_of}

@@ -1,8 +1,8 @@
 -- What is said of an objective and its products, of the opposite ones.
-use Rattle.pm_algebra.proofs.Ring.{neg_one_mul, ring}
-use Rattle.pm_algebra.proofs.RowLaws.{entry-opposite, length-opposite, times-dot}
-use Rattle.pm_algebra.specs.Numbers.{Ratio}
-use Rattle.pm_algebra.specs.Rows.{Row, dot, entry, opposite, ratio_at}
+use Rattle.pm_vector.proofs.Ring.{neg_one_mul, ring}
+use Rattle.pm_vector.proofs.RowLaws.{entry-opposite, length-opposite, times-dot}
+use Rattle.pm_vector.specs.Numbers.{Ratio}
+use Rattle.pm_vector.specs.Rows.{Row, dot, entry, opposite, ratio_at}
 use Rattle.pm_fraction.specs.Arithmetic.{opposite_of}
 use Rattle.pm_optima.specs.Objectives.{IsScaleOf}
 use Rattle.pm_simplex.proofs.Senses.{opposite_at}

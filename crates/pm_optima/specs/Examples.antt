@@ -1,7 +1,7 @@
 -- The definitions of optima read on a segment: what holds of it, and what does not.
-use Rattle.pm_algebra.specs.Cones.{InCone}
-use Rattle.pm_algebra.specs.Numbers.{Ratio}
-use Rattle.pm_algebra.specs.Rows.{Row}
+use Rattle.pm_vector.specs.Cones.{InCone}
+use Rattle.pm_vector.specs.Numbers.{Ratio}
+use Rattle.pm_vector.specs.Rows.{Row}
 use Rattle.pm_geom.specs.ProgramExamples.{ratio, row, wholes}
 use Rattle.pm_geom.specs.declared.evidence.Evidence.TheVariants.{E4, E5Rows}
 use Rattle.pm_simplex.specs.OptimumEvidence.{IsLevelRow, ShowsLevel, ShowsMaximum, ShowsProduct}

@@ -1,6 +1,6 @@
 -- An objective and the primitive whole row in its direction; and the row that vanishes where it has a value.
-use Rattle.pm_algebra.specs.Numbers.{Ratio}
-use Rattle.pm_algebra.specs.Rows.{Row, Stands, dot, entry, ratio_at}
+use Rattle.pm_vector.specs.Numbers.{Ratio}
+use Rattle.pm_vector.specs.Rows.{Row, Stands, dot, entry, ratio_at}
 use Rattle.pm_geom.specs.Faces.{ray}
 use Rattle.pm_matrix.specs.FractionRows.{IsPrimitiveRowOf}
 use Rattle.pm_simplex.specs.OptimumEvidence.{IsLevelRow}

@@ -1,6 +1,6 @@
 // The rays at which an objective has a value.
 
-ghost use Rattle.pm_algebra.specs.Rows.{HasCols, ratio_at};
+ghost use Rattle.pm_vector.specs.Rows.{HasCols, ratio_at};
 ghost use Rattle.pm_elim.specs.Evidence.{unit};
 ghost use Rattle.pm_fraction.specs.Arithmetic.{opposite_of};
 ghost use Rattle.pm_simplex.specs.OptimumEvidence.{IsWideLevel, ShowsFace, ShowsProduct};

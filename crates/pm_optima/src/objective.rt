@@ -1,7 +1,7 @@
 // An objective as a primitive whole row, and the fraction by which that is multiplied.
 
-ghost use Rattle.pm_algebra.specs.Numbers.{InRange};
-ghost use Rattle.pm_algebra.specs.Rows.{Stands, entry};
+ghost use Rattle.pm_vector.specs.Numbers.{InRange};
+ghost use Rattle.pm_vector.specs.Rows.{Stands, entry};
 ghost use Rattle.pm_fraction.specs.Fractions.{ratio_of};
 ghost use Rattle.pm_matrix.specs.FractionRows.{IsPrimitiveRowOf};
 ghost use Rattle.pm_optima.specs.Objectives.{IsScaleOf};

@@ -1,6 +1,6 @@
 // Products of one row with others.
 
-ghost use Rattle.pm_algebra.specs.Rows.{HasCols, dot as dot_of};
+ghost use Rattle.pm_vector.specs.Rows.{HasCols, dot as dot_of};
 ghost use Rattle.pm_geom.specs.declared.evidence.Evidence.TheVariants.{E4};
 ghost use Rattle.pm_simplex.specs.OptimumEvidence.{ShowsProduct};
 ghost use Rattle.pm_simplex.specs.Fails.{IfWide};

@@ -1,6 +1,6 @@
 // Quotients of numbers by the first entries of rows.
 
-ghost use Rattle.pm_algebra.specs.Numbers.{InRange};
+ghost use Rattle.pm_vector.specs.Numbers.{InRange};
 ghost use Rattle.pm_fraction.specs.Fractions.{IsLowestTermsOf, ratio_of};
 ghost use Rattle.pm_optima.specs.Quotients.{Grows, IsBestOf, Rises, Turns};
 ghost use Rattle.std.specs.Prelude.{All, IfNone, IfSome, IsTrue, length, pos, ℕ, ◌*ℤ◌, ◌+◌, ◌<ℤ◌, ◌<◌, ◌≡◌, ◌↔◌};

@@ -1,7 +1,7 @@
 // The optimum of an objective at the points of a cone that rays and lines generate.
 
-ghost use Rattle.pm_algebra.specs.Cones.{InCone};
-ghost use Rattle.pm_algebra.specs.Rows.{HasCols, entry};
+ghost use Rattle.pm_vector.specs.Cones.{InCone};
+ghost use Rattle.pm_vector.specs.Rows.{HasCols, entry};
 ghost use Rattle.pm_simplex.specs.OptimumEvidence.{ShowsValue};
 ghost use Rattle.pm_simplex.specs.Senses.{IsOptimum};
 ghost use Rattle.pm_simplex.specs.Fails.{IfWide};

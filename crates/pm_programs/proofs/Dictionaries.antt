@@ -1,9 +1,9 @@
 -- Dictionaries: unique for their basis, and what a pivot makes of one.
-use Rattle.pm_algebra.proofs.Ring.{ring}
-use Rattle.pm_algebra.proofs.Signs.{mul_cancel}
-use Rattle.pm_algebra.specs.Numbers.{IsReduced, Ratio}
-use Rattle.pm_algebra.specs.Rows.{Row, entry}
-use Rattle.pm_bases.specs.Bases.{column, row_at}
+use Rattle.pm_vector.proofs.Ring.{ring}
+use Rattle.pm_vector.proofs.Signs.{mul_cancel}
+use Rattle.pm_vector.specs.Numbers.{IsReduced, Ratio}
+use Rattle.pm_vector.specs.Rows.{Row, entry}
+use Rattle.pm_vector.specs.Bases.{column, row_at}
 use Rattle.pm_fraction.proofs.Quotients.{reduced_opposite}
 use Rattle.pm_fraction.proofs.Reduced.{same_reduced}
 use Rattle.pm_fraction.specs.Fractions.{IsLowestTermsOf, ratio_of}

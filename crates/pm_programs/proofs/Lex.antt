@@ -1,8 +1,8 @@
 -- A strict lexicographic rise of bounded fractions is a rise of a bounded number.
-use Rattle.pm_algebra.proofs.Ring.{add-mul, mul-add, mul-neg, mul_one, ring}
-use Rattle.pm_algebra.proofs.Signs.{mul_nonneg}
-use Rattle.pm_algebra.specs.Numbers.{IsBelow, Ratio, SameRatio}
-use Rattle.pm_algebra.specs.Rows.{Row, entry, ratio_at}
+use Rattle.pm_vector.proofs.Ring.{add-mul, mul-add, mul-neg, mul_one, ring}
+use Rattle.pm_vector.proofs.Signs.{mul_nonneg}
+use Rattle.pm_vector.specs.Numbers.{IsBelow, Ratio, SameRatio}
+use Rattle.pm_vector.specs.Rows.{Row, entry, ratio_at}
 use Rattle.pm_programs.specs.Lex.{IsBounded, IsLexBelow, IsLexPositive, Rises}
 use Rattle.pm_programs.specs.LexLaws.{LexIsFinite}
 use Rattle.std.proofs.Common.{ap, arith, inl, inr, ◌∙◌}

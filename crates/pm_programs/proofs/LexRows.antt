@@ -1,8 +1,8 @@
 -- Numbers in columns that are lexicographically positive: sums and multiples, and the order in which a ratio test compares rows.
-use Rattle.pm_algebra.proofs.Lists.{Among, here, there}
-use Rattle.pm_algebra.proofs.Ring.{ring}
-use Rattle.pm_algebra.proofs.Signs.{mul_pos, pos_cancel}
-use Rattle.pm_algebra.specs.Numbers.{IsBelow, Ratio, SameRatio}
+use Rattle.pm_vector.proofs.Lists.{Among, here, there}
+use Rattle.pm_vector.proofs.Ring.{ring}
+use Rattle.pm_vector.proofs.Signs.{mul_pos, pos_cancel}
+use Rattle.pm_vector.specs.Numbers.{IsBelow, Ratio, SameRatio}
 use Rattle.pm_programs.specs.Lex.{IsLexNonNeg, IsLexPositive, Rises}
 use Rattle.std.proofs.Common.{ap, arith, inl, inr, refl, sym, ◌∙◌}
 use Rattle.std.proofs.lemmas.Int.{by_lt_z, ints}

@@ -1,8 +1,8 @@
 -- A pivot by the lexicographic rule keeps a basis feasible, and raises the objective.
-use Rattle.pm_algebra.proofs.Ring.{ring}
-use Rattle.pm_algebra.proofs.RowLaws.{entry-difference, entry-times}
-use Rattle.pm_algebra.specs.Rows.{Row, difference, entry, ratio_at, times}
-use Rattle.pm_bases.specs.Bases.{column, row_at}
+use Rattle.pm_vector.proofs.Ring.{ring}
+use Rattle.pm_vector.proofs.RowLaws.{entry-difference, entry-times}
+use Rattle.pm_vector.specs.Rows.{Row, difference, entry, ratio_at, times}
+use Rattle.pm_vector.specs.Bases.{column, row_at}
 use Rattle.pm_programs.proofs.Lex.{lex_rise}
 use Rattle.pm_programs.proofs.LexRows.{lex_sum, lex_times, value_rises}
 use Rattle.pm_programs.proofs.Tableaux.{column_other, column_set, entry_other, length_pivot, pivot_at, pivot_other}

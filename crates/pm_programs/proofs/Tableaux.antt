@@ -1,13 +1,13 @@
 -- Tableaux: unique for their basis, and kept by a pivot.
-use Rattle.pm_algebra.proofs.ConeLaws.{combination_none, in_plus, in_same}
-use Rattle.pm_algebra.proofs.Ring.{ring}
-use Rattle.pm_algebra.proofs.RowLaws.{entry-difference, entry-plus, entry-times}
-use Rattle.pm_algebra.proofs.Signs.{mul_cancel, mul_pos}
-use Rattle.pm_algebra.specs.Cones.{InSpan, combination}
-use Rattle.pm_algebra.specs.Rows.{Row, difference, entry, times}
-use Rattle.pm_bases.proofs.Columns.{coefficient, combination_at, combination_zero}
-use Rattle.pm_bases.proofs.Spans.{place_of, same_span, same_span_sym, same_span_trans, span_at, span_difference, span_divide, span_from, span_times}
-use Rattle.pm_bases.specs.Bases.{SameSpan, column, row_at}
+use Rattle.pm_vector.proofs.ConeLaws.{combination_none, in_plus, in_same}
+use Rattle.pm_vector.proofs.Ring.{ring}
+use Rattle.pm_vector.proofs.RowLaws.{entry-difference, entry-plus, entry-times}
+use Rattle.pm_vector.proofs.Signs.{mul_cancel, mul_pos}
+use Rattle.pm_vector.specs.Cones.{InSpan, combination}
+use Rattle.pm_vector.specs.Rows.{Row, difference, entry, times}
+use Rattle.pm_vector.proofs.Columns.{coefficient, combination_at, combination_zero}
+use Rattle.pm_vector.proofs.Spans.{place_of, same_span, same_span_sym, same_span_trans, span_at, span_difference, span_divide, span_from, span_times}
+use Rattle.pm_vector.specs.Bases.{SameSpan, column, row_at}
 use Rattle.pm_programs.specs.TableauLaws.{PivotIsTableau, TableauIsUnique}
 use Rattle.pm_programs.specs.Tableaux.{IsSign, IsTableau, pivot_row, pivot_rows}
 use Rattle.std.proofs.Common.{ap, arith, inl, inr, refl, subst, sym, ◌∙◌}

@@ -1,9 +1,9 @@
 -- Dictionaries (Chvatal, Linear Programming, chapter 2): each basic variable as an affine function of the others, by fractions in lowest terms.
 use Rattle.std.specs.Prelude.{ℕ, ◌≡◌, ◌<◌, ◌⊎◌, List, [], length}
 use Rattle.std.specs.List.{slice_index_or}
-use Rattle.pm_algebra.specs.Numbers.{InRangeRatio, Ratio}
-use Rattle.pm_algebra.specs.Rows.{Row, entry, ratio_at}
-use Rattle.pm_bases.specs.Bases.{row_at, column}
+use Rattle.pm_vector.specs.Numbers.{InRangeRatio, Ratio}
+use Rattle.pm_vector.specs.Rows.{Row, entry, ratio_at}
+use Rattle.pm_vector.specs.Bases.{row_at, column}
 use Rattle.pm_fraction.specs.Arithmetic.{SumLeaves, opposite_of, product_of, quotient_of, sum_of}
 use Rattle.pm_fraction.specs.Fractions.{IsLowestTermsOf, IsTooWide, ratio_of}
 use Rattle.pm_programs.specs.Tableaux.{IsTableauOf}

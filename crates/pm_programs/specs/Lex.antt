@@ -1,7 +1,7 @@
 -- Lists of numbers in lexicographic order.
 use Rattle.std.specs.Prelude.{ℕ, zero, suc, ◌≡◌, ◌⊎◌, List, [], ◌∷◌, map}
-use Rattle.pm_algebra.specs.Numbers.{Ratio, SameRatio, IsBelow}
-use Rattle.pm_algebra.specs.Rows.{Row, entry}
+use Rattle.pm_vector.specs.Numbers.{Ratio, SameRatio, IsBelow}
+use Rattle.pm_vector.specs.Rows.{Row, entry}
 use lib.IntN.{ℤ, pos, neg_ℤ}
 use lib.Signed.{◌<ℤ◌, ◌≤ℤ◌}
 

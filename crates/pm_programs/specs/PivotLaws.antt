@@ -1,8 +1,8 @@
 -- The laws of pivots by the lexicographic rule.
 use Rattle.std.specs.Prelude.{Bool, ℕ, ◌≡◌, ◌<◌, ◌∷◌, IsTrue, List, length, slice_set}
-use Rattle.pm_algebra.specs.Numbers.{Ratio}
-use Rattle.pm_algebra.specs.Rows.{Row, entry}
-use Rattle.pm_bases.specs.Bases.{row_at, column}
+use Rattle.pm_vector.specs.Numbers.{Ratio}
+use Rattle.pm_vector.specs.Rows.{Row, entry}
+use Rattle.pm_vector.specs.Bases.{row_at, column}
 use Rattle.pm_programs.specs.Lex.{IsLexBelow}
 use Rattle.pm_programs.specs.Pivots.{IsLexFeasible, IsRatioTest, Writes}
 use Rattle.pm_programs.specs.Tableaux.{IsSign, IsTableau, pivot_rows}

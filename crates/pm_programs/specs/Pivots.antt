@@ -1,9 +1,9 @@
 -- Pivots by the lexicographic rule (Dantzig, Orden and Wolfe; Chvatal, Linear Programming, chapter 3). The columns K begin with 0 and then list the slacks: the constants
 -- are disturbed by a different small number for each inequality, in a fixed order, and a basis is feasible where the disturbed constants are positive.
 use Rattle.std.specs.Prelude.{Bool, ℕ, ◌≡◌, ◌<◌, IsTrue, List, length}
-use Rattle.pm_algebra.specs.Numbers.{Ratio}
-use Rattle.pm_algebra.specs.Rows.{Row, entry, ratio_at}
-use Rattle.pm_bases.specs.Bases.{row_at, column}
+use Rattle.pm_vector.specs.Numbers.{Ratio}
+use Rattle.pm_vector.specs.Rows.{Row, entry, ratio_at}
+use Rattle.pm_vector.specs.Bases.{row_at, column}
 use Rattle.pm_programs.specs.Lex.{IsLexPositive, key, keys}
 use Rattle.pm_programs.specs.Tableaux.{pivot_row}
 use lib.IntN.{ℤ, pos, ◌*ℤ◌}

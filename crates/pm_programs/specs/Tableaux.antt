@@ -1,8 +1,8 @@
 -- Tableaux: linear equations solved for the variables of a basis (Chvatal, Linear Programming, chapter 2). A row (a_0, a_1, .., a_N) stands for the
 -- equation a_0 + a_1 x_1 + .. + a_N x_N = 0; the variable x_v has the column v, and the column 0 is that of the numbers a_0.
 use Rattle.std.specs.Prelude.{ℕ, ◌≡◌, ◌<◌, ◌⊎◌, List, length, map, slice_set}
-use Rattle.pm_algebra.specs.Rows.{Row, entry, times, difference}
-use Rattle.pm_bases.specs.Bases.{row_at, column, SameSpan}
+use Rattle.pm_vector.specs.Rows.{Row, entry, times, difference}
+use Rattle.pm_vector.specs.Bases.{row_at, column, SameSpan}
 use lib.IntN.{ℤ, pos, negsuc, ◌*ℤ◌}
 use lib.Signed.{◌<ℤ◌}
 

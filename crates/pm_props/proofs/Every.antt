@@ -7,8 +7,8 @@ use Rattle.std.proofs.lemmas.Bool.{cases_Bool, and_parts, and_cases, not-true, n
 use Rattle.pm_props.specs.declared.property.PropId.{PropId}
 use Rattle.pm_props.specs.Properties.{number, every_property}
 use Rattle.pm_props.specs.Sets.{has, only, union, set_of, IsSubset}
-use Rattle.pm_algebra.proofs.Filters.{among_filter, any_from, any_to, filter_among}
-use Rattle.pm_algebra.proofs.Lists.{Among, here, there}
+use Rattle.pm_vector.proofs.Filters.{among_filter, any_from, any_to, filter_among}
+use Rattle.pm_vector.proofs.Lists.{Among, here, there}
 use Rattle.pm_props.proofs.Members.{has-empty, has-only, has-union}
 use Rattle.pm_props.proofs.Numbers.{number_is, property_at-number}
 

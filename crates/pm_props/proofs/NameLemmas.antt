@@ -8,7 +8,7 @@ use Rattle.pm_object_type.specs.declared.object_type.ObjectType.{ObjectType}
 use Rattle.pm_object_type.specs.declared.object_type.ObjectType.TheVariants.{Polytope, Cone, Fan}
 use Rattle.pm_props.specs.declared.property.PropId.{PropId}
 use Rattle.pm_props.specs.Properties.{every_property, first_name, cone_name, fan_name, name_in, has, has_program}
-use Rattle.pm_algebra.proofs.Lists.{Among, here, there}
+use Rattle.pm_vector.proofs.Lists.{Among, here, there}
 use Rattle.pm_props.proofs.Every.{all_properties, among_every}
 use Rattle.pm_props.proofs.Places.{same_property_is}
 use Rattle.pm_props.specs.Places.{same_property}

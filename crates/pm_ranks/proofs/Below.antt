@@ -1,12 +1,12 @@
 -- A face with some ray has a face in it that spans one dimension less: it is cut by a facet row of the cone that the rays of the face generate.
-use Rattle.pm_algebra.proofs.ConeLaws.{in_generator, in_line, in_line_opposite, in_through}
-use Rattle.pm_algebra.proofs.Lists.{All_among, Among, all_append, all_from, among_All, here, there}
-use Rattle.pm_algebra.proofs.Ring.{ring}
-use Rattle.pm_algebra.proofs.RowLaws.{length-opposite, length-plus, length-times, plus-dot, times-dot}
-use Rattle.pm_algebra.specs.Cones.{InCone}
-use Rattle.pm_algebra.specs.Rows.{HasCols, Row, dot, opposite, plus, times}
-use Rattle.pm_bases.proofs.Spans.{at_place, place_of}
-use Rattle.pm_bases.specs.Bases.{IsRank}
+use Rattle.pm_vector.proofs.ConeLaws.{in_generator, in_line, in_line_opposite, in_through}
+use Rattle.pm_vector.proofs.Lists.{All_among, Among, all_append, all_from, among_All, here, there}
+use Rattle.pm_vector.proofs.Ring.{ring}
+use Rattle.pm_vector.proofs.RowLaws.{length-opposite, length-plus, length-times, plus-dot, times-dot}
+use Rattle.pm_vector.specs.Cones.{InCone}
+use Rattle.pm_vector.specs.Rows.{HasCols, Row, dot, opposite, plus, times}
+use Rattle.pm_vector.proofs.Spans.{at_place, place_of}
+use Rattle.pm_vector.specs.Bases.{IsRank}
 use Rattle.pm_geom.proofs.Dimension.{rank_exists}
 use Rattle.pm_geom.proofs.Facets.{dot-opposite, facet_rows_cut_out, opposite-dot, valid_by_products}
 use Rattle.pm_geom.proofs.Independent.{decide_zero}

@@ -1,8 +1,8 @@
 -- The rows at chosen places; and a multiple of a row that is large enough on a list.
-use Rattle.pm_algebra.proofs.Lists.{Among, here, there}
-use Rattle.pm_algebra.proofs.Ring.{ring}
-use Rattle.pm_algebra.proofs.Signs.{mul_nonneg}
-use Rattle.pm_algebra.specs.Rows.{Row, dot}
+use Rattle.pm_vector.proofs.Lists.{Among, here, there}
+use Rattle.pm_vector.proofs.Ring.{ring}
+use Rattle.pm_vector.proofs.Signs.{mul_nonneg}
+use Rattle.pm_vector.specs.Rows.{Row, dot}
 use Rattle.pm_geom.specs.Faces.{ray}
 use Rattle.pm_ranks.specs.Chosen.{chosen, keep}
 use Rattle.std.proofs.Common.{arith, inl, inr, refl, subst}

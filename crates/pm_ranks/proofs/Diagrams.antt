@@ -1,6 +1,6 @@
 -- All faces by their ranks: the last rank is that of the whole.
-use Rattle.pm_algebra.proofs.Lists.{Among, among_All, among_Contains, here, there}
-use Rattle.pm_algebra.specs.Rows.{Row}
+use Rattle.pm_vector.proofs.Lists.{Among, among_All, among_Contains, here, there}
+use Rattle.pm_vector.specs.Rows.{Row}
 use Rattle.pm_geom.specs.FaceCounts.{IsHasseDiagram, SamePlaces, at_rank, f_of, inner}
 use Rattle.pm_geom.specs.Faces.{HasChain, HasRank, IsFace}
 use Rattle.pm_geom.specs.Graphs.{IsAscending, holds}

@@ -1,5 +1,5 @@
 -- A connected graph has a diameter.
-use Rattle.pm_algebra.proofs.Lists.{Among, Contains_among, among_Contains, here, there}
+use Rattle.pm_vector.proofs.Lists.{Among, Contains_among, among_Contains, here, there}
 use Rattle.pm_geom.proofs.SmallGraphs.{distance_at_most}
 use Rattle.pm_geom.specs.Graphs.{AreNeighbours, IsConnected, IsDiameter, IsDistance, IsEdge, IsRidge, IsWalk}
 use Rattle.pm_ranks.proofs.Dual.{dual_graph_is_connected}

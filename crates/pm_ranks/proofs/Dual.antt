@@ -1,11 +1,11 @@
 -- The graph of the facets is that of the extreme rays of the cone of the valid rows.
-use Rattle.pm_algebra.proofs.ConeLaws.{dot_in, in_line}
-use Rattle.pm_algebra.proofs.Lists.{Among, among_All}
-use Rattle.pm_algebra.proofs.Ring.{ring}
-use Rattle.pm_algebra.proofs.RowLaws.{dot_comm, length-plus, plus-dot}
-use Rattle.pm_algebra.specs.Cones.{InCone, InSpan}
-use Rattle.pm_algebra.specs.Rows.{HasCols, Row, difference, dot, plus}
-use Rattle.pm_bases.proofs.Spans.{at_place, place_of}
+use Rattle.pm_vector.proofs.ConeLaws.{dot_in, in_line}
+use Rattle.pm_vector.proofs.Lists.{Among, among_All}
+use Rattle.pm_vector.proofs.Ring.{ring}
+use Rattle.pm_vector.proofs.RowLaws.{dot_comm, length-plus, plus-dot}
+use Rattle.pm_vector.specs.Cones.{InCone, InSpan}
+use Rattle.pm_vector.specs.Rows.{HasCols, Row, difference, dot, plus}
+use Rattle.pm_vector.proofs.Spans.{at_place, place_of}
 use Rattle.pm_geom.proofs.Faces.{difference-dot}
 use Rattle.pm_geom.proofs.Facets.{Duals, duals, order_as, order_generates}
 use Rattle.pm_geom.proofs.Polar.{bipolar, cols_at}

@@ -1,7 +1,7 @@
 -- Two rays are an edge exactly where no third ray lies in each facet in which both lie.
-use Rattle.pm_algebra.proofs.Lists.{All_among, Among, Contains_among, among_All, among_Contains}
-use Rattle.pm_algebra.specs.Rows.{Row, dot}
-use Rattle.pm_bases.proofs.Spans.{place_of}
+use Rattle.pm_vector.proofs.Lists.{All_among, Among, Contains_among, among_All, among_Contains}
+use Rattle.pm_vector.specs.Rows.{Row, dot}
+use Rattle.pm_vector.proofs.Spans.{place_of}
 use Rattle.pm_geom.proofs.Faces.{face_of_facets}
 use Rattle.pm_geom.specs.Faces.{IsFace, ray}
 use Rattle.pm_geom.specs.Graphs.{pair_of}

@@ -1,11 +1,11 @@
 -- The neighbours of an extreme ray r: with r and the lineality they generate a cone that has the cone in it, and each of them is with r a face.
-use Rattle.pm_algebra.proofs.ConeLaws.{in_generator, in_line, in_line_opposite, in_more_lines}
-use Rattle.pm_algebra.proofs.Lists.{Among, among_All, here, there}
-use Rattle.pm_algebra.proofs.Ring.{ring}
-use Rattle.pm_algebra.proofs.RowLaws.{dot-plus, dot-same, dot-times, entry-plus, entry-times}
-use Rattle.pm_algebra.proofs.Signs.{mul_cancel, mul_pos, times_both}
-use Rattle.pm_algebra.specs.Cones.{InCone}
-use Rattle.pm_algebra.specs.Rows.{HasCols, Row, dot, entry, opposite, plus, times}
+use Rattle.pm_vector.proofs.ConeLaws.{in_generator, in_line, in_line_opposite, in_more_lines}
+use Rattle.pm_vector.proofs.Lists.{Among, among_All, here, there}
+use Rattle.pm_vector.proofs.Ring.{ring}
+use Rattle.pm_vector.proofs.RowLaws.{dot-plus, dot-same, dot-times, entry-plus, entry-times}
+use Rattle.pm_vector.proofs.Signs.{mul_cancel, mul_pos, times_both}
+use Rattle.pm_vector.specs.Cones.{InCone}
+use Rattle.pm_vector.specs.Rows.{HasCols, Row, dot, entry, opposite, plus, times}
 use Rattle.pm_geom.proofs.Polar.{cols_at}
 use Rattle.pm_geom.proofs.Reduce.{generators}
 use Rattle.pm_geom.specs.Cones.{InLineality, IsExtreme, IsValid, SameModulo}

@@ -1,11 +1,11 @@
 -- Facets, ridges and ranks of any cone.
-use Rattle.pm_algebra.proofs.ConeLaws.{in_line, in_line_opposite}
-use Rattle.pm_algebra.proofs.Lists.{among_All}
-use Rattle.pm_algebra.proofs.RowLaws.{dot-zeros, length-zeros, zeros}
-use Rattle.pm_algebra.specs.Cones.{InCone, InSpan}
-use Rattle.pm_algebra.specs.Rows.{HasCols, Row, dot}
-use Rattle.pm_bases.proofs.Spans.{at_place, place_of}
-use Rattle.pm_bases.specs.Bases.{IsRank}
+use Rattle.pm_vector.proofs.ConeLaws.{in_line, in_line_opposite}
+use Rattle.pm_vector.proofs.Lists.{among_All}
+use Rattle.pm_vector.proofs.RowLaws.{dot-zeros, length-zeros, zeros}
+use Rattle.pm_vector.specs.Cones.{InCone, InSpan}
+use Rattle.pm_vector.specs.Rows.{HasCols, Row, dot}
+use Rattle.pm_vector.proofs.Spans.{at_place, place_of}
+use Rattle.pm_vector.specs.Bases.{IsRank}
 use Rattle.pm_geom.proofs.Dimension.{rank_exists}
 use Rattle.pm_geom.proofs.Facets.{facet_rows_cut_out, order_as}
 use Rattle.pm_geom.proofs.Polar.{cols_at}

@@ -1,5 +1,5 @@
 -- Walks in the graph of a relation are those along its lists of neighbours.
-use Rattle.pm_algebra.proofs.Lists.{Among, among_All, among_Contains, here, there}
+use Rattle.pm_vector.proofs.Lists.{Among, among_All, among_Contains, here, there}
 use Rattle.pm_geom.specs.Graphs.{AreNeighbours, IsAscending, IsConnected, IsDiameter, IsDistance, IsGraph, IsGreatestDistance, IsWalk}
 use Rattle.std.proofs.Common.{arith, inl, inr}
 use Rattle.std.specs.List.{slice_index_or}

@@ -1,12 +1,12 @@
 -- The faces of rank 1 less than the whole are the facets.
-use Rattle.pm_algebra.proofs.ConeLaws.{in_generator, in_line, in_line_opposite}
-use Rattle.pm_algebra.proofs.Lists.{Among, among_All, among_append, among_append_left, among_append_right, here, there}
-use Rattle.pm_algebra.proofs.RowLaws.{dot_comm}
-use Rattle.pm_algebra.specs.Cones.{InCone, InSpan}
-use Rattle.pm_algebra.specs.Rows.{HasCols, Row, dot}
-use Rattle.pm_bases.proofs.Rank.{rank_is_determined}
-use Rattle.pm_bases.proofs.Spans.{at_place, place_of, same_span}
-use Rattle.pm_bases.specs.Bases.{IsRank}
+use Rattle.pm_vector.proofs.ConeLaws.{in_generator, in_line, in_line_opposite}
+use Rattle.pm_vector.proofs.Lists.{Among, among_All, among_append, among_append_left, among_append_right, here, there}
+use Rattle.pm_vector.proofs.RowLaws.{dot_comm}
+use Rattle.pm_vector.specs.Cones.{InCone, InSpan}
+use Rattle.pm_vector.specs.Rows.{HasCols, Row, dot}
+use Rattle.pm_vector.proofs.Rank.{rank_is_determined}
+use Rattle.pm_vector.proofs.Spans.{at_place, place_of, same_span}
+use Rattle.pm_vector.specs.Bases.{IsRank}
 use Rattle.pm_elim.proofs.DotLaws.{dot_span_zero}
 use Rattle.pm_geom.proofs.Polar.{cols_at}
 use Rattle.pm_geom.proofs.ValidRows.{null_in}

@@ -1,9 +1,9 @@
 -- The line through (1,0,0) along (0,1,0).
-use Rattle.pm_algebra.proofs.ConeLaws.{in_of, lines_opposite, none_to_zero}
-use Rattle.pm_algebra.specs.Cones.{InCone, InSpan}
-use Rattle.pm_algebra.specs.Rows.{Row}
-use Rattle.pm_bases.proofs.Spans.{same_span_refl}
-use Rattle.pm_bases.specs.Bases.{IsRank}
+use Rattle.pm_vector.proofs.ConeLaws.{in_of, lines_opposite, none_to_zero}
+use Rattle.pm_vector.specs.Cones.{InCone, InSpan}
+use Rattle.pm_vector.specs.Rows.{Row}
+use Rattle.pm_vector.proofs.Spans.{same_span_refl}
+use Rattle.pm_vector.specs.Bases.{IsRank}
 use Rattle.pm_geom.proofs.Apart.{lineality_spanned}
 use Rattle.pm_geom.proofs.SmallThings.{line_is_read}
 use Rattle.pm_geom.specs.Cones.{InLineality}

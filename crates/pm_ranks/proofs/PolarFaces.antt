@@ -1,14 +1,14 @@
 -- The polar of a face: the places of the facet rows that vanish on it. Ranks of the two add up to that of the whole.
-use Rattle.pm_algebra.proofs.ConeLaws.{After, dot_in, in_generator, in_line, in_line_opposite, in_plus, in_same, in_to_after}
-use Rattle.pm_algebra.proofs.Lists.{Among, all_append, all_from, among_All, among_append, among_append_left, among_append_right, here, there}
-use Rattle.pm_algebra.proofs.Ring.{ring}
-use Rattle.pm_algebra.proofs.RowLaws.{dot_comm, entry-difference, entry-plus, entry-times, length-difference}
-use Rattle.pm_algebra.proofs.Signs.{mul_cancel, mul_nonneg, weaken}
-use Rattle.pm_algebra.specs.Cones.{InCone, InSpan}
-use Rattle.pm_algebra.specs.Rows.{HasCols, Row, difference, dot}
-use Rattle.pm_bases.proofs.Rank.{rank_is_determined}
-use Rattle.pm_bases.proofs.Spans.{at_place, place_of, span_difference, span_divide, span_from, span_of, span_times, span_to}
-use Rattle.pm_bases.specs.Bases.{IsRank}
+use Rattle.pm_vector.proofs.ConeLaws.{After, dot_in, in_generator, in_line, in_line_opposite, in_plus, in_same, in_to_after}
+use Rattle.pm_vector.proofs.Lists.{Among, all_append, all_from, among_All, among_append, among_append_left, among_append_right, here, there}
+use Rattle.pm_vector.proofs.Ring.{ring}
+use Rattle.pm_vector.proofs.RowLaws.{dot_comm, entry-difference, entry-plus, entry-times, length-difference}
+use Rattle.pm_vector.proofs.Signs.{mul_cancel, mul_nonneg, weaken}
+use Rattle.pm_vector.specs.Cones.{InCone, InSpan}
+use Rattle.pm_vector.specs.Rows.{HasCols, Row, difference, dot}
+use Rattle.pm_vector.proofs.Rank.{rank_is_determined}
+use Rattle.pm_vector.proofs.Spans.{at_place, place_of, span_difference, span_divide, span_from, span_of, span_times, span_to}
+use Rattle.pm_vector.specs.Bases.{IsRank}
 use Rattle.pm_elim.proofs.DotLaws.{dot_span_zero}
 use Rattle.pm_geom.proofs.Dimension.{rank_is_left, some_basis}
 use Rattle.pm_geom.proofs.Faces.{difference-dot, total, total_back, total_down, total_valid}

@@ -1,5 +1,5 @@
 -- Chains and ranks of faces: a face has one rank, and ranks rise with the faces.
-use Rattle.pm_algebra.specs.Rows.{Row}
+use Rattle.pm_vector.specs.Rows.{Row}
 use Rattle.pm_geom.specs.Faces.{HasChain, HasRank}
 use Rattle.pm_ranks.proofs.Ranks.{shorten}
 use Rattle.pm_ranks.specs.Laws.{RanksDescend, RanksRise}

@@ -1,11 +1,11 @@
 -- The rank of a face is the dimension of its span less that of the lineality.
-use Rattle.pm_algebra.proofs.ConeLaws.{in_line, in_line_opposite}
-use Rattle.pm_algebra.proofs.Lists.{Among, all_append, all_from, among_All, among_append, among_append_left, among_append_right, here, there}
-use Rattle.pm_algebra.specs.Cones.{InCone, InSpan, IsIndependent}
-use Rattle.pm_algebra.specs.Rows.{HasCols, Row, dot}
-use Rattle.pm_bases.proofs.Rank.{independent_are_few, rank_is_determined}
-use Rattle.pm_bases.proofs.Spans.{at_place, span_from, span_of, span_to}
-use Rattle.pm_bases.specs.Bases.{IsRank, row_at}
+use Rattle.pm_vector.proofs.ConeLaws.{in_line, in_line_opposite}
+use Rattle.pm_vector.proofs.Lists.{Among, all_append, all_from, among_All, among_append, among_append_left, among_append_right, here, there}
+use Rattle.pm_vector.specs.Cones.{InCone, InSpan, IsIndependent}
+use Rattle.pm_vector.specs.Rows.{HasCols, Row, dot}
+use Rattle.pm_vector.proofs.Rank.{independent_are_few, rank_is_determined}
+use Rattle.pm_vector.proofs.Spans.{at_place, span_from, span_of, span_to}
+use Rattle.pm_vector.specs.Bases.{IsRank, row_at}
 use Rattle.pm_elim.proofs.DotLaws.{dot_span_zero}
 use Rattle.pm_geom.proofs.Dimension.{rank_exists}
 use Rattle.pm_geom.proofs.Facets.{order_as, order_generates}

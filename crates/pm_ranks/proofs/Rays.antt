@@ -1,9 +1,9 @@
 -- The rays of an order: they differ, and for each there is a valid row that is 0 on it alone.
-use Rattle.pm_algebra.proofs.ConeLaws.{in_generator, in_line, in_line_opposite}
-use Rattle.pm_algebra.proofs.Lists.{Among, among_All, here}
-use Rattle.pm_algebra.specs.Cones.{InCone}
-use Rattle.pm_algebra.specs.Rows.{HasCols, Row, dot}
-use Rattle.pm_bases.proofs.Spans.{at_place}
+use Rattle.pm_vector.proofs.ConeLaws.{in_generator, in_line, in_line_opposite}
+use Rattle.pm_vector.proofs.Lists.{Among, among_All, here}
+use Rattle.pm_vector.specs.Cones.{InCone}
+use Rattle.pm_vector.specs.Rows.{HasCols, Row, dot}
+use Rattle.pm_vector.proofs.Spans.{at_place}
 use Rattle.pm_geom.proofs.Polar.{cols_at}
 use Rattle.pm_geom.specs.Cones.{IsExtreme, IsOrder, IsValid, SameModulo}
 use Rattle.pm_geom.specs.Faces.{ray}

@@ -1,10 +1,10 @@
 -- Two facets meet in a ridge exactly where no third facet holds all rays that they share.
-use Rattle.pm_algebra.proofs.Lists.{Among}
-use Rattle.pm_algebra.proofs.RowLaws.{length-plus, plus-dot}
-use Rattle.pm_algebra.specs.Cones.{InCone, InSpan}
-use Rattle.pm_algebra.specs.Rows.{HasCols, Row, dot, plus}
-use Rattle.pm_bases.proofs.Spans.{at_place}
-use Rattle.pm_bases.specs.Bases.{IsRank}
+use Rattle.pm_vector.proofs.Lists.{Among}
+use Rattle.pm_vector.proofs.RowLaws.{length-plus, plus-dot}
+use Rattle.pm_vector.specs.Cones.{InCone, InSpan}
+use Rattle.pm_vector.specs.Rows.{HasCols, Row, dot, plus}
+use Rattle.pm_vector.proofs.Spans.{at_place}
+use Rattle.pm_vector.specs.Bases.{IsRank}
 use Rattle.pm_geom.specs.Cones.{IsExtreme, IsOrder, IsValid, Vanishes}
 use Rattle.pm_geom.specs.Faces.{HasRank, IsFace, ray}
 use Rattle.pm_ranks.proofs.Chosen.{chosen_from}

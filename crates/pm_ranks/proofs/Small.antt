@@ -1,13 +1,13 @@
 -- The faces of rank 1 and 2.
-use Rattle.pm_algebra.proofs.ConeLaws.{in_line, in_of, line_to_after, lines_opposite}
-use Rattle.pm_algebra.proofs.Lists.{Among, among_append, among_append_left, among_append_right, here, there}
-use Rattle.pm_algebra.proofs.Ring.{ring}
-use Rattle.pm_algebra.proofs.RowLaws.{entry-difference, entry-opposite, length-difference, length-opposite}
-use Rattle.pm_algebra.proofs.Signs.{mul_pos}
-use Rattle.pm_algebra.specs.Cones.{InCone, InSpan}
-use Rattle.pm_algebra.specs.Rows.{HasCols, Row, difference, dot, entry, opposite}
-use Rattle.pm_bases.proofs.Spans.{at_place, same_span, same_span_trans, span_from, span_of, span_to}
-use Rattle.pm_bases.specs.Bases.{IsRank, SameSpan}
+use Rattle.pm_vector.proofs.ConeLaws.{in_line, in_of, line_to_after, lines_opposite}
+use Rattle.pm_vector.proofs.Lists.{Among, among_append, among_append_left, among_append_right, here, there}
+use Rattle.pm_vector.proofs.Ring.{ring}
+use Rattle.pm_vector.proofs.RowLaws.{entry-difference, entry-opposite, length-difference, length-opposite}
+use Rattle.pm_vector.proofs.Signs.{mul_pos}
+use Rattle.pm_vector.specs.Cones.{InCone, InSpan}
+use Rattle.pm_vector.specs.Rows.{HasCols, Row, difference, dot, entry, opposite}
+use Rattle.pm_vector.proofs.Spans.{at_place, same_span, same_span_trans, span_from, span_of, span_to}
+use Rattle.pm_vector.specs.Bases.{IsRank, SameSpan}
 use Rattle.pm_geom.proofs.Independent.{independent_more}
 use Rattle.pm_geom.specs.Cones.{InLineality, IsExtreme, IsOrder}
 use Rattle.pm_geom.specs.Faces.{HasRank, IsFace, IsStrictlyIn, ray}

@@ -1,10 +1,10 @@
 -- The unit square: ranks, edges of its graph and of that of its facets.
-use Rattle.pm_algebra.proofs.ConeLaws.{dot_in}
-use Rattle.pm_algebra.proofs.Lists.{Among, here, there}
-use Rattle.pm_algebra.proofs.RowLaws.{dot-zeros, length-zeros, zeros}
-use Rattle.pm_algebra.specs.Rows.{HasCols, Row, dot}
-use Rattle.pm_bases.proofs.Spans.{same_span_refl}
-use Rattle.pm_bases.specs.Bases.{IsRank}
+use Rattle.pm_vector.proofs.ConeLaws.{dot_in}
+use Rattle.pm_vector.proofs.Lists.{Among, here, there}
+use Rattle.pm_vector.proofs.RowLaws.{dot-zeros, length-zeros, zeros}
+use Rattle.pm_vector.specs.Rows.{HasCols, Row, dot}
+use Rattle.pm_vector.proofs.Spans.{same_span_refl}
+use Rattle.pm_vector.specs.Bases.{IsRank}
 use Rattle.pm_geom.proofs.SmallGraphs.{square_graph_is_read}
 use Rattle.pm_geom.proofs.Square.{pointed, square_is_read}
 use Rattle.pm_geom.specs.Examples.{edges, square, triple}

@@ -1,12 +1,12 @@
 -- Walks to a place s along edges on which b / c falls, where b is 0 on the ray at s and positive on the others, and c is positive on all rays.
-use Rattle.pm_algebra.proofs.ConeLaws.{dot_in, in_generator}
-use Rattle.pm_algebra.proofs.Lists.{Among, here, there}
-use Rattle.pm_algebra.proofs.Ring.{ring}
-use Rattle.pm_algebra.proofs.RowLaws.{dot-difference, dot_comm}
-use Rattle.pm_algebra.proofs.Signs.{mul_pos, pos_cancel}
-use Rattle.pm_algebra.specs.Cones.{InCone, InSpan}
-use Rattle.pm_algebra.specs.Rows.{HasCols, Row, difference, dot}
-use Rattle.pm_bases.proofs.Spans.{at_place, place_of}
+use Rattle.pm_vector.proofs.ConeLaws.{dot_in, in_generator}
+use Rattle.pm_vector.proofs.Lists.{Among, here, there}
+use Rattle.pm_vector.proofs.Ring.{ring}
+use Rattle.pm_vector.proofs.RowLaws.{dot-difference, dot_comm}
+use Rattle.pm_vector.proofs.Signs.{mul_pos, pos_cancel}
+use Rattle.pm_vector.specs.Cones.{InCone, InSpan}
+use Rattle.pm_vector.specs.Rows.{HasCols, Row, difference, dot}
+use Rattle.pm_vector.proofs.Spans.{at_place, place_of}
 use Rattle.pm_geom.proofs.Apart.{without, without_to}
 use Rattle.pm_geom.proofs.Faces.{difference-dot}
 use Rattle.pm_geom.proofs.Facets.{order_as, order_generates}

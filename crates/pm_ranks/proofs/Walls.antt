@@ -1,12 +1,12 @@
 -- The rows of a list on which a facet row is 0 span one dimension less than the list.
-use Rattle.pm_algebra.proofs.ConeLaws.{in_generator, in_line, in_line_opposite, in_same}
-use Rattle.pm_algebra.proofs.Lists.{Among, all_from, here, there}
-use Rattle.pm_algebra.proofs.Ring.{ring}
-use Rattle.pm_algebra.proofs.RowLaws.{dot_comm, entry-difference, entry-opposite, entry-plus, entry-times, length-difference, length-opposite, length-plus, plus-dot}
-use Rattle.pm_algebra.specs.Cones.{InCone, InSpan, IsIndependent}
-use Rattle.pm_algebra.specs.Rows.{HasCols, Row, difference, dot, opposite, plus}
-use Rattle.pm_bases.proofs.Spans.{span_difference, span_divide, span_from, span_of, span_to}
-use Rattle.pm_bases.specs.Bases.{IsRank}
+use Rattle.pm_vector.proofs.ConeLaws.{in_generator, in_line, in_line_opposite, in_same}
+use Rattle.pm_vector.proofs.Lists.{Among, all_from, here, there}
+use Rattle.pm_vector.proofs.Ring.{ring}
+use Rattle.pm_vector.proofs.RowLaws.{dot_comm, entry-difference, entry-opposite, entry-plus, entry-times, length-difference, length-opposite, length-plus, plus-dot}
+use Rattle.pm_vector.specs.Cones.{InCone, InSpan, IsIndependent}
+use Rattle.pm_vector.specs.Rows.{HasCols, Row, difference, dot, opposite, plus}
+use Rattle.pm_vector.proofs.Spans.{span_difference, span_divide, span_from, span_of, span_to}
+use Rattle.pm_vector.specs.Bases.{IsRank}
 use Rattle.pm_elim.proofs.DotLaws.{dot_span_zero}
 use Rattle.pm_geom.proofs.Dimension.{rank_is_left, some_basis}
 use Rattle.pm_geom.proofs.Faces.{difference-dot}

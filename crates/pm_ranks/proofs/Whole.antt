@@ -1,11 +1,11 @@
 -- The rank of the whole, and the faces of rank 1 and 2 of any cone.
-use Rattle.pm_algebra.proofs.ConeLaws.{in_line}
-use Rattle.pm_algebra.proofs.Lists.{Among, among_append, among_append_left, among_append_right}
-use Rattle.pm_algebra.proofs.RowLaws.{dot-zeros, length-zeros, zeros}
-use Rattle.pm_algebra.specs.Cones.{InCone, InSpan}
-use Rattle.pm_algebra.specs.Rows.{HasCols, Row}
-use Rattle.pm_bases.proofs.Spans.{place_of, same_span, same_span_sym, same_span_trans}
-use Rattle.pm_bases.specs.Bases.{IsRank, SameSpan}
+use Rattle.pm_vector.proofs.ConeLaws.{in_line}
+use Rattle.pm_vector.proofs.Lists.{Among, among_append, among_append_left, among_append_right}
+use Rattle.pm_vector.proofs.RowLaws.{dot-zeros, length-zeros, zeros}
+use Rattle.pm_vector.specs.Cones.{InCone, InSpan}
+use Rattle.pm_vector.specs.Rows.{HasCols, Row}
+use Rattle.pm_vector.proofs.Spans.{place_of, same_span, same_span_sym, same_span_trans}
+use Rattle.pm_vector.specs.Bases.{IsRank, SameSpan}
 use Rattle.pm_geom.proofs.Dimension.{rank_exists}
 use Rattle.pm_geom.proofs.Facets.{order_as, order_generates}
 use Rattle.pm_geom.proofs.Reduce.{extremes_generate}

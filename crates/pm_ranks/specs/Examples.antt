@@ -1,5 +1,5 @@
 -- Ranks and graphs of the unit square, and the ranks of a line in the plane.
-use Rattle.pm_bases.specs.Bases.{IsRank}
+use Rattle.pm_vector.specs.Bases.{IsRank}
 use Rattle.pm_geom.specs.Examples.{edges, square, triple}
 use Rattle.pm_geom.specs.Faces.{HasRank}
 use Rattle.pm_geom.specs.Graphs.{IsRidge, pair_of}

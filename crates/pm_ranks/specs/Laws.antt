@@ -1,7 +1,7 @@
 -- The laws of ranks and graphs of a cone: cone(G) + span(L), with an order V of its extreme rays and an order F of its facet rows (Ziegler, Lectures on Polytopes, lectures 2 and 3).
-use Rattle.pm_algebra.specs.Cones.{InCone, InSpan}
-use Rattle.pm_algebra.specs.Rows.{HasCols, Row, dot}
-use Rattle.pm_bases.specs.Bases.{IsRank}
+use Rattle.pm_vector.specs.Cones.{InCone, InSpan}
+use Rattle.pm_vector.specs.Rows.{HasCols, Row, dot}
+use Rattle.pm_vector.specs.Bases.{IsRank}
 use Rattle.pm_geom.specs.Cones.{InLineality, IsOrder, IsValid}
 use Rattle.pm_geom.specs.FaceCounts.{IsHasseDiagram, f_of}
 use Rattle.pm_geom.specs.Faces.{HasRank, IsFace, IsStrictlyIn, ray}

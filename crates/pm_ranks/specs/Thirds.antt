@@ -1,5 +1,5 @@
 -- Two rays, or two facets, that share what no third one shares.
-use Rattle.pm_algebra.specs.Rows.{Row, dot}
+use Rattle.pm_vector.specs.Rows.{Row, dot}
 use Rattle.pm_geom.specs.Faces.{ray}
 use Rattle.std.specs.Prelude.{ℕ, ◌≡◌, ◌<◌, List, length}
 use lib.IntN.{pos}

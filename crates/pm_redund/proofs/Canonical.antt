@@ -1,14 +1,14 @@
 -- The rows that are left, reduced, made primitive and sorted, are the generators of the cone.
-use Rattle.pm_algebra.proofs.ConeLaws.{in_cone_set}
-use Rattle.pm_algebra.proofs.Lists.{All_among, Among, Any_among, all_from, among_All}
-use Rattle.pm_algebra.proofs.Ring.{ring}
-use Rattle.pm_algebra.proofs.RowLaws.{entry-difference, entry-opposite, entry-plus, entry-times, length-difference, length-opposite}
-use Rattle.pm_algebra.proofs.Signs.{mul_cancel, mul_pos, weaken}
-use Rattle.pm_algebra.specs.Cones.{InCone, IsConeSet}
-use Rattle.pm_algebra.specs.Divisors.{IsPrimitive}
-use Rattle.pm_algebra.specs.Rows.{HasCols, Row, difference, entry, opposite}
-use Rattle.pm_bases.proofs.Spans.{place_of}
-use Rattle.pm_bases.specs.Bases.{row_at}
+use Rattle.pm_vector.proofs.ConeLaws.{in_cone_set}
+use Rattle.pm_vector.proofs.Lists.{All_among, Among, Any_among, all_from, among_All}
+use Rattle.pm_vector.proofs.Ring.{ring}
+use Rattle.pm_vector.proofs.RowLaws.{entry-difference, entry-opposite, entry-plus, entry-times, length-difference, length-opposite}
+use Rattle.pm_vector.proofs.Signs.{mul_cancel, mul_pos, weaken}
+use Rattle.pm_vector.specs.Cones.{InCone, IsConeSet}
+use Rattle.pm_vector.specs.Divisors.{IsPrimitive}
+use Rattle.pm_vector.specs.Rows.{HasCols, Row, difference, entry, opposite}
+use Rattle.pm_vector.proofs.Spans.{place_of}
+use Rattle.pm_vector.specs.Bases.{row_at}
 use Rattle.pm_dd.proofs.AlikeLaws.{alike_sym, alike_trans}
 use Rattle.pm_dd.proofs.Answered.{apart_in}
 use Rattle.pm_dd.proofs.Ascending.{ascending, order_permutation}

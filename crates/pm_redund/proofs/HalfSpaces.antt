@@ -1,10 +1,10 @@
 -- What half-spaces and equations of a thing tell of it: they generate its valid rows, unless they leave a polytope no point.
-use Rattle.pm_algebra.proofs.ConeLaws.{dot_in}
-use Rattle.pm_algebra.proofs.Lists.{Among, Any_among, all_at, all_from, among_All, here, there}
-use Rattle.pm_algebra.proofs.RowLaws.{dot_comm, length-opposite}
-use Rattle.pm_algebra.specs.Cones.{InCone}
-use Rattle.pm_algebra.specs.Rows.{HasCols, IsZero, Row, dot, entry, opposite}
-use Rattle.pm_bases.specs.Bases.{row_at}
+use Rattle.pm_vector.proofs.ConeLaws.{dot_in}
+use Rattle.pm_vector.proofs.Lists.{Among, Any_among, all_at, all_from, among_All, here, there}
+use Rattle.pm_vector.proofs.RowLaws.{dot_comm, length-opposite}
+use Rattle.pm_vector.specs.Cones.{InCone}
+use Rattle.pm_vector.specs.Rows.{HasCols, IsZero, Row, dot, entry, opposite}
+use Rattle.pm_vector.specs.Bases.{row_at}
 use Rattle.pm_dd.proofs.MixedLaws.{generators_as}
 use Rattle.pm_dd.specs.Fronts.{HalfSpaces}
 use Rattle.pm_elim.proofs.DotLaws.{dot-unit}

@@ -1,13 +1,13 @@
 -- Rows of which none is redundant are extreme, each once, and every extreme row is like one of them.
-use Rattle.pm_algebra.proofs.ConeLaws.{After, in_cone_set, in_divide, in_generator, in_line, in_line_opposite, in_more, in_of, in_plus, in_same, in_through, in_times, in_to_after, lines_opposite}
-use Rattle.pm_algebra.proofs.Lists.{Among, among_append, among_append_left, among_append_right, here, there}
-use Rattle.pm_algebra.proofs.Ring.{ring}
-use Rattle.pm_algebra.proofs.RowLaws.{entry-difference, entry-opposite, entry-plus, entry-times, length-opposite}
-use Rattle.pm_algebra.proofs.Signs.{weaken}
-use Rattle.pm_algebra.specs.Cones.{InCone, InSpan, IsConeSet}
-use Rattle.pm_algebra.specs.Rows.{HasCols, Row, opposite}
-use Rattle.pm_bases.specs.Bases.{row_at}
-use Rattle.pm_bases.proofs.Spans.{place_of}
+use Rattle.pm_vector.proofs.ConeLaws.{After, in_cone_set, in_divide, in_generator, in_line, in_line_opposite, in_more, in_of, in_plus, in_same, in_through, in_times, in_to_after, lines_opposite}
+use Rattle.pm_vector.proofs.Lists.{Among, among_append, among_append_left, among_append_right, here, there}
+use Rattle.pm_vector.proofs.Ring.{ring}
+use Rattle.pm_vector.proofs.RowLaws.{entry-difference, entry-opposite, entry-plus, entry-times, length-opposite}
+use Rattle.pm_vector.proofs.Signs.{weaken}
+use Rattle.pm_vector.specs.Cones.{InCone, InSpan, IsConeSet}
+use Rattle.pm_vector.specs.Rows.{HasCols, Row, opposite}
+use Rattle.pm_vector.specs.Bases.{row_at}
+use Rattle.pm_vector.proofs.Spans.{place_of}
 use Rattle.pm_elim.specs.Evidence.{IsBasisOf}
 use Rattle.pm_geom.proofs.Extreme.{extreme, in_lines, like_generator, no_multiple}
 use Rattle.pm_geom.proofs.Polar.{cols_at, membership_decided}

@@ -1,7 +1,7 @@
 -- The rows of a program: how many there are, how long they are, and how their list grows.
-use Rattle.pm_algebra.proofs.Lists.{all_append}
-use Rattle.pm_algebra.specs.Rows.{HasCols, Row}
-use Rattle.pm_bases.specs.Bases.{row_at}
+use Rattle.pm_vector.proofs.Lists.{all_append}
+use Rattle.pm_vector.specs.Rows.{HasCols, Row}
+use Rattle.pm_vector.specs.Bases.{row_at}
 use Rattle.pm_dd.proofs.Marks.{marked_more, marked_skip}
 use Rattle.pm_fraction.specs.Fractions.{ratio_of}
 use Rattle.pm_geom.specs.StatedOrder.{rows_marked}

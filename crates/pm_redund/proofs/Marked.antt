@@ -1,9 +1,9 @@
 -- The rows with a mark, by their places; and the cones that they generate.
-use Rattle.pm_algebra.proofs.ConeLaws.{in_of}
-use Rattle.pm_algebra.proofs.Lists.{Among, here, there}
-use Rattle.pm_algebra.specs.Cones.{InCone}
-use Rattle.pm_algebra.specs.Rows.{HasCols, Row}
-use Rattle.pm_bases.specs.Bases.{row_at}
+use Rattle.pm_vector.proofs.ConeLaws.{in_of}
+use Rattle.pm_vector.proofs.Lists.{Among, here, there}
+use Rattle.pm_vector.specs.Cones.{InCone}
+use Rattle.pm_vector.specs.Rows.{HasCols, Row}
+use Rattle.pm_vector.specs.Bases.{row_at}
 use Rattle.pm_geom.specs.StatedOrder.{rows_marked}
 use Rattle.std.proofs.Common.{arith, inl, inr, refl, subst, sym, ◌∙◌}
 use Rattle.std.proofs.lemmas.Bool.{cases_eq}

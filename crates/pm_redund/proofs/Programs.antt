@@ -1,12 +1,12 @@
 -- A row is in the cone of rows K and lines L exactly where its program has no point (Farkas).
-use Rattle.pm_algebra.proofs.ConeLaws.{dot_in}
-use Rattle.pm_algebra.proofs.Lists.{all_append, all_at, among_Contains, append_all}
-use Rattle.pm_algebra.proofs.Ring.{ring}
-use Rattle.pm_algebra.proofs.RowLaws.{dot_comm, length-opposite}
-use Rattle.pm_algebra.proofs.Signs.{mul_cancel}
-use Rattle.pm_algebra.specs.Cones.{InCone}
-use Rattle.pm_algebra.specs.Numbers.{Ratio}
-use Rattle.pm_algebra.specs.Rows.{HasCols, Row, dot, entry, ratio_at}
+use Rattle.pm_vector.proofs.ConeLaws.{dot_in}
+use Rattle.pm_vector.proofs.Lists.{all_append, all_at, among_Contains, append_all}
+use Rattle.pm_vector.proofs.Ring.{ring}
+use Rattle.pm_vector.proofs.RowLaws.{dot_comm, length-opposite}
+use Rattle.pm_vector.proofs.Signs.{mul_cancel}
+use Rattle.pm_vector.specs.Cones.{InCone}
+use Rattle.pm_vector.specs.Numbers.{Ratio}
+use Rattle.pm_vector.specs.Rows.{HasCols, Row, dot, entry, ratio_at}
 use Rattle.pm_elim.specs.NullSpaces.{IsNull}
 use Rattle.pm_geom.proofs.Duality.{infeasible_has_no_point}
 use Rattle.pm_geom.proofs.Facets.{dot-opposite}

@@ -1,9 +1,9 @@
 -- The examples of redundant rows hold.
-use Rattle.pm_algebra.proofs.ConeLaws.{dot_in, in_generator, in_plus, in_through}
-use Rattle.pm_algebra.proofs.Lists.{AllPairs_cons, All_among, Among, Contains_among, among_Contains, here, there}
-use Rattle.pm_algebra.specs.Cones.{InCone}
-use Rattle.pm_algebra.specs.Rows.{Row, dot, opposite}
-use Rattle.pm_bases.specs.Bases.{row_at}
+use Rattle.pm_vector.proofs.ConeLaws.{dot_in, in_generator, in_plus, in_through}
+use Rattle.pm_vector.proofs.Lists.{AllPairs_cons, All_among, Among, Contains_among, among_Contains, here, there}
+use Rattle.pm_vector.specs.Cones.{InCone}
+use Rattle.pm_vector.specs.Rows.{Row, dot, opposite}
+use Rattle.pm_vector.specs.Bases.{row_at}
 use Rattle.pm_incidence.proofs.Described.{cone_apart}
 use Rattle.pm_incidence.specs.Examples.{pair}
 use Rattle.pm_incidence.specs.ThinExamples.{diagonal, x_axis, x_turned, y_axis}

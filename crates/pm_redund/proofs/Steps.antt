@@ -1,10 +1,10 @@
 -- One turn of each loop over rows and their marks.
-use Rattle.pm_algebra.proofs.ConeLaws.{in_generator, in_line, in_line_opposite, in_through}
-use Rattle.pm_algebra.proofs.Lists.{Among}
-use Rattle.pm_algebra.specs.Cones.{InCone}
-use Rattle.pm_algebra.specs.Rows.{Row, opposite}
-use Rattle.pm_bases.proofs.Spans.{place_of}
-use Rattle.pm_bases.specs.Bases.{row_at}
+use Rattle.pm_vector.proofs.ConeLaws.{in_generator, in_line, in_line_opposite, in_through}
+use Rattle.pm_vector.proofs.Lists.{Among}
+use Rattle.pm_vector.specs.Cones.{InCone}
+use Rattle.pm_vector.specs.Rows.{Row, opposite}
+use Rattle.pm_vector.proofs.Spans.{place_of}
+use Rattle.pm_vector.specs.Bases.{row_at}
 use Rattle.pm_geom.specs.StatedOrder.{rows_marked}
 use Rattle.pm_redund.proofs.Marked.{IsMore, at_marked, cone_of_marked, marked_at, marked_below, more_cone, set_keeps, set_kept, set_less, set_more, set_off}
 use Rattle.pm_redund.specs.Redundancy.{IsEnough, IsKept, IsThinnedTo}

@@ -1,5 +1,5 @@
 -- The definitions of redundant rows read on small rows: what holds, and what does not.
-use Rattle.pm_algebra.specs.Rows.{Row}
+use Rattle.pm_vector.specs.Rows.{Row}
 use Rattle.pm_fraction.specs.Fractions.{ratio_of}
 use Rattle.pm_geom.specs.declared.evidence.Evidence.TheVariants.{E4, E5Rows}
 use Rattle.pm_incidence.specs.ThinExamples.{diagonal, large, larger, x_axis, x_turned, y_axis}

@@ -1,7 +1,7 @@
 -- Redundant rows (Ziegler, Lectures on Polytopes, lectures 1 and 2; Schrijver, Theory of Linear and Integer Programming, section 8.1): those that the others generate. Where none is left, the rows outside of the lineality are the extreme ones, each once.
-use Rattle.pm_algebra.specs.Cones.{InCone}
-use Rattle.pm_algebra.specs.Rows.{Row, opposite}
-use Rattle.pm_bases.specs.Bases.{row_at}
+use Rattle.pm_vector.specs.Cones.{InCone}
+use Rattle.pm_vector.specs.Rows.{Row, opposite}
+use Rattle.pm_vector.specs.Bases.{row_at}
 use Rattle.pm_elim.specs.EliminationSteps.{EliminationStep}
 use Rattle.pm_elim.specs.Evidence.{IsBasisOf, IsEvidence, unit}
 use Rattle.pm_geom.specs.StatedOrder.{rows_marked}

@@ -1,8 +1,8 @@
 // Whether a row is in the cone of others: exactly where a linear program has no point.
 
-ghost use Rattle.pm_algebra.specs.Cones.{InCone};
-ghost use Rattle.pm_algebra.specs.Numbers.{InRange};
-ghost use Rattle.pm_algebra.specs.Rows.{HasCols};
+ghost use Rattle.pm_vector.specs.Cones.{InCone};
+ghost use Rattle.pm_vector.specs.Numbers.{InRange};
+ghost use Rattle.pm_vector.specs.Rows.{HasCols};
 ghost use Rattle.pm_geom.specs.StatedOrder.{rows_marked};
 ghost use Rattle.pm_redund.specs.Redundancy.{IsProgramFail};
 ghost use Rattle.pm_simplex.specs.Generated.{equations_of, lifted, no_objective, turned};

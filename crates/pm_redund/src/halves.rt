@@ -1,8 +1,8 @@
 // The facet rows among half-spaces.
 
-ghost use Rattle.pm_algebra.specs.Cones.{InCone};
-ghost use Rattle.pm_algebra.specs.Rows.{HasCols, Row};
-ghost use Rattle.pm_bases.specs.Bases.{IsEchelonBasis};
+ghost use Rattle.pm_vector.specs.Cones.{InCone};
+ghost use Rattle.pm_vector.specs.Rows.{HasCols, Row};
+ghost use Rattle.pm_vector.specs.Bases.{IsEchelonBasis};
 ghost use Rattle.pm_elim.specs.Evidence.{unit};
 ghost use Rattle.pm_geom.specs.Cones.{IsValid};
 ghost use Rattle.pm_geom.specs.Generators.{AreGenerators};

@@ -1,6 +1,6 @@
 // Which rows are kept: some that are enough, and of these none that the others generate.
 
-ghost use Rattle.pm_algebra.specs.Rows.{HasCols};
+ghost use Rattle.pm_vector.specs.Rows.{HasCols};
 ghost use Rattle.pm_redund.specs.Redundancy.{IsProgramFail};
 ghost use Rattle.pm_redund.specs.Redundancy.{AreKeptPlaces, IsEnough, IsKept, IsThinnedTo};
 ghost use Rattle.pm_simplex.specs.Lineality.{MarkLines};

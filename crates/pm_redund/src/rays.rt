@@ -1,8 +1,8 @@
 // The extreme rays among rows that generate.
 
-ghost use Rattle.pm_algebra.specs.Cones.{InCone};
-ghost use Rattle.pm_algebra.specs.Rows.{HasCols};
-ghost use Rattle.pm_bases.specs.Bases.{IsEchelonBasis};
+ghost use Rattle.pm_vector.specs.Cones.{InCone};
+ghost use Rattle.pm_vector.specs.Rows.{HasCols};
+ghost use Rattle.pm_vector.specs.Bases.{IsEchelonBasis};
 ghost use Rattle.pm_geom.specs.Generators.{AreGenerators};
 ghost use Rattle.pm_redund.specs.Redundancy.{IsThinFail};
 ghost use Rattle.std.specs.Prelude.{IfErr, IfOk, List, length, ℕ, ◌<◌, ◌^◌, ◌≤◌};

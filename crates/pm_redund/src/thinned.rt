@@ -1,7 +1,7 @@
 // The kept rows in canonical form.
 
-ghost use Rattle.pm_algebra.specs.Rows.{HasCols};
-ghost use Rattle.pm_bases.specs.Bases.{IsEchelonBasis};
+ghost use Rattle.pm_vector.specs.Rows.{HasCols};
+ghost use Rattle.pm_vector.specs.Bases.{IsEchelonBasis};
 ghost use Rattle.pm_elim.specs.Evidence.{IfWide, IsEvidence};
 ghost use Rattle.pm_geom.specs.StatedOrder.{rows_marked};
 ghost use Rattle.pm_incidence.specs.Thinning.{AreSortedThinned, IsReductionFail, IsThinned};

@@ -1,6 +1,6 @@
 -- From the parts to the call on two fans.
-use Rattle.pm_algebra.proofs.Lists.{All_among, all_at, all_from, among_All, among_Any, among_Contains}
-use Rattle.pm_algebra.specs.Rows.{HasCols, Row}
+use Rattle.pm_vector.proofs.Lists.{All_among, all_at, all_from, among_All, among_Any, among_Contains}
+use Rattle.pm_vector.specs.Rows.{HasCols, Row}
 use Rattle.pm_geom.specs.Cones.{IsExtreme}
 use Rattle.pm_geom.specs.Generators.{AreGenerators, IsBefore, IsCanonicalRay, VanishAt}
 use Rattle.pm_geom.specs.declared.evidence.Evidence.{Evidence}
@@ -10,7 +10,7 @@ use Rattle.pm_laws_normal_fans.proofs.RefinedRays.{refined_rays_are_orders}
 use Rattle.pm_laws_normal_fans.proofs.Refinements.{kept_are_refinement}
 use Rattle.pm_laws_normal_fans.specs.Fans.{Fan, InIntersection, IsFan}
 use Rattle.pm_laws_normal_fans.specs.Refinements.{AreAllIntersections, AreAllRays, AreKeptIntersections, HasRefinedRays, Intersection, IsEarlier, IsIntersection, IsWithin}
-use Rattle.pm_algebra.specs.Divisors.{IsPrimitive}
+use Rattle.pm_vector.specs.Divisors.{IsPrimitive}
 use Rattle.pm_refine.proofs.Cuts.{few_rows}
 use Rattle.pm_refine.proofs.Found.{found_kept, is_intersection, placed}
 use Rattle.pm_refine.specs.CutRows.{AreFacetsOf, CutRows, IsRowOf, IsSmallFan, cuts_at, fan_from}

@@ -1,5 +1,5 @@
 -- The facet rows of the cones of a fan that is given by lists.
-use Rattle.pm_algebra.specs.Rows.{HasCols, Row}
+use Rattle.pm_vector.specs.Rows.{HasCols, Row}
 use Rattle.pm_dd.specs.declared.fails.DdFail.{DdFail}
 use Rattle.pm_dd.specs.declared.fails.DdFail.TheVariants as hull
 use Rattle.pm_hull.specs.HullRefusals.{IsShownOnParts}

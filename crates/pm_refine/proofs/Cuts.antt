@@ -1,7 +1,7 @@
 -- The facet rows of a cone, and the rows that vanish on it, cut it out; and there are few of them.
-use Rattle.pm_algebra.proofs.Lists.{All_among, Among, all_at, all_from, among_All, among_append, here, there}
-use Rattle.pm_algebra.specs.Rows.{HasCols, Row, dot}
-use Rattle.pm_bases.specs.Bases.{IsEchelonBasis, column}
+use Rattle.pm_vector.proofs.Lists.{All_among, Among, all_at, all_from, among_All, among_append, here, there}
+use Rattle.pm_vector.specs.Rows.{HasCols, Row, dot}
+use Rattle.pm_vector.specs.Bases.{IsEchelonBasis, column}
 use Rattle.pm_elim.proofs.InTurn.{pivot_below}
 use Rattle.pm_geom.proofs.Facets.{vanishes_line}
 use Rattle.pm_geom.proofs.Lineality.{facet_order_cuts_out}

@@ -1,7 +1,7 @@
 -- The definitions read on two lines in the plane and on the two rays of the line.
-use Rattle.pm_algebra.proofs.Lists.{All_among, Among, Contains_among, among_Contains, here, there}
-use Rattle.pm_algebra.specs.Numbers.{InRange}
-use Rattle.pm_algebra.specs.Rows.{HasCols, Row, dot, entry}
+use Rattle.pm_vector.proofs.Lists.{All_among, Among, Contains_among, among_Contains, here, there}
+use Rattle.pm_vector.specs.Numbers.{InRange}
+use Rattle.pm_vector.specs.Rows.{HasCols, Row, dot, entry}
 use Rattle.pm_geom.specs.ThingExamples.{left, right}
 use Rattle.pm_geom.specs.declared.evidence.Evidence.TheVariants.{E4}
 use Rattle.pm_laws_normal_fans.proofs.ExampleIntersections.{all_listed, kept}

@@ -1,6 +1,6 @@
 -- The intersections that are found, one pair after another, and what is kept of them all.
-use Rattle.pm_algebra.proofs.Lists.{All_among, Among, Any_among, among_All, among_Any, among_append, among_append_left, among_append_right, here, there}
-use Rattle.pm_algebra.specs.Rows.{Row}
+use Rattle.pm_vector.proofs.Lists.{All_among, Among, Any_among, among_All, among_Any, among_append, among_append_left, among_append_right, here, there}
+use Rattle.pm_vector.specs.Rows.{Row}
 use Rattle.pm_geom.proofs.Spans.{order_cols}
 use Rattle.pm_geom.specs.Generators.{AreGenerators}
 use Rattle.pm_laws_normal_fans.proofs.IntersectionRows.{cut_both, generators_as, same_basis}

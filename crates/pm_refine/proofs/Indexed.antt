@@ -1,7 +1,7 @@
 -- Elements of lists that are seen through a function.
-use Rattle.pm_algebra.proofs.Filters.{among_map}
-use Rattle.pm_algebra.proofs.Lists.{All_among, Among, Any_among, among_All, among_append_left, among_append_right, here}
-use Rattle.pm_algebra.specs.Rows.{HasCols, Row}
+use Rattle.pm_vector.proofs.Filters.{among_map}
+use Rattle.pm_vector.proofs.Lists.{All_among, Among, Any_among, among_All, among_append_left, among_append_right, here}
+use Rattle.pm_vector.specs.Rows.{HasCols, Row}
 use Rattle.pm_laws_normal_fans.proofs.Places.{among_at, map_at, map_length}
 use Rattle.pm_laws_normal_fans.specs.Refinements.{Intersection}
 use Rattle.pm_refine.specs.CutRows.{CutRows, IsRowOf, IsSomeRow, are_within, cuts_at}

@@ -1,6 +1,6 @@
 -- What is kept, one intersection after another, are the maximal ones.
-use Rattle.pm_algebra.proofs.Lists.{All_among, Among, Any_among, among_All, among_Any, among_Contains, among_append, here, there}
-use Rattle.pm_algebra.specs.Rows.{Row}
+use Rattle.pm_vector.proofs.Lists.{All_among, Among, Any_among, among_All, among_Any, among_Contains, among_append, here, there}
+use Rattle.pm_vector.specs.Rows.{Row}
 use Rattle.pm_laws_normal_fans.proofs.KeptSteps.{kept_with, kept_without}
 use Rattle.pm_laws_normal_fans.proofs.Places.{no_pairs, pairs_head, pairs_tail}
 use Rattle.pm_laws_normal_fans.proofs.RefinedRays.{inclusion_by_products}

@@ -1,8 +1,8 @@
 -- The fan of an object: its rays and lines have n entries, and its sets are of places of rays.
-use Rattle.pm_algebra.proofs.Filters.{map_among}
-use Rattle.pm_algebra.proofs.Lists.{All_among, Among, all_from, all_at, among_All, here, there}
-use Rattle.pm_algebra.specs.Numbers.{Ratio}
-use Rattle.pm_algebra.specs.Rows.{HasCols, Row}
+use Rattle.pm_vector.proofs.Filters.{map_among}
+use Rattle.pm_vector.proofs.Lists.{All_among, Among, all_from, all_at, among_All, here, there}
+use Rattle.pm_vector.specs.Numbers.{Ratio}
+use Rattle.pm_vector.specs.Rows.{HasCols, Row}
 use Rattle.pm_laws_normal_fans.proofs.Places.{among_at, map_length, place_at}
 use Rattle.pm_matrix.specs.FractionRows.{ArePrimitiveRowsOf}
 use Rattle.pm_object.proofs.KnownValues.{formed_is, held_forms, rows_cols, rows_few}

@@ -1,6 +1,6 @@
 -- From the refinement of two fans to that of the objects that they are read from.
-use Rattle.pm_algebra.specs.Numbers.{Ratio}
-use Rattle.pm_algebra.specs.Rows.{Row}
+use Rattle.pm_vector.specs.Numbers.{Ratio}
+use Rattle.pm_vector.specs.Rows.{Row}
 use Rattle.pm_laws_normal_fans.specs.Fans.{Fan, IsFan}
 use Rattle.pm_laws_normal_fans.specs.Refinements.{AreAllRays, HasRefinedRays, Intersection}
 use Rattle.pm_matrix.specs.FractionRows.{ArePrimitiveRowsOf}

@@ -1,6 +1,6 @@
 -- What refusals show, from one call to the next.
-use Rattle.pm_algebra.proofs.Lists.{Among, Any_among, among_Any, here, there}
-use Rattle.pm_algebra.specs.Rows.{Row}
+use Rattle.pm_vector.proofs.Lists.{Among, Any_among, among_Any, here, there}
+use Rattle.pm_vector.specs.Rows.{Row}
 use Rattle.pm_geom.specs.declared.evidence.Evidence.TheVariants.{E4}
 use Rattle.pm_laws_normal_fans.specs.Refinements.{Intersection}
 use Rattle.pm_refine.specs.CutRows.{CutRows, IsSmall, IsSomeRow, cuts_at}

@@ -1,7 +1,7 @@
 -- All rays of intersections, sorted and each once, and the places of some.
-use Rattle.pm_algebra.proofs.Filters.{any_from, any_to}
-use Rattle.pm_algebra.proofs.Lists.{AllPairs_cons, All_among, Among, Any_among, Contains_among, all_at, all_from, among_All, among_Contains, among_append, among_append_left, among_append_right, here, there}
-use Rattle.pm_algebra.specs.Rows.{HasCols, Row}
+use Rattle.pm_vector.proofs.Filters.{any_from, any_to}
+use Rattle.pm_vector.proofs.Lists.{AllPairs_cons, All_among, Among, Any_among, Contains_among, all_at, all_from, among_All, among_Contains, among_append, among_append_left, among_append_right, here, there}
+use Rattle.pm_vector.specs.Rows.{HasCols, Row}
 use Rattle.pm_dd.proofs.Ascending.{before_or_same}
 use Rattle.pm_geom.proofs.Polar.{cols_at}
 use Rattle.pm_geom.specs.Faces.{ray}

@@ -1,9 +1,9 @@
 -- The values of a refinement have the forms of values that a fan may hold.
-use Rattle.pm_algebra.proofs.Divisors.{not_zero}
-use Rattle.pm_algebra.proofs.Lists.{All_among, Among, among_All, here, there}
-use Rattle.pm_algebra.specs.Divisors.{IsPrimitive}
-use Rattle.pm_algebra.specs.Numbers.{InRange, Ratio}
-use Rattle.pm_algebra.specs.Rows.{HasCols, Row, entry}
+use Rattle.pm_vector.proofs.DivisorLaws.{not_zero}
+use Rattle.pm_vector.proofs.Lists.{All_among, Among, among_All, here, there}
+use Rattle.pm_vector.specs.Divisors.{IsPrimitive}
+use Rattle.pm_vector.specs.Numbers.{InRange, Ratio}
+use Rattle.pm_vector.specs.Rows.{HasCols, Row, entry}
 use Rattle.pm_laws_normal_fans.proofs.Places.{map_length, place_at}
 use Rattle.pm_laws_normal_fans.specs.Refinements.{Intersection}
 use Rattle.pm_matrix.specs.Matrices.{FractionMatrix, IsFraction}

@@ -1,6 +1,6 @@
 -- What holds of the first rows of a list, one by one; and tests that say no.
-use Rattle.pm_algebra.proofs.Lists.{all_append, all_at, among_Contains}
-use Rattle.pm_algebra.specs.Rows.{Row}
+use Rattle.pm_vector.proofs.Lists.{all_append, all_at, among_Contains}
+use Rattle.pm_vector.specs.Rows.{Row}
 use Rattle.pm_dd.proofs.Fronts.{take_suc}
 use Rattle.std.proofs.Common.{add-one, subst, sym, ◌∙◌}
 use Rattle.std.proofs.lemmas.List.{get_or_default}

@@ -1,6 +1,6 @@
 -- The tests of products decide what they are about.
-use Rattle.pm_algebra.specs.Rows.{Row, dot}
-use Rattle.pm_algebra.proofs.Lists.{All_among, Among, among_All, here, there}
+use Rattle.pm_vector.specs.Rows.{Row, dot}
+use Rattle.pm_vector.proofs.Lists.{All_among, Among, among_All, here, there}
 use Rattle.pm_elim.specs.NullSpaces.{IsNull}
 use Rattle.pm_geom.specs.Cones.{CutOut}
 use Rattle.pm_laws_normal_fans.specs.Refinements.{InHalfSpaces}

@@ -1,6 +1,6 @@
 -- The definitions read on two lines in the plane and on the fan of the two rays of the line: what holds, and what does
 -- not.
-use Rattle.pm_algebra.specs.Rows.{Row}
+use Rattle.pm_vector.specs.Rows.{Row}
 use Rattle.pm_geom.specs.Examples.{pair}
 use Rattle.pm_geom.specs.ThingExamples.{left, right}
 use Rattle.pm_geom.specs.declared.evidence.Evidence.TheVariants.{E4}

@@ -1,5 +1,5 @@
 -- What refusals show of two fans.
-use Rattle.pm_algebra.specs.Rows.{Row}
+use Rattle.pm_vector.specs.Rows.{Row}
 use Rattle.pm_dd.specs.declared.fails.DdFail.{DdFail}
 use Rattle.pm_dd.specs.declared.fails.DdFail.TheVariants as hull
 use Rattle.pm_geom.specs.Evidence.{IsWideProduct}

@@ -1,6 +1,6 @@
 -- The fan of an object, by its values; and when the refinement of two of them is not built.
 use Rattle.std.specs.Prelude.{ℕ, ◌&&◌, ◌≡◌, Bool, false, true, not, Option, None, Some, List, [], ◌∷◌, if◌then◌else◌, length, map, nat_eq}
-use Rattle.pm_algebra.specs.Rows.{Row}
+use Rattle.pm_vector.specs.Rows.{Row}
 use Rattle.pm_geom.specs.Faces.{ray}
 use Rattle.pm_laws_normal_fans.specs.Fans.{Fan}
 use Rattle.pm_matrix.specs.FractionRows.{ArePrimitiveRowsOf}

@@ -1,7 +1,7 @@
 -- The common refinement of the fans of two objects, as a new fan (Ziegler, Lectures on Polytopes, section 7.1).
 use Rattle.std.specs.Prelude.{ℕ, ◌<◌, ◌≤◌, ◌≡◌, ◌⊎◌, None, Some, List, [], ◌∷◌, length, map}
 use Rattle.std.specs.List.{All}
-use Rattle.pm_algebra.specs.Rows.{Row}
+use Rattle.pm_vector.specs.Rows.{Row}
 use Rattle.pm_files.specs.Files.{SavedFile}
 use Rattle.pm_geom.specs.declared.evidence.Evidence.{Evidence}
 use Rattle.pm_laws_normal_fans.specs.Fans.{Fan, IsFan}

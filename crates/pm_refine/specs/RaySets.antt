@@ -1,5 +1,5 @@
 -- The places at which rays stand among all rays.
-use Rattle.pm_algebra.specs.Rows.{Row}
+use Rattle.pm_vector.specs.Rows.{Row}
 use Rattle.pm_laws_normal_fans.specs.Refinements.{Intersection}
 use Rattle.std.specs.Cmp.Lexicographic.{pointwise}
 use Rattle.std.specs.List.{list_any}

@@ -1,5 +1,5 @@
 -- The common refinement as it is answered (Ziegler, Lectures on Polytopes, section 7.1).
-use Rattle.pm_algebra.specs.Rows.{Row}
+use Rattle.pm_vector.specs.Rows.{Row}
 use Rattle.pm_geom.specs.Faces.{ray}
 use Rattle.pm_geom.specs.Graphs.{IsAscending}
 use Rattle.pm_laws_normal_fans.specs.Fans.{Fan}

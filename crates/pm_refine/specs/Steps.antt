@@ -1,5 +1,5 @@
 -- Keeping the maximal intersections, one after another.
-use Rattle.pm_algebra.specs.Rows.{HasCols, Row}
+use Rattle.pm_vector.specs.Rows.{HasCols, Row}
 use Rattle.pm_geom.specs.Generators.{AreGenerators}
 use Rattle.pm_laws_normal_fans.specs.Refinements.{InHalfSpaces, Intersection, IsEarlier}
 use Rattle.pm_refine.specs.CutRows.{CutRows, are_within, cuts_at}

@@ -1,6 +1,6 @@
 // The maximal ones among the intersections so far.
 
-ghost use Rattle.pm_algebra.specs.Rows.{HasCols};
+ghost use Rattle.pm_vector.specs.Rows.{HasCols};
 ghost use Rattle.pm_refine.specs.CutRows.{AreSmall, IsRowOf, IsSmall, IsSomeRow, cut_rows, intersection_of};
 ghost use Rattle.pm_refine.specs.Fails.{IsTestOf, IsWideOf};
 ghost use Rattle.pm_refine.specs.Steps.{ArePlaced, IsPlaced, includes_any_of, keep_one, not_included_in};

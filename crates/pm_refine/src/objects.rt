@@ -1,8 +1,8 @@
 // The common refinement of the fans of two objects.
 
-ghost use Rattle.pm_algebra.specs.Divisors.{IsPrimitive};
-ghost use Rattle.pm_algebra.specs.Numbers.{InRange};
-ghost use Rattle.pm_algebra.specs.Rows.{HasCols};
+ghost use Rattle.pm_vector.specs.Divisors.{IsPrimitive};
+ghost use Rattle.pm_vector.specs.Numbers.{InRange};
+ghost use Rattle.pm_vector.specs.Rows.{HasCols};
 ghost use Rattle.pm_files.specs.Views.{file_of};
 ghost use Rattle.pm_object.specs.Known.{IsKnown, cols_at, cols_over};
 ghost use Rattle.pm_refine.specs.CutRows.{intersection_of};

@@ -1,6 +1,6 @@
 // The intersections of all pairs of cones, of which the maximal ones are kept.
 
-ghost use Rattle.pm_algebra.specs.Rows.{Row};
+ghost use Rattle.pm_vector.specs.Rows.{Row};
 ghost use Rattle.pm_geom.specs.Generators.{AreGenerators};
 ghost use Rattle.pm_hull.specs.HullRefusals.{IsShownOnParts};
 ghost use Rattle.pm_laws_normal_fans.specs.Refinements.{InHalfSpaces};

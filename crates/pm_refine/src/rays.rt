@@ -1,6 +1,6 @@
 // All rays of intersections, and for each intersection the places of its rays.
 
-ghost use Rattle.pm_algebra.specs.Rows.{HasCols};
+ghost use Rattle.pm_vector.specs.Rows.{HasCols};
 ghost use Rattle.pm_laws_normal_fans.specs.Refinements.{AreAllRays};
 ghost use Rattle.pm_refine.specs.CutRows.{intersection_of};
 ghost use Rattle.pm_refine.specs.RaySets.{places_from};

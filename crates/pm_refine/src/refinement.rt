@@ -1,7 +1,7 @@
 // The common refinement.
 
-ghost use Rattle.pm_algebra.specs.Divisors.{IsPrimitive};
-ghost use Rattle.pm_algebra.specs.Rows.{HasCols};
+ghost use Rattle.pm_vector.specs.Divisors.{IsPrimitive};
+ghost use Rattle.pm_vector.specs.Rows.{HasCols};
 ghost use Rattle.pm_laws_normal_fans.specs.Fans.{IsFan};
 ghost use Rattle.pm_laws_normal_fans.specs.Refinements.{AreAllRays, HasRefinedRays};
 ghost use Rattle.pm_refine.specs.CutRows.{AreFacetsOf, AreSmall, IsSmallFan, cut_rows, fan_from, intersection_of};

@@ -1,12 +1,12 @@
 -- Dimensions are determined, and how one is found from others.
-use Rattle.pm_algebra.proofs.ConeLaws.{in_line, in_zero, none_to_zero}
-use Rattle.pm_algebra.proofs.Lists.{All_among, Among, all_append, all_at, among_All}
-use Rattle.pm_algebra.specs.Cones.{InCone, InSpan, IsIndependent}
-use Rattle.pm_algebra.specs.Numbers.{Ratio}
-use Rattle.pm_algebra.specs.Rows.{HasCols, IsZero, Row}
-use Rattle.pm_bases.proofs.Rank.{independent_are_few, rank_is_determined}
-use Rattle.pm_bases.proofs.Spans.{at_place, same_span_trans, span_from, span_to}
-use Rattle.pm_bases.specs.Bases.{row_at}
+use Rattle.pm_vector.proofs.ConeLaws.{in_line, in_zero, none_to_zero}
+use Rattle.pm_vector.proofs.Lists.{All_among, Among, all_append, all_at, among_All}
+use Rattle.pm_vector.specs.Cones.{InCone, InSpan, IsIndependent}
+use Rattle.pm_vector.specs.Numbers.{Ratio}
+use Rattle.pm_vector.specs.Rows.{HasCols, IsZero, Row}
+use Rattle.pm_vector.proofs.Rank.{independent_are_few, rank_is_determined}
+use Rattle.pm_vector.proofs.Spans.{at_place, same_span_trans, span_from, span_to}
+use Rattle.pm_vector.specs.Bases.{row_at}
 use Rattle.pm_geom.proofs.Dimension.{not_zero_by_rank, rank_exists, rank_is_left, some_basis}
 use Rattle.pm_geom.proofs.Reduce.{extremes_generate}
 use Rattle.pm_geom.specs.Cones.{InLineality}

@@ -1,15 +1,15 @@
 -- The cones of a fan: the rays that a right set names are an order of the extreme rays of its cone, and with right LINEALITY_SPACE they span it.
-use Rattle.pm_algebra.proofs.ConeLaws.{in_cone_set, in_of, lines_opposite}
-use Rattle.pm_algebra.proofs.Filters.{among_map, map_among}
-use Rattle.pm_algebra.proofs.Lists.{AllPairs_cons, All_among, Among, Any_among, Contains_among, among_All, among_Any, among_Contains, here, there}
-use Rattle.pm_algebra.proofs.Ring.{ring}
-use Rattle.pm_algebra.proofs.RowLaws.{entry-opposite, entry-plus, entry-times, length-opposite, length-plus, length-times, same_sym}
-use Rattle.pm_algebra.proofs.Signs.{mul_nonneg, mul_pos, times_both, weaken}
-use Rattle.pm_algebra.specs.Cones.{InCone, InSpan, IsConeSet}
-use Rattle.pm_algebra.specs.Numbers.{Ratio}
-use Rattle.pm_algebra.specs.Rows.{HasCols, Row, Same, entry, opposite, plus, times}
-use Rattle.pm_bases.proofs.Spans.{place_of, same_span, same_span_trans}
-use Rattle.pm_bases.specs.Bases.{SameSpan}
+use Rattle.pm_vector.proofs.ConeLaws.{in_cone_set, in_of, lines_opposite}
+use Rattle.pm_vector.proofs.Filters.{among_map, map_among}
+use Rattle.pm_vector.proofs.Lists.{AllPairs_cons, All_among, Among, Any_among, Contains_among, among_All, among_Any, among_Contains, here, there}
+use Rattle.pm_vector.proofs.Ring.{ring}
+use Rattle.pm_vector.proofs.RowLaws.{entry-opposite, entry-plus, entry-times, length-opposite, length-plus, length-times, same_sym}
+use Rattle.pm_vector.proofs.Signs.{mul_nonneg, mul_pos, times_both, weaken}
+use Rattle.pm_vector.specs.Cones.{InCone, InSpan, IsConeSet}
+use Rattle.pm_vector.specs.Numbers.{Ratio}
+use Rattle.pm_vector.specs.Rows.{HasCols, Row, Same, entry, opposite, plus, times}
+use Rattle.pm_vector.proofs.Spans.{place_of, same_span, same_span_trans}
+use Rattle.pm_vector.specs.Bases.{SameSpan}
 use Rattle.pm_dd.proofs.AlikeLaws.{line_opposite, line_plus, line_times}
 use Rattle.pm_geom.proofs.Spans.{order_spans}
 use Rattle.pm_geom.specs.Cones.{InLineality, IsExtreme, IsExtremeRay, IsOrder, MultipleModulo, SameModulo}

@@ -1,12 +1,12 @@
 -- First entries tell whether a polytope is bounded, which of its rays are far, and whether 0 is in its interior.
-use Rattle.pm_algebra.proofs.ConeLaws.{dot_in, in_cone_set, in_divide, in_same, in_to_after}
-use Rattle.pm_algebra.proofs.Lists.{All_among, Among, all_at, among_All, here, there}
-use Rattle.pm_algebra.proofs.Ring.{ring}
-use Rattle.pm_algebra.proofs.RowLaws.{dot-difference, dot-same, dot_comm, entry-difference, entry-opposite, entry-plus, entry-times, length-opposite, length-zeros, plus-dot, times-dot, zeros}
-use Rattle.pm_algebra.proofs.Signs.{mul_cancel, mul_nonneg, mul_pos, nonneg_cancel, pos_cancel, weaken}
-use Rattle.pm_algebra.specs.Cones.{InCone, InSpan}
-use Rattle.pm_algebra.specs.Numbers.{Ratio}
-use Rattle.pm_algebra.specs.Rows.{HasCols, IsZero, Row, Stands, dot, entry, opposite, plus, ratio_at, times}
+use Rattle.pm_vector.proofs.ConeLaws.{dot_in, in_cone_set, in_divide, in_same, in_to_after}
+use Rattle.pm_vector.proofs.Lists.{All_among, Among, all_at, among_All, here, there}
+use Rattle.pm_vector.proofs.Ring.{ring}
+use Rattle.pm_vector.proofs.RowLaws.{dot-difference, dot-same, dot_comm, entry-difference, entry-opposite, entry-plus, entry-times, length-opposite, length-zeros, plus-dot, times-dot, zeros}
+use Rattle.pm_vector.proofs.Signs.{mul_cancel, mul_nonneg, mul_pos, nonneg_cancel, pos_cancel, weaken}
+use Rattle.pm_vector.specs.Cones.{InCone, InSpan}
+use Rattle.pm_vector.specs.Numbers.{Ratio}
+use Rattle.pm_vector.specs.Rows.{HasCols, IsZero, Row, Stands, dot, entry, opposite, plus, ratio_at, times}
 use Rattle.pm_geom.proofs.Facets.{opposite-dot}
 use Rattle.pm_geom.proofs.Polar.{cut_from}
 use Rattle.pm_geom.proofs.ValidRows.{null_in}

@@ -1,6 +1,6 @@
 -- The lineality of a polytope has first entry 0.
-use Rattle.pm_algebra.proofs.RowLaws.{entry-opposite, length-opposite}
-use Rattle.pm_algebra.specs.Rows.{Row, entry, opposite}
+use Rattle.pm_vector.proofs.RowLaws.{entry-opposite, length-opposite}
+use Rattle.pm_vector.specs.Rows.{Row, entry, opposite}
 use Rattle.pm_types.specs.Things.{IsOfType, IsThing, Thing}
 use Rattle.pm_object_type.specs.declared.object_type.ObjectType.TheVariants.{Cone, Fan, Polytope}
 use Rattle.pm_object_type.specs.declared.object_type.ObjectType.{ObjectType}

@@ -1,7 +1,7 @@
 -- What is found from right values: the dimension of the rows that were read, and echelon bases, as values.
-use Rattle.pm_algebra.specs.Numbers.{Ratio}
-use Rattle.pm_algebra.specs.Rows.{Row}
-use Rattle.pm_bases.specs.Bases.{IsRank}
+use Rattle.pm_vector.specs.Numbers.{Ratio}
+use Rattle.pm_vector.specs.Rows.{Row}
+use Rattle.pm_vector.specs.Bases.{IsRank}
 use Rattle.pm_elim.specs.NullSpaces.{IsNullBasis}
 use Rattle.pm_types.specs.Things.{AreOrders, IsThing, Thing}
 use Rattle.pm_geom.specs.Things.{Orders}

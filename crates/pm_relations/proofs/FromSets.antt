@@ -1,11 +1,11 @@
 -- Rows from sets of incidences: the sets that are right are those of the rows that were read, and rows in canonical form in the held order are right and canonical.
-use Rattle.pm_algebra.proofs.ConeLaws.{in_cone_set}
-use Rattle.pm_algebra.proofs.Lists.{Among, among_All}
-use Rattle.pm_algebra.proofs.RowLaws.{length-opposite}
-use Rattle.pm_algebra.specs.Cones.{InCone}
-use Rattle.pm_algebra.specs.Divisors.{IsPrimitive}
-use Rattle.pm_algebra.specs.Numbers.{Ratio}
-use Rattle.pm_algebra.specs.Rows.{HasCols, Row, Stands, dot, opposite}
+use Rattle.pm_vector.proofs.ConeLaws.{in_cone_set}
+use Rattle.pm_vector.proofs.Lists.{Among, among_All}
+use Rattle.pm_vector.proofs.RowLaws.{length-opposite}
+use Rattle.pm_vector.specs.Cones.{InCone}
+use Rattle.pm_vector.specs.Divisors.{IsPrimitive}
+use Rattle.pm_vector.specs.Numbers.{Ratio}
+use Rattle.pm_vector.specs.Rows.{HasCols, Row, Stands, dot, opposite}
 use Rattle.pm_geom.proofs.Facets.{order_as, vanishes_line}
 use Rattle.pm_geom.proofs.Incidence.{same_zero}
 use Rattle.pm_geom.proofs.Reduce.{same_modulo_as}

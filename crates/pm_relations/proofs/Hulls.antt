@@ -1,12 +1,12 @@
 -- What double description finds from right values: all facet rows of what rows generate, and all extreme rays of what rows cut out, are right and canonical in an order of their own.
-use Rattle.pm_algebra.proofs.ConeLaws.{in_divide, in_generator, in_line, in_of, in_same, in_through, in_times, in_zero, lines_opposite}
-use Rattle.pm_algebra.proofs.Lists.{All_among, Among, all_at, all_from, among_All, here, there}
-use Rattle.pm_algebra.proofs.RowLaws.{dot-same, dot-times, dot_comm, entry-opposite, entry-plus, entry-times, length-times, times-dot}
-use Rattle.pm_algebra.proofs.Signs.{mul_nonneg, nonneg_cancel, weaken}
-use Rattle.pm_algebra.specs.Cones.{InCone, InSpan}
-use Rattle.pm_algebra.specs.Numbers.{Ratio}
-use Rattle.pm_algebra.specs.Rows.{HasCols, IsZero, Row, Stands, dot, times}
-use Rattle.pm_bases.proofs.Columns.{basis_is_independent}
+use Rattle.pm_vector.proofs.ConeLaws.{in_divide, in_generator, in_line, in_of, in_same, in_through, in_times, in_zero, lines_opposite}
+use Rattle.pm_vector.proofs.Lists.{All_among, Among, all_at, all_from, among_All, here, there}
+use Rattle.pm_vector.proofs.RowLaws.{dot-same, dot-times, dot_comm, entry-opposite, entry-plus, entry-times, length-times, times-dot}
+use Rattle.pm_vector.proofs.Signs.{mul_nonneg, nonneg_cancel, weaken}
+use Rattle.pm_vector.specs.Cones.{InCone, InSpan}
+use Rattle.pm_vector.specs.Numbers.{Ratio}
+use Rattle.pm_vector.specs.Rows.{HasCols, IsZero, Row, Stands, dot, times}
+use Rattle.pm_vector.proofs.Columns.{basis_is_independent}
 use Rattle.pm_dd.proofs.MixedLaws.{generators_as}
 use Rattle.pm_dd.proofs.ZeroRows.{dot_zero}
 use Rattle.pm_dd.specs.Fronts.{HalfSpaces}

@@ -1,7 +1,7 @@
 -- The sets that products with given rows determine are right for VERTICES_IN_FACETS, whichever whole rows are taken for the rows of fractions.
-use Rattle.pm_algebra.specs.Numbers.{Ratio}
-use Rattle.pm_algebra.specs.Rows.{Row, Stands, dot}
-use Rattle.pm_algebra.specs.Cones.{InCone, InSpan}
+use Rattle.pm_vector.specs.Numbers.{Ratio}
+use Rattle.pm_vector.specs.Rows.{Row, Stands, dot}
+use Rattle.pm_vector.specs.Cones.{InCone, InSpan}
 use Rattle.pm_geom.proofs.Incidence.{same_zero}
 use Rattle.pm_geom.specs.Cones.{IsExtreme, IsValid, SameModulo}
 use Rattle.pm_geom.specs.Faces.{ray}

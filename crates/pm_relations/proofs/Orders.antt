@@ -1,12 +1,12 @@
 -- Two orders of one cone have as many rows, and as many of each sort that likeness keeps; how many rays and facets a thing has.
-use Rattle.pm_algebra.proofs.Lists.{Among, among_All, among_Contains, here, there}
-use Rattle.pm_algebra.proofs.ConeLaws.{in_cone_set}
-use Rattle.pm_algebra.proofs.RowLaws.{dot-plus, dot-same, dot-times, dot_comm, entry-opposite, entry-plus, entry-times, length-opposite, length-plus, length-times}
-use Rattle.pm_algebra.proofs.Ring.{ring}
-use Rattle.pm_algebra.proofs.Signs.{mul_nonneg, mul_pos, nonneg_cancel, times_both, weaken}
-use Rattle.pm_algebra.specs.Cones.{InCone, InSpan, IsConeSet}
-use Rattle.pm_algebra.specs.Numbers.{Ratio}
-use Rattle.pm_algebra.specs.Rows.{Row, dot, entry, opposite, plus, times}
+use Rattle.pm_vector.proofs.Lists.{Among, among_All, among_Contains, here, there}
+use Rattle.pm_vector.proofs.ConeLaws.{in_cone_set}
+use Rattle.pm_vector.proofs.RowLaws.{dot-plus, dot-same, dot-times, dot_comm, entry-opposite, entry-plus, entry-times, length-opposite, length-plus, length-times}
+use Rattle.pm_vector.proofs.Ring.{ring}
+use Rattle.pm_vector.proofs.Signs.{mul_nonneg, mul_pos, nonneg_cancel, times_both, weaken}
+use Rattle.pm_vector.specs.Cones.{InCone, InSpan, IsConeSet}
+use Rattle.pm_vector.specs.Numbers.{Ratio}
+use Rattle.pm_vector.specs.Rows.{Row, dot, entry, opposite, plus, times}
 use Rattle.pm_geom.proofs.Apart.{without, without_back, without_to}
 use Rattle.pm_geom.proofs.Facets.{order_as}
 use Rattle.pm_geom.specs.Cones.{InLineality, IsExtreme, IsExtremeRay, IsOrder, IsValid, SameModulo}

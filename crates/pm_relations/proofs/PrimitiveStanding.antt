@@ -1,8 +1,8 @@
 -- Primitive whole rows of rows of fractions stand for them, so they have the spans and null spaces of all rows that do.
-use Rattle.pm_algebra.specs.Numbers.{Ratio}
-use Rattle.pm_algebra.specs.Rows.{Row, Stands}
-use Rattle.pm_bases.proofs.Spans.{same_span, same_span_sym, same_span_trans}
-use Rattle.pm_bases.specs.Bases.{SameSpan}
+use Rattle.pm_vector.specs.Numbers.{Ratio}
+use Rattle.pm_vector.specs.Rows.{Row, Stands}
+use Rattle.pm_vector.proofs.Spans.{same_span, same_span_sym, same_span_trans}
+use Rattle.pm_vector.specs.Bases.{SameSpan}
 use Rattle.pm_elim.proofs.DotLaws.{null_of_span}
 use Rattle.pm_elim.specs.NullSpaces.{IsNullBasis}
 use Rattle.pm_types.specs.Things.{AreOrders, IsThing, Thing}

@@ -1,12 +1,12 @@
 -- How many facets hold each ray and how many rays each facet holds: the same in all orders, and found from right sets of the rays in each facet; simple and simplicial by these sizes.
-use Rattle.pm_algebra.proofs.ConeLaws.{in_cone_set}
-use Rattle.pm_algebra.proofs.Lists.{All_among, Among, Contains_among, among_All, among_Any, among_Contains, here, there}
-use Rattle.pm_algebra.proofs.Ring.{ring}
-use Rattle.pm_algebra.proofs.RowLaws.{dot-plus, dot-same, dot-times, dot_comm, length-opposite}
-use Rattle.pm_algebra.proofs.Signs.{mul_cancel}
-use Rattle.pm_algebra.specs.Cones.{InCone}
-use Rattle.pm_algebra.specs.Numbers.{Ratio}
-use Rattle.pm_algebra.specs.Rows.{Row, dot, opposite, plus, times}
+use Rattle.pm_vector.proofs.ConeLaws.{in_cone_set}
+use Rattle.pm_vector.proofs.Lists.{All_among, Among, Contains_among, among_All, among_Any, among_Contains, here, there}
+use Rattle.pm_vector.proofs.Ring.{ring}
+use Rattle.pm_vector.proofs.RowLaws.{dot-plus, dot-same, dot-times, dot_comm, length-opposite}
+use Rattle.pm_vector.proofs.Signs.{mul_cancel}
+use Rattle.pm_vector.specs.Cones.{InCone}
+use Rattle.pm_vector.specs.Numbers.{Ratio}
+use Rattle.pm_vector.specs.Rows.{Row, dot, opposite, plus, times}
 use Rattle.pm_geom.proofs.Facets.{dot-opposite}
 use Rattle.pm_geom.specs.Cones.{InLineality, IsExtreme, IsValid, SameModulo}
 use Rattle.pm_geom.specs.Faces.{ray}

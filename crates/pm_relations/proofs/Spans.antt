@@ -1,13 +1,13 @@
 -- The rows of right VERTICES and LINEALITY_SPACE, and of POINTS and INPUT_LINEALITY, have the span of the thing; null spaces are its affine hull and its lineality.
-use Rattle.pm_algebra.proofs.ConeLaws.{in_line, in_through, lines_opposite}
-use Rattle.pm_algebra.proofs.Lists.{All_among, Among, all_at, among_All}
-use Rattle.pm_algebra.proofs.RowLaws.{dot_comm}
-use Rattle.pm_algebra.specs.Cones.{InCone, InSpan}
-use Rattle.pm_algebra.specs.Numbers.{Ratio}
-use Rattle.pm_algebra.specs.Rows.{HasCols, Row}
-use Rattle.pm_bases.proofs.Columns.{basis_is_independent}
-use Rattle.pm_bases.proofs.Spans.{same_span_trans}
-use Rattle.pm_bases.specs.Bases.{SameSpan}
+use Rattle.pm_vector.proofs.ConeLaws.{in_line, in_through, lines_opposite}
+use Rattle.pm_vector.proofs.Lists.{All_among, Among, all_at, among_All}
+use Rattle.pm_vector.proofs.RowLaws.{dot_comm}
+use Rattle.pm_vector.specs.Cones.{InCone, InSpan}
+use Rattle.pm_vector.specs.Numbers.{Ratio}
+use Rattle.pm_vector.specs.Rows.{HasCols, Row}
+use Rattle.pm_vector.proofs.Columns.{basis_is_independent}
+use Rattle.pm_vector.proofs.Spans.{same_span_trans}
+use Rattle.pm_vector.specs.Bases.{SameSpan}
 use Rattle.pm_elim.proofs.DotLaws.{dot_span_zero}
 use Rattle.pm_elim.specs.NullSpaces.{IsNull, IsNullBasis}
 use Rattle.pm_geom.proofs.Facets.{vanishes_line}

@@ -1,9 +1,9 @@
 -- Whole rows that stand for the same rows of fractions have the same directions, and products with them vanish together.
-use Rattle.pm_algebra.proofs.Ring.{ring}
-use Rattle.pm_algebra.proofs.RowLaws.{dot-same, dot-times, dot_comm, entry-times}
-use Rattle.pm_algebra.proofs.Signs.{mul_cancel, mul_pos, times_both}
-use Rattle.pm_algebra.specs.Numbers.{Ratio}
-use Rattle.pm_algebra.specs.Rows.{Row, SameDirection, Stands, dot, entry, ratio_at, times}
+use Rattle.pm_vector.proofs.Ring.{ring}
+use Rattle.pm_vector.proofs.RowLaws.{dot-same, dot-times, dot_comm, entry-times}
+use Rattle.pm_vector.proofs.Signs.{mul_cancel, mul_pos, times_both}
+use Rattle.pm_vector.specs.Numbers.{Ratio}
+use Rattle.pm_vector.specs.Rows.{Row, SameDirection, Stands, dot, entry, ratio_at, times}
 use Rattle.pm_geom.specs.Faces.{ray}
 use Rattle.pm_types.specs.Right.{InOrder, StandFor}
 use Rattle.pm_types.specs.Things.{AreObjectives}

@@ -1,13 +1,13 @@
 -- Spans of rows that stand for the same rows of fractions, or are alike up to positive scale and lineality.
-use Rattle.pm_algebra.proofs.ConeLaws.{in_line, in_plus, in_same}
-use Rattle.pm_algebra.proofs.Lists.{Among, among_append, among_append_left, among_append_right, here, there}
-use Rattle.pm_algebra.proofs.Ring.{ring}
-use Rattle.pm_algebra.proofs.RowLaws.{entry-difference, entry-plus, entry-times, same_sym}
-use Rattle.pm_algebra.specs.Cones.{InSpan}
-use Rattle.pm_algebra.specs.Numbers.{Ratio}
-use Rattle.pm_algebra.specs.Rows.{Row, Stands}
-use Rattle.pm_bases.proofs.Spans.{same_span, span_difference, span_divide, span_of, span_times}
-use Rattle.pm_bases.specs.Bases.{SameSpan}
+use Rattle.pm_vector.proofs.ConeLaws.{in_line, in_plus, in_same}
+use Rattle.pm_vector.proofs.Lists.{Among, among_append, among_append_left, among_append_right, here, there}
+use Rattle.pm_vector.proofs.Ring.{ring}
+use Rattle.pm_vector.proofs.RowLaws.{entry-difference, entry-plus, entry-times, same_sym}
+use Rattle.pm_vector.specs.Cones.{InSpan}
+use Rattle.pm_vector.specs.Numbers.{Ratio}
+use Rattle.pm_vector.specs.Rows.{Row, Stands}
+use Rattle.pm_vector.proofs.Spans.{same_span, span_difference, span_divide, span_of, span_times}
+use Rattle.pm_vector.specs.Bases.{SameSpan}
 use Rattle.pm_geom.specs.Cones.{InLineality, SameModulo}
 use Rattle.pm_relations.proofs.Standing.{same_direction}
 use Rattle.pm_types.specs.Right.{InOrder, StandFor}

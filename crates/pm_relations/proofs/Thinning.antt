@@ -1,8 +1,8 @@
 -- What one description of a thing and another of the other sort are to each other: what cuts out what the other generates, which is what thinning asks for.
-use Rattle.pm_algebra.proofs.Lists.{All_among, all_at, all_from, among_All}
-use Rattle.pm_algebra.specs.Cones.{InCone}
-use Rattle.pm_algebra.specs.Numbers.{Ratio}
-use Rattle.pm_algebra.specs.Rows.{Row, dot}
+use Rattle.pm_vector.proofs.Lists.{All_among, all_at, all_from, among_All}
+use Rattle.pm_vector.specs.Cones.{InCone}
+use Rattle.pm_vector.specs.Numbers.{Ratio}
+use Rattle.pm_vector.specs.Rows.{Row, dot}
 use Rattle.pm_dd.specs.Fronts.{HalfSpaces}
 use Rattle.pm_object_type.specs.declared.object_type.ObjectType.TheVariants.{Cone, Fan, Polytope}
 use Rattle.pm_object_type.specs.declared.object_type.ObjectType.{ObjectType}

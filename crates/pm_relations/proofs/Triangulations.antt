@@ -1,14 +1,14 @@
 -- A triangulation over rows is one over rows that are alike, up to positive scale and what the lines span.
-use Rattle.pm_algebra.proofs.ConeLaws.{combination-times, combination_none, in_divide, in_generator, in_line, in_line_opposite, in_of, in_plus, in_same, in_through, in_times, in_zero, lines_opposite}
-use Rattle.pm_algebra.proofs.Filters.{among_map, map_among}
-use Rattle.pm_algebra.proofs.Lists.{All_among, Among, Any_among, among_All, among_Any}
-use Rattle.pm_algebra.proofs.Ring.{ring}
-use Rattle.pm_algebra.proofs.RowLaws.{entry-opposite, entry-plus, entry-times}
-use Rattle.pm_algebra.proofs.Signs.{mul_cancel, mul_pos, times_both, weaken}
-use Rattle.pm_algebra.specs.Cones.{InCone, InSpan, combination}
-use Rattle.pm_algebra.specs.Numbers.{Ratio}
-use Rattle.pm_algebra.specs.Rows.{Row, Same, SameDirection, entry, opposite, plus, times}
-use Rattle.pm_bases.proofs.Spans.{at_place, place_of, span_times}
+use Rattle.pm_vector.proofs.ConeLaws.{combination-times, combination_none, in_divide, in_generator, in_line, in_line_opposite, in_of, in_plus, in_same, in_through, in_times, in_zero, lines_opposite}
+use Rattle.pm_vector.proofs.Filters.{among_map, map_among}
+use Rattle.pm_vector.proofs.Lists.{All_among, Among, Any_among, among_All, among_Any}
+use Rattle.pm_vector.proofs.Ring.{ring}
+use Rattle.pm_vector.proofs.RowLaws.{entry-opposite, entry-plus, entry-times}
+use Rattle.pm_vector.proofs.Signs.{mul_cancel, mul_pos, times_both, weaken}
+use Rattle.pm_vector.specs.Cones.{InCone, InSpan, combination}
+use Rattle.pm_vector.specs.Numbers.{Ratio}
+use Rattle.pm_vector.specs.Rows.{Row, Same, SameDirection, entry, opposite, plus, times}
+use Rattle.pm_vector.proofs.Spans.{at_place, place_of, span_times}
 use Rattle.pm_geom.specs.Cones.{InLineality, SameModulo}
 use Rattle.pm_geom.specs.Faces.{ray}
 use Rattle.pm_geom.specs.Things.{Orders}

@@ -1,10 +1,10 @@
 -- One description of a cone or polytope is its twin too: its extreme rays with its lineality generate it, and its facet rows with those that vanish cut it out.
-use Rattle.pm_algebra.proofs.ConeLaws.{dot_in, in_cone_set, in_divide, in_generator, in_line, in_line_opposite, in_of, in_plus, in_same, in_through, in_times, in_zero, lines_opposite}
-use Rattle.pm_algebra.proofs.Lists.{All_among, Among, all_at, among_All, here, there}
-use Rattle.pm_algebra.proofs.RowLaws.{dot-same, dot_comm, entry-opposite, entry-plus, entry-times, plus-dot, same_sym, times-dot}
-use Rattle.pm_algebra.proofs.Signs.{mul_nonneg, nonneg_cancel, weaken}
-use Rattle.pm_algebra.specs.Cones.{InCone, InSpan, IsConeSet}
-use Rattle.pm_algebra.specs.Rows.{HasCols, Row, dot, entry, plus, times}
+use Rattle.pm_vector.proofs.ConeLaws.{dot_in, in_cone_set, in_divide, in_generator, in_line, in_line_opposite, in_of, in_plus, in_same, in_through, in_times, in_zero, lines_opposite}
+use Rattle.pm_vector.proofs.Lists.{All_among, Among, all_at, among_All, here, there}
+use Rattle.pm_vector.proofs.RowLaws.{dot-same, dot_comm, entry-opposite, entry-plus, entry-times, plus-dot, same_sym, times-dot}
+use Rattle.pm_vector.proofs.Signs.{mul_nonneg, nonneg_cancel, weaken}
+use Rattle.pm_vector.specs.Cones.{InCone, InSpan, IsConeSet}
+use Rattle.pm_vector.specs.Rows.{HasCols, Row, dot, entry, plus, times}
 use Rattle.pm_geom.proofs.Facets.{order_generates, vanishes_line}
 use Rattle.pm_geom.proofs.Lineality.{valid_generated}
 use Rattle.pm_geom.proofs.Polar.{bipolar, cut_at, cut_from}

@@ -1,8 +1,8 @@
 -- Laws of dimensions: what determines them, and how they are found from other values that are right.
 use Rattle.std.specs.Prelude.{ℕ, ◌≡◌, ◌↔◌, IsTrue, Bool, List, ◌++◌, length, map}
-use Rattle.pm_algebra.specs.Numbers.{Ratio}
-use Rattle.pm_algebra.specs.Rows.{Row}
-use Rattle.pm_bases.specs.Bases.{IsRank, SameSpan}
+use Rattle.pm_vector.specs.Numbers.{Ratio}
+use Rattle.pm_vector.specs.Rows.{Row}
+use Rattle.pm_vector.specs.Bases.{IsRank, SameSpan}
 use Rattle.pm_elim.specs.NullSpaces.{IsNullBasis}
 use Rattle.pm_types.specs.Things.{Thing, IsThing, AreOrders}
 use Rattle.pm_geom.specs.Things.{Orders}

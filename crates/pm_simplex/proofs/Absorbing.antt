@@ -1,9 +1,9 @@
 -- Residuals leave for free coordinates: what each pivot keeps, and what is left where there is none.
-use Rattle.pm_algebra.proofs.Ring.{ring}
-use Rattle.pm_algebra.proofs.Signs.{mul_cancel, mul_pos, pos_cancel}
-use Rattle.pm_algebra.specs.Numbers.{Ratio}
-use Rattle.pm_algebra.specs.Rows.{Row}
-use Rattle.pm_bases.specs.Bases.{column}
+use Rattle.pm_vector.proofs.Ring.{ring}
+use Rattle.pm_vector.proofs.Signs.{mul_cancel, mul_pos, pos_cancel}
+use Rattle.pm_vector.specs.Numbers.{Ratio}
+use Rattle.pm_vector.specs.Rows.{Row}
+use Rattle.pm_vector.specs.Bases.{column}
 use Rattle.pm_geom.specs.declared.evidence.Evidence.{Evidence}
 use Rattle.pm_programs.specs.Dictionaries.{at, row_of}
 use Rattle.pm_simplex.proofs.EvidenceLaws.{absorbing_objectives, lawful_is_shown}

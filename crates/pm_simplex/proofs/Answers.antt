@@ -1,7 +1,7 @@
 -- What the two phases end with is right for the program.
-use Rattle.pm_algebra.specs.Numbers.{Ratio}
-use Rattle.pm_algebra.specs.Rows.{Row, entry}
-use Rattle.pm_bases.specs.Bases.{column, row_at}
+use Rattle.pm_vector.specs.Numbers.{Ratio}
+use Rattle.pm_vector.specs.Rows.{Row, entry}
+use Rattle.pm_vector.specs.Bases.{column, row_at}
 use Rattle.pm_fraction.specs.Fractions.{ratio_of}
 use Rattle.pm_geom.specs.Programs.{IsInfeasible, IsOptimal, IsUnbounded}
 use Rattle.pm_programs.specs.Dictionaries.{at, row_of}

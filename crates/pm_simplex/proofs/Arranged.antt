@@ -1,6 +1,6 @@
 -- What a pivot by the ratio test keeps of the last rows and of residuals in the basis.
-use Rattle.pm_algebra.specs.Rows.{Row}
-use Rattle.pm_bases.specs.Bases.{column}
+use Rattle.pm_vector.specs.Rows.{Row}
+use Rattle.pm_vector.specs.Bases.{column}
 use Rattle.pm_programs.specs.Dictionaries.{at}
 use Rattle.pm_simplex.proofs.Layouts.{basis_other, basis_own, count_P, settled_next}
 use Rattle.pm_simplex.proofs.Steps.{not_signed_objective}

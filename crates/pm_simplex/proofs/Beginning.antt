@@ -1,9 +1,9 @@
 -- Where no residual is left to leave, the dictionary is feasible, or the auxiliary variable makes it so.
-use Rattle.pm_algebra.proofs.Ring.{ring}
-use Rattle.pm_algebra.proofs.Signs.{mul_nonneg, mul_pos, nonneg_cancel, pos_cancel}
-use Rattle.pm_algebra.specs.Numbers.{Ratio}
-use Rattle.pm_algebra.specs.Rows.{Row, entry}
-use Rattle.pm_bases.specs.Bases.{column, row_at}
+use Rattle.pm_vector.proofs.Ring.{ring}
+use Rattle.pm_vector.proofs.Signs.{mul_nonneg, mul_pos, nonneg_cancel, pos_cancel}
+use Rattle.pm_vector.specs.Numbers.{Ratio}
+use Rattle.pm_vector.specs.Rows.{Row, entry}
+use Rattle.pm_vector.specs.Bases.{column, row_at}
 use Rattle.pm_geom.specs.declared.evidence.Evidence.{Evidence}
 use Rattle.pm_programs.proofs.Dictionaries.{PivotedAs, pivoted_as}
 use Rattle.pm_programs.proofs.Pivots.{pivot_begins_feasible}

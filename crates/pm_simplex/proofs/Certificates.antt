@@ -1,14 +1,14 @@
 -- The dual that the row of the objective of an optimal dictionary gives.
-use Rattle.pm_algebra.proofs.ConeLaws.{combination-times, combination_none}
-use Rattle.pm_algebra.proofs.Ring.{ring}
-use Rattle.pm_algebra.proofs.RowLaws.{entry-plus, entry-times, length-times}
-use Rattle.pm_algebra.proofs.Signs.{mul_cancel, mul_nonneg, mul_pos, nonneg_cancel}
-use Rattle.pm_algebra.specs.Cones.{InSpan, combination}
-use Rattle.pm_algebra.specs.Numbers.{Ratio}
-use Rattle.pm_algebra.specs.Rows.{Row, entry, plus, ratio_at, times}
-use Rattle.pm_bases.proofs.Columns.{coefficient, combination_at, combination_zero}
-use Rattle.pm_bases.proofs.Spans.{span_at, span_to}
-use Rattle.pm_bases.specs.Bases.{column, row_at}
+use Rattle.pm_vector.proofs.ConeLaws.{combination-times, combination_none}
+use Rattle.pm_vector.proofs.Ring.{ring}
+use Rattle.pm_vector.proofs.RowLaws.{entry-plus, entry-times, length-times}
+use Rattle.pm_vector.proofs.Signs.{mul_cancel, mul_nonneg, mul_pos, nonneg_cancel}
+use Rattle.pm_vector.specs.Cones.{InSpan, combination}
+use Rattle.pm_vector.specs.Numbers.{Ratio}
+use Rattle.pm_vector.specs.Rows.{Row, entry, plus, ratio_at, times}
+use Rattle.pm_vector.proofs.Columns.{coefficient, combination_at, combination_zero}
+use Rattle.pm_vector.proofs.Spans.{span_at, span_to}
+use Rattle.pm_vector.specs.Bases.{column, row_at}
 use Rattle.pm_simplex.proofs.KeyColumns.{StandsFor, length_upward, upward_at, vector_stands}
 use Rattle.pm_programs.proofs.LexRows.{times_zero}
 use Rattle.pm_simplex.specs.Comparisons.{rows_of}

@@ -1,8 +1,8 @@
 -- The order of the rows in a ratio test, in whole numbers.
-use Rattle.pm_algebra.proofs.Ring.{ring}
-use Rattle.pm_algebra.proofs.Signs.{mul_pos, pos_cancel}
-use Rattle.pm_algebra.specs.Numbers.{Ratio}
-use Rattle.pm_bases.specs.Bases.{column}
+use Rattle.pm_vector.proofs.Ring.{ring}
+use Rattle.pm_vector.proofs.Signs.{mul_pos, pos_cancel}
+use Rattle.pm_vector.specs.Numbers.{Ratio}
+use Rattle.pm_vector.specs.Bases.{column}
 use Rattle.pm_programs.specs.Lex.{IsLexPositive}
 use Rattle.pm_simplex.specs.Sizes.{IsQuotientBelow}
 use Rattle.pm_programs.specs.Tableaux.{IsSign}

@@ -1,10 +1,10 @@
 -- A variable that is hindered by no row gives a direction.
-use Rattle.pm_algebra.proofs.Ring.{ring}
-use Rattle.pm_algebra.proofs.RowLaws.{dot-times, entry-times, length-times}
-use Rattle.pm_algebra.proofs.Signs.{mul_cancel, mul_nonneg, nonneg_cancel}
-use Rattle.pm_algebra.specs.Numbers.{Ratio}
-use Rattle.pm_algebra.specs.Rows.{Row, dot, entry, ratio_at, times}
-use Rattle.pm_bases.specs.Bases.{column, row_at}
+use Rattle.pm_vector.proofs.Ring.{ring}
+use Rattle.pm_vector.proofs.RowLaws.{dot-times, entry-times, length-times}
+use Rattle.pm_vector.proofs.Signs.{mul_cancel, mul_nonneg, nonneg_cancel}
+use Rattle.pm_vector.specs.Numbers.{Ratio}
+use Rattle.pm_vector.specs.Rows.{Row, dot, entry, ratio_at, times}
+use Rattle.pm_vector.specs.Bases.{column, row_at}
 use Rattle.pm_fraction.specs.Fractions.{ratio_of}
 use Rattle.pm_simplex.proofs.KeyColumns.{length_upward, upward_at}
 use Rattle.pm_simplex.proofs.Points.{all_places, append_left, append_right, slack_is_signed}

@@ -1,8 +1,8 @@
 -- A pivot by the lexicographic rule is lawful, and evidence of a lawful pivot is shown.
-use Rattle.pm_algebra.proofs.Signs.{mul_nonneg, nonneg_cancel}
-use Rattle.pm_algebra.specs.Numbers.{Ratio}
-use Rattle.pm_algebra.specs.Rows.{Row, entry}
-use Rattle.pm_bases.specs.Bases.{column, row_at}
+use Rattle.pm_vector.proofs.Signs.{mul_nonneg, nonneg_cancel}
+use Rattle.pm_vector.specs.Numbers.{Ratio}
+use Rattle.pm_vector.specs.Rows.{Row, entry}
+use Rattle.pm_vector.specs.Bases.{column, row_at}
 use Rattle.pm_simplex.proofs.KeyColumns.{found_at, in_other}
 use Rattle.pm_simplex.proofs.Least.{direction_sign, hinders_sign, not_zero_num}
 use Rattle.pm_simplex.proofs.RowOrder.{below_is, opposite}

@@ -1,13 +1,13 @@
 -- The row of a least auxiliary variable gives multipliers of infeasibility.
-use Rattle.pm_algebra.proofs.ConeLaws.{combination-times}
-use Rattle.pm_algebra.proofs.Ring.{ring}
-use Rattle.pm_algebra.proofs.RowLaws.{entry-times, length-times}
-use Rattle.pm_algebra.proofs.Signs.{mul_cancel, mul_nonneg, mul_pos, nonneg_cancel, pos_cancel}
-use Rattle.pm_algebra.specs.Cones.{InSpan, combination}
-use Rattle.pm_algebra.specs.Numbers.{Ratio}
-use Rattle.pm_algebra.specs.Rows.{Row, entry, ratio_at, times}
-use Rattle.pm_bases.proofs.Spans.{span_at, span_to}
-use Rattle.pm_bases.specs.Bases.{column, row_at}
+use Rattle.pm_vector.proofs.ConeLaws.{combination-times}
+use Rattle.pm_vector.proofs.Ring.{ring}
+use Rattle.pm_vector.proofs.RowLaws.{entry-times, length-times}
+use Rattle.pm_vector.proofs.Signs.{mul_cancel, mul_nonneg, mul_pos, nonneg_cancel, pos_cancel}
+use Rattle.pm_vector.specs.Cones.{InSpan, combination}
+use Rattle.pm_vector.specs.Numbers.{Ratio}
+use Rattle.pm_vector.specs.Rows.{Row, entry, ratio_at, times}
+use Rattle.pm_vector.proofs.Spans.{span_at, span_to}
+use Rattle.pm_vector.specs.Bases.{column, row_at}
 use Rattle.pm_simplex.proofs.Certificates.{comb_beyond, row_read}
 use Rattle.pm_simplex.proofs.KeyColumns.{StandsFor, key_stands, length_upward, upward_at}
 use Rattle.pm_programs.proofs.LexRows.{times_zero}

@@ -1,8 +1,8 @@
 -- The columns of the lexicographic order, and what a row of a dictionary says of them.
-use Rattle.pm_algebra.proofs.Ring.{ring}
-use Rattle.pm_algebra.specs.Numbers.{Ratio}
-use Rattle.pm_algebra.specs.Rows.{Row, entry, ratio_at}
-use Rattle.pm_bases.specs.Bases.{column, row_at}
+use Rattle.pm_vector.proofs.Ring.{ring}
+use Rattle.pm_vector.specs.Numbers.{Ratio}
+use Rattle.pm_vector.specs.Rows.{Row, entry, ratio_at}
+use Rattle.pm_vector.specs.Bases.{column, row_at}
 use Rattle.pm_fraction.specs.Arithmetic.{opposite_of}
 use Rattle.pm_fraction.specs.Fractions.{ratio_of}
 use Rattle.pm_programs.specs.Dictionaries.{IsDictionaryOf, at, row_of}

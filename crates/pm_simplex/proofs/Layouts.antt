@@ -1,9 +1,9 @@
 -- What a pivot keeps: the layout, the columns of the other rows, and what is 0 or positive where the pivot row is 0.
-use Rattle.pm_algebra.proofs.Ring.{ring}
-use Rattle.pm_algebra.proofs.Signs.{mul_cancel}
-use Rattle.pm_algebra.specs.Numbers.{Ratio}
-use Rattle.pm_algebra.specs.Rows.{Row, ratio_at}
-use Rattle.pm_bases.specs.Bases.{column}
+use Rattle.pm_vector.proofs.Ring.{ring}
+use Rattle.pm_vector.proofs.Signs.{mul_cancel}
+use Rattle.pm_vector.specs.Numbers.{Ratio}
+use Rattle.pm_vector.specs.Rows.{Row, ratio_at}
+use Rattle.pm_vector.specs.Bases.{column}
 use Rattle.pm_programs.proofs.Dictionaries.{pivot_is_dictionary}
 use Rattle.pm_programs.proofs.Tableaux.{column_other, column_set}
 use Rattle.pm_programs.specs.Dictionaries.{AllFit, IsDictionaryOf, IsNewElsewhere, IsNewHere, IsProductSum, at, row_of}

@@ -1,8 +1,8 @@
 -- The least row of a ratio test, found one row after another.
-use Rattle.pm_algebra.proofs.Ring.{ring}
-use Rattle.pm_algebra.proofs.Signs.{mul_pos, pos_cancel}
-use Rattle.pm_algebra.specs.Rows.{Row, entry}
-use Rattle.pm_bases.specs.Bases.{column, row_at}
+use Rattle.pm_vector.proofs.Ring.{ring}
+use Rattle.pm_vector.proofs.Signs.{mul_pos, pos_cancel}
+use Rattle.pm_vector.specs.Rows.{Row, entry}
+use Rattle.pm_vector.specs.Bases.{column, row_at}
 use Rattle.pm_programs.proofs.LexRows.{ratio_trans}
 use Rattle.pm_programs.proofs.Pivots.{key-difference}
 use Rattle.pm_simplex.specs.Comparisons.{HindersAt, IsLeastOf, IsRowBelow, direction, rows_of}

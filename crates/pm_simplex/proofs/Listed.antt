@@ -1,5 +1,5 @@
 -- Lists that are made value by value.
-use Rattle.pm_algebra.specs.Numbers.{Ratio}
+use Rattle.pm_vector.specs.Numbers.{Ratio}
 use Rattle.pm_fraction.specs.Fractions.{ratio_of}
 use Rattle.pm_simplex.proofs.Pushed.{count_pushed, pushed}
 use Rattle.pm_simplex.specs.Solutions.{Lists}

@@ -1,12 +1,12 @@
 -- The first phase: its objective is the opposite of the auxiliary variable, in every dictionary.
-use Rattle.pm_algebra.proofs.ConeLaws.{in_plus}
-use Rattle.pm_algebra.proofs.Ring.{ring}
-use Rattle.pm_algebra.proofs.RowLaws.{entry-plus, entry-times}
-use Rattle.pm_algebra.proofs.Signs.{mul_cancel, mul_nonneg, mul_pos, nonneg_cancel, pos_cancel}
-use Rattle.pm_algebra.specs.Cones.{InSpan}
-use Rattle.pm_algebra.specs.Rows.{Row, entry, plus, times}
-use Rattle.pm_bases.proofs.Spans.{span_at, span_from, span_times}
-use Rattle.pm_bases.specs.Bases.{column, row_at}
+use Rattle.pm_vector.proofs.ConeLaws.{in_plus}
+use Rattle.pm_vector.proofs.Ring.{ring}
+use Rattle.pm_vector.proofs.RowLaws.{entry-plus, entry-times}
+use Rattle.pm_vector.proofs.Signs.{mul_cancel, mul_nonneg, mul_pos, nonneg_cancel, pos_cancel}
+use Rattle.pm_vector.specs.Cones.{InSpan}
+use Rattle.pm_vector.specs.Rows.{Row, entry, plus, times}
+use Rattle.pm_vector.proofs.Spans.{span_at, span_from, span_times}
+use Rattle.pm_vector.specs.Bases.{column, row_at}
 use Rattle.pm_simplex.proofs.Infeasible.{auxiliary_is_signed}
 use Rattle.pm_programs.proofs.Tableaux.{zero_in_columns}
 use Rattle.pm_simplex.specs.Comparisons.{direction, rows_of}

@@ -1,9 +1,9 @@
 -- A feasible dictionary gives a point of its value.
-use Rattle.pm_algebra.proofs.Ring.{ring}
-use Rattle.pm_algebra.proofs.Signs.{mul_cancel, mul_nonneg, nonneg_cancel}
-use Rattle.pm_algebra.specs.Numbers.{Ratio}
-use Rattle.pm_algebra.specs.Rows.{Row, dot, entry, ratio_at}
-use Rattle.pm_bases.specs.Bases.{column, row_at}
+use Rattle.pm_vector.proofs.Ring.{ring}
+use Rattle.pm_vector.proofs.Signs.{mul_cancel, mul_nonneg, nonneg_cancel}
+use Rattle.pm_vector.specs.Numbers.{Ratio}
+use Rattle.pm_vector.specs.Rows.{Row, dot, entry, ratio_at}
+use Rattle.pm_vector.specs.Bases.{column, row_at}
 use Rattle.pm_simplex.proofs.KeyColumns.{length_upward, upward_at}
 use Rattle.pm_simplex.proofs.Readings.{objective_reading, residual_reading, slack_reading}
 use Rattle.pm_simplex.proofs.Solutions.{at_basic, column_solves, positive_at, sorted, value_at, length_is}

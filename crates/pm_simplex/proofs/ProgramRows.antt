@@ -1,6 +1,6 @@
 -- Programs of matrices.
-use Rattle.pm_algebra.specs.Numbers.{Ratio}
-use Rattle.pm_algebra.specs.Rows.{HasCols, Row}
+use Rattle.pm_vector.specs.Numbers.{Ratio}
+use Rattle.pm_vector.specs.Rows.{HasCols, Row}
 use Rattle.pm_matrix.specs.FractionRows.{ArePrimitiveRowsOf}
 use Rattle.pm_matrix.specs.Matrices.{FractionMatrix, IsMatrix}
 use Rattle.pm_simplex.proofs.EvidenceLaws.{wide_as}

@@ -1,7 +1,7 @@
 -- Lists that grow by one: what is so at each place stays so.
-use Rattle.pm_algebra.specs.Numbers.{Ratio}
+use Rattle.pm_vector.specs.Numbers.{Ratio}
 use Rattle.pm_programs.specs.Dictionaries.{HasPlaces, IsNewElsewhere, IsNewHere, IsPivoted, IsRowAfter, at, row_of}
-use Rattle.pm_algebra.specs.Rows.{ratio_at}
+use Rattle.pm_vector.specs.Rows.{ratio_at}
 use Rattle.std.proofs.Common.{ap, arith, map, refl, below_more, get_or, length, subst, sym, ◌++◌, ◌+◌, ◌<◌, ◌≡◌, ◌∙◌, ℕ, List, [], ◌∷◌}
 use Rattle.std.proofs.lemmas.List.{get_or_append_left, get_or_push, get_or-map, length_push, map_push}
 

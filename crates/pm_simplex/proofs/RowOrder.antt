@@ -1,9 +1,9 @@
 -- Rows compared column by column are compared in lexicographic order.
-use Rattle.pm_algebra.proofs.Ring.{ring}
-use Rattle.pm_algebra.proofs.Signs.{mul_pos}
-use Rattle.pm_algebra.specs.Numbers.{Ratio}
-use Rattle.pm_algebra.specs.Rows.{Row, entry}
-use Rattle.pm_bases.specs.Bases.{column, row_at}
+use Rattle.pm_vector.proofs.Ring.{ring}
+use Rattle.pm_vector.proofs.Signs.{mul_pos}
+use Rattle.pm_vector.specs.Numbers.{Ratio}
+use Rattle.pm_vector.specs.Rows.{Row, entry}
+use Rattle.pm_vector.specs.Bases.{column, row_at}
 use Rattle.pm_simplex.proofs.Compare.{below_whole, lex_at}
 use Rattle.pm_simplex.proofs.KeyColumns.{StandsFor, key_stands, length_upward, upward_at}
 use Rattle.pm_programs.proofs.Pivots.{key-difference}

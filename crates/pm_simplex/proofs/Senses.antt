@@ -1,6 +1,6 @@
 -- The least value as the opposite of the greatest one of the opposite objective.
-use Rattle.pm_algebra.specs.Numbers.{Ratio}
-use Rattle.pm_algebra.specs.Rows.{ratio_at}
+use Rattle.pm_vector.specs.Numbers.{Ratio}
+use Rattle.pm_vector.specs.Rows.{ratio_at}
 use Rattle.pm_fraction.specs.Arithmetic.{opposite_of}
 use Rattle.pm_simplex.specs.Senses.{objective_in, ratio_in, value_in}
 use Rattle.pm_simplex.specs.declared.sense.Sense.TheVariants.{Maximal, Minimal}

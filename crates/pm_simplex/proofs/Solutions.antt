@@ -1,13 +1,13 @@
 -- A column of a dictionary solves the equations.
-use Rattle.pm_algebra.proofs.ConeLaws.{dot_combination_lines}
-use Rattle.pm_algebra.proofs.Ring.{ring}
-use Rattle.pm_algebra.proofs.RowLaws.{dot-plus, dot-same, dot-times, dot_comm, entry-times, length-times}
-use Rattle.pm_algebra.proofs.Signs.{mul_cancel, mul_pos}
-use Rattle.pm_algebra.specs.Cones.{InSpan, combination}
-use Rattle.pm_algebra.specs.Numbers.{Ratio}
-use Rattle.pm_algebra.specs.Rows.{Row, dot, entry, ratio_at, times}
-use Rattle.pm_bases.proofs.Spans.{place_of, span_at, span_from}
-use Rattle.pm_bases.specs.Bases.{column, row_at}
+use Rattle.pm_vector.proofs.ConeLaws.{dot_combination_lines}
+use Rattle.pm_vector.proofs.Ring.{ring}
+use Rattle.pm_vector.proofs.RowLaws.{dot-plus, dot-same, dot-times, dot_comm, entry-times, length-times}
+use Rattle.pm_vector.proofs.Signs.{mul_cancel, mul_pos}
+use Rattle.pm_vector.specs.Cones.{InSpan, combination}
+use Rattle.pm_vector.specs.Numbers.{Ratio}
+use Rattle.pm_vector.specs.Rows.{Row, dot, entry, ratio_at, times}
+use Rattle.pm_vector.proofs.Spans.{place_of, span_at, span_from}
+use Rattle.pm_vector.specs.Bases.{column, row_at}
 use Rattle.pm_fraction.specs.Fractions.{ratio_of}
 use Rattle.pm_simplex.proofs.KeyColumns.{first_place, length_upward, upward_at}
 use Rattle.pm_programs.proofs.LexRows.{none_times, times_zero}

@@ -1,12 +1,12 @@
 -- The start is a dictionary of the program's equations.
-use Rattle.pm_algebra.proofs.Ring.{ring}
-use Rattle.pm_algebra.proofs.RowLaws.{entry-times, length-times}
-use Rattle.pm_algebra.proofs.Signs.{mul_pos}
-use Rattle.pm_algebra.specs.Cones.{InSpan}
-use Rattle.pm_algebra.specs.Numbers.{Ratio}
-use Rattle.pm_algebra.specs.Rows.{HasCols, Row, entry, ratio_at, times}
-use Rattle.pm_bases.proofs.Spans.{place_of, same_span, span_at, span_divide, span_times}
-use Rattle.pm_bases.specs.Bases.{SameSpan, column, row_at}
+use Rattle.pm_vector.proofs.Ring.{ring}
+use Rattle.pm_vector.proofs.RowLaws.{entry-times, length-times}
+use Rattle.pm_vector.proofs.Signs.{mul_pos}
+use Rattle.pm_vector.specs.Cones.{InSpan}
+use Rattle.pm_vector.specs.Numbers.{Ratio}
+use Rattle.pm_vector.specs.Rows.{HasCols, Row, entry, ratio_at, times}
+use Rattle.pm_vector.proofs.Spans.{place_of, same_span, span_at, span_divide, span_times}
+use Rattle.pm_vector.specs.Bases.{SameSpan, column, row_at}
 use Rattle.pm_fraction.specs.Fractions.{IsLowestTermsOf, ratio_of}
 use Rattle.pm_geom.specs.Programs.{IsTimes}
 use Rattle.pm_programs.specs.Dictionaries.{IsDictionaryOf, at}

@@ -1,6 +1,6 @@
 -- Row i of the start, place by place.
-use Rattle.pm_algebra.specs.Numbers.{Ratio}
-use Rattle.pm_algebra.specs.Rows.{Row, ratio_at}
+use Rattle.pm_vector.specs.Numbers.{Ratio}
+use Rattle.pm_vector.specs.Rows.{Row, ratio_at}
 use Rattle.pm_fraction.specs.Fractions.{ratio_of}
 use Rattle.pm_matrix.specs.Matrices.{IsFraction}
 use Rattle.pm_simplex.proofs.KeyColumns.{nat_eq_no}

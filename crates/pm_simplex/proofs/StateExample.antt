@@ -1,11 +1,11 @@
 -- A small dictionary is a state.
-use Rattle.pm_algebra.proofs.ConeLaws.{in_line}
-use Rattle.pm_algebra.proofs.Lists.{Among, here, there}
-use Rattle.pm_algebra.specs.Cones.{InSpan}
-use Rattle.pm_algebra.specs.Numbers.{InRangeRatio, Ratio}
-use Rattle.pm_algebra.specs.Rows.{Row, entry, ratio_at, times}
-use Rattle.pm_bases.proofs.Spans.{same_span, span_times}
-use Rattle.pm_bases.specs.Bases.{SameSpan, column, row_at}
+use Rattle.pm_vector.proofs.ConeLaws.{in_line}
+use Rattle.pm_vector.proofs.Lists.{Among, here, there}
+use Rattle.pm_vector.specs.Cones.{InSpan}
+use Rattle.pm_vector.specs.Numbers.{InRangeRatio, Ratio}
+use Rattle.pm_vector.specs.Rows.{Row, entry, ratio_at, times}
+use Rattle.pm_vector.proofs.Spans.{same_span, span_times}
+use Rattle.pm_vector.specs.Bases.{SameSpan, column, row_at}
 use Rattle.pm_fraction.proofs.Quotients.{whole_reduced}
 use Rattle.pm_fraction.specs.Fractions.{IsLowestTermsOf, ratio_of}
 use Rattle.pm_simplex.specs.Comparisons.{IsApart, IsCovered, rows_of}

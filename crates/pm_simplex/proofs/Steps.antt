@@ -1,9 +1,9 @@
 -- One step of the simplex method keeps the state, and raises the objective.
-use Rattle.pm_algebra.proofs.Ring.{ring}
-use Rattle.pm_algebra.proofs.Signs.{mul_pos, pos_cancel}
-use Rattle.pm_algebra.specs.Numbers.{InRangeRatio, Ratio}
-use Rattle.pm_algebra.specs.Rows.{Row, entry, ratio_at}
-use Rattle.pm_bases.specs.Bases.{column, row_at}
+use Rattle.pm_vector.proofs.Ring.{ring}
+use Rattle.pm_vector.proofs.Signs.{mul_pos, pos_cancel}
+use Rattle.pm_vector.specs.Numbers.{InRangeRatio, Ratio}
+use Rattle.pm_vector.specs.Rows.{Row, entry, ratio_at}
+use Rattle.pm_vector.specs.Bases.{column, row_at}
 use Rattle.pm_programs.proofs.Dictionaries.{PivotedAs, pivoted_as}
 use Rattle.pm_simplex.proofs.KeyColumns.{StandsFor, upward_at, vector_stands}
 use Rattle.pm_simplex.proofs.Least.{direction_sign, hinders_sign}

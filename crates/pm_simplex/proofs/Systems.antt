@@ -1,6 +1,6 @@
 -- The equations of a program as rows over all columns.
-use Rattle.pm_algebra.specs.Rows.{Row, entry}
-use Rattle.pm_bases.specs.Bases.{row_at}
+use Rattle.pm_vector.specs.Rows.{Row, entry}
+use Rattle.pm_vector.specs.Bases.{row_at}
 use Rattle.pm_simplex.proofs.KeyColumns.{length_upward, nat_eq_no, upward_at}
 use Rattle.pm_simplex.specs.Phases.{IsPhaseSystem}
 use Rattle.pm_simplex.specs.ProgramLaws.{IsSystem}

@@ -1,6 +1,6 @@
 -- What the answers of a linear program are right for.
-use Rattle.pm_algebra.specs.Numbers.{Ratio}
-use Rattle.pm_algebra.specs.Rows.{Row}
+use Rattle.pm_vector.specs.Numbers.{Ratio}
+use Rattle.pm_vector.specs.Rows.{Row}
 use Rattle.pm_geom.specs.declared.evidence.Evidence.{Evidence}
 use Rattle.pm_matrix.specs.FractionRows.{ArePrimitiveRowsOf}
 use Rattle.pm_simplex.specs.Evidence.{IsShownBy}

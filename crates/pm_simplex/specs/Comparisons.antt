@@ -1,7 +1,7 @@
 -- The order of the rows in a ratio test.
-use Rattle.pm_algebra.specs.Numbers.{Ratio}
-use Rattle.pm_algebra.specs.Rows.{Row, entry}
-use Rattle.pm_bases.specs.Bases.{column, row_at}
+use Rattle.pm_vector.specs.Numbers.{Ratio}
+use Rattle.pm_vector.specs.Rows.{Row, entry}
+use Rattle.pm_vector.specs.Bases.{column, row_at}
 use Rattle.pm_programs.specs.Dictionaries.{HasPlaces, IsDictionaryOf, at, row_of}
 use Rattle.pm_programs.specs.Lex.{IsLexPositive, keys}
 use Rattle.pm_simplex.specs.Sizes.{IsQuotientBelow}

@@ -1,7 +1,7 @@
 -- Evidence that a linear program leaves the range: a lawful pivot of the dictionary of a basis, in which an operation for one new fraction leaves the range.
-use Rattle.pm_algebra.specs.Numbers.{Ratio}
-use Rattle.pm_algebra.specs.Rows.{Row}
-use Rattle.pm_bases.specs.Bases.{column}
+use Rattle.pm_vector.specs.Numbers.{Ratio}
+use Rattle.pm_vector.specs.Rows.{Row}
+use Rattle.pm_vector.specs.Bases.{column}
 use Rattle.pm_geom.specs.declared.evidence.Evidence.TheVariants.{E3}
 use Rattle.pm_geom.specs.declared.evidence.Evidence.{Evidence}
 use Rattle.pm_programs.specs.Dictionaries.{IsDictionaryOf, IsWidePlace, at}

@@ -1,7 +1,7 @@
 -- The lineality of cone(G) + span(L) (Ziegler, Lectures on Polytopes, section 1.5): which rows of G lie in it, and what is eliminated of these.
-use Rattle.pm_algebra.specs.Cones.{InCone}
-use Rattle.pm_algebra.specs.Rows.{Row, opposite}
-use Rattle.pm_bases.specs.Bases.{row_at}
+use Rattle.pm_vector.specs.Cones.{InCone}
+use Rattle.pm_vector.specs.Rows.{Row, opposite}
+use Rattle.pm_vector.specs.Bases.{row_at}
 use Rattle.pm_elim.specs.Evidence.{IsBasisOf}
 use Rattle.pm_geom.specs.StatedOrder.{rows_marked}
 use Rattle.std.specs.List.{Contains}

@@ -1,7 +1,7 @@
 -- The dual of an optimal dictionary.
-use Rattle.pm_algebra.specs.Numbers.{Ratio}
-use Rattle.pm_algebra.specs.Rows.{Row}
-use Rattle.pm_bases.specs.Bases.{column}
+use Rattle.pm_vector.specs.Numbers.{Ratio}
+use Rattle.pm_vector.specs.Rows.{Row}
+use Rattle.pm_vector.specs.Bases.{column}
 use Rattle.pm_dual.specs.declared.answer.LpAnswer.TheVariants.{Infeasible, Optimal, Unbounded}
 use Rattle.pm_dual.specs.declared.answer.LpAnswer.{LpAnswer}
 use Rattle.pm_programs.specs.Dictionaries.{IsDictionaryOf, at, row_of}

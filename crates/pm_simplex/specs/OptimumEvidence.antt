@@ -1,9 +1,9 @@
 -- What evidence says of an optimum, or of the rays at it, where these were not found.
-use Rattle.pm_algebra.specs.Cones.{InCone}
-use Rattle.pm_algebra.specs.Numbers.{Ratio}
-use Rattle.pm_algebra.specs.Rows.{Row, entry, ratio_at}
+use Rattle.pm_vector.specs.Cones.{InCone}
+use Rattle.pm_vector.specs.Numbers.{Ratio}
+use Rattle.pm_vector.specs.Rows.{Row, entry, ratio_at}
 use Rattle.pm_elim.specs.Evidence.{unit}
-use Rattle.pm_bases.specs.Bases.{row_at}
+use Rattle.pm_vector.specs.Bases.{row_at}
 use Rattle.pm_fraction.specs.Arithmetic.{SumLeaves, opposite_of, product_of, sum_of}
 use Rattle.pm_fraction.specs.Fractions.{IsLowestTermsOf, IsTooWide}
 use Rattle.pm_geom.specs.Evidence.{IsWideProduct}

@@ -1,6 +1,6 @@
 -- The first phase: the auxiliary variable is made least, by the objective that is its opposite.
-use Rattle.pm_algebra.specs.Rows.{Row, entry}
-use Rattle.pm_bases.specs.Bases.{column, row_at}
+use Rattle.pm_vector.specs.Rows.{Row, entry}
+use Rattle.pm_vector.specs.Bases.{column, row_at}
 use Rattle.pm_simplex.specs.ProgramLaws.{IsLeastAuxiliary}
 use Rattle.pm_simplex.specs.Running.{IsOptimalAt, IsState, IsUnboundedAt}
 use Rattle.pm_simplex.specs.States.{auxiliary, phase_column}

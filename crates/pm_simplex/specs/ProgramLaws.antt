@@ -1,11 +1,11 @@
 -- The laws of linear programs.
-use Rattle.pm_algebra.specs.Numbers.{Ratio}
-use Rattle.pm_algebra.specs.Rows.{Row, entry, ratio_at}
-use Rattle.pm_bases.specs.Bases.{row_at}
+use Rattle.pm_vector.specs.Numbers.{Ratio}
+use Rattle.pm_vector.specs.Rows.{Row, entry, ratio_at}
+use Rattle.pm_vector.specs.Bases.{row_at}
 use Rattle.pm_simplex.specs.Comparisons.{direction, key_of, rows_of}
 use Rattle.pm_programs.specs.Dictionaries.{at, row_of}
 use Rattle.pm_geom.specs.Programs.{IsDual, IsInfeasible, IsTimes}
-use Rattle.pm_bases.specs.Bases.{column}
+use Rattle.pm_vector.specs.Bases.{column}
 use Rattle.pm_fraction.specs.Arithmetic.{opposite_of}
 use Rattle.pm_simplex.specs.Running.{IsContradiction, IsFreeColumn, IsOptimalAt, IsSlackColumn, IsState}
 use Rattle.pm_simplex.specs.States.{auxiliary, columns_of, key_found, objective_column, upward}

@@ -1,7 +1,7 @@
 -- The states of the simplex method, and one step of it.
-use Rattle.pm_algebra.specs.Numbers.{Ratio}
-use Rattle.pm_algebra.specs.Rows.{Row}
-use Rattle.pm_bases.specs.Bases.{column}
+use Rattle.pm_vector.specs.Numbers.{Ratio}
+use Rattle.pm_vector.specs.Rows.{Row}
+use Rattle.pm_vector.specs.Bases.{column}
 use Rattle.pm_simplex.specs.Comparisons.{HindersAt, IsApart, IsRectangular, IsShaped, direction, rows_of}
 use Rattle.pm_programs.specs.Dictionaries.{AllFit, IsDictionaryOf, IsPivoted, at, row_of}
 use Rattle.pm_programs.specs.Pivots.{IsLexFeasible}

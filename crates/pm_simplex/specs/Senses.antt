@@ -1,6 +1,6 @@
 -- The sense of a linear program: the greatest value of its objective, or the least, which is the opposite of the greatest value of the opposite objective.
-use Rattle.pm_algebra.specs.Numbers.{Ratio}
-use Rattle.pm_algebra.specs.Rows.{Row, opposite}
+use Rattle.pm_vector.specs.Numbers.{Ratio}
+use Rattle.pm_vector.specs.Rows.{Row, opposite}
 use Rattle.pm_fraction.specs.Arithmetic.{opposite_of}
 use Rattle.pm_simplex.specs.declared.sense.Sense.{Sense}
 use Rattle.pm_simplex.specs.declared.sense.Sense.TheVariants.{Maximal, Minimal}

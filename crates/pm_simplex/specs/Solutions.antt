@@ -1,7 +1,7 @@
 -- What a column of a dictionary says: the solution of the equations in which the column's own variable is 1 and the other variables outside of the basis are 0.
-use Rattle.pm_algebra.specs.Numbers.{Ratio}
-use Rattle.pm_algebra.specs.Rows.{Row, dot, entry, ratio_at}
-use Rattle.pm_bases.specs.Bases.{column, row_at}
+use Rattle.pm_vector.specs.Numbers.{Ratio}
+use Rattle.pm_vector.specs.Rows.{Row, dot, entry, ratio_at}
+use Rattle.pm_vector.specs.Bases.{column, row_at}
 use Rattle.pm_fraction.specs.Fractions.{ratio_of}
 use Rattle.pm_simplex.specs.Comparisons.{IsApart, IsCovered, direction, rows_of}
 use Rattle.pm_programs.specs.Dictionaries.{IsDictionaryOf, at}

@@ -1,6 +1,6 @@
 -- The equations of a program, and why its start is a dictionary of them.
-use Rattle.pm_algebra.specs.Numbers.{Ratio}
-use Rattle.pm_algebra.specs.Rows.{HasCols, Row}
+use Rattle.pm_vector.specs.Numbers.{Ratio}
+use Rattle.pm_vector.specs.Rows.{HasCols, Row}
 use Rattle.pm_geom.specs.Programs.{IsTimes}
 use Rattle.pm_simplex.specs.Phases.{IsPhaseSystem}
 use Rattle.pm_simplex.specs.ProgramLaws.{IsSystem}

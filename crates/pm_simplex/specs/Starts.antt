@@ -1,7 +1,7 @@
 -- The dictionary from which the simplex method starts: the slacks, the residuals and the two objectives by the coordinates and the auxiliary variable.
-use Rattle.pm_algebra.specs.Numbers.{Ratio}
-use Rattle.pm_algebra.specs.Rows.{Row, entry, ratio_at}
-use Rattle.pm_bases.specs.Bases.{column, row_at}
+use Rattle.pm_vector.specs.Numbers.{Ratio}
+use Rattle.pm_vector.specs.Rows.{Row, entry, ratio_at}
+use Rattle.pm_vector.specs.Bases.{column, row_at}
 use Rattle.pm_fraction.specs.Fractions.{ratio_of}
 use Rattle.pm_matrix.specs.Matrices.{IsFraction}
 use Rattle.pm_programs.specs.Dictionaries.{row_of}

@@ -1,7 +1,7 @@
 -- A state of the simplex method: the program of the one inequality 1 >= 0 in no coordinate, with the objective 0. The columns are 0 for the constant, 1 for the slack, 2 for the
 -- auxiliary variable, 3 for the objective and 4 for that of the first phase.
-use Rattle.pm_algebra.specs.Numbers.{Ratio}
-use Rattle.pm_algebra.specs.Rows.{Row}
+use Rattle.pm_vector.specs.Numbers.{Ratio}
+use Rattle.pm_vector.specs.Rows.{Row}
 use Rattle.pm_fraction.specs.Fractions.{ratio_of}
 use Rattle.pm_simplex.specs.Comparisons.{rows_of}
 use Rattle.pm_simplex.specs.Running.{IsState}

@@ -1,5 +1,5 @@
 -- The states of the simplex method.
-use Rattle.pm_algebra.specs.Numbers.{Ratio}
+use Rattle.pm_vector.specs.Numbers.{Ratio}
 use Rattle.pm_fraction.specs.Arithmetic.{opposite_of}
 use Rattle.pm_fraction.specs.Fractions.{ratio_of}
 use Rattle.pm_simplex.specs.declared.layout.Layout.{Layout}

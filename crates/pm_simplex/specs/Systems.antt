@@ -1,7 +1,7 @@
 -- The equations of a linear program, as rows over all columns: of the constant, the coordinates, the slacks, the residuals, the auxiliary variable and the two objectives.
-use Rattle.pm_algebra.specs.Numbers.{Ratio}
-use Rattle.pm_algebra.specs.Rows.{Row, entry, times}
-use Rattle.pm_bases.specs.Bases.{row_at}
+use Rattle.pm_vector.specs.Numbers.{Ratio}
+use Rattle.pm_vector.specs.Rows.{Row, entry, times}
+use Rattle.pm_vector.specs.Bases.{row_at}
 use Rattle.pm_simplex.specs.Starts.{help_of, own_column}
 use Rattle.pm_simplex.specs.States.{auxiliary, columns_of, upward}
 use Rattle.pm_simplex.specs.declared.layout.Layout.{Layout}

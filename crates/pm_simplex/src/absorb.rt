@@ -1,7 +1,7 @@
 // Residuals leave the basis for free coordinates.
 
-ghost use Rattle.pm_algebra.specs.Rows.{Row};
-ghost use Rattle.pm_bases.specs.Bases.{column};
+ghost use Rattle.pm_vector.specs.Rows.{Row};
+ghost use Rattle.pm_vector.specs.Bases.{column};
 ghost use Rattle.pm_programs.specs.Dictionaries.{at};
 ghost use Rattle.pm_simplex.specs.Comparisons.{IsRectangular, rows_of};
 ghost use Rattle.pm_simplex.specs.Evidence.{IsShownBy};

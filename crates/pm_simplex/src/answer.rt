@@ -1,7 +1,7 @@
 // What a dictionary tells: values of columns, and numbers by which slacks and residuals stand in a row.
 
-ghost use Rattle.pm_algebra.specs.Rows.{ratio_at};
-ghost use Rattle.pm_bases.specs.Bases.{column};
+ghost use Rattle.pm_vector.specs.Rows.{ratio_at};
+ghost use Rattle.pm_vector.specs.Bases.{column};
 ghost use Rattle.pm_programs.specs.Dictionaries.{at, row_of};
 ghost use Rattle.pm_simplex.specs.Comparisons.{IsRectangular, key_of, rows_of};
 ghost use Rattle.pm_simplex.specs.ProgramLaws.{AreMultipliersOf, dual_of, signed_by};

@@ -1,6 +1,6 @@
 // The auxiliary variable enters where a slack is negative.
 
-ghost use Rattle.pm_algebra.specs.Rows.{Row};
+ghost use Rattle.pm_vector.specs.Rows.{Row};
 ghost use Rattle.pm_simplex.specs.Evidence.{IsShownBy};
 ghost use Rattle.pm_simplex.specs.Fails.{IfWide};
 ghost use Rattle.pm_simplex.specs.Running.{IsAbsorbing, IsArranged, IsState, IsWithoutHelp};

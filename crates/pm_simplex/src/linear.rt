@@ -1,6 +1,6 @@
 // The greatest value of an objective.
 
-ghost use Rattle.pm_algebra.specs.Rows.{HasCols};
+ghost use Rattle.pm_vector.specs.Rows.{HasCols};
 ghost use Rattle.pm_matrix.specs.FractionRows.{ArePrimitiveRowsOf};
 ghost use Rattle.pm_dual.specs.Answers.{IsAnswer};
 ghost use Rattle.pm_simplex.specs.Answers.{IsAnswerOf, ShowsProgram, ShowsProgramOf};

@@ -1,7 +1,7 @@
 // A dictionary changes by a pivot.
 
-ghost use Rattle.pm_algebra.specs.Numbers.{InRangeRatio, Ratio};
-ghost use Rattle.pm_bases.specs.Bases.{column};
+ghost use Rattle.pm_vector.specs.Numbers.{InRangeRatio, Ratio};
+ghost use Rattle.pm_vector.specs.Bases.{column};
 ghost use Rattle.pm_simplex.specs.Comparisons.{IsRectangular, rows_of};
 ghost use Rattle.pm_programs.specs.Dictionaries.{IsWidePlace, at, row_of};
 ghost use Rattle.pm_simplex.specs.Evidence.{IsWidePivot};

@@ -1,7 +1,7 @@
 // One pivot of a dictionary of fractions.
 
-ghost use Rattle.pm_algebra.specs.Numbers.{InRangeRatio, Ratio};
-ghost use Rattle.pm_algebra.specs.Rows.{ratio_at};
+ghost use Rattle.pm_vector.specs.Numbers.{InRangeRatio, Ratio};
+ghost use Rattle.pm_vector.specs.Rows.{ratio_at};
 ghost use Rattle.pm_fraction.specs.Arithmetic.{quotient_of};
 ghost use Rattle.pm_fraction.specs.Fractions.{IsLowestTermsOf, IsTooWide};
 ghost use Rattle.pm_matrix.specs.Matrices.{IsFraction};

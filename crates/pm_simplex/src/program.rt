@@ -1,7 +1,7 @@
 // Linear programs by the dictionaries of the simplex method.
 
-ghost use Rattle.pm_algebra.specs.Numbers.{Ratio};
-ghost use Rattle.pm_algebra.specs.Rows.{HasCols, Row};
+ghost use Rattle.pm_vector.specs.Numbers.{Ratio};
+ghost use Rattle.pm_vector.specs.Rows.{HasCols, Row};
 ghost use Rattle.pm_dual.specs.Answers.{IsAnswer};
 ghost use Rattle.pm_simplex.specs.Answers.{IsProgram, IsReady, IsStuck, Program, program_of};
 ghost use Rattle.pm_simplex.specs.Evidence.{IsShownBy};

@@ -1,8 +1,8 @@
 // The ratio test.
 
-ghost use Rattle.pm_algebra.specs.Numbers.{Ratio};
-ghost use Rattle.pm_algebra.specs.Rows.{ratio_at};
-ghost use Rattle.pm_bases.specs.Bases.{column};
+ghost use Rattle.pm_vector.specs.Numbers.{Ratio};
+ghost use Rattle.pm_vector.specs.Rows.{ratio_at};
+ghost use Rattle.pm_vector.specs.Bases.{column};
 ghost use Rattle.pm_simplex.specs.Comparisons.{HindersAt, IsKeyBelow, IsLeastOf, direction, IsRectangular, IsRowBelow, IsShaped, key_of, rows_of};
 ghost use Rattle.pm_programs.specs.Dictionaries.{at, row_of};
 ghost use Rattle.pm_simplex.specs.States.{columns_of, is_signed, key_columns, key_in};

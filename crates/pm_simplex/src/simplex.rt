@@ -1,8 +1,8 @@
 // The simplex method from a feasible dictionary.
 
-ghost use Rattle.pm_algebra.specs.Numbers.{Ratio};
-ghost use Rattle.pm_algebra.specs.Rows.{Row};
-ghost use Rattle.pm_bases.specs.Bases.{column};
+ghost use Rattle.pm_vector.specs.Numbers.{Ratio};
+ghost use Rattle.pm_vector.specs.Rows.{Row};
+ghost use Rattle.pm_vector.specs.Bases.{column};
 ghost use Rattle.pm_simplex.specs.Comparisons.{IsRectangular, direction, rows_of};
 ghost use Rattle.pm_programs.specs.Dictionaries.{IsWidePlace, at, row_of};
 ghost use Rattle.pm_simplex.specs.Ends.{IfStep, IfEnd};

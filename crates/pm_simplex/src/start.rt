@@ -1,8 +1,8 @@
 // The dictionary from which the simplex method starts.
 
-ghost use Rattle.pm_algebra.specs.Numbers.{InRange};
-ghost use Rattle.pm_algebra.specs.Rows.{HasCols, entry, ratio_at};
-ghost use Rattle.pm_bases.specs.Bases.{column, row_at};
+ghost use Rattle.pm_vector.specs.Numbers.{InRange};
+ghost use Rattle.pm_vector.specs.Rows.{HasCols, entry, ratio_at};
+ghost use Rattle.pm_vector.specs.Bases.{column, row_at};
 ghost use Rattle.pm_fraction.specs.Fractions.{ratio_of};
 ghost use Rattle.pm_matrix.specs.Matrices.{IsFraction};
 ghost use Rattle.pm_simplex.specs.Starts.{IsStart, IsStartRow, body_at, help_of, own_column, start_at};

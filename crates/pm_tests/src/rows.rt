@@ -1,6 +1,6 @@
 // Short rows of whole numbers.
 
-ghost use Rattle.pm_algebra.specs.Rows.{entry};
+ghost use Rattle.pm_vector.specs.Rows.{entry};
 ghost use Rattle.std.specs.Prelude.{length, pos, ◌<ℤ◌, ◌≡◌};
 
 use pm_vector::{Ints, is_in_range};

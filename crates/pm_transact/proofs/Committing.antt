@@ -1,5 +1,5 @@
 -- Adding what a client answered, one target after another.
-use Rattle.pm_algebra.proofs.Lists.{Among, Contains_among, among_append_right, here, there}
+use Rattle.pm_vector.proofs.Lists.{Among, Contains_among, among_append_right, here, there}
 use Rattle.pm_transact.specs.Commits.{FitsObject, added}
 use Rattle.pm_object.proofs.Formed.{cols_stay, value_later, value_stays}
 use Rattle.pm_object.specs.Formed.{IsBacked, IsFormed, IsFormedIn, speaks_of_rays}

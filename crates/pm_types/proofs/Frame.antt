@@ -1,5 +1,5 @@
 -- A value is right in other orders too, where these agree in what its property speaks of: it is shown no other.
-use Rattle.pm_algebra.specs.Numbers.{Ratio}
+use Rattle.pm_vector.specs.Numbers.{Ratio}
 use Rattle.pm_geom.specs.Things.{Orders}
 use Rattle.pm_types.specs.Things.{Thing}
 use Rattle.pm_props.specs.Properties.{facets_tag, rays_tag}

@@ -1,5 +1,5 @@
 -- Rising lists of indices are in form.
-use Rattle.pm_algebra.proofs.Lists.{Among, among_All, here, there}
+use Rattle.pm_vector.proofs.Lists.{Among, among_All, here, there}
 use Rattle.pm_geom.specs.Graphs.{IsAscending}
 use Rattle.pm_types.specs.Forms.{are_indices, is_sets_form}
 use Rattle.std.proofs.Common.{arith, leb, ltb, refl, suc}

@@ -1,6 +1,6 @@
 -- A right answer leaves all that is held right: where a kind may run on facts, what it may answer can be added to them.
-use Rattle.pm_algebra.proofs.Filters.{among_filter, among_map, any_from, any_to, filter_among}
-use Rattle.pm_algebra.proofs.Lists.{Among, Contains_among, among_Contains, among_append, among_append_left, among_append_right}
+use Rattle.pm_vector.proofs.Filters.{among_filter, among_map, any_from, any_to, filter_among}
+use Rattle.pm_vector.proofs.Lists.{Among, Contains_among, among_Contains, among_append, among_append_left, among_append_right}
 use Rattle.pm_geom.specs.Things.{Orders}
 use Rattle.pm_types.specs.Things.{Thing}
 use Rattle.pm_object_type.specs.declared.object_type.ObjectType.{ObjectType}
@@ -20,7 +20,7 @@ use Rattle.pm_props.specs.declared.property.PropId.TheVariants.{Points, InputLin
 use Rattle.std.proofs.Common.{arith, false, inl, inr, refl, subst, sym, true, true≢false, ◌∙◌}
 use Rattle.std.specs.List.{Contains, list_any}
 use Rattle.std.specs.Prelude.{Bool, List, None, Option, [], if◌then◌else◌, not, ℕ, ◌&&◌, ◌++◌, ◌≡◌, ◌⊎◌}
-use Rattle.pm_algebra.specs.Numbers.{Ratio}
+use Rattle.pm_vector.specs.Numbers.{Ratio}
 use Rattle.std.proofs.lemmas.Int.{ints}
 use lib.IntN.{pos}
 

@@ -1,7 +1,7 @@
 -- Where the numbers on the way to a primitive row leave the range, and where they do not.
-use Rattle.pm_algebra.proofs.Divisors.{common_divisor}
-use Rattle.pm_algebra.specs.Numbers.{InRange, Ratio}
-use Rattle.pm_algebra.specs.Rows.{ratio_at}
+use Rattle.pm_vector.proofs.DivisorLaws.{common_divisor}
+use Rattle.pm_vector.specs.Numbers.{InRange, Ratio}
+use Rattle.pm_vector.specs.Rows.{ratio_at}
 use Rattle.pm_matrix.proofs.Denominators.{least_unique}
 use Rattle.pm_matrix.proofs.MultipleLaws.{IsLcm-from_gcd, gcd_positive}
 use Rattle.pm_matrix.specs.FractionRows.{IsLeastDenominator}

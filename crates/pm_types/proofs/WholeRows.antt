@@ -1,7 +1,7 @@
 -- Whole rows in the range are rows of fractions over 1 in their form.
-use Rattle.pm_algebra.proofs.Ring.{mul_one}
-use Rattle.pm_algebra.specs.Numbers.{InRange}
-use Rattle.pm_algebra.specs.Rows.{HasCols, Row, entry, ratio_at}
+use Rattle.pm_vector.proofs.Ring.{mul_one}
+use Rattle.pm_vector.specs.Numbers.{InRange}
+use Rattle.pm_vector.specs.Rows.{HasCols, Row, entry, ratio_at}
 use Rattle.pm_matrix.specs.FractionRows.{IsLeastDenominator, numerator_over}
 use Rattle.pm_matrix.specs.Matrices.{IsFraction}
 use Rattle.pm_types.specs.Forms.{HasPrimitiveRow, is_row_of_entries}

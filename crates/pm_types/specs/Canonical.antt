@@ -1,10 +1,10 @@
 -- When a value that a client found is canonical for a thing. VERTICES, LINEALITY_SPACE, FACETS and AFFINE_HULL have a canonical form; each right value of another property is canonical.
 use Rattle.std.specs.Prelude.{ℕ, ◌≡◌, List, [], ◌∷◌, map}
 use Rattle.std.specs.List.{All, AllPairs}
-use Rattle.pm_algebra.specs.Divisors.{IsPrimitive}
-use Rattle.pm_algebra.specs.Numbers.{Ratio}
-use Rattle.pm_algebra.specs.Rows.{Row, entry, ratio_at, Stands}
-use Rattle.pm_bases.specs.Bases.{IsEchelonBasis}
+use Rattle.pm_vector.specs.Divisors.{IsPrimitive}
+use Rattle.pm_vector.specs.Numbers.{Ratio}
+use Rattle.pm_vector.specs.Rows.{Row, entry, ratio_at, Stands}
+use Rattle.pm_vector.specs.Bases.{IsEchelonBasis}
 use Rattle.pm_geom.specs.Cones.{Vanishes}
 use Rattle.pm_geom.specs.Generators.{IsBefore, VanishAt}
 use Rattle.pm_types.specs.Things.{Thing}

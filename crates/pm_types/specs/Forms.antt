@@ -1,7 +1,7 @@
 -- Which values have the form of their property.
 use Rattle.std.specs.Prelude.{ℕ, zero, suc, ◌||◌, ◌&&◌, ◌^◌, Bool, true, false, not, IsTrue, List, [], ◌∷◌, length, nat_eq, nat_le, nat_lt, if◌then◌else◌}
 use Rattle.std.specs.List.{All, list_all, slice_index_or, sum_by}
-use Rattle.pm_algebra.specs.Numbers.{Ratio}
+use Rattle.pm_vector.specs.Numbers.{Ratio}
 use Rattle.pm_object_type.specs.declared.object_type.ObjectType.{ObjectType}
 use Rattle.pm_object_type.specs.declared.object_type.ObjectType.TheVariants.{Polytope}
 use Rattle.pm_geom.specs.Graphs.{holds}

@@ -1,8 +1,8 @@
 -- The greatest value of an objective c, a row of fractions, at the points of a cone S of rows, and the rays where it stands (Chvatal, Linear Programming, chapters 1 and 5; Ziegler, Lectures on Polytopes, section 3.2). The least value is the opposite of the greatest value of the opposite objective.
 use Rattle.std.specs.Prelude.{ℕ, ◌≡◌, ◌<◌, ◌↔◌, List, length, map}
 use Rattle.std.specs.List.{AllPairs, Contains}
-use Rattle.pm_algebra.specs.Numbers.{Ratio}
-use Rattle.pm_algebra.specs.Rows.{Row, dot, entry}
+use Rattle.pm_vector.specs.Numbers.{Ratio}
+use Rattle.pm_vector.specs.Rows.{Row, dot, entry}
 use Rattle.pm_fraction.specs.Arithmetic.{opposite_of}
 use Rattle.pm_geom.specs.Faces.{ray}
 use Rattle.pm_geom.specs.Programs.{HasNoPoint, IsMaximum, IsTimes, IsWithoutBound}

@@ -2,11 +2,11 @@
 -- A half alone is right where the pair's line would make it so: what generates lies inside, what cuts out is valid.
 use Rattle.std.specs.Prelude.{Bool, ℕ, zero, suc, ◌+◌, ◌≡◌, ◌<◌, ◌≤◌, ◌↔◌, IsTrue, true, false, Option, None, Some, List, [], ◌∷◌, ◌++◌, if◌then◌else◌, length, map}
 use Rattle.std.specs.List.{All, AllPairs, Any, Contains, list_all, slice_index_or}
-use Rattle.pm_algebra.specs.Numbers.{Ratio}
-use Rattle.pm_algebra.specs.Divisors.{IsPrimitive}
-use Rattle.pm_algebra.specs.Rows.{Row, entry, dot, plus, HasCols, IsZero, Same, Stands}
-use Rattle.pm_algebra.specs.Cones.{InCone, InSpan, IsIndependent}
-use Rattle.pm_bases.specs.Bases.{IsRank}
+use Rattle.pm_vector.specs.Numbers.{Ratio}
+use Rattle.pm_vector.specs.Divisors.{IsPrimitive}
+use Rattle.pm_vector.specs.Rows.{Row, entry, dot, plus, HasCols, IsZero, Same, Stands}
+use Rattle.pm_vector.specs.Cones.{InCone, InSpan, IsIndependent}
+use Rattle.pm_vector.specs.Bases.{IsRank}
 use Rattle.pm_geom.specs.Cones.{CutOut, IsExtremeRay, IsFacetRow, IsOrder, IsValid, Vanishes, InLineality, SameModulo}
 use Rattle.pm_geom.specs.FaceCounts.{IsHasseDiagram, f2_of, f_of, h_of}
 use Rattle.pm_geom.specs.Faces.{ray}

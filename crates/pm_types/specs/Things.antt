@@ -1,7 +1,7 @@
 -- What an object describes: a cone, a polytope or a fan, and orders of its rays and facets (Ziegler, Lectures on Polytopes, lectures 1, 2 and 7).
 use Rattle.std.specs.Prelude.{ℕ, ◌≡◌, ◌<◌, ◌≤◌, List, [], length}
-use Rattle.pm_algebra.specs.Numbers.{Ratio}
-use Rattle.pm_algebra.specs.Rows.{Row, ratio_at}
+use Rattle.pm_vector.specs.Numbers.{Ratio}
+use Rattle.pm_vector.specs.Rows.{Row, ratio_at}
 use Rattle.pm_geom.specs.Things.{IsConeThing, IsPolytopeThing, IsFanThing, Orders, AreConeOrders, AreFanOrders}
 use Rattle.pm_object_type.specs.declared.object_type.ObjectType.{ObjectType}
 use Rattle.pm_object_type.specs.declared.object_type.ObjectType.TheVariants.{Polytope, Cone, Fan}

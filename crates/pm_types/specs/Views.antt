@@ -1,7 +1,7 @@
 -- The code's values as values of properties, and whole numbers as fractions over 1.
 use Rattle.std.specs.Prelude.{List, map}
-use Rattle.pm_algebra.specs.Numbers.{Ratio}
-use Rattle.pm_algebra.specs.Rows.{Row}
+use Rattle.pm_vector.specs.Numbers.{Ratio}
+use Rattle.pm_vector.specs.Rows.{Row}
 use Rattle.pm_types.specs.Values.{PropertyValue, matrix, sets, whole, truth, counts, edges, lattice, extended, Extended, finite, plus_infinity, minus_infinity}
 use Rattle.pm_types.specs.declared.number.Number.{Number}
 use Rattle.pm_types.specs.declared.number.Number.TheVariants as number

@@ -1,5 +1,5 @@
 -- A number of the range goes through 128 bits unchanged.
-use Rattle.pm_algebra.specs.Numbers.{InRange}
+use Rattle.pm_vector.specs.Numbers.{InRange}
 use Rattle.std.proofs.Common.{FitsSigned, of_z, refl, to_z, ◌≡◌}
 use Rattle.std.proofs.lemmas.Int.{fits_signed_from_abs, to_z-of_z}
 use Rattle.std.specs.Int.{w128}

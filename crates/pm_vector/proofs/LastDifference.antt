@@ -1,5 +1,5 @@
 -- The last step of p x - q y, where both products are known: what the difference says of the whole.
-use Rattle.pm_algebra.specs.Numbers.{InRange}
+use Rattle.pm_vector.specs.Numbers.{InRange}
 use Rattle.pm_vector.specs.Differences.{EntryStays}
 use Rattle.std.specs.Prelude.{Err, IfOk, Ok, OnErr, OnOk, Result, ◌≡◌}
 use lib.IntN.{ℤ, ◌*ℤ◌, ◌-ℤ◌}

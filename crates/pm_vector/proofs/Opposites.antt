@@ -1,7 +1,7 @@
 -- The opposites so far.
-use Rattle.pm_algebra.proofs.RowLaws.{entry-opposite, length-opposite, row_equal}
-use Rattle.pm_algebra.specs.Numbers.{InRange}
-use Rattle.pm_algebra.specs.Rows.{Row, entry, opposite}
+use Rattle.pm_vector.proofs.RowLaws.{entry-opposite, length-opposite, row_equal}
+use Rattle.pm_vector.specs.Numbers.{InRange}
+use Rattle.pm_vector.specs.Rows.{Row, entry, opposite}
 use Rattle.std.proofs.Common.{arith, inl, inr, length, refl, sym, ◌<◌, ◌≡◌, ◌≤◌, ◌∙◌, ℕ}
 use Rattle.std.proofs.lemmas.Bool.{cases_lt}
 use Rattle.std.proofs.lemmas.Int.{ints}

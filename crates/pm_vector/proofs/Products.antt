@@ -1,6 +1,6 @@
 -- The sum of the first products, one product on.
-use Rattle.pm_algebra.specs.Numbers.{InRange}
-use Rattle.pm_algebra.specs.Rows.{Row, dot, entry}
+use Rattle.pm_vector.specs.Numbers.{InRange}
+use Rattle.pm_vector.specs.Rows.{Row, dot, entry}
 use Rattle.pm_vector.specs.Products.{ProductsStay}
 use Rattle.std.proofs.Common.{add-one, arith, below_more, length, suc, take, zero, ◌+◌, ◌<◌, ◌≡◌, ℕ}
 use Rattle.std.proofs.lemmas.Int.{ints}

@@ -1,10 +1,10 @@
 -- The quotients so far, and what a row divided by its greatest common divisor is.
-use Rattle.pm_algebra.proofs.Divisors.{IsPrimitiveOf-zero, IsPrimitiveOf-from_one, IsZero-from_gcd, gcd_below_bound, times-quotients, quotients}
-use Rattle.pm_algebra.proofs.Ring.{one_mul}
-use Rattle.pm_algebra.proofs.RowLaws.{entry-times, length-times, row_equal}
-use Rattle.pm_algebra.specs.Divisors.{IsGcdOf, IsPrimitiveOf}
-use Rattle.pm_algebra.specs.Numbers.{InRange}
-use Rattle.pm_algebra.specs.Rows.{Row, entry, times}
+use Rattle.pm_vector.proofs.DivisorLaws.{IsPrimitiveOf-zero, IsPrimitiveOf-from_one, IsZero-from_gcd, gcd_below_bound, times-quotients, quotients}
+use Rattle.pm_vector.proofs.Ring.{one_mul}
+use Rattle.pm_vector.proofs.RowLaws.{entry-times, length-times, row_equal}
+use Rattle.pm_vector.specs.Divisors.{IsGcdOf, IsPrimitiveOf}
+use Rattle.pm_vector.specs.Numbers.{InRange}
+use Rattle.pm_vector.specs.Rows.{Row, entry, times}
 use Rattle.pm_vector.specs.Quotients.{IsQuotientByGcd}
 use Rattle.std.proofs.Common.{add-one, ap, arith, drop, get_or, inl, inr, length, map, refl, set, suc, sym, take, to_z, zero, ◌++◌, ◌+◌, ◌<◌, ◌^◌, ◌≡◌, ◌≤◌, ℕ}
 use Rattle.std.proofs.Math.Nat.{div-le_self, one-dvd}

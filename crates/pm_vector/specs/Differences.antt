@@ -1,6 +1,6 @@
 -- When the combination of two rows stays within the range of the program's numbers.
-use Rattle.pm_algebra.specs.Numbers.{InRange}
-use Rattle.pm_algebra.specs.Rows.{Row, entry}
+use Rattle.pm_vector.specs.Numbers.{InRange}
+use Rattle.pm_vector.specs.Rows.{Row, entry}
 use Rattle.std.specs.Prelude.{length, unsigned_abs, ℕ, ◌<◌, ◌^◌}
 use lib.IntN.{ℤ, ◌*ℤ◌, ◌-ℤ◌}
 

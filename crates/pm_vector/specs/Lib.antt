@@ -1,3 +1,11 @@
+pub mod Numbers
+pub mod Rows
+pub mod Cones
+pub mod Divisors
+pub mod DirectionExamples
+pub mod Bases
+pub mod Laws
+pub mod BasisExamples
 pub mod Differences
 pub mod Products
 pub mod Quotients

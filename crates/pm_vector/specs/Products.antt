@@ -1,6 +1,6 @@
 -- When exact work on rows stays within the range of the program's numbers.
-use Rattle.pm_algebra.specs.Numbers.{InRange}
-use Rattle.pm_algebra.specs.Rows.{Row, dot, entry}
+use Rattle.pm_vector.specs.Numbers.{InRange}
+use Rattle.pm_vector.specs.Rows.{Row, dot, entry}
 use Rattle.std.specs.Prelude.{ℕ, take}
 use lib.IntN.{◌*ℤ◌}
 

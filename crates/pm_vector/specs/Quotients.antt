@@ -1,6 +1,6 @@
 -- A row divided by its greatest common divisor.
-use Rattle.pm_algebra.specs.Divisors.{IsGcdOf}
-use Rattle.pm_algebra.specs.Rows.{Row, times}
+use Rattle.pm_vector.specs.Divisors.{IsGcdOf}
+use Rattle.pm_vector.specs.Rows.{Row, times}
 use Rattle.std.specs.Prelude.{ℕ, ◌≡◌}
 use lib.IntN.{pos}
 

@@ -1,7 +1,7 @@
 // The combination of two rows.
 
-ghost use Rattle.pm_algebra.specs.Numbers.{InRange};
-ghost use Rattle.pm_algebra.specs.Rows.{difference, entry, opposite};
+ghost use Rattle.pm_vector.specs.Numbers.{InRange};
+ghost use Rattle.pm_vector.specs.Rows.{difference, entry, opposite};
 ghost use Rattle.pm_vector.specs.Differences.{DifferenceStays, EntryStays, IsFirstWide, IsSmall};
 ghost use Rattle.std.specs.Prelude.{All, IfNone, IfOk, IfSome, IsTrue, OnErr, OnOk, length, ◌*ℤ◌, ◌-ℤ◌, ◌<◌, ◌≡◌, ◌↔◌};
 

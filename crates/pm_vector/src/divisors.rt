@@ -1,7 +1,7 @@
 // Greatest common divisors, by Euclid's algorithm.
 
-ghost use Rattle.pm_algebra.specs.Divisors.{IsGcdOf, IsPrimitiveOf};
-ghost use Rattle.pm_algebra.specs.Numbers.{InRange};
+ghost use Rattle.pm_vector.specs.Divisors.{IsGcdOf, IsPrimitiveOf};
+ghost use Rattle.pm_vector.specs.Numbers.{InRange};
 ghost use Rattle.pm_vector.specs.Quotients.{IsQuotientByGcd};
 ghost use Rattle.std.specs.Int.{IsGcd};
 ghost use Rattle.std.specs.Prelude.{All, int_div, map, pos, ◌<ℤ◌, ◌≡◌};

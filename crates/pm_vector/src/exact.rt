@@ -1,6 +1,6 @@
 // Exact work on whole numbers of the range.
 
-ghost use Rattle.pm_algebra.specs.Numbers.{InRange};
+ghost use Rattle.pm_vector.specs.Numbers.{InRange};
 ghost use Rattle.pm_vector.specs.Differences.{IsSmall};
 ghost use Rattle.std.specs.Prelude.{All, IfOk, IsTrue, OnErr, ◌*ℤ◌, ◌+ℤ◌, ◌-ℤ◌, ◌≡◌, ◌↔◌};
 

@@ -1,8 +1,8 @@
 // Rows of whole numbers of the range.
 
-ghost use Rattle.pm_algebra.specs.Divisors.{IsPrimitiveOf};
-ghost use Rattle.pm_algebra.specs.Numbers.{InRange};
-ghost use Rattle.pm_algebra.specs.Rows.{Row, difference, entry, opposite};
+ghost use Rattle.pm_vector.specs.Divisors.{IsPrimitiveOf};
+ghost use Rattle.pm_vector.specs.Numbers.{InRange};
+ghost use Rattle.pm_vector.specs.Rows.{Row, difference, entry, opposite};
 ghost use Rattle.pm_vector.specs.Differences.{DifferenceStays};
 ghost use Rattle.pm_vector.specs.Quotients.{IsQuotientByGcd};
 ghost use Rattle.std.proofs.Common.{refl};

@@ -1,7 +1,7 @@
 // The product of two rows.
 
-ghost use Rattle.pm_algebra.specs.Numbers.{InRange};
-ghost use Rattle.pm_algebra.specs.Rows.{dot as dot_of, entry};
+ghost use Rattle.pm_vector.specs.Numbers.{InRange};
+ghost use Rattle.pm_vector.specs.Rows.{dot as dot_of, entry};
 ghost use Rattle.pm_vector.specs.Products.{ProductsStay};
 ghost use Rattle.std.specs.Prelude.{IfOk, OnErr, OnOk, length, ◌*ℤ◌, ◌+ℤ◌, ◌<◌, ◌≡◌};
 

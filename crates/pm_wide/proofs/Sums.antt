@@ -1,5 +1,5 @@
 -- The sum of the first products.
-use Rattle.pm_algebra.specs.Rows.{Row, dot, entry}
+use Rattle.pm_vector.specs.Rows.{Row, dot, entry}
 use Rattle.pm_wide.proofs.Held.{abs_product}
 use Rattle.std.proofs.Common.{FitsSigned, add-one, arith, length, suc, take, zero, ◌*◌, ◌+◌, ◌<◌, ◌≡◌, ◌≤◌, ◌^◌, ℕ}
 use Rattle.std.proofs.lemmas.Int.{ints}

@@ -1,10 +1,10 @@
 -- The combination of two rows, its greatest common divisor, and its quotients as far as they are written.
-use Rattle.pm_algebra.proofs.Divisors.{IsGcdOf-more, IsPrimitive-from_gcd, IsPrimitiveOf-quotients, IsZero-from_gcd, Same-quotients, dvd_entry, primitive_row_unique, quotients}
-use Rattle.pm_algebra.proofs.RowLaws.{entry-difference, entry-times, length-difference}
-use Rattle.pm_algebra.proofs.Signs.{mul_cancel}
-use Rattle.pm_algebra.specs.Divisors.{IsGcdOf, IsPrimitiveOf}
-use Rattle.pm_algebra.specs.Numbers.{InRange}
-use Rattle.pm_algebra.specs.Rows.{Row, Same, difference, entry, times}
+use Rattle.pm_vector.proofs.DivisorLaws.{IsGcdOf-more, IsPrimitive-from_gcd, IsPrimitiveOf-quotients, IsZero-from_gcd, Same-quotients, dvd_entry, primitive_row_unique, quotients}
+use Rattle.pm_vector.proofs.RowLaws.{entry-difference, entry-times, length-difference}
+use Rattle.pm_vector.proofs.Signs.{mul_cancel}
+use Rattle.pm_vector.specs.Divisors.{IsGcdOf, IsPrimitiveOf}
+use Rattle.pm_vector.specs.Numbers.{InRange}
+use Rattle.pm_vector.specs.Rows.{Row, Same, difference, entry, times}
 use Rattle.pm_wide.specs.Quotients.{HasQuotient, HaveQuotients}
 use Rattle.std.proofs.Common.{arith, below_more, get_or-set_other, get_or-set_same, inl, inr, length, refl, set, sym, take, ◌+◌, ◌<◌, ◌≡◌, ◌≢◌, ◌≤◌, ◌∙◌, ◌⊎◌, ℕ}
 use Rattle.std.proofs.Math.Nat.{one-dvd}

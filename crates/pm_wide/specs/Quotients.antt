@@ -1,6 +1,6 @@
 -- Rows that are a multiple of a row in the range.
-use Rattle.pm_algebra.specs.Numbers.{InRange}
-use Rattle.pm_algebra.specs.Rows.{Row, entry}
+use Rattle.pm_vector.specs.Numbers.{InRange}
+use Rattle.pm_vector.specs.Rows.{Row, entry}
 use Rattle.std.specs.Prelude.{ℕ, ◌<◌, ◌≡◌}
 use lib.IntN.{pos, ℤ, ◌*ℤ◌}
 

@@ -1,8 +1,8 @@
 // The combination of two rows, made primitive, by numbers of 512 bits on the way.
 
-ghost use Rattle.pm_algebra.specs.Divisors.{IsGcdOf, IsPrimitiveOf};
-ghost use Rattle.pm_algebra.specs.Numbers.{InRange};
-ghost use Rattle.pm_algebra.specs.Rows.{Row, difference, entry};
+ghost use Rattle.pm_vector.specs.Divisors.{IsGcdOf, IsPrimitiveOf};
+ghost use Rattle.pm_vector.specs.Numbers.{InRange};
+ghost use Rattle.pm_vector.specs.Rows.{Row, difference, entry};
 ghost use Rattle.pm_wide.specs.Quotients.{HasQuotient, HaveQuotients};
 ghost use Rattle.pm_wide.specs.Magnitudes.{magnitude_of};
 ghost use Rattle.pm_wide.specs.Values.{value_of};

@@ -1,6 +1,6 @@
 // The product of two rows.
 
-ghost use Rattle.pm_algebra.specs.Rows.{dot as dot_of, entry};
+ghost use Rattle.pm_vector.specs.Rows.{dot as dot_of, entry};
 ghost use Rattle.pm_wide.specs.Values.{value_of};
 ghost use Rattle.std.specs.Prelude.{length, unsigned_abs, ◌*ℤ◌, ◌*◌, ◌+ℤ◌, ◌+◌, ◌<◌, ◌^◌, ◌≡◌, ◌≤◌};
 

@@ -1,4 +1,4 @@
-use Rattle.pm_algebra.specs.Rows.{entry}
+use Rattle.pm_vector.specs.Rows.{entry}
 use Rattle.pm_beneath.proofs.CellTurns.{below_else, below_then}
 use Rattle.pm_beneath.proofs.cells.next_cells.Goals as goal
 use Rattle.pm_beneath.proofs.cells.next_cells.Goals.{else-visible, then-visible+in_ok-made-2}

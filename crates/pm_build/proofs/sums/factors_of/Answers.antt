@@ -1,4 +1,4 @@
-use Rattle.pm_algebra.specs.Rows.{entry}
+use Rattle.pm_vector.specs.Rows.{entry}
 use Rattle.pm_build.proofs.sums.factors_of.Goals as goal
 use Rattle.pm_vector.proofs.Kept.{kept}
 use Rattle.std.proofs.Common.{pos, unsigned_abs, ◌*ℤ◌, ◌≡◌}

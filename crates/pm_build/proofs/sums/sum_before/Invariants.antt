@@ -1,5 +1,5 @@
 -- The entries so far.
-use Rattle.pm_algebra.specs.Rows.{entry}
+use Rattle.pm_vector.specs.Rows.{entry}
 use Rattle.pm_build.proofs.sums.sum_before.Given as goal
 use Rattle.pm_build.specs.SumSteps.{NumbersStay, sum_entry}
 use Rattle.std.proofs.Common.{length, ◌<◌, ◌≡◌, ℕ}

@@ -1,4 +1,4 @@
-use Rattle.pm_algebra.specs.Rows.{entry}
+use Rattle.pm_vector.specs.Rows.{entry}
 use Rattle.pm_clients_geom.proofs.PutRays.{makes_fraction, over_all, over_more}
 use Rattle.pm_clients_geom.proofs.rays.row_over_first.Goals as goal
 use Rattle.pm_vector.proofs.Kept.{kept}

@@ -1,5 +1,5 @@
 -- The fractions so far are the entries so far over the first, in lowest terms.
-use Rattle.pm_algebra.specs.Rows.{entry, ratio_at}
+use Rattle.pm_vector.specs.Rows.{entry, ratio_at}
 use Rattle.pm_clients_geom.proofs.rays.row_over_first.Given as goal
 use Rattle.pm_fraction.specs.Fractions.{IsLowestTermsOf, ratio_of}
 use Rattle.std.proofs.Common.{length, ◌<◌, ◌≡◌, ℕ}

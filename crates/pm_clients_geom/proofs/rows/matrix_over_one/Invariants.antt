@@ -1,5 +1,5 @@
 -- The matrix so far is that of the rows so far, which are in the range; its column count is the one of all rows.
-use Rattle.pm_algebra.specs.Numbers.{InRange}
+use Rattle.pm_vector.specs.Numbers.{InRange}
 use Rattle.pm_clients_geom.proofs.rows.matrix_over_one.Given as goal
 use Rattle.pm_clients_geom.specs.Matrices.{cols_over}
 use Rattle.pm_types.specs.Views.{ratios}

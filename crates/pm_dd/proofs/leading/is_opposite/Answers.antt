@@ -1,4 +1,4 @@
-use Rattle.pm_algebra.specs.Rows.{opposite}
+use Rattle.pm_vector.specs.Rows.{opposite}
 use Rattle.pm_dd.proofs.leading.is_opposite.Goals as goal
 use Rattle.std.proofs.Common.{ap, sym, ◌∙◌}
 use Rattle.std.specs.Cmp.{signed_Decides}

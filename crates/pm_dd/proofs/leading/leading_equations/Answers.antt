@@ -1,4 +1,4 @@
-use Rattle.pm_bases.specs.Bases.{row_at}
+use Rattle.pm_vector.specs.Bases.{row_at}
 use Rattle.pm_dd.proofs.LeadingLaws.{leads_more}
 use Rattle.pm_dd.proofs.leading.leading_equations.Goals as goal
 use Rattle.std.proofs.Common.{ap, arith, length, [], ◌*◌, ◌+◌, ◌<◌, ◌≡◌, ◌∙◌, ℕ}

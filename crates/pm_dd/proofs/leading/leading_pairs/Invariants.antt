@@ -1,5 +1,5 @@
-use Rattle.pm_algebra.specs.Rows.{opposite}
-use Rattle.pm_bases.specs.Bases.{row_at}
+use Rattle.pm_vector.specs.Rows.{opposite}
+use Rattle.pm_vector.specs.Bases.{row_at}
 use Rattle.pm_dd.proofs.leading.leading_pairs.Given as goal
 use Rattle.std.proofs.Common.{◌*◌, ◌+◌, ◌<◌, ◌≡◌, ℕ}
 

@@ -1,4 +1,4 @@
-use Rattle.pm_bases.specs.Bases.{row_at}
+use Rattle.pm_vector.specs.Bases.{row_at}
 use Rattle.pm_dd.proofs.MixedLaws.{ends_all, ends_both, ends_middle}
 use Rattle.pm_dd.proofs.mixed.from_both_ends.Goals as goal
 use Rattle.pm_dd.proofs.mixed.from_both_ends.Goals.{else-last-i, then-last-i+in_ok-copy-2+in_ok-push-2}

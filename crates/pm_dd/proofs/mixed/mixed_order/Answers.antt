@@ -1,4 +1,4 @@
-use Rattle.pm_algebra.specs.Rows.{Row}
+use Rattle.pm_vector.specs.Rows.{Row}
 use Rattle.pm_dd.proofs.LeadingLaws.{rest_of}
 use Rattle.pm_dd.proofs.MixedLaws.{same_joined, same_permuted}
 use Rattle.pm_dd.proofs.Outcomes.{ok_weaker}

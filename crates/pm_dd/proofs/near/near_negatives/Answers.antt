@@ -1,4 +1,4 @@
-use Rattle.pm_algebra.specs.Rows.{entry}
+use Rattle.pm_vector.specs.Rows.{entry}
 use Rattle.pm_dd.proofs.Negatives.{places_add, places_skip}
 use Rattle.pm_dd.proofs.near.near_negatives.Goals as goal
 use Rattle.pm_dd.proofs.near.near_negatives.Goals.{then-values-j-lt0+then-common_count_with-need+in_ok-push, else-values-j-lt0, else-values-j-lt0-via-then-values-j-lt0+else-common_count_with-need, else-values-j-lt0-via-else-values-j-lt0}

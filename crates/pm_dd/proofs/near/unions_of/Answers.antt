@@ -1,4 +1,4 @@
-use Rattle.pm_algebra.specs.Rows.{entry}
+use Rattle.pm_vector.specs.Rows.{entry}
 use Rattle.pm_bits.specs.Sets.{IsSubset, has}
 use Rattle.pm_dd.proofs.near.unions_of.Goals as goal
 use Rattle.pm_dd.proofs.near.unions_of.Goals.{then-values-k-gt0, else-values-k-gt0+then-values-k-lt0, else-values-k-gt0+else-values-k-lt0}

@@ -1,4 +1,4 @@
-use Rattle.pm_algebra.specs.Rows.{entry}
+use Rattle.pm_vector.specs.Rows.{entry}
 use Rattle.pm_bits.specs.Sets.{IsSubset}
 use Rattle.pm_dd.proofs.near.unions_of.Given as goal
 use Rattle.pm_dd.specs.Tables.{zero_set}

@@ -1,4 +1,4 @@
-use Rattle.pm_algebra.specs.Rows.{entry}
+use Rattle.pm_vector.specs.Rows.{entry}
 use Rattle.pm_bits.proofs.Common.{has-met_row, length-met_row, member_count-met_row, met_row}
 use Rattle.pm_bits.specs.Sets.{has}
 use Rattle.pm_dd.proofs.Building.{and_same}

@@ -1,5 +1,5 @@
-use Rattle.pm_algebra.specs.Rows.{dot, entry}
-use Rattle.pm_bases.specs.Bases.{row_at}
+use Rattle.pm_vector.specs.Rows.{dot, entry}
+use Rattle.pm_vector.specs.Bases.{row_at}
 use Rattle.pm_dd.proofs.Building.{built_form, built_many, built_table, no_pair, pair_made, pairs_all, pairs_first, pairs_none_row, pairs_skip_row, ray_cols}
 use Rattle.pm_bits.specs.Sets.{common_count}
 use Rattle.pm_dd.proofs.FarRays.{far_ahead, far_behind}

@@ -1,8 +1,8 @@
 use Rattle.pm_dd.proofs.Building.{kept_skip, kept_more, made_kept}
 use Rattle.pm_dd.proofs.step.kept_rays.Goals as goal
 use Rattle.pm_dd.specs.Building.{NextZeros}
-use Rattle.pm_algebra.specs.Rows.{dot, entry}
-use Rattle.pm_bases.specs.Bases.{row_at}
+use Rattle.pm_vector.specs.Rows.{dot, entry}
+use Rattle.pm_vector.specs.Bases.{row_at}
 use Rattle.pm_dd.specs.Tables.{zero_set}
 use Rattle.pm_geom.specs.Faces.{ray}
 use Rattle.std.specs.Int.{w128}

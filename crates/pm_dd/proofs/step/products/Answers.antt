@@ -1,5 +1,5 @@
-use Rattle.pm_algebra.specs.Numbers.{InRange}
-use Rattle.pm_algebra.specs.Rows.{dot}
+use Rattle.pm_vector.specs.Numbers.{InRange}
+use Rattle.pm_vector.specs.Rows.{dot}
 use Rattle.pm_dd.proofs.Building.{entries_more}
 use Rattle.pm_dd.proofs.step.products.Goals as goal
 use Rattle.pm_geom.specs.Faces.{ray}

@@ -1,5 +1,5 @@
-use Rattle.pm_algebra.specs.Cones.{combination}
-use Rattle.pm_algebra.specs.Rows.{Same, plus}
+use Rattle.pm_vector.specs.Cones.{combination}
+use Rattle.pm_vector.specs.Rows.{Same, plus}
 use Rattle.pm_dual.proofs.Optimum.{infeasible_is}
 use Rattle.pm_dual.proofs.check.infeasible.Goals as goal
 use Rattle.std.proofs.Common.{[], arith, refl, rules, subst, ℤ, ◌++◌, ◌∷◌}

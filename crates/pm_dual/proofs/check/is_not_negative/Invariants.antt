@@ -1,4 +1,4 @@
-use Rattle.pm_algebra.specs.Rows.{entry}
+use Rattle.pm_vector.specs.Rows.{entry}
 use Rattle.pm_dual.proofs.check.is_not_negative.Given as goal
 use Rattle.std.proofs.Common.{pos, ℕ, ◌<◌}
 use lib.Signed.{◌≤ℤ◌}

@@ -1,5 +1,5 @@
-use Rattle.pm_algebra.specs.Cones.{combination}
-use Rattle.pm_algebra.specs.Rows.{Same, dot, entry, plus, times}
+use Rattle.pm_vector.specs.Cones.{combination}
+use Rattle.pm_vector.specs.Rows.{Same, dot, entry, plus, times}
 use Rattle.pm_dual.proofs.Optimum.{optimum_is}
 use Rattle.pm_dual.proofs.check.optimum.Goals as goal
 use Rattle.pm_dual.specs.Quotients.{AreQuotients}

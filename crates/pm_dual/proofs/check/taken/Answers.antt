@@ -1,4 +1,4 @@
-use Rattle.pm_algebra.proofs.RowLaws.{length-difference}
+use Rattle.pm_vector.proofs.RowLaws.{length-difference}
 use Rattle.pm_dual.proofs.RowSums.{taken_times}
 use Rattle.pm_dual.proofs.check.taken.Goals as goal
 use Rattle.std.proofs.Common.{ap, length, refl, rules, ◌∙◌}

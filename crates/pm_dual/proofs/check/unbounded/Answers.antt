@@ -1,4 +1,4 @@
-use Rattle.pm_algebra.specs.Rows.{dot, entry}
+use Rattle.pm_vector.specs.Rows.{dot, entry}
 use Rattle.pm_dual.proofs.Optimum.{unbounded_is}
 use Rattle.pm_dual.proofs.check.unbounded.Goals as goal
 use Rattle.pm_dual.specs.Quotients.{AreQuotients}

@@ -1,6 +1,6 @@
-use Rattle.pm_algebra.specs.Cones.{combination}
-use Rattle.pm_algebra.specs.Rows.{Row, Same, entry, plus, times}
-use Rattle.pm_bases.specs.Bases.{row_at}
+use Rattle.pm_vector.specs.Cones.{combination}
+use Rattle.pm_vector.specs.Rows.{Row, Same, entry, plus, times}
+use Rattle.pm_vector.specs.Bases.{row_at}
 use Rattle.pm_dual.proofs.RowSums.{end_sum, next_sum}
 use Rattle.pm_dual.proofs.sums.add_rows.Goals as goal
 use Rattle.std.proofs.Common.{[], arith, length, of_z, refl, rules, subst, to_z, ℤ, ◌≡◌, ◌∙◌}

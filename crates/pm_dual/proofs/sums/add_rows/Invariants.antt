@@ -1,5 +1,5 @@
-use Rattle.pm_algebra.specs.Cones.{combination}
-use Rattle.pm_algebra.specs.Rows.{Same, plus}
+use Rattle.pm_vector.specs.Cones.{combination}
+use Rattle.pm_vector.specs.Rows.{Same, plus}
 use Rattle.pm_dual.proofs.sums.add_rows.Given as goal
 use Rattle.std.proofs.Common.{drop, length, ◌≡◌}
 

@@ -1,4 +1,4 @@
-use Rattle.pm_algebra.proofs.RowLaws.{length-difference}
+use Rattle.pm_vector.proofs.RowLaws.{length-difference}
 use Rattle.pm_dual.proofs.RowSums.{opposite_read, row_added}
 use Rattle.pm_dual.proofs.sums.add_times.Goals as goal
 use Rattle.std.proofs.Common.{ap, length, pos, refl, rules, ◌∙◌}

@@ -1,4 +1,4 @@
-use Rattle.pm_algebra.specs.Rows.{dot}
+use Rattle.pm_vector.specs.Rows.{dot}
 use Rattle.pm_dual.proofs.RowSums.{all_places}
 use Rattle.pm_dual.proofs.sums.all_zero.Goals as goal
 use Rattle.std.proofs.Common.{arith, pos, ◌≡◌}

@@ -1,5 +1,5 @@
-use Rattle.pm_algebra.specs.Rows.{dot}
-use Rattle.pm_bases.specs.Bases.{row_at}
+use Rattle.pm_vector.specs.Rows.{dot}
+use Rattle.pm_vector.specs.Bases.{row_at}
 use Rattle.pm_dual.proofs.sums.none_negative.Given as goal
 use Rattle.std.proofs.Common.{pos, ℕ, ◌<◌}
 use lib.Signed.{◌≤ℤ◌}

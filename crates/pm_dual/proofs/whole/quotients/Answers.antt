@@ -1,4 +1,4 @@
-use Rattle.pm_algebra.specs.Rows.{entry}
+use Rattle.pm_vector.specs.Rows.{entry}
 use Rattle.pm_dual.proofs.RowSums.{quotients_more}
 use Rattle.pm_dual.proofs.whole.quotients.Goals as goal
 use Rattle.pm_fraction.specs.Fractions.{IsLowestTermsOf, ratio_of}

@@ -1,4 +1,4 @@
-use Rattle.pm_algebra.specs.Rows.{entry, ratio_at}
+use Rattle.pm_vector.specs.Rows.{entry, ratio_at}
 use Rattle.pm_dual.proofs.whole.quotients.Given as goal
 use Rattle.pm_fraction.specs.Fractions.{IsLowestTermsOf, ratio_of}
 use Rattle.std.proofs.Common.{length, ℕ, ◌<◌, ◌≡◌}

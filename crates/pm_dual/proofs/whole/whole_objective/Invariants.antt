@@ -1,4 +1,4 @@
-use Rattle.pm_algebra.specs.Rows.{entry, ratio_at}
+use Rattle.pm_vector.specs.Rows.{entry, ratio_at}
 use Rattle.pm_dual.proofs.whole.whole_objective.Given as goal
 use Rattle.std.proofs.Common.{length, pos, ℕ, ◌<◌, ◌≡◌}
 use lib.IntN.{◌*ℤ◌}

@@ -1,4 +1,4 @@
-use Rattle.pm_algebra.specs.Cones.{IsIndependent}
+use Rattle.pm_vector.specs.Cones.{IsIndependent}
 use Rattle.pm_elim.proofs.EvidenceLaws.{wide_is_extended_evidence}
 use Rattle.pm_elim.specs.Evidence.{IfWide, IsEvidence}
 use Rattle.pm_elim.specs.EliminationSteps.{EliminationStep}

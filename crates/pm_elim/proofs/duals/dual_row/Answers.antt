@@ -1,4 +1,4 @@
-use Rattle.pm_bases.specs.Bases.{column, row_at}
+use Rattle.pm_vector.specs.Bases.{column, row_at}
 use Rattle.pm_elim.proofs.BasisLaws.{row_length}
 use Rattle.pm_elim.proofs.DualLaws.{contained_pivot, is_dual, pivot_contained, some_new}
 use Rattle.pm_elim.proofs.duals.dual_row.Goals as goal

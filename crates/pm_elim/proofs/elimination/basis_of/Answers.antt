@@ -1,4 +1,4 @@
-use Rattle.pm_bases.specs.Bases.{row_at}
+use Rattle.pm_vector.specs.Bases.{row_at}
 use Rattle.pm_elim.proofs.BasisLaws.{BasisSoFar-more, BasisSoFar-none, BasisSoFar-whole, fail_is_wide, fail_list, row_length, small_step}
 use Rattle.pm_elim.proofs.elimination.basis_of.Goals as goal
 use Rattle.std.proofs.Common.{arith, length, ◌<◌, ◌≡◌}

@@ -1,4 +1,4 @@
-use Rattle.pm_bases.proofs.Rank.{basis_gives_rank}
+use Rattle.pm_vector.proofs.Rank.{basis_gives_rank}
 use Rattle.pm_elim.proofs.elimination.rank.Goals as goal
 use Rattle.std.proofs.Common.{arith, length, ◌≡◌}
 

@@ -1,5 +1,5 @@
-use Rattle.pm_algebra.specs.Rows.{entry}
-use Rattle.pm_bases.specs.Bases.{row_at}
+use Rattle.pm_vector.specs.Rows.{entry}
+use Rattle.pm_vector.specs.Bases.{row_at}
 use Rattle.pm_elim.proofs.BasisLaws.{row_length}
 use Rattle.pm_elim.proofs.extended.column_row.Goals as goal
 use Rattle.pm_vector.proofs.Kept.{kept}

@@ -1,4 +1,4 @@
-use Rattle.pm_bases.specs.Bases.{row_at}
+use Rattle.pm_vector.specs.Bases.{row_at}
 use Rattle.pm_elim.proofs.extended.extended.Given as goal
 use Rattle.pm_elim.specs.Evidence.{column_of, unit}
 use Rattle.std.proofs.Common.{length, ◌++◌, ◌<◌, ◌≡◌, ℕ}

@@ -1,4 +1,4 @@
-use Rattle.pm_bases.specs.Bases.{row_at}
+use Rattle.pm_vector.specs.Bases.{row_at}
 use Rattle.pm_elim.proofs.BasisLaws.{BasisSoFar-more, fail_is_wide, fail_list, row_length}
 use Rattle.pm_elim.proofs.EnlargingLaws.{MarkSoFar-more, mark_is_right}
 use Rattle.pm_elim.proofs.EvidenceLaws.{no_evidence_on_rows, wide_is_evidence}

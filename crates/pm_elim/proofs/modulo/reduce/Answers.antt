@@ -1,5 +1,5 @@
 -- What the rows behind the basis say, the basis says.
-use Rattle.pm_algebra.specs.Rows.{HasCols}
+use Rattle.pm_vector.specs.Rows.{HasCols}
 use Rattle.pm_elim.proofs.BasisLaws.{with_cols}
 use Rattle.pm_elim.proofs.modulo.reduce.Goals as goal
 use Rattle.pm_elim.proofs.modulo.reduce.Goals.{After-deref-2}

@@ -1,5 +1,5 @@
 -- Each turn reduces the row whose turn it is, which is as it was, so its step stays in the range.
-use Rattle.pm_bases.specs.Bases.{row_at}
+use Rattle.pm_vector.specs.Bases.{row_at}
 use Rattle.pm_elim.proofs.BasisLaws.{row_length}
 use Rattle.pm_elim.proofs.OlderRows.{FirstReduced-all, FirstReduced-more, FirstReduced-none, row_in_turn}
 use Rattle.pm_elim.proofs.older.reduce_each.Goals as goal

@@ -1,4 +1,4 @@
-use Rattle.pm_bases.specs.Bases.{row_at}
+use Rattle.pm_vector.specs.Bases.{row_at}
 use Rattle.pm_elim.proofs.older.wide_older.Goals as goal
 use Rattle.pm_elim.specs.Steps.{StepStays}
 use Rattle.std.proofs.Common.{arith, below_more, length, ◌<◌, ◌≡◌, ℕ}

@@ -1,4 +1,4 @@
-use Rattle.pm_algebra.specs.Rows.{entry}
+use Rattle.pm_vector.specs.Rows.{entry}
 use Rattle.pm_elim.proofs.PivotLaws.{lt_z_reads}
 use Rattle.pm_elim.proofs.pivot.is_negative_at.Goals as goal
 use Rattle.std.proofs.Common.{FitsSigned, rules}

@@ -1,4 +1,4 @@
-use Rattle.pm_algebra.specs.Rows.{entry}
+use Rattle.pm_vector.specs.Rows.{entry}
 use Rattle.pm_elim.proofs.pivot.pivot_of.Given as goal
 use Rattle.std.proofs.Common.{pos, ◌<◌, ◌≡◌, ℕ}
 

@@ -1,4 +1,4 @@
-use Rattle.pm_algebra.specs.Rows.{entry}
+use Rattle.pm_vector.specs.Rows.{entry}
 use Rattle.pm_elim.proofs.PivotLaws.{pivot_of_negative, pivot_of_positive}
 use Rattle.pm_elim.proofs.pivot.pivot_row.Goals as goal
 use Rattle.pm_elim.proofs.pivot.pivot_row.Goals.{else-is_negative_at, then-is_negative_at}

@@ -1,5 +1,5 @@
-use Rattle.pm_bases.proofs.Columns.{row_cols}
-use Rattle.pm_bases.specs.Bases.{column, row_at}
+use Rattle.pm_vector.proofs.Columns.{row_cols}
+use Rattle.pm_vector.specs.Bases.{column, row_at}
 use Rattle.pm_elim.proofs.InTurn.{InTurn-all, InTurn-more, pivot_below}
 use Rattle.pm_elim.proofs.ReductionLaws.{once_length}
 use Rattle.pm_elim.proofs.reduction.reduce_in_turn.Goals as goal

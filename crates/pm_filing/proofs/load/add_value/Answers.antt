@@ -1,5 +1,5 @@
 -- The value agrees with what is held.
-use Rattle.pm_algebra.proofs.Lists.{Contains_among}
+use Rattle.pm_vector.proofs.Lists.{Contains_among}
 use Rattle.pm_filing.proofs.Fitting.{agrees_now}
 use Rattle.pm_types.specs.Views.{view_of}
 use Rattle.pm_filing.proofs.load.add_value.Goals as goal

@@ -1,4 +1,4 @@
-use Rattle.pm_algebra.specs.Rows.{entry}
+use Rattle.pm_vector.specs.Rows.{entry}
 use Rattle.pm_elim.specs.Evidence.{unit}
 use Rattle.pm_dd.specs.Fronts.{HalfSpaces}
 use Rattle.pm_geom.specs.Generators.{AreGenerators}

@@ -1,4 +1,4 @@
-use Rattle.pm_algebra.specs.Cones.{InCone}
+use Rattle.pm_vector.specs.Cones.{InCone}
 use Rattle.pm_incidence.proofs.Described.{if_ok, vertices_of_thin, zero_cone, zero_generators}
 use Rattle.pm_incidence.proofs.by_incidence.vertices_by_incidence.Goals as goal
 use Rattle.pm_incidence.specs.Thinning.{HasPoint}

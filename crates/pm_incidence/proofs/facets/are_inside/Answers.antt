@@ -1,5 +1,5 @@
 use Rattle.pm_dd.specs.Fronts.{HalfSpaces}
-use Rattle.pm_algebra.proofs.Lists.{among_All, among_Contains}
+use Rattle.pm_vector.proofs.Lists.{among_All, among_Contains}
 use Rattle.pm_geom.proofs.Polar.{cols_at}
 use Rattle.pm_incidence.proofs.Products.{listed}
 use Rattle.pm_incidence.proofs.Taken.{no_from}

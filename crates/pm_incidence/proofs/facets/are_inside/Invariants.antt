@@ -1,4 +1,4 @@
-use Rattle.pm_algebra.specs.Rows.{Row}
+use Rattle.pm_vector.specs.Rows.{Row}
 use Rattle.pm_dd.specs.Fronts.{HalfSpaces}
 use Rattle.pm_incidence.proofs.facets.are_inside.Given as goal
 use Rattle.pm_incidence.specs.Thinning.{half_spaces}

@@ -1,5 +1,5 @@
-use Rattle.pm_algebra.proofs.RowLaws.{dot_comm}
-use Rattle.pm_algebra.specs.Rows.{Row, dot}
+use Rattle.pm_vector.proofs.RowLaws.{dot_comm}
+use Rattle.pm_vector.specs.Rows.{Row, dot}
 use Rattle.pm_incidence.proofs.Taken.{no_from, not_at, taken_more}
 use Rattle.pm_incidence.proofs.facets.is_cut_out.Goals as goal
 use Rattle.std.proofs.Common.{arith, ◌∙◌, ◌≡◌}

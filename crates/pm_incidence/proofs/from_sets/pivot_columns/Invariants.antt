@@ -1,5 +1,5 @@
 -- the pivot columns of the rows so far
-use Rattle.pm_bases.specs.Bases.{IsEchelonBasis}
+use Rattle.pm_vector.specs.Bases.{IsEchelonBasis}
 use Rattle.pm_incidence.proofs.from_sets.pivot_columns.Given as goal
 use Rattle.std.proofs.Common.{List, take, ◌≡◌, ℕ}
 

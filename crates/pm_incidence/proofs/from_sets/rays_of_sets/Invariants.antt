@@ -1,5 +1,5 @@
 -- the rows of the sets so far
-use Rattle.pm_algebra.specs.Rows.{HasCols}
+use Rattle.pm_vector.specs.Rows.{HasCols}
 use Rattle.pm_incidence.proofs.Determined.{AreFound}
 use Rattle.pm_incidence.proofs.from_sets.rays_of_sets.Given as goal
 use Rattle.std.proofs.Common.{map, take}

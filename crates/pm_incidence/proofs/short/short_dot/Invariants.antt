@@ -1,5 +1,5 @@
 -- The sum is that of the products so far.
-use Rattle.pm_algebra.specs.Rows.{dot}
+use Rattle.pm_vector.specs.Rows.{dot}
 use Rattle.pm_incidence.proofs.short.short_dot.Given as goal
 use Rattle.std.proofs.Common.{take, ◌≡◌}
 

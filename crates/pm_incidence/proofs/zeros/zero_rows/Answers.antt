@@ -1,4 +1,4 @@
-use Rattle.pm_bases.specs.Bases.{row_at}
+use Rattle.pm_vector.specs.Bases.{row_at}
 use Rattle.pm_dd.specs.Tables.{IsZeroSet}
 use Rattle.pm_incidence.proofs.Appended.{appended, length_more}
 use Rattle.pm_incidence.proofs.zeros.zero_rows.Goals as goal

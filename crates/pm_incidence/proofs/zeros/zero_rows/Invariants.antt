@@ -1,4 +1,4 @@
-use Rattle.pm_bases.specs.Bases.{row_at}
+use Rattle.pm_vector.specs.Bases.{row_at}
 use Rattle.pm_dd.specs.Tables.{IsZeroSet, zero_set}
 use Rattle.pm_incidence.proofs.zeros.zero_rows.Given as goal
 use Rattle.std.proofs.Common.{length, ℕ, ◌<◌, ◌≡◌}

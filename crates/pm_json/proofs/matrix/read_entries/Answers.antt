@@ -5,7 +5,7 @@ use Rattle.std.proofs.lemmas.Result.{err_from_is_err_and}
 use Rattle.pm_json.proofs.Readings.{with_front-nil}
 use Rattle.pm_json.proofs.RowEnds.{entries_from-end, entries_from-item, entries_from-long, entries_from-no_entry, next_item}
 use Rattle.pm_json.specs.Readings.{Read, entries_from, with_front}
-use Rattle.pm_algebra.specs.Numbers.{Ratio}
+use Rattle.pm_vector.specs.Numbers.{Ratio}
 use Rattle.serde_json.specs.View.{items_view, view}
 use Rattle.serde_json.specs.declared.value.Value.{Value}
 use Rattle.pm_json.proofs.matrix.read_entries.Goals as goal

@@ -5,7 +5,7 @@ use Rattle.std.proofs.lemmas.Result.{err_from_is_err_and}
 use Rattle.pm_json.proofs.Readings.{later_row_from-item, with_front-nil}
 use Rattle.pm_json.proofs.RowEnds.{later_row_from-long, later_row_from-no_entry, later_row_from-short, later_row_from-whole, next_item}
 use Rattle.pm_json.specs.Readings.{Read, later_row_from, with_front}
-use Rattle.pm_algebra.specs.Numbers.{Ratio}
+use Rattle.pm_vector.specs.Numbers.{Ratio}
 use Rattle.serde_json.specs.View.{items_view, view}
 use Rattle.serde_json.specs.declared.value.Value.{Value}
 use Rattle.pm_json.proofs.matrix.read_later_row.Goals as goal

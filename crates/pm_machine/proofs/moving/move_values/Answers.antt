@@ -1,7 +1,7 @@
 -- Property after property: what is still to be moved, with room for it.
 use Rattle.std.proofs.Common.{ap, arith, false, subst, sym, true, ◌∙◌, ◌≡◌}
 use Rattle.std.specs.Prelude.{length, slice_index_or, ◌+◌, ◌<◌}
-use Rattle.pm_algebra.proofs.Lists.{Among, here}
+use Rattle.pm_vector.proofs.Lists.{Among, here}
 use Rattle.pm_machine.proofs.Moves.{StillToMove, all_moved, next_to_move, not_to_move, room_to_move, start_to_move}
 use Rattle.pm_object.specs.Reading.{DraftSeen}
 use Rattle.pm_props.specs.Properties.{every_property}

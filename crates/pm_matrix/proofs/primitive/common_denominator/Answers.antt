@@ -1,6 +1,6 @@
 use Rattle.pm_matrix.proofs.Denominators.{DenominatorSoFar-more, DenominatorSoFar-none, first_wide_denominator}
 use Rattle.pm_matrix.proofs.primitive.common_denominator.Goals as goal
-use Rattle.pm_algebra.specs.Rows.{ratio_at}
+use Rattle.pm_vector.specs.Rows.{ratio_at}
 use Rattle.std.proofs.Common.{inl, pos, ◌≡◌}
 use Rattle.std.proofs.lemmas.List.{get_or_read}
 use Rattle.std.proofs.lemmas.Result.{err_from_is_err_and}

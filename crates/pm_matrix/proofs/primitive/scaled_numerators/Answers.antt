@@ -1,6 +1,6 @@
 use Rattle.pm_matrix.proofs.Numerators.{NumeratorsSoFar-more, first_wide_numerator}
 use Rattle.pm_matrix.proofs.primitive.scaled_numerators.Goals as goal
-use Rattle.pm_algebra.specs.Rows.{ratio_at}
+use Rattle.pm_vector.specs.Rows.{ratio_at}
 use Rattle.pm_vector.proofs.Kept.{kept}
 use Rattle.std.proofs.Common.{inr, pos, ◌≡◌}
 use Rattle.std.proofs.lemmas.List.{get_or_read}

@@ -1,4 +1,4 @@
-use Rattle.pm_algebra.specs.Rows.{ratio_at}
+use Rattle.pm_vector.specs.Rows.{ratio_at}
 use Rattle.pm_fraction.specs.Arithmetic.{opposite_of}
 use Rattle.pm_optima.proofs.face.level_row.Given as goal
 use Rattle.std.proofs.Common.{length, suc, ◌<◌, ◌≡◌, ℕ}

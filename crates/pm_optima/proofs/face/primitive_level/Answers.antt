@@ -1,5 +1,5 @@
-use Rattle.pm_algebra.specs.Numbers.{Ratio}
-use Rattle.pm_algebra.specs.Rows.{ratio_at}
+use Rattle.pm_vector.specs.Numbers.{Ratio}
+use Rattle.pm_vector.specs.Rows.{ratio_at}
 use Rattle.pm_optima.proofs.face.primitive_level.Goals as goal
 use Rattle.pm_simplex.specs.OptimumEvidence.{IsLevelRow}
 use Rattle.pm_types.proofs.PrimitiveRows.{not_wide}

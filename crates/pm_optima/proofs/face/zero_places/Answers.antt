@@ -1,5 +1,5 @@
-use Rattle.pm_algebra.specs.Rows.{dot}
-use Rattle.pm_bases.specs.Bases.{row_at}
+use Rattle.pm_vector.specs.Rows.{dot}
+use Rattle.pm_vector.specs.Bases.{row_at}
 use Rattle.pm_optima.proofs.Places.{VanishesAt, one_left, one_more, places_form}
 use Rattle.pm_optima.proofs.Refusals.{shows_product}
 use Rattle.pm_optima.proofs.face.zero_places.Goals as goal

@@ -1,4 +1,4 @@
-use Rattle.pm_algebra.specs.Rows.{entry, ratio_at}
+use Rattle.pm_vector.specs.Rows.{entry, ratio_at}
 use Rattle.pm_fraction.specs.Fractions.{ratio_of}
 use Rattle.pm_optima.proofs.Scales.{is_scale, no_error}
 use Rattle.pm_optima.proofs.objective.scale_at.Goals as goal

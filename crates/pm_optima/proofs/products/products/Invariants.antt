@@ -1,4 +1,4 @@
-use Rattle.pm_algebra.specs.Rows.{dot}
+use Rattle.pm_vector.specs.Rows.{dot}
 use Rattle.pm_optima.proofs.products.products.Given as goal
 use Rattle.std.proofs.Common.{map, take, ◌≡◌}
 

@@ -1,5 +1,5 @@
-use Rattle.pm_algebra.specs.Rows.{entry}
-use Rattle.pm_bases.specs.Bases.{row_at}
+use Rattle.pm_vector.specs.Rows.{entry}
+use Rattle.pm_vector.specs.Bases.{row_at}
 use Rattle.pm_optima.proofs.QuotientLaws.{better_one, first_one, same_one}
 use Rattle.pm_optima.proofs.quotients.with_row.Goals as goal
 use Rattle.pm_vector.proofs.Kept.{kept}

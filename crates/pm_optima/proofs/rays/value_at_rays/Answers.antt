@@ -1,5 +1,5 @@
-use Rattle.pm_algebra.specs.Rows.{dot}
-use Rattle.pm_bases.specs.Bases.{row_at}
+use Rattle.pm_vector.specs.Rows.{dot}
+use Rattle.pm_vector.specs.Bases.{row_at}
 use Rattle.pm_optima.proofs.Levels.{scale_of}
 use Rattle.pm_optima.proofs.Optima.{endless_optimum, finite_optimum, line_product, none_optimum, turned_length, wide_optimum}
 use Rattle.pm_optima.proofs.rays.value_at_rays.Goals as goal

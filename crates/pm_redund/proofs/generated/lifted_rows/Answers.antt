@@ -1,4 +1,4 @@
-use Rattle.pm_algebra.specs.Rows.{Row}
+use Rattle.pm_vector.specs.Rows.{Row}
 use Rattle.pm_geom.specs.StatedOrder.{rows_marked}
 use Rattle.pm_redund.proofs.Lifted.{lift_more, lift_skip}
 use Rattle.pm_redund.proofs.generated.lifted_rows.Goals as goal

@@ -1,5 +1,5 @@
-use Rattle.pm_algebra.specs.Cones.{InCone}
-use Rattle.pm_bases.specs.Bases.{row_at}
+use Rattle.pm_vector.specs.Cones.{InCone}
+use Rattle.pm_vector.specs.Bases.{row_at}
 use Rattle.pm_geom.specs.StatedOrder.{rows_marked}
 use Rattle.pm_redund.proofs.keep.enough_marks.Given as goal
 use Rattle.std.proofs.Common.{length, true, ℕ, ◌<◌, ◌≡◌}

@@ -1,5 +1,5 @@
-use Rattle.pm_algebra.proofs.Lists.{all_append}
-use Rattle.pm_algebra.specs.Rows.{Row}
+use Rattle.pm_vector.proofs.Lists.{all_append}
+use Rattle.pm_vector.specs.Rows.{Row}
 use Rattle.pm_geom.specs.StatedOrder.{rows_marked}
 use Rattle.pm_redund.proofs.Marked.{marked_cols, marked_few}
 use Rattle.pm_redund.proofs.thinned.kept_of.Goals as goal

@@ -1,4 +1,4 @@
-use Rattle.pm_algebra.proofs.Lists.{among_append_left, among_append_right}
+use Rattle.pm_vector.proofs.Lists.{among_append_left, among_append_right}
 use Rattle.pm_laws_normal_fans.proofs.Places.{map_length}
 use Rattle.pm_refine.proofs.Indexed.{all_cols, all_last, all_left, item, kept_next, map_last, mapped_among, mapped_at, some_row}
 use Rattle.pm_refine.proofs.Outcomes.{test_as, tests_more}

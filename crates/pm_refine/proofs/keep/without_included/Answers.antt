@@ -1,5 +1,5 @@
-use Rattle.pm_algebra.proofs.Filters.{among_map}
-use Rattle.pm_algebra.proofs.Lists.{Among, among_append_right, here}
+use Rattle.pm_vector.proofs.Filters.{among_map}
+use Rattle.pm_vector.proofs.Lists.{Among, among_append_right, here}
 use Rattle.pm_refine.proofs.Outcomes.{only_in, tests_more}
 use Rattle.pm_refine.proofs.keep.without_included.Goals as goal
 use Rattle.pm_refine.specs.CutRows.{IsRowOf, cut_rows, intersection_of}

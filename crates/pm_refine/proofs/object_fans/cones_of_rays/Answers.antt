@@ -1,4 +1,4 @@
-use Rattle.pm_algebra.proofs.Lists.{among_All}
+use Rattle.pm_vector.proofs.Lists.{among_All}
 use Rattle.pm_refine.proofs.Indexed.{mapped_among}
 use Rattle.pm_refine.proofs.object_fans.cones_of_rays.Goals as goal
 use Rattle.std.proofs.Common.{length, ℕ, ◌<◌}

@@ -1,4 +1,4 @@
-use Rattle.pm_algebra.proofs.Lists.{among_All}
+use Rattle.pm_vector.proofs.Lists.{among_All}
 use Rattle.pm_refine.proofs.Indexed.{mapped_among}
 use Rattle.pm_refine.proofs.objects.cone_sets.Goals as goal
 use Rattle.std.proofs.Common.{ℕ, ◌<◌}

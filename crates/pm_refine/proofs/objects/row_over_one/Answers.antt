@@ -1,4 +1,4 @@
-use Rattle.pm_algebra.specs.Rows.{entry}
+use Rattle.pm_vector.specs.Rows.{entry}
 use Rattle.pm_refine.proofs.objects.row_over_one.Goals as goal
 use Rattle.pm_types.specs.Views.{over_one}
 use Rattle.pm_vector.proofs.Kept.{kept}

@@ -1,4 +1,4 @@
-use Rattle.pm_algebra.proofs.Lists.{among_All, among_Contains}
+use Rattle.pm_vector.proofs.Lists.{among_All, among_Contains}
 use Rattle.pm_geom.proofs.Polar.{cols_at}
 use Rattle.pm_laws_normal_fans.specs.Refinements.{InHalfSpaces}
 use Rattle.pm_refine.proofs.Outcomes.{small_as, test_of_ray}

@@ -1,4 +1,4 @@
-use Rattle.pm_algebra.specs.Rows.{Row}
+use Rattle.pm_vector.specs.Rows.{Row}
 use Rattle.pm_laws_normal_fans.specs.Refinements.{InHalfSpaces}
 use Rattle.pm_refine.proofs.products.are_inside.Given as goal
 use Rattle.std.proofs.Common.{take}

@@ -1,4 +1,4 @@
-use Rattle.pm_bases.specs.Bases.{column}
+use Rattle.pm_vector.specs.Bases.{column}
 use Rattle.pm_programs.specs.Dictionaries.{at}
 use Rattle.pm_simplex.proofs.absorb.free_place.Given as goal
 use Rattle.pm_simplex.specs.Comparisons.{rows_of}

@@ -1,4 +1,4 @@
-use Rattle.pm_algebra.specs.Numbers.{InRangeRatio}
+use Rattle.pm_vector.specs.Numbers.{InRangeRatio}
 use Rattle.pm_simplex.proofs.Pushed.{count_pushed, pushed}
 use Rattle.pm_simplex.proofs.pivot.new_pivot_row.Goals as goal
 use Rattle.pm_programs.specs.Dictionaries.{IsNewHere}

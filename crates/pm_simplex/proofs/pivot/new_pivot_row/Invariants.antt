@@ -1,5 +1,5 @@
-use Rattle.pm_algebra.specs.Numbers.{InRangeRatio}
-use Rattle.pm_algebra.specs.Rows.{ratio_at}
+use Rattle.pm_vector.specs.Numbers.{InRangeRatio}
+use Rattle.pm_vector.specs.Rows.{ratio_at}
 use Rattle.pm_simplex.proofs.pivot.new_pivot_row.Given as goal
 use Rattle.pm_programs.specs.Dictionaries.{IsNewHere}
 use Rattle.std.proofs.Common.{length, ℕ, ◌<◌, ◌≡◌}

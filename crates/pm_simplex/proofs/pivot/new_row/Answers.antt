@@ -1,4 +1,4 @@
-use Rattle.pm_algebra.specs.Rows.{ratio_at}
+use Rattle.pm_vector.specs.Rows.{ratio_at}
 use Rattle.pm_simplex.proofs.Pushed.{elsewhere_as, one_length, row_read}
 use Rattle.pm_simplex.proofs.pivot.new_row.Goals as goal
 use Rattle.pm_programs.specs.Dictionaries.{row_of}

@@ -1,4 +1,4 @@
-use Rattle.pm_bases.specs.Bases.{column}
+use Rattle.pm_vector.specs.Bases.{column}
 use Rattle.pm_simplex.proofs.start.start_basis.Given as goal
 use Rattle.pm_simplex.specs.Starts.{own_column}
 use Rattle.std.proofs.Common.{length, ℕ, ◌<◌, ◌≡◌}

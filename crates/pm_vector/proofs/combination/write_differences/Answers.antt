@@ -1,4 +1,4 @@
-use Rattle.pm_algebra.specs.Rows.{entry}
+use Rattle.pm_vector.specs.Rows.{entry}
 use Rattle.pm_vector.specs.Differences.{EntryStays}
 use Rattle.pm_vector.proofs.Differences.{All-written, PartlyWritten-more, written_all}
 use Rattle.pm_vector.proofs.Kept.{difference_fits, kept_difference}

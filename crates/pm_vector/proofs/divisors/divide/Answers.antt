@@ -1,4 +1,4 @@
-use Rattle.pm_algebra.specs.Rows.{entry}
+use Rattle.pm_vector.specs.Rows.{entry}
 use Rattle.pm_vector.proofs.QuotientLaws.{divided_more}
 use Rattle.pm_vector.proofs.divisors.divide.Goals as goal
 use Rattle.std.proofs.Common.{FitsSigned, arith, length, rules, ◌<◌}

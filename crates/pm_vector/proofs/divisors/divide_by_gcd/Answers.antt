@@ -1,4 +1,4 @@
-use Rattle.pm_algebra.proofs.Divisors.{IsPrimitiveOf-quotients}
+use Rattle.pm_vector.proofs.DivisorLaws.{IsPrimitiveOf-quotients}
 use Rattle.pm_vector.proofs.QuotientLaws.{All-quotients, IsPrimitiveOf-same, IsQuotient-quotients, IsQuotient-same, gcd_in_range, quotients_is}
 use Rattle.pm_vector.proofs.divisors.divide_by_gcd.Goals as goal
 use Rattle.std.proofs.Common.{arith, pos, ◌<ℤ◌}

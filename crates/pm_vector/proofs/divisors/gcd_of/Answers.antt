@@ -1,5 +1,5 @@
-use Rattle.pm_algebra.proofs.Divisors.{IsGcdOf-more}
-use Rattle.pm_algebra.specs.Rows.{entry}
+use Rattle.pm_vector.proofs.DivisorLaws.{IsGcdOf-more}
+use Rattle.pm_vector.specs.Rows.{entry}
 use Rattle.pm_vector.proofs.QuotientLaws.{IsGcdOf-one}
 use Rattle.pm_vector.proofs.divisors.gcd_of.Goals as goal
 use Rattle.std.proofs.Common.{FitsSigned, rules, ◌+◌}

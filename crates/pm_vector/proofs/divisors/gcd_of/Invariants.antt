@@ -1,4 +1,4 @@
-use Rattle.pm_algebra.specs.Divisors.{IsGcdOf}
+use Rattle.pm_vector.specs.Divisors.{IsGcdOf}
 use Rattle.pm_vector.proofs.divisors.gcd_of.Given as goal
 use Rattle.std.proofs.Common.{take}
 

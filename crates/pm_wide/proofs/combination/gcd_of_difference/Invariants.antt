@@ -1,5 +1,5 @@
-use Rattle.pm_algebra.specs.Divisors.{IsGcdOf}
-use Rattle.pm_algebra.specs.Rows.{difference}
+use Rattle.pm_vector.specs.Divisors.{IsGcdOf}
+use Rattle.pm_vector.specs.Rows.{difference}
 use Rattle.pm_wide.proofs.combination.gcd_of_difference.Given as goal
 use Rattle.pm_wide.specs.Magnitudes.{magnitude_of}
 use Rattle.std.proofs.Common.{take}

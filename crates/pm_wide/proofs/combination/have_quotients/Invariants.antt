@@ -1,4 +1,4 @@
-use Rattle.pm_algebra.specs.Rows.{difference}
+use Rattle.pm_vector.specs.Rows.{difference}
 use Rattle.pm_wide.proofs.combination.have_quotients.Given as goal
 use Rattle.pm_wide.specs.Quotients.{HaveQuotients}
 use Rattle.pm_wide.specs.Magnitudes.{magnitude_of}

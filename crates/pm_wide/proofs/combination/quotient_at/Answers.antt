@@ -1,4 +1,4 @@
-use Rattle.pm_algebra.specs.Rows.{difference, entry}
+use Rattle.pm_vector.specs.Rows.{difference, entry}
 use Rattle.pm_wide.proofs.Held.{kept}
 use Rattle.pm_wide.proofs.Written.{no_quotient}
 use Rattle.pm_wide.proofs.combination.quotient_at.Goals as goal

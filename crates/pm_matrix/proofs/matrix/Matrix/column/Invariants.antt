@@ -1,4 +1,4 @@
-use Rattle.pm_algebra.specs.Rows.{ratio_at}
+use Rattle.pm_vector.specs.Rows.{ratio_at}
 use Rattle.pm_matrix.specs.Matrices.{IsFraction}
 use Rattle.pm_matrix.proofs.matrix.Matrix.column.Given as goal
 use Rattle.std.proofs.Common.{map, take, ◌≡◌}

@@ -1,4 +1,4 @@
-use Rattle.pm_bases.specs.Bases.{column}
+use Rattle.pm_vector.specs.Bases.{column}
 use Rattle.pm_simplex.proofs.dictionary.Dictionary.row_with.Given as goal
 use Rattle.std.proofs.Common.{ℕ, ◌<◌, ◌≡◌}
 

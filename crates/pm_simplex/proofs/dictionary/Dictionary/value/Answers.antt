@@ -1,4 +1,4 @@
-use Rattle.pm_bases.specs.Bases.{column}
+use Rattle.pm_vector.specs.Bases.{column}
 use Rattle.pm_simplex.proofs.Solutions.{value_found, value_none}
 use Rattle.pm_simplex.proofs.dictionary.Dictionary.value.Goals as goal
 use Rattle.pm_simplex.specs.Comparisons.{rows_of}

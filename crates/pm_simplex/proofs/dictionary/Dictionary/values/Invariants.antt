@@ -1,4 +1,4 @@
-use Rattle.pm_bases.specs.Bases.{column}
+use Rattle.pm_vector.specs.Bases.{column}
 use Rattle.pm_simplex.proofs.dictionary.Dictionary.values.Given as goal
 use Rattle.pm_simplex.specs.Comparisons.{rows_of}
 use Rattle.pm_simplex.specs.ProgramLaws.{signed_by}

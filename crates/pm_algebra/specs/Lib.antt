@@ -1,5 +1,0 @@
-pub mod Numbers
-pub mod Rows
-pub mod Cones
-pub mod Divisors
-pub mod Examples

@@ -1,5 +1,0 @@
-use Rattle.pm_bases.proofs.Columns.{basis_is_independent}
-use Rattle.pm_bases.proofs.law_basis_is_independent.Goals as goal
-
-pub returns : goal.returns
-returns c = basis_is_independent

@@ -1,5 +1,0 @@
-use Rattle.pm_bases.proofs.Unique.{echelon_is_unique}
-use Rattle.pm_bases.proofs.law_echelon_is_unique.Goals as goal
-
-pub returns : goal.returns
-returns c = echelon_is_unique

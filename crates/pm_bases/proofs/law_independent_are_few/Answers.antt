@@ -1,5 +1,0 @@
-use Rattle.pm_bases.proofs.Rank.{independent_are_few}
-use Rattle.pm_bases.proofs.law_independent_are_few.Goals as goal
-
-pub returns : goal.returns
-returns c = independent_are_few

@@ -1,5 +1,0 @@
-use Rattle.pm_bases.proofs.Rank.{rank_is_determined}
-use Rattle.pm_bases.proofs.law_rank_is_determined.Goals as goal
-
-pub returns : goal.returns
-returns c = rank_is_determined

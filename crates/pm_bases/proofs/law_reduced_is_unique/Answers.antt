@@ -1,5 +1,0 @@
-use Rattle.pm_bases.proofs.Unique.{reduced_is_unique}
-use Rattle.pm_bases.proofs.law_reduced_is_unique.Goals as goal
-
-pub returns : goal.returns
-returns c = reduced_is_unique

@@ -1,5 +1,0 @@
-use Rattle.pm_bases.proofs.Spans.{span_is_kept}
-use Rattle.pm_bases.proofs.law_span_is_kept.Goals as goal
-
-pub returns : goal.returns
-returns c = span_is_kept

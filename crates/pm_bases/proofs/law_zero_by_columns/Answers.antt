@@ -1,5 +1,0 @@
-use Rattle.pm_bases.proofs.Columns.{zero_by_columns}
-use Rattle.pm_bases.proofs.law_zero_by_columns.Goals as goal
-
-pub returns : goal.returns
-returns c = zero_by_columns
