@@ -17,6 +17,7 @@ use Rattle.std.specs.List.{All, AllPairs, slice_index_or}
 use Rattle.std.proofs.Common.{arith, ap, refl, subst, sym, ◌∙◌, inl, inr}
 use Rattle.std.proofs.lemmas.Bool.{cases_lt}
 use Rattle.std.proofs.lemmas.List.{append_assoc, drop_more}
+use Rattle.pm_limits.specs.Limits.{most_rows}
 
 pub all_within : {V : Type 0} (f : V → List ℕ) (C : List V) (m w : ℕ) → m ≤ w → All (IsAscending m) (map f C) → All (λ s. All (λ k. k < w) (f s)) C
 all_within f C m w le h = All_among (λ s. All (λ k. k < w) (f s)) C (λ s i. let a = among_All (IsAscending m) (among_map f i) h in All_among (λ k. k < w) (f s) (λ k j. let l = among_All (λ k. k < m) j a.0 in omega arith))
@@ -72,7 +73,7 @@ first_ascending k T e = subst (λ (U : List (List ℕ)). All (IsAscending k) U) 
     each s here = below_ascending k
     each s (there i) = elim i [ ]
 
-pub few_first : {V : Type 0} (f : V → List ℕ) (C : List V) (s : List ℕ) → map f C ≡ s ∷ [] → length C ≤ 2048
+pub few_first : {V : Type 0} (f : V → List ℕ) (C : List V) (s : List ℕ) → map f C ≡ s ∷ [] → length C ≤ most_rows
 few_first f [] s e = omega arith
 few_first f (c ∷ []) s e = omega arith
 few_first f (c ∷ d ∷ C) s e = absurd (let l = ap length e in omega arith)

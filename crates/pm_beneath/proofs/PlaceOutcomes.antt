@@ -48,6 +48,7 @@ use Rattle.std.proofs.Common.{arith, ap, inl, inr, refl, subst, sym, ◌∙◌}
 use Rattle.std.proofs.lemmas.List.{length-drop, length-map}
 use Rattle.std.specs.List.{All, AllPairs}
 use Rattle.std.specs.Prelude.{ℕ, ◌+◌, ◌*◌, ◌^◌, ◌<◌, ◌≤◌, ◌≡◌, Bool, true, List, [], ◌∷◌, ◌++◌, drop, length, map}
+use Rattle.pm_limits.specs.Limits.{most_rows}
 
 map_twice : {X Y Z : Type 0} (g : Y → Z) (f : X → Y) (xs : List X) → map g (map f xs) ≡ map (λ x. g (f x)) xs
 map_twice g f [] = refl
@@ -137,7 +138,7 @@ module _ (n : ℕ) (L G B D J : List Row) (places : List ℕ) (start : ℕ) (hL 
     },
   )
 
-  pub crowded : (f : ℕ) (T S : List (List ℕ)) → IsCrowdedRun n B J start f T → HaveSameSets S (map (named (length G) places) T) → AllPairs IsLexBefore S → 2048 < length S → AreCrowdedCells n L G (f + 2 * length B) S
+  pub crowded : (f : ℕ) (T S : List (List ℕ)) → IsCrowdedRun n B J start f T → HaveSameSets S (map (named (length G) places) T) → AllPairs IsLexBefore S → most_rows < length S → AreCrowdedCells n L G (f + 2 * length B) S
   crowded f T S r same o many = (
     (
       B,

@@ -17,12 +17,12 @@ fail_of_engine (DdWide e) = Wide e
 fail_of_engine (DdMany e) = Many e
 fail_of_engine DdMemory = Memory
 
--- the evidence is of the cells of a front, more than 2,048
+-- the evidence is of the cells of a front, more than most_rows
 abbrev pub ShowsManyCells : ℕ → List Row → List Row → Evidence → Type 0
 ShowsManyCells n L G (E5Cells front cells) = AreCrowdedCells n L G front cells
 ShowsManyCells n L G e = ⊥
 
--- the refusal is want of memory, or has evidence that holds: of double description, on the lines L or on the list of lines and rays; or the cells of a front, more than 2,048
+-- the refusal is want of memory, or has evidence that holds: of double description, on the lines L or on the list of lines and rays; or the cells of a front, more than most_rows
 abbrev pub IsShownPlace : ℕ → List Row → List Row → PlaceFail → Type 0
 IsShownPlace n L G (Wide e) = IsShownOnParts n L G (DdWide e)
 IsShownPlace n L G (Many e) = IsShownOnParts n L G (DdMany e) ⊎ ShowsManyCells n L G e

@@ -11,6 +11,7 @@ use Rattle.pm_beneath.specs.CellLists.{AreNextCells}
 use Rattle.pm_laws_placing.specs.PlacedCells.{HaveSameSets}
 use Rattle.pm_beneath.specs.declared.run.RunFail.{RunFail}
 use Rattle.pm_beneath.specs.declared.run.RunFail.TheVariants.{Engine, Crowd}
+use Rattle.pm_limits.specs.Limits.{most_rows}
 
 -- 0, 1, .., k - 1
 abbrev pub below : ℕ → List ℕ
@@ -26,20 +27,20 @@ IsRun n E J start (suc d) U = (T : List (List ℕ)) × IsRun n E J start d T × 
 abbrev pub IsRunTo : ℕ → List Row → List Row → ℕ → ℕ → List (List ℕ) → Type 0
 IsRunTo n E J start f T = (d : ℕ) × (f ≡ start + d) × IsRun n E J start d T
 
--- the refusal is want of memory, or has the sets of T, each once, and more than 2,048
+-- the refusal is want of memory, or has the sets of T, each once, and more than most_rows
 abbrev pub IsCrowdOf : ℕ → List (List ℕ) → RunFail → Type 0
 IsCrowdOf front T (Engine f) = IsMemory f
-IsCrowdOf front T (Crowd f cells) = (f ≡ front) × HaveSameSets (map (λ s. s.items) cells.items) T × AllPairs IsLexBefore (map (λ s. s.items) cells.items) × (2048 < length cells.items)
+IsCrowdOf front T (Crowd f cells) = (f ≡ front) × HaveSameSets (map (λ s. s.items) cells.items) T × AllPairs IsLexBefore (map (λ s. s.items) cells.items) × (most_rows < length cells.items)
 
--- T has the cells of the first f rows, each once, and more than 2,048
+-- T has the cells of the first f rows, each once, and more than most_rows
 pub record IsCrowdedRun (n : ℕ) (E J : List Row) (start f : ℕ) (T : List (List ℕ)) : Type 0 where
   pub run : IsRunTo n E J start f T
   pub within : f < suc (length J)
   pub ordered : AllPairs IsLexBefore T
   pub ascending : All (IsAscending f) T
-  pub many : 2048 < length T
+  pub many : most_rows < length T
 
--- the refusal is shown by double description, or there is a front with more than 2,048 cells
+-- the refusal is shown by double description, or there is a front with more than most_rows cells
 abbrev pub IsRunFail : ℕ → List Row → List Row → ℕ → RunFail → Type 0
 IsRunFail n E J start (Engine f) = IsShownOnRows n E J start f
 IsRunFail n E J start (Crowd f cells) = IsCrowdedRun n E J start f (map (λ s. s.items) cells.items)

@@ -12,8 +12,8 @@ pub enum PlaceFail {
     /// A number leaves the range: in a step of an elimination, or of double description.
     #[error("a step leaves the range")]
     Wide(Evidence),
-    /// Some cone on the way has more than 2,048 facets, or more than 2,048 cells.
-    #[error("more than 2,048 facets or cells")]
+    /// Some cone on the way has more than `MOST_ROWS` facets, or more than `MOST_ROWS` cells.
+    #[error("too many facets or cells")]
     Many(Evidence),
     #[error("out of memory")]
     Memory,

@@ -11,10 +11,11 @@ ghost use Rattle.pm_geom.specs.Graphs.{IsAscending};
 ghost use Rattle.std.specs.Prelude.{All, IfErr, IfOk, length, map, take, ◌++◌, ◌+◌, ◌<◌, ◌^◌, ◌≡◌, ◌≤◌};
 
 use crate::cells::next_cells;
+use pm_dd::DdFail;
 use pm_dd::rays::Rays;
 use pm_dd::run::{rays_after, refusal_of};
 use pm_dd::step::products;
-use pm_dd::{DdFail, MOST_RAYS};
+use pm_limits::MOST_ROWS;
 use pm_vector::Ints;
 use std::alloc::Global;
 
@@ -76,12 +77,12 @@ pub(crate) fn next_front(
     requires rank { IsRank (equations.now ++ rows.now) (length equations.now + start) }
     requires table { IsRayTable cols equations.now rows.now front rays.now.rows.items rays.now.zeros.rows }
     requires row_len { rays.now.zeros.row_len ≡ length rows.now }
-    requires few { length rays.now.rows.items ≤ MOST_RAYS }
+    requires few { length rays.now.rows.items ≤ MOST_ROWS }
     requires reduced { AreReduced cols (equations.now ++ take start rows.now) rays.now.rows.items }
     requires cells { All (IsAscending front) (map (λ s. s.items) cells.now) }
     ensures table { IfOk result (λ r. IsRayTable cols equations.now rows.now (front + 1) r.rays.rows.items r.rays.zeros.rows) }
     ensures row_len { IfOk result (λ r. r.rays.zeros.row_len ≡ length rows.now) }
-    ensures few { IfOk result (λ r. length r.rays.rows.items ≤ MOST_RAYS) }
+    ensures few { IfOk result (λ r. length r.rays.rows.items ≤ MOST_ROWS) }
     ensures reduced { IfOk result (λ r. AreReduced cols (equations.now ++ take start rows.now) r.rays.rows.items) }
     ensures cells { IfOk result (λ r. AreNextCells rows.now rays.now.rows.items front (map (λ s. s.items) cells.now) (map (λ s. s.items) r.cells.items)) }
     ensures shown { IfErr result (IsShownOnRows cols equations.now rows.now start) }

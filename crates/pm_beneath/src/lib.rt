@@ -20,7 +20,6 @@ mod whole;
 pub use engine::{Placing, place};
 pub use fails::PlaceFail;
 pub use pm_geom::descriptions::Facets;
-pub use run::MOST_CELLS;
 
 /// The cells that the code lists are those of the next front.
 pub fn law_listed_cells_are_next()

@@ -10,13 +10,15 @@ ghost use Rattle.pm_geom.specs.Generators.{AreGenerators};
 ghost use Rattle.pm_geom.specs.Graphs.{IsAscending};
 ghost use Rattle.pm_hull.specs.Hulls.{AreFacets};
 ghost use Rattle.std.specs.Prelude.{All, IfErr, IfOk, length, map, ◌<◌, ◌^◌, ◌≤◌};
+ghost use Rattle.pm_limits.specs.Limits.{most_rows};
 
 use crate::fails::PlaceFail;
 use crate::names::ordered_cells;
-use crate::run::{MOST_CELLS, RunFail};
+use crate::run::RunFail;
 use crate::taken::{StatedList, Taken, stated_list};
 use crate::whole::{Whole, all_fronts};
 use pm_geom::{Evidence, PlaceSets};
+use pm_limits::MOST_ROWS;
 use pm_vector::Ints;
 use std::alloc::{AllocError, Global};
 
@@ -29,10 +31,10 @@ fn list_fronts(alloc: Global, cols: usize, stated: &StatedList) -> Result<Whole,
     requires few_columns { cols < 2 ^ 30 }
     requires arranged { IsArrangement stated.now.list.items stated.now.basis.items stated.now.taken.rows.items stated.now.taken.start }
     ensures generators { IfOk result (λ w. AreGenerators cols (CutOut stated.now.list.items) w.facets.items w.hull.items) }
-    ensures few_facets { IfOk result (λ w. length w.facets.items ≤ 2048) }
+    ensures few_facets { IfOk result (λ w. length w.facets.items ≤ most_rows) }
     ensures run { IfOk result (λ w. IsRunTo cols stated.now.basis.items stated.now.taken.rows.items stated.now.taken.start (length stated.now.taken.rows.items) (map (λ s. s.items) w.cells.items)) }
     ensures ascending { IfOk result (λ w. All (IsAscending (length stated.now.taken.rows.items)) (map (λ s. s.items) w.cells.items)) }
-    ensures few { IfOk result (λ w. length w.cells.items ≤ MOST_CELLS) }
+    ensures few { IfOk result (λ w. length w.cells.items ≤ MOST_ROWS) }
     ensures fail { IfErr result (IsListFail cols stated.now.list.items stated.now.basis.items stated.now.taken.rows.items stated.now.taken.start) }
 {
     let taken = &stated.taken;
@@ -84,10 +86,10 @@ pub(crate) fn all_placed(
     requires few_lines { length lineality.now < 2 ^ 28 }
     requires few_columns { cols < 2 ^ 30 }
     ensures facets { IfOk result (λ p. AreFacets cols rays.now lineality.now p.whole.facets.items p.whole.hull.items) }
-    ensures few_facets { IfOk result (λ p. length p.whole.facets.items ≤ 2048) }
+    ensures few_facets { IfOk result (λ p. length p.whole.facets.items ≤ most_rows) }
     ensures run { IfOk result (λ p. IsPlacedRun cols lineality.now rays.now p.taken.places.items (map (λ s. s.items) p.whole.cells.items)) }
     ensures within { IfOk result (λ p. All (λ s. All (λ k. k < length p.taken.places.items) s.items) p.whole.cells.items) }
-    ensures few { IfOk result (λ p. length p.whole.cells.items ≤ MOST_CELLS) }
+    ensures few { IfOk result (λ p. length p.whole.cells.items ≤ MOST_ROWS) }
     ensures shown { IfErr result (IsShownPlace cols lineality.now rays.now) }
 {
     let stated = stated_list(alloc, cols, rays, lineality)?;

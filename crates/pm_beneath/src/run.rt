@@ -13,20 +13,18 @@ ghost use Rattle.std.specs.Prelude.{All, IfErr, IfOk, [], length, map, take, ◌
 
 use crate::fronts::{Front, next_front};
 use crate::sorted::in_order;
+use pm_dd::DdFail;
 use pm_dd::rays::Rays;
-use pm_dd::{DdFail, MOST_RAYS};
+use pm_limits::MOST_ROWS;
 use pm_vector::Ints;
 use std::alloc::{AllocError, Global};
-
-/// The most cells that a front may have.
-pub const MOST_CELLS: usize = 2048;
 
 /// Why the cells of all fronts were not given.
 #[derive(Debug, Drop)]
 pub(crate) enum RunFail {
     /// A refusal of double description.
     Engine(DdFail),
-    /// The number of rows of a front, and its cells, which are more than 2,048.
+    /// The number of rows of a front, and its cells, which are more than `MOST_ROWS`.
     Crowd(usize, Vec<Vec<u32>>),
 }
 
@@ -78,18 +76,18 @@ fn first_cells(alloc: Global, start: usize) -> Result<Vec<Vec<u32>>, AllocError>
     Ok(made)
 }
 
-/// These cells, where they are few. Else they are put in order, each once, and refused where they still are more than 2,048.
+/// These cells, where they are few. Else they are put in order, each once, and refused where they still are more than `MOST_ROWS`.
 #[tactic(auto, using(crate::proofs::FrontLaws::same_itself))]
 fn few_cells(front: usize, cells: Vec<Vec<u32>>) -> Result<Vec<Vec<u32>>, RunFail>
     ensures same { IfOk result (λ v. HaveSameSets (map (λ s. s.items) v.items) (map (λ s. s.items) cells.items)) }
-    ensures few { IfOk result (λ v. length v.items ≤ MOST_CELLS) }
+    ensures few { IfOk result (λ v. length v.items ≤ MOST_ROWS) }
     ensures crowd { IfErr result (IsCrowdOf front (map (λ s. s.items) cells.items)) }
 {
-    if cells.len() <= MOST_CELLS {
+    if cells.len() <= MOST_ROWS {
         return Ok(cells);
     }
     let made = in_order(cells)?;
-    if made.len() > MOST_CELLS {
+    if made.len() > MOST_ROWS {
         return Err(RunFail::Crowd(front, made));
     }
     Ok(made)
@@ -114,14 +112,14 @@ pub(crate) fn all_cells(
     requires rank { IsRank (equations.now ++ rows.now) (length equations.now + start) }
     requires table { IsRayTable cols equations.now rows.now start first.rows.items first.zeros.rows }
     requires row_len { first.zeros.row_len ≡ length rows.now }
-    requires few { length first.rows.items ≤ MOST_RAYS }
+    requires few { length first.rows.items ≤ MOST_ROWS }
     requires reduced { AreReduced cols (equations.now ++ take start rows.now) first.rows.items }
     ensures order { IfOk result (λ r. IsOrder cols (HalfSpaces equations.now rows.now) r.rays.rows.items) }
-    ensures few_rays { IfOk result (λ r. length r.rays.rows.items ≤ MOST_RAYS) }
+    ensures few_rays { IfOk result (λ r. length r.rays.rows.items ≤ MOST_ROWS) }
     ensures reduced { IfOk result (λ r. AreReduced cols (equations.now ++ take start rows.now) r.rays.rows.items) }
     ensures run { IfOk result (λ r. IsRunTo cols equations.now rows.now start (length rows.now) (map (λ s. s.items) r.cells.items)) }
     ensures ascending { IfOk result (λ r. All (IsAscending (length rows.now)) (map (λ s. s.items) r.cells.items)) }
-    ensures few { IfOk result (λ r. length r.cells.items ≤ MOST_CELLS) }
+    ensures few { IfOk result (λ r. length r.cells.items ≤ MOST_ROWS) }
     ensures fail { IfErr result (IsRunFail cols equations.now rows.now start) }
 {
     let mut rays = first;

@@ -9,11 +9,13 @@ ghost use Rattle.pm_geom.specs.Cones.{CutOut};
 ghost use Rattle.pm_geom.specs.Generators.{AreGenerators};
 ghost use Rattle.pm_geom.specs.Graphs.{IsAscending};
 ghost use Rattle.std.specs.Prelude.{All, IfErr, IfOk, List, length, map, ◌<◌, ◌^◌, ◌≤◌, ℕ};
+ghost use Rattle.pm_limits.specs.Limits.{most_rows};
 
-use crate::run::{MOST_CELLS, RunFail, all_cells};
+use crate::run::{RunFail, all_cells};
 use pm_dd::DdFail;
 use pm_dd::first::{first_rows, start_rays};
 use pm_elim::null_space;
+use pm_limits::MOST_ROWS;
 use pm_vector::Ints;
 use std::alloc::Global;
 
@@ -52,10 +54,10 @@ pub(crate) fn all_fronts(
     requires few_columns { cols < 2 ^ 30 }
     requires arranged { IsArrangement list.now equations.now rows.now start }
     ensures generators { IfOk result (λ w. AreGenerators cols (CutOut list.now) w.facets.items w.hull.items) }
-    ensures few_facets { IfOk result (λ w. length w.facets.items ≤ 2048) }
+    ensures few_facets { IfOk result (λ w. length w.facets.items ≤ most_rows) }
     ensures run { IfOk result (λ w. IsRunTo cols equations.now rows.now start (length rows.now) (map (λ s. s.items) w.cells.items)) }
     ensures ascending { IfOk result (λ w. All (IsAscending (length rows.now)) (map (λ s. s.items) w.cells.items)) }
-    ensures few { IfOk result (λ w. length w.cells.items ≤ MOST_CELLS) }
+    ensures few { IfOk result (λ w. length w.cells.items ≤ MOST_ROWS) }
     ensures fail { IfErr result (IsListFail cols list.now equations.now rows.now start) }
 {
     let independent = first_rows(alloc, equations, rows, start)?;

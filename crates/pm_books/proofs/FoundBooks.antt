@@ -13,7 +13,6 @@ use Rattle.pm_rules.specs.declared.rule.Rule.{Rule}
 use Rattle.pm_books.specs.declared.fail.BookFail.{BookFail}
 use Rattle.pm_books.specs.declared.fail.BookFail.TheVariants.{SameLabel, WeightRange, TooManyRules}
 use Rattle.pm_rules.specs.Words.{is_word, is_label, precondition_word}
-use Rattle.pm_rules.specs.Books.{most_rules}
 use Rattle.pm_books.specs.Tokens.{Token, tokens_of}
 use Rattle.pm_books.specs.Reading.{◌>>=◌, token_where, after, names_from, conditions_from, label_from, known_kind, kind_from, weight_of, is_weight, is_number, weight_from, Head, head_from, Body, body_from, Tail, no_conditions, close_from, begins_with, preconditions_from, tail_from, is_within, agrees, mismatch, made_rule, rule_from, rules_from, book_of}
 use Rattle.pm_books.specs.Reading.Due.{condition}
@@ -22,6 +21,7 @@ use Rattle.pm_books.proofs.ReadRules.{bind_ok, ok_same, guard_ok, unless_ok, tok
 use Rattle.pm_books.proofs.ReadBooks.{label_from_ok, known_kind_ok, weight_from_test, within_from_test, rules_are_book, no_rules_IsBook}
 use Rattle.pm_books.proofs.SpelledRules.{words_parted}
 use Rattle.pm_books.proofs.FoundParts.{token_where_found, after_found, names_found, conditions_found}
+use Rattle.pm_limits.specs.Limits.{most_rules}
 
 -- ---- labels, clients and weights
 label_found : (had : List Rule) (end : ℕ) (ts : List Token) (x : List ℕ × List Token) → label_from had end ts ≡ Ok x → texts ts ≡ x.0 ∷ texts x.1
@@ -242,8 +242,8 @@ rules_found (suc n) kinds had end (t ∷ ts) rules h =
 pub found_book : (kinds : List Kind) (text : List ℕ) (rules : List Rule) → book_of kinds text ≡ Ok rules → IsBookText kinds text rules
 unfolding book_of FoundRules
 found_book kinds text rules h =
-    let found = rules_found 257 kinds [] (length text) (tokens_of text) rules h in
-    let book = rules_are_book 257 kinds [] (length text) (tokens_of text) rules h no_rules_IsBook in
+    let found = rules_found (most_rules + 1) kinds [] (length text) (tokens_of text) rules h in
+    let book = rules_are_book (most_rules + 1) kinds [] (length text) (tokens_of text) rules h no_rules_IsBook in
     record {
       written = found.2.0;
       words = found.2.2;

@@ -7,15 +7,16 @@ use Rattle.std.proofs.lemmas.Bool.{and_parts, cond_both, eqb-true, eq-eqb, ne_eq
 use Rattle.std.proofs.lemmas.Str.Parse.{IsNumeralModel, numerals_by_fold}
 use Rattle.std.proofs.lemmas.Fmt.{digits_decimal, digits_value-decimal, decimal_nonempty}
 use Rattle.pm_weights.specs.declared.Weight.{Weight}
-use Rattle.pm_weights.specs.Weights.{IsWeight, most, weight_text}
+use Rattle.pm_weights.specs.Weights.{IsWeight, weight_text}
 use Rattle.pm_rules.specs.Words.{is_digit}
 use Rattle.pm_books.specs.Reading.{is_number, number_on, weight_of}
 use Rattle.pm_books.proofs.Spacing.{IsToken, whole_prefix, digits_token, pair_token}
+use Rattle.pm_limits.specs.Limits.{most_weight}
 
 own : IsNumeralModel (λ ds. list_all is_digit ds ≡ true) (number_on 0)
 own = numerals_by_fold (λ ds. list_all is_digit ds ≡ true) (search rules) number_on (search rules)
 
-small : (n : ℕ) → n ≤ most → n < 2 ^ 64
+small : (n : ℕ) → n ≤ most_weight → n < 2 ^ 64
 small n h = omega arith
 
 starts : (ds rest : List ℕ) → list_all is_digit ds ≡ true → 0 < length ds → is_number (ds ++ rest) ≡ true

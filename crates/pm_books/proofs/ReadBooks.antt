@@ -12,13 +12,13 @@ use Rattle.pm_props.specs.declared.set.PropSet.{PropSet}
 use Rattle.pm_props.specs.declared.kind.Kind.{Kind}
 use Rattle.pm_weights.specs.declared.Weight.{Weight}
 use Rattle.pm_props.specs.Sets.{intersection, IsWithin}
-use Rattle.pm_weights.specs.Weights.{most, IsWeight}
+use Rattle.pm_weights.specs.Weights.{IsWeight}
 use Rattle.pm_props.proofs.NameLemmas.{find_passes}
 use Rattle.pm_rules.specs.declared.rule.Rule.{Rule}
 use Rattle.pm_books.specs.declared.fail.BookFail.{BookFail}
 use Rattle.pm_books.specs.declared.fail.BookFail.TheVariants.{Syntax, UnknownProperty, UnknownClient, SignatureMismatch, SameLabel, WeightRange, TooManyRules, Memory}
 use Rattle.pm_rules.specs.Words.{is_word, is_label, precondition_word}
-use Rattle.pm_rules.specs.Books.{IsNamed, IsRule, IsBook, most_rules}
+use Rattle.pm_rules.specs.Books.{IsNamed, IsRule, IsBook}
 use Rattle.pm_books.specs.declared.token.Token.{Token as CodeToken}
 use Rattle.pm_books.specs.Tokens.{Token}
 use Rattle.pm_books.specs.Seen.{seen}
@@ -26,6 +26,7 @@ use Rattle.pm_books.specs.Gives.{Fails}
 use Rattle.pm_books.specs.Reading.{◌>>=◌, token_where, after, names_from, conditions_from, label_from, known_kind, kind_from, weight_of, is_weight, is_number, weight_from, Head, head_from, Body, body_from, Tail, no_conditions, close_from, begins_with, preconditions_from, tail_from, is_within, agrees, mismatch, made_rule, rule_from, rules_from}
 use Rattle.pm_books.specs.Reading.Due.{condition}
 use Rattle.pm_books.proofs.ReadRules.{bind_ok, ok_same, guard_ok, unless_ok, token_where_ok, names_are_named, AreConditions, conditions_are, none_AreConditions}
+use Rattle.pm_limits.specs.Limits.{most_rules, most_weight}
 
 -- ---- labels, clients and weights
 pub record IsNewLabel (had : List Rule) (label : List ℕ) : Type 0 where
@@ -59,9 +60,9 @@ kind_from_ok kinds end ts x h =
 
 pub weight_from_test : (w : Weight) → is_weight w ≡ true → IsWeight w
 weight_from_test w h =
-    let first = and_parts (leb w.class most) (leb w.minor most && ltb 0 (w.class + w.minor)) h in
-    let second = and_parts (leb w.minor most) (ltb 0 (w.class + w.minor)) first.1 in
-    record { class = leb-true w.class most first.0; minor = leb-true w.minor most second.0; some = ltb-true 0 (w.class + w.minor) second.1 }
+    let first = and_parts (leb w.class most_weight) (leb w.minor most_weight && ltb 0 (w.class + w.minor)) h in
+    let second = and_parts (leb w.minor most_weight) (ltb 0 (w.class + w.minor)) first.1 in
+    record { class = leb-true w.class most_weight first.0; minor = leb-true w.minor most_weight second.0; some = ltb-true 0 (w.class + w.minor) second.1 }
 
 weight_from_ok : (end : ℕ) (ts : List Token) (x : Weight × List Token) → weight_from end ts ≡ Ok x → IsWeight x.0
 unfolding weight_from
@@ -206,16 +207,16 @@ unfolding rules_from
 rules_one n m kinds had end [] e some = absurd (let ne : 0 ≡ 0 → ⊥ = eqb-false 0 0 some in ne refl)
 rules_one n m kinds had end (t ∷ ts) e some = ap (λ k. rules_from k kinds had end (map seen (t ∷ ts))) e
 
-pub rules_fault : (kinds : List Kind) (had : List Rule) (end : ℕ) (ts : List CodeToken) (e : BookFail) → length had ≤ 256 → eqb (length ts) 0 ≡ false
-    → rule_from kinds had end (map seen ts) ≡ Err e → rules_from (257 - length had) kinds had end (map seen ts) ≡ Err e
-rules_fault kinds had end ts e few some h = rules_one (257 - length had) (256 - length had) kinds had end ts (omega arith) some ∙ (rw h refl)
+pub rules_fault : (kinds : List Kind) (had : List Rule) (end : ℕ) (ts : List CodeToken) (e : BookFail) → length had ≤ most_rules → eqb (length ts) 0 ≡ false
+    → rule_from kinds had end (map seen ts) ≡ Err e → rules_from ((most_rules + 1) - length had) kinds had end (map seen ts) ≡ Err e
+rules_fault kinds had end ts e few some h = rules_one ((most_rules + 1) - length had) (most_rules - length had) kinds had end ts (omega arith) some ∙ (rw h refl)
 
-pub rules_next : (kinds : List Kind) (had more : List Rule) (end : ℕ) (ts : List CodeToken) (rule : Rule) (rest : List Token) → length had ≤ 256 → eqb (length ts) 0 ≡ false
-    → rule_from kinds had end (map seen ts) ≡ Ok (rule, rest) → more ≡ had ++ rule ∷ [] → rules_from (257 - length had) kinds had end (map seen ts) ≡ rules_from (257 - length more) kinds more end rest
+pub rules_next : (kinds : List Kind) (had more : List Rule) (end : ℕ) (ts : List CodeToken) (rule : Rule) (rest : List Token) → length had ≤ most_rules → eqb (length ts) 0 ≡ false
+    → rule_from kinds had end (map seen ts) ≡ Ok (rule, rest) → more ≡ had ++ rule ∷ [] → rules_from ((most_rules + 1) - length had) kinds had end (map seen ts) ≡ rules_from ((most_rules + 1) - length more) kinds more end rest
 rules_next kinds had more end ts rule rest few some h is_more =
-    let count : 257 - length more ≡ 256 - length had = omega (arith, ap length is_more, length-append had (rule ∷ [])) in
-    rules_one (257 - length had) (256 - length had) kinds had end ts (omega arith) some ∙ (rw h refl)
-    ∙ ap (λ r. rules_from (256 - length had) kinds r end rest) (sym is_more) ∙ ap (λ k. rules_from k kinds more end rest) (sym count)
+    let count : (most_rules + 1) - length more ≡ most_rules - length had = omega (arith, ap length is_more, length-append had (rule ∷ [])) in
+    rules_one ((most_rules + 1) - length had) (most_rules - length had) kinds had end ts (omega arith) some ∙ (rw h refl)
+    ∙ ap (λ r. rules_from (most_rules - length had) kinds r end rest) (sym is_more) ∙ ap (λ k. rules_from k kinds more end rest) (sym count)
 
 -- a fault that was met is what the function gives
 pub gives_fault : {Y : Type 0} (e : BookFail) (read : Result Y BookFail) → read ≡ Err e → Fails e read

@@ -8,12 +8,12 @@ use Rattle.std.proofs.lemmas.List.{get_or_append_left, get_or_at, get_or_default
 use Rattle.std.proofs.lemmas.List.Folds.{Any-from_list_any}
 use Rattle.pm_props.specs.declared.kind.Kind.{Kind}
 use Rattle.pm_rules.specs.declared.rule.Rule.{Rule}
-use Rattle.pm_rules.specs.Books.{most_rules}
 use Rattle.pm_rules.proofs.Labels.{label_is_no_precondition}
 use Rattle.pm_books.specs.Tokens.{Token, tokens_of}
 use Rattle.pm_books.specs.Reading.{rules_from, book_of}
 use Rattle.pm_books.specs.Grammar.{Written, words_of, Means, texts, IsBookText}
 use Rattle.pm_books.proofs.SpelledRules.{NoPreconditionNext, rule_reads}
+use Rattle.pm_limits.specs.Limits.{most_rules}
 
 -- ---- labels that come once
 abbrev pub NewLabels : List Rule → List Rule → Type 0
@@ -64,4 +64,4 @@ rules_read (suc n) kinds had end (t ∷ ts) (w ∷ ws) (r ∷ rules) e means new
 pub only_book : (kinds : List Kind) (text : List ℕ) (rules : List Rule) → IsBookText kinds text rules → book_of kinds text ≡ Ok rules
 unfolding book_of
 only_book kinds text rules h =
-    rules_read 257 kinds [] (length text) (tokens_of text) h.written rules h.words h.means (new_labels [] rules h.labels) (omega (arith, h.few)) (omega (arith, h.few))
+    rules_read (most_rules + 1) kinds [] (length text) (tokens_of text) h.written rules h.words h.means (new_labels [] rules h.labels) (omega (arith, h.few)) (omega (arith, h.few))

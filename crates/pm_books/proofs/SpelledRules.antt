@@ -7,14 +7,14 @@ use Rattle.pm_props.specs.declared.set.PropSet.{PropSet}
 use Rattle.pm_props.specs.declared.kind.Kind.{Kind}
 use Rattle.pm_weights.specs.declared.Weight.{Weight}
 use Rattle.pm_props.specs.Sets.{intersection, IsWithin}
-use Rattle.pm_weights.specs.Weights.{most, IsWeight}
+use Rattle.pm_weights.specs.Weights.{IsWeight}
 use Rattle.pm_rules.specs.declared.rule.Rule.{Rule}
 use Rattle.pm_rules.specs.Words.{is_word, is_label, precondition_word}
-use Rattle.pm_rules.specs.Books.{most_rules}
 use Rattle.pm_books.specs.Tokens.{Token}
 use Rattle.pm_books.specs.Reading.{Conditions, label_from, kind_from, weight_of, is_weight, is_number, weight_from, Head, head_from, body_from, no_conditions, close_from, begins_with, preconditions_from, tail_from, is_within, agrees, rule_from}
 use Rattle.pm_books.specs.Grammar.{Condition, Written, separated, name_item, condition_item, precondition_words, words_of, AreNames, AddConditions, Means, texts}
 use Rattle.pm_books.proofs.SpelledParts.{ReadsAs, NoCommaNext, head_same, token_where_reads, after_reads, names_read, conditions_read}
+use Rattle.pm_limits.specs.Limits.{most_rules, most_weight}
 
 -- ---- labels, clients and weights
 label_reads : (had : List Rule) (end : ℕ) (ts : List Token) (label : List ℕ) (words : List (List ℕ)) → texts ts ≡ label ∷ words → IsTrue (is_label label)
@@ -36,8 +36,8 @@ kind_reads kinds end ts client kind words e good found =
 
 weight_test : (w : Weight) → IsWeight w → is_weight w ≡ true
 weight_test w h =
-    and_from (leb w.class most) (leb w.minor most && ltb 0 (w.class + w.minor)) (le-leb w.class most h.class)
-    (and_from (leb w.minor most) (ltb 0 (w.class + w.minor)) (le-leb w.minor most h.minor) (lt-ltb 0 (w.class + w.minor) h.some))
+    and_from (leb w.class most_weight) (leb w.minor most_weight && ltb 0 (w.class + w.minor)) (le-leb w.class most_weight h.class)
+    (and_from (leb w.minor most_weight) (ltb 0 (w.class + w.minor)) (le-leb w.minor most_weight h.minor) (lt-ltb 0 (w.class + w.minor) h.some))
 
 weight_reads : (end : ℕ) (ts : List Token) (text : List ℕ) (weight : Weight) (words : List (List ℕ)) → texts ts ≡ text ∷ words → IsTrue (is_number text) → weight_of text ≡ weight → IsWeight weight
     → ReadsAs (weight_from end ts) weight words

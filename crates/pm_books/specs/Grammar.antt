@@ -12,9 +12,9 @@ use Rattle.pm_props.specs.Names.{IsNameOf}
 use Rattle.pm_weights.specs.Weights.{IsWeight}
 use Rattle.pm_rules.specs.declared.rule.Rule.{Rule}
 use Rattle.pm_rules.specs.Words.{is_word, is_label, precondition_word}
-use Rattle.pm_rules.specs.Books.{most_rules}
 use Rattle.pm_books.specs.Tokens.{Token, tokens_of}
 use Rattle.pm_books.specs.Reading.{is_number, weight_of, Conditions, with_condition, no_conditions}
+use Rattle.pm_limits.specs.Limits.{most_rules}
 
 -- a condition as it is written: a name, behind `!` or not
 pub record Condition : Type 0 where

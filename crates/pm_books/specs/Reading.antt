@@ -17,13 +17,12 @@ use Rattle.pm_weights.specs.declared.Weight.{Weight}
 use Rattle.pm_props.specs.Properties.{value_kind}
 use Rattle.pm_props.specs.Sets.{has, only, union, intersection}
 use Rattle.pm_props.specs.Names.{property_named}
-use Rattle.pm_weights.specs.Weights.{most}
 use Rattle.pm_rules.specs.declared.rule.Rule.{Rule}
 use Rattle.pm_books.specs.declared.fail.BookFail.{BookFail}
 use Rattle.pm_books.specs.declared.fail.BookFail.TheVariants.{Syntax, UnknownProperty, UnknownClient, SignatureMismatch, SameLabel, WeightRange, TooManyRules}
 use Rattle.pm_rules.specs.Words.{is_digit, is_word, is_label, precondition_word}
-use Rattle.pm_rules.specs.Books.{most_rules}
 use Rattle.pm_books.specs.Tokens.{Token, tokens_of}
+use Rattle.pm_limits.specs.Limits.{most_rules, most_weight}
 
 -- the second reads on where the first has read
 infixl 10 ◌>>=◌
@@ -128,7 +127,7 @@ weight_of text =
     if length text == whole then record { class = 0; minor = number_on 0 text } else record { class = number_on 0 (take whole text); minor = number_on 0 (drop (whole + 1) text) }
 
 abbrev pub is_weight : Weight → Bool
-is_weight w = nat_le w.class most && (nat_le w.minor most && nat_lt 0 (w.class + w.minor))
+is_weight w = nat_le w.class most_weight && (nat_le w.minor most_weight && nat_lt 0 (w.class + w.minor))
 
 -- what begins with a digit is a number
 abbrev pub is_number : List ℕ → Bool
@@ -236,4 +235,4 @@ rules_from (suc n) kinds had end (t ∷ ts) = rule_from kinds had end (t ∷ ts)
 
 -- the book that a text spells, or its first fault. Behind 256 rules any further one is at fault
 unfoldable pub book_of : List Kind → List ℕ → Result (List Rule) BookFail
-book_of kinds text = rules_from 257 kinds [] (length text) (tokens_of text)
+book_of kinds text = rules_from (most_rules + 1) kinds [] (length text) (tokens_of text)

@@ -21,7 +21,7 @@ pub enum BookFail {
     /// A rule before has this label.
     #[error("a rule before has the label at byte {0}")]
     SameLabel(usize),
-    /// A part of the weight is above 1,000,000, or both are 0.
+    /// A part of the weight is above `MOST_WEIGHT`, or both are 0.
     #[error("the weight at byte {0} is out of range")]
     WeightRange(usize),
     /// The label of the rule behind the last that a book may have.

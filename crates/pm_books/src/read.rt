@@ -1,6 +1,6 @@
 // Books read from texts.
 
-ghost use Rattle.std.specs.Prelude.{◌≡◌, ◌-◌, true, IfOk, Ok, List, map, length, find, IsTrue};
+ghost use Rattle.std.specs.Prelude.{◌≡◌, ◌-◌, true, IfOk, Ok, List, map, length, find, IsTrue, ◌+◌};
 ghost use Rattle.std.specs.List.{list_any};
 ghost use Rattle.std.specs.Str.{bytes_eq};
 ghost use Rattle.pm_rules.specs.Words.{is_label};
@@ -11,12 +11,14 @@ ghost use Rattle.pm_books.specs.Grammar.{IsBookText};
 ghost use Rattle.pm_books.specs.Gives.{Reads, Gives};
 ghost use Rattle.pm_rules.specs.declared.rule.Rule.{Rule};
 ghost use Rattle.pm_books.specs.Reading.{◌>>=◌ as read_on, after, names_from, label_from, kind_from, weight_from, close_from, head_from, body_from, preconditions_from, tail_from, begins_with, agrees, mismatch, rule_from, rules_from, book_of};
+ghost use Rattle.pm_limits.specs.Limits.{most_rules};
 
 use crate::fail::BookFail;
 use crate::lex::tokens;
 use crate::parts::{Conditions, after, all_conditions, names};
 use crate::token::Token;
 use crate::word::{is_number, weight};
+use pm_limits::MOST_RULES;
 use pm_props::{ClientName, Kind, PropSet};
 use pm_rules::{Book, Rule, is_label, is_word};
 use pm_weights::Weight;
@@ -40,7 +42,7 @@ fn label_from<'t, 'a>(
     if has_label(had, first.text) {
         return Err(BookFail::SameLabel(first.place));
     }
-    if had.len() >= 256 {
+    if had.len() >= MOST_RULES {
         return Err(BookFail::TooManyRules(first.place));
     }
     Ok((label_name(first.text), rest))
@@ -370,7 +372,7 @@ fn more_rules(
     tokens: &[Token],
 ) -> Result<Vec<Rule>, BookFail>
     requires { IsBook rules.items }
-    ensures value { Gives (λ v. v.items) result (rules_from (257 - length rules.items) kinds.now rules.items end (map seen tokens.now)) }
+    ensures value { Gives (λ v. v.items) result (rules_from ((most_rules + 1) - length rules.items) kinds.now rules.items end (map seen tokens.now)) }
     ensures book { IfOk result (λ v. IsBook v.items) }
 {
     if tokens.is_empty() {

@@ -27,6 +27,7 @@ use Rattle.std.specs.List.{All, list_all}
 use Rattle.std.specs.Option.{is_some}
 use Rattle.std.specs.Prelude.{Bool, List, None, Some, [], if◌then◌else◌, length, nat_eq, nat_le, nat_lt, replicate, suc, zero, ℕ, ◌&&◌, ◌+◌, ◌<◌, ◌^◌, ◌||◌, ◌∷◌, ◌≡◌, ◌≤◌, ◌⊎◌}
 use lib.IntN.{negsuc, pos, ℤ}
+use Rattle.pm_limits.specs.Limits.{most_columns, most_dimensions, most_rows}
 
 -- ---- rows of a value
 -- a row of n fractions that passes the test, and whose primitive row is made within the range
@@ -74,11 +75,11 @@ good_lengths n test rows h = list_all-from_AllPass (is_row_of_entries n) rows (A
 good_passes : (n : ℕ) (test : List Ratio → Bool) (rows : List (List Ratio)) → All (IsGood n test) rows → list_all test rows ≡ true
 good_passes n test rows h = list_all-from_AllPass test rows (All-weaker (IsGood n test) (λ r. test r ≡ true) (λ r g. g.passes) rows h)
 
-pub good_forms : (n : ℕ) (p : PropId) → IsHalf p → (rows : List (List Ratio)) → 1 ≤ n → n ≤ 33 → length rows ≤ 2048 → All (IsGood n (is_row Polytope p)) rows → FormsIn Polytope n p (value_over n rows)
+pub good_forms : (n : ℕ) (p : PropId) → IsHalf p → (rows : List (List Ratio)) → 1 ≤ n → n ≤ most_columns → length rows ≤ most_rows → All (IsGood n (is_row Polytope p)) rows → FormsIn Polytope n p (value_over n rows)
 good_forms n p h [] some few all good = record { formed = formed_half p h 0 []; columns = agrees_half p h n 0 []; rows = refl; entries = All-nil (All IsFraction); primitive = All-nil HasPrimitiveRow }
 good_forms n p h (r ∷ rows) some few all good = record {
   formed = formed_half p h n (r ∷ rows)
-      ∙ all_three (nat_le (length (r ∷ rows)) 2048) (is_column_count (r ∷ rows) n) (list_all (is_row_of_entries n) (r ∷ rows)) (le-leb (length (r ∷ rows)) 2048 all) (both_true (nat_le 1 n) (nat_le n 33) (le-leb 1 n some) (le-leb n 33 few)) (good_lengths n (is_row Polytope p) (r ∷ rows) good);
+      ∙ all_three (nat_le (length (r ∷ rows)) most_rows) (is_column_count (r ∷ rows) n) (list_all (is_row_of_entries n) (r ∷ rows)) (le-leb (length (r ∷ rows)) most_rows all) (both_true (nat_le 1 n) (nat_le n most_columns) (le-leb 1 n some) (le-leb n most_columns few)) (good_lengths n (is_row Polytope p) (r ∷ rows) good);
   columns = agrees_half p h n n (r ∷ rows) ∙ either_true (nat_eq n 0) (nat_eq n n) (eq-eqb n n refl);
   rows = good_passes n (is_row Polytope p) (r ∷ rows) good;
   entries = All-weaker (IsGood n (is_row Polytope p)) (λ x. All IsFraction x) (λ x g. g.entries) (r ∷ rows) good;
@@ -104,7 +105,7 @@ whole_good d test v t w =
 headed_good : (d : ℕ) (test : List Ratio → Bool) (V : List Row) → ((v : Row) → test (ratios (headed v)) ≡ true) → ((v : Row) → Among v V → IsWithin d v) → All (IsGood (suc d) test) (headed_rows V)
 headed_good d test V t f = All-map (IsGood (suc d) test) (λ (v : Row). ratios (headed v)) V (All_among (λ (v : Row). IsGood (suc d) test (ratios (headed v))) V (λ v i. whole_good d test v (t v) (f v i)))
 
-headed_forms : (d : ℕ) (p : PropId) → IsHalf p → (V : List Row) → ((v : Row) → is_row Polytope p (ratios (headed v)) ≡ true) → d ≤ 32 → length V ≤ 2048 → ((v : Row) → Among v V → IsWithin d v) → HaveForms (suc d) (polytope_with ((p, value_over (suc d) (headed_rows V)) ∷ []))
+headed_forms : (d : ℕ) (p : PropId) → IsHalf p → (V : List Row) → ((v : Row) → is_row Polytope p (ratios (headed v)) ≡ true) → d ≤ most_dimensions → length V ≤ most_rows → ((v : Row) → Among v V → IsWithin d v) → HaveForms (suc d) (polytope_with ((p, value_over (suc d) (headed_rows V)) ∷ []))
 headed_forms d p h V t few all f = one_value (suc d) p (value_over (suc d) (headed_rows V)) (good_forms (suc d) p h (headed_rows V) (omega arith) (omega arith) (let e = length_headed_rows V in omega arith) (headed_good d (is_row Polytope p) V t f))
 
 -- ---- vectors of standard polytopes
@@ -163,22 +164,22 @@ count_curve d zero = refl
 count_curve d (suc n) = length-append (curve_points d n) (curve (suc n) d ∷ []) ∙ (let e = count_curve d n in omega arith)
 
 -- ---- sizes
-shape_size : (d : ℕ) → shape_refusal d ≡ None → d ≤ 32
-shape_size d h = by (nat_le d 32) refl h
+shape_size : (d : ℕ) → shape_refusal d ≡ None → d ≤ most_dimensions
+shape_size d h = by (nat_le d most_dimensions) refl h
   where
-    by : (t : Bool) → nat_le d 32 ≡ t → (if t then None else Some condition.Size) ≡ None → d ≤ 32
-    by true e k = leb-true d 32 e
+    by : (t : Bool) → nat_le d most_dimensions ≡ t → (if t then None else Some condition.Size) ≡ None → d ≤ most_dimensions
+    by true e k = leb-true d most_dimensions e
     by false e k = absurd (true≢false (ap is_some k))
 
-cyclic_sizes : (d n : ℕ) → cyclic_refusal d n ≡ None → (n ≤ 2048) × (d ≤ 32) × (n ^ d < 2 ^ 127)
+cyclic_sizes : (d n : ℕ) → cyclic_refusal d n ≡ None → (n ≤ most_rows) × (d ≤ most_dimensions) × (n ^ d < 2 ^ 127)
 cyclic_sizes d n h = by (is_cyclic_size d n) refl h
   where
-    by : (t : Bool) → is_cyclic_size d n ≡ t → (if t then None else Some condition.Size) ≡ None → (n ≤ 2048) × (d ≤ 32) × (n ^ d < 2 ^ 127)
+    by : (t : Bool) → is_cyclic_size d n ≡ t → (if t then None else Some condition.Size) ≡ None → (n ≤ most_rows) × (d ≤ most_dimensions) × (n ^ d < 2 ^ 127)
     by true e k =
-        let p = and_parts (nat_le d 32 && nat_le (suc d) n && nat_le n 2048) (nat_lt (n ^ d) (2 ^ 127)) e in
-        let q = and_parts (nat_le d 32 && nat_le (suc d) n) (nat_le n 2048) p.0 in
-        let r = and_parts (nat_le d 32) (nat_le (suc d) n) q.0 in
-        (leb-true n 2048 q.1, leb-true d 32 r.0, ltb-true (n ^ d) (2 ^ 127) p.1)
+        let p = and_parts (nat_le d most_dimensions && nat_le (suc d) n && nat_le n most_rows) (nat_lt (n ^ d) (2 ^ 127)) e in
+        let q = and_parts (nat_le d most_dimensions && nat_le (suc d) n) (nat_le n most_rows) p.0 in
+        let r = and_parts (nat_le d most_dimensions) (nat_le (suc d) n) q.0 in
+        (leb-true n most_rows q.1, leb-true d most_dimensions r.0, ltb-true (n ^ d) (2 ^ 127) p.1)
     by false e k = absurd (true≢false (ap is_some k))
 
 pub shapes_forms : ShapesHaveForms

@@ -23,19 +23,20 @@ use Rattle.pm_types.specs.Forms.{FormsIn, first_is_below, is_column_count, is_ma
 use Rattle.pm_types.specs.Values.{PropertyValue, matrix}
 use Rattle.pm_types.specs.Views.{ratios}
 use Rattle.std.proofs.Common.{ap, arith, false, refl, subst, sym, true, true≢false, ◌∙◌}
-use Rattle.std.proofs.lemmas.Bool.{and_parts, eqb-true, leb-true}
+use Rattle.std.proofs.lemmas.Bool.{and_parts, eqb-true, leb-true, ltb-true}
 use Rattle.std.proofs.lemmas.List.{length-append, length-map, length-replicate}
 use Rattle.std.proofs.lemmas.List.Elements.{All-append, All-cons, All-map, All-nil, All-replicate, All-weaker}
 use Rattle.std.proofs.lemmas.List.Sums.{AllPass-from_list_all}
 use Rattle.std.specs.List.{All, list_all}
 use Rattle.std.specs.Option.{is_some}
-use Rattle.std.specs.Prelude.{Bool, IsTrue, List, None, Option, Some, [], if◌then◌else◌, length, map, nat_le, not, replicate, suc, zero, ℕ, ◌&&◌, ◌+◌, ◌++◌, ◌-◌, ◌∷◌, ◌≡◌, ◌≤◌}
+use Rattle.std.specs.Prelude.{Bool, IsTrue, List, None, Option, Some, [], if◌then◌else◌, length, map, nat_le, nat_lt, not, replicate, suc, zero, ℕ, ◌&&◌, ◌+◌, ◌++◌, ◌-◌, ◌∷◌, ◌≡◌, ◌≤◌}
 use lib.IntN.{pos}
+use Rattle.pm_limits.specs.Limits.{most_columns, most_dimensions, most_rows}
 
 -- ---- rows that are read
 -- good rows of n columns, not too many
 record AreRead (p : PropId) (o : State) : Type 0 where
-  few : length (rows_at p o) ≤ 2048
+  few : length (rows_at p o) ≤ most_rows
   good : All (IsGood (cols_at o) (is_row Polytope p)) (rows_at p o)
 
 read : (ps : List PropId) (p : PropId) (o : State) → IsOfRows p → IsFormed o → o.of ≡ Polytope → IsKnown ps o → Among p ps → AreRead p o
@@ -88,14 +89,14 @@ polar_forms a f r h =
 
 -- ---- the product
 module _ (a b : State) (p q : PropId) (half : IsHalf q) (test : (k : ℕ) (r : List Ratio) → is_row Polytope p r ≡ true → is_row Polytope q (padded k r) ≡ true) (behind : (k : ℕ) (r : List Ratio) → is_row Polytope p r ≡ true → is_row Polytope q (spread k r) ≡ true)
-    (x : AreRead p a) (y : AreRead p b) (n : 1 ≤ cols_at a) (m : 1 ≤ cols_at b) (few : cols_at a + cols_at b ≤ 34) (all : length (rows_at p a) + length (rows_at p b) ≤ 2048) where
+    (x : AreRead p a) (y : AreRead p b) (n : 1 ≤ cols_at a) (m : 1 ≤ cols_at b) (few : cols_at a + cols_at b ≤ (most_columns + 1)) (all : length (rows_at p a) + length (rows_at p b) ≤ most_rows) where
   both_forms : FormsIn Polytope (product_cols a b) q (value_over (product_cols a b) (both_rows p a b))
   both_forms = good_forms (product_cols a b) q half (both_rows p a b) (omega arith) (omega arith) count
       (All-append (IsGood (product_cols a b) (is_row Polytope q)) (map (padded (cols_at b - 1)) (rows_at p a)) (map (spread (cols_at a - 1)) (rows_at p b))
       (padded_good (cols_at b - 1) (cols_at a) (product_cols a b) (is_row Polytope p) (is_row Polytope q) (omega arith) (test (cols_at b - 1)) (rows_at p a) x.good)
       (spread_good (cols_at a - 1) (cols_at b) (product_cols a b) (is_row Polytope p) (is_row Polytope q) m (omega arith) (behind (cols_at a - 1)) (rows_at p b) y.good))
     where
-      count : length (both_rows p a b) ≤ 2048
+      count : length (both_rows p a b) ≤ most_rows
       count =
           let e = length-append (map (padded (cols_at b - 1)) (rows_at p a)) (map (spread (cols_at a - 1)) (rows_at p b)) in
           let f = length-map (rows_at p a) (padded (cols_at b - 1)) in
@@ -104,9 +105,9 @@ module _ (a b : State) (p q : PropId) (half : IsHalf q) (test : (k : ℕ) (r : L
 
 product_forms : (a b : State) → IsFormed a → IsFormed b → IsReadable product_reads a → IsReadable product_reads b → product_refusal a b ≡ None → HaveForms (product_cols a b) (product_of a b)
 product_forms a b f g r s h =
-    let parts = three_parts (is_polytope a.of && is_polytope b.of) (nat_le (cols_at a + cols_at b) 34) (are_few Facets a b && are_few AffineHull a b) h in
+    let parts = three_parts (is_polytope a.of && is_polytope b.of) (nat_le (cols_at a + cols_at b) (most_columns + 1)) (are_few Facets a b && are_few AffineHull a b) h in
     let types = and_parts (is_polytope a.of) (is_polytope b.of) parts.0 in
-    let few = leb-true (cols_at a + cols_at b) 34 parts.1 in
+    let few = leb-true (cols_at a + cols_at b) (most_columns + 1) parts.1 in
     let counts = and_parts (are_few Facets a b) (are_few AffineHull a b) parts.2 in
     let of = polytope_is a.of types.0 in
     let og = polytope_is b.of types.1 in
@@ -117,10 +118,10 @@ product_forms a b f g r s h =
     two_values (product_cols a b) Inequalities Equations (value_over (product_cols a b) (both_rows Facets a b)) (value_over (product_cols a b) (both_rows AffineHull a b))
     (both_forms a b Facets Inequalities tt (λ k r t. refl) (λ k r t. refl)
     (read product_reads Facets a tt f of k here) (read product_reads Facets b tt g og l here) n.0 m.0 few
-    (leb-true (length (rows_at Facets a) + length (rows_at Facets b)) 2048 counts.0))
+    (leb-true (length (rows_at Facets a) + length (rows_at Facets b)) most_rows counts.0))
     (both_forms a b AffineHull Equations tt (λ k r t. refl) (λ k r t. refl)
     (read product_reads AffineHull a tt f of k (there here)) (read product_reads AffineHull b tt g og l (there here)) n.0 m.0 few
-    (leb-true (length (rows_at AffineHull a) + length (rows_at AffineHull b)) 2048 counts.1))
+    (leb-true (length (rows_at AffineHull a) + length (rows_at AffineHull b)) most_rows counts.1))
 
 -- ---- the pyramid
 one : InRange (pos 1)
@@ -143,10 +144,10 @@ apex_good n h = record { cols = length_ratios (apex_row n) ∙ apex_length n h; 
 
 pyramid_forms : (a : State) → IsFormed a → IsReadable pyramid_reads a → pyramid_refusal a ≡ None → HaveForms (suc (cols_at a)) (pyramid_of a)
 pyramid_forms a f r h =
-    let parts = three_parts (is_polytope a.of) (nat_le (cols_at a) 32) (nat_le (length (rows_at Vertices a)) 2047) h in
+    let parts = three_parts (is_polytope a.of) (nat_le (cols_at a) most_dimensions) (nat_lt (length (rows_at Vertices a)) most_rows) h in
     let of = polytope_is a.of parts.0 in
-    let few = leb-true (cols_at a) 32 parts.1 in
-    let count = leb-true (length (rows_at Vertices a)) 2047 parts.2 in
+    let few = leb-true (cols_at a) most_dimensions parts.1 in
+    let count = ltb-true (length (rows_at Vertices a)) most_rows parts.2 in
     let k = r of in
     let n = known_columns pyramid_reads a f k in
     let vertices = read pyramid_reads Vertices a tt f of k here in

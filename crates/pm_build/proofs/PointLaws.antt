@@ -23,6 +23,7 @@ use Rattle.std.specs.List.{All, list_all}
 use Rattle.std.specs.Prelude.{List, [], cond, filter, length, nat_le, suc, zero, ℕ, ◌&&◌, ◌<◌, ◌∷◌, ◌≡◌, ◌≤◌}
 use lib.IntN.{negsuc, pos, ℤ, ◌*ℤ◌}
 use lib.Signed.{◌<ℤ◌}
+use Rattle.pm_limits.specs.Limits.{most_rows}
 
 kept_few : (b : Bool) (r : List Ratio) (xs rows : List (List Ratio)) → length xs ≤ length rows → length (cond b (r ∷ xs) xs) ≤ length (r ∷ rows)
 kept_few true r xs rows h = omega arith
@@ -32,7 +33,7 @@ filter_few : (p : List Ratio → Bool) (rows : List (List Ratio)) → length (fi
 filter_few p [] = omega arith
 filter_few p (r ∷ rows) = kept_few (p r) r (filter p rows) rows (filter_few p rows)
 
-pub points_bound : (rows made : List (List Ratio)) → made ≡ points rows → length rows ≤ 2048 → length made < 1073741824
+pub points_bound : (rows made : List (List Ratio)) → made ≡ points rows → length rows ≤ most_rows → length made < 1073741824
 points_bound rows made e few = let h = filter_few is_point rows in let f = ap length e in omega arith
 
 pub points_primitive : (rows made : List (List Ratio)) → made ≡ points rows → All HasPrimitiveRow rows → All HasPrimitiveRow made
@@ -83,4 +84,4 @@ form_lengths of n p m rows r f = λ i d l. eqb-true _ m (lengths i d l) ∙ rows
     form = sym (formed_is p r (matrix m rows)) ∙ f.formed
 
     lengths : All (λ x. is_row_of_entries m x ≡ true) rows
-    lengths = AllPass-from_list_all (is_row_of_entries m) rows (and_parts (nat_le (length rows) 2048 && is_column_count rows m) (list_all (is_row_of_entries m) rows) form).1
+    lengths = AllPass-from_list_all (is_row_of_entries m) rows (and_parts (nat_le (length rows) most_rows && is_column_count rows m) (list_all (is_row_of_entries m) rows) form).1

@@ -32,6 +32,7 @@ use Rattle.std.specs.List.{All}
 use Rattle.std.specs.Prelude.{List, None, Some, [], if◌then◌else◌, length, nat_eq, nat_le, not, suc, ℕ, ◌&&◌, ◌*◌, ◌+◌, ◌++◌, ◌<◌, ◌∷◌, ◌≡◌, ◌≤◌}
 use lib.IntN.{pos, ℤ, ◌*ℤ◌}
 use lib.Signed.{◌<ℤ◌}
+use Rattle.pm_limits.specs.Limits.{most_columns, most_rows}
 
 -- ---- a sum of two points
 record IsPair (n : ℕ) (v w : Row) : Type 0 where
@@ -111,8 +112,8 @@ record AreFit (a b : State) : Type 0 where
   first : a.of ≡ Polytope
   second : b.of ≡ Polytope
   columns : cols_at a ≡ cols_at b
-  points : sum_count a b ≤ 2048
-  lines : length (rows_at LinealitySpace a) + length (rows_at LinealitySpace b) ≤ 2048
+  points : sum_count a b ≤ most_rows
+  lines : length (rows_at LinealitySpace a) + length (rows_at LinealitySpace b) ≤ most_rows
 
 parts : (p f c r : Bool) → (if not p then Some condition.OfType else if not f then Some condition.Feasible else if not c then Some condition.Columns else if not r then Some condition.Rows else None) ≡ None → (p ≡ true) × (c ≡ true) × (r ≡ true)
 parts false f c r h = absurd (refused h)
@@ -123,15 +124,15 @@ parts true true true true h = (refl, refl, refl)
 
 are_fit : (a b : State) → sum_refusal a b ≡ None → AreFit a b
 are_fit a b h =
-    let p = parts (is_polytope a.of && is_polytope b.of) (is_true Feasible a && is_true Feasible b) (nat_eq (cols_at a) (cols_at b)) (nat_le (sum_count a b) 2048 && are_few LinealitySpace a b) h in
+    let p = parts (is_polytope a.of && is_polytope b.of) (is_true Feasible a && is_true Feasible b) (nat_eq (cols_at a) (cols_at b)) (nat_le (sum_count a b) most_rows && are_few LinealitySpace a b) h in
     let t = and_parts (is_polytope a.of) (is_polytope b.of) p.0 in
-    let r = and_parts (nat_le (sum_count a b) 2048) (are_few LinealitySpace a b) p.2 in
+    let r = and_parts (nat_le (sum_count a b) most_rows) (are_few LinealitySpace a b) p.2 in
     record {
       first = polytope_is a.of t.0;
       second = polytope_is b.of t.1;
       columns = eqb-true (cols_at a) (cols_at b) p.1;
-      points = leb-true (sum_count a b) 2048 r.0;
-      lines = leb-true (length (rows_at LinealitySpace a) + length (rows_at LinealitySpace b)) 2048 r.1;
+      points = leb-true (sum_count a b) most_rows r.0;
+      lines = leb-true (length (rows_at LinealitySpace a) + length (rows_at LinealitySpace b)) most_rows r.1;
     }
 
 vertex_passes : (r : List Ratio) → is_row Polytope Vertices r ≡ true → is_row Polytope Points r ≡ true
@@ -161,7 +162,7 @@ sums_forms a b file fa fb ra rb h w = subst (HaveForms n) (sym w.file) (two_valu
     fit : AreFit a b
     fit = are_fit a b h
 
-    range : (1 ≤ n) × (n ≤ 33)
+    range : (1 ≤ n) × (n ≤ most_columns)
     range = known_columns sum_reads a fa (ra fit.first)
 
     vertices_a : AreHeldRows Vertices a
@@ -176,7 +177,7 @@ sums_forms a b file fa fb ra rb h w = subst (HaveForms n) (sym w.file) (two_valu
     lines_b : AreHeldRows LinealitySpace b
     lines_b = known_rows sum_reads LinealitySpace b tt fb (rb fit.second) (there (there here))
 
-    few_lines : length (sum_lines a b) ≤ 2048
+    few_lines : length (sum_lines a b) ≤ most_rows
     few_lines = let e = length-append (rows_at LinealitySpace a) (rows_at LinealitySpace b) in let l = fit.lines in omega arith
 
     count : length w.rows ≡ sum_count a b
@@ -188,7 +189,7 @@ sums_forms a b file fa fb ra rb h w = subst (HaveForms n) (sym w.file) (two_valu
         let same : length w.points.first * length w.points.second ≡ length (points (rows_at Vertices a)) * length (points (rows_at Vertices b)) = ap (λ z. z * length w.points.second) w.points.points.first.count ∙ ap (λ z. length (points (rows_at Vertices a)) * z) w.points.points.second.count in
         omega arith
 
-    few_points : length w.rows ≤ 2048
+    few_points : length w.rows ≤ most_rows
     few_points = let e = count in let l = fit.points in omega arith
 
     is_pair : (p : Row × Row) → Among p (pairs w.points.first w.points.second) → IsPair n p.0 p.1

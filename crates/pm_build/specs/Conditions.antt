@@ -16,6 +16,7 @@ use Rattle.pm_types.specs.Forms.{is_row, rows_in}
 use Rattle.std.specs.List.{list_all}
 use Rattle.pm_types.specs.Values.{PropertyValue, matrix, truth}
 use Rattle.pm_build.specs.Points.{far, points}
+use Rattle.pm_limits.specs.Limits.{most_columns, most_dimensions, most_rows}
 
 -- ---- what is read
 -- what is read for a polar
@@ -37,11 +38,11 @@ sum_reads = Feasible ∷ Vertices ∷ LinealitySpace ∷ []
 -- ---- conditions
 -- a cube, simplex or cross-polytope has at most 32 dimensions
 abbrev pub shape_refusal : ℕ → Option Condition
-shape_refusal d = if nat_le d 32 then None else Some condition.Size
+shape_refusal d = if nat_le d most_dimensions then None else Some condition.Size
 
--- a cyclic polytope too, and from d + 1 to 2,048 points, the last power of whose last number is in the range
+-- a cyclic polytope too, and from d + 1 to most_rows points, the last power of whose last number is in the range
 abbrev pub is_cyclic_size : ℕ → ℕ → Bool
-is_cyclic_size d n = nat_le d 32 && nat_le (suc d) n && nat_le n 2048 && nat_lt (n ^ d) (2 ^ 127)
+is_cyclic_size d n = nat_le d most_dimensions && nat_le (suc d) n && nat_le n most_rows && nat_lt (n ^ d) (2 ^ 127)
 
 -- a cyclic polytope of no other sizes is built
 abbrev pub cyclic_refusal : ℕ → ℕ → Option Condition
@@ -56,22 +57,22 @@ polar_refusal o = if not (is_polytope o.of) then Some condition.OfType
     else if not (list_all (is_row Polytope Points) (rows_at Facets o)) then Some condition.Rows
     else None
 
--- at most 2,048 rows of the property together
+-- at most most_rows rows of the property together
 abbrev pub are_few : PropId → State → State → Bool
-are_few p a b = nat_le (length (rows_at p a) + length (rows_at p b)) 2048
+are_few p a b = nat_le (length (rows_at p a) + length (rows_at p b)) most_rows
 
 -- two polytopes whose product has at most 33 columns, that is at most 34 columns together, and not too many facets or rows of the affine hull
 abbrev pub product_refusal : State → State → Option Condition
 product_refusal a b = if not (is_polytope a.of && is_polytope b.of) then Some condition.OfType
-    else if not (nat_le (cols_at a + cols_at b) 34) then Some condition.Columns
+    else if not (nat_le (cols_at a + cols_at b) (most_columns + 1)) then Some condition.Columns
     else if not (are_few Facets a b && are_few AffineHull a b) then Some condition.Rows
     else None
 
 -- a polytope with room for one column and one vertex more
 abbrev pub pyramid_refusal : State → Option Condition
 pyramid_refusal o = if not (is_polytope o.of) then Some condition.OfType
-    else if not (nat_le (cols_at o) 32) then Some condition.Columns
-    else if not (nat_le (length (rows_at Vertices o)) 2047) then Some condition.Rows
+    else if not (nat_le (cols_at o) most_dimensions) then Some condition.Columns
+    else if not (nat_lt (length (rows_at Vertices o)) most_rows) then Some condition.Rows
     else None
 
 -- how many rows the sum has as points: one for each pair of points, and the far rows of both
@@ -83,5 +84,5 @@ abbrev pub sum_refusal : State → State → Option Condition
 sum_refusal a b = if not (is_polytope a.of && is_polytope b.of) then Some condition.OfType
     else if not (is_true Feasible a && is_true Feasible b) then Some condition.Feasible
     else if not (nat_eq (cols_at a) (cols_at b)) then Some condition.Columns
-    else if not (nat_le (sum_count a b) 2048 && are_few LinealitySpace a b) then Some condition.Rows
+    else if not (nat_le (sum_count a b) most_rows && are_few LinealitySpace a b) then Some condition.Rows
     else None

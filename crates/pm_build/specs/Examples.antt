@@ -1,5 +1,5 @@
 -- The definitions read on small numbers and small objects: what holds, and what does not.
-use Rattle.std.specs.Prelude.{ℕ, ◌≡◌, ◌≢◌, Bool, true, false, List, [], ◌∷◌, None, Some, codes}
+use Rattle.std.specs.Prelude.{ℕ, ◌≡◌, ◌≢◌, Bool, true, false, List, [], ◌∷◌, None, Some, codes, ◌+◌}
 use Rattle.pm_vector.specs.Rows.{Row}
 use Rattle.pm_object.specs.State.{HeldValue, State, word_of}
 use Rattle.pm_object.specs.declared.held.Origin.TheVariants.{Given}
@@ -14,6 +14,7 @@ use Rattle.pm_build.specs.Objects.{both_rows, cross_of, cube_of, cyclic_of, padd
 use Rattle.pm_build.specs.Rows.{apex_row, curve, curve_points, opposite_units, simplex_corners, unit, units}
 use Rattle.pm_object.specs.declared.held.Condition.TheVariants as condition
 use lib.IntN.{ℤ, pos, negsuc}
+use Rattle.pm_limits.specs.Limits.{most_columns, most_dimensions, most_rows}
 
 -- 1
 abbrev pub one : ℤ
@@ -87,12 +88,12 @@ wide n = record segment { held = held ConeAmbientDim (whole (pos n)) ∷ [] }
 pub record ConditionsAreRead : Type 0 where
   pub words : word_of condition.OfType ≡ codes "type"
   -- 32 dimensions, and no more
-  pub most : shape_refusal 32 ≡ None
-  pub too_many : shape_refusal 33 ≡ Some condition.Size
+  pub most : shape_refusal most_dimensions ≡ None
+  pub too_many : shape_refusal most_columns ≡ Some condition.Size
   pub triangle : cyclic_refusal 2 3 ≡ None
   pub few_points : cyclic_refusal 2 2 ≡ Some condition.Size
-  pub many_points : cyclic_refusal 1 2048 ≡ None
-  pub too_many_points : cyclic_refusal 1 2049 ≡ Some condition.Size
+  pub many_points : cyclic_refusal 1 most_rows ≡ None
+  pub too_many_points : cyclic_refusal 1 (most_rows + 1) ≡ Some condition.Size
   pub high_power : cyclic_refusal 25 33 ≡ None
   pub too_high : cyclic_refusal 25 34 ≡ Some condition.Size
   -- what is read
@@ -111,10 +112,10 @@ pub record ConditionsAreRead : Type 0 where
   pub last : polar_refusal contradiction ≡ Some condition.Rows
   pub of_types : product_refusal segment (record segment { of = Cone }) ≡ Some condition.OfType
   pub both : product_refusal segment segment ≡ None
-  pub widest : product_refusal (wide 2) (wide 32) ≡ None
-  pub too_wide : product_refusal (wide 2) (wide 33) ≡ Some condition.Columns
-  pub with_room : pyramid_refusal (wide 32) ≡ None
-  pub without_room : pyramid_refusal (wide 33) ≡ Some condition.Columns
+  pub widest : product_refusal (wide 2) (wide most_dimensions) ≡ None
+  pub too_wide : product_refusal (wide 2) (wide most_columns) ≡ Some condition.Columns
+  pub with_room : pyramid_refusal (wide most_dimensions) ≡ None
+  pub without_room : pyramid_refusal (wide most_columns) ≡ Some condition.Columns
 
 -- the values of new objects
 pub record ObjectsAreRead : Type 0 where

@@ -98,7 +98,7 @@ pub fn cross(alloc: Global, d: u32) -> Result<FileObject, BuildFail>
 }
 
 /// The cyclic polytope of the points at 1, .., n of the moment curve in d dimensions, by these points. `NotFit(Size)`
-/// exactly where d is above 32, n is not from d + 1 to 2,048, or n^d is out of the range.
+/// exactly where d is above 32, n is not from d + 1 to `MOST_ROWS`, or n^d is out of the range.
 pub fn cyclic(alloc: Global, d: u32, n: u32) -> Result<FileObject, BuildFail>
     ensures built { IfOk result (λ f. file_of f ≡ cyclic_of d n) }
     ensures fits { OnOk result (cyclic_refusal d n ≡ None) }
@@ -127,7 +127,7 @@ pub fn polar(alloc: Global, o: &Object) -> Result<FileObject, BuildFail>
 }
 
 /// The product of two polytopes, by the rows of both. `NotFit` names the first condition that fails: both objects are
-/// polytopes, the product has at most 33 columns, it has at most 2,048 facets and at most 2,048 rows of the affine hull.
+/// polytopes, the product has at most 33 columns, it has at most `MOST_ROWS` facets and at most `MOST_ROWS` rows of the affine hull.
 pub fn product(alloc: Global, a: &Object, b: &Object) -> Result<FileObject, BuildFail>
     requires first { IsReadable product_reads a.now.state }
     requires second { IsReadable product_reads b.now.state }
@@ -164,7 +164,7 @@ pub fn pyramid(alloc: Global, o: &Object) -> Result<FileObject, BuildFail>
 /// These values are right for the sum of all points of each two polytopes for which the values read are right, bounded or
 /// not (`pm_laws_build`, `law_sum_is_described`).
 /// `NotFit` names the first condition that fails: both objects are polytopes, FEASIBLE is true of both, they have as many
-/// columns, the sum has at most 2,048 points and at most 2,048 lines.
+/// columns, the sum has at most `MOST_ROWS` points and at most `MOST_ROWS` lines.
 /// `Wide` exactly where a number on the way to the sum of two points leaves the range, with the primitive rows of the first
 /// such pair and its first such column. For primitive rows v and w these numbers are v_0 p, and p v_k, q w_k and their sum,
 /// where p = w_0/g and q = v_0/g for the greatest common divisor g of v_0 and w_0.

@@ -6,6 +6,7 @@ ghost use Rattle.pm_build.specs.Rows.{apex_row};
 ghost use Rattle.pm_types.specs.Views.{ratios};
 ghost use Rattle.pm_props.specs.declared.property.PropId.TheVariants.{LinealitySpace, Vertices};
 ghost use Rattle.std.specs.Prelude.{IfOk, OnOk, [], length, map, suc, ◌+◌, ◌<◌, ◌^◌, ◌∷◌, ◌≡◌, ◌≤◌};
+ghost use Rattle.pm_limits.specs.Limits.{most_columns};
 
 use crate::rows::{origin_row, put_row};
 use pm_fraction::Fraction;
@@ -40,7 +41,7 @@ fn spread_row(alloc: Global, row: &[Fraction], k: usize) -> Result<Vec<Fraction>
 /// The row (1, 0, .., 0, 1) of n + 1 entries.
 fn apex_row(alloc: Global, n: usize) -> Result<Vec<Fraction>, AllocError>
     requires some { 0 < n }
-    requires few { n ≤ 33 }
+    requires few { n ≤ most_columns }
     ensures { IfOk result (λ v. v.items ≡ ratios (apex_row n)) }
 {
     let mut made = origin_row(alloc, n - 1)?;

@@ -8,13 +8,18 @@ ghost use Rattle.std.specs.Prelude.{[], ◌∷◌, ◌≡◌};
 use crate::reading::are_points;
 use crate::shapes::is_cyclic_size;
 use crate::summands::count_points;
+use pm_limits::{MOST_COLUMNS, MOST_DIMENSIONS, MOST_ROWS};
 use pm_object::{Condition, Object, cols_at, is_polytope, is_true, matrix_at};
 use pm_types::PropId;
 
 pub(crate) fn shape_refusal(d: u32) -> Option<Condition>
     ensures { result ≡ shape_refusal d }
 {
-    if d <= 32 { None } else { Some(Condition::Size) }
+    if d as usize <= MOST_DIMENSIONS {
+        None
+    } else {
+        Some(Condition::Size)
+    }
 }
 
 pub(crate) fn cyclic_refusal(d: u32, n: u32) -> Option<Condition>
@@ -49,14 +54,14 @@ pub(crate) fn polar_refusal(o: &Object) -> Option<Condition>
     None
 }
 
-// Whether both objects together have at most 2,048 rows of the property.
+// Whether both objects together have at most `MOST_ROWS` rows of the property.
 fn are_few(p: PropId, a: &Object, b: &Object) -> bool
     requires rows { IsOfRows p }
     requires first { IsKnown (p ∷ []) a.now.state }
     requires second { IsKnown (p ∷ []) b.now.state }
     ensures { result ≡ are_few p a.now.state b.now.state }
 {
-    matrix_at(a, p).rows() + matrix_at(b, p).rows() <= 2048
+    matrix_at(a, p).rows() + matrix_at(b, p).rows() <= MOST_ROWS
 }
 
 pub(crate) fn product_refusal(a: &Object, b: &Object) -> Option<Condition>
@@ -67,7 +72,7 @@ pub(crate) fn product_refusal(a: &Object, b: &Object) -> Option<Condition>
     if !(is_polytope(a) && is_polytope(b)) {
         return Some(Condition::OfType);
     }
-    if cols_at(a) + cols_at(b) > 34 {
+    if cols_at(a) + cols_at(b) > MOST_COLUMNS + 1 {
         return Some(Condition::Columns);
     }
     if !(are_few(PropId::Facets, a, b) && are_few(PropId::AffineHull, a, b)) {
@@ -83,10 +88,10 @@ pub(crate) fn pyramid_refusal(o: &Object) -> Option<Condition>
     if !is_polytope(o) {
         return Some(Condition::OfType);
     }
-    if cols_at(o) > 32 {
+    if cols_at(o) > MOST_DIMENSIONS {
         return Some(Condition::Columns);
     }
-    if matrix_at(o, PropId::Vertices).rows() > 2047 {
+    if matrix_at(o, PropId::Vertices).rows() >= MOST_ROWS {
         return Some(Condition::Rows);
     }
     None
@@ -119,7 +124,7 @@ pub(crate) fn sum_refusal(a: &Object, b: &Object) -> Option<Condition>
     if cols_at(a) != cols_at(b) {
         return Some(Condition::Columns);
     }
-    if !(sum_count(a, b) <= 2048 && are_few(PropId::LinealitySpace, a, b)) {
+    if !(sum_count(a, b) <= MOST_ROWS && are_few(PropId::LinealitySpace, a, b)) {
         return Some(Condition::Rows);
     }
     None

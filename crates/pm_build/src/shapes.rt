@@ -5,9 +5,11 @@ ghost use Rattle.pm_object.specs.Known.{cols_over};
 ghost use Rattle.pm_build.specs.Rows.{curve, curve_points, headed, headed_rows, opposite_units, simplex_corners};
 ghost use Rattle.pm_types.specs.Views.{over_one, ratios};
 ghost use Rattle.std.specs.Prelude.{IfOk, length, nat_lt, pos, suc, ◌+◌, ◌<◌, ◌^◌, ◌≡◌, ◌≤◌};
+ghost use Rattle.pm_limits.specs.Limits.{most_dimensions, most_rows};
 
 use crate::rows::{origin_row, put_row, unit_row};
 use pm_fraction::Fraction;
+use pm_limits::{MOST_DIMENSIONS, MOST_ROWS};
 use pm_matrix::Matrix;
 use std::alloc::{AllocError, Global};
 
@@ -42,11 +44,11 @@ pub(crate) fn simplex_rows(alloc: Global, d: usize) -> Result<Matrix, AllocError
     Ok(rows)
 }
 
-/// Whether there is a cyclic polytope of n points in d dimensions: d is at most 32, n is from d + 1 to 2,048, and n^d is in the range.
+/// Whether there is a cyclic polytope of n points in d dimensions: d is at most 32, n is from d + 1 to `MOST_ROWS`, and n^d is in the range.
 pub(crate) fn is_cyclic_size(d: u32, n: u32) -> bool
     ensures { result ≡ is_cyclic_size d n }
 {
-    d <= 32 && d < n && n <= 2048 && has_small_power(n, d)
+    d as usize <= MOST_DIMENSIONS && d < n && n as usize <= MOST_ROWS && has_small_power(n, d)
 }
 
 /// Whether n^d is in the range.
@@ -68,7 +70,7 @@ fn has_small_power(n: u32, d: u32) -> bool
 fn curve_row(alloc: Global, d: usize, t: usize) -> Result<Vec<Fraction>, AllocError>
     requires some { 0 < t }
     requires small { t ^ d < 2 ^ 127 }
-    requires few { d ≤ 32 }
+    requires few { d ≤ most_dimensions }
     ensures { IfOk result (λ v. v.items ≡ ratios (headed (curve t d))) }
 {
     let mut row = vec![in alloc; Fraction::one()]?;
@@ -94,8 +96,8 @@ fn small_fraction(k: u128) -> Fraction
 /// The rows of the points of the moment curve at 1, .., n.
 pub(crate) fn curve_rows(alloc: Global, d: usize, n: usize) -> Result<Matrix, AllocError>
     requires some { 0 < n }
-    requires few { n ≤ 2048 }
-    requires dimension { d ≤ 32 }
+    requires few { n ≤ most_rows }
+    requires dimension { d ≤ most_dimensions }
     requires small { n ^ d < 2 ^ 127 }
     ensures rows { IfOk result (λ m. m.rows ≡ headed_rows (curve_points d n)) }
     ensures cols { IfOk result (λ m. m.cols ≡ suc d) }

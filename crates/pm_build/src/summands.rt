@@ -9,6 +9,7 @@ ghost use Rattle.pm_matrix.specs.FractionRows.{ArePrimitiveRowsOf};
 ghost use Rattle.pm_object.specs.Known.{IsKnown, cols_at, cols_over};
 ghost use Rattle.pm_types.specs.Forms.{HasPrimitiveRow};
 ghost use Rattle.std.specs.Prelude.{All, IfErr, IfOk, OnOk, length, pos, ◌+◌, ◌<◌, ◌<ℤ◌, ◌≡◌, ◌≤◌};
+ghost use Rattle.pm_limits.specs.Limits.{most_columns, most_rows};
 
 use crate::fails::SumFail;
 use crate::rows::{put_row, stated};
@@ -64,7 +65,7 @@ fn point_rows(alloc: Global, from: &Matrix) -> Result<Matrix, AllocError>
 
 /// The primitive rows of the points.
 fn points(alloc: Global, matrix: &Matrix) -> Result<Vec<Ints>, AllocError>
-    requires few { length matrix.now.rows ≤ 2048 }
+    requires few { length matrix.now.rows ≤ most_rows }
     requires stay { All HasPrimitiveRow matrix.now.rows }
     ensures { IfOk result (λ v. ArePrimitiveRowsOf (points matrix.now.rows) v.items) }
 {
@@ -81,7 +82,7 @@ fn put_sums_with(alloc: Global, rows: &mut Matrix, v: &Ints, others: &[Ints]) ->
     requires cols { length v.now ≡ rows.old.cols }
     requires other_cols { HasCols rows.old.cols others.now }
     requires some { 0 < rows.old.cols }
-    requires few { rows.old.cols ≤ 33 }
+    requires few { rows.old.cols ≤ most_columns }
     requires first { pos 0 <ℤ entry v.now 0 }
     requires second { All (λ w. pos 0 <ℤ entry w 0) others.now }
     ensures value { OnOk result (AreSumsBelow rows.old (pairs_with v.now others.now) rows.new) }
@@ -103,7 +104,7 @@ fn put_sums(
     requires cols { HasCols rows.old.cols points.now }
     requires other_cols { HasCols rows.old.cols others.now }
     requires some { 0 < rows.old.cols }
-    requires few { rows.old.cols ≤ 33 }
+    requires few { rows.old.cols ≤ most_columns }
     requires first { All (λ v. pos 0 <ℤ entry v 0) points.now }
     requires second { All (λ w. pos 0 <ℤ entry w 0) others.now }
     ensures value { OnOk result (AreSumsBelow rows.old (pairs points.now others.now) rows.new) }

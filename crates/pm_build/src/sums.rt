@@ -7,6 +7,7 @@ ghost use Rattle.pm_build.specs.Sums.{IsWideSum};
 ghost use Rattle.pm_fraction.specs.Fractions.{IsLowestTermsOf, ratio_of};
 ghost use Rattle.std.specs.Int.{◌∣◌};
 ghost use Rattle.std.specs.Prelude.{IfErr, IfOk, OnErr, OnOk, length, pos, unsigned_abs, ◌*ℤ◌, ◌<◌, ◌<ℤ◌, ◌≡◌, ◌≤◌};
+ghost use Rattle.pm_limits.specs.Limits.{most_columns};
 
 use crate::fails::SumFail;
 use pm_fraction::Fraction;
@@ -81,7 +82,7 @@ fn wide_sum(alloc: Global, v: &Ints, w: &Ints, column: u32) -> Result<SumFail, A
 /// The row of the sum, before it is divided.
 fn sum_before(alloc: Global, f: Factors, v: &Ints, w: &Ints) -> Result<Ints, SumFail>
     requires cols { length w.now ≡ length v.now }
-    requires few { length v.now ≤ 33 }
+    requires few { length v.now ≤ most_columns }
     requires factors { AreFactors v.now w.now f.first f.second }
     requires in_range { InRange f.first × InRange f.second }
     ensures value { IfOk result (λ x. IsSumBefore f.first f.second v.now w.now x) }
@@ -127,7 +128,7 @@ fn over_first(alloc: Global, row: &Ints) -> Result<Vec<Fraction>, AllocError>
 pub(crate) fn sum_row(alloc: Global, v: &Ints, w: &Ints) -> Result<Vec<Fraction>, SumFail>
     requires cols { length w.now ≡ length v.now }
     requires some { 0 < length v.now }
-    requires few { length v.now ≤ 33 }
+    requires few { length v.now ≤ most_columns }
     requires first { pos 0 <ℤ entry v.now 0 }
     requires second { pos 0 <ℤ entry w.now 0 }
     ensures value { IfOk result (λ r. IsSumRow v.now w.now r.items) }

@@ -7,11 +7,11 @@ ghost use Rattle.std.specs.Prelude.{◌≡◌, ◌≤◌, ◌↔◌, IsTrue, Som
 ghost use Rattle.pm_props.specs.Sets.{IsSubset};
 ghost use Rattle.pm_weights.specs.Weights.{no_cost, plus, IsAtMost};
 ghost use Rattle.pm_rules.specs.Rules.{rule_at};
-ghost use Rattle.pm_rules.specs.Books.{most_rules};
 ghost use Rattle.pm_rules.specs.Steps.{IsOpen, step_of};
 ghost use Rattle.pm_rules.specs.Useful.{FindsOne};
 ghost use Rattle.pm_rules.specs.Certificates.{Within, EndsClaim, HasRow, IsBefore, IsCertificate};
 ghost use Rattle.pm_cert.specs.Claims.{Holds, GoesOn};
+ghost use Rattle.pm_limits.specs.Limits.{most_rules};
 
 use crate::halving::{are_in_order, has_row_in_order, is_at_most_sum};
 use pm_rules::{Book, Claim, Cost, PropSet, Rule, RuleId, Step, Table, TableRow, Weight, needed};

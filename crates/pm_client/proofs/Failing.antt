@@ -29,7 +29,6 @@ use Rattle.pm_object_type.specs.declared.object_type.ObjectType.TheVariants.{Con
 use Rattle.pm_object_type.specs.declared.object_type.ObjectType.{ObjectType}
 use Rattle.pm_props.specs.declared.property.PropId.TheVariants.{AffineHull, Equations, Facets, Inequalities, InputLineality, LinealitySpace, Points, Vertices}
 use Rattle.pm_props.specs.declared.property.PropId.{PropId}
-use Rattle.pm_standard.specs.declared.standard.StandardClient.{StandardClient}
 use Rattle.pm_standard.specs.declared.standard.StandardClient.TheVariants as client
 use Rattle.pm_simplex.specs.Generated.{no_objective}
 use Rattle.pm_simplex.specs.Answers.{ShowsProgram}
@@ -53,17 +52,10 @@ pub eliminates_in : (Lists : ElimList → Type 0) (f : ElimFail) → IfWide f (�
 eliminates_in Lists (Wide e) h = h
 eliminates_in Lists Memory h = tt
 
--- a standard client whose name says so
-pub takes_row_list : (v : ViewSeen) (c : StandardClient) → v.kind ≡ standard_kind c → eliminated_by (standard_kind c).name ≡ row_list ∷ [] → TakesRowList v
-takes_row_list v c kind alone = subst (λ (k : Kind). Contains (eliminated_by k.name) row_list) (sym kind) (subst (λ ls. Contains ls row_list) (sym alone) (Contains_among (here {xs = []})))
-
 -- a cone's rows
 pub fails_by_cone : (v : ViewSeen) (X : List Row) (f : ElimFail) → Contains (eliminated_by v.kind.name) cone_rows → IsConeList v X → IfWide f (λ e. IsEvidence v.cols X e) → FailsRightly v (fail_of f)
 fails_by_cone v X (Wide e) takes listed h = record { list = cone_rows; named = takes; rows = X; listed = listed; shown = h }
 fails_by_cone v X Memory takes listed h = tt
-
-pub takes_cones : (v : ViewSeen) → v.kind ≡ standard_kind client.FanDims → Contains (eliminated_by v.kind.name) cone_rows
-takes_cones v kind = subst (λ (k : Kind). Contains (eliminated_by k.name) cone_rows) (sym kind) (Contains_among (here {xs = []}))
 
 -- ---- double description
 module _ (v : ViewSeen) (named : IsTrue (has_way v.kind.name doubling)) (takes : eliminated_by v.kind.name ≡ first_part ∷ double_list ∷ enlarging_rows ∷ []) where

@@ -2,7 +2,7 @@
 use Rattle.pm_client.proofs.ProgramExamples.{no_optimum}
 use Rattle.pm_client.proofs.ThinningExamples.{none_primitive}
 use Rattle.pm_client.specs.Examples.{OptimaAreRead, no_rows, nothing, of_program, single}
-use Rattle.pm_client.specs.Sound.{ArePartsOf, optimum, IsWideAtRays, IsWideDual, IsWideFace, IsWideOptimum, ReadsObjective, has_way, at_rays, at_face, dual}
+use Rattle.pm_client.specs.Sound.{ArePartsOf, optimum, IsWideAtRays, IsWideDual, IsWideFace, IsWideOptimum, ReadsObjective, has_way, at_rays, at_face, dual, sought}
 use Rattle.pm_geom.specs.declared.evidence.Evidence.TheVariants.{E4}
 use Rattle.pm_geom.specs.declared.evidence.Evidence.{Evidence}
 use Rattle.pm_object.specs.Reading.{fact_of}
@@ -68,15 +68,15 @@ of_dual e h = record {
 }
 
 -- ---- other clients
-no_dual_found : (sense : Sense) → has_way (codes "dd_vertices") (dual sense) ≡ false
+no_dual_found : (sense : Sense) → has_way (codes "dd_vertices") (dual (sought sense)) ≡ false
 no_dual_found Maximal = refl
 no_dual_found Minimal = refl
 
-no_rays_found : (sense : Sense) → has_way (codes "dd_vertices") (at_rays sense) ≡ false
+no_rays_found : (sense : Sense) → has_way (codes "dd_vertices") (at_rays (sought sense)) ≡ false
 no_rays_found Maximal = refl
 no_rays_found Minimal = refl
 
-no_face_found : (sense : Sense) → has_way (codes "dd_vertices") (at_face sense) ≡ false
+no_face_found : (sense : Sense) → has_way (codes "dd_vertices") (at_face (sought sense)) ≡ false
 no_face_found Maximal = refl
 no_face_found Minimal = refl
 
@@ -90,7 +90,7 @@ no_face : (e : Evidence) → ¬ (IsWideFace no_rows e)
 no_face e h = true≢false (sym h.named ∙ no_face_found h.sense)
 
 -- no least value was read
-no_least : (sense : Sense) → has_way (codes "lp_min_face") (at_face sense) ≡ true → is_some (fact_of (optimum sense) (of_program (codes "lp_min_face")).facts) ≡ false
+no_least : (sense : Sense) → has_way (codes "lp_min_face") (at_face (sought sense)) ≡ true → is_some (fact_of (optimum sense) (of_program (codes "lp_min_face")).facts) ≡ false
 no_least Maximal h = absurd (true≢false (sym h))
 no_least Minimal h = refl
 

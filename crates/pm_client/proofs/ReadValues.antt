@@ -18,6 +18,7 @@ use Rattle.std.proofs.lemmas.List.{get_or_default}
 use Rattle.std.specs.List.{All, list_all}
 use Rattle.std.specs.Option.{is_some}
 use Rattle.std.specs.Prelude.{Bool, List, Option, Some, [], if◌then◌else◌, length, nat_eq, nat_le, ℕ, ◌∷◌, ◌≡◌, ◌≤◌, ◌<◌, ◌&&◌, ◌||◌}
+use Rattle.pm_limits.specs.Limits.{most_columns, most_rows}
 
 -- ---- what was read
 some_is : {X : Type 0} {x y : X} → Some x ≡ Some y → x ≡ y
@@ -49,9 +50,9 @@ row_length n (r ∷ rows) (suc i) below h = row_length n rows i (omega arith) (a
 stated_cols_of : (m n : ℕ) (rows : List (List Ratio)) → 0 < length rows → is_matrix_form m rows ≡ true → (nat_eq m 0 || nat_eq m n) ≡ true → (m ≡ n) × (list_all (is_row_of_entries m) rows ≡ true)
 stated_cols_of m n [] some h e = absurd (omega arith)
 stated_cols_of m n (r ∷ rows) some h e =
-    let p = and_parts (nat_le (length (r ∷ rows)) 2048 && is_column_count (r ∷ rows) m) (list_all (is_row_of_entries m) (r ∷ rows)) h in
-    let q = and_parts (nat_le (length (r ∷ rows)) 2048) (is_column_count (r ∷ rows) m) p.0 in
-    let c = and_parts (nat_le 1 m) (nat_le m 33) q.1 in
+    let p = and_parts (nat_le (length (r ∷ rows)) most_rows && is_column_count (r ∷ rows) m) (list_all (is_row_of_entries m) (r ∷ rows)) h in
+    let q = and_parts (nat_le (length (r ∷ rows)) most_rows) (is_column_count (r ∷ rows) m) p.0 in
+    let c = and_parts (nat_le 1 m) (nat_le m most_columns) q.1 in
     (stated_is m n (leb-true 1 m c.0) e, p.1)
 
 pub primitive_length : (m n : ℕ) (rows : List (List Ratio)) (xs : List Row) → is_matrix_form m rows ≡ true → (nat_eq m 0 || nat_eq m n) ≡ true → ArePrimitiveRowsOf rows xs

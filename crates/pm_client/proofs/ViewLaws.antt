@@ -18,13 +18,14 @@ use Rattle.std.proofs.lemmas.Bool.{leb-true}
 use Rattle.std.specs.List.{Contains, list_any}
 use Rattle.std.specs.Option.{is_some}
 use Rattle.std.specs.Prelude.{Bool, List, None, Some, if◌then◌else◌, ℕ, ◌&&◌, ◌<◌, ◌^◌, ◌||◌, ◌≡◌}
+use Rattle.pm_limits.specs.Limits.{most_columns}
 
 -- a set of listed properties has exactly these
 pub has_listed : (s : ℕ) (ps : List PropId) (p : PropId) → s ≡ set_of ps → has s p ≡ list_any (λ q. eqb (number q) (number p)) ps
 has_listed s ps p e = ap (λ z. has z p) e ∙ has-set_of ps p
 
 pub few_columns : (v : ViewSeen) → IsView v → v.cols < 2 ^ 63
-few_columns v view = let l = leb-true v.cols 33 view.few_cols in omega arith
+few_columns v view = let l = leb-true v.cols most_columns view.few_cols in omega arith
 
 or_right : (a b : Bool) → b ≡ true → (a || b) ≡ true
 or_right true b h = refl

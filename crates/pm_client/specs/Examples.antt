@@ -1,6 +1,6 @@
 -- The definitions of starts and of row lists read on small lists: what holds of them, and what does not.
 use Rattle.pm_client.specs.Sound.{AreEnlarging, AreParts, ArePartsOf, AreRowsOf, AreSetsOf, HoldsOf, IsCrowdedLattice, IsCrowdedPlacing, IsWideAtRays, IsWideDual, IsWideFace, IsWideForPrograms, IsWideOptimum, ReadsObjective, finds_optimum, optimum, IsCrowdedThinning, IsDeterminingList, IsDoubleListOf, IsEliminated, IsFlatBasisAndRow, IsFlatList, IsWideFeasibility, IsWideForSets, IsWideProgramOf, IsWideThinningOf, added_rows, are_parts, are_told, determining_rows, double_list, eliminated_by, enlarging_rows, fail_of, fail_of_double, fail_of_lattice, fail_of_program, fail_of_thin, first_part, flat_basis_and_row, flat_rows, line_basis_and_row, line_rows, row_list, sets_of_rows, IsConeList, cone_rows, has_way}
-use Rattle.pm_client.specs.Ways as way
+use Rattle.pm_standard.specs.Ways as way
 use Rattle.pm_props.specs.Properties.{is_generator, is_half_space}
 use Rattle.pm_client.specs.Starts.{Clients, after_start, has_client, kind_at, next_count, place_in, same_kind, started_once}
 use Rattle.pm_client.specs.declared.ClientFail.TheVariants as fail
@@ -258,10 +258,10 @@ pub record OptimaAreRead : Type 0 where
   pub over_facets : finds_optimum (codes "lp_min") Minimal Facets ≡ true
   pub not_over_facets : finds_optimum (codes "lp_min_rows") Minimal Facets ≡ false
   pub not_over_vertices : finds_optimum (codes "lp_max_v") Maximal Vertices ≡ false
-  pub at_rays : has_way (codes "lp_min_v") (way.at_rays Minimal) ≡ true
-  pub not_at_rays : has_way (codes "lp_min_v") (way.at_rays Maximal) ≡ false
-  pub at_face : has_way (codes "lp_max_face") (way.at_face Maximal) ≡ true
-  pub not_at_face : has_way (codes "lp_max_face") (way.at_face Minimal) ≡ false
+  pub at_rays : has_way (codes "lp_min_v") (way.at_rays way.least) ≡ true
+  pub not_at_rays : has_way (codes "lp_min_v") (way.at_rays way.greatest) ≡ false
+  pub at_face : has_way (codes "lp_max_face") (way.at_face way.greatest) ≡ true
+  pub not_at_face : has_way (codes "lp_max_face") (way.at_face way.least) ≡ false
   pub greatest : optimum Maximal ≡ MaximalValue
   pub least : optimum Minimal ≡ MinimalValue
   -- the objective is the row that was read
@@ -327,7 +327,7 @@ abbrev pub nothing_placed : ViewSeen
 nothing_placed = record { of = Cone; cols = 1; kind = named (codes "placing") 1 2; sub = None; facts = [] }
 
 pub record CellsAreRead : Type 0 where
-  -- the evidence is of the rays and lines that the client read: more cells of a front of these than 2,048
+  -- the evidence is of the rays and lines that the client read: more cells of a front of these than most_rows
   pub crowded : (front : ℕ) (cells : List (List ℕ)) → AreCrowdedCells 1 [] [] front cells → IsCrowdedPlacing (without_rays (codes "placing")) front cells
   pub few : (front : ℕ) → ¬ (IsCrowdedPlacing (without_rays (codes "placing")) front ([] ∷ (0 ∷ []) ∷ []))
   pub none_read : (front : ℕ) (cells : List (List ℕ)) → ¬ (IsCrowdedPlacing nothing_placed front cells)

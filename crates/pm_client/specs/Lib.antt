@@ -1,4 +1,3 @@
 pub mod Starts
 pub mod Sound
 pub mod Examples
-pub mod Ways

@@ -48,7 +48,9 @@ use Rattle.pm_simplex.specs.declared.fails.LpFail.{LpFail}
 use Rattle.pm_simplex.specs.declared.fails.LpFail.TheVariants as linear
 use Rattle.pm_props.specs.declared.property.PropId.{PropId}
 use Rattle.pm_props.specs.declared.property.PropId.TheVariants.{Points, InputLineality, Inequalities, Equations, Vertices, LinealitySpace, Facets, AffineHull, VerticesInFacets, LinearObjective, MaximalValue, MinimalValue, MaximalCones}
-pub use Rattle.pm_client.specs.Ways.{Eliminated, row_list, first_part, double_list, enlarging_rows, flat_rows, flat_basis_and_row, line_rows, line_basis_and_row, determining_rows, cone_rows, doubling, thinning_programs, feasibility, optimum_over_facets, optimum_over_rows, products, determined_rays, determined_facets, dual, at_rays, at_face, facet_count, face_count, cell_count, eliminated_by, has_way}
+use Rattle.pm_standard.specs.Ways.{Optimum, greatest, least}
+pub use Rattle.pm_standard.specs.Ways.{Eliminated, row_list, first_part, double_list, enlarging_rows, flat_rows, flat_basis_and_row, line_rows, line_basis_and_row, determining_rows, cone_rows, doubling, thinning_programs, feasibility, optimum_over_facets, optimum_over_rows, products, determined_rays, determined_facets, dual, at_rays, at_face, facet_count, face_count, cell_count}
+pub use Rattle.pm_standard.specs.Named.{eliminated_by, has_way}
 use Rattle.pm_client.specs.declared.ClientFail.{ClientFail}
 use Rattle.pm_client.specs.declared.ClientFail.TheVariants.{Memory, Failed}
 use Rattle.pm_elim.specs.declared.evidence.ElimList.{ElimList}
@@ -264,14 +266,14 @@ pub record IsWideDoubling (v : ViewSeen) (front : ℕ) (first second : Row) (col
   pub listed : IsDoubleListOf v rows
   pub shown : IsWidePair v.cols rows front first second column
 
--- the client does double description, and a front of its list has more than 2,048 extreme rays
+-- the client does double description, and a front of its list has more than most_rows extreme rays
 pub record IsCrowdedDoubling (v : ViewSeen) (front : ℕ) (rays : List Row) : Type 0 where
   pub named : IsTrue (has_way v.kind.name doubling)
   pub rows : List Row
   pub listed : IsDoubleListOf v rows
   pub shown : IsCrowded v.cols rows front rays
 
--- the client places the rays, and of a front of its list there are more than 2,048 cells
+-- the client places the rays, and of a front of its list there are more than most_rows cells
 pub record IsCrowdedPlacing (v : ViewSeen) (front : ℕ) (cells : List (List ℕ)) : Type 0 where
   pub named : IsTrue (has_way v.kind.name cell_count)
   pub lines : List Row
@@ -320,10 +322,15 @@ pub record IsWideFeasibility (v : ViewSeen) (e : Evidence) : Type 0 where
 abbrev pub ReadsObjective : ViewSeen → List Ratio → Type 0
 ReadsObjective v c = (n : ℕ) × Reads v LinearObjective n (c ∷ [])
 
+-- what a sense seeks
+abbrev pub sought : Sense → Optimum
+sought Maximal = greatest
+sought Minimal = least
+
 -- the client of this name finds the optimum in that sense over FACETS, with a dual, or over INEQUALITIES
 abbrev pub finds_optimum : List ℕ → Sense → PropId → Bool
-finds_optimum name sense Facets = has_way name (optimum_over_facets sense)
-finds_optimum name sense Inequalities = has_way name (optimum_over_rows sense)
+finds_optimum name sense Facets = has_way name (optimum_over_facets (sought sense))
+finds_optimum name sense Inequalities = has_way name (optimum_over_rows (sought sense))
 finds_optimum name sense p = false
 
 -- the optimum in that sense, as a property
@@ -348,7 +355,7 @@ pub record IsWideOptimum (v : ViewSeen) (e : Evidence) : Type 0 where
 -- the client finds an optimum over FACETS, and a row of a dual of their program leaves the range
 pub record IsWideDual (v : ViewSeen) (e : Evidence) : Type 0 where
   pub sense : Sense
-  pub named : IsTrue (has_way v.kind.name (dual sense))
+  pub named : IsTrue (has_way v.kind.name (dual (sought sense)))
   pub equations : List Row
   pub inequalities : List Row
   pub reads_equations : AreRowsOf v AffineHull equations
@@ -360,7 +367,7 @@ pub record IsWideDual (v : ViewSeen) (e : Evidence) : Type 0 where
 -- the client finds an optimum at VERTICES, and the product of its objective with one of these or a line leaves the range, or the optimum does
 pub record IsWideAtRays (v : ViewSeen) (e : Evidence) : Type 0 where
   pub sense : Sense
-  pub named : IsTrue (has_way v.kind.name (at_rays sense))
+  pub named : IsTrue (has_way v.kind.name (at_rays (sought sense)))
   pub lines : List Row
   pub rays : List Row
   pub reads_lines : AreRowsOf v LinealitySpace lines
@@ -372,7 +379,7 @@ pub record IsWideAtRays (v : ViewSeen) (e : Evidence) : Type 0 where
 -- the client finds the rays at an optimum, and the row that vanishes at the optimum leaves the range, or its product with a ray does
 pub record IsWideFace (v : ViewSeen) (e : Evidence) : Type 0 where
   pub sense : Sense
-  pub named : IsTrue (has_way v.kind.name (at_face sense))
+  pub named : IsTrue (has_way v.kind.name (at_face (sought sense)))
   pub rays : List Row
   pub reads_rays : AreRowsOf v Vertices rays
   pub objective : List Ratio
@@ -389,7 +396,7 @@ IsWideForPrograms v e = IsWideDual v e ⊎ IsWideAtRays v e ⊎ IsWideFace v e
 abbrev pub IsWideProgramOf : ViewSeen → Evidence → Type 0
 IsWideProgramOf v e = IsWideThinningOf v e ⊎ IsWideFeasibility v e ⊎ IsWideOptimum v e
 
--- the client thins INEQUALITIES, and at more than 2,048 places of these and of what is added stand facet rows
+-- the client thins INEQUALITIES, and at more than most_rows places of these and of what is added stand facet rows
 pub record IsCrowdedThinning (v : ViewSeen) (places : List ℕ) : Type 0 where
   pub named : IsTrue (has_way v.kind.name facet_count)
   pub equations : List Row

@@ -17,11 +17,9 @@ use pm_types::Kind;
 use std::alloc::{AllocError, AllocFailed, Global};
 
 mod boxes;
-mod family;
 mod values;
 
 pub use boxes::{place_of, run_first};
-pub use family::{Family, FamilyClient};
 pub use values::{
     counts_of, edges_of, lattice_of, matrix_of, number_of, primitive_rows, put_value, sets_of,
     whole_of,

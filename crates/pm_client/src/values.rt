@@ -10,6 +10,7 @@ ghost use Rattle.pm_props.specs.Sets.{has};
 ghost use Rattle.pm_types.specs.Values.{counts, edges, extended, lattice, matrix, sets, whole};
 ghost use Rattle.pm_types.specs.Views.{extended_of, view_of};
 ghost use Rattle.std.specs.Prelude.{All, IfErr, IfOk, IsTrue, None, OnErr, OnOk, Some, [], length, ◌++◌, ◌∷◌, ◌≡◌, ◌≤◌};
+ghost use Rattle.pm_limits.specs.Limits.{most_rows};
 
 use crate::ClientFail;
 use pm_matrix::{Matrix, RowsFail};
@@ -111,7 +112,7 @@ pub fn number_of(view: &View, p: PropId) -> Number
 
 /// The primitive whole rows of a matrix, of which each is made within the range. Want of memory alone ends it.
 pub fn primitive_rows(alloc: Global, matrix: &Matrix) -> Result<Vec<Ints>, ClientFail>
-    requires few { length matrix.now.rows ≤ 2048 }
+    requires few { length matrix.now.rows ≤ most_rows }
     requires stay { All HasPrimitiveRow matrix.now.rows }
     ensures rows { IfOk result (λ v. ArePrimitiveRowsOf matrix.now.rows v.items) }
     ensures failed { IfErr result (λ e. e ≡ Memory) }

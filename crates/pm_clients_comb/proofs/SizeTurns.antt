@@ -13,6 +13,7 @@ use Rattle.std.proofs.lemmas.Simd.{map-map}
 use Rattle.std.specs.List.{list_all}
 use Rattle.std.specs.Prelude.{Bool, Err, Ok, Result, List, [], if◌then◌else◌, length, map, suc, take, zero, ℕ, ◌+◌, ◌++◌, ◌∷◌, ◌≡◌, ◌≤◌, ◌<◌, ◌||◌}
 use lib.IntN.{pos, ℤ}
+use Rattle.pm_limits.specs.Limits.{most_rows}
 
 -- ---- ascending sets
 record Next (n low j : ℕ) (r : List ℕ) : Type 0 where
@@ -79,7 +80,7 @@ all_of_map items n (y ∷ xs) (suc i) x h l = all_of_map items n xs i x (and_par
 -- each of the sets ascends
 pub set_ascends : {X : Type 0} (items : X → List ℕ) (xs : List X) (rows : List (List ℕ)) (n i : ℕ) (x : X) (r : List ℕ) → map items xs ≡ rows → is_sets_form rows n ≡ true → i < length xs → x ≡ get_or xs i x → r ≡ items x → are_indices n 0 r ≡ true
 set_ascends items xs rows n i x r e form l is same =
-    let all = (and_parts (leb (length rows) 2048 && leb n 2048) (list_all (are_indices n 0) rows) form).1 in
+    let all = (and_parts (leb (length rows) most_rows && leb n most_rows) (list_all (are_indices n 0) rows) form).1 in
     let one = all_of_map items n xs i x (subst (λ rs. list_all (are_indices n 0) rs ≡ true) (sym e) all) l in
     subst (λ s. are_indices n 0 s ≡ true) (sym (same ∙ ap items is)) one
 
@@ -103,7 +104,7 @@ next_count items xs i j count more x r t l is same test e h =
     by false e h k = (omega arith, omega arith)
 
 -- one place more
-pub next_size : (rows : List (List ℕ)) (place k : ℕ) (sizes more : List ℤ) → sizes ≡ place_sizes rows place → k ≡ holding rows place → k ≤ 2048 → more ≡ sizes ++ to_z w64 k ∷ [] → more ≡ place_sizes rows (place + 1)
+pub next_size : (rows : List (List ℕ)) (place k : ℕ) (sizes more : List ℤ) → sizes ≡ place_sizes rows place → k ≡ holding rows place → k ≤ most_rows → more ≡ sizes ++ to_z w64 k ∷ [] → more ≡ place_sizes rows (place + 1)
 next_size rows place k sizes more e is few m =
     m ∙ ap (λ zs. zs ++ to_z w64 k ∷ []) e
     ∙ ap (λ z. place_sizes rows place ++ z ∷ []) (to_z_pos w64 k (omega arith) ∙ ap pos is)

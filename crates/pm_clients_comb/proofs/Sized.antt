@@ -18,22 +18,23 @@ use Rattle.std.proofs.lemmas.List.FromFn.{length-map-range_with_len}
 use Rattle.std.specs.List.{All, list_all, range_with_len}
 use Rattle.std.specs.Prelude.{Bool, IsTrue, List, Some, [], if◌then◌else◌, length, map, nat_le, suc, ℕ, ◌+◌, ◌∷◌, ◌↔◌, ◌≡◌, ◌≤◌, ◌^◌}
 use lib.IntN.{pos, ℤ}
+use Rattle.pm_limits.specs.Limits.{most_rows}
 
 -- ---- the form of sizes
-pub few_sets : (rows : List (List ℕ)) (n : ℕ) → is_sets_form rows n ≡ true → length rows ≤ 2048
+pub few_sets : (rows : List (List ℕ)) (n : ℕ) → is_sets_form rows n ≡ true → length rows ≤ most_rows
 few_sets rows n form =
-    let p = and_parts (leb (length rows) 2048 && leb n 2048) (list_all (are_indices n 0) rows) form in
-    leb-true (length rows) 2048 (and_parts (leb (length rows) 2048) (leb n 2048) p.0).0
+    let p = and_parts (leb (length rows) most_rows && leb n most_rows) (list_all (are_indices n 0) rows) form in
+    leb-true (length rows) most_rows (and_parts (leb (length rows) most_rows) (leb n most_rows) p.0).0
 
-few_places : (rows : List (List ℕ)) (n : ℕ) → is_sets_form rows n ≡ true → n ≤ 2048
+few_places : (rows : List (List ℕ)) (n : ℕ) → is_sets_form rows n ≡ true → n ≤ most_rows
 few_places rows n form =
-    let p = and_parts (leb (length rows) 2048 && leb n 2048) (list_all (are_indices n 0) rows) form in
-    leb-true n 2048 (and_parts (leb (length rows) 2048) (leb n 2048) p.0).1
+    let p = and_parts (leb (length rows) most_rows && leb n most_rows) (list_all (are_indices n 0) rows) form in
+    leb-true n most_rows (and_parts (leb (length rows) most_rows) (leb n most_rows) p.0).1
 
 pub ascending : (rows : List (List ℕ)) (n : ℕ) → is_sets_form rows n ≡ true → list_all (are_indices n 0) rows ≡ true
-ascending rows n form = (and_parts (leb (length rows) 2048 && leb n 2048) (list_all (are_indices n 0) rows) form).1
+ascending rows n form = (and_parts (leb (length rows) most_rows && leb n most_rows) (list_all (are_indices n 0) rows) form).1
 
-small_has_bits : (k : ℕ) → k ≤ 2048 → has_64_bits (pos k) ≡ true
+small_has_bits : (k : ℕ) → k ≤ most_rows → has_64_bits (pos k) ≡ true
 small_has_bits k l = lt-ltb k (2 ^ 63) (omega arith)
 
 pub holding_few : (rows : List (List ℕ)) (j : ℕ) → holding rows j ≤ length rows
@@ -47,7 +48,7 @@ holding_few (r ∷ rows) j =
     at_most true = omega arith
     at_most b = grind arith
 
-counts_bits : {X : Type 0} (f : X → ℕ) (xs : List X) → ((x : X) → f x ≤ 2048) → list_all has_64_bits (map (λ x. pos (f x)) xs) ≡ true
+counts_bits : {X : Type 0} (f : X → ℕ) (xs : List X) → ((x : X) → f x ≤ most_rows) → list_all has_64_bits (map (λ x. pos (f x)) xs) ≡ true
 counts_bits f [] h = refl
 counts_bits f (x ∷ xs) h = and_from (has_64_bits (pos (f x))) (list_all has_64_bits (map (λ x. pos (f x)) xs)) (small_has_bits (f x) (h x)) (counts_bits f xs h)
 
@@ -55,7 +56,7 @@ place_sizes_form : (rows : List (List ℕ)) (n : ℕ) → is_sets_form rows n �
 place_sizes_form rows n form =
     let count = length-map-range_with_len (λ j. pos (holding rows j)) 0 n in
     let few = few_places rows n form in
-    and_from (nat_le (length (place_sizes rows n)) 2048) (list_all has_64_bits (place_sizes rows n)) (le-leb (length (place_sizes rows n)) 2048 (omega arith))
+    and_from (nat_le (length (place_sizes rows n)) most_rows) (list_all has_64_bits (place_sizes rows n)) (le-leb (length (place_sizes rows n)) most_rows (omega arith))
     (counts_bits (holding rows) (range_with_len 0 n) (λ j. let a = holding_few rows j in let b = few_sets rows n form in omega arith))
 
 index_count : (n low : ℕ) (r : List ℕ) → low ≤ n → are_indices n low r ≡ true → low + length r ≤ n
@@ -68,7 +69,7 @@ index_count n low (j ∷ r) l h =
     let rest = index_count n (suc j) r (omega arith) p.1 in
     omega arith
 
-set_bits : (n : ℕ) (rows : List (List ℕ)) → n ≤ 2048 → list_all (are_indices n 0) rows ≡ true → list_all has_64_bits (set_sizes rows) ≡ true
+set_bits : (n : ℕ) (rows : List (List ℕ)) → n ≤ most_rows → list_all (are_indices n 0) rows ≡ true → list_all has_64_bits (set_sizes rows) ≡ true
 set_bits n [] few h = refl
 set_bits n (r ∷ rows) few h =
     let p = and_parts (are_indices n 0 r) (list_all (are_indices n 0) rows) h in
@@ -79,7 +80,7 @@ set_sizes_form : (rows : List (List ℕ)) (n : ℕ) → is_sets_form rows n ≡ 
 set_sizes_form rows n form =
     let count = length-map rows (λ r. pos (length r)) in
     let few = few_sets rows n form in
-    and_from (nat_le (length (set_sizes rows)) 2048) (list_all has_64_bits (set_sizes rows)) (le-leb (length (set_sizes rows)) 2048 (omega arith))
+    and_from (nat_le (length (set_sizes rows)) most_rows) (list_all has_64_bits (set_sizes rows)) (le-leb (length (set_sizes rows)) most_rows (omega arith))
     (set_bits n rows (few_places rows n form) (ascending rows n form))
 
 -- ---- the clients

@@ -8,10 +8,8 @@ ghost use Rattle.pm_standard.specs.declared.standard.StandardClient.TheVariants 
 ghost use Rattle.std.specs.Prelude.{IfErr, OnOk, [], ◌≡◌, map, ◌∷◌};
 
 use crate::sizes::{all_are, place_sizes, set_sizes};
-use pm_client::{
-    ClientFail, Family, FamilyClient, counts_of, matrix_of, primitive_rows, put_value, sets_of,
-    whole_of,
-};
+use pm_client::{ClientFail, counts_of, matrix_of, primitive_rows, put_value, sets_of, whole_of};
+use pm_family::{Family, FamilyClient};
 use pm_incidence::incidence;
 use pm_object::{Draft, View};
 use pm_standard::StandardClient;

@@ -5,6 +5,7 @@ ghost use Rattle.pm_relations.specs.Sizes.{has_place, holding, place_sizes, set_
 ghost use Rattle.pm_types.specs.Forms.{is_sets_form};
 ghost use Rattle.std.specs.List.{All};
 ghost use Rattle.std.specs.Prelude.{IfOk, IsTrue, length, ◌≡◌, ◌≤◌, ◌↔◌};
+ghost use Rattle.pm_limits.specs.Limits.{most_rows};
 
 use pm_types::Sets;
 use std::alloc::{AllocError, Global};
@@ -21,7 +22,7 @@ fn has_place(set: &[u32], place: u32) -> bool
 fn sets_with(sets: &Sets, place: u32) -> usize
     requires form { IsTrue (is_sets_form sets.now.rows sets.now.cols) }
     ensures count { result ≡ holding sets.now.rows place }
-    ensures few { result ≤ 2048 }
+    ensures few { result ≤ most_rows }
 {
     let mut count = 0;
     for set in sets.rows() {

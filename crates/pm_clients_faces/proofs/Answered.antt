@@ -36,8 +36,9 @@ use Rattle.std.proofs.Common.{ap, arith, refl, subst, sym, true, ◌∙◌}
 use Rattle.std.proofs.lemmas.Bool.{le-leb}
 use Rattle.std.proofs.lemmas.List.FromFn.{length-map-range_with_len}
 use Rattle.std.specs.List.{range_with_len}
-use Rattle.std.specs.Prelude.{List, Some, [], if◌then◌else◌, length, map, ℕ, ◌≡◌}
+use Rattle.std.specs.Prelude.{List, Some, [], if◌then◌else◌, length, map, ℕ, ◌≡◌, ◌+◌}
 use lib.IntN.{pos, ℤ}
+use Rattle.pm_limits.specs.Limits.{most_columns}
 
 -- ---- failures
 pub fails_for_many : (v : ViewSeen) (index : IndexSets) (f : LatticeFail) → v.kind ≡ standard_kind client.Faces → fact_of VerticesInFacets v.facts ≡ Some (sets index.rows index.cols) → IsShown index f → FailsForMany v (fail_of_lattice f)
@@ -56,7 +57,7 @@ right_few : (t : Thing) (o : Orders) → IsThing t → AreOrders t o → ¬ (t.o
 right_few t o thing orders no_fan ranks c right =
     let few = ranks_are_few t o thing orders no_fan ranks c right in
     let cols = thing.few_cols in
-    le-leb (length ranks) 34 (omega arith)
+    le-leb (length ranks) (most_columns + 1) (omega arith)
 
 counts_right : (t : Thing) (o : Orders) → IsThing t → AreOrders t o → ¬ (t.of ≡ Fan) → (ranks : List (List (List ℕ))) (c d : List Ratio) → Right HasseDiagram (lattice ranks) t o c → Right FVector (counts (f_numbers ranks)) t o d
 counts_right t o thing orders no_fan ranks c d right =

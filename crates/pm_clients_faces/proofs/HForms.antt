@@ -11,6 +11,7 @@ use Rattle.std.proofs.lemmas.List.FromFn.{length-map-range_with_len}
 use Rattle.std.specs.List.{All, list_all}
 use Rattle.std.specs.Prelude.{Bool, List, [], false, if◌then◌else◌, length, nat_le, true, ℕ, ◌+◌, ◌∷◌, ◌≡◌, ◌≤◌, ◌⊎◌}
 use lib.IntN.{negsuc, pos, ℤ}
+use Rattle.pm_limits.specs.Limits.{most_dimensions, most_rows}
 
 all_fit : (zs : List ℤ) → list_all has_64_bits zs ≡ true → All (SFits w64) zs
 all_fit [] h = All-nil (SFits w64)
@@ -26,12 +27,12 @@ not_both false e f = cc
 
 -- f has an h-vector of dimension m, or none
 h_cases : (f : List ℤ) (m : ℕ) → HasHVector f m ⊎ ¬ (HasHVector f m)
-h_cases f m = elim (cases_lt 32 m) [
+h_cases f m = elim (cases_lt most_dimensions m) [
   | inl more ↦ inr (λ v. let few = v.few in absurd (omega arith))
   | inr few ↦ elim (cases_eq (length f) m) [ inr other ↦ inr (λ v. other v.entries) | inl same ↦ by few same (list_all has_64_bits (h_of f m)) refl ]
 ]
   where
-    by : m ≤ 32 → length f ≡ m → (b : Bool) → list_all has_64_bits (h_of f m) ≡ b → HasHVector f m ⊎ ¬ (HasHVector f m)
+    by : m ≤ most_dimensions → length f ≡ m → (b : Bool) → list_all has_64_bits (h_of f m) ≡ b → HasHVector f m ⊎ ¬ (HasHVector f m)
     by few same true bits = inl (record { few = few; entries = same; fit = all_fit (h_of f m) bits })
     by few same false wide = inr (λ v. not_both (list_all has_64_bits (h_of f m)) wide (all_bits (h_of f m) v.fit))
 
@@ -46,7 +47,7 @@ h_of_form : (f : List ℤ) (m : ℕ) → HasHVector f m → is_counts_form (h_of
 h_of_form f m v =
     let count = length-map-range_with_len (h_entry f m) 0 (m + 1) in
     let few = v.few in
-    and_from (nat_le (length (h_of f m)) 2048) (list_all has_64_bits (h_of f m)) (le-leb (length (h_of f m)) 2048 (omega arith)) (all_bits (h_of f m) v.fit)
+    and_from (nat_le (length (h_of f m)) most_rows) (list_all has_64_bits (h_of f m)) (le-leb (length (h_of f m)) most_rows (omega arith)) (all_bits (h_of f m) v.fit)
 
 pub h_numbers_form : (f h : List ℤ) (d : ℤ) → AreHNumbers f d h → (HasNoHVector f d → h ≡ []) → is_counts_form h ≡ true
 h_numbers_form f h (negsuc k) numbers none = subst (λ zs. is_counts_form zs ≡ true) (sym (none (λ n e v. below_zero k n e))) refl
@@ -59,7 +60,7 @@ h_numbers_form f h (pos m) numbers none = elim (h_cases f m) [
 pub no_numbers : (f h : List ℤ) (d : ℤ) → d ≡ negsuc 0 → (HasNoHVector f d → h ≡ []) → h ≡ h_vector_of f d
 no_numbers f h d e none = subst (λ z. h ≡ h_vector_of f z) (sym e) (none (λ n s v. below_zero 0 n (sym e ∙ s)))
 
-pub numbers_are : (f h : List ℤ) (d : ℤ) (m : ℕ) → d ≡ pos m → m ≤ 32 → length f ≡ m → AreHNumbers f d h → (HasNoHVector f d → h ≡ []) → h ≡ h_vector_of f d
+pub numbers_are : (f h : List ℤ) (d : ℤ) (m : ℕ) → d ≡ pos m → m ≤ most_dimensions → length f ≡ m → AreHNumbers f d h → (HasNoHVector f d → h ≡ []) → h ≡ h_vector_of f d
 numbers_are f h d m e few same numbers none = subst (λ z. h ≡ h_vector_of f z) (sym e) (by (list_all has_64_bits (h_of f m)) refl)
   where
     by : (b : Bool) → list_all has_64_bits (h_of f m) ≡ b → h ≡ (if b then h_of f m else [])

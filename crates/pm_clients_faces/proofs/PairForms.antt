@@ -24,25 +24,26 @@ use Rattle.std.proofs.lemmas.Simd.{map-map}
 use Rattle.std.specs.List.{All, count_by, list_all, range_with_len, slice_index_or}
 use Rattle.std.specs.Prelude.{Bool, IsTrue, List, [], cond, false, get_or, if◌then◌else◌, length, map, nat_le, nat_lt, true, ℕ, ◌&&◌, ◌<◌, ◌^◌, ◌∷◌, ◌≡◌, ◌≤◌}
 use lib.IntN.{pos}
+use Rattle.pm_limits.specs.Limits.{most_columns, most_faces, most_rows}
 
 -- ---- how many pairs there are
-pairs_few : (lower upper : List (List ℕ)) → length lower ≤ 65536 → length upper ≤ 65536 → inclusion_count lower upper < 2 ^ 127
+pairs_few : (lower upper : List (List ℕ)) → length lower ≤ most_faces → length upper ≤ most_faces → inclusion_count lower upper < 2 ^ 127
 pairs_few lower upper l u =
-    let most = sum_by-le (λ g. count_by (is_within g) upper) 65536 lower (λ i d below. let one = count_by-le-length (is_within (get_or lower i d)) upper in omega arith) in
+    let most = sum_by-le (λ g. count_by (is_within g) upper) most_faces lower (λ i d below. let one = count_by-le-length (is_within (get_or lower i d)) upper in omega arith) in
     omega arith
 
-size_at : (lists : List (List (List ℕ))) → All (λ faces. length faces ≤ 65536) lists → (i : ℕ) → length (slice_index_or lists i []) ≤ 65536
+size_at : (lists : List (List (List ℕ))) → All (λ faces. length faces ≤ most_faces) lists → (i : ℕ) → length (slice_index_or lists i []) ≤ most_faces
 size_at [] h i = omega arith
-size_at (faces ∷ lists) h zero = All-head (λ fs. length fs ≤ 65536) faces lists h
-size_at (faces ∷ lists) h (suc i) = size_at lists (All-tail (λ fs. length fs ≤ 65536) faces lists h) i
+size_at (faces ∷ lists) h zero = All-head (λ fs. length fs ≤ most_faces) faces lists h
+size_at (faces ∷ lists) h (suc i) = size_at lists (All-tail (λ fs. length fs ≤ most_faces) faces lists h) i
 
-entry_few : (ranks : List (List (List ℕ))) → All (λ faces. length faces ≤ 65536) (inner ranks) → (i k : ℕ) → f2_entry ranks i k < 2 ^ 127
+entry_few : (ranks : List (List (List ℕ))) → All (λ faces. length faces ≤ most_faces) (inner ranks) → (i k : ℕ) → f2_entry ranks i k < 2 ^ 127
 entry_few ranks h i k = by (nat_lt i k) (nat_lt k i)
   where
-    si : length (inner_faces ranks i) ≤ 65536
+    si : length (inner_faces ranks i) ≤ most_faces
     si = size_at (inner ranks) h i
 
-    sk : length (inner_faces ranks k) ≤ 65536
+    sk : length (inner_faces ranks k) ≤ most_faces
     sk = size_at (inner ranks) h k
 
     by : (a b : Bool) → cond a (inclusion_count (inner_faces ranks i) (inner_faces ranks k)) (cond b (inclusion_count (inner_faces ranks k) (inner_faces ranks i)) (length (inner_faces ranks i))) < 2 ^ 127
@@ -79,12 +80,12 @@ any_rows : (of : ObjectType) (rows : List (List Ratio)) → list_all (is_row of 
 any_rows of [] = refl
 any_rows of (r ∷ rows) = and_from (is_row of F2Vector r) (list_all (is_row of F2Vector) rows) (any_row of r) (any_rows of rows)
 
-square_forms : (of : ObjectType) (n d : ℕ) (N : List Row) → length N ≡ d → d ≤ 33 → HasCols d N → All (All InRange) N → FormsIn of n F2Vector (matrix d (map ratios N)) × IsTrue (states_rows (matrix d (map ratios N)))
+square_forms : (of : ObjectType) (n d : ℕ) (N : List Row) → length N ≡ d → d ≤ most_columns → HasCols d N → All (All InRange) N → FormsIn of n F2Vector (matrix d (map ratios N)) × IsTrue (states_rows (matrix d (map ratios N)))
 square_forms of n d N e few cols range =
     let count = length-map N ratios ∙ e in (
       record {
-        formed = and_from (nat_le (length (map ratios N)) 2048 && nat_le d 33) (list_all (is_row_of_entries d) (map ratios N))
-            (and_from (nat_le (length (map ratios N)) 2048) (nat_le d 33) (le-leb (length (map ratios N)) 2048 (omega arith)) (le-leb d 33 few)) (ratios_rows_of_entries d N cols);
+        formed = and_from (nat_le (length (map ratios N)) most_rows && nat_le d most_columns) (list_all (is_row_of_entries d) (map ratios N))
+            (and_from (nat_le (length (map ratios N)) most_rows) (nat_le d most_columns) (le-leb (length (map ratios N)) most_rows (omega arith)) (le-leb d most_columns few)) (ratios_rows_of_entries d N cols);
         columns = refl;
         rows = any_rows of (map ratios N);
         entries = ratios_rows_fractions N range;

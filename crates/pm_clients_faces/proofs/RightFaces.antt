@@ -29,6 +29,7 @@ use Rattle.std.proofs.lemmas.Int.{ints}
 use Rattle.std.proofs.lemmas.List.{length-map}
 use Rattle.std.specs.Prelude.{List, [], length, map, suc, true, zero, ℕ, ◌++◌, ◌+◌, ◌↔◌, ◌≡◌, ◌≤◌}
 use lib.IntN.{pos, ℤ, ◌-ℤ◌}
+use Rattle.pm_limits.specs.Limits.{most_columns}
 
 pub hasse_diagram_is_found : HasseDiagramIsFound
 hasse_diagram_is_found t o thing orders no_fan rows n ranks c d right meets =
@@ -72,7 +73,7 @@ pub f2_vector_is_found : F2VectorIsFound
 f2_vector_is_found t o orders ranks n as_many c d right = (as_many ∙ sym (length-map (f2_of ranks) (map (λ k. over_one (pos k)))), record { orders = o; are_orders = orders; ranks = ranks; faces = right; number = refl })
 
 -- the h-vector of an f-vector with as many entries as the dimension, which is 1 less than the rank of the whole
-numbers_of : (f h : List ℤ) (d : ℤ) (k : ℕ) → d ≡ pos k -ℤ pos 1 → k ≤ 33 → ((m : ℕ) → k ≡ suc m → length f ≡ m) → AreHNumbers f d h → (HasNoHVector f d → h ≡ []) → h ≡ h_vector_of f d
+numbers_of : (f h : List ℤ) (d : ℤ) (k : ℕ) → d ≡ pos k -ℤ pos 1 → k ≤ most_columns → ((m : ℕ) → k ≡ suc m → length f ≡ m) → AreHNumbers f d h → (HasNoHVector f d → h ≡ []) → h ≡ h_vector_of f d
 numbers_of f h d zero e few len numbers none = no_numbers f h d (omega (arith, ints)) none
 numbers_of f h d (suc m) e few len numbers none = numbers_are f h d m (omega (arith, ints)) (omega arith) (len m refl) numbers none
 

@@ -12,8 +12,9 @@ use Rattle.pm_props.specs.declared.property.PropId.TheVariants.{VerticesInFacets
 use Rattle.pm_standard.specs.declared.standard.StandardClient.TheVariants as client
 use Rattle.pm_types.specs.Values.{Fact, sets}
 use Rattle.pm_types.specs.Views.{over_one}
-use Rattle.std.specs.Prelude.{ℕ, List, None, [], false, replicate, true, ◌∷◌, ◌≡◌}
+use Rattle.std.specs.Prelude.{ℕ, List, None, [], false, replicate, true, ◌∷◌, ◌≡◌, ◌+◌}
 use lib.IntN.{pos}
+use Rattle.pm_limits.specs.Limits.{most_columns}
 
 -- the faces of a segment: none of its ends, each, and both
 abbrev pub segment : List (List (List ℕ))
@@ -24,7 +25,7 @@ abbrev pub ranks_of : ℕ → List (List (List ℕ))
 ranks_of n = replicate n ([] ∷ [])
 
 pub record NumbersAreRead : Type 0 where
-  pub few : has_few_ranks (ranks_of 34) ≡ true
+  pub few : has_few_ranks (ranks_of (most_columns + 1)) ≡ true
   pub many : has_few_ranks (ranks_of 35) ≡ false
   -- a segment has two ends
   pub counts : f_numbers segment ≡ pos 2 ∷ []

@@ -8,9 +8,8 @@ ghost use Rattle.pm_standard.specs.declared.standard.StandardClient.TheVariants 
 ghost use Rattle.std.specs.Prelude.{IfErr, OnOk, [], ◌≡◌, map, ◌∷◌};
 
 use crate::numbers::{f_numbers, f2_table, h_numbers};
-use pm_client::{
-    ClientFail, Family, FamilyClient, counts_of, lattice_of, put_value, sets_of, whole_of,
-};
+use pm_client::{ClientFail, counts_of, lattice_of, put_value, sets_of, whole_of};
+use pm_family::{Family, FamilyClient};
 use pm_lattice::faces;
 use pm_object::{Draft, View};
 use pm_standard::StandardClient;

@@ -5,12 +5,13 @@ ghost use Rattle.pm_graph.specs.HVectors.{AreHNumbers, HasNoHVector};
 ghost use Rattle.std.specs.Prelude.{IfOk, [], ◌≡◌};
 
 use pm_graph::{f_vector, f2_vector, h_vector};
+use pm_limits::MOST_COLUMNS;
 use pm_matrix::Matrix;
 use pm_types::{Counts, Lattice};
 use std::alloc::{AllocError, Global};
 
 // The most ranks that the lattice of a thing has: one more than the most columns.
-const MAX_RANKS: usize = 34;
+const MAX_RANKS: usize = MOST_COLUMNS + 1;
 
 // Whether the lattice has at most so many.
 fn has_few_ranks(lattice: &Lattice) -> bool

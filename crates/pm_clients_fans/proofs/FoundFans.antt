@@ -38,13 +38,14 @@ use Rattle.std.proofs.lemmas.Bool.{and_parts, leb-true}
 use Rattle.std.specs.List.{Contains, list_all}
 use Rattle.std.specs.Prelude.{Bool, IsTrue, List, Some, [], length, nat_le, ℕ, ◌&&◌, ◌<◌, ◌↔◌, ◌∷◌, ◌≡◌, ◌≤◌, nat_eq, ◌||◌}
 use lib.IntN.{negsuc, pos, ℤ}
+use Rattle.pm_limits.specs.Limits.{most_rows}
 
 -- ---- forms
-pub sets_parts : (rows : List (List ℕ)) (n : ℕ) → is_sets_form rows n ≡ true → (length rows ≤ 2048) × (n ≤ 2048) × (list_all (are_indices n 0) rows ≡ true)
+pub sets_parts : (rows : List (List ℕ)) (n : ℕ) → is_sets_form rows n ≡ true → (length rows ≤ most_rows) × (n ≤ most_rows) × (list_all (are_indices n 0) rows ≡ true)
 sets_parts rows n form =
-    let p = and_parts (nat_le (length rows) 2048 && nat_le n 2048) (list_all (are_indices n 0) rows) form in
-    let q = and_parts (nat_le (length rows) 2048) (nat_le n 2048) p.0 in
-    (leb-true (length rows) 2048 q.0, leb-true n 2048 q.1, p.1)
+    let p = and_parts (nat_le (length rows) most_rows && nat_le n most_rows) (list_all (are_indices n 0) rows) form in
+    let q = and_parts (nat_le (length rows) most_rows) (nat_le n most_rows) p.0 in
+    (leb-true (length rows) most_rows q.0, leb-true n most_rows q.1, p.1)
 
 listed_bits : (ks : List ℤ) → list_all has_64_bits ks ≡ true → (k : ℤ) → Among k ks → has_64_bits k ≡ true
 listed_bits [] h k i = elim i [ ]
@@ -53,7 +54,7 @@ listed_bits (z ∷ ks) h k (there i) = listed_bits ks (and_parts (has_64_bits z)
 
 most_bits : (ks : List ℤ) (k : ℤ) → is_counts_form ks ≡ true → IsMost ks k → has_64_bits k ≡ true
 most_bits [] k form h = subst (λ z. has_64_bits z ≡ true) (sym h) refl
-most_bits (z ∷ ks) k form h = listed_bits (z ∷ ks) (and_parts (nat_le (length (z ∷ ks)) 2048) (list_all has_64_bits (z ∷ ks)) form).1 k (among_Contains (z ∷ ks) h.0)
+most_bits (z ∷ ks) k form h = listed_bits (z ∷ ks) (and_parts (nat_le (length (z ∷ ks)) most_rows) (list_all has_64_bits (z ∷ ks)) form).1 k (among_Contains (z ∷ ks) h.0)
 
 -- ---- the dimension of each cone
 module _ (t : Thing) (o : Orders) (h : IsFanThing t.cols t.cones t.lines) (a : AreFanOrders t.cols t.cones t.lines o) (rays lines : List (List Ratio)) (K xs V L : List Row) (basis : IsBasis t.cols (InSpan t.lines) K) (order : InOrder (SameModulo t.cols (InSpan t.lines)) o.rays xs)

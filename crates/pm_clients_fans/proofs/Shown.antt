@@ -19,6 +19,7 @@ use Rattle.std.specs.List.{All, Contains, list_all}
 use Rattle.std.specs.Prelude.{Err, IfOk, List, None, Ok, Result, Some, [], length, map, nat_le, nat_lt, slice_get, suc, ℕ, ◌&&◌, ◌+◌, ◌<◌, ◌≤◌, ◌∷◌, ◌≡◌, ◌^◌, not, take, T}
 use lib.IntN.{negsuc, pos, ℤ}
 use lib.Signed.{◌≤ℤ◌, lt_z, lt_z_yes, lt_z_no, ◌<ℤ◌}
+use Rattle.pm_limits.specs.Limits.{most_rows}
 
 -- ---- the greatest
 pub most_of : (ks : List ℤ) (k : ℤ) → Contains ks k → All (λ y. y ≤ℤ k) ks → IsMost ks k
@@ -26,7 +27,7 @@ most_of [] k c h = absurd (let l = c.1 in omega arith)
 most_of (z ∷ ks) k c h = (c, h)
 
 form_bits : (ks : List ℤ) → is_counts_form ks ≡ true → (k : ℤ) → Contains ks k → to_z w64 (of_z w64 k) ≡ k
-form_bits ks form k c = cast_back k (at ks (and_parts (nat_le (length ks) 2048) (list_all has_64_bits ks) form).1 (among_Contains ks c))
+form_bits ks form k c = cast_back k (at ks (and_parts (nat_le (length ks) most_rows) (list_all has_64_bits ks) form).1 (among_Contains ks c))
   where
     at : (ks : List ℤ) → list_all has_64_bits ks ≡ true → Among k ks → has_64_bits k ≡ true
     at [] h i = elim i [ ]
@@ -110,7 +111,7 @@ sets_among n [] h set i = elim i [ ]
 sets_among n (x ∷ sets) h set here = (and_parts (are_indices n 0 x) (list_all (are_indices n 0) sets) h).0
 sets_among n (x ∷ sets) h set (there i) = sets_among n sets (and_parts (are_indices n 0 x) (list_all (are_indices n 0) sets) h).1 set i
 
-pub are_places : (V L : List Row) (n : ℕ) (sets : List (List ℕ)) → n ≡ length V → n ≤ 2048 → length L ≤ 2048 → list_all (are_indices n 0) sets ≡ true → ArePlaces V L sets
+pub are_places : (V L : List Row) (n : ℕ) (sets : List (List ℕ)) → n ≡ length V → n ≤ most_rows → length L ≤ most_rows → list_all (are_indices n 0) sets ≡ true → ArePlaces V L sets
 are_places V L n sets e few lines h = All_among (λ (set : List ℕ). All (λ j. j < length V) set × (length L + length set < 2 ^ 30)) sets (λ set i.
     let a = sets_among n sets h set i in
     let b = indices_few n 0 set (omega arith) a in
@@ -119,7 +120,7 @@ are_places V L n sets e few lines h = All_among (λ (set : List ℕ). All (λ j.
 rank_few : (X : List Row) (k : ℕ) → IsRank X k → k ≤ length X
 rank_few X k r = let l = independent_are_few r.basis X r.independent (λ i l. span_to r.span (span_at i l)) in let e = r.as_many in omega arith
 
-dim_bits : (V L : List Row) (n : ℕ) (set : List ℕ) (k : ℤ) → n ≤ 2048 → length L ≤ 2048 → are_indices n 0 set ≡ true → IsDimension (cone_rows V L set) k → has_64_bits k ≡ true
+dim_bits : (V L : List Row) (n : ℕ) (set : List ℕ) (k : ℤ) → n ≤ most_rows → length L ≤ most_rows → are_indices n 0 set ≡ true → IsDimension (cone_rows V L set) k → has_64_bits k ≡ true
 dim_bits V L n set (pos k) few lines h r =
     let a = rank_few (cone_rows V L set) k r in
     let b = length-append L (map (ray V) set) in
@@ -128,7 +129,7 @@ dim_bits V L n set (pos k) few lines h r =
     lt-ltb k (2 ^ 63) (omega arith)
 dim_bits V L n set (negsuc k) few lines h r = absurd r
 
-dims_bits : (V L : List Row) (n : ℕ) (sets : List (List ℕ)) (ks : List ℤ) → n ≤ 2048 → length L ≤ 2048 → list_all (are_indices n 0) sets ≡ true → AreDimensions V L sets ks → (list_all has_64_bits ks ≡ true) × (length ks ≡ length sets)
+dims_bits : (V L : List Row) (n : ℕ) (sets : List (List ℕ)) (ks : List ℤ) → n ≤ most_rows → length L ≤ most_rows → list_all (are_indices n 0) sets ≡ true → AreDimensions V L sets ks → (list_all has_64_bits ks ≡ true) × (length ks ≡ length sets)
 dims_bits V L n [] [] few lines h r = (refl, refl)
 dims_bits V L n [] (k ∷ ks) few lines h r = absurd r
 dims_bits V L n (set ∷ sets) [] few lines h r = absurd r
@@ -137,11 +138,11 @@ dims_bits V L n (set ∷ sets) (k ∷ ks) few lines h r =
     let rest = dims_bits V L n sets ks few lines p.1 r.1 in
     (and_from (has_64_bits k) (list_all has_64_bits ks) (dim_bits V L n set k few lines p.0 r.0) rest.0, ap suc rest.1)
 
-pub dims_form : (V L : List Row) (n : ℕ) (sets : List (List ℕ)) (ks : List ℤ) → n ≤ 2048 → length L ≤ 2048 → length sets ≤ 2048 → list_all (are_indices n 0) sets ≡ true → AreDimensions V L sets ks → is_counts_form ks ≡ true
+pub dims_form : (V L : List Row) (n : ℕ) (sets : List (List ℕ)) (ks : List ℤ) → n ≤ most_rows → length L ≤ most_rows → length sets ≤ most_rows → list_all (are_indices n 0) sets ≡ true → AreDimensions V L sets ks → is_counts_form ks ≡ true
 dims_form V L n sets ks few lines many h r =
     let p = dims_bits V L n sets ks few lines h r in
     let e = p.1 in
-    and_from (nat_le (length ks) 2048) (list_all has_64_bits ks) (le-leb (length ks) 2048 (omega arith)) p.0
+    and_from (nat_le (length ks) most_rows) (list_all has_64_bits ks) (le-leb (length ks) most_rows (omega arith)) p.0
 
 pub if_ok : {T E : Type 0} (r : Result T E) (P Q : T → Type 0) → ((x : T) → P x → Q x) → IfOk r P → IfOk r Q
 if_ok (Ok x) P Q f h = f x h

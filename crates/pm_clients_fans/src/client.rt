@@ -10,10 +10,8 @@ ghost use Rattle.pm_standard.specs.declared.standard.StandardClient.TheVariants 
 ghost use Rattle.std.specs.Prelude.{IfErr, OnOk, [], ◌≡◌, map, ◌∷◌};
 
 use crate::dims::{are_one, are_simplices, dims_of, greatest};
-use pm_client::{
-    ClientFail, Family, FamilyClient, counts_of, matrix_of, primitive_rows, put_value, sets_of,
-    whole_of,
-};
+use pm_client::{ClientFail, counts_of, matrix_of, primitive_rows, put_value, sets_of, whole_of};
+use pm_family::{Family, FamilyClient};
 use pm_object::{Draft, View};
 use pm_standard::StandardClient;
 use pm_types::{Counts, ObjectType, PropId, Value};

@@ -11,6 +11,7 @@ ghost use Rattle.std.specs.List.{All};
 ghost use Rattle.std.specs.Option.{option_copied, unwrap_or};
 ghost use Rattle.std.specs.Prelude.{IfErr, IfOk, IsTrue, OnOk, length, map, ◌+◌, ◌<◌, ◌^◌, ◌≡◌, ◌≤◌, ◌↔◌, pos};
 ghost use lib.IntN.{negsuc, ◌+ℤ◌};
+ghost use Rattle.pm_limits.specs.Limits.{most_columns, most_rows};
 
 use pm_elim::ElimFail;
 use pm_fan::cone_dims;
@@ -28,9 +29,9 @@ pub(crate) fn dims_of(
 ) -> Result<Vec<i64>, ElimFail>
     requires rays { HasCols cols rays.now }
     requires lines { HasCols cols lines.now }
-    requires few_lines { length lines.now ≤ 2048 }
+    requires few_lines { length lines.now ≤ most_rows }
     requires form { IsTrue (is_sets_form cones.now.rows cones.now.cols) }
-    requires few_columns { cols ≤ 33 }
+    requires few_columns { cols ≤ most_columns }
     ensures dims { IfOk result (λ d. cones.now.cols ≡ length rays.now → AreDimensions rays.now lines.now cones.now.rows d.items) }
     ensures form { IfOk result (λ d. IsTrue (is_counts_form d.items)) }
     ensures stay { OnOk result (cones.now.cols ≡ length rays.now → NoConeEvidence cols rays.now lines.now cones.now.rows) }

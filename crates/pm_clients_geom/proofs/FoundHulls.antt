@@ -54,6 +54,7 @@ use Rattle.std.specs.List.{All, AllByRecursion, list_all}
 use Rattle.std.specs.Prelude.{IsTrue, List, [], length, map, not, ℕ, ◌++◌, ◌↔◌, ◌∷◌, ◌≡◌, ◌≤◌}
 use lib.IntN.{neg_ℤ, pos, ℤ}
 use lib.Signed.{◌≤ℤ◌}
+use Rattle.pm_limits.specs.Limits.{most_columns, most_rows}
 
 -- ---- what was read
 -- the two parts as those of a row list
@@ -130,11 +131,11 @@ none_of_facets AffineHull Facets parts gen = absurd (true≢false (sym gen))
 none_of_facets p q parts gen = absurd (true≢false (sym parts))
 
 -- ---- few rows
-pub rays_few : (n : ℕ) (S : Row → Type 0) (V K : List Row) → AreGenerators n S V K → length V ≤ 2048 → AreFewRows n V
+pub rays_few : (n : ℕ) (S : Row → Type 0) (V K : List Row) → AreGenerators n S V K → length V ≤ most_rows → AreFewRows n V
 rays_few n S V K g l = record { cols = order_cols n S V g.order; few = l }
 
 pub echelon_few : (v : ViewSeen) → IsView v → (K : List Row) (P : List ℕ) → IsEchelonBasis v.cols K P → AreFewRows v.cols K
-echelon_few v view K P echelon = record { cols = echelon.cols; few = let l = at_most_columns v.cols K P echelon in let f = leb-true v.cols 33 view.few_cols in omega arith }
+echelon_few v view K P echelon = record { cols = echelon.cols; few = let l = at_most_columns v.cols K P echelon in let f = leb-true v.cols most_columns view.few_cols in omega arith }
 
 pub lines_few : (v : ViewSeen) → IsView v → (S : Row → Type 0) (V K : List Row) → AreGenerators v.cols S V K → AreFewRows v.cols K
 lines_few v view S V K g = echelon_few v view K g.pivots g.basis.echelon
@@ -224,7 +225,7 @@ module _ (v : ViewSeen) (view : IsView v) (targets : v.kind.targets ≡ set_of (
       (refl, (refl, tt)) facets_formed facets_are_right
 
 -- ---- the same, by double description
-module _ (v : ViewSeen) (view : IsView v) (first second : PropId) (kind : FindsFacets v.kind first second) (L G F H : List Row) (read : ReadsParts v first second L G) (facets : AreFacets v.cols G L F H) (few : length F ≤ 2048) (few_hull : length H ≤ 2048) (range : All (All InRange) F) (range_hull : All (All InRange) H) where
+module _ (v : ViewSeen) (view : IsView v) (first second : PropId) (kind : FindsFacets v.kind first second) (L G F H : List Row) (read : ReadsParts v first second L G) (facets : AreFacets v.cols G L F H) (few : length F ≤ most_rows) (few_hull : length H ≤ most_rows) (range : All (All InRange) F) (range_hull : All (All InRange) H) where
   is_fresh : IsFresh facets_tag v.kind
   is_fresh = fresh_kind facets_tag v.kind (Facets ∷ AffineHull ∷ []) (second ∷ first ∷ []) Facets kind.targets kind.sources refl refl (none_of_facets first second kind.parts kind.generators)
 

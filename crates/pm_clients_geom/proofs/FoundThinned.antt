@@ -47,6 +47,7 @@ use Rattle.std.specs.List.{All, list_all}
 use Rattle.std.specs.Prelude.{IsTrue, List, Some, [], length, map, nat_le, nat_lt, ℕ, ◌&&◌, ◌+◌, ◌++◌, ◌<◌, ◌^◌, ◌↔◌, ◌∷◌, ◌≡◌, ◌≤◌}
 use lib.IntN.{pos}
 use lib.Signed.{◌≤ℤ◌}
+use Rattle.pm_limits.specs.Limits.{most_rows}
 
 -- ---- what was read, as evidence names it
 pub first_rows_of : {v : ViewSeen} {first second : PropId} {L G : List Row} → ReadsParts v first second L G → AreRowsOf v first L
@@ -66,21 +67,21 @@ places_few n low (j ∷ set) h l =
     let m = places_few n (suc j) set p.1 (omega arith) in
     omega arith
 
-each_few : (n : ℕ) (rows : List (List ℕ)) → n ≤ 2048 → list_all (are_indices n 0) rows ≡ true → All (λ set. length set < 2 ^ 28) rows
+each_few : (n : ℕ) (rows : List (List ℕ)) → n ≤ most_rows → list_all (are_indices n 0) rows ≡ true → All (λ set. length set < 2 ^ 28) rows
 each_few n [] l h = All-nil (λ (set : List ℕ). length set < 2 ^ 28)
 each_few n (set ∷ rows) l h =
     let p = and_parts (are_indices n 0 set) (list_all (are_indices n 0) rows) h in
     All-cons (λ (s : List ℕ). length s < 2 ^ 28) set rows (let f = places_few n 0 set p.0 (omega arith) in omega arith) (each_few n rows l p.1)
 
 module _ (of : ObjectType) (n : ℕ) (s : IndexSets) (forms : FormsIn of n VerticesInFacets (sets s.rows s.cols)) where
-  form_parts : (nat_le (length s.rows) 2048 && nat_le s.cols 2048 ≡ true) × (list_all (are_indices s.cols 0) s.rows ≡ true)
-  form_parts = and_parts (nat_le (length s.rows) 2048 && nat_le s.cols 2048) (list_all (are_indices s.cols 0) s.rows) forms.formed
+  form_parts : (nat_le (length s.rows) most_rows && nat_le s.cols most_rows ≡ true) × (list_all (are_indices s.cols 0) s.rows ≡ true)
+  form_parts = and_parts (nat_le (length s.rows) most_rows && nat_le s.cols most_rows) (list_all (are_indices s.cols 0) s.rows) forms.formed
 
-  pub sets_few : length s.rows ≤ 2048
-  sets_few = leb-true (length s.rows) 2048 (and_parts (nat_le (length s.rows) 2048) (nat_le s.cols 2048) form_parts.0).0
+  pub sets_few : length s.rows ≤ most_rows
+  sets_few = leb-true (length s.rows) most_rows (and_parts (nat_le (length s.rows) most_rows) (nat_le s.cols most_rows) form_parts.0).0
 
-  pub columns_few : s.cols ≤ 2048
-  columns_few = leb-true s.cols 2048 (and_parts (nat_le (length s.rows) 2048) (nat_le s.cols 2048) form_parts.0).1
+  pub columns_few : s.cols ≤ most_rows
+  columns_few = leb-true s.cols most_rows (and_parts (nat_le (length s.rows) most_rows) (nat_le s.cols most_rows) form_parts.0).1
 
   pub all_few : All (λ set. length set < 2 ^ 28) s.rows
   all_few = each_few s.cols s.rows columns_few form_parts.1

@@ -33,6 +33,7 @@ use Rattle.std.proofs.lemmas.List.Elements.{All-nil}
 use Rattle.std.specs.List.{All}
 use Rattle.std.specs.Prelude.{Bool, List, [], length, map, nat_le, ℕ, ◌++◌, ◌<◌, ◌↔◌, ◌∷◌, ◌≡◌, ◌≤◌, ◌⊎◌}
 use lib.IntN.{pos}
+use Rattle.pm_limits.specs.Limits.{most_columns, most_rows}
 
 -- ---- nothing is added to these lists
 no_vertex_added : (of : ObjectType) (n : ℕ) → added_rows of n Vertices ≡ []
@@ -46,8 +47,8 @@ no_facet_added Cone n = refl
 no_facet_added Fan n = refl
 
 -- ---- a basis, or no row in its place
-few_rows : (n k : ℕ) → nat_le n 33 ≡ true → k ≤ n → k ≤ 2048
-few_rows n k few h = let l = leb-true n 33 few in omega arith
+few_rows : (n k : ℕ) → nat_le n most_columns ≡ true → k ≤ n → k ≤ most_rows
+few_rows n k few h = let l = leb-true n most_columns few in omega arith
 
 module _ (v : ViewSeen) (view : IsView v) where
   basis_columned : (X N : List Row) (P : List ℕ) → IsNullBasis v.cols X N P → IsColumned v.cols (cols_over v.cols (map ratios N)) (map ratios N)

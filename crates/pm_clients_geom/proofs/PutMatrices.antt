@@ -17,6 +17,7 @@ use Rattle.std.proofs.lemmas.List.{length-map}
 use Rattle.std.specs.List.{All, list_all}
 use Rattle.std.specs.Prelude.{Bool, IsTrue, List, [], length, map, nat_eq, nat_le, not, ℕ, ◌∷◌, ◌≡◌, ◌≤◌, ◌||◌}
 use lib.IntN.{pos}
+use Rattle.pm_limits.specs.Limits.{most_columns, most_rows}
 
 -- ---- without rows no column count is stated
 pub put_states : (n : ℕ) (rows : List (List Ratio)) → IsTrue (states_rows (matrix (cols_over n rows) rows))
@@ -30,15 +31,15 @@ put_columned n m (r ∷ rows) h = h
 same_number : (n : ℕ) → (nat_eq n 0 || nat_eq n n) ≡ true
 same_number n = grind arith
 
-column_count : (n : ℕ) (rows : List (List Ratio)) → nat_le 1 n ≡ true → nat_le n 33 ≡ true → is_column_count rows n ≡ true
+column_count : (n : ℕ) (rows : List (List Ratio)) → nat_le 1 n ≡ true → nat_le n most_columns ≡ true → is_column_count rows n ≡ true
 column_count n [] some few = few
 column_count n (r ∷ rows) some few = rw (some, few) refl
 
 -- few rows of n entries
-pub rows_columned : (n : ℕ) (rows : List (List Ratio)) → nat_le 1 n ≡ true → nat_le n 33 ≡ true → length rows ≤ 2048 → list_all (is_row_of_entries n) rows ≡ true → IsColumned n n rows
-rows_columned n rows some few count entries = let c : nat_le (length rows) 2048 ≡ true = grind arith in (rw (c, column_count n rows some few, entries) refl, same_number n)
+pub rows_columned : (n : ℕ) (rows : List (List Ratio)) → nat_le 1 n ≡ true → nat_le n most_columns ≡ true → length rows ≤ most_rows → list_all (is_row_of_entries n) rows ≡ true → IsColumned n n rows
+rows_columned n rows some few count entries = let c : nat_le (length rows) most_rows ≡ true = grind arith in (rw (c, column_count n rows some few, entries) refl, same_number n)
 
-pub ratios_columned : (n : ℕ) (N : List Row) → nat_le 1 n ≡ true → nat_le n 33 ≡ true → length N ≤ 2048 → HasCols n N → IsColumned n (cols_over n (map ratios N)) (map ratios N)
+pub ratios_columned : (n : ℕ) (N : List Row) → nat_le 1 n ≡ true → nat_le n most_columns ≡ true → length N ≤ most_rows → HasCols n N → IsColumned n (cols_over n (map ratios N)) (map ratios N)
 ratios_columned n N some few count cols = put_columned n n (map ratios N) (rows_columned n (map ratios N) some few (rw length-map count) (ratios_rows_of_entries n N cols))
 
 -- ---- tests of rows

@@ -21,6 +21,7 @@ use Rattle.std.proofs.lemmas.Bool.{eq-eqb, or_left, or_right}
 use Rattle.std.proofs.Common.{ap, arith, eqb, false, refl, subst, sym, true, true≢false, ◌∙◌}
 use Rattle.std.proofs.lemmas.List.{length-append}
 use Rattle.std.specs.Prelude.{IsTrue, List, [], length, nat_eq, ℕ, ◌++◌, ◌∷◌, ◌||◌, ◌≡◌, ◌≤◌}
+use Rattle.pm_limits.specs.Limits.{most_rows}
 
 -- a matrix whose rows, if it has some, have n entries
 abbrev pub IsColumned : ℕ → ℕ → List (List Ratio) → Type 0
@@ -66,13 +67,13 @@ second_of_matrices AffineHull Facets h = refl
 second_of_matrices p q h = absurd (true≢false (sym h))
 
 module _ (of : ObjectType) (n m : ℕ) (rows : List (List Ratio)) (first second : PropId) (parts : IsTrue (are_parts first second)) where
-  pub few_first : FormsIn of n first (matrix m rows) → length rows ≤ 2048
+  pub few_first : FormsIn of n first (matrix m rows) → length rows ≤ most_rows
   few_first f = few_rows m rows (first_columned of n m rows first second parts f).0
 
-  pub few_second : FormsIn of n second (matrix m rows) → length rows ≤ 2048
+  pub few_second : FormsIn of n second (matrix m rows) → length rows ≤ most_rows
   few_second f = few_rows m rows (second_columned of n m rows first second parts f).0
 
-pub few_listed : (lines rows : List (List Ratio)) (ls xs X : List Row) → length lines ≤ 2048 → length rows ≤ 2048
+pub few_listed : (lines rows : List (List Ratio)) (ls xs X : List Row) → length lines ≤ most_rows → length rows ≤ most_rows
     → ArePrimitiveRowsOf lines ls → ArePrimitiveRowsOf rows xs → X ≡ ls ++ xs → length X ≤ 4096
 few_listed lines rows ls xs X few more p q e =
     let all = ap length e ∙ length-append ls xs in let a = p.count in let b = q.count in omega arith

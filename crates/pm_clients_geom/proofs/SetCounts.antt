@@ -14,12 +14,13 @@ use Rattle.std.proofs.lemmas.Bool.{and_parts, leb-true}
 use Rattle.std.specs.List.{list_all}
 use Rattle.std.specs.Prelude.{List, Some, length, ℕ, ◌≡◌, ◌≤◌}
 use lib.IntN.{pos}
+use Rattle.pm_limits.specs.Limits.{most_rows}
 
-few : (rows : List (List ℕ)) (n : ℕ) → is_sets_form rows n ≡ true → (length rows ≤ 2048) × (n ≤ 2048)
+few : (rows : List (List ℕ)) (n : ℕ) → is_sets_form rows n ≡ true → (length rows ≤ most_rows) × (n ≤ most_rows)
 few rows n form =
-    let p = and_parts (leb (length rows) 2048 && leb n 2048) (list_all (are_indices n 0) rows) form in
-    let q = and_parts (leb (length rows) 2048) (leb n 2048) p.0 in
-    (leb-true (length rows) 2048 q.0, leb-true n 2048 q.1)
+    let p = and_parts (leb (length rows) most_rows && leb n most_rows) (list_all (are_indices n 0) rows) form in
+    let q = and_parts (leb (length rows) most_rows) (leb n most_rows) p.0 in
+    (leb-true (length rows) most_rows q.0, leb-true n most_rows q.1)
 
 module _ (v : ViewSeen) (rows : List (List ℕ)) (n : ℕ) (read : fact_of VerticesInFacets v.facts ≡ Some (sets rows n)) (forms : FormsIn v.of v.cols VerticesInFacets (sets rows n)) (old new : DraftSeen) where
   form : is_sets_form rows n ≡ true

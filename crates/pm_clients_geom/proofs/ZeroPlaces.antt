@@ -12,13 +12,14 @@ use Rattle.std.proofs.lemmas.List.Quantifiers.{all_pairs_push}
 use Rattle.std.specs.List.{Contains, list_all, slice_index_or}
 use Rattle.std.specs.Prelude.{List, [], length, map, nat_le, suc, ℕ, ◌+◌, ◌++◌, ◌∷◌, ◌≡◌, ◌≤◌, ◌<◌, ◌^◌}
 use lib.IntN.{pos, ℤ}
+use Rattle.pm_limits.specs.Limits.{most_rows}
 
 pub no_places : (rows : List (List Ratio)) → AreZeroPlaces rows 0 []
 no_places rows = record { js = []; places = refl; ascending = λ i j d l m. absurd (omega arith); zero = λ j. (λ c. absurd (let l = c.1 in omega arith), λ w. absurd (let l = w.0 in omega arith)) }
 
 module _ (rows : List (List Ratio)) (n : ℕ) (ks : List ℤ) (a : AreZeroPlaces rows n ks) where
   -- a row more whose first entry is 0
-  pub place_more : (more : List ℤ) → HasZeroFirst (slice_index_or rows n []) → n ≤ 2048 → more ≡ ks ++ to_z w64 n ∷ [] → AreZeroPlaces rows (n + 1) more
+  pub place_more : (more : List ℤ) → HasZeroFirst (slice_index_or rows n []) → n ≤ most_rows → more ≡ ks ++ to_z w64 n ∷ [] → AreZeroPlaces rows (n + 1) more
   place_more more z few e = record {
     js = a.js ++ n ∷ [];
     places = e ∙ ap (λ k. ks ++ k ∷ []) (to_z_pos w64 n (omega arith)) ∙ ap (λ xs. xs ++ pos n ∷ []) a.places ∙ sym (map_push pos a.js n);
@@ -54,7 +55,7 @@ pub record PlacesSoFar (rows : List (List Ratio)) (n : ℕ) (ks : List ℤ) : Ty
   pub few : length ks ≤ n
 
 module _ (rows : List (List Ratio)) (n : ℕ) (ks : List ℤ) (a : PlacesSoFar rows n ks) where
-  pub so_far_more : (more : List ℤ) → HasZeroFirst (slice_index_or rows n []) → n ≤ 2048 → more ≡ ks ++ to_z w64 n ∷ [] → PlacesSoFar rows (n + 1) more
+  pub so_far_more : (more : List ℤ) → HasZeroFirst (slice_index_or rows n []) → n ≤ most_rows → more ≡ ks ++ to_z w64 n ∷ [] → PlacesSoFar rows (n + 1) more
   so_far_more more z few e = record {
     are = place_more rows n ks a.are more z few e;
     few = let long = ap length e ∙ length-append ks (to_z w64 n ∷ []) in let low = a.few in omega arith;
@@ -68,7 +69,7 @@ bits_of : (js : List ℕ) → ((j : ℕ) → Contains js j → j < 2 ^ 63) → l
 bits_of [] h = refl
 bits_of (j ∷ js) h = and_from (has_64_bits (pos j)) (list_all has_64_bits (map pos js)) (lt-ltb j (2 ^ 63) (h j (0, (omega arith), refl))) (bits_of js (λ i c. h i (suc c.0, (let l = c.1 in omega arith), c.2)))
 
-pub places_form : (rows : List (List Ratio)) (n : ℕ) (ks : List ℤ) → AreZeroPlaces rows n ks → n ≤ 2048 → length ks ≤ 2048 → is_counts_form ks ≡ true
+pub places_form : (rows : List (List Ratio)) (n : ℕ) (ks : List ℤ) → AreZeroPlaces rows n ks → n ≤ most_rows → length ks ≤ most_rows → is_counts_form ks ≡ true
 places_form rows n ks a few short =
-    and_from (nat_le (length ks) 2048) (list_all has_64_bits ks) (le-leb (length ks) 2048 short)
+    and_from (nat_le (length ks) most_rows) (list_all has_64_bits ks) (le-leb (length ks) most_rows short)
     (subst (λ zs. list_all has_64_bits zs ≡ true) (sym a.places) (bits_of a.js (λ j c. let w = (a.zero j).0 c in let l = w.0 in omega arith)))

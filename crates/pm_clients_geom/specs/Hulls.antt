@@ -15,6 +15,7 @@ use Rattle.pm_types.specs.Values.{matrix}
 use Rattle.pm_types.specs.Views.{ratios}
 use Rattle.std.specs.List.{All}
 use Rattle.std.specs.Prelude.{IsTrue, List, [], length, map, ℕ, ◌∷◌, ◌≡◌, ◌≤◌, ◌⊎◌}
+use Rattle.pm_limits.specs.Limits.{most_rows}
 
 -- a client of the kind does double description, and finds FACETS and AFFINE_HULL from lines, and points or rays
 pub record FindsFacets (kind : Kind) (first second : PropId) : Type 0 where
@@ -28,7 +29,7 @@ pub record FindsFacets (kind : Kind) (first second : PropId) : Type 0 where
 -- few rows of n entries
 pub record AreFewRows (n : ℕ) (X : List Row) : Type 0 where
   pub cols : HasCols n X
-  pub few : length X ≤ 2048
+  pub few : length X ≤ most_rows
 
 -- the rays V and the lines K, of a thing of that type
 pub record MayGenerate (of : ObjectType) (V K : List Row) : Type 0 where

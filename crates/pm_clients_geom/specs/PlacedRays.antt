@@ -17,6 +17,7 @@ use Rattle.pm_props.specs.declared.property.PropId.{PropId}
 use Rattle.pm_types.specs.Values.{IndexSets}
 use Rattle.std.specs.List.{All, AllPairs}
 use Rattle.std.specs.Prelude.{IsTrue, List, [], length, ◌∷◌, ◌≡◌, ◌≤◌}
+use Rattle.pm_limits.specs.Limits.{most_rows}
 
 -- a client of the kind places points or rays, of a thing with lines
 pub record PlacesRays (kind : Kind) (first second : PropId) : Type 0 where
@@ -30,11 +31,11 @@ pub record PlacesRays (kind : Kind) (first second : PropId) : Type 0 where
 -- L and G were read; F are the facet rows of what they generate, H the rows that vanish there, and the sets of places of G, each once, a triangulation of it
 pub record ArePlaced (v : ViewSeen) (first second : PropId) (L G F H : List Row) (cells : IndexSets) : Type 0 where
   pub read : ReadsParts v first second L G
-  pub few_rays : length G ≤ 2048
+  pub few_rays : length G ≤ most_rows
   pub facets : AreFacets v.cols G L F H
-  pub few_facets : length F ≤ 2048
+  pub few_facets : length F ≤ most_rows
   pub triangulation : IsTriangulation v.cols G L cells.rows
-  pub few_cells : length cells.rows ≤ 2048
+  pub few_cells : length cells.rows ≤ most_rows
   pub ascending : All (IsAscending (length G)) cells.rows
   pub different : AllPairs (λ r s. ¬ (r ≡ s)) cells.rows
   pub cols : cells.cols ≡ length G

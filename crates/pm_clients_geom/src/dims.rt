@@ -13,8 +13,9 @@ ghost use Rattle.pm_standard.specs.declared.standard.StandardClient.TheVariants 
 ghost use Rattle.std.specs.Prelude.{Contains, IfErr, IfOk, IsTrue, OnOk, [], ◌≡◌, ◌≤◌, map, ◌∷◌};
 
 use crate::lists::row_list;
-use pm_client::{ClientFail, Family, FamilyClient, matrix_of, put_value, whole_of};
+use pm_client::{ClientFail, matrix_of, put_value, whole_of};
 use pm_elim::rank;
+use pm_family::{Family, FamilyClient};
 use pm_object::{Draft, View};
 use pm_standard::StandardClient;
 use pm_types::{PropId, Value};

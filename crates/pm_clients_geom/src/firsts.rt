@@ -5,6 +5,7 @@ ghost use Rattle.pm_clients_geom.specs.Places.{AreZeroPlaces};
 ghost use Rattle.pm_relations.specs.FirstEntries.{HasPositiveFirst, HasZeroFirst};
 ghost use Rattle.pm_types.specs.Forms.{is_counts_form};
 ghost use Rattle.std.specs.Prelude.{All, IfOk, IsTrue, [], length, slice_index_or, ◌<◌, ◌≡◌, ◌≤◌, ◌↔◌};
+ghost use Rattle.pm_limits.specs.Limits.{most_rows};
 
 use pm_matrix::Matrix;
 use std::alloc::{AllocError, Global};
@@ -44,7 +45,7 @@ pub(crate) fn has_zero_firsts(matrix: &Matrix) -> bool
 
 /// The places of the rows whose first entry is 0, ascending.
 pub(crate) fn zero_places(alloc: Global, matrix: &Matrix) -> Result<Vec<i64>, AllocError>
-    requires few { length matrix.now.rows ≤ 2048 }
+    requires few { length matrix.now.rows ≤ most_rows }
     ensures places { IfOk result (λ v. AreZeroPlaces matrix.now.rows (length matrix.now.rows) v.items) }
     ensures form { IfOk result (λ v. IsTrue (is_counts_form v.items)) }
 {

@@ -13,7 +13,8 @@ ghost use Rattle.std.specs.Prelude.{IfErr, IfOk, IsTrue, OnOk, [], length, â—Œâˆ
 
 use crate::rays::{are_rays, matrix_of_rays};
 use crate::rows::{matrix_over_one, may_be_lines};
-use pm_client::{ClientFail, Family, FamilyClient, matrix_of, primitive_rows, put_value};
+use pm_client::{ClientFail, matrix_of, primitive_rows, put_value};
+use pm_family::{Family, FamilyClient};
 use pm_hull::{Generators, to_facets, to_generators};
 use pm_object::{Draft, View};
 use pm_standard::StandardClient;

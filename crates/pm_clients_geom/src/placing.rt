@@ -10,7 +10,8 @@ ghost use Rattle.std.specs.Prelude.{IfErr, IfOk, OnOk, [], map, ◌∷◌, ◌�
 use crate::hulls::{Parts, read_parts};
 use crate::rows::matrix_over_one;
 use pm_beneath::{Facets, PlaceFail, place};
-use pm_client::{ClientFail, Family, FamilyClient, put_value};
+use pm_client::{ClientFail, put_value};
+use pm_family::{Family, FamilyClient};
 use pm_object::{Draft, View};
 use pm_standard::StandardClient;
 use pm_types::{PropId, Sets, Value};

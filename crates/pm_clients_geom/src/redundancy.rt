@@ -9,7 +9,8 @@ ghost use Rattle.std.specs.Prelude.{IfErr, OnOk, [], ◌≡◌, map, ◌∷◌};
 use crate::hulls::{put_generators, read_parts};
 use crate::points::has_point;
 use crate::thinning::put_facets;
-use pm_client::{ClientFail, Family, FamilyClient, put_value};
+use pm_client::{ClientFail, put_value};
+use pm_family::{Family, FamilyClient};
 use pm_object::{Draft, View};
 use pm_redund::{thin_rays, thin_rows};
 use pm_standard::StandardClient;
@@ -44,7 +45,7 @@ impl RedundancyWork {
 pub struct RedundancyFamily;
 
 /// A client of linear programs. It fails for want of memory, and where a pivot of one of its programs leaves the range;
-/// those that thin also where a step of an elimination does, and `thin_inequalities_lp` where there are more than 2,048
+/// those that thin also where a step of an elimination does, and `thin_inequalities_lp` where there are more than `MOST_ROWS`
 /// facets.
 pub type RedundancyClient = FamilyClient<RedundancyFamily>;
 

@@ -19,8 +19,9 @@ ghost use Rattle.pm_types.specs.Views.{ratios};
 ghost use Rattle.std.specs.Prelude.{All, false, IfErr, IfOk, IsTrue, OnOk, [], length, map, ◌<◌, ◌≡◌, ◌↔◌, ◌∷◌};
 
 use crate::lists::row_list;
-use pm_client::{ClientFail, Family, FamilyClient, matrix_of, put_value};
+use pm_client::{ClientFail, matrix_of, put_value};
 use pm_elim::null_space;
+use pm_family::{Family, FamilyClient};
 use pm_fraction::Fraction;
 use pm_matrix::{Matrix, MatrixFail};
 use pm_object::{Draft, View};

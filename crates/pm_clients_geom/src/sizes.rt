@@ -8,7 +8,8 @@ ghost use Rattle.pm_standard.specs.declared.standard.StandardClient.TheVariants 
 ghost use Rattle.std.specs.Prelude.{IfErr, OnOk, [], ◌≡◌, map, ◌∷◌};
 
 use crate::firsts::zero_places;
-use pm_client::{ClientFail, Family, FamilyClient, matrix_of, put_value, sets_of};
+use pm_client::{ClientFail, matrix_of, put_value, sets_of};
+use pm_family::{Family, FamilyClient};
 use pm_object::{Draft, View};
 use pm_standard::StandardClient;
 use pm_types::{Counts, ObjectType, PropId, Value};

@@ -13,7 +13,8 @@ ghost use Rattle.std.specs.Prelude.{All, IfErr, OnOk, [], length, ◌<◌, ◌�
 use crate::hulls::{put_generators, read_parts};
 use crate::rays::{are_not_zero, are_rays, matrix_of_rays};
 use crate::rows::matrix_over_one;
-use pm_client::{ClientFail, Family, FamilyClient, put_value, sets_of};
+use pm_client::{ClientFail, put_value, sets_of};
+use pm_family::{Family, FamilyClient};
 use pm_hull::{Facets, Generators};
 use pm_incidence::{
     facets_by_incidence, facets_from_sets, vertices_by_incidence, vertices_from_sets,
@@ -54,7 +55,7 @@ impl ThinWork {
 pub struct ThinFamily;
 
 /// A client that thins or takes sets. It fails for want of memory, where a step of an elimination or a product leaves
-/// the range, and `thin_inequalities_v` where there are more than 2,048 facets.
+/// the range, and `thin_inequalities_v` where there are more than `MOST_ROWS` facets.
 pub type ThinClient = FamilyClient<ThinFamily>;
 
 impl Family for ThinFamily {

@@ -9,7 +9,8 @@ ghost use Rattle.pm_relations.specs.FirstEntries.{HasPositiveFirst, HasZeroFirst
 ghost use Rattle.std.specs.Prelude.{All, IfErr, IsTrue, OnOk, [], ◌≡◌, ◌↔◌, map, ◌∷◌};
 
 use crate::firsts::{has_positive_firsts, has_zero_firsts};
-use pm_client::{ClientFail, Family, FamilyClient, matrix_of, put_value, whole_of};
+use pm_client::{ClientFail, matrix_of, put_value, whole_of};
+use pm_family::{Family, FamilyClient};
 use pm_matrix::Matrix;
 use pm_object::{Draft, View};
 use pm_standard::StandardClient;

@@ -17,6 +17,7 @@ use Rattle.std.proofs.lemmas.List.Sums.{AllPass-from_list_all, list_all-from_All
 use Rattle.std.specs.List.{All, AllPairs, Contains, list_all, slice_index_or, sum_by}
 use Rattle.std.specs.Prelude.{Bool, List, [], length, nat_eq, nat_le, not, suc, zero, ℕ, ◌+◌, ◌-◌, ◌<◌, ◌∷◌, ◌≡◌, ◌≤◌, ◌^◌}
 use lib.IntN.{pos}
+use Rattle.pm_limits.specs.Limits.{most_faces, most_indices, most_places, most_rows}
 
 -- ---- forms that were read
 -- the indices of an ascending list are below n, and at most so many
@@ -40,11 +41,11 @@ few_indices n low (k ∷ r) l h =
     let rest = few_indices n (suc k) r (omega arith) p.1 in
     omega arith
 
-pub index_sets : (rows : List (List ℕ)) (n : ℕ) → is_sets_form rows n ≡ true → (length rows ≤ 2048) × (n ≤ 2048) × (list_all (are_indices n 0) rows ≡ true)
+pub index_sets : (rows : List (List ℕ)) (n : ℕ) → is_sets_form rows n ≡ true → (length rows ≤ most_rows) × (n ≤ most_rows) × (list_all (are_indices n 0) rows ≡ true)
 index_sets rows n form =
-    let p = and_parts (nat_le (length rows) 2048 && nat_le n 2048) (list_all (are_indices n 0) rows) form in
-    let q = and_parts (nat_le (length rows) 2048) (nat_le n 2048) p.0 in
-    (leb-true (length rows) 2048 q.0, leb-true n 2048 q.1, p.1)
+    let p = and_parts (nat_le (length rows) most_rows && nat_le n most_rows) (list_all (are_indices n 0) rows) form in
+    let q = and_parts (nat_le (length rows) most_rows) (nat_le n most_rows) p.0 in
+    (leb-true (length rows) most_rows q.0, leb-true n most_rows q.1, p.1)
 
 pub sets_below : (rows : List (List ℕ)) (n : ℕ) → is_sets_form rows n ≡ true → AreBelow n rows
 sets_below rows n form k d l =
@@ -54,7 +55,7 @@ sets_below rows n form k d l =
 pub sets_of_edges : (rows : List (List ℕ)) → is_edges_form rows ≡ true → is_sets_form rows (length rows) ≡ true
 sets_of_edges rows form = (and_parts (is_sets_form rows (length rows)) (are_joined_back rows 0 rows) form).0
 
-pub few_neighbours : (rows : List (List ℕ)) → is_edges_form rows ≡ true → All (λ row. length row ≤ 2048) rows
+pub few_neighbours : (rows : List (List ℕ)) → is_edges_form rows ≡ true → All (λ row. length row ≤ most_rows) rows
 few_neighbours rows form k d l =
     let sets = index_sets rows (length rows) (sets_of_edges rows form) in
     let nodes = sets.0 in
@@ -67,11 +68,11 @@ passes_at p [] k d e h = e
 passes_at p (x ∷ xs) zero d e h = (and_parts (p x) (list_all p xs) h).0
 passes_at p (x ∷ xs) (suc k) d e h = passes_at p xs k d e (and_parts (p x) (list_all p xs) h).1
 
-pub few_in_whole : (ranks : List (List (List ℕ))) → is_lattice_form ranks ≡ true → length (whole_of ranks) ≤ 2048
+pub few_in_whole : (ranks : List (List (List ℕ))) → is_lattice_form ranks ≡ true → length (whole_of ranks) ≤ most_rows
 few_in_whole ranks form =
-    let all = (and_parts (nat_le (sum_by length ranks) 65536 && nat_le (sum_by (sum_by length) ranks) 4000000) (list_all (list_all (are_indices 2048 0)) ranks) form).1 in
-    let last = passes_at (list_all (are_indices 2048 0)) ranks (length ranks - 1) [] refl all in
-    few_indices 2048 0 (whole_of ranks) (omega arith) (passes_at (are_indices 2048 0) (at_rank ranks (length ranks - 1)) 0 [] refl last)
+    let all = (and_parts (nat_le (sum_by length ranks) most_faces && nat_le (sum_by (sum_by length) ranks) most_places) (list_all (list_all (are_indices most_indices 0)) ranks) form).1 in
+    let last = passes_at (list_all (are_indices most_indices 0)) ranks (length ranks - 1) [] refl all in
+    few_indices most_rows 0 (whole_of ranks) (omega arith) (passes_at (are_indices most_indices 0) (at_rank ranks (length ranks - 1)) 0 [] refl last)
 
 -- ---- the form of a graph
 -- E joins nodes below n, each to others, and both ways
@@ -80,7 +81,7 @@ pub record JoinsNodes (n : ℕ) (E : ℕ → ℕ → Type 0) : Type 0 where
   pub apart : (i j : ℕ) → E i j → ¬ (i ≡ j)
   pub back : (i j : ℕ) → E i j → E j i
 
-module _ (n : ℕ) (E : ℕ → ℕ → Type 0) (rows : List (List ℕ)) (g : IsGraph n E rows) (few : n ≤ 2048) (nodes : JoinsNodes n E) where
+module _ (n : ℕ) (E : ℕ → ℕ → Type 0) (rows : List (List ℕ)) (g : IsGraph n E rows) (few : n ≤ most_rows) (nodes : JoinsNodes n E) where
   each_row : list_all (are_indices (length rows) 0) rows ≡ true
   each_row = subst (λ m. list_all (are_indices m 0) rows ≡ true) (sym g.nodes) (list_all-from_AllPass (are_indices n 0) rows (λ k d l. ascending_indices n n (slice_index_or rows k d) (omega arith) (g.ascending k d l)))
 
@@ -103,9 +104,9 @@ module _ (n : ℕ) (E : ℕ → ℕ → Type 0) (rows : List (List ℕ)) (g : Is
   pub graph_form : is_edges_form rows ≡ true
   graph_form =
       let count = g.nodes in
-      let small : nat_le (length rows) 2048 ≡ true = le-leb (length rows) 2048 (omega arith) in
+      let small : nat_le (length rows) most_rows ≡ true = le-leb (length rows) most_rows (omega arith) in
       and_from (is_sets_form rows (length rows)) (are_joined_back rows 0 rows)
-      (and_from (nat_le (length rows) 2048 && nat_le (length rows) 2048) (list_all (are_indices (length rows) 0) rows) (and_from (nat_le (length rows) 2048) (nat_le (length rows) 2048) small small) each_row)
+      (and_from (nat_le (length rows) most_rows && nat_le (length rows) most_rows) (list_all (are_indices (length rows) 0) rows) (and_from (nat_le (length rows) most_rows) (nat_le (length rows) most_rows) small small) each_row)
       (rows_joined 0 rows (λ k l. (omega arith, (let same : k ≡ 0 + k = omega arith in subst (λ m. slice_index_or rows k [] ≡ slice_index_or rows m []) same refl))))
 
 pub indices_are_nodes : (s : IndexSets) → JoinsNodes s.cols (IsIndexEdge s)
@@ -134,5 +135,5 @@ pub degrees_form : (rows : List (List ℕ)) → is_edges_form rows ≡ true → 
 degrees_form rows form =
     let nodes = (index_sets rows (length rows) (sets_of_edges rows form)).0 in
     let count = length-map rows (λ row. pos (length row)) in
-    and_from (nat_le (length (degrees rows)) 2048) (list_all has_64_bits (degrees rows)) (le-leb (length (degrees rows)) 2048 (omega arith))
+    and_from (nat_le (length (degrees rows)) most_rows) (list_all has_64_bits (degrees rows)) (le-leb (length (degrees rows)) most_rows (omega arith))
     (list_all-map has_64_bits (λ row. pos (length row)) rows ∙ list_all-from_AllPass (λ row. has_64_bits (pos (length row))) rows (λ k d l. (let few = few_neighbours rows form k d l in lt-ltb (length (slice_index_or rows k d)) (2 ^ 63) (omega arith))))

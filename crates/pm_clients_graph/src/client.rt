@@ -7,7 +7,8 @@ ghost use Rattle.pm_standard.specs.declared.standard.StandardClient.TheVariants 
 ghost use Rattle.std.specs.Prelude.{IfErr, OnOk, [], ◌≡◌, map, ◌∷◌};
 
 use crate::counts::{degrees, edge_count};
-use pm_client::{ClientFail, Family, FamilyClient, edges_of, lattice_of, put_value, sets_of};
+use pm_client::{ClientFail, edges_of, lattice_of, put_value, sets_of};
+use pm_family::{Family, FamilyClient};
 use pm_object::{Draft, View};
 use pm_standard::StandardClient;
 use pm_types::{Counts, ObjectType, PropId, Value};

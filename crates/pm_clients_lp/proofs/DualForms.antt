@@ -22,6 +22,7 @@ use Rattle.std.proofs.lemmas.List.Sorted.{length_permutation}
 use Rattle.std.specs.List.{All, list_all}
 use Rattle.std.specs.Prelude.{Bool, IsTrue, List, [], false, if◌then◌else◌, int_lt, length, nat_eq, nat_le, ℕ, ◌∷◌, ◌||◌, ◌≡◌, ◌≤◌}
 use lib.IntN.{pos}
+use Rattle.pm_limits.specs.Limits.{most_columns, most_rows}
 
 -- no more rows are kept than there are
 weighted_length : (A : List Row) (y : List Ratio) → length (weighted A y) ≤ length A
@@ -35,14 +36,14 @@ weighted_length (a ∷ A) (q ∷ y) = by (weighted_length A y) (int_lt (pos 0) q
 
 -- what is so of the rows of each dual
 pub record AreOfDual (n : ℕ) (m : FractionMatrix) : Type 0 where
-  pub few : length m.rows ≤ 2048
+  pub few : length m.rows ≤ most_rows
   pub primitive : All HasPrimitiveRow m.rows
   pub cols : m.cols ≡ cols_over n m.rows
 
 none_of_dual : (n : ℕ) (m : FractionMatrix) → m ≡ record { cols = 0; rows = [] } → AreOfDual n m
 none_of_dual n m e = subst (AreOfDual n) (sym e) (record { few = omega arith; primitive = All-nil HasPrimitiveRow; cols = refl })
 
-pub of_dual : (n : ℕ) (A : List Row) (answer : LpAnswer) (m : FractionMatrix) → length A ≤ 2048 → IsDualMatrixOf n A answer m → AreOfDual n m
+pub of_dual : (n : ℕ) (A : List Row) (answer : LpAnswer) (m : FractionMatrix) → length A ≤ most_rows → IsDualMatrixOf n A answer m → AreOfDual n m
 of_dual n A (Optimal value point dual) m l h = record {
   few =
       let a = multiples_length h.kept m.rows h.multiples in
@@ -63,9 +64,9 @@ entries : (k : ℕ) (rows : List (List Ratio)) → All (λ r. length r ≡ k) ro
 entries k [] h = refl
 entries k (r ∷ rows) h = let e : nat_eq (length r) k ≡ true = eq-eqb (length r) k (h 0 [] (omega arith)) in rw (e, entries k rows (λ i d l. h (suc i) d (omega arith))) refl
 
-columned : (n k : ℕ) (rows : List (List Ratio)) → nat_le 1 n ≡ true → nat_le n 33 ≡ true → k ≡ cols_over n rows → length rows ≤ 2048 → list_all (is_row_of_entries k) rows ≡ true → (is_matrix_form k rows ≡ true) × ((nat_eq k 0 || nat_eq k n) ≡ true)
+columned : (n k : ℕ) (rows : List (List Ratio)) → nat_le 1 n ≡ true → nat_le n most_columns ≡ true → k ≡ cols_over n rows → length rows ≤ most_rows → list_all (is_row_of_entries k) rows ≡ true → (is_matrix_form k rows ≡ true) × ((nat_eq k 0 || nat_eq k n) ≡ true)
 columned n k [] some few e l all = rw e (refl, refl)
-columned n k (r ∷ rows) some few e l all = let c : nat_le (length (r ∷ rows)) 2048 ≡ true = grind arith in let a = rw e at all in rw e (rw (c, some, few, a) refl, same_number n)
+columned n k (r ∷ rows) some few e l all = let c : nat_le (length (r ∷ rows)) most_rows ≡ true = grind arith in let a = rw e at all in rw e (rw (c, some, few, a) refl, same_number n)
 
 pub dual_states : (n : ℕ) (m : FractionMatrix) → AreOfDual n m → IsTrue (states_rows (matrix m.cols m.rows))
 dual_states n m h = by m.cols m.rows h.cols
@@ -88,7 +89,7 @@ least_row Polytope r = refl
 least_row Cone r = refl
 least_row Fan r = refl
 
-pub dual_forms : (of : ObjectType) (n : ℕ) (sense : Sense) (m : FractionMatrix) → nat_le 1 n ≡ true → nat_le n 33 ≡ true → IsMatrix m → AreOfDual n m → FormsIn of n (dual sense) (matrix m.cols m.rows)
+pub dual_forms : (of : ObjectType) (n : ℕ) (sense : Sense) (m : FractionMatrix) → nat_le 1 n ≡ true → nat_le n most_columns ≡ true → IsMatrix m → AreOfDual n m → FormsIn of n (dual sense) (matrix m.cols m.rows)
 dual_forms of n Maximal m some few is h =
     let c = columned n m.cols m.rows some few h.cols h.few (entries m.cols m.rows is.shape) in
     record { formed = c.0; columns = c.1; rows = any_rows (is_row of MaximalDual) (greatest_row of) m.rows; entries = is.entries; primitive = h.primitive }

@@ -29,6 +29,7 @@ use Rattle.std.specs.List.{All, list_all, slice_index_or}
 use Rattle.std.specs.Prelude.{Bool, List, Some, [], false, get_or, length, nat_eq, nat_le, not, suc, zero, ℕ, ◌&&◌, ◌<◌, ◌∷◌, ◌||◌, ◌≡◌, ◌≤◌}
 use lib.IntN.{negsuc, pos, ℤ, ◌*ℤ◌}
 use lib.Signed.{◌≤ℤ◌}
+use Rattle.pm_limits.specs.Limits.{most_columns, most_rows}
 
 module _ (v : ViewSeen) (view : IsView v) (p : PropId) (x : PropertyValue) (read : fact_of p v.facts ≡ Some x) where
   -- a value that was read has its form
@@ -77,9 +78,9 @@ module _ (v : ViewSeen) (view : IsView v) (c : List Ratio) (read : ReadsObjectiv
   pub objective_cols : length c ≡ v.cols
   objective_cols =
       let form : is_matrix_form read.0 (c ∷ []) ≡ true = objective_forms.formed in
-      let p = and_parts (nat_le 1 2048 && is_column_count (c ∷ []) read.0) (list_all (is_row_of_entries read.0) (c ∷ [])) form in
-      let q = and_parts (nat_le 1 2048) (is_column_count (c ∷ []) read.0) p.0 in
-      let some = leb-true 1 read.0 (and_parts (nat_le 1 read.0) (nat_le read.0 33) q.1).0 in
+      let p = and_parts (nat_le 1 most_rows && is_column_count (c ∷ []) read.0) (list_all (is_row_of_entries read.0) (c ∷ [])) form in
+      let q = and_parts (nat_le 1 most_rows) (is_column_count (c ∷ []) read.0) p.0 in
+      let some = leb-true 1 read.0 (and_parts (nat_le 1 read.0) (nat_le read.0 most_columns) q.1).0 in
       let own = eqb-true (length c) read.0 (and_parts (nat_eq (length c) read.0) true p.1).0 in
       own ∙ stated read.0 v.cols some objective_forms.columns
 
@@ -124,7 +125,7 @@ columned of n m rows Facets h f = (f.formed, f.columns)
 columned of n m rows AffineHull h f = (f.formed, f.columns)
 columned of n m rows p h f = absurd (true≢false (sym h))
 
-pub few_of : (of : ObjectType) (n m : ℕ) (rows : List (List Ratio)) (p : PropId) → is_of_rows p ≡ true → FormsIn of n p (matrix m rows) → length rows ≤ 2048
+pub few_of : (of : ObjectType) (n m : ℕ) (rows : List (List Ratio)) (p : PropId) → is_of_rows p ≡ true → FormsIn of n p (matrix m rows) → length rows ≤ most_rows
 few_of of n m rows p h f = few_rows m rows (columned of n m rows p h f).0
 
 module _ (v : ViewSeen) (view : IsView v) (p : PropId) (kind : is_of_rows p ≡ true) (X : List Row) (read : AreRowsOf v p X) where
@@ -137,7 +138,7 @@ module _ (v : ViewSeen) (view : IsView v) (p : PropId) (kind : is_of_rows p ≡ 
       all_from (λ (x : Row). length x ≡ v.cols) X
       (λ x i. among_All (λ (y : Row). length y ≡ v.cols) i (all_length v.cols X (primitive_length read.cols v.cols read.rows X h.0 h.1 read.primitive)))
 
-  pub rows_few : length X ≤ 2048
+  pub rows_few : length X ≤ most_rows
   rows_few = let l = few_of v.of v.cols read.cols read.rows p kind rows_forms in let e = read.primitive.count in omega arith
 
 -- ---- first entries

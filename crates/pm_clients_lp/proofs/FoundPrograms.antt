@@ -47,6 +47,7 @@ use Rattle.std.proofs.Common.{ap, arith, inl, inr, refl, subst, sym, ◌∙◌}
 use Rattle.std.proofs.lemmas.Int.{ints}
 use Rattle.std.specs.Prelude.{List, [], length, ℕ, ◌<◌, ◌↔◌, ◌≡◌, ◌≤◌}
 use lib.IntN.{pos}
+use Rattle.pm_limits.specs.Limits.{most_rows}
 
 module _ (v : ViewSeen) (view : IsView v) (c : List Ratio) (reads : ReadsObjective v c) (sense : Sense) (E A : List Row) (x : Extended) where
   -- ---- INEQUALITIES and EQUATIONS
@@ -138,7 +139,7 @@ module _ (v : ViewSeen) (view : IsView v) (c : List Ratio) (reads : ReadsObjecti
           holds = dual_rows t o of cols right found'.answer found'.right (length c) found'.dual;
         })
 
-    pub facets_sound : length A ≤ 2048 → IsMatrix m → AreFractions (extended x) → (old mid new : DraftSeen) → ArePutWithDual v sense x m old mid new → IsSound v new
+    pub facets_sound : length A ≤ most_rows → IsMatrix m → AreFractions (extended x) → (old mid new : DraftSeen) → ArePutWithDual v sense x m old mid new → IsSound v new
     facets_sound few is_matrix fractions old mid new put =
         let of = subst (λ n. AreOfDual n m) (objective_cols v view c reads) (of_dual (length c) A found'.answer m few found'.dual) in
         with_dual_sound v sense x m old mid new fractions (dual_forms v.of v.cols sense m view.some_cols view.few_cols is_matrix of) (dual_states v.cols m of) put facets_optimum dual_found

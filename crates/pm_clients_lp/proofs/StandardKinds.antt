@@ -1,7 +1,7 @@
 -- The kinds of the clients of linear programs in each sense: their names, sources and targets.
 use Rattle.pm_client.proofs.ViewLaws.{has_listed}
-use Rattle.pm_client.specs.Ways as way
-use Rattle.pm_client.specs.Sound.{finds_optimum, optimum, has_way}
+use Rattle.pm_standard.specs.Ways as way
+use Rattle.pm_client.specs.Sound.{finds_optimum, optimum, has_way, sought}
 use Rattle.pm_clients_lp.specs.Clients.{at_face, at_rays, dual, face, over_facets, over_rows}
 use Rattle.pm_object.specs.Reading.{drafted}
 use Rattle.pm_standard.specs.Table.{standard_kind}
@@ -43,10 +43,10 @@ module _ (k : Kind) (sense : Sense) (is : k ≡ standard_kind (at_rays sense)) w
       by Maximal = refl
       by Minimal = refl
 
-  pub rays_named : has_way k.name (way.at_rays sense) ≡ true
-  rays_named = subst (λ (z : Kind). has_way z.name (way.at_rays sense) ≡ true) (sym is) (by sense)
+  pub rays_named : has_way k.name (way.at_rays (sought sense)) ≡ true
+  rays_named = subst (λ (z : Kind). has_way z.name (way.at_rays (sought sense)) ≡ true) (sym is) (by sense)
     where
-      by : (s : Sense) → has_way (standard_kind (at_rays s)).name (way.at_rays s) ≡ true
+      by : (s : Sense) → has_way (standard_kind (at_rays s)).name (way.at_rays (sought s)) ≡ true
       by Maximal = refl
       by Minimal = refl
 
@@ -96,10 +96,10 @@ module _ (k : Kind) (sense : Sense) (is : k ≡ standard_kind (over_facets sense
       by Maximal = refl
       by Minimal = refl
 
-  pub dual_named : has_way k.name (way.dual sense) ≡ true
-  dual_named = subst (λ (z : Kind). has_way z.name (way.dual sense) ≡ true) (sym is) (by sense)
+  pub dual_named : has_way k.name (way.dual (sought sense)) ≡ true
+  dual_named = subst (λ (z : Kind). has_way z.name (way.dual (sought sense)) ≡ true) (sym is) (by sense)
     where
-      by : (s : Sense) → has_way (standard_kind (over_facets s)).name (way.dual s) ≡ true
+      by : (s : Sense) → has_way (standard_kind (over_facets s)).name (way.dual (sought s)) ≡ true
       by Maximal = refl
       by Minimal = refl
 
@@ -119,10 +119,10 @@ module _ (k : Kind) (sense : Sense) (is : k ≡ standard_kind (at_face sense)) w
       by Maximal = refl
       by Minimal = refl
 
-  pub face_named : has_way k.name (way.at_face sense) ≡ true
-  face_named = subst (λ (z : Kind). has_way z.name (way.at_face sense) ≡ true) (sym is) (by sense)
+  pub face_named : has_way k.name (way.at_face (sought sense)) ≡ true
+  face_named = subst (λ (z : Kind). has_way z.name (way.at_face (sought sense)) ≡ true) (sym is) (by sense)
     where
-      by : (s : Sense) → has_way (standard_kind (at_face s)).name (way.at_face s) ≡ true
+      by : (s : Sense) → has_way (standard_kind (at_face s)).name (way.at_face (sought s)) ≡ true
       by Maximal = refl
       by Minimal = refl
 

@@ -1,6 +1,7 @@
 -- The lines of a script.
 use Rattle.std.specs.Prelude.{ℕ, ◌==◌, ◌||◌, Bool, true, false, List, [], ◌∷◌, length, nat_lt, if◌then◌else◌}
 use Rattle.std.specs.List.{list_all}
+use Rattle.pm_limits.specs.Limits.{most_line_bytes}
 
 -- the bytes before the line's LF, or before the end of the script, and whether an LF ended it
 pub record Line : Type 0 where
@@ -26,9 +27,9 @@ without_last_cr (b ∷ c ∷ bytes) = b ∷ without_last_cr (c ∷ bytes)
 abbrev pub text_of : Line → List ℕ
 text_of line = if line.ended then without_last_cr line.bytes else line.bytes
 
--- the line has more than 1,048,576 bytes, a CR counted
+-- the line has more than most_line_bytes bytes, a CR counted
 abbrev pub is_too_long : Line → Bool
-is_too_long line = nat_lt 1048576 (length line.bytes)
+is_too_long line = nat_lt most_line_bytes (length line.bytes)
 
 abbrev pub is_blank : List ℕ → Bool
 is_blank text = list_all (λ b. b == 32 || b == 9) text

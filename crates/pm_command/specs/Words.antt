@@ -4,6 +4,7 @@ use Rattle.std.specs.Char.{is_ascii_alphabetic, is_ascii_alphanumeric, is_ascii_
 use Rattle.std.specs.List.{list_all, list_any, before_first, after_first, slice_split}
 use Rattle.std.specs.Str.{bytes_eq}
 use Rattle.std.specs.Str.Parse.{digits_value}
+use Rattle.pm_limits.specs.Limits.{most_asked}
 
 abbrev pub is_space : ℕ → Bool
 is_space b = b == 32
@@ -49,10 +50,6 @@ with_word words w = if list_any (bytes_eq w) words then words else words ++ w �
 -- the different words, in the order in which each comes first
 abbrev pub distinct : List (List ℕ) → List (List ℕ)
 distinct words = fold with_word [] words
-
--- the greatest number of properties that are asked at once
-abbrev pub most_asked : ℕ
-most_asked = 4
 
 -- property words, of which at most four are different
 abbrev pub are_asked : List (List ℕ) → Bool

@@ -2,24 +2,23 @@
 
 ghost use Rattle.pm_command.specs.Commands.{Spoken, ref_of, part_of, property_of, type_of, json_of, new_line, take_line, give_line, lookup_line, ensure_line, explain_line, history_line, is_on_files, disable_line, unload_line, copy_line, drop_line, file_line, load_line, origin_line, object_line, save_line, chain_line, line_of, command_of, seen_ref, spoken};
 ghost use Rattle.pm_command.specs.Grammar.{Speaks};
-ghost use Rattle.pm_command.specs.Words.{are_asked, distinct, is_property_word, most_asked, words_of};
+ghost use Rattle.pm_command.specs.Words.{are_asked, distinct, is_property_word, words_of};
 ghost use Rattle.pm_command.specs.declared.command.LineFail.TheVariants.{Memory};
 ghost use Rattle.std.specs.List.{list_all, list_any};
 ghost use Rattle.std.specs.Prelude.{IfErr, IfOk, None, OnOk, Some, false, length, map, nat_le, string_bytes, true, ◌≡◌};
 ghost use Rattle.std.specs.Str.{bytes_eq};
+ghost use Rattle.pm_limits.specs.Limits.{most_asked};
 
 use crate::building::{Building, read_build_words};
 use crate::lines::is_silent;
 use crate::words::{
     is_client_word, is_label, is_name, is_property_word, is_type_word, split_dot, split_word,
 };
+use pm_limits::MOST_ASKED;
 use pm_store::is_file_word;
 use std::alloc::{AllocError, Global};
 use std::str;
 use thiserror::Error;
-
-/// The greatest number of properties that are asked at once.
-pub const MOST_ASKED: usize = 4;
 
 /// The name of an object, or of a part of one: NAME or NAME.SUB.
 #[derive(Debug, Drop)]

@@ -3,9 +3,8 @@
 ghost use Rattle.pm_command.specs.Lines.{Line as LineOf, lines_of, without_last_cr, text_of, is_too_long, is_silent, is_blank};
 ghost use Rattle.std.specs.Prelude.{ℕ, ◌∷◌, ◌==◌, ◌<◌, ◌≤◌, ◌≡◌, ◌≢◌, length, slice_index};
 
+use pm_limits::MOST_LINE_BYTES;
 use std::marker::Model;
-
-const LINE_LIMIT: usize = 1_048_576;
 
 /// A line, without the LF that ended it, if one did.
 #[derive(Drop)]
@@ -38,11 +37,11 @@ impl<'a> Line<'a> {
         Line { bytes, ended }
     }
 
-    /// Whether the line has more than 1,048,576 bytes.
+    /// Whether the line has more than `MOST_LINE_BYTES` bytes.
     pub fn is_too_long(&self) -> bool
         ensures { result ≡ is_too_long self.now }
     {
-        self.bytes.len() > LINE_LIMIT
+        self.bytes.len() > MOST_LINE_BYTES
     }
 
     /// The line's bytes without the CR just before its LF.

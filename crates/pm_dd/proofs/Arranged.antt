@@ -38,6 +38,7 @@ use Rattle.pm_dd.proofs.StepLaws.{at_place, flat_on}
 use Rattle.pm_dd.proofs.Tables.{among_of_map}
 use lib.IntN.{pos}
 use lib.Signed.{◌≤ℤ◌}
+use Rattle.pm_limits.specs.Limits.{most_rows}
 
 module _ (n : ℕ) (X E J : List Row) (start : ℕ) (hX : HasCols n X) (a : IsArrangement X E J start) where
   -- the rows that enlarge the span, and the others
@@ -234,7 +235,7 @@ module _ (n : ℕ) (X E J : List Row) (start : ℕ) (hX : HasCols n X) (a : IsAr
       many = m.many;
     }
 
-    pub order_many : f ≤ length J → (V : List Row) → IsOrder n (HalfSpaces E (take f J)) V → 2048 < length V → IsCrowded n X (f + 2 * length E) V
+    pub order_many : f ≤ length J → (V : List Row) → IsOrder n (HalfSpaces E (take f J)) V → most_rows < length V → IsCrowded n X (f + 2 * length E) V
     order_many l V o m = many_shown l V (record { extreme = o.each; apart = o.once; many = m })
 
     line_basis : (N : List Row) (P : List ℕ) → IsNullBasis n (E ++ take start J) N P → IsLinealityBasis n (CutOut (take (f + 2 * length E) ((E ++ take start J) ++ (map opposite E ++ drop start J)))) N P

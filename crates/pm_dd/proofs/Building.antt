@@ -37,6 +37,7 @@ use Rattle.pm_dd.proofs.Tables.{count_filter, scan_is_right, zero_set_of_pair, z
 use native.Mathlib.Decide.{ℕ_discrete}
 use lib.IntN.{ℤ, pos, ◌-ℤ◌, ◌*ℤ◌}
 use lib.Signed.{◌<ℤ◌, ◌≤ℤ◌, lt_z_yes}
+use Rattle.pm_limits.specs.Limits.{most_rows}
 
 pub halves_cone_set : (E J : List Row) → IsConeSet (HalfSpaces E J)
 halves_cone_set E J = record {
@@ -192,7 +193,7 @@ module _ (n : ℕ) (E J : List Row) (f : ℕ) (lf : f < length J) (V : List Row)
     of_next : (x : Row) → length x ≡ n → HalfSpaces E (take (suc f) J) x → NextSet E J f x
     of_next x lx h = (h.0, (cut_front J f lf x).0 h.1)
 
-    pub built_many : (seen : Source → Type 0) (W : List Row) (Y : List (List Bool)) → IsBuilt n E J f V seen W Y → 2048 < length W → AreTooMany n (HalfSpaces E (take (suc f) J)) W
+    pub built_many : (seen : Source → Type 0) (W : List Row) (Y : List (List Bool)) → IsBuilt n E J f V seen W Y → most_rows < length W → AreTooMany n (HalfSpaces E (take (suc f) J)) W
     built_many seen W Y b many = record {
       extreme = λ k d l. rw (get_or_default W k d [] l) (extreme_as n (NextSet E J f) (HalfSpaces E (take (suc f) J)) to_next of_next (made_extreme (get_or b.sources k (kept 0)) (ray W k) (zero_set Y k) (b.made k l)));
       apart = λ i j d l m t.

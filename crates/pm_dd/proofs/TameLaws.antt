@@ -29,6 +29,7 @@ use Rattle.pm_dd.proofs.Stated.{among_rows}
 use Rattle.pm_dd.proofs.StepLaws.{at_place}
 use lib.IntN.{ℤ, pos, negsuc, neg_ℤ, ◌+ℤ◌, ◌-ℤ◌, ◌*ℤ◌}
 use lib.Signed.{◌<ℤ◌, ◌≤ℤ◌}
+use Rattle.pm_limits.specs.Limits.{most_columns}
 
 -- ---- bounds on both sides
 Within : ℕ → ℤ → Type 0
@@ -130,7 +131,7 @@ dot_below [] r ha hr = (omega (arith, ints), omega (arith, ints))
 dot_below (a ∷ as') [] ha hr = (omega (arith, ints), omega (arith, ints))
 dot_below (a ∷ as') (x ∷ xs) ha hr = dot_more (a *ℤ x) (dot as' xs) (length as') (product_below (2 ^ 20) (2 ^ 40) a x (ha 0) (hr 0)) (dot_below as' xs (λ i. ha (suc i)) (λ i. hr (suc i)))
 
-dot_small : (a r : Row) → length a ≤ 33 → IsSmall 20 a → IsSmall 40 r → unsigned_abs (dot a r) < 2 ^ 66
+dot_small : (a r : Row) → length a ≤ most_columns → IsSmall 20 a → IsSmall 40 r → unsigned_abs (dot a r) < 2 ^ 66
 unfolding Within
 dot_small a r l ha hr = let b = dot_below a r ha hr in let b0 = b.0 in let b1 = b.1 in abs_within (2 ^ 66) (dot a r) (omega (arith, ints), omega (arith, ints))
 
@@ -151,13 +152,13 @@ front_small k j x h i = elim (cases_lt i j) [
   | inr m ↦ let e : entry (take j x) i ≡ pos 0 = get_or_past (take j x) i (pos 0) (length_taken j i x m) in rw e (pow_pos k)
 ]
 
-products_stay : (a r : Row) → length a ≤ 33 → IsSmall 20 a → IsSmall 40 r → ProductsStay a r
+products_stay : (a r : Row) → length a ≤ most_columns → IsSmall 20 a → IsSmall 40 r → ProductsStay a r
 products_stay a r l ha hr = record {
   products = λ i. let p = product_below (2 ^ 20) (2 ^ 40) (entry a i) (entry r i) (ha i) (hr i) in omega arith;
   sums = λ k. let d = dot_small (take k a) (take k r) (let f = length_front k a in omega arith) (front_small 20 k a ha) (front_small 40 k r hr) in omega arith;
 }
 
-combination_stays : (a r s : Row) (p q : ℤ) (c : ℕ) → length a ≤ 33 → IsSmall 20 a → IsSmall 40 r → IsSmall 40 s → IsFactors (dot a s) (dot a r) p q → EntryStays p (entry s c) q (entry r c)
+combination_stays : (a r s : Row) (p q : ℤ) (c : ℕ) → length a ≤ most_columns → IsSmall 20 a → IsSmall 40 r → IsSmall 40 s → IsFactors (dot a s) (dot a r) p q → EntryStays p (entry s c) q (entry r c)
 combination_stays a r s p q c l ha hr hs f =
     let g = gcd_positive (dot a s) (dot a r) p q f in
     let hp = factor_below (2 ^ 66) (dot a r) p f.g g f.first (dot_small a r l ha hr) in
@@ -178,7 +179,7 @@ module _ (n : ℕ) (X : List Row) (hX : HasCols n X) (t : AreTame n X) where
       a_small : IsSmall 20 (row_at w.ordered f)
       a_small = among_All (IsSmall 20) next_in t.small
 
-      a_length : length (row_at w.ordered f) ≤ 33
+      a_length : length (row_at w.ordered f) ≤ most_columns
       a_length = let c = Rattle.pm_geom.proofs.Polar.cols_at next_in hX in let l = t.few_columns in omega arith
 
       r_small : IsSmall 40 r

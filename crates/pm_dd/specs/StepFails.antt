@@ -19,6 +19,7 @@ use Rattle.pm_dd.specs.declared.fails.CombinationFail.TheVariants.{Column, NoMem
 use Rattle.pm_dd.specs.declared.fails.StepFail.{StepFail}
 use Rattle.pm_dd.specs.declared.fails.StepFail.TheVariants.{Product, Pair, Many, Memory}
 use lib.IntN.{ℤ}
+use Rattle.pm_limits.specs.Limits.{most_rows}
 
 -- in the column c a product or the difference of (p/g) s - (q/g) r leaves the range, where g is the greatest common divisor of |q| and p
 pub record IsWideFactors (r : Row) (p : ℤ) (s : Row) (q : ℤ) (c : ℕ) : Type 0 where
@@ -59,11 +60,11 @@ IfProduct (Pair i j c) Q = ⊥
 IfProduct (Many W) Q = ⊥
 IfProduct Memory Q = Unit {0}
 
--- more than 2,048 extreme rows of S, no two alike
+-- more than most_rows extreme rows of S, no two alike
 pub record AreTooMany (n : ℕ) (S : Row → Type 0) (W : List Row) : Type 0 where
   pub extreme : All (IsExtreme n S) W
   pub apart : AllPairs (λ v w. ¬ (SameModulo n S v w)) W
-  pub many : 2048 < length W
+  pub many : most_rows < length W
 
 -- the refusal names a ray whose product with the next row leaves the range, an adjacent pair with a column in which its combination does, or too many extreme rays of the next cone
 abbrev pub IsStepFail : ℕ → List Row → List Row → ℕ → List Row → StepFail → Type 0

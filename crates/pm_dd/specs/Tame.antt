@@ -10,14 +10,15 @@ use Rattle.pm_elim.specs.declared.evidence.ElimList.{ElimList}
 use Rattle.pm_geom.specs.Cones.{CutOut, IsExtreme, SameModulo}
 use Rattle.pm_geom.specs.Generators.{IsCanonicalRay}
 use Rattle.pm_geom.specs.StatedOrder.{IsStatedFront, rows_marked}
+use Rattle.pm_limits.specs.Limits.{most_columns, most_rows}
 
 -- each entry of x is less than 2^k in size
 abbrev pub IsSmall : ℕ → Row → Type 0
 IsSmall k x = (i : ℕ) → unsigned_abs (entry x i) < 2 ^ k
 
--- each front of the stated order that spans the rows cuts out a cone with at most 2,048 extreme rays, whose canonical rows have entries below 2^40 in size
+-- each front of the stated order that spans the rows cuts out a cone with at most most_rows extreme rays, whose canonical rows have entries below 2^40 in size
 pub record FrontsAreSmall (n : ℕ) (X : List Row) : Type 0 where
-  pub few : (Y : List Row) (f : ℕ) → IsStatedFront X Y f → (V : List Row) → All (IsExtreme n (CutOut (take f Y))) V → AllPairs (λ v w. ¬ (SameModulo n (CutOut (take f Y)) v w)) V → length V ≤ 2048
+  pub few : (Y : List Row) (f : ℕ) → IsStatedFront X Y f → (V : List Row) → All (IsExtreme n (CutOut (take f Y))) V → AllPairs (λ v w. ¬ (SameModulo n (CutOut (take f Y)) v w)) V → length V ≤ most_rows
   pub small : (Y : List Row) (f : ℕ) → IsStatedFront X Y f → (r : Row) → IsCanonicalRay n (CutOut (take f Y)) r → IsSmall 40 r
 
 -- every basis row and every partly reduced row of the elimination of the rows X, of m entries each, has entries below 2^62 in size
@@ -31,7 +32,7 @@ pub record EliminationsAreSmall (n : ℕ) (X : List Row) : Type 0 where
 
 -- the rows X, with n entries each, are tame
 pub record AreTame (n : ℕ) (X : List Row) : Type 0 where
-  pub few_columns : n ≤ 33
+  pub few_columns : n ≤ most_columns
   pub small : All (IsSmall 20) X
   pub fronts : FrontsAreSmall n X
   pub whole : EliminationsAreSmall n X

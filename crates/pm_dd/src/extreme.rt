@@ -7,6 +7,7 @@ ghost use Rattle.pm_elim.specs.NullSpaces.{IsNullBasis};
 ghost use Rattle.pm_geom.specs.Cones.{CutOut};
 ghost use Rattle.pm_geom.specs.Generators.{AreGenerators};
 ghost use Rattle.std.specs.Prelude.{IfErr, IfOk, List, length, ◌<◌, ◌^◌, ◌≤◌, ℕ};
+ghost use Rattle.pm_limits.specs.Limits.{most_rows};
 
 use crate::fails::DdFail;
 use crate::first::{first_rows, start_rays};
@@ -35,7 +36,7 @@ fn stated_rays(alloc: Global, rows: &[Ints], cols: usize) -> Result<Generators, 
     requires few_rows { length rows.now < 2 ^ 30 }
     requires few_columns { cols < 2 ^ 30 }
     ensures generators { IfOk result (λ g. AreGenerators cols (CutOut rows.now) g.rays.items g.lineality.items) }
-    ensures few { IfOk result (λ g. length g.rays.items ≤ 2048) }
+    ensures few { IfOk result (λ g. length g.rays.items ≤ most_rows) }
     ensures shown { IfErr result (λ f. IsShown cols rows.now f) }
 {
     let order = arranged(alloc, rows, cols)?;
@@ -63,15 +64,15 @@ fn stated_rays(alloc: Global, rows: &[Ints], cols: usize) -> Result<Generators, 
 }
 
 /// All extreme rays of the cone of the rows with `cols` entries that have a non-negative product with each of `rows`, and the echelon basis of its lineality.
-/// The rays are primitive, with zeros in the pivot columns of that basis, each once and in lexicographic order; there are at most 2,048 of them.
+/// The rays are primitive, with zeros in the pivot columns of that basis, each once and in lexicographic order; there are at most `MOST_ROWS` of them.
 /// The rows are first tried in a mixed order. Where that run leaves the range or has too many rays, the stated order is run, and its answer or refusal counts.
-/// `Wide` only with evidence: E1 on the rows, or on those that enlarge the span of the ones before them; or E2 on a front of the stated order. `Many` only with more than 2,048 extreme rays of the cone of such a front (E5).
+/// `Wide` only with evidence: E1 on the rows, or on those that enlarge the span of the ones before them; or E2 on a front of the stated order. `Many` only with more than `MOST_ROWS` extreme rays of the cone of such a front (E5).
 pub fn extreme_rays(alloc: Global, rows: &[Ints], cols: usize) -> Result<Generators, DdFail>
     requires columns { HasCols cols rows.now }
     requires few_rows { length rows.now < 2 ^ 30 }
     requires few_columns { cols < 2 ^ 30 }
     ensures generators { IfOk result (λ g. AreGenerators cols (CutOut rows.now) g.rays.items g.lineality.items) }
-    ensures few { IfOk result (λ g. length g.rays.items ≤ 2048) }
+    ensures few { IfOk result (λ g. length g.rays.items ≤ most_rows) }
     ensures shown { IfErr result (λ f. IsShown cols rows.now f) }
     ensures tame { AreTame cols rows.now → IfErr result IsMemory }
 {

@@ -16,8 +16,8 @@ pub enum DdFail {
     /// A number leaves the range: in a step of an elimination, or of double description.
     #[error("a step leaves the range")]
     Wide(Evidence),
-    /// Some cone on the way has more than 2,048 extreme rays.
-    #[error("more than 2,048 extreme rays")]
+    /// Some cone on the way has more than `MOST_ROWS` extreme rays.
+    #[error("too many extreme rays")]
     Many(Evidence),
     #[error("out of memory")]
     Memory,
@@ -67,7 +67,7 @@ pub enum StepFail {
         second: usize,
         column: usize,
     },
-    /// These are more than 2,048 extreme rays of the next cone.
+    /// These are more than `MOST_ROWS` extreme rays of the next cone.
     Many(Vec<Ints>),
     Memory,
 }

@@ -11,11 +11,11 @@ ghost use Rattle.pm_elim.specs.Evidence.{IsEvidence};
 ghost use Rattle.std.specs.Prelude.{IfErr, IfOk, length, take, ◌++◌, ◌+◌, ◌<◌, ◌^◌, ◌≡◌, ◌≤◌};
 
 use crate::fails::DdFail;
-use crate::pairs::MOST_RAYS;
 use crate::rays::Rays;
 use pm_bits::{BitRow, BitTable};
 use pm_elim::{DualFail, copies, dual_basis};
 use pm_geom::{Evidence, RowList};
+use pm_limits::MOST_ROWS;
 use pm_vector::Ints;
 use std::alloc::{AllocError, Global};
 
@@ -104,7 +104,7 @@ pub fn start_rays(
     requires independent { IsIndependent (equations.now ++ take start rows.now) }
     ensures table { IfOk result (λ r. IsRayTable cols equations.now rows.now start r.rows.items r.zeros.rows) }
     ensures row_len { IfOk result (λ r. r.zeros.row_len ≡ length rows.now) }
-    ensures few { IfOk result (λ r. length r.rows.items ≤ MOST_RAYS) }
+    ensures few { IfOk result (λ r. length r.rows.items ≤ MOST_ROWS) }
     ensures reduced { IfOk result (λ r. AreReduced cols (equations.now ++ take start rows.now) r.rows.items) }
     ensures shown { IfErr result (IsShownOnRows cols equations.now rows.now start) }
 {
@@ -114,7 +114,7 @@ pub fn start_rays(
         Err(DualFail::Wide(step)) => return Err(DdFail::Wide(Evidence::E1(step))),
         Err(DualFail::Memory) => return Err(DdFail::Memory),
     };
-    if rays.rows.len() > MOST_RAYS {
+    if rays.rows.len() > MOST_ROWS {
         return Err(DdFail::Many(Evidence::E5Rays {
             front: (start + 2 * equations.len()) as u32,
             rays: RowList::from_vec(rays.rows),

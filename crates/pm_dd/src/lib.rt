@@ -25,7 +25,6 @@ pub mod step;
 
 pub use extreme::extreme_rays;
 pub use fails::{DdFail, StepFail};
-pub use pairs::MOST_RAYS;
 pub use pm_geom::descriptions::Generators;
 
 /// One step of double description: the extreme rays of the next cone are the kept ones and the combinations of adjacent pairs, and no two are alike.

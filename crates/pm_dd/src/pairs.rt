@@ -16,11 +16,9 @@ use crate::fails::{CombinationFail, StepFail};
 use crate::near::{near_negatives, unions_of};
 use crate::rays::{Ray, Rays};
 use pm_bits::BitRow;
+use pm_limits::MOST_ROWS;
 use pm_vector::Ints;
 use std::alloc::Global;
-
-/// The most extreme rays that a cone on the way may have.
-pub const MOST_RAYS: usize = 2048;
 
 /// The number of rows that an adjacent pair needs in common beyond the leading equations: the rank less these and 2.
 fn needed(rank: usize, equations: usize) -> usize
@@ -101,9 +99,9 @@ pub(crate) fn paired_rays(
     requires products { AreProducts (row_at rows.now front) rays.now.rows.items values.now }
     requires new_len { made.zeros.row_len ≡ length rows.now }
     requires kept { IsBuilt cols equations.now rows.now front rays.now.rows.items (SeenKept (length rays.now.rows.items)) made.rows.items made.zeros.rows }
-    requires few { length made.rows.items ≤ MOST_RAYS }
+    requires few { length made.rows.items ≤ MOST_ROWS }
     ensures row_len { IfOk result (λ r. r.zeros.row_len ≡ length rows.now) }
-    ensures few { IfOk result (λ r. length r.rows.items ≤ MOST_RAYS) }
+    ensures few { IfOk result (λ r. length r.rows.items ≤ MOST_ROWS) }
     ensures form { IfOk result (λ r. KeepForm rays.now.rows.items r.rows.items) }
     ensures table { IfOk result (λ r. IsRayTable cols equations.now rows.now (front + 1) r.rows.items r.zeros.rows) }
     ensures wide { IfErr result (λ f. IsStepFail cols equations.now rows.now front rays.now.rows.items f) }
@@ -131,7 +129,7 @@ pub(crate) fn paired_rays(
             let Ok(()) = zeros.push(ray.zeros) else {
                 return Err(StepFail::Memory);
             };
-            if next.len() > MOST_RAYS {
+            if next.len() > MOST_ROWS {
                 return Err(StepFail::Many(next));
             }
         }

@@ -11,10 +11,10 @@ ghost use Rattle.pm_geom.specs.Cones.{IsOrder};
 ghost use Rattle.std.specs.Prelude.{IfErr, IfOk, length, take, ◌*◌, ◌++◌, ◌+◌, ◌<◌, ◌^◌, ◌≡◌, ◌≤◌};
 
 use crate::fails::{DdFail, StepFail};
-use crate::pairs::MOST_RAYS;
 use crate::rays::Rays;
 use crate::step::next_rays;
 use pm_geom::{Evidence, RowList};
+use pm_limits::MOST_ROWS;
 use pm_vector::Ints;
 use std::alloc::{AllocError, Global};
 
@@ -107,11 +107,11 @@ pub fn rays_after(
     requires rank { IsRank (equations.now ++ rows.now) (length equations.now + start) }
     requires table { IsRayTable cols equations.now rows.now front rays.now.rows.items rays.now.zeros.rows }
     requires row_len { rays.now.zeros.row_len ≡ length rows.now }
-    requires few { length rays.now.rows.items ≤ MOST_RAYS }
+    requires few { length rays.now.rows.items ≤ MOST_ROWS }
     requires reduced { AreReduced cols (equations.now ++ take start rows.now) rays.now.rows.items }
     ensures table { IfOk result (λ r. IsRayTable cols equations.now rows.now (front + 1) r.rows.items r.zeros.rows) }
     ensures row_len { IfOk result (λ r. r.zeros.row_len ≡ length rows.now) }
-    ensures few { IfOk result (λ r. length r.rows.items ≤ MOST_RAYS) }
+    ensures few { IfOk result (λ r. length r.rows.items ≤ MOST_ROWS) }
     ensures reduced { IfOk result (λ r. AreReduced cols (equations.now ++ take start rows.now) r.rows.items) }
     ensures shown { IfErr result (IsShownOnRows cols equations.now rows.now start) }
 {
@@ -141,10 +141,10 @@ pub(crate) fn all_rays(
     requires rank { IsRank (equations.now ++ rows.now) (length equations.now + start) }
     requires table { IsRayTable cols equations.now rows.now start first.rows.items first.zeros.rows }
     requires row_len { first.zeros.row_len ≡ length rows.now }
-    requires few { length first.rows.items ≤ MOST_RAYS }
+    requires few { length first.rows.items ≤ MOST_ROWS }
     requires reduced { AreReduced cols (equations.now ++ take start rows.now) first.rows.items }
     ensures order { IfOk result (λ r. IsOrder cols (HalfSpaces equations.now rows.now) r.rows.items) }
-    ensures few { IfOk result (λ r. length r.rows.items ≤ MOST_RAYS) }
+    ensures few { IfOk result (λ r. length r.rows.items ≤ MOST_ROWS) }
     ensures reduced { IfOk result (λ r. AreReduced cols (equations.now ++ take start rows.now) r.rows.items) }
     ensures shown { IfErr result (IsShownOnRows cols equations.now rows.now start) }
 {

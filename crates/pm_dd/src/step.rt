@@ -12,9 +12,10 @@ ghost use Rattle.pm_vector.specs.Products.{ProductsStay};
 ghost use Rattle.std.specs.Prelude.{IfErr, IfOk, length, take, ◌++◌, ◌+◌, ◌<◌, ◌≡◌, ◌≤◌};
 
 use crate::fails::StepFail;
-use crate::pairs::{MOST_RAYS, paired_rays};
+use crate::pairs::paired_rays;
 use crate::rays::{Ray, Rays};
 use pm_bits::{BitRow, BitTable};
+use pm_limits::MOST_ROWS;
 use pm_vector::{Ints, dot};
 use std::alloc::{AllocError, Global};
 
@@ -107,9 +108,9 @@ pub(crate) fn next_rays(
     requires rank { IsRank (equations.now ++ take front rows.now) rank }
     requires table { IsRayTable cols equations.now rows.now front rays.now.rows.items rays.now.zeros.rows }
     requires row_len { rays.now.zeros.row_len ≡ length rows.now }
-    requires few { length rays.now.rows.items ≤ MOST_RAYS }
+    requires few { length rays.now.rows.items ≤ MOST_ROWS }
     ensures row_len { IfOk result (λ r. r.zeros.row_len ≡ length rows.now) }
-    ensures few { IfOk result (λ r. length r.rows.items ≤ MOST_RAYS) }
+    ensures few { IfOk result (λ r. length r.rows.items ≤ MOST_ROWS) }
     ensures form { IfOk result (λ r. KeepForm rays.now.rows.items r.rows.items) }
     ensures table { IfOk result (λ r. IsRayTable cols equations.now rows.now (front + 1) r.rows.items r.zeros.rows) }
     ensures wide { IfErr result (λ f. IsStepFail cols equations.now rows.now front rays.now.rows.items f) }

@@ -28,6 +28,7 @@ use Rattle.std.proofs.lemmas.List.Sums.{list_all-from_AllPass}
 use Rattle.std.specs.List.{All, filter, list_all, range_with_len, slice_index_or}
 use Rattle.std.specs.Prelude.{Bool, List, None, [], drop, if◌then◌else◌, length, nat_eq, nat_le, suc, unsigned_abs, ℕ, ◌&&◌, ◌<◌, ◌||◌, ◌∷◌, ◌≡◌, ◌≤◌}
 use lib.IntN.{pos}
+use Rattle.pm_limits.specs.Limits.{most_columns, most_rows}
 
 -- ---- rows without their first coordinate
 record IsCutRow (n : ℕ) (r : List Ratio) : Type 0 where
@@ -73,11 +74,11 @@ second : (a b : Bool) → b ≡ true → (a || b) ≡ true
 second true b p = refl
 second false b p = p
 
-rows_form : (n : ℕ) (p : PropId) → IsOfFan p → (rows : List (List Ratio)) → 1 ≤ n → n ≤ 33 → length rows ≤ 2048 → All (IsCutRow n) rows → list_all (is_row Fan p) rows ≡ true → FormsIn Fan n p (value_over n rows)
+rows_form : (n : ℕ) (p : PropId) → IsOfFan p → (rows : List (List Ratio)) → 1 ≤ n → n ≤ most_columns → length rows ≤ most_rows → All (IsCutRow n) rows → list_all (is_row Fan p) rows ≡ true → FormsIn Fan n p (value_over n rows)
 rows_form n p h [] some few all cuts pass = record { formed = formed_of p h 0 []; columns = agrees_of p h n 0 []; rows = refl; entries = All-nil (All IsFraction); primitive = All-nil HasPrimitiveRow }
 rows_form n p h (r ∷ rows) some few all cuts pass = record {
   formed = formed_of p h n (r ∷ rows)
-      ∙ three (nat_le (length (r ∷ rows)) 2048) (is_column_count (r ∷ rows) n) (list_all (is_row_of_entries n) (r ∷ rows)) (le-leb (length (r ∷ rows)) 2048 all) (and_from (nat_le 1 n) (nat_le n 33) (le-leb 1 n some) (le-leb n 33 few))
+      ∙ three (nat_le (length (r ∷ rows)) most_rows) (is_column_count (r ∷ rows) n) (list_all (is_row_of_entries n) (r ∷ rows)) (le-leb (length (r ∷ rows)) most_rows all) (and_from (nat_le 1 n) (nat_le n most_columns) (le-leb 1 n some) (le-leb n most_columns few))
       (list_all-from_AllPass (is_row_of_entries n) (r ∷ rows) (All-weaker (IsCutRow n) (λ x. is_row_of_entries n x ≡ true) (λ x g. eq-eqb (length x) n g.cols) (r ∷ rows) cuts));
   columns = agrees_of p h n n (r ∷ rows) ∙ second (nat_eq n 0) (nat_eq n n) (eq-eqb n n refl);
   rows = pass;
@@ -88,12 +89,12 @@ rows_form n p h (r ∷ rows) some few all cuts pass = record {
 sets_form : (n : ℕ) (s : IndexSets) → is_sets_form s.rows s.cols ≡ true → FormsIn Fan n MaximalCones (value_of_sets s)
 sets_form n s f = record { formed = f; columns = refl; rows = refl; entries = All-nil (All IsFraction); primitive = All-nil HasPrimitiveRow }
 
-dimension_form : (n : ℕ) → 1 ≤ n → n ≤ 33 → FormsIn Fan n ConeAmbientDim (whole (pos n))
-dimension_form n some few = record { formed = and_from (nat_le 1 n) (nat_le n 33) (le-leb 1 n some) (le-leb n 33 few); columns = eq-eqb n n refl; rows = refl; entries = All-nil (All IsFraction); primitive = All-nil HasPrimitiveRow }
+dimension_form : (n : ℕ) → 1 ≤ n → n ≤ most_columns → FormsIn Fan n ConeAmbientDim (whole (pos n))
+dimension_form n some few = record { formed = and_from (nat_le 1 n) (nat_le n most_columns) (le-leb 1 n some) (le-leb n most_columns few); columns = eq-eqb n n refl; rows = refl; entries = All-nil (All IsFraction); primitive = All-nil HasPrimitiveRow }
 
 -- ---- the normal fan
 -- the index sets, of the number of vertices, over the number of rays
-normal_sets_form : (o : State) → length (sets_at VerticesInFacets o).rows ≡ length (rows_at Facets o) → length (rows_at Facets o) ≤ 2048 → length (rows_at Vertices o) ≤ 2048 → is_sets_form (normal_cones o).rows (normal_cones o).cols ≡ true
+normal_sets_form : (o : State) → length (sets_at VerticesInFacets o).rows ≡ length (rows_at Facets o) → length (rows_at Facets o) ≤ most_rows → length (rows_at Vertices o) ≤ most_rows → is_sets_form (normal_cones o).rows (normal_cones o).cols ≡ true
 normal_sets_form o same facets vertices =
     let S = (sets_at VerticesInFacets o).rows in
     let K = filter has_members S in
@@ -101,8 +102,8 @@ normal_sets_form o same facets vertices =
     let rays = length-map (with_members S (rows_at Facets o)) (λ (r : List Ratio). drop 1 r) in
     let kept = kept_length S (rows_at Facets o) same in
     let few = kept_few S (rows_at Facets o) in
-    three (nat_le (length (normal_cones o).rows) 2048) (nat_le (normal_cones o).cols 2048) (list_all (are_indices (normal_cones o).cols 0) (normal_cones o).rows)
-    (le-leb (length (normal_cones o).rows) 2048 (omega arith)) (le-leb (normal_cones o).cols 2048 (omega arith))
+    three (nat_le (length (normal_cones o).rows) most_rows) (nat_le (normal_cones o).cols most_rows) (list_all (are_indices (normal_cones o).cols 0) (normal_cones o).rows)
+    (le-leb (length (normal_cones o).rows) most_rows (omega arith)) (le-leb (normal_cones o).cols most_rows (omega arith))
     (all_ascend (normal_cones o).cols (holders_from 0 K) (range_with_len 0 (length (rows_at Vertices o))) (λ j. holders_ascend (normal_cones o).cols 0 0 K j (omega arith) (omega arith)))
 
 normal_forms : (a : State) → IsFormed a → IsReadable normal_reads a → normal_refusal a ≡ None → HaveForms (fan_cols a) (normal_fan_of a)
@@ -118,8 +119,8 @@ normal_forms a f r h =
     let same = eqb-true (length (sets_at VerticesInFacets a).rows) (length (rows_at Facets a)) matched.0 in
     let cols : cols_at a ≡ suc (fan_cols a) = omega arith in
     let pass = and_parts (list_all (is_row Fan Vertices) (normal_rays a)) (list_all (is_row Fan LinealitySpace) (cut (rows_at AffineHull a)) && true) parts.3 in
-    let few : length (normal_rays a) ≤ 2048 = (let l = facets.few in let m = kept_few (sets_at VerticesInFacets a).rows (rows_at Facets a) in let e = length-map (with_members (sets_at VerticesInFacets a).rows (rows_at Facets a)) (λ (r : List Ratio). drop 1 r) in omega arith) in
-    let lines : length (cut (rows_at AffineHull a)) ≤ 2048 = (let l = hull.few in let e = length-map (rows_at AffineHull a) (λ (r : List Ratio). drop 1 r) in omega arith) in
+    let few : length (normal_rays a) ≤ most_rows = (let l = facets.few in let m = kept_few (sets_at VerticesInFacets a).rows (rows_at Facets a) in let e = length-map (with_members (sets_at VerticesInFacets a).rows (rows_at Facets a)) (λ (r : List Ratio). drop 1 r) in omega arith) in
+    let lines : length (cut (rows_at AffineHull a)) ≤ most_rows = (let l = hull.few in let e = length-map (rows_at AffineHull a) (λ (r : List Ratio). drop 1 r) in omega arith) in
     let held = λ (p : PropId) (x : List Ratio) (g : IsHeldRow a.of p (cols_at a) x). subst (λ m. IsHeldRow a.of p m x) cols g in
     All-cons P (ConeAmbientDim, whole (pos (fan_cols a))) ((Vertices, value_over (fan_cols a) (normal_rays a)) ∷ (LinealitySpace, value_over (fan_cols a) (cut (rows_at AffineHull a))) ∷ (MaximalCones, value_of_sets (normal_cones a)) ∷ []) (dimension_form (fan_cols a) (omega arith) (omega arith))
     (All-cons P (Vertices, value_over (fan_cols a) (normal_rays a)) ((LinealitySpace, value_over (fan_cols a) (cut (rows_at AffineHull a))) ∷ (MaximalCones, value_of_sets (normal_cones a)) ∷ [])
@@ -134,7 +135,7 @@ normal_forms a f r h =
     P v = FormsIn Fan (fan_cols a) v.0 v.1
 
 -- ---- the face fan
-face_rays_form : (a : State) (t : Bool) → 1 ≤ fan_cols a → fan_cols a ≤ 33 → length (cut (rows_at Vertices a)) ≤ 2048 → All (IsCutRow (fan_cols a)) (cut (rows_at Vertices a)) → list_all (is_row Fan Vertices) (if t then [] else cut (rows_at Vertices a)) ≡ true
+face_rays_form : (a : State) (t : Bool) → 1 ≤ fan_cols a → fan_cols a ≤ most_columns → length (cut (rows_at Vertices a)) ≤ most_rows → All (IsCutRow (fan_cols a)) (cut (rows_at Vertices a)) → list_all (is_row Fan Vertices) (if t then [] else cut (rows_at Vertices a)) ≡ true
     → FormsIn Fan (fan_cols a) Vertices (value_over (fan_cols a) (if t then [] else cut (rows_at Vertices a)))
 face_rays_form a true some few all cuts pass = rows_form (fan_cols a) Vertices tt [] some few (omega arith) (All-nil (IsCutRow (fan_cols a))) refl
 face_rays_form a false some few all cuts pass = rows_form (fan_cols a) Vertices tt (cut (rows_at Vertices a)) some few all cuts pass
@@ -153,7 +154,7 @@ face_forms a f r h =
     let index = known_sets face_reads VerticesInFacets a tt f k (there (there here)) in
     let cols : cols_at a ≡ suc (fan_cols a) = omega arith in
     let pass = (and_parts (list_all (is_row Fan Vertices) (face_rays a)) true parts.3).0 in
-    let few : length (cut (rows_at Vertices a)) ≤ 2048 = (let l = vertices.few in let e = length-map (rows_at Vertices a) (λ (r : List Ratio). drop 1 r) in omega arith) in
+    let few : length (cut (rows_at Vertices a)) ≤ most_rows = (let l = vertices.few in let e = length-map (rows_at Vertices a) (λ (r : List Ratio). drop 1 r) in omega arith) in
     All-cons P (ConeAmbientDim, whole (pos (fan_cols a))) ((Vertices, value_over (fan_cols a) (face_rays a)) ∷ (MaximalCones, value_of_sets (face_cones a)) ∷ []) (dimension_form (fan_cols a) (omega arith) (omega arith))
     (All-cons P (Vertices, value_over (fan_cols a) (face_rays a)) ((MaximalCones, value_of_sets (face_cones a)) ∷ [])
     (face_rays_form a (is_point a) (omega arith) (omega arith) few

@@ -13,13 +13,14 @@ use Rattle.pm_props.specs.declared.property.PropId.TheVariants.{LinearObjective}
 use Rattle.pm_rules.specs.declared.rule.Rule.{Rule}
 use Rattle.pm_types.specs.Forms.{is_column_count, is_formed, is_matrix_form, is_matrix_of, is_row_of_entries, rows_in}
 use Rattle.pm_types.specs.Values.{PropertyValue, counts, edges, extended, lattice, matrix, sets, truth, whole}
+use Rattle.pm_limits.specs.Limits.{most_rows}
 
 -- ---- rows as values
 row_entries : (n : ℕ) (rows : List (List Ratio)) → is_matrix_of LinearObjective n rows ≡ true → entries_of rows ≡ n
 row_entries n [] h = absurd (true≢false (sym h))
 row_entries n (r ∷ rows) h =
     let form = (and_parts (nat_eq (length (r ∷ rows)) 1) (is_matrix_form n (r ∷ rows)) h).1 in
-    let all = (and_parts (nat_le (length (r ∷ rows)) 2048 && is_column_count (r ∷ rows) n) (list_all (is_row_of_entries n) (r ∷ rows)) form).1 in
+    let all = (and_parts (nat_le (length (r ∷ rows)) most_rows && is_column_count (r ∷ rows) n) (list_all (is_row_of_entries n) (r ∷ rows)) form).1 in
     eqb-true (length r) n (and_parts (is_row_of_entries n r) (list_all (is_row_of_entries n) rows) all).0
 
 pub value_of_rows : (n : ℕ) (rows : List (List Ratio)) → is_formed LinearObjective (matrix n rows) ≡ true → objective_value rows ≡ matrix n rows

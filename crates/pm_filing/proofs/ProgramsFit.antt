@@ -23,7 +23,7 @@ use Rattle.pm_filing.specs.Whole.{IsWhole, is_place, objective_of}
 use Rattle.pm_matrix.specs.Matrices.{FractionMatrix}
 use Rattle.pm_object.proofs.Formed.{is_not}
 use Rattle.pm_object.specs.Formed.{ArePrograms, are_different}
-use Rattle.pm_object.specs.State.{CanTake, HeldValue, State, agrees, cols_of, empty_object, has_rounds_at, holds_computed_at, is_computed, is_held, is_polytope, is_sealed_at, most_programs, place_from, program_refusal, read_at, value_of, with_program}
+use Rattle.pm_object.specs.State.{CanTake, HeldValue, State, agrees, cols_of, empty_object, has_rounds_at, holds_computed_at, is_computed, is_held, is_polytope, is_sealed_at, place_from, program_refusal, read_at, value_of, with_program}
 use Rattle.pm_object.specs.declared.held.Excluded.{Excluded}
 use Rattle.pm_props.proofs.Places.{same_property_is}
 use Rattle.pm_props.specs.NameWords.{is_name}
@@ -34,6 +34,7 @@ use Rattle.pm_props.specs.declared.set.PropSet.{PropSet}
 use Rattle.pm_rules.specs.declared.rule.Rule.{Rule}
 use Rattle.pm_types.specs.Forms.{are_rows}
 use Rattle.pm_types.specs.Values.{PropertyValue, matrix}
+use Rattle.pm_limits.specs.Limits.{most_programs}
 
 -- each value stands in the object itself or in one of its first k programs
 abbrev pub AreWithin : ℕ → List HeldValue → Type 0

@@ -25,6 +25,7 @@ use Rattle.pm_filing.specs.Laws.{ValuesAreReadBack}
 use Rattle.pm_files.specs.ValueJson.{array_of, cols_json, edges_json, extended_json, fraction_json, index_json, json_of, matrix_json, row_json, rows_json, set_json, sets_json, whole_json}
 use Rattle.serde_json.specs.Data.{Data, item}
 use lib.IntN.{ℤ, pos, negsuc}
+use Rattle.pm_limits.specs.Limits.{most_columns, most_faces, most_indices, most_places, most_rows}
 
 -- each of a list is a text of its element
 listed_texts : {A : Type 0} (Is : Data → A → Type 0) (f : A → Data) (xs : List A) → ((x : A) → Is (f x) x) → AreItems Is (listed (map f xs)) xs
@@ -118,11 +119,11 @@ all_sets_text rows n h = record {
   cols = subst (λ o. HasCols o n rows) (sym (cols_behind n rows)) refl;
 }
 
-ranks_text : (ranks : List (List (List ℕ))) → list_all (list_all (are_indices 2048 0)) ranks ≡ true → AreItems (IsArrayOf IsSetOf) (listed (map edges_json ranks)) ranks
+ranks_text : (ranks : List (List (List ℕ))) → list_all (list_all (are_indices most_indices 0)) ranks ≡ true → AreItems (IsArrayOf IsSetOf) (listed (map edges_json ranks)) ranks
 ranks_text [] h = tt
 ranks_text (faces ∷ ranks) h =
-    let p = and_parts (list_all (are_indices 2048 0) faces) (list_all (list_all (are_indices 2048 0)) ranks) h in
-    ((listed (map set_json faces), refl, sets_text 2048 faces p.0), ranks_text ranks p.1)
+    let p = and_parts (list_all (are_indices most_indices 0) faces) (list_all (list_all (are_indices most_indices 0)) ranks) h in
+    ((listed (map set_json faces), refl, sets_text most_rows faces p.0), ranks_text ranks p.1)
 
 -- ---- numbers
 number_text : (k : ℤ) → has_64_bits k ≡ true → whole_count_of (whole_json k) ≡ Ok k
@@ -134,7 +135,7 @@ numbers_text [] h = tt
 numbers_text (k ∷ ks) h = let p = and_parts (has_64_bits k) (list_all has_64_bits ks) h in (number_text k p.0, numbers_text ks p.1)
 
 dimension_bits : (k : ℤ) → is_dimension k ≡ true → has_64_bits k ≡ true
-dimension_bits (pos n) h = let p = and_parts (leb 1 n) (leb n 33) h in let few = leb-true n 33 p.1 in lt-ltb n 9223372036854775808 (omega arith)
+dimension_bits (pos n) h = let p = and_parts (leb 1 n) (leb n most_columns) h in let few = leb-true n most_columns p.1 in lt-ltb n 9223372036854775808 (omega arith)
 dimension_bits (negsuc n) h = absurd (true≢false (sym h))
 
 whole_bits : (p : PropId) (k : ℤ) → is_whole_form p k ≡ true → has_64_bits k ≡ true
@@ -170,19 +171,19 @@ text_is : (p : PropId) (v : PropertyValue) → is_formed p v ≡ true → AreFra
 text_is p (matrix n rows) form fractions = matrix_texts p n rows (and_parts (is_of_matrices (value_kind p)) (is_matrix_of p n rows) form).1 fractions
 text_is p (sets rows n) form fractions =
     let f = and_parts (is_of_sets (value_kind p)) (is_sets_form rows n) form in
-    all_sets_text rows n (and_parts (leb (length rows) 2048 && leb n 2048) (list_all (are_indices n 0) rows) f.1).1
+    all_sets_text rows n (and_parts (leb (length rows) most_rows && leb n most_rows) (list_all (are_indices n 0) rows) f.1).1
 text_is p (whole k) form fractions = whole_text p k (whole_bits p k form)
 text_is p (truth b) form fractions = refl
 text_is p (counts ks) form fractions =
     let f = and_parts (is_of_counts (value_kind p)) (is_counts_form ks) form in
-    (listed (map whole_json ks), refl, numbers_text ks (and_parts (leb (length ks) 2048) (list_all has_64_bits ks) f.1).1)
+    (listed (map whole_json ks), refl, numbers_text ks (and_parts (leb (length ks) most_rows) (list_all has_64_bits ks) f.1).1)
 text_is p (edges rows) form fractions =
     let f = and_parts (is_of_edges (value_kind p)) (is_edges_form rows) form in
     let s = and_parts (is_sets_form rows (length rows)) (are_joined_back rows 0 rows) f.1 in
-    (listed (map set_json rows), refl, sets_text (length rows) rows (and_parts (leb (length rows) 2048 && leb (length rows) 2048) (list_all (are_indices (length rows) 0) rows) s.0).1)
+    (listed (map set_json rows), refl, sets_text (length rows) rows (and_parts (leb (length rows) most_rows && leb (length rows) most_rows) (list_all (are_indices (length rows) 0) rows) s.0).1)
 text_is p (lattice ranks) form fractions =
     let f = and_parts (is_of_lattices (value_kind p)) (is_lattice_form ranks) form in
-    (listed (map edges_json ranks), refl, ranks_text ranks (and_parts (leb (sum_by length ranks) 65536 && leb (sum_by (sum_by length) ranks) 4000000) (list_all (list_all (are_indices 2048 0)) ranks) f.1).1)
+    (listed (map edges_json ranks), refl, ranks_text ranks (and_parts (leb (sum_by length ranks) most_faces && leb (sum_by (sum_by length) ranks) most_places) (list_all (list_all (are_indices most_indices 0)) ranks) f.1).1)
 text_is p (extended x) form fractions = extended_text x fractions
 
 pub values_back : ValuesAreReadBack

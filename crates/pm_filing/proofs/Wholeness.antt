@@ -19,7 +19,7 @@ use Rattle.pm_filing.proofs.Objectives.{objective_is}
 use Rattle.pm_filing.proofs.ProgramsRead.{AreNames, IsFront, count, each_count, few_programs, front_names, names_front, of_read, only_polytopes, plain_count, plain_differ, plain_words, programs_at, same_test}
 use Rattle.pm_filing.proofs.SuitLaws.{Tested, TestedSuits, all_at, is_tested, objective_tested, tested_suits}
 use Rattle.pm_filing.specs.Filing.{name_told}
-use Rattle.pm_filing.specs.FileParts.{FileFault, FileRead, Part, at_key, data_in, json_in, longest_file, members_in, no_type, not_json, objectives_of, or_else_fault, part_at, parts_in, programs, programs_part, property_at, read_as, then_read, too_long, type_in, value, value_part, is_programs_key, is_other_form}
+use Rattle.pm_filing.specs.FileParts.{FileFault, FileRead, Part, at_key, data_in, json_in, members_in, no_type, not_json, objectives_of, or_else_fault, part_at, parts_in, programs, programs_part, property_at, read_as, then_read, too_long, type_in, value, value_part, is_programs_key, is_other_form}
 use Rattle.pm_filing.specs.FileReadings.{Named, ReadsSeen, Seen, named_values, seen, seen_in, seen_of}
 use Rattle.pm_filing.specs.Profiles.{Profile, are_different, different_read, each_read, evidence_of, file_with, full_profile, if_different, if_held, if_name, is_profile_2, list_read, mark_among, mark_by, mark_of, mark_with, marks_in, names_held, no_marks, objectives_in, or_bad, plain_profile, profile_in, program_name_of, program_names, programs_by, programs_in, programs_with, same_label, stored_by, stored_property, values_in}
 use Rattle.pm_filing.specs.ReadingViews.{HaveFractions, are_formed_parts, is_formed_objective}
@@ -47,6 +47,7 @@ use Rattle.pm_types.specs.Values.{PropertyValue}
 use Rattle.serde_json.specs.Data.{Data, Items, Members, array, boolean, item, member, no_items, no_members, null, number, object, string}
 use Rattle.serde_json.specs.Find.{as_array, as_object, as_str, get, get_member}
 use Rattle.serde_json.specs.Read.{read}
+use Rattle.pm_limits.specs.Limits.{most_file_bytes}
 
 -- ---- steps of reading, backwards
 abbrev is_read : {A : Type 0} → FileRead A → Bool
@@ -88,7 +89,7 @@ if_from false x a h = absurd (none_some a h)
 
 -- ---- the members of a file ascend
 data_from : (bytes : List ℕ) (d : Data) → data_in bytes ≡ Ok d → read bytes ≡ Some d
-data_from bytes d h = by (nat_le (length bytes) longest_file) h
+data_from bytes d h = by (nat_le (length bytes) most_file_bytes) h
   where
     by : (b : Bool) → (if b then or_else_fault not_json (json_in bytes) else Err too_long) ≡ Ok d → read bytes ≡ Some d
     by true k = (if_from (is_utf8 bytes) (read bytes) d (some_from not_json (json_in bytes) d k)).1

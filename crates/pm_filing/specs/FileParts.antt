@@ -15,6 +15,7 @@ use Rattle.serde_json.specs.Data.{Data, Members, Items, item, no_items, member, 
 use Rattle.serde_json.specs.Find.{as_object, as_str, get}
 use Rattle.serde_json.specs.Read.{read}
 use Rattle.pm_files.specs.Files.{type_text}
+use Rattle.pm_limits.specs.Limits.{most_file_bytes}
 
 -- why a file is not read
 pub data FileFault : Type 0 where
@@ -52,11 +53,8 @@ then_read (Err fault) next = Err fault
 abbrev pub json_in : List ℕ → Option Data
 json_in bytes = if is_utf8 bytes then read bytes else None
 
-abbrev pub longest_file : ℕ
-longest_file = 8388608
-
 abbrev pub data_in : List ℕ → FileRead Data
-data_in bytes = if nat_le (length bytes) longest_file then or_else_fault not_json (json_in bytes) else Err too_long
+data_in bytes = if nat_le (length bytes) most_file_bytes then or_else_fault not_json (json_in bytes) else Err too_long
 
 -- ---- the type
 -- the type of this text

@@ -10,7 +10,7 @@ use thiserror::Error;
 /// Why a data file is not read.
 #[derive(Debug, Drop, Error)]
 pub enum FileFail {
-    /// It has more than 8,388,608 bytes.
+    /// It has more than `MOST_FILE_BYTES` bytes.
     #[error("limit")]
     Limit,
     /// It is no JSON.

@@ -11,12 +11,12 @@ ghost use Rattle.pm_object.specs.Formed.{ArePrograms};
 ghost use Rattle.pm_object.specs.State.{CanTake, HeldValue, is_held, program_refusal, read_at, with_held, with_program};
 ghost use Rattle.pm_props.specs.Properties.{has as has_property};
 ghost use Rattle.pm_props.specs.declared.property.PropId.TheVariants.{LinearObjective};
-ghost use Rattle.pm_rules.specs.Books.{most_rules};
 ghost use Rattle.pm_filing.specs.Views.{AllSuit, Suits, value_seen};
 ghost use Rattle.pm_filing.specs.Whole.{IsWhole, are_of_different, are_of_table, is_mark, is_place, objective_of};
 ghost use Rattle.pm_types.specs.Views.{view_of};
 ghost use Rattle.std.specs.List.{Contains, list_all};
 ghost use Rattle.std.specs.Prelude.{IfErr, IfOk, IfSome, IsTrue, None, OnOk, Some, [], false, flat_map, length, map, option_map, string_bytes, ℕ, ◌++◌, ◌∷◌, ◌<◌, ◌≡◌, ◌≢◌, ◌≤◌};
+ghost use Rattle.pm_limits.specs.Limits.{most_rules};
 
 use crate::fail::FileFail;
 use crate::read::read_object;

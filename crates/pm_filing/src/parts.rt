@@ -12,13 +12,12 @@ ghost use Rattle.std.specs.Prelude.{Err, IfErr, IfOk, IsTrue, Ok, OnOk, Some, []
 use crate::fail::FileFail;
 use pm_files::type_text;
 use pm_json::{ValueFail, read_value};
+use pm_limits::MOST_PROGRAMS;
 use pm_props::{ObjectType, PropId, ValueKind};
 use pm_types::Value;
 use serde_json::{Map, Value as Json};
 use std::alloc::{AllocError, Global};
 use std::slice;
-
-const PROGRAM_LIMIT: usize = 4;
 
 /// What a data file has at a key.
 #[derive(Drop)]
@@ -128,7 +127,7 @@ fn read_objectives(alloc: Global, list: &[Json]) -> Result<Vec<Option<Value>>, V
         if !program.is_object() {
             return Err(ValueFail::Shape);
         }
-        if objectives.len() >= PROGRAM_LIMIT {
+        if objectives.len() >= MOST_PROGRAMS {
             return Err(ValueFail::Limit);
         }
         let objective = read_objective(alloc, program)?;

@@ -15,12 +15,11 @@ use crate::fail::FileFail;
 use crate::parts::{FilePart, read_parts, read_type};
 use crate::tests_of_parts::test_parts;
 use pm_files::FileObject;
+use pm_limits::MOST_FILE_BYTES;
 use pm_props::ObjectType;
 use serde_json::Value as Json;
 use std::alloc::Global;
 use std::str;
-
-const FILE_LIMIT: usize = 8_388_608;
 
 /// The JSON of a text.
 fn read_json(alloc: Global, text: &str) -> Result<Json, FileFail>
@@ -44,7 +43,7 @@ fn read_data(alloc: Global, bytes: &[u8]) -> Result<Json, FileFail>
     ensures ok { IfOk result (λ json. data_in bytes.now ≡ Ok (view json)) }
     ensures fault { IfErr result (λ e. fault_of e ≢ out_of_memory → data_in bytes.now ≡ Err (fault_of e)) }
 {
-    if bytes.len() > FILE_LIMIT {
+    if bytes.len() > MOST_FILE_BYTES {
         return Err(FileFail::Limit);
     }
     let Ok(text) = str::from_utf8(bytes) else {

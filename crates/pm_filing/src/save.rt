@@ -1,7 +1,6 @@
 // Data files of objects.
 
 ghost use Rattle.pm_filing.specs.Filing.{failure_of, found_names, is_found, is_own_found, mark_written, marks_written, objective_rows, own, property_with_value, saved_file, saved_program, saved_programs, with_mark};
-ghost use Rattle.pm_filing.specs.FileParts.{longest_file};
 ghost use Rattle.pm_filing.specs.FileReadings.{Reads};
 ghost use Rattle.pm_filing.specs.Whole.{IsLoadedAgain};
 ghost use Rattle.pm_files.specs.Files.{SavedFile, file_bytes};
@@ -13,6 +12,7 @@ ghost use Rattle.pm_props.specs.declared.property.PropId.TheVariants.{LinearObje
 ghost use Rattle.pm_object.specs.Views.{held_seen};
 ghost use Rattle.pm_filing.specs.Views.{value_seen};
 ghost use Rattle.std.specs.Prelude.{IfOk, IfSome, OnOk, Some, fold, length, map, option_map, slice_get, ◌<◌, ◌≡◌, ◌≤◌};
+ghost use Rattle.pm_limits.specs.Limits.{most_file_bytes};
 
 use crate::profile::has_label;
 use pm_files::{FileObject, FileProgram, object_bytes};
@@ -199,7 +199,7 @@ fn file_object(alloc: Global, book: &Book, object: &Object) -> Result<FileObject
 /// settling adds nothing to it and the book has all labels (`law_saved_again` of `pm_laws_files`).
 pub fn save_object(alloc: Global, book: &Book, object: &Object) -> Result<Vec<u8>, AllocError>
     ensures file { IfOk result (λ bytes. bytes.items ≡ file_bytes (saved_file book.now object.now.state)) }
-    ensures again { IfOk result (λ bytes. length bytes.items ≤ longest_file →
+    ensures again { IfOk result (λ bytes. length bytes.items ≤ most_file_bytes →
         (f : SavedFile) × Reads bytes.items f × IsLoadedAgain book.now object.now.state f × (file_bytes f ≡ bytes.items)) }
 {
     // Its values have their forms, and the rules have different labels.

@@ -4,6 +4,7 @@ use Rattle.pm_geom.specs.Faces.{IsStrictlyIn}
 use Rattle.pm_geom.specs.Graphs.{IsAscending, holds}
 use Rattle.std.specs.List.{All, AllPairs, Contains, sum_by}
 use Rattle.std.specs.Prelude.{ℕ, zero, suc, ◌≡◌, ◌<◌, ◌≤◌, ◌↔◌, ◌⊎◌, Bool, IsTrue, List, [], length}
+use Rattle.pm_limits.specs.Limits.{most_faces, most_places}
 
 -- f is a meet of the sets: the intersection of some of them, or, of none of them, the set of all places below m
 pub record IsMeet (m : ℕ) (sets : List (ℕ → Bool)) (f : ℕ → Bool) : Type 0 where
@@ -29,12 +30,12 @@ pub record AreMeetsByRank (m : ℕ) (sets : List (ℕ → Bool)) (ranks : List (
   pub ordered : (k : ℕ) → AllPairs IsLexBefore (at_rank ranks k)
   pub full : All (λ faces. ¬ (faces ≡ [])) ranks
 
--- at most 65,536 faces, and at most 4,000,000 places in all of them together: what a lattice may have
+-- at most most_faces faces, and at most most_places places in all of them together: what a lattice may have
 abbrev pub IsSmallLattice : List (List (List ℕ)) → Type 0
-IsSmallLattice ranks = (sum_by length ranks ≤ 65536) × (sum_by (sum_by length) ranks ≤ 4000000)
+IsSmallLattice ranks = (sum_by length ranks ≤ most_faces) × (sum_by (sum_by length) ranks ≤ most_places)
 
 -- different meets of the sets, which are more than a lattice may have
 pub record AreTooManyMeets (m : ℕ) (sets : List (ℕ → Bool)) (faces : List (List ℕ)) : Type 0 where
   pub each : All (λ xs. IsAscending m xs × IsMeet m sets (holds xs)) faces
   pub different : AllPairs (λ xs ys. ¬ (xs ≡ ys)) faces
-  pub many : (65536 < length faces) ⊎ (4000000 < sum_by length faces)
+  pub many : (most_faces < length faces) ⊎ (most_places < sum_by length faces)

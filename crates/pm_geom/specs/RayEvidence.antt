@@ -14,6 +14,7 @@ use Rattle.pm_vector.specs.Differences.{EntryStays}
 use Rattle.pm_vector.specs.Products.{ProductsStay}
 use lib.IntN.{ℤ, pos}
 use lib.Signed.{◌<ℤ◌}
+use Rattle.pm_limits.specs.Limits.{most_rows}
 
 -- r and s are adjacent in the cone that A cuts out: no third extreme ray vanishes on each row of A on which both do
 pub record AreAdjacentRays (n : ℕ) (A : List Row) (r s : Row) : Type 0 where
@@ -48,13 +49,13 @@ pub record IsWidePair (n : ℕ) (X : List Row) (front : ℕ) (r s : Row) (column
   pub second : IsCanonicalRay n (CutOut (take front ordered)) s
   pub wide : IsWideNext n (take front ordered) (row_at ordered front) r s column
 
--- E5Rays: more than 2,048 extreme rays of the cone of a front of the stated order, no two alike up to positive scale and lineality
+-- E5Rays: more than most_rows extreme rays of the cone of a front of the stated order, no two alike up to positive scale and lineality
 pub record IsCrowded (n : ℕ) (X : List Row) (front : ℕ) (rays : List Row) : Type 0 where
   pub ordered : List Row
   pub stated : IsStatedFront X ordered front
   pub extreme : All (IsExtreme n (CutOut (take front ordered))) rays
   pub apart : AllPairs (λ v w. ¬ (SameModulo n (CutOut (take front ordered)) v w)) rays
-  pub many : 2048 < length rays
+  pub many : most_rows < length rays
 
 -- E1 on the rows that enlarge the span of those before them
 pub record IsEnlargingEvidence (n : ℕ) (X : List Row) (e : EliminationStep) : Type 0 where

@@ -35,20 +35,20 @@ pub enum Evidence {
         first: Ints,
         second: Ints,
     },
-    /// More than 2,048 extreme rays of the cone that the first `front` rows cut out.
+    /// More than `MOST_ROWS` extreme rays of the cone that the first `front` rows cut out.
     E5Rays {
         front: u32,
         rays: RowList,
     },
-    /// The places of more than 2,048 facet rows among half-spaces.
+    /// The places of more than `MOST_ROWS` facet rows among half-spaces.
     E5Rows {
         rows: Places,
     },
-    /// Faces that are more than 65,536, or have more than 4,000,000 indices.
+    /// Faces that are more than `MOST_FACES`, or have more than `MOST_PLACES` indices.
     E5Faces {
         faces: PlaceSets,
     },
-    /// More than 2,048 cells of the placing triangulation of the first `front` rows.
+    /// More than `MOST_ROWS` cells of the placing triangulation of the first `front` rows.
     E5Cells {
         front: u32,
         cells: PlaceSets,

@@ -3,6 +3,7 @@ use Rattle.pm_geom.specs.FaceCounts.{binom}
 use Rattle.std.proofs.Common.{ap, arith, refl, subst, sym, ◌∙◌}
 use Rattle.std.proofs.Math.Nat.{mul-div_cancel_left, mul-le-mul, mul_comm, pow-le-pow_right, pow-suc}
 use Rattle.std.specs.Prelude.{suc, zero, ℕ, ◌*◌, ◌+◌, ◌/◌, ◌<◌, ◌^◌, ◌≡◌, ◌≤◌}
+use Rattle.pm_limits.specs.Limits.{most_columns, most_dimensions}
 
 -- (k + 1) binom(n, k + 1) + k binom(n, k) = n binom(n, k)
 absorbed_step : (n j a b c : ℕ) → suc (suc j) * c + suc j * b ≡ n * b → suc j * b + j * a ≡ n * a → suc (suc j) * (b + c) + suc j * (a + b) ≡ suc n * (a + b)
@@ -36,17 +37,17 @@ binom_bound zero (suc k) = omega arith
 binom_bound (suc n) zero = let h = binom_bound n 0 in rw pow-suc (omega arith)
 binom_bound (suc n) (suc k) = let a = binom_bound n k in let b = binom_bound n (suc k) in rw pow-suc (omega arith)
 
-pub binom_small : (n k : ℕ) → n ≤ 32 → binom n k ≤ 2 ^ 32
-binom_small n k l = let a = binom_bound n k in let b = pow-le-pow_right {n = 2} (omega arith) {i = n} {j = 32} l in omega arith
+pub binom_small : (n k : ℕ) → n ≤ most_dimensions → binom n k ≤ 2 ^ 32
+binom_small n k l = let a = binom_bound n k in let b = pow-le-pow_right {n = 2} (omega arith) {i = n} {j = most_dimensions} l in omega arith
 
 -- ---- the loop that counts up
-pub choose_fits : (k s count n : ℕ) → count ≡ binom (k + s) k → k + s < n → n ≤ 32 → count * (k + s + 1) < 2 ^ 64
+pub choose_fits : (k s count n : ℕ) → count ≡ binom (k + s) k → k + s < n → n ≤ most_dimensions → count * (k + s + 1) < 2 ^ 64
 choose_fits k s count n e l m =
     let b = binom_small (k + s) k (omega arith) in
     fits (binom (k + s) k) (k + s + 1) count e b (omega arith)
   where
-    fits : (b m count : ℕ) → count ≡ b → b ≤ 2 ^ 32 → m ≤ 33 → count * m < 2 ^ 64
-    fits b m count e lb lm = let p = mul-le-mul {n₁ = count} {m₁ = m} {n₂ = 2 ^ 32} {m₂ = 33} (omega arith) lm in omega arith
+    fits : (b m count : ℕ) → count ≡ b → b ≤ 2 ^ 32 → m ≤ most_columns → count * m < 2 ^ 64
+    fits b m count e lb lm = let p = mul-le-mul {n₁ = count} {m₁ = m} {n₂ = 2 ^ 32} {m₂ = most_columns} (omega arith) lm in omega arith
 
 pub choose_step : (k s count : ℕ) → count ≡ binom (k + s) k → count * (k + s + 1) / (s + 1) ≡ binom (k + (s + 1)) k
 choose_step k s count e =

@@ -13,6 +13,7 @@ use lib.IntN.{nat_abs, neg_ℤ, negsuc, pos, ℤ, ◌*ℤ◌, ◌+ℤ◌, ◌-�
 use lib.Signed.{mag, ◌≤ℤ◌}
 use mir.Syntax.{w128, w64}
 use mir.Val.{SFits, of_z, to_z}
+use Rattle.pm_limits.specs.Limits.{most_columns, most_dimensions}
 
 -- what the sum of the first i terms is
 abbrev pub IsAlternated : List ℤ → ℕ → ℕ → ℕ → ℤ → Type 0
@@ -92,12 +93,12 @@ pub in_64 : (z : ℤ) → mag z < 2 ^ 63 → (neg_ℤ (pos (2 ^ 63)) ≤ℤ z) �
 in_64 z l = (omega (arith, ints), omega (arith, ints))
 
 -- the difference as the machine has it
-pub kept_difference : (t s : ℤ) (bits i k : ℕ) → neg_ℤ (pos (2 ^ 96)) ≤ℤ t → t ≤ℤ pos (2 ^ 96) → i ≤ 33 → neg_ℤ (pos (i * 2 ^ 96)) ≤ℤ s → s ≤ℤ pos (i * 2 ^ 96) → to_z w128 bits ≡ s → to_z w128 (of_z w128 (to_z w128 (of_z w128 t) -ℤ to_z w128 bits)) ≡ t -ℤ s
+pub kept_difference : (t s : ℤ) (bits i k : ℕ) → neg_ℤ (pos (2 ^ 96)) ≤ℤ t → t ≤ℤ pos (2 ^ 96) → i ≤ most_columns → neg_ℤ (pos (i * 2 ^ 96)) ≤ℤ s → s ≤ℤ pos (i * 2 ^ 96) → to_z w128 bits ≡ s → to_z w128 (of_z w128 (to_z w128 (of_z w128 t) -ℤ to_z w128 bits)) ≡ t -ℤ s
 kept_difference t s bits i k lo hi l a b e =
     let f : to_z w128 (of_z w128 t) ≡ t = omega (arith, ints) in
     rw (f, e) (whole i t s lo hi l a b)
   where
-    whole : (i : ℕ) (t s : ℤ) → neg_ℤ (pos (2 ^ 96)) ≤ℤ t → t ≤ℤ pos (2 ^ 96) → i ≤ 33 → neg_ℤ (pos (i * 2 ^ 96)) ≤ℤ s → s ≤ℤ pos (i * 2 ^ 96) → to_z w128 (of_z w128 (t -ℤ s)) ≡ t -ℤ s
+    whole : (i : ℕ) (t s : ℤ) → neg_ℤ (pos (2 ^ 96)) ≤ℤ t → t ≤ℤ pos (2 ^ 96) → i ≤ most_columns → neg_ℤ (pos (i * 2 ^ 96)) ≤ℤ s → s ≤ℤ pos (i * 2 ^ 96) → to_z w128 (of_z w128 (t -ℤ s)) ≡ t -ℤ s
     whole i t s lo hi l a b = omega (arith, ints)
 
 -- ---- the numbers that fit
@@ -117,7 +118,7 @@ same_dimension d dim n e f = let g = e ∙ f in cc
 pub numbers_for : (f : List ℤ) (d : ℤ) (dim : ℕ) (h : List ℤ) → pos dim ≡ d → (HaveFit f dim → h ≡ h_of f dim) → (n : ℕ) → d ≡ pos n → HasHVector f n → h ≡ h_of f n
 numbers_for f d dim h e g n en v = let s = same_dimension d dim n e en in g (subst (λ m. HaveFit f m) (sym s) v.fit) ∙ ap (h_of f) s
 
-pub none_for : (f : List ℤ) (d : ℤ) (dim : ℕ) (h : List ℤ) → pos dim ≡ d → dim ≤ 32 → length f ≡ dim → (¬ (HaveFit f dim) → h ≡ []) → ((n : ℕ) → d ≡ pos n → ¬ (HasHVector f n)) → h ≡ []
+pub none_for : (f : List ℤ) (d : ℤ) (dim : ℕ) (h : List ℤ) → pos dim ≡ d → dim ≤ most_dimensions → length f ≡ dim → (¬ (HaveFit f dim) → h ≡ []) → ((n : ℕ) → d ≡ pos n → ¬ (HasHVector f n)) → h ≡ []
 none_for f d dim h e l en g none = g (λ fit. none dim (sym e) (record { few = l; entries = en; fit = fit }))
 
 pub unsigned_is : (z : ℤ) (n : ℕ) → FitsUnsignedBits 64 z → n ≡ nat_abs z → pos n ≡ z

@@ -5,6 +5,7 @@ use Rattle.std.specs.List.{All}
 use Rattle.std.specs.Prelude.{ℕ, ◌-◌, ◌≤◌, ◌≡◌, List, length}
 use lib.IntN.{ℤ, pos, ◌*ℤ◌}
 use mir.Syntax.{w64}
+use Rattle.pm_limits.specs.Limits.{most_dimensions}
 
 -- each number of the h-vector fits 64 bits
 abbrev pub HaveFit : List ℤ → ℕ → Type 0
@@ -12,7 +13,7 @@ HaveFit f d = All (FitsSigned w64) (h_of f d)
 
 -- f has as many entries as d, d is at most 32, and each number of the h-vector fits 64 bits
 pub record HasHVector (f : List ℤ) (d : ℕ) : Type 0 where
-  pub few : d ≤ 32
+  pub few : d ≤ most_dimensions
   pub entries : length f ≡ d
   pub fit : HaveFit f d
 

@@ -2,12 +2,14 @@
 ghost use Rattle.pm_geom.specs.FaceCounts.{binom, f_before, h_entry, h_of};
 ghost use Rattle.pm_graph.specs.HVectors.{AreHNumbers, HasNoHVector, HaveFit, plain_term};
 ghost use Rattle.std.specs.Prelude.{IfOk, [], length, neg_ℤ, pos, ◌^◌, ◌≡◌, ◌≤◌, ◌≤ℤ◌};
+ghost use Rattle.pm_limits.specs.Limits.{most_dimensions};
 
+use pm_limits::MOST_DIMENSIONS;
 use std::alloc::{AllocError, Global};
 
 // How many sets of k there are among n things.
 fn choose(n: usize, k: usize) -> u64
-    requires few { n ≤ 32 }
+    requires few { n ≤ most_dimensions }
     requires within { k ≤ n }
     ensures { result ≡ binom n k }
 {
@@ -28,7 +30,7 @@ fn before(f: &[i64], i: usize) -> i64
 
 // The term of i in h_k without its sign.
 fn term(f: &[i64], d: usize, k: usize, i: usize) -> i128
-    requires few { d ≤ 32 }
+    requires few { d ≤ most_dimensions }
     requires entries { length f.now ≡ d }
     requires k_within { k ≤ d }
     requires i_within { i ≤ k }
@@ -43,7 +45,7 @@ fn term(f: &[i64], d: usize, k: usize, i: usize) -> i128
 
 // h_k: the terms from 0 to k, with signs that alternate so that the last is positive.
 fn h_number(f: &[i64], d: usize, k: usize) -> i128
-    requires few { d ≤ 32 }
+    requires few { d ≤ most_dimensions }
     requires entries { length f.now ≡ d }
     requires within { k ≤ d }
     ensures { result ≡ h_entry f.now d k }
@@ -57,7 +59,7 @@ fn h_number(f: &[i64], d: usize, k: usize) -> i128
 
 // The h-vector, or no entries where a number does not fit 64 bits.
 fn numbers(alloc: Global, f: &[i64], d: usize) -> Result<Vec<i64>, AllocError>
-    requires few { d ≤ 32 }
+    requires few { d ≤ most_dimensions }
     requires entries { length f.now ≡ d }
     ensures numbers { IfOk result (λ h. HaveFit f.now d → h.items ≡ h_of f.now d) }
     ensures none { IfOk result (λ h. ¬ (HaveFit f.now d) → h.items ≡ []) }
@@ -79,7 +81,7 @@ pub fn h_vector(alloc: Global, f: &[i64], d: i64) -> Result<Vec<i64>, AllocError
     ensures none { IfOk result (λ h. HasNoHVector f.now d → h.items ≡ []) }
 {
     match usize::try_from(d) {
-        Ok(dim) if dim <= 32 && f.len() == dim => numbers(alloc, f, dim),
+        Ok(dim) if dim <= MOST_DIMENSIONS && f.len() == dim => numbers(alloc, f, dim),
         _ => Ok(Vec::new(alloc)),
     }
 }

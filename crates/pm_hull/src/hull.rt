@@ -7,6 +7,7 @@ ghost use Rattle.pm_hull.specs.HullRefusals.{IsShownOnParts};
 ghost use Rattle.pm_hull.specs.Hulls.{AreFacets, InConeOf, InPolytopeCone, half_spaces_of};
 ghost use Rattle.pm_elim.specs.Evidence.{unit};
 ghost use Rattle.std.specs.Prelude.{Any, IfErr, IfOk, IsTrue, [], length, pos, ◌++◌, ◌<ℤ◌, ◌<◌, ◌^◌, ◌∷◌, ◌≡◌, ◌≢◌, ◌≤◌, ◌↔◌};
+ghost use Rattle.pm_limits.specs.Limits.{most_rows};
 
 use crate::parts::double_list;
 use pm_dd::{DdFail, extreme_rays};
@@ -29,7 +30,7 @@ fn cone_generators(
     requires few_equations { length equations.now < 2 ^ 28 }
     requires few_columns { cols < 2 ^ 30 }
     ensures generators { IfOk result (λ g. AreGenerators cols (HalfSpaces equations.now rows.now) g.rays.items g.lineality.items) }
-    ensures few { IfOk result (λ g. length g.rays.items ≤ 2048) }
+    ensures few { IfOk result (λ g. length g.rays.items ≤ most_rows) }
     ensures shown { IfErr result (IsShownOnParts cols equations.now rows.now) }
 {
     let list = double_list(alloc, cols, equations, rows)?;
@@ -37,7 +38,7 @@ fn cone_generators(
 }
 
 /// All facet rows of the cone that `rays` and `lineality` generate, and the echelon basis of the rows that vanish on it.
-/// The facet rows are primitive, with zeros in the pivot columns of that basis, each once and in lexicographic order; there are at most 2,048 of them.
+/// The facet rows are primitive, with zeros in the pivot columns of that basis, each once and in lexicographic order; there are at most `MOST_ROWS` of them.
 /// By polarity these are the generators of the cone that the rays, with the lineality as equations, cut out.
 /// A refusal has evidence on the lineality, or on its echelon basis both ways and then the rays.
 pub fn to_facets(
@@ -52,7 +53,7 @@ pub fn to_facets(
     requires few_lines { length lineality.now < 2 ^ 28 }
     requires few_columns { cols < 2 ^ 30 }
     ensures facets { IfOk result (λ f. AreFacets cols rays.now lineality.now f.facets.items f.hull.items) }
-    ensures few { IfOk result (λ f. length f.facets.items ≤ 2048) }
+    ensures few { IfOk result (λ f. length f.facets.items ≤ most_rows) }
     ensures shown { IfErr result (IsShownOnParts cols lineality.now rays.now) }
 {
     let dual = cone_generators(alloc, cols, rays, lineality)?;
@@ -102,7 +103,7 @@ fn polytope_generators(
     requires few_equations { length equations.now < 2 ^ 28 }
     requires few_columns { cols < 2 ^ 30 }
     ensures generators { IfOk result (λ g. AreGenerators cols (InPolytopeCone cols rows.now equations.now) g.rays.items g.lineality.items) }
-    ensures few { IfOk result (λ g. length g.rays.items ≤ 2048) }
+    ensures few { IfOk result (λ g. length g.rays.items ≤ most_rows) }
     ensures shown { IfErr result (IsShownOnParts cols equations.now (rows.now ++ unit cols 0 ∷ [])) }
 {
     let all = with_far_face(alloc, cols, rows)?;
@@ -118,7 +119,7 @@ fn polytope_generators(
 
 /// All extreme rays of the cone that `rows` and `equations` describe, and the echelon basis of its lineality.
 /// Of a cone these are its half-spaces. Of a polytope they are its inequalities: the row (1, 0, .., 0) is added last, and the cone is {0} where no solution has a positive first entry.
-/// The rays are primitive, with zeros in the pivot columns of that basis, each once and in lexicographic order; there are at most 2,048 of them.
+/// The rays are primitive, with zeros in the pivot columns of that basis, each once and in lexicographic order; there are at most `MOST_ROWS` of them.
 /// A refusal has evidence on the equations, or on their echelon basis both ways and then the half-spaces.
 pub fn to_generators(
     alloc: Global,
@@ -134,7 +135,7 @@ pub fn to_generators(
     requires few_equations { length equations.now < 2 ^ 28 }
     requires few_columns { cols < 2 ^ 30 }
     ensures generators { IfOk result (λ g. AreGenerators cols (InConeOf of cols rows.now equations.now) g.rays.items g.lineality.items) }
-    ensures few { IfOk result (λ g. length g.rays.items ≤ 2048) }
+    ensures few { IfOk result (λ g. length g.rays.items ≤ most_rows) }
     ensures shown { IfErr result (IsShownOnParts cols equations.now (half_spaces_of of cols rows.now)) }
 {
     match of {

@@ -30,6 +30,7 @@ use Rattle.pm_object_type.specs.declared.object_type.ObjectType.{ObjectType}
 use Rattle.pm_types.specs.Right.{CutsOutOf}
 use lib.IntN.{ℤ, pos}
 use lib.Signed.{◌<ℤ◌}
+use Rattle.pm_limits.specs.Limits.{most_rows}
 
 -- ---- as many ascending places below a bound as it says are all places
 low_place : (ks : List ℕ) → AllPairs (λ (i j : ℕ). i < j) ks → (i : ℕ) → i < length ks → i ≤ get_or ks i 0
@@ -214,7 +215,7 @@ module _ (of : ObjectType) (n : ℕ) (some : 0 < n) (A E V B : List Row) (P ks :
   pub places_within : All (λ (p : ℕ). p < length (half_spaces of n A)) ks
   places_within i d l = let q = k.kept.each i d l in let e = k.zeros.as_many in let w = q.0 in omega arith
 
-  pub many_facets : HasPoint of V → All (HalfSpaces E (half_spaces of n A)) V → length A ≤ 2048 → 2048 < length ks → AreManyFacets of n A E ks
+  pub many_facets : HasPoint of V → All (HalfSpaces E (half_spaces of n A)) V → length A ≤ most_rows → most_rows < length ks → AreManyFacets of n A E ks
   many_facets point all few many = record {
     many = many;
     facets = record {

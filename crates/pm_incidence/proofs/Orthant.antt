@@ -27,6 +27,7 @@ use Rattle.pm_object_type.specs.declared.object_type.ObjectType.TheVariants.{Pol
 use Rattle.pm_types.specs.Right.{CutsOutOf}
 use lib.IntN.{ℤ, pos}
 use lib.Signed.{lt_z_yes, ◌<ℤ◌, ◌≤ℤ◌}
+use Rattle.pm_limits.specs.Limits.{most_rows}
 
 -- ---- its half-spaces are the unit rows, the first of them last
 abbrev halves : ℕ → List Row
@@ -215,8 +216,8 @@ orthant_places n some = record {
     below : (i : ℕ) → i < length (range_with_len 0 n) → i < n
     below i l = let e = length-range_with_len 0 n in omega arith
 
-pub orthant_many : (n : ℕ) → 2048 < n → AreManyFacets Polytope n (orthant n) [] (range_with_len 0 n)
+pub orthant_many : (n : ℕ) → most_rows < n → AreManyFacets Polytope n (orthant n) [] (range_with_len 0 n)
 orthant_many n l = record { many = rw (length-range_with_len 0 n) l; facets = orthant_places n (omega arith) }
 
-pub orthant_few : (n : ℕ) → n ≤ 2048 → ¬ (AreManyFacets Polytope n (orthant n) [] (range_with_len 0 n))
+pub orthant_few : (n : ℕ) → n ≤ most_rows → ¬ (AreManyFacets Polytope n (orthant n) [] (range_with_len 0 n))
 orthant_few n few m = let l = m.many in let e = length-range_with_len 0 n in omega arith

@@ -12,6 +12,7 @@ use Rattle.std.proofs.lemmas.Int.{ints}
 use Rattle.std.specs.List.{Contains, list_all}
 use Rattle.std.specs.Prelude.{Bool, List, [], length, nat_le, nat_lt, unsigned_abs, ℕ, ◌↔◌, ◌∷◌}
 use lib.IntN.{pos, ℤ}
+use Rattle.pm_limits.specs.Limits.{most_rows}
 
 zero_from_test : (z : ℤ) → eqb (unsigned_abs z) 0 ≡ true → z ≡ pos 0
 zero_from_test z e = let h = eqb-true (unsigned_abs z) 0 e in omega (arith, ints)
@@ -87,13 +88,13 @@ length_incidence : (F V : List Row) → length (incidence F V) ≡ length F
 length_incidence [] V = refl
 length_incidence (f ∷ F) V = ap suc (length_incidence F V)
 
-pub incidence_form : (F V : List Row) → length F ≤ 2048 → length V ≤ 2048 → is_sets_form (incidence F V) (length V) ≡ true
+pub incidence_form : (F V : List Row) → length F ≤ most_rows → length V ≤ most_rows → is_sets_form (incidence F V) (length V) ≡ true
 incidence_form F V h k = rw (rows, cols, all_indices F V) refl
   where
-    rows : nat_le (length (incidence F V)) 2048 ≡ true
+    rows : nat_le (length (incidence F V)) most_rows ≡ true
     rows = rw (length_incidence F V) (grind arith)
 
-    cols : nat_le (length V) 2048 ≡ true
+    cols : nat_le (length V) most_rows ≡ true
     cols = grind arith
 
 -- ---- one vertex on, one facet on

@@ -11,6 +11,7 @@ use Rattle.pm_object_type.specs.declared.object_type.ObjectType.TheVariants.{Con
 use Rattle.std.specs.List.{range_with_len}
 use Rattle.std.specs.Prelude.{ℕ, ◌-◌, ◌<◌, ◌≤◌, ◌^◌, ◌≡◌, Bool, List, [], ◌∷◌, false, map, true}
 use lib.IntN.{negsuc, pos}
+use Rattle.pm_limits.specs.Limits.{most_rows}
 
 -- ---- rows
 abbrev pub x_axis : Row
@@ -134,10 +135,10 @@ pub record FacetPlacesAreRead : Type 0 where
   pub few : ¬ (AreManyFacets Polytope 1 [] [] (0 ∷ []))
   pub few_fail : ¬ (IsFacetsFail Polytope 1 [] [] half (Many (E5Rows (0 ∷ []))))
   pub many_by_product : ¬ (IsFacetsFail Polytope 1 [] [] half (Many (E4 large larger)))
-  -- with 2,048 inequalities and the far face there are too many, with one inequality fewer there are not
-  pub many : (n : ℕ) → 2048 < n → AreManyFacets Polytope n (orthant n) [] (range_with_len 0 n)
-  pub many_fail : (n : ℕ) (V : List Row) → 2048 < n → IsFacetsFail Polytope n (orthant n) [] V (Many (E5Rows (range_with_len 0 n)))
-  pub not_many : (n : ℕ) → n ≤ 2048 → ¬ (AreManyFacets Polytope n (orthant n) [] (range_with_len 0 n))
+  -- with most_rows inequalities and the far face there are too many, with one inequality fewer there are not
+  pub many : (n : ℕ) → most_rows < n → AreManyFacets Polytope n (orthant n) [] (range_with_len 0 n)
+  pub many_fail : (n : ℕ) (V : List Row) → most_rows < n → IsFacetsFail Polytope n (orthant n) [] V (Many (E5Rows (range_with_len 0 n)))
+  pub not_many : (n : ℕ) → n ≤ most_rows → ¬ (AreManyFacets Polytope n (orthant n) [] (range_with_len 0 n))
 
 -- ---- rows from sets
 pub record RowsFromSetsAreRead : Type 0 where

@@ -26,6 +26,7 @@ use Rattle.pm_incidence.specs.declared.fails.ThinFail.TheVariants.{Many, Memory,
 use Rattle.pm_object_type.specs.declared.object_type.ObjectType.{ObjectType}
 use Rattle.pm_object_type.specs.declared.object_type.ObjectType.TheVariants.{Cone, Fan, Polytope}
 use Rattle.pm_types.specs.Right.{CutsOutOf}
+use Rattle.pm_limits.specs.Limits.{most_rows}
 
 -- ---- what a refusal shows
 -- the product of g with each row of A is 0
@@ -84,9 +85,9 @@ pub record AreFacetPlaces (of : ObjectType) (n : ℕ) (A E : List Row) (places :
   pub facets : (G L : List Row) → HasCols n G → HasCols n L → CutsOutOf of n (InCone G L) A E → All (λ p. IsFacetRow n G L (row_at (half_spaces of n A) p)) places
   pub once : (G L : List Row) → HasCols n G → HasCols n L → CutsOutOf of n (InCone G L) A E → AllPairs (λ p q. ¬ (SameModulo n (IsValid n G L) (row_at (half_spaces of n A) p) (row_at (half_spaces of n A) q))) places
 
--- there are more than 2,048 such places
+-- there are more than most_rows such places
 pub record AreManyFacets (of : ObjectType) (n : ℕ) (A E : List Row) (places : List ℕ) : Type 0 where
-  pub many : 2048 < length places
+  pub many : most_rows < length places
   pub facets : AreFacetPlaces of n A E places
 
 -- so a refusal of thinned half-spaces shows: V and L generate the cone that the half-spaces A and equations E describe; E4 names the row of V first

@@ -19,12 +19,10 @@ use crate::from_sets::{exchanged, product};
 use crate::thin::{Kept, kept_of, thinned_rows};
 use pm_geom::descriptions::{Facets, Generators};
 use pm_geom::{Evidence, Places};
+use pm_limits::MOST_ROWS;
 use pm_props::ObjectType;
 use pm_vector::Ints;
 use std::alloc::{AllocError, Global};
-
-/// The most facet rows that are answered.
-const MOST_FACETS: usize = 2048;
 
 /// Whether no inequality is negative on a ray.
 fn is_cut_out(alloc: Global, rows: &[Ints], ray: &Ints) -> Result<bool, ThinFail>
@@ -126,13 +124,13 @@ fn kept_halves(
     requires row_cols { HasCols cols rows.now }
     requires equation_cols { HasCols cols equations.now }
     requires ray_cols { HasCols cols rays.now }
-    requires few_rows { length rows.now ≤ MOST_FACETS }
+    requires few_rows { length rows.now ≤ MOST_ROWS }
     requires few_equations { length equations.now < 2 ^ 28 }
     requires some_columns { 0 < cols }
     requires few_columns { cols < 2 ^ 28 }
     requires halves { halves.now ≡ half_spaces of cols rows.now }
     ensures kept { IfOk result (λ k. AreThinPlaces cols halves.now equations.now rays.now k.basis.rows k.basis.pivots k.places.items) }
-    ensures few { IfOk result (λ k. length k.places.items ≤ MOST_FACETS + 1) }
+    ensures few { IfOk result (λ k. length k.places.items ≤ MOST_ROWS + 1) }
     ensures failed { IfErr result (IsFacetsFail of cols rows.now equations.now rays.now) }
 {
     match kept_of(alloc, cols, halves, equations, rays) {
@@ -166,18 +164,18 @@ fn taken(
     requires row_cols { HasCols cols rows.now }
     requires equation_cols { HasCols cols equations.now }
     requires ray_cols { HasCols cols rays.now }
-    requires few_rows { length rows.now ≤ MOST_FACETS }
+    requires few_rows { length rows.now ≤ MOST_ROWS }
     requires some_columns { 0 < cols }
     requires point { HasPoint of rays.now }
     requires kept { AreThinPlaces cols (half_spaces of cols rows.now) equations.now rays.now
         kept.now.basis.rows kept.now.basis.pivots kept.now.places.items }
-    ensures few { IfOk result (λ k. k ≤ MOST_FACETS) }
+    ensures few { IfOk result (λ k. k ≤ MOST_ROWS) }
     ensures within { IfOk result (λ k. k ≤ length kept.now.places.items) }
     ensures all { IfOk result (λ k. All (HalfSpaces equations.now (half_spaces of cols rows.now)) rays.now
         → k ≡ length kept.now.places.items) }
     ensures failed { IfErr result (IsFacetsFail of cols rows.now equations.now rays.now) }
 {
-    if kept.places.len() <= MOST_FACETS {
+    if kept.places.len() <= MOST_ROWS {
         return Ok(kept.places.len());
     }
     let inside = are_inside(alloc, of, cols, rows, equations, rays)?;
@@ -187,12 +185,12 @@ fn taken(
             rows: Places::from_vec(places),
         }));
     }
-    Ok(MOST_FACETS)
+    Ok(MOST_ROWS)
 }
 
 /// All facet rows of a thing among half-spaces that describe it, by the rays and lineality that generate it, and the echelon basis of the rows that vanish on it.
-/// The facet rows are primitive, with zeros in the pivot columns of that basis, each once and in lexicographic order; there are at most 2,048 of them.
-/// `Wide` only with evidence: E1 on the rows that vanish and then the reduced row, E4 on a ray and a half-space or equation. `Many` only with more than 2,048 facet rows among the half-spaces (E5).
+/// The facet rows are primitive, with zeros in the pivot columns of that basis, each once and in lexicographic order; there are at most `MOST_ROWS` of them.
+/// `Wide` only with evidence: E1 on the rows that vanish and then the reduced row, E4 on a ray and a half-space or equation. `Many` only with more than `MOST_ROWS` facet rows among the half-spaces (E5).
 pub fn facets_by_incidence(
     alloc: Global,
     of: ObjectType,
@@ -204,7 +202,7 @@ pub fn facets_by_incidence(
     requires row_cols { HasCols cols rows.now }
     requires equation_cols { HasCols cols equations.now }
     requires ray_cols { HasCols cols g.now.rays.items }
-    requires few_rows { length rows.now ≤ MOST_FACETS }
+    requires few_rows { length rows.now ≤ MOST_ROWS }
     requires few_equations { length equations.now < 2 ^ 28 }
     requires some_columns { 0 < cols }
     requires few_columns { cols < 2 ^ 28 }
@@ -212,7 +210,7 @@ pub fn facets_by_incidence(
         → CutsOutOf of cols (InCone g.now.rays.items g.now.lineality.items) rows.now equations.now
         → AreGenerators cols (IsValid cols g.now.rays.items g.now.lineality.items) f.facets.items f.hull.items) }
     ensures cols { IfOk result (λ f. HasCols cols f.facets.items) }
-    ensures few { IfOk result (λ f. length f.facets.items ≤ MOST_FACETS) }
+    ensures few { IfOk result (λ f. length f.facets.items ≤ MOST_ROWS) }
     ensures echelon { IfOk result (λ f. (P : List ℕ) × IsEchelonBasis cols f.hull.items P) }
     ensures failed { IfErr result (IsFacetsFail of cols rows.now equations.now g.now.rays.items) }
 {

@@ -43,8 +43,8 @@ pub enum ThinFail {
     /// A number leaves the range: in a step of an elimination (E1), or in the product of two rows (E4).
     #[error("a number leaves the range")]
     Wide(Evidence),
-    /// There are more than 2,048 facet rows (E5).
-    #[error("more than 2,048 facet rows")]
+    /// There are more than `MOST_ROWS` facet rows (E5).
+    #[error("too many facet rows")]
     Many(Evidence),
     #[error("out of memory")]
     Memory,

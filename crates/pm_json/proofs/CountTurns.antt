@@ -19,15 +19,16 @@ use Rattle.pm_props.specs.declared.property.ValueKind.TheVariants as kind
 use Rattle.pm_types.specs.Forms.{has_64_bits, is_counts_form, is_formed}
 use Rattle.pm_types.specs.Values.{counts}
 use lib.IntN.{ℤ}
+use Rattle.pm_limits.specs.Limits.{most_rows}
 
-pub counts_from-item : (front : List ℤ) (z : ℤ) (d : Data) (ds : Items) → length front < 2048 → whole_count_of d ≡ Ok z
+pub counts_from-item : (front : List ℤ) (z : ℤ) (d : Data) (ds : Items) → length front < most_rows → whole_count_of d ≡ Ok z
     → with_front front (counts_from (length front) (item d ds)) ≡ with_front (front ++ z ∷ []) (counts_from (length (front ++ z ∷ [])) ds)
 counts_from-item front z d ds room is =
     let one : suc (length front) ≡ length (front ++ z ∷ []) = omega (arith, length-append front (z ∷ [])) in
-    rw (is, lt-ltb (length front) 2048 room) (with_front-before front z (counts_from (suc (length front)) ds) ∙ ap (λ k. with_front (front ++ z ∷ []) (counts_from k ds)) one)
+    rw (is, lt-ltb (length front) most_rows room) (with_front-before front z (counts_from (suc (length front)) ds) ∙ ap (λ k. with_front (front ++ z ∷ []) (counts_from k ds)) one)
 
-pub counts_from-long : (front : List ℤ) (z : ℤ) (d : Data) (ds : Items) → 2048 ≤ length front → whole_count_of d ≡ Ok z → with_front front (counts_from (length front) (item d ds)) ≡ Err Limit
-counts_from-long front z d ds full is = rw (is, le-ltb (length front) 2048 full) refl
+pub counts_from-long : (front : List ℤ) (z : ℤ) (d : Data) (ds : Items) → most_rows ≤ length front → whole_count_of d ≡ Ok z → with_front front (counts_from (length front) (item d ds)) ≡ Err Limit
+counts_from-long front z d ds full is = rw (is, le-ltb (length front) most_rows full) refl
 
 pub counts_from-no_number : (front : List ℤ) (k : ℕ) (d : Data) (ds : Items) (fault : ValueFail) → whole_count_of d ≡ Err fault → with_front front (counts_from k (item d ds)) ≡ Err fault
 counts_from-no_number front k d ds fault is = rw is refl
@@ -75,8 +76,8 @@ bits_next (k ∷ ks) z h b =
     let p = and_parts (has_64_bits k) (list_all has_64_bits ks) h in
     and_from (has_64_bits k) (list_all has_64_bits (ks ++ z ∷ [])) p.0 (bits_next ks z p.1 b)
 
-pub counts_form : (ks : List ℤ) → length ks ≤ 2048 → list_all has_64_bits ks ≡ true → is_counts_form ks ≡ true
-counts_form ks few bits = and_from (leb (length ks) 2048) (list_all has_64_bits ks) (le-leb (length ks) 2048 few) bits
+pub counts_form : (ks : List ℤ) → length ks ≤ most_rows → list_all has_64_bits ks ≡ true → is_counts_form ks ≡ true
+counts_form ks few bits = and_from (leb (length ks) most_rows) (list_all has_64_bits ks) (le-leb (length ks) most_rows few) bits
 
 pub counts_formed : (p : PropId) (ks : List ℤ) → value_kind p ≡ kind.Counts → is_counts_form ks ≡ true → is_formed p (counts ks) ≡ true
 counts_formed p ks is form = and_from (is_of_counts (value_kind p)) (is_counts_form ks) (ap is_of_counts is) form

@@ -12,24 +12,25 @@ use Rattle.pm_json.proofs.Parts.{and_then-ok, same_Ok, then-ok}
 use Rattle.pm_json.proofs.SetLimits.{all_below_above, form_of, set_keeps_limits}
 use Rattle.pm_json.specs.Readings.{Read, above_sets, and_then, before, edges_of, edges_with, items_of, nodes_from, set_from}
 use Rattle.pm_json.specs.declared.fail.ValueFail.TheVariants.{Index, Limit, Shape}
+use Rattle.pm_limits.specs.Limits.{most_indices, most_rows}
 
 pub record KeepsNodes (k : ℕ) (rows : List (List ℕ)) : Type 0 where
-  pub few : k + length rows ≤ 2048
-  pub indices : list_all (are_indices 2048 0) rows ≡ true
+  pub few : k + length rows ≤ most_rows
+  pub indices : list_all (are_indices most_indices 0) rows ≡ true
 
-pub nodes_keep_limits : (k : ℕ) (ds : Items) (rows : List (List ℕ)) → k ≤ 2048 → nodes_from k ds ≡ Ok rows → KeepsNodes k rows
+pub nodes_keep_limits : (k : ℕ) (ds : Items) (rows : List (List ℕ)) → k ≤ most_rows → nodes_from k ds ≡ Ok rows → KeepsNodes k rows
 nodes_keep_limits k no_items rows h e = subst (KeepsNodes k) (same_Ok [] rows e) (record { few = omega arith; indices = refl })
 nodes_keep_limits k (item d ds) rows h e =
-    and_then-ok (items_of d) (λ es. cond (ltb k 2048) (and_then (set_from [] es) (λ set. before set (nodes_from (suc k) ds))) (Err Limit)) rows e
-    (λ es _ g. let p = then-ok (ltb k 2048) (and_then (set_from [] es) (λ set. before set (nodes_from (suc k) ds))) Limit rows g in
+    and_then-ok (items_of d) (λ es. cond (ltb k most_rows) (and_then (set_from [] es) (λ set. before set (nodes_from (suc k) ds))) (Err Limit)) rows e
+    (λ es _ g. let p = then-ok (ltb k most_rows) (and_then (set_from [] es) (λ set. before set (nodes_from (suc k) ds))) Limit rows g in
     and_then-ok (set_from [] es) (λ set. before set (nodes_from (suc k) ds)) rows p.1
     (λ set is t. and_then-ok (nodes_from (suc k) ds) (λ more. Ok (set ∷ more)) rows t
     (λ more left u.
-    let room = ltb-true k 2048 p.0 in
+    let room = ltb-true k most_rows p.0 in
     let rest = nodes_keep_limits (suc k) ds more (omega arith) left in
     let few = rest.few in
     subst (KeepsNodes k) (same_Ok (set ∷ more) rows u)
-    (record { few = omega arith; indices = and_from (are_indices 2048 0 set) (list_all (are_indices 2048 0) more) (set_keeps_limits [] es set is refl) rest.indices }))))
+    (record { few = omega arith; indices = and_from (are_indices most_indices 0 set) (list_all (are_indices most_indices 0) more) (set_keeps_limits [] es set is refl) rest.indices }))))
 
 pub edges_formed : (p : PropId) → value_kind p ≡ kind.Edges → (d : Data) (v : PropertyValue) → edges_of d ≡ Ok v → is_formed p v ≡ true
 edges_formed p is d v e =
@@ -62,12 +63,12 @@ within_all f n (x ∷ xs) h zero d room = (and_parts (are_indices n 0 (f x)) (li
 within_all f n (x ∷ xs) h (suc k) d room = within_all f n xs (and_parts (are_indices n 0 (f x)) (list_all (are_indices n 0) (map f xs)) h).1 k d (omega arith)
 
 -- each index is a node
-pub nodes_within : {A : Type 0} (f : A → List ℕ) (n : ℕ) (xs : List A) → above_sets (map f xs) ≤ n → list_all (are_indices 2048 0) (map f xs) ≡ true
+pub nodes_within : {A : Type 0} (f : A → List ℕ) (n : ℕ) (xs : List A) → above_sets (map f xs) ≤ n → list_all (are_indices most_indices 0) (map f xs) ≡ true
     → (k : ℕ) (d : A) → k < length xs → (i e : ℕ) → i < length (f (get_or xs k d)) → get_or (f (get_or xs k d)) i e < n
 nodes_within f n xs above h k d room i e inside =
-    within_one n 0 (f (get_or xs k d)) (within_all f n xs (all_below_above n 2048 (map f xs) above h) k d room) i e inside
+    within_one n 0 (f (get_or xs k d)) (within_all f n xs (all_below_above n most_rows (map f xs) above h) k d room) i e inside
 
-pub edges_have_form : (p : PropId) (rows : List (List ℕ)) → value_kind p ≡ kind.Edges → length rows ≤ 2048 → above_sets rows ≤ length rows → list_all (are_indices 2048 0) rows ≡ true
+pub edges_have_form : (p : PropId) (rows : List (List ℕ)) → value_kind p ≡ kind.Edges → length rows ≤ most_rows → above_sets rows ≤ length rows → list_all (are_indices most_indices 0) rows ≡ true
     → are_joined_back rows 0 rows ≡ true → is_formed p (edges rows) ≡ true
 edges_have_form p rows is few above h joined =
     and_from (is_of_edges (value_kind p)) (is_edges_form rows) (ap is_of_edges is)

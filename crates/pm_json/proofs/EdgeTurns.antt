@@ -7,20 +7,21 @@ use Rattle.pm_json.proofs.Readings.{with_front-before}
 use Rattle.pm_json.specs.Readings.{items_of, nodes_from, set_from, with_front}
 use Rattle.pm_json.specs.declared.fail.ValueFail.{ValueFail}
 use Rattle.pm_json.specs.declared.fail.ValueFail.TheVariants.{Limit}
+use Rattle.pm_limits.specs.Limits.{most_rows}
 
-pub nodes_from-item : (front : List (List ℕ)) (set : List ℕ) (k : ℕ) (d : Data) (es ds : Items) → items_of d ≡ Ok es → k < 2048 → set_from [] es ≡ Ok set
+pub nodes_from-item : (front : List (List ℕ)) (set : List ℕ) (k : ℕ) (d : Data) (es ds : Items) → items_of d ≡ Ok es → k < most_rows → set_from [] es ≡ Ok set
     → with_front front (nodes_from k (item d ds)) ≡ with_front (front ++ set ∷ []) (nodes_from (suc k) ds)
-nodes_from-item front set k d es ds items room is = rw (items, lt-ltb k 2048 room, is) (with_front-before front set (nodes_from (suc k) ds))
+nodes_from-item front set k d es ds items room is = rw (items, lt-ltb k most_rows room, is) (with_front-before front set (nodes_from (suc k) ds))
 
 pub nodes_from-no_items : (front : List (List ℕ)) (k : ℕ) (d : Data) (ds : Items) (fault : ValueFail) → items_of d ≡ Err fault → with_front front (nodes_from k (item d ds)) ≡ Err fault
 nodes_from-no_items front k d ds fault is = rw is refl
 
-pub nodes_from-full : (front : List (List ℕ)) (k : ℕ) (d : Data) (es ds : Items) → items_of d ≡ Ok es → 2048 ≤ k → with_front front (nodes_from k (item d ds)) ≡ Err Limit
-nodes_from-full front k d es ds items full = rw (items, le-ltb k 2048 full) refl
+pub nodes_from-full : (front : List (List ℕ)) (k : ℕ) (d : Data) (es ds : Items) → items_of d ≡ Ok es → most_rows ≤ k → with_front front (nodes_from k (item d ds)) ≡ Err Limit
+nodes_from-full front k d es ds items full = rw (items, le-ltb k most_rows full) refl
 
-pub nodes_from-no_set : (front : List (List ℕ)) (k : ℕ) (d : Data) (es ds : Items) (fault : ValueFail) → items_of d ≡ Ok es → k < 2048 → set_from [] es ≡ Err fault
+pub nodes_from-no_set : (front : List (List ℕ)) (k : ℕ) (d : Data) (es ds : Items) (fault : ValueFail) → items_of d ≡ Ok es → k < most_rows → set_from [] es ≡ Err fault
     → with_front front (nodes_from k (item d ds)) ≡ Err fault
-nodes_from-no_set front k d es ds fault items room is = rw (items, lt-ltb k 2048 room, is) refl
+nodes_from-no_set front k d es ds fault items room is = rw (items, lt-ltb k most_rows room, is) refl
 
 pub nodes_from-end : (front : List (List ℕ)) (k : ℕ) → with_front front (nodes_from k no_items) ≡ Ok front
 nodes_from-end front k = ap (λ l. Ok l) (append-nil front)

@@ -9,6 +9,7 @@ use Rattle.pm_types.specs.Forms.{are_indices}
 use Rattle.pm_json.proofs.Readings.{with_front-before}
 use Rattle.pm_json.proofs.SetLimits.{index_below, indices_put}
 use Rattle.pm_json.specs.Readings.{face_from, faces_from, has_index, index_of, items_of, with_front, with_index}
+use Rattle.pm_limits.specs.Limits.{most_faces, most_indices, most_places, most_rows}
 
 length_with : (j : ℕ) (set : List ℕ) → length (with_index j set) ≡ suc (length set)
 length_with j [] = refl
@@ -18,31 +19,31 @@ length_with j (k ∷ set) =
 -- the face with one index more
 pub record Put (before : ℕ) (face new : List ℕ) (d : Data) (ds : Items) : Type 0 where
   pub goes_on : face_from (before + length face) face (item d ds) ≡ face_from (before + length new) new ds
-  pub few : before + length new ≤ 4000000
-  pub indices : are_indices 2048 0 new ≡ true
+  pub few : before + length new ≤ most_places
+  pub indices : are_indices most_indices 0 new ≡ true
 
-pub put : (before j : ℕ) (face new : List ℕ) (d : Data) (ds : Items) → index_of d ≡ Ok j → has_index j face ≡ false → before + length face < 4000000 → are_indices 2048 0 face ≡ true → new ≡ with_index j face
+pub put : (before j : ℕ) (face new : List ℕ) (d : Data) (ds : Items) → index_of d ≡ Ok j → has_index j face ≡ false → before + length face < most_places → are_indices most_indices 0 face ≡ true → new ≡ with_index j face
     → Put before face new d ds
 put before j face new d ds is other room indices e =
     let long = length_with j face in
     let next : suc (before + length face) ≡ before + length (with_index j face) = omega arith in
     subst (λ (f : List ℕ). Put before face f d ds) (sym e) (record {
-      goes_on = rw (is, other, lt-ltb (before + length face) 4000000 room) (ap (λ (k : ℕ). face_from k (with_index j face) ds) next);
+      goes_on = rw (is, other, lt-ltb (before + length face) most_places room) (ap (λ (k : ℕ). face_from k (with_index j face) ds) next);
       few = omega arith;
-      indices = indices_put 2048 0 j face (omega arith) (index_below d j is) other indices;
+      indices = indices_put most_rows 0 j face (omega arith) (index_below d j is) other indices;
     })
 
 -- ---- the faces of a rank, a face at a time
-pub faces_from-item : (front : List (List ℕ)) (face : List ℕ) (m k : ℕ) (d : Data) (es ds : Items) → items_of d ≡ Ok es → m < 65536 → face_from k [] es ≡ Ok face
+pub faces_from-item : (front : List (List ℕ)) (face : List ℕ) (m k : ℕ) (d : Data) (es ds : Items) → items_of d ≡ Ok es → m < most_faces → face_from k [] es ≡ Ok face
     → with_front front (faces_from m k (item d ds)) ≡ with_front (front ++ face ∷ []) (faces_from (suc m) (k + length face) ds)
-faces_from-item front face m k d es ds items room is = rw (items, lt-ltb m 65536 room, is) (with_front-before front face (faces_from (suc m) (k + length face) ds))
+faces_from-item front face m k d es ds items room is = rw (items, lt-ltb m most_faces room, is) (with_front-before front face (faces_from (suc m) (k + length face) ds))
 
 -- the faces with one more behind them
 pub record PutFace {A : Type 0} (f : A → List ℕ) (m k : ℕ) (rows new : List A) (r : A) (ds : Items) : Type 0 where
   pub goes_on : with_front (map f rows ++ f r ∷ []) (faces_from (suc (m + length rows)) (k + length (f r)) ds) ≡ with_front (map f new) (faces_from (m + length new) (k + length (f r)) ds)
   pub one : length new ≡ suc (length rows)
   pub sum : sum_by length (map f new) ≡ sum_by length (map f rows) + length (f r)
-  pub indices : list_all (are_indices 2048 0) (map f rows) ≡ true → are_indices 2048 0 (f r) ≡ true → list_all (are_indices 2048 0) (map f new) ≡ true
+  pub indices : list_all (are_indices most_indices 0) (map f rows) ≡ true → are_indices most_indices 0 (f r) ≡ true → list_all (are_indices most_indices 0) (map f new) ≡ true
 
 sum_one : (xs : List (List ℕ)) (x : List ℕ) → sum_by length (xs ++ x ∷ []) ≡ sum_by length xs + length x
 sum_one xs x =
@@ -64,5 +65,5 @@ put_face {A} f m k rows new r ds e =
           ∙ ap (λ (n : ℕ). with_front (map f (rows ++ r ∷ [])) (faces_from n (k + length (f r)) ds)) next;
       one = omega arith;
       sum = ap (λ (l : List (List ℕ)). sum_by length l) mapped ∙ sum_one (map f rows) (f r);
-      indices = λ h i. subst (λ (l : List (List ℕ)). list_all (are_indices 2048 0) l ≡ true) (sym mapped) (all_one (are_indices 2048 0) (map f rows) (f r) h i);
+      indices = λ h i. subst (λ (l : List (List ℕ)). list_all (are_indices most_indices 0) l ≡ true) (sym mapped) (all_one (are_indices most_indices 0) (map f rows) (f r) h i);
     })

@@ -6,7 +6,7 @@ use Rattle.std.specs.Prelude.{⊤, if◌then◌else◌, is_some, not}
 use Rattle.pm_vector.specs.Numbers.{Ratio}
 use Rattle.pm_json.proofs.Parts.{and_then-ok, else-ok, err_ok, same_Ok, then-ok}
 use Rattle.pm_json.specs.Grammar.{AreItems, AreSetsOf, HasCols, IsArrayOf, IsColsOf, IsEntryOf, IsIndexOf, IsJsonOf, IsMatrixOf, IsRowOf, IsSetOf, IsTextOf, StatesCols, are_apart}
-use Rattle.pm_json.specs.Readings.{Read, SetsSeen, above_sets, and_then, before, before_sets, cols_member, count_of, count_up_to_2048, counts_from, edges_with, entries_from, entry_of, face_from, faces_from, first_row_of, has_index, index_below_2048, index_of, items_of, later_row_from, later_rows_from, matrix_from, matrix_of, matrix_reading, matrix_with, nodes_from, number_value_of, object_behind, only_cols, or_fault, ranks_from, reading, reading_of, rows_before, rows_from, set_from, sets_from, sets_of, sets_with, stated_last, stated_of, whole_count_of, whole_number_of, whole_of, whole_value, with_cols, with_index}
+use Rattle.pm_json.specs.Readings.{Read, SetsSeen, above_sets, and_then, before, before_sets, cols_member, count_of, count_up_to_limit, counts_from, edges_with, entries_from, entry_of, face_from, faces_from, first_row_of, has_index, index_below_limit, index_of, items_of, later_row_from, later_rows_from, matrix_from, matrix_of, matrix_reading, matrix_with, nodes_from, number_value_of, object_behind, only_cols, or_fault, ranks_from, reading, reading_of, rows_before, rows_from, set_from, sets_from, sets_of, sets_with, stated_last, stated_of, whole_count_of, whole_number_of, whole_of, whole_value, with_cols, with_index}
 use Rattle.pm_json.specs.declared.fail.ValueFail.{ValueFail}
 use Rattle.pm_json.specs.declared.fail.ValueFail.TheVariants.{Shape, Number, Index, Limit}
 use Rattle.pm_matrix.specs.Matrices.{FractionMatrix}
@@ -20,6 +20,7 @@ use Rattle.pm_types.specs.Values.{PropertyValue, matrix, sets, whole, truth, cou
 use Rattle.serde_json.specs.Data.{Data, Items, item, no_items, null, boolean, number, string, array, object}
 use Rattle.serde_json.specs.Find.{as_array, as_bool, as_i64, as_number, as_object}
 use lib.IntN.{ℤ, pos, negsuc}
+use Rattle.pm_limits.specs.Limits.{most_columns, most_faces, most_places, most_rows}
 
 -- ---- from a reading to its text: arrays
 some_from : {A : Type 0} (fault : ValueFail) (o : Option A) (a : A) → or_fault fault o ≡ Ok a → o ≡ Some a
@@ -39,8 +40,8 @@ list_from {A} Is d ds a others out e first rest =
 entries_told : (k : ℕ) (ds : Items) (r : List Ratio) → entries_from k ds ≡ Ok r → AreItems IsEntryOf ds r
 entries_told k no_items r e = subst (AreItems IsEntryOf no_items) (same_Ok [] r e) tt
 entries_told k (item d ds) r e =
-    and_then-ok (entry_of d) (λ q. cond (ltb k 33) (before q (entries_from (suc k) ds)) (Err Limit)) r e
-    (λ q is f. let p = then-ok (ltb k 33) (before q (entries_from (suc k) ds)) Limit r f in
+    and_then-ok (entry_of d) (λ q. cond (ltb k most_columns) (before q (entries_from (suc k) ds)) (Err Limit)) r e
+    (λ q is f. let p = then-ok (ltb k most_columns) (before q (entries_from (suc k) ds)) Limit r f in
     list_from IsEntryOf d ds q (entries_from (suc k) ds) r p.1 is (λ xs g. entries_told (suc k) ds xs g))
 
 first_told : (least : ℕ) (ds : Items) (r : List Ratio) → first_row_of least ds ≡ Ok r → AreItems IsEntryOf ds r
@@ -58,8 +59,8 @@ later_told n k (item d ds) r e =
 rows_told : (n k : ℕ) (ds : Items) (rows : List (List Ratio)) → later_rows_from n k ds ≡ Ok rows → AreItems IsRowOf ds rows
 rows_told n k no_items rows e = subst (AreItems IsRowOf no_items) (same_Ok [] rows e) tt
 rows_told n k (item d ds) rows e =
-    and_then-ok (items_of d) (λ es. cond (ltb k 2048) (and_then (later_row_from n 0 es) (λ r. before r (later_rows_from n (suc k) ds))) (Err Limit)) rows e
-    (λ es is f. let p = then-ok (ltb k 2048) (and_then (later_row_from n 0 es) (λ r. before r (later_rows_from n (suc k) ds))) Limit rows f in
+    and_then-ok (items_of d) (λ es. cond (ltb k most_rows) (and_then (later_row_from n 0 es) (λ r. before r (later_rows_from n (suc k) ds))) (Err Limit)) rows e
+    (λ es is f. let p = then-ok (ltb k most_rows) (and_then (later_row_from n 0 es) (λ r. before r (later_rows_from n (suc k) ds))) Limit rows f in
     and_then-ok (later_row_from n 0 es) (λ r. before r (later_rows_from n (suc k) ds)) rows p.1
     (λ r row g. list_from IsRowOf d ds r (later_rows_from n (suc k) ds) rows g (array_from IsEntryOf d es r is (later_told n 0 es r row)) (λ xs h. rows_told n (suc k) ds xs h)))
 
@@ -90,9 +91,9 @@ record IsReadWith (least : ℕ) (ds : Items) (behind : Option Data) (m : Fractio
 
 only_told : (least : ℕ) (z : ℤ) (m : FractionMatrix) → only_cols least z ≡ Ok m → (m.rows ≡ []) × (z ≡ pos m.cols) × (least ≤ m.cols)
 only_told least (pos n) m e =
-    let p = then-ok (leb least n && leb n 33) (Ok (record { cols = n; rows = [] })) Limit m e in
+    let p = then-ok (leb least n && leb n most_columns) (Ok (record { cols = n; rows = [] })) Limit m e in
     let is = same_Ok (record { cols = n; rows = [] }) m p.1 in
-    let low = leb-true least n (and_parts (leb least n) (leb n 33) p.0).0 in
+    let low = leb-true least n (and_parts (leb least n) (leb n most_columns) p.0).0 in
     (sym (ap (λ (x : FractionMatrix). x.rows) is), ap (λ (x : FractionMatrix). pos x.cols) is, subst (λ (x : FractionMatrix). least ≤ x.cols) is low)
 only_told least (negsuc n) m e = absurd (err_ok Limit m e)
 
@@ -211,10 +212,10 @@ or_false true = refl
 or_false false = refl
 
 index_told : (d : Data) (j : ℕ) → index_of d ≡ Ok j → IsIndexOf d j
-index_told d j e = and_then-ok (whole_number_of d) index_below_2048 j e (λ z is f. is ∙ by z f)
+index_told d j e = and_then-ok (whole_number_of d) index_below_limit j e (λ z is f. is ∙ by z f)
   where
-    by : (z : ℤ) → index_below_2048 z ≡ Ok j → (let r : Read ℤ = Ok z in r) ≡ Ok (pos j)
-    by (pos k) f = ap (λ (n : ℕ). Ok (pos n)) (same_Ok k j (then-ok (ltb k 2048) (Ok k) Limit j f).1)
+    by : (z : ℤ) → index_below_limit z ≡ Ok j → (let r : Read ℤ = Ok z in r) ≡ Ok (pos j)
+    by (pos k) f = ap (λ (n : ℕ). Ok (pos n)) (same_Ok k j (then-ok (ltb k most_rows) (Ok k) Limit j f).1)
     by (negsuc k) f = absurd (err_ok Index j f)
 
 one_index : (front : List ℕ) (d : Data) (ds : Items) (j : ℕ) (set : List ℕ) → IsIndexOf d j → has_index j front ≡ false → FromFront (with_index j front) ds set → FromFront front (item d ds) set
@@ -242,8 +243,8 @@ set_told d ds set is e = let f = set_from_front [] ds set e in record { indices 
 nodes_told : (k : ℕ) (ds : Items) (rows : List (List ℕ)) → nodes_from k ds ≡ Ok rows → AreItems IsSetOf ds rows
 nodes_told k no_items rows e = subst (AreItems IsSetOf no_items) (same_Ok [] rows e) tt
 nodes_told k (item d ds) rows e =
-    and_then-ok (items_of d) (λ es. cond (ltb k 2048) (and_then (set_from [] es) (λ set. before set (nodes_from (suc k) ds))) (Err Limit)) rows e
-    (λ es is f. let p = then-ok (ltb k 2048) (and_then (set_from [] es) (λ set. before set (nodes_from (suc k) ds))) Limit rows f in
+    and_then-ok (items_of d) (λ es. cond (ltb k most_rows) (and_then (set_from [] es) (λ set. before set (nodes_from (suc k) ds))) (Err Limit)) rows e
+    (λ es is f. let p = then-ok (ltb k most_rows) (and_then (set_from [] es) (λ set. before set (nodes_from (suc k) ds))) Limit rows f in
     and_then-ok (set_from [] es) (λ set. before set (nodes_from (suc k) ds)) rows p.1
     (λ set one g. list_from IsSetOf d ds set (nodes_from (suc k) ds) rows g (set_told d es set is one) (λ xs h. nodes_told (suc k) ds xs h)))
 
@@ -261,11 +262,11 @@ record SetsTold (ds : Items) (s : SetsSeen) : Type 0 where
 stated_told : (d : Data) (n : ℕ) → stated_of d ≡ Ok n → IsColsOf d n
 stated_told d n e =
     and_then-ok (cols_member d) count_of n e
-    (λ c is f. and_then-ok (whole_number_of c) count_up_to_2048 n f
+    (λ c is f. and_then-ok (whole_number_of c) count_up_to_limit n f
     (λ z w g. ap (λ r. and_then r whole_number_of) is ∙ w ∙ by z g))
   where
-    by : (z : ℤ) → count_up_to_2048 z ≡ Ok n → (let r : Read ℤ = Ok z in r) ≡ Ok (pos n)
-    by (pos k) g = ap (λ (m : ℕ). Ok (pos m)) (same_Ok k n (then-ok (leb k 2048) (Ok k) Limit n g).1)
+    by : (z : ℤ) → count_up_to_limit z ≡ Ok n → (let r : Read ℤ = Ok z in r) ≡ Ok (pos n)
+    by (pos k) g = ap (λ (m : ℕ). Ok (pos m)) (same_Ok k n (then-ok (leb k most_rows) (Ok k) Limit n g).1)
     by (negsuc k) g = absurd (err_ok Limit n g)
 
 -- no array is an object
@@ -301,12 +302,12 @@ sets_list_told k no_items s e = subst (SetsTold no_items) (same_Ok (record { row
 sets_list_told k (item d ds) s e = by (is_some (as_object d)) refl e (λ x f. sets_list_told (suc k) ds x f)
   where
     by : (t : Bool) → is_some (as_object d) ≡ t
-        → (if t then stated_last d ds else and_then (items_of d) (λ es. if ltb k 2048 then and_then (set_from [] es) (λ set. before_sets set (sets_from (suc k) ds)) else Err Limit)) ≡ Ok s
+        → (if t then stated_last d ds else and_then (items_of d) (λ es. if ltb k most_rows then and_then (set_from [] es) (λ set. before_sets set (sets_from (suc k) ds)) else Err Limit)) ≡ Ok s
         → ((x : SetsSeen) → sets_from (suc k) ds ≡ Ok x → SetsTold ds x) → SetsTold (item d ds) s
     by true is f rest = last_told d ds s is f
     by false is f rest =
-        and_then-ok (items_of d) (λ es. if ltb k 2048 then and_then (set_from [] es) (λ set. before_sets set (sets_from (suc k) ds)) else Err Limit) s f
-        (λ es listed g. let p = then-ok (ltb k 2048) (and_then (set_from [] es) (λ set. before_sets set (sets_from (suc k) ds))) Limit s g in
+        and_then-ok (items_of d) (λ es. if ltb k most_rows then and_then (set_from [] es) (λ set. before_sets set (sets_from (suc k) ds)) else Err Limit) s f
+        (λ es listed g. let p = then-ok (ltb k most_rows) (and_then (set_from [] es) (λ set. before_sets set (sets_from (suc k) ds))) Limit s g in
         and_then-ok (set_from [] es) (λ set. before_sets set (sets_from (suc k) ds)) s p.1
         (λ set one h. and_then-ok (sets_from (suc k) ds) (λ x. Ok (record x { rows = set ∷ x.rows })) s h
         (λ x more u. subst (SetsTold (item d ds)) (same_Ok (record x { rows = set ∷ x.rows }) s u) (sets_more d ds es set x listed (set_told d es set listed one) (rest x more)))))
@@ -336,9 +337,9 @@ sets_text d v e =
 face_from_front : (k : ℕ) (front : List ℕ) (ds : Items) (set : List ℕ) → face_from k front ds ≡ Ok set → FromFront front ds set
 face_from_front k front no_items set e = subst (FromFront front no_items) (same_Ok front set e) (record { js = []; items = tt; apart = refl; new = refl; members = λ i. or_false (has_index i front) })
 face_from_front k front (item d ds) set e =
-    and_then-ok (index_of d) (λ j. cond (has_index j front) (Err Shape) (cond (ltb k 4000000) (face_from (suc k) (with_index j front) ds) (Err Limit))) set e
-    (λ j is f. let p = else-ok (has_index j front) (cond (ltb k 4000000) (face_from (suc k) (with_index j front) ds) (Err Limit)) Shape set f in
-    let q = then-ok (ltb k 4000000) (face_from (suc k) (with_index j front) ds) Limit set p.1 in
+    and_then-ok (index_of d) (λ j. cond (has_index j front) (Err Shape) (cond (ltb k most_places) (face_from (suc k) (with_index j front) ds) (Err Limit))) set e
+    (λ j is f. let p = else-ok (has_index j front) (cond (ltb k most_places) (face_from (suc k) (with_index j front) ds) (Err Limit)) Shape set f in
+    let q = then-ok (ltb k most_places) (face_from (suc k) (with_index j front) ds) Limit set p.1 in
     one_index front d ds j set (index_told d j is) p.0 (face_from_front (suc k) (with_index j front) ds set q.1))
 
 face_told : (k : ℕ) (d : Data) (ds : Items) (set : List ℕ) → items_of d ≡ Ok ds → face_from k [] ds ≡ Ok set → IsSetOf d set
@@ -347,8 +348,8 @@ face_told k d ds set is e = let f = face_from_front k [] ds set e in record { in
 faces_told : (m k : ℕ) (ds : Items) (faces : List (List ℕ)) → faces_from m k ds ≡ Ok faces → AreItems IsSetOf ds faces
 faces_told m k no_items faces e = subst (AreItems IsSetOf no_items) (same_Ok [] faces e) tt
 faces_told m k (item d ds) faces e =
-    and_then-ok (items_of d) (λ es. cond (ltb m 65536) (and_then (face_from k [] es) (λ face. before face (faces_from (suc m) (k + length face) ds))) (Err Limit)) faces e
-    (λ es is f. let p = then-ok (ltb m 65536) (and_then (face_from k [] es) (λ face. before face (faces_from (suc m) (k + length face) ds))) Limit faces f in
+    and_then-ok (items_of d) (λ es. cond (ltb m most_faces) (and_then (face_from k [] es) (λ face. before face (faces_from (suc m) (k + length face) ds))) (Err Limit)) faces e
+    (λ es is f. let p = then-ok (ltb m most_faces) (and_then (face_from k [] es) (λ face. before face (faces_from (suc m) (k + length face) ds))) Limit faces f in
     and_then-ok (face_from k [] es) (λ face. before face (faces_from (suc m) (k + length face) ds)) faces p.1
     (λ face one g. list_from IsSetOf d ds face (faces_from (suc m) (k + length face) ds) faces g (face_told k d es face is one) (λ xs h. faces_told (suc m) (k + length face) ds xs h)))
 
@@ -366,8 +367,8 @@ IsCountOf d k = whole_count_of d ≡ Ok k
 counts_told : (k : ℕ) (ds : Items) (ks : List ℤ) → counts_from k ds ≡ Ok ks → AreItems IsCountOf ds ks
 counts_told k no_items ks e = subst (AreItems IsCountOf no_items) (same_Ok [] ks e) tt
 counts_told k (item d ds) ks e =
-    and_then-ok (whole_count_of d) (λ z. cond (ltb k 2048) (before z (counts_from (suc k) ds)) (Err Limit)) ks e
-    (λ z is f. let p = then-ok (ltb k 2048) (before z (counts_from (suc k) ds)) Limit ks f in
+    and_then-ok (whole_count_of d) (λ z. cond (ltb k most_rows) (before z (counts_from (suc k) ds)) (Err Limit)) ks e
+    (λ z is f. let p = then-ok (ltb k most_rows) (before z (counts_from (suc k) ds)) Limit ks f in
     list_from IsCountOf d ds z (counts_from (suc k) ds) ks p.1 is (λ xs g. counts_told (suc k) ds xs g))
 
 -- ---- values

@@ -9,7 +9,7 @@ use Rattle.pm_json.proofs.Grammar.{IsCountOf, Stated, are_new, has_put, is_not}
 use Rattle.pm_json.proofs.Parts.{and_then-ok, else-ok, err_ok, same_Ok}
 use Rattle.pm_json.proofs.SetLimits.{above_sets_bound, set_keeps_limits}
 use Rattle.pm_json.specs.Grammar.{AreItems, AreRowsOf, AreSetsOf, HasCols, IsArrayOf, IsColsOf, IsEntryOf, IsIndexOf, IsJsonOf, IsMatrixOf, IsRowOf, IsSetOf, IsTextOf, StatesCols, are_apart}
-use Rattle.pm_json.specs.Readings.{above_sets, and_then, cols_member, count_of, count_up_to_2048, counts_from, counts_of, edges_of, entries_from, face_from, faces_from, first_row_of, has_index, index_of, later_row_from, later_rows_from, lattice_of, matrix_of, matrix_reading, matrix_with, nodes_from, object_behind, ranks_from, reading, reading_of, rows_before, rows_from, set_from, sets_from, sets_of, stated_of, whole_number_of, whole_value, with_index}
+use Rattle.pm_json.specs.Readings.{above_sets, and_then, cols_member, count_of, count_up_to_limit, counts_from, counts_of, edges_of, entries_from, face_from, faces_from, first_row_of, has_index, index_of, later_row_from, later_rows_from, lattice_of, matrix_of, matrix_reading, matrix_with, nodes_from, object_behind, ranks_from, reading, reading_of, rows_before, rows_from, set_from, sets_from, sets_of, stated_of, whole_number_of, whole_value, with_index}
 use Rattle.pm_json.specs.declared.fail.ValueFail.{ValueFail}
 use Rattle.pm_json.specs.declared.fail.ValueFail.TheVariants.{Shape, Limit}
 use Rattle.pm_json.specs.Laws.{TextsAreRead}
@@ -23,15 +23,16 @@ use Rattle.pm_types.specs.Values.{PropertyValue, matrix, sets, whole, truth, cou
 use Rattle.serde_json.specs.Data.{Data, Items, item, no_items, null, boolean, number, string, array, object}
 use Rattle.serde_json.specs.Find.{as_array, as_object}
 use lib.IntN.{ℤ, pos}
+use Rattle.pm_limits.specs.Limits.{most_columns, most_faces, most_indices, most_places, most_rows}
 
 -- ---- rows
-entries_read : (k : ℕ) (ds : Items) (r : List Ratio) → AreItems IsEntryOf ds r → k + length r ≤ 33 → entries_from k ds ≡ Ok r
+entries_read : (k : ℕ) (ds : Items) (r : List Ratio) → AreItems IsEntryOf ds r → k + length r ≤ most_columns → entries_from k ds ≡ Ok r
 entries_read k no_items [] h few = refl
 entries_read k no_items (q ∷ r) h few = absurd h
 entries_read k (item d ds) [] h few = absurd h
-entries_read k (item d ds) (q ∷ r) h few = rw (h.0, lt-ltb k 33 (omega arith), entries_read (suc k) ds r h.1 (omega arith)) refl
+entries_read k (item d ds) (q ∷ r) h few = rw (h.0, lt-ltb k most_columns (omega arith), entries_read (suc k) ds r h.1 (omega arith)) refl
 
-first_read : (least : ℕ) (ds : Items) (r : List Ratio) → AreItems IsEntryOf ds r → least ≤ length r → length r ≤ 33 → first_row_of least ds ≡ Ok r
+first_read : (least : ℕ) (ds : Items) (r : List Ratio) → AreItems IsEntryOf ds r → least ≤ length r → length r ≤ most_columns → first_row_of least ds ≡ Ok r
 first_read least ds r h some few = rw (entries_read 0 ds r h (omega arith), le-ltb (length r) least some) refl
 
 later_read : (n k : ℕ) (ds : Items) (r : List Ratio) → AreItems IsEntryOf ds r → k + length r ≡ n → later_row_from n k ds ≡ Ok r
@@ -40,18 +41,18 @@ later_read n k no_items (q ∷ r) h e = absurd h
 later_read n k (item d ds) [] h e = absurd h
 later_read n k (item d ds) (q ∷ r) h e = rw (lt-ltb k n (omega arith), h.0, later_read n (suc k) ds r h.1 (omega arith)) refl
 
-rows_read : (n k : ℕ) (ds : Items) (rows : List (List Ratio)) → AreItems IsRowOf ds rows → k + length rows ≤ 2048 → list_all (is_row_of_entries n) rows ≡ true → later_rows_from n k ds ≡ Ok rows
+rows_read : (n k : ℕ) (ds : Items) (rows : List (List Ratio)) → AreItems IsRowOf ds rows → k + length rows ≤ most_rows → list_all (is_row_of_entries n) rows ≡ true → later_rows_from n k ds ≡ Ok rows
 rows_read n k no_items [] h few long = refl
 rows_read n k no_items (r ∷ rows) h few long = absurd h
 rows_read n k (item d ds) [] h few long = absurd h
 rows_read n k (item d ds) (r ∷ rows) ((es, is, row), h) few long =
     let p = and_parts (eqb (length r) n) (list_all (is_row_of_entries n) rows) long in
-    rw (is, lt-ltb k 2048 (omega arith), later_read n 0 es r row (let e = eqb-true (length r) n p.0 in omega arith), rows_read n (suc k) ds rows h (omega arith) p.1) refl
+    rw (is, lt-ltb k most_rows (omega arith), later_read n 0 es r row (let e = eqb-true (length r) n p.0 in omega arith), rows_read n (suc k) ds rows h (omega arith) p.1) refl
 
 -- ---- matrices
 record HasRows (least n : ℕ) (rows : List (List Ratio)) : Type 0 where
-  few : length rows ≤ 2048
-  narrow : n ≤ 33
+  few : length rows ≤ most_rows
+  narrow : n ≤ most_columns
   wide : (r : List Ratio) (others : List (List Ratio)) → rows ≡ r ∷ others → least ≤ n
   long : list_all (is_row_of_entries n) rows ≡ true
 
@@ -72,7 +73,7 @@ no_rows least (item d ds) h = absurd h
 with_read : (least n : ℕ) (ds : Items) (behind : Option Data) (rows : List (List Ratio)) → AreItems IsRowOf ds rows → StatesCols least behind n rows → HasRows least n rows → matrix_with least ds behind ≡ Ok (record { cols = n; rows = rows })
 with_read least n ds None [] h c f = no_rows least ds h ∙ ap (λ (k : ℕ). Ok (record { cols = k; rows = [] })) (sym c)
 with_read least n ds None (r ∷ rows) h c f = all_read least n ds r rows h f
-with_read least n ds (Some d) [] h c f = let narrow = f.narrow in rw (no_rows least ds h, c.0, le-leb least n c.1, le-leb n 33 narrow) refl
+with_read least n ds (Some d) [] h c f = let narrow = f.narrow in rw (no_rows least ds h, c.0, le-leb least n c.1, le-leb n most_columns narrow) refl
 with_read least n ds (Some d) (r ∷ rows) h c f =
     let more : eqb (suc (length rows)) 0 ≡ false = ne_eqb (suc (length rows)) 0 (λ e. omega arith) in
     let same : eqb n n ≡ true = eq-eqb n n refl in
@@ -83,22 +84,22 @@ matrix_read least n d rows m f = rw (m.array, with_read least n (rows_before m.i
 
 has_rows : (n : ℕ) (rows : List (List Ratio)) → is_matrix_form n rows ≡ true → HasRows 1 n rows
 has_rows n rows form =
-    let p = and_parts (leb (length rows) 2048 && is_column_count rows n) (list_all (is_row_of_entries n) rows) form in
-    let q = and_parts (leb (length rows) 2048) (is_column_count rows n) p.0 in
-    record { few = leb-true (length rows) 2048 q.0; narrow = narrow rows q.1; wide = λ r others e. wide r others (subst (λ (xs : List (List Ratio)). is_column_count xs n ≡ true) e q.1); long = p.1 }
+    let p = and_parts (leb (length rows) most_rows && is_column_count rows n) (list_all (is_row_of_entries n) rows) form in
+    let q = and_parts (leb (length rows) most_rows) (is_column_count rows n) p.0 in
+    record { few = leb-true (length rows) most_rows q.0; narrow = narrow rows q.1; wide = λ r others e. wide r others (subst (λ (xs : List (List Ratio)). is_column_count xs n ≡ true) e q.1); long = p.1 }
   where
-    narrow : (rows : List (List Ratio)) → is_column_count rows n ≡ true → n ≤ 33
-    narrow [] h = leb-true n 33 h
-    narrow (r ∷ rows) h = leb-true n 33 (and_parts (leb 1 n) (leb n 33) h).1
+    narrow : (rows : List (List Ratio)) → is_column_count rows n ≡ true → n ≤ most_columns
+    narrow [] h = leb-true n most_columns h
+    narrow (r ∷ rows) h = leb-true n most_columns (and_parts (leb 1 n) (leb n most_columns) h).1
 
     wide : (r : List Ratio) (others : List (List Ratio)) → is_column_count (r ∷ others) n ≡ true → 1 ≤ n
-    wide r others h = leb-true 1 n (and_parts (leb 1 n) (leb n 33) h).0
+    wide r others h = leb-true 1 n (and_parts (leb 1 n) (leb n most_columns) h).0
 
 has_table : (n : ℕ) (rows : List (List Ratio)) → is_table_form n rows ≡ true → HasRows 0 n rows
 has_table n rows form =
-    let p = and_parts (leb (length rows) 2048 && leb n 33) (list_all (is_row_of_entries n) rows) form in
-    let q = and_parts (leb (length rows) 2048) (leb n 33) p.0 in
-    record { few = leb-true (length rows) 2048 q.0; narrow = leb-true n 33 q.1; wide = λ r others e. omega arith; long = p.1 }
+    let p = and_parts (leb (length rows) most_rows && leb n most_columns) (list_all (is_row_of_entries n) rows) form in
+    let q = and_parts (leb (length rows) most_rows) (leb n most_columns) p.0 in
+    record { few = leb-true (length rows) most_rows q.0; narrow = leb-true n most_columns q.1; wide = λ r others e. omega arith; long = p.1 }
 
 objective_read : (n : ℕ) (d : Data) (rows : List (List Ratio)) → AreRowsOf LinearObjective d n rows → is_matrix_form n rows ≡ true → matrix_reading LinearObjective d ≡ Ok (matrix n rows)
 objective_read n d rows (r, is, (ds, listed, row)) form =
@@ -115,11 +116,11 @@ rows_json_read F2Vector n d rows h form = matrix_read 0 n d rows h (has_table n 
 rows_json_read p n d rows h form = matrix_read 1 n d rows h (has_rows n rows form)
 
 -- ---- sets
-index_read : (d : Data) (j : ℕ) → IsIndexOf d j → j < 2048 → index_of d ≡ Ok j
-index_read d j h l = rw (h, lt-ltb j 2048 l) refl
+index_read : (d : Data) (j : ℕ) → IsIndexOf d j → j < most_rows → index_of d ≡ Ok j
+index_read d j h l = rw (h, lt-ltb j most_rows l) refl
 
-abbrev are_below_2048 : List ℕ → Bool
-are_below_2048 js = list_all (λ j. ltb j 2048) js
+abbrev are_small_indices : List ℕ → Bool
+are_small_indices js = list_all (λ j. ltb j most_rows) js
 
 not_is : (b : Bool) → not b ≡ true → b ≡ false
 not_is true h = sym h
@@ -155,19 +156,19 @@ shuffled true false c = refl
 shuffled false true c = refl
 shuffled false false c = refl
 
-set_read : (front : List ℕ) (ds : Items) (js : List ℕ) → AreItems IsIndexOf ds js → are_apart js ≡ true → are_new front js ≡ true → are_below_2048 js ≡ true → SetRead front ds js
+set_read : (front : List ℕ) (ds : Items) (js : List ℕ) → AreItems IsIndexOf ds js → are_apart js ≡ true → are_new front js ≡ true → are_small_indices js ≡ true → SetRead front ds js
 set_read front no_items [] h a n l = record { set = front; read = refl; members = λ i. no_more (has_index i front) }
 set_read front no_items (j ∷ js) h a n l = absurd h
 set_read front (item d ds) [] h a n l = absurd h
 set_read front (item d ds) (j ∷ js) h a n l =
     let p = and_parts (not (has_index j js)) (are_apart js) a in
     let q = and_parts (not (has_index j front)) (are_new front js) n in
-    let m = and_parts (ltb j 2048) (are_below_2048 js) l in
+    let m = and_parts (ltb j most_rows) (are_small_indices js) l in
     let s = set_read (with_index j front) ds js h.1 p.1 (new_back j front js q.1 (not_is (has_index j js) p.0)) m.1 in
     record {
       set = s.set;
       read =
-          ap (λ r. and_then r (λ i. if has_index i front then Err Shape else set_from (with_index i front) ds)) (index_read d j h.0 (ltb-true j 2048 m.0))
+          ap (λ r. and_then r (λ i. if has_index i front then Err Shape else set_from (with_index i front) ds)) (index_read d j h.0 (ltb-true j most_rows m.0))
           ∙ ap (λ (t : Bool). if t then Err Shape else set_from (with_index j front) ds) (not_is (has_index j front) q.0) ∙ s.read;
       members = λ i. s.members i ∙ ap (λ b. b || has_index i js) (has_put i j front) ∙ shuffled (eqb j i) (has_index i front) (has_index i js);
     }
@@ -247,9 +248,9 @@ within n low j (k ∷ set) h i = let p = parts_at n low k set h in by (eqb k j) 
     by true e r rest l = let same : k ≡ j = eqb-true k j e in omega arith
     by false e r rest l = rest r
 
-all_within : (js : List ℕ) → ((j : ℕ) → has_index j js ≡ true → j < 2048) → are_below_2048 js ≡ true
+all_within : (js : List ℕ) → ((j : ℕ) → has_index j js ≡ true → j < most_rows) → are_small_indices js ≡ true
 all_within [] f = refl
-all_within (k ∷ js) f = and_from (ltb k 2048) (are_below_2048 js) (lt-ltb k 2048 (f k (first_in k js))) (all_within js (λ j i. f j (later (eqb k j) (has_index j js) i)))
+all_within (k ∷ js) f = and_from (ltb k most_rows) (are_small_indices js) (lt-ltb k most_rows (f k (first_in k js))) (all_within js (λ j i. f j (later (eqb k j) (has_index j js) i)))
   where
     later : (a b : Bool) → b ≡ true → (a || b) ≡ true
     later true b h = refl
@@ -264,34 +265,34 @@ record SetIs (d : Data) (set : List ℕ) : Type 0 where
   array : as_array d ≡ Some items
   read : set_from [] items ≡ Ok set
 
-set_is : (n : ℕ) (d : Data) (set : List ℕ) → IsSetOf d set → n ≤ 2048 → are_indices n 0 set ≡ true → SetIs d set
+set_is : (n : ℕ) (d : Data) (set : List ℕ) → IsSetOf d set → n ≤ most_rows → are_indices n 0 set ≡ true → SetIs d set
 set_is n d set s few h = at s.array
   where
     at : IsArrayOf IsIndexOf d s.indices → SetIs d set
     at (ds, listed, items) =
         let r = set_read [] ds s.indices items s.apart (all_new s.indices) (all_within s.indices (λ j i. let l = within n 0 j set h (s.members j ∙ i) in omega arith)) in
-        let low : are_indices 2048 0 r.set ≡ true = set_keeps_limits [] ds r.set r.read refl in
-        let same : r.set ≡ set = same_set 2048 n 0 r.set set low h (λ i. r.members i ∙ sym (s.members i)) in
+        let low : are_indices most_indices 0 r.set ≡ true = set_keeps_limits [] ds r.set r.read refl in
+        let same : r.set ≡ set = same_set most_rows n 0 r.set set low h (λ i. r.members i ∙ sym (s.members i)) in
         record { items = ds; array = listed; read = r.read ∙ ap (λ (x : List ℕ). Ok x) same }
 
 -- the items of an array are read as its set
-pub read_set_is : (d : Data) (ds : Items) (set : List ℕ) → as_array d ≡ Some ds → IsSetOf d set → are_indices 2048 0 set ≡ true → set_from [] ds ≡ Ok set
+pub read_set_is : (d : Data) (ds : Items) (set : List ℕ) → as_array d ≡ Some ds → IsSetOf d set → are_indices most_indices 0 set ≡ true → set_from [] ds ≡ Ok set
 read_set_is d ds set e s h =
-    let r = set_is 2048 d set s (omega arith) h in
+    let r = set_is most_rows d set s (omega arith) h in
     ap (set_from []) (items_are ds r.items (sym e ∙ r.array)) ∙ r.read
   where
     items_are : (a b : Items) → Some a ≡ Some b → a ≡ b
     items_are a b g = cc
 
 -- ---- lists of sets
-nodes_read : (n k : ℕ) (ds : Items) (rows : List (List ℕ)) → AreItems IsSetOf ds rows → n ≤ 2048 → k + length rows ≤ 2048 → list_all (are_indices n 0) rows ≡ true → nodes_from k ds ≡ Ok rows
+nodes_read : (n k : ℕ) (ds : Items) (rows : List (List ℕ)) → AreItems IsSetOf ds rows → n ≤ most_rows → k + length rows ≤ most_rows → list_all (are_indices n 0) rows ≡ true → nodes_from k ds ≡ Ok rows
 nodes_read n k no_items [] h few short l = refl
 nodes_read n k no_items (set ∷ rows) h few short l = absurd h
 nodes_read n k (item d ds) [] h few short l = absurd h
 nodes_read n k (item d ds) (set ∷ rows) h few short l =
     let p = and_parts (are_indices n 0 set) (list_all (are_indices n 0) rows) l in
     let s = set_is n d set h.0 few p.0 in
-    rw (s.array, lt-ltb k 2048 (omega arith), s.read, nodes_read n (suc k) ds rows h.1 few (omega arith) p.1) refl
+    rw (s.array, lt-ltb k most_rows (omega arith), s.read, nodes_read n (suc k) ds rows h.1 few (omega arith) p.1) refl
 
 no_object : (d : Data) (ds : Items) → as_array d ≡ Some ds → is_some (as_object d) ≡ false
 no_object null ds e = refl
@@ -301,29 +302,29 @@ no_object (string s) ds e = refl
 no_object (array es) ds e = refl
 no_object (object ms) ds e = absurd (true≢false (sym (ap is_some e)))
 
-stated_read : (d : Data) (n : ℕ) → IsColsOf d n → n ≤ 2048 → stated_of d ≡ Ok n
+stated_read : (d : Data) (n : ℕ) → IsColsOf d n → n ≤ most_rows → stated_of d ≡ Ok n
 stated_read d n e few =
     and_then-ok (cols_member d) whole_number_of (pos n) e
-    (λ c is f. ap (λ r. and_then r count_of) is ∙ ap (λ r. and_then r count_up_to_2048) f ∙ ap (λ (t : Bool). if t then Ok n else Err Limit) (le-leb n 2048 few))
+    (λ c is f. ap (λ r. and_then r count_of) is ∙ ap (λ r. and_then r count_up_to_limit) f ∙ ap (λ (t : Bool). if t then Ok n else Err Limit) (le-leb n most_rows few))
 
-sets_list_read : (n k : ℕ) (ds : Items) (rows : List (List ℕ)) (st : Option ℕ) → AreItems IsSetOf (rows_before ds) rows → Stated (object_behind ds) st → ((c : ℕ) → st ≡ Some c → c ≤ 2048) → n ≤ 2048 → k + length rows ≤ 2048 → list_all (are_indices n 0) rows ≡ true
+sets_list_read : (n k : ℕ) (ds : Items) (rows : List (List ℕ)) (st : Option ℕ) → AreItems IsSetOf (rows_before ds) rows → Stated (object_behind ds) st → ((c : ℕ) → st ≡ Some c → c ≤ most_rows) → n ≤ most_rows → k + length rows ≤ most_rows → list_all (are_indices n 0) rows ≡ true
     → sets_from k ds ≡ Ok (record { rows = rows; stated = st })
 sets_list_read n k no_items [] None h t b few short l = refl
 sets_list_read n k no_items [] (Some c) h t b few short l = absurd t
 sets_list_read n k no_items (set ∷ rows) st h t b few short l = absurd h
 sets_list_read n k (item d no_items) rows st h t b few short l = by (is_some (as_object d)) refl rows st h t b short l
   where
-    one : (rows : List (List ℕ)) (st : Option ℕ) → is_some (as_object d) ≡ false → AreItems IsSetOf (item d no_items) rows → Stated None st → k + length rows ≤ 2048 → list_all (are_indices n 0) rows ≡ true → sets_from k (item d no_items) ≡ Ok (record { rows = rows; stated = st })
+    one : (rows : List (List ℕ)) (st : Option ℕ) → is_some (as_object d) ≡ false → AreItems IsSetOf (item d no_items) rows → Stated None st → k + length rows ≤ most_rows → list_all (are_indices n 0) rows ≡ true → sets_from k (item d no_items) ≡ Ok (record { rows = rows; stated = st })
     one [] st e g u s m = absurd g
     one (set ∷ []) None e g u s m =
         let p = and_parts (are_indices n 0 set) true m in
         let is = set_is n d set g.0 few p.0 in
-        rw (e, is.array, lt-ltb k 2048 (omega arith), is.read) refl
+        rw (e, is.array, lt-ltb k most_rows (omega arith), is.read) refl
     one (set ∷ []) (Some c) e g u s m = absurd u
     one (set ∷ other ∷ rows) st e g u s m = absurd g.1
 
-    by : (t : Bool) → is_some (as_object d) ≡ t → (rows : List (List ℕ)) (st : Option ℕ) → AreItems IsSetOf (if t then no_items else item d no_items) rows → Stated (if t then Some d else None) st → ((c : ℕ) → st ≡ Some c → c ≤ 2048)
-        → k + length rows ≤ 2048 → list_all (are_indices n 0) rows ≡ true → sets_from k (item d no_items) ≡ Ok (record { rows = rows; stated = st })
+    by : (t : Bool) → is_some (as_object d) ≡ t → (rows : List (List ℕ)) (st : Option ℕ) → AreItems IsSetOf (if t then no_items else item d no_items) rows → Stated (if t then Some d else None) st → ((c : ℕ) → st ≡ Some c → c ≤ most_rows)
+        → k + length rows ≤ most_rows → list_all (are_indices n 0) rows ≡ true → sets_from k (item d no_items) ≡ Ok (record { rows = rows; stated = st })
     by true e [] (Some c) g u v s m = rw (e, stated_read d c u (v c refl)) refl
     by true e [] None g u v s m = absurd u
     by true e (set ∷ rows) st g u v s m = absurd g
@@ -332,22 +333,22 @@ sets_list_read n k (item d (item x ds)) [] st h t b few short l = absurd h
 sets_list_read n k (item d (item x ds)) (set ∷ rows) st h t b few short l =
     let p = and_parts (are_indices n 0 set) (list_all (are_indices n 0) rows) l in
     let s = set_is n d set h.0 few p.0 in
-    rw (no_object d s.items s.array, s.array, lt-ltb k 2048 (omega arith), s.read, sets_list_read n (suc k) (item x ds) rows st h.1 t b few (omega arith) p.1) refl
+    rw (no_object d s.items s.array, s.array, lt-ltb k most_rows (omega arith), s.read, sets_list_read n (suc k) (item x ds) rows st h.1 t b few (omega arith) p.1) refl
 
 sets_json_read : (d : Data) (rows : List (List ℕ)) (n : ℕ) → AreSetsOf d rows n → is_sets_form rows n ≡ true → sets_of d ≡ Ok (sets rows n)
 sets_json_read d rows n s form = by (object_behind s.items) refl s.cols
   where
-    p : (leb (length rows) 2048 && leb n 2048 ≡ true) × (list_all (are_indices n 0) rows ≡ true)
-    p = and_parts (leb (length rows) 2048 && leb n 2048) (list_all (are_indices n 0) rows) form
+    p : (leb (length rows) most_rows && leb n most_rows ≡ true) × (list_all (are_indices n 0) rows ≡ true)
+    p = and_parts (leb (length rows) most_rows && leb n most_rows) (list_all (are_indices n 0) rows) form
 
-    q : (leb (length rows) 2048 ≡ true) × (leb n 2048 ≡ true)
-    q = and_parts (leb (length rows) 2048) (leb n 2048) p.0
+    q : (leb (length rows) most_rows ≡ true) × (leb n most_rows ≡ true)
+    q = and_parts (leb (length rows) most_rows) (leb n most_rows) p.0
 
-    short : length rows ≤ 2048
-    short = leb-true (length rows) 2048 q.0
+    short : length rows ≤ most_rows
+    short = leb-true (length rows) most_rows q.0
 
-    few : n ≤ 2048
-    few = leb-true n 2048 q.1
+    few : n ≤ most_rows
+    few = leb-true n most_rows q.1
 
     one_is : (a c : ℕ) → Some a ≡ Some c → a ≡ c
     one_is a c e = cc
@@ -366,8 +367,8 @@ sets_json_read d rows n s form = by (object_behind s.items) refl s.cols
 edges_read : (d : Data) (rows : List (List ℕ)) → IsArrayOf IsSetOf d rows → is_edges_form rows ≡ true → edges_of d ≡ Ok (edges rows)
 edges_read d rows (ds, listed, items) form =
     let p = and_parts (is_sets_form rows (length rows)) (are_joined_back rows 0 rows) form in
-    let q = and_parts (leb (length rows) 2048 && leb (length rows) 2048) (list_all (are_indices (length rows) 0) rows) p.0 in
-    let few = leb-true (length rows) 2048 (and_parts (leb (length rows) 2048) (leb (length rows) 2048) q.0).0 in
+    let q = and_parts (leb (length rows) most_rows && leb (length rows) most_rows) (list_all (are_indices (length rows) 0) rows) p.0 in
+    let few = leb-true (length rows) most_rows (and_parts (leb (length rows) most_rows) (leb (length rows) most_rows) q.0).0 in
     rw (listed, nodes_read (length rows) 0 ds rows items few (omega arith) q.1, le-leb (above_sets rows) (length rows) (above_sets_bound (length rows) rows q.1), p.1) refl
 
 -- ---- lattices
@@ -389,53 +390,53 @@ set_longer front (item d ds) set e =
     omega arith)
 
 -- a face is read as a set is, where the lattice has room for it
-face_read : (k : ℕ) (front : List ℕ) (ds : Items) (set : List ℕ) → set_from front ds ≡ Ok set → k + length set ≤ 4000000 + length front → face_from k front ds ≡ Ok set
+face_read : (k : ℕ) (front : List ℕ) (ds : Items) (set : List ℕ) → set_from front ds ≡ Ok set → k + length set ≤ most_places + length front → face_from k front ds ≡ Ok set
 face_read k front no_items set e few = e
 face_read k front (item d ds) set e few =
     and_then-ok (index_of d) (λ j. cond (has_index j front) (Err Shape) (set_from (with_index j front) ds)) set e
     (λ j is f. let p = else-ok (has_index j front) (set_from (with_index j front) ds) Shape set f in
     let long = set_longer (with_index j front) ds set p.1 in
     let put = length_put j front in
-    rw (is, p.0, lt-ltb k 4000000 (omega arith)) (face_read (suc k) (with_index j front) ds set p.1 (omega arith)))
+    rw (is, p.0, lt-ltb k most_places (omega arith)) (face_read (suc k) (with_index j front) ds set p.1 (omega arith)))
 
-faces_read : (m k : ℕ) (ds : Items) (faces : List (List ℕ)) → AreItems IsSetOf ds faces → m + length faces ≤ 65536 → k + sum_by length faces ≤ 4000000 → list_all (are_indices 2048 0) faces ≡ true → faces_from m k ds ≡ Ok faces
+faces_read : (m k : ℕ) (ds : Items) (faces : List (List ℕ)) → AreItems IsSetOf ds faces → m + length faces ≤ most_faces → k + sum_by length faces ≤ most_places → list_all (are_indices most_indices 0) faces ≡ true → faces_from m k ds ≡ Ok faces
 faces_read m k no_items [] h few short l = refl
 faces_read m k no_items (face ∷ faces) h few short l = absurd h
 faces_read m k (item d ds) [] h few short l = absurd h
 faces_read m k (item d ds) (face ∷ faces) h few short l =
-    let p = and_parts (are_indices 2048 0 face) (list_all (are_indices 2048 0) faces) l in
+    let p = and_parts (are_indices most_indices 0 face) (list_all (are_indices most_indices 0) faces) l in
     let places = sum_by-cons length face faces in
-    let s = set_is 2048 d face h.0 (omega arith) p.0 in
-    rw (s.array, lt-ltb m 65536 (omega arith), face_read k [] s.items face s.read (omega arith), faces_read (suc m) (k + length face) ds faces h.1 (omega arith) (omega arith) p.1) refl
+    let s = set_is most_rows d face h.0 (omega arith) p.0 in
+    rw (s.array, lt-ltb m most_faces (omega arith), face_read k [] s.items face s.read (omega arith), faces_read (suc m) (k + length face) ds faces h.1 (omega arith) (omega arith) p.1) refl
 
-ranks_read : (m k : ℕ) (ds : Items) (ranks : List (List (List ℕ))) → AreItems (IsArrayOf IsSetOf) ds ranks → m + sum_by length ranks ≤ 65536 → k + sum_by (sum_by length) ranks ≤ 4000000 → list_all (list_all (are_indices 2048 0)) ranks ≡ true → ranks_from m k ds ≡ Ok ranks
+ranks_read : (m k : ℕ) (ds : Items) (ranks : List (List (List ℕ))) → AreItems (IsArrayOf IsSetOf) ds ranks → m + sum_by length ranks ≤ most_faces → k + sum_by (sum_by length) ranks ≤ most_places → list_all (list_all (are_indices most_indices 0)) ranks ≡ true → ranks_from m k ds ≡ Ok ranks
 ranks_read m k no_items [] h few short l = refl
 ranks_read m k no_items (faces ∷ ranks) h few short l = absurd h
 ranks_read m k (item d ds) [] h few short l = absurd h
 ranks_read m k (item d ds) (faces ∷ ranks) ((es, listed, items), h) few short l =
-    let p = and_parts (list_all (are_indices 2048 0) faces) (list_all (list_all (are_indices 2048 0)) ranks) l in
+    let p = and_parts (list_all (are_indices most_indices 0) faces) (list_all (list_all (are_indices most_indices 0)) ranks) l in
     let all = sum_by-cons length faces ranks in
     let places = sum_by-cons (sum_by length) faces ranks in
     rw (listed, faces_read m k es faces items (omega arith) (omega arith) p.0, ranks_read (m + length faces) (k + sum_by length faces) ds ranks h (omega arith) (omega arith) p.1) refl
 
 lattice_read : (d : Data) (ranks : List (List (List ℕ))) → IsArrayOf (IsArrayOf IsSetOf) d ranks → is_lattice_form ranks ≡ true → lattice_of d ≡ Ok (lattice ranks)
 lattice_read d ranks (ds, listed, items) form =
-    let p = and_parts (leb (sum_by length ranks) 65536 && leb (sum_by (sum_by length) ranks) 4000000) (list_all (list_all (are_indices 2048 0)) ranks) form in
-    let q = and_parts (leb (sum_by length ranks) 65536) (leb (sum_by (sum_by length) ranks) 4000000) p.0 in
-    let faces = leb-true (sum_by length ranks) 65536 q.0 in
-    let places = leb-true (sum_by (sum_by length) ranks) 4000000 q.1 in
+    let p = and_parts (leb (sum_by length ranks) most_faces && leb (sum_by (sum_by length) ranks) most_places) (list_all (list_all (are_indices most_indices 0)) ranks) form in
+    let q = and_parts (leb (sum_by length ranks) most_faces) (leb (sum_by (sum_by length) ranks) most_places) p.0 in
+    let faces = leb-true (sum_by length ranks) most_faces q.0 in
+    let places = leb-true (sum_by (sum_by length) ranks) most_places q.1 in
     rw (listed, ranks_read 0 0 ds ranks items (omega arith) (omega arith) p.1) refl
 
 -- ---- numbers
-numbers_read : (k : ℕ) (ds : Items) (ks : List ℤ) → AreItems IsCountOf ds ks → k + length ks ≤ 2048 → counts_from k ds ≡ Ok ks
+numbers_read : (k : ℕ) (ds : Items) (ks : List ℤ) → AreItems IsCountOf ds ks → k + length ks ≤ most_rows → counts_from k ds ≡ Ok ks
 numbers_read k no_items [] h few = refl
 numbers_read k no_items (z ∷ ks) h few = absurd h
 numbers_read k (item d ds) [] h few = absurd h
-numbers_read k (item d ds) (z ∷ ks) h few = rw (h.0, lt-ltb k 2048 (omega arith), numbers_read (suc k) ds ks h.1 (omega arith)) refl
+numbers_read k (item d ds) (z ∷ ks) h few = rw (h.0, lt-ltb k most_rows (omega arith), numbers_read (suc k) ds ks h.1 (omega arith)) refl
 
 counts_read : (d : Data) (ks : List ℤ) → IsArrayOf IsCountOf d ks → is_counts_form ks ≡ true → counts_of d ≡ Ok (counts ks)
 counts_read d ks (ds, listed, items) form =
-    let few = leb-true (length ks) 2048 (and_parts (leb (length ks) 2048) (list_all has_64_bits ks) form).0 in
+    let few = leb-true (length ks) most_rows (and_parts (leb (length ks) most_rows) (list_all has_64_bits ks) form).0 in
     rw (listed, numbers_read 0 ds ks items (omega arith)) refl
 
 whole_is : (p : PropId) (k : ℤ) → is_whole_form p k ≡ true → whole_value p k ≡ Ok (whole k)

@@ -11,6 +11,7 @@ use lib.IntN.{ℤ, negsuc, pos}
 use Rattle.pm_json.proofs.Parts.{same_Ok, and_then-ok, either-ok, err_ok, then-ok, else-ok}
 use Rattle.pm_json.specs.Readings.{and_then, before, items_of, entry_of, cols_member, entries_from, first_row_of, later_row_from, later_rows_from, matrix_from, matrix_with, object_behind, only_cols, rows_before, rows_from, whole_number_of, with_cols}
 use Rattle.pm_json.specs.declared.fail.ValueFail.TheVariants.{Shape, Limit}
+use Rattle.pm_limits.specs.Limits.{most_columns, most_rows}
 
 pub later_row : (n k : ℕ) (ds : Items) (r : List Ratio) → later_row_from n k ds ≡ Ok r → k + length r ≡ n
 later_row n k no_items r e =
@@ -25,51 +26,51 @@ later_row n k (item d ds) r e =
     let all = later_row n (suc k) ds qs left in
     subst (λ (w : List Ratio). k + length w ≡ n) (same_Ok (q ∷ qs) r g) (omega arith)))
 
-entries : (k : ℕ) (ds : Items) (r : List Ratio) → k ≤ 33 → entries_from k ds ≡ Ok r → k + length r ≤ 33
-entries k no_items r h e = subst (λ (w : List Ratio). k + length w ≤ 33) (same_Ok [] r e) (omega arith)
+entries : (k : ℕ) (ds : Items) (r : List Ratio) → k ≤ most_columns → entries_from k ds ≡ Ok r → k + length r ≤ most_columns
+entries k no_items r h e = subst (λ (w : List Ratio). k + length w ≤ most_columns) (same_Ok [] r e) (omega arith)
 entries k (item d ds) r h e =
-    and_then-ok (entry_of d) (λ q. cond (ltb k 33) (before q (entries_from (suc k) ds)) (Err Limit)) r e
-    (λ q is f. let p = then-ok (ltb k 33) (before q (entries_from (suc k) ds)) Limit r f in
+    and_then-ok (entry_of d) (λ q. cond (ltb k most_columns) (before q (entries_from (suc k) ds)) (Err Limit)) r e
+    (λ q is f. let p = then-ok (ltb k most_columns) (before q (entries_from (suc k) ds)) Limit r f in
     and_then-ok (entries_from (suc k) ds) (λ qs. Ok (q ∷ qs)) r p.1
     (λ qs left g.
-    let room = ltb-true k 33 p.0 in
+    let room = ltb-true k most_columns p.0 in
     let rest = entries (suc k) ds qs (omega arith) left in
-    subst (λ (w : List Ratio). k + length w ≤ 33) (same_Ok (q ∷ qs) r g) (omega arith)))
+    subst (λ (w : List Ratio). k + length w ≤ most_columns) (same_Ok (q ∷ qs) r g) (omega arith)))
 
-pub first_row : (least : ℕ) (ds : Items) (r : List Ratio) → first_row_of least ds ≡ Ok r → (least ≤ length r) × (length r ≤ 33)
+pub first_row : (least : ℕ) (ds : Items) (r : List Ratio) → first_row_of least ds ≡ Ok r → (least ≤ length r) × (length r ≤ most_columns)
 first_row least ds r e =
     and_then-ok (entries_from 0 ds) (λ q. cond (ltb (length q) least) (Err Limit) (Ok q)) r e
     (λ q is f. let p = else-ok (ltb (length q) least) (Ok q) Limit r f in
     let high = entries 0 ds q (omega arith) is in
     let low = ltb-false (length q) least p.0 in
-    subst (λ (w : List Ratio). (least ≤ length w) × (length w ≤ 33)) (same_Ok q r p.1) (low, omega arith))
+    subst (λ (w : List Ratio). (least ≤ length w) × (length w ≤ most_columns)) (same_Ok q r p.1) (low, omega arith))
 
-later_rows : (n k : ℕ) (ds : Items) (rows : List (List Ratio)) → k ≤ 2048 → later_rows_from n k ds ≡ Ok rows → (k + length rows ≤ 2048) × (list_all (is_row_of_entries n) rows ≡ true)
+later_rows : (n k : ℕ) (ds : Items) (rows : List (List Ratio)) → k ≤ most_rows → later_rows_from n k ds ≡ Ok rows → (k + length rows ≤ most_rows) × (list_all (is_row_of_entries n) rows ≡ true)
 later_rows n k no_items rows few e =
     let same = same_Ok [] rows e in
-    (subst (λ (w : List (List Ratio)). k + length w ≤ 2048) same (omega arith), subst (λ (w : List (List Ratio)). list_all (is_row_of_entries n) w ≡ true) same refl)
+    (subst (λ (w : List (List Ratio)). k + length w ≤ most_rows) same (omega arith), subst (λ (w : List (List Ratio)). list_all (is_row_of_entries n) w ≡ true) same refl)
 later_rows n k (item d ds) rows few e =
-    and_then-ok (items_of d) (λ es. cond (ltb k 2048) (and_then (later_row_from n 0 es) (λ r. before r (later_rows_from n (suc k) ds))) (Err Limit)) rows e
-    (λ es _ f. let p = then-ok (ltb k 2048) (and_then (later_row_from n 0 es) (λ r. before r (later_rows_from n (suc k) ds))) Limit rows f in
+    and_then-ok (items_of d) (λ es. cond (ltb k most_rows) (and_then (later_row_from n 0 es) (λ r. before r (later_rows_from n (suc k) ds))) (Err Limit)) rows e
+    (λ es _ f. let p = then-ok (ltb k most_rows) (and_then (later_row_from n 0 es) (λ r. before r (later_rows_from n (suc k) ds))) Limit rows f in
     and_then-ok (later_row_from n 0 es) (λ r. before r (later_rows_from n (suc k) ds)) rows p.1
     (λ r is g. and_then-ok (later_rows_from n (suc k) ds) (λ more. Ok (r ∷ more)) rows g
     (λ more left t.
-    let room = ltb-true k 2048 p.0 in
+    let room = ltb-true k most_rows p.0 in
     let row = later_row n 0 es r is in
     let width : length r ≡ n = omega arith in
     let rest = later_rows n (suc k) ds more (omega arith) left in
     let same = same_Ok (r ∷ more) rows t in
     let count = rest.0 in (
-      subst (λ (w : List (List Ratio)). k + length w ≤ 2048) same (omega arith),
+      subst (λ (w : List (List Ratio)). k + length w ≤ most_rows) same (omega arith),
       subst (λ (w : List (List Ratio)). list_all (is_row_of_entries n) w ≡ true) same
           (and_from (is_row_of_entries n r) (list_all (is_row_of_entries n) more) (eq-eqb (length r) n width) rest.1),
     ))))
 
--- a matrix of at most 2,048 rows, of one length from `least` to 33
+-- a matrix of at most most_rows rows, of one length from `least` to 33
 pub record KeepsLimits (least : ℕ) (m : FractionMatrix) : Type 0 where
-  pub few : length m.rows ≤ 2048
+  pub few : length m.rows ≤ most_rows
   pub low : 0 < length m.rows → least ≤ m.cols
-  pub high : m.cols ≤ 33
+  pub high : m.cols ≤ most_columns
   pub widths : list_all (is_row_of_entries m.cols) m.rows ≡ true
 
 rows_keep_limits : (least : ℕ) (ds : Items) (m : FractionMatrix) → rows_from least ds ≡ Ok m → KeepsLimits least m
@@ -95,8 +96,8 @@ rows_keep_limits least (item d ds) m e =
 only_keep_limits : (least : ℕ) (z : ℤ) (m : FractionMatrix) → only_cols least z ≡ Ok m → KeepsLimits least m
 only_keep_limits least (negsuc n) m e = absurd (err_ok Limit m e)
 only_keep_limits least (pos n) m e =
-    let p = then-ok (leb least n && leb n 33) (Ok (let none : FractionMatrix = record { cols = n; rows = [] } in none)) Limit m e in
-    let high = leb-true n 33 (and_parts (leb least n) (leb n 33) p.0).1 in
+    let p = then-ok (leb least n && leb n most_columns) (Ok (let none : FractionMatrix = record { cols = n; rows = [] } in none)) Limit m e in
+    let high = leb-true n most_columns (and_parts (leb least n) (leb n most_columns) p.0).1 in
     subst (KeepsLimits least) (same_Ok (let none : FractionMatrix = record { cols = n; rows = [] } in none) m p.1) (record { few = omega arith; low = λ some. absurd (omega arith); high = high; widths = refl })
 
 with_keep_limits : (least : ℕ) (m : FractionMatrix) (z : ℤ) (out : FractionMatrix) → KeepsLimits least m → with_cols least m z ≡ Ok out → KeepsLimits least out
@@ -116,20 +117,20 @@ pub elements_keep_limits : (least : ℕ) (ds : Items) (m : FractionMatrix) → m
 elements_keep_limits least ds m e = matrix_keeps_limits least (rows_before ds) (object_behind ds) m e
 
 -- ---- forms
-column_count : (n : ℕ) (rows : List (List Ratio)) → (0 < length rows → 1 ≤ n) → n ≤ 33 → is_column_count rows n ≡ true
-column_count n [] low high = le-leb n 33 high
-column_count n (r ∷ rows) low high = and_from (leb 1 n) (leb n 33) (le-leb 1 n (low (omega arith))) (le-leb n 33 high)
+column_count : (n : ℕ) (rows : List (List Ratio)) → (0 < length rows → 1 ≤ n) → n ≤ most_columns → is_column_count rows n ≡ true
+column_count n [] low high = le-leb n most_columns high
+column_count n (r ∷ rows) low high = and_from (leb 1 n) (leb n most_columns) (le-leb 1 n (low (omega arith))) (le-leb n most_columns high)
 
 pub matrix_form : (m : FractionMatrix) → KeepsLimits 1 m → is_matrix_form m.cols m.rows ≡ true
 matrix_form m k =
-    and_from (leb (length m.rows) 2048 && is_column_count m.rows m.cols) (list_all (is_row_of_entries m.cols) m.rows)
-    (and_from (leb (length m.rows) 2048) (is_column_count m.rows m.cols) (le-leb (length m.rows) 2048 k.few) (column_count m.cols m.rows k.low k.high)) k.widths
+    and_from (leb (length m.rows) most_rows && is_column_count m.rows m.cols) (list_all (is_row_of_entries m.cols) m.rows)
+    (and_from (leb (length m.rows) most_rows) (is_column_count m.rows m.cols) (le-leb (length m.rows) most_rows k.few) (column_count m.cols m.rows k.low k.high)) k.widths
 
 pub table_form : (m : FractionMatrix) → KeepsLimits 0 m → is_table_form m.cols m.rows ≡ true
 table_form m k =
-    and_from (leb (length m.rows) 2048 && leb m.cols 33) (list_all (is_row_of_entries m.cols) m.rows)
-    (and_from (leb (length m.rows) 2048) (leb m.cols 33) (le-leb (length m.rows) 2048 k.few) (le-leb m.cols 33 k.high)) k.widths
+    and_from (leb (length m.rows) most_rows && leb m.cols most_columns) (list_all (is_row_of_entries m.cols) m.rows)
+    (and_from (leb (length m.rows) most_rows) (leb m.cols most_columns) (le-leb (length m.rows) most_rows k.few) (le-leb m.cols most_columns k.high)) k.widths
 
 -- one row
-pub objective_form : (r : List Ratio) → 1 ≤ length r → length r ≤ 33 → (eqb (length (r ∷ [])) 1 && is_matrix_form (length r) (r ∷ [])) ≡ true
+pub objective_form : (r : List Ratio) → 1 ≤ length r → length r ≤ most_columns → (eqb (length (r ∷ [])) 1 && is_matrix_form (length r) (r ∷ [])) ≡ true
 objective_form r low high = matrix_form (record { cols = length r; rows = r ∷ [] }) (record { few = omega arith; low = λ some. low; high = high; widths = and_from (is_row_of_entries (length r) r) true (eq-eqb (length r) (length r) refl) refl })

@@ -10,6 +10,7 @@ use Rattle.serde_json.specs.declared.value.Value.{Value}
 use Rattle.pm_vector.specs.Numbers.{Ratio}
 use Rattle.pm_json.specs.Readings.{Read, and_then, before, entry_of, items_of, later_row_from, later_rows_from, has_one_member, SetsSeen, before_sets, stated_last, stated_of, with_front}
 use Rattle.pm_json.specs.declared.fail.ValueFail.TheVariants.{Shape}
+use Rattle.pm_limits.specs.Limits.{most_rows}
 
 abbrev pub Entry : Type 0
 Entry = String Global × Value
@@ -41,11 +42,11 @@ later_row_from-item n front z d ds room is =
     rw (lt-ltb (length front) n room, is) (with_front-before front z (later_row_from n (suc (length front)) ds) ∙ ap (λ k. with_front (front ++ z ∷ []) (later_row_from n k ds)) one)
 
 -- the later rows, a row at a time
-pub later_rows_from-item : (n : ℕ) (front : List (List Ratio)) (r : List Ratio) (d : Data) (es ds : Items) → length front < 2048 → items_of d ≡ Ok es → later_row_from n 0 es ≡ Ok r
+pub later_rows_from-item : (n : ℕ) (front : List (List Ratio)) (r : List Ratio) (d : Data) (es ds : Items) → length front < most_rows → items_of d ≡ Ok es → later_row_from n 0 es ≡ Ok r
     → with_front front (later_rows_from n (length front) (item d ds)) ≡ with_front (front ++ r ∷ []) (later_rows_from n (length (front ++ r ∷ [])) ds)
 later_rows_from-item n front r d es ds room listed is =
     let one : suc (length front) ≡ length (front ++ r ∷ []) = omega (arith, length-append front (r ∷ [])) in
-    rw (listed, lt-ltb (length front) 2048 room, is) (with_front-before front r (later_rows_from n (suc (length front)) ds) ∙ ap (λ k. with_front (front ++ r ∷ []) (later_rows_from n k ds)) one)
+    rw (listed, lt-ltb (length front) most_rows room, is) (with_front-before front r (later_rows_from n (suc (length front)) ds) ∙ ap (λ k. with_front (front ++ r ∷ []) (later_rows_from n k ds)) one)
 
 -- an object with one member
 one_member : (es : List Entry) → eqb (length es) 1 ≡ has_one_member (object (members_view es))

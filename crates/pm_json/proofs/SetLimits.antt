@@ -9,24 +9,25 @@ use Rattle.serde_json.specs.Find.{as_object}
 use Rattle.pm_types.specs.Forms.{are_indices, is_sets_form}
 use Rattle.pm_types.specs.Values.{PropertyValue, sets}
 use Rattle.pm_json.proofs.Parts.{same_Ok, err_ok, and_then-ok, then-ok, else-ok, either-ok}
-use Rattle.pm_json.specs.Readings.{Read, and_then, cols_member, items_of, whole_number_of, index_below_2048, index_of, with_index, has_index, set_from, count_up_to_2048, count_of, stated_of, SetsSeen, before_sets, stated_last, sets_from, above_set, above_sets, sets_with}
+use Rattle.pm_json.specs.Readings.{Read, and_then, cols_member, items_of, whole_number_of, index_below_limit, index_of, with_index, has_index, set_from, count_up_to_limit, count_of, stated_of, SetsSeen, before_sets, stated_last, sets_from, above_set, above_sets, sets_with}
 use Rattle.pm_json.specs.declared.fail.ValueFail.TheVariants.{Shape, Index, Limit}
 use lib.IntN.{ℤ, pos, negsuc}
+use Rattle.pm_limits.specs.Limits.{most_indices, most_rows}
 
 -- ---- one set
 three : (a b c : Bool) → a ≡ true → b ≡ true → c ≡ true → (a && b && c) ≡ true
 three a b c x y z = and_from (a && b) c (and_from a b x y) z
 
-below_2048 : (z : ℤ) (j : ℕ) → index_below_2048 z ≡ Ok j → j < 2048
-below_2048 (pos k) j e =
-    let p = then-ok (ltb k 2048) (Ok k) Limit j e in
+below_limit : (z : ℤ) (j : ℕ) → index_below_limit z ≡ Ok j → j < most_rows
+below_limit (pos k) j e =
+    let p = then-ok (ltb k most_rows) (Ok k) Limit j e in
     let same = same_Ok k j p.1 in
-    let low = ltb-true k 2048 p.0 in
+    let low = ltb-true k most_rows p.0 in
     omega arith
-below_2048 (negsuc k) j e = absurd (err_ok Index j e)
+below_limit (negsuc k) j e = absurd (err_ok Index j e)
 
-pub index_below : (d : Data) (j : ℕ) → index_of d ≡ Ok j → j < 2048
-index_below d j e = and_then-ok (whole_number_of d) index_below_2048 j e (λ z _ f. below_2048 z j f)
+pub index_below : (d : Data) (j : ℕ) → index_of d ≡ Ok j → j < most_rows
+index_below d j e = and_then-ok (whole_number_of d) index_below_limit j e (λ z _ f. below_limit z j f)
 
 next : (k j : ℕ) → k ≤ j → (k ≡ j → ⊥) → suc k ≤ j
 next k j h n = omega (arith, n)
@@ -46,60 +47,60 @@ indices_put n low j (k ∷ set) above below other h =
     three (leb low k) (ltb k n) (are_indices n (suc k) (with_index j set)) q.0 q.1
     (indices_put n (suc k) j set (next k j after differs) below o.1 p.1))
 
-pub set_keeps_limits : (set : List ℕ) (ds : Items) (out : List ℕ) → set_from set ds ≡ Ok out → are_indices 2048 0 set ≡ true → are_indices 2048 0 out ≡ true
-set_keeps_limits set no_items out e h = subst (λ s. are_indices 2048 0 s ≡ true) (same_Ok set out e) h
+pub set_keeps_limits : (set : List ℕ) (ds : Items) (out : List ℕ) → set_from set ds ≡ Ok out → are_indices most_indices 0 set ≡ true → are_indices most_indices 0 out ≡ true
+set_keeps_limits set no_items out e h = subst (λ s. are_indices most_indices 0 s ≡ true) (same_Ok set out e) h
 set_keeps_limits set (item d ds) out e h =
     and_then-ok (index_of d) (λ j. cond (has_index j set) (Err Shape) (set_from (with_index j set) ds)) out e
     (λ j is f. let p = else-ok (has_index j set) (set_from (with_index j set) ds) Shape out f in
-    set_keeps_limits (with_index j set) ds out p.1 (indices_put 2048 0 j set (omega arith) (index_below d j is) p.0 h))
+    set_keeps_limits (with_index j set) ds out p.1 (indices_put most_rows 0 j set (omega arith) (index_below d j is) p.0 h))
 
 -- ---- all sets
 abbrev pub IsCount : Option ℕ → Type 0
 IsCount None = Unit {0}
-IsCount (Some n) = n ≤ 2048
+IsCount (Some n) = n ≤ most_rows
 
 pub record KeepsLimits (k : ℕ) (s : SetsSeen) : Type 0 where
-  pub few : k + length s.rows ≤ 2048
-  pub indices : list_all (are_indices 2048 0) s.rows ≡ true
+  pub few : k + length s.rows ≤ most_rows
+  pub indices : list_all (are_indices most_indices 0) s.rows ≡ true
   pub count : IsCount s.stated
 
-count_keeps_limit : (z : ℤ) (n : ℕ) → count_up_to_2048 z ≡ Ok n → n ≤ 2048
+count_keeps_limit : (z : ℤ) (n : ℕ) → count_up_to_limit z ≡ Ok n → n ≤ most_rows
 count_keeps_limit (pos k) n e =
-    let p = then-ok (leb k 2048) (Ok k) Limit n e in
+    let p = then-ok (leb k most_rows) (Ok k) Limit n e in
     let same = same_Ok k n p.1 in
-    let low = leb-true k 2048 p.0 in
+    let low = leb-true k most_rows p.0 in
     omega arith
 count_keeps_limit (negsuc k) n e = absurd (err_ok Limit n e)
 
-stated_keeps_limit : (d : Data) (n : ℕ) → stated_of d ≡ Ok n → n ≤ 2048
+stated_keeps_limit : (d : Data) (n : ℕ) → stated_of d ≡ Ok n → n ≤ most_rows
 stated_keeps_limit d n e =
     and_then-ok (cols_member d) count_of n e
-    (λ c _ f. and_then-ok (whole_number_of c) count_up_to_2048 n f (λ z _ g. count_keeps_limit z n g))
+    (λ c _ f. and_then-ok (whole_number_of c) count_up_to_limit n f (λ z _ g. count_keeps_limit z n g))
 
-last_keeps_limits : (k : ℕ) (d : Data) (ds : Items) (s : SetsSeen) → k ≤ 2048 → stated_last d ds ≡ Ok s → KeepsLimits k s
+last_keeps_limits : (k : ℕ) (d : Data) (ds : Items) (s : SetsSeen) → k ≤ most_rows → stated_last d ds ≡ Ok s → KeepsLimits k s
 last_keeps_limits k d no_items s h e =
     and_then-ok (stated_of d) (λ n. Ok (record { rows = []; stated = Some n })) s e
     (λ n is g. subst (KeepsLimits k) (same_Ok (record { rows = []; stated = Some n }) s g) (record { few = omega arith; indices = refl; count = stated_keeps_limit d n is }))
 last_keeps_limits k d (item x ds) s h e = absurd (err_ok Shape s e)
 
-sets_keep_limits_from : (k : ℕ) (ds : Items) (s : SetsSeen) → k ≤ 2048 → sets_from k ds ≡ Ok s → KeepsLimits k s
+sets_keep_limits_from : (k : ℕ) (ds : Items) (s : SetsSeen) → k ≤ most_rows → sets_from k ds ≡ Ok s → KeepsLimits k s
 sets_keep_limits_from k no_items s h e = subst (KeepsLimits k) (same_Ok (record { rows = []; stated = None }) s e) (record { few = omega arith; indices = refl; count = tt })
 sets_keep_limits_from k (item d ds) s h e =
-    let others : Read SetsSeen = and_then (items_of d) (λ es. cond (ltb k 2048) (and_then (set_from [] es) (λ set. before_sets set (sets_from (suc k) ds))) (Err Limit)) in
+    let others : Read SetsSeen = and_then (items_of d) (λ es. cond (ltb k most_rows) (and_then (set_from [] es) (λ set. before_sets set (sets_from (suc k) ds))) (Err Limit)) in
     either-ok (is_some (as_object d)) (stated_last d ds) others s e
     (λ f. last_keeps_limits k d ds s h f)
-    (λ f. and_then-ok (items_of d) (λ es. cond (ltb k 2048) (and_then (set_from [] es) (λ set. before_sets set (sets_from (suc k) ds))) (Err Limit)) s f
-    (λ es _ g. let p = then-ok (ltb k 2048) (and_then (set_from [] es) (λ set. before_sets set (sets_from (suc k) ds))) Limit s g in
+    (λ f. and_then-ok (items_of d) (λ es. cond (ltb k most_rows) (and_then (set_from [] es) (λ set. before_sets set (sets_from (suc k) ds))) (Err Limit)) s f
+    (λ es _ g. let p = then-ok (ltb k most_rows) (and_then (set_from [] es) (λ set. before_sets set (sets_from (suc k) ds))) Limit s g in
     and_then-ok (set_from [] es) (λ set. before_sets set (sets_from (suc k) ds)) s p.1
     (λ set is t. and_then-ok (sets_from (suc k) ds) (λ more. Ok (record more { rows = set ∷ more.rows })) s t
     (λ more left u.
-    let room = ltb-true k 2048 p.0 in
+    let room = ltb-true k most_rows p.0 in
     let rest = sets_keep_limits_from (suc k) ds more (omega arith) left in
     let few = rest.few in
     subst (KeepsLimits k) (same_Ok (record more { rows = set ∷ more.rows }) s u)
     (record {
       few = omega arith;
-      indices = and_from (are_indices 2048 0 set) (list_all (are_indices 2048 0) more.rows) (set_keeps_limits [] es set is refl) rest.indices;
+      indices = and_from (are_indices most_indices 0 set) (list_all (are_indices most_indices 0) more.rows) (set_keeps_limits [] es set is refl) rest.indices;
       count = rest.count;
     })))))
 
@@ -138,15 +139,15 @@ all_below_above n m (set ∷ rows) a h =
     let right = le-max_right (above_set set) (above_sets rows) in
     and_from (are_indices n 0 set) (list_all (are_indices n 0) rows) (below_above n m 0 set (omega arith) p.0) (all_below_above n m rows (omega arith) p.1)
 
-pub form_of : (rows : List (List ℕ)) (n : ℕ) → length rows ≤ 2048 → n ≤ 2048 → above_sets rows ≤ n → list_all (are_indices 2048 0) rows ≡ true → is_sets_form rows n ≡ true
-form_of rows n few count above h = three (leb (length rows) 2048) (leb n 2048) (list_all (are_indices n 0) rows) (le-leb (length rows) 2048 few) (le-leb n 2048 count) (all_below_above n 2048 rows above h)
+pub form_of : (rows : List (List ℕ)) (n : ℕ) → length rows ≤ most_rows → n ≤ most_rows → above_sets rows ≤ n → list_all (are_indices most_indices 0) rows ≡ true → is_sets_form rows n ≡ true
+form_of rows n few count above h = three (leb (length rows) most_rows) (leb n most_rows) (list_all (are_indices n 0) rows) (le-leb (length rows) most_rows few) (le-leb n most_rows count) (all_below_above n most_rows rows above h)
 
 abbrev pub IsSetsValue : PropertyValue → Type 0
 IsSetsValue v = (rows : List (List ℕ)) × (n : ℕ) × (v ≡ sets rows n) × (is_sets_form rows n ≡ true)
 
-value_of : (s : SetsSeen) (stated : Option ℕ) (v : PropertyValue) → length s.rows ≤ 2048 → list_all (are_indices 2048 0) s.rows ≡ true → IsCount stated → sets_with s.rows stated ≡ Ok v → IsSetsValue v
+value_of : (s : SetsSeen) (stated : Option ℕ) (v : PropertyValue) → length s.rows ≤ most_rows → list_all (are_indices most_indices 0) s.rows ≡ true → IsCount stated → sets_with s.rows stated ≡ Ok v → IsSetsValue v
 value_of s None v few h count e =
-    let bound = above_sets_bound 2048 s.rows h in
+    let bound = above_sets_bound most_rows s.rows h in
     (s.rows, above_sets s.rows, sym (same_Ok (sets s.rows (above_sets s.rows)) v e), form_of s.rows (above_sets s.rows) few bound (omega arith) h)
 value_of s (Some n) v few h count e =
     let p = then-ok (leb (above_sets s.rows) n) (Ok (sets s.rows n)) Index v e in
@@ -157,5 +158,5 @@ sets_keep_limits ds s v e f =
     let k = sets_keep_limits_from 0 ds s (omega arith) e in
     value_of s s.stated v (let few = k.few in omega arith) k.indices k.count f
 
-pub above_sets_fits : (ds : Items) (s : SetsSeen) → sets_from 0 ds ≡ Ok s → above_sets s.rows ≤ 2048
-above_sets_fits ds s e = above_sets_bound 2048 s.rows (sets_keep_limits_from 0 ds s (omega arith) e).indices
+pub above_sets_fits : (ds : Items) (s : SetsSeen) → sets_from 0 ds ≡ Ok s → above_sets s.rows ≤ most_rows
+above_sets_fits ds s e = above_sets_bound most_rows s.rows (sets_keep_limits_from 0 ds s (omega arith) e).indices

@@ -15,9 +15,10 @@ use lib.Signed.{lt_z}
 use Rattle.std.proofs.lemmas.Bool.{true≢false}
 use Rattle.pm_json.specs.declared.fail.ValueFail.{ValueFail}
 use Rattle.pm_json.specs.declared.fail.ValueFail.TheVariants.{Limit, Shape}
-use Rattle.pm_json.specs.Readings.{Read, SetsSeen, and_then, index_below_2048, has_index, index_of, items_of, set_from, sets_from, stated_last, stated_of, with_index}
+use Rattle.pm_json.specs.Readings.{Read, SetsSeen, and_then, index_below_limit, has_index, index_of, items_of, set_from, sets_from, stated_last, stated_of, with_index}
 use Rattle.pm_json.proofs.Readings.{with_front_sets, with_front_sets-before}
 use Rattle.pm_json.proofs.RowEnds.{next_item}
+use Rattle.pm_limits.specs.Limits.{most_rows}
 
 -- what a search for an index says
 pub any_from_cases : {X : Type 0} (p : X → Bool) (xs : List X) (r : Bool)
@@ -27,7 +28,7 @@ any_from_cases p (x ∷ xs) true h = sym (list_any_at p (x ∷ xs) h.0 x h.1 (h.
 any_from_cases p xs false h = sym (list_any_none p xs (All-from_all_within (λ x. p x ≡ false) xs h))
 
 -- an index below the limit
-pub index_small : (k : ℤ) → lt_z k (pos 0) ≡ false → lt_z k (pos 2048) ≡ true → (let r : Read ℕ = Ok (nat_abs k) in r) ≡ index_below_2048 k
+pub index_small : (k : ℤ) → lt_z k (pos 0) ≡ false → lt_z k (pos most_rows) ≡ true → (let r : Read ℕ = Ok (nat_abs k) in r) ≡ index_below_limit k
 index_small (pos j) from below = rw below refl
 index_small (negsuc j) from below = absurd (true≢false from)
 
@@ -41,9 +42,9 @@ set_from-no_index set d ds fault is = rw is refl
 pub set_from-again : (set : List ℕ) (j : ℕ) (d : Data) (ds : Items) → index_of d ≡ Ok j → has_index j set ≡ true → set_from set (item d ds) ≡ Err Shape
 set_from-again set j d ds is again = rw (is, again) refl
 
-pub sets_from-item : (front : List (List ℕ)) (set : List ℕ) (k : ℕ) (d : Data) (es ds : Items) → is_some (as_object d) ≡ false → items_of d ≡ Ok es → k < 2048 → set_from [] es ≡ Ok set
+pub sets_from-item : (front : List (List ℕ)) (set : List ℕ) (k : ℕ) (d : Data) (es ds : Items) → is_some (as_object d) ≡ false → items_of d ≡ Ok es → k < most_rows → set_from [] es ≡ Ok set
     → with_front_sets front (sets_from k (item d ds)) ≡ with_front_sets (front ++ set ∷ []) (sets_from (suc k) ds)
-sets_from-item front set k d es ds listed items room is = rw (listed, items, lt-ltb k 2048 room, is) (with_front_sets-before front set (sets_from (suc k) ds))
+sets_from-item front set k d es ds listed items room is = rw (listed, items, lt-ltb k most_rows room, is) (with_front_sets-before front set (sets_from (suc k) ds))
 
 -- the item that is read next, before those that follow
 pub sets_from-next : {all : Read SetsSeen} (front : List (List ℕ)) (k : ℕ) (vs : List Value) (i : ℕ) (v : Value) → i < length vs → v ≡ lib.ListN.get_or vs i v
@@ -69,12 +70,12 @@ pub sets_from-no_items : (front : List (List ℕ)) (k : ℕ) (d : Data) (ds : It
     → with_front_sets front (sets_from k (item d ds)) ≡ Err fault
 sets_from-no_items front k d ds fault listed is = rw (listed, is) refl
 
-pub sets_from-no_set : (front : List (List ℕ)) (k : ℕ) (d : Data) (es ds : Items) (fault : ValueFail) → is_some (as_object d) ≡ false → items_of d ≡ Ok es → k < 2048
+pub sets_from-no_set : (front : List (List ℕ)) (k : ℕ) (d : Data) (es ds : Items) (fault : ValueFail) → is_some (as_object d) ≡ false → items_of d ≡ Ok es → k < most_rows
     → set_from [] es ≡ Err fault → with_front_sets front (sets_from k (item d ds)) ≡ Err fault
-sets_from-no_set front k d es ds fault listed items room is = rw (listed, items, lt-ltb k 2048 room, is) refl
+sets_from-no_set front k d es ds fault listed items room is = rw (listed, items, lt-ltb k most_rows room, is) refl
 
-pub sets_from-full : (front : List (List ℕ)) (k : ℕ) (d : Data) (es ds : Items) → is_some (as_object d) ≡ false → items_of d ≡ Ok es → 2048 ≤ k → with_front_sets front (sets_from k (item d ds)) ≡ Err Limit
-sets_from-full front k d es ds listed items full = rw (listed, items, le-ltb k 2048 full) refl
+pub sets_from-full : (front : List (List ℕ)) (k : ℕ) (d : Data) (es ds : Items) → is_some (as_object d) ≡ false → items_of d ≡ Ok es → most_rows ≤ k → with_front_sets front (sets_from k (item d ds)) ≡ Err Limit
+sets_from-full front k d es ds listed items full = rw (listed, items, le-ltb k most_rows full) refl
 
 -- the rows with one more below them
 pub sets_below : {A : Type 0} (f : A → List ℕ) (rows new : List A) (r : A) (ds : Items) → new ≡ rows ++ r ∷ []

@@ -1,9 +1,9 @@
 -- What a JSON value is, as a value of a property, so far.
--- A matrix is an array of at most 2,048 rows, which are arrays of one length from 1 to 33 (of F2_VECTOR from 0) of fractions; behind the rows maybe {"cols":n}, n the length of the rows, or where there are none a number that it might be; without it a matrix without rows states no column count, 0. LP.LINEAR_OBJECTIVE is one such row. A fraction is a text, an optional `-`, digits, and optionally `/` and digits that do not write 0, none of them above 2^127 - 1, or a whole JSON number from -2^63 to 2^64 - 1.
--- Sets are an array of at most 2,048 sets, which are arrays of indices below 2,048, in any order and none twice; after the sets maybe {"cols":n}, n at most 2,048 and above every index; without it the column count is one more than the greatest index, or 0.
+-- A matrix is an array of at most most_rows rows, which are arrays of one length from 1 to 33 (of F2_VECTOR from 0) of fractions; behind the rows maybe {"cols":n}, n the length of the rows, or where there are none a number that it might be; without it a matrix without rows states no column count, 0. LP.LINEAR_OBJECTIVE is one such row. A fraction is a text, an optional `-`, digits, and optionally `/` and digits that do not write 0, none of them above 2^127 - 1, or a whole JSON number from -2^63 to 2^64 - 1.
+-- Sets are an array of at most most_rows sets, which are arrays of indices below most_rows, in any order and none twice; after the sets maybe {"cols":n}, n at most most_rows and above every index; without it the column count is one more than the greatest index, or 0.
 -- A whole number is a whole JSON number of 64 bits, for CONE_AMBIENT_DIM from 1 to 33; a truth value is true or false.
--- A list of counts is an array of at most 2,048 whole numbers of 64 bits, each a whole JSON number or a text, an optional `-` and digits.
--- Edges are an array of at most 2,048 nodes, each an array of nodes below their number, which are neighbours of one another and none of itself. A lattice is an array of ranks, which are arrays of faces, at most 65,536, which are arrays of indices below 2,048, at most 4,000,000 in all.
+-- A list of counts is an array of at most most_rows whole numbers of 64 bits, each a whole JSON number or a text, an optional `-` and digits.
+-- Edges are an array of at most most_rows nodes, each an array of nodes below their number, which are neighbours of one another and none of itself. A lattice is an array of ranks, which are arrays of faces, at most most_faces, which are arrays of indices below most_rows, at most most_places in all.
 -- A number is a fraction, or a text, inf or -inf.
 -- Of several faults the first in reading order counts, which goes through the elements from the first to the last. At one element it is the first of these: `Shape`, a JSON value of another form, an element that makes a row longer than the first, an index that its set has already, a column count that is not the length of the rows; `Number`, a number, or in matrices a text, that is not allowed there; `Index`, an index that is negative, or not below the column count; `Limit`, a count beyond its bound.
 -- A count that is too large is a fault of the first element too many; a row that is too short is one of its end. Indices are held against the column count
@@ -30,6 +30,7 @@ use Rattle.serde_json.specs.Find.{get, as_array, as_bool, as_i64, as_integer, as
 use Rattle.pm_json.specs.declared.fail.ValueFail.{ValueFail}
 use Rattle.pm_json.specs.declared.fail.ValueFail.TheVariants.{Shape, Number, Index, Limit}
 use lib.IntN.{ℤ, pos, negsuc}
+use Rattle.pm_limits.specs.Limits.{most_columns, most_faces, most_places, most_rows}
 
 -- what is read, or the fault
 abbrev pub Read : Type 0 → Type 0
@@ -96,7 +97,7 @@ entry_of d = entry_by (as_str d) d
 -- the entries of a row, of which k came before
 abbrev pub entries_from : ℕ → Items → Read (List Ratio)
 entries_from k no_items = Ok []
-entries_from k (item d ds) = and_then (entry_of d) (λ q. if nat_lt k 33 then before q (entries_from (suc k) ds) else Err Limit)
+entries_from k (item d ds) = and_then (entry_of d) (λ q. if nat_lt k most_columns then before q (entries_from (suc k) ds) else Err Limit)
 
 -- a first row, which has to have so many entries or more
 abbrev pub first_row_of : ℕ → Items → Read (List Ratio)
@@ -110,7 +111,7 @@ later_row_from n k (item d ds) = if nat_lt k n then and_then (entry_of d) (λ q.
 -- the rows of n entries, of which k came before
 abbrev pub later_rows_from : ℕ → ℕ → Items → Read (List (List Ratio))
 later_rows_from n k no_items = Ok []
-later_rows_from n k (item d ds) = and_then (items_of d) (λ es. if nat_lt k 2048 then and_then (later_row_from n 0 es) (λ r. before r (later_rows_from n (suc k) ds)) else Err Limit)
+later_rows_from n k (item d ds) = and_then (items_of d) (λ es. if nat_lt k most_rows then and_then (later_row_from n 0 es) (λ r. before r (later_rows_from n (suc k) ds)) else Err Limit)
 
 -- the rows, of so many entries or more
 abbrev pub rows_from : ℕ → Items → Read FractionMatrix
@@ -142,7 +143,7 @@ whole_number_of d = and_then (or_fault Shape (as_number d)) (λ n. or_fault Numb
 
 -- the column count of a matrix without rows
 abbrev pub only_cols : ℕ → ℤ → Read FractionMatrix
-only_cols least (pos n) = if nat_le least n && nat_le n 33 then Ok (record { cols = n; rows = [] }) else Err Limit
+only_cols least (pos n) = if nat_le least n && nat_le n most_columns then Ok (record { cols = n; rows = [] }) else Err Limit
 only_cols least (negsuc n) = Err Limit
 
 -- the matrix with this column count stated behind its rows
@@ -168,12 +169,12 @@ matrix_reading F2Vector d = matrix_of 0 d
 matrix_reading p d = matrix_of 1 d
 
 -- ---- sets
-abbrev pub index_below_2048 : ℤ → Read ℕ
-index_below_2048 (pos j) = if nat_lt j 2048 then Ok j else Err Limit
-index_below_2048 (negsuc j) = Err Index
+abbrev pub index_below_limit : ℤ → Read ℕ
+index_below_limit (pos j) = if nat_lt j most_rows then Ok j else Err Limit
+index_below_limit (negsuc j) = Err Index
 
 abbrev pub index_of : Data → Read ℕ
-index_of d = and_then (whole_number_of d) index_below_2048
+index_of d = and_then (whole_number_of d) index_below_limit
 
 -- an ascending set with one index more
 abbrev pub with_index : ℕ → List ℕ → List ℕ
@@ -188,12 +189,12 @@ abbrev pub set_from : List ℕ → Items → Read (List ℕ)
 set_from set no_items = Ok set
 set_from set (item d ds) = and_then (index_of d) (λ j. if has_index j set then Err Shape else set_from (with_index j set) ds)
 
-abbrev pub count_up_to_2048 : ℤ → Read ℕ
-count_up_to_2048 (pos n) = if nat_le n 2048 then Ok n else Err Limit
-count_up_to_2048 (negsuc n) = Err Limit
+abbrev pub count_up_to_limit : ℤ → Read ℕ
+count_up_to_limit (pos n) = if nat_le n most_rows then Ok n else Err Limit
+count_up_to_limit (negsuc n) = Err Limit
 
 abbrev pub count_of : Data → Read ℕ
-count_of d = and_then (whole_number_of d) count_up_to_2048
+count_of d = and_then (whole_number_of d) count_up_to_limit
 
 -- the column count of sets
 abbrev pub stated_of : Data → Read ℕ
@@ -217,7 +218,7 @@ abbrev pub sets_from : ℕ → Items → Read SetsSeen
 sets_from k no_items = Ok (record { rows = []; stated = None })
 sets_from k (item d ds) =
     if is_some (as_object d) then stated_last d ds
-    else and_then (items_of d) (λ es. if nat_lt k 2048 then and_then (set_from [] es) (λ set. before_sets set (sets_from (suc k) ds)) else Err Limit)
+    else and_then (items_of d) (λ es. if nat_lt k most_rows then and_then (set_from [] es) (λ set. before_sets set (sets_from (suc k) ds)) else Err Limit)
 
 -- the least number above each index of a set, of each set
 abbrev pub above_set : List ℕ → ℕ
@@ -281,7 +282,7 @@ whole_count_of d = whole_count_by (as_str d) d
 -- the numbers, of which k came before
 abbrev pub counts_from : ℕ → Items → Read (List ℤ)
 counts_from k no_items = Ok []
-counts_from k (item d ds) = and_then (whole_count_of d) (λ z. if nat_lt k 2048 then before z (counts_from (suc k) ds) else Err Limit)
+counts_from k (item d ds) = and_then (whole_count_of d) (λ z. if nat_lt k most_rows then before z (counts_from (suc k) ds) else Err Limit)
 
 abbrev pub counts_of : Data → Read PropertyValue
 counts_of d = and_then (items_of d) (λ ds. and_then (counts_from 0 ds) (λ ks. Ok (counts ks)))
@@ -290,7 +291,7 @@ counts_of d = and_then (items_of d) (λ ds. and_then (counts_from 0 ds) (λ ks. 
 -- the neighbours of the nodes, of which k came before
 abbrev pub nodes_from : ℕ → Items → Read (List (List ℕ))
 nodes_from k no_items = Ok []
-nodes_from k (item d ds) = and_then (items_of d) (λ es. if nat_lt k 2048 then and_then (set_from [] es) (λ set. before set (nodes_from (suc k) ds)) else Err Limit)
+nodes_from k (item d ds) = and_then (items_of d) (λ es. if nat_lt k most_rows then and_then (set_from [] es) (λ set. before set (nodes_from (suc k) ds)) else Err Limit)
 
 -- each neighbour is a node, and each node a neighbour of its neighbours and not of itself
 abbrev pub edges_with : List (List ℕ) → Read PropertyValue
@@ -303,12 +304,12 @@ edges_of d = and_then (items_of d) (λ ds. and_then (nodes_from 0 ds) edges_with
 -- the face, with the indices from here on, of which k came before in the lattice
 abbrev pub face_from : ℕ → List ℕ → Items → Read (List ℕ)
 face_from k face no_items = Ok face
-face_from k face (item d ds) = and_then (index_of d) (λ j. if has_index j face then Err Shape else if nat_lt k 4000000 then face_from (suc k) (with_index j face) ds else Err Limit)
+face_from k face (item d ds) = and_then (index_of d) (λ j. if has_index j face then Err Shape else if nat_lt k most_places then face_from (suc k) (with_index j face) ds else Err Limit)
 
 -- the faces of a rank, where m faces and k indices came before in the lattice
 abbrev pub faces_from : ℕ → ℕ → Items → Read (List (List ℕ))
 faces_from m k no_items = Ok []
-faces_from m k (item d ds) = and_then (items_of d) (λ es. if nat_lt m 65536 then and_then (face_from k [] es) (λ face. before face (faces_from (suc m) (k + length face) ds)) else Err Limit)
+faces_from m k (item d ds) = and_then (items_of d) (λ es. if nat_lt m most_faces then and_then (face_from k [] es) (λ face. before face (faces_from (suc m) (k + length face) ds)) else Err Limit)
 
 abbrev pub ranks_from : ℕ → ℕ → Items → Read (List (List (List ℕ)))
 ranks_from m k no_items = Ok []

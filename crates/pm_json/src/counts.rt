@@ -10,12 +10,11 @@ ghost use Rattle.std.specs.Prelude.{IfErr, IfOk, IsTrue, slice_index, ◌==◌, 
 
 use crate::fail::ValueFail;
 use crate::number::read_items;
+use pm_limits::MOST_ROWS;
 use pm_props::PropId;
 use pm_types::{Counts, Value as PropertyValue};
 use serde_json::Value;
 use std::alloc::Global;
-
-const COUNT_LIMIT: usize = 2048;
 
 /// Whether a text begins with a plus.
 fn begins_with_plus(text: &str) -> bool
@@ -73,7 +72,7 @@ fn read_count_list(alloc: Global, items: &[Value]) -> Result<Vec<i64>, ValueFail
     let mut counts = Vec::new(alloc);
     for item in items {
         let k = read_whole_count(item)?;
-        if counts.len() >= COUNT_LIMIT {
+        if counts.len() >= MOST_ROWS {
             return Err(ValueFail::Limit);
         }
         counts.push(k)?;

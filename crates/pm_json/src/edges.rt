@@ -11,12 +11,11 @@ ghost use Rattle.std.specs.Prelude.{All, IfErr, IfOk, IsTrue, Err, Ok, length, m
 use crate::fail::ValueFail;
 use crate::number::read_items;
 use crate::sets::{above_sets, has_index, read_set};
+use pm_limits::MOST_ROWS;
 use pm_props::PropId;
 use pm_types::{Sets, Value as PropertyValue};
 use serde_json::Value;
 use std::alloc::Global;
-
-const NODE_LIMIT: usize = 2048;
 
 /// The neighbours of the nodes.
 fn read_nodes(alloc: Global, items: &[Value]) -> Result<Vec<Vec<u32>>, ValueFail>
@@ -26,7 +25,7 @@ fn read_nodes(alloc: Global, items: &[Value]) -> Result<Vec<Vec<u32>>, ValueFail
     let mut rows = Vec::new(alloc);
     for item in items {
         let indices = read_items(item)?;
-        if rows.len() >= NODE_LIMIT {
+        if rows.len() >= MOST_ROWS {
             return Err(ValueFail::Limit);
         }
         let set = read_set(alloc, indices)?;

@@ -9,25 +9,23 @@ ghost use Rattle.pm_types.specs.Views.{view_of};
 ghost use Rattle.serde_json.specs.View.{items_view, view};
 ghost use Rattle.std.specs.List.{list_all, sum_by};
 ghost use Rattle.std.specs.Prelude.{Err, IfErr, IfOk, IsTrue, Ok, [], length, map, ◌+◌, ◌≡◌, ◌≢◌, ◌≤◌};
+ghost use Rattle.pm_limits.specs.Limits.{most_faces, most_indices, most_places};
 
 use crate::fail::ValueFail;
 use crate::number::{read_index, read_items};
 use crate::sets::{has_index, put_index};
+use pm_limits::{MOST_FACES, MOST_PLACES};
 use pm_props::PropId;
 use pm_types::{Lattice, Value as PropertyValue};
 use serde_json::Value;
 use std::alloc::Global;
 
-const FACE_LIMIT: usize = 65_536;
-
-const PLACE_LIMIT: usize = 4_000_000;
-
 /// A face, before which the lattice had so many indices.
 fn read_face(alloc: Global, items: &[Value], before: usize) -> Result<Vec<u32>, ValueFail>
-    requires { before ≤ 4000000 }
+    requires { before ≤ most_places }
     ensures ok { IfOk result (λ face. face_from before [] (items_view items.now) ≡ Ok face.items) }
-    ensures few { IfOk result (λ face. before + length face.items ≤ 4000000) }
-    ensures form { IfOk result (λ face. IsTrue (are_indices 2048 0 face.items)) }
+    ensures few { IfOk result (λ face. before + length face.items ≤ most_places) }
+    ensures form { IfOk result (λ face. IsTrue (are_indices most_indices 0 face.items)) }
     ensures fault { IfErr result (λ e. e ≢ ValueFail.Memory → face_from before [] (items_view items.now) ≡ Err e) }
 {
     let mut face = Vec::new(alloc);
@@ -36,7 +34,7 @@ fn read_face(alloc: Global, items: &[Value], before: usize) -> Result<Vec<u32>, 
         if has_index(j, &face) {
             return Err(ValueFail::Shape);
         }
-        if before + face.len() >= PLACE_LIMIT {
+        if before + face.len() >= MOST_PLACES {
             return Err(ValueFail::Limit);
         }
         put_index(j, &mut face)?;
@@ -51,19 +49,19 @@ fn read_faces(
     before: usize,
     places_before: usize,
 ) -> Result<Vec<Vec<u32>>, ValueFail>
-    requires faces { before ≤ 65536 }
-    requires places { places_before ≤ 4000000 }
+    requires faces { before ≤ most_faces }
+    requires places { places_before ≤ most_places }
     ensures ok { IfOk result (λ faces. faces_from before places_before (items_view items.now) ≡ Ok (lists_of faces)) }
-    ensures few { IfOk result (λ faces. before + length faces.items ≤ 65536) }
-    ensures places { IfOk result (λ faces. places_before + sum_by length (lists_of faces) ≤ 4000000) }
-    ensures form { IfOk result (λ faces. IsTrue (list_all (are_indices 2048 0) (lists_of faces))) }
+    ensures few { IfOk result (λ faces. before + length faces.items ≤ most_faces) }
+    ensures places { IfOk result (λ faces. places_before + sum_by length (lists_of faces) ≤ most_places) }
+    ensures form { IfOk result (λ faces. IsTrue (list_all (are_indices most_indices 0) (lists_of faces))) }
     ensures fault { IfErr result (λ e. e ≢ ValueFail.Memory → faces_from before places_before (items_view items.now) ≡ Err e) }
 {
     let mut faces = Vec::new(alloc);
     let mut places = places_before;
     for item in items {
         let indices = read_items(item)?;
-        if before + faces.len() >= FACE_LIMIT {
+        if before + faces.len() >= MOST_FACES {
             return Err(ValueFail::Limit);
         }
         let face = read_face(alloc, indices, places)?;
@@ -75,7 +73,7 @@ fn read_faces(
 
 /// How many indices faces have together.
 fn place_count(faces: &[Vec<u32>]) -> usize
-    requires { sum_by length (map (λ face. face.items) faces.now) ≤ 4000000 }
+    requires { sum_by length (map (λ face. face.items) faces.now) ≤ most_places }
     ensures { result ≡ sum_by length (map (λ face. face.items) faces.now) }
 {
     let mut places = 0;

@@ -12,15 +12,12 @@ use crate::fail::ValueFail;
 use crate::number::{read_entry, read_items, read_whole_number};
 use crate::sets::read_cols_member;
 use pm_fraction::Fraction;
+use pm_limits::{MOST_COLUMNS, MOST_ROWS};
 use pm_matrix::Matrix;
 use pm_props::PropId;
 use pm_types::Value as PropertyValue;
 use serde_json::Value;
 use std::alloc::Global;
-
-const ROW_LIMIT: usize = 2048;
-
-const COL_LIMIT: usize = 33;
 
 /// The entries of a row, at most 33.
 fn read_entries(alloc: Global, items: &[Value]) -> Result<Vec<Fraction>, ValueFail>
@@ -30,7 +27,7 @@ fn read_entries(alloc: Global, items: &[Value]) -> Result<Vec<Fraction>, ValueFa
     let mut row = Vec::new(alloc);
     for item in items {
         let entry = read_entry(item)?;
-        if row.len() >= COL_LIMIT {
+        if row.len() >= MOST_COLUMNS {
             return Err(ValueFail::Limit);
         }
         row.push(entry)?;
@@ -92,7 +89,7 @@ fn read_later_rows(alloc: Global, matrix: &mut Matrix, items: &[Value]) -> Resul
 {
     for item in items {
         let entries = read_items(item)?;
-        if matrix.rows() >= ROW_LIMIT {
+        if matrix.rows() >= MOST_ROWS {
             return Err(ValueFail::Limit);
         }
         let row = read_later_row(alloc, matrix.cols(), entries)?;
@@ -129,7 +126,7 @@ fn read_only_cols(alloc: Global, least: usize, z: i128) -> Result<Matrix, ValueF
     requires { least ≤ 1 }
     ensures { result ≡ only_cols least z }
 {
-    if least as i128 <= z && z <= COL_LIMIT as i128 {
+    if least as i128 <= z && z <= MOST_COLUMNS as i128 {
         Ok(Matrix::new(alloc, z as usize))
     } else {
         Err(ValueFail::Limit)

@@ -1,18 +1,19 @@
 // Numbers from JSON.
 
 ghost use Rattle.pm_vector.specs.Numbers.{InRange};
-ghost use Rattle.pm_json.specs.Readings.{count_of, entry_of, index_below_2048, index_of, items_of, number_of, ratio_of_text, whole_fraction_of, whole_number_of};
+ghost use Rattle.pm_json.specs.Readings.{count_of, entry_of, index_below_limit, index_of, items_of, number_of, ratio_of_text, whole_fraction_of, whole_number_of};
 ghost use Rattle.pm_types.specs.Views.{over_one};
 ghost use Rattle.serde_json.specs.View.{items_view, number_view, view};
 ghost use Rattle.std.specs.Prelude.{IfErr, IfOk, ◌≡◌};
 
 use crate::fail::ValueFail;
 use pm_fraction::Fraction;
+use pm_limits::MOST_ROWS;
 use serde_json::{Number, Value};
 
-const COUNT_LIMIT: i128 = 2048;
+const COUNT_LIMIT: i128 = MOST_ROWS as i128;
 
-const INDEX_LIMIT: i128 = 2048;
+const INDEX_LIMIT: i128 = MOST_ROWS as i128;
 
 /// The elements of an array.
 pub fn read_items(v: &Value) -> Result<&[Value], ValueFail>
@@ -94,7 +95,7 @@ pub(crate) fn read_whole_number(v: &Value) -> Result<i128, ValueFail>
 
 /// A number as an index, where it is one.
 fn index_below_limit(k: i128) -> Result<u32, ValueFail>
-    ensures { result ≡ index_below_2048 k }
+    ensures { result ≡ index_below_limit k }
 {
     if k < 0 {
         Err(ValueFail::Index)
@@ -105,14 +106,14 @@ fn index_below_limit(k: i128) -> Result<u32, ValueFail>
     }
 }
 
-/// An index below 2,048.
+/// An index below `MOST_ROWS`.
 pub fn read_index(v: &Value) -> Result<u32, ValueFail>
     ensures { result ≡ index_of (view v.now) }
 {
     index_below_limit(read_whole_number(v)?)
 }
 
-/// A count of at most 2,048.
+/// A count of at most `MOST_ROWS`.
 pub fn read_count(v: &Value) -> Result<u32, ValueFail>
     ensures { result ≡ count_of (view v.now) }
 {

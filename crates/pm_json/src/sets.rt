@@ -8,11 +8,10 @@ ghost use Rattle.std.specs.Prelude.{IfErr, IfOk, OnOk, [], length, map, nat_lt, 
 
 use crate::fail::ValueFail;
 use crate::number::{read_count, read_index, read_items};
+use pm_limits::MOST_ROWS;
 use pm_types::{Sets, Value as PropertyValue};
 use serde_json::Value;
 use std::alloc::{AllocError, Global};
-
-const SET_LIMIT: usize = 2048;
 
 /// Sets, and the column count that is stated behind them, if one is.
 #[derive(Drop)]
@@ -131,7 +130,7 @@ fn read_set_list(alloc: Global, items: &[Value]) -> Result<SetList, ValueFail>
             });
         }
         let indices = read_items(item)?;
-        if rows.len() >= SET_LIMIT {
+        if rows.len() >= MOST_ROWS {
             return Err(ValueFail::Limit);
         }
         let set = read_set(alloc, indices)?;

@@ -17,6 +17,7 @@ use crate::lattice::read_lattice;
 use crate::matrix::read_matrix;
 use crate::number::read_entry;
 use crate::sets::read_sets;
+use pm_limits::MOST_COLUMNS;
 use pm_props::{Columns, PropId, ValueKind};
 use pm_types::{Number, Value as PropertyValue};
 use serde_json::Value;
@@ -26,7 +27,7 @@ use std::alloc::Global;
 fn is_dimension(k: i64) -> bool
     ensures { result ≡ is_dimension k }
 {
-    1 <= k && k <= 33
+    1 <= k && k <= MOST_COLUMNS as i64
 }
 
 /// A whole number of 64 bits.

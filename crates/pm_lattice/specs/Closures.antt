@@ -8,6 +8,7 @@ use Rattle.pm_lattice.specs.declared.closure.Closure.TheVariants as closure
 use Rattle.std.specs.List.{All, AllPairs, Contains, sum_by}
 use Rattle.std.specs.Prelude.{ℕ, ◌≡◌, ◌<◌, ◌≤◌, ◌⊎◌, Bool, List, length, map}
 use Rattle.std.specs.declared.cmp.Ordering.TheVariants.{Less}
+use Rattle.pm_limits.specs.Limits.{most_faces, most_places}
 
 -- rows of bits as sets of places
 abbrev pub bit_sets : List (List Bool) → List (ℕ → Bool)
@@ -30,11 +31,11 @@ place_count faces = sum_by member_count faces
 
 -- no more faces or places than a lattice may have
 abbrev pub AreFew : List (List Bool) → Type 0
-AreFew faces = (length faces ≤ 65536) × (place_count faces ≤ 4000000)
+AreFew faces = (length faces ≤ most_faces) × (place_count faces ≤ most_places)
 
 -- more faces or places than a lattice may have
 abbrev pub AreMany : List (List Bool) → Type 0
-AreMany faces = (65536 < length faces) ⊎ (4000000 < place_count faces)
+AreMany faces = (most_faces < length faces) ⊎ (most_places < place_count faces)
 
 -- the faces are meets of the rows, each once and in order
 pub record AreMeets (m : ℕ) (rows faces : List (List Bool)) : Type 0 where
@@ -42,7 +43,7 @@ pub record AreMeets (m : ℕ) (rows faces : List (List Bool)) : Type 0 where
   pub lengths : All (λ f. length f ≡ m) faces
   pub ordered : AllPairs IsBefore faces
 
--- all meets of a table's rows, at most 65,536, or more than so many of them
+-- all meets of a table's rows, at most most_faces, or more than so many of them
 abbrev pub IsClosureOf : Table → Closure → Type 0
-IsClosureOf t (closure.All faces) = IsClosed t.row_len t.rows faces.items × (length faces.items ≤ 65536)
-IsClosureOf t (closure.Many faces) = AreMeets t.row_len t.rows faces.items × (65536 < length faces.items)
+IsClosureOf t (closure.All faces) = IsClosed t.row_len t.rows faces.items × (length faces.items ≤ most_faces)
+IsClosureOf t (closure.Many faces) = AreMeets t.row_len t.rows faces.items × (most_faces < length faces.items)

@@ -7,12 +7,10 @@ ghost use Rattle.std.specs.List.{All, Any, Contains};
 ghost use Rattle.std.specs.Prelude.{ℕ, List, Bool, ◌<◌, ◌≡◌, ◌↔◌, IfOk, IsTrue, OnOk, length};
 
 use pm_bits::{BitRow, BitTable};
+use pm_limits::MOST_FACES;
 use std::alloc::{AllocError, Global};
 use std::collections::BTreeSet;
 use std::mem;
-
-/// The most faces that a lattice may have.
-pub(crate) const MAX_FACES: usize = 65_536;
 
 /// All intersections of rows with the set of all places, each once and in the order of rows of bits;
 /// or more of them than a lattice may have.
@@ -115,7 +113,7 @@ pub(crate) fn close(alloc: Global, rows: &BitTable) -> Result<Closure, AllocErro
     let whole = full_row(alloc, rows.row_len())?;
     pending.insert(full_row(alloc, rows.row_len())?)?;
     let mut faces = Vec::new(alloc);
-    for _turn in 0..MAX_FACES + 1 {
+    for _turn in 0..MOST_FACES + 1 {
         let Some(face) = pending.pop_first() else {
             return Ok(Closure::All(faces));
         };

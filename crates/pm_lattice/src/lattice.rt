@@ -5,6 +5,7 @@ ghost use Rattle.pm_lattice.specs.Closures.{place_count};
 ghost use Rattle.pm_lattice.specs.Lattices.{IsFaceLattice, IsShown, ShowsTooMany};
 ghost use Rattle.std.specs.List.{All};
 ghost use Rattle.std.specs.Prelude.{◌^◌, ◌<◌, ◌≤◌, ◌≡◌, length, IfOk, IfErr, map};
+ghost use Rattle.pm_limits.specs.Limits.{most_faces};
 
 use crate::closure::Closure;
 use crate::lists::{by_rank, member_lists, table_of};
@@ -12,16 +13,14 @@ use crate::ranks::ranks_of;
 use crate::turned::close_either;
 use pm_bits::{BitRow, BitTable};
 use pm_geom::PlaceSets;
+use pm_limits::MOST_PLACES;
 use pm_types::{Evidence, Lattice, Sets};
 use std::alloc::{AllocError, Global};
-
-// The most places that the faces of a lattice may have together.
-const MAX_PLACES: usize = 4_000_000;
 
 /// Why there is no lattice.
 #[derive(Debug, Drop)]
 pub enum LatticeFail {
-    /// There are more than 65,536 faces, or they have more than 4,000,000 indices together: E5 shows
+    /// There are more than `MOST_FACES` faces, or they have more than `MOST_PLACES` indices together: E5 shows
     /// so many of them.
     Many(Evidence),
     /// Memory is lacking.
@@ -52,7 +51,7 @@ fn lattice_of(alloc: Global, rows: &BitTable, faces: &[BitRow]) -> Result<Lattic
 
 // How many places all faces have together.
 fn place_count(faces: &[BitRow], len: usize) -> usize
-    requires few { length faces.now ≤ 65536 }
+    requires few { length faces.now ≤ most_faces }
     requires short { len < 2 ^ 32 }
     requires lengths { All (λ f. length f ≡ len) faces.now }
     ensures { result ≡ place_count faces.now }
@@ -92,7 +91,7 @@ pub fn faces(alloc: Global, s: &Sets) -> Result<Lattice, LatticeFail>
     let rows = table_of(alloc, s)?;
     match close_either(alloc, &rows)? {
         Closure::All(faces) => {
-            if place_count(&faces, rows.row_len()) > MAX_PLACES {
+            if place_count(&faces, rows.row_len()) > MOST_PLACES {
                 return Err(LatticeFail::Many(evidence_of(alloc, &rows, &faces)?));
             }
             Ok(lattice_of(alloc, &rows, &faces)?)

@@ -5,8 +5,9 @@ use Rattle.pm_object_type.specs.declared.object_type.ObjectType.TheVariants.{Con
 use Rattle.pm_types.specs.Things.{IsThing, Thing}
 use Rattle.std.proofs.Common.{arith}
 use Rattle.std.specs.Prelude.{suc, ℕ, ◌+◌, ◌-◌, ◌≤◌, ◌≡◌}
+use Rattle.pm_limits.specs.Limits.{most_columns, most_dimensions}
 
-too_wide : (u : Thing) (n : ℕ) → IsThing u → u.cols ≡ n → 34 ≤ n → ⊥
+too_wide : (u : Thing) (n : ℕ) → IsThing u → u.cols ≡ n → (most_columns + 1) ≤ n → ⊥
 too_wide u n t e h = let few = t.few_cols in omega (arith, few)
 
 no_polytope : Cone ≡ Polytope → ⊥
@@ -14,7 +15,7 @@ no_polytope e = cc
 
 pub existence_read : ExistenceIsRead
 existence_read = record {
-  largest = shapes_exist.cube 32 (omega arith);
+  largest = shapes_exist.cube most_dimensions (omega arith);
   no_cube = λ d l s. too_wide s.thing (suc d) s.is_thing s.holds.cols (omega arith);
   no_simplex = λ d l s. too_wide s.thing (suc d) s.is_thing s.holds.cols (omega arith);
   no_cross = λ d l s. too_wide s.thing (suc d) s.is_thing s.holds.cols (omega arith);

@@ -28,6 +28,7 @@ use Rattle.std.proofs.lemmas.List.Elements.{All-nil}
 use Rattle.std.specs.Prelude.{List, [], drop, length, map, suc, take, zero, ℕ, ◌+◌, ◌++◌, ◌-◌, ◌≤◌, ◌↔◌, ◌∷◌, ◌≡◌}
 use lib.IntN.{*ℤ_comm, neg_ℤ, pos, ℤ, ◌*ℤ◌, ◌+ℤ◌}
 use lib.Signed.{◌<ℤ◌, ◌≤ℤ◌}
+use Rattle.pm_limits.specs.Limits.{most_columns}
 
 -- ---- signs
 not_below : (z : ℤ) → z ≡ pos 0 → pos 0 ≤ℤ z
@@ -139,7 +140,7 @@ abbrev paired : Row → Row → Row
 paired x [] = x
 paired x (c ∷ y) = times c x ++ times (entry x 0) y
 
-module _ (t s : Thing) (p : IsPolytopeThing t.cols t.generators t.lines) (q : IsPolytopeThing s.cols s.generators s.lines) (some_t : 1 ≤ t.cols) (some_s : 1 ≤ s.cols) (few : t.cols + s.cols ≤ 34) where
+module _ (t s : Thing) (p : IsPolytopeThing t.cols t.generators t.lines) (q : IsPolytopeThing s.cols s.generators s.lines) (some_t : 1 ≤ t.cols) (some_s : 1 ≤ s.cols) (few : t.cols + s.cols ≤ (most_columns + 1)) where
   no_left : ((x : Row) → length x ≡ t.cols → InSet t x → IsZero x) → SomeThing (IsProduct t s)
   no_left none = some_empty (InProduct t s) (t.cols + s.cols - 1) (omega arith) (omega arith)
       (λ z lz up w. not_positive (entry z 0) (sym (first_taken t.cols z some_t) ∙ none (take t.cols z) (length-take-le t.cols z (omega arith)) w.first 0) up)

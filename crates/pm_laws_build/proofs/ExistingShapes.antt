@@ -17,6 +17,7 @@ use Rattle.std.proofs.lemmas.Int.{ints}
 use Rattle.std.specs.Prelude.{List, [], length, map, suc, ℕ, ◌-◌, ◌≤◌, ◌∷◌, ◌≡◌, ◌⊎◌}
 use lib.IntN.{pos}
 use lib.Signed.{◌<ℤ◌}
+use Rattle.pm_limits.specs.Limits.{most_dimensions}
 
 -- ---- convex hulls
 hull_proper : (d : ℕ) (V : List Row) → ((v : Row) → Among v V → length v ≡ d)
@@ -24,7 +25,7 @@ hull_proper : (d : ℕ) (V : List Row) → ((v : Row) → Among v V → length v
 hull_proper d [] lengths = inl (λ x lx h. none_to_zero x h)
 hull_proper d (v ∷ V) lengths = inr (headed v, ap suc (lengths v here), in_generator here, omega (arith, ints))
 
-some_hull : (d : ℕ) (V : List Row) → d ≤ 32 → ((v : Row) → Among v V → length v ≡ d) → SomeThing (IsHull d V)
+some_hull : (d : ℕ) (V : List Row) → d ≤ most_dimensions → ((v : Row) → Among v V → length v ≡ d) → SomeThing (IsHull d V)
 some_hull d V few lengths =
     some_polytope (IsHull d V) (suc d) (map headed V) [] (omega arith) (omega arith)
     (record {
@@ -38,7 +39,7 @@ some_hull d V few lengths =
 origin_inside : (d : ℕ) → InCube d (origin (suc d))
 origin_inside d = record { within = λ i l. let e : entry (origin (suc d)) (suc i) ≡ pos 0 = nothing_at (suc d - 1) i in let f : entry (origin (suc d)) 0 ≡ pos 1 = refl in (omega (arith, ints), omega (arith, ints)) }
 
-some_cube : (d : ℕ) → d ≤ 32 → SomeThing (IsCube d)
+some_cube : (d : ℕ) → d ≤ most_dimensions → SomeThing (IsCube d)
 some_cube d few =
     let V = opposite_units d d in
     let lp = origin_cols (suc d) (omega arith) in

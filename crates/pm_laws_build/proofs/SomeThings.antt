@@ -20,6 +20,7 @@ use Rattle.std.proofs.lemmas.List.{length-replicate}
 use Rattle.std.specs.Prelude.{List, [], length, ℕ, ◌-◌, ◌≤◌, ◌↔◌, ◌∷◌, ◌≡◌}
 use lib.IntN.{pos, ℤ}
 use lib.Signed.{◌<ℤ◌, ◌≤ℤ◌}
+use Rattle.pm_limits.specs.Limits.{most_columns}
 
 -- the polytope of these generators and lines, with 0 as the objective of each program
 abbrev pub polytope_of : ℕ → List Row → List Row → Thing
@@ -32,7 +33,7 @@ no_objectives n = record {
 }
 
 -- by generators and lines
-pub some_polytope : (P : Thing → Type 0) (n : ℕ) (G L : List Row) → 1 ≤ n → n ≤ 33 → IsPolytopeThing n G L → P (polytope_of n G L) → SomeThing P
+pub some_polytope : (P : Thing → Type 0) (n : ℕ) (G L : List Row) → 1 ≤ n → n ≤ most_columns → IsPolytopeThing n G L → P (polytope_of n G L) → SomeThing P
 some_polytope P n G L some few polytope holds =
     let (V, K, hk, rays, line, gen) = extremes_generate n G L polytope.cone.generators polytope.cone.lines in
     let (F, E, he, facets, null, valid, cut) = facet_rows_cut_out n G L polytope.cone.generators polytope.cone.lines in
@@ -57,7 +58,7 @@ origin_dot n [] = refl
 origin_dot n (b ∷ x) = let q = nothing_dot (n - 1) x in omega (arith, ints)
 
 -- the points with P are those that A cuts out, and p is one
-pub some_cut : (P : Row → Type 0) (n : ℕ) → 1 ≤ n → n ≤ 33 → (A : List Row) → HasCols n A → ((x : Row) → length x ≡ n → pos 0 <ℤ entry x 0 → P x ↔ CutOut A x)
+pub some_cut : (P : Row → Type 0) (n : ℕ) → 1 ≤ n → n ≤ most_columns → (A : List Row) → HasCols n A → ((x : Row) → length x ≡ n → pos 0 <ℤ entry x 0 → P x ↔ CutOut A x)
     → (p : Row) → length p ≡ n → pos 0 <ℤ entry p 0 → CutOut A p → SomeThing (λ u. HasPoints u n P)
 some_cut P n some few A cols points p lp up cp =
     let (G, hg, same) = cut_is_generated n (origin n ∷ A) (origin_cols n some, cols) in
@@ -84,7 +85,7 @@ not_positive : (z : ℤ) → z ≡ pos 0 → ¬ (pos 0 <ℤ z)
 not_positive z e h = omega (arith, ints)
 
 -- no point has P
-pub some_empty : (P : Row → Type 0) (n : ℕ) → 1 ≤ n → n ≤ 33 → ((x : Row) → length x ≡ n → pos 0 <ℤ entry x 0 → ¬ (P x)) → SomeThing (λ u. HasPoints u n P)
+pub some_empty : (P : Row → Type 0) (n : ℕ) → 1 ≤ n → n ≤ most_columns → ((x : Row) → length x ≡ n → pos 0 <ℤ entry x 0 → ¬ (P x)) → SomeThing (λ u. HasPoints u n P)
 some_empty P n some few none =
     some_polytope (λ u. HasPoints u n P) n [] [] some few
     (record {

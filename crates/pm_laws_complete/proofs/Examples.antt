@@ -8,7 +8,7 @@ use Rattle.pm_props.proofs.Every.{all_properties}
 use Rattle.pm_props.proofs.Numbers.{number_is}
 use Rattle.std.proofs.lemmas.Option.{same_Some}
 use Rattle.std.specs.Option.{is_some}
-use Rattle.pm_machine.specs.Chains.{is_barred_on}
+use Rattle.pm_rounds.specs.Chains.{is_barred_on}
 use Rattle.pm_standard.specs.declared.standard.StandardClient.TheVariants as client
 use Rattle.pm_standard.specs.Book.{standard_rule, standard_rules}
 use Rattle.pm_rules.specs.declared.rule.Rule.{Rule}

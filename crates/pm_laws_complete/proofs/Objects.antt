@@ -2,7 +2,7 @@
 use Rattle.std.proofs.Common.{◌∙◌, sym}
 use Rattle.std.proofs.lemmas.Bool.{and_parts}
 use Rattle.std.specs.Prelude.{not}
-use Rattle.pm_machine.specs.Chains.{held_names}
+use Rattle.pm_rounds.specs.Chains.{held_names}
 use Rattle.pm_props.proofs.Every.{has-set_of_filter}
 use Rattle.pm_props.proofs.Members.{has-difference}
 use Rattle.pm_props.specs.Properties.{is_in_use}

@@ -2,12 +2,12 @@
 use Rattle.pm_command.specs.Commands.{RefSeen}
 use Rattle.pm_laws_complete.specs.Completeness.{HoldsAlone, HoldsObjective, descriptions}
 use Rattle.pm_laws_complete.specs.Objects.{BarsNothing}
-use Rattle.pm_machine.specs.Chains.{AreBarred, held_names, still_missing, table}
-use Rattle.pm_machine.specs.Events.{Configuration, Ensured, Event, after_event, begun, committed, configuration, excluded, settled, started, written}
+use Rattle.pm_rounds.specs.Chains.{AreBarred, held_names, still_missing, table}
+use Rattle.pm_rounds.specs.Events.{Configuration, Ensured, Event, after_event, begun, committed, configuration, excluded, settled, started, written}
 use Rattle.pm_machine.specs.Machines.{Machine}
-use Rattle.pm_machine.specs.Steps.{GiveStep}
-use Rattle.pm_machine.specs.declared.round.Ending.{Ending}
-use Rattle.pm_machine.specs.declared.round.Ending.TheVariants.{Crowded, Found}
+use Rattle.pm_machine.specs.Steps.{GiveStep, Named, is_asked, no_chain}
+use Rattle.pm_rounds.specs.declared.round.Ending.{Ending}
+use Rattle.pm_rounds.specs.declared.round.Ending.TheVariants as ending
 use Rattle.pm_object_type.specs.declared.object_type.ObjectType.TheVariants.{Fan}
 use Rattle.pm_props.specs.Properties.{is_in_use}
 use Rattle.pm_props.specs.Sets.{only}
@@ -43,13 +43,24 @@ SomeChainLeadsNow book sub asked c = (barred : List RuleId) → AreBarred book c
 
 -- where one does as the object is settled, and no rule is excluded, the ending is that all is found, or that the planner was crowded
 abbrev pub ValueComes : Type 0
-ValueComes = (book : List Rule) (sub : Option ℕ) (asked : PropSet) (ending : Ending) (old new : Configuration) (e : Ensured book sub asked ending old new)
-    → ExcludesNone e.reaches.events → SomeChainLeadsNow book sub asked (after_event sub settled old) → ¬ (ending ≡ Crowded) → ending ≡ Found
+ValueComes = (book : List Rule) (sub : Option ℕ) (asked : PropSet) (end : Ending) (old new : Configuration) (e : Ensured book sub asked end old new)
+    → ExcludesNone e.reaches.events → SomeChainLeadsNow book sub asked (after_event sub settled old) → ¬ (end ≡ ending.Crowded) → end ≡ ending.Found
+
+-- a property of what a REF names was asked, and for want of a chain it was not found
+pub record LacksChain (book : List Rule) (old : Machine) : Type 0 where
+  pub found : Named
+  pub property : PropId
+  pub now : Configuration
+  pub ensured : Ensured book found.sub (only property) ending.NoChain (configuration found.object old.clients) now
+
+-- where `give` is refused for want of a chain, this was asked
+abbrev pub lacking : {book : List Rule} {old new : Machine} {ref : RefSeen} {text : List ℕ} {more : Remarks} → GiveStep book old ref text (refused NoChain more) new → LacksChain book old
+lacking (is_asked (x, at, p, named, c, no_chain e told, becomes)) = record { found = x; property = p; now = c; ensured = e }
 
 -- so `give` is not refused for want of a chain, where one led there as the object was settled and no rule that it started was excluded
 abbrev pub GiveComes : Type 0
 GiveComes = (book : List Rule) (old new : Machine) (ref : RefSeen) (text : List ℕ) (more : Remarks) (g : GiveStep book old ref text (refused NoChain more) new)
-    → ExcludesNone g.5.0.reaches.events → SomeChainLeadsNow book g.0.sub (only g.2) (after_event g.0.sub settled (configuration g.0.object old.clients)) → ⊥
+    → let l = lacking g in ExcludesNone l.ensured.reaches.events → SomeChainLeadsNow book l.found.sub (only l.property) (after_event l.found.sub settled (configuration l.found.object old.clients)) → ⊥
 
 -- by the standard book one leads there where the settled object is a polytope or cone that holds one description alone, and nothing is barred for it
 abbrev pub StandardChainLeadsNow : Type 0

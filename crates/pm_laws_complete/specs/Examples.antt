@@ -5,8 +5,8 @@ use Rattle.pm_object_type.specs.declared.object_type.ObjectType.TheVariants.{Con
 use Rattle.pm_props.specs.declared.property.PropId.{PropId}
 use Rattle.pm_props.specs.declared.property.PropId.TheVariants.{AffineHull, ConeAmbientDim, ConeDim, Facets, FarFace, FVector, Graph, Inequalities, InputLineality, LinealitySpace, LinearObjective, MaximalValue, Points, Vertices}
 use Rattle.pm_client.specs.Starts.{Clients}
-use Rattle.pm_machine.specs.Chains.{held_names}
-use Rattle.pm_machine.specs.Events.{configuration}
+use Rattle.pm_rounds.specs.Chains.{held_names}
+use Rattle.pm_rounds.specs.Events.{configuration}
 use Rattle.pm_object.specs.State.{HeldValue, State}
 use Rattle.pm_object.specs.declared.held.Origin.TheVariants.{Given}
 use Rattle.pm_standard.specs.Table.{standard_clients, standard_kind}

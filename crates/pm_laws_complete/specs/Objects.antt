@@ -1,8 +1,8 @@
 -- What the machine finds of an object by the standard book.
 use Rattle.std.specs.Prelude.{ℕ, ◌≡◌, IsTrue, Option, Some, false}
 use Rattle.std.specs.List.{Contains}
-use Rattle.pm_machine.specs.Chains.{held_names, is_barred_on}
-use Rattle.pm_machine.specs.Events.{Configuration, NoneLeads}
+use Rattle.pm_rounds.specs.Chains.{held_names, is_barred_on}
+use Rattle.pm_rounds.specs.Events.{Configuration, NoneLeads}
 use Rattle.pm_props.specs.declared.kind.RuleId.{RuleId}
 use Rattle.pm_object_type.specs.declared.object_type.ObjectType.TheVariants.{Fan}
 use Rattle.pm_props.specs.declared.property.PropId.{PropId}

@@ -7,6 +7,7 @@ use Rattle.pm_elim.specs.Evidence.{IsBasisOf}
 use Rattle.pm_geom.specs.FaceCounts.{IsLexBefore}
 use Rattle.pm_geom.specs.Graphs.{IsAscending}
 use Rattle.pm_laws_placing.specs.Placing.{IsPlacing}
+use Rattle.pm_limits.specs.Limits.{most_rows}
 
 -- A and B have the same sets
 abbrev pub HaveSameSets : List (List ℕ) → List (List ℕ) → Type 0
@@ -26,6 +27,6 @@ pub record ArePlacedCells (n : ℕ) (L G basis : List Row) (f : ℕ) (T : List (
 abbrev pub IsPlacingTriangulation : ℕ → List Row → List Row → List (List ℕ) → Type 0
 IsPlacingTriangulation n L G T = (basis : List Row) × ArePlacedCells n L G basis (length (both_signs basis ++ G)) T
 
--- T has the cells of the first f rows, and they are more than 2,048
+-- T has the cells of the first f rows, and they are more than most_rows
 abbrev pub AreCrowdedCells : ℕ → List Row → List Row → ℕ → List (List ℕ) → Type 0
-AreCrowdedCells n L G f T = ((basis : List Row) × ArePlacedCells n L G basis f T) × (2048 < length T)
+AreCrowdedCells n L G f T = ((basis : List Row) × ArePlacedCells n L G basis f T) × (most_rows < length T)

@@ -6,6 +6,7 @@ ghost use Rattle.pm_lift.specs.Refusals.{IsLiftFail, IsRaiseFail};
 ghost use Rattle.pm_lift.specs.Spheres.{HasAffineFunction, HasEmptySphere};
 ghost use Rattle.pm_geom.specs.Graphs.{holds};
 ghost use Rattle.std.specs.Prelude.{All, IfErr, IfOk, length, map, pos, ◌<ℤ◌, ◌<◌, ◌^◌, ◌≡◌, ◌≤◌};
+ghost use Rattle.pm_limits.specs.Limits.{most_rows};
 
 use crate::fails::LiftFail;
 use crate::rows::{lifted_rows, raised_rows};
@@ -32,7 +33,7 @@ pub fn regular_cells(
     requires few_sites { length sites.now < 2 ^ 27 }
     requires few_columns { cols < 2 ^ 29 }
     ensures cells { IfOk result (λ v. AreCells cols sites.now heights.now (map (λ s. s.items) v.items)) }
-    ensures few { IfOk result (λ v. length v.items ≤ 2048) }
+    ensures few { IfOk result (λ v. length v.items ≤ most_rows) }
     ensures failed { IfErr result (IsLiftFail cols sites.now heights.now) }
 {
     let rows = lifted_rows(alloc, sites, heights)?;
@@ -51,7 +52,7 @@ pub fn delaunay_cells(alloc: Global, cols: usize, sites: &[Ints]) -> Result<Vec<
     ensures cells { IfOk result (λ v. AreCells cols sites.now (squares sites.now) (map (λ s. s.items) v.items)) }
     ensures functions { IfOk result (λ v. All (λ s. HasAffineFunction cols sites.now (holds s)) (map (λ s. s.items) v.items)) }
     ensures spheres { IfOk result (λ v. All (λ s. HasEmptySphere cols sites.now (holds s)) (map (λ s. s.items) v.items)) }
-    ensures few { IfOk result (λ v. length v.items ≤ 2048) }
+    ensures few { IfOk result (λ v. length v.items ≤ most_rows) }
     ensures failed { IfErr result (IsRaiseFail cols sites.now) }
 {
     let rows = raised_rows(alloc, sites)?;

@@ -14,8 +14,8 @@ pub enum LiftFail {
     /// description (E2).
     #[error("a number leaves the range")]
     Wide(Evidence),
-    /// Some cone on the way has more than 2,048 extreme rays (E5).
-    #[error("more than 2,048 extreme rays")]
+    /// Some cone on the way has more than `MOST_ROWS` extreme rays (E5).
+    #[error("too many extreme rays")]
     Many(Evidence),
     #[error("out of memory")]
     Memory,

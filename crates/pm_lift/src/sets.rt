@@ -5,6 +5,7 @@ ghost use Rattle.pm_lift.specs.Refusals.{ArePair, IsRowsFail, IsWideOf};
 ghost use Rattle.pm_lift.specs.ZeroSets.{AreLowerSets, lower_sets, places_from};
 ghost use Rattle.pm_lift.specs.Lifting.{upwards};
 ghost use Rattle.std.specs.Prelude.{IfErr, IfOk, [], length, map, suc, unsigned_abs, ◌++◌, ◌+◌, ◌==◌, ◌<◌, ◌^◌, ◌∷◌, ◌≡◌, ◌≤◌};
+ghost use Rattle.pm_limits.specs.Limits.{most_rows};
 
 use crate::fails::LiftFail;
 use pm_elim::copies;
@@ -105,7 +106,7 @@ pub(crate) fn lower_cells(
     requires few_rows { length rows.now < 2 ^ 27 }
     requires few_columns { cols < 2 ^ 29 }
     ensures sets { IfOk result (λ v. AreLowerSets cols rows.now (map (λ s. s.items) v.items)) }
-    ensures few { IfOk result (λ v. length v.items ≤ 2048) }
+    ensures few { IfOk result (λ v. length v.items ≤ most_rows) }
     ensures failed { IfErr result (IsRowsFail cols rows.now) }
 {
     let all = with_upwards(alloc, cols, rows)?;

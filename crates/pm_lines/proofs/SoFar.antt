@@ -3,10 +3,11 @@ use Rattle.std.proofs.Common.{◌≡◌, ℕ, ◌<◌, ◌≤◌, ◌+◌, true,
 use Rattle.std.proofs.Math.Seq.{take-add}
 use Rattle.std.proofs.lemmas.List.{drop-drop, take-append-drop}
 use Rattle.pm_lines.proofs.LineLaws.{clear_append, last_line, lines_at_break, lines_of-open, whole_of-open}
-use Rattle.pm_lines.specs.Coming.{Answers, BreaksOff, Ended, Exceeds, Gave, IsOver, ReaderSeen, Refilled, most_bytes}
+use Rattle.pm_lines.specs.Coming.{Answers, BreaksOff, Ended, Exceeds, Gave, IsOver, ReaderSeen, Refilled}
 use Rattle.pm_lines.specs.Whole.{HasNoBreak, whole_lines}
 use Rattle.pm_command.specs.Lines.{Line, lines_of}
 use Rattle.pm_store.specs.Outside.{IsAtEnd, Stays}
+use Rattle.pm_limits.specs.Limits.{most_script_bytes}
 
 -- n bytes more were given, and all that was given stands in the line at hand and after it
 pub record ReadsOn (all : List ℕ) (left : Option (List ℕ)) (old new : ReaderSeen) : Type 0 where
@@ -75,7 +76,7 @@ breaks_off all mid left old had new reads clear given stays same =
 
 -- it gave a byte too many
 pub exceeds : (all : List ℕ) (mid left : Option (List ℕ)) (old had : ReaderSeen) → ReadsOn all mid old had → HasNoBreak had.line.bytes → HasNoBreak had.given
-    → had.read ≡ most_bytes → IfSome mid (λ rest. (0 < length rest) × (left ≡ Some (drop 1 rest))) → Exceeds all left old
+    → had.read ≡ most_script_bytes → IfSome mid (λ rest. (0 < length rest) × (left ≡ Some (drop 1 rest))) → Exceeds all left old
 exceeds all mid left old had reads clear given full over =
     let more : (0 < length (drop reads.n all)) × (left ≡ Some (drop 1 (drop reads.n all))) = rw reads.gave.others at over in
     let some = more.0 in (
@@ -156,7 +157,7 @@ told_off None mid left old had new reads clear given stays same = tt
 told_off (Some all) mid left old had new reads clear given stays same = breaks_off all mid left old had new reads clear given stays same
 
 pub told_exceeds : (o mid left : Option (List ℕ)) (old had : ReaderSeen) → IfSome o (λ all. ReadsOn all mid old had) → HasNoBreak had.line.bytes → HasNoBreak had.given
-    → had.read ≡ most_bytes → IfSome mid (λ rest. (0 < length rest) × (left ≡ Some (drop 1 rest))) → IfSome o (λ all. Exceeds all left old)
+    → had.read ≡ most_script_bytes → IfSome mid (λ rest. (0 < length rest) × (left ≡ Some (drop 1 rest))) → IfSome o (λ all. Exceeds all left old)
 told_exceeds None mid left old had reads clear given full over = tt
 told_exceeds (Some all) mid left old had reads clear given full over = exceeds all mid left old had reads clear given full over
 

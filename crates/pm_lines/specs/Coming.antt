@@ -2,6 +2,7 @@
 use Rattle.std.specs.Prelude.{◌≡◌, ℕ, ◌+◌, ◌<◌, ◌≤◌, Bool, true, false, List, [], ◌∷◌, ◌++◌, take, drop, length, Option, Some}
 use Rattle.pm_command.specs.Lines.{Line, lines_of}
 use Rattle.pm_lines.specs.Whole.{HasNoBreak, whole_lines}
+use Rattle.pm_limits.specs.Limits.{most_script_bytes}
 
 -- The line at hand, the bytes that the source gave and that stand in no line yet, how many it gave in all,
 -- and whether it said that nothing is left.
@@ -14,10 +15,6 @@ pub record ReaderSeen : Type 0 where
 -- the line at hand before the first one
 abbrev pub no_line : Line
 no_line = record { bytes = []; ended = false }
-
--- the most bytes of a script
-abbrev pub most_bytes : ℕ
-most_bytes = 16777216
 
 -- Of all that the source had left, n bytes more were given.
 pub record Gave (n : ℕ) (all : List ℕ) (left : Option (List ℕ)) (old new : ReaderSeen) : Type 0 where
@@ -47,7 +44,7 @@ BreaksOff all left old new = (n : ℕ) × Gave n all left old new × (whole_line
 
 -- the source gave a byte after the most, and no LF was given before
 abbrev pub Exceeds : List ℕ → Option (List ℕ) → ReaderSeen → Type 0
-Exceeds all left old = (n : ℕ) × (n < length all) × (left ≡ Some (drop (n + 1) all)) × (old.read + n ≡ most_bytes) × (whole_lines (old.given ++ take n all) ≡ [])
+Exceeds all left old = (n : ℕ) × (n < length all) × (left ≡ Some (drop (n + 1) all)) × (old.read + n ≡ most_script_bytes) × (whole_lines (old.given ++ take n all) ≡ [])
 
 -- Of all that the source had left, it gave some first bytes more, and nothing else was changed.
 pub record Refilled (all : List ℕ) (left : Option (List ℕ)) (old new : ReaderSeen) : Type 0 where

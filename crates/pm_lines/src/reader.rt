@@ -1,20 +1,19 @@
 // Lines as they come from a source.
 
 ghost use Rattle.std.specs.Prelude.{◌≡◌, ◌≢◌, ℕ, ◌+◌, ◌-◌, ◌<◌, ◌≤◌, ◌++◌, List, [], Ok, Some, true, false, not, IfOk, IfSome, OnOk, OnErr, IsErrOf, length, drop};
-ghost use Rattle.pm_lines.specs.Coming.{Answers, BreaksOff, Ended, Exceeds, IsOver, ReaderSeen, Refilled, most_bytes, no_line};
+ghost use Rattle.pm_lines.specs.Coming.{Answers, BreaksOff, Ended, Exceeds, IsOver, ReaderSeen, Refilled, no_line};
 ghost use Rattle.pm_lines.specs.Whole.{HasNoBreak, whole_lines};
 ghost use Rattle.pm_lines.specs.declared.reader.LinesFail.TheVariants.{Fault, Memory};
 ghost use Rattle.pm_store.specs.Outside.{IsAtEnd, Loses, Rose, Stays};
+ghost use Rattle.pm_limits.specs.Limits.{most_script_bytes};
 
 use crate::chunk::Chunk;
 use pm_command::{Line, first_break};
+use pm_limits::MOST_SCRIPT_BYTES;
 use pm_store::{Failed, Source};
 use std::alloc::{AllocError, Global};
 use std::marker::Model;
 use thiserror::Error;
-
-/// The most bytes of a script.
-const MOST: usize = 16_777_216;
 
 /// Why the next line did not come.
 #[derive(Clone, Copy, Debug, PartialEq, Eq, Error)]
@@ -22,7 +21,7 @@ pub enum LinesFail {
     /// The source failed.
     #[error("the source failed")]
     Fault,
-    /// The script has more than 16,777,216 bytes.
+    /// The script has more than `MOST_SCRIPT_BYTES` bytes.
     #[error("the script is too long")]
     TooLong,
     /// Memory ran out.
@@ -67,7 +66,7 @@ impl Model for LineReader {
       at_end = r.at_end;
     } };
 
-    ghost invariant = { λ r. r.read ≤ most_bytes };
+    ghost invariant = { λ r. r.read ≤ most_script_bytes };
 }
 
 impl LineReader {
@@ -94,7 +93,7 @@ impl LineReader {
     /// Lets the line at hand go.
     fn begin(&mut self)
         ensures state { self.new ≡ record self.old { line = no_line } }
-        ensures bound { self.new.read ≤ most_bytes }
+        ensures bound { self.new.read ≤ most_script_bytes }
     {
         self.line.clear();
         self.ended = false;
@@ -130,22 +129,22 @@ impl LineReader {
             IfSome (S.left source.old) (λ all. Refilled all (S.left source.new) self.old self.new)) }
         ensures reads { IfOk result (λ there. there ≡ true → self.old.read < self.new.read) }
         ensures state { self.new ≡ record self.old { given = self.new.given; read = self.old.read + length self.new.given } }
-        ensures bound { self.new.read ≤ most_bytes }
+        ensures bound { self.new.read ≤ most_script_bytes }
         ensures end { IfOk result (λ there. there ≡ false → (self.new.given ≡ []) × IsAtEnd (S.left source.old) × Stays (S.left source.old) (S.left source.new)) }
         ensures none { OnErr result (self.new.given ≡ []) }
         ensures err { IsErrOf result LinesFail.Fault → Stays (S.left source.old) (S.left source.new) }
         ensures fault { IsErrOf result LinesFail.Fault → Rose (S.faults source.old) (S.faults source.new) }
-        ensures too_long { IsErrOf result LinesFail.TooLong → self.old.read ≡ most_bytes }
+        ensures too_long { IsErrOf result LinesFail.TooLong → self.old.read ≡ most_script_bytes }
         ensures over { IsErrOf result LinesFail.TooLong →
             IfSome (S.left source.old) (λ all. (0 < length all) × (S.left source.new ≡ Some (drop 1 all))) }
         ensures loses { Loses (S.left source.old) (S.left source.new) }
         ensures never_falls { S.faults source.old ≤ S.faults source.new }
     {
-        if self.read == MOST {
+        if self.read == MOST_SCRIPT_BYTES {
             find_end(source)?;
             return Ok(false);
         }
-        self.chunk.fill(source, MOST - self.read)?;
+        self.chunk.fill(source, MOST_SCRIPT_BYTES - self.read)?;
         let count = self.chunk.bytes().len();
         self.read += count;
         Ok(count > 0)
@@ -167,7 +166,7 @@ impl LineReader {
     /// A line that stands in what was given already is answered without a read.
     /// A line that an LF ended takes bytes of what was given, so its calls come to an end.
     /// `Fault` comes where the source failed. After any error a line that is not whole is gone.
-    /// `TooLong` comes exactly where the source gave a byte after the first 16,777,216, and no line of these is left
+    /// `TooLong` comes exactly where the source gave a byte after the first `MOST_SCRIPT_BYTES`, and no line of these is left
     /// that an LF ended.
     pub fn advance<S: Source>(&mut self, source: &mut S) -> Result<bool, LinesFail>
         ensures line { IfOk result (λ there. there ≡ true →
@@ -185,9 +184,9 @@ impl LineReader {
         ensures rose { IsErrOf result LinesFail.Fault → Rose (S.faults source.old) (S.faults source.new) }
         ensures too_long { IsErrOf result LinesFail.TooLong →
             IfSome (S.left source.old) (λ all. Exceeds all (S.left source.new) self.old) }
-        ensures full { IsErrOf result LinesFail.TooLong → self.new.read ≡ most_bytes }
+        ensures full { IsErrOf result LinesFail.TooLong → self.new.read ≡ most_script_bytes }
         ensures loses { Loses (S.left source.old) (S.left source.new) }
-        ensures bound { self.new.read ≤ most_bytes }
+        ensures bound { self.new.read ≤ most_script_bytes }
         ensures grows { self.old.read ≤ self.new.read }
         ensures never_falls { S.faults source.old ≤ S.faults source.new }
     {

@@ -2,35 +2,33 @@
 use Rattle.pm_client.specs.Starts.{Clients}
 use Rattle.pm_machine.proofs.BesideBuilding.{build_beside, make_beside, parts_beside}
 use Rattle.pm_machine.proofs.BesideObjects.{becomes_beside, beside, gains_beside, loses_beside, stays_beside, unloads_beside}
-use Rattle.pm_machine.specs.Building.{MayHaveBegun, row_of, wanted_all}
+use Rattle.pm_machine.specs.Building.{MayHaveBegun, wanted_all}
+use Rattle.pm_making.specs.Rows.{row_of}
 use Rattle.pm_command.specs.declared.building.Builder.{Builder}
 use Rattle.pm_machine.specs.Parts.{StepInPart}
 use Rattle.pm_machine.specs.Machines.{IsFree, Machine, Stays, Store}
-use Rattle.pm_machine.specs.Steps.{CopyStep, DisableStep, DropStep, EnsureStep, ExplainStep, FileRead, GiveStep, HasBytes, HasNone, HistoryStep, IsLookedAt, LoadStep, Looks, LookupStep, NewObjectStep, NewOf, NewProgramStep, NewStep, OriginStep, RulesStep, Step, TakeStep, UnloadStep}
+use Rattle.pm_machine.specs.Steps.{CopyStep, DisableStep, DropStep, EnsureStep, ExplainStep, FileRead, GiveStep, HasBytes, HasNone, HistoryStep, IsLookedAt, LoadStep, Looks, LookupStep, NewObjectStep, NewOf, NewProgramStep, NewStep, OriginStep, RulesStep, Step, TakeStep, UnloadStep, bad_file, is_asked, is_copied, is_dropped, is_listed, is_loaded, is_made, is_shown, is_taken, is_told, is_unloaded, no_room, no_such_client, no_such_name, no_such_property, no_such_rule, no_such_type, not_held, not_taken, now_disabled, now_held, other_type, other_word}
 use Rattle.pm_rules.specs.declared.rule.Rule.{Rule}
 use Rattle.pm_command.specs.Commands.{RefSeen, Spoken, blank, new_object, take_value, give_value, look_up, ensure_values, explain_values, tell_history, show_rules, disable_rule, unload_client, copy_object, drop_object, tell_origin, load_object, save_object, make_object, build_object, is_on_files}
-use Rattle.pm_script.specs.Replies.{ReplySeen, done, ensured, explained, lists_rules, loaded, nothing, planned, refused, shows, tells, tells_origin, undef}
-use Rattle.pm_script.specs.declared.refusal.Refusal.TheVariants.{UnknownName, NameTaken, UnknownType, UnknownProperty, BadValue, AlreadyHeld, Sealed, ObjectsFull, NoChain, Crowded, BadFile, UnknownRule}
+use Rattle.pm_script.specs.Replies.{ReplySeen}
 use Rattle.pm_store.specs.Files.{FilesStay, file_of, read_part}
 use Rattle.std.specs.Option.{is_some}
 use Rattle.std.proofs.Common.{ap, arith, false, inl, inr, refl, subst, sym, true≢false, ◌∙◌}
 use Rattle.std.specs.Prelude.{IfOk, IfSome, List, None, OnErr, Ok, Err, Option, Result, Some, option_map, ℕ, ◌≡◌}
 
 new_object_beside : (k : Store) (old new : Machine) (name text : List ℕ) (reply : ReplySeen) → NewObjectStep old name text reply new → NewObjectStep (beside k old) name text reply (beside k new)
-new_object_beside k old new name text (refused UnknownType nothing) (h, s) = (h, stays_beside k old new s)
-new_object_beside k old new name text (refused NameTaken nothing) (h, i, s) = (h, i, stays_beside k old new s)
-new_object_beside k old new name text (refused ObjectsFull nothing) (h, i, l, s) = (h, i, l, stays_beside k old new s)
-new_object_beside k old new name text (done t) (of, h, i, l, e, g) = (of, h, i, l, e, gains_beside k _ _ old new g)
-new_object_beside k old new name text reply h = absurd h
+new_object_beside k old new name text _ (no_such_type h s) = no_such_type h (stays_beside k old new s)
+new_object_beside k old new name text _ (is_taken h i s) = is_taken h i (stays_beside k old new s)
+new_object_beside k old new name text _ (no_room h i l s) = no_room h i l (stays_beside k old new s)
+new_object_beside k old new name text _ (is_made of h i l told g) = is_made of h i l told (gains_beside k _ _ old new g)
 
 new_program_beside : (k : Store) (old new : Machine) (name sub text : List ℕ) (reply : ReplySeen) → NewProgramStep old name sub text reply new → NewProgramStep (beside k old) name sub text reply (beside k new)
-new_program_beside k old new name sub text (refused UnknownType nothing) (inl (h, s)) = inl (h, stays_beside k old new s)
-new_program_beside k old new name sub text (refused UnknownType nothing) (inr (h, (o, i, w, s))) = inr (h, (o, i, w, stays_beside k old new s))
-new_program_beside k old new name sub text (refused UnknownName nothing) (h, i, s) = (h, i, stays_beside k old new s)
-new_program_beside k old new name sub text (refused NameTaken nothing) (h, (o, i, w, s)) = (h, (o, i, w, stays_beside k old new s))
-new_program_beside k old new name sub text (refused ObjectsFull nothing) (h, (o, i, w, s)) = (h, (o, i, w, stays_beside k old new s))
-new_program_beside k old new name sub text (done t) (h, o, i, w, e, b) = (h, o, i, w, e, becomes_beside k _ _ old new b)
-new_program_beside k old new name sub text reply h = absurd h
+new_program_beside k old new name sub text _ (other_word h s) = other_word h (stays_beside k old new s)
+new_program_beside k old new name sub text _ (other_type h (o, i, w, s)) = other_type h (o, i, w, stays_beside k old new s)
+new_program_beside k old new name sub text _ (no_such_name h i s) = no_such_name h i (stays_beside k old new s)
+new_program_beside k old new name sub text _ (is_taken h (o, i, w, s)) = is_taken h (o, i, w, stays_beside k old new s)
+new_program_beside k old new name sub text _ (no_room h (o, i, w, s)) = no_room h (o, i, w, stays_beside k old new s)
+new_program_beside k old new name sub text _ (is_made o h i w told b) = is_made o h i w told (becomes_beside k _ _ old new b)
 
 new_of_beside : (k : Store) (old new : Machine) (name : List ℕ) (sub : Option (List ℕ)) (text : List ℕ) (reply : ReplySeen) → NewOf old name sub text reply new → NewOf (beside k old) name sub text reply (beside k new)
 new_of_beside k old new name None text reply h = new_object_beside k old new name text reply h
@@ -40,83 +38,63 @@ new_beside : (k : Store) (old new : Machine) (ref : RefSeen) (text : List ℕ) (
 new_beside k old new ref text reply h = new_of_beside k old new ref.name ref.sub text reply h
 
 take_beside : (k : Store) (old new : Machine) (ref : RefSeen) (text json : List ℕ) (reply : ReplySeen) → TakeStep old ref text json reply new → TakeStep (beside k old) ref text json reply (beside k new)
-take_beside k old new ref text json (refused UnknownName nothing) (h, s) = (h, stays_beside k old new s)
-take_beside k old new ref text json (refused UnknownProperty nothing) (o, h, i, s) = (o, h, i, stays_beside k old new s)
-take_beside k old new ref text json (refused AlreadyHeld nothing) (o, h, p, i, t, s) = (o, h, p, i, t, stays_beside k old new s)
-take_beside k old new ref text json (refused Sealed nothing) (o, h, p, i, t, s) = (o, h, p, i, t, stays_beside k old new s)
-take_beside k old new ref text json (refused (BadValue why) nothing) (o, h, p, i, t, s) = (o, h, p, i, t, stays_beside k old new s)
-take_beside k old new ref text json (done r) (o, h, p, i, v, t, e, b) = (o, h, p, i, v, t, e, becomes_beside k _ _ old new b)
-take_beside k old new ref text json reply h = absurd h
+take_beside k old new ref text json _ (no_such_name h s) = no_such_name h (stays_beside k old new s)
+take_beside k old new ref text json _ (no_such_property x h i s) = no_such_property x h i (stays_beside k old new s)
+take_beside k old new ref text json _ (not_taken (x, h, p, i, t, s)) = not_taken (x, h, p, i, t, stays_beside k old new s)
+take_beside k old new ref text json _ (now_held x p v h i t told b) = now_held x p v h i t told (becomes_beside k _ _ old new b)
 
 give_beside : (k : Store) (old new : Machine) (book : List Rule) (ref : RefSeen) (text : List ℕ) (reply : ReplySeen) → GiveStep book old ref text reply new → GiveStep book (beside k old) ref text reply (beside k new)
-give_beside k old new book ref text (refused UnknownName nothing) (h, s) = (h, stays_beside k old new s)
-give_beside k old new book ref text (refused UnknownProperty nothing) (o, h, i, s) = (o, h, i, stays_beside k old new s)
-give_beside k old new book ref text (refused NoChain more) (o, h, p, i, c, g, b) = (o, h, p, i, c, g, becomes_beside k _ _ old new b)
-give_beside k old new book ref text (refused Crowded more) (o, h, p, i, c, g, b) = (o, h, p, i, c, g, becomes_beside k _ _ old new b)
-give_beside k old new book ref text (shows name of q v t) (o, h, p, i, c, g, b) = (o, h, p, i, c, g, becomes_beside k _ _ old new b)
-give_beside k old new book ref text reply h = absurd h
+give_beside k old new book ref text _ (no_such_name h s) = no_such_name h (stays_beside k old new s)
+give_beside k old new book ref text _ (no_such_property x h i s) = no_such_property x h i (stays_beside k old new s)
+give_beside k old new book ref text reply (is_asked (x, h, p, i, c, g, b)) = is_asked (x, h, p, i, c, g, becomes_beside k _ _ old new b)
 
 ensure_beside : (k : Store) (old new : Machine) (book : List Rule) (ref : RefSeen) (words : List (List ℕ)) (reply : ReplySeen) → EnsureStep book old ref words reply new → EnsureStep book (beside k old) ref words reply (beside k new)
-ensure_beside k old new book ref words (refused UnknownName nothing) (h, s) = (h, stays_beside k old new s)
-ensure_beside k old new book ref words (refused UnknownProperty nothing) (o, h, i, s) = (o, h, i, stays_beside k old new s)
-ensure_beside k old new book ref words (refused NoChain more) (o, h, p, i, c, g, b) = (o, h, p, i, c, g, becomes_beside k _ _ old new b)
-ensure_beside k old new book ref words (refused Crowded more) (o, h, p, i, c, g, b) = (o, h, p, i, c, g, becomes_beside k _ _ old new b)
-ensure_beside k old new book ref words (ensured t) (o, h, p, i, c, g, b) = (o, h, p, i, c, g, becomes_beside k _ _ old new b)
-ensure_beside k old new book ref words reply h = absurd h
+ensure_beside k old new book ref words _ (no_such_name h s) = no_such_name h (stays_beside k old new s)
+ensure_beside k old new book ref words _ (no_such_property x h i s) = no_such_property x h i (stays_beside k old new s)
+ensure_beside k old new book ref words reply (is_asked (x, h, p, i, c, g, b)) = is_asked (x, h, p, i, c, g, becomes_beside k _ _ old new b)
 
 explain_beside : (k : Store) (old new : Machine) (book : List Rule) (ref : RefSeen) (words : List (List ℕ)) (reply : ReplySeen) → ExplainStep book old ref words reply new → ExplainStep book (beside k old) ref words reply (beside k new)
-explain_beside k old new book ref words (refused UnknownName nothing) (h, s) = (h, stays_beside k old new s)
-explain_beside k old new book ref words (refused UnknownProperty nothing) (o, h, i, s) = (o, h, i, stays_beside k old new s)
-explain_beside k old new book ref words (explained chain weight rows names) (o, h, p, i, g, b) = (o, h, p, i, g, becomes_beside k _ _ old new b)
-explain_beside k old new book ref words (refused NoChain (planned told rows names)) (o, h, p, i, g, b) = (o, h, p, i, g, becomes_beside k _ _ old new b)
-explain_beside k old new book ref words (refused Crowded (planned told rows names)) (o, h, p, i, g, b) = (o, h, p, i, g, becomes_beside k _ _ old new b)
-explain_beside k old new book ref words reply h = absurd h
+explain_beside k old new book ref words _ (no_such_name h s) = no_such_name h (stays_beside k old new s)
+explain_beside k old new book ref words _ (no_such_property x h i s) = no_such_property x h i (stays_beside k old new s)
+explain_beside k old new book ref words reply (is_asked (x, h, p, i, g, b)) = is_asked (x, h, p, i, g, becomes_beside k _ _ old new b)
 
 history_beside : (k : Store) (old new : Machine) (book : List Rule) (name : List ℕ) (reply : ReplySeen) → HistoryStep book old name reply new → HistoryStep book (beside k old) name reply (beside k new)
-history_beside k old new book name (refused UnknownName nothing) (h, s) = (h, stays_beside k old new s)
-history_beside k old new book name (tells t excluded) (o, h, i, e, s) = (o, h, i, e, stays_beside k old new s)
-history_beside k old new book name reply h = absurd h
+history_beside k old new book name _ (no_such_name h s) = no_such_name h (stays_beside k old new s)
+history_beside k old new book name _ (is_told o h i e s) = is_told o h i e (stays_beside k old new s)
 
 lookup_beside : (k : Store) (old new : Machine) (ref : RefSeen) (text : List ℕ) (reply : ReplySeen) → LookupStep old ref text reply new → LookupStep (beside k old) ref text reply (beside k new)
-lookup_beside k old new ref text (refused UnknownName nothing) (h, s) = (h, stays_beside k old new s)
-lookup_beside k old new ref text (refused UnknownProperty nothing) (o, h, i, s) = (o, h, i, stays_beside k old new s)
-lookup_beside k old new ref text undef (o, h, p, i, n, s) = (o, h, p, i, n, stays_beside k old new s)
-lookup_beside k old new ref text (shows name of q v t) (o, h, i, n, f, w, r, s) = (o, h, i, n, f, w, r, stays_beside k old new s)
-lookup_beside k old new ref text reply h = absurd h
+lookup_beside k old new ref text _ (no_such_name h s) = no_such_name h (stays_beside k old new s)
+lookup_beside k old new ref text _ (no_such_property x h i s) = no_such_property x h i (stays_beside k old new s)
+lookup_beside k old new ref text _ (not_held x p h i n s) = not_held x p h i n (stays_beside k old new s)
+lookup_beside k old new ref text _ (is_shown x h i n f w r s) = is_shown x h i n f w r (stays_beside k old new s)
 
 copy_beside : (k : Store) (old new : Machine) (name to : List ℕ) (reply : ReplySeen) → CopyStep old name to reply new → CopyStep (beside k old) name to reply (beside k new)
-copy_beside k old new name to (refused UnknownName nothing) (h, s) = (h, stays_beside k old new s)
-copy_beside k old new name to (refused NameTaken nothing) (h, i, s) = (h, i, stays_beside k old new s)
-copy_beside k old new name to (refused ObjectsFull nothing) (h, i, l, s) = (h, i, l, stays_beside k old new s)
-copy_beside k old new name to (done t) (e, o, h, i, l, g) = (e, o, h, i, l, gains_beside k _ _ old new g)
-copy_beside k old new name to reply h = absurd h
+copy_beside k old new name to _ (no_such_name h s) = no_such_name h (stays_beside k old new s)
+copy_beside k old new name to _ (is_taken h i s) = is_taken h i (stays_beside k old new s)
+copy_beside k old new name to _ (no_room h i l s) = no_room h i l (stays_beside k old new s)
+copy_beside k old new name to _ (is_copied o told h i l g) = is_copied o told h i l (gains_beside k _ _ old new g)
 
 drop_beside : (k : Store) (old new : Machine) (name : List ℕ) (reply : ReplySeen) → DropStep old name reply new → DropStep (beside k old) name reply (beside k new)
-drop_beside k old new name (refused UnknownName nothing) (h, s) = (h, stays_beside k old new s)
-drop_beside k old new name (done t) (e, h, l) = (e, h, loses_beside k _ old new l)
-drop_beside k old new name reply h = absurd h
+drop_beside k old new name _ (no_such_name h s) = no_such_name h (stays_beside k old new s)
+drop_beside k old new name _ (is_dropped told h l) = is_dropped told h (loses_beside k _ old new l)
 
 origin_beside : (k : Store) (old new : Machine) (ref : RefSeen) (text : List ℕ) (reply : ReplySeen) → OriginStep old ref text reply new → OriginStep (beside k old) ref text reply (beside k new)
-origin_beside k old new ref text (refused UnknownName nothing) (h, s) = (h, stays_beside k old new s)
-origin_beside k old new ref text (refused UnknownProperty nothing) (o, h, i, s) = (o, h, i, stays_beside k old new s)
-origin_beside k old new ref text undef (o, h, p, i, n, s) = (o, h, p, i, n, stays_beside k old new s)
-origin_beside k old new ref text (tells_origin g) (o, h, p, i, n, s) = (o, h, p, i, n, stays_beside k old new s)
-origin_beside k old new ref text reply h = absurd h
+origin_beside k old new ref text _ (no_such_name h s) = no_such_name h (stays_beside k old new s)
+origin_beside k old new ref text _ (no_such_property x h i s) = no_such_property x h i (stays_beside k old new s)
+origin_beside k old new ref text _ (not_held x p h i n s) = not_held x p h i n (stays_beside k old new s)
+origin_beside k old new ref text _ (is_told x p h i n s) = is_told x p h i n (stays_beside k old new s)
 
 rules_beside : (k : Store) (old new : Machine) (book : List Rule) (reply : ReplySeen) → RulesStep book old reply new → RulesStep book (beside k old) reply (beside k new)
-rules_beside k old new book (lists_rules n text) (h, i, s) = (h, i, stays_beside k old new s)
-rules_beside k old new book reply h = absurd h
+rules_beside k old new book _ (is_listed h i s) = is_listed h i (stays_beside k old new s)
 
 disable_beside : (k : Store) (old new : Machine) (book : List Rule) (name label : List ℕ) (reply : ReplySeen) → DisableStep book old name label reply new → DisableStep book (beside k old) name label reply (beside k new)
-disable_beside k old new book name label (refused UnknownName nothing) (h, s) = (h, stays_beside k old new s)
-disable_beside k old new book name label (refused UnknownRule nothing) (h, i, s) = (h, i, stays_beside k old new s)
-disable_beside k old new book name label (done t) (e, o, h, i, b) = (e, o, h, i, becomes_beside k _ _ old new b)
-disable_beside k old new book name label reply h = absurd h
+disable_beside k old new book name label _ (no_such_name h s) = no_such_name h (stays_beside k old new s)
+disable_beside k old new book name label _ (no_such_rule h i s) = no_such_rule h i (stays_beside k old new s)
+disable_beside k old new book name label _ (now_disabled o told h i b) = now_disabled o told h i (becomes_beside k _ _ old new b)
 
 unload_beside : (k : Store) (old new : Machine) (name : List ℕ) (reply : ReplySeen) → UnloadStep old name reply new → UnloadStep (beside k old) name reply (beside k new)
-unload_beside k old new name (refused UnknownRule nothing) (h, s) = (h, stays_beside k old new s)
-unload_beside k old new name (done t) (e, h, u) = (e, h, unloads_beside k _ old new u)
-unload_beside k old new name reply h = absurd h
+unload_beside k old new name _ (no_such_client h s) = no_such_client h (stays_beside k old new s)
+unload_beside k old new name _ (is_unloaded told h u) = is_unloaded told h (unloads_beside k _ old new u)
 
 step_beside : (k : Store) (book : List Rule) (old new : Machine) (command : Spoken) (reply : ReplySeen) → is_on_files command ≡ false → Step book old command reply new → Step book (beside k old) command reply (beside k new)
 step_beside k book old new blank reply e h = absurd h
@@ -196,11 +174,10 @@ with_both k clients m = record m { clients = clients; store = k }
 
 file_step : (book : List Rule) (old new : Machine) (k k' : Store) (clients : Clients) (name file bytes : List ℕ) (reply : ReplySeen) → IsFree old name → HasBytes k file bytes → IsLookedAt k k'
     → FileRead book name bytes reply old new → LoadStep book (with_both k clients old) name file reply (with_both k' clients new)
-file_step book old new k k' clients name file bytes (refused (BadFile why) nothing) free has looked (e, refuses, is, s) =
-    (free, bytes, has, e, refuses, is, record { names = s.names; objects = s.objects; clients = refl; store = looked })
-file_step book old new k k' clients name file bytes (loaded names) free has looked (f, reads, over, g) =
-    (free, bytes, has, f, reads, over, record { names = g.names; object = g.object; others = g.others; clients = refl; store = looked })
-file_step book old new k k' clients name file bytes reply free has looked h = absurd h
+file_step book old new k k' clients name file bytes _ free has looked (bad_file e refuses is s) =
+    bad_file bytes e free has refuses is (record { names = s.names; objects = s.objects; clients = refl; store = looked })
+file_step book old new k k' clients name file bytes _ free has looked (is_loaded f reads over g) =
+    is_loaded bytes f free has reads over (record { names = g.names; object = g.object; others = g.others; clients = refl; store = looked })
 
 pub file_answered : {E F : Type 0} (view : F → ReplySeen) (r : Result F E) (book : List Rule) (old new : Machine) (k k' : Store) (clients : Clients) (name file bytes : List ℕ) → IsFree old name → HasBytes k file bytes → IsLookedAt k k'
     → IfOk r (λ x. FileRead book name bytes (view x) old new) → IfOk r (λ x. LoadStep book (with_both k clients old) name file (view x) (with_both k' clients new))

@@ -2,14 +2,14 @@
 use Rattle.pm_command.specs.Commands.{ShapeSeen}
 use Rattle.pm_command.specs.declared.building.Builder.{Builder}
 use Rattle.pm_machine.proofs.BesideObjects.{becomes_beside, beside, gains_beside, stays_beside}
-use Rattle.pm_machine.specs.Building.{BuildStep, DoesNotRead, EndsAt, EnsuresAll, EnsuresInPart, EnsuresOne, EnsuresOneInPart, MakeStep, Reads, Wanted, is_crowded, is_made, is_taken, no_chain, no_room, no_such_name, not_fit, not_made, other_type, row_of, wanted_all}
+use Rattle.pm_machine.specs.Building.{BuildStep, DoesNotRead, EndsAt, EnsuresAll, EnsuresInPart, EnsuresOne, EnsuresOneInPart, MakeStep, Reads, Wanted, is_crowded, is_made, is_taken, no_chain, no_room, no_such_name, not_fit, not_made, other_type, wanted_all}
+use Rattle.pm_making.specs.Rows.{row_of}
 use Rattle.pm_machine.specs.Machines.{Machine, Store}
-use Rattle.pm_machine.specs.declared.round.Ending.{Ending}
-use Rattle.pm_machine.specs.declared.round.Ending.TheVariants as ending
+use Rattle.pm_rounds.specs.declared.round.Ending.{Ending}
+use Rattle.pm_rounds.specs.declared.round.Ending.TheVariants as ending
 use Rattle.pm_object.specs.State.{RoundSeen, State}
 use Rattle.pm_rules.specs.declared.rule.Rule.{Rule}
-use Rattle.pm_script.specs.Replies.{Remarks, ReplySeen, done, nothing, refused}
-use Rattle.pm_script.specs.declared.refusal.Refusal.TheVariants.{NameTaken, ObjectsFull, NotFit}
+use Rattle.pm_script.specs.Replies.{Remarks, ReplySeen}
 use Rattle.std.proofs.Common.{inl, inr}
 use Rattle.std.specs.Prelude.{List, [], ℕ, ◌∷◌}
 
@@ -45,11 +45,10 @@ module _ (k : Store) (book : List Rule) where
 
 -- ---- steps
 pub make_beside : (k : Store) (old new : Machine) (to : List ℕ) (shape : ShapeSeen) (reply : ReplySeen) → MakeStep old to shape reply new → MakeStep (beside k old) to shape reply (beside k new)
-make_beside k old new to shape (refused NameTaken nothing) (h, s) = (h, stays_beside k old new s)
-make_beside k old new to shape (refused ObjectsFull nothing) (h, i, s) = (h, i, stays_beside k old new s)
-make_beside k old new to shape (refused (NotFit c) nothing) (h, i, s) = (h, i, stays_beside k old new s)
-make_beside k old new to shape (done t) (h, i, is, g) = (h, i, is, gains_beside k _ _ old new g)
-make_beside k old new to shape reply h = absurd h
+make_beside k old new to shape _ (is_taken h s) = is_taken h (stays_beside k old new s)
+make_beside k old new to shape _ (no_room h i s) = no_room h i (stays_beside k old new s)
+make_beside k old new to shape _ (not_fit h i s) = not_fit h i (stays_beside k old new s)
+make_beside k old new to shape _ (is_made h i told g) = is_made h i told (gains_beside k _ _ old new g)
 
 module _ (k : Store) (book : List Rule) (b : Builder) (old : Machine) (names : List (List ℕ)) (to : List ℕ) where
   reads_beside : (rounds : List RoundSeen) (os : List State) (mid : Machine) → Reads book b names to rounds os old mid → Reads book b names to rounds os (beside k old) (beside k mid)

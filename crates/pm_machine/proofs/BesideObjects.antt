@@ -1,5 +1,5 @@
 -- What changes objects is the same beside any store.
-use Rattle.pm_machine.specs.Events.{Configuration}
+use Rattle.pm_rounds.specs.Events.{Configuration}
 use Rattle.pm_machine.specs.Machines.{Becomes, Gains, Loses, Machine, Stays, Store}
 use Rattle.pm_machine.specs.Steps.{Unloads}
 use Rattle.pm_object.specs.State.{State}

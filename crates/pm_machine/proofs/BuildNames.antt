@@ -4,10 +4,10 @@ use Rattle.pm_machine.proofs.Ensuring.{parts_first, parts_then, tells_both, tell
 use Rattle.pm_machine.proofs.Names.{IsWritten, machine_with}
 use Rattle.pm_machine.specs.Building.{EnsuresInPart, EnsuresOneInPart, wanted_all, wanted_of}
 use Rattle.pm_machine.specs.Built.{TellsAll, TellsOne}
-use Rattle.pm_machine.specs.Events.{Ensured, EnsuredInPart, at_rest, configuration}
+use Rattle.pm_rounds.specs.Events.{Ensured, EnsuredInPart, at_rest, configuration}
 use Rattle.pm_machine.specs.Machines.{Becomes, Machine, later_rounds}
-use Rattle.pm_machine.specs.declared.round.Ending.{Ending}
-use Rattle.pm_machine.specs.declared.round.Ending.TheVariants as ending
+use Rattle.pm_rounds.specs.declared.round.Ending.{Ending}
+use Rattle.pm_rounds.specs.declared.round.Ending.TheVariants as ending
 use Rattle.pm_object.specs.State.{RoundSeen, State}
 use Rattle.pm_object.specs.Views.{round_seen}
 use Rattle.pm_object.specs.declared.held.Round.{Round}

@@ -1,39 +1,36 @@
 -- The steps of the commands that build objects, from what their functions do.
 use Rattle.pm_client.specs.Starts.{Clients}
 use Rattle.pm_command.specs.Commands.{ShapeSeen}
-use Rattle.pm_command.specs.declared.building.Binary.TheVariants.{Minkowski, Product, Refine}
 use Rattle.pm_command.specs.declared.building.Builder.{Builder}
-use Rattle.pm_command.specs.declared.building.Builder.TheVariants.{One, Two}
-use Rattle.pm_command.specs.declared.building.Unary.TheVariants.{FaceFan, NormalFan, Polar, Pyramid}
 use Rattle.pm_files.specs.Views.{file_of}
 use Rattle.pm_files.specs.declared.file.FileObject.{FileObject}
 use Rattle.pm_machine.proofs.Ensuring.{all_stay}
 use Rattle.pm_machine.proofs.Growth.{all_have_read}
-use Rattle.pm_machine.specs.Building.{BuildStep, EnsuresAll, MakeStep, Makes, ObjectsAre, Unfit, Unmade, are_named, are_of, is_made, is_taken, no_room, not_fit, not_made, object_of, row_of, same_type, shape_condition, shape_file, told_rounds, wanted_all}
-use Rattle.pm_machine.specs.Built.{Builds, HasRead, HaveRead, IsBarred, IsBuilt, IsRead, IsUnbuilt, MakesBuilt, of_built, remarks_of}
-use Rattle.pm_machine.specs.declared.unbuilt.Unbuilt.{Unbuilt}
-use Rattle.pm_machine.specs.declared.unbuilt.Unbuilt.TheVariants as unbuilt
-use Rattle.pm_machine.specs.Machines.{Gains, IsFree, Machine, Stays, most_objects, no_rounds}
-use Rattle.pm_object.specs.State.{IsRefused, RoundSeen, State, is_polytope}
+use Rattle.pm_machine.specs.Building.{BuildStep, EnsuresAll, MakeStep, ObjectsAre, are_named, are_of, is_made, is_taken, no_room, not_fit, not_made, told_rounds, wanted_all}
+use Rattle.pm_making.specs.Rows.{Makes, Unfit, Unmade, object_of, row_of, same_type, shape_condition, shape_file}
+use Rattle.pm_machine.specs.Built.{Builds, HasRead, HaveRead, IsBarred, IsBuilt, MakesBuilt, remarks_of}
+use Rattle.pm_making.specs.Made.{IsRead, IsUnbuilt, of_built}
+use Rattle.pm_making.specs.declared.unbuilt.Unbuilt.{Unbuilt}
+use Rattle.pm_making.specs.declared.unbuilt.Unbuilt.TheVariants as unbuilt
+use Rattle.pm_machine.specs.Machines.{Gains, IsFree, Machine, Stays, no_rounds}
+use Rattle.pm_object.specs.State.{IsRefused, RoundSeen, State}
 use Rattle.pm_object.specs.declared.held.BuildFail.{BuildFail}
 use Rattle.pm_object.specs.declared.held.BuildFail.TheVariants as fail
 use Rattle.pm_object.specs.declared.held.Condition.{Condition}
-use Rattle.pm_object.specs.declared.held.Condition.TheVariants as condition
 use Rattle.pm_object_type.specs.declared.object_type.ObjectType.{ObjectType}
-use Rattle.pm_object_type.specs.declared.object_type.ObjectType.TheVariants.{Cone, Fan, Polytope}
 use Rattle.pm_props.specs.declared.property.PropId.{PropId}
-use Rattle.pm_refine.specs.ObjectFans.{is_fan}
 use Rattle.pm_rules.specs.declared.rule.Rule.{Rule}
 use Rattle.pm_script.specs.Replies.{NamesSeen, ReplySeen, Rounds, done, nothing, refused}
 use Rattle.pm_script.specs.declared.refusal.NotMadeWhy.{NotMadeWhy}
 use Rattle.pm_script.specs.declared.refusal.Refusal.{Refusal}
 use Rattle.pm_script.specs.declared.refusal.Refusal.TheVariants.{NameTaken, ObjectsFull, NotFit, NotMade}
-use Rattle.std.proofs.Common.{ap, false, inl, inr, refl, subst, sym, true, true≢false, ◌∙◌, ◌≢◌}
-use Rattle.std.proofs.lemmas.Bool.{and_from, and_parts}
+use Rattle.std.proofs.Common.{ap, inl, inr, refl, subst, sym, true, ◌∙◌, ◌≢◌}
+use Rattle.std.proofs.lemmas.Bool.{and_from}
 use Rattle.std.proofs.lemmas.Option.{same_Some}
 use Rattle.std.specs.List.{AllByRecursion, list_all}
-use Rattle.std.specs.Option.{is_some}
-use Rattle.std.specs.Prelude.{Bool, Err, IfErr, IfOk, List, None, Ok, OnErr, OnOk, Option, Result, Some, [], drop, get_or, if◌then◌else◌, length, map, not, ℕ, ◌&&◌, ◌∷◌, ◌≡◌, ◌≤◌, ◌⊎◌}
+use Rattle.std.specs.Prelude.{Bool, Err, IfErr, IfOk, List, None, Ok, OnErr, OnOk, Result, Some, [], drop, get_or, length, map, ℕ, ◌∷◌, ◌≡◌, ◌≤◌, ◌⊎◌}
+use Rattle.pm_limits.specs.Limits.{most_objects}
+use Rattle.pm_making.proofs.Fits.{IsOfItsType, reads_some}
 
 -- the machine with these clients
 abbrev pub with_clients : Clients → Machine → Machine
@@ -56,8 +53,8 @@ barred_so m to why h = absurd h
 
 pub make_barred : (m : Machine) (to : List ℕ) (shape : ShapeSeen) (why : Refusal) (new : Machine) → IsBarred m to why → Stays m new → MakeStep m to shape (refused why nothing) new
 make_barred m to shape why new h s = elim (barred_so m to why h) [
-  | inl (is, taken) ↦ subst (λ z. MakeStep m to shape (refused z nothing) new) (sym is) (taken, s)
-  | inr (is, none, full) ↦ subst (λ z. MakeStep m to shape (refused z nothing) new) (sym is) (none, full, s)
+  | inl (is, taken) ↦ subst (λ z. MakeStep m to shape (refused z nothing) new) (sym is) (is_taken taken s)
+  | inr (is, none, full) ↦ subst (λ z. MakeStep m to shape (refused z nothing) new) (sym is) (no_room none full s)
 ]
 
 pub build_barred : (book : List Rule) (b : Builder) (m : Machine) (names : List (List ℕ)) (to : List ℕ) (why : Refusal) (new : Machine) → are_named m names ≡ true → IsBarred m to why → Stays m new → BuildStep book b m names to (refused why nothing) new
@@ -97,10 +94,10 @@ made_step : (to : List ℕ) (shape : ShapeSeen) (built : Result FileObject Build
     → IfOk built (λ f. file_of f ≡ shape_file shape) → OnOk built (shape_condition shape ≡ None) → IfErr built (IsRefused (shape_condition shape)) → MakesBuilt to (of_built built) t reply old new
     → MakeStep (with_clients clients old) to shape reply (with_clients clients new)
 made_step to shape (Ok f) t (done told) clients old new free none file fits refused' (is, g) =
-    (free, fits, is ∙ none, gains_with clients to _ old new (subst (λ z. Gains to (object_of z) old new) file g))
+    is_made free fits (is ∙ none) (gains_with clients to _ old new (subst (λ z. Gains to (object_of z) old new) file g))
 made_step to shape (Err (fail.NotFit c)) t (refused (NotFit d) more) clients old new free none file fits refused' (same, is, s) =
     subst (λ z. MakeStep (with_clients clients old) to shape z (with_clients clients new)) (sym (ap (λ z. refused (NotFit z) more) same ∙ ap (λ z. refused (NotFit c) z) (is ∙ ap remarks_of none)))
-    (free, refused', stays_with clients old new s)
+    (not_fit free refused' (stays_with clients old new s))
 made_step to shape built t reply clients old new free none file fits refused' h = absurd h
 
 pub make_step : {F E : Type 0} (view : F → ReplySeen) (r : Result F E) (to : List ℕ) (shape : ShapeSeen) (built : Result FileObject BuildFail) (t : Rounds) (clients : Clients) (old new : Machine) → IsFree old to → t ≡ no_rounds
@@ -125,106 +122,7 @@ pub builds_all : {F E : Type 0} (view : F → ReplySeen) (r : Result F E) (b : B
 builds_all view (Ok x) b names to built t old new i h = built_so b names to built t (view x) old new i (made_so to built t (view x) old new h)
 builds_all view (Err e) b names to built t old new i h = tt
 
--- ---- a polytope is not refused for its type
-past : (t : Bool) (d : Condition) (x : Option Condition) (c : Condition) → t ≡ true → (if not t then Some d else x) ≡ Some c → x ≡ Some c
-past true d x c e h = h
-past false d x c e h = absurd (true≢false (sym e))
-
-unless : (t : Bool) (d : Condition) (x : Option Condition) (c : Condition) → d ≢ condition.OfType → (x ≡ Some c → c ≢ condition.OfType) → (if not t then Some d else x) ≡ Some c → c ≢ condition.OfType
-unless true d x c other rest h = rest h
-unless false d x c other rest h = λ e. other (same_Some _ _ h ∙ e)
-
-never : {c : Condition} → None ≡ Some c → c ≢ condition.OfType
-never h = absurd (true≢false (sym (ap is_some h)))
-
-rows_last : (t : Bool) (c : Condition) → (if t then None else Some condition.Rows) ≡ Some c → c ≢ condition.OfType
-rows_last true c h = never h
-rows_last false c h = λ e. rows_apart (same_Some _ _ h ∙ e)
-  where
-    rows_apart : condition.Rows ≢ condition.OfType
-    rows_apart e = cc
-
-bounded_apart : condition.Bounded ≢ condition.OfType
-bounded_apart e = cc
-
-full_apart : condition.FullDim ≢ condition.OfType
-full_apart e = cc
-
-centered_apart : condition.Centered ≢ condition.OfType
-centered_apart e = cc
-
-feasible_apart : condition.Feasible ≢ condition.OfType
-feasible_apart e = cc
-
-columns_apart : condition.Columns ≢ condition.OfType
-columns_apart e = cc
-
-rows_apart : condition.Rows ≢ condition.OfType
-rows_apart e = cc
-
--- objects of the type are not refused for it
-abbrev pub IsOfItsType : Builder → Type 0
-IsOfItsType b = (os : List State) (c : Condition) → list_all (λ o. same_type (row_of b).of o.of) os ≡ true → Unfit b os c → c ≢ condition.OfType
-
-polytope_is : (o : State) → same_type Polytope o.of ≡ true → is_polytope o.of ≡ true
-polytope_is o h = by o.of h
-  where
-    by : (type : ObjectType) → same_type Polytope type ≡ true → is_polytope type ≡ true
-    by Polytope e = refl
-    by Cone e = absurd (true≢false (sym e))
-    by Fan e = absurd (true≢false (sym e))
-
-fan_is : (o : State) → same_type Fan o.of ≡ true → is_fan o.of ≡ true
-fan_is o h = by o.of h
-  where
-    by : (type : ObjectType) → same_type Fan type ≡ true → is_fan type ≡ true
-    by Fan e = refl
-    by Cone e = absurd (true≢false (sym e))
-    by Polytope e = absurd (true≢false (sym e))
-
-both_true : (a b : Bool) → a ≡ true → b ≡ true → (a && b) ≡ true
-both_true a b e f = cc
-
--- one object of the type, and two
-one_of : (type : ObjectType) (o : State) → list_all (λ o. same_type type o.of) (o ∷ []) ≡ true → same_type type o.of ≡ true
-one_of type o h = (and_parts (same_type type o.of) true h).0
-
-two_of : (type : ObjectType) (a b : State) → list_all (λ o. same_type type o.of) (a ∷ b ∷ []) ≡ true → (same_type type a.of ≡ true) × (same_type type b.of ≡ true)
-two_of type a b h = let p = and_parts (same_type type a.of) (same_type type b.of && true) h in (p.0, (and_parts (same_type type b.of) true p.1).0)
-
-one_polytope : (o : State) → list_all (λ o. same_type Polytope o.of) (o ∷ []) ≡ true → is_polytope o.of ≡ true
-one_polytope o h = polytope_is o (one_of Polytope o h)
-
-two_polytopes : (a b : State) → list_all (λ o. same_type Polytope o.of) (a ∷ b ∷ []) ≡ true → (is_polytope a.of && is_polytope b.of) ≡ true
-two_polytopes a b h = let p = two_of Polytope a b h in both_true (is_polytope a.of) (is_polytope b.of) (polytope_is a p.0) (polytope_is b p.1)
-
-two_fans : (a b : State) → list_all (λ o. same_type Fan o.of) (a ∷ b ∷ []) ≡ true → (is_fan a.of && is_fan b.of) ≡ true
-two_fans a b h = let p = two_of Fan a b h in both_true (is_fan a.of) (is_fan b.of) (fan_is a p.0) (fan_is b p.1)
-
--- a line a row
-pub of_its_type : (what : Builder) → IsOfItsType what
-of_its_type (One Polar) (o ∷ []) c is h =
-    unless _ condition.Bounded _ c bounded_apart (unless _ condition.FullDim _ c full_apart (unless _ condition.Centered _ c centered_apart (unless _ condition.Rows _ c rows_apart never)))
-    (past (is_polytope o.of) condition.OfType _ c (one_polytope o is) h)
-of_its_type (One Pyramid) (o ∷ []) c is h = unless _ condition.Columns _ c columns_apart (unless _ condition.Rows _ c rows_apart never) (past (is_polytope o.of) condition.OfType _ c (one_polytope o is) h)
-of_its_type (One NormalFan) (o ∷ []) c is h =
-    unless _ condition.Bounded _ c bounded_apart (unless _ condition.Feasible _ c feasible_apart (unless _ condition.Columns _ c columns_apart (unless _ condition.Rows _ c rows_apart (rows_last _ c))))
-    (past (is_polytope o.of) condition.OfType _ c (one_polytope o is) h)
-of_its_type (One FaceFan) (o ∷ []) c is h =
-    unless _ condition.Bounded _ c bounded_apart (unless _ condition.Centered _ c centered_apart (unless _ condition.Columns _ c columns_apart (unless _ condition.Rows _ c rows_apart (rows_last _ c))))
-    (past (is_polytope o.of) condition.OfType _ c (one_polytope o is) h)
-of_its_type (Two Product) (a ∷ b ∷ []) c is h =
-    unless _ condition.Columns _ c columns_apart (unless _ condition.Rows _ c rows_apart never)
-    (past (is_polytope a.of && is_polytope b.of) condition.OfType _ c (two_polytopes a b is) h)
-of_its_type (Two Minkowski) (a ∷ b ∷ []) c is h =
-    unless _ condition.Feasible _ c feasible_apart (unless _ condition.Columns _ c columns_apart (unless _ condition.Rows _ c rows_apart never))
-    (past (is_polytope a.of && is_polytope b.of) condition.OfType _ c (two_polytopes a b is) h)
-of_its_type (Two Refine) (a ∷ b ∷ []) c is (inl h) =
-    unless _ condition.Columns _ c columns_apart (unless _ condition.Columns _ c columns_apart never)
-    (past (is_fan a.of && is_fan b.of) condition.OfType _ c (two_fans a b is) h)
-of_its_type (Two Refine) (a ∷ b ∷ []) c is (inr h) = λ e. rows_apart (sym h.1 ∙ e)
-of_its_type what os c is h = absurd h
-
+-- ---- where all was read
 -- the objects that were read are of the type
 read_types : (type : ObjectType) (ps : List PropId) (m : Machine) (names : List (List ℕ)) (os : List State) → AllByRecursion (λ n. HasRead type ps (m.object n)) names → ObjectsAre m names os → list_all (λ o. same_type type o.of) os ≡ true
 read_types type ps m names [] read are = refl
@@ -283,15 +181,9 @@ pub build_answered : {F E : Type 0} (view : F → ReplySeen) (r : Result F E) (b
 build_answered view (Ok x) book b names to rounds t clients old mid new free types all is of read h = build_step book b names to rounds t (view x) clients old mid new free types all is of read h
 build_answered view (Err e) book b names to rounds t clients old mid new free types all is of read h = tt
 
--- ---- what is read: a line a row
+-- ---- what is read
 pub reads_done : (what : Builder) (book : List Rule) (names : List (List ℕ)) (rounds : List RoundSeen) (old new : Machine) → EnsuresAll book (wanted_all (row_of what).reads names) rounds old new → are_of (row_of what).of old names ≡ true → HaveRead what new names
-reads_done (One Polar) book names rounds old new all types = all_have_read book rounds old new (One Polar) _ _ names refl all types
-reads_done (One Pyramid) book names rounds old new all types = all_have_read book rounds old new (One Pyramid) _ _ names refl all types
-reads_done (One NormalFan) book names rounds old new all types = all_have_read book rounds old new (One NormalFan) _ _ names refl all types
-reads_done (One FaceFan) book names rounds old new all types = all_have_read book rounds old new (One FaceFan) _ _ names refl all types
-reads_done (Two Product) book names rounds old new all types = all_have_read book rounds old new (Two Product) _ _ names refl all types
-reads_done (Two Minkowski) book names rounds old new all types = all_have_read book rounds old new (Two Minkowski) _ _ names refl all types
-reads_done (Two Refine) book names rounds old new all types = all_have_read book rounds old new (Two Refine) _ _ names refl all types
+reads_done what book names rounds old new all types = let r = reads_some what in all_have_read book rounds old new what r.0 r.1 names r.2 all types
 
 -- what was asked of a type was asked of that of the row
 pub of_row : {answer : Bool} (type : ObjectType) (b : Builder) (m : Machine) (names : List (List ℕ)) → type ≡ (row_of b).of → are_of type m names ≡ answer → are_of (row_of b).of m names ≡ answer

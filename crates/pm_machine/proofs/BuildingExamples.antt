@@ -1,13 +1,16 @@
 -- The examples of building, by what the definitions say.
+use Rattle.pm_command.specs.Commands.{ShapeSeen, cube_shape}
 use Rattle.pm_command.specs.declared.building.Binary.TheVariants.{Refine}
 use Rattle.pm_command.specs.declared.building.Builder.{Builder}
 use Rattle.pm_command.specs.declared.building.Builder.TheVariants.{Two}
 use Rattle.pm_files.specs.Files.{SavedFile}
 use Rattle.pm_machine.proofs.Kept.{some_not_none}
-use Rattle.pm_machine.specs.Building.{BuildStep, DoesNotRead, EndsAt, EnsuresAll, EnsuresInPart, Makes, MayHaveBegun, ObjectsAre, Unfit, Unmade, Wanted, are_named, are_of, is_crowded, is_made, is_of_type, no_chain, no_such_name, not_fit, not_made, object_of, other_type, rounds_told, row_of, same_type, told_rounds}
+use Rattle.pm_machine.specs.Building.{BuildStep, DoesNotRead, EndsAt, EnsuresAll, EnsuresInPart, MakeStep, MayHaveBegun, ObjectsAre, Wanted, are_named, are_of, is_crowded, is_made, is_of_type, is_taken, no_chain, no_room, no_such_name, not_fit, not_made, other_type, rounds_told, told_rounds}
+use Rattle.pm_making.specs.Rows.{Makes, Unfit, Unmade, object_of, row_of, same_type, shape_condition, shape_file}
 use Rattle.pm_machine.specs.BuildingExamples.{ObjectsAreBuilt, OperandsAreRead, ShapesAreMade, WantedIsEnsured}
-use Rattle.pm_machine.specs.Machines.{IsFree, Machine, Stays}
-use Rattle.pm_machine.specs.declared.round.Ending.TheVariants as ending
+use Rattle.pm_machine.specs.Machines.{Gains, IsFree, Machine, Stays, no_rounds}
+use Rattle.pm_rounds.specs.declared.round.Ending.TheVariants as ending
+use Rattle.pm_object.specs.declared.held.Condition.{Condition}
 use Rattle.pm_object.specs.declared.held.Condition.TheVariants as condition
 use Rattle.pm_object.specs.State.{RoundSeen, State, empty_object}
 use Rattle.pm_object_type.specs.declared.object_type.ObjectType.TheVariants.{Cone, Fan, Polytope}
@@ -21,6 +24,14 @@ use Rattle.std.proofs.lemmas.Bool.{and_parts}
 use Rattle.std.specs.Option.{is_some}
 use Rattle.std.specs.Prelude.{Bool, List, None, Some, [], ℕ, ◌&&◌, ◌∷◌, ◌≡◌, ◌≢◌}
 
+-- what is so of a shape that is made
+module _ (old new : Machine) (to : List ℕ) (shape : ShapeSeen) (t : Rounds) where
+  shape_made : MakeStep old to shape (done t) new → IsFree old to × (shape_condition shape ≡ None) × (t ≡ no_rounds) × Gains to (object_of (shape_file shape)) old new
+  shape_made (is_made free fits told g) = (free, fits, told, g)
+
+unfit_shape : (old new : Machine) (to : List ℕ) (shape : ShapeSeen) (c : Condition) → MakeStep old to shape (refused (NotFit c) nothing) new → shape_condition shape ≡ Some c
+unfit_shape old new to shape c (not_fit free fails s) = fails
+
 pub shapes_are_made : ShapesAreMade
 shapes_are_made = record {
   cube = refl;
@@ -33,16 +44,16 @@ shapes_are_made = record {
   no_cross = refl;
   no_cyclic = refl;
   holds = refl;
-  is_made = λ old new to t h. h.3.object;
-  others_stay = λ old new to q shape t other h. h.3.others q other;
-  no_rounds = λ old new to shape t h. ap (λ (r : Rounds). r.rounds) h.2;
-  not_over = λ old new to shape t taken h. taken h.0.0;
-  not_full = λ old new to shape t count h. absurd (omega (arith, count, h.0.1));
-  not_so_large = λ old new to t h. some_not_none h.1;
-  is_taken = λ old to shape taken s. (taken, s);
-  is_full = λ old to shape free count s. (free, omega (arith, count), s);
-  is_large = λ old to free s. (free, refl, s);
-  is_not_large = λ old new to h. some_not_none (sym h.1);
+  is_made = λ old new to t h. (shape_made old new to (cube_shape 1) t h).3.object;
+  others_stay = λ old new to q shape t other h. (shape_made old new to shape t h).3.others q other;
+  no_rounds = λ old new to shape t h. ap (λ (r : Rounds). r.rounds) (shape_made old new to shape t h).2;
+  not_over = λ old new to shape t taken h. taken (shape_made old new to shape t h).0.0;
+  not_full = λ old new to shape t count h. absurd (omega (arith, count, (shape_made old new to shape t h).0.1));
+  not_so_large = λ old new to t h. some_not_none (shape_made old new to (cube_shape 33) t h).1;
+  is_taken = λ old to shape taken s. is_taken taken s;
+  is_full = λ old to shape free count s. no_room free (omega (arith, count)) s;
+  is_large = λ old to free s. not_fit free refl s;
+  is_not_large = λ old new to h. some_not_none (sym (unfit_shape old new to (cube_shape 32) condition.Size h));
 }
 
 -- what no object has is not ensured

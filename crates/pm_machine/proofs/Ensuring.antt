@@ -2,10 +2,10 @@
 use Rattle.pm_client.specs.Starts.{Clients}
 use Rattle.pm_machine.specs.Building.{EndsAt, EnsuresAll, EnsuresInPart, EnsuresOne, EnsuresOneInPart, Wanted, wanted_of}
 use Rattle.pm_machine.specs.Built.{EnsuresTo, TellsAll, TellsOne}
-use Rattle.pm_machine.specs.Events.{Configuration, Ensured, EnsuredInPart, at_rest, configuration}
+use Rattle.pm_rounds.specs.Events.{Configuration, Ensured, EnsuredInPart, at_rest, configuration}
 use Rattle.pm_machine.specs.Machines.{Becomes, Machine, Stays}
-use Rattle.pm_machine.specs.declared.round.Ending.{Ending}
-use Rattle.pm_machine.specs.declared.round.Ending.TheVariants as ending
+use Rattle.pm_rounds.specs.declared.round.Ending.{Ending}
+use Rattle.pm_rounds.specs.declared.round.Ending.TheVariants as ending
 use Rattle.pm_object.specs.State.{RoundSeen}
 use Rattle.pm_props.specs.Sets.{only}
 use Rattle.pm_props.specs.declared.property.PropId.{PropId}

@@ -1,23 +1,36 @@
 -- The examples, by what the definitions say.
 use Rattle.pm_machine.proofs.Kept.{some_not_none}
-use Rattle.pm_machine.proofs.Running.{first_is}
-use Rattle.pm_machine.specs.Events.{end_by, over}
-use Rattle.pm_props.specs.declared.property.PropId.TheVariants.{FullDim, Pointed}
-use Rattle.pm_machine.specs.Machines.{Files, Machine}
-use Rattle.pm_machine.specs.Steps.{HasBytes, HasNone, LoadStep, SaveStep, bytes_of, part_named}
-use Rattle.pm_object.specs.State.{State, empty_object, is_polytope, place_named, program_refusal}
+use Rattle.pm_rounds.specs.Events.{Configuration, over}
+use Rattle.pm_props.specs.declared.property.PropId.TheVariants.{LinearObjective}
+use Rattle.pm_machine.specs.Machines.{Files, IsFree, Machine, later_rounds}
+use Rattle.pm_machine.specs.Steps.{CopyStep, DropStep, Ensures, Explains, Gives, HasBytes, HasNone, HistoryStep, IsSavedWhole, LoadStep, LookupStep, NewStep, Puts, SaveStep, TakeValue, bytes_of, is_computed, is_copied, is_crowded, is_dropped, is_loaded, is_made, is_planned, is_saved, is_sealed, is_shown, is_told, names_told, no_chain, no_room, no_such_file, other_type, part_named, store_failed}
+use Rattle.pm_object.specs.State.{State, empty_object, is_polytope, is_sealed_at, place_named, program_refusal, with_program}
 use Rattle.pm_object.specs.declared.held.ProgramFail.{ProgramFail}
 use Rattle.pm_object.specs.declared.held.ProgramFail.TheVariants as no_program
 use Rattle.pm_object_type.specs.declared.object_type.ObjectType.TheVariants.{Cone}
 use Rattle.std.specs.Option.{is_some, option_and_then}
 use Rattle.pm_rules.specs.declared.rule.Rule.{Rule}
-use Rattle.pm_script.specs.Replies.{Rounds, done, loaded, nothing, refused}
-use Rattle.pm_script.specs.declared.refusal.Refusal.TheVariants.{NoSuchFile}
+use Rattle.pm_script.specs.Replies.{NamesSeen, Remarks, Rounds, done, explained, loaded, nothing, refused, remarks, shows, tells}
+use Rattle.pm_script.specs.declared.refusal.Refusal.TheVariants.{BadValue, Crowded, NoChain, NoSuchFile, ObjectsFull, Sealed, StoreFault}
+use Rattle.pm_script.specs.declared.refusal.ValueWhy.TheVariants as value_why
 use Rattle.pm_store.specs.Files.{AreTold, IsPut, file_of}
+use Rattle.pm_store.specs.Outside.{Rose}
+use Rattle.pm_client.specs.Starts.{Clients}
+use Rattle.pm_files.specs.Files.{SavedFile}
+use Rattle.pm_filing.specs.Filing.{loaded_object}
+use Rattle.pm_json.specs.Texts.{Given, value}
+use Rattle.pm_object.specs.declared.held.Excluded.{Excluded}
+use Rattle.pm_object_type.specs.declared.object_type.ObjectType.{ObjectType}
+use Rattle.pm_props.specs.declared.kind.RuleId.{RuleId}
+use Rattle.pm_props.specs.declared.property.PropId.{PropId}
+use Rattle.pm_props.specs.declared.set.PropSet.{PropSet}
+use Rattle.pm_rules.specs.declared.table.TableRow.{TableRow}
+use Rattle.pm_types.specs.Values.{PropertyValue, matrix}
+use Rattle.pm_weights.specs.declared.Cost.{Cost}
 use Rattle.pm_filing.specs.FileParts.{FileFault, bad_row, too_long}
 use Rattle.std.proofs.Common.{Bool, ap, arith, false, inl, inr, refl, subst, sym, true, true≢false, ◌∙◌}
-use Rattle.std.specs.Prelude.{List, None, Option, Some, [], codes, if◌then◌else◌, length, nat_le, not, ℕ, ◌∷◌, ◌≡◌}
-use Rattle.pm_machine.specs.Examples.{AnswersAreRead, ConditionsAreRead, EventsAreRead, ExclusionsAreRead, FilesAreKept, ObjectsAreRead, ProgramsAreRead, fifth, given, one_file, one_program, two, two_programs, under}
+use Rattle.std.specs.Prelude.{List, None, Option, Some, [], codes, if◌then◌else◌, length, nat_le, not, ℕ, ◌++◌, ◌∷◌, ◌≡◌, ◌≢◌}
+use Rattle.pm_machine.specs.Examples.{AnswersAreRead, FilesAreKept, ObjectsAreRead, ProgramsAreRead, one_file, one_program, part, two_programs, whole, with_optimum, with_round_for}
 use Rattle.pm_props.specs.Sets.{has, only, union}
 
 abbrev is_long : FileFault → Bool
@@ -28,64 +41,57 @@ abbrev is_of_row : FileFault → Bool
 is_of_row (bad_row name) = true
 is_of_row e = false
 
-pub events_are_read : EventsAreRead
-events_are_read = record {
-  settled_first = refl;
-  first_turn = refl;
-  its_run = λ kind. refl;
-  next_turn = λ kind. refl;
-  all_done = λ kind. refl;
-  failed = λ kind. refl;
-  failed_later = λ kind e is. ap (λ w. over two (end_by fifth w)) is;
-  found_false = refl;
-  at_rest_again = λ kind r. refl;
-  no_chain_unsettled = λ book asked c h. h;
-  no_start_at_rest = λ book asked c kind h. h;
-  no_commit_at_rest = λ book asked c answer h. h;
-  no_commit_unstarted = λ book asked c answer h. h;
-  no_second_start = λ book asked c kind h. h;
-  no_round_unended = λ book asked c r h. h;
-  no_chain_in_a_round = λ book asked c h. h;
-}
+-- ---- objects
+gone : (name : List ℕ) (old new : Machine) (t : Rounds) → DropStep old name (done t) new → new.object name ≡ None
+gone name old new t (is_dropped told some l) = l.object
 
-pub exclusions_are_read : ExclusionsAreRead
-unfolding has union only
-exclusions_are_read = record {
-  with_its_program = λ rule. refl;
-  with_no_other = λ rule. refl;
-  not_with_the_object = λ rule. refl;
-  with_each_program = λ rule. refl;
-  no_other_rule = λ rule. refl;
-}
+not_dropped : (name : List ℕ) (old new : Machine) (t : Rounds) → old.object name ≡ None → DropStep old name (done t) new → ⊥
+not_dropped name old new t none (is_dropped told some l) = some none
 
-pub conditions_are_read : ConditionsAreRead
-unfolding has union only
-conditions_are_read = record {
-  wrong = λ rule. refl;
-  right = λ rule. refl;
-  not_held = λ rule. refl;
-  no_condition = λ rule. refl;
-  contrary_wrong = λ rule. refl;
-  contrary_right = λ rule. refl;
-  first = λ rule. first_is (under rule (Pointed ∷ FullDim ∷ []) []) (given FullDim false ∷ given Pointed false ∷ []) (Some Pointed) Pointed refl refl;
-  not_first = λ rule f. absurd (omega (arith, f.least Pointed refl));
-}
+copied : (name to : List ℕ) (old new : Machine) (t : Rounds) → CopyStep old name to (done t) new → new.object to ≡ old.object name
+copied name to old new t (is_copied o told at free room g) = g.object ∙ sym at
+
+not_copied_over : (name to : List ℕ) (old new : Machine) (t : Rounds) → old.object to ≢ None → CopyStep old name to (done t) new → ⊥
+not_copied_over name to old new t taken (is_copied o told at free room g) = taken free
+
+nothing_copied : (name to : List ℕ) (old new : Machine) (t : Rounds) → old.object name ≡ None → CopyStep old name to (done t) new → ⊥
+nothing_copied name to old new t none (is_copied o told at free room g) = some_not_none (sym at ∙ none)
+
+room_for_copy : (name to : List ℕ) (old new : Machine) → length old.names ≡ 31 → CopyStep old name to (refused ObjectsFull nothing) new → ⊥
+room_for_copy name to old new count (no_room some free full s) = absurd (omega (arith, count, full))
 
 pub objects_are_read : ObjectsAreRead
 objects_are_read = record {
   first_goes = refl;
   middle_goes = refl;
   none_goes = refl;
-  is_gone = λ name old new t h. h.2.object;
-  not_twice = λ name old new t none h. h.1 none;
-  same = λ name to old new t h. h.5.object ∙ sym h.2;
-  not_over = λ name to old new t taken h. taken h.3;
-  not_of_nothing = λ name to old new t none h. some_not_none (sym h.2 ∙ none);
-  not_full = λ name to old new count h. absurd (omega (arith, count, h.2));
+  is_gone = gone;
+  not_twice = not_dropped;
+  same = copied;
+  not_over = not_copied_over;
+  not_of_nothing = nothing_copied;
+  not_full = room_for_copy;
   was_given = refl;
   was_computed = refl;
   not_held = refl;
 }
+
+-- ---- answers
+no_chain_told : (book : List Rule) (old new : Configuration) (sub : Option ℕ) (asked : PropSet) (more : Remarks) → Ensures book old sub asked (refused NoChain more) new
+    → more ≡ remarks true (later_rounds old.object new.object) [] None (names_told book new.object)
+no_chain_told book old new sub asked more (no_chain e told) = told
+
+crowding_told : (book : List Rule) (old new : Configuration) (sub : Option ℕ) (asked : PropSet) (more : Remarks) → Ensures book old sub asked (refused Crowded more) new
+    → more ≡ remarks true (later_rounds old.object new.object) [] None (names_told book new.object)
+crowding_told book old new sub asked more (is_crowded e told) = told
+
+not_given_told : (book : List Rule) (old new : Configuration) (sub : Option ℕ) (name : List ℕ) (p : PropId) (more : Remarks) → Gives book old sub name p (refused NoChain more) new
+    → more ≡ remarks false (later_rounds old.object new.object) [] None (names_told book new.object)
+not_given_told book old new sub name p more (no_chain e told) = told
+
+plan_names : (book : List Rule) (clients : Clients) (o : State) (sub : Option ℕ) (asked : PropSet) (chain : List RuleId) (weight : Cost) (rows : List TableRow) (names : NamesSeen)
+    → Explains book clients o sub asked (explained chain weight rows names) → names ≡ names_told book o
+plan_names book clients o sub asked chain weight rows names (is_planned barred are plan so) = so
 
 pub answers_are_read : AnswersAreRead
 unfolding has union only
@@ -96,12 +102,12 @@ answers_are_read = record {
   of_a_cone = refl;
   no_name = refl;
   settled_holds = refl;
-  ensure_tells = λ book old new sub asked more h. h.1;
-  give_tells = λ book old new sub name p more h. h.1;
-  crowded_tells = λ book old new sub asked more h. h.1;
-  no_other = λ book old new sub asked h. h;
-  no_other_reason = λ book clients o sub asked h. h;
-  explain_names = λ book clients o sub asked chain weight rows names h. h.3;
+  ensure_tells = no_chain_told;
+  give_tells = not_given_told;
+  crowded_tells = crowding_told;
+  no_other = λ book old new sub asked h. elim h [ ];
+  no_other_reason = λ book clients o sub asked h. elim h [ ];
+  explain_names = plan_names;
 }
 
 -- ---- linear programs
@@ -123,6 +129,34 @@ no_fifth o sub four e = by (not (is_polytope o.of)) (is_some (place_named sub o)
     by false true h = some_not_none h
     by false false h = some_not_none h
 
+no_type_made : (old new : Machine) (name : List ℕ) (t : Rounds) → NewStep old (whole name) (codes "LP") (done t) new → ⊥
+no_type_made old new name t (is_made of word free room told g) = some_not_none (sym word)
+
+other_word_made : (old new : Machine) (name sub : List ℕ) (t : Rounds) → NewStep old (part name sub) (codes "Polytope") (done t) new → ⊥
+other_word_made old new name sub t (is_made o word at free told becomes) = true≢false (sym word)
+
+-- what is so of a linear program that is made
+module _ (old new : Machine) (name sub : List ℕ) (t : Rounds) where
+  made : NewStep old (part name sub) (codes "LP") (done t) new → (o : State) × (old.object name ≡ Some o) × (new.object name ≡ Some (with_program o sub))
+  made (is_made o word at free told becomes) = (o, at, becomes.object)
+
+  made_of : NewStep old (part name sub) (codes "LP") (done t) new → (o : State) → old.object name ≡ Some o → program_refusal o sub ≡ None
+  made_of (is_made p word at free told becomes) o is = subst (λ (z : State). program_refusal z sub ≡ None) (of_object old name o p is at) free
+
+-- an object, or a program of it, that is not sealed
+not_sealed : (o : State) (sub : Option ℕ) (p : PropId) (g : Given) → is_sealed_at sub o ≡ false → TakeValue o sub p g (Some Sealed) None → ⊥
+not_sealed o sub p g open' (is_sealed missing sealed) = true≢false (sym sealed ∙ open')
+
+objective_given : TakeValue one_program (Some 0) LinearObjective (value (matrix 0 [])) (Some (BadValue value_why.Computed)) None → ⊥
+objective_given (is_computed can) = some_not_none (sym can)
+
+part_shown : (old new : Machine) (name sub text n : List ℕ) (of : ObjectType) (p : PropId) (v : PropertyValue) (t : Rounds) → LookupStep old (part name sub) text (shows n of p v t) new → n ≡ name ++ codes "." ++ sub
+part_shown old new name sub text n of p v t (is_shown x at named so typed held told s) = so
+
+history_told : (book : List Rule) (old new : Machine) (name : List ℕ) (t : Rounds) (excluded : List Excluded) → old.object name ≡ Some two_programs → HistoryStep book old name (tells t excluded) new
+    → t.names.programs ≡ codes "a" ∷ codes "b" ∷ []
+history_told book old new name t excluded is (is_told o at rounds out s) = ap (λ (r : Rounds). r.names.programs) rounds ∙ ap (λ (o : State). o.programs) (of_object old name two_programs o is at)
+
 pub programs_are_read : ProgramsAreRead
 unfolding has union only
 programs_are_read = record {
@@ -134,54 +168,76 @@ programs_are_read = record {
   no_type = refl;
   for_programs = refl;
   for_no_programs = refl;
-  no_object_of_it = λ old new name t h. some_not_none (sym h.1);
-  no_program_of_it = λ old new name sub t h. true≢false (sym h.0);
-  is_made = λ old new name sub t h. (h.1, h.2, h.5.object);
-  of_nothing = λ old new name sub t none h. some_not_none (sym h.2 ∙ none);
-  of_no_polytope = λ old new name sub t is h. some_not_none (subst (λ (o : State). program_refusal o sub ≡ None) (of_object old name (empty_object Cone) h.1 is h.2) h.3);
-  cone_has_none = λ old name sub is s. inr (refl, (empty_object Cone, is, refl, s));
-  not_twice = λ old new name t is h. some_not_none (subst (λ (o : State). program_refusal o (codes "a") ≡ None) (of_object old name one_program h.1 is h.2) h.3);
-  a_fifth = λ old new name sub t o is four h. no_fifth o sub four (subst (λ (p : State). program_refusal p sub ≡ None) (of_object old name o h.1 is h.2) h.3);
+  no_object_of_it = no_type_made;
+  no_program_of_it = other_word_made;
+  is_made = made;
+  of_nothing = λ old new name sub t none h. some_not_none (sym (made old new name sub t h).1 ∙ none);
+  of_no_polytope = λ old new name sub t is h. some_not_none (made_of old new name sub t h (empty_object Cone) is);
+  cone_has_none = λ old name sub is s. other_type refl (empty_object Cone, is, refl, s);
+  not_twice = λ old new name t is h. some_not_none (made_of old new name (codes "a") t h one_program is);
+  a_fifth = λ old new name sub t o is four h. no_fifth o sub four (made_of old new name sub t h o is);
   its_own = refl;
   not_of_the_object = refl;
   not_of_programs = refl;
   asked_of_it = refl;
-  optimum_is_computed = refl;
-  objective_is_given = λ h. some_not_none (sym h);
-  is_sealed = λ g. (refl, refl);
-  other_is_open = λ g h. true≢false (sym h.1);
-  sealed_by_a_round = λ g. (refl, refl);
-  open_beside_a_round = λ g h. true≢false (sym h.1);
+  optimum_is_computed = is_computed refl;
+  objective_is_given = objective_given;
+  is_sealed = λ g. is_sealed refl refl;
+  other_is_open = λ g h. not_sealed (with_optimum two_programs) (Some 1) LinearObjective g refl h;
+  sealed_by_a_round = λ g. is_sealed refl refl;
+  open_beside_a_round = λ g h. not_sealed (with_round_for None two_programs) (Some 1) LinearObjective g refl h;
   programs_told = λ book. refl;
-  is_shown = λ old new name sub text n of p v t h. h.3;
-  history_tells = λ book old new name t excluded is h. ap (λ (r : Rounds). r.names.programs) h.2 ∙ ap (λ (o : State). o.programs) (of_object old name two_programs h.0 is h.1);
+  is_shown = part_shown;
+  history_tells = history_told;
 }
 
 -- ---- files
+-- what is so of a file that is loaded
+module _ (book : List Rule) (old new : Machine) (name file : List ℕ) (names : List (List ℕ)) where
+  loaded_of : LoadStep book old name file (loaded names) new → (f : SavedFile) × (new.object name ≡ Some (loaded_object book f))
+  loaded_of (is_loaded bytes f free there reads ignored g) = (f, g.object)
+
+  loaded_free : LoadStep book old name file (loaded names) new → IsFree old name
+  loaded_free (is_loaded bytes f free there reads ignored g) = free
+
+  loaded_there : LoadStep book old name file (loaded names) new → (bytes : List ℕ) × HasBytes old.store file bytes
+  loaded_there (is_loaded bytes f free there reads ignored g) = (bytes, there)
+
 none_told : (book : List Rule) (old new : Machine) (name : List ℕ) (names : List (List ℕ)) → old.store ≡ one_file (codes "g") [] → LoadStep book old name (codes "f") (loaded names) new → ⊥
-none_told book old new name names is h = some_not_none (sym (subst (λ k. HasBytes k (codes "f") h.1) is h.2))
+none_told book old new name names is h =
+    let (bytes, there) = loaded_there book old new name (codes "f") names h in
+    some_not_none (sym (subst (λ k. HasBytes k (codes "f") bytes) is there))
 
 one_told : (book : List Rule) (old new : Machine) (name : List ℕ) → old.store ≡ one_file (codes "f") [] → LoadStep book old name (codes "f") (refused NoSuchFile nothing) new → ⊥
-one_told book old new name is (free, none, l) = some_not_none (subst (λ k. HasNone k (codes "f")) is none)
+one_told book old new name is (no_such_file free none l) = some_not_none (subst (λ k. HasNone k (codes "f")) is none)
+
+-- what is so of a file that is saved
+module _ (book : List Rule) (old new : Machine) (name file : List ℕ) (t : Rounds) where
+  saved : SaveStep book old name file (done t) new → (o : State) × (old.object name ≡ Some o) × Puts (IsPut file (bytes_of book o)) old new × IsSavedWhole book o
+  saved (is_saved o told at short p again) = (o, at, p, again)
+
+store_fails : (book : List Rule) (old new : Machine) (name file : List ℕ) → SaveStep book old name file (refused StoreFault nothing) new → Rose old.store.faults new.store.faults
+store_fails book old new name file (store_failed o at short fails p) = fails
 
 written_told : (book : List Rule) (old new : Machine) (name : List ℕ) (t : Rounds) → old.store ≡ one_file (codes "f") [] → SaveStep book old name (codes "f") (done t) new
     → (o : State) × (all : Files) × (old.object name ≡ Some o) × (new.store.files ≡ Some all) × (file_of all (codes "f") ≡ Some (bytes_of book o))
-written_told book old new name r is (told', o, at, short, p, again) =
+written_told book old new name t is h =
+    let (o, at, p, again) = saved book old new name (codes "f") t h in
     let told = subst (λ k. AreTold (IsPut (codes "f") (bytes_of book o)) k.files new.store.files) is p.files in
     (o, told.0, at, told.1, told.2.0)
 
 pub files_are_kept : FilesAreKept
 files_are_kept = record {
-  is_of_file = λ book old new name file names h. (h.3, h.6.object);
-  not_over = λ book old new name file names over h. over h.0.0;
+  is_of_file = loaded_of;
+  not_over = λ book old new name file names over h. over (loaded_free book old new name file names h).0;
   not_of_nothing = none_told;
   it_is_there = one_told;
-  not_in_between = λ book old new name file t h. h;
+  not_in_between = λ book old new name file t h. elim h [ ];
   has_bytes = written_told;
-  objects_stay = λ book old new name file q t h. h.4.objects q;
-  no_object = λ book old new name file t none h. some_not_none (sym h.2 ∙ none);
-  it_failed = λ book old new name file h. h.3;
-  loaded_again = λ book old new name file t h. (h.1, h.2, h.5);
+  objects_stay = λ book old new name file q t h. (saved book old new name file t h).2.objects q;
+  no_object = λ book old new name file t none h. some_not_none (sym (saved book old new name file t h).1 ∙ none);
+  it_failed = store_fails;
+  loaded_again = λ book old new name file t h. let (o, at, p, again) = saved book old new name file t h in (o, at, again);
   limit = refl;
   no_limit = λ e. true≢false (sym (ap is_long e));
   row = λ name. refl;

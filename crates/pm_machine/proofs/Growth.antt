@@ -3,12 +3,13 @@ use Rattle.pm_vector.proofs.Filters.{among_map}
 use Rattle.pm_vector.proofs.Lists.{All_among, Among, among_append_left, among_append_right, here, there}
 use Rattle.pm_command.specs.declared.building.Builder.{Builder}
 use Rattle.pm_machine.proofs.KeptObjects.{decide}
-use Rattle.pm_machine.specs.Building.{EnsuresAll, EnsuresOne, Wanted, are_of, is_of_type, row_of, same_type, wanted_all, wanted_of}
+use Rattle.pm_machine.specs.Building.{EnsuresAll, EnsuresOne, Wanted, are_of, is_of_type, wanted_all, wanted_of}
+use Rattle.pm_making.specs.Rows.{row_of, same_type}
 use Rattle.pm_machine.specs.Built.{HasRead, HaveRead}
-use Rattle.pm_machine.specs.Events.{Configuration, Ensured, Event, IsTrace, after_event, after_events, at_rest, begun, committed, excluded, phase_after_all, settled, started, unsettled, written}
+use Rattle.pm_rounds.specs.Events.{Configuration, Ensured, Event, IsTrace, after_event, after_events, at_rest, begun, committed, excluded, phase_after_all, settled, started, unsettled, written}
 use Rattle.pm_machine.specs.Machines.{Machine}
-use Rattle.pm_machine.specs.declared.round.Ending.{Ending}
-use Rattle.pm_machine.specs.declared.round.Ending.TheVariants as ending
+use Rattle.pm_rounds.specs.declared.round.Ending.{Ending}
+use Rattle.pm_rounds.specs.declared.round.Ending.TheVariants as ending
 use Rattle.pm_object.proofs.Formed.{held_stays, value_later}
 use Rattle.pm_object.proofs.Names.{names_held}
 use Rattle.pm_object.specs.State.{HeldValue, RoundSeen, State, cols_of, has_rounds, is_held, names_to_settle, only_if, read_at, settled as settled_at, settling, value_of, with_held}

@@ -2,13 +2,14 @@
 use Rattle.pm_vector.proofs.Lists.{among_Contains}
 use Rattle.pm_machine.proofs.KeptBuilding.{build_keeps, make_keeps, parts_honest}
 use Rattle.pm_machine.proofs.KeptObjects.{all_honest, becomes_kept, becomes_part_honest, decide, ensured_kept, other_bytes, same_bytes, stays_honest, stays_kept, with_one}
-use Rattle.pm_machine.specs.Building.{row_of, wanted_all}
-use Rattle.pm_machine.specs.declared.round.Ending.TheVariants as ending
-use Rattle.pm_machine.specs.Events.{Configuration, EnsuredInPart, configuration}
+use Rattle.pm_making.specs.Rows.{row_of}
+use Rattle.pm_machine.specs.Building.{wanted_all}
+use Rattle.pm_rounds.specs.declared.round.Ending.TheVariants as ending
+use Rattle.pm_rounds.specs.Events.{Configuration, EnsuredInPart, configuration}
 use Rattle.pm_machine.specs.Parts.{AllHonest, IsSettled, StepInPart}
 use Rattle.pm_machine.specs.Machines.{Becomes, Files, Machine}
-use Rattle.pm_json.specs.Texts.{Given, no_json, faulty, value}
-use Rattle.pm_machine.specs.Steps.{AllKept, CopyStep, DisableStep, DropStep, EnsureStep, EnsuredAll, Ensures, ExplainStep, ExplainedAll, Gave, GiveStep, Gives, HistoryStep, LoadStep, Looks, LookupStep, Named, NewObjectStep, NewOf, NewProgramStep, NewStep, OriginStep, Puts, RulesStep, SaveStep, Step, TakeStep, TakeValue, UnloadStep, disabling, named_at, part_named}
+use Rattle.pm_json.specs.Texts.{Given}
+use Rattle.pm_machine.specs.Steps.{AllKept, CopyStep, DisableStep, DropStep, EnsureStep, EnsuredAll, Ensures, ExplainStep, ExplainedAll, Gave, GiveStep, Gives, HistoryStep, LoadStep, Looks, LookupStep, Named, NewObjectStep, NewOf, NewProgramStep, NewStep, OriginStep, Puts, RulesStep, SaveStep, Step, TakeStep, TakeValue, UnloadStep, bad_file, disabling, is_asked, is_copied, is_crowded, is_dropped, is_found, is_listed, is_loaded, is_long, is_made, is_saved, is_shown, is_taken, is_told, is_unloaded, named_at, no_chain, no_room, no_such_client, no_such_file, no_such_name, no_such_property, no_such_rule, no_such_type, not_held, not_taken, now_disabled, now_held, other_type, other_word, part_named, store_failed, takes}
 use Rattle.pm_command.specs.Grammar.{ref_text}
 use Rattle.pm_object.proofs.Formed.{only}
 use Rattle.pm_object.proofs.Objectives.{objective_is_kept}
@@ -21,9 +22,7 @@ use Rattle.pm_object.specs.declared.held.TakeFail.{TakeFail}
 use Rattle.pm_object.specs.declared.held.TakeFail.TheVariants as fail
 use Rattle.pm_rules.specs.declared.rule.Rule.{Rule}
 use Rattle.pm_command.specs.Commands.{RefSeen, Spoken, blank, new_object, take_value, give_value, look_up, ensure_values, explain_values, tell_history, show_rules, disable_rule, unload_client, copy_object, drop_object, tell_origin, load_object, save_object, make_object, build_object}
-use Rattle.pm_script.specs.Replies.{ReplySeen, done, ensured, explained, lists_rules, loaded, nothing, planned, refused, shows, tells, tells_origin, undef}
-use Rattle.pm_script.specs.declared.refusal.Refusal.TheVariants.{UnknownName, NameTaken, UnknownType, UnknownProperty, BadValue, AlreadyHeld, Sealed, ObjectsFull, NoChain, Crowded, StoreFault, BadFile, NoSuchFile, UnknownRule, NotFit}
-use Rattle.pm_object.specs.declared.held.Condition.TheVariants as condition
+use Rattle.pm_script.specs.Replies.{ReplySeen}
 use Rattle.pm_filing.proofs.Loaded.{loaded_is_kept}
 use Rattle.pm_props.specs.Sets.{only as only_property}
 use Rattle.pm_types.specs.Values.{PropertyValue}
@@ -82,9 +81,7 @@ refusal_given o sub p v e = by _ (is_held p (read_at sub o.held)) (is_sealed_at 
     by x false false false h = absurd (some_not_none h)
 
 taken_free : (o : State) (sub : Option ℕ) (p : PropId) (g : Given) (v : PropertyValue) → TakeValue o sub p g None (Some v) → take_refusal o sub p v ≡ None
-taken_free o sub p no_json v h = absurd h
-taken_free o sub p (faulty e) v h = absurd h
-taken_free o sub p (value w) v (same, (can, _)) = subst (λ z. take_refusal o sub p z ≡ None) (sym (some_is same)) can
+taken_free o sub p _ v (takes same (can, _)) = subst (λ z. take_refusal o sub p z ≡ None) (sym (some_is same)) can
 
 one_given : (p : PropId) (v : PropertyValue) (h : HeldValue) → Contains (given_at None p v ∷ []) h → is_based h.origin ≡ true
 one_given p v h i = ap (λ (z : HeldValue). is_based z.origin) (only (among_Contains (given_at None p v ∷ []) i))
@@ -99,21 +96,19 @@ program_is_kept : (o : State) (name : List ℕ) → IsKept o → IsKept (with_pr
 program_is_kept o name kept = record { honest = honesty_is_of_values o (with_program o name) refl refl kept.honest; based = kept.based }
 
 new_object_keeps : (old new : Machine) (name text : List ℕ) (reply : ReplySeen) → NewObjectStep old name text reply new → AllKept old → AllKept new
-new_object_keeps old new name text (refused UnknownType nothing) (h, s) all = stays_kept old new s all
-new_object_keeps old new name text (refused NameTaken nothing) (h, k, s) all = stays_kept old new s all
-new_object_keeps old new name text (refused ObjectsFull nothing) (h, k, l, s) all = stays_kept old new s all
-new_object_keeps old new name text (done t) (of, h, k, l, told, g) all = with_one name _ old new g.object g.others (empty_is_kept of) all
-new_object_keeps old new name text reply h all = absurd h
+new_object_keeps old new name text _ (no_such_type h s) all = stays_kept old new s all
+new_object_keeps old new name text _ (is_taken h k s) all = stays_kept old new s all
+new_object_keeps old new name text _ (no_room h k l s) all = stays_kept old new s all
+new_object_keeps old new name text _ (is_made of h k l told g) all = with_one name _ old new g.object g.others (empty_is_kept of) all
 
 new_program_keeps : (old new : Machine) (name sub text : List ℕ) (reply : ReplySeen) → NewProgramStep old name sub text reply new → AllKept old → AllKept new
-new_program_keeps old new name sub text (refused UnknownType nothing) (inl (h, s)) all = stays_kept old new s all
-new_program_keeps old new name sub text (refused UnknownType nothing) (inr (h, (o, at, why, s))) all = stays_kept old new s all
-new_program_keeps old new name sub text (refused UnknownName nothing) (h, k, s) all = stays_kept old new s all
-new_program_keeps old new name sub text (refused NameTaken nothing) (h, (o, at, why, s)) all = stays_kept old new s all
-new_program_keeps old new name sub text (refused ObjectsFull nothing) (h, (o, at, why, s)) all = stays_kept old new s all
-new_program_keeps old new name sub text (done t) (h, o, at, free, told, becomes) all =
+new_program_keeps old new name sub text _ (other_word h s) all = stays_kept old new s all
+new_program_keeps old new name sub text _ (other_type h (o, at, why, s)) all = stays_kept old new s all
+new_program_keeps old new name sub text _ (no_such_name h k s) all = stays_kept old new s all
+new_program_keeps old new name sub text _ (is_taken h (o, at, why, s)) all = stays_kept old new s all
+new_program_keeps old new name sub text _ (no_room h (o, at, why, s)) all = stays_kept old new s all
+new_program_keeps old new name sub text _ (is_made o h at free told becomes) all =
     becomes_kept name _ old new becomes (program_is_kept o sub (subst (λ z. IfSome z IsKept) at (all.each name))) all
-new_program_keeps old new name sub text reply h all = absurd h
 
 new_of_keeps : (old new : Machine) (name : List ℕ) (sub : Option (List ℕ)) (text : List ℕ) (reply : ReplySeen) → NewOf old name sub text reply new → AllKept old → AllKept new
 new_of_keeps old new name None text reply h all = new_object_keeps old new name text reply h all
@@ -123,73 +118,57 @@ new_keeps : (old new : Machine) (ref : RefSeen) (text : List ℕ) (reply : Reply
 new_keeps old new ref text reply h all = new_of_keeps old new ref.name ref.sub text reply h all
 
 take_keeps : (old new : Machine) (ref : RefSeen) (text json : List ℕ) (reply : ReplySeen) → TakeStep old ref text json reply new → AllKept old → AllKept new
-take_keeps old new ref text json (refused UnknownName nothing) (h, s) all = stays_kept old new s all
-take_keeps old new ref text json (refused UnknownProperty nothing) (o, h, k, s) all = stays_kept old new s all
-take_keeps old new ref text json (done t) (x, at, p, named, v, taken, told, becomes) all =
+take_keeps old new ref text json _ (no_such_name h s) all = stays_kept old new s all
+take_keeps old new ref text json _ (no_such_property x h k s) all = stays_kept old new s all
+take_keeps old new ref text json _ (not_taken (x, at, p, named, taken, s)) all = stays_kept old new s all
+take_keeps old new ref text json _ (now_held x p v at named taken told becomes) all =
     becomes_kept ref.name _ old new becomes (given_is_kept x.object x.sub p v (taken_free x.object x.sub p _ v taken) (kept_at old ref x at all)) all
-take_keeps old new ref text json (refused AlreadyHeld nothing) (o, at, p, named, taken, s) all = stays_kept old new s all
-take_keeps old new ref text json (refused Sealed nothing) (o, at, p, named, taken, s) all = stays_kept old new s all
-take_keeps old new ref text json (refused (BadValue why) nothing) (o, at, p, named, taken, s) all = stays_kept old new s all
-take_keeps old new ref text json reply h all = absurd h
 
 given_kept : (book : List Rule) (old new : Configuration) (sub : Option ℕ) (name : List ℕ) (p : PropId) (reply : ReplySeen) → Gives book old sub name p reply new → IsKept old.object → IsKept new.object
-given_kept book old new sub name p (refused NoChain more) (e, _) kept = ensured_kept book sub (only_property p) ending.NoChain old new e kept
-given_kept book old new sub name p (refused Crowded more) (e, _) kept = ensured_kept book sub (only_property p) ending.Crowded old new e kept
-given_kept book old new sub name p (shows n of q v t) (e, same, typed, is, held, rounds) kept = ensured_kept book sub (only_property p) ending.Found old new e kept
-given_kept book old new sub name p reply h kept = absurd h
+given_kept book old new sub name p _ (no_chain e told) kept = ensured_kept book sub (only_property p) ending.NoChain old new e kept
+given_kept book old new sub name p _ (is_crowded e told) kept = ensured_kept book sub (only_property p) ending.Crowded old new e kept
+given_kept book old new sub name p _ (is_shown e same typed is held rounds) kept = ensured_kept book sub (only_property p) ending.Found old new e kept
 
 gave_keeps : (book : List Rule) (old new : Machine) (ref : RefSeen) (text : List ℕ) (reply : ReplySeen) → Gave book old ref text reply new → AllKept old → AllKept new
 gave_keeps book old new ref text reply (x, at, p, named, c, gives, becomes) all =
     becomes_kept ref.name c old new becomes (given_kept book (configuration x.object old.clients) c x.sub (ref_text ref) p reply gives (kept_at old ref x at all)) all
 
 give_keeps : (book : List Rule) (old new : Machine) (ref : RefSeen) (text : List ℕ) (reply : ReplySeen) → GiveStep book old ref text reply new → AllKept old → AllKept new
-give_keeps book old new ref text (refused UnknownName nothing) (h, s) all = stays_kept old new s all
-give_keeps book old new ref text (refused UnknownProperty nothing) (o, h, k, s) all = stays_kept old new s all
-give_keeps book old new ref text (refused NoChain more) h all = gave_keeps book old new ref text (refused NoChain more) h all
-give_keeps book old new ref text (refused Crowded more) h all = gave_keeps book old new ref text (refused Crowded more) h all
-give_keeps book old new ref text (shows name of p v t) h all = gave_keeps book old new ref text (shows name of p v t) h all
-give_keeps book old new ref text reply h all = absurd h
+give_keeps book old new ref text _ (no_such_name h s) all = stays_kept old new s all
+give_keeps book old new ref text _ (no_such_property x h k s) all = stays_kept old new s all
+give_keeps book old new ref text reply (is_asked h) all = gave_keeps book old new ref text reply h all
 
 all_ensured_kept : (book : List Rule) (old new : Configuration) (sub : Option ℕ) (asked : PropSet) (reply : ReplySeen) → Ensures book old sub asked reply new → IsKept old.object → IsKept new.object
-all_ensured_kept book old new sub asked (refused NoChain more) (e, _) kept = ensured_kept book sub asked ending.NoChain old new e kept
-all_ensured_kept book old new sub asked (refused Crowded more) (e, _) kept = ensured_kept book sub asked ending.Crowded old new e kept
-all_ensured_kept book old new sub asked (ensured t) (e, _) kept = ensured_kept book sub asked ending.Found old new e kept
-all_ensured_kept book old new sub asked reply h kept = absurd h
+all_ensured_kept book old new sub asked _ (no_chain e told) kept = ensured_kept book sub asked ending.NoChain old new e kept
+all_ensured_kept book old new sub asked _ (is_crowded e told) kept = ensured_kept book sub asked ending.Crowded old new e kept
+all_ensured_kept book old new sub asked _ (is_found e told) kept = ensured_kept book sub asked ending.Found old new e kept
 
 ensured_all_keeps : (book : List Rule) (old new : Machine) (ref : RefSeen) (words : List (List ℕ)) (reply : ReplySeen) → EnsuredAll book old ref words reply new → AllKept old → AllKept new
 ensured_all_keeps book old new ref words reply (x, at, asked, named, c, ensures, becomes) all =
     becomes_kept ref.name c old new becomes (all_ensured_kept book (configuration x.object old.clients) c x.sub asked reply ensures (kept_at old ref x at all)) all
 
 ensure_keeps : (book : List Rule) (old new : Machine) (ref : RefSeen) (words : List (List ℕ)) (reply : ReplySeen) → EnsureStep book old ref words reply new → AllKept old → AllKept new
-ensure_keeps book old new ref words (refused UnknownName nothing) (h, s) all = stays_kept old new s all
-ensure_keeps book old new ref words (refused UnknownProperty nothing) (o, h, k, s) all = stays_kept old new s all
-ensure_keeps book old new ref words (refused NoChain more) h all = ensured_all_keeps book old new ref words (refused NoChain more) h all
-ensure_keeps book old new ref words (refused Crowded more) h all = ensured_all_keeps book old new ref words (refused Crowded more) h all
-ensure_keeps book old new ref words (ensured t) h all = ensured_all_keeps book old new ref words (ensured t) h all
-ensure_keeps book old new ref words reply h all = absurd h
+ensure_keeps book old new ref words _ (no_such_name h s) all = stays_kept old new s all
+ensure_keeps book old new ref words _ (no_such_property x h k s) all = stays_kept old new s all
+ensure_keeps book old new ref words reply (is_asked h) all = ensured_all_keeps book old new ref words reply h all
 
 explained_keeps : (book : List Rule) (old new : Machine) (ref : RefSeen) (words : List (List ℕ)) (reply : ReplySeen) → ExplainedAll book old ref words reply new → AllKept old → AllKept new
 explained_keeps book old new ref words reply (x, at, asked, named, explains, becomes) all = becomes_kept ref.name _ old new becomes (settled_is_kept x.object (kept_at old ref x at all)) all
 
 explain_keeps : (book : List Rule) (old new : Machine) (ref : RefSeen) (words : List (List ℕ)) (reply : ReplySeen) → ExplainStep book old ref words reply new → AllKept old → AllKept new
-explain_keeps book old new ref words (refused UnknownName nothing) (h, s) all = stays_kept old new s all
-explain_keeps book old new ref words (refused UnknownProperty nothing) (o, h, k, s) all = stays_kept old new s all
-explain_keeps book old new ref words (explained chain weight rows names) h all = explained_keeps book old new ref words (explained chain weight rows names) h all
-explain_keeps book old new ref words (refused NoChain (planned barred rows names)) h all = explained_keeps book old new ref words (refused NoChain (planned barred rows names)) h all
-explain_keeps book old new ref words (refused Crowded (planned barred rows names)) h all = explained_keeps book old new ref words (refused Crowded (planned barred rows names)) h all
-explain_keeps book old new ref words reply h all = absurd h
+explain_keeps book old new ref words _ (no_such_name h s) all = stays_kept old new s all
+explain_keeps book old new ref words _ (no_such_property x h k s) all = stays_kept old new s all
+explain_keeps book old new ref words reply (is_asked h) all = explained_keeps book old new ref words reply h all
 
 history_keeps : (book : List Rule) (old new : Machine) (name : List ℕ) (reply : ReplySeen) → HistoryStep book old name reply new → AllKept old → AllKept new
-history_keeps book old new name (refused UnknownName nothing) (h, s) all = stays_kept old new s all
-history_keeps book old new name (tells t excluded) (o, at, _, _, s) all = stays_kept old new s all
-history_keeps book old new name reply h all = absurd h
+history_keeps book old new name _ (no_such_name h s) all = stays_kept old new s all
+history_keeps book old new name _ (is_told o at rounds out s) all = stays_kept old new s all
 
 lookup_keeps : (old new : Machine) (ref : RefSeen) (text : List ℕ) (reply : ReplySeen) → LookupStep old ref text reply new → AllKept old → AllKept new
-lookup_keeps old new ref text (refused UnknownName nothing) (h, s) all = stays_kept old new s all
-lookup_keeps old new ref text (refused UnknownProperty nothing) (o, h, k, s) all = stays_kept old new s all
-lookup_keeps old new ref text undef (o, at, p, named, none, s) all = stays_kept old new s all
-lookup_keeps old new ref text (shows name of p v t) (o, at, named, n, typed, is, _, s) all = stays_kept old new s all
-lookup_keeps old new ref text reply h all = absurd h
+lookup_keeps old new ref text _ (no_such_name h s) all = stays_kept old new s all
+lookup_keeps old new ref text _ (no_such_property x h k s) all = stays_kept old new s all
+lookup_keeps old new ref text _ (not_held x p at named none s) all = stays_kept old new s all
+lookup_keeps old new ref text _ (is_shown x at named n typed is told s) all = stays_kept old new s all
 
 disabled_kept : (o : State) (label : List ℕ) → IsKept o → IsKept (disabling o label)
 disabled_kept o label kept = by (is_disabled label o.disabled)
@@ -199,63 +178,55 @@ disabled_kept o label kept = by (is_disabled label o.disabled)
     by false = record { honest = honesty_is_of_values o (with_disabled o label) refl refl kept.honest; based = kept.based }
 
 disable_keeps : (book : List Rule) (old new : Machine) (name label : List ℕ) (reply : ReplySeen) → DisableStep book old name label reply new → AllKept old → AllKept new
-disable_keeps book old new name label (refused UnknownName nothing) (h, s) all = stays_kept old new s all
-disable_keeps book old new name label (refused UnknownRule nothing) (h, k, s) all = stays_kept old new s all
-disable_keeps book old new name label (done t) (told, o, at, known, becomes) all =
+disable_keeps book old new name label _ (no_such_name h s) all = stays_kept old new s all
+disable_keeps book old new name label _ (no_such_rule h k s) all = stays_kept old new s all
+disable_keeps book old new name label _ (now_disabled o told at known becomes) all =
     becomes_kept name _ old new becomes (disabled_kept o label (subst (λ z. IfSome z IsKept) at (all.each name))) all
-disable_keeps book old new name label reply h all = absurd h
 
 unload_keeps : (old new : Machine) (name : List ℕ) (reply : ReplySeen) → UnloadStep old name reply new → AllKept old → AllKept new
-unload_keeps old new name (refused UnknownRule nothing) (h, s) all = stays_kept old new s all
-unload_keeps old new name (done t) (told, h, u) all = record { each = λ q. subst (λ z. IfSome z IsKept) (sym (u.objects q)) (all.each q) }
-unload_keeps old new name reply h all = absurd h
+unload_keeps old new name _ (no_such_client h s) all = stays_kept old new s all
+unload_keeps old new name _ (is_unloaded told h u) all = record { each = λ q. subst (λ z. IfSome z IsKept) (sym (u.objects q)) (all.each q) }
 
 copy_keeps : (old new : Machine) (name to : List ℕ) (reply : ReplySeen) → CopyStep old name to reply new → AllKept old → AllKept new
-copy_keeps old new name to (refused UnknownName nothing) (h, s) all = stays_kept old new s all
-copy_keeps old new name to (refused NameTaken nothing) (h, k, s) all = stays_kept old new s all
-copy_keeps old new name to (refused ObjectsFull nothing) (h, k, l, s) all = stays_kept old new s all
-copy_keeps old new name to (done t) (told, o, at, k, l, g) all = with_one to o old new g.object g.others (subst (λ z. IfSome z IsKept) at (all.each name)) all
-copy_keeps old new name to reply h all = absurd h
+copy_keeps old new name to _ (no_such_name h s) all = stays_kept old new s all
+copy_keeps old new name to _ (is_taken h k s) all = stays_kept old new s all
+copy_keeps old new name to _ (no_room h k l s) all = stays_kept old new s all
+copy_keeps old new name to _ (is_copied o told at k l g) all = with_one to o old new g.object g.others (subst (λ z. IfSome z IsKept) at (all.each name)) all
 
 drop_keeps : (old new : Machine) (name : List ℕ) (reply : ReplySeen) → DropStep old name reply new → AllKept old → AllKept new
-drop_keeps old new name (refused UnknownName nothing) (h, s) all = stays_kept old new s all
-drop_keeps old new name (done t) (told, h, l) all = record {
+drop_keeps old new name _ (no_such_name h s) all = stays_kept old new s all
+drop_keeps old new name _ (is_dropped told h l) all = record {
   each = λ q. elim (decide (bytes_eq q name)) [
     | inl e ↦ subst (λ z. IfSome z IsKept) (sym (ap new.object (same_bytes q name e) ∙ l.object)) tt
     | inr e ↦ subst (λ z. IfSome z IsKept) (sym (l.others q (other_bytes q name e))) (all.each q)
   ];
 }
-drop_keeps old new name reply h all = absurd h
 
 origin_keeps : (old new : Machine) (ref : RefSeen) (text : List ℕ) (reply : ReplySeen) → OriginStep old ref text reply new → AllKept old → AllKept new
-origin_keeps old new ref text (refused UnknownName nothing) (h, s) all = stays_kept old new s all
-origin_keeps old new ref text (refused UnknownProperty nothing) (o, h, k, s) all = stays_kept old new s all
-origin_keeps old new ref text undef (o, at, p, named, none, s) all = stays_kept old new s all
-origin_keeps old new ref text (tells_origin g) (o, at, p, named, is, s) all = stays_kept old new s all
-origin_keeps old new ref text reply h all = absurd h
+origin_keeps old new ref text _ (no_such_name h s) all = stays_kept old new s all
+origin_keeps old new ref text _ (no_such_property x h k s) all = stays_kept old new s all
+origin_keeps old new ref text _ (not_held x p at named none s) all = stays_kept old new s all
+origin_keeps old new ref text _ (is_told x p at named is s) all = stays_kept old new s all
 
 rules_keep : (book : List Rule) (old new : Machine) (reply : ReplySeen) → RulesStep book old reply new → AllKept old → AllKept new
-rules_keep book old new (lists_rules n text) (h, k, s) all = stays_kept old new s all
-rules_keep book old new reply h all = absurd h
+rules_keep book old new _ (is_listed h k s) all = stays_kept old new s all
 
 load_keeps : (book : List Rule) (old new : Machine) (name file : List ℕ) (reply : ReplySeen) → LoadStep book old name file reply new → AllKept old → AllKept new
-load_keeps book old new name file (refused NameTaken nothing) (h, s) all = stays_kept old new s all
-load_keeps book old new name file (refused ObjectsFull nothing) (h, k, s) all = stays_kept old new s all
-load_keeps book old new name file (refused StoreFault nothing) (h, k, l) all = looks_kept old new l all
-load_keeps book old new name file (refused NoSuchFile nothing) (h, k, l) all = looks_kept old new l all
-load_keeps book old new name file (refused (BadFile why) nothing) (h, bytes, has, e, no_file, is, l) all = looks_kept old new l all
-load_keeps book old new name file (loaded names) (h, bytes, has, f, reads, over, g) all = with_one name _ old new g.object g.others (loaded_is_kept book f) all
-load_keeps book old new name file reply h all = absurd h
+load_keeps book old new name file _ (is_taken h s) all = stays_kept old new s all
+load_keeps book old new name file _ (no_room h k s) all = stays_kept old new s all
+load_keeps book old new name file _ (store_failed h k l) all = looks_kept old new l all
+load_keeps book old new name file _ (no_such_file h k l) all = looks_kept old new l all
+load_keeps book old new name file _ (bad_file bytes e h has no_file is l) all = looks_kept old new l all
+load_keeps book old new name file _ (is_loaded bytes f h has reads over g) all = with_one name _ old new g.object g.others (loaded_is_kept book f) all
 
 puts_kept : (Did : Files → Files → Type 0) (old new : Machine) → Puts Did old new → AllKept old → AllKept new
 puts_kept Did old new p all = record { each = λ q. subst (λ z. IfSome z IsKept) (sym (p.objects q)) (all.each q) }
 
 save_keeps : (book : List Rule) (old new : Machine) (name file : List ℕ) (reply : ReplySeen) → SaveStep book old name file reply new → AllKept old → AllKept new
-save_keeps book old new name file (refused UnknownName nothing) (h, s) all = stays_kept old new s all
-save_keeps book old new name file (refused (NotFit condition.Size) nothing) (o, at, long, s) all = stays_kept old new s all
-save_keeps book old new name file (refused StoreFault nothing) (o, at, short, fails, p) all = puts_kept _ old new p all
-save_keeps book old new name file (done t) (told, o, at, short, p, again) all = puts_kept _ old new p all
-save_keeps book old new name file reply h all = absurd h
+save_keeps book old new name file _ (no_such_name h s) all = stays_kept old new s all
+save_keeps book old new name file _ (is_long o at long s) all = stays_kept old new s all
+save_keeps book old new name file _ (store_failed o at short fails p) all = puts_kept _ old new p all
+save_keeps book old new name file _ (is_saved o told at short p again) all = puts_kept _ old new p all
 
 pub steps_keep : (book : List Rule) (old new : Machine) (command : Spoken) (reply : ReplySeen) → Step book old command reply new → AllKept old → AllKept new
 steps_keep book old new blank reply h all = absurd h

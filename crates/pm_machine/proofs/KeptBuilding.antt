@@ -5,13 +5,14 @@ use Rattle.pm_command.specs.Commands.{ShapeSeen}
 use Rattle.pm_command.specs.declared.building.Builder.{Builder}
 use Rattle.pm_files.specs.Files.{SavedFile}
 use Rattle.pm_machine.proofs.KeptObjects.{becomes_kept, becomes_part_honest, ensured_kept, stays_honest, stays_kept, with_one}
-use Rattle.pm_machine.specs.Building.{BuildStep, EndsAt, EnsuresAll, EnsuresInPart, EnsuresOne, EnsuresOneInPart, MakeStep, Wanted, is_crowded, is_made, is_taken, no_chain, no_room, no_such_name, not_fit, not_made, object_of, other_type, row_of, shape_file, wanted_all}
-use Rattle.pm_machine.specs.Events.{configuration}
+use Rattle.pm_machine.specs.Building.{BuildStep, EndsAt, EnsuresAll, EnsuresInPart, EnsuresOne, EnsuresOneInPart, MakeStep, Wanted, is_crowded, is_made, is_taken, no_chain, no_room, no_such_name, not_fit, not_made, other_type, wanted_all}
+use Rattle.pm_making.specs.Rows.{object_of, row_of, shape_file}
+use Rattle.pm_rounds.specs.Events.{configuration}
 use Rattle.pm_machine.specs.Machines.{Machine}
 use Rattle.pm_machine.specs.Parts.{AllHonest}
 use Rattle.pm_machine.specs.Steps.{AllKept}
-use Rattle.pm_machine.specs.declared.round.Ending.{Ending}
-use Rattle.pm_machine.specs.declared.round.Ending.TheVariants as ending
+use Rattle.pm_rounds.specs.declared.round.Ending.{Ending}
+use Rattle.pm_rounds.specs.declared.round.Ending.TheVariants as ending
 use Rattle.pm_object.proofs.Honesty.{based_is_kept, empty_is_kept}
 use Rattle.pm_object.specs.Honest.{IsKept, is_based}
 use Rattle.pm_object.specs.State.{HeldValue, RoundSeen, empty_object, file_value}
@@ -19,8 +20,7 @@ use Rattle.pm_object.specs.declared.held.Origin.TheVariants as origin
 use Rattle.pm_props.specs.Sets.{only}
 use Rattle.pm_props.specs.declared.property.PropId.{PropId}
 use Rattle.pm_rules.specs.declared.rule.Rule.{Rule}
-use Rattle.pm_script.specs.Replies.{ReplySeen, done, nothing, refused}
-use Rattle.pm_script.specs.declared.refusal.Refusal.TheVariants.{NameTaken, ObjectsFull, NotFit}
+use Rattle.pm_script.specs.Replies.{ReplySeen}
 use Rattle.pm_types.specs.Values.{PropertyValue}
 use Rattle.std.proofs.Common.{ap, inl, inr, refl, subst, true}
 use Rattle.std.specs.List.{Contains}
@@ -52,11 +52,10 @@ ends_keep book (w ∷ ws) e rounds old new (inr (m, first, more, one, others, ar
 
 -- ---- steps
 pub make_keeps : (old new : Machine) (to : List ℕ) (shape : ShapeSeen) (reply : ReplySeen) → MakeStep old to shape reply new → AllKept old → AllKept new
-make_keeps old new to shape (refused NameTaken nothing) (h, s) all = stays_kept old new s all
-make_keeps old new to shape (refused ObjectsFull nothing) (h, k, s) all = stays_kept old new s all
-make_keeps old new to shape (refused (NotFit c) nothing) (h, k, s) all = stays_kept old new s all
-make_keeps old new to shape (done t) (h, k, is, g) all = with_one to (object_of (shape_file shape)) old new g.object g.others (made_is_kept (shape_file shape)) all
-make_keeps old new to shape reply h all = absurd h
+make_keeps old new to shape _ (is_taken h s) all = stays_kept old new s all
+make_keeps old new to shape _ (no_room h k s) all = stays_kept old new s all
+make_keeps old new to shape _ (not_fit h k s) all = stays_kept old new s all
+make_keeps old new to shape _ (is_made h k told g) all = with_one to (object_of (shape_file shape)) old new g.object g.others (made_is_kept (shape_file shape)) all
 
 pub build_keeps : (book : List Rule) (b : Builder) (old new : Machine) (names : List (List ℕ)) (to : List ℕ) (reply : ReplySeen) → BuildStep book b old names to reply new → AllKept old → AllKept new
 build_keeps book b old new names to _ (no_such_name h s) all = stays_kept old new s all

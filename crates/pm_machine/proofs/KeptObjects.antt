@@ -1,10 +1,10 @@
 -- Objects by name that are honest, where some change: by the definitions alone.
-use Rattle.pm_machine.proofs.Traces.{ensuring_in_part_keeps, reaching_keeps}
-use Rattle.pm_machine.specs.Events.{Configuration, Ensured, EnsuredInPart, at_rest, configuration, unsettled}
+use Rattle.pm_rounds.proofs.Traces.{ensuring_in_part_keeps, reaching_keeps}
+use Rattle.pm_rounds.specs.Events.{Configuration, Ensured, EnsuredInPart, at_rest, configuration, unsettled}
 use Rattle.pm_machine.specs.Machines.{Becomes, Machine, Stays}
 use Rattle.pm_machine.specs.Parts.{AllHonest}
 use Rattle.pm_machine.specs.Steps.{AllKept}
-use Rattle.pm_machine.specs.declared.round.Ending.{Ending}
+use Rattle.pm_rounds.specs.declared.round.Ending.{Ending}
 use Rattle.pm_object.specs.Honest.{IsHonest, IsKept}
 use Rattle.pm_object.specs.State.{State}
 use Rattle.pm_props.specs.declared.set.PropSet.{PropSet}

@@ -4,33 +4,32 @@ use Rattle.pm_object_type.specs.declared.object_type.ObjectType.{ObjectType}
 use Rattle.pm_machine.proofs.Ensuring.{stays_part}
 use Rattle.pm_machine.proofs.Kept.{steps_in_part_keep, steps_keep}
 use Rattle.pm_machine.proofs.KeptObjects.{all_honest}
-use Rattle.pm_machine.specs.Building.{row_of, wanted_all}
+use Rattle.pm_making.specs.Rows.{row_of}
+use Rattle.pm_machine.specs.Building.{wanted_all}
 use Rattle.pm_machine.proofs.Beside.{looks_of_stays}
-use Rattle.pm_machine.specs.Chains.{AreBarred, held_names, table}
-use Rattle.pm_machine.specs.Events.{Configuration, Ensured, EnsuredInPart, at_rest, configuration}
-use Rattle.pm_machine.specs.declared.round.Ending.{Ending}
-use Rattle.pm_machine.specs.declared.round.Ending.TheVariants as ending
+use Rattle.pm_rounds.specs.Chains.{AreBarred, held_names, table}
+use Rattle.pm_rounds.specs.Events.{Configuration, Ensured, EnsuredInPart, at_rest, configuration}
+use Rattle.pm_rounds.specs.declared.round.Ending.{Ending}
+use Rattle.pm_rounds.specs.declared.round.Ending.TheVariants as ending
 use Rattle.pm_machine.specs.Parts.{AllHonest, StepInPart}
-use Rattle.pm_machine.specs.Reasons.{AreReasons}
+use Rattle.pm_rounds.specs.Reasons.{AreReasons}
 use Rattle.pm_machine.specs.Machines.{Becomes, Gains, Loses, Machine, Stays, later_rounds, no_rounds, without_name}
 use Rattle.pm_command.specs.Grammar.{ref_text}
-use Rattle.pm_object.specs.State.{program_refusal, with_program}
+use Rattle.pm_object.specs.State.{program_refusal, with_program, ObjectSeen, RoundSeen, State, is_held, read_at, value_of}
 use Rattle.pm_object.specs.declared.held.ProgramFail.{ProgramFail}
-use Rattle.pm_machine.specs.Steps.{NewProgramStep, ProgramRefuses, is_program_word}
-use Rattle.pm_json.specs.Texts.{Given, faulty, given_by, no_json, value}
-use Rattle.pm_machine.specs.Steps.{AllKept, DisableStep, EnsureStep, Ensures, ExplainStep, Explains, GiveStep, Gives, Step, TakeStep, TakeValue, Taken, asked_in, disabling, has_label, Named, named_at, named_rounds, names_told, part_named, property_named, rounds_beside, settled_object}
+use Rattle.pm_json.specs.Texts.{given_by}
+use Rattle.pm_machine.specs.Steps.{AllKept, DisableStep, EnsureStep, Ensures, ExplainStep, Explains, GiveStep, Gives, NewProgramStep, ProgramRefuses, Step, TakeStep, Taken, asked_in, disabling, has_label, is_asked, is_crowded, is_made, is_planned, is_program_word, is_shown, Named, named_at, named_rounds, names_told, no_chain, no_such_property, no_such_rule, not_taken, now_disabled, now_held, part_named, property_named, rounds_beside, settled_object, HistoryStep, LookupStep, property_at}
 use Rattle.pm_object.proofs.Names.{names_held}
-use Rattle.pm_object.specs.State.{ObjectSeen, RoundSeen, State, is_held, read_at, value_of}
 use Rattle.pm_object.specs.Views.{round_seen}
 use Rattle.pm_object.specs.declared.held.Round.{Round}
 use Rattle.pm_plan.specs.Plans.{HasNoPlan, IsCrowded, IsPlan}
 use Rattle.pm_rules.specs.declared.rule.Rule.{Rule}
 use Rattle.pm_rules.specs.declared.table.TableRow.{TableRow}
 use Rattle.pm_command.specs.Commands.{RefSeen, Spoken, blank, new_object, take_value, give_value, look_up, ensure_values, explain_values, tell_history, show_rules, disable_rule, unload_client, copy_object, drop_object, tell_origin, load_object, save_object, make_object, build_object}
-use Rattle.pm_script.specs.Replies.{NamesSeen, Remarks, ReplySeen, Rounds, done, ensured, explained, lists_rules, nothing, planned, refused, remarks, shows, tells, tells_origin, told, undef, loaded}
+use Rattle.pm_script.specs.Replies.{NamesSeen, Remarks, ReplySeen, Rounds, done, explained, nothing, planned, refused, remarks, shows, tells}
 use Rattle.pm_script.specs.declared.names.Bar.{Bar}
 use Rattle.pm_script.specs.declared.refusal.Refusal.{Refusal}
-use Rattle.pm_script.specs.declared.refusal.Refusal.TheVariants.{BadCommand, UnknownName, NameTaken, UnknownType, UnknownProperty, BadValue, AlreadyHeld, Sealed, ObjectsFull, NoChain, Crowded, LineTooLong, UnknownRule, StoreFault, BadFile, NoSuchFile, NotFit, NotMade}
+use Rattle.pm_script.specs.declared.refusal.Refusal.TheVariants.{NoChain, Crowded, UnknownProperty, UnknownRule}
 use Rattle.pm_props.proofs.Members.{has-only}
 use Rattle.pm_props.specs.Properties.{number}
 use Rattle.pm_props.specs.Sets.{has, only}
@@ -170,63 +169,6 @@ map_some f (Some a) = refl
 pub none_mapped : {A B : Type 0} (f : A → B) (x : Option A) (y : Option B) → x ≡ None → option_map f x ≡ y → y ≡ None
 none_mapped f x y is same = sym same ∙ ap (option_map f) is
 
--- the refusals with which a value is not taken
-abbrev is_of_taking : Refusal → Bool
-is_of_taking AlreadyHeld = true
-is_of_taking Sealed = true
-is_of_taking (BadValue w) = true
-is_of_taking w = false
-
-not_taken : (o : State) (sub : Option ℕ) (p : PropId) (w : Refusal) (g : Given) → is_of_taking w ≡ false → TakeValue o sub p g (Some w) None → ⊥
-not_taken o sub p AlreadyHeld g e h = true≢false e
-not_taken o sub p Sealed g e h = true≢false e
-not_taken o sub p (BadValue v) g e h = true≢false e
-not_taken o sub p BadCommand no_json e h = h
-not_taken o sub p BadCommand (faulty f) e h = h
-not_taken o sub p BadCommand (value v) e h = h
-not_taken o sub p UnknownName no_json e h = h
-not_taken o sub p UnknownName (faulty f) e h = h
-not_taken o sub p UnknownName (value v) e h = h
-not_taken o sub p NameTaken no_json e h = h
-not_taken o sub p NameTaken (faulty f) e h = h
-not_taken o sub p NameTaken (value v) e h = h
-not_taken o sub p UnknownType no_json e h = h
-not_taken o sub p UnknownType (faulty f) e h = h
-not_taken o sub p UnknownType (value v) e h = h
-not_taken o sub p UnknownProperty no_json e h = h
-not_taken o sub p UnknownProperty (faulty f) e h = h
-not_taken o sub p UnknownProperty (value v) e h = h
-not_taken o sub p ObjectsFull no_json e h = h
-not_taken o sub p ObjectsFull (faulty f) e h = h
-not_taken o sub p ObjectsFull (value v) e h = h
-not_taken o sub p NoChain no_json e h = h
-not_taken o sub p NoChain (faulty f) e h = h
-not_taken o sub p NoChain (value v) e h = h
-not_taken o sub p Crowded no_json e h = h
-not_taken o sub p Crowded (faulty f) e h = h
-not_taken o sub p Crowded (value v) e h = h
-not_taken o sub p StoreFault no_json e h = h
-not_taken o sub p (BadFile y) no_json e h = h
-not_taken o sub p NoSuchFile no_json e h = h
-not_taken o sub p (NotFit y) no_json e h = h
-not_taken o sub p (NotMade y) no_json e h = h
-not_taken o sub p LineTooLong no_json e h = h
-not_taken o sub p StoreFault (faulty f) e h = h
-not_taken o sub p (BadFile y) (faulty f) e h = h
-not_taken o sub p NoSuchFile (faulty f) e h = h
-not_taken o sub p (NotFit y) (faulty f) e h = h
-not_taken o sub p (NotMade y) (faulty f) e h = h
-not_taken o sub p LineTooLong (faulty f) e h = h
-not_taken o sub p StoreFault (value v) e h = h
-not_taken o sub p (BadFile y) (value v) e h = h
-not_taken o sub p NoSuchFile (value v) e h = h
-not_taken o sub p (NotFit y) (value v) e h = h
-not_taken o sub p (NotMade y) (value v) e h = h
-not_taken o sub p LineTooLong (value v) e h = h
-not_taken o sub p UnknownRule no_json e h = h
-not_taken o sub p UnknownRule (faulty f) e h = h
-not_taken o sub p UnknownRule (value v) e h = h
-
 -- ---- steps of the machine whose objects are given
 abbrev pub ref_with : List ℕ → Option (List ℕ) → RefSeen
 ref_with name sub = record { name = name; sub = sub }
@@ -234,9 +176,6 @@ ref_with name sub = record { name = name; sub = sub }
 -- what a REF names, with what it names of its object
 abbrev pub named_of : State → Option ℕ → Named
 named_of o sub = record { object = o; sub = sub }
-
-pub no_object : (m : Machine) (ref : RefSeen) → m.object ref.name ≡ None → named_at m ref ≡ None
-no_object m ref none = ap (λ x. option_and_then (λ o. part_named o ref.sub) x) none
 
 module _ {ns ms : List (List ℕ)} {old new : List ℕ → Option State} {name : List ℕ} {o o' : State} (w : IsWritten ns ms old new name o o') where
   pub stays_with : (clients : Clients) → o' ≡ o → Stays (machine_with ns old clients) (machine_with ms new clients)
@@ -247,219 +186,96 @@ module _ {ns ms : List (List ℕ)} {old new : List ℕ → Option State} {name :
   stays_if_err (Err e) clients same = stays_with clients same
 
   -- the object has no program of the part's name
-  no_part : (part : Option (List ℕ)) (clients : Clients) → part_named o part ≡ None → named_at (machine_with ns old clients) (ref_with name part) ≡ None
+  pub no_part : (part : Option (List ℕ)) (clients : Clients) → part_named o part ≡ None → named_at (machine_with ns old clients) (ref_with name part) ≡ None
   no_part part clients none = ap (λ x. option_and_then (λ z. part_named z part) x) w.was ∙ none
 
-  pub part_unknown : (part : Option (List ℕ)) (clients : Clients) → part_named o part ≡ None → o' ≡ o
-      → (named_at (machine_with ns old clients) (ref_with name part) ≡ None) × Stays (machine_with ns old clients) (machine_with ms new clients)
-  part_unknown part clients none same = (no_part part clients none, stays_with clients same)
-
-  pub part_found : (part : Option (List ℕ)) (sub : Option ℕ) (clients : Clients) → part_named o part ≡ Some (named_of o sub) → named_at (machine_with ns old clients) (ref_with name part) ≡ Some (named_of o sub)
-  part_found part sub clients is = ap (λ x. option_and_then (λ z. part_named z part) x) w.was ∙ is
-
-  module _ (part : Option (List ℕ)) (sub : Option ℕ) (found : part_named o part ≡ Some (named_of o sub)) (text : List ℕ) where
+  module _ (part : Option (List ℕ)) (sub : Option ℕ) (found : part_named o part ≡ Some (named_of o sub)) where
     at : (clients : Clients) → named_at (machine_with ns old clients) (ref_with name part) ≡ Some (named_of o sub)
-    at clients = part_found part sub clients found
-
-    pub take_unknown : (clients : Clients) (json : List ℕ) → property_named o.of sub text ≡ None → o' ≡ o
-        → TakeStep (machine_with ns old clients) (ref_with name part) text json (refused UnknownProperty nothing) (machine_with ms new clients)
-    take_unknown clients json none same = (named_of o sub, at clients, none, stays_with clients same)
-
-    pub take_refused : (clients : Clients) (json : List ℕ) (p : PropId) (why : Refusal) → property_named o.of sub text ≡ Some p → Taken o sub p (given_by p json) (Some why) o'
-        → TakeStep (machine_with ns old clients) (ref_with name part) text json (refused why nothing) (machine_with ms new clients)
-    take_refused clients json p why named t = by why t.0
-      where
-        stays : Stays (machine_with ns old clients) (machine_with ms new clients)
-        stays = stays_with clients t.1
-
-        by : (y : Refusal) → TakeValue o sub p (given_by p json) (Some y) None → TakeStep (machine_with ns old clients) (ref_with name part) text json (refused y nothing) (machine_with ms new clients)
-        by AlreadyHeld h = (named_of o sub, at clients, p, named, h, stays)
-        by Sealed h = (named_of o sub, at clients, p, named, h, stays)
-        by (BadValue v) h = (named_of o sub, at clients, p, named, h, stays)
-        by BadCommand h = absurd (not_taken o sub p BadCommand (given_by p json) refl h)
-        by UnknownName h = absurd (not_taken o sub p UnknownName (given_by p json) refl h)
-        by NameTaken h = absurd (not_taken o sub p NameTaken (given_by p json) refl h)
-        by UnknownType h = absurd (not_taken o sub p UnknownType (given_by p json) refl h)
-        by UnknownProperty h = absurd (not_taken o sub p UnknownProperty (given_by p json) refl h)
-        by ObjectsFull h = absurd (not_taken o sub p ObjectsFull (given_by p json) refl h)
-        by NoChain h = absurd (not_taken o sub p NoChain (given_by p json) refl h)
-        by Crowded h = absurd (not_taken o sub p Crowded (given_by p json) refl h)
-        by StoreFault h = absurd (not_taken o sub p StoreFault (given_by p json) refl h)
-        by (BadFile y) h = absurd (not_taken o sub p (BadFile y) (given_by p json) refl h)
-        by NoSuchFile h = absurd (not_taken o sub p NoSuchFile (given_by p json) refl h)
-        by (NotFit y) h = absurd (not_taken o sub p (NotFit y) (given_by p json) refl h)
-        by (NotMade y) h = absurd (not_taken o sub p (NotMade y) (given_by p json) refl h)
-        by LineTooLong h = absurd (not_taken o sub p LineTooLong (given_by p json) refl h)
-        by UnknownRule h = absurd (not_taken o sub p UnknownRule (given_by p json) refl h)
-
-    pub take_done : (clients : Clients) (json : List ℕ) (p : PropId) → property_named o.of sub text ≡ Some p → Taken o sub p (given_by p json) None o'
-        → TakeStep (machine_with ns old clients) (ref_with name part) text json (done no_rounds) (machine_with ms new clients)
-    take_done clients json p named (v, t, same) =
-        (named_of o sub, at clients, p, named, v, t, refl, record { names = w.names; object = w.is ∙ ap Some same; others = w.others; clients = refl; store = refl })
-
-    pub give_unknown : (book : List Rule) (clients : Clients) → property_named o.of sub text ≡ None → o' ≡ o
-        → GiveStep book (machine_with ns old clients) (ref_with name part) text (refused UnknownProperty nothing) (machine_with ms new clients)
-    give_unknown book clients none same = (named_of o sub, at clients, none, stays_with clients same)
+    at clients = ap (λ x. option_and_then (λ z. part_named z part) x) w.was ∙ found
 
     becomes : (clients after : Clients) → Becomes name (configuration o' after) (machine_with ns old clients) (machine_with ms new after)
     becomes clients after = record { names = w.names; object = w.is; others = w.others; clients = refl; store = refl }
 
-    pub give_step : {F E : Type 0} (view : F → ReplySeen) (r : Result F E) (book : List Rule) (clients after : Clients) (p : PropId) (called : List ℕ) → property_named o.of sub text ≡ Some p → called ≡ ref_text (ref_with name part)
-        → IfOk r (λ x. Gives book (configuration o clients) sub called p (view x) (configuration o' after))
-        → IfOk r (λ x. GiveStep book (machine_with ns old clients) (ref_with name part) text (view x) (machine_with ms new after))
-    give_step view (Err x) book clients after p called named call g = tt
-    give_step view (Ok x) book clients after p called named call g = by (view x) g
-      where
-        by : (reply : ReplySeen) → Gives book (configuration o clients) sub called p reply (configuration o' after) → GiveStep book (machine_with ns old clients) (ref_with name part) text reply (machine_with ms new after)
-        by (refused NoChain more) e = (named_of o sub, at clients, p, named, configuration o' after, e, becomes clients after)
-        by (refused Crowded more) e = (named_of o sub, at clients, p, named, configuration o' after, e, becomes clients after)
-        by (shows s of q v t) (e, same, typed, one, held, rounds) = (named_of o sub, at clients, p, named, configuration o' after, (e, same ∙ call, typed, one, held, rounds), becomes clients after)
-        by (done t) e = absurd e
-        by (ensured t) e = absurd e
-        by (explained chain weight rows names) e = absurd e
-        by (tells t excluded) e = absurd e
-        by (lists_rules n t) e = absurd e
-        by (loaded names) e = absurd e
-        by (tells_origin g) e = absurd e
-        by undef e = absurd e
-        by (refused BadCommand more) e = absurd e
-        by (refused UnknownName more) e = absurd e
-        by (refused NameTaken more) e = absurd e
-        by (refused UnknownType more) e = absurd e
-        by (refused UnknownProperty more) e = absurd e
-        by (refused (BadValue y) more) e = absurd e
-        by (refused AlreadyHeld more) e = absurd e
-        by (refused Sealed more) e = absurd e
-        by (refused ObjectsFull more) e = absurd e
-        by (refused StoreFault more) e = absurd e
-        by (refused (BadFile y) more) e = absurd e
-        by (refused NoSuchFile more) e = absurd e
-        by (refused (NotFit y) more) e = absurd e
-        by (refused (NotMade y) more) e = absurd e
-        by (refused LineTooLong more) e = absurd e
-        by (refused UnknownRule more) e = absurd e
+    becomes_so : (clients : Clients) (it : State) → o' ≡ it → Becomes name (configuration it clients) (machine_with ns old clients) (machine_with ms new clients)
+    becomes_so clients it same = subst (λ z. Becomes name (configuration z clients) (machine_with ns old clients) (machine_with ms new clients)) same (becomes clients clients)
 
-    pub gave_in_part : {T E : Type 0} (r : Result T E) (book : List Rule) (clients after : Clients) (p : PropId) → property_named o.of sub text ≡ Some p
-        → OnErr r (EnsuredInPart book sub (only p) (configuration o clients) (configuration o' after))
-        → OnErr r (StepInPart book (machine_with ns old clients) (give_value (ref_with name part) text) (machine_with ms new after))
-    gave_in_part (Ok x) book clients after p named e = tt
-    gave_in_part (Err x) book clients after p named e =
-        inr (record { found = named_of o sub; named = at clients; property = p; is_property = named; now = configuration o' after; ensured = e; becomes = becomes clients after })
+    -- a property
+    module _ (text : List ℕ) where
+      pub take_unknown : (clients : Clients) (json : List ℕ) → property_named o.of sub text ≡ None → o' ≡ o
+          → TakeStep (machine_with ns old clients) (ref_with name part) text json (refused UnknownProperty nothing) (machine_with ms new clients)
+      take_unknown clients json none same = no_such_property (named_of o sub) (at clients) none (stays_with clients same)
 
-  module _ (part : Option (List ℕ)) (sub : Option ℕ) (found : part_named o part ≡ Some (named_of o sub)) (words : List (List ℕ)) where
-    asked_at : (clients : Clients) → named_at (machine_with ns old clients) (ref_with name part) ≡ Some (named_of o sub)
-    asked_at clients = part_found part sub clients found
+      pub take_refused : (clients : Clients) (json : List ℕ) (p : PropId) (why : Refusal) → property_named o.of sub text ≡ Some p → Taken o sub p (given_by p json) (Some why) o'
+          → TakeStep (machine_with ns old clients) (ref_with name part) text json (refused why nothing) (machine_with ms new clients)
+      take_refused clients json p why named t = not_taken (named_of o sub, at clients, p, named, t.0, stays_with clients t.1)
 
-    asked_becomes : (clients after : Clients) → Becomes name (configuration o' after) (machine_with ns old clients) (machine_with ms new after)
-    asked_becomes clients after = record { names = w.names; object = w.is; others = w.others; clients = refl; store = refl }
+      pub take_done : (clients : Clients) (json : List ℕ) (p : PropId) → property_named o.of sub text ≡ Some p → Taken o sub p (given_by p json) None o'
+          → TakeStep (machine_with ns old clients) (ref_with name part) text json (done no_rounds) (machine_with ms new clients)
+      take_done clients json p named (v, t, same) = now_held (named_of o sub) p v (at clients) named t refl (becomes_so clients _ same)
 
-    pub ensure_unknown : (book : List Rule) (clients : Clients) → asked_in o.of sub words ≡ None → o' ≡ o
-        → EnsureStep book (machine_with ns old clients) (ref_with name part) words (refused UnknownProperty nothing) (machine_with ms new clients)
-    ensure_unknown book clients none same = (named_of o sub, asked_at clients, none, stays_with clients same)
+      pub give_unknown : (book : List Rule) (clients : Clients) → property_named o.of sub text ≡ None → o' ≡ o
+          → GiveStep book (machine_with ns old clients) (ref_with name part) text (refused UnknownProperty nothing) (machine_with ms new clients)
+      give_unknown book clients none same = no_such_property (named_of o sub) (at clients) none (stays_with clients same)
 
-    pub explain_unknown : (book : List Rule) (clients : Clients) → asked_in o.of sub words ≡ None → o' ≡ o
-        → ExplainStep book (machine_with ns old clients) (ref_with name part) words (refused UnknownProperty nothing) (machine_with ms new clients)
-    explain_unknown book clients none same = (named_of o sub, asked_at clients, none, stays_with clients same)
+      pub give_step : {F E : Type 0} (view : F → ReplySeen) (r : Result F E) (book : List Rule) (clients after : Clients) (p : PropId) (called : List ℕ) → property_named o.of sub text ≡ Some p → called ≡ ref_text (ref_with name part)
+          → IfOk r (λ x. Gives book (configuration o clients) sub called p (view x) (configuration o' after))
+          → IfOk r (λ x. GiveStep book (machine_with ns old clients) (ref_with name part) text (view x) (machine_with ms new after))
+      give_step view (Err x) book clients after p called named call g = tt
+      give_step view (Ok x) book clients after p called named call g =
+          is_asked (named_of o sub, at clients, p, named, configuration o' after, subst (λ z. Gives book (configuration o clients) sub z p (view x) (configuration o' after)) call g, becomes clients after)
 
-    pub ensure_step : {F E : Type 0} (view : F → ReplySeen) (r : Result F E) (book : List Rule) (clients after : Clients) (asked : PropSet) → asked_in o.of sub words ≡ Some asked
-        → IfOk r (λ x. Ensures book (configuration o clients) sub asked (view x) (configuration o' after))
-        → IfOk r (λ x. EnsureStep book (machine_with ns old clients) (ref_with name part) words (view x) (machine_with ms new after))
-    ensure_step view (Err x) book clients after asked is g = tt
-    ensure_step view (Ok x) book clients after asked is g = by (view x) g
-      where
-        by : (reply : ReplySeen) → Ensures book (configuration o clients) sub asked reply (configuration o' after) → EnsureStep book (machine_with ns old clients) (ref_with name part) words reply (machine_with ms new after)
-        by (refused NoChain more) e = (named_of o sub, asked_at clients, asked, is, configuration o' after, e, asked_becomes clients after)
-        by (refused Crowded more) e = (named_of o sub, asked_at clients, asked, is, configuration o' after, e, asked_becomes clients after)
-        by (ensured t) e = (named_of o sub, asked_at clients, asked, is, configuration o' after, e, asked_becomes clients after)
-        by (shows s of q v t) e = absurd e
-        by (done t) e = absurd e
-        by (explained chain weight rows names) e = absurd e
-        by (tells t excluded) e = absurd e
-        by (lists_rules n t) e = absurd e
-        by (loaded names) e = absurd e
-        by (tells_origin g) e = absurd e
-        by undef e = absurd e
-        by (refused BadCommand more) e = absurd e
-        by (refused UnknownName more) e = absurd e
-        by (refused NameTaken more) e = absurd e
-        by (refused UnknownType more) e = absurd e
-        by (refused UnknownProperty more) e = absurd e
-        by (refused (BadValue y) more) e = absurd e
-        by (refused AlreadyHeld more) e = absurd e
-        by (refused Sealed more) e = absurd e
-        by (refused ObjectsFull more) e = absurd e
-        by (refused StoreFault more) e = absurd e
-        by (refused (BadFile y) more) e = absurd e
-        by (refused NoSuchFile more) e = absurd e
-        by (refused (NotFit y) more) e = absurd e
-        by (refused (NotMade y) more) e = absurd e
-        by (refused LineTooLong more) e = absurd e
-        by (refused UnknownRule more) e = absurd e
+      pub gave_in_part : {T E : Type 0} (r : Result T E) (book : List Rule) (clients after : Clients) (p : PropId) → property_named o.of sub text ≡ Some p
+          → OnErr r (EnsuredInPart book sub (only p) (configuration o clients) (configuration o' after))
+          → OnErr r (StepInPart book (machine_with ns old clients) (give_value (ref_with name part) text) (machine_with ms new after))
+      gave_in_part (Ok x) book clients after p named e = tt
+      gave_in_part (Err x) book clients after p named e =
+          inr (record { found = named_of o sub; named = at clients; property = p; is_property = named; now = configuration o' after; ensured = e; becomes = becomes clients after })
 
-    pub ensured_partly : {T E : Type 0} (r : Result T E) (book : List Rule) (clients after : Clients) (asked : PropSet) → asked_in o.of sub words ≡ Some asked
-        → OnErr r (EnsuredInPart book sub asked (configuration o clients) (configuration o' after))
-        → OnErr r (StepInPart book (machine_with ns old clients) (ensure_values (ref_with name part) words) (machine_with ms new after))
-    ensured_partly (Ok x) book clients after asked is e = tt
-    ensured_partly (Err x) book clients after asked is e =
-        inr (record { found = named_of o sub; named = asked_at clients; asked = asked; is_asked = is; now = configuration o' after; ensured = e; becomes = asked_becomes clients after })
+    -- several properties
+    module _ (words : List (List ℕ)) where
+      pub ensure_unknown : (book : List Rule) (clients : Clients) → asked_in o.of sub words ≡ None → o' ≡ o
+          → EnsureStep book (machine_with ns old clients) (ref_with name part) words (refused UnknownProperty nothing) (machine_with ms new clients)
+      ensure_unknown book clients none same = no_such_property (named_of o sub) (at clients) none (stays_with clients same)
 
-    settled_becomes : (clients : Clients) → o' ≡ settled_object o → Becomes name (configuration (settled_object o) clients) (machine_with ns old clients) (machine_with ms new clients)
-    settled_becomes clients same = record { names = w.names; object = w.is ∙ ap Some same; others = w.others; clients = refl; store = refl }
+      pub explain_unknown : (book : List Rule) (clients : Clients) → asked_in o.of sub words ≡ None → o' ≡ o
+          → ExplainStep book (machine_with ns old clients) (ref_with name part) words (refused UnknownProperty nothing) (machine_with ms new clients)
+      explain_unknown book clients none same = no_such_property (named_of o sub) (at clients) none (stays_with clients same)
 
-    pub explain_step : {F E : Type 0} (view : F → ReplySeen) (r : Result F E) (book : List Rule) (clients : Clients) (asked : PropSet) → asked_in o.of sub words ≡ Some asked
-        → IfOk r (λ x. Explains book clients (settled_object o) sub asked (view x)) → IfOk r (λ x. o' ≡ settled_object o)
-        → IfOk r (λ x. ExplainStep book (machine_with ns old clients) (ref_with name part) words (view x) (machine_with ms new clients))
-    explain_step view (Err x) book clients asked is g same = tt
-    explain_step view (Ok x) book clients asked is g same = by (view x) g
-      where
-        by : (reply : ReplySeen) → Explains book clients (settled_object o) sub asked reply → ExplainStep book (machine_with ns old clients) (ref_with name part) words reply (machine_with ms new clients)
-        by (explained chain weight rows names) e = (named_of o sub, asked_at clients, asked, is, e, settled_becomes clients same)
-        by (refused NoChain (planned barred rows names)) e = (named_of o sub, asked_at clients, asked, is, e, settled_becomes clients same)
-        by (refused Crowded (planned barred rows names)) e = (named_of o sub, asked_at clients, asked, is, e, settled_becomes clients same)
-        by (refused NoChain nothing) e = absurd e
-        by (refused NoChain (told always t)) e = absurd e
-        by (refused Crowded nothing) e = absurd e
-        by (refused Crowded (told always t)) e = absurd e
-        by (ensured t) e = absurd e
-        by (shows s of q v t) e = absurd e
-        by (done t) e = absurd e
-        by (tells t excluded) e = absurd e
-        by (lists_rules n t) e = absurd e
-        by (loaded names) e = absurd e
-        by (tells_origin g) e = absurd e
-        by undef e = absurd e
-        by (refused BadCommand more) e = absurd e
-        by (refused UnknownName more) e = absurd e
-        by (refused NameTaken more) e = absurd e
-        by (refused UnknownType more) e = absurd e
-        by (refused UnknownProperty more) e = absurd e
-        by (refused (BadValue y) more) e = absurd e
-        by (refused AlreadyHeld more) e = absurd e
-        by (refused Sealed more) e = absurd e
-        by (refused ObjectsFull more) e = absurd e
-        by (refused StoreFault more) e = absurd e
-        by (refused (BadFile y) more) e = absurd e
-        by (refused NoSuchFile more) e = absurd e
-        by (refused (NotFit y) more) e = absurd e
-        by (refused (NotMade y) more) e = absurd e
-        by (refused LineTooLong more) e = absurd e
-        by (refused UnknownRule more) e = absurd e
+      pub ensure_step : {F E : Type 0} (view : F → ReplySeen) (r : Result F E) (book : List Rule) (clients after : Clients) (asked : PropSet) → asked_in o.of sub words ≡ Some asked
+          → IfOk r (λ x. Ensures book (configuration o clients) sub asked (view x) (configuration o' after))
+          → IfOk r (λ x. EnsureStep book (machine_with ns old clients) (ref_with name part) words (view x) (machine_with ms new after))
+      ensure_step view (Err x) book clients after asked is g = tt
+      ensure_step view (Ok x) book clients after asked is g = is_asked (named_of o sub, at clients, asked, is, configuration o' after, g, becomes clients after)
 
-    pub explained_in_part : {T E : Type 0} (r : Result T E) (book : List Rule) (clients : Clients) (asked : PropSet) → asked_in o.of sub words ≡ Some asked → OnErr r ((o' ≡ o) ⊎ (o' ≡ settled_object o))
-        → OnErr r (StepInPart book (machine_with ns old clients) (explain_values (ref_with name part) words) (machine_with ms new clients))
-    explained_in_part (Ok x) book clients asked is e = tt
-    explained_in_part (Err x) book clients asked is (inl same) = inl (stays_with clients same)
-    explained_in_part (Err x) book clients asked is (inr same) = inr (record { found = named_of o sub; named = asked_at clients; asked = asked; is_asked = is; becomes = settled_becomes clients same })
+      pub ensured_partly : {T E : Type 0} (r : Result T E) (book : List Rule) (clients after : Clients) (asked : PropSet) → asked_in o.of sub words ≡ Some asked
+          → OnErr r (EnsuredInPart book sub asked (configuration o clients) (configuration o' after))
+          → OnErr r (StepInPart book (machine_with ns old clients) (ensure_values (ref_with name part) words) (machine_with ms new after))
+      ensured_partly (Ok x) book clients after asked is e = tt
+      ensured_partly (Err x) book clients after asked is e =
+          inr (record { found = named_of o sub; named = at clients; asked = asked; is_asked = is; now = configuration o' after; ensured = e; becomes = becomes clients after })
+
+      pub explain_step : {F E : Type 0} (view : F → ReplySeen) (r : Result F E) (book : List Rule) (clients : Clients) (asked : PropSet) → asked_in o.of sub words ≡ Some asked
+          → IfOk r (λ x. Explains book clients (settled_object o) sub asked (view x)) → IfOk r (λ x. o' ≡ settled_object o)
+          → IfOk r (λ x. ExplainStep book (machine_with ns old clients) (ref_with name part) words (view x) (machine_with ms new clients))
+      explain_step view (Err x) book clients asked is g same = tt
+      explain_step view (Ok x) book clients asked is g same = is_asked (named_of o sub, at clients, asked, is, g, becomes_so clients (settled_object o) same)
+
+      pub explained_in_part : {T E : Type 0} (r : Result T E) (book : List Rule) (clients : Clients) (asked : PropSet) → asked_in o.of sub words ≡ Some asked → OnErr r ((o' ≡ o) ⊎ (o' ≡ settled_object o))
+          → OnErr r (StepInPart book (machine_with ns old clients) (explain_values (ref_with name part) words) (machine_with ms new clients))
+      explained_in_part (Ok x) book clients asked is e = tt
+      explained_in_part (Err x) book clients asked is (inl same) = inl (stays_with clients same)
+      explained_in_part (Err x) book clients asked is (inr same) =
+          inr (record { found = named_of o sub; named = at clients; asked = asked; is_asked = is; becomes = becomes_so clients (settled_object o) same })
 
 -- ---- a label that is disabled
 module _ {ns ms : List (List ℕ)} {old new : List ℕ → Option State} {name : List ℕ} {o o' : State} (w : IsWritten ns ms old new name o o') where
   pub disable_unknown : (clients : Clients) (book : List Rule) (label : List ℕ) → has_label label book ≡ false → o' ≡ o
       → DisableStep book (machine_with ns old clients) name label (refused UnknownRule nothing) (machine_with ms new clients)
-  disable_unknown clients book label none same = (λ e. true≢false (ap is_some (sym w.was ∙ e)), none, stays_with w clients same)
+  disable_unknown clients book label none same = no_such_rule (λ e. true≢false (ap is_some (sym w.was ∙ e))) none (stays_with w clients same)
 
   pub disable_done : (clients : Clients) (book : List Rule) (label : List ℕ) → has_label label book ≡ true → o' ≡ disabling o label
       → DisableStep book (machine_with ns old clients) name label (done no_rounds) (machine_with ms new clients)
-  disable_done clients book label known same = (refl, o, w.was, known, record { names = w.names; object = w.is ∙ ap Some same; others = w.others; clients = refl; store = refl })
+  disable_done clients book label known same = now_disabled o refl w.was known (record { names = w.names; object = w.is ∙ ap Some same; others = w.others; clients = refl; store = refl })
 
 -- ---- a linear program more
 module _ {ns ms : List (List ℕ)} {old new : List ℕ → Option State} {name : List ℕ} {o o' : State} (w : IsWritten ns ms old new name o o') where
@@ -470,7 +286,7 @@ module _ {ns ms : List (List ℕ)} {old new : List ℕ → Option State} {name :
   pub program_done : (clients : Clients) (sub text : List ℕ) → is_program_word text ≡ true → program_refusal o sub ≡ None → o' ≡ with_program o sub
       → NewProgramStep (machine_with ns old clients) name sub text (done no_rounds) (machine_with ms new clients)
   program_done clients sub text word free same =
-      (word, o, w.was, free, refl, record { names = w.names; object = w.is ∙ ap Some same; others = w.others; clients = refl; store = refl })
+      is_made o word w.was free refl (record { names = w.names; object = w.is ∙ ap Some same; others = w.others; clients = refl; store = refl })
 
 -- how ensuring ended, of what was asked
 pub ended_so : (book : List Rule) (sub : Option ℕ) (e : Ending) (old new : Configuration) (p : PropId) (asked : PropSet) → asked ≡ only p → Ensured book sub asked e old new → Ensured book sub (only p) e old new
@@ -534,16 +350,24 @@ pub honest_step : {E F : Type 0} (view : F → ReplySeen) (book : List Rule) (ol
 honest_step view book old new command (Ok x) s p all = all_honest new (steps_keep book old new command (view x) s all)
 honest_step view book old new command (Err x) s p all = steps_in_part_keep book old new command p all
 
-pub on_err_of : {T E P : Type 0} (r : Result T E) → P → OnErr r P
-on_err_of (Ok x) p = tt
-on_err_of (Err e) p = p
-
 -- ---- what was ensured is told with its rounds
+-- what is so of a reply is so of the answer that is seen as it
+pub if_seen : {F E : Type 0} (view : F → ReplySeen) (r : Result F E) (P : ReplySeen → Type 0) (reply : ReplySeen) → P reply → IfOk r (λ x. view x ≡ reply) → IfOk r (λ x. P (view x))
+if_seen view (Err x) P reply h is = tt
+if_seen view (Ok x) P reply h is = subst P (sym is) h
+
 pub gives_shown : {F E : Type 0} (view : F → ReplySeen) (r : Result F E) (book : List Rule) (old new : Configuration) (sub : Option ℕ) (name : List ℕ) (p : PropId) (of : ObjectType) (v : PropertyValue) (t : Rounds)
     → of ≡ old.object.of → value_of p (read_at sub new.object.held) ≡ Some v → t ≡ named_rounds book new.object (later_rounds old.object new.object) → Ensured book sub (only p) ending.Found old new → IfOk r (λ x. view x ≡ shows name of p v t)
     → IfOk r (λ x. Gives book old sub name p (view x) new)
-gives_shown view (Err x) book old new sub name p of v t type held rounds e s = tt
-gives_shown view (Ok x) book old new sub name p of v t type held rounds e s = subst (λ z. Gives book old sub name p z new) (sym s) (e, refl, type, refl, held, rounds)
+gives_shown view r book old new sub name p of v t type held rounds e said = if_seen view r (λ z. Gives book old sub name p z new) (shows name of p v t) (is_shown e refl type refl held rounds) said
+
+pub history_told : {F E : Type 0} (view : F → ReplySeen) (r : Result F E) (book : List Rule) (old : Machine) (name : List ℕ) (o : State) → old.object name ≡ Some o → IfOk r (λ x. view x ≡ tells (named_rounds book o o.rounds) o.excluded)
+    → IfOk r (λ x. HistoryStep book old name (view x) old)
+history_told view r book old name o named said = if_seen view r (λ z. HistoryStep book old name z old) (tells (named_rounds book o o.rounds) o.excluded) (HistoryStep.is_told o named refl refl (record { names = refl; objects = λ q. refl; clients = refl; store = refl })) said
+
+pub looked_up : {F E : Type 0} (view : F → ReplySeen) (r : Result F E) (old : Machine) (ref : RefSeen) (text : List ℕ) (x : Named) (p : PropId) (v : PropertyValue) (name : List ℕ) (of : ObjectType) → named_at old ref ≡ Some x → property_at x text ≡ Some p
+    → name ≡ ref_text ref → of ≡ x.object.of → value_of p (read_at x.sub x.object.held) ≡ Some v → IfOk r (λ z. view z ≡ shows name of p v no_rounds) → IfOk r (λ z. LookupStep old ref text (view z) old)
+looked_up view r old ref text x p v name of named property same type held said = if_seen view r (λ z. LookupStep old ref text z old) (shows name of p v no_rounds) (LookupStep.is_shown x named property same type held refl (record { names = refl; objects = λ q. refl; clients = refl; store = refl })) said
 
 -- ---- rounds with their names
 pub rounds_named : (book : List Rule) (o : State) (names : NamesSeen) (rounds later : List RoundSeen) → names ≡ names_told book o → rounds ≡ later
@@ -559,41 +383,24 @@ pub later_is : (before : ℕ) (rounds : List Round) (old new : State) (later : L
 later_is before rounds old new later count seen_so is =
     is ∙ ap (λ n. drop n new.rounds) (count ∙ sym (length-map rounds round_seen) ∙ ap length seen_so)
 
-pub gives_no_chain : (book : List Rule) (old new : Configuration) (sub : Option ℕ) (name : List ℕ) (p : PropId) (reply : ReplySeen) (more : Remarks) → reply ≡ refused NoChain more → more ≡ rounds_beside false book old.object new.object
-    → Ensured book sub (only p) ending.NoChain old new → Gives book old sub name p reply new
-gives_no_chain book old new sub name p reply more is told' e = subst (λ z. Gives book old sub name p z new) (sym is) (e, told')
-
-pub gives_crowded : (book : List Rule) (old new : Configuration) (sub : Option ℕ) (name : List ℕ) (p : PropId) (reply : ReplySeen) (more : Remarks) → reply ≡ refused Crowded more → more ≡ rounds_beside false book old.object new.object
-    → Ensured book sub (only p) ending.Crowded old new → Gives book old sub name p reply new
-gives_crowded book old new sub name p reply more is told' e = subst (λ z. Gives book old sub name p z new) (sym is) (e, told')
-
-pub ensures_no_chain : (book : List Rule) (old new : Configuration) (sub : Option ℕ) (asked : PropSet) (reply : ReplySeen) (more : Remarks) → reply ≡ refused NoChain more → more ≡ rounds_beside true book old.object new.object
-    → Ensured book sub asked ending.NoChain old new → Ensures book old sub asked reply new
-ensures_no_chain book old new sub asked reply more is told' e = subst (λ z. Ensures book old sub asked z new) (sym is) (e, told')
-
-pub ensures_crowded : (book : List Rule) (old new : Configuration) (sub : Option ℕ) (asked : PropSet) (reply : ReplySeen) (more : Remarks) → reply ≡ refused Crowded more → more ≡ rounds_beside true book old.object new.object
-    → Ensured book sub asked ending.Crowded old new → Ensures book old sub asked reply new
-ensures_crowded book old new sub asked reply more is told' e = subst (λ z. Ensures book old sub asked z new) (sym is) (e, told')
-
 -- ---- a plan is told with the names of the book
 pub planned_so : (P : PropSet → PropSet → Type 0) (names names' held held' : PropSet) → names ≡ names' → held ≡ held' → P names held → P names' held'
 planned_so P names names' held held' n h p = subst (λ z. P z held') n (subst (λ z. P names z) h p)
 
 pub explains_found : {F E : Type 0} (view : F → ReplySeen) (r : Result F E) (book : List Rule) (clients : Clients) (o : State) (sub : Option ℕ) (asked : PropSet) (chain : List RuleId) (weight : Cost) (rows : List TableRow) (barred : List RuleId)
     → AreBarred book clients o sub barred → IsPlan book (table sub o.of) barred (held_names sub o) asked chain weight rows → IfOk r (λ x. view x ≡ explained chain weight rows (names_told book o)) → IfOk r (λ x. Explains book clients o sub asked (view x))
-explains_found view (Err x) book clients o sub asked chain weight rows barred are plan h = tt
-explains_found view (Ok x) book clients o sub asked chain weight rows barred are plan h = subst (λ z. Explains book clients o sub asked z) (sym h) (barred, are, plan, refl)
+explains_found view r book clients o sub asked chain weight rows barred are plan said = if_seen view r (Explains book clients o sub asked) (explained chain weight rows (names_told book o)) (is_planned barred are plan refl) said
 
 pub explains_none : {F E : Type 0} (view : F → ReplySeen) (r : Result F E) (book : List Rule) (clients : Clients) (o : State) (sub : Option ℕ) (asked : PropSet) (rows : List TableRow) (barred : List RuleId) → AreBarred book clients o sub barred
     → HasNoPlan book (table sub o.of) barred (held_names sub o) asked rows
     → IfOk r (λ x. (list : List (RuleId × Bar)) × AreReasons book clients o sub list × (view x ≡ refused NoChain (planned list rows (names_told book o)))) → IfOk r (λ x. Explains book clients o sub asked (view x))
 explains_none view (Err x) book clients o sub asked rows barred are none h = tt
 explains_none view (Ok x) book clients o sub asked rows barred are none (told', reasons, is) =
-    subst (λ z. Explains book clients o sub asked z) (sym is) (barred, are, none, reasons, refl)
+    subst (Explains book clients o sub asked) (sym is) (no_chain barred are none reasons refl)
 
 pub explains_crowded : {F E : Type 0} (view : F → ReplySeen) (r : Result F E) (book : List Rule) (clients : Clients) (o : State) (sub : Option ℕ) (asked : PropSet) (rows : List TableRow) (barred : List RuleId) → AreBarred book clients o sub barred
     → IsCrowded book (table sub o.of) barred (held_names sub o) asked rows
     → IfOk r (λ x. (list : List (RuleId × Bar)) × AreReasons book clients o sub list × (view x ≡ refused Crowded (planned list rows (names_told book o)))) → IfOk r (λ x. Explains book clients o sub asked (view x))
 explains_crowded view (Err x) book clients o sub asked rows barred are crowded h = tt
 explains_crowded view (Ok x) book clients o sub asked rows barred are crowded (told', reasons, is) =
-    subst (λ z. Explains book clients o sub asked z) (sym is) (barred, are, crowded, reasons, refl)
+    subst (Explains book clients o sub asked) (sym is) (is_crowded barred are crowded reasons refl)

@@ -1,7 +1,7 @@
 -- The first client of a name, and the clients without it.
 use Rattle.pm_client.specs.Starts.{Clients}
 use Rattle.pm_transact.proofs.Committing.{drop_at}
-use Rattle.pm_machine.proofs.Following.{drop_end}
+use Rattle.pm_rounds.proofs.Following.{drop_end}
 use Rattle.pm_machine.specs.Steps.{is_client, without_client}
 use Rattle.pm_props.specs.declared.kind.Kind.{Kind}
 use Rattle.std.proofs.Common.{ap, arith, bytes_eq, drop, false, get_or, refl, subst, sym, take, true, ◌∙◌}

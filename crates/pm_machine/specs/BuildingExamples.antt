@@ -17,10 +17,11 @@ use Rattle.pm_command.specs.declared.building.Unary.TheVariants.{FaceFan, Normal
 use Rattle.pm_files.specs.Files.{SavedFile}
 use Rattle.pm_fan.specs.Conditions.{face_refusal, normal_refusal}
 use Rattle.pm_fan.specs.Fans.{face_fan_of, fan_with, normal_fan_of}
-use Rattle.pm_machine.specs.Building.{BuildStep, EndsAt, EnsuresAll, EnsuresInPart, MakeStep, Makes, MayHaveBegun, ObjectsAre, Unfit, Unmade, Wanted, are_named, are_of, is_of_type, object_of, rounds_told, row_of, same_type, shape_condition, shape_file, told_rounds, wanted_all, wanted_of}
+use Rattle.pm_machine.specs.Building.{BuildStep, EndsAt, EnsuresAll, EnsuresInPart, MakeStep, MayHaveBegun, ObjectsAre, Wanted, are_named, are_of, is_of_type, rounds_told, told_rounds, wanted_all, wanted_of}
+use Rattle.pm_making.specs.Rows.{Makes, Unfit, Unmade, object_of, row_of, same_type, shape_condition, shape_file}
 use Rattle.pm_machine.specs.Machines.{IsFree, Machine, Stays}
-use Rattle.pm_machine.specs.declared.round.Ending.{Ending}
-use Rattle.pm_machine.specs.declared.round.Ending.TheVariants as ending
+use Rattle.pm_rounds.specs.declared.round.Ending.{Ending}
+use Rattle.pm_rounds.specs.declared.round.Ending.TheVariants as ending
 use Rattle.pm_object.specs.State.{RoundSeen, State, empty_object}
 use Rattle.pm_object.specs.declared.held.Condition.{Condition}
 use Rattle.pm_object.specs.declared.held.Condition.TheVariants as condition

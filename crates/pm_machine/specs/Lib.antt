@@ -1,8 +1,3 @@
-pub mod Chains
-pub mod Reasons
-pub mod Events
-pub mod Moves
-pub mod Running
 pub mod Machines
 pub mod Building
 pub mod Built

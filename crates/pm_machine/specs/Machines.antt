@@ -2,9 +2,10 @@
 use Rattle.std.specs.Prelude.{ℕ, ◌≡◌, ◌≢◌, ◌++◌, ◌<◌, List, [], ◌∷◌, drop, filter, length, not, Option, Some, None}
 use Rattle.std.specs.Str.{bytes_eq}
 use Rattle.pm_client.specs.Starts.{Clients}
-use Rattle.pm_machine.specs.Events.{Configuration}
+use Rattle.pm_rounds.specs.Events.{Configuration}
 use Rattle.pm_object.specs.State.{RoundSeen, State}
 use Rattle.pm_script.specs.Replies.{Rounds}
+use Rattle.pm_limits.specs.Limits.{most_objects}
 
 -- files, each with its name
 abbrev pub Files : Type 0
@@ -25,10 +26,6 @@ pub record Machine : Type 0 where
 -- no rounds, and no names
 abbrev pub no_rounds : Rounds
 no_rounds = record { rounds = []; names = record { rules = []; programs = [] } }
-
--- the greatest number of objects
-abbrev pub most_objects : ℕ
-most_objects = 32
 
 -- the objects of other names stay
 abbrev pub OthersStay : List ℕ → Machine → Machine → Type 0

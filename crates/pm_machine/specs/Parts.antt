@@ -1,8 +1,8 @@
 -- What stands where memory ran out in a command: a first part of its events, maybe none or all.
 use Rattle.std.specs.Prelude.{◌≡◌, ◌≤◌, ◌⊎◌, List, ℕ, Some, IfSome, length}
-use Rattle.pm_machine.specs.Events.{Configuration, EnsuredInPart, configuration}
+use Rattle.pm_rounds.specs.Events.{Configuration, EnsuredInPart, configuration}
 use Rattle.pm_machine.specs.Machines.{Becomes, Machine, Stays}
-use Rattle.pm_machine.specs.Steps.{Looks, Named, Puts, asked_of, bytes_of, most_written, named_at, property_at, settled_object}
+use Rattle.pm_machine.specs.Steps.{Looks, Named, Puts, asked_of, bytes_of, named_at, property_at, settled_object}
 use Rattle.pm_object.specs.Honest.{IsHonest}
 use Rattle.pm_object.specs.State.{State}
 use Rattle.pm_rules.specs.declared.rule.Rule.{Rule}
@@ -12,6 +12,7 @@ use Rattle.pm_machine.specs.Building.{BuiltInPart}
 use Rattle.pm_props.specs.Sets.{only}
 use Rattle.pm_props.specs.declared.property.PropId.{PropId}
 use Rattle.pm_props.specs.declared.set.PropSet.{PropSet}
+use Rattle.pm_limits.specs.Limits.{most_file_bytes}
 
 -- what REF names is ensured the property in part
 pub record GaveInPart (book : List Rule) (old : Machine) (ref : RefSeen) (text : List ℕ) (new : Machine) : Type 0 where
@@ -43,7 +44,7 @@ pub record IsSettled (old : Machine) (ref : RefSeen) (words : List (List ℕ)) (
 
 -- nothing changes, or the object's file, which is not too long, is written in part
 abbrev pub SavedInPart : List Rule → Machine → List ℕ → List ℕ → Machine → Type 0
-SavedInPart book old name file new = Stays old new ⊎ ((o : State) × (old.object name ≡ Some o) × (length (bytes_of book o) ≤ most_written)
+SavedInPart book old name file new = Stays old new ⊎ ((o : State) × (old.object name ≡ Some o) × (length (bytes_of book o) ≤ most_file_bytes)
     × Puts (IsPutInPart file (bytes_of book o)) old new)
 
 -- of the events of the command first ones occurred: those of a command that ensures nothing are all or none

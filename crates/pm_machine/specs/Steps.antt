@@ -1,4 +1,4 @@
--- The machine: what each command may answer, and what it changes. Each refusal comes exactly where its line says, and the lines of one command exclude each other.
+-- The machine: what each command may answer, and what it changes. Each command has a type of the ways in which it may end: each way has its reply and says exactly when it comes, and the ways of one command exclude each other.
 use Rattle.std.specs.Prelude.{ℕ, ◌≡◌, ◌≢◌, ◌⊎◌, Bool, true, false, ◌++◌, ◌<◌, ◌≤◌, List, [], ◌∷◌, find, length, map, Option, Some, None, option_and_then, option_map, IfSome, if◌then◌else◌, codes, string_bytes}
 use Rattle.std.specs.List.{list_any}
 use Rattle.std.specs.Str.{bytes_eq}
@@ -9,14 +9,15 @@ use Rattle.pm_object_type.specs.declared.object_type.ObjectType.TheVariants.{Pol
 use Rattle.pm_json.specs.Texts.{Given, faulty, given_by, no_json, value}
 use Rattle.pm_json.specs.declared.fail.ValueFail.{ValueFail}
 use Rattle.pm_json.specs.declared.fail.ValueFail.TheVariants as fault
-use Rattle.pm_machine.specs.Chains.{AreBarred, held_names, table}
-use Rattle.pm_machine.specs.Events.{Configuration, Ensured, configuration}
+use Rattle.pm_rounds.specs.Chains.{AreBarred, held_names, table}
+use Rattle.pm_rounds.specs.Events.{Configuration, Ensured, configuration}
 use Rattle.pm_machine.specs.Building.{BuildStep, MakeStep}
-use Rattle.pm_machine.specs.Machines.{Becomes, Files, Gains, IsFree, Loses, Machine, OthersStay, Stays, Store, later_rounds, most_objects, no_rounds}
-use Rattle.pm_machine.specs.Reasons.{AreReasons}
-use Rattle.pm_machine.specs.declared.round.Ending.TheVariants as ending
+use Rattle.pm_machine.specs.Machines.{Becomes, Files, Gains, IsFree, Loses, Machine, OthersStay, Stays, Store, later_rounds, no_rounds}
+use Rattle.pm_rounds.specs.Reasons.{AreReasons}
+use Rattle.pm_rounds.specs.declared.round.Ending.TheVariants as ending
 use Rattle.pm_object.specs.Honest.{IsKept}
 use Rattle.pm_object.specs.State.{CanTake, CannotTake, HeldValue, RoundSeen, State, empty_object, given_at, is_disabled, is_held, is_sealed_at, place_named, program_refusal, read_at, settling, value_of, with_disabled, with_held, with_program}
+use Rattle.pm_object.specs.declared.held.Excluded.{Excluded}
 use Rattle.pm_object.specs.declared.held.Origin.{Origin}
 use Rattle.pm_object.specs.declared.held.ProgramFail.{ProgramFail}
 use Rattle.pm_object.specs.declared.held.ProgramFail.TheVariants as no_program
@@ -28,6 +29,8 @@ use Rattle.pm_filing.specs.FileReadings.{Reads, Refuses}
 use Rattle.pm_files.specs.Files.{SavedFile, file_bytes}
 use Rattle.pm_plan.specs.Plans.{HasNoPlan, IsCrowded, IsPlan}
 use Rattle.pm_object.specs.declared.held.Condition.TheVariants as condition
+use Rattle.pm_rules.specs.declared.table.TableRow.{TableRow}
+use Rattle.pm_script.specs.declared.names.Bar.{Bar}
 use Rattle.pm_script.specs.declared.refusal.FileWhy.{FileWhy}
 use Rattle.pm_script.specs.declared.refusal.FileWhy.TheVariants as file_why
 use Rattle.pm_store.specs.Files.{AreTold, FilesStay, IsPut, IsPutInPart, file_of, read_part}
@@ -47,6 +50,8 @@ use Rattle.pm_types.specs.Values.{PropertyValue}
 use Rattle.pm_props.specs.declared.kind.RuleId.{RuleId}
 use Rattle.pm_props.specs.declared.property.PropId.{PropId}
 use Rattle.pm_props.specs.declared.set.PropSet.{PropSet}
+use Rattle.pm_weights.specs.declared.Cost.{Cost}
+use Rattle.pm_limits.specs.Limits.{most_file_bytes, most_objects}
 
 -- what a REF names: an object, and a linear program of it where the REF has a part
 pub record Named : Type 0 where
@@ -86,28 +91,27 @@ why_of fault.Index = Some value_why.Index
 why_of fault.Limit = Some value_why.Limit
 why_of fault.Memory = None
 
--- `new NAME TYPE`
-abbrev pub NewObjectStep : Machine → List ℕ → List ℕ → ReplySeen → Machine → Type 0
-NewObjectStep old name text (refused UnknownType nothing) new = (type_word text ≡ None) × Stays old new
-NewObjectStep old name text (refused NameTaken nothing) new = (type_word text ≢ None) × (old.object name ≢ None) × Stays old new
-NewObjectStep old name text (refused ObjectsFull nothing) new = (type_word text ≢ None) × (old.object name ≡ None) × (most_objects ≤ length old.names) × Stays old new
-NewObjectStep old name text (done t) new = (of : ObjectType) × (type_word text ≡ Some of) × (old.object name ≡ None) × (length old.names < most_objects) × (t ≡ no_rounds) × Gains name (empty_object of) old new
-NewObjectStep old name text reply new = ⊥
+-- `new NAME TYPE`: the ways in which it may end
+pub data NewObjectStep (old : Machine) (name text : List ℕ) : ReplySeen → Machine → Type 0 where
+  no_such_type : {new : Machine} → type_word text ≡ None → Stays old new → NewObjectStep old name text (refused UnknownType nothing) new
+  is_taken : {new : Machine} → type_word text ≢ None → old.object name ≢ None → Stays old new → NewObjectStep old name text (refused NameTaken nothing) new
+  no_room : {new : Machine} → type_word text ≢ None → old.object name ≡ None → most_objects ≤ length old.names → Stays old new → NewObjectStep old name text (refused ObjectsFull nothing) new
+  is_made : {new : Machine} {t : Rounds} (of : ObjectType) → type_word text ≡ Some of → old.object name ≡ None → length old.names < most_objects → t ≡ no_rounds → Gains name (empty_object of) old new
+      → NewObjectStep old name text (done t) new
 
 -- the object of the name gets no linear program of that name, for this reason
 abbrev pub ProgramRefuses : Machine → List ℕ → List ℕ → ProgramFail → Machine → Type 0
 ProgramRefuses old name sub why new = (o : State) × (old.object name ≡ Some o) × (program_refusal o sub ≡ Some why) × Stays old new
 
--- `new NAME.SUB LP`
-abbrev pub NewProgramStep : Machine → List ℕ → List ℕ → List ℕ → ReplySeen → Machine → Type 0
-NewProgramStep old name sub text (refused UnknownType nothing) new =
-    ((is_program_word text ≡ false) × Stays old new) ⊎ ((is_program_word text ≡ true) × ProgramRefuses old name sub no_program.NotPolytope new)
-NewProgramStep old name sub text (refused UnknownName nothing) new = (is_program_word text ≡ true) × (old.object name ≡ None) × Stays old new
-NewProgramStep old name sub text (refused NameTaken nothing) new = (is_program_word text ≡ true) × ProgramRefuses old name sub no_program.NameTaken new
-NewProgramStep old name sub text (refused ObjectsFull nothing) new = (is_program_word text ≡ true) × ProgramRefuses old name sub no_program.Full new
-NewProgramStep old name sub text (done t) new = (is_program_word text ≡ true) × (o : State) × (old.object name ≡ Some o) × (program_refusal o sub ≡ None)
-    × (t ≡ no_rounds) × Becomes name (configuration (with_program o sub) old.clients) old new
-NewProgramStep old name sub text reply new = ⊥
+-- `new NAME.SUB LP`: the ways in which it may end
+pub data NewProgramStep (old : Machine) (name sub text : List ℕ) : ReplySeen → Machine → Type 0 where
+  other_word : {new : Machine} → is_program_word text ≡ false → Stays old new → NewProgramStep old name sub text (refused UnknownType nothing) new
+  other_type : {new : Machine} → is_program_word text ≡ true → ProgramRefuses old name sub no_program.NotPolytope new → NewProgramStep old name sub text (refused UnknownType nothing) new
+  no_such_name : {new : Machine} → is_program_word text ≡ true → old.object name ≡ None → Stays old new → NewProgramStep old name sub text (refused UnknownName nothing) new
+  is_taken : {new : Machine} → is_program_word text ≡ true → ProgramRefuses old name sub no_program.NameTaken new → NewProgramStep old name sub text (refused NameTaken nothing) new
+  no_room : {new : Machine} → is_program_word text ≡ true → ProgramRefuses old name sub no_program.Full new → NewProgramStep old name sub text (refused ObjectsFull nothing) new
+  is_made : {new : Machine} {t : Rounds} (o : State) → is_program_word text ≡ true → old.object name ≡ Some o → program_refusal o sub ≡ None → t ≡ no_rounds
+      → Becomes name (configuration (with_program o sub) old.clients) old new → NewProgramStep old name sub text (done t) new
 
 abbrev pub NewOf : Machine → List ℕ → Option (List ℕ) → List ℕ → ReplySeen → Machine → Type 0
 NewOf old name None text reply new = NewObjectStep old name text reply new
@@ -118,16 +122,15 @@ abbrev pub NewStep : Machine → RefSeen → List ℕ → ReplySeen → Machine 
 NewStep old ref text reply new = NewOf old ref.name ref.sub text reply new
 
 -- The object, or its program at a place, takes the value that the text gives, unless the first of these holds: it is held, the object (the program) is sealed, the text is no JSON, a fault of the value in reading order, it is another value of a program than its objective, its columns differ, a row fails its test or has no primitive row within the range.
-abbrev pub TakeValue : State → Option ℕ → PropId → Given → Option Refusal → Option PropertyValue → Type 0
-TakeValue o sub p g (Some AlreadyHeld) v = is_held p (read_at sub o.held) ≡ true
-TakeValue o sub p g (Some Sealed) v = (is_held p (read_at sub o.held) ≡ false) × (is_sealed_at sub o ≡ true)
-TakeValue o sub p no_json (Some (BadValue value_why.Json)) v = (is_held p (read_at sub o.held) ≡ false) × (is_sealed_at sub o ≡ false)
-TakeValue o sub p (faulty e) (Some (BadValue why)) v = (is_held p (read_at sub o.held) ≡ false) × (is_sealed_at sub o ≡ false) × (why_of e ≡ Some why)
-TakeValue o sub p (value w) (Some (BadValue value_why.Computed)) v = CannotTake o sub p w fail.NotOfType
-TakeValue o sub p (value w) (Some (BadValue value_why.Columns)) v = CannotTake o sub p w fail.Columns
-TakeValue o sub p (value w) (Some (BadValue value_why.Row)) v = CannotTake o sub p w fail.NotAThing
-TakeValue o sub p (value w) None v = (v ≡ Some w) × CanTake o sub p w
-TakeValue o sub p g why v = ⊥
+pub data TakeValue (o : State) (sub : Option ℕ) (p : PropId) : Given → Option Refusal → Option PropertyValue → Type 0 where
+  held_already : {g : Given} {v : Option PropertyValue} → is_held p (read_at sub o.held) ≡ true → TakeValue o sub p g (Some AlreadyHeld) v
+  is_sealed : {g : Given} {v : Option PropertyValue} → is_held p (read_at sub o.held) ≡ false → is_sealed_at sub o ≡ true → TakeValue o sub p g (Some Sealed) v
+  is_no_json : {v : Option PropertyValue} → is_held p (read_at sub o.held) ≡ false → is_sealed_at sub o ≡ false → TakeValue o sub p no_json (Some (BadValue value_why.Json)) v
+  has_fault : {e : ValueFail} {why : ValueWhy} {v : Option PropertyValue} → is_held p (read_at sub o.held) ≡ false → is_sealed_at sub o ≡ false → why_of e ≡ Some why → TakeValue o sub p (faulty e) (Some (BadValue why)) v
+  is_computed : {w : PropertyValue} {v : Option PropertyValue} → CannotTake o sub p w fail.NotOfType → TakeValue o sub p (value w) (Some (BadValue value_why.Computed)) v
+  other_columns : {w : PropertyValue} {v : Option PropertyValue} → CannotTake o sub p w fail.Columns → TakeValue o sub p (value w) (Some (BadValue value_why.Columns)) v
+  wrong_row : {w : PropertyValue} {v : Option PropertyValue} → CannotTake o sub p w fail.NotAThing → TakeValue o sub p (value w) (Some (BadValue value_why.Row)) v
+  takes : {w : PropertyValue} {v : Option PropertyValue} → v ≡ Some w → CanTake o sub p w → TakeValue o sub p (value w) None v
 
 -- what taking does to the object: it takes the value, or it stays and there is a reason
 abbrev pub Taken : State → Option ℕ → PropId → Given → Option Refusal → State → Type 0
@@ -139,17 +142,13 @@ abbrev pub TakeRefuses : Machine → RefSeen → List ℕ → List ℕ → Refus
 TakeRefuses old ref text json why new = (x : Named) × (named_at old ref ≡ Some x) × (p : PropId) × (property_at x text ≡ Some p)
     × TakeValue x.object x.sub p (given_by p json) (Some why) None × Stays old new
 
--- `take REF PROP JSON`
-abbrev pub TakeStep : Machine → RefSeen → List ℕ → List ℕ → ReplySeen → Machine → Type 0
-TakeStep old ref text json (refused UnknownName nothing) new = (named_at old ref ≡ None) × Stays old new
-TakeStep old ref text json (refused UnknownProperty nothing) new = (x : Named) × (named_at old ref ≡ Some x) × (property_at x text ≡ None) × Stays old new
-TakeStep old ref text json (refused AlreadyHeld nothing) new = TakeRefuses old ref text json AlreadyHeld new
-TakeStep old ref text json (refused Sealed nothing) new = TakeRefuses old ref text json Sealed new
-TakeStep old ref text json (refused (BadValue why) nothing) new = TakeRefuses old ref text json (BadValue why) new
-TakeStep old ref text json (done t) new = (x : Named) × (named_at old ref ≡ Some x) × (p : PropId) × (property_at x text ≡ Some p)
-    × (v : PropertyValue) × TakeValue x.object x.sub p (given_by p json) None (Some v) × (t ≡ no_rounds)
-    × Becomes ref.name (configuration (with_held x.object (given_at x.sub p v ∷ [])) old.clients) old new
-TakeStep old ref text json reply new = ⊥
+-- `take REF PROP JSON`: the ways in which it may end
+pub data TakeStep (old : Machine) (ref : RefSeen) (text json : List ℕ) : ReplySeen → Machine → Type 0 where
+  no_such_name : {new : Machine} → named_at old ref ≡ None → Stays old new → TakeStep old ref text json (refused UnknownName nothing) new
+  no_such_property : {new : Machine} (x : Named) → named_at old ref ≡ Some x → property_at x text ≡ None → Stays old new → TakeStep old ref text json (refused UnknownProperty nothing) new
+  not_taken : {new : Machine} {why : Refusal} → TakeRefuses old ref text json why new → TakeStep old ref text json (refused why nothing) new
+  now_held : {new : Machine} {t : Rounds} (x : Named) (p : PropId) (v : PropertyValue) → named_at old ref ≡ Some x → property_at x text ≡ Some p → TakeValue x.object x.sub p (given_by p json) None (Some v)
+      → t ≡ no_rounds → Becomes ref.name (configuration (with_held x.object (given_at x.sub p v ∷ [])) old.clients) old new → TakeStep old ref text json (done t) new
 
 -- the label and the weight of each rule of the book, and the names of the object's programs
 abbrev pub names_told : List Rule → State → NamesSeen
@@ -163,26 +162,22 @@ abbrev pub rounds_beside : Bool → List Rule → State → State → Remarks
 rounds_beside always book old new = remarks always (later_rounds old new) [] None (names_told book new)
 
 -- the object ensures the property p, of this program if one is asked, and its value is shown; or no chain leads there, or too many sets of names cost less
-abbrev pub Gives : List Rule → Configuration → Option ℕ → List ℕ → PropId → ReplySeen → Configuration → Type 0
-Gives book old sub name p (refused NoChain more) new = Ensured book sub (only p) ending.NoChain old new × (more ≡ rounds_beside false book old.object new.object)
-Gives book old sub name p (refused Crowded more) new = Ensured book sub (only p) ending.Crowded old new × (more ≡ rounds_beside false book old.object new.object)
-Gives book old sub name p (shows n of q v t) new = Ensured book sub (only p) ending.Found old new × (n ≡ name) × (of ≡ old.object.of) × (q ≡ p) × (value_of p (read_at sub new.object.held) ≡ Some v)
-    × (t ≡ named_rounds book new.object (later_rounds old.object new.object))
-Gives book old sub name p reply new = ⊥
+pub data Gives (book : List Rule) (old : Configuration) (sub : Option ℕ) (name : List ℕ) (p : PropId) : ReplySeen → Configuration → Type 0 where
+  no_chain : {new : Configuration} {more : Remarks} → Ensured book sub (only p) ending.NoChain old new → more ≡ rounds_beside false book old.object new.object → Gives book old sub name p (refused NoChain more) new
+  is_crowded : {new : Configuration} {more : Remarks} → Ensured book sub (only p) ending.Crowded old new → more ≡ rounds_beside false book old.object new.object → Gives book old sub name p (refused Crowded more) new
+  is_shown : {new : Configuration} {n : List ℕ} {of : ObjectType} {q : PropId} {v : PropertyValue} {t : Rounds} → Ensured book sub (only p) ending.Found old new → n ≡ name → of ≡ old.object.of → q ≡ p
+      → value_of p (read_at sub new.object.held) ≡ Some v → t ≡ named_rounds book new.object (later_rounds old.object new.object) → Gives book old sub name p (shows n of q v t) new
 
 -- what REF names does so for the property of this name
 abbrev pub Gave : List Rule → Machine → RefSeen → List ℕ → ReplySeen → Machine → Type 0
 Gave book old ref text reply new = (x : Named) × (named_at old ref ≡ Some x) × (p : PropId) × (property_at x text ≡ Some p)
     × (c : Configuration) × Gives book (configuration x.object old.clients) x.sub (ref_text ref) p reply c × Becomes ref.name c old new
 
--- `give REF PROP`
-abbrev pub GiveStep : List Rule → Machine → RefSeen → List ℕ → ReplySeen → Machine → Type 0
-GiveStep book old ref text (refused UnknownName nothing) new = (named_at old ref ≡ None) × Stays old new
-GiveStep book old ref text (refused UnknownProperty nothing) new = (x : Named) × (named_at old ref ≡ Some x) × (property_at x text ≡ None) × Stays old new
-GiveStep book old ref text (refused NoChain more) new = Gave book old ref text (refused NoChain more) new
-GiveStep book old ref text (refused Crowded more) new = Gave book old ref text (refused Crowded more) new
-GiveStep book old ref text (shows name of p v t) new = Gave book old ref text (shows name of p v t) new
-GiveStep book old ref text reply new = ⊥
+-- `give REF PROP`: the ways in which it may end
+pub data GiveStep (book : List Rule) (old : Machine) (ref : RefSeen) (text : List ℕ) : ReplySeen → Machine → Type 0 where
+  no_such_name : {new : Machine} → named_at old ref ≡ None → Stays old new → GiveStep book old ref text (refused UnknownName nothing) new
+  no_such_property : {new : Machine} (x : Named) → named_at old ref ≡ Some x → property_at x text ≡ None → Stays old new → GiveStep book old ref text (refused UnknownProperty nothing) new
+  is_asked : {new : Machine} {reply : ReplySeen} → Gave book old ref text reply new → GiveStep book old ref text reply new
 
 -- the properties that the words name there, if each names one
 abbrev pub all_named : ObjectType → Option ℕ → List (List ℕ) → Option (List PropId)
@@ -198,94 +193,81 @@ abbrev pub asked_of : Named → List (List ℕ) → Option PropSet
 asked_of x words = asked_in x.object.of x.sub words
 
 -- the object ensures what is asked, of this program if one is asked; or no chain leads there, or too many sets of names cost less
-abbrev pub Ensures : List Rule → Configuration → Option ℕ → PropSet → ReplySeen → Configuration → Type 0
-Ensures book old sub asked (refused NoChain more) new = Ensured book sub asked ending.NoChain old new × (more ≡ rounds_beside true book old.object new.object)
-Ensures book old sub asked (refused Crowded more) new = Ensured book sub asked ending.Crowded old new × (more ≡ rounds_beside true book old.object new.object)
-Ensures book old sub asked (ensured t) new = Ensured book sub asked ending.Found old new × (t ≡ named_rounds book new.object (later_rounds old.object new.object))
-Ensures book old sub asked reply new = ⊥
+pub data Ensures (book : List Rule) (old : Configuration) (sub : Option ℕ) (asked : PropSet) : ReplySeen → Configuration → Type 0 where
+  no_chain : {new : Configuration} {more : Remarks} → Ensured book sub asked ending.NoChain old new → more ≡ rounds_beside true book old.object new.object → Ensures book old sub asked (refused NoChain more) new
+  is_crowded : {new : Configuration} {more : Remarks} → Ensured book sub asked ending.Crowded old new → more ≡ rounds_beside true book old.object new.object → Ensures book old sub asked (refused Crowded more) new
+  is_found : {new : Configuration} {t : Rounds} → Ensured book sub asked ending.Found old new → t ≡ named_rounds book new.object (later_rounds old.object new.object) → Ensures book old sub asked (ensured t) new
 
 -- what REF names does so for what these words ask
 abbrev pub EnsuredAll : List Rule → Machine → RefSeen → List (List ℕ) → ReplySeen → Machine → Type 0
 EnsuredAll book old ref words reply new = (x : Named) × (named_at old ref ≡ Some x) × (asked : PropSet) × (asked_of x words ≡ Some asked)
     × (c : Configuration) × Ensures book (configuration x.object old.clients) x.sub asked reply c × Becomes ref.name c old new
 
--- `ensure REF PROP ..`
-abbrev pub EnsureStep : List Rule → Machine → RefSeen → List (List ℕ) → ReplySeen → Machine → Type 0
-EnsureStep book old ref words (refused UnknownName nothing) new = (named_at old ref ≡ None) × Stays old new
-EnsureStep book old ref words (refused UnknownProperty nothing) new = (x : Named) × (named_at old ref ≡ Some x) × (asked_of x words ≡ None) × Stays old new
-EnsureStep book old ref words (refused NoChain more) new = EnsuredAll book old ref words (refused NoChain more) new
-EnsureStep book old ref words (refused Crowded more) new = EnsuredAll book old ref words (refused Crowded more) new
-EnsureStep book old ref words (ensured t) new = EnsuredAll book old ref words (ensured t) new
-EnsureStep book old ref words reply new = ⊥
+-- `ensure REF PROP ..`: the ways in which it may end
+pub data EnsureStep (book : List Rule) (old : Machine) (ref : RefSeen) (words : List (List ℕ)) : ReplySeen → Machine → Type 0 where
+  no_such_name : {new : Machine} → named_at old ref ≡ None → Stays old new → EnsureStep book old ref words (refused UnknownName nothing) new
+  no_such_property : {new : Machine} (x : Named) → named_at old ref ≡ Some x → asked_of x words ≡ None → Stays old new → EnsureStep book old ref words (refused UnknownProperty nothing) new
+  is_asked : {new : Machine} {reply : ReplySeen} → EnsuredAll book old ref words reply new → EnsureStep book old ref words reply new
 
 -- the object when it is settled
 abbrev pub settled_object : State → State
 settled_object o = with_held o (settling o)
 
 -- the chain is least from what the settled object holds to all that is asked, of this program if one is asked, among those that avoid the rules barred there, and the table proves it least; or no chain leads there, or too many sets of names cost less: then the barred rules are told with their reasons, and the table
-abbrev pub Explains : List Rule → Clients → State → Option ℕ → PropSet → ReplySeen → Type 0
-Explains book clients o sub asked (explained chain weight rows names) = (barred : List RuleId) × AreBarred book clients o sub barred
-    × IsPlan book (table sub o.of) barred (held_names sub o) asked chain weight rows × (names ≡ names_told book o)
-Explains book clients o sub asked (refused NoChain (planned told rows names)) = (barred : List RuleId) × AreBarred book clients o sub barred
-    × HasNoPlan book (table sub o.of) barred (held_names sub o) asked rows × AreReasons book clients o sub told × (names ≡ names_told book o)
-Explains book clients o sub asked (refused Crowded (planned told rows names)) = (barred : List RuleId) × AreBarred book clients o sub barred
-    × IsCrowded book (table sub o.of) barred (held_names sub o) asked rows × AreReasons book clients o sub told × (names ≡ names_told book o)
-Explains book clients o sub asked reply = ⊥
+pub data Explains (book : List Rule) (clients : Clients) (o : State) (sub : Option ℕ) (asked : PropSet) : ReplySeen → Type 0 where
+  is_planned : {chain : List RuleId} {weight : Cost} {rows : List TableRow} {names : NamesSeen} (barred : List RuleId) → AreBarred book clients o sub barred
+      → IsPlan book (table sub o.of) barred (held_names sub o) asked chain weight rows → names ≡ names_told book o → Explains book clients o sub asked (explained chain weight rows names)
+  no_chain : {told : List (RuleId × Bar)} {rows : List TableRow} {names : NamesSeen} (barred : List RuleId) → AreBarred book clients o sub barred
+      → HasNoPlan book (table sub o.of) barred (held_names sub o) asked rows → AreReasons book clients o sub told → names ≡ names_told book o → Explains book clients o sub asked (refused NoChain (planned told rows names))
+  is_crowded : {told : List (RuleId × Bar)} {rows : List TableRow} {names : NamesSeen} (barred : List RuleId) → AreBarred book clients o sub barred
+      → IsCrowded book (table sub o.of) barred (held_names sub o) asked rows → AreReasons book clients o sub told → names ≡ names_told book o → Explains book clients o sub asked (refused Crowded (planned told rows names))
 
 -- the object that REF names is settled, and it is explained how what these words ask would be found
 abbrev pub ExplainedAll : List Rule → Machine → RefSeen → List (List ℕ) → ReplySeen → Machine → Type 0
 ExplainedAll book old ref words reply new = (x : Named) × (named_at old ref ≡ Some x) × (asked : PropSet) × (asked_of x words ≡ Some asked)
     × Explains book old.clients (settled_object x.object) x.sub asked reply × Becomes ref.name (configuration (settled_object x.object) old.clients) old new
 
--- `explain REF PROP ..`
-abbrev pub ExplainStep : List Rule → Machine → RefSeen → List (List ℕ) → ReplySeen → Machine → Type 0
-ExplainStep book old ref words (refused UnknownName nothing) new = (named_at old ref ≡ None) × Stays old new
-ExplainStep book old ref words (refused UnknownProperty nothing) new = (x : Named) × (named_at old ref ≡ Some x) × (asked_of x words ≡ None) × Stays old new
-ExplainStep book old ref words (explained chain weight rows names) new = ExplainedAll book old ref words (explained chain weight rows names) new
-ExplainStep book old ref words (refused NoChain (planned told rows names)) new = ExplainedAll book old ref words (refused NoChain (planned told rows names)) new
-ExplainStep book old ref words (refused Crowded (planned told rows names)) new = ExplainedAll book old ref words (refused Crowded (planned told rows names)) new
-ExplainStep book old ref words reply new = ⊥
+-- `explain REF PROP ..`: the ways in which it may end
+pub data ExplainStep (book : List Rule) (old : Machine) (ref : RefSeen) (words : List (List ℕ)) : ReplySeen → Machine → Type 0 where
+  no_such_name : {new : Machine} → named_at old ref ≡ None → Stays old new → ExplainStep book old ref words (refused UnknownName nothing) new
+  no_such_property : {new : Machine} (x : Named) → named_at old ref ≡ Some x → asked_of x words ≡ None → Stays old new → ExplainStep book old ref words (refused UnknownProperty nothing) new
+  is_asked : {new : Machine} {reply : ReplySeen} → ExplainedAll book old ref words reply new → ExplainStep book old ref words reply new
 
--- `history NAME`
-abbrev pub HistoryStep : List Rule → Machine → List ℕ → ReplySeen → Machine → Type 0
-HistoryStep book old name (refused UnknownName nothing) new = (old.object name ≡ None) × Stays old new
-HistoryStep book old name (tells t excluded) new = (o : State) × (old.object name ≡ Some o) × (t ≡ named_rounds book o o.rounds) × (excluded ≡ o.excluded) × Stays old new
-HistoryStep book old name reply new = ⊥
+-- `history NAME`: the ways in which it may end
+pub data HistoryStep (book : List Rule) (old : Machine) (name : List ℕ) : ReplySeen → Machine → Type 0 where
+  no_such_name : {new : Machine} → old.object name ≡ None → Stays old new → HistoryStep book old name (refused UnknownName nothing) new
+  is_told : {new : Machine} {t : Rounds} {excluded : List Excluded} (o : State) → old.object name ≡ Some o → t ≡ named_rounds book o o.rounds → excluded ≡ o.excluded → Stays old new → HistoryStep book old name (tells t excluded) new
 
--- `lookup REF PROP`
-abbrev pub LookupStep : Machine → RefSeen → List ℕ → ReplySeen → Machine → Type 0
-LookupStep old ref text (refused UnknownName nothing) new = (named_at old ref ≡ None) × Stays old new
-LookupStep old ref text (refused UnknownProperty nothing) new = (x : Named) × (named_at old ref ≡ Some x) × (property_at x text ≡ None) × Stays old new
-LookupStep old ref text undef new = (x : Named) × (named_at old ref ≡ Some x) × (p : PropId) × (property_at x text ≡ Some p) × (value_of p (read_at x.sub x.object.held) ≡ None) × Stays old new
-LookupStep old ref text (shows name of p v t) new = (x : Named) × (named_at old ref ≡ Some x) × (property_at x text ≡ Some p) × (name ≡ ref_text ref) × (of ≡ x.object.of)
-    × (value_of p (read_at x.sub x.object.held) ≡ Some v) × (t ≡ no_rounds) × Stays old new
-LookupStep old ref text reply new = ⊥
+-- `lookup REF PROP`: the ways in which it may end
+pub data LookupStep (old : Machine) (ref : RefSeen) (text : List ℕ) : ReplySeen → Machine → Type 0 where
+  no_such_name : {new : Machine} → named_at old ref ≡ None → Stays old new → LookupStep old ref text (refused UnknownName nothing) new
+  no_such_property : {new : Machine} (x : Named) → named_at old ref ≡ Some x → property_at x text ≡ None → Stays old new → LookupStep old ref text (refused UnknownProperty nothing) new
+  not_held : {new : Machine} (x : Named) (p : PropId) → named_at old ref ≡ Some x → property_at x text ≡ Some p → value_of p (read_at x.sub x.object.held) ≡ None → Stays old new → LookupStep old ref text undef new
+  is_shown : {new : Machine} {name : List ℕ} {of : ObjectType} {p : PropId} {v : PropertyValue} {t : Rounds} (x : Named) → named_at old ref ≡ Some x → property_at x text ≡ Some p → name ≡ ref_text ref → of ≡ x.object.of
+      → value_of p (read_at x.sub x.object.held) ≡ Some v → t ≡ no_rounds → Stays old new → LookupStep old ref text (shows name of p v t) new
 
--- `copy NAME NEW`
-abbrev pub CopyStep : Machine → List ℕ → List ℕ → ReplySeen → Machine → Type 0
-CopyStep old name to (refused UnknownName nothing) new = (old.object name ≡ None) × Stays old new
-CopyStep old name to (refused NameTaken nothing) new = (old.object name ≢ None) × (old.object to ≢ None) × Stays old new
-CopyStep old name to (refused ObjectsFull nothing) new = (old.object name ≢ None) × (old.object to ≡ None) × (most_objects ≤ length old.names) × Stays old new
-CopyStep old name to (done t) new = (t ≡ no_rounds) × (o : State) × (old.object name ≡ Some o) × (old.object to ≡ None) × (length old.names < most_objects) × Gains to o old new
-CopyStep old name to reply new = ⊥
+-- `copy NAME NEW`: the ways in which it may end
+pub data CopyStep (old : Machine) (name to : List ℕ) : ReplySeen → Machine → Type 0 where
+  no_such_name : {new : Machine} → old.object name ≡ None → Stays old new → CopyStep old name to (refused UnknownName nothing) new
+  is_taken : {new : Machine} → old.object name ≢ None → old.object to ≢ None → Stays old new → CopyStep old name to (refused NameTaken nothing) new
+  no_room : {new : Machine} → old.object name ≢ None → old.object to ≡ None → most_objects ≤ length old.names → Stays old new → CopyStep old name to (refused ObjectsFull nothing) new
+  is_copied : {new : Machine} {t : Rounds} (o : State) → t ≡ no_rounds → old.object name ≡ Some o → old.object to ≡ None → length old.names < most_objects → Gains to o old new → CopyStep old name to (done t) new
 
--- `drop NAME`
-abbrev pub DropStep : Machine → List ℕ → ReplySeen → Machine → Type 0
-DropStep old name (refused UnknownName nothing) new = (old.object name ≡ None) × Stays old new
-DropStep old name (done t) new = (t ≡ no_rounds) × (old.object name ≢ None) × Loses name old new
-DropStep old name reply new = ⊥
+-- `drop NAME`: the ways in which it may end
+pub data DropStep (old : Machine) (name : List ℕ) : ReplySeen → Machine → Type 0 where
+  no_such_name : {new : Machine} → old.object name ≡ None → Stays old new → DropStep old name (refused UnknownName nothing) new
+  is_dropped : {new : Machine} {t : Rounds} → t ≡ no_rounds → old.object name ≢ None → Loses name old new → DropStep old name (done t) new
 
 -- how the value of a property came to be held, if it is held
 abbrev pub origin_of : PropId → List HeldValue → Option Origin
 origin_of p held = option_map (λ h. h.origin) (find (λ h. same_property p h.property) held)
 
--- `origin REF PROP`
-abbrev pub OriginStep : Machine → RefSeen → List ℕ → ReplySeen → Machine → Type 0
-OriginStep old ref text (refused UnknownName nothing) new = (named_at old ref ≡ None) × Stays old new
-OriginStep old ref text (refused UnknownProperty nothing) new = (x : Named) × (named_at old ref ≡ Some x) × (property_at x text ≡ None) × Stays old new
-OriginStep old ref text undef new = (x : Named) × (named_at old ref ≡ Some x) × (p : PropId) × (property_at x text ≡ Some p) × (value_of p (read_at x.sub x.object.held) ≡ None) × Stays old new
-OriginStep old ref text (tells_origin g) new = (x : Named) × (named_at old ref ≡ Some x) × (p : PropId) × (property_at x text ≡ Some p) × (origin_of p (read_at x.sub x.object.held) ≡ Some g) × Stays old new
-OriginStep old ref text reply new = ⊥
+-- `origin REF PROP`: the ways in which it may end
+pub data OriginStep (old : Machine) (ref : RefSeen) (text : List ℕ) : ReplySeen → Machine → Type 0 where
+  no_such_name : {new : Machine} → named_at old ref ≡ None → Stays old new → OriginStep old ref text (refused UnknownName nothing) new
+  no_such_property : {new : Machine} (x : Named) → named_at old ref ≡ Some x → property_at x text ≡ None → Stays old new → OriginStep old ref text (refused UnknownProperty nothing) new
+  not_held : {new : Machine} (x : Named) (p : PropId) → named_at old ref ≡ Some x → property_at x text ≡ Some p → value_of p (read_at x.sub x.object.held) ≡ None → Stays old new → OriginStep old ref text undef new
+  is_told : {new : Machine} {g : Origin} (x : Named) (p : PropId) → named_at old ref ≡ Some x → property_at x text ≡ Some p → origin_of p (read_at x.sub x.object.held) ≡ Some g → Stays old new → OriginStep old ref text (tells_origin g) new
 
 -- ---- files
 -- the files that are told, if they are, are as before; the count of faults does not fall
@@ -339,22 +321,20 @@ IsFault (file_why.BadRow name) e = e ≡ bad_row (string_bytes name)
 IsFault (file_why.BadProfile key) e = e ≡ bad_profile (string_bytes key)
 
 -- the bytes are refused for this reason, and nothing changes; or they are read as a file, and the object that is made of it is one more, of this name
-abbrev pub FileRead : List Rule → List ℕ → List ℕ → ReplySeen → Machine → Machine → Type 0
-FileRead book name bytes (refused (BadFile why) nothing) old new = (e : FileFault) × Refuses bytes e × IsFault why e × Stays old new
-FileRead book name bytes (loaded names) old new = (f : SavedFile) × Reads bytes f × (names ≡ read_over f) × Gains name (loaded_object book f) old new
-FileRead book name bytes reply old new = ⊥
+pub data FileRead (book : List Rule) (name bytes : List ℕ) : ReplySeen → Machine → Machine → Type 0 where
+  bad_file : {old new : Machine} {why : FileWhy} (e : FileFault) → Refuses bytes e → IsFault why e → Stays old new → FileRead book name bytes (refused (BadFile why) nothing) old new
+  is_loaded : {old new : Machine} {names : List (List ℕ)} (f : SavedFile) → Reads bytes f → names ≡ read_over f → Gains name (loaded_object book f) old new → FileRead book name bytes (loaded names) old new
 
--- `load NAME FILE`
-abbrev pub LoadStep : List Rule → Machine → List ℕ → List ℕ → ReplySeen → Machine → Type 0
-LoadStep book old name file (refused NameTaken nothing) new = (old.object name ≢ None) × Stays old new
-LoadStep book old name file (refused ObjectsFull nothing) new = (old.object name ≡ None) × (most_objects ≤ length old.names) × Stays old new
-LoadStep book old name file (refused StoreFault nothing) new = IsFree old name × Fails old new × Looks old new
-LoadStep book old name file (refused NoSuchFile nothing) new = IsFree old name × HasNone old.store file × Looks old new
-LoadStep book old name file (refused (BadFile why) nothing) new = IsFree old name × (bytes : List ℕ) × HasBytes old.store file bytes
-    × (e : FileFault) × Refuses bytes e × IsFault why e × Looks old new
-LoadStep book old name file (loaded names) new = IsFree old name × (bytes : List ℕ) × HasBytes old.store file bytes
-    × (f : SavedFile) × Reads bytes f × (names ≡ read_over f) × LooksAndGains name (loaded_object book f) old new
-LoadStep book old name file reply new = ⊥
+-- `load NAME FILE`: the ways in which it may end
+pub data LoadStep (book : List Rule) (old : Machine) (name file : List ℕ) : ReplySeen → Machine → Type 0 where
+  is_taken : {new : Machine} → old.object name ≢ None → Stays old new → LoadStep book old name file (refused NameTaken nothing) new
+  no_room : {new : Machine} → old.object name ≡ None → most_objects ≤ length old.names → Stays old new → LoadStep book old name file (refused ObjectsFull nothing) new
+  store_failed : {new : Machine} → IsFree old name → Fails old new → Looks old new → LoadStep book old name file (refused StoreFault nothing) new
+  no_such_file : {new : Machine} → IsFree old name → HasNone old.store file → Looks old new → LoadStep book old name file (refused NoSuchFile nothing) new
+  bad_file : {new : Machine} {why : FileWhy} (bytes : List ℕ) (e : FileFault) → IsFree old name → HasBytes old.store file bytes → Refuses bytes e → IsFault why e → Looks old new
+      → LoadStep book old name file (refused (BadFile why) nothing) new
+  is_loaded : {new : Machine} {names : List (List ℕ)} (bytes : List ℕ) (f : SavedFile) → IsFree old name → HasBytes old.store file bytes → Reads bytes f → names ≡ read_over f → LooksAndGains name (loaded_object book f) old new
+      → LoadStep book old name file (loaded names) new
 
 -- what the store did with the bytes under the name, and how often it failed; all else stays
 pub record Puts (Did : Files → Files → Type 0) (old new : Machine) : Type 0 where
@@ -364,10 +344,6 @@ pub record Puts (Did : Files → Files → Type 0) (old new : Machine) : Type 0 
   pub files : AreTold Did old.store.files new.store.files
   pub faults : old.store.faults ≤ new.store.faults
 
--- the most bytes of a file that is written
-abbrev pub most_written : ℕ
-most_written = 8388608
-
 -- the bytes of the object's file
 abbrev pub bytes_of : List Rule → State → List ℕ
 bytes_of book o = file_bytes (saved_file book o)
@@ -376,20 +352,18 @@ bytes_of book o = file_bytes (saved_file book o)
 abbrev pub IsSavedWhole : List Rule → State → Type 0
 IsSavedWhole book o = (f : SavedFile) × Reads (bytes_of book o) f × IsLoadedAgain book o f
 
--- `save NAME FILE`
-abbrev pub SaveStep : List Rule → Machine → List ℕ → List ℕ → ReplySeen → Machine → Type 0
-SaveStep book old name file (refused UnknownName nothing) new = (old.object name ≡ None) × Stays old new
-SaveStep book old name file (refused (NotFit condition.Size) nothing) new = (o : State) × (old.object name ≡ Some o) × (most_written < length (bytes_of book o)) × Stays old new
-SaveStep book old name file (refused StoreFault nothing) new = (o : State) × (old.object name ≡ Some o) × (length (bytes_of book o) ≤ most_written)
-    × Fails old new × Puts (IsPutInPart file (bytes_of book o)) old new
-SaveStep book old name file (done t) new = (t ≡ no_rounds) × (o : State) × (old.object name ≡ Some o) × (length (bytes_of book o) ≤ most_written)
-    × Puts (IsPut file (bytes_of book o)) old new × IsSavedWhole book o
-SaveStep book old name file reply new = ⊥
+-- `save NAME FILE`: the ways in which it may end
+pub data SaveStep (book : List Rule) (old : Machine) (name file : List ℕ) : ReplySeen → Machine → Type 0 where
+  no_such_name : {new : Machine} → old.object name ≡ None → Stays old new → SaveStep book old name file (refused UnknownName nothing) new
+  is_long : {new : Machine} (o : State) → old.object name ≡ Some o → most_file_bytes < length (bytes_of book o) → Stays old new → SaveStep book old name file (refused (NotFit condition.Size) nothing) new
+  store_failed : {new : Machine} (o : State) → old.object name ≡ Some o → length (bytes_of book o) ≤ most_file_bytes → Fails old new → Puts (IsPutInPart file (bytes_of book o)) old new
+      → SaveStep book old name file (refused StoreFault nothing) new
+  is_saved : {new : Machine} {t : Rounds} (o : State) → t ≡ no_rounds → old.object name ≡ Some o → length (bytes_of book o) ≤ most_file_bytes → Puts (IsPut file (bytes_of book o)) old new → IsSavedWhole book o
+      → SaveStep book old name file (done t) new
 
--- `rules`
-abbrev pub RulesStep : List Rule → Machine → ReplySeen → Machine → Type 0
-RulesStep book old (lists_rules n text) new = (n ≡ length book) × (text ≡ text_of book) × Stays old new
-RulesStep book old reply new = ⊥
+-- `rules`: the book is listed
+pub data RulesStep (book : List Rule) (old : Machine) : ReplySeen → Machine → Type 0 where
+  is_listed : {new : Machine} {n : ℕ} {text : List ℕ} → n ≡ length book → text ≡ text_of book → Stays old new → RulesStep book old (lists_rules n text) new
 
 -- some rule of the book has the label
 abbrev pub has_label : List ℕ → List Rule → Bool
@@ -399,12 +373,12 @@ has_label label book = list_any (λ rule. bytes_eq rule.label label) book
 abbrev pub disabling : State → List ℕ → State
 disabling o label = if is_disabled label o.disabled then o else with_disabled o label
 
--- `disable NAME LABEL`
-abbrev pub DisableStep : List Rule → Machine → List ℕ → List ℕ → ReplySeen → Machine → Type 0
-DisableStep book old name label (refused UnknownName nothing) new = (old.object name ≡ None) × Stays old new
-DisableStep book old name label (refused UnknownRule nothing) new = (old.object name ≢ None) × (has_label label book ≡ false) × Stays old new
-DisableStep book old name label (done t) new = (t ≡ no_rounds) × (o : State) × (old.object name ≡ Some o) × (has_label label book ≡ true) × Becomes name (configuration (disabling o label) old.clients) old new
-DisableStep book old name label reply new = ⊥
+-- `disable NAME LABEL`: the ways in which it may end
+pub data DisableStep (book : List Rule) (old : Machine) (name label : List ℕ) : ReplySeen → Machine → Type 0 where
+  no_such_name : {new : Machine} → old.object name ≡ None → Stays old new → DisableStep book old name label (refused UnknownName nothing) new
+  no_such_rule : {new : Machine} → old.object name ≢ None → has_label label book ≡ false → Stays old new → DisableStep book old name label (refused UnknownRule nothing) new
+  now_disabled : {new : Machine} {t : Rounds} (o : State) → t ≡ no_rounds → old.object name ≡ Some o → has_label label book ≡ true → Becomes name (configuration (disabling o label) old.clients) old new
+      → DisableStep book old name label (done t) new
 
 -- some client has the name
 abbrev pub is_client : List ℕ → Clients → Bool
@@ -422,11 +396,10 @@ pub record Unloads (name : List ℕ) (old new : Machine) : Type 0 where
   pub clients : new.clients ≡ without_client name old.clients
   pub store : new.store ≡ old.store
 
--- `unload CLIENT`
-abbrev pub UnloadStep : Machine → List ℕ → ReplySeen → Machine → Type 0
-UnloadStep old name (refused UnknownRule nothing) new = (is_client name old.clients ≡ false) × Stays old new
-UnloadStep old name (done t) new = (t ≡ no_rounds) × (is_client name old.clients ≡ true) × Unloads name old new
-UnloadStep old name reply new = ⊥
+-- `unload CLIENT`: the ways in which it may end
+pub data UnloadStep (old : Machine) (name : List ℕ) : ReplySeen → Machine → Type 0 where
+  no_such_client : {new : Machine} → is_client name old.clients ≡ false → Stays old new → UnloadStep old name (refused UnknownRule nothing) new
+  is_unloaded : {new : Machine} {t : Rounds} → t ≡ no_rounds → is_client name old.clients ≡ true → Unloads name old new → UnloadStep old name (done t) new
 
 -- from the machine old the reply to the command may be given, and it goes on as new
 abbrev pub Step : List Rule → Machine → Spoken → ReplySeen → Machine → Type 0

@@ -1,10 +1,10 @@
 // What is asked of an object: values, plans and its history.
 
-ghost use Rattle.pm_machine.specs.Events.{EnsuredInPart, configuration};
-ghost use Rattle.pm_machine.specs.Reasons.{AreReasons};
+ghost use Rattle.pm_rounds.specs.Events.{EnsuredInPart, configuration};
+ghost use Rattle.pm_rounds.specs.Reasons.{AreReasons};
 ghost use Rattle.pm_machine.specs.Machines.{no_rounds};
 ghost use Rattle.pm_machine.specs.Building.{rules_told};
-ghost use Rattle.pm_machine.specs.Running.{HasPlace};
+ghost use Rattle.pm_rounds.specs.Running.{HasPlace};
 ghost use Rattle.pm_machine.specs.Steps.{Ensures, Explains, Gives, asked_in, named_rounds, names_told, settled_object};
 ghost use Rattle.pm_object.specs.Views.{round_seen};
 ghost use Rattle.pm_props.specs.Sets.{only};
@@ -12,15 +12,13 @@ ghost use Rattle.pm_props.specs.declared.kind.RuleId.{RuleId};
 ghost use Rattle.pm_script.specs.Replies.{explained, names_seen, planned, refused, seen, shows, tells};
 ghost use Rattle.pm_script.specs.declared.names.Bar.{Bar};
 ghost use Rattle.pm_types.specs.Views.{view_of};
-ghost use Rattle.std.specs.Prelude.{IfOk, List, None, OnErr, drop, map, string_bytes, ◌⊎◌, ◌≡◌};
+ghost use Rattle.std.specs.Prelude.{IfOk, List, OnErr, drop, map, string_bytes, ◌⊎◌, ◌≡◌};
 
-use crate::chain::{barred_rules, table};
-use crate::reasons::reasons;
-use crate::round::{Ending, ensure};
 use crate::taking::property_named;
 use pm_client::Client;
 use pm_object::{Object, Round, copy_excluded, copy_rounds};
 use pm_plan::{Plan, PlanEnd, plan};
+use pm_rounds::{Ending, barred_rules, ensure, reasons, table};
 use pm_rules::{Book, Rule, Table};
 use pm_script::{Names, Refusal, Reply};
 use pm_types::{ObjectType, PropId, PropSet, Value};
@@ -120,6 +118,7 @@ fn show(
 }
 
 /// Ensures a property, of this program if one is asked, and shows its value after the name.
+#[tactic(auto, using(crate::proofs::Ways::giving_ways))]
 pub fn give_value(
     alloc: Global,
     object: &mut Object,
@@ -155,6 +154,7 @@ pub fn give_value(
 }
 
 /// Ensures what is asked, of this program if one is asked, and tells the rounds.
+#[tactic(auto, using(crate::proofs::Ways::ensuring_ways))]
 pub fn ensure_values(
     alloc: Global,
     object: &mut Object,

@@ -8,9 +8,6 @@ use pm_filing::FileFail;
 use pm_json::ValueFail;
 use pm_script::{FileWhy, ValueWhy};
 
-/// The most bytes of a file that is written.
-pub const MOST_WRITTEN: usize = 8_388_608;
-
 // The reason of a fault of a value; want of memory is none.
 fn why_of_value(fail: ValueFail) -> Option<ValueWhy>
     ensures { IfSome result (λ why. fault_of_why why ≡ Some fail) }

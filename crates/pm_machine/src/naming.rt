@@ -1,7 +1,7 @@
 // Rules by their labels, and clients by their names.
 
 ghost use Rattle.pm_machine.specs.Steps.{has_label, is_client, without_client};
-ghost use Rattle.std.specs.List.{list_any, remove};
+ghost use Rattle.std.specs.List.{remove};
 ghost use Rattle.std.specs.Prelude.{IfNone, IfSome, IsTrue, false, length, map, ◌<◌, ◌≡◌};
 ghost use Rattle.std.specs.Str.{bytes_eq};
 

@@ -1,9 +1,9 @@
 // A session: named objects, the book, and its steps.
 
 ghost use Rattle.pm_machine.specs.Parts.{AllHonest, SavedInPart, StepInPart};
-ghost use Rattle.pm_machine.specs.Running.{HasPlace};
+ghost use Rattle.pm_rounds.specs.Running.{HasPlace};
 ghost use Rattle.pm_machine.specs.Sessions.{MakesNamed, book_of, is_spent, machine_at, machine_of};
-ghost use Rattle.pm_machine.specs.Machines.{Gains, Stays, most_objects};
+ghost use Rattle.pm_machine.specs.Machines.{Gains, Stays};
 ghost use Rattle.pm_machine.specs.Steps.{AllKept, CopyStep, DisableStep, DropStep, EnsureStep, ExplainStep, GiveStep, FileRead, HistoryStep, LoadStep, Looks, LookupStep, NewStep, OriginStep, NewObjectStep, NewProgramStep, RulesStep, SaveStep, Step, TakeStep, UnloadStep, is_program_word, named_at, part_named, type_word};
 ghost use Rattle.pm_command.specs.Commands.{blank, ensure_values, explain_values, give_value, is_on_files, seen_ref, spoken};
 ghost use Rattle.pm_command.specs.Grammar.{is_sub, ref_text};
@@ -11,10 +11,11 @@ ghost use Rattle.pm_props.specs.NameWords.{is_name};
 ghost use Rattle.pm_script.specs.Replies.{seen};
 ghost use Rattle.std.specs.Bool.{OnFalse, OnTrue};
 ghost use Rattle.std.specs.Option.{option_map};
-ghost use Rattle.std.specs.Prelude.{IfOk, IfSome, IsTrue, List, None, OnErr, OnOk, Option, Some, [], false, length, map, string_bytes, true, ℕ, ◌⊎◌, ◌+◌, ◌<◌, ◌≡◌, ◌≢◌, ◌≤◌};
+ghost use Rattle.std.specs.Prelude.{IfOk, IfSome, IsTrue, List, None, OnErr, OnOk, Option, Some, [], false, length, map, string_bytes, true, ℕ, ◌<◌, ◌≡◌, ◌≢◌, ◌≤◌};
+ghost use Rattle.pm_limits.specs.Limits.{most_objects};
 
 use crate::asking::{asked_in, ensure_values, explain_values, give_value, show_held, tell_history};
-use crate::files::{MOST_WRITTEN, why_of_file};
+use crate::files::why_of_file;
 use crate::naming::{has_label, place_named};
 use crate::origins::origin_of;
 use crate::taking::{property_named, take_text};
@@ -23,15 +24,13 @@ use pm_books::book_text;
 use pm_client::Client;
 use pm_command::{Command, Ref};
 use pm_filing::{load_object, save_object};
+use pm_limits::{MOST_FILE_BYTES, MOST_OBJECTS};
 use pm_object::{Object, ProgramFail};
 use pm_rules::Book;
 use pm_script::{Condition, Refusal, Reply};
 use pm_store::{Store, StoreFail};
 use pm_types::ObjectType;
 use std::alloc::{AllocError, Global};
-
-/// The greatest number of objects.
-pub const MOST_OBJECTS: usize = 32;
 
 /// Objects by name, in the order in which they came, and the book of rules.
 #[derive(Drop)]
@@ -118,6 +117,7 @@ impl Session {
     }
 
     // `lookup REF PROP`
+    #[tactic(auto, using(crate::proofs::Ways::lookup_ways))]
     fn do_lookup(
         &self,
         alloc: Global,
@@ -163,6 +163,7 @@ impl Session {
     }
 
     // `new NAME TYPE`
+    #[tactic(auto, using(crate::proofs::Ways::new_object_ways))]
     fn do_new_object(
         &mut self,
         alloc: Global,
@@ -192,6 +193,7 @@ impl Session {
     }
 
     // `new NAME.SUB LP`
+    #[tactic(auto, using(crate::proofs::Ways::new_program_ways))]
     fn do_new_program(
         &mut self,
         alloc: Global,
@@ -250,6 +252,7 @@ impl Session {
     }
 
     // `copy NAME NEW`
+    #[tactic(auto, using(crate::proofs::Ways::copy_ways))]
     fn do_copy(
         &mut self,
         alloc: Global,
@@ -310,6 +313,7 @@ impl Session {
     }
 
     // `take REF PROP JSON`
+    #[tactic(auto, using(crate::proofs::Ways::take_ways))]
     fn do_take(
         &mut self,
         alloc: Global,
@@ -344,6 +348,7 @@ impl Session {
     }
 
     // `give REF PROP`
+    #[tactic(auto, using(crate::proofs::Ways::give_ways))]
     fn do_give(
         &mut self,
         alloc: Global,
@@ -375,6 +380,7 @@ impl Session {
     }
 
     // `ensure REF PROP ..`
+    #[tactic(auto, using(crate::proofs::Ways::ensure_ways))]
     fn do_ensure(
         &mut self,
         alloc: Global,
@@ -406,6 +412,7 @@ impl Session {
     }
 
     // `explain REF PROP ..`
+    #[tactic(auto, using(crate::proofs::Ways::explain_ways))]
     fn do_explain(
         &mut self,
         alloc: Global,
@@ -437,6 +444,7 @@ impl Session {
     }
 
     // `history NAME`
+    #[tactic(auto, using(crate::proofs::Ways::history_ways))]
     fn do_history(
         &self,
         alloc: Global,
@@ -454,6 +462,7 @@ impl Session {
     }
 
     // `rules`
+    #[tactic(auto, using(crate::proofs::Ways::rules_ways))]
     fn do_rules(&self, alloc: Global, clients: &[Box<dyn Client>]) -> Result<Reply, AllocError>
         ensures { IfOk result (λ r. RulesStep (book_of self.now)
             (machine_of self.now (map tally clients.now)) (seen r)
@@ -466,6 +475,7 @@ impl Session {
     }
 
     // `disable NAME LABEL`
+    #[tactic(auto, using(crate::proofs::Ways::disable_ways))]
     fn do_disable(
         &mut self,
         alloc: Global,
@@ -492,6 +502,7 @@ impl Session {
     }
 
     // `unload CLIENT`
+    #[tactic(auto, using(crate::proofs::Ways::unload_ways))]
     fn do_unload(&self, alloc: Global, client: &str, clients: &mut Vec<Box<dyn Client>>) -> Reply
         ensures { UnloadStep (machine_of self.now (map tally clients.old.items)) client.now
             (seen result)
@@ -505,6 +516,7 @@ impl Session {
     }
 
     // `load NAME FILE`
+    #[tactic(auto, using(crate::proofs::Ways::load_ways))]
     fn do_load<F: Store>(
         &mut self,
         alloc: Global,
@@ -542,6 +554,7 @@ impl Session {
     }
 
     // Adds the object of the bytes of a file, under a new name.
+    #[tactic(auto, using(crate::proofs::Ways::file_ways))]
     fn add_file(&mut self, alloc: Global, name: String, bytes: &[u8]) -> Result<Reply, AllocError>
         requires { (machine_of self.old []).object (string_bytes name) ≡ None }
         ensures read { IfOk result (λ r. FileRead (book_of self.old) (string_bytes name) bytes.now (seen r)
@@ -563,6 +576,7 @@ impl Session {
     }
 
     // `save NAME FILE`
+    #[tactic(auto, using(crate::proofs::Ways::save_ways))]
     fn do_save<F: Store>(
         &self,
         alloc: Global,
@@ -585,7 +599,7 @@ impl Session {
             return Ok(Reply::refused(alloc, Refusal::UnknownName));
         };
         let bytes = save_object(alloc, &self.book, object)?;
-        if bytes.len() > MOST_WRITTEN {
+        if bytes.len() > MOST_FILE_BYTES {
             return Ok(Reply::refused(alloc, Refusal::NotFit(Condition::Size)));
         }
         match store.put(alloc, file, &bytes) {

@@ -2,7 +2,7 @@
 
 ghost use Rattle.pm_json.specs.Texts.{Given, given_by, value};
 ghost use Rattle.pm_machine.specs.Steps.{TakeValue, Taken, property_named, why_of};
-ghost use Rattle.pm_machine.specs.Running.{HasPlace};
+ghost use Rattle.pm_rounds.specs.Running.{HasPlace};
 ghost use Rattle.pm_object.specs.State.{CanTake, CannotTake, given_at, is_held, is_sealed_at, read_at, with_held};
 ghost use Rattle.pm_types.specs.Forms.{is_formed};
 ghost use Rattle.pm_types.specs.Views.{view_of};
@@ -81,6 +81,7 @@ fn take_read(
 }
 
 // Why the object, or its program at a place, takes no value of a property at all; None where it may take one.
+#[tactic(auto, using(crate::proofs::Ways::value_ways))]
 fn takes_none(object: &Object, sub: Option<u8>, p: PropId) -> Option<Refusal>
     ensures some { IfSome result (λ why. (g : Given) →
         TakeValue object.now.state sub p g (Some why) None) }
@@ -98,6 +99,7 @@ fn takes_none(object: &Object, sub: Option<u8>, p: PropId) -> Option<Refusal>
 
 /// Takes the value of a property that a JSON text gives to the object, or to its program at a place, or says why not; then
 /// nothing changes.
+#[tactic(auto, using(crate::proofs::Ways::value_ways))]
 pub fn take_text(
     alloc: Global,
     object: &mut Object,

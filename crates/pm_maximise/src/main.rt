@@ -7,19 +7,17 @@
 
 mod problem;
 
+use pm_limits::MOST_FILE_BYTES;
 use pm_store::{Sink, StdSink, StdSource, read_up_to, write_all};
 use problem::{Fault, answer_line};
 use std::process::ExitCode;
 use std::str;
 
-/// The most bytes that are read.
-const LIMIT: usize = 8_388_608;
-
 fn main(rt: HostRuntime) -> ExitCode {
     let alloc = rt.alloc();
     let mut source = StdSource::new(rt.stdin());
     let mut sink = StdSink::new(rt.stdout());
-    let Ok(bytes) = read_up_to(alloc, &mut source, LIMIT) else {
+    let Ok(bytes) = read_up_to(alloc, &mut source, MOST_FILE_BYTES) else {
         return ExitCode::from(3);
     };
     let Ok(text) = str::from_utf8(&bytes) else {

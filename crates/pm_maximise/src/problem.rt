@@ -2,9 +2,11 @@
 
 ghost use Rattle.pm_vector.specs.Rows.{HasCols};
 ghost use Rattle.std.specs.Prelude.{IfOk, IsTrue, length, ◌≡◌, ◌<◌, ◌≤◌, ◌^◌};
+ghost use Rattle.pm_limits.specs.Limits.{most_rows};
 
 use pm_fraction::Fraction;
 use pm_json::{ValueFail, read_value};
+use pm_limits::{MOST_COLUMNS, MOST_ROWS};
 use pm_matrix::{Matrix, RowsFail};
 use pm_simplex::{LpAnswer, LpFail, maximise_rows};
 use pm_types::{PropId, Value};
@@ -52,13 +54,13 @@ fn have_cols(rows: &[Ints], cols: usize) -> bool
     true
 }
 
-// The primitive whole rows of a line's matrix, each with so many entries; at most 2,048.
+// The primitive whole rows of a line's matrix, each with so many entries; at most `MOST_ROWS`.
 fn rows_of(alloc: Global, line: &str, cols: usize) -> Result<Vec<Ints>, Fault>
     ensures cols { IfOk result (λ rows. HasCols cols rows.items) }
-    ensures few { IfOk result (λ rows. length rows.items ≤ 2048) }
+    ensures few { IfOk result (λ rows. length rows.items ≤ most_rows) }
 {
     let matrix = matrix_of(alloc, line)?;
-    if matrix.rows() > 2048 {
+    if matrix.rows() > MOST_ROWS {
         return Err(Fault::Refused);
     }
     let rows = match matrix.to_primitive_rows(alloc) {
@@ -66,7 +68,7 @@ fn rows_of(alloc: Global, line: &str, cols: usize) -> Result<Vec<Ints>, Fault>
         Err(RowsFail::Memory) => return Err(Fault::Memory),
         Err(RowsFail::Wide { .. }) => return Err(Fault::Refused),
     };
-    if rows.len() > 2048 || !have_cols(&rows, cols) {
+    if rows.len() > MOST_ROWS || !have_cols(&rows, cols) {
         return Err(Fault::Refused);
     }
     Ok(rows)
@@ -120,7 +122,7 @@ pub(crate) fn answer_line(alloc: Global, text: &str) -> Result<String, Fault> {
         return Err(Fault::Refused);
     };
     let matrix = matrix_of(alloc, objective)?;
-    if matrix.rows() != 1 || matrix.cols() == 0 || matrix.cols() > 33 {
+    if matrix.rows() != 1 || matrix.cols() == 0 || matrix.cols() > MOST_COLUMNS {
         return Err(Fault::Refused);
     }
     solved(alloc, inequalities, equations, matrix.row(0))

@@ -20,6 +20,7 @@ use Rattle.std.specs.List.{list_all, All}
 use Rattle.std.specs.Option.{is_some, unwrap_or}
 use Rattle.std.specs.Prelude.{Bool, List, None, Option, Some, [], length, nat_eq, nat_le, ℕ, ◌&&◌, ◌||◌, ◌<◌, ◌≤◌, ◌∷◌, ◌≡◌, IsTrue}
 use lib.IntN.{pos}
+use Rattle.pm_limits.specs.Limits.{most_columns, most_rows}
 
 pub known_cols : (c : Option ℕ) → is_some c ≡ true → c ≡ Some (unwrap_or c 1)
 known_cols None h = absurd (true≢false (sym h))
@@ -79,26 +80,26 @@ no_matrix o p v r f k e none =
     let forms = held_forms o p v f k (sym e) in
     true≢false (ap is_some (sym (matrix_formed v (sym (formed_is p r v) ∙ forms.formed)) ∙ sym none))
 
-pub cols_between : (o : State) (n : ℕ) → IsFormed o → Some n ≡ cols_of o.held → (1 ≤ n) × (n ≤ 33)
+pub cols_between : (o : State) (n : ℕ) → IsFormed o → Some n ≡ cols_of o.held → (1 ≤ n) × (n ≤ most_columns)
 cols_between o n f e =
     let range : is_dimension (pos n) ≡ true = cols_range o.of (length o.programs) o.held n (λ g i. f.each g (Contains_among i)) (sym e) in
-    let p = and_parts (nat_le 1 n) (nat_le n 33) range in (leb-true 1 n p.0, leb-true n 33 p.1)
+    let p = and_parts (nat_le 1 n) (nat_le n most_columns) range in (leb-true 1 n p.0, leb-true n most_columns p.1)
 
 stated_is : (m n : ℕ) → 1 ≤ m → (nat_eq m 0 || nat_eq m n) ≡ true → m ≡ n
 stated_is m n l h = grind arith
 
 columns_some : (m : ℕ) (rows : List (List Ratio)) → 0 < length rows → is_column_count rows m ≡ true → 1 ≤ m
 columns_some m [] some h = absurd (omega arith)
-columns_some m (r ∷ rows) some h = leb-true 1 m (and_parts (nat_le 1 m) (nat_le m 33) h).0
+columns_some m (r ∷ rows) some h = leb-true 1 m (and_parts (nat_le 1 m) (nat_le m most_columns) h).0
 
 module _ (of : ObjectType) (n : ℕ) (p : PropId) (m : ℕ) (rows : List (List Ratio)) (r : IsOfRows p) (f : FormsIn of n p (matrix m rows)) where
-  form_parts : (nat_le (length rows) 2048 ≡ true) × (is_column_count rows m ≡ true)
+  form_parts : (nat_le (length rows) most_rows ≡ true) × (is_column_count rows m ≡ true)
   form_parts =
       let form : is_matrix_form m rows ≡ true = sym (formed_is p r (matrix m rows)) ∙ f.formed in
-      and_parts (nat_le (length rows) 2048) (is_column_count rows m) (and_parts (nat_le (length rows) 2048 && is_column_count rows m) (list_all (is_row_of_entries m) rows) form).0
+      and_parts (nat_le (length rows) most_rows) (is_column_count rows m) (and_parts (nat_le (length rows) most_rows && is_column_count rows m) (list_all (is_row_of_entries m) rows) form).0
 
-  pub rows_few : length rows ≤ 2048
-  rows_few = leb-true (length rows) 2048 form_parts.0
+  pub rows_few : length rows ≤ most_rows
+  rows_few = leb-true (length rows) most_rows form_parts.0
 
   pub rows_cols : 0 < length rows → m ≡ n
   rows_cols some = stated_is m n (columns_some m rows some form_parts.1) (sym (agrees_is p r n m rows) ∙ f.columns)
@@ -156,7 +157,7 @@ pub record IsHeldRow (of : ObjectType) (p : PropId) (n : ℕ) (r : List Ratio) :
 
 -- its rows, not too many
 pub record AreHeldRows (p : PropId) (o : State) : Type 0 where
-  pub few : length (rows_at p o) ≤ 2048
+  pub few : length (rows_at p o) ≤ most_rows
   pub each : All (IsHeldRow o.of p (cols_at o)) (rows_at p o)
 
 rows_of_form : (p : PropId) (o : State) → IsOfRows p → HasRows p o → AreHeldRows p o
@@ -166,7 +167,7 @@ rows_of_form p o r w = record { few = rows_few o.of (cols_at o) p w.m (rows_at p
     form = sym (formed_is p r (matrix w.m (rows_at p o))) ∙ w.forms.formed
 
     lengths : All (λ x. is_row_of_entries w.m x ≡ true) (rows_at p o)
-    lengths = AllPass-from_list_all (is_row_of_entries w.m) (rows_at p o) (and_parts (nat_le (length (rows_at p o)) 2048 && is_column_count (rows_at p o) w.m) (list_all (is_row_of_entries w.m) (rows_at p o)) form).1
+    lengths = AllPass-from_list_all (is_row_of_entries w.m) (rows_at p o) (and_parts (nat_le (length (rows_at p o)) most_rows && is_column_count (rows_at p o) w.m) (list_all (is_row_of_entries w.m) (rows_at p o)) form).1
 
     tests : All (λ x. is_row o.of p x ≡ true) (rows_at p o)
     tests = AllPass-from_list_all (is_row o.of p) (rows_at p o) w.forms.rows
@@ -194,7 +195,7 @@ known_sets ps p o r f k i =
     let g = has_sets p o r f k.cols (among_All (λ q. IsTrue (is_held q (read_at None o.held))) i k.held) in
     sym (sets_formed_is p r (value_of_sets (sets_at p o))) ∙ g.formed
 
-pub known_columns : (ps : List PropId) (o : State) → IsFormed o → IsKnown ps o → (1 ≤ cols_at o) × (cols_at o ≤ 33)
+pub known_columns : (ps : List PropId) (o : State) → IsFormed o → IsKnown ps o → (1 ≤ cols_at o) × (cols_at o ≤ most_columns)
 known_columns ps o f k = cols_between o (cols_at o) f (sym (known_cols (cols_of o.held) k.cols))
 
 pub polytope_is : (t : ObjectType) → is_polytope t ≡ true → t ≡ Polytope

@@ -1,7 +1,7 @@
 -- An object with one linear program more.
 use Rattle.pm_vector.proofs.Lists.{Contains_among}
 use Rattle.pm_object.specs.Formed.{ArePrograms, IsFormed, IsFormedIn, are_different, is_placed}
-use Rattle.pm_object.specs.State.{HeldValue, State, cols_of, is_polytope, most_programs, place_from, program_refusal, with_program}
+use Rattle.pm_object.specs.State.{HeldValue, State, cols_of, is_polytope, place_from, program_refusal, with_program}
 use Rattle.pm_props.specs.NameWords.{is_name}
 use Rattle.pm_props.specs.Properties.{has_program}
 use Rattle.pm_object_type.specs.declared.object_type.ObjectType.{ObjectType}
@@ -14,6 +14,7 @@ use Rattle.std.specs.List.{Contains, list_all, list_any}
 use Rattle.std.specs.Option.{is_some}
 use Rattle.std.specs.Prelude.{Bool, List, None, Option, Some, String, [], if◌then◌else◌, length, map, nat_le, nat_lt, not, string_bytes, suc, ℕ, ◌&&◌, ◌+◌, ◌++◌, ◌||◌, ◌≡◌, ◌∷◌}
 use Rattle.std.specs.Str.{bytes_eq}
+use Rattle.pm_limits.specs.Limits.{most_programs}
 
 -- ---- values stand where they stood
 still_less : (s k : ℕ) → nat_lt s k ≡ true → nat_lt s (k + 1) ≡ true

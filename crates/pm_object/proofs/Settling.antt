@@ -23,6 +23,7 @@ use Rattle.std.specs.List.{All, AllByRecursion, list_all}
 use Rattle.std.specs.Option.{is_some, unwrap_or}
 use Rattle.std.specs.Prelude.{Bool, IfSome, List, None, Option, Some, [], if◌then◌else◌, length, map, nat_eq, nat_le, nat_lt, not, ℕ, ◌&&◌, ◌||◌, ◌++◌, ◌^◌, ◌<◌, ◌≡◌, ◌∷◌}
 use lib.IntN.{pos}
+use Rattle.pm_limits.specs.Limits.{most_columns, most_rows}
 
 -- the properties that are settled as matrices without rows
 data Plain : PropId → Type 0 where
@@ -107,7 +108,7 @@ at_most [] n h k = grind arith
 at_most (r ∷ rows) n h k = h
 
 column_count : (n : ℕ) (rows : List (List Ratio)) → is_matrix_form n rows ≡ true → is_column_count rows n ≡ true
-column_count n rows h = and_right (nat_le (length rows) 2048) (is_column_count rows n) (and_left (nat_le (length rows) 2048 && is_column_count rows n) (list_all (is_row_of_entries n) rows) h)
+column_count n rows h = and_right (nat_le (length rows) most_rows) (is_column_count rows n) (and_left (nat_le (length rows) most_rows && is_column_count rows n) (list_all (is_row_of_entries n) rows) h)
 
 -- a property whose rows have the thing's columns is no table
 matrix_at_most : (p : PropId) (n : ℕ) (rows : List (List Ratio)) → is_columned p ≡ true → is_matrix_of p n rows ≡ true → nat_eq n 0 ≡ false → is_dimension (pos n) ≡ true
@@ -158,7 +159,7 @@ pub cols_fit : (o : State) (c : Option ℕ) → IsFormed o → c ≡ cols_of o.h
 cols_fit o None f e = tt
 cols_fit o (Some n) f e =
     let range : is_dimension (pos n) ≡ true = cols_range o.of (length o.programs) o.held n (λ g i. f.each g (Contains_among i)) (sym e) in
-    let few = leb-true n 33 (and_right (nat_le 1 n) (nat_le n 33) range) in
+    let few = leb-true n most_columns (and_right (nat_le 1 n) (nat_le n most_columns) range) in
     omega arith
 
 -- the dimension that is settled

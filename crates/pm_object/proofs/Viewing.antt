@@ -24,6 +24,7 @@ use Rattle.std.proofs.lemmas.Bool.{and_parts}
 use Rattle.std.specs.Option.{is_some, option_map}
 use Rattle.std.specs.Prelude.{Bool, IfSome, IsTrue, List, None, Option, Some, [], if◌then◌else◌, length, nat_le, nat_lt, not, ℕ, ◌&&◌, ◌≡◌, ◌∷◌}
 use lib.IntN.{pos}
+use Rattle.pm_limits.specs.Limits.{most_columns}
 
 -- what is read at a place stands there, and is held
 pub among_read : (sub : Option ℕ) (held : List HeldValue) {h : HeldValue} → Among h (read_at sub held) → Among h held × (h.place ≡ place_of sub h.property)
@@ -100,8 +101,8 @@ of_programs_only o f h = by h.place
 
 pub is_view : (o : State) (sub : Option ℕ) (kind : Kind) (n : ℕ) → IsFormed o → IsViewed o sub kind n → IsView (view_for o sub kind n)
 is_view o sub kind n f viewed = record {
-  some_cols = and_left (nat_le 1 n) (nat_le n 33) range;
-  few_cols = and_right (nat_le 1 n) (nat_le n 33) range;
+  some_cols = and_left (nat_le 1 n) (nat_le n most_columns) range;
+  few_cols = and_right (nat_le 1 n) (nat_le n most_columns) range;
   sources = λ p h. named p h (value_of p (read_at sub o.held)) refl (viewed.sources p h);
   only = λ g i. source g (among_Contains (shown kind sub (facts o.held)) i);
   placed = λ g i. placed g (among_Contains (shown kind sub (facts o.held)) i);

@@ -10,10 +10,11 @@ use Rattle.pm_props.specs.declared.property.PropId.{PropId}
 use Rattle.pm_types.specs.Forms.{AreFractions, HavePrimitiveRows, is_formed, are_rows}
 use Rattle.pm_props.specs.declared.property.PropId.TheVariants.{ConeAmbientDim}
 use Rattle.pm_object.specs.Honest.{has_tag}
-use Rattle.pm_object.specs.State.{HeldValue, State, agrees, cols_of, has_rounds, is_held, is_polytope, most_programs, read_at}
+use Rattle.pm_object.specs.State.{HeldValue, State, agrees, cols_of, has_rounds, is_held, is_polytope, read_at}
 use Rattle.pm_object.specs.declared.held.Excluded.{Excluded}
 use Rattle.pm_object.specs.declared.held.Why.{Why}
 use Rattle.pm_object.specs.declared.held.Why.TheVariants as why
+use Rattle.pm_limits.specs.Limits.{most_programs}
 
 -- a value of the property stands at the place
 abbrev pub stands_at : Option ℕ → PropId → List HeldValue → Bool

@@ -14,6 +14,7 @@ use Rattle.pm_props.specs.declared.kind.Kind.{Kind}
 use Rattle.pm_props.specs.declared.property.PropId.{PropId}
 use Rattle.pm_object.specs.Honest.{facts}
 use Rattle.pm_object.specs.State.{State, cols_of, is_held, read_at}
+use Rattle.pm_limits.specs.Limits.{most_columns}
 
 -- the type and the column count of an object, the kind of a client, the program that is asked if one is, and the values of the kind's sources
 pub record ViewSeen : Type 0 where
@@ -36,7 +37,7 @@ pub record IsViewed (o : State) (sub : Option ℕ) (kind : Kind) (n : ℕ) : Typ
 -- what is so of every view: n is from 1 to 33, all sources are there and nothing else, those of linear programs at the program that is asked, which is a polytope's, the values have their forms, and all names of the kind are in use
 pub record IsView (v : ViewSeen) : Type 0 where
   pub some_cols : IsTrue (nat_le 1 v.cols)
-  pub few_cols : IsTrue (nat_le v.cols 33)
+  pub few_cols : IsTrue (nat_le v.cols most_columns)
   pub sources : (p : PropId) → IsTrue (has v.kind.sources p) → IsTrue (is_named v.facts v.sub p)
   pub only : (f : Fact) → Contains v.facts f → IsTrue (has v.kind.sources f.property)
   pub placed : (f : Fact) → Contains v.facts f → f.place ≡ place_of v.sub f.property

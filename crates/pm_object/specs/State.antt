@@ -28,6 +28,7 @@ use Rattle.pm_object.specs.declared.held.TakeFail.TheVariants as refused
 use Rattle.pm_object.specs.declared.held.ProgramFail.{ProgramFail}
 use Rattle.pm_object.specs.declared.held.ProgramFail.TheVariants as program
 use lib.IntN.{pos}
+use Rattle.pm_limits.specs.Limits.{most_programs}
 
 -- a place, a property, its value, and how the value came to be held
 pub record HeldValue : Type 0 where
@@ -162,11 +163,6 @@ CannotTake o sub p v e = take_refusal o sub p v ≡ Some e
 -- a given value of the property, where it stands for who asks this program, if one is asked
 abbrev pub given_at : Option ℕ → PropId → PropertyValue → HeldValue
 given_at sub p v = record { place = place_of sub p; property = p; value = v; origin = Given }
-
--- ---- linear programs
--- the greatest number of linear programs of an object
-abbrev pub most_programs : ℕ
-most_programs = 4
 
 -- the place of a name in a list, counted from k
 abbrev pub place_from : ℕ → List ℕ → List (List ℕ) → Option ℕ

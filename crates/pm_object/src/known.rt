@@ -6,6 +6,7 @@ ghost use Rattle.pm_types.specs.Forms.{FormsIn};
 ghost use Rattle.pm_types.specs.Views.{view_of};
 ghost use Rattle.std.specs.Option.{is_some, option_map};
 ghost use Rattle.std.specs.Prelude.{IsTrue, None, Some, ◌≡◌, ◌≤◌};
+ghost use Rattle.pm_limits.specs.Limits.{most_columns};
 
 use crate::object::Object;
 use pm_matrix::Matrix;
@@ -84,7 +85,7 @@ pub fn cols_at(o: &Object) -> usize
     requires { IsTrue (is_some (cols_of o.now.state.held)) }
     ensures value { result ≡ cols_at o.now.state }
     ensures some { 1 ≤ result }
-    ensures few { result ≤ 33 }
+    ensures few { result ≤ most_columns }
 {
     let Some(n) = o.cols() else { unreachable!() };
     n

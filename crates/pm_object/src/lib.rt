@@ -27,6 +27,6 @@ pub use laws::{
     law_based_is_kept, law_commit_is_honest, law_empty_is_kept, law_honesty_is_of_values,
     law_objective_is_kept, law_settled_is_kept,
 };
-pub use object::{MOST_PROGRAMS, Object};
+pub use object::Object;
 pub use tests_of_values::{agrees, are_rows, require_primitive_rows, stated_cols};
 pub use view::View;

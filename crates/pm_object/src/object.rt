@@ -24,12 +24,13 @@ use crate::held::{Excluded, Held, Origin, ProgramFail, Round, TakeFail};
 use crate::settled::{push_if, settled_values};
 use crate::tests_of_values::{agrees, are_rows, first_cols, reads_entries, require_primitive_rows};
 use crate::view::View;
+use pm_limits::MOST_PROGRAMS;
 use pm_types::{Kind, ObjectType, PropId, PropSet, Value};
 use std::alloc::{AllocError, Global};
 use std::marker::Model;
 
 /// The greatest number of linear programs of an object.
-pub const MOST_PROGRAMS: u8 = 4;
+const PROGRAM_LIMIT: u8 = MOST_PROGRAMS as u8;
 
 /// An object: a polytope, cone or fan with what is known of it.
 #[derive(Debug, Drop)]
@@ -187,7 +188,7 @@ impl Object {
         if self.program(name).is_some() {
             return Err(ProgramFail::NameTaken);
         }
-        if self.programs() >= MOST_PROGRAMS {
+        if self.programs() >= PROGRAM_LIMIT {
             return Err(ProgramFail::Full);
         }
         Ok(())

@@ -9,6 +9,7 @@ ghost use Rattle.pm_types.specs.Values.{extended};
 ghost use Rattle.pm_types.specs.Views.{extended_of, view_of};
 ghost use Rattle.std.specs.List.{list_all};
 ghost use Rattle.std.specs.Prelude.{All, IfErr, IsTrue, OnOk, length, map, ◌≡◌, ◌≢◌, ◌≤◌};
+ghost use Rattle.pm_limits.specs.Limits.{most_rows};
 
 use crate::held::{Held, TakeFail};
 use pm_fraction::Fraction;
@@ -227,7 +228,7 @@ fn reads_number(number: Number)
 }
 
 fn require_primitive_matrix(alloc: Global, matrix: &Matrix) -> Result<(), TakeFail>
-    requires { length matrix.now.rows ≤ 2048 }
+    requires { length matrix.now.rows ≤ most_rows }
     ensures ok { OnOk result (All HasPrimitiveRow matrix.now.rows) }
     ensures entries { All (All IsFraction) matrix.now.rows }
     ensures refused { IfErr result (λ e. e ≢ TakeFail.Memory → (e ≡ TakeFail.NotAThing) × ¬ (All HasPrimitiveRow matrix.now.rows)) }

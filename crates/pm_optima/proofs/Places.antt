@@ -12,6 +12,7 @@ use Rattle.std.proofs.lemmas.List.Quantifiers.{all_pairs_push}
 use Rattle.std.specs.List.{Contains, list_all}
 use Rattle.std.specs.Prelude.{List, [], length, map, nat_le, ℕ, ◌+◌, ◌++◌, ◌∷◌, ◌≡◌, ◌≤◌, ◌<◌, ◌^◌}
 use lib.IntN.{pos, ℤ}
+use Rattle.pm_limits.specs.Limits.{most_rows}
 
 -- w vanishes on the row at that place
 abbrev pub VanishesAt : Row → List Row → ℕ → Type 0
@@ -33,7 +34,7 @@ module _ (w : Row) (V : List Row) (n : ℕ) (ks : List ℤ) (so_far : PlacesSoFa
   a = so_far.are
 
   -- a row more on which it vanishes
-  place_more : VanishesAt w V n → n ≤ 2048 → AreZeroPlaces w V (n + 1) (ks ++ to_z w64 n ∷ [])
+  place_more : VanishesAt w V n → n ≤ most_rows → AreZeroPlaces w V (n + 1) (ks ++ to_z w64 n ∷ [])
   place_more z few = record {
     js = a.js ++ n ∷ [];
     places = ap (λ k. ks ++ k ∷ []) (to_z_pos w64 n (omega arith)) ∙ ap (λ xs. xs ++ pos n ∷ []) a.places ∙ sym (map_push pos a.js n);
@@ -53,7 +54,7 @@ module _ (w : Row) (V : List Row) (n : ℕ) (ks : List ℤ) (so_far : PlacesSoFa
         | inr g ↦ (let l = h.0 in let same : n ≡ j = omega arith in subst (Contains (a.js ++ n ∷ [])) same (Contains-push a.js n))
       ]
 
-  pub one_more : (more : List ℤ) → VanishesAt w V n → n ≤ 2048 → more ≡ ks ++ to_z w64 n ∷ [] → PlacesSoFar w V (n + 1) more
+  pub one_more : (more : List ℤ) → VanishesAt w V n → n ≤ most_rows → more ≡ ks ++ to_z w64 n ∷ [] → PlacesSoFar w V (n + 1) more
   one_more more z few e = subst (PlacesSoFar w V (n + 1)) (sym e) (record { are = place_more z few; few = let long = length-append ks (to_z w64 n ∷ []) in let low = so_far.few in omega arith })
 
   -- a row more on which it does not
@@ -74,7 +75,7 @@ bits_of : (js : List ℕ) → ((j : ℕ) → Contains js j → j < 2 ^ 63) → l
 bits_of [] h = refl
 bits_of (j ∷ js) h = and_from (has_64_bits (pos j)) (list_all has_64_bits (map pos js)) (lt-ltb j (2 ^ 63) (h j (0, (omega arith), refl))) (bits_of js (λ i c. h i (suc c.0, (let l = c.1 in omega arith), c.2)))
 
-pub places_form : (w : Row) (V : List Row) (n : ℕ) (ks : List ℤ) → PlacesSoFar w V n ks → n ≤ 2048 → is_counts_form ks ≡ true
+pub places_form : (w : Row) (V : List Row) (n : ℕ) (ks : List ℤ) → PlacesSoFar w V n ks → n ≤ most_rows → is_counts_form ks ≡ true
 places_form w V n ks so_far few =
-    and_from (nat_le (length ks) 2048) (list_all has_64_bits ks) (le-leb (length ks) 2048 (let low = so_far.few in omega arith))
+    and_from (nat_le (length ks) most_rows) (list_all has_64_bits ks) (le-leb (length ks) most_rows (let low = so_far.few in omega arith))
     (subst (λ zs. list_all has_64_bits zs ≡ true) (sym so_far.are.places) (bits_of so_far.are.js (λ j c. let h = (so_far.are.each j).0 c in let l = h.0 in omega arith)))

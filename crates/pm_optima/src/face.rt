@@ -11,6 +11,7 @@ ghost use Rattle.pm_types.specs.Forms.{HasPrimitiveRow, is_counts_form};
 ghost use Rattle.pm_types.specs.Programs.{ArePlacesOfValue};
 ghost use Rattle.pm_types.specs.Values.{finite};
 ghost use Rattle.std.specs.Prelude.{IfErr, IfNone, IfOk, IfSome, IsTrue, length, suc, ℕ, ◌<◌, ◌≡◌, ◌≤◌};
+ghost use Rattle.pm_limits.specs.Limits.{most_rows};
 
 use crate::objective::primitive_objective;
 use crate::products::wide_pair;
@@ -72,7 +73,7 @@ fn primitive_level(
 /// The places of the rows on which a row vanishes, ascending.
 fn zero_places(alloc: Global, row: &Ints, rows: &[Ints]) -> Result<Vec<i64>, LpFail>
     requires cols { HasCols (length row.now) rows.now }
-    requires few { length rows.now ≤ 2048 }
+    requires few { length rows.now ≤ most_rows }
     ensures places { IfOk result (λ v. AreZeroPlaces row.now rows.now (length rows.now) v.items) }
     ensures form { IfOk result (λ v. IsTrue (is_counts_form v.items)) }
     ensures wide { IfErr result (λ f. IfWide f (ShowsProduct row.now rows.now)) }
@@ -103,7 +104,7 @@ pub fn places_of_value(
     requires stays { HasPrimitiveRow objective.now }
     requires some { 0 < length objective.now }
     requires cols { HasCols (length objective.now) rays.now }
-    requires few { length rays.now ≤ 2048 }
+    requires few { length rays.now ≤ most_rows }
     ensures places { IfOk result (λ v. ArePlacesOfValue (objective_in sense objective.now) (value_in sense (finite value)) rays.now v.items) }
     ensures form { IfOk result (λ v. IsTrue (is_counts_form v.items)) }
     ensures wide { IfErr result (λ f. IfWide f (ShowsFace sense objective.now (ratio_in sense value) rays.now)) }

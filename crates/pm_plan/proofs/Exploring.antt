@@ -7,7 +7,7 @@ use Rattle.std.proofs.lemmas.Option.{slice_get-get_or, slice_get_within}
 use Rattle.pm_props.specs.declared.set.PropSet.{PropSet}
 use Rattle.pm_weights.specs.declared.Cost.{Cost}
 use Rattle.pm_props.specs.Sets.{IsSubset}
-use Rattle.pm_weights.specs.Weights.{IsWeight, most, IsAtMost}
+use Rattle.pm_weights.specs.Weights.{IsWeight, IsAtMost}
 use Rattle.pm_weights.proofs.CostOrder.{at_most_itself}
 use Rattle.pm_rules.specs.declared.table.TableRow.{TableRow}
 use Rattle.pm_rules.specs.Steps.{IsOpen}
@@ -17,10 +17,11 @@ use Rattle.pm_plan.specs.declared.track.Link.{Link}
 use Rattle.pm_plan.specs.declared.search.Search.{Search}
 use Rattle.pm_plan.specs.Moves.{after}
 use Rattle.pm_plan.specs.Tracks.{LinksTo, AreLinked}
-use Rattle.pm_plan.specs.Searches.{cost_known, link_waiting, HasGoal, Offered, IsSound, IsNext, Settles, Offers, Expands, IsEmpty, IsExplored, most_rows}
+use Rattle.pm_plan.specs.Searches.{cost_known, link_waiting, HasGoal, Offered, IsSound, IsNext, Settles, Offers, Expands, IsEmpty, IsExplored}
 use Rattle.pm_plan.proofs.Options.{none_is_not, some_from, if_some_at, if_some_from, get_pushed, get_taken, at_contained}
 use Rattle.pm_rules.proofs.RowOrder.{before_at_most}
 use Rattle.pm_plan.proofs.Settling.{settled_sound, settled_offered}
+use Rattle.pm_limits.specs.Limits.{most_table_rows, most_weight}
 
 -- ---- the start
 none_there : {X : Type 0} (xs : List X) (x : X) → xs ≡ [] → Contains xs x → ⊥
@@ -60,7 +61,7 @@ begun_explored moves start asked old new h o =
 -- ---- costs fit
 -- both parts of the cost are at most a million times n
 abbrev Fits : Cost → ℕ → Type 0
-Fits cost n = (cost.class ≤ most * n) × (cost.minor ≤ most * n)
+Fits cost n = (cost.class ≤ most_weight * n) × (cost.minor ≤ most_weight * n)
 
 module _ (moves : List Move) (start : TableRow) (weights : All (λ m. IsWeight m.weight) moves) (free : Fits start.cost 0) where
   link_fits : (rows : List TableRow) (n : ℕ) (link : Option Link) (row : TableRow) → LinksTo moves start rows link row
@@ -91,13 +92,13 @@ module _ (moves : List Move) (start : TableRow) (weights : All (λ m. IsWeight m
       link_fits s.rows.items (length s.rows.items) link row (if_some_at (link_waiting s row) (λ l. LinksTo moves start s.rows.items l row) link e (h.waiting_linked row))
       (λ j before f. let within = slice_get_within s.rows.items j before f in (within, rows_fit s.rows.items s.links.items h.linked (suc j) j before (omega arith) f))
 
-  pub next_fits : (asked : PropSet) (s : Search) (row : TableRow) (link : Option Link) → IsSound moves start asked s → IsNext s row link → length s.rows.items < most_rows
-      → (row.cost.class + 1000000 < 2 ^ 64) × (row.cost.minor + 1000000 < 2 ^ 64)
+  pub next_fits : (asked : PropSet) (s : Search) (row : TableRow) (link : Option Link) → IsSound moves start asked s → IsNext s row link → length s.rows.items < most_table_rows
+      → (row.cost.class + most_weight < 2 ^ 64) × (row.cost.minor + most_weight < 2 ^ 64)
   next_fits asked s row link h next few = let fits = waiting_fits asked s row link h next.waits in (omega arith, omega arith)
 
 -- ---- one set more is settled
 pub explored_more : (moves : List Move) (start : TableRow) (asked : PropSet) (old mid new : Search) (row : TableRow) (link : Option Link) → IsExplored moves start asked old
-    → IsNext old row link → (HasGoal old row.cost → ⊥) → length old.rows.items < most_rows → Settles old mid row link
+    → IsNext old row link → (HasGoal old row.cost → ⊥) → length old.rows.items < most_table_rows → Settles old mid row link
     → Expands moves (length moves) asked mid new row (length old.rows.items) → IsExplored moves start asked new
 explored_more moves start asked old mid new row link h next below few s e =
     let sound_mid : IsSound moves start asked mid = settled_sound moves start asked old mid row link h.sound s next below in

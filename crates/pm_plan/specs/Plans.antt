@@ -11,7 +11,7 @@ use Rattle.pm_rules.specs.Chains.{LeadsTo, IsLeast, HasNoChain, AreUseful, weigh
 use Rattle.pm_rules.specs.Certificates.{HasRow, IsCertificate, Reaches, IsBefore, IsTable}
 use Rattle.pm_plan.specs.declared.answer.PlanEnd.{PlanEnd}
 use Rattle.pm_plan.specs.declared.answer.PlanEnd.TheVariants as the_end
-use Rattle.pm_plan.specs.Searches.{most_rows}
+use Rattle.pm_limits.specs.Limits.{most_table_rows}
 
 -- a least chain, what it weighs, and its table
 pub record IsPlan (book : List Rule) (names : PropSet) (barred : List RuleId) (held asked : PropSet) (chain : List RuleId) (weight : Cost) (table : List TableRow) : Type 0 where
@@ -20,23 +20,23 @@ pub record IsPlan (book : List Rule) (names : PropSet) (barred : List RuleId) (h
   pub weighs : weight ≡ weigh book chain
   pub exact : IsTable book names barred held asked (Least weight) table
   pub certificate : IsCertificate book names barred held asked (Least weight) table
-  pub few : length table ≤ most_rows
+  pub few : length table ≤ most_table_rows
 
 -- there is no chain, and the table has all sets that useful rules reach
 pub record HasNoPlan (book : List Rule) (names : PropSet) (barred : List RuleId) (held asked : PropSet) (table : List TableRow) : Type 0 where
   pub none : HasNoChain book names barred held asked
   pub exact : IsTable book names barred held asked NoChain table
   pub certificate : IsCertificate book names barred held asked NoChain table
-  pub few : length table ≤ most_rows
+  pub few : length table ≤ most_table_rows
 
 -- every chain to the asked names costs more
 abbrev pub IsBelowChains : List Rule → PropSet → List RuleId → PropSet → PropSet → Cost → Type 0
 IsBelowChains book names barred held asked cost = (chain : List RuleId) → LeadsTo book names barred held asked chain → IsBelow cost (weigh book chain)
 
--- the first 65,536 rows of a table that would have more
+-- the first most_faces rows of a table that would have more
 -- one row for each set that a chain of useful rules reaches before the next row, and the next row is one more such set, below every chain to the asked names
 pub record IsCrowded (book : List Rule) (names : PropSet) (barred : List RuleId) (held asked : PropSet) (table : List TableRow) : Type 0 where
-  pub full : length table ≡ most_rows
+  pub full : length table ≡ most_table_rows
   pub reached : All (λ row. (chain : List RuleId) × Reaches book names barred held asked row chain) table
   pub least : All (λ row. (other : TableRow) (chain : List RuleId) → Reaches book names barred held asked other chain → other.set ≡ row.set → IsAtMost row.cost other.cost) table
   pub below : All (λ row. IsBelowChains book names barred held asked row.cost) table

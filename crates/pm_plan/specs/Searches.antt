@@ -16,6 +16,7 @@ use Rattle.pm_plan.specs.declared.search.Place.{Place}
 use Rattle.pm_plan.specs.declared.search.Search.{Search}
 use Rattle.pm_plan.specs.Moves.{after}
 use Rattle.pm_plan.specs.Tracks.{LinksTo, AreLinked}
+use Rattle.pm_limits.specs.Limits.{most_table_rows}
 
 -- the order of places: by cost, and then by the set as a number
 abbrev pub place_cmp : Place → Place → Ordering
@@ -119,15 +120,11 @@ pub record IsEmpty (s : Search) : Type 0 where
   pub waiting : (row : TableRow) → link_waiting s row ≡ None
   pub goal : s.goal ≡ None
 
--- the greatest number of rows of a table
-abbrev pub most_rows : ℕ
-most_rows = 65536
-
 pub record IsExplored (moves : List Move) (start : TableRow) (asked : PropSet) (s : Search) : Type 0 where
   pub sound : IsSound moves start asked s
   pub closed : IsClosed moves asked s
   pub begun : Offered asked s start
-  pub few : length s.rows.items ≤ most_rows
+  pub few : length s.rows.items ≤ most_table_rows
 
 -- what waits costs no less than the goal
 abbrev pub IsDone : Search → Type 0
@@ -135,7 +132,7 @@ IsDone s = (row : TableRow) → IsSome (link_waiting s row) → HasGoal s row.co
 
 -- one more set waits that costs less than the goal
 pub record IsFull (s : Search) : Type 0 where
-  pub full : length s.rows.items ≡ most_rows
+  pub full : length s.rows.items ≡ most_table_rows
   pub next : TableRow
   pub link : Option Link
   pub is_next : IsNext s next link

@@ -1,8 +1,8 @@
 // The rules that a search looks at.
 
 ghost use Rattle.std.specs.Prelude.{◌≡◌, ◌+◌, ◌^◌, ◌<◌, ◌≤◌, IfOk, length};
-ghost use Rattle.pm_rules.specs.Books.{most_rules};
 ghost use Rattle.pm_plan.specs.Moves.{AreMoves, after};
+ghost use Rattle.pm_limits.specs.Limits.{most_rules};
 
 use pm_rules::{PropSet, Rule, RuleId, Step, TableRow, Weight, needed};
 use std::alloc::{AllocError, Global};

@@ -2,8 +2,8 @@
 
 ghost use Rattle.std.specs.Prelude.{◌≤◌, IfOk, IfErr, All, length};
 ghost use Rattle.pm_weights.specs.Weights.{IsWeight};
-ghost use Rattle.pm_rules.specs.Books.{most_rules};
 ghost use Rattle.pm_plan.specs.Plans.{IsPlan, SaysWhy};
+ghost use Rattle.pm_limits.specs.Limits.{most_rules};
 
 use crate::answer::{Plan, PlanEnd};
 use crate::moves::moves;

@@ -3,15 +3,14 @@
 ghost use Rattle.std.specs.Prelude.{◌≡◌, ◌+◌, ◌^◌, ◌<◌, ◌↔◌, [], None, IsTrue, false, IsSome, IfSome, IfNone, IfOk, OnOk, All, length};
 ghost use Rattle.pm_weights.specs.Weights.{IsWeight, no_cost};
 ghost use Rattle.pm_plan.specs.Searches.{HasGoal, IsKnown, IsNext, Settles, Waits, Renews, Offers, Expands, IsExplored, IsDone, IsFull, IsEmpty, link_waiting};
+ghost use Rattle.pm_limits.specs.Limits.{most_weight};
 
 use crate::moves::Move;
 use crate::track::Link;
+use pm_limits::MOST_TABLE_ROWS;
 use pm_rules::{Cost, PropSet, TableRow};
 use std::alloc::{AllocError, Global};
 use std::collections::BTreeMap;
-
-/// The greatest number of rows of a table.
-pub const MOST_ROWS: usize = 65_536;
 
 /// A set in the order in which sets are settled.
 #[derive(Clone, Copy, Debug, PartialEq, Eq, PartialOrd, Ord)]
@@ -117,8 +116,8 @@ impl Search {
         from: usize,
     ) -> Result<(), AllocError>
         requires weights { All (λ m. IsWeight m.weight) moves.now }
-        requires class { row.now.cost.class + 1000000 < 2 ^ 64 }
-        requires minor { row.now.cost.minor + 1000000 < 2 ^ 64 }
+        requires class { row.now.cost.class + most_weight < 2 ^ 64 }
+        requires minor { row.now.cost.minor + most_weight < 2 ^ 64 }
         ensures { OnOk result (Expands moves.now (length moves.now) asked self.old self.new row.now from) }
     {
         for m in moves {
@@ -179,7 +178,7 @@ pub fn explore(
     search.offer(asked, &start, None)?;
     'settle: while let Some((row, link)) = search.next() {
         let from = search.rows.len();
-        if from >= MOST_ROWS {
+        if from >= MOST_TABLE_ROWS {
             return Ok((search, false));
         }
         search.settle(&row, link)?;

@@ -15,6 +15,7 @@ use Rattle.pm_simplex.specs.Generated.{IsWideThinning}
 use Rattle.pm_simplex.specs.Lineality.{IsBasisAndRow, MarkLines, line_group}
 use Rattle.std.specs.List.{All, AllPairs, Contains}
 use Rattle.std.specs.Prelude.{Bool, IsTrue, List, false, get_or, length, slice_set, true, ℕ, ◌<◌, ◌≡◌, ◌⊎◌}
+use Rattle.pm_limits.specs.Limits.{most_rows}
 
 -- ---- rows that are enough, and of which none is redundant
 -- the marked rows generate the cone
@@ -71,9 +72,9 @@ IsThinFail n G L (Wide e) = IsWideThinning n G L e
 IsThinFail n G L (Many e) = ⊥
 IsThinFail n G L Memory = Unit {0}
 
--- more than 2,048 such places
+-- more than most_rows such places
 pub record AreManyThinPlaces (n : ℕ) (G L : List Row) (places : List ℕ) : Type 0 where
-  pub many : 2048 < length places
+  pub many : most_rows < length places
   pub basis : List Row
   pub pivots : List ℕ
   pub thin : AreThinPlaces n G L basis pivots places
@@ -86,7 +87,7 @@ IsHalvesFail n G L (Many (E5Rows places)) = AreManyThinPlaces n G L places
 IsHalvesFail n G L (Many e) = ⊥
 IsHalvesFail n G L Memory = Unit {0}
 
--- the refusal for half-spaces A and equations E, as they are taken: the same evidence, or more than 2,048 facet rows among the half-spaces
+-- the refusal for half-spaces A and equations E, as they are taken: the same evidence, or more than most_rows facet rows among the half-spaces
 abbrev pub IsRowsFail : ObjectType → ℕ → List Row → List Row → ThinFail → Type 0
 IsRowsFail of n A E (Wide (E1 step)) = IsWideReduction n (half_spaces of n A) E step
 IsRowsFail of n A E (Wide e) = IsWideThinning n (half_spaces of n A) E e

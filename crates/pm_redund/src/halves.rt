@@ -19,12 +19,10 @@ use pm_elim::copies;
 use pm_geom::descriptions::Facets;
 use pm_geom::{Evidence, Places};
 use pm_incidence::ThinFail;
+use pm_limits::MOST_ROWS;
 use pm_props::ObjectType;
 use pm_vector::Ints;
 use std::alloc::{AllocError, Global};
-
-/// The most facet rows that are answered.
-const MOST_FACETS: usize = 2048;
 
 /// The row that is 1 in a column and 0 elsewhere.
 fn unit_row(alloc: Global, cols: usize, column: usize) -> Result<Ints, AllocError>
@@ -103,12 +101,12 @@ fn thin_halves(
     requires enough { IsEnough halves.now equations.now enough.items }
     ensures generators { IfOk result (λ f. AreGenerators cols (InCone halves.now equations.now) f.facets.items f.hull.items) }
     ensures cols { IfOk result (λ f. HasCols cols f.facets.items) }
-    ensures few { IfOk result (λ f. length f.facets.items ≤ MOST_FACETS) }
+    ensures few { IfOk result (λ f. length f.facets.items ≤ MOST_ROWS) }
     ensures echelon { IfOk result (λ f. (P : List ℕ) × IsEchelonBasis cols f.hull.items P) }
     ensures failed { IfErr result (IsHalvesFail cols halves.now equations.now) }
 {
     let kept = kept_of(alloc, cols, halves, equations, line_marks, enough)?;
-    if kept.places.len() > MOST_FACETS {
+    if kept.places.len() > MOST_ROWS {
         return Err(too_many(alloc, &kept.places)?);
     }
     let facets = thinned_rows(alloc, cols, halves, &kept.basis, &kept.places)?;
@@ -119,8 +117,8 @@ fn thin_halves(
 }
 
 /// All facet rows of a thing among half-spaces that describe it, and the echelon basis of the rows that vanish on it.
-/// The facet rows are primitive, with zeros in the pivot columns of that basis, each once and in lexicographic order; there are at most 2,048 of them.
-/// `Wide` only with evidence: E1 on the rows that vanish and then the reduced row, E3 on the program of a half-space. `Many` only with more than 2,048 facet rows among the half-spaces (E5).
+/// The facet rows are primitive, with zeros in the pivot columns of that basis, each once and in lexicographic order; there are at most `MOST_ROWS` of them.
+/// `Wide` only with evidence: E1 on the rows that vanish and then the reduced row, E3 on the program of a half-space. `Many` only with more than `MOST_ROWS` facet rows among the half-spaces (E5).
 pub fn thin_rows(
     alloc: Global,
     of: ObjectType,
@@ -138,7 +136,7 @@ pub fn thin_rows(
         → CutsOutOf of cols (InCone G L) rows.now equations.now
         → AreGenerators cols (IsValid cols G L) f.facets.items f.hull.items) }
     ensures cols { IfOk result (λ f. HasCols cols f.facets.items) }
-    ensures few { IfOk result (λ f. length f.facets.items ≤ MOST_FACETS) }
+    ensures few { IfOk result (λ f. length f.facets.items ≤ MOST_ROWS) }
     ensures echelon { IfOk result (λ f. (P : List ℕ) × IsEchelonBasis cols f.hull.items P) }
     ensures failed { IfErr result (IsRowsFail of cols rows.now equations.now) }
 {

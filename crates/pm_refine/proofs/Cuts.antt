@@ -18,6 +18,7 @@ use Rattle.std.proofs.lemmas.List.{length-append}
 use Rattle.std.specs.List.{All, slice_index_or}
 use Rattle.std.specs.Prelude.{List, [], length, suc, zero, ℕ, ◌+◌, ◌++◌, ◌^◌, ◌∷◌, ◌<◌, ◌≤◌, ◌≡◌, ◌↔◌}
 use lib.IntN.{pos}
+use Rattle.pm_limits.specs.Limits.{most_rows}
 
 module _ (n : ℕ) (f : Fan) (C : List CutRows) (small : IsSmallFan n f) (are : AreFacetsOf n f C) where
   pub cut_at_place : (i : ℕ) → i < length f.cones → IsCutAt n f i (cuts_at C i).facets (cuts_at C i).hull
@@ -68,7 +69,7 @@ pub record AreFacetsSoFar (n : ℕ) (f : Fan) (i : ℕ) (C : List CutRows) : Typ
 facets_cols : (n : ℕ) (S : Row → Type 0) (F H : List Row) → AreGenerators n S F H → HasCols n F
 facets_cols n S F H g = order_cols n S F g.order
 
-pub small_facets : (n : ℕ) (S : Row → Type 0) (F H : List Row) → AreGenerators n S F H → length F ≤ 2048 → IsSmall n (record { facets = F; hull = H })
+pub small_facets : (n : ℕ) (S : Row → Type 0) (F H : List Row) → AreGenerators n S F H → length F ≤ most_rows → IsSmall n (record { facets = F; hull = H })
 small_facets n S F H g few = record { facets = facets_cols n S F H g; hull = g.basis.echelon.basis.cols; few_facets = few; few_equations = few_rows n H g.pivots g.basis.echelon }
 
 at_last : (C : List CutRows) (c d : CutRows) → slice_index_or (C ++ c ∷ []) (length C) d ≡ c
@@ -81,7 +82,7 @@ at_before (a ∷ C) c d zero l = refl
 at_before (a ∷ C) c d (suc k) l = at_before C c d k (omega arith)
 
 -- the next cone's
-pub facets_more : (n : ℕ) (f : Fan) (i : ℕ) (C : List CutRows) (F H : List Row) → AreFacetsSoFar n f i C → AreFacets n (cone_at f i) f.lines F H → length F ≤ 2048 → AreFacetsSoFar n f (i + 1) (C ++ record { facets = F; hull = H } ∷ [])
+pub facets_more : (n : ℕ) (f : Fan) (i : ℕ) (C : List CutRows) (F H : List Row) → AreFacetsSoFar n f i C → AreFacets n (cone_at f i) f.lines F H → length F ≤ most_rows → AreFacetsSoFar n f (i + 1) (C ++ record { facets = F; hull = H } ∷ [])
 facets_more n f i C F H so are few = record {
   as_many = length-append C (record { facets = F; hull = H } ∷ []) ∙ (let e = so.as_many in omega arith);
   each = each;

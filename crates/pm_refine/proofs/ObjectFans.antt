@@ -22,6 +22,7 @@ use Rattle.std.proofs.lemmas.List.Sums.{AllPass-from_list_all}
 use Rattle.std.specs.List.{All, list_all, slice_index_or}
 use Rattle.std.specs.Option.{is_some}
 use Rattle.std.specs.Prelude.{Bool, List, None, Some, [], length, map, nat_le, nat_lt, ℕ, ◌&&◌, ◌+◌, ◌<◌, ◌^◌, ◌∷◌, ◌≡◌, ◌≤◌}
+use Rattle.pm_limits.specs.Limits.{most_rows}
 
 -- ---- the value of MAXIMAL_CONES
 abbrev formed_sets : PropertyValue → Bool
@@ -43,15 +44,15 @@ no_cones_read o v f k e none =
 
 -- the sets, as they are formed
 pub record AreFormedSets (rows : List (List ℕ)) (n : ℕ) : Type 0 where
-  pub few : length rows ≤ 2048
-  pub few_places : n ≤ 2048
+  pub few : length rows ≤ most_rows
+  pub few_places : n ≤ most_rows
   pub each : All (λ s. are_indices n 0 s ≡ true) rows
 
 pub cones_are_formed : (of : ObjectType) (cols : ℕ) (rows : List (List ℕ)) (n : ℕ) → FormsIn of cols MaximalCones (sets rows n) → AreFormedSets rows n
 cones_are_formed of cols rows n f =
-    let p = and_parts (nat_le (length rows) 2048 && nat_le n 2048) (list_all (are_indices n 0) rows) f.formed in
-    let q = and_parts (nat_le (length rows) 2048) (nat_le n 2048) p.0 in
-    record { few = leb-true (length rows) 2048 q.0; few_places = leb-true n 2048 q.1; each = AllPass-from_list_all (are_indices n 0) rows p.1 }
+    let p = and_parts (nat_le (length rows) most_rows && nat_le n most_rows) (list_all (are_indices n 0) rows) f.formed in
+    let q = and_parts (nat_le (length rows) most_rows) (nat_le n most_rows) p.0 in
+    record { few = leb-true (length rows) most_rows q.0; few_places = leb-true n most_rows q.1; each = AllPass-from_list_all (are_indices n 0) rows p.1 }
 
 -- ---- indices
 index_parts : (n low j : ℕ) (js : List ℕ) → are_indices n low (j ∷ js) ≡ true → (low ≤ j) × (j < n) × (are_indices n (suc j) js ≡ true)
@@ -88,7 +89,7 @@ held_cols of n p m rows xs r f are = all_from (λ x. length x ≡ n) xs (λ x i.
     form = sym (formed_is p r (matrix m rows)) ∙ f.formed
 
     lengths : All (λ x. is_row_of_entries m x ≡ true) rows
-    lengths = AllPass-from_list_all (is_row_of_entries m) rows (and_parts (nat_le (length rows) 2048 && is_column_count rows m) (list_all (is_row_of_entries m) rows) form).1
+    lengths = AllPass-from_list_all (is_row_of_entries m) rows (and_parts (nat_le (length rows) most_rows && is_column_count rows m) (list_all (is_row_of_entries m) rows) form).1
 
     at : (x : Row) → (k : ℕ) × (k < length xs) × (slice_index_or xs k [] ≡ x) → length x ≡ n
     at x w =
@@ -97,7 +98,7 @@ held_cols of n p m rows xs r f are = all_from (λ x. length x ≡ n) xs (λ x i.
         let within : w.0 < length rows = omega arith in
         ap length (sym w.2) ∙ (are.multiple w.0 within).cols ∙ eqb-true _ m (lengths w.0 [] within) ∙ rows_cols of n p m rows r f (omega arith)
 
-pub held_few : (of : ObjectType) (n : ℕ) (p : PropId) (m : ℕ) (rows : List (List Ratio)) (xs : List Row) → IsOfRows p → FormsIn of n p (matrix m rows) → ArePrimitiveRowsOf rows xs → length xs ≤ 2048
+pub held_few : (of : ObjectType) (n : ℕ) (p : PropId) (m : ℕ) (rows : List (List Ratio)) (xs : List Row) → IsOfRows p → FormsIn of n p (matrix m rows) → ArePrimitiveRowsOf rows xs → length xs ≤ most_rows
 held_few of n p m rows xs r f are = let c = are.count in let l = rows_few of n p m rows r f in omega arith
 
 -- ---- cones
@@ -112,7 +113,7 @@ rays_length V (j ∷ set) = ap suc (rays_length V set)
 mapped_all : {X Y : Type 0} (P : Y → Type 0) (g : X → Y) (xs : List X) → ((x : X) → Among x xs → P (g x)) → All P (map g xs)
 mapped_all P g xs h = All_among P (map g xs) (λ y i. let (x, j, e) = map_among g xs i in subst P (sym e) (h x j))
 
-pub small_fan : (n m : ℕ) (V L : List Row) (rows : List (List ℕ)) → HasCols n V → HasCols n L → length L ≤ 2048 → m ≡ length V → AreFormedSets rows m → IsSmallFan n (fan_from (map (rays_at V) rows) L)
+pub small_fan : (n m : ℕ) (V L : List Row) (rows : List (List ℕ)) → HasCols n V → HasCols n L → length L ≤ most_rows → m ≡ length V → AreFormedSets rows m → IsSmallFan n (fan_from (map (rays_at V) rows) L)
 small_fan n m V L rows hv hl few e f = record {
   cones = mapped_all (HasCols n) (rays_at V) rows (λ s i. rays_cols n V s hv (λ j k. subst (λ z. j < z) e (indices_within m 0 s (formed s i) j k)));
   lines = hl;

@@ -19,6 +19,7 @@ use Rattle.std.proofs.lemmas.Bool.{eqb-true}
 use Rattle.std.proofs.lemmas.List.{get_or_default}
 use Rattle.std.specs.List.{All}
 use Rattle.std.specs.Prelude.{Err, IfErr, IfOk, List, Ok, Result, [], length, ℕ, ◌<◌, ◌^◌, ◌≡◌, ◌≤◌}
+use Rattle.pm_limits.specs.Limits.{most_rows}
 
 pub ok_four : {X E : Type 0} (r : Result X E) {P Q S T U : X → Type 0} → ((x : X) → P x → Q x → S x → T x → U x) → IfOk r P → IfOk r Q → IfOk r S → IfOk r T → IfOk r U
 ok_four (Ok x) f a b c d = f x a b c d
@@ -41,7 +42,7 @@ module _ (a b : State) (f g : Fan) (is_first : IsFanOfObject a f) (is_second : I
   shown_by_fans (NotMade i j e) h = record { first = f; second = g; is_first = is_first; is_second = is_second; shown = h }
   shown_by_fans Memory h = tt
 
-pub sets_small : (R : List Row) (kept : List Intersection) (sets : List (List ℕ)) → AreRaySets R kept sets → length R ≤ 2048 → All (λ s. All (λ j. j < 2 ^ 32) s) sets
+pub sets_small : (R : List Row) (kept : List Intersection) (sets : List (List ℕ)) → AreRaySets R kept sets → length R ≤ most_rows → All (λ s. All (λ j. j < 2 ^ 32) s) sets
 sets_small R kept sets s few = λ i d l. rw (get_or_default sets i d [] l) (λ j e b.
     let m = s.as_many in
     let w = s.each i (record { first = 0; second = 0; rays = [] }) (omega arith) in

@@ -26,6 +26,7 @@ use Rattle.std.proofs.lemmas.List.{map-append, take_more}
 use Rattle.std.specs.List.{All, list_all, slice_index_or}
 use Rattle.std.specs.Prelude.{Bool, List, [], length, map, nat_eq, nat_le, not, ℕ, ◌&&◌, ◌<◌, ◌||◌, ◌∷◌, ◌≡◌, ◌≤◌}
 use lib.IntN.{negsuc, pos}
+use Rattle.pm_limits.specs.Limits.{most_columns, most_rows}
 
 -- ---- primitive rows pass the test of rays
 all_zero : (x : Row) → is_zero_row (ratios x) ≡ true → (i : ℕ) → entry x i ≡ pos 0
@@ -87,12 +88,12 @@ second : (a b : Bool) → b ≡ true → (a || b) ≡ true
 second true b p = refl
 second false b p = p
 
-rows_form : (n : ℕ) (p : PropId) → IsOfFan p → (N : List Row) → 1 ≤ n → n ≤ 33 → length N ≤ 2048 → HasCols n N → All (All InRange) N → list_all (is_row Fan p) (map ratios N) ≡ true → FormsIn Fan n p (value_over n (map ratios N))
+rows_form : (n : ℕ) (p : PropId) → IsOfFan p → (N : List Row) → 1 ≤ n → n ≤ most_columns → length N ≤ most_rows → HasCols n N → All (All InRange) N → list_all (is_row Fan p) (map ratios N) ≡ true → FormsIn Fan n p (value_over n (map ratios N))
 rows_form n p h [] some few all cols range pass = record { formed = formed_of p h 0 []; columns = agrees_of p h n 0 []; rows = refl; entries = All-nil (All IsFraction); primitive = All-nil HasPrimitiveRow }
 rows_form n p h (x ∷ N) some few all cols range pass = record {
   formed = formed_of p h n (map ratios (x ∷ N))
-      ∙ three (nat_le (length (map ratios (x ∷ N))) 2048) (is_column_count (map ratios (x ∷ N)) n) (list_all (is_row_of_entries n) (map ratios (x ∷ N)))
-      (le-leb (length (map ratios (x ∷ N))) 2048 (let e = map_length ratios (x ∷ N) in omega arith)) (and_from (nat_le 1 n) (nat_le n 33) (le-leb 1 n some) (le-leb n 33 few))
+      ∙ three (nat_le (length (map ratios (x ∷ N))) most_rows) (is_column_count (map ratios (x ∷ N)) n) (list_all (is_row_of_entries n) (map ratios (x ∷ N)))
+      (le-leb (length (map ratios (x ∷ N))) most_rows (let e = map_length ratios (x ∷ N) in omega arith)) (and_from (nat_le 1 n) (nat_le n most_columns) (le-leb 1 n some) (le-leb n most_columns few))
       (ratios_rows_of_entries n (x ∷ N) cols);
   columns = agrees_of p h n n (map ratios (x ∷ N)) ∙ second (nat_eq n 0) (nat_eq n n) (eq-eqb n n refl);
   rows = pass;
@@ -100,10 +101,10 @@ rows_form n p h (x ∷ N) some few all cols range pass = record {
   primitive = ratios_rows_primitive (x ∷ N) range;
 }
 
-dimension_form : (n : ℕ) → 1 ≤ n → n ≤ 33 → FormsIn Fan n ConeAmbientDim (whole (pos n))
-dimension_form n some few = record { formed = and_from (nat_le 1 n) (nat_le n 33) (le-leb 1 n some) (le-leb n 33 few); columns = eq-eqb n n refl; rows = refl; entries = All-nil (All IsFraction); primitive = All-nil HasPrimitiveRow }
+dimension_form : (n : ℕ) → 1 ≤ n → n ≤ most_columns → FormsIn Fan n ConeAmbientDim (whole (pos n))
+dimension_form n some few = record { formed = and_from (nat_le 1 n) (nat_le n most_columns) (le-leb 1 n some) (le-leb n most_columns few); columns = eq-eqb n n refl; rows = refl; entries = All-nil (All IsFraction); primitive = All-nil HasPrimitiveRow }
 
-sets_form : (n : ℕ) (R : List Row) (kept : List Intersection) (S : List (List ℕ)) → AreRaySets R kept S → length R ≤ 2048 → length kept ≤ 2048 → FormsIn Fan n MaximalCones (sets S (length R))
+sets_form : (n : ℕ) (R : List Row) (kept : List Intersection) (S : List (List ℕ)) → AreRaySets R kept S → length R ≤ most_rows → length kept ≤ most_rows → FormsIn Fan n MaximalCones (sets S (length R))
 sets_form n R kept S are few cones = record {
   formed = ascending_sets (length R) S (let e = are.as_many in omega arith) few (All_among (IsAscending (length R)) S (λ s i. rises s (place_at [] S i)));
   columns = refl;
@@ -115,7 +116,7 @@ sets_form n R kept S are few cones = record {
     rises : (s : List ℕ) → (k : ℕ) × (k < length S) × (slice_index_or S k [] ≡ s) → IsAscending (length R) s
     rises s w = let e = are.as_many in let l = w.1 in subst (IsAscending (length R)) w.2 (are.each w.0 (record { first = 0; second = 0; rays = [] }) (omega arith)).ascending
 
-pub forms_of : (n : ℕ) (K R : List Row) (kept : List Intersection) (S : List (List ℕ)) → 1 ≤ n → n ≤ 33 → length R ≤ 2048 → length kept ≤ 2048 → length K ≤ n → HasCols n R → HasCols n K → All IsPrimitive R
+pub forms_of : (n : ℕ) (K R : List Row) (kept : List Intersection) (S : List (List ℕ)) → 1 ≤ n → n ≤ most_columns → length R ≤ most_rows → length kept ≤ most_rows → length K ≤ n → HasCols n R → HasCols n K → All IsPrimitive R
     → All (All InRange) R → All (All InRange) K → AreRaySets R kept S → HaveForms n (fan_given (refined_values n K R S))
 forms_of n K R kept S some few rays cones lines cols cols' primitive range range' are =
     All-cons P (ConeAmbientDim, whole (pos n)) ((Vertices, value_over n (map ratios R)) ∷ (LinealitySpace, value_over n (map ratios K)) ∷ (MaximalCones, sets S (length R)) ∷ []) (dimension_form n some few)

@@ -8,6 +8,7 @@ use Rattle.pm_refine.specs.declared.refinement.Intersection.{Intersection as Int
 use Rattle.std.specs.List.{All, Any, Contains, slice_index_or}
 use Rattle.std.specs.Prelude.{Bool, List, [], false, length, suc, true, zero, ℕ, ◌&&◌, ◌∷◌, ◌<◌, ◌^◌, ◌≡◌, ◌≤◌, ◌⊎◌}
 use lib.IntN.{ℤ, negsuc, pos}
+use Rattle.pm_limits.specs.Limits.{most_rows}
 
 -- the fan of these cones, with these lines
 abbrev pub fan_from : List (List Row) → List Row → Fan
@@ -46,7 +47,7 @@ pub record AreFacetsOf (n : ℕ) (f : Fan) (C : List CutRows) : Type 0 where
 pub record IsSmall (n : ℕ) (c : CutRows) : Type 0 where
   pub facets : HasCols n c.facets
   pub hull : HasCols n c.hull
-  pub few_facets : length c.facets ≤ 2048
+  pub few_facets : length c.facets ≤ most_rows
   pub few_equations : length c.hull ≤ n
 
 abbrev pub AreSmall : ℕ → List CutRows → Type 0

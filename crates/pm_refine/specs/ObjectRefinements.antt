@@ -23,6 +23,7 @@ use Rattle.pm_types.specs.Forms.{FormsIn}
 use Rattle.pm_types.specs.Values.{PropertyValue, sets, whole}
 use Rattle.pm_types.specs.Views.{ratios}
 use lib.IntN.{pos}
+use Rattle.pm_limits.specs.Limits.{most_rows}
 
 -- the maximal intersections of the cones of f and g, in the order of the pairs, of equal ones the first; the echelon basis of
 -- their lineality; all their rays, each once, in lexicographic order; and for each intersection the places of its rays
@@ -52,15 +53,15 @@ fan_given values = record { of = OfFan; values = values; stored = 0; failed = []
 abbrev pub HaveForms : ℕ → SavedFile → Type 0
 HaveForms n f = All (λ (v : PropId × PropertyValue). FormsIn OfFan n v.0 v.1) f.values
 
--- the new fan: it has at most 2,048 rays and at most 2,048 cones
+-- the new fan: it has at most most_rows rays and at most most_rows cones
 pub record IsRefinementFile (a b : State) (file : SavedFile) : Type 0 where
   pub lines : List Row
   pub kept : List Intersection
   pub rays : List Row
   pub sets : List (List ℕ)
   pub is : IsRefinementOf a b lines kept rays sets
-  pub few_rays : length rays ≤ 2048
-  pub few_cones : length kept ≤ 2048
+  pub few_rays : length rays ≤ most_rows
+  pub few_cones : length kept ≤ most_rows
   pub file_is : file ≡ fan_given (refined_values (cols_at a) lines rays sets)
 
 -- it would have more
@@ -70,7 +71,7 @@ pub record IsLarge (a b : State) : Type 0 where
   pub rays : List Row
   pub sets : List (List ℕ)
   pub is : IsRefinementOf a b lines kept rays sets
-  pub many : (2048 < length rays) ⊎ (2048 < length kept)
+  pub many : (most_rows < length rays) ⊎ (most_rows < length kept)
 
 -- the evidence holds of the cones at places i and j of the fans of these objects
 pub record IsShownByObjects (a b : State) (i j : ℕ) (e : Evidence) : Type 0 where
@@ -91,7 +92,7 @@ as_refinement_fail (engine.NotMade i j e) = NotMade i j e
 as_refinement_fail engine.Memory = Memory
 
 -- why there is no refinement: the first condition that fails; or, where none does, a pair of cones with evidence that holds of
--- it, or more than 2,048 rays or cones; want of memory may come at any time
+-- it, or more than most_rows rays or cones; want of memory may come at any time
 abbrev pub IsRefinementRefused : State → State → RefinementFail → Type 0
 IsRefinementRefused a b (NotFit c) = (refine_refusal a b ≡ Some c) ⊎ ((refine_refusal a b ≡ None) × (c ≡ Rows) × IsLarge a b)
 IsRefinementRefused a b (NotMade i j e) = (refine_refusal a b ≡ None) × IsShownByObjects a b i j e

@@ -12,7 +12,7 @@ use thiserror::Error;
 #[derive(Debug, Drop, Error)]
 pub enum RefineFail {
     /// The cone of the first fan at place `first` and that of the second fan at place `second` have evidence that a
-    /// number leaves the range (E1, E2, E4) or that some cone on the way has more than 2,048 extreme rays (E5).
+    /// number leaves the range (E1, E2, E4) or that some cone on the way has more than `MOST_ROWS` extreme rays (E5).
     #[error("an intersection was not made")]
     NotMade {
         first: u32,

@@ -11,6 +11,7 @@ ghost use Rattle.pm_types.specs.Forms.{FormsIn, HasPrimitiveRow};
 ghost use Rattle.pm_types.specs.Views.{view_of};
 ghost use Rattle.std.specs.Option.{is_some, option_map};
 ghost use Rattle.std.specs.Prelude.{All, IfOk, IsTrue, None, Some, length, map, true, ◌<◌, ◌≡◌, ◌≤◌};
+ghost use Rattle.pm_limits.specs.Limits.{most_rows};
 
 use pm_matrix::{Matrix, RowsFail};
 use pm_object::{Condition, Object, cols_at, matrix_at};
@@ -94,7 +95,7 @@ pub(crate) fn refine_refusal(a: &Object, b: &Object) -> Option<Condition>
 
 /// The primitive rows of a matrix.
 fn primitive_rows(alloc: Global, matrix: &Matrix) -> Result<Vec<Ints>, AllocError>
-    requires few { length matrix.now.rows ≤ 2048 }
+    requires few { length matrix.now.rows ≤ most_rows }
     requires stay { All HasPrimitiveRow matrix.now.rows }
     ensures { IfOk result (λ v. ArePrimitiveRowsOf matrix.now.rows v.items) }
 {

@@ -10,6 +10,7 @@ ghost use Rattle.pm_refine.specs.ObjectFans.{IsReadableFan, are_of_rays, refine_
 ghost use Rattle.pm_refine.specs.ObjectRefinements.{HaveForms, IsRefinementFile, IsRefinementOf, IsRefinementRefused, IsShownByFans, fan_given, refined_values};
 ghost use Rattle.pm_types.specs.Views.{ratios};
 ghost use Rattle.std.specs.Prelude.{All, IfErr, IfOk, None, OnOk, length, map, true, ◌<◌, ◌^◌, ◌≡◌, ◌≤◌};
+ghost use Rattle.pm_limits.specs.Limits.{most_columns, most_rows};
 
 use crate::fails::RefineFail;
 use crate::object_fails::{RefinementFail, as_refinement_fail};
@@ -17,6 +18,7 @@ use crate::object_fans::{fan_rows, refine_refusal};
 use crate::refinement::{Refinement, common_refinement};
 use pm_files::FileObject;
 use pm_fraction::Fraction;
+use pm_limits::MOST_ROWS;
 use pm_matrix::{Matrix, MatrixFail};
 use pm_object::{Condition, Object, cols_at};
 use pm_types::{ObjectType, PropId, PropSet, Sets, Value};
@@ -107,8 +109,8 @@ fn cone_sets(alloc: Global, sets: &[Vec<usize>], rays: u32) -> Result<Sets, Allo
 
 /// The new fan.
 fn refined_fan(alloc: Global, n: usize, r: &Refinement) -> Result<FileObject, AllocError>
-    requires few { length r.now.rays.items ≤ 2048 }
-    requires few_columns { n ≤ 33 }
+    requires few { length r.now.rays.items ≤ most_rows }
+    requires few_columns { n ≤ most_columns }
     requires rays { HasCols n r.now.rays.items }
     requires lines { HasCols n r.now.lineality.items }
     requires sets { All (λ s. All (λ j. j < 2 ^ 32) s) (map (λ s. s.items) r.now.sets.items) }
@@ -141,7 +143,7 @@ fn refined_fan(alloc: Global, n: usize, r: &Refinement) -> Result<FileObject, Al
 /// These values are right, in some order of the fan's rays and cones, for the common refinement of each two fans for which
 /// the values read are right, and for no other (`pm_laws_fans`, `law_refinement_is_described`).
 /// `NotFit` names the first condition that fails: both objects are fans, they have as many columns, the sets of MAXIMAL_CONES
-/// are of their rays; and, where each intersection is made, the new fan has at most 2,048 rays and at most 2,048 cones.
+/// are of their rays; and, where each intersection is made, the new fan has at most `MOST_ROWS` rays and at most `MOST_ROWS` cones.
 /// `NotMade` only with a pair of cones and evidence that holds of it: E1, E2 or E5 on the generators of one of them, or on
 /// the facet rows of both; or E4 on a ray of their intersection and a facet row of a cone of either fan, or a row of the
 /// echelon basis of those that vanish on it.
@@ -160,7 +162,7 @@ pub fn refine(alloc: Global, a: &Object, b: &Object) -> Result<FileObject, Refin
         Ok(refinement) => refinement,
         Err(fail) => return Err(as_refinement_fail(fail)),
     };
-    if refinement.rays.len() > 2048 || refinement.cones.len() > 2048 {
+    if refinement.rays.len() > MOST_ROWS || refinement.cones.len() > MOST_ROWS {
         return Err(RefinementFail::NotFit(Condition::Rows));
     }
     Ok(refined_fan(alloc, cols_at(a), &refinement)?)

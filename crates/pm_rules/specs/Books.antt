@@ -11,10 +11,7 @@ use Rattle.pm_weights.specs.Weights.{IsWeight}
 use Rattle.pm_rules.specs.declared.rule.Rule.{Rule}
 use Rattle.pm_rules.specs.Rules.{conditions}
 use Rattle.pm_rules.specs.Words.{is_word, is_label}
-
--- the greatest number of rules in a book
-abbrev pub most_rules : ℕ
-most_rules = 256
+use Rattle.pm_limits.specs.Limits.{most_rules}
 
 -- some property is in the set, and no bit is set that is no property's
 pub record IsNamed (set : PropSet) : Type 0 where

@@ -9,9 +9,6 @@ use crate::rule::Rule;
 use pm_props::RuleId;
 use std::marker::Model;
 
-/// The greatest number of rules in a book.
-pub const MOST_RULES: usize = 256;
-
 /// A list of at most 256 rules with different labels. Contracts see it as that list.
 #[derive(Debug, Drop)]
 pub struct Book {

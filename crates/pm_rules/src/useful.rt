@@ -3,10 +3,10 @@
 ghost use Rattle.std.specs.Prelude.{◌≡◌, ◌≤◌, ◌↔◌, IsTrue, Some, length};
 ghost use Rattle.pm_props.specs.declared.property.PropId.{PropId};
 ghost use Rattle.pm_props.specs.Sets.{has, IsSubset};
-ghost use Rattle.pm_rules.specs.Books.{most_rules};
 ghost use Rattle.pm_rules.specs.Rules.{rule_at, inputs};
 ghost use Rattle.pm_rules.specs.Chains.{Needed};
 ghost use Rattle.pm_rules.specs.Useful.{FindsOne, AllNeeded};
+ghost use Rattle.pm_limits.specs.Limits.{most_rules};
 
 use crate::rule::Rule;
 use pm_props::{PropSet, RuleId};

@@ -120,25 +120,37 @@ abbrev pub not_made_text : NotMadeWhy → List ℕ
 not_made_text (Combination first second column) = codes "combination"
 not_made_text (Pair a b evidence) = codes "E" ++ decimal (evidence_number evidence)
 
+-- the number and the name of a refusal
+abbrev pub refusal_name : Refusal → List ℕ
+refusal_name BadCommand = codes "1 BadCommand"
+refusal_name UnknownName = codes "2 UnknownName"
+refusal_name NameTaken = codes "3 NameTaken"
+refusal_name UnknownType = codes "4 UnknownType"
+refusal_name UnknownProperty = codes "5 UnknownProperty"
+refusal_name (BadValue why) = codes "6 BadValue"
+refusal_name AlreadyHeld = codes "7 AlreadyHeld"
+refusal_name Sealed = codes "8 Sealed"
+refusal_name ObjectsFull = codes "9 ObjectsFull"
+refusal_name NoChain = codes "10 NoChain"
+refusal_name Crowded = codes "11 Crowded"
+refusal_name StoreFault = codes "12 StoreFault"
+refusal_name (BadFile why) = codes "13 BadFile"
+refusal_name NoSuchFile = codes "14 NoSuchFile"
+refusal_name LineTooLong = codes "15 LineTooLong"
+refusal_name UnknownRule = codes "16 UnknownRule"
+refusal_name (NotFit condition) = codes "17 NotFit"
+refusal_name (NotMade why) = codes "18 NotMade"
+
+-- the reason behind them, where there is one
+abbrev pub reason_text : Refusal → List ℕ
+reason_text (BadValue why) = codes " " ++ why_text why
+reason_text (BadFile why) = codes " " ++ file_why_text why
+reason_text (NotFit condition) = codes " " ++ word_of condition
+reason_text (NotMade why) = codes " " ++ not_made_text why
+reason_text why = []
+
 abbrev pub refusal_text : Refusal → List ℕ
-refusal_text BadCommand = codes "1 BadCommand"
-refusal_text UnknownName = codes "2 UnknownName"
-refusal_text NameTaken = codes "3 NameTaken"
-refusal_text UnknownType = codes "4 UnknownType"
-refusal_text UnknownProperty = codes "5 UnknownProperty"
-refusal_text (BadValue why) = codes "6 BadValue " ++ why_text why
-refusal_text AlreadyHeld = codes "7 AlreadyHeld"
-refusal_text Sealed = codes "8 Sealed"
-refusal_text ObjectsFull = codes "9 ObjectsFull"
-refusal_text NoChain = codes "10 NoChain"
-refusal_text Crowded = codes "11 Crowded"
-refusal_text StoreFault = codes "12 StoreFault"
-refusal_text (BadFile why) = codes "13 BadFile " ++ file_why_text why
-refusal_text NoSuchFile = codes "14 NoSuchFile"
-refusal_text LineTooLong = codes "15 LineTooLong"
-refusal_text UnknownRule = codes "16 UnknownRule"
-refusal_text (NotFit condition) = codes "17 NotFit " ++ word_of condition
-refusal_text (NotMade why) = codes "18 NotMade " ++ not_made_text why
+refusal_text why = refusal_name why ++ reason_text why
 
 -- the label of a rule, and its weight
 abbrev pub label_in : Option (List ℕ × Weight) → List ℕ

@@ -1,6 +1,6 @@
 // Refusals of commands.
 
-ghost use Rattle.pm_script.specs.Replies.{file_why_text, not_made_text, refusal_text, why_text};
+ghost use Rattle.pm_script.specs.Replies.{file_why_text, not_made_text, reason_text, refusal_name, refusal_text, why_text};
 ghost use Rattle.std.specs.Prelude.{OnOk, codes, string_bytes, ◌++◌, ◌≡◌};
 
 use pm_geom::Evidence;
@@ -32,7 +32,7 @@ pub enum ValueWhy {
 /// Why a file is refused.
 #[derive(Debug, Drop)]
 pub enum FileWhy {
-    /// It has more than 8,388,608 bytes.
+    /// It has more than `MOST_FILE_BYTES` bytes.
     Limit,
     /// It is no JSON.
     NotJson,
@@ -96,7 +96,7 @@ pub enum Refusal {
     BadFile(FileWhy),
     /// 14: there is no such file.
     NoSuchFile,
-    /// 15: the line has more than 1,048,576 bytes.
+    /// 15: the line has more than `MOST_LINE_BYTES` bytes.
     LineTooLong,
     /// 16: no rule of the book has the label, or no client has the name.
     UnknownRule,
@@ -167,40 +167,61 @@ fn push_not_made(text: &mut String, why: &NotMadeWhy) -> Result<(), AllocError>
     }
 }
 
+/// The number and the name of a refusal.
+fn refusal_name(why: &Refusal) -> &'static str
+    ensures { result.now ≡ refusal_name why.now }
+{
+    match why {
+        Refusal::BadCommand => "1 BadCommand",
+        Refusal::UnknownName => "2 UnknownName",
+        Refusal::NameTaken => "3 NameTaken",
+        Refusal::UnknownType => "4 UnknownType",
+        Refusal::UnknownProperty => "5 UnknownProperty",
+        Refusal::BadValue(_) => "6 BadValue",
+        Refusal::AlreadyHeld => "7 AlreadyHeld",
+        Refusal::Sealed => "8 Sealed",
+        Refusal::ObjectsFull => "9 ObjectsFull",
+        Refusal::NoChain => "10 NoChain",
+        Refusal::Crowded => "11 Crowded",
+        Refusal::StoreFault => "12 StoreFault",
+        Refusal::BadFile(_) => "13 BadFile",
+        Refusal::NoSuchFile => "14 NoSuchFile",
+        Refusal::LineTooLong => "15 LineTooLong",
+        Refusal::UnknownRule => "16 UnknownRule",
+        Refusal::NotFit(_) => "17 NotFit",
+        Refusal::NotMade(_) => "18 NotMade",
+    }
+}
+
+/// Writes the reason of a refusal, where it has one.
+fn push_reason(text: &mut String, why: &Refusal) -> Result<(), AllocError>
+    ensures { OnOk result (string_bytes text.new ≡ string_bytes text.old ++ reason_text why.now) }
+{
+    match why {
+        Refusal::BadValue(why) => {
+            text.push_str(" ")?;
+            text.push_str(why_text(*why))
+        }
+        Refusal::BadFile(why) => {
+            text.push_str(" ")?;
+            push_file_why(text, why)
+        }
+        Refusal::NotFit(condition) => {
+            text.push_str(" ")?;
+            text.push_str(condition.word())
+        }
+        Refusal::NotMade(why) => {
+            text.push_str(" ")?;
+            push_not_made(text, why)
+        }
+        _ => Ok(()),
+    }
+}
+
 /// Writes the number and the name of a refusal, and the reason where it has one.
 pub fn push_refusal(text: &mut String, why: &Refusal) -> Result<(), AllocError>
     ensures { OnOk result (string_bytes text.new ≡ string_bytes text.old ++ refusal_text why.now) }
 {
-    match why {
-        Refusal::BadCommand => text.push_str("1 BadCommand"),
-        Refusal::UnknownName => text.push_str("2 UnknownName"),
-        Refusal::NameTaken => text.push_str("3 NameTaken"),
-        Refusal::UnknownType => text.push_str("4 UnknownType"),
-        Refusal::UnknownProperty => text.push_str("5 UnknownProperty"),
-        Refusal::BadValue(why) => {
-            text.push_str("6 BadValue ")?;
-            text.push_str(why_text(*why))
-        }
-        Refusal::AlreadyHeld => text.push_str("7 AlreadyHeld"),
-        Refusal::Sealed => text.push_str("8 Sealed"),
-        Refusal::ObjectsFull => text.push_str("9 ObjectsFull"),
-        Refusal::NoChain => text.push_str("10 NoChain"),
-        Refusal::Crowded => text.push_str("11 Crowded"),
-        Refusal::StoreFault => text.push_str("12 StoreFault"),
-        Refusal::BadFile(why) => {
-            text.push_str("13 BadFile ")?;
-            push_file_why(text, why)
-        }
-        Refusal::NoSuchFile => text.push_str("14 NoSuchFile"),
-        Refusal::LineTooLong => text.push_str("15 LineTooLong"),
-        Refusal::UnknownRule => text.push_str("16 UnknownRule"),
-        Refusal::NotFit(condition) => {
-            text.push_str("17 NotFit ")?;
-            text.push_str(condition.word())
-        }
-        Refusal::NotMade(why) => {
-            text.push_str("18 NotMade ")?;
-            push_not_made(text, why)
-        }
-    }
+    text.push_str(refusal_name(why))?;
+    push_reason(text, why)
 }

@@ -14,8 +14,9 @@ use Rattle.pm_client.specs.Starts.{Clients}
 use Rattle.pm_standard.specs.Table.{standard_kinds_list}
 use Rattle.pm_props.specs.declared.kind.Kind.{Kind}
 use Rattle.pm_rules.specs.declared.rule.Rule.{Rule}
-use Rattle.pm_shell.specs.Chosen.{IsBook, IsRefusedBook, IsRefusedFile, IsRefusedText, IsTextOf, has_standard_name, kinds_of, most_book, without_standard_names}
+use Rattle.pm_shell.specs.Chosen.{IsBook, IsRefusedBook, IsRefusedFile, IsRefusedText, IsTextOf, has_standard_name, kinds_of, without_standard_names}
 use Rattle.pm_store.specs.Files.{file_of, most_read, read_part}
+use Rattle.pm_limits.specs.Limits.{most_file_bytes}
 
 -- ---- kinds
 abbrev pub kinds_seen : Clients → List Kind
@@ -94,18 +95,18 @@ longer bytes part most is =
     let long : length part ≡ min most (length bytes) = ap length is ∙ length-take most bytes in
     omega arith
 
-whole_part : (file : Option (List ℕ)) (part : List ℕ) → Some part ≡ read_part file → length part ≤ most_book → file ≡ Some part
+whole_part : (file : Option (List ℕ)) (part : List ℕ) → Some part ≡ read_part file → length part ≤ most_file_bytes → file ≡ Some part
 whole_part None part is short = cc
 whole_part (Some bytes) part is short = let e : part ≡ take most_read bytes = cc in ap (λ (t : List ℕ). Some t) (whole_of_part bytes part most_read e (omega arith))
 
-pub is_file : (files : Option (List (List ℕ × List ℕ))) (name part : List ℕ) → IfSome files (λ all. Some part ≡ read_part (file_of all name)) → length part ≤ most_book
+pub is_file : (files : Option (List (List ℕ × List ℕ))) (name part : List ℕ) → IfSome files (λ all. Some part ≡ read_part (file_of all name)) → length part ≤ most_file_bytes
     → IfSome files (λ all. file_of all name ≡ Some part)
 is_file None name part is short = tt
 is_file (Some all) name part is short = whole_part (file_of all name) part is short
 
 refused_part : (clients : Clients) (file : Option (List ℕ)) (part : List ℕ) → Some part ≡ read_part file → IsRefusedText clients part → IsRefusedFile clients file
 refused_part clients None part is refused = tt
-refused_part clients (Some bytes) part is refused = elim (cases_lt most_book (length part)) [
+refused_part clients (Some bytes) part is refused = elim (cases_lt most_file_bytes (length part)) [
   | inl long ↦
       let e : part ≡ take most_read bytes = cc in
       inl (let more = longer bytes part most_read e in omega arith)

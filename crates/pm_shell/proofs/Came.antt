@@ -1,6 +1,6 @@
 -- What the lines of a script came to: some lines were read, and had this outcome.
 use Rattle.std.proofs.Common.{ap, inl, inr, refl, sym, ◌∙◌, ◌≡◌, ◌≤◌, ◌⊎◌, ℕ, Bool, true, false, List, [], ◌∷◌, ◌++◌, Option, Some, IfSome, Result, Ok, Err, IsErrOf, append_assoc}
-use Rattle.pm_lines.specs.Coming.{BreaksOff, Exceeds, IsOver, ReaderSeen, most_bytes}
+use Rattle.pm_lines.specs.Coming.{BreaksOff, Exceeds, IsOver, ReaderSeen}
 use Rattle.pm_lines.specs.declared.reader.LinesFail.{LinesFail}
 use Rattle.pm_lines.specs.declared.reader.LinesFail.TheVariants as line
 use Rattle.pm_machine.specs.Machines.{Machine, Stays}
@@ -14,6 +14,7 @@ use Rattle.pm_shell.specs.Run.{Answers, text_of_reply}
 use Rattle.pm_shell.specs.declared.status.RunFail.{RunFail}
 use Rattle.pm_shell.specs.declared.status.RunFail.TheVariants as why
 use Rattle.pm_store.specs.Outside.{GainsPart}
+use Rattle.pm_limits.specs.Limits.{most_script_bytes}
 
 abbrev pub CameTo : List Rule → Bool → Option (List ℕ) → Option (List ℕ) → Option (List ℕ) → Option (List ℕ) → Machine → Result Bool RunFail → Machine → Type 0
 CameTo book trace script left had has old r new = (lines : List Line) × IsRead script left r lines × HasOutcome book trace had has old lines r new
@@ -31,14 +32,14 @@ not_at_end false r next stays is other = refl
 
 -- the source said that nothing is left
 pub came_over : (book : List Rule) (trace : Bool) (script mid left had has : Option (List ℕ)) (old now : Machine) (r : ReaderSeen) (some : Bool)
-    → Going book trace script mid had has old r some now → r.read ≤ most_bytes → (r.at_end ≡ false → IfSome mid (λ all. IsOver all left r)) → (r.at_end ≡ true → left ≡ mid)
+    → Going book trace script mid had has old r some now → r.read ≤ most_script_bytes → (r.at_end ≡ false → IfSome mid (λ all. IsOver all left r)) → (r.at_end ≡ true → left ≡ mid)
     → CameTo book trace script left had has old (Ok some) now
 came_over book trace script mid left had has old now r some g bound over same =
     (g.first, read_over script mid left g.first r some g.read bound over same, so_far_whole book trace had has old now g.first some g.so_far)
 
 -- the next line did not come
 came_not_on : (book : List Rule) (trace : Bool) (script mid left had has : Option (List ℕ)) (old now : Machine) (r new : ReaderSeen) (some : Bool) (f : LinesFail)
-    → Going book trace script mid had has old r some now → r.at_end ≡ false → r.read ≤ most_bytes → new.read ≤ most_bytes
+    → Going book trace script mid had has old r some now → r.at_end ≡ false → r.read ≤ most_script_bytes → new.read ≤ most_script_bytes
     → (f ≡ line.Fault → IfSome mid (λ all. BreaksOff all left r new)) → (f ≡ line.TooLong → IfSome mid (λ all. Exceeds all left r))
     → CameTo book trace script left had has old (Err (fail_of f)) now
 came_not_on book trace script mid left had has old now r new some line.Fault g on bound bound' breaks exceeds =
@@ -51,7 +52,7 @@ came_not_on book trace script mid left had has old now r new some line.Memory g 
 
 pub came_breaking : (book : List Rule) (trace : Bool) (script mid left had has : Option (List ℕ)) (old now : Machine) (r new : ReaderSeen) (some : Bool)
     (advanced : Result Bool LinesFail) (f : LinesFail) (e : RunFail)
-    → Going book trace script mid had has old r some now → advanced ≡ Err f → e ≡ fail_of f → (r.at_end ≡ true → advanced ≡ Ok false) → r.read ≤ most_bytes → new.read ≤ most_bytes
+    → Going book trace script mid had has old r some now → advanced ≡ Err f → e ≡ fail_of f → (r.at_end ≡ true → advanced ≡ Ok false) → r.read ≤ most_script_bytes → new.read ≤ most_script_bytes
     → (IsErrOf advanced line.Fault → IfSome mid (λ all. BreaksOff all left r new)) → (IsErrOf advanced line.TooLong → IfSome mid (λ all. Exceeds all left r))
     → CameTo book trace script left had has old (Err e) now
 came_breaking book trace script mid left had has old now r new some advanced f e g was is stays bound bound' breaks exceeds =
@@ -64,7 +65,7 @@ is_read script left e lines (inl is) read = rw is read
 is_read script left e lines (inr is) read = rw is (left, read)
 
 pub came_failing : (book now_book : List Rule) (trace : Bool) (script left had between has : Option (List ℕ)) (old mid new : Machine) (r : ReaderSeen) (first : List Line) (line : Line) (some : Bool) (e : RunFail)
-    → r.read ≤ most_bytes → HasRead script left (first ++ line ∷ []) r → SoFar book trace had between old first some mid → now_book ≡ book → (e ≡ why.SinkFault) ⊎ (e ≡ why.Memory)
+    → r.read ≤ most_script_bytes → HasRead script left (first ++ line ∷ []) r → SoFar book trace had between old first some mid → now_book ≡ book → (e ≡ why.SinkFault) ⊎ (e ≡ why.Memory)
     → (e ≡ why.SinkFault → (reply : ReplySeen) × Answers now_book mid line (Some reply) new × GainsPart between has (text_of_reply trace reply))
     → (e ≡ why.Memory → has ≡ between) → (e ≡ why.Memory → Stays mid new ⊎ InHand now_book mid line new)
     → CameTo book trace script left had has old (Err e) new

@@ -3,11 +3,12 @@ use Rattle.std.proofs.Common.{ap, sym, refl, inl, inr, ◌∙◌, ◌≡◌, ◌
 use Rattle.std.proofs.Math.Seq.{drop-append-add, take-append-add}
 use Rattle.std.proofs.lemmas.Bool.{cases_Bool}
 use Rattle.pm_lines.proofs.Callers.{Answered, answered_all, answered_before, answered_ended, answered_last, answered_none, answered_whole}
-use Rattle.pm_lines.specs.Coming.{Answers, BreaksOff, Exceeds, IsOver, ReaderSeen, most_bytes}
+use Rattle.pm_lines.specs.Coming.{Answers, BreaksOff, Exceeds, IsOver, ReaderSeen}
 use Rattle.pm_lines.specs.Whole.{whole_lines}
 use Rattle.pm_command.specs.Lines.{Line, lines_of}
 use Rattle.pm_shell.specs.Ends.{IsRead, IsReadSoFar}
 use Rattle.pm_shell.specs.declared.status.RunFail.TheVariants as why
+use Rattle.pm_limits.specs.Limits.{most_script_bytes}
 
 -- the first lines came of all that the source had left, and so many bytes were read
 pub record Reads (all : List ℕ) (first : List Line) (left : Option (List ℕ)) (r : ReaderSeen) : Type 0 where
@@ -17,7 +18,7 @@ pub record Reads (all : List ℕ) (first : List Line) (left : Option (List ℕ))
 -- they are all lines of it
 pub record ReadsAll (all : List ℕ) (first : List Line) (left : Option (List ℕ)) : Type 0 where
   pub lines : first ≡ lines_of all
-  pub short : length all ≤ most_bytes
+  pub short : length all ≤ most_script_bytes
   pub none : left ≡ Some []
 
 -- the one until the source said that nothing is left, and the other then, where the source tells what it has left
@@ -57,7 +58,7 @@ reads_on all first mid left r new h goes_on answers ended =
 
 -- the end ended it
 reads_last : (all : List ℕ) (first : List Line) (mid left : Option (List ℕ)) (r new : ReaderSeen) (h : Reads all first mid r)
-    → Answers h.answered.rest left r new → new.line.ended ≡ false → new.read ≤ most_bytes → ReadsAll all (first ++ new.line ∷ []) left
+    → Answers h.answered.rest left r new → new.line.ended ≡ false → new.read ≤ most_script_bytes → ReadsAll all (first ++ new.line ∷ []) left
 reads_last all first mid left r new h answers open_line bound =
     let rest = h.answered.rest in
     let gave = answers.1 in
@@ -80,7 +81,7 @@ some_next (Some all) mid left first r new s goes_on answers ended =
     reads_on all first mid left r new h goes_on (rw h.answered.left_is at answers) ended
 
 whole_next : (script mid left : Option (List ℕ)) (first : List Line) (r new : ReaderSeen) → HasRead script mid first r → r.at_end ≡ false
-    → IfSome mid (λ all. Answers all left r new) → new.line.ended ≡ false → new.read ≤ most_bytes → IfSome script (λ all. ReadsAll all (first ++ new.line ∷ []) left)
+    → IfSome mid (λ all. Answers all left r new) → new.line.ended ≡ false → new.read ≤ most_script_bytes → IfSome script (λ all. ReadsAll all (first ++ new.line ∷ []) left)
 whole_next None mid left first r new s goes_on answers open_line bound = tt
 whole_next (Some all) mid left first r new s goes_on answers open_line bound =
     let h = s.some goes_on in
@@ -95,15 +96,15 @@ not_true true e = cc
 not_true false e = refl
 
 pub read_next : (script mid left : Option (List ℕ)) (first : List Line) (r new : ReaderSeen) → HasRead script mid first r → r.at_end ≡ false
-    → IfSome mid (λ all. Answers all left r new) → new.at_end ≡ not new.line.ended → new.read ≤ most_bytes → HasRead script left (first ++ new.line ∷ []) new
+    → IfSome mid (λ all. Answers all left r new) → new.at_end ≡ not new.line.ended → new.read ≤ most_script_bytes → HasRead script left (first ++ new.line ∷ []) new
 read_next script mid left first r new s goes_on answers last bound = record {
   some = λ e. some_next script mid left first r new s goes_on answers (not_false new.line.ended (sym last ∙ e));
   whole = λ e. whole_next script mid left first r new s goes_on answers (not_true new.line.ended (sym last ∙ e)) bound;
 }
 
 -- ---- the end
-over_some : (script mid left : Option (List ℕ)) (first : List Line) (r : ReaderSeen) → HasRead script mid first r → r.at_end ≡ false → r.read ≤ most_bytes
-    → IfSome mid (λ all. IsOver all left r) → IfSome script (λ all. (first ≡ lines_of all) × (length all ≤ most_bytes) × (left ≡ Some []))
+over_some : (script mid left : Option (List ℕ)) (first : List Line) (r : ReaderSeen) → HasRead script mid first r → r.at_end ≡ false → r.read ≤ most_script_bytes
+    → IfSome mid (λ all. IsOver all left r) → IfSome script (λ all. (first ≡ lines_of all) × (length all ≤ most_script_bytes) × (left ≡ Some []))
 over_some None mid left first r s goes_on bound over = tt
 over_some (Some all) mid left first r s goes_on bound over =
     let h = s.some goes_on in
@@ -113,13 +114,13 @@ over_some (Some all) mid left first r s goes_on bound over =
     (sym (answered_all all first mid left r h.answered is), omega arith, is.2)
 
 over_whole : (script mid left : Option (List ℕ)) (first : List Line) (r : ReaderSeen) → HasRead script mid first r → r.at_end ≡ true → left ≡ mid
-    → IfSome script (λ all. (first ≡ lines_of all) × (length all ≤ most_bytes) × (left ≡ Some []))
+    → IfSome script (λ all. (first ≡ lines_of all) × (length all ≤ most_script_bytes) × (left ≡ Some []))
 over_whole None mid left first r s ended same = tt
 over_whole (Some all) mid left first r s ended same =
     let h = s.whole ended in
     (h.lines, h.short, same ∙ h.none)
 
-pub read_over : (script mid left : Option (List ℕ)) (first : List Line) (r : ReaderSeen) (some : Bool) → HasRead script mid first r → r.read ≤ most_bytes
+pub read_over : (script mid left : Option (List ℕ)) (first : List Line) (r : ReaderSeen) (some : Bool) → HasRead script mid first r → r.read ≤ most_script_bytes
     → (r.at_end ≡ false → IfSome mid (λ all. IsOver all left r)) → (r.at_end ≡ true → left ≡ mid) → IsRead script left (Ok some) first
 read_over script mid left first r some s bound over same = elim (cases_Bool r.at_end) [
   | inl e ↦ over_whole script mid left first r s e (same e)
@@ -160,7 +161,7 @@ dropped all first left r h n =
     ∙ ap (λ (k : ℕ). drop (k + n) all) p.count
 
 pub read_breaks : (script mid left : Option (List ℕ)) (first : List Line) (r new : ReaderSeen) → HasRead script mid first r → r.at_end ≡ false
-    → IfSome mid (λ all. BreaksOff all left r new) → new.read ≤ most_bytes → IsRead script left (Err why.SourceFault) first
+    → IfSome mid (λ all. BreaksOff all left r new) → new.read ≤ most_script_bytes → IsRead script left (Err why.SourceFault) first
 read_breaks None mid left first r new s goes_on breaks bound = tt
 read_breaks (Some all) mid left first r new s goes_on breaks bound =
     let h = s.some goes_on in
@@ -184,7 +185,7 @@ read_exceeds (Some all) mid left first r s goes_on exceeds =
     let below = x.1 in
     let full = x.3 in
     let count = h.count in
-    let past : r.read + (x.0 + 1) ≡ most_bytes + 1 = omega arith in (
+    let past : r.read + (x.0 + 1) ≡ most_script_bytes + 1 = omega arith in (
       omega arith,
       x.2 ∙ ap (λ (t : List ℕ). Some t) (dropped all first mid r h (x.0 + 1) ∙ ap (λ (k : ℕ). drop k all) past),
       sym (answered_before all first mid left r h.answered goes_on x) ∙ ap whole_lines (taken all first mid r h x.0 ∙ ap (λ (k : ℕ). take k all) full),
@@ -195,7 +196,7 @@ pub record GoesOn (script left : Option (List ℕ)) (first : List Line) : Type 0
   pub others : List Line
   pub lines : IfSome script (λ all. IsReadSoFar all left (first ++ others))
 
-goes_some : (script left : Option (List ℕ)) (first : List Line) (r : ReaderSeen) → r.at_end ≡ false → r.read ≤ most_bytes → IfSome script (λ all. Reads all first left r) → GoesOn script left first
+goes_some : (script left : Option (List ℕ)) (first : List Line) (r : ReaderSeen) → r.at_end ≡ false → r.read ≤ most_script_bytes → IfSome script (λ all. Reads all first left r) → GoesOn script left first
 goes_some None left first r on bound h = record { others = []; lines = tt }
 goes_some (Some all) left first r on bound h =
     let a = h.answered in
@@ -215,7 +216,7 @@ goes_whole : (script left : Option (List ℕ)) (first : List Line) → IfSome sc
 goes_whole None left first h = record { others = []; lines = tt }
 goes_whole (Some all) left first h = record { others = []; lines = inl (append-nil first ∙ h.lines, h.short, h.none) }
 
-pub goes_on : (script left : Option (List ℕ)) (first : List Line) (r : ReaderSeen) → r.read ≤ most_bytes → HasRead script left first r → GoesOn script left first
+pub goes_on : (script left : Option (List ℕ)) (first : List Line) (r : ReaderSeen) → r.read ≤ most_script_bytes → HasRead script left first r → GoesOn script left first
 goes_on script left first r bound s = elim (cases_Bool r.at_end) [
   | inl e ↦ goes_whole script left first (s.whole e)
   | inr e ↦ goes_some script left first r e bound (s.some e)

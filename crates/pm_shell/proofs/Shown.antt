@@ -4,19 +4,17 @@ use Rattle.std.proofs.lemmas.Option.{same_Some}
 use Rattle.std.specs.Option.{option_and_then, option_map}
 use Rattle.pm_object_type.specs.declared.object_type.ObjectType.{ObjectType}
 use Rattle.pm_machine.proofs.Kept.{kept_at, some_not_none, steps_keep}
-use Rattle.pm_machine.specs.Events.{Configuration, Ensured, Event, after_event, after_events, begun, committed, configuration, excluded, settled, started, written}
-use Rattle.pm_machine.specs.declared.round.Ending.{Ending}
-use Rattle.pm_machine.specs.declared.round.Ending.TheVariants.{Found}
+use Rattle.pm_rounds.specs.Events.{Configuration, Ensured, Event, after_event, after_events, begun, committed, configuration, excluded, settled, started, written}
+use Rattle.pm_rounds.specs.declared.round.Ending.{Ending}
+use Rattle.pm_rounds.specs.declared.round.Ending.TheVariants.{Found}
 use Rattle.pm_machine.specs.Machines.{Machine}
-use Rattle.pm_machine.specs.Steps.{AllKept, Named, NewOf, Step, named_at, part_named}
+use Rattle.pm_machine.specs.Steps.{AllKept, Named, NewOf, Step, is_asked, is_shown, named_at, part_named}
 use Rattle.pm_object.specs.State.{State, place_from, place_named, read_at, value_of}
 use Rattle.pm_rules.specs.declared.rule.Rule.{Rule}
-use Rattle.pm_command.specs.declared.building.Builder.{Builder}
-use Rattle.pm_machine.specs.Building.{BuildStep}
-use Rattle.pm_command.specs.Commands.{RefSeen, Spoken, blank, new_object, take_value, give_value, look_up, ensure_values, explain_values, tell_history, show_rules, disable_rule, unload_client, copy_object, drop_object, tell_origin, load_object, save_object, make_object, build_object}
+use Rattle.pm_command.specs.Commands.{RefSeen, Spoken, blank, new_object, give_value, look_up, ensure_values, explain_values}
 use Rattle.pm_command.specs.Grammar.{ref_text}
 use Rattle.pm_command.specs.Lines.{Line}
-use Rattle.pm_script.specs.Replies.{ReplySeen, Rounds, done, ensured, explained, lists_rules, loaded, refused, shows, tells, tells_origin, undef}
+use Rattle.pm_script.specs.Replies.{ReplySeen, Rounds, shows}
 use Rattle.pm_script.specs.declared.refusal.Refusal.{Refusal}
 use Rattle.pm_shell.specs.Run.{Answers, AnswersTo, command_at, refusal_of}
 use Rattle.pm_shell.specs.Shown.{IsShown, Shows}
@@ -94,36 +92,21 @@ shown_by m ref text of p v found all is at typed held =
     record { ref = ref; spelled = is; found = found; named = at; typed = typed; held = held; honest = (kept_at m ref found at all).honest }
 
 none_made : (old new : Machine) (name : List ℕ) (sub : Option (List ℕ)) (word text : List ℕ) (of : ObjectType) (p : PropId) (v : PropertyValue) (t : Rounds) → NewOf old name sub word (shows text of p v t) new → ⊥
-none_made old new name None word text of p v t h = h
-none_made old new name (Some sub) word text of p v t h = h
-
-none_built : (book : List Rule) (builder : Builder) (old new : Machine) (names : List (List ℕ)) (to text : List ℕ) (of : ObjectType) (p : PropId) (v : PropertyValue) (t : Rounds) → BuildStep book builder old names to (shows text of p v t) new → ⊥
-none_built book builder old new names to text of p v t h = elim h [ ]
+none_made old new name None word text of p v t h = elim h [ ]
+none_made old new name (Some sub) word text of p v t h = elim h [ ]
 
 shown_step : (book : List Rule) (old new : Machine) (command : Spoken) (text : List ℕ) (of : ObjectType) (p : PropId) (v : PropertyValue) (t : Rounds)
     → Step book old command (shows text of p v t) new → AllKept new → IsShown text of p v new
-shown_step book old new blank text of p v t h all = absurd h
 shown_step book old new (new_object ref word) text of p v t h all = absurd (none_made old new ref.name ref.sub word text of p v t h)
-shown_step book old new (take_value ref word json) text of p v t h all = absurd h
-shown_step book old new show_rules text of p v t h all = absurd h
-shown_step book old new (disable_rule key label) text of p v t h all = absurd h
-shown_step book old new (unload_client client) text of p v t h all = absurd h
-shown_step book old new (copy_object key to) text of p v t h all = absurd h
-shown_step book old new (drop_object key) text of p v t h all = absurd h
-shown_step book old new (tell_origin ref word) text of p v t h all = absurd h
-shown_step book old new (load_object key file) text of p v t h all = absurd h
-shown_step book old new (save_object key file) text of p v t h all = absurd h
-shown_step book old new (make_object to shape) text of p v t h all = absurd h
-shown_step book old new (build_object builder names to) text of p v t h all = absurd (none_built book builder old new names to text of p v t h)
-shown_step book old new (ensure_values ref words) text of p v t h all = absurd h
-shown_step book old new (explain_values ref words) text of p v t h all = absurd h
-shown_step book old new (tell_history key) text of p v t h all = absurd h
-shown_step book old new (give_value ref word) text of p v t (x, at, q, named, c, (so, is, typed, same, held, rounds), becomes) all =
+shown_step book old new (give_value ref word) text of p v t (is_asked (x, at, q, named, c, is_shown so is typed same held rounds, becomes)) all =
     shown_by new ref text of p v (record { object = c.object; sub = x.sub }) all is
     (named_again old new ref x c.object at becomes.object (programs_ensured book x.sub _ Found (configuration x.object old.clients) c so))
     (of_ensured book x.sub _ Found (configuration x.object old.clients) c so ∙ sym typed) (subst (λ z. value_of z (read_at x.sub c.object.held) ≡ Some v) (sym same) held)
-shown_step book old new (look_up ref word) text of p v t (x, at, named, is, typed, held, none, stays) all =
+shown_step book old new (look_up ref word) text of p v t (is_shown x at named is typed held none stays) all =
     shown_by new ref text of p v x all is (ap (option_and_then (λ y. part_named y ref.sub)) (stays.objects ref.name) ∙ at) (sym typed) held
+shown_step book old new (ensure_values ref words) text of p v t (is_asked (x, at, asked, named, c, h, becomes)) all = elim h [ ]
+shown_step book old new (explain_values ref words) text of p v t (is_asked (x, at, asked, named, h, becomes)) all = elim h [ ]
+shown_step book old new command text of p v t h all = elim h [ ]
 
 shown_to : (book : List Rule) (old new : Machine) (why : Refusal) (command : Option Spoken) (text : List ℕ) (of : ObjectType) (p : PropId) (v : PropertyValue) (t : Rounds)
     → AnswersTo book old why command (Some (shows text of p v t)) new → AllKept new → IsShown text of p v new
@@ -131,14 +114,5 @@ shown_to book old new why (Some command) text of p v t step all = shown_step boo
 shown_to book old new why None text of p v t (reply_is, is) all = absurd (cc reply_is)
 
 pub shows_right : (book : List Rule) (old new : Machine) (line : Line) (reply : Option ReplySeen) → Answers book old line reply new → AllKept new → Shows reply new
-shows_right book old new line None answers all = tt
 shows_right book old new line (Some (shows text of p v t)) answers all = shown_to book old new (refusal_of line) (command_at line) text of p v t answers all
-shows_right book old new line (Some (done t)) answers all = tt
-shows_right book old new line (Some (tells_origin g)) answers all = tt
-shows_right book old new line (Some (loaded names)) answers all = tt
-shows_right book old new line (Some undef) answers all = tt
-shows_right book old new line (Some (lists_rules n text)) answers all = tt
-shows_right book old new line (Some (ensured t)) answers all = tt
-shows_right book old new line (Some (explained chain weight rows names)) answers all = tt
-shows_right book old new line (Some (tells t failures)) answers all = tt
-shows_right book old new line (Some (refused why more)) answers all = tt
+shows_right book old new line reply answers all = tt

@@ -9,10 +9,7 @@ use Rattle.pm_props.specs.declared.kind.Kind.{Kind}
 use Rattle.pm_standard.specs.Book.{standard_rules}
 use Rattle.pm_rules.specs.declared.rule.Rule.{Rule}
 use Rattle.pm_store.specs.Files.{file_of}
-
--- the most bytes of a book
-abbrev pub most_book : ℕ
-most_book = 8388608
+use Rattle.pm_limits.specs.Limits.{most_file_bytes}
 
 -- some standard kind has the name of this one
 unfoldable pub has_standard_name : Kind → Bool
@@ -28,14 +25,14 @@ kinds_of clients = standard_kinds_list ++ without_standard_names (map (λ client
 
 -- the bytes are text, not too long, and spell these rules
 pub record IsTextOf (clients : Clients) (bytes : List ℕ) (book : List Rule) : Type 0 where
-  pub short : length bytes ≤ most_book
+  pub short : length bytes ≤ most_file_bytes
   pub utf8 : IsUtf8 bytes
   pub spells : IsBookText (kinds_of clients) bytes book
 
 -- the bytes are no text, too long, or spell no rules
 abbrev pub IsRefusedText : Clients → List ℕ → Type 0
 IsRefusedText clients bytes =
-    (most_book < length bytes) ⊎ ((¬ (IsUtf8 bytes)) ⊎ ((book : List Rule) → ¬ (IsBookText (kinds_of clients) bytes book)))
+    (most_file_bytes < length bytes) ⊎ ((¬ (IsUtf8 bytes)) ⊎ ((book : List Rule) → ¬ (IsBookText (kinds_of clients) bytes book)))
 
 -- These are the rules of the book: without a name the standard ones, with a name those that a text spells.
 -- Where the store tells its files, that is the text of the file of this name.

@@ -1,7 +1,6 @@
 -- How a run of the program ended, and what the sink took until then.
 use Rattle.std.specs.Prelude.{ℕ, ◌≡◌, ◌+◌, ◌<◌, ◌≤◌, ◌⊎◌, Bool, true, false, Option, Some, None, IfSome, List, [], ◌∷◌, ◌++◌, drop, length, take, Result, Ok, Err}
 use Rattle.pm_client.specs.Starts.{Clients}
-use Rattle.pm_lines.specs.Coming.{most_bytes}
 use Rattle.pm_lines.specs.Whole.{whole_lines}
 use Rattle.pm_lines.specs.declared.reader.LinesFail.{LinesFail}
 use Rattle.pm_lines.specs.declared.reader.LinesFail.TheVariants as line
@@ -21,6 +20,7 @@ use Rattle.pm_shell.specs.declared.status.Status.TheVariants.{Answered, SomeRefu
 use Rattle.pm_store.specs.Files.{FilesStay}
 use Rattle.pm_store.specs.Outside.{Gains, Rose}
 use Rattle.pm_words.specs.Words.{WordsSeen}
+use Rattle.pm_limits.specs.Limits.{most_script_bytes}
 
 -- the number of a status
 abbrev pub number_of : Status → ℕ
@@ -109,8 +109,8 @@ HasOutcome book trace had has old lines (Err why.TooLong) new = (some_refused : 
 
 -- all of the script was read, and is no longer than the most; or first bytes of it, no more than the most, and of these the lines that an LF ended
 abbrev pub IsReadSoFar : List ℕ → Option (List ℕ) → List Line → Type 0
-IsReadSoFar all left lines = ((lines ≡ lines_of all) × (length all ≤ most_bytes) × (left ≡ Some []))
-    ⊎ ((n : ℕ) × (n ≤ length all) × (n ≤ most_bytes) × (left ≡ Some (drop n all)) × (lines ≡ whole_lines (take n all)))
+IsReadSoFar all left lines = ((lines ≡ lines_of all) × (length all ≤ most_script_bytes) × (left ≡ Some []))
+    ⊎ ((n : ℕ) × (n ≤ length all) × (n ≤ most_script_bytes) × (left ≡ Some (drop n all)) × (lines ≡ whole_lines (take n all)))
 
 -- Which lines these are, with this outcome, of what the source told before to have left, if it did, and what it tells now:
 -- all lines of a script that was read to its end;
@@ -118,13 +118,13 @@ IsReadSoFar all left lines = ((lines ≡ lines_of all) × (length all ≤ most_b
 -- all whole lines of what the source gave until it failed, without a last one that no LF ended;
 -- all whole lines of the most bytes of a script, where it has more, of which one is gone.
 abbrev pub IsRead : Option (List ℕ) → Option (List ℕ) → Result Bool RunFail → List Line → Type 0
-IsRead script left (Ok some_refused) lines = IfSome script (λ all. (lines ≡ lines_of all) × (length all ≤ most_bytes) × (left ≡ Some []))
+IsRead script left (Ok some_refused) lines = IfSome script (λ all. (lines ≡ lines_of all) × (length all ≤ most_script_bytes) × (left ≡ Some []))
 IsRead script left (Err why.SourceFault) lines =
-    IfSome script (λ all. (n : ℕ) × (n ≤ length all) × (n ≤ most_bytes) × (left ≡ Some (drop n all)) × (lines ≡ whole_lines (take n all)))
+    IfSome script (λ all. (n : ℕ) × (n ≤ length all) × (n ≤ most_script_bytes) × (left ≡ Some (drop n all)) × (lines ≡ whole_lines (take n all)))
 IsRead script left (Err why.SinkFault) lines = IfSome script (λ all. IsReadSoFar all left lines)
 IsRead script left (Err why.Memory) lines = (mid : Option (List ℕ)) × IfSome script (λ all. IsReadSoFar all mid lines)
 IsRead script left (Err why.TooLong) lines =
-    IfSome script (λ all. (most_bytes < length all) × (left ≡ Some (drop (most_bytes + 1) all)) × (lines ≡ whole_lines (take most_bytes all)))
+    IfSome script (λ all. (most_script_bytes < length all) × (left ≡ Some (drop (most_script_bytes + 1) all)) × (lines ≡ whole_lines (take most_script_bytes all)))
 
 -- What was told before and after: what the source has left, what the sink took, the files of the store, the count of its faults; and the clients.
 pub record World : Type 0 where

@@ -14,6 +14,7 @@ ghost use Rattle.std.specs.Str.{bytes_eq};
 
 use pm_books::{BookFail, read_book};
 use pm_client::Client;
+use pm_limits::MOST_FILE_BYTES;
 use pm_props::Kind;
 use pm_rules::Book;
 use pm_standard::{standard_book, standard_kinds};
@@ -21,9 +22,6 @@ use pm_store::{Store, StoreFail};
 use pm_words::Words;
 use std::alloc::{AllocError, Global};
 use std::str;
-
-/// The most bytes of a book.
-pub const BOOK_LIMIT: usize = 8_388_608;
 
 /// Why there is no book.
 #[derive(Clone, Copy)]
@@ -106,7 +104,7 @@ fn book_of_bytes(alloc: Global, bytes: &[u8], clients: &[Box<dyn Client>]) -> Re
     ensures found { IfOk result (λ b. IsTextOf (map tally clients.now) bytes.now b) }
     ensures refused { IsErrOf result NoBook.Refused → IsRefusedText (map tally clients.now) bytes.now }
 {
-    if bytes.len() > BOOK_LIMIT {
+    if bytes.len() > MOST_FILE_BYTES {
         return Err(NoBook::Refused);
     }
     let Ok(text) = str::from_utf8(bytes) else {

@@ -23,9 +23,9 @@ pub enum Status {
     SinkFault,
     /// Memory ran out.
     OutOfMemory,
-    /// The script has more than 16,777,216 bytes. The whole lines of these are answered.
+    /// The script has more than `MOST_SCRIPT_BYTES` bytes. The whole lines of these are answered.
     TooLong,
-    /// The named book is absent, cannot be had, is longer than 8,388,608 bytes or no UTF-8, or is refused.
+    /// The named book is absent, cannot be had, is longer than `MOST_FILE_BYTES` bytes or no UTF-8, or is refused.
     BadBook,
 }
 

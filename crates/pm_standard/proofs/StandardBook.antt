@@ -13,7 +13,6 @@ use Rattle.pm_props.specs.Kinds.{conditions_of}
 use Rattle.pm_standard.specs.Table.{standard_clients, standard_kind, standard_kinds_list, standard_row}
 use Rattle.pm_props.specs.Properties.{count, every_property, is_of_truth_values, value_kind}
 use Rattle.pm_props.specs.Sets.{has, only, union, intersection}
-use Rattle.pm_weights.specs.Weights.{most}
 use Rattle.pm_props.specs.declared.kind.Kind.{Kind}
 use Rattle.pm_props.specs.declared.property.PropId.{PropId}
 use Rattle.pm_props.specs.declared.property.ValueKind.{ValueKind}
@@ -25,6 +24,7 @@ use Rattle.pm_rules.specs.Words.{is_label}
 use Rattle.pm_rules.specs.Books.{FirstKinds, IsNamed, IsRule, IsBook}
 use Rattle.pm_standard.specs.Book.{rule_of, standard_rule, standard_rules}
 use Rattle.pm_rules.proofs.Labels.{label_is_word}
+use Rattle.pm_limits.specs.Limits.{most_weight}
 
 -- ---- each rule
 abbrev is_named : ℕ → Bool
@@ -65,16 +65,16 @@ has_fit_names kind = is_label kind.name && (is_named kind.targets && is_named ki
 
 -- whether a standard rule is one of a book
 abbrev is_fit : StandardRule → Bool
-is_fit r = has_fit_names r.kind && (has_fit_conditions r.kind && (ltb 0 r.weight && leb r.weight most))
+is_fit r = has_fit_names r.kind && (has_fit_conditions r.kind && (ltb 0 r.weight && leb r.weight most_weight))
 
 fit_IsRule : (r : StandardRule) → is_fit r ≡ true → IsRule (rule_of r)
 fit_IsRule r h =
     let kind = r.kind in
-    let halves = and_parts (has_fit_names kind) (has_fit_conditions kind && (ltb 0 r.weight && leb r.weight most)) h in
+    let halves = and_parts (has_fit_names kind) (has_fit_conditions kind && (ltb 0 r.weight && leb r.weight most_weight)) h in
     let names = and_parts (is_label kind.name) (is_named kind.targets && is_named kind.sources) halves.0 in
     let sets = and_parts (is_named kind.targets) (is_named kind.sources) names.1 in
-    let rest = and_parts (has_fit_conditions kind) (ltb 0 r.weight && leb r.weight most) halves.1 in
-    let weight = and_parts (ltb 0 r.weight) (leb r.weight most) rest.1 in
+    let rest = and_parts (has_fit_conditions kind) (ltb 0 r.weight && leb r.weight most_weight) halves.1 in
+    let weight = and_parts (ltb 0 r.weight) (leb r.weight most_weight) rest.1 in
     let asked = and_parts (list_all (has_truths kind) every_property && list_all (is_apart kind) every_property)
     ((eqb (intersection kind.must kind.must) kind.must && eqb (intersection kind.must_not kind.must_not) kind.must_not) && (ltb kind.must (2 ^ count) && ltb kind.must_not (2 ^ count))) rest.0 in
     let tests = and_parts (list_all (has_truths kind) every_property) (list_all (is_apart kind) every_property) asked.0 in
@@ -87,7 +87,7 @@ fit_IsRule r h =
       client = label_is_word kind.name names.0;
       targets = named kind.targets sets.0;
       sources = named kind.sources sets.1;
-      weight = record { class = lit≤ tt; minor = leb-true r.weight most weight.1; some = omega arith };
+      weight = record { class = lit≤ tt; minor = leb-true r.weight most_weight weight.1; some = omega arith };
       flags = λ p k. truth_kind (value_kind p) (implied (has (conditions_of kind) p) (is_of_truth_values (value_kind p)) (all_properties (has_truths kind) tests.0 p) k);
       apart = λ p k. not-true (has kind.must_not p) (implied (has kind.must p) (not (has kind.must_not p)) (all_properties (is_apart kind) tests.1 p) k);
       must = eqb-true (intersection kind.must kind.must) kind.must within.0;

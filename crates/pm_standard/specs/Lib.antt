@@ -1,2 +1,4 @@
+pub mod Ways
 pub mod Table
+pub mod Named
 pub mod Book

@@ -1,6 +1,7 @@
 -- Files by their names, and what a call of a store may do to them.
-use Rattle.std.specs.Prelude.{◌≡◌, ◌≢◌, ℕ, List, [], ◌∷◌, take, Option, Some, None, IfSome, option_map, ◌⊎◌, if◌then◌else◌}
+use Rattle.std.specs.Prelude.{◌≡◌, ◌≢◌, ℕ, List, [], ◌∷◌, take, Option, Some, None, IfSome, option_map, ◌⊎◌, if◌then◌else◌, ◌+◌}
 use Rattle.std.specs.Str.{bytes_eq}
+use Rattle.pm_limits.specs.Limits.{most_file_bytes}
 
 -- the bytes of the file of this name, if there is one
 abbrev pub file_of : List (List ℕ × List ℕ) → List ℕ → Option (List ℕ)
@@ -14,7 +15,7 @@ HasNamesOnce (file ∷ files) = (file_of files file.0 ≡ None) × HasNamesOnce 
 
 -- the most bytes of a file that are read
 abbrev pub most_read : ℕ
-most_read = 8388609
+most_read = most_file_bytes + 1
 
 -- what is read of a file, if there is one
 abbrev pub read_part : Option (List ℕ) → Option (List ℕ)

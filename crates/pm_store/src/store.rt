@@ -6,11 +6,12 @@ ghost use Rattle.pm_store.specs.Files.{AreTold, FilesStay, HasNamesOnce, IsPut, 
 ghost use Rattle.pm_store.specs.declared.store.StoreFail.TheVariants.{Failed as FailedStore, Memory};
 
 use crate::Failed;
+use pm_limits::MOST_FILE_BYTES;
 use std::alloc::{AllocError, Global};
 use thiserror::Error;
 
 /// The most bytes of a file that are read: one more than a file may have.
-pub(crate) const MOST_READ: usize = 8_388_609;
+pub(crate) const MOST_READ: usize = MOST_FILE_BYTES + 1;
 
 /// Why a store did not do what it was asked.
 #[derive(Clone, Copy, Debug, PartialEq, Eq, Error)]

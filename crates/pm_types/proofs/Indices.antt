@@ -7,6 +7,7 @@ use Rattle.std.proofs.lemmas.Bool.{and_from, le-leb, lt-ltb}
 use Rattle.std.proofs.lemmas.List.Elements.{All-head, All-tail}
 use Rattle.std.specs.List.{All, AllPairs, list_all}
 use Rattle.std.specs.Prelude.{List, [], length, true, ℕ, ◌&&◌, ◌<◌, ◌∷◌, ◌≡◌, ◌≤◌}
+use Rattle.pm_limits.specs.Limits.{most_rows}
 
 -- from low on, below n and so below m
 rising_indices : (m n low : ℕ) (set : List ℕ) → n ≤ m → All (λ j. low ≤ j) set → All (λ j. j < n) set → AllPairs (λ i j. i < j) set → are_indices m low set ≡ true
@@ -25,7 +26,7 @@ ascending_lists m n [] l h = refl
 ascending_lists m n (set ∷ sets) l h = and_from (are_indices m 0 set) (list_all (are_indices m 0) sets) (ascending_indices m n set l (h set here)) (ascending_lists m n sets l (λ s i. h s (there i)))
 
 -- few such lists are a value of sets
-pub ascending_sets : (n : ℕ) (sets : List (List ℕ)) → length sets ≤ 2048 → n ≤ 2048 → All (IsAscending n) sets → is_sets_form sets n ≡ true
+pub ascending_sets : (n : ℕ) (sets : List (List ℕ)) → length sets ≤ most_rows → n ≤ most_rows → All (IsAscending n) sets → is_sets_form sets n ≡ true
 ascending_sets n sets few small h =
-    and_from (leb (length sets) 2048 && leb n 2048) (list_all (are_indices n 0) sets) (and_from (leb (length sets) 2048) (leb n 2048) (le-leb (length sets) 2048 few) (le-leb n 2048 small))
+    and_from (leb (length sets) most_rows && leb n most_rows) (list_all (are_indices n 0) sets) (and_from (leb (length sets) most_rows) (leb n most_rows) (le-leb (length sets) most_rows few) (le-leb n most_rows small))
     (ascending_lists n n sets (omega arith) (λ s i. among_All (IsAscending n) i h))

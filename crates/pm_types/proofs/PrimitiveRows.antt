@@ -19,6 +19,7 @@ use Rattle.std.specs.Int.{◌∣◌}
 use Rattle.std.specs.List.{All, list_all}
 use Rattle.std.specs.Prelude.{List, [], nat_eq, nat_le, unsigned_abs, true, ◌&&◌}
 use lib.IntN.{ℤ, ◌*ℤ◌}
+use Rattle.pm_limits.specs.Limits.{most_columns, most_rows}
 
 -- ---- a least common denominator one column on
 lcm_of_zero : (b : ℕ) → IsLcm 0 b 0
@@ -68,16 +69,16 @@ pub no_wide_row : (rows : List (List Ratio)) (i : ℕ) (a b : ℤ) → All HasPr
 no_wide_row rows i a b h w = not_wide (get_or rows i []) a b (h i [] w.within) w.wide
 
 -- a matrix in its form has few rows
-pub few_rows : (n : ℕ) (rows : List (List Ratio)) → is_matrix_form n rows ≡ true → length rows ≤ 2048
+pub few_rows : (n : ℕ) (rows : List (List Ratio)) → is_matrix_form n rows ≡ true → length rows ≤ most_rows
 few_rows n rows h =
-    let p = and_parts (nat_le (length rows) 2048 && is_column_count rows n) (list_all (is_row_of_entries n) rows) h in
-    let q = and_parts (nat_le (length rows) 2048) (is_column_count rows n) p.0 in
-    leb-true (length rows) 2048 q.0
+    let p = and_parts (nat_le (length rows) most_rows && is_column_count rows n) (list_all (is_row_of_entries n) rows) h in
+    let q = and_parts (nat_le (length rows) most_rows) (is_column_count rows n) p.0 in
+    leb-true (length rows) most_rows q.0
 
-pub few_rows_of : (p : PropId) (n : ℕ) (rows : List (List Ratio)) → is_matrix_of p n rows ≡ true → length rows ≤ 2048
+pub few_rows_of : (p : PropId) (n : ℕ) (rows : List (List Ratio)) → is_matrix_of p n rows ≡ true → length rows ≤ most_rows
 few_rows_of F2Vector n rows h =
-    let p = and_parts (nat_le (length rows) 2048 && nat_le n 33) (list_all (is_row_of_entries n) rows) h in
-    let q = and_parts (nat_le (length rows) 2048) (nat_le n 33) p.0 in
-    leb-true (length rows) 2048 q.0
+    let p = and_parts (nat_le (length rows) most_rows && nat_le n most_columns) (list_all (is_row_of_entries n) rows) h in
+    let q = and_parts (nat_le (length rows) most_rows) (nat_le n most_columns) p.0 in
+    leb-true (length rows) most_rows q.0
 few_rows_of LinearObjective n rows h = few_rows n rows (and_parts (nat_eq (length rows) 1) (is_matrix_form n rows) h).1
 few_rows_of p n rows h = few_rows n rows h

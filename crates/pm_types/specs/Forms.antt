@@ -17,6 +17,7 @@ use Rattle.pm_props.specs.declared.property.RowTest.TheVariants as test
 use Rattle.pm_props.specs.declared.property.ValueKind.{ValueKind}
 use Rattle.pm_props.specs.declared.property.ValueKind.TheVariants as kind
 use lib.IntN.{ℤ, pos, negsuc}
+use Rattle.pm_limits.specs.Limits.{most_columns, most_faces, most_indices, most_places, most_rows}
 
 -- ---- forms
 -- a row of n entries
@@ -25,15 +26,15 @@ is_row_of_entries n r = nat_eq (length r) n
 
 -- rows need columns
 abbrev pub is_column_count : List (List Ratio) → ℕ → Bool
-is_column_count [] n = nat_le n 33
-is_column_count (r ∷ rows) n = nat_le 1 n && nat_le n 33
+is_column_count [] n = nat_le n most_columns
+is_column_count (r ∷ rows) n = nat_le 1 n && nat_le n most_columns
 
 abbrev pub is_matrix_form : ℕ → List (List Ratio) → Bool
-is_matrix_form n rows = nat_le (length rows) 2048 && is_column_count rows n && list_all (is_row_of_entries n) rows
+is_matrix_form n rows = nat_le (length rows) most_rows && is_column_count rows n && list_all (is_row_of_entries n) rows
 
 -- a table may have rows without entries
 abbrev pub is_table_form : ℕ → List (List Ratio) → Bool
-is_table_form n rows = nat_le (length rows) 2048 && nat_le n 33 && list_all (is_row_of_entries n) rows
+is_table_form n rows = nat_le (length rows) most_rows && nat_le n most_columns && list_all (is_row_of_entries n) rows
 
 -- F2_VECTOR is a table, and LP.LINEAR_OBJECTIVE is one row
 abbrev pub is_matrix_of : PropId → ℕ → List (List Ratio) → Bool
@@ -47,10 +48,10 @@ are_indices n low [] = true
 are_indices n low (j ∷ js) = nat_le low j && nat_lt j n && are_indices n (suc j) js
 
 abbrev pub is_sets_form : List (List ℕ) → ℕ → Bool
-is_sets_form rows n = nat_le (length rows) 2048 && nat_le n 2048 && list_all (are_indices n 0) rows
+is_sets_form rows n = nat_le (length rows) most_rows && nat_le n most_rows && list_all (are_indices n 0) rows
 
 abbrev pub is_dimension : ℤ → Bool
-is_dimension (pos n) = nat_le 1 n && nat_le n 33
+is_dimension (pos n) = nat_le 1 n && nat_le n most_columns
 is_dimension (negsuc n) = false
 
 abbrev pub has_64_bits : ℤ → Bool
@@ -61,9 +62,9 @@ has_64_bits (negsuc n) = nat_lt n (2 ^ 63)
 abbrev pub is_whole_form : PropId → ℤ → Bool
 is_whole_form p k = if is_ambient p then is_dimension k else is_of_whole_numbers (value_kind p) && has_64_bits k
 
--- at most 2,048 whole numbers of 64 bits
+-- at most most_rows whole numbers of 64 bits
 abbrev pub is_counts_form : List ℤ → Bool
-is_counts_form ks = nat_le (length ks) 2048 && list_all has_64_bits ks
+is_counts_form ks = nat_le (length ks) most_rows && list_all has_64_bits ks
 
 -- j is another node, and has i as its neighbour
 abbrev pub joins : List (List ℕ) → ℕ → ℕ → Bool
@@ -78,20 +79,20 @@ abbrev pub are_joined_back : List (List ℕ) → ℕ → List (List ℕ) → Boo
 are_joined_back rows i [] = true
 are_joined_back rows i (row ∷ others) = is_joined_back rows i row && are_joined_back rows (suc i) others
 
--- at most 2,048 nodes, each with ascending neighbours, and neighbours of one another
+-- at most most_rows nodes, each with ascending neighbours, and neighbours of one another
 abbrev pub is_edges_form : List (List ℕ) → Bool
 is_edges_form rows = is_sets_form rows (length rows) && are_joined_back rows 0 rows
 
--- at most 65,536 faces with at most 4,000,000 indices in all, each ascending, below 2,048
+-- at most most_faces faces with at most most_places indices in all, each ascending, below most_rows
 abbrev pub is_lattice_form : List (List (List ℕ)) → Bool
-is_lattice_form ranks = nat_le (sum_by length ranks) 65536 && nat_le (sum_by (sum_by length) ranks) 4000000 && list_all (list_all (are_indices 2048 0)) ranks
+is_lattice_form ranks = nat_le (sum_by length ranks) most_faces && nat_le (sum_by (sum_by length) ranks) most_places && list_all (list_all (are_indices most_indices 0)) ranks
 
 -- a fraction or an infinity
 abbrev pub is_of_numbers : ValueKind → Bool
 is_of_numbers kind.Number = true
 is_of_numbers k = false
 
--- the value has the form of a value of p, and keeps the limits: a matrix has at most 2,048 rows of one length from 1 to 33, and without rows it may state no column count, 0; at most 2,048 sets, each ascending, of indices below a column count of at most 2,048; at most 2,048 counts; edges and lattices as above
+-- the value has the form of a value of p, and keeps the limits: a matrix has at most most_rows rows of one length from 1 to 33, and without rows it may state no column count, 0; at most most_rows sets, each ascending, of indices below a column count of at most most_rows; at most most_rows counts; edges and lattices as above
 abbrev pub is_formed : PropId → PropertyValue → Bool
 is_formed p (matrix n rows) = is_of_matrices (value_kind p) && is_matrix_of p n rows
 is_formed p (sets rows n) = is_of_sets (value_kind p) && is_sets_form rows n

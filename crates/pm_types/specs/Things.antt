@@ -7,6 +7,7 @@ use Rattle.pm_object_type.specs.declared.object_type.ObjectType.{ObjectType}
 use Rattle.pm_object_type.specs.declared.object_type.ObjectType.TheVariants.{Polytope, Cone, Fan}
 use lib.IntN.{pos}
 use lib.Signed.{◌<ℤ◌}
+use Rattle.pm_limits.specs.Limits.{most_columns}
 
 -- a type, n columns, and finite lists of rows: generators and lines of a cone or polytope, lines and one list of generators for each cone of a fan; and for each program at a place its objective, a row of fractions
 pub record Thing : Type 0 where
@@ -31,7 +32,7 @@ IsOfType Fan n G L Gs = IsFanThing n Gs L × (G ≡ [])
 -- the lists describe a thing of its type, which has from 1 to 33 columns
 pub record IsThing (t : Thing) : Type 0 where
   pub some_cols : 1 ≤ t.cols
-  pub few_cols : t.cols ≤ 33
+  pub few_cols : t.cols ≤ most_columns
   pub kind : IsOfType t.of t.cols t.generators t.lines t.cones
   pub programs : AreObjectives t.cols t.objective
 

@@ -42,7 +42,7 @@ not_below_and_at_most a b (inl h) (inr k) = absurd (omega arith)
 not_below_and_at_most a b (inr h) (inl k) = absurd (omega arith)
 not_below_and_at_most a b (inr h) (inr k) = absurd (omega arith)
 
--- of two costs one is at most the other, or above it
+-- of two costs one is at most_weight the other, or above it
 pub at_most_or_below : (a b : Cost) → IsAtMost a b ⊎ IsBelow b a
 at_most_or_below a b = elim (cases_order a.class b.class) [
   | inl e ↦ elim (cases_order a.minor b.minor) [

@@ -3,15 +3,12 @@ use Rattle.std.specs.Prelude.{◌≡◌, ℕ, ◌+◌, ◌<◌, ◌≤◌, ◌�
 use Rattle.std.specs.Fmt.{decimal}
 use Rattle.pm_weights.specs.declared.Weight.{Weight}
 use Rattle.pm_weights.specs.declared.Cost.{Cost}
+use Rattle.pm_limits.specs.Limits.{most_weight}
 
--- the greatest class and the greatest minor of a weight
-abbrev pub most : ℕ
-most = 1000000
-
--- each part is from 0 to 1,000,000, and not both are 0
+-- each part is from 0 to most_weight, and not both are 0
 pub record IsWeight (w : Weight) : Type 0 where
-  pub class : w.class ≤ most
-  pub minor : w.minor ≤ most
+  pub class : w.class ≤ most_weight
+  pub minor : w.minor ≤ most_weight
   pub some : 0 < w.class + w.minor
 
 -- the cost of a chain without rules

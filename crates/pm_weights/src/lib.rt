@@ -4,9 +4,10 @@
 ghost use Rattle.std.specs.Prelude.{◌≡◌, ◌+◌, ◌^◌, ◌<◌, ◌↔◌, IsTrue, Some};
 ghost use Rattle.pm_weights.specs.Weights.{IsWeight, plus, no_cost, IsBelow, IsAtMost, weight_text, cost_text};
 
+use pm_limits::MOST_WEIGHT;
 use std::fmt;
 
-/// The weight of a rule: a class and a minor. Of a rule each is from 0 to 1,000,000, and not both are 0.
+/// The weight of a rule: a class and a minor. Of a rule each is from 0 to `MOST_WEIGHT`, and not both are 0.
 #[derive(Clone, Copy, Debug, PartialEq, Eq, Hash)]
 pub struct Weight {
     /// It counts first.
@@ -25,15 +26,12 @@ pub struct Cost {
     pub minor: u64,
 }
 
-/// The greatest class and the greatest minor of a rule's weight.
-pub const MOST: u32 = 1_000_000;
-
 impl Weight {
     /// Whether a rule may have this weight.
     pub fn is_weight(self) -> bool
         ensures { IsTrue result ↔ IsWeight self }
     {
-        self.class <= MOST && self.minor <= MOST && (self.class > 0 || self.minor > 0)
+        self.class <= MOST_WEIGHT && self.minor <= MOST_WEIGHT && (self.class > 0 || self.minor > 0)
     }
 }
 

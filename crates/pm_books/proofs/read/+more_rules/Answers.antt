@@ -3,6 +3,7 @@ use Rattle.pm_rules.specs.Books.{IsBook}
 use Rattle.pm_books.specs.Seen.{seen}
 use Rattle.pm_books.proofs.ReadBooks.{rule_from_ok, next_IsBook, rules_end, rules_fault, rules_next, gives_fault}
 use Rattle.pm_books.proofs.read.+more_rules.Goals as goal
+use Rattle.pm_limits.specs.Limits.{most_rules}
 
 pub returns-then-is_empty-clause-value : goal.returns-then-is_empty-clause-value
 returns-then-is_empty-clause-value t c =
@@ -18,7 +19,7 @@ more_rules-requires t c =
     let had = c.args.rules.items in
     let read = (rw c.as_slice.ensures.value at c.in-Ok.ensures) in
     let next = rule_from_ok c.args.kinds.now had c.args.end (map seen c.args.tokens.now) (c.in-Ok.found.0, map seen c.in-Ok.found.1.now) read in
-    let room : length had < 256 = next.new_label.room in
+    let room : length had < most_rules = next.new_label.room in
     let longer : length c.push.new.self.items ≡ length had + 1 = ap length c.in_ok-push.ensures.items ∙ length-append had (c.in-Ok.found.0 ∷ []) in (
       omega (arith, room, longer, c.decreases),
       subst IsBook (sym c.in_ok-push.ensures.items) (next_IsBook had c.in-Ok.found.0 c.requires next),

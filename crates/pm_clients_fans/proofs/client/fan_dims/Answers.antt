@@ -1,5 +1,6 @@
 use Rattle.pm_client.proofs.ViewLaws.{has_listed, target_named}
-use Rattle.pm_client.proofs.Failing.{eliminates_in, takes_cones}
+use Rattle.pm_client.proofs.Failing.{eliminates_in}
+use Rattle.pm_family.proofs.Failing.{takes_cones}
 use Rattle.pm_clients_fans.proofs.Fans.{fan_view}
 use Rattle.pm_clients_fans.proofs.FoundFans.{dims_sound, fails_rightly, rows_cols}
 use Rattle.pm_client.specs.Sound.{EliminatesRows, FailsRightly}

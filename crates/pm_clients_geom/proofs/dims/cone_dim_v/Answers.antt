@@ -1,5 +1,5 @@
 use Rattle.pm_clients_geom.proofs.FoundDims.{rank_of_vertices}
-use Rattle.pm_client.proofs.Failing.{takes_row_list}
+use Rattle.pm_family.proofs.Failing.{takes_row_list}
 use Rattle.pm_client.proofs.ViewLaws.{has_listed}
 use Rattle.pm_clients_geom.proofs.dims.cone_dim_v.Goals as goal
 use Rattle.pm_standard.specs.declared.standard.StandardClient.TheVariants.{ConeDimV}

@@ -15,6 +15,7 @@ use Rattle.std.proofs.Common.{[], ap, arith, refl, rules, subst, sym, ◌∙◌,
 use Rattle.std.proofs.lemmas.Bool.{leb-true}
 use Rattle.std.proofs.lemmas.List.{length-append}
 use Rattle.std.proofs.lemmas.Result.{err_from_is_err_and}
+use Rattle.pm_limits.specs.Limits.{most_columns}
 
 pub prove-unreachable-requires : goal.prove-unreachable-requires
 prove-unreachable-requires c =
@@ -41,7 +42,7 @@ optimum_over-requires-clause-few c =
     let a = rows_few v view Inequalities refl c.in_ok-inequalities.inequalities.items c.in_ok-inequalities.ensures.read in
     let e = rows_few v view Equations refl c.in_ok-equations.equations.items c.in_ok-equations.ensures.read in
     let n = objective_cols v view c.objective_of.result.now c.objective_of.ensures in
-    let k = leb-true v.cols 33 view.few_cols in
+    let k = leb-true v.cols most_columns view.few_cols in
     let l = length-append c.in_ok-inequalities.inequalities.items (unit v.cols 0 ∷ []) in
     rw (c.deref.ensures.value, c.deref-2.ensures.value, c.in_ok-rows.ensures, c.cols.ensures.value) (omega arith)
 

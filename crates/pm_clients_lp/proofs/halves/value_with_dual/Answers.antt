@@ -13,6 +13,7 @@ use Rattle.pm_types.specs.Views.{extended_of}
 use Rattle.std.proofs.Common.{[], ap, arith, refl, rules, subst, sym, ◌∙◌, ◌∷◌, ◌≡◌}
 use Rattle.std.proofs.lemmas.Bool.{leb-true}
 use Rattle.std.proofs.lemmas.Result.{err_from_is_err_and}
+use Rattle.pm_limits.specs.Limits.{most_columns}
 
 pub prove-unreachable-requires : goal.prove-unreachable-requires
 prove-unreachable-requires c =
@@ -39,7 +40,7 @@ optimum_with_dual-requires-clause-few c =
     let a = rows_few v view Facets refl c.in_ok-facets.facets.items c.in_ok-facets.ensures.read in
     let e = rows_few v view AffineHull refl c.in_ok-equations.equations.items c.in_ok-equations.ensures.read in
     let n = objective_cols v view c.objective_of.result.now c.objective_of.ensures in
-    let k = leb-true v.cols 33 view.few_cols in
+    let k = leb-true v.cols most_columns view.few_cols in
     rw (c.deref.ensures.value, c.deref-2.ensures.value) (omega arith)
 
 pub optimum_with_dual-requires-clause-inequality_cols : goal.optimum_with_dual-requires-clause-inequality_cols

@@ -109,7 +109,7 @@ loop-k-preserved c =
     record {
       both_len = c.pair_ray.ensures.both ∙ c.loop-k.invariant.both_len;
       row_len = c.in-Ok.ensures.row_len ∙ c.loop-k.invariant.row_len;
-      few = let t = c.if-len-gt-MOST_RAYS.false in let n = c.len.ensures in let whole = c.push.new.self.ok.0 in omega arith;
+      few = let t = c.if-len-gt-MOST_ROWS.false in let n = c.len.ensures in let whole = c.push.new.self.ok.0 in omega arith;
       built = rw (c.in_ok-push.ensures.items, c.in-Ok.ensures.ok) (row_more c.args.cols c.args.equations.now c.args.rows.now c.args.front c.args.rays.now.rows.items c.args.values.now c.requires.products c.loop-i.i c.index-j.result.now (drop (c.loop-k.k + 1) c.in_ok-negatives.negatives.items) c.loop-k.next.items c.loop-k.zeros.rows row c.in-Some.ray.row c.in-Some.ray.zeros made);
     }
 
@@ -150,8 +150,8 @@ returns-in_err-ray-clause-wide c =
     let p = err_from_is_err_and c.from_residual-in_err-ray.result c.from_residual-in_err-ray.ensures.1 in
     rw (p.1, p.2) (pair_fail c.args.cols c.args.equations.now c.args.rows.now c.args.front c.args.rays.now.rows.items c.args.rays.now.zeros c.requires.table c.args.values.now c.requires.products c.loop-i.i c.index-j.result.now li lj up down c.in_err-ray.field-0.0 c.in_err-ray.ensures.wide)
 
-pub returns-then-len-gt-MOST_RAYS-clause-wide : goal.returns-then-len-gt-MOST_RAYS-clause-wide
-returns-then-len-gt-MOST_RAYS-clause-wide c =
+pub returns-then-len-gt-MOST_ROWS-clause-wide : goal.returns-then-len-gt-MOST_ROWS-clause-wide
+returns-then-len-gt-MOST_ROWS-clause-wide c =
     let li : c.loop-i.i < length c.args.rays.now.rows.items = omega arith in
     let ti = c.if-values-i-le0.false in
     let up : pos 0 <ℤ entry c.args.values.now c.loop-i.i = omega (arith, ints) in
@@ -162,7 +162,7 @@ returns-then-len-gt-MOST_RAYS-clause-wide c =
     let down = row.left.0.negative in
     let p : IsPairRay c.args.rays.now.rows.items c.args.rays.now.zeros c.args.values.now c.loop-i.i c.index-j.result.now c.args.front c.in-Some.ray.row c.in-Some.ray.zeros = rw c.in-Some.is at c.in_ok-ray.ensures.some in
     let made = pair_made c.args.cols c.args.equations.now c.args.rows.now c.args.front c.requires.within c.args.rays.now.rows.items c.args.rays.now.zeros c.requires.table c.requires.equation_cols c.requires.row_cols c.args.values.now c.requires.products c.requires.old_len c.loop-i.i c.index-j.result.now li lj c.requires.spanned up down c.in-Some.ray.row c.in-Some.ray.zeros p in
-    let t = c.if-len-gt-MOST_RAYS.true in
+    let t = c.if-len-gt-MOST_ROWS.true in
     let n = c.len.ensures in
     let whole = c.push.new.self.ok.0 in
     let more = row_more c.args.cols c.args.equations.now c.args.rows.now c.args.front c.args.rays.now.rows.items c.args.values.now c.requires.products c.loop-i.i c.index-j.result.now (drop (c.loop-k.k + 1) c.in_ok-negatives.negatives.items) c.loop-k.next.items c.loop-k.zeros.rows row c.in-Some.ray.row c.in-Some.ray.zeros made in

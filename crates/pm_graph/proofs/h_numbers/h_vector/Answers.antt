@@ -19,4 +19,4 @@ returns-in-Ok-clause-none c =
     let k = to_z-of_z w64 c.args.d c.ranges.d in
     let w = rw k at c.in-Ok.ensures in
     let e : pos c.in-Ok.dim ≡ c.args.d = unsigned_is c.args.d c.in-Ok.dim w.0 w.1 in
-    IfOk-weaker c.numbers.result (λ h. ¬ (HaveFit c.args.f.now c.in-Ok.dim) → h.items ≡ []) _ (λ h g. none_for c.args.f.now c.args.d c.in-Ok.dim h.items e c.if-dim-le32.true c.if-f-dim.true g) c.numbers.ensures.none
+    IfOk-weaker c.numbers.result (λ h. ¬ (HaveFit c.args.f.now c.in-Ok.dim) → h.items ≡ []) _ (λ h g. none_for c.args.f.now c.args.d c.in-Ok.dim h.items e c.if-dim-le-MOST_DIMENSIONS.true c.if-f-dim.true g) c.numbers.ensures.none

@@ -12,6 +12,7 @@ use Rattle.serde_json.specs.View.{items_view, view}
 use Rattle.serde_json.specs.declared.value.Value.{Value}
 use Rattle.pm_json.proofs.counts.read_count_list.Goals as goal
 use lib.IntN.{ℤ}
+use Rattle.pm_limits.specs.Limits.{most_rows}
 
 -- the whole list, of which vs are left
 abbrev left : List ℤ → List Value → Read (List ℤ)
@@ -25,27 +26,27 @@ loop-item-preserved c =
     let ks = c.loop-item.counts.items in
     let vs = c.args.items.now in
     let i = c.loop-item.item-index in
-    let room : length ks < 2048 = omega (arith, c.len.ensures, c.loop-item.counts.ok, c.if-len-ge-COUNT_LIMIT.false) in
+    let room : length ks < most_rows = omega (arith, c.len.ensures, c.loop-item.counts.ok, c.if-len-ge-MOST_ROWS.false) in
     let k = c.in_ok-k.k in
     let new = pushed_is ks c.push.new.self.items k c.in_ok-k.ensures.bits c.in_ok-push.ensures.items in
     let one = length-append ks (k ∷ []) in
-    let few : length (ks ++ k ∷ []) ≤ 2048 = omega arith in (
+    let few : length (ks ++ k ∷ []) ≤ most_rows = omega arith in (
       rw add-one (c.loop-item.invariant.0
           ∙ ap (left ks) (next_item vs i c.item-item.result c.loop-item-test.true c.item-item.is)
           ∙ counts_from-item ks k (view c.item-item.result) (items_view (drop (suc i) vs)) room (sym c.in_ok-k.ensures.value)
           ∙ ap (λ l. with_front l (counts_from (length l) (items_view (drop (suc i) vs)))) (sym new)),
-      subst (λ (l : List ℤ). length l ≤ 2048) (sym new) few,
+      subst (λ (l : List ℤ). length l ≤ most_rows) (sym new) few,
       subst (λ (l : List ℤ). list_all has_64_bits l ≡ true) (sym new) (bits_next ks k c.loop-item.invariant.2 c.in_ok-k.ensures.bits),
     )
 
-pub returns-then-len-ge-COUNT_LIMIT-clause-fault : goal.returns-then-len-ge-COUNT_LIMIT-clause-fault
-returns-then-len-ge-COUNT_LIMIT-clause-fault c memory =
+pub returns-then-len-ge-MOST_ROWS-clause-fault : goal.returns-then-len-ge-MOST_ROWS-clause-fault
+returns-then-len-ge-MOST_ROWS-clause-fault c memory =
     let ks = c.loop-item.counts.items in
     let vs = c.args.items.now in
     let i = c.loop-item.item-index in
     c.loop-item.invariant.0
     ∙ ap (left ks) (next_item vs i c.item-item.result c.loop-item-test.true c.item-item.is)
-    ∙ counts_from-long ks c.in_ok-k.k (view c.item-item.result) (items_view (drop (suc i) vs)) (omega (arith, c.len.ensures, c.loop-item.counts.ok, c.if-len-ge-COUNT_LIMIT.true)) (sym c.in_ok-k.ensures.value)
+    ∙ counts_from-long ks c.in_ok-k.k (view c.item-item.result) (items_view (drop (suc i) vs)) (omega (arith, c.len.ensures, c.loop-item.counts.ok, c.if-len-ge-MOST_ROWS.true)) (sym c.in_ok-k.ensures.value)
 
 pub returns-in_err-k-clause-fault : goal.returns-in_err-k-clause-fault
 returns-in_err-k-clause-fault c =

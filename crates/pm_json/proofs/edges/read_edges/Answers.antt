@@ -5,11 +5,12 @@ use Rattle.pm_types.specs.Forms.{are_joined_back}
 use Rattle.pm_json.proofs.EdgeLimits.{edges_have_form, nodes_keep_limits, nodes_within}
 use Rattle.pm_json.specs.Readings.{above_sets}
 use Rattle.pm_json.proofs.edges.read_edges.Goals as goal
+use Rattle.pm_limits.specs.Limits.{most_rows}
 
 pub are_joined_back-requires-clause-few : goal.are_joined_back-requires-clause-few
 are_joined_back-requires-clause-few c =
     let rows = map (λ r. r.items) c.in_ok-rows.rows.items in
-    let few : 0 + length rows ≤ 2048 = (nodes_keep_limits 0 (items_view c.in_ok-items.items.now) rows (omega arith) c.in_ok-rows.ensures.ok).few in
+    let few : 0 + length rows ≤ most_rows = (nodes_keep_limits 0 (items_view c.in_ok-items.items.now) rows (omega arith) c.in_ok-rows.ensures.ok).few in
     let long = length-map c.in_ok-rows.rows.items (λ r. r.items) in
     rw c.deref-2.ensures.value (omega (arith, few, long))
 
@@ -24,7 +25,7 @@ are_joined_back-requires-clause-nodes c =
 pub overflow_cast-nodes : goal.overflow_cast-nodes
 overflow_cast-nodes c =
     let rows = map (λ r. r.items) c.in_ok-rows.rows.items in
-    let few : 0 + length rows ≤ 2048 = (nodes_keep_limits 0 (items_view c.in_ok-items.items.now) rows (omega arith) c.in_ok-rows.ensures.ok).few in
+    let few : 0 + length rows ≤ most_rows = (nodes_keep_limits 0 (items_view c.in_ok-items.items.now) rows (omega arith) c.in_ok-rows.ensures.ok).few in
     let long = length-map c.in_ok-rows.rows.items (λ r. r.items) in
     omega (arith, few, long, c.len-nodes.ensures, c.in_ok-rows.rows.ok)
 
@@ -33,7 +34,7 @@ returns-clause-formed c =
     let xs = c.in_ok-rows.rows.items in
     let rows = map (λ r. r.items) xs in
     let kept = nodes_keep_limits 0 (items_view c.in_ok-items.items.now) rows (omega arith) c.in_ok-rows.ensures.ok in
-    let few : 0 + length rows ≤ 2048 = kept.few in
+    let few : 0 + length rows ≤ most_rows = kept.few in
     let long = length-map xs (λ r. r.items) in
     let is = rw c.deref.ensures.value at c.above_sets.ensures in
     let above : above_sets rows ≤ length rows = omega (arith, is, long, c.if-above_sets-len.false, c.len.ensures, c.in_ok-rows.rows.ok) in

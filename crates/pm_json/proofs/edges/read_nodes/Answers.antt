@@ -8,6 +8,7 @@ use Rattle.pm_json.proofs.RowEnds.{next_item}
 use Rattle.pm_json.specs.Readings.{nodes_from, with_front}
 use Rattle.serde_json.specs.View.{items_view, view}
 use Rattle.pm_json.proofs.edges.read_nodes.Goals as goal
+use Rattle.pm_limits.specs.Limits.{most_rows}
 
 pub loop-item-init : goal.loop-item-init
 loop-item-init c = rw c.new-rows.ensures.items (sym (with_front-nil (nodes_from 0 (items_view c.args.items.now))))
@@ -18,7 +19,7 @@ loop-item-preserved c =
     let k = length c.loop-item.rows.items in
     let vs = c.args.items.now in
     let i = c.loop-item.item-index in
-    let room : k < 2048 = omega (arith, c.len.ensures, c.loop-item.rows.ok, c.if-len-ge-NODE_LIMIT.false) in
+    let room : k < most_rows = omega (arith, c.len.ensures, c.loop-item.rows.ok, c.if-len-ge-MOST_ROWS.false) in
     rw add-one (c.loop-item.invariant
     ∙ ap (λ w. with_front rows (nodes_from k (items_view w))) (next_item vs i c.item-item.result c.loop-item-test.true c.item-item.is)
     ∙ nodes_from-item rows c.in_ok-set.set.items k (view c.item-item.result) (items_view c.in_ok-indices.indices.now) (items_view (drop (suc i) vs)) c.in_ok-indices.ensures.ok room c.in_ok-set.ensures.ok
@@ -35,8 +36,8 @@ returns-in_err-indices-clause-fault c =
     ∙ ap (λ w. with_front rows (nodes_from k (items_view w))) (next_item vs i c.item-item.result c.loop-item-test.true c.item-item.is)
     ∙ nodes_from-no_items rows k (view c.item-item.result) (items_view (drop (suc i) vs)) c.in_err-indices.field-0.0 c.in_err-indices.ensures.fault)
 
-pub returns-then-len-ge-NODE_LIMIT-clause-fault : goal.returns-then-len-ge-NODE_LIMIT-clause-fault
-returns-then-len-ge-NODE_LIMIT-clause-fault c memory =
+pub returns-then-len-ge-MOST_ROWS-clause-fault : goal.returns-then-len-ge-MOST_ROWS-clause-fault
+returns-then-len-ge-MOST_ROWS-clause-fault c memory =
     let rows = map (λ r. r.items) c.loop-item.rows.items in
     let k = length c.loop-item.rows.items in
     let vs = c.args.items.now in
@@ -44,7 +45,7 @@ returns-then-len-ge-NODE_LIMIT-clause-fault c memory =
     c.loop-item.invariant
     ∙ ap (λ w. with_front rows (nodes_from k (items_view w))) (next_item vs i c.item-item.result c.loop-item-test.true c.item-item.is)
     ∙ nodes_from-full rows k (view c.item-item.result) (items_view c.in_ok-indices.indices.now) (items_view (drop (suc i) vs)) c.in_ok-indices.ensures.ok
-    (omega (arith, c.len.ensures, c.loop-item.rows.ok, c.if-len-ge-NODE_LIMIT.true))
+    (omega (arith, c.len.ensures, c.loop-item.rows.ok, c.if-len-ge-MOST_ROWS.true))
 
 pub returns-in_err-set-clause-fault : goal.returns-in_err-set-clause-fault
 returns-in_err-set-clause-fault c =
@@ -52,7 +53,7 @@ returns-in_err-set-clause-fault c =
     let k = length c.loop-item.rows.items in
     let vs = c.args.items.now in
     let i = c.loop-item.item-index in
-    let room : k < 2048 = omega (arith, c.len.ensures, c.loop-item.rows.ok, c.if-len-ge-NODE_LIMIT.false) in
+    let room : k < most_rows = omega (arith, c.len.ensures, c.loop-item.rows.ok, c.if-len-ge-MOST_ROWS.false) in
     let p = err_from_is_err_and c.from_residual-in_err-set.result c.from_residual-in_err-set.ensures.1 in
     rw (p.1, p.2) (λ memory. c.loop-item.invariant
     ∙ ap (λ w. with_front rows (nodes_from k (items_view w))) (next_item vs i c.item-item.result c.loop-item-test.true c.item-item.is)

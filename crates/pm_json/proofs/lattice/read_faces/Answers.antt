@@ -4,6 +4,7 @@ use Rattle.pm_json.proofs.FaceTurns.{faces_from-item, put_face}
 use Rattle.pm_json.proofs.RowEnds.{next_item}
 use Rattle.pm_json.specs.Readings.{faces_from, with_front}
 use Rattle.pm_json.proofs.lattice.read_faces.Goals as goal
+use Rattle.pm_limits.specs.Limits.{most_faces}
 
 pub loop-item-preserved : goal.loop-item-preserved
 loop-item-preserved c =
@@ -14,7 +15,7 @@ loop-item-preserved c =
     let vs = c.args.items.now in
     let i = c.loop-item.item-index in
     let ds = items_view (drop (suc i) vs) in
-    let room : m < 65536 = omega (arith, c.len.ensures, c.if-before-len-ge-FACE_LIMIT.false) in
+    let room : m < most_faces = omega (arith, c.len.ensures, c.if-before-len-ge-MOST_FACES.false) in
     let p = put_face (λ r. r.items) c.args.before k c.loop-item.faces.items c.push.new.self.items c.in_ok-face.face ds c.in_ok-push.ensures.items in
     let one = p.one in
     let sum = p.sum in

@@ -9,6 +9,7 @@ use Rattle.pm_vector.specs.Numbers.{Ratio}
 use Rattle.serde_json.specs.View.{items_view, view}
 use Rattle.serde_json.specs.declared.value.Value.{Value}
 use Rattle.pm_json.proofs.matrix.read_entries.Goals as goal
+use Rattle.pm_limits.specs.Limits.{most_columns}
 
 -- the whole row, of which vs are left
 abbrev left : List Ratio → List Value → Read (List Ratio)
@@ -22,20 +23,20 @@ loop-item-preserved c =
     let row = c.loop-item.row.items in
     let vs = c.args.items.now in
     let i = c.loop-item.item-index in
-    let room : length row < 33 = omega (arith, c.len.ensures, c.loop-item.row.ok, c.if-len-ge-COL_LIMIT.false) in
+    let room : length row < most_columns = omega (arith, c.len.ensures, c.loop-item.row.ok, c.if-len-ge-MOST_COLUMNS.false) in
     rw add-one (c.loop-item.invariant
     ∙ ap (left row) (next_item vs i c.item-item.result c.loop-item-test.true c.item-item.is)
     ∙ entries_from-item row c.in_ok-entry.entry (view c.item-item.result) (items_view (drop (suc i) vs)) room (sym c.in_ok-entry.ensures)
     ∙ ap (λ l. with_front l (entries_from (length l) (items_view (drop (suc i) vs)))) (sym c.in_ok-push.ensures.items))
 
-pub returns-then-len-ge-COL_LIMIT-clause-fault : goal.returns-then-len-ge-COL_LIMIT-clause-fault
-returns-then-len-ge-COL_LIMIT-clause-fault c memory =
+pub returns-then-len-ge-MOST_COLUMNS-clause-fault : goal.returns-then-len-ge-MOST_COLUMNS-clause-fault
+returns-then-len-ge-MOST_COLUMNS-clause-fault c memory =
     let row = c.loop-item.row.items in
     let vs = c.args.items.now in
     let i = c.loop-item.item-index in
     c.loop-item.invariant
     ∙ ap (left row) (next_item vs i c.item-item.result c.loop-item-test.true c.item-item.is)
-    ∙ entries_from-long row c.in_ok-entry.entry (view c.item-item.result) (items_view (drop (suc i) vs)) (omega (arith, c.len.ensures, c.loop-item.row.ok, c.if-len-ge-COL_LIMIT.true)) (sym c.in_ok-entry.ensures)
+    ∙ entries_from-long row c.in_ok-entry.entry (view c.item-item.result) (items_view (drop (suc i) vs)) (omega (arith, c.len.ensures, c.loop-item.row.ok, c.if-len-ge-MOST_COLUMNS.true)) (sym c.in_ok-entry.ensures)
 
 pub returns-in_err-entry-clause-fault : goal.returns-in_err-entry-clause-fault
 returns-in_err-entry-clause-fault c =

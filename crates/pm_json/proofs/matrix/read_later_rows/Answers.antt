@@ -5,6 +5,7 @@ use Rattle.pm_json.specs.Readings.{later_row_from, later_rows_from, with_front}
 use Rattle.pm_matrix.specs.Matrices.{FractionMatrix}
 use Rattle.serde_json.specs.View.{items_view, view}
 use Rattle.pm_json.proofs.matrix.read_later_rows.Goals as goal
+use Rattle.pm_limits.specs.Limits.{most_rows}
 
 pub loop-item-preserved : goal.loop-item-preserved
 loop-item-preserved c =
@@ -15,7 +16,7 @@ loop-item-preserved c =
     let new : c.push_row.new.matrix ≡ record { cols = m.cols; rows = m.rows ++ c.in_ok-row.row.items ∷ [] } = rw c.deref.ensures.value at c.in_ok-push_row.ensures.ok in
     let left : drop c.loop-item.item-index c.args.items.now ≡ c.item-item.result ∷ rest =
     drop-cons c.args.items.now c.loop-item.item-index c.item-item.result c.loop-item-test.true ∙ ap (λ v. v ∷ rest) (sym c.item-item.is) in
-    let room : length m.rows < 2048 = (let count = c.rows.ensures.value in let few = c.if-rows-ge-ROW_LIMIT.false in omega arith) in
+    let room : length m.rows < most_rows = (let count = c.rows.ensures.value in let few = c.if-rows-ge-MOST_ROWS.false in omega arith) in
     let row : later_row_from n 0 (items_view c.in_ok-entries.entries.now) ≡ Ok c.in_ok-row.row.items =
     ap (λ k. later_row_from k 0 (items_view c.in_ok-entries.entries.now)) (sym (c.cols.ensures.value ∙ kept.0)) ∙ c.in_ok-row.ensures.ok in (
       ap (λ (z : FractionMatrix). z.cols) new ∙ kept.0,

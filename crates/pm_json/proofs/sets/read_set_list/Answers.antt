@@ -9,6 +9,7 @@ use Rattle.std.specs.Prelude.{is_some}
 use Rattle.serde_json.specs.Find.{as_object}
 use Rattle.serde_json.specs.View.{items_view, view}
 use Rattle.pm_json.proofs.sets.read_set_list.Goals as goal
+use Rattle.pm_limits.specs.Limits.{most_rows}
 
 pub loop-i-init : goal.loop-i-init
 loop-i-init c = rw c.new-rows.ensures.items (sym (with_front_sets-nil (sets_from 0 (items_view c.args.items.now))))
@@ -21,7 +22,7 @@ loop-i-preserved c =
     let d = c.index-items-i.result in
     let ds = items_view (drop (suc c.loop-i.i) vs) in
     let listed : is_some (as_object (view d)) ≡ false = sym c.is_object.ensures ∙ c.if-is_object.false in
-    let room : k < 2048 = omega (arith, c.len.ensures, c.loop-i.rows.ok, c.if-len-ge-SET_LIMIT.false) in
+    let room : k < most_rows = omega (arith, c.len.ensures, c.loop-i.rows.ok, c.if-len-ge-MOST_ROWS.false) in
     rw add-one (sets_from-next sets k vs c.loop-i.i d c.loop-i-test.true c.index-items-i.is c.loop-i.invariant
     ∙ sets_from-item sets c.in_ok-set.set.items k (view d) (items_view c.in_ok-indices.indices.now) ds listed c.in_ok-indices.ensures.ok room c.in_ok-set.ensures.ok
     ∙ sets_below (λ r. r.items) c.loop-i.rows.items c.push.new.self.items c.in_ok-set.set ds c.in_ok-push.ensures.items)
@@ -65,8 +66,8 @@ returns-in_err-indices-clause-fault c =
     rw (p.1, p.2) (λ memory. sets_from-next sets k vs c.loop-i.i d c.loop-i-test.true c.index-items-i.is c.loop-i.invariant
     ∙ sets_from-no_items sets k (view d) (items_view (drop (suc c.loop-i.i) vs)) fault listed c.in_err-indices.ensures.fault)
 
-pub returns-then-len-ge-SET_LIMIT-clause-fault : goal.returns-then-len-ge-SET_LIMIT-clause-fault
-returns-then-len-ge-SET_LIMIT-clause-fault c memory =
+pub returns-then-len-ge-MOST_ROWS-clause-fault : goal.returns-then-len-ge-MOST_ROWS-clause-fault
+returns-then-len-ge-MOST_ROWS-clause-fault c memory =
     let sets = map (λ r. r.items) c.loop-i.rows.items in
     let k = length c.loop-i.rows.items in
     let vs = c.args.items.now in
@@ -75,7 +76,7 @@ returns-then-len-ge-SET_LIMIT-clause-fault c memory =
     let listed : is_some (as_object (view d)) ≡ false = sym c.is_object.ensures ∙ c.if-is_object.false in
     sets_from-next sets k vs c.loop-i.i d c.loop-i-test.true c.index-items-i.is c.loop-i.invariant
     ∙ sets_from-full sets k (view d) (items_view c.in_ok-indices.indices.now) ds listed c.in_ok-indices.ensures.ok
-    (omega (arith, c.len.ensures, c.loop-i.rows.ok, c.if-len-ge-SET_LIMIT.true))
+    (omega (arith, c.len.ensures, c.loop-i.rows.ok, c.if-len-ge-MOST_ROWS.true))
 
 pub returns-in_err-set-clause-fault : goal.returns-in_err-set-clause-fault
 returns-in_err-set-clause-fault c =
@@ -86,7 +87,7 @@ returns-in_err-set-clause-fault c =
     let ds = items_view (drop (suc c.loop-i.i) vs) in
     let fault = c.in_err-set.field-0.0 in
     let listed : is_some (as_object (view d)) ≡ false = sym c.is_object.ensures ∙ c.if-is_object.false in
-    let room : k < 2048 = omega (arith, c.len.ensures, c.loop-i.rows.ok, c.if-len-ge-SET_LIMIT.false) in
+    let room : k < most_rows = omega (arith, c.len.ensures, c.loop-i.rows.ok, c.if-len-ge-MOST_ROWS.false) in
     let p = err_from_is_err_and c.from_residual-in_err-set.result c.from_residual-in_err-set.ensures.1 in
     rw (p.1, p.2) (λ memory. sets_from-next sets k vs c.loop-i.i d c.loop-i-test.true c.index-items-i.is c.loop-i.invariant
     ∙ sets_from-no_set sets k (view d) (items_view c.in_ok-indices.indices.now) ds fault listed c.in_ok-indices.ensures.ok room

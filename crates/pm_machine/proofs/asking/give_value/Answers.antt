@@ -1,9 +1,9 @@
 -- A value is shown where what was asked is found; what was ensured wholly was ensured in part.
-use Rattle.std.proofs.Common.{Some, ap, refl, rules, sym, true≢false, ◌∙◌, ◌≡◌}
+use Rattle.std.proofs.Common.{Some, ap, false, refl, rules, sym, true≢false, ◌∙◌, ◌≡◌}
 use Rattle.std.specs.Option.{is_some}
 use Rattle.std.specs.Prelude.{None}
-use Rattle.pm_machine.proofs.Names.{ended_so, found_held, gives_shown, later_is, rounds_named, whole_is_part}
-use Rattle.pm_machine.specs.Steps.{names_told}
+use Rattle.pm_machine.proofs.Names.{beside_named, ended_so, found_held, gives_shown, later_is, rounds_named, whole_is_part}
+use Rattle.pm_machine.specs.Steps.{Gives, names_told}
 use Rattle.pm_object.specs.State.{read_at, value_of}
 use Rattle.pm_script.specs.Replies.{names_seen, seen}
 use Rattle.pm_types.specs.Views.{view_of}
@@ -30,3 +30,17 @@ returns-in_err-rounds-clause-err g c = whole_is_part c.from_residual-in_err-roun
 
 pub returns-in_err-names-clause-err : goal.returns-in_err-names-clause-err
 returns-in_err-names-clause-err g c = whole_is_part c.from_residual-in_err-names.result _ c.args.sub _ c.args.p _ _ _ c.of.ensures.value c.in_ok-ending.ensures.ok
+
+pub returns-in-NoChain-clause-gives : goal.returns-in-NoChain-clause-gives
+returns-in-NoChain-clause-gives g c =
+    let rounds = later_is _ c.rounds-before.result.now c.args.object.now.state c.ensure.new.object.state _ refl c.rounds-before.ensures c.in_ok-rounds.ensures in
+    let names : names_seen c.in_ok-names.names ≡ names_told c.args.book.now c.ensure.new.object.state = rw c.rules.ensures.value at c.in_ok-names.ensures in
+    rw c.refused_after.ensures
+    (Gives.no_chain (ended_so _ c.args.sub _ _ _ _ _ c.of.ensures.value (rw c.in-NoChain.is at c.in_ok-ending.ensures.ok)) (beside_named false c.args.book.now _ _ c.args.object.now.state c.ensure.new.object.state names rounds))
+
+pub returns-in-Crowded-clause-gives : goal.returns-in-Crowded-clause-gives
+returns-in-Crowded-clause-gives g c =
+    let rounds = later_is _ c.rounds-before.result.now c.args.object.now.state c.ensure.new.object.state _ refl c.rounds-before.ensures c.in_ok-rounds.ensures in
+    let names : names_seen c.in_ok-names.names ≡ names_told c.args.book.now c.ensure.new.object.state = rw c.rules.ensures.value at c.in_ok-names.ensures in
+    rw c.refused_after-in-Crowded.ensures
+    (Gives.is_crowded (ended_so _ c.args.sub _ _ _ _ _ c.of.ensures.value (rw c.in-Crowded.is at c.in_ok-ending.ensures.ok)) (beside_named false c.args.book.now _ _ c.args.object.now.state c.ensure.new.object.state names rounds))

@@ -1,8 +1,8 @@
 -- What the planner answers is so of what the object holds and bars.
 use Rattle.std.proofs.Common.{ap, refl, subst, sym, ◌∙◌, ◌≡◌}
-use Rattle.pm_machine.proofs.Following.{barred_to}
+use Rattle.pm_rounds.proofs.Following.{barred_to}
 use Rattle.pm_machine.proofs.Names.{explains_crowded, explains_found, explains_none, planned_so}
-use Rattle.pm_machine.specs.Chains.{held_names, table}
+use Rattle.pm_rounds.specs.Chains.{held_names, table}
 use Rattle.pm_plan.specs.Plans.{HasNoPlan, IsCrowded, IsPlan}
 use Rattle.pm_rules.specs.declared.table.Table.{Table}
 use Rattle.pm_script.specs.Replies.{seen}

@@ -23,9 +23,9 @@ settle-preserved c =
     explored_more c.args.moves.now (record { set = c.args.held; cost = no_cost }) c.args.asked c.settle.search c.settle-in-Some.new.self c.expand.new.self c.in-Some.row c.in-Some.link
     c.settle.invariant c.in-Some.ensures.next c.in-Some.ensures.below (omega arith) c.in_ok-settle.ensures (rw (c.len-from.ensures, same) at c.in_ok-expand.ensures)
 
-pub returns-then-from-ge-MOST_ROWS-clause-full : goal.returns-then-from-ge-MOST_ROWS-clause-full
-returns-then-from-ge-MOST_ROWS-clause-full c = λ same. record {
-  full = omega (arith, c.len-from.ensures, c.settle.search.rows.ok.0, c.settle.invariant.few, c.if-from-ge-MOST_ROWS.true);
+pub returns-then-from-ge-MOST_TABLE_ROWS-clause-full : goal.returns-then-from-ge-MOST_TABLE_ROWS-clause-full
+returns-then-from-ge-MOST_TABLE_ROWS-clause-full c = λ same. record {
+  full = omega (arith, c.len-from.ensures, c.settle.search.rows.ok.0, c.settle.invariant.few, c.if-from-ge-MOST_TABLE_ROWS.true);
   next = c.in-Some.row;
   link = c.in-Some.link;
   is_next = c.in-Some.ensures.next;

@@ -19,6 +19,6 @@ pub returns-clause-few : goal.returns-clause-few
 returns-clause-few c =
     let s = rw c.deref-2.ensures.value at c.in_ok-facets.ensures.thinned in
     let e = thinned_length _ _ c.args.halves.now _ c.in_ok-facets.facets.items s in
-    let f = c.if-len-gt-MOST_FACETS.false in
+    let f = c.if-len-gt-MOST_ROWS.false in
     let l = c.len.ensures in
     omega arith

@@ -1,10 +1,10 @@
 -- First lines were read and answered, and each reply is told.
 use Rattle.std.proofs.Common.{length, if◌then◌else◌, ◌+◌, ◌-◌, ◌≡◌, ◌≤◌}
 use Rattle.std.specs.Prelude.{map}
-use Rattle.pm_lines.specs.Coming.{most_bytes}
 use Rattle.pm_machine.specs.Sessions.{book_of, machine_at}
 use Rattle.pm_shell.proofs.Came.{Going}
 use Rattle.pm_shell.proofs.lines.answer_lines.Given as goal
+use Rattle.pm_limits.specs.Limits.{most_script_bytes}
 
 abbrev pub invariant-loop-reader : goal.invariant-loop-reader
 invariant-loop-reader g l = record {
@@ -13,7 +13,7 @@ invariant-loop-reader g l = record {
       (machine_at l.fn.session (map (λ b. (goal.Client-dyn g (b.vtable, b.value)).tally b.value) l.fn.clients.items) (g.F.Store.files l.fn.store) (g.F.Store.faults l.fn.store))
       l.reader l.some_refused
       (machine_at l.session (map (λ b. (goal.Client-dyn g (b.vtable, b.value)).tally b.value) l.clients.items) (g.F.Store.files l.store) (g.F.Store.faults l.store));
-  bound : l.reader.read ≤ most_bytes;
+  bound : l.reader.read ≤ most_script_bytes;
   source_rises : g.S.Source.faults l.fn.source ≤ g.S.Source.faults l.source;
   store_rises : g.F.Store.faults l.fn.store ≤ g.F.Store.faults l.store;
   sink_rises : g.K.Sink.faults l.fn.sink ≤ g.K.Sink.faults l.sink;
@@ -21,4 +21,4 @@ invariant-loop-reader g l = record {
 
 -- each line but one that the end of the script ended takes bytes of what was given
 abbrev pub decreases-loop-reader : goal.decreases-loop-reader
-decreases-loop-reader g l = if l.reader.at_end then 0 else 1 + (length l.reader.given + (most_bytes - l.reader.read))
+decreases-loop-reader g l = if l.reader.at_end then 0 else 1 + (length l.reader.given + (most_script_bytes - l.reader.read))

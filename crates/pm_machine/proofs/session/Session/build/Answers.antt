@@ -4,7 +4,7 @@ use Rattle.std.specs.Option.{option_map}
 use Rattle.std.specs.Prelude.{[], string_bytes, ◌∷◌}
 use Rattle.pm_command.specs.declared.building.Builder.TheVariants.{One, Two}
 use Rattle.pm_machine.proofs.BuildSteps.{one_object, read_there, two_objects}
-use Rattle.pm_machine.proofs.Fits.{still_made, still_unbuilt}
+use Rattle.pm_making.proofs.Fits.{still_made, still_unbuilt}
 use Rattle.pm_machine.specs.Built.{HaveRead}
 use Rattle.pm_machine.specs.Sessions.{machine_of}
 use Rattle.pm_object.specs.State.{ObjectSeen}

@@ -2,10 +2,12 @@
 use Rattle.std.proofs.Common.{ap, inr, refl, subst, sym, ◌∙◌, ◌≡◌}
 use Rattle.std.specs.Prelude.{None, [], false, map, string_bytes}
 use Rattle.pm_command.specs.Builders.{builder_of, operands_of}
-use Rattle.pm_machine.proofs.BuildSteps.{build_answered, build_barred, if_broken, of_its_type, of_row, reads_done, stays_with}
+use Rattle.pm_machine.proofs.BuildSteps.{build_answered, build_barred, if_broken, of_row, reads_done, stays_with}
+use Rattle.pm_making.proofs.Fits.{of_its_type}
 use Rattle.pm_machine.proofs.Ensuring.{all_in_part, from_nothing, stays_itself, to_in_part}
-use Rattle.pm_machine.proofs.Names.{on_err_of}
-use Rattle.pm_machine.specs.Building.{is_crowded, no_chain, no_such_name, other_type, row_of, rules_told}
+use Rattle.pm_rounds.proofs.Rounds.{on_err_of}
+use Rattle.pm_machine.specs.Building.{is_crowded, no_chain, no_such_name, other_type, rules_told}
+use Rattle.pm_making.specs.Rows.{row_of}
 use Rattle.pm_machine.specs.Machines.{IsFree}
 use Rattle.pm_machine.specs.Sessions.{book_of, machine_of}
 use Rattle.pm_object.specs.Views.{round_seen}

@@ -1,6 +1,7 @@
 -- The object of the name is written through its reference; the others stay.
 use Rattle.std.proofs.Common.{ap, false, refl, sym, true, ◌∙◌, ◌≡◌}
-use Rattle.pm_machine.proofs.Names.{disable_done, disable_unknown, on_err_of, stays_with, written}
+use Rattle.pm_machine.proofs.Names.{disable_done, disable_unknown, stays_with, written}
+use Rattle.pm_rounds.proofs.Rounds.{on_err_of}
 use Rattle.pm_machine.specs.Steps.{has_label}
 use Rattle.pm_machine.proofs.session.Session.do_disable.Goals as goal
 

@@ -2,7 +2,7 @@
 use Rattle.std.proofs.Common.{◌∙◌}
 use Rattle.pm_machine.proofs.Ensuring.{end_told, next_told, part_told}
 use Rattle.pm_machine.proofs.Growth.{still_some}
-use Rattle.pm_machine.proofs.Names.{on_err_of}
+use Rattle.pm_rounds.proofs.Rounds.{on_err_of}
 use Rattle.pm_props.specs.declared.property.PropId.TheVariants.{ConeAmbientDim}
 use Rattle.pm_machine.proofs.session.Session.ensure_all.Goals as goal
 

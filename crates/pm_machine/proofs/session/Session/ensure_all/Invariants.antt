@@ -1,7 +1,7 @@
 use Rattle.pm_machine.specs.Building.{wanted_of}
 use Rattle.pm_machine.specs.Built.{TellsAll}
 use Rattle.pm_machine.specs.Sessions.{book_of, is_spent, machine_of}
-use Rattle.pm_machine.specs.declared.round.Ending.TheVariants as ending
+use Rattle.pm_rounds.specs.declared.round.Ending.TheVariants as ending
 use Rattle.pm_object.specs.Views.{round_seen}
 use Rattle.std.proofs.Common.{take, ◌≡◌}
 use Rattle.std.specs.Prelude.{map}

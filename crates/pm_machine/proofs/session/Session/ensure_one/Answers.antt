@@ -1,7 +1,8 @@
 -- The object of the name is written through its reference; the others stay.
 use Rattle.std.proofs.Common.{refl}
 use Rattle.pm_machine.proofs.BuildNames.{one_part, one_told, whole_part}
-use Rattle.pm_machine.proofs.Names.{later_is, on_err_of, written}
+use Rattle.pm_machine.proofs.Names.{later_is, written}
+use Rattle.pm_rounds.proofs.Rounds.{on_err_of}
 use Rattle.pm_machine.proofs.session.Session.ensure_one.Goals as goal
 
 pub returns-in_err-ending-clause-part : goal.returns-in_err-ending-clause-part

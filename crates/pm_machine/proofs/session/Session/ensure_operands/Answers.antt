@@ -6,8 +6,9 @@ use Rattle.std.specs.Prelude.{[], string_bytes, ◌∷◌}
 use Rattle.pm_command.specs.Builders.{builder_of}
 use Rattle.pm_machine.proofs.BuildNames.{all_parts, all_told, both_parts, both_told, first_parts, first_told}
 use Rattle.pm_machine.proofs.Growth.{still_some}
-use Rattle.pm_machine.proofs.Names.{on_err_of}
-use Rattle.pm_machine.specs.Building.{are_named, row_of}
+use Rattle.pm_rounds.proofs.Rounds.{on_err_of}
+use Rattle.pm_machine.specs.Building.{are_named}
+use Rattle.pm_making.specs.Rows.{row_of}
 use Rattle.pm_machine.specs.Sessions.{machine_of}
 use Rattle.pm_machine.proofs.session.Session.ensure_operands.Goals as goal
 

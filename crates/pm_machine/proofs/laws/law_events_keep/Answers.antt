@@ -1,5 +1,0 @@
-use Rattle.pm_machine.proofs.Traces.{events_keep}
-use Rattle.pm_machine.proofs.laws.law_events_keep.Goals as goal
-
-pub returns : goal.returns
-returns c = events_keep

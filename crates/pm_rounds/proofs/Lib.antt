@@ -1,0 +1,10 @@
+pub mod Traces
+pub mod Barred
+pub mod BarredReasons
+pub mod Running
+pub mod Measure
+pub mod Moves
+pub mod Turns
+pub mod Following
+pub mod Rounds
+pub mod Examples
