@@ -3,14 +3,15 @@
 
 mod halving;
 
-ghost use Rattle.std.specs.Prelude.{◌≡◌, ◌≤◌, ◌↔◌, IsTrue, Some, length, All, AllPairs, Contains};
+ghost use Rattle.std.specs.Prelude.{◌≡◌, ◌≤◌, ◌<◌, ◌↔◌, ℕ, IsTrue, Some, length, All, AllPairs, Contains, slice_get};
 ghost use Rattle.pm_props.specs.Sets.{IsSubset};
 ghost use Rattle.pm_weights.specs.Weights.{no_cost, plus, IsAtMost};
 ghost use Rattle.pm_rules.specs.Rules.{rule_at};
 ghost use Rattle.pm_rules.specs.Steps.{IsOpen, step_of};
 ghost use Rattle.pm_rules.specs.Useful.{FindsOne};
 ghost use Rattle.pm_rules.specs.Certificates.{Within, EndsClaim, HasRow, IsBefore, IsCertificate};
-ghost use Rattle.pm_cert.specs.Claims.{Holds, GoesOn};
+ghost use Rattle.pm_rules.specs.declared.table.TableRow.{TableRow};
+ghost use Rattle.pm_cert.specs.Claims.{Holds, GoesOn, Stands, UpTo};
 ghost use Rattle.pm_limits.specs.Limits.{most_rules};
 
 use crate::halving::{are_in_order, has_row_in_order, is_at_most_sum};
@@ -53,6 +54,68 @@ pub fn verify_by_rules(
         && is_closed(rules, names, barred, needed, rows, in_order, c)
 }
 
+/// How many rows stand before the first that does not.
+pub fn standing_rows(
+    rules: &[Rule],
+    names: PropSet,
+    barred: &[RuleId],
+    asked: PropSet,
+    rows: &[TableRow],
+    c: Claim,
+) -> usize
+    requires { length rules.now ≤ most_rules }
+    ensures within { result ≤ length rows.now }
+    ensures stand { UpTo result (Stands rules.now names barred.now asked rows.now c) rows.now }
+    ensures first { (row : TableRow) → slice_get rows.now result ≡ Some row → Stands rules.now names barred.now asked rows.now c row → ⊥ }
+{
+    let needed = needed(rules, names, barred, asked);
+    let in_order = are_in_order(rows);
+    let mut standing = ending_nowhere(rows, asked, c);
+    for (k, rule) in rules.iter().enumerate() {
+        if rule.finds_one(names, barred, needed, RuleId(k as u16)) {
+            standing = going_on(rows, standing, in_order, c, &rule.step(), rule.weight);
+        }
+    }
+    standing
+}
+
+// How many rows come before the first within the claim that holds all asked names.
+fn ending_nowhere(rows: &[TableRow], asked: PropSet, c: Claim) -> usize
+    ensures within { result ≤ length rows.now }
+    ensures each { UpTo result (λ row. Within c row.cost → IsSubset asked row.set → ⊥) rows.now }
+    ensures first { (row : TableRow) → slice_get rows.now result ≡ Some row → Within c row.cost × IsSubset asked row.set }
+{
+    for i in 0..rows.len() {
+        if is_within(c, rows[i].cost) && asked.is_subset(rows[i].set) {
+            return i;
+        }
+    }
+    rows.len()
+}
+
+// How many of the first so many rows come before the first from which a step of this weight leads nowhere.
+fn going_on(
+    rows: &[TableRow],
+    most: usize,
+    in_order: bool,
+    c: Claim,
+    step: &Step,
+    weight: Weight,
+) -> usize
+    requires some { most ≤ length rows.now }
+    requires order { IsTrue in_order → AllPairs IsBefore rows.now }
+    ensures within { result ≤ most }
+    ensures each { UpTo result (GoesOn rows.now c step.now weight) rows.now }
+    ensures first { (row : TableRow) → result < most → slice_get rows.now result ≡ Some row → GoesOn rows.now c step.now weight row → ⊥ }
+{
+    for i in 0..most {
+        if !goes_on(rows, in_order, c, step, weight, rows[i]) {
+            return i;
+        }
+    }
+    most
+}
+
 // Whether a row with this cost has to be looked at.
 fn is_within(c: Claim, cost: Cost) -> bool
     ensures { IsTrue result ↔ Within c cost }
@@ -71,8 +134,8 @@ fn begins_and_ends(rows: &[TableRow], held: PropSet, asked: PropSet, c: Claim) -
     has_start(rows, held, c) && ends_nowhere(rows, asked, c)
 }
 
-// Whether the table has a row for the names held at the start, if it needs one.
-fn has_start(rows: &[TableRow], held: PropSet, c: Claim) -> bool
+/// Whether the table has a row for the names held at the start, if it needs one.
+pub fn has_start(rows: &[TableRow], held: PropSet, c: Claim) -> bool
     ensures { IsTrue result ↔ (Within c no_cost → Contains rows.now (record { set = held; cost = no_cost })) }
 {
     let start = TableRow {

@@ -1,0 +1,14 @@
+//! What `explain` prints, read back: whether a printed plan proves itself least, or a refusal that there is no chain. It
+//! knows nothing of the planner.
+#![tactic(auto)]
+
+mod chain;
+mod judge;
+mod laws;
+mod print;
+mod question;
+mod read;
+
+pub use judge::{Verdict, check};
+pub use laws::{law_proved_plans_are_least, law_proved_refusals_exclude};
+pub use question::Question;
