@@ -5,7 +5,7 @@ use Rattle.pm_laws_complete.specs.Completeness.{BarsNone}
 use Rattle.pm_rounds.proofs.Following.{names_after}
 use Rattle.pm_rounds.specs.Chains.{AllHeld, held_names, still_missing, table}
 use Rattle.pm_rounds.specs.Events.{Configuration, EndsIn, Ensured, Event, IsTrace, MayBegin, MayCommit, Phase, after_event, after_events, at_rest, begun, committed, configuration, excluded, over, phase_after, phase_after_all, running, settled, started, turn, turns, unsettled, written}
-use Rattle.pm_machine.specs.Steps.{is_asked, no_chain}
+use Rattle.pm_machine.specs.Steps.{is_asked, no_chain, is_refused}
 use Rattle.pm_rounds.specs.declared.round.Ending.{Ending}
 use Rattle.pm_rounds.specs.declared.round.Ending.TheVariants.{Crowded, Found, NoChain}
 use Rattle.pm_object.specs.State.{State}
@@ -164,6 +164,7 @@ unfolding is_none
 none_not_crowded e = true≢false (ap is_none e)
 
 pub give_comes : GiveComes
+give_comes book old new ref text _ (is_refused r s) excludes some = elim r [ ]
 give_comes book old new ref text more (is_asked (x, at, p, named, c, no_chain e told, becomes)) excludes some =
     none_not_found (value_comes book x.sub (only p) NoChain (configuration x.object old.clients) c e excludes some none_not_crowded)
 

@@ -5,7 +5,7 @@ use Rattle.pm_laws_complete.specs.Objects.{BarsNothing}
 use Rattle.pm_rounds.specs.Chains.{AreBarred, held_names, still_missing, table}
 use Rattle.pm_rounds.specs.Events.{Configuration, Ensured, Event, after_event, begun, committed, configuration, excluded, settled, started, written}
 use Rattle.pm_machine.specs.Machines.{Machine}
-use Rattle.pm_machine.specs.Steps.{GiveStep, Named, is_asked, no_chain}
+use Rattle.pm_machine.specs.Steps.{GiveStep, Named, is_asked, no_chain, is_refused}
 use Rattle.pm_rounds.specs.declared.round.Ending.{Ending}
 use Rattle.pm_rounds.specs.declared.round.Ending.TheVariants as ending
 use Rattle.pm_object_type.specs.declared.object_type.ObjectType.TheVariants.{Fan}
@@ -55,6 +55,7 @@ pub record LacksChain (book : List Rule) (old : Machine) : Type 0 where
 
 -- where `give` is refused for want of a chain, this was asked
 abbrev pub lacking : {book : List Rule} {old new : Machine} {ref : RefSeen} {text : List ℕ} {more : Remarks} → GiveStep book old ref text (refused NoChain more) new → LacksChain book old
+lacking (is_refused r s) = elim r [ ]
 lacking (is_asked (x, at, p, named, c, no_chain e told, becomes)) = record { found = x; property = p; now = c; ensured = e }
 
 -- so `give` is not refused for want of a chain, where one led there as the object was settled and no rule that it started was excluded

@@ -12,6 +12,10 @@ pub record ReaderSeen : Type 0 where
   pub read : ℕ
   pub at_end : Bool
 
+-- so many bytes are read at most before the lines that they end are answered
+abbrev pub most_ahead : ℕ
+most_ahead = 4096
+
 -- the line at hand before the first one
 abbrev pub no_line : Line
 no_line = record { bytes = []; ended = false }

@@ -1,6 +1,7 @@
 // Bytes that a source gave.
 
 ghost use Rattle.std.specs.Prelude.{◌≡◌, ◌-◌, ◌<◌, ◌≤◌, ◌^◌, List, ℕ, [], IfOk, OnErr, drop, take, length};
+ghost use Rattle.pm_lines.specs.Coming.{most_ahead};
 ghost use Rattle.pm_store.specs.Outside.{IsAtEnd, Moves, Rose, Stays};
 
 use pm_store::{Failed, Source};
@@ -56,6 +57,7 @@ impl Chunk {
         requires { 0 < most }
         ensures moves { IfOk result (λ _. Moves (S.left source.old) (S.left source.new) (length self.new) self.new) }
         ensures within { IfOk result (λ _. length self.new ≤ most) }
+        ensures few { length self.new ≤ most_ahead }
         ensures end { IfOk result (λ _. self.new ≡ [] → IsAtEnd (S.left source.old)) }
         ensures none { OnErr result (self.new ≡ []) }
         ensures err { OnErr result (Stays (S.left source.old) (S.left source.new)) }

@@ -1,7 +1,7 @@
 // Lines as they come from a source.
 
 ghost use Rattle.std.specs.Prelude.{◌≡◌, ◌≢◌, ℕ, ◌+◌, ◌-◌, ◌<◌, ◌≤◌, ◌++◌, List, [], Ok, Some, true, false, not, IfOk, IfSome, OnOk, OnErr, IsErrOf, length, drop};
-ghost use Rattle.pm_lines.specs.Coming.{Answers, BreaksOff, Ended, Exceeds, IsOver, ReaderSeen, Refilled, no_line};
+ghost use Rattle.pm_lines.specs.Coming.{Answers, BreaksOff, Ended, Exceeds, IsOver, ReaderSeen, Refilled, most_ahead, no_line};
 ghost use Rattle.pm_lines.specs.Whole.{HasNoBreak, whole_lines};
 ghost use Rattle.pm_lines.specs.declared.reader.LinesFail.TheVariants.{Fault, Memory};
 ghost use Rattle.pm_store.specs.Outside.{IsAtEnd, Loses, Rose, Stays};
@@ -66,7 +66,7 @@ impl Model for LineReader {
       at_end = r.at_end;
     } };
 
-    ghost invariant = { λ r. r.read ≤ most_script_bytes };
+    ghost invariant = { λ r. (r.read ≤ most_script_bytes) × (length r.chunk ≤ most_ahead) };
 }
 
 impl LineReader {
@@ -109,6 +109,7 @@ impl LineReader {
         })) }
         ensures read { self.new.read ≡ self.old.read }
         ensures at_end { self.new.at_end ≡ self.old.at_end }
+        ensures few { length self.new.given ≤ most_ahead }
     {
         let bytes = self.chunk.bytes();
         let end = first_break(bytes);
@@ -187,6 +188,7 @@ impl LineReader {
         ensures full { IsErrOf result LinesFail.TooLong → self.new.read ≡ most_script_bytes }
         ensures loses { Loses (S.left source.old) (S.left source.new) }
         ensures bound { self.new.read ≤ most_script_bytes }
+        ensures few { length self.new.given ≤ most_ahead }
         ensures grows { self.old.read ≤ self.new.read }
         ensures never_falls { S.faults source.old ≤ S.faults source.new }
     {

@@ -6,8 +6,8 @@ use Rattle.pm_machine.specs.Building.{MayHaveBegun, wanted_all}
 use Rattle.pm_making.specs.Rows.{row_of}
 use Rattle.pm_command.specs.declared.building.Builder.{Builder}
 use Rattle.pm_machine.specs.Parts.{StepInPart}
-use Rattle.pm_machine.specs.Machines.{IsFree, Machine, Stays, Store}
-use Rattle.pm_machine.specs.Steps.{CopyStep, DisableStep, DropStep, EnsureStep, ExplainStep, FileRead, GiveStep, HasBytes, HasNone, HistoryStep, IsLookedAt, LoadStep, Looks, LookupStep, NewObjectStep, NewOf, NewProgramStep, NewStep, OriginStep, RulesStep, Step, TakeStep, UnloadStep, bad_file, is_asked, is_copied, is_dropped, is_listed, is_loaded, is_made, is_shown, is_taken, is_told, is_unloaded, no_room, no_such_client, no_such_name, no_such_property, no_such_rule, no_such_type, not_held, not_taken, now_disabled, now_held, other_type, other_word}
+use Rattle.pm_machine.specs.Machines.{IsFree, Machine, Stays, Store, shelf}
+use Rattle.pm_machine.specs.Steps.{CopyStep, DisableStep, DropStep, EnsureStep, ExplainStep, FileRead, GiveStep, HasBytes, HasNone, HistoryStep, IsLookedAt, LoadStep, Looks, LookupStep, NewObjectStep, NewOf, NewProgramStep, NewStep, OriginStep, RulesStep, Step, TakeStep, UnloadStep, bad_file, is_asked, is_copied, is_dropped, is_listed, is_loaded, is_made, is_shown, is_told, is_unloaded, not_held, now_disabled, now_held, is_refused}
 use Rattle.pm_rules.specs.declared.rule.Rule.{Rule}
 use Rattle.pm_command.specs.Commands.{RefSeen, Spoken, blank, new_object, take_value, give_value, look_up, ensure_values, explain_values, tell_history, show_rules, disable_rule, unload_client, copy_object, drop_object, tell_origin, load_object, save_object, make_object, build_object, is_on_files}
 use Rattle.pm_script.specs.Replies.{ReplySeen}
@@ -17,17 +17,11 @@ use Rattle.std.proofs.Common.{ap, arith, false, inl, inr, refl, subst, sym, true
 use Rattle.std.specs.Prelude.{IfOk, IfSome, List, None, OnErr, Ok, Err, Option, Result, Some, option_map, ℕ, ◌≡◌}
 
 new_object_beside : (k : Store) (old new : Machine) (name text : List ℕ) (reply : ReplySeen) → NewObjectStep old name text reply new → NewObjectStep (beside k old) name text reply (beside k new)
-new_object_beside k old new name text _ (no_such_type h s) = no_such_type h (stays_beside k old new s)
-new_object_beside k old new name text _ (is_taken h i s) = is_taken h i (stays_beside k old new s)
-new_object_beside k old new name text _ (no_room h i l s) = no_room h i l (stays_beside k old new s)
+new_object_beside k old new name text _ (is_refused r s) = is_refused r (stays_beside k old new s)
 new_object_beside k old new name text _ (is_made of h i l told g) = is_made of h i l told (gains_beside k _ _ old new g)
 
 new_program_beside : (k : Store) (old new : Machine) (name sub text : List ℕ) (reply : ReplySeen) → NewProgramStep old name sub text reply new → NewProgramStep (beside k old) name sub text reply (beside k new)
-new_program_beside k old new name sub text _ (other_word h s) = other_word h (stays_beside k old new s)
-new_program_beside k old new name sub text _ (other_type h (o, i, w, s)) = other_type h (o, i, w, stays_beside k old new s)
-new_program_beside k old new name sub text _ (no_such_name h i s) = no_such_name h i (stays_beside k old new s)
-new_program_beside k old new name sub text _ (is_taken h (o, i, w, s)) = is_taken h (o, i, w, stays_beside k old new s)
-new_program_beside k old new name sub text _ (no_room h (o, i, w, s)) = no_room h (o, i, w, stays_beside k old new s)
+new_program_beside k old new name sub text _ (is_refused r s) = is_refused r (stays_beside k old new s)
 new_program_beside k old new name sub text _ (is_made o h i w told b) = is_made o h i w told (becomes_beside k _ _ old new b)
 
 new_of_beside : (k : Store) (old new : Machine) (name : List ℕ) (sub : Option (List ℕ)) (text : List ℕ) (reply : ReplySeen) → NewOf old name sub text reply new → NewOf (beside k old) name sub text reply (beside k new)
@@ -38,49 +32,40 @@ new_beside : (k : Store) (old new : Machine) (ref : RefSeen) (text : List ℕ) (
 new_beside k old new ref text reply h = new_of_beside k old new ref.name ref.sub text reply h
 
 take_beside : (k : Store) (old new : Machine) (ref : RefSeen) (text json : List ℕ) (reply : ReplySeen) → TakeStep old ref text json reply new → TakeStep (beside k old) ref text json reply (beside k new)
-take_beside k old new ref text json _ (no_such_name h s) = no_such_name h (stays_beside k old new s)
-take_beside k old new ref text json _ (no_such_property x h i s) = no_such_property x h i (stays_beside k old new s)
-take_beside k old new ref text json _ (not_taken (x, h, p, i, t, s)) = not_taken (x, h, p, i, t, stays_beside k old new s)
+take_beside k old new ref text json _ (is_refused r s) = is_refused r (stays_beside k old new s)
 take_beside k old new ref text json _ (now_held x p v h i t told b) = now_held x p v h i t told (becomes_beside k _ _ old new b)
 
 give_beside : (k : Store) (old new : Machine) (book : List Rule) (ref : RefSeen) (text : List ℕ) (reply : ReplySeen) → GiveStep book old ref text reply new → GiveStep book (beside k old) ref text reply (beside k new)
-give_beside k old new book ref text _ (no_such_name h s) = no_such_name h (stays_beside k old new s)
-give_beside k old new book ref text _ (no_such_property x h i s) = no_such_property x h i (stays_beside k old new s)
+give_beside k old new book ref text _ (is_refused r s) = is_refused r (stays_beside k old new s)
 give_beside k old new book ref text reply (is_asked (x, h, p, i, c, g, b)) = is_asked (x, h, p, i, c, g, becomes_beside k _ _ old new b)
 
 ensure_beside : (k : Store) (old new : Machine) (book : List Rule) (ref : RefSeen) (words : List (List ℕ)) (reply : ReplySeen) → EnsureStep book old ref words reply new → EnsureStep book (beside k old) ref words reply (beside k new)
-ensure_beside k old new book ref words _ (no_such_name h s) = no_such_name h (stays_beside k old new s)
-ensure_beside k old new book ref words _ (no_such_property x h i s) = no_such_property x h i (stays_beside k old new s)
+ensure_beside k old new book ref words _ (is_refused r s) = is_refused r (stays_beside k old new s)
 ensure_beside k old new book ref words reply (is_asked (x, h, p, i, c, g, b)) = is_asked (x, h, p, i, c, g, becomes_beside k _ _ old new b)
 
 explain_beside : (k : Store) (old new : Machine) (book : List Rule) (ref : RefSeen) (words : List (List ℕ)) (reply : ReplySeen) → ExplainStep book old ref words reply new → ExplainStep book (beside k old) ref words reply (beside k new)
-explain_beside k old new book ref words _ (no_such_name h s) = no_such_name h (stays_beside k old new s)
-explain_beside k old new book ref words _ (no_such_property x h i s) = no_such_property x h i (stays_beside k old new s)
+explain_beside k old new book ref words _ (is_refused r s) = is_refused r (stays_beside k old new s)
 explain_beside k old new book ref words reply (is_asked (x, h, p, i, g, b)) = is_asked (x, h, p, i, g, becomes_beside k _ _ old new b)
 
 history_beside : (k : Store) (old new : Machine) (book : List Rule) (name : List ℕ) (reply : ReplySeen) → HistoryStep book old name reply new → HistoryStep book (beside k old) name reply (beside k new)
-history_beside k old new book name _ (no_such_name h s) = no_such_name h (stays_beside k old new s)
+history_beside k old new book name _ (is_refused r s) = is_refused r (stays_beside k old new s)
 history_beside k old new book name _ (is_told o h i e s) = is_told o h i e (stays_beside k old new s)
 
 lookup_beside : (k : Store) (old new : Machine) (ref : RefSeen) (text : List ℕ) (reply : ReplySeen) → LookupStep old ref text reply new → LookupStep (beside k old) ref text reply (beside k new)
-lookup_beside k old new ref text _ (no_such_name h s) = no_such_name h (stays_beside k old new s)
-lookup_beside k old new ref text _ (no_such_property x h i s) = no_such_property x h i (stays_beside k old new s)
+lookup_beside k old new ref text _ (is_refused r s) = is_refused r (stays_beside k old new s)
 lookup_beside k old new ref text _ (not_held x p h i n s) = not_held x p h i n (stays_beside k old new s)
 lookup_beside k old new ref text _ (is_shown x h i n f w r s) = is_shown x h i n f w r (stays_beside k old new s)
 
 copy_beside : (k : Store) (old new : Machine) (name to : List ℕ) (reply : ReplySeen) → CopyStep old name to reply new → CopyStep (beside k old) name to reply (beside k new)
-copy_beside k old new name to _ (no_such_name h s) = no_such_name h (stays_beside k old new s)
-copy_beside k old new name to _ (is_taken h i s) = is_taken h i (stays_beside k old new s)
-copy_beside k old new name to _ (no_room h i l s) = no_room h i l (stays_beside k old new s)
+copy_beside k old new name to _ (is_refused r s) = is_refused r (stays_beside k old new s)
 copy_beside k old new name to _ (is_copied o told h i l g) = is_copied o told h i l (gains_beside k _ _ old new g)
 
 drop_beside : (k : Store) (old new : Machine) (name : List ℕ) (reply : ReplySeen) → DropStep old name reply new → DropStep (beside k old) name reply (beside k new)
-drop_beside k old new name _ (no_such_name h s) = no_such_name h (stays_beside k old new s)
+drop_beside k old new name _ (is_refused r s) = is_refused r (stays_beside k old new s)
 drop_beside k old new name _ (is_dropped told h l) = is_dropped told h (loses_beside k _ old new l)
 
 origin_beside : (k : Store) (old new : Machine) (ref : RefSeen) (text : List ℕ) (reply : ReplySeen) → OriginStep old ref text reply new → OriginStep (beside k old) ref text reply (beside k new)
-origin_beside k old new ref text _ (no_such_name h s) = no_such_name h (stays_beside k old new s)
-origin_beside k old new ref text _ (no_such_property x h i s) = no_such_property x h i (stays_beside k old new s)
+origin_beside k old new ref text _ (is_refused r s) = is_refused r (stays_beside k old new s)
 origin_beside k old new ref text _ (not_held x p h i n s) = not_held x p h i n (stays_beside k old new s)
 origin_beside k old new ref text _ (is_told x p h i n s) = is_told x p h i n (stays_beside k old new s)
 
@@ -88,12 +73,11 @@ rules_beside : (k : Store) (old new : Machine) (book : List Rule) (reply : Reply
 rules_beside k old new book _ (is_listed h i s) = is_listed h i (stays_beside k old new s)
 
 disable_beside : (k : Store) (old new : Machine) (book : List Rule) (name label : List ℕ) (reply : ReplySeen) → DisableStep book old name label reply new → DisableStep book (beside k old) name label reply (beside k new)
-disable_beside k old new book name label _ (no_such_name h s) = no_such_name h (stays_beside k old new s)
-disable_beside k old new book name label _ (no_such_rule h i s) = no_such_rule h i (stays_beside k old new s)
+disable_beside k old new book name label _ (is_refused r s) = is_refused r (stays_beside k old new s)
 disable_beside k old new book name label _ (now_disabled o told h i b) = now_disabled o told h i (becomes_beside k _ _ old new b)
 
 unload_beside : (k : Store) (old new : Machine) (name : List ℕ) (reply : ReplySeen) → UnloadStep old name reply new → UnloadStep (beside k old) name reply (beside k new)
-unload_beside k old new name _ (no_such_client h s) = no_such_client h (stays_beside k old new s)
+unload_beside k old new name _ (is_refused r s) = is_refused r (stays_beside k old new s)
 unload_beside k old new name _ (is_unloaded told h u) = is_unloaded told h (unloads_beside k _ old new u)
 
 step_beside : (k : Store) (book : List Rule) (old new : Machine) (command : Spoken) (reply : ReplySeen) → is_on_files command ≡ false → Step book old command reply new → Step book (beside k old) command reply (beside k new)
@@ -172,14 +156,14 @@ looks_of_stays old new s = record {
 abbrev pub with_both : Store → Clients → Machine → Machine
 with_both k clients m = record m { clients = clients; store = k }
 
-file_step : (book : List Rule) (old new : Machine) (k k' : Store) (clients : Clients) (name file bytes : List ℕ) (reply : ReplySeen) → IsFree old name → HasBytes k file bytes → IsLookedAt k k'
+file_step : (book : List Rule) (old new : Machine) (k k' : Store) (clients : Clients) (name file bytes : List ℕ) (reply : ReplySeen) → IsFree (shelf old) name → HasBytes k file bytes → IsLookedAt k k'
     → FileRead book name bytes reply old new → LoadStep book (with_both k clients old) name file reply (with_both k' clients new)
 file_step book old new k k' clients name file bytes _ free has looked (bad_file e refuses is s) =
-    bad_file bytes e free has refuses is (record { names = s.names; objects = s.objects; clients = refl; store = looked })
+    is_refused free (bad_file bytes e has refuses is) (record { names = s.names; objects = s.objects; clients = refl; store = looked })
 file_step book old new k k' clients name file bytes _ free has looked (is_loaded f reads over g) =
     is_loaded bytes f free has reads over (record { names = g.names; object = g.object; others = g.others; clients = refl; store = looked })
 
-pub file_answered : {E F : Type 0} (view : F → ReplySeen) (r : Result F E) (book : List Rule) (old new : Machine) (k k' : Store) (clients : Clients) (name file bytes : List ℕ) → IsFree old name → HasBytes k file bytes → IsLookedAt k k'
+pub file_answered : {E F : Type 0} (view : F → ReplySeen) (r : Result F E) (book : List Rule) (old new : Machine) (k k' : Store) (clients : Clients) (name file bytes : List ℕ) → IsFree (shelf old) name → HasBytes k file bytes → IsLookedAt k k'
     → IfOk r (λ x. FileRead book name bytes (view x) old new) → IfOk r (λ x. LoadStep book (with_both k clients old) name file (view x) (with_both k' clients new))
 file_answered view (Ok x) book old new k k' clients name file bytes free has looked h = file_step book old new k k' clients name file bytes (view x) free has looked h
 file_answered view (Err e) book old new k k' clients name file bytes free has looked h = tt

@@ -2,7 +2,7 @@
 use Rattle.pm_command.specs.Commands.{ShapeSeen}
 use Rattle.pm_command.specs.declared.building.Builder.{Builder}
 use Rattle.pm_machine.proofs.BesideObjects.{becomes_beside, beside, gains_beside, stays_beside}
-use Rattle.pm_machine.specs.Building.{BuildStep, DoesNotRead, EndsAt, EnsuresAll, EnsuresInPart, EnsuresOne, EnsuresOneInPart, MakeStep, Reads, Wanted, is_crowded, is_made, is_taken, no_chain, no_room, no_such_name, not_fit, not_made, other_type, wanted_all}
+use Rattle.pm_machine.specs.Building.{BuildStep, DoesNotRead, EndsAt, EnsuresAll, EnsuresInPart, EnsuresOne, EnsuresOneInPart, MakeStep, Reads, Wanted, is_crowded, is_made, no_chain, not_fit, not_made, wanted_all, is_refused}
 use Rattle.pm_making.specs.Rows.{row_of}
 use Rattle.pm_machine.specs.Machines.{Machine, Store}
 use Rattle.pm_rounds.specs.declared.round.Ending.{Ending}
@@ -45,9 +45,7 @@ module _ (k : Store) (book : List Rule) where
 
 -- ---- steps
 pub make_beside : (k : Store) (old new : Machine) (to : List ℕ) (shape : ShapeSeen) (reply : ReplySeen) → MakeStep old to shape reply new → MakeStep (beside k old) to shape reply (beside k new)
-make_beside k old new to shape _ (is_taken h s) = is_taken h (stays_beside k old new s)
-make_beside k old new to shape _ (no_room h i s) = no_room h i (stays_beside k old new s)
-make_beside k old new to shape _ (not_fit h i s) = not_fit h i (stays_beside k old new s)
+make_beside k old new to shape _ (is_refused r s) = is_refused r (stays_beside k old new s)
 make_beside k old new to shape _ (is_made h i told g) = is_made h i told (gains_beside k _ _ old new g)
 
 module _ (k : Store) (book : List Rule) (b : Builder) (old : Machine) (names : List (List ℕ)) (to : List ℕ) where
@@ -58,10 +56,7 @@ module _ (k : Store) (book : List Rule) (b : Builder) (old : Machine) (names : L
   not_beside e more new d = record { free = d.free; types = d.types; rounds = d.rounds; ends = ends_beside k book (wanted_all (row_of b).reads names) e d.rounds old new d.ends; told = d.told }
 
   pub build_beside : (reply : ReplySeen) (new : Machine) → BuildStep book b old names to reply new → BuildStep book b (beside k old) names to reply (beside k new)
-  build_beside _ new (no_such_name h s) = no_such_name h (stays_beside k old new s)
-  build_beside _ new (is_taken h i s) = is_taken h i (stays_beside k old new s)
-  build_beside _ new (no_room h i l s) = no_room h i l (stays_beside k old new s)
-  build_beside _ new (other_type h i l s) = other_type h i l (stays_beside k old new s)
+  build_beside _ new (is_refused r s) = is_refused r (stays_beside k old new s)
   build_beside _ new (no_chain {more = more} d) = no_chain (not_beside ending.NoChain more new d)
   build_beside _ new (is_crowded {more = more} d) = is_crowded (not_beside ending.Crowded more new d)
   build_beside _ new (not_fit rounds os reads apart h is) = not_fit rounds os (reads_beside rounds os new reads) apart h is

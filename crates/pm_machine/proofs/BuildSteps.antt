@@ -6,13 +6,13 @@ use Rattle.pm_files.specs.Views.{file_of}
 use Rattle.pm_files.specs.declared.file.FileObject.{FileObject}
 use Rattle.pm_machine.proofs.Ensuring.{all_stay}
 use Rattle.pm_machine.proofs.Growth.{all_have_read}
-use Rattle.pm_machine.specs.Building.{BuildStep, EnsuresAll, MakeStep, ObjectsAre, are_named, are_of, is_made, is_taken, no_room, not_fit, not_made, told_rounds, wanted_all}
+use Rattle.pm_machine.specs.Building.{BuildStep, EnsuresAll, MakeStep, ObjectsAre, are_of, is_made, not_fit, not_made, told_rounds, wanted_all, is_refused}
 use Rattle.pm_making.specs.Rows.{Makes, Unfit, Unmade, object_of, row_of, same_type, shape_condition, shape_file}
-use Rattle.pm_machine.specs.Built.{Builds, HasRead, HaveRead, IsBarred, IsBuilt, MakesBuilt, remarks_of}
+use Rattle.pm_machine.specs.Built.{Builds, HasRead, HaveRead, IsBuilt, MakesBuilt, remarks_of}
 use Rattle.pm_making.specs.Made.{IsRead, IsUnbuilt, of_built}
 use Rattle.pm_making.specs.declared.unbuilt.Unbuilt.{Unbuilt}
 use Rattle.pm_making.specs.declared.unbuilt.Unbuilt.TheVariants as unbuilt
-use Rattle.pm_machine.specs.Machines.{Gains, IsFree, Machine, Stays, no_rounds}
+use Rattle.pm_machine.specs.Machines.{Gains, IsFree, Machine, Stays, no_rounds, shelf}
 use Rattle.pm_object.specs.State.{IsRefused, RoundSeen, State}
 use Rattle.pm_object.specs.declared.held.BuildFail.{BuildFail}
 use Rattle.pm_object.specs.declared.held.BuildFail.TheVariants as fail
@@ -20,16 +20,14 @@ use Rattle.pm_object.specs.declared.held.Condition.{Condition}
 use Rattle.pm_object_type.specs.declared.object_type.ObjectType.{ObjectType}
 use Rattle.pm_props.specs.declared.property.PropId.{PropId}
 use Rattle.pm_rules.specs.declared.rule.Rule.{Rule}
-use Rattle.pm_script.specs.Replies.{NamesSeen, ReplySeen, Rounds, done, nothing, refused}
+use Rattle.pm_script.specs.Replies.{NamesSeen, ReplySeen, Rounds, done, refused}
 use Rattle.pm_script.specs.declared.refusal.NotMadeWhy.{NotMadeWhy}
-use Rattle.pm_script.specs.declared.refusal.Refusal.{Refusal}
-use Rattle.pm_script.specs.declared.refusal.Refusal.TheVariants.{NameTaken, ObjectsFull, NotFit, NotMade}
-use Rattle.std.proofs.Common.{ap, inl, inr, refl, subst, sym, true, ◌∙◌, ◌≢◌}
+use Rattle.pm_script.specs.declared.refusal.Refusal.TheVariants.{NotFit, NotMade}
+use Rattle.std.proofs.Common.{ap, inl, inr, refl, subst, sym, true, ◌∙◌}
 use Rattle.std.proofs.lemmas.Bool.{and_from}
 use Rattle.std.proofs.lemmas.Option.{same_Some}
 use Rattle.std.specs.List.{AllByRecursion, list_all}
-use Rattle.std.specs.Prelude.{Bool, Err, IfErr, IfOk, List, None, Ok, OnErr, OnOk, Result, Some, [], drop, get_or, length, map, ℕ, ◌∷◌, ◌≡◌, ◌≤◌, ◌⊎◌}
-use Rattle.pm_limits.specs.Limits.{most_objects}
+use Rattle.std.specs.Prelude.{Bool, Err, IfErr, IfOk, List, None, Ok, OnErr, OnOk, Result, Some, [], drop, get_or, map, ℕ, ◌∷◌, ◌≡◌, ◌⊎◌}
 use Rattle.pm_making.proofs.Fits.{IsOfItsType, reads_some}
 
 -- the machine with these clients
@@ -41,27 +39,6 @@ stays_with clients old new s = record { names = s.names; objects = s.objects; cl
 
 gains_with : (clients : Clients) (to : List ℕ) (o : State) (old new : Machine) → Gains to o old new → Gains to o (with_clients clients old) (with_clients clients new)
 gains_with clients to o old new g = record { names = g.names; object = g.object; others = g.others; clients = refl; store = g.store }
-
--- ---- names that are barred
-abbrev pub IsBarredSo : Machine → List ℕ → Refusal → Type 0
-IsBarredSo m to why = ((why ≡ NameTaken) × (m.object to ≢ None)) ⊎ ((why ≡ ObjectsFull) × (m.object to ≡ None) × (most_objects ≤ length m.names))
-
-barred_so : (m : Machine) (to : List ℕ) (why : Refusal) → IsBarred m to why → IsBarredSo m to why
-barred_so m to NameTaken h = inl (refl, h)
-barred_so m to ObjectsFull h = inr (refl, h.0, h.1)
-barred_so m to why h = absurd h
-
-pub make_barred : (m : Machine) (to : List ℕ) (shape : ShapeSeen) (why : Refusal) (new : Machine) → IsBarred m to why → Stays m new → MakeStep m to shape (refused why nothing) new
-make_barred m to shape why new h s = elim (barred_so m to why h) [
-  | inl (is, taken) ↦ subst (λ z. MakeStep m to shape (refused z nothing) new) (sym is) (is_taken taken s)
-  | inr (is, none, full) ↦ subst (λ z. MakeStep m to shape (refused z nothing) new) (sym is) (no_room none full s)
-]
-
-pub build_barred : (book : List Rule) (b : Builder) (m : Machine) (names : List (List ℕ)) (to : List ℕ) (why : Refusal) (new : Machine) → are_named m names ≡ true → IsBarred m to why → Stays m new → BuildStep book b m names to (refused why nothing) new
-build_barred book b m names to why new named h s = elim (barred_so m to why h) [
-  | inl (is, taken) ↦ subst (λ z. BuildStep book b m names to (refused z nothing) new) (sym is) (is_taken named taken s)
-  | inr (is, none, full) ↦ subst (λ z. BuildStep book b m names to (refused z nothing) new) (sym is) (no_room named none full s)
-]
 
 -- ---- what was built
 -- made of a file with these values, or refused for this condition, or for this reason
@@ -90,17 +67,17 @@ pub none_told : {X : Type 0} (f : X → RoundSeen) (xs : List X) (names : NamesS
 none_told f xs names none is = ap (λ z. record { rounds = map f z; names = names }) none ∙ ap (λ z. record { rounds = []; names = z }) is
 
 -- `make`
-made_step : (to : List ℕ) (shape : ShapeSeen) (built : Result FileObject BuildFail) (t : Rounds) (reply : ReplySeen) (clients : Clients) (old new : Machine) → IsFree old to → t ≡ no_rounds
+made_step : (to : List ℕ) (shape : ShapeSeen) (built : Result FileObject BuildFail) (t : Rounds) (reply : ReplySeen) (clients : Clients) (old new : Machine) → IsFree (shelf old) to → t ≡ no_rounds
     → IfOk built (λ f. file_of f ≡ shape_file shape) → OnOk built (shape_condition shape ≡ None) → IfErr built (IsRefused (shape_condition shape)) → MakesBuilt to (of_built built) t reply old new
     → MakeStep (with_clients clients old) to shape reply (with_clients clients new)
 made_step to shape (Ok f) t (done told) clients old new free none file fits refused' (is, g) =
     is_made free fits (is ∙ none) (gains_with clients to _ old new (subst (λ z. Gains to (object_of z) old new) file g))
 made_step to shape (Err (fail.NotFit c)) t (refused (NotFit d) more) clients old new free none file fits refused' (same, is, s) =
     subst (λ z. MakeStep (with_clients clients old) to shape z (with_clients clients new)) (sym (ap (λ z. refused (NotFit z) more) same ∙ ap (λ z. refused (NotFit c) z) (is ∙ ap remarks_of none)))
-    (not_fit free refused' (stays_with clients old new s))
+    (is_refused (not_fit free refused') (stays_with clients old new s))
 made_step to shape built t reply clients old new free none file fits refused' h = absurd h
 
-pub make_step : {F E : Type 0} (view : F → ReplySeen) (r : Result F E) (to : List ℕ) (shape : ShapeSeen) (built : Result FileObject BuildFail) (t : Rounds) (clients : Clients) (old new : Machine) → IsFree old to → t ≡ no_rounds
+pub make_step : {F E : Type 0} (view : F → ReplySeen) (r : Result F E) (to : List ℕ) (shape : ShapeSeen) (built : Result FileObject BuildFail) (t : Rounds) (clients : Clients) (old new : Machine) → IsFree (shelf old) to → t ≡ no_rounds
     → IfOk built (λ f. file_of f ≡ shape_file shape) → OnOk built (shape_condition shape ≡ None) → IfErr built (IsRefused (shape_condition shape)) → IfOk r (λ x. MakesBuilt to (of_built built) t (view x) old new)
     → IfOk r (λ x. MakeStep (with_clients clients old) to shape (view x) (with_clients clients new))
 make_step view (Ok x) to shape built t clients old new free none file fits refused' h =
@@ -150,7 +127,7 @@ same_objects old new [] s = refl
 same_objects old new (n ∷ ns) s = ap (λ z. z ∷ map new.object ns) (s.objects n) ∙ ap (λ z. old.object n ∷ z) (same_objects old new ns s)
 
 -- ---- the steps where all was found
-build_step : (book : List Rule) (b : Builder) (names : List (List ℕ)) (to : List ℕ) (rounds : List RoundSeen) (t : Rounds) (reply : ReplySeen) (clients : Clients) (old mid new : Machine) → IsFree old to → are_of (row_of b).of old names ≡ true
+build_step : (book : List Rule) (b : Builder) (names : List (List ℕ)) (to : List ℕ) (rounds : List RoundSeen) (t : Rounds) (reply : ReplySeen) (clients : Clients) (old mid new : Machine) → IsFree (shelf old) to → are_of (row_of b).of (shelf old) names ≡ true
     → EnsuresAll book (wanted_all (row_of b).reads names) rounds old (with_clients clients mid) → t ≡ told_rounds book rounds → IsOfItsType b → HaveRead b mid names → Builds b names to t reply mid new
     → BuildStep book b old names to reply (with_clients clients new)
 build_step book b names to rounds t (done told) clients old mid new free types all is of read (os, f, are, fits, same, g) =
@@ -175,19 +152,19 @@ build_step book b names to rounds t (refused (NotMade why) more) clients old mid
     shown (same ∙ ap remarks_of is)
 build_step book b names to rounds t reply clients old mid new free types all is of read h = absurd h
 
-pub build_answered : {F E : Type 0} (view : F → ReplySeen) (r : Result F E) (book : List Rule) (b : Builder) (names : List (List ℕ)) (to : List ℕ) (rounds : List RoundSeen) (t : Rounds) (clients : Clients) (old mid new : Machine) → IsFree old to → are_of (row_of b).of old names ≡ true
+pub build_answered : {F E : Type 0} (view : F → ReplySeen) (r : Result F E) (book : List Rule) (b : Builder) (names : List (List ℕ)) (to : List ℕ) (rounds : List RoundSeen) (t : Rounds) (clients : Clients) (old mid new : Machine) → IsFree (shelf old) to → are_of (row_of b).of (shelf old) names ≡ true
     → EnsuresAll book (wanted_all (row_of b).reads names) rounds old (with_clients clients mid) → t ≡ told_rounds book rounds → IsOfItsType b → HaveRead b mid names → IfOk r (λ x. Builds b names to t (view x) mid new)
     → IfOk r (λ x. BuildStep book b old names to (view x) (with_clients clients new))
 build_answered view (Ok x) book b names to rounds t clients old mid new free types all is of read h = build_step book b names to rounds t (view x) clients old mid new free types all is of read h
 build_answered view (Err e) book b names to rounds t clients old mid new free types all is of read h = tt
 
 -- ---- what is read
-pub reads_done : (what : Builder) (book : List Rule) (names : List (List ℕ)) (rounds : List RoundSeen) (old new : Machine) → EnsuresAll book (wanted_all (row_of what).reads names) rounds old new → are_of (row_of what).of old names ≡ true → HaveRead what new names
+pub reads_done : (what : Builder) (book : List Rule) (names : List (List ℕ)) (rounds : List RoundSeen) (old new : Machine) → EnsuresAll book (wanted_all (row_of what).reads names) rounds old new → are_of (row_of what).of (shelf old) names ≡ true → HaveRead what new names
 reads_done what book names rounds old new all types = let r = reads_some what in all_have_read book rounds old new what r.0 r.1 names r.2 all types
 
 -- what was asked of a type was asked of that of the row
-pub of_row : {answer : Bool} (type : ObjectType) (b : Builder) (m : Machine) (names : List (List ℕ)) → type ≡ (row_of b).of → are_of type m names ≡ answer → are_of (row_of b).of m names ≡ answer
-of_row {answer} type b m names same h = subst (λ z. are_of z m names ≡ answer) same h
+pub of_row : {answer : Bool} (type : ObjectType) (b : Builder) (m : Machine) (names : List (List ℕ)) → type ≡ (row_of b).of → are_of type (shelf m) names ≡ answer → are_of (row_of b).of (shelf m) names ≡ answer
+of_row {answer} type b m names same h = subst (λ z. are_of z (shelf m) names ≡ answer) same h
 
 -- ---- where memory ran out
 pub if_broken : {T E P Q : Type 0} (r : Result T E) → (P → Q) → OnErr r P → OnErr r Q

@@ -4,11 +4,11 @@ use Rattle.pm_command.specs.declared.building.Binary.TheVariants.{Refine}
 use Rattle.pm_command.specs.declared.building.Builder.{Builder}
 use Rattle.pm_command.specs.declared.building.Builder.TheVariants.{Two}
 use Rattle.pm_files.specs.Files.{SavedFile}
-use Rattle.pm_machine.proofs.Kept.{some_not_none}
-use Rattle.pm_machine.specs.Building.{BuildStep, DoesNotRead, EndsAt, EnsuresAll, EnsuresInPart, MakeStep, MayHaveBegun, ObjectsAre, Wanted, are_named, are_of, is_crowded, is_made, is_of_type, is_taken, no_chain, no_room, no_such_name, not_fit, not_made, other_type, rounds_told, told_rounds}
+use Rattle.pm_machine.proofs.KeepingSteps.{some_not_none}
+use Rattle.pm_machine.specs.Building.{BuildStep, DoesNotRead, EndsAt, EnsuresAll, EnsuresInPart, MakeStep, MayHaveBegun, ObjectsAre, Wanted, are_named, are_of, is_crowded, is_made, is_of_type, no_chain, no_such_name, not_fit, not_made, other_type, rounds_told, told_rounds, is_refused, no_new_name}
 use Rattle.pm_making.specs.Rows.{Makes, Unfit, Unmade, object_of, row_of, same_type, shape_condition, shape_file}
 use Rattle.pm_machine.specs.BuildingExamples.{ObjectsAreBuilt, OperandsAreRead, ShapesAreMade, WantedIsEnsured}
-use Rattle.pm_machine.specs.Machines.{Gains, IsFree, Machine, Stays, no_rounds}
+use Rattle.pm_machine.specs.Machines.{Gains, IsFree, Machine, Stays, no_rounds, is_taken, no_room, shelf}
 use Rattle.pm_rounds.specs.declared.round.Ending.TheVariants as ending
 use Rattle.pm_object.specs.declared.held.Condition.{Condition}
 use Rattle.pm_object.specs.declared.held.Condition.TheVariants as condition
@@ -26,11 +26,11 @@ use Rattle.std.specs.Prelude.{Bool, List, None, Some, [], ℕ, ◌&&◌, ◌∷�
 
 -- what is so of a shape that is made
 module _ (old new : Machine) (to : List ℕ) (shape : ShapeSeen) (t : Rounds) where
-  shape_made : MakeStep old to shape (done t) new → IsFree old to × (shape_condition shape ≡ None) × (t ≡ no_rounds) × Gains to (object_of (shape_file shape)) old new
+  shape_made : MakeStep old to shape (done t) new → IsFree (shelf old) to × (shape_condition shape ≡ None) × (t ≡ no_rounds) × Gains to (object_of (shape_file shape)) old new
   shape_made (is_made free fits told g) = (free, fits, told, g)
 
 unfit_shape : (old new : Machine) (to : List ℕ) (shape : ShapeSeen) (c : Condition) → MakeStep old to shape (refused (NotFit c) nothing) new → shape_condition shape ≡ Some c
-unfit_shape old new to shape c (not_fit free fails s) = fails
+unfit_shape old new to shape c (is_refused r s) = elim r [ not_fit free fails ↦ fails | no_new_name n ↦ elim n [ ] ]
 
 pub shapes_are_made : ShapesAreMade
 shapes_are_made = record {
@@ -50,9 +50,9 @@ shapes_are_made = record {
   not_over = λ old new to shape t taken h. taken (shape_made old new to shape t h).0.0;
   not_full = λ old new to shape t count h. absurd (omega (arith, count, (shape_made old new to shape t h).0.1));
   not_so_large = λ old new to t h. some_not_none (shape_made old new to (cube_shape 33) t h).1;
-  is_taken = λ old to shape taken s. is_taken taken s;
-  is_full = λ old to shape free count s. no_room free (omega (arith, count)) s;
-  is_large = λ old to free s. not_fit free refl s;
+  is_taken = λ old to shape taken s. is_refused (no_new_name (is_taken taken)) s;
+  is_full = λ old to shape free count s. is_refused (no_new_name (no_room free (omega (arith, count)))) s;
+  is_large = λ old to free s. is_refused (not_fit free refl) s;
   is_not_large = λ old new to h. some_not_none (sym (unfit_shape old new to (cube_shape 32) condition.Size h));
 }
 
@@ -75,11 +75,11 @@ and_false false = refl
 cone_is_none : (b : Builder) (old : Machine) (name : List ℕ) → (row_of b).of ≡ Polytope → old.object name ≡ Some (empty_object Cone) → is_of_type (row_of b).of (old.object name) ≡ false
 cone_is_none b old name type is = ap (is_of_type (row_of b).of) is ∙ ap (λ z. same_type z Cone) type
 
-one_is_none : (b : Builder) (old : Machine) (name : List ℕ) → is_of_type (row_of b).of (old.object name) ≡ false → are_of (row_of b).of old (name ∷ []) ≡ true → ⊥
+one_is_none : (b : Builder) (old : Machine) (name : List ℕ) → is_of_type (row_of b).of (old.object name) ≡ false → are_of (row_of b).of (shelf old) (name ∷ []) ≡ true → ⊥
 one_is_none b old name none all = true≢false (sym (and_parts (is_of_type (row_of b).of (old.object name)) true all).0 ∙ none)
 
-second_is_none : (b : Builder) (old : Machine) (first second : List ℕ) → is_of_type (row_of b).of (old.object second) ≡ false → are_of (row_of b).of old (first ∷ second ∷ []) ≡ true → ⊥
-second_is_none b old first second none all = one_is_none b old second none (and_parts (is_of_type (row_of b).of (old.object first)) (are_of (row_of b).of old (second ∷ [])) all).1
+second_is_none : (b : Builder) (old : Machine) (first second : List ℕ) → is_of_type (row_of b).of (old.object second) ≡ false → are_of (row_of b).of (shelf old) (first ∷ second ∷ []) ≡ true → ⊥
+second_is_none b old first second none all = one_is_none b old second none (and_parts (is_of_type (row_of b).of (old.object first)) (are_of (row_of b).of (shelf old) (second ∷ [])) all).1
 
 none_taken : (b : Builder) (old new : Machine) (names : List (List ℕ)) (to : List ℕ) → old.object to ≢ None → MayHaveBegun b names to old new → Stays old new
 none_taken b old new names to taken (inl s) = s
@@ -112,16 +112,16 @@ wanted_is_ensured = record {
   in_part_of_no_object = nothing_of_it;
 }
 
-second_missing : (m : Machine) (first second : List ℕ) → m.object second ≡ None → are_named m (first ∷ second ∷ []) ≡ false
+second_missing : (m : Machine) (first second : List ℕ) → m.object second ≡ None → are_named (shelf m) (first ∷ second ∷ []) ≡ false
 second_missing m first second none = ap (λ z. is_some (m.object first) && (is_some z && true)) none ∙ and_false (is_some (m.object first))
 
-second_cone : (m : Machine) (first second : List ℕ) → m.object second ≡ Some (empty_object Cone) → are_of Polytope m (first ∷ second ∷ []) ≡ false
+second_cone : (m : Machine) (first second : List ℕ) → m.object second ≡ Some (empty_object Cone) → are_of Polytope (shelf m) (first ∷ second ∷ []) ≡ false
 second_cone m first second is = ap (λ z. is_of_type Polytope (m.object first) && (is_of_type Polytope z && true)) is ∙ and_false (is_of_type Polytope (m.object first))
 
-both_there : (m : Machine) (first second : List ℕ) (o p : State) → m.object first ≡ Some o → m.object second ≡ Some p → are_named m (first ∷ second ∷ []) ≡ true
+both_there : (m : Machine) (first second : List ℕ) (o p : State) → m.object first ≡ Some o → m.object second ≡ Some p → are_named (shelf m) (first ∷ second ∷ []) ≡ true
 both_there m first second o p at at' = ap (λ z. is_some z && (is_some (m.object second) && true)) at ∙ ap (λ z. is_some z && true) at'
 
-both_fans : (m : Machine) (first second : List ℕ) → m.object first ≡ Some (empty_object Fan) → m.object second ≡ Some (empty_object Fan) → are_of Fan m (first ∷ second ∷ []) ≡ true
+both_fans : (m : Machine) (first second : List ℕ) → m.object first ≡ Some (empty_object Fan) → m.object second ≡ Some (empty_object Fan) → are_of Fan (shelf m) (first ∷ second ∷ []) ≡ true
 both_fans m first second at at' = ap (λ z. is_of_type Fan z && (is_of_type Fan (m.object second) && true)) at ∙ ap (λ z. is_of_type Fan z && true) at'
 
 objects_in_order : (m : Machine) (first second : List ℕ) (o p : State) → m.object first ≡ Some o → m.object second ≡ Some p → ObjectsAre m (first ∷ second ∷ []) (o ∷ p ∷ [])
@@ -163,36 +163,43 @@ module _ (book : List Rule) (b : Builder) (old : Machine) (names : List (List �
   told_so : (new : Machine) (t : Rounds) → BuildStep book b old names to (done t) new → (rounds : List RoundSeen) × (t ≡ told_rounds book rounds)
   told_so new t (is_made rounds os f reads made g is) = (rounds, is)
 
-  typed_so : (new : Machine) (t : Rounds) → BuildStep book b old names to (done t) new → are_of (row_of b).of old names ≡ true
+  typed_so : (new : Machine) (t : Rounds) → BuildStep book b old names to (done t) new → are_of (row_of b).of (shelf old) names ≡ true
   typed_so new t (is_made rounds os f reads made g is) = reads.types
 
-  free_so : (new : Machine) (t : Rounds) → BuildStep book b old names to (done t) new → IsFree old to
+  free_so : (new : Machine) (t : Rounds) → BuildStep book b old names to (done t) new → IsFree (shelf old) to
   free_so new t (is_made rounds os f reads made g is) = reads.free
 
   unfit_so : (new : Machine) (more : Remarks) → BuildStep book b old names to (refused (NotFit condition.Centered) more) new → (os : List State) × ObjectsAre new names os × Unfit b os condition.Centered
+  unfit_so new more (is_refused r s) = elim r [ no_new_name named n ↦ elim n [ ] ]
   unfit_so new more (not_fit rounds os reads apart fails is) = (os, reads.objects, fails)
 
   unmade_so : (new : Machine) (why : NotMadeWhy) (more : Remarks) → BuildStep book b old names to (refused (NotMade why) more) new → (os : List State) × ObjectsAre new names os × Unmade b os why
+  unmade_so new why more (is_refused r s) = elim r [ no_new_name named n ↦ elim n [ ] ]
   unmade_so new why more (not_made rounds os reads shown is) = (os, reads.objects, shown)
 
   unmade_told : (new : Machine) (why : NotMadeWhy) (more : Remarks) → BuildStep book b old names to (refused (NotMade why) more) new → (rounds : List RoundSeen) × (more ≡ rounds_told book rounds)
+  unmade_told new why more (is_refused r s) = elim r [ no_new_name named n ↦ elim n [ ] ]
   unmade_told new why more (not_made rounds os reads shown is) = (rounds, is)
 
   lacking : (new : Machine) (more : Remarks) → BuildStep book b old names to (refused NoChain more) new → DoesNotRead book b names to ending.NoChain more old new
+  lacking new more (is_refused r s) = elim r [ no_new_name named n ↦ elim n [ ] ]
   lacking new more (no_chain d) = d
 
   crowding : (new : Machine) (more : Remarks) → BuildStep book b old names to (refused Crowded more) new → DoesNotRead book b names to ending.Crowded more old new
+  crowding new more (is_refused r s) = elim r [ no_new_name named n ↦ elim n [ ] ]
   crowding new more (is_crowded d) = d
 
   none_else : (new : Machine) → BuildStep book b old names to undef new → ⊥
   none_else new h = elim h [ ]
 
-one_cone : (book : List Rule) (b : Builder) (old : Machine) (name to : List ℕ) → (row_of b).of ≡ Polytope → old.object name ≡ Some (empty_object Cone) → IsFree old to → Stays old old → BuildStep book b old (name ∷ []) to (refused (NotFit condition.OfType) nothing) old
-one_cone book b old name to type is free s = other_type (ap (λ z. is_some z && true) is) free (ap (λ z. z && true) (cone_is_none b old name type is)) s
+one_cone : (book : List Rule) (b : Builder) (old : Machine) (name to : List ℕ) → (row_of b).of ≡ Polytope → old.object name ≡ Some (empty_object Cone) → IsFree (shelf old) to → Stays old old → BuildStep book b old (name ∷ []) to (refused (NotFit condition.OfType) nothing) old
+one_cone book b old name to type is free s = is_refused (other_type (ap (λ z. is_some z && true) is) free (ap (λ z. z && true) (cone_is_none b old name type is))) s
 
 one_polytope : (book : List Rule) (b : Builder) (old new : Machine) (name to : List ℕ) → (row_of b).of ≡ Polytope → old.object name ≡ Some (empty_object Polytope) → BuildStep book b old (name ∷ []) to (refused (NotFit condition.OfType) nothing) new → ⊥
-one_polytope book b old new name to type is (other_type named free types s) =
-    true≢false (sym (ap (λ z. is_of_type (row_of b).of z && true) is ∙ ap (λ z. same_type z Polytope && true) type) ∙ types)
+one_polytope book b old new name to type is (is_refused r s) = elim r [
+  | other_type named free types ↦ true≢false (sym (ap (λ z. is_of_type (row_of b).of z && true) is ∙ ap (λ z. same_type z Polytope && true) type) ∙ types)
+  | no_new_name named n ↦ elim n [ ]
+]
 one_polytope book b old new name to type is (not_fit rounds os reads apart fails told) = apart refl
 
 columns_unfit : (a b : State) → Unfit (Two Refine) (a ∷ b ∷ []) condition.Columns → refine_refusal a b ≡ Some condition.Columns
@@ -233,7 +240,7 @@ objects_are_built = record {
   of_no_cone = λ book b old new name to t type is h. one_is_none b old name (cone_is_none b old name type is) (typed_so book b old (name ∷ []) to new t h);
   cone_is_refused = one_cone;
   polytope_is_not = one_polytope;
-  unknown_first = λ book b old name to none s. no_such_name (ap (λ z. is_some z && true) none) s;
+  unknown_first = λ book b old name to none s. is_refused (no_such_name (ap (λ z. is_some z && true) none)) s;
   taken_before_rounds = λ book b old new names to more taken h. taken (lacking book b old names to new more h).free.0;
   type_before_rounds = λ book b old new name to more type is h. one_is_none b old name (cone_is_none b old name type is) (crowding book b old (name ∷ []) to new more h).types;
   is_not_fit = λ book b old new names to more h. unfit_so book b old names to new more h;
@@ -243,6 +250,6 @@ objects_are_built = record {
   crowded_tells = λ book b old new names to more h. let d = crowding book b old names to new more h in (d.rounds, d.told);
   no_other = λ book b old new names to h. none_else book b old names to new h;
   without_second = λ book b old new first second to t none h. second_is_none b old first second (ap (is_of_type (row_of b).of) none) (typed_so book b old (first ∷ second ∷ []) to new t h);
-  second_is_unknown = λ book b old first second to none s. no_such_name (second_missing old first second none) s;
+  second_is_unknown = λ book b old first second to none s. is_refused (no_such_name (second_missing old first second none)) s;
   second_is_no_cone = λ book b old new first second to t type is h. second_is_none b old first second (cone_is_none b old second type is) (typed_so book b old (first ∷ second ∷ []) to new t h);
 }

@@ -1,9 +1,9 @@
 -- The examples, by what the definitions say.
-use Rattle.pm_machine.proofs.Kept.{some_not_none}
-use Rattle.pm_rounds.specs.Events.{Configuration, over}
+use Rattle.pm_machine.proofs.KeepingSteps.{some_not_none}
+use Rattle.pm_rounds.specs.Events.{Configuration}
 use Rattle.pm_props.specs.declared.property.PropId.TheVariants.{LinearObjective}
-use Rattle.pm_machine.specs.Machines.{Files, IsFree, Machine, later_rounds}
-use Rattle.pm_machine.specs.Steps.{CopyStep, DropStep, Ensures, Explains, Gives, HasBytes, HasNone, HistoryStep, IsSavedWhole, LoadStep, LookupStep, NewStep, Puts, SaveStep, TakeValue, bytes_of, is_computed, is_copied, is_crowded, is_dropped, is_loaded, is_made, is_planned, is_saved, is_sealed, is_shown, is_told, names_told, no_chain, no_room, no_such_file, other_type, part_named, store_failed}
+use Rattle.pm_machine.specs.Machines.{Files, IsFree, Machine, later_rounds, no_room, shelf}
+use Rattle.pm_machine.specs.Steps.{CopyStep, DropStep, Ensures, Explains, Gives, HasBytes, HasNone, HistoryStep, IsSavedWhole, LoadStep, LookupStep, NewStep, Puts, SaveStep, TakeValue, bytes_of, is_computed, is_copied, is_crowded, is_dropped, is_loaded, is_made, is_planned, is_saved, is_sealed, is_shown, is_told, names_told, no_chain, no_such_file, other_type, part_named, store_failed, is_refused, no_new_name}
 use Rattle.pm_object.specs.State.{State, empty_object, is_polytope, is_sealed_at, place_named, program_refusal, with_program}
 use Rattle.pm_object.specs.declared.held.ProgramFail.{ProgramFail}
 use Rattle.pm_object.specs.declared.held.ProgramFail.TheVariants as no_program
@@ -58,7 +58,7 @@ nothing_copied : (name to : List ℕ) (old new : Machine) (t : Rounds) → old.o
 nothing_copied name to old new t none (is_copied o told at free room g) = some_not_none (sym at ∙ none)
 
 room_for_copy : (name to : List ℕ) (old new : Machine) → length old.names ≡ 31 → CopyStep old name to (refused ObjectsFull nothing) new → ⊥
-room_for_copy name to old new count (no_room some free full s) = absurd (omega (arith, count, full))
+room_for_copy name to old new count (is_refused r s) = elim r [ no_new_name some n ↦ (elim n [ no_room free full ↦ absurd (omega (arith, count, full)) ]) ]
 
 pub objects_are_read : ObjectsAreRead
 objects_are_read = record {
@@ -173,7 +173,7 @@ programs_are_read = record {
   is_made = made;
   of_nothing = λ old new name sub t none h. some_not_none (sym (made old new name sub t h).1 ∙ none);
   of_no_polytope = λ old new name sub t is h. some_not_none (made_of old new name sub t h (empty_object Cone) is);
-  cone_has_none = λ old name sub is s. other_type refl (empty_object Cone, is, refl, s);
+  cone_has_none = λ old name sub is s. is_refused (other_type refl (empty_object Cone, is, refl)) s;
   not_twice = λ old new name t is h. some_not_none (made_of old new name (codes "a") t h one_program is);
   a_fifth = λ old new name sub t o is four h. no_fifth o sub four (made_of old new name sub t h o is);
   its_own = refl;
@@ -197,7 +197,7 @@ module _ (book : List Rule) (old new : Machine) (name file : List ℕ) (names : 
   loaded_of : LoadStep book old name file (loaded names) new → (f : SavedFile) × (new.object name ≡ Some (loaded_object book f))
   loaded_of (is_loaded bytes f free there reads ignored g) = (f, g.object)
 
-  loaded_free : LoadStep book old name file (loaded names) new → IsFree old name
+  loaded_free : LoadStep book old name file (loaded names) new → IsFree (shelf old) name
   loaded_free (is_loaded bytes f free there reads ignored g) = free
 
   loaded_there : LoadStep book old name file (loaded names) new → (bytes : List ℕ) × HasBytes old.store file bytes
@@ -209,7 +209,8 @@ none_told book old new name names is h =
     some_not_none (sym (subst (λ k. HasBytes k (codes "f") bytes) is there))
 
 one_told : (book : List Rule) (old new : Machine) (name : List ℕ) → old.store ≡ one_file (codes "f") [] → LoadStep book old name (codes "f") (refused NoSuchFile nothing) new → ⊥
-one_told book old new name is (no_such_file free none l) = some_not_none (subst (λ k. HasNone k (codes "f")) is none)
+one_told book old new name is (no_new_name r s) = elim r [ ]
+one_told book old new name is (is_refused free r l) = elim r [ no_such_file none ↦ some_not_none (subst (λ k. HasNone k (codes "f")) is none) ]
 
 -- what is so of a file that is saved
 module _ (book : List Rule) (old new : Machine) (name file : List ℕ) (t : Rounds) where
@@ -217,6 +218,7 @@ module _ (book : List Rule) (old new : Machine) (name file : List ℕ) (t : Roun
   saved (is_saved o told at short p again) = (o, at, p, again)
 
 store_fails : (book : List Rule) (old new : Machine) (name file : List ℕ) → SaveStep book old name file (refused StoreFault nothing) new → Rose old.store.faults new.store.faults
+store_fails book old new name file (is_refused r s) = elim r [ ]
 store_fails book old new name file (store_failed o at short fails p) = fails
 
 written_told : (book : List Rule) (old new : Machine) (name : List ℕ) (t : Rounds) → old.store ≡ one_file (codes "f") [] → SaveStep book old name (codes "f") (done t) new

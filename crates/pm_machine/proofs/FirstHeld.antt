@@ -1,5 +1,5 @@
 -- How a value came to be held, from the code's values.
-use Rattle.pm_machine.proofs.KeptObjects.{decide}
+use Rattle.pm_machine.proofs.Keeping.{decide}
 use Rattle.pm_machine.proofs.Names.{not_mapped}
 use Rattle.pm_machine.specs.Steps.{origin_of}
 use Rattle.pm_object.proofs.Find.{is_other, is_property}

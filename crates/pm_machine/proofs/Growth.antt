@@ -2,12 +2,12 @@
 use Rattle.pm_vector.proofs.Filters.{among_map}
 use Rattle.pm_vector.proofs.Lists.{All_among, Among, among_append_left, among_append_right, here, there}
 use Rattle.pm_command.specs.declared.building.Builder.{Builder}
-use Rattle.pm_machine.proofs.KeptObjects.{decide}
+use Rattle.pm_machine.proofs.Keeping.{decide}
 use Rattle.pm_machine.specs.Building.{EnsuresAll, EnsuresOne, Wanted, are_of, is_of_type, wanted_all, wanted_of}
 use Rattle.pm_making.specs.Rows.{row_of, same_type}
 use Rattle.pm_machine.specs.Built.{HasRead, HaveRead}
 use Rattle.pm_rounds.specs.Events.{Configuration, Ensured, Event, IsTrace, after_event, after_events, at_rest, begun, committed, excluded, phase_after_all, settled, started, unsettled, written}
-use Rattle.pm_machine.specs.Machines.{Machine}
+use Rattle.pm_machine.specs.Machines.{Machine, shelf}
 use Rattle.pm_rounds.specs.declared.round.Ending.{Ending}
 use Rattle.pm_rounds.specs.declared.round.Ending.TheVariants as ending
 use Rattle.pm_object.proofs.Formed.{held_stays, value_later}
@@ -240,14 +240,14 @@ module _ (book : List Rule) where
   wanted_each ps (m ∷ k ∷ ns) n (there j) q i = among_append_right (wanted_of m ps) (wanted_each ps (k ∷ ns) n j q i)
 
   each_read : (ws : List Wanted) (rounds : List RoundSeen) (old new : Machine) (type : ObjectType) (p : PropId) (ps : List PropId) (names : List (List ℕ)) → EnsuresAll book ws rounds old new
-      → ((n : List ℕ) → Among n names → (q : PropId) → Among q (p ∷ ps) → Among (record { name = n; property = q }) ws) → are_of type old names ≡ true → AllByRecursion (λ n. HasRead type (p ∷ ps) (new.object n)) names
+      → ((n : List ℕ) → Among n names → (q : PropId) → Among q (p ∷ ps) → Among (record { name = n; property = q }) ws) → are_of type (shelf old) names ≡ true → AllByRecursion (λ n. HasRead type (p ∷ ps) (new.object n)) names
   each_read ws rounds old new type p ps [] all wanted types = tt
   each_read ws rounds old new type p ps (n ∷ ns) all wanted types =
-      let t = and_parts (is_of_type type (old.object n)) (are_of type old ns) types in
+      let t = and_parts (is_of_type type (old.object n)) (are_of type (shelf old) ns) types in
       (has_read ws rounds old new n type p ps all t.0 (wanted n here), each_read ws rounds old new type p ps ns all (λ m i. wanted m (there i)) t.1)
 
   -- what is read of the objects of a command has been read
-  pub all_have_read : (rounds : List RoundSeen) (old new : Machine) (b : Builder) (p : PropId) (ps : List PropId) (names : List (List ℕ)) → (row_of b).reads ≡ p ∷ ps → EnsuresAll book (wanted_all (row_of b).reads names) rounds old new → are_of (row_of b).of old names ≡ true → HaveRead b new names
+  pub all_have_read : (rounds : List RoundSeen) (old new : Machine) (b : Builder) (p : PropId) (ps : List PropId) (names : List (List ℕ)) → (row_of b).reads ≡ p ∷ ps → EnsuresAll book (wanted_all (row_of b).reads names) rounds old new → are_of (row_of b).of (shelf old) names ≡ true → HaveRead b new names
   all_have_read rounds old new b p ps names same all types =
       subst (λ z. AllByRecursion (λ n. HasRead (row_of b).of z (new.object n)) names) (sym same)
       (each_read (wanted_all (p ∷ ps) names) rounds old new (row_of b).of p ps names (subst (λ z. EnsuresAll book (wanted_all z names) rounds old new) same all) (wanted_each (p ∷ ps) names) types)

@@ -1,6 +1,8 @@
-pub mod KeptObjects
-pub mod KeptBuilding
+pub mod Keeping
+pub mod KeepingBuilding
+pub mod KeepingSteps
 pub mod Kept
+pub mod Standing
 pub mod BesideObjects
 pub mod BesideBuilding
 pub mod Beside
@@ -17,4 +19,5 @@ pub mod BuildSteps
 pub mod BuildNames
 pub mod Told
 pub mod Examples
+pub mod RefusalExamples
 pub mod BuildingExamples

@@ -3,7 +3,7 @@ use Rattle.pm_client.specs.Starts.{Clients}
 use Rattle.pm_object_type.specs.declared.object_type.ObjectType.{ObjectType}
 use Rattle.pm_machine.proofs.Ensuring.{stays_part}
 use Rattle.pm_machine.proofs.Kept.{steps_in_part_keep, steps_keep}
-use Rattle.pm_machine.proofs.KeptObjects.{all_honest}
+use Rattle.pm_machine.proofs.Kept.{all_honest}
 use Rattle.pm_making.specs.Rows.{row_of}
 use Rattle.pm_machine.specs.Building.{wanted_all}
 use Rattle.pm_machine.proofs.Beside.{looks_of_stays}
@@ -13,12 +13,12 @@ use Rattle.pm_rounds.specs.declared.round.Ending.{Ending}
 use Rattle.pm_rounds.specs.declared.round.Ending.TheVariants as ending
 use Rattle.pm_machine.specs.Parts.{AllHonest, StepInPart}
 use Rattle.pm_rounds.specs.Reasons.{AreReasons}
-use Rattle.pm_machine.specs.Machines.{Becomes, Gains, Loses, Machine, Stays, later_rounds, no_rounds, without_name}
+use Rattle.pm_machine.specs.Machines.{Becomes, Gains, Loses, Machine, Stays, later_rounds, no_rounds, without_name, shelf}
 use Rattle.pm_command.specs.Grammar.{ref_text}
 use Rattle.pm_object.specs.State.{program_refusal, with_program, ObjectSeen, RoundSeen, State, is_held, read_at, value_of}
 use Rattle.pm_object.specs.declared.held.ProgramFail.{ProgramFail}
 use Rattle.pm_json.specs.Texts.{given_by}
-use Rattle.pm_machine.specs.Steps.{AllKept, DisableStep, EnsureStep, Ensures, ExplainStep, Explains, GiveStep, Gives, NewProgramStep, ProgramRefuses, Step, TakeStep, Taken, asked_in, disabling, has_label, is_asked, is_crowded, is_made, is_planned, is_program_word, is_shown, Named, named_at, named_rounds, names_told, no_chain, no_such_property, no_such_rule, not_taken, now_disabled, now_held, part_named, property_named, rounds_beside, settled_object, HistoryStep, LookupStep, property_at}
+use Rattle.pm_machine.specs.Steps.{AllKept, DisableStep, EnsureStep, Ensures, ExplainStep, Explains, GiveStep, Gives, NewProgramStep, ProgramRefuses, Step, TakeStep, Taken, asked_in, disabling, has_label, is_asked, is_crowded, is_made, is_planned, is_program_word, is_shown, Named, named_at, named_rounds, names_told, no_chain, no_such_property, no_such_rule, not_taken, now_disabled, now_held, part_named, property_named, rounds_beside, settled_object, HistoryStep, LookupStep, property_at, is_refused, no_property}
 use Rattle.pm_object.proofs.Names.{names_held}
 use Rattle.pm_object.specs.Views.{round_seen}
 use Rattle.pm_object.specs.declared.held.Round.{Round}
@@ -26,7 +26,7 @@ use Rattle.pm_plan.specs.Plans.{HasNoPlan, IsCrowded, IsPlan}
 use Rattle.pm_rules.specs.declared.rule.Rule.{Rule}
 use Rattle.pm_rules.specs.declared.table.TableRow.{TableRow}
 use Rattle.pm_command.specs.Commands.{RefSeen, Spoken, blank, new_object, take_value, give_value, look_up, ensure_values, explain_values, tell_history, show_rules, disable_rule, unload_client, copy_object, drop_object, tell_origin, load_object, save_object, make_object, build_object}
-use Rattle.pm_script.specs.Replies.{NamesSeen, Remarks, ReplySeen, Rounds, done, explained, nothing, planned, refused, remarks, shows, tells}
+use Rattle.pm_script.specs.Replies.{NamesSeen, ReplySeen, Rounds, done, explained, nothing, planned, refused, remarks, shows, tells}
 use Rattle.pm_script.specs.declared.names.Bar.{Bar}
 use Rattle.pm_script.specs.declared.refusal.Refusal.{Refusal}
 use Rattle.pm_script.specs.declared.refusal.Refusal.TheVariants.{NoChain, Crowded, UnknownProperty, UnknownRule}
@@ -186,11 +186,11 @@ module _ {ns ms : List (List ℕ)} {old new : List ℕ → Option State} {name :
   stays_if_err (Err e) clients same = stays_with clients same
 
   -- the object has no program of the part's name
-  pub no_part : (part : Option (List ℕ)) (clients : Clients) → part_named o part ≡ None → named_at (machine_with ns old clients) (ref_with name part) ≡ None
+  pub no_part : (part : Option (List ℕ)) (clients : Clients) → part_named o part ≡ None → named_at (shelf (machine_with ns old clients)) (ref_with name part) ≡ None
   no_part part clients none = ap (λ x. option_and_then (λ z. part_named z part) x) w.was ∙ none
 
   module _ (part : Option (List ℕ)) (sub : Option ℕ) (found : part_named o part ≡ Some (named_of o sub)) where
-    at : (clients : Clients) → named_at (machine_with ns old clients) (ref_with name part) ≡ Some (named_of o sub)
+    at : (clients : Clients) → named_at (shelf (machine_with ns old clients)) (ref_with name part) ≡ Some (named_of o sub)
     at clients = ap (λ x. option_and_then (λ z. part_named z part) x) w.was ∙ found
 
     becomes : (clients after : Clients) → Becomes name (configuration o' after) (machine_with ns old clients) (machine_with ms new after)
@@ -203,11 +203,11 @@ module _ {ns ms : List (List ℕ)} {old new : List ℕ → Option State} {name :
     module _ (text : List ℕ) where
       pub take_unknown : (clients : Clients) (json : List ℕ) → property_named o.of sub text ≡ None → o' ≡ o
           → TakeStep (machine_with ns old clients) (ref_with name part) text json (refused UnknownProperty nothing) (machine_with ms new clients)
-      take_unknown clients json none same = no_such_property (named_of o sub) (at clients) none (stays_with clients same)
+      take_unknown clients json none same = is_refused (no_property (no_such_property (named_of o sub) (at clients) none)) (stays_with clients same)
 
       pub take_refused : (clients : Clients) (json : List ℕ) (p : PropId) (why : Refusal) → property_named o.of sub text ≡ Some p → Taken o sub p (given_by p json) (Some why) o'
           → TakeStep (machine_with ns old clients) (ref_with name part) text json (refused why nothing) (machine_with ms new clients)
-      take_refused clients json p why named t = not_taken (named_of o sub, at clients, p, named, t.0, stays_with clients t.1)
+      take_refused clients json p why named t = is_refused (not_taken (named_of o sub) p (at clients) named t.0) (stays_with clients t.1)
 
       pub take_done : (clients : Clients) (json : List ℕ) (p : PropId) → property_named o.of sub text ≡ Some p → Taken o sub p (given_by p json) None o'
           → TakeStep (machine_with ns old clients) (ref_with name part) text json (done no_rounds) (machine_with ms new clients)
@@ -215,7 +215,7 @@ module _ {ns ms : List (List ℕ)} {old new : List ℕ → Option State} {name :
 
       pub give_unknown : (book : List Rule) (clients : Clients) → property_named o.of sub text ≡ None → o' ≡ o
           → GiveStep book (machine_with ns old clients) (ref_with name part) text (refused UnknownProperty nothing) (machine_with ms new clients)
-      give_unknown book clients none same = no_such_property (named_of o sub) (at clients) none (stays_with clients same)
+      give_unknown book clients none same = is_refused (no_such_property (named_of o sub) (at clients) none) (stays_with clients same)
 
       pub give_step : {F E : Type 0} (view : F → ReplySeen) (r : Result F E) (book : List Rule) (clients after : Clients) (p : PropId) (called : List ℕ) → property_named o.of sub text ≡ Some p → called ≡ ref_text (ref_with name part)
           → IfOk r (λ x. Gives book (configuration o clients) sub called p (view x) (configuration o' after))
@@ -235,11 +235,11 @@ module _ {ns ms : List (List ℕ)} {old new : List ℕ → Option State} {name :
     module _ (words : List (List ℕ)) where
       pub ensure_unknown : (book : List Rule) (clients : Clients) → asked_in o.of sub words ≡ None → o' ≡ o
           → EnsureStep book (machine_with ns old clients) (ref_with name part) words (refused UnknownProperty nothing) (machine_with ms new clients)
-      ensure_unknown book clients none same = no_such_property (named_of o sub) (at clients) none (stays_with clients same)
+      ensure_unknown book clients none same = is_refused (no_such_property (named_of o sub) (at clients) none) (stays_with clients same)
 
       pub explain_unknown : (book : List Rule) (clients : Clients) → asked_in o.of sub words ≡ None → o' ≡ o
           → ExplainStep book (machine_with ns old clients) (ref_with name part) words (refused UnknownProperty nothing) (machine_with ms new clients)
-      explain_unknown book clients none same = no_such_property (named_of o sub) (at clients) none (stays_with clients same)
+      explain_unknown book clients none same = is_refused (no_such_property (named_of o sub) (at clients) none) (stays_with clients same)
 
       pub ensure_step : {F E : Type 0} (view : F → ReplySeen) (r : Result F E) (book : List Rule) (clients after : Clients) (asked : PropSet) → asked_in o.of sub words ≡ Some asked
           → IfOk r (λ x. Ensures book (configuration o clients) sub asked (view x) (configuration o' after))
@@ -271,7 +271,7 @@ module _ {ns ms : List (List ℕ)} {old new : List ℕ → Option State} {name :
 module _ {ns ms : List (List ℕ)} {old new : List ℕ → Option State} {name : List ℕ} {o o' : State} (w : IsWritten ns ms old new name o o') where
   pub disable_unknown : (clients : Clients) (book : List Rule) (label : List ℕ) → has_label label book ≡ false → o' ≡ o
       → DisableStep book (machine_with ns old clients) name label (refused UnknownRule nothing) (machine_with ms new clients)
-  disable_unknown clients book label none same = no_such_rule (λ e. true≢false (ap is_some (sym w.was ∙ e))) none (stays_with w clients same)
+  disable_unknown clients book label none same = is_refused (no_such_rule (λ e. true≢false (ap is_some (sym w.was ∙ e))) none) (stays_with w clients same)
 
   pub disable_done : (clients : Clients) (book : List Rule) (label : List ℕ) → has_label label book ≡ true → o' ≡ disabling o label
       → DisableStep book (machine_with ns old clients) name label (done no_rounds) (machine_with ms new clients)
@@ -279,9 +279,8 @@ module _ {ns ms : List (List ℕ)} {old new : List ℕ → Option State} {name :
 
 -- ---- a linear program more
 module _ {ns ms : List (List ℕ)} {old new : List ℕ → Option State} {name : List ℕ} {o o' : State} (w : IsWritten ns ms old new name o o') where
-  pub program_refused : (clients : Clients) (sub : List ℕ) (why : ProgramFail) → program_refusal o sub ≡ Some why → o' ≡ o
-      → ProgramRefuses (machine_with ns old clients) name sub why (machine_with ms new clients)
-  program_refused clients sub why refusal same = (o, w.was, refusal, stays_with w clients same)
+  pub program_refused : (sub : List ℕ) (why : ProgramFail) → program_refusal o sub ≡ Some why → ProgramRefuses (record { names = ns; object = old }) name sub why
+  program_refused sub why refusal = (o, w.was, refusal)
 
   pub program_done : (clients : Clients) (sub text : List ℕ) → is_program_word text ≡ true → program_refusal o sub ≡ None → o' ≡ with_program o sub
       → NewProgramStep (machine_with ns old clients) name sub text (done no_rounds) (machine_with ms new clients)
@@ -365,7 +364,7 @@ pub history_told : {F E : Type 0} (view : F → ReplySeen) (r : Result F E) (boo
     → IfOk r (λ x. HistoryStep book old name (view x) old)
 history_told view r book old name o named said = if_seen view r (λ z. HistoryStep book old name z old) (tells (named_rounds book o o.rounds) o.excluded) (HistoryStep.is_told o named refl refl (record { names = refl; objects = λ q. refl; clients = refl; store = refl })) said
 
-pub looked_up : {F E : Type 0} (view : F → ReplySeen) (r : Result F E) (old : Machine) (ref : RefSeen) (text : List ℕ) (x : Named) (p : PropId) (v : PropertyValue) (name : List ℕ) (of : ObjectType) → named_at old ref ≡ Some x → property_at x text ≡ Some p
+pub looked_up : {F E : Type 0} (view : F → ReplySeen) (r : Result F E) (old : Machine) (ref : RefSeen) (text : List ℕ) (x : Named) (p : PropId) (v : PropertyValue) (name : List ℕ) (of : ObjectType) → named_at (shelf old) ref ≡ Some x → property_at x text ≡ Some p
     → name ≡ ref_text ref → of ≡ x.object.of → value_of p (read_at x.sub x.object.held) ≡ Some v → IfOk r (λ z. view z ≡ shows name of p v no_rounds) → IfOk r (λ z. LookupStep old ref text (view z) old)
 looked_up view r old ref text x p v name of named property same type held said = if_seen view r (λ z. LookupStep old ref text z old) (shows name of p v no_rounds) (LookupStep.is_shown x named property same type held refl (record { names = refl; objects = λ q. refl; clients = refl; store = refl })) said
 

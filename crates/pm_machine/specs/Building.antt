@@ -1,12 +1,12 @@
 -- The commands that build objects: what each reads and ensures, and the object that it makes.
-use Rattle.std.specs.Prelude.{ℕ, ◌≡◌, ◌≢◌, ◌⊎◌, ◌≤◌, ◌++◌, Bool, false, true, List, [], ◌∷◌, length, map, Option, Some, None}
+use Rattle.std.specs.Prelude.{ℕ, ◌≡◌, ◌≢◌, ◌⊎◌, ◌++◌, Bool, false, true, List, [], ◌∷◌, map, Option, Some, None}
 use Rattle.std.specs.List.{list_all}
 use Rattle.std.specs.Option.{is_some}
 use Rattle.pm_command.specs.Commands.{ShapeSeen}
 use Rattle.pm_command.specs.declared.building.Builder.{Builder}
 use Rattle.pm_files.specs.Files.{SavedFile}
 use Rattle.pm_rounds.specs.Events.{Configuration, Ensured, EnsuredInPart, configuration}
-use Rattle.pm_machine.specs.Machines.{Becomes, Gains, IsFree, Machine, Stays, later_rounds, no_rounds}
+use Rattle.pm_machine.specs.Machines.{Becomes, Gains, IsFree, Machine, NewNameRefusal, Shelf, Stays, later_rounds, no_rounds, shelf}
 use Rattle.pm_rounds.specs.declared.round.Ending.{Ending}
 use Rattle.pm_rounds.specs.declared.round.Ending.TheVariants as ending
 use Rattle.pm_object.specs.State.{RoundSeen, State}
@@ -17,17 +17,20 @@ use Rattle.pm_props.specs.Sets.{only}
 use Rattle.pm_props.specs.declared.property.PropId.{PropId}
 use Rattle.pm_rules.specs.declared.rule.Rule.{Rule}
 use Rattle.pm_script.specs.Replies.{NamesSeen, Remarks, ReplySeen, Rounds, done, nothing, refused, remarks}
-use Rattle.pm_script.specs.declared.refusal.Refusal.TheVariants.{UnknownName, NameTaken, ObjectsFull, NoChain, Crowded, NotFit, NotMade}
+use Rattle.pm_script.specs.declared.refusal.Refusal.{Refusal}
+use Rattle.pm_script.specs.declared.refusal.Refusal.TheVariants.{UnknownName, NoChain, Crowded, NotFit, NotMade}
 use Rattle.pm_script.specs.declared.refusal.NotMadeWhy.{NotMadeWhy}
 use Rattle.pm_making.specs.Rows.{same_type, Makes, Unfit, Unmade, object_of, row_of, shape_condition, shape_file}
-use Rattle.pm_limits.specs.Limits.{most_objects}
+
+-- why `make NEW SHAPE N ..` is refused, first of these
+pub data MakeRefusal (s : Shelf) (to : List ℕ) (shape : ShapeSeen) : Refusal → Type 0 where
+  no_new_name : {why : Refusal} → NewNameRefusal s to why → MakeRefusal s to shape why
+  not_fit : {c : Condition} → IsFree s to → shape_condition shape ≡ Some c → MakeRefusal s to shape (NotFit c)
 
 -- `make NEW SHAPE N ..`: the ways in which it may end
 pub data MakeStep (old : Machine) (to : List ℕ) (shape : ShapeSeen) : ReplySeen → Machine → Type 0 where
-  is_taken : {new : Machine} → old.object to ≢ None → Stays old new → MakeStep old to shape (refused NameTaken nothing) new
-  no_room : {new : Machine} → old.object to ≡ None → most_objects ≤ length old.names → Stays old new → MakeStep old to shape (refused ObjectsFull nothing) new
-  not_fit : {new : Machine} {c : Condition} → IsFree old to → shape_condition shape ≡ Some c → Stays old new → MakeStep old to shape (refused (NotFit c) nothing) new
-  is_made : {new : Machine} {t : Rounds} → IsFree old to → shape_condition shape ≡ None → t ≡ no_rounds → Gains to (object_of (shape_file shape)) old new → MakeStep old to shape (done t) new
+  is_refused : {new : Machine} {why : Refusal} → MakeRefusal (shelf old) to shape why → Stays old new → MakeStep old to shape (refused why nothing) new
+  is_made : {new : Machine} {t : Rounds} → IsFree (shelf old) to → shape_condition shape ≡ None → t ≡ no_rounds → Gains to (object_of (shape_file shape)) old new → MakeStep old to shape (done t) new
 
 -- ---- ensuring what is read
 -- a property of the object of a name
@@ -74,16 +77,16 @@ rounds_told book rounds = remarks false rounds [] None (rules_told book)
 
 -- ---- the objects of a command
 -- each name is that of an object
-abbrev pub are_named : Machine → List (List ℕ) → Bool
-are_named m names = list_all (λ n. is_some (m.object n)) names
+abbrev pub are_named : Shelf → List (List ℕ) → Bool
+are_named s names = list_all (λ n. is_some (s.object n)) names
 
 abbrev pub is_of_type : ObjectType → Option State → Bool
 is_of_type type None = false
 is_of_type type (Some o) = same_type type o.of
 
 -- each name is that of an object of the type
-abbrev pub are_of : ObjectType → Machine → List (List ℕ) → Bool
-are_of type m names = list_all (λ n. is_of_type type (m.object n)) names
+abbrev pub are_of : ObjectType → Shelf → List (List ℕ) → Bool
+are_of type s names = list_all (λ n. is_of_type type (s.object n)) names
 
 -- the objects of these names
 abbrev pub ObjectsAre : Machine → List (List ℕ) → List State → Type 0
@@ -97,25 +100,28 @@ wanted_all ps (n ∷ k ∷ ns) = wanted_of n ps ++ wanted_all ps (k ∷ ns)
 
 -- what is read of the objects, which are of the type, is ensured by these rounds; they are then these
 pub record Reads (book : List Rule) (b : Builder) (names : List (List ℕ)) (to : List ℕ) (rounds : List RoundSeen) (os : List State) (old mid : Machine) : Type 0 where
-  pub free : IsFree old to
-  pub types : are_of (row_of b).of old names ≡ true
+  pub free : IsFree (shelf old) to
+  pub types : are_of (row_of b).of (shelf old) names ≡ true
   pub ensured : EnsuresAll book (wanted_all (row_of b).reads names) rounds old mid
   pub objects : ObjectsAre mid names os
 
 -- what is read of them is not found
 pub record DoesNotRead (book : List Rule) (b : Builder) (names : List (List ℕ)) (to : List ℕ) (e : Ending) (more : Remarks) (old new : Machine) : Type 0 where
-  pub free : IsFree old to
-  pub types : are_of (row_of b).of old names ≡ true
+  pub free : IsFree (shelf old) to
+  pub types : are_of (row_of b).of (shelf old) names ≡ true
   pub rounds : List RoundSeen
   pub ends : EndsAt book (wanted_all (row_of b).reads names) e rounds old new
   pub told : more ≡ rounds_told book rounds
 
+-- why a command of this row is refused before it begins, first of these
+pub data BuildRefusal (s : Shelf) (b : Builder) (names : List (List ℕ)) (to : List ℕ) : Refusal → Type 0 where
+  no_such_name : are_named s names ≡ false → BuildRefusal s b names to UnknownName
+  no_new_name : {why : Refusal} → are_named s names ≡ true → NewNameRefusal s to why → BuildRefusal s b names to why
+  other_type : are_named s names ≡ true → IsFree s to → are_of (row_of b).of s names ≡ false → BuildRefusal s b names to (NotFit condition.OfType)
+
 -- `WORD NAME NEW`, `WORD NAME NAME NEW`: the ways in which it may end; what was ensured stays also where the object is not made
 pub data BuildStep (book : List Rule) (b : Builder) (old : Machine) (names : List (List ℕ)) (to : List ℕ) : ReplySeen → Machine → Type 0 where
-  no_such_name : {new : Machine} → are_named old names ≡ false → Stays old new → BuildStep book b old names to (refused UnknownName nothing) new
-  is_taken : {new : Machine} → are_named old names ≡ true → old.object to ≢ None → Stays old new → BuildStep book b old names to (refused NameTaken nothing) new
-  no_room : {new : Machine} → are_named old names ≡ true → old.object to ≡ None → most_objects ≤ length old.names → Stays old new → BuildStep book b old names to (refused ObjectsFull nothing) new
-  other_type : {new : Machine} → are_named old names ≡ true → IsFree old to → are_of (row_of b).of old names ≡ false → Stays old new → BuildStep book b old names to (refused (NotFit condition.OfType) nothing) new
+  is_refused : {new : Machine} {why : Refusal} → BuildRefusal (shelf old) b names to why → Stays old new → BuildStep book b old names to (refused why nothing) new
   no_chain : {new : Machine} {more : Remarks} → DoesNotRead book b names to ending.NoChain more old new → BuildStep book b old names to (refused NoChain more) new
   is_crowded : {new : Machine} {more : Remarks} → DoesNotRead book b names to ending.Crowded more old new → BuildStep book b old names to (refused Crowded more) new
   not_fit : {new : Machine} {more : Remarks} {c : Condition} (rounds : List RoundSeen) (os : List State) → Reads book b names to rounds os old new → c ≢ condition.OfType → Unfit b os c
@@ -142,7 +148,7 @@ EnsuresInPart book (w ∷ ws) old new = Stays old new ⊎ (EnsuresOneInPart book
 
 -- nothing changed, or the new name was free and the objects are of the row's type: a command that would be refused for a name or a type begins no round
 abbrev pub MayHaveBegun : Builder → List (List ℕ) → List ℕ → Machine → Machine → Type 0
-MayHaveBegun b names to old new = Stays old new ⊎ (IsFree old to × (are_of (row_of b).of old names ≡ true))
+MayHaveBegun b names to old new = Stays old new ⊎ (IsFree (shelf old) to × (are_of (row_of b).of (shelf old) names ≡ true))
 
 -- a command of this row in part: some first of what it reads is ensured, where it may begin at all
 abbrev pub BuiltInPart : List Rule → Builder → List (List ℕ) → List ℕ → Machine → Machine → Type 0

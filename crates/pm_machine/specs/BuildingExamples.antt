@@ -19,7 +19,7 @@ use Rattle.pm_fan.specs.Conditions.{face_refusal, normal_refusal}
 use Rattle.pm_fan.specs.Fans.{face_fan_of, fan_with, normal_fan_of}
 use Rattle.pm_machine.specs.Building.{BuildStep, EndsAt, EnsuresAll, EnsuresInPart, MakeStep, MayHaveBegun, ObjectsAre, Wanted, are_named, are_of, is_of_type, rounds_told, told_rounds, wanted_all, wanted_of}
 use Rattle.pm_making.specs.Rows.{Makes, Unfit, Unmade, object_of, row_of, same_type, shape_condition, shape_file}
-use Rattle.pm_machine.specs.Machines.{IsFree, Machine, Stays}
+use Rattle.pm_machine.specs.Machines.{IsFree, Machine, Stays, shelf}
 use Rattle.pm_rounds.specs.declared.round.Ending.{Ending}
 use Rattle.pm_rounds.specs.declared.round.Ending.TheVariants as ending
 use Rattle.pm_object.specs.State.{RoundSeen, State, empty_object}
@@ -65,7 +65,7 @@ pub record ShapesAreMade : Type 0 where
   pub not_so_large : (old new : Machine) (to : List ℕ) (t : Rounds) → MakeStep old to (cube_shape 33) (done t) new → ⊥
   pub is_taken : (old : Machine) (to : List ℕ) (shape : ShapeSeen) → old.object to ≢ None → Stays old old → MakeStep old to shape (refused NameTaken nothing) old
   pub is_full : (old : Machine) (to : List ℕ) (shape : ShapeSeen) → old.object to ≡ None → length old.names ≡ 32 → Stays old old → MakeStep old to shape (refused ObjectsFull nothing) old
-  pub is_large : (old : Machine) (to : List ℕ) → IsFree old to → Stays old old → MakeStep old to (cube_shape 33) (refused (NotFit condition.Size) nothing) old
+  pub is_large : (old : Machine) (to : List ℕ) → IsFree (shelf old) to → Stays old old → MakeStep old to (cube_shape 33) (refused (NotFit condition.Size) nothing) old
   pub is_not_large : (old new : Machine) (to : List ℕ) → MakeStep old to (cube_shape 32) (refused (NotFit condition.Size) nothing) new → ⊥
 
 -- what is ensured before an object is built
@@ -109,10 +109,10 @@ pub record OperandsAreRead : Type 0 where
   pub cone_is_no_fan : same_type Fan Cone ≡ false
   pub nothing_is_none : is_of_type Fan None ≡ false
   -- each of them counts
-  pub both_are_there : (m : Machine) (first second : List ℕ) (o p : State) → m.object first ≡ Some o → m.object second ≡ Some p → are_named m (first ∷ second ∷ []) ≡ true
-  pub second_is_missing : (m : Machine) (first second : List ℕ) → m.object second ≡ None → are_named m (first ∷ second ∷ []) ≡ false
-  pub both_are_fans : (m : Machine) (first second : List ℕ) → m.object first ≡ Some (empty_object Fan) → m.object second ≡ Some (empty_object Fan) → are_of Fan m (first ∷ second ∷ []) ≡ true
-  pub second_is_a_cone : (m : Machine) (first second : List ℕ) → m.object second ≡ Some (empty_object Cone) → are_of Polytope m (first ∷ second ∷ []) ≡ false
+  pub both_are_there : (m : Machine) (first second : List ℕ) (o p : State) → m.object first ≡ Some o → m.object second ≡ Some p → are_named (shelf m) (first ∷ second ∷ []) ≡ true
+  pub second_is_missing : (m : Machine) (first second : List ℕ) → m.object second ≡ None → are_named (shelf m) (first ∷ second ∷ []) ≡ false
+  pub both_are_fans : (m : Machine) (first second : List ℕ) → m.object first ≡ Some (empty_object Fan) → m.object second ≡ Some (empty_object Fan) → are_of Fan (shelf m) (first ∷ second ∷ []) ≡ true
+  pub second_is_a_cone : (m : Machine) (first second : List ℕ) → m.object second ≡ Some (empty_object Cone) → are_of Polytope (shelf m) (first ∷ second ∷ []) ≡ false
   -- they stand in the order of their names
   pub in_order : (m : Machine) (first second : List ℕ) (o p : State) → m.object first ≡ Some o → m.object second ≡ Some p → ObjectsAre m (first ∷ second ∷ []) (o ∷ p ∷ [])
   pub not_one_for_two : (m : Machine) (first second : List ℕ) (o : State) → ObjectsAre m (first ∷ second ∷ []) (o ∷ []) → ⊥
@@ -162,7 +162,7 @@ pub record ObjectsAreBuilt : Type 0 where
   pub of_nothing : (book : List Rule) (b : Builder) (old new : Machine) (name to : List ℕ) (t : Rounds) → old.object name ≡ None → BuildStep book b old (name ∷ []) to (done t) new → ⊥
   pub not_over : (book : List Rule) (b : Builder) (old new : Machine) (names : List (List ℕ)) (to : List ℕ) (t : Rounds) → old.object to ≢ None → BuildStep book b old names to (done t) new → ⊥
   pub of_no_cone : (book : List Rule) (b : Builder) (old new : Machine) (name to : List ℕ) (t : Rounds) → (row_of b).of ≡ Polytope → old.object name ≡ Some (empty_object Cone) → BuildStep book b old (name ∷ []) to (done t) new → ⊥
-  pub cone_is_refused : (book : List Rule) (b : Builder) (old : Machine) (name to : List ℕ) → (row_of b).of ≡ Polytope → old.object name ≡ Some (empty_object Cone) → IsFree old to → Stays old old
+  pub cone_is_refused : (book : List Rule) (b : Builder) (old : Machine) (name to : List ℕ) → (row_of b).of ≡ Polytope → old.object name ≡ Some (empty_object Cone) → IsFree (shelf old) to → Stays old old
       → BuildStep book b old (name ∷ []) to (refused (NotFit condition.OfType) nothing) old
   pub polytope_is_not : (book : List Rule) (b : Builder) (old new : Machine) (name to : List ℕ) → (row_of b).of ≡ Polytope → old.object name ≡ Some (empty_object Polytope) → BuildStep book b old (name ∷ []) to (refused (NotFit condition.OfType) nothing) new → ⊥
   pub unknown_first : (book : List Rule) (b : Builder) (old : Machine) (name to : List ℕ) → old.object name ≡ None → Stays old old → BuildStep book b old (name ∷ []) to (refused UnknownName nothing) old

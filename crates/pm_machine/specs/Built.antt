@@ -1,5 +1,5 @@
 -- What the functions of building do, each in the terms of the commands.
-use Rattle.std.specs.Prelude.{ℕ, ◌≡◌, ◌≢◌, ◌≤◌, ◌++◌, [], false, true, IfErr, IfOk, List, Option, length, None, Result, Ok, Err, Some}
+use Rattle.std.specs.Prelude.{ℕ, ◌≡◌, ◌++◌, [], false, true, IfErr, IfOk, List, Option, None, Result, Ok, Err, Some}
 use Rattle.std.specs.List.{AllByRecursion}
 use Rattle.pm_files.specs.Files.{SavedFile}
 use Rattle.pm_files.specs.Views.{file_of}
@@ -17,16 +17,8 @@ use Rattle.pm_object_type.specs.declared.object_type.ObjectType.{ObjectType}
 use Rattle.pm_props.specs.declared.property.PropId.{PropId}
 use Rattle.pm_rules.specs.declared.rule.Rule.{Rule}
 use Rattle.pm_script.specs.Replies.{Remarks, ReplySeen, Rounds, done, refused, remarks}
-use Rattle.pm_script.specs.declared.refusal.Refusal.{Refusal}
-use Rattle.pm_script.specs.declared.refusal.Refusal.TheVariants.{NameTaken, ObjectsFull, NotFit, NotMade}
+use Rattle.pm_script.specs.declared.refusal.Refusal.TheVariants.{NotFit, NotMade}
 use Rattle.pm_making.specs.Made.{IsRead, IsUnbuilt}
-use Rattle.pm_limits.specs.Limits.{most_objects}
-
--- no new object may have the name, for this reason
-abbrev pub IsBarred : Machine → List ℕ → Refusal → Type 0
-IsBarred m name NameTaken = m.object name ≢ None
-IsBarred m name ObjectsFull = (m.object name ≡ None) × (most_objects ≤ length m.names)
-IsBarred m name why = ⊥
 
 -- what is said beside a refusal after these rounds
 abbrev pub remarks_of : Rounds → Remarks

@@ -2,7 +2,7 @@
 use Rattle.std.specs.Prelude.{ℕ, ◌≡◌, ◌≢◌, ◌++◌, Bool, true, false, Option, Some, None, List, [], String, codes, length, string_bytes, ◌∷◌}
 use Rattle.pm_object_type.specs.declared.object_type.ObjectType.{ObjectType}
 use Rattle.pm_object_type.specs.declared.object_type.ObjectType.TheVariants.{Cone, Fan, Polytope}
-use Rattle.pm_rounds.specs.Events.{Configuration, excluded}
+use Rattle.pm_rounds.specs.Events.{Configuration}
 use Rattle.pm_object.specs.State.{HeldValue, RoundSeen, State, empty_object, with_program}
 use Rattle.pm_object.specs.declared.held.Excluded.{Excluded}
 use Rattle.pm_object.specs.declared.held.Origin.TheVariants.{Computed, Given}
@@ -19,7 +19,7 @@ use Rattle.pm_script.specs.declared.refusal.FileWhy.TheVariants as file_why
 use Rattle.std.specs.declared.alloc.Global.{Global}
 use Rattle.pm_store.specs.Files.{file_of}
 use Rattle.pm_store.specs.Outside.{Rose}
-use Rattle.pm_machine.specs.Machines.{Files, Machine, Stays, Store, later_rounds, without_name}
+use Rattle.pm_machine.specs.Machines.{Files, Machine, Stays, Store, later_rounds, shelf, without_name}
 use Rattle.pm_json.specs.Texts.{Given as ReadValue, value}
 use Rattle.pm_machine.specs.Steps.{CopyStep, DropStep, Ensures, Explains, Gives, HistoryStep, IsFault, IsSavedWhole, LoadStep, LookupStep, NewStep, SaveStep, TakeValue, bytes_of, asked_in, is_program_word, named_at, names_told, origin_of, part_named, property_named, settled_object, type_word}
 use Rattle.pm_command.specs.Commands.{RefSeen}
@@ -116,7 +116,7 @@ pub record ProgramsAreRead : Type 0 where
   pub the_object : part_named one_program None ≡ Some (record { object = one_program; sub = None })
   pub the_second : part_named two_programs (Some (codes "b")) ≡ Some (record { object = two_programs; sub = Some 1 })
   pub no_such_program : part_named one_program (Some (codes "b")) ≡ None
-  pub of_no_object : (m : Machine) (ref : RefSeen) → m.object ref.name ≡ None → named_at m ref ≡ None
+  pub of_no_object : (m : Machine) (ref : RefSeen) → m.object ref.name ≡ None → named_at (shelf m) ref ≡ None
   -- the words for types
   pub a_fan : type_word (codes "Fan") ≡ Some Fan
   pub no_type : type_word (codes "LP") ≡ None

@@ -6,4 +6,5 @@ pub mod Parts
 pub mod Sessions
 pub mod Laws
 pub mod Examples
+pub mod RefusalExamples
 pub mod BuildingExamples

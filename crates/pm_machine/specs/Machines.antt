@@ -1,10 +1,12 @@
 -- The machine: objects by name, the clients, and the store; and what may become of them.
-use Rattle.std.specs.Prelude.{ℕ, ◌≡◌, ◌≢◌, ◌++◌, ◌<◌, List, [], ◌∷◌, drop, filter, length, not, Option, Some, None}
+use Rattle.std.specs.Prelude.{ℕ, ◌≡◌, ◌≢◌, ◌++◌, ◌<◌, ◌≤◌, List, [], ◌∷◌, drop, filter, length, not, Option, Some, None}
 use Rattle.std.specs.Str.{bytes_eq}
 use Rattle.pm_client.specs.Starts.{Clients}
 use Rattle.pm_rounds.specs.Events.{Configuration}
 use Rattle.pm_object.specs.State.{RoundSeen, State}
 use Rattle.pm_script.specs.Replies.{Rounds}
+use Rattle.pm_script.specs.declared.refusal.Refusal.{Refusal}
+use Rattle.pm_script.specs.declared.refusal.Refusal.TheVariants.{NameTaken, ObjectsFull, UnknownName}
 use Rattle.pm_limits.specs.Limits.{most_objects}
 
 -- files, each with its name
@@ -22,6 +24,14 @@ pub record Machine : Type 0 where
   pub object : List ℕ → Option State
   pub clients : Clients
   pub store : Store
+
+-- the objects of a machine: their names in the order in which they came, and the object of each
+pub record Shelf : Type 0 where
+  pub names : List (List ℕ)
+  pub object : List ℕ → Option State
+
+abbrev pub shelf : Machine → Shelf
+shelf m = record { names = m.names; object = m.object }
 
 -- no rounds, and no names
 abbrev pub no_rounds : Rounds
@@ -67,8 +77,17 @@ pub record Loses (name : List ℕ) (old new : Machine) : Type 0 where
   pub store : new.store ≡ old.store
 
 -- a new object may have the name: no object has it, and there is room for one more
-abbrev pub IsFree : Machine → List ℕ → Type 0
-IsFree m name = (m.object name ≡ None) × (length m.names < most_objects)
+abbrev pub IsFree : Shelf → List ℕ → Type 0
+IsFree s name = (s.object name ≡ None) × (length s.names < most_objects)
+
+-- why no new object may have the name, first of these: an object has it, or there is no room for one more
+pub data NewNameRefusal (s : Shelf) (name : List ℕ) : Refusal → Type 0 where
+  is_taken : s.object name ≢ None → NewNameRefusal s name NameTaken
+  no_room : s.object name ≡ None → most_objects ≤ length s.names → NewNameRefusal s name ObjectsFull
+
+-- no object has the name
+pub data NameRefusal (s : Shelf) (name : List ℕ) : Refusal → Type 0 where
+  no_such_name : s.object name ≡ None → NameRefusal s name UnknownName
 
 -- the rounds that the object new has beyond those of old
 abbrev pub later_rounds : State → State → List RoundSeen

@@ -1,7 +1,7 @@
 -- What stands where memory ran out in a command: a first part of its events, maybe none or all.
 use Rattle.std.specs.Prelude.{◌≡◌, ◌≤◌, ◌⊎◌, List, ℕ, Some, IfSome, length}
 use Rattle.pm_rounds.specs.Events.{Configuration, EnsuredInPart, configuration}
-use Rattle.pm_machine.specs.Machines.{Becomes, Machine, Stays}
+use Rattle.pm_machine.specs.Machines.{Becomes, Machine, Stays, shelf}
 use Rattle.pm_machine.specs.Steps.{Looks, Named, Puts, asked_of, bytes_of, named_at, property_at, settled_object}
 use Rattle.pm_object.specs.Honest.{IsHonest}
 use Rattle.pm_object.specs.State.{State}
@@ -17,7 +17,7 @@ use Rattle.pm_limits.specs.Limits.{most_file_bytes}
 -- what REF names is ensured the property in part
 pub record GaveInPart (book : List Rule) (old : Machine) (ref : RefSeen) (text : List ℕ) (new : Machine) : Type 0 where
   pub found : Named
-  pub named : named_at old ref ≡ Some found
+  pub named : named_at (shelf old) ref ≡ Some found
   pub property : PropId
   pub is_property : property_at found text ≡ Some property
   pub now : Configuration
@@ -27,7 +27,7 @@ pub record GaveInPart (book : List Rule) (old : Machine) (ref : RefSeen) (text :
 -- what REF names is ensured what the words ask for, in part
 pub record EnsuredPartly (book : List Rule) (old : Machine) (ref : RefSeen) (words : List (List ℕ)) (new : Machine) : Type 0 where
   pub found : Named
-  pub named : named_at old ref ≡ Some found
+  pub named : named_at (shelf old) ref ≡ Some found
   pub asked : PropSet
   pub is_asked : asked_of found words ≡ Some asked
   pub now : Configuration
@@ -37,7 +37,7 @@ pub record EnsuredPartly (book : List Rule) (old : Machine) (ref : RefSeen) (wor
 -- the object that REF names is settled, for words that ask for something
 pub record IsSettled (old : Machine) (ref : RefSeen) (words : List (List ℕ)) (new : Machine) : Type 0 where
   pub found : Named
-  pub named : named_at old ref ≡ Some found
+  pub named : named_at (shelf old) ref ≡ Some found
   pub asked : PropSet
   pub is_asked : asked_of found words ≡ Some asked
   pub becomes : Becomes ref.name (configuration (settled_object found.object) old.clients) old new

@@ -1,5 +1,5 @@
 -- The machine: what each command may answer, and what it changes. Each command has a type of the ways in which it may end: each way has its reply and says exactly when it comes, and the ways of one command exclude each other.
-use Rattle.std.specs.Prelude.{ℕ, ◌≡◌, ◌≢◌, ◌⊎◌, Bool, true, false, ◌++◌, ◌<◌, ◌≤◌, List, [], ◌∷◌, find, length, map, Option, Some, None, option_and_then, option_map, IfSome, if◌then◌else◌, codes, string_bytes}
+use Rattle.std.specs.Prelude.{ℕ, ◌≡◌, ◌≢◌, Bool, true, false, ◌++◌, ◌<◌, ◌≤◌, List, [], ◌∷◌, find, length, map, Option, Some, None, option_and_then, option_map, IfSome, if◌then◌else◌, codes, string_bytes}
 use Rattle.std.specs.List.{list_any}
 use Rattle.std.specs.Str.{bytes_eq}
 use Rattle.pm_books.specs.Writing.{text_of}
@@ -12,7 +12,7 @@ use Rattle.pm_json.specs.declared.fail.ValueFail.TheVariants as fault
 use Rattle.pm_rounds.specs.Chains.{AreBarred, held_names, table}
 use Rattle.pm_rounds.specs.Events.{Configuration, Ensured, configuration}
 use Rattle.pm_machine.specs.Building.{BuildStep, MakeStep}
-use Rattle.pm_machine.specs.Machines.{Becomes, Files, Gains, IsFree, Loses, Machine, OthersStay, Stays, Store, later_rounds, no_rounds}
+use Rattle.pm_machine.specs.Machines.{Becomes, Files, Gains, IsFree, Loses, Machine, NameRefusal, NewNameRefusal, OthersStay, Shelf, Stays, Store, later_rounds, no_rounds, shelf}
 use Rattle.pm_rounds.specs.Reasons.{AreReasons}
 use Rattle.pm_rounds.specs.declared.round.Ending.TheVariants as ending
 use Rattle.pm_object.specs.Honest.{IsKept}
@@ -63,8 +63,8 @@ part_named o None = Some (record { object = o; sub = None })
 part_named o (Some name) = option_map (λ s. record { object = o; sub = Some s }) (place_named name o)
 
 -- the object that a REF names, and the place of its program where the REF has a part
-abbrev pub named_at : Machine → RefSeen → Option Named
-named_at m ref = option_and_then (λ o. part_named o ref.sub) (m.object ref.name)
+abbrev pub named_at : Shelf → RefSeen → Option Named
+named_at s ref = option_and_then (λ o. part_named o ref.sub) (s.object ref.name)
 
 -- the type that a word names
 abbrev pub type_word : List ℕ → Option ObjectType
@@ -83,6 +83,11 @@ property_named of (Some s) text = program_named text
 abbrev pub property_at : Named → List ℕ → Option PropId
 property_at x text = property_named x.object.of x.sub text
 
+-- why a REF and a word name no property, first of these
+pub data PropertyRefusal (s : Shelf) (ref : RefSeen) (text : List ℕ) : Refusal → Type 0 where
+  no_such_name : named_at s ref ≡ None → PropertyRefusal s ref text UnknownName
+  no_such_property : (x : Named) → named_at s ref ≡ Some x → property_at x text ≡ None → PropertyRefusal s ref text UnknownProperty
+
 -- the reason of a fault in reading order; want of memory is no fault of a value
 abbrev pub why_of : ValueFail → Option ValueWhy
 why_of fault.Shape = Some value_why.Shape
@@ -91,25 +96,32 @@ why_of fault.Index = Some value_why.Index
 why_of fault.Limit = Some value_why.Limit
 why_of fault.Memory = None
 
+-- why `new NAME TYPE` is refused, first of these
+pub data NewObjectRefusal (s : Shelf) (name text : List ℕ) : Refusal → Type 0 where
+  no_such_type : type_word text ≡ None → NewObjectRefusal s name text UnknownType
+  no_new_name : {why : Refusal} → type_word text ≢ None → NewNameRefusal s name why → NewObjectRefusal s name text why
+
 -- `new NAME TYPE`: the ways in which it may end
 pub data NewObjectStep (old : Machine) (name text : List ℕ) : ReplySeen → Machine → Type 0 where
-  no_such_type : {new : Machine} → type_word text ≡ None → Stays old new → NewObjectStep old name text (refused UnknownType nothing) new
-  is_taken : {new : Machine} → type_word text ≢ None → old.object name ≢ None → Stays old new → NewObjectStep old name text (refused NameTaken nothing) new
-  no_room : {new : Machine} → type_word text ≢ None → old.object name ≡ None → most_objects ≤ length old.names → Stays old new → NewObjectStep old name text (refused ObjectsFull nothing) new
+  is_refused : {new : Machine} {why : Refusal} → NewObjectRefusal (shelf old) name text why → Stays old new → NewObjectStep old name text (refused why nothing) new
   is_made : {new : Machine} {t : Rounds} (of : ObjectType) → type_word text ≡ Some of → old.object name ≡ None → length old.names < most_objects → t ≡ no_rounds → Gains name (empty_object of) old new
       → NewObjectStep old name text (done t) new
 
 -- the object of the name gets no linear program of that name, for this reason
-abbrev pub ProgramRefuses : Machine → List ℕ → List ℕ → ProgramFail → Machine → Type 0
-ProgramRefuses old name sub why new = (o : State) × (old.object name ≡ Some o) × (program_refusal o sub ≡ Some why) × Stays old new
+abbrev pub ProgramRefuses : Shelf → List ℕ → List ℕ → ProgramFail → Type 0
+ProgramRefuses s name sub why = (o : State) × (s.object name ≡ Some o) × (program_refusal o sub ≡ Some why)
+
+-- why `new NAME.SUB LP` is refused, first of these
+pub data NewProgramRefusal (s : Shelf) (name sub text : List ℕ) : Refusal → Type 0 where
+  other_word : is_program_word text ≡ false → NewProgramRefusal s name sub text UnknownType
+  no_such_name : is_program_word text ≡ true → s.object name ≡ None → NewProgramRefusal s name sub text UnknownName
+  other_type : is_program_word text ≡ true → ProgramRefuses s name sub no_program.NotPolytope → NewProgramRefusal s name sub text UnknownType
+  is_taken : is_program_word text ≡ true → ProgramRefuses s name sub no_program.NameTaken → NewProgramRefusal s name sub text NameTaken
+  no_room : is_program_word text ≡ true → ProgramRefuses s name sub no_program.Full → NewProgramRefusal s name sub text ObjectsFull
 
 -- `new NAME.SUB LP`: the ways in which it may end
 pub data NewProgramStep (old : Machine) (name sub text : List ℕ) : ReplySeen → Machine → Type 0 where
-  other_word : {new : Machine} → is_program_word text ≡ false → Stays old new → NewProgramStep old name sub text (refused UnknownType nothing) new
-  other_type : {new : Machine} → is_program_word text ≡ true → ProgramRefuses old name sub no_program.NotPolytope new → NewProgramStep old name sub text (refused UnknownType nothing) new
-  no_such_name : {new : Machine} → is_program_word text ≡ true → old.object name ≡ None → Stays old new → NewProgramStep old name sub text (refused UnknownName nothing) new
-  is_taken : {new : Machine} → is_program_word text ≡ true → ProgramRefuses old name sub no_program.NameTaken new → NewProgramStep old name sub text (refused NameTaken nothing) new
-  no_room : {new : Machine} → is_program_word text ≡ true → ProgramRefuses old name sub no_program.Full new → NewProgramStep old name sub text (refused ObjectsFull nothing) new
+  is_refused : {new : Machine} {why : Refusal} → NewProgramRefusal (shelf old) name sub text why → Stays old new → NewProgramStep old name sub text (refused why nothing) new
   is_made : {new : Machine} {t : Rounds} (o : State) → is_program_word text ≡ true → old.object name ≡ Some o → program_refusal o sub ≡ None → t ≡ no_rounds
       → Becomes name (configuration (with_program o sub) old.clients) old new → NewProgramStep old name sub text (done t) new
 
@@ -137,17 +149,15 @@ abbrev pub Taken : State → Option ℕ → PropId → Given → Option Refusal 
 Taken o sub p g (Some why) new = TakeValue o sub p g (Some why) None × (new ≡ o)
 Taken o sub p g None new = (v : PropertyValue) × TakeValue o sub p g None (Some v) × (new ≡ with_held o (given_at sub p v ∷ []))
 
--- the value is not taken for this reason
-abbrev pub TakeRefuses : Machine → RefSeen → List ℕ → List ℕ → Refusal → Machine → Type 0
-TakeRefuses old ref text json why new = (x : Named) × (named_at old ref ≡ Some x) × (p : PropId) × (property_at x text ≡ Some p)
-    × TakeValue x.object x.sub p (given_by p json) (Some why) None × Stays old new
+-- why `take REF PROP JSON` is refused, first of these
+pub data TakeRefusal (s : Shelf) (ref : RefSeen) (text json : List ℕ) : Refusal → Type 0 where
+  no_property : {why : Refusal} → PropertyRefusal s ref text why → TakeRefusal s ref text json why
+  not_taken : {why : Refusal} (x : Named) (p : PropId) → named_at s ref ≡ Some x → property_at x text ≡ Some p → TakeValue x.object x.sub p (given_by p json) (Some why) None → TakeRefusal s ref text json why
 
 -- `take REF PROP JSON`: the ways in which it may end
 pub data TakeStep (old : Machine) (ref : RefSeen) (text json : List ℕ) : ReplySeen → Machine → Type 0 where
-  no_such_name : {new : Machine} → named_at old ref ≡ None → Stays old new → TakeStep old ref text json (refused UnknownName nothing) new
-  no_such_property : {new : Machine} (x : Named) → named_at old ref ≡ Some x → property_at x text ≡ None → Stays old new → TakeStep old ref text json (refused UnknownProperty nothing) new
-  not_taken : {new : Machine} {why : Refusal} → TakeRefuses old ref text json why new → TakeStep old ref text json (refused why nothing) new
-  now_held : {new : Machine} {t : Rounds} (x : Named) (p : PropId) (v : PropertyValue) → named_at old ref ≡ Some x → property_at x text ≡ Some p → TakeValue x.object x.sub p (given_by p json) None (Some v)
+  is_refused : {new : Machine} {why : Refusal} → TakeRefusal (shelf old) ref text json why → Stays old new → TakeStep old ref text json (refused why nothing) new
+  now_held : {new : Machine} {t : Rounds} (x : Named) (p : PropId) (v : PropertyValue) → named_at (shelf old) ref ≡ Some x → property_at x text ≡ Some p → TakeValue x.object x.sub p (given_by p json) None (Some v)
       → t ≡ no_rounds → Becomes ref.name (configuration (with_held x.object (given_at x.sub p v ∷ [])) old.clients) old new → TakeStep old ref text json (done t) new
 
 -- the label and the weight of each rule of the book, and the names of the object's programs
@@ -170,13 +180,12 @@ pub data Gives (book : List Rule) (old : Configuration) (sub : Option ℕ) (name
 
 -- what REF names does so for the property of this name
 abbrev pub Gave : List Rule → Machine → RefSeen → List ℕ → ReplySeen → Machine → Type 0
-Gave book old ref text reply new = (x : Named) × (named_at old ref ≡ Some x) × (p : PropId) × (property_at x text ≡ Some p)
+Gave book old ref text reply new = (x : Named) × (named_at (shelf old) ref ≡ Some x) × (p : PropId) × (property_at x text ≡ Some p)
     × (c : Configuration) × Gives book (configuration x.object old.clients) x.sub (ref_text ref) p reply c × Becomes ref.name c old new
 
 -- `give REF PROP`: the ways in which it may end
 pub data GiveStep (book : List Rule) (old : Machine) (ref : RefSeen) (text : List ℕ) : ReplySeen → Machine → Type 0 where
-  no_such_name : {new : Machine} → named_at old ref ≡ None → Stays old new → GiveStep book old ref text (refused UnknownName nothing) new
-  no_such_property : {new : Machine} (x : Named) → named_at old ref ≡ Some x → property_at x text ≡ None → Stays old new → GiveStep book old ref text (refused UnknownProperty nothing) new
+  is_refused : {new : Machine} {why : Refusal} → PropertyRefusal (shelf old) ref text why → Stays old new → GiveStep book old ref text (refused why nothing) new
   is_asked : {new : Machine} {reply : ReplySeen} → Gave book old ref text reply new → GiveStep book old ref text reply new
 
 -- the properties that the words name there, if each names one
@@ -192,6 +201,11 @@ asked_in of sub words = option_map set_of (all_named of sub words)
 abbrev pub asked_of : Named → List (List ℕ) → Option PropSet
 asked_of x words = asked_in x.object.of x.sub words
 
+-- why a REF and words name no properties, first of these
+pub data PropertiesRefusal (s : Shelf) (ref : RefSeen) (words : List (List ℕ)) : Refusal → Type 0 where
+  no_such_name : named_at s ref ≡ None → PropertiesRefusal s ref words UnknownName
+  no_such_property : (x : Named) → named_at s ref ≡ Some x → asked_of x words ≡ None → PropertiesRefusal s ref words UnknownProperty
+
 -- the object ensures what is asked, of this program if one is asked; or no chain leads there, or too many sets of names cost less
 pub data Ensures (book : List Rule) (old : Configuration) (sub : Option ℕ) (asked : PropSet) : ReplySeen → Configuration → Type 0 where
   no_chain : {new : Configuration} {more : Remarks} → Ensured book sub asked ending.NoChain old new → more ≡ rounds_beside true book old.object new.object → Ensures book old sub asked (refused NoChain more) new
@@ -200,13 +214,12 @@ pub data Ensures (book : List Rule) (old : Configuration) (sub : Option ℕ) (as
 
 -- what REF names does so for what these words ask
 abbrev pub EnsuredAll : List Rule → Machine → RefSeen → List (List ℕ) → ReplySeen → Machine → Type 0
-EnsuredAll book old ref words reply new = (x : Named) × (named_at old ref ≡ Some x) × (asked : PropSet) × (asked_of x words ≡ Some asked)
+EnsuredAll book old ref words reply new = (x : Named) × (named_at (shelf old) ref ≡ Some x) × (asked : PropSet) × (asked_of x words ≡ Some asked)
     × (c : Configuration) × Ensures book (configuration x.object old.clients) x.sub asked reply c × Becomes ref.name c old new
 
 -- `ensure REF PROP ..`: the ways in which it may end
 pub data EnsureStep (book : List Rule) (old : Machine) (ref : RefSeen) (words : List (List ℕ)) : ReplySeen → Machine → Type 0 where
-  no_such_name : {new : Machine} → named_at old ref ≡ None → Stays old new → EnsureStep book old ref words (refused UnknownName nothing) new
-  no_such_property : {new : Machine} (x : Named) → named_at old ref ≡ Some x → asked_of x words ≡ None → Stays old new → EnsureStep book old ref words (refused UnknownProperty nothing) new
+  is_refused : {new : Machine} {why : Refusal} → PropertiesRefusal (shelf old) ref words why → Stays old new → EnsureStep book old ref words (refused why nothing) new
   is_asked : {new : Machine} {reply : ReplySeen} → EnsuredAll book old ref words reply new → EnsureStep book old ref words reply new
 
 -- the object when it is settled
@@ -224,38 +237,39 @@ pub data Explains (book : List Rule) (clients : Clients) (o : State) (sub : Opti
 
 -- the object that REF names is settled, and it is explained how what these words ask would be found
 abbrev pub ExplainedAll : List Rule → Machine → RefSeen → List (List ℕ) → ReplySeen → Machine → Type 0
-ExplainedAll book old ref words reply new = (x : Named) × (named_at old ref ≡ Some x) × (asked : PropSet) × (asked_of x words ≡ Some asked)
+ExplainedAll book old ref words reply new = (x : Named) × (named_at (shelf old) ref ≡ Some x) × (asked : PropSet) × (asked_of x words ≡ Some asked)
     × Explains book old.clients (settled_object x.object) x.sub asked reply × Becomes ref.name (configuration (settled_object x.object) old.clients) old new
 
 -- `explain REF PROP ..`: the ways in which it may end
 pub data ExplainStep (book : List Rule) (old : Machine) (ref : RefSeen) (words : List (List ℕ)) : ReplySeen → Machine → Type 0 where
-  no_such_name : {new : Machine} → named_at old ref ≡ None → Stays old new → ExplainStep book old ref words (refused UnknownName nothing) new
-  no_such_property : {new : Machine} (x : Named) → named_at old ref ≡ Some x → asked_of x words ≡ None → Stays old new → ExplainStep book old ref words (refused UnknownProperty nothing) new
+  is_refused : {new : Machine} {why : Refusal} → PropertiesRefusal (shelf old) ref words why → Stays old new → ExplainStep book old ref words (refused why nothing) new
   is_asked : {new : Machine} {reply : ReplySeen} → ExplainedAll book old ref words reply new → ExplainStep book old ref words reply new
 
 -- `history NAME`: the ways in which it may end
 pub data HistoryStep (book : List Rule) (old : Machine) (name : List ℕ) : ReplySeen → Machine → Type 0 where
-  no_such_name : {new : Machine} → old.object name ≡ None → Stays old new → HistoryStep book old name (refused UnknownName nothing) new
+  is_refused : {new : Machine} {why : Refusal} → NameRefusal (shelf old) name why → Stays old new → HistoryStep book old name (refused why nothing) new
   is_told : {new : Machine} {t : Rounds} {excluded : List Excluded} (o : State) → old.object name ≡ Some o → t ≡ named_rounds book o o.rounds → excluded ≡ o.excluded → Stays old new → HistoryStep book old name (tells t excluded) new
 
 -- `lookup REF PROP`: the ways in which it may end
 pub data LookupStep (old : Machine) (ref : RefSeen) (text : List ℕ) : ReplySeen → Machine → Type 0 where
-  no_such_name : {new : Machine} → named_at old ref ≡ None → Stays old new → LookupStep old ref text (refused UnknownName nothing) new
-  no_such_property : {new : Machine} (x : Named) → named_at old ref ≡ Some x → property_at x text ≡ None → Stays old new → LookupStep old ref text (refused UnknownProperty nothing) new
-  not_held : {new : Machine} (x : Named) (p : PropId) → named_at old ref ≡ Some x → property_at x text ≡ Some p → value_of p (read_at x.sub x.object.held) ≡ None → Stays old new → LookupStep old ref text undef new
-  is_shown : {new : Machine} {name : List ℕ} {of : ObjectType} {p : PropId} {v : PropertyValue} {t : Rounds} (x : Named) → named_at old ref ≡ Some x → property_at x text ≡ Some p → name ≡ ref_text ref → of ≡ x.object.of
+  is_refused : {new : Machine} {why : Refusal} → PropertyRefusal (shelf old) ref text why → Stays old new → LookupStep old ref text (refused why nothing) new
+  not_held : {new : Machine} (x : Named) (p : PropId) → named_at (shelf old) ref ≡ Some x → property_at x text ≡ Some p → value_of p (read_at x.sub x.object.held) ≡ None → Stays old new → LookupStep old ref text undef new
+  is_shown : {new : Machine} {name : List ℕ} {of : ObjectType} {p : PropId} {v : PropertyValue} {t : Rounds} (x : Named) → named_at (shelf old) ref ≡ Some x → property_at x text ≡ Some p → name ≡ ref_text ref → of ≡ x.object.of
       → value_of p (read_at x.sub x.object.held) ≡ Some v → t ≡ no_rounds → Stays old new → LookupStep old ref text (shows name of p v t) new
+
+-- why `copy NAME NEW` is refused, first of these
+pub data CopyRefusal (s : Shelf) (name to : List ℕ) : Refusal → Type 0 where
+  no_such_name : s.object name ≡ None → CopyRefusal s name to UnknownName
+  no_new_name : {why : Refusal} → s.object name ≢ None → NewNameRefusal s to why → CopyRefusal s name to why
 
 -- `copy NAME NEW`: the ways in which it may end
 pub data CopyStep (old : Machine) (name to : List ℕ) : ReplySeen → Machine → Type 0 where
-  no_such_name : {new : Machine} → old.object name ≡ None → Stays old new → CopyStep old name to (refused UnknownName nothing) new
-  is_taken : {new : Machine} → old.object name ≢ None → old.object to ≢ None → Stays old new → CopyStep old name to (refused NameTaken nothing) new
-  no_room : {new : Machine} → old.object name ≢ None → old.object to ≡ None → most_objects ≤ length old.names → Stays old new → CopyStep old name to (refused ObjectsFull nothing) new
+  is_refused : {new : Machine} {why : Refusal} → CopyRefusal (shelf old) name to why → Stays old new → CopyStep old name to (refused why nothing) new
   is_copied : {new : Machine} {t : Rounds} (o : State) → t ≡ no_rounds → old.object name ≡ Some o → old.object to ≡ None → length old.names < most_objects → Gains to o old new → CopyStep old name to (done t) new
 
 -- `drop NAME`: the ways in which it may end
 pub data DropStep (old : Machine) (name : List ℕ) : ReplySeen → Machine → Type 0 where
-  no_such_name : {new : Machine} → old.object name ≡ None → Stays old new → DropStep old name (refused UnknownName nothing) new
+  is_refused : {new : Machine} {why : Refusal} → NameRefusal (shelf old) name why → Stays old new → DropStep old name (refused why nothing) new
   is_dropped : {new : Machine} {t : Rounds} → t ≡ no_rounds → old.object name ≢ None → Loses name old new → DropStep old name (done t) new
 
 -- how the value of a property came to be held, if it is held
@@ -264,10 +278,9 @@ origin_of p held = option_map (λ h. h.origin) (find (λ h. same_property p h.pr
 
 -- `origin REF PROP`: the ways in which it may end
 pub data OriginStep (old : Machine) (ref : RefSeen) (text : List ℕ) : ReplySeen → Machine → Type 0 where
-  no_such_name : {new : Machine} → named_at old ref ≡ None → Stays old new → OriginStep old ref text (refused UnknownName nothing) new
-  no_such_property : {new : Machine} (x : Named) → named_at old ref ≡ Some x → property_at x text ≡ None → Stays old new → OriginStep old ref text (refused UnknownProperty nothing) new
-  not_held : {new : Machine} (x : Named) (p : PropId) → named_at old ref ≡ Some x → property_at x text ≡ Some p → value_of p (read_at x.sub x.object.held) ≡ None → Stays old new → OriginStep old ref text undef new
-  is_told : {new : Machine} {g : Origin} (x : Named) (p : PropId) → named_at old ref ≡ Some x → property_at x text ≡ Some p → origin_of p (read_at x.sub x.object.held) ≡ Some g → Stays old new → OriginStep old ref text (tells_origin g) new
+  is_refused : {new : Machine} {why : Refusal} → PropertyRefusal (shelf old) ref text why → Stays old new → OriginStep old ref text (refused why nothing) new
+  not_held : {new : Machine} (x : Named) (p : PropId) → named_at (shelf old) ref ≡ Some x → property_at x text ≡ Some p → value_of p (read_at x.sub x.object.held) ≡ None → Stays old new → OriginStep old ref text undef new
+  is_told : {new : Machine} {g : Origin} (x : Named) (p : PropId) → named_at (shelf old) ref ≡ Some x → property_at x text ≡ Some p → origin_of p (read_at x.sub x.object.held) ≡ Some g → Stays old new → OriginStep old ref text (tells_origin g) new
 
 -- ---- files
 -- the files that are told, if they are, are as before; the count of faults does not fall
@@ -298,10 +311,6 @@ HasBytes store file bytes = IfSome store.files (λ all. read_part (file_of all f
 abbrev pub HasNone : Store → List ℕ → Type 0
 HasNone store file = IfSome store.files (λ all. file_of all file ≡ None)
 
--- the count of the store's faults rose
-abbrev pub Fails : Machine → Machine → Type 0
-Fails old new = Rose old.store.faults new.store.faults
-
 -- the fault of a value
 abbrev pub fault_of_why : ValueWhy → Option ValueFail
 fault_of_why value_why.Shape = Some fault.Shape
@@ -325,15 +334,17 @@ pub data FileRead (book : List Rule) (name bytes : List ℕ) : ReplySeen → Mac
   bad_file : {old new : Machine} {why : FileWhy} (e : FileFault) → Refuses bytes e → IsFault why e → Stays old new → FileRead book name bytes (refused (BadFile why) nothing) old new
   is_loaded : {old new : Machine} {names : List (List ℕ)} (f : SavedFile) → Reads bytes f → names ≡ read_over f → Gains name (loaded_object book f) old new → FileRead book name bytes (loaded names) old new
 
+-- why no file is read as an object: the store fails, or there is no such file, or its bytes are refused
+pub data LoadRefusal (old new : Store) (file : List ℕ) : Refusal → Type 0 where
+  store_failed : Rose old.faults new.faults → LoadRefusal old new file StoreFault
+  no_such_file : HasNone old file → LoadRefusal old new file NoSuchFile
+  bad_file : {why : FileWhy} (bytes : List ℕ) (e : FileFault) → HasBytes old file bytes → Refuses bytes e → IsFault why e → LoadRefusal old new file (BadFile why)
+
 -- `load NAME FILE`: the ways in which it may end
 pub data LoadStep (book : List Rule) (old : Machine) (name file : List ℕ) : ReplySeen → Machine → Type 0 where
-  is_taken : {new : Machine} → old.object name ≢ None → Stays old new → LoadStep book old name file (refused NameTaken nothing) new
-  no_room : {new : Machine} → old.object name ≡ None → most_objects ≤ length old.names → Stays old new → LoadStep book old name file (refused ObjectsFull nothing) new
-  store_failed : {new : Machine} → IsFree old name → Fails old new → Looks old new → LoadStep book old name file (refused StoreFault nothing) new
-  no_such_file : {new : Machine} → IsFree old name → HasNone old.store file → Looks old new → LoadStep book old name file (refused NoSuchFile nothing) new
-  bad_file : {new : Machine} {why : FileWhy} (bytes : List ℕ) (e : FileFault) → IsFree old name → HasBytes old.store file bytes → Refuses bytes e → IsFault why e → Looks old new
-      → LoadStep book old name file (refused (BadFile why) nothing) new
-  is_loaded : {new : Machine} {names : List (List ℕ)} (bytes : List ℕ) (f : SavedFile) → IsFree old name → HasBytes old.store file bytes → Reads bytes f → names ≡ read_over f → LooksAndGains name (loaded_object book f) old new
+  no_new_name : {new : Machine} {why : Refusal} → NewNameRefusal (shelf old) name why → Stays old new → LoadStep book old name file (refused why nothing) new
+  is_refused : {new : Machine} {why : Refusal} → IsFree (shelf old) name → LoadRefusal old.store new.store file why → Looks old new → LoadStep book old name file (refused why nothing) new
+  is_loaded : {new : Machine} {names : List (List ℕ)} (bytes : List ℕ) (f : SavedFile) → IsFree (shelf old) name → HasBytes old.store file bytes → Reads bytes f → names ≡ read_over f → LooksAndGains name (loaded_object book f) old new
       → LoadStep book old name file (loaded names) new
 
 -- what the store did with the bytes under the name, and how often it failed; all else stays
@@ -352,11 +363,15 @@ bytes_of book o = file_bytes (saved_file book o)
 abbrev pub IsSavedWhole : List Rule → State → Type 0
 IsSavedWhole book o = (f : SavedFile) × Reads (bytes_of book o) f × IsLoadedAgain book o f
 
+-- why `save NAME FILE` is refused before the store is asked, first of these
+pub data SaveRefusal (s : Shelf) (book : List Rule) (name : List ℕ) : Refusal → Type 0 where
+  no_such_name : s.object name ≡ None → SaveRefusal s book name UnknownName
+  is_long : (o : State) → s.object name ≡ Some o → most_file_bytes < length (bytes_of book o) → SaveRefusal s book name (NotFit condition.Size)
+
 -- `save NAME FILE`: the ways in which it may end
 pub data SaveStep (book : List Rule) (old : Machine) (name file : List ℕ) : ReplySeen → Machine → Type 0 where
-  no_such_name : {new : Machine} → old.object name ≡ None → Stays old new → SaveStep book old name file (refused UnknownName nothing) new
-  is_long : {new : Machine} (o : State) → old.object name ≡ Some o → most_file_bytes < length (bytes_of book o) → Stays old new → SaveStep book old name file (refused (NotFit condition.Size) nothing) new
-  store_failed : {new : Machine} (o : State) → old.object name ≡ Some o → length (bytes_of book o) ≤ most_file_bytes → Fails old new → Puts (IsPutInPart file (bytes_of book o)) old new
+  is_refused : {new : Machine} {why : Refusal} → SaveRefusal (shelf old) book name why → Stays old new → SaveStep book old name file (refused why nothing) new
+  store_failed : {new : Machine} (o : State) → old.object name ≡ Some o → length (bytes_of book o) ≤ most_file_bytes → Rose old.store.faults new.store.faults → Puts (IsPutInPart file (bytes_of book o)) old new
       → SaveStep book old name file (refused StoreFault nothing) new
   is_saved : {new : Machine} {t : Rounds} (o : State) → t ≡ no_rounds → old.object name ≡ Some o → length (bytes_of book o) ≤ most_file_bytes → Puts (IsPut file (bytes_of book o)) old new → IsSavedWhole book o
       → SaveStep book old name file (done t) new
@@ -373,10 +388,14 @@ has_label label book = list_any (λ rule. bytes_eq rule.label label) book
 abbrev pub disabling : State → List ℕ → State
 disabling o label = if is_disabled label o.disabled then o else with_disabled o label
 
+-- why `disable NAME LABEL` is refused, first of these
+pub data DisableRefusal (s : Shelf) (book : List Rule) (name label : List ℕ) : Refusal → Type 0 where
+  no_such_name : s.object name ≡ None → DisableRefusal s book name label UnknownName
+  no_such_rule : s.object name ≢ None → has_label label book ≡ false → DisableRefusal s book name label UnknownRule
+
 -- `disable NAME LABEL`: the ways in which it may end
 pub data DisableStep (book : List Rule) (old : Machine) (name label : List ℕ) : ReplySeen → Machine → Type 0 where
-  no_such_name : {new : Machine} → old.object name ≡ None → Stays old new → DisableStep book old name label (refused UnknownName nothing) new
-  no_such_rule : {new : Machine} → old.object name ≢ None → has_label label book ≡ false → Stays old new → DisableStep book old name label (refused UnknownRule nothing) new
+  is_refused : {new : Machine} {why : Refusal} → DisableRefusal (shelf old) book name label why → Stays old new → DisableStep book old name label (refused why nothing) new
   now_disabled : {new : Machine} {t : Rounds} (o : State) → t ≡ no_rounds → old.object name ≡ Some o → has_label label book ≡ true → Becomes name (configuration (disabling o label) old.clients) old new
       → DisableStep book old name label (done t) new
 
@@ -396,9 +415,13 @@ pub record Unloads (name : List ℕ) (old new : Machine) : Type 0 where
   pub clients : new.clients ≡ without_client name old.clients
   pub store : new.store ≡ old.store
 
+-- no client has the name
+pub data UnloadRefusal (clients : Clients) (name : List ℕ) : Refusal → Type 0 where
+  no_such_client : is_client name clients ≡ false → UnloadRefusal clients name UnknownRule
+
 -- `unload CLIENT`: the ways in which it may end
 pub data UnloadStep (old : Machine) (name : List ℕ) : ReplySeen → Machine → Type 0 where
-  no_such_client : {new : Machine} → is_client name old.clients ≡ false → Stays old new → UnloadStep old name (refused UnknownRule nothing) new
+  is_refused : {new : Machine} {why : Refusal} → UnloadRefusal old.clients name why → Stays old new → UnloadStep old name (refused why nothing) new
   is_unloaded : {new : Machine} {t : Rounds} → t ≡ no_rounds → is_client name old.clients ≡ true → Unloads name old new → UnloadStep old name (done t) new
 
 -- from the machine old the reply to the command may be given, and it goes on as new

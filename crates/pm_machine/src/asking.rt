@@ -198,14 +198,7 @@ fn refuse_plan(
 {
     let barred = reasons(alloc, book.rules(), clients, object, sub)?;
     let names = names_told(alloc, book.rules(), object)?;
-    Ok(Reply::Refused {
-        why,
-        ensured: false,
-        rounds: Vec::new(alloc),
-        barred,
-        table: Some(table),
-        names,
-    })
+    Ok(Reply::refused_by_plan(alloc, why, barred, table, names))
 }
 
 // The plan, with the names of its rules and of the object's programs.

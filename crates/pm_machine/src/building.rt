@@ -5,9 +5,9 @@ ghost use Rattle.pm_command.specs.Commands.{seen_shape};
 ghost use Rattle.pm_files.specs.Views.{file_of};
 ghost use Rattle.pm_machine.specs.Building.{BuildStep, BuiltInPart, EnsuresInPart, EnsuresOneInPart, MakeStep, are_named, are_of, is_of_type, wanted_all, wanted_of};
 ghost use Rattle.pm_making.specs.Rows.{row_of, same_type};
-ghost use Rattle.pm_machine.specs.Built.{Builds, HaveRead, IsBarred, IsBuilt, MakesBuilt, TellsAll, TellsOne};
+ghost use Rattle.pm_machine.specs.Built.{Builds, HaveRead, IsBuilt, MakesBuilt, TellsAll, TellsOne};
 ghost use Rattle.pm_making.specs.Made.{IsFitting};
-ghost use Rattle.pm_machine.specs.Machines.{IsFree, Stays};
+ghost use Rattle.pm_machine.specs.Machines.{IsFree, NewNameRefusal, shelf, Stays};
 ghost use Rattle.pm_machine.specs.Sessions.{book_of, is_spent, machine_of};
 ghost use Rattle.pm_object.specs.Views.{round_seen};
 ghost use Rattle.pm_script.specs.Replies.{names_seen, seen};
@@ -44,7 +44,7 @@ impl Session {
 
     // Whether each name is that of an object.
     fn are_named(&self, what: &Building) -> bool
-        ensures { result ≡ are_named (machine_of self.now []) (operands_of what.now) }
+        ensures { result ≡ are_named (shelf (machine_of self.now [])) (operands_of what.now) }
     {
         match what {
             Building::One(_, name) => self.has(name),
@@ -64,7 +64,7 @@ impl Session {
 
     // Whether each name is that of an object of the type.
     fn are_of(&self, of: ObjectType, what: &Building) -> bool
-        ensures { result ≡ are_of of (machine_of self.now []) (operands_of what.now) }
+        ensures { result ≡ are_of of (shelf (machine_of self.now [])) (operands_of what.now) }
     {
         match what {
             Building::One(_, name) => self.is_of(of, name),
@@ -73,9 +73,10 @@ impl Session {
     }
 
     // Why no new object may have the name, if so.
-    fn bars(&self, name: &str) -> Option<Refusal>
-        ensures some { IfSome result (IsBarred (machine_of self.now []) name.now) }
-        ensures none { IfNone result (IsFree (machine_of self.now []) name.now) }
+    #[tactic(auto, using(crate::proofs::Ways::new_name_ways))]
+    pub(crate) fn bars(&self, name: &str) -> Option<Refusal>
+        ensures some { IfSome result (NewNameRefusal (shelf (machine_of self.now [])) name.now) }
+        ensures none { IfNone result (IsFree (shelf (machine_of self.now [])) name.now) }
     {
         if self.objects.get(name).is_some() {
             return Some(Refusal::NameTaken);
@@ -214,7 +215,7 @@ impl Session {
         clients: &mut Vec<Box<dyn Client>>,
         rounds: &mut Vec<Round>,
     ) -> Result<Ending, AllocError>
-        requires named { are_named (machine_of self.old []) (operands_of what.now) ≡ true }
+        requires named { are_named (shelf (machine_of self.old [])) (operands_of what.now) ≡ true }
         ensures ok { IfOk result (λ e. TellsAll (book_of self.old)
             (wanted_all (row_of (builder_of what.now)).reads (operands_of what.now)) e
             (map round_seen rounds.old.items) (map round_seen rounds.new.items)

@@ -1,8 +1,9 @@
-// The laws of honesty, and examples.
+// The laws of honesty and of evidence, and examples.
 
 ghost use Rattle.pm_machine.specs.BuildingExamples.{ObjectsAreBuilt, OperandsAreRead, ShapesAreMade, WantedIsEnsured};
 ghost use Rattle.pm_machine.specs.Examples.{AnswersAreRead, FilesAreKept, ObjectsAreRead, ProgramsAreRead};
-ghost use Rattle.pm_machine.specs.Laws.{StepsInPartKeep, StepsKeep};
+ghost use Rattle.pm_machine.specs.RefusalExamples.{RefusalsAreRead};
+ghost use Rattle.pm_machine.specs.Laws.{StepsInPartKeep, StepsInPartKeepEvidence, StepsKeep, StepsKeepEvidence};
 
 /// Whatever a step answers, each object stays honest.
 pub fn law_steps_keep()
@@ -12,6 +13,21 @@ pub fn law_steps_keep()
 /// Whatever part of a step happened, each object is honest.
 pub fn law_steps_in_part_keep()
     ensures { StepsInPartKeep }
+{}
+
+/// Whatever a step answers, each excluded rule keeps evidence that holds of the object.
+pub fn law_steps_keep_evidence()
+    ensures { StepsKeepEvidence }
+{}
+
+/// Whatever part of a step happened, each excluded rule keeps evidence that holds of the object.
+pub fn law_steps_in_part_keep_evidence()
+    ensures { StepsInPartKeepEvidence }
+{}
+
+/// Which reason a command is refused for before it changes anything, and which it is not.
+pub fn example_refusals()
+    ensures { RefusalsAreRead }
 {}
 
 /// What a copy and a drop change, and when they are not done; which origin is told.

@@ -3,7 +3,7 @@
 ghost use Rattle.pm_machine.specs.Parts.{AllHonest, SavedInPart, StepInPart};
 ghost use Rattle.pm_rounds.specs.Running.{HasPlace};
 ghost use Rattle.pm_machine.specs.Sessions.{MakesNamed, book_of, is_spent, machine_at, machine_of};
-ghost use Rattle.pm_machine.specs.Machines.{Gains, Stays};
+ghost use Rattle.pm_machine.specs.Machines.{Gains, shelf, Stays};
 ghost use Rattle.pm_machine.specs.Steps.{AllKept, CopyStep, DisableStep, DropStep, EnsureStep, ExplainStep, GiveStep, FileRead, HistoryStep, LoadStep, Looks, LookupStep, NewStep, OriginStep, NewObjectStep, NewProgramStep, RulesStep, SaveStep, Step, TakeStep, UnloadStep, is_program_word, named_at, part_named, type_word};
 ghost use Rattle.pm_command.specs.Commands.{blank, ensure_values, explain_values, give_value, is_on_files, seen_ref, spoken};
 ghost use Rattle.pm_command.specs.Grammar.{is_sub, ref_text};
@@ -109,7 +109,7 @@ impl Session {
     // The object that a REF names, and the place of its program where the REF has a part.
     fn find(&self, obj: &Ref) -> Option<(&Object, Option<u8>)>
         ensures { option_map (λ x. record { object = x.0.now.state; sub = x.1 }) result
-            ≡ named_at (machine_of self.now []) (seen_ref obj.now) }
+            ≡ named_at (shelf (machine_of self.now [])) (seen_ref obj.now) }
     {
         let object = self.objects.get(obj.name.as_str())?;
         let sub = place_in(object, obj)?;
@@ -182,11 +182,8 @@ impl Session {
         let Some(of) = type_named(of) else {
             return Ok(Reply::refused(alloc, Refusal::UnknownType));
         };
-        if self.objects.get(&name).is_some() {
-            return Ok(Reply::refused(alloc, Refusal::NameTaken));
-        }
-        if self.is_full() {
-            return Ok(Reply::refused(alloc, Refusal::ObjectsFull));
+        if let Some(why) = self.bars(name.as_str()) {
+            return Ok(Reply::refused(alloc, why));
         }
         self.add(name, Object::new(alloc, of))?;
         Ok(Reply::done(alloc))
@@ -271,11 +268,8 @@ impl Session {
         let Some(object) = self.objects.get(name) else {
             return Ok(Reply::refused(alloc, Refusal::UnknownName));
         };
-        if self.objects.get(&new).is_some() {
-            return Ok(Reply::refused(alloc, Refusal::NameTaken));
-        }
-        if self.is_full() {
-            return Ok(Reply::refused(alloc, Refusal::ObjectsFull));
+        if let Some(why) = self.bars(new.as_str()) {
+            return Ok(Reply::refused(alloc, why));
         }
         let copy = object.copy(alloc)?;
         self.add(new, copy)?;
@@ -536,11 +530,8 @@ impl Session {
         ensures spent { is_spent self.new ≡ is_spent self.old }
         ensures never_falls { F.faults store.old ≤ F.faults store.new }
     {
-        if self.objects.get(&name).is_some() {
-            return Ok(Reply::refused(alloc, Refusal::NameTaken));
-        }
-        if self.is_full() {
-            return Ok(Reply::refused(alloc, Refusal::ObjectsFull));
+        if let Some(why) = self.bars(name.as_str()) {
+            return Ok(Reply::refused(alloc, why));
         }
         let found = match store.get(alloc, file) {
             Ok(found) => found,

@@ -1,4 +1,5 @@
 pub mod Traces
+pub mod Standing
 pub mod Barred
 pub mod BarredReasons
 pub mod Running

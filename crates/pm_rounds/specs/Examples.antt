@@ -1,5 +1,7 @@
 -- The definitions of phases, events, exclusions and reasons read on small things: what holds of them and what does not.
+use Rattle.std.specs.List.{Contains}
 use Rattle.std.specs.Prelude.{ℕ, ◌≡◌, Bool, true, false, Option, Some, None, List, [], ◌∷◌}
+use Rattle.pm_geom.specs.declared.evidence.Evidence.{Evidence}
 use Rattle.pm_geom.specs.declared.evidence.Evidence.TheVariants.{E4}
 use Rattle.pm_object_type.specs.declared.object_type.ObjectType.TheVariants.{Polytope}
 use Rattle.pm_rounds.specs.Chains.{IsFirstWrong, is_excluded, is_wrong, some_wrong}
@@ -10,6 +12,7 @@ use Rattle.pm_object.specs.declared.held.Origin.TheVariants.{Given}
 use Rattle.pm_object.specs.declared.held.RoundEnd.TheVariants as end
 use Rattle.pm_object.specs.declared.held.Why.TheVariants as why
 use Rattle.pm_rounds.specs.Reasons.{first_reason}
+use Rattle.pm_rounds.specs.Standing.{EvidenceStands}
 use Rattle.pm_rules.specs.declared.rule.Rule.{Rule}
 use Rattle.pm_script.specs.declared.names.Bar.TheVariants as bar
 use Rattle.pm_props.specs.Sets.{set_of}
@@ -102,3 +105,17 @@ pub record ReasonsAreRead : Type 0 where
   pub disabled_first : first_reason None None true false ≡ Some bar.Disabled
   pub no_client : first_reason None None false false ≡ Some bar.NoClient
   pub none : first_reason None None false true ≡ None
+
+-- a polytope without values, and with this exclusion
+abbrev pub of_nothing : Excluded → State
+of_nothing x = record (empty_object Polytope) { excluded = x ∷ [] }
+
+-- whether the evidence behind exclusions holds now
+pub record StandingIsRead : Type 0 where
+  pub none_excluded : (book : List Rule) (o : State) → o.excluded ≡ [] → EvidenceStands book o
+  -- a mark of a file has no evidence, nor has a false precondition
+  pub of_a_file : (book : List Rule) (k : ℕ) → EvidenceStands book (of_nothing (record { rule = third; sub = None; why = why.Stored k }))
+  pub of_a_condition : (book : List Rule) (p : PropId) → EvidenceStands book (of_nothing (falsehood p))
+  -- evidence has a rule of the book, and an object that knows its column count
+  pub of_no_rule : (o : State) (x : Excluded) (e : Evidence) → Contains o.excluded x → x.why ≡ why.Failed e → ¬ (EvidenceStands [] o)
+  pub of_no_columns : (book : List Rule) → ¬ (EvidenceStands book (with_failure None))

@@ -1,12 +1,18 @@
 // The law of events, and examples.
 
 ghost use Rattle.pm_rounds.specs.Events.{EventsKeep};
-ghost use Rattle.pm_rounds.specs.Examples.{ConditionsAreRead, EventsAreRead, ExclusionsAreRead, ReasonsAreRead};
+ghost use Rattle.pm_rounds.specs.Examples.{ConditionsAreRead, EventsAreRead, ExclusionsAreRead, ReasonsAreRead, StandingIsRead};
 ghost use Rattle.pm_rounds.specs.Reasons.{BarredHaveReasons};
+ghost use Rattle.pm_rounds.specs.Standing.{EventsKeepEvidence};
 
 /// Each event leaves an object honest, and kept where no round is under way: for chains of any length, whatever the clients answer.
 pub fn law_events_keep()
     ensures { EventsKeep }
+{}
+
+/// Each event leaves the evidence of each excluded rule so that it holds of the object.
+pub fn law_events_keep_evidence()
+    ensures { EventsKeepEvidence }
 {}
 
 /// A rule is barred on an object exactly where there is a reason for it.
@@ -32,4 +38,9 @@ pub fn example_conditions()
 /// Which reason is told of a rule that is barred.
 pub fn example_reasons()
     ensures { ReasonsAreRead }
+{}
+
+/// Whether the evidence behind exclusions holds of an object now.
+pub fn example_standing()
+    ensures { StandingIsRead }
 {}

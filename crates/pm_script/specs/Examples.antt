@@ -9,10 +9,11 @@ use Rattle.pm_object.specs.declared.held.RoundEnd.TheVariants as end
 use Rattle.pm_object.specs.declared.held.Why.TheVariants as why
 use Rattle.pm_props.specs.Sets.{set_of}
 use Rattle.pm_props.specs.declared.kind.RuleId.{RuleId}
+use Rattle.pm_rules.specs.declared.table.Table.{Table}
 use Rattle.pm_props.specs.declared.property.PropId.TheVariants.{ConeAmbientDim, Inequalities, Equations, LinearObjective, MaximalValue, Pointed, Vertices}
 use Rattle.pm_object_type.specs.declared.object_type.ObjectType.TheVariants.{Cone, Polytope}
 use Rattle.pm_types.specs.Values.{extended, finite, truth}
-use Rattle.pm_script.specs.Replies.{NamesSeen, Rounds, barred_text, done, ensured, excluded_text, exclusion_text, false_text, loaded, name_shown, no_rounds, nothing, property_set_text, refusal_text, refused, reply_text, round_text, rule_text, shows, tells_origin, told}
+use Rattle.pm_script.specs.Replies.{NamesSeen, Rounds, barred_text, done, ensured, excluded_text, exclusion_text, false_text, loaded, mixed, name_shown, no_rounds, nothing, planned, property_set_text, refusal_text, refused, remarks, reply_text, round_text, rule_text, shows, tells_origin, told}
 use Rattle.pm_script.specs.declared.names.Bar.TheVariants as bar
 use Rattle.pm_script.specs.declared.refusal.NotMadeWhy.TheVariants.{Combination, Pair}
 use Rattle.pm_script.specs.declared.refusal.Refusal.TheVariants.{BadFile, NoChain, NotFit, NotMade}
@@ -53,6 +54,11 @@ pub record RepliesAreRead : Type 0 where
   pub always_told : reply_text false (refused NoChain (told true one_round)) ≡ codes "no 10 NoChain\nround 6: a b -> done\n"
   pub told_if_traced : reply_text true (refused NoChain (told false one_round)) ≡ codes "no 10 NoChain\nround 6: a b -> done\n"
   pub else_untold : reply_text false (refused NoChain (told false one_round)) ≡ codes "no 10 NoChain\n"
+  -- what the code says beside a refusal is one of these: rounds, or rules with a table
+  pub of_a_plan : (t : Table) (names : NamesSeen) → remarks false [] ((first, bar.NoClient) ∷ []) (Some t) names ≡ planned ((first, bar.NoClient) ∷ []) t.rows.items names
+  pub no_rounds_beside_it : (t : Table) (names : NamesSeen) → remarks false (round_of None end.Done ∷ []) [] (Some t) names ≡ mixed false (round_of None end.Done ∷ []) [] (Some t.rows.items) names
+  pub not_always_beside_it : (t : Table) (names : NamesSeen) → remarks true [] [] (Some t) names ≡ mixed true [] [] (Some t.rows.items) names
+  pub no_barred_alone : (names : NamesSeen) → remarks false [] ((first, bar.NoClient) ∷ []) None names ≡ mixed false [] ((first, bar.NoClient) ∷ []) None names
   -- what a new object is made of is traced too
   pub carried_out : reply_text true (done no_rounds) ≡ codes "ok\n"
   pub made_untold : reply_text false (done one_round) ≡ codes "ok\n"

@@ -54,11 +54,12 @@ pub record Rounds : Type 0 where
 abbrev pub no_rounds : Rounds
 no_rounds = record { rounds = []; names = record { rules = []; programs = [] } }
 
--- What follows a refusal: nothing; the rounds of the command, which are always shown (true), or where they are traced; or the rules that are barred, each with the reason, and the table of the planner.
+-- What follows a refusal: nothing; the rounds of the command, which are always shown (true), or where they are traced; or the rules that are barred, each with the reason, and the table of the planner. A reply of the code that has something of two of these is mixed; no command has it.
 pub data Remarks : Type 0 where
   nothing : Remarks
   told : Bool → Rounds → Remarks
   planned : List (RuleId × Bar) → List TableRow → NamesSeen → Remarks
+  mixed : Bool → List RoundSeen → List (RuleId × Bar) → Option (List TableRow) → NamesSeen → Remarks
 
 -- done, after these rounds; shows name of p v, the value v of the property p of what has that name, an object of that type or a program of one, with the rounds that found it; ensured, by these rounds; explained, by a chain with its weight and table; tells, what happened to an object; lists_rules n text, where the book has n rules and this text; tells_origin, how a value came to be held; loaded, with the names that were read over; undef, where no value is held; refused, why, and what is said beside it
 pub data ReplySeen : Type 0 where
@@ -77,11 +78,13 @@ pub data ReplySeen : Type 0 where
 abbrev pub names_seen : Names → NamesSeen
 names_seen n = record { rules = map (λ x. (string_bytes x.0, x.1)) n.rules.items; programs = map string_bytes n.subs.items }
 
--- what is said beside a refusal: no table is there where rounds are told
+-- what is said beside a refusal: rounds that are told, or rules and a table
 abbrev pub remarks : Bool → List RoundSeen → List (RuleId × Bar) → Option Table → NamesSeen → Remarks
-remarks always rounds barred (Some table) names = planned barred table.rows.items names
-remarks false [] barred None names = nothing
-remarks always rounds barred None names = told always (record { rounds = rounds; names = names })
+remarks false [] barred (Some table) names = planned barred table.rows.items names
+remarks false [] [] None names = nothing
+remarks always rounds [] None names = told always (record { rounds = rounds; names = names })
+remarks always rounds barred None names = mixed always rounds barred None names
+remarks always rounds barred (Some table) names = mixed always rounds barred (Some table.rows.items) names
 
 -- what the code's reply says
 abbrev pub seen : Reply → ReplySeen
@@ -241,6 +244,8 @@ abbrev pub remarks_text : Bool → Remarks → List ℕ
 remarks_text trace nothing = []
 remarks_text trace (told always rounds) = if trace || always then rounds_text rounds else []
 remarks_text trace (planned barred rows names) = flat_map (barred_text names) barred ++ flat_map table_row_text rows
+remarks_text trace (mixed always rounds barred (Some rows) names) = flat_map (barred_text names) barred ++ flat_map table_row_text rows
+remarks_text trace (mixed always rounds barred None names) = if trace || always then rounds_text (record { rounds = rounds; names = names }) else []
 
 -- given by a script or a file or filled in where it goes without saying, computed in an earlier run, or computed by a client
 abbrev pub origin_text : Origin → List ℕ

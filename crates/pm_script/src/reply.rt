@@ -3,7 +3,7 @@
 ghost use Rattle.pm_files.specs.ValueJson.{value_text};
 ghost use Rattle.pm_object.specs.Views.{round_seen};
 ghost use Rattle.pm_weights.specs.Weights.{cost_text};
-ghost use Rattle.pm_script.specs.Replies.{done, ignored_text, is_refusal, loaded, name_shown, names_seen, no_rounds, nothing, origin_text, refused, remarks, remarks_text, reply_text, rounds_text, rule_text, seen, spaced_name, table_row_text};
+ghost use Rattle.pm_script.specs.Replies.{done, ignored_text, is_refusal, loaded, name_shown, names_seen, no_rounds, nothing, origin_text, planned, refused, remarks, remarks_text, reply_text, rounds_text, rule_text, seen, spaced_name, table_row_text};
 ghost use Rattle.pm_types.specs.Views.{view_of};
 ghost use Rattle.std.specs.Prelude.{Bool, IfOk, false, None, OnOk, [], codes, decimal, flat_map, if◌then◌else◌, length, map, string_bytes, ◌++◌, ◌||◌, ◌≡◌};
 
@@ -112,6 +112,27 @@ impl Reply {
             rounds,
             barred: Vec::new(alloc),
             table: None,
+            names,
+        }
+    }
+
+    /// A refusal beside which these rules are said to be barred, with the table of the planner.
+    pub fn refused_by_plan(
+        alloc: Global,
+        why: Refusal,
+        barred: Vec<(RuleId, Bar)>,
+        table: Table,
+        names: Names,
+    ) -> Reply
+        ensures { seen result ≡ refused why
+            (planned barred.items table.rows.items (names_seen names)) }
+    {
+        Reply::Refused {
+            why,
+            ensured: false,
+            rounds: Vec::new(alloc),
+            barred,
+            table: Some(table),
             names,
         }
     }

@@ -1,6 +1,6 @@
 -- What the lines of a script came to: some lines were read, and had this outcome.
-use Rattle.std.proofs.Common.{ap, inl, inr, refl, sym, ◌∙◌, ◌≡◌, ◌≤◌, ◌⊎◌, ℕ, Bool, true, false, List, [], ◌∷◌, ◌++◌, Option, Some, IfSome, Result, Ok, Err, IsErrOf, append_assoc}
-use Rattle.pm_lines.specs.Coming.{BreaksOff, Exceeds, IsOver, ReaderSeen}
+use Rattle.std.proofs.Common.{ap, inl, inr, refl, sym, ◌∙◌, ◌≡◌, ◌≤◌, ◌⊎◌, ℕ, Bool, true, false, List, [], ◌∷◌, ◌++◌, Option, Some, IfSome, Result, Ok, Err, IsErrOf, append_assoc, length}
+use Rattle.pm_lines.specs.Coming.{BreaksOff, Exceeds, IsOver, ReaderSeen, most_ahead}
 use Rattle.pm_lines.specs.declared.reader.LinesFail.{LinesFail}
 use Rattle.pm_lines.specs.declared.reader.LinesFail.TheVariants as line
 use Rattle.pm_machine.specs.Machines.{Machine, Stays}
@@ -39,24 +39,24 @@ came_over book trace script mid left had has old now r some g bound over same =
 
 -- the next line did not come
 came_not_on : (book : List Rule) (trace : Bool) (script mid left had has : Option (List ℕ)) (old now : Machine) (r new : ReaderSeen) (some : Bool) (f : LinesFail)
-    → Going book trace script mid had has old r some now → r.at_end ≡ false → r.read ≤ most_script_bytes → new.read ≤ most_script_bytes
+    → Going book trace script mid had has old r some now → r.at_end ≡ false → r.read ≤ most_script_bytes → length r.given ≤ most_ahead → new.read ≤ most_script_bytes
     → (f ≡ line.Fault → IfSome mid (λ all. BreaksOff all left r new)) → (f ≡ line.TooLong → IfSome mid (λ all. Exceeds all left r))
     → CameTo book trace script left had has old (Err (fail_of f)) now
-came_not_on book trace script mid left had has old now r new some line.Fault g on bound bound' breaks exceeds =
+came_not_on book trace script mid left had has old now r new some line.Fault g on bound few bound' breaks exceeds =
     (g.first, read_breaks script mid left g.first r new g.read on (breaks refl) bound', (some, so_far_whole book trace had has old now g.first some g.so_far))
-came_not_on book trace script mid left had has old now r new some line.TooLong g on bound bound' breaks exceeds =
+came_not_on book trace script mid left had has old now r new some line.TooLong g on bound few bound' breaks exceeds =
     (g.first, read_exceeds script mid left g.first r g.read on (exceeds refl), (some, so_far_whole book trace had has old now g.first some g.so_far))
-came_not_on book trace script mid left had has old now r new some line.Memory g on bound bound' breaks exceeds =
-    let o = goes_on script mid g.first r bound g.read in
+came_not_on book trace script mid left had has old now r new some line.Memory g on bound few bound' breaks exceeds =
+    let o = goes_on script mid g.first r bound few g.read in
     (g.first ++ o.others, (mid, o.lines), so_far_halts book trace had has old now (g.first ++ o.others) g.first o.others some g.so_far refl)
 
 pub came_breaking : (book : List Rule) (trace : Bool) (script mid left had has : Option (List ℕ)) (old now : Machine) (r new : ReaderSeen) (some : Bool)
     (advanced : Result Bool LinesFail) (f : LinesFail) (e : RunFail)
-    → Going book trace script mid had has old r some now → advanced ≡ Err f → e ≡ fail_of f → (r.at_end ≡ true → advanced ≡ Ok false) → r.read ≤ most_script_bytes → new.read ≤ most_script_bytes
+    → Going book trace script mid had has old r some now → advanced ≡ Err f → e ≡ fail_of f → (r.at_end ≡ true → advanced ≡ Ok false) → r.read ≤ most_script_bytes → length r.given ≤ most_ahead → new.read ≤ most_script_bytes
     → (IsErrOf advanced line.Fault → IfSome mid (λ all. BreaksOff all left r new)) → (IsErrOf advanced line.TooLong → IfSome mid (λ all. Exceeds all left r))
     → CameTo book trace script left had has old (Err e) now
-came_breaking book trace script mid left had has old now r new some advanced f e g was is stays bound bound' breaks exceeds =
-    rw is (came_not_on book trace script mid left had has old now r new some f g (not_at_end r.at_end advanced (Err f) stays was (λ h. cc)) bound bound'
+came_breaking book trace script mid left had has old now r new some advanced f e g was is stays bound few bound' breaks exceeds =
+    rw is (came_not_on book trace script mid left had has old now r new some f g (not_at_end r.at_end advanced (Err f) stays was (λ h. cc)) bound few bound'
     (λ h. breaks (was ∙ ap (λ (x : LinesFail). Err x) h)) (λ h. exceeds (was ∙ ap (λ (x : LinesFail). Err x) h)))
 
 -- the next line came, and then its answer failed
@@ -65,14 +65,14 @@ is_read script left e lines (inl is) read = rw is read
 is_read script left e lines (inr is) read = rw is (left, read)
 
 pub came_failing : (book now_book : List Rule) (trace : Bool) (script left had between has : Option (List ℕ)) (old mid new : Machine) (r : ReaderSeen) (first : List Line) (line : Line) (some : Bool) (e : RunFail)
-    → r.read ≤ most_script_bytes → HasRead script left (first ++ line ∷ []) r → SoFar book trace had between old first some mid → now_book ≡ book → (e ≡ why.SinkFault) ⊎ (e ≡ why.Memory)
+    → r.read ≤ most_script_bytes → length r.given ≤ most_ahead → HasRead script left (first ++ line ∷ []) r → SoFar book trace had between old first some mid → now_book ≡ book → (e ≡ why.SinkFault) ⊎ (e ≡ why.Memory)
     → (e ≡ why.SinkFault → (reply : ReplySeen) × Answers now_book mid line (Some reply) new × GainsPart between has (text_of_reply trace reply))
     → (e ≡ why.Memory → has ≡ between) → (e ≡ why.Memory → Stays mid new ⊎ InHand now_book mid line new)
     → CameTo book trace script left had has old (Err e) new
-came_failing book now_book trace script left had between has old mid new r first line some e bound read s same either part still hand =
-    let o = goes_on script left (first ++ line ∷ []) r bound read in
+came_failing book now_book trace script left had between has old mid new r first line some e bound few read s same either part still hand =
+    let o = goes_on script left (first ++ line ∷ []) r bound few read in
     let lines = (first ++ line ∷ []) ++ o.others in (
       lines,
       is_read script left e lines either o.lines,
-      so_far_fails book now_book trace had between has old mid new lines first o.others line some e s same (append_assoc first (line ∷ []) o.others) either part still hand,
+      so_far_fails book now_book trace had between has old mid new lines first o.others line some e s same (append_assoc first (line ∷ []) o.others) o.ahead either part still hand,
     )

@@ -2,7 +2,7 @@
 use Rattle.std.proofs.Common.{arith, inl, inr, refl, subst, sym, ◌≡◌, ◌≤◌, ◌⊎◌, ℕ, Bool, true, false, List, [], ◌∷◌, ◌++◌, Option, Some, None, Result, Ok, Err, OnErr, IfOk}
 use Rattle.pm_client.specs.Starts.{Clients}
 use Rattle.pm_machine.proofs.Kept.{steps_in_part_keep}
-use Rattle.pm_machine.proofs.KeptObjects.{all_honest, stays_honest}
+use Rattle.pm_machine.proofs.Kept.{all_honest, stays_honest}
 use Rattle.pm_machine.specs.Parts.{AllHonest, StepInPart}
 use Rattle.pm_machine.specs.Sessions.{book_of, machine_at, machine_of}
 use Rattle.pm_machine.specs.Machines.{Files, Machine, Stays}

@@ -1,12 +1,12 @@
 -- What was read of a script, from line to line, and which lines these are.
-use Rattle.std.proofs.Common.{ap, sym, refl, inl, inr, ◌∙◌, ◌≡◌, ◌+◌, ◌≤◌, ℕ, Bool, true, false, not, List, [], ◌∷◌, ◌++◌, Option, Some, None, IfSome, Ok, Err, take, drop, length, arith, append_assoc, append-nil, length-append, length-drop}
+use Rattle.std.proofs.Common.{ap, sym, refl, inl, inr, ◌∙◌, ◌≡◌, ◌==◌, ◌+◌, ◌≤◌, ℕ, Bool, true, false, not, List, [], ◌∷◌, ◌++◌, Option, Some, None, IfSome, Ok, Err, take, drop, filter, if◌then◌else◌, length, arith, append_assoc, append-nil, length-append, length-drop}
 use Rattle.std.proofs.Math.Seq.{drop-append-add, take-append-add}
 use Rattle.std.proofs.lemmas.Bool.{cases_Bool}
 use Rattle.pm_lines.proofs.Callers.{Answered, answered_all, answered_before, answered_ended, answered_last, answered_none, answered_whole}
-use Rattle.pm_lines.specs.Coming.{Answers, BreaksOff, Exceeds, IsOver, ReaderSeen}
+use Rattle.pm_lines.specs.Coming.{Answers, BreaksOff, Exceeds, IsOver, ReaderSeen, most_ahead}
 use Rattle.pm_lines.specs.Whole.{whole_lines}
-use Rattle.pm_command.specs.Lines.{Line, lines_of}
-use Rattle.pm_shell.specs.Ends.{IsRead, IsReadSoFar}
+use Rattle.pm_command.specs.Lines.{Line, lines_of, onto_first}
+use Rattle.pm_shell.specs.Ends.{IsRead, IsReadSoFar, bytes_in}
 use Rattle.pm_shell.specs.declared.status.RunFail.TheVariants as why
 use Rattle.pm_limits.specs.Limits.{most_script_bytes}
 
@@ -195,10 +195,42 @@ read_exceeds (Some all) mid left first r s goes_on exceeds =
 pub record GoesOn (script left : Option (List ℕ)) (first : List Line) : Type 0 where
   pub others : List Line
   pub lines : IfSome script (λ all. IsReadSoFar all left (first ++ others))
+  pub ahead : bytes_in others ≤ most_ahead
 
-goes_some : (script left : Option (List ℕ)) (first : List Line) (r : ReaderSeen) → r.at_end ≡ false → r.read ≤ most_script_bytes → IfSome script (λ all. Reads all first left r) → GoesOn script left first
-goes_some None left first r on bound h = record { others = []; lines = tt }
-goes_some (Some all) left first r on bound h =
+-- lines have no more bytes than what they are of
+first_longer : (b : ℕ) (lines : List Line) → bytes_in (onto_first b lines) ≤ bytes_in lines + 1
+first_longer b [] = omega arith
+first_longer b (line ∷ lines) = omega arith
+
+bytes_of_lines : (bytes : List ℕ) → bytes_in (lines_of bytes) ≤ length bytes
+bytes_of_lines [] = omega arith
+bytes_of_lines (b ∷ bytes) = by (b == 10) (bytes_of_lines bytes) (first_longer b (lines_of bytes))
+  where
+    by : (t : Bool) → bytes_in (lines_of bytes) ≤ length bytes → bytes_in (onto_first b (lines_of bytes)) ≤ bytes_in (lines_of bytes) + 1
+        → bytes_in (if t then record { bytes = []; ended = true } ∷ lines_of bytes else onto_first b (lines_of bytes)) ≤ length (b ∷ bytes)
+    by true h k = omega arith
+    by false h k = omega arith
+
+some_of_lines : (lines : List Line) → bytes_in (filter (λ (line : Line). line.ended) lines) ≤ bytes_in lines
+some_of_lines [] = omega arith
+some_of_lines (line ∷ lines) = by line.ended (some_of_lines lines)
+  where
+    by : (t : Bool) → bytes_in (filter (λ (line : Line). line.ended) lines) ≤ bytes_in lines
+        → bytes_in (if t then line ∷ filter (λ (line : Line). line.ended) lines else filter (λ (line : Line). line.ended) lines) ≤ bytes_in (line ∷ lines)
+    by true h = omega arith
+    by false h = omega arith
+
+-- what stands in no line yet is given already
+whole_ahead : (given rest : List ℕ) → length given ≤ most_ahead → bytes_in (whole_lines (given ++ take 0 rest)) ≤ most_ahead
+whole_ahead given rest few =
+    let some = some_of_lines (lines_of (given ++ take 0 rest)) in
+    let lines = bytes_of_lines (given ++ take 0 rest) in
+    let long = length-append given (take 0 rest) in
+    omega arith
+
+goes_some : (script left : Option (List ℕ)) (first : List Line) (r : ReaderSeen) → r.at_end ≡ false → r.read ≤ most_script_bytes → length r.given ≤ most_ahead → IfSome script (λ all. Reads all first left r) → GoesOn script left first
+goes_some None left first r on bound few h = record { others = []; lines = tt; ahead = omega arith }
+goes_some (Some all) left first r on bound few h =
     let a = h.answered in
     let count = h.count in
     record {
@@ -210,14 +242,15 @@ goes_some (Some all) left first r on bound h =
         a.left_is ∙ ap (λ (t : List ℕ). Some t) (dropped all first left r h 0),
         sym (a.adds on (r.given ++ take 0 a.rest)) ∙ ap whole_lines (taken all first left r h 0),
       );
+      ahead = whole_ahead r.given a.rest few;
     }
 
 goes_whole : (script left : Option (List ℕ)) (first : List Line) → IfSome script (λ all. ReadsAll all first left) → GoesOn script left first
-goes_whole None left first h = record { others = []; lines = tt }
-goes_whole (Some all) left first h = record { others = []; lines = inl (append-nil first ∙ h.lines, h.short, h.none) }
+goes_whole None left first h = record { others = []; lines = tt; ahead = omega arith }
+goes_whole (Some all) left first h = record { others = []; lines = inl (append-nil first ∙ h.lines, h.short, h.none); ahead = omega arith }
 
-pub goes_on : (script left : Option (List ℕ)) (first : List Line) (r : ReaderSeen) → r.read ≤ most_script_bytes → HasRead script left first r → GoesOn script left first
-goes_on script left first r bound s = elim (cases_Bool r.at_end) [
+pub goes_on : (script left : Option (List ℕ)) (first : List Line) (r : ReaderSeen) → r.read ≤ most_script_bytes → length r.given ≤ most_ahead → HasRead script left first r → GoesOn script left first
+goes_on script left first r bound few s = elim (cases_Bool r.at_end) [
   | inl e ↦ goes_whole script left first (s.whole e)
-  | inr e ↦ goes_some script left first r e bound (s.some e)
+  | inr e ↦ goes_some script left first r e bound few (s.some e)
 ]

@@ -1,16 +1,17 @@
 -- Runs go on line by line, keep every object honest, and show right values.
-use Rattle.std.proofs.Common.{ap, inl, inr, refl, subst, sym, ◌∙◌, ◌≡◌, ◌||◌, ◌⊎◌, ℕ, Bool, true, false, List, [], ◌∷◌, ◌++◌, Option, Some, None, Err, append_assoc, append-nil}
-use Rattle.pm_client.specs.Starts.{Clients}
-use Rattle.pm_machine.proofs.KeptObjects.{all_honest}
+use Rattle.std.proofs.Common.{ap, inl, inr, refl, subst, sym, ◌∙◌, ◌≡◌, ◌||◌, ◌≤◌, ◌⊎◌, ℕ, Bool, true, false, List, [], ◌∷◌, ◌++◌, Option, Some, None, Err, append_assoc, append-nil}
+use Rattle.pm_machine.proofs.Kept.{all_honest}
+use Rattle.pm_lines.specs.Coming.{most_ahead}
+use Rattle.pm_machine.specs.Laws.{AllStand}
 use Rattle.pm_machine.specs.Machines.{Machine, Stays}
 use Rattle.pm_machine.specs.Parts.{AllHonest}
 use Rattle.pm_machine.specs.Steps.{AllKept}
 use Rattle.pm_rules.specs.declared.rule.Rule.{Rule}
 use Rattle.pm_command.specs.Lines.{Line}
 use Rattle.pm_script.specs.Replies.{ReplySeen}
-use Rattle.pm_shell.proofs.Shown.{kept_by, shows_right}
-use Rattle.pm_shell.specs.Ends.{AnsweredAll, AnswersOne, BrokeOff, GainsWithin, HasOutcome, InHand, NextInHand, Stopped}
-use Rattle.pm_shell.specs.Run.{Answers, Run, Starts, any_refused, is_refused, replies_text, text_if, text_of_reply}
+use Rattle.pm_shell.proofs.Shown.{kept_by, shows_right, stand_by}
+use Rattle.pm_shell.specs.Ends.{AnsweredAll, AnswersOne, BrokeOff, GainsWithin, HasOutcome, InHand, NextInHand, Stopped, bytes_in}
+use Rattle.pm_shell.specs.Run.{Answers, Run, any_refused, is_refused, replies_text, text_if, text_of_reply}
 use Rattle.pm_shell.specs.Shown.{Shows}
 use Rattle.pm_shell.specs.declared.status.RunFail.{RunFail}
 use Rattle.pm_shell.specs.declared.status.RunFail.TheVariants as why
@@ -20,19 +21,19 @@ use Rattle.pm_store.specs.Outside.{Gains, GainsPart}
 -- ---- honesty
 pub kept_run : (book : List Rule) (old new : Machine) (lines : List Line) (replies : List (Option ReplySeen)) → Run book old lines replies new → AllKept old → AllKept new
 kept_run book old new [] [] is all = subst AllKept (sym is) all
-kept_run book old new (line ∷ lines) (reply ∷ replies) (mid, first, right, honest, rest) all =
+kept_run book old new (line ∷ lines) (reply ∷ replies) (mid, first, right, honest, stand, rest) all =
     kept_run book mid new lines replies rest (kept_by book old mid line reply first all)
 kept_run book old new [] (reply ∷ replies) h all = absurd h
 kept_run book old new (line ∷ lines) [] h all = absurd h
 
 -- ---- one line more
 next_right : (book : List Rule) (old mid new : Machine) (lines : List Line) (replies : List (Option ReplySeen)) (line : Line) (reply : Option ReplySeen)
-    → Run book old lines replies mid → Answers book mid line reply new → Shows reply new → AllHonest new → Run book old (lines ++ line ∷ []) (replies ++ reply ∷ []) new
-next_right book old mid new [] [] line reply is answers right last = (new, subst (λ (m : Machine). Answers book m line reply new) is answers, right, last, refl)
-next_right book old mid new (l ∷ lines) (r ∷ replies) line reply (next, first, right, honest, rest) answers shown last =
-    (next, first, right, honest, next_right book next mid new lines replies line reply rest answers shown last)
-next_right book old mid new [] (r ∷ replies) line reply h answers shown last = absurd h
-next_right book old mid new (l ∷ lines) [] line reply h answers shown last = absurd h
+    → Run book old lines replies mid → Answers book mid line reply new → Shows reply new → AllHonest new → AllStand book new → Run book old (lines ++ line ∷ []) (replies ++ reply ∷ []) new
+next_right book old mid new [] [] line reply is answers right last stand = (new, subst (λ (m : Machine). Answers book m line reply new) is answers, right, last, stand, refl)
+next_right book old mid new (l ∷ lines) (r ∷ replies) line reply (next, first, right, honest, stands, rest) answers shown last stand =
+    (next, first, right, honest, stands, next_right book next mid new lines replies line reply rest answers shown last stand)
+next_right book old mid new [] (r ∷ replies) line reply h answers shown last stand = absurd h
+next_right book old mid new (l ∷ lines) [] line reply h answers shown last stand = absurd h
 
 replies_text-append : (trace : Bool) (replies : List (Option ReplySeen)) (reply : Option ReplySeen)
     → replies_text trace (replies ++ reply ∷ []) ≡ replies_text trace replies ++ text_if trace reply
@@ -61,13 +62,14 @@ pub record SoFar (book : List Rule) (trace : Bool) (had has : Option (List ℕ))
   pub told : Gains had has (replies_text trace replies)
   pub refusal : some_refused ≡ any_refused replies
   pub kept : AllKept now
+  pub stand : AllStand book now
 
 pub Gains-none : (a : Option (List ℕ)) → Gains a a []
 Gains-none None = tt
 Gains-none (Some had) = ap (λ (t : List ℕ). Some t) (sym (append-nil had))
 
-pub so_far_start : (book : List Rule) (trace : Bool) (had : Option (List ℕ)) (m : Machine) → AllKept m → SoFar book trace had had m [] false m
-so_far_start book trace had m kept = record { replies = []; run = refl; told = Gains-none had; refusal = refl; kept = kept }
+pub so_far_start : (book : List Rule) (trace : Bool) (had : Option (List ℕ)) (m : Machine) → AllKept m → AllStand book m → SoFar book trace had had m [] false m
+so_far_start book trace had m kept stand = record { replies = []; run = refl; told = Gains-none had; refusal = refl; kept = kept; stand = stand }
 
 pub so_far_next : (book now_book : List Rule) (trace : Bool) (had between has : Option (List ℕ)) (old mid new : Machine) (first : List Line) (line : Line) (some last : Bool)
     → SoFar book trace had between old first some mid → now_book ≡ book → AnswersOne now_book trace between has mid line last new
@@ -75,13 +77,15 @@ pub so_far_next : (book now_book : List Rule) (trace : Bool) (had between has : 
 so_far_next book now_book trace had between has old mid new first line some last s same one =
     let answers : Answers book mid line one.reply new = subst (λ (b : List Rule). Answers b mid line one.reply new) same one.answers in
     let kept : AllKept new = kept_by book mid new line one.reply answers s.kept in
+    let stand : AllStand book new = stand_by book mid new line one.reply answers s.stand in
     record {
       replies = s.replies ++ one.reply ∷ [];
-      run = next_right book old mid new first s.replies line one.reply s.run answers (shows_right book mid new line one.reply answers kept) (all_honest new kept);
+      run = next_right book old mid new first s.replies line one.reply s.run answers (shows_right book mid new line one.reply answers kept) (all_honest new kept) stand;
       told = Gains-then had between has (replies_text trace s.replies) (text_if trace one.reply) (replies_text trace (s.replies ++ one.reply ∷ [])) s.told one.told
           (sym (replies_text-append trace s.replies one.reply));
       refusal = ap (λ (b : Bool). b || last) s.refusal ∙ ap (λ (b : Bool). any_refused s.replies || b) one.refusal ∙ sym (any_refused-append s.replies one.reply);
       kept = kept;
+      stand = stand;
     }
 
 pub so_far_whole : (book : List Rule) (trace : Bool) (had has : Option (List ℕ)) (old now : Machine) (first : List Line) (some : Bool)
@@ -94,9 +98,9 @@ within (Some had) between has front piece g h =
     subst (λ (b : Option (List ℕ)). GainsPart b has piece) g h
 
 so_far_part : (book now_book : List Rule) (trace : Bool) (had between has : Option (List ℕ)) (old mid new : Machine) (lines first others : List Line) (line : Line) (some : Bool)
-    → SoFar book trace had between old first some mid → now_book ≡ book → lines ≡ first ++ line ∷ others
+    → SoFar book trace had between old first some mid → now_book ≡ book → lines ≡ first ++ line ∷ others → bytes_in others ≤ most_ahead
     → (reply : ReplySeen) × Answers now_book mid line (Some reply) new × GainsPart between has (text_of_reply trace reply) → BrokeOff book trace had has old lines new
-so_far_part book now_book trace had between has old mid new lines first others line some s same whole (reply, told, part) =
+so_far_part book now_book trace had between has old mid new lines first others line some s same whole ahead (reply, told, part) =
     let answers : Answers book mid line (Some reply) new = subst (λ (b : List Rule). Answers b mid line (Some reply) new) same told in
     let kept : AllKept new = kept_by book mid new line (Some reply) answers s.kept in
     record {
@@ -104,9 +108,10 @@ so_far_part book now_book trace had between has old mid new lines first others l
       line = line;
       others = others;
       whole = whole;
+      ahead = ahead;
       replies = s.replies;
       reply = reply;
-      run = next_right book old mid new first s.replies line (Some reply) s.run answers (shows_right book mid new line (Some reply) answers kept) (all_honest new kept);
+      run = next_right book old mid new first s.replies line (Some reply) s.run answers (shows_right book mid new line (Some reply) answers kept) (all_honest new kept) (stand_by book mid new line (Some reply) answers s.stand);
       told = within had between has (replies_text trace s.replies) (text_of_reply trace reply) s.told part;
     }
 
@@ -126,19 +131,19 @@ so_far_stops book now_book trace had has old now new lines first others line som
 
 -- the next line was read, and then its answer failed
 pub so_far_fails : (book now_book : List Rule) (trace : Bool) (had between has : Option (List ℕ)) (old mid new : Machine) (lines first others : List Line) (line : Line) (some : Bool) (e : RunFail)
-    → SoFar book trace had between old first some mid → now_book ≡ book → lines ≡ first ++ line ∷ others → (e ≡ why.SinkFault) ⊎ (e ≡ why.Memory)
+    → SoFar book trace had between old first some mid → now_book ≡ book → lines ≡ first ++ line ∷ others → bytes_in others ≤ most_ahead → (e ≡ why.SinkFault) ⊎ (e ≡ why.Memory)
     → (e ≡ why.SinkFault → (reply : ReplySeen) × Answers now_book mid line (Some reply) new × GainsPart between has (text_of_reply trace reply))
     → (e ≡ why.Memory → has ≡ between) → (e ≡ why.Memory → Stays mid new ⊎ InHand now_book mid line new)
     → HasOutcome book trace had has old lines (Err e) new
-so_far_fails book now_book trace had between has old mid new lines first others line some why.SinkFault s same whole either part still hand =
-    so_far_part book now_book trace had between has old mid new lines first others line some s same whole (part refl)
-so_far_fails book now_book trace had between has old mid new lines first others line some why.Memory s same whole either part still hand =
+so_far_fails book now_book trace had between has old mid new lines first others line some why.SinkFault s same whole ahead either part still hand =
+    so_far_part book now_book trace had between has old mid new lines first others line some s same whole ahead (part refl)
+so_far_fails book now_book trace had between has old mid new lines first others line some why.Memory s same whole ahead either part still hand =
     subst (λ (h : Option (List ℕ)). Stopped book trace had h old lines new) (sym (still refl))
     (so_far_stops book now_book trace had between old mid new lines first others line some s same whole (hand refl))
-so_far_fails book now_book trace had between has old mid new lines first others line some why.SourceFault s same whole (inl e) part still hand = cc
-so_far_fails book now_book trace had between has old mid new lines first others line some why.SourceFault s same whole (inr e) part still hand = cc
-so_far_fails book now_book trace had between has old mid new lines first others line some why.TooLong s same whole (inl e) part still hand = cc
-so_far_fails book now_book trace had between has old mid new lines first others line some why.TooLong s same whole (inr e) part still hand = cc
+so_far_fails book now_book trace had between has old mid new lines first others line some why.SourceFault s same whole ahead (inl e) part still hand = cc
+so_far_fails book now_book trace had between has old mid new lines first others line some why.SourceFault s same whole ahead (inr e) part still hand = cc
+so_far_fails book now_book trace had between has old mid new lines first others line some why.TooLong s same whole ahead (inl e) part still hand = cc
+so_far_fails book now_book trace had between has old mid new lines first others line some why.TooLong s same whole ahead (inr e) part still hand = cc
 
 stays : (m : Machine) → Stays m m
 stays m = record { names = refl; objects = λ q. refl; clients = refl; store = refl }

@@ -3,11 +3,14 @@ use Rattle.std.proofs.Common.{ap, subst, sym, refl, ◌∙◌, ◌≡◌, ℕ, L
 use Rattle.std.proofs.lemmas.Option.{same_Some}
 use Rattle.std.specs.Option.{option_and_then, option_map}
 use Rattle.pm_object_type.specs.declared.object_type.ObjectType.{ObjectType}
-use Rattle.pm_machine.proofs.Kept.{kept_at, some_not_none, steps_keep}
+use Rattle.pm_machine.proofs.KeepingSteps.{some_not_none}
+use Rattle.pm_machine.proofs.Kept.{kept_at, steps_keep}
+use Rattle.pm_machine.proofs.Standing.{steps_keep_evidence}
+use Rattle.pm_machine.specs.Laws.{AllStand}
 use Rattle.pm_rounds.specs.Events.{Configuration, Ensured, Event, after_event, after_events, begun, committed, configuration, excluded, settled, started, written}
 use Rattle.pm_rounds.specs.declared.round.Ending.{Ending}
 use Rattle.pm_rounds.specs.declared.round.Ending.TheVariants.{Found}
-use Rattle.pm_machine.specs.Machines.{Machine}
+use Rattle.pm_machine.specs.Machines.{Machine, shelf}
 use Rattle.pm_machine.specs.Steps.{AllKept, Named, NewOf, Step, is_asked, is_shown, named_at, part_named}
 use Rattle.pm_object.specs.State.{State, place_from, place_named, read_at, value_of}
 use Rattle.pm_rules.specs.declared.rule.Rule.{Rule}
@@ -29,6 +32,16 @@ kept_to book old new why (Some blank) None is all = subst AllKept (sym is) all
 kept_to book old new why (Some command) None h all = absurd h
 kept_to book old new why None (Some reply) (reply_is, is) all = subst AllKept (sym is) all
 kept_to book old new why None None h all = absurd h
+
+pub stand_to : (book : List Rule) (old new : Machine) (why : Refusal) (command : Option Spoken) (reply : Option ReplySeen) → AnswersTo book old why command reply new → AllStand book old → AllStand book new
+stand_to book old new why (Some command) (Some reply) step all = steps_keep_evidence book old new command reply step all
+stand_to book old new why (Some blank) None is all = subst (AllStand book) (sym is) all
+stand_to book old new why (Some command) None h all = absurd h
+stand_to book old new why None (Some reply) (reply_is, is) all = subst (AllStand book) (sym is) all
+stand_to book old new why None None h all = absurd h
+
+pub stand_by : (book : List Rule) (old new : Machine) (line : Line) (reply : Option ReplySeen) → Answers book old line reply new → AllStand book old → AllStand book new
+stand_by book old new line reply answers all = stand_to book old new (refusal_of line) (command_at line) reply answers all
 
 pub kept_by : (book : List Rule) (old new : Machine) (line : Line) (reply : Option ReplySeen) → Answers book old line reply new → AllKept old → AllKept new
 kept_by book old new line reply answers all = kept_to book old new (refusal_of line) (command_at line) reply answers all
@@ -80,14 +93,14 @@ part_again (Some y) (Some name) found o at same = by (place_named name y) refl a
         let there : place_named name o ≡ Some s = ap (place_from 0 name) (same ∙ sym (ap (λ (z : Named). z.object.programs) e)) ∙ is in
         ap (option_map {U = Named} (λ k. record { object = o; sub = Some k })) there ∙ ap (λ (z : Named). Some (record { object = o; sub = z.sub })) e
 
-named_again : (old new : Machine) (ref : RefSeen) (found : Named) (o : State) → named_at old ref ≡ Some found → new.object ref.name ≡ Some o → o.programs ≡ found.object.programs
-    → named_at new ref ≡ Some (record { object = o; sub = found.sub })
+named_again : (old new : Machine) (ref : RefSeen) (found : Named) (o : State) → named_at (shelf old) ref ≡ Some found → new.object ref.name ≡ Some o → o.programs ≡ found.object.programs
+    → named_at (shelf new) ref ≡ Some (record { object = o; sub = found.sub })
 named_again old new ref found o at is same =
     ap (option_and_then (λ y. part_named y ref.sub)) is ∙ part_again (old.object ref.name) ref.sub found o at same
 
 -- ---- what a step shows
 shown_by : (m : Machine) (ref : RefSeen) (text : List ℕ) (of : ObjectType) (p : PropId) (v : PropertyValue) (found : Named)
-    → AllKept m → text ≡ ref_text ref → named_at m ref ≡ Some found → found.object.of ≡ of → value_of p (read_at found.sub found.object.held) ≡ Some v → IsShown text of p v m
+    → AllKept m → text ≡ ref_text ref → named_at (shelf m) ref ≡ Some found → found.object.of ≡ of → value_of p (read_at found.sub found.object.held) ≡ Some v → IsShown text of p v m
 shown_by m ref text of p v found all is at typed held =
     record { ref = ref; spelled = is; found = found; named = at; typed = typed; held = held; honest = (kept_at m ref found at all).honest }
 

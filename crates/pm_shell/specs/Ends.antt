@@ -1,6 +1,7 @@
 -- How a run of the program ended, and what the sink took until then.
-use Rattle.std.specs.Prelude.{ℕ, ◌≡◌, ◌+◌, ◌<◌, ◌≤◌, ◌⊎◌, Bool, true, false, Option, Some, None, IfSome, List, [], ◌∷◌, ◌++◌, drop, length, take, Result, Ok, Err}
+use Rattle.std.specs.Prelude.{ℕ, ◌≡◌, ◌+◌, ◌<◌, ◌≤◌, ◌⊎◌, Bool, true, false, Option, Some, None, IfSome, List, [], ◌∷◌, ◌++◌, drop, if◌then◌else◌, length, take, Result, Ok, Err}
 use Rattle.pm_client.specs.Starts.{Clients}
+use Rattle.pm_lines.specs.Coming.{most_ahead}
 use Rattle.pm_lines.specs.Whole.{whole_lines}
 use Rattle.pm_lines.specs.declared.reader.LinesFail.{LinesFail}
 use Rattle.pm_lines.specs.declared.reader.LinesFail.TheVariants as line
@@ -68,12 +69,18 @@ pub record AnsweredAll (book : List Rule) (trace : Bool) (had has : Option (List
   pub told : Gains had has (replies_text trace replies)
   pub refusal : some_refused ≡ any_refused replies
 
--- the sink failed in a reply: the replies before it are told, and no line after it was answered
+-- the bytes of lines, each with its LF where it has one
+abbrev pub bytes_in : List Line → ℕ
+bytes_in [] = 0
+bytes_in (line ∷ lines) = length line.bytes + (if line.ended then 1 else 0) + bytes_in lines
+
+-- the sink failed in a reply: the replies before it are told, no line after it was answered, and of those that were read no more bytes are there than one read takes, so that each reply is written before more is read
 pub record BrokeOff (book : List Rule) (trace : Bool) (had has : Option (List ℕ)) (old : Machine) (lines : List Line) (new : Machine) : Type 0 where
   pub first : List Line
   pub line : Line
   pub others : List Line
   pub whole : lines ≡ first ++ line ∷ others
+  pub ahead : bytes_in others ≤ most_ahead
   pub replies : List (Option ReplySeen)
   pub reply : ReplySeen
   pub run : Run book old (first ++ line ∷ []) (replies ++ Some reply ∷ []) new

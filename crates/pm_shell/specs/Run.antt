@@ -1,6 +1,7 @@
 -- A run of the machine over the lines of a script.
 use Rattle.std.specs.Prelude.{ℕ, ◌≡◌, ◌||◌, Bool, false, if◌then◌else◌, Option, Some, None, List, [], ◌∷◌, ◌++◌}
 use Rattle.pm_client.specs.Starts.{Clients}
+use Rattle.pm_machine.specs.Laws.{AllStand}
 use Rattle.pm_machine.specs.Machines.{Files, Machine}
 use Rattle.pm_machine.specs.Parts.{AllHonest}
 use Rattle.pm_machine.specs.Steps.{Step}
@@ -33,10 +34,10 @@ AnswersTo book old why None None new = ⊥
 abbrev pub Answers : List Rule → Machine → Line → Option ReplySeen → Machine → Type 0
 Answers book old line reply new = AnswersTo book old (refusal_of line) (command_at line) reply new
 
--- it answers so to the lines, one after another, each value that it shows is right when it is shown, and after each line every object is honest
+-- it answers so to the lines, one after another, each value that it shows is right when it is shown, and after each line every object is honest, and each rule that was excluded with evidence has evidence that holds now
 abbrev pub Run : List Rule → Machine → List Line → List (Option ReplySeen) → Machine → Type 0
 Run book old [] [] new = new ≡ old
-Run book old (line ∷ lines) (reply ∷ replies) new = (mid : Machine) × Answers book old line reply mid × Shows reply mid × AllHonest mid × Run book mid lines replies new
+Run book old (line ∷ lines) (reply ∷ replies) new = (mid : Machine) × Answers book old line reply mid × Shows reply mid × AllHonest mid × AllStand book mid × Run book mid lines replies new
 Run book old [] (reply ∷ replies) new = ⊥
 Run book old (line ∷ lines) [] new = ⊥
 

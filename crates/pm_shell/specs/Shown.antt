@@ -1,9 +1,9 @@
 -- The values that a run shows are right.
-use Rattle.std.specs.Prelude.{ℕ, ◌≡◌, List, Option, Some, None}
+use Rattle.std.specs.Prelude.{ℕ, ◌≡◌, List, Option, Some}
 use Rattle.pm_command.specs.Commands.{RefSeen}
 use Rattle.pm_command.specs.Grammar.{ref_text}
 use Rattle.pm_object_type.specs.declared.object_type.ObjectType.{ObjectType}
-use Rattle.pm_machine.specs.Machines.{Machine}
+use Rattle.pm_machine.specs.Machines.{Machine, shelf}
 use Rattle.pm_machine.specs.Steps.{Named, named_at}
 use Rattle.pm_object.specs.Honest.{IsHonest}
 use Rattle.pm_object.specs.State.{read_at, value_of}
@@ -16,7 +16,7 @@ pub record IsShown (text : List ℕ) (of : ObjectType) (p : PropId) (v : Propert
   pub ref : RefSeen
   pub spelled : text ≡ ref_text ref
   pub found : Named
-  pub named : named_at m ref ≡ Some found
+  pub named : named_at (shelf m) ref ≡ Some found
   pub typed : found.object.of ≡ of
   pub held : value_of p (read_at found.sub found.object.held) ≡ Some v
   pub honest : IsHonest found.object

@@ -1,6 +1,7 @@
 // Lines answered as they come.
 
 ghost use Rattle.pm_machine.specs.Sessions.{MakesNamed, book_of, machine_at};
+ghost use Rattle.pm_machine.specs.Laws.{AllStand};
 ghost use Rattle.pm_machine.specs.Machines.{Stays};
 ghost use Rattle.pm_machine.specs.Steps.{AllKept};
 ghost use Rattle.pm_command.specs.Commands.{spoken};
@@ -154,6 +155,8 @@ pub(crate) fn answer_lines<S: Source, K: Sink, F: Store>(
     store: &mut F,
 ) -> Result<bool, RunFail>
     requires kept { AllKept (machine_at session.old (map tally clients.old.items) (F.files store.old) (F.faults store.old)) }
+    requires stand { AllStand (book_of session.old)
+        (machine_at session.old (map tally clients.old.items) (F.files store.old) (F.faults store.old)) }
     ensures outcome { (lines : List Line)
         × IsRead (S.left source.old) (S.left source.new) result lines
         × HasOutcome (book_of session.old) trace (K.taken sink.old) (K.taken sink.new)

@@ -1,7 +1,8 @@
 //! The program: a script from standard input, answered on standard output.
 #![tactic(auto)]
 
-ghost use Rattle.std.specs.Prelude.{IfErr, ◌≡◌, ◌⊎◌};
+ghost use Rattle.std.specs.Prelude.{IfErr, IfOk, drop, ◌≡◌, ◌⊎◌};
+ghost use Rattle.std.specs.Vec.Iter.{into_iter_items};
 
 mod book;
 mod demo;
@@ -24,9 +25,9 @@ use pm_clients_lp::{LpClient, LpWork};
 use pm_store::{DirStore, StdSink, StdSource};
 use run::polymake;
 use status::Status;
-use std::alloc::AllocError;
+use std::alloc::{AllocError, Global};
 use std::env;
-use std::env::FillError;
+use std::env::{Args, FillError};
 use std::io::ErrorKind;
 use std::process::ExitCode;
 use std::rt::Env;
@@ -36,6 +37,19 @@ fn has_word(rt: &impl Env) -> bool {
     !matches!(rt.arg(1, &mut [0u8; 1]), Err(FillError::NotPresent))
 }
 
+/// All words but the first.
+fn after_first(alloc: Global, args: Args) -> Result<Vec<String>, AllocError>
+    ensures { IfOk result (λ words. words.items ≡ drop 1 (into_iter_items args)) }
+{
+    let mut rest = args;
+    rest.next();
+    let mut words = Vec::new(alloc);
+    for word in rest {
+        words.push(word)?;
+    }
+    Ok(words)
+}
+
 /// The words after the program's name, or the status where they cannot be had.
 /// A word that is no UTF-8 is a bad word as any other; the program's name may be no UTF-8.
 fn words_after_name<R: Env + AllocGlobal>(rt: &R) -> Result<Vec<String>, Status>
@@ -43,10 +57,7 @@ fn words_after_name<R: Env + AllocGlobal>(rt: &R) -> Result<Vec<String>, Status>
 {
     let alloc = rt.alloc();
     match env::args(rt) {
-        Ok(args) => args
-            .skip(1)
-            .collect(alloc)
-            .map_err(|_: AllocError| Status::OutOfMemory),
+        Ok(args) => after_first(alloc, args).map_err(|_: AllocError| Status::OutOfMemory),
         Err(e) if e.kind() == ErrorKind::OutOfMemory => Err(Status::OutOfMemory),
         Err(_) if has_word(rt) => Err(Status::BadWords),
         Err(_) => Ok(Vec::new(alloc)),

@@ -1,6 +1,6 @@
 // A store over the files of a folder.
 
-ghost use Rattle.std.specs.Prelude.{◌≡◌, ◌<◌, ◌≤◌, ◌^◌, IfOk, IfSome, vec_len};
+ghost use Rattle.std.specs.Prelude.{◌≡◌, ◌≢◌, ◌<◌, ◌≤◌, ◌^◌, Err, IfOk, IfSome, None, Ok, vec_len};
 ghost use Rattle.pm_store.specs.Files.{most_read};
 
 use crate::store::{MOST_READ, Store, StoreFail};
@@ -69,8 +69,19 @@ fn read_named<R: Files>(folder: &R, alloc: Global, name: &str) -> Result<Option<
             let bytes = read_first(alloc, &mut StdSource::new(file), MOST_READ)?;
             Ok(Some(bytes))
         }
-        Err(e) if e.kind() == ErrorKind::NotFound => Ok(None),
-        Err(_) => Err(StoreFail::Failed),
+        Err(e) => unopened(e.kind()),
+    }
+}
+
+/// What it is that a file could not be opened: that there is none of the name, or else a fault.
+fn unopened(kind: ErrorKind) -> Result<Option<Vec<u8>>, StoreFail>
+    ensures absent { kind ≡ ErrorKind.NotFound → result ≡ Ok None }
+    ensures fault { kind ≢ ErrorKind.NotFound → result ≡ Err StoreFail.Failed }
+{
+    if kind == ErrorKind::NotFound {
+        Ok(None)
+    } else {
+        Err(StoreFail::Failed)
     }
 }
 

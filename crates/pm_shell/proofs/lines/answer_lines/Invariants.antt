@@ -4,6 +4,7 @@ use Rattle.std.specs.Prelude.{map}
 use Rattle.pm_machine.specs.Sessions.{book_of, machine_at}
 use Rattle.pm_shell.proofs.Came.{Going}
 use Rattle.pm_shell.proofs.lines.answer_lines.Given as goal
+use Rattle.pm_lines.specs.Coming.{most_ahead}
 use Rattle.pm_limits.specs.Limits.{most_script_bytes}
 
 abbrev pub invariant-loop-reader : goal.invariant-loop-reader
@@ -13,6 +14,7 @@ invariant-loop-reader g l = record {
       (machine_at l.fn.session (map (λ b. (goal.Client-dyn g (b.vtable, b.value)).tally b.value) l.fn.clients.items) (g.F.Store.files l.fn.store) (g.F.Store.faults l.fn.store))
       l.reader l.some_refused
       (machine_at l.session (map (λ b. (goal.Client-dyn g (b.vtable, b.value)).tally b.value) l.clients.items) (g.F.Store.files l.store) (g.F.Store.faults l.store));
+  few : length l.reader.given ≤ most_ahead;
   bound : l.reader.read ≤ most_script_bytes;
   source_rises : g.S.Source.faults l.fn.source ≤ g.S.Source.faults l.source;
   store_rises : g.F.Store.faults l.fn.store ≤ g.F.Store.faults l.store;

@@ -3,7 +3,7 @@ use Rattle.std.proofs.Common.{Some, ap, refl, sym, ◌∙◌, ◌≡◌}
 use Rattle.std.specs.Option.{option_map}
 use Rattle.std.specs.Prelude.{None, [], map, string_bytes}
 use Rattle.pm_machine.proofs.Names.{ensure_step, ensure_unknown, ensured_partly, named_of, no_part, stays_with, written}
-use Rattle.pm_machine.specs.Steps.{asked_in, no_such_name, part_named}
+use Rattle.pm_machine.specs.Steps.{asked_in, no_such_name, part_named, is_refused}
 use Rattle.pm_script.specs.Replies.{seen}
 use Rattle.pm_machine.proofs.session.Session.do_ensure.Goals as goal
 
@@ -42,4 +42,4 @@ returns-in_default-place_in-clause-step g c =
     let o = c.in-Some.object.now in
     let w = written c.args.self.now.objects (c.get_mut.follows.lender o) _ name o o c.as_str.ensures.value c.in-Some.ensures.value (c.get_mut.follows.holds o).1 (c.get_mut.follows.holds o).3 in
     let missing : part_named o.state (option_map string_bytes c.args.obj.now.sub) ≡ None = sym c.place_in.ensures.named ∙ ap (option_map (named_of o.state)) c.in_default-place_in.is in
-    rw c.refused-in_default-place_in.ensures (no_such_name (no_part w (option_map string_bytes c.args.obj.now.sub) [] missing) (stays_with w _ refl))
+    rw c.refused-in_default-place_in.ensures (is_refused (no_such_name (no_part w (option_map string_bytes c.args.obj.now.sub) [] missing)) (stays_with w _ refl))

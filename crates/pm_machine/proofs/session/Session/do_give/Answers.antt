@@ -4,7 +4,7 @@ use Rattle.std.specs.Option.{option_map}
 use Rattle.std.specs.Prelude.{None, [], string_bytes}
 use Rattle.pm_machine.proofs.Names.{gave_in_part, give_step, give_unknown, named_of, no_part, stays_with, written}
 use Rattle.pm_rounds.proofs.Rounds.{on_err_of}
-use Rattle.pm_machine.specs.Steps.{no_such_name, part_named, property_named}
+use Rattle.pm_machine.specs.Steps.{no_such_name, part_named, property_named, is_refused}
 use Rattle.pm_script.specs.Replies.{seen}
 use Rattle.pm_machine.proofs.session.Session.do_give.Goals as goal
 
@@ -43,7 +43,7 @@ returns-in_default-place_in-clause-step g c =
     let o = c.in-Some.object.now in
     let w = written c.args.self.now.objects (c.get_mut.follows.lender o) _ name o o c.as_str.ensures.value c.in-Some.ensures.value (c.get_mut.follows.holds o).1 (c.get_mut.follows.holds o).3 in
     let missing : part_named o.state (option_map string_bytes c.args.obj.now.sub) ≡ None = sym c.place_in.ensures.named ∙ ap (option_map (named_of o.state)) c.in_default-place_in.is in
-    rw c.refused-in_default-place_in.ensures (no_such_name (no_part w (option_map string_bytes c.args.obj.now.sub) [] missing) (stays_with w _ refl))
+    rw c.refused-in_default-place_in.ensures (is_refused (no_such_name (no_part w (option_map string_bytes c.args.obj.now.sub) [] missing)) (stays_with w _ refl))
 
 pub returns-in_err-name-clause-part : goal.returns-in_err-name-clause-part
 returns-in_err-name-clause-part g c =

@@ -2,10 +2,11 @@
 use Rattle.std.proofs.Common.{subst}
 use Rattle.std.specs.Prelude.{[], string_bytes}
 use Rattle.pm_command.specs.Commands.{seen_shape}
-use Rattle.pm_machine.proofs.BuildSteps.{make_barred, make_step, none_told}
+use Rattle.pm_machine.proofs.BuildSteps.{make_step, none_told}
 use Rattle.pm_machine.proofs.Ensuring.{stays_itself}
 use Rattle.pm_making.proofs.Fits.{still_made}
-use Rattle.pm_machine.specs.Machines.{IsFree}
+use Rattle.pm_machine.specs.Building.{is_refused, no_new_name}
+use Rattle.pm_machine.specs.Machines.{IsFree, shelf}
 use Rattle.pm_machine.specs.Sessions.{machine_of}
 use Rattle.pm_object.specs.Views.{round_seen}
 use Rattle.pm_script.specs.Replies.{seen}
@@ -18,8 +19,8 @@ pub returns-clause-step : goal.returns-clause-step
 returns-clause-step g c =
     let old = machine_of c.args.self.now [] in
     make_step seen c.add_made.result (string_bytes c.args.new) (seen_shape c.args.shape) c.build_shape.result _ _ old (machine_of c.add_made.new.self [])
-    (subst (λ z. IsFree old z) c.as_str.ensures.value c.in_default.ensures.none) (none_told round_seen c.new.result.items _ c.new.ensures.items c.none.ensures)
+    (subst (λ z. IsFree (shelf old) z) c.as_str.ensures.value c.in_default.ensures.none) (none_told round_seen c.new.result.items _ c.new.ensures.items c.none.ensures)
     c.build_shape.ensures.built c.build_shape.ensures.fits c.build_shape.ensures.refused (rw c.of_built-built.ensures at c.add_made.ensures.made)
 
 pub returns-in-Some-clause-step : goal.returns-in-Some-clause-step
-returns-in-Some-clause-step g c = rw c.refused.ensures (make_barred _ (string_bytes c.args.new) (seen_shape c.args.shape) c.in-Some.why _ (rw c.as_str.ensures.value at c.in-Some.ensures.some) (stays_itself _))
+returns-in-Some-clause-step g c = rw c.refused.ensures (is_refused (no_new_name (rw c.as_str.ensures.value at c.in-Some.ensures.some)) (stays_itself _))

@@ -2,17 +2,17 @@
 use Rattle.std.proofs.Common.{Some, ap, refl, sym, ◌∙◌, ◌≡◌}
 use Rattle.std.specs.Prelude.{None}
 use Rattle.pm_machine.proofs.Names.{named_of, none_mapped}
-use Rattle.pm_machine.specs.Steps.{is_told, no_such_name, no_such_property, not_held, property_named}
+use Rattle.pm_machine.specs.Steps.{is_told, no_such_name, no_such_property, not_held, property_named, is_refused}
 use Rattle.pm_machine.proofs.session.Session.do_origin.Goals as goal
 
 pub returns-in_default : goal.returns-in_default
-returns-in_default g c = rw c.refused.ensures (no_such_name (none_mapped _ _ _ c.in_default.is c.find.ensures) (record { names = refl; objects = λ q. refl; clients = refl; store = refl }))
+returns-in_default g c = rw c.refused.ensures (is_refused (no_such_name (none_mapped _ _ _ c.in_default.is c.find.ensures)) (record { names = refl; objects = λ q. refl; clients = refl; store = refl }))
 
 pub returns-in_default-property_named : goal.returns-in_default-property_named
 returns-in_default-property_named g c =
     let o = c.in-Some.object.now.state in
     let none : property_named o.of c.in-Some.sub c.args.prop.now ≡ None = ap (λ t. property_named t c.in-Some.sub c.args.prop.now) (sym c.of.ensures.value) ∙ sym c.property_named.ensures ∙ c.in_default-property_named.is in
-    rw c.refused-in_default-property_named.ensures (no_such_property (named_of o c.in-Some.sub) (sym c.in-Some.ensures) none (record { names = refl; objects = λ q. refl; clients = refl; store = refl }))
+    rw c.refused-in_default-property_named.ensures (is_refused (no_such_property (named_of o c.in-Some.sub) (sym c.in-Some.ensures) none) (record { names = refl; objects = λ q. refl; clients = refl; store = refl }))
 
 pub returns-in-None : goal.returns-in-None
 returns-in-None g c =

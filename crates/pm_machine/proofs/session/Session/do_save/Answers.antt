@@ -1,7 +1,7 @@
 -- The file of the object is written, whole or in part, or it is too long.
 use Rattle.std.proofs.Common.{Some, inr, refl, rules, subst, ◌∙◌, ◌≡◌}
 use Rattle.pm_filing.specs.FileReadings.{Reads}
-use Rattle.pm_machine.specs.Steps.{is_long, is_saved, store_failed}
+use Rattle.pm_machine.specs.Steps.{is_long, is_saved, store_failed, is_refused}
 use Rattle.pm_object.specs.State.{ObjectSeen}
 use Rattle.pm_store.specs.Files.{AreTold, IsPut, IsPutInPart}
 use Rattle.pm_store.specs.Outside.{Rose}
@@ -16,7 +16,7 @@ returns-then-len-gt-MOST_FILE_BYTES-clause-step g c =
     let named : option_map (λ (o : ObjectSeen). o.state) (get_by_text c.args.self.now.objects c.args.name.now) ≡ Some c.in-Some.object.now.state = search rules in
     let long : most_file_bytes < length c.in_ok-bytes.bytes.items = search rules in
     rw c.refused-then-len-gt-MOST_FILE_BYTES.ensures
-    (is_long c.in-Some.object.now.state named (subst (λ z. most_file_bytes < length z) c.in_ok-bytes.ensures.file long) (record { names = refl; objects = λ q. refl; clients = refl; store = refl }))
+    (is_refused (is_long c.in-Some.object.now.state named (subst (λ z. most_file_bytes < length z) c.in_ok-bytes.ensures.file long)) (record { names = refl; objects = λ q. refl; clients = refl; store = refl }))
 
 pub returns-in-Ok-clause-step : goal.returns-in-Ok-clause-step
 returns-in-Ok-clause-step g c =

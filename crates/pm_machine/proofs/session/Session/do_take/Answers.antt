@@ -4,7 +4,7 @@ use Rattle.std.specs.Option.{option_map}
 use Rattle.std.specs.Prelude.{None, [], string_bytes}
 use Rattle.pm_machine.proofs.Names.{named_of, no_part, stays_with, take_done, take_refused, take_unknown, written}
 use Rattle.pm_json.specs.Texts.{given_by}
-use Rattle.pm_machine.specs.Steps.{Taken, no_such_name, part_named, property_named}
+use Rattle.pm_machine.specs.Steps.{Taken, no_such_name, part_named, property_named, is_refused, no_property}
 use Rattle.pm_machine.proofs.session.Session.do_take.Goals as goal
 
 pub returns-in_default-property_named-clause-step : goal.returns-in_default-property_named-clause-step
@@ -52,4 +52,4 @@ returns-in_default-place_in-clause-step g c =
     let o = c.in-Some.object.now in
     let w = written c.args.self.now.objects (c.get_mut.follows.lender o) _ name o o c.as_str.ensures.value c.in-Some.ensures.value (c.get_mut.follows.holds o).1 (c.get_mut.follows.holds o).3 in
     let missing : part_named o.state (option_map string_bytes c.args.obj.now.sub) ≡ None = sym c.place_in.ensures.named ∙ ap (option_map (named_of o.state)) c.in_default-place_in.is in
-    rw c.refused-in_default-place_in.ensures (no_such_name (no_part w (option_map string_bytes c.args.obj.now.sub) [] missing) (stays_with w _ refl))
+    rw c.refused-in_default-place_in.ensures (is_refused (no_property (no_such_name (no_part w (option_map string_bytes c.args.obj.now.sub) [] missing))) (stays_with w _ refl))

@@ -11,24 +11,25 @@ use Rattle.pm_machine.specs.Building.{are_named}
 use Rattle.pm_making.specs.Rows.{row_of}
 use Rattle.pm_machine.specs.Sessions.{machine_of}
 use Rattle.pm_machine.proofs.session.Session.ensure_operands.Goals as goal
+use Rattle.pm_machine.specs.Machines.{shelf}
 
 pub ensure_all-requires : goal.ensure_all-requires
 ensure_all-requires g c =
     let m = machine_of c.args.self.now [] in
-    let named : are_named m (string_bytes c.in-One.name ∷ []) ≡ true = rw c.in-One.is at c.requires.named in
+    let named : are_named (shelf m) (string_bytes c.in-One.name ∷ []) ≡ true = rw c.in-One.is at c.requires.named in
     record { named = rw c.deref.ensures (and_parts (is_some (m.object (string_bytes c.in-One.name))) true named).0 }
 
 pub ensure_all-requires-in-Two : goal.ensure_all-requires-in-Two
 ensure_all-requires-in-Two g c =
     let m = machine_of c.args.self.now [] in
-    let named : are_named m (string_bytes c.in-Two.first ∷ string_bytes c.in-Two.second ∷ []) ≡ true = rw c.in-Two.is at c.requires.named in
-    record { named = rw c.deref-in-Two.ensures (and_parts (is_some (m.object (string_bytes c.in-Two.first))) (are_named m (string_bytes c.in-Two.second ∷ [])) named).0 }
+    let named : are_named (shelf m) (string_bytes c.in-Two.first ∷ string_bytes c.in-Two.second ∷ []) ≡ true = rw c.in-Two.is at c.requires.named in
+    record { named = rw c.deref-in-Two.ensures (and_parts (is_some (m.object (string_bytes c.in-Two.first))) (are_named (shelf m) (string_bytes c.in-Two.second ∷ [])) named).0 }
 
 pub ensure_all-requires-in-Two-2 : goal.ensure_all-requires-in-Two-2
 ensure_all-requires-in-Two-2 g c =
     let m = machine_of c.args.self.now [] in
-    let named : are_named m (string_bytes c.in-Two.first ∷ string_bytes c.in-Two.second ∷ []) ≡ true = rw c.in-Two.is at c.requires.named in
-    let second = (and_parts (is_some (m.object (string_bytes c.in-Two.first))) (are_named m (string_bytes c.in-Two.second ∷ [])) named).1 in
+    let named : are_named (shelf m) (string_bytes c.in-Two.first ∷ string_bytes c.in-Two.second ∷ []) ≡ true = rw c.in-Two.is at c.requires.named in
+    let second = (and_parts (is_some (m.object (string_bytes c.in-Two.first))) (are_named (shelf m) (string_bytes c.in-Two.second ∷ [])) named).1 in
     let t = rw c.in-Found.is at c.in_ok-ending-in-Two.ensures.ok in
     record { named = rw c.deref-in-Two-2.ensures (still_some _ _ t.rounds _ _ (string_bytes c.in-Two.second) t.ensured (and_parts (is_some (m.object (string_bytes c.in-Two.second))) true second).0) }
 
