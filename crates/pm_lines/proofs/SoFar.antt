@@ -3,7 +3,7 @@ use Rattle.std.proofs.Common.{◌≡◌, ℕ, ◌<◌, ◌≤◌, ◌+◌, true,
 use Rattle.std.proofs.Math.Seq.{take-add}
 use Rattle.std.proofs.lemmas.List.{drop-drop, take-append-drop}
 use Rattle.pm_lines.proofs.LineLaws.{clear_append, last_line, lines_at_break, lines_of-open, whole_of-open}
-use Rattle.pm_lines.specs.Coming.{Answers, BreaksOff, Ended, Exceeds, Gave, IsOver, ReaderSeen, Refilled}
+use Rattle.pm_lines.specs.Coming.{Answers, BreaksOff, Ended, Exceeds, Gave, IsOver, LetsGo, ReaderSeen, Refilled}
 use Rattle.pm_lines.specs.Whole.{HasNoBreak, whole_lines}
 use Rattle.pm_command.specs.Lines.{Line, lines_of}
 use Rattle.pm_store.specs.Outside.{IsAtEnd, Stays}
@@ -73,6 +73,16 @@ pub breaks_off : (all : List ℕ) (mid left : Option (List ℕ)) (old had new : 
 breaks_off all mid left old had new reads clear given stays same =
     let stayed : left ≡ Some (drop reads.n all) = rw reads.gave.others at stays in
     (reads.n, record { within = reads.gave.within; others = stayed; read = same ∙ reads.gave.read }, given_clear all mid old had reads clear given)
+
+-- memory ran out where what was given was to be added to the line
+pub lets_go : (all : List ℕ) (left : Option (List ℕ)) (old had new : ReaderSeen) → ReadsOn all left old had → HasNoBreak had.line.bytes → new.given ≡ had.given → new.read ≡ had.read → LetsGo all left old new
+lets_go all left old had new reads clear given read = record {
+  n = reads.n;
+  gone = had.line.bytes;
+  gave = record { within = reads.gave.within; others = reads.gave.others; read = read ∙ reads.gave.read };
+  clear = clear;
+  bytes = reads.bytes ∙ ap (λ (t : List ℕ). had.line.bytes ++ t) (sym given);
+}
 
 -- it gave a byte too many
 pub exceeds : (all : List ℕ) (mid left : Option (List ℕ)) (old had : ReaderSeen) → ReadsOn all mid old had → HasNoBreak had.line.bytes → HasNoBreak had.given
@@ -155,6 +165,11 @@ pub told_off : (o mid left : Option (List ℕ)) (old had new : ReaderSeen) → I
     → Stays mid left → new.read ≡ had.read → IfSome o (λ all. BreaksOff all left old new)
 told_off None mid left old had new reads clear given stays same = tt
 told_off (Some all) mid left old had new reads clear given stays same = breaks_off all mid left old had new reads clear given stays same
+
+pub told_lets_go : (o left : Option (List ℕ)) (old had new : ReaderSeen) → IfSome o (λ all. ReadsOn all left old had) → HasNoBreak had.line.bytes → new.given ≡ had.given → new.read ≡ had.read
+    → IfSome o (λ all. LetsGo all left old new)
+told_lets_go None left old had new reads clear given read = tt
+told_lets_go (Some all) left old had new reads clear given read = lets_go all left old had new reads clear given read
 
 pub told_exceeds : (o mid left : Option (List ℕ)) (old had : ReaderSeen) → IfSome o (λ all. ReadsOn all mid old had) → HasNoBreak had.line.bytes → HasNoBreak had.given
     → had.read ≡ most_script_bytes → IfSome mid (λ rest. (0 < length rest) × (left ≡ Some (drop 1 rest))) → IfSome o (λ all. Exceeds all left old)

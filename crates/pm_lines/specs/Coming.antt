@@ -50,6 +50,14 @@ BreaksOff all left old new = (n : ℕ) × Gave n all left old new × (whole_line
 abbrev pub Exceeds : List ℕ → Option (List ℕ) → ReaderSeen → Type 0
 Exceeds all left old = (n : ℕ) × (n < length all) × (left ≡ Some (drop (n + 1) all)) × (old.read + n ≡ most_script_bytes) × (whole_lines (old.given ++ take n all) ≡ [])
 
+-- Memory ran out: of the bytes that were given those before the ones at hand are gone, and none of them is an LF.
+pub record LetsGo (all : List ℕ) (left : Option (List ℕ)) (old new : ReaderSeen) : Type 0 where
+  pub n : ℕ
+  pub gone : List ℕ
+  pub gave : Gave n all left old new
+  pub clear : HasNoBreak gone
+  pub bytes : old.given ++ take n all ≡ gone ++ new.given
+
 -- Of all that the source had left, it gave some first bytes more, and nothing else was changed.
 pub record Refilled (all : List ℕ) (left : Option (List ℕ)) (old new : ReaderSeen) : Type 0 where
   pub some : 0 < length new.given

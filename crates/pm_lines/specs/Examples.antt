@@ -1,7 +1,7 @@
 -- Lines as they come, worked by hand: what holds, and what does not. 10 is LF.
 use Rattle.std.specs.Prelude.{◌≡◌, ℕ, true, false, List, [], ◌∷◌, Some}
 use Rattle.pm_command.specs.Lines.{Line}
-use Rattle.pm_lines.specs.Coming.{Answers, BreaksOff, Exceeds, IsOver, ReaderSeen, no_line}
+use Rattle.pm_lines.specs.Coming.{Answers, BreaksOff, Exceeds, IsOver, LetsGo, ReaderSeen, no_line}
 use Rattle.pm_lines.specs.Whole.{whole_lines}
 
 abbrev pub ended_line : List ℕ → Line
@@ -23,6 +23,13 @@ with_last = record { line = last_line (2 ∷ 3 ∷ []); given = []; read = 4; at
 abbrev pub cut_line : ReaderSeen
 cut_line = record { line = last_line (2 ∷ []); given = []; read = 3; at_end = true }
 
+-- one whose line was let go, with a byte given behind it, and one with none
+abbrev pub let_go : ReaderSeen
+let_go = record { line = no_line; given = 3 ∷ []; read = 4; at_end = false }
+
+abbrev pub with_nothing : ReaderSeen
+with_nothing = record { line = no_line; given = []; read = 4; at_end = false }
+
 pub record LinesAreWhole : Type 0 where
   pub none : whole_lines (1 ∷ 2 ∷ []) ≡ []
   pub one : whole_lines (1 ∷ 10 ∷ 2 ∷ []) ≡ ended_line (1 ∷ []) ∷ []
@@ -39,4 +46,7 @@ pub record LinesCome : Type 0 where
   -- a source that fails gave no LF, and none is too long that is short
   pub breaks : BreaksOff (3 ∷ 4 ∷ []) (Some (4 ∷ [])) with_line with_last
   pub breaks_late : ¬ (BreaksOff (10 ∷ 4 ∷ []) (Some (4 ∷ [])) with_line with_last)
+  -- where memory runs out what was given of the line is gone, and no LF is
+  pub lets_go : LetsGo (3 ∷ 4 ∷ []) (Some (4 ∷ [])) with_line let_go
+  pub keeps_breaks : ¬ (LetsGo (10 ∷ 4 ∷ []) (Some (4 ∷ [])) with_line with_nothing)
   pub short : ¬ (Exceeds (3 ∷ []) (Some []) fresh)

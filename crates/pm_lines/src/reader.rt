@@ -1,7 +1,7 @@
 // Lines as they come from a source.
 
-ghost use Rattle.std.specs.Prelude.{◌≡◌, ◌≢◌, ℕ, ◌+◌, ◌-◌, ◌<◌, ◌≤◌, ◌++◌, List, [], Ok, Some, true, false, not, IfOk, IfSome, OnOk, OnErr, IsErrOf, length, drop};
-ghost use Rattle.pm_lines.specs.Coming.{Answers, BreaksOff, Ended, Exceeds, IsOver, ReaderSeen, Refilled, most_ahead, no_line};
+ghost use Rattle.std.specs.Prelude.{◌≡◌, ◌≢◌, ℕ, ◌+◌, ◌-◌, ◌<◌, ◌≤◌, ◌++◌, List, [], Err, Ok, Some, true, false, not, IfOk, IfSome, OnOk, OnErr, IsErrOf, length, drop};
+ghost use Rattle.pm_lines.specs.Coming.{Answers, BreaksOff, Ended, Exceeds, IsOver, LetsGo, ReaderSeen, Refilled, most_ahead, no_line};
 ghost use Rattle.pm_lines.specs.Whole.{HasNoBreak, whole_lines};
 ghost use Rattle.pm_lines.specs.declared.reader.LinesFail.TheVariants.{Fault, Memory};
 ghost use Rattle.pm_store.specs.Outside.{IsAtEnd, Loses, Rose, Stays};
@@ -110,6 +110,7 @@ impl LineReader {
         ensures read { self.new.read ≡ self.old.read }
         ensures at_end { self.new.at_end ≡ self.old.at_end }
         ensures few { length self.new.given ≤ most_ahead }
+        ensures kept { OnErr result (self.new.given ≡ self.old.given) }
     {
         let bytes = self.chunk.bytes();
         let end = first_break(bytes);
@@ -138,6 +139,7 @@ impl LineReader {
         ensures too_long { IsErrOf result LinesFail.TooLong → self.old.read ≡ most_script_bytes }
         ensures over { IsErrOf result LinesFail.TooLong →
             IfSome (S.left source.old) (λ all. (0 < length all) × (S.left source.new ≡ Some (drop 1 all))) }
+        ensures needs_none { result ≢ Err LinesFail.Memory }
         ensures loses { Loses (S.left source.old) (S.left source.new) }
         ensures never_falls { S.faults source.old ≤ S.faults source.new }
     {
@@ -166,7 +168,8 @@ impl LineReader {
     ///
     /// A line that stands in what was given already is answered without a read.
     /// A line that an LF ended takes bytes of what was given, so its calls come to an end.
-    /// `Fault` comes where the source failed. After any error a line that is not whole is gone.
+    /// `Fault` comes where the source failed. After any error a line that is not whole is gone: after `Fault` and `TooLong`
+    /// all that was given, and where memory ran out what was given before the bytes that the next call goes on with.
     /// `TooLong` comes exactly where the source gave a byte after the first `MOST_SCRIPT_BYTES`, and no line of these is left
     /// that an LF ended.
     pub fn advance<S: Source>(&mut self, source: &mut S) -> Result<bool, LinesFail>
@@ -186,6 +189,10 @@ impl LineReader {
         ensures too_long { IsErrOf result LinesFail.TooLong →
             IfSome (S.left source.old) (λ all. Exceeds all (S.left source.new) self.old) }
         ensures full { IsErrOf result LinesFail.TooLong → self.new.read ≡ most_script_bytes }
+        ensures memory { IsErrOf result LinesFail.Memory →
+            IfSome (S.left source.old) (λ all. LetsGo all (S.left source.new) self.old self.new) }
+        ensures gone { OnErr result (result ≢ Err LinesFail.Memory → self.new.given ≡ []) }
+        ensures goes_on { OnErr result (self.new.at_end ≡ false) }
         ensures loses { Loses (S.left source.old) (S.left source.new) }
         ensures bound { self.new.read ≤ most_script_bytes }
         ensures few { length self.new.given ≤ most_ahead }
@@ -216,6 +223,7 @@ fn find_end<S: Source>(source: &mut S) -> Result<(), LinesFail>
     ensures fault { IsErrOf result LinesFail.Fault → Rose (S.faults source.old) (S.faults source.new) }
     ensures over { IsErrOf result LinesFail.TooLong →
         IfSome (S.left source.old) (λ all. (0 < length all) × (S.left source.new ≡ Some (drop 1 all))) }
+    ensures needs_none { result ≢ Err LinesFail.Memory }
     ensures loses { Loses (S.left source.old) (S.left source.new) }
     ensures never_falls { S.faults source.old ≤ S.faults source.new }
 {

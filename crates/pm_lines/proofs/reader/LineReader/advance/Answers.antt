@@ -1,11 +1,11 @@
 -- What was read so far, from the invariant, and what one step more makes of it.
-use Rattle.std.proofs.Common.{◌≡◌, ℕ, suc, ◌<◌, ◌+◌, List, [], ◌∷◌, ◌++◌, length, length-append, ap, subst, sym, ◌∙◌, arith, IsErrOf}
+use Rattle.std.proofs.Common.{◌≡◌, ℕ, suc, ◌<◌, ◌+◌, List, [], ◌∷◌, ◌++◌, length, length-append, ap, subst, sym, ◌∙◌, arith, Err, IsErrOf}
 use Rattle.std.proofs.lemmas.Result.{err_from_is_err_and}
 use Rattle.pm_lines.proofs.LineLaws.{clear_append, last_line}
-use Rattle.pm_lines.proofs.SoFar.{no_whole, told_ended, told_exceeds, told_last, told_more, told_off, told_over}
+use Rattle.pm_lines.proofs.SoFar.{no_whole, told_ended, told_exceeds, told_last, told_lets_go, told_more, told_off, told_over}
 use Rattle.pm_lines.specs.Coming.{ReaderSeen}
 use Rattle.pm_lines.specs.Whole.{HasNoBreak}
-use Rattle.pm_lines.specs.declared.reader.LinesFail.TheVariants.{Fault, TooLong}
+use Rattle.pm_lines.specs.declared.reader.LinesFail.TheVariants.{Fault, Memory, TooLong}
 use Rattle.pm_command.specs.Lines.{Line}
 use Rattle.pm_lines.proofs.reader.LineReader.advance.Goals as goal
 
@@ -33,6 +33,28 @@ returns-then-there-clause-shrinks g c there goes_on =
     ap length ended.1.given ∙ length-append ended.0 (10 ∷ c.take_line.new.self.given) in
     let read = c.in_ok-there.ensures.read in
     omega arith
+
+pub returns-in_err-there-clause-memory : goal.returns-in_err-there-clause-memory
+returns-in_err-there-clause-memory g c is =
+    let had = c.loop-there.invariant in
+    told_lets_go (g.S.Source.left c.args.source.now) (g.S.Source.left c.loop-there.source) c.args.self.now c.loop-there.self c.take_line.new.self
+    had.told had.clear c.in_err-there.ensures.kept c.in_err-there.ensures.read
+
+pub returns-in_err-there-clause-gone : goal.returns-in_err-there-clause-gone
+returns-in_err-there-clause-gone g c =
+    let p = err_from_is_err_and c.from_residual.result c.from_residual.ensures.1 in
+    let given = p.1 in
+    let same = p.2 in
+    rw p.1 (λ other. absurd (other (let e = same in cc)))
+
+pub returns-in_err-more-clause-memory : goal.returns-in_err-more-clause-memory
+returns-in_err-more-clause-memory g c is =
+    let p = err_from_is_err_and c.from_residual-in_err-more.result c.from_residual-in_err-more.ensures.1 in
+    let given = p.1 in
+    let same = p.2 in
+    let was = c.in_err-more.was in
+    let failed : c.refill.result ≡ Err Memory = cc in
+    absurd (c.refill.ensures.needs_none failed)
 
 pub returns-in_err-more-clause-ready : goal.returns-in_err-more-clause-ready
 returns-in_err-more-clause-ready g c some =
