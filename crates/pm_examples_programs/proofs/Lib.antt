@@ -1,2 +1,3 @@
 pub mod Objectives
 pub mod Programs
+pub mod Endless

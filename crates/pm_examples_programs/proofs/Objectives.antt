@@ -67,12 +67,16 @@ first_product : (n : ℤ) (x : Row) → dot (n ∷ []) x ≡ n *ℤ entry x 0
 first_product n [] = simp ring
 first_product n (a ∷ x) = omega (arith, ints)
 
-pub bound : (G : List Row) (c : Row) (v : Ratio) → T (products not_below (gap c v) G) → IsBound (InCone G []) c v
-bound G c v rows x h =
-    let p = dot_in (gap c v) G [] (λ g i. not_below_at (gap c v) i rows) (λ l i. elim i [ ]) h in
+-- no generator is negative on v - c, and each line vanishes on it
+pub bound_on : (G L : List Row) (c : Row) (v : Ratio) → T (products not_below (gap c v) G) → ((l : Row) → Among l L → dot (gap c v) l ≡ pos 0) → IsBound (InCone G L) c v
+bound_on G L c v rows lines x h =
+    let p = dot_in (gap c v) G L (λ g i. not_below_at (gap c v) i rows) lines h in
     let q : dot (gap c v) x ≡ v.num *ℤ entry x 0 +ℤ neg_ℤ (v.den *ℤ dot c x) =
     plus-dot (v.num ∷ []) (times (neg_ℤ v.den) c) x ∙ ap (λ z. z +ℤ dot (times (neg_ℤ v.den) c) x) (first_product v.num x) ∙ ap (λ z. v.num *ℤ entry x 0 +ℤ z) (times-dot (neg_ℤ v.den) c x ∙ neg-mul v.den (dot c x)) in
     omega (arith, ints)
+
+pub bound : (G : List Row) (c : Row) (v : Ratio) → T (products not_below (gap c v) G) → IsBound (InCone G []) c v
+bound G c v rows = bound_on G [] c v rows (λ l i. elim i [ ])
 
 pub not_exceeded : (S : Row → Type 0) (c : Row) (v : Ratio) → IsBound S c v → IsNotExceeded S (ratios c) v
 not_exceeded S c v f = record {

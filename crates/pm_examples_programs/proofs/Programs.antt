@@ -37,7 +37,7 @@ use lib.IntN.{negsuc, pos, ℤ, ◌*ℤ◌, ◌+ℤ◌}
 use lib.Signed.{lt_z_yes, ◌<ℤ◌, ◌≤ℤ◌}
 
 -- ---- no place, and none where there is no greatest value
-no_places : (c : List Ratio) (x : Extended) (V : List Row) → ((j : ℕ) → j < length V → ¬ (HasExtendedAt c x (ray V j))) → ArePlacesOfValue c x V []
+pub no_places : (c : List Ratio) (x : Extended) (V : List Row) → ((j : ℕ) → j < length V → ¬ (HasExtendedAt c x (ray V j))) → ArePlacesOfValue c x V []
 no_places c x V f = record {
   js = [];
   places = refl;
@@ -102,7 +102,7 @@ directions n G d xs f ascending = record {
   ascending = ascending;
 }
 
-alone : (x : Row) → AllPairs IsBefore (x ∷ [])
+pub alone : (x : Row) → AllPairs IsBefore (x ∷ [])
 alone x i j d l m = absurd (omega arith)
 
 pair_before : (x y : Row) → IsBefore x y → AllPairs IsBefore (x ∷ y ∷ [])
@@ -113,13 +113,13 @@ pair_before x y h = AllPairs_cons IsBefore x (y ∷ []) only (alone y)
     only z (there i) = elim i [ ]
 
 -- ---- the half line
-abbrev along : Row
+abbrev pub along : Row
 along = pair 0 1
 
 abbrev against : Row
 against = pos 0 ∷ negsuc 0 ∷ []
 
-without_end : IsWithoutBound (InCone half_line []) (ratios along)
+pub without_end : IsWithoutBound (InCone half_line []) (ratios along)
 without_end = record {
   k = pos 1;
   objective = along;
@@ -135,17 +135,18 @@ without_end = record {
   improves = lt_z_yes tt;
 }
 
-least_bound : IsBound (InCone half_line []) against (over_one (pos 0))
+pub least_bound : IsBound (InCone half_line []) against (over_one (pos 0))
 least_bound = bound half_line against (over_one (pos 0)) tt
 
-least_at_vertex : IsMaximum (InCone half_line []) (ratios against) (over_one (pos 0))
+pub least_at_vertex : IsMaximum (InCone half_line []) (ratios against) (over_one (pos 0))
 least_at_vertex = record {
   attained = attained (InCone half_line []) against (over_one (pos 0)) (pair 1 0) refl (in_generator (there here)) (lt_z_yes tt) (lt_z_yes tt) refl;
   greatest = not_exceeded (InCone half_line []) against (over_one (pos 0)) least_bound;
 }
 
-at_six : InCone half_line [] (pair 1 6)
-at_six = (half_line_is_read.cut (pair 1 6) refl).1 (omega (arith, ints), (omega (arith, ints), tt))
+-- the point k
+pub at_ray : (k : ℕ) → InCone half_line [] (pair 1 k)
+at_ray k = (half_line_is_read.cut (pair 1 k) refl).1 (omega (arith, ints), (omega (arith, ints), tt))
 
 half_line_vertex : ArePlacesOfValue (ratios against) (finite (over_one (pos 0))) half_line (pos 1 ∷ [])
 half_line_vertex = record {
@@ -160,7 +161,7 @@ half_line_vertex = record {
     only (suc zero) h = refl
     only (suc (suc j)) h = absurd (let l = h.0 in omega arith)
 
-along_facet : (x : Row) → Among x (along ∷ []) → IsFacetRow 2 half_line [] x × IsPrimitive x
+pub along_facet : (x : Row) → Among x (along ∷ []) → IsFacetRow 2 half_line [] x × IsPrimitive x
 along_facet x here = (among_All (λ a. IsFacetRow 2 half_line [] a) (here {xs = pair 1 0 ∷ []}) half_line_is_read.facets.each, primitive_by_one along 1 refl)
 along_facet x (there i) = elim i [ ]
 
@@ -183,7 +184,7 @@ finite_there P f (finite v) m p =
     f v l m.attained.positive p
 
 -- a row that vanishes on the half line is zero
-no_entries : (r : Row) → Vanishes 2 half_line [] r → r ≡ pair 0 0
+pub no_entries : (r : Row) → Vanishes 2 half_line [] r → r ≡ pair 0 0
 no_entries r h = by_two (λ y. dot y along ≡ pos 0 → dot y (pair 1 0) ≡ pos 0 → y ≡ pair 0 0) at r h.cols (h.holds along refl (in_generator here)) (h.holds (pair 1 0) refl (in_generator (there here)))
   where
     at : (a b : ℤ) → dot (a ∷ b ∷ []) along ≡ pos 0 → dot (a ∷ b ∷ []) (pair 1 0) ≡ pos 0 → a ∷ b ∷ [] ≡ pair 0 0
@@ -244,7 +245,7 @@ pub half_line_programs_are_read : HalfLineProgramsAreRead
 half_line_programs_are_read = record {
   greatest = without_end;
   not_below_all = λ h. h (pair 1 0) (in_generator (there here)) (lt_z_yes tt);
-  not_finite = λ m. (let e : pos 6 ≤ℤ pos 5 = at_least (InCone half_line []) along (over_one (pos 5)) (pair 1 6) m.greatest at_six (lt_z_yes tt) in omega (arith, ints));
+  not_finite = λ m. (let e : pos 6 ≤ℤ pos 5 = at_least (InCone half_line []) along (over_one (pos 5)) (pair 1 6) m.greatest (at_ray 6) (lt_z_yes tt) in omega (arith, ints));
   least = least_at_vertex;
   not_attained = λ m. (let e : pos 1 ≤ℤ pos 0 = at_most (InCone half_line []) against (over_one (pos 1)) (over_one (pos 0)) m.attained least_bound in omega (arith, ints));
   not_the_least = λ m. (let e : pos 0 ≤ℤ negsuc 0 = at_least (InCone half_line []) against (over_one (negsuc 0)) (pair 1 0) m.greatest (in_generator (there here)) (lt_z_yes tt) in omega (arith, ints));

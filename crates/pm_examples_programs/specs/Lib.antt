@@ -1,2 +1,4 @@
 pub mod Examples
 pub mod JsonExamples
+pub mod EndlessExamples
+pub mod FormExamples

@@ -3,6 +3,8 @@
 #![tactic(auto)]
 
 ghost use Rattle.pm_examples_programs.specs.JsonExamples.{MatricesAreRead, NumbersAreRead};
+ghost use Rattle.pm_examples_programs.specs.EndlessExamples.{EndlessProgramsAreRead, LineProgramsAreRead, ScaledDualsAreRead};
+ghost use Rattle.pm_examples_programs.specs.FormExamples.{FaultsAreRead, RowTestsAreRead, ValueFormsAreRead};
 ghost use Rattle.pm_examples_programs.specs.Examples.{ConstantProgramsAreRead, EmptyProgramsAreRead, FormsAreRead, FractionalProgramsAreRead, HalfLineProgramsAreRead, SquareDualsAreRead, SquareProgramsAreRead};
 
 /// What is right for a program on the empty polytope, and what is not.
@@ -48,4 +50,34 @@ pub fn example_matrices()
 /// Which JSON values are objectives and numbers, and which are not.
 pub fn example_numbers()
     ensures { NumbersAreRead }
+{}
+
+/// What is right for programs that fall without end, and for one that no direction improves, and what is not.
+pub fn example_endless_programs()
+    ensures { EndlessProgramsAreRead }
+{}
+
+/// What is right for a program on a line, modulo the rows that vanish there, and what is not.
+pub fn example_line_programs()
+    ensures { LineProgramsAreRead }
+{}
+
+/// Dual rows stand with their multipliers, and need not be primitive.
+pub fn example_scaled_duals()
+    ensures { ScaledDualsAreRead }
+{}
+
+/// Which sets, lattices, lists of numbers, whole numbers and truth values have the forms of their properties, and which have not.
+pub fn example_value_forms()
+    ensures { ValueFormsAreRead }
+{}
+
+/// Which rows pass the tests of rows, of polytopes, cones and fans, and which do not.
+pub fn example_row_tests()
+    ensures { RowTestsAreRead }
+{}
+
+/// Which fault a JSON value has, where an index is none, and where there are two faults.
+pub fn example_faults()
+    ensures { FaultsAreRead }
 {}
