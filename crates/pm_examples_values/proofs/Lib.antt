@@ -21,3 +21,4 @@ pub mod ThingExamples
 pub mod FanExamples
 pub mod PrismExamples
 mod PlacingExamples
+pub mod ConeExamples

@@ -1,6 +1,6 @@
 -- The prism over a triangle: its counts.
 use Rattle.pm_relations.proofs.Standing.{whole_objective}
-use Rattle.pm_vector.proofs.ConeLaws.{dot_in, in_cone_set, in_generator, none_from_zero, none_to_zero}
+use Rattle.pm_vector.proofs.ConeLaws.{in_cone_set, in_generator, none_from_zero, none_to_zero}
 use Rattle.pm_vector.proofs.Lists.{All_among, Among, all_at, here, there}
 use Rattle.pm_vector.proofs.Ring.{ring}
 use Rattle.pm_vector.proofs.RowLaws.{dot-nil, dot-same, dot_comm}
@@ -28,7 +28,7 @@ use Rattle.pm_types.specs.Values.{truth}
 use Rattle.std.proofs.Common.{T, ap, arith, inr, refl, sym, true≢false, ◌∙◌}
 use Rattle.std.proofs.lemmas.Int.{by_lt_z, ints}
 use Rattle.std.specs.List.{All}
-use Rattle.std.specs.Prelude.{Bool, List, [], false, length, map, true, ℕ, ◌++◌, ◌↔◌, ◌∷◌, ◌≡◌}
+use Rattle.std.specs.Prelude.{Bool, [], false, length, map, true, ◌++◌, ◌↔◌, ◌∷◌, ◌≡◌}
 use lib.IntN.{negsuc, pos, ℤ, ◌+ℤ◌, ◌-ℤ◌}
 use lib.Signed.{lt_z_yes}
 

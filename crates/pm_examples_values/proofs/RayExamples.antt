@@ -70,7 +70,7 @@ map_pos_is (i ∷ is) (j ∷ js) e = let r = map_pos_is is js cc in cc
 pub far_at : (js : List ℕ) (V : List Row) → AreFarPlaces V (map pos js) → (j : ℕ) → Contains js j ↔ ((j < length V) × (entry (ray V j) 0 ≡ pos 0))
 far_at js V h j = subst (λ is. Contains is j ↔ ((j < length V) × (entry (ray V j) 0 ≡ pos 0))) (sym (map_pos_is js h.js h.places)) (h.far j)
 
-far_ascending : (js : List ℕ) (V : List Row) → AreFarPlaces V (map pos js) → AllPairs (λ i j. i < j) js
+pub far_ascending : (js : List ℕ) (V : List Row) → AreFarPlaces V (map pos js) → AllPairs (λ i j. i < j) js
 far_ascending js V h = subst (λ is. AllPairs (λ i j. i < j) is) (sym (map_pos_is js h.js h.places)) h.ascending
 
 -- ---- the half line

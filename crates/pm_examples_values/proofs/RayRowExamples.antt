@@ -241,7 +241,7 @@ facet_rows_are_read = record {
 
 -- ---- bases
 -- a row that has the entry 2 somewhere is independent
-double_independent : (x : Row) (j : ℕ) → entry x j ≡ pos 2 → IsIndependent (x ∷ [])
+pub double_independent : (x : Row) (j : ℕ) → entry x j ≡ pos 2 → IsIndependent (x ∷ [])
 double_independent x j two [] z i l = refl
 double_independent x j two (k ∷ c) z zero l = half k (entry (combination c []) j) (simp (entry-plus, entry-times, two) at (z j)) (combination_none c j)
   where
@@ -249,7 +249,7 @@ double_independent x j two (k ∷ c) z zero l = half k (entry (combination c [])
     half k t e f = omega (arith, ints)
 double_independent x j two (k ∷ c) z (suc i) l = absurd (omega arith)
 
-one_of : (T : List Row) (x : Row) → InSpan T x → (r : Row) → Among r (x ∷ []) → InSpan T r
+pub one_of : (T : List Row) (x : Row) → InSpan T x → (r : Row) → Among r (x ∷ []) → InSpan T r
 one_of T x h r here = h
 one_of T x h r (there i) = elim i [ ]
 

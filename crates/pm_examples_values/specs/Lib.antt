@@ -10,3 +10,4 @@ pub mod ThingExamples
 pub mod FanExamples
 pub mod PrismExamples
 pub mod PlacingExamples
+pub mod ConeExamples

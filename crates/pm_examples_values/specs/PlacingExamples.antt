@@ -1,5 +1,5 @@
 -- Triangulations of the unit square as values of PLACING_TRIANGULATION: which are right.
-use Rattle.std.specs.Prelude.{List, [], ◌∷◌}
+use Rattle.std.specs.Prelude.{[], ◌∷◌}
 use Rattle.pm_examples_values.specs.RayExamples.{SquareHas}
 use Rattle.pm_laws_placing.specs.Examples.{lower, upper}
 use Rattle.pm_props.specs.declared.property.PropId.TheVariants.{PlacingTriangulation}

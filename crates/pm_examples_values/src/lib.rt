@@ -4,6 +4,7 @@
 
 ghost use Rattle.pm_examples_values.specs.BipyramidExamples.{BipyramidCountsAreRead};
 ghost use Rattle.pm_examples_values.specs.CanonicalExamples.{CanonicalLinesAreRead, CanonicalOrdersAreRead, CanonicalRowsAreRead, KindsAreFresh};
+ghost use Rattle.pm_examples_values.specs.ConeExamples.{ConeRowsAreRead, FanLinesAreRead, FarRaysAreRead};
 ghost use Rattle.pm_examples_values.specs.Examples.{EmptyDimensionsAreRead, SquareDimensionsAreRead, SquareSetsAreRead};
 ghost use Rattle.pm_examples_values.specs.FaceExamples.{EmptyFacesAreRead, HVectorsAreShort, LineFacesAreRead, SegmentCountsAreRead, SegmentFacesAreRead, SquareFacesAreRead};
 ghost use Rattle.pm_examples_values.specs.GraphExamples.{BipyramidGraphsAreRead, EmptyGraphsAreRead, LineGraphsAreRead, SegmentGraphsAreRead, SegmentNumbersAreRead, SquareGraphsAreRead};
@@ -238,4 +239,19 @@ pub fn example_simplicial_fans()
 /// What is right for PLACING_TRIANGULATION of the unit square, and what is not.
 pub fn example_triangulations()
     ensures { TriangulationsAreRead }
+{}
+
+/// What is right for the rays, facet rows, lineality and span of the half line and of a line as cones, and what is not.
+pub fn example_cone_rows()
+    ensures { ConeRowsAreRead }
+{}
+
+/// What is right for the lineality and the number of rays of a fan of two rays and of a line as a fan, and what is not.
+pub fn example_fan_lines()
+    ensures { FanLinesAreRead }
+{}
+
+/// The far rays of a quadrant, by their rising places.
+pub fn example_far_rays()
+    ensures { FarRaysAreRead }
 {}
