@@ -81,7 +81,7 @@ first_word word others said e =
     ]
 
 -- ---- the first item: a word, or an option and its value
-data FirstItem (words : List (List ℕ)) (said : WordsSeen) : Type 0 where
+pub data FirstItem (words : List (List ℕ)) (said : WordsSeen) : Type 0 where
   traces : (rest : List (List ℕ)) → words ≡ codes "--trace" ∷ rest → TraceBeside (words_of rest) said → FirstItem words said
   rules_joined : (name : List ℕ) (rest : List (List ℕ)) → words ≡ (codes "--rules=" ++ name) ∷ rest → RulesBeside name (words_of rest) said → FirstItem words said
   rules_apart : (name : List ℕ) (rest : List (List ℕ)) → words ≡ codes "--rules" ∷ name ∷ rest → RulesBeside name (words_of rest) said → FirstItem words said
@@ -104,7 +104,7 @@ demo_item word next rest said e = elim (cases_Bool (bytes_eq word (codes "--demo
       (first_word word (words_of (next ∷ rest)) said (sym (cond-false (bytes_eq word (codes "--demo")) (with_demo next (words_of rest)) (with_word word (words_of (next ∷ rest))) h) ∙ e))
 ]
 
-first_item : (word : List ℕ) (rest : List (List ℕ)) (said : WordsSeen) → words_of (word ∷ rest) ≡ Some said → FirstItem (word ∷ rest) said
+pub first_item : (word : List ℕ) (rest : List (List ℕ)) (said : WordsSeen) → words_of (word ∷ rest) ≡ Some said → FirstItem (word ∷ rest) said
 first_item word [] said e = item_of word [] said (first_word word (Some nothing_said) said e)
 first_item word (next ∷ rest) said e =
     let others = cond (bytes_eq word (codes "--demo")) (with_demo next (words_of rest)) (with_word word (words_of (next ∷ rest))) in

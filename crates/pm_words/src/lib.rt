@@ -3,6 +3,7 @@
 
 ghost use Rattle.std.specs.Prelude.{◌≡◌, Some, None, IfOk, IsErrOf, map, string_bytes};
 ghost use Rattle.pm_words.specs.Examples.{WordsSay, WordsSayNothing};
+ghost use Rattle.pm_words.specs.Order.{WordsAreOptions};
 ghost use Rattle.pm_words.specs.Spoken.{seen_spoken, seen_words};
 ghost use Rattle.pm_words.specs.Words.{words_of};
 ghost use Rattle.pm_words.specs.declared.WordsFail.TheVariants.{Memory};
@@ -62,7 +63,7 @@ fn owned(alloc: Global, said: Spoken<'_>) -> Result<Words, AllocError>
 }
 
 /// Reads the words after the program's name: `--trace`, `--rules NAME` or `--rules=NAME`, and `--demo N` or `--demo=N`,
-/// in any order, each at most once, where NAME is a file word and N one digit from 1 to 8.
+/// in any order, each at most once (`law_words_are_options`), where NAME is a file word and N one digit from 1 to 8.
 /// `BadWords` comes exactly where they are no such words.
 pub fn read_words(alloc: Global, words: &[String]) -> Result<Words, WordsFail>
     ensures said { IfOk result (λ w. words_of (map string_bytes words.now) ≡ Some (seen_words w)) }
@@ -79,6 +80,11 @@ pub fn read_words(alloc: Global, words: &[String]) -> Result<Words, WordsFail>
     let words = owned(alloc, said)?;
     Ok(words)
 }
+
+/// Words say what the three options say that they write, one after another in any order, each at most once.
+pub fn law_words_are_options()
+    ensures { WordsAreOptions }
+{}
 
 /// Words, worked by hand: what they say, and what no words of the program are.
 pub fn example_words()
