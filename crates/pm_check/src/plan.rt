@@ -15,7 +15,6 @@ use pm_props::{PropId, PropSet};
 use pm_rules::{Book, Rule, RuleId};
 use std::alloc::{AllocError, Global};
 use std::fmt::Write;
-use std::str;
 
 // Those of the properties that are in use.
 fn among(sub: Option<u8>, of: ObjectType, list: &[PropId]) -> PropSet
@@ -99,22 +98,6 @@ fn question(
     }))
 }
 
-// The number of the line that the byte after the first `len` is in, counted from 1.
-fn line_after(bytes: &[u8], len: usize) -> usize {
-    let ended = bytes.iter().take(len).filter(|b| **b == b'\n').count();
-    ended.saturating_add(1)
-}
-
-// The verdict on the bytes for what is asked; where they are no text, their first line that is none is not read.
-fn verdict(alloc: Global, book: &Book, q: &Question, bytes: &[u8]) -> Result<Verdict, AllocError>
-    ensures { IfOk result (Judges book.now q.now bytes.now) }
-{
-    match str::from_utf8(bytes) {
-        Ok(text) => check(alloc, book, q, text),
-        Err(fault) => Ok(Verdict::Unread(line_after(bytes, fault.valid_up_to()))),
-    }
-}
-
 // The line that tells the verdict.
 fn verdict_line(alloc: Global, verdict: Verdict) -> Result<String, AllocError>
     ensures { IfOk result (λ line. string_bytes line ≡ verdict_text verdict) }
@@ -151,6 +134,6 @@ pub(crate) fn plan_answer(
     let Some(q) = question(alloc, book.rules(), words)? else {
         return Ok(None);
     };
-    let verdict = verdict(alloc, book, &q, bytes)?;
+    let verdict = check(alloc, book, &q, bytes)?;
     Ok(Some((verdict_line(alloc, verdict)?, is_yes(verdict))))
 }

@@ -1,3 +1,12 @@
 pub mod Halves
 pub mod Chains
 pub mod Verdicts
+pub mod Plain
+pub mod Values
+pub mod Lines
+pub mod Unread
+pub mod Accepted
+pub mod Back
+pub mod Whole
+pub mod Tables
+pub mod Examples

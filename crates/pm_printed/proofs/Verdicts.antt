@@ -18,7 +18,7 @@ use Rattle.pm_cert.specs.Claims.{Stands, UpTo}
 use Rattle.pm_printed.specs.declared.judge.Verdict.{Verdict}
 use Rattle.pm_printed.specs.declared.question.Question.{Question}
 use Rattle.pm_printed.specs.Judging.Judges.{of_refusal}
-use Rattle.pm_printed.specs.Texts.{refusal_text}
+use Rattle.pm_printed.specs.Printed.{IsRefusalText}
 use Rattle.pm_printed.specs.Judging.{FallsAt, HeadStands, Judges, JudgesRefusal, ProvedPlansAreLeast, ProvedRefusalsExclude, ProvesNone, ProvesPlan, StopsAt, all_barred}
 
 some_same : {X : Type 0} (x y : X) → Some x ≡ Some y → x ≡ y
@@ -67,7 +67,7 @@ pub none_where_chain_stops : (book : List Rule) (q : Question) (weight : Cost) (
 none_where_chain_stops book q weight chain rows k stops h = stops.next (chain_front book q.names q.barred.items q.held (k + 1) chain h.leads.enabled)
 
 -- a verdict on what was read is one on the text
-pub refused : {E : Type 0} (r : Result Verdict E) (book : List Rule) (q : Question) (text : List ℕ) (told : List (RuleId × List ℕ)) (rows : List TableRow) → text ≡ refusal_text book told rows
+pub refused : {E : Type 0} (r : Result Verdict E) (book : List Rule) (q : Question) (text : List ℕ) (told : List (RuleId × List ℕ)) (rows : List TableRow) → IsRefusalText book text told rows
     → IfOk r (JudgesRefusal book q told rows) → IfOk r (Judges book q text)
 refused (Ok v) book q text told rows e h = of_refusal told rows e h
 refused (Err x) book q text told rows e h = tt

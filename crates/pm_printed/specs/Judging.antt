@@ -9,6 +9,7 @@ use Rattle.pm_rules.specs.declared.rule.Rule.{Rule}
 use Rattle.pm_rules.specs.declared.table.TableRow.{TableRow}
 use Rattle.pm_rules.specs.declared.table.Claim.{Claim}
 use Rattle.pm_rules.specs.declared.table.Claim.TheVariants.{Least, NoChain}
+use Rattle.pm_rules.specs.Books.{IsBook}
 use Rattle.pm_rules.specs.Chains.{IsChain, IsLeast, LeadsTo, HasNoChain, reached, weigh}
 use Rattle.pm_rules.specs.Certificates.{Within, IsCertificate}
 use Rattle.pm_cert.specs.Claims.{Stands, UpTo}
@@ -16,6 +17,7 @@ use Rattle.pm_printed.specs.declared.question.Question.{Question}
 use Rattle.pm_printed.specs.declared.judge.Verdict.{Verdict}
 use Rattle.pm_printed.specs.declared.judge.Verdict.TheVariants as verdict
 use Rattle.pm_printed.specs.Texts.{plan_text, refusal_text}
+use Rattle.pm_printed.specs.Printed.{IsPlan, IsPlanText, IsPrinted, IsRefusal, IsRefusalText, IsUnread}
 
 -- ---- what is proved
 -- the chain leads from the held names to the asked ones, it weighs as much as is said, and the table is a certificate that none weighs less
@@ -79,11 +81,13 @@ JudgesRefusal book q told rows (verdict.Fault n) = IsFaultOfRefusal book q told 
 JudgesRefusal book q told rows verdict.NoChain = ProvesNone book q told rows
 JudgesRefusal book q told rows (verdict.Unread n) = ⊥
 
--- the text is printed of a plan or of a refusal on which this is the verdict; nothing is said of a text that is not read
+-- the text is printed of a plan or of a refusal on which this is the verdict; or it is printed of neither, and this line is the first that is not read
 pub data Judges (book : List Rule) (q : Question) (text : List ℕ) : Verdict → Type 0 where
-  of_plan : {v : Verdict} (weight : Cost) (chain : List RuleId) (rows : List TableRow) → text ≡ plan_text book weight chain rows → JudgesPlan book q weight chain rows v → Judges book q text v
-  of_refusal : {v : Verdict} (told : List (RuleId × List ℕ)) (rows : List TableRow) → text ≡ refusal_text book told rows → JudgesRefusal book q told rows v → Judges book q text v
-  unread : (n : ℕ) → Judges book q text (verdict.Unread n)
+  of_plan : {v : Verdict} (weight : Cost) (chain : List RuleId) (rows : List TableRow) → IsPlanText book text weight chain rows
+      → JudgesPlan book q weight chain rows v → Judges book q text v
+  of_refusal : {v : Verdict} (told : List (RuleId × List ℕ)) (rows : List TableRow) → IsRefusalText book text told rows
+      → JudgesRefusal book q told rows v → Judges book q text v
+  unread : (n : ℕ) → (IsPrinted book text → ⊥) → IsUnread book text n → Judges book q text (verdict.Unread n)
 
 -- ---- laws
 -- a plan that proves itself least is least
@@ -95,3 +99,13 @@ ProvedPlansAreLeast = (book : List Rule) (q : Question) (weight : Cost) (chain :
 abbrev pub ProvedRefusalsExclude : Type 0
 ProvedRefusalsExclude = (book : List Rule) (q : Question) (told : List (RuleId × List ℕ)) (rows : List TableRow) → ProvesNone book q told rows
     → HasNoChain book q.names (all_barred q told) q.held q.asked
+
+-- A plan is read back as it was printed: no other plan and no refusal has its text, and it is not unread. So what is printed of a plan that proves itself least is found least.
+abbrev pub PrintedPlansAreAccepted : Type 0
+PrintedPlansAreAccepted = (book : List Rule) (q : Question) (weight : Cost) (chain : List RuleId) (rows : List TableRow) (v : Verdict) → IsBook book
+    → IsPlan book weight chain rows → ProvesPlan book q weight chain rows → Judges book q (plan_text book weight chain rows) v → v ≡ verdict.Least weight
+
+-- and what is printed of a refusal that proves it, that there is no chain
+abbrev pub PrintedRefusalsAreAccepted : Type 0
+PrintedRefusalsAreAccepted = (book : List Rule) (q : Question) (told : List (RuleId × List ℕ)) (rows : List TableRow) (v : Verdict) → IsBook book
+    → IsRefusal book told rows → ProvesNone book q told rows → Judges book q (refusal_text book told rows) v → v ≡ verdict.NoChain

@@ -108,7 +108,7 @@ fn judge_refusal(
 }
 
 /// What the text proves by the rules of the book.
-pub fn check(alloc: Global, book: &Book, q: &Question, text: &str) -> Result<Verdict, AllocError>
+pub fn check(alloc: Global, book: &Book, q: &Question, text: &[u8]) -> Result<Verdict, AllocError>
     ensures { IfOk result (Judges book.now q.now text.now) }
 {
     let rules = book.rules();

@@ -1,14 +1,14 @@
-// Plans and refusals, as they are printed.
+// The lines of plans and refusals, as they are printed.
 
-ghost use Rattle.std.specs.Prelude.{◌≡◌, ◌++◌, IfOk, OnOk, codes, drop, flat_map, map, string_bytes};
+ghost use Rattle.std.specs.Prelude.{◌≡◌, ◌++◌, OnOk, string_bytes};
 ghost use Rattle.pm_weights.specs.Weights.{cost_text};
 ghost use Rattle.pm_rules.specs.Rules.{rule_at};
-ghost use Rattle.pm_printed.specs.Texts.{barred_text, half_text, label_in, plan_text, refusal_text, row_text, rule_text, set_text, weight_in};
+ghost use Rattle.pm_printed.specs.Texts.{barred_line, half_text, head_line, label_in, row_line, rule_line, set_text, weight_in};
 ghost use Rattle.pm_printed.specs.Readings.{seen};
 
 use pm_props::PropSet;
 use pm_rules::{Cost, Rule, RuleId, TableRow};
-use std::alloc::{AllocError, Global};
+use std::alloc::AllocError;
 use std::fmt::Write;
 
 /// A barred rule, and why it is barred as it is told.
@@ -34,24 +34,13 @@ fn push_set(text: &mut String, set: PropSet) -> Result<(), AllocError>
     push_half(text, bits as u64)
 }
 
-// Writes the line of a row.
-fn push_row(text: &mut String, row: &TableRow) -> Result<(), AllocError>
-    ensures { OnOk result (string_bytes text.new ≡ string_bytes text.old ++ row_text row.now) }
+/// Writes the line of a row.
+pub(crate) fn push_row_line(text: &mut String, row: &TableRow) -> Result<(), AllocError>
+    ensures { OnOk result (string_bytes text.new ≡ string_bytes text.old ++ row_line row.now) }
 {
     let cost = row.cost;
     write!(text, "row {cost} ")?;
-    push_set(text, row.set)?;
-    text.push_str("\n")
-}
-
-// Writes the lines of a table.
-fn push_rows(text: &mut String, rows: &[TableRow]) -> Result<(), AllocError>
-    ensures { OnOk result (string_bytes text.new ≡ string_bytes text.old ++ flat_map row_text rows.now) }
-{
-    for row in rows {
-        push_row(text, row)?;
-    }
-    Ok(())
+    push_set(text, row.set)
 }
 
 // Writes the label of a rule.
@@ -77,76 +66,37 @@ fn push_weight(text: &mut String, rules: &[Rule], id: RuleId) -> Result<(), Allo
     }
 }
 
-// Writes the line of a rule of a chain.
-fn push_rule(text: &mut String, rules: &[Rule], id: RuleId) -> Result<(), AllocError>
-    ensures { OnOk result (string_bytes text.new ≡ string_bytes text.old ++ rule_text rules.now id) }
+/// Writes the line of a rule of a chain.
+pub(crate) fn push_rule_line(
+    text: &mut String,
+    rules: &[Rule],
+    id: RuleId,
+) -> Result<(), AllocError>
+    ensures { OnOk result (string_bytes text.new ≡ string_bytes text.old ++ rule_line rules.now id) }
 {
     text.push_str("rule ")?;
     push_label(text, rules, id)?;
     text.push_str(" ")?;
-    push_weight(text, rules, id)?;
-    text.push_str("\n")
+    push_weight(text, rules, id)
 }
 
-// Writes the lines of the rules of a chain.
-fn push_chain(text: &mut String, rules: &[Rule], chain: &[RuleId]) -> Result<(), AllocError>
-    ensures { OnOk result (string_bytes text.new ≡ string_bytes text.old ++ flat_map (rule_text rules.now) chain.now) }
-{
-    for id in chain {
-        push_rule(text, rules, *id)?;
-    }
-    Ok(())
-}
-
-// Writes the line of a barred rule.
-fn push_barred_rule(text: &mut String, rules: &[Rule], told: &Told) -> Result<(), AllocError>
-    ensures { OnOk result (string_bytes text.new ≡ string_bytes text.old ++ barred_text rules.now (seen told.now)) }
+/// Writes the line of a barred rule.
+pub(crate) fn push_barred_line(
+    text: &mut String,
+    rules: &[Rule],
+    told: &Told,
+) -> Result<(), AllocError>
+    ensures { OnOk result (string_bytes text.new ≡ string_bytes text.old ++ barred_line rules.now (seen told.now)) }
 {
     text.push_str("barred ")?;
     push_label(text, rules, told.rule)?;
     text.push_str(" ")?;
-    text.push_str(told.why.as_str())?;
-    text.push_str("\n")
+    text.push_str(told.why.as_str())
 }
 
-// Writes the lines of barred rules.
-fn push_barred(text: &mut String, rules: &[Rule], told: &[Told]) -> Result<(), AllocError>
-    ensures { OnOk result (string_bytes text.new ≡ string_bytes text.old ++ flat_map (barred_text rules.now) (map seen told.now)) }
+/// Writes the head of a plan.
+pub(crate) fn push_head_line(text: &mut String, weight: Cost) -> Result<(), AllocError>
+    ensures { OnOk result (string_bytes text.new ≡ string_bytes text.old ++ head_line weight) }
 {
-    for one in told {
-        push_barred_rule(text, rules, one)?;
-    }
-    Ok(())
-}
-
-/// A plan as it is printed.
-pub(crate) fn printed_plan(
-    alloc: Global,
-    rules: &[Rule],
-    weight: Cost,
-    chain: &[RuleId],
-    rows: &[TableRow],
-) -> Result<String, AllocError>
-    ensures { IfOk result (λ t. string_bytes t ≡ plan_text rules.now weight chain.now rows.now) }
-{
-    let mut text = String::new(alloc);
-    write!(text, "plan {weight}\n")?;
-    push_chain(&mut text, rules, chain)?;
-    push_rows(&mut text, rows)?;
-    Ok(text)
-}
-
-/// A refusal as it is printed.
-pub(crate) fn printed_refusal(
-    alloc: Global,
-    rules: &[Rule],
-    told: &[Told],
-    rows: &[TableRow],
-) -> Result<String, AllocError>
-    ensures { IfOk result (λ t. string_bytes t ≡ refusal_text rules.now (map seen told.now) rows.now) }
-{
-    let mut text = String::from_str(alloc, "no 10 NoChain\n")?;
-    push_barred(&mut text, rules, told)?;
-    push_rows(&mut text, rows)?;
-    Ok(text)
+    write!(text, "plan {weight}")
 }

@@ -1,11 +1,14 @@
-// Printed texts, read back. What is read is printed again, and taken only where that is the text.
+// Printed texts, read back line by line. What a line may say is printed again, and read only where that is the line.
 
-ghost use Rattle.std.specs.Prelude.{◌≤◌, IfOk, IfSome, length, string_bytes};
-ghost use Rattle.pm_limits.specs.Limits.{most_rules};
-ghost use Rattle.pm_printed.specs.Readings.{ReadAs};
+ghost use Rattle.std.specs.Prelude.{◌≡◌, ◌≤◌, ◌<◌, ◌∷◌, ◌++◌, ◌^◌, IfOk, IfNone, IfSome, MatchOption, length, map};
+ghost use Rattle.pm_rules.specs.Books.{IsBook};
+ghost use Rattle.pm_printed.specs.Printed.{BeginsNone, BeginsNoRefusal, IsBarred, IsCost, IsOfBook, IsPlan, IsRefusal, IsRow, IsUnread};
+ghost use Rattle.pm_printed.specs.Readings.{ReadAs, ReadsAll, seen};
+ghost use Rattle.pm_printed.specs.Texts.{barred_text, head_text, refused_text, row_text, rule_text};
 
-use crate::print::{Told, printed_plan, printed_refusal};
-use pm_props::{PropId, PropSet};
+use crate::cut::{cut_line, is_refused_line};
+use crate::line::{barred_of, head_of, row_of, rule_of};
+use crate::print::Told;
 use pm_rules::{Cost, Rule, RuleId, TableRow};
 use std::alloc::{AllocError, Global};
 
@@ -27,213 +30,184 @@ pub(crate) enum Reading {
     Unread(usize),
 }
 
-// What the lines behind the first say, as far as they are read.
-#[derive(Drop)]
-struct Lines {
-    chain: Vec<RuleId>,
-    told: Vec<Told>,
-    rows: Vec<TableRow>,
-}
-
-// The cost that a text spells.
-fn cost_of(text: &str) -> Option<Cost> {
-    match text.split_once('.') {
-        None => Some(Cost {
-            class: 0,
-            minor: text.parse::<u64>().ok()?,
-        }),
-        Some((class, minor)) => Some(Cost {
-            class: class.parse::<u64>().ok()?,
-            minor: minor.parse::<u64>().ok()?,
-        }),
-    }
-}
-
-// Whether the bit of the property is set.
-fn has_bit(bits: u64, p: PropId) -> bool {
-    (u128::from(bits) >> p.number()) & 1 == 1
-}
-
-// The set whose bits hexadecimal digits spell.
-fn set_of(text: &str) -> Option<PropSet> {
-    let bits = u64::from_str_radix(text, 16).ok()?;
-    let mut set = PropSet::empty();
-    for p in &PropId::every() {
-        if has_bit(bits, *p) {
-            set = set.with(*p);
-        }
-    }
-    Some(set)
-}
-
-// The row that a line spells, behind its first word.
-fn row_of(text: &str) -> Option<TableRow> {
-    let (cost, set) = text.split_once(' ')?;
-    Some(TableRow {
-        set: set_of(set)?,
-        cost: cost_of(cost)?,
-    })
-}
-
-// The first rule of this label.
-fn rule_labelled(rules: &[Rule], label: &str) -> Option<RuleId>
-    requires { length rules.now ≤ most_rules }
+// The row that the text begins with, and what is behind its line.
+fn next_row<'a>(alloc: Global, text: &'a [u8]) -> Result<Option<(TableRow, &'a [u8])>, AllocError>
+    ensures some { IfOk result (λ r. IfSome r (λ x. IsRow x.0 × (text.now ≡ row_text x.0 ++ x.1.now))) }
+    ensures none { IfOk result (λ r. IfNone r (BeginsNone IsRow row_text text.now)) }
+    ensures shorter { IfOk result (λ r. IfSome r (λ x. length x.1.now < length text.now)) }
 {
-    for (i, rule) in rules.iter().enumerate() {
-        if rule.label.as_bytes() == label.as_bytes() {
-            return Some(RuleId(i as u16));
-        }
-    }
-    None
-}
-
-impl Lines {
-    // Reads one line more; says whether it was read.
-    fn read(&mut self, alloc: Global, rules: &[Rule], line: &str) -> Result<bool, AllocError>
-        requires { length rules.now ≤ most_rules }
-    {
-        if let Some(text) = line.strip_prefix("row ") {
-            self.read_row(text)
-        } else if let Some(text) = line.strip_prefix("rule ") {
-            self.read_rule(rules, text)
-        } else if let Some(text) = line.strip_prefix("barred ") {
-            self.read_barred(alloc, rules, text)
-        } else {
-            Ok(false)
-        }
-    }
-
-    // Reads a row.
-    fn read_row(&mut self, text: &str) -> Result<bool, AllocError> {
-        let Some(row) = row_of(text) else {
-            return Ok(false);
-        };
-        self.rows.push(row)?;
-        Ok(true)
-    }
-
-    // Reads a rule of a chain.
-    fn read_rule(&mut self, rules: &[Rule], text: &str) -> Result<bool, AllocError>
-        requires { length rules.now ≤ most_rules }
-    {
-        let Some((label, _)) = text.split_once(' ') else {
-            return Ok(false);
-        };
-        let Some(id) = rule_labelled(rules, label) else {
-            return Ok(false);
-        };
-        self.chain.push(id)?;
-        Ok(true)
-    }
-
-    // Reads a barred rule.
-    fn read_barred(&mut self, alloc: Global, rules: &[Rule], text: &str) -> Result<bool, AllocError>
-        requires { length rules.now ≤ most_rules }
-    {
-        let Some((label, why)) = text.split_once(' ') else {
-            return Ok(false);
-        };
-        let Some(rule) = rule_labelled(rules, label) else {
-            return Ok(false);
-        };
-        let why = String::from_str(alloc, why)?;
-        self.told.push(Told { rule, why })?;
-        Ok(true)
-    }
-}
-
-// The number of the line in which the texts differ first.
-fn first_difference(text: &[u8], other: &[u8]) -> usize {
-    let mut line = 1usize;
-    for (a, b) in text.iter().zip(other) {
-        if *a != *b {
-            return line;
-        }
-        if *a == b'\n' {
-            line = line.saturating_add(1);
-        }
-    }
-    line
-}
-
-// What the first line says, with the lines that were read.
-fn reading_of(head: &str, lines: Lines) -> Reading {
-    let Lines { chain, told, rows } = lines;
-    if head == "no 10 NoChain" {
-        return Reading::NoChain { told, rows };
-    }
-    let Some(text) = head.strip_prefix("plan ") else {
-        return Reading::Unread(1);
+    let Some((line, behind)) = cut_line(text) else {
+        return Ok(None);
     };
-    match cost_of(text) {
-        Some(weight) => Reading::Plan {
+    let Some(row) = row_of(alloc, line)? else {
+        return Ok(None);
+    };
+    Ok(Some((row, behind)))
+}
+
+// The rows that the text begins with, and what is behind their lines.
+fn rows_of<'a>(alloc: Global, text: &'a [u8]) -> Result<(Vec<TableRow>, &'a [u8]), AllocError>
+    ensures { IfOk result (λ r. ReadsAll IsRow row_text text.now r.0.items r.1.now) }
+{
+    let mut rows = Vec::new(alloc);
+    let mut rest = text;
+    loop {
+        match next_row(alloc, rest) {
+            Ok(Some((row, behind))) => {
+                rows.push(row)?;
+                rest = behind;
+            }
+            Ok(None) => return Ok((rows, rest)),
+            Err(e) => return Err(e),
+        }
+    }
+}
+
+// The rule that the text begins with, and what is behind its line.
+fn next_rule<'a>(
+    alloc: Global,
+    rules: &[Rule],
+    text: &'a [u8],
+) -> Result<Option<(RuleId, &'a [u8])>, AllocError>
+    requires { IsBook rules.now }
+    ensures some { IfOk result (λ r. IfSome r (λ x. IsOfBook rules.now x.0 × (text.now ≡ rule_text rules.now x.0 ++ x.1.now))) }
+    ensures none { IfOk result (λ r. IfNone r (BeginsNone (IsOfBook rules.now) (rule_text rules.now) text.now)) }
+    ensures shorter { IfOk result (λ r. IfSome r (λ x. length x.1.now < length text.now)) }
+{
+    let Some((line, behind)) = cut_line(text) else {
+        return Ok(None);
+    };
+    let Some(id) = rule_of(alloc, rules, line)? else {
+        return Ok(None);
+    };
+    Ok(Some((id, behind)))
+}
+
+// The rules that the text begins with, and what is behind their lines.
+fn rules_of<'a>(
+    alloc: Global,
+    rules: &[Rule],
+    text: &'a [u8],
+) -> Result<(Vec<RuleId>, &'a [u8]), AllocError>
+    requires { IsBook rules.now }
+    ensures { IfOk result (λ r. ReadsAll (IsOfBook rules.now) (rule_text rules.now) text.now r.0.items r.1.now) }
+{
+    let mut chain = Vec::new(alloc);
+    let mut rest = text;
+    loop {
+        match next_rule(alloc, rules, rest) {
+            Ok(Some((id, behind))) => {
+                chain.push(id)?;
+                rest = behind;
+            }
+            Ok(None) => return Ok((chain, rest)),
+            Err(e) => return Err(e),
+        }
+    }
+}
+
+// The barred rule that the text begins with, and what is behind its line.
+fn next_barred<'a>(
+    alloc: Global,
+    rules: &[Rule],
+    text: &'a [u8],
+) -> Result<Option<(Told, &'a [u8])>, AllocError>
+    requires { IsBook rules.now }
+    ensures some { IfOk result (λ r. IfSome r (λ x. IsBarred rules.now (seen x.0)
+        × (text.now ≡ barred_text rules.now (seen x.0) ++ x.1.now))) }
+    ensures none { IfOk result (λ r. IfNone r (BeginsNone (IsBarred rules.now) (barred_text rules.now) text.now)) }
+    ensures shorter { IfOk result (λ r. IfSome r (λ x. length x.1.now < length text.now)) }
+{
+    let Some((line, behind)) = cut_line(text) else {
+        return Ok(None);
+    };
+    let Some(told) = barred_of(alloc, rules, line)? else {
+        return Ok(None);
+    };
+    Ok(Some((told, behind)))
+}
+
+// The barred rules that the text begins with, and what is behind their lines.
+fn all_barred_of<'a>(
+    alloc: Global,
+    rules: &[Rule],
+    text: &'a [u8],
+) -> Result<(Vec<Told>, &'a [u8]), AllocError>
+    requires { IsBook rules.now }
+    ensures { IfOk result (λ r. ReadsAll (IsBarred rules.now) (barred_text rules.now) text.now (map seen r.0.items) r.1.now) }
+{
+    let mut told = Vec::new(alloc);
+    let mut rest = text;
+    loop {
+        match next_barred(alloc, rules, rest) {
+            Ok(Some((one, behind))) => {
+                told.push(one)?;
+                rest = behind;
+            }
+            Ok(None) => return Ok((told, rest)),
+            Err(e) => return Err(e),
+        }
+    }
+}
+
+// A plan of this weight whose other lines the text has.
+fn plan_of(alloc: Global, rules: &[Rule], weight: Cost, text: &[u8]) -> Result<Reading, AllocError>
+    requires book { IsBook rules.now }
+    requires cost { IsCost weight }
+    ensures { IfOk result (ReadAs rules.now (head_text weight ++ text.now)) }
+{
+    let (chain, behind) = match rules_of(alloc, rules, text) {
+        Ok(found) => found,
+        Err(e) => return Err(e),
+    };
+    let (rows, rest) = match rows_of(alloc, behind) {
+        Ok(found) => found,
+        Err(e) => return Err(e),
+    };
+    if rest.is_empty() {
+        Ok(Reading::Plan {
             weight,
             chain,
             rows,
-        },
-        None => Reading::Unread(1),
+        })
+    } else {
+        Ok(Reading::Unread(2 + chain.len() + rows.len()))
     }
 }
 
-// What the text may be printed of.
-fn guessed(alloc: Global, rules: &[Rule], text: &str) -> Result<Reading, AllocError>
-    requires { length rules.now ≤ most_rules }
+// A refusal whose other lines the text has.
+fn refusal_of(alloc: Global, rules: &[Rule], text: &[u8]) -> Result<Reading, AllocError>
+    requires { IsBook rules.now }
+    ensures { IfOk result (ReadAs rules.now (refused_text ++ text.now)) }
 {
-    let mut lines = Lines {
-        chain: Vec::new(alloc),
-        told: Vec::new(alloc),
-        rows: Vec::new(alloc),
+    let (told, behind) = match all_barred_of(alloc, rules, text) {
+        Ok(found) => found,
+        Err(e) => return Err(e),
     };
-    let mut behind = text.lines();
-    let Some(head) = behind.next() else {
-        return Ok(Reading::Unread(1));
+    let (rows, rest) = match rows_of(alloc, behind) {
+        Ok(found) => found,
+        Err(e) => return Err(e),
     };
-    let mut number = 1usize;
-    for line in behind {
-        number = number.saturating_add(1);
-        if !lines.read(alloc, rules, line)? {
-            return Ok(Reading::Unread(number));
-        }
-    }
-    Ok(reading_of(head, lines))
-}
-
-// The text that is printed of what was read; none where nothing was.
-fn printed(alloc: Global, rules: &[Rule], reading: &Reading) -> Result<Option<String>, AllocError>
-    ensures { IfOk result (λ t. IfSome t (λ s. ReadAs rules.now (string_bytes s) reading.now)) }
-{
-    match reading {
-        Reading::Plan {
-            weight,
-            chain,
-            rows,
-        } => { Ok(Some(printed_plan(alloc, rules, *weight, chain, rows)?)) }
-        Reading::NoChain { told, rows } => Ok(Some(printed_refusal(alloc, rules, told, rows)?)),
-        Reading::Unread(_) => Ok(None),
+    if rest.is_empty() {
+        Ok(Reading::NoChain { told, rows })
+    } else {
+        Ok(Reading::Unread(2 + told.len() + rows.len()))
     }
 }
 
 /// What the text is printed of, or the first line that is not read.
-pub(crate) fn read(alloc: Global, rules: &[Rule], text: &str) -> Result<Reading, AllocError>
-    requires { length rules.now ≤ most_rules }
+pub(crate) fn read(alloc: Global, rules: &[Rule], text: &[u8]) -> Result<Reading, AllocError>
+    requires { IsBook rules.now }
     ensures { IfOk result (ReadAs rules.now text.now) }
 {
-    let reading = guessed(alloc, rules, text)?;
-    let Some(again) = printed(alloc, rules, &reading)? else {
-        return Ok(Reading::Unread(unread_line(&reading)));
+    let Some((line, behind)) = cut_line(text) else {
+        return Ok(Reading::Unread(1));
     };
-    if again.as_str() == text {
-        Ok(reading)
-    } else {
-        Ok(Reading::Unread(first_difference(text.as_bytes(), again.as_bytes())))
+    if is_refused_line(line) {
+        return refusal_of(alloc, rules, behind);
     }
-}
-
-// The number of the line that was not read, if one was not.
-fn unread_line(reading: &Reading) -> usize {
-    match reading {
-        Reading::Plan { .. } => 1,
-        Reading::NoChain { .. } => 1,
-        Reading::Unread(line) => *line,
+    match head_of(alloc, line)? {
+        Some(weight) => plan_of(alloc, rules, weight, behind),
+        None => Ok(Reading::Unread(1)),
     }
 }

@@ -1,0 +1,7 @@
+-- No LF so far.
+use Rattle.std.proofs.Common.{◌≢◌, ◌<◌, ℕ}
+use Rattle.std.specs.Prelude.{slice_index}
+use Rattle.pm_printed.proofs.cut.cut_line.Given as goal
+
+abbrev pub invariant-loop-i : goal.invariant-loop-i
+invariant-loop-i l = (k : ℕ) → k < l.i → slice_index l.text k ≢ 10
