@@ -94,6 +94,7 @@ def lines(runs, own):
 def limits(runs, own):
     check_limits.check_facets(runs)
     check_limits.check_cells(runs)
+    check_limits.check_sites(runs)
     check_limits.check_refined(runs)
     check_limits.check_cube(own, runs, 600)
     check_limits.check_built(runs)

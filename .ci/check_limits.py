@@ -88,6 +88,27 @@ def check_cells(runs):
     runs.wants((lines[-1].count('[') - 1, lines[-1][-13:]), (2048, f',{{"cols":{54 + 38}}}]'), f'{script.name}: 2,048 cells')
 
 
+def check_sites(runs):
+    """Sites and heights are at most 2,048. Of 2,047 sites on a line the lifted rows have 2,046 lower facets and two upright ones; with one site more these are too many."""
+    def sites(count):
+        return spelled([[1, k] for k in range(count)])
+    script = Script('sites')
+    script.says('new p Polytope')
+    script.says(f'take p SITES {sites(2049)}', 'no 6 BadValue limit')
+    script.says(f'take p SITE_HEIGHTS {spelled([0] * 2049)}', 'no 6 BadValue limit')
+    script.says(f'take p SITES {sites(2048)}')
+    script.says(f'take p SITE_HEIGHTS {spelled([0] * 2047)}', 'no 6 BadValue columns')
+    script.says(f'take p SITE_HEIGHTS {spelled([0] * 2048)}')
+    script.gives('p', 'REGULAR_CELLS', spelled([list(range(2048))])[:-1] + ',{"cols":2048}]')
+    script.says('ensure p DELAUNAY_CELLS', 'no 10 NoChain')
+    script.wanted.append('round 45: delaunay -> failed delaunay E5')
+    script.says('new q Polytope')
+    script.says(f'take q SITES {sites(2047)}')
+    script.gives('q', 'DELAUNAY_CELLS', spelled([[k, k + 1] for k in range(2046)])[:-1] + ',{"cols":2047}]')
+    status, wrote = runs.run('\n'.join(script.commands) + '\n', script.words, script.files)
+    runs.wants((status, wrote.decode().split('\n')[:-1]), (1, script.wanted), f'{script.name}: {wrote[-80:]}')
+
+
 def wheel(count, at):
     """A complete fan of so many cones over a plane of four dimensions, whose other two are its lineality."""
     turns = [2 * pi * k / count for k in range(count)]

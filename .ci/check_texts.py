@@ -72,15 +72,18 @@ def spelled_matrix(random, rows):
 
 def random_value(random, name):
     """A value of a property of a polytope in the plane, as it may be given, and as it is written."""
-    if name in ('POINTS', 'VERTICES', 'INPUT_LINEALITY', 'LINEALITY_SPACE', 'INEQUALITIES', 'EQUATIONS', 'FACETS', 'AFFINE_HULL'):
-        first = {'POINTS': 1, 'VERTICES': 1, 'INPUT_LINEALITY': 0, 'LINEALITY_SPACE': 0}.get(name, random.randint(-2, 2))
+    if name in ('POINTS', 'VERTICES', 'INPUT_LINEALITY', 'LINEALITY_SPACE', 'INEQUALITIES', 'EQUATIONS', 'FACETS', 'AFFINE_HULL', 'SITES'):
+        first = {'POINTS': 1, 'VERTICES': 1, 'SITES': 1, 'INPUT_LINEALITY': 0, 'LINEALITY_SPACE': 0}.get(name, random.randint(-2, 2))
         rows = [[Fraction(first)] + [Fraction(random.randint(-9, 9), random.randint(1, 9)) for _ in range(2)] for _ in range(random.randint(0, 4))]
         rows = [row for row in rows if any(row)]
         return spelled_matrix(random, rows), fractions_spelled(rows)
-    if name in ('VERTICES_IN_FACETS', 'PLACING_TRIANGULATION'):
+    if name in ('VERTICES_IN_FACETS', 'PLACING_TRIANGULATION', 'REGULAR_CELLS', 'DELAUNAY_CELLS'):
         sets = [random.sample(range(6), random.randint(0, 4)) for _ in range(random.randint(0, 4))]
         count = random.choice([6, 9, max((i + 1 for one in sets for i in one), default=0)])
         return sets_spelled(sets, count), sets_spelled([sorted(one) for one in sets], count)
+    if name == 'SITE_HEIGHTS':
+        heights = [Fraction(random.randint(-9, 9), random.randint(1, 9)) for _ in range(random.randint(0, 5))]
+        return spelled_matrix(random, [heights])[1:-1], fractions_spelled([heights])[1:-1]
     if name == 'F2_VECTOR':
         rows = [[Fraction(random.randint(0, 99)) for _ in range(3)] for _ in range(3)]
         return spelled_matrix(random, rows), fractions_spelled(rows)
@@ -136,7 +139,7 @@ def check_json(random, runs, count):
 
 OF_CONES = {'POINTS': 'INPUT_RAYS', 'VERTICES': 'RAYS', 'N_VERTICES': 'N_RAYS', 'AFFINE_HULL': 'LINEAR_SPAN', 'VERTICES_IN_FACETS': 'RAYS_IN_FACETS',
             'VERTEX_SIZES': 'RAY_SIZES', 'VERTEX_DEGREES': 'RAY_DEGREES'}
-OF_POLYTOPES = {'FEASIBLE', 'BOUNDED', 'CENTERED', 'H_VECTOR', 'FAR_FACE'}
+OF_POLYTOPES = {'FEASIBLE', 'BOUNDED', 'CENTERED', 'H_VECTOR', 'FAR_FACE', 'SITES', 'SITE_HEIGHTS', 'REGULAR_CELLS', 'DELAUNAY_CELLS'}
 FANS = {'FAN_AMBIENT_DIM', 'RAYS', 'LINEALITY_SPACE', 'LINEALITY_DIM', 'N_RAYS', 'POINTED', 'SIMPLICIAL'} | OF_FANS
 
 
@@ -197,7 +200,7 @@ def check_words_of_program(runs):
         status, wrote = runs.run(script, words.split(), files)
         lines = wrote.decode().split('\n')
         if demo is None:
-            runs.wants((status, lines[0]), (0, 'rules 1' if has_book else 'rules 63'), f'the words {words}')
+            runs.wants((status, lines[0]), (0, 'rules 1' if has_book else 'rules 65'), f'the words {words}')
         else:
             # with a book of one rule the vertices of the demo are not found
             runs.wants(f'a N_VERTICES {2 ** demo}' in lines, not has_book, f'the words {words}')
@@ -264,6 +267,10 @@ def check_files(random, runs, count):
         extra = random.sample([('N_POINTS', '3'), ('VERTEX_LABELS', '["a","b"]'), ('_ns', '{"polymake":["https://polymake.org","4.11"]}'), ('_info', '[1]'), ('ZZ', 'null')], random.randint(0, 3))
         over = sorted(key for key, _ in extra if key[0] != '_')
         text = file_text(random, [(name, given) for name, (given, _) in values.items()], extra)
+        if len({len(json.loads(written[name])) for name in ('SITES', 'SITE_HEIGHTS') if name in written}) == 2:
+            status, wrote = runs.run('load p first\n', files={'first': text})
+            runs.wants((status, wrote.decode()), (1, 'no 13 BadFile BadRow SITE_HEIGHTS\n'), f'file {place}: {text}')
+            continue
         wanted = 'ok' + ''.join(' ' + key for key in (['ignored'] + over if over else [])) + '\nok\nok\nok\n'
         status, wrote = runs.run('load p first\nsave p second\nload q second\nsave q third\n', files={'first': text})
         runs.wants((status, wrote.decode()), (0, wanted), f'file {place}: {text}')
@@ -273,7 +280,7 @@ def check_files(random, runs, count):
             runs.wants(runs.file('third'), runs.file('second'), f'file {place}: as it is saved again')
 
 
-MATRICES = ('POINTS', 'INPUT_LINEALITY', 'INEQUALITIES', 'EQUATIONS', 'VERTICES', 'LINEALITY_SPACE', 'FACETS', 'AFFINE_HULL')
+MATRICES = ('POINTS', 'INPUT_LINEALITY', 'INEQUALITIES', 'EQUATIONS', 'VERTICES', 'LINEALITY_SPACE', 'FACETS', 'AFFINE_HULL', 'SITES')
 
 
 def settled(values):

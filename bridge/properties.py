@@ -102,6 +102,10 @@ PROPERTIES = (
     of_fans("FAN_DIM", Kind.WHOLE),
     of_fans("PURE", Kind.TRUTH),
     here("PLACING_TRIANGULATION", Kind.SETS),
+    named("SITES", Kind.MATRIX, is_of_polymake=False),
+    named("SITE_HEIGHTS", Kind.ROW, is_of_polymake=False),
+    named("REGULAR_CELLS", Kind.SETS, is_of_polymake=False),
+    named("DELAUNAY_CELLS", Kind.SETS, is_of_polymake=False),
 )
 
 # The properties of a linear program: their kinds, and whether polymake's files hold them.

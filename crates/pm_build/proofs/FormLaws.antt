@@ -15,7 +15,7 @@ use Rattle.pm_object_type.specs.declared.object_type.ObjectType.TheVariants.{Pol
 use Rattle.pm_props.specs.declared.property.PropId.TheVariants.{Equations, Inequalities, InputLineality, Points}
 use Rattle.pm_props.specs.declared.property.PropId.{PropId}
 use Rattle.pm_types.proofs.WholeRows.{ratios_fractions, ratios_primitive}
-use Rattle.pm_types.specs.Forms.{FormsIn, HasPrimitiveRow, agrees_with, is_column_count, is_formed, is_matrix_form, is_row, is_row_of_entries}
+use Rattle.pm_types.specs.Forms.{FormsIn, HasPrimitiveRow, HavePrimitiveRows, agrees_with, is_column_count, is_formed, is_matrix_form, is_row, is_row_of_entries}
 use Rattle.pm_types.specs.Values.{PropertyValue, matrix}
 use Rattle.pm_types.specs.Views.{ratios}
 use Rattle.std.proofs.Common.{ap, arith, false, inl, inr, refl, subst, sym, true, true≢false, ◌∙◌}
@@ -59,6 +59,13 @@ agrees_half Inequalities h n m rows = refl
 agrees_half Equations h n m rows = refl
 agrees_half p h n m rows = absurd h
 
+primitive_half : (p : PropId) → IsHalf p → (m : ℕ) (rows : List (List Ratio)) → All HasPrimitiveRow rows → HavePrimitiveRows p (matrix m rows)
+primitive_half Points h m rows all = all
+primitive_half InputLineality h m rows all = all
+primitive_half Inequalities h m rows all = all
+primitive_half Equations h m rows all = all
+primitive_half p h m rows all = absurd h
+
 all_three : (a b c : Bool) → a ≡ true → b ≡ true → c ≡ true → (a && b && c) ≡ true
 all_three a b c p q r = rw (p, q, r) refl
 
@@ -76,14 +83,14 @@ good_passes : (n : ℕ) (test : List Ratio → Bool) (rows : List (List Ratio)) 
 good_passes n test rows h = list_all-from_AllPass test rows (All-weaker (IsGood n test) (λ r. test r ≡ true) (λ r g. g.passes) rows h)
 
 pub good_forms : (n : ℕ) (p : PropId) → IsHalf p → (rows : List (List Ratio)) → 1 ≤ n → n ≤ most_columns → length rows ≤ most_rows → All (IsGood n (is_row Polytope p)) rows → FormsIn Polytope n p (value_over n rows)
-good_forms n p h [] some few all good = record { formed = formed_half p h 0 []; columns = agrees_half p h n 0 []; rows = refl; entries = All-nil (All IsFraction); primitive = All-nil HasPrimitiveRow }
+good_forms n p h [] some few all good = record { formed = formed_half p h 0 []; columns = agrees_half p h n 0 []; rows = refl; entries = All-nil (All IsFraction); primitive = primitive_half p h 0 [] (All-nil HasPrimitiveRow) }
 good_forms n p h (r ∷ rows) some few all good = record {
   formed = formed_half p h n (r ∷ rows)
       ∙ all_three (nat_le (length (r ∷ rows)) most_rows) (is_column_count (r ∷ rows) n) (list_all (is_row_of_entries n) (r ∷ rows)) (le-leb (length (r ∷ rows)) most_rows all) (both_true (nat_le 1 n) (nat_le n most_columns) (le-leb 1 n some) (le-leb n most_columns few)) (good_lengths n (is_row Polytope p) (r ∷ rows) good);
   columns = agrees_half p h n n (r ∷ rows) ∙ either_true (nat_eq n 0) (nat_eq n n) (eq-eqb n n refl);
   rows = good_passes n (is_row Polytope p) (r ∷ rows) good;
   entries = All-weaker (IsGood n (is_row Polytope p)) (λ x. All IsFraction x) (λ x g. g.entries) (r ∷ rows) good;
-  primitive = All-weaker (IsGood n (is_row Polytope p)) (λ x. HasPrimitiveRow x) (λ x g. g.primitive) (r ∷ rows) good;
+  primitive = primitive_half p h n (r ∷ rows) (All-weaker (IsGood n (is_row Polytope p)) (λ x. HasPrimitiveRow x) (λ x g. g.primitive) (r ∷ rows) good);
 }
 
 pub one_value : (n : ℕ) (p : PropId) (v : PropertyValue) → FormsIn Polytope n p v → HaveForms n (polytope_with ((p, v) ∷ []))

@@ -45,7 +45,7 @@ abbrev pub TakesRowList : ViewSeen → Type 0
 TakesRowList v = Contains (eliminated_by v.kind.name) row_list
 
 pub fails_by_list : (v : ViewSeen) (X : List Row) (f : ElimFail) → TakesRowList v → IsRowList v X → IfWide f (λ e. IsEvidence v.cols X e) → FailsRightly v (fail_of f)
-fails_by_list v X (Wide e) takes listed h = record { list = row_list; named = takes; rows = X; listed = listed; shown = h }
+fails_by_list v X (Wide e) takes listed h = inl (record { list = row_list; named = takes; rows = X; listed = listed; shown = h })
 fails_by_list v X Memory takes listed h = tt
 
 pub eliminates_in : (Lists : ElimList → Type 0) (f : ElimFail) → IfWide f (λ e. Lists e.list) → EliminatesIn Lists (fail_of f)
@@ -54,7 +54,7 @@ eliminates_in Lists Memory h = tt
 
 -- a cone's rows
 pub fails_by_cone : (v : ViewSeen) (X : List Row) (f : ElimFail) → Contains (eliminated_by v.kind.name) cone_rows → IsConeList v X → IfWide f (λ e. IsEvidence v.cols X e) → FailsRightly v (fail_of f)
-fails_by_cone v X (Wide e) takes listed h = record { list = cone_rows; named = takes; rows = X; listed = listed; shown = h }
+fails_by_cone v X (Wide e) takes listed h = inl (record { list = cone_rows; named = takes; rows = X; listed = listed; shown = h })
 fails_by_cone v X Memory takes listed h = tt
 
 -- ---- double description
@@ -70,26 +70,26 @@ module _ (v : ViewSeen) (named : IsTrue (has_way v.kind.name doubling)) (takes :
 
   -- on the elimination of the first part
   fails_by_first : (L G : List Row) (f : DdFail) → AreParts v L G → IsEliminationFail v.cols L f → FailsRightly v (fail_of_double f)
-  fails_by_first L G (double.Wide (evidence.E1 step)) read h = record { list = first_part; named = first_taken; rows = L; listed = (G, read); shown = h }
+  fails_by_first L G (double.Wide (evidence.E1 step)) read h = inl (record { list = first_part; named = first_taken; rows = L; listed = (G, read); shown = h })
   fails_by_first L G (double.Wide e) read h = absurd h
   fails_by_first L G (double.Many e) read h = absurd h
   fails_by_first L G double.Memory read h = tt
 
   -- on the double description list
   fails_wide : (D : List Row) (e : Evidence) → IsDoubleListOf v D → ShowsWide v.cols D e → FailsRightly v (fail_of_double (double.Wide e))
-  fails_wide D (evidence.E1 step) listed (inl h) = record { list = double_list; named = double_taken; rows = D; listed = listed; shown = h }
-  fails_wide D (evidence.E1 step) listed (inr h) = record {
+  fails_wide D (evidence.E1 step) listed (inl h) = inl (record { list = double_list; named = double_taken; rows = D; listed = listed; shown = h })
+  fails_wide D (evidence.E1 step) listed (inr h) = inl (record {
     list = enlarging_rows;
     named = enlarging_taken;
     rows = rows_marked true h.marks D;
     listed = (D, listed, record { marks = h.marks; enlarging = h.enlarging; rows = refl });
     shown = h.evidence;
-  }
-  fails_wide D (evidence.E2 front first second column) listed h = record { named = named; rows = D; listed = listed; shown = h }
+  })
+  fails_wide D (evidence.E2 front first second column) listed h = inl (record { named = named; rows = D; listed = listed; shown = h })
   fails_wide D e listed h = absurd h
 
   fails_many : (D : List Row) (e : Evidence) → IsDoubleListOf v D → ShowsMany v.cols D e → FailsRightly v (fail_of_double (double.Many e))
-  fails_many D (evidence.E5Rays front rays) listed h = record { named = named; rows = D; listed = listed; shown = h }
+  fails_many D (evidence.E5Rays front rays) listed h = inl (record { named = named; rows = D; listed = listed; shown = h })
   fails_many D e listed h = absurd h
 
   fails_by_double : (D : List Row) (f : DdFail) → IsDoubleListOf v D → IsShown v.cols D f → FailsRightly v (fail_of_double f)
@@ -160,7 +160,7 @@ module _ (v : ViewSeen) (thinning_takes : eliminated_by v.kind.name ≡ flat_row
   -- POINTS by FACETS
   pub fails_by_points : (L G A : List Row) (f : ThinFail) → AreRowsOf v InputLineality L → AreRowsOf v Points G → AreRowsOf v Facets A → added_rows v.of v.cols Points ≡ [] → IsThinFail v.cols G L A f → FailsRightly v (fail_of_thin f)
   fails_by_points L G A (thinning.Wide (evidence.E1 step)) l g a none h =
-      wide_reduction L G A (record { first = InputLineality; second = Points; other = Facets; parts = refl; told = refl; read = parts_of v InputLineality Points L G l g none; others = a }) step h
+      inl (wide_reduction L G A (record { first = InputLineality; second = Points; other = Facets; parts = refl; told = refl; read = parts_of v InputLineality Points L G l g none; others = a }) step h)
   fails_by_points L G A (thinning.Wide (evidence.E4 x y)) l g a none h = inl (record {
     named = takes_products;
     generator = generator_row v Points G x g refl h.generator (λ z. h.wide (zero_stays x y z));
@@ -174,9 +174,9 @@ module _ (v : ViewSeen) (thinning_takes : eliminated_by v.kind.name ≡ flat_row
   -- INEQUALITIES by VERTICES
   pub fails_by_inequalities : IsTrue (has_way v.kind.name facet_count) → (E A V : List Row) (f : ThinFail) → AreRowsOf v Equations E → AreRowsOf v Inequalities A → AreRowsOf v Vertices V → IsFacetsFail v.of v.cols A E V f → FailsRightly v (fail_of_thin f)
   fails_by_inequalities named E A V (thinning.Wide (evidence.E1 step)) e a g h =
-      wide_reduction E (half_spaces v.of v.cols A) V
+      inl (wide_reduction E (half_spaces v.of v.cols A) V
       (record { first = Equations; second = Inequalities; other = Vertices; parts = refl; told = refl; read = halves_read v E A e a; others = g })
-      step h
+      step h)
   fails_by_inequalities named E A V (thinning.Wide (evidence.E4 x y)) e a g h =
       let some : IsZero y → ⊥ = λ z. h.wide (zero_stays y x z) in
       inl (record {
@@ -248,14 +248,14 @@ module _ (v : ViewSeen) (sets_take : eliminated_by v.kind.name ≡ row_list ∷ 
   ]
 
   pub fails_by_facet_sets : IsTrue (has_way v.kind.name determined_rays) → (E A : List Row) (in_sets : List (List ℕ)) (f : ThinFail) → AreSetsOf v AffineHull Facets E A in_sets → added_rows v.of v.cols Facets ≡ [] → IsSetsFail v.cols E A in_sets f → FailsRightly v (fail_of_thin f)
-  fails_by_facet_sets named E A in_sets (thinning.Wide (evidence.E1 step)) read none h = wide_by_sets AffineHull Facets E A in_sets read none step h
+  fails_by_facet_sets named E A in_sets (thinning.Wide (evidence.E1 step)) read none h = inl (wide_by_sets AffineHull Facets E A in_sets read none step h)
   fails_by_facet_sets named E A in_sets (thinning.Wide (evidence.E4 x y)) read none h = inr (inl (inl (named, record { equations = E; inequalities = A; in_sets = in_sets; read = read; wide = h })))
   fails_by_facet_sets named E A in_sets (thinning.Wide e) read none h = absurd h
   fails_by_facet_sets named E A in_sets (thinning.Many e) read none h = absurd h
   fails_by_facet_sets named E A in_sets thinning.Memory read none h = tt
 
   pub fails_by_ray_sets : IsTrue (has_way v.kind.name determined_facets) → (E A : List Row) (in_sets : List (List ℕ)) (f : ThinFail) → AreSetsOf v LinealitySpace Vertices E A in_sets → added_rows v.of v.cols Vertices ≡ [] → IsTurnedSetsFail v.cols E A in_sets f → FailsRightly v (fail_of_thin f)
-  fails_by_ray_sets named E A in_sets (thinning.Wide (evidence.E1 step)) read none h = wide_by_sets LinealitySpace Vertices E A in_sets read none step h
+  fails_by_ray_sets named E A in_sets (thinning.Wide (evidence.E1 step)) read none h = inl (wide_by_sets LinealitySpace Vertices E A in_sets read none step h)
   fails_by_ray_sets named E A in_sets (thinning.Wide (evidence.E4 x y)) read none h = inr (inl (inr (named, record { equations = E; inequalities = A; in_sets = in_sets; read = read; wide = h })))
   fails_by_ray_sets named E A in_sets (thinning.Wide e) read none h = absurd h
   fails_by_ray_sets named E A in_sets (thinning.Many e) read none h = absurd h

@@ -140,7 +140,7 @@ optima_are_read = record {
     shown = h;
   };
   not_face = λ e h. true≢false (sym (ap is_some h.reads_value) ∙ no_least h.sense h.named);
-  held_product = λ x y h. inr (inr (inl (of_dual (E4 x y) h)));
+  held_product = λ x y h. inr (inr (inl (inl (of_dual (E4 x y) h))));
   not_held = λ x y h. elim h [ inl w ↦ no_dual (E4 x y) w | inr w ↦ elim w [ inl r ↦ no_rays (E4 x y) r | inr f ↦ no_face (E4 x y) f ] ];
 }
   where

@@ -17,7 +17,7 @@ use Rattle.pm_props.specs.Places.{place_of}
 use Rattle.pm_types.specs.Runs.{states_rows}
 use Rattle.pm_types.specs.Values.{PropertyValue, counts, extended, matrix, truth, whole}
 use Rattle.pm_props.specs.declared.kind.Kind.{Kind}
-use Rattle.pm_props.specs.declared.property.PropId.TheVariants.{AffineHull, ConeAmbientDim, Equations, Facets, Inequalities, InputLineality, LinealitySpace, Points, Vertices}
+use Rattle.pm_props.specs.declared.property.PropId.TheVariants.{AffineHull, ConeAmbientDim, Equations, Facets, Inequalities, InputLineality, LinealitySpace, Points, SiteHeights, Vertices}
 use Rattle.pm_props.specs.declared.property.PropId.{PropId}
 use Rattle.std.proofs.Common.{false, refl, subst, sym, to_z, true, true≢false, w64}
 use Rattle.std.proofs.lemmas.Bool.{and_parts}
@@ -51,9 +51,10 @@ plain_entries (matrix n rows) h = absurd (true≢false (sym h))
 plain_entries (extended x) h = absurd (true≢false (sym h))
 plain_entries x h = All-nil (All IsFraction)
 
-plain_primitive : (x : PropertyValue) → is_plain x ≡ true → HavePrimitiveRows x
-plain_primitive (matrix n rows) h = absurd (true≢false (sym h))
-plain_primitive x h = All-nil HasPrimitiveRow
+plain_primitive : (p : PropId) (x : PropertyValue) → is_plain x ≡ true → HavePrimitiveRows p x
+plain_primitive SiteHeights x h = tt
+plain_primitive p (matrix n rows) h = absurd (true≢false (sym h))
+plain_primitive p x h = All-nil HasPrimitiveRow
 
 no_columns : (b : Bool) (n : ℕ) → (nat_eq (if b then 0 else 0) 0 || nat_eq (if b then 0 else 0) n) ≡ true
 no_columns true n = refl
@@ -65,7 +66,7 @@ plain_columns n p (matrix m rows) h other = absurd (true≢false (sym h))
 plain_columns n p x h other = no_columns (is_columned p) n
 
 pub plain_form : (of : ObjectType) (n : ℕ) (p : PropId) (x : PropertyValue) → is_plain x ≡ true → is_ambient p ≡ false → is_formed p x ≡ true → FormsIn of n p x
-plain_form of n p x plain other formed = record { formed = formed; columns = plain_columns n p x plain other; rows = plain_rows of p x plain; entries = plain_entries x plain; primitive = plain_primitive x plain }
+plain_form of n p x plain other formed = record { formed = formed; columns = plain_columns n p x plain other; rows = plain_rows of p x plain; entries = plain_entries x plain; primitive = plain_primitive p x plain }
 
 plain_canonical : (kind : Kind) (p : PropId) (x : PropertyValue) (t : Thing) → is_plain x ≡ true → IsCanonical kind p x t
 plain_canonical kind Vertices (matrix n rows) t h = absurd (true≢false (sym h))

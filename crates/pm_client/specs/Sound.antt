@@ -31,6 +31,9 @@ use Rattle.pm_object_type.specs.declared.object_type.ObjectType.{ObjectType}
 use Rattle.pm_object_type.specs.declared.object_type.ObjectType.TheVariants.{Polytope}
 use Rattle.pm_geom.specs.declared.evidence.Evidence.{Evidence}
 use Rattle.pm_geom.specs.declared.evidence.Evidence.TheVariants.{E1, E2, E3, E4, E5Cells, E5Faces, E5Rays, E5Rows}
+use Rattle.pm_lift.specs.Refusals.{IsLiftFail, IsRaiseFail}
+use Rattle.pm_lift.specs.declared.fails.LiftFail.{LiftFail}
+use Rattle.pm_lift.specs.declared.fails.LiftFail.TheVariants as lift
 use Rattle.pm_matrix.specs.FractionRows.{ArePrimitiveRowsOf}
 use Rattle.pm_object.specs.Reading.{DraftSeen, ViewSeen, answer_of, fact_of}
 use Rattle.pm_types.specs.Runs.{MayAnswer}
@@ -47,9 +50,9 @@ use Rattle.pm_simplex.specs.declared.sense.Sense.TheVariants.{Maximal, Minimal}
 use Rattle.pm_simplex.specs.declared.fails.LpFail.{LpFail}
 use Rattle.pm_simplex.specs.declared.fails.LpFail.TheVariants as linear
 use Rattle.pm_props.specs.declared.property.PropId.{PropId}
-use Rattle.pm_props.specs.declared.property.PropId.TheVariants.{Points, InputLineality, Inequalities, Equations, Vertices, LinealitySpace, Facets, AffineHull, VerticesInFacets, LinearObjective, MaximalValue, MinimalValue, MaximalCones}
+use Rattle.pm_props.specs.declared.property.PropId.TheVariants.{Points, InputLineality, Inequalities, Equations, Vertices, LinealitySpace, Facets, AffineHull, VerticesInFacets, LinearObjective, MaximalValue, MinimalValue, MaximalCones, SiteHeights, Sites}
 use Rattle.pm_standard.specs.Ways.{Optimum, greatest, least}
-pub use Rattle.pm_standard.specs.Ways.{Eliminated, row_list, first_part, double_list, enlarging_rows, flat_rows, flat_basis_and_row, line_rows, line_basis_and_row, determining_rows, cone_rows, doubling, thinning_programs, feasibility, optimum_over_facets, optimum_over_rows, products, determined_rays, determined_facets, dual, at_rays, at_face, facet_count, face_count, cell_count}
+pub use Rattle.pm_standard.specs.Ways.{Eliminated, row_list, first_part, double_list, enlarging_rows, flat_rows, flat_basis_and_row, line_rows, line_basis_and_row, determining_rows, cone_rows, doubling, thinning_programs, feasibility, optimum_over_facets, optimum_over_rows, products, determined_rays, determined_facets, dual, at_rays, at_face, facet_count, face_count, cell_count, lifting, raising}
 pub use Rattle.pm_standard.specs.Named.{eliminated_by, has_way}
 use Rattle.pm_client.specs.declared.ClientFail.{ClientFail}
 use Rattle.pm_client.specs.declared.ClientFail.TheVariants.{Memory, Failed}
@@ -412,13 +415,37 @@ pub record IsCrowdedLattice (v : ViewSeen) (faces : List (List ℕ)) : Type 0 wh
   pub reads : fact_of VerticesInFacets v.facts ≡ Some (sets index.rows index.cols)
   pub shown : AreTooManyMeets index.cols (sets_of index.rows) faces
 
--- the evidence holds of the view: a step of an elimination leaves the range, or one with two extreme rays, or a pivot of a linear program; a front has too many of these, or of cells, or a thing too many facets or faces; or the product of a generator's row with a half-space's row leaves the range, or of a row that a set determines with one that was read, or of an objective with a ray, or a row of a dual does
+-- W are the heights of sites that the view reads
+abbrev pub ReadsHeights : ViewSeen → List Ratio → Type 0
+ReadsHeights v W = (n : ℕ) × Reads v SiteHeights n (W ∷ [])
+
+-- the client finds the cells of the sites with their heights, and is refused for this
+pub record IsLiftingFail (v : ViewSeen) (f : LiftFail) : Type 0 where
+  pub named : IsTrue (has_way v.kind.name lifting)
+  pub sites : List Row
+  pub heights : List Ratio
+  pub reads_sites : AreRowsOf v Sites sites
+  pub reads_heights : ReadsHeights v heights
+  pub shown : IsLiftFail v.cols sites heights f
+
+-- it finds the Delaunay cells of the sites, and is refused for this
+pub record IsRaisingFail (v : ViewSeen) (f : LiftFail) : Type 0 where
+  pub named : IsTrue (has_way v.kind.name raising)
+  pub sites : List Row
+  pub reads_sites : AreRowsOf v Sites sites
+  pub shown : IsRaiseFail v.cols sites f
+
+-- it finds cells of sites, and is refused for this
+abbrev pub FailsAtCells : ViewSeen → LiftFail → Type 0
+FailsAtCells v f = IsLiftingFail v f ⊎ IsRaisingFail v f
+
+-- the evidence holds of the view: a step of an elimination leaves the range, or one with two extreme rays, or a pivot of a linear program; a front has too many of these, or of cells, or a thing too many facets or faces; or the product of a generator's row with a half-space's row leaves the range, or of a row that a set determines with one that was read, or of an objective with a ray, or a row of a dual does; or the cells of sites are refused for it
 abbrev pub HoldsOf : Evidence → ViewSeen → Type 0
-HoldsOf (E1 e) v = IsWideElimination v e
-HoldsOf (E2 front first second column) v = IsWideDoubling v front first second column
+HoldsOf (E1 e) v = IsWideElimination v e ⊎ FailsAtCells v (lift.Wide (E1 e))
+HoldsOf (E2 front first second column) v = IsWideDoubling v front first second column ⊎ FailsAtCells v (lift.Wide (E2 front first second column))
 HoldsOf (E3 basis enter leave row column) v = IsWideProgramOf v (E3 basis enter leave row column)
-HoldsOf (E4 first second) v = AreWideRows v first second ⊎ IsWideForSets v first second ⊎ IsWideForPrograms v (E4 first second)
-HoldsOf (E5Rays front rays) v = IsCrowdedDoubling v front rays
+HoldsOf (E4 first second) v = AreWideRows v first second ⊎ IsWideForSets v first second ⊎ IsWideForPrograms v (E4 first second) ⊎ FailsAtCells v (lift.Wide (E4 first second))
+HoldsOf (E5Rays front rays) v = IsCrowdedDoubling v front rays ⊎ FailsAtCells v (lift.Many (E5Rays front rays))
 HoldsOf (E5Rows places) v = IsCrowdedThinning v places
 HoldsOf (E5Faces faces) v = IsCrowdedLattice v faces
 HoldsOf (E5Cells front cells) v = IsCrowdedPlacing v front cells

@@ -54,7 +54,7 @@ module _ (v : ViewSeen) (c : StandardClient) (kind : v.kind ≡ standard_kind c)
 
 -- POINTS
 pub fails_by_thin_rays : (v : ViewSeen) → v.kind ≡ standard_kind client.ThinPointsLp → (L G : List Row) → AreParts v L G → (f : ThinFail) → IsThinFail v.cols G L f → FailsRightly v (fail_of_thin f)
-fails_by_thin_rays v kind L G read (thinning.Wide (evidence.E1 step)) h = wide_lines v client.ThinPointsLp kind refl refl L G read step h
+fails_by_thin_rays v kind L G read (thinning.Wide (evidence.E1 step)) h = inl (wide_lines v client.ThinPointsLp kind refl refl L G read step h)
 fails_by_thin_rays v kind L G read (thinning.Wide e) h = wide_program v client.ThinPointsLp kind refl refl L G read e h
 fails_by_thin_rays v kind L G read (thinning.Many e) h = absurd h
 fails_by_thin_rays v kind L G read thinning.Memory h = tt
@@ -65,7 +65,7 @@ module _ (v : ViewSeen) (kind : v.kind ≡ standard_kind client.ThinInequalities
   both_read = record { first = Equations; second = Inequalities; parts = refl; read = halves_read v E A e a }
 
   pub fails_by_thin_rows : (f : ThinFail) → IsRowsFail v.of v.cols A E f → FailsRightly v (fail_of_thin f)
-  fails_by_thin_rows (thinning.Wide (evidence.E1 step)) h = wide_lines v client.ThinInequalitiesLp kind refl refl E (half_spaces v.of v.cols A) both_read step h
+  fails_by_thin_rows (thinning.Wide (evidence.E1 step)) h = inl (wide_lines v client.ThinInequalitiesLp kind refl refl E (half_spaces v.of v.cols A) both_read step h)
   fails_by_thin_rows (thinning.Wide w) h = wide_program v client.ThinInequalitiesLp kind refl refl E (half_spaces v.of v.cols A) both_read w h
   fails_by_thin_rows (thinning.Many (evidence.E5Rows places)) h = record {
     named = subst (λ (k : Kind). has_way k.name facet_count ≡ true) (sym kind) refl;

@@ -11,15 +11,16 @@ use Rattle.pm_props.specs.Sets.{has, set_of}
 use Rattle.pm_object_type.specs.declared.object_type.ObjectType.{ObjectType}
 use Rattle.pm_matrix.specs.FractionRows.{ArePrimitiveRowsOf}
 use Rattle.pm_types.proofs.PrimitiveRows.{few_rows}
-use Rattle.pm_types.specs.Forms.{FormsIn, is_matrix_form}
+use Rattle.pm_types.specs.Forms.{FormsIn, HasPrimitiveRow, HavePrimitiveRows, is_matrix_form, rows_in}
 use Rattle.pm_props.specs.Properties.{is_of_matrices}
 use Rattle.pm_props.specs.Properties.{value_kind}
-use Rattle.pm_types.specs.Values.{matrix}
+use Rattle.pm_types.specs.Values.{PropertyValue, matrix}
 use Rattle.pm_props.specs.declared.property.PropId.TheVariants.{AffineHull, Equations, Facets, Inequalities, InputLineality, LinealitySpace, Points, Vertices}
 use Rattle.pm_props.specs.declared.property.PropId.{PropId}
 use Rattle.std.proofs.lemmas.Bool.{eq-eqb, or_left, or_right}
 use Rattle.std.proofs.Common.{ap, arith, eqb, false, refl, subst, sym, true, true≢false, ◌∙◌}
 use Rattle.std.proofs.lemmas.List.{length-append}
+use Rattle.std.specs.List.{All}
 use Rattle.std.specs.Prelude.{IsTrue, List, [], length, nat_eq, ℕ, ◌++◌, ◌∷◌, ◌||◌, ◌≡◌, ◌≤◌}
 use Rattle.pm_limits.specs.Limits.{most_rows}
 
@@ -42,8 +43,23 @@ module _ (of : ObjectType) (n m : ℕ) (rows : List (List Ratio)) where
   second_columned AffineHull Facets h f = (f.formed, f.columns)
   second_columned p q h f = absurd (true≢false (sym h))
 
-  primitive_cols : (xs : List Row) → IsColumned n m rows → ArePrimitiveRowsOf rows xs → HasCols n xs
+  pub primitive_cols : (xs : List Row) → IsColumned n m rows → ArePrimitiveRowsOf rows xs → HasCols n xs
   primitive_cols xs h p = all_from (λ (x : Row). length x ≡ n) xs (λ x i. among_All (λ (y : Row). length y ≡ n) i (all_length n xs (primitive_length m n rows xs h.0 h.1 p)))
+
+-- the primitive rows of each part are made within the range
+pub first_primitive : (p q : PropId) (v : PropertyValue) → IsTrue (are_parts p q) → HavePrimitiveRows p v → All HasPrimitiveRow (rows_in v)
+first_primitive InputLineality q v h f = f
+first_primitive LinealitySpace q v h f = f
+first_primitive Equations q v h f = f
+first_primitive AffineHull q v h f = f
+first_primitive p q v h f = absurd (true≢false (sym h))
+
+pub second_primitive : (p q : PropId) (v : PropertyValue) → IsTrue (are_parts p q) → HavePrimitiveRows q v → All HasPrimitiveRow (rows_in v)
+second_primitive InputLineality Points v h f = f
+second_primitive LinealitySpace Vertices v h f = f
+second_primitive Equations Inequalities v h f = f
+second_primitive AffineHull Facets v h f = f
+second_primitive p q v h f = absurd (true≢false (sym h))
 
 -- the primitive whole rows of both parts, one after the other
 pub list_cols : (of : ObjectType) (n m k : ℕ) (first second : PropId) (lines rows : List (List Ratio)) (ls xs X : List Row) → IsTrue (are_parts first second) → FormsIn of n first (matrix m lines) → FormsIn of n second (matrix k rows)

@@ -18,7 +18,7 @@ use Rattle.pm_props.specs.declared.property.PropId.{PropId}
 use Rattle.pm_props.specs.Sets.{has}
 use Rattle.pm_types.proofs.Kept.{named_to}
 use Rattle.pm_types.proofs.PrimitiveRows.{few_rows}
-use Rattle.pm_types.specs.Forms.{FormsIn, HasPrimitiveRow, first_is_below, first_is_nought, is_column_count, is_matrix_form, is_row, is_row_of_entries, is_zero_row}
+use Rattle.pm_types.specs.Forms.{FormsIn, HasPrimitiveRow, HavePrimitiveRows, first_is_below, first_is_nought, is_column_count, is_matrix_form, is_row, is_row_of_entries, is_zero_row, rows_in}
 use Rattle.pm_types.specs.Right.{Right, RightAll, objective_of}
 use Rattle.pm_types.specs.Things.{Thing}
 use Rattle.pm_types.specs.Values.{PropertyValue, matrix}
@@ -124,6 +124,16 @@ columned of n m rows Equations h f = (f.formed, f.columns)
 columned of n m rows Facets h f = (f.formed, f.columns)
 columned of n m rows AffineHull h f = (f.formed, f.columns)
 columned of n m rows p h f = absurd (true≢false (sym h))
+
+-- their primitive rows are made within the range
+pub stay_of : (p : PropId) → is_of_rows p ≡ true → (v : PropertyValue) → HavePrimitiveRows p v → All HasPrimitiveRow (rows_in v)
+stay_of Vertices h v f = f
+stay_of LinealitySpace h v f = f
+stay_of Inequalities h v f = f
+stay_of Equations h v f = f
+stay_of Facets h v f = f
+stay_of AffineHull h v f = f
+stay_of p h v f = absurd (true≢false (sym h))
 
 pub few_of : (of : ObjectType) (n m : ℕ) (rows : List (List Ratio)) (p : PropId) → is_of_rows p ≡ true → FormsIn of n p (matrix m rows) → length rows ≤ most_rows
 few_of of n m rows p h f = few_rows m rows (columned of n m rows p h f).0

@@ -64,16 +64,16 @@ module _ (v : ViewSeen) where
   optimum_holds e h = absurd h.shown.shown
 
   pub rays_hold : (e : Evidence) → IsWideAtRays v e → HoldsOf e v
-  rays_hold (evidence.E4 x y) h = inr (inr (inr (inl h)))
+  rays_hold (evidence.E4 x y) h = inr (inr (inl (inr (inl h))))
   rays_hold e h = elim h.shown.shown [ inl p ↦ absurd p | inr p ↦ absurd p ]
 
   pub face_holds : (e : Evidence) → IsWideFace v e → HoldsOf e v
-  face_holds (evidence.E4 x y) h = inr (inr (inr (inr h)))
+  face_holds (evidence.E4 x y) h = inr (inr (inl (inr (inr h))))
   face_holds e h = elim h.shown [ inl p ↦ absurd p.shown | inr p ↦ absurd p.shown ]
 
   pub dual_holds : (e : Evidence) → IsWideWithDual v e → HoldsOf e v
   dual_holds (evidence.E3 basis enter leave row column) h = elim h [ inl p ↦ inr (inr p) | inr p ↦ absurd p.shown.shown ]
-  dual_holds (evidence.E4 x y) h = elim h [ inl p ↦ absurd p.shown.shown | inr p ↦ inr (inr (inl p)) ]
+  dual_holds (evidence.E4 x y) h = elim h [ inl p ↦ absurd p.shown.shown | inr p ↦ inr (inr (inl (inl p))) ]
   dual_holds e h = elim h [ inl p ↦ absurd p.shown.shown | inr p ↦ absurd p.shown.shown ]
 
 -- ---- what each client shows

@@ -23,6 +23,8 @@ program_on n G c = record {
   lines = [];
   cones = [];
   objective = λ s. c;
+  sites = [];
+  heights = [];
 }
 
 -- the rays and the facet rows, in this order

@@ -13,6 +13,7 @@ use Rattle.pm_geom.proofs.ValidRows.{Tables, facet_order, in_valid, valid_in}
 use Rattle.pm_geom.proofs.Dimension.{rank_is_left}
 use Rattle.pm_geom.specs.Cones.{CutOut, InLineality, IsOrder, IsValid, SameModulo, Vanishes}
 use Rattle.pm_geom.specs.Faces.{ray}
+use Rattle.pm_relations.proofs.Sites.{no_sites}
 use Rattle.pm_types.specs.Things.{AreOrders, IsThing}
 use Rattle.pm_geom.specs.Things.{Orders}
 use Rattle.pm_relations.proofs.Orders.{orders_length, orders_total}
@@ -122,7 +123,7 @@ facet_rows : IsOrder 4 (IsValid 4 bipyramid []) sides
 facet_rows = facet_order 4 bipyramid [] sides [] rays_cols tt sides_cols tt signs inside side_order
 
 is_thing : IsThing bipyramid_thing
-is_thing = record { some_cols = omega arith; few_cols = omega arith; kind = (record { generators = rays_cols; lines = tt }, refl); programs = whole_objective 4 (pos 0 ∷ pos 0 ∷ pos 0 ∷ pos 0 ∷ []) refl }
+is_thing = record { some_cols = omega arith; few_cols = omega arith; kind = (record { generators = rays_cols; lines = tt }, refl); programs = whole_objective 4 (pos 0 ∷ pos 0 ∷ pos 0 ∷ pos 0 ∷ []) refl; sites = no_sites _ }
 
 are_orders : AreOrders bipyramid_thing bipyramid_orders
 are_orders = record { rays = ray_order; facets = facet_rows; cones = refl }

@@ -17,6 +17,7 @@ use Rattle.pm_geom.specs.Cones.{InLineality, Vanishes}
 use Rattle.pm_geom.specs.Examples.{square, triple}
 use Rattle.pm_relations.proofs.Dimensions.{dimensions_are_determined}
 use Rattle.pm_examples_values.specs.Examples.{EmptyDimensionsAreRead, SquareDimensionsAreRead, square_orders, square_thing}
+use Rattle.pm_relations.proofs.Sites.{no_sites}
 use Rattle.pm_types.specs.Right.{HasDimension}
 use Rattle.pm_types.specs.Values.{whole}
 use Rattle.std.proofs.Common.{arith, refl, sym, true≢false, ◌∙◌}
@@ -89,6 +90,7 @@ empty_dimensions_are_read = record {
     few_cols = omega arith;
     kind = ((empty_is_read 2).polytope, refl);
     programs = record { cols = λ s. refl; denominators = λ s i h. whole_denominators (pos 0 ∷ pos 0 ∷ []) i };
+    sites = no_sites _;
   };
   cone_dim = (0, refl, none_spanned);
   combinatorial_dim = record { cone = 0; lineality = 0; is_cone = none_spanned; is_lineality = no_lines 2 _ (λ x l s. s.inside); less = refl };

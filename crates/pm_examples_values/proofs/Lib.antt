@@ -22,3 +22,4 @@ pub mod FanExamples
 pub mod PrismExamples
 mod PlacingExamples
 pub mod ConeExamples
+mod SiteExamples

@@ -13,6 +13,7 @@ use Rattle.pm_geom.proofs.ShortRows.{first_entry}
 use Rattle.pm_geom.proofs.ValidRows.{Tables, facet_order, in_valid, valid_in}
 use Rattle.pm_geom.proofs.Dimension.{rank_is_left}
 use Rattle.pm_geom.specs.Cones.{CutOut, InLineality, IsOrder, IsValid, Vanishes}
+use Rattle.pm_relations.proofs.Sites.{no_sites}
 use Rattle.pm_types.specs.Things.{AreOrders, IsThing}
 use Rattle.pm_geom.specs.Things.{Orders}
 use Rattle.pm_relations.proofs.Orders.{orders_total}
@@ -121,6 +122,7 @@ is_thing = record {
     refl,
   );
   programs = whole_objective 4 (pos 0 ∷ pos 0 ∷ pos 0 ∷ pos 0 ∷ []) refl;
+  sites = no_sites _;
 }
 
 are_orders : AreOrders prism_thing prism_orders

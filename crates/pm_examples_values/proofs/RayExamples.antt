@@ -17,6 +17,7 @@ use Rattle.pm_geom.proofs.ValidRows.{null_in}
 use Rattle.pm_geom.specs.Cones.{InLineality, IsValid, Vanishes}
 use Rattle.pm_geom.specs.Examples.{half_line, pair, square, triple}
 use Rattle.pm_geom.specs.Faces.{ray}
+use Rattle.pm_relations.proofs.Sites.{no_sites}
 use Rattle.pm_types.specs.Things.{AreOrders, IsThing}
 use Rattle.pm_relations.proofs.Dimensions.{dimensions_are_determined}
 use Rattle.pm_examples_values.proofs.EchelonExamples.{alone_independent}
@@ -75,7 +76,7 @@ far_ascending js V h = subst (λ is. AllPairs (λ i j. i < j) is) (sym (map_pos_
 
 -- ---- the half line
 pub half_line_is_thing : IsThing half_line_thing
-half_line_is_thing = record { some_cols = omega arith; few_cols = omega arith; kind = (half_line_is_read.polytope, refl); programs = whole_objective 2 (pos 0 ∷ pos 0 ∷ []) refl }
+half_line_is_thing = record { some_cols = omega arith; few_cols = omega arith; kind = (half_line_is_read.polytope, refl); programs = whole_objective 2 (pos 0 ∷ pos 0 ∷ []) refl; sites = no_sites _ }
 
 pub half_line_are_orders : AreOrders half_line_thing half_line_orders
 half_line_are_orders = record { rays = half_line_is_read.rays; facets = half_line_is_read.facets; cones = refl }
@@ -223,7 +224,7 @@ whole_is : {j k : ℤ} → whole j ≡ whole k → j ≡ k
 whole_is h = cc
 
 pub line_is_thing : IsThing line_thing
-line_is_thing = record { some_cols = omega arith; few_cols = omega arith; kind = (line_is_read.polytope, refl); programs = whole_objective 3 (pos 0 ∷ pos 0 ∷ pos 0 ∷ []) refl }
+line_is_thing = record { some_cols = omega arith; few_cols = omega arith; kind = (line_is_read.polytope, refl); programs = whole_objective 3 (pos 0 ∷ pos 0 ∷ pos 0 ∷ []) refl; sites = no_sites _ }
 
 pub line_are_orders : AreOrders line_thing line_orders
 line_are_orders = record { rays = line_is_read.rays; facets = line_is_read.facets; cones = refl }

@@ -19,6 +19,7 @@ use Rattle.pm_examples_values.proofs.RayExamples.{zero_two}
 use Rattle.pm_examples_values.specs.Examples.{empty_thing, no_orders}
 use Rattle.pm_examples_values.specs.FaceExamples.{ends, segment_orders, segment_thing}
 use Rattle.pm_examples_values.specs.RayExamples.{from_zero}
+use Rattle.pm_relations.proofs.Sites.{no_sites}
 use Rattle.pm_types.specs.Right.{IsCombinatorialDim}
 use Rattle.pm_types.specs.Things.{AreOrders, IsThing}
 use Rattle.std.proofs.Common.{arith, inr, refl, ◌∙◌}
@@ -80,6 +81,7 @@ segment_is_thing = record {
     refl,
   );
   programs = whole_objective 2 (pos 0 ∷ pos 0 ∷ []) refl;
+  sites = no_sites _;
 }
 
 pub segment_are_orders : AreOrders segment_thing segment_orders

@@ -1,4 +1,5 @@
 -- The sets of the unit square.
+use Rattle.pm_relations.proofs.Sites.{no_sites}
 use Rattle.pm_relations.proofs.Standing.{whole_denominators}
 use Rattle.pm_vector.proofs.Lists.{Among, here, there, among_Contains, Contains_among}
 use Rattle.pm_vector.specs.Rows.{Row, dot}
@@ -81,6 +82,7 @@ square_sets_are_read = record {
     few_cols = omega arith;
     kind = (square_is_read.polytope, refl);
     programs = record { cols = λ s. refl; denominators = λ s i h. whole_denominators (pos 0 ∷ pos 0 ∷ pos 0 ∷ []) i };
+    sites = no_sites _;
   };
   orders = record { rays = square_is_read.order; facets = square_is_read.facets; cones = refl };
   right = (refl, (left, (below, (above, (right, tt)))));

@@ -17,6 +17,7 @@ use Rattle.pm_geom.proofs.Refusals.{is_refused}
 use Rattle.pm_geom.proofs.SmallThings.{empty_is_read, half_line_is_read}
 use Rattle.pm_geom.specs.Cones.{InLineality, IsExtremeRay, IsOrder, SameModulo}
 use Rattle.pm_geom.specs.Things.{IsConeThing, IsFanThing}
+use Rattle.pm_relations.proofs.Sites.{no_sites}
 use Rattle.pm_types.specs.Things.{IsThing}
 use Rattle.pm_examples_values.specs.ThingExamples.{ColumnsAreRead, FansAreRead, ThingsAreRead, empty_of, single, FanOrdersAreRead, ConeOrdersAreRead, both_rays, FanValuesAreRead}
 use Rattle.pm_types.specs.Views.{over_one, ratios}
@@ -39,6 +40,7 @@ empty_is_thing n h k = record {
   few_cols = k;
   kind = ((empty_is_read n).polytope, refl);
   programs = record { cols = λ s. length-replicate n (over_one (pos 0)); denominators = λ s i h. noughts n i };
+  sites = no_sites _;
 }
 
 pub columns_are_read : ColumnsAreRead
@@ -52,15 +54,15 @@ columns_are_read = record {
 -- ---- rows and objectives
 pub things_are_read : ThingsAreRead
 things_are_read = record {
-  objective = record { some_cols = omega arith; few_cols = omega arith; kind = (half_line_is_read.polytope, refl); programs = whole_objective 2 (pos 1 ∷ pos 2 ∷ []) refl };
+  objective = record { some_cols = omega arith; few_cols = omega arith; kind = (half_line_is_read.polytope, refl); programs = whole_objective 2 (pos 1 ∷ pos 2 ∷ []) refl; sites = no_sites _ };
   shorter_objective = λ h. let e : 1 ≡ 2 = h.programs.cols 0 in omega arith;
   negative_denominator = λ h. let l : pos 0 <ℤ negsuc 0 = h.programs.denominators 0 0 (omega arith) in omega (arith, ints);
   longer_objective = λ h. let e : 3 ≡ 2 = h.programs.cols 0 in omega arith;
   longer_generator = λ h. let e : 3 ≡ 2 = h.kind.0.generators.0 in omega arith;
   longer_line = λ h. let e : 3 ≡ 2 = h.kind.0.lines.0 in omega arith;
-  cone_with_behind = record { some_cols = omega arith; few_cols = omega arith; kind = (record { generators = (refl, (refl, tt)); lines = tt }, refl); programs = whole_objective 2 (pos 1 ∷ pos 2 ∷ []) refl };
+  cone_with_behind = record { some_cols = omega arith; few_cols = omega arith; kind = (record { generators = (refl, (refl, tt)); lines = tt }, refl); programs = whole_objective 2 (pos 1 ∷ pos 2 ∷ []) refl; sites = no_sites _ };
   behind = λ h. is_refused.behind h.kind.0;
-  cone_of_ray = record { some_cols = omega arith; few_cols = omega arith; kind = (record { generators = (refl, tt); lines = tt }, refl); programs = whole_objective 2 (pos 1 ∷ pos 2 ∷ []) refl };
+  cone_of_ray = record { some_cols = omega arith; few_cols = omega arith; kind = (record { generators = (refl, tt); lines = tt }, refl); programs = whole_objective 2 (pos 1 ∷ pos 2 ∷ []) refl; sites = no_sites _ };
   no_vertex = λ h. is_refused.no_vertex h.kind.0;
   listed_cones = λ h. let l : 1 ≡ 0 = ap length h.kind.1 in omega arith;
 }
@@ -136,8 +138,9 @@ fans_are_read = record {
       refl,
     );
     programs = whole_objective 1 (pos 0 ∷ []) refl;
+    sites = no_sites _;
   };
-  line = record { some_cols = omega arith; few_cols = omega arith; kind = (line_is_fan, refl); programs = whole_objective 1 (pos 0 ∷ []) refl };
+  line = record { some_cols = omega arith; few_cols = omega arith; kind = (line_is_fan, refl); programs = whole_objective 1 (pos 0 ∷ []) refl; sites = no_sites _ };
   no_cone = record {
     some_cols = omega arith;
     few_cols = omega arith;
@@ -151,6 +154,7 @@ fans_are_read = record {
       refl,
     );
     programs = whole_objective 1 (pos 0 ∷ []) refl;
+    sites = no_sites _;
   };
   twice = λ h. h.kind.0.apart 0 1 (omega arith) (omega arith) (λ e. omega arith) (λ x l k. in_double x k);
   included = λ h. h.kind.0.apart 0 1 (omega arith) (omega arith) (λ e. omega arith) (λ x l k. in_of (single (pos 1)) [] [] (λ g i. elim i [ ]) k);

@@ -21,6 +21,8 @@ square_thing = record {
   lines = [];
   cones = [];
   objective = λ s. whole_ratio (pos 0) ∷ whole_ratio (pos 0) ∷ whole_ratio (pos 0) ∷ [];
+  sites = [];
+  heights = [];
 }
 
 abbrev pub square_orders : Orders
@@ -52,7 +54,7 @@ pub record SquareDimensionsAreRead : Type 0 where
   pub not_flat : ¬ (Right FullDim (truth false) square_thing square_orders [])
 
 abbrev pub empty_thing : Thing
-empty_thing = record { of = Polytope; cols = 2; generators = []; lines = []; cones = []; objective = λ s. whole_ratio (pos 0) ∷ whole_ratio (pos 0) ∷ [] }
+empty_thing = record { of = Polytope; cols = 2; generators = []; lines = []; cones = []; objective = λ s. whole_ratio (pos 0) ∷ whole_ratio (pos 0) ∷ []; sites = []; heights = [] }
 
 abbrev pub no_orders : Orders
 no_orders = record { rays = []; facets = []; cones = [] }

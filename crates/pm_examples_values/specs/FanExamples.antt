@@ -37,6 +37,8 @@ mixed = record {
   lines = [];
   cones = half_line ∷ ((negsuc 0 ∷ negsuc 0 ∷ []) ∷ []) ∷ [];
   objective = no_objective;
+  sites = [];
+  heights = [];
 }
 
 -- the value is right for it, with its cones in this order

@@ -11,3 +11,4 @@ pub mod FanExamples
 pub mod PrismExamples
 pub mod PlacingExamples
 pub mod ConeExamples
+pub mod SiteExamples

@@ -23,6 +23,8 @@ thing_of of n G L objective = record {
   lines = L;
   cones = [];
   objective = λ s. ratios objective;
+  sites = [];
+  heights = [];
 }
 
 -- the half line, as a polytope

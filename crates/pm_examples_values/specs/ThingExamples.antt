@@ -24,6 +24,8 @@ empty_of n = record {
   lines = [];
   cones = [];
   objective = λ s. replicate n (over_one (pos 0));
+  sites = [];
+  heights = [];
 }
 
 -- a thing has from 1 to 33 columns
@@ -50,6 +52,8 @@ listing = record {
   lines = [];
   cones = half_line ∷ [];
   objective = no_objective;
+  sites = [];
+  heights = [];
 }
 
 -- the half line from 0, with the objective 1/-1, 0
@@ -83,6 +87,8 @@ fan_of Gs L = record {
   lines = L;
   cones = Gs;
   objective = λ s. over_one (pos 0) ∷ [];
+  sites = [];
+  heights = [];
 }
 
 -- the rays of 1 and of -1 as a fan
@@ -98,6 +104,8 @@ generated = record {
   lines = [];
   cones = [];
   objective = no_objective;
+  sites = [];
+  heights = [];
 }
 
 -- the cones of a fan are not included in one another, and have its lineality

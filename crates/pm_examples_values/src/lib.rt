@@ -10,6 +10,7 @@ ghost use Rattle.pm_examples_values.specs.FaceExamples.{EmptyFacesAreRead, HVect
 ghost use Rattle.pm_examples_values.specs.GraphExamples.{BipyramidGraphsAreRead, EmptyGraphsAreRead, LineGraphsAreRead, SegmentGraphsAreRead, SegmentNumbersAreRead, SquareGraphsAreRead};
 ghost use Rattle.pm_examples_values.specs.OrderExamples.{OrdersAreShown};
 ghost use Rattle.pm_examples_values.specs.PlacingExamples.{TriangulationsAreRead};
+ghost use Rattle.pm_examples_values.specs.SiteExamples.{SitesAreRight};
 ghost use Rattle.pm_examples_values.specs.PrismExamples.{PrismCountsAreRead};
 ghost use Rattle.pm_examples_values.specs.RayExamples.{EmptyValuesAreRead, HalfLineValuesAreRead, LineDimensionsAreRead, LineIsUnbounded, SegmentsAreRead, SquareIsBounded};
 ghost use Rattle.pm_examples_values.specs.RowExamples.{BasesAreRight, FacetRowsAreRead, GeneratorsAreRead, HalfSpacesAreRead, PairsAreRead, RayRowsAreRead, RowsAreRead};
@@ -254,4 +255,9 @@ pub fn example_fan_lines()
 /// The far rays of a quadrant, by their rising places.
 pub fn example_far_rays()
     ensures { FarRaysAreRead }
+{}
+
+/// Which sites and heights are right for a polytope that has three sites, and which cells.
+pub fn example_sites()
+    ensures { SitesAreRight }
 {}

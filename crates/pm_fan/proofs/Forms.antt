@@ -16,7 +16,7 @@ use Rattle.pm_object_type.specs.declared.object_type.ObjectType.TheVariants.{Fan
 use Rattle.pm_object_type.specs.declared.object_type.ObjectType.{ObjectType}
 use Rattle.pm_props.specs.declared.property.PropId.TheVariants.{AffineHull, Bounded, Centered, ConeAmbientDim, Facets, Feasible, LinealitySpace, MaximalCones, Vertices, VerticesInFacets}
 use Rattle.pm_props.specs.declared.property.PropId.{PropId}
-use Rattle.pm_types.specs.Forms.{FormsIn, HasPrimitiveRow, agrees_with, are_indices, is_column_count, is_formed, is_matrix_form, is_row, is_row_of_entries, is_sets_form}
+use Rattle.pm_types.specs.Forms.{FormsIn, HasPrimitiveRow, HavePrimitiveRows, agrees_with, are_indices, is_column_count, is_formed, is_matrix_form, is_row, is_row_of_entries, is_sets_form}
 use Rattle.pm_types.specs.Values.{IndexSets, PropertyValue, matrix, whole}
 use Rattle.std.proofs.Common.{arith, false, refl, subst, true, ◌∙◌}
 use Rattle.std.proofs.lemmas.Bool.{and_from, and_parts, eq-eqb, eqb-true, le-leb, leb-true}
@@ -74,8 +74,13 @@ second : (a b : Bool) → b ≡ true → (a || b) ≡ true
 second true b p = refl
 second false b p = p
 
+primitive_of : (p : PropId) → IsOfFan p → (m : ℕ) (rows : List (List Ratio)) → All HasPrimitiveRow rows → HavePrimitiveRows p (matrix m rows)
+primitive_of Vertices h m rows all = all
+primitive_of LinealitySpace h m rows all = all
+primitive_of p h m rows all = absurd h
+
 rows_form : (n : ℕ) (p : PropId) → IsOfFan p → (rows : List (List Ratio)) → 1 ≤ n → n ≤ most_columns → length rows ≤ most_rows → All (IsCutRow n) rows → list_all (is_row Fan p) rows ≡ true → FormsIn Fan n p (value_over n rows)
-rows_form n p h [] some few all cuts pass = record { formed = formed_of p h 0 []; columns = agrees_of p h n 0 []; rows = refl; entries = All-nil (All IsFraction); primitive = All-nil HasPrimitiveRow }
+rows_form n p h [] some few all cuts pass = record { formed = formed_of p h 0 []; columns = agrees_of p h n 0 []; rows = refl; entries = All-nil (All IsFraction); primitive = primitive_of p h 0 [] (All-nil HasPrimitiveRow) }
 rows_form n p h (r ∷ rows) some few all cuts pass = record {
   formed = formed_of p h n (r ∷ rows)
       ∙ three (nat_le (length (r ∷ rows)) most_rows) (is_column_count (r ∷ rows) n) (list_all (is_row_of_entries n) (r ∷ rows)) (le-leb (length (r ∷ rows)) most_rows all) (and_from (nat_le 1 n) (nat_le n most_columns) (le-leb 1 n some) (le-leb n most_columns few))
@@ -83,7 +88,7 @@ rows_form n p h (r ∷ rows) some few all cuts pass = record {
   columns = agrees_of p h n n (r ∷ rows) ∙ second (nat_eq n 0) (nat_eq n n) (eq-eqb n n refl);
   rows = pass;
   entries = All-weaker (IsCutRow n) (λ x. All IsFraction x) (λ x g. g.entries) (r ∷ rows) cuts;
-  primitive = All-weaker (IsCutRow n) (λ x. HasPrimitiveRow x) (λ x g. g.primitive) (r ∷ rows) cuts;
+  primitive = primitive_of p h n (r ∷ rows) (All-weaker (IsCutRow n) (λ x. HasPrimitiveRow x) (λ x g. g.primitive) (r ∷ rows) cuts);
 }
 
 sets_form : (n : ℕ) (s : IndexSets) → is_sets_form s.rows s.cols ≡ true → FormsIn Fan n MaximalCones (value_of_sets s)

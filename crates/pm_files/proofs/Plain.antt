@@ -3,7 +3,7 @@ use Rattle.std.proofs.Common.{refl, ◌≡◌, ◌≤◌, ℕ, List, [], ◌∷�
 use Rattle.std.specs.Prelude.{if◌then◌else◌}
 use Rattle.pm_vector.specs.Numbers.{Ratio}
 use Rattle.pm_props.specs.declared.property.PropId.{PropId}
-use Rattle.pm_props.specs.declared.property.PropId.TheVariants.{LinearObjective}
+use Rattle.pm_props.specs.declared.property.PropId.TheVariants.{LinearObjective, SiteHeights}
 use Rattle.pm_types.specs.Values.{PropertyValue, matrix, sets, whole, truth, extended, edges, lattice, counts, finite, plus_infinity, minus_infinity}
 use Rattle.serde_json.specs.Data.{Data, depth, items_depth}
 use Rattle.serde_json.specs.View.{items_of}
@@ -46,6 +46,7 @@ objective_depth (r ∷ rows) = let e = row_depth r in omega arith
 
 rows_depth : (p : PropId) (n : ℕ) (rows : List (List Ratio)) → depth (rows_json p n rows) ≤ 3
 rows_depth LinearObjective n rows = objective_depth rows
+rows_depth SiteHeights n rows = objective_depth rows
 rows_depth p n rows = matrix_depth n rows
 
 pub value_depth : (p : PropId) (v : PropertyValue) → depth (json_of p v) ≤ 3
@@ -95,6 +96,7 @@ objective_whole (r ∷ rows) = row_whole r
 
 rows_whole : (p : PropId) (n : ℕ) (rows : List (List Ratio)) → has_float (rows_json p n rows) ≡ false
 rows_whole LinearObjective n rows = objective_whole rows
+rows_whole SiteHeights n rows = objective_whole rows
 rows_whole p n rows = matrix_whole n rows
 
 number_whole : (k : ℤ) → has_float (whole_json k) ≡ false

@@ -3,7 +3,7 @@ use Rattle.std.specs.Prelude.{ℕ, List, [], ◌∷◌, ◌++◌, ◌==◌, if�
 use Rattle.pm_vector.specs.Numbers.{Ratio}
 use Rattle.pm_fraction.specs.Text.{text_of}
 use Rattle.pm_props.specs.declared.property.PropId.{PropId}
-use Rattle.pm_props.specs.declared.property.PropId.TheVariants.{LinearObjective}
+use Rattle.pm_props.specs.declared.property.PropId.TheVariants.{LinearObjective, SiteHeights}
 use Rattle.pm_types.specs.Values.{PropertyValue, matrix, sets, whole, truth, extended, edges, lattice, counts, Extended, finite, plus_infinity, minus_infinity}
 use Rattle.serde_json.specs.Data.{Data, unsigned, boolean, number, string, array, object, no_members, member}
 use Rattle.serde_json.specs.Find.{of_integer}
@@ -33,13 +33,14 @@ abbrev pub matrix_json : ℕ → List (List Ratio) → Data
 matrix_json n [] = array_of (untold_cols n)
 matrix_json n (r ∷ rows) = array_of (map row_json (r ∷ rows))
 
--- an objective is one row
+-- an objective is one row, and so are heights
 abbrev pub objective_json : List (List Ratio) → Data
 objective_json [] = array_of []
 objective_json (r ∷ rows) = row_json r
 
 abbrev pub rows_json : PropId → ℕ → List (List Ratio) → Data
 rows_json LinearObjective n rows = objective_json rows
+rows_json SiteHeights n rows = objective_json rows
 rows_json p n rows = matrix_json n rows
 
 -- ---- sets

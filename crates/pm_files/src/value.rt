@@ -61,7 +61,7 @@ fn matrix_json(alloc: Global, m: &Matrix) -> Result<Json, AllocError>
     Ok(Json::Array(rows))
 }
 
-/// An objective, which is one row.
+/// An objective or heights, which are one row.
 pub(crate) fn objective_json(alloc: Global, m: &Matrix) -> Result<Json, AllocError>
     ensures { IfOk result (λ j. view j ≡ objective_json m.now.rows) }
 {
@@ -75,7 +75,7 @@ pub(crate) fn objective_json(alloc: Global, m: &Matrix) -> Result<Json, AllocErr
 fn rows_json(alloc: Global, p: PropId, m: &Matrix) -> Result<Json, AllocError>
     ensures { IfOk result (λ j. view j ≡ rows_json p m.now.cols m.now.rows) }
 {
-    if p == PropId::LinearObjective {
+    if p == PropId::LinearObjective || p == PropId::SiteHeights {
         objective_json(alloc, m)
     } else {
         matrix_json(alloc, m)

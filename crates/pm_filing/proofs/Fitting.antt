@@ -1,13 +1,13 @@
 -- A value that suits a column count may be added to an object whose values suit it.
 use Rattle.std.proofs.lemmas.Option.{same_Some as some_is}
 use Rattle.pm_vector.proofs.Filters.{among_map, any_from, map_among}
-use Rattle.pm_vector.proofs.Lists.{Among, among_All, among_Contains, among_append_left, here, there}
+use Rattle.pm_vector.proofs.Lists.{Among, Contains_among, among_All, among_Contains, among_append_left, here, there}
 use Rattle.pm_filing.specs.Filing.{loaded_value}
 use Rattle.pm_filing.proofs.SuitLaws.{all_at}
 use Rattle.pm_filing.specs.Profiles.{are_different}
 use Rattle.pm_filing.specs.Views.{Suits, value_seen}
 use Rattle.pm_filing.specs.ReadingViews.{marks_seen}
-use Rattle.pm_filing.specs.Whole.{are_of_different, are_of_table, is_mark}
+use Rattle.pm_filing.specs.Whole.{AgreeInSites, are_of_different, are_of_table, is_mark}
 use Rattle.pm_rules.specs.Words.{is_label}
 use Rattle.std.specs.declared.alloc.Global.{Global}
 use Rattle.pm_props.specs.declared.set.PropSet.{PropSet}
@@ -15,7 +15,10 @@ use Rattle.pm_types.specs.Views.{view_of}
 use Rattle.pm_types.specs.declared.value.Value.{Value}
 use Rattle.std.specs.List.{All, Contains, list_all, list_any}
 use Rattle.pm_object.proofs.Formed.{agrees_dimension, ambient_is, dimension_of, is_not, nobody, value_among}
-use Rattle.pm_object.specs.State.{HeldValue, agrees, ambient_in, cols_of, first_cols, is_held, or_else, read_at, value_of}
+use Rattle.pm_object.specs.State.{HeldValue, agree_in_sites, agrees, ambient_in, cols_of, first_cols, have_as_many_sites, is_given, is_held, or_else, read_at, sites_agree, value_of}
+use Rattle.pm_object.specs.declared.held.Origin.TheVariants.{Given, Stored}
+use Rattle.pm_props.specs.Sets.{has as in_set}
+use Rattle.pm_filing.proofs.Wholeness.{all_among}
 use Rattle.pm_props.proofs.Places.{same_property_is, same_property_refl}
 use Rattle.pm_props.specs.Places.{place_of, same_place, same_property}
 use Rattle.pm_props.specs.Properties.{has, is_ambient}
@@ -25,7 +28,7 @@ use Rattle.pm_props.specs.declared.property.PropId.TheVariants.{ConeAmbientDim}
 use Rattle.pm_types.specs.Forms.{agrees_with, is_formed, stated_cols, states}
 use Rattle.pm_types.specs.Values.{PropertyValue}
 use Rattle.std.proofs.Common.{String, ap, arith, false, get_or, length, string_bytes, suc, zero, inl, inr, refl, subst, sym, true, true≢false, ◌∙◌}
-use Rattle.std.proofs.lemmas.Bool.{and_parts, eqb-true, or_cases}
+use Rattle.std.proofs.lemmas.Bool.{and_from, and_parts, eqb-true, or_cases}
 use Rattle.std.specs.Option.{is_some}
 use Rattle.std.specs.Prelude.{Bool, List, None, Option, Some, [], if◌then◌else◌, map, nat_eq, nat_le, not, ℕ, ◌<◌, ◌&&◌, ◌||◌, ◌++◌, ◌∷◌, ◌≡◌}
 
@@ -154,3 +157,25 @@ mark_at (x ∷ ms) zero m l is h =
     let first = (and_parts (is_mark (string_bytes x.0, x.1)) (list_all is_mark (marks_seen ms)) h).0 in
     subst (λ (z : String Global × ℕ). (nat_le 1 z.1 && nat_le z.1 5) ≡ true) (sym is) (and_parts (is_label (string_bytes x.0)) (nat_le 1 x.1 && nat_le x.1 5) first).1
 mark_at (x ∷ ms) (suc i) m l is h = mark_at ms i m (omega arith) is (and_parts (is_mark (string_bytes x.0, x.1)) (list_all is_mark (marks_seen ms)) h).1
+
+-- ---- sites
+-- a value that was given has as many sites as each given value that is held
+pub next_agrees : (stored : PropSet) (values xs ys : List (PropId × Value)) (x : PropId × Value) (held : List HeldValue) → AgreeInSites stored (map value_seen values) → xs ++ x ∷ ys ≡ values → held ≡ map (loaded_value stored) (map value_seen xs)
+    → in_set stored x.0 ≡ false → sites_agree held x.0 (view_of x.1) ≡ true
+next_agrees stored values xs ys x held agree whole is given = all_among (λ (h : HeldValue). if is_given h.origin then agree_in_sites x.0 (view_of x.1) h.property h.value else true) held at
+  where
+    there_is : {v : PropId × Value} → Among v (xs ++ x ∷ ys) → Contains (map value_seen values) (value_seen v)
+    there_is {v} i = Contains_among (among_map value_seen (subst (λ z. Among v z) whole i))
+
+    one : (v : PropId × PropertyValue) → Contains (map value_seen values) v → (t : Bool) → in_set stored v.0 ≡ t → (if is_given (if t then Stored else Given) then agree_in_sites x.0 (view_of x.1) v.0 v.1 else true) ≡ true
+    one v i true e = refl
+    one v i false e =
+        let own = there_is (in_middle xs x ys) in
+        and_from (have_as_many_sites x.0 (view_of x.1) v.0 v.1) (have_as_many_sites v.0 v.1 x.0 (view_of x.1)) (agree (value_seen x) v own i given e) (agree v (value_seen x) i own e given)
+
+    at : (h : HeldValue) → Among h held → (if is_given h.origin then agree_in_sites x.0 (view_of x.1) h.property h.value else true) ≡ true
+    at h i =
+        let (w, j, e) = map_among (loaded_value stored) (map value_seen xs) (subst (λ z. Among h z) is i) in
+        let (v, k, f) = map_among value_seen xs j in
+        subst (λ (z : HeldValue). (if is_given z.origin then agree_in_sites x.0 (view_of x.1) z.property z.value else true) ≡ true) (sym e)
+        (one w (subst (λ z. Contains (map value_seen values) z) (sym f) (there_is (among_append_left (x ∷ ys) k))) (in_set stored w.0) refl)

@@ -9,10 +9,13 @@ pub mod Unique
 pub mod ItemTurns
 pub mod HeldSets
 pub mod TestTurns
+pub mod SiteTurns
 pub mod MarkPairs
 pub mod DataRead
 pub mod FileParts
 pub mod ReadBack
+pub mod ReadSteps
+pub mod SiteNames
 pub mod Wholeness
 pub mod Saved
 pub mod Returning

@@ -21,9 +21,9 @@ use Rattle.pm_filing.specs.ReadingViews.{has_formed_objective, is_formed_objecti
 use Rattle.pm_filing.specs.Views.{AllSuit, Suits}
 use Rattle.pm_filing.specs.Whole.{IsWhole, is_place, objective_of}
 use Rattle.pm_matrix.specs.Matrices.{FractionMatrix}
-use Rattle.pm_object.proofs.Formed.{is_not}
+use Rattle.pm_object.proofs.Formed.{is_not, others_agree}
 use Rattle.pm_object.specs.Formed.{ArePrograms, are_different}
-use Rattle.pm_object.specs.State.{CanTake, HeldValue, State, agrees, cols_of, empty_object, has_rounds_at, holds_computed_at, is_computed, is_held, is_polytope, is_sealed_at, place_from, program_refusal, read_at, value_of, with_program}
+use Rattle.pm_object.specs.State.{CanTake, HeldValue, State, agrees, cols_of, empty_object, has_rounds_at, holds_computed_at, is_computed, is_held, is_polytope, is_sealed_at, place_from, program_refusal, read_at, sites_agree, value_of, with_program}
 use Rattle.pm_object.specs.declared.held.Excluded.{Excluded}
 use Rattle.pm_props.proofs.Places.{same_property_is}
 use Rattle.pm_props.specs.NameWords.{is_name}
@@ -125,7 +125,8 @@ taken_behind o name n v are within rounds fits =
     or_from (holds_computed_at (Some k) o.held) (has_rounds_at (Some k) o.rounds) (none_computed k o.held within) (ap (has_rounds_at (Some k)) rounds) in
     let columns : agrees (cols_of o.held) LinearObjective v ≡ true = agrees_now o.of n o.held LinearObjective v are fits in (
       passed (is_held LinearObjective (read_at (Some k) o.held)) _ _ (no_objective k o.held within) (passed (is_sealed_at (Some k) (with_program o name)) _ _ sealed
-          (passed (not (agrees (cols_of o.held) LinearObjective v)) _ _ (ap not columns) (passed (not (are_rows o.of LinearObjective v)) _ _ (ap not fits.rows) refl))),
+          (passed (not (agrees (cols_of o.held) LinearObjective v)) _ _ (ap not columns)
+          (passed (not (sites_agree o.held LinearObjective v)) _ _ (ap not (others_agree LinearObjective v o.held refl refl)) (passed (not (are_rows o.of LinearObjective v)) _ _ (ap not fits.rows) refl)))),
       fits.primitive,
     )
 

@@ -18,8 +18,8 @@ use Rattle.pm_json.specs.Readings.{has_index, is_fraction_text, number_value_of,
 use Rattle.pm_json.specs.declared.fail.ValueFail.TheVariants.{Number}
 use Rattle.pm_props.specs.Properties.{is_ambient, is_of_counts, is_of_edges, is_of_lattices, is_of_matrices, is_of_sets, is_of_whole_numbers, value_kind}
 use Rattle.pm_props.specs.declared.property.PropId.{PropId}
-use Rattle.pm_props.specs.declared.property.PropId.TheVariants.{F2Vector, LinearObjective}
-use Rattle.pm_types.specs.Forms.{AreFractions, are_indices, are_joined_back, has_64_bits, is_counts_form, is_dimension, is_edges_form, is_formed, is_lattice_form, is_matrix_form, is_matrix_of, is_sets_form, is_whole_form}
+use Rattle.pm_props.specs.declared.property.PropId.TheVariants.{F2Vector, LinearObjective, SiteHeights}
+use Rattle.pm_types.specs.Forms.{AreFractions, are_indices, are_joined_back, has_64_bits, is_counts_form, is_dimension, is_edges_form, is_formed, is_lattice_form, is_matrix_form, is_matrix_of, is_row_of_entries, is_sets_form, is_whole_form}
 use Rattle.pm_types.specs.Values.{PropertyValue, matrix, sets, whole, truth, extended, edges, lattice, counts, Extended, finite, plus_infinity, minus_infinity}
 use Rattle.pm_filing.specs.Laws.{ValuesAreReadBack}
 use Rattle.pm_files.specs.ValueJson.{array_of, cols_json, edges_json, extended_json, fraction_json, index_json, json_of, matrix_json, row_json, rows_json, set_json, sets_json, whole_json}
@@ -74,6 +74,11 @@ matrix_texts LinearObjective n [] form h = absurd (true≢false (sym form))
 matrix_texts LinearObjective n (r ∷ []) form h = (r, refl, row_text r (All-head (All IsFraction) r [] h))
 matrix_texts LinearObjective n (r ∷ s ∷ rows) form h =
     let one = eqb-true (suc (suc (length rows))) 1 (and_parts (eqb (suc (suc (length rows))) 1) (is_matrix_form n (r ∷ s ∷ rows)) form).0 in
+    absurd (omega arith)
+matrix_texts SiteHeights n [] form h = absurd (true≢false (sym form))
+matrix_texts SiteHeights n (r ∷ []) form h = (r, refl, row_text r (All-head (All IsFraction) r [] h))
+matrix_texts SiteHeights n (r ∷ s ∷ rows) form h =
+    let one = eqb-true (suc (suc (length rows))) 1 (and_parts (eqb (suc (suc (length rows))) 1) (leb n most_rows) (and_parts (eqb (suc (suc (length rows))) 1 && leb n most_rows) (list_all (is_row_of_entries n) (r ∷ s ∷ rows)) form).0).0 in
     absurd (omega arith)
 matrix_texts F2Vector n rows form h = matrix_text 0 n rows (omega arith) h
 matrix_texts p n rows form h = matrix_text 1 n rows (omega arith) h

@@ -97,21 +97,29 @@ profiles = record {
 unlike : (xs ys : List ℕ) → bytes_eq xs ys ≡ false → xs ≡ ys → ⊥
 unlike xs ys h e = true≢false (sym ((bytes_eq-Decides xs ys).1 e) ∙ h)
 
-not_vertices : IsFirstBad Polytope None (columns Facets 2 ∷ columns Points 3 ∷ columns Vertices 4 ∷ []) (codes "VERTICES") → ⊥
+not_vertices : IsFirstBad Polytope [] None (columns Facets 2 ∷ columns Points 3 ∷ columns Vertices 4 ∷ []) (codes "VERTICES") → ⊥
 not_vertices (inl (e, fails)) = unlike (codes "VERTICES") (codes "FACETS") refl e
 not_vertices (inr (p, inl (e, fails))) = unlike (codes "VERTICES") (codes "POINTS") refl e
 not_vertices (inr (p, inr (q, h))) = true≢false (sym q.columns)
 
 pub rows : RowsAreTested
+unfolding digits serde_json_on_literals
 rows = record {
   dimension = refl;
   of_matrix = refl;
   first_counts = refl;
   other_number = refl;
   objective = refl;
-  same_columns = (record { columns = refl; rows = refl; primitive = All-nil HasPrimitiveRow }, (record { columns = refl; rows = refl; primitive = All-nil HasPrimitiveRow }, tt));
-  other_columns = inr (record { columns = refl; rows = refl; primitive = All-nil HasPrimitiveRow }, inl (refl, λ p. true≢false (sym p.columns)));
+  same_columns = (record { columns = refl; sites = refl; rows = refl; primitive = All-nil HasPrimitiveRow }, (record { columns = refl; sites = refl; rows = refl; primitive = All-nil HasPrimitiveRow }, tt));
+  other_columns = inr (record { columns = refl; sites = refl; rows = refl; primitive = All-nil HasPrimitiveRow }, inl (refl, λ p. true≢false (sym p.columns)));
   not_later = not_vertices;
   zero_ray = λ p. true≢false (sym p.rows);
   in_one_pass = inl (refl, λ p. true≢false (sym p.rows));
+  heights = inr (record { columns = refl; sites = refl; rows = refl; primitive = All-nil HasPrimitiveRow }, inl (refl, λ p. true≢false (sym p.sites)));
+  untied = (record { columns = refl; sites = refl; rows = refl; primitive = All-nil HasPrimitiveRow }, (record { columns = refl; sites = refl; rows = refl; primitive = tt }, tt));
+  found = refl;
+  found_heights = refl;
+  none_found = refl;
+  no_list = refl;
+  in_profile_1 = refl;
 }

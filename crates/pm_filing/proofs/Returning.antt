@@ -25,16 +25,17 @@ use Rattle.pm_filing.proofs.FlatLists.{among_flat}
 use Rattle.pm_filing.proofs.ProgramsRead.{ProgramsAt, key_is_LP, none_there, programs_at, same_test, some_there}
 use Rattle.pm_filing.specs.Filing.{name_told, objective_value}
 use Rattle.pm_filing.proofs.HeldSets.{set_of-has}
+use Rattle.pm_filing.proofs.SiteNames.{site_names, stored_sites}
 use Rattle.pm_filing.proofs.SuitLaws.{all_at, from_file}
-use Rattle.pm_filing.proofs.Wholeness.{OfMembers, of_members, still_there, values_append}
+use Rattle.pm_filing.proofs.Wholeness.{OfMembers, all_among, of_members, still_there, values_append}
 use Rattle.pm_filing.specs.FileParts.{Part, data_in, is_hidden, is_other_form, is_programs_key, is_read_over, no_type, objective_by, objective_in, objectives_from, objectives_of, or_else_fault, part_at, programs, parts_in, property_at, read_as, then_read, type_in, type_named, unknown_type, value}
-use Rattle.pm_filing.specs.FileReadings.{ArePassed, Named, Passes, Reads, Seen, cols_after, cols_of_value, named_values, seen, seen_in, seen_of}
+use Rattle.pm_filing.specs.FileReadings.{ArePassed, Named, Passes, Reads, Seen, any_names_sites, cols_after, cols_of_value, finds_sites, fits_sites, is_of_sites, list_names_sites, named_values, seen, seen_in, seen_of, tied_values}
 use Rattle.pm_filing.specs.Profiles.{Profile, are_different, each_read, evidence_of, file_in, file_with, if_different, is_profile_2, is_two, list_read, mark_of, mark_with, marks_in, names_held, objectives_in, profile_in, program_name_of, program_names, programs_by, programs_in, programs_with, same_label, stored_by, stored_property, values_in}
 use Rattle.pm_filing.specs.Views.{Suits}
 use Rattle.pm_filing.specs.Whole.{AreMarks, IsSameFile, IsWhole, all_values, are_of_different, are_of_table, is_mark, is_of_one, objective_of}
 use Rattle.pm_json.specs.Readings.{Read, and_then, reading}
 use Rattle.pm_object.proofs.Formed.{agrees_dimension, ambient_is, dimension_of, is_not}
-use Rattle.pm_object.specs.State.{ambient_in, file_value, is_polytope}
+use Rattle.pm_object.specs.State.{ambient_in, file_value, have_as_many_sites, is_polytope}
 use Rattle.pm_object.specs.declared.held.Origin.TheVariants.{Given}
 use Rattle.pm_props.proofs.NameLemmas.{named_in_exactly}
 use Rattle.pm_props.proofs.Places.{same_property_is, same_property_refl}
@@ -46,13 +47,13 @@ use Rattle.pm_props.specs.Sets.{has, set_of}
 use Rattle.pm_object_type.specs.declared.object_type.ObjectType.{ObjectType}
 use Rattle.pm_object_type.specs.declared.object_type.ObjectType.TheVariants.{Polytope, Cone, Fan}
 use Rattle.pm_props.specs.declared.property.PropId.{PropId}
-use Rattle.pm_props.specs.declared.property.PropId.TheVariants.{ConeAmbientDim, LinearObjective}
+use Rattle.pm_props.specs.declared.property.PropId.TheVariants.{ConeAmbientDim, LinearObjective, SiteHeights, Sites}
 use Rattle.pm_rules.specs.Words.{is_label}
-use Rattle.pm_types.specs.Forms.{AreFractions, is_formed, rows_in, stated_cols}
+use Rattle.pm_types.specs.Forms.{AreFractions, cols_in, is_formed, rows_in, stated_cols}
 use Rattle.pm_types.specs.Values.{PropertyValue, matrix, sets, whole, truth, extended, edges, lattice, counts, finite, plus_infinity, minus_infinity}
 use Rattle.serde_json.proofs.Views.{get_member-put, get_member-put_other}
 use Rattle.serde_json.specs.Data.{Data, Items, Members, member, no_items, no_members, number, object, put, string, unsigned}
-use Rattle.serde_json.specs.Find.{as_number, as_object, as_str, get, get_member}
+use Rattle.serde_json.specs.Find.{as_array, as_number, as_object, as_str, get, get_member}
 use Rattle.serde_json.specs.View.{items_of}
 use Rattle.serde_json.specs.Written.{compact_text}
 
@@ -453,17 +454,17 @@ value_tells of n p v s = by (is_ambient p) refl
         at true k = unknown
         at false k = subst (λ m. IsKnown n (Some m)) (sym (states_n n (stated_cols p v) v (is_ambient p) e k s.columns)) known
 
-passes : (of : ObjectType) (n : ℕ) (p : PropId) (v : PropertyValue) {c : Option ℕ} → Suits of n p v → IsKnown n c → Passes of c p v
-passes of n p v s unknown = record { columns = refl; rows = s.rows; primitive = s.primitive }
-passes of n p v s known = record { columns = s.columns; rows = s.rows; primitive = s.primitive }
+passes : (of : ObjectType) (tied : List Named) (n : ℕ) (p : PropId) (v : PropertyValue) {c : Option ℕ} → Suits of n p v → fits_sites tied p v ≡ true → IsKnown n c → Passes of tied c p v
+passes of tied n p v s f unknown = record { columns = refl; sites = f; rows = s.rows; primitive = s.primitive }
+passes of tied n p v s f known = record { columns = s.columns; sites = f; rows = s.rows; primitive = s.primitive }
 
 known_after : (of : ObjectType) (n : ℕ) (p : PropId) (v : PropertyValue) {c : Option ℕ} → Suits of n p v → IsKnown n c → IsKnown n (cols_after c p v)
 known_after of n p v s unknown = value_tells of n p v s
 known_after of n p v s known = known
 
-pub all_pass : (of : ObjectType) (n : ℕ) (xs : List Named) (c : Option ℕ) → ((x : Named) → Among x xs → Suits of n x.property x.value) → IsKnown n c → ArePassed of c xs
-all_pass of n [] c f k = tt
-all_pass of n (x ∷ xs) c f k = (passes of n x.property x.value (f x here) k, all_pass of n xs (cols_after c x.property x.value) (λ y i. f y (there i)) (known_after of n x.property x.value (f x here) k))
+pub all_pass : (of : ObjectType) (tied : List Named) (n : ℕ) (xs : List Named) (c : Option ℕ) → ((x : Named) → Among x xs → Suits of n x.property x.value) → ((x : Named) → Among x xs → fits_sites tied x.property x.value ≡ true) → IsKnown n c → ArePassed of tied c xs
+all_pass of tied n [] c f s k = tt
+all_pass of tied n (x ∷ xs) c f s k = (passes of tied n x.property x.value (f x here) (s x here) k, all_pass of tied n xs (cols_after c x.property x.value) (λ y i. f y (there i)) (λ y i. s y (there i)) (known_after of n x.property x.value (f x here) k))
 
 -- ---- a program
 -- a program that is written: it has a name that it may have, its objective is one, and its marks are such
@@ -839,6 +840,57 @@ each_suits f w x i = elim (from_file f.of (parts_of f.of (file_members f)) x i) 
         subst (λ z. Suits f.of w.suit.0 LinearObjective z) (sym (some_is x.value (objective_value rows) is))
         (at (LinearObjective, objective_value rows) (among_append_right f.values (among_flat (λ (q : SavedProgram). objective_of q.objective) k v)))
 
+-- ---- sites and their heights
+-- where one of them is stored, the file says so
+says_sites : (f : SavedFile) → IsWhole f → (p : PropId) → is_of_sites (Some p) ≡ true → has f.stored p ≡ true → finds_sites f.of (file_json f) ≡ true
+says_sites f w p s h =
+    let held = names_held (parts_of f.of (file_members f)) in
+    let keys = items_of (map string (stored_keys f.of f.stored (contents f))) in
+    let there_is : get (codes "_computed") (file_json f) ≡ Some (array_of (map string (stored_keys f.of f.stored (contents f)))) = get_member-put (codes "_computed") (array_of (map string (stored_keys f.of f.stored (contents f)))) (contents f) in
+    let each : each_read (stored_property f.of held) keys ≡ Some (stored_of f) = stored_read f.of f.stored held (contents f) (stored_told f w) in
+    let named : any_names_sites f.of keys ≡ true = site_names f.of held keys (stored_of f) each ∙ stored_sites (stored_of f) p s (stored_same f w p ∙ h) in
+    and_from (is_profile_2 (file_json f)) (list_names_sites f.of (option_and_then as_array (get (codes "_computed") (file_json f)))) (is_newer f w)
+    (ap (λ o. list_names_sites f.of (option_and_then as_array o)) there_is ∙ named)
+
+-- else both were given
+given_site : (f : SavedFile) → IsWhole f → finds_sites f.of (file_json f) ≡ false → (p : PropId) → is_of_sites (Some p) ≡ true → has f.stored p ≡ false
+given_site f w none p s = by (has f.stored p) refl
+  where
+    by : (t : Bool) → has f.stored p ≡ t → has f.stored p ≡ false
+    by true e = absurd (true≢false (sym (says_sites f w p s e) ∙ none))
+    by false e = e
+
+-- the values of the file agree with the values to which they are tied
+each_agrees : (f : SavedFile) (w : IsWhole f) → finds_sites f.of (file_json f) ≡ false → (y x : Named) → Among y (named_values f.of (parts_of f.of (file_members f))) → Among x (named_values f.of (parts_of f.of (file_members f))) → have_as_many_sites y.property y.value x.property x.value ≡ true
+each_agrees f w none y x j i = by (same_property Sites y.property) refl (same_property SiteHeights x.property) refl
+  where
+    parts : List Part
+    parts = parts_of f.of (file_members f)
+
+    own : (z : Named) (p : PropId) → is_of_sites (Some p) ≡ true → z.property ≡ p → Among z (named_values f.of parts) → Among {X = PropId × PropertyValue} (z.property, z.value) f.values
+    own z p s is k = elim (from_file f.of parts z k) [
+      | inl l ↦ told_in f z.property z.value w (subst (λ xs. Among {X = PropId × PropertyValue} (z.property, z.value) xs) (told_values f.of (file_members f)) l)
+      | inr e ↦ absurd (true≢false (sym (subst (λ q. is_of_sites (Some q) ≡ true) (sym is ∙ e.0) s)))
+    ]
+
+    given : (z : Named) (p : PropId) → is_of_sites (Some p) ≡ true → z.property ≡ p → has f.stored z.property ≡ false
+    given z p s is = subst (λ q. has f.stored q ≡ false) (sym is) (given_site f w none p s)
+
+    by : (a : Bool) → same_property Sites y.property ≡ a → (b : Bool) → same_property SiteHeights x.property ≡ b → have_as_many_sites y.property y.value x.property x.value ≡ true
+    by true e true g =
+        let sites = sym (same_property_is Sites y.property e) in
+        let heights = sym (same_property_is SiteHeights x.property g) in
+        w.sites (y.property, y.value) (x.property, x.value) (Contains_among (own y Sites refl sites j)) (Contains_among (own x SiteHeights refl heights i)) (given y Sites refl sites) (given x SiteHeights refl heights)
+    by false e b g = ap (λ t. if t && same_property SiteHeights x.property then nat_eq (length (rows_in y.value)) (cols_in x.value) else true) e
+    by true e false g = ap (λ t. if t && same_property SiteHeights x.property then nat_eq (length (rows_in y.value)) (cols_in x.value) else true) e ∙ ap (λ t. if t then nat_eq (length (rows_in y.value)) (cols_in x.value) else true) g
+
+each_fits : (f : SavedFile) (w : IsWhole f) → (x : Named) → Among x (named_values f.of (parts_of f.of (file_members f))) → fits_sites (tied_values (record { of = f.of; top = file_json f; parts = parts_of f.of (file_members f) })) x.property x.value ≡ true
+each_fits f w x i = by (finds_sites f.of (file_json f)) refl
+  where
+    by : (t : Bool) → finds_sites f.of (file_json f) ≡ t → fits_sites (if t then [] else named_values f.of (parts_of f.of (file_members f))) x.property x.value ≡ true
+    by true e = refl
+    by false e = all_among (λ (y : Named). have_as_many_sites y.property y.value x.property x.value) (named_values f.of (parts_of f.of (file_members f))) (λ y j. each_agrees f w e y x j i)
+
 pub returned : (bytes : List ℕ) (f : SavedFile) → IsWhole f → data_in bytes ≡ Ok (file_json f) → (g : SavedFile) × Reads bytes g × IsSameFile f g
 returned bytes f w found =
     let parts = parts_of f.of (file_members f) in
@@ -847,7 +899,7 @@ returned bytes f w found =
     ap (λ r. then_read r seen_in) found
     ∙ ap (λ r. then_read r (seen_of (file_json f) (file_members f))) (type_is f)
     ∙ ap (λ r. then_read r (λ parts. Ok (record { of = f.of; top = file_json f; parts = parts }))) (parts_told f.of (file_members f) (file_fine f w)) in
-    let passed : ArePassed f.of None (named_values f.of parts) = all_pass f.of w.suit.0 (named_values f.of parts) None (each_suits f w) unknown in (
+    let passed : ArePassed f.of (tied_values s) None (named_values f.of parts) = all_pass f.of (tied_values s) w.suit.0 (named_values f.of parts) None (each_suits f w) (each_fits f w) unknown in (
       file_again f,
       (s, seen_is, (passed, file_is f w)),
       record {

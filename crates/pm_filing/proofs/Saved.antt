@@ -8,7 +8,7 @@ use Rattle.std.specs.Option.{is_none, is_some, unwrap_or}
 use Rattle.std.specs.Prelude.{filter, flat_map, fold, if◌then◌else◌, map, nat_le, not, slice_get}
 use Rattle.std.specs.Str.{bytes_eq}
 use Rattle.pm_vector.proofs.Filters.{among_filter, among_map, any_from, any_to, filter_among, map_among}
-use Rattle.pm_vector.proofs.Lists.{All_among, Among, Contains_among, among_All, among_append, here, there}
+use Rattle.pm_vector.proofs.Lists.{All_among, Among, Contains_among, among_All, among_Contains, among_append, here, there}
 use Rattle.pm_vector.specs.Numbers.{Ratio}
 use Rattle.pm_files.specs.Files.{Mark, SavedProgram}
 use Rattle.pm_filing.proofs.FlatLists.{flat_among}
@@ -27,7 +27,9 @@ use Rattle.pm_geom.specs.declared.evidence.Evidence.TheVariants.{E1, E2, E3, E4}
 use Rattle.pm_object.proofs.Formed.{Each, agrees_free, held_dimension, is_not, nobody, none_stated, only, value_among}
 use Rattle.pm_object.proofs.Viewing.{among_read}
 use Rattle.pm_object.specs.Formed.{ArePrograms, IsFormed, are_once, is_numbered, stands_at}
-use Rattle.pm_object.specs.State.{HeldValue, State, agrees, ambient_in, cols_of, first_cols, or_else, read_at, value_of}
+use Rattle.pm_object.specs.State.{HeldValue, State, agrees, ambient_in, cols_of, first_cols, have_as_many_sites, is_given, or_else, read_at, value_of}
+use Rattle.pm_object.specs.declared.held.Origin.{Origin}
+use Rattle.pm_object.specs.declared.held.Origin.TheVariants.{Computed, Given, Stored}
 use Rattle.pm_object.specs.declared.held.Excluded.{Excluded}
 use Rattle.pm_object.specs.declared.held.Why.{Why}
 use Rattle.pm_object.specs.declared.held.Why.TheVariants as why
@@ -215,6 +217,12 @@ saved_whole book o b f = record {
         subst (λ (w : PropId × PropertyValue). Suits o.of (unwrap_or (cols_of o.held) 1) w.0 w.1) (sym is) (suits_by o.of (length o.programs) o.held (cols_of o.held) refl each h j)),
   );
   entries = All_among (λ (v : PropId × PropertyValue). AreFractions v.1) (all_values (saved_file book o)) (λ v i. let (h, j, is) = any_held book o f v i in subst (λ (w : PropId × PropertyValue). AreFractions w.1) (sym is) (each h j).entries);
+  sites = λ v w i j not_v not_w.
+      let (g, k, p, is) = value_held o.held v (among_Contains (values_of o.held) i) in
+      let (h, l, q, js) = value_held o.held w (among_Contains (values_of o.held) j) in
+      let both = and_from (is_given g.origin) (is_given h.origin) (given_own g k p (ap (λ (z : PropId × PropertyValue). z.0) is) not_v) (given_own h l q (ap (λ (z : PropId × PropertyValue). z.0) js) not_w) in
+      subst (λ (z : PropId × PropertyValue). have_as_many_sites z.0 z.1 w.0 w.1 ≡ true) (sym is)
+      (subst (λ (z : PropId × PropertyValue). have_as_many_sites g.property g.value z.0 z.1 ≡ true) (sym js) (f.sites g h (Contains_among k) (Contains_among l) both));
   stored = λ p t. found p t;
   marks = marks_such book o None b f;
   programs = subst (λ names. ArePrograms o.of names) (sym (names_saved book o 0 o.programs)) f.programs;
@@ -223,6 +231,20 @@ saved_whole book o b f = record {
   where
     each : Each o.of (cols_of o.held) (length o.programs) o.held
     each h i = f.each h (Contains_among i)
+
+    -- a value of the object itself that is not stored was given
+    given_own : (g : HeldValue) → Among g o.held → g.place ≡ None → {p : PropId} → p ≡ g.property → has (found_names o.held) p ≡ false → is_given g.origin ≡ true
+    given_own g i own {p} is not_found = by g.origin refl
+      where
+        own_found : is_found g.origin ≡ true → has (found_names o.held) g.property ≡ true
+        own_found e =
+            set_of-has (map (λ (h : HeldValue). h.property) (filter is_own_found o.held)) g.property
+            ∙ any_from (λ q. same_property q g.property) (among_map (λ (h : HeldValue). h.property) (among_filter is_own_found i (and_from (is_none g.place) (is_found g.origin) (ap is_none own) e))) (same_property_refl g.property)
+
+        by : (x : Origin) → g.origin ≡ x → is_given x ≡ true
+        by Given e = refl
+        by Stored e = absurd (true≢false (sym (subst (λ q. has (found_names o.held) q ≡ true) (sym is) (own_found (ap is_found e))) ∙ not_found))
+        by Computed e = absurd (true≢false (sym (subst (λ q. has (found_names o.held) q ≡ true) (sym is) (own_found (ap is_found e))) ∙ not_found))
 
     found : (p : PropId) → has (found_names o.held) p ≡ true → is_of_one (values_of o.held) p ≡ true
     found p t =

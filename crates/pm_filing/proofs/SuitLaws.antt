@@ -2,7 +2,7 @@
 use Rattle.std.proofs.lemmas.Option.{same_Some as some_is}
 use Rattle.pm_vector.proofs.Lists.{Among, here, there, among_append, among_append_left, among_append_right}
 use Rattle.pm_filing.specs.FileParts.{Part, value, programs}
-use Rattle.pm_filing.specs.FileReadings.{ArePassed, ArePassedIn, Named, Seen, cols_of_value, named_objective, named_objectives, named_values}
+use Rattle.pm_filing.specs.FileReadings.{ArePassed, ArePassedIn, Named, Seen, cols_of_value, fits_sites, named_objective, named_objectives, named_values, tied_values}
 use Rattle.pm_filing.specs.Profiles.{objectives_in, values_in}
 use Rattle.pm_filing.specs.ReadingViews.{are_formed_values}
 use Rattle.pm_filing.specs.Views.{Suits}
@@ -22,22 +22,23 @@ use Rattle.std.specs.Prelude.{Bool, List, None, Option, Some, [], if◌then◌el
 use lib.IntN.{pos}
 
 -- the value passes the tests of columns and rows where n columns are known
-record Agrees (of : ObjectType) (n : ℕ) (x : Named) : Type 0 where
+record Agrees (of : ObjectType) (tied : List Named) (n : ℕ) (x : Named) : Type 0 where
   columns : agrees_with n x.property x.value ≡ true
   rows : are_rows of x.property x.value ≡ true
-  primitive : HavePrimitiveRows x.value
+  primitive : HavePrimitiveRows x.property x.value
+  sites : fits_sites tied x.property x.value ≡ true
 
-abbrev AllAgree : ObjectType → ℕ → List Named → Type 0
-AllAgree of n xs = (x : Named) → Among x xs → Agrees of n x
+abbrev AllAgree : ObjectType → List Named → ℕ → List Named → Type 0
+AllAgree of tied n xs = (x : Named) → Among x xs → Agrees of tied n x
 
 -- an ambient dimension has its form
 abbrev Dimensions : List Named → Type 0
 Dimensions xs = (x : Named) → Among x xs → is_ambient x.property ≡ true → is_formed x.property x.value ≡ true
 
-known_agree : (of : ObjectType) (n : ℕ) (xs : List Named) → ArePassed of (Some n) xs → AllAgree of n xs
-known_agree of n [] h x i = elim i [ ]
-known_agree of n (y ∷ xs) (p, h) x here = record { columns = p.columns; rows = p.rows; primitive = p.primitive }
-known_agree of n (y ∷ xs) (p, h) x (there i) = known_agree of n xs h x i
+known_agree : (of : ObjectType) (tied : List Named) (n : ℕ) (xs : List Named) → ArePassed of tied (Some n) xs → AllAgree of tied n xs
+known_agree of tied n [] h x i = elim i [ ]
+known_agree of tied n (y ∷ xs) (p, h) x here = record { columns = p.columns; rows = p.rows; primitive = p.primitive; sites = p.sites }
+known_agree of tied n (y ∷ xs) (p, h) x (there i) = known_agree of tied n xs h x i
 
 same_number : (n : ℕ) → nat_eq n n ≡ true
 same_number n = grind arith
@@ -73,20 +74,20 @@ others_agree n p v formed e = by (is_ambient p) refl e
         at true s k = agrees_free n p v (sym (ambient_is p) ∙ a) s
         at false s k = absurd (true≢false (ap is_some k))
 
-cons_agree : (of : ObjectType) (n : ℕ) (y : Named) (xs : List Named) → Agrees of n y → AllAgree of n xs → AllAgree of n (y ∷ xs)
-cons_agree of n y xs a all x here = a
-cons_agree of n y xs a all x (there i) = all x i
+cons_agree : (of : ObjectType) (tied : List Named) (n : ℕ) (y : Named) (xs : List Named) → Agrees of tied n y → AllAgree of tied n xs → AllAgree of tied n (y ∷ xs)
+cons_agree of tied n y xs a all x here = a
+cons_agree of tied n y xs a all x (there i) = all x i
 
 -- all values that pass, one after another, agree with one column count
-one_count : (of : ObjectType) (xs : List Named) → Dimensions xs → ArePassed of None xs → (n : ℕ) × AllAgree of n xs
-one_count of [] d h = (1, λ x i. elim i [ ])
-one_count of (y ∷ xs) d (p, h) = by (cols_of_value y.property y.value) refl h (λ k. one_count of xs (λ x i. d x (there i)) k)
+one_count : (of : ObjectType) (tied : List Named) (xs : List Named) → Dimensions xs → ArePassed of tied None xs → (n : ℕ) × AllAgree of tied n xs
+one_count of tied [] d h = (1, λ x i. elim i [ ])
+one_count of tied (y ∷ xs) d (p, h) = by (cols_of_value y.property y.value) refl h (λ k. one_count of tied xs (λ x i. d x (there i)) k)
   where
-    by : (c : Option ℕ) → cols_of_value y.property y.value ≡ c → ArePassed of c xs → (ArePassed of None xs → (n : ℕ) × AllAgree of n xs) → (n : ℕ) × AllAgree of n (y ∷ xs)
-    by (Some n) e k rest = (n, cons_agree of n y xs (record { columns = itself_agrees n y.property y.value (d y here) e; rows = p.rows; primitive = p.primitive }) (known_agree of n xs k))
+    by : (c : Option ℕ) → cols_of_value y.property y.value ≡ c → ArePassed of tied c xs → (ArePassed of tied None xs → (n : ℕ) × AllAgree of tied n xs) → (n : ℕ) × AllAgree of tied n (y ∷ xs)
+    by (Some n) e k rest = (n, cons_agree of tied n y xs (record { columns = itself_agrees n y.property y.value (d y here) e; rows = p.rows; primitive = p.primitive; sites = p.sites }) (known_agree of tied n xs k))
     by None e k rest =
         let (n, all) = rest k in
-        (n, cons_agree of n y xs (record { columns = others_agree n y.property y.value (d y here) e; rows = p.rows; primitive = p.primitive }) all)
+        (n, cons_agree of tied n y xs (record { columns = others_agree n y.property y.value (d y here) e; rows = p.rows; primitive = p.primitive; sites = p.sites }) all)
 
 -- ---- the values of a file among those that are tested
 pub record Tested (of : ObjectType) (parts : List Part) (v : PropId × PropertyValue) : Type 0 where
@@ -157,9 +158,10 @@ all_at p (y ∷ xs) h (there i) = all_at p xs (right (p y) (list_all p xs) h) i
 pub record TestedSuits (s : Seen) : Type 0 where
   pub count : ℕ
   pub suits : (v : PropId × PropertyValue) → Tested s.of s.parts v → is_formed v.0 v.1 ≡ true → Suits s.of count v.0 v.1
+  pub sites : (x : Named) → Among x (named_values s.of s.parts) → fits_sites (tied_values s) x.property x.value ≡ true
 
 pub tested_suits : (s : Seen) → ArePassedIn s → are_formed_values (values_in s.parts) ≡ true → TestedSuits s
-tested_suits s passed formed = record { count = count.0; suits = suits }
+tested_suits s passed formed = record { count = count.0; suits = suits; sites = λ x i. (count.1 x i).sites }
   where
     dimensions : Dimensions (named_values s.of s.parts)
     dimensions x i a = elim (from_file s.of s.parts x i) [
@@ -167,8 +169,8 @@ tested_suits s passed formed = record { count = count.0; suits = suits }
       | inr e ↦ absurd (true≢false (sym (ap is_ambient (sym e.0) ∙ a)))
     ]
 
-    count : (n : ℕ) × AllAgree s.of n (named_values s.of s.parts)
-    count = one_count s.of (named_values s.of s.parts) dimensions passed
+    count : (n : ℕ) × AllAgree s.of (tied_values s) n (named_values s.of s.parts)
+    count = one_count s.of (tied_values s) (named_values s.of s.parts) dimensions passed
 
     suits : (v : PropId × PropertyValue) → Tested s.of s.parts v → is_formed v.0 v.1 ≡ true → Suits s.of count.0 v.0 v.1
     suits v t form =
@@ -177,5 +179,5 @@ tested_suits s passed formed = record { count = count.0; suits = suits }
           formed = form;
           columns = subst (λ w. agrees_with count.0 v.0 w ≡ true) t.value (subst (λ p. agrees_with count.0 p t.x.value ≡ true) t.property a.columns);
           rows = subst (λ w. are_rows s.of v.0 w ≡ true) t.value (subst (λ p. are_rows s.of p t.x.value ≡ true) t.property a.rows);
-          primitive = subst HavePrimitiveRows t.value a.primitive;
+          primitive = subst (λ w. HavePrimitiveRows v.0 w) t.value (subst (λ p. HavePrimitiveRows p t.x.value) t.property a.primitive);
         }

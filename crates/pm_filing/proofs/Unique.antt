@@ -3,7 +3,7 @@ use Rattle.std.proofs.Common.{sym, ap, subst, ◌∙◌, ◌≡◌, inl, inr, �
 use Rattle.pm_object_type.specs.declared.object_type.ObjectType.{ObjectType}
 use Rattle.pm_filing.specs.FileParts.{FileFault, FileRead, bad_row}
 use Rattle.pm_files.specs.Files.{SavedFile}
-use Rattle.pm_filing.specs.FileReadings.{ArePassed, IsFirstBad, Named, Reads, ReadsSeen, Refuses, RefusesSeen, Seen, cols_after, named_values, seen}
+use Rattle.pm_filing.specs.FileReadings.{ArePassed, IsFirstBad, Named, Reads, ReadsSeen, Refuses, RefusesSeen, Seen, cols_after, named_values, seen, tied_values}
 use Rattle.pm_filing.specs.Profiles.{file_in}
 use Rattle.pm_filing.specs.ReadingLaws.{ReadingsAreUnique}
 
@@ -29,27 +29,27 @@ not_both_ways : {A : Type 0} (a : A) (e : FileFault) (r : FileRead A) → r ≡ 
 not_both_ways a e r h g = true≢false (ap is_read (sym h ∙ g))
 
 -- ---- the tests of rows
-passed_not_bad : (of : ObjectType) (n : Option ℕ) (xs : List Named) (name : List ℕ) → ArePassed of n xs → IsFirstBad of n xs name → ⊥
-passed_not_bad of n [] name p b = b
-passed_not_bad of n (x ∷ xs) name (p, ps) (inl (e, fails)) = fails p
-passed_not_bad of n (x ∷ xs) name (p, ps) (inr (q, b)) = passed_not_bad of (cols_after n x.property x.value) xs name ps b
+passed_not_bad : (of : ObjectType) (tied : List Named) (n : Option ℕ) (xs : List Named) (name : List ℕ) → ArePassed of tied n xs → IsFirstBad of tied n xs name → ⊥
+passed_not_bad of tied n [] name p b = b
+passed_not_bad of tied n (x ∷ xs) name (p, ps) (inl (e, fails)) = fails p
+passed_not_bad of tied n (x ∷ xs) name (p, ps) (inr (q, b)) = passed_not_bad of tied (cols_after n x.property x.value) xs name ps b
 
-one_bad : (of : ObjectType) (n : Option ℕ) (xs : List Named) (a b : List ℕ) → IsFirstBad of n xs a → IsFirstBad of n xs b → a ≡ b
-one_bad of n [] a b h g = absurd h
-one_bad of n (x ∷ xs) a b (inl (e, fails)) (inl (d, fails')) = e ∙ sym d
-one_bad of n (x ∷ xs) a b (inl (e, fails)) (inr (q, g)) = absurd (fails q)
-one_bad of n (x ∷ xs) a b (inr (p, h)) (inl (d, fails)) = absurd (fails p)
-one_bad of n (x ∷ xs) a b (inr (p, h)) (inr (q, g)) = one_bad of (cols_after n x.property x.value) xs a b h g
+one_bad : (of : ObjectType) (tied : List Named) (n : Option ℕ) (xs : List Named) (a b : List ℕ) → IsFirstBad of tied n xs a → IsFirstBad of tied n xs b → a ≡ b
+one_bad of tied n [] a b h g = absurd h
+one_bad of tied n (x ∷ xs) a b (inl (e, fails)) (inl (d, fails')) = e ∙ sym d
+one_bad of tied n (x ∷ xs) a b (inl (e, fails)) (inr (q, g)) = absurd (fails q)
+one_bad of tied n (x ∷ xs) a b (inr (p, h)) (inl (d, fails)) = absurd (fails p)
+one_bad of tied n (x ∷ xs) a b (inr (p, h)) (inr (q, g)) = one_bad of tied (cols_after n x.property x.value) xs a b h g
 
 -- ---- what was seen
 one_fault_seen : (s : Seen) (a b : FileFault) → RefusesSeen s a → RefusesSeen s b → a ≡ b
-one_fault_seen s a b (inl (n, is, h)) (inl (m, js, g)) = is ∙ ap bad_row (one_bad s.of None (named_values s.of s.parts) n m h g) ∙ sym js
-one_fault_seen s a b (inl (n, is, h)) (inr (passed, d)) = absurd (passed_not_bad s.of None (named_values s.of s.parts) n passed h)
-one_fault_seen s a b (inr (passed, e)) (inl (m, js, g)) = absurd (passed_not_bad s.of None (named_values s.of s.parts) m passed g)
+one_fault_seen s a b (inl (n, is, h)) (inl (m, js, g)) = is ∙ ap bad_row (one_bad s.of (tied_values s) None (named_values s.of s.parts) n m h g) ∙ sym js
+one_fault_seen s a b (inl (n, is, h)) (inr (passed, d)) = absurd (passed_not_bad s.of (tied_values s) None (named_values s.of s.parts) n passed h)
+one_fault_seen s a b (inr (passed, e)) (inl (m, js, g)) = absurd (passed_not_bad s.of (tied_values s) None (named_values s.of s.parts) m passed g)
 one_fault_seen s a b (inr (passed, e)) (inr (passed', d)) = same_err a b (file_in s.of s.top s.parts) e d
 
 not_seen_both : (s : Seen) (f : SavedFile) (e : FileFault) → ReadsSeen s f → RefusesSeen s e → ⊥
-not_seen_both s f e r (inl (n, is, h)) = passed_not_bad s.of None (named_values s.of s.parts) n r.0 h
+not_seen_both s f e r (inl (n, is, h)) = passed_not_bad s.of (tied_values s) None (named_values s.of s.parts) n r.0 h
 not_seen_both s f e r (inr (passed, d)) = not_both_ways f e (file_in s.of s.top s.parts) r.1 d
 
 -- ---- bytes

@@ -16,6 +16,7 @@ use Rattle.pm_props.specs.Sets.{has, only, union}
 use Rattle.pm_object_type.specs.declared.object_type.ObjectType.TheVariants.{Cone, Polytope}
 use Rattle.pm_props.specs.declared.property.PropId.{PropId}
 use Rattle.pm_props.specs.declared.property.PropId.TheVariants.{ConeAmbientDim, FullDim, LinearObjective, Pointed}
+use Rattle.pm_object.specs.State.{have_as_many_sites}
 use Rattle.pm_types.specs.Forms.{AreFractions, HasPrimitiveRow, agrees_with}
 use Rattle.pm_types.specs.Values.{PropertyValue, matrix, truth, whole}
 use lib.IntN.{pos}
@@ -59,6 +60,15 @@ two_counts n h k = apart (eqb-true 2 n h) (eqb-true 3 n k)
 no_list : {X : Type 0} {x : X} {xs : List X} → x ∷ xs ≡ [] → ⊥
 no_list e = cc
 
+no_sites : (v w : PropId × PropertyValue) → Among v (dimension ∷ pointed ∷ []) → have_as_many_sites v.0 v.1 w.0 w.1 ≡ true
+no_sites v w here = refl
+no_sites v w (there here) = refl
+no_sites v w (there (there i)) = elim i [ ]
+
+there_too : {v : PropId × PropertyValue} → Among v (dimension ∷ []) → Among v (dimension ∷ pointed ∷ [])
+there_too here = here
+there_too (there i) = elim i [ ]
+
 pub whole_files : FilesAreWhole
 unfolding has only union
 whole_files = record {
@@ -67,6 +77,7 @@ whole_files = record {
     once = refl;
     suit = (2, All_among (λ (v : PropId × PropertyValue). Suits Cone 2 v.0 v.1) (dimension ∷ pointed ∷ []) each_suits);
     entries = All_among (λ (v : PropId × PropertyValue). AreFractions v.1) (dimension ∷ pointed ∷ []) each_fractions;
+    sites = λ v w i j a b. no_sites v w (among_Contains (dimension ∷ pointed ∷ []) i);
     stored = λ p h. absurd (true≢false (sym h ∙ has-empty p));
     marks = record { marks = refl; labels = refl };
     programs = record { few = refl; words = refl; different = refl; polytope = λ h. absurd (true≢false (sym h)) };
@@ -84,6 +95,7 @@ whole_files = record {
     once = refl;
     suit = (2, All_among (λ (v : PropId × PropertyValue). Suits Polytope 2 v.0 v.1) (dimension ∷ []) dimension_suits);
     entries = All_among (λ (v : PropId × PropertyValue). AreFractions v.1) (dimension ∷ []) dimension_fractions;
+    sites = λ v w i j a b. no_sites v w (there_too (among_Contains (dimension ∷ []) i));
     stored = λ p h. absurd (true≢false (sym h ∙ has-empty p));
     marks = record { marks = refl; labels = refl };
     programs = record { few = refl; words = refl; different = refl; polytope = λ h. refl };

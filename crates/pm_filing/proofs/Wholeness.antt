@@ -6,10 +6,10 @@ use Rattle.std.specs.List.{All, list_all}
 use Rattle.std.specs.Option.{is_some}
 use Rattle.std.specs.Ordering.{match_ordering, nat_cmp}
 use Rattle.std.specs.Cmp.Lexicographic.{slice_cmp}
-use Rattle.std.specs.Prelude.{codes, if◌then◌else◌, flat_map, length, map, nat_le, nat_lt, not, option_and_then, option_map}
+use Rattle.std.specs.Prelude.{codes, if◌then◌else◌, flat_map, length, map, nat_eq, nat_le, nat_lt, not, option_and_then, option_map, ◌⊎◌}
 use Rattle.std.specs.Str.{bytes_eq, is_utf8}
 use Rattle.pm_vector.proofs.Filters.{any_from, any_to, map_among}
-use Rattle.pm_vector.proofs.Lists.{All_among, Among, among_All, among_append, among_append_left, here, there}
+use Rattle.pm_vector.proofs.Lists.{All_among, Among, among_All, among_Contains, among_append, among_append_left, here, there}
 use Rattle.pm_files.proofs.Ascending.{Ascends, found_first, none_at, read_ascends}
 use Rattle.pm_files.specs.Files.{Mark, SavedFile, SavedProgram}
 use Rattle.pm_filing.proofs.HeldSets.{set_of-has}
@@ -17,20 +17,22 @@ use Rattle.pm_filing.proofs.FileParts.{objectives-formed, values-formed}
 use Rattle.pm_filing.proofs.FlatLists.{flat_among}
 use Rattle.pm_filing.proofs.Objectives.{objective_is}
 use Rattle.pm_filing.proofs.ProgramsRead.{AreNames, IsFront, count, each_count, few_programs, front_names, names_front, of_read, only_polytopes, plain_count, plain_differ, plain_words, programs_at, same_test}
+use Rattle.pm_filing.proofs.ReadSteps.{err_ok, if_from, key_from, map_from, ok_from, ok_is, some_from, then_from}
+use Rattle.pm_filing.proofs.SiteNames.{found_sites}
 use Rattle.pm_filing.proofs.SuitLaws.{Tested, TestedSuits, all_at, is_tested, objective_tested, tested_suits}
 use Rattle.pm_filing.specs.Filing.{name_told}
 use Rattle.pm_filing.specs.FileParts.{FileFault, FileRead, Part, at_key, data_in, json_in, members_in, no_type, not_json, objectives_of, or_else_fault, part_at, parts_in, programs, programs_part, property_at, read_as, then_read, too_long, type_in, value, value_part, is_programs_key, is_other_form}
-use Rattle.pm_filing.specs.FileReadings.{Named, ReadsSeen, Seen, named_values, seen, seen_in, seen_of}
+use Rattle.pm_filing.specs.FileReadings.{Named, ReadsSeen, Seen, finds_sites, fits_sites, named_values, seen, seen_in, seen_of, tied_values}
 use Rattle.pm_filing.specs.Profiles.{Profile, are_different, different_read, each_read, evidence_of, file_with, full_profile, if_different, if_held, if_name, is_profile_2, list_read, mark_among, mark_by, mark_of, mark_with, marks_in, names_held, no_marks, objectives_in, or_bad, plain_profile, profile_in, program_name_of, program_names, programs_by, programs_in, programs_with, same_label, stored_by, stored_property, values_in}
 use Rattle.pm_filing.specs.ReadingViews.{HaveFractions, are_formed_parts, is_formed_objective}
 use Rattle.pm_filing.specs.Views.{AllSuit, Suits}
-use Rattle.pm_filing.specs.Whole.{AreMarks, IsWhole, all_values, are_of_different, are_of_table, is_mark, is_of_one, objective_of}
+use Rattle.pm_filing.specs.Whole.{AgreeInSites, AreMarks, IsWhole, all_values, are_of_different, are_of_table, is_mark, is_of_one, objective_of}
 use Rattle.pm_object.proofs.Formed.{only}
 use Rattle.pm_object.specs.Formed.{are_different as names_differ}
-use Rattle.pm_object.specs.State.{is_polytope}
+use Rattle.pm_object.specs.State.{have_as_many_sites, is_polytope}
 use Rattle.pm_vector.specs.Numbers.{Ratio}
 use Rattle.pm_props.specs.NameWords.{is_name}
-use Rattle.pm_props.specs.declared.property.PropId.TheVariants.{LinearObjective}
+use Rattle.pm_props.specs.declared.property.PropId.TheVariants.{LinearObjective, SiteHeights, Sites}
 use Rattle.pm_json.specs.Readings.{Read, and_then, reading}
 use Rattle.pm_props.proofs.Members.{has-empty}
 use Rattle.pm_props.proofs.NameLemmas.{named_in_exactly}
@@ -42,50 +44,12 @@ use Rattle.pm_props.specs.Sets.{has, set_of}
 use Rattle.pm_object_type.specs.declared.object_type.ObjectType.{ObjectType}
 use Rattle.pm_props.specs.declared.property.PropId.{PropId}
 use Rattle.pm_rules.specs.Words.{is_label}
-use Rattle.pm_types.specs.Forms.{AreFractions, is_formed, rows_in}
+use Rattle.pm_types.specs.Forms.{AreFractions, cols_in, is_formed, rows_in}
 use Rattle.pm_types.specs.Values.{PropertyValue}
 use Rattle.serde_json.specs.Data.{Data, Items, Members, array, boolean, item, member, no_items, no_members, null, number, object, string}
 use Rattle.serde_json.specs.Find.{as_array, as_object, as_str, get, get_member}
 use Rattle.serde_json.specs.Read.{read}
 use Rattle.pm_limits.specs.Limits.{most_file_bytes}
-
--- ---- steps of reading, backwards
-abbrev is_read : {A : Type 0} → FileRead A → Bool
-is_read (Ok a) = true
-is_read (Err e) = false
-
-err_ok : {A : Type 0} (e : FileFault) (a : A) → Err e ≡ Ok a → ⊥
-err_ok e a h = true≢false (sym (ap is_read h))
-
-abbrev file_ok : {A : Type 0} → A → FileRead A
-file_ok a = Ok a
-
-ok_is : {A : Type 0} (a b : A) → file_ok a ≡ file_ok b → a ≡ b
-ok_is a b h = cc
-
-pub ok_from : {A B : Type 0} (r : FileRead A) (next : A → FileRead B) (b : B) → then_read r next ≡ Ok b → (a : A) × (r ≡ Ok a) × (next a ≡ Ok b)
-ok_from (Ok a) next b h = (a, refl, h)
-ok_from (Err e) next b h = absurd (err_ok e b h)
-
-pub some_from : {A : Type 0} (fault : FileFault) (o : Option A) (a : A) → or_else_fault fault o ≡ Ok a → o ≡ Some a
-some_from fault None a h = absurd (err_ok fault a h)
-some_from fault (Some x) a h = ap Some (ok_is x a h)
-
-key_from : {A : Type 0} (key : List ℕ) (r : Read A) (a : A) → at_key key r ≡ Ok a → r ≡ Ok a
-key_from key (Ok x) a h = ap Ok (ok_is x a h)
-key_from key (Err why) a h = absurd (err_ok _ a h)
-
-then_from : {A B : Type 0} (f : A → Option B) (x : Option A) (b : B) → option_and_then f x ≡ Some b → (a : A) × (x ≡ Some a) × (f a ≡ Some b)
-then_from f None b h = absurd (none_some b h)
-then_from f (Some a) b h = (a, refl, h)
-
-map_from : {A B : Type 0} (f : A → B) (x : Option A) (b : B) → option_map f x ≡ Some b → (a : A) × (x ≡ Some a) × (f a ≡ b)
-map_from f None b h = absurd (none_some b h)
-map_from f (Some a) b h = (a, refl, some_is (f a) b h)
-
-if_from : {A : Type 0} (b : Bool) (x : Option A) (a : A) → (if b then x else None) ≡ Some a → (b ≡ true) × (x ≡ Some a)
-if_from true x a h = (refl, h)
-if_from false x a h = absurd (none_some a h)
 
 -- ---- the members of a file ascend
 data_from : (bytes : List ℕ) (d : Data) → data_in bytes ≡ Ok d → read bytes ≡ Some d
@@ -411,6 +375,32 @@ polytope_from of found xs ys f n h =
     let some_there : 0 < count (if is_programs_key of (codes "LP") then programs_by found else no_items) = omega (arith, n, all, more) in
     ap is_polytope (only_polytopes of found some_there)
 
+-- given sites of a file that is read have as many heights
+sites_of_read : (s : Seen) (p : Profile) → profile_in s.of (names_held s.parts) s.top (programs_in s.of s.top) ≡ Ok p → ((x : Named) → Among x (named_values s.of s.parts) → fits_sites (tied_values s) x.property x.value ≡ true) → AgreeInSites p.stored (values_in s.parts)
+sites_of_read s p profile fits v w i j not_v not_w = by (finds_sites s.of s.top) refl fits
+  where
+    first : Tested s.of s.parts v
+    first = is_tested s.of s.parts (among_Contains (values_in s.parts) i)
+
+    second : Tested s.of s.parts w
+    second = is_tested s.of s.parts (among_Contains (values_in s.parts) j)
+
+    -- not both are of sites where one of these is stored
+    found : (has p.stored Sites ≡ true) ⊎ (has p.stored SiteHeights ≡ true) → (a : Bool) → same_property Sites v.0 ≡ a → (b : Bool) → same_property SiteHeights w.0 ≡ b → have_as_many_sites v.0 v.1 w.0 w.1 ≡ true
+    found h true e true f = elim h [
+      | inl t ↦ absurd (true≢false (sym (subst (λ q. has p.stored q ≡ true) (same_property_is Sites v.0 e) t) ∙ not_v))
+      | inr t ↦ absurd (true≢false (sym (subst (λ q. has p.stored q ≡ true) (same_property_is SiteHeights w.0 f) t) ∙ not_w))
+    ]
+    found h false e b f = ap (λ t. if t && same_property SiteHeights w.0 then nat_eq (length (rows_in v.1)) (cols_in w.1) else true) e
+    found h true e false f = ap (λ t. if t && same_property SiteHeights w.0 then nat_eq (length (rows_in v.1)) (cols_in w.1) else true) e ∙ ap (λ t. if t then nat_eq (length (rows_in v.1)) (cols_in w.1) else true) f
+
+    by : (t : Bool) → finds_sites s.of s.top ≡ t → ((x : Named) → Among x (named_values s.of s.parts) → fits_sites (if t then [] else named_values s.of s.parts) x.property x.value ≡ true) → have_as_many_sites v.0 v.1 w.0 w.1 ≡ true
+    by true e all = found (found_sites s.of (names_held s.parts) s.top (programs_in s.of s.top) p profile e) (same_property Sites v.0) refl (same_property SiteHeights w.0) refl
+    by false e all =
+        let one = all_at (λ (y : Named). have_as_many_sites y.property y.value second.x.property second.x.value) (named_values s.of s.parts) (all second.x second.among) first.among in
+        subst (λ z. have_as_many_sites v.0 v.1 w.0 z ≡ true) second.value (subst (λ q. have_as_many_sites v.0 v.1 q second.x.value ≡ true) second.property
+        (subst (λ z. have_as_many_sites v.0 z second.x.property second.x.value ≡ true) first.value (subst (λ q. have_as_many_sites q first.x.value second.x.property second.x.value ≡ true) first.property one)))
+
 pub read_whole : (bytes : List ℕ) (s : Seen) (f : SavedFile) → seen bytes ≡ Ok s → ReadsSeen s f → are_formed_parts s.parts ≡ true → HaveFractions (named_values s.of s.parts) → IsWhole f
 read_whole bytes s f is r formed entries =
     let (d, found, k) = ok_from (data_in bytes) seen_in s is in
@@ -436,6 +426,7 @@ read_whole bytes s f is r formed entries =
       once = subst (λ (z : Seen). are_of_different (values_in z.parts) ≡ true) seen_is m.once;
       suit = (suits.count, All_among (λ (v : PropId × PropertyValue). Suits s.of suits.count v.0 v.1) (all_values (file_with s.of s.top s.parts p)) (λ v i. let e = every v i in suits.suits v e.tested e.formed));
       entries = All_among (λ (v : PropId × PropertyValue). AreFractions v.1) (all_values (file_with s.of s.top s.parts p)) (λ v i. let e = every v i in subst AreFractions e.tested.value (fractions_at (named_values s.of s.parts) entries e.tested.x e.tested.among));
+      sites = sites_of_read s p profile suits.sites;
       stored = w.stored;
       marks = w.marks;
       programs = record {

@@ -4,7 +4,7 @@ use Rattle.pm_fraction.specs.Fractions.{ratio_of}
 use Rattle.pm_json.specs.declared.fail.ValueFail.TheVariants.{Shape, Number, Limit}
 use Rattle.pm_props.specs.Sets.{only, union}
 use Rattle.pm_object_type.specs.declared.object_type.ObjectType.TheVariants.{Cone, Fan, Polytope}
-use Rattle.pm_props.specs.declared.property.PropId.TheVariants.{ConeAmbientDim, ConeDim, Facets, Graph, HasseDiagram, LinearObjective, Points, Vertices}
+use Rattle.pm_props.specs.declared.property.PropId.TheVariants.{ConeAmbientDim, ConeDim, Facets, Graph, HasseDiagram, LinearObjective, Points, SiteHeights, Sites, Vertices}
 use Rattle.pm_types.specs.Values.{matrix, whole}
 use Rattle.serde_json.specs.Data.{Data, Members, Items, object, no_members, no_items, null}
 use Rattle.serde_json.specs.Find.{as_array, as_object}
@@ -13,7 +13,7 @@ use Rattle.pm_filing.specs.FileParts.{value, programs, bad_property, bad_profile
 use Rattle.pm_filing.specs.Profiles.{evidence_of, is_profile_2, mark_of, marks_in, plain_names_from, profile_in, program_names, stored_by}
 use Rattle.pm_props.specs.Properties.{name_in}
 use Rattle.pm_props.specs.declared.property.PropId.{PropId}
-use Rattle.pm_filing.specs.FileReadings.{ArePassed, IsFirstBad, Named, Passes, cols_after, named_values}
+use Rattle.pm_filing.specs.FileReadings.{ArePassed, IsFirstBad, Named, Passes, cols_after, finds_sites, named_values}
 use lib.IntN.{pos}
 
 abbrev data_or_null : Option Data → Data
@@ -128,6 +128,10 @@ pub record ProfilesAreRead : Type 0 where
 abbrev pub columns : PropId → ℕ → Named
 columns p n = record { name = name_in Polytope p; property = p; value = matrix n [] }
 
+-- no site, and one height
+abbrev pub site_and_height : List Named
+site_and_height = columns Sites 2 ∷ record { name = codes "SITE_HEIGHTS"; property = SiteHeights; value = matrix 1 ((ratio_of (pos 0) (pos 1) ∷ []) ∷ []) } ∷ []
+
 pub record RowsAreTested : Type 0 where
   pub dimension : cols_after None ConeAmbientDim (whole (pos 3)) ≡ Some 3
   pub of_matrix : cols_after None Points (matrix 2 []) ≡ Some 2
@@ -135,10 +139,19 @@ pub record RowsAreTested : Type 0 where
   pub other_number : cols_after None ConeDim (whole (pos 3)) ≡ None
   -- objectives are tested at LP's place
   pub objective : named_values Polytope (programs (None ∷ Some (matrix 2 []) ∷ []) ∷ value Points (matrix 2 []) ∷ []) ≡ record { name = codes "LP"; property = LinearObjective; value = matrix 2 [] } ∷ columns Points 2 ∷ []
-  pub same_columns : ArePassed Polytope None (columns Facets 2 ∷ columns Points 2 ∷ [])
-  pub other_columns : IsFirstBad Polytope None (columns Facets 2 ∷ columns Points 3 ∷ columns Vertices 4 ∷ []) (codes "POINTS")
-  pub not_later : ¬ (IsFirstBad Polytope None (columns Facets 2 ∷ columns Points 3 ∷ columns Vertices 4 ∷ []) (codes "VERTICES"))
+  pub same_columns : ArePassed Polytope [] None (columns Facets 2 ∷ columns Points 2 ∷ [])
+  pub other_columns : IsFirstBad Polytope [] None (columns Facets 2 ∷ columns Points 3 ∷ columns Vertices 4 ∷ []) (codes "POINTS")
+  pub not_later : ¬ (IsFirstBad Polytope [] None (columns Facets 2 ∷ columns Points 3 ∷ columns Vertices 4 ∷ []) (codes "VERTICES"))
   -- a zero row is no ray
-  pub zero_ray : ¬ (Passes Cone None Vertices (matrix 1 ((ratio_of (pos 0) (pos 1) ∷ []) ∷ [])))
+  pub zero_ray : ¬ (Passes Cone [] None Vertices (matrix 1 ((ratio_of (pos 0) (pos 1) ∷ []) ∷ [])))
   -- columns are not tested before the rows of another key
-  pub in_one_pass : IsFirstBad Polytope None (record { name = codes "FACETS"; property = Facets; value = matrix 2 ((ratio_of (pos 0) (pos 1) ∷ ratio_of (pos 0) (pos 1) ∷ []) ∷ []) } ∷ columns Points 3 ∷ []) (codes "FACETS")
+  pub in_one_pass : IsFirstBad Polytope [] None (record { name = codes "FACETS"; property = Facets; value = matrix 2 ((ratio_of (pos 0) (pos 1) ∷ ratio_of (pos 0) (pos 1) ∷ []) ∷ []) } ∷ columns Points 3 ∷ []) (codes "FACETS")
+  -- heights are held against the sites to which they are tied
+  pub heights : IsFirstBad Polytope site_and_height None site_and_height (codes "SITE_HEIGHTS")
+  pub untied : ArePassed Polytope [] None site_and_height
+  -- which none are in a file of profile 2 whose list has one of their names
+  pub found : finds_sites Polytope (json (codes "{\"_profile\":2,\"_computed\":[\"SITES\"]}")) ≡ true
+  pub found_heights : finds_sites Polytope (json (codes "{\"_profile\":2,\"_computed\":[1,\"SITE_HEIGHTS\"]}")) ≡ true
+  pub none_found : finds_sites Polytope (json (codes "{\"_profile\":2,\"_computed\":[\"POINTS\"]}")) ≡ false
+  pub no_list : finds_sites Polytope (json (codes "{\"_profile\":2,\"_computed\":\"SITES\"}")) ≡ false
+  pub in_profile_1 : finds_sites Polytope (json (codes "{\"_computed\":[\"SITES\"]}")) ≡ false

@@ -13,7 +13,7 @@ pub record Suits (of : ObjectType) (n : ℕ) (p : PropId) (v : PropertyValue) : 
   pub formed : IsTrue (is_formed p v)
   pub columns : IsTrue (agrees_with n p v)
   pub rows : IsTrue (are_rows of p v)
-  pub primitive : HavePrimitiveRows v
+  pub primitive : HavePrimitiveRows p v
 
 -- all values of a file are such, for one column count
 abbrev pub AllSuit : ObjectType → List (PropId × PropertyValue) → Type 0

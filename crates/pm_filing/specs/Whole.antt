@@ -1,5 +1,5 @@
 -- What is so of every file that is read, and of every file that is written of an object; and that an object and what is loaded of its file are the same.
-use Rattle.std.specs.Prelude.{◌≡◌, ◌⊎◌, ◌&&◌, ◌||◌, ◌++◌, ◌∷◌, ℕ, Bool, true, IsTrue, List, [], Option, None, Some, flat_map, if◌then◌else◌, length, map, nat_le, nat_lt}
+use Rattle.std.specs.Prelude.{◌≡◌, ◌⊎◌, ◌&&◌, ◌||◌, ◌++◌, ◌∷◌, ℕ, Bool, false, true, IsTrue, List, [], Option, None, Some, flat_map, if◌then◌else◌, length, map, nat_le, nat_lt}
 use Rattle.std.specs.List.{All, Contains, list_all, list_any}
 use Rattle.std.specs.Option.{is_none, is_some}
 use Rattle.pm_vector.specs.Numbers.{Ratio}
@@ -8,7 +8,7 @@ use Rattle.pm_filing.specs.Filing.{failure_of, is_own_found, loaded_object, mark
 use Rattle.pm_filing.specs.Profiles.{are_different, same_label}
 use Rattle.pm_filing.specs.Views.{AllSuit}
 use Rattle.pm_object.specs.Formed.{ArePrograms}
-use Rattle.pm_object.specs.State.{HeldValue, State, settling}
+use Rattle.pm_object.specs.State.{HeldValue, State, have_as_many_sites, settling}
 use Rattle.pm_object.specs.declared.held.Excluded.{Excluded}
 use Rattle.pm_object.specs.declared.held.Origin.TheVariants as origin
 use Rattle.pm_props.specs.Places.{same_property}
@@ -54,12 +54,17 @@ objective_of (Some rows) = (LinearObjective, objective_value rows) ∷ []
 abbrev pub all_values : SavedFile → List (PropId × PropertyValue)
 all_values f = f.values ++ flat_map (λ p. objective_of p.objective) f.programs
 
--- what a file holds of an object: its own values are of different properties of the type's table; they and the objectives suit one column count and have fractions in lowest terms and in the range; what is stored is among its own values; the programs have names that programs may have; and the marks of the object and of each program are such
+-- values that were given: where one is of SITES and another of SITE_HEIGHTS, there are as many rows as heights
+abbrev pub AgreeInSites : ℕ → List (PropId × PropertyValue) → Type 0
+AgreeInSites stored values = (v w : PropId × PropertyValue) → Contains values v → Contains values w → has stored v.0 ≡ false → has stored w.0 ≡ false → IsTrue (have_as_many_sites v.0 v.1 w.0 w.1)
+
+-- what a file holds of an object: its own values are of different properties of the type's table; they and the objectives suit one column count and have fractions in lowest terms and in the range; given sites have as many heights; what is stored is among its own values; the programs have names that programs may have; and the marks of the object and of each program are such
 pub record IsWhole (f : SavedFile) : Type 0 where
   pub table : IsTrue (are_of_table f.of f.values)
   pub once : IsTrue (are_of_different f.values)
   pub suit : AllSuit f.of (all_values f)
   pub entries : All (λ v. AreFractions v.1) (all_values f)
+  pub sites : AgreeInSites f.stored f.values
   pub stored : (p : PropId) → IsTrue (has f.stored p) → IsTrue (is_of_one f.values p)
   pub marks : AreMarks f.failed
   pub programs : ArePrograms f.of (map name_told f.programs)

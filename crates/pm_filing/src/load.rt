@@ -8,11 +8,12 @@ ghost use Rattle.pm_filing.specs.ReadingViews.{fault_of, has_formed_objective, i
 ghost use Rattle.pm_files.specs.Views.{file_of, program_of};
 ghost use Rattle.pm_props.specs.NameWords.{is_name};
 ghost use Rattle.pm_object.specs.Formed.{ArePrograms};
-ghost use Rattle.pm_object.specs.State.{CanTake, HeldValue, is_held, program_refusal, read_at, with_held, with_program};
+ghost use Rattle.pm_object.specs.State.{CanTake, HeldValue, is_held, program_refusal, read_at, sites_agree, with_held, with_program};
 ghost use Rattle.pm_props.specs.Properties.{has as has_property};
 ghost use Rattle.pm_props.specs.declared.property.PropId.TheVariants.{LinearObjective};
+ghost use Rattle.pm_props.specs.Sets.{has};
 ghost use Rattle.pm_filing.specs.Views.{AllSuit, Suits, value_seen};
-ghost use Rattle.pm_filing.specs.Whole.{IsWhole, are_of_different, are_of_table, is_mark, is_place, objective_of};
+ghost use Rattle.pm_filing.specs.Whole.{AgreeInSites, IsWhole, are_of_different, are_of_table, is_mark, is_place, objective_of};
 ghost use Rattle.pm_types.specs.Views.{view_of};
 ghost use Rattle.std.specs.List.{Contains, list_all};
 ghost use Rattle.std.specs.Prelude.{IfErr, IfOk, IfSome, IsTrue, None, OnOk, Some, [], false, flat_map, length, map, option_map, string_bytes, ℕ, ◌++◌, ◌∷◌, ◌<◌, ◌≡◌, ◌≢◌, ◌≤◌};
@@ -46,6 +47,7 @@ fn add_value(object: &mut Object, stored: PropSet, p: PropId, v: Value) -> Resul
         × ((h : HeldValue) → Contains object.old.state.held h → Suits object.old.state.of n h.property h.value) }
     requires missing { is_held p (read_at None object.old.state.held) ≡ false }
     requires table { IsTrue (has_property object.old.state.of p) }
+    requires sites { has stored p ≡ false → IsTrue (sites_agree object.old.state.held p (view_of v)) }
     ensures ok { OnOk result (object.new.state
         ≡ with_held object.old.state (loaded_value stored (p, view_of v) ∷ [])) }
 {
@@ -66,6 +68,7 @@ fn add_values(
     requires suit { AllSuit object.old.state.of (map value_seen values.items) }
     requires table { IsTrue (are_of_table object.old.state.of (map value_seen values.items)) }
     requires once { IsTrue (are_of_different (map value_seen values.items)) }
+    requires sites { AgreeInSites stored (map value_seen values.items) }
     ensures ok { OnOk result (object.new.state ≡ record object.old.state {
       held = map (loaded_value stored) (map value_seen values.items);
     }) }

@@ -2,6 +2,7 @@
 
 ghost use Rattle.pm_filing.specs.FileParts.{bad_profile, out_of_memory};
 ghost use Rattle.pm_filing.specs.Profiles.{different_read, each_read, evidence_of, full_profile, is_profile_2, mark_among, mark_of, mark_with, marks_in, no_marks, plain_names_from, plain_profile, profile_in, program_name_of, program_names, same_label, stored_by, stored_property};
+ghost use Rattle.pm_filing.specs.FileReadings.{any_names_sites, finds_sites, names_sites};
 ghost use Rattle.pm_filing.specs.ReadingViews.{all_marks_seen, fault_of, marks_seen, profile_seen};
 ghost use Rattle.pm_props.specs.NameWords.{is_name, is_name_byte};
 ghost use Rattle.pm_props.specs.Places.{same_property};
@@ -37,6 +38,47 @@ fn is_profile_2(json: &Json) -> bool
 {
     match json.get("_profile") {
         Some(profile) => profile.as_u64() == Some(2),
+        None => false,
+    }
+}
+
+/// Whether a value is the name of SITES or of SITE_HEIGHTS.
+fn names_sites(of: ObjectType, json: &Json) -> bool
+    ensures { result ≡ names_sites of (view json.now) }
+{
+    let Some(name) = json.as_str() else {
+        return false;
+    };
+    match PropId::named_in(of, name) {
+        Some(p) => p == PropId::Sites || p == PropId::SiteHeights,
+        None => false,
+    }
+}
+
+/// Whether one of a list is.
+fn any_names_sites(of: ObjectType, list: &[Json]) -> bool
+    ensures { result ≡ any_names_sites of (items_view list.now) }
+{
+    for name in list {
+        if names_sites(of, name) {
+            return true;
+        }
+    }
+    false
+}
+
+/// Whether the profile is 2, and `_computed` is an array in which one of these names stands.
+pub(crate) fn finds_sites(of: ObjectType, json: &Json) -> bool
+    ensures { result ≡ finds_sites of (view json.now) }
+{
+    if !is_profile_2(json) {
+        return false;
+    }
+    let Some(found) = json.get("_computed") else {
+        return false;
+    };
+    match found.as_array() {
+        Some(list) => any_names_sites(of, list),
         None => false,
     }
 }

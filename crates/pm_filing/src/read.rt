@@ -1,18 +1,19 @@
 // Data files from bytes.
 
 ghost use Rattle.pm_filing.specs.FileParts.{data_in, not_json, out_of_memory};
-ghost use Rattle.pm_filing.specs.FileReadings.{Reads, Refuses, seen_in};
-ghost use Rattle.pm_filing.specs.ReadingViews.{are_formed_parts, are_formed_values, fault_of, has_formed_objective, part_seen};
+ghost use Rattle.pm_filing.specs.FileReadings.{ArePassedIn, HasBadRowIn, Reads, Refuses, named_values, seen_in};
+ghost use Rattle.pm_filing.specs.ReadingViews.{HaveFractions, are_formed_parts, are_formed_values, fault_of, has_formed_objective, part_seen};
 ghost use Rattle.pm_filing.specs.Whole.{IsWhole};
 ghost use Rattle.pm_files.specs.Views.{file_of};
 ghost use Rattle.serde_json.specs.Read.{read};
 ghost use Rattle.serde_json.specs.View.{view};
 ghost use Rattle.std.specs.List.{list_all};
-ghost use Rattle.std.specs.Prelude.{Err, IfErr, IfOk, IsTrue, None, Ok, Some, map, ◌≡◌, ◌≢◌};
+ghost use Rattle.std.specs.Prelude.{Err, IfErr, IfOk, IsTrue, None, Ok, OnOk, Some, map, ◌≡◌, ◌≢◌};
 
 use crate::assembly::file_in;
 use crate::fail::FileFail;
 use crate::parts::{FilePart, read_parts, read_type};
+use crate::profile::finds_sites;
 use crate::tests_of_parts::test_parts;
 use pm_files::FileObject;
 use pm_limits::MOST_FILE_BYTES;
@@ -66,9 +67,24 @@ fn read_seen(alloc: Global, json: &Json) -> Result<(ObjectType, Vec<FilePart>), 
     Ok((of, parts))
 }
 
+/// Tests the columns and rows of all parts, and heights against sites unless rules found one of these.
+fn test_all(alloc: Global, of: ObjectType, json: &Json, parts: &[FilePart]) -> Result<(), FileFail>
+    requires formed { IsTrue (are_formed_parts (map part_seen parts.now)) }
+    ensures ok { OnOk result (ArePassedIn (record { of = of; top = view json.now; parts = map part_seen parts.now })) }
+    ensures entries { OnOk result (HaveFractions (named_values of (map part_seen parts.now))) }
+    ensures fault { IfErr result (λ e. fault_of e ≢ out_of_memory →
+        HasBadRowIn (record { of = of; top = view json.now; parts = map part_seen parts.now }) (fault_of e)) }
+{
+    if finds_sites(of, json) {
+        test_parts(alloc, of, &[], parts)
+    } else {
+        test_parts(alloc, of, parts, parts)
+    }
+}
+
 /// The object of a data file, of profile 1 or 2. `Limit`, `NotJson`, `NoType` and `UnknownType` come first, in this order;
 /// then `BadProperty` for the first key in byte order whose value has a fault; then `BadRow` for the first whose columns
-/// differ from those before, or of which a row can be no row of its property; then `BadProfile`.
+/// differ from those before, or heights from sites in number, or of which a row can be no row of its property; then `BadProfile`.
 pub fn read_object(alloc: Global, bytes: &[u8]) -> Result<FileObject, FileFail>
     ensures reads { IfOk result (λ f. Reads bytes.now (file_of f)) }
     ensures formed { IfOk result (λ f. IsTrue (are_formed_values (file_of f).values)) }
@@ -78,6 +94,6 @@ pub fn read_object(alloc: Global, bytes: &[u8]) -> Result<FileObject, FileFail>
 {
     let json = read_data(alloc, bytes)?;
     let (of, parts) = read_seen(alloc, &json)?;
-    test_parts(alloc, of, &parts)?;
+    test_all(alloc, of, &json, &parts)?;
     file_in(alloc, of, &json, parts)
 }

@@ -1,7 +1,7 @@
 // The tests of columns and rows of the values of a data file.
 
 ghost use Rattle.pm_filing.specs.FileParts.{bad_row, out_of_memory, value};
-ghost use Rattle.pm_filing.specs.FileReadings.{ArePassed, HasBadRow, Passes, cols_after, cols_after_all, cols_of_value, named_objective, named_objectives, named_part, named_values};
+ghost use Rattle.pm_filing.specs.FileReadings.{ArePassed, HasBadRow, Passes, cols_after, cols_after_all, cols_of_value, fits_sites, named_objective, named_objectives, named_part, named_values};
 ghost use Rattle.pm_filing.specs.ReadingViews.{HaveFractions, are_formed_parts, fault_of, is_formed_objective, is_formed_part, objectives_seen, part_seen};
 ghost use Rattle.pm_object.specs.State.{ambient_in};
 ghost use Rattle.pm_types.specs.Forms.{AreFractions, is_formed};
@@ -11,7 +11,9 @@ ghost use Rattle.std.specs.Prelude.{IfErr, IfOk, IsTrue, None, OnOk, Some, map, 
 
 use crate::fail::FileFail;
 use crate::parts::FilePart;
-use pm_object::{TakeFail, agrees, are_rows, require_primitive_rows, stated_cols};
+use pm_object::{
+    TakeFail, agrees, are_rows, have_as_many_sites, require_primitive_rows, stated_cols,
+};
 use pm_props::{Columns, ObjectType, PropId};
 use pm_types::Value;
 use std::alloc::Global;
@@ -59,22 +61,45 @@ fn bad_row(alloc: Global, name: &str) -> FileFail
     }
 }
 
+/// Whether a value of SITE_HEIGHTS has an entry for each row of a value of SITES among the tied parts.
+fn fits_sites(of: ObjectType, tied: &[FilePart], p: PropId, v: &Value) -> bool
+    ensures { result ≡ fits_sites (named_values of (map part_seen tied.now)) p (view_of v.now) }
+{
+    for part in tied {
+        if !fits_part(of, part, p, v) {
+            return false;
+        }
+    }
+    true
+}
+
+/// So of one part.
+fn fits_part(of: ObjectType, part: &FilePart, p: PropId, v: &Value) -> bool
+    ensures { result ≡ fits_sites (named_part of (part_seen part.now)) p (view_of v.now) }
+{
+    match part {
+        FilePart::Value(q, w) => have_as_many_sites(*q, w, p, v),
+        FilePart::Programs(_) => true,
+    }
+}
+
 /// Tests the columns and rows of a value that stands under this name.
 fn test_value(
     alloc: Global,
     of: ObjectType,
+    tied: &[FilePart],
     n: Option<usize>,
     name: &str,
     p: PropId,
     v: &Value,
 ) -> Result<(), FileFail>
     requires formed { IsTrue (is_formed p (view_of v.now)) }
-    ensures ok { OnOk result (Passes of n p (view_of v.now)) }
+    ensures ok { OnOk result (Passes of (named_values of (map part_seen tied.now)) n p (view_of v.now)) }
     ensures entries { OnOk result (AreFractions (view_of v.now)) }
     ensures fault { IfErr result (λ e. fault_of e ≢ out_of_memory →
-        (fault_of e ≡ bad_row name.now) × ¬ (Passes of n p (view_of v.now))) }
+        (fault_of e ≡ bad_row name.now) × ¬ (Passes of (named_values of (map part_seen tied.now)) n p (view_of v.now))) }
 {
-    if !agrees(n, p, v) || !are_rows(of, p, v) {
+    if !agrees(n, p, v) || !fits_sites(of, tied, p, v) || !are_rows(of, p, v) {
         return Err(bad_row(alloc, name));
     }
     match require_primitive_rows(alloc, p, v) {
@@ -88,20 +113,21 @@ fn test_value(
 fn test_objective(
     alloc: Global,
     of: ObjectType,
+    tied: &[FilePart],
     n: Option<usize>,
     objective: &Option<Value>,
 ) -> Result<Option<usize>, FileFail>
     requires formed { IsTrue (is_formed_objective (option_map view_of objective.now)) }
     ensures cols { IfOk result (λ m. m ≡ cols_after_all n (named_objective (option_map view_of objective.now))) }
-    ensures ok { OnOk result (ArePassed of n (named_objective (option_map view_of objective.now))) }
+    ensures ok { OnOk result (ArePassed of (named_values of (map part_seen tied.now)) n (named_objective (option_map view_of objective.now))) }
     ensures entries { OnOk result (HaveFractions (named_objective (option_map view_of objective.now))) }
     ensures fault { IfErr result (λ e. fault_of e ≢ out_of_memory →
-        HasBadRow of n (named_objective (option_map view_of objective.now)) (fault_of e)) }
+        HasBadRow of (named_values of (map part_seen tied.now)) n (named_objective (option_map view_of objective.now)) (fault_of e)) }
 {
     let Some(v) = objective else {
         return Ok(n);
     };
-    test_value(alloc, of, n, "LP", PropId::LinearObjective, v)?;
+    test_value(alloc, of, tied, n, "LP", PropId::LinearObjective, v)?;
     Ok(cols_after(n, PropId::LinearObjective, v))
 }
 
@@ -109,19 +135,20 @@ fn test_objective(
 fn test_objectives(
     alloc: Global,
     of: ObjectType,
+    tied: &[FilePart],
     n: Option<usize>,
     objectives: &[Option<Value>],
 ) -> Result<Option<usize>, FileFail>
     requires formed { IsTrue (list_all is_formed_objective (objectives_seen objectives.now)) }
     ensures cols { IfOk result (λ m. m ≡ cols_after_all n (named_objectives (objectives_seen objectives.now))) }
-    ensures ok { OnOk result (ArePassed of n (named_objectives (objectives_seen objectives.now))) }
+    ensures ok { OnOk result (ArePassed of (named_values of (map part_seen tied.now)) n (named_objectives (objectives_seen objectives.now))) }
     ensures entries { OnOk result (HaveFractions (named_objectives (objectives_seen objectives.now))) }
     ensures fault { IfErr result (λ e. fault_of e ≢ out_of_memory →
-        HasBadRow of n (named_objectives (objectives_seen objectives.now)) (fault_of e)) }
+        HasBadRow of (named_values of (map part_seen tied.now)) n (named_objectives (objectives_seen objectives.now)) (fault_of e)) }
 {
     let mut cols = n;
     for objective in objectives {
-        cols = test_objective(alloc, of, cols, objective)?;
+        cols = test_objective(alloc, of, tied, cols, objective)?;
     }
     Ok(cols)
 }
@@ -130,18 +157,19 @@ fn test_objectives(
 fn test_property(
     alloc: Global,
     of: ObjectType,
+    tied: &[FilePart],
     n: Option<usize>,
     p: PropId,
     v: &Value,
 ) -> Result<Option<usize>, FileFail>
     requires formed { IsTrue (is_formed p (view_of v.now)) }
     ensures cols { IfOk result (λ m. m ≡ cols_after_all n (named_part of (value p (view_of v.now)))) }
-    ensures ok { OnOk result (ArePassed of n (named_part of (value p (view_of v.now)))) }
+    ensures ok { OnOk result (ArePassed of (named_values of (map part_seen tied.now)) n (named_part of (value p (view_of v.now)))) }
     ensures entries { OnOk result (HaveFractions (named_part of (value p (view_of v.now)))) }
     ensures fault { IfErr result (λ e. fault_of e ≢ out_of_memory →
-        HasBadRow of n (named_part of (value p (view_of v.now))) (fault_of e)) }
+        HasBadRow of (named_values of (map part_seen tied.now)) n (named_part of (value p (view_of v.now))) (fault_of e)) }
 {
-    test_value(alloc, of, n, p.name_in(of), p, v)?;
+    test_value(alloc, of, tied, n, p.name_in(of), p, v)?;
     Ok(cols_after(n, p, v))
 }
 
@@ -149,33 +177,39 @@ fn test_property(
 fn test_part(
     alloc: Global,
     of: ObjectType,
+    tied: &[FilePart],
     n: Option<usize>,
     part: &FilePart,
 ) -> Result<Option<usize>, FileFail>
     requires formed { IsTrue (is_formed_part (part_seen part.now)) }
     ensures cols { IfOk result (λ m. m ≡ cols_after_all n (named_part of (part_seen part.now))) }
-    ensures ok { OnOk result (ArePassed of n (named_part of (part_seen part.now))) }
+    ensures ok { OnOk result (ArePassed of (named_values of (map part_seen tied.now)) n (named_part of (part_seen part.now))) }
     ensures entries { OnOk result (HaveFractions (named_part of (part_seen part.now))) }
     ensures fault { IfErr result (λ e. fault_of e ≢ out_of_memory →
-        HasBadRow of n (named_part of (part_seen part.now)) (fault_of e)) }
+        HasBadRow of (named_values of (map part_seen tied.now)) n (named_part of (part_seen part.now)) (fault_of e)) }
 {
     match part {
-        FilePart::Value(p, v) => test_property(alloc, of, n, *p, v),
-        FilePart::Programs(objectives) => test_objectives(alloc, of, n, objectives),
+        FilePart::Value(p, v) => test_property(alloc, of, tied, n, *p, v),
+        FilePart::Programs(objectives) => test_objectives(alloc, of, tied, n, objectives),
     }
 }
 
-/// Tests the columns and rows of each part, in order.
-pub(crate) fn test_parts(alloc: Global, of: ObjectType, parts: &[FilePart]) -> Result<(), FileFail>
+/// Tests the columns and rows of each part, in order, and heights against the sites of the tied parts.
+pub(crate) fn test_parts(
+    alloc: Global,
+    of: ObjectType,
+    tied: &[FilePart],
+    parts: &[FilePart],
+) -> Result<(), FileFail>
     requires formed { IsTrue (are_formed_parts (map part_seen parts.now)) }
-    ensures ok { OnOk result (ArePassed of None (named_values of (map part_seen parts.now))) }
+    ensures ok { OnOk result (ArePassed of (named_values of (map part_seen tied.now)) None (named_values of (map part_seen parts.now))) }
     ensures entries { OnOk result (HaveFractions (named_values of (map part_seen parts.now))) }
     ensures fault { IfErr result (λ e. fault_of e ≢ out_of_memory →
-        HasBadRow of None (named_values of (map part_seen parts.now)) (fault_of e)) }
+        HasBadRow of (named_values of (map part_seen tied.now)) None (named_values of (map part_seen parts.now)) (fault_of e)) }
 {
     let mut cols = None;
     for part in parts {
-        cols = test_part(alloc, of, cols, part)?;
+        cols = test_part(alloc, of, tied, cols, part)?;
     }
     Ok(())
 }

@@ -7,6 +7,7 @@ pub mod Evidence
 pub mod Graphs
 pub mod FaceCounts
 pub mod Triangulations
+pub mod Cells
 pub mod Meets
 pub mod GraphExamples
 pub mod Generators

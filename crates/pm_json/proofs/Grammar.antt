@@ -5,14 +5,14 @@ use Rattle.std.specs.List.{list_all, sum_by}
 use Rattle.std.specs.Prelude.{⊤, if◌then◌else◌, is_some, not}
 use Rattle.pm_vector.specs.Numbers.{Ratio}
 use Rattle.pm_json.proofs.Parts.{and_then-ok, else-ok, err_ok, same_Ok, then-ok}
-use Rattle.pm_json.specs.Grammar.{AreItems, AreSetsOf, HasCols, IsArrayOf, IsColsOf, IsEntryOf, IsIndexOf, IsJsonOf, IsMatrixOf, IsRowOf, IsSetOf, IsTextOf, StatesCols, are_apart}
-use Rattle.pm_json.specs.Readings.{Read, SetsSeen, above_sets, and_then, before, before_sets, cols_member, count_of, count_up_to_limit, counts_from, edges_with, entries_from, entry_of, face_from, faces_from, first_row_of, has_index, index_below_limit, index_of, items_of, later_row_from, later_rows_from, matrix_from, matrix_of, matrix_reading, matrix_with, nodes_from, number_value_of, object_behind, only_cols, or_fault, ranks_from, reading, reading_of, rows_before, rows_from, set_from, sets_from, sets_of, sets_with, stated_last, stated_of, whole_count_of, whole_number_of, whole_of, whole_value, with_cols, with_index}
+use Rattle.pm_json.specs.Grammar.{AreItems, AreSetsOf, HasCols, IsArrayOf, IsColsOf, IsEntryOf, IsIndexOf, IsJsonOf, IsMatrixOf, IsOneRowOf, IsRowOf, IsSetOf, IsTextOf, StatesCols, are_apart}
+use Rattle.pm_json.specs.Readings.{Read, SetsSeen, above_sets, and_then, before, before_sets, cols_member, count_of, count_up_to_limit, counts_from, edges_with, entries_from, entry_of, face_from, faces_from, first_row_of, has_index, index_below_limit, index_of, items_of, later_row_from, later_rows_from, matrix_from, matrix_of, matrix_reading, matrix_with, nodes_from, number_value_of, object_behind, one_row_of, only_cols, or_fault, ranks_from, reading, reading_of, rows_before, rows_from, set_from, sets_from, sets_of, sets_with, stated_last, stated_of, whole_count_of, whole_number_of, whole_of, whole_value, with_cols, with_index}
 use Rattle.pm_json.specs.declared.fail.ValueFail.{ValueFail}
 use Rattle.pm_json.specs.declared.fail.ValueFail.TheVariants.{Shape, Number, Index, Limit}
 use Rattle.pm_matrix.specs.Matrices.{FractionMatrix}
 use Rattle.pm_props.specs.Properties.{is_ambient, value_kind}
 use Rattle.pm_props.specs.declared.property.PropId.{PropId}
-use Rattle.pm_props.specs.declared.property.PropId.TheVariants.{F2Vector, LinearObjective}
+use Rattle.pm_props.specs.declared.property.PropId.TheVariants.{F2Vector, LinearObjective, SiteHeights, Sites}
 use Rattle.pm_props.specs.declared.property.ValueKind.{ValueKind}
 use Rattle.pm_props.specs.declared.property.ValueKind.TheVariants as kind
 use Rattle.pm_types.specs.Forms.{are_joined_back, is_dimension, is_formed, is_number}
@@ -20,7 +20,7 @@ use Rattle.pm_types.specs.Values.{PropertyValue, matrix, sets, whole, truth, cou
 use Rattle.serde_json.specs.Data.{Data, Items, item, no_items, null, boolean, number, string, array, object}
 use Rattle.serde_json.specs.Find.{as_array, as_bool, as_i64, as_number, as_object}
 use lib.IntN.{ℤ, pos, negsuc}
-use Rattle.pm_limits.specs.Limits.{most_columns, most_faces, most_places, most_rows}
+use Rattle.pm_limits.specs.Limits.{most_columns, most_faces, most_places, most_rows, most_site_columns}
 
 -- ---- from a reading to its text: arrays
 some_from : {A : Type 0} (fault : ValueFail) (o : Option A) (a : A) → or_fault fault o ≡ Ok a → o ≡ Some a
@@ -37,17 +37,17 @@ list_from {A} Is d ds a others out e first rest =
     and_then-ok others (λ xs. Ok (a ∷ xs)) out e (λ xs is f. subst (λ (ys : List A). AreItems Is (item d ds) ys) (same_Ok (a ∷ xs) out f) (first, rest xs is))
 
 -- ---- rows
-entries_told : (k : ℕ) (ds : Items) (r : List Ratio) → entries_from k ds ≡ Ok r → AreItems IsEntryOf ds r
-entries_told k no_items r e = subst (AreItems IsEntryOf no_items) (same_Ok [] r e) tt
-entries_told k (item d ds) r e =
-    and_then-ok (entry_of d) (λ q. cond (ltb k most_columns) (before q (entries_from (suc k) ds)) (Err Limit)) r e
-    (λ q is f. let p = then-ok (ltb k most_columns) (before q (entries_from (suc k) ds)) Limit r f in
-    list_from IsEntryOf d ds q (entries_from (suc k) ds) r p.1 is (λ xs g. entries_told (suc k) ds xs g))
+entries_told : (most k : ℕ) (ds : Items) (r : List Ratio) → entries_from most k ds ≡ Ok r → AreItems IsEntryOf ds r
+entries_told most k no_items r e = subst (AreItems IsEntryOf no_items) (same_Ok [] r e) tt
+entries_told most k (item d ds) r e =
+    and_then-ok (entry_of d) (λ q. cond (ltb k most) (before q (entries_from most (suc k) ds)) (Err Limit)) r e
+    (λ q is f. let p = then-ok (ltb k most) (before q (entries_from most (suc k) ds)) Limit r f in
+    list_from IsEntryOf d ds q (entries_from most (suc k) ds) r p.1 is (λ xs g. entries_told most (suc k) ds xs g))
 
-first_told : (least : ℕ) (ds : Items) (r : List Ratio) → first_row_of least ds ≡ Ok r → AreItems IsEntryOf ds r
-first_told least ds r e =
-    and_then-ok (entries_from 0 ds) (λ x. cond (ltb (length x) least) (Err Limit) (Ok x)) r e
-    (λ x is f. let p = else-ok (ltb (length x) least) (Ok x) Limit r f in subst (AreItems IsEntryOf ds) (same_Ok x r p.1) (entries_told 0 ds x is))
+first_told : (least most : ℕ) (ds : Items) (r : List Ratio) → first_row_of least most ds ≡ Ok r → AreItems IsEntryOf ds r
+first_told least most ds r e =
+    and_then-ok (entries_from most 0 ds) (λ x. cond (ltb (length x) least) (Err Limit) (Ok x)) r e
+    (λ x is f. let p = else-ok (ltb (length x) least) (Ok x) Limit r f in subst (AreItems IsEntryOf ds) (same_Ok x r p.1) (entries_told most 0 ds x is))
 
 later_told : (n k : ℕ) (ds : Items) (r : List Ratio) → later_row_from n k ds ≡ Ok r → AreItems IsEntryOf ds r
 later_told n k no_items r e = let p = then-ok (eqb k n) (Ok []) Shape r e in subst (AreItems IsEntryOf no_items) (same_Ok [] r p.1) tt
@@ -72,41 +72,41 @@ record IsRead (ds : Items) (m : FractionMatrix) : Type 0 where
   each : AreItems IsRowOf ds m.rows
   none : StatesCols 0 None m.cols m.rows
 
-all_told : (least : ℕ) (ds : Items) (m : FractionMatrix) → rows_from least ds ≡ Ok m → IsRead ds m
-all_told least no_items m e = subst (λ (x : FractionMatrix). IsRead no_items x) (same_Ok (record { cols = 0; rows = [] }) m e) (record { each = tt; none = refl })
-all_told least (item d ds) m e =
-    and_then-ok (items_of d) (λ es. and_then (first_row_of least es) (λ r. and_then (before r (later_rows_from (length r) 1 ds)) (λ rows. Ok (record { cols = length r; rows = rows })))) m e
-    (λ es is f. and_then-ok (first_row_of least es) (λ r. and_then (before r (later_rows_from (length r) 1 ds)) (λ rows. Ok (record { cols = length r; rows = rows }))) m f
+all_told : (least most : ℕ) (ds : Items) (m : FractionMatrix) → rows_from least most ds ≡ Ok m → IsRead ds m
+all_told least most no_items m e = subst (λ (x : FractionMatrix). IsRead no_items x) (same_Ok (record { cols = 0; rows = [] }) m e) (record { each = tt; none = refl })
+all_told least most (item d ds) m e =
+    and_then-ok (items_of d) (λ es. and_then (first_row_of least most es) (λ r. and_then (before r (later_rows_from (length r) 1 ds)) (λ rows. Ok (record { cols = length r; rows = rows })))) m e
+    (λ es is f. and_then-ok (first_row_of least most es) (λ r. and_then (before r (later_rows_from (length r) 1 ds)) (λ rows. Ok (record { cols = length r; rows = rows }))) m f
     (λ r first g. and_then-ok (before r (later_rows_from (length r) 1 ds)) (λ rows. Ok (record { cols = length r; rows = rows })) m g
     (λ rows more h. and_then-ok (later_rows_from (length r) 1 ds) (λ xs. Ok (r ∷ xs)) rows more
     (λ xs rest u.
     let all : r ∷ xs ≡ rows = same_Ok (r ∷ xs) rows u in
     subst (λ (x : FractionMatrix). IsRead (item d ds) x) (ap (λ (ys : List (List Ratio)). record { cols = length r; rows = ys }) all ∙ same_Ok (record { cols = length r; rows = rows }) m h)
-    (record { each = (array_from IsEntryOf d es r is (first_told least es r first), rows_told (length r) 1 ds xs rest); none = tt })))))
+    (record { each = (array_from IsEntryOf d es r is (first_told least most es r first), rows_told (length r) 1 ds xs rest); none = tt })))))
 
 -- with a column count behind the rows
 record IsReadWith (least : ℕ) (ds : Items) (behind : Option Data) (m : FractionMatrix) : Type 0 where
   each : AreItems IsRowOf ds m.rows
   cols : StatesCols least behind m.cols m.rows
 
-only_told : (least : ℕ) (z : ℤ) (m : FractionMatrix) → only_cols least z ≡ Ok m → (m.rows ≡ []) × (z ≡ pos m.cols) × (least ≤ m.cols)
-only_told least (pos n) m e =
-    let p = then-ok (leb least n && leb n most_columns) (Ok (record { cols = n; rows = [] })) Limit m e in
+only_told : (least most : ℕ) (z : ℤ) (m : FractionMatrix) → only_cols least most z ≡ Ok m → (m.rows ≡ []) × (z ≡ pos m.cols) × (least ≤ m.cols)
+only_told least most (pos n) m e =
+    let p = then-ok (leb least n && leb n most) (Ok (record { cols = n; rows = [] })) Limit m e in
     let is = same_Ok (record { cols = n; rows = [] }) m p.1 in
-    let low = leb-true least n (and_parts (leb least n) (leb n most_columns) p.0).0 in
+    let low = leb-true least n (and_parts (leb least n) (leb n most) p.0).0 in
     (sym (ap (λ (x : FractionMatrix). x.rows) is), ap (λ (x : FractionMatrix). pos x.cols) is, subst (λ (x : FractionMatrix). least ≤ x.cols) is low)
-only_told least (negsuc n) m e = absurd (err_ok Limit m e)
+only_told least most (negsuc n) m e = absurd (err_ok Limit m e)
 
 number_is : (z : ℤ) (n : ℕ) → is_number z n ≡ true → z ≡ pos n
 number_is (pos k) n e = ap pos (eqb-true k n e)
 number_is (negsuc k) n e = absurd (true≢false (sym e))
 
-with_told : (least : ℕ) (ds : Items) (d : Data) (m out : FractionMatrix) (z : ℤ) → IsRead ds m → and_then (cols_member d) whole_number_of ≡ Ok z → with_cols least m z ≡ Ok out → IsReadWith least ds (Some d) out
-with_told least ds d m out z r c e = by m.rows refl e
+with_told : (least most : ℕ) (ds : Items) (d : Data) (m out : FractionMatrix) (z : ℤ) → IsRead ds m → and_then (cols_member d) whole_number_of ≡ Ok z → with_cols least most m z ≡ Ok out → IsReadWith least ds (Some d) out
+with_told least most ds d m out z r c e = by m.rows refl e
   where
-    by : (rows : List (List Ratio)) → m.rows ≡ rows → cond (eqb (length rows) 0) (only_cols least z) (cond (is_number z m.cols) (Ok m) (Err Shape)) ≡ Ok out → IsReadWith least ds (Some d) out
+    by : (rows : List (List Ratio)) → m.rows ≡ rows → cond (eqb (length rows) 0) (only_cols least most z) (cond (is_number z m.cols) (Ok m) (Err Shape)) ≡ Ok out → IsReadWith least ds (Some d) out
     by [] is f =
-        let o = only_told least z out f in
+        let o = only_told least most z out f in
         record {
           each = subst (AreItems IsRowOf ds) (is ∙ sym o.0) r.each;
           cols = subst (λ (rows : List (List Ratio)). StatesCols least (Some d) out.cols rows) (sym o.0) (c ∙ ap (λ (x : ℤ). Ok x) o.1, o.2);
@@ -118,15 +118,15 @@ with_told least ds d m out z r c e = by m.rows refl e
         let stated : IsColsOf d m.cols = c ∙ ap (λ (x : ℤ). Ok x) (number_is z m.cols p.0) in
         subst (λ (x : FractionMatrix). IsReadWith least ds (Some d) x) same (record { each = r.each; cols = subst (λ (xs : List (List Ratio)). StatesCols least (Some d) m.cols xs) (sym is) stated })
 
-matrix_told : (least : ℕ) (ds : Items) (behind : Option Data) (m : FractionMatrix) → matrix_with least ds behind ≡ Ok m → IsReadWith least ds behind m
-matrix_told least ds None m e = let r = all_told least ds m e in record { each = r.each; cols = any_least m.rows r.none }
+matrix_told : (least most : ℕ) (ds : Items) (behind : Option Data) (m : FractionMatrix) → matrix_with least most ds behind ≡ Ok m → IsReadWith least ds behind m
+matrix_told least most ds None m e = let r = all_told least most ds m e in record { each = r.each; cols = any_least m.rows r.none }
   where
     any_least : (rows : List (List Ratio)) → StatesCols 0 None m.cols rows → StatesCols least None m.cols rows
     any_least [] h = h
     any_least (r ∷ rows) h = h
-matrix_told least ds (Some d) m e =
-    and_then-ok (rows_from least ds) (λ x. and_then (and_then (cols_member d) whole_number_of) (with_cols least x)) m e
-    (λ x is f. and_then-ok (and_then (cols_member d) whole_number_of) (with_cols least x) m f (λ z c g. with_told least ds d x m z (all_told least ds x is) c g))
+matrix_told least most ds (Some d) m e =
+    and_then-ok (rows_from least most ds) (λ x. and_then (and_then (cols_member d) whole_number_of) (with_cols least most x)) m e
+    (λ x is f. and_then-ok (and_then (cols_member d) whole_number_of) (with_cols least most x) m f (λ z c g. with_told least most ds d x m z (all_told least most ds x is) c g))
 
 value_is : (a b : PropertyValue) → (let r : Read PropertyValue = Ok a in r) ≡ Ok b → a ≡ b
 value_is a b e = same_Ok a b e
@@ -136,23 +136,36 @@ abbrev IsMatrixText : ℕ → Data → PropertyValue → Type 0
 IsMatrixText least d (matrix n rows) = IsMatrixOf least d n rows
 IsMatrixText least d v = ⊥
 
-matrix_text : (least : ℕ) (d : Data) (v : PropertyValue) → matrix_of least d ≡ Ok v → IsMatrixText least d v
-matrix_text least d v e =
-    and_then-ok (items_of d) (λ ds. and_then (matrix_from least ds) (λ m. Ok (matrix m.cols m.rows))) v e
-    (λ ds is f. and_then-ok (matrix_from least ds) (λ m. Ok (matrix m.cols m.rows)) v f
+matrix_text : (least most : ℕ) (d : Data) (v : PropertyValue) → matrix_of least most d ≡ Ok v → IsMatrixText least d v
+matrix_text least most d v e =
+    and_then-ok (items_of d) (λ ds. and_then (matrix_from least most ds) (λ m. Ok (matrix m.cols m.rows))) v e
+    (λ ds is f. and_then-ok (matrix_from least most ds) (λ m. Ok (matrix m.cols m.rows)) v f
     (λ m read g.
-    let r = matrix_told least (rows_before ds) (object_behind ds) m read in
+    let r = matrix_told least most (rows_before ds) (object_behind ds) m read in
     subst (IsMatrixText least d) (same_Ok (matrix m.cols m.rows) v g) (record { items = ds; array = some_from Shape (as_array d) ds is; each = r.each; cols = r.cols })))
 
+-- what is read as one row is the text of one
+abbrev IsRowText : Data → PropertyValue → Type 0
+IsRowText d (matrix n rows) = IsOneRowOf d rows
+IsRowText d v = ⊥
+
+row_is_text : (least most : ℕ) (d : Data) (v : PropertyValue) → one_row_of least most d ≡ Ok v → IsRowText d v
+row_is_text least most d v e =
+    and_then-ok (items_of d) (λ ds. and_then (first_row_of least most ds) (λ r. Ok (matrix (length r) (r ∷ [])))) v e
+    (λ ds is f. and_then-ok (first_row_of least most ds) (λ r. Ok (matrix (length r) (r ∷ []))) v f
+    (λ r row g. subst (IsRowText d) (same_Ok (matrix (length r) (r ∷ [])) v g) (r, refl, array_from IsEntryOf d ds r is (first_told least most ds r row))))
+
 matrix_is_text : (p : PropId) (d : Data) (v : PropertyValue) → matrix_reading p d ≡ Ok v → IsTextOf p d v
-matrix_is_text LinearObjective d v e =
-    and_then-ok (items_of d) (λ ds. and_then (first_row_of 1 ds) (λ r. Ok (matrix (length r) (r ∷ [])))) v e
-    (λ ds is f. and_then-ok (first_row_of 1 ds) (λ r. Ok (matrix (length r) (r ∷ []))) v f
-    (λ r row g. subst (IsTextOf LinearObjective d) (same_Ok (matrix (length r) (r ∷ [])) v g) (r, refl, array_from IsEntryOf d ds r is (first_told 1 ds r row))))
-matrix_is_text F2Vector d (matrix n rows) e = matrix_text 0 d (matrix n rows) e
-matrix_is_text F2Vector d v e = absurd (matrix_text 0 d v e)
-matrix_is_text p d (matrix n rows) e = matrix_text 1 d (matrix n rows) e
-matrix_is_text p d v e = absurd (matrix_text 1 d v e)
+matrix_is_text LinearObjective d (matrix n rows) e = row_is_text 1 most_columns d (matrix n rows) e
+matrix_is_text LinearObjective d v e = absurd (row_is_text 1 most_columns d v e)
+matrix_is_text SiteHeights d (matrix n rows) e = row_is_text 0 most_rows d (matrix n rows) e
+matrix_is_text SiteHeights d v e = absurd (row_is_text 0 most_rows d v e)
+matrix_is_text F2Vector d (matrix n rows) e = matrix_text 0 most_columns d (matrix n rows) e
+matrix_is_text F2Vector d v e = absurd (matrix_text 0 most_columns d v e)
+matrix_is_text Sites d (matrix n rows) e = matrix_text 1 most_site_columns d (matrix n rows) e
+matrix_is_text Sites d v e = absurd (matrix_text 1 most_site_columns d v e)
+matrix_is_text p d (matrix n rows) e = matrix_text 1 most_columns d (matrix n rows) e
+matrix_is_text p d v e = absurd (matrix_text 1 most_columns d v e)
 
 -- ---- sets
 or_is : (a b : Bool) → a ≡ true → (a || b) ≡ true

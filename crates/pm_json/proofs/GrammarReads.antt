@@ -8,32 +8,32 @@ use Rattle.pm_vector.specs.Numbers.{Ratio}
 use Rattle.pm_json.proofs.Grammar.{IsCountOf, Stated, are_new, has_put, is_not}
 use Rattle.pm_json.proofs.Parts.{and_then-ok, else-ok, err_ok, same_Ok}
 use Rattle.pm_json.proofs.SetLimits.{above_sets_bound, set_keeps_limits}
-use Rattle.pm_json.specs.Grammar.{AreItems, AreRowsOf, AreSetsOf, HasCols, IsArrayOf, IsColsOf, IsEntryOf, IsIndexOf, IsJsonOf, IsMatrixOf, IsRowOf, IsSetOf, IsTextOf, StatesCols, are_apart}
-use Rattle.pm_json.specs.Readings.{above_sets, and_then, cols_member, count_of, count_up_to_limit, counts_from, counts_of, edges_of, entries_from, face_from, faces_from, first_row_of, has_index, index_of, later_row_from, later_rows_from, lattice_of, matrix_of, matrix_reading, matrix_with, nodes_from, object_behind, ranks_from, reading, reading_of, rows_before, rows_from, set_from, sets_from, sets_of, stated_of, whole_number_of, whole_value, with_index}
+use Rattle.pm_json.specs.Grammar.{AreItems, AreRowsOf, AreSetsOf, HasCols, IsArrayOf, IsColsOf, IsEntryOf, IsIndexOf, IsJsonOf, IsMatrixOf, IsOneRowOf, IsRowOf, IsSetOf, IsTextOf, StatesCols, are_apart}
+use Rattle.pm_json.specs.Readings.{above_sets, and_then, cols_member, count_of, count_up_to_limit, counts_from, counts_of, edges_of, entries_from, face_from, faces_from, first_row_of, has_index, index_of, later_row_from, later_rows_from, lattice_of, matrix_of, matrix_reading, matrix_with, nodes_from, object_behind, one_row_of, ranks_from, reading, reading_of, rows_before, rows_from, set_from, sets_from, sets_of, stated_of, whole_number_of, whole_value, with_index}
 use Rattle.pm_json.specs.declared.fail.ValueFail.{ValueFail}
 use Rattle.pm_json.specs.declared.fail.ValueFail.TheVariants.{Shape, Limit}
 use Rattle.pm_json.specs.Laws.{TextsAreRead}
 use Rattle.pm_props.specs.Properties.{is_ambient, is_of_counts, is_of_edges, is_of_lattices, is_of_matrices, is_of_sets, is_of_truth_values, is_of_whole_numbers, value_kind}
 use Rattle.pm_props.specs.declared.property.PropId.{PropId}
-use Rattle.pm_props.specs.declared.property.PropId.TheVariants.{ConeAmbientDim, F2Vector, LinearObjective}
+use Rattle.pm_props.specs.declared.property.PropId.TheVariants.{ConeAmbientDim, F2Vector, LinearObjective, SiteHeights, Sites}
 use Rattle.pm_props.specs.declared.property.ValueKind.{ValueKind}
 use Rattle.pm_props.specs.declared.property.ValueKind.TheVariants as kind
-use Rattle.pm_types.specs.Forms.{are_indices, are_joined_back, has_64_bits, is_column_count, is_counts_form, is_dimension, is_edges_form, is_formed, is_lattice_form, is_matrix_form, is_matrix_of, is_of_numbers, is_row_of_entries, is_sets_form, is_table_form, is_whole_form}
+use Rattle.pm_types.specs.Forms.{are_indices, are_joined_back, has_64_bits, is_column_count, is_counts_form, is_dimension, is_edges_form, is_formed, is_lattice_form, is_list_form, is_matrix_form, is_matrix_of, is_of_numbers, is_row_of_entries, is_sets_form, is_table_form, is_whole_form}
 use Rattle.pm_types.specs.Values.{PropertyValue, matrix, sets, whole, truth, counts, edges, lattice, extended}
 use Rattle.serde_json.specs.Data.{Data, Items, item, no_items, null, boolean, number, string, array, object}
 use Rattle.serde_json.specs.Find.{as_array, as_object}
 use lib.IntN.{ℤ, pos}
-use Rattle.pm_limits.specs.Limits.{most_columns, most_faces, most_indices, most_places, most_rows}
+use Rattle.pm_limits.specs.Limits.{most_columns, most_faces, most_indices, most_places, most_rows, most_site_columns}
 
 -- ---- rows
-entries_read : (k : ℕ) (ds : Items) (r : List Ratio) → AreItems IsEntryOf ds r → k + length r ≤ most_columns → entries_from k ds ≡ Ok r
-entries_read k no_items [] h few = refl
-entries_read k no_items (q ∷ r) h few = absurd h
-entries_read k (item d ds) [] h few = absurd h
-entries_read k (item d ds) (q ∷ r) h few = rw (h.0, lt-ltb k most_columns (omega arith), entries_read (suc k) ds r h.1 (omega arith)) refl
+entries_read : (most k : ℕ) (ds : Items) (r : List Ratio) → AreItems IsEntryOf ds r → k + length r ≤ most → entries_from most k ds ≡ Ok r
+entries_read most k no_items [] h few = refl
+entries_read most k no_items (q ∷ r) h few = absurd h
+entries_read most k (item d ds) [] h few = absurd h
+entries_read most k (item d ds) (q ∷ r) h few = rw (h.0, lt-ltb k most (omega arith), entries_read most (suc k) ds r h.1 (omega arith)) refl
 
-first_read : (least : ℕ) (ds : Items) (r : List Ratio) → AreItems IsEntryOf ds r → least ≤ length r → length r ≤ most_columns → first_row_of least ds ≡ Ok r
-first_read least ds r h some few = rw (entries_read 0 ds r h (omega arith), le-ltb (length r) least some) refl
+first_read : (least most : ℕ) (ds : Items) (r : List Ratio) → AreItems IsEntryOf ds r → least ≤ length r → length r ≤ most → first_row_of least most ds ≡ Ok r
+first_read least most ds r h some few = rw (entries_read most 0 ds r h (omega arith), le-ltb (length r) least some) refl
 
 later_read : (n k : ℕ) (ds : Items) (r : List Ratio) → AreItems IsEntryOf ds r → k + length r ≡ n → later_row_from n k ds ≡ Ok r
 later_read n k no_items [] h e = rw (eq-eqb k n (omega arith)) refl
@@ -50,39 +50,39 @@ rows_read n k (item d ds) (r ∷ rows) ((es, is, row), h) few long =
     rw (is, lt-ltb k most_rows (omega arith), later_read n 0 es r row (let e = eqb-true (length r) n p.0 in omega arith), rows_read n (suc k) ds rows h (omega arith) p.1) refl
 
 -- ---- matrices
-record HasRows (least n : ℕ) (rows : List (List Ratio)) : Type 0 where
+record HasRows (least most n : ℕ) (rows : List (List Ratio)) : Type 0 where
   few : length rows ≤ most_rows
-  narrow : n ≤ most_columns
+  narrow : n ≤ most
   wide : (r : List Ratio) (others : List (List Ratio)) → rows ≡ r ∷ others → least ≤ n
   long : list_all (is_row_of_entries n) rows ≡ true
 
-all_read : (least n : ℕ) (ds : Items) (r : List Ratio) (rows : List (List Ratio)) → AreItems IsRowOf ds (r ∷ rows) → HasRows least n (r ∷ rows) → rows_from least ds ≡ Ok (record { cols = n; rows = r ∷ rows })
-all_read least n no_items r rows h f = absurd h
-all_read least n (item d ds) r rows ((es, is, row), h) f =
+all_read : (least most n : ℕ) (ds : Items) (r : List Ratio) (rows : List (List Ratio)) → AreItems IsRowOf ds (r ∷ rows) → HasRows least most n (r ∷ rows) → rows_from least most ds ≡ Ok (record { cols = n; rows = r ∷ rows })
+all_read least most n no_items r rows h f = absurd h
+all_read least most n (item d ds) r rows ((es, is, row), h) f =
     let p = and_parts (eqb (length r) n) (list_all (is_row_of_entries n) rows) f.long in
     let long : length r ≡ n = eqb-true (length r) n p.0 in
     let wide = f.wide r rows refl in
     let narrow = f.narrow in
     let few = f.few in
-    rw (is, first_read least es r row (omega arith) (omega arith), long, rows_read n 1 ds rows h (omega arith) p.1) refl
+    rw (is, first_read least most es r row (omega arith) (omega arith), long, rows_read n 1 ds rows h (omega arith) p.1) refl
 
-no_rows : (least : ℕ) (ds : Items) → AreItems IsRowOf ds [] → rows_from least ds ≡ Ok (record { cols = 0; rows = [] })
-no_rows least no_items h = refl
-no_rows least (item d ds) h = absurd h
+no_rows : (least most : ℕ) (ds : Items) → AreItems IsRowOf ds [] → rows_from least most ds ≡ Ok (record { cols = 0; rows = [] })
+no_rows least most no_items h = refl
+no_rows least most (item d ds) h = absurd h
 
-with_read : (least n : ℕ) (ds : Items) (behind : Option Data) (rows : List (List Ratio)) → AreItems IsRowOf ds rows → StatesCols least behind n rows → HasRows least n rows → matrix_with least ds behind ≡ Ok (record { cols = n; rows = rows })
-with_read least n ds None [] h c f = no_rows least ds h ∙ ap (λ (k : ℕ). Ok (record { cols = k; rows = [] })) (sym c)
-with_read least n ds None (r ∷ rows) h c f = all_read least n ds r rows h f
-with_read least n ds (Some d) [] h c f = let narrow = f.narrow in rw (no_rows least ds h, c.0, le-leb least n c.1, le-leb n most_columns narrow) refl
-with_read least n ds (Some d) (r ∷ rows) h c f =
+with_read : (least most n : ℕ) (ds : Items) (behind : Option Data) (rows : List (List Ratio)) → AreItems IsRowOf ds rows → StatesCols least behind n rows → HasRows least most n rows → matrix_with least most ds behind ≡ Ok (record { cols = n; rows = rows })
+with_read least most n ds None [] h c f = no_rows least most ds h ∙ ap (λ (k : ℕ). Ok (record { cols = k; rows = [] })) (sym c)
+with_read least most n ds None (r ∷ rows) h c f = all_read least most n ds r rows h f
+with_read least most n ds (Some d) [] h c f = let narrow = f.narrow in rw (no_rows least most ds h, c.0, le-leb least n c.1, le-leb n most narrow) refl
+with_read least most n ds (Some d) (r ∷ rows) h c f =
     let more : eqb (suc (length rows)) 0 ≡ false = ne_eqb (suc (length rows)) 0 (λ e. omega arith) in
     let same : eqb n n ≡ true = eq-eqb n n refl in
-    rw (all_read least n ds r rows h f, c, more, same) refl
+    rw (all_read least most n ds r rows h f, c, more, same) refl
 
-matrix_read : (least n : ℕ) (d : Data) (rows : List (List Ratio)) → IsMatrixOf least d n rows → HasRows least n rows → matrix_of least d ≡ Ok (matrix n rows)
-matrix_read least n d rows m f = rw (m.array, with_read least n (rows_before m.items) (object_behind m.items) rows m.each m.cols f) refl
+matrix_read : (least most n : ℕ) (d : Data) (rows : List (List Ratio)) → IsMatrixOf least d n rows → HasRows least most n rows → matrix_of least most d ≡ Ok (matrix n rows)
+matrix_read least most n d rows m f = rw (m.array, with_read least most n (rows_before m.items) (object_behind m.items) rows m.each m.cols f) refl
 
-has_rows : (n : ℕ) (rows : List (List Ratio)) → is_matrix_form n rows ≡ true → HasRows 1 n rows
+has_rows : (n : ℕ) (rows : List (List Ratio)) → is_matrix_form n rows ≡ true → HasRows 1 most_columns n rows
 has_rows n rows form =
     let p = and_parts (leb (length rows) most_rows && is_column_count rows n) (list_all (is_row_of_entries n) rows) form in
     let q = and_parts (leb (length rows) most_rows) (is_column_count rows n) p.0 in
@@ -95,7 +95,7 @@ has_rows n rows form =
     wide : (r : List Ratio) (others : List (List Ratio)) → is_column_count (r ∷ others) n ≡ true → 1 ≤ n
     wide r others h = leb-true 1 n (and_parts (leb 1 n) (leb n most_columns) h).0
 
-has_table : (n : ℕ) (rows : List (List Ratio)) → is_table_form n rows ≡ true → HasRows 0 n rows
+has_table : (n : ℕ) (rows : List (List Ratio)) → is_table_form n rows ≡ true → HasRows 0 most_columns n rows
 has_table n rows form =
     let p = and_parts (leb (length rows) most_rows && leb n most_columns) (list_all (is_row_of_entries n) rows) form in
     let q = and_parts (leb (length rows) most_rows) (leb n most_columns) p.0 in
@@ -108,12 +108,29 @@ objective_read n d rows (r, is, (ds, listed, row)) form =
     let long : length r ≡ n = eqb-true (length r) n l.0 in
     let some = f.wide r [] refl in
     let most = f.narrow in
-    rw (is, listed, first_read 1 ds r row (omega arith) (omega arith), long) refl
+    rw (is, listed, first_read 1 most_columns ds r row (omega arith) (omega arith), long) refl
+
+-- a list of heights
+heights_read : (n : ℕ) (d : Data) (rows : List (List Ratio)) → IsOneRowOf d rows → is_list_form n rows ≡ true → one_row_of 0 most_rows d ≡ Ok (matrix n rows)
+heights_read n d rows (r, is, (ds, listed, row)) form =
+    let f = and_parts (leb n most_rows) (eqb (length r) n && true) (subst (λ (xs : List (List Ratio)). is_list_form n xs ≡ true) is form) in
+    let few = leb-true n most_rows f.0 in
+    let long : length r ≡ n = eqb-true (length r) n (and_parts (eqb (length r) n) true f.1).0 in
+    rw (is, listed, first_read 0 most_rows ds r row (omega arith) (omega arith), long) refl
+
+-- sites
+sites_rows : (n : ℕ) (rows : List (List Ratio)) → is_matrix_of Sites n rows ≡ true → HasRows 1 most_site_columns n rows
+sites_rows n rows form =
+    let p = and_parts (leb n most_site_columns) (is_matrix_form n rows) form in
+    let f = has_rows n rows p.1 in
+    record { few = f.few; narrow = leb-true n most_site_columns p.0; wide = f.wide; long = f.long }
 
 rows_json_read : (p : PropId) (n : ℕ) (d : Data) (rows : List (List Ratio)) → AreRowsOf p d n rows → is_matrix_of p n rows ≡ true → matrix_reading p d ≡ Ok (matrix n rows)
 rows_json_read LinearObjective n d rows h form = objective_read n d rows h (and_parts (eqb (length rows) 1) (is_matrix_form n rows) form).1
-rows_json_read F2Vector n d rows h form = matrix_read 0 n d rows h (has_table n rows form)
-rows_json_read p n d rows h form = matrix_read 1 n d rows h (has_rows n rows form)
+rows_json_read SiteHeights n d rows h form = heights_read n d rows h form
+rows_json_read F2Vector n d rows h form = matrix_read 0 most_columns n d rows h (has_table n rows form)
+rows_json_read Sites n d rows h form = matrix_read 1 most_site_columns n d rows h (sites_rows n rows form)
+rows_json_read p n d rows h form = matrix_read 1 most_columns n d rows h (has_rows n rows form)
 
 -- ---- sets
 index_read : (d : Data) (j : ℕ) → IsIndexOf d j → j < most_rows → index_of d ≡ Ok j

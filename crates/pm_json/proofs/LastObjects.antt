@@ -28,8 +28,8 @@ nothing_behind (r ∷ []) v h = nothing_behind [] v h
 nothing_behind (r ∷ s ∷ rows) v h = nothing_behind (s ∷ rows) v h
 
 -- ---- matrices
-pub from_stated : (least : ℕ) (vs rows : List Value) (v : Value) → vs ≡ rows ++ v ∷ [] → is_some (as_object (view v)) ≡ true → matrix_from least (items_view vs) ≡ matrix_with least (items_view rows) (Some (view v))
-from_stated least vs rows v e h = ap (λ ws. matrix_from least (items_view ws)) e ∙ ap (λ ds. matrix_with least ds (object_behind (items_view (rows ++ v ∷ [])))) (rows_before_object rows v h) ∙ ap (matrix_with least (items_view rows)) (object_is_behind rows v h)
+pub from_stated : (least most : ℕ) (vs rows : List Value) (v : Value) → vs ≡ rows ++ v ∷ [] → is_some (as_object (view v)) ≡ true → matrix_from least most (items_view vs) ≡ matrix_with least most (items_view rows) (Some (view v))
+from_stated least most vs rows v e h = ap (λ ws. matrix_from least most (items_view ws)) e ∙ ap (λ ds. matrix_with least most ds (object_behind (items_view (rows ++ v ∷ [])))) (rows_before_object rows v h) ∙ ap (matrix_with least most (items_view rows)) (object_is_behind rows v h)
 
-pub from_rows : (least : ℕ) (vs rows : List Value) (v : Value) → vs ≡ rows ++ v ∷ [] → is_some (as_object (view v)) ≡ false → matrix_from least (items_view vs) ≡ rows_from least (items_view vs)
-from_rows least vs rows v e h = ap (λ ws. matrix_from least (items_view ws)) e ∙ ap (λ ds. matrix_with least ds (object_behind (items_view (rows ++ v ∷ [])))) (rows_alone rows v h) ∙ ap (matrix_with least (items_view (rows ++ v ∷ []))) (nothing_behind rows v h) ∙ ap (λ ws. rows_from least (items_view ws)) (sym e)
+pub from_rows : (least most : ℕ) (vs rows : List Value) (v : Value) → vs ≡ rows ++ v ∷ [] → is_some (as_object (view v)) ≡ false → matrix_from least most (items_view vs) ≡ rows_from least most (items_view vs)
+from_rows least most vs rows v e h = ap (λ ws. matrix_from least most (items_view ws)) e ∙ ap (λ ds. matrix_with least most ds (object_behind (items_view (rows ++ v ∷ [])))) (rows_alone rows v h) ∙ ap (matrix_with least most (items_view (rows ++ v ∷ []))) (nothing_behind rows v h) ∙ ap (λ ws. rows_from least most (items_view ws)) (sym e)

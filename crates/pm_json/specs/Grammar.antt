@@ -1,10 +1,10 @@
 -- Which JSON value is which value of a property.
--- A matrix is an array of its rows, which are arrays of their entries; behind the rows maybe {"cols":n}, n the column count, and without it a matrix without rows states none, 0. LP.LINEAR_OBJECTIVE is its one row. Sets are an array of sets, arrays of their indices in any order, none twice; behind them maybe {"cols":n}, and without it the column count is one more than the greatest index, or 0. Edges are an array of the sets of neighbours, and a lattice an array of ranks, arrays of sets. Counts are an array of whole numbers. Each value has the form of its property, which bounds the numbers of rows, columns, indices and faces.
+-- A matrix is an array of its rows, which are arrays of their entries; behind the rows maybe {"cols":n}, n the column count, and without it a matrix without rows states none, 0. LP.LINEAR_OBJECTIVE and SITE_HEIGHTS are their one row. Sets are an array of sets, arrays of their indices in any order, none twice; behind them maybe {"cols":n}, and without it the column count is one more than the greatest index, or 0. Edges are an array of the sets of neighbours, and a lattice an array of ranks, arrays of sets. Counts are an array of whole numbers. Each value has the form of its property, which bounds the numbers of rows, columns, indices and faces.
 use Rattle.std.specs.Prelude.{◌≡◌, ◌≤◌, ⊤, ℕ, Bool, true, not, ◌&&◌, IsTrue, List, [], ◌∷◌, None, Ok, Option, Some}
 use Rattle.pm_vector.specs.Numbers.{Ratio}
 use Rattle.pm_json.specs.Readings.{above_sets, and_then, cols_member, entry_of, has_index, number_value_of, object_behind, rows_before, whole_count_of, whole_number_of}
 use Rattle.pm_props.specs.declared.property.PropId.{PropId}
-use Rattle.pm_props.specs.declared.property.PropId.TheVariants.{F2Vector, LinearObjective}
+use Rattle.pm_props.specs.declared.property.PropId.TheVariants.{F2Vector, LinearObjective, SiteHeights}
 use Rattle.pm_types.specs.Forms.{is_formed}
 use Rattle.pm_types.specs.Values.{PropertyValue, matrix, sets, whole, truth, counts, edges, lattice, extended}
 use Rattle.serde_json.specs.Data.{Data, Num, Items, item, no_items}
@@ -76,8 +76,13 @@ pub record AreSetsOf (d : Data) (rows : List (List ℕ)) (n : ℕ) : Type 0 wher
   pub cols : HasCols (object_behind items) n rows
 
 -- ---- values
+-- the one row
+abbrev pub IsOneRowOf : Data → List (List Ratio) → Type 0
+IsOneRowOf d rows = (r : List Ratio) × (rows ≡ r ∷ []) × IsRowOf d r
+
 abbrev pub AreRowsOf : PropId → Data → ℕ → List (List Ratio) → Type 0
-AreRowsOf LinearObjective d n rows = (r : List Ratio) × (rows ≡ r ∷ []) × IsRowOf d r
+AreRowsOf LinearObjective d n rows = IsOneRowOf d rows
+AreRowsOf SiteHeights d n rows = IsOneRowOf d rows
 AreRowsOf F2Vector d n rows = IsMatrixOf 0 d n rows
 AreRowsOf p d n rows = IsMatrixOf 1 d n rows
 

@@ -1,5 +1,5 @@
 -- What a JSON value is, as a value of a property, so far.
--- A matrix is an array of at most most_rows rows, which are arrays of one length from 1 to 33 (of F2_VECTOR from 0) of fractions; behind the rows maybe {"cols":n}, n the length of the rows, or where there are none a number that it might be; without it a matrix without rows states no column count, 0. LP.LINEAR_OBJECTIVE is one such row. A fraction is a text, an optional `-`, digits, and optionally `/` and digits that do not write 0, none of them above 2^127 - 1, or a whole JSON number from -2^63 to 2^64 - 1.
+-- A matrix is an array of at most most_rows rows, which are arrays of one length from 1 to 33 (of F2_VECTOR from 0, of SITES to most_site_columns) of fractions; behind the rows maybe {"cols":n}, n the length of the rows, or where there are none a number that it might be; without it a matrix without rows states no column count, 0. LP.LINEAR_OBJECTIVE is one such row, and SITE_HEIGHTS is one row of at most most_rows entries. A fraction is a text, an optional `-`, digits, and optionally `/` and digits that do not write 0, none of them above 2^127 - 1, or a whole JSON number from -2^63 to 2^64 - 1.
 -- Sets are an array of at most most_rows sets, which are arrays of indices below most_rows, in any order and none twice; after the sets maybe {"cols":n}, n at most most_rows and above every index; without it the column count is one more than the greatest index, or 0.
 -- A whole number is a whole JSON number of 64 bits, for CONE_AMBIENT_DIM from 1 to 33; a truth value is true or false.
 -- A list of counts is an array of at most most_rows whole numbers of 64 bits, each a whole JSON number or a text, an optional `-` and digits.
@@ -22,7 +22,7 @@ use Rattle.pm_matrix.specs.Matrices.{FractionMatrix}
 use Rattle.pm_types.specs.Values.{PropertyValue, matrix, sets, whole, truth, counts, edges, lattice, extended, Extended, finite, plus_infinity, minus_infinity}
 use Rattle.pm_types.specs.Views.{over_one}
 use Rattle.pm_props.specs.declared.property.PropId.{PropId}
-use Rattle.pm_props.specs.declared.property.PropId.TheVariants.{F2Vector, LinearObjective}
+use Rattle.pm_props.specs.declared.property.PropId.TheVariants.{F2Vector, LinearObjective, SiteHeights, Sites}
 use Rattle.pm_props.specs.declared.property.ValueKind.{ValueKind}
 use Rattle.pm_props.specs.declared.property.ValueKind.TheVariants as kind
 use Rattle.serde_json.specs.Data.{Data, Num, object, Items, no_items, item, no_members, member}
@@ -30,7 +30,7 @@ use Rattle.serde_json.specs.Find.{get, as_array, as_bool, as_i64, as_integer, as
 use Rattle.pm_json.specs.declared.fail.ValueFail.{ValueFail}
 use Rattle.pm_json.specs.declared.fail.ValueFail.TheVariants.{Shape, Number, Index, Limit}
 use lib.IntN.{ℤ, pos, negsuc}
-use Rattle.pm_limits.specs.Limits.{most_columns, most_faces, most_places, most_rows}
+use Rattle.pm_limits.specs.Limits.{most_columns, most_faces, most_places, most_rows, most_site_columns}
 
 -- what is read, or the fault
 abbrev pub Read : Type 0 → Type 0
@@ -94,14 +94,14 @@ abbrev pub entry_of : Data → Read Ratio
 entry_of d = entry_by (as_str d) d
 
 -- ---- matrices
--- the entries of a row, of which k came before
-abbrev pub entries_from : ℕ → Items → Read (List Ratio)
-entries_from k no_items = Ok []
-entries_from k (item d ds) = and_then (entry_of d) (λ q. if nat_lt k most_columns then before q (entries_from (suc k) ds) else Err Limit)
+-- the entries of a row, at most so many, of which k came before
+abbrev pub entries_from : ℕ → ℕ → Items → Read (List Ratio)
+entries_from most k no_items = Ok []
+entries_from most k (item d ds) = and_then (entry_of d) (λ q. if nat_lt k most then before q (entries_from most (suc k) ds) else Err Limit)
 
--- a first row, which has to have so many entries or more
-abbrev pub first_row_of : ℕ → Items → Read (List Ratio)
-first_row_of least ds = and_then (entries_from 0 ds) (λ r. if nat_lt (length r) least then Err Limit else Ok r)
+-- a first row, which has to have from `least` to `most` entries
+abbrev pub first_row_of : ℕ → ℕ → Items → Read (List Ratio)
+first_row_of least most ds = and_then (entries_from most 0 ds) (λ r. if nat_lt (length r) least then Err Limit else Ok r)
 
 -- the entries of a later row, which has to have n, of which k came before
 abbrev pub later_row_from : ℕ → ℕ → Items → Read (List Ratio)
@@ -113,10 +113,10 @@ abbrev pub later_rows_from : ℕ → ℕ → Items → Read (List (List Ratio))
 later_rows_from n k no_items = Ok []
 later_rows_from n k (item d ds) = and_then (items_of d) (λ es. if nat_lt k most_rows then and_then (later_row_from n 0 es) (λ r. before r (later_rows_from n (suc k) ds)) else Err Limit)
 
--- the rows, of so many entries or more
-abbrev pub rows_from : ℕ → Items → Read FractionMatrix
-rows_from least no_items = Ok (record { cols = 0; rows = [] })
-rows_from least (item d ds) = and_then (items_of d) (λ es. and_then (first_row_of least es) (λ r. and_then (before r (later_rows_from (length r) 1 ds)) (λ rows. Ok (record { cols = length r; rows = rows }))))
+-- the rows, of as many entries
+abbrev pub rows_from : ℕ → ℕ → Items → Read FractionMatrix
+rows_from least most no_items = Ok (record { cols = 0; rows = [] })
+rows_from least most (item d ds) = and_then (items_of d) (λ es. and_then (first_row_of least most es) (λ r. and_then (before r (later_rows_from (length r) 1 ds)) (λ rows. Ok (record { cols = length r; rows = rows }))))
 
 -- the elements but a last object
 abbrev pub rows_before : Items → Items
@@ -142,31 +142,34 @@ abbrev pub whole_number_of : Data → Read ℤ
 whole_number_of d = and_then (or_fault Shape (as_number d)) (λ n. or_fault Number (as_integer n))
 
 -- the column count of a matrix without rows
-abbrev pub only_cols : ℕ → ℤ → Read FractionMatrix
-only_cols least (pos n) = if nat_le least n && nat_le n most_columns then Ok (record { cols = n; rows = [] }) else Err Limit
-only_cols least (negsuc n) = Err Limit
+abbrev pub only_cols : ℕ → ℕ → ℤ → Read FractionMatrix
+only_cols least most (pos n) = if nat_le least n && nat_le n most then Ok (record { cols = n; rows = [] }) else Err Limit
+only_cols least most (negsuc n) = Err Limit
 
 -- the matrix with this column count stated behind its rows
-abbrev pub with_cols : ℕ → FractionMatrix → ℤ → Read FractionMatrix
-with_cols least m z = if length m.rows == 0 then only_cols least z else if is_number z m.cols then Ok m else Err Shape
+abbrev pub with_cols : ℕ → ℕ → FractionMatrix → ℤ → Read FractionMatrix
+with_cols least most m z = if length m.rows == 0 then only_cols least most z else if is_number z m.cols then Ok m else Err Shape
 
-abbrev pub matrix_with : ℕ → Items → Option Data → Read FractionMatrix
-matrix_with least ds None = rows_from least ds
-matrix_with least ds (Some d) = and_then (rows_from least ds) (λ m. and_then (and_then (cols_member d) whole_number_of) (with_cols least m))
+abbrev pub matrix_with : ℕ → ℕ → Items → Option Data → Read FractionMatrix
+matrix_with least most ds None = rows_from least most ds
+matrix_with least most ds (Some d) = and_then (rows_from least most ds) (λ m. and_then (and_then (cols_member d) whole_number_of) (with_cols least most m))
 
-abbrev pub matrix_from : ℕ → Items → Read FractionMatrix
-matrix_from least ds = matrix_with least (rows_before ds) (object_behind ds)
+abbrev pub matrix_from : ℕ → ℕ → Items → Read FractionMatrix
+matrix_from least most ds = matrix_with least most (rows_before ds) (object_behind ds)
 
-abbrev pub matrix_of : ℕ → Data → Read PropertyValue
-matrix_of least d = and_then (items_of d) (λ ds. and_then (matrix_from least ds) (λ m. Ok (matrix m.cols m.rows)))
+abbrev pub matrix_of : ℕ → ℕ → Data → Read PropertyValue
+matrix_of least most d = and_then (items_of d) (λ ds. and_then (matrix_from least most ds) (λ m. Ok (matrix m.cols m.rows)))
 
-abbrev pub objective_of : Data → Read PropertyValue
-objective_of d = and_then (items_of d) (λ ds. and_then (first_row_of 1 ds) (λ r. Ok (matrix (length r) (r ∷ []))))
+-- one row
+abbrev pub one_row_of : ℕ → ℕ → Data → Read PropertyValue
+one_row_of least most d = and_then (items_of d) (λ ds. and_then (first_row_of least most ds) (λ r. Ok (matrix (length r) (r ∷ []))))
 
 abbrev pub matrix_reading : PropId → Data → Read PropertyValue
-matrix_reading LinearObjective d = objective_of d
-matrix_reading F2Vector d = matrix_of 0 d
-matrix_reading p d = matrix_of 1 d
+matrix_reading LinearObjective d = one_row_of 1 most_columns d
+matrix_reading SiteHeights d = one_row_of 0 most_rows d
+matrix_reading F2Vector d = matrix_of 0 most_columns d
+matrix_reading Sites d = matrix_of 1 most_site_columns d
+matrix_reading p d = matrix_of 1 most_columns d
 
 -- ---- sets
 abbrev pub index_below_limit : ℤ → Read ℕ

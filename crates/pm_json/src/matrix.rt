@@ -1,6 +1,6 @@
 // Matrices from JSON.
 
-ghost use Rattle.pm_json.specs.Readings.{and_then, cols_member, entries_from, first_row_of, later_row_from, later_rows_from, matrix_from, matrix_of, matrix_reading, matrix_with, objective_of, only_cols, rows_from, whole_number_of, with_cols, with_front};
+ghost use Rattle.pm_json.specs.Readings.{and_then, cols_member, entries_from, first_row_of, later_row_from, later_rows_from, matrix_from, matrix_of, matrix_reading, matrix_with, one_row_of, only_cols, rows_from, whole_number_of, with_cols, with_front};
 ghost use Rattle.pm_json.specs.declared.fail.ValueFail.TheVariants.{Memory};
 ghost use Rattle.pm_types.specs.Forms.{is_number};
 ghost use Rattle.pm_types.specs.Values.{matrix};
@@ -12,22 +12,22 @@ use crate::fail::ValueFail;
 use crate::number::{read_entry, read_items, read_whole_number};
 use crate::sets::read_cols_member;
 use pm_fraction::Fraction;
-use pm_limits::{MOST_COLUMNS, MOST_ROWS};
+use pm_limits::{MOST_COLUMNS, MOST_ROWS, MOST_SITE_COLUMNS};
 use pm_matrix::Matrix;
 use pm_props::PropId;
 use pm_types::Value as PropertyValue;
 use serde_json::Value;
 use std::alloc::Global;
 
-/// The entries of a row, at most 33.
-fn read_entries(alloc: Global, items: &[Value]) -> Result<Vec<Fraction>, ValueFail>
-    ensures ok { IfOk result (λ row. entries_from 0 (items_view items.now) ≡ Ok row.items) }
-    ensures fault { IfErr result (λ e. e ≢ ValueFail.Memory → entries_from 0 (items_view items.now) ≡ Err e) }
+/// The entries of a row, at most so many.
+fn read_entries(alloc: Global, most: usize, items: &[Value]) -> Result<Vec<Fraction>, ValueFail>
+    ensures ok { IfOk result (λ row. entries_from most 0 (items_view items.now) ≡ Ok row.items) }
+    ensures fault { IfErr result (λ e. e ≢ ValueFail.Memory → entries_from most 0 (items_view items.now) ≡ Err e) }
 {
     let mut row = Vec::new(alloc);
     for item in items {
         let entry = read_entry(item)?;
-        if row.len() >= MOST_COLUMNS {
+        if row.len() >= most {
             return Err(ValueFail::Limit);
         }
         row.push(entry)?;
@@ -35,12 +35,17 @@ fn read_entries(alloc: Global, items: &[Value]) -> Result<Vec<Fraction>, ValueFa
     Ok(row)
 }
 
-/// A first row, which has to have so many entries or more.
-fn read_first_row(alloc: Global, least: usize, items: &[Value]) -> Result<Vec<Fraction>, ValueFail>
-    ensures ok { IfOk result (λ row. first_row_of least (items_view items.now) ≡ Ok row.items) }
-    ensures fault { IfErr result (λ e. e ≢ ValueFail.Memory → first_row_of least (items_view items.now) ≡ Err e) }
+/// A first row, which has to have from `least` to `most` entries.
+fn read_first_row(
+    alloc: Global,
+    least: usize,
+    most: usize,
+    items: &[Value],
+) -> Result<Vec<Fraction>, ValueFail>
+    ensures ok { IfOk result (λ row. first_row_of least most (items_view items.now) ≡ Ok row.items) }
+    ensures fault { IfErr result (λ e. e ≢ ValueFail.Memory → first_row_of least most (items_view items.now) ≡ Err e) }
 {
-    let row = read_entries(alloc, items)?;
+    let row = read_entries(alloc, most, items)?;
     if row.len() < least {
         return Err(ValueFail::Limit);
     }
@@ -98,16 +103,16 @@ fn read_later_rows(alloc: Global, matrix: &mut Matrix, items: &[Value]) -> Resul
     Ok(())
 }
 
-/// The rows that elements of an array are, of so many entries or more.
-fn read_rows(alloc: Global, least: usize, items: &[Value]) -> Result<Matrix, ValueFail>
-    ensures ok { IfOk result (λ m. rows_from least (items_view items.now) ≡ Ok m) }
-    ensures fault { IfErr result (λ e. e ≢ ValueFail.Memory → rows_from least (items_view items.now) ≡ Err e) }
+/// The rows that elements of an array are, of as many entries.
+fn read_rows(alloc: Global, least: usize, most: usize, items: &[Value]) -> Result<Matrix, ValueFail>
+    ensures ok { IfOk result (λ m. rows_from least most (items_view items.now) ≡ Ok m) }
+    ensures fault { IfErr result (λ e. e ≢ ValueFail.Memory → rows_from least most (items_view items.now) ≡ Err e) }
 {
     let Some((first, others)) = items.split_first() else {
         return Ok(Matrix::new(alloc, 0));
     };
     let entries = read_items(first)?;
-    let row = read_first_row(alloc, least, entries)?;
+    let row = read_first_row(alloc, least, most, entries)?;
     let mut matrix = Matrix::new(alloc, row.len());
     push_row(&mut matrix, &row)?;
     read_later_rows(alloc, &mut matrix, others)?;
@@ -122,11 +127,11 @@ fn is_number(z: i128, n: usize) -> bool
 }
 
 /// The matrix without rows that has so many columns.
-fn read_only_cols(alloc: Global, least: usize, z: i128) -> Result<Matrix, ValueFail>
+fn read_only_cols(alloc: Global, least: usize, most: usize, z: i128) -> Result<Matrix, ValueFail>
     requires { least ≤ 1 }
-    ensures { result ≡ only_cols least z }
+    ensures { result ≡ only_cols least most z }
 {
-    if least as i128 <= z && z <= MOST_COLUMNS as i128 {
+    if least as i128 <= z && z <= most as i128 {
         Ok(Matrix::new(alloc, z as usize))
     } else {
         Err(ValueFail::Limit)
@@ -134,12 +139,18 @@ fn read_only_cols(alloc: Global, least: usize, z: i128) -> Result<Matrix, ValueF
 }
 
 /// The matrix with this column count stated behind its rows.
-fn with_cols(alloc: Global, least: usize, matrix: Matrix, z: i128) -> Result<Matrix, ValueFail>
+fn with_cols(
+    alloc: Global,
+    least: usize,
+    most: usize,
+    matrix: Matrix,
+    z: i128,
+) -> Result<Matrix, ValueFail>
     requires { least ≤ 1 }
-    ensures { result ≡ with_cols least matrix z }
+    ensures { result ≡ with_cols least most matrix z }
 {
     if matrix.rows() == 0 {
-        return read_only_cols(alloc, least, z);
+        return read_only_cols(alloc, least, most, z);
     }
     if is_number(z, matrix.cols()) {
         Ok(matrix)
@@ -160,53 +171,69 @@ fn read_stated_cols(v: &Value) -> Result<i128, ValueFail>
 fn read_stated(
     alloc: Global,
     least: usize,
+    most: usize,
     rows: &[Value],
     stated: &Value,
 ) -> Result<Matrix, ValueFail>
     requires { least ≤ 1 }
-    ensures ok { IfOk result (λ m. matrix_with least (items_view rows.now) (Some (view stated.now)) ≡ Ok m) }
+    ensures ok { IfOk result (λ m. matrix_with least most (items_view rows.now) (Some (view stated.now)) ≡ Ok m) }
     ensures fault { IfErr result (λ e. e ≢ ValueFail.Memory
-        → matrix_with least (items_view rows.now) (Some (view stated.now)) ≡ Err e) }
+        → matrix_with least most (items_view rows.now) (Some (view stated.now)) ≡ Err e) }
 {
-    let matrix = read_rows(alloc, least, rows)?;
+    let matrix = read_rows(alloc, least, most, rows)?;
     let z = read_stated_cols(stated)?;
-    with_cols(alloc, least, matrix, z)
+    with_cols(alloc, least, most, matrix, z)
 }
 
 /// The matrix that elements of an array are.
-fn read_elements(alloc: Global, least: usize, items: &[Value]) -> Result<Matrix, ValueFail>
+fn read_elements(
+    alloc: Global,
+    least: usize,
+    most: usize,
+    items: &[Value],
+) -> Result<Matrix, ValueFail>
     requires { least ≤ 1 }
-    ensures ok { IfOk result (λ m. matrix_from least (items_view items.now) ≡ Ok m) }
-    ensures fault { IfErr result (λ e. e ≢ ValueFail.Memory → matrix_from least (items_view items.now) ≡ Err e) }
+    ensures ok { IfOk result (λ m. matrix_from least most (items_view items.now) ≡ Ok m) }
+    ensures fault { IfErr result (λ e. e ≢ ValueFail.Memory → matrix_from least most (items_view items.now) ≡ Err e) }
 {
     let Some((last, rows)) = items.split_last() else {
-        return read_rows(alloc, least, items);
+        return read_rows(alloc, least, most, items);
     };
     if last.is_object() {
-        read_stated(alloc, least, rows, last)
+        read_stated(alloc, least, most, rows, last)
     } else {
-        read_rows(alloc, least, items)
+        read_rows(alloc, least, most, items)
     }
 }
 
-/// The matrix that a JSON value is, with rows of so many entries or more.
-fn read_matrix_of(alloc: Global, least: usize, v: &Value) -> Result<PropertyValue, ValueFail>
+/// The matrix that a JSON value is, with rows of as many entries.
+fn read_matrix_of(
+    alloc: Global,
+    least: usize,
+    most: usize,
+    v: &Value,
+) -> Result<PropertyValue, ValueFail>
     requires { least ≤ 1 }
-    ensures ok { IfOk result (λ value. matrix_of least (view v.now) ≡ Ok (view_of value)) }
-    ensures fault { IfErr result (λ e. e ≢ ValueFail.Memory → matrix_of least (view v.now) ≡ Err e) }
+    ensures ok { IfOk result (λ value. matrix_of least most (view v.now) ≡ Ok (view_of value)) }
+    ensures fault { IfErr result (λ e. e ≢ ValueFail.Memory → matrix_of least most (view v.now) ≡ Err e) }
 {
     let items = read_items(v)?;
-    let matrix = read_elements(alloc, least, items)?;
+    let matrix = read_elements(alloc, least, most, items)?;
     Ok(PropertyValue::Mat(matrix))
 }
 
 /// The one row that a JSON value is.
-fn read_objective(alloc: Global, v: &Value) -> Result<PropertyValue, ValueFail>
-    ensures ok { IfOk result (λ value. objective_of (view v.now) ≡ Ok (view_of value)) }
-    ensures fault { IfErr result (λ e. e ≢ ValueFail.Memory → objective_of (view v.now) ≡ Err e) }
+fn read_one_row(
+    alloc: Global,
+    least: usize,
+    most: usize,
+    v: &Value,
+) -> Result<PropertyValue, ValueFail>
+    ensures ok { IfOk result (λ value. one_row_of least most (view v.now) ≡ Ok (view_of value)) }
+    ensures fault { IfErr result (λ e. e ≢ ValueFail.Memory → one_row_of least most (view v.now) ≡ Err e) }
 {
     let items = read_items(v)?;
-    let row = read_first_row(alloc, 1, items)?;
+    let row = read_first_row(alloc, least, most, items)?;
     let mut matrix = Matrix::new(alloc, row.len());
     push_row(&mut matrix, &row)?;
     Ok(PropertyValue::Mat(matrix))
@@ -218,8 +245,10 @@ pub fn read_matrix(alloc: Global, p: PropId, v: &Value) -> Result<PropertyValue,
     ensures fault { IfErr result (λ e. e ≢ ValueFail.Memory → matrix_reading p (view v.now) ≡ Err e) }
 {
     match p {
-        PropId::LinearObjective => read_objective(alloc, v),
-        PropId::F2Vector => read_matrix_of(alloc, 0, v),
-        _ => read_matrix_of(alloc, 1, v),
+        PropId::LinearObjective => read_one_row(alloc, 1, MOST_COLUMNS, v),
+        PropId::SiteHeights => read_one_row(alloc, 0, MOST_ROWS, v),
+        PropId::F2Vector => read_matrix_of(alloc, 0, MOST_COLUMNS, v),
+        PropId::Sites => read_matrix_of(alloc, 1, MOST_SITE_COLUMNS, v),
+        _ => read_matrix_of(alloc, 1, MOST_COLUMNS, v),
     }
 }

@@ -51,10 +51,10 @@ pub polytope_cuts : (u : Thing) → u.of ≡ Polytope → (A E : List Row) → C
 polytope_cuts u e A E h = subst (λ (t : Thing). CutsOutPolytope t.cols (InSet t) A E → CutsOut t A E) (same u e) (λ k. k) h
   where
     as_polytope : Thing → Thing
-    as_polytope v = record { of = Polytope; cols = v.cols; generators = v.generators; lines = v.lines; cones = v.cones; objective = v.objective }
+    as_polytope v = record { of = Polytope; cols = v.cols; generators = v.generators; lines = v.lines; cones = v.cones; objective = v.objective; sites = v.sites; heights = v.heights }
 
     same : (v : Thing) → v.of ≡ Polytope → as_polytope v ≡ v
-    same v q = ap (λ k. record { of = k; cols = v.cols; generators = v.generators; lines = v.lines; cones = v.cones; objective = v.objective }) (sym q)
+    same v q = ap (λ k. record { of = k; cols = v.cols; generators = v.generators; lines = v.lines; cones = v.cones; objective = v.objective; sites = v.sites; heights = v.heights }) (sym q)
 
 module _ (u : Thing) (o : Orders) (thing : IsThing u) (orders : AreOrders u o) where
   -- points alone

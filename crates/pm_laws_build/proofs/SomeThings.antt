@@ -12,6 +12,7 @@ use Rattle.pm_geom.specs.Things.{IsPolytopeThing}
 use Rattle.pm_laws_build.specs.Built.{HasPoints}
 use Rattle.pm_laws_build.specs.Existence.{SomeThing}
 use Rattle.pm_object_type.specs.declared.object_type.ObjectType.TheVariants.{Polytope}
+use Rattle.pm_relations.proofs.Sites.{no_sites}
 use Rattle.pm_types.specs.Things.{AreObjectives, Thing}
 use Rattle.pm_types.specs.Views.{over_one}
 use Rattle.std.proofs.Common.{arith, inl, inr, refl, subst, sym}
@@ -24,7 +25,7 @@ use Rattle.pm_limits.specs.Limits.{most_columns}
 
 -- the polytope of these generators and lines, with 0 as the objective of each program
 abbrev pub polytope_of : ℕ → List Row → List Row → Thing
-polytope_of n G L = record { of = Polytope; cols = n; generators = G; lines = L; cones = []; objective = λ s. zeros n }
+polytope_of n G L = record { of = Polytope; cols = n; generators = G; lines = L; cones = []; objective = λ s. zeros n; sites = []; heights = [] }
 
 no_objectives : (n : ℕ) → AreObjectives n (λ s. zeros n)
 no_objectives n = record {
@@ -39,7 +40,7 @@ some_polytope P n G L some few polytope holds =
     let (F, E, he, facets, null, valid, cut) = facet_rows_cut_out n G L polytope.cone.generators polytope.cone.lines in
     record {
       thing = polytope_of n G L;
-      is_thing = record { some_cols = some; few_cols = few; kind = (polytope, refl); programs = no_objectives n };
+      is_thing = record { some_cols = some; few_cols = few; kind = (polytope, refl); programs = no_objectives n; sites = no_sites _ };
       orders = record { rays = V; facets = F; cones = [] };
       are_orders = record { rays = rays; facets = facets; cones = refl };
       holds = holds;

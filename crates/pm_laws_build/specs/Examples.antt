@@ -10,7 +10,7 @@ use lib.IntN.{pos, negsuc}
 
 -- the polytope of these rows of n entries
 abbrev pub generated : ℕ → List Row → Thing
-generated n G = record { of = Polytope; cols = n; generators = G; lines = []; cones = []; objective = λ s. [] }
+generated n G = record { of = Polytope; cols = n; generators = G; lines = []; cones = []; objective = λ s. []; sites = []; heights = [] }
 
 -- from 0 to 1
 abbrev pub unit_segment : Thing
@@ -82,7 +82,7 @@ pub record OthersAreRead : Type 0 where
 
 -- the polytope that a cone of n columns stands for
 abbrev pub of_cone : ℕ → Cone → Thing
-of_cone n P = record { of = Polytope; cols = n; generators = P.generators; lines = P.lines; cones = []; objective = λ s. [] }
+of_cone n P = record { of = Polytope; cols = n; generators = P.generators; lines = P.lines; cones = []; objective = λ s. []; sites = []; heights = [] }
 
 -- sums of edges and of points
 pub record MinkowskiSumsAreRead : Type 0 where

@@ -170,9 +170,9 @@ give_comes book old new ref text more (is_asked (x, at, p, named, c, no_chain e 
 
 -- ---- the standard book
 pub standard_chain_leads_now : StandardChainLeadsNow
-standard_chain_leads_now sub c not_fan d listed alone objective nothing p of_table barred are =
+standard_chain_leads_now sub c not_fan d listed alone objective nothing p of_table more barred are =
     let free : BarsNone barred = λ id rule at. are.each id rule at ∙ nothing id rule at in
-    let found = book_is_complete sub c.object.of not_fan d listed (held_names sub c.object) alone objective barred free p (has-set_of_filter (is_in_use sub c.object.of) p ∙ of_table) in (
+    let found = book_is_complete sub c.object.of not_fan d listed (held_names sub c.object) alone objective barred free p (has-set_of_filter (is_in_use sub c.object.of) p ∙ of_table) more in (
       found.0,
       record {
         enabled = found.1.enabled;

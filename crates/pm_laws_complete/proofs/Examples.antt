@@ -3,6 +3,7 @@ use Rattle.std.proofs.Common.{◌≡◌, true, Bool, not, ◌&&◌, ◌||◌, eq
 use Rattle.std.specs.List.{list_all}
 use Rattle.std.specs.Prelude.{slice_get}
 use Rattle.std.proofs.lemmas.Bool.{and_from, and_parts, eqb-true, not-true, or_cases}
+use Rattle.std.proofs.lemmas.List.Elements.{All-cons, All-head, All-nil, All-tail}
 use Rattle.pm_vector.proofs.Lists.{Among, Contains_among, among_Contains, here, there}
 use Rattle.pm_props.proofs.Every.{all_properties}
 use Rattle.pm_props.proofs.Numbers.{number_is}
@@ -13,7 +14,7 @@ use Rattle.pm_standard.specs.declared.standard.StandardClient.TheVariants as cli
 use Rattle.pm_standard.specs.Book.{standard_rule, standard_rules}
 use Rattle.pm_rules.specs.declared.rule.Rule.{Rule}
 use Rattle.pm_props.specs.declared.property.PropId.{PropId}
-use Rattle.pm_props.specs.declared.property.PropId.TheVariants.{ConeDim, FVector, Graph, InputLineality, LinealitySpace, Points, Vertices}
+use Rattle.pm_props.specs.declared.property.PropId.TheVariants.{ConeDim, FVector, Graph, InputLineality, LinealitySpace, Points, SiteHeights, Sites, Vertices}
 use Rattle.pm_props.specs.Properties.{every_property, number}
 use Rattle.pm_props.specs.Sets.{has, only, union}
 use Rattle.pm_laws_complete.proofs.Runs.{implied}
@@ -61,6 +62,11 @@ descriptions_read = record {
   objective = refl;
   no_objective = λ h. true≢false (sym h);
   none_asked = tt;
+  with_heights = All-cons (λ q. IsTrue (has (points_and (Sites ∷ SiteHeights ∷ [])) q)) Sites (SiteHeights ∷ []) refl (All-cons (λ q. IsTrue (has (points_and (Sites ∷ SiteHeights ∷ [])) q)) SiteHeights [] refl (All-nil (λ q. IsTrue (has (points_and (Sites ∷ SiteHeights ∷ [])) q))));
+  without_heights = λ h. true≢false (sym (All-head (λ q. IsTrue (has (points_and (Sites ∷ [])) q)) SiteHeights [] (All-tail (λ q. IsTrue (has (points_and (Sites ∷ [])) q)) Sites (SiteHeights ∷ []) h)));
+  delaunay = All-cons (λ q. IsTrue (has (points_and (Sites ∷ [])) q)) Sites [] refl (All-nil (λ q. IsTrue (has (points_and (Sites ∷ [])) q)));
+  without_sites = λ h. true≢false (sym (All-head (λ q. IsTrue (has (points_and (SiteHeights ∷ [])) q)) Sites [] h));
+  no_need = All-nil (λ q. IsTrue (has (points_and []) q));
 }
 
 -- ---- an object

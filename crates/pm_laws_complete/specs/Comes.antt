@@ -1,6 +1,6 @@
 -- The value comes: what is asked of an object is found wherever a chain leads to it and nothing that started failed.
 use Rattle.pm_command.specs.Commands.{RefSeen}
-use Rattle.pm_laws_complete.specs.Completeness.{HoldsAlone, HoldsObjective, descriptions}
+use Rattle.pm_laws_complete.specs.Completeness.{HoldsAlone, HoldsNeeds, HoldsObjective, descriptions}
 use Rattle.pm_laws_complete.specs.Objects.{BarsNothing}
 use Rattle.pm_rounds.specs.Chains.{AreBarred, held_names, still_missing, table}
 use Rattle.pm_rounds.specs.Events.{Configuration, Ensured, Event, after_event, begun, committed, configuration, excluded, settled, started, written}
@@ -63,7 +63,7 @@ abbrev pub GiveComes : Type 0
 GiveComes = (book : List Rule) (old new : Machine) (ref : RefSeen) (text : List ℕ) (more : Remarks) (g : GiveStep book old ref text (refused NoChain more) new)
     → let l = lacking g in ExcludesNone l.ensured.reaches.events → SomeChainLeadsNow book l.found.sub (only l.property) (after_event l.found.sub settled (configuration l.found.object old.clients)) → ⊥
 
--- by the standard book one leads there where the settled object is a polytope or cone that holds one description alone, and nothing is barred for it
+-- by the standard book one leads there where the settled object is a polytope or cone that holds one description alone, and what the property needs beside it, and nothing is barred for it
 abbrev pub StandardChainLeadsNow : Type 0
 StandardChainLeadsNow = (sub : Option ℕ) (c : Configuration) → ¬ (c.object.of ≡ Fan) → (d : PropId × PropId) → Contains descriptions d → HoldsAlone d (held_names sub c.object) → HoldsObjective sub (held_names sub c.object)
-    → BarsNothing sub c → (p : PropId) → IsTrue (is_in_use sub c.object.of p) → SomeChainLeadsNow standard_rules sub (only p) c
+    → BarsNothing sub c → (p : PropId) → IsTrue (is_in_use sub c.object.of p) → HoldsNeeds p (held_names sub c.object) → SomeChainLeadsNow standard_rules sub (only p) c

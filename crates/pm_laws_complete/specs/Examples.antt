@@ -3,7 +3,7 @@ use Rattle.std.specs.Prelude.{◌≡◌, None, Some, codes, map, true, false, Li
 use Rattle.std.specs.List.{Contains}
 use Rattle.pm_object_type.specs.declared.object_type.ObjectType.TheVariants.{Cone, Polytope}
 use Rattle.pm_props.specs.declared.property.PropId.{PropId}
-use Rattle.pm_props.specs.declared.property.PropId.TheVariants.{AffineHull, ConeAmbientDim, ConeDim, Facets, FarFace, FVector, Graph, Inequalities, InputLineality, LinealitySpace, LinearObjective, MaximalValue, Points, Vertices}
+use Rattle.pm_props.specs.declared.property.PropId.TheVariants.{AffineHull, ConeAmbientDim, ConeDim, DelaunayCells, Facets, FarFace, FVector, Graph, Inequalities, InputLineality, LinealitySpace, LinearObjective, MaximalValue, Points, RegularCells, SiteHeights, Sites, Vertices}
 use Rattle.pm_client.specs.Starts.{Clients}
 use Rattle.pm_rounds.specs.Chains.{held_names}
 use Rattle.pm_rounds.specs.Events.{configuration}
@@ -16,7 +16,7 @@ use Rattle.pm_types.specs.Views.{ratios}
 use Rattle.pm_laws_complete.specs.Objects.{BarsNothing}
 use lib.IntN.{pos}
 use Rattle.pm_props.specs.Sets.{has, set_of}
-use Rattle.pm_laws_complete.specs.Completeness.{HoldsAlone, HoldsObjective, descriptions, is_tagged, names_for}
+use Rattle.pm_laws_complete.specs.Completeness.{HoldsAlone, HoldsNeeds, HoldsObjective, descriptions, is_tagged, names_for}
 
 -- a value that was given
 abbrev pub held_value : PropId → PropertyValue → HeldValue
@@ -56,6 +56,12 @@ pub record DescriptionsAreRead : Type 0 where
   pub objective : HoldsObjective (Some 0) (points_and (LinearObjective ∷ []))
   pub no_objective : ¬ (HoldsObjective (Some 0) (points_and []))
   pub none_asked : HoldsObjective None (points_and [])
+  -- cells are found of sites that are held, and regular ones of heights too; the other properties need nothing
+  pub with_heights : HoldsNeeds RegularCells (points_and (Sites ∷ SiteHeights ∷ []))
+  pub without_heights : ¬ (HoldsNeeds RegularCells (points_and (Sites ∷ [])))
+  pub delaunay : HoldsNeeds DelaunayCells (points_and (Sites ∷ []))
+  pub without_sites : ¬ (HoldsNeeds DelaunayCells (points_and (SiteHeights ∷ [])))
+  pub no_need : HoldsNeeds FVector (points_and [])
 
 -- the segment from 0 to 1 by its points, after it was settled
 abbrev pub segment : State

@@ -20,6 +20,7 @@ use Rattle.pm_laws_normal_fans.proofs.ExampleRefinements.{refinements_are_read}
 use Rattle.pm_laws_normal_fans.proofs.ExampleVertices.{square_polytope, vertices_are_read}
 use Rattle.pm_laws_normal_fans.proofs.Places.{no_pairs}
 use Rattle.pm_props.specs.declared.property.PropId.TheVariants.{ConeAmbientDim, LinealitySpace}
+use Rattle.pm_relations.proofs.Sites.{no_sites}
 use Rattle.pm_types.specs.Right.{AreConeRays, InLines, RowsAreBasis, StandFor}
 use Rattle.pm_types.specs.Things.{AreObjectives, IsThing, Thing}
 use Rattle.pm_types.specs.Values.{Fact, matrix, whole}
@@ -63,7 +64,7 @@ no_objective = record { cols = λ s. refl; denominators = λ s i l. positive i }
     positive (suc i) = lt_z_yes tt
 
 apex_thing : IsThing apex
-apex_thing = record { some_cols = omega arith; few_cols = omega arith; kind = (apex_fan, refl); programs = no_objective }
+apex_thing = record { some_cols = omega arith; few_cols = omega arith; kind = (apex_fan, refl); programs = no_objective; sites = no_sites _ }
 
 -- it has no ray
 abbrev HasRay : List Row → Type 0

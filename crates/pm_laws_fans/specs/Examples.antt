@@ -19,11 +19,11 @@ zero_objective n = map (λ k. record { num = pos 0; den = pos 1 }) (range_with_l
 
 -- the polytope that these rows of n entries generate
 abbrev pub polytope : ℕ → List Row → Thing
-polytope n V = record { of = Polytope; cols = n; generators = V; lines = []; cones = []; objective = λ s. zero_objective n }
+polytope n V = record { of = Polytope; cols = n; generators = V; lines = []; cones = []; objective = λ s. zero_objective n; sites = []; heights = [] }
 
 -- the fan of these cones over these lines, in n columns
 abbrev pub fan_thing : ℕ → List (List Row) → List Row → Thing
-fan_thing n cones lines = record { of = Fan; cols = n; generators = []; lines = lines; cones = cones; objective = λ s. zero_objective n }
+fan_thing n cones lines = record { of = Fan; cols = n; generators = []; lines = lines; cones = cones; objective = λ s. zero_objective n; sites = []; heights = [] }
 
 -- which fans are those of which polytopes, and what values describe
 pub record FansAreRead : Type 0 where

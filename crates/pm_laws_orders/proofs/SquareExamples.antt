@@ -11,6 +11,7 @@ use Rattle.pm_laws_orders.specs.Examples.{SquareGraphsAreRead, square_orders, sq
 use Rattle.pm_laws_orders.specs.Orders.{HasEdges, HasRayDiameter}
 use Rattle.pm_object_type.specs.declared.object_type.ObjectType.TheVariants.{Fan, Polytope}
 use Rattle.pm_ranks.proofs.GraphWalks.{diameter_to}
+use Rattle.pm_relations.proofs.Sites.{no_sites}
 use Rattle.pm_types.specs.Things.{AreOrders, IsThing}
 use Rattle.pm_types.specs.Views.{ratios}
 use Rattle.std.proofs.Common.{arith, inl, inr, refl, sym, ◌∙◌}
@@ -27,7 +28,7 @@ over_one (suc (suc zero)) = omega (arith, ints)
 over_one (suc (suc (suc i))) = omega (arith, ints)
 
 is_thing : IsThing square_thing
-is_thing = record { some_cols = omega arith; few_cols = omega arith; kind = (square_is_read.polytope, refl); programs = record { cols = λ s. refl; denominators = λ s i l. over_one i } }
+is_thing = record { some_cols = omega arith; few_cols = omega arith; kind = (square_is_read.polytope, refl); programs = record { cols = λ s. refl; denominators = λ s i l. over_one i }; sites = no_sites _ }
 
 are_orders : AreOrders square_thing square_orders
 are_orders = record { rays = square_is_read.order; facets = square_is_read.facets; cones = refl }

@@ -6,7 +6,7 @@ use Rattle.pm_vector.specs.Rows.{Row, dot, entry, ratio_at}
 use Rattle.pm_geom.specs.FaceCounts.{IsLexBefore, SamePlaces}
 use Rattle.pm_geom.specs.Faces.{ray}
 use Rattle.pm_geom.specs.Graphs.{IsAscending, holds}
-use Rattle.pm_lift.specs.Cells.{AreCells, IsCell, IsLowerFace, IsUnder, Touches}
+use Rattle.pm_geom.specs.Cells.{AreCells, IsCell, IsLowerFace, IsUnder, Touches}
 use Rattle.pm_lift.specs.Examples.{CellsAreRead, LowerFacesAreRead, SitesAreRead, flat, pair, peak, slope, three_sites}
 use Rattle.std.proofs.Common.{arith, refl, sym, true≢false}
 use Rattle.std.proofs.lemmas.Int.{ints}

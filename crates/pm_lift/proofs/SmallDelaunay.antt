@@ -9,7 +9,7 @@ use Rattle.pm_geom.specs.Faces.{ray}
 use Rattle.pm_geom.specs.Graphs.{IsAscending, holds}
 use Rattle.pm_lift.proofs.SmallCells.{at_three, no_pairs, off, on, rising, same_bool}
 use Rattle.pm_lift.proofs.Spheres.{affine_function, empty_sphere}
-use Rattle.pm_lift.specs.Cells.{AreCells, AreSites, IsCell, IsLowerFace, Touches, squares}
+use Rattle.pm_geom.specs.Cells.{AreCells, AreSites, IsCell, IsLowerFace, Touches, squares}
 use Rattle.pm_lift.specs.Examples.{DelaunayIsRead, corners, pair, uneven}
 use Rattle.pm_lift.specs.Spheres.{HasAffineFunction, HasEmptySphere, distance_square}
 use Rattle.std.proofs.Common.{arith, refl, sym, true≢false, ◌∙◌}

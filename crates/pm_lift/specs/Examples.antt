@@ -4,7 +4,7 @@ use Rattle.pm_vector.specs.Numbers.{Ratio}
 use Rattle.pm_vector.specs.Rows.{Row}
 use Rattle.pm_geom.specs.Graphs.{holds}
 use Rattle.pm_geom.specs.declared.evidence.Evidence.TheVariants.{E4}
-use Rattle.pm_lift.specs.Cells.{AreCells, AreSites, IsCell, IsLowerFace, IsUnder, Touches, square_of, squares}
+use Rattle.pm_geom.specs.Cells.{AreCells, AreSites, IsCell, IsLowerFace, IsUnder, Touches, square_of, squares}
 use Rattle.pm_lift.specs.Lifting.{AreLifted, AreLiftedRows, AreRaisedRows, lifted, raised, upwards}
 use Rattle.pm_lift.specs.Refusals.{IsLiftFail, IsRaiseFail}
 use Rattle.pm_lift.specs.Spheres.{HasAffineFunction, HasEmptySphere, distance_square, height_above}

@@ -5,7 +5,7 @@ use Rattle.pm_vector.specs.Numbers.{Ratio, SameRatio}
 use Rattle.pm_vector.specs.Rows.{HasCols, Row, SameDirection, dot, entry, ratio_at}
 use Rattle.pm_geom.specs.Cones.{IsOrder, IsValid, SameModulo}
 use Rattle.pm_geom.specs.Faces.{ray}
-use Rattle.pm_lift.specs.Cells.{AreCells, AreSites, IsCell, square_of, squares}
+use Rattle.pm_geom.specs.Cells.{AreCells, AreSites, IsCell, square_of, squares}
 use Rattle.pm_lift.specs.Lifting.{AreLifted, AreLiftedRows, AreRaisedRows, upwards}
 use Rattle.pm_lift.specs.Spheres.{HasAffineFunction, HasEmptySphere}
 use lib.IntN.{pos}

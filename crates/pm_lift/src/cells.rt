@@ -1,7 +1,7 @@
 // The cells of sites with heights, and the Delaunay cells of sites.
 
 ghost use Rattle.pm_vector.specs.Rows.{HasCols, entry};
-ghost use Rattle.pm_lift.specs.Cells.{AreCells, squares};
+ghost use Rattle.pm_geom.specs.Cells.{AreCells, squares};
 ghost use Rattle.pm_lift.specs.Refusals.{IsLiftFail, IsRaiseFail};
 ghost use Rattle.pm_lift.specs.Spheres.{HasAffineFunction, HasEmptySphere};
 ghost use Rattle.pm_geom.specs.Graphs.{holds};

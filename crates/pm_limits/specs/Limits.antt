@@ -17,6 +17,10 @@ most_dimensions = 32
 abbrev pub most_columns : ℕ
 most_columns = most_dimensions + 1
 
+-- the columns of sites: a lifted site has one more
+abbrev pub most_site_columns : ℕ
+most_site_columns = most_dimensions
+
 -- the faces of a lattice
 abbrev pub most_faces : ℕ
 most_faces = 65536

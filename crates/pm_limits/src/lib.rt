@@ -10,6 +10,9 @@ pub const MOST_DIMENSIONS: usize = 32;
 /// The columns of a matrix: a coordinate more than there are dimensions.
 pub const MOST_COLUMNS: usize = MOST_DIMENSIONS + 1;
 
+/// The columns of sites: a lifted site has one more.
+pub const MOST_SITE_COLUMNS: usize = MOST_DIMENSIONS;
+
 /// The faces of a lattice.
 pub const MOST_FACES: usize = 65_536;
 

@@ -133,7 +133,7 @@ NewOf old name (Some sub) text reply new = NewProgramStep old name sub text repl
 abbrev pub NewStep : Machine → RefSeen → List ℕ → ReplySeen → Machine → Type 0
 NewStep old ref text reply new = NewOf old ref.name ref.sub text reply new
 
--- The object, or its program at a place, takes the value that the text gives, unless the first of these holds: it is held, the object (the program) is sealed, the text is no JSON, a fault of the value in reading order, it is another value of a program than its objective, its columns differ, a row fails its test or has no primitive row within the range.
+-- The object, or its program at a place, takes the value that the text gives, unless the first of these holds: it is held, the object (the program) is sealed, the text is no JSON, a fault of the value in reading order, it is another value of a program than its objective, its columns differ or there are more or fewer heights than sites, a row fails its test or has no primitive row within the range.
 pub data TakeValue (o : State) (sub : Option ℕ) (p : PropId) : Given → Option Refusal → Option PropertyValue → Type 0 where
   held_already : {g : Given} {v : Option PropertyValue} → is_held p (read_at sub o.held) ≡ true → TakeValue o sub p g (Some AlreadyHeld) v
   is_sealed : {g : Given} {v : Option PropertyValue} → is_held p (read_at sub o.held) ≡ false → is_sealed_at sub o ≡ true → TakeValue o sub p g (Some Sealed) v

@@ -3,16 +3,16 @@ use Rattle.pm_vector.proofs.Filters.{any_from, map_among}
 use Rattle.pm_vector.proofs.Lists.{Among, among_All, among_append_left, here, there}
 use Rattle.pm_filing.specs.Views.{value_seen}
 use Rattle.pm_filing.specs.Whole.{are_of_different}
-use Rattle.pm_making.specs.Made.{AreFitting, given_values}
-use Rattle.pm_object.proofs.Formed.{agrees_dimension, ambient_is, dimension_of, is_not, nobody, value_among}
-use Rattle.pm_object.specs.State.{HeldValue, State, agrees, ambient_in, cols_of, file_value, first_cols, is_held, or_else, read_at, value_of}
+use Rattle.pm_making.specs.Made.{AreFitting, given_values, is_of_sites}
+use Rattle.pm_object.proofs.Formed.{agrees_dimension, ambient_is, dimension_of, is_not, nobody, others_agree, value_among}
+use Rattle.pm_object.specs.State.{HeldValue, State, agrees, ambient_in, cols_of, file_value, first_cols, is_held, or_else, read_at, sites_agree, value_of}
 use Rattle.pm_object.specs.declared.held.Origin.TheVariants as origin
 use Rattle.pm_props.proofs.Places.{same_property_is, same_property_refl}
 use Rattle.pm_props.specs.Places.{place_of, same_place, same_property}
 use Rattle.pm_props.specs.Properties.{has, is_ambient}
 use Rattle.pm_object_type.specs.declared.object_type.ObjectType.{ObjectType}
 use Rattle.pm_props.specs.declared.property.PropId.{PropId}
-use Rattle.pm_props.specs.declared.property.PropId.TheVariants.{ConeAmbientDim}
+use Rattle.pm_props.specs.declared.property.PropId.TheVariants.{ConeAmbientDim, SiteHeights, Sites}
 use Rattle.pm_types.specs.Forms.{FormsIn, agrees_with, is_formed, stated_cols, states}
 use Rattle.pm_types.specs.Values.{PropertyValue}
 use Rattle.pm_types.specs.Views.{view_of}
@@ -124,6 +124,7 @@ pub record MayBeAdded (of : ObjectType) (held : List HeldValue) (p : PropId) (v 
   pub missing : is_held p (read_at None held) ≡ false
   pub table : has of p ≡ true
   pub columns : agrees (cols_of held) p v ≡ true
+  pub sites : sites_agree held p v ≡ true
 
 next_seen : (of : ObjectType) (xs : List (PropId × PropertyValue)) (x : PropId × PropertyValue) (ys : List (PropId × PropertyValue)) → AreFitting of (xs ++ x ∷ ys) → MayBeAdded of (given_values xs) x.0 x.1
 next_seen of xs x ys fits = record {
@@ -137,10 +138,19 @@ next_seen of xs x ys fits = record {
       let (v, j, e) = map_among (λ (v : PropId × PropertyValue). file_value origin.Given v.0 v.1) xs i in
       subst (λ (z : HeldValue). FormsIn of fits.cols z.property z.value) (sym e) (forms (among_append_left (x ∷ ys) j)))
       (forms (in_middle xs x ys));
+  sites = others_agree x.0 x.1 (given_values xs) no_sites.0 no_sites.1;
 }
   where
     forms : {v : PropId × PropertyValue} → Among v (xs ++ x ∷ ys) → FormsIn of fits.cols v.0 v.1
     forms i = among_All (λ (v : PropId × PropertyValue). FormsIn of fits.cols v.0 v.1) i fits.forms
+
+    neither : (a b : Bool) → not (a || b) ≡ true → (a ≡ false) × (b ≡ false)
+    neither true b h = absurd (true≢false (sym h))
+    neither false true h = absurd (true≢false (sym h))
+    neither false false h = (refl, refl)
+
+    no_sites : (same_property Sites x.0 ≡ false) × (same_property SiteHeights x.0 ≡ false)
+    no_sites = neither (same_property Sites x.0) (same_property SiteHeights x.0) (all_of (λ (v : PropId × PropertyValue). not (is_of_sites v.0)) (xs ++ x ∷ ys) fits.no_sites (in_middle xs x ys))
 
 -- the same, of the code's values
 pub next_may : (of : ObjectType) (values xs ys : List (PropId × Value)) (p : PropId) (v : Value) (held : List HeldValue) → AreFitting of (map value_seen values) → xs ++ (p, v) ∷ ys ≡ values → held ≡ given_values (map value_seen xs)

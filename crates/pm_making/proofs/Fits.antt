@@ -75,26 +75,26 @@ readable_fan o formed read is = known refine_reads o formed read
 -- ---- values that fit
 -- a line a row
 one_fits : (what : Unary) (o : State) → IsFormed o → IsReadable (row_of (One what)).reads o → (f : SavedFile) → Makes (One what) (o ∷ []) f → IsFitting f
-one_fits Polar o formed read f (fits, is) = subst IsFitting (sym is) (record { cols = cols_at o; forms = others_forms.polar o formed read fits; table = refl; different = refl })
-one_fits Pyramid o formed read f (fits, is) = subst IsFitting (sym is) (record { cols = suc (cols_at o); forms = others_forms.pyramid o formed read fits; table = refl; different = refl })
-one_fits NormalFan o formed read f (fits, is) = subst IsFitting (sym is) (record { cols = fan_cols o; forms = fans_forms.normal o formed read fits; table = refl; different = refl })
-one_fits FaceFan o formed read f (fits, is) = subst IsFitting (sym is) (record { cols = fan_cols o; forms = fans_forms.face o formed read fits; table = refl; different = refl })
+one_fits Polar o formed read f (fits, is) = subst IsFitting (sym is) (record { cols = cols_at o; forms = others_forms.polar o formed read fits; table = refl; different = refl; no_sites = refl })
+one_fits Pyramid o formed read f (fits, is) = subst IsFitting (sym is) (record { cols = suc (cols_at o); forms = others_forms.pyramid o formed read fits; table = refl; different = refl; no_sites = refl })
+one_fits NormalFan o formed read f (fits, is) = subst IsFitting (sym is) (record { cols = fan_cols o; forms = fans_forms.normal o formed read fits; table = refl; different = refl; no_sites = refl })
+one_fits FaceFan o formed read f (fits, is) = subst IsFitting (sym is) (record { cols = fan_cols o; forms = fans_forms.face o formed read fits; table = refl; different = refl; no_sites = refl })
 
 product_fits : (a b : State) → IsFormed a → IsFormed b → IsReadable (row_of (Two Product)).reads a → IsReadable (row_of (Two Product)).reads b → (f : SavedFile) → Makes (Two Product) (a ∷ b ∷ []) f → IsFitting f
-product_fits a b formed formed' read read' f (fits, is) = subst IsFitting (sym is) (record { cols = product_cols a b; forms = others_forms.product a b formed formed' read read' fits; table = refl; different = refl })
+product_fits a b formed formed' read read' f (fits, is) = subst IsFitting (sym is) (record { cols = product_cols a b; forms = others_forms.product a b formed formed' read read' fits; table = refl; different = refl; no_sites = refl })
 
 sum_fits : (a b : State) → IsFormed a → IsFormed b → IsReadable (row_of (Two Minkowski)).reads a → IsReadable (row_of (Two Minkowski)).reads b → (f : SavedFile) → Makes (Two Minkowski) (a ∷ b ∷ []) f → IsFitting f
 sum_fits a b formed formed' read read' f (fits, is) =
-    subst IsFitting (sym is.file) (record { cols = cols_at a; forms = subst (HaveForms (cols_at a)) is.file (sums_forms a b f formed formed' read read' fits is); table = refl; different = refl })
+    subst IsFitting (sym is.file) (record { cols = cols_at a; forms = subst (HaveForms (cols_at a)) is.file (sums_forms a b f formed formed' read read' fits is); table = refl; different = refl; no_sites = refl })
 
 refinement_fits : (a b : State) (f : SavedFile) → IsRefinementFile a b f → HaveFanForms (cols_at a) f → IsFitting f
-refinement_fits a b f is forms = subst IsFitting (sym is.file_is) (record { cols = cols_at a; forms = subst (HaveFanForms (cols_at a)) is.file_is forms; table = refl; different = refl })
+refinement_fits a b f is forms = subst IsFitting (sym is.file_is) (record { cols = cols_at a; forms = subst (HaveFanForms (cols_at a)) is.file_is forms; table = refl; different = refl; no_sites = refl })
 
 shape_fits : (shape : ShapeSeen) → shape_condition shape ≡ None → IsFitting (shape_file shape)
-shape_fits (cube_shape d) fits = record { cols = suc d; forms = shapes_forms.cube d fits; table = refl; different = refl }
-shape_fits (simplex_shape d) fits = record { cols = suc d; forms = shapes_forms.simplex d fits; table = refl; different = refl }
-shape_fits (cross_shape d) fits = record { cols = suc d; forms = shapes_forms.cross d fits; table = refl; different = refl }
-shape_fits (cyclic_shape d n) fits = record { cols = suc d; forms = shapes_forms.cyclic d n fits; table = refl; different = refl }
+shape_fits (cube_shape d) fits = record { cols = suc d; forms = shapes_forms.cube d fits; table = refl; different = refl; no_sites = refl }
+shape_fits (simplex_shape d) fits = record { cols = suc d; forms = shapes_forms.simplex d fits; table = refl; different = refl; no_sites = refl }
+shape_fits (cross_shape d) fits = record { cols = suc d; forms = shapes_forms.cross d fits; table = refl; different = refl; no_sites = refl }
+shape_fits (cyclic_shape d n) fits = record { cols = suc d; forms = shapes_forms.cyclic d n fits; table = refl; different = refl; no_sites = refl }
 
 fits_if_ok : (r : Result FileObject BuildFail) (f : SavedFile) (P : Type 0) → (P → IsFitting f) → IfOk r (λ x. file_of x ≡ f) → OnOk r P → IfOk r (λ x. IsFitting (file_of x))
 fits_if_ok (Ok x) f P fits is p = subst IsFitting (sym is) (fits p)

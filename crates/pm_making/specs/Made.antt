@@ -1,6 +1,6 @@
 -- What the functions that make objects answer.
-use Rattle.std.specs.Prelude.{ℕ, ◌≡◌, ◌⊎◌, IsTrue, true, List, map, None, Result, Ok, Err}
-use Rattle.std.specs.List.{All}
+use Rattle.std.specs.Prelude.{ℕ, ◌≡◌, ◌⊎◌, ◌||◌, Bool, not, IsTrue, true, List, map, None, Result, Ok, Err}
+use Rattle.std.specs.List.{All, list_all}
 use Rattle.pm_files.specs.Files.{SavedFile}
 use Rattle.pm_files.specs.declared.file.FileObject.{FileObject}
 use Rattle.pm_filing.specs.Whole.{are_of_different, are_of_table}
@@ -15,7 +15,8 @@ use Rattle.pm_object.specs.declared.held.Condition.{Condition}
 use Rattle.pm_object.specs.declared.held.Origin.TheVariants as origin
 use Rattle.pm_object_type.specs.declared.object_type.ObjectType.{ObjectType}
 use Rattle.pm_props.specs.declared.property.PropId.{PropId}
-use Rattle.pm_props.specs.declared.property.PropId.TheVariants.{ConeAmbientDim}
+use Rattle.pm_props.specs.declared.property.PropId.TheVariants.{ConeAmbientDim, SiteHeights, Sites}
+use Rattle.pm_props.specs.Places.{same_property}
 use Rattle.pm_refine.specs.declared.object_fails.RefinementFail.{RefinementFail}
 use Rattle.pm_refine.specs.declared.object_fails.RefinementFail.TheVariants as refinement
 use Rattle.pm_script.specs.declared.refusal.NotMadeWhy.{NotMadeWhy}
@@ -23,12 +24,17 @@ use Rattle.pm_script.specs.declared.refusal.NotMadeWhy.TheVariants.{Combination,
 use Rattle.pm_types.specs.Forms.{FormsIn}
 use Rattle.pm_types.specs.Values.{PropertyValue}
 
--- values of different properties of the type's table, each of which has its form for one column count
+-- SITES or SITE_HEIGHTS
+abbrev pub is_of_sites : PropId → Bool
+is_of_sites p = same_property Sites p || same_property SiteHeights p
+
+-- values of different properties of the type's table, none of sites or heights, each of which has its form for one column count
 pub record AreFitting (of : ObjectType) (values : List (PropId × PropertyValue)) : Type 0 where
   pub cols : ℕ
   pub forms : All (λ (v : PropId × PropertyValue). FormsIn of cols v.0 v.1) values
   pub table : IsTrue (are_of_table of values)
   pub different : IsTrue (are_of_different values)
+  pub no_sites : IsTrue (list_all (λ v. not (is_of_sites v.0)) values)
 
 -- those of the file are so
 abbrev pub IsFitting : SavedFile → Type 0

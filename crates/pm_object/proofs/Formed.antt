@@ -1,21 +1,22 @@
 -- Values that are added leave all values of an object in their forms, with one column count.
 use Rattle.pm_vector.proofs.Lists.{Among, Contains_among, among_Contains, among_append, here, there}
 use Rattle.pm_object_type.specs.declared.object_type.ObjectType.{ObjectType}
-use Rattle.pm_object.specs.Formed.{IsBacked, IsFormedIn, IsFormed, are_once, is_numbered, is_placed, speaks_of_rays, stands_at}
+use Rattle.pm_object.specs.Formed.{HaveAsManySites, IsBacked, IsFormedIn, IsFormed, are_once, is_numbered, is_placed, speaks_of_rays, stands_at}
 use Rattle.pm_object.specs.Honest.{has_tag}
 use Rattle.pm_object.specs.declared.held.Held.{Held as HeldOf}
-use Rattle.pm_object.specs.State.{HeldValue, State, agrees, ambient_in, cols_of, empty_object, first_cols, is_held, or_else, read_at, value_of, with_excluded, with_held}
+use Rattle.pm_object.specs.State.{HeldValue, State, agree_in_sites, agrees, ambient_in, cols_of, empty_object, first_cols, have_as_many_sites, is_given, is_held, or_else, read_at, sites_agree, value_of, with_excluded, with_held}
 use Rattle.pm_object.specs.declared.held.Excluded.{Excluded}
 use Rattle.pm_props.proofs.Places.{same_place_is, same_property_is}
-use Rattle.pm_types.specs.Forms.{agrees_with, is_dimension, is_formed, stated_cols, states}
+use Rattle.pm_types.specs.Forms.{agrees_with, cols_in, is_dimension, is_formed, rows_in, stated_cols, states}
 use Rattle.pm_props.specs.Properties.{has_program, is_ambient, rays_tag}
 use Rattle.pm_props.specs.Places.{place_of, same_place, same_property}
 use Rattle.pm_types.specs.Values.{PropertyValue, matrix, sets, whole, truth, extended, edges, lattice, counts}
 use Rattle.pm_props.specs.declared.property.PropId.{PropId}
-use Rattle.pm_props.specs.declared.property.PropId.TheVariants.{ConeAmbientDim}
+use Rattle.pm_props.specs.declared.property.PropId.TheVariants.{ConeAmbientDim, SiteHeights, Sites}
 use Rattle.std.proofs.Common.{ap, arith, false, inl, inr, refl, subst, sym, true, true≢false, ◌∙◌}
 use Rattle.std.proofs.lemmas.Bool.{and_from, and_parts, or_parts}
 use Rattle.std.proofs.lemmas.List.Folds.{list_any-append}
+use Rattle.std.specs.List.{Contains}
 use Rattle.std.specs.Option.{is_some}
 use Rattle.std.specs.Prelude.{Bool, List, map, None, Option, Some, [], if◌then◌else◌, length, nat_eq, nat_lt, not, ℕ, ◌&&◌, ◌++◌, ◌||◌, ◌≡◌, ◌⊎◌, ◌∷◌}
 use lib.IntN.{pos, negsuc}
@@ -395,15 +396,73 @@ backed_push k held h placed backed old e = speaks_push held h ∙ elim (decide (
 pub backed_own : (p : PropId) (held : List HeldValue) → has_program p ≡ false → IsBacked p held
 backed_own p held e h = absurd (true≢false (sym (and_parts (has_program p) (rays_tag p) h).0 ∙ e))
 
+-- ---- sites and their heights
+-- the value agrees, in the number of sites, with each that was given
+agrees_with_given : (p : PropId) (v : PropertyValue) (held : List HeldValue) → sites_agree held p v ≡ true → {g : HeldValue} → Among g held → is_given g.origin ≡ true
+    → (have_as_many_sites p v g.property g.value ≡ true) × (have_as_many_sites g.property g.value p v ≡ true)
+agrees_with_given p v [] h i e = elim i [ ]
+agrees_with_given p v (x ∷ held) h here e =
+    let b = and_parts (if is_given x.origin then agree_in_sites p v x.property x.value else true) (sites_agree held p v) h in
+    and_parts (have_as_many_sites p v x.property x.value) (have_as_many_sites x.property x.value p v) (subst (λ t. (if t then agree_in_sites p v x.property x.value else true) ≡ true) e b.0)
+agrees_with_given p v (x ∷ held) h (there i) e =
+    agrees_with_given p v held (and_parts (if is_given x.origin then agree_in_sites p v x.property x.value else true) (sites_agree held p v) h).1 i e
+
+agrees_with_itself : (p : PropId) (v : PropertyValue) → have_as_many_sites p v p v ≡ true
+agrees_with_itself ConeAmbientDim v = refl
+agrees_with_itself p v = refl
+
+and_no : (b : Bool) → (b && false) ≡ false
+and_no true = refl
+and_no false = refl
+
+-- a value that is neither of SITES nor of SITE_HEIGHTS agrees with all
+other_agrees : (p : PropId) (v : PropertyValue) (q : PropId) (w : PropertyValue) → same_property Sites p ≡ false → same_property SiteHeights p ≡ false → agree_in_sites p v q w ≡ true
+other_agrees p v q w a b =
+    and_from (have_as_many_sites p v q w) (have_as_many_sites q w p v) (ap (λ t. if t && same_property SiteHeights q then nat_eq (length (rows_in v)) (cols_in w) else true) a)
+    (ap (λ t. if same_property Sites q && t then nat_eq (length (rows_in w)) (cols_in v) else true) b ∙ ap (λ t. if t then nat_eq (length (rows_in w)) (cols_in v) else true) (and_no (same_property Sites q)))
+
+pub others_agree : (p : PropId) (v : PropertyValue) (held : List HeldValue) → same_property Sites p ≡ false → same_property SiteHeights p ≡ false → sites_agree held p v ≡ true
+others_agree p v [] a b = refl
+others_agree p v (x ∷ held) a b =
+    and_from (if is_given x.origin then agree_in_sites p v x.property x.value else true) (sites_agree held p v) (either (is_given x.origin) (other_agrees p v x.property x.value a b)) (others_agree p v held a b)
+  where
+    either : (t : Bool) {c : Bool} → c ≡ true → (if t then c else true) ≡ true
+    either true e = e
+    either false e = refl
+
+sites_push : (held : List HeldValue) (h : HeldValue) → ((g k : HeldValue) → Contains held g → Contains held k → HaveAsManySites g k) → (is_given h.origin ≡ true → sites_agree held h.property h.value ≡ true)
+    → (g k : HeldValue) → Among g (held ++ h ∷ []) → Among k (held ++ h ∷ []) → HaveAsManySites g k
+sites_push held h old new g k i j both =
+    let given = and_parts (is_given g.origin) (is_given k.origin) both in
+    elim (among_append held (h ∷ []) i) [
+      | inl a ↦ elim (among_append held (h ∷ []) j) [
+        | inl b ↦ old g k (Contains_among a) (Contains_among b) both
+        | inr b ↦
+            let e = only b in
+            let now = subst (λ (z : HeldValue). is_given z.origin ≡ true) e given.1 in
+            subst (λ (z : HeldValue). have_as_many_sites g.property g.value z.property z.value ≡ true) (sym e) (agrees_with_given h.property h.value held (new now) a given.0).1
+      ]
+      | inr a ↦
+          let e = only a in
+          let now = subst (λ (z : HeldValue). is_given z.origin ≡ true) e given.0 in
+          subst (λ (z : HeldValue). have_as_many_sites z.property z.value k.property k.value ≡ true) (sym e)
+          (elim (among_append held (h ∷ []) j) [
+            | inl b ↦ (agrees_with_given h.property h.value held (new now) b given.1).0
+            | inr b ↦ subst (λ (z : HeldValue). have_as_many_sites h.property h.value z.property z.value ≡ true) (sym (only b)) (agrees_with_itself h.property h.value)
+          ])
+    ]
+
 -- an object with one value more, which was in its form
-pub formed_push : (o : State) (h : HeldValue) → IsFormed o → IsNew h o.held → IsBacked h.property o.held → IsFormedIn o.of (cols_of o.held) (length o.programs) h → IsFormed (with_held o (h ∷ []))
-formed_push o h f new backed fits = record {
+pub formed_push : (o : State) (h : HeldValue) → IsFormed o → IsNew h o.held → IsBacked h.property o.held → IsFormedIn o.of (cols_of o.held) (length o.programs) h
+    → (is_given h.origin ≡ true → sites_agree o.held h.property h.value ≡ true) → IsFormed (with_held o (h ∷ []))
+formed_push o h f new backed fits sites = record {
   each = λ g i. each_push o.of (length o.programs) o.held h (λ k j. f.each k (Contains_among j)) fits g (among_Contains (o.held ++ h ∷ []) i);
   once = once_push o.held h f.once new;
   backed = backed_push (length o.programs) o.held h fits.placed backed f.backed;
   numbered = f.numbered;
   programs = f.programs;
   dimension = λ s. held_stays ConeAmbientDim o.held (h ∷ []) (f.dimension s);
+  sites = λ g k i j. sites_push o.held h f.sites sites g k (among_Contains (o.held ++ h ∷ []) i) (among_Contains (o.held ++ h ∷ []) j);
 }
 
 pub map_push : {A B : Type 0} (f : A → B) (xs : List A) (x : A) → map f (xs ++ x ∷ []) ≡ map f xs ++ f x ∷ []
@@ -411,10 +470,11 @@ map_push f [] x = refl
 map_push f (y ∷ ys) x = ap (λ t. f y ∷ t) (map_push f ys x)
 
 -- the same, of the code's lists
-pub formed_pushed : (o : State) (f : HeldOf → HeldValue) (xs ys : List HeldOf) (x : HeldOf) → o.held ≡ map f xs → ys ≡ xs ++ x ∷ [] → IsFormed o → IsNew (f x) o.held → IsBacked (f x).property o.held → IsFormedIn o.of (cols_of o.held) (length o.programs) (f x) → IsFormed (record o { held = map f ys })
-formed_pushed o f xs ys x is e formed new backed fits =
+pub formed_pushed : (o : State) (f : HeldOf → HeldValue) (xs ys : List HeldOf) (x : HeldOf) → o.held ≡ map f xs → ys ≡ xs ++ x ∷ [] → IsFormed o → IsNew (f x) o.held → IsBacked (f x).property o.held → IsFormedIn o.of (cols_of o.held) (length o.programs) (f x)
+    → (is_given (f x).origin ≡ true → sites_agree o.held (f x).property (f x).value ≡ true) → IsFormed (record o { held = map f ys })
+formed_pushed o f xs ys x is e formed new backed fits sites =
     let same : map f ys ≡ o.held ++ f x ∷ [] = ap (λ t. map f t) e ∙ map_push f xs x ∙ ap (λ t. t ++ f x ∷ []) (sym is) in
-    subst (λ z. IsFormed (record o { held = z })) (sym same) (formed_push o (f x) formed new backed fits)
+    subst (λ z. IsFormed (record o { held = z })) (sym same) (formed_push o (f x) formed new backed fits sites)
 
 -- ---- an exclusion more
 pub formed_excluded : (o : State) (e : Excluded) → IsFormed o → is_numbered e.why ≡ true → IsFormed (with_excluded o e)
@@ -425,6 +485,7 @@ formed_excluded o e f n = record {
   numbered = λ g i. elim (among_append o.excluded (e ∷ []) (among_Contains (o.excluded ++ e ∷ []) i)) [ inl j ↦ f.numbered g (Contains_among j) | inr j ↦ subst (λ (z : Excluded). is_numbered z.why ≡ true) (sym (only j)) n ];
   programs = f.programs;
   dimension = f.dimension;
+  sites = f.sites;
 }
 
 -- what holds nothing
@@ -436,4 +497,5 @@ formed_empty of = record {
   numbered = λ e i. elim (among_Contains [] i) [ ];
   programs = record { few = refl; words = refl; different = refl; polytope = λ h. absurd (true≢false (sym h)) };
   dimension = λ s. absurd (true≢false (sym s));
+  sites = λ g h i. elim (among_Contains [] i) [ ];
 }

@@ -50,5 +50,5 @@ given_backed of None p held h = backed_own p held (is_not (has_program p) (own_o
 given_backed of (Some s) p held h = subst (λ q. IsBacked q held) (same_property_is LinearObjective p h) (λ e. absurd (true≢false (sym e)))
 
 pub given_fits : (of : ObjectType) (n : Option ℕ) (k : ℕ) (sub : Option ℕ) (p : PropId) (v : PropertyValue) → IfSome sub (λ s. s < k) → is_given_at of sub p ≡ true
-    → is_formed p v ≡ true → agrees n p v ≡ true → are_rows of p v ≡ true → AreFractions v → HavePrimitiveRows v → IsFormedIn of n k (given_at sub p v)
+    → is_formed p v ≡ true → agrees n p v ≡ true → are_rows of p v ≡ true → AreFractions v → HavePrimitiveRows p v → IsFormedIn of n k (given_at sub p v)
 given_fits of n k sub p v w h formed columns rows entries primitive = record { formed = formed; columns = columns; rows = rows; entries = entries; primitive = primitive; placed = given_placed of k sub p w h; table = given_table of sub p h }

@@ -12,7 +12,7 @@ use Rattle.pm_vector.specs.Numbers.{Ratio}
 use Rattle.pm_object_type.specs.declared.object_type.ObjectType.{ObjectType}
 use Rattle.pm_props.specs.declared.property.PropId.TheVariants.{AffineHull, Facets, LinealitySpace, Vertices, VerticesInFacets}
 use Rattle.pm_props.specs.declared.property.PropId.{PropId}
-use Rattle.pm_types.specs.Forms.{FormsIn, agrees_with, is_column_count, is_dimension, is_formed, is_matrix_form, is_row_of_entries, is_sets_form, is_row, HasPrimitiveRow}
+use Rattle.pm_types.specs.Forms.{FormsIn, HavePrimitiveRows, agrees_with, is_column_count, is_dimension, is_formed, is_matrix_form, is_row_of_entries, is_sets_form, is_row, HasPrimitiveRow, rows_in}
 use Rattle.pm_types.specs.Values.{IndexSets, PropertyValue, matrix, sets}
 use Rattle.std.proofs.Common.{arith, ap, false, refl, sym, true, true≢false, ◌∙◌, subst}
 use Rattle.std.proofs.lemmas.Bool.{and_parts, leb-true, eqb-true}
@@ -160,6 +160,14 @@ pub record AreHeldRows (p : PropId) (o : State) : Type 0 where
   pub few : length (rows_at p o) ≤ most_rows
   pub each : All (IsHeldRow o.of p (cols_at o)) (rows_at p o)
 
+-- the primitive rows of its rows are made within the range
+primitive_is : (p : PropId) → IsOfRows p → (v : PropertyValue) → HavePrimitiveRows p v → All HasPrimitiveRow (rows_in v)
+primitive_is Vertices r v h = h
+primitive_is LinealitySpace r v h = h
+primitive_is Facets r v h = h
+primitive_is AffineHull r v h = h
+primitive_is p r v h = absurd r
+
 rows_of_form : (p : PropId) (o : State) → IsOfRows p → HasRows p o → AreHeldRows p o
 rows_of_form p o r w = record { few = rows_few o.of (cols_at o) p w.m (rows_at p o) r w.forms; each = each }
   where
@@ -173,7 +181,7 @@ rows_of_form p o r w = record { few = rows_few o.of (cols_at o) p w.m (rows_at p
     tests = AllPass-from_list_all (is_row o.of p) (rows_at p o) w.forms.rows
 
     each : All (IsHeldRow o.of p (cols_at o)) (rows_at p o)
-    each i d l = record { cols = eqb-true _ w.m (lengths i d l) ∙ rows_cols o.of (cols_at o) p w.m (rows_at p o) r w.forms (omega arith); passes = tests i d l; entries = w.forms.entries i d l; primitive = w.forms.primitive i d l }
+    each i d l = record { cols = eqb-true _ w.m (lengths i d l) ∙ rows_cols o.of (cols_at o) p w.m (rows_at p o) r w.forms (omega arith); passes = tests i d l; entries = w.forms.entries i d l; primitive = primitive_is p r (matrix w.m (rows_at p o)) w.forms.primitive i d l }
 
 pub known_rows : (ps : List PropId) (p : PropId) (o : State) → IsOfRows p → IsFormed o → IsKnown ps o → Among p ps → AreHeldRows p o
 known_rows ps p o r f k i = rows_of_form p o r (has_rows p o r f k.cols (among_All (λ q. IsTrue (is_held q (read_at None o.held))) i k.held))

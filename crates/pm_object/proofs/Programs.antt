@@ -88,6 +88,7 @@ formed_program o name f word e = record {
   numbered = f.numbered;
   programs = programs_push o name f.programs word e;
   dimension = f.dimension;
+  sites = f.sites;
 }
 
 map_push : {A B : Type 0} (f : A → B) (xs : List A) (x : A) → map f (xs ++ x ∷ []) ≡ map f xs ++ f x ∷ []

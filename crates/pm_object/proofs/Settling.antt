@@ -1,10 +1,10 @@
 -- What goes without saying leaves all values of an object in their forms.
 use Rattle.pm_vector.proofs.Lists.{Contains_among, all_append, here, there}
-use Rattle.pm_object.proofs.Formed.{backed_own, own_place, Each, formed_push, held_dimension, held_stays, is_not, new_unheld, value_among, value_later, value_stays}
+use Rattle.pm_object.proofs.Formed.{backed_own, own_place, Each, formed_push, held_dimension, held_stays, is_not, new_unheld, others_agree, value_among, value_later, value_stays}
 use Rattle.pm_object.specs.Formed.{IsFormedIn, IsFormed, is_placed, stands_at}
 use Rattle.pm_object.specs.declared.held.Held.{Held as HeldOf}
 use Rattle.pm_vector.specs.Numbers.{Ratio}
-use Rattle.pm_object.specs.State.{HeldValue, State, agrees, ambient_in, cols_of, first_cols, is_held, has_rounds, names_to_settle, only_if, or_else, settled, settling, value_of, with_held}
+use Rattle.pm_object.specs.State.{HeldValue, State, agrees, ambient_in, cols_of, first_cols, is_held, has_rounds, names_to_settle, only_if, or_else, settled, settling, sites_agree, value_of, with_held}
 use Rattle.pm_matrix.specs.Matrices.{IsFraction}
 use Rattle.pm_types.specs.Forms.{HasPrimitiveRow, cols_in, is_column_count, is_dimension, is_formed, is_matrix_form, is_matrix_of, is_row_of_entries, stated_cols}
 use Rattle.pm_props.specs.Places.{same_place, same_property}
@@ -12,7 +12,7 @@ use Rattle.pm_props.specs.Properties.{has, has_program, is_columned, is_of_matri
 use Rattle.pm_props.specs.Properties.{value_kind}
 use Rattle.pm_types.specs.Values.{PropertyValue, matrix, sets, whole, truth, extended, edges, lattice, counts}
 use Rattle.pm_props.specs.declared.property.PropId.{PropId}
-use Rattle.pm_props.specs.declared.property.PropId.TheVariants.{ConeAmbientDim, Points, InputLineality, Inequalities, Equations, Vertices, LinealitySpace, Facets, AffineHull, F2Vector, LinearObjective}
+use Rattle.pm_props.specs.declared.property.PropId.TheVariants.{ConeAmbientDim, Points, InputLineality, Inequalities, Equations, Vertices, LinealitySpace, Facets, AffineHull, F2Vector, LinearObjective, SiteHeights, Sites}
 use Rattle.pm_object_type.specs.declared.object_type.ObjectType.{ObjectType}
 use Rattle.pm_object_type.specs.declared.object_type.ObjectType.TheVariants.{Polytope, Cone, Fan}
 use Rattle.std.proofs.Common.{ap, append-nil, append_assoc, arith, false, refl, subst, sym, true, true≢false, ◌∙◌}
@@ -23,7 +23,7 @@ use Rattle.std.specs.List.{All, AllByRecursion, list_all}
 use Rattle.std.specs.Option.{is_some, unwrap_or}
 use Rattle.std.specs.Prelude.{Bool, IfSome, List, None, Option, Some, [], if◌then◌else◌, length, map, nat_eq, nat_le, nat_lt, not, ℕ, ◌&&◌, ◌||◌, ◌++◌, ◌^◌, ◌<◌, ◌≡◌, ◌∷◌}
 use lib.IntN.{pos}
-use Rattle.pm_limits.specs.Limits.{most_columns, most_rows}
+use Rattle.pm_limits.specs.Limits.{most_columns, most_rows, most_site_columns}
 
 -- the properties that are settled as matrices without rows
 data Plain : PropId → Type 0 where
@@ -84,6 +84,13 @@ plain_own equations = refl
 plain_own space = refl
 plain_own hull = refl
 
+-- a value that settling adds agrees with all in the number of sites
+plain_agrees : {p : PropId} → Plain p → (v : PropertyValue) (held : List HeldValue) → sites_agree held p v ≡ true
+plain_agrees lineality v held = others_agree InputLineality v held refl refl
+plain_agrees equations v held = others_agree Equations v held refl refl
+plain_agrees space v held = others_agree LinealitySpace v held refl refl
+plain_agrees hull v held = others_agree AffineHull v held refl refl
+
 settle_more : (o : State) (n : ℕ) (names : List PropId) (b : Bool) (p : PropId) → IsFormed (with_held o (map (settled n) names)) → (b ≡ true → MaySettle o.of o.held p) → AreApart p names
     → IsFormed (with_held o (map (settled n) (names ++ only_if b p)))
 settle_more o n names false p f may a = subst (λ t. IsFormed (with_held o (map (settled n) t))) (sym (append-nil names)) f
@@ -92,7 +99,8 @@ settle_more o n names true p f may a =
     let last : with_held (with_held o (map (settled n) names)) (settled n p ∷ []) ≡ with_held o (map (settled n) (names ++ p ∷ [])) =
     with_last o (map (settled n) names) (settled n p ∷ []) ∙ ap (λ t. with_held o t) (sym (map_append (settled n) names (p ∷ []))) in
     subst IsFormed last
-    (formed_push (with_held o (map (settled n) names)) (settled n p) f (new_still p n names o.held m.new a) (backed_own p (o.held ++ map (settled n) names) (plain_own m.plain)) (plain_formed o.of (cols_of (o.held ++ map (settled n) names)) (length o.programs) n m.plain m.table))
+    (formed_push (with_held o (map (settled n) names)) (settled n p) f (new_still p n names o.held m.new a) (backed_own p (o.held ++ map (settled n) names) (plain_own m.plain)) (plain_formed o.of (cols_of (o.held ++ map (settled n) names)) (length o.programs) n m.plain m.table)
+    (λ e. plain_agrees m.plain (settled n p).value (o.held ++ map (settled n) names)))
 
 -- ---- a known column count is from 1 to 33
 and_left : (a b : Bool) → (a && b) ≡ true → a ≡ true
@@ -113,6 +121,8 @@ column_count n rows h = and_right (nat_le (length rows) most_rows) (is_column_co
 -- a property whose rows have the thing's columns is no table
 matrix_at_most : (p : PropId) (n : ℕ) (rows : List (List Ratio)) → is_columned p ≡ true → is_matrix_of p n rows ≡ true → nat_eq n 0 ≡ false → is_dimension (pos n) ≡ true
 matrix_at_most F2Vector n rows c h k = absurd (true≢false (sym c))
+matrix_at_most SiteHeights n rows c h k = absurd (true≢false (sym c))
+matrix_at_most Sites n rows c h k = at_most rows n (column_count n rows (and_right (nat_le n most_site_columns) (is_matrix_form n rows) h)) k
 matrix_at_most LinearObjective n rows c h k = at_most rows n (column_count n rows (and_right (nat_eq (length rows) 1) (is_matrix_form n rows) h)) k
 matrix_at_most p n rows c h k = at_most rows n (column_count n rows h) k
 
@@ -183,6 +193,7 @@ dimension_settled o n false is f new = subst IsFormed (sym (with_nothing o)) f
 dimension_settled o n true is f new =
     formed_push o (settled n ConeAmbientDim) f (new refl) (backed_own ConeAmbientDim o.held refl)
     (subst (λ k. IsFormedIn o.of (cols_of o.held) (length o.programs) (settled k ConeAmbientDim)) (sym is) (dimension_fits o.of (length o.programs) o.held (λ g i. f.each g (Contains_among i))))
+    (λ e. others_agree ConeAmbientDim (settled n ConeAmbientDim).value o.held refl refl)
 
 -- a, b, c, d, e say which of the properties are settled
 names_settled : (o : State) (n : ℕ) (a b c d e : Bool) → n ≡ unwrap_or (cols_of o.held) 1 → IsFormed o → (a ≡ true → stands_at None ConeAmbientDim o.held ≡ false)

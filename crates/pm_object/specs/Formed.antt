@@ -10,7 +10,7 @@ use Rattle.pm_props.specs.declared.property.PropId.{PropId}
 use Rattle.pm_types.specs.Forms.{AreFractions, HavePrimitiveRows, is_formed, are_rows}
 use Rattle.pm_props.specs.declared.property.PropId.TheVariants.{ConeAmbientDim}
 use Rattle.pm_object.specs.Honest.{has_tag}
-use Rattle.pm_object.specs.State.{HeldValue, State, agrees, cols_of, has_rounds, is_held, is_polytope, read_at}
+use Rattle.pm_object.specs.State.{HeldValue, State, agrees, cols_of, has_rounds, have_as_many_sites, is_given, is_held, is_polytope, read_at}
 use Rattle.pm_object.specs.declared.held.Excluded.{Excluded}
 use Rattle.pm_object.specs.declared.held.Why.{Why}
 use Rattle.pm_object.specs.declared.held.Why.TheVariants as why
@@ -41,7 +41,7 @@ pub record IsFormedIn (of : ObjectType) (n : Option ℕ) (k : ℕ) (h : HeldValu
   pub columns : IsTrue (agrees n h.property h.value)
   pub rows : IsTrue (are_rows of h.property h.value)
   pub entries : AreFractions h.value
-  pub primitive : HavePrimitiveRows h.value
+  pub primitive : HavePrimitiveRows h.property h.value
   pub placed : IsTrue (is_placed k h.property h.place)
   pub table : h.place ≡ None → IsTrue (has of h.property)
 
@@ -65,7 +65,11 @@ speaks_of_rays held = has_tag rays_tag (read_at None held)
 abbrev pub IsBacked : PropId → List HeldValue → Type 0
 IsBacked p held = IsTrue (has_program p && rays_tag p) → IsTrue (speaks_of_rays held)
 
--- all held values are so, no two of them are of one property at one place, a program's value speaks of the order of the rays only where one of the object itself does, the numbers of evidence are such, the programs are such, and an object for which a round was started knows its dimension
+-- two values that were given: where one is of SITES and the other of SITE_HEIGHTS, there are as many rows as heights
+abbrev pub HaveAsManySites : HeldValue → HeldValue → Type 0
+HaveAsManySites g h = IsTrue (is_given g.origin && is_given h.origin) → IsTrue (have_as_many_sites g.property g.value h.property h.value)
+
+-- all held values are so, no two of them are of one property at one place, a program's value speaks of the order of the rays only where one of the object itself does, the numbers of evidence are such, the programs are such, and an object for which a round was started knows its dimension, and given sites have as many heights
 pub record IsFormed (o : State) : Type 0 where
   pub each : (h : HeldValue) → Contains o.held h → IsFormedIn o.of (cols_of o.held) (length o.programs) h
   pub once : IsTrue (are_once o.held)
@@ -73,3 +77,4 @@ pub record IsFormed (o : State) : Type 0 where
   pub numbered : (e : Excluded) → Contains o.excluded e → IsTrue (is_numbered e.why)
   pub programs : ArePrograms o.of o.programs
   pub dimension : has_rounds o ≡ true → IsTrue (is_held ConeAmbientDim o.held)
+  pub sites : (g h : HeldValue) → Contains o.held g → Contains o.held h → HaveAsManySites g h

@@ -1,18 +1,18 @@
 -- An object, as contracts see it. A place is None for the object itself, and the number of a linear program for that program of it.
 use Rattle.std.specs.Prelude.{ℕ, suc, ◌≡◌, ◌⊎◌, ◌||◌, ◌&&◌, Bool, true, false, not, Option, Some, None, List, [], ◌∷◌, ◌++◌, codes, filter, length, map, nat_eq, nat_le, if◌then◌else◌}
-use Rattle.std.specs.List.{list_any}
+use Rattle.std.specs.List.{list_all, list_any}
 use Rattle.std.specs.Str.{bytes_eq}
 use Rattle.std.specs.Option.{is_some, unwrap_or}
 use Rattle.pm_object_type.specs.declared.object_type.ObjectType.{ObjectType}
 use Rattle.pm_object_type.specs.declared.object_type.ObjectType.TheVariants.{Polytope}
-use Rattle.pm_types.specs.Forms.{HavePrimitiveRows, stated_cols, agrees_with, are_rows}
+use Rattle.pm_types.specs.Forms.{HavePrimitiveRows, cols_in, rows_in, stated_cols, agrees_with, are_rows}
 use Rattle.pm_props.specs.Properties.{has}
 use Rattle.pm_props.specs.Places.{place_of, same_place, same_property}
 use Rattle.pm_props.specs.Sets.{set_of}
 use Rattle.pm_props.specs.declared.set.PropSet.{PropSet}
 use Rattle.pm_types.specs.Values.{PropertyValue, matrix, whole}
 use Rattle.pm_props.specs.declared.property.PropId.{PropId}
-use Rattle.pm_props.specs.declared.property.PropId.TheVariants.{ConeAmbientDim, Points, InputLineality, Inequalities, Equations, Vertices, LinealitySpace, Facets, AffineHull, LinearObjective}
+use Rattle.pm_props.specs.declared.property.PropId.TheVariants.{ConeAmbientDim, Points, InputLineality, Inequalities, Equations, Vertices, LinealitySpace, Facets, AffineHull, LinearObjective, SiteHeights, Sites}
 use Rattle.pm_props.specs.declared.kind.RuleId.{RuleId}
 use Rattle.pm_weights.specs.declared.Cost.{Cost}
 use Rattle.pm_object.specs.declared.held.BuildFail.{BuildFail}
@@ -94,6 +94,10 @@ holds_stored held = list_any (λ h. is_stored h.origin) held
 abbrev pub is_sealed : State → Bool
 is_sealed o = has_rounds o || holds_stored o.held
 
+abbrev pub is_given : Origin → Bool
+is_given Given = true
+is_given origin = false
+
 abbrev pub is_computed : Origin → Bool
 is_computed Computed = true
 is_computed origin = false
@@ -137,6 +141,18 @@ abbrev pub agrees : Option ℕ → PropId → PropertyValue → Bool
 agrees None p v = true
 agrees (Some n) p v = agrees_with n p v
 
+-- where the first is of SITES and the second of SITE_HEIGHTS, there are as many rows as heights
+abbrev pub have_as_many_sites : PropId → PropertyValue → PropId → PropertyValue → Bool
+have_as_many_sites p v q w = if same_property Sites p && same_property SiteHeights q then nat_eq (length (rows_in v)) (cols_in w) else true
+
+-- so it is of two values either way
+abbrev pub agree_in_sites : PropId → PropertyValue → PropId → PropertyValue → Bool
+agree_in_sites p v q w = have_as_many_sites p v q w && have_as_many_sites q w p v
+
+-- so it is of the value and each of these that was given
+abbrev pub sites_agree : List HeldValue → PropId → PropertyValue → Bool
+sites_agree held p v = list_all (λ h. if is_given h.origin then agree_in_sites p v h.property h.value else true) held
+
 -- whether a value of the property may be given there: one of the type's table to the object, the objective to a linear program
 abbrev pub is_given_at : ObjectType → Option ℕ → PropId → Bool
 is_given_at of None p = has of p
@@ -148,16 +164,17 @@ take_refusal o sub p v = if is_held p (read_at sub o.held) then Some refused.Alr
     else if is_sealed_at sub o then Some refused.Sealed
     else if not (is_given_at o.of sub p) then Some refused.NotOfType
     else if not (agrees (cols_of o.held) p v) then Some refused.Columns
+    else if not (sites_agree o.held p v) then Some refused.Columns
     else if not (are_rows o.of p v) then Some refused.NotAThing
     else None
 
 -- there is none, and the primitive rows are made within the range
 abbrev pub CanTake : State → Option ℕ → PropId → PropertyValue → Type 0
-CanTake o sub p v = (take_refusal o sub p v ≡ None) × HavePrimitiveRows v
+CanTake o sub p v = (take_refusal o sub p v ≡ None) × HavePrimitiveRows p v
 
 -- e is that reason; where there is none the value is no such thing, as some primitive row is not made within the range
 abbrev pub CannotTake : State → Option ℕ → PropId → PropertyValue → TakeFail → Type 0
-CannotTake o sub p v refused.NotAThing = (take_refusal o sub p v ≡ Some refused.NotAThing) ⊎ ((take_refusal o sub p v ≡ None) × ¬ (HavePrimitiveRows v))
+CannotTake o sub p v refused.NotAThing = (take_refusal o sub p v ≡ Some refused.NotAThing) ⊎ ((take_refusal o sub p v ≡ None) × ¬ (HavePrimitiveRows p v))
 CannotTake o sub p v e = take_refusal o sub p v ≡ Some e
 
 -- a given value of the property, where it stands for who asks this program, if one is asked

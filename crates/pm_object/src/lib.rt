@@ -28,5 +28,7 @@ pub use laws::{
     law_objective_is_kept, law_settled_is_kept,
 };
 pub use object::Object;
-pub use tests_of_values::{agrees, are_rows, require_primitive_rows, stated_cols};
+pub use tests_of_values::{
+    agrees, are_rows, have_as_many_sites, require_primitive_rows, stated_cols,
+};
 pub use view::View;

@@ -2,7 +2,7 @@
 
 ghost use Rattle.pm_types.specs.Values.{whole};
 ghost use Rattle.pm_props.specs.declared.property.PropId.TheVariants.{ConeAmbientDim};
-ghost use Rattle.pm_object.specs.State.{CanTake, CannotTake, State, given_at, has_rounds_at, holds_computed_at, is_given_at, is_sealed_at, place_from, place_named, program_refusal, with_program, agrees, ambient_in, cols_of, empty_object, is_disabled, file_value, has_rounds, holds_stored, is_held, is_sealed, names_of, names_to_settle, read_at, settling, settling_names, value_of, with_disabled, with_excluded, with_held, with_round};
+ghost use Rattle.pm_object.specs.State.{CanTake, CannotTake, State, given_at, has_rounds_at, holds_computed_at, is_given, is_given_at, is_sealed_at, place_from, place_named, program_refusal, with_program, agrees, ambient_in, cols_of, empty_object, is_disabled, file_value, has_rounds, holds_stored, is_held, is_sealed, names_of, names_to_settle, read_at, settling, sites_agree, settling_names, value_of, with_disabled, with_excluded, with_held, with_round};
 ghost use Rattle.pm_types.specs.Forms.{HavePrimitiveRows, are_rows, is_formed};
 ghost use Rattle.pm_object.specs.Formed.{IsBacked, IsFormed, IsFormedIn, is_numbered};
 ghost use Rattle.pm_props.specs.Properties.{has as has_property};
@@ -22,7 +22,9 @@ ghost use Rattle.std.specs.Prelude.{IfErr, IfOk, IfSome, IsTrue, false, if◌the
 use crate::copies::{copy_excluded, copy_held, copy_labels, copy_rounds};
 use crate::held::{Excluded, Held, Origin, ProgramFail, Round, TakeFail};
 use crate::settled::{push_if, settled_values};
-use crate::tests_of_values::{agrees, are_rows, first_cols, reads_entries, require_primitive_rows};
+use crate::tests_of_values::{
+    agrees, are_rows, first_cols, reads_entries, require_primitive_rows, sites_agree,
+};
 use crate::view::View;
 use pm_limits::MOST_PROGRAMS;
 use pm_types::{Kind, ObjectType, PropId, PropSet, Value};
@@ -249,8 +251,8 @@ impl Object {
     }
 
     /// Adds a given value, unless the first of these holds: the property is held (`AlreadyHeld`), the object is sealed
-    /// (`Sealed`), the type's table has no such property (`NotOfType`), the columns differ from n (`Columns`), a row
-    /// fails the tests of its property, or its primitive row is not made within the range (`NotAThing`). Nothing changes where the answer is not Ok.
+    /// (`Sealed`), the type's table has no such property (`NotOfType`), the columns differ from n, or the
+    /// number of sites from that of heights (`Columns`), a row fails the tests of its property, or its primitive row is not made within the range (`NotAThing`). Nothing changes where the answer is not Ok.
     pub fn take(&mut self, p: PropId, v: Value) -> Result<(), TakeFail>
         requires formed { IsTrue (is_formed p (view_of v)) }
         ensures ok { OnOk result (CanTake self.old.state None p (view_of v)) }
@@ -297,28 +299,29 @@ impl Object {
     }
 
     /// Adds a value that a file gives, of a property of the type's table that is not held. It has its form and agrees with
-    /// n, and its rows pass the tests of its property.
+    /// n and, in the number of sites, with the given values, and its rows pass the tests of its property.
     pub fn add_given(&mut self, p: PropId, v: Value) -> Result<(), AllocError>
         requires formed { IsTrue (is_formed p (view_of v)) }
         requires missing { is_held p (read_at None self.old.state.held) ≡ false }
         requires table { IsTrue (has_property self.old.state.of p) }
         requires columns { IsTrue (agrees (cols_of self.old.state.held) p (view_of v)) }
         requires rows { IsTrue (are_rows self.old.state.of p (view_of v)) }
-        requires primitive { HavePrimitiveRows (view_of v) }
+        requires primitive { HavePrimitiveRows p (view_of v) }
+        requires sites { IsTrue (sites_agree self.old.state.held p (view_of v)) }
         ensures ok { OnOk result (self.new.state ≡ with_held self.old.state (file_value Given p (view_of v) ∷ [])) }
         ensures err { OnErr result (self.new.state ≡ self.old.state) }
     {
         self.add_of_file(Origin::Given, p, v)
     }
 
-    /// Adds such a value that was computed in an earlier run. Then the object is sealed.
+    /// Adds such a value that was computed in an earlier run, with any number of sites. Then the object is sealed.
     pub fn add_stored(&mut self, p: PropId, v: Value) -> Result<(), AllocError>
         requires formed { IsTrue (is_formed p (view_of v)) }
         requires missing { is_held p (read_at None self.old.state.held) ≡ false }
         requires table { IsTrue (has_property self.old.state.of p) }
         requires columns { IsTrue (agrees (cols_of self.old.state.held) p (view_of v)) }
         requires rows { IsTrue (are_rows self.old.state.of p (view_of v)) }
-        requires primitive { HavePrimitiveRows (view_of v) }
+        requires primitive { HavePrimitiveRows p (view_of v) }
         ensures ok { OnOk result (self.new.state ≡ with_held self.old.state (file_value Stored p (view_of v) ∷ [])) }
         ensures err { OnErr result (self.new.state ≡ self.old.state) }
     {
@@ -332,7 +335,8 @@ impl Object {
         requires table { IsTrue (has_property self.old.state.of p) }
         requires columns { IsTrue (agrees (cols_of self.old.state.held) p (view_of v)) }
         requires rows { IsTrue (are_rows self.old.state.of p (view_of v)) }
-        requires primitive { HavePrimitiveRows (view_of v) }
+        requires primitive { HavePrimitiveRows p (view_of v) }
+        requires sites { IsTrue (is_given origin) → IsTrue (sites_agree self.old.state.held p (view_of v)) }
         ensures ok { OnOk result (self.new.state ≡ with_held self.old.state (file_value origin p (view_of v) ∷ [])) }
         ensures err { OnErr result (self.new.state ≡ self.old.state) }
     {
@@ -355,6 +359,7 @@ impl Object {
         ensures missing { OnOk result (is_held p (read_at sub self.now.state.held) ≡ false) }
         ensures fits { OnOk result (IsFormedIn self.now.state.of (cols_of self.now.state.held) (length self.now.state.programs) (given_at sub p (view_of v.now))) }
         ensures given { OnOk result (IsTrue (is_given_at self.now.state.of sub p)) }
+        ensures sites { OnOk result (IsTrue (sites_agree self.now.state.held p (view_of v.now))) }
         ensures refused { IfErr result (λ e. e ≢ TakeFail.Memory → CannotTake self.now.state sub p (view_of v.now) e) }
     {
         if self.holds(sub, p) {
@@ -367,6 +372,9 @@ impl Object {
             return Err(TakeFail::NotOfType);
         }
         if !agrees(self.cols(), p, v) {
+            return Err(TakeFail::Columns);
+        }
+        if !sites_agree(&self.held, p, v) {
             return Err(TakeFail::Columns);
         }
         if !are_rows(self.of, p, v) {

@@ -1,17 +1,17 @@
 // What is asked of a value before it is taken: its columns and its rows.
 
-ghost use Rattle.pm_object.specs.State.{agrees, first_cols};
+ghost use Rattle.pm_object.specs.State.{agrees, agree_in_sites, first_cols, have_as_many_sites, is_given, sites_agree};
 ghost use Rattle.pm_matrix.specs.Matrices.{IsFraction};
-ghost use Rattle.pm_types.specs.Forms.{AreFractions, HasPrimitiveRow, HavePrimitiveRows, agrees_with, are_rows, first_is_below, first_is_nought, is_below_nought, is_formed, is_nought, is_number, is_row, is_zero_row, passes, stated_cols, states};
+ghost use Rattle.pm_types.specs.Forms.{AreFractions, HasPrimitiveRow, HavePrimitiveRows, agrees_with, are_rows, cols_in, first_is_above, first_is_below, first_is_nought, is_above_nought, is_below_nought, is_formed, is_nought, is_number, is_row, is_zero_row, passes, rows_in, stated_cols, states};
 ghost use Rattle.pm_props.specs.Properties.{is_ambient};
 ghost use Rattle.pm_object.specs.Views.{held_seen};
-ghost use Rattle.pm_types.specs.Values.{extended};
+ghost use Rattle.pm_types.specs.Values.{extended, matrix};
 ghost use Rattle.pm_types.specs.Views.{extended_of, view_of};
 ghost use Rattle.std.specs.List.{list_all};
-ghost use Rattle.std.specs.Prelude.{All, IfErr, IsTrue, OnOk, length, map, ◌≡◌, ◌≢◌, ◌≤◌};
+ghost use Rattle.std.specs.Prelude.{All, IfErr, IsTrue, OnOk, if◌then◌else◌, length, map, true, ◌≡◌, ◌≢◌, ◌≤◌};
 ghost use Rattle.pm_limits.specs.Limits.{most_rows};
 
-use crate::held::{Held, TakeFail};
+use crate::held::{Held, Origin, TakeFail};
 use pm_fraction::Fraction;
 use pm_matrix::{Matrix, RowsFail};
 use pm_props::{Columns, PropId, RowTest};
@@ -132,6 +132,7 @@ fn passes(of: ObjectType, test: RowTest, row: &[Fraction]) -> bool
         (ObjectType::Polytope, RowTest::Line) => first_is_nought(row),
         (ObjectType::Polytope, RowTest::Ray) => !first_is_below(row) && !is_zero_row(row),
         (_, RowTest::Ray | RowTest::NotZero) => !is_zero_row(row),
+        (_, RowTest::Site) => first_is_above(row),
         _ => true,
     }
 }
@@ -177,15 +178,94 @@ fn first_is_below(row: &[Fraction]) -> bool
     }
 }
 
-/// Whether the primitive row of each row of a matrix is made within the range: `NotAThing` where one is not.
-pub fn require_primitive_rows(alloc: Global, p: PropId, v: &Value) -> Result<(), TakeFail>
-    requires { IsTrue (is_formed p (view_of v.now)) }
-    ensures ok { OnOk result (HavePrimitiveRows (view_of v.now)) }
-    ensures entries { OnOk result (AreFractions (view_of v.now)) }
-    ensures refused { IfErr result (λ e. e ≢ TakeFail.Memory → (e ≡ TakeFail.NotAThing) × ¬ (HavePrimitiveRows (view_of v.now))) }
+fn is_above_nought(k: i128) -> bool
+    ensures { result ≡ is_above_nought k }
+{
+    k > 0
+}
+
+fn first_is_above(row: &[Fraction]) -> bool
+    ensures { result ≡ first_is_above row.now }
+{
+    match row.first() {
+        Some(q) => is_above_nought(q.num()),
+        None => false,
+    }
+}
+
+/// The number of rows of a matrix; 0 of another value.
+fn row_count(v: &Value) -> usize
+    ensures { result ≡ length (rows_in (view_of v.now)) }
 {
     match v {
-        Value::Mat(matrix) => require_primitive_matrix(alloc, matrix),
+        Value::Mat(matrix) => matrix.rows(),
+        Value::Sets(_) => 0,
+        Value::Int(_) => 0,
+        Value::Bool(_) => 0,
+        Value::Counts(_) => 0,
+        Value::Edges(_) => 0,
+        Value::Lattice(_) => 0,
+        Value::Number(_) => 0,
+    }
+}
+
+/// The number of columns of a matrix; 0 of another value.
+fn column_count(v: &Value) -> usize
+    ensures { result ≡ cols_in (view_of v.now) }
+{
+    match v {
+        Value::Mat(matrix) => matrix.cols(),
+        Value::Sets(_) => 0,
+        Value::Int(_) => 0,
+        Value::Bool(_) => 0,
+        Value::Counts(_) => 0,
+        Value::Edges(_) => 0,
+        Value::Lattice(_) => 0,
+        Value::Number(_) => 0,
+    }
+}
+
+/// Whether there are as many rows as heights, where the first value is of SITES and the second of SITE_HEIGHTS.
+pub fn have_as_many_sites(p: PropId, v: &Value, q: PropId, w: &Value) -> bool
+    ensures { result ≡ have_as_many_sites p (view_of v.now) q (view_of w.now) }
+{
+    if p == PropId::Sites && q == PropId::SiteHeights {
+        row_count(v) == column_count(w)
+    } else {
+        true
+    }
+}
+
+/// Whether a value agrees with one that is held in the number of sites, either way; with one that was not given it does.
+fn agrees_in_sites(p: PropId, v: &Value, h: &Held) -> bool
+    ensures { result ≡ (if is_given h.now.origin then agree_in_sites p (view_of v.now) h.now.id (view_of h.now.value) else true) }
+{
+    h.origin != Origin::Given
+        || (have_as_many_sites(p, v, h.id, &h.value) && have_as_many_sites(h.id, &h.value, p, v))
+}
+
+/// Whether a value of SITES has as many rows as a given one of SITE_HEIGHTS has entries, and the other way round.
+pub fn sites_agree(held: &[Held], p: PropId, v: &Value) -> bool
+    ensures { result ≡ sites_agree (map held_seen held.now) p (view_of v.now) }
+{
+    for h in held {
+        if !agrees_in_sites(p, v, h) {
+            return false;
+        }
+    }
+    true
+}
+
+/// Whether the primitive row of each row of a matrix is made within the range: `NotAThing` where one is not.
+/// Heights are no row of coordinates, and have none.
+pub fn require_primitive_rows(alloc: Global, p: PropId, v: &Value) -> Result<(), TakeFail>
+    requires { IsTrue (is_formed p (view_of v.now)) }
+    ensures ok { OnOk result (HavePrimitiveRows p (view_of v.now)) }
+    ensures entries { OnOk result (AreFractions (view_of v.now)) }
+    ensures refused { IfErr result (λ e. e ≢ TakeFail.Memory → (e ≡ TakeFail.NotAThing) × ¬ (HavePrimitiveRows p (view_of v.now))) }
+{
+    match v {
+        Value::Mat(matrix) => require_primitive_rows_of(alloc, p, matrix),
         Value::Sets(_) => Ok(()),
         Value::Int(_) => Ok(()),
         Value::Bool(_) => Ok(()),
@@ -225,6 +305,20 @@ fn reads_number(number: Number)
         let _num = q.num();
         let _den = q.den();
     }
+}
+
+fn require_primitive_rows_of(alloc: Global, p: PropId, rows: &Matrix) -> Result<(), TakeFail>
+    requires { length rows.now.rows ≤ most_rows }
+    ensures ok { OnOk result (HavePrimitiveRows p (matrix rows.now.cols rows.now.rows)) }
+    ensures entries { All (All IsFraction) rows.now.rows }
+    ensures refused { IfErr result (λ e. e ≢ TakeFail.Memory
+        → (e ≡ TakeFail.NotAThing) × ¬ (HavePrimitiveRows p (matrix rows.now.cols rows.now.rows))) }
+{
+    if p == PropId::SiteHeights {
+        let _ = rows.rows();
+        return Ok(());
+    }
+    require_primitive_matrix(alloc, rows)
 }
 
 fn require_primitive_matrix(alloc: Global, matrix: &Matrix) -> Result<(), TakeFail>

@@ -9,7 +9,7 @@ use Rattle.pm_props.specs.declared.property.Columns.TheVariants as columns
 use Rattle.pm_props.specs.declared.property.Describes.{Describes}
 use Rattle.pm_props.specs.declared.property.Describes.TheVariants as describes
 use Rattle.pm_props.specs.declared.property.PropId.{PropId}
-use Rattle.pm_props.specs.declared.property.PropId.TheVariants.{ConeAmbientDim, Points, InputLineality, Inequalities, Equations, Vertices, LinealitySpace, Facets, AffineHull, VerticesInFacets, ConeDim, LinealityDim, CombinatorialDim, NVertices, NFacets, Feasible, Bounded, Pointed, FullDim, Centered, Simple, Simplicial, VertexSizes, FacetSizes, HasseDiagram, FVector, F2Vector, HVector, Graph, DualGraph, Diameter, DualDiameter, NEdges, NRidges, VertexDegrees, FarFace, MaximalCones, NMaximalCones, MaximalConesDims, FanDim, Pure, LinearObjective, MaximalValue, MinimalValue, MaximalFace, MinimalFace, MaximalDual, MinimalDual, PlacingTriangulation}
+use Rattle.pm_props.specs.declared.property.PropId.TheVariants.{ConeAmbientDim, Points, InputLineality, Inequalities, Equations, Vertices, LinealitySpace, Facets, AffineHull, VerticesInFacets, ConeDim, LinealityDim, CombinatorialDim, NVertices, NFacets, Feasible, Bounded, Pointed, FullDim, Centered, Simple, Simplicial, VertexSizes, FacetSizes, HasseDiagram, FVector, F2Vector, HVector, Graph, DualGraph, Diameter, DualDiameter, NEdges, NRidges, VertexDegrees, FarFace, MaximalCones, NMaximalCones, MaximalConesDims, FanDim, Pure, LinearObjective, MaximalValue, MinimalValue, MaximalFace, MinimalFace, MaximalDual, MinimalDual, PlacingTriangulation, Sites, SiteHeights, RegularCells, DelaunayCells}
 use Rattle.pm_props.specs.declared.property.RowTest.TheVariants as test
 use Rattle.pm_props.specs.declared.property.Tables.{Tables}
 use Rattle.pm_props.specs.declared.property.Tables.TheVariants as tables
@@ -84,14 +84,18 @@ row MinimalFace = record (plain 45 (codes "LP.MINIMAL_FACE") kind.Counts tables.
 row MaximalDual = record (plain 46 (codes "LP.MAXIMAL_DUAL") kind.Mat tables.Programs) { columns = columns.Rows }
 row MinimalDual = record (plain 47 (codes "LP.MINIMAL_DUAL") kind.Mat tables.Programs) { columns = columns.Rows }
 row PlacingTriangulation = record (plain 48 (codes "PLACING_TRIANGULATION") kind.Sets tables.PolytopesAndCones) { speaks_of_rays = true }
+row Sites = record (plain 49 (codes "SITES") kind.Mat tables.Polytopes) { columns = columns.Rows; test = test.Site }
+row SiteHeights = plain 50 (codes "SITE_HEIGHTS") kind.Mat tables.Polytopes
+row RegularCells = plain 51 (codes "REGULAR_CELLS") kind.Sets tables.Polytopes
+row DelaunayCells = plain 52 (codes "DELAUNAY_CELLS") kind.Sets tables.Polytopes
 
 -- every property, in the order of the numbers
 abbrev pub every_property : List PropId
-every_property = ConeAmbientDim ∷ Points ∷ InputLineality ∷ Inequalities ∷ Equations ∷ Vertices ∷ LinealitySpace ∷ Facets ∷ AffineHull ∷ VerticesInFacets ∷ ConeDim ∷ LinealityDim ∷ CombinatorialDim ∷ NVertices ∷ NFacets ∷ Feasible ∷ Bounded ∷ Pointed ∷ FullDim ∷ Centered ∷ Simple ∷ Simplicial ∷ VertexSizes ∷ FacetSizes ∷ HasseDiagram ∷ FVector ∷ F2Vector ∷ HVector ∷ Graph ∷ DualGraph ∷ Diameter ∷ DualDiameter ∷ NEdges ∷ NRidges ∷ VertexDegrees ∷ FarFace ∷ MaximalCones ∷ NMaximalCones ∷ MaximalConesDims ∷ FanDim ∷ Pure ∷ LinearObjective ∷ MaximalValue ∷ MinimalValue ∷ MaximalFace ∷ MinimalFace ∷ MaximalDual ∷ MinimalDual ∷ PlacingTriangulation ∷ []
+every_property = ConeAmbientDim ∷ Points ∷ InputLineality ∷ Inequalities ∷ Equations ∷ Vertices ∷ LinealitySpace ∷ Facets ∷ AffineHull ∷ VerticesInFacets ∷ ConeDim ∷ LinealityDim ∷ CombinatorialDim ∷ NVertices ∷ NFacets ∷ Feasible ∷ Bounded ∷ Pointed ∷ FullDim ∷ Centered ∷ Simple ∷ Simplicial ∷ VertexSizes ∷ FacetSizes ∷ HasseDiagram ∷ FVector ∷ F2Vector ∷ HVector ∷ Graph ∷ DualGraph ∷ Diameter ∷ DualDiameter ∷ NEdges ∷ NRidges ∷ VertexDegrees ∷ FarFace ∷ MaximalCones ∷ NMaximalCones ∷ MaximalConesDims ∷ FanDim ∷ Pure ∷ LinearObjective ∷ MaximalValue ∷ MinimalValue ∷ MaximalFace ∷ MinimalFace ∷ MaximalDual ∷ MinimalDual ∷ PlacingTriangulation ∷ Sites ∷ SiteHeights ∷ RegularCells ∷ DelaunayCells ∷ []
 
 -- how many there are
 abbrev pub count : ℕ
-count = 49
+count = 53
 
 abbrev pub number : PropId → ℕ
 number p = (row p).number

@@ -7,7 +7,7 @@ ghost use Rattle.std.specs.Prelude.{slice_get, ◌<◌, ◌≡◌};
 use pm_object_type::ObjectType;
 use std::marker::Model;
 
-/// A property, by its number from 0 to 48.
+/// A property, by its number from 0 to 52.
 #[derive(Clone, Copy, Debug, PartialEq, Eq, Hash)]
 pub enum PropId {
     /// 0: CONE_AMBIENT_DIM, the number of columns.
@@ -108,6 +108,14 @@ pub enum PropId {
     MinimalDual,
     /// 48: PLACING_TRIANGULATION, for each cell the places of its rays.
     PlacingTriangulation,
+    /// 49: SITES, rows that stand for points.
+    Sites,
+    /// 50: SITE_HEIGHTS, a height for each site.
+    SiteHeights,
+    /// 51: REGULAR_CELLS, the cells of the subdivision that the heights induce.
+    RegularCells,
+    /// 52: DELAUNAY_CELLS, the cells whose spheres are empty of sites.
+    DelaunayCells,
 }
 
 /// The form that a property's values have.
@@ -181,6 +189,8 @@ pub enum RowTest {
     Ray,
     /// It is not zero.
     NotZero,
+    /// Its first coordinate is positive.
+    Site,
 }
 
 /// What the table says of a property. A new property, and whatever is asked of it, is a row.
@@ -267,7 +277,7 @@ const PLAIN: Entry = Entry {
 };
 
 /// How many properties there are.
-pub const COUNT: usize = 49;
+pub const COUNT: usize = 53;
 
 // A row: the number, the first name (and those of cones and fans, where they differ), the kind of value, the tables, and
 // what differs from a plain property.
@@ -340,6 +350,10 @@ static TABLE: [Entry; COUNT] = [
     property!(46 "LP.MAXIMAL_DUAL" Mat Programs | columns: Columns::Rows),
     property!(47 "LP.MINIMAL_DUAL" Mat Programs | columns: Columns::Rows),
     property!(48 "PLACING_TRIANGULATION" Sets PolytopesAndCones | speaks_of_rays: true),
+    property!(49 "SITES" Mat Polytopes | columns: Columns::Rows, test: RowTest::Site),
+    property!(50 "SITE_HEIGHTS" Mat Polytopes),
+    property!(51 "REGULAR_CELLS" Sets Polytopes),
+    property!(52 "DELAUNAY_CELLS" Sets Polytopes),
 ];
 
 impl PropId {
@@ -418,6 +432,10 @@ impl PropId {
             Self::MaximalDual,
             Self::MinimalDual,
             Self::PlacingTriangulation,
+            Self::Sites,
+            Self::SiteHeights,
+            Self::RegularCells,
+            Self::DelaunayCells,
         ]
     }
 

@@ -16,7 +16,7 @@ use Rattle.pm_refine.specs.ObjectRefinements.{HaveForms, fan_given, refined_valu
 use Rattle.pm_refine.specs.Refined.{AreRaySets}
 use Rattle.pm_types.proofs.Indices.{ascending_sets}
 use Rattle.pm_types.proofs.WholeRows.{ratios_rows_fractions, ratios_rows_of_entries, ratios_rows_primitive}
-use Rattle.pm_types.specs.Forms.{FormsIn, HasPrimitiveRow, agrees_with, is_column_count, is_formed, is_matrix_form, is_row, is_row_of_entries, is_zero_row}
+use Rattle.pm_types.specs.Forms.{FormsIn, HasPrimitiveRow, HavePrimitiveRows, agrees_with, is_column_count, is_formed, is_matrix_form, is_row, is_row_of_entries, is_zero_row}
 use Rattle.pm_types.specs.Values.{PropertyValue, matrix, sets, whole}
 use Rattle.pm_types.specs.Views.{ratios}
 use Rattle.std.proofs.Common.{ap, arith, false, get_or, refl, subst, suc, sym, take, true, true≢false, zero, ◌+◌, ◌++◌, ◌∙◌}
@@ -88,8 +88,13 @@ second : (a b : Bool) → b ≡ true → (a || b) ≡ true
 second true b p = refl
 second false b p = p
 
+primitive_of : (p : PropId) → IsOfFan p → (m : ℕ) (rows : List (List Ratio)) → All HasPrimitiveRow rows → HavePrimitiveRows p (matrix m rows)
+primitive_of Vertices h m rows all = all
+primitive_of LinealitySpace h m rows all = all
+primitive_of p h m rows all = absurd h
+
 rows_form : (n : ℕ) (p : PropId) → IsOfFan p → (N : List Row) → 1 ≤ n → n ≤ most_columns → length N ≤ most_rows → HasCols n N → All (All InRange) N → list_all (is_row Fan p) (map ratios N) ≡ true → FormsIn Fan n p (value_over n (map ratios N))
-rows_form n p h [] some few all cols range pass = record { formed = formed_of p h 0 []; columns = agrees_of p h n 0 []; rows = refl; entries = All-nil (All IsFraction); primitive = All-nil HasPrimitiveRow }
+rows_form n p h [] some few all cols range pass = record { formed = formed_of p h 0 []; columns = agrees_of p h n 0 []; rows = refl; entries = All-nil (All IsFraction); primitive = primitive_of p h 0 [] (All-nil HasPrimitiveRow) }
 rows_form n p h (x ∷ N) some few all cols range pass = record {
   formed = formed_of p h n (map ratios (x ∷ N))
       ∙ three (nat_le (length (map ratios (x ∷ N))) most_rows) (is_column_count (map ratios (x ∷ N)) n) (list_all (is_row_of_entries n) (map ratios (x ∷ N)))
@@ -98,7 +103,7 @@ rows_form n p h (x ∷ N) some few all cols range pass = record {
   columns = agrees_of p h n n (map ratios (x ∷ N)) ∙ second (nat_eq n 0) (nat_eq n n) (eq-eqb n n refl);
   rows = pass;
   entries = ratios_rows_fractions (x ∷ N) range;
-  primitive = ratios_rows_primitive (x ∷ N) range;
+  primitive = primitive_of p h n (map ratios (x ∷ N)) (ratios_rows_primitive (x ∷ N) range);
 }
 
 dimension_form : (n : ℕ) → 1 ≤ n → n ≤ most_columns → FormsIn Fan n ConeAmbientDim (whole (pos n))

@@ -16,3 +16,4 @@ pub mod Sizes
 pub mod Thinning
 pub mod FromSets
 pub mod Triangulations
+pub mod Sites

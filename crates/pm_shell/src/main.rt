@@ -21,6 +21,7 @@ use pm_clients_geom::{
     ThinWork,
 };
 use pm_clients_graph::{GraphClient, GraphWork};
+use pm_clients_lift::{LiftClient, LiftWork};
 use pm_clients_lp::{LpClient, LpWork};
 use pm_store::{DirStore, StdSink, StdSource};
 use run::polymake;
@@ -94,6 +95,7 @@ fn main(rt: HostRuntime) -> ExitCode {
     box_all!(LpClient, LpWork, alloc, clients);
     box_all!(FanClient, FanWork, alloc, clients);
     box_all!(PlaceClient, PlaceWork, alloc, clients);
+    box_all!(LiftClient, LiftWork, alloc, clients);
     let mut source = StdSource::new(rt.stdin());
     let mut sink = StdSink::new(rt.stdout());
     let mut store = DirStore::new(&rt);

@@ -4,11 +4,11 @@ use Rattle.pm_props.specs.Kinds.{finding}
 use Rattle.pm_props.specs.Sets.{set_of}
 use Rattle.pm_props.specs.declared.kind.Kind.{Kind}
 use Rattle.pm_props.specs.declared.property.PropId.{PropId}
-use Rattle.pm_props.specs.declared.property.PropId.TheVariants.{Points, InputLineality, Inequalities, Equations, Vertices, LinealitySpace, Facets, AffineHull, VerticesInFacets, ConeDim, LinealityDim, CombinatorialDim, NVertices, NFacets, Feasible, Bounded, Pointed, FullDim, Centered, Simple, Simplicial, VertexSizes, FacetSizes, HasseDiagram, FVector, F2Vector, HVector, Graph, DualGraph, Diameter, DualDiameter, NEdges, NRidges, VertexDegrees, FarFace, MaximalCones, NMaximalCones, MaximalConesDims, FanDim, Pure, LinearObjective, MaximalValue, MinimalValue, MaximalFace, MinimalFace, MaximalDual, MinimalDual, PlacingTriangulation}
+use Rattle.pm_props.specs.declared.property.PropId.TheVariants.{Points, InputLineality, Inequalities, Equations, Vertices, LinealitySpace, Facets, AffineHull, VerticesInFacets, ConeDim, LinealityDim, CombinatorialDim, NVertices, NFacets, Feasible, Bounded, Pointed, FullDim, Centered, Simple, Simplicial, VertexSizes, FacetSizes, HasseDiagram, FVector, F2Vector, HVector, Graph, DualGraph, Diameter, DualDiameter, NEdges, NRidges, VertexDegrees, FarFace, MaximalCones, NMaximalCones, MaximalConesDims, FanDim, Pure, LinearObjective, MaximalValue, MinimalValue, MaximalFace, MinimalFace, MaximalDual, MinimalDual, PlacingTriangulation, Sites, SiteHeights, RegularCells, DelaunayCells}
 use Rattle.pm_standard.specs.declared.standard.StandardClient.{StandardClient}
 use Rattle.pm_standard.specs.declared.standard.StandardRule.{StandardRule}
 use Rattle.pm_standard.specs.declared.standard.StandardClient.TheVariants as client
-use Rattle.pm_standard.specs.Ways.{Way, at_face, at_rays, by_doubling, by_placing, by_programs, by_sets, by_thinning, cone_rows, determined_facets, determined_rays, dual, eliminates, face_count, facet_count, feasibility, greatest, least, optimum_over_facets, optimum_over_rows, products, row_list}
+use Rattle.pm_standard.specs.Ways.{Way, at_face, at_rays, by_doubling, by_placing, by_programs, by_sets, by_thinning, cone_rows, determined_facets, determined_rays, dual, eliminates, face_count, facet_count, feasibility, greatest, least, optimum_over_facets, optimum_over_rows, products, row_list, lifting, raising}
 
 -- a row of the table of rules: its label, what it finds, from what, what must be true, what it weighs, and how its client may fail
 pub record RuleRow : Type 0 where
@@ -96,6 +96,8 @@ table_row client.FanSize = plain_rule (codes "fan_size") (NMaximalCones ∷ []) 
 table_row client.BbFacets = may_fail by_placing (plain_rule (codes "bb_facets") (Facets ∷ AffineHull ∷ []) (Points ∷ InputLineality ∷ []) 45)
 table_row client.BbFacetsV = may_fail by_placing (plain_rule (codes "bb_facets_v") (Facets ∷ AffineHull ∷ PlacingTriangulation ∷ []) (Vertices ∷ LinealitySpace ∷ []) 35)
 table_row client.Placing = may_fail by_placing (plain_rule (codes "placing") (PlacingTriangulation ∷ []) (Vertices ∷ LinealitySpace ∷ []) 25)
+table_row client.RegularCells = may_fail (lifting ∷ []) (plain_rule (codes "regular_cells") (RegularCells ∷ []) (Sites ∷ SiteHeights ∷ []) 40)
+table_row client.Delaunay = may_fail (raising ∷ []) (plain_rule (codes "delaunay") (DelaunayCells ∷ []) (Sites ∷ []) 45)
 
 -- the rule that a row says: the kind of its client, which bears the label as its name, and the weight
 abbrev pub rule_in : RuleRow → StandardRule
@@ -119,7 +121,7 @@ standard_clients =
     ∷ client.NEdges ∷ client.NRidges ∷ client.LpMax ∷ client.LpMin ∷ client.LpMaxRows
     ∷ client.LpMinRows ∷ client.LpMaxV ∷ client.LpMinV ∷ client.LpMaxFace ∷ client.LpMinFace
     ∷ client.FanDims ∷ client.FanDim ∷ client.FanPure ∷ client.FanSimplicial ∷ client.FanSize
-    ∷ client.BbFacets ∷ client.BbFacetsV ∷ client.Placing ∷ []
+    ∷ client.BbFacets ∷ client.BbFacetsV ∷ client.Placing ∷ client.RegularCells ∷ client.Delaunay ∷ []
 
 abbrev pub standard_kind : StandardClient → Kind
 standard_kind c = (standard_row c).kind

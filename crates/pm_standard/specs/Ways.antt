@@ -23,7 +23,8 @@ pub data Eliminated : Type 0 where
 
 -- a step in the elimination of a list (E1); two rays of a front (E2), or too many (E5); a pivot in a program (E3): of a
 -- row over the others, of a point, of an optimum; a product of rows that were read (E4), of a row that a set
--- determines, of a dual, at rays, at a face; too many facets, faces or cells (E5)
+-- determines, of a dual, at rays, at a face; too many facets, faces or cells (E5); whatever refuses the cells of lifted
+-- sites (E1, E2, E4, E5), at their heights or on the paraboloid
 pub data Way : Type 0 where
   eliminates : Eliminated → Way
   doubling : Way
@@ -40,6 +41,8 @@ pub data Way : Type 0 where
   facet_count : Way
   face_count : Way
   cell_count : Way
+  lifting : Way
+  raising : Way
 
 abbrev pub same_optimum : Optimum → Optimum → Bool
 same_optimum greatest greatest = true
@@ -62,6 +65,8 @@ is_way (at_face a) (at_face b) = same_optimum a b
 is_way facet_count facet_count = true
 is_way face_count face_count = true
 is_way cell_count cell_count = true
+is_way lifting lifting = true
+is_way raising raising = true
 is_way a b = false
 
 abbrev pub by_doubling : List Way

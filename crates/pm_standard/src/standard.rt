@@ -136,6 +136,10 @@ pub enum StandardClient {
     BbFacetsV,
     /// PLACING_TRIANGULATION from VERTICES, LINEALITY_SPACE.
     Placing,
+    /// REGULAR_CELLS from SITES, SITE_HEIGHTS.
+    RegularCells,
+    /// DELAUNAY_CELLS from SITES.
+    Delaunay,
 }
 
 /// A standard rule: the kind of its client, whose name is the rule's label, and what it weighs, of class 0.
@@ -170,7 +174,7 @@ macro_rules! rule {
 }
 
 // The standard rules, in the order of the standard book.
-static RULES: [Entry; 63] = [
+static RULES: [Entry; 65] = [
     rule!("dd_vertices": Vertices, LinealitySpace from Inequalities, Equations; 40),
     rule!("dd_facets": Facets, AffineHull from Points, InputLineality; 40),
     rule!("dd_facets_v": Facets, AffineHull from Vertices, LinealitySpace; 30),
@@ -234,11 +238,13 @@ static RULES: [Entry; 63] = [
     rule!("bb_facets": Facets, AffineHull from Points, InputLineality; 45),
     rule!("bb_facets_v": Facets, AffineHull, PlacingTriangulation from Vertices, LinealitySpace; 35),
     rule!("placing": PlacingTriangulation from Vertices, LinealitySpace; 25),
+    rule!("regular_cells": RegularCells from Sites, SiteHeights; 40),
+    rule!("delaunay": DelaunayCells from Sites; 45),
 ];
 
 impl StandardClient {
     /// These clients, in the order of the standard book.
-    pub fn every() -> [StandardClient; 63]
+    pub fn every() -> [StandardClient; 65]
         ensures { result ≡ standard_clients }
     {
         [
@@ -305,6 +311,8 @@ impl StandardClient {
             Self::BbFacets,
             Self::BbFacetsV,
             Self::Placing,
+            Self::RegularCells,
+            Self::Delaunay,
         ]
     }
 

@@ -8,18 +8,18 @@ use Rattle.pm_matrix.specs.FractionRows.{IsLeastDenominator}
 use Rattle.pm_matrix.specs.Multiples.{IsLcm}
 use Rattle.pm_matrix.specs.Wideness.{IsFirstWide, IsFirstWideDenominator, IsFirstWideNumerator, IsWideRow, NumeratorsStay, RowStays, RowsStay}
 use Rattle.pm_matrix.specs.declared.fails.RowsFail.TheVariants.{Wide}
-use Rattle.pm_props.specs.declared.property.PropId.TheVariants.{F2Vector, LinearObjective}
+use Rattle.pm_props.specs.declared.property.PropId.TheVariants.{F2Vector, LinearObjective, SiteHeights, Sites}
 use Rattle.pm_props.specs.declared.property.PropId.{PropId}
 use Rattle.pm_types.specs.Forms.{HasPrimitiveRow, is_column_count, is_matrix_form, is_matrix_of, is_row_of_entries}
 use Rattle.std.proofs.Common.{arith, below_more, get_or, inl, inr, length, subst, sym, ◌*◌, ◌+◌, ◌/◌, ◌≡◌, ◌≤◌, ℕ}
-use Rattle.std.proofs.lemmas.Bool.{and_parts, cases_lt, leb-true}
+use Rattle.std.proofs.lemmas.Bool.{and_parts, cases_lt, eqb-true, leb-true}
 use Rattle.std.proofs.lemmas.List.{get_or_default}
 use Rattle.std.proofs.lemmas.Nat.Gcd.{dvd-zero, dvd_trans}
 use Rattle.std.specs.Int.{◌∣◌}
 use Rattle.std.specs.List.{All, list_all}
 use Rattle.std.specs.Prelude.{List, [], nat_eq, nat_le, unsigned_abs, true, ◌&&◌}
 use lib.IntN.{ℤ, ◌*ℤ◌}
-use Rattle.pm_limits.specs.Limits.{most_columns, most_rows}
+use Rattle.pm_limits.specs.Limits.{most_columns, most_rows, most_site_columns}
 
 -- ---- a least common denominator one column on
 lcm_of_zero : (b : ℕ) → IsLcm 0 b 0
@@ -81,4 +81,9 @@ few_rows_of F2Vector n rows h =
     let q = and_parts (nat_le (length rows) most_rows) (nat_le n most_columns) p.0 in
     leb-true (length rows) most_rows q.0
 few_rows_of LinearObjective n rows h = few_rows n rows (and_parts (nat_eq (length rows) 1) (is_matrix_form n rows) h).1
+few_rows_of Sites n rows h = few_rows n rows (and_parts (nat_le n most_site_columns) (is_matrix_form n rows) h).1
+few_rows_of SiteHeights n rows h =
+    let one = and_parts (nat_eq (length rows) 1) (nat_le n most_rows) (and_parts (nat_eq (length rows) 1 && nat_le n most_rows) (list_all (is_row_of_entries n) rows) h).0 in
+    let e = eqb-true (length rows) 1 one.0 in
+    omega arith
 few_rows_of p n rows h = few_rows n rows h

@@ -11,13 +11,13 @@ use Rattle.pm_matrix.specs.Wideness.{DenominatorsStay, NumeratorsStay}
 use Rattle.pm_props.specs.Properties.{is_ambient, is_columned, is_of_matrices, is_of_sets, is_of_counts, is_of_edges, is_of_lattices, is_of_truth_values, is_of_whole_numbers, row, value_kind}
 use Rattle.pm_types.specs.Values.{PropertyValue, matrix, sets, whole, truth, counts, edges, lattice, extended, finite}
 use Rattle.pm_props.specs.declared.property.PropId.{PropId}
-use Rattle.pm_props.specs.declared.property.PropId.TheVariants.{F2Vector, LinearObjective}
+use Rattle.pm_props.specs.declared.property.PropId.TheVariants.{F2Vector, LinearObjective, SiteHeights, Sites}
 use Rattle.pm_props.specs.declared.property.RowTest.{RowTest}
 use Rattle.pm_props.specs.declared.property.RowTest.TheVariants as test
 use Rattle.pm_props.specs.declared.property.ValueKind.{ValueKind}
 use Rattle.pm_props.specs.declared.property.ValueKind.TheVariants as kind
 use lib.IntN.{ℤ, pos, negsuc}
-use Rattle.pm_limits.specs.Limits.{most_columns, most_faces, most_indices, most_places, most_rows}
+use Rattle.pm_limits.specs.Limits.{most_columns, most_faces, most_indices, most_places, most_rows, most_site_columns}
 
 -- ---- forms
 -- a row of n entries
@@ -36,10 +36,16 @@ is_matrix_form n rows = nat_le (length rows) most_rows && is_column_count rows n
 abbrev pub is_table_form : ℕ → List (List Ratio) → Bool
 is_table_form n rows = nat_le (length rows) most_rows && nat_le n most_columns && list_all (is_row_of_entries n) rows
 
--- F2_VECTOR is a table, and LP.LINEAR_OBJECTIVE is one row
+-- one row of at most most_rows entries, or of none
+abbrev pub is_list_form : ℕ → List (List Ratio) → Bool
+is_list_form n rows = nat_eq (length rows) 1 && nat_le n most_rows && list_all (is_row_of_entries n) rows
+
+-- F2_VECTOR is a table, LP.LINEAR_OBJECTIVE is one row, SITES have at most most_site_columns columns, and SITE_HEIGHTS are a list
 abbrev pub is_matrix_of : PropId → ℕ → List (List Ratio) → Bool
 is_matrix_of F2Vector n rows = is_table_form n rows
 is_matrix_of LinearObjective n rows = nat_eq (length rows) 1 && is_matrix_form n rows
+is_matrix_of Sites n rows = nat_le n most_site_columns && is_matrix_form n rows
+is_matrix_of SiteHeights n rows = is_list_form n rows
 is_matrix_of p n rows = is_matrix_form n rows
 
 -- ascending indices from `low` on, below n
@@ -92,7 +98,7 @@ abbrev pub is_of_numbers : ValueKind → Bool
 is_of_numbers kind.Number = true
 is_of_numbers k = false
 
--- the value has the form of a value of p, and keeps the limits: a matrix has at most most_rows rows of one length from 1 to 33, and without rows it may state no column count, 0; at most most_rows sets, each ascending, of indices below a column count of at most most_rows; at most most_rows counts; edges and lattices as above
+-- the value has the form of a value of p, and keeps the limits: a matrix has at most most_rows rows of one length from 1 to 33 (of SITES to most_site_columns), and without rows it may state no column count, 0; SITE_HEIGHTS has at most most_rows entries; at most most_rows sets, each ascending, of indices below a column count of at most most_rows; at most most_rows counts; edges and lattices as above
 abbrev pub is_formed : PropId → PropertyValue → Bool
 is_formed p (matrix n rows) = is_of_matrices (value_kind p) && is_matrix_of p n rows
 is_formed p (sets rows n) = is_of_sets (value_kind p) && is_sets_form rows n
@@ -144,13 +150,22 @@ abbrev pub first_is_below : List Ratio → Bool
 first_is_below [] = false
 first_is_below (q ∷ r) = is_below_nought q.num
 
--- the row passes the test: of a polytope points do not lie behind and lines have first coordinate 0; no ray and no facet row is zero
+abbrev pub is_above_nought : ℤ → Bool
+is_above_nought (pos (suc n)) = true
+is_above_nought k = false
+
+abbrev pub first_is_above : List Ratio → Bool
+first_is_above [] = false
+first_is_above (q ∷ r) = is_above_nought q.num
+
+-- the row passes the test: of a polytope points do not lie behind and lines have first coordinate 0; no ray and no facet row is zero; the first coordinate of a site is positive
 abbrev pub passes : ObjectType → RowTest → List Ratio → Bool
 passes Polytope test.Point r = not (first_is_below r)
 passes Polytope test.Line r = first_is_nought r
 passes Polytope test.Ray r = not (first_is_below r) && not (is_zero_row r)
 passes of test.Ray r = not (is_zero_row r)
 passes of test.NotZero r = not (is_zero_row r)
+passes of test.Site r = first_is_above r
 passes of test r = true
 
 -- it passes the test of rows of that property
@@ -176,9 +191,10 @@ abbrev pub AreFractions : PropertyValue → Type 0
 AreFractions (extended (finite q)) = IsFraction q
 AreFractions v = All (All IsFraction) (rows_in v)
 
--- so is it for each row
-abbrev pub HavePrimitiveRows : PropertyValue → Type 0
-HavePrimitiveRows v = All HasPrimitiveRow (rows_in v)
+-- so is it for each row, but heights are no row of coordinates
+abbrev pub HavePrimitiveRows : PropId → PropertyValue → Type 0
+HavePrimitiveRows SiteHeights v = Unit {0}
+HavePrimitiveRows p v = All HasPrimitiveRow (rows_in v)
 
 -- a value that an object of this type with n columns may hold
 pub record FormsIn (of : ObjectType) (n : ℕ) (p : PropId) (v : PropertyValue) : Type 0 where
@@ -186,4 +202,4 @@ pub record FormsIn (of : ObjectType) (n : ℕ) (p : PropId) (v : PropertyValue) 
   pub columns : IsTrue (agrees_with n p v)
   pub rows : IsTrue (are_rows of p v)
   pub entries : AreFractions v
-  pub primitive : HavePrimitiveRows v
+  pub primitive : HavePrimitiveRows p v

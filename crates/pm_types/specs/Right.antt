@@ -4,9 +4,10 @@ use Rattle.std.specs.Prelude.{Bool, ℕ, zero, suc, ◌+◌, ◌≡◌, ◌<◌,
 use Rattle.std.specs.List.{All, AllPairs, Any, Contains, list_all, slice_index_or}
 use Rattle.pm_vector.specs.Numbers.{Ratio}
 use Rattle.pm_vector.specs.Divisors.{IsPrimitive}
-use Rattle.pm_vector.specs.Rows.{Row, entry, dot, plus, HasCols, IsZero, Same, Stands}
+use Rattle.pm_vector.specs.Rows.{Row, entry, dot, plus, HasCols, IsZero, Same, SameDirection, Stands}
 use Rattle.pm_vector.specs.Cones.{InCone, InSpan, IsIndependent}
 use Rattle.pm_vector.specs.Bases.{IsRank}
+use Rattle.pm_geom.specs.Cells.{AreCells, squares}
 use Rattle.pm_geom.specs.Cones.{CutOut, IsExtremeRay, IsFacetRow, IsOrder, IsValid, Vanishes, InLineality, SameModulo}
 use Rattle.pm_geom.specs.FaceCounts.{IsHasseDiagram, f2_of, f_of, h_of}
 use Rattle.pm_geom.specs.Faces.{ray}
@@ -23,7 +24,7 @@ use Rattle.pm_types.specs.Programs.{IsGreatest, IsGreatestFace, OfGreatest, oppo
 use Rattle.pm_types.specs.Values.{PropertyValue, matrix, sets, whole, truth, counts, edges, lattice, extended, Extended, finite, Fact}
 use Rattle.pm_types.specs.Views.{over_one}
 use Rattle.pm_props.specs.declared.property.PropId.{PropId}
-use Rattle.pm_props.specs.declared.property.PropId.TheVariants.{ConeAmbientDim, Points, InputLineality, Inequalities, Equations, Vertices, LinealitySpace, Facets, AffineHull, VerticesInFacets, ConeDim, LinealityDim, CombinatorialDim, NVertices, NFacets, Feasible, Bounded, Pointed, FullDim, Centered, Simple, Simplicial, VertexSizes, FacetSizes, FarFace, HasseDiagram, FVector, F2Vector, HVector, Graph, DualGraph, Diameter, DualDiameter, NEdges, NRidges, VertexDegrees, MaximalCones, NMaximalCones, MaximalConesDims, FanDim, Pure, LinearObjective, MaximalValue, MinimalValue, MaximalFace, MinimalFace, MaximalDual, MinimalDual, PlacingTriangulation}
+use Rattle.pm_props.specs.declared.property.PropId.TheVariants.{ConeAmbientDim, Points, InputLineality, Inequalities, Equations, Vertices, LinealitySpace, Facets, AffineHull, VerticesInFacets, ConeDim, LinealityDim, CombinatorialDim, NVertices, NFacets, Feasible, Bounded, Pointed, FullDim, Centered, Simple, Simplicial, VertexSizes, FacetSizes, FarFace, HasseDiagram, FVector, F2Vector, HVector, Graph, DualGraph, Diameter, DualDiameter, NEdges, NRidges, VertexDegrees, MaximalCones, NMaximalCones, MaximalConesDims, FanDim, Pure, LinearObjective, MaximalValue, MinimalValue, MaximalFace, MinimalFace, MaximalDual, MinimalDual, PlacingTriangulation, Sites, SiteHeights, RegularCells, DelaunayCells}
 use Rattle.pm_props.specs.Properties.{facets_tag, rays_tag}
 use lib.IntN.{ℤ, pos, negsuc, ◌-ℤ◌, ◌*ℤ◌}
 use lib.Signed.{◌<ℤ◌, ◌≤ℤ◌}
@@ -385,6 +386,10 @@ Means MinimalFace (counts ks) t o c = IsGreatestFace (InSet t) (opposite_objecti
 Means MaximalDual (matrix n rows) t o c = IsGreatestDual t c rows
 Means MinimalDual (matrix n rows) t o c = IsGreatestDual t (opposite_objective c) rows
 Means PlacingTriangulation (sets rows n) t o c = (n ≡ length o.rays) × AreSimplices t o.rays rows
+Means Sites (matrix n rows) t o c = RowsAreInOrder t SameDirection t.sites rows
+Means SiteHeights (matrix n rows) t o c = rows ≡ t.heights ∷ []
+Means RegularCells (sets rows n) t o c = (n ≡ length t.sites) × AreCells t.cols t.sites t.heights rows
+Means DelaunayCells (sets rows n) t o c = (n ≡ length t.sites) × AreCells t.cols t.sites (squares t.sites) rows
 Means p v t o c = ⊥
 
 -- the value v of the property p is right: it means what is so, where it is shown the orders that it may speak of

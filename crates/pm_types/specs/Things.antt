@@ -2,6 +2,7 @@
 use Rattle.std.specs.Prelude.{ℕ, ◌≡◌, ◌<◌, ◌≤◌, List, [], length}
 use Rattle.pm_vector.specs.Numbers.{Ratio}
 use Rattle.pm_vector.specs.Rows.{Row, ratio_at}
+use Rattle.pm_geom.specs.Cells.{AreSites}
 use Rattle.pm_geom.specs.Things.{IsConeThing, IsPolytopeThing, IsFanThing, Orders, AreConeOrders, AreFanOrders}
 use Rattle.pm_object_type.specs.declared.object_type.ObjectType.{ObjectType}
 use Rattle.pm_object_type.specs.declared.object_type.ObjectType.TheVariants.{Polytope, Cone, Fan}
@@ -9,7 +10,7 @@ use lib.IntN.{pos}
 use lib.Signed.{◌<ℤ◌}
 use Rattle.pm_limits.specs.Limits.{most_columns}
 
--- a type, n columns, and finite lists of rows: generators and lines of a cone or polytope, lines and one list of generators for each cone of a fan; and for each program at a place its objective, a row of fractions
+-- a type, n columns, and finite lists of rows: generators and lines of a cone or polytope, lines and one list of generators for each cone of a fan; for each program at a place its objective, a row of fractions; and sites with their heights, of which only values of polytopes speak
 pub record Thing : Type 0 where
   pub of : ObjectType
   pub cols : ℕ
@@ -17,11 +18,18 @@ pub record Thing : Type 0 where
   pub lines : List Row
   pub cones : List (List Row)
   pub objective : ℕ → List Ratio
+  pub sites : List Row
+  pub heights : List Ratio
 
 -- each objective is a row of n fractions
 pub record AreObjectives (n : ℕ) (objective : ℕ → List Ratio) : Type 0 where
   pub cols : (s : ℕ) → length (objective s) ≡ n
   pub denominators : (s i : ℕ) → i < n → pos 0 <ℤ (ratio_at (objective s) i).den
+
+-- the rows Q are sites, and W has exactly one height for each
+pub record AreSitesWithHeights (n : ℕ) (Q : List Row) (W : List Ratio) : Type 0 where
+  pub each : AreSites n Q W
+  pub as_many : length W ≡ length Q
 
 -- the lists describe a thing of that type
 abbrev pub IsOfType : ObjectType → ℕ → List Row → List Row → List (List Row) → Type 0
@@ -35,6 +43,7 @@ pub record IsThing (t : Thing) : Type 0 where
   pub few_cols : t.cols ≤ most_columns
   pub kind : IsOfType t.of t.cols t.generators t.lines t.cones
   pub programs : AreObjectives t.cols t.objective
+  pub sites : AreSitesWithHeights t.cols t.sites t.heights
 
 abbrev pub AreOrdersOf : ObjectType → ℕ → List Row → List Row → List (List Row) → Orders → Type 0
 AreOrdersOf Polytope n G L Gs o = AreConeOrders n G L o

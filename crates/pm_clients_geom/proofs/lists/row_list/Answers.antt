@@ -1,5 +1,6 @@
-use Rattle.pm_clients_geom.proofs.RowLists.{few_first, few_listed, few_second, first_of_matrices, list_cols, second_of_matrices}
+use Rattle.pm_clients_geom.proofs.RowLists.{few_first, few_listed, few_second, first_of_matrices, first_primitive, list_cols, second_of_matrices, second_primitive}
 use Rattle.pm_clients_geom.proofs.lists.row_list.Goals as goal
+use Rattle.pm_types.specs.Values.{matrix}
 use Rattle.std.proofs.Common.{append-nil}
 
 pub matrix_of-requires-clause-matrix : goal.matrix_of-requires-clause-matrix
@@ -46,3 +47,9 @@ returns-clause-few c =
     (few_second c.args.view.now.of c.args.view.now.cols c.matrix_of-2.result.now.cols c.matrix_of-2.result.now.rows
     c.args.first c.args.second c.requires.parts c.matrix_of-2.ensures.forms)
     c.in_ok-rows.ensures.rows c.in_ok-more.ensures.rows c.in_ok-append.ensures.items
+
+pub primitive_rows-requires-clause-stay : goal.primitive_rows-requires-clause-stay
+primitive_rows-requires-clause-stay c = first_primitive c.args.first c.args.second (matrix c.matrix_of.result.now.cols c.matrix_of.result.now.rows) c.requires.parts c.matrix_of.ensures.forms.primitive
+
+pub primitive_rows-requires-2-clause-stay : goal.primitive_rows-requires-2-clause-stay
+primitive_rows-requires-2-clause-stay c = second_primitive c.args.first c.args.second (matrix c.matrix_of-2.result.now.cols c.matrix_of-2.result.now.rows) c.requires.parts c.matrix_of-2.ensures.forms.primitive

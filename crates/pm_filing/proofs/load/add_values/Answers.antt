@@ -1,6 +1,6 @@
 -- The next value suits the column count that those suit that are held.
 use Rattle.std.proofs.Common.{ap, sym, ◌++◌, ◌∙◌}
-use Rattle.pm_filing.proofs.Fitting.{next_fits, next_is_new, next_of_table}
+use Rattle.pm_filing.proofs.Fitting.{next_agrees, next_fits, next_is_new, next_of_table}
 use Rattle.pm_object.specs.State.{State}
 use Rattle.std.specs.Vec.Iter.{into_iter_items}
 use Rattle.pm_filing.proofs.load.add_values.Goals as goal
@@ -16,5 +16,6 @@ add_value-requires c =
     record {
       suits = rw of (c.requires.suit.0, fits.0, fits.1);
       missing = next_is_new c.args.stored c.args.values.items c.loop-p.yielded (into_iter_items c.next.new.self) (c.in-Some.p, c.in-Some.v) c.loop-p.object.state.held c.requires.once whole held;
+      sites = next_agrees c.args.stored c.args.values.items c.loop-p.yielded (into_iter_items c.next.new.self) (c.in-Some.p, c.in-Some.v) c.loop-p.object.state.held c.requires.sites whole held;
       table = rw of (next_of_table c.args.object.now.state.of c.args.values.items c.loop-p.yielded (into_iter_items c.next.new.self) (c.in-Some.p, c.in-Some.v) c.requires.table whole);
     }

@@ -14,6 +14,9 @@ use Rattle.pm_filing.proofs.load.load_file.Goals.{In_ok-mark_rules}
 pub add_values-requires-clause-suit : goal.add_values-requires-clause-suit
 add_values-requires-clause-suit c = rw c.new-object.ensures (own_suit (file_of c.args.file) c.requires.whole)
 
+pub add_values-requires-clause-sites : goal.add_values-requires-clause-sites
+add_values-requires-clause-sites c = c.requires.whole.sites
+
 -- what the object holds before its programs
 marked : (c : In_ok-mark_rules) → c.mark_rules.new.object.state ≡ record (empty_object c.args.file.of) { held = map (loaded_value c.args.file.stored) (map value_seen c.args.file.values.items); excluded = flat_map (mark_read c.args.book.now None) (marks_seen c.args.file.failed.items) }
 marked c =

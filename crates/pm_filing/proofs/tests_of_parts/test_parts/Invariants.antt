@@ -7,5 +7,5 @@ use Rattle.pm_filing.proofs.tests_of_parts.test_parts.Given as goal
 
 abbrev pub invariant-loop-part : goal.invariant-loop-part
 invariant-loop-part l =
-    Left l.of None (named_values l.of (map part_seen l.parts)) l.cols (named_values l.of (map part_seen (drop l.part-index l.parts)))
+    Left l.of (named_values l.of (map part_seen l.tied)) None (named_values l.of (map part_seen l.parts)) l.cols (named_values l.of (map part_seen (drop l.part-index l.parts)))
     × (are_formed_parts (map part_seen (drop l.part-index l.parts)) ≡ true)

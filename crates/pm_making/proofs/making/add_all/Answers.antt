@@ -12,4 +12,4 @@ add_given-requires c =
     let of = ap (λ (z : State). z.of) i.3 in
     let may = next_may c.args.object.now.state.of c.args.values.items c.loop-p.yielded (into_iter_items c.next.new.self) c.in-Some.p c.in-Some.v c.loop-p.object.state.held c.requires.fitting whole (ap (λ (z : State). z.held) i.3) in
     let so = may_of c.loop-p.object.state c.args.object.now.state.of c.in-Some.p _ of may in
-    record { formed = so.forms.formed; missing = so.missing; table = so.table; columns = so.columns; rows = so.forms.rows; primitive = so.forms.primitive }
+    record { formed = so.forms.formed; missing = so.missing; table = so.table; columns = so.columns; rows = so.forms.rows; primitive = so.forms.primitive; sites = so.sites }

@@ -1,5 +1,5 @@
 -- The object with a computed value more: all its values have their forms, and the push had room.
-use Rattle.std.proofs.Common.{false, refl, rules, subst, sym, ◌++◌, ◌∷◌, ◌≡◌, []}
+use Rattle.std.proofs.Common.{false, refl, rules, subst, sym, true≢false, ◌++◌, ◌∷◌, ◌≡◌, []}
 use Rattle.std.specs.Prelude.{length, map}
 use Rattle.pm_object.proofs.Formed.{IsNew, formed_pushed, map_push, new_where_read}
 use Rattle.pm_object.specs.Formed.{IsBacked, IsFormedIn, stands_at}
@@ -27,6 +27,7 @@ invariant_of-self c =
     formed_pushed _ held_seen c.self.inside.held.items c.push.new.self.items (made c) refl (pushed c) c.self.invariant (new c)
     (subst (λ (z : ObjectSeen). IsBacked c.args.p z.state.held) (sym c.self.view_is) c.requires.backed)
     (rw c.place.ensures (subst (λ (z : ObjectSeen). IsFormedIn z.state.of (cols_of z.state.held) (length z.state.programs) (computed_at c.args.sub c.args.p (view_of c.args.v))) (sym c.self.view_is) c.requires.formed))
+    (λ e. absurd (true≢false (sym e)))
 
 pub returns-clause-added : goal.returns-clause-added
 returns-clause-added c =

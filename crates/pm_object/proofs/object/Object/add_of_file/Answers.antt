@@ -1,10 +1,10 @@
 -- The object with a value of a file more: all its values have their forms.
 use Rattle.std.specs.Prelude.{length, map}
-use Rattle.std.proofs.Common.{None, false, refl, rules, subst, sym, ◌++◌, ◌∷◌, ◌≡◌, []}
+use Rattle.std.proofs.Common.{None, false, refl, rules, subst, sym, ◌++◌, ◌∷◌, ◌≡◌, [], true}
 use Rattle.pm_object.proofs.Formed.{IsNew, formed_pushed, map_push, new_in_object}
 use Rattle.pm_object.proofs.Given.{given_backed, own_only}
 use Rattle.pm_object.specs.Formed.{IsFormedIn, stands_at}
-use Rattle.pm_object.specs.State.{ObjectSeen, cols_of, file_value}
+use Rattle.pm_object.specs.State.{ObjectSeen, cols_of, file_value, sites_agree}
 use Rattle.pm_object.specs.Views.{held_seen}
 use Rattle.pm_object.specs.declared.held.Held.{Held}
 use Rattle.pm_types.specs.Views.{view_of}
@@ -27,6 +27,7 @@ pub invariant_of-self-2 : goal.invariant_of-self-2
 invariant_of-self-2 c =
     formed_pushed _ held_seen c.self.inside.held.items c.push.new.self.items (made c) refl (pushed c) c.self.invariant (new c) (given_backed c.args.self.now.state.of None c.args.p (map held_seen c.self.inside.held.items) c.requires.table)
     (subst (λ (z : ObjectSeen). IsFormedIn z.state.of (cols_of z.state.held) (length z.state.programs) (file_value c.args.origin c.args.p (view_of c.args.v))) (sym c.self.view_is) (fits c))
+    (λ e. subst (λ (z : ObjectSeen). sites_agree z.state.held c.args.p (view_of c.args.v) ≡ true) (sym c.self.view_is) (c.requires.sites e))
 
 pub returns-clause-ok : goal.returns-clause-ok
 returns-clause-ok c =

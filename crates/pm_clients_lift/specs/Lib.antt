@@ -1,0 +1,3 @@
+pub mod Works
+pub mod LiftedSites
+pub mod Laws

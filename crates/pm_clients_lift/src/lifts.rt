@@ -1,0 +1,175 @@
+// The clients that lift sites: the cells of the regular subdivision that heights induce, and Delaunay cells.
+
+ghost use Rattle.pm_client.specs.Sound.{FailsRightly, IsSound, ReadsHeights};
+ghost use Rattle.pm_client.specs.declared.ClientFail.TheVariants.{Memory};
+ghost use Rattle.pm_clients_lift.specs.LiftedSites.{AreCellsPut, AreDelaunayPut, AreReadSites, LiftsSites, RaisesSites, fail_of_lift};
+ghost use Rattle.pm_matrix.specs.Matrices.{IsFraction};
+ghost use Rattle.pm_object.specs.Reading.{IsView};
+ghost use Rattle.pm_props.specs.Sets.{has};
+ghost use Rattle.pm_props.specs.declared.property.PropId.TheVariants as property;
+ghost use Rattle.pm_standard.specs.Table.{standard_kind};
+ghost use Rattle.pm_standard.specs.declared.standard.StandardClient.TheVariants as client;
+ghost use Rattle.std.specs.Prelude.{All, IfErr, IfOk, IsTrue, OnOk, [], length, map, ◌∷◌, ◌≡◌, ◌≤◌};
+ghost use Rattle.pm_limits.specs.Limits.{most_rows};
+
+use pm_client::{ClientFail, matrix_of, primitive_rows, put_value};
+use pm_family::{Family, FamilyClient};
+use pm_fraction::Fraction;
+use pm_lift::LiftFail;
+use pm_object::{Draft, View};
+use pm_standard::StandardClient;
+use pm_types::{PropId, Sets, Value};
+use pm_vector::Ints;
+use std::alloc::Global;
+
+/// The works of the clients that lift sites.
+#[derive(Clone, Copy, Debug, PartialEq, Eq)]
+pub enum LiftWork {
+    RegularCells,
+    Delaunay,
+}
+
+impl LiftWork {
+    ghost use Rattle.pm_clients_lift.specs.Works.{lift_client};
+
+    /// All of them, in the order of the standard book.
+    pub fn every() -> [LiftWork; 2]
+        ensures { map lift_client result ≡ client.RegularCells ∷ client.Delaunay ∷ [] }
+    {
+        [Self::RegularCells, Self::Delaunay]
+    }
+}
+
+/// The standard clients that lift sites.
+#[derive(Debug, Drop)]
+pub struct LiftFamily;
+
+/// A client that lifts sites (Ziegler, Lectures on Polytopes, section 5.1). It fails for want of memory, where a step
+/// leaves the range, and where a cone on the way has too many facets.
+pub type LiftClient = FamilyClient<LiftFamily>;
+
+impl Family for LiftFamily {
+    ghost use Rattle.pm_client.specs.Sound.{FailsRightly};
+    ghost use Rattle.pm_clients_lift.specs.Works.{lift_client};
+
+    type Work = LiftWork;
+
+    ghost client_of = { lift_client };
+
+    ghost Stays = { λ _ _ _. Unit {0} };
+
+    ghost Fails = { λ _ v e. FailsRightly v e };
+
+    fn client(work: LiftWork) -> StandardClient {
+        match work {
+            LiftWork::RegularCells => StandardClient::RegularCells,
+            LiftWork::Delaunay => StandardClient::Delaunay,
+        }
+    }
+
+    fn answer(
+        work: LiftWork,
+        alloc: Global,
+        view: &View,
+        draft: &mut Draft,
+    ) -> Result<(), ClientFail> {
+        match work {
+            LiftWork::RegularCells => put_regular_cells(alloc, view, draft),
+            LiftWork::Delaunay => put_delaunay_cells(alloc, view, draft),
+        }
+    }
+}
+
+// The failure of a client whose cells were refused.
+fn client_fail(fail: LiftFail) -> ClientFail
+    ensures { result ≡ fail_of_lift fail }
+{
+    match fail {
+        LiftFail::Wide(evidence) => ClientFail::Failed(evidence),
+        LiftFail::Many(evidence) => ClientFail::Failed(evidence),
+        LiftFail::Memory => ClientFail::Memory,
+    }
+}
+
+// The sites that the view reads, as primitive whole rows. Want of memory alone ends it.
+fn read_sites(alloc: Global, view: &View) -> Result<Vec<Ints>, ClientFail>
+    requires { IsTrue (has view.now.kind.sources property.Sites) }
+    ensures read { IfOk result (λ s. AreReadSites view.now s.items) }
+    ensures failed { IfErr result (λ e. e ≡ Memory) }
+{
+    let sites = primitive_rows(alloc, matrix_of(view, PropId::Sites))?;
+    Ok(sites)
+}
+
+// The heights that the view reads.
+fn read_heights<'b>(view: &'b View<'_>) -> &'b [Fraction]
+    requires { IsTrue (has view.now.kind.sources property.SiteHeights) }
+    ensures read { ReadsHeights view.now result.now }
+    ensures fractions { All IsFraction result.now }
+{
+    matrix_of(view, PropId::SiteHeights).row(0)
+}
+
+// The cells as sets of places of sites.
+fn as_sets(cells: Vec<Vec<u32>>, sites: &[Ints]) -> Sets
+    requires { length sites.now ≤ most_rows }
+    ensures { result ≡ record { rows = map (λ s. s.items) cells.items; cols = length sites.now } }
+{
+    Sets::from_vec(cells, sites.len() as u32)
+}
+
+// The cells of the sites with their heights; none where there are more or fewer heights than sites, as no thing has.
+fn regular_cells(alloc: Global, view: &View) -> Result<Sets, ClientFail>
+    requires { LiftsSites view.now.kind }
+    ensures cells { IfOk result (AreCellsPut view.now) }
+    ensures failed { IfErr result (FailsRightly view.now) }
+{
+    let heights = read_heights(view);
+    let sites = read_sites(alloc, view)?;
+    if heights.len() != sites.len() {
+        return Ok(Sets::from_vec(Vec::new(alloc), 0));
+    }
+    match pm_lift::regular_cells(alloc, view.cols(), &sites, heights) {
+        Ok(cells) => Ok(as_sets(cells, &sites)),
+        Err(fail) => Err(client_fail(fail)),
+    }
+}
+
+// The Delaunay cells of the sites.
+fn delaunay_cells(alloc: Global, view: &View) -> Result<Sets, ClientFail>
+    requires { RaisesSites view.now.kind }
+    ensures cells { IfOk result (AreDelaunayPut view.now) }
+    ensures failed { IfErr result (FailsRightly view.now) }
+{
+    let sites = read_sites(alloc, view)?;
+    match pm_lift::delaunay_cells(alloc, view.cols(), &sites) {
+        Ok(cells) => Ok(as_sets(cells, &sites)),
+        Err(fail) => Err(client_fail(fail)),
+    }
+}
+
+// REGULAR_CELLS of SITES with SITE_HEIGHTS.
+fn put_regular_cells(alloc: Global, view: &View, draft: &mut Draft) -> Result<(), ClientFail>
+    requires kind { view.now.kind ≡ standard_kind client.RegularCells }
+    requires empty { draft.old ≡ record { kind = view.now.kind; values = [] } }
+    ensures draft { draft.new.kind ≡ draft.old.kind }
+    ensures sound { OnOk result (IsSound view.now draft.new) }
+    ensures failed { IfErr result (FailsRightly view.now) }
+{
+    let cells = regular_cells(alloc, view)?;
+    put_value(draft, PropId::RegularCells, Value::Sets(cells))?;
+    Ok(())
+}
+
+// DELAUNAY_CELLS of SITES.
+fn put_delaunay_cells(alloc: Global, view: &View, draft: &mut Draft) -> Result<(), ClientFail>
+    requires kind { view.now.kind ≡ standard_kind client.Delaunay }
+    requires empty { draft.old ≡ record { kind = view.now.kind; values = [] } }
+    ensures draft { draft.new.kind ≡ draft.old.kind }
+    ensures sound { OnOk result (IsSound view.now draft.new) }
+    ensures failed { IfErr result (FailsRightly view.now) }
+{
+    let cells = delaunay_cells(alloc, view)?;
+    put_value(draft, PropId::DelaunayCells, Value::Sets(cells))?;
+    Ok(())
+}
