@@ -37,9 +37,9 @@ use Rattle.pm_geom.specs.Cones.{CutOut}
 use Rattle.pm_geom.specs.FaceCounts.{IsLexBefore}
 use Rattle.pm_geom.specs.Generators.{AreGenerators}
 use Rattle.pm_geom.specs.Graphs.{IsAscending}
-use Rattle.pm_hull.proofs.HullLaws.{facets_of, list_generators}
-use Rattle.pm_hull.specs.HullRefusals.{IsDoubleList}
-use Rattle.pm_hull.specs.Hulls.{AreFacets}
+use Rattle.pm_dd.proofs.HullLaws.{facets_of, list_generators}
+use Rattle.pm_dd.specs.HullRefusals.{IsDoubleList}
+use Rattle.pm_dd.specs.Hulls.{AreFacets}
 use Rattle.pm_laws_placing.proofs.Places.{length_stated}
 use Rattle.pm_laws_placing.specs.PlacedCells.{AreCrowdedCells, HaveSameSets, IsPlacingTriangulation}
 use Rattle.pm_laws_placing.specs.Placing.{places_marked, stated_places}

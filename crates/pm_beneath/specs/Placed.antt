@@ -7,7 +7,7 @@ use Rattle.pm_dd.specs.declared.fails.DdFail.{DdFail}
 use Rattle.pm_dd.specs.declared.fails.DdFail.TheVariants.{Many as DdMany, Memory as DdMemory, Wide as DdWide}
 use Rattle.pm_geom.specs.declared.evidence.Evidence.{Evidence}
 use Rattle.pm_geom.specs.declared.evidence.Evidence.TheVariants.{E5Cells}
-use Rattle.pm_hull.specs.HullRefusals.{IsShownOnParts}
+use Rattle.pm_dd.specs.HullRefusals.{IsShownOnParts}
 use Rattle.pm_laws_placing.specs.PlacedCells.{AreCrowdedCells, IsPlacingTriangulation}
 use Rattle.pm_geom.specs.Triangulations.{IsTriangulation}
 

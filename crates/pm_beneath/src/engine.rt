@@ -2,7 +2,7 @@
 
 ghost use Rattle.pm_vector.specs.Rows.{HasCols};
 ghost use Rattle.pm_beneath.specs.Placed.{IsShownPlace};
-ghost use Rattle.pm_hull.specs.Hulls.{AreFacets};
+ghost use Rattle.pm_dd.specs.Hulls.{AreFacets};
 ghost use Rattle.pm_geom.specs.Triangulations.{IsTriangulation};
 ghost use Rattle.pm_laws_placing.specs.PlacedCells.{IsPlacingTriangulation};
 ghost use Rattle.std.specs.Prelude.{IfErr, IfOk, length, map, ◌<◌, ◌^◌, ◌≤◌};

@@ -89,7 +89,7 @@ pub(crate) fn next_front(
 {
     let values = front_products(alloc, cols, equations, rows, start, front, rays)?;
     let made = next_cells(alloc, cells, &values, &rays.zeros, front as u32)?;
-    let next = rays_after(alloc, cols, equations, rows, start, front, rays)?;
+    let next = rays_after(alloc, cols, equations, rows, start, front, rays, false)?;
     Ok(Front {
         rays: next,
         cells: made,

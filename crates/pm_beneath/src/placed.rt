@@ -8,7 +8,7 @@ ghost use Rattle.pm_dd.specs.Arrangement.{IsArrangement};
 ghost use Rattle.pm_geom.specs.Cones.{CutOut};
 ghost use Rattle.pm_geom.specs.Generators.{AreGenerators};
 ghost use Rattle.pm_geom.specs.Graphs.{IsAscending};
-ghost use Rattle.pm_hull.specs.Hulls.{AreFacets};
+ghost use Rattle.pm_dd.specs.Hulls.{AreFacets};
 ghost use Rattle.std.specs.Prelude.{All, IfErr, IfOk, length, map, ◌<◌, ◌^◌, ◌≤◌};
 ghost use Rattle.pm_limits.specs.Limits.{most_rows};
 

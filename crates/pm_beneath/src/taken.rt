@@ -9,8 +9,8 @@ ghost use Rattle.pm_geom.specs.Triangulations.{rows_at};
 ghost use Rattle.std.specs.Prelude.{All, IfErr, IfOk, List, length, true, ◌++◌, ◌<◌, ◌^◌, ◌≡◌, ℕ};
 
 use crate::fails::PlaceFail;
+use pm_dd::{add_copies, both_ways};
 use pm_elim::{ElimFail, echelon, enlarging};
-use pm_hull::{add_copies, both_ways};
 use pm_vector::Ints;
 use std::alloc::{AllocError, Global};
 

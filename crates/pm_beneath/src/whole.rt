@@ -62,7 +62,7 @@ pub(crate) fn all_fronts(
 {
     let independent = first_rows(alloc, equations, rows, start)?;
     let hull = hull_of(alloc, &independent, cols)?;
-    let first = start_rays(alloc, cols, equations, rows, start, &independent)?;
+    let first = start_rays(alloc, cols, equations, rows, start, &independent, false)?;
     let all = all_cells(alloc, cols, equations, rows, start, first)?;
     let cells = all.cells;
     let rays = all.rays;

@@ -23,3 +23,4 @@ pub mod Outcomes
 pub mod LeadingLaws
 pub mod ZeroRows
 pub mod Examples
+pub mod HullLaws

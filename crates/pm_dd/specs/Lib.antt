@@ -11,3 +11,5 @@ pub mod Arrangement
 pub mod Tame
 pub mod Mixed
 pub mod Examples
+pub mod Hulls
+pub mod HullRefusals

@@ -9,29 +9,34 @@ ghost use Rattle.pm_geom.specs.Generators.{AreGenerators};
 ghost use Rattle.std.specs.Prelude.{IfErr, IfOk, List, length, ◌<◌, ◌^◌, ◌≤◌, ℕ};
 ghost use Rattle.pm_limits.specs.Limits.{most_rows};
 
+use crate::eliminations::null_rows_of;
 use crate::fails::DdFail;
 use crate::first::{first_rows, start_rays};
 use crate::mixed::mixed_order;
 use crate::order::arranged;
 use crate::run::all_rays;
-use pm_elim::null_space;
 use pm_geom::descriptions::Generators;
 use pm_vector::Ints;
 use std::alloc::Global;
 
 /// The echelon basis of the null space of the rows that enlarge the span.
-fn lineality_of(alloc: Global, independent: &[Ints], cols: usize) -> Result<Vec<Ints>, DdFail>
+fn lineality_of(
+    alloc: Global,
+    independent: &[Ints],
+    cols: usize,
+    wide: bool,
+) -> Result<Vec<Ints>, DdFail>
     requires columns { HasCols cols independent.now }
     requires few_rows { length independent.now < 2 ^ 30 }
     requires few_columns { cols < 2 ^ 30 }
     ensures null { IfOk result (λ v. (P : List ℕ) × IsNullBasis cols independent.now v.items P) }
     ensures wide { IfErr result (IsEliminationFail cols independent.now) }
 {
-    Ok(null_space(alloc, independent, cols)?)
+    Ok(null_rows_of(alloc, independent, cols, wide)?)
 }
 
 /// All extreme rays of the cone that the rows cut out, and the echelon basis of its lineality, by the stated order.
-fn stated_rays(alloc: Global, rows: &[Ints], cols: usize) -> Result<Generators, DdFail>
+fn stated_rays(alloc: Global, rows: &[Ints], cols: usize, wide: bool) -> Result<Generators, DdFail>
     requires columns { HasCols cols rows.now }
     requires few_rows { length rows.now < 2 ^ 30 }
     requires few_columns { cols < 2 ^ 30 }
@@ -39,9 +44,9 @@ fn stated_rays(alloc: Global, rows: &[Ints], cols: usize) -> Result<Generators, 
     ensures few { IfOk result (λ g. length g.rays.items ≤ most_rows) }
     ensures shown { IfErr result (λ f. IsShown cols rows.now f) }
 {
-    let order = arranged(alloc, rows, cols)?;
+    let order = arranged(alloc, rows, cols, wide)?;
     let independent = first_rows(alloc, &order.equations, &order.rows, order.start)?;
-    let lineality = lineality_of(alloc, &independent, cols)?;
+    let lineality = lineality_of(alloc, &independent, cols, wide)?;
     let first = start_rays(
         alloc,
         cols,
@@ -49,6 +54,7 @@ fn stated_rays(alloc: Global, rows: &[Ints], cols: usize) -> Result<Generators, 
         &order.rows,
         order.start,
         &independent,
+        wide,
     )?;
     let all = all_rays(
         alloc,
@@ -57,10 +63,34 @@ fn stated_rays(alloc: Global, rows: &[Ints], cols: usize) -> Result<Generators, 
         &order.rows,
         order.start,
         first,
+        wide,
     )?;
     let mut rays = all.rows;
     rays.sort()?;
     Ok(Generators { rays, lineality })
+}
+
+/// The same, by the mixed order, and where that does not suffice by the stated one.
+pub(crate) fn rays_of(
+    alloc: Global,
+    rows: &[Ints],
+    cols: usize,
+    wide: bool,
+) -> Result<Generators, DdFail>
+    requires columns { HasCols cols rows.now }
+    requires few_rows { length rows.now < 2 ^ 30 }
+    requires few_columns { cols < 2 ^ 30 }
+    ensures generators { IfOk result (λ g. AreGenerators cols (CutOut rows.now) g.rays.items g.lineality.items) }
+    ensures few { IfOk result (λ g. length g.rays.items ≤ most_rows) }
+    ensures shown { IfErr result (λ f. IsShown cols rows.now f) }
+    ensures tame { AreTame cols rows.now → IfErr result IsMemory }
+{
+    let mixed = mixed_order(alloc, rows)?;
+    match stated_rays(alloc, &mixed, cols, wide) {
+        Ok(found) => Ok(found),
+        Err(DdFail::Memory) => Err(DdFail::Memory),
+        Err(_) => stated_rays(alloc, rows, cols, wide),
+    }
 }
 
 /// All extreme rays of the cone of the rows with `cols` entries that have a non-negative product with each of `rows`, and the echelon basis of its lineality.
@@ -76,10 +106,20 @@ pub fn extreme_rays(alloc: Global, rows: &[Ints], cols: usize) -> Result<Generat
     ensures shown { IfErr result (λ f. IsShown cols rows.now f) }
     ensures tame { AreTame cols rows.now → IfErr result IsMemory }
 {
-    let mixed = mixed_order(alloc, rows)?;
-    match stated_rays(alloc, &mixed, cols) {
-        Ok(found) => Ok(found),
-        Err(DdFail::Memory) => Err(DdFail::Memory),
-        Err(_) => stated_rays(alloc, rows, cols),
-    }
+    rays_of(alloc, rows, cols, false)
+}
+
+/// The same by wide numbers on the way: a step that leaves the range is worked in them, so that no row is refused whose
+/// entries are in the range, but only a product of two rows that is not.
+/// A refusal is that of a step by numbers of the range alone, with its evidence.
+pub fn wide_extreme_rays(alloc: Global, rows: &[Ints], cols: usize) -> Result<Generators, DdFail>
+    requires columns { HasCols cols rows.now }
+    requires few_rows { length rows.now < 2 ^ 30 }
+    requires few_columns { cols < 2 ^ 30 }
+    ensures generators { IfOk result (λ g. AreGenerators cols (CutOut rows.now) g.rays.items g.lineality.items) }
+    ensures few { IfOk result (λ g. length g.rays.items ≤ most_rows) }
+    ensures shown { IfErr result (λ f. IsShown cols rows.now f) }
+    ensures tame { AreTame cols rows.now → IfErr result IsMemory }
+{
+    rays_of(alloc, rows, cols, true)
 }

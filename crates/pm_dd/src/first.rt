@@ -10,10 +10,11 @@ ghost use Rattle.pm_elim.specs.Duals.{IfDependent, IfDualWide};
 ghost use Rattle.pm_elim.specs.Evidence.{IsEvidence};
 ghost use Rattle.std.specs.Prelude.{IfErr, IfOk, length, take, ◌++◌, ◌+◌, ◌<◌, ◌^◌, ◌≡◌, ◌≤◌};
 
+use crate::eliminations::duals_of;
 use crate::fails::DdFail;
 use crate::rays::Rays;
 use pm_bits::{BitRow, BitTable};
-use pm_elim::{DualFail, copies, dual_basis};
+use pm_elim::{DualFail, copies};
 use pm_geom::{Evidence, RowList};
 use pm_limits::MOST_ROWS;
 use pm_vector::Ints;
@@ -63,6 +64,7 @@ fn first_rays(
     rows: &[Ints],
     start: usize,
     independent: &[Ints],
+    wide: bool,
 ) -> Result<Rays, DualFail>
     requires cols { HasCols cols (equations.now ++ take start rows.now) }
     requires within { start ≤ length rows.now }
@@ -75,7 +77,7 @@ fn first_rays(
     ensures dependent { IfErr result (λ f. IfDependent f (¬ (IsIndependent (equations.now ++ take start rows.now)))) }
     ensures wide { IfErr result (λ f. IfDualWide f (λ e. IsEvidence cols (equations.now ++ take start rows.now) e)) }
 {
-    let duals = dual_basis(alloc, independent, cols)?;
+    let duals = duals_of(alloc, independent, cols, wide)?;
     let mut made = Vec::new(alloc);
     let mut zeros = BitTable::new(alloc, rows.len());
     for k in 0..start {
@@ -95,6 +97,7 @@ pub fn start_rays(
     rows: &[Ints],
     start: usize,
     independent: &[Ints],
+    wide: bool,
 ) -> Result<Rays, DdFail>
     requires cols { HasCols cols (equations.now ++ take start rows.now) }
     requires within { start ≤ length rows.now }
@@ -108,7 +111,7 @@ pub fn start_rays(
     ensures reduced { IfOk result (λ r. AreReduced cols (equations.now ++ take start rows.now) r.rows.items) }
     ensures shown { IfErr result (IsShownOnRows cols equations.now rows.now start) }
 {
-    let rays = match first_rays(alloc, cols, equations, rows, start, independent) {
+    let rays = match first_rays(alloc, cols, equations, rows, start, independent, wide) {
         Ok(rays) => rays,
         Err(DualFail::Dependent) => unreachable!(),
         Err(DualFail::Wide(step)) => return Err(DdFail::Wide(Evidence::E1(step))),

@@ -1,4 +1,4 @@
-//! Double description: the extreme rays of the cone that rows cut out (Ziegler, Lectures on Polytopes, section 1.3; Motzkin and others, The double description method).
+//! Double description: the extreme rays of the cone that rows cut out (Ziegler, Lectures on Polytopes, section 1.3; Motzkin and others, The double description method). By it generators from half-spaces, and facets from generators.
 #![tactic(auto)]
 
 ghost use Rattle.pm_dd.specs.Description.{DualIsOrder, ExtremeIsMaximal, NextIsOrder, StepIsComplete};
@@ -11,21 +11,26 @@ ghost use Rattle.pm_vector.specs.Rows.{Row};
 ghost use Rattle.std.specs.Prelude.{List, ℕ};
 
 mod combination;
+mod eliminations;
 mod extreme;
 mod fails;
 pub mod first;
+mod hull;
 mod leading;
 mod mixed;
 mod near;
 mod order;
 mod pairs;
+mod parts;
 pub mod rays;
 pub mod run;
 pub mod step;
 
-pub use extreme::extreme_rays;
+pub use extreme::{extreme_rays, wide_extreme_rays};
 pub use fails::{DdFail, StepFail};
-pub use pm_geom::descriptions::Generators;
+pub use hull::{facets_of, generators_of, to_facets, to_generators};
+pub use parts::{add_copies, both_ways};
+pub use pm_geom::descriptions::{Facets, Generators};
 
 /// One step of double description: the extreme rays of the next cone are the kept ones and the combinations of adjacent pairs, and no two are alike.
 pub fn law_step_is_complete()

@@ -1,9 +1,10 @@
 // An order of the rows that keeps the cones on the way small where the stated one often does not.
 
 ghost use Rattle.pm_dd.specs.Mixed.{HaveSameRows};
-ghost use Rattle.std.specs.Prelude.{IfOk, length, ◌++◌, ◌≡◌, ◌≤◌};
+ghost use Rattle.std.specs.Prelude.{IfOk, length, ◌≤◌};
 
 use crate::leading::leading_pairs;
+use crate::parts::add_copies;
 use pm_elim::copies;
 use pm_vector::Ints;
 use std::alloc::{AllocError, Global};
@@ -20,17 +21,6 @@ fn from_both_ends(alloc: Global, rows: &[Ints]) -> Result<Vec<Ints>, AllocError>
         if last > i {
             made.push(rows[last].copy(alloc)?)?;
         }
-    }
-    Ok(made)
-}
-
-/// Copies of rows, put behind others.
-fn add_copies(alloc: Global, rows: &[Ints], others: Vec<Ints>) -> Result<Vec<Ints>, AllocError>
-    ensures { IfOk result (λ v. v.items ≡ others.items ++ rows.now) }
-{
-    let mut made = others;
-    for row in rows {
-        made.push(row.copy(alloc)?)?;
     }
     Ok(made)
 }

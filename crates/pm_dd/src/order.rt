@@ -6,9 +6,9 @@ ghost use Rattle.pm_dd.specs.Refusals.{IsShown};
 ghost use Rattle.pm_geom.specs.StatedOrder.{rows_marked};
 ghost use Rattle.std.specs.Prelude.{IfErr, IfOk, [], length, ◌++◌, ◌<◌, ◌^◌, ◌≡◌, ◌≤◌};
 
+use crate::eliminations::marks_of;
 use crate::fails::DdFail;
 use crate::leading::{leading_equations, leading_pairs};
-use pm_elim::enlarging;
 use pm_vector::Ints;
 use std::alloc::{AllocError, Global};
 
@@ -41,7 +41,12 @@ fn add_marked(
 }
 
 /// The rows in the stated order: first those that enlarge the span of those before them. Rows that lead with their opposites are taken as equations.
-pub(crate) fn arranged(alloc: Global, rows: &[Ints], cols: usize) -> Result<Arrangement, DdFail>
+pub(crate) fn arranged(
+    alloc: Global,
+    rows: &[Ints],
+    cols: usize,
+    wide: bool,
+) -> Result<Arrangement, DdFail>
     requires columns { HasCols cols rows.now }
     requires few_rows { length rows.now < 2 ^ 30 }
     requires few_columns { cols < 2 ^ 30 }
@@ -50,7 +55,7 @@ pub(crate) fn arranged(alloc: Global, rows: &[Ints], cols: usize) -> Result<Arra
     ensures few_rows { IfOk result (λ a. length a.rows.items < 2 ^ 30) }
     ensures shown { IfErr result (λ f. IsShown cols rows.now f) }
 {
-    let marks = enlarging(alloc, rows, cols)?;
+    let marks = marks_of(alloc, rows, cols, wide)?;
     let pairs = leading_pairs(alloc, rows)?;
     let equations = leading_equations(alloc, rows, &marks, pairs)?;
     let lead = 2 * equations.len();

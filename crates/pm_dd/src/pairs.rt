@@ -37,6 +37,7 @@ pub(crate) fn pair_ray(
     front: usize,
     need: usize,
     both: &mut BitRow,
+    wide: bool,
 ) -> Result<Option<Ray>, StepFail>
     requires first { i < length rays.now.rows.items }
     requires second { j < length rays.now.rows.items }
@@ -62,7 +63,14 @@ pub(crate) fn pair_ray(
     if rays.zeros.other_contains(both, i, j) {
         return Ok(None);
     }
-    let row = match combination_of(alloc, &rays.rows[i], values[i], &rays.rows[j], values[j]) {
+    let row = match combination_of(
+        alloc,
+        &rays.rows[i],
+        values[i],
+        &rays.rows[j],
+        values[j],
+        wide,
+    ) {
         Ok(row) => row,
         Err(CombinationFail::Column(column)) => return Err(StepFail::Pair {
             first: i,
@@ -88,6 +96,7 @@ pub(crate) fn paired_rays(
     rays: &Rays,
     values: &[i128],
     made: Rays,
+    wide: bool,
 ) -> Result<Rays, StepFail>
     requires equation_cols { HasCols cols equations.now }
     requires row_cols { HasCols cols rows.now }
@@ -121,7 +130,7 @@ pub(crate) fn paired_rays(
         }
         for k in 0..negatives.len() {
             let j = negatives[k];
-            let ray = match pair_ray(alloc, rays, i, j, values, front, need, &mut both)? {
+            let ray = match pair_ray(alloc, rays, i, j, values, front, need, &mut both, wide)? {
                 Some(ray) => ray,
                 None => continue,
             };

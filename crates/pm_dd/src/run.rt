@@ -95,6 +95,7 @@ pub fn rays_after(
     start: usize,
     front: usize,
     rays: &Rays,
+    wide: bool,
 ) -> Result<Rays, DdFail>
     requires equation_cols { HasCols cols equations.now }
     requires row_cols { HasCols cols rows.now }
@@ -116,7 +117,7 @@ pub fn rays_after(
     ensures shown { IfErr result (IsShownOnRows cols equations.now rows.now start) }
 {
     let rank = equations.len() + start;
-    match next_rays(alloc, cols, equations, rows, front, rank, rays) {
+    match next_rays(alloc, cols, equations, rows, front, rank, rays, wide) {
         Ok(next) => Ok(next),
         Err(fail) => Err(refusal_of(alloc, cols, equations, rows, start, front, &rays.rows, fail)),
     }
@@ -130,6 +131,7 @@ pub(crate) fn all_rays(
     rows: &[Ints],
     start: usize,
     first: Rays,
+    wide: bool,
 ) -> Result<Rays, DdFail>
     requires equation_cols { HasCols cols equations.now }
     requires row_cols { HasCols cols rows.now }
@@ -150,7 +152,7 @@ pub(crate) fn all_rays(
 {
     let mut rays = first;
     for front in start..rows.len() {
-        rays = rays_after(alloc, cols, equations, rows, start, front, &rays)?;
+        rays = rays_after(alloc, cols, equations, rows, start, front, &rays, wide)?;
     }
     Ok(rays)
 }

@@ -100,6 +100,7 @@ pub(crate) fn next_rays(
     front: usize,
     rank: usize,
     rays: &Rays,
+    wide: bool,
 ) -> Result<Rays, StepFail>
     requires equation_cols { HasCols cols equations.now }
     requires row_cols { HasCols cols rows.now }
@@ -118,6 +119,6 @@ pub(crate) fn next_rays(
     let values = products(alloc, &rows[front], &rays.rows)?;
     let kept = kept_rays(alloc, cols, equations, rows, front, rays, &values)?;
     paired_rays(
-        alloc, cols, equations, rows, front, rank, rays, &values, kept,
+        alloc, cols, equations, rows, front, rank, rays, &values, kept, wide,
     )
 }

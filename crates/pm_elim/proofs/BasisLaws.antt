@@ -32,7 +32,7 @@ pub round_by : (B : List Row) (P : List ℕ) (next part : Row) (by i : ℕ) → 
 round_by B P next part by i (inl w) = let l = w.within in omega arith
 round_by B P next part by i (inr w) = let l = w.wide.last in omega arith
 
-empty_basis : (n : ℕ) → IsEchelonBasis n [] []
+pub empty_basis : (n : ℕ) → IsEchelonBasis n [] []
 empty_basis n = record {
   basis = record { cols = tt; as_many = refl; positive = λ i l. absurd (omega arith); reduced = λ i j l m ne. absurd (omega arith); primitive = λ i l. absurd (omega arith) };
   ascending = λ i j l m. absurd (omega arith);

@@ -13,6 +13,7 @@ pub mod PrefixLaws
 pub mod DotLaws
 pub mod ExtendedLaws
 pub mod TailLaws
+pub mod SoFar
 pub mod NullLaws
 pub mod CountLaws
 pub mod SignLaws

@@ -18,7 +18,11 @@ use pm_vector::{Ints, negate};
 use std::alloc::{AllocError, Global};
 
 /// Copies of all rows but the one at a place.
-fn copies_without(alloc: Global, rows: &[Ints], j: usize) -> Result<Vec<Ints>, AllocError>
+pub(crate) fn copies_without(
+    alloc: Global,
+    rows: &[Ints],
+    j: usize,
+) -> Result<Vec<Ints>, AllocError>
     requires { j < length rows.now }
     ensures { IfOk result (λ v. v.items ≡ remove rows.now j) }
 {
@@ -28,7 +32,7 @@ fn copies_without(alloc: Global, rows: &[Ints], j: usize) -> Result<Vec<Ints>, A
 }
 
 /// The first place of a column that is not among the old ones.
-fn new_place(columns: &[usize], old: &[usize]) -> Option<usize>
+pub(crate) fn new_place(columns: &[usize], old: &[usize]) -> Option<usize>
     ensures within { IfSome result (λ i. i < length columns.now) }
     ensures new { IfSome result (λ i. ¬ (Contains old.now (column columns.now i))) }
     ensures none { IfNone result ((i : ℕ) → i < length columns.now → Contains old.now (column columns.now i)) }
@@ -57,7 +61,7 @@ fn null_without(alloc: Global, rows: &[Ints], cols: usize, j: usize) -> Result<G
 }
 
 /// A row or its opposite, whichever has no negative product with another row.
-fn oriented(x: Ints, row: &Ints) -> Ints
+pub(crate) fn oriented(x: Ints, row: &Ints) -> Ints
     requires { length row.now ≡ length x }
     ensures { ((result ≡ x) × ¬ (dot row.now x <ℤ pos 0)) ⊎ ((result ≡ opposite x) × (dot row.now x <ℤ pos 0)) }
 {

@@ -1,4 +1,4 @@
-//! Elimination of whole rows: echelon bases, ranks, null spaces and dual rows, each exact or with evidence that a step leaves the range.
+//! Elimination of whole rows: echelon bases, ranks, null spaces and dual rows, each exact or with evidence that a step leaves the range. By wide numbers on the way the same are found of more rows, or given up.
 #![tactic(auto)]
 
 mod basis;
@@ -18,6 +18,9 @@ mod round;
 mod rows;
 mod sign;
 mod step;
+mod wide_bases;
+mod wide_nulls;
+mod wide_rounds;
 
 pub use basis::Echelon;
 pub use duals::{dual_basis, law_dual_basis_is_unique};
@@ -28,3 +31,6 @@ pub use marks::enlarging;
 pub use modulo::reduce;
 pub use nulls::null_space;
 pub use rows::copies;
+pub use wide_bases::{wide_echelon, wide_enlarging, wide_rank};
+pub use wide_nulls::{wide_dual_basis, wide_null_space};
+pub use wide_rounds::WideFail;

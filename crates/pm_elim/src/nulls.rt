@@ -39,7 +39,7 @@ fn columns_from(alloc: Global, columns: &[usize], from: usize) -> Result<Vec<usi
 }
 
 /// The rows of a basis with pivots from a column on, and these pivots, without the columns before it.
-fn tails_of(alloc: Global, whole: &Growing, from: usize) -> Result<Growing, AllocError>
+pub(crate) fn tails_of(alloc: Global, whole: &Growing, from: usize) -> Result<Growing, AllocError>
     requires as_many { length whole.now.pivots.items ≡ length whole.now.rows.items }
     requires columns { All (λ r. from ≤ length r) whole.now.rows.items }
     ensures { IfOk result (λ v. AreTails from whole.now.rows.items whole.now.pivots.items v.rows.items v.pivots.items) }

@@ -16,7 +16,7 @@ pub(crate) fn is_zero_at(row: &Ints, i: usize) -> bool
 }
 
 /// The factors of the step of a row by a basis row.
-fn factors_at(row: &Ints, by: &Ints, pivot: usize) -> Factors
+pub(crate) fn factors_at(row: &Ints, by: &Ints, pivot: usize) -> Factors
     requires in_row { pivot < length row.now }
     requires in_basis_row { pivot < length by.now }
     requires positive { pos 0 <ℤ entry by.now pivot }

@@ -10,7 +10,7 @@ use Rattle.pm_geom.specs.Evidence.{IsWideProduct}
 use Rattle.pm_geom.specs.Faces.{ray}
 use Rattle.pm_geom.specs.Generators.{IsCanonicalRay}
 use Rattle.pm_geom.specs.declared.evidence.Evidence.TheVariants.{E1, E2, E4}
-use Rattle.pm_hull.specs.HullRefusals.{IsShownOnParts}
+use Rattle.pm_dd.specs.HullRefusals.{IsShownOnParts}
 use Rattle.pm_lift.specs.Lifting.{AreLiftedRows, AreRaisedRows, upwards}
 use Rattle.pm_lift.specs.declared.fails.LiftFail.{LiftFail}
 use Rattle.pm_lift.specs.declared.fails.LiftFail.TheVariants.{Many, Memory, Wide}

@@ -8,9 +8,9 @@ ghost use Rattle.std.specs.Prelude.{IfErr, IfOk, [], length, map, suc, unsigned_
 ghost use Rattle.pm_limits.specs.Limits.{most_rows};
 
 use crate::fails::LiftFail;
+use pm_dd::to_facets;
 use pm_elim::copies;
 use pm_geom::Evidence;
-use pm_hull::to_facets;
 use pm_vector::{Ints, Wide, dot};
 use std::alloc::{AllocError, Global};
 

@@ -20,3 +20,9 @@ pub mod Kept
 pub mod Opposites
 pub mod Products
 pub mod QuotientLaws
+pub mod Halves
+pub mod Held
+pub mod MagnitudeSigns
+pub mod WideSums
+pub mod WrittenQuotients
+pub mod WideExamples

@@ -9,3 +9,7 @@ pub mod BasisExamples
 pub mod Differences
 pub mod Products
 pub mod Quotients
+pub mod Magnitudes
+pub mod WideInts
+pub mod Multiples
+pub mod WideExamples

@@ -1,7 +1,7 @@
 use Rattle.pm_beneath.proofs.FrontLaws.{all_within}
 use Rattle.pm_beneath.proofs.PlaceOutcomes.{arranged, basis_few, facets, fits, is_double, places_many, rows_many, shown}
 use Rattle.pm_beneath.proofs.placed.all_placed.Goals as goal
-use Rattle.pm_hull.proofs.HullLaws.{list_cols, list_length}
+use Rattle.pm_dd.proofs.HullLaws.{list_cols, list_length}
 use Rattle.std.proofs.Common.{arith, length, ◌*◌}
 
 pub list_fronts-requires-clause-columns : goal.list_fronts-requires-clause-columns

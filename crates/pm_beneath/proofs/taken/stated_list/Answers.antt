@@ -4,7 +4,7 @@ use Rattle.pm_beneath.proofs.taken.stated_list.Goals as goal
 use Rattle.pm_dd.proofs.LeadingLaws.{rest_of}
 use Rattle.pm_dd.specs.Fronts.{both_signs}
 use Rattle.pm_elim.specs.Enlarging.{MarkEnlarging}
-use Rattle.pm_hull.proofs.HullLaws.{double_list_made, list_cols, list_length}
+use Rattle.pm_dd.proofs.HullLaws.{double_list_made, list_cols, list_length}
 use Rattle.std.proofs.Common.{ap, arith, length, ◌*◌, ◌++◌, ◌≡◌, ◌≤◌, ◌∙◌}
 
 pub enlarging-requires-clause-columns : goal.enlarging-requires-clause-columns

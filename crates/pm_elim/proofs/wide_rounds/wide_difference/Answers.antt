@@ -1,0 +1,15 @@
+use Rattle.pm_vector.specs.Rows.{Row}
+use Rattle.pm_elim.proofs.wide_rounds.wide_difference.Goals as goal
+use Rattle.std.proofs.Common.{arith, drop, length, take, ◌++◌, ◌≡◌, ◌∙◌, ℕ}
+use Rattle.std.proofs.lemmas.Int.{to_z-of_z}
+use Rattle.std.proofs.lemmas.List.{take-append-le, take_all}
+use Rattle.std.specs.Int.{w128}
+
+whole : (n : ℕ) (new old : Row) → length new ≡ n → take n (new ++ old) ≡ new
+whole n new old e = take-append-le n new old (omega arith) ∙ take_all n new (omega arith)
+
+pub returns-in-Ok : goal.returns-in-Ok
+returns-in-Ok c =
+    let primitive = rw (c.as_slice.ensures.value, c.deref_mut.ensures.value, c.into_vec-entries.ensures.value, c.in_ok-copy.ensures, to_z-of_z w128 c.args.p c.ranges.p, to_z-of_z w128 c.args.q c.ranges.q) at c.in-Ok.ensures.primitive in
+    let len : length c.combine_primitive.new.v ≡ c.into_vec-entries.result.len = omega (arith, c.deref_mut.ensures.len, c.combine_primitive.auto.v) in
+    rw (c.from_vec.ensures, whole c.into_vec-entries.result.len c.combine_primitive.new.v (drop (length c.combine_primitive.new.v) c.into_vec-entries.result.items) len) primitive

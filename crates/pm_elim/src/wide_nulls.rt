@@ -1,0 +1,80 @@
+// Null spaces and dual rows by wide numbers on the way. A null space is found in the extended list of the rows
+// themselves: on that of their echelon basis the rows on the way are wider.
+
+ghost use Rattle.pm_vector.specs.Rows.{HasCols};
+ghost use Rattle.pm_elim.specs.Duals.{IsDualBasis, IsDualRow};
+ghost use Rattle.pm_elim.specs.NullSpaces.{IsNullBasis};
+ghost use Rattle.std.specs.Prelude.{IfOk, List, length, ◌+◌, ◌<◌, ◌^◌, ℕ};
+
+use crate::basis::Growing;
+use crate::duals::{copies_without, new_place, oriented};
+use crate::extended::extended;
+use crate::nulls::tails_of;
+use crate::wide_bases::wide_basis;
+use crate::wide_rounds::WideFail;
+use pm_vector::Ints;
+use std::alloc::Global;
+
+/// The echelon basis of the null space of rows with `cols` entries each. It is found in the extended list of the rows themselves.
+fn wide_null(alloc: Global, rows: &[Ints], cols: usize) -> Result<Growing, WideFail>
+    requires columns { HasCols cols rows.now }
+    requires few_rows { length rows.now < 2 ^ 30 }
+    requires few_columns { cols < 2 ^ 30 }
+    ensures { IfOk result (λ v. IsNullBasis cols rows.now v.rows.items v.pivots.items) }
+{
+    let listed = extended(alloc, rows, cols)?;
+    let whole = wide_basis(alloc, &listed, rows.len() + cols)?;
+    let null = tails_of(alloc, &whole, rows.len())?;
+    Ok(null)
+}
+
+/// The rows of that basis.
+pub fn wide_null_space(alloc: Global, rows: &[Ints], cols: usize) -> Result<Vec<Ints>, WideFail>
+    requires columns { HasCols cols rows.now }
+    requires few_rows { length rows.now < 2 ^ 30 }
+    requires few_columns { cols < 2 ^ 30 }
+    ensures { IfOk result (λ v. (P : List ℕ) × IsNullBasis cols rows.now v.items P) }
+{
+    let null = wide_null(alloc, rows, cols)?;
+    Ok(null.rows)
+}
+
+/// The dual row for a place.
+fn wide_dual_row(
+    alloc: Global,
+    rows: &[Ints],
+    cols: usize,
+    j: usize,
+    null: &Growing,
+) -> Result<Ints, WideFail>
+    requires columns { HasCols cols rows.now }
+    requires few_rows { length rows.now < 2 ^ 30 }
+    requires few_columns { cols < 2 ^ 30 }
+    requires within { j < length rows.now }
+    requires is_null { IsNullBasis cols rows.now null.now.rows.items null.now.pivots.items }
+    ensures { IfOk result (λ x. IsDualRow cols rows.now null.now.pivots.items j x) }
+{
+    let other_rows = copies_without(alloc, rows, j)?;
+    let mut others = wide_null(alloc, &other_rows, cols)?;
+    let Some(place) = new_place(&others.pivots, &null.pivots) else {
+        return Err(WideFail::Lost);
+    };
+    let found = others.rows.remove(place);
+    Ok(oriented(found, &rows[j]))
+}
+
+/// The dual basis of the rows.
+pub fn wide_dual_basis(alloc: Global, rows: &[Ints], cols: usize) -> Result<Vec<Ints>, WideFail>
+    requires columns { HasCols cols rows.now }
+    requires few_rows { length rows.now < 2 ^ 30 }
+    requires few_columns { cols < 2 ^ 30 }
+    ensures { IfOk result (λ v. IsDualBasis cols rows.now v.items) }
+{
+    let null = wide_null(alloc, rows, cols)?;
+    let mut duals = Vec::new(alloc);
+    for j in 0..rows.len() {
+        let dual = wide_dual_row(alloc, rows, cols, j, &null)?;
+        duals.push(dual)?;
+    }
+    Ok(duals)
+}

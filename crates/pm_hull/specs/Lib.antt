@@ -1,2 +1,0 @@
-pub mod Hulls
-pub mod HullRefusals

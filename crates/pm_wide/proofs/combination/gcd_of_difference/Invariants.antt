@@ -1,8 +1,0 @@
-use Rattle.pm_vector.specs.Divisors.{IsGcdOf}
-use Rattle.pm_vector.specs.Rows.{difference}
-use Rattle.pm_wide.proofs.combination.gcd_of_difference.Given as goal
-use Rattle.pm_wide.specs.Magnitudes.{magnitude_of}
-use Rattle.std.proofs.Common.{take}
-
-abbrev pub invariant-loop-i : goal.invariant-loop-i
-invariant-loop-i l = IsGcdOf (take l.i (difference l.p l.v l.q l.w)) (magnitude_of l.divisor)

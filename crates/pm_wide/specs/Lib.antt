@@ -1,4 +1,0 @@
-pub mod Examples
-pub mod Magnitudes
-pub mod Quotients
-pub mod Values
