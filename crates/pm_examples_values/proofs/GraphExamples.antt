@@ -56,10 +56,10 @@ no_degrees (s ∷ r) e = absurd (omega arith)
 
 pub empty_graphs_are_read : EmptyGraphsAreRead
 empty_graphs_are_read = record {
-  graph = empty_graph;
-  a_node = λ g. let e : 1 ≡ 0 = g.nodes in omega arith;
-  dual_graph = record { orders = no_orders; are_orders = empty_are_orders; holds = empty_dual };
-  a_facet = λ h. let e : 1 ≡ 0 = h.holds.nodes in omega arith;
+  graph = (refl, empty_graph);
+  a_node = λ g. let e : 1 ≡ 0 = g.1.nodes in omega arith;
+  dual_graph = (refl, record { orders = no_orders; are_orders = empty_are_orders; holds = empty_dual });
+  a_facet = λ h. let e : 1 ≡ 0 = h.1.holds.nodes in omega arith;
   diameter = record { orders = no_orders; are_orders = empty_are_orders; holds = (0, refl, few_diameter 0 (EdgeIn empty_thing no_orders) (omega arith)) };
   a_distance = λ h. let e = diameter_is (EdgeIn empty_thing) (λ p. length p.rays) empty_thing 0 (λ p o. few_diameter (length p.rays) (EdgeIn empty_thing p) (let q = empty_rays p o in omega arith)) (pos 1) h in omega (arith, ints);
   dual_diameter = record { orders = no_orders; are_orders = empty_are_orders; holds = (0, refl, few_diameter 0 (RidgeIn empty_thing no_orders) (omega arith)) };
@@ -85,11 +85,13 @@ line_rays p o = sym (as_many_rays line_thing line_orders p line_are_orders o)
 
 pub line_graphs_are_read : LineGraphsAreRead
 line_graphs_are_read = record {
-  graph = line_graph;
-  no_node = λ g. let e : 0 ≡ 1 = g.nodes in omega arith;
-  loop = λ g. let e = one_graph 1 (EdgeIn line_thing line_orders) _ ([] ∷ []) g line_graph in cc;
-  dual_graph = record { orders = line_orders; are_orders = line_are_orders; holds = line_dual };
-  dual_loop = λ h. let e = one_graph 1 _ _ ([] ∷ []) h.holds (line_facet_graph h.orders h.are_orders) in cc;
+  graph = (refl, line_graph);
+  no_node = λ g. let e : 0 ≡ 1 = g.1.nodes in omega arith;
+  no_columns = λ g. let e : 0 ≡ 1 = g.0 in omega arith;
+  loop = λ g. let e = one_graph 1 (EdgeIn line_thing line_orders) _ ([] ∷ []) g.1 line_graph in cc;
+  dual_graph = (refl, record { orders = line_orders; are_orders = line_are_orders; holds = line_dual });
+  dual_columns = λ g. let e : 2 ≡ 1 = g.0 in omega arith;
+  dual_loop = λ h. let e = one_graph 1 _ _ ([] ∷ []) h.1.holds (line_facet_graph h.1.orders h.1.are_orders) in cc;
   diameter = record { orders = line_orders; are_orders = line_are_orders; holds = (0, refl, few_diameter 1 (EdgeIn line_thing line_orders) (omega arith)) };
   a_distance = λ h. let e = diameter_is (EdgeIn line_thing) (λ p. length p.rays) line_thing 0 (λ p o. few_diameter (length p.rays) (EdgeIn line_thing p) (let q = line_rays p o in omega arith)) (pos 1) h in omega (arith, ints);
   dual_diameter = record { orders = line_orders; are_orders = line_are_orders; holds = (0, refl, few_diameter 1 (RidgeIn line_thing line_orders) (omega arith)) };
@@ -121,14 +123,14 @@ degrees_are ks w = w.2 ∙ ap (map (λ row. pos (length row))) (graph_is w.0 w.1
 
 pub segment_graphs_are_read : SegmentGraphsAreRead
 segment_graphs_are_read = record {
-  graph = ray_graph_in segment_orders segment_are_orders;
-  one_way = λ g. let e = graph_is _ g in cc;
-  loops = λ g. let e = graph_is _ g in cc;
-  no_edge = λ g. let e = graph_is _ g in cc;
-  dual_graph = record { orders = segment_orders; are_orders = segment_are_orders; holds = facet_graph_in segment_orders segment_are_orders };
-  dual_one_way = λ h. let e = dual_is _ h in cc;
-  dual_loops = λ h. let e = dual_is _ h in cc;
-  no_ridge = λ h. let e = dual_is _ h in cc;
+  graph = (refl, ray_graph_in segment_orders segment_are_orders);
+  one_way = λ g. let e = graph_is _ g.1 in cc;
+  loops = λ g. let e = graph_is _ g.1 in cc;
+  no_edge = λ g. let e = graph_is _ g.1 in cc;
+  dual_graph = (refl, record { orders = segment_orders; are_orders = segment_are_orders; holds = facet_graph_in segment_orders segment_are_orders });
+  dual_one_way = λ h. let e = dual_is _ h.1 in cc;
+  dual_loops = λ h. let e = dual_is _ h.1 in cc;
+  no_ridge = λ h. let e = dual_is _ h.1 in cc;
   degrees = (joined, ray_graph_in segment_orders segment_are_orders, refl);
   with_themselves = λ w. let e = degrees_are (pos 2 ∷ pos 2 ∷ []) w in cc;
   of_one_end = λ w. let e = degrees_are (pos 1 ∷ []) w in cc;

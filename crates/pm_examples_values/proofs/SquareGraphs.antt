@@ -59,10 +59,10 @@ last_neighbour = there here
 
 pub square_graphs_are_read : SquareGraphsAreRead
 square_graphs_are_read = record {
-  graph = square_rays;
-  diagonals = λ g. let e = one_graph 4 (IsEdge 3 square [] square) with_diagonals square_graph g square_rays in cc;
-  dual_graph = record { orders = square_orders; are_orders = square_sets_are_read.orders; holds = square_facets };
-  other_order = λ h. opposite_sides h.orders h.are_orders ((h.holds.edges 0 3 (omega arith)).0 (Contains_among last_neighbour));
+  graph = (refl, square_rays);
+  diagonals = λ g. let e = one_graph 4 (IsEdge 3 square [] square) with_diagonals square_graph g.1 square_rays in cc;
+  dual_graph = (refl, record { orders = square_orders; are_orders = square_sets_are_read.orders; holds = square_facets });
+  other_order = λ h. opposite_sides h.1.orders h.1.are_orders ((h.1.holds.edges 0 3 (omega arith)).0 (Contains_among last_neighbour));
   diameter = record { orders = square_orders; are_orders = square_sets_are_read.orders; holds = (2, refl, greatest_distance_is_diameter 3 square [] square_cols tt square square_is_read.order square_graph square_rays 2 square_graph_is_read.diameter.greatest) };
   dual_diameter = record { orders = square_orders; are_orders = square_sets_are_read.orders; holds = (2, refl, dual_greatest_distance_is_diameter 3 square [] square_cols tt square edges square_is_read.order square_is_read.facets square_graph square_facets 2 square_graph_is_read.diameter.greatest) };
   n_edges = record { orders = square_orders; are_orders = square_sets_are_read.orders; holds = (square_graph, square_rays, refl) };
@@ -85,10 +85,10 @@ bipyramid_facets = facet_graph 4 bipyramid [] bipyramid_cols tt bipyramid sides 
 
 pub bipyramid_graphs_are_read : BipyramidGraphsAreRead
 bipyramid_graphs_are_read = record {
-  graph = bipyramid_rays;
-  of_the_facets = λ g. let e : 6 ≡ 5 = g.nodes in omega arith;
-  dual_graph = record { orders = bipyramid_orders; are_orders = bipyramid_counts_are_read.orders; holds = bipyramid_facets };
-  of_the_rays = λ h. let e : 5 ≡ 6 = h.holds.nodes in omega arith;
+  graph = (refl, bipyramid_rays);
+  of_the_facets = λ g. let e : 6 ≡ 5 = g.1.nodes in omega arith;
+  dual_graph = (refl, record { orders = bipyramid_orders; are_orders = bipyramid_counts_are_read.orders; holds = bipyramid_facets });
+  of_the_rays = λ h. let e : 5 ≡ 6 = h.1.holds.nodes in omega arith;
   degrees = (bipyramid_graph, bipyramid_rays, refl);
   turned = λ w. let e : pos 3 ∷ pos 3 ∷ pos 4 ∷ pos 4 ∷ pos 4 ∷ [] ≡ pos 4 ∷ pos 4 ∷ pos 4 ∷ pos 3 ∷ pos 3 ∷ [] = w.2 ∙ ap (map (λ row. pos (length row))) (one_graph 5 (IsEdge 4 bipyramid [] bipyramid) w.0 bipyramid_graph w.1 bipyramid_rays) in cc;
   n_edges = record { orders = bipyramid_orders; are_orders = bipyramid_counts_are_read.orders; holds = (bipyramid_graph, bipyramid_rays, refl) };

@@ -10,10 +10,10 @@ use lib.IntN.{pos}
 
 -- the graphs of the empty polytope have no node, and so no edge and no distance
 pub record EmptyGraphsAreRead : Type 0 where
-  pub graph : EmptyHas Graph (edges [])
-  pub a_node : ¬ (EmptyHas Graph (edges ([] ∷ [])))
-  pub dual_graph : EmptyHas DualGraph (edges [])
-  pub a_facet : ¬ (EmptyHas DualGraph (edges ([] ∷ [])))
+  pub graph : EmptyHas Graph (edges [] 0)
+  pub a_node : ¬ (EmptyHas Graph (edges ([] ∷ []) 1))
+  pub dual_graph : EmptyHas DualGraph (edges [] 0)
+  pub a_facet : ¬ (EmptyHas DualGraph (edges ([] ∷ []) 1))
   pub diameter : EmptyHas Diameter (whole (pos 0))
   pub a_distance : ¬ (EmptyHas Diameter (whole (pos 1)))
   pub dual_diameter : EmptyHas DualDiameter (whole (pos 0))
@@ -25,11 +25,14 @@ pub record EmptyGraphsAreRead : Type 0 where
 
 -- the one ray of a line in the plane is joined to none, and not to itself
 pub record LineGraphsAreRead : Type 0 where
-  pub graph : LineHas Graph (edges ([] ∷ []))
-  pub no_node : ¬ (LineHas Graph (edges []))
-  pub loop : ¬ (LineHas Graph (edges ((0 ∷ []) ∷ [])))
-  pub dual_graph : LineHas DualGraph (edges ([] ∷ []))
-  pub dual_loop : ¬ (LineHas DualGraph (edges ((0 ∷ []) ∷ [])))
+  pub graph : LineHas Graph (edges ([] ∷ []) 1)
+  pub no_node : ¬ (LineHas Graph (edges [] 0))
+  -- the column count is the number of nodes
+  pub no_columns : ¬ (LineHas Graph (edges ([] ∷ []) 0))
+  pub loop : ¬ (LineHas Graph (edges ((0 ∷ []) ∷ []) 1))
+  pub dual_graph : LineHas DualGraph (edges ([] ∷ []) 1)
+  pub dual_columns : ¬ (LineHas DualGraph (edges ([] ∷ []) 2))
+  pub dual_loop : ¬ (LineHas DualGraph (edges ((0 ∷ []) ∷ []) 1))
   pub diameter : LineHas Diameter (whole (pos 0))
   pub a_distance : ¬ (LineHas Diameter (whole (pos 1)))
   pub dual_diameter : LineHas DualDiameter (whole (pos 0))
@@ -53,14 +56,14 @@ apart = [] ∷ [] ∷ []
 
 -- the ends of a segment are joined, and so are its two facets, which share the least face
 pub record SegmentGraphsAreRead : Type 0 where
-  pub graph : EndsHave Graph (edges joined)
-  pub one_way : ¬ (EndsHave Graph (edges joined_one_way))
-  pub loops : ¬ (EndsHave Graph (edges joined_to_themselves))
-  pub no_edge : ¬ (EndsHave Graph (edges apart))
-  pub dual_graph : EndsHave DualGraph (edges joined)
-  pub dual_one_way : ¬ (EndsHave DualGraph (edges joined_one_way))
-  pub dual_loops : ¬ (EndsHave DualGraph (edges joined_to_themselves))
-  pub no_ridge : ¬ (EndsHave DualGraph (edges apart))
+  pub graph : EndsHave Graph (edges joined 2)
+  pub one_way : ¬ (EndsHave Graph (edges joined_one_way 2))
+  pub loops : ¬ (EndsHave Graph (edges joined_to_themselves 2))
+  pub no_edge : ¬ (EndsHave Graph (edges apart 2))
+  pub dual_graph : EndsHave DualGraph (edges joined 2)
+  pub dual_one_way : ¬ (EndsHave DualGraph (edges joined_one_way 2))
+  pub dual_loops : ¬ (EndsHave DualGraph (edges joined_to_themselves 2))
+  pub no_ridge : ¬ (EndsHave DualGraph (edges apart 2))
   -- each end has one neighbour
   pub degrees : EndsHave VertexDegrees (counts (pos 1 ∷ pos 1 ∷ []))
   pub with_themselves : ¬ (EndsHave VertexDegrees (counts (pos 2 ∷ pos 2 ∷ [])))
@@ -91,10 +94,10 @@ round = (1 ∷ 3 ∷ []) ∷ (0 ∷ 2 ∷ []) ∷ (1 ∷ 3 ∷ []) ∷ (0 ∷ 2 
 
 -- sides join corners, and corners join sides; diagonals join nothing
 pub record SquareGraphsAreRead : Type 0 where
-  pub graph : SquareHas Graph (edges square_graph)
-  pub diagonals : ¬ (SquareHas Graph (edges with_diagonals))
-  pub dual_graph : SquareHas DualGraph (edges square_graph)
-  pub other_order : ¬ (SquareHas DualGraph (edges round))
+  pub graph : SquareHas Graph (edges square_graph 4)
+  pub diagonals : ¬ (SquareHas Graph (edges with_diagonals 4))
+  pub dual_graph : SquareHas DualGraph (edges square_graph 4)
+  pub other_order : ¬ (SquareHas DualGraph (edges round 4))
   pub diameter : SquareHas Diameter (whole (pos 2))
   pub dual_diameter : SquareHas DualDiameter (whole (pos 2))
   pub n_edges : SquareHas NEdges (whole (pos 4))
@@ -112,10 +115,10 @@ prism_graph = (1 ∷ 2 ∷ 3 ∷ []) ∷ (0 ∷ 2 ∷ 4 ∷ []) ∷ (0 ∷ 1 ∷
 
 -- its five rays and its six facets have different graphs, and its rays different degrees, in their order
 pub record BipyramidGraphsAreRead : Type 0 where
-  pub graph : BipyramidHas Graph (edges bipyramid_graph)
-  pub of_the_facets : ¬ (BipyramidHas Graph (edges prism_graph))
-  pub dual_graph : BipyramidHas DualGraph (edges prism_graph)
-  pub of_the_rays : ¬ (BipyramidHas DualGraph (edges bipyramid_graph))
+  pub graph : BipyramidHas Graph (edges bipyramid_graph 5)
+  pub of_the_facets : ¬ (BipyramidHas Graph (edges prism_graph 6))
+  pub dual_graph : BipyramidHas DualGraph (edges prism_graph 6)
+  pub of_the_rays : ¬ (BipyramidHas DualGraph (edges bipyramid_graph 5))
   pub degrees : BipyramidHas VertexDegrees (counts (pos 4 ∷ pos 4 ∷ pos 4 ∷ pos 3 ∷ pos 3 ∷ []))
   pub turned : ¬ (BipyramidHas VertexDegrees (counts (pos 3 ∷ pos 3 ∷ pos 4 ∷ pos 4 ∷ pos 4 ∷ [])))
   pub n_edges : BipyramidHas NEdges (whole (pos 9))

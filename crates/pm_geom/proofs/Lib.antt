@@ -24,3 +24,11 @@ pub mod Duality
 pub mod ProgramExamples
 pub mod SmallRanks
 pub mod SmallFans
+pub mod Taken
+pub mod Enough
+pub mod Holds
+pub mod Permuted
+pub mod LexLaws
+pub mod OneRow
+pub mod Alike
+pub mod SmallProducts

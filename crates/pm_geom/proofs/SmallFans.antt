@@ -20,12 +20,12 @@ differ : (k m n : ℕ) → k ≡ m → k ≡ n → ¬ (m ≡ n) → ⊥
 differ k m n e f ne = ne (sym e ∙ f)
 
 -- ---- each of the two rays is the order of its cone
-right_needed : (v : Row) (i : Among v (right ∷ [])) → ¬ (InCone (without i) [] v)
+pub right_needed : (v : Row) (i : Among v (right ∷ [])) → ¬ (InCone (without i) [] v)
 unfolding without
 right_needed v here = apart [] [] left right tt tt tt
 right_needed v (there i) = elim i [ ]
 
-left_needed : (v : Row) (i : Among v (left ∷ [])) → ¬ (InCone (without i) [] v)
+pub left_needed : (v : Row) (i : Among v (left ∷ [])) → ¬ (InCone (without i) [] v)
 unfolding without
 left_needed v here = apart [] [] right left tt tt tt
 left_needed v (there i) = elim i [ ]

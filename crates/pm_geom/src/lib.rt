@@ -13,9 +13,11 @@ ghost use Rattle.std.specs.Prelude.{ℕ};
 pub mod descriptions;
 mod evidence;
 mod lists;
+mod units;
 
 pub use evidence::Evidence;
 pub use lists::{PlaceSets, Places, RowList, copy_sets};
+pub use units::unit_row;
 
 /// Every generated cone is cut out by finitely many rows (Ziegler, theorem 1.3).
 pub fn law_generated_is_cut()

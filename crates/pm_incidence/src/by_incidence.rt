@@ -64,6 +64,7 @@ pub fn vertices_by_incidence(
     g: &Generators,
     f: &Facets,
 ) -> Result<Generators, ThinFail>
+    requires no_fan { of ≢ ObjectType.Fan }
     requires ray_cols { HasCols cols g.now.rays.items }
     requires line_cols { HasCols cols g.now.lineality.items }
     requires facet_cols { HasCols cols f.now.facets.items }

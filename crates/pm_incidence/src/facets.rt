@@ -11,7 +11,7 @@ ghost use Rattle.pm_incidence.specs.SetRows.{IsWideWith};
 ghost use Rattle.pm_incidence.specs.Thinning.{AreThinPlaces, HasPoint, IsBehind, IsFacetsFail, IsInsideFail, half_spaces};
 ghost use Rattle.pm_types.specs.Right.{CutsOutOf};
 ghost use Rattle.std.specs.List.{All};
-ghost use Rattle.std.specs.Prelude.{IfErr, IfOk, IsTrue, List, [], length, ◌++◌, ◌+◌, ◌<◌, ◌^◌, ◌∷◌, ◌≡◌, ◌≤◌, ◌↔◌, ℕ};
+ghost use Rattle.std.specs.Prelude.{IfErr, IfOk, IsTrue, List, [], length, ◌++◌, ◌+◌, ◌<◌, ◌^◌, ◌∷◌, ◌≡◌, ◌≤◌, ◌↔◌, ◌≢◌, ℕ};
 
 use crate::by_incidence::{half_spaces, has_point, unit_rows};
 use crate::fails::ThinFail;
@@ -199,6 +199,7 @@ pub fn facets_by_incidence(
     equations: &[Ints],
     g: &Generators,
 ) -> Result<Facets, ThinFail>
+    requires no_fan { of ≢ ObjectType.Fan }
     requires row_cols { HasCols cols rows.now }
     requires equation_cols { HasCols cols equations.now }
     requires ray_cols { HasCols cols g.now.rays.items }

@@ -40,7 +40,8 @@ impl<T: Drop> From<AllocFailed<T>> for IncFail {
 /// Why rows were not thinned, or not found from sets.
 #[derive(Debug, Drop, Error)]
 pub enum ThinFail {
-    /// A number leaves the range: in a step of an elimination (E1), or in the product of two rows (E4).
+    /// A number leaves the range: in a step of an elimination (E1), in a pivot of a linear program (E3), or in the
+    /// product of two rows (E4).
     #[error("a number leaves the range")]
     Wide(Evidence),
     /// There are more than `MOST_ROWS` facet rows (E5).

@@ -5,8 +5,7 @@ ghost use Rattle.pm_incidence.specs.Incidence.{AllStay, IsWideFor, incidence, pl
 ghost use Rattle.pm_incidence.specs.Short.{IsShort};
 ghost use Rattle.pm_types.specs.Right.{IsIncidence};
 ghost use Rattle.pm_vector.specs.Products.{ProductsStay};
-ghost use Rattle.std.specs.Prelude.{All, IfErr, IfOk, IsTrue, OnOk, [], length, unsigned_abs, ◌==◌, ◌∷◌, ◌≡◌, ◌≤◌};
-ghost use Rattle.pm_limits.specs.Limits.{most_rows};
+ghost use Rattle.std.specs.Prelude.{All, IfErr, IfOk, IsTrue, OnOk, [], length, unsigned_abs, ◌==◌, ◌<◌, ◌^◌, ◌∷◌, ◌≡◌};
 
 use crate::fails::IncFail;
 use crate::short::{are_both_short, short_places};
@@ -48,7 +47,7 @@ fn wide(alloc: Global, facet: &Ints, vertex: &Ints) -> Result<IncFail, AllocErro
 // The places of the vertices on a facet.
 fn places(alloc: Global, facet: &Ints, vertices: &[Ints]) -> Result<Vec<u32>, IncFail>
     requires cols { All (λ v. length v ≡ length facet.now) vertices.now }
-    requires few { length vertices.now ≤ most_rows }
+    requires few { length vertices.now < 2 ^ 30 }
     ensures ok { IfOk result (λ r. r.items ≡ places_from 0 facet.now vertices.now) }
     ensures stays { OnOk result (AllStay (facet.now ∷ []) vertices.now) }
     ensures failed { IfErr result (IsWideFor (facet.now ∷ []) vertices.now) }
@@ -71,7 +70,7 @@ fn places_by(
     short: bool,
 ) -> Result<Vec<u32>, IncFail>
     requires cols { All (λ v. length v ≡ length facet.now) vertices.now }
-    requires few { length vertices.now ≤ most_rows }
+    requires few { length vertices.now < 2 ^ 30 }
     requires short { IsTrue short → IsShort facet.now × All IsShort vertices.now }
     ensures ok { IfOk result (λ r. r.items ≡ places_from 0 facet.now vertices.now) }
     ensures stays { OnOk result (AllStay (facet.now ∷ []) vertices.now) }
@@ -87,7 +86,7 @@ fn places_by(
 /// product leaves the range, with two rows of such a product as evidence.
 pub fn incidence(alloc: Global, facets: &[Ints], vertices: &[Ints]) -> Result<Sets, IncFail>
     requires cols { All (λ f. All (λ v. length v ≡ length f) vertices.now) facets.now }
-    requires few { length vertices.now ≤ most_rows }
+    requires few { length vertices.now < 2 ^ 30 }
     ensures ok { IfOk result (λ r. r
         ≡ record { rows = incidence facets.now vertices.now; cols = length vertices.now }) }
     ensures right { IfOk result (λ r. IsIncidence facets.now vertices.now r.rows) }

@@ -3,8 +3,7 @@
 ghost use Rattle.pm_vector.specs.Rows.{dot};
 ghost use Rattle.pm_incidence.specs.Incidence.{places_from};
 ghost use Rattle.pm_incidence.specs.Short.{IsLittle, IsShort};
-ghost use Rattle.std.specs.Prelude.{All, IfOk, IsTrue, length, unsigned_abs, ◌==◌, ◌≡◌, ◌≤◌, ◌↔◌};
-ghost use Rattle.pm_limits.specs.Limits.{most_rows};
+ghost use Rattle.std.specs.Prelude.{All, IfOk, IsTrue, length, unsigned_abs, ◌==◌, ◌<◌, ◌^◌, ◌≡◌, ◌↔◌};
 
 use pm_vector::Ints;
 use std::alloc::{AllocError, Global};
@@ -81,7 +80,7 @@ pub(crate) fn short_places(
     vertices: &[Ints],
 ) -> Result<Vec<u32>, AllocError>
     requires cols { All (λ v. length v ≡ length facet.now) vertices.now }
-    requires few { length vertices.now ≤ most_rows }
+    requires few { length vertices.now < 2 ^ 30 }
     requires facet { IsShort facet.now }
     requires vertices { All IsShort vertices.now }
     ensures { IfOk result (λ r. r.items ≡ places_from 0 facet.now vertices.now) }

@@ -1,7 +1,8 @@
 -- Nodes that are read keep the limits, and edges have their form.
 use Rattle.std.proofs.Common.{ap, subst, ◌≡◌, ◌≤◌, ◌<◌, ◌+◌, ◌&&◌, ℕ, zero, suc, true, List, [], ◌∷◌, length, map, get_or, Ok, Err, arith, cond, leb, ltb, refl}
-use Rattle.std.proofs.lemmas.Bool.{and_from, and_parts, leb-true, ltb-true}
+use Rattle.std.proofs.lemmas.Bool.{and_from, and_parts, eq-eqb, leb-true, ltb-true}
 use Rattle.std.specs.List.{list_all}
+use Rattle.std.specs.Prelude.{nat_eq}
 use Rattle.serde_json.specs.Data.{Data, Items, no_items, item}
 use Rattle.pm_props.specs.Properties.{is_of_edges, value_kind}
 use Rattle.pm_props.specs.declared.property.PropId.{PropId}
@@ -32,6 +33,10 @@ nodes_keep_limits k (item d ds) rows h e =
     subst (KeepsNodes k) (same_Ok (set ∷ more) rows u)
     (record { few = omega arith; indices = and_from (are_indices most_indices 0 set) (list_all (are_indices most_indices 0) more) (set_keeps_limits [] es set is refl) rest.indices }))))
 
+-- the form of edges, with the number of their nodes
+with_nodes : (rows : List (List ℕ)) → is_edges_form rows ≡ true → (is_edges_form rows && nat_eq (length rows) (length rows)) ≡ true
+with_nodes rows form = and_from (is_edges_form rows) (nat_eq (length rows) (length rows)) form (eq-eqb (length rows) (length rows) refl)
+
 pub edges_formed : (p : PropId) → value_kind p ≡ kind.Edges → (d : Data) (v : PropertyValue) → edges_of d ≡ Ok v → is_formed p v ≡ true
 edges_formed p is d v e =
     and_then-ok (items_of d) (λ ds. and_then (nodes_from 0 ds) edges_with) v e
@@ -39,13 +44,13 @@ edges_formed p is d v e =
     (λ rows which g.
     let k = nodes_keep_limits 0 ds rows (omega arith) which in
     let few = k.few in
-    let joined : Read PropertyValue = cond (are_joined_back rows 0 rows) (Ok (edges rows)) (Err Shape) in
+    let joined : Read PropertyValue = cond (are_joined_back rows 0 rows) (Ok (edges rows (length rows))) (Err Shape) in
     let p1 = then-ok (leb (above_sets rows) (length rows)) joined Index v g in
-    let p2 = then-ok (are_joined_back rows 0 rows) (Ok (edges rows)) Shape v p1.1 in
-    subst (λ w. is_formed p w ≡ true) (same_Ok (edges rows) v p2.1)
-    (and_from (is_of_edges (value_kind p)) (is_edges_form rows) (ap is_of_edges is)
-    (and_from (is_sets_form rows (length rows)) (are_joined_back rows 0 rows)
-    (form_of rows (length rows) (omega arith) (omega arith) (leb-true (above_sets rows) (length rows) p1.0) k.indices) p2.0))))
+    let p2 = then-ok (are_joined_back rows 0 rows) (Ok (edges rows (length rows))) Shape v p1.1 in
+    subst (λ w. is_formed p w ≡ true) (same_Ok (edges rows (length rows)) v p2.1)
+    (and_from (is_of_edges (value_kind p)) (is_edges_form rows && nat_eq (length rows) (length rows)) (ap is_of_edges is)
+    (with_nodes rows (and_from (is_sets_form rows (length rows)) (are_joined_back rows 0 rows)
+    (form_of rows (length rows) (omega arith) (omega arith) (leb-true (above_sets rows) (length rows) p1.0) k.indices) p2.0)))))
 
 -- ---- what was read, as it lies in memory
 within_one : (n low : ℕ) (set : List ℕ) → are_indices n low set ≡ true → (k d : ℕ) → k < length set → get_or set k d < n
@@ -69,7 +74,7 @@ nodes_within f n xs above h k d room i e inside =
     within_one n 0 (f (get_or xs k d)) (within_all f n xs (all_below_above n most_rows (map f xs) above h) k d room) i e inside
 
 pub edges_have_form : (p : PropId) (rows : List (List ℕ)) → value_kind p ≡ kind.Edges → length rows ≤ most_rows → above_sets rows ≤ length rows → list_all (are_indices most_indices 0) rows ≡ true
-    → are_joined_back rows 0 rows ≡ true → is_formed p (edges rows) ≡ true
+    → are_joined_back rows 0 rows ≡ true → is_formed p (edges rows (length rows)) ≡ true
 edges_have_form p rows is few above h joined =
-    and_from (is_of_edges (value_kind p)) (is_edges_form rows) (ap is_of_edges is)
-    (and_from (is_sets_form rows (length rows)) (are_joined_back rows 0 rows) (form_of rows (length rows) few few above h) joined)
+    and_from (is_of_edges (value_kind p)) (is_edges_form rows && nat_eq (length rows) (length rows)) (ap is_of_edges is)
+    (with_nodes rows (and_from (is_sets_form rows (length rows)) (are_joined_back rows 0 rows) (form_of rows (length rows) few few above h) joined))

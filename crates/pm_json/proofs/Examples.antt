@@ -60,6 +60,7 @@ set_texts = record {
     );
     formed = refl;
   };
+  no_columns = λ j. absurd (true≢false (sym j.formed));
   not_joined = λ j. absurd (true≢false (sym (ap is_ok (read_of_text _ _ _ j))));
 }
 

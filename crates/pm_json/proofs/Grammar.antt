@@ -405,9 +405,9 @@ text_by kind.Edges p d v e =
     and_then-ok (items_of d) (λ ds. and_then (nodes_from 0 ds) edges_with) v e
     (λ ds is f. and_then-ok (nodes_from 0 ds) edges_with v f
     (λ rows read g.
-    let q = then-ok (leb (above_sets rows) (length rows)) (cond (are_joined_back rows 0 rows) (Ok (edges rows)) (Err Shape)) Index v g in
-    let r = then-ok (are_joined_back rows 0 rows) (Ok (edges rows)) Shape v q.1 in
-    subst (IsTextOf p d) (same_Ok (edges rows) v r.1) (array_from IsSetOf d ds rows is (nodes_told 0 ds rows read))))
+    let q = then-ok (leb (above_sets rows) (length rows)) (cond (are_joined_back rows 0 rows) (Ok (edges rows (length rows))) (Err Shape)) Index v g in
+    let r = then-ok (are_joined_back rows 0 rows) (Ok (edges rows (length rows))) Shape v q.1 in
+    subst (IsTextOf p d) (same_Ok (edges rows (length rows)) v r.1) (array_from IsSetOf d ds rows is (nodes_told 0 ds rows read))))
 text_by kind.Lattice p d v e =
     and_then-ok (items_of d) (λ ds. and_then (ranks_from 0 0 ds) (λ ranks. Ok (lattice ranks))) v e
     (λ ds is f. and_then-ok (ranks_from 0 0 ds) (λ ranks. Ok (lattice ranks)) v f

@@ -3,7 +3,7 @@ use Rattle.std.proofs.Common.{refl, sym, ap, subst, arith, cond, inl, inr, ◌�
 use Rattle.std.proofs.lemmas.Bool.{and_from, and_parts, cases_lt, eqb-false, eqb-true, eq-eqb, le-leb, le-ltb, leb-true, lt-ltb, ltb-true, ne_eqb}
 use Rattle.std.proofs.lemmas.List.Sums.{sum_by-cons}
 use Rattle.std.specs.List.{list_all, sum_by}
-use Rattle.std.specs.Prelude.{if◌then◌else◌, is_some, not}
+use Rattle.std.specs.Prelude.{if◌then◌else◌, is_some, nat_eq, not}
 use Rattle.pm_vector.specs.Numbers.{Ratio}
 use Rattle.pm_json.proofs.Grammar.{IsCountOf, Stated, are_new, has_put, is_not}
 use Rattle.pm_json.proofs.Parts.{and_then-ok, else-ok, err_ok, same_Ok}
@@ -381,7 +381,7 @@ sets_json_read d rows n s form = by (object_behind s.items) refl s.cols
         let list = sets_list_read n 0 s.items rows (Some n) s.each (subst (λ (x : Option Data). Stated x (Some n)) (sym e) h) (λ c k. let i = one_is n c k in omega arith) few (omega arith) p.1 in
         rw (s.array, list, le-leb (above_sets rows) n (above_sets_bound n rows p.1)) refl
 
-edges_read : (d : Data) (rows : List (List ℕ)) → IsArrayOf IsSetOf d rows → is_edges_form rows ≡ true → edges_of d ≡ Ok (edges rows)
+edges_read : (d : Data) (rows : List (List ℕ)) → IsArrayOf IsSetOf d rows → is_edges_form rows ≡ true → edges_of d ≡ Ok (edges rows (length rows))
 edges_read d rows (ds, listed, items) form =
     let p = and_parts (is_sets_form rows (length rows)) (are_joined_back rows 0 rows) form in
     let q = and_parts (leb (length rows) most_rows && leb (length rows) most_rows) (list_all (are_indices (length rows) 0) rows) p.0 in
@@ -524,9 +524,10 @@ read_of_text p d v j = by v j.text j.formed
     by (counts ks) t form =
         let f = and_parts (is_of_counts (value_kind p)) (is_counts_form ks) form in
         ap (λ k. reading_of k p d) (counts_kind (value_kind p) f.0) ∙ counts_read d ks t f.1
-    by (edges rows) t form =
-        let f = and_parts (is_of_edges (value_kind p)) (is_edges_form rows) form in
-        ap (λ k. reading_of k p d) (edges_kind (value_kind p) f.0) ∙ edges_read d rows t f.1
+    by (edges rows n) t form =
+        let f = and_parts (is_of_edges (value_kind p)) (is_edges_form rows && nat_eq n (length rows)) form in
+        let e = and_parts (is_edges_form rows) (nat_eq n (length rows)) f.1 in
+        ap (λ k. reading_of k p d) (edges_kind (value_kind p) f.0) ∙ edges_read d rows t e.0 ∙ ap (λ k. Ok (edges rows k)) (sym (eqb-true n (length rows) e.1))
     by (lattice ranks) t form =
         let f = and_parts (is_of_lattices (value_kind p)) (is_lattice_form ranks) form in
         ap (λ k. reading_of k p d) (lattice_kind (value_kind p) f.0) ∙ lattice_read d ranks t f.1

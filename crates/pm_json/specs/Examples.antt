@@ -43,8 +43,9 @@ pub record SetsHaveTexts : Type 0 where
   pub least : IsJsonOf VerticesInFacets (json (codes "[[0]]")) (sets ((0 ∷ []) ∷ []) 1)
   pub no_more : ¬ (IsJsonOf VerticesInFacets (json (codes "[[0]]")) (sets ((0 ∷ []) ∷ []) 3))
   -- edges have none
-  pub graph : IsJsonOf Graph (json (codes "[[1],[0]]")) (edges ((1 ∷ []) ∷ (0 ∷ []) ∷ []))
-  pub not_joined : ¬ (IsJsonOf Graph (json (codes "[[1],[]]")) (edges ((1 ∷ []) ∷ [] ∷ [])))
+  pub graph : IsJsonOf Graph (json (codes "[[1],[0]]")) (edges ((1 ∷ []) ∷ (0 ∷ []) ∷ []) 2)
+  pub no_columns : ¬ (IsJsonOf Graph (json (codes "[[1],[0]]")) (edges ((1 ∷ []) ∷ (0 ∷ []) ∷ []) 0))
+  pub not_joined : ¬ (IsJsonOf Graph (json (codes "[[1],[]]")) (edges ((1 ∷ []) ∷ [] ∷ []) 2))
 
 pub record NumbersHaveTexts : Type 0 where
   pub dimension : IsJsonOf ConeAmbientDim (json (codes "3")) (whole (pos 3))

@@ -92,7 +92,7 @@ IsTextOf p d (sets rows n) = AreSetsOf d rows n
 IsTextOf p d (whole k) = (n : Num) × (as_number d ≡ Some n) × (as_i64 n ≡ Some k)
 IsTextOf p d (truth b) = as_bool d ≡ Some b
 IsTextOf p d (counts ks) = IsArrayOf (λ e k. whole_count_of e ≡ Ok k) d ks
-IsTextOf p d (edges rows) = IsArrayOf IsSetOf d rows
+IsTextOf p d (edges rows n) = IsArrayOf IsSetOf d rows
 IsTextOf p d (lattice ranks) = IsArrayOf (IsArrayOf IsSetOf) d ranks
 IsTextOf p d (extended x) = number_value_of d ≡ Ok x
 

@@ -298,7 +298,7 @@ nodes_from k (item d ds) = and_then (items_of d) (λ es. if nat_lt k most_rows t
 
 -- each neighbour is a node, and each node a neighbour of its neighbours and not of itself
 abbrev pub edges_with : List (List ℕ) → Read PropertyValue
-edges_with rows = if nat_le (above_sets rows) (length rows) then (if are_joined_back rows 0 rows then Ok (edges rows) else Err Shape) else Err Index
+edges_with rows = if nat_le (above_sets rows) (length rows) then (if are_joined_back rows 0 rows then Ok (edges rows (length rows)) else Err Shape) else Err Index
 
 abbrev pub edges_of : Data → Read PropertyValue
 edges_of d = and_then (items_of d) (λ ds. and_then (nodes_from 0 ds) edges_with)

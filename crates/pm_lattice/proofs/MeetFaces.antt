@@ -1,11 +1,11 @@
 -- The intersections of right sets are the faces.
+use Rattle.pm_geom.proofs.Holds.{among_holds, holds_among}
 use Rattle.pm_vector.proofs.Lists.{All_among, Among, Contains_among, among_All, among_Contains, here, there}
 use Rattle.pm_vector.specs.Cones.{InCone}
 use Rattle.pm_vector.specs.Rows.{HasCols, Row, dot}
 use Rattle.pm_geom.proofs.Faces.{face_of_facets}
 use Rattle.pm_geom.specs.Cones.{IsOrder, IsValid}
 use Rattle.pm_geom.specs.Faces.{HasChain, IsFace, ray}
-use Rattle.pm_lattice.proofs.MemberLists.{among_holds, holds_among}
 use Rattle.pm_geom.specs.Graphs.{holds, sets_of}
 use Rattle.pm_geom.specs.Meets.{HasMeetChain, IsMeet}
 use Rattle.pm_lattice.specs.Laws.{MeetsAreFaces}

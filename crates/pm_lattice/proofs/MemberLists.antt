@@ -1,4 +1,5 @@
 -- Rows of bits as ascending lists of their places.
+use Rattle.pm_geom.proofs.Holds.{among_holds, holds_among}
 use Rattle.pm_vector.proofs.Lists.{All_among, AllPairs_cons, Among, here, there}
 use Rattle.pm_bits.specs.Sets.{HasFirstDifference, has, member_count, members}
 use Rattle.pm_geom.specs.FaceCounts.{IsLexBefore}
@@ -8,43 +9,18 @@ use Rattle.pm_lattice.proofs.Chains.{true_or_not}
 use Rattle.pm_lattice.proofs.Subsets.{below_length}
 use Rattle.pm_lattice.proofs.Reached.{same_bool}
 use Rattle.std.proofs.Common.{arith, inl, inr, refl, subst, sym, ◌∙◌}
-use Rattle.std.proofs.lemmas.Bool.{cases_eq, eq-eqb, eqb-true}
+use Rattle.std.proofs.lemmas.Bool.{cases_eq}
 use Rattle.std.proofs.lemmas.Bool.Decides.{nat_tests}
 use Rattle.std.proofs.lemmas.Cmp.{nat_cmp_total, tied_itself}
 use Rattle.std.proofs.lemmas.List.Sums.{length-filter}
 use Rattle.std.specs.Cmp.Lexicographic.{slice_cmp}
 use Rattle.std.specs.List.{AllPairs, filter, range_with_len}
 use Rattle.std.specs.Ordering.{nat_cmp}
-use Rattle.std.specs.Prelude.{Bool, IsTrue, List, [], cond, false, length, suc, true, zero, ℕ, ◌+◌, ◌<◌, ◌==◌, ◌≤◌, ◌∷◌, ◌≡◌, ◌⊎◌, ◌||◌}
+use Rattle.std.specs.Prelude.{Bool, IsTrue, List, [], cond, false, length, suc, true, zero, ℕ, ◌+◌, ◌<◌, ◌≤◌, ◌∷◌, ◌≡◌, ◌⊎◌}
 use Rattle.std.specs.declared.cmp.Ordering.TheVariants.{Less}
 
 abbrev picked : (ℕ → Bool) → ℕ → ℕ → List ℕ
 picked p a n = filter p (range_with_len a n)
-
--- ---- what a list holds
-or_right : (a b : Bool) → IsTrue b → IsTrue (a || b)
-or_right true b h = refl
-or_right false b h = h
-
-or_left : (a b : Bool) → IsTrue a → IsTrue (a || b)
-or_left true b h = refl
-or_left false b h = absurd cc
-
-or_cases : (a b : Bool) → IsTrue (a || b) → IsTrue a ⊎ IsTrue b
-or_cases true b h = inl refl
-or_cases false b h = inr h
-
-pub among_holds : (xs : List ℕ) (j : ℕ) → Among j xs → IsTrue (holds xs j)
-among_holds [] j i = elim i [ ]
-among_holds (x ∷ xs) j here = or_left (x == x) (holds xs x) (eq-eqb x x refl)
-among_holds (x ∷ xs) j (there i) = or_right (x == j) (holds xs j) (among_holds xs j i)
-
-pub holds_among : (xs : List ℕ) (j : ℕ) → IsTrue (holds xs j) → Among j xs
-holds_among [] j h = absurd cc
-holds_among (x ∷ xs) j h = elim (or_cases (x == j) (holds xs j) h) [
-  | inl e ↦ (let s : x ≡ j = eqb-true x j e in subst (λ k. Among k (x ∷ xs)) s here)
-  | inr k ↦ there (holds_among xs j k)
-]
 
 -- ---- picking places
 pick_split : (p : ℕ → Bool) (a n j : ℕ) → Among j (picked p a (suc n)) → ((j ≡ a) × IsTrue (p a)) ⊎ Among j (picked p (a + 1) n)

@@ -9,8 +9,8 @@ use Rattle.pm_vector.specs.Divisors.{IsPrimitive}
 use Rattle.pm_vector.specs.Rows.{Row, entry, opposite, times}
 use Rattle.pm_vector.proofs.BasisExamples.{primitive_by_one}
 use Rattle.pm_vector.specs.Bases.{IsEchelonBasis}
-use Rattle.pm_geom.proofs.Apart.{apart, lineality_spanned, order_of_apart, without}
-use Rattle.pm_geom.proofs.SmallFans.{fans_are_read}
+use Rattle.pm_geom.proofs.Apart.{lineality_spanned, order_of_apart}
+use Rattle.pm_geom.proofs.SmallFans.{fans_are_read, right_needed, left_needed}
 use Rattle.pm_geom.specs.Cones.{InLineality, IsExtreme, IsOrder, SameModulo}
 use Rattle.pm_geom.specs.Generators.{AreGenerators, IsBefore}
 use Rattle.pm_geom.specs.ThingExamples.{left, right}
@@ -41,16 +41,6 @@ no_basis = record {
 
 span_opposite : (x : Row) → InSpan [] x → InSpan [] (opposite x)
 span_opposite x h = lines_opposite [] x h
-
-right_needed : (v : Row) (i : Among v (right ∷ [])) → ¬ (InCone (without i) [] v)
-unfolding without
-right_needed v here = apart [] [] left right tt tt tt
-right_needed v (there i) = elim i [ ]
-
-left_needed : (v : Row) (i : Among v (left ∷ [])) → ¬ (InCone (without i) [] v)
-unfolding without
-left_needed v here = apart [] [] right left tt tt tt
-left_needed v (there i) = elim i [ ]
 
 -- one primitive row, with a row that is positive on it
 ray_generators : (r tip : Row) → IsOrder 1 (InCone (r ∷ []) []) (r ∷ []) → IsPrimitive r → ((x : Row) → length x ≡ 1 → InLineality (InCone (r ∷ []) []) x → InSpan [] x) → AreGenerators 1 (InCone (r ∷ []) []) (r ∷ []) []

@@ -16,7 +16,8 @@ use Rattle.pm_geom.specs.Faces.{ray}
 use Rattle.pm_laws_normal_fans.proofs.FacetFans.{corner, generated}
 use Rattle.pm_laws_normal_fans.proofs.Places.{among_at, by_order}
 use Rattle.pm_laws_normal_fans.proofs.SumLaws.{IsPointed, line_zero}
-use Rattle.pm_laws_normal_fans.proofs.Vertices.{Enough, enough, extreme_vertex}
+use Rattle.pm_geom.proofs.Enough.{Enough, enough}
+use Rattle.pm_laws_normal_fans.proofs.Vertices.{extreme_vertex}
 use Rattle.pm_laws_normal_fans.specs.FaceFans.{AreOrdersOf, IsCenteredPolytope}
 use Rattle.pm_laws_normal_fans.specs.Shadows.{is_zero}
 use Rattle.pm_laws_normal_fans.specs.Sums.{Cone, In}

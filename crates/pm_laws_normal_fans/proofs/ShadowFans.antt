@@ -17,7 +17,7 @@ use Rattle.pm_geom.specs.Things.{AreFanOrders, IsConeThing}
 use Rattle.pm_laws_normal_fans.proofs.Lifts.{among_rests, held_at, length-rest, lift, rests_among}
 use Rattle.pm_laws_normal_fans.proofs.Places.{among_at, among_range, by_order, from_zero, map_at, map_length, no_pairs, pairs_head, pairs_tail, range_once}
 use Rattle.pm_laws_normal_fans.proofs.Shadows.{HasShadows, IsUpright, Shadow, alike_above, alike_below, alike_in, face_in, is_shadow, line_zero, own_lines, ray_above, ray_below, row_least, zero_of}
-use Rattle.pm_laws_normal_fans.proofs.Vertices.{Enough, enough}
+use Rattle.pm_geom.proofs.Enough.{Enough, enough}
 use Rattle.pm_laws_normal_fans.specs.Fans.{IsConeAt, IsFan, cone_at}
 use Rattle.pm_laws_normal_fans.specs.Shadows.{AreUsed, InShadow, IsShadowFan, held, rest, rests, shadow_fan}
 use Rattle.std.proofs.Common.{ap, arith, refl, subst, sym, ◌∙◌}

@@ -1,16 +1,17 @@
 -- Vertices of a bounded cone: each is determined by the objectives that are least there, and what is least at a point
 -- is least at some vertex.
+use Rattle.pm_geom.proofs.Enough.{Enough, enough}
 use Rattle.pm_vector.proofs.ConeLaws.{in_divide, in_of, in_same, in_to_after}
 use Rattle.pm_vector.proofs.Lists.{Among, among_All, here, there}
 use Rattle.pm_vector.proofs.Ring.{ring}
 use Rattle.pm_vector.proofs.RowLaws.{dot-difference, entry-difference, entry-opposite, entry-plus, entry-times, length-difference, length-opposite, dot-plus}
-use Rattle.pm_vector.proofs.Signs.{mul_nonneg, mul_pos, pos_cancel, weaken}
+use Rattle.pm_vector.proofs.Signs.{mul_pos, pos_cancel, weaken}
 use Rattle.pm_vector.specs.Cones.{InCone}
 use Rattle.pm_vector.specs.Rows.{HasCols, Row, Same, SameDirection, difference, dot, entry, opposite, plus, times}
 use Rattle.pm_geom.proofs.Polar.{cols_at, cut_at, cut_from, generated_is_cut}
 use Rattle.pm_geom.proofs.Reduce.{extremes_generate}
 use Rattle.pm_geom.specs.Cones.{IsExtreme}
-use Rattle.pm_laws_normal_fans.proofs.Numbers.{enough_here, enough_still, from_part, least_vanishes, part_least, valid_least}
+use Rattle.pm_laws_normal_fans.proofs.Numbers.{from_part, least_vanishes, part_least, valid_least}
 use Rattle.pm_laws_normal_fans.proofs.PointSums.{value-same, value-times}
 use Rattle.pm_laws_normal_fans.proofs.SumLaws.{IsMultiple, IsPointed, least_all, multiple}
 use Rattle.pm_laws_normal_fans.specs.Sums.{IsLeastAt, IsVertex, value}
@@ -18,35 +19,7 @@ use Rattle.std.proofs.Common.{ap, arith, sym, ◌∙◌}
 use Rattle.std.proofs.lemmas.Int.{by_lt_z, ints}
 use Rattle.std.specs.Prelude.{List, [], length, suc, ℕ, ◌∷◌, ◌≡◌}
 use lib.IntN.{*ℤ_comm, pos, ℤ, ◌*ℤ◌, ◌+ℤ◌}
-use lib.Signed.{lt_z_yes, ◌<ℤ◌, ◌≤ℤ◌}
-
--- ---- a multiple of z that is above y at each row of a list
-pub record Enough (B : List Row) (z y : Row) : Type 0 where
-  pub m : ℤ
-  pub positive : pos 0 <ℤ m
-  pub above : (b : Row) → Among b B → dot b y ≤ℤ (m *ℤ dot b z)
-
-enough_more : (B : List Row) (b z y : Row) → ((g : Row) → Among g (b ∷ B) → pos 0 ≤ℤ dot g z) → (dot b z ≡ pos 0 → dot b y ≤ℤ pos 0) → Enough B z y → Enough (b ∷ B) z y
-enough_more B b z y f g e =
-    by_lt_z (pos 0) (dot b z)
-    (λ up. by_lt_z (dot b y) (pos 0) (λ low. record { m = e.m; positive = e.positive; above = keep low }) (λ high. record { m = e.m +ℤ dot b y; positive = let p = e.positive in omega (arith, ints); above = raise up high }))
-    (λ flat. let z0 = f b here in let o : dot b z ≡ pos 0 = omega (arith, ints) in record { m = e.m; positive = e.positive; above = level o })
-  where
-    keep : dot b y <ℤ pos 0 → (g : Row) → Among g (b ∷ B) → dot g y ≤ℤ (e.m *ℤ dot g z)
-    keep low g here = let p = mul_nonneg (weaken e.positive) (f b here) in omega (arith, ints)
-    keep low g (there i) = e.above g i
-
-    raise : pos 0 <ℤ dot b z → pos 0 ≤ℤ dot b y → (g : Row) → Among g (b ∷ B) → dot g y ≤ℤ ((e.m +ℤ dot b y) *ℤ dot g z)
-    raise up high g here = enough_here e.m (dot b z) (dot b y) (weaken e.positive) up high
-    raise up high g (there i) = enough_still e.m (dot g z) (dot g y) (dot b y) high (f g (there i)) (e.above g i)
-
-    level : dot b z ≡ pos 0 → (g : Row) → Among g (b ∷ B) → dot g y ≤ℤ (e.m *ℤ dot g z)
-    level o g' here = let p = g o in simp (o, ring) (omega (arith, ints))
-    level o g' (there i) = e.above g' i
-
-pub enough : (B : List Row) (z y : Row) → ((g : Row) → Among g B → pos 0 ≤ℤ dot g z) → ((g : Row) → Among g B → dot g z ≡ pos 0 → dot g y ≤ℤ pos 0) → Enough B z y
-enough [] z y f g = record { m = pos 1; positive = lt_z_yes tt; above = λ b i. elim i [ ] }
-enough (b ∷ B) z y f g = enough_more B b z y f (g b here) (enough B z y (λ h i. f h (there i)) (λ h i. g h (there i)))
+use lib.Signed.{◌<ℤ◌, ◌≤ℤ◌}
 
 -- ---- a row as a first number and an objective
 pub dot_value : (b : ℤ) (c x : Row) → dot (b ∷ c) x ≡ b *ℤ entry x 0 +ℤ value c x

@@ -64,3 +64,7 @@ most_weight = 1000000
 -- the sets of names that a table of costs has
 abbrev pub most_table_rows : ℕ
 most_table_rows = 65536
+
+-- the bytes of a printed plan that is checked
+abbrev pub most_printed_bytes : ℕ
+most_printed_bytes = 16777216

@@ -45,3 +45,6 @@ pub const MOST_WEIGHT: u32 = 1_000_000;
 
 /// The sets of names that a table of costs has.
 pub const MOST_TABLE_ROWS: usize = 65_536;
+
+/// The bytes of a printed plan that is checked.
+pub const MOST_PRINTED_BYTES: usize = 16_777_216;

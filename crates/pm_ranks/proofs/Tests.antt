@@ -1,28 +1,17 @@
 -- Tests on places and on numbers, and what they mean.
+use Rattle.pm_geom.proofs.Holds.{or_cases, or_left, or_right}
 use Rattle.pm_geom.specs.Graphs.{pair_of}
 use Rattle.std.proofs.Common.{inl, inr, refl, subst, sym}
 use Rattle.std.proofs.lemmas.Bool.{eq-eqb, eqb-true}
-use Rattle.std.specs.Prelude.{Bool, IsTrue, false, suc, true, zero, ℕ, ◌&&◌, ◌==◌, ◌||◌, ◌≡◌, ◌⊎◌}
+use Rattle.std.specs.Prelude.{Bool, IsTrue, false, suc, true, zero, ℕ, ◌&&◌, ◌==◌, ◌≡◌, ◌⊎◌}
 use lib.IntN.{negsuc, pos, ℤ}
 
-left_or : (a b : Bool) → IsTrue a → IsTrue (a || b)
-left_or true b h = refl
-left_or false b h = absurd cc
-
-right_or : (a b : Bool) → IsTrue b → IsTrue (a || b)
-right_or true b h = refl
-right_or false b h = h
-
-or_split : (a b : Bool) → IsTrue (a || b) → IsTrue a ⊎ IsTrue b
-or_split true b h = inl refl
-or_split false b h = inr h
-
 pub pair_at : (i j x : ℕ) → (x ≡ i) ⊎ (x ≡ j) → IsTrue (pair_of i j x)
-pair_at i j x (inl e) = left_or (x == i) (x == j) (eq-eqb x i e)
-pair_at i j x (inr e) = right_or (x == i) (x == j) (eq-eqb x j e)
+pair_at i j x (inl e) = or_left (x == i) (x == j) (eq-eqb x i e)
+pair_at i j x (inr e) = or_right (x == i) (x == j) (eq-eqb x j e)
 
 pub at_pair : (i j x : ℕ) → IsTrue (pair_of i j x) → (x ≡ i) ⊎ (x ≡ j)
-at_pair i j x t = elim (or_split (x == i) (x == j) t) [ inl e ↦ inl (eqb-true x i e) | inr e ↦ inr (eqb-true x j e) ]
+at_pair i j x t = elim (or_cases (x == i) (x == j) t) [ inl e ↦ inl (eqb-true x i e) | inr e ↦ inr (eqb-true x j e) ]
 
 unfoldable pub is_zero : ℤ → Bool
 is_zero (pos zero) = true

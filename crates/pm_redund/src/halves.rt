@@ -11,7 +11,7 @@ ghost use Rattle.pm_redund.specs.Redundancy.{IsEnough, IsHalvesFail, IsRowsFail}
 ghost use Rattle.pm_simplex.specs.Lineality.{MarkLines};
 ghost use Rattle.pm_types.specs.Right.{CutsOutOf};
 ghost use Rattle.std.specs.List.{All, range_with_len};
-ghost use Rattle.std.specs.Prelude.{IfErr, IfOk, IsTrue, List, false, get_or, length, map, pred, ℕ, ◌<◌, ◌^◌, ◌≡◌, ◌≤◌, ◌↔◌};
+ghost use Rattle.std.specs.Prelude.{IfErr, IfOk, IsTrue, List, false, get_or, length, map, pred, ℕ, ◌<◌, ◌^◌, ◌≡◌, ◌≤◌, ◌↔◌, ◌≢◌};
 
 use crate::keep::{enough_marks, line_marks};
 use crate::thinned::{kept_of, thinned_rows};
@@ -126,6 +126,7 @@ pub fn thin_rows(
     rows: &[Ints],
     equations: &[Ints],
 ) -> Result<Facets, ThinFail>
+    requires no_fan { of ≢ ObjectType.Fan }
     requires row_cols { HasCols cols rows.now }
     requires equation_cols { HasCols cols equations.now }
     requires few_rows { length rows.now < 2 ^ 28 }

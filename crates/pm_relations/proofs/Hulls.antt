@@ -15,7 +15,7 @@ use Rattle.pm_geom.proofs.Polar.{cut_at, cut_from}
 use Rattle.pm_geom.specs.Cones.{InLineality, IsExtreme, IsOrder, IsValid, SameModulo}
 use Rattle.pm_geom.specs.Generators.{AreGenerators, IsLinealityBasis}
 use Rattle.pm_geom.specs.Things.{Orders}
-use Rattle.pm_hull.specs.Hulls.{InConeOf}
+use Rattle.pm_dd.specs.Hulls.{InConeOf}
 use Rattle.pm_props.specs.declared.kind.Kind.{Kind}
 use Rattle.pm_object_type.specs.declared.object_type.ObjectType.TheVariants.{Cone, Fan, Polytope}
 use Rattle.pm_object_type.specs.declared.object_type.ObjectType.{ObjectType}

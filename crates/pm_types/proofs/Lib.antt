@@ -4,3 +4,5 @@ pub mod Kept
 pub mod Bits
 pub mod WholeRows
 pub mod Indices
+pub mod OverFirst
+pub mod OverOne

@@ -98,14 +98,14 @@ abbrev pub is_of_numbers : ValueKind → Bool
 is_of_numbers kind.Number = true
 is_of_numbers k = false
 
--- the value has the form of a value of p, and keeps the limits: a matrix has at most most_rows rows of one length from 1 to 33 (of SITES to most_site_columns), and without rows it may state no column count, 0; SITE_HEIGHTS has at most most_rows entries; at most most_rows sets, each ascending, of indices below a column count of at most most_rows; at most most_rows counts; edges and lattices as above
+-- the value has the form of a value of p, and keeps the limits: a matrix has at most most_rows rows of one length from 1 to 33 (of SITES to most_site_columns), and without rows it may state no column count, 0; SITE_HEIGHTS has at most most_rows entries; at most most_rows sets, each ascending, of indices below a column count of at most most_rows; at most most_rows counts; edges with the number of their nodes, and lattices, as above
 abbrev pub is_formed : PropId → PropertyValue → Bool
 is_formed p (matrix n rows) = is_of_matrices (value_kind p) && is_matrix_of p n rows
 is_formed p (sets rows n) = is_of_sets (value_kind p) && is_sets_form rows n
 is_formed p (whole k) = is_whole_form p k
 is_formed p (truth b) = is_of_truth_values (value_kind p)
 is_formed p (counts ks) = is_of_counts (value_kind p) && is_counts_form ks
-is_formed p (edges rows) = is_of_edges (value_kind p) && is_edges_form rows
+is_formed p (edges rows n) = is_of_edges (value_kind p) && (is_edges_form rows && nat_eq n (length rows))
 is_formed p (lattice ranks) = is_of_lattices (value_kind p) && is_lattice_form ranks
 is_formed p (extended x) = is_of_numbers (value_kind p)
 

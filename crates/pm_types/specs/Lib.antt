@@ -5,5 +5,7 @@ pub mod Programs
 pub mod Right
 pub mod Runs
 pub mod Views
+pub mod Parts
+pub mod OverFirst
 pub mod Forms
 pub mod Canonical

@@ -25,8 +25,8 @@ pub data PropertyValue : Type 0 where
   truth : Bool → PropertyValue
   -- a fraction, or one of both infinities
   extended : Extended → PropertyValue
-  -- for each node of a graph its neighbours
-  edges : List (List ℕ) → PropertyValue
+  -- for each node of a graph its neighbours, and the number of nodes
+  edges : List (List ℕ) → ℕ → PropertyValue
   -- for each rank the faces, as sets of indices
   lattice : List (List (List ℕ)) → PropertyValue
   -- a list of whole numbers

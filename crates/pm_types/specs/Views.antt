@@ -30,6 +30,6 @@ view_of (value.Sets s) = sets s.rows s.cols
 view_of (value.Int k) = whole k
 view_of (value.Bool b) = truth b
 view_of (value.Counts c) = counts c
-view_of (value.Edges s) = edges s.rows
+view_of (value.Edges s) = edges s.rows s.cols
 view_of (value.Lattice l) = lattice l
 view_of (value.Number x) = extended (extended_of x)

@@ -4,14 +4,21 @@
 
 ghost use Rattle.pm_types.specs.Runs.{RightAnswerIsKept};
 
+mod columns;
+mod fractions;
 mod lattice;
 mod number;
+mod parts;
+mod tests_of_rows;
 mod value;
 
+pub use columns::{agrees_with, column_count, row_count, stated_cols};
+pub use fractions::{matrix_over_one, over_first, over_one, quotient};
 pub use lattice::Lattice;
 pub use number::Number;
 pub use pm_geom::Evidence;
 pub use pm_props::{ClientName, Kind, ObjectType, PropId, PropSet, RuleId, ValueKind};
+pub use tests_of_rows::{are_rows, first_is_below, reads_entries};
 pub use value::{Counts, Sets, Value};
 
 /// Where the facts that an object holds are right, so are they with what a client may answer, in orders that the client

@@ -1,7 +1,8 @@
-use Rattle.std.proofs.Common.{arith, length, map, sym, true, ◌∙◌, ◌≡◌, ◌≤◌, ◌+◌}
+use Rattle.std.proofs.Common.{arith, length, map, subst, sym, true, ◌∙◌, ◌≡◌, ◌≤◌, ◌+◌}
 use Rattle.std.proofs.lemmas.List.{length-map}
 use Rattle.serde_json.specs.View.{items_view}
-use Rattle.pm_types.specs.Forms.{are_joined_back}
+use Rattle.pm_types.specs.Forms.{are_joined_back, is_formed}
+use Rattle.pm_types.specs.Values.{edges}
 use Rattle.pm_json.proofs.EdgeLimits.{edges_have_form, nodes_keep_limits, nodes_within}
 use Rattle.pm_json.specs.Readings.{above_sets}
 use Rattle.pm_json.proofs.edges.read_edges.Goals as goal
@@ -39,4 +40,5 @@ returns-clause-formed c =
     let is = rw c.deref.ensures.value at c.above_sets.ensures in
     let above : above_sets rows ≤ length rows = omega (arith, is, long, c.if-above_sets-len.false, c.len.ensures, c.in_ok-rows.rows.ok) in
     let joined : are_joined_back rows 0 rows ≡ true = sym (rw c.deref-2.ensures.value at c.are_joined_back.ensures) ∙ c.if-not-are_joined_back.false in
-    rw c.from_vec.ensures (edges_have_form c.args.p rows c.requires (omega arith) above kept.indices joined)
+    let nodes : c.len-nodes.result ≡ length rows = omega (arith, long, c.len-nodes.ensures, c.in_ok-rows.rows.ok) in
+    rw c.from_vec.ensures (subst (λ n. is_formed c.args.p (edges rows n) ≡ true) (sym nodes) (edges_have_form c.args.p rows c.requires (omega arith) above kept.indices joined))

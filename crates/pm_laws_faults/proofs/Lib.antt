@@ -1,0 +1,10 @@
+pub mod First
+pub mod Rows
+pub mod Matrices
+pub mod Values
+pub mod Sets
+pub mod Lists
+pub mod StatedSets
+pub mod Edges
+pub mod Examples
+pub mod Lattices

@@ -1,0 +1,16 @@
+//! Laws of the faults of values: the fault that reading answers is the first in reading order. It has no code.
+#![tactic(auto)]
+
+ghost use Rattle.pm_laws_faults.specs.Examples.{FaultsStand, PlacesAreOrdered};
+ghost use Rattle.pm_laws_faults.specs.Laws.{FirstFaultIsRead};
+
+/// The fault of a value is the first in reading order, and one that is read has none.
+pub fn law_first_fault_is_read()
+    ensures { FirstFaultIsRead }
+{}
+
+/// Which place is read before which, and which faults stand in small values.
+pub fn example_faults()
+    ensures places { PlacesAreOrdered }
+    ensures faults { FaultsStand }
+{}
