@@ -7,7 +7,7 @@ use Rattle.pm_build.proofs.Vectors.{corners_cols, curve_cols, is_unit, opposite_
 use Rattle.pm_build.specs.Conditions.{cyclic_refusal, is_cyclic_size, shape_refusal}
 use Rattle.pm_build.specs.Laws.{HaveForms, ShapesHaveForms}
 use Rattle.pm_build.specs.Objects.{polytope_with}
-use Rattle.pm_object.specs.Known.{value_over}
+use Rattle.pm_types.specs.Parts.{value_over}
 use Rattle.pm_build.specs.Rows.{curve, curve_points, headed, headed_rows, opposite_units, simplex_corners, unit, units}
 use Rattle.pm_object.specs.declared.held.Condition.TheVariants as condition
 use Rattle.pm_matrix.specs.Matrices.{IsFraction}

@@ -7,7 +7,8 @@ use Rattle.pm_object.proofs.KnownValues.{IsHeldRow, known_columns, known_rows, p
 use Rattle.pm_build.proofs.Refused.{conditions, refused}
 use Rattle.pm_build.proofs.RowLaws.{length_ratios}
 use Rattle.pm_build.specs.Conditions.{are_few, polar_reads, polar_refusal, product_reads, product_refusal, pyramid_reads, pyramid_refusal}
-use Rattle.pm_object.specs.Known.{IsKnown, IsOfRows, IsReadable, cols_at, held_rows, is_true, rows_at, value_over}
+use Rattle.pm_object.specs.Known.{IsKnown, IsOfRows, IsReadable, cols_at, held_rows, is_true, rows_at}
+use Rattle.pm_types.specs.Parts.{value_over}
 use Rattle.pm_build.specs.Laws.{HaveForms, OthersHaveForms}
 use Rattle.pm_build.specs.Objects.{both_rows, padded, polar_of, product_cols, product_of, pyramid_lines, pyramid_of, pyramid_points, spread}
 use Rattle.pm_build.specs.Rows.{apex_row}

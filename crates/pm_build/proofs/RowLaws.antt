@@ -2,7 +2,7 @@
 use Rattle.pm_vector.specs.Numbers.{Ratio}
 use Rattle.pm_vector.specs.Rows.{Row}
 use Rattle.pm_build.specs.Objects.{zeros}
-use Rattle.pm_object.specs.Known.{cols_over}
+use Rattle.pm_types.specs.Parts.{cols_over}
 use Rattle.pm_build.specs.Rows.{apex_row, curve, headed, headed_rows, opposite_units, unit}
 use Rattle.pm_types.specs.Views.{over_one, ratios}
 use Rattle.std.proofs.Common.{add-one, ap, arith, refl, subst, sym, ◌∙◌}

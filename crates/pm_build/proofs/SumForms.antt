@@ -15,7 +15,8 @@ use Rattle.pm_build.specs.Points.{far, is_point, pairs, pairs_with, points}
 use Rattle.pm_build.specs.SumSteps.{ColumnStays, IsSumRow, sum_entry}
 use Rattle.pm_build.specs.Sums.{AreSums, sum_lines}
 use Rattle.pm_object.proofs.KnownValues.{AreHeldRows, IsHeldRow, known_columns, known_rows, polytope_is}
-use Rattle.pm_object.specs.Known.{cols_at, is_true, rows_at, value_over}
+use Rattle.pm_object.specs.Known.{cols_at, is_true, rows_at}
+use Rattle.pm_types.specs.Parts.{value_over}
 use Rattle.pm_object.specs.State.{State, is_polytope}
 use Rattle.pm_object.specs.declared.held.Condition.TheVariants as condition
 use Rattle.pm_object_type.specs.declared.object_type.ObjectType.{ObjectType}

@@ -9,7 +9,8 @@ use Rattle.pm_props.specs.declared.property.PropId.TheVariants.{AffineHull, Boun
 use Rattle.pm_types.specs.Values.{PropertyValue, matrix, truth, whole}
 use Rattle.pm_types.specs.Views.{ratios}
 use Rattle.pm_build.specs.Conditions.{cyclic_refusal, polar_refusal, product_refusal, pyramid_refusal, shape_refusal}
-use Rattle.pm_object.specs.Known.{cols_at, is_true, rows_at, value_over}
+use Rattle.pm_object.specs.Known.{cols_at, is_true, rows_at}
+use Rattle.pm_types.specs.Parts.{value_over}
 use Rattle.pm_build.specs.Objects.{both_rows, cross_of, cube_of, cyclic_of, padded, polar_of, polytope_with, product_of, put_below, pyramid_of, simplex_of, spread}
 use Rattle.pm_build.specs.Rows.{apex_row, curve, curve_points, opposite_units, simplex_corners, unit, units}
 use Rattle.pm_object.specs.declared.held.Condition.TheVariants as condition

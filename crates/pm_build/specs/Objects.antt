@@ -9,7 +9,8 @@ use Rattle.pm_props.specs.declared.property.PropId.{PropId}
 use Rattle.pm_props.specs.declared.property.PropId.TheVariants.{AffineHull, Equations, Facets, Inequalities, InputLineality, LinealitySpace, Points, Vertices}
 use Rattle.pm_types.specs.Values.{PropertyValue, matrix}
 use Rattle.pm_types.specs.Views.{over_one, ratios}
-use Rattle.pm_object.specs.Known.{cols_at, rows_at, value_over}
+use Rattle.pm_object.specs.Known.{cols_at, rows_at}
+use Rattle.pm_types.specs.Parts.{value_over}
 use Rattle.pm_build.specs.Rows.{apex_row, curve_points, headed_rows, opposite_units, simplex_corners}
 use lib.IntN.{pos}
 

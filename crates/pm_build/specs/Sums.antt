@@ -7,7 +7,8 @@ use Rattle.pm_vector.specs.Rows.{Row}
 use Rattle.pm_files.specs.Files.{SavedFile}
 use Rattle.pm_matrix.specs.FractionRows.{ArePrimitiveRowsOf}
 use Rattle.pm_matrix.specs.Matrices.{FractionMatrix}
-use Rattle.pm_object.specs.Known.{cols_at, rows_at, value_over}
+use Rattle.pm_object.specs.Known.{cols_at, rows_at}
+use Rattle.pm_types.specs.Parts.{value_over}
 use Rattle.pm_object.specs.State.{State}
 use Rattle.pm_props.specs.declared.property.PropId.TheVariants.{InputLineality, LinealitySpace, Points, Vertices}
 use Rattle.pm_build.specs.Conditions.{sum_refusal}

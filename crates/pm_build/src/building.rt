@@ -1,7 +1,8 @@
 // The calls that build objects.
 
 ghost use Rattle.pm_build.specs.Conditions.{cyclic_refusal, polar_reads, polar_refusal, product_reads, product_refusal, pyramid_reads, pyramid_refusal, shape_refusal, sum_reads, sum_refusal};
-ghost use Rattle.pm_object.specs.Known.{IsReadable, matrix_of};
+ghost use Rattle.pm_object.specs.Known.{IsReadable};
+ghost use Rattle.pm_types.specs.Parts.{matrix_of};
 ghost use Rattle.pm_build.specs.Objects.{cross_of, cube_of, cyclic_of, polar_of, polytope_with, product_of, pyramid_of, simplex_of};
 ghost use Rattle.pm_build.specs.Sums.{IsSumFile, IsSumRefused};
 ghost use Rattle.pm_files.specs.Views.{file_of};

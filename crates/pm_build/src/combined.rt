@@ -1,7 +1,8 @@
 // Rows of polytopes that are made of others.
 
 ghost use Rattle.pm_build.specs.Objects.{both_rows, padded, product_cols, put_below, pyramid_lines, pyramid_points, spread};
-ghost use Rattle.pm_object.specs.Known.{IsKnown, IsOfRows, cols_at, cols_over};
+ghost use Rattle.pm_object.specs.Known.{IsKnown, IsOfRows, cols_at};
+ghost use Rattle.pm_types.specs.Parts.{cols_over};
 ghost use Rattle.pm_build.specs.Rows.{apex_row};
 ghost use Rattle.pm_types.specs.Views.{ratios};
 ghost use Rattle.pm_props.specs.declared.property.PropId.TheVariants.{LinealitySpace, Vertices};

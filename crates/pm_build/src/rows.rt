@@ -2,7 +2,7 @@
 
 ghost use Rattle.pm_build.specs.Objects.{put_below};
 ghost use Rattle.pm_build.specs.Rows.{headed, unit};
-ghost use Rattle.pm_object.specs.Known.{cols_over};
+ghost use Rattle.pm_types.specs.Parts.{cols_over};
 ghost use Rattle.pm_types.specs.Views.{ratios};
 ghost use Rattle.std.specs.Prelude.{IfOk, OnOk, [], length, replicate, ◌+◌, ◌<◌, ◌^◌, ◌∷◌, ◌≡◌, pos};
 

@@ -1,7 +1,7 @@
 // The rows of standard polytopes.
 
 ghost use Rattle.pm_build.specs.Conditions.{is_cyclic_size};
-ghost use Rattle.pm_object.specs.Known.{cols_over};
+ghost use Rattle.pm_types.specs.Parts.{cols_over};
 ghost use Rattle.pm_build.specs.Rows.{curve, curve_points, headed, headed_rows, opposite_units, simplex_corners};
 ghost use Rattle.pm_types.specs.Views.{over_one, ratios};
 ghost use Rattle.std.specs.Prelude.{IfOk, length, nat_lt, pos, suc, ◌+◌, ◌<◌, ◌^◌, ◌≡◌, ◌≤◌};

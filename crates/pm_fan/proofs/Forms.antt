@@ -10,7 +10,8 @@ use Rattle.pm_fan.specs.Laws.{FansHaveForms, HaveForms}
 use Rattle.pm_matrix.specs.Matrices.{IsFraction}
 use Rattle.pm_object.proofs.KnownValues.{IsHeldRow, known_columns, known_rows, known_sets, polytope_is}
 use Rattle.pm_object.specs.Formed.{IsFormed}
-use Rattle.pm_object.specs.Known.{IsReadable, cols_at, is_true, rows_at, sets_at, value_of_sets, value_over}
+use Rattle.pm_object.specs.Known.{IsReadable, cols_at, is_true, rows_at, sets_at}
+use Rattle.pm_types.specs.Parts.{value_of_sets, value_over}
 use Rattle.pm_object.specs.State.{State, is_polytope}
 use Rattle.pm_object_type.specs.declared.object_type.ObjectType.TheVariants.{Fan}
 use Rattle.pm_object_type.specs.declared.object_type.ObjectType.{ObjectType}

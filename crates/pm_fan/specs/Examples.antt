@@ -2,7 +2,7 @@
 use Rattle.std.specs.Prelude.{ℕ, ◌≡◌, Bool, true, false, List, [], ◌∷◌, ◌++◌, None, Some, map}
 use Rattle.pm_vector.specs.Rows.{Row}
 use Rattle.pm_files.specs.Files.{SavedFile}
-use Rattle.pm_object.specs.Known.{value_over}
+use Rattle.pm_types.specs.Parts.{value_over}
 use Rattle.pm_object.specs.State.{HeldValue, State}
 use Rattle.pm_object.specs.declared.held.Condition.TheVariants as condition
 use Rattle.pm_object.specs.declared.held.Origin.TheVariants.{Given}

@@ -4,7 +4,8 @@ use Rattle.std.specs.List.{range_with_len}
 use Rattle.pm_vector.specs.Numbers.{Ratio}
 use Rattle.pm_files.specs.Files.{SavedFile}
 use Rattle.pm_geom.specs.Graphs.{holds}
-use Rattle.pm_object.specs.Known.{cols_at, rows_at, sets_at, value_of_sets, value_over}
+use Rattle.pm_object.specs.Known.{cols_at, rows_at, sets_at}
+use Rattle.pm_types.specs.Parts.{value_of_sets, value_over}
 use Rattle.pm_object.specs.State.{State}
 use Rattle.pm_object_type.specs.declared.object_type.ObjectType.TheVariants.{Fan}
 use Rattle.pm_props.specs.declared.property.PropId.{PropId}

@@ -3,7 +3,8 @@
 ghost use Rattle.pm_fan.specs.Conditions.{are_of_facets, face_reads, face_refusal, normal_reads, normal_refusal, rows_refusal};
 ghost use Rattle.pm_fan.specs.Fans.{face_cones, face_fan_of, face_rays, fan_cols, fan_with, normal_cones, normal_fan_of, normal_rays};
 ghost use Rattle.pm_files.specs.Views.{file_of};
-ghost use Rattle.pm_object.specs.Known.{IsKnown, IsReadable, cols_at, cols_over};
+ghost use Rattle.pm_object.specs.Known.{IsKnown, IsReadable, cols_at};
+ghost use Rattle.pm_types.specs.Parts.{cols_over};
 ghost use Rattle.pm_object.specs.State.{IsRefused};
 ghost use Rattle.pm_types.specs.Views.{view_of};
 ghost use Rattle.std.specs.Prelude.{IfErr, IfOk, None, OnOk, length, map, true, ◌≡◌, ◌≤◌};

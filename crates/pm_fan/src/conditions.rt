@@ -9,8 +9,8 @@ ghost use Rattle.pm_props.specs.declared.property.PropId.TheVariants.{Facets, Ve
 ghost use Rattle.std.specs.Prelude.{IfNone, IfSome, Some, [], true, ◌∷◌, ◌≡◌, ◌≤◌};
 
 use pm_files::FileObject;
-use pm_object::{Condition, Object, are_rows, cols_at, is_polytope, is_true, matrix_at, sets_at};
-use pm_types::PropId;
+use pm_object::{Condition, Object, cols_at, is_polytope, is_true, matrix_at, sets_at};
+use pm_types::{PropId, are_rows};
 
 // Whether there is a set for each facet.
 fn are_of_facets(o: &Object) -> bool

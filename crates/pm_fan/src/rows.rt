@@ -1,7 +1,7 @@
 // Rows without their first coordinate.
 
 ghost use Rattle.pm_fan.specs.Fans.{cut, has_members, with_members};
-ghost use Rattle.pm_object.specs.Known.{cols_over};
+ghost use Rattle.pm_types.specs.Parts.{cols_over};
 ghost use Rattle.std.specs.Prelude.{IfOk, OnOk, [], length, map, suc, ◌++◌, ◌<◌, ◌∷◌, ◌≡◌};
 
 use pm_fraction::Fraction;

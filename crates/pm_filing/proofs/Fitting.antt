@@ -124,7 +124,7 @@ apart_back p q h = by (same_property p q) refl
     by true e = absurd (true≢false (sym (subst (λ z. same_property z p ≡ true) (same_property_is p q e) (same_property_refl p)) ∙ h))
     by false e = e
 
-unheld_from : (p : PropId) (held : List HeldValue) → ((h : HeldValue) → Among h held → same_property p h.property ≡ false) → is_held p (read_at None held) ≡ false
+pub unheld_from : (p : PropId) (held : List HeldValue) → ((h : HeldValue) → Among h held → same_property p h.property ≡ false) → is_held p (read_at None held) ≡ false
 unheld_from p [] f = refl
 unheld_from p (h ∷ held) f = by (same_place h.place (place_of None h.property)) (unheld_from p held (λ g i. f g (there i)))
   where

@@ -1,5 +1,5 @@
 -- What stands in lists put one behind another.
-use Rattle.std.proofs.Common.{inl, inr, ◌++◌, ◌∷◌, List, []}
+use Rattle.std.proofs.Common.{inl, inr, ◌∷◌, List, []}
 use Rattle.std.specs.Prelude.{flat_map}
 use Rattle.pm_vector.proofs.Lists.{Among, among_append, among_append_left, among_append_right, here, there}
 

@@ -1,9 +1,6 @@
-mod Examples
-mod WholeExamples
 pub mod Loaded
 mod Fitting
 mod SuitLaws
-pub mod ReadingExamples
 pub mod PartTurns
 pub mod Unique
 pub mod ItemTurns

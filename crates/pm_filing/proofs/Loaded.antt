@@ -1,9 +1,9 @@
 -- An object that is made of a file is honest.
 use Rattle.pm_vector.proofs.Filters.{map_among}
-use Rattle.pm_vector.proofs.Lists.{Among, among_Contains, among_append, here}
+use Rattle.pm_vector.proofs.Lists.{Among, among_Contains, among_append}
 use Rattle.pm_vector.specs.Numbers.{Ratio}
 use Rattle.pm_files.specs.Files.{SavedFile, SavedProgram}
-use Rattle.pm_filing.specs.Filing.{loaded_value, objective_held, objective_value, objectives_held, origin_in, unsettled_object}
+use Rattle.pm_filing.specs.Filing.{loaded_value, objective_held, objectives_held, origin_in, unsettled_object}
 use Rattle.pm_filing.specs.Laws.{LoadedIsKept}
 use Rattle.pm_object.proofs.Formed.{only}
 use Rattle.pm_object.proofs.Honesty.{based_is_kept, empty_is_kept, honesty_is_of_values, settled_is_kept}

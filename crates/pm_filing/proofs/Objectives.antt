@@ -1,9 +1,9 @@
 -- Objectives: rows as values, and programs one after another.
-use Rattle.std.proofs.Common.{ap, append-nil, append_assoc, arith, refl, sym, subst, true, false, true≢false, ◌+◌, ◌++◌, ◌≡◌, ◌∙◌, ◌∷◌, ◌&&◌, List, [], Option, Some, None, ℕ, suc, length}
+use Rattle.std.proofs.Common.{ap, append-nil, append_assoc, arith, refl, sym, true, false, true≢false, ◌+◌, ◌++◌, ◌≡◌, ◌∙◌, ◌∷◌, ◌&&◌, List, [], Some, ℕ, suc, length}
 use Rattle.std.proofs.lemmas.Bool.{and_parts, eqb-true}
 use Rattle.std.proofs.lemmas.List.{length-append}
 use Rattle.std.specs.List.{list_all}
-use Rattle.std.specs.Prelude.{Bool, flat_map, map, nat_eq, nat_le}
+use Rattle.std.specs.Prelude.{flat_map, map, nat_eq, nat_le}
 use Rattle.pm_vector.specs.Numbers.{Ratio}
 use Rattle.pm_files.specs.Files.{SavedProgram}
 use Rattle.pm_filing.specs.Filing.{entries_of, mark_read, marks_of_programs, name_told, objective_held, objective_rows, objective_value, objectives_held, with_programs}
@@ -33,7 +33,7 @@ objective_is (sets rows n) h = absurd (true≢false (sym h))
 objective_is (whole k) h = absurd (true≢false (sym h))
 objective_is (truth b) h = absurd (true≢false (sym h))
 objective_is (extended x) h = absurd (true≢false (sym h))
-objective_is (edges rows) h = absurd (true≢false (sym h))
+objective_is (edges rows n) h = absurd (true≢false (sym h))
 objective_is (lattice ranks) h = absurd (true≢false (sym h))
 objective_is (counts ks) h = absurd (true≢false (sym h))
 
@@ -43,7 +43,7 @@ rows_of_objective (sets rows n) h = absurd (true≢false (sym h))
 rows_of_objective (whole k) h = absurd (true≢false (sym h))
 rows_of_objective (truth b) h = absurd (true≢false (sym h))
 rows_of_objective (extended x) h = absurd (true≢false (sym h))
-rows_of_objective (edges rows) h = absurd (true≢false (sym h))
+rows_of_objective (edges rows n) h = absurd (true≢false (sym h))
 rows_of_objective (lattice ranks) h = absurd (true≢false (sym h))
 rows_of_objective (counts ks) h = absurd (true≢false (sym h))
 

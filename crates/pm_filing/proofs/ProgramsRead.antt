@@ -1,7 +1,7 @@
 -- The linear programs of a file that is read: how many they are, their names, their objectives and their marks.
 use Rattle.std.proofs.lemmas.Option.{none-some as none_some, same_Some as some_is}
-use Rattle.std.proofs.Common.{refl, sym, ap, subst, arith, inl, inr, ◌∙◌, ◌≡◌, ◌++◌, ◌∷◌, ◌&&◌, ◌||◌, ◌+◌, ◌≤◌, ◌<◌, ℕ, suc, zero, List, [], Option, Some, None, Ok, Err, Bool, true, false, true≢false, Ordering, Less, Equal, Greater, append-nil, length-append}
-use Rattle.std.proofs.lemmas.Bool.{and_from, and_parts, le-leb, ltb-true}
+use Rattle.std.proofs.Common.{refl, sym, ap, subst, arith, ◌∙◌, ◌≡◌, ◌++◌, ◌∷◌, ◌&&◌, ◌||◌, ◌+◌, ◌≤◌, ◌<◌, ℕ, suc, List, [], Option, Some, None, Ok, Err, Bool, true, false, true≢false, Ordering, Less, Equal, Greater, append-nil, length-append}
+use Rattle.std.proofs.lemmas.Bool.{and_from, and_parts, ltb-true}
 use Rattle.std.proofs.lemmas.List.Folds.{list_all-append, list_any-append}
 use Rattle.std.proofs.lemmas.Slice.Eq.{bytes_eq-Decides}
 use Rattle.std.specs.Cmp.Lexicographic.{slice_cmp}
@@ -9,15 +9,14 @@ use Rattle.std.specs.Fmt.{digits}
 use Rattle.std.specs.List.{list_all, list_any}
 use Rattle.std.specs.Option.{is_some}
 use Rattle.std.specs.Ordering.{match_ordering, nat_cmp}
-use Rattle.std.specs.Prelude.{codes, if◌then◌else◌, length, map, nat_le, nat_lt, not, option_and_then, option_map}
+use Rattle.std.specs.Prelude.{codes, if◌then◌else◌, length, map, nat_lt, not, option_and_then, option_map}
 use Rattle.std.specs.Str.{bytes_eq}
 use Rattle.pm_vector.proofs.Lists.{Among, here, there}
-use Rattle.pm_vector.specs.Numbers.{Ratio}
 use Rattle.pm_files.proofs.Ascending.{Ascends, key_is, none_at}
 use Rattle.pm_files.specs.Files.{Mark, SavedProgram}
 use Rattle.pm_filing.specs.FileParts.{FileRead, Part, at_key, is_other_form, is_programs_key, objective_in, objectives_from, objectives_of, part_at, parts_in, programs, programs_of, programs_part, property_at, read_as, then_read, value, value_part}
 use Rattle.pm_filing.specs.Filing.{name_told}
-use Rattle.pm_filing.specs.Profiles.{are_different, each_read, items_read, objectives_in, plain_names_from, programs_by, programs_in, programs_with}
+use Rattle.pm_filing.specs.Profiles.{are_different, each_read, items_read, objectives_in, plain_names_from, programs_by, programs_with}
 use Rattle.pm_json.specs.declared.fail.ValueFail.TheVariants.{Limit, Shape}
 use Rattle.pm_json.specs.Readings.{Read, and_then, before, reading}
 use Rattle.pm_object.specs.Formed.{are_different as names_differ}

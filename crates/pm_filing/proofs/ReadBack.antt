@@ -4,7 +4,7 @@ use Rattle.std.proofs.lemmas.Bool.{and_from, and_parts, eqb-false, eqb-true, leb
 use Rattle.std.proofs.lemmas.List.Elements.{All-head, All-tail}
 use Rattle.std.proofs.lemmas.Slice.Eq.{bytes_eq-Decides}
 use Rattle.std.specs.List.{All, list_all, sum_by}
-use Rattle.std.specs.Prelude.{codes, if◌then◌else◌, not}
+use Rattle.std.specs.Prelude.{codes, if◌then◌else◌, nat_eq, not}
 use Rattle.serde_json.specs.View.{items_of as listed}
 use Rattle.pm_vector.specs.Numbers.{Ratio}
 use Rattle.pm_fraction.proofs.ReadsBack.{reads_text}
@@ -182,9 +182,10 @@ text_is p (truth b) form fractions = refl
 text_is p (counts ks) form fractions =
     let f = and_parts (is_of_counts (value_kind p)) (is_counts_form ks) form in
     (listed (map whole_json ks), refl, numbers_text ks (and_parts (leb (length ks) most_rows) (list_all has_64_bits ks) f.1).1)
-text_is p (edges rows) form fractions =
-    let f = and_parts (is_of_edges (value_kind p)) (is_edges_form rows) form in
-    let s = and_parts (is_sets_form rows (length rows)) (are_joined_back rows 0 rows) f.1 in
+text_is p (edges rows n) form fractions =
+    let f = and_parts (is_of_edges (value_kind p)) (is_edges_form rows && nat_eq n (length rows)) form in
+    let e = and_parts (is_edges_form rows) (nat_eq n (length rows)) f.1 in
+    let s = and_parts (is_sets_form rows (length rows)) (are_joined_back rows 0 rows) e.0 in
     (listed (map set_json rows), refl, sets_text (length rows) rows (and_parts (leb (length rows) most_rows && leb (length rows) most_rows) (list_all (are_indices (length rows) 0) rows) s.0).1)
 text_is p (lattice ranks) form fractions =
     let f = and_parts (is_of_lattices (value_kind p)) (is_lattice_form ranks) form in

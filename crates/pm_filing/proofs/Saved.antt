@@ -18,7 +18,7 @@ use Rattle.pm_filing.proofs.HeldSets.{set_of-has}
 use Rattle.pm_filing.proofs.ItemTurns.{different-fresh}
 use Rattle.pm_filing.proofs.PartTurns.{all-append}
 use Rattle.pm_filing.specs.Filing.{failure_of, found_names, is_found, is_own_found, label_in, mark_by, mark_written, marks_written, objective_rows, objective_value, own, property_with_value, saved_file, saved_program, saved_programs, with_mark}
-use Rattle.pm_filing.specs.Profiles.{are_different, same_label}
+use Rattle.pm_filing.specs.Profiles.{same_label}
 use Rattle.pm_filing.specs.Views.{Suits}
 use Rattle.pm_filing.specs.Whole.{AreMarks, IsWhole, all_values, are_of_different, is_mark, is_of_one, objective_of}
 use Rattle.pm_geom.specs.Evidence.{evidence_number}

@@ -1,5 +1,5 @@
 -- The programs of a file that is written, one after another.
-use Rattle.std.proofs.Common.{ap, append-nil, append_assoc, arith, drop, refl, sym, ◌+◌, ◌++◌, ◌<◌, ◌≤◌, ◌≡◌, ◌∙◌, ◌∷◌, List, [], Option, Some, None, ℕ, suc, zero, length}
+use Rattle.std.proofs.Common.{ap, append-nil, append_assoc, arith, drop, refl, sym, ◌+◌, ◌++◌, ◌<◌, ◌≡◌, ◌∙◌, ◌∷◌, List, [], Some, ℕ, suc, zero, length}
 use Rattle.std.specs.Prelude.{IfSome, map, slice_get}
 use Rattle.pm_files.specs.Files.{SavedProgram}
 use Rattle.pm_filing.specs.Filing.{name_told, saved_program, saved_programs}

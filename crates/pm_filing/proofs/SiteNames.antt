@@ -1,5 +1,5 @@
 -- SITES and SITE_HEIGHTS among the stored properties of a file: where its profile names one of them, it is stored, and the other way round.
-use Rattle.std.proofs.lemmas.Option.{none-some as none_some, same_Some as some_is}
+use Rattle.std.proofs.lemmas.Option.{same_Some as some_is}
 use Rattle.std.proofs.Common.{ap, inl, inr, refl, subst, sym, ◌∙◌, ◌≡◌, ◌||◌, ◌∷◌, ℕ, List, [], Option, Some, None, Ok, Bool, true, false, true≢false}
 use Rattle.std.proofs.lemmas.Bool.{and_parts}
 use Rattle.std.specs.List.{list_any}
@@ -8,7 +8,6 @@ use Rattle.pm_vector.proofs.Filters.{any_from, any_to}
 use Rattle.pm_vector.proofs.Lists.{Among}
 use Rattle.pm_filing.proofs.HeldSets.{set_of-has}
 use Rattle.pm_filing.proofs.ReadSteps.{if_from, map_from, ok_from, ok_is, some_from, then_from}
-use Rattle.pm_filing.specs.FileParts.{FileRead}
 use Rattle.pm_filing.specs.FileReadings.{any_names_sites, finds_sites, is_of_sites, list_names_sites, names_sites}
 use Rattle.pm_filing.specs.Profiles.{Profile, are_different, different_read, each_read, full_profile, if_different, if_held, is_profile_2, list_read, marks_in, or_bad, plain_profile, profile_in, program_names, stored_by, stored_property}
 use Rattle.pm_object_type.specs.declared.object_type.ObjectType.{ObjectType}

@@ -1,9 +1,8 @@
 -- Heights are held against the sites of one part after another.
-use Rattle.std.proofs.Common.{ap, refl, ◌∙◌, ◌≡◌, ◌++◌, ◌∷◌, ◌&&◌, List, [], None, Option, Some, true}
+use Rattle.std.proofs.Common.{refl, ◌≡◌, ◌∷◌, ◌&&◌, List, [], None, Option, Some, true}
 use Rattle.std.proofs.lemmas.List.Folds.{list_all-append}
-use Rattle.std.specs.List.{list_all}
-use Rattle.pm_filing.specs.FileParts.{Part, programs, value}
-use Rattle.pm_filing.specs.FileReadings.{Named, fits_sites, named_objective, named_objectives, named_part, named_values}
+use Rattle.pm_filing.specs.FileParts.{Part}
+use Rattle.pm_filing.specs.FileReadings.{Named, fits_sites, named_objectives, named_part, named_values}
 use Rattle.pm_object.specs.State.{have_as_many_sites}
 use Rattle.pm_object_type.specs.declared.object_type.ObjectType.{ObjectType}
 use Rattle.pm_props.specs.declared.property.PropId.{PropId}

@@ -21,7 +21,7 @@ use Rattle.pm_filing.proofs.ReadSteps.{err_ok, if_from, key_from, map_from, ok_f
 use Rattle.pm_filing.proofs.SiteNames.{found_sites}
 use Rattle.pm_filing.proofs.SuitLaws.{Tested, TestedSuits, all_at, is_tested, objective_tested, tested_suits}
 use Rattle.pm_filing.specs.Filing.{name_told}
-use Rattle.pm_filing.specs.FileParts.{FileFault, FileRead, Part, at_key, data_in, json_in, members_in, no_type, not_json, objectives_of, or_else_fault, part_at, parts_in, programs, programs_part, property_at, read_as, then_read, too_long, type_in, value, value_part, is_programs_key, is_other_form}
+use Rattle.pm_filing.specs.FileParts.{Part, data_in, json_in, members_in, no_type, not_json, objectives_of, or_else_fault, part_at, parts_in, programs, programs_part, property_at, read_as, then_read, too_long, type_in, value, value_part, is_programs_key, is_other_form}
 use Rattle.pm_filing.specs.FileReadings.{Named, ReadsSeen, Seen, finds_sites, fits_sites, named_values, seen, seen_in, seen_of, tied_values}
 use Rattle.pm_filing.specs.Profiles.{Profile, are_different, different_read, each_read, evidence_of, file_with, full_profile, if_different, if_held, if_name, is_profile_2, list_read, mark_among, mark_by, mark_of, mark_with, marks_in, names_held, no_marks, objectives_in, or_bad, plain_profile, profile_in, program_name_of, program_names, programs_by, programs_in, programs_with, same_label, stored_by, stored_property, values_in}
 use Rattle.pm_filing.specs.ReadingViews.{HaveFractions, are_formed_parts, is_formed_objective}

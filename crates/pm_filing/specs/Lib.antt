@@ -1,12 +1,9 @@
 pub mod Filing
 pub mod Whole
-pub mod WholeExamples
 pub mod Views
-pub mod Examples
 pub mod Laws
 pub mod FileParts
 pub mod Profiles
 pub mod FileReadings
 pub mod ReadingViews
 pub mod ReadingLaws
-pub mod ReadingExamples

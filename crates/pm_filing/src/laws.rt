@@ -1,8 +1,7 @@
-// The law of honesty, the laws of values and files that are read back, and examples.
+// The law of honesty, and the laws of values and files that are read back and read in one way.
 
-ghost use Rattle.pm_filing.specs.Examples.{FilesAreLoaded, ObjectsAreSaved};
 ghost use Rattle.pm_filing.specs.Laws.{FilesAreReadBack, LoadedIsKept, SavedIsWhole, ValuesAreReadBack};
-ghost use Rattle.pm_filing.specs.WholeExamples.{FilesAreWhole, ObjectsAreAgain};
+ghost use Rattle.pm_filing.specs.ReadingLaws.{ReadingsAreUnique};
 
 /// A value in the form of its property is read back from its JSON.
 pub fn law_values_are_read_back()
@@ -24,22 +23,7 @@ pub fn law_files_are_read_back()
     ensures { FilesAreReadBack }
 {}
 
-/// What an object has of a file: origins and marks.
-pub fn example_loaded()
-    ensures { FilesAreLoaded }
-{}
-
-/// What a file has of an object: stored values and marks.
-pub fn example_saved()
-    ensures { ObjectsAreSaved }
-{}
-
-/// Which files are whole, and which are the same.
-pub fn example_whole()
-    ensures { FilesAreWhole }
-{}
-
-/// What is loaded again of held values and failures.
-pub fn example_again()
-    ensures { ObjectsAreAgain }
+/// Bytes are read as one file at most, or refused for one fault at most, and not both.
+pub fn law_readings_are_unique()
+    ensures { ReadingsAreUnique }
 {}

@@ -7,7 +7,6 @@ ghost use Rattle.pm_files.specs.Files.{SavedFile, file_bytes};
 ghost use Rattle.pm_filing.specs.ReadingViews.{marks_seen};
 ghost use Rattle.pm_files.specs.Views.{file_of, program_of};
 ghost use Rattle.pm_object.specs.State.{read_at, value_of};
-ghost use Rattle.pm_props.specs.Places.{same_place};
 ghost use Rattle.pm_props.specs.declared.property.PropId.TheVariants.{LinearObjective};
 ghost use Rattle.pm_object.specs.Views.{held_seen};
 ghost use Rattle.pm_filing.specs.Views.{value_seen};
@@ -17,7 +16,7 @@ ghost use Rattle.pm_limits.specs.Limits.{most_file_bytes};
 use crate::profile::has_label;
 use pm_files::{FileObject, FileProgram, object_bytes};
 use pm_matrix::Matrix;
-use pm_object::{Excluded, Held, Object, Origin, Why};
+use pm_object::{Excluded, Held, Object, Origin, Why, are_same};
 use pm_rules::Book;
 use pm_types::{PropId, PropSet, Value};
 use std::alloc::{AllocError, Global};
@@ -104,17 +103,6 @@ fn push_mark(
     let label = String::from_str(alloc, rule.label.as_str())?;
     failed.push((label, k))?;
     Ok(())
-}
-
-/// Whether two places are the same.
-fn are_same(a: Option<u8>, b: Option<u8>) -> bool
-    ensures { result ≡ same_place a b }
-{
-    match (a, b) {
-        (None, None) => true,
-        (Some(i), Some(j)) => i == j,
-        _ => false,
-    }
 }
 
 /// The marks of rules that failed for the object itself, or for the linear program at a place, each of another label.

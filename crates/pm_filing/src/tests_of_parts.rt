@@ -11,11 +11,9 @@ ghost use Rattle.std.specs.Prelude.{IfErr, IfOk, IsTrue, None, OnOk, Some, map, 
 
 use crate::fail::FileFail;
 use crate::parts::FilePart;
-use pm_object::{
-    TakeFail, agrees, are_rows, have_as_many_sites, require_primitive_rows, stated_cols,
-};
+use pm_object::{TakeFail, agrees, have_as_many_sites, require_primitive_rows};
 use pm_props::{Columns, ObjectType, PropId};
-use pm_types::Value;
+use pm_types::{Value, are_rows, stated_cols};
 use std::alloc::Global;
 
 /// The dimension that a whole number states.

@@ -5,7 +5,7 @@ use Rattle.pm_vector.specs.Numbers.{Ratio}
 use Rattle.pm_vector.specs.Rows.{HasCols, Row}
 use Rattle.pm_laws_build.specs.Laws.{settled_facts}
 use Rattle.pm_build.specs.Objects.{polytope_with}
-use Rattle.pm_object.specs.Known.{cols_over}
+use Rattle.pm_types.specs.Parts.{cols_over}
 use Rattle.pm_geom.specs.Things.{IsPolytopeThing, Orders}
 use Rattle.pm_object_type.specs.declared.object_type.ObjectType.TheVariants.{Polytope}
 use Rattle.pm_props.specs.declared.property.PropId.TheVariants.{ConeAmbientDim, Equations, Inequalities, InputLineality, Points}

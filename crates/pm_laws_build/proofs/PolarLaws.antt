@@ -14,7 +14,8 @@ use Rattle.pm_laws_build.proofs.ReadRights.{RightRows, read_rows, read_value, ri
 use Rattle.pm_build.proofs.RowLaws.{cols_some}
 use Rattle.pm_laws_build.specs.Built.{InPolar}
 use Rattle.pm_build.specs.Conditions.{polar_reads}
-use Rattle.pm_object.specs.Known.{cols_at, cols_over, is_true, rows_at}
+use Rattle.pm_object.specs.Known.{cols_at, is_true, rows_at}
+use Rattle.pm_types.specs.Parts.{cols_over}
 use Rattle.pm_laws_build.specs.Laws.{PolarIsDescribed}
 use Rattle.pm_geom.proofs.Dimension.{rank_is_left, some_basis}
 use Rattle.pm_geom.proofs.Facets.{facet_rows_cut_out as some_facets, vanishes_line}

@@ -7,7 +7,8 @@ use Rattle.pm_build.proofs.PaddedRows.{dot_padded, dot_spread, nothing, padded_s
 use Rattle.pm_laws_build.proofs.Points.{cut_out_by_points, solution, solved_by_cut}
 use Rattle.pm_laws_build.proofs.ReadRights.{RightRows, read_rows, right_facets, right_hull}
 use Rattle.pm_laws_build.specs.Built.{InProduct}
-use Rattle.pm_object.specs.Known.{cols_at, cols_over, rows_at}
+use Rattle.pm_object.specs.Known.{cols_at, rows_at}
+use Rattle.pm_types.specs.Parts.{cols_over}
 use Rattle.pm_laws_build.specs.Laws.{ProductIsDescribed, ReadRight}
 use Rattle.pm_build.specs.Conditions.{product_reads}
 use Rattle.pm_build.specs.Objects.{both_rows, padded, product_cols, spread}

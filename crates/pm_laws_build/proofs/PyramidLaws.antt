@@ -13,7 +13,8 @@ use Rattle.pm_laws_build.proofs.ReadRights.{RightRows, read_rows, right_lines, r
 use Rattle.pm_relations.proofs.Standing.{stands_ratios}
 use Rattle.pm_laws_build.specs.Built.{InPyramid}
 use Rattle.pm_build.specs.Conditions.{pyramid_reads}
-use Rattle.pm_object.specs.Known.{cols_at, cols_over, rows_at}
+use Rattle.pm_object.specs.Known.{cols_at, rows_at}
+use Rattle.pm_types.specs.Parts.{cols_over}
 use Rattle.pm_laws_build.specs.Laws.{PyramidIsDescribed}
 use Rattle.pm_build.specs.Objects.{padded}
 use Rattle.pm_build.specs.Rows.{apex_row}

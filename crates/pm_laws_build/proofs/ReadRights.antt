@@ -1,6 +1,7 @@
 -- The values that are read of a polytope, as right rows.
 use Rattle.pm_vector.specs.Numbers.{Ratio}
-use Rattle.pm_object.specs.Known.{held_rows, rows_at, truth_in}
+use Rattle.pm_object.specs.Known.{held_rows, rows_at}
+use Rattle.pm_types.specs.Parts.{truth_in}
 use Rattle.pm_geom.specs.Things.{Orders}
 use Rattle.pm_vector.proofs.Lists.{Among, among_All}
 use Rattle.pm_laws_build.specs.Laws.{ReadRight}

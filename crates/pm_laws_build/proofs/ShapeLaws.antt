@@ -11,7 +11,7 @@ use Rattle.pm_relations.proofs.Standing.{stands_ratios}
 use Rattle.pm_laws_build.specs.Built.{InCube, IsHull}
 use Rattle.pm_laws_build.specs.Laws.{CrossIsDescribed, CubeIsDescribed, CyclicIsDescribed, Describes, SimplexIsDescribed}
 use Rattle.pm_build.specs.Objects.{polytope_with}
-use Rattle.pm_object.specs.Known.{cols_over, value_over}
+use Rattle.pm_types.specs.Parts.{cols_over, value_over}
 use Rattle.pm_build.specs.Rows.{curve, curve_points, headed, headed_rows, opposite_units, simplex_corners, unit}
 use Rattle.pm_geom.proofs.Polar.{cut_at}
 use Rattle.pm_props.specs.declared.property.PropId.TheVariants.{Points}

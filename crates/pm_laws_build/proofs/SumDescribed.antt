@@ -24,7 +24,8 @@ use Rattle.pm_laws_build.specs.Built.{IsSum}
 use Rattle.pm_laws_build.specs.Laws.{ReadRight, SumIsDescribed, settled_facts}
 use Rattle.pm_laws_normal_fans.proofs.SumRows.{sum_rows_generate}
 use Rattle.pm_laws_normal_fans.specs.Sums.{AreRowsOf, Cone, HasPoint, In, InMinkowskiSum, IsSumOf, far, is_positive, point_sum, point_sums, points, sum_rows}
-use Rattle.pm_object.specs.Known.{cols_at, cols_over, is_true, rows_at}
+use Rattle.pm_object.specs.Known.{cols_at, is_true, rows_at}
+use Rattle.pm_types.specs.Parts.{cols_over}
 use Rattle.pm_object.specs.State.{State, read_at, value_of}
 use Rattle.pm_object.specs.declared.held.Condition.TheVariants as condition
 use Rattle.pm_props.specs.declared.property.PropId.TheVariants.{Feasible, LinealitySpace, Vertices}

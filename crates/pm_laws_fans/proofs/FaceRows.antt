@@ -30,7 +30,8 @@ use Rattle.pm_laws_normal_fans.specs.FaceFans.{AreOrdersOf, IsCenteredPolytope, 
 use Rattle.pm_laws_normal_fans.specs.Fans.{IsFan, IsSameFan}
 use Rattle.pm_laws_normal_fans.specs.Shadows.{AreUsed, IsShadowFan, held, rest, rests, shadow_fan}
 use Rattle.pm_laws_normal_fans.specs.Sums.{Cone, In}
-use Rattle.pm_object.specs.Known.{is_true, rows_at, sets_at, value_of_sets, value_over}
+use Rattle.pm_object.specs.Known.{is_true, rows_at, sets_at}
+use Rattle.pm_types.specs.Parts.{value_of_sets, value_over}
 use Rattle.pm_object.specs.State.{State, read_at, value_of}
 use Rattle.pm_object.specs.declared.held.Condition.TheVariants as condition
 use Rattle.pm_files.specs.Files.{SavedFile}

@@ -3,7 +3,8 @@ use Rattle.pm_vector.proofs.Lists.{Among, among_All}
 use Rattle.pm_laws_build.proofs.ReadRights.{read_value}
 use Rattle.pm_laws_build.specs.Laws.{ReadRight}
 use Rattle.pm_geom.specs.Things.{Orders}
-use Rattle.pm_object.specs.Known.{held_sets, sets_at, value_of_sets}
+use Rattle.pm_object.specs.Known.{held_sets, sets_at}
+use Rattle.pm_types.specs.Parts.{value_of_sets}
 use Rattle.pm_object.specs.State.{State, is_held, read_at, value_of}
 use Rattle.pm_props.specs.declared.property.PropId.TheVariants.{VerticesInFacets}
 use Rattle.pm_props.specs.declared.property.PropId.{PropId}

@@ -19,7 +19,8 @@ use Rattle.pm_laws_normal_fans.proofs.SameFans.{HasOrders, has_orders}
 use Rattle.pm_laws_normal_fans.specs.Fans.{Fan, InPlace, IsCommonRefinement, IsConeAt, IsFan, IsSameFan, cone_at}
 use Rattle.pm_laws_normal_fans.specs.Refinements.{HasRefinedRays, Intersection, IsIntersection, fan_of}
 use Rattle.pm_object.proofs.KnownValues.{held_forms}
-use Rattle.pm_object.specs.Known.{cols_at, held_rows, held_sets, rows_at, sets_at, value_of_sets}
+use Rattle.pm_object.specs.Known.{cols_at, held_rows, held_sets, rows_at, sets_at}
+use Rattle.pm_types.specs.Parts.{value_of_sets}
 use Rattle.pm_object.specs.State.{State, is_held, read_at, value_of}
 use Rattle.pm_object_type.specs.declared.object_type.ObjectType.TheVariants.{Fan as OfFan}
 use Rattle.pm_props.specs.declared.property.PropId.{PropId}

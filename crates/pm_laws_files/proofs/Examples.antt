@@ -1,7 +1,7 @@
 -- The examples, computed.
 use Rattle.pm_vector.proofs.Lists.{among_All, here}
 use Rattle.pm_files.specs.Files.{SavedProgram}
-use Rattle.pm_filing.specs.Examples.{two_rules}
+use Rattle.pm_examples_objects.specs.Filing.{two_rules}
 use Rattle.pm_laws_files.specs.Examples.{LabelsAreRead}
 use Rattle.pm_laws_files.specs.SavedAgain.{has_labels}
 use Rattle.pm_props.specs.Sets.{has, only, union}

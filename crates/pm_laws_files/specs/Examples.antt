@@ -1,7 +1,7 @@
 -- Small files under a book of the rules a and b: which are saved again as they were, and which are not.
 use Rattle.std.specs.Prelude.{◌≡◌, ◌≢◌, ℕ, List, [], ◌∷◌, codes}
 use Rattle.pm_files.specs.Files.{SavedFile, file_bytes}
-use Rattle.pm_filing.specs.Examples.{program, small_file, small_polytope, two_rules}
+use Rattle.pm_examples_objects.specs.Filing.{program, small_file, small_polytope, two_rules}
 use Rattle.pm_filing.specs.Filing.{loaded_object, saved_file}
 use Rattle.pm_laws_files.specs.SavedAgain.{HasLabels, IsSettled}
 use Rattle.pm_props.specs.declared.property.PropId.TheVariants.{Pointed}

@@ -117,7 +117,7 @@ dimension_of (whole (pos n)) e = record { n = n; value = refl; range = e }
 dimension_of (whole (negsuc n)) e = absurd (true≢false (sym e))
 dimension_of (truth b) e = absurd (true≢false (sym e))
 dimension_of (extended x) e = absurd (true≢false (sym e))
-dimension_of (edges rows) e = absurd (true≢false (sym e))
+dimension_of (edges rows n) e = absurd (true≢false (sym e))
 dimension_of (lattice ranks) e = absurd (true≢false (sym e))
 dimension_of (counts ks) e = absurd (true≢false (sym e))
 

@@ -2,7 +2,8 @@
 use Rattle.pm_object_type.specs.declared.object_type.ObjectType.TheVariants.{Cone, Fan, Polytope}
 use Rattle.std.proofs.lemmas.List.Sums.{AllPass-from_list_all}
 use Rattle.pm_matrix.specs.Matrices.{IsFraction}
-use Rattle.pm_object.specs.Known.{IsKnown, IsOfRows, IsOfSets, cols_at, held_rows, held_sets, matrix_in, rows_at, sets_at, sets_in, value_of_sets}
+use Rattle.pm_object.specs.Known.{IsKnown, IsOfRows, IsOfSets, cols_at, held_rows, held_sets, rows_at, sets_at}
+use Rattle.pm_types.specs.Parts.{matrix_in, sets_in, value_of_sets}
 use Rattle.pm_vector.proofs.Lists.{Contains_among, Among, among_All}
 use Rattle.pm_object.proofs.Settling.{cols_range}
 use Rattle.pm_object.proofs.Viewing.{value_forms}
@@ -10,7 +11,7 @@ use Rattle.pm_object.specs.Formed.{IsFormed}
 use Rattle.pm_object.specs.State.{State, cols_of, read_at, value_of, is_polytope, is_held}
 use Rattle.pm_vector.specs.Numbers.{Ratio}
 use Rattle.pm_object_type.specs.declared.object_type.ObjectType.{ObjectType}
-use Rattle.pm_props.specs.declared.property.PropId.TheVariants.{AffineHull, Facets, LinealitySpace, Vertices, VerticesInFacets}
+use Rattle.pm_props.specs.declared.property.PropId.TheVariants.{AffineHull, Facets, LinealitySpace, MaximalCones, Vertices, VerticesInFacets}
 use Rattle.pm_props.specs.declared.property.PropId.{PropId}
 use Rattle.pm_types.specs.Forms.{FormsIn, HavePrimitiveRows, agrees_with, is_column_count, is_dimension, is_formed, is_matrix_form, is_row_of_entries, is_sets_form, is_row, HasPrimitiveRow, rows_in}
 use Rattle.pm_types.specs.Values.{IndexSets, PropertyValue, matrix, sets}
@@ -114,8 +115,13 @@ formed_incidence : (v : PropertyValue) → is_formed VerticesInFacets v ≡ form
 formed_incidence (sets rows n) = refl
 formed_incidence v = refl
 
+formed_cones : (v : PropertyValue) → is_formed MaximalCones v ≡ formed_sets v
+formed_cones (sets rows n) = refl
+formed_cones v = refl
+
 pub sets_formed_is : (p : PropId) → IsOfSets p → (v : PropertyValue) → is_formed p v ≡ formed_sets v
 sets_formed_is VerticesInFacets h v = formed_incidence v
+sets_formed_is MaximalCones h v = formed_cones v
 sets_formed_is p h v = absurd h
 
 some_sets : (v : PropertyValue) → formed_sets v ≡ true → is_some (sets_in v) ≡ true

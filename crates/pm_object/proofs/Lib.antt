@@ -9,4 +9,4 @@ pub mod Honesty
 pub mod Objectives
 pub mod Names
 pub mod KnownValues
-pub mod ProgramExamples
+pub mod FanForms

@@ -139,7 +139,7 @@ matrix_range p v f k = by (is_columned p) refl v f k
     by true c (whole n) f k = zero_apart k
     by true c (truth b) f k = zero_apart k
     by true c (extended x) f k = zero_apart k
-    by true c (edges rows) f k = zero_apart k
+    by true c (edges rows n) f k = zero_apart k
     by true c (lattice ranks) f k = zero_apart k
     by true c (counts ks) f k = zero_apart k
 

@@ -5,4 +5,3 @@ pub mod Views
 pub mod Reading
 pub mod Laws
 pub mod Known
-pub mod Examples

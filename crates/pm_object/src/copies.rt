@@ -39,7 +39,8 @@ pub fn copy_excluded(alloc: Global, excluded: &[Excluded]) -> Result<Vec<Exclude
     Ok(copies)
 }
 
-fn copy_exclusion(alloc: Global, e: &Excluded) -> Result<Excluded, AllocError>
+/// The same exclusion.
+pub fn copy_exclusion(alloc: Global, e: &Excluded) -> Result<Excluded, AllocError>
     ensures { IfOk result (λ c. c ≡ e.now) }
 {
     Ok(Excluded {

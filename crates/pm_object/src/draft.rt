@@ -4,8 +4,8 @@ ghost use Rattle.pm_object.specs.Reading.{DraftSeen, drafted, place_in, without}
 ghost use Rattle.pm_object.specs.Views.{put_seen};
 ghost use Rattle.pm_props.specs.Sets.{has};
 ghost use Rattle.pm_types.specs.Views.{view_of};
-ghost use Rattle.std.specs.Option.{option_map};
-ghost use Rattle.std.specs.Prelude.{IfErr, IfSome, IsTrue, None, OnErr, OnOk, [], length, map, ◌++◌, ◌<◌, ◌∷◌, ◌≡◌};
+ghost use Rattle.std.specs.Option.{option_map, option_to_list};
+ghost use Rattle.std.specs.Prelude.{IfErr, IfSome, IsTrue, None, OnErr, OnOk, [], length, map, vec_len, ◌+◌, ◌++◌, ◌<◌, ◌∷◌, ◌≡◌};
 
 use pm_types::{Kind, PropId, Value};
 use std::alloc::Global;
@@ -65,12 +65,21 @@ impl Draft {
         ensures value { option_map view_of result ≡ drafted p self.old.values }
         ensures rest { self.new ≡ record self.old { values = without p self.old.values } }
     {
-        let place = place_of(&self.values, p)?;
-        Some(self.values.remove(place).1)
+        take_put(&mut self.values, p)
     }
 }
 
-// The place of the value of a property.
+/// Takes the first value of a property out of a list of values that were put; None exactly where there is none.
+pub fn take_put(values: &mut Vec<(PropId, Value)>, p: PropId) -> Option<Value>
+    ensures value { option_map view_of result ≡ drafted p (map put_seen values.old.items) }
+    ensures rest { map put_seen values.new.items ≡ without p (map put_seen values.old.items) }
+    ensures len { vec_len values.new + length (option_to_list result) ≡ vec_len values.old }
+{
+    let place = place_of(values, p)?;
+    Some(values.remove(place).1)
+}
+
+// The place of the first value of a property.
 fn place_of(values: &[(PropId, Value)], p: PropId) -> Option<usize>
     ensures value { result ≡ place_in p 0 (map put_seen values.now) }
     ensures within { IfSome result (λ i. i < length values.now) }

@@ -4,7 +4,6 @@
 
 mod copies;
 mod draft;
-mod examples;
 mod held;
 mod known;
 mod laws;
@@ -13,12 +12,8 @@ mod settled;
 mod tests_of_values;
 mod view;
 
-pub use copies::{copy_excluded, copy_rounds};
-pub use draft::Draft;
-pub use examples::{
-    example_given, example_placed, example_places, example_programs, example_refused_programs,
-    example_sealed, example_taken,
-};
+pub use copies::{copy_excluded, copy_exclusion, copy_rounds};
+pub use draft::{Draft, take_put};
 pub use held::{
     BuildFail, Condition, Excluded, Held, Origin, ProgramFail, Round, RoundEnd, TakeFail, Why,
 };
@@ -27,8 +22,6 @@ pub use laws::{
     law_based_is_kept, law_commit_is_honest, law_empty_is_kept, law_honesty_is_of_values,
     law_objective_is_kept, law_settled_is_kept,
 };
-pub use object::Object;
-pub use tests_of_values::{
-    agrees, are_rows, have_as_many_sites, require_primitive_rows, stated_cols,
-};
+pub use object::{Object, are_same};
+pub use tests_of_values::{agrees, have_as_many_sites, require_primitive_rows};
 pub use view::View;

@@ -2,7 +2,7 @@
 
 ghost use Rattle.pm_types.specs.Values.{whole};
 ghost use Rattle.pm_props.specs.declared.property.PropId.TheVariants.{ConeAmbientDim};
-ghost use Rattle.pm_object.specs.State.{CanTake, CannotTake, State, given_at, has_rounds_at, holds_computed_at, is_given, is_given_at, is_sealed_at, place_from, place_named, program_refusal, with_program, agrees, ambient_in, cols_of, empty_object, is_disabled, file_value, has_rounds, holds_stored, is_held, is_sealed, names_of, names_to_settle, read_at, settling, sites_agree, settling_names, value_of, with_disabled, with_excluded, with_held, with_round};
+ghost use Rattle.pm_object.specs.State.{CanTake, CannotTake, given_at, has_rounds_at, holds_computed_at, is_given, is_given_at, is_sealed_at, place_from, place_named, program_refusal, with_program, agrees, ambient_in, cols_of, empty_object, is_disabled, file_value, has_rounds, holds_stored, is_held, is_sealed, names_of, names_to_settle, read_at, settling, sites_agree, settling_names, value_of, with_disabled, with_excluded, with_held, with_round};
 ghost use Rattle.pm_types.specs.Forms.{HavePrimitiveRows, are_rows, is_formed};
 ghost use Rattle.pm_object.specs.Formed.{IsBacked, IsFormed, IsFormedIn, is_numbered};
 ghost use Rattle.pm_props.specs.Properties.{has as has_property};
@@ -17,17 +17,15 @@ ghost use Rattle.pm_props.specs.Kinds.{IsKindOf};
 ghost use Rattle.pm_props.specs.Sets.{has};
 ghost use Rattle.pm_props.specs.declared.property.PropId.{PropId};
 ghost use Rattle.std.specs.Option.{is_some, option_map, unwrap_or};
-ghost use Rattle.std.specs.Prelude.{IfErr, IfOk, IfSome, IsTrue, false, if◌then◌else◌, None, OnErr, OnOk, Some, [], length, map, not, slice_get, string_bytes, ◌&&◌, ◌+◌, ◌++◌, ◌<◌, ◌≤◌, ◌^◌, ◌∷◌, ◌≡◌, ◌≢◌};
+ghost use Rattle.std.specs.Prelude.{IfErr, IfOk, IfSome, IsTrue, false, if◌then◌else◌, None, OnErr, OnOk, Some, [], length, map, not, slice_get, string_bytes, ◌&&◌, ◌+◌, ◌<◌, ◌≤◌, ◌^◌, ◌∷◌, ◌≡◌, ◌≢◌};
 
 use crate::copies::{copy_excluded, copy_held, copy_labels, copy_rounds};
 use crate::held::{Excluded, Held, Origin, ProgramFail, Round, TakeFail};
 use crate::settled::{push_if, settled_values};
-use crate::tests_of_values::{
-    agrees, are_rows, first_cols, reads_entries, require_primitive_rows, sites_agree,
-};
+use crate::tests_of_values::{agrees, first_cols, require_primitive_rows, sites_agree};
 use crate::view::View;
 use pm_limits::MOST_PROGRAMS;
-use pm_types::{Kind, ObjectType, PropId, PropSet, Value};
+use pm_types::{Kind, ObjectType, PropId, PropSet, Value, are_rows, reads_entries};
 use std::alloc::{AllocError, Global};
 use std::marker::Model;
 
@@ -64,7 +62,8 @@ impl Model for Object {
 impl Object {
     /// An object of this type that holds nothing.
     pub fn new(alloc: Global, of: ObjectType) -> Object
-        ensures { result.state ≡ empty_object of }
+        ensures state { result.state ≡ empty_object of }
+        ensures spare { result.spare ≡ 0 }
     {
         Object {
             of,
@@ -167,6 +166,7 @@ impl Object {
         ensures added { OnOk result (self.new.state ≡ with_program self.old.state name.now) }
         ensures refused { IfErr result (λ e. e ≢ ProgramFail.Memory → program_refusal self.old.state name.now ≡ Some e) }
         ensures unchanged { OnErr result (self.new.state ≡ self.old.state) }
+        ensures spare { self.new.spare ≡ self.old.spare }
     {
         self.may_add_program(name)?;
         let place = self.programs();
@@ -259,6 +259,8 @@ impl Object {
         ensures added { OnOk result (self.new.state ≡ with_held self.old.state (given_at None p (view_of v) ∷ [])) }
         ensures refused { IfErr result (λ e. e ≢ TakeFail.Memory → CannotTake self.old.state None p (view_of v) e) }
         ensures unchanged { OnErr result (self.new.state ≡ self.old.state) }
+        ensures spare { OnOk result (self.old.spare ≤ self.new.spare + 1) }
+        ensures spare_left { OnErr result (self.old.spare ≤ self.new.spare) }
     {
         self.take_at(None, p, v)
     }
@@ -272,6 +274,8 @@ impl Object {
         ensures added { OnOk result (self.new.state ≡ with_held self.old.state (given_at (Some sub) p (view_of v) ∷ [])) }
         ensures refused { IfErr result (λ e. e ≢ TakeFail.Memory → CannotTake self.old.state (Some sub) p (view_of v) e) }
         ensures unchanged { OnErr result (self.new.state ≡ self.old.state) }
+        ensures spare { OnOk result (self.old.spare ≤ self.new.spare + 1) }
+        ensures spare_left { OnErr result (self.old.spare ≤ self.new.spare) }
     {
         self.take_at(Some(sub), p, v)
     }
@@ -284,6 +288,8 @@ impl Object {
         ensures added { OnOk result (self.new.state ≡ with_held self.old.state (given_at sub p (view_of v) ∷ [])) }
         ensures refused { IfErr result (λ e. e ≢ TakeFail.Memory → CannotTake self.old.state sub p (view_of v) e) }
         ensures unchanged { OnErr result (self.new.state ≡ self.old.state) }
+        ensures spare { OnOk result (self.old.spare ≤ self.new.spare + 1) }
+        ensures spare_left { OnErr result (self.old.spare ≤ self.new.spare) }
     {
         self.may_take(sub, p, &v)?;
         let given = Held {
@@ -310,6 +316,8 @@ impl Object {
         requires sites { IsTrue (sites_agree self.old.state.held p (view_of v)) }
         ensures ok { OnOk result (self.new.state ≡ with_held self.old.state (file_value Given p (view_of v) ∷ [])) }
         ensures err { OnErr result (self.new.state ≡ self.old.state) }
+        ensures spare { OnOk result (self.old.spare ≤ self.new.spare + 1) }
+        ensures spare_left { OnErr result (self.old.spare ≤ self.new.spare) }
     {
         self.add_of_file(Origin::Given, p, v)
     }
@@ -324,6 +332,8 @@ impl Object {
         requires primitive { HavePrimitiveRows p (view_of v) }
         ensures ok { OnOk result (self.new.state ≡ with_held self.old.state (file_value Stored p (view_of v) ∷ [])) }
         ensures err { OnErr result (self.new.state ≡ self.old.state) }
+        ensures spare { OnOk result (self.old.spare ≤ self.new.spare + 1) }
+        ensures spare_left { OnErr result (self.old.spare ≤ self.new.spare) }
     {
         self.add_of_file(Origin::Stored, p, v)
     }
@@ -339,6 +349,8 @@ impl Object {
         requires sites { IsTrue (is_given origin) → IsTrue (sites_agree self.old.state.held p (view_of v)) }
         ensures ok { OnOk result (self.new.state ≡ with_held self.old.state (file_value origin p (view_of v) ∷ [])) }
         ensures err { OnErr result (self.new.state ≡ self.old.state) }
+        ensures spare { OnOk result (self.old.spare ≤ self.new.spare + 1) }
+        ensures spare_left { OnErr result (self.old.spare ≤ self.new.spare) }
     {
         reads_entries(&v);
         let value = Held {
@@ -394,6 +406,7 @@ impl Object {
     pub fn disable(&mut self, alloc: Global, label: &str) -> Result<(), AllocError>
         ensures ok { OnOk result (self.new.state ≡ (if is_disabled label.now self.old.state.disabled then self.old.state else with_disabled self.old.state label.now)) }
         ensures err { OnErr result (self.new.state ≡ self.old.state) }
+        ensures spare { self.new.spare ≡ self.old.spare }
     {
         if self.is_disabled(label) {
             return Ok(());
@@ -408,6 +421,8 @@ impl Object {
         ensures ok { OnOk result (self.new.state ≡ with_held self.old.state (settling self.old.state)) }
         ensures dimension { OnOk result (IsTrue (is_held ConeAmbientDim self.new.state.held)) }
         ensures err { OnErr result (self.new.state ≡ self.old.state) }
+        ensures spare { OnOk result (self.old.spare ≤ self.new.spare + length (settling self.old.state)) }
+        ensures spare_left { OnErr result (self.old.spare ≤ self.new.spare) }
     {
         let mut more = self.settling(alloc)?;
         self.held.append(&mut more)?;
@@ -511,6 +526,7 @@ impl Object {
         requires dimension { IsTrue (is_held ConeAmbientDim self.old.state.held) }
         ensures ok { OnOk result (self.new.state ≡ with_round self.old.state (round_seen r)) }
         ensures err { OnErr result (self.new.state ≡ self.old.state) }
+        ensures spare { self.new.spare ≡ self.old.spare }
     {
         self.rounds.push(r)?;
         Ok(())
@@ -521,6 +537,7 @@ impl Object {
         requires numbered { IsTrue (is_numbered e.why) }
         ensures ok { OnOk result (self.new.state ≡ with_excluded self.old.state e) }
         ensures err { OnErr result (self.new.state ≡ self.old.state) }
+        ensures spare { self.new.spare ≡ self.old.spare }
     {
         self.excluded.push(e)?;
         Ok(())
@@ -543,6 +560,7 @@ impl Object {
     pub fn reserve(&mut self, more: usize) -> Result<(), AllocError>
         ensures state { self.new.state ≡ self.old.state }
         ensures ok { OnOk result (more ≤ self.new.spare) }
+        ensures spare { self.old.spare ≤ self.new.spare }
     {
         self.held.reserve(more)
     }
@@ -656,7 +674,7 @@ fn whole_number(k: i64) -> Option<usize>
 }
 
 // Whether two places are the same.
-fn are_same(a: Option<u8>, b: Option<u8>) -> bool
+pub fn are_same(a: Option<u8>, b: Option<u8>) -> bool
     ensures { result ≡ same_place a b }
 {
     match (a, b) {

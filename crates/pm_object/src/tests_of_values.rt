@@ -2,40 +2,17 @@
 
 ghost use Rattle.pm_object.specs.State.{agrees, agree_in_sites, first_cols, have_as_many_sites, is_given, sites_agree};
 ghost use Rattle.pm_matrix.specs.Matrices.{IsFraction};
-ghost use Rattle.pm_types.specs.Forms.{AreFractions, HasPrimitiveRow, HavePrimitiveRows, agrees_with, are_rows, cols_in, first_is_above, first_is_below, first_is_nought, is_above_nought, is_below_nought, is_formed, is_nought, is_number, is_row, is_zero_row, passes, rows_in, stated_cols, states};
-ghost use Rattle.pm_props.specs.Properties.{is_ambient};
+ghost use Rattle.pm_types.specs.Forms.{AreFractions, HasPrimitiveRow, HavePrimitiveRows, agrees_with, is_formed, stated_cols};
 ghost use Rattle.pm_object.specs.Views.{held_seen};
-ghost use Rattle.pm_types.specs.Values.{extended, matrix};
-ghost use Rattle.pm_types.specs.Views.{extended_of, view_of};
-ghost use Rattle.std.specs.List.{list_all};
+ghost use Rattle.pm_types.specs.Values.{matrix};
+ghost use Rattle.pm_types.specs.Views.{view_of};
 ghost use Rattle.std.specs.Prelude.{All, IfErr, IsTrue, OnOk, if◌then◌else◌, length, map, true, ◌≡◌, ◌≢◌, ◌≤◌};
 ghost use Rattle.pm_limits.specs.Limits.{most_rows};
 
 use crate::held::{Held, Origin, TakeFail};
-use pm_fraction::Fraction;
 use pm_matrix::{Matrix, RowsFail};
-use pm_props::{Columns, PropId, RowTest};
-use pm_types::{Number, ObjectType, Value};
+use pm_types::{PropId, Value, agrees_with, column_count, reads_entries, row_count, stated_cols};
 use std::alloc::Global;
-
-/// The column count that a value states, 0 where it states none.
-pub fn stated_cols(p: PropId, v: &Value) -> usize
-    ensures { result ≡ stated_cols p (view_of v.now) }
-{
-    if p.row().columns != Columns::Rows {
-        return 0;
-    }
-    match v {
-        Value::Mat(matrix) => matrix.cols(),
-        Value::Sets(_) => 0,
-        Value::Int(_) => 0,
-        Value::Bool(_) => 0,
-        Value::Counts(_) => 0,
-        Value::Edges(_) => 0,
-        Value::Lattice(_) => 0,
-        Value::Number(_) => 0,
-    }
-}
 
 /// The first column count that a held value states.
 pub fn first_cols(held: &[Held]) -> Option<usize>
@@ -57,171 +34,6 @@ pub fn agrees(n: Option<usize>, p: PropId, v: &Value) -> bool
     match n {
         None => true,
         Some(n) => agrees_with(n, p, v),
-    }
-}
-
-fn agrees_with(n: usize, p: PropId, v: &Value) -> bool
-    ensures { result ≡ agrees_with n p (view_of v.now) }
-{
-    if p.row().columns == Columns::Value {
-        return states(n, v);
-    }
-    let stated = stated_cols(p, v);
-    stated == 0 || stated == n
-}
-
-fn states(n: usize, v: &Value) -> bool
-    ensures { result ≡ states n (view_of v.now) }
-{
-    match v {
-        Value::Int(k) => is_number(*k, n),
-        Value::Mat(_) => true,
-        Value::Sets(_) => true,
-        Value::Bool(_) => true,
-        Value::Counts(_) => true,
-        Value::Edges(_) => true,
-        Value::Lattice(_) => true,
-        Value::Number(_) => true,
-    }
-}
-
-fn is_number(k: i64, n: usize) -> bool
-    ensures { result ≡ is_number k n }
-{
-    k >= 0 && k as usize == n
-}
-
-/// Whether each row of a matrix passes the tests of rows of its property.
-pub fn are_rows(of: ObjectType, p: PropId, v: &Value) -> bool
-    ensures { result ≡ are_rows of p (view_of v.now) }
-{
-    match v {
-        Value::Mat(matrix) => all_are_rows(of, p, matrix),
-        Value::Sets(_) => true,
-        Value::Int(_) => true,
-        Value::Bool(_) => true,
-        Value::Counts(_) => true,
-        Value::Edges(_) => true,
-        Value::Lattice(_) => true,
-        Value::Number(_) => true,
-    }
-}
-
-fn all_are_rows(of: ObjectType, p: PropId, matrix: &Matrix) -> bool
-    ensures { result ≡ list_all (is_row of p) matrix.now.rows }
-{
-    for i in 0..matrix.rows() {
-        if !is_row(of, p, matrix.row(i)) {
-            return false;
-        }
-    }
-    true
-}
-
-fn is_row(of: ObjectType, p: PropId, row: &[Fraction]) -> bool
-    ensures { result ≡ is_row of p row.now }
-{
-    passes(of, p.row().test, row)
-}
-
-fn passes(of: ObjectType, test: RowTest, row: &[Fraction]) -> bool
-    ensures { result ≡ passes of test row.now }
-{
-    match (of, test) {
-        (ObjectType::Polytope, RowTest::Point) => !first_is_below(row),
-        (ObjectType::Polytope, RowTest::Line) => first_is_nought(row),
-        (ObjectType::Polytope, RowTest::Ray) => !first_is_below(row) && !is_zero_row(row),
-        (_, RowTest::Ray | RowTest::NotZero) => !is_zero_row(row),
-        (_, RowTest::Site) => first_is_above(row),
-        _ => true,
-    }
-}
-
-fn is_zero_row(row: &[Fraction]) -> bool
-    ensures { result ≡ is_zero_row row.now }
-{
-    for q in row {
-        if !is_nought(q.num()) {
-            return false;
-        }
-    }
-    true
-}
-
-fn is_nought(k: i128) -> bool
-    ensures { result ≡ is_nought k }
-{
-    k == 0
-}
-
-fn is_below_nought(k: i128) -> bool
-    ensures { result ≡ is_below_nought k }
-{
-    k < 0
-}
-
-fn first_is_nought(row: &[Fraction]) -> bool
-    ensures { result ≡ first_is_nought row.now }
-{
-    match row.first() {
-        Some(q) => is_nought(q.num()),
-        None => true,
-    }
-}
-
-fn first_is_below(row: &[Fraction]) -> bool
-    ensures { result ≡ first_is_below row.now }
-{
-    match row.first() {
-        Some(q) => is_below_nought(q.num()),
-        None => false,
-    }
-}
-
-fn is_above_nought(k: i128) -> bool
-    ensures { result ≡ is_above_nought k }
-{
-    k > 0
-}
-
-fn first_is_above(row: &[Fraction]) -> bool
-    ensures { result ≡ first_is_above row.now }
-{
-    match row.first() {
-        Some(q) => is_above_nought(q.num()),
-        None => false,
-    }
-}
-
-/// The number of rows of a matrix; 0 of another value.
-fn row_count(v: &Value) -> usize
-    ensures { result ≡ length (rows_in (view_of v.now)) }
-{
-    match v {
-        Value::Mat(matrix) => matrix.rows(),
-        Value::Sets(_) => 0,
-        Value::Int(_) => 0,
-        Value::Bool(_) => 0,
-        Value::Counts(_) => 0,
-        Value::Edges(_) => 0,
-        Value::Lattice(_) => 0,
-        Value::Number(_) => 0,
-    }
-}
-
-/// The number of columns of a matrix; 0 of another value.
-fn column_count(v: &Value) -> usize
-    ensures { result ≡ cols_in (view_of v.now) }
-{
-    match v {
-        Value::Mat(matrix) => matrix.cols(),
-        Value::Sets(_) => 0,
-        Value::Int(_) => 0,
-        Value::Bool(_) => 0,
-        Value::Counts(_) => 0,
-        Value::Edges(_) => 0,
-        Value::Lattice(_) => 0,
-        Value::Number(_) => 0,
     }
 }
 
@@ -272,38 +84,10 @@ pub fn require_primitive_rows(alloc: Global, p: PropId, v: &Value) -> Result<(),
         Value::Counts(_) => Ok(()),
         Value::Edges(_) => Ok(()),
         Value::Lattice(_) => Ok(()),
-        Value::Number(number) => {
-            reads_number(*number);
+        Value::Number(_) => {
+            reads_entries(v);
             Ok(())
         }
-    }
-}
-
-/// The entries of a value are fractions in lowest terms, within the range.
-pub fn reads_entries(v: &Value)
-    ensures { AreFractions (view_of v.now) }
-{
-    match v {
-        Value::Mat(matrix) => {
-            let _rows = matrix.rows();
-        }
-        Value::Number(number) => reads_number(*number),
-        Value::Sets(_)
-        | Value::Int(_)
-        | Value::Bool(_)
-        | Value::Counts(_)
-        | Value::Edges(_)
-        | Value::Lattice(_) => (),
-    }
-}
-
-// The fraction of a finite number is in lowest terms, within the range.
-fn reads_number(number: Number)
-    ensures { AreFractions (extended (extended_of number)) }
-{
-    if let Number::Finite(q) = number {
-        let _num = q.num();
-        let _den = q.den();
     }
 }
 

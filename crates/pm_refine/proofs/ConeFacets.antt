@@ -2,8 +2,8 @@
 use Rattle.pm_vector.specs.Rows.{HasCols, Row}
 use Rattle.pm_dd.specs.declared.fails.DdFail.{DdFail}
 use Rattle.pm_dd.specs.declared.fails.DdFail.TheVariants as hull
-use Rattle.pm_hull.specs.HullRefusals.{IsShownOnParts}
-use Rattle.pm_hull.specs.Hulls.{AreFacets}
+use Rattle.pm_dd.specs.HullRefusals.{IsShownOnParts}
+use Rattle.pm_dd.specs.Hulls.{AreFacets}
 use Rattle.pm_laws_normal_fans.proofs.Places.{map_length}
 use Rattle.pm_refine.proofs.Cuts.{AreFacetsSoFar, cone_small, facets_more}
 use Rattle.pm_refine.proofs.Indexed.{mapped_at}

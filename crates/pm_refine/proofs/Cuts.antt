@@ -10,7 +10,7 @@ use Rattle.pm_geom.specs.Cones.{CutOut, IsValid}
 use Rattle.pm_geom.specs.Generators.{AreGenerators}
 use Rattle.pm_laws_normal_fans.specs.Fans.{Fan, InPlace, cone_at}
 use Rattle.pm_laws_normal_fans.specs.Refinements.{IsCutAt}
-use Rattle.pm_hull.specs.Hulls.{AreFacets}
+use Rattle.pm_dd.specs.Hulls.{AreFacets}
 use Rattle.pm_refine.specs.CutRows.{AreFacetsOf, AreSmall, CutRows, IsSmall, IsSmallFan, cuts_at}
 use Rattle.std.proofs.Common.{arith, inl, inr, refl, subst, sym, ◌∙◌}
 use Rattle.std.proofs.lemmas.Bool.{cases_lt}

@@ -7,7 +7,8 @@ use Rattle.pm_laws_normal_fans.proofs.Places.{among_at, map_length, place_at}
 use Rattle.pm_matrix.specs.FractionRows.{ArePrimitiveRowsOf}
 use Rattle.pm_object.proofs.KnownValues.{formed_is, held_forms, rows_cols, rows_few}
 use Rattle.pm_object.specs.Formed.{IsFormed}
-use Rattle.pm_object.specs.Known.{IsOfRows, sets_in}
+use Rattle.pm_object.specs.Known.{IsOfRows}
+use Rattle.pm_types.specs.Parts.{sets_in}
 use Rattle.pm_object.specs.State.{State, cols_of, read_at, value_of}
 use Rattle.pm_object_type.specs.declared.object_type.ObjectType.{ObjectType}
 use Rattle.pm_props.specs.declared.property.PropId.{PropId}

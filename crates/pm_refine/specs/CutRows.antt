@@ -1,7 +1,7 @@
 -- Fans by lists of rows, cones by the rows that cut them out, and intersections by their rays.
 use Rattle.pm_vector.specs.Rows.{HasCols, Row, dot}
 use Rattle.pm_geom.specs.declared.descriptions.Facets.{Facets}
-use Rattle.pm_hull.specs.Hulls.{AreFacets}
+use Rattle.pm_dd.specs.Hulls.{AreFacets}
 use Rattle.pm_laws_normal_fans.specs.Fans.{Fan, cone_at}
 use Rattle.pm_laws_normal_fans.specs.Refinements.{Intersection}
 use Rattle.pm_refine.specs.declared.refinement.Intersection.{Intersection as IntersectionFound}

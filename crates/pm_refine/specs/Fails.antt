@@ -6,8 +6,8 @@ use Rattle.pm_geom.specs.Evidence.{IsWideProduct}
 use Rattle.pm_geom.specs.Generators.{IsCanonicalRay}
 use Rattle.pm_geom.specs.declared.evidence.Evidence.{Evidence}
 use Rattle.pm_geom.specs.declared.evidence.Evidence.TheVariants.{E4}
-use Rattle.pm_hull.specs.HullRefusals.{IsShownOnParts}
-use Rattle.pm_hull.specs.Hulls.{AreFacets}
+use Rattle.pm_dd.specs.HullRefusals.{IsShownOnParts}
+use Rattle.pm_dd.specs.Hulls.{AreFacets}
 use Rattle.pm_laws_normal_fans.specs.Fans.{Fan, InIntersection, cone_at}
 use Rattle.pm_laws_normal_fans.specs.Refinements.{Intersection}
 use Rattle.pm_refine.specs.CutRows.{CutRows, IsSomeRow, cuts_at}

@@ -6,7 +6,8 @@ use Rattle.pm_files.specs.Files.{SavedFile}
 use Rattle.pm_geom.specs.declared.evidence.Evidence.{Evidence}
 use Rattle.pm_laws_normal_fans.specs.Fans.{Fan, IsFan}
 use Rattle.pm_laws_normal_fans.specs.Refinements.{AreAllRays, HasRefinedRays, Intersection}
-use Rattle.pm_object.specs.Known.{cols_at, value_over}
+use Rattle.pm_object.specs.Known.{cols_at}
+use Rattle.pm_types.specs.Parts.{value_over}
 use Rattle.pm_object.specs.State.{State}
 use Rattle.pm_object.specs.declared.held.Condition.TheVariants.{Rows}
 use Rattle.pm_object_type.specs.declared.object_type.ObjectType.TheVariants.{Fan as OfFan}

@@ -5,7 +5,7 @@ ghost use Rattle.pm_refine.specs.Fails.{IsConeFail};
 ghost use Rattle.std.specs.Prelude.{IfErr, IfOk, map, ◌<◌, ◌^◌};
 
 use crate::fails::{RefineFail, not_made};
-use pm_hull::{Facets, to_facets};
+use pm_dd::{Facets, to_facets};
 use pm_vector::Ints;
 use std::alloc::Global;
 

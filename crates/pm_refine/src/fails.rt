@@ -3,8 +3,8 @@
 ghost use Rattle.pm_refine.specs.Fails.{not_made_of, turned};
 ghost use Rattle.std.specs.Prelude.{◌≡◌};
 
+use pm_dd::DdFail;
 use pm_geom::Evidence;
-use pm_hull::DdFail;
 use std::alloc::{AllocError, AllocFailed};
 use thiserror::Error;
 

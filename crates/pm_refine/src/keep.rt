@@ -9,7 +9,7 @@ ghost use Rattle.std.specs.Prelude.{All, IfErr, IfOk, [], map, ◌++◌, ◌∷�
 use crate::fails::RefineFail;
 use crate::products::is_within;
 use crate::refinement::Intersection;
-use pm_hull::Facets;
+use pm_dd::Facets;
 use std::alloc::Global;
 
 /// Whether an intersection is included in a kept one.

@@ -1,7 +1,8 @@
 // The fan of an object, as lists of rows.
 
 ghost use Rattle.pm_matrix.specs.FractionRows.{ArePrimitiveRowsOf};
-ghost use Rattle.pm_object.specs.Known.{IsKnown, cols_at, sets_in, value_of_sets};
+ghost use Rattle.pm_object.specs.Known.{IsKnown, cols_at};
+ghost use Rattle.pm_types.specs.Parts.{sets_in, value_of_sets};
 ghost use Rattle.pm_object.specs.State.{cols_of, is_held, read_at, value_of};
 ghost use Rattle.pm_object_type.specs.declared.object_type.ObjectType.TheVariants.{Fan};
 ghost use Rattle.pm_props.specs.declared.property.PropId.TheVariants.{LinealitySpace, MaximalCones, Vertices};

@@ -2,7 +2,7 @@
 
 ghost use Rattle.pm_vector.specs.Rows.{Row};
 ghost use Rattle.pm_geom.specs.Generators.{AreGenerators};
-ghost use Rattle.pm_hull.specs.HullRefusals.{IsShownOnParts};
+ghost use Rattle.pm_dd.specs.HullRefusals.{IsShownOnParts};
 ghost use Rattle.pm_laws_normal_fans.specs.Refinements.{InHalfSpaces};
 ghost use Rattle.pm_refine.specs.CutRows.{AreSmall, IsSmall, cut_rows, intersection_of};
 ghost use Rattle.pm_refine.specs.Fails.{IsPairFail, IsStepFail};
@@ -12,8 +12,8 @@ ghost use Rattle.std.specs.Prelude.{IfErr, IfOk, length, map, suc, ◌++◌, ◌
 use crate::fails::{RefineFail, not_made};
 use crate::keep::keep;
 use crate::refinement::Intersection;
+use pm_dd::{DdFail, Facets, Generators, add_copies, to_generators};
 use pm_elim::copies;
-use pm_hull::{DdFail, Facets, Generators, add_copies, to_generators};
 use pm_object_type::ObjectType;
 use pm_vector::Ints;
 use std::alloc::{AllocError, Global};

@@ -12,8 +12,8 @@ ghost use Rattle.std.specs.Prelude.{All, IfErr, IfOk, IsTrue, [], length, ◌∷
 
 use crate::fails::RefineFail;
 use crate::refinement::Intersection;
+use pm_dd::Facets;
 use pm_geom::Evidence;
-use pm_hull::Facets;
 use pm_vector::{Ints, Wide, dot};
 use std::alloc::{AllocError, Global};
 

@@ -7,7 +7,7 @@ ghost use Rattle.pm_refine.specs.RaySets.{places_from};
 ghost use Rattle.std.specs.Prelude.{All, IfOk, map, ◌≡◌, ℕ};
 
 use crate::refinement::Intersection;
-use pm_hull::add_copies;
+use pm_dd::add_copies;
 use pm_vector::Ints;
 use std::alloc::{AllocError, Global};
 

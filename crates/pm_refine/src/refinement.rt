@@ -13,7 +13,7 @@ use crate::cones::facets_of_cones;
 use crate::fails::{RefineFail, with_places_turned};
 use crate::pairs::kept_of_all;
 use crate::rays::{all_rays, ray_sets};
-use pm_hull::Facets;
+use pm_dd::Facets;
 use pm_vector::Ints;
 use std::alloc::Global;
 

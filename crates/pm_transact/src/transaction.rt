@@ -3,7 +3,7 @@
 ghost use Rattle.pm_object.specs.Formed.{IsBacked, IsFormedIn};
 ghost use Rattle.pm_object.specs.Honest.{facts};
 ghost use Rattle.pm_object.specs.Laws.{computed, computed_at};
-ghost use Rattle.pm_object.specs.Reading.{drafted, place_in, view_for, without};
+ghost use Rattle.pm_object.specs.Reading.{drafted, view_for, without};
 ghost use Rattle.pm_object.specs.State.{cols_of, is_held, read_at, with_held};
 ghost use Rattle.pm_object.specs.Views.{put_seen};
 ghost use Rattle.pm_props.specs.Kinds.{IsKindOf};
@@ -13,10 +13,10 @@ ghost use Rattle.pm_transact.specs.Commits.{FitsObject, added};
 ghost use Rattle.pm_transact.specs.Transactions.{answer, begun, targets_of, with_value};
 ghost use Rattle.pm_types.specs.Runs.{missing};
 ghost use Rattle.pm_types.specs.Views.{view_of};
-ghost use Rattle.std.specs.Option.{is_some, option_map, option_to_list, unwrap_or};
-ghost use Rattle.std.specs.Prelude.{IfOk, IfSome, IsTrue, None, OnOk, length, map, vec_len, ◌<◌, ◌≤◌, ◌+◌, ◌≡◌};
+ghost use Rattle.std.specs.Option.{is_some, unwrap_or};
+ghost use Rattle.std.specs.Prelude.{IfOk, IfSome, IsTrue, None, OnOk, length, map, vec_len, ◌<◌, ◌≤◌, ◌≡◌};
 
-use pm_object::{Object, View};
+use pm_object::{Object, View, take_put};
 use pm_rules::Rule;
 use pm_types::{Kind, PropId, Value};
 use std::alloc::{AllocError, Global};
@@ -128,33 +128,10 @@ fn commit_one(object: &mut Object, sub: Option<u8>, values: &mut Vec<(PropId, Va
     ensures values { map put_seen values.new.items ≡ without p (map put_seen values.old.items) }
 {
     let held = object.lookup(sub, p).is_some();
-    let Some(value) = take_out(values, p) else {
+    let Some(value) = take_put(values, p) else {
         return;
     };
     if !held {
         object.add_computed(sub, p, value);
     }
-}
-
-// Takes the first value of a property out of a list; None exactly where there is none.
-fn take_out(values: &mut Vec<(PropId, Value)>, p: PropId) -> Option<Value>
-    ensures value { option_map view_of result ≡ drafted p (map put_seen values.old.items) }
-    ensures rest { map put_seen values.new.items ≡ without p (map put_seen values.old.items) }
-    ensures len { vec_len values.new + length (option_to_list result) ≡ vec_len values.old }
-{
-    let place = place_of(values, p)?;
-    Some(values.remove(place).1)
-}
-
-// The place of the first value of a property.
-fn place_of(values: &[(PropId, Value)], p: PropId) -> Option<usize>
-    ensures value { result ≡ place_in p 0 (map put_seen values.now) }
-    ensures within { IfSome result (λ i. i < length values.now) }
-{
-    for (i, value) in values.iter().enumerate() {
-        if value.0 == p {
-            return Some(i);
-        }
-    }
-    None
 }

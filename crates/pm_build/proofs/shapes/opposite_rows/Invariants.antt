@@ -1,6 +1,6 @@
 -- The rows of the first i places, in the column count of all.
 use Rattle.pm_build.proofs.shapes.opposite_rows.Given as goal
-use Rattle.pm_object.specs.Known.{cols_over}
+use Rattle.pm_types.specs.Parts.{cols_over}
 use Rattle.pm_build.specs.Rows.{headed_rows, opposite_units}
 use Rattle.std.proofs.Common.{suc, ◌≡◌}
 

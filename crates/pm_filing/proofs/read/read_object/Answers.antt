@@ -1,5 +1,5 @@
 -- What was seen passed its tests, and is the file.
-use Rattle.std.proofs.Common.{None, List, ap, map, subst, ◌∙◌}
+use Rattle.std.proofs.Common.{List, ap, map, subst, ◌∙◌}
 use Rattle.serde_json.specs.View.{view}
 use Rattle.pm_filing.specs.FileParts.{then_read}
 use Rattle.pm_filing.specs.FileReadings.{ArePassedIn, Seen, named_values, seen_in}

@@ -1,6 +1,6 @@
 use Rattle.pm_object.proofs.KnownValues.{held_forms, no_sets_read, sets_is}
 use Rattle.pm_object.proofs.known.sets_at.Goals as goal
-use Rattle.pm_object.specs.Known.{value_of_sets}
+use Rattle.pm_types.specs.Parts.{value_of_sets}
 use Rattle.pm_types.specs.Views.{view_of}
 use Rattle.std.proofs.Common.{Some, ap, sym, ◌∙◌}
 

@@ -1,5 +1,5 @@
 use Rattle.pm_object.proofs.KnownValues.{held_forms, sets_is}
-use Rattle.pm_object.specs.Known.{value_of_sets}
+use Rattle.pm_types.specs.Parts.{value_of_sets}
 use Rattle.pm_props.specs.declared.property.PropId.TheVariants.{MaximalCones}
 use Rattle.pm_refine.proofs.ObjectFans.{no_cones_read}
 use Rattle.pm_refine.proofs.object_fans.cones_at.Goals as goal

@@ -1,6 +1,6 @@
 -- The rows so far, which are in the range; the column count is that of all.
 use Rattle.pm_vector.specs.Numbers.{InRange}
-use Rattle.pm_object.specs.Known.{cols_over}
+use Rattle.pm_types.specs.Parts.{cols_over}
 use Rattle.pm_refine.proofs.objects.matrix_over_one.Given as goal
 use Rattle.pm_types.specs.Views.{ratios}
 use Rattle.std.proofs.Common.{map, take, ◌≡◌}

@@ -13,6 +13,6 @@ use Rattle.pm_transact.proofs.transaction.commit_one.Goals as goal
 pub returns-then-not-held-clause-cols : goal.returns-then-not-held-clause-cols
 returns-then-not-held-clause-cols c =
     let old = c.args.object.now.state in
-    let is : drafted c.args.p (map put_seen c.args.values.now.items) ≡ Some (view_of c.in-Some.value) = sym c.take_out.ensures.value ∙ ap (λ r. option_map view_of r) c.in-Some.is in
+    let is : drafted c.args.p (map put_seen c.args.values.now.items) ≡ Some (view_of c.in-Some.value) = sym c.take_put.ensures.value ∙ ap (λ r. option_map view_of r) c.in-Some.is in
     let fits = subst (λ d. IfSome d (λ v. IsFormedIn old.of (cols_of old.held) (length old.programs) (computed_at c.args.sub c.args.p v))) is c.requires.fits in
     ap (λ (z : State). cols_of z.held) c.add_computed.ensures.added ∙ cols_same old (computed_at c.args.sub c.args.p (view_of c.in-Some.value)) c.lookup.ensures.formed fits c.requires.known

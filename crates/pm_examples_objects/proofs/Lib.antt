@@ -1,0 +1,4 @@
+mod Programs
+mod Filing
+mod Whole
+mod Reading

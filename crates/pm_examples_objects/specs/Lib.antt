@@ -1,0 +1,4 @@
+pub mod Programs
+pub mod Filing
+pub mod Whole
+pub mod Reading

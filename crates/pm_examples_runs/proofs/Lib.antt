@@ -1,0 +1,5 @@
+pub mod OneTarget
+pub mod Runs
+pub mod Conditions
+pub mod MayAnswers
+pub mod Objects

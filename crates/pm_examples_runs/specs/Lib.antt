@@ -1,0 +1,2 @@
+pub mod RunExamples
+pub mod ObjectExamples

@@ -1,5 +1,0 @@
-use Rattle.pm_filing.proofs.Unique.{readings_are_unique}
-use Rattle.pm_filing.proofs.reading.law_readings_are_unique.Goals as goal
-
-pub returns : goal.returns
-returns c = readings_are_unique

@@ -1,6 +1,0 @@
-use Rattle.std.proofs.Common.{◌≡◌, drop}
-use Rattle.pm_types.specs.Forms.{is_zero_row}
-use Rattle.pm_object.proofs.tests_of_values.is_zero_row.Given as goal
-
-abbrev pub invariant-loop-q : goal.invariant-loop-q
-invariant-loop-q l = is_zero_row l.row ≡ is_zero_row (drop l.q-index l.row)
