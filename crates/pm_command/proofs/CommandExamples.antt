@@ -21,6 +21,8 @@ commands_are_read = record {
   product = refl;
   minkowski = refl;
   refine = refl;
+  show = refl;
+  evidence = refl;
 }
 
 pub no_commands_are_read : NoCommandsAreRead
@@ -46,6 +48,10 @@ no_commands_are_read = record {
   pyramid_doubled = refl;
   fan_apart = refl;
   fan_of_two = refl;
+  show_of_part = refl;
+  show_two = refl;
+  evidence_alone = refl;
+  evidence_of_part = refl;
   product_of_one = refl;
   product_doubled = refl;
 }

@@ -1,6 +1,6 @@
 -- What a line speaks, by its first word.
 use Rattle.std.proofs.Common.{List, bytes_eq, codes, false, refl, true, ℕ, ◌≡◌}
-use Rattle.pm_command.specs.Commands.{build_line, chain_line, copy_line, disable_line, drop_line, ensure_line, file_line, explain_line, give_line, history_line, line_of, load_line, lookup_line, new_line, object_line, origin_line, save_line, take_line, unload_line}
+use Rattle.pm_command.specs.Commands.{build_line, chain_line, copy_line, disable_line, drop_line, evidence_line, ensure_line, file_line, explain_line, give_line, history_line, line_of, load_line, lookup_line, new_line, object_line, origin_line, save_line, show_line, take_line, told_line, unload_line}
 
 pub is_new : (first words : List ℕ) → bytes_eq first (codes "new") ≡ true → line_of first words ≡ new_line words
 is_new first words a = rw (a) refl
@@ -35,8 +35,18 @@ is_explain first words a b = rw (a, b) refl
 pub is_history : (first words : List ℕ) → bytes_eq first (codes "ensure") ≡ false → bytes_eq first (codes "explain") ≡ false → bytes_eq first (codes "history") ≡ true → chain_line first words ≡ history_line words
 is_history first words a b d = rw (a, b, d) refl
 
-pub is_on_objects : (first words : List ℕ) → bytes_eq first (codes "ensure") ≡ false → bytes_eq first (codes "explain") ≡ false → bytes_eq first (codes "history") ≡ false → chain_line first words ≡ object_line first words
-is_on_objects first words a b d = rw (a, b, d) refl
+pub is_told : (first words : List ℕ) → bytes_eq first (codes "ensure") ≡ false → bytes_eq first (codes "explain") ≡ false → bytes_eq first (codes "history") ≡ false → chain_line first words ≡ told_line first words
+is_told first words a b d = rw (a, b, d) refl
+
+-- ---- commands that tell of an object
+pub is_show : (first words : List ℕ) → bytes_eq first (codes "show") ≡ true → told_line first words ≡ show_line words
+is_show first words a = rw (a) refl
+
+pub is_evidence : (first words : List ℕ) → bytes_eq first (codes "show") ≡ false → bytes_eq first (codes "evidence") ≡ true → told_line first words ≡ evidence_line words
+is_evidence first words a b = rw (a, b) refl
+
+pub is_on_objects : (first words : List ℕ) → bytes_eq first (codes "show") ≡ false → bytes_eq first (codes "evidence") ≡ false → told_line first words ≡ object_line first words
+is_on_objects first words a b = rw (a, b) refl
 
 -- ---- commands on objects
 pub is_copy : (first words : List ℕ) → bytes_eq first (codes "copy") ≡ true → object_line first words ≡ copy_line words

@@ -13,7 +13,7 @@ use Rattle.pm_command.proofs.Spaces.{name_lacks, name_is_some, name_of_two, rest
 use Rattle.pm_command.proofs.BuildLines.{built_read, make_spoken, of_builder, one_spoken, two_are_spoken}
 use Rattle.pm_command.specs.Builders.{word_of}
 use Rattle.pm_command.specs.declared.building.Builder.TheVariants.{One, Two}
-use Rattle.pm_command.specs.Commands.{RefSeen, Spoken, blank, new_object, take_value, give_value, look_up, ensure_values, explain_values, tell_history, show_rules, disable_rule, unload_client, copy_object, drop_object, load_object, save_object, tell_origin, make_object, build_object, part_of, ref_of, property_of, type_of, json_of, of_both, new_line, take_line, give_line, lookup_line, asked_of, ensure_line, explain_line, history_line, disable_line, unload_line, copy_line, drop_line, origin_line, object_line, chain_line, line_of, command_of, file_line, load_line, save_line, build_line}
+use Rattle.pm_command.specs.Commands.{RefSeen, Spoken, blank, new_object, take_value, give_value, look_up, ensure_values, explain_values, tell_history, show_object, tell_evidence, show_rules, disable_rule, unload_client, copy_object, drop_object, load_object, save_object, tell_origin, make_object, build_object, part_of, ref_of, property_of, type_of, json_of, of_both, new_line, take_line, give_line, lookup_line, asked_of, ensure_line, explain_line, history_line, show_line, evidence_line, disable_line, unload_line, copy_line, drop_line, origin_line, object_line, told_line, chain_line, line_of, command_of, file_line, load_line, save_line, build_line}
 use Rattle.pm_command.specs.Grammar.{part_text, ref_text, is_sub, is_ref, spaced, are_some_asked, is_shape, shape_text, Speaks}
 use Rattle.pm_command.specs.Lines.{is_silent}
 use Rattle.pm_rules.specs.Words.{is_label, is_word}
@@ -107,6 +107,9 @@ type_is_some w h = cond-true (is_type_word w) (Some w) None h
 disable_spoken : (name label : List ℕ) → is_name name ≡ true → is_label label ≡ true → disable_line (name ++ 32 ∷ label) ≡ Some (disable_rule name label)
 disable_spoken name label n l = rw (name_of_two name label n, rest_of_name name label n, n, l) refl
 
+evidence_spoken : (name label : List ℕ) → is_name name ≡ true → is_label label ≡ true → evidence_line (name ++ 32 ∷ label) ≡ Some (tell_evidence name label)
+evidence_spoken name label n l = rw (name_of_two name label n, rest_of_name name label n, n, l) refl
+
 copy_spoken : (name to : List ℕ) → is_name name ≡ true → is_name to ≡ true → copy_line (name ++ 32 ∷ to) ≡ Some (copy_object name to)
 copy_spoken name to n t = rw (name_of_two name to n, rest_of_name name to n, n, t) refl
 
@@ -182,6 +185,12 @@ spoken_is_read text (explain_values r words) h =
     ∙ both_spoken (λ obj text. explain_values obj (words_of text)) asked_of r (spaced words) p.0 (asked_is_some words p.1) ∙ ap (λ ws. Some (explain_values r ws)) (words_spaced words p.1))
 spoken_is_read text (tell_history name) h =
     rw h.same (heard (codes "history " ++ name) refl refl (subst IsUtf8 h.same h.utf8) ∙ cond-true (is_name name) (Some (tell_history name)) None h.allowed)
+spoken_is_read text (show_object name) h =
+    rw h.same (heard (codes "show " ++ name) refl refl (subst IsUtf8 h.same h.utf8) ∙ cond-true (is_name name) (Some (show_object name)) None h.allowed)
+spoken_is_read text (tell_evidence name label) h =
+    let p = and_parts (is_name name) (is_label label) h.allowed in
+    let e = h.same ∙ regroup (codes "evidence ") name label in
+    rw e (heard (codes "evidence " ++ (name ++ 32 ∷ label)) refl refl (subst IsUtf8 e h.utf8) ∙ evidence_spoken name label p.0 p.1)
 spoken_is_read text show_rules h = rw h.same (rw (is_utf8-from_IsUtf8 (codes "rules") (subst IsUtf8 h.same h.utf8)) refl)
 spoken_is_read text (disable_rule name label) h =
     let p = and_parts (is_name name) (is_label label) h.allowed in
@@ -337,6 +346,19 @@ history_read text s u f e =
     let q = cond_some (is_name (rest text)) (tell_history (rest text)) s e in
     subst (Speaks text) q.1 (record { utf8 = u; same = behind text (name_is_some (rest text) q.0) ∙ ap (λ x. x ++ 32 ∷ rest text) f; allowed = q.0 })
 
+show_read : (text : List ℕ) (s : Spoken) → IsUtf8 text → first_word text ≡ codes "show" → show_line (rest text) ≡ Some s → Speaks text s
+show_read text s u f e =
+    let q = cond_some (is_name (rest text)) (show_object (rest text)) s e in
+    subst (Speaks text) q.1 (record { utf8 = u; same = behind text (name_is_some (rest text) q.0) ∙ ap (λ x. x ++ 32 ∷ rest text) f; allowed = q.0 })
+
+evidence_read : (text : List ℕ) (s : Spoken) → IsUtf8 text → first_word text ≡ codes "evidence" → evidence_line (rest text) ≡ Some s → Speaks text s
+evidence_read text s u f e =
+    let words : List ℕ = rest text in
+    let q = cond_some (is_name (first_word words) && is_label (rest words)) (tell_evidence (first_word words) (rest words)) s e in
+    let p = and_parts (is_name (first_word words)) (is_label (rest words)) q.0 in
+    let line : words ≡ first_word words ++ 32 ∷ rest words = behind words (label_is_some (rest words) p.1) in
+    subst (Speaks text) q.1 (record { utf8 = u; same = whole_line text (codes "evidence") (first_word words) (rest words) f line ∙ sym (regroup (codes "evidence ") (first_word words) (rest words)); allowed = q.0 })
+
 copy_read : (text : List ℕ) (s : Spoken) → IsUtf8 text → first_word text ≡ codes "copy" → copy_line (rest text) ≡ Some s → Speaks text s
 copy_read text s u f e =
     let words : List ℕ = rest text in
@@ -396,17 +418,27 @@ object_read text s u e =
     (λ _ g. cond_either (bytes_eq first (codes "origin")) (origin_line words) files (Some s) g (λ is h. origin_read text s u (same_bytes first (codes "origin") is) h)
     (λ _ h. file_read text s u h)))
 
+told_read : (text : List ℕ) (s : Spoken) → IsUtf8 text → told_line (first_word text) (rest text) ≡ Some s → Speaks text s
+told_read text s u e =
+    let first : List ℕ = first_word text in
+    let words : List ℕ = rest text in
+    let others : Option Spoken = object_line first words in
+    let evidence : Option Spoken = cond (bytes_eq first (codes "evidence")) (evidence_line words) others in
+    cond_either (bytes_eq first (codes "show")) (show_line words) evidence (Some s) e (λ is f. show_read text s u (same_bytes first (codes "show") is) f)
+    (λ _ f. cond_either (bytes_eq first (codes "evidence")) (evidence_line words) others (Some s) f (λ is g. evidence_read text s u (same_bytes first (codes "evidence") is) g)
+    (λ _ g. object_read text s u g))
+
 chain_read : (text : List ℕ) (s : Spoken) → IsUtf8 text → chain_line (first_word text) (rest text) ≡ Some s → Speaks text s
 chain_read text s u e =
     let first : List ℕ = first_word text in
     let words : List ℕ = rest text in
-    let others : Option Spoken = object_line first words in
+    let others : Option Spoken = told_line first words in
     let history : Option Spoken = cond (bytes_eq first (codes "history")) (history_line words) others in
     let explain : Option Spoken = cond (bytes_eq first (codes "explain")) (explain_line words) history in
     cond_either (bytes_eq first (codes "ensure")) (ensure_line words) explain (Some s) e (λ is f. ensure_read text s u (same_bytes first (codes "ensure") is) f)
     (λ _ f. cond_either (bytes_eq first (codes "explain")) (explain_line words) history (Some s) f (λ is g. explain_read text s u (same_bytes first (codes "explain") is) g)
     (λ _ g. cond_either (bytes_eq first (codes "history")) (history_line words) others (Some s) g (λ is h. history_read text s u (same_bytes first (codes "history") is) h)
-    (λ _ h. object_read text s u h)))
+    (λ _ h. told_read text s u h)))
 
 taken_read : (text : List ℕ) (s : Spoken) → IsUtf8 text → first_word text ≡ codes "take" → take_line (rest text) ≡ Some s → Speaks text s
 taken_read text s u f e =

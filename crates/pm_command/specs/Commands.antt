@@ -1,6 +1,7 @@
 -- The commands that lines speak. A REF is NAME, or NAME.SUB for the part SUB of an object.
 -- `rules` asks for the book; `disable NAME LABEL` bars the rule of the label on an object, and `unload CLIENT` lets the first client of the name go; both are words as in books.
 -- `ensure REF PROP ..` asks that values be held, and `explain REF PROP ..` how they would be found: at most four properties, and one that is named twice counts once. `history NAME` asks what happened to an object.
+-- `show NAME` asks what an object holds, and `evidence NAME LABEL` why the rule of the label is barred there.
 -- `load NAME FILE` makes an object of what a file holds, and `save NAME FILE` writes an object to a file; FILE is a word that names a file.
 -- `copy NAME NEW` makes an object of the name NEW that is as that of NAME, and `drop NAME` lets an object go; `origin REF PROP` asks how a value came to be held.
 -- `make NEW SHAPE N ..` makes a polytope of the name NEW: `cube N`, `simplex N` or `cross N` of the dimension N, or `cyclic N M` of the dimension N with M points; a number is from 1 to 9999, in decimal digits of which the first is not 0.
@@ -18,7 +19,7 @@ use Rattle.pm_command.specs.declared.command.Ref.{Ref}
 use Rattle.pm_command.specs.declared.command.Command.{Command}
 use Rattle.pm_command.specs.declared.command.Shape.{Shape}
 use Rattle.pm_command.specs.declared.command.Shape.TheVariants as shape
-use Rattle.pm_command.specs.declared.command.Command.TheVariants.{Blank, New, Take, Give, Lookup, Ensure, Explain, History, Rules, Disable, Unload, Copy, DropObject, Origin, Load, Save, Make, Build}
+use Rattle.pm_command.specs.declared.command.Command.TheVariants.{Blank, New, Take, Give, Lookup, Ensure, Explain, History, Show, Evidence, Rules, Disable, Unload, Copy, DropObject, Origin, Load, Save, Make, Build}
 use Rattle.pm_command.specs.Builders.{builder_named, builder_of, operands_of}
 use Rattle.pm_command.specs.declared.building.Builder.{Builder}
 use Rattle.pm_command.specs.declared.building.Builder.TheVariants.{One, Two}
@@ -45,6 +46,8 @@ pub data Spoken : Type 0 where
   ensure_values : RefSeen → List (List ℕ) → Spoken
   explain_values : RefSeen → List (List ℕ) → Spoken
   tell_history : List ℕ → Spoken
+  show_object : List ℕ → Spoken
+  tell_evidence : List ℕ → List ℕ → Spoken
   show_rules : Spoken
   disable_rule : List ℕ → List ℕ → Spoken
   unload_client : List ℕ → Spoken
@@ -104,6 +107,15 @@ explain_line words = of_both (λ obj text. explain_values obj (words_of text)) (
 
 abbrev pub history_line : List ℕ → Option Spoken
 history_line word = if is_name word then Some (tell_history word) else None
+
+abbrev pub show_line : List ℕ → Option Spoken
+show_line word = if is_name word then Some (show_object word) else None
+
+abbrev pub evidence_of : List ℕ → List ℕ → Option Spoken
+evidence_of name label = if is_name name && is_label label then Some (tell_evidence name label) else None
+
+abbrev pub evidence_line : List ℕ → Option Spoken
+evidence_line words = evidence_of (first_word words) (rest words)
 
 abbrev pub disable_of : List ℕ → List ℕ → Option Spoken
 disable_of name label = if is_name name && is_label label then Some (disable_rule name label) else None
@@ -193,13 +205,20 @@ object_line first words =
     else (if bytes_eq first (codes "origin") then origin_line words
     else file_line first words))
 
+-- a command that tells what an object holds, or why a rule is barred there, by its first word and what stands after it
+abbrev pub told_line : List ℕ → List ℕ → Option Spoken
+told_line first words =
+    if bytes_eq first (codes "show") then show_line words
+    else (if bytes_eq first (codes "evidence") then evidence_line words
+    else object_line first words)
+
 -- a command on chains, from its first word and what stands after it
 abbrev pub chain_line : List ℕ → List ℕ → Option Spoken
 chain_line first words =
     if bytes_eq first (codes "ensure") then ensure_line words
     else (if bytes_eq first (codes "explain") then explain_line words
     else (if bytes_eq first (codes "history") then history_line words
-    else object_line first words))
+    else told_line first words))
 
 -- the command, from its first word and what stands after it
 abbrev pub line_of : List ℕ → List ℕ → Option Spoken
@@ -242,6 +261,8 @@ spoken (Lookup obj prop) = look_up (seen_ref obj) (string_bytes prop)
 spoken (Ensure obj props) = ensure_values (seen_ref obj) (map string_bytes props.items)
 spoken (Explain obj props) = explain_values (seen_ref obj) (map string_bytes props.items)
 spoken (History name) = tell_history (string_bytes name)
+spoken (Show name) = show_object (string_bytes name)
+spoken (Evidence name label) = tell_evidence (string_bytes name) (string_bytes label)
 spoken Rules = show_rules
 spoken (Disable name label) = disable_rule (string_bytes name) (string_bytes label)
 spoken (Unload client) = unload_client (string_bytes client)

@@ -1,6 +1,6 @@
 -- Words and lines: what they speak, and what they do not.
 use Rattle.std.specs.Prelude.{◌≡◌, true, false, [], ◌∷◌, Some, None, codes}
-use Rattle.pm_command.specs.Commands.{build_object, command_of, cross_shape, cube_shape, cyclic_shape, make_object, simplex_shape}
+use Rattle.pm_command.specs.Commands.{build_object, command_of, cross_shape, cube_shape, cyclic_shape, make_object, show_object, simplex_shape, tell_evidence}
 use Rattle.pm_command.specs.Words.{are_asked}
 use Rattle.pm_command.specs.declared.building.Binary.TheVariants.{Minkowski, Product, Refine}
 use Rattle.pm_command.specs.declared.building.Builder.TheVariants.{One, Two}
@@ -21,6 +21,8 @@ pub record CommandsAreRead : Type 0 where
   pub product : command_of (codes "product s t p") ≡ Some (build_object (Two Product) (codes "s" ∷ codes "t" ∷ []) (codes "p"))
   pub minkowski : command_of (codes "minkowski s t p") ≡ Some (build_object (Two Minkowski) (codes "s" ∷ codes "t" ∷ []) (codes "p"))
   pub refine : command_of (codes "refine s t f") ≡ Some (build_object (Two Refine) (codes "s" ∷ codes "t" ∷ []) (codes "f"))
+  pub show : command_of (codes "show t") ≡ Some (show_object (codes "t"))
+  pub evidence : command_of (codes "evidence t dd_facets") ≡ Some (tell_evidence (codes "t") (codes "dd_facets"))
 
 pub record NoCommandsAreRead : Type 0 where
   pub zero_cube : command_of (codes "make t cube 0") ≡ None
@@ -43,5 +45,9 @@ pub record NoCommandsAreRead : Type 0 where
   pub pyramid_doubled : command_of (codes "pyramid t  p") ≡ None
   pub fan_apart : command_of (codes "normal fan t f") ≡ None
   pub fan_of_two : command_of (codes "facefan s t f") ≡ None
+  pub show_of_part : command_of (codes "show t.u") ≡ None
+  pub show_two : command_of (codes "show s t") ≡ None
+  pub evidence_alone : command_of (codes "evidence t") ≡ None
+  pub evidence_of_part : command_of (codes "evidence t.u dd_facets") ≡ None
   pub product_of_one : command_of (codes "product t p") ≡ None
   pub product_doubled : command_of (codes "product s  t p") ≡ None

@@ -2,7 +2,7 @@
 use Rattle.std.specs.Prelude.{ℕ, ◌≡◌, ◌&&◌, ◌++◌, Bool, true, IsTrue, List, [], ◌∷◌, length, nat_le, Option, Some, None, codes, decimal}
 use Rattle.std.specs.List.{join_with_byte}
 use Rattle.std.specs.Str.{IsUtf8}
-use Rattle.pm_command.specs.Commands.{RefSeen, Spoken, blank, new_object, take_value, give_value, look_up, ensure_values, explain_values, tell_history, show_rules, disable_rule, unload_client, copy_object, drop_object, tell_origin, load_object, save_object, ShapeSeen, cube_shape, simplex_shape, cross_shape, cyclic_shape, make_object, build_object}
+use Rattle.pm_command.specs.Commands.{RefSeen, Spoken, blank, new_object, take_value, give_value, look_up, ensure_values, explain_values, tell_history, show_object, tell_evidence, show_rules, disable_rule, unload_client, copy_object, drop_object, tell_origin, load_object, save_object, ShapeSeen, cube_shape, simplex_shape, cross_shape, cyclic_shape, make_object, build_object}
 use Rattle.pm_command.specs.Builders.{word_of}
 use Rattle.pm_command.specs.declared.building.Builder.TheVariants.{One, Two}
 use Rattle.pm_command.specs.Lines.{is_silent}
@@ -68,6 +68,8 @@ Speaks text (look_up obj prop) = IsLine text (codes "lookup " ++ ref_text obj ++
 Speaks text (ensure_values obj props) = IsLine text (codes "ensure " ++ ref_text obj ++ codes " " ++ spaced props) (is_ref obj && are_some_asked props)
 Speaks text (explain_values obj props) = IsLine text (codes "explain " ++ ref_text obj ++ codes " " ++ spaced props) (is_ref obj && are_some_asked props)
 Speaks text (tell_history name) = IsLine text (codes "history " ++ name) (is_name name)
+Speaks text (show_object name) = IsLine text (codes "show " ++ name) (is_name name)
+Speaks text (tell_evidence name label) = IsLine text (codes "evidence " ++ name ++ codes " " ++ label) (is_name name && is_label label)
 Speaks text show_rules = IsLine text (codes "rules") true
 Speaks text (disable_rule name label) = IsLine text (codes "disable " ++ name ++ codes " " ++ label) (is_name name && is_label label)
 Speaks text (unload_client client) = IsLine text (codes "unload " ++ client) (is_word client)

@@ -1,6 +1,6 @@
 // Commands.
 
-ghost use Rattle.pm_command.specs.Commands.{Spoken, ref_of, part_of, property_of, type_of, json_of, new_line, take_line, give_line, lookup_line, ensure_line, explain_line, history_line, is_on_files, disable_line, unload_line, copy_line, drop_line, file_line, load_line, origin_line, object_line, save_line, chain_line, line_of, command_of, seen_ref, spoken};
+ghost use Rattle.pm_command.specs.Commands.{Spoken, ref_of, part_of, property_of, type_of, json_of, new_line, take_line, give_line, lookup_line, ensure_line, evidence_line, explain_line, history_line, is_on_files, disable_line, unload_line, copy_line, drop_line, file_line, load_line, origin_line, object_line, save_line, show_line, told_line, chain_line, line_of, command_of, seen_ref, spoken};
 ghost use Rattle.pm_command.specs.Grammar.{Speaks};
 ghost use Rattle.pm_command.specs.Words.{are_asked, distinct, is_property_word, words_of};
 ghost use Rattle.pm_command.specs.declared.command.LineFail.TheVariants.{Memory};
@@ -80,6 +80,15 @@ pub enum Command {
     /// `history NAME`
     History {
         name: String,
+    },
+    /// `show NAME`
+    Show {
+        name: String,
+    },
+    /// `evidence NAME LABEL`
+    Evidence {
+        name: String,
+        label: String,
     },
     /// `rules`
     Rules,
@@ -371,6 +380,36 @@ fn read_history(alloc: Global, word: &str) -> Result<Command, LineFail>
     }
 }
 
+/// The word after `show`.
+fn read_show(alloc: Global, word: &str) -> Result<Command, LineFail>
+    ensures ok { IfOk result (λ c. show_line word.now ≡ Some (spoken c)) }
+    ensures refused { IfErr result (λ e. e ≡ LineFail.BadCommand → show_line word.now ≡ None) }
+{
+    if is_name(word) {
+        Ok(Command::Show {
+            name: String::from_str(alloc, word)?,
+        })
+    } else {
+        Err(LineFail::BadCommand)
+    }
+}
+
+/// The words after `evidence`.
+fn read_evidence(alloc: Global, words: &str) -> Result<Command, LineFail>
+    ensures ok { IfOk result (λ c. evidence_line words.now ≡ Some (spoken c)) }
+    ensures refused { IfErr result (λ e. e ≡ LineFail.BadCommand → evidence_line words.now ≡ None) }
+{
+    let (name, label) = split_word(words);
+    if is_name(name) && is_label(label) {
+        Ok(Command::Evidence {
+            name: String::from_str(alloc, name)?,
+            label: String::from_str(alloc, label)?,
+        })
+    } else {
+        Err(LineFail::BadCommand)
+    }
+}
+
 /// The words after `disable`.
 fn read_disable(alloc: Global, words: &str) -> Result<Command, LineFail>
     ensures ok { IfOk result (λ c. disable_line words.now ≡ Some (spoken c)) }
@@ -506,6 +545,21 @@ fn read_object_words(alloc: Global, first: &str, words: &str) -> Result<Command,
     }
 }
 
+/// The command of this first word that tells what an object holds, or why a rule is barred there.
+fn read_told_words(alloc: Global, first: &str, words: &str) -> Result<Command, LineFail>
+    ensures ok { IfOk result (λ c. told_line first.now words.now ≡ Some (spoken c)) }
+    ensures refused { IfErr result (λ e. e ≡ LineFail.BadCommand
+        → told_line first.now words.now ≡ None) }
+{
+    if first == "show" {
+        read_show(alloc, words)
+    } else if first == "evidence" {
+        read_evidence(alloc, words)
+    } else {
+        read_object_words(alloc, first, words)
+    }
+}
+
 /// The command on chains of this first word, with these words after it.
 fn read_chain_words(alloc: Global, first: &str, words: &str) -> Result<Command, LineFail>
     ensures ok { IfOk result (λ c. chain_line first.now words.now ≡ Some (spoken c)) }
@@ -519,7 +573,7 @@ fn read_chain_words(alloc: Global, first: &str, words: &str) -> Result<Command, 
     } else if first == "history" {
         read_history(alloc, words)
     } else {
-        read_object_words(alloc, first, words)
+        read_told_words(alloc, first, words)
     }
 }
 

@@ -1,5 +1,7 @@
 pub mod Lists
 pub mod Plain
+pub mod PlainEvidence
+pub mod EvidenceExamples
 pub mod WholeFiles
 pub mod Members
 pub mod Ascending

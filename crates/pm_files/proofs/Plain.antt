@@ -19,10 +19,10 @@ each_depth f n h (x ∷ xs) = let first = h x in let rest = each_depth f n h xs 
 row_depth : (r : List Ratio) → depth (row_json r) ≤ 1
 row_depth r = let e = each_depth fraction_json 0 (λ q. omega arith) r in omega arith
 
-set_depth : (set : List ℕ) → depth (set_json set) ≤ 1
+pub set_depth : (set : List ℕ) → depth (set_json set) ≤ 1
 set_depth set = let e = each_depth index_json 0 (λ j. omega arith) set in omega arith
 
-edges_depth : (rows : List (List ℕ)) → depth (edges_json rows) ≤ 2
+pub edges_depth : (rows : List (List ℕ)) → depth (edges_json rows) ≤ 2
 edges_depth rows = let e = each_depth set_json 1 set_depth rows in omega arith
 
 sets_depth : (rows : List (List ℕ)) (n : ℕ) → items_depth (items_of (map set_json rows ++ cols_json n ∷ [])) ≤ 1
@@ -57,7 +57,7 @@ value_depth p (truth b) = omega arith
 value_depth p (extended (finite q)) = omega arith
 value_depth p (extended plus_infinity) = omega arith
 value_depth p (extended minus_infinity) = omega arith
-value_depth p (edges rows) = let e = edges_depth rows in omega arith
+value_depth p (edges rows n) = let e = edges_depth rows in omega arith
 value_depth p (lattice ranks) = let e = each_depth edges_json 2 edges_depth ranks in omega arith
 value_depth p (counts ks) = let e = each_depth whole_json 0 (λ k. omega arith) ks in omega arith
 
@@ -69,10 +69,10 @@ each_whole f h (x ∷ xs) = rw (h x) (each_whole f h xs)
 row_whole : (r : List Ratio) → has_float (row_json r) ≡ false
 row_whole r = each_whole fraction_json (λ q. refl) r
 
-set_whole : (set : List ℕ) → has_float (set_json set) ≡ false
+pub set_whole : (set : List ℕ) → has_float (set_json set) ≡ false
 set_whole set = each_whole index_json (λ j. refl) set
 
-edges_whole : (rows : List (List ℕ)) → has_float (edges_json rows) ≡ false
+pub edges_whole : (rows : List (List ℕ)) → has_float (edges_json rows) ≡ false
 edges_whole rows = each_whole set_json set_whole rows
 
 sets_whole : (rows : List (List ℕ)) (n : ℕ) → items_have_float (items_of (map set_json rows ++ cols_json n ∷ [])) ≡ false
@@ -111,6 +111,6 @@ value_whole p (truth b) = refl
 value_whole p (extended (finite q)) = refl
 value_whole p (extended plus_infinity) = refl
 value_whole p (extended minus_infinity) = refl
-value_whole p (edges rows) = edges_whole rows
+value_whole p (edges rows n) = edges_whole rows
 value_whole p (lattice ranks) = each_whole edges_json edges_whole ranks
 value_whole p (counts ks) = each_whole whole_json number_whole ks

@@ -37,8 +37,8 @@ pub record SetsAreWritten : Type 0 where
   pub no_sets : value_text VerticesInFacets (sets [] 0) ≡ codes "[{\"cols\":0}]"
   pub not_alone : value_text VerticesInFacets (sets ((0 ∷ []) ∷ []) 1) ≢ codes "[[0]]"
   -- and not behind edges
-  pub graph : value_text Graph (edges ((1 ∷ []) ∷ (0 ∷ []) ∷ [])) ≡ codes "[[1],[0]]"
-  pub no_columns : value_text Graph (edges ((1 ∷ []) ∷ (0 ∷ []) ∷ [])) ≢ codes "[[1],[0],{\"cols\":2}]"
+  pub graph : value_text Graph (edges ((1 ∷ []) ∷ (0 ∷ []) ∷ []) 2) ≡ codes "[[1],[0]]"
+  pub no_columns : value_text Graph (edges ((1 ∷ []) ∷ (0 ∷ []) ∷ []) 2) ≢ codes "[[1],[0],{\"cols\":2}]"
   -- a lattice is written rank by rank
   pub diagram : value_text HasseDiagram (lattice (([] ∷ []) ∷ ((0 ∷ []) ∷ []) ∷ [])) ≡ codes "[[[]],[[0]]]"
   pub ranks : value_text HasseDiagram (lattice (([] ∷ []) ∷ ((0 ∷ []) ∷ []) ∷ [])) ≢ codes "[[],[0]]"

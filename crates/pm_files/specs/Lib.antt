@@ -1,4 +1,6 @@
 pub mod ValueJson
+pub mod EvidenceJson
+pub mod EvidenceExamples
 pub mod Files
 pub mod Views
 pub mod Laws

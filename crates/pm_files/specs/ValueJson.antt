@@ -81,7 +81,7 @@ json_of p (sets rows n) = sets_json rows n
 json_of p (whole k) = whole_json k
 json_of p (truth b) = boolean b
 json_of p (extended x) = extended_json x
-json_of p (edges rows) = edges_json rows
+json_of p (edges rows n) = edges_json rows
 json_of p (lattice ranks) = lattice_json ranks
 json_of p (counts ks) = counts_json ks
 

@@ -2,13 +2,16 @@
 #![tactic(auto)]
 
 ghost use Rattle.pm_files.specs.Examples.{MatricesAreWritten, NumbersAreWritten, SetsAreWritten};
+ghost use Rattle.pm_files.specs.EvidenceExamples.{EvidenceIsWritten};
 ghost use Rattle.pm_files.specs.FileExamples.{FilesAreWritten};
 ghost use Rattle.pm_files.specs.Laws.{FilesAreShallow, FilesHaveNoFloat, FilesHoldTheirType, FilesHoldTheirValues, ValuesAreShallow, ValuesHaveNoFloat};
 
+mod evidence;
 mod file;
 mod value;
 mod write;
 
+pub use evidence::evidence_text;
 pub use file::{FileObject, FileProgram};
 pub use value::{value_json, value_text};
 pub use write::{object_bytes, type_text};
@@ -36,6 +39,11 @@ pub fn example_sets()
 /// How numbers and truth values are written, and how not.
 pub fn example_numbers()
     ensures { NumbersAreWritten }
+{}
+
+/// How evidence is written, and how not.
+pub fn example_evidence()
+    ensures { EvidenceIsWritten }
 {}
 
 /// A file nests six levels at most.

@@ -83,7 +83,7 @@ fn rows_json(alloc: Global, p: PropId, m: &Matrix) -> Result<Json, AllocError>
 }
 
 /// A set of indices.
-fn set_json(alloc: Global, set: &[u32]) -> Result<Json, AllocError>
+pub(crate) fn set_json(alloc: Global, set: &[u32]) -> Result<Json, AllocError>
     ensures { IfOk result (λ j. view j ≡ set_json set.now) }
 {
     let mut indices = Vec::new(alloc);
@@ -114,7 +114,7 @@ fn sets_json(alloc: Global, sets: &Sets) -> Result<Json, AllocError>
 }
 
 /// Sets without a column count.
-fn edges_json(alloc: Global, rows: &[Vec<u32>]) -> Result<Json, AllocError>
+pub(crate) fn edges_json(alloc: Global, rows: &[Vec<u32>]) -> Result<Json, AllocError>
     ensures { IfOk result (λ j. view j ≡ edges_json (map (λ set. set.items) rows.now)) }
 {
     Ok(Json::Array(each_set(alloc, rows)?))

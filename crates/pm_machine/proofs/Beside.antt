@@ -7,9 +7,9 @@ use Rattle.pm_making.specs.Rows.{row_of}
 use Rattle.pm_command.specs.declared.building.Builder.{Builder}
 use Rattle.pm_machine.specs.Parts.{StepInPart}
 use Rattle.pm_machine.specs.Machines.{IsFree, Machine, Stays, Store, shelf}
-use Rattle.pm_machine.specs.Steps.{CopyStep, DisableStep, DropStep, EnsureStep, ExplainStep, FileRead, GiveStep, HasBytes, HasNone, HistoryStep, IsLookedAt, LoadStep, Looks, LookupStep, NewObjectStep, NewOf, NewProgramStep, NewStep, OriginStep, RulesStep, Step, TakeStep, UnloadStep, bad_file, is_asked, is_copied, is_dropped, is_listed, is_loaded, is_made, is_shown, is_told, is_unloaded, not_held, now_disabled, now_held, is_refused}
+use Rattle.pm_machine.specs.Steps.{CopyStep, DisableStep, DropStep, EnsureStep, EvidenceStep, ExplainStep, FileRead, GiveStep, HasBytes, HasNone, HistoryStep, IsLookedAt, LoadStep, Looks, LookupStep, NewObjectStep, NewOf, NewProgramStep, NewStep, OriginStep, RulesStep, ShowStep, Step, TakeStep, UnloadStep, bad_file, is_asked, is_copied, is_dropped, is_listed, is_loaded, is_made, is_refused, is_shown, is_told, is_unloaded, not_held, now_disabled, now_held}
 use Rattle.pm_rules.specs.declared.rule.Rule.{Rule}
-use Rattle.pm_command.specs.Commands.{RefSeen, Spoken, blank, new_object, take_value, give_value, look_up, ensure_values, explain_values, tell_history, show_rules, disable_rule, unload_client, copy_object, drop_object, tell_origin, load_object, save_object, make_object, build_object, is_on_files}
+use Rattle.pm_command.specs.Commands.{RefSeen, Spoken, blank, new_object, take_value, give_value, look_up, ensure_values, explain_values, tell_history, show_object, tell_evidence, show_rules, disable_rule, unload_client, copy_object, drop_object, tell_origin, load_object, save_object, make_object, build_object, is_on_files}
 use Rattle.pm_script.specs.Replies.{ReplySeen}
 use Rattle.pm_store.specs.Files.{FilesStay, file_of, read_part}
 use Rattle.std.specs.Option.{is_some}
@@ -51,6 +51,14 @@ history_beside : (k : Store) (old new : Machine) (book : List Rule) (name : List
 history_beside k old new book name _ (is_refused r s) = is_refused r (stays_beside k old new s)
 history_beside k old new book name _ (is_told o h i e s) = is_told o h i e (stays_beside k old new s)
 
+show_beside : (k : Store) (old new : Machine) (name : List ℕ) (reply : ReplySeen) → ShowStep old name reply new → ShowStep (beside k old) name reply (beside k new)
+show_beside k old new name _ (is_refused r s) = is_refused r (stays_beside k old new s)
+show_beside k old new name _ (is_told o h t i p s) = is_told o h t i p (stays_beside k old new s)
+
+evidence_beside : (k : Store) (old new : Machine) (book : List Rule) (name label : List ℕ) (reply : ReplySeen) → EvidenceStep book old name label reply new → EvidenceStep book (beside k old) name label reply (beside k new)
+evidence_beside k old new book name label _ (is_refused r s) = is_refused r (stays_beside k old new s)
+evidence_beside k old new book name label _ (is_told o h l i n s) = is_told o h l i n (stays_beside k old new s)
+
 lookup_beside : (k : Store) (old new : Machine) (ref : RefSeen) (text : List ℕ) (reply : ReplySeen) → LookupStep old ref text reply new → LookupStep (beside k old) ref text reply (beside k new)
 lookup_beside k old new ref text _ (is_refused r s) = is_refused r (stays_beside k old new s)
 lookup_beside k old new ref text _ (not_held x p h i n s) = not_held x p h i n (stays_beside k old new s)
@@ -89,6 +97,8 @@ step_beside k book old new (look_up ref text) reply e h = lookup_beside k old ne
 step_beside k book old new (ensure_values ref words) reply e h = ensure_beside k old new book ref words reply h
 step_beside k book old new (explain_values ref words) reply e h = explain_beside k old new book ref words reply h
 step_beside k book old new (tell_history name) reply e h = history_beside k old new book name reply h
+step_beside k book old new (show_object name) reply e h = show_beside k old new name reply h
+step_beside k book old new (tell_evidence name label) reply e h = evidence_beside k old new book name label reply h
 step_beside k book old new show_rules reply e h = rules_beside k old new book reply h
 step_beside k book old new (disable_rule name label) reply e h = disable_beside k old new book name label reply h
 step_beside k book old new (unload_client name) reply e h = unload_beside k old new name reply h
@@ -118,6 +128,8 @@ part_beside k book old new (new_object ref text) e s = stays_beside k old new s
 part_beside k book old new (take_value ref text json) e s = stays_beside k old new s
 part_beside k book old new (look_up ref text) e s = stays_beside k old new s
 part_beside k book old new (tell_history name) e s = stays_beside k old new s
+part_beside k book old new (show_object name) e s = stays_beside k old new s
+part_beside k book old new (tell_evidence name label) e s = stays_beside k old new s
 part_beside k book old new show_rules e s = stays_beside k old new s
 part_beside k book old new (disable_rule name label) e s = stays_beside k old new s
 part_beside k book old new (unload_client name) e s = stays_beside k old new s

@@ -1,16 +1,18 @@
 -- The examples, by what the definitions say.
+use Rattle.pm_telling.specs.Telling.{evidence_of, held_told, names_told}
 use Rattle.pm_machine.proofs.KeepingSteps.{some_not_none}
 use Rattle.pm_rounds.specs.Events.{Configuration}
 use Rattle.pm_props.specs.declared.property.PropId.TheVariants.{LinearObjective}
-use Rattle.pm_machine.specs.Machines.{Files, IsFree, Machine, later_rounds, no_room, shelf}
-use Rattle.pm_machine.specs.Steps.{CopyStep, DropStep, Ensures, Explains, Gives, HasBytes, HasNone, HistoryStep, IsSavedWhole, LoadStep, LookupStep, NewStep, Puts, SaveStep, TakeValue, bytes_of, is_computed, is_copied, is_crowded, is_dropped, is_loaded, is_made, is_planned, is_saved, is_sealed, is_shown, is_told, names_told, no_chain, no_such_file, other_type, part_named, store_failed, is_refused, no_new_name}
+use Rattle.pm_machine.specs.Machines.{Files, IsFree, Machine, Stays, later_rounds, no_room, shelf}
+use Rattle.pm_machine.specs.Steps.{CopyStep, DropStep, Ensures, EvidenceStep, Explains, Gives, HasBytes, HasNone, HistoryStep, IsSavedWhole, LoadStep, LookupStep, NewStep, Puts, SaveStep, ShowStep, TakeValue, bytes_of, has_label, is_computed, is_copied, is_crowded, is_dropped, is_loaded, is_made, is_planned, is_refused, is_saved, is_sealed, is_shown, is_told, no_chain, no_new_name, no_such_file, other_type, part_named, store_failed}
 use Rattle.pm_object.specs.State.{State, empty_object, is_polytope, is_sealed_at, place_named, program_refusal, with_program}
+use Rattle.pm_object.specs.declared.held.Origin.{Origin}
 use Rattle.pm_object.specs.declared.held.ProgramFail.{ProgramFail}
 use Rattle.pm_object.specs.declared.held.ProgramFail.TheVariants as no_program
-use Rattle.pm_object_type.specs.declared.object_type.ObjectType.TheVariants.{Cone}
+use Rattle.pm_object_type.specs.declared.object_type.ObjectType.TheVariants.{Cone, Polytope}
 use Rattle.std.specs.Option.{is_some, option_and_then}
 use Rattle.pm_rules.specs.declared.rule.Rule.{Rule}
-use Rattle.pm_script.specs.Replies.{NamesSeen, Remarks, Rounds, done, explained, loaded, nothing, refused, remarks, shows, tells}
+use Rattle.pm_script.specs.Replies.{NamesSeen, Remarks, Rounds, done, explained, lists_held, loaded, nothing, refused, remarks, shows, tells, tells_evidence}
 use Rattle.pm_script.specs.declared.refusal.Refusal.TheVariants.{BadValue, Crowded, NoChain, NoSuchFile, ObjectsFull, Sealed, StoreFault}
 use Rattle.pm_script.specs.declared.refusal.ValueWhy.TheVariants as value_why
 use Rattle.pm_store.specs.Files.{AreTold, IsPut, file_of}
@@ -60,6 +62,31 @@ nothing_copied name to old new t none (is_copied o told at free room g) = some_n
 room_for_copy : (name to : List ℕ) (old new : Machine) → length old.names ≡ 31 → CopyStep old name to (refused ObjectsFull nothing) new → ⊥
 room_for_copy name to old new count (is_refused r s) = elim r [ no_new_name some n ↦ (elim n [ no_room free full ↦ absurd (omega (arith, count, full)) ]) ]
 
+-- what is said of the object of a name is said of it
+pub of_object : (old : Machine) (name : List ℕ) (o p : State) → old.object name ≡ Some o → old.object name ≡ Some p → p ≡ o
+of_object old name o p h k = some_state (sym k ∙ h)
+  where
+    some_state : {a b : State} → Some a ≡ Some b → a ≡ b
+    some_state h = cc
+
+-- what the object of the name is, by two readings
+module _ (old new : Machine) (name : List ℕ) (of : ObjectType) (held : List (PropId × Origin)) (programs : List (List ℕ × List (PropId × Origin))) where
+  nothing_shown : old.object name ≡ None → ShowStep old name (lists_held of held programs) new → ⊥
+  nothing_shown none (is_told o at typed holds are s) = some_not_none (sym at ∙ none)
+
+  nothing_filled_in : old.object name ≡ Some (empty_object Polytope) → ShowStep old name (lists_held of held programs) new → held ≡ []
+  nothing_filled_in is (is_told o at typed holds are s) = holds ∙ ap (λ (z : State). held_told z None) (of_object old name (empty_object Polytope) o is at)
+
+  shown_stays : ShowStep old name (lists_held of held programs) new → Stays old new
+  shown_stays (is_told o at typed holds are s) = s
+
+module _ (book : List Rule) (old new : Machine) (name label : List ℕ) (excluded : List Excluded) (names : NamesSeen) where
+  no_rule_shown : has_label label book ≡ false → EvidenceStep book old name label (tells_evidence excluded names) new → ⊥
+  no_rule_shown none (is_told o at known out named s) = true≢false (sym known ∙ none)
+
+  none_at_first : old.object name ≡ Some (empty_object Polytope) → EvidenceStep book old name label (tells_evidence excluded names) new → excluded ≡ []
+  none_at_first is (is_told o at known out named s) = out ∙ ap (λ (z : State). evidence_of book label z.excluded) (of_object old name (empty_object Polytope) o is at)
+
 pub objects_are_read : ObjectsAreRead
 objects_are_read = record {
   first_goes = refl;
@@ -71,9 +98,11 @@ objects_are_read = record {
   not_over = not_copied_over;
   not_of_nothing = nothing_copied;
   not_full = room_for_copy;
-  was_given = refl;
-  was_computed = refl;
-  not_held = refl;
+  shown_of_nothing = nothing_shown;
+  shown_as_it_is = nothing_filled_in;
+  show_stays = shown_stays;
+  evidence_of_no_rule = no_rule_shown;
+  no_evidence_at_first = none_at_first;
 }
 
 -- ---- answers
@@ -111,13 +140,6 @@ answers_are_read = record {
 }
 
 -- ---- linear programs
--- what is said of the object of a name is said of it
-pub of_object : (old : Machine) (name : List ℕ) (o p : State) → old.object name ≡ Some o → old.object name ≡ Some p → p ≡ o
-of_object old name o p h k = some_state (sym k ∙ h)
-  where
-    some_state : {a b : State} → Some a ≡ Some b → a ≡ b
-    some_state h = cc
-
 abbrev refused_by : Bool → Bool → Bool → Option ProgramFail
 refused_by a b c = if a then Some no_program.NotPolytope else if b then Some no_program.NameTaken else if c then Some no_program.Full else None
 

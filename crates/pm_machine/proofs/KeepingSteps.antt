@@ -8,11 +8,11 @@ use Rattle.pm_rounds.specs.Events.{Configuration, EnsuredInPart, configuration}
 use Rattle.pm_machine.specs.Parts.{IsSettled, StepInPart}
 use Rattle.pm_machine.specs.Machines.{Becomes, Machine, shelf}
 use Rattle.pm_json.specs.Texts.{Given}
-use Rattle.pm_machine.specs.Steps.{CopyStep, DisableStep, DropStep, EnsureStep, EnsuredAll, Ensures, ExplainStep, ExplainedAll, Gave, GiveStep, Gives, HistoryStep, LoadStep, LookupStep, Named, NewObjectStep, NewOf, NewProgramStep, NewStep, OriginStep, RulesStep, SaveStep, Step, TakeStep, TakeValue, UnloadStep, disabling, is_asked, is_copied, is_crowded, is_dropped, is_found, is_listed, is_loaded, is_made, is_saved, is_shown, is_told, is_unloaded, named_at, no_chain, not_held, now_disabled, now_held, part_named, store_failed, takes, is_refused, no_new_name}
+use Rattle.pm_machine.specs.Steps.{CopyStep, DisableStep, DropStep, EnsureStep, EnsuredAll, Ensures, EvidenceStep, ExplainStep, ExplainedAll, Gave, GiveStep, Gives, HistoryStep, LoadStep, LookupStep, Named, NewObjectStep, NewOf, NewProgramStep, NewStep, OriginStep, RulesStep, SaveStep, ShowStep, Step, TakeStep, TakeValue, UnloadStep, disabling, is_asked, is_copied, is_crowded, is_dropped, is_found, is_listed, is_loaded, is_made, is_refused, is_saved, is_shown, is_told, is_unloaded, named_at, no_chain, no_new_name, not_held, now_disabled, now_held, part_named, store_failed, takes}
 use Rattle.pm_command.specs.Grammar.{ref_text}
 use Rattle.pm_object.specs.State.{State, is_disabled, place_named, take_refusal, with_disabled}
 use Rattle.pm_rules.specs.declared.rule.Rule.{Rule}
-use Rattle.pm_command.specs.Commands.{RefSeen, Spoken, blank, new_object, take_value, give_value, look_up, ensure_values, explain_values, tell_history, show_rules, disable_rule, unload_client, copy_object, drop_object, tell_origin, load_object, save_object, make_object, build_object}
+use Rattle.pm_command.specs.Commands.{RefSeen, Spoken, blank, new_object, take_value, give_value, look_up, ensure_values, explain_values, tell_history, show_object, tell_evidence, show_rules, disable_rule, unload_client, copy_object, drop_object, tell_origin, load_object, save_object, make_object, build_object}
 use Rattle.pm_script.specs.Replies.{ReplySeen}
 use Rattle.pm_props.specs.Sets.{only as only_property}
 use Rattle.pm_types.specs.Values.{PropertyValue}
@@ -108,6 +108,14 @@ module _ {book : List Rule} {P Q : State → Type 0} (keeping : Keeping book P Q
   history_keeps old new name _ (is_refused r s) all = stays_so P old new s all
   history_keeps old new name _ (is_told o at rounds out s) all = stays_so P old new s all
 
+  show_keeps : (old new : Machine) (name : List ℕ) (reply : ReplySeen) → ShowStep old name reply new → Each P old → Each P new
+  show_keeps old new name _ (is_refused r s) all = stays_so P old new s all
+  show_keeps old new name _ (is_told o at of held programs s) all = stays_so P old new s all
+
+  evidence_keeps : (old new : Machine) (name label : List ℕ) (reply : ReplySeen) → EvidenceStep book old name label reply new → Each P old → Each P new
+  evidence_keeps old new name label _ (is_refused r s) all = stays_so P old new s all
+  evidence_keeps old new name label _ (is_told o at known shown names s) all = stays_so P old new s all
+
   lookup_keeps : (old new : Machine) (ref : RefSeen) (text : List ℕ) (reply : ReplySeen) → LookupStep old ref text reply new → Each P old → Each P new
   lookup_keeps old new ref text _ (is_refused r s) all = stays_so P old new s all
   lookup_keeps old new ref text _ (not_held x p at named none s) all = stays_so P old new s all
@@ -168,6 +176,8 @@ module _ {book : List Rule} {P Q : State → Type 0} (keeping : Keeping book P Q
   steps_keep old new (ensure_values ref words) reply h all = ensure_keeps old new ref words reply h all
   steps_keep old new (explain_values ref words) reply h all = explain_keeps old new ref words reply h all
   steps_keep old new (tell_history name) reply h all = history_keeps old new name reply h all
+  steps_keep old new (show_object name) reply h all = show_keeps old new name reply h all
+  steps_keep old new (tell_evidence name label) reply h all = evidence_keeps old new name label reply h all
   steps_keep old new show_rules reply h all = rules_keep old new reply h all
   steps_keep old new (disable_rule name label) reply h all = disable_keeps old new name label reply h all
   steps_keep old new (unload_client name) reply h all = unload_keeps old new name reply h all
@@ -200,6 +210,8 @@ module _ {book : List Rule} {P Q : State → Type 0} (keeping : Keeping book P Q
   steps_in_part_keep old new (new_object ref text) s all = each_weaker P Q keeping.weaker new (stays_so P old new s all)
   steps_in_part_keep old new (take_value ref text json) s all = each_weaker P Q keeping.weaker new (stays_so P old new s all)
   steps_in_part_keep old new (look_up ref text) s all = each_weaker P Q keeping.weaker new (stays_so P old new s all)
+  steps_in_part_keep old new (show_object name) s all = each_weaker P Q keeping.weaker new (stays_so P old new s all)
+  steps_in_part_keep old new (tell_evidence name label) s all = each_weaker P Q keeping.weaker new (stays_so P old new s all)
   steps_in_part_keep old new show_rules s all = each_weaker P Q keeping.weaker new (stays_so P old new s all)
   steps_in_part_keep old new (disable_rule name label) s all = each_weaker P Q keeping.weaker new (stays_so P old new s all)
   steps_in_part_keep old new (unload_client name) s all = each_weaker P Q keeping.weaker new (stays_so P old new s all)

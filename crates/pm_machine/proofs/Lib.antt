@@ -9,7 +9,6 @@ pub mod Beside
 pub mod Faults
 pub mod Ways
 pub mod Names
-pub mod FirstHeld
 pub mod Unloading
 pub mod Refused
 pub mod Spoken
@@ -17,7 +16,6 @@ pub mod Ensuring
 pub mod Growth
 pub mod BuildSteps
 pub mod BuildNames
-pub mod Told
 pub mod Examples
 pub mod RefusalExamples
 pub mod BuildingExamples

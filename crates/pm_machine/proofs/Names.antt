@@ -1,4 +1,5 @@
 -- Objects by name, and the steps that change one.
+use Rattle.pm_telling.specs.Telling.{evidence_of, held_told, named_rounds, names_told, programs_told}
 use Rattle.pm_client.specs.Starts.{Clients}
 use Rattle.pm_object_type.specs.declared.object_type.ObjectType.{ObjectType}
 use Rattle.pm_machine.proofs.Ensuring.{stays_part}
@@ -18,15 +19,15 @@ use Rattle.pm_command.specs.Grammar.{ref_text}
 use Rattle.pm_object.specs.State.{program_refusal, with_program, ObjectSeen, RoundSeen, State, is_held, read_at, value_of}
 use Rattle.pm_object.specs.declared.held.ProgramFail.{ProgramFail}
 use Rattle.pm_json.specs.Texts.{given_by}
-use Rattle.pm_machine.specs.Steps.{AllKept, DisableStep, EnsureStep, Ensures, ExplainStep, Explains, GiveStep, Gives, NewProgramStep, ProgramRefuses, Step, TakeStep, Taken, asked_in, disabling, has_label, is_asked, is_crowded, is_made, is_planned, is_program_word, is_shown, Named, named_at, named_rounds, names_told, no_chain, no_such_property, no_such_rule, not_taken, now_disabled, now_held, part_named, property_named, rounds_beside, settled_object, HistoryStep, LookupStep, property_at, is_refused, no_property}
+use Rattle.pm_machine.specs.Steps.{AllKept, DisableStep, EnsureStep, Ensures, EvidenceStep, ExplainStep, Explains, GiveStep, Gives, NewProgramStep, ProgramRefuses, ShowStep, Step, TakeStep, Taken, asked_in, disabling, has_label, is_asked, is_crowded, is_made, is_planned, is_program_word, is_shown, Named, named_at, no_chain, no_such_property, no_such_rule, not_taken, now_disabled, now_held, part_named, property_named, rounds_beside, settled_object, HistoryStep, LookupStep, property_at, is_refused, no_property}
 use Rattle.pm_object.proofs.Names.{names_held}
 use Rattle.pm_object.specs.Views.{round_seen}
 use Rattle.pm_object.specs.declared.held.Round.{Round}
 use Rattle.pm_plan.specs.Plans.{HasNoPlan, IsCrowded, IsPlan}
 use Rattle.pm_rules.specs.declared.rule.Rule.{Rule}
 use Rattle.pm_rules.specs.declared.table.TableRow.{TableRow}
-use Rattle.pm_command.specs.Commands.{RefSeen, Spoken, blank, new_object, take_value, give_value, look_up, ensure_values, explain_values, tell_history, show_rules, disable_rule, unload_client, copy_object, drop_object, tell_origin, load_object, save_object, make_object, build_object}
-use Rattle.pm_script.specs.Replies.{NamesSeen, ReplySeen, Rounds, done, explained, nothing, planned, refused, remarks, shows, tells}
+use Rattle.pm_command.specs.Commands.{RefSeen, Spoken, blank, new_object, take_value, give_value, look_up, ensure_values, explain_values, tell_history, show_object, tell_evidence, show_rules, disable_rule, unload_client, copy_object, drop_object, tell_origin, load_object, save_object, make_object, build_object}
+use Rattle.pm_script.specs.Replies.{NamesSeen, ReplySeen, Rounds, done, explained, lists_held, nothing, planned, refused, remarks, shows, tells, tells_evidence}
 use Rattle.pm_script.specs.declared.names.Bar.{Bar}
 use Rattle.pm_script.specs.declared.refusal.Refusal.{Refusal}
 use Rattle.pm_script.specs.declared.refusal.Refusal.TheVariants.{NoChain, Crowded, UnknownProperty, UnknownRule}
@@ -323,6 +324,8 @@ stays_in_part book old new blank s = s
 stays_in_part book old new (new_object ref text) s = s
 stays_in_part book old new (take_value ref text json) s = s
 stays_in_part book old new (look_up ref text) s = s
+stays_in_part book old new (show_object name) s = s
+stays_in_part book old new (tell_evidence name label) s = s
 stays_in_part book old new show_rules s = s
 stays_in_part book old new (disable_rule name label) s = s
 stays_in_part book old new (unload_client name) s = s
@@ -363,6 +366,14 @@ gives_shown view r book old new sub name p of v t type held rounds e said = if_s
 pub history_told : {F E : Type 0} (view : F → ReplySeen) (r : Result F E) (book : List Rule) (old : Machine) (name : List ℕ) (o : State) → old.object name ≡ Some o → IfOk r (λ x. view x ≡ tells (named_rounds book o o.rounds) o.excluded)
     → IfOk r (λ x. HistoryStep book old name (view x) old)
 history_told view r book old name o named said = if_seen view r (λ z. HistoryStep book old name z old) (tells (named_rounds book o o.rounds) o.excluded) (HistoryStep.is_told o named refl refl (record { names = refl; objects = λ q. refl; clients = refl; store = refl })) said
+
+pub object_told : {F E : Type 0} (view : F → ReplySeen) (r : Result F E) (old : Machine) (name : List ℕ) (o : State) → old.object name ≡ Some o → IfOk r (λ x. view x ≡ lists_held o.of (held_told o None) (programs_told o))
+    → IfOk r (λ x. ShowStep old name (view x) old)
+object_told view r old name o named said = if_seen view r (λ z. ShowStep old name z old) (lists_held o.of (held_told o None) (programs_told o)) (ShowStep.is_told o named refl refl refl (record { names = refl; objects = λ q. refl; clients = refl; store = refl })) said
+
+pub evidence_told : {F E : Type 0} (view : F → ReplySeen) (r : Result F E) (book : List Rule) (old : Machine) (name label : List ℕ) (o : State) → old.object name ≡ Some o → has_label label book ≡ true
+    → IfOk r (λ x. view x ≡ tells_evidence (evidence_of book label o.excluded) (names_told book o)) → IfOk r (λ x. EvidenceStep book old name label (view x) old)
+evidence_told view r book old name label o named known said = if_seen view r (λ z. EvidenceStep book old name label z old) (tells_evidence (evidence_of book label o.excluded) (names_told book o)) (EvidenceStep.is_told o named known refl refl (record { names = refl; objects = λ q. refl; clients = refl; store = refl })) said
 
 pub looked_up : {F E : Type 0} (view : F → ReplySeen) (r : Result F E) (old : Machine) (ref : RefSeen) (text : List ℕ) (x : Named) (p : PropId) (v : PropertyValue) (name : List ℕ) (of : ObjectType) → named_at (shelf old) ref ≡ Some x → property_at x text ≡ Some p
     → name ≡ ref_text ref → of ≡ x.object.of → value_of p (read_at x.sub x.object.held) ≡ Some v → IfOk r (λ z. view z ≡ shows name of p v no_rounds) → IfOk r (λ z. LookupStep old ref text (view z) old)

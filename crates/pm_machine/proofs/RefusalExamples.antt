@@ -5,7 +5,7 @@ use Rattle.pm_machine.proofs.KeepingSteps.{some_not_none}
 use Rattle.pm_machine.specs.Examples.{whole}
 use Rattle.pm_machine.specs.Machines.{IsFree, NewNameRefusal, Shelf, is_taken, no_room}
 use Rattle.pm_machine.specs.RefusalExamples.{RefusalsAreRead, one_cone, one_polytope}
-use Rattle.pm_machine.specs.Steps.{CopyRefusal, DisableRefusal, Named, NewObjectRefusal, PropertiesRefusal, PropertyRefusal, SaveRefusal, UnloadRefusal, bytes_of, asked_of, is_client, is_long, no_new_name, no_such_client, no_such_name, no_such_property, no_such_rule, no_such_type, property_at}
+use Rattle.pm_machine.specs.Steps.{CopyRefusal, Named, NewObjectRefusal, PropertiesRefusal, PropertyRefusal, RuleRefusal, SaveRefusal, UnloadRefusal, asked_of, bytes_of, is_client, is_long, no_new_name, no_such_client, no_such_name, no_such_property, no_such_rule, no_such_type, property_at}
 use Rattle.pm_object.specs.State.{State, empty_object}
 use Rattle.pm_object.specs.declared.held.Condition.TheVariants as condition
 use Rattle.pm_object_type.specs.declared.object_type.ObjectType.TheVariants.{Cone, Polytope}
@@ -45,7 +45,7 @@ not_property_first (no_such_property x at none) = some_not_none (sym at)
 not_copied_over : CopyRefusal one_polytope (codes "b") (codes "a") NameTaken → ⊥
 not_copied_over (no_new_name some n) = some refl
 
-rule_not_first : (book : List Rule) (label : List ℕ) → DisableRefusal one_polytope book (codes "b") label UnknownRule → ⊥
+rule_not_first : (book : List Rule) (label : List ℕ) → RuleRefusal one_polytope book (codes "b") label UnknownRule → ⊥
 rule_not_first book label (no_such_rule some none) = some refl
 
 is_loaded_client : (name : List ℕ) (clients : Clients) → is_client name clients ≡ true → UnloadRefusal clients name UnknownRule → ⊥

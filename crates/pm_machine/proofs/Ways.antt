@@ -1,6 +1,6 @@
 -- The ways in which each command may end.
 use Rattle.pm_machine.specs.Machines.{NameRefusal, NewNameRefusal}
-use Rattle.pm_machine.specs.Steps.{CopyRefusal, CopyStep, DisableRefusal, DisableStep, Ensures, EnsureStep, ExplainStep, FileRead, GiveStep, Gives, HistoryStep, LoadRefusal, LoadStep, LookupStep, NewObjectRefusal, NewObjectStep, NewProgramRefusal, NewProgramStep, PropertiesRefusal, PropertyRefusal, RulesStep, SaveRefusal, SaveStep, TakeRefusal, TakeStep, TakeValue, UnloadRefusal, UnloadStep}
+use Rattle.pm_machine.specs.Steps.{CopyRefusal, CopyStep, DisableStep, Ensures, EnsureStep, EvidenceStep, ExplainStep, FileRead, GiveStep, Gives, HistoryStep, LoadRefusal, LoadStep, LookupStep, NewObjectRefusal, NewObjectStep, NewProgramRefusal, NewProgramStep, PropertiesRefusal, PropertyRefusal, RuleRefusal, RulesStep, SaveRefusal, SaveStep, ShowStep, TakeRefusal, TakeStep, TakeValue, UnloadRefusal, UnloadStep}
 
 pub ruleset new_name_ways = (NewNameRefusal.is_taken, NewNameRefusal.no_room)
 
@@ -26,11 +26,15 @@ pub ruleset explain_ways = (ExplainStep.is_refused, PropertiesRefusal.no_such_na
 
 pub ruleset history_ways = (HistoryStep.is_refused, NameRefusal.no_such_name, HistoryStep.is_told)
 
+pub ruleset show_ways = (ShowStep.is_refused, NameRefusal.no_such_name, ShowStep.is_told)
+
+pub ruleset evidence_ways = (EvidenceStep.is_refused, RuleRefusal.no_such_name)
+
 pub ruleset lookup_ways = (LookupStep.is_shown)
 
 pub ruleset rules_ways = (RulesStep.is_listed)
 
-pub ruleset disable_ways = (DisableStep.is_refused, DisableRefusal.no_such_name)
+pub ruleset disable_ways = (DisableStep.is_refused, RuleRefusal.no_such_name)
 
 pub ruleset unload_ways = (UnloadStep.is_refused, UnloadRefusal.no_such_client, UnloadStep.is_unloaded)
 

@@ -16,7 +16,8 @@ use Rattle.pm_object_type.specs.declared.object_type.ObjectType.{ObjectType}
 use Rattle.pm_props.specs.Sets.{only}
 use Rattle.pm_props.specs.declared.property.PropId.{PropId}
 use Rattle.pm_rules.specs.declared.rule.Rule.{Rule}
-use Rattle.pm_script.specs.Replies.{NamesSeen, Remarks, ReplySeen, Rounds, done, nothing, refused, remarks}
+use Rattle.pm_telling.specs.Telling.{rules_told}
+use Rattle.pm_script.specs.Replies.{Remarks, ReplySeen, Rounds, done, nothing, refused, remarks}
 use Rattle.pm_script.specs.declared.refusal.Refusal.{Refusal}
 use Rattle.pm_script.specs.declared.refusal.Refusal.TheVariants.{UnknownName, NoChain, Crowded, NotFit, NotMade}
 use Rattle.pm_script.specs.declared.refusal.NotMadeWhy.{NotMadeWhy}
@@ -64,10 +65,7 @@ EndsAt book (w ∷ ws) e rounds old new = ((e ≢ ending.Found) × EnsuresOne bo
     ⊎ ((mid : Machine) × (first : List RoundSeen) × (more : List RoundSeen)
     × EnsuresOne book w ending.Found first old mid × EndsAt book ws e more mid new × (rounds ≡ first ++ more))
 
--- the label and the weight of each rule: these rounds are of no program
-abbrev pub rules_told : List Rule → NamesSeen
-rules_told book = record { rules = map (λ rule. (rule.label, rule.weight)) book; programs = [] }
-
+-- these rounds are of no program
 abbrev pub told_rounds : List Rule → List RoundSeen → Rounds
 told_rounds book rounds = record { rounds = rounds; names = rules_told book }
 

@@ -1,10 +1,12 @@
 -- The definitions of the commands read on small things: what holds of them and what does not.
-use Rattle.std.specs.Prelude.{ℕ, ◌≡◌, ◌≢◌, ◌++◌, Bool, true, false, Option, Some, None, List, [], String, codes, length, string_bytes, ◌∷◌}
+use Rattle.pm_telling.specs.Telling.{names_told}
+use Rattle.std.specs.Prelude.{ℕ, ◌≡◌, ◌≢◌, ◌++◌, true, false, Option, Some, None, List, [], String, codes, length, string_bytes, ◌∷◌}
 use Rattle.pm_object_type.specs.declared.object_type.ObjectType.{ObjectType}
 use Rattle.pm_object_type.specs.declared.object_type.ObjectType.TheVariants.{Cone, Fan, Polytope}
 use Rattle.pm_rounds.specs.Events.{Configuration}
 use Rattle.pm_object.specs.State.{HeldValue, RoundSeen, State, empty_object, with_program}
 use Rattle.pm_object.specs.declared.held.Excluded.{Excluded}
+use Rattle.pm_object.specs.declared.held.Origin.{Origin}
 use Rattle.pm_object.specs.declared.held.Origin.TheVariants.{Computed, Given}
 use Rattle.pm_object.specs.declared.held.RoundEnd.TheVariants as end
 use Rattle.pm_rules.specs.declared.rule.Rule.{Rule}
@@ -21,25 +23,20 @@ use Rattle.pm_store.specs.Files.{file_of}
 use Rattle.pm_store.specs.Outside.{Rose}
 use Rattle.pm_machine.specs.Machines.{Files, Machine, Stays, Store, later_rounds, shelf, without_name}
 use Rattle.pm_json.specs.Texts.{Given as ReadValue, value}
-use Rattle.pm_machine.specs.Steps.{CopyStep, DropStep, Ensures, Explains, Gives, HistoryStep, IsFault, IsSavedWhole, LoadStep, LookupStep, NewStep, SaveStep, TakeValue, bytes_of, asked_in, is_program_word, named_at, names_told, origin_of, part_named, property_named, settled_object, type_word}
+use Rattle.pm_machine.specs.Steps.{CopyStep, DropStep, Ensures, EvidenceStep, Explains, Gives, HistoryStep, IsFault, IsSavedWhole, LoadStep, LookupStep, NewStep, SaveStep, ShowStep, TakeValue, asked_in, bytes_of, has_label, is_program_word, named_at, part_named, property_named, settled_object, type_word}
 use Rattle.pm_command.specs.Commands.{RefSeen}
 use Rattle.pm_rules.specs.declared.table.TableRow.{TableRow}
-use Rattle.pm_script.specs.Replies.{NamesSeen, Remarks, Rounds, done, explained, loaded, nothing, refused, remarks, shows, tells}
+use Rattle.pm_script.specs.Replies.{NamesSeen, Remarks, Rounds, done, explained, lists_held, loaded, nothing, refused, remarks, shows, tells, tells_evidence}
 use Rattle.pm_script.specs.declared.refusal.ValueWhy.TheVariants as value_why
 use Rattle.pm_script.specs.declared.refusal.Refusal.TheVariants.{BadValue, Crowded, NoChain, NoSuchFile, ObjectsFull, Sealed, StoreFault, UnknownName, UnknownType}
 use Rattle.pm_weights.specs.declared.Cost.{Cost}
 use lib.IntN.{pos}
 use Rattle.pm_props.specs.declared.kind.RuleId.{RuleId}
 use Rattle.pm_props.specs.declared.property.PropId.{PropId}
-use Rattle.pm_props.specs.declared.property.PropId.TheVariants.{ConeAmbientDim, Facets, FullDim, LinearObjective, MaximalFace, MaximalValue, Pointed, Vertices}
+use Rattle.pm_props.specs.declared.property.PropId.TheVariants.{ConeAmbientDim, Facets, LinearObjective, MaximalFace, MaximalValue, Vertices}
 use Rattle.pm_props.specs.declared.set.PropSet.{PropSet}
-use Rattle.pm_rounds.specs.Examples.{given}
 
--- a truth value that a client computed
-abbrev pub found : PropId → Bool → HeldValue
-found p b = record (given p b) { origin = Computed }
-
--- what `copy` and `drop` change, and when they are not done; which origin is told
+-- what `copy` and `drop` change, and when they are not done; what `show` and `evidence` tell
 pub record ObjectsAreRead : Type 0 where
   -- the others stay, in their order
   pub first_goes : without_name (codes "a") (codes "a" ∷ codes "b" ∷ codes "c" ∷ []) ≡ codes "b" ∷ codes "c" ∷ []
@@ -52,10 +49,13 @@ pub record ObjectsAreRead : Type 0 where
   pub not_over : (name to : List ℕ) (old new : Machine) (t : Rounds) → old.object to ≢ None → CopyStep old name to (done t) new → ⊥
   pub not_of_nothing : (name to : List ℕ) (old new : Machine) (t : Rounds) → old.object name ≡ None → CopyStep old name to (done t) new → ⊥
   pub not_full : (name to : List ℕ) (old new : Machine) → length old.names ≡ 31 → CopyStep old name to (refused ObjectsFull nothing) new → ⊥
-  -- the origin of the value of the property
-  pub was_given : origin_of Pointed (found FullDim true ∷ given Pointed true ∷ []) ≡ Some Given
-  pub was_computed : origin_of Pointed (given FullDim true ∷ found Pointed true ∷ []) ≡ Some Computed
-  pub not_held : origin_of Pointed (given FullDim true ∷ []) ≡ None
+  -- what the object holds is told, and nothing is filled in for it
+  pub shown_of_nothing : (old new : Machine) (name : List ℕ) (of : ObjectType) (held : List (PropId × Origin)) (programs : List (List ℕ × List (PropId × Origin))) → old.object name ≡ None → ShowStep old name (lists_held of held programs) new → ⊥
+  pub shown_as_it_is : (old new : Machine) (name : List ℕ) (of : ObjectType) (held : List (PropId × Origin)) (programs : List (List ℕ × List (PropId × Origin))) → old.object name ≡ Some (empty_object Polytope) → ShowStep old name (lists_held of held programs) new → held ≡ []
+  pub show_stays : (old new : Machine) (name : List ℕ) (of : ObjectType) (held : List (PropId × Origin)) (programs : List (List ℕ × List (PropId × Origin))) → ShowStep old name (lists_held of held programs) new → Stays old new
+  -- the evidence is of the rule that is named
+  pub evidence_of_no_rule : (book : List Rule) (old new : Machine) (name label : List ℕ) (excluded : List Excluded) (names : NamesSeen) → has_label label book ≡ false → EvidenceStep book old name label (tells_evidence excluded names) new → ⊥
+  pub no_evidence_at_first : (book : List Rule) (old new : Machine) (name label : List ℕ) (excluded : List Excluded) (names : NamesSeen) → old.object name ≡ Some (empty_object Polytope) → EvidenceStep book old name label (tells_evidence excluded names) new → excluded ≡ []
 
 -- a polytope with these rounds
 abbrev pub with_rounds : List RoundSeen → State

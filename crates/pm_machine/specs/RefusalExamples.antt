@@ -5,7 +5,7 @@ use Rattle.pm_client.specs.Starts.{Clients}
 use Rattle.pm_limits.specs.Limits.{most_file_bytes}
 use Rattle.pm_machine.specs.Examples.{whole}
 use Rattle.pm_machine.specs.Machines.{IsFree, NewNameRefusal, Shelf}
-use Rattle.pm_machine.specs.Steps.{CopyRefusal, DisableRefusal, NewObjectRefusal, PropertiesRefusal, PropertyRefusal, SaveRefusal, UnloadRefusal, bytes_of, is_client}
+use Rattle.pm_machine.specs.Steps.{CopyRefusal, NewObjectRefusal, PropertiesRefusal, PropertyRefusal, RuleRefusal, SaveRefusal, UnloadRefusal, bytes_of, is_client}
 use Rattle.pm_object.specs.State.{State, empty_object}
 use Rattle.pm_object.specs.declared.held.Condition.TheVariants as condition
 use Rattle.pm_object_type.specs.declared.object_type.ObjectType.TheVariants.{Cone, Polytope}
@@ -47,8 +47,8 @@ pub record RefusalsAreRead : Type 0 where
   pub copy_over : CopyRefusal one_polytope (codes "a") (codes "a") NameTaken
   pub not_over_first : CopyRefusal one_polytope (codes "b") (codes "a") NameTaken → ⊥
   -- a label: the object comes before it
-  pub no_rule : (label : List ℕ) → DisableRefusal one_polytope [] (codes "a") label UnknownRule
-  pub not_rule_first : (book : List Rule) (label : List ℕ) → DisableRefusal one_polytope book (codes "b") label UnknownRule → ⊥
+  pub no_rule : (label : List ℕ) → RuleRefusal one_polytope [] (codes "a") label UnknownRule
+  pub not_rule_first : (book : List Rule) (label : List ℕ) → RuleRefusal one_polytope book (codes "b") label UnknownRule → ⊥
   -- a client
   pub no_client : (name : List ℕ) → UnloadRefusal [] name UnknownRule
   pub client_there : (name : List ℕ) (clients : Clients) → is_client name clients ≡ true → UnloadRefusal clients name UnknownRule → ⊥

@@ -1,5 +1,5 @@
 -- The machine: what each command may answer, and what it changes. Each command has a type of the ways in which it may end: each way has its reply and says exactly when it comes, and the ways of one command exclude each other.
-use Rattle.std.specs.Prelude.{ℕ, ◌≡◌, ◌≢◌, Bool, true, false, ◌++◌, ◌<◌, ◌≤◌, List, [], ◌∷◌, find, length, map, Option, Some, None, option_and_then, option_map, IfSome, if◌then◌else◌, codes, string_bytes}
+use Rattle.std.specs.Prelude.{ℕ, ◌≡◌, ◌≢◌, Bool, true, false, ◌++◌, ◌<◌, ◌≤◌, List, [], ◌∷◌, length, Option, Some, None, option_and_then, option_map, IfSome, if◌then◌else◌, codes, string_bytes}
 use Rattle.std.specs.List.{list_any}
 use Rattle.std.specs.Str.{bytes_eq}
 use Rattle.pm_books.specs.Writing.{text_of}
@@ -16,7 +16,7 @@ use Rattle.pm_machine.specs.Machines.{Becomes, Files, Gains, IsFree, Loses, Mach
 use Rattle.pm_rounds.specs.Reasons.{AreReasons}
 use Rattle.pm_rounds.specs.declared.round.Ending.TheVariants as ending
 use Rattle.pm_object.specs.Honest.{IsKept}
-use Rattle.pm_object.specs.State.{CanTake, CannotTake, HeldValue, RoundSeen, State, empty_object, given_at, is_disabled, is_held, is_sealed_at, place_named, program_refusal, read_at, settling, value_of, with_disabled, with_held, with_program}
+use Rattle.pm_object.specs.State.{CanTake, CannotTake, State, empty_object, given_at, is_disabled, is_held, is_sealed_at, place_named, program_refusal, read_at, settling, value_of, with_disabled, with_held, with_program}
 use Rattle.pm_object.specs.declared.held.Excluded.{Excluded}
 use Rattle.pm_object.specs.declared.held.Origin.{Origin}
 use Rattle.pm_object.specs.declared.held.ProgramFail.{ProgramFail}
@@ -36,15 +36,15 @@ use Rattle.pm_script.specs.declared.refusal.FileWhy.TheVariants as file_why
 use Rattle.pm_store.specs.Files.{AreTold, FilesStay, IsPut, IsPutInPart, file_of, read_part}
 use Rattle.pm_store.specs.Outside.{Rose}
 use Rattle.pm_rules.specs.declared.rule.Rule.{Rule}
-use Rattle.pm_command.specs.Commands.{RefSeen, Spoken, blank, new_object, take_value, give_value, look_up, ensure_values, explain_values, tell_history, show_rules, disable_rule, unload_client, copy_object, drop_object, tell_origin, load_object, save_object, make_object, build_object}
+use Rattle.pm_command.specs.Commands.{RefSeen, Spoken, blank, new_object, take_value, give_value, look_up, ensure_values, explain_values, tell_history, show_object, tell_evidence, show_rules, disable_rule, unload_client, copy_object, drop_object, tell_origin, load_object, save_object, make_object, build_object}
 use Rattle.pm_command.specs.Grammar.{ref_text}
-use Rattle.pm_script.specs.Replies.{NamesSeen, Remarks, ReplySeen, Rounds, done, ensured, explained, lists_rules, loaded, nothing, planned, refused, remarks, shows, tells, tells_origin, undef}
+use Rattle.pm_telling.specs.Telling.{evidence_of, held_told, named_rounds, names_told, origin_of, programs_told}
+use Rattle.pm_script.specs.Replies.{NamesSeen, Remarks, ReplySeen, Rounds, done, ensured, explained, lists_held, lists_rules, loaded, nothing, planned, refused, remarks, shows, tells, tells_evidence, tells_origin, undef}
 use Rattle.pm_script.specs.declared.refusal.Refusal.{Refusal}
 use Rattle.pm_script.specs.declared.refusal.Refusal.TheVariants.{UnknownName, NameTaken, UnknownType, UnknownProperty, BadValue, AlreadyHeld, Sealed, ObjectsFull, NoChain, Crowded, StoreFault, BadFile, NoSuchFile, UnknownRule, NotFit}
 use Rattle.pm_script.specs.declared.refusal.ValueWhy.{ValueWhy}
 use Rattle.pm_script.specs.declared.refusal.ValueWhy.TheVariants as value_why
 use Rattle.pm_props.specs.Names.{program_named, property_named_in}
-use Rattle.pm_props.specs.Places.{same_property}
 use Rattle.pm_props.specs.Sets.{only, set_of}
 use Rattle.pm_types.specs.Values.{PropertyValue}
 use Rattle.pm_props.specs.declared.kind.RuleId.{RuleId}
@@ -160,13 +160,6 @@ pub data TakeStep (old : Machine) (ref : RefSeen) (text json : List ℕ) : Reply
   now_held : {new : Machine} {t : Rounds} (x : Named) (p : PropId) (v : PropertyValue) → named_at (shelf old) ref ≡ Some x → property_at x text ≡ Some p → TakeValue x.object x.sub p (given_by p json) None (Some v)
       → t ≡ no_rounds → Becomes ref.name (configuration (with_held x.object (given_at x.sub p v ∷ [])) old.clients) old new → TakeStep old ref text json (done t) new
 
--- the label and the weight of each rule of the book, and the names of the object's programs
-abbrev pub names_told : List Rule → State → NamesSeen
-names_told book o = record { rules = map (λ rule. (rule.label, rule.weight)) book; programs = o.programs }
-
-abbrev pub named_rounds : List Rule → State → List RoundSeen → Rounds
-named_rounds book o rounds = record { rounds = rounds; names = names_told book o }
-
 -- what is said of them beside a refusal: always, or where they are traced
 abbrev pub rounds_beside : Bool → List Rule → State → State → Remarks
 rounds_beside always book old new = remarks always (later_rounds old new) [] None (names_told book new)
@@ -250,6 +243,12 @@ pub data HistoryStep (book : List Rule) (old : Machine) (name : List ℕ) : Repl
   is_refused : {new : Machine} {why : Refusal} → NameRefusal (shelf old) name why → Stays old new → HistoryStep book old name (refused why nothing) new
   is_told : {new : Machine} {t : Rounds} {excluded : List Excluded} (o : State) → old.object name ≡ Some o → t ≡ named_rounds book o o.rounds → excluded ≡ o.excluded → Stays old new → HistoryStep book old name (tells t excluded) new
 
+-- `show NAME`: the ways in which it may end
+pub data ShowStep (old : Machine) (name : List ℕ) : ReplySeen → Machine → Type 0 where
+  is_refused : {new : Machine} {why : Refusal} → NameRefusal (shelf old) name why → Stays old new → ShowStep old name (refused why nothing) new
+  is_told : {new : Machine} {of : ObjectType} {held : List (PropId × Origin)} {programs : List (List ℕ × List (PropId × Origin))} (o : State) → old.object name ≡ Some o → of ≡ o.of → held ≡ held_told o None → programs ≡ programs_told o → Stays old new
+      → ShowStep old name (lists_held of held programs) new
+
 -- `lookup REF PROP`: the ways in which it may end
 pub data LookupStep (old : Machine) (ref : RefSeen) (text : List ℕ) : ReplySeen → Machine → Type 0 where
   is_refused : {new : Machine} {why : Refusal} → PropertyRefusal (shelf old) ref text why → Stays old new → LookupStep old ref text (refused why nothing) new
@@ -271,10 +270,6 @@ pub data CopyStep (old : Machine) (name to : List ℕ) : ReplySeen → Machine �
 pub data DropStep (old : Machine) (name : List ℕ) : ReplySeen → Machine → Type 0 where
   is_refused : {new : Machine} {why : Refusal} → NameRefusal (shelf old) name why → Stays old new → DropStep old name (refused why nothing) new
   is_dropped : {new : Machine} {t : Rounds} → t ≡ no_rounds → old.object name ≢ None → Loses name old new → DropStep old name (done t) new
-
--- how the value of a property came to be held, if it is held
-abbrev pub origin_of : PropId → List HeldValue → Option Origin
-origin_of p held = option_map (λ h. h.origin) (find (λ h. same_property p h.property) held)
 
 -- `origin REF PROP`: the ways in which it may end
 pub data OriginStep (old : Machine) (ref : RefSeen) (text : List ℕ) : ReplySeen → Machine → Type 0 where
@@ -388,16 +383,22 @@ has_label label book = list_any (λ rule. bytes_eq rule.label label) book
 abbrev pub disabling : State → List ℕ → State
 disabling o label = if is_disabled label o.disabled then o else with_disabled o label
 
--- why `disable NAME LABEL` is refused, first of these
-pub data DisableRefusal (s : Shelf) (book : List Rule) (name label : List ℕ) : Refusal → Type 0 where
-  no_such_name : s.object name ≡ None → DisableRefusal s book name label UnknownName
-  no_such_rule : s.object name ≢ None → has_label label book ≡ false → DisableRefusal s book name label UnknownRule
+-- why the name of an object and the label of a rule are refused, first of these
+pub data RuleRefusal (s : Shelf) (book : List Rule) (name label : List ℕ) : Refusal → Type 0 where
+  no_such_name : s.object name ≡ None → RuleRefusal s book name label UnknownName
+  no_such_rule : s.object name ≢ None → has_label label book ≡ false → RuleRefusal s book name label UnknownRule
 
 -- `disable NAME LABEL`: the ways in which it may end
 pub data DisableStep (book : List Rule) (old : Machine) (name label : List ℕ) : ReplySeen → Machine → Type 0 where
-  is_refused : {new : Machine} {why : Refusal} → DisableRefusal (shelf old) book name label why → Stays old new → DisableStep book old name label (refused why nothing) new
+  is_refused : {new : Machine} {why : Refusal} → RuleRefusal (shelf old) book name label why → Stays old new → DisableStep book old name label (refused why nothing) new
   now_disabled : {new : Machine} {t : Rounds} (o : State) → t ≡ no_rounds → old.object name ≡ Some o → has_label label book ≡ true → Becomes name (configuration (disabling o label) old.clients) old new
       → DisableStep book old name label (done t) new
+
+-- `evidence NAME LABEL`: the ways in which it may end
+pub data EvidenceStep (book : List Rule) (old : Machine) (name label : List ℕ) : ReplySeen → Machine → Type 0 where
+  is_refused : {new : Machine} {why : Refusal} → RuleRefusal (shelf old) book name label why → Stays old new → EvidenceStep book old name label (refused why nothing) new
+  is_told : {new : Machine} {excluded : List Excluded} {names : NamesSeen} (o : State) → old.object name ≡ Some o → has_label label book ≡ true → excluded ≡ evidence_of book label o.excluded → names ≡ names_told book o → Stays old new
+      → EvidenceStep book old name label (tells_evidence excluded names) new
 
 -- some client has the name
 abbrev pub is_client : List ℕ → Clients → Bool
@@ -434,6 +435,8 @@ Step book old (look_up ref text) reply new = LookupStep old ref text reply new
 Step book old (ensure_values ref words) reply new = EnsureStep book old ref words reply new
 Step book old (explain_values ref words) reply new = ExplainStep book old ref words reply new
 Step book old (tell_history name) reply new = HistoryStep book old name reply new
+Step book old (show_object name) reply new = ShowStep old name reply new
+Step book old (tell_evidence name label) reply new = EvidenceStep book old name label reply new
 Step book old show_rules reply new = RulesStep book old reply new
 Step book old (disable_rule name label) reply new = DisableStep book old name label reply new
 Step book old (unload_client name) reply new = UnloadStep old name reply new

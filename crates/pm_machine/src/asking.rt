@@ -1,26 +1,27 @@
-// What is asked of an object: values, plans and its history.
+// What is asked of an object: values and plans.
 
 ghost use Rattle.pm_rounds.specs.Events.{EnsuredInPart, configuration};
 ghost use Rattle.pm_rounds.specs.Reasons.{AreReasons};
 ghost use Rattle.pm_machine.specs.Machines.{no_rounds};
-ghost use Rattle.pm_machine.specs.Building.{rules_told};
 ghost use Rattle.pm_rounds.specs.Running.{HasPlace};
-ghost use Rattle.pm_machine.specs.Steps.{Ensures, Explains, Gives, asked_in, named_rounds, names_told, settled_object};
+ghost use Rattle.pm_machine.specs.Steps.{Ensures, Explains, Gives, asked_in, settled_object};
 ghost use Rattle.pm_object.specs.Views.{round_seen};
 ghost use Rattle.pm_props.specs.Sets.{only};
 ghost use Rattle.pm_props.specs.declared.kind.RuleId.{RuleId};
-ghost use Rattle.pm_script.specs.Replies.{explained, names_seen, planned, refused, seen, shows, tells};
+ghost use Rattle.pm_script.specs.Replies.{explained, names_seen, planned, refused, seen, shows};
+ghost use Rattle.pm_telling.specs.Telling.{names_told};
 ghost use Rattle.pm_script.specs.declared.names.Bar.{Bar};
 ghost use Rattle.pm_types.specs.Views.{view_of};
 ghost use Rattle.std.specs.Prelude.{IfOk, List, OnErr, drop, map, string_bytes, ◌⊎◌, ◌≡◌};
 
 use crate::taking::property_named;
 use pm_client::Client;
-use pm_object::{Object, Round, copy_excluded, copy_rounds};
+use pm_object::{Object, Round, copy_rounds};
 use pm_plan::{Plan, PlanEnd, plan};
 use pm_rounds::{Ending, barred_rules, ensure, reasons, table};
-use pm_rules::{Book, Rule, Table};
+use pm_rules::{Book, Table};
 use pm_script::{Names, Refusal, Reply};
+use pm_telling::names_told;
 use pm_types::{ObjectType, PropId, PropSet, Value};
 use std::alloc::{AllocError, Global};
 
@@ -35,29 +36,6 @@ pub fn asked_in(of: ObjectType, sub: Option<u8>, words: &[String]) -> Option<Pro
         asked = asked.with(p);
     }
     Some(asked)
-}
-
-/// The label and the weight of each rule.
-pub fn rule_names(alloc: Global, rules: &[Rule]) -> Result<Names, AllocError>
-    ensures { IfOk result (λ n. names_seen n ≡ rules_told rules.now) }
-{
-    let mut names = Names::none(alloc);
-    for rule in rules {
-        names.rules.push((String::from_str(alloc, rule.label.as_str())?, rule.weight))?;
-    }
-    Ok(names)
-}
-
-// The label and the weight of each rule, and the names of the object's programs.
-fn names_told(alloc: Global, rules: &[Rule], object: &Object) -> Result<Names, AllocError>
-    ensures { IfOk result (λ n. names_seen n ≡ names_told rules.now object.now.state) }
-{
-    let mut names = rule_names(alloc, rules)?;
-    for place in 0..object.programs() {
-        let name = object.program_name(place);
-        names.subs.push(String::from_str(alloc, name)?)?;
-    }
-    Ok(names)
 }
 
 /// The rounds of the object after the first so many.
@@ -265,16 +243,4 @@ pub fn explain_values(
 {
     object.settle(alloc)?;
     plan_values(alloc, object, book, sub, asked, clients)
-}
-
-/// The rounds and the exclusions of the object.
-pub fn tell_history(alloc: Global, object: &Object, book: &Book) -> Result<Reply, AllocError>
-    ensures { IfOk result (λ r. seen r
-        ≡ tells (named_rounds book.now object.now.state object.now.state.rounds) object.now.state.excluded) }
-{
-    Ok(Reply::History {
-        rounds: copy_rounds(alloc, object.rounds())?,
-        excluded: copy_excluded(alloc, object.excluded())?,
-        names: names_told(alloc, book.rules(), object)?,
-    })
 }

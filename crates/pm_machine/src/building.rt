@@ -14,7 +14,7 @@ ghost use Rattle.pm_script.specs.Replies.{names_seen, seen};
 ghost use Rattle.std.specs.Option.{is_some};
 ghost use Rattle.std.specs.Prelude.{IfNone, IfOk, IfSome, IsTrue, None, OnErr, [], map, string_bytes, true, ◌≡◌};
 
-use crate::asking::{rounds_after, rule_names};
+use crate::asking::rounds_after;
 use crate::session::Session;
 use pm_client::Client;
 use pm_command::{Building, Shape};
@@ -24,6 +24,7 @@ use pm_object::{Condition, Round};
 use pm_object_type::ObjectType;
 use pm_rounds::{Ending, ensure};
 use pm_script::{Names, Refusal, Reply};
+use pm_telling::rule_names;
 use pm_types::{PropId, PropSet};
 use std::alloc::{AllocError, Global};
 

@@ -6,7 +6,6 @@ mod building;
 mod files;
 mod laws;
 mod naming;
-mod origins;
 mod session;
 mod taking;
 

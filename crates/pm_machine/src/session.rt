@@ -4,7 +4,7 @@ ghost use Rattle.pm_machine.specs.Parts.{AllHonest, SavedInPart, StepInPart};
 ghost use Rattle.pm_rounds.specs.Running.{HasPlace};
 ghost use Rattle.pm_machine.specs.Sessions.{MakesNamed, book_of, is_spent, machine_at, machine_of};
 ghost use Rattle.pm_machine.specs.Machines.{Gains, shelf, Stays};
-ghost use Rattle.pm_machine.specs.Steps.{AllKept, CopyStep, DisableStep, DropStep, EnsureStep, ExplainStep, GiveStep, FileRead, HistoryStep, LoadStep, Looks, LookupStep, NewStep, OriginStep, NewObjectStep, NewProgramStep, RulesStep, SaveStep, Step, TakeStep, UnloadStep, is_program_word, named_at, part_named, type_word};
+ghost use Rattle.pm_machine.specs.Steps.{AllKept, CopyStep, DisableStep, DropStep, EnsureStep, EvidenceStep, ExplainStep, GiveStep, FileRead, HistoryStep, LoadStep, Looks, LookupStep, NewStep, OriginStep, NewObjectStep, NewProgramStep, RulesStep, SaveStep, ShowStep, Step, TakeStep, UnloadStep, is_program_word, named_at, part_named, type_word};
 ghost use Rattle.pm_command.specs.Commands.{blank, ensure_values, explain_values, give_value, is_on_files, seen_ref, spoken};
 ghost use Rattle.pm_command.specs.Grammar.{is_sub, ref_text};
 ghost use Rattle.pm_props.specs.NameWords.{is_name};
@@ -14,10 +14,9 @@ ghost use Rattle.std.specs.Option.{option_map};
 ghost use Rattle.std.specs.Prelude.{IfOk, IfSome, IsTrue, List, None, OnErr, OnOk, Option, Some, [], false, length, map, string_bytes, true, ℕ, ◌<◌, ◌≡◌, ◌≢◌, ◌≤◌};
 ghost use Rattle.pm_limits.specs.Limits.{most_objects};
 
-use crate::asking::{asked_in, ensure_values, explain_values, give_value, show_held, tell_history};
+use crate::asking::{asked_in, ensure_values, explain_values, give_value, show_held};
 use crate::files::why_of_file;
 use crate::naming::{has_label, place_named};
-use crate::origins::origin_of;
 use crate::taking::{property_named, take_text};
 use indexmap::IndexMap;
 use pm_books::book_text;
@@ -29,6 +28,7 @@ use pm_object::{Object, ProgramFail};
 use pm_rules::Book;
 use pm_script::{Condition, Refusal, Reply};
 use pm_store::{Store, StoreFail};
+use pm_telling::{origin_of, show_object, tell_evidence, tell_history};
 use pm_types::ObjectType;
 use std::alloc::{AllocError, Global};
 
@@ -455,6 +455,46 @@ impl Session {
         tell_history(alloc, object, &self.book)
     }
 
+    // `show NAME`
+    #[tactic(auto, using(crate::proofs::Ways::show_ways))]
+    fn do_show(
+        &self,
+        alloc: Global,
+        name: &str,
+        clients: &[Box<dyn Client>],
+    ) -> Result<Reply, AllocError>
+        ensures { IfOk result (λ r. ShowStep
+            (machine_of self.now (map tally clients.now)) name.now (seen r)
+            (machine_of self.now (map tally clients.now))) }
+    {
+        let Some(object) = self.objects.get(name) else {
+            return Ok(Reply::refused(alloc, Refusal::UnknownName));
+        };
+        show_object(alloc, object)
+    }
+
+    // `evidence NAME LABEL`
+    #[tactic(auto, using(crate::proofs::Ways::evidence_ways))]
+    fn do_evidence(
+        &self,
+        alloc: Global,
+        name: &str,
+        label: &str,
+        clients: &[Box<dyn Client>],
+    ) -> Result<Reply, AllocError>
+        ensures { IfOk result (λ r. EvidenceStep (book_of self.now)
+            (machine_of self.now (map tally clients.now)) name.now label.now (seen r)
+            (machine_of self.now (map tally clients.now))) }
+    {
+        let Some(object) = self.objects.get(name) else {
+            return Ok(Reply::refused(alloc, Refusal::UnknownName));
+        };
+        if !has_label(self.book.rules(), label) {
+            return Ok(Reply::refused(alloc, Refusal::UnknownRule));
+        }
+        tell_evidence(alloc, object, &self.book, label)
+    }
+
     // `rules`
     #[tactic(auto, using(crate::proofs::Ways::rules_ways))]
     fn do_rules(&self, alloc: Global, clients: &[Box<dyn Client>]) -> Result<Reply, AllocError>
@@ -628,6 +668,8 @@ impl Session {
             Command::Ensure { obj, props } => self.do_ensure(alloc, &obj, &props, clients),
             Command::Explain { obj, props } => self.do_explain(alloc, &obj, &props, clients),
             Command::History { name } => self.do_history(alloc, &name, clients),
+            Command::Show { name } => self.do_show(alloc, &name, clients),
+            Command::Evidence { name, label } => self.do_evidence(alloc, &name, &label, clients),
             Command::Rules => self.do_rules(alloc, clients),
             Command::Disable { name, label } => self.do_disable(alloc, &name, &label, clients),
             Command::Unload { client } => Ok(self.do_unload(alloc, &client, clients)),

@@ -13,7 +13,7 @@ use Rattle.pm_rules.specs.declared.table.Table.{Table}
 use Rattle.pm_props.specs.declared.property.PropId.TheVariants.{ConeAmbientDim, Inequalities, Equations, LinearObjective, MaximalValue, Pointed, Vertices}
 use Rattle.pm_object_type.specs.declared.object_type.ObjectType.TheVariants.{Cone, Polytope}
 use Rattle.pm_types.specs.Values.{extended, finite, truth}
-use Rattle.pm_script.specs.Replies.{NamesSeen, Rounds, barred_text, done, ensured, excluded_text, exclusion_text, false_text, loaded, mixed, name_shown, no_rounds, nothing, planned, property_set_text, refusal_text, refused, remarks, reply_text, round_text, rule_text, shows, tells_origin, told}
+use Rattle.pm_script.specs.Replies.{NamesSeen, Rounds, barred_text, done, ensured, evidence_line, excluded_text, exclusion_text, false_text, lists_held, loaded, mixed, name_shown, no_rounds, nothing, planned, property_set_text, refusal_text, refused, remarks, reply_text, round_text, rule_text, shows, tells_evidence, tells_origin, told}
 use Rattle.pm_script.specs.declared.names.Bar.TheVariants as bar
 use Rattle.pm_script.specs.declared.refusal.NotMadeWhy.TheVariants.{Combination, Pair}
 use Rattle.pm_script.specs.declared.refusal.Refusal.TheVariants.{BadFile, NoChain, NotFit, NotMade}
@@ -76,6 +76,14 @@ pub record RepliesAreRead : Type 0 where
   pub all_read : reply_text false (loaded []) ≡ codes "ok\n"
   pub read_over : reply_text false (loaded (codes "A" ∷ codes "LP.B" ∷ [])) ≡ codes "ok ignored A LP.B\n"
   pub marked : exclusion_text (why.Stored 1) ≡ codes "failed E1"
+  -- what is held, one line a property, and each program after the object
+  pub nothing_held : reply_text false (lists_held Cone [] []) ≡ codes "object Cone 0\n"
+  pub held : reply_text false (lists_held Cone ((Vertices, origin.Given) ∷ (Pointed, origin.Computed) ∷ []) []) ≡ codes "object Cone 2\nRAYS given\nPOINTED computed\n"
+  pub program_held : reply_text false (lists_held Polytope [] ((codes "a", (LinearObjective, origin.Stored) ∷ []) ∷ [])) ≡ codes "object Polytope 0\nprogram a 1\nLINEAR_OBJECTIVE stored\n"
+  -- evidence is shown whole, with its place; of a mark from a file the number alone
+  pub no_evidence : reply_text false (tells_evidence [] two_names) ≡ codes "ok 0\n"
+  pub evidence : reply_text false (tells_evidence (failure ∷ []) two_names) ≡ codes "ok 1\nevidence b E4 {\"first\":[],\"second\":[]}\n"
+  pub elsewhere_evidence : evidence_line two_names (record { rule = first; sub = Some 0; why = why.Stored 2 }) ≡ codes "evidence a @x stored E2\n"
   pub too_long : reply_text false (refused (NotFit condition.Size) nothing) ≡ codes "no 17 NotFit size\n"
   pub bounded : refusal_text (NotFit condition.Bounded) ≡ codes "17 NotFit BOUNDED"
   pub full_dim : refusal_text (NotFit condition.FullDim) ≡ codes "17 NotFit FULL_DIM"

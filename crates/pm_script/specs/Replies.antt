@@ -23,11 +23,13 @@ use Rattle.pm_script.specs.declared.names.Bar.{Bar}
 use Rattle.pm_script.specs.declared.names.Bar.TheVariants as bar
 use Rattle.pm_script.specs.declared.names.Names.{Names}
 use Rattle.pm_object_type.specs.declared.object_type.ObjectType.{ObjectType}
+use Rattle.pm_object_type.specs.declared.object_type.ObjectType.TheVariants.{Cone, Fan, Polytope}
 use Rattle.pm_props.specs.Names.{program_name}
 use Rattle.pm_props.specs.Properties.{first_name, has_program, name_in}
 use Rattle.pm_types.specs.Values.{PropertyValue}
 use Rattle.pm_types.specs.Views.{view_of}
 use Rattle.pm_props.specs.declared.property.PropId.{PropId}
+use Rattle.pm_files.specs.EvidenceJson.{evidence_text}
 use Rattle.pm_files.specs.ValueJson.{value_text}
 use Rattle.pm_script.specs.declared.refusal.Refusal.{Refusal}
 use Rattle.pm_script.specs.declared.refusal.Refusal.TheVariants.{BadCommand, UnknownName, NameTaken, UnknownType, UnknownProperty, BadValue, AlreadyHeld, Sealed, ObjectsFull, NoChain, Crowded, StoreFault, BadFile, NoSuchFile, LineTooLong, UnknownRule, NotFit, NotMade}
@@ -38,6 +40,7 @@ use Rattle.pm_script.specs.declared.refusal.NotMadeWhy.TheVariants.{Combination,
 use Rattle.pm_script.specs.declared.refusal.ValueWhy.{ValueWhy}
 use Rattle.pm_script.specs.declared.refusal.ValueWhy.TheVariants.{Json, Shape, Number, Index, Limit, Computed, Columns, Row}
 use Rattle.pm_script.specs.declared.reply.Reply.{Reply}
+use Rattle.pm_script.specs.declared.shown.ProgramHeld.{ProgramHeld}
 use Rattle.pm_script.specs.declared.reply.Reply.TheVariants as reply
 
 -- the label and the weight of each rule, by its number, and the name of each program of an object, by its place
@@ -61,7 +64,7 @@ pub data Remarks : Type 0 where
   planned : List (RuleId × Bar) → List TableRow → NamesSeen → Remarks
   mixed : Bool → List RoundSeen → List (RuleId × Bar) → Option (List TableRow) → NamesSeen → Remarks
 
--- done, after these rounds; shows name of p v, the value v of the property p of what has that name, an object of that type or a program of one, with the rounds that found it; ensured, by these rounds; explained, by a chain with its weight and table; tells, what happened to an object; lists_rules n text, where the book has n rules and this text; tells_origin, how a value came to be held; loaded, with the names that were read over; undef, where no value is held; refused, why, and what is said beside it
+-- done, after these rounds; shows name of p v, the value v of the property p of what has that name, an object of that type or a program of one, with the rounds that found it; ensured, by these rounds; explained, by a chain with its weight and table; tells, what happened to an object; lists_rules n text, where the book has n rules and this text; tells_origin, how a value came to be held; loaded, with the names that were read over; lists_held of held programs, what an object of the type holds, and each of its programs by its name; tells_evidence, of these exclusions; undef, where no value is held; refused, why, and what is said beside it
 pub data ReplySeen : Type 0 where
   done : Rounds → ReplySeen
   shows : List ℕ → ObjectType → PropId → PropertyValue → Rounds → ReplySeen
@@ -71,6 +74,8 @@ pub data ReplySeen : Type 0 where
   lists_rules : ℕ → List ℕ → ReplySeen
   tells_origin : Origin → ReplySeen
   loaded : List (List ℕ) → ReplySeen
+  lists_held : ObjectType → List (PropId × Origin) → List (List ℕ × List (PropId × Origin)) → ReplySeen
+  tells_evidence : List Excluded → NamesSeen → ReplySeen
   undef : ReplySeen
   refused : Refusal → Remarks → ReplySeen
 
@@ -86,6 +91,10 @@ remarks always rounds [] None names = told always (record { rounds = rounds; nam
 remarks always rounds barred None names = mixed always rounds barred None names
 remarks always rounds barred (Some table) names = mixed always rounds barred (Some table.rows.items) names
 
+-- the name of a program, and what it holds
+abbrev pub program_seen : ProgramHeld → List ℕ × List (PropId × Origin)
+program_seen p = (string_bytes p.name, p.held.items)
+
 -- what the code's reply says
 abbrev pub seen : Reply → ReplySeen
 seen (reply.Done rounds names) = done (record { rounds = map round_seen rounds.items; names = names_seen names })
@@ -96,6 +105,8 @@ seen (reply.History rounds excluded names) = tells (record { rounds = map round_
 seen (reply.Rules count text) = lists_rules count (string_bytes text)
 seen (reply.Origin o) = tells_origin o
 seen (reply.Loaded names) = loaded (map string_bytes names.items)
+seen (reply.Held of held programs) = lists_held of held.items (map program_seen programs.items)
+seen (reply.Evidence excluded names) = tells_evidence excluded.items (names_seen names)
 seen reply.Undef = undef
 seen (reply.Refused why always rounds barred table names) = refused why (remarks always (map round_seen rounds.items) barred.items table (names_seen names))
 
@@ -266,6 +277,34 @@ ignored_text (name ∷ names) = codes " ignored" ++ flat_map spaced_name (name �
 abbrev pub name_shown : ObjectType → PropId → List ℕ
 name_shown of p = if has_program p then program_name p else name_in of p
 
+-- the word of a type, as `new` reads it
+abbrev pub word_of_type : ObjectType → List ℕ
+word_of_type Polytope = codes "Polytope"
+word_of_type Cone = codes "Cone"
+word_of_type Fan = codes "Fan"
+
+-- `PROP ORIGIN`
+abbrev pub held_line : ObjectType → PropId × Origin → List ℕ
+held_line of x = name_shown of x.0 ++ codes " " ++ origin_text x.1 ++ codes "\n"
+
+-- ` N`, and a line for each of the N properties
+abbrev pub held_lines : ObjectType → List (PropId × Origin) → List ℕ
+held_lines of held = codes " " ++ decimal (length held) ++ codes "\n" ++ flat_map (held_line of) held
+
+-- `program NAME N`, and its lines
+abbrev pub program_lines : ObjectType → List ℕ × List (PropId × Origin) → List ℕ
+program_lines of p = codes "program " ++ p.0 ++ held_lines of p.1
+
+-- evidence whole behind its number, or the number alone that came with a file
+abbrev pub evidence_shown : Why → List ℕ
+evidence_shown (why.Failed evidence) = codes "E" ++ decimal (evidence_number evidence) ++ codes " " ++ evidence_text evidence
+evidence_shown (why.False p) = false_text p
+evidence_shown (why.Stored k) = codes "stored E" ++ decimal k
+
+-- `evidence LABEL [@SUB] Ek JSON`
+abbrev pub evidence_line : NamesSeen → Excluded → List ℕ
+evidence_line names e = codes "evidence " ++ label_text names e.rule ++ place_text names e.sub ++ codes " " ++ evidence_shown e.why ++ codes "\n"
+
 -- the reply's lines, each with its LF; rounds that found a value, or what a new object is made of, are shown where they are traced
 abbrev pub reply_text : Bool → ReplySeen → List ℕ
 reply_text trace (done t) = codes "ok\n" ++ (if trace then rounds_text t else [])
@@ -276,6 +315,8 @@ reply_text trace (tells t excluded) = codes "rounds " ++ decimal (length t.round
 reply_text trace (lists_rules n text) = codes "rules " ++ decimal n ++ codes "\n" ++ text
 reply_text trace (tells_origin o) = origin_text o ++ codes "\n"
 reply_text trace (loaded names) = codes "ok" ++ ignored_text names ++ codes "\n"
+reply_text trace (lists_held of held programs) = codes "object " ++ word_of_type of ++ held_lines of held ++ flat_map (program_lines of) programs
+reply_text trace (tells_evidence excluded names) = codes "ok " ++ decimal (length excluded) ++ codes "\n" ++ flat_map (evidence_line names) excluded
 reply_text trace undef = codes "undef\n"
 reply_text trace (refused why more) = codes "no " ++ refusal_text why ++ codes "\n" ++ remarks_text trace more
 

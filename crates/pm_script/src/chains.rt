@@ -14,7 +14,7 @@ use std::alloc::AllocError;
 use std::fmt::Write;
 
 // Writes the label of a rule.
-fn push_label(text: &mut String, names: &Names, id: RuleId) -> Result<(), AllocError>
+pub fn push_label(text: &mut String, names: &Names, id: RuleId) -> Result<(), AllocError>
     ensures { OnOk result (string_bytes text.new
         ≡ string_bytes text.old ++ label_text (names_seen names.now) id) }
 {
@@ -48,7 +48,7 @@ fn push_labels(text: &mut String, names: &Names, chain: &[RuleId]) -> Result<(),
 }
 
 // Writes the name of the program that is meant, if one is.
-fn push_place(text: &mut String, names: &Names, place: Option<u8>) -> Result<(), AllocError>
+pub fn push_place(text: &mut String, names: &Names, place: Option<u8>) -> Result<(), AllocError>
     ensures { OnOk result (string_bytes text.new
         ≡ string_bytes text.old ++ place_text (names_seen names.now) place) }
 {
@@ -70,7 +70,7 @@ fn push_failed(text: &mut String, number: u8) -> Result<(), AllocError>
 }
 
 // Writes that a precondition is held with the wrong value.
-fn push_false(text: &mut String, p: PropId) -> Result<(), AllocError>
+pub fn push_false(text: &mut String, p: PropId) -> Result<(), AllocError>
     ensures { OnOk result (string_bytes text.new ≡ string_bytes text.old ++ false_text p) }
 {
     text.push_str("false ")?;

@@ -3,13 +3,14 @@
 ghost use Rattle.pm_files.specs.ValueJson.{value_text};
 ghost use Rattle.pm_object.specs.Views.{round_seen};
 ghost use Rattle.pm_weights.specs.Weights.{cost_text};
-ghost use Rattle.pm_script.specs.Replies.{done, ignored_text, is_refusal, loaded, name_shown, names_seen, no_rounds, nothing, origin_text, planned, refused, remarks, remarks_text, reply_text, rounds_text, rule_text, seen, spaced_name, table_row_text};
+ghost use Rattle.pm_script.specs.Replies.{done, ignored_text, is_refusal, loaded, name_shown, names_seen, no_rounds, nothing, planned, refused, remarks, remarks_text, reply_text, rounds_text, rule_text, seen, spaced_name, table_row_text};
 ghost use Rattle.pm_types.specs.Views.{view_of};
 ghost use Rattle.std.specs.Prelude.{Bool, IfOk, false, None, OnOk, [], codes, decimal, flat_map, if◌then◌else◌, length, map, string_bytes, ◌++◌, ◌||◌, ◌≡◌};
 
 use crate::chains::{push_barred, push_exclusions, push_rounds, push_rows, push_rules_of};
 use crate::names::{Bar, Names};
 use crate::refusal::{Refusal, push_refusal};
+use crate::shown::{ProgramHeld, evidence_lines, name_shown, object_lines, origin_line};
 use pm_files::value_text;
 use pm_object::{Excluded, Origin, Round};
 use pm_rules::Table;
@@ -63,6 +64,17 @@ pub enum Reply {
     /// An object was made of what a file holds. `ignored`: the names in the file that were read over.
     Loaded {
         ignored: Vec<String>,
+    },
+    /// What an object of the type holds, and what its linear programs do, in the order of the table of properties.
+    Held {
+        of: ObjectType,
+        held: Vec<(PropId, Origin)>,
+        programs: Vec<ProgramHeld>,
+    },
+    /// The exclusions of a rule by evidence.
+    Evidence {
+        excluded: Vec<Excluded>,
+        names: Names,
     },
     /// The property is not held.
     Undef,
@@ -149,16 +161,6 @@ impl Reply {
             table: None,
             names: Names::none(alloc),
         }
-    }
-}
-
-/// The name of a property as it is asked of an object of the type, or of a linear program.
-fn name_shown(of: ObjectType, prop: PropId) -> &'static str
-    ensures { result.now ≡ name_shown of prop }
-{
-    match prop.row().first_name.strip_prefix("LP.") {
-        Some(name) => name,
-        None => prop.name_in(of),
     }
 }
 
@@ -271,17 +273,6 @@ fn push_remarks(
     }
 }
 
-/// The line of an origin.
-fn origin_line(origin: Origin) -> &'static str
-    ensures { result.now ≡ origin_text origin ++ codes "\n" }
-{
-    match origin {
-        Origin::Given => "given\n",
-        Origin::Stored => "stored\n",
-        Origin::Computed => "computed\n",
-    }
-}
-
 /// Writes a space and each name.
 fn push_names(text: &mut String, names: &[String]) -> Result<(), AllocError>
     ensures { OnOk result (string_bytes text.new ≡ string_bytes text.old
@@ -329,6 +320,8 @@ fn reply_lines(alloc: Global, r: &Reply, trace: bool) -> Result<String, AllocErr
         Reply::Origin(origin) => String::from_str(alloc, origin_line(*origin)),
         Reply::Loaded { ignored } => loaded_line(alloc, ignored),
         Reply::Undef => String::from_str(alloc, "undef\n"),
+        Reply::Held { of, held, programs } => object_lines(alloc, *of, held, programs),
+        Reply::Evidence { excluded, names } => evidence_lines(alloc, names, excluded),
         Reply::Value {
             name,
             of,

@@ -1,6 +1,6 @@
 -- Each first word has the reader of its own.
 use Rattle.std.proofs.Common.{sym, ◌∙◌}
-use Rattle.pm_command.proofs.FirstWords.{is_ensure, is_explain, is_history, is_on_objects}
+use Rattle.pm_command.proofs.FirstWords.{is_ensure, is_explain, is_history, is_told}
 use Rattle.pm_command.proofs.command.read_chain_words.Goals as goal
 
 pub returns-then-eq-clause-ok : goal.returns-then-eq-clause-ok
@@ -22,7 +22,7 @@ pub returns-then-eq-3-clause-refused : goal.returns-then-eq-3-clause-refused
 returns-then-eq-3-clause-refused c = rw (is_history c.args.first.now c.args.words.now (sym c.eq.ensures ∙ c.if-eq.false) (sym c.eq-else-eq.ensures ∙ c.if-eq-2.false) (sym c.eq-else-eq-2.ensures ∙ c.if-eq-3.true)) c.read_history.ensures.refused
 
 pub returns-else-eq-3-clause-ok : goal.returns-else-eq-3-clause-ok
-returns-else-eq-3-clause-ok c = rw (is_on_objects c.args.first.now c.args.words.now (sym c.eq.ensures ∙ c.if-eq.false) (sym c.eq-else-eq.ensures ∙ c.if-eq-2.false) (sym c.eq-else-eq-2.ensures ∙ c.if-eq-3.false)) c.read_object_words.ensures.ok
+returns-else-eq-3-clause-ok c = rw (is_told c.args.first.now c.args.words.now (sym c.eq.ensures ∙ c.if-eq.false) (sym c.eq-else-eq.ensures ∙ c.if-eq-2.false) (sym c.eq-else-eq-2.ensures ∙ c.if-eq-3.false)) c.read_told_words.ensures.ok
 
 pub returns-else-eq-3-clause-refused : goal.returns-else-eq-3-clause-refused
-returns-else-eq-3-clause-refused c = rw (is_on_objects c.args.first.now c.args.words.now (sym c.eq.ensures ∙ c.if-eq.false) (sym c.eq-else-eq.ensures ∙ c.if-eq-2.false) (sym c.eq-else-eq-2.ensures ∙ c.if-eq-3.false)) c.read_object_words.ensures.refused
+returns-else-eq-3-clause-refused c = rw (is_told c.args.first.now c.args.words.now (sym c.eq.ensures ∙ c.if-eq.false) (sym c.eq-else-eq.ensures ∙ c.if-eq-2.false) (sym c.eq-else-eq-2.ensures ∙ c.if-eq-3.false)) c.read_told_words.ensures.refused

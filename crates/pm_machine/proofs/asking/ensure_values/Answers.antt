@@ -1,7 +1,8 @@
 -- What was ensured is told with its rounds; what was ensured wholly was ensured in part.
+use Rattle.pm_telling.specs.Telling.{names_told}
 use Rattle.std.proofs.Common.{refl, true, ◌≡◌}
 use Rattle.pm_machine.proofs.Names.{beside_named, ensured_in_part, later_is, rounds_named}
-use Rattle.pm_machine.specs.Steps.{Ensures, names_told}
+use Rattle.pm_machine.specs.Steps.{Ensures}
 use Rattle.pm_script.specs.Replies.{names_seen}
 use Rattle.pm_machine.proofs.asking.ensure_values.Goals as goal
 

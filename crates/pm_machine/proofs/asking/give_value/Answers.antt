@@ -1,9 +1,10 @@
 -- A value is shown where what was asked is found; what was ensured wholly was ensured in part.
+use Rattle.pm_telling.specs.Telling.{names_told}
 use Rattle.std.proofs.Common.{Some, ap, false, refl, rules, sym, true≢false, ◌∙◌, ◌≡◌}
 use Rattle.std.specs.Option.{is_some}
 use Rattle.std.specs.Prelude.{None}
 use Rattle.pm_machine.proofs.Names.{beside_named, ended_so, found_held, gives_shown, later_is, rounds_named, whole_is_part}
-use Rattle.pm_machine.specs.Steps.{Gives, names_told}
+use Rattle.pm_machine.specs.Steps.{Gives}
 use Rattle.pm_object.specs.State.{read_at, value_of}
 use Rattle.pm_script.specs.Replies.{names_seen, seen}
 use Rattle.pm_types.specs.Views.{view_of}

@@ -1,4 +1,5 @@
 -- What is read is ensured, or not found; then the object is made, or a condition fails.
+use Rattle.pm_telling.specs.Telling.{rules_told}
 use Rattle.std.proofs.Common.{ap, inr, refl, subst, sym, ◌∙◌, ◌≡◌}
 use Rattle.std.specs.Prelude.{None, [], false, map, string_bytes}
 use Rattle.pm_command.specs.Builders.{builder_of, operands_of}
@@ -6,7 +7,7 @@ use Rattle.pm_machine.proofs.BuildSteps.{build_answered, if_broken, of_row, read
 use Rattle.pm_making.proofs.Fits.{of_its_type}
 use Rattle.pm_machine.proofs.Ensuring.{all_in_part, from_nothing, stays_itself, to_in_part}
 use Rattle.pm_rounds.proofs.Rounds.{on_err_of}
-use Rattle.pm_machine.specs.Building.{is_crowded, no_chain, no_such_name, other_type, rules_told, is_refused, no_new_name}
+use Rattle.pm_machine.specs.Building.{is_crowded, no_chain, no_such_name, other_type, is_refused, no_new_name}
 use Rattle.pm_making.specs.Rows.{row_of}
 use Rattle.pm_machine.specs.Machines.{IsFree, shelf}
 use Rattle.pm_machine.specs.Sessions.{book_of, machine_of}

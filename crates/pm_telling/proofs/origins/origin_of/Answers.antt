@@ -1,9 +1,9 @@
 -- The first value that is read there tells the origin.
 use Rattle.std.proofs.Common.{ap, sym, ◌∙◌, ◌≡◌}
-use Rattle.pm_machine.proofs.FirstHeld.{none_where_no_origin, origin_is}
-use Rattle.pm_machine.specs.Steps.{origin_of}
+use Rattle.pm_telling.proofs.FirstHeld.{none_where_no_origin, origin_is}
+use Rattle.pm_telling.specs.Telling.{origin_of}
 use Rattle.pm_object.specs.State.{read_at}
-use Rattle.pm_machine.proofs.origins.origin_of.Goals as goal
+use Rattle.pm_telling.proofs.origins.origin_of.Goals as goal
 
 pub returns-clause-origin : goal.returns-clause-origin
 returns-clause-origin c = c.first_origin.ensures ∙ sym (origin_is c.args.sub c.args.p c.held.result.now) ∙ ap (λ z. origin_of c.args.p (read_at c.args.sub z)) c.held.ensures.value

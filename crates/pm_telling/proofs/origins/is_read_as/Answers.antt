@@ -1,7 +1,7 @@
 use Rattle.std.proofs.Common.{ap, sym, true, ◌∙◌, ◌≡◌}
-use Rattle.pm_machine.proofs.FirstHeld.{same_test}
+use Rattle.pm_telling.proofs.FirstHeld.{same_test}
 use Rattle.pm_props.specs.Places.{place_of, same_place}
-use Rattle.pm_machine.proofs.origins.is_read_as.Goals as goal
+use Rattle.pm_telling.proofs.origins.is_read_as.Goals as goal
 
 pub returns-then-are_same : goal.returns-then-are_same
 returns-then-are_same c =

@@ -1,12 +1,11 @@
 // How a value came to be held.
 
-ghost use Rattle.pm_machine.specs.Steps.{origin_of};
+ghost use Rattle.pm_telling.specs.Telling.{origin_of};
 ghost use Rattle.pm_object.specs.State.{read_at, value_of};
 ghost use Rattle.pm_props.specs.Places.{place_of, same_place, same_property};
 ghost use Rattle.std.specs.Prelude.{IfNone, None, find, option_map, ◌&&◌, ◌≡◌};
 
-use pm_object::{Held, Object, Origin};
-use pm_rounds::are_same;
+use pm_object::{Held, Object, Origin, are_same};
 use pm_types::PropId;
 
 // Whether the value is one of the property, and is read by who asks this program, if one is asked.

@@ -1,6 +1,6 @@
 use Rattle.std.specs.Prelude.{string_bytes}
-use Rattle.pm_machine.proofs.Told.{told_more}
-use Rattle.pm_machine.proofs.asking.names_told.Goals as goal
+use Rattle.pm_telling.proofs.Told.{told_more}
+use Rattle.pm_telling.proofs.names.names_told.Goals as goal
 
 pub loop-place-preserved : goal.loop-place-preserved
 loop-place-preserved c =

@@ -1,0 +1,4 @@
+pub mod Told
+pub mod FirstHeld
+pub mod Programs
+pub mod TellingExamples
