@@ -158,7 +158,7 @@ def check_one(runs, checks, book, text, in_use, off, of_program, held, asked, li
 
 
 def check_printed(random, runs, checks, standard, books, turns):
-    """Plans that the program prints over random books, as they are and turned at one place."""
+    """Plans that the program prints over random books, as they are and turned at one place; how many of each."""
     plans = 0
     for place in range(books):
         book = random_book(random, standard)
@@ -191,4 +191,4 @@ def check_printed(random, runs, checks, standard, books, turns):
             for turn in range(turns):
                 other, more = turned(random, lines, asked)
                 check_one(runs, checks, book, text, in_use, off, of_program, held, frozenset(more), other, f'{name}, turned {turn}')
-    runs.wants(plans >= books, True, 'how many plans were printed')
+    return plans, plans * turns

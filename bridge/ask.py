@@ -53,6 +53,7 @@ def words():
     told.add_argument("--program", required=True, metavar="PATH", help="the built program")
     told.add_argument("--trace", action="store_true", help="print the rounds behind each value")
     told.add_argument("--rules", metavar="NAME", help="a book of this folder")
+    told.add_argument("--book", metavar="PATH", help="the book that is taken where --rules names none")
     told.add_argument("file", metavar="FILE", help="the data file")
     told.add_argument("properties", metavar="PROP", nargs="*", help="what is asked")
     return told
@@ -65,6 +66,9 @@ def program_words(options, folder):
         if Path(options.rules).is_file():
             shutil.copy(options.rules, folder)
         found += ["--rules", options.rules]
+    elif options.book is not None:
+        shutil.copy(options.book, folder)
+        found += ["--rules", Path(options.book).name]
     return found
 
 

@@ -3,10 +3,30 @@
 from fractions import Fraction
 from math import gcd
 
-MOST = 2**127 - 1
-MOST_ROWS = 2048
-MOST_FACES = 65_536
-MOST_PLACES = 4_000_000
+import evidence_many as many
+import evidence_programs as programs
+import evidence_sites as sites
+from evidence_rows import (
+    are_adjacent,
+    both_signs,
+    dot,
+    echelon,
+    enlarging,
+    entry,
+    factors,
+    in_range,
+    is_canonical,
+    is_extreme,
+    is_wide_product,
+    null_space,
+    opposite,
+    primitive,
+    rank,
+    reduced_once,
+    stated_order,
+    unit,
+    whole,
+)
 
 # The two parts of a row list: lines and then points or rays, equations and then inequalities or facets.
 PARTS = (
@@ -21,108 +41,6 @@ GENERATORS = ("POINTS", "INPUT_LINEALITY", "VERTICES", "LINEALITY_SPACE")
 HALF_SPACES = ("INEQUALITIES", "EQUATIONS", "FACETS", "AFFINE_HULL")
 
 
-class NotChecked(Exception):
-    """The evidence is of a kind that this checker has no definition for."""
-
-
-# ---- rows
-def in_range(x):
-    return -MOST <= x <= MOST
-
-
-def primitive(row):
-    """The positive multiple of the row without a common divisor; the zero row stays."""
-    divisor = gcd(*row)
-    return tuple(x // divisor for x in row) if divisor else tuple(row)
-
-
-def whole(row):
-    """The primitive whole row in the direction of a row of fractions."""
-    fractions = [Fraction(x) for x in row]
-    scale = 1
-    for x in fractions:
-        scale = scale * x.denominator // gcd(scale, x.denominator)
-    return primitive([int(x * scale) for x in fractions])
-
-
-def dot(a, b):
-    return sum(x * y for x, y in zip(a, b))
-
-
-def opposite(row):
-    return tuple(-x for x in row)
-
-
-def entry(row, i):
-    return row[i] if i < len(row) else 0
-
-
-def factors(row, by, column):
-    """(p, q) with p = by_c/g and q = row_c/g, g the greatest common divisor of both; by is positive in the column."""
-    divisor = gcd(abs(row[column]), by[column])
-    return by[column] // divisor, row[column] // divisor
-
-
-def reduced_once(row, by, column):
-    if row[column] == 0:
-        return tuple(row)
-    p, q = factors(row, by, column)
-    return primitive([p * x - q * y for x, y in zip(row, by)])
-
-
-def echelon(rows):
-    """The echelon basis of the span: primitive rows, positive at their pivot columns, where the others are 0."""
-    basis, pivots = [], []
-    for row in rows:
-        row = primitive(row)
-        for other, column in zip(basis, pivots):
-            row = reduced_once(row, other, column)
-        if any(row):
-            column = next(i for i, x in enumerate(row) if x)
-            row = row if row[column] > 0 else opposite(row)
-            basis = [reduced_once(other, row, column) for other in basis] + [row]
-            pivots.append(column)
-    order = sorted(range(len(basis)), key=lambda k: pivots[k])
-    return [basis[k] for k in order], [pivots[k] for k in order]
-
-
-def rank(rows):
-    return len(echelon(rows)[0])
-
-
-def null_space(rows, cols):
-    """The echelon basis of the rows on which all of these vanish."""
-    basis, pivots = echelon(rows)
-    found = []
-    for free in range(cols):
-        if free not in pivots:
-            row = [Fraction(0)] * cols
-            row[free] = Fraction(1)
-            for other, column in zip(basis, pivots):
-                row[column] = Fraction(-other[free], other[column])
-            found.append(whole(row))
-    return echelon(found)
-
-
-def enlarging(rows):
-    """One mark for each row, whether it is not in the span of those before it."""
-    marks, basis, pivots = [], [], []
-    for row in rows:
-        rest = primitive(row)
-        for other, column in zip(basis, pivots):
-            rest = reduced_once(rest, other, column)
-        marks.append(any(rest))
-        if any(rest):
-            basis, pivots = echelon(basis + [rest])
-    return marks
-
-
-def stated_order(rows):
-    """First the rows that enlarge the span of those before them, then the others."""
-    marks = enlarging(rows)
-    return [x for x, m in zip(rows, marks) if m] + [x for x, m in zip(rows, marks) if not m]
-
-
 # ---- what the values are
 class Values:
     """The values of an object: rows by property, what it is, and how many columns its rows have."""
@@ -134,6 +52,11 @@ class Values:
         """The primitive whole rows of the value of the property; none where it has no value."""
         value = self.values.get(name)
         return None if value is None else [whole(row) for row in value if not isinstance(row, dict)]
+
+    def fractions(self, name):
+        """The one row of the value of the property, as fractions; none where it has no value."""
+        value = self.values.get(name)
+        return None if value is None else tuple(Fraction(x) for x in value)
 
     def parts(self):
         """Each two parts of a row list that the values have: their names, the lines and the other rows, with what is added."""
@@ -159,14 +82,6 @@ class Values:
             count = next((s["cols"] for s in value if isinstance(s, dict)), count)
             return [[i for i, s in enumerate(sets) if k in s] for k in range(count)]
         return None
-
-
-def unit(cols, i):
-    return tuple(1 if k == i else 0 for k in range(cols))
-
-
-def both_signs(rows):
-    return [signed for row in rows for signed in (row, opposite(row))]
 
 
 # ---- lists that are eliminated
@@ -217,14 +132,11 @@ def line_rows(lines, others):
     return lines + [g for g in others if in_cone(others, lines, opposite(g))]
 
 
-def lists(values):
-    """Each list of rows that a client may eliminate."""
-    for first, second, lines, others in values.parts():
+def lists_of_parts(values):
+    """The lists of two parts of a row list, and of the rows that span their lineality."""
+    for _, second, lines, others in values.parts():
         yield lines + others
         yield lines
-        double = both_signs(echelon(lines)[0]) + others
-        yield double
-        yield [x for x, m in zip(double, enlarging(double)) if m]
         groups = [line_rows(lines, others)]
         told = values.rows(TOLD[second]) if second in TOLD else None
         if told is not None:
@@ -234,13 +146,28 @@ def lists(values):
             basis = echelon(group)[0]
             for row in others:
                 yield basis + [row]
-    for _, _, rows in determining(values):
-        yield rows
+
+
+def cone_lists(values):
+    """The rows that span each maximal cone of a fan."""
     lines, rays, cones = values.rows("LINEALITY_SPACE"), values.rows("VERTICES"), values.values.get("MAXIMAL_CONES")
     if lines is not None and rays is not None and cones is not None:
         for cone in cones:
             if not isinstance(cone, dict) and all(k < len(rays) for k in cone):
                 yield lines + [rays[k] for k in cone]
+
+
+def lists(values):
+    """Each list of rows that a client may eliminate, and the columns of its rows."""
+    for rows in lists_of_parts(values):
+        yield rows, values.cols
+    for double, cols in double_lists(values):
+        yield double, cols
+        yield [x for x, m in zip(double, enlarging(double)) if m], cols
+    for _, _, rows in determining(values):
+        yield rows, values.cols
+    for rows in cone_lists(values):
+        yield rows, values.cols
 
 
 # ---- E1
@@ -293,43 +220,20 @@ def holds_in_list(rows, shown):
 
 
 def holds_e1(values, shown):
-    for rows in lists(values):
-        named = named_list(shown["list"], rows, values.cols)
+    for rows, cols in lists(values):
+        named = named_list(shown["list"], rows, cols)
         if named is not None and holds_in_list(named[0], shown):
             return True
     return False
 
 
 # ---- E2 and E5 of rays
-def is_extreme(cut, row, cols):
-    """The row is an extreme ray of the cone that the rows cut out."""
-    if len(row) != cols or any(dot(a, row) < 0 for a in cut):
-        return False
-    tight = [a for a in cut if dot(a, row) == 0]
-    return len(tight) < len(cut) and rank(tight) == rank(cut) - 1
-
-
-def is_canonical(cut, row, cols):
-    _, pivots = null_space(cut, cols)
-    return is_extreme(cut, row, cols) and primitive(row) == tuple(row) and all(row[p] == 0 for p in pivots)
-
-
-def are_adjacent(cut, r, s):
-    return rank([a for a in cut if dot(a, r) == 0 and dot(a, s) == 0]) == rank(cut) - 2
-
-
-def is_wide_product(a, b):
-    total = 0
-    for x, y in zip(a, b):
-        total += x * y
-        if not in_range(x * y) or not in_range(total):
-            return True
-    return False
-
-
 def double_lists(values):
+    """Each double list, and the columns of its rows."""
     for _, _, lines, others in values.parts():
-        yield stated_order(both_signs(echelon(lines)[0]) + others)
+        yield both_signs(echelon(lines)[0]) + others, values.cols
+    for rows in sites.lifted_lists(values):
+        yield rows, len(rows[-1])
 
 
 def is_front(ordered, front):
@@ -353,34 +257,30 @@ def is_wide_pair(ordered, cols, shown):
 
 
 def holds_e2(values, shown):
-    return any(is_wide_pair(ordered, values.cols, shown) for ordered in double_lists(values))
+    return any(is_wide_pair(stated_order(double), cols, shown) for double, cols in double_lists(values))
 
 
 def holds_rays(values, shown):
     front, rays = shown["front"], shown["rays"]
-    if len(rays) <= MOST_ROWS:
+    if len(rays) <= many.MOST_ROWS:
         return False
-    for ordered in double_lists(values):
-        if is_front(ordered, front):
-            cut = ordered[:front]
-            basis, pivots = null_space(cut, values.cols)
-            if all(is_extreme(cut, r, values.cols) for r in rays):
-                reduced = set()
-                for row in rays:
-                    for other, pivot in zip(basis, pivots):
-                        row = reduced_once(row, other, pivot)
-                    reduced.add(primitive(row))
-                if len(reduced) == len(rays):
-                    return True
+    for double, cols in double_lists(values):
+        ordered = stated_order(double)
+        if is_front(ordered, front) and are_many_rays(ordered[:front], rays, cols):
+            return True
     return False
 
 
-# ---- E4
-def holds_e4(values, shown):
-    """A product of two rows that were read, or of a row that a set determines with one that was read."""
-    first, second = shown["first"], shown["second"]
-    if not is_wide_product(first, second):
+def are_many_rays(cut, rays, cols):
+    """All are extreme rays of the cone that the rows cut out, and no two of them alike up to a positive factor and the lineality."""
+    if not all(is_extreme(cut, r, cols) for r in rays):
         return False
+    return len(set(many.reduced(rays, *null_space(cut, cols)))) == len(rays)
+
+
+# ---- E4
+def holds_product(values, first, second):
+    """The rows are a generator's and a half-space's that were read, or one that a set determines and one that was read."""
     listed = lambda names, row: any(row in (values.rows(name) or []) for name in names)
     if listed(GENERATORS, first) and listed(HALF_SPACES, second):
         return True
@@ -388,31 +288,15 @@ def holds_e4(values, shown):
         found, cut = (first, second) if name == "FACETS" else (second, first)
         if cut in inequalities and null_space(rows, values.cols)[0] in ([found], [opposite(found)]):
             return True
-    if values.values.get("LINEAR_OBJECTIVE") is not None:
-        raise NotChecked("a product of an objective or of a dual")
-    return False
+    return sites.holds_product(values, first, second)
 
 
-# ---- E5 of faces
-def holds_faces(values, shown):
-    faces = shown["faces"]
-    if len(faces) <= MOST_FACES and sum(map(len, faces)) <= MOST_PLACES:
-        return False
-    value = values.values.get("VERTICES_IN_FACETS")
-    if value is None or len(set(faces)) < len(faces):
-        return False
-    sets = [frozenset(s) for s in value if not isinstance(s, dict)]
-    count = next((s["cols"] for s in value if isinstance(s, dict)), max((k + 1 for s in sets for k in s), default=0))
-    everything = frozenset(range(count))
-    for face in faces:
-        held = frozenset(face)
-        meet = everything
-        for s in sets:
-            if held <= s:
-                meet &= s
-        if list(face) != sorted(held) or meet != held:
-            return False
-    return True
+def holds_e4(values, shown):
+    """Two rows whose product leaves the range; or what an objective, an optimum or a dual has there."""
+    first, second = shown["first"], shown["second"]
+    if is_wide_product(first, second) and holds_product(values, first, second):
+        return True
+    return programs.holds_e4(values, first, second)
 
 
 # ---- lines
@@ -428,10 +312,16 @@ def holds(values, kind, shown):
     if kind == "E2":
         pair = dict(shown, first=tuple(int(x) for x in shown["first"]), second=tuple(int(x) for x in shown["second"]))
         return holds_e2(values, pair)
+    if kind == "E3":
+        return programs.holds_e3(values, shown)
     if kind == "E4":
         return holds_e4(values, {name: tuple(int(x) for x in shown[name]) for name in ("first", "second")})
     if kind == "E5" and "rays" in shown:
         return holds_rays(values, dict(shown, rays=rows_of(shown["rays"])))
     if kind == "E5" and "faces" in shown:
-        return holds_faces(values, {"faces": [tuple(face) for face in shown["faces"]]})
-    raise NotChecked({"E3": "a pivot of a linear program"}.get(kind, "too many facets or cells"))
+        return many.holds_faces(values, [tuple(face) for face in shown["faces"]])
+    if kind == "E5" and "places" in shown:
+        return many.holds_facets(values, shown["places"])
+    if kind == "E5" and "cells" in shown:
+        return many.holds_cells(values, shown["front"], shown["cells"])
+    raise ValueError(f"{kind} without its keys")

@@ -12,8 +12,8 @@ VALUE = re.compile(
     r"([A-Za-z][A-Za-z0-9_]*)(?:\.([A-Za-z][A-Za-z0-9_]*))? ([A-Z][A-Z0-9_]*) (.+)", re.ASCII
 )
 
-# Words that begin other replies, after which a label stands that may look like a property.
-OTHERS = ("rule", "excluded", "barred")
+# Words that begin other replies, after which a label or a name stands that may look like a property.
+OTHERS = ("rule", "excluded", "barred", "evidence", "program")
 
 
 def value_lines(lines):

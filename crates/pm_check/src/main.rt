@@ -9,108 +9,29 @@
 #![tactic(auto)]
 
 mod book;
+mod examples;
+mod laws;
 mod plan;
+mod run;
+mod status;
 mod words;
 
-use book::{NoBook, book_answer, chosen_book};
-use plan::plan_answer;
-use pm_store::{
-    DirStore, ReadFail, Sink, Source, StdSink, StdSource, Store, read_up_to, write_all,
-};
-use std::alloc::{AllocError, AllocGlobal, Global};
+use pm_store::{DirStore, StdSink, StdSource};
+use run::checker;
+use status::NoAnswer;
+use std::alloc::AllocGlobal;
 use std::env;
 use std::io::ErrorKind;
 use std::process::ExitCode;
 use std::rt::Env;
-use words::plan_words;
 
-/// The most bytes of a printed text.
-const LIMIT: usize = 16_777_216;
-
-/// Why there is no answer, by its exit status.
-#[derive(Clone, Copy)]
-struct Status(u8);
-
-impl From<AllocError> for Status {
-    fn from(_e: AllocError) -> Status {
-        Status(5)
-    }
-}
-
-impl From<NoBook> for Status {
-    fn from(why: NoBook) -> Status {
-        match why {
-            NoBook::Refused => Status(7),
-            NoBook::Memory => Status(5),
-        }
-    }
-}
-
-impl From<ReadFail> for Status {
-    fn from(why: ReadFail) -> Status {
-        match why {
-            ReadFail::Fault => Status(3),
-            ReadFail::TooLong => Status(3),
-            ReadFail::Memory => Status(5),
-        }
-    }
-}
-
-// The answer to `check-plan`, and whether it is a yes.
-fn checked_plan<S: Source, F: Store>(
-    alloc: Global,
-    words: &[String],
-    source: &mut S,
-    store: &mut F,
-) -> Result<(String, bool), Status> {
-    let Some(said) = plan_words(words) else {
-        return Err(Status(2));
-    };
-    let book = chosen_book(alloc, said.book, store)?;
-    let bytes = read_up_to(alloc, source, LIMIT)?;
-    match plan_answer(alloc, &book, &said, &bytes)? {
-        Some(answer) => Ok(answer),
-        None => Err(Status(2)),
-    }
-}
-
-// The answer to the words, and whether it is a yes.
-fn answered<S: Source, F: Store>(
-    alloc: Global,
-    words: &[String],
-    source: &mut S,
-    store: &mut F,
-) -> Result<(String, bool), Status> {
-    let Some((first, rest)) = words.split_first() else {
-        return Err(Status(2));
-    };
-    if first.as_str() == "check-plan" {
-        return checked_plan(alloc, rest, source, store);
-    }
-    if first.as_str() == "check-book" && rest.len() == 1 {
-        return Ok(book_answer(alloc, rest[0].as_str(), store)?);
-    }
-    Err(Status(2))
-}
-
-// Writes the answer; the exit status.
-fn told<K: Sink>(sink: &mut K, answer: Result<(String, bool), Status>) -> u8 {
-    match answer {
-        Ok((line, yes)) => match write_all(sink, line.as_bytes()) {
-            Ok(()) => u8::from(!yes),
-            Err(_) => 4,
-        },
-        Err(Status(number)) => number,
-    }
-}
-
-// The words after the program's name, or the status where they cannot be had.
-fn words_after_name<R: Env + AllocGlobal>(rt: &R) -> Result<Vec<String>, Status> {
+// The words after the program's name, or why they cannot be had.
+fn words_after_name<R: Env + AllocGlobal>(rt: &R) -> Result<Vec<String>, NoAnswer> {
     let alloc = rt.alloc();
     match env::args(rt) {
         Ok(args) => Ok(args.skip(1).collect(alloc)?),
-        Err(e) if e.kind() == ErrorKind::OutOfMemory => Err(Status(5)),
-        Err(_) => Err(Status(2)),
+        Err(e) if e.kind() == ErrorKind::OutOfMemory => Err(NoAnswer::Memory),
+        Err(_) => Err(NoAnswer::BadWords),
     }
 }
 
@@ -119,9 +40,9 @@ fn main(rt: HostRuntime) -> ExitCode {
     let mut source = StdSource::new(rt.stdin());
     let mut sink = StdSink::new(rt.stdout());
     let mut store = DirStore::new(&rt);
-    let answer = match words_after_name(&rt) {
-        Ok(words) => answered(alloc, &words, &mut source, &mut store),
-        Err(status) => Err(status),
+    let status = match words_after_name(&rt) {
+        Ok(words) => checker(alloc, &words, &mut source, &mut sink, &mut store),
+        Err(why) => why.status(),
     };
-    ExitCode::from(told(&mut sink, answer))
+    ExitCode::from(status.number())
 }
