@@ -20,7 +20,7 @@ use Rattle.pm_incidence.specs.Thinning.{IsFacetsFail, IsThinFail, IsWideReductio
 use Rattle.pm_incidence.specs.declared.fails.ThinFail.{ThinFail}
 use Rattle.pm_incidence.specs.declared.fails.ThinFail.TheVariants as thinning
 use Rattle.pm_elim.specs.EliminationSteps.{EliminationStep}
-use Rattle.pm_hull.specs.HullRefusals.{IsShownOnParts}
+use Rattle.pm_dd.specs.HullRefusals.{IsShownOnParts}
 use Rattle.pm_object.specs.Reading.{ViewSeen}
 use Rattle.pm_standard.specs.Table.{standard_kind}
 use Rattle.pm_props.specs.Properties.{is_generator, is_half_space}

@@ -4,6 +4,7 @@ pub mod ReadValues
 pub mod ReadRows
 pub mod Pairs
 pub mod ViewLaws
+pub mod Polytopes
 pub mod Failing
 pub mod Drafts
 pub mod Puts

@@ -26,7 +26,7 @@ use Rattle.pm_geom.specs.Graphs.{sets_of}
 use Rattle.pm_geom.specs.Meets.{AreTooManyMeets}
 use Rattle.pm_geom.specs.RayEvidence.{IsCrowded, IsWidePair}
 use Rattle.pm_geom.specs.StatedOrder.{rows_marked}
-use Rattle.pm_hull.specs.HullRefusals.{IsDoubleList}
+use Rattle.pm_dd.specs.HullRefusals.{IsDoubleList}
 use Rattle.pm_object_type.specs.declared.object_type.ObjectType.{ObjectType}
 use Rattle.pm_object_type.specs.declared.object_type.ObjectType.TheVariants.{Polytope}
 use Rattle.pm_geom.specs.declared.evidence.Evidence.{Evidence}

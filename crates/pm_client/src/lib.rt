@@ -6,9 +6,9 @@ ghost use Rattle.pm_client.specs.Sound.{FailsRightly, IsSound};
 ghost use Rattle.pm_client.specs.Starts.{started_once};
 ghost use Rattle.std.specs.Prelude.{IfErr, OnOk, [], ℕ, ◌≡◌};
 
+use pm_dd::DdFail;
 use pm_elim::ElimFail;
 use pm_geom::Evidence;
-use pm_hull::DdFail;
 use pm_incidence::{IncFail, ThinFail};
 use pm_lattice::LatticeFail;
 use pm_object::{Draft, View};

@@ -71,12 +71,12 @@ pub fn counts_of<'b>(view: &'b View<'_>, p: PropId) -> &'b Counts
     found
 }
 
-/// The neighbours of each node of a source whose values are edges.
+/// The neighbours of each node of a source whose values are edges, and the number of nodes.
 pub fn edges_of<'b>(view: &'b View<'_>, p: PropId) -> &'b Sets
     requires source { IsTrue (has view.now.kind.sources p) }
     requires edges { IsTrue (is_of_edges (value_kind p)) }
-    ensures value { fact_of p view.now.facts ≡ Some (edges result.now.rows) }
-    ensures forms { FormsIn view.now.of view.now.cols p (edges result.now.rows) }
+    ensures value { fact_of p view.now.facts ≡ Some (edges result.now.rows result.now.cols) }
+    ensures forms { FormsIn view.now.of view.now.cols p (edges result.now.rows result.now.cols) }
 {
     let Some(Value::Edges(found)) = view.value(p) else {
         unreachable!()

@@ -3,12 +3,10 @@ use Rattle.pm_vector.proofs.Lists.{All_among, Among, among_All, here, there}
 use Rattle.pm_vector.specs.Numbers.{InRange, IsReduced, Ratio}
 use Rattle.pm_vector.specs.Rows.{IsZero, Row, entry, ratio_at}
 use Rattle.pm_client.specs.Examples.{no_rows, single}
-use Rattle.pm_clients_geom.specs.Examples.{HullsAreRead, MatricesAreRead, RaysAreRead, ThinnedAreRead, drafted, far_second, one_half, two_one}
+use Rattle.pm_clients_geom.specs.Examples.{HullsAreRead, MatricesAreRead, RaysAreRead, ThinnedAreRead, drafted, one_half, two_one}
 use Rattle.pm_clients_geom.specs.Hulls.{AreFewRows, ArePossible}
 use Rattle.pm_clients_geom.specs.Lists.{ReadsParts}
 use Rattle.pm_clients_geom.specs.Matrices.{AreNotZero, AreRays, MayBeLines, MayBeRays}
-use Rattle.pm_clients_geom.specs.Places.{AreZeroPlaces}
-use Rattle.pm_clients_geom.proofs.ZeroPlaces.{no_places, place_left, place_more}
 use Rattle.pm_clients_geom.specs.Rays.{IsOverFirst, IsPutRay}
 use Rattle.pm_fraction.proofs.Quotients.{whole_reduced}
 use Rattle.pm_fraction.proofs.Reduced.{reduced_from}
@@ -21,10 +19,9 @@ use Rattle.pm_object_type.specs.declared.object_type.ObjectType.{ObjectType}
 use Rattle.std.proofs.Common.{ap, arith, false, inl, inr, lit<, lit≤, refl, suc, sym, true, true≢false, zero}
 use Rattle.std.proofs.lemmas.Int.{ints}
 use Rattle.std.proofs.lemmas.List.Elements.{All-cons, All-nil}
-use Rattle.std.specs.List.{All, Contains}
-use Rattle.std.proofs.lemmas.List.{length-map}
+use Rattle.std.specs.List.{All}
 use Rattle.std.specs.Option.{is_some}
-use Rattle.std.specs.Prelude.{Bool, List, [], length, map, ℕ, ◌<◌, ◌∷◌, ◌≡◌}
+use Rattle.std.specs.Prelude.{Bool, List, [], length, ℕ, ◌<◌, ◌∷◌, ◌≡◌}
 use lib.IntN.{negsuc, pos}
 use lib.Signed.{◌≤ℤ◌}
 
@@ -85,22 +82,6 @@ divided = record { some = omega arith; in_range = two_one_range; before = λ p. 
 halved : one_half ≡ ratios two_one → ⊥
 halved e = let k : pos 1 ≡ pos 2 = ap (λ (r : List Ratio). (ratio_at r 0).num) e in omega (arith, ints)
 
--- ---- far rays
-far : AreZeroPlaces far_second 2 (pos 1 ∷ [])
-far = place_more far_second 1 [] (place_left far_second 0 [] (no_places far_second) not_one) (pos 1 ∷ []) refl (omega arith) refl
-
-not_none : ¬ (AreZeroPlaces far_second 2 [])
-not_none a =
-    let held = (a.zero 1).1 (omega arith, refl) in
-    let l = held.1 in
-    let e : 0 ≡ length (map pos a.js) = ap length a.places in
-    let m = length-map a.js pos in
-    absurd (omega arith)
-
-first_held : (js : List ℕ) → pos 0 ∷ pos 1 ∷ [] ≡ map pos js → Contains js 0
-first_held [] e = absurd (let l : 2 ≡ 0 = ap length e in omega arith)
-first_held (j ∷ js) e = (0, omega arith, cc)
-
 pub rays_are_read : RaysAreRead
 rays_are_read = record {
   over_first = over_first;
@@ -111,9 +92,6 @@ rays_are_read = record {
   not_of_a_cone = λ h. halved (h.whole (λ w. true≢false (sym (ap is_polytope w.0))));
   rows = (divided, tt);
   too_few = λ h. h;
-  far = far;
-  not_none = not_none;
-  not_the_first = λ a. not_one ((a.zero 0).0 (first_held a.js a.places)).1;
 }
 
 -- ---- hulls

@@ -25,7 +25,7 @@ use Rattle.pm_elim.proofs.PrefixLaws.{at_most_columns}
 use Rattle.pm_geom.specs.Cones.{IsExtreme, IsValid}
 use Rattle.pm_geom.specs.Generators.{AreGenerators}
 use Rattle.pm_geom.specs.Things.{Orders}
-use Rattle.pm_hull.specs.Hulls.{AreFacets, InConeOf, half_spaces_of}
+use Rattle.pm_dd.specs.Hulls.{AreFacets, InConeOf, half_spaces_of}
 use Rattle.pm_dd.specs.Fronts.{HalfSpaces}
 use Rattle.pm_matrix.specs.Matrices.{FractionMatrix, IsFraction}
 use Rattle.pm_object.specs.Reading.{DraftSeen, IsView, Put, ViewSeen}

@@ -4,7 +4,6 @@ use Rattle.pm_vector.specs.Rows.{Row}
 use Rattle.pm_client.specs.Examples.{no_rows, single}
 use Rattle.pm_clients_geom.specs.Hulls.{AreFewRows, ArePossible, ArePutGenerators, FindsFacets, MayGenerate}
 use Rattle.pm_clients_geom.specs.Lists.{ReadsParts}
-use Rattle.pm_clients_geom.specs.Places.{AreZeroPlaces}
 use Rattle.pm_clients_geom.specs.Thinned.{ArePossibleFacets, ArePossibleRays, ArePutFacets}
 use Rattle.pm_clients_geom.specs.Rays.{ArePutRays, IsOverFirst, IsPutRay}
 use Rattle.pm_object.specs.Reading.{DraftSeen, Put}
@@ -15,7 +14,7 @@ use Rattle.pm_clients_geom.specs.Matrices.{AreNotZero, AreRays, MayBeLines, MayB
 use Rattle.pm_object_type.specs.declared.object_type.ObjectType.TheVariants.{Cone, Polytope}
 use Rattle.pm_types.specs.Views.{over_one, ratios}
 use Rattle.pm_standard.specs.declared.standard.StandardClient.TheVariants as client
-use Rattle.std.specs.Prelude.{List, [], false, ◌∷◌, ◌≡◌}
+use Rattle.std.specs.Prelude.{List, [], ◌∷◌, ◌≡◌}
 use lib.IntN.{negsuc, pos}
 
 -- the row (1, 2) of fractions
@@ -42,10 +41,6 @@ two_one = pos 2 ∷ pos 1 ∷ []
 abbrev pub one_half : List Ratio
 one_half = over_one (pos 1) ∷ record { num = pos 1; den = pos 2 } ∷ []
 
--- the rays (1, 2) and (0, 1)
-abbrev pub far_second : List (List Ratio)
-far_second = one_two ∷ ratios (pos 0 ∷ pos 1 ∷ []) ∷ []
-
 pub record RaysAreRead : Type 0 where
   -- of a polytope a ray is divided by its first entry, of a cone it stays
   pub over_first : IsOverFirst two_one one_half
@@ -57,10 +52,6 @@ pub record RaysAreRead : Type 0 where
   -- the rows stand in the order of the rays
   pub rows : ArePutRays Polytope (one_half ∷ []) (two_one ∷ [])
   pub too_few : ¬ (ArePutRays Polytope [] (two_one ∷ []))
-  -- of two rays the second is far
-  pub far : AreZeroPlaces far_second 2 (pos 1 ∷ [])
-  pub not_none : ¬ (AreZeroPlaces far_second 2 [])
-  pub not_the_first : ¬ (AreZeroPlaces far_second 2 (pos 0 ∷ pos 1 ∷ []))
 
 -- a draft for the view without rows
 abbrev pub drafted : List Put → DraftSeen

@@ -26,6 +26,13 @@ pub record FindsFacets (kind : Kind) (first second : PropId) : Type 0 where
   pub doubles : IsTrue (has_way kind.name doubling)
   pub lists : eliminated_by kind.name ≡ first_part ∷ double_list ∷ enlarging_rows ∷ []
 
+-- a client of the kind does double description, and finds VERTICES and LINEALITY_SPACE from equations and half-spaces
+pub record FindsRays (kind : Kind) (first second : PropId) : Type 0 where
+  pub targets : kind.targets ≡ set_of (Vertices ∷ LinealitySpace ∷ [])
+  pub sources : kind.sources ≡ set_of (second ∷ first ∷ [])
+  pub doubles : IsTrue (has_way kind.name doubling)
+  pub lists : eliminated_by kind.name ≡ first_part ∷ double_list ∷ enlarging_rows ∷ []
+
 -- few rows of n entries
 pub record AreFewRows (n : ℕ) (X : List Row) : Type 0 where
   pub cols : HasCols n X

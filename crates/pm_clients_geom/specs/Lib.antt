@@ -8,7 +8,6 @@ pub mod Hulls
 pub mod PlacedRays
 pub mod Thinned
 pub mod Pairs
-pub mod Places
 pub mod Redundancy
 pub mod Points
 pub mod Laws

@@ -8,7 +8,7 @@ use Rattle.pm_client.specs.declared.ClientFail.TheVariants.{Failed, Memory}
 use Rattle.pm_clients_geom.specs.Lists.{ReadsParts}
 use Rattle.pm_geom.specs.Graphs.{IsAscending}
 use Rattle.pm_geom.specs.Triangulations.{IsTriangulation}
-use Rattle.pm_hull.specs.Hulls.{AreFacets}
+use Rattle.pm_dd.specs.Hulls.{AreFacets}
 use Rattle.pm_object.specs.Reading.{ViewSeen}
 use Rattle.pm_props.specs.Properties.{is_generator}
 use Rattle.pm_props.specs.Sets.{set_of}

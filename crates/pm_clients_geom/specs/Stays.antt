@@ -16,7 +16,7 @@ use Rattle.pm_props.specs.declared.property.PropId.{PropId}
 use Rattle.pm_types.specs.Values.{matrix}
 use Rattle.std.specs.Prelude.{List, Some, ℕ, ◌≡◌}
 
--- where a client answers that finds a dimension, the elimination of its row list never leaves the range; a client that eliminates nothing has no such list
+-- where a client answers that finds a dimension, the elimination of its row list never leaves the range; a client that eliminates nothing has no such list, and a wide one answers also where it does
 abbrev pub DimStays : DimWork → ViewSeen → Type 0
 DimStays dimension.ConeDimV v = StaysInRange v LinealitySpace Vertices list.Rows
 DimStays dimension.ConeDimPoints v = StaysInRange v InputLineality Points list.Rows
@@ -26,6 +26,8 @@ DimStays w v = Unit {0}
 abbrev pub DimFails : DimWork → ViewSeen → ClientFail → Type 0
 DimFails dimension.ConeDimV v e = FailsRightly v e × EliminatesRows e
 DimFails dimension.ConeDimPoints v e = FailsRightly v e × EliminatesRows e
+DimFails dimension.ConeDimVWide v e = FailsRightly v e
+DimFails dimension.ConeDimPointsWide v e = FailsRightly v e
 DimFails w v e = e ≡ Memory
 
 -- what is put of q are the rows of p that are read, each once and in their order

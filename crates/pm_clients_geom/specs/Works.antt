@@ -11,10 +11,6 @@ use Rattle.pm_clients_geom.specs.declared.rows.RowsWork.{RowsWork}
 use Rattle.pm_clients_geom.specs.declared.rows.RowsWork.TheVariants as rows
 use Rattle.pm_clients_geom.specs.declared.dims.DimWork.{DimWork}
 use Rattle.pm_clients_geom.specs.declared.dims.DimWork.TheVariants as dimension
-use Rattle.pm_clients_geom.specs.declared.sizes.SizeWork.{SizeWork}
-use Rattle.pm_clients_geom.specs.declared.sizes.SizeWork.TheVariants as size
-use Rattle.pm_clients_geom.specs.declared.truths.TestWork.{TestWork}
-use Rattle.pm_clients_geom.specs.declared.truths.TestWork.TheVariants as truth
 use Rattle.pm_standard.specs.declared.standard.StandardClient.{StandardClient}
 use Rattle.pm_standard.specs.declared.standard.StandardClient.TheVariants as client
 
@@ -24,6 +20,10 @@ hull_client hull.DdVertices = client.DdVertices
 hull_client hull.DdFacets = client.DdFacets
 hull_client hull.DdFacetsV = client.DdFacetsV
 hull_client hull.DdVerticesF = client.DdVerticesF
+hull_client hull.DdVerticesWide = client.DdVerticesWide
+hull_client hull.DdFacetsWide = client.DdFacetsWide
+hull_client hull.DdFacetsVWide = client.DdFacetsVWide
+hull_client hull.DdVerticesFWide = client.DdVerticesFWide
 
 -- of those that place rays
 abbrev pub place_client : PlaceWork → StandardClient
@@ -58,19 +58,5 @@ dimension_client dimension.ConeDimSpan = client.ConeDimSpan
 dimension_client dimension.ConeDimPoints = client.ConeDimPoints
 dimension_client dimension.LinealityDim = client.LinealityDim
 dimension_client dimension.CombinatorialDim = client.CombinatorialDim
-
--- of those that count rays or facets, or list rays
-abbrev pub size_client : SizeWork → StandardClient
-size_client size.NVertices = client.NVertices
-size_client size.NVerticesSets = client.NVerticesSets
-size_client size.NFacets = client.NFacets
-size_client size.NFacetsSets = client.NFacetsSets
-size_client size.FarFace = client.FarFace
-
--- of those that find a truth value
-abbrev pub truth_client : TestWork → StandardClient
-truth_client truth.Feasible = client.Feasible
-truth_client truth.Bounded = client.Bounded
-truth_client truth.Pointed = client.Pointed
-truth_client truth.FullDim = client.FullDim
-truth_client truth.Centered = client.Centered
+dimension_client dimension.ConeDimVWide = client.ConeDimVWide
+dimension_client dimension.ConeDimPointsWide = client.ConeDimPointsWide

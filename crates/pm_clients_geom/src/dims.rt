@@ -4,21 +4,25 @@ ghost use Rattle.pm_client.specs.Sound.{EliminatesRows, FailsRightly, IsSound, a
 ghost use Rattle.pm_client.specs.declared.ClientFail.TheVariants.{Memory};
 ghost use Rattle.pm_clients_geom.specs.Lists.{StaysInRange};
 ghost use Rattle.pm_clients_geom.specs.Ranks.{IsListRank};
+ghost use Rattle.pm_elim.specs.Evidence.{IfWide, IsEvidence};
 ghost use Rattle.pm_elim.specs.declared.evidence.ElimList.TheVariants as list;
 ghost use Rattle.pm_object.specs.Reading.{IsView};
 ghost use Rattle.pm_standard.specs.Table.{standard_kind};
 ghost use Rattle.pm_props.specs.Sets.{has};
 ghost use Rattle.pm_props.specs.declared.property.PropId.TheVariants as property;
 ghost use Rattle.pm_standard.specs.declared.standard.StandardClient.TheVariants as client;
-ghost use Rattle.std.specs.Prelude.{Contains, IfErr, IfOk, IsTrue, OnOk, [], ◌≡◌, ◌≤◌, map, ◌∷◌};
+ghost use Rattle.pm_vector.specs.Bases.{IsRank};
+ghost use Rattle.pm_vector.specs.Rows.{HasCols};
+ghost use Rattle.std.specs.Prelude.{Contains, IfErr, IfOk, IsTrue, OnOk, [], length, ◌<◌, ◌^◌, ◌≡◌, ◌≤◌, map, ◌∷◌};
 
 use crate::lists::row_list;
 use pm_client::{ClientFail, matrix_of, put_value, whole_of};
-use pm_elim::rank;
+use pm_elim::{ElimFail, rank, wide_rank};
 use pm_family::{Family, FamilyClient};
 use pm_object::{Draft, View};
 use pm_standard::StandardClient;
 use pm_types::{PropId, Value};
+use pm_vector::Ints;
 use std::alloc::Global;
 
 /// The works of the clients that find a dimension.
@@ -29,12 +33,14 @@ pub enum DimWork {
     ConeDimPoints,
     LinealityDim,
     CombinatorialDim,
+    ConeDimVWide,
+    ConeDimPointsWide,
 }
 
 impl DimWork {
     ghost use Rattle.pm_clients_geom.specs.Works.{dimension_client};
 
-    /// All of them, in the order of the standard book.
+    /// Those of the standard clients, in the order of the standard book.
     pub fn every() -> [DimWork; 5]
         ensures { map dimension_client result ≡ client.ConeDimV ∷ client.ConeDimSpan ∷ client.ConeDimPoints ∷ client.LinealityDim ∷ client.CombinatorialDim ∷ [] }
     {
@@ -46,14 +52,21 @@ impl DimWork {
             Self::CombinatorialDim,
         ]
     }
+
+    /// Those of the clients that answer by wide numbers, in the order of their rules.
+    pub fn wide() -> [DimWork; 2]
+        ensures { map dimension_client result ≡ client.ConeDimVWide ∷ client.ConeDimPointsWide ∷ [] }
+    {
+        [Self::ConeDimVWide, Self::ConeDimPointsWide]
+    }
 }
 
-/// The standard clients that find a dimension.
+/// The clients that find a dimension.
 #[derive(Debug, Drop)]
 pub struct DimFamily;
 
 /// A client that finds a dimension. `cone_dim_v` and `cone_dim_points` fail exactly where the rank of their row list is
-/// Wide, the others never.
+/// Wide, and the wide ones of these only there; the others never.
 pub type DimClient = FamilyClient<DimFamily>;
 
 impl Family for DimFamily {
@@ -75,6 +88,8 @@ impl Family for DimFamily {
             DimWork::ConeDimPoints => StandardClient::ConeDimPoints,
             DimWork::LinealityDim => StandardClient::LinealityDim,
             DimWork::CombinatorialDim => StandardClient::CombinatorialDim,
+            DimWork::ConeDimVWide => StandardClient::ConeDimVWide,
+            DimWork::ConeDimPointsWide => StandardClient::ConeDimPointsWide,
         }
     }
 
@@ -90,6 +105,8 @@ impl Family for DimFamily {
             DimWork::ConeDimPoints => cone_dim_points(alloc, view, draft),
             DimWork::LinealityDim => lineality_dim(view, draft),
             DimWork::CombinatorialDim => combinatorial_dim(view, draft),
+            DimWork::ConeDimVWide => cone_dim_v_wide(alloc, view, draft),
+            DimWork::ConeDimPointsWide => cone_dim_points_wide(alloc, view, draft),
         }
     }
 }
@@ -160,6 +177,75 @@ fn cone_dim_points(alloc: Global, view: &View, draft: &mut Draft) -> Result<(), 
     ensures fails { IfErr result (λ e. FailsRightly view.now e × EliminatesRows e) }
 {
     let dim = rank_of_list(alloc, view, PropId::InputLineality, PropId::Points)?;
+    put_value(draft, PropId::ConeDim, Value::Int(dim as i64))?;
+    Ok(())
+}
+
+// The rank of rows, by wide numbers where those of the range do not suffice. A refusal is that of the range alone.
+fn any_rank(alloc: Global, rows: &[Ints], cols: usize) -> Result<usize, ElimFail>
+    requires columns { HasCols cols rows.now }
+    requires few_rows { length rows.now < 2 ^ 30 }
+    requires few_columns { cols < 2 ^ 30 }
+    ensures rank { IfOk result (λ k. IsRank rows.now k) }
+    ensures wide { IfErr result (λ f. IfWide f (λ e. IsEvidence cols rows.now e)) }
+{
+    let fail = match rank(alloc, rows, cols) {
+        Ok(k) => return Ok(k),
+        Err(fail) => fail,
+    };
+    match wide_rank(alloc, rows, cols) {
+        Ok(k) => Ok(k),
+        Err(_) => Err(fail),
+    }
+}
+
+// The same of the row list of two parts, to which nothing is added. It fails for want of memory, or where the
+// elimination of the list leaves the range.
+fn any_rank_of_list(
+    alloc: Global,
+    view: &View,
+    first: PropId,
+    second: PropId,
+) -> Result<usize, ClientFail>
+    requires first { IsTrue (has view.now.kind.sources first) }
+    requires second { IsTrue (has view.now.kind.sources second) }
+    requires parts { IsTrue (are_parts first second) }
+    requires nothing_added { added_rows view.now.of view.now.cols second ≡ [] }
+    requires eliminates { Contains (eliminated_by view.now.kind.name) whole_list }
+    ensures rank { IfOk result (λ k. IsListRank view.now first second k) }
+    ensures few { IfOk result (λ k. k ≤ 4096) }
+    ensures view { OnOk result (IsView view.now) }
+    ensures failed { IfErr result (FailsRightly view.now) }
+{
+    let rows = row_list(alloc, view, first, second)?;
+    let found = any_rank(alloc, &rows, view.cols())?;
+    Ok(found)
+}
+
+// CONE_DIM: the rank of the rows of LINEALITY_SPACE and VERTICES, by wide numbers where those of the range do not
+// suffice.
+fn cone_dim_v_wide(alloc: Global, view: &View, draft: &mut Draft) -> Result<(), ClientFail>
+    requires kind { view.now.kind ≡ standard_kind client.ConeDimVWide }
+    requires empty { draft.old ≡ record { kind = view.now.kind; values = [] } }
+    ensures draft { draft.new.kind ≡ draft.old.kind }
+    ensures sound { OnOk result (IsSound view.now draft.new) }
+    ensures failed { IfErr result (FailsRightly view.now) }
+{
+    let dim = any_rank_of_list(alloc, view, PropId::LinealitySpace, PropId::Vertices)?;
+    put_value(draft, PropId::ConeDim, Value::Int(dim as i64))?;
+    Ok(())
+}
+
+// CONE_DIM: the rank of the rows of INPUT_LINEALITY and POINTS, by wide numbers where those of the range do not
+// suffice.
+fn cone_dim_points_wide(alloc: Global, view: &View, draft: &mut Draft) -> Result<(), ClientFail>
+    requires kind { view.now.kind ≡ standard_kind client.ConeDimPointsWide }
+    requires empty { draft.old ≡ record { kind = view.now.kind; values = [] } }
+    ensures draft { draft.new.kind ≡ draft.old.kind }
+    ensures sound { OnOk result (IsSound view.now draft.new) }
+    ensures failed { IfErr result (FailsRightly view.now) }
+{
+    let dim = any_rank_of_list(alloc, view, PropId::InputLineality, PropId::Points)?;
     put_value(draft, PropId::ConeDim, Value::Int(dim as i64))?;
     Ok(())
 }

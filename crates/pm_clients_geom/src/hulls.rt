@@ -1,21 +1,19 @@
 // The clients of double description: one description of a thing from the other.
 
-ghost use Rattle.pm_vector.specs.Rows.{HasCols};
 ghost use Rattle.pm_client.specs.Sound.{FailsRightly, IsSound, are_parts};
 ghost use Rattle.pm_client.specs.declared.ClientFail.TheVariants.{Memory};
-ghost use Rattle.pm_clients_geom.specs.Hulls.{AreFewRows, ArePossible, ArePutGenerators, FindsFacets};
+ghost use Rattle.pm_clients_geom.specs.Hulls.{AreFewRows, ArePossible, ArePutGenerators, FindsFacets, FindsRays};
 ghost use Rattle.pm_clients_geom.specs.Lists.{ReadsParts};
-ghost use Rattle.pm_standard.specs.Table.{standard_kind};
 ghost use Rattle.pm_props.specs.Sets.{has, set_of};
 ghost use Rattle.pm_props.specs.declared.property.PropId.TheVariants as property;
 ghost use Rattle.pm_standard.specs.declared.standard.StandardClient.TheVariants as client;
-ghost use Rattle.std.specs.Prelude.{IfErr, IfOk, IsTrue, OnOk, [], length, ◌∷◌, ◌≡◌, ◌≤◌, map};
+ghost use Rattle.std.specs.Prelude.{IfErr, IfOk, IsTrue, OnOk, [], ◌∷◌, ◌≡◌, map};
 
 use crate::rays::{are_rays, matrix_of_rays};
 use crate::rows::{matrix_over_one, may_be_lines};
 use pm_client::{ClientFail, matrix_of, primitive_rows, put_value};
+use pm_dd::{Generators, facets_of, generators_of};
 use pm_family::{Family, FamilyClient};
-use pm_hull::{Generators, to_facets, to_generators};
 use pm_object::{Draft, View};
 use pm_standard::StandardClient;
 use pm_types::{ObjectType, PropId, Value};
@@ -29,12 +27,16 @@ pub enum HullWork {
     DdFacets,
     DdFacetsV,
     DdVerticesF,
+    DdVerticesWide,
+    DdFacetsWide,
+    DdFacetsVWide,
+    DdVerticesFWide,
 }
 
 impl HullWork {
     ghost use Rattle.pm_clients_geom.specs.Works.{hull_client};
 
-    /// All of them, in the order of the standard book.
+    /// Those of the standard clients, in the order of the standard book.
     pub fn every() -> [HullWork; 4]
         ensures { map hull_client result ≡ client.DdVertices ∷ client.DdFacets ∷ client.DdFacetsV ∷ client.DdVerticesF ∷ [] }
     {
@@ -45,14 +47,27 @@ impl HullWork {
             Self::DdVerticesF,
         ]
     }
+
+    /// Those of the clients that answer by wide numbers, in the order of their rules.
+    pub fn wide() -> [HullWork; 4]
+        ensures { map hull_client result ≡ client.DdVerticesWide ∷ client.DdFacetsWide ∷ client.DdFacetsVWide ∷ client.DdVerticesFWide ∷ [] }
+    {
+        [
+            Self::DdVerticesWide,
+            Self::DdFacetsWide,
+            Self::DdFacetsVWide,
+            Self::DdVerticesFWide,
+        ]
+    }
 }
 
-/// The standard clients of double description.
+/// The clients of double description.
 #[derive(Debug, Drop)]
 pub struct HullFamily;
 
 /// A client of double description. It fails for want of memory, where a step leaves the range, and where a cone on the
-/// way has too many extreme rays.
+/// way has too many extreme rays. A wide one works a step that leaves the range by wide numbers, and where these do not
+/// suffice it fails as the standard one.
 pub type HullClient = FamilyClient<HullFamily>;
 
 impl Family for HullFamily {
@@ -73,6 +88,10 @@ impl Family for HullFamily {
             HullWork::DdFacets => StandardClient::DdFacets,
             HullWork::DdFacetsV => StandardClient::DdFacetsV,
             HullWork::DdVerticesF => StandardClient::DdVerticesF,
+            HullWork::DdVerticesWide => StandardClient::DdVerticesWide,
+            HullWork::DdFacetsWide => StandardClient::DdFacetsWide,
+            HullWork::DdFacetsVWide => StandardClient::DdFacetsVWide,
+            HullWork::DdVerticesFWide => StandardClient::DdVerticesFWide,
         }
     }
 
@@ -83,14 +102,42 @@ impl Family for HullFamily {
         draft: &mut Draft,
     ) -> Result<(), ClientFail> {
         match work {
-            HullWork::DdVertices => dd_vertices(alloc, view, draft),
-            HullWork::DdFacets => {
-                dd_facets(alloc, view, draft, PropId::InputLineality, PropId::Points)
-            }
-            HullWork::DdFacetsV => {
-                dd_facets(alloc, view, draft, PropId::LinealitySpace, PropId::Vertices)
-            }
-            HullWork::DdVerticesF => dd_vertices_f(alloc, view, draft),
+            HullWork::DdVertices => dd_vertices(alloc, view, draft, false),
+            HullWork::DdVerticesWide => dd_vertices(alloc, view, draft, true),
+            HullWork::DdFacets => dd_facets(
+                alloc,
+                view,
+                draft,
+                PropId::InputLineality,
+                PropId::Points,
+                false,
+            ),
+            HullWork::DdFacetsWide => dd_facets(
+                alloc,
+                view,
+                draft,
+                PropId::InputLineality,
+                PropId::Points,
+                true,
+            ),
+            HullWork::DdFacetsV => dd_facets(
+                alloc,
+                view,
+                draft,
+                PropId::LinealitySpace,
+                PropId::Vertices,
+                false,
+            ),
+            HullWork::DdFacetsVWide => dd_facets(
+                alloc,
+                view,
+                draft,
+                PropId::LinealitySpace,
+                PropId::Vertices,
+                true,
+            ),
+            HullWork::DdVerticesF => dd_vertices_f(alloc, view, draft, false),
+            HullWork::DdVerticesFWide => dd_vertices_f(alloc, view, draft, true),
         }
     }
 }
@@ -136,6 +183,7 @@ fn dd_facets(
     draft: &mut Draft,
     first: PropId,
     second: PropId,
+    wide: bool,
 ) -> Result<(), ClientFail>
     requires kind { FindsFacets view.now.kind first second }
     requires empty { draft.old ≡ record { kind = view.now.kind; values = [] } }
@@ -144,7 +192,7 @@ fn dd_facets(
     ensures failed { IfErr result (FailsRightly view.now) }
 {
     let parts = read_parts(alloc, view, first, second)?;
-    let found = to_facets(alloc, view.cols(), &parts.second, &parts.first)?;
+    let found = facets_of(alloc, view.cols(), &parts.second, &parts.first, wide)?;
     let facets = matrix_over_one(alloc, &found.facets, view.cols())?;
     let hull = matrix_over_one(alloc, &found.hull, view.cols())?;
     put_value(draft, PropId::Facets, Value::Mat(facets))?;
@@ -153,8 +201,8 @@ fn dd_facets(
 }
 
 // VERTICES and LINEALITY_SPACE: all extreme rays of what INEQUALITIES and EQUATIONS describe, and its lineality.
-fn dd_vertices(alloc: Global, view: &View, draft: &mut Draft) -> Result<(), ClientFail>
-    requires kind { view.now.kind ≡ standard_kind client.DdVertices }
+fn dd_vertices(alloc: Global, view: &View, draft: &mut Draft, wide: bool) -> Result<(), ClientFail>
+    requires kind { FindsRays view.now.kind property.Equations property.Inequalities }
     requires empty { draft.old ≡ record { kind = view.now.kind; values = [] } }
     ensures draft { draft.new.kind ≡ draft.old.kind }
     ensures sound { OnOk result (IsSound view.now draft.new) }
@@ -162,26 +210,39 @@ fn dd_vertices(alloc: Global, view: &View, draft: &mut Draft) -> Result<(), Clie
 {
     prove!(view.of() != ObjectType::Fan);
     let parts = read_parts(alloc, view, PropId::Equations, PropId::Inequalities)?;
-    let found = to_generators(alloc, view.of(), view.cols(), &parts.second, &parts.first)?;
+    let found = generators_of(
+        alloc,
+        view.of(),
+        view.cols(),
+        &parts.second,
+        &parts.first,
+        wide,
+    )?;
     put_generators(alloc, view, draft, found)?;
     Ok(())
 }
 
 // VERTICES and LINEALITY_SPACE: all extreme rays of what FACETS and AFFINE_HULL cut out, and its lineality.
-fn dd_vertices_f(alloc: Global, view: &View, draft: &mut Draft) -> Result<(), ClientFail>
-    requires kind { view.now.kind ≡ standard_kind client.DdVerticesF }
+fn dd_vertices_f(
+    alloc: Global,
+    view: &View,
+    draft: &mut Draft,
+    wide: bool,
+) -> Result<(), ClientFail>
+    requires kind { FindsRays view.now.kind property.AffineHull property.Facets }
     requires empty { draft.old ≡ record { kind = view.now.kind; values = [] } }
     ensures draft { draft.new.kind ≡ draft.old.kind }
     ensures sound { OnOk result (IsSound view.now draft.new) }
     ensures failed { IfErr result (FailsRightly view.now) }
 {
     let parts = read_parts(alloc, view, PropId::AffineHull, PropId::Facets)?;
-    let found = to_generators(
+    let found = generators_of(
         alloc,
         ObjectType::Cone,
         view.cols(),
         &parts.second,
         &parts.first,
+        wide,
     )?;
     put_generators(alloc, view, draft, found)?;
     Ok(())

@@ -1,4 +1,4 @@
-//! Clients that find dimensions, counts, truth values, null spaces, and one description from its twin, from the other by
+//! Clients that find dimensions, null spaces, and one description from its twin, from the other by
 //! double description or by placing rays, from both by thinning, from itself by linear programs, or from sets of incidences; and whether a polytope has a point.
 #![tactic(auto)]
 
@@ -7,7 +7,6 @@ ghost use Rattle.pm_clients_geom.specs.RedundancyExamples.{FailsAreRead, PointsA
 ghost use Rattle.pm_clients_geom.specs.Examples.{HullsAreRead, MatricesAreRead, RaysAreRead, ThinnedAreRead};
 
 mod dims;
-mod firsts;
 mod hulls;
 mod lists;
 mod placing;
@@ -15,9 +14,7 @@ mod points;
 mod rays;
 mod redundancy;
 mod rows;
-mod sizes;
 mod thinning;
-mod truths;
 
 pub use dims::{DimClient, DimWork};
 pub use hulls::{HullClient, HullWork};
@@ -25,9 +22,7 @@ pub use placing::{PlaceClient, PlaceWork};
 pub use points::has_point;
 pub use redundancy::{RedundancyClient, RedundancyWork};
 pub use rows::{RowsClient, RowsWork};
-pub use sizes::{SizeClient, SizeWork};
 pub use thinning::{ThinClient, ThinWork};
-pub use truths::{TestClient, TestWork};
 
 /// The definitions of matrices that are put, read on small ones.
 pub fn example_matrices()

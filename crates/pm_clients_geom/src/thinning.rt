@@ -14,8 +14,8 @@ use crate::hulls::{put_generators, read_parts};
 use crate::rays::{are_not_zero, are_rays, matrix_of_rays};
 use crate::rows::matrix_over_one;
 use pm_client::{ClientFail, put_value, sets_of};
+use pm_dd::{Facets, Generators};
 use pm_family::{Family, FamilyClient};
-use pm_hull::{Facets, Generators};
 use pm_incidence::{
     facets_by_incidence, facets_from_sets, vertices_by_incidence, vertices_from_sets,
 };

@@ -52,6 +52,10 @@ sets_below rows n form k d l =
     let each = AllPass-from_list_all (are_indices n 0) rows (index_sets rows n form).2 in
     All_among (λ j. j < n) (slice_index_or rows k d) (indices_below n 0 (slice_index_or rows k d) (each k d l))
 
+-- edges in their form have the number of their nodes
+pub edges_with_nodes : (rows : List (List ℕ)) (n : ℕ) → (is_edges_form rows && nat_eq n (length rows)) ≡ true → is_edges_form rows ≡ true
+edges_with_nodes rows n form = (and_parts (is_edges_form rows) (nat_eq n (length rows)) form).0
+
 pub sets_of_edges : (rows : List (List ℕ)) → is_edges_form rows ≡ true → is_sets_form rows (length rows) ≡ true
 sets_of_edges rows form = (and_parts (is_sets_form rows (length rows)) (are_joined_back rows 0 rows) form).0
 

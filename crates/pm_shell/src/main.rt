@@ -13,12 +13,12 @@ mod status;
 
 use pm_client::Client;
 use pm_clients_comb::{SetsClient, SetsWork};
+use pm_clients_counts::{SizeClient, SizeWork, TestClient, TestWork};
 use pm_clients_faces::{FaceClient, FacesWork};
 use pm_clients_fans::{FanClient, FanWork};
 use pm_clients_geom::{
     DimClient, DimWork, HullClient, HullWork, PlaceClient, PlaceWork, RedundancyClient,
-    RedundancyWork, RowsClient, RowsWork, SizeClient, SizeWork, TestClient, TestWork, ThinClient,
-    ThinWork,
+    RedundancyWork, RowsClient, RowsWork, ThinClient, ThinWork,
 };
 use pm_clients_graph::{GraphClient, GraphWork};
 use pm_clients_lift::{LiftClient, LiftWork};
@@ -65,10 +65,10 @@ fn words_after_name<R: Env + AllocGlobal>(rt: &R) -> Result<Vec<String>, Status>
     }
 }
 
-// Puts the clients of a family at the end of the list, each in a box; or ends the program for want of memory.
-macro_rules! box_all {
-    ($family:ident, $work:ident, $alloc:ident, $clients:ident) => {
-        for work in $work::every() {
+// Puts the clients of these works at the end of the list, each in a box; or ends the program for want of memory.
+macro_rules! box_each {
+    ($family:ident, $works:expr, $alloc:ident, $clients:ident) => {
+        for work in $works {
             let Ok(client) = Box::new($alloc, $family::new(work)) else {
                 return ExitCode::from(Status::OutOfMemory.number());
             };
@@ -76,6 +76,13 @@ macro_rules! box_all {
                 return ExitCode::from(Status::OutOfMemory.number());
             }
         }
+    };
+}
+
+// So with the standard clients of a family.
+macro_rules! box_all {
+    ($family:ident, $work:ident, $alloc:ident, $clients:ident) => {
+        box_each!($family, $work::every(), $alloc, $clients);
     };
 }
 
@@ -96,6 +103,8 @@ fn main(rt: HostRuntime) -> ExitCode {
     box_all!(FanClient, FanWork, alloc, clients);
     box_all!(PlaceClient, PlaceWork, alloc, clients);
     box_all!(LiftClient, LiftWork, alloc, clients);
+    box_each!(HullClient, HullWork::wide(), alloc, clients);
+    box_each!(DimClient, DimWork::wide(), alloc, clients);
     let mut source = StdSource::new(rt.stdin());
     let mut sink = StdSink::new(rt.stdout());
     let mut store = DirStore::new(&rt);

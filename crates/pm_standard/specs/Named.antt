@@ -1,8 +1,8 @@
 -- How the client of a rule may fail, by the rule's name.
-use Rattle.std.specs.Prelude.{ℕ, Bool, Option, None, Some, List, [], ◌∷◌, find}
+use Rattle.std.specs.Prelude.{ℕ, Bool, Option, None, Some, List, [], ◌∷◌, ◌++◌, find}
 use Rattle.std.specs.List.{flat_map, list_any}
 use Rattle.std.specs.Str.{bytes_eq}
-use Rattle.pm_standard.specs.Table.{standard_clients, standard_kind, table_row}
+use Rattle.pm_standard.specs.Table.{standard_clients, standard_kind, table_row, wide_clients}
 use Rattle.pm_standard.specs.Ways.{Eliminated, Way, eliminates, is_way}
 use Rattle.pm_standard.specs.declared.standard.StandardClient.{StandardClient}
 
@@ -12,7 +12,7 @@ ways_at (Some c) = (table_row c).ways
 
 -- the ways of the first row of this name
 abbrev pub ways_named : List ℕ → List Way
-ways_named name = ways_at (find (λ c. bytes_eq (standard_kind c).name name) standard_clients)
+ways_named name = ways_at (find (λ c. bytes_eq (standard_kind c).name name) (standard_clients ++ wide_clients))
 
 -- the row of this name has the way
 abbrev pub has_way : List ℕ → Way → Bool

@@ -1,4 +1,4 @@
--- The standard rules and their clients: what each finds, from what, and what it weighs.
+-- The rules that are shipped and their clients: what each finds, from what, and what it weighs.
 use Rattle.std.specs.Prelude.{ℕ, List, [], ◌∷◌, codes, map, ◌++◌}
 use Rattle.pm_props.specs.Kinds.{finding}
 use Rattle.pm_props.specs.Sets.{set_of}
@@ -31,7 +31,7 @@ where_true must r = record r { must = must }
 abbrev pub may_fail : List Way → RuleRow → RuleRow
 may_fail ways r = record r { ways = ways }
 
--- the standard rules: ways to fail, label, targets, sources, weight
+-- the rules: ways to fail, label, targets, sources, weight
 abbrev pub table_row : StandardClient → RuleRow
 table_row client.DdVertices = may_fail by_doubling (plain_rule (codes "dd_vertices") (Vertices ∷ LinealitySpace ∷ []) (Inequalities ∷ Equations ∷ []) 40)
 table_row client.DdFacets = may_fail by_doubling (plain_rule (codes "dd_facets") (Facets ∷ AffineHull ∷ []) (Points ∷ InputLineality ∷ []) 40)
@@ -98,6 +98,12 @@ table_row client.BbFacetsV = may_fail by_placing (plain_rule (codes "bb_facets_v
 table_row client.Placing = may_fail by_placing (plain_rule (codes "placing") (PlacingTriangulation ∷ []) (Vertices ∷ LinealitySpace ∷ []) 25)
 table_row client.RegularCells = may_fail (lifting ∷ []) (plain_rule (codes "regular_cells") (RegularCells ∷ []) (Sites ∷ SiteHeights ∷ []) 40)
 table_row client.Delaunay = may_fail (raising ∷ []) (plain_rule (codes "delaunay") (DelaunayCells ∷ []) (Sites ∷ []) 45)
+table_row client.DdVerticesWide = may_fail by_doubling (plain_rule (codes "dd_vertices_wide") (Vertices ∷ LinealitySpace ∷ []) (Inequalities ∷ Equations ∷ []) 41)
+table_row client.DdFacetsWide = may_fail by_doubling (plain_rule (codes "dd_facets_wide") (Facets ∷ AffineHull ∷ []) (Points ∷ InputLineality ∷ []) 41)
+table_row client.DdFacetsVWide = may_fail by_doubling (plain_rule (codes "dd_facets_v_wide") (Facets ∷ AffineHull ∷ []) (Vertices ∷ LinealitySpace ∷ []) 31)
+table_row client.DdVerticesFWide = may_fail by_doubling (plain_rule (codes "dd_vertices_f_wide") (Vertices ∷ LinealitySpace ∷ []) (Facets ∷ AffineHull ∷ []) 31)
+table_row client.ConeDimVWide = may_fail (eliminates row_list ∷ []) (plain_rule (codes "cone_dim_v_wide") (ConeDim ∷ []) (Vertices ∷ LinealitySpace ∷ []) 5)
+table_row client.ConeDimPointsWide = may_fail (eliminates row_list ∷ []) (plain_rule (codes "cone_dim_points_wide") (ConeDim ∷ []) (Points ∷ InputLineality ∷ []) 9)
 
 -- the rule that a row says: the kind of its client, which bears the label as its name, and the weight
 abbrev pub rule_in : RuleRow → StandardRule
@@ -106,7 +112,7 @@ rule_in r = record { kind = record (finding r.label r.targets r.sources) { must 
 abbrev pub standard_row : StandardClient → StandardRule
 standard_row c = rule_in (table_row c)
 
--- all of them, in the order of the standard book
+-- the standard ones, in the order of the standard book
 abbrev pub standard_clients : List StandardClient
 standard_clients =
     client.DdVertices ∷ client.DdFacets ∷ client.DdFacetsV ∷ client.DdVerticesF ∷ client.ThinPointsLp
@@ -123,9 +129,16 @@ standard_clients =
     ∷ client.FanDims ∷ client.FanDim ∷ client.FanPure ∷ client.FanSimplicial ∷ client.FanSize
     ∷ client.BbFacets ∷ client.BbFacetsV ∷ client.Placing ∷ client.RegularCells ∷ client.Delaunay ∷ []
 
+-- those whose clients answer by wide numbers where the numbers on the way leave the range: each has the targets, sources
+-- and ways to fail of the standard one of its name without "_wide", and weighs more
+abbrev pub wide_clients : List StandardClient
+wide_clients =
+    client.DdVerticesWide ∷ client.DdFacetsWide ∷ client.DdFacetsVWide ∷ client.DdVerticesFWide ∷ client.ConeDimVWide
+    ∷ client.ConeDimPointsWide ∷ []
+
 abbrev pub standard_kind : StandardClient → Kind
 standard_kind c = (standard_row c).kind
 
--- their kinds
+-- the standard kinds: those of the standard ones, and behind them those of the wide ones
 abbrev pub standard_kinds_list : List Kind
-standard_kinds_list = map standard_kind standard_clients
+standard_kinds_list = map standard_kind standard_clients ++ map standard_kind wide_clients

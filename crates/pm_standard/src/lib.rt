@@ -1,5 +1,6 @@
-//! The standard rules and their clients, a row of one table each, and the book of them. What a client does stands in the
-//! crates of clients: here are its label, what it finds from what, under which conditions, and what its rule weighs.
+//! The rules that are shipped and their clients, a row of one table each, and the book of the standard ones. What a
+//! client does stands in the crates of clients: here are its label, what it finds from what, under which conditions,
+//! and what its rule weighs.
 #![tactic(auto)]
 
 ghost use Rattle.pm_rules.specs.Books.{FirstKinds};

@@ -1,13 +1,14 @@
 // The standard rules and their clients.
 
-ghost use Rattle.pm_standard.specs.Table.{standard_clients, standard_kind, standard_kinds_list, standard_row, table_row};
-ghost use Rattle.std.specs.Prelude.{IfOk, length, nat_lt, true, ◌≡◌, ◌≤◌};
+ghost use Rattle.pm_standard.specs.Table.{standard_clients, standard_kind, standard_kinds_list, standard_row, table_row, wide_clients};
+ghost use Rattle.std.specs.Prelude.{IfOk, length, map, nat_lt, true, ◌≡◌, ◌≤◌};
 ghost use Rattle.std.specs.List.{list_all};
 
 use pm_props::{Kind, PropId, PropSet};
 use std::alloc::{AllocError, Global};
 
-/// The standard clients, named by what they find and from what.
+/// The clients of the rules that are shipped, named by what they find and from what: the standard ones, and after them
+/// those that answer by wide numbers where the numbers on the way leave the range.
 #[derive(Clone, Copy, Debug, PartialEq, Eq)]
 pub enum StandardClient {
     /// VERTICES and LINEALITY_SPACE from INEQUALITIES, EQUATIONS.
@@ -140,9 +141,21 @@ pub enum StandardClient {
     RegularCells,
     /// DELAUNAY_CELLS from SITES.
     Delaunay,
+    /// VERTICES and LINEALITY_SPACE from INEQUALITIES, EQUATIONS, by wide numbers.
+    DdVerticesWide,
+    /// FACETS and AFFINE_HULL from POINTS, INPUT_LINEALITY, by wide numbers.
+    DdFacetsWide,
+    /// FACETS and AFFINE_HULL from VERTICES, LINEALITY_SPACE, by wide numbers.
+    DdFacetsVWide,
+    /// VERTICES and LINEALITY_SPACE from FACETS, AFFINE_HULL, by wide numbers.
+    DdVerticesFWide,
+    /// CONE_DIM from VERTICES, LINEALITY_SPACE, by wide numbers.
+    ConeDimVWide,
+    /// CONE_DIM from POINTS, INPUT_LINEALITY, by wide numbers.
+    ConeDimPointsWide,
 }
 
-/// A standard rule: the kind of its client, whose name is the rule's label, and what it weighs, of class 0.
+/// A rule that is shipped: the kind of its client, whose name is the rule's label, and what it weighs, of class 0.
 #[derive(Clone, Copy, Debug)]
 pub struct StandardRule {
     /// The kind of its client.
@@ -173,8 +186,8 @@ macro_rules! rule {
     };
 }
 
-// The standard rules, in the order of the standard book.
-static RULES: [Entry; 65] = [
+// The standard rules, in the order of the standard book, and after them the wide ones.
+static RULES: [Entry; 71] = [
     rule!("dd_vertices": Vertices, LinealitySpace from Inequalities, Equations; 40),
     rule!("dd_facets": Facets, AffineHull from Points, InputLineality; 40),
     rule!("dd_facets_v": Facets, AffineHull from Vertices, LinealitySpace; 30),
@@ -240,10 +253,16 @@ static RULES: [Entry; 65] = [
     rule!("placing": PlacingTriangulation from Vertices, LinealitySpace; 25),
     rule!("regular_cells": RegularCells from Sites, SiteHeights; 40),
     rule!("delaunay": DelaunayCells from Sites; 45),
+    rule!("dd_vertices_wide": Vertices, LinealitySpace from Inequalities, Equations; 41),
+    rule!("dd_facets_wide": Facets, AffineHull from Points, InputLineality; 41),
+    rule!("dd_facets_v_wide": Facets, AffineHull from Vertices, LinealitySpace; 31),
+    rule!("dd_vertices_f_wide": Vertices, LinealitySpace from Facets, AffineHull; 31),
+    rule!("cone_dim_v_wide": ConeDim from Vertices, LinealitySpace; 5),
+    rule!("cone_dim_points_wide": ConeDim from Points, InputLineality; 9),
 ];
 
 impl StandardClient {
-    /// These clients, in the order of the standard book.
+    /// The standard clients, in the order of the standard book.
     pub fn every() -> [StandardClient; 65]
         ensures { result ≡ standard_clients }
     {
@@ -316,6 +335,20 @@ impl StandardClient {
         ]
     }
 
+    /// The clients that answer by wide numbers, in the order of their rules.
+    pub fn wide() -> [StandardClient; 6]
+        ensures { result ≡ wide_clients }
+    {
+        [
+            Self::DdVerticesWide,
+            Self::DdFacetsWide,
+            Self::DdFacetsVWide,
+            Self::DdVerticesFWide,
+            Self::ConeDimVWide,
+            Self::ConeDimPointsWide,
+        ]
+    }
+
     /// The client's rule.
     pub fn row(self) -> StandardRule
         ensures { result ≡ standard_row self }
@@ -351,12 +384,20 @@ impl StandardClient {
     }
 }
 
-/// The kinds of the standard clients, in the order of the standard book.
+// The kinds of clients.
+fn kinds_of(alloc: Global, clients: &[StandardClient]) -> Result<Vec<Kind>, AllocError>
+    ensures { IfOk result (λ v. v.items ≡ map standard_kind clients.now) }
+{
+    clients.iter().map(|client| client.kind()).collect(alloc)
+}
+
+/// The kinds of these clients: those of the standard ones, in the order of the standard book, and behind them those of
+/// the wide ones.
 pub fn standard_kinds(alloc: Global) -> Result<Vec<Kind>, AllocError>
     ensures { IfOk result (λ v. v.items ≡ standard_kinds_list) }
 {
-    StandardClient::every()
-        .iter()
-        .map(|client| client.kind())
-        .collect(alloc)
+    let mut kinds = kinds_of(alloc, &StandardClient::every())?;
+    let mut wide = kinds_of(alloc, &StandardClient::wide())?;
+    kinds.append(&mut wide)?;
+    Ok(kinds)
 }

@@ -2,10 +2,11 @@
 
 use crate::rows::site;
 use pm_bits::BitRow;
+use pm_dd::{DdFail, extreme_rays, wide_extreme_rays};
 use pm_elim::{DualFail, dual_basis};
 use pm_fraction::Fraction;
 use pm_matrix::Matrix;
-use pm_wide::{WideInt, combine_primitive};
+use pm_vector::{WideInt, combine_primitive};
 use std::collections::{BTreeMap, HashSet};
 
 const MOST: i128 = 170_141_183_460_469_231_731_687_303_715_884_105_727;
@@ -56,6 +57,28 @@ fn dual_rows_are_found(rt: HostRuntime) {
         shown.as_str(),
         "Err(Wide(ElimEvidence { list: Without(0), front: 1, basis: [Ints { entries: [3, 85070591730234615865843651857942052864, 0] }], part: Ints { entries: [5, 1, 1] }, by: 0, column: 1 }))"
     );
+}
+
+// The facet rows of five points of the plane: numbers on the way to them leave the range, and they do not.
+#[test]
+fn wide_rays_are_found(rt: HostRuntime) {
+    let alloc = rt.alloc();
+    let points = [
+        site(&rt, alloc, 20_922_524_074, -43_025_173_705, -43_497_677_440),
+        site(&rt, alloc, 27_012_360_029, -25_935_254_542, -37_775_184_341),
+        site(&rt, alloc, 24_441_121_047, 76_853_035_314, -127_565_730_320),
+        site(&rt, alloc, 31_616_070_026, 4_920_752_228, 43_229_445_888),
+        site(&rt, alloc, 18_631_125_177, 57_165_834_023, 33_580_279_450),
+    ];
+    let narrow = extreme_rays(alloc, points.as_slice(), 3);
+    assert!(rt; matches!(&narrow, Err(DdFail::Wide(_))));
+    let found = wide_extreme_rays(alloc, points.as_slice(), 3).expect(&rt, "rays");
+    let shown = format!(in alloc; "{:?}", found.rays).expect(&rt, "room for a text");
+    assert_eq!(rt;
+        shown.as_str(),
+        "[Ints { entries: [822956562663196319360, 1139847369104380360576, -731620730845306501601] }, Ints { entries: [1153003546809608866412, 128131624456086421762, -857839930420495825121] }, Ints { entries: [8831466246196486351760, 1605865064063190644000, 2659542960109243618371] }, Ints { entries: [9873147768920737174660, -3197432764716880850790, -34661452058681518497] }]"
+    );
+    assert!(rt; found.lineality.is_empty());
 }
 
 // The same number is one key; the row that has the first difference comes first; a matrix that is copied and turned.

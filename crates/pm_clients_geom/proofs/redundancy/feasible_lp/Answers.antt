@@ -2,7 +2,7 @@ use Rattle.pm_client.proofs.Failing.{fails_by_feasibility}
 use Rattle.pm_client.proofs.ViewLaws.{has_listed, not_fan, source_named, target_named}
 use Rattle.pm_client.specs.Sound.{FailsRightly}
 use Rattle.pm_clients_geom.proofs.FoundThinned.{first_rows_of, second_rows_of}
-use Rattle.pm_clients_geom.proofs.Polytopes.{polytope_view}
+use Rattle.pm_client.proofs.Polytopes.{polytope_view}
 use Rattle.pm_clients_geom.proofs.RightRows.{point_fails, point_sound, program_as}
 use Rattle.pm_clients_geom.proofs.redundancy.feasible_lp.Goals as goal
 use Rattle.pm_clients_geom.specs.Redundancy.{FailsForProgram}

@@ -9,7 +9,7 @@ use Rattle.pm_clients_geom.proofs.redundancy.thin_inequalities_lp.Goals as goal
 use Rattle.pm_props.specs.Properties.{facets_tag}
 use Rattle.pm_props.specs.declared.property.PropId.TheVariants.{AffineHull, Equations, Facets, Inequalities}
 use Rattle.pm_props.specs.declared.property.PropId.{PropId}
-use Rattle.std.proofs.Common.{ap, refl, subst, sym}
+use Rattle.std.proofs.Common.{ap, refl, subst, sym, ◌∙◌}
 use Rattle.std.proofs.lemmas.Result.{err_from_is_err_and}
 use Rattle.std.specs.Prelude.{List, [], ◌∷◌}
 
@@ -24,6 +24,10 @@ read_parts-requires-clause-first c = has_listed _ sources Equations (ap (λ k. k
 
 pub read_parts-requires-clause-second : goal.read_parts-requires-clause-second
 read_parts-requires-clause-second c = has_listed _ sources Inequalities (ap (λ k. k.sources) c.requires.kind)
+
+pub thin_rows-requires-clause-no_fan : goal.thin_rows-requires-clause-no_fan
+thin_rows-requires-clause-no_fan c = λ fan.
+    not_fan c.args.view.now Inequalities c.of.ensures.view (source_named c.args.view.now.kind Inequalities (has_listed _ sources Inequalities (ap (λ k. k.sources) c.requires.kind))) refl refl (sym c.of.ensures.value ∙ fan)
 
 pub returns-in_err-found-clause-failed : goal.returns-in_err-found-clause-failed
 returns-in_err-found-clause-failed c =

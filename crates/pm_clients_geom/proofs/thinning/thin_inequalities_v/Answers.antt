@@ -9,7 +9,7 @@ use Rattle.pm_props.specs.Properties.{facets_tag}
 use Rattle.pm_props.specs.declared.kind.Kind.{Kind}
 use Rattle.pm_props.specs.declared.property.PropId.TheVariants.{AffineHull, Equations, Facets, Inequalities, LinealitySpace, Vertices}
 use Rattle.pm_props.specs.declared.property.PropId.{PropId}
-use Rattle.std.proofs.Common.{ap, refl, subst, sym, true}
+use Rattle.std.proofs.Common.{ap, refl, subst, sym, true, ◌∙◌}
 use Rattle.std.proofs.lemmas.Result.{err_from_is_err_and}
 use Rattle.std.specs.Prelude.{List, [], ◌∷◌, ◌≡◌}
 
@@ -30,6 +30,10 @@ read_parts-requires-2-clause-first c = has_listed _ sources LinealitySpace (ap (
 
 pub read_parts-requires-2-clause-second : goal.read_parts-requires-2-clause-second
 read_parts-requires-2-clause-second c = has_listed _ sources Vertices (ap (λ k. k.sources) c.requires.kind)
+
+pub facets_by_incidence-requires-clause-no_fan : goal.facets_by_incidence-requires-clause-no_fan
+facets_by_incidence-requires-clause-no_fan c = λ fan.
+    not_fan c.args.view.now Inequalities c.of.ensures.view (source_named c.args.view.now.kind Inequalities (has_listed _ sources Inequalities (ap (λ k. k.sources) c.requires.kind))) refl refl (sym c.of.ensures.value ∙ fan)
 
 pub returns-in_err-found-clause-failed : goal.returns-in_err-found-clause-failed
 returns-in_err-found-clause-failed c =

@@ -24,5 +24,5 @@ pub returns-clause-sound : goal.returns-clause-sound
 returns-clause-sound c =
     let v = c.args.view.now in
     let no_fan = no_fan_reads v VerticesInFacets c.of.ensures.view (ap (λ k. k.sources) c.requires.kind) refl refl in
-    graph_of_sets_sound v c.args.draft.now c.put_value.new.draft no_fan c.in_ok-graph.graph.rows c.sets_of-sets.result.now.rows c.sets_of-sets.result.now.cols c.sets_of-sets.ensures.value c.sets_of-sets.ensures.forms c.in_ok-graph.ensures.graph
+    graph_of_sets_sound v c.args.draft.now c.put_value.new.draft no_fan c.in_ok-graph.graph.rows c.in_ok-graph.graph.cols c.sets_of-sets.result.now.rows c.sets_of-sets.result.now.cols c.sets_of-sets.ensures.value c.sets_of-sets.ensures.forms c.in_ok-graph.ensures.graph c.in_ok-graph.ensures.cols
     (record { targets = ap (λ k. k.targets) c.requires.kind; empty = c.requires.empty; put = c.in_ok-put_value.ensures.ok })

@@ -12,5 +12,5 @@ put_value-requires-clause-target c = has_alone _ VertexDegrees (ap (λ d. d.kind
 
 pub returns-clause-sound : goal.returns-clause-sound
 returns-clause-sound c =
-    degrees_sound c.args.view.now c.args.draft.now c.put_value.new.draft c.edges_of.result.now.rows c.edges_of.ensures.value c.edges_of.ensures.forms
+    degrees_sound c.args.view.now c.args.draft.now c.put_value.new.draft c.edges_of.result.now.rows c.edges_of.result.now.cols c.edges_of.ensures.value c.edges_of.ensures.forms
     (record { targets = ap (λ k. k.targets) c.requires.kind; empty = c.requires.empty; put = rw (c.from_vec.ensures, c.in_ok-numbers.ensures) at c.in_ok-put_value.ensures.ok })

@@ -1,0 +1,3 @@
+pub mod Works
+pub mod Places
+pub mod Examples

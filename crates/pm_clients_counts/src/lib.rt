@@ -1,0 +1,16 @@
+//! Clients that count rays and facets, list the far rays, and find truth values by dimensions and by first entries.
+#![tactic(auto)]
+
+ghost use Rattle.pm_clients_counts.specs.Examples.{PlacesAreRead};
+
+mod firsts;
+mod sizes;
+mod truths;
+
+pub use sizes::{SizeClient, SizeWork};
+pub use truths::{TestClient, TestWork};
+
+/// The places of the far rays, read on two rays.
+pub fn example_places()
+    ensures { PlacesAreRead }
+{}

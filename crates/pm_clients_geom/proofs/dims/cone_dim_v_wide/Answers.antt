@@ -1,0 +1,25 @@
+use Rattle.pm_clients_geom.proofs.FoundDims.{rank_of_vertices}
+use Rattle.pm_family.proofs.Failing.{takes_row_list}
+use Rattle.pm_client.proofs.ViewLaws.{has_listed}
+use Rattle.pm_clients_geom.proofs.dims.cone_dim_v_wide.Goals as goal
+use Rattle.pm_standard.specs.declared.standard.StandardClient.TheVariants.{ConeDimVWide}
+use Rattle.pm_props.specs.declared.property.PropId.TheVariants.{ConeDim, LinealitySpace, Vertices}
+use Rattle.std.proofs.Common.{[], ap, refl, ◌∙◌, ◌∷◌}
+
+pub any_rank_of_list-requires-clause-first : goal.any_rank_of_list-requires-clause-first
+any_rank_of_list-requires-clause-first c = has_listed _ (Vertices ∷ LinealitySpace ∷ []) LinealitySpace (ap (λ k. k.sources) c.requires.kind)
+
+pub any_rank_of_list-requires-clause-second : goal.any_rank_of_list-requires-clause-second
+any_rank_of_list-requires-clause-second c = has_listed _ (Vertices ∷ LinealitySpace ∷ []) Vertices (ap (λ k. k.sources) c.requires.kind)
+
+pub any_rank_of_list-requires-clause-eliminates : goal.any_rank_of_list-requires-clause-eliminates
+any_rank_of_list-requires-clause-eliminates c = takes_row_list c.args.view.now ConeDimVWide c.requires.kind refl
+
+pub put_value-requires-clause-target : goal.put_value-requires-clause-target
+put_value-requires-clause-target c = has_listed _ (ConeDim ∷ []) ConeDim (ap (λ d. d.kind.targets) c.requires.empty ∙ ap (λ k. k.targets) c.requires.kind)
+
+pub returns-clause-sound : goal.returns-clause-sound
+returns-clause-sound c =
+    rank_of_vertices c.args.view.now c.args.draft.now c.put_value.new.draft c.in_ok-dim.dim c.in_ok-dim.ensures.few
+    (record { targets = ap (λ k. k.targets) c.requires.kind; empty = c.requires.empty; put = c.in_ok-put_value.ensures.ok }) c.in_ok-dim.ensures.view
+    c.in_ok-dim.ensures.rank
