@@ -159,7 +159,7 @@ module _ (n : ℕ) (L G B D J : List Row) (places : List ℕ) (start : ℕ) (hL 
   )
 
   -- ---- places of cells
-  pub fits : (f : RunFail) → length G < 2 ^ 28 → length L < 2 ^ 28 → (lead : ℕ) → lead ≡ 2 * length B → IsListFail n D B J start f → FitsPlaces (length places) lead f
+  pub fits : (f : RunFail) → length G < 2 ^ 30 → length L < 2 ^ 30 → (lead : ℕ) → lead ≡ 2 * length B → IsListFail n D B J start f → FitsPlaces (length places) lead f
   fits (Engine e) lg ll lead le h = tt
   fits (Crowd f cells) lg ll lead le h = (
     all_within (λ s. s.items) cells.items f (length places) (let a = h.within in let b = rows_many in let d = places_many in omega arith) h.ascending,

@@ -1,43 +1,21 @@
 -- Sets in lexicographic order, each once.
+use Rattle.pm_geom.proofs.LexLaws.{apart_test, lex, tied_same}
 use Rattle.pm_vector.proofs.Filters.{among_map, map_among}
 use Rattle.pm_vector.proofs.Lists.{AllPairs_cons, Among, Contains_among, all_at, among_Any, among_Contains, here}
 use Rattle.pm_geom.specs.FaceCounts.{IsLexBefore}
 use Rattle.std.proofs.Common.{arith, ap, refl, sym, subst, ◌∙◌}
-use Rattle.std.proofs.lemmas.Cmp.{eq_by_cmp_equiv, nat_list_cmp_total, on_equiv, nat_list_eq_equiv, ranked, tied_itself}
+use Rattle.std.proofs.lemmas.Cmp.{eq_by_cmp_equiv, nat_list_cmp_total, on_equiv, nat_list_eq_equiv, tied_itself}
 use Rattle.std.proofs.lemmas.List.Kept.{Any-dedup, Contains-from_dedup, IsStrictlySortedBy-dedup}
 use Rattle.std.proofs.lemmas.List.Sorted.{Contains-permutation, IsPermutation-map, IsPermutation-sym, length_permutation}
 use Rattle.std.proofs.lemmas.Map.Keys.{IsDistinct-IsPermutation, IsDistinct-from_apart, apart_from_distinct}
 use Rattle.std.specs.Cmp.Lexicographic.{on_texts, slice_cmp, texts_ties}
 use Rattle.std.specs.List.{AllPairs, Contains, IsDistinct, dedup, dedup_from}
 use Rattle.std.specs.List.Sorted.{IsPermutation, IsSorted, IsStrictlySortedBy}
-use Rattle.std.specs.Ordering.{eq_by_cmp, is_eq, nat_cmp, ordering_then}
+use Rattle.std.specs.Ordering.{eq_by_cmp, is_eq, nat_cmp}
 use Rattle.std.specs.Prelude.{Bool, List, [], cond, false, get_or, length, map, nat_eq, suc, true, ℕ, ◌<◌, ◌∷◌, ◌≡◌, ◌↔◌}
 use Rattle.std.specs.declared.cmp.Ordering.TheVariants.{Equal, Greater, Less}
 use Rattle.std.specs.declared.cmp.Ordering.{Ordering}
 use lib.Pointwise.{pointwise}
-
-abbrev lex : List ℕ → List ℕ → Ordering
-lex xs ys = slice_cmp nat_cmp xs ys
-
--- lists that compare as equal are equal
-tied_same : (xs ys : List ℕ) → lex xs ys ≡ Equal → xs ≡ ys
-tied_same [] [] e = refl
-tied_same [] (y ∷ ys) e = absurd cc
-tied_same (x ∷ xs) [] e = absurd cc
-tied_same (x ∷ xs) (y ∷ ys) e = by (nat_cmp x y) refl (tied_same xs ys) e
-  where
-    by : (o : Ordering) → o ≡ nat_cmp x y → (lex xs ys ≡ Equal → xs ≡ ys) → ordering_then o (lex xs ys) ≡ Equal → (x ∷ xs) ≡ (y ∷ ys)
-    by Less h more q = absurd cc
-    by Equal h more q = let a : x ≡ y = ranked x y Equal h in let b = more q in cc
-    by Greater h more q = absurd cc
-
-apart_test : (xs ys : List ℕ) → ¬ (xs ≡ ys) → eq_by_cmp lex xs ys ≡ false
-apart_test xs ys differ = by (lex xs ys) refl
-  where
-    by : (o : Ordering) → o ≡ lex xs ys → is_eq o ≡ false
-    by Less h = refl
-    by Equal h = absurd (differ (tied_same xs ys (sym h)))
-    by Greater h = refl
 
 test_same : (xs ys : List ℕ) → eq_by_cmp lex xs ys ≡ true → xs ≡ ys
 test_same xs ys t = by (lex xs ys) refl t

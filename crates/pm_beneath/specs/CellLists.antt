@@ -17,20 +17,25 @@ set_places z s = filter (has z) s
 -- for each cell of T of which all places but one are set in z: these, and j
 abbrev pub joined_cells : List Bool → ℕ → List (List ℕ) → List (List ℕ)
 joined_cells z j [] = []
-joined_cells z j (s ∷ T) = cond (length (set_places z s) + 1 == length s) ((set_places z s ++ j ∷ []) ∷ joined_cells z j T) (joined_cells z j T)
+joined_cells z j (s ∷ T) =
+    cond (length (set_places z s) + 1 == length s) ((set_places z s ++ j ∷ []) ∷ joined_cells z j T)
+    (joined_cells z j T)
 
 -- so for each row of Z whose value is negative
 abbrev pub cells_below : List ℤ → List (List Bool) → ℕ → List (List ℕ) → List (List ℕ)
 cells_below [] Z j T = []
 cells_below (v ∷ vs) [] j T = []
-cells_below (v ∷ vs) (z ∷ Z) j T = cond (lt_z v (pos 0)) (joined_cells z j T ++ cells_below vs Z j T) (cells_below vs Z j T)
+cells_below (v ∷ vs) (z ∷ Z) j T = cond (lt_z v (pos 0)) (joined_cells z j T ++ cells_below vs Z j T)
+    (cells_below vs Z j T)
 
--- vs has the products of the rows of F with the row of J at f, and Z for each row of F the places before f at which it is 0
+-- vs has the products of the rows of F with the row of J at f, and Z for each row of F the places before f at which
+-- it is 0
 pub record IsFacetTable (J F : List Row) (vs : List ℤ) (Z : List (List Bool)) (f : ℕ) : Type 0 where
   pub values_many : length vs ≡ length F
   pub zeros_many : length Z ≡ length F
   pub values : (i : ℕ) → i < length F → entry vs i ≡ dot (ray F i) (ray J f)
-  pub zeros : (i p : ℕ) → i < length F → p < f → IsTrue (has (slice_index_or Z i []) p) ↔ (dot (ray F i) (ray J p) ≡ pos 0)
+  pub zeros : (i p : ℕ) → i < length F → p < f → IsTrue (has (slice_index_or Z i []) p)
+      ↔ (dot (ray F i) (ray J p) ≡ pos 0)
 
 -- for a table of the facets of a front, the list has the cells of the next front, ascending
 pub record AreNextCells (J F : List Row) (f : ℕ) (T U : List (List ℕ)) : Type 0 where
@@ -38,4 +43,5 @@ pub record AreNextCells (J F : List Row) (f : ℕ) (T U : List (List ℕ)) : Typ
   pub ascending : All (IsAscending (f + 1)) U
 
 abbrev pub ListedCellsAreNext : Type 0
-ListedCellsAreNext = (J F : List Row) (vs : List ℤ) (Z : List (List Bool)) (f : ℕ) (T : List (List ℕ)) → IsFacetTable J F vs Z f → All (IsAscending f) T → AreNextCells J F f T (T ++ cells_below vs Z f T)
+ListedCellsAreNext = (J F : List Row) (vs : List ℤ) (Z : List (List Bool)) (f : ℕ) (T : List (List ℕ))
+    → IsFacetTable J F vs Z f → All (IsAscending f) T → AreNextCells J F f T (T ++ cells_below vs Z f T)

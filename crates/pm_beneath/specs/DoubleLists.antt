@@ -6,6 +6,9 @@ use Rattle.pm_geom.specs.Triangulations.{IsTriangulation}
 use Rattle.pm_dd.specs.Fronts.{both_signs}
 use Rattle.pm_elim.specs.Evidence.{IsBasisOf}
 
--- the last cells of l1, -l1, l2, -l2, .. and G, where l1, l2, .. is the echelon basis of L, are a triangulation of cone(G) + span(L)
+-- the last cells of l1, -l1, l2, -l2, .. and G, where l1, l2, .. is the echelon basis of L, are a triangulation of
+-- cone(G) + span(L)
 abbrev pub DoubleListTriangulates : Type 0
-DoubleListTriangulates = (n : ℕ) (L G basis : List Row) (pivots : List ℕ) → HasCols n L → HasCols n G → IsBasisOf n L basis pivots → (T : List (List ℕ)) → IsPlacing n (both_signs basis) G (length (both_signs basis ++ G)) T → IsTriangulation n G L T
+DoubleListTriangulates = (n : ℕ) (L G basis : List Row) (pivots : List ℕ) → HasCols n L → HasCols n G
+    → IsBasisOf n L basis pivots → (T : List (List ℕ))
+    → IsPlacing n (both_signs basis) G (length (both_signs basis ++ G)) T → IsTriangulation n G L T

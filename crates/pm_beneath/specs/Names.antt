@@ -25,10 +25,16 @@ pub record AreNames (m : ℕ) (O : List ℕ) : Type 0 where
 
 -- a step of the cells stays one under other names
 abbrev pub NamesKeepSteps : Type 0
-NamesKeepSteps = (G F : List Row) (O : List ℕ) → AreNames (length G) O → (f : ℕ) → f < length O → (T U : List (List ℕ)) → All (λ s. All (λ k. k < f) s) T → All (λ s. All (λ k. k < length O) s) U → IsNextCells (rows_at G O) F f T U →
+NamesKeepSteps = (G F : List Row) (O : List ℕ) → AreNames (length G) O → (f : ℕ) → f < length O
+    → (T U : List (List ℕ)) → All (λ s. All (λ k. k < f) s) T → All (λ s. All (λ k. k < length O) s) U
+    → IsNextCells (rows_at G O) F f T U →
     IsNextCells G F (slice_index_or O f 0) (map (named (length G) O) T) (map (named (length G) O) U)
 
 -- the cells of all fronts, as double description takes the rows, are those of the placing
 abbrev pub RunIsPlacing : Type 0
-RunIsPlacing = (n : ℕ) (L G B : List Row) (P : List ℕ) (m : List Bool) → HasCols n L → HasCols n G → IsBasisOf n L B P → MarkEnlarging (both_signs B ++ G) (alternating B ++ m) → (d : ℕ) → length (places_marked true m 0) + d < length G + 1 → (T : List (List ℕ)) →
-    IsRun n B (rows_at G (stated_places m)) (length (places_marked true m 0)) d T → IsPlacing n (both_signs B) G (length (both_signs B) + (length (places_marked true m 0) + d)) (map (named (length G) (stated_places m)) T)
+RunIsPlacing = (n : ℕ) (L G B : List Row) (P : List ℕ) (m : List Bool) → HasCols n L → HasCols n G
+    → IsBasisOf n L B P → MarkEnlarging (both_signs B ++ G) (alternating B ++ m) → (d : ℕ)
+    → length (places_marked true m 0) + d < length G + 1 → (T : List (List ℕ)) →
+    IsRun n B (rows_at G (stated_places m)) (length (places_marked true m 0)) d T
+    → IsPlacing n (both_signs B) G (length (both_signs B) + (length (places_marked true m 0) + d))
+    (map (named (length G) (stated_places m)) T)

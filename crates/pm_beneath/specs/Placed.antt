@@ -22,7 +22,8 @@ abbrev pub ShowsManyCells : ℕ → List Row → List Row → Evidence → Type 
 ShowsManyCells n L G (E5Cells front cells) = AreCrowdedCells n L G front cells
 ShowsManyCells n L G e = ⊥
 
--- the refusal is want of memory, or has evidence that holds: of double description, on the lines L or on the list of lines and rays; or the cells of a front, more than most_rows
+-- the refusal is want of memory, or has evidence that holds: of double description, on the lines L or on the list of
+-- lines and rays; or the cells of a front, more than most_rows
 abbrev pub IsShownPlace : ℕ → List Row → List Row → PlaceFail → Type 0
 IsShownPlace n L G (Wide e) = IsShownOnParts n L G (DdWide e)
 IsShownPlace n L G (Many e) = IsShownOnParts n L G (DdMany e) ⊎ ShowsManyCells n L G e
@@ -30,4 +31,5 @@ IsShownPlace n L G Memory = Unit {0}
 
 -- placing triangulations are triangulations of cone(G) + span(L)
 abbrev pub PlacedCellsTriangulate : Type 0
-PlacedCellsTriangulate = (n : ℕ) (L G : List Row) (T : List (List ℕ)) → HasCols n L → HasCols n G → IsPlacingTriangulation n L G T → IsTriangulation n G L T
+PlacedCellsTriangulate = (n : ℕ) (L G : List Row) (T : List (List ℕ)) → HasCols n L → HasCols n G
+    → IsPlacingTriangulation n L G T → IsTriangulation n G L T

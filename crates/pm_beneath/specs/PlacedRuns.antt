@@ -31,12 +31,14 @@ FitsPlaces w lead (Crowd f cells) = All (λ s. All (λ k. k < w) s.items) cells.
 
 -- the evidence has these cells, each once and in lexicographic order, and is of this front
 abbrev pub ShowsCells : ℕ → List (List ℕ) → Evidence → Type 0
-ShowsCells front cells (E5Cells g made) = (g ≡ front) × HaveSameSets made cells × AllPairs IsLexBefore made × (AllPairs (λ s t. ¬ (s ≡ t)) cells → length made ≡ length cells)
+ShowsCells front cells (E5Cells g made) = (g ≡ front) × HaveSameSets made cells × AllPairs IsLexBefore made
+    × (AllPairs (λ s t. ¬ (s ≡ t)) cells → length made ≡ length cells)
 ShowsCells front cells e = ⊥
 
 -- the refusal of a run as one of placing: with the same evidence, or with the cells by these names
 abbrev pub IsPlaceFailOf : ℕ → ℕ → List ℕ → RunFail → PlaceFail → Type 0
 IsPlaceFailOf many lead places (Engine f) p = p ≡ fail_of_engine f
 IsPlaceFailOf many lead places (Crowd f cells) (Wide e) = ⊥
-IsPlaceFailOf many lead places (Crowd f cells) (Many e) = ShowsCells (f + lead) (map (λ s. named many places s.items) cells.items) e
+IsPlaceFailOf many lead places (Crowd f cells) (Many e) =
+    ShowsCells (f + lead) (map (λ s. named many places s.items) cells.items) e
 IsPlaceFailOf many lead places (Crowd f cells) Memory = Unit {0}

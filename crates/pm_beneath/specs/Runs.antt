@@ -18,10 +18,12 @@ abbrev pub below : ℕ → List ℕ
 below zero = []
 below (suc k) = below k ++ k ∷ []
 
--- T has the cells of the first start + d rows of J: the first `start` alone, and then d steps, each with the facet rows of its front
+-- T has the cells of the first start + d rows of J: the first `start` alone, and then d steps, each with the facet
+-- rows of its front
 abbrev pub IsRun : ℕ → List Row → List Row → ℕ → ℕ → List (List ℕ) → Type 0
 IsRun n E J start zero T = T ≡ below start ∷ []
-IsRun n E J start (suc d) U = (T : List (List ℕ)) × IsRun n E J start d T × ((V : List Row) × IsOrder n (HalfSpaces E (take (start + d) J)) V × AreNextCells J V (start + d) T U)
+IsRun n E J start (suc d) U = (T : List (List ℕ)) × IsRun n E J start d T
+    × ((V : List Row) × IsOrder n (HalfSpaces E (take (start + d) J)) V × AreNextCells J V (start + d) T U)
 
 -- so for f rows
 abbrev pub IsRunTo : ℕ → List Row → List Row → ℕ → ℕ → List (List ℕ) → Type 0
@@ -30,7 +32,8 @@ IsRunTo n E J start f T = (d : ℕ) × (f ≡ start + d) × IsRun n E J start d 
 -- the refusal is want of memory, or has the sets of T, each once, and more than most_rows
 abbrev pub IsCrowdOf : ℕ → List (List ℕ) → RunFail → Type 0
 IsCrowdOf front T (Engine f) = IsMemory f
-IsCrowdOf front T (Crowd f cells) = (f ≡ front) × HaveSameSets (map (λ s. s.items) cells.items) T × AllPairs IsLexBefore (map (λ s. s.items) cells.items) × (most_rows < length cells.items)
+IsCrowdOf front T (Crowd f cells) = (f ≡ front) × HaveSameSets (map (λ s. s.items) cells.items) T
+    × AllPairs IsLexBefore (map (λ s. s.items) cells.items) × (most_rows < length cells.items)
 
 -- T has the cells of the first f rows, each once, and more than most_rows
 pub record IsCrowdedRun (n : ℕ) (E J : List Row) (start f : ℕ) (T : List (List ℕ)) : Type 0 where

@@ -8,7 +8,8 @@ use Rattle.pm_elim.specs.Evidence.{IsBasisOf}
 use Rattle.pm_laws_placing.specs.Placing.{places_marked, stated_places}
 use Rattle.pm_geom.specs.Triangulations.{rows_at}
 
--- D is l1, -l1, l2, -l2, .. and then G, for the echelon basis l1, l2, .. of L; J has the rays in the stated order of D, which are at these places in G, and the first `start` of them enlarge the span
+-- D is l1, -l1, l2, -l2, .. and then G, for the echelon basis l1, l2, .. of L; J has the rays in the stated order of
+-- D, which are at these places in G, and the first `start` of them enlarge the span
 pub record IsStatedList (n : ℕ) (L G basis D J : List Row) (places : List ℕ) (start : ℕ) : Type 0 where
   pub pivots : List ℕ
   pub is_basis : IsBasisOf n L basis pivots

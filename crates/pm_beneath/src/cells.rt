@@ -37,7 +37,8 @@ fn count_members(cell: &[u32], zeros: &BitRow) -> usize
     count
 }
 
-/// The cells that one facet row gives, put behind others: for each cell of which all rays but one are on it, these and the new one.
+/// The cells that one facet row gives, put behind others: for each cell of which all rays but one are on it, these
+/// and the new one.
 fn add_joined(
     alloc: Global,
     cells: &[Vec<u32>],
@@ -46,7 +47,8 @@ fn add_joined(
     others: Vec<Vec<u32>>,
 ) -> Result<Vec<Vec<u32>>, AllocError>
     requires { All (λ s. All (λ k. k < length zeros.now) s.items) cells.now }
-    ensures { IfOk result (λ v. map (λ s. s.items) v.items ≡ map (λ s. s.items) others.items ++ joined_cells zeros.now new (map (λ s. s.items) cells.now)) }
+    ensures { IfOk result (λ v. map (λ s. s.items) v.items ≡ map (λ s. s.items) others.items
+        ++ joined_cells zeros.now new (map (λ s. s.items) cells.now)) }
 {
     let mut made = others;
     for cell in cells {
@@ -66,7 +68,8 @@ fn is_visible(value: i128) -> bool
     value < 0
 }
 
-/// The cells with one row more: the old ones, and for each facet row that the new ray is below, and each cell of which exactly one ray is not on it, the cell with the new ray in that one's place.
+/// The cells with one row more: the old ones, and for each facet row that the new ray is below, and each cell of
+/// which exactly one ray is not on it, the cell with the new ray in that one's place.
 /// `values` are the products of the new ray with the facet rows, and `zeros` has for each of these the rays on it.
 pub(crate) fn next_cells(
     alloc: Global,
@@ -77,7 +80,8 @@ pub(crate) fn next_cells(
 ) -> Result<Vec<Vec<u32>>, AllocError>
     requires many { length values.now ≡ length zeros.now.rows }
     requires within { All (λ s. All (λ k. k < zeros.now.row_len) s.items) cells.now }
-    ensures { IfOk result (λ v. map (λ s. s.items) v.items ≡ map (λ s. s.items) cells.now ++ cells_below values.now zeros.now.rows new (map (λ s. s.items) cells.now)) }
+    ensures { IfOk result (λ v. map (λ s. s.items) v.items ≡ map (λ s. s.items) cells.now
+        ++ cells_below values.now zeros.now.rows new (map (λ s. s.items) cells.now)) }
 {
     let mut made = copy_sets(alloc, cells)?;
     for i in 0..values.len() {

@@ -25,31 +25,43 @@ pub struct Placing {
     pub simplices: Vec<Vec<u32>>,
 }
 
-/// The facet rows of cone(rays) + span(lineality) and the echelon basis of the rows that vanish on it, as `to_facets` answers them, and the placing triangulation of that cone.
+/// The facet rows of cone(rays) + span(lineality) and the echelon basis of the rows that vanish on it, as `to_facets`
+/// answers them, and the placing triangulation of that cone.
 ///
-/// The rows of the double description list, which is the echelon basis of the lineality both ways and then the rays, are taken in the stated order: first those that enlarge the span of the rows before them. The first cell has the rays among these. Each later ray joins the cells' faces on the facets of the cone so far that it is beyond (De Loera, Rambau and Santos, Triangulations, section 4.3).
-/// The cells are a triangulation of the cone. Each stands once, as a rising list of places of rays, in lexicographic order; there are at most `MOST_ROWS` of them.
+/// The rows of the double description list, which is the echelon basis of the lineality both ways and then the rays,
+/// are taken in the stated order: first those that enlarge the span of the rows before them. The first cell has the
+/// rays among these. Each later ray joins the cells' faces on the facets of the cone so far that it is beyond (De
+/// Loera, Rambau and Santos, Triangulations, section 4.3).
+/// The cells are a triangulation of the cone. Each stands once, as a rising list of places of rays, in lexicographic
+/// order; there are at most `MOST_ROWS` of them.
 ///
-/// `Wide` and `Many` come only with evidence on the lineality, or on the double description list, or with the cells of a front that has more than `MOST_ROWS`.
+/// `Wide` and `Many` come only with evidence on the lineality, or on the double description list, or with the cells
+/// of a front that has more than `MOST_ROWS`.
+/// With `wide` a step that leaves the range is worked by wide numbers; a refusal is still that of a step by numbers
+/// of the range alone.
 pub fn place(
     alloc: Global,
     cols: usize,
     rays: &[Ints],
     lineality: &[Ints],
+    wide: bool,
 ) -> Result<Placing, PlaceFail>
     requires ray_cols { HasCols cols rays.now }
     requires line_cols { HasCols cols lineality.now }
-    requires few_rays { length rays.now < 2 ^ 28 }
-    requires few_lines { length lineality.now < 2 ^ 28 }
+    requires few_rays { length rays.now < 2 ^ 30 }
+    requires few_lines { length lineality.now < 2 ^ 30 }
     requires few_columns { cols < 2 ^ 30 }
-    ensures facets { IfOk result (λ p. AreFacets cols rays.now lineality.now p.facets.facets.items p.facets.hull.items) }
+    ensures facets { IfOk result (λ p.
+        AreFacets cols rays.now lineality.now p.facets.facets.items p.facets.hull.items) }
     ensures few_facets { IfOk result (λ p. length p.facets.facets.items ≤ most_rows) }
-    ensures cells { IfOk result (λ p. IsPlacingTriangulation cols lineality.now rays.now (map (λ s. s.items) p.simplices.items)) }
-    ensures triangulation { IfOk result (λ p. IsTriangulation cols rays.now lineality.now (map (λ s. s.items) p.simplices.items)) }
+    ensures cells { IfOk result (λ p.
+        IsPlacingTriangulation cols lineality.now rays.now (map (λ s. s.items) p.simplices.items)) }
+    ensures triangulation { IfOk result (λ p.
+        IsTriangulation cols rays.now lineality.now (map (λ s. s.items) p.simplices.items)) }
     ensures few_cells { IfOk result (λ p. length p.simplices.items ≤ MOST_ROWS) }
     ensures shown { IfErr result (IsShownPlace cols lineality.now rays.now) }
 {
-    let placed = all_placed(alloc, cols, rays, lineality)?;
+    let placed = all_placed(alloc, cols, rays, lineality, wide)?;
     let simplices = ordered_cells(alloc, &placed.whole.cells, &placed.taken.places, rays.len())?;
     let whole = placed.whole;
     Ok(Placing {

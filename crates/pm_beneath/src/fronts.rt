@@ -65,6 +65,7 @@ pub(crate) fn next_front(
     front: usize,
     rays: &Rays,
     cells: &[Vec<u32>],
+    wide: bool,
 ) -> Result<Front, DdFail>
     requires equation_cols { HasCols cols equations.now }
     requires row_cols { HasCols cols rows.now }
@@ -80,16 +81,20 @@ pub(crate) fn next_front(
     requires few { length rays.now.rows.items ≤ MOST_ROWS }
     requires reduced { AreReduced cols (equations.now ++ take start rows.now) rays.now.rows.items }
     requires cells { All (IsAscending front) (map (λ s. s.items) cells.now) }
-    ensures table { IfOk result (λ r. IsRayTable cols equations.now rows.now (front + 1) r.rays.rows.items r.rays.zeros.rows) }
+    ensures table { IfOk result (λ r.
+        IsRayTable cols equations.now rows.now (front + 1) r.rays.rows.items r.rays.zeros.rows) }
     ensures row_len { IfOk result (λ r. r.rays.zeros.row_len ≡ length rows.now) }
     ensures few { IfOk result (λ r. length r.rays.rows.items ≤ MOST_ROWS) }
-    ensures reduced { IfOk result (λ r. AreReduced cols (equations.now ++ take start rows.now) r.rays.rows.items) }
-    ensures cells { IfOk result (λ r. AreNextCells rows.now rays.now.rows.items front (map (λ s. s.items) cells.now) (map (λ s. s.items) r.cells.items)) }
+    ensures reduced { IfOk result (λ r.
+        AreReduced cols (equations.now ++ take start rows.now) r.rays.rows.items) }
+    ensures cells { IfOk result (λ r.
+        AreNextCells rows.now rays.now.rows.items front (map (λ s. s.items) cells.now) (map (λ s.
+        s.items) r.cells.items)) }
     ensures shown { IfErr result (IsShownOnRows cols equations.now rows.now start) }
 {
     let values = front_products(alloc, cols, equations, rows, start, front, rays)?;
     let made = next_cells(alloc, cells, &values, &rays.zeros, front as u32)?;
-    let next = rays_after(alloc, cols, equations, rows, start, front, rays, false)?;
+    let next = rays_after(alloc, cols, equations, rows, start, front, rays, wide)?;
     Ok(Front {
         rays: next,
         cells: made,

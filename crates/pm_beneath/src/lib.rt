@@ -1,4 +1,5 @@
-//! Beneath-beyond: the facets and the placing triangulation of a cone (De Loera, Rambau and Santos, Triangulations, section 4.3).
+//! Beneath-beyond: the facets and the placing triangulation of a cone (De Loera, Rambau and Santos, Triangulations,
+//! section 4.3). It knows nothing of properties, values and objects.
 #![tactic(auto)]
 
 ghost use Rattle.pm_beneath.specs.CellLists.{ListedCellsAreNext};

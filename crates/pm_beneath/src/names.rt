@@ -50,7 +50,8 @@ fn named_cells(
 ) -> Result<Vec<Vec<u32>>, AllocError>
     requires within { All (λ s. All (λ k. k < length places.now) s.items) cells.now }
     requires few { many < 2 ^ 30 }
-    ensures { IfOk result (λ v. map (λ s. s.items) v.items ≡ map (λ s. named many places.now s.items) cells.now) }
+    ensures { IfOk result (λ v. map (λ s. s.items) v.items
+        ≡ map (λ s. named many places.now s.items) cells.now) }
 {
     let mut made = Vec::new(alloc);
     for cell in cells {
@@ -68,10 +69,12 @@ pub(crate) fn ordered_cells(
 ) -> Result<Vec<Vec<u32>>, AllocError>
     requires within { All (λ s. All (λ k. k < length places.now) s.items) cells.now }
     requires few { many < 2 ^ 30 }
-    ensures same { IfOk result (λ v. HaveSameSets (map (λ s. s.items) v.items) (map (λ s. named many places.now s.items) cells.now)) }
+    ensures same { IfOk result (λ v.
+        HaveSameSets (map (λ s. s.items) v.items) (map (λ s. named many places.now s.items) cells.now)) }
     ensures ordered { IfOk result (λ v. AllPairs IsLexBefore (map (λ s. s.items) v.items)) }
     ensures few { IfOk result (λ v. length v.items ≤ length cells.now) }
-    ensures as_many { AllPairs (λ s t. ¬ (s ≡ t)) (map (λ s. named many places.now s.items) cells.now) → IfOk result (λ v. length v.items ≡ length cells.now) }
+    ensures as_many { AllPairs (λ s t. ¬ (s ≡ t)) (map (λ s. named many places.now s.items) cells.now)
+        → IfOk result (λ v. length v.items ≡ length cells.now) }
 {
     let made = named_cells(alloc, cells, places, many)?;
     in_order(made)

@@ -23,19 +23,29 @@ use pm_vector::Ints;
 use std::alloc::{AllocError, Global};
 
 /// The facets and the cells of a list, by its fronts.
-fn list_fronts(alloc: Global, cols: usize, stated: &StatedList) -> Result<Whole, RunFail>
+fn list_fronts(
+    alloc: Global,
+    cols: usize,
+    stated: &StatedList,
+    wide: bool,
+) -> Result<Whole, RunFail>
     requires columns { HasCols cols stated.now.list.items }
-    requires few_list { length stated.now.list.items < 2 ^ 30 }
+    requires few_list { length stated.now.list.items < 2 ^ 32 }
     requires few_rows { length stated.now.taken.rows.items < 2 ^ 30 }
     requires few_equations { length stated.now.basis.items < 2 ^ 30 }
     requires few_columns { cols < 2 ^ 30 }
     requires arranged { IsArrangement stated.now.list.items stated.now.basis.items stated.now.taken.rows.items stated.now.taken.start }
-    ensures generators { IfOk result (λ w. AreGenerators cols (CutOut stated.now.list.items) w.facets.items w.hull.items) }
+    ensures generators { IfOk result (λ w.
+        AreGenerators cols (CutOut stated.now.list.items) w.facets.items w.hull.items) }
     ensures few_facets { IfOk result (λ w. length w.facets.items ≤ most_rows) }
-    ensures run { IfOk result (λ w. IsRunTo cols stated.now.basis.items stated.now.taken.rows.items stated.now.taken.start (length stated.now.taken.rows.items) (map (λ s. s.items) w.cells.items)) }
-    ensures ascending { IfOk result (λ w. All (IsAscending (length stated.now.taken.rows.items)) (map (λ s. s.items) w.cells.items)) }
+    ensures run { IfOk result (λ w.
+        IsRunTo cols stated.now.basis.items stated.now.taken.rows.items stated.now.taken.start
+        (length stated.now.taken.rows.items) (map (λ s. s.items) w.cells.items)) }
+    ensures ascending { IfOk result (λ w. All (IsAscending (length stated.now.taken.rows.items))
+        (map (λ s. s.items) w.cells.items)) }
     ensures few { IfOk result (λ w. length w.cells.items ≤ MOST_ROWS) }
-    ensures fail { IfErr result (IsListFail cols stated.now.list.items stated.now.basis.items stated.now.taken.rows.items stated.now.taken.start) }
+    ensures fail { IfErr result
+        (IsListFail cols stated.now.list.items stated.now.basis.items stated.now.taken.rows.items stated.now.taken.start) }
 {
     let taken = &stated.taken;
     all_fronts(
@@ -45,10 +55,12 @@ fn list_fronts(alloc: Global, cols: usize, stated: &StatedList) -> Result<Whole,
         &stated.basis,
         &taken.rows,
         taken.start,
+        wide,
     )
 }
 
-/// The refusal of a run, with the cells by the places of the rays as they were handed in, and the front in the whole list, in which `lead` rows stand before the rays.
+/// The refusal of a run, with the cells by the places of the rays as they were handed in, and the front in the whole
+/// list, in which `lead` rows stand before the rays.
 fn place_fail(alloc: Global, fail: RunFail, places: &[u32], many: usize, lead: usize) -> PlaceFail
     requires fits { FitsPlaces (length places.now) lead fail }
     requires few { many < 2 ^ 30 }
@@ -79,22 +91,26 @@ pub(crate) fn all_placed(
     cols: usize,
     rays: &[Ints],
     lineality: &[Ints],
+    wide: bool,
 ) -> Result<Placed, PlaceFail>
     requires ray_cols { HasCols cols rays.now }
     requires line_cols { HasCols cols lineality.now }
-    requires few_rays { length rays.now < 2 ^ 28 }
-    requires few_lines { length lineality.now < 2 ^ 28 }
+    requires few_rays { length rays.now < 2 ^ 30 }
+    requires few_lines { length lineality.now < 2 ^ 30 }
     requires few_columns { cols < 2 ^ 30 }
-    ensures facets { IfOk result (λ p. AreFacets cols rays.now lineality.now p.whole.facets.items p.whole.hull.items) }
+    ensures facets { IfOk result (λ p.
+        AreFacets cols rays.now lineality.now p.whole.facets.items p.whole.hull.items) }
     ensures few_facets { IfOk result (λ p. length p.whole.facets.items ≤ most_rows) }
-    ensures run { IfOk result (λ p. IsPlacedRun cols lineality.now rays.now p.taken.places.items (map (λ s. s.items) p.whole.cells.items)) }
-    ensures within { IfOk result (λ p. All (λ s. All (λ k. k < length p.taken.places.items) s.items) p.whole.cells.items) }
+    ensures run { IfOk result (λ p. IsPlacedRun cols lineality.now rays.now p.taken.places.items
+        (map (λ s. s.items) p.whole.cells.items)) }
+    ensures within { IfOk result (λ p.
+        All (λ s. All (λ k. k < length p.taken.places.items) s.items) p.whole.cells.items) }
     ensures few { IfOk result (λ p. length p.whole.cells.items ≤ MOST_ROWS) }
     ensures shown { IfErr result (IsShownPlace cols lineality.now rays.now) }
 {
-    let stated = stated_list(alloc, cols, rays, lineality)?;
+    let stated = stated_list(alloc, cols, rays, lineality, wide)?;
     let lead = 2 * stated.basis.len();
-    match list_fronts(alloc, cols, &stated) {
+    match list_fronts(alloc, cols, &stated, wide) {
         Ok(whole) => Ok(Placed {
             whole,
             taken: stated.taken,

@@ -76,10 +76,12 @@ fn first_cells(alloc: Global, start: usize) -> Result<Vec<Vec<u32>>, AllocError>
     Ok(made)
 }
 
-/// These cells, where they are few. Else they are put in order, each once, and refused where they still are more than `MOST_ROWS`.
+/// These cells, where they are few. Else they are put in order, each once, and refused where they still are more than
+/// `MOST_ROWS`.
 #[tactic(auto, using(crate::proofs::FrontLaws::same_itself))]
 fn few_cells(front: usize, cells: Vec<Vec<u32>>) -> Result<Vec<Vec<u32>>, RunFail>
-    ensures same { IfOk result (λ v. HaveSameSets (map (λ s. s.items) v.items) (map (λ s. s.items) cells.items)) }
+    ensures same { IfOk result (λ v.
+        HaveSameSets (map (λ s. s.items) v.items) (map (λ s. s.items) cells.items)) }
     ensures few { IfOk result (λ v. length v.items ≤ MOST_ROWS) }
     ensures crowd { IfErr result (IsCrowdOf front (map (λ s. s.items) cells.items)) }
 {
@@ -101,6 +103,7 @@ pub(crate) fn all_cells(
     rows: &[Ints],
     start: usize,
     first: Rays,
+    wide: bool,
 ) -> Result<Front, RunFail>
     requires equation_cols { HasCols cols equations.now }
     requires row_cols { HasCols cols rows.now }
@@ -116,16 +119,21 @@ pub(crate) fn all_cells(
     requires reduced { AreReduced cols (equations.now ++ take start rows.now) first.rows.items }
     ensures order { IfOk result (λ r. IsOrder cols (HalfSpaces equations.now rows.now) r.rays.rows.items) }
     ensures few_rays { IfOk result (λ r. length r.rays.rows.items ≤ MOST_ROWS) }
-    ensures reduced { IfOk result (λ r. AreReduced cols (equations.now ++ take start rows.now) r.rays.rows.items) }
-    ensures run { IfOk result (λ r. IsRunTo cols equations.now rows.now start (length rows.now) (map (λ s. s.items) r.cells.items)) }
-    ensures ascending { IfOk result (λ r. All (IsAscending (length rows.now)) (map (λ s. s.items) r.cells.items)) }
+    ensures reduced { IfOk result (λ r.
+        AreReduced cols (equations.now ++ take start rows.now) r.rays.rows.items) }
+    ensures run { IfOk result (λ r. IsRunTo cols equations.now rows.now start (length rows.now)
+        (map (λ s. s.items) r.cells.items)) }
+    ensures ascending { IfOk result (λ r.
+        All (IsAscending (length rows.now)) (map (λ s. s.items) r.cells.items)) }
     ensures few { IfOk result (λ r. length r.cells.items ≤ MOST_ROWS) }
     ensures fail { IfErr result (IsRunFail cols equations.now rows.now start) }
 {
     let mut rays = first;
     let mut cells = first_cells(alloc, start)?;
     for front in start..rows.len() {
-        let next = next_front(alloc, cols, equations, rows, start, front, &rays, &cells)?;
+        let next = next_front(
+            alloc, cols, equations, rows, start, front, &rays, &cells, wide,
+        )?;
         rays = next.rays;
         let few = few_cells(front + 1, next.cells)?;
         cells = few;

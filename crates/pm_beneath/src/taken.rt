@@ -10,7 +10,7 @@ ghost use Rattle.std.specs.Prelude.{All, IfErr, IfOk, List, length, true, ◌++�
 
 use crate::fails::PlaceFail;
 use pm_dd::{add_copies, both_ways};
-use pm_elim::{ElimFail, echelon, enlarging};
+use pm_elim::{ElimFail, echelon_by, enlarging_by};
 use pm_vector::Ints;
 use std::alloc::{AllocError, Global};
 
@@ -74,14 +74,19 @@ fn in_stated_order(alloc: Global, rays: &[Ints], marks: &[bool]) -> Result<Taken
 }
 
 /// The echelon basis of the lineality.
-fn line_basis(alloc: Global, cols: usize, lineality: &[Ints]) -> Result<Vec<Ints>, ElimFail>
+fn line_basis(
+    alloc: Global,
+    cols: usize,
+    lineality: &[Ints],
+    wide: bool,
+) -> Result<Vec<Ints>, ElimFail>
     requires columns { HasCols cols lineality.now }
     requires few_rows { length lineality.now < 2 ^ 30 }
     requires few_columns { cols < 2 ^ 30 }
     ensures basis { IfOk result (λ v. (pivots : List ℕ) × IsBasisOf cols lineality.now v.items pivots) }
     ensures wide { IfErr result (λ f. IfWide f (λ e. IsEvidence cols lineality.now e)) }
 {
-    let basis = echelon(alloc, lineality, cols)?;
+    let basis = echelon_by(alloc, lineality, cols, wide)?;
     Ok(basis.rows)
 }
 
@@ -102,19 +107,21 @@ pub(crate) fn stated_list(
     cols: usize,
     rays: &[Ints],
     lineality: &[Ints],
+    wide: bool,
 ) -> Result<StatedList, PlaceFail>
     requires ray_cols { HasCols cols rays.now }
     requires line_cols { HasCols cols lineality.now }
-    requires few_rays { length rays.now < 2 ^ 28 }
-    requires few_lines { length lineality.now < 2 ^ 28 }
+    requires few_rays { length rays.now < 2 ^ 30 }
+    requires few_lines { length lineality.now < 2 ^ 30 }
     requires few_columns { cols < 2 ^ 30 }
-    ensures stated { IfOk result (λ t. IsStatedList cols lineality.now rays.now t.basis.items t.list.items t.taken.rows.items t.taken.places.items t.taken.start) }
+    ensures stated { IfOk result (λ t.
+        IsStatedList cols lineality.now rays.now t.basis.items t.list.items t.taken.rows.items t.taken.places.items t.taken.start) }
     ensures shown { IfErr result (IsShownPlace cols lineality.now rays.now) }
 {
-    let basis = line_basis(alloc, cols, lineality)?;
+    let basis = line_basis(alloc, cols, lineality, wide)?;
     let signs = both_ways(alloc, &basis)?;
     let list = add_copies(alloc, rays, signs)?;
-    let marks = enlarging(alloc, &list, cols)?;
+    let marks = enlarging_by(alloc, &list, cols, wide)?;
     let lead = 2 * basis.len();
     let taken = in_stated_order(alloc, rays, &marks[lead..])?;
     Ok(StatedList { basis, list, taken })

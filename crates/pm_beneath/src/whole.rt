@@ -14,12 +14,13 @@ ghost use Rattle.pm_limits.specs.Limits.{most_rows};
 use crate::run::{RunFail, all_cells};
 use pm_dd::DdFail;
 use pm_dd::first::{first_rows, start_rays};
-use pm_elim::null_space;
+use pm_elim::null_space_by;
 use pm_limits::MOST_ROWS;
 use pm_vector::Ints;
 use std::alloc::Global;
 
-/// The facet rows of a cone in canonical form and lexicographic order, the echelon basis of the rows that vanish, and the cells of all rows.
+/// The facet rows of a cone in canonical form and lexicographic order, the echelon basis of the rows that vanish, and
+/// the cells of all rows.
 #[derive(Drop)]
 pub(crate) struct Whole {
     pub facets: Vec<Ints>,
@@ -28,14 +29,19 @@ pub(crate) struct Whole {
 }
 
 /// The echelon basis of the null space of the rows that enlarge the span.
-fn hull_of(alloc: Global, independent: &[Ints], cols: usize) -> Result<Vec<Ints>, DdFail>
+fn hull_of(
+    alloc: Global,
+    independent: &[Ints],
+    cols: usize,
+    wide: bool,
+) -> Result<Vec<Ints>, DdFail>
     requires columns { HasCols cols independent.now }
-    requires few_rows { length independent.now < 2 ^ 30 }
+    requires few_rows { length independent.now < 2 ^ 32 }
     requires few_columns { cols < 2 ^ 30 }
     ensures null { IfOk result (λ v. (P : List ℕ) × IsNullBasis cols independent.now v.items P) }
     ensures wide { IfErr result (IsEliminationFail cols independent.now) }
 {
-    Ok(null_space(alloc, independent, cols)?)
+    Ok(null_space_by(alloc, independent, cols, wide)?)
 }
 
 /// All of these, by the fronts of the arrangement.
@@ -46,24 +52,28 @@ pub(crate) fn all_fronts(
     equations: &[Ints],
     rows: &[Ints],
     start: usize,
+    wide: bool,
 ) -> Result<Whole, RunFail>
     requires columns { HasCols cols list.now }
-    requires few_list { length list.now < 2 ^ 30 }
+    requires few_list { length list.now < 2 ^ 32 }
     requires few_rows { length rows.now < 2 ^ 30 }
     requires few_equations { length equations.now < 2 ^ 30 }
     requires few_columns { cols < 2 ^ 30 }
     requires arranged { IsArrangement list.now equations.now rows.now start }
-    ensures generators { IfOk result (λ w. AreGenerators cols (CutOut list.now) w.facets.items w.hull.items) }
+    ensures generators { IfOk result (λ w.
+        AreGenerators cols (CutOut list.now) w.facets.items w.hull.items) }
     ensures few_facets { IfOk result (λ w. length w.facets.items ≤ most_rows) }
-    ensures run { IfOk result (λ w. IsRunTo cols equations.now rows.now start (length rows.now) (map (λ s. s.items) w.cells.items)) }
-    ensures ascending { IfOk result (λ w. All (IsAscending (length rows.now)) (map (λ s. s.items) w.cells.items)) }
+    ensures run { IfOk result (λ w. IsRunTo cols equations.now rows.now start (length rows.now)
+        (map (λ s. s.items) w.cells.items)) }
+    ensures ascending { IfOk result (λ w.
+        All (IsAscending (length rows.now)) (map (λ s. s.items) w.cells.items)) }
     ensures few { IfOk result (λ w. length w.cells.items ≤ MOST_ROWS) }
     ensures fail { IfErr result (IsListFail cols list.now equations.now rows.now start) }
 {
     let independent = first_rows(alloc, equations, rows, start)?;
-    let hull = hull_of(alloc, &independent, cols)?;
-    let first = start_rays(alloc, cols, equations, rows, start, &independent, false)?;
-    let all = all_cells(alloc, cols, equations, rows, start, first)?;
+    let hull = hull_of(alloc, &independent, cols, wide)?;
+    let first = start_rays(alloc, cols, equations, rows, start, &independent, wide)?;
+    let all = all_cells(alloc, cols, equations, rows, start, first, wide)?;
     let cells = all.cells;
     let rays = all.rays;
     let mut facets = rays.rows;

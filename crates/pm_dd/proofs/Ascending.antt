@@ -1,6 +1,7 @@
 -- Sorting an order: the same rows in lexicographic order.
-use Rattle.std.specs.Prelude.{ℕ, zero, suc, ◌≡◌, ◌<◌, ◌⊎◌, true, false, List, [], ◌∷◌, length, get_or}
-use Rattle.std.specs.List.{AllPairs, swap}
+use Rattle.pm_geom.proofs.Permuted.{pairs_permuted}
+use Rattle.std.specs.Prelude.{ℕ, zero, suc, ◌≡◌, ◌<◌, ◌⊎◌, true, false, List, [], ◌∷◌, length}
+use Rattle.std.specs.List.{AllPairs}
 use Rattle.std.specs.List.Sorted.{IsPermutation, IsSorted}
 use Rattle.std.specs.Ordering.{int_cmp, is_lt, ordering_then}
 use Rattle.std.specs.declared.cmp.Ordering.{Ordering}
@@ -8,11 +9,9 @@ use Rattle.std.specs.declared.cmp.Ordering.TheVariants.{Less, Equal, Greater}
 use Rattle.std.specs.Cmp.{int_cmp_total}
 use Rattle.std.specs.Cmp.Lexicographic.{lists_total, slice_cmp}
 use Rattle.std.proofs.Common.{ap, arith, inl, inr, refl, subst, sym, ◌∙◌}
-use Rattle.std.proofs.lemmas.Bool.{cases_lt}
 use Rattle.std.proofs.lemmas.Cmp.{int_ranked}
 use Rattle.std.proofs.lemmas.List.{get_or_default}
-use Rattle.std.proofs.lemmas.List.Edits.{length-swap, swapped_from_swap}
-use Rattle.std.proofs.lemmas.List.Sorted.{All-permutation, Contains-permutation, IsPermutation-keeps, ranks_by, sorted_far}
+use Rattle.std.proofs.lemmas.List.Sorted.{All-permutation, Contains-permutation, ranks_by, sorted_far}
 use Rattle.pm_vector.specs.Cones.{IsConeSet}
 use Rattle.pm_vector.specs.Rows.{HasCols, Row, entry}
 use Rattle.pm_vector.proofs.Lists.{Among, Any_among, Contains_among, among_Contains}
@@ -21,65 +20,8 @@ use Rattle.pm_geom.specs.Faces.{ray}
 use Rattle.pm_geom.specs.Generators.{IsBefore}
 use Rattle.pm_dd.proofs.AlikeLaws.{alike_sym}
 use Rattle.pm_dd.proofs.StepLaws.{at_place}
-use native.Mathlib.Decide.{ℕ_discrete}
 use lib.IntN.{ℤ}
 use lib.Signed.{◌<ℤ◌}
-
--- ---- places that an exchange moves
-Moved : ℕ → ℕ → ℕ → ℕ → Type 0
-Moved a b i k = ((i ≡ a) × (k ≡ b)) ⊎ (((i ≡ b) × (k ≡ a)) ⊎ (¬ (i ≡ a) × ¬ (i ≡ b) × (k ≡ i)))
-
-moved_once : (a b i j k : ℕ) → Moved a b i k → Moved a b j k → i ≡ j
-unfolding Moved
-moved_once a b i j k (inl p) (inl q) = p.0 ∙ sym q.0
-moved_once a b i j k (inl p) (inr (inl q)) = p.0 ∙ sym q.1 ∙ p.1 ∙ sym q.0
-moved_once a b i j k (inl p) (inr (inr q)) = absurd (q.1 (sym q.2 ∙ p.1))
-moved_once a b i j k (inr (inl p)) (inl q) = p.0 ∙ sym q.1 ∙ p.1 ∙ sym q.0
-moved_once a b i j k (inr (inl p)) (inr (inl q)) = p.0 ∙ sym q.0
-moved_once a b i j k (inr (inl p)) (inr (inr q)) = absurd (q.0 (sym q.2 ∙ p.1))
-moved_once a b i j k (inr (inr p)) (inl q) = absurd (p.1 (sym p.2 ∙ q.1))
-moved_once a b i j k (inr (inr p)) (inr (inl q)) = absurd (p.0 (sym p.2 ∙ q.1))
-moved_once a b i j k (inr (inr p)) (inr (inr q)) = sym p.2 ∙ q.2
-
--- where the row at a place stood before the exchange
-record Stood (xs : List Row) (a b i : ℕ) (d : Row) : Type 0 where
-  k : ℕ
-  within : k < length xs
-  moved : Moved a b i k
-  here : get_or (swap xs a b) i d ≡ get_or xs k d
-
-stood : (xs : List Row) (a b i : ℕ) (d : Row) → a < length xs → b < length xs → i < length xs → Stood xs a b i d
-unfolding Moved
-stood xs a b i d la lb li = let s = swapped_from_swap xs (swap xs a b) a b d la lb refl in elim (ℕ_discrete i a) [
-  | yes e ↦ record { k = b; within = lb; moved = inl (e, refl); here = ap (λ (m : ℕ). get_or (swap xs a b) m d) e ∙ s.0 }
-  | no na ↦ elim (ℕ_discrete i b) [
-    | yes e ↦ record { k = a; within = la; moved = inr (inl (e, refl)); here = ap (λ (m : ℕ). get_or (swap xs a b) m d) e ∙ s.1 }
-    | no nb ↦ record { k = i; within = li; moved = inr (inr (na, nb, refl)); here = s.2 i na nb }
-  ]
-]
-
--- ---- what holds of each two places holds after exchanges
-module _ (R : Row → Row → Type 0) where
-  EachTwo : List Row → Type 0
-  EachTwo xs = (i j : ℕ) (d : Row) → i < length xs → j < length xs → ¬ (i ≡ j) → R (get_or xs i d) (get_or xs j d)
-
-  two_of_pairs : (xs : List Row) → ((x y : Row) → R x y → R y x) → AllPairs R xs → EachTwo xs
-  unfolding EachTwo
-  two_of_pairs xs turn h i j d li lj ne = elim (cases_lt i j) [ inl l ↦ h i j d l lj | inr m ↦ turn (get_or xs j d) (get_or xs i d) (h j i d (omega arith) li) ]
-
-  two_after : (xs : List Row) (a b : ℕ) → a < length xs → b < length xs → EachTwo xs → EachTwo (swap xs a b)
-  unfolding EachTwo
-  two_after xs a b la lb h i j d li lj ne =
-      let n = length-swap xs a b in
-      let s = stood xs a b i d la lb (omega arith) in
-      let t = stood xs a b j d la lb (omega arith) in
-      rw (s.here, t.here) (h s.k t.k d s.within t.within (λ e. ne (moved_once a b i j s.k s.moved (subst (λ (m : ℕ). Moved a b j m) (sym e) t.moved))))
-
-  pairs_permutation : (xs ys : List Row) → ((x y : Row) → R x y → R y x) → IsPermutation xs ys → AllPairs R xs → AllPairs R ys
-  unfolding EachTwo
-  pairs_permutation xs ys turn p h =
-      let two = IsPermutation-keeps xs EachTwo (two_of_pairs xs turn h) (λ l a b la lb t. two_after l a b la lb t) ys p in
-      λ i j d l m. two i j d (omega arith) m (λ e. omega arith)
 
 -- ---- an order stays one
 pub order_permutation : (n : ℕ) (S : Row → Type 0) → IsConeSet S → (V W : List Row) → IsPermutation V W → IsOrder n S V → IsOrder n S W
@@ -89,7 +31,7 @@ order_permutation n S cs V W p o = record {
       let w = o.all r e in
       let i : Among w.1 V = among_Contains V (w.0, w.2, w.3) in
       Any_among (λ v. SameModulo n S r v) (among_Contains W (Contains-permutation V W w.1 p (Contains_among i))) w.4;
-  once = pairs_permutation (λ v w. ¬ (SameModulo n S v w)) V W (λ x y no t. no (alike_sym n S cs t)) p o.once;
+  once = pairs_permuted (λ v w. ¬ (SameModulo n S v w)) V W (λ x y no t. no (alike_sym n S cs t)) p o.once;
 }
 
 -- ---- lexicographic order

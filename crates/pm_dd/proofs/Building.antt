@@ -21,7 +21,7 @@ use Rattle.pm_geom.proofs.Facets.{order_as}
 use Rattle.pm_geom.proofs.Polar.{cols_at}
 use Rattle.pm_geom.proofs.Reduce.{extreme_as, same_modulo_as}
 use Rattle.pm_geom.proofs.Independent.{decide_zero}
-use Rattle.pm_dd.specs.Description.{Adjacent, combined, Source, kept, pair, IsSource, IsRayStep, IsDual}
+use Rattle.pm_dd.specs.Description.{Adjacent, combined, Source, kept, pair, IsSource, IsRayStep, AreDualRays}
 use Rattle.pm_dd.specs.Form.{KeepForm}
 use Rattle.pm_dd.specs.Fronts.{both_signs, HalfSpaces}
 use Rattle.pm_dd.specs.StepFails.{AreTooMany}
@@ -427,7 +427,7 @@ start_table n E J D start W Z d hc le lw lz rows sets = record {
     len : length (E ++ take start J) ≡ length E + start
     len = length-append E (take start J) ∙ ap (λ (k : ℕ). length E + k) (length-take-le start J le)
 
-    dual : IsDual n (E ++ take start J) D
+    dual : AreDualRays n (E ++ take start J) D
     dual = record {
       rows_cols = hc;
       dual_cols = all_from (λ (x : Row). length x ≡ n) D (λ x i. let w = place_of i in let q = w.1 in let m = d.as_many in subst (λ (r : Row). length r ≡ n) w.2 (d.each w.0 (omega arith)).cols);

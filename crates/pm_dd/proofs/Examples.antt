@@ -20,7 +20,7 @@ use Rattle.pm_geom.specs.Generators.{AreGenerators, IsBefore}
 use Rattle.pm_geom.specs.StatedOrder.{IsStatedOrder, rows_marked}
 use Rattle.pm_geom.proofs.Facets.{dot-opposite}
 use Rattle.pm_geom.proofs.Polar.{cut_from}
-use Rattle.pm_dd.specs.Description.{IsDual}
+use Rattle.pm_dd.specs.Description.{AreDualRays}
 use Rattle.pm_dd.specs.Examples.{QuadrantIsRead, quadrant}
 use Rattle.pm_dd.specs.Mixed.{HaveSameRows}
 use Rattle.pm_dd.proofs.Start.{dual_is_order}
@@ -45,7 +45,7 @@ not_itself : ¬ (IsBefore (pair 1 0) (pair 1 0))
 not_itself b = let l = b.below in omega (arith, ints)
 
 -- ---- the quadrant
-dual : IsDual 2 quadrant quadrant
+dual : AreDualRays 2 quadrant quadrant
 dual = record { rows_cols = (refl, (refl, tt)); dual_cols = (refl, (refl, tt)); as_many = refl; apart = apart; own = own }
   where
     apart : (i j : ℕ) → i < 2 → j < 2 → ¬ (i ≡ j) → dot (ray quadrant i) (ray quadrant j) ≡ pos 0

@@ -23,7 +23,7 @@ use Rattle.pm_geom.proofs.Polar.{cols_at, cut_at, cut_from, membership_decided}
 use Rattle.pm_geom.proofs.Facets.{dot-opposite, opposite-dot, order_as}
 use Rattle.pm_geom.proofs.Reduce.{extreme_as, same_modulo_as}
 use Rattle.pm_geom.proofs.Independent.{independent_more}
-use Rattle.pm_dd.specs.Description.{Adjacent, Source, kept, pair, IsSource, IsRayStep, IsNext, IsDual}
+use Rattle.pm_dd.specs.Description.{Adjacent, Source, kept, pair, IsSource, IsRayStep, IsNext, AreDualRays}
 use Rattle.pm_dd.specs.Fronts.{both_signs, HalfSpaces, IsFront, DdStep, SignsCutOut, StepWithEquations, NextWithEquations, DualWithEquations}
 use Rattle.pm_dd.proofs.StepLaws.{flat_on, place_of, at_place, step_is_complete}
 use Rattle.pm_dd.proofs.Next.{next_is_order}
@@ -243,7 +243,7 @@ module _ (n : ℕ) (E J : List Row) where
   }
 
 -- ---- the start
-module _ (n : ℕ) (E J D : List Row) (d : IsDual n (E ++ J) D) where
+module _ (n : ℕ) (E J D : List Row) (d : AreDualRays n (E ++ J) D) where
   whole : IsOrder n (CutOut (E ++ J)) D
   whole = dual_is_order n (E ++ J) D d
 

@@ -10,15 +10,14 @@ use Rattle.pm_vector.proofs.ConeLaws.{dot_in, in_generator, in_line, in_line_opp
 use Rattle.pm_vector.proofs.Lists.{Any_among, all_append, all_at, all_from, among_All, append_all}
 use Rattle.pm_vector.proofs.RowLaws.{dot_comm, entry-opposite, length-opposite}
 use Rattle.pm_vector.specs.Bases.{row_at}
-use Rattle.pm_vector.proofs.Rank.{independent_are_few}
-use Rattle.pm_vector.proofs.Columns.{basis_is_independent}
-use Rattle.pm_vector.proofs.Spans.{same_span_sym, span_at, span_to}
+use Rattle.pm_vector.proofs.Spans.{same_span_sym}
 use Rattle.pm_dd.specs.Fronts.{HalfSpaces, both_signs}
 use Rattle.pm_dd.proofs.Fronts.{signs_cut_out}
 use Rattle.pm_dd.proofs.MixedLaws.{generators_as}
 use Rattle.pm_dd.proofs.ZeroRows.{dot_zero, no_basis, zero_of_span}
 use Rattle.pm_elim.specs.Evidence.{IsBasisOf, unit}
 use Rattle.pm_elim.proofs.DotLaws.{dot-unit, null_of_span}
+use Rattle.pm_elim.proofs.PrefixLaws.{at_most_columns}
 use Rattle.pm_geom.specs.Cones.{CutOut, InLineality, IsExtreme, IsValid}
 use Rattle.pm_geom.specs.Generators.{AreGenerators}
 use Rattle.pm_geom.proofs.Facets.{dot-opposite, opposite-dot, order_generates, valid_by_products}
@@ -53,12 +52,12 @@ module _ (n : ℕ) (L G D : List Row) (d : IsDoubleList n L G D) where
   signs_length [] = refl
   signs_length (e ∷ E) = let h = signs_length E in omega arith
 
-  pub list_length : length D ≤ length L + length L + length G
+  pub list_length : length D ≤ n + n + length G
   list_length =
-      let few = independent_are_few d.basis L (basis_is_independent n d.basis d.pivots d.is_basis.echelon.basis) (λ i l. span_to d.is_basis.span (span_at i l)) in
+      let few = at_most_columns n d.basis d.pivots d.is_basis.echelon in
       let a = signs_length d.basis in
       let b = length-append (both_signs d.basis) G in
-      subst (λ (Z : List Row). length Z ≤ length L + length L + length G) (sym d.list) (omega arith)
+      subst (λ (Z : List Row). length Z ≤ n + n + length G) (sym d.list) (omega arith)
 
 -- ---- polarity: the valid rows are the half-spaces of the generators
 module _ (n : ℕ) (G L : List Row) (hG : HasCols n G) (hL : HasCols n L) where

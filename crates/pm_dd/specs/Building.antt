@@ -42,14 +42,16 @@ pub record IsNextNegative (passed : ℕ → Type 0) (v : List ℤ) (start n j : 
 -- places of negative values from `start` on, and before n, in order; all others are passed over
 abbrev pub AreNegativesLeft : (ℕ → Type 0) → List ℤ → ℕ → ℕ → List ℕ → Type 0
 AreNegativesLeft passed v start n [] = (l : ℕ) → start ≤ l → l < n → passed l
-AreNegativesLeft passed v start n (j ∷ js) = IsNextNegative passed v start n j × AreNegativesLeft passed v (j + 1) n js
+AreNegativesLeft passed v start n (j ∷ js) = IsNextNegative passed v start n j
+    × AreNegativesLeft passed v (j + 1) n js
 
 -- the cone of the equations E, the first f rows of J, and the next one
 abbrev pub NextSet : List Row → List Row → ℕ → Row → Type 0
 NextSet E J f = HalfSpaces E (row_at J f ∷ take f J)
 
 -- w is like the ray that the source s gives, and y is its zero set
-pub record IsMade (n : ℕ) (E J : List Row) (f : ℕ) (V : List Row) (s : Source) (w : Row) (y : List Bool) : Type 0 where
+pub record IsMade (n : ℕ) (E J : List Row) (f : ℕ) (V : List Row) (s : Source) (w : Row) (y : List Bool)
+    : Type 0 where
   pub source : IsSource (take f J) (row_at J f) V s
   pub cols : length w ≡ n
   pub alike : SameModulo n (NextSet E J f) (source_row (row_at J f) V s) w
@@ -58,13 +60,15 @@ pub record IsMade (n : ℕ) (E J : List Row) (f : ℕ) (V : List Row) (s : Sourc
   pub zeros : IsZeroSet J (suc f) w y
 
 -- W has one such row for each source that was seen, and Y their zero sets
-pub record IsBuilt (n : ℕ) (E J : List Row) (f : ℕ) (V : List Row) (seen : Source → Type 0) (W : List Row) (Y : List (List Bool)) : Type 0 where
+pub record IsBuilt (n : ℕ) (E J : List Row) (f : ℕ) (V : List Row) (seen : Source
+    → Type 0) (W : List Row) (Y : List (List Bool)) : Type 0 where
   pub sources : List Source
   pub as_many : length sources ≡ length W
   pub zeros_many : length Y ≡ length W
   pub made : (k : ℕ) → k < length W → IsMade n E J f V (get_or sources k (kept 0)) (ray W k) (zero_set Y k)
   pub only : (k : ℕ) → k < length W → seen (get_or sources k (kept 0))
-  pub every : (s : Source) → IsSource (take f J) (row_at J f) V s → seen s → (k : ℕ) × (k < length W) × (get_or sources k (kept 0) ≡ s)
+  pub every : (s : Source) → IsSource (take f J) (row_at J f) V s → seen s
+      → (k : ℕ) × (k < length W) × (get_or sources k (kept 0) ≡ s)
   pub once : (i j : ℕ) → i < j → j < length W → ¬ (get_or sources i (kept 0) ≡ get_or sources j (kept 0))
 
 -- the kept rays before i
@@ -92,7 +96,8 @@ pub record IsNoPair (table : Table) (i j need : ℕ) : Type 0 where
   pub dropped : (member_count both < need) ⊎ OtherContains table both i j
 
 -- the combination of an adjacent pair, with its zero set for the next front
-pub record IsPairRay (V : List Row) (table : Table) (v : List ℤ) (i j f : ℕ) (w : Row) (y : List Bool) : Type 0 where
+pub record IsPairRay (V : List Row) (table : Table) (v : List ℤ) (i j f : ℕ) (w : Row) (y : List Bool)
+    : Type 0 where
   pub both : List Bool
   pub cols : length both ≡ table.row_len
   pub meet : IsIntersection both (zero_set table.rows i) (zero_set table.rows j)

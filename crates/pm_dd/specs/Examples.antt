@@ -25,7 +25,8 @@ pub record QuadrantIsRead : Type 0 where
   pub with_line : ¬ (AreGenerators 2 (CutOut quadrant) (pair 0 1 ∷ pair 1 0 ∷ []) (pair 1 0 ∷ []))
   -- of (1,0), (2,0), (0,1) the second does not enlarge the span, so it comes last
   pub stated : IsStatedOrder (pair 1 0 ∷ pair 2 0 ∷ pair 0 1 ∷ []) (pair 1 0 ∷ pair 0 1 ∷ pair 2 0 ∷ [])
-  pub not_stated : ¬ (IsStatedOrder (pair 1 0 ∷ pair 2 0 ∷ pair 0 1 ∷ []) (pair 1 0 ∷ pair 2 0 ∷ pair 0 1 ∷ []))
+  pub not_stated
+      : ¬ (IsStatedOrder (pair 1 0 ∷ pair 2 0 ∷ pair 0 1 ∷ []) (pair 1 0 ∷ pair 2 0 ∷ pair 0 1 ∷ []))
   -- another order has the same rows, and a list without one of them has not
   pub turned : HaveSameRows (pair 0 1 ∷ pair 1 0 ∷ []) (pair 1 0 ∷ pair 0 1 ∷ [])
   pub one_less : ¬ (HaveSameRows (pair 0 1 ∷ pair 1 0 ∷ []) (pair 1 0 ∷ []))

@@ -1,4 +1,5 @@
--- Which rows generate what half-spaces cut out, and which are the facets of what rows generate (Ziegler, Lectures on Polytopes, lectures 1 and 2).
+-- Which rows generate what half-spaces cut out, and which are the facets of what rows generate (Ziegler, Lectures on
+-- Polytopes, lectures 1 and 2).
 use Rattle.std.specs.Prelude.{ℕ, ◌≡◌, ◌⊎◌, List, [], ◌∷◌, ◌++◌, length}
 use Rattle.pm_vector.specs.Rows.{Row, entry, IsZero}
 use Rattle.pm_dd.specs.Fronts.{HalfSpaces}
@@ -17,7 +18,8 @@ pub record HasPoint (n : ℕ) (A E : List Row) : Type 0 where
   pub solves : HalfSpaces E A point
   pub positive : pos 0 <ℤ entry point 0
 
--- x is in the cone over the polytope that inequalities and equations describe: where that has a point, the solutions with no negative first entry, and else 0
+-- x is in the cone over the polytope that inequalities and equations describe: where that has a point, the solutions
+-- with no negative first entry, and else 0
 pub record InPolytopeCone (n : ℕ) (A E : List Row) (x : Row) : Type 0 where
   pub solves : HalfSpaces E A x
   pub first : pos 0 ≤ℤ entry x 0
@@ -35,6 +37,7 @@ half_spaces_of Polytope n A = A ++ unit n 0 ∷ []
 half_spaces_of Cone n A = A
 half_spaces_of Fan n A = A
 
--- F has each facet row of cone(G) + span(L) once, in canonical form and lexicographic order, and H is the echelon basis of the rows that vanish on the cone
+-- F has each facet row of cone(G) + span(L) once, in canonical form and lexicographic order, and H is the echelon
+-- basis of the rows that vanish on the cone
 abbrev pub AreFacets : ℕ → List Row → List Row → List Row → List Row → Type 0
 AreFacets n G L F H = AreGenerators n (IsValid n G L) F H

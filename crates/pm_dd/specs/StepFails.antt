@@ -21,7 +21,8 @@ use Rattle.pm_dd.specs.declared.fails.StepFail.TheVariants.{Product, Pair, Many,
 use lib.IntN.{ℤ}
 use Rattle.pm_limits.specs.Limits.{most_rows}
 
--- in the column c a product or the difference of (p/g) s - (q/g) r leaves the range, where g is the greatest common divisor of |q| and p
+-- in the column c a product or the difference of (p/g) s - (q/g) r leaves the range, where g is the greatest common
+-- divisor of |q| and p
 pub record IsWideFactors (r : Row) (p : ℤ) (s : Row) (q : ℤ) (c : ℕ) : Type 0 where
   pub a : ℤ
   pub b : ℤ
@@ -34,7 +35,8 @@ abbrev pub IfColumn : CombinationFail → (ℕ → Type 0) → Type 0
 IfColumn (Column c) Q = Q c
 IfColumn NoMemory Q = Unit {0}
 
--- no other zero set has what those of the rays at i and at j both have, and their combination leaves the range in the column c
+-- no other zero set has what those of the rays at i and at j both have, and their combination leaves the range in the
+-- column c
 pub record IsWideTablePair (V : List Row) (table : Table) (v : List ℤ) (i j c : ℕ) : Type 0 where
   pub both : List Bool
   pub meet : IsIntersection both (zero_set table.rows i) (zero_set table.rows j)
@@ -48,7 +50,8 @@ IsPairFailOf V table v i j (Pair k l c) = (k ≡ i) × (l ≡ j) × IsWideTableP
 IsPairFailOf V table v i j (Many W) = ⊥
 IsPairFailOf V table v i j Memory = Unit {0}
 
--- the rays at i and at j are a pair that is combined for the next row, and their combination leaves the range in the column c
+-- the rays at i and at j are a pair that is combined for the next row, and their combination leaves the range in the
+-- column c
 pub record IsWideSource (J : List Row) (f : ℕ) (V : List Row) (i j c : ℕ) : Type 0 where
   pub source : IsSource (take f J) (row_at J f) V (pair i j)
   pub combination : IsWideCombination (row_at J f) (ray V i) (ray V j) c
@@ -66,7 +69,8 @@ pub record AreTooMany (n : ℕ) (S : Row → Type 0) (W : List Row) : Type 0 whe
   pub apart : AllPairs (λ v w. ¬ (SameModulo n S v w)) W
   pub many : most_rows < length W
 
--- the refusal names a ray whose product with the next row leaves the range, an adjacent pair with a column in which its combination does, or too many extreme rays of the next cone
+-- the refusal names a ray whose product with the next row leaves the range, an adjacent pair with a column in which
+-- its combination does, or too many extreme rays of the next cone
 abbrev pub IsStepFail : ℕ → List Row → List Row → ℕ → List Row → StepFail → Type 0
 IsStepFail n E J f V (Product k) = (k < length V) × ¬ (ProductsStay (row_at J f) (ray V k))
 IsStepFail n E J f V (Pair i j c) = IsWideSource J f V i j c

@@ -25,7 +25,8 @@ fn narrow_combination(
     requires positive { pos 0 <ℤ up_value }
     requires cols { length down.now ≡ length up.now }
     ensures combination { IfOk result (λ w. IsCombination up.now up_value down.now down_value w) }
-    ensures wide { IfErr result (λ f. IfColumn f (λ c. IsWideFactors up.now up_value down.now down_value c)) }
+    ensures wide { IfErr result (λ f.
+        IfColumn f (λ c. IsWideFactors up.now up_value down.now down_value c)) }
 {
     let factors = cancelling_factors(down_value, up_value);
     let mut made = down.copy(alloc)?;
@@ -76,7 +77,8 @@ pub(crate) fn combination_of(
     requires positive { pos 0 <ℤ up_value }
     requires cols { length down.now ≡ length up.now }
     ensures combination { IfOk result (λ w. IsCombination up.now up_value down.now down_value w) }
-    ensures wide { IfErr result (λ f. IfColumn f (λ c. IsWideFactors up.now up_value down.now down_value c)) }
+    ensures wide { IfErr result (λ f.
+        IfColumn f (λ c. IsWideFactors up.now up_value down.now down_value c)) }
 {
     let fail = match narrow_combination(alloc, up, up_value, down, down_value) {
         Ok(made) => return Ok(made),

@@ -9,12 +9,12 @@ ghost use Rattle.pm_geom.specs.Generators.{AreGenerators};
 ghost use Rattle.std.specs.Prelude.{IfErr, IfOk, List, length, ◌<◌, ◌^◌, ◌≤◌, ℕ};
 ghost use Rattle.pm_limits.specs.Limits.{most_rows};
 
-use crate::eliminations::null_rows_of;
 use crate::fails::DdFail;
 use crate::first::{first_rows, start_rays};
 use crate::mixed::mixed_order;
 use crate::order::arranged;
 use crate::run::all_rays;
+use pm_elim::null_space_by;
 use pm_geom::descriptions::Generators;
 use pm_vector::Ints;
 use std::alloc::Global;
@@ -27,20 +27,21 @@ fn lineality_of(
     wide: bool,
 ) -> Result<Vec<Ints>, DdFail>
     requires columns { HasCols cols independent.now }
-    requires few_rows { length independent.now < 2 ^ 30 }
-    requires few_columns { cols < 2 ^ 30 }
+    requires few_rows { length independent.now < 2 ^ 32 }
+    requires few_columns { cols < 2 ^ 31 }
     ensures null { IfOk result (λ v. (P : List ℕ) × IsNullBasis cols independent.now v.items P) }
     ensures wide { IfErr result (IsEliminationFail cols independent.now) }
 {
-    Ok(null_rows_of(alloc, independent, cols, wide)?)
+    Ok(null_space_by(alloc, independent, cols, wide)?)
 }
 
 /// All extreme rays of the cone that the rows cut out, and the echelon basis of its lineality, by the stated order.
 fn stated_rays(alloc: Global, rows: &[Ints], cols: usize, wide: bool) -> Result<Generators, DdFail>
     requires columns { HasCols cols rows.now }
-    requires few_rows { length rows.now < 2 ^ 30 }
-    requires few_columns { cols < 2 ^ 30 }
-    ensures generators { IfOk result (λ g. AreGenerators cols (CutOut rows.now) g.rays.items g.lineality.items) }
+    requires few_rows { length rows.now < 2 ^ 32 }
+    requires few_columns { cols < 2 ^ 31 }
+    ensures generators { IfOk result (λ g.
+        AreGenerators cols (CutOut rows.now) g.rays.items g.lineality.items) }
     ensures few { IfOk result (λ g. length g.rays.items ≤ most_rows) }
     ensures shown { IfErr result (λ f. IsShown cols rows.now f) }
 {
@@ -78,9 +79,10 @@ pub(crate) fn rays_of(
     wide: bool,
 ) -> Result<Generators, DdFail>
     requires columns { HasCols cols rows.now }
-    requires few_rows { length rows.now < 2 ^ 30 }
-    requires few_columns { cols < 2 ^ 30 }
-    ensures generators { IfOk result (λ g. AreGenerators cols (CutOut rows.now) g.rays.items g.lineality.items) }
+    requires few_rows { length rows.now < 2 ^ 32 }
+    requires few_columns { cols < 2 ^ 31 }
+    ensures generators { IfOk result (λ g.
+        AreGenerators cols (CutOut rows.now) g.rays.items g.lineality.items) }
     ensures few { IfOk result (λ g. length g.rays.items ≤ most_rows) }
     ensures shown { IfErr result (λ f. IsShown cols rows.now f) }
     ensures tame { AreTame cols rows.now → IfErr result IsMemory }
@@ -93,15 +95,20 @@ pub(crate) fn rays_of(
     }
 }
 
-/// All extreme rays of the cone of the rows with `cols` entries that have a non-negative product with each of `rows`, and the echelon basis of its lineality.
-/// The rays are primitive, with zeros in the pivot columns of that basis, each once and in lexicographic order; there are at most `MOST_ROWS` of them.
-/// The rows are first tried in a mixed order. Where that run leaves the range or has too many rays, the stated order is run, and its answer or refusal counts.
-/// `Wide` only with evidence: E1 on the rows, or on those that enlarge the span of the ones before them; or E2 on a front of the stated order. `Many` only with more than `MOST_ROWS` extreme rays of the cone of such a front (E5).
+/// All extreme rays of the cone of the rows with `cols` entries that have a non-negative product with each of `rows`,
+/// and the echelon basis of its lineality.
+/// The rays are primitive, with zeros in the pivot columns of that basis, each once and in lexicographic order; there
+/// are at most `MOST_ROWS` of them.
+/// The rows are first tried in a mixed order. Where that run leaves the range or has too many rays, the stated order
+/// is run, and its answer or refusal counts.
+/// `Wide` only with evidence: E1 on the rows, or on those that enlarge the span of the ones before them; or E2 on a
+/// front of the stated order. `Many` only with more than `MOST_ROWS` extreme rays of the cone of such a front (E5).
 pub fn extreme_rays(alloc: Global, rows: &[Ints], cols: usize) -> Result<Generators, DdFail>
     requires columns { HasCols cols rows.now }
     requires few_rows { length rows.now < 2 ^ 30 }
-    requires few_columns { cols < 2 ^ 30 }
-    ensures generators { IfOk result (λ g. AreGenerators cols (CutOut rows.now) g.rays.items g.lineality.items) }
+    requires few_columns { cols < 2 ^ 31 }
+    ensures generators { IfOk result (λ g.
+        AreGenerators cols (CutOut rows.now) g.rays.items g.lineality.items) }
     ensures few { IfOk result (λ g. length g.rays.items ≤ most_rows) }
     ensures shown { IfErr result (λ f. IsShown cols rows.now f) }
     ensures tame { AreTame cols rows.now → IfErr result IsMemory }
@@ -109,14 +116,15 @@ pub fn extreme_rays(alloc: Global, rows: &[Ints], cols: usize) -> Result<Generat
     rays_of(alloc, rows, cols, false)
 }
 
-/// The same by wide numbers on the way: a step that leaves the range is worked in them, so that no row is refused whose
-/// entries are in the range, but only a product of two rows that is not.
+/// The same by wide numbers on the way: a step that leaves the range is worked in them, so that no row is refused
+/// whose entries are in the range, but only a product of two rows that is not.
 /// A refusal is that of a step by numbers of the range alone, with its evidence.
 pub fn wide_extreme_rays(alloc: Global, rows: &[Ints], cols: usize) -> Result<Generators, DdFail>
     requires columns { HasCols cols rows.now }
     requires few_rows { length rows.now < 2 ^ 30 }
-    requires few_columns { cols < 2 ^ 30 }
-    ensures generators { IfOk result (λ g. AreGenerators cols (CutOut rows.now) g.rays.items g.lineality.items) }
+    requires few_columns { cols < 2 ^ 31 }
+    ensures generators { IfOk result (λ g.
+        AreGenerators cols (CutOut rows.now) g.rays.items g.lineality.items) }
     ensures few { IfOk result (λ g. length g.rays.items ≤ most_rows) }
     ensures shown { IfErr result (λ f. IsShown cols rows.now f) }
     ensures tame { AreTame cols rows.now → IfErr result IsMemory }

@@ -61,7 +61,8 @@ impl<T: Drop> From<AllocFailed<T>> for DdFail {
 pub enum StepFail {
     /// The product of the next row with the ray at this place leaves the range.
     Product(usize),
-    /// The combination of two adjacent rays, the next row being positive on the first and negative on the second, leaves the range in a column.
+    /// The combination of two adjacent rays, the next row being positive on the first and negative on the second,
+    /// leaves the range in a column.
     Pair {
         first: usize,
         second: usize,

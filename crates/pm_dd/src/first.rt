@@ -8,13 +8,12 @@ ghost use Rattle.pm_dd.specs.Refusals.{IsShownOnRows};
 ghost use Rattle.pm_dd.specs.Tables.{IsRayTable};
 ghost use Rattle.pm_elim.specs.Duals.{IfDependent, IfDualWide};
 ghost use Rattle.pm_elim.specs.Evidence.{IsEvidence};
-ghost use Rattle.std.specs.Prelude.{IfErr, IfOk, length, take, ◌++◌, ◌+◌, ◌<◌, ◌^◌, ◌≡◌, ◌≤◌};
+ghost use Rattle.std.specs.Prelude.{IfErr, IfOk, length, take, ◌*◌, ◌++◌, ◌+◌, ◌<◌, ◌^◌, ◌≡◌, ◌≤◌};
 
-use crate::eliminations::duals_of;
 use crate::fails::DdFail;
 use crate::rays::Rays;
 use pm_bits::{BitRow, BitTable};
-use pm_elim::{DualFail, copies};
+use pm_elim::{DualFail, copies, dual_basis_by};
 use pm_geom::{Evidence, RowList};
 use pm_limits::MOST_ROWS;
 use pm_vector::Ints;
@@ -56,7 +55,8 @@ pub fn first_rows(
     Ok(made)
 }
 
-/// The rays of the start: the dual rows of the first inequalities, which with the equations are the independent rows handed in.
+/// The rays of the start: the dual rows of the first inequalities, which with the equations are the independent rows
+/// handed in.
 fn first_rays(
     alloc: Global,
     cols: usize,
@@ -68,16 +68,20 @@ fn first_rays(
 ) -> Result<Rays, DualFail>
     requires cols { HasCols cols (equations.now ++ take start rows.now) }
     requires within { start ≤ length rows.now }
-    requires few_rows { length equations.now + start < 2 ^ 30 }
-    requires few_columns { cols < 2 ^ 30 }
+    requires few_rows { length equations.now + start < 2 ^ 32 }
+    requires few_columns { cols < 2 ^ 31 }
     requires these { independent.now ≡ equations.now ++ take start rows.now }
-    ensures table { IfOk result (λ r. IsRayTable cols equations.now rows.now start r.rows.items r.zeros.rows) }
+    ensures table { IfOk result (λ r.
+        IsRayTable cols equations.now rows.now start r.rows.items r.zeros.rows) }
     ensures row_len { IfOk result (λ r. r.zeros.row_len ≡ length rows.now) }
-    ensures reduced { IfOk result (λ r. AreReduced cols (equations.now ++ take start rows.now) r.rows.items) }
-    ensures dependent { IfErr result (λ f. IfDependent f (¬ (IsIndependent (equations.now ++ take start rows.now)))) }
-    ensures wide { IfErr result (λ f. IfDualWide f (λ e. IsEvidence cols (equations.now ++ take start rows.now) e)) }
+    ensures reduced { IfOk result (λ r.
+        AreReduced cols (equations.now ++ take start rows.now) r.rows.items) }
+    ensures dependent { IfErr result (λ f.
+        IfDependent f (¬ (IsIndependent (equations.now ++ take start rows.now)))) }
+    ensures wide { IfErr result (λ f.
+        IfDualWide f (λ e. IsEvidence cols (equations.now ++ take start rows.now) e)) }
 {
-    let duals = duals_of(alloc, independent, cols, wide)?;
+    let duals = dual_basis_by(alloc, independent, cols, wide)?;
     let mut made = Vec::new(alloc);
     let mut zeros = BitTable::new(alloc, rows.len());
     for k in 0..start {
@@ -101,14 +105,16 @@ pub fn start_rays(
 ) -> Result<Rays, DdFail>
     requires cols { HasCols cols (equations.now ++ take start rows.now) }
     requires within { start ≤ length rows.now }
-    requires few_rows { length equations.now + start < 2 ^ 30 }
-    requires few_columns { cols < 2 ^ 30 }
+    requires few_rows { start + 2 * length equations.now < 2 ^ 32 }
+    requires few_columns { cols < 2 ^ 31 }
     requires these { independent.now ≡ equations.now ++ take start rows.now }
     requires independent { IsIndependent (equations.now ++ take start rows.now) }
-    ensures table { IfOk result (λ r. IsRayTable cols equations.now rows.now start r.rows.items r.zeros.rows) }
+    ensures table { IfOk result (λ r.
+        IsRayTable cols equations.now rows.now start r.rows.items r.zeros.rows) }
     ensures row_len { IfOk result (λ r. r.zeros.row_len ≡ length rows.now) }
     ensures few { IfOk result (λ r. length r.rows.items ≤ MOST_ROWS) }
-    ensures reduced { IfOk result (λ r. AreReduced cols (equations.now ++ take start rows.now) r.rows.items) }
+    ensures reduced { IfOk result (λ r.
+        AreReduced cols (equations.now ++ take start rows.now) r.rows.items) }
     ensures shown { IfErr result (IsShownOnRows cols equations.now rows.now start) }
 {
     let rays = match first_rays(alloc, cols, equations, rows, start, independent, wide) {

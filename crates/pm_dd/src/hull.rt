@@ -29,10 +29,11 @@ fn cone_generators(
 ) -> Result<Generators, DdFail>
     requires row_cols { HasCols cols rows.now }
     requires equation_cols { HasCols cols equations.now }
-    requires few_rows { length rows.now < 2 ^ 29 }
-    requires few_equations { length equations.now < 2 ^ 28 }
-    requires few_columns { cols < 2 ^ 30 }
-    ensures generators { IfOk result (λ g. AreGenerators cols (HalfSpaces equations.now rows.now) g.rays.items g.lineality.items) }
+    requires few_rows { length rows.now ≤ 2 ^ 30 }
+    requires few_equations { length equations.now < 2 ^ 31 }
+    requires few_columns { cols ≤ 2 ^ 30 }
+    ensures generators { IfOk result (λ g.
+        AreGenerators cols (HalfSpaces equations.now rows.now) g.rays.items g.lineality.items) }
     ensures few { IfOk result (λ g. length g.rays.items ≤ most_rows) }
     ensures shown { IfErr result (IsShownOnParts cols equations.now rows.now) }
 {
@@ -40,12 +41,14 @@ fn cone_generators(
     rays_of(alloc, &list, cols, wide)
 }
 
-/// All facet rows of the cone that `rays` and `lineality` generate, and the echelon basis of the rows that vanish on it.
-/// The facet rows are primitive, with zeros in the pivot columns of that basis, each once and in lexicographic order; there are at most `MOST_ROWS` of them.
+/// All facet rows of the cone that `rays` and `lineality` generate, and the echelon basis of the rows that vanish on
+/// it.
+/// The facet rows are primitive, with zeros in the pivot columns of that basis, each once and in lexicographic order;
+/// there are at most `MOST_ROWS` of them.
 /// By polarity these are the generators of the cone that the rays, with the lineality as equations, cut out.
 /// A refusal has evidence on the lineality, or on its echelon basis both ways and then the rays.
-/// With `wide`, a step that leaves the range is worked by wide numbers; a refusal is still that of a step by numbers of the
-/// range alone.
+/// With `wide`, a step that leaves the range is worked by wide numbers; a refusal is still that of a step by numbers
+/// of the range alone.
 pub fn facets_of(
     alloc: Global,
     cols: usize,
@@ -55,9 +58,9 @@ pub fn facets_of(
 ) -> Result<Facets, DdFail>
     requires ray_cols { HasCols cols rays.now }
     requires line_cols { HasCols cols lineality.now }
-    requires few_rays { length rays.now < 2 ^ 28 }
-    requires few_lines { length lineality.now < 2 ^ 28 }
-    requires few_columns { cols < 2 ^ 30 }
+    requires few_rays { length rays.now ≤ 2 ^ 30 }
+    requires few_lines { length lineality.now < 2 ^ 31 }
+    requires few_columns { cols ≤ 2 ^ 30 }
     ensures facets { IfOk result (λ f. AreFacets cols rays.now lineality.now f.facets.items f.hull.items) }
     ensures few { IfOk result (λ f. length f.facets.items ≤ most_rows) }
     ensures shown { IfErr result (IsShownOnParts cols lineality.now rays.now) }
@@ -78,9 +81,9 @@ pub fn to_facets(
 ) -> Result<Facets, DdFail>
     requires ray_cols { HasCols cols rays.now }
     requires line_cols { HasCols cols lineality.now }
-    requires few_rays { length rays.now < 2 ^ 28 }
-    requires few_lines { length lineality.now < 2 ^ 28 }
-    requires few_columns { cols < 2 ^ 30 }
+    requires few_rays { length rays.now ≤ 2 ^ 30 }
+    requires few_lines { length lineality.now < 2 ^ 31 }
+    requires few_columns { cols ≤ 2 ^ 30 }
     ensures facets { IfOk result (λ f. AreFacets cols rays.now lineality.now f.facets.items f.hull.items) }
     ensures few { IfOk result (λ f. length f.facets.items ≤ most_rows) }
     ensures shown { IfErr result (IsShownOnParts cols lineality.now rays.now) }
@@ -125,10 +128,11 @@ fn polytope_generators(
 ) -> Result<Generators, DdFail>
     requires row_cols { HasCols cols rows.now }
     requires equation_cols { HasCols cols equations.now }
-    requires few_rows { length rows.now < 2 ^ 28 }
-    requires few_equations { length equations.now < 2 ^ 28 }
-    requires few_columns { cols < 2 ^ 30 }
-    ensures generators { IfOk result (λ g. AreGenerators cols (InPolytopeCone cols rows.now equations.now) g.rays.items g.lineality.items) }
+    requires few_rows { length rows.now < 2 ^ 30 }
+    requires few_equations { length equations.now < 2 ^ 31 }
+    requires few_columns { cols ≤ 2 ^ 30 }
+    ensures generators { IfOk result (λ g.
+        AreGenerators cols (InPolytopeCone cols rows.now equations.now) g.rays.items g.lineality.items) }
     ensures few { IfOk result (λ g. length g.rays.items ≤ most_rows) }
     ensures shown { IfErr result (IsShownOnParts cols equations.now (rows.now ++ unit cols 0 ∷ [])) }
 {
@@ -144,11 +148,13 @@ fn polytope_generators(
 }
 
 /// All extreme rays of the cone that `rows` and `equations` describe, and the echelon basis of its lineality.
-/// Of a cone these are its half-spaces. Of a polytope they are its inequalities: the row (1, 0, .., 0) is added last, and the cone is {0} where no solution has a positive first entry.
-/// The rays are primitive, with zeros in the pivot columns of that basis, each once and in lexicographic order; there are at most `MOST_ROWS` of them.
+/// Of a cone these are its half-spaces. Of a polytope they are its inequalities: the row (1, 0, .., 0) is added last,
+/// and the cone is {0} where no solution has a positive first entry.
+/// The rays are primitive, with zeros in the pivot columns of that basis, each once and in lexicographic order; there
+/// are at most `MOST_ROWS` of them.
 /// A refusal has evidence on the equations, or on their echelon basis both ways and then the half-spaces.
-/// With `wide`, a step that leaves the range is worked by wide numbers; a refusal is still that of a step by numbers of the
-/// range alone.
+/// With `wide`, a step that leaves the range is worked by wide numbers; a refusal is still that of a step by numbers
+/// of the range alone.
 pub fn generators_of(
     alloc: Global,
     of: ObjectType,
@@ -160,10 +166,11 @@ pub fn generators_of(
     requires no_fan { of ≢ ObjectType.Fan }
     requires row_cols { HasCols cols rows.now }
     requires equation_cols { HasCols cols equations.now }
-    requires few_rows { length rows.now < 2 ^ 28 }
-    requires few_equations { length equations.now < 2 ^ 28 }
-    requires few_columns { cols < 2 ^ 30 }
-    ensures generators { IfOk result (λ g. AreGenerators cols (InConeOf of cols rows.now equations.now) g.rays.items g.lineality.items) }
+    requires few_rows { length rows.now < 2 ^ 30 }
+    requires few_equations { length equations.now < 2 ^ 31 }
+    requires few_columns { cols ≤ 2 ^ 30 }
+    ensures generators { IfOk result (λ g.
+        AreGenerators cols (InConeOf of cols rows.now equations.now) g.rays.items g.lineality.items) }
     ensures few { IfOk result (λ g. length g.rays.items ≤ most_rows) }
     ensures shown { IfErr result (IsShownOnParts cols equations.now (half_spaces_of of cols rows.now)) }
 {
@@ -185,10 +192,11 @@ pub fn to_generators(
     requires no_fan { of ≢ ObjectType.Fan }
     requires row_cols { HasCols cols rows.now }
     requires equation_cols { HasCols cols equations.now }
-    requires few_rows { length rows.now < 2 ^ 28 }
-    requires few_equations { length equations.now < 2 ^ 28 }
-    requires few_columns { cols < 2 ^ 30 }
-    ensures generators { IfOk result (λ g. AreGenerators cols (InConeOf of cols rows.now equations.now) g.rays.items g.lineality.items) }
+    requires few_rows { length rows.now < 2 ^ 30 }
+    requires few_equations { length equations.now < 2 ^ 31 }
+    requires few_columns { cols ≤ 2 ^ 30 }
+    ensures generators { IfOk result (λ g.
+        AreGenerators cols (InConeOf of cols rows.now equations.now) g.rays.items g.lineality.items) }
     ensures few { IfOk result (λ g. length g.rays.items ≤ most_rows) }
     ensures shown { IfErr result (IsShownOnParts cols equations.now (half_spaces_of of cols rows.now)) }
 {

@@ -20,7 +20,8 @@ fn is_opposite(alloc: Global, first: &Ints, second: &Ints) -> Result<bool, Alloc
 /// How many pairs of a row and its opposite the list begins with.
 pub(crate) fn leading_pairs(alloc: Global, rows: &[Ints]) -> Result<usize, AllocError>
     ensures within { IfOk result (λ k. 2 * k ≤ length rows.now) }
-    ensures opposites { IfOk result (λ k. (i : ℕ) → i < k → row_at rows.now (2 * i + 1) ≡ opposite (row_at rows.now (2 * i))) }
+    ensures opposites { IfOk result (λ k. (i : ℕ) → i < k
+        → row_at rows.now (2 * i + 1) ≡ opposite (row_at rows.now (2 * i))) }
 {
     for i in 0..rows.len() / 2 {
         if !is_opposite(alloc, &rows[2 * i], &rows[2 * i + 1])? {
@@ -39,7 +40,8 @@ pub(crate) fn leading_equations(
 ) -> Result<Vec<Ints>, AllocError>
     requires as_many { length marks.now ≡ length rows.now }
     requires within { 2 * pairs ≤ length rows.now }
-    requires opposites { (i : ℕ) → i < pairs → row_at rows.now (2 * i + 1) ≡ opposite (row_at rows.now (2 * i)) }
+    requires opposites { (i : ℕ) → i < pairs
+        → row_at rows.now (2 * i + 1) ≡ opposite (row_at rows.now (2 * i)) }
     ensures { IfOk result (λ v. Leads rows.now marks.now v.items) }
 {
     let mut made = Vec::new(alloc);

@@ -1,4 +1,6 @@
-//! Double description: the extreme rays of the cone that rows cut out (Ziegler, Lectures on Polytopes, section 1.3; Motzkin and others, The double description method). By it generators from half-spaces, and facets from generators.
+//! Double description: the extreme rays of the cone that rows cut out (Ziegler, Lectures on Polytopes, section 1.3;
+//! Motzkin and others, The double description method). By it generators from half-spaces, and facets from generators.
+//! It knows nothing of properties, values and objects.
 #![tactic(auto)]
 
 ghost use Rattle.pm_dd.specs.Description.{DualIsOrder, ExtremeIsMaximal, NextIsOrder, StepIsComplete};
@@ -11,7 +13,6 @@ ghost use Rattle.pm_vector.specs.Rows.{Row};
 ghost use Rattle.std.specs.Prelude.{List, ℕ};
 
 mod combination;
-mod eliminations;
 mod extreme;
 mod fails;
 pub mod first;
@@ -32,7 +33,8 @@ pub use hull::{facets_of, generators_of, to_facets, to_generators};
 pub use parts::{add_copies, both_ways};
 pub use pm_geom::descriptions::{Facets, Generators};
 
-/// One step of double description: the extreme rays of the next cone are the kept ones and the combinations of adjacent pairs, and no two are alike.
+/// One step of double description: the extreme rays of the next cone are the kept ones and the combinations of
+/// adjacent pairs, and no two are alike.
 pub fn law_step_is_complete()
     ensures { StepIsComplete }
 {}
@@ -62,7 +64,8 @@ pub fn law_few_have_third()
     ensures { FewHaveThird }
 {}
 
-/// One step of double description, for a list that begins with as many independent rows as its rank says, and a front at least that long.
+/// One step of double description, for a list that begins with as many independent rows as its rank says, and a front
+/// at least that long.
 pub fn dd_step()
     ensures { DdStep }
 {}
@@ -127,7 +130,8 @@ pub fn law_step_fail_shows()
     ensures { StepFailShows }
 {}
 
-/// The definitions read on the quadrant, on a list with a row that does not enlarge the span, and on a list in two orders.
+/// The definitions read on the quadrant, on a list with a row that does not enlarge the span, and on a list in two
+/// orders.
 pub fn example_quadrant()
     ensures { QuadrantIsRead }
 {}

@@ -25,7 +25,8 @@ fn from_both_ends(alloc: Global, rows: &[Ints]) -> Result<Vec<Ints>, AllocError>
     Ok(made)
 }
 
-/// The rows that lead with their opposites as they stand, and after them the others in lexicographic order, taken alternately from both ends.
+/// The rows that lead with their opposites as they stand, and after them the others in lexicographic order, taken
+/// alternately from both ends.
 pub(crate) fn mixed_order(alloc: Global, rows: &[Ints]) -> Result<Vec<Ints>, AllocError>
     ensures same { IfOk result (λ v. HaveSameRows rows.now v.items) }
     ensures count { IfOk result (λ v. length v.items ≤ length rows.now) }

@@ -1,4 +1,5 @@
-// The rays that may be adjacent to one of the other sign: those with enough rows in common with the union of the zero sets there.
+// The rays that may be adjacent to one of the other sign: those with enough rows in common with the union of the zero
+// sets there.
 
 ghost use Rattle.pm_vector.specs.Rows.{entry};
 ghost use Rattle.pm_bits.specs.Sets.{IsSubset};
@@ -39,8 +40,10 @@ pub(crate) fn unions_of(
     requires { length values.now ≡ length zeros.now.rows }
     ensures ahead_len { IfOk result (λ u. length u.ahead ≡ zeros.now.row_len) }
     ensures behind_len { IfOk result (λ u. length u.behind ≡ zeros.now.row_len) }
-    ensures ahead { IfOk result (λ u. (k : ℕ) → k < length values.now → pos 0 <ℤ entry values.now k → IsSubset (zero_set zeros.now.rows k) u.ahead) }
-    ensures behind { IfOk result (λ u. (k : ℕ) → k < length values.now → entry values.now k <ℤ pos 0 → IsSubset (zero_set zeros.now.rows k) u.behind) }
+    ensures ahead { IfOk result (λ u. (k : ℕ) → k < length values.now → pos 0 <ℤ entry values.now k
+        → IsSubset (zero_set zeros.now.rows k) u.ahead) }
+    ensures behind { IfOk result (λ u. (k : ℕ) → k < length values.now → entry values.now k <ℤ pos 0
+        → IsSubset (zero_set zeros.now.rows k) u.behind) }
 {
     let mut ahead = BitRow::with_len(alloc, zeros.row_len())?;
     let mut behind = BitRow::with_len(alloc, zeros.row_len())?;
@@ -65,7 +68,8 @@ pub(crate) fn near_negatives(
 ) -> Result<Vec<usize>, AllocError>
     requires as_many { length values.now ≡ length zeros.now.rows }
     requires len { length ahead.now ≡ zeros.now.row_len }
-    ensures { IfOk result (λ v. AreNegativesLeft (IsPassed zeros.now values.now ahead.now need) values.now 0 (length values.now) v.items) }
+    ensures { IfOk result (λ v. AreNegativesLeft (IsPassed zeros.now values.now ahead.now need) values.now 0
+        (length values.now) v.items) }
 {
     let mut made = Vec::new(alloc);
     for j in 0..values.len() {

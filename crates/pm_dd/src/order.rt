@@ -4,15 +4,16 @@ ghost use Rattle.pm_vector.specs.Rows.{HasCols};
 ghost use Rattle.pm_dd.specs.Arrangement.{IsArrangement};
 ghost use Rattle.pm_dd.specs.Refusals.{IsShown};
 ghost use Rattle.pm_geom.specs.StatedOrder.{rows_marked};
-ghost use Rattle.std.specs.Prelude.{IfErr, IfOk, [], length, ◌++◌, ◌<◌, ◌^◌, ◌≡◌, ◌≤◌};
+ghost use Rattle.std.specs.Prelude.{IfErr, IfOk, [], length, ◌*◌, ◌++◌, ◌+◌, ◌<◌, ◌^◌, ◌≡◌, ◌≤◌};
 
-use crate::eliminations::marks_of;
 use crate::fails::DdFail;
 use crate::leading::{leading_equations, leading_pairs};
+use pm_elim::enlarging_by;
 use pm_vector::Ints;
 use std::alloc::{AllocError, Global};
 
-/// The rows as they are taken: equations, and inequalities of which the first `start` are independent, together with the equations.
+/// The rows as they are taken: equations, and inequalities of which the first `start` are independent, together with
+/// the equations.
 #[derive(Drop)]
 pub(crate) struct Arrangement {
     pub equations: Vec<Ints>,
@@ -40,7 +41,8 @@ fn add_marked(
     Ok(made)
 }
 
-/// The rows in the stated order: first those that enlarge the span of those before them. Rows that lead with their opposites are taken as equations.
+/// The rows in the stated order: first those that enlarge the span of those before them. Rows that lead with their
+/// opposites are taken as equations.
 pub(crate) fn arranged(
     alloc: Global,
     rows: &[Ints],
@@ -48,14 +50,13 @@ pub(crate) fn arranged(
     wide: bool,
 ) -> Result<Arrangement, DdFail>
     requires columns { HasCols cols rows.now }
-    requires few_rows { length rows.now < 2 ^ 30 }
-    requires few_columns { cols < 2 ^ 30 }
+    requires few_rows { length rows.now < 2 ^ 32 }
+    requires few_columns { cols < 2 ^ 31 }
     ensures arranged { IfOk result (λ a. IsArrangement rows.now a.equations.items a.rows.items a.start) }
-    ensures few_equations { IfOk result (λ a. length a.equations.items < 2 ^ 30) }
-    ensures few_rows { IfOk result (λ a. length a.rows.items < 2 ^ 30) }
+    ensures few_rows { IfOk result (λ a. length a.rows.items + 2 * length a.equations.items < 2 ^ 32) }
     ensures shown { IfErr result (λ f. IsShown cols rows.now f) }
 {
-    let marks = marks_of(alloc, rows, cols, wide)?;
+    let marks = enlarging_by(alloc, rows, cols, wide)?;
     let pairs = leading_pairs(alloc, rows)?;
     let equations = leading_equations(alloc, rows, &marks, pairs)?;
     let lead = 2 * equations.len();

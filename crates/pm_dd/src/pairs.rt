@@ -51,7 +51,8 @@ pub(crate) fn pair_ray(
     requires both { length both.old ≡ rays.now.zeros.row_len }
     ensures both { length both.new ≡ length both.old }
     ensures none { IfOk result (λ o. IfNone o (IsNoPair rays.now.zeros i j need)) }
-    ensures some { IfOk result (λ o. IfSome o (λ r. IsPairRay rays.now.rows.items rays.now.zeros values.now i j front r.row r.zeros)) }
+    ensures some { IfOk result (λ o.
+        IfSome o (λ r. IsPairRay rays.now.rows.items rays.now.zeros values.now i j front r.row r.zeros)) }
     ensures wide { IfErr result (λ f. IsPairFailOf rays.now.rows.items rays.now.zeros values.now i j f) }
 {
     let first = rays.zeros.row(i);
@@ -107,12 +108,14 @@ pub(crate) fn paired_rays(
     requires old_len { rays.now.zeros.row_len ≡ length rows.now }
     requires products { AreProducts (row_at rows.now front) rays.now.rows.items values.now }
     requires new_len { made.zeros.row_len ≡ length rows.now }
-    requires kept { IsBuilt cols equations.now rows.now front rays.now.rows.items (SeenKept (length rays.now.rows.items)) made.rows.items made.zeros.rows }
+    requires kept { IsBuilt cols equations.now rows.now front rays.now.rows.items
+        (SeenKept (length rays.now.rows.items)) made.rows.items made.zeros.rows }
     requires few { length made.rows.items ≤ MOST_ROWS }
     ensures row_len { IfOk result (λ r. r.zeros.row_len ≡ length rows.now) }
     ensures few { IfOk result (λ r. length r.rows.items ≤ MOST_ROWS) }
     ensures form { IfOk result (λ r. KeepForm rays.now.rows.items r.rows.items) }
-    ensures table { IfOk result (λ r. IsRayTable cols equations.now rows.now (front + 1) r.rows.items r.zeros.rows) }
+    ensures table { IfOk result (λ r.
+        IsRayTable cols equations.now rows.now (front + 1) r.rows.items r.zeros.rows) }
     ensures wide { IfErr result (λ f. IsStepFail cols equations.now rows.now front rays.now.rows.items f) }
 {
     let need = needed(rank, equations.len());

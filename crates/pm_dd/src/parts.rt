@@ -6,8 +6,8 @@ ghost use Rattle.pm_dd.specs.Refusals.{IsEliminationFail};
 ghost use Rattle.pm_dd.specs.HullRefusals.{IsDoubleList};
 ghost use Rattle.std.specs.Prelude.{IfErr, IfOk, length, ◌++◌, ◌<◌, ◌^◌, ◌≡◌};
 
-use crate::eliminations::basis_of;
 use crate::fails::DdFail;
+use pm_elim::echelon_by;
 use pm_vector::{Ints, negate};
 use std::alloc::{AllocError, Global};
 
@@ -45,12 +45,12 @@ pub(crate) fn double_list(
     wide: bool,
 ) -> Result<Vec<Ints>, DdFail>
     requires first_cols { HasCols cols first.now }
-    requires few_first { length first.now < 2 ^ 28 }
-    requires few_columns { cols < 2 ^ 30 }
+    requires few_first { length first.now < 2 ^ 31 }
+    requires few_columns { cols < 2 ^ 31 }
     ensures list { IfOk result (λ v. IsDoubleList cols first.now second.now v.items) }
     ensures wide { IfErr result (IsEliminationFail cols first.now) }
 {
-    let basis = basis_of(alloc, first, cols, wide)?;
+    let basis = echelon_by(alloc, first, cols, wide)?;
     let signs = both_ways(alloc, &basis.rows)?;
     Ok(add_copies(alloc, second, signs)?)
 }

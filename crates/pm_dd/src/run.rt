@@ -37,7 +37,8 @@ fn pair_evidence(
     })
 }
 
-/// The refusal of the step at a front, whose rays these are. In the stated order the opposites of the equations stand before the front.
+/// The refusal of the step at a front, whose rays these are. In the stated order the opposites of the equations stand
+/// before the front.
 pub fn refusal_of(
     alloc: Global,
     cols: usize,
@@ -48,9 +49,8 @@ pub fn refusal_of(
     rays: &[Ints],
     fail: StepFail,
 ) -> DdFail
-    requires few_rows { length rows.now < 2 ^ 30 }
-    requires few_equations { length equations.now < 2 ^ 30 }
-    requires few_columns { cols < 2 ^ 30 }
+    requires few_rows { length rows.now + 2 * length equations.now < 2 ^ 32 }
+    requires few_columns { cols < 2 ^ 31 }
     requires from { start ≤ front }
     requires within { front < length rows.now }
     requires order { IsOrder cols (HalfSpaces equations.now (take front rows.now)) rays.now }
@@ -99,9 +99,8 @@ pub fn rays_after(
 ) -> Result<Rays, DdFail>
     requires equation_cols { HasCols cols equations.now }
     requires row_cols { HasCols cols rows.now }
-    requires few_rows { length rows.now < 2 ^ 30 }
-    requires few_equations { length equations.now < 2 ^ 30 }
-    requires few_columns { cols < 2 ^ 30 }
+    requires few_rows { length rows.now + 2 * length equations.now < 2 ^ 32 }
+    requires few_columns { cols < 2 ^ 31 }
     requires from { start ≤ front }
     requires within { front < length rows.now }
     requires spans { SameSpan (equations.now ++ take start rows.now) (equations.now ++ rows.now) }
@@ -110,10 +109,12 @@ pub fn rays_after(
     requires row_len { rays.now.zeros.row_len ≡ length rows.now }
     requires few { length rays.now.rows.items ≤ MOST_ROWS }
     requires reduced { AreReduced cols (equations.now ++ take start rows.now) rays.now.rows.items }
-    ensures table { IfOk result (λ r. IsRayTable cols equations.now rows.now (front + 1) r.rows.items r.zeros.rows) }
+    ensures table { IfOk result (λ r.
+        IsRayTable cols equations.now rows.now (front + 1) r.rows.items r.zeros.rows) }
     ensures row_len { IfOk result (λ r. r.zeros.row_len ≡ length rows.now) }
     ensures few { IfOk result (λ r. length r.rows.items ≤ MOST_ROWS) }
-    ensures reduced { IfOk result (λ r. AreReduced cols (equations.now ++ take start rows.now) r.rows.items) }
+    ensures reduced { IfOk result (λ r.
+        AreReduced cols (equations.now ++ take start rows.now) r.rows.items) }
     ensures shown { IfErr result (IsShownOnRows cols equations.now rows.now start) }
 {
     let rank = equations.len() + start;
@@ -123,7 +124,8 @@ pub fn rays_after(
     }
 }
 
-/// The rays of all rows: those of the first `start`, which with the equations are independent, and one step for each further row.
+/// The rays of all rows: those of the first `start`, which with the equations are independent, and one step for each
+/// further row.
 pub(crate) fn all_rays(
     alloc: Global,
     cols: usize,
@@ -135,9 +137,8 @@ pub(crate) fn all_rays(
 ) -> Result<Rays, DdFail>
     requires equation_cols { HasCols cols equations.now }
     requires row_cols { HasCols cols rows.now }
-    requires few_rows { length rows.now < 2 ^ 30 }
-    requires few_equations { length equations.now < 2 ^ 30 }
-    requires few_columns { cols < 2 ^ 30 }
+    requires few_rows { length rows.now + 2 * length equations.now < 2 ^ 32 }
+    requires few_columns { cols < 2 ^ 31 }
     requires within { start ≤ length rows.now }
     requires spans { SameSpan (equations.now ++ take start rows.now) (equations.now ++ rows.now) }
     requires rank { IsRank (equations.now ++ rows.now) (length equations.now + start) }
@@ -147,7 +148,8 @@ pub(crate) fn all_rays(
     requires reduced { AreReduced cols (equations.now ++ take start rows.now) first.rows.items }
     ensures order { IfOk result (λ r. IsOrder cols (HalfSpaces equations.now rows.now) r.rows.items) }
     ensures few { IfOk result (λ r. length r.rows.items ≤ MOST_ROWS) }
-    ensures reduced { IfOk result (λ r. AreReduced cols (equations.now ++ take start rows.now) r.rows.items) }
+    ensures reduced { IfOk result (λ r.
+        AreReduced cols (equations.now ++ take start rows.now) r.rows.items) }
     ensures shown { IfErr result (IsShownOnRows cols equations.now rows.now start) }
 {
     let mut rays = first;

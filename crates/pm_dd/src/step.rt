@@ -23,7 +23,8 @@ use std::alloc::{AllocError, Global};
 pub fn products(alloc: Global, row: &Ints, rays: &[Ints]) -> Result<Vec<i128>, StepFail>
     requires { HasCols (length row.now) rays.now }
     ensures products { IfOk result (λ v. AreProducts row.now rays.now v.items) }
-    ensures wide { IfErr result (λ f. IfProduct f (λ i. (i < length rays.now) × ¬ (ProductsStay row.now (ray rays.now i)))) }
+    ensures wide { IfErr result (λ f.
+        IfProduct f (λ i. (i < length rays.now) × ¬ (ProductsStay row.now (ray rays.now i)))) }
 {
     let mut made = Vec::new(alloc);
     for i in 0..rays.len() {
@@ -73,7 +74,8 @@ pub(crate) fn kept_rays(
     requires products { AreProducts (row_at rows.now front) rays.now.rows.items values.now }
     ensures row_len { IfOk result (λ r. r.zeros.row_len ≡ length rows.now) }
     ensures few { IfOk result (λ r. length r.rows.items ≤ length rays.now.rows.items) }
-    ensures built { IfOk result (λ r. IsBuilt cols equations.now rows.now front rays.now.rows.items (SeenKept (length rays.now.rows.items)) r.rows.items r.zeros.rows) }
+    ensures built { IfOk result (λ r. IsBuilt cols equations.now rows.now front rays.now.rows.items
+        (SeenKept (length rays.now.rows.items)) r.rows.items r.zeros.rows) }
 {
     let mut made = Vec::new(alloc);
     let mut zeros = BitTable::new(alloc, rows.len());
@@ -113,7 +115,8 @@ pub(crate) fn next_rays(
     ensures row_len { IfOk result (λ r. r.zeros.row_len ≡ length rows.now) }
     ensures few { IfOk result (λ r. length r.rows.items ≤ MOST_ROWS) }
     ensures form { IfOk result (λ r. KeepForm rays.now.rows.items r.rows.items) }
-    ensures table { IfOk result (λ r. IsRayTable cols equations.now rows.now (front + 1) r.rows.items r.zeros.rows) }
+    ensures table { IfOk result (λ r.
+        IsRayTable cols equations.now rows.now (front + 1) r.rows.items r.zeros.rows) }
     ensures wide { IfErr result (λ f. IsStepFail cols equations.now rows.now front rays.now.rows.items f) }
 {
     let values = products(alloc, &rows[front], &rays.rows)?;

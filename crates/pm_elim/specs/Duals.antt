@@ -12,7 +12,8 @@ use Rattle.std.specs.Prelude.{List, length, ℕ, ◌<◌, ◌≡◌}
 use lib.IntN.{pos}
 use lib.Signed.{◌<ℤ◌}
 
--- x is primitive, has product 0 with each row but the one at j, a positive product with that one, and is 0 in the columns P
+-- x is primitive, has product 0 with each row but the one at j, a positive product with that one, and is 0 in the
+-- columns P
 pub record IsDualRow (n : ℕ) (rows : List Row) (P : List ℕ) (j : ℕ) (x : Row) : Type 0 where
   pub cols : length x ≡ n
   pub primitive : IsPrimitive x
@@ -20,7 +21,8 @@ pub record IsDualRow (n : ℕ) (rows : List Row) (P : List ℕ) (j : ℕ) (x : R
   pub own : pos 0 <ℤ dot (row_at rows j) x
   pub reduced : (k : ℕ) → k < length P → entry x (column P k) ≡ pos 0
 
--- the row of D at each place is such a row for that place, with P the pivot columns of the echelon basis of the null space of the rows
+-- the row of D at each place is such a row for that place, with P the pivot columns of the echelon basis of the null
+-- space of the rows
 pub record IsDualBasis (n : ℕ) (rows D : List Row) : Type 0 where
   pub null : List Row
   pub pivots : List ℕ

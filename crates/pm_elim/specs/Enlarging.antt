@@ -6,4 +6,5 @@ use Rattle.std.specs.Prelude.{Bool, IsTrue, List, false, length, slice_index_or,
 -- one mark for each row of X, true where the row is not in the span of those before it
 pub record MarkEnlarging (X : List Row) (marks : List Bool) : Type 0 where
   pub as_many : length marks ≡ length X
-  pub exact : (i : ℕ) → i < length X → IsTrue (slice_index_or marks i false) ↔ ¬ (InSpan (take i X) (row_at X i))
+  pub exact : (i : ℕ) → i < length X → IsTrue (slice_index_or marks i false)
+      ↔ ¬ (InSpan (take i X) (row_at X i))

@@ -37,20 +37,23 @@ pub record IsExtendedListOf (n : ℕ) (rows : List Row) (m : ℕ) (X : List Row)
   pub extended : IsExtended n basis X
   pub cols : m ≡ length basis + n
 
--- X, of rows with m entries, is the list that `list` names: the rows as they stand, their extended list, or the same of the rows without the one at a place
+-- X, of rows with m entries, is the list that `list` names: the rows as they stand, their extended list, or the same
+-- of the rows without the one at a place
 abbrev pub Lists : ℕ → List Row → ElimList → ℕ → List Row → Type 0
 Lists n rows Rows m X = (m ≡ n) × (X ≡ rows)
 Lists n rows Extended m X = IsExtendedListOf n rows m X
 Lists n rows (Without j) m X = (j < length rows) × (m ≡ n) × (X ≡ remove rows j)
 Lists n rows (ExtendedWithout j) m X = (j < length rows) × IsExtendedListOf n (remove rows j) m X
 
--- the next row, reduced by the basis rows before the place `by`, is `part`, and its step by the row at that place leaves the range in the column i
+-- the next row, reduced by the basis rows before the place `by`, is `part`, and its step by the row at that place
+-- leaves the range in the column i
 pub record IsWideOnNext (B : List Row) (P : List ℕ) (next part : Row) (by i : ℕ) : Type 0 where
   pub within : by < length B
   pub reduced : ReducedBy (take by B) (take by P) next part
   pub wide : StepIsWide part (row_at B by) (column P by) i
 
--- `by` is the number of basis rows, `part` is one of them, and its step by the next row, which is reduced by all of them and made primitive with a positive pivot, leaves the range in the column i
+-- `by` is the number of basis rows, `part` is one of them, and its step by the next row, which is reduced by all of
+-- them and made primitive with a positive pivot, leaves the range in the column i
 pub record IsWideOnOlder (B : List Row) (P : List ℕ) (next part : Row) (by i : ℕ) : Type 0 where
   pub rest : Row
   pub new_column : ℕ
@@ -63,7 +66,8 @@ pub record IsWideOnOlder (B : List Row) (P : List ℕ) (next part : Row) (by i :
 abbrev pub IsWideRound : List Row → List ℕ → Row → Row → ℕ → ℕ → Type 0
 IsWideRound B P next part by i = IsWideOnNext B P next part by i ⊎ IsWideOnOlder B P next part by i
 
--- `basis` is the echelon basis of the first `front` rows of X, and with the row after them one of these two steps leaves the range
+-- `basis` is the echelon basis of the first `front` rows of X, and with the row after them one of these two steps
+-- leaves the range
 pub record IsWideStep (n : ℕ) (X : List Row) (e : EliminationStep) : Type 0 where
   pub pivots : List ℕ
   pub within : e.front < length X

@@ -16,7 +16,8 @@ IfWideStep (StepWide s) Q = Q s
 IfWideStep StepMemory Q = Unit {0}
 
 -- e names the list, its front and its basis B, and otherwise shows the step s
-pub record TellsOf (s : WideStep) (list : ElimList) (front : ℕ) (B : List Row) (e : EliminationStep) : Type 0 where
+pub record TellsOf (s : WideStep) (list : ElimList) (front : ℕ) (B : List Row) (e : EliminationStep)
+    : Type 0 where
   pub list_is : e.list ≡ list
   pub front_is : e.front ≡ front
   pub basis : e.basis ≡ B

@@ -11,7 +11,8 @@ use lib.Signed.{◌<ℤ◌}
 abbrev pub AllStay : List Row → Row → ℕ → Type 0
 AllStay B x c = (i : ℕ) → i < length B → StepStays (row_at B i) x c
 
--- `by` is the number of rows of B, `part` is one of them, and its step by x in the column c leaves the range in the column i
+-- `by` is the number of rows of B, `part` is one of them, and its step by x in the column c leaves the range in the
+-- column i
 pub record IsWideOnSome (B : List Row) (x : Row) (c : ℕ) (part : Row) (by i : ℕ) : Type 0 where
   pub last : by ≡ length B
   pub place : ℕ

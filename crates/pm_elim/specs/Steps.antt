@@ -17,7 +17,8 @@ pub record IsFactors (x y p q : ℤ) : Type 0 where
   pub second : x ≡ q *ℤ pos g
   pub positive : pos 0 <ℤ y
 
--- the row r, which is not 0 in the column c, is reduced by the basis row b: (b_c/g) r - (r_c/g) b, made primitive, is m
+-- the row r, which is not 0 in the column c, is reduced by the basis row b: (b_c/g) r - (r_c/g) b, made primitive, is
+-- m
 pub record IsStep (r b : Row) (c : ℕ) (m : Row) : Type 0 where
   pub p : ℤ
   pub q : ℤ
@@ -29,7 +30,8 @@ pub record IsStep (r b : Row) (c : ℕ) (m : Row) : Type 0 where
 abbrev pub IsReducedOnce : Row → Row → ℕ → Row → Type 0
 IsReducedOnce r b c m = ((entry r c ≡ pos 0) × (m ≡ r)) ⊎ IsStep r b c m
 
--- in the column i one of the two products of that step, or their difference, leaves the range from -(2^127 - 1) to 2^127 - 1
+-- in the column i one of the two products of that step, or their difference, leaves the range from -(2^127 - 1) to
+-- 2^127 - 1
 pub record StepIsWide (r b : Row) (c i : ℕ) : Type 0 where
   pub p : ℤ
   pub q : ℤ
@@ -49,7 +51,8 @@ ReducedBy (b ∷ B) (c ∷ P) r m = (k : Row) × IsReducedOnce r b c k × Reduce
 
 -- each step of this reduction stays in the range
 abbrev pub ReductionStays : List Row → List ℕ → Row → Type 0
-ReductionStays B P r = (k : ℕ) (m : Row) → k < length B → ReducedBy (take k B) (take k P) r m → StepStays m (row_at B k) (column P k)
+ReductionStays B P r = (k : ℕ) (m : Row) → k < length B → ReducedBy (take k B) (take k P) r m
+    → StepStays m (row_at B k) (column P k)
 
 -- some positive multiples of r and of m differ by a row of the span of B
 pub record SameDirectionModulo (B : List Row) (r m : Row) : Type 0 where

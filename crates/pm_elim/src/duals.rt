@@ -35,7 +35,8 @@ pub(crate) fn copies_without(
 pub(crate) fn new_place(columns: &[usize], old: &[usize]) -> Option<usize>
     ensures within { IfSome result (λ i. i < length columns.now) }
     ensures new { IfSome result (λ i. ¬ (Contains old.now (column columns.now i))) }
-    ensures none { IfNone result ((i : ℕ) → i < length columns.now → Contains old.now (column columns.now i)) }
+    ensures none { IfNone result ((i : ℕ) → i < length columns.now
+        → Contains old.now (column columns.now i)) }
 {
     for i in 0..columns.len() {
         if !old.contains(&columns[i]) {
@@ -48,8 +49,8 @@ pub(crate) fn new_place(columns: &[usize], old: &[usize]) -> Option<usize>
 /// The echelon basis of the null space of all rows but the one at a place.
 fn null_without(alloc: Global, rows: &[Ints], cols: usize, j: usize) -> Result<Growing, ElimFail>
     requires columns { HasCols cols rows.now }
-    requires few_rows { length rows.now < 2 ^ 30 }
-    requires few_columns { cols < 2 ^ 30 }
+    requires few_rows { length rows.now < 2 ^ 32 }
+    requires few_columns { cols < 2 ^ 31 }
     requires within { j < length rows.now }
     ensures null { IfOk result (λ v. IsNullBasis cols (remove rows.now j) v.rows.items v.pivots.items) }
     ensures count { IfOk result (λ v. cols < length v.rows.items + length rows.now) }
@@ -63,7 +64,8 @@ fn null_without(alloc: Global, rows: &[Ints], cols: usize, j: usize) -> Result<G
 /// A row or its opposite, whichever has no negative product with another row.
 pub(crate) fn oriented(x: Ints, row: &Ints) -> Ints
     requires { length row.now ≡ length x }
-    ensures { ((result ≡ x) × ¬ (dot row.now x <ℤ pos 0)) ⊎ ((result ≡ opposite x) × (dot row.now x <ℤ pos 0)) }
+    ensures { ((result ≡ x) × ¬ (dot row.now x <ℤ pos 0))
+        ⊎ ((result ≡ opposite x) × (dot row.now x <ℤ pos 0)) }
 {
     let mut made = x;
     if is_negative_product(row.as_slice(), made.as_slice()) {
@@ -81,8 +83,8 @@ fn dual_row(
     null: &Growing,
 ) -> Result<Ints, DualFail>
     requires columns { HasCols cols rows.now }
-    requires few_rows { length rows.now < 2 ^ 30 }
-    requires few_columns { cols < 2 ^ 30 }
+    requires few_rows { length rows.now < 2 ^ 32 }
+    requires few_columns { cols < 2 ^ 31 }
     requires within { j < length rows.now }
     requires is_null { IsNullBasis cols rows.now null.now.rows.items null.now.pivots.items }
     requires count { length null.now.rows.items + length rows.now ≤ cols }
@@ -98,13 +100,15 @@ fn dual_row(
     Ok(oriented(found, &rows[j]))
 }
 
-/// The dual basis of independent rows with `cols` entries each: for each of them the primitive row that has product 0 with the others, a positive product with it, and 0 in the pivot columns of the echelon basis of the null space of all rows.
+/// The dual basis of independent rows with `cols` entries each: for each of them the primitive row that has product 0
+/// with the others, a positive product with it, and 0 in the pivot columns of the echelon basis of the null space of
+/// all rows.
 /// It is found in the null space of the rows without the one that it is for.
 /// `Dependent` only where the rows are dependent. `Wide` only with evidence on the rows.
 pub fn dual_basis(alloc: Global, rows: &[Ints], cols: usize) -> Result<Vec<Ints>, DualFail>
     requires columns { HasCols cols rows.now }
-    requires few_rows { length rows.now < 2 ^ 30 }
-    requires few_columns { cols < 2 ^ 30 }
+    requires few_rows { length rows.now < 2 ^ 32 }
+    requires few_columns { cols < 2 ^ 31 }
     ensures dual { IfOk result (λ v. IsDualBasis cols rows.now v.items) }
     ensures independent { OnOk result (IsIndependent rows.now) }
     ensures dependent { IfErr result (λ f. IfDependent f (¬ (IsIndependent rows.now))) }

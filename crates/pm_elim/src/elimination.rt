@@ -64,8 +64,8 @@ pub(crate) fn basis_of(
 /// The echelon basis of the rows handed in.
 pub(crate) fn basis_of_rows(alloc: Global, rows: &[Ints], cols: usize) -> Result<Growing, ElimFail>
     requires columns { HasCols cols rows.now }
-    requires few_rows { length rows.now < 2 ^ 30 }
-    requires few_columns { cols < 2 ^ 30 }
+    requires few_rows { length rows.now < 2 ^ 32 }
+    requires few_columns { cols < 2 ^ 31 }
     ensures basis { IfOk result (λ b. IsBasisOf cols rows.now b.rows.items b.pivots.items) }
     ensures never_wide { OnOk result (NoEvidence cols rows.now ElimList.Rows) }
     ensures wide { IfErr result (λ f. IfWide f (λ e. IsEvidence cols rows.now e)) }
@@ -74,13 +74,15 @@ pub(crate) fn basis_of_rows(alloc: Global, rows: &[Ints], cols: usize) -> Result
     basis_of(alloc, rows, cols, ElimList::Rows)
 }
 
-/// The echelon basis of rows with `cols` entries each: it has the span of the rows, and is the only one (Hoffman and Kunze, Linear Algebra, section 1.4).
-/// The rows are taken in order. Each is reduced by the basis rows, and if something is left it is made primitive with a positive pivot, and the older basis rows are reduced by it.
+/// The echelon basis of rows with `cols` entries each: it has the span of the rows, and is the only one (Hoffman and
+/// Kunze, Linear Algebra, section 1.4).
+/// The rows are taken in order. Each is reduced by the basis rows, and if something is left it is made primitive with
+/// a positive pivot, and the older basis rows are reduced by it.
 /// `Wide` exactly where one of these steps leaves the range; the evidence is on the list `Rows`.
 pub fn echelon(alloc: Global, rows: &[Ints], cols: usize) -> Result<Echelon, ElimFail>
     requires columns { HasCols cols rows.now }
-    requires few_rows { length rows.now < 2 ^ 30 }
-    requires few_columns { cols < 2 ^ 30 }
+    requires few_rows { length rows.now < 2 ^ 32 }
+    requires few_columns { cols < 2 ^ 31 }
     ensures basis { IfOk result (λ b. IsBasisOf cols rows.now b.rows b.pivots) }
     ensures never_wide { OnOk result (NoEvidence cols rows.now ElimList.Rows) }
     ensures wide { IfErr result (λ f. IfWide f (λ e. IsEvidence cols rows.now e)) }
@@ -97,8 +99,8 @@ pub fn echelon(alloc: Global, rows: &[Ints], cols: usize) -> Result<Echelon, Eli
 /// `Wide` exactly where a step of their elimination leaves the range; the evidence is on the list `Rows`.
 pub fn rank(alloc: Global, rows: &[Ints], cols: usize) -> Result<usize, ElimFail>
     requires columns { HasCols cols rows.now }
-    requires few_rows { length rows.now < 2 ^ 30 }
-    requires few_columns { cols < 2 ^ 30 }
+    requires few_rows { length rows.now < 2 ^ 32 }
+    requires few_columns { cols < 2 ^ 31 }
     ensures rank { IfOk result (λ k. IsRank rows.now k) }
     ensures never_wide { OnOk result (NoEvidence cols rows.now ElimList.Rows) }
     ensures wide { IfErr result (λ f. IfWide f (λ e. IsEvidence cols rows.now e)) }

@@ -9,7 +9,8 @@ use std::alloc::{AllocError, AllocFailed, Global};
 use std::marker::Model;
 use thiserror::Error;
 
-/// Which list of rows an elimination went through: the rows handed in, the extended list of them, or the same of these rows without the one at a place.
+/// Which list of rows an elimination went through: the rows handed in, the extended list of them, or the same of
+/// these rows without the one at a place.
 #[derive(Clone, Copy, Debug, PartialEq, Eq)]
 pub enum ElimList {
     Rows,
@@ -20,8 +21,10 @@ pub enum ElimList {
 
 /// One elimination step that leaves the range from -(2^127 - 1) to 2^127 - 1.
 /// `basis` is the echelon basis of the first `front` rows of the list.
-/// Where `by` is a place of the basis, `part` is the next row, reduced by the basis rows before that place, and its step by the row at that place leaves the range in `column`.
-/// Where `by` is the number of basis rows, `part` is one of them, and its step by the next row, reduced by all of them and made primitive with a positive pivot, leaves the range in `column`.
+/// Where `by` is a place of the basis, `part` is the next row, reduced by the basis rows before that place, and its
+/// step by the row at that place leaves the range in `column`.
+/// Where `by` is the number of basis rows, `part` is one of them, and its step by the next row, reduced by all of
+/// them and made primitive with a positive pivot, leaves the range in `column`.
 #[derive(Debug, Drop)]
 pub struct ElimEvidence {
     pub list: ElimList,

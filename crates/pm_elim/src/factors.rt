@@ -15,7 +15,8 @@ pub struct Factors {
     pub second: i128,
 }
 
-/// The least multiples, the first of them positive, of a row with x and of a row with y in a column whose difference is 0 there: y and x, each divided by the greatest common divisor of |x| and y.
+/// The least multiples, the first of them positive, of a row with x and of a row with y in a column whose difference
+/// is 0 there: y and x, each divided by the greatest common divisor of |x| and y.
 pub fn cancelling_factors(x: i128, y: i128) -> Factors
     requires x_in_range { InRange x }
     requires y_in_range { InRange y }

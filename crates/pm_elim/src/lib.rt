@@ -1,8 +1,11 @@
-//! Elimination of whole rows: echelon bases, ranks, null spaces and dual rows, each exact or with evidence that a step leaves the range. By wide numbers on the way the same are found of more rows, or given up.
+//! Elimination of whole rows: echelon bases, ranks, null spaces and dual rows, each exact or with evidence that a
+//! step leaves the range. By wide numbers on the way the same are found of more rows, or given up. It knows nothing
+//! of faces, properties and objects.
 #![tactic(auto)]
 
 mod basis;
 mod duals;
+mod either_way;
 mod elimination;
 mod evidence;
 mod extended;
@@ -19,11 +22,13 @@ mod rows;
 mod sign;
 mod step;
 mod wide_bases;
+mod wide_modulo;
 mod wide_nulls;
 mod wide_rounds;
 
 pub use basis::Echelon;
 pub use duals::{dual_basis, law_dual_basis_is_unique};
+pub use either_way::{dual_basis_by, echelon_by, enlarging_by, null_space_by, rank_by, reduced_by};
 pub use elimination::{echelon, rank};
 pub use evidence::{DualFail, ElimEvidence, ElimFail, ElimList};
 pub use factors::{Factors, cancelling_factors};
@@ -32,5 +37,6 @@ pub use modulo::reduce;
 pub use nulls::null_space;
 pub use rows::copies;
 pub use wide_bases::{wide_echelon, wide_enlarging, wide_rank};
+pub use wide_modulo::wide_reduced;
 pub use wide_nulls::{wide_dual_basis, wide_null_space};
 pub use wide_rounds::WideFail;

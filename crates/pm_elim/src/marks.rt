@@ -12,12 +12,13 @@ use crate::round::take_in;
 use pm_vector::Ints;
 use std::alloc::Global;
 
-/// Marks the rows, of `cols` entries each, that enlarge the span of those before them: one mark for each row, in order.
+/// Marks the rows, of `cols` entries each, that enlarge the span of those before them: one mark for each row, in
+/// order.
 /// `Wide` exactly where a step of the elimination of the rows leaves the range; the evidence is on the list `Rows`.
 pub fn enlarging(alloc: Global, rows: &[Ints], cols: usize) -> Result<Vec<bool>, ElimFail>
     requires columns { HasCols cols rows.now }
-    requires few_rows { length rows.now < 2 ^ 30 }
-    requires few_columns { cols < 2 ^ 30 }
+    requires few_rows { length rows.now < 2 ^ 32 }
+    requires few_columns { cols < 2 ^ 31 }
     ensures marks { IfOk result (λ m. MarkEnlarging rows.now m.items) }
     ensures never_wide { OnOk result (NoEvidence cols rows.now ElimList.Rows) }
     ensures wide { IfErr result (λ f. IfWide f (λ e. IsEvidence cols rows.now e)) }

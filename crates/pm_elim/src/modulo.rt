@@ -32,12 +32,15 @@ fn reduction_fail(alloc: Global, basis: &[Ints], refusal: Refusal) -> ElimFail
 /// Reduces a row by the rows of an echelon basis, with these pivot columns.
 fn reduce_by(alloc: Global, rows: &[Ints], pivots: &[usize], row: &mut Ints) -> Result<(), ElimFail>
     requires is_basis { IsEchelonBasis (length row.old) rows.now pivots.now }
-    requires few_columns { length row.old < 2 ^ 30 }
+    requires few_columns { length row.old < 2 ^ 32 }
     ensures reduced { OnOk result (ReducedBy rows.now pivots.now row.old row.new) }
-    ensures zero { OnOk result ((i : ℕ) → i < length rows.now → entry row.new (column pivots.now i) ≡ pos 0) }
+    ensures zero { OnOk result ((i : ℕ) → i < length rows.now
+        → entry row.new (column pivots.now i) ≡ pos 0) }
     ensures direction { OnOk result (SameDirectionModulo rows.now row.old row.new) }
-    ensures never_wide { OnOk result ((e : EliminationStep) → e.list ≡ ElimList.Rows → e.by < length rows.now → IsEvidence (length row.old) (rows.now ++ row.old ∷ []) e → ⊥) }
-    ensures wide { IfErr result (λ f. IfWide f (λ e. IsEvidence (length row.old) (rows.now ++ row.old ∷ []) e)) }
+    ensures never_wide { OnOk result ((e : EliminationStep) → e.list ≡ ElimList.Rows → e.by < length rows.now
+        → IsEvidence (length row.old) (rows.now ++ row.old ∷ []) e → ⊥) }
+    ensures wide { IfErr result (λ f.
+        IfWide f (λ e. IsEvidence (length row.old) (rows.now ++ row.old ∷ []) e)) }
     ensures list { IfErr result (λ f. IfWide f (λ e. e.list ≡ ElimList.Rows)) }
     ensures by_basis_row { IfErr result (λ f. IfWide f (λ e. e.by < length rows.now)) }
     ensures unchanged { OnErr result (row.new ≡ row.old) }
@@ -51,16 +54,22 @@ fn reduce_by(alloc: Global, rows: &[Ints], pivots: &[usize], row: &mut Ints) -> 
     }
 }
 
-/// Reduces a row by all rows of an echelon basis: the row is then 0 in the pivot columns, and keeps its direction modulo their span.
-/// `Wide` exactly where a step of this reduction leaves the range; the evidence is on the list `Rows` of the basis rows and then the row. The row is unchanged after a refusal.
+/// Reduces a row by all rows of an echelon basis: the row is then 0 in the pivot columns, and keeps its direction
+/// modulo their span.
+/// `Wide` exactly where a step of this reduction leaves the range; the evidence is on the list `Rows` of the basis
+/// rows and then the row. The row is unchanged after a refusal.
 pub fn reduce(alloc: Global, basis: &Echelon, row: &mut Ints) -> Result<(), ElimFail>
     requires cols { HasCols (length row.old) basis.now.rows }
-    requires few_columns { length row.old < 2 ^ 30 }
+    requires few_columns { length row.old < 2 ^ 32 }
     ensures reduced { OnOk result (ReducedBy basis.now.rows basis.now.pivots row.old row.new) }
-    ensures zero { OnOk result ((i : ℕ) → i < length basis.now.rows → entry row.new (column basis.now.pivots i) ≡ pos 0) }
+    ensures zero { OnOk result ((i : ℕ) → i < length basis.now.rows
+        → entry row.new (column basis.now.pivots i) ≡ pos 0) }
     ensures direction { OnOk result (SameDirectionModulo basis.now.rows row.old row.new) }
-    ensures never_wide { OnOk result ((e : EliminationStep) → e.list ≡ ElimList.Rows → e.by < length basis.now.rows → IsEvidence (length row.old) (basis.now.rows ++ row.old ∷ []) e → ⊥) }
-    ensures wide { IfErr result (λ f. IfWide f (λ e. IsEvidence (length row.old) (basis.now.rows ++ row.old ∷ []) e)) }
+    ensures never_wide { OnOk result ((e : EliminationStep) → e.list ≡ ElimList.Rows
+        → e.by < length basis.now.rows → IsEvidence (length row.old) (basis.now.rows ++ row.old ∷ []) e
+        → ⊥) }
+    ensures wide { IfErr result (λ f.
+        IfWide f (λ e. IsEvidence (length row.old) (basis.now.rows ++ row.old ∷ []) e)) }
     ensures list { IfErr result (λ f. IfWide f (λ e. e.list ≡ ElimList.Rows)) }
     ensures by_basis_row { IfErr result (λ f. IfWide f (λ e. e.by < length basis.now.rows)) }
     ensures unchanged { OnErr result (row.new ≡ row.old) }

@@ -42,7 +42,8 @@ fn columns_from(alloc: Global, columns: &[usize], from: usize) -> Result<Vec<usi
 pub(crate) fn tails_of(alloc: Global, whole: &Growing, from: usize) -> Result<Growing, AllocError>
     requires as_many { length whole.now.pivots.items ≡ length whole.now.rows.items }
     requires columns { All (λ r. from ≤ length r) whole.now.rows.items }
-    ensures { IfOk result (λ v. AreTails from whole.now.rows.items whole.now.pivots.items v.rows.items v.pivots.items) }
+    ensures { IfOk result (λ v.
+        AreTails from whole.now.rows.items whole.now.pivots.items v.rows.items v.pivots.items) }
 {
     let first = place_of(&whole.pivots, from);
     let rows = tail_rows(alloc, &whole.rows[first..], from)?;
@@ -58,9 +59,11 @@ fn extended_basis(
     list: ElimList,
 ) -> Result<Growing, ElimFail>
     requires is_basis { IsEchelonBasis cols basis.now.rows.items basis.now.pivots.items }
-    requires few_columns { cols < 2 ^ 30 }
-    ensures basis { IfOk result (λ v. IsExtendedBasis cols basis.now.rows.items v.rows.items v.pivots.items) }
-    ensures never_wide { OnOk result ((e : EliminationStep) → IsWideOnExtended cols basis.now.rows.items e → ⊥) }
+    requires few_columns { cols < 2 ^ 31 }
+    ensures basis { IfOk result (λ v.
+        IsExtendedBasis cols basis.now.rows.items v.rows.items v.pivots.items) }
+    ensures never_wide { OnOk result ((e : EliminationStep) → IsWideOnExtended cols basis.now.rows.items e
+        → ⊥) }
     ensures wide { IfErr result (λ f. IfWide f (λ e. IsWideOnExtended cols basis.now.rows.items e)) }
     ensures list { IfErr result (λ f. IfWide f (λ e. e.list ≡ list)) }
 {
@@ -76,10 +79,11 @@ pub(crate) fn null_of(
     list: ElimList,
 ) -> Result<Growing, ElimFail>
     requires is_basis { IsEchelonBasis cols basis.now.rows.items basis.now.pivots.items }
-    requires few_columns { cols < 2 ^ 30 }
+    requires few_columns { cols < 2 ^ 31 }
     ensures null { IfOk result (λ v. IsNullBasis cols basis.now.rows.items v.rows.items v.pivots.items) }
     ensures count { IfOk result (λ v. length v.rows.items + length basis.now.rows.items ≡ cols) }
-    ensures never_wide { OnOk result ((e : EliminationStep) → IsWideOnExtended cols basis.now.rows.items e → ⊥) }
+    ensures never_wide { OnOk result ((e : EliminationStep) → IsWideOnExtended cols basis.now.rows.items e
+        → ⊥) }
     ensures wide { IfErr result (λ f. IfWide f (λ e. IsWideOnExtended cols basis.now.rows.items e)) }
     ensures list { IfErr result (λ f. IfWide f (λ e. e.list ≡ list)) }
 {
@@ -88,19 +92,24 @@ pub(crate) fn null_of(
     Ok(null)
 }
 
-/// The echelon basis of the null space of rows with `cols` entries each: of all x with as many entries that have product 0 with each of the rows.
-/// It is found in the echelon basis of the extended list of the rows: for each column the entries of their echelon basis there, and then a unit row. The basis rows that are 0 in the columns of those entries, without these columns, are the answer.
-/// `Wide` exactly where a step of one of these two eliminations leaves the range; the evidence is on the list `Rows` or `Extended`.
+/// The echelon basis of the null space of rows with `cols` entries each: of all x with as many entries that have
+/// product 0 with each of the rows.
+/// It is found in the echelon basis of the extended list of the rows: for each column the entries of their echelon
+/// basis there, and then a unit row. The basis rows that are 0 in the columns of those entries, without these
+/// columns, are the answer.
+/// `Wide` exactly where a step of one of these two eliminations leaves the range; the evidence is on the list `Rows`
+/// or `Extended`.
 pub fn null_space(alloc: Global, rows: &[Ints], cols: usize) -> Result<Vec<Ints>, ElimFail>
     requires columns { HasCols cols rows.now }
-    requires few_rows { length rows.now < 2 ^ 30 }
-    requires few_columns { cols < 2 ^ 30 }
+    requires few_rows { length rows.now < 2 ^ 32 }
+    requires few_columns { cols < 2 ^ 31 }
     ensures null { IfOk result (λ v. (P : List ℕ) × IsNullBasis cols rows.now v.items P) }
     ensures nullity { IfOk result (λ v. (k : ℕ) → IsRank rows.now k → length v.items + k ≡ cols) }
     ensures never_wide { OnOk result (NoEvidence cols rows.now ElimList.Rows) }
     ensures never_wide_extended { OnOk result (NoEvidence cols rows.now ElimList.Extended) }
     ensures wide { IfErr result (λ f. IfWide f (λ e. IsEvidence cols rows.now e)) }
-    ensures list { IfErr result (λ f. IfWide f (λ e. (e.list ≡ ElimList.Rows) ⊎ (e.list ≡ ElimList.Extended))) }
+    ensures list { IfErr result (λ f.
+        IfWide f (λ e. (e.list ≡ ElimList.Rows) ⊎ (e.list ≡ ElimList.Extended))) }
 {
     let basis = basis_of_rows(alloc, rows, cols)?;
     let null = null_of(alloc, &basis, cols, ElimList::Extended)?;

@@ -18,7 +18,8 @@ struct WideAt {
     pub column: usize,
 }
 
-/// Reduces a row by the rows of an echelon basis, in turn. At an error the row is reduced by the rows before the one of that step.
+/// Reduces a row by the rows of an echelon basis, in turn. At an error the row is reduced by the rows before the one
+/// of that step.
 fn reduce_in_turn(rows: &[Ints], pivots: &[usize], row: &mut Ints) -> Result<(), WideAt>
     requires { IsEchelonBasis (length row.old) rows.now pivots.now }
     ensures reduced { OnOk result (ReducedBy rows.now pivots.now row.old row.new) }
@@ -44,7 +45,8 @@ pub(crate) fn reduced_copy(
     requires { IsEchelonBasis (length row.now) rows.now pivots.now }
     ensures reduced { IfOk result (λ r. ReducedBy rows.now pivots.now row.now r) }
     ensures stays { OnOk result (ReductionStays rows.now pivots.now row.now) }
-    ensures wide { IfErr result (λ f. IfWideStep f (λ s. IsWideOnNext rows.now pivots.now row.now s.part s.by s.column)) }
+    ensures wide { IfErr result (λ f.
+        IfWideStep f (λ s. IsWideOnNext rows.now pivots.now row.now s.part s.by s.column)) }
     ensures within { IfErr result (λ f. IfWideStep f (λ s. s.column < length row.now)) }
 {
     let mut rest = row.copy(alloc)?;

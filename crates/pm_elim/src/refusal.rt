@@ -6,7 +6,8 @@ ghost use Rattle.std.specs.Prelude.{◌≡◌};
 use pm_vector::Ints;
 use std::alloc::{AllocError, AllocFailed};
 
-/// A step that leaves the range: the row that it was to reduce, the place of the basis row by which, or the number of basis rows where it was the new row, and a column.
+/// A step that leaves the range: the row that it was to reduce, the place of the basis row by which, or the number of
+/// basis rows where it was the new row, and a column.
 #[derive(Drop)]
 pub(crate) struct WideStep {
     pub part: Ints,

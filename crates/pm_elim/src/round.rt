@@ -37,7 +37,8 @@ fn join(basis: &mut Growing, new: Ints, pivot: usize) -> Result<(), AllocError>
     requires is_new { IsNewRow (length new) basis.old.rows.items basis.old.pivots.items new pivot }
     requires within { pivot < length new }
     requires stays { AllStay basis.old.rows.items new pivot }
-    ensures is_basis { OnOk result (IsEchelonBasis (length new) basis.new.rows.items basis.new.pivots.items) }
+    ensures is_basis { OnOk result
+        (IsEchelonBasis (length new) basis.new.rows.items basis.new.pivots.items) }
     ensures span { OnOk result (SameSpan basis.new.rows.items (basis.old.rows.items ++ new ∷ [])) }
     ensures count { OnOk result (vec_len basis.new.rows ≡ vec_len basis.old.rows + 1) }
 {
@@ -53,7 +54,9 @@ fn rest_of(alloc: Global, basis: &Growing, row: &Ints) -> Result<Ints, Refusal>
     requires { IsEchelonBasis (length row.now) basis.now.rows.items basis.now.pivots.items }
     ensures reduced { IfOk result (λ r. ReducedBy basis.now.rows.items basis.now.pivots.items row.now r) }
     ensures stays { OnOk result (ReductionStays basis.now.rows.items basis.now.pivots.items row.now) }
-    ensures wide { IfErr result (λ f. IfWideStep f (λ s. IsWideOnNext basis.now.rows.items basis.now.pivots.items row.now s.part s.by s.column)) }
+    ensures wide { IfErr result (λ f.
+        IfWideStep f (λ s.
+        IsWideOnNext basis.now.rows.items basis.now.pivots.items row.now s.part s.by s.column)) }
     ensures within { IfErr result (λ f. IfWideStep f (λ s. s.column < length row.now)) }
 {
     reduced_copy(alloc, &basis.rows, &basis.pivots, row)
@@ -70,7 +73,8 @@ fn refuse_wide_older(
     requires within { pivot < length new.now }
     requires positive { pos 0 <ℤ entry new.now pivot }
     ensures stays { OnOk result (AllStay basis.now.rows.items new.now pivot) }
-    ensures wide { IfErr result (λ f. IfWideStep f (λ s. IsWideOnSome basis.now.rows.items new.now pivot s.part s.by s.column)) }
+    ensures wide { IfErr result (λ f.
+        IfWideStep f (λ s. IsWideOnSome basis.now.rows.items new.now pivot s.part s.by s.column)) }
     ensures within { IfErr result (λ f. IfWideStep f (λ s. s.column < length new.now)) }
 {
     let Some(at) = wide_older(&basis.rows, new, pivot) else {
@@ -87,15 +91,22 @@ fn refuse_wide_older(
 /// Takes a further row into a basis, which stays as it was where a step leaves the range.
 pub(crate) fn take_in(alloc: Global, basis: &mut Growing, row: &Ints) -> Result<(), Refusal>
     requires { IsEchelonBasis (length row.now) basis.old.rows.items basis.old.pivots.items }
-    ensures is_basis { OnOk result (IsEchelonBasis (length row.now) basis.new.rows.items basis.new.pivots.items) }
+    ensures is_basis { OnOk result
+        (IsEchelonBasis (length row.now) basis.new.rows.items basis.new.pivots.items) }
     ensures span { OnOk result (SameSpan basis.new.rows.items (basis.old.rows.items ++ row.now ∷ [])) }
     ensures count { OnOk result (vec_len basis.new.rows ≤ vec_len basis.old.rows + 1) }
-    ensures spanned { OnOk result (vec_len basis.new.rows ≤ vec_len basis.old.rows → InSpan basis.old.rows.items row.now) }
-    ensures never_wide { OnOk result ((part : Row) (by i : ℕ) → IsWideRound basis.old.rows.items basis.old.pivots.items row.now part by i → ⊥) }
-    ensures wide { IfErr result (λ f. IfWideStep f (λ s. IsWideRound basis.old.rows.items basis.old.pivots.items row.now s.part s.by s.column)) }
+    ensures spanned { OnOk result (vec_len basis.new.rows ≤ vec_len basis.old.rows
+        → InSpan basis.old.rows.items row.now) }
+    ensures never_wide { OnOk result ((part : Row) (by i : ℕ)
+        → IsWideRound basis.old.rows.items basis.old.pivots.items row.now part by i → ⊥) }
+    ensures wide { IfErr result (λ f.
+        IfWideStep f (λ s.
+        IsWideRound basis.old.rows.items basis.old.pivots.items row.now s.part s.by s.column)) }
     ensures within { IfErr result (λ f. IfWideStep f (λ s. s.column < length row.now)) }
-    ensures rows_unchanged { IfErr result (λ f. IfWideStep f (λ _. basis.new.rows.items ≡ basis.old.rows.items)) }
-    ensures pivots_unchanged { IfErr result (λ f. IfWideStep f (λ _. basis.new.pivots.items ≡ basis.old.pivots.items)) }
+    ensures rows_unchanged { IfErr result (λ f.
+        IfWideStep f (λ _. basis.new.rows.items ≡ basis.old.rows.items)) }
+    ensures pivots_unchanged { IfErr result (λ f.
+        IfWideStep f (λ _. basis.new.pivots.items ≡ basis.old.pivots.items)) }
 {
     let rest = rest_of(alloc, basis, row)?;
     let Some(pivot) = pivot_of(&rest) else {

@@ -15,11 +15,12 @@ use crate::wide_rounds::WideFail;
 use pm_vector::Ints;
 use std::alloc::Global;
 
-/// The echelon basis of the null space of rows with `cols` entries each. It is found in the extended list of the rows themselves.
+/// The echelon basis of the null space of rows with `cols` entries each. It is found in the extended list of the rows
+/// themselves.
 fn wide_null(alloc: Global, rows: &[Ints], cols: usize) -> Result<Growing, WideFail>
     requires columns { HasCols cols rows.now }
-    requires few_rows { length rows.now < 2 ^ 30 }
-    requires few_columns { cols < 2 ^ 30 }
+    requires few_rows { length rows.now < 2 ^ 32 }
+    requires few_columns { cols < 2 ^ 31 }
     ensures { IfOk result (λ v. IsNullBasis cols rows.now v.rows.items v.pivots.items) }
 {
     let listed = extended(alloc, rows, cols)?;
@@ -31,8 +32,8 @@ fn wide_null(alloc: Global, rows: &[Ints], cols: usize) -> Result<Growing, WideF
 /// The rows of that basis.
 pub fn wide_null_space(alloc: Global, rows: &[Ints], cols: usize) -> Result<Vec<Ints>, WideFail>
     requires columns { HasCols cols rows.now }
-    requires few_rows { length rows.now < 2 ^ 30 }
-    requires few_columns { cols < 2 ^ 30 }
+    requires few_rows { length rows.now < 2 ^ 32 }
+    requires few_columns { cols < 2 ^ 31 }
     ensures { IfOk result (λ v. (P : List ℕ) × IsNullBasis cols rows.now v.items P) }
 {
     let null = wide_null(alloc, rows, cols)?;
@@ -48,8 +49,8 @@ fn wide_dual_row(
     null: &Growing,
 ) -> Result<Ints, WideFail>
     requires columns { HasCols cols rows.now }
-    requires few_rows { length rows.now < 2 ^ 30 }
-    requires few_columns { cols < 2 ^ 30 }
+    requires few_rows { length rows.now < 2 ^ 32 }
+    requires few_columns { cols < 2 ^ 31 }
     requires within { j < length rows.now }
     requires is_null { IsNullBasis cols rows.now null.now.rows.items null.now.pivots.items }
     ensures { IfOk result (λ x. IsDualRow cols rows.now null.now.pivots.items j x) }
@@ -66,8 +67,8 @@ fn wide_dual_row(
 /// The dual basis of the rows.
 pub fn wide_dual_basis(alloc: Global, rows: &[Ints], cols: usize) -> Result<Vec<Ints>, WideFail>
     requires columns { HasCols cols rows.now }
-    requires few_rows { length rows.now < 2 ^ 30 }
-    requires few_columns { cols < 2 ^ 30 }
+    requires few_rows { length rows.now < 2 ^ 32 }
+    requires few_columns { cols < 2 ^ 31 }
     ensures { IfOk result (λ v. IsDualBasis cols rows.now v.items) }
 {
     let null = wide_null(alloc, rows, cols)?;

@@ -65,7 +65,7 @@ fn reduced_once(alloc: Global, row: &Ints, by: &Ints, pivot: usize) -> Result<In
 }
 
 /// A row, reduced by the rows of an echelon basis, in turn.
-fn reduced_in_turn(
+pub(crate) fn reduced_in_turn(
     alloc: Global,
     rows: &[Ints],
     pivots: &[usize],
@@ -124,7 +124,8 @@ pub(crate) fn taken_in(alloc: Global, basis: Growing, row: &Ints) -> Result<Grow
     ensures is_basis { IfOk result (λ b. IsEchelonBasis (length row.now) b.rows.items b.pivots.items) }
     ensures span { IfOk result (λ b. SameSpan b.rows.items (basis.rows.items ++ row.now ∷ [])) }
     ensures count { IfOk result (λ b. vec_len b.rows ≤ vec_len basis.rows + 1) }
-    ensures spanned { IfOk result (λ b. vec_len b.rows ≤ vec_len basis.rows → InSpan basis.rows.items row.now) }
+    ensures spanned { IfOk result (λ b. vec_len b.rows ≤ vec_len basis.rows
+        → InSpan basis.rows.items row.now) }
 {
     let rest = reduced_in_turn(alloc, &basis.rows, &basis.pivots, row)?;
     let Some(pivot) = pivot_of(&rest) else {

@@ -1,19 +1,18 @@
 -- The examples of dimensions.
+use Rattle.pm_geom.proofs.OneRow.{one_row}
 use Rattle.pm_vector.proofs.ConeLaws.{in_line}
 use Rattle.pm_vector.proofs.Lists.{Among, here, there}
-use Rattle.pm_vector.specs.Divisors.{IsPrimitive}
-use Rattle.pm_vector.specs.Rows.{Row, entry}
-use Rattle.pm_vector.proofs.BasisExamples.{bases_are_read, primitive_by_one}
+use Rattle.pm_vector.specs.Rows.{Row}
+use Rattle.pm_vector.proofs.BasisExamples.{bases_are_read}
 use Rattle.pm_vector.proofs.Rank.{basis_gives_rank, rank_is_determined}
 use Rattle.pm_vector.proofs.Spans.{same_span, same_span_refl}
-use Rattle.pm_vector.specs.Bases.{IsRank, IsReducedBasis, SameSpan, column, row_at}
+use Rattle.pm_vector.specs.Bases.{IsRank, SameSpan}
 use Rattle.pm_fan.specs.Examples.{DimensionsAreRead, axes}
 use Rattle.std.proofs.Common.{arith, refl}
 use Rattle.std.proofs.lemmas.List.Elements.{All-cons, All-nil}
 use Rattle.std.specs.List.{All}
-use Rattle.std.specs.Prelude.{List, [], length, suc, zero, ℕ, ◌+◌, ◌<◌, ◌^◌, ◌∷◌, ◌≡◌}
+use Rattle.std.specs.Prelude.{List, [], length, ℕ, ◌+◌, ◌<◌, ◌^◌, ◌∷◌}
 use lib.IntN.{pos}
-use lib.Signed.{lt_z_yes, ◌<ℤ◌}
 
 -- the second axis
 abbrev up : Row
@@ -23,28 +22,11 @@ up = pos 0 ∷ pos 1 ∷ []
 abbrev right : Row
 right = pos 1 ∷ pos 0 ∷ []
 
--- a row of two entries with an entry 1 is a basis
-one_row : (x : Row) (c : ℕ) → length x ≡ 2 → entry x c ≡ pos 1 → IsReducedBasis 2 (x ∷ []) (c ∷ [])
-one_row x c l one = record { cols = (l, tt); as_many = refl; positive = positive; reduced = reduced; primitive = primitive }
-  where
-    positive : (i : ℕ) → i < 1 → pos 0 <ℤ entry (row_at (x ∷ []) i) (column (c ∷ []) i)
-    positive zero b = rw one (lt_z_yes tt)
-    positive (suc i) b = absurd (omega arith)
-
-    reduced : (i j : ℕ) → i < 1 → j < 1 → ¬ (i ≡ j) → entry (row_at (x ∷ []) i) (column (c ∷ []) j) ≡ pos 0
-    reduced zero zero b d ne = absurd (ne refl)
-    reduced zero (suc j) b d ne = absurd (omega arith)
-    reduced (suc i) j b d ne = absurd (omega arith)
-
-    primitive : (i : ℕ) → i < 1 → IsPrimitive (row_at (x ∷ []) i)
-    primitive zero b = primitive_by_one x c one
-    primitive (suc i) b = absurd (omega arith)
-
 quadrant : IsRank axes 2
 quadrant = basis_gives_rank 2 axes (0 ∷ 1 ∷ []) axes bases_are_read.plane.basis (same_span_refl axes)
 
 ray_up : IsRank (up ∷ []) 1
-ray_up = basis_gives_rank 2 (up ∷ []) (1 ∷ []) (up ∷ []) (one_row up 1 refl refl) (same_span_refl (up ∷ []))
+ray_up = basis_gives_rank 2 (up ∷ []) (1 ∷ []) (up ∷ []) (one_row 2 up 1 refl refl) (same_span_refl (up ∷ []))
 
 apex : IsRank [] 0
 apex = basis_gives_rank 2 [] [] [] bases_are_read.none.basis (same_span_refl [])
@@ -65,7 +47,7 @@ half_plane : IsRank (right ∷ right ∷ up ∷ []) 2
 half_plane = basis_gives_rank 2 axes (0 ∷ 1 ∷ []) (right ∷ right ∷ up ∷ []) bases_are_read.plane.basis (same_twice (up ∷ []))
 
 line : IsRank (right ∷ right ∷ []) 1
-line = basis_gives_rank 2 (right ∷ []) (0 ∷ []) (right ∷ right ∷ []) (one_row right 0 refl refl) (same_twice [])
+line = basis_gives_rank 2 (right ∷ []) (0 ∷ []) (right ∷ right ∷ []) (one_row 2 right 0 refl refl) (same_twice [])
 
 abbrev IsPlaced : List ℕ → Type 0
 IsPlaced set = All (λ j. j < 2) set × (0 + length set < 2 ^ 30)

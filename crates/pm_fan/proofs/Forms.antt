@@ -1,4 +1,5 @@
 -- The values of new fans have the forms of values that an object may hold.
+use Rattle.pm_object.proofs.FanForms.{IsOfFan, dimension_form, rows_form, three}
 use Rattle.pm_vector.proofs.Lists.{All_among, Among, among_All, here, there}
 use Rattle.pm_vector.specs.Numbers.{Ratio}
 use Rattle.pm_fan.proofs.Kept.{all_ascend, holders_ascend, kept_among, kept_few, kept_length}
@@ -17,17 +18,17 @@ use Rattle.pm_object_type.specs.declared.object_type.ObjectType.TheVariants.{Fan
 use Rattle.pm_object_type.specs.declared.object_type.ObjectType.{ObjectType}
 use Rattle.pm_props.specs.declared.property.PropId.TheVariants.{AffineHull, Bounded, Centered, ConeAmbientDim, Facets, Feasible, LinealitySpace, MaximalCones, Vertices, VerticesInFacets}
 use Rattle.pm_props.specs.declared.property.PropId.{PropId}
-use Rattle.pm_types.specs.Forms.{FormsIn, HasPrimitiveRow, HavePrimitiveRows, agrees_with, are_indices, is_column_count, is_formed, is_matrix_form, is_row, is_row_of_entries, is_sets_form}
-use Rattle.pm_types.specs.Values.{IndexSets, PropertyValue, matrix, whole}
-use Rattle.std.proofs.Common.{arith, false, refl, subst, true, ◌∙◌}
-use Rattle.std.proofs.lemmas.Bool.{and_from, and_parts, eq-eqb, eqb-true, le-leb, leb-true}
+use Rattle.pm_types.specs.Forms.{FormsIn, HasPrimitiveRow, are_indices, is_row, is_row_of_entries, is_sets_form}
+use Rattle.pm_types.specs.Values.{IndexSets, PropertyValue, whole}
+use Rattle.std.proofs.Common.{arith, false, refl, subst, true}
+use Rattle.std.proofs.lemmas.Bool.{and_parts, eq-eqb, eqb-true, le-leb, leb-true}
 use Rattle.std.proofs.lemmas.Int.{ints}
 use Rattle.std.proofs.lemmas.List.{length-map}
 use Rattle.std.proofs.lemmas.List.Elements.{All-cons, All-map, All-nil, All-tail, All-weaker}
 use Rattle.std.proofs.lemmas.List.FromFn.{length-map-range_with_len}
 use Rattle.std.proofs.lemmas.List.Sums.{list_all-from_AllPass}
 use Rattle.std.specs.List.{All, filter, list_all, range_with_len, slice_index_or}
-use Rattle.std.specs.Prelude.{Bool, List, None, [], drop, if◌then◌else◌, length, nat_eq, nat_le, suc, unsigned_abs, ℕ, ◌&&◌, ◌<◌, ◌||◌, ◌∷◌, ◌≡◌, ◌≤◌}
+use Rattle.std.specs.Prelude.{Bool, List, None, [], drop, if◌then◌else◌, length, nat_le, suc, unsigned_abs, ℕ, ◌&&◌, ◌<◌, ◌∷◌, ◌≡◌, ◌≤◌}
 use lib.IntN.{pos}
 use Rattle.pm_limits.specs.Limits.{most_columns, most_rows}
 
@@ -52,51 +53,14 @@ cut_rows : (of : ObjectType) (p : PropId) (n : ℕ) (rows : List (List Ratio)) �
 cut_rows of p n rows h = All-map (IsCutRow n) (λ (r : List Ratio). drop 1 r) rows (All_among (λ (r : List Ratio). IsCutRow n (drop 1 r)) rows (λ r i. let g = h r i in cut_row n r g.cols g.entries g.primitive))
 
 -- ---- values
--- the properties of rows that a new fan has
-abbrev IsOfFan : PropId → Type 0
-IsOfFan Vertices = Unit {0}
-IsOfFan LinealitySpace = Unit {0}
-IsOfFan p = ⊥
-
-formed_of : (p : PropId) → IsOfFan p → (m : ℕ) (rows : List (List Ratio)) → is_formed p (matrix m rows) ≡ is_matrix_form m rows
-formed_of Vertices h m rows = refl
-formed_of LinealitySpace h m rows = refl
-formed_of p h m rows = absurd h
-
-agrees_of : (p : PropId) → IsOfFan p → (n m : ℕ) (rows : List (List Ratio)) → agrees_with n p (matrix m rows) ≡ (nat_eq m 0 || nat_eq m n)
-agrees_of Vertices h n m rows = refl
-agrees_of LinealitySpace h n m rows = refl
-agrees_of p h n m rows = absurd h
-
-three : (a b c : Bool) → a ≡ true → b ≡ true → c ≡ true → (a && b && c) ≡ true
-three a b c p q r = rw (p, q, r) refl
-
-second : (a b : Bool) → b ≡ true → (a || b) ≡ true
-second true b p = refl
-second false b p = p
-
-primitive_of : (p : PropId) → IsOfFan p → (m : ℕ) (rows : List (List Ratio)) → All HasPrimitiveRow rows → HavePrimitiveRows p (matrix m rows)
-primitive_of Vertices h m rows all = all
-primitive_of LinealitySpace h m rows all = all
-primitive_of p h m rows all = absurd h
-
-rows_form : (n : ℕ) (p : PropId) → IsOfFan p → (rows : List (List Ratio)) → 1 ≤ n → n ≤ most_columns → length rows ≤ most_rows → All (IsCutRow n) rows → list_all (is_row Fan p) rows ≡ true → FormsIn Fan n p (value_over n rows)
-rows_form n p h [] some few all cuts pass = record { formed = formed_of p h 0 []; columns = agrees_of p h n 0 []; rows = refl; entries = All-nil (All IsFraction); primitive = primitive_of p h 0 [] (All-nil HasPrimitiveRow) }
-rows_form n p h (r ∷ rows) some few all cuts pass = record {
-  formed = formed_of p h n (r ∷ rows)
-      ∙ three (nat_le (length (r ∷ rows)) most_rows) (is_column_count (r ∷ rows) n) (list_all (is_row_of_entries n) (r ∷ rows)) (le-leb (length (r ∷ rows)) most_rows all) (and_from (nat_le 1 n) (nat_le n most_columns) (le-leb 1 n some) (le-leb n most_columns few))
-      (list_all-from_AllPass (is_row_of_entries n) (r ∷ rows) (All-weaker (IsCutRow n) (λ x. is_row_of_entries n x ≡ true) (λ x g. eq-eqb (length x) n g.cols) (r ∷ rows) cuts));
-  columns = agrees_of p h n n (r ∷ rows) ∙ second (nat_eq n 0) (nat_eq n n) (eq-eqb n n refl);
-  rows = pass;
-  entries = All-weaker (IsCutRow n) (λ x. All IsFraction x) (λ x g. g.entries) (r ∷ rows) cuts;
-  primitive = primitive_of p h n (r ∷ rows) (All-weaker (IsCutRow n) (λ x. HasPrimitiveRow x) (λ x g. g.primitive) (r ∷ rows) cuts);
-}
+rows_of_cuts : (n : ℕ) (p : PropId) → IsOfFan p → (rows : List (List Ratio)) → 1 ≤ n → n ≤ most_columns → length rows ≤ most_rows → All (IsCutRow n) rows → list_all (is_row Fan p) rows ≡ true → FormsIn Fan n p (value_over n rows)
+rows_of_cuts n p h rows some few all cuts pass = rows_form n p h rows some few all
+    (list_all-from_AllPass (is_row_of_entries n) rows (All-weaker (IsCutRow n) (λ x. is_row_of_entries n x ≡ true) (λ x g. eq-eqb (length x) n g.cols) rows cuts))
+    (All-weaker (IsCutRow n) (λ x. All IsFraction x) (λ x g. g.entries) rows cuts)
+    (All-weaker (IsCutRow n) (λ x. HasPrimitiveRow x) (λ x g. g.primitive) rows cuts) pass
 
 sets_form : (n : ℕ) (s : IndexSets) → is_sets_form s.rows s.cols ≡ true → FormsIn Fan n MaximalCones (value_of_sets s)
 sets_form n s f = record { formed = f; columns = refl; rows = refl; entries = All-nil (All IsFraction); primitive = All-nil HasPrimitiveRow }
-
-dimension_form : (n : ℕ) → 1 ≤ n → n ≤ most_columns → FormsIn Fan n ConeAmbientDim (whole (pos n))
-dimension_form n some few = record { formed = and_from (nat_le 1 n) (nat_le n most_columns) (le-leb 1 n some) (le-leb n most_columns few); columns = eq-eqb n n refl; rows = refl; entries = All-nil (All IsFraction); primitive = All-nil HasPrimitiveRow }
 
 -- ---- the normal fan
 -- the index sets, of the number of vertices, over the number of rays
@@ -130,10 +94,10 @@ normal_forms a f r h =
     let held = λ (p : PropId) (x : List Ratio) (g : IsHeldRow a.of p (cols_at a) x). subst (λ m. IsHeldRow a.of p m x) cols g in
     All-cons P (ConeAmbientDim, whole (pos (fan_cols a))) ((Vertices, value_over (fan_cols a) (normal_rays a)) ∷ (LinealitySpace, value_over (fan_cols a) (cut (rows_at AffineHull a))) ∷ (MaximalCones, value_of_sets (normal_cones a)) ∷ []) (dimension_form (fan_cols a) (omega arith) (omega arith))
     (All-cons P (Vertices, value_over (fan_cols a) (normal_rays a)) ((LinealitySpace, value_over (fan_cols a) (cut (rows_at AffineHull a))) ∷ (MaximalCones, value_of_sets (normal_cones a)) ∷ [])
-    (rows_form (fan_cols a) Vertices tt (normal_rays a) (omega arith) (omega arith) few
+    (rows_of_cuts (fan_cols a) Vertices tt (normal_rays a) (omega arith) (omega arith) few
     (cut_rows a.of Facets (fan_cols a) (with_members (sets_at VerticesInFacets a).rows (rows_at Facets a)) (λ x i. held Facets x (among_All (IsHeldRow a.of Facets (cols_at a)) (kept_among (sets_at VerticesInFacets a).rows (rows_at Facets a) x i) facets.each))) pass.0)
     (All-cons P (LinealitySpace, value_over (fan_cols a) (cut (rows_at AffineHull a))) ((MaximalCones, value_of_sets (normal_cones a)) ∷ [])
-    (rows_form (fan_cols a) LinealitySpace tt (cut (rows_at AffineHull a)) (omega arith) (omega arith) lines
+    (rows_of_cuts (fan_cols a) LinealitySpace tt (cut (rows_at AffineHull a)) (omega arith) (omega arith) lines
     (cut_rows a.of AffineHull (fan_cols a) (rows_at AffineHull a) (λ x i. held AffineHull x (among_All (IsHeldRow a.of AffineHull (cols_at a)) i hull.each))) (and_parts (list_all (is_row Fan LinealitySpace) (cut (rows_at AffineHull a))) true pass.1).0)
     (All-cons P (MaximalCones, value_of_sets (normal_cones a)) [] (sets_form (fan_cols a) (normal_cones a) (normal_sets_form a same facets.few vertices.few)) (All-nil P))))
   where
@@ -143,8 +107,8 @@ normal_forms a f r h =
 -- ---- the face fan
 face_rays_form : (a : State) (t : Bool) → 1 ≤ fan_cols a → fan_cols a ≤ most_columns → length (cut (rows_at Vertices a)) ≤ most_rows → All (IsCutRow (fan_cols a)) (cut (rows_at Vertices a)) → list_all (is_row Fan Vertices) (if t then [] else cut (rows_at Vertices a)) ≡ true
     → FormsIn Fan (fan_cols a) Vertices (value_over (fan_cols a) (if t then [] else cut (rows_at Vertices a)))
-face_rays_form a true some few all cuts pass = rows_form (fan_cols a) Vertices tt [] some few (omega arith) (All-nil (IsCutRow (fan_cols a))) refl
-face_rays_form a false some few all cuts pass = rows_form (fan_cols a) Vertices tt (cut (rows_at Vertices a)) some few all cuts pass
+face_rays_form a true some few all cuts pass = rows_of_cuts (fan_cols a) Vertices tt [] some few (omega arith) (All-nil (IsCutRow (fan_cols a))) refl
+face_rays_form a false some few all cuts pass = rows_of_cuts (fan_cols a) Vertices tt (cut (rows_at Vertices a)) some few all cuts pass
 
 face_sets_form : (s : IndexSets) (t : Bool) → is_sets_form s.rows s.cols ≡ true → is_sets_form (if t then only_apex else s).rows (if t then only_apex else s).cols ≡ true
 face_sets_form s true f = refl

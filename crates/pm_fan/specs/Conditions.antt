@@ -34,7 +34,8 @@ rows_pass f = list_all (λ v. are_rows f.of v.0 v.1) f.values
 abbrev pub rows_refusal : SavedFile → Option Condition
 rows_refusal f = if rows_pass f then None else Some condition.Rows
 
--- a bounded polytope, not empty, of a column beside the first, whose sets are of its facets and vertices, and no normal is 0
+-- a bounded polytope, not empty, of a column beside the first, whose sets are of its facets and vertices, and no
+-- normal is 0
 abbrev pub normal_refusal : State → Option Condition
 normal_refusal o = if not (is_polytope o.of) then Some condition.OfType
     else if not (is_true Bounded o) then Some condition.Bounded
@@ -43,7 +44,8 @@ normal_refusal o = if not (is_polytope o.of) then Some condition.OfType
     else if not (are_of_facets o && are_of_vertices o) then Some condition.Rows
     else rows_refusal (normal_fan_of o)
 
--- a bounded polytope with 0 in its interior, of a column beside the first, whose sets are of its vertices, and no vertex is 0
+-- a bounded polytope with 0 in its interior, of a column beside the first, whose sets are of its vertices, and no
+-- vertex is 0
 abbrev pub face_refusal : State → Option Condition
 face_refusal o = if not (is_polytope o.of) then Some condition.OfType
     else if not (is_true Bounded o) then Some condition.Bounded

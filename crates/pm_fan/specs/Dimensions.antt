@@ -1,4 +1,5 @@
--- The dimensions of the cones of a fan (Ziegler, Lectures on Polytopes, section 7.1): each is that of the span of the cone.
+-- The dimensions of the cones of a fan (Ziegler, Lectures on Polytopes, section 7.1): each is that of the span of the
+-- cone.
 use Rattle.std.specs.Prelude.{ℕ, List, [], ◌∷◌, ◌++◌, ◌+◌, ◌<◌, ◌^◌, length, map}
 use Rattle.std.specs.List.{All, Contains}
 use Rattle.pm_vector.specs.Rows.{Row}
@@ -26,7 +27,8 @@ AreDimensions V L (set ∷ cones) [] = ⊥
 AreDimensions V L (set ∷ cones) (d ∷ dims) = IsDimension (cone_rows V L set) d × AreDimensions V L cones dims
 
 -- e shows a step of the elimination of the rows of one of the cones
-pub record IsConeEvidence (n : ℕ) (V L : List Row) (cones : List (List ℕ)) (e : EliminationStep) : Type 0 where
+pub record IsConeEvidence (n : ℕ) (V L : List Row) (cones : List (List ℕ)) (e : EliminationStep)
+    : Type 0 where
   pub set : List ℕ
   pub listed : Contains cones set
   pub shown : IsEvidence n (cone_rows V L set) e

@@ -56,16 +56,26 @@ given v = record { place = None; property = v.0; value = v.1; origin = Given }
 
 -- a polytope that holds these
 abbrev pub holding : List (PropId × PropertyValue) → State
-holding values = record { of = Polytope; held = map given values; excluded = []; rounds = []; disabled = []; programs = [] }
+holding values = record {
+  of = Polytope;
+  held = map given values;
+  excluded = [];
+  rounds = [];
+  disabled = [];
+  programs = [];
+}
 
 -- whether it is bounded, not empty, and has 0 in its interior
 abbrev pub truths : Bool → Bool → Bool → List (PropId × PropertyValue)
-truths bounded feasible centered = (Bounded, truth bounded) ∷ (Feasible, truth feasible) ∷ (Centered, truth centered) ∷ []
+truths bounded feasible centered = (Bounded, truth bounded) ∷ (Feasible, truth feasible)
+    ∷ (Centered, truth centered) ∷ []
 
 -- n columns, facet rows, rows of the affine hull, sets of so many places, vertices
 abbrev pub described : ℕ → List Row → List Row → List (List ℕ) → ℕ → List Row → List (PropId × PropertyValue)
 described n facets hull places count vertices =
-    (ConeAmbientDim, whole (pos n)) ∷ (Facets, value_over n (map ratios facets)) ∷ (AffineHull, value_over n (map ratios hull)) ∷ (VerticesInFacets, sets places count) ∷ (Vertices, value_over n (map ratios vertices)) ∷ []
+    (ConeAmbientDim, whole (pos n)) ∷ (Facets, value_over n (map ratios facets))
+    ∷ (AffineHull, value_over n (map ratios hull)) ∷ (VerticesInFacets, sets places count)
+    ∷ (Vertices, value_over n (map ratios vertices)) ∷ []
 
 -- a polytope for which all truth values hold
 abbrev pub fitting : List (PropId × PropertyValue) → State
@@ -80,11 +90,13 @@ square_values = described 3
 
 -- the point 2 of the line, whose only facet is far
 abbrev pub point_values : List (PropId × PropertyValue)
-point_values = described 2 ((one ∷ no ∷ []) ∷ []) ((pos 2 ∷ minus ∷ []) ∷ []) ([] ∷ []) 1 ((one ∷ pos 2 ∷ []) ∷ [])
+point_values = described 2 ((one ∷ no ∷ []) ∷ []) ((pos 2 ∷ minus ∷ []) ∷ []) ([] ∷ []) 1
+    ((one ∷ pos 2 ∷ []) ∷ [])
 
 -- the segment from -1 to 2, whose vertices are these rows, with sets of so many places
 abbrev pub segment_values : List (List ℕ) → ℕ → List Row → List (PropId × PropertyValue)
-segment_values places count vertices = described 2 ((one ∷ one ∷ []) ∷ (pos 2 ∷ minus ∷ []) ∷ []) [] places count vertices
+segment_values places count vertices =
+    described 2 ((one ∷ one ∷ []) ∷ (pos 2 ∷ minus ∷ []) ∷ []) [] places count vertices
 
 abbrev pub ends : List Row
 ends = (one ∷ minus ∷ []) ∷ (pos 2 ∷ pos 4 ∷ []) ∷ []
@@ -95,29 +107,37 @@ segment = segment_values ((0 ∷ []) ∷ (1 ∷ []) ∷ []) 2 ends
 -- the fan of n columns of these rays, lines and cones
 abbrev pub fan_of : ℕ → List Row → List Row → List (List ℕ) → ℕ → SavedFile
 fan_of n rays lines cones count = fan_with
-    ((ConeAmbientDim, whole (pos n)) ∷ (Vertices, value_over n (map ratios rays)) ∷ (LinealitySpace, value_over n (map ratios lines)) ∷ (MaximalCones, sets cones count) ∷ [])
+    ((ConeAmbientDim, whole (pos n)) ∷ (Vertices, value_over n (map ratios rays))
+    ∷ (LinealitySpace, value_over n (map ratios lines)) ∷ (MaximalCones, sets cones count) ∷ [])
 
 -- one without a value of its lineality
 abbrev pub pointed_fan_of : ℕ → List Row → List (List ℕ) → ℕ → SavedFile
 pointed_fan_of n rays cones count = fan_with
-    ((ConeAmbientDim, whole (pos n)) ∷ (Vertices, value_over n (map ratios rays)) ∷ (MaximalCones, sets cones count) ∷ [])
+    ((ConeAmbientDim, whole (pos n)) ∷ (Vertices, value_over n (map ratios rays))
+    ∷ (MaximalCones, sets cones count) ∷ [])
 
 -- the values of new fans
 pub record FansAreRead : Type 0 where
   pub without_first : cut (ratios (one ∷ minus ∷ no ∷ []) ∷ []) ≡ ratios (minus ∷ no ∷ []) ∷ []
   -- rows whose set is empty fall out
-  pub some_kept : with_members ([] ∷ (0 ∷ []) ∷ []) (ratios (one ∷ []) ∷ ratios (minus ∷ []) ∷ []) ≡ ratios (minus ∷ []) ∷ []
+  pub some_kept : with_members ([] ∷ (0 ∷ []) ∷ []) (ratios (one ∷ []) ∷ ratios (minus ∷ []) ∷ [])
+      ≡ ratios (minus ∷ []) ∷ []
   pub holders : holders_from 3 ((0 ∷ 2 ∷ []) ∷ (1 ∷ []) ∷ (2 ∷ []) ∷ []) 2 ≡ 3 ∷ 5 ∷ []
   -- normal fans
   pub square : normal_fan_of (fitting square_values)
-      ≡ fan_of 2 ((no ∷ one ∷ []) ∷ (one ∷ no ∷ []) ∷ (minus ∷ no ∷ []) ∷ (no ∷ minus ∷ []) ∷ []) [] ((0 ∷ 1 ∷ []) ∷ (1 ∷ 3 ∷ []) ∷ (0 ∷ 2 ∷ []) ∷ (2 ∷ 3 ∷ []) ∷ []) 4
+      ≡ fan_of 2 ((no ∷ one ∷ []) ∷ (one ∷ no ∷ []) ∷ (minus ∷ no ∷ []) ∷ (no ∷ minus ∷ []) ∷ []) []
+      ((0 ∷ 1 ∷ []) ∷ (1 ∷ 3 ∷ []) ∷ (0 ∷ 2 ∷ []) ∷ (2 ∷ 3 ∷ []) ∷ []) 4
   -- of a point its lines, without a ray
   pub point : normal_fan_of (fitting point_values) ≡ fan_of 1 [] ((minus ∷ []) ∷ []) ([] ∷ []) 0
   -- a facet without vertices between others
-  pub far_facet : normal_fan_of (fitting (described 2 ((one ∷ one ∷ []) ∷ (one ∷ no ∷ []) ∷ (pos 2 ∷ minus ∷ []) ∷ []) [] ((0 ∷ []) ∷ [] ∷ (1 ∷ []) ∷ []) 2 ends))
+  pub far_facet
+      : normal_fan_of
+      (fitting (described 2 ((one ∷ one ∷ []) ∷ (one ∷ no ∷ []) ∷ (pos 2 ∷ minus ∷ []) ∷ []) []
+      ((0 ∷ []) ∷ [] ∷ (1 ∷ []) ∷ []) 2 ends))
       ≡ fan_of 1 ((one ∷ []) ∷ (minus ∷ []) ∷ []) [] ((0 ∷ []) ∷ (1 ∷ []) ∷ []) 2
   -- face fans, whose rays keep their scale
-  pub ends : face_fan_of (fitting segment) ≡ pointed_fan_of 1 ((minus ∷ []) ∷ (pos 4 ∷ []) ∷ []) ((0 ∷ []) ∷ (1 ∷ []) ∷ []) 2
+  pub ends : face_fan_of (fitting segment)
+      ≡ pointed_fan_of 1 ((minus ∷ []) ∷ (pos 4 ∷ []) ∷ []) ((0 ∷ []) ∷ (1 ∷ []) ∷ []) 2
   pub apex : face_fan_of (fitting point_values) ≡ pointed_fan_of 1 [] ([] ∷ []) 0
 
 -- which conditions fail, and which first
@@ -126,22 +146,35 @@ pub record ConditionsAreRead : Type 0 where
   pub normal : normal_refusal (fitting square_values) ≡ None
   pub normal_of_point : normal_refusal (fitting point_values) ≡ None
   pub not_centered : normal_refusal (holding (truths true true false ++ square_values)) ≡ None
-  pub of_type : normal_refusal (record (holding (truths false false false ++ square_values)) { of = Cone }) ≡ Some condition.OfType
+  pub of_type : normal_refusal (record (holding (truths false false false ++ square_values)) { of = Cone })
+      ≡ Some condition.OfType
   pub bounded : normal_refusal (holding (truths false false true ++ square_values)) ≡ Some condition.Bounded
-  pub feasible : normal_refusal (holding (truths true false true ++ described 1 [] [] [] 0 [])) ≡ Some condition.Feasible
-  pub columns : normal_refusal (fitting (described 1 ((one ∷ []) ∷ []) [] [] 1 ((one ∷ []) ∷ []))) ≡ Some condition.Columns
+  pub feasible : normal_refusal (holding (truths true false true ++ described 1 [] [] [] 0 []))
+      ≡ Some condition.Feasible
+  pub columns : normal_refusal (fitting (described 1 ((one ∷ []) ∷ []) [] [] 1 ((one ∷ []) ∷ [])))
+      ≡ Some condition.Columns
   -- a set less, a place more, a normal that is 0
   pub of_facets : normal_refusal (fitting (segment_values ((0 ∷ []) ∷ []) 2 ends)) ≡ Some condition.Rows
-  pub of_vertices : normal_refusal (fitting (segment_values ((0 ∷ []) ∷ (1 ∷ []) ∷ []) 3 ends)) ≡ Some condition.Rows
-  pub no_normal : normal_refusal (fitting (described 2 ((one ∷ no ∷ []) ∷ []) [] ((0 ∷ []) ∷ []) 1 ((one ∷ no ∷ []) ∷ []))) ≡ Some condition.Rows
+  pub of_vertices : normal_refusal (fitting (segment_values ((0 ∷ []) ∷ (1 ∷ []) ∷ []) 3 ends))
+      ≡ Some condition.Rows
+  pub no_normal
+      : normal_refusal
+      (fitting (described 2 ((one ∷ no ∷ []) ∷ []) [] ((0 ∷ []) ∷ []) 1 ((one ∷ no ∷ []) ∷ [])))
+      ≡ Some condition.Rows
   -- of face fans
   pub face : face_refusal (fitting segment) ≡ None
   pub face_of_point : face_refusal (fitting point_values) ≡ None
   pub not_feasible : face_refusal (holding (truths true false true ++ segment)) ≡ None
-  pub face_of_type : face_refusal (record (holding (truths false false false ++ segment)) { of = Cone }) ≡ Some condition.OfType
+  pub face_of_type : face_refusal (record (holding (truths false false false ++ segment)) { of = Cone })
+      ≡ Some condition.OfType
   pub face_bounded : face_refusal (holding (truths false true false ++ segment)) ≡ Some condition.Bounded
-  pub face_centered : face_refusal (holding (truths true true false ++ described 1 [] [] [] 0 [])) ≡ Some condition.Centered
-  pub face_columns : face_refusal (fitting (described 1 [] [] [] 1 ((one ∷ []) ∷ []))) ≡ Some condition.Columns
-  pub face_of_vertices : face_refusal (fitting (segment_values ((0 ∷ []) ∷ (1 ∷ []) ∷ []) 1 ends)) ≡ Some condition.Rows
+  pub face_centered : face_refusal (holding (truths true true false ++ described 1 [] [] [] 0 []))
+      ≡ Some condition.Centered
+  pub face_columns : face_refusal (fitting (described 1 [] [] [] 1 ((one ∷ []) ∷ [])))
+      ≡ Some condition.Columns
+  pub face_of_vertices : face_refusal (fitting (segment_values ((0 ∷ []) ∷ (1 ∷ []) ∷ []) 1 ends))
+      ≡ Some condition.Rows
   -- 0 is no vertex of several
-  pub no_ray : face_refusal (fitting (segment_values ((0 ∷ []) ∷ (1 ∷ []) ∷ []) 2 ((one ∷ no ∷ []) ∷ (one ∷ one ∷ []) ∷ []))) ≡ Some condition.Rows
+  pub no_ray : face_refusal
+      (fitting (segment_values ((0 ∷ []) ∷ (1 ∷ []) ∷ []) 2 ((one ∷ no ∷ []) ∷ (one ∷ one ∷ []) ∷ [])))
+      ≡ Some condition.Rows

@@ -1,4 +1,5 @@
--- The values of new fans: the normal fan and the face fan of a polytope (Ziegler, Lectures on Polytopes, examples 7.2 and 7.3).
+-- The values of new fans: the normal fan and the face fan of a polytope (Ziegler, Lectures on Polytopes, examples 7.2
+-- and 7.3).
 use Rattle.std.specs.Prelude.{ℕ, suc, ◌-◌, Bool, true, false, List, [], ◌∷◌, drop, filter, length, map, nat_eq, if◌then◌else◌}
 use Rattle.std.specs.List.{range_with_len}
 use Rattle.pm_vector.specs.Numbers.{Ratio}
@@ -33,12 +34,14 @@ has_members (j ∷ set) = true
 abbrev pub with_members : List (List ℕ) → List (List Ratio) → List (List Ratio)
 with_members [] rows = []
 with_members (set ∷ sets) [] = []
-with_members (set ∷ sets) (r ∷ rows) = if has_members set then r ∷ with_members sets rows else with_members sets rows
+with_members (set ∷ sets) (r ∷ rows) = if has_members set then r ∷ with_members sets rows
+    else with_members sets rows
 
 -- the places, from i on, of the sets that hold j
 abbrev pub holders_from : ℕ → List (List ℕ) → ℕ → List ℕ
 holders_from i [] j = []
-holders_from i (set ∷ sets) j = if holds set j then i ∷ holders_from (suc i) sets j else holders_from (suc i) sets j
+holders_from i (set ∷ sets) j = if holds set j then i ∷ holders_from (suc i) sets j
+    else holders_from (suc i) sets j
 
 -- ---- the normal fan: a ray for each facet that holds a vertex, a cone for each vertex
 abbrev pub normal_rays : State → List (List Ratio)
@@ -47,7 +50,8 @@ normal_rays o = cut (with_members (sets_at VerticesInFacets o).rows (rows_at Fac
 -- for each vertex the rays of the facets that hold it
 abbrev pub normal_cones : State → IndexSets
 normal_cones o = record {
-  rows = map (holders_from 0 (filter has_members (sets_at VerticesInFacets o).rows)) (range_with_len 0 (length (rows_at Vertices o)));
+  rows = map (holders_from 0 (filter has_members (sets_at VerticesInFacets o).rows))
+      (range_with_len 0 (length (rows_at Vertices o)));
   cols = length (normal_rays o);
 }
 

@@ -18,5 +18,7 @@ HaveForms n f = All (λ (v : PropId × PropertyValue). FormsIn Fan n v.0 v.1) f.
 
 -- the values of the fans of polytopes, where no condition fails
 pub record FansHaveForms : Type 0 where
-  pub normal : (a : State) → IsFormed a → IsReadable normal_reads a → normal_refusal a ≡ None → HaveForms (fan_cols a) (normal_fan_of a)
-  pub face : (a : State) → IsFormed a → IsReadable face_reads a → face_refusal a ≡ None → HaveForms (fan_cols a) (face_fan_of a)
+  pub normal : (a : State) → IsFormed a → IsReadable normal_reads a → normal_refusal a ≡ None
+      → HaveForms (fan_cols a) (normal_fan_of a)
+  pub face : (a : State) → IsFormed a → IsReadable face_reads a → face_refusal a ≡ None
+      → HaveForms (fan_cols a) (face_fan_of a)

@@ -121,12 +121,12 @@ fn face_values(alloc: Global, o: &Object) -> Result<FileObject, AllocError>
     Ok(fan_with(alloc, values))
 }
 
-/// The normal fan of a bounded polytope: its rays are the normals of the facets, its lineality are the rows of the affine
-/// hull, and its cones, one for each vertex, are spanned by the normals of the facets that hold the vertex; normals without
-/// their first coordinate, with their scale. Of a point it is the lineality alone.
-/// These values are right, in some order of the fan's rays and cones, for the normal fan of each polytope for which the
-/// values read are right: the fan with one cone for each vertex, of the objectives that are least there, and no other
-/// (`pm_laws_fans`, `law_normal_fan_is_described`).
+/// The normal fan of a bounded polytope: its rays are the normals of the facets, its lineality are the rows of the
+/// affine hull, and its cones, one for each vertex, are spanned by the normals of the facets that hold the vertex;
+/// normals without their first coordinate, with their scale. Of a point it is the lineality alone.
+/// These values are right, in some order of the fan's rays and cones, for the normal fan of each polytope for which
+/// the values read are right: the fan with one cone for each vertex, of the objectives that are least there, and no
+/// other (`pm_laws_fans`, `law_normal_fan_is_described`).
 /// `NotFit` names the first condition that fails: the object is a polytope, BOUNDED and FEASIBLE are true, it has two
 /// columns at least, the sets of VERTICES_IN_FACETS are those of its facets and vertices and no normal is 0.
 pub fn normal_fan(alloc: Global, o: &Object) -> Result<FileObject, BuildFail>
@@ -141,9 +141,9 @@ pub fn normal_fan(alloc: Global, o: &Object) -> Result<FileObject, BuildFail>
     where_rows_pass(normal_values(alloc, o)?)
 }
 
-/// The face fan of a bounded polytope that has 0 in its interior: its rays are the vertices, without their first coordinate
-/// and with their scale, and its cones, one for each facet, are spanned by the vertices on the facet. Of a point it is the
-/// cone {0}.
+/// The face fan of a bounded polytope that has 0 in its interior: its rays are the vertices, without their first
+/// coordinate and with their scale, and its cones, one for each facet, are spanned by the vertices on the facet. Of a
+/// point it is the cone {0}.
 /// These values are right, in some order of the fan's rays and cones, for the face fan of each polytope for which the
 /// values read are right: the fan with one cone for each facet, the one over it, and no other (`pm_laws_fans`,
 /// `law_face_fan_is_described`).

@@ -10,7 +10,8 @@ use std::alloc::{AllocError, Global};
 /// The places of the sets that have an index, among those that have members.
 fn holders(alloc: Global, sets: &[Vec<u32>], index: u32) -> Result<Vec<u32>, AllocError>
     requires { length sets.now ≤ most_rows }
-    ensures { IfOk result (λ v. v.items ≡ holders_from 0 (filter has_members (map (λ s. s.items) sets.now)) index) }
+    ensures { IfOk result (λ v.
+        v.items ≡ holders_from 0 (filter has_members (map (λ s. s.items) sets.now)) index) }
 {
     let mut places = Vec::new(alloc);
     let mut place = 0;
@@ -32,7 +33,8 @@ pub(crate) fn all_holders(
     n: u32,
 ) -> Result<Vec<Vec<u32>>, AllocError>
     requires { length sets.now ≤ most_rows }
-    ensures { IfOk result (λ v. map (λ s. s.items) v.items ≡ map (holders_from 0 (filter has_members (map (λ s. s.items) sets.now))) (range_with_len 0 n)) }
+    ensures { IfOk result (λ v. map (λ s. s.items) v.items
+        ≡ map (holders_from 0 (filter has_members (map (λ s. s.items) sets.now))) (range_with_len 0 n)) }
 {
     let mut cones = Vec::new(alloc);
     for index in 0..n {

@@ -29,9 +29,10 @@ fn cone_rows(
     Ok(rows)
 }
 
-/// The dimensions of cones that are given by their rays, as sets of places, over one lineality: for each set the rank of
-/// the lineality with these rays. The rows have `cols` entries.
-/// `Wide` exactly where, for some set, a step of the elimination of these rows leaves the range; the evidence is on them.
+/// The dimensions of cones that are given by their rays, as sets of places, over one lineality: for each set the rank
+/// of the lineality with these rays. The rows have `cols` entries.
+/// `Wide` exactly where, for some set, a step of the elimination of these rows leaves the range; the evidence is on
+/// them.
 pub fn cone_dims(
     alloc: Global,
     rays: &[Ints],

@@ -1,4 +1,5 @@
-//! The dimensions of the cones of a fan, and the normal fan and the face fan of a polytope.
+//! The dimensions of the cones of a fan, and the normal fan and the face fan of a polytope. It knows nothing of
+//! rules, clients and sessions.
 #![tactic(auto)]
 
 ghost use Rattle.pm_fan.specs.Examples.{ConditionsAreRead, DimensionsAreRead, FansAreRead};

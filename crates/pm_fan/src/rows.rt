@@ -11,7 +11,10 @@ use std::alloc::{AllocError, Global};
 /// Puts a row below the others.
 fn put_row(matrix: &mut Matrix, row: &[Fraction]) -> Result<(), AllocError>
     requires { length row.now ≡ matrix.old.cols }
-    ensures { OnOk result (matrix.new ≡ record { cols = matrix.old.cols; rows = matrix.old.rows ++ row.now ∷ [] }) }
+    ensures { OnOk result (matrix.new ≡ record {
+      cols = matrix.old.cols;
+      rows = matrix.old.rows ++ row.now ∷ [];
+    }) }
 {
     match matrix.push_row(row) {
         Ok(()) => Ok(()),
@@ -53,8 +56,10 @@ pub(crate) fn cut_rows_with_members(
 ) -> Result<Matrix, AllocError>
     requires as_many { length sets.now ≡ length from.now.rows }
     requires cols { 0 < length from.now.rows → from.now.cols ≡ suc n }
-    ensures rows { IfOk result (λ m. m.rows ≡ cut (with_members (map (λ s. s.items) sets.now) from.now.rows)) }
-    ensures cols { IfOk result (λ m. m.cols ≡ cols_over n (cut (with_members (map (λ s. s.items) sets.now) from.now.rows))) }
+    ensures rows { IfOk result (λ m. m.rows
+        ≡ cut (with_members (map (λ s. s.items) sets.now) from.now.rows)) }
+    ensures cols { IfOk result (λ m. m.cols
+        ≡ cols_over n (cut (with_members (map (λ s. s.items) sets.now) from.now.rows))) }
 {
     let mut rows = Matrix::new(alloc, n);
     for (i, set) in sets.iter().enumerate() {

@@ -26,7 +26,7 @@ use Rattle.pm_geom.specs.Cones.{InLineality, IsValid}
 use Rattle.pm_geom.specs.Generators.{AreGenerators}
 use Rattle.pm_geom.proofs.Facets.{opposite-dot}
 use Rattle.pm_geom.proofs.Polar.{cols_at}
-use Rattle.pm_incidence.specs.Thinning.{Agree, HasPoint, IsBehind, half_spaces}
+use Rattle.pm_incidence.specs.Thinning.{Agree, HasPointAmong, IsBehind, half_spaces}
 use Rattle.pm_object_type.specs.declared.object_type.ObjectType.{ObjectType}
 use Rattle.pm_object_type.specs.declared.object_type.ObjectType.TheVariants.{Cone, Fan, Polytope}
 use Rattle.pm_types.specs.Right.{CutsOutOf, Solves, empty, proper}
@@ -186,7 +186,7 @@ module _ (n : ℕ) (some : 0 < n) (G L A E : List Row) (hG : HasCols n G) (hL : 
   far_of x h p = (h.0, all_append (λ (b : Row). pos 0 ≤ℤ dot b x) A (unit n 0 ∷ []) h.1 (subst (λ z. pos 0 ≤ℤ z) (sym (unit-dot n x some)) p, tt))
 
   -- where there is a point, they cut it out
-  pub described : (of : ObjectType) → HasPoint of G → CutsOutOf of n (InCone G L) A E → (x : Row) → length x ≡ n → HalfSpaces E (half_spaces of n A) x ↔ InCone G L x
+  pub described : (of : ObjectType) → HasPointAmong of G → CutsOutOf of n (InCone G L) A E → (x : Row) → length x ≡ n → HalfSpaces E (half_spaces of n A) x ↔ InCone G L x
   described Polytope w (proper y ly sy py eq) x lx = (
     λ h. let f = far_to x h in (eq x lx).1 (solves_of A E x f.0, f.1),
     λ h. let s = (eq x lx).0 h in far_of x (solves_to A E x s.0) s.1,
@@ -216,7 +216,7 @@ module _ (n : ℕ) (some : 0 < n) (G L A E : List Row) (hG : HasCols n G) (hL : 
       let o = opposite-dot (unit n 0) x in
       omega (arith, ints)
 
-  pub zero_cone : (of : ObjectType) → ¬ (HasPoint of G) → CutsOutOf of n (InCone G L) A E → (y : Row) → length y ≡ n → InCone G L y ↔ IsZero y
+  pub zero_cone : (of : ObjectType) → ¬ (HasPointAmong of G) → CutsOutOf of n (InCone G L) A E → (y : Row) → length y ≡ n → InCone G L y ↔ IsZero y
   zero_cone Polytope none (empty never is_zero) = is_zero
   zero_cone Polytope none (proper x lx sx up eq) =
       let low = first_below none (λ k i.
@@ -229,13 +229,13 @@ module _ (n : ℕ) (some : 0 < n) (G L A E : List Row) (hG : HasCols n G) (hL : 
   zero_cone Cone none c = absurd (none tt)
   zero_cone Fan none c = absurd c
 
-  pub vertices_of_thin : HasCols n E → (of : ObjectType) → HasPoint of G → CutsOutOf of n (InCone G L) A E → (V K : List Row) → ((E : List Row) → Agree n G L (half_spaces of n A) E → AreGenerators n (HalfSpaces E (half_spaces of n A)) V K) → AreGenerators n (InCone G L) V K
+  pub vertices_of_thin : HasCols n E → (of : ObjectType) → HasPointAmong of G → CutsOutOf of n (InCone G L) A E → (V K : List Row) → ((E : List Row) → Agree n G L (half_spaces of n A) E → AreGenerators n (HalfSpaces E (half_spaces of n A)) V K) → AreGenerators n (InCone G L) V K
   vertices_of_thin hE of w cut V K f =
       let same = described of w cut in
       generators_as n (HalfSpaces E (half_spaces of n A)) (InCone G L) (λ x l. (same x l).0) (λ x l. (same x l).1) (f E (record { equation_cols = hE; same = same }))
 
   -- where some of the rays that lie in it is a point, they cut it out
-  pub described_inside : (of : ObjectType) (V : List Row) → HasCols n V → ((v : Row) → Among v V → HalfSpaces E (half_spaces of n A) v) → HasPoint of V → CutsOutOf of n (InCone G L) A E → (x : Row) → length x ≡ n → HalfSpaces E (half_spaces of n A) x ↔ InCone G L x
+  pub described_inside : (of : ObjectType) (V : List Row) → HasCols n V → ((v : Row) → Among v V → HalfSpaces E (half_spaces of n A) v) → HasPointAmong of V → CutsOutOf of n (InCone G L) A E → (x : Row) → length x ≡ n → HalfSpaces E (half_spaces of n A) x ↔ InCone G L x
   described_inside Polytope V hV inside w (proper y ly sy py eq) x lx = (
     λ h. let f = far_to x h in (eq x lx).1 (solves_of A E x f.0, f.1),
     λ h. let s = (eq x lx).0 h in far_of x (solves_to A E x s.0) s.1,

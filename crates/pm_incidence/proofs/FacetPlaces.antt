@@ -25,7 +25,7 @@ use Rattle.pm_incidence.proofs.Thinned.{thin_generators, thinned_length}
 use Rattle.pm_dd.proofs.MixedLaws.{generators_as}
 use Rattle.pm_geom.specs.Generators.{AreGenerators}
 use Rattle.std.proofs.lemmas.List.{take_all}
-use Rattle.pm_incidence.specs.Thinning.{Agree, AreManyFacets, AreSortedThinned, AreThinPlaces, AreZeroSets, HasPoint, IsKept, MarkFull, half_spaces}
+use Rattle.pm_incidence.specs.Thinning.{Agree, AreManyFacets, AreSortedThinned, AreThinPlaces, AreZeroSets, HasPointAmong, IsKeptSet, MarkFull, half_spaces}
 use Rattle.pm_object_type.specs.declared.object_type.ObjectType.{ObjectType}
 use Rattle.pm_types.specs.Right.{CutsOutOf}
 use lib.IntN.{ℤ, pos}
@@ -98,7 +98,7 @@ module _ (n : ℕ) (A E : List Row) (hA : HasCols n A) (hE : HasCols n E) (G L :
       made_valid : (x : Row) → length x ≡ n → InCone A E x → IsValid n G L x
       made_valid x lx h = record { cols = lx; holds = λ y ly i. rw dot_comm (dot_in y A E (λ a j. rw dot_comm ((row_valid a j).holds y ly i)) (λ e j. dot_comm y e ∙ equation_zero e j y ly i) h) }
 
-module _ (n : ℕ) (A E V : List Row) (hA : HasCols n A) (hE : HasCols n E) (hV : HasCols n V) (inside : (v : Row) → Among v V → HalfSpaces E A v) (Z : List (List Bool)) (marks : List Bool) (z : AreZeroSets V A Z) (m : MarkFull Z marks) (kept : (i : ℕ) → i < length A → IsKept Z marks i) where
+module _ (n : ℕ) (A E V : List Row) (hA : HasCols n A) (hE : HasCols n E) (hV : HasCols n V) (inside : (v : Row) → Among v V → HalfSpaces E A v) (Z : List (List Bool)) (marks : List Bool) (z : AreZeroSets V A Z) (m : MarkFull Z marks) (kept : (i : ℕ) → i < length A → IsKeptSet Z marks i) where
   not_negative : (a : Row) → Among a A → CutOut V a
   not_negative a i = cut_from V a (λ v j. rw dot_comm (cut_at v i (inside v j).1))
 
@@ -215,7 +215,7 @@ module _ (of : ObjectType) (n : ℕ) (some : 0 < n) (A E V B : List Row) (P ks :
   pub places_within : All (λ (p : ℕ). p < length (half_spaces of n A)) ks
   places_within i d l = let q = k.kept.each i d l in let e = k.zeros.as_many in let w = q.0 in omega arith
 
-  pub many_facets : HasPoint of V → All (HalfSpaces E (half_spaces of n A)) V → length A ≤ most_rows → most_rows < length ks → AreManyFacets of n A E ks
+  pub many_facets : HasPointAmong of V → All (HalfSpaces E (half_spaces of n A)) V → length A ≤ most_rows → most_rows < length ks → AreManyFacets of n A E ks
   many_facets point all few many = record {
     many = many;
     facets = record {
@@ -231,11 +231,11 @@ module _ (of : ObjectType) (n : ℕ) (some : 0 < n) (A E V B : List Row) (P ks :
       inside : (v : Row) → Among v V → HalfSpaces E (half_spaces of n A) v
       inside v i = among_All (HalfSpaces E (half_spaces of n A)) i all
 
-      every : (i : ℕ) → i < length (half_spaces of n A) → IsKept k.sets k.marks i
+      every : (i : ℕ) → i < length (half_spaces of n A) → IsKeptSet k.sets k.marks i
       every i l =
           let f = half_length of n A in
           let w = all_places (length (half_spaces of n A)) ks k.kept.ascending places_within (omega arith) i l in
-          subst (λ (j : ℕ). IsKept k.sets k.marks j) w.1 (k.kept.each i 0 w.0).1
+          subst (λ (j : ℕ). IsKeptSet k.sets k.marks j) w.1 (k.kept.each i 0 w.0).1
 
       same : (G L : List Row) → HasCols n G → HasCols n L → CutsOutOf of n (InCone G L) A E → (x : Row) → length x ≡ n → HalfSpaces E (half_spaces of n A) x ↔ InCone G L x
       same G L hG hL cut = described_inside n some G L A E hG hL of V hV inside point cut
@@ -245,7 +245,7 @@ module _ (of : ObjectType) (n : ℕ) (some : 0 < n) (A E V B : List Row) (P ks :
   taken_within c l = All_among (λ (p : ℕ). p < length (half_spaces of n A)) (take c ks) (λ p i. among_All (λ (p : ℕ). p < length (half_spaces of n A)) (among_take c ks i) places_within)
 
   -- what is answered where rays V and lines K generate the thing
-  pub facets_answered : (K : List Row) → HasCols n K → HasPoint of V → CutsOutOf of n (InCone V K) A E → (c : ℕ) → (All (HalfSpaces E (half_spaces of n A)) V → c ≡ length ks) → (X : List Row) → AreSortedThinned B P (half_spaces of n A) (take c ks) X → AreGenerators n (IsValid n V K) X B
+  pub facets_answered : (K : List Row) → HasCols n K → HasPointAmong of V → CutsOutOf of n (InCone V K) A E → (c : ℕ) → (All (HalfSpaces E (half_spaces of n A)) V → c ≡ length ks) → (X : List Row) → AreSortedThinned B P (half_spaces of n A) (take c ks) X → AreGenerators n (IsValid n V K) X B
   facets_answered K hK point cut c all X s =
       let same = described n some V K A E hV hK of point cut in
       let halves : HasCols n (half_spaces of n A) = half_cols of n A hA in

@@ -78,7 +78,7 @@ module _ (G A : List Row) (Z : List (List Bool)) (marks : List Bool) (z : AreZer
   pub group_cols : (n : ℕ) (L X : List Row) → HasCols n G → HasCols n L → X ≡ L ++ rows_marked true marks G → HasCols n X
   group_cols n L X hG hL e = rw e (all_append (λ (x : Row). length x ≡ n) L (rows_marked true marks G) hL (marked_cols n marks G hG))
 
-  pub group_few : (L X : List Row) → length G < 2 ^ 29 → length L < 2 ^ 29 → X ≡ L ++ rows_marked true marks G → length X < 2 ^ 30
+  pub group_few : (L X : List Row) → length G < 2 ^ 30 → length L < 2 ^ 30 → X ≡ L ++ rows_marked true marks G → length X < 2 ^ 32
   group_few L X fG fL e =
       let many = marked_lengths marks G (m.as_many ∙ z.as_many) in
       rw (e, length-append L (rows_marked true marks G)) (omega arith)

@@ -7,15 +7,15 @@ pub mod Groups
 pub mod ThinFails
 pub mod Thinned
 pub mod Described
-pub mod Taken
 pub mod FacetPlaces
 mod Orthant
 mod Determined
 mod SetRows
 mod TurnedSets
-mod Polarity
+pub mod Polarity
 mod DeterminedRows
 pub mod ThinExamples
 pub mod PlaceExamples
 pub mod SetExamples
 pub mod ShortRows
+pub mod ThinnedRow

@@ -13,7 +13,7 @@ use Rattle.pm_incidence.proofs.Described.{described_inside}
 use Rattle.pm_incidence.proofs.FacetPlaces.{facet_row}
 use Rattle.pm_incidence.proofs.Orthant.{orthant_few, orthant_many}
 use Rattle.pm_incidence.specs.ThinExamples.{FacetPlacesAreRead, half}
-use Rattle.pm_incidence.specs.Thinning.{AreFacetPlaces, AreZeroSets, IsFull, IsKept, MarkFull}
+use Rattle.pm_incidence.specs.Thinning.{AreFacetPlaces, AreZeroSets, IsFull, IsKeptSet, MarkFull}
 use Rattle.pm_object_type.specs.declared.object_type.ObjectType.TheVariants.{Cone, Polytope}
 use Rattle.pm_types.specs.Right.{CutsOutOf, Solves}
 use Rattle.std.proofs.Common.{arith, refl, sym, true≢false}
@@ -103,7 +103,7 @@ marked = record { as_many = refl; full = full; not_full = not_full }
     not_full zero l h = not_true (h 0 (omega arith))
     not_full (suc k) l h = absurd (omega arith)
 
-kept : (i : ℕ) → i < 1 → IsKept ((false ∷ []) ∷ []) (false ∷ []) i
+kept : (i : ℕ) → i < 1 → IsKeptSet ((false ∷ []) ∷ []) (false ∷ []) i
 kept zero l = record { unmarked = λ h. not_true h; greatest = greatest }
   where
     greatest : (j : ℕ) → j < 1 → ¬ (IsTrue (get_or (false ∷ []) j false)) → IsSubset (zero_set ((false ∷ []) ∷ []) 0) (zero_set ((false ∷ []) ∷ []) j) → (0 ≤ j) × IsSubset (zero_set ((false ∷ []) ∷ []) j) (zero_set ((false ∷ []) ∷ []) 0)

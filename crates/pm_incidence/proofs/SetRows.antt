@@ -79,7 +79,7 @@ determining_cols n E A set P hE hA = joined_cols n (E ++ rows_at A set) (map (un
 kept_few : {X : Type 0} (p : X → Bool) (xs : List X) → length (filter p xs) ≤ length xs
 kept_few p xs = let e = length-filter p xs in let l = count_by-le-length p xs in omega arith
 
-pub determining_few : (n : ℕ) (E A : List Row) (set P : List ℕ) → length E < 2 ^ 28 → length set < 2 ^ 28 → length P < 2 ^ 28 → length (determining n E A set P) < 2 ^ 30
+pub determining_few : (n : ℕ) (E A : List Row) (set P : List ℕ) → length E < 2 ^ 30 → length set < 2 ^ 30 → length P < 2 ^ 30 → length (determining n E A set P) < 2 ^ 32
 determining_few n E A set P e s p =
     let a = length-append (E ++ rows_at A set) (map (unit n) P) in
     let b = length-append E (rows_at A set) in
@@ -88,7 +88,7 @@ determining_few n E A set P e s p =
     let f = length-map P (unit n) in
     omega arith
 
-pub pivots_few : (n : ℕ) (X K : List Row) (P : List ℕ) → IsNullBasis n X K P → n < 2 ^ 28 → length P < 2 ^ 28
+pub pivots_few : (n : ℕ) (X K : List Row) (P : List ℕ) → IsNullBasis n X K P → n < 2 ^ 30 → length P < 2 ^ 30
 pivots_few n X K P b few = let l = at_most_columns n K P b.echelon in let a = b.echelon.as_many in omega arith
 
 -- ---- one set on

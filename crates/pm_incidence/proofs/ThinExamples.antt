@@ -15,7 +15,7 @@ use Rattle.pm_incidence.proofs.Described.{cone_apart}
 use Rattle.pm_incidence.proofs.Products.{itself, unit_stays}
 use Rattle.pm_incidence.specs.Examples.{pair}
 use Rattle.pm_incidence.specs.ThinExamples.{KeptAreRead, ThinningIsRead, antidiagonal, bits, diagonal, large, larger, marks, sets, x_axis, x_turned, y_axis}
-use Rattle.pm_incidence.specs.Thinning.{AreKept, AreZeroSets, HasPoint, IsBasisAndRow, IsFull, IsKept, IsThinned, IsWideIncidence, MarkFull}
+use Rattle.pm_incidence.specs.Thinning.{AreKept, AreZeroSets, HasPointAmong, IsBasisAndRow, IsFull, IsKeptSet, IsThinned, IsWideIncidence, MarkFull}
 use Rattle.pm_object_type.specs.declared.object_type.ObjectType.TheVariants.{Polytope}
 use Rattle.std.proofs.Common.{ap, arith, inl, inr, refl, sym, true≢false}
 use Rattle.std.proofs.lemmas.Int.{ints}
@@ -46,7 +46,7 @@ larger_ranged = All_among InRange larger go
     go z (there (there i)) = elim i [ ]
 
 -- ---- first entries
-no_point : ¬ (HasPoint Polytope (y_axis ∷ x_turned ∷ []))
+no_point : ¬ (HasPointAmong Polytope (y_axis ∷ x_turned ∷ []))
 no_point h = let w = among_Any (λ v. pos 0 <ℤ entry v 0) (y_axis ∷ x_turned ∷ []) h in go w.0 w.1 w.2
   where
     go : (v : Row) → Among v (y_axis ∷ x_turned ∷ []) → pos 0 <ℤ entry v 0 → ⊥
@@ -221,7 +221,7 @@ marked_example = record { as_many = refl; full = full; not_full = not_full }
     not_full (suc (suc (suc (suc zero)))) l h = not_true (h 1 (omega arith))
     not_full (suc (suc (suc (suc (suc k))))) l h = absurd (omega arith)
 
-first_kept : IsKept sets marks 0
+first_kept : IsKeptSet sets marks 0
 first_kept = record { unmarked = λ h. not_true h; greatest = greatest }
   where
     greatest : (j : ℕ) → j < 5 → ¬ (IsTrue (get_or marks j false)) → IsSubset (zero_set sets 0) (zero_set sets j) → (0 ≤ j) × IsSubset (zero_set sets j) (zero_set sets 0)
@@ -232,7 +232,7 @@ first_kept = record { unmarked = λ h. not_true h; greatest = greatest }
     greatest (suc (suc (suc (suc zero)))) l u s = not_true (s 1 refl)
     greatest (suc (suc (suc (suc (suc j))))) l u s = absurd (omega arith)
 
-small_kept : IsKept sets marks 3
+small_kept : IsKeptSet sets marks 3
 small_kept = record { unmarked = λ h. not_true h; greatest = greatest }
   where
     greatest : (j : ℕ) → j < 5 → ¬ (IsTrue (get_or marks j false)) → IsSubset (zero_set sets 3) (zero_set sets j) → (3 ≤ j) × IsSubset (zero_set sets j) (zero_set sets 3)
@@ -243,13 +243,13 @@ small_kept = record { unmarked = λ h. not_true h; greatest = greatest }
     greatest (suc (suc (suc (suc zero)))) l u s = not_true (s 2 refl)
     greatest (suc (suc (suc (suc (suc j))))) l u s = absurd (omega arith)
 
-second_not_kept : ¬ (IsKept sets marks 2)
+second_not_kept : ¬ (IsKeptSet sets marks 2)
 second_not_kept k = let w = (k.greatest 0 (omega arith) (λ h. not_true h) (λ i h. h)).0 in omega arith
 
-full_not_kept : ¬ (IsKept sets marks 1)
+full_not_kept : ¬ (IsKeptSet sets marks 1)
 full_not_kept k = k.unmarked refl
 
-less_not_kept : ¬ (IsKept sets marks 4)
+less_not_kept : ¬ (IsKeptSet sets marks 4)
 less_not_kept k = not_true ((k.greatest 0 (omega arith) (λ h. not_true h) part).1 1 refl)
   where
     part : IsSubset (zero_set sets 4) (zero_set sets 0)
@@ -262,14 +262,14 @@ less_not_kept k = not_true ((k.greatest 0 (omega arith) (λ h. not_true h) part)
         none (suc (suc i)) h = not_true h
 
 kept_example : AreKept sets marks (0 ∷ 3 ∷ [])
-kept_example = record { each = All_among (λ i. (i < 5) × IsKept sets marks i) (0 ∷ 3 ∷ []) each; every = every; ascending = AllPairs_cons (λ (i j : ℕ). i < j) 0 (3 ∷ []) rising (λ i j d l m. absurd (omega arith)) }
+kept_example = record { each = All_among (λ i. (i < 5) × IsKeptSet sets marks i) (0 ∷ 3 ∷ []) each; every = every; ascending = AllPairs_cons (λ (i j : ℕ). i < j) 0 (3 ∷ []) rising (λ i j d l m. absurd (omega arith)) }
   where
-    each : (i : ℕ) → Among i (0 ∷ 3 ∷ []) → (i < 5) × IsKept sets marks i
+    each : (i : ℕ) → Among i (0 ∷ 3 ∷ []) → (i < 5) × IsKeptSet sets marks i
     each i here = (omega arith, first_kept)
     each i (there here) = (omega arith, small_kept)
     each i (there (there j)) = elim j [ ]
 
-    every : (i : ℕ) → i < 5 → IsKept sets marks i → Contains (0 ∷ 3 ∷ []) i
+    every : (i : ℕ) → i < 5 → IsKeptSet sets marks i → Contains (0 ∷ 3 ∷ []) i
     every zero l k = Contains_among {x = 0} {xs = 0 ∷ 3 ∷ []} here
     every (suc zero) l k = absurd (full_not_kept k)
     every (suc (suc zero)) l k = absurd (second_not_kept k)

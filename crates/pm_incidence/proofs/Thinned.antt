@@ -1,22 +1,19 @@
 -- Rows that are thinned are the generators of the cone, in canonical form.
+use Rattle.pm_incidence.proofs.ThinnedRow.{IsCanonicalFor, canonical, canonical_in, canonical_out}
 use Rattle.std.specs.Prelude.{ℕ, ◌≡◌, ◌<◌, Bool, List, [], ◌++◌, filter, get_or, length}
 use Rattle.std.specs.List.{All, Any}
 use Rattle.std.specs.List.Sorted.{IsPermutation, IsSorted}
 use Rattle.std.specs.Ordering.{int_cmp}
 use Rattle.std.specs.Cmp.Lexicographic.{slice_cmp}
 use Rattle.std.proofs.Common.{arith, inl, inr, subst, sym, ◌∙◌}
-use Rattle.std.proofs.lemmas.Int.{ints}
 use Rattle.std.proofs.lemmas.List.{get_or_default}
 use Rattle.std.proofs.lemmas.List.Sorted.{All-permutation, length_permutation}
 use Rattle.pm_vector.specs.Cones.{InCone, InSpan, IsConeSet}
 use Rattle.pm_vector.specs.Divisors.{IsPrimitive}
-use Rattle.pm_vector.specs.Rows.{HasCols, Row, difference, dot, entry, opposite}
+use Rattle.pm_vector.specs.Rows.{HasCols, Row, dot, opposite}
 use Rattle.pm_vector.proofs.ConeLaws.{in_generator, in_line, in_line_opposite, in_through, lines_opposite}
 use Rattle.pm_vector.proofs.Filters.{among_filter, filter_among}
 use Rattle.pm_vector.proofs.Lists.{All_among, Among, Any_among, Contains_among, all_from, among_All, among_append, among_append_left, among_append_right}
-use Rattle.pm_vector.proofs.Ring.{ring}
-use Rattle.pm_vector.proofs.RowLaws.{entry-difference, entry-opposite, entry-plus, entry-times, length-difference, length-opposite}
-use Rattle.pm_vector.proofs.Signs.{mul_cancel, mul_pos, weaken}
 use Rattle.pm_vector.specs.Bases.{row_at}
 use Rattle.pm_vector.proofs.Spans.{span_of, span_to}
 use Rattle.pm_elim.specs.Evidence.{IsBasisOf}
@@ -36,8 +33,8 @@ use Rattle.pm_dd.proofs.StepLaws.{at_place, flat_on, place_of}
 use Rattle.pm_dd.proofs.Thin.{cut_decided, extreme_alike}
 use Rattle.pm_incidence.proofs.Groups.{flat_from, flat_to}
 use Rattle.pm_incidence.proofs.Thinning.{cuts, gen, in_cuts, kept_apart, kept_extreme, like_kept, line_in, on_equations, unmarked_out}
-use Rattle.pm_incidence.specs.Thinning.{Agree, AreKept, AreSortedThinned, AreThinPlaces, AreThinned, AreZeroSets, IsKept, IsThinned, MarkFull, flat_group, is_flat}
-use lib.IntN.{ℤ, pos, ◌*ℤ◌, ◌-ℤ◌}
+use Rattle.pm_incidence.specs.Thinning.{Agree, AreKept, AreSortedThinned, AreThinPlaces, AreThinned, AreZeroSets, IsKeptSet, MarkFull, flat_group, is_flat}
+use lib.IntN.{pos}
 
 module _ (n : ℕ) (G L A E : List Row) (hG : HasCols n G) (hL : HasCols n L) (hA : HasCols n A) (agree : Agree n G L A E) where
   abbrev S : Row → Type 0
@@ -97,54 +94,22 @@ module _ (n : ℕ) (G L A E : List Row) (hG : HasCols n G) (hL : HasCols n L) (h
     }
 
     -- ---- a thinned row
-    record IsCanonicalFor (g w : Row) : Type 0 where
-      cols : length w ≡ n
-      alike : SameModulo n S g w
-      primitive : IsPrimitive w
-      zeros : VanishAt P w
+    cs : IsConeSet S
+    cs = cut_cone_set (both_signs E ++ A)
 
-    canonical : (g w : Row) → length g ≡ n → S g → ¬ (S (opposite g)) → IsThinned B P g w → IsCanonicalFor g w
-    canonical g w lg sg nu t = elim t.primitive.divided [
-      | inl z ↦ absurd (nu (cs.part t.direction.p_positive (cs.same (record { at = λ i. let q = z.0 i in simp (entry-times, entry-difference, entry-opposite, q, ring) (omega (arith, ints)) }) line.opposed)))
-      | inr d ↦ record {
-        cols = t.primitive.cols ∙ t.cols ∙ lg;
-        alike = record {
-          p = t.direction.g *ℤ d.0;
-          k = t.direction.p;
-          w = opposite rest;
-          cols = length-opposite rest ∙ length-difference n t.direction.p g t.direction.g t.reduced lg (t.cols ∙ lg);
-          p_positive = mul_pos t.direction.g_positive d.1;
-          k_positive = t.direction.p_positive;
-          line = record { inside = line.opposed; opposed = cs.same (record { at = λ i. simp entry-opposite (omega (arith, ints)) }) line.inside };
-          same = record { at = λ i. let q = d.2.at i in simp (entry-times, entry-plus, entry-opposite, entry-difference) (scaled t.direction.g d.0 (entry w i) (entry t.reduced i) t.direction.p (entry g i) (simp entry-times at q)) };
-        };
-        primitive = d.3;
-        zeros = All_among (λ (c : ℕ). entry w c ≡ pos 0) P (λ c i. let q = d.2.at c in mul_cancel d.1 (sym (simp entry-times at q) ∙ among_All (λ (c : ℕ). entry t.reduced c ≡ pos 0) i t.zeros ∙ simp ring));
-      }
-    ]
-      where
-        cs : IsConeSet S
-        cs = cut_cone_set (both_signs E ++ A)
-
-        rest : Row
-        rest = difference t.direction.p g t.direction.g t.reduced
-
-        line : InLineality S rest
-        line = span_line rest (span_to basis.span t.direction.inside)
-
-        scaled : (a d x m p g : ℤ) → m ≡ d *ℤ x → (a *ℤ d) *ℤ x ≡ p *ℤ g -ℤ (p *ℤ g -ℤ a *ℤ m)
-        scaled a d x m p g e = rw e (simp ring (omega (arith, ints)))
+    flat : (x : Row) → length x ≡ n → InSpan B x → InLineality S x
+    flat x lx h = span_line x (span_to basis.span h)
 
     -- ---- all of them
     module _ (Z : List (List Bool)) (marks : List Bool) (z : AreZeroSets A G Z) (m : MarkFull Z marks) (ks : List ℕ) (kept : AreKept Z marks ks) (W : List Row) (t : AreThinned B P G ks W) where
-      place_at : (k : ℕ) → k < length ks → (get_or ks k 0 < length G) × IsKept Z marks (get_or ks k 0)
+      place_at : (k : ℕ) → k < length ks → (get_or ks k 0 < length G) × IsKeptSet Z marks (get_or ks k 0)
       place_at k l = let q = kept.each k 0 l in let e = z.as_many in ((let w = q.0 in omega arith), q.1)
 
-      canonical_at : (k : ℕ) → k < length ks → IsCanonicalFor (row_at G (get_or ks k 0)) (row_at W k)
+      canonical_at : (k : ℕ) → k < length ks → IsCanonicalFor n S P (row_at G (get_or ks k 0)) (row_at W k)
       canonical_at k l =
           let q = place_at k l in
           let i = at_place G (get_or ks k 0) q.0 in
-          canonical (row_at G (get_or ks k 0)) (row_at W k) (cols_at i hG) (in_cuts n G L A E hG hL hA agree i) (unmarked_out n G L A E hG hL hA agree Z marks z m (get_or ks k 0) q.0 q.1.unmarked) (t.each k l)
+          canonical n S cs P B flat (row_at G (get_or ks k 0)) (row_at W k) (cols_at i hG) (in_cuts n G L A E hG hL hA agree i) (unmarked_out n G L A E hG hL hA agree Z marks z m (get_or ks k 0) q.0 q.1.unmarked) (t.each k l)
 
       extreme_at : (k : ℕ) → k < length ks → IsExtreme n S (row_at G (get_or ks k 0))
       extreme_at k l = let q = place_at k l in kept_extreme n G L A E hG hL hA agree Z marks z m (get_or ks k 0) q.0 q.1
@@ -162,21 +127,7 @@ module _ (n : ℕ) (G L A E : List Row) (hG : HasCols n G) (hL : HasCols n L) (h
       alike_extreme k l =
           let c = canonical_at k l in
           let e = extreme_at k l in
-          let s = into c.alike e.inside in
-          extreme_alike n (both_signs E ++ A) c.cols s (turned c.alike e.not_line) e c.alike
-        where
-          into : {g w : Row} → SameModulo n S g w → S g → S w
-          into {g} {w} a h =
-              let cs = cut_cone_set (both_signs E ++ A) in
-              cs.part a.p_positive (cs.same (record { at = λ i. sym (a.same.at i) }) (cs.sum (cs.multiple (weaken a.k_positive) h) a.line.inside))
-
-          turned : {g w : Row} → SameModulo n S g w → ¬ (S (opposite g)) → ¬ (S (opposite w))
-          turned {g} {w} a nu h =
-              let cs = cut_cone_set (both_signs E ++ A) in
-              nu (cs.part a.k_positive (cs.same (record { at = λ i. let q = simp (entry-times, entry-plus) at (a.same.at i) in simp (entry-times, entry-plus, entry-opposite, ring) (omega (arith, ints)) }) (cs.sum (cs.multiple (weaken a.p_positive) h) a.line.inside)))
-
-      cs : IsConeSet S
-      cs = cut_cone_set (both_signs E ++ A)
+          extreme_alike n (both_signs E ++ A) c.cols (canonical_in n S cs P c e.inside) (canonical_out n S cs P c e.not_line) e c.alike
 
       order : IsOrder n S W
       order = record {

@@ -22,7 +22,7 @@ use Rattle.pm_dd.proofs.Description.{cut_cone_set, over_rests}
 use Rattle.pm_dd.proofs.Fronts.{signs_cols, signs_cut_out}
 use Rattle.pm_dd.proofs.StepLaws.{at_place, flat_on, place_of}
 use Rattle.pm_dd.proofs.Thin.{extreme_alike, extreme_is_maximal, like_row, over_alike}
-use Rattle.pm_incidence.specs.Thinning.{Agree, AreZeroSets, IsFull, IsKept, MarkFull}
+use Rattle.pm_incidence.specs.Thinning.{Agree, AreZeroSets, IsFull, IsKeptSet, MarkFull}
 use native.Mathlib.Decide.{ℕ_discrete}
 use lib.IntN.{pos}
 
@@ -148,18 +148,18 @@ module _ (n : ℕ) (G L A E : List Row) (hG : HasCols n G) (hL : HasCols n L) (h
     Least : Row → Row → Type 0
     Least v u = ¬ (CutOut cuts (opposite u)) → ((b : Row) → Contains cuts b → dot b v ≡ pos 0 → dot b u ≡ pos 0) → (b : Row) → Contains cuts b → dot b u ≡ pos 0 → dot b v ≡ pos 0
 
-    least_at : (i j : ℕ) → i < length G → j < length G → IsKept Z marks i → Least (row_at G i) (row_at G j)
+    least_at : (i j : ℕ) → i < length G → j < length G → IsKeptSet Z marks i → Least (row_at G i) (row_at G j)
     unfolding Least
     least_at i j li lj k nu o b d e =
         over j i lj li (k.greatest j (as_below lj) (out_unmarked j lj nu) (subset i j li lj (λ c y f. o c (Contains_among y) f))).1 b (among_Contains cuts d) e
 
-    kept_maximal : (i : ℕ) → i < length G → IsKept Z marks i → IsMaximal cuts G (row_at G i)
+    kept_maximal : (i : ℕ) → i < length G → IsKeptSet Z marks i → IsMaximal cuts G (row_at G i)
     unfolding Least
     kept_maximal i li k = record {
       least = λ u c. let w = place_of (among_Contains G c) in subst (Least (row_at G i)) w.2 (least_at i w.0 li w.1 k);
     }
 
-    pub kept_extreme : (i : ℕ) → i < length G → IsKept Z marks i → IsExtreme n (CutOut cuts) (row_at G i)
+    pub kept_extreme : (i : ℕ) → i < length G → IsKeptSet Z marks i → IsExtreme n (CutOut cuts) (row_at G i)
     kept_extreme i li k = (extreme_is_maximal n cuts G L cuts_cols hG hL gen line_in (row_at G i) (Contains_among (at_place G i li)) (unmarked_out i li k.unmarked)).1 (kept_maximal i li k)
 
     -- ---- each extreme row is like a kept one
@@ -169,7 +169,7 @@ module _ (n : ℕ) (G L A E : List Row) (hG : HasCols n G) (hL : HasCols n L) (h
     record Found (j : ℕ) : Type 0 where
       i : ℕ
       within : i < length G
-      kept : IsKept Z marks i
+      kept : IsKeptSet Z marks i
       to : IsSubset (zero_set Z j) (zero_set Z i)
 
     Earlier : ℕ → ℕ → Type 0
@@ -179,7 +179,7 @@ module _ (n : ℕ) (G L A E : List Row) (hG : HasCols n G) (hL : HasCols n L) (h
     unfolding Earlier
     earlier_decided j i = both_decided (not_decided (true_or_not (get_or marks i false))) (subset_decided (zero_set Z j) (zero_set Z i))
 
-    is_kept : (j : ℕ) → j < length G → ¬ (IsTrue (get_or marks j false)) → Greatest j → ((i : ℕ) → i < j → ¬ (Earlier j i)) → IsKept Z marks j
+    is_kept : (j : ℕ) → j < length G → ¬ (IsTrue (get_or marks j false)) → Greatest j → ((i : ℕ) → i < j → ¬ (Earlier j i)) → IsKeptSet Z marks j
     unfolding Greatest Earlier
     is_kept j lj u gr none = record {
       unmarked = u;
@@ -204,7 +204,7 @@ module _ (n : ℕ) (G L A E : List Row) (hG : HasCols n G) (hL : HasCols n L) (h
     pub record LikeKept (r : Row) : Type 0 where
       pub i : ℕ
       pub within : i < length G
-      pub kept : IsKept Z marks i
+      pub kept : IsKeptSet Z marks i
       pub alike : SameModulo n (CutOut cuts) r (row_at G i)
 
     pub like_kept : (r : Row) → IsExtreme n (CutOut cuts) r → LikeKept r
@@ -233,7 +233,7 @@ module _ (n : ℕ) (G L A E : List Row) (hG : HasCols n G) (hL : HasCols n L) (h
             }
 
     -- ---- and no two kept rows are alike
-    pub kept_apart : (i j : ℕ) → i < j → j < length G → IsKept Z marks i → IsKept Z marks j → ¬ (SameModulo n (CutOut cuts) (row_at G i) (row_at G j))
+    pub kept_apart : (i j : ℕ) → i < j → j < length G → IsKeptSet Z marks i → IsKeptSet Z marks j → ¬ (SameModulo n (CutOut cuts) (row_at G i) (row_at G j))
     kept_apart i j l lj ki kj s =
         let li : i < length G = omega arith in
         let first = (kj.greatest i (as_below li) ki.unmarked (subset j i lj li (over_alike n cuts (alike_sym n (CutOut cuts) (cut_cone_set cuts) s)))).0 in

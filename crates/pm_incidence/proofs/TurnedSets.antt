@@ -94,14 +94,14 @@ holders_few i (set ∷ S) j =
       | inr t ↦ rw t (omega arith)
     ]
 
-pub turned_few : {X : Type 0} (items : X → List ℕ) (s : IndexSets) (xs : List X) → map items xs ≡ turned s → length s.rows < 2 ^ 28 → All (λ x. length (items x) < 2 ^ 28) xs
-turned_few items s xs e l = All_among (λ x. length (items x) < 2 ^ 28) xs (λ x i.
+pub turned_few : {X : Type 0} (items : X → List ℕ) (s : IndexSets) (xs : List X) → map items xs ≡ turned s → length s.rows < 2 ^ 30 → All (λ x. length (items x) < 2 ^ 30) xs
+turned_few items s xs e l = All_among (λ x. length (items x) < 2 ^ 30) xs (λ x i.
     let (j, k, is) = map_among (holders_from 0 s.rows) (range_with_len 0 s.cols) (subst (Among (items x)) e (among_map items i)) in
     let h = holders_few 0 s.rows j in
     rw is (omega arith))
 
-pub items_few : {X : Type 0} (items : X → List ℕ) (sets : List (List ℕ)) (xs : List X) → map items xs ≡ sets → All (λ set. length set < 2 ^ 28) sets → All (λ x. length (items x) < 2 ^ 28) xs
-items_few items sets xs e few = All_among (λ x. length (items x) < 2 ^ 28) xs (λ x i. among_All (λ set. length set < 2 ^ 28) (subst (Among (items x)) e (among_map items i)) few)
+pub items_few : {X : Type 0} (items : X → List ℕ) (sets : List (List ℕ)) (xs : List X) → map items xs ≡ sets → All (λ set. length set < 2 ^ 30) sets → All (λ x. length (items x) < 2 ^ 30) xs
+items_few items sets xs e few = All_among (λ x. length (items x) < 2 ^ 30) xs (λ x i. among_All (λ set. length set < 2 ^ 30) (subst (Among (items x)) e (among_map items i)) few)
 
 pub length_turned : {X : Type 0} (items : X → List ℕ) (s : IndexSets) (xs : List X) → map items xs ≡ turned s → length xs ≡ s.cols
 length_turned items s xs e = sym (length-map xs items) ∙ ap length e ∙ length-map-range_with_len (holders_from 0 s.rows) 0 s.cols

@@ -1,4 +1,6 @@
--- The extreme rows of a cone that equations E and inequalities A cut out, from the sets of inequalities on which they vanish (Ziegler, Lectures on Polytopes, lecture 2): each is, up to positive scale and lineality, the one row on which the equations and these inequalities vanish.
+-- The extreme rows of a cone that equations E and inequalities A cut out, from the sets of inequalities on which they
+-- vanish (Ziegler, Lectures on Polytopes, lecture 2): each is, up to positive scale and lineality, the one row on
+-- which the equations and these inequalities vanish.
 use Rattle.std.specs.Prelude.{ℕ, suc, ◌≡◌, ◌<◌, ◌++◌, ◌⊎◌, ◌↔◌, List, [], ◌∷◌, filter, if◌then◌else◌, length, map, nat_eq, nat_lt}
 use Rattle.std.specs.List.{All, Contains, list_any, range_with_len, slice_index_or}
 use Rattle.pm_vector.specs.Cones.{InSpan}
@@ -20,7 +22,8 @@ use Rattle.pm_types.specs.Values.{IndexSets}
 -- the places, counted from i, of the sets that have j
 abbrev pub holders_from : ℕ → List (List ℕ) → ℕ → List ℕ
 holders_from i [] j = []
-holders_from i (set ∷ sets) j = if list_any (λ k. nat_eq k j) set then i ∷ holders_from (suc i) sets j else holders_from (suc i) sets j
+holders_from i (set ∷ sets) j = if list_any (λ k. nat_eq k j) set then i ∷ holders_from (suc i) sets j
+    else holders_from (suc i) sets j
 
 -- for each column the places of the sets that have it
 abbrev pub turned : IndexSets → List (List ℕ)
@@ -49,13 +52,17 @@ pub record AreCanonicalFor (n : ℕ) (S : Row → Type 0) (V rows : List Row) : 
   pub primitive : All IsPrimitive rows
   pub reduced : (K : List Row) (P : List ℕ) → IsLinealityBasis n S K P → All (VanishAt P) rows
 
--- each row is 0, or its multiples are exactly the rows of n entries on which all rows that determine the row of its set vanish
+-- each row is 0, or its multiples are exactly the rows of n entries on which all rows that determine the row of its
+-- set vanish
 pub record AreDetermined (n : ℕ) (E A : List Row) (sets : List (List ℕ)) (rows : List Row) : Type 0 where
   pub each : (lines : List Row) (P : List ℕ) → IsNullBasis n (E ++ A) lines P → (j : ℕ) → j < length sets
-      → IsZero (row_at rows j) ⊎ ((x : Row) → length x ≡ n → InSpan (row_at rows j ∷ []) x ↔ IsNull (determining n E A (slice_index_or sets j []) P) x)
+      → IsZero (row_at rows j) ⊎ ((x : Row) → length x ≡ n → InSpan (row_at rows j ∷ []) x
+      ↔ IsNull (determining n E A (slice_index_or sets j []) P) x)
 
--- a step in the elimination of the equations and inequalities, or of rows that determine the row of a set, leaves the range
-pub record IsWideElimination (n : ℕ) (E A : List Row) (sets : List (List ℕ)) (e : EliminationStep) : Type 0 where
+-- a step in the elimination of the equations and inequalities, or of rows that determine the row of a set, leaves the
+-- range
+pub record IsWideOfSets (n : ℕ) (E A : List Row) (sets : List (List ℕ)) (e : EliminationStep)
+    : Type 0 where
   pub rows : List Row
   pub listed : (rows ≡ E ++ A) ⊎ IsDetermining n E A sets rows
   pub shown : IsEvidence n rows e
@@ -69,9 +76,10 @@ pub record IsWideSign (n : ℕ) (E A : List Row) (sets : List (List ℕ)) (found
   pub listed : Contains A cut
   pub wide : IsWideProduct found cut
 
--- the refusal is want of memory, or has evidence of one of these kinds, of which the second names the determined row first
+-- the refusal is want of memory, or has evidence of one of these kinds, of which the second names the determined row
+-- first
 abbrev pub IsSetsFail : ℕ → List Row → List Row → List (List ℕ) → ThinFail → Type 0
-IsSetsFail n E A sets (Wide (E1 step)) = IsWideElimination n E A sets step
+IsSetsFail n E A sets (Wide (E1 step)) = IsWideOfSets n E A sets step
 IsSetsFail n E A sets (Wide (E4 first second)) = IsWideSign n E A sets first second
 IsSetsFail n E A sets (Wide e) = ⊥
 IsSetsFail n E A sets (Many e) = ⊥
@@ -79,7 +87,7 @@ IsSetsFail n E A sets Memory = Unit {0}
 
 -- the same, where the determined row comes second
 abbrev pub IsTurnedSetsFail : ℕ → List Row → List Row → List (List ℕ) → ThinFail → Type 0
-IsTurnedSetsFail n E A sets (Wide (E1 step)) = IsWideElimination n E A sets step
+IsTurnedSetsFail n E A sets (Wide (E1 step)) = IsWideOfSets n E A sets step
 IsTurnedSetsFail n E A sets (Wide (E4 first second)) = IsWideSign n E A sets second first
 IsTurnedSetsFail n E A sets (Wide e) = ⊥
 IsTurnedSetsFail n E A sets (Many e) = ⊥

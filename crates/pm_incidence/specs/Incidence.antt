@@ -11,7 +11,8 @@ use Rattle.pm_vector.specs.Products.{ProductsStay}
 -- the places, counted from j, of the rows of V with which the product of f is 0
 abbrev pub places_from : ℕ → Row → List Row → List ℕ
 places_from j f [] = []
-places_from j f (v ∷ V) = if unsigned_abs (dot f v) == 0 then j ∷ places_from (suc j) f V else places_from (suc j) f V
+places_from j f (v ∷ V) = if unsigned_abs (dot f v) == 0 then j ∷ places_from (suc j) f V
+    else places_from (suc j) f V
 
 -- for each row of F these places, counted from 0
 abbrev pub incidence : List Row → List Row → List (List ℕ)

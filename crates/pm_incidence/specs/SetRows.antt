@@ -20,7 +20,8 @@ first_product x (a ∷ A) = if unsigned_abs (dot x a) == 0 then first_product x 
 abbrev pub IsTurned : List Row → Row → Row → Type 0
 IsTurned A x r = ((first_product x A <ℤ pos 0) × (r ≡ opposite x)) ⊎ ((pos 0 ≤ℤ first_product x A) × (r ≡ x))
 
--- r is the only row of the echelon basis of the null space of the rows that determine the row of the set, turned; a row of zeros where that basis has not one row
+-- r is the only row of the echelon basis of the null space of the rows that determine the row of the set, turned; a
+-- row of zeros where that basis has not one row
 pub record IsFound (n : ℕ) (E A : List Row) (P set : List ℕ) (r : Row) : Type 0 where
   pub null : List Row
   pub columns : List ℕ

@@ -1,4 +1,6 @@
--- Thinning (Ziegler, Lectures on Polytopes, lectures 1 and 2): of rows G that, with lines L, generate a cone, the extreme ones, as inequalities A that cut it out tell them. They lie outside of the lineality, and no row outside vanishes on more of the inequalities.
+-- Thinning (Ziegler, Lectures on Polytopes, lectures 1 and 2): of rows G that, with lines L, generate a cone, the
+-- extreme ones, as inequalities A that cut it out tell them. They lie outside of the lineality, and no row outside
+-- vanishes on more of the inequalities.
 use Rattle.std.specs.Prelude.{ℕ, ◌↔◌, ◌≡◌, ◌++◌, ◌<◌, ◌≤◌, ◌==◌, ◌⊎◌, Bool, IsTrue, List, [], ◌∷◌, filter, length, unsigned_abs, get_or, false}
 use Rattle.std.specs.List.{All, AllPairs, Any, Contains, list_all}
 use lib.IntN.{pos}
@@ -79,18 +81,24 @@ half_spaces Polytope n A = A ++ unit n 0 ∷ []
 half_spaces Cone n A = A
 half_spaces Fan n A = A
 
--- the rows at these places of the half-spaces are facet rows, no two alike up to positive scale and rows that vanish, of the cone that the half-spaces A and the equations E describe, however it is generated
+-- the rows at these places of the half-spaces are facet rows, no two alike up to positive scale and rows that vanish,
+-- of the cone that the half-spaces A and the equations E describe, however it is generated
 pub record AreFacetPlaces (of : ObjectType) (n : ℕ) (A E : List Row) (places : List ℕ) : Type 0 where
   pub within : All (λ p. p < length (half_spaces of n A)) places
-  pub facets : (G L : List Row) → HasCols n G → HasCols n L → CutsOutOf of n (InCone G L) A E → All (λ p. IsFacetRow n G L (row_at (half_spaces of n A) p)) places
-  pub once : (G L : List Row) → HasCols n G → HasCols n L → CutsOutOf of n (InCone G L) A E → AllPairs (λ p q. ¬ (SameModulo n (IsValid n G L) (row_at (half_spaces of n A) p) (row_at (half_spaces of n A) q))) places
+  pub facets : (G L : List Row) → HasCols n G → HasCols n L → CutsOutOf of n (InCone G L) A E
+      → All (λ p. IsFacetRow n G L (row_at (half_spaces of n A) p)) places
+  pub once : (G L : List Row) → HasCols n G → HasCols n L → CutsOutOf of n (InCone G L) A E
+      → AllPairs (λ p q.
+      ¬ (SameModulo n (IsValid n G L) (row_at (half_spaces of n A) p)
+      (row_at (half_spaces of n A) q))) places
 
 -- there are more than most_rows such places
 pub record AreManyFacets (of : ObjectType) (n : ℕ) (A E : List Row) (places : List ℕ) : Type 0 where
   pub many : most_rows < length places
   pub facets : AreFacetPlaces of n A E places
 
--- so a refusal of thinned half-spaces shows: V and L generate the cone that the half-spaces A and equations E describe; E4 names the row of V first
+-- so a refusal of thinned half-spaces shows: V and L generate the cone that the half-spaces A and equations E
+-- describe; E4 names the row of V first
 abbrev pub IsFacetsFail : ObjectType → ℕ → List Row → List Row → List Row → ThinFail → Type 0
 IsFacetsFail of n A E V (Wide (E1 step)) = IsWideReduction n (half_spaces of n A) E V step
 IsFacetsFail of n A E V (Wide (E4 first second)) = IsWideIncidence (A ++ E) V second first
@@ -115,15 +123,17 @@ pub record MarkFull (Z : List (List Bool)) (marks : List Bool) : Type 0 where
   pub full : (k : ℕ) → k < length Z → IsTrue (get_or marks k false) → IsFull (zero_set Z k)
   pub not_full : (k : ℕ) → k < length Z → IsFull (zero_set Z k) → IsTrue (get_or marks k false)
 
--- the set at i is not marked, and each set without a mark that has all that it has has no more, and does not stand before it
-pub record IsKept (Z : List (List Bool)) (marks : List Bool) (i : ℕ) : Type 0 where
+-- the set at i is not marked, and each set without a mark that has all that it has has no more, and does not stand
+-- before it
+pub record IsKeptSet (Z : List (List Bool)) (marks : List Bool) (i : ℕ) : Type 0 where
   pub unmarked : ¬ (IsTrue (get_or marks i false))
-  pub greatest : (j : ℕ) → j < length Z → ¬ (IsTrue (get_or marks j false)) → IsSubset (zero_set Z i) (zero_set Z j) → (i ≤ j) × IsSubset (zero_set Z j) (zero_set Z i)
+  pub greatest : (j : ℕ) → j < length Z → ¬ (IsTrue (get_or marks j false))
+      → IsSubset (zero_set Z i) (zero_set Z j) → (i ≤ j) × IsSubset (zero_set Z j) (zero_set Z i)
 
 -- the places of all kept sets, ascending
 pub record AreKept (Z : List (List Bool)) (marks : List Bool) (ks : List ℕ) : Type 0 where
-  pub each : All (λ i. (i < length Z) × IsKept Z marks i) ks
-  pub every : (i : ℕ) → i < length Z → IsKept Z marks i → Contains ks i
+  pub each : All (λ i. (i < length Z) × IsKeptSet Z marks i) ks
+  pub every : (i : ℕ) → i < length Z → IsKeptSet Z marks i → Contains ks i
   pub ascending : AllPairs (λ i j. i < j) ks
 
 -- w is the row g, reduced by an echelon basis and made primitive
@@ -134,7 +144,8 @@ pub record IsThinned (B : List Row) (P : List ℕ) (g w : Row) : Type 0 where
   pub zeros : VanishAt P reduced
   pub primitive : IsPrimitiveOf reduced w
 
--- B, with pivot columns P, is the echelon basis of the rows in the lineality, and ks are the places of the rows of G that are kept by their zero sets
+-- B, with pivot columns P, is the echelon basis of the rows in the lineality, and ks are the places of the rows of G
+-- that are kept by their zero sets
 pub record AreThinPlaces (n : ℕ) (G L A B : List Row) (P ks : List ℕ) : Type 0 where
   pub basis : IsBasisOf n (flat_group G L A) B P
   pub sets : List (List Bool)
@@ -154,7 +165,8 @@ pub record AreThinned (B : List Row) (P : List ℕ) (G : List Row) (ks : List �
   pub each : (k : ℕ) → k < length ks → IsThinned B P (row_at G (get_or ks k 0)) (row_at W k)
 
 -- X has these rows in lexicographic order
-pub record AreSortedThinned (B : List Row) (P : List ℕ) (G : List Row) (ks : List ℕ) (X : List Row) : Type 0 where
+pub record AreSortedThinned (B : List Row) (P : List ℕ) (G : List Row) (ks : List ℕ) (X : List Row)
+    : Type 0 where
   pub rows : List Row
   pub thinned : AreThinned B P G ks rows
   pub permutation : IsPermutation rows X
@@ -168,10 +180,10 @@ IsReductionFail n B G (Many e) = ⊥
 IsReductionFail n B G Memory = Unit {0}
 
 -- the rays V generate more than {0}, as far as first entries tell: of a polytope one is positive
-abbrev pub HasPoint : ObjectType → List Row → Type 0
-HasPoint Polytope V = Any (λ v. pos 0 <ℤ entry v 0) V
-HasPoint Cone V = Unit {0}
-HasPoint Fan V = Unit {0}
+abbrev pub HasPointAmong : ObjectType → List Row → Type 0
+HasPointAmong Polytope V = Any (λ v. pos 0 <ℤ entry v 0) V
+HasPointAmong Cone V = Unit {0}
+HasPointAmong Fan V = Unit {0}
 
 -- the refusal is want of memory, or names a ray and a half-space or equation whose product leaves the range
 abbrev pub IsInsideFail : List Row → List Row → List Row → ThinFail → Type 0

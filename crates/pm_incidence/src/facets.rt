@@ -8,7 +8,7 @@ ghost use Rattle.pm_elim.specs.NullSpaces.{IsNull};
 ghost use Rattle.pm_geom.specs.Cones.{CutOut, IsValid};
 ghost use Rattle.pm_geom.specs.Generators.{AreGenerators};
 ghost use Rattle.pm_incidence.specs.SetRows.{IsWideWith};
-ghost use Rattle.pm_incidence.specs.Thinning.{AreThinPlaces, HasPoint, IsBehind, IsFacetsFail, IsInsideFail, half_spaces};
+ghost use Rattle.pm_incidence.specs.Thinning.{AreThinPlaces, HasPointAmong, IsBehind, IsFacetsFail, IsInsideFail, half_spaces};
 ghost use Rattle.pm_types.specs.Right.{CutsOutOf};
 ghost use Rattle.std.specs.List.{All};
 ghost use Rattle.std.specs.Prelude.{IfErr, IfOk, IsTrue, List, [], length, ◌++◌, ◌+◌, ◌<◌, ◌^◌, ◌∷◌, ◌≡◌, ◌≤◌, ◌↔◌, ◌≢◌, ℕ};
@@ -73,7 +73,8 @@ fn is_inside(
     requires row_cols { HasCols (length ray.now) rows.now }
     requires equation_cols { HasCols (length ray.now) equations.now }
     requires some { 0 < length ray.now }
-    ensures inside { IfOk result (λ b. IsTrue b ↔ HalfSpaces equations.now (half_spaces of (length ray.now) rows.now) ray.now) }
+    ensures inside { IfOk result (λ b. IsTrue b
+        ↔ HalfSpaces equations.now (half_spaces of (length ray.now) rows.now) ray.now) }
     ensures failed { IfErr result (IsWideWith ray.now (rows.now ++ equations.now)) }
 {
     if is_behind(of, ray) {
@@ -99,7 +100,8 @@ fn are_inside(
     requires equation_cols { HasCols cols equations.now }
     requires ray_cols { HasCols cols rays.now }
     requires some { 0 < cols }
-    ensures inside { IfOk result (λ b. IsTrue b ↔ All (HalfSpaces equations.now (half_spaces of cols rows.now)) rays.now) }
+    ensures inside { IfOk result (λ b. IsTrue b
+        ↔ All (HalfSpaces equations.now (half_spaces of cols rows.now)) rays.now) }
     ensures failed { IfErr result (IsInsideFail rows.now equations.now rays.now) }
 {
     for ray in rays {
@@ -120,20 +122,22 @@ fn kept_halves(
     equations: &[Ints],
     halves: &[Ints],
     rays: &[Ints],
+    wide: bool,
 ) -> Result<Kept, ThinFail>
     requires row_cols { HasCols cols rows.now }
     requires equation_cols { HasCols cols equations.now }
     requires ray_cols { HasCols cols rays.now }
     requires few_rows { length rows.now ≤ MOST_ROWS }
-    requires few_equations { length equations.now < 2 ^ 28 }
+    requires few_equations { length equations.now < 2 ^ 30 }
     requires some_columns { 0 < cols }
-    requires few_columns { cols < 2 ^ 28 }
+    requires few_columns { cols < 2 ^ 30 }
     requires halves { halves.now ≡ half_spaces of cols rows.now }
-    ensures kept { IfOk result (λ k. AreThinPlaces cols halves.now equations.now rays.now k.basis.rows k.basis.pivots k.places.items) }
+    ensures kept { IfOk result (λ k.
+        AreThinPlaces cols halves.now equations.now rays.now k.basis.rows k.basis.pivots k.places.items) }
     ensures few { IfOk result (λ k. length k.places.items ≤ MOST_ROWS + 1) }
     ensures failed { IfErr result (IsFacetsFail of cols rows.now equations.now rays.now) }
 {
-    match kept_of(alloc, cols, halves, equations, rays) {
+    match kept_of(alloc, cols, halves, equations, rays, wide) {
         Ok(kept) => Ok(kept),
         Err(fail) => Err(exchanged(fail)),
     }
@@ -151,7 +155,8 @@ fn as_evidence(alloc: Global, places: &[usize]) -> Result<Vec<u32>, AllocError>
     Ok(made)
 }
 
-/// How many of the kept places are taken: all of them, unless they are too many. Then they are facets, or no thing has these half-spaces and rays.
+/// How many of the kept places are taken: all of them, unless they are too many. Then they are facets, or no thing
+/// has these half-spaces and rays.
 fn taken(
     alloc: Global,
     of: ObjectType,
@@ -166,7 +171,7 @@ fn taken(
     requires ray_cols { HasCols cols rays.now }
     requires few_rows { length rows.now ≤ MOST_ROWS }
     requires some_columns { 0 < cols }
-    requires point { HasPoint of rays.now }
+    requires point { HasPointAmong of rays.now }
     requires kept { AreThinPlaces cols (half_spaces of cols rows.now) equations.now rays.now
         kept.now.basis.rows kept.now.basis.pivots kept.now.places.items }
     ensures few { IfOk result (λ k. k ≤ MOST_ROWS) }
@@ -188,9 +193,14 @@ fn taken(
     Ok(MOST_ROWS)
 }
 
-/// All facet rows of a thing among half-spaces that describe it, by the rays and lineality that generate it, and the echelon basis of the rows that vanish on it.
-/// The facet rows are primitive, with zeros in the pivot columns of that basis, each once and in lexicographic order; there are at most `MOST_ROWS` of them.
-/// `Wide` only with evidence: E1 on the rows that vanish and then the reduced row, E4 on a ray and a half-space or equation. `Many` only with more than `MOST_ROWS` facet rows among the half-spaces (E5).
+/// All facet rows of a thing among half-spaces that describe it, by the rays and lineality that generate it, and the
+/// echelon basis of the rows that vanish on it.
+/// The facet rows are primitive, with zeros in the pivot columns of that basis, each once and in lexicographic order;
+/// there are at most `MOST_ROWS` of them.
+/// `Wide` only with evidence: E1 on the rows that vanish and then the reduced row, E4 on a ray and a half-space or
+/// equation. `Many` only with more than `MOST_ROWS` facet rows among the half-spaces (E5).
+/// With `wide` the eliminations are worked by wide numbers where those of the range do not suffice; a refusal is
+/// still one of the range alone.
 pub fn facets_by_incidence(
     alloc: Global,
     of: ObjectType,
@@ -198,18 +208,20 @@ pub fn facets_by_incidence(
     rows: &[Ints],
     equations: &[Ints],
     g: &Generators,
+    wide: bool,
 ) -> Result<Facets, ThinFail>
     requires no_fan { of ≢ ObjectType.Fan }
     requires row_cols { HasCols cols rows.now }
     requires equation_cols { HasCols cols equations.now }
     requires ray_cols { HasCols cols g.now.rays.items }
     requires few_rows { length rows.now ≤ MOST_ROWS }
-    requires few_equations { length equations.now < 2 ^ 28 }
+    requires few_equations { length equations.now < 2 ^ 30 }
     requires some_columns { 0 < cols }
-    requires few_columns { cols < 2 ^ 28 }
+    requires few_columns { cols < 2 ^ 30 }
     ensures facets { IfOk result (λ f. HasCols cols g.now.lineality.items
         → CutsOutOf of cols (InCone g.now.rays.items g.now.lineality.items) rows.now equations.now
-        → AreGenerators cols (IsValid cols g.now.rays.items g.now.lineality.items) f.facets.items f.hull.items) }
+        → AreGenerators cols
+        (IsValid cols g.now.rays.items g.now.lineality.items) f.facets.items f.hull.items) }
     ensures cols { IfOk result (λ f. HasCols cols f.facets.items) }
     ensures few { IfOk result (λ f. length f.facets.items ≤ MOST_ROWS) }
     ensures echelon { IfOk result (λ f. (P : List ℕ) × IsEchelonBasis cols f.hull.items P) }
@@ -222,9 +234,16 @@ pub fn facets_by_incidence(
         });
     }
     let halves = half_spaces(alloc, of, cols, rows)?;
-    let kept = kept_halves(alloc, of, cols, rows, equations, &halves, &g.rays)?;
+    let kept = kept_halves(alloc, of, cols, rows, equations, &halves, &g.rays, wide)?;
     let count = taken(alloc, of, cols, rows, equations, &g.rays, &kept)?;
-    let facets = thinned_rows(alloc, cols, &halves, &kept.basis, &kept.places[..count])?;
+    let facets = thinned_rows(
+        alloc,
+        cols,
+        &halves,
+        &kept.basis,
+        &kept.places[..count],
+        wide,
+    )?;
     Ok(Facets {
         facets,
         hull: kept.basis.rows,

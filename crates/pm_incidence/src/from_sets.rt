@@ -1,6 +1,7 @@
-// Rows from sets: the extreme rays from facets and the sets of facets on which they lie, and the facet rows from rays and the sets of these.
+// Rows from sets: the extreme rays from facets and the sets of facets on which they lie, and the facet rows from rays
+// and the sets of these.
 
-ghost use Rattle.pm_vector.specs.Rows.{HasCols, Row, dot as dot_of, entry, opposite};
+ghost use Rattle.pm_vector.specs.Rows.{HasCols, Row, dot as dot_of, entry};
 ghost use Rattle.pm_vector.specs.Bases.{IsEchelonBasis};
 ghost use Rattle.pm_dd.specs.Fronts.{HalfSpaces};
 ghost use Rattle.pm_elim.specs.Evidence.{unit};
@@ -14,9 +15,9 @@ ghost use Rattle.pm_types.specs.Right.{IsIncidence};
 ghost use Rattle.std.specs.Prelude.{All, IfErr, IfOk, IsTrue, List, MatchOption, [], length, map, pos, replicate, ◌++◌, ◌<ℤ◌, ◌<◌, ◌^◌, ◌∷◌, ◌≡◌, ◌≤◌, ◌↔◌, ℕ};
 
 use crate::fails::ThinFail;
-use pm_elim::{copies, null_space};
-use pm_geom::Evidence;
+use pm_elim::{copies, null_space_by};
 use pm_geom::descriptions::{Facets, Generators};
+use pm_geom::{Evidence, unit_row};
 use pm_types::Sets;
 use pm_vector::{Ints, Wide, dot, negate};
 use std::alloc::{AllocError, Global};
@@ -44,16 +45,6 @@ fn pivot_columns(alloc: Global, rows: &[Ints]) -> Result<Vec<usize>, AllocError>
         columns.push(leading_column(row))?;
     }
     Ok(columns)
-}
-
-/// The row that is 1 in a column and 0 elsewhere.
-pub(crate) fn unit_row(alloc: Global, cols: usize, column: usize) -> Result<Ints, AllocError>
-    requires { column < cols }
-    ensures { IfOk result (λ r. r ≡ unit cols column) }
-{
-    let mut entries = vec![in alloc; 0i128; cols]?;
-    entries[column] = 1;
-    Ok(Ints::from_vec(entries))
 }
 
 /// The row of zeros.
@@ -182,13 +173,14 @@ fn ray_of_set(
     equations: &[Ints],
     set: &[u32],
     pivots: &[usize],
+    wide: bool,
 ) -> Result<Ints, ThinFail>
     requires cut_cols { HasCols cols cuts.now }
     requires equation_cols { HasCols cols equations.now }
-    requires few_equations { length equations.now < 2 ^ 28 }
-    requires few_columns { cols < 2 ^ 28 }
-    requires few_places { length set.now < 2 ^ 28 }
-    requires few_pivots { length pivots.now < 2 ^ 28 }
+    requires few_equations { length equations.now < 2 ^ 30 }
+    requires few_columns { cols < 2 ^ 30 }
+    requires few_places { length set.now < 2 ^ 30 }
+    requires few_pivots { length pivots.now < 2 ^ 30 }
     requires pivots { All (λ c. c < cols) pivots.now }
     ensures cols { IfOk result (λ r. length r ≡ cols) }
     ensures row { IfOk result (λ r. IsFound cols equations.now cuts.now pivots.now set.now r) }
@@ -197,7 +189,7 @@ fn ray_of_set(
         → IsSetsFail cols equations.now cuts.now (set.now ∷ []) f) }
 {
     let rows = determining_rows(alloc, cols, cuts, equations, set, pivots)?;
-    match only(null_space(alloc, &rows, cols)?) {
+    match only(null_space_by(alloc, &rows, cols, wide)?) {
         Some(row) => turned_up(alloc, cuts, row),
         None => Ok(zero_row(alloc, cols)?),
     }
@@ -209,58 +201,66 @@ fn lineality_pivots(
     cols: usize,
     cuts: &[Ints],
     equations: &[Ints],
+    wide: bool,
 ) -> Result<Vec<usize>, ThinFail>
     requires cut_cols { HasCols cols cuts.now }
     requires equation_cols { HasCols cols equations.now }
-    requires few_cuts { length cuts.now < 2 ^ 28 }
-    requires few_equations { length equations.now < 2 ^ 28 }
-    requires few_columns { cols < 2 ^ 28 }
-    ensures pivots { IfOk result (λ v. (lines : List Row) × IsNullBasis cols (equations.now ++ cuts.now) lines v.items) }
-    ensures failed { IfErr result (λ f. (sets : List (List ℕ)) → IsSetsFail cols equations.now cuts.now sets f) }
+    requires few_cuts { length cuts.now < 2 ^ 30 }
+    requires few_equations { length equations.now < 2 ^ 30 }
+    requires few_columns { cols < 2 ^ 30 }
+    ensures pivots { IfOk result (λ v. (lines : List Row)
+        × IsNullBasis cols (equations.now ++ cuts.now) lines v.items) }
+    ensures failed { IfErr result (λ f. (sets : List (List ℕ))
+        → IsSetsFail cols equations.now cuts.now sets f) }
 {
     let mut rows = copies(alloc, equations)?;
     for cut in cuts {
         rows.push(cut.copy(alloc)?)?;
     }
-    let lines = null_space(alloc, &rows, cols)?;
+    let lines = null_space_by(alloc, &rows, cols, wide)?;
     Ok(pivot_columns(alloc, &lines)?)
 }
 
-/// For each set the extreme row of the cone that equations and inequalities (`cuts`) cut out, on which exactly the inequalities of the set vanish:
-/// primitive, with zeros in the pivot columns of the echelon basis of the lineality. A set that determines no row up to scale and lineality gets a row of zeros.
+/// For each set the extreme row of the cone that equations and inequalities (`cuts`) cut out, on which exactly the
+/// inequalities of the set vanish:
+/// primitive, with zeros in the pivot columns of the echelon basis of the lineality. A set that determines no row up
+/// to scale and lineality gets a row of zeros.
 fn rays_of_sets(
     alloc: Global,
     cols: usize,
     cuts: &[Ints],
     equations: &[Ints],
     sets: &[Vec<u32>],
+    wide: bool,
 ) -> Result<Vec<Ints>, ThinFail>
     requires cut_cols { HasCols cols cuts.now }
     requires equation_cols { HasCols cols equations.now }
-    requires few_cuts { length cuts.now < 2 ^ 28 }
-    requires few_equations { length equations.now < 2 ^ 28 }
-    requires few_columns { cols < 2 ^ 28 }
-    requires few_places { All (λ set. length set.items < 2 ^ 28) sets.now }
+    requires few_cuts { length cuts.now < 2 ^ 30 }
+    requires few_equations { length equations.now < 2 ^ 30 }
+    requires few_columns { cols < 2 ^ 30 }
+    requires few_places { All (λ set. length set.items < 2 ^ 30) sets.now }
     ensures cols { IfOk result (λ r. HasCols cols r.items) }
     ensures as_many { IfOk result (λ r. length r.items ≡ length sets.now) }
     ensures rays { IfOk result (λ r. (V : List Row) → IsOrder cols (HalfSpaces equations.now cuts.now) V
         → IsIncidence V cuts.now (map (λ r. r.items) sets.now)
         → AreCanonicalFor cols (HalfSpaces equations.now cuts.now) V r.items) }
-    ensures null { IfOk result (λ r. (lines : List Row) × (P : List ℕ) × IsNullBasis cols (equations.now ++ cuts.now) lines P) }
-    ensures determined { IfOk result (λ r. AreDetermined cols equations.now cuts.now (map (λ s. s.items) sets.now) r.items) }
+    ensures null { IfOk result (λ r. (lines : List Row) × (P : List ℕ)
+        × IsNullBasis cols (equations.now ++ cuts.now) lines P) }
+    ensures determined { IfOk result (λ r.
+        AreDetermined cols equations.now cuts.now (map (λ s. s.items) sets.now) r.items) }
     ensures failed { IfErr result (IsSetsFail cols equations.now cuts.now (map (λ r. r.items) sets.now)) }
 {
-    let pivots = lineality_pivots(alloc, cols, cuts, equations)?;
+    let pivots = lineality_pivots(alloc, cols, cuts, equations, wide)?;
     let mut rows = Vec::new(alloc);
     for set in sets {
-        rows.push(ray_of_set(alloc, cols, cuts, equations, set, &pivots)?)?;
+        rows.push(ray_of_set(alloc, cols, cuts, equations, set, &pivots, wide)?)?;
     }
     Ok(rows)
 }
 
 /// The places of the sets that have an index.
 fn holders(alloc: Global, sets: &[Vec<u32>], index: u32) -> Result<Vec<u32>, AllocError>
-    requires { length sets.now < 2 ^ 28 }
+    requires { length sets.now < 2 ^ 30 }
     ensures { IfOk result (λ v. v.items ≡ holders_from 0 (map (λ r. r.items) sets.now) index) }
 {
     let mut places = Vec::new(alloc);
@@ -274,7 +274,7 @@ fn holders(alloc: Global, sets: &[Vec<u32>], index: u32) -> Result<Vec<u32>, All
 
 /// For each column the places of the sets that have it.
 fn turned_sets(alloc: Global, s: &Sets) -> Result<Sets, AllocError>
-    requires { length s.now.rows < 2 ^ 28 }
+    requires { length s.now.rows < 2 ^ 30 }
     ensures { IfOk result (λ t. t.rows ≡ turned s.now) }
 {
     let sets = s.rows();
@@ -285,36 +285,45 @@ fn turned_sets(alloc: Global, s: &Sets) -> Result<Sets, AllocError>
     Ok(Sets::from_vec(columns, sets.len() as u32))
 }
 
-/// The extreme rays from the facet rows and the sets of rays that lie on them, in the order of the columns of the sets: primitive, and with zeros in the pivot columns of the echelon basis of the lineality.
-/// A column that determines no ray gets a row of zeros. `Wide` only with evidence: E1 on AFFINE_HULL and FACETS, or on rows that determine the ray of a column; E4 on such a ray and a facet row.
+/// The extreme rays from the facet rows and the sets of rays that lie on them, in the order of the columns of the
+/// sets: primitive, and with zeros in the pivot columns of the echelon basis of the lineality.
+/// A column that determines no ray gets a row of zeros. `Wide` only with evidence: E1 on AFFINE_HULL and FACETS, or
+/// on rows that determine the ray of a column; E4 on such a ray and a facet row.
+/// With `wide` the eliminations are worked by wide numbers where those of the range do not suffice; a refusal is
+/// still one of the range alone.
 pub fn vertices_from_sets(
     alloc: Global,
     cols: usize,
     f: &Facets,
     s: &Sets,
+    wide: bool,
 ) -> Result<Vec<Ints>, ThinFail>
     requires facet_cols { HasCols cols f.now.facets.items }
     requires hull_cols { HasCols cols f.now.hull.items }
-    requires few_facets { length f.now.facets.items < 2 ^ 28 }
-    requires few_equations { length f.now.hull.items < 2 ^ 28 }
-    requires few_columns { cols < 2 ^ 28 }
-    requires few_sets { length s.now.rows < 2 ^ 28 }
+    requires few_facets { length f.now.facets.items < 2 ^ 30 }
+    requires few_equations { length f.now.hull.items < 2 ^ 30 }
+    requires few_columns { cols < 2 ^ 30 }
+    requires few_sets { length s.now.rows < 2 ^ 30 }
     ensures cols { IfOk result (λ r. HasCols cols r.items) }
     ensures as_many { IfOk result (λ r. length r.items ≡ s.now.cols) }
-    ensures rays { IfOk result (λ r. (V : List Row) → IsOrder cols (HalfSpaces f.now.hull.items f.now.facets.items) V
+    ensures rays { IfOk result (λ r. (V : List Row)
+        → IsOrder cols (HalfSpaces f.now.hull.items f.now.facets.items) V
         → s.now.cols ≡ length V → IsIncidence f.now.facets.items V s.now.rows
         → AreCanonicalFor cols (HalfSpaces f.now.hull.items f.now.facets.items) V r.items) }
-    ensures null { IfOk result (λ r. (lines : List Row) × (P : List ℕ) × IsNullBasis cols (f.now.hull.items ++ f.now.facets.items) lines P) }
-    ensures determined { IfOk result (λ r. AreDetermined cols f.now.hull.items f.now.facets.items (turned s.now) r.items) }
+    ensures null { IfOk result (λ r. (lines : List Row) × (P : List ℕ)
+        × IsNullBasis cols (f.now.hull.items ++ f.now.facets.items) lines P) }
+    ensures determined { IfOk result (λ r. AreDetermined cols f.now.hull.items f.now.facets.items
+        (turned s.now) r.items) }
     ensures failed { IfErr result (IsSetsFail cols f.now.hull.items f.now.facets.items (turned s.now)) }
 {
     let sets = turned_sets(alloc, s)?;
-    rays_of_sets(alloc, cols, &f.facets, &f.hull, sets.rows())
+    rays_of_sets(alloc, cols, &f.facets, &f.hull, sets.rows(), wide)
 }
 
 /// The same refusal, with the two rows of evidence E4 exchanged.
 pub(crate) fn exchanged(fail: ThinFail) -> ThinFail
-    ensures sets { (n : ℕ) (E A : List Row) (sets : List (List ℕ)) → IsSetsFail n E A sets fail → IsTurnedSetsFail n E A sets result }
+    ensures sets { (n : ℕ) (E A : List Row) (sets : List (List ℕ)) → IsSetsFail n E A sets fail
+        → IsTurnedSetsFail n E A sets result }
     ensures exchanged { result ≡ exchanged fail }
 {
     match fail {
@@ -326,30 +335,38 @@ pub(crate) fn exchanged(fail: ThinFail) -> ThinFail
     }
 }
 
-/// The facet rows from the extreme rays and the sets of those that lie on them, in the order of the sets: primitive, and with zeros in the pivot columns of the echelon basis of the rows that vanish.
-/// A set that determines no facet row gets a row of zeros. `Wide` only with evidence: E1 on LINEALITY_SPACE and VERTICES, or on rows that determine the row of a set; E4 on a ray and such a row.
+/// The facet rows from the extreme rays and the sets of those that lie on them, in the order of the sets: primitive,
+/// and with zeros in the pivot columns of the echelon basis of the rows that vanish.
+/// A set that determines no facet row gets a row of zeros. `Wide` only with evidence: E1 on LINEALITY_SPACE and
+/// VERTICES, or on rows that determine the row of a set; E4 on a ray and such a row.
+/// With `wide` the eliminations are worked by wide numbers where those of the range do not suffice; a refusal is
+/// still one of the range alone.
 pub fn facets_from_sets(
     alloc: Global,
     cols: usize,
     g: &Generators,
     s: &Sets,
+    wide: bool,
 ) -> Result<Vec<Ints>, ThinFail>
     requires ray_cols { HasCols cols g.now.rays.items }
     requires line_cols { HasCols cols g.now.lineality.items }
-    requires few_rays { length g.now.rays.items < 2 ^ 28 }
-    requires few_lines { length g.now.lineality.items < 2 ^ 28 }
-    requires few_columns { cols < 2 ^ 28 }
-    requires few_places { All (λ set. length set < 2 ^ 28) s.now.rows }
+    requires few_rays { length g.now.rays.items < 2 ^ 30 }
+    requires few_lines { length g.now.lineality.items < 2 ^ 30 }
+    requires few_columns { cols < 2 ^ 30 }
+    requires few_places { All (λ set. length set < 2 ^ 30) s.now.rows }
     ensures cols { IfOk result (λ r. HasCols cols r.items) }
     ensures as_many { IfOk result (λ r. length r.items ≡ length s.now.rows) }
-    ensures facets { IfOk result (λ r. (F : List Row) → IsOrder cols (IsValid cols g.now.rays.items g.now.lineality.items) F
+    ensures facets { IfOk result (λ r. (F : List Row)
+        → IsOrder cols (IsValid cols g.now.rays.items g.now.lineality.items) F
         → IsIncidence F g.now.rays.items s.now.rows
         → AreCanonicalFor cols (IsValid cols g.now.rays.items g.now.lineality.items) F r.items) }
-    ensures null { IfOk result (λ r. (lines : List Row) × (P : List ℕ) × IsNullBasis cols (g.now.lineality.items ++ g.now.rays.items) lines P) }
-    ensures determined { IfOk result (λ r. AreDetermined cols g.now.lineality.items g.now.rays.items s.now.rows r.items) }
+    ensures null { IfOk result (λ r. (lines : List Row) × (P : List ℕ)
+        × IsNullBasis cols (g.now.lineality.items ++ g.now.rays.items) lines P) }
+    ensures determined { IfOk result (λ r.
+        AreDetermined cols g.now.lineality.items g.now.rays.items s.now.rows r.items) }
     ensures failed { IfErr result (IsTurnedSetsFail cols g.now.lineality.items g.now.rays.items s.now.rows) }
 {
-    match rays_of_sets(alloc, cols, &g.rays, &g.lineality, s.rows()) {
+    match rays_of_sets(alloc, cols, &g.rays, &g.lineality, s.rows(), wide) {
         Ok(rows) => Ok(rows),
         Err(fail) => Err(exchanged(fail)),
     }

@@ -1,4 +1,5 @@
-//! Which rays lie on which facets (Ziegler, Lectures on Polytopes, lecture 2).
+//! Which rays lie on which facets (Ziegler, Lectures on Polytopes, lecture 2). It knows nothing of objects, rules and
+//! clients.
 #![tactic(auto)]
 
 ghost use Rattle.pm_incidence.specs.Examples.{IncidenceIsRead, ShortRowsAreRead};
@@ -13,12 +14,13 @@ mod short;
 mod thin;
 mod zeros;
 
-pub use by_incidence::vertices_by_incidence;
+pub use by_incidence::{half_spaces, unit_rows, vertices_by_incidence, with_first};
 pub use facets::facets_by_incidence;
 pub use fails::{IncFail, ThinFail};
 pub use from_sets::{facets_from_sets, vertices_from_sets};
 pub use pm_geom::Evidence;
 pub use sets::incidence;
+pub use thin::{Kept, thinned_rows, with_marked};
 
 /// Incidence read on three facets and three vertices.
 pub fn example_incidence()

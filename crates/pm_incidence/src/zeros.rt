@@ -4,7 +4,7 @@ ghost use Rattle.pm_vector.specs.Rows.{HasCols};
 ghost use Rattle.pm_bits.specs.Sets.{IsSubset, has};
 ghost use Rattle.pm_dd.specs.Tables.{IsZeroSet, zero_set};
 ghost use Rattle.pm_incidence.specs.Short.{IsShort};
-ghost use Rattle.pm_incidence.specs.Thinning.{AreKept, AreZeroSets, IsKept, IsProductFail, IsRanged, MarkFull};
+ghost use Rattle.pm_incidence.specs.Thinning.{AreKept, AreZeroSets, IsKeptSet, IsProductFail, IsRanged, MarkFull};
 ghost use Rattle.std.specs.Prelude.{All, IfErr, IfOk, IsTrue, [], get_or, false, length, ℕ, ◌<◌, ◌∷◌, ◌≡◌, ◌≤◌, ◌↔◌};
 
 use crate::fails::ThinFail;
@@ -139,7 +139,7 @@ fn beats(zeros: &BitTable, i: usize, j: usize) -> bool
 fn is_kept(zeros: &BitTable, marks: &[bool], i: usize) -> bool
     requires i { i < length zeros.now.rows }
     requires marks { length marks.now ≡ length zeros.now.rows }
-    ensures { IsTrue result ↔ IsKept zeros.now.rows marks.now i }
+    ensures { IsTrue result ↔ IsKeptSet zeros.now.rows marks.now i }
 {
     if marks[i] {
         return false;

@@ -1,6 +1,5 @@
 pub mod Answered
 pub mod CellFacets
-pub mod Enough
 pub mod FoundCells
 pub mod LiftedRows
 pub mod Lifting

@@ -1,9 +1,10 @@
 -- The lifted rows of one point, the places of three rows, and the refusals of one far point.
+use Rattle.pm_geom.proofs.SmallProducts.{four_stays}
 use Rattle.pm_vector.proofs.DivisorLaws.{IsPrimitive-from_one, IsPrimitiveOf-from_one}
 use Rattle.pm_vector.proofs.Ring.{ring}
 use Rattle.pm_vector.specs.Divisors.{IsGcdOf, IsPrimitiveOf}
-use Rattle.pm_vector.specs.Numbers.{InRange, Ratio}
-use Rattle.pm_vector.specs.Rows.{Row, SameDirection, dot, entry, ratio_at, times}
+use Rattle.pm_vector.specs.Numbers.{Ratio}
+use Rattle.pm_vector.specs.Rows.{Row, SameDirection, entry, ratio_at, times}
 use Rattle.pm_geom.specs.Evidence.{IsWideProduct}
 use Rattle.pm_geom.specs.Faces.{ray}
 use Rattle.pm_geom.specs.declared.evidence.Evidence.TheVariants.{E4}
@@ -11,13 +12,12 @@ use Rattle.pm_lift.specs.Examples.{PlacesAreRead, RefusalsAreRead, RowsAreRead, 
 use Rattle.pm_lift.specs.Lifting.{AreLifted, AreLiftedRows, AreRaisedRows, IsLiftedRow, IsRaisedRow, lifted, raised}
 use Rattle.pm_lift.specs.Refusals.{IsLiftFail, IsPairOfSites, IsRaiseFail}
 use Rattle.pm_lift.specs.declared.fails.LiftFail.TheVariants.{Many, Wide}
-use Rattle.pm_vector.specs.Products.{ProductsStay}
 use Rattle.std.proofs.Common.{ap, arith, inl, inr, refl, suc, zero, ◌⊎◌}
 use Rattle.std.proofs.Math.Nat.{one-dvd}
 use Rattle.std.proofs.lemmas.Int.{ints}
 use Rattle.std.proofs.lemmas.Nat.Gcd.{dvd_trans}
-use Rattle.std.specs.Prelude.{[], length, take, unsigned_abs, ℕ, ◌<◌, ◌∷◌, ◌≡◌}
-use lib.IntN.{negsuc, pos, ℤ, ◌*ℤ◌}
+use Rattle.std.specs.Prelude.{[], length, unsigned_abs, ℕ, ◌<◌, ◌∷◌, ◌≡◌}
+use lib.IntN.{negsuc, pos, ℤ}
 use lib.Signed.{lt_z_yes, ◌<ℤ◌}
 
 -- ---- primitive rows
@@ -117,18 +117,6 @@ wide_twice s = let r = s.products 0 in omega (arith, ints)
 
 wide_square : IsWideProduct (greatest ∷ []) (greatest ∷ [])
 wide_square s = let r = s.products 0 in omega (arith, ints)
-
-four_stays : ProductsStay (pos 2 ∷ []) (pos 2 ∷ [])
-four_stays = record { products = products; sums = sums }
-  where
-    products : (i : ℕ) → InRange (entry (pos 2 ∷ []) i *ℤ entry (pos 2 ∷ []) i)
-    products zero = omega arith
-    products (suc i) = omega arith
-
-    sums : (k : ℕ) → InRange (dot (take k (pos 2 ∷ [])) (take k (pos 2 ∷ [])))
-    sums zero = omega arith
-    sums (suc zero) = omega arith
-    sums (suc (suc k)) = omega arith
 
 not_small : IsLiftFail 2 far one_half (Wide (E4 (pos 2 ∷ []) (pos 2 ∷ []))) → ⊥
 not_small f = elim f [

@@ -53,7 +53,8 @@ uneven = point 0 ∷ point 1 ∷ point 3 ∷ []
 
 -- the corners of the unit square
 abbrev pub corners : List Row
-corners = (pos 1 ∷ pos 0 ∷ pos 0 ∷ []) ∷ (pos 1 ∷ pos 1 ∷ pos 0 ∷ []) ∷ (pos 1 ∷ pos 0 ∷ pos 1 ∷ []) ∷ (pos 1 ∷ pos 1 ∷ pos 1 ∷ []) ∷ []
+corners = (pos 1 ∷ pos 0 ∷ pos 0 ∷ []) ∷ (pos 1 ∷ pos 1 ∷ pos 0 ∷ []) ∷ (pos 1 ∷ pos 0 ∷ pos 1 ∷ [])
+    ∷ (pos 1 ∷ pos 1 ∷ pos 1 ∷ []) ∷ []
 
 -- sites with their heights, and the affine functions below these
 pub record SitesAreRead : Type 0 where
@@ -157,7 +158,8 @@ pub record PlacesAreRead : Type 0 where
   pub counted_from_0 : places_from 0 (pos 0 ∷ pos 0 ∷ pos 1 ∷ []) peak_rows ≡ 0 ∷ 2 ∷ []
   pub counted_from_3 : places_from 3 (pos 0 ∷ pos 0 ∷ pos 1 ∷ []) peak_rows ≡ 3 ∷ 5 ∷ []
   -- of a row that ends with 0 or -1 the places do not count
-  pub sets : lower_sets 2 ((pos 0 ∷ pos 1 ∷ pos 0 ∷ []) ∷ (pos 0 ∷ pos 0 ∷ pos 1 ∷ []) ∷ (pos 0 ∷ pos 5 ∷ negsuc 0 ∷ []) ∷ []) peak_rows ≡ (0 ∷ 2 ∷ []) ∷ []
+  pub sets : lower_sets 2 ((pos 0 ∷ pos 1 ∷ pos 0 ∷ []) ∷ (pos 0 ∷ pos 0 ∷ pos 1 ∷ [])
+      ∷ (pos 0 ∷ pos 5 ∷ negsuc 0 ∷ []) ∷ []) peak_rows ≡ (0 ∷ 2 ∷ []) ∷ []
   pub not_falling : ¬ (AreLowerSets 2 peak_rows ((0 ∷ 2 ∷ []) ∷ (0 ∷ 1 ∷ []) ∷ []))
 
 abbrev pub greatest : ℤ

@@ -12,8 +12,8 @@ use lib.IntN.{◌*ℤ◌}
 abbrev pub lifted : Row → Ratio → Row
 lifted q r = times r.den q ++ (entry q 0 *ℤ r.num) ∷ []
 
--- the row of a site raised to the paraboloid, by the square of its distance from the origin: q_0 q_k for each column k,
--- and then the sum of the squares of q_1, q_2, ..
+-- the row of a site raised to the paraboloid, by the square of its distance from the origin: q_0 q_k for each column
+-- k, and then the sum of the squares of q_1, q_2, ..
 abbrev pub raised : Row → Row
 raised q = times (entry q 0) q ++ dot (drop 1 q) (drop 1 q) ∷ []
 

@@ -24,11 +24,15 @@ IsWideOf P Memory = Unit {0}
 
 -- an entry of the row q alone, and the denominator of the height alone; or the first entry, and the numerator
 abbrev pub IsLiftPair : Row → Ratio → Row → Row → Type 0
-IsLiftPair q height first second = ((k : ℕ) × (k < length q) × (first ≡ entry q k ∷ []) × (second ≡ height.den ∷ [])) ⊎ ((first ≡ entry q 0 ∷ []) × (second ≡ height.num ∷ []))
+IsLiftPair q height first second =
+    ((k : ℕ) × (k < length q) × (first ≡ entry q k ∷ []) × (second ≡ height.den ∷ []))
+    ⊎ ((first ≡ entry q 0 ∷ []) × (second ≡ height.num ∷ []))
 
 -- the first entry of the row q alone, and one of its entries alone; or twice q without its first entry
 abbrev pub IsRaisePair : Row → Row → Row → Type 0
-IsRaisePair q first second = ((k : ℕ) × (k < length q) × (first ≡ entry q 0 ∷ []) × (second ≡ entry q k ∷ [])) ⊎ ((first ≡ drop 1 q) × (second ≡ drop 1 q))
+IsRaisePair q first second =
+    ((k : ℕ) × (k < length q) × (first ≡ entry q 0 ∷ []) × (second ≡ entry q k ∷ []))
+    ⊎ ((first ≡ drop 1 q) × (second ≡ drop 1 q))
 
 -- such a pair of the primitive row of a site and of its height
 pub record IsSiteLiftPair (site : Row) (height : Ratio) (first second : Row) : Type 0 where
@@ -63,16 +67,21 @@ ArePair F X first second = Contains F first × Contains X second
 -- list and a row of X (E4)
 abbrev pub IsRowsFail : ℕ → List Row → LiftFail → Type 0
 IsRowsFail n X (Wide (E1 step)) = IsShownOnParts (suc n) [] (X ++ upwards n ∷ []) (facets.Wide (E1 step))
-IsRowsFail n X (Wide (E2 front first second column)) = IsShownOnParts (suc n) [] (X ++ upwards n ∷ []) (facets.Wide (E2 front first second column))
-IsRowsFail n X (Wide (E4 first second)) = IsCanonicalRay (suc n) (IsValid (suc n) (X ++ upwards n ∷ []) []) first × Contains X second × IsWideProduct first second
+IsRowsFail n X (Wide (E2 front first second column)) =
+    IsShownOnParts (suc n) [] (X ++ upwards n ∷ []) (facets.Wide (E2 front first second column))
+IsRowsFail n X (Wide (E4 first second)) =
+    IsCanonicalRay (suc n) (IsValid (suc n) (X ++ upwards n ∷ []) []) first × Contains X second
+    × IsWideProduct first second
 IsRowsFail n X (Wide e) = ⊥
 IsRowsFail n X (Many e) = IsShownOnParts (suc n) [] (X ++ upwards n ∷ []) (facets.Many e)
 IsRowsFail n X Memory = Unit {0}
 
 -- the refusal of cells of sites with heights: it is shown on the way to the lifted rows, or on these
 abbrev pub IsLiftFail : ℕ → List Row → List Ratio → LiftFail → Type 0
-IsLiftFail n Q W f = IsWideOf (IsPairOfSites Q W) f ⊎ ((X : List Row) × AreLiftedRows Q W X × IsRowsFail n X f)
+IsLiftFail n Q W f = IsWideOf (IsPairOfSites Q W) f
+    ⊎ ((X : List Row) × AreLiftedRows Q W X × IsRowsFail n X f)
 
 -- the refusal of Delaunay cells: it is shown on the way to the raised rows, or on these
 abbrev pub IsRaiseFail : ℕ → List Row → LiftFail → Type 0
-IsRaiseFail n Q f = IsWideOf (IsRaisePairOfSites Q) f ⊎ ((X : List Row) × AreRaisedRows Q X × IsRowsFail n X f)
+IsRaiseFail n Q f = IsWideOf (IsRaisePairOfSites Q) f
+    ⊎ ((X : List Row) × AreRaisedRows Q X × IsRowsFail n X f)

@@ -1,4 +1,5 @@
--- Empty spheres of sets of sites, Delaunay's condition (Edelsbrunner, Algorithms in Combinatorial Geometry, chapter 13;
+-- Empty spheres of sets of sites, Delaunay's condition (Edelsbrunner, Algorithms in Combinatorial Geometry, chapter
+-- 13;
 -- De Loera, Rambau and Santos, Triangulations, section 2.2).
 use Rattle.std.specs.Prelude.{ℕ, ◌≡◌, ◌<◌, Bool, IsTrue, List, drop, length}
 use Rattle.pm_vector.specs.Numbers.{IsBelow, Ratio, SameRatio}
@@ -22,7 +23,12 @@ pub record HasAffineFunction (n : ℕ) (Q : List Row) (f : ℕ → Bool) : Type 
 
 -- the square of the distance of the point of c from the point of q
 abbrev pub distance_square : Row → Row → Ratio
-distance_square c q = record { num = dot (drop 1 (difference (entry c 0) q (entry q 0) c)) (drop 1 (difference (entry c 0) q (entry q 0) c)); den = (entry c 0 *ℤ entry q 0) *ℤ (entry c 0 *ℤ entry q 0) }
+distance_square c q =
+    record {
+      num = dot (drop 1 (difference (entry c 0) q (entry q 0) c))
+          (drop 1 (difference (entry c 0) q (entry q 0) c));
+      den = (entry c 0 *ℤ entry q 0) *ℤ (entry c 0 *ℤ entry q 0);
+    }
 
 -- the sites of f lie on one sphere, about the point of a row, and all others lie outside of it
 pub record HasEmptySphere (n : ℕ) (Q : List Row) (f : ℕ → Bool) : Type 0 where
@@ -32,4 +38,5 @@ pub record HasEmptySphere (n : ℕ) (Q : List Row) (f : ℕ → Bool) : Type 0 w
   pub point : pos 0 <ℤ entry center 0
   pub positive : pos 0 <ℤ radius_square.den
   pub on : (j : ℕ) → j < length Q → IsTrue (f j) → SameRatio (distance_square center (ray Q j)) radius_square
-  pub outside : (j : ℕ) → j < length Q → ¬ (IsTrue (f j)) → IsBelow radius_square (distance_square center (ray Q j))
+  pub outside : (j : ℕ) → j < length Q → ¬ (IsTrue (f j))
+      → IsBelow radius_square (distance_square center (ray Q j))

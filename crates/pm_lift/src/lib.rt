@@ -1,5 +1,6 @@
-//! Regular subdivisions and Delaunay cells: the cells of sites with heights, by the facets of the cone of their lifted
-//! rows (Ziegler, Lectures on Polytopes, section 5.1; De Loera, Rambau and Santos, Triangulations, section 2.2).
+//! Regular subdivisions and Delaunay cells: the cells of sites with heights, by the facets of the cone of their
+//! lifted rows (Ziegler, Lectures on Polytopes, section 5.1; De Loera, Rambau and Santos, Triangulations, section
+//! 2.2). It knows nothing of properties, values and objects.
 #![tactic(auto)]
 
 ghost use Rattle.pm_lift.specs.Examples.{CellsAreRead, DelaunayIsRead, LowerFacesAreRead, PlacesAreRead, RefusalsAreRead, RowsAreRead, SitesAreRead};

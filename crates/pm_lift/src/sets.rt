@@ -8,7 +8,7 @@ ghost use Rattle.std.specs.Prelude.{IfErr, IfOk, [], length, map, suc, unsigned_
 ghost use Rattle.pm_limits.specs.Limits.{most_rows};
 
 use crate::fails::LiftFail;
-use pm_dd::to_facets;
+use pm_dd::facets_of;
 use pm_elim::copies;
 use pm_geom::Evidence;
 use pm_vector::{Ints, Wide, dot};
@@ -46,7 +46,7 @@ fn vanishes(alloc: Global, facet: &Ints, row: &Ints) -> Result<bool, LiftFail>
 /// The places of the rows on which a facet row vanishes.
 fn places(alloc: Global, facet: &Ints, rows: &[Ints]) -> Result<Vec<u32>, LiftFail>
     requires cols { HasCols (length facet.now) rows.now }
-    requires few_rows { length rows.now < 2 ^ 28 }
+    requires few_rows { length rows.now < 2 ^ 30 }
     ensures places { IfOk result (λ r. r.items ≡ places_from 0 facet.now rows.now) }
     ensures failed { IfErr result (IsWideOf (ArePair (facet.now ∷ []) rows.now)) }
 {
@@ -69,7 +69,7 @@ fn positive_sets(
 ) -> Result<Vec<Vec<u32>>, LiftFail>
     requires facet_cols { HasCols (suc cols) facets.now }
     requires row_cols { HasCols (suc cols) rows.now }
-    requires few_rows { length rows.now < 2 ^ 28 }
+    requires few_rows { length rows.now < 2 ^ 30 }
     ensures sets { IfOk result (λ v. map (λ s. s.items) v.items ≡ lower_sets cols facets.now rows.now) }
     ensures few { IfOk result (λ v. length v.items ≤ length facets.now) }
     ensures failed { IfErr result (IsWideOf (ArePair facets.now rows.now)) }
@@ -85,7 +85,7 @@ fn positive_sets(
 
 /// The rows, and last the row upwards.
 fn with_upwards(alloc: Global, cols: usize, rows: &[Ints]) -> Result<Vec<Ints>, AllocError>
-    requires { cols < 2 ^ 29 }
+    requires { cols < 2 ^ 30 }
     ensures { IfOk result (λ v. v.items ≡ rows.now ++ upwards cols ∷ []) }
 {
     let mut entries = vec![in alloc; 0i128; cols + 1]?;
@@ -101,17 +101,18 @@ pub(crate) fn lower_cells(
     alloc: Global,
     cols: usize,
     rows: &[Ints],
+    wide: bool,
 ) -> Result<Vec<Vec<u32>>, LiftFail>
     requires cols { HasCols (suc cols) rows.now }
-    requires few_rows { length rows.now < 2 ^ 27 }
-    requires few_columns { cols < 2 ^ 29 }
+    requires few_rows { length rows.now < 2 ^ 30 }
+    requires few_columns { cols < 2 ^ 30 }
     ensures sets { IfOk result (λ v. AreLowerSets cols rows.now (map (λ s. s.items) v.items)) }
     ensures few { IfOk result (λ v. length v.items ≤ most_rows) }
     ensures failed { IfErr result (IsRowsFail cols rows.now) }
 {
     let all = with_upwards(alloc, cols, rows)?;
     let lines = Vec::new(alloc);
-    let found = to_facets(alloc, cols + 1, &all, &lines)?;
+    let found = facets_of(alloc, cols + 1, &all, &lines, wide)?;
     let mut sets = positive_sets(alloc, cols, &found.facets, rows)?;
     sets.sort()?;
     Ok(sets)

@@ -1,12 +1,11 @@
 -- The rows that are left, reduced, made primitive and sorted, are the generators of the cone.
+use Rattle.pm_incidence.proofs.ThinnedRow.{IsCanonicalFor, canonical, canonical_in, canonical_out}
 use Rattle.pm_vector.proofs.ConeLaws.{in_cone_set}
 use Rattle.pm_vector.proofs.Lists.{All_among, Among, Any_among, all_from, among_All}
-use Rattle.pm_vector.proofs.Ring.{ring}
-use Rattle.pm_vector.proofs.RowLaws.{entry-difference, entry-opposite, entry-plus, entry-times, length-difference, length-opposite}
-use Rattle.pm_vector.proofs.Signs.{mul_cancel, mul_pos, weaken}
-use Rattle.pm_vector.specs.Cones.{InCone, IsConeSet}
+use Rattle.pm_vector.proofs.RowLaws.{length-opposite}
+use Rattle.pm_vector.specs.Cones.{InCone, IsConeSet, InSpan}
 use Rattle.pm_vector.specs.Divisors.{IsPrimitive}
-use Rattle.pm_vector.specs.Rows.{HasCols, Row, difference, entry, opposite}
+use Rattle.pm_vector.specs.Rows.{HasCols, Row, opposite}
 use Rattle.pm_vector.proofs.Spans.{place_of}
 use Rattle.pm_vector.specs.Bases.{row_at}
 use Rattle.pm_dd.proofs.AlikeLaws.{alike_sym, alike_trans}
@@ -18,17 +17,15 @@ use Rattle.pm_geom.proofs.Polar.{generated_is_cut}
 use Rattle.pm_geom.proofs.Reduce.{extreme_as, same_modulo_as}
 use Rattle.pm_geom.specs.Cones.{CutOut, InLineality, IsExtreme, IsOrder, SameModulo}
 use Rattle.pm_geom.specs.Generators.{AreGenerators, IsLinealityBasis, VanishAt}
-use Rattle.pm_incidence.specs.Thinning.{AreSortedThinned, IsThinned}
+use Rattle.pm_incidence.specs.Thinning.{AreSortedThinned}
 use Rattle.pm_redund.proofs.Irredundant.{kept_apart, kept_extreme, like_kept, lineality}
 use Rattle.pm_redund.proofs.Marked.{among_place}
-use Rattle.pm_redund.specs.Redundancy.{AreThinPlaces, IsKept}
-use Rattle.std.proofs.Common.{arith, inl, inr, subst, sym, ◌∙◌}
-use Rattle.std.proofs.lemmas.Int.{ints}
+use Rattle.pm_redund.specs.Redundancy.{AreIrredundantPlaces, IsKeptRow}
+use Rattle.std.proofs.Common.{arith, subst, sym, ◌∙◌}
 use Rattle.std.proofs.lemmas.List.{get_or_default}
 use Rattle.std.proofs.lemmas.List.Sorted.{All-permutation}
 use Rattle.std.specs.List.{Any}
 use Rattle.std.specs.Prelude.{List, [], get_or, length, ℕ, ◌<◌, ◌≡◌}
-use lib.IntN.{pos, ℤ, ◌*ℤ◌, ◌-ℤ◌}
 
 module _ (n : ℕ) (G L : List Row) (hG : HasCols n G) (hL : HasCols n L) where
   abbrev S : Row → Type 0
@@ -47,53 +44,14 @@ module _ (n : ℕ) (G L : List Row) (hG : HasCols n G) (hL : HasCols n L) where
       extreme_as n (CutOut A) S from to (extreme_alike n A lu (to u lu hu) (λ h. nu (from (opposite u) (length-opposite u ∙ lu) h)) (extreme_as n S (CutOut A) to from e) (same_modulo_as n S (CutOut A) to from s))
 
   module _ (B : List Row) (P : List ℕ) (lines : IsLinealityBasis n S B P) where
-    -- ---- a thinned row
-    record IsCanonicalFor (g w : Row) : Type 0 where
-      cols : length w ≡ n
-      alike : SameModulo n S g w
-      primitive : IsPrimitive w
-      zeros : VanishAt P w
+    flat : (x : Row) → length x ≡ n → InSpan B x → InLineality S x
+    flat x lx = (lines.lines x lx).1
 
-    canonical : (g w : Row) → length g ≡ n → S g → ¬ (S (opposite g)) → IsThinned B P g w → IsCanonicalFor g w
-    canonical g w lg sg nu t = elim t.primitive.divided [
-      | inl z ↦ absurd (nu (cs.part t.direction.p_positive (cs.same (record { at = λ i. let q = z.0 i in simp (entry-times, entry-difference, entry-opposite, q, ring) (omega (arith, ints)) }) line.opposed)))
-      | inr d ↦ record {
-        cols = t.primitive.cols ∙ t.cols ∙ lg;
-        alike = record {
-          p = t.direction.g *ℤ d.0;
-          k = t.direction.p;
-          w = opposite rest;
-          cols = length-opposite rest ∙ rest_cols;
-          p_positive = mul_pos t.direction.g_positive d.1;
-          k_positive = t.direction.p_positive;
-          line = record { inside = line.opposed; opposed = cs.same (record { at = λ i. simp entry-opposite (omega (arith, ints)) }) line.inside };
-          same = record { at = λ i. let q = d.2.at i in simp (entry-times, entry-plus, entry-opposite, entry-difference) (scaled t.direction.g d.0 (entry w i) (entry t.reduced i) t.direction.p (entry g i) (simp entry-times at q)) };
-        };
-        primitive = d.3;
-        zeros = All_among (λ (c : ℕ). entry w c ≡ pos 0) P (λ c i. let q = d.2.at c in mul_cancel d.1 (sym (simp entry-times at q) ∙ among_All (λ (c : ℕ). entry t.reduced c ≡ pos 0) i t.zeros ∙ simp ring));
-      }
-    ]
-      where
-        rest : Row
-        rest = difference t.direction.p g t.direction.g t.reduced
-
-        rest_cols : length rest ≡ n
-        rest_cols = length-difference n t.direction.p g t.direction.g t.reduced lg (t.cols ∙ lg)
-
-        line : InLineality S rest
-        line = (lines.lines rest rest_cols).1 t.direction.inside
-
-        scaled : (a d x m p g : ℤ) → m ≡ d *ℤ x → (a *ℤ d) *ℤ x ≡ p *ℤ g -ℤ (p *ℤ g -ℤ a *ℤ m)
-        scaled a d x m p g e = rw e (simp ring (omega (arith, ints)))
-
-    alike_extreme : (g w : Row) → IsExtreme n S g → IsCanonicalFor g w → IsExtreme n S w
-    alike_extreme g w e c = like_extreme c.cols
-        (cs.part c.alike.p_positive (cs.same (record { at = λ i. sym (c.alike.same.at i) }) (cs.sum (cs.multiple (weaken c.alike.k_positive) e.inside) c.alike.line.inside)))
-        (λ h. e.not_line (cs.part c.alike.k_positive (cs.same (record { at = λ i. let q = simp (entry-times, entry-plus) at (c.alike.same.at i) in simp (entry-times, entry-plus, entry-opposite, ring) (omega (arith, ints)) }) (cs.sum (cs.multiple (weaken c.alike.p_positive) h) c.alike.line.inside))))
-        e c.alike
+    alike_extreme : (g w : Row) → IsExtreme n S g → IsCanonicalFor n S P g w → IsExtreme n S w
+    alike_extreme g w e c = like_extreme c.cols (canonical_in n S cs P c e.inside) (canonical_out n S cs P c e.not_line) e c.alike
 
 -- ---- all of them
-module _ (n : ℕ) (G L : List Row) (hG : HasCols n G) (hL : HasCols n L) (B : List Row) (P ks : List ℕ) (t : AreThinPlaces n G L B P ks) where
+module _ (n : ℕ) (G L : List Row) (hG : HasCols n G) (hL : HasCols n L) (B : List Row) (P ks : List ℕ) (t : AreIrredundantPlaces n G L B P ks) where
   abbrev T : Row → Type 0
   T = InCone G L
 
@@ -103,7 +61,7 @@ module _ (n : ℕ) (G L : List Row) (hG : HasCols n G) (hL : HasCols n L) (B : L
   lines : IsLinealityBasis n T B P
   lines = lineality n G L hG hL t.lines t.marked B P t.basis
 
-  pub place_at : (k : ℕ) → k < length ks → (get_or ks k 0 < length G) × IsKept t.lines t.marks (get_or ks k 0)
+  pub place_at : (k : ℕ) → k < length ks → (get_or ks k 0 < length G) × IsKeptRow t.lines t.marks (get_or ks k 0)
   place_at k l = t.kept.each k 0 l
 
   pub extreme_at : (k : ℕ) → k < length ks → IsExtreme n T (row_at G (get_or ks k 0))
@@ -121,11 +79,11 @@ module _ (n : ℕ) (G L : List Row) (hG : HasCols n G) (hL : HasCols n L) (B : L
     W : List Row
     W = s.rows
 
-    canonical_at : (k : ℕ) → k < length ks → IsCanonicalFor n G L hG hL B P lines (row_at G (get_or ks k 0)) (row_at W k)
+    canonical_at : (k : ℕ) → k < length ks → IsCanonicalFor n T P (row_at G (get_or ks k 0)) (row_at W k)
     unfolding W
     canonical_at k l =
         let e = extreme_at k l in
-        canonical n G L hG hL B P lines (row_at G (get_or ks k 0)) (row_at W k) e.cols e.inside e.not_line (s.thinned.each k l)
+        canonical n T ct P B (flat n G L hG hL B P lines) (row_at G (get_or ks k 0)) (row_at W k) e.cols e.inside e.not_line (s.thinned.each k l)
 
     in_w : (k : ℕ) → k < length ks → k < length W
     unfolding W

@@ -17,12 +17,12 @@ use Rattle.pm_geom.specs.Cones.{IsFacetRow, IsValid, SameModulo}
 use Rattle.pm_geom.specs.Generators.{AreGenerators}
 use Rattle.pm_incidence.proofs.Described.{cone_apart, described_inside, half_cols, halves_of, zero_facets}
 use Rattle.pm_incidence.proofs.FacetPlaces.{halves_agree, valid_made}
-use Rattle.pm_redund.proofs.ValidCuts.{cut_valid, valid_cut}
+use Rattle.pm_incidence.proofs.Polarity.{cut_valid, valid_cut}
 use Rattle.pm_incidence.specs.Thinning.{AreManyFacets, half_spaces}
 use Rattle.pm_object_type.specs.declared.object_type.ObjectType.{ObjectType}
 use Rattle.pm_object_type.specs.declared.object_type.ObjectType.TheVariants.{Cone, Fan, Polytope}
 use Rattle.pm_redund.proofs.Canonical.{apart_at, extreme_at, place_at}
-use Rattle.pm_redund.specs.Redundancy.{AreManyThinPlaces, AreThinPlaces, LeavesNoPoint}
+use Rattle.pm_redund.specs.Redundancy.{AreManyThinPlaces, AreIrredundantPlaces, LeavesNoPoint}
 use Rattle.pm_simplex.specs.Lineality.{MarkLines}
 use Rattle.pm_types.specs.Right.{CutsOutOf, Solves, empty, proper}
 use Rattle.std.proofs.Common.{ap, arith, inl, inr, refl, subst, sym, ◌∙◌}
@@ -79,10 +79,10 @@ module _ (n : ℕ) (some : 0 < n) (A E : List Row) (hA : HasCols n A) (hE : HasC
       pub facets_of : (F H : List Row) → AreGenerators n (InCone (half_spaces of n A) E) F H → AreGenerators n (IsValid n G L) F H
       facets_of F H g = generators_as n (InCone (half_spaces of n A) E) (IsValid n G L) valid_of valid_to g
 
-      facet_at : (B : List Row) (P ks : List ℕ) → AreThinPlaces n (half_spaces of n A) E B P ks → (k : ℕ) → k < length ks → IsFacetRow n G L (row_at (half_spaces of n A) (get_or ks k 0))
+      facet_at : (B : List Row) (P ks : List ℕ) → AreIrredundantPlaces n (half_spaces of n A) E B P ks → (k : ℕ) → k < length ks → IsFacetRow n G L (row_at (half_spaces of n A) (get_or ks k 0))
       facet_at B P ks t k l = extreme_as n (InCone (half_spaces of n A) E) (IsValid n G L) valid_of valid_to (extreme_at n (half_spaces of n A) E (cols of) hE B P ks t k l)
 
-      facets_apart : (B : List Row) (P ks : List ℕ) → AreThinPlaces n (half_spaces of n A) E B P ks → (i j : ℕ) → i < j → j < length ks → ¬ (SameModulo n (IsValid n G L) (row_at (half_spaces of n A) (get_or ks i 0)) (row_at (half_spaces of n A) (get_or ks j 0)))
+      facets_apart : (B : List Row) (P ks : List ℕ) → AreIrredundantPlaces n (half_spaces of n A) E B P ks → (i j : ℕ) → i < j → j < length ks → ¬ (SameModulo n (IsValid n G L) (row_at (half_spaces of n A) (get_or ks i 0)) (row_at (half_spaces of n A) (get_or ks j 0)))
       facets_apart B P ks t i j l lj s = apart_at n (half_spaces of n A) E (cols of) hE B P ks t i j l lj (same_modulo_as n (IsValid n G L) (InCone (half_spaces of n A) E) valid_to valid_of s)
 
   pub many_facets : (of : ObjectType) → ¬ (LeavesNoPoint of n A E) → (ks : List ℕ) → AreManyThinPlaces n (half_spaces of n A) E ks → AreManyFacets of n A E ks

@@ -16,7 +16,7 @@ use Rattle.pm_geom.specs.Cones.{InLineality, IsExtreme, SameModulo}
 use Rattle.pm_geom.specs.Generators.{IsLinealityBasis}
 use Rattle.pm_geom.specs.StatedOrder.{rows_marked}
 use Rattle.pm_redund.proofs.Marked.{among_place, at_marked, marked_among, marked_at, set_keeps}
-use Rattle.pm_redund.specs.Redundancy.{IsKept, IsThinnedTo}
+use Rattle.pm_redund.specs.Redundancy.{IsKeptRow, IsThinnedTo}
 use Rattle.pm_simplex.specs.Lineality.{MarkLines, line_group}
 use Rattle.std.proofs.Common.{arith, inl, inr, subst, sym, ◌∙◌}
 use Rattle.std.proofs.lemmas.Bool.{cases_eq}
@@ -112,16 +112,16 @@ module _ (n : ℕ) (G L : List Row) (hG : HasCols n G) (hL : HasCols n L) where
                 | inr ne ↦ there (marked_at (slice_set M k false) G p.i p.within (set_keeps M k p.i false ne p.marked))
               ])
 
-      pub kept_out : (k : ℕ) → k < length G → IsKept lines M k → ¬ (S (opposite (row_at G k)))
+      pub kept_out : (k : ℕ) → k < length G → IsKeptRow lines M k → ¬ (S (opposite (row_at G k)))
       kept_out k l h o = h.1 ((marked.each k l).1 o)
 
-      pub kept_extreme : (k : ℕ) → k < length G → IsKept lines M k → IsExtreme n S (row_at G k)
+      pub kept_extreme : (k : ℕ) → k < length G → IsKeptRow lines M k → IsExtreme n S (row_at G k)
       unfolding rest
       kept_extreme k l h = extreme_as n (InCone (row_at G k ∷ rest k) L) S (λ x lx. split_to k l) (λ x lx. split_of k)
           (extreme n (rest k) L (row_at G k) (row_cols k l) (thin.needed k l h) (λ o. kept_out k l h (split_to k l o)))
 
       -- a row of the lineality needs no kept row
-      line_rest : (k : ℕ) → k < length G → IsKept lines M k → (x : Row) → S x → S (opposite x) → InCone (rest k) L x
+      line_rest : (k : ℕ) → k < length G → IsKeptRow lines M k → (x : Row) → S x → S (opposite x) → InCone (rest k) L x
       unfolding rest
       line_rest k l h x a b =
           let g = row_at G k in
@@ -130,7 +130,7 @@ module _ (n : ℕ) (G L : List Row) (hG : HasCols n G) (hL : HasCols n L) where
           (λ up. absurd (kept_out k l h (cs.part up (cs.same (record { at = λ i. simp (entry-times, entry-plus, entry-difference, entry-opposite, ring) (omega (arith, ints)) }) (cs.sum (cs.multiple (weaken w.positive) b) (split_to k l (in_more (rest k) L g w.rest)))))))
           (λ none. no_multiple n S cs L (rest k) g x w none)
 
-      pub kept_apart : (i j : ℕ) → i < length G → j < length G → ¬ (j ≡ i) → IsKept lines M i → IsKept lines M j → ¬ (SameModulo n S (row_at G i) (row_at G j))
+      pub kept_apart : (i j : ℕ) → i < length G → j < length G → ¬ (j ≡ i) → IsKeptRow lines M i → IsKeptRow lines M j → ¬ (SameModulo n S (row_at G i) (row_at G j))
       unfolding rest
       kept_apart i j li lj ne hi hj s =
           let w = line_rest i li hi (opposite s.w) s.line.opposed (cs.same (record { at = λ k. simp entry-opposite (omega (arith, ints)) }) s.line.inside) in
@@ -140,7 +140,7 @@ module _ (n : ℕ) (G L : List Row) (hG : HasCols n G) (hL : HasCols n L) where
       pub record IsLikeKept (r : Row) : Type 0 where
         pub i : ℕ
         pub within : i < length G
-        pub kept : IsKept lines M i
+        pub kept : IsKeptRow lines M i
         pub alike : SameModulo n S r (row_at G i)
 
       pub like_kept : (r : Row) → IsExtreme n S r → IsLikeKept r

@@ -1,4 +1,3 @@
-mod ValidCuts
 mod Programs
 pub mod Lifted
 mod Marked

@@ -13,7 +13,7 @@ use Rattle.pm_geom.proofs.Facets.{dot-opposite}
 use Rattle.pm_geom.proofs.Polar.{cols_at, cut_at, in_or_apart}
 use Rattle.pm_geom.specs.Cones.{CutOut, IsValid}
 use Rattle.pm_geom.specs.Programs.{IsInfeasible, IsPoint, Solves}
-use Rattle.pm_redund.proofs.ValidCuts.{valid_cut}
+use Rattle.pm_incidence.proofs.Polarity.{valid_cut}
 use Rattle.pm_simplex.specs.Generated.{equations_of, lifted, tied, turned}
 use Rattle.std.proofs.Common.{arith, inl, inr, refl, ◌∙◌}
 use Rattle.std.proofs.lemmas.Int.{ints}

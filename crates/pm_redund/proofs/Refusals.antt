@@ -10,14 +10,14 @@ use Rattle.pm_incidence.specs.declared.fails.ThinFail.{ThinFail}
 use Rattle.pm_incidence.specs.declared.fails.ThinFail.TheVariants.{Many, Memory, Wide}
 use Rattle.pm_object_type.specs.declared.object_type.ObjectType.{ObjectType}
 use Rattle.pm_redund.specs.Redundancy.{IsProgramFail}
-use Rattle.pm_redund.specs.Redundancy.{AreManyThinPlaces, AreThinPlaces, IsHalvesFail, IsRowsFail, IsThinFail}
+use Rattle.pm_redund.specs.Redundancy.{AreManyThinPlaces, AreIrredundantPlaces, IsHalvesFail, IsRowsFail, IsRedundancyFail}
 use Rattle.pm_simplex.specs.Lineality.{MarkLines, line_group}
 use Rattle.std.proofs.Common.{inl, inr, refl}
 use Rattle.std.specs.List.{Contains}
 use Rattle.std.specs.Prelude.{Bool, Err, IfErr, List, Ok, Result, [], ℕ, ◌++◌, ◌∷◌}
 
 -- evidence of a program is that of a pivot
-pub thin_of_program : (n : ℕ) (G L : List Row) (f : ThinFail) → IsProgramFail n G L f → IsThinFail n G L f
+pub thin_of_program : (n : ℕ) (G L : List Row) (f : ThinFail) → IsProgramFail n G L f → IsRedundancyFail n G L f
 thin_of_program n G L (Wide (E1 e)) h = absurd h.shown.shown
 thin_of_program n G L (Wide (E2 a b c d)) h = h
 thin_of_program n G L (Wide (E3 a b c d e)) h = h
@@ -29,7 +29,7 @@ thin_of_program n G L (Wide (E5Cells a b)) h = h
 thin_of_program n G L (Many e) h = absurd h
 thin_of_program n G L Memory h = tt
 
-pub halves_of_thin : (n : ℕ) (G L : List Row) (f : ThinFail) → IsThinFail n G L f → IsHalvesFail n G L f
+pub halves_of_thin : (n : ℕ) (G L : List Row) (f : ThinFail) → IsRedundancyFail n G L f → IsHalvesFail n G L f
 halves_of_thin n G L (Wide (E1 e)) h = h
 halves_of_thin n G L (Wide (E2 a b c d)) h = h
 halves_of_thin n G L (Wide (E3 a b c d e)) h = h
@@ -72,7 +72,7 @@ rows_of_program of n A E (Wide (E5Cells a b)) h = h
 rows_of_program of n A E (Many e) h = absurd h
 rows_of_program of n A E Memory h = tt
 
-pub thin_of_group : (n : ℕ) (G L : List Row) (lines : List Bool) → MarkLines G L lines → (f : ElimFail) → IfWide f (λ e. IsEvidence n (line_group G L lines) e) → IsThinFail n G L (thin_fail_of f)
+pub thin_of_group : (n : ℕ) (G L : List Row) (lines : List Bool) → MarkLines G L lines → (f : ElimFail) → IfWide f (λ e. IsEvidence n (line_group G L lines) e) → IsRedundancyFail n G L (thin_fail_of f)
 thin_of_group n G L lines m (elimination.Wide e) h = record { lines = lines; marked = m; rows = _; listed = inl refl; shown = h }
 thin_of_group n G L lines m elimination.Memory h = tt
 
@@ -80,7 +80,7 @@ pub reduction_of_elimination : (n : ℕ) (B G : List Row) (row : Row) (f : ElimF
 reduction_of_elimination n B G row (elimination.Wide e) c h = (row, c, h)
 reduction_of_elimination n B G row elimination.Memory c h = tt
 
-pub thin_of_reduction : (n : ℕ) (G L B : List Row) (P ks : List ℕ) → AreThinPlaces n G L B P ks → (f : ThinFail) → IsReductionFail n B G f → IsThinFail n G L f
+pub thin_of_reduction : (n : ℕ) (G L B : List Row) (P ks : List ℕ) → AreIrredundantPlaces n G L B P ks → (f : ThinFail) → IsReductionFail n B G f → IsRedundancyFail n G L f
 thin_of_reduction n G L B P ks t (Wide (E1 e)) h = record { lines = t.lines; marked = t.marked; rows = _; listed = inr (record { basis = B; pivots = P; is_basis = t.basis; row = h.0; listed = h.1; rows = refl }); shown = h.2 }
 thin_of_reduction n G L B P ks t (Wide (E2 a c d e)) h = absurd h
 thin_of_reduction n G L B P ks t (Wide (E3 a c d e f)) h = absurd h

@@ -8,7 +8,7 @@ use Rattle.pm_incidence.proofs.Described.{cone_apart}
 use Rattle.pm_incidence.specs.Examples.{pair}
 use Rattle.pm_incidence.specs.ThinExamples.{diagonal, x_axis, x_turned, y_axis}
 use Rattle.pm_redund.specs.Examples.{ProgramsAreRead, RedundancyIsRead, RefusalsAreRead, bits, fan_of_three}
-use Rattle.pm_redund.specs.Redundancy.{AreKeptPlaces, IsEnough, IsKept, IsRedundant, IsThinnedTo, LeavesNoPoint}
+use Rattle.pm_redund.specs.Redundancy.{AreKeptPlaces, IsEnough, IsKeptRow, IsRedundant, IsThinnedTo, LeavesNoPoint}
 use Rattle.pm_simplex.specs.Lineality.{MarkLines}
 use Rattle.pm_object_type.specs.declared.object_type.ObjectType.TheVariants.{Polytope}
 use Rattle.std.proofs.Common.{arith, refl}
@@ -93,7 +93,7 @@ few h = y_alone (h.all y_axis (in_generator (there (there here))))
 thinned_example : IsThinnedTo fan_of_three [] (bits false false false) 3 (bits true false true)
 thinned_example = record { enough = enough_example; needed = needed }
   where
-    needed : (k : ℕ) → k < 3 → IsKept (bits false false false) (bits true false true) k → ¬ (IsRedundant fan_of_three [] (bits true false true) k)
+    needed : (k : ℕ) → k < 3 → IsKeptRow (bits false false false) (bits true false true) k → ¬ (IsRedundant fan_of_three [] (bits true false true) k)
     needed zero l h r = x_alone r
     needed (suc zero) l h r = never h.0
     needed (suc (suc zero)) l h r = y_alone r
@@ -107,17 +107,17 @@ twice h = h.needed 1 (omega arith) (refl, never) (in_generator here)
 
 places_example : AreKeptPlaces fan_of_three (bits false false false) (bits true false true) (0 ∷ 2 ∷ [])
 places_example = record {
-  each = All_among (λ (i : ℕ). (i < 3) × IsKept (bits false false false) (bits true false true) i) (0 ∷ 2 ∷ []) each;
+  each = All_among (λ (i : ℕ). (i < 3) × IsKeptRow (bits false false false) (bits true false true) i) (0 ∷ 2 ∷ []) each;
   every = every;
   ascending = AllPairs_cons (λ (i j : ℕ). i < j) 0 (2 ∷ []) less (AllPairs_cons (λ (i j : ℕ). i < j) 2 [] (λ y i. elim i [ ]) (λ i j d l m. absurd (omega arith)));
 }
   where
-    each : (i : ℕ) → Among i (0 ∷ 2 ∷ []) → (i < 3) × IsKept (bits false false false) (bits true false true) i
+    each : (i : ℕ) → Among i (0 ∷ 2 ∷ []) → (i < 3) × IsKeptRow (bits false false false) (bits true false true) i
     each i here = (omega arith, (refl, never))
     each i (there here) = (omega arith, (refl, never))
     each i (there (there j)) = elim j [ ]
 
-    every : (i : ℕ) → i < 3 → IsKept (bits false false false) (bits true false true) i → Contains (0 ∷ 2 ∷ []) i
+    every : (i : ℕ) → i < 3 → IsKeptRow (bits false false false) (bits true false true) i → Contains (0 ∷ 2 ∷ []) i
     every zero l h = Contains_among (here {xs = 2 ∷ []})
     every (suc zero) l h = never h.0
     every (suc (suc zero)) l h = Contains_among (there {y = 0} (here {xs = []}))

@@ -7,7 +7,7 @@ use Rattle.pm_vector.proofs.Spans.{place_of}
 use Rattle.pm_vector.specs.Bases.{row_at}
 use Rattle.pm_geom.specs.StatedOrder.{rows_marked}
 use Rattle.pm_redund.proofs.Marked.{IsMore, at_marked, cone_of_marked, marked_at, marked_below, more_cone, set_keeps, set_kept, set_less, set_more, set_off}
-use Rattle.pm_redund.specs.Redundancy.{IsEnough, IsKept, IsThinnedTo}
+use Rattle.pm_redund.specs.Redundancy.{IsEnough, IsKeptRow, IsThinnedTo}
 use Rattle.pm_simplex.specs.Lineality.{MarkLines}
 use Rattle.std.proofs.Common.{arith, inl, inr, refl, subst, sym, ◌∙◌}
 use Rattle.std.proofs.Math.Seq.{get_or-append_seam}
@@ -50,16 +50,16 @@ module _ (G L : List Row) where
     pub thinned_none : (M : List Bool) → IsEnough G L M → IsThinnedTo G L lines 0 M
     thinned_none M e = record { enough = e; needed = λ k l h. absurd (omega arith) }
 
-    pub thinned_skip : (M : List Bool) (i : ℕ) → ¬ (IsKept lines M i) → IsThinnedTo G L lines i M → IsThinnedTo G L lines (i + 1) M
+    pub thinned_skip : (M : List Bool) (i : ℕ) → ¬ (IsKeptRow lines M i) → IsThinnedTo G L lines i M → IsThinnedTo G L lines (i + 1) M
     thinned_skip M i never t = record {
       enough = t.enough;
       needed = λ k l h. elim (cases_eq k i) [
-        | inl e ↦ absurd (never (subst (λ (j : ℕ). IsKept lines M j) e h))
+        | inl e ↦ absurd (never (subst (λ (j : ℕ). IsKeptRow lines M j) e h))
         | inr ne ↦ t.needed k (omega arith) h
       ];
     }
 
-    module _ (M : List Bool) (i : ℕ) (l : i < length G) (kept : IsKept lines M i) (t : IsThinnedTo G L lines i M) where
+    module _ (M : List Bool) (i : ℕ) (l : i < length G) (kept : IsKeptRow lines M i) (t : IsThinnedTo G L lines i M) where
       below : i < length M
       below = let e = t.enough.as_many in omega arith
 
@@ -77,7 +77,7 @@ module _ (G L : List Row) where
                 | inr ne ↦ in_generator (marked_at (slice_set M i false) G p.i p.within (set_keeps M i p.i false ne p.marked))
               ])
 
-          needed : (k : ℕ) → k < i + 1 → IsKept lines (slice_set M i false) k → ¬ (InCone (rows_marked true (slice_set (slice_set M i false) k false) G) L (row_at G k))
+          needed : (k : ℕ) → k < i + 1 → IsKeptRow lines (slice_set M i false) k → ¬ (InCone (rows_marked true (slice_set (slice_set M i false) k false) G) L (row_at G k))
           needed k lk hk r = elim (cases_eq k i) [
             | inl e ↦ set_off M i below (subst (λ (j : ℕ). IsTrue (get_or (slice_set M i false) j false)) e hk.0)
             | inr ne ↦
@@ -104,7 +104,7 @@ module _ (G L : List Row) where
             | inr ne ↦ set_kept M i j true ne h
           ]
 
-          needed : (k : ℕ) → k < i + 1 → IsKept lines (slice_set M i true) k → ¬ (InCone (rows_marked true (slice_set (slice_set M i true) k false) G) L (row_at G k))
+          needed : (k : ℕ) → k < i + 1 → IsKeptRow lines (slice_set M i true) k → ¬ (InCone (rows_marked true (slice_set (slice_set M i true) k false) G) L (row_at G k))
           needed k lk hk r = elim (cases_eq k i) [
             | inl e ↦ never (subst (λ (N : List Bool). InCone (rows_marked true N G) L (row_at G i)) (set-set M i true false) (subst (λ (j : ℕ). InCone (rows_marked true (slice_set (slice_set M i true) j false) G) L (row_at G j)) e r))
             | inr ne ↦

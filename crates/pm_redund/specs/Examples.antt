@@ -6,7 +6,7 @@ use Rattle.pm_incidence.specs.ThinExamples.{diagonal, large, larger, x_axis, x_t
 use Rattle.pm_incidence.specs.declared.fails.ThinFail.TheVariants.{Many, Memory, Wide}
 use Rattle.pm_object_type.specs.declared.object_type.ObjectType.TheVariants.{Cone, Polytope}
 use Rattle.pm_simplex.specs.Generated.{equations_of, lifted, no_objective, tied, turned}
-use Rattle.pm_redund.specs.Redundancy.{AreKeptPlaces, IsEnough, IsRedundant, IsRowsFail, IsThinFail, IsThinnedTo, LeavesNoPoint}
+use Rattle.pm_redund.specs.Redundancy.{AreKeptPlaces, IsEnough, IsRedundant, IsRowsFail, IsRedundancyFail, IsThinnedTo, LeavesNoPoint}
 use Rattle.pm_simplex.specs.Lineality.{MarkLines, line_group}
 use Rattle.std.specs.Prelude.{Bool, List, [], false, true, ◌∷◌, ◌≡◌}
 use lib.IntN.{ℤ, negsuc, pos}
@@ -30,7 +30,8 @@ pub record ProgramsAreRead : Type 0 where
   pub tied_itself : tied false diagonal ≡ triple (pos 1) (pos 1) (pos 1)
   pub tied_opposed : tied true diagonal ≡ triple (negsuc 0) (pos 1) (pos 1)
   -- the equations of the lines come first
-  pub equations : equations_of (y_axis ∷ []) false x_axis ≡ triple (pos 0) (pos 0) (pos 1) ∷ triple (pos 1) (pos 1) (pos 0) ∷ []
+  pub equations : equations_of (y_axis ∷ []) false x_axis
+      ≡ triple (pos 0) (pos 0) (pos 1) ∷ triple (pos 1) (pos 1) (pos 0) ∷ []
   pub objective : no_objective 2 ≡ ratio_of (pos 0) (pos 1) ∷ ratio_of (pos 0) (pos 1) ∷ []
 
 pub record RedundancyIsRead : Type 0 where
@@ -60,7 +61,7 @@ pub record RefusalsAreRead : Type 0 where
   pub point : ¬ (LeavesNoPoint Polytope 1 [] [])
   pub cone : ¬ (LeavesNoPoint Cone 1 ((negsuc 0 ∷ []) ∷ []) [])
   -- want of memory needs no evidence; a product of two rows is none, and no places are too many
-  pub memory : IsThinFail 2 [] [] Memory
-  pub product : ¬ (IsThinFail 2 (large ∷ []) [] (Wide (E4 large larger)))
-  pub many : ¬ (IsThinFail 2 (large ∷ []) [] (Many (E5Rows [])))
+  pub memory : IsRedundancyFail 2 [] [] Memory
+  pub product : ¬ (IsRedundancyFail 2 (large ∷ []) [] (Wide (E4 large larger)))
+  pub many : ¬ (IsRedundancyFail 2 (large ∷ []) [] (Many (E5Rows [])))
   pub few_rows : ¬ (IsRowsFail Cone 2 (large ∷ []) [] (Many (E5Rows (0 ∷ []))))

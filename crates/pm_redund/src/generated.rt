@@ -79,11 +79,12 @@ pub(crate) fn is_generated(
     requires row_cols { HasCols cols rows.now }
     requires line_cols { HasCols cols lines.now }
     requires listed { Contains rows.now row.now }
-    requires few_rows { length rows.now < 2 ^ 29 }
-    requires few_lines { length lines.now < 2 ^ 29 }
-    requires few_columns { cols < 2 ^ 29 }
+    requires few_rows { length rows.now ≤ 2 ^ 30 }
+    requires few_lines { length lines.now < 2 ^ 30 }
+    requires few_columns { cols < 2 ^ 30 }
     requires marks { length marks.now ≤ length rows.now }
-    ensures generated { IfOk result (λ b. IsTrue b ↔ InCone (rows_marked true marks.now rows.now) lines.now (turned opposed row.now)) }
+    ensures generated { IfOk result (λ b. IsTrue b
+        ↔ InCone (rows_marked true marks.now rows.now) lines.now (turned opposed row.now)) }
     ensures failed { IfErr result (IsProgramFail cols rows.now lines.now) }
 {
     let kept = lifted_rows(alloc, rows, marks)?;

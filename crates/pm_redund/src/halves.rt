@@ -3,64 +3,24 @@
 ghost use Rattle.pm_vector.specs.Cones.{InCone};
 ghost use Rattle.pm_vector.specs.Rows.{HasCols, Row};
 ghost use Rattle.pm_vector.specs.Bases.{IsEchelonBasis};
-ghost use Rattle.pm_elim.specs.Evidence.{unit};
 ghost use Rattle.pm_geom.specs.Cones.{IsValid};
 ghost use Rattle.pm_geom.specs.Generators.{AreGenerators};
 ghost use Rattle.pm_incidence.specs.Thinning.{half_spaces};
 ghost use Rattle.pm_redund.specs.Redundancy.{IsEnough, IsHalvesFail, IsRowsFail};
 ghost use Rattle.pm_simplex.specs.Lineality.{MarkLines};
 ghost use Rattle.pm_types.specs.Right.{CutsOutOf};
-ghost use Rattle.std.specs.List.{All, range_with_len};
-ghost use Rattle.std.specs.Prelude.{IfErr, IfOk, IsTrue, List, false, get_or, length, map, pred, ℕ, ◌<◌, ◌^◌, ◌≡◌, ◌≤◌, ◌↔◌, ◌≢◌};
+ghost use Rattle.std.specs.List.{All};
+ghost use Rattle.std.specs.Prelude.{IfErr, IfOk, IsTrue, List, false, get_or, length, pred, ℕ, ◌<◌, ◌^◌, ◌≡◌, ◌≤◌, ◌↔◌, ◌≢◌};
 
 use crate::keep::{enough_marks, line_marks};
-use crate::thinned::{kept_of, thinned_rows};
-use pm_elim::copies;
+use crate::thinned::kept_of;
 use pm_geom::descriptions::Facets;
 use pm_geom::{Evidence, Places};
-use pm_incidence::ThinFail;
+use pm_incidence::{ThinFail, half_spaces, thinned_rows, unit_rows};
 use pm_limits::MOST_ROWS;
 use pm_props::ObjectType;
 use pm_vector::Ints;
 use std::alloc::{AllocError, Global};
-
-/// The row that is 1 in a column and 0 elsewhere.
-fn unit_row(alloc: Global, cols: usize, column: usize) -> Result<Ints, AllocError>
-    requires { column < cols }
-    ensures { IfOk result (λ r. r ≡ unit cols column) }
-{
-    let mut entries = vec![in alloc; 0i128; cols]?;
-    entries[column] = 1;
-    Ok(Ints::from_vec(entries))
-}
-
-/// All unit rows: the echelon basis of all rows.
-fn unit_rows(alloc: Global, cols: usize) -> Result<Vec<Ints>, AllocError>
-    ensures { IfOk result (λ v. v.items ≡ map (unit cols) (range_with_len 0 cols)) }
-{
-    let mut made = Vec::new(alloc);
-    for column in 0..cols {
-        made.push(unit_row(alloc, cols, column)?)?;
-    }
-    Ok(made)
-}
-
-/// The half-spaces of a thing as they are taken: those of a polytope end with the row (1, 0, .., 0).
-fn half_spaces(
-    alloc: Global,
-    of: ObjectType,
-    cols: usize,
-    rows: &[Ints],
-) -> Result<Vec<Ints>, AllocError>
-    requires { 0 < cols }
-    ensures { IfOk result (λ v. v.items ≡ half_spaces of cols rows.now) }
-{
-    let mut made = copies(alloc, rows)?;
-    if of == ObjectType::Polytope {
-        made.push(unit_row(alloc, cols, 0)?)?;
-    }
-    Ok(made)
-}
 
 /// Whether the last mark is set.
 fn is_last_marked(marks: &[bool]) -> bool
@@ -94,12 +54,13 @@ fn thin_halves(
 ) -> Result<Facets, ThinFail>
     requires half_cols { HasCols cols halves.now }
     requires equation_cols { HasCols cols equations.now }
-    requires few_halves { length halves.now < 2 ^ 29 }
-    requires few_equations { length equations.now < 2 ^ 29 }
-    requires few_columns { cols < 2 ^ 29 }
+    requires few_halves { length halves.now ≤ 2 ^ 30 }
+    requires few_equations { length equations.now < 2 ^ 30 }
+    requires few_columns { cols < 2 ^ 30 }
     requires marked { MarkLines halves.now equations.now line_marks.now }
     requires enough { IsEnough halves.now equations.now enough.items }
-    ensures generators { IfOk result (λ f. AreGenerators cols (InCone halves.now equations.now) f.facets.items f.hull.items) }
+    ensures generators { IfOk result (λ f.
+        AreGenerators cols (InCone halves.now equations.now) f.facets.items f.hull.items) }
     ensures cols { IfOk result (λ f. HasCols cols f.facets.items) }
     ensures few { IfOk result (λ f. length f.facets.items ≤ MOST_ROWS) }
     ensures echelon { IfOk result (λ f. (P : List ℕ) × IsEchelonBasis cols f.hull.items P) }
@@ -109,7 +70,7 @@ fn thin_halves(
     if kept.places.len() > MOST_ROWS {
         return Err(too_many(alloc, &kept.places)?);
     }
-    let facets = thinned_rows(alloc, cols, halves, &kept.basis, &kept.places)?;
+    let facets = thinned_rows(alloc, cols, halves, &kept.basis, &kept.places, false)?;
     Ok(Facets {
         facets,
         hull: kept.basis.rows,
@@ -117,8 +78,10 @@ fn thin_halves(
 }
 
 /// All facet rows of a thing among half-spaces that describe it, and the echelon basis of the rows that vanish on it.
-/// The facet rows are primitive, with zeros in the pivot columns of that basis, each once and in lexicographic order; there are at most `MOST_ROWS` of them.
-/// `Wide` only with evidence: E1 on the rows that vanish and then the reduced row, E3 on the program of a half-space. `Many` only with more than `MOST_ROWS` facet rows among the half-spaces (E5).
+/// The facet rows are primitive, with zeros in the pivot columns of that basis, each once and in lexicographic order;
+/// there are at most `MOST_ROWS` of them.
+/// `Wide` only with evidence: E1 on the rows that vanish and then the reduced row, E3 on the program of a half-space.
+/// `Many` only with more than `MOST_ROWS` facet rows among the half-spaces (E5).
 pub fn thin_rows(
     alloc: Global,
     of: ObjectType,
@@ -129,10 +92,10 @@ pub fn thin_rows(
     requires no_fan { of ≢ ObjectType.Fan }
     requires row_cols { HasCols cols rows.now }
     requires equation_cols { HasCols cols equations.now }
-    requires few_rows { length rows.now < 2 ^ 28 }
-    requires few_equations { length equations.now < 2 ^ 28 }
+    requires few_rows { length rows.now < 2 ^ 30 }
+    requires few_equations { length equations.now < 2 ^ 30 }
     requires some_columns { 0 < cols }
-    requires few_columns { cols < 2 ^ 28 }
+    requires few_columns { cols < 2 ^ 30 }
     ensures facets { IfOk result (λ f. (G L : List Row) → HasCols cols G → HasCols cols L
         → CutsOutOf of cols (InCone G L) rows.now equations.now
         → AreGenerators cols (IsValid cols G L) f.facets.items f.hull.items) }

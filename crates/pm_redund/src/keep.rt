@@ -2,7 +2,7 @@
 
 ghost use Rattle.pm_vector.specs.Rows.{HasCols};
 ghost use Rattle.pm_redund.specs.Redundancy.{IsProgramFail};
-ghost use Rattle.pm_redund.specs.Redundancy.{AreKeptPlaces, IsEnough, IsKept, IsThinnedTo};
+ghost use Rattle.pm_redund.specs.Redundancy.{AreKeptPlaces, IsEnough, IsKeptRow, IsThinnedTo};
 ghost use Rattle.pm_simplex.specs.Lineality.{MarkLines};
 ghost use Rattle.std.specs.Prelude.{IfErr, IfOk, IsTrue, OnOk, length, ◌+◌, ◌<◌, ◌^◌, ◌≡◌, ◌≤◌, ◌↔◌};
 
@@ -20,9 +20,9 @@ pub(crate) fn enough_marks(
 ) -> Result<Vec<bool>, ThinFail>
     requires row_cols { HasCols cols rows.now }
     requires line_cols { HasCols cols lines.now }
-    requires few_rows { length rows.now < 2 ^ 29 }
-    requires few_lines { length lines.now < 2 ^ 29 }
-    requires few_columns { cols < 2 ^ 29 }
+    requires few_rows { length rows.now ≤ 2 ^ 30 }
+    requires few_lines { length lines.now < 2 ^ 30 }
+    requires few_columns { cols < 2 ^ 30 }
     ensures enough { IfOk result (λ m. IsEnough rows.now lines.now m.items) }
     ensures failed { IfErr result (IsProgramFail cols rows.now lines.now) }
 {
@@ -44,9 +44,9 @@ pub(crate) fn line_marks(
 ) -> Result<Vec<bool>, ThinFail>
     requires row_cols { HasCols cols rows.now }
     requires line_cols { HasCols cols lines.now }
-    requires few_rows { length rows.now < 2 ^ 29 }
-    requires few_lines { length lines.now < 2 ^ 29 }
-    requires few_columns { cols < 2 ^ 29 }
+    requires few_rows { length rows.now ≤ 2 ^ 30 }
+    requires few_lines { length lines.now < 2 ^ 30 }
+    requires few_columns { cols < 2 ^ 30 }
     requires enough { IsEnough rows.now lines.now enough.now }
     ensures marked { IfOk result (λ m. MarkLines rows.now lines.now m.items) }
     ensures failed { IfErr result (IsProgramFail cols rows.now lines.now) }
@@ -63,7 +63,7 @@ pub(crate) fn line_marks(
 fn is_kept(line_marks: &[bool], marks: &[bool], i: usize) -> bool
     requires line_marks { i < length line_marks.now }
     requires marks { i < length marks.now }
-    ensures { IsTrue result ↔ IsKept line_marks.now marks.now i }
+    ensures { IsTrue result ↔ IsKeptRow line_marks.now marks.now i }
 {
     marks[i] && !line_marks[i]
 }
@@ -80,9 +80,9 @@ fn thin_at(
 ) -> Result<(), ThinFail>
     requires row_cols { HasCols cols rows.now }
     requires line_cols { HasCols cols lines.now }
-    requires few_rows { length rows.now < 2 ^ 29 }
-    requires few_lines { length lines.now < 2 ^ 29 }
-    requires few_columns { cols < 2 ^ 29 }
+    requires few_rows { length rows.now ≤ 2 ^ 30 }
+    requires few_lines { length lines.now < 2 ^ 30 }
+    requires few_columns { cols < 2 ^ 30 }
     requires line_marks { length line_marks.now ≡ length rows.now }
     requires place { i < length rows.now }
     requires thinned { IsThinnedTo rows.now lines.now line_marks.now i marks.old.items }
@@ -109,12 +109,13 @@ pub(crate) fn thin_marks(
 ) -> Result<Vec<bool>, ThinFail>
     requires row_cols { HasCols cols rows.now }
     requires line_cols { HasCols cols lines.now }
-    requires few_rows { length rows.now < 2 ^ 29 }
-    requires few_lines { length lines.now < 2 ^ 29 }
-    requires few_columns { cols < 2 ^ 29 }
+    requires few_rows { length rows.now ≤ 2 ^ 30 }
+    requires few_lines { length lines.now < 2 ^ 30 }
+    requires few_columns { cols < 2 ^ 30 }
     requires line_marks { length line_marks.now ≡ length rows.now }
     requires enough { IsEnough rows.now lines.now enough.items }
-    ensures thinned { IfOk result (λ m. IsThinnedTo rows.now lines.now line_marks.now (length rows.now) m.items) }
+    ensures thinned { IfOk result (λ m.
+        IsThinnedTo rows.now lines.now line_marks.now (length rows.now) m.items) }
     ensures failed { IfErr result (IsProgramFail cols rows.now lines.now) }
 {
     let mut marks = enough;

@@ -1,4 +1,5 @@
-//! Redundant rows by linear programs (Schrijver, Theory of Linear and Integer Programming, section 8.1): the vertices among points, and the facet rows among inequalities.
+//! Redundant rows by linear programs (Schrijver, Theory of Linear and Integer Programming, section 8.1): the vertices
+//! among points, and the facet rows among inequalities. It knows nothing of objects, rules and clients.
 #![tactic(auto)]
 
 ghost use Rattle.pm_redund.specs.Examples.{ProgramsAreRead, RedundancyIsRead, RefusalsAreRead};

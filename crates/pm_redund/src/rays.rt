@@ -4,20 +4,22 @@ ghost use Rattle.pm_vector.specs.Cones.{InCone};
 ghost use Rattle.pm_vector.specs.Rows.{HasCols};
 ghost use Rattle.pm_vector.specs.Bases.{IsEchelonBasis};
 ghost use Rattle.pm_geom.specs.Generators.{AreGenerators};
-ghost use Rattle.pm_redund.specs.Redundancy.{IsThinFail};
+ghost use Rattle.pm_redund.specs.Redundancy.{IsRedundancyFail};
 ghost use Rattle.std.specs.Prelude.{IfErr, IfOk, List, length, ℕ, ◌<◌, ◌^◌, ◌≤◌};
 
 use crate::keep::{enough_marks, line_marks};
-use crate::thinned::{kept_of, thinned_rows};
+use crate::thinned::kept_of;
 use pm_geom::descriptions::Generators;
-use pm_incidence::ThinFail;
+use pm_incidence::{ThinFail, thinned_rows};
 use pm_props::ObjectType;
 use pm_vector::Ints;
 use std::alloc::Global;
 
-/// All extreme rays of the cone that rays and lines generate, and the echelon basis of its lineality. Rays of a polytope are taken as those of a cone are.
+/// All extreme rays of the cone that rays and lines generate, and the echelon basis of its lineality. Rays of a
+/// polytope are taken as those of a cone are.
 /// The rays are primitive, with zeros in the pivot columns of that basis, each once and in lexicographic order.
-/// `Wide` only with evidence: E1 on the rows of the lineality and then the reduced row, E3 on the program of a ray; `Many` never.
+/// `Wide` only with evidence: E1 on the rows of the lineality and then the reduced row, E3 on the program of a ray;
+/// `Many` never.
 pub fn thin_rays(
     alloc: Global,
     _of: ObjectType,
@@ -27,19 +29,20 @@ pub fn thin_rays(
 ) -> Result<Generators, ThinFail>
     requires ray_cols { HasCols cols rays.now }
     requires line_cols { HasCols cols lineality.now }
-    requires few_rays { length rays.now < 2 ^ 28 }
-    requires few_lines { length lineality.now < 2 ^ 28 }
-    requires few_columns { cols < 2 ^ 28 }
-    ensures generators { IfOk result (λ g. AreGenerators cols (InCone rays.now lineality.now) g.rays.items g.lineality.items) }
+    requires few_rays { length rays.now < 2 ^ 30 }
+    requires few_lines { length lineality.now < 2 ^ 30 }
+    requires few_columns { cols < 2 ^ 30 }
+    ensures generators { IfOk result (λ g.
+        AreGenerators cols (InCone rays.now lineality.now) g.rays.items g.lineality.items) }
     ensures cols { IfOk result (λ g. HasCols cols g.rays.items) }
     ensures few { IfOk result (λ g. length g.rays.items ≤ length rays.now) }
     ensures echelon { IfOk result (λ g. (P : List ℕ) × IsEchelonBasis cols g.lineality.items P) }
-    ensures failed { IfErr result (IsThinFail cols rays.now lineality.now) }
+    ensures failed { IfErr result (IsRedundancyFail cols rays.now lineality.now) }
 {
     let enough = enough_marks(alloc, cols, rays, lineality)?;
     let lines = line_marks(alloc, cols, rays, lineality, &enough)?;
     let kept = kept_of(alloc, cols, rays, lineality, &lines, enough)?;
-    let thin = thinned_rows(alloc, cols, rays, &kept.basis, &kept.places)?;
+    let thin = thinned_rows(alloc, cols, rays, &kept.basis, &kept.places, false)?;
     Ok(Generators {
         rays: thin,
         lineality: kept.basis.rows,

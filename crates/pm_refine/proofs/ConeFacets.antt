@@ -21,7 +21,7 @@ module _ {A : Type 0} (items : A → List Row) (n : ℕ) (cones : List A) (lines
   within : i < length (map items cones)
   within = let e = map_length items cones in omega arith
 
-  pub cone_item : IsSmallFan n (fan_from (map items cones) lines) → HasCols n (items x) × (length (items x) < 2 ^ 28)
+  pub cone_item : IsSmallFan n (fan_from (map items cones) lines) → HasCols n (items x) × (length (items x) < 2 ^ 30)
   cone_item s = cone_small n (fan_from (map items cones) lines) s i (items x) within same
 
   pub cone_more : (C all : List CutRows) (F H : List Row) → AreFacetsSoFar n (fan_from (map items cones) lines) i C → AreFacets n (items x) lines F H → length F ≤ most_rows → all ≡ C ++ record { facets = F; hull = H } ∷ [] → AreFacetsSoFar n (fan_from (map items cones) lines) (i + 1) all

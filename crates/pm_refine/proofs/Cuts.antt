@@ -110,5 +110,5 @@ pub facets_all : (n : ℕ) (f : Fan) (i : ℕ) (C : List CutRows) → i ≡ leng
 facets_all n f i C e so = record { as_many = so.as_many ∙ e; each = λ k l. so.each k (omega arith) }
 
 -- the cone at a place has few rows of n entries
-pub cone_small : (n : ℕ) (f : Fan) → IsSmallFan n f → (i : ℕ) (G : List Row) → i < length f.cones → G ≡ cone_at f i → HasCols n G × (length G < 2 ^ 28)
-cone_small n f s i G l e = subst (λ X. HasCols n X × (length X < 2 ^ 28)) (sym e) (s.cones i [] l, s.few_rays i [] l)
+pub cone_small : (n : ℕ) (f : Fan) → IsSmallFan n f → (i : ℕ) (G : List Row) → i < length f.cones → G ≡ cone_at f i → HasCols n G × (length G < 2 ^ 30)
+cone_small n f s i G l e = subst (λ X. HasCols n X × (length X < 2 ^ 30)) (sym e) (s.cones i [] l, s.few_rays i [] l)

@@ -1,7 +1,7 @@
 -- The definitions read on two lines in the plane and on the two rays of the line.
+use Rattle.pm_geom.proofs.SmallProducts.{four_stays}
 use Rattle.pm_vector.proofs.Lists.{All_among, Among, Contains_among, among_Contains, here, there}
-use Rattle.pm_vector.specs.Numbers.{InRange}
-use Rattle.pm_vector.specs.Rows.{HasCols, Row, dot, entry}
+use Rattle.pm_vector.specs.Rows.{HasCols, Row, entry}
 use Rattle.pm_geom.specs.ThingExamples.{left, right}
 use Rattle.pm_geom.specs.declared.evidence.Evidence.TheVariants.{E4}
 use Rattle.pm_laws_normal_fans.proofs.ExampleIntersections.{all_listed, kept}
@@ -13,12 +13,11 @@ use Rattle.pm_refine.specs.Examples.{FailsAreRead, RefinedAreRead, StepsAreRead}
 use Rattle.pm_refine.specs.Fails.{IsRefineFail, IsShownBy}
 use Rattle.pm_refine.specs.Refined.{AreRaySets, IsRaySet}
 use Rattle.pm_refine.specs.declared.fails.RefineFail.TheVariants.{NotMade}
-use Rattle.pm_vector.specs.Products.{ProductsStay}
 use Rattle.std.proofs.Common.{ap, arith, inl, inr, refl}
 use Rattle.std.proofs.lemmas.Int.{ints}
 use Rattle.std.specs.List.{Contains}
-use Rattle.std.specs.Prelude.{List, [], length, suc, take, zero, ℕ, ◌<◌, ◌∷◌, ◌≡◌}
-use lib.IntN.{pos, ◌*ℤ◌}
+use Rattle.std.specs.Prelude.{List, [], length, ℕ, ◌<◌, ◌∷◌, ◌≡◌}
+use lib.IntN.{pos}
 
 pub steps_are_read : StepsAreRead
 steps_are_read = record {
@@ -50,7 +49,7 @@ not_left s = not_left_there ((s.places 0 (omega arith)).0 (Contains_among (here 
 not_both : ¬ (IsRaySet (left ∷ right ∷ []) in_right (0 ∷ 1 ∷ []))
 not_both s = not_left_there ((s.places 0 (omega arith)).0 (Contains_among (here {xs = 1 ∷ []})))
 
-one_column : (G : List Row) → Among G ((right ∷ []) ∷ (left ∷ []) ∷ []) → HasCols 1 G × (length G < 268435456)
+one_column : (G : List Row) → Among G ((right ∷ []) ∷ (left ∷ []) ∷ []) → HasCols 1 G × (length G < 1073741824)
 one_column G here = ((refl, tt), omega arith)
 one_column G (there here) = ((refl, tt), omega arith)
 one_column G (there (there i)) = elim i [ ]
@@ -60,7 +59,7 @@ small = record {
   cones = All_among (HasCols 1) ((right ∷ []) ∷ (left ∷ []) ∷ []) (λ G i. (one_column G i).0);
   lines = tt;
   few_cones = omega arith;
-  few_rays = All_among (λ (G : List Row). length G < 268435456) ((right ∷ []) ∷ (left ∷ []) ∷ []) (λ G i. (one_column G i).1);
+  few_rays = All_among (λ (G : List Row). length G < 1073741824) ((right ∷ []) ∷ (left ∷ []) ∷ []) (λ G i. (one_column G i).1);
   few_lines = omega arith;
 }
 
@@ -93,18 +92,6 @@ refined_are_read = record {
 }
 
 -- ---- refusals
-four_stays : ProductsStay (pos 2 ∷ []) (pos 2 ∷ [])
-four_stays = record { products = products; sums = sums }
-  where
-    products : (i : ℕ) → InRange (entry (pos 2 ∷ []) i *ℤ entry (pos 2 ∷ []) i)
-    products zero = omega arith
-    products (suc i) = omega arith
-
-    sums : (k : ℕ) → InRange (dot (take k (pos 2 ∷ [])) (take k (pos 2 ∷ [])))
-    sums zero = omega arith
-    sums (suc zero) = omega arith
-    sums (suc (suc k)) = omega arith
-
 not_shown : (n : ℕ) (L G : List Row) → IsShownBy n L G (E4 (pos 2 ∷ []) (pos 2 ∷ [])) → ⊥
 not_shown n L G h = elim h [
   | inl a ↦ elim a [ inl k ↦ k | inr k ↦ k.2 ]

@@ -8,7 +8,6 @@ pub mod Kept
 pub mod Outcomes
 pub mod RaysMade
 pub mod RefinedForms
-pub mod Taken
 pub mod Tests
 pub mod ObjectFans
 pub mod ObjectRefinements

@@ -5,43 +5,21 @@ use Rattle.pm_vector.specs.Numbers.{Ratio}
 use Rattle.pm_vector.specs.Rows.{HasCols, Row}
 use Rattle.pm_laws_normal_fans.proofs.Places.{among_at, map_length, place_at}
 use Rattle.pm_matrix.specs.FractionRows.{ArePrimitiveRowsOf}
-use Rattle.pm_object.proofs.KnownValues.{formed_is, held_forms, rows_cols, rows_few}
-use Rattle.pm_object.specs.Formed.{IsFormed}
+use Rattle.pm_object.proofs.KnownValues.{formed_is, rows_cols, rows_few}
 use Rattle.pm_object.specs.Known.{IsOfRows}
-use Rattle.pm_types.specs.Parts.{sets_in}
-use Rattle.pm_object.specs.State.{State, cols_of, read_at, value_of}
 use Rattle.pm_object_type.specs.declared.object_type.ObjectType.{ObjectType}
 use Rattle.pm_props.specs.declared.property.PropId.{PropId}
 use Rattle.pm_props.specs.declared.property.PropId.TheVariants.{MaximalCones}
 use Rattle.pm_refine.specs.CutRows.{IsSmallFan, fan_from}
 use Rattle.pm_refine.specs.ObjectFans.{rays_at}
-use Rattle.pm_types.specs.Forms.{FormsIn, are_indices, is_column_count, is_formed, is_matrix_form, is_row_of_entries, is_sets_form}
-use Rattle.pm_types.specs.Values.{PropertyValue, matrix, sets}
-use Rattle.std.proofs.Common.{ap, arith, false, refl, subst, suc, sym, true, true≢false, ◌∙◌}
+use Rattle.pm_types.specs.Forms.{FormsIn, are_indices, is_column_count, is_matrix_form, is_row_of_entries}
+use Rattle.pm_types.specs.Values.{matrix, sets}
+use Rattle.std.proofs.Common.{ap, arith, refl, subst, suc, sym, true, ◌∙◌}
 use Rattle.std.proofs.lemmas.Bool.{and_parts, eqb-true, leb-true, ltb-true}
 use Rattle.std.proofs.lemmas.List.Sums.{AllPass-from_list_all}
 use Rattle.std.specs.List.{All, list_all, slice_index_or}
-use Rattle.std.specs.Option.{is_some}
-use Rattle.std.specs.Prelude.{Bool, List, None, Some, [], length, map, nat_le, nat_lt, ℕ, ◌&&◌, ◌+◌, ◌<◌, ◌^◌, ◌∷◌, ◌≡◌, ◌≤◌}
+use Rattle.std.specs.Prelude.{List, [], length, map, nat_le, nat_lt, ℕ, ◌&&◌, ◌+◌, ◌<◌, ◌^◌, ◌∷◌, ◌≡◌, ◌≤◌}
 use Rattle.pm_limits.specs.Limits.{most_rows}
-
--- ---- the value of MAXIMAL_CONES
-abbrev formed_sets : PropertyValue → Bool
-formed_sets (sets rows n) = is_sets_form rows n
-formed_sets v = false
-
-cones_formed : (v : PropertyValue) → is_formed MaximalCones v ≡ formed_sets v
-cones_formed (sets rows n) = refl
-cones_formed v = refl
-
-some_sets : (v : PropertyValue) → formed_sets v ≡ true → is_some (sets_in v) ≡ true
-some_sets (sets rows n) h = refl
-some_sets v h = absurd (true≢false (sym h))
-
-pub no_cones_read : (o : State) (v : PropertyValue) → IsFormed o → is_some (cols_of o.held) ≡ true → Some v ≡ value_of MaximalCones (read_at None o.held) → None ≡ sets_in v → ⊥
-no_cones_read o v f k e none =
-    let forms = held_forms o MaximalCones v f k (sym e) in
-    true≢false (sym (some_sets v (sym (cones_formed v) ∙ forms.formed)) ∙ sym (ap is_some none))
 
 -- the sets, as they are formed
 pub record AreFormedSets (rows : List (List ℕ)) (n : ℕ) : Type 0 where
@@ -119,7 +97,7 @@ small_fan n m V L rows hv hl few e f = record {
   cones = mapped_all (HasCols n) (rays_at V) rows (λ s i. rays_cols n V s hv (λ j k. subst (λ z. j < z) e (indices_within m 0 s (formed s i) j k)));
   lines = hl;
   few_cones = (let l = map_length (rays_at V) rows in let c = f.few in omega arith);
-  few_rays = mapped_all (λ G. length G < 2 ^ 28) (rays_at V) rows (λ s i. let l = rays_length V s in let c = indices_few m 0 s (omega arith) (formed s i) in let d = f.few_places in omega arith);
+  few_rays = mapped_all (λ G. length G < 2 ^ 30) (rays_at V) rows (λ s i. let l = rays_length V s in let c = indices_few m 0 s (omega arith) (formed s i) in let d = f.few_places in omega arith);
   few_lines = omega arith;
 }
   where

@@ -1,12 +1,13 @@
 -- The values of a refinement have the forms of values that a fan may hold.
+use Rattle.pm_object.proofs.FanForms.{IsOfFan, dimension_form, rows_form}
 use Rattle.pm_vector.proofs.DivisorLaws.{not_zero}
 use Rattle.pm_vector.proofs.Lists.{All_among, Among, among_All, here, there}
 use Rattle.pm_vector.specs.Divisors.{IsPrimitive}
-use Rattle.pm_vector.specs.Numbers.{InRange, Ratio}
+use Rattle.pm_vector.specs.Numbers.{InRange}
 use Rattle.pm_vector.specs.Rows.{HasCols, Row, entry}
 use Rattle.pm_laws_normal_fans.proofs.Places.{map_length, place_at}
 use Rattle.pm_laws_normal_fans.specs.Refinements.{Intersection}
-use Rattle.pm_matrix.specs.Matrices.{FractionMatrix, IsFraction}
+use Rattle.pm_matrix.specs.Matrices.{IsFraction}
 use Rattle.pm_types.specs.Parts.{value_over}
 use Rattle.pm_object_type.specs.declared.object_type.ObjectType.TheVariants.{Fan}
 use Rattle.pm_props.specs.declared.property.PropId.TheVariants.{ConeAmbientDim, LinealitySpace, MaximalCones, Vertices}
@@ -16,15 +17,14 @@ use Rattle.pm_refine.specs.ObjectRefinements.{HaveForms, fan_given, refined_valu
 use Rattle.pm_refine.specs.Refined.{AreRaySets}
 use Rattle.pm_types.proofs.Indices.{ascending_sets}
 use Rattle.pm_types.proofs.WholeRows.{ratios_rows_fractions, ratios_rows_of_entries, ratios_rows_primitive}
-use Rattle.pm_types.specs.Forms.{FormsIn, HasPrimitiveRow, HavePrimitiveRows, agrees_with, is_column_count, is_formed, is_matrix_form, is_row, is_row_of_entries, is_zero_row}
-use Rattle.pm_types.specs.Values.{PropertyValue, matrix, sets, whole}
+use Rattle.pm_types.specs.Forms.{FormsIn, HasPrimitiveRow, is_row, is_zero_row}
+use Rattle.pm_types.specs.Values.{PropertyValue, sets, whole}
 use Rattle.pm_types.specs.Views.{ratios}
-use Rattle.std.proofs.Common.{ap, arith, false, get_or, refl, subst, suc, sym, take, true, true≢false, zero, ◌+◌, ◌++◌, ◌∙◌}
-use Rattle.std.proofs.lemmas.Bool.{and_from, eq-eqb, le-leb}
-use Rattle.std.proofs.lemmas.List.Elements.{All-cons, All-nil, All-push}
-use Rattle.std.proofs.lemmas.List.{map-append, take_more}
+use Rattle.std.proofs.Common.{arith, false, refl, subst, suc, sym, true, true≢false, zero}
+use Rattle.std.proofs.lemmas.Bool.{and_from}
+use Rattle.std.proofs.lemmas.List.Elements.{All-cons, All-nil}
 use Rattle.std.specs.List.{All, list_all, slice_index_or}
-use Rattle.std.specs.Prelude.{Bool, List, [], length, map, nat_eq, nat_le, not, ℕ, ◌&&◌, ◌<◌, ◌||◌, ◌∷◌, ◌≡◌, ◌≤◌}
+use Rattle.std.specs.Prelude.{Bool, List, [], length, map, not, ℕ, ◌<◌, ◌∷◌, ◌≡◌, ◌≤◌}
 use lib.IntN.{negsuc, pos}
 use Rattle.pm_limits.specs.Limits.{most_columns, most_rows}
 
@@ -51,63 +51,10 @@ lines_pass : (K : List Row) → list_all (is_row Fan LinealitySpace) (map ratios
 lines_pass [] = refl
 lines_pass (x ∷ K) = lines_pass K
 
--- ---- one row more
-taken_more : (rows : List Row) (i : ℕ) (x : Row) → i < length rows → x ≡ get_or rows i x → take (i + 1) rows ≡ take i rows ++ x ∷ []
-taken_more rows i x within is = take_more rows i x within ∙ ap (λ y. take i rows ++ y ∷ []) (sym is)
-
-pub ratios_more : (rows : List Row) (i : ℕ) (x : Row) (a b : FractionMatrix) (r : List Ratio) → i < length rows → x ≡ get_or rows i x → a.rows ≡ map ratios (take i rows)
-    → b ≡ record { cols = a.cols; rows = a.rows ++ r ∷ [] } → r ≡ ratios x → b.rows ≡ map ratios (take (i + 1) rows)
-ratios_more rows i x a b r within is so_far put over =
-    let one : List Row = x ∷ [] in
-    ap (λ m. m.rows) put ∙ ap (λ z. z ++ r ∷ []) so_far ∙ ap (λ z. map ratios (take i rows) ++ z ∷ []) over
-    ∙ sym (map-append ratios (take i rows) one) ∙ sym (ap (map ratios) (taken_more rows i x within is))
-
-pub in_range_more : (rows : List Row) (i : ℕ) (x : Row) → i < length rows → x ≡ get_or rows i x → All (All InRange) (take i rows) → All InRange x → All (All InRange) (take (i + 1) rows)
-in_range_more rows i x within is so_far last = subst (All (All InRange)) (sym (taken_more rows i x within is)) (All-push (All InRange) (take i rows) x so_far last)
-
 -- ---- values
-abbrev IsOfFan : PropId → Type 0
-IsOfFan Vertices = Unit {0}
-IsOfFan LinealitySpace = Unit {0}
-IsOfFan p = ⊥
-
-formed_of : (p : PropId) → IsOfFan p → (m : ℕ) (rows : List (List Ratio)) → is_formed p (matrix m rows) ≡ is_matrix_form m rows
-formed_of Vertices h m rows = refl
-formed_of LinealitySpace h m rows = refl
-formed_of p h m rows = absurd h
-
-agrees_of : (p : PropId) → IsOfFan p → (n m : ℕ) (rows : List (List Ratio)) → agrees_with n p (matrix m rows) ≡ (nat_eq m 0 || nat_eq m n)
-agrees_of Vertices h n m rows = refl
-agrees_of LinealitySpace h n m rows = refl
-agrees_of p h n m rows = absurd h
-
-three : (a b c : Bool) → a ≡ true → b ≡ true → c ≡ true → (a && b && c) ≡ true
-three a b c p q r = rw (p, q, r) refl
-
-second : (a b : Bool) → b ≡ true → (a || b) ≡ true
-second true b p = refl
-second false b p = p
-
-primitive_of : (p : PropId) → IsOfFan p → (m : ℕ) (rows : List (List Ratio)) → All HasPrimitiveRow rows → HavePrimitiveRows p (matrix m rows)
-primitive_of Vertices h m rows all = all
-primitive_of LinealitySpace h m rows all = all
-primitive_of p h m rows all = absurd h
-
-rows_form : (n : ℕ) (p : PropId) → IsOfFan p → (N : List Row) → 1 ≤ n → n ≤ most_columns → length N ≤ most_rows → HasCols n N → All (All InRange) N → list_all (is_row Fan p) (map ratios N) ≡ true → FormsIn Fan n p (value_over n (map ratios N))
-rows_form n p h [] some few all cols range pass = record { formed = formed_of p h 0 []; columns = agrees_of p h n 0 []; rows = refl; entries = All-nil (All IsFraction); primitive = primitive_of p h 0 [] (All-nil HasPrimitiveRow) }
-rows_form n p h (x ∷ N) some few all cols range pass = record {
-  formed = formed_of p h n (map ratios (x ∷ N))
-      ∙ three (nat_le (length (map ratios (x ∷ N))) most_rows) (is_column_count (map ratios (x ∷ N)) n) (list_all (is_row_of_entries n) (map ratios (x ∷ N)))
-      (le-leb (length (map ratios (x ∷ N))) most_rows (let e = map_length ratios (x ∷ N) in omega arith)) (and_from (nat_le 1 n) (nat_le n most_columns) (le-leb 1 n some) (le-leb n most_columns few))
-      (ratios_rows_of_entries n (x ∷ N) cols);
-  columns = agrees_of p h n n (map ratios (x ∷ N)) ∙ second (nat_eq n 0) (nat_eq n n) (eq-eqb n n refl);
-  rows = pass;
-  entries = ratios_rows_fractions (x ∷ N) range;
-  primitive = primitive_of p h n (map ratios (x ∷ N)) (ratios_rows_primitive (x ∷ N) range);
-}
-
-dimension_form : (n : ℕ) → 1 ≤ n → n ≤ most_columns → FormsIn Fan n ConeAmbientDim (whole (pos n))
-dimension_form n some few = record { formed = and_from (nat_le 1 n) (nat_le n most_columns) (le-leb 1 n some) (le-leb n most_columns few); columns = eq-eqb n n refl; rows = refl; entries = All-nil (All IsFraction); primitive = All-nil HasPrimitiveRow }
+rows_over_one : (n : ℕ) (p : PropId) → IsOfFan p → (N : List Row) → 1 ≤ n → n ≤ most_columns → length N ≤ most_rows → HasCols n N → All (All InRange) N → list_all (is_row Fan p) (map ratios N) ≡ true → FormsIn Fan n p (value_over n (map ratios N))
+rows_over_one n p h N some few all cols range pass =
+    rows_form n p h (map ratios N) some few (let e = map_length ratios N in omega arith) (ratios_rows_of_entries n N cols) (ratios_rows_fractions N range) (ratios_rows_primitive N range) pass
 
 sets_form : (n : ℕ) (R : List Row) (kept : List Intersection) (S : List (List ℕ)) → AreRaySets R kept S → length R ≤ most_rows → length kept ≤ most_rows → FormsIn Fan n MaximalCones (sets S (length R))
 sets_form n R kept S are few cones = record {
@@ -126,9 +73,9 @@ pub forms_of : (n : ℕ) (K R : List Row) (kept : List Intersection) (S : List (
 forms_of n K R kept S some few rays cones lines cols cols' primitive range range' are =
     All-cons P (ConeAmbientDim, whole (pos n)) ((Vertices, value_over n (map ratios R)) ∷ (LinealitySpace, value_over n (map ratios K)) ∷ (MaximalCones, sets S (length R)) ∷ []) (dimension_form n some few)
     (All-cons P (Vertices, value_over n (map ratios R)) ((LinealitySpace, value_over n (map ratios K)) ∷ (MaximalCones, sets S (length R)) ∷ [])
-    (rows_form n Vertices tt R some few rays cols range (rays_pass R (λ x i. among_All IsPrimitive i primitive)))
+    (rows_over_one n Vertices tt R some few rays cols range (rays_pass R (λ x i. among_All IsPrimitive i primitive)))
     (All-cons P (LinealitySpace, value_over n (map ratios K)) ((MaximalCones, sets S (length R)) ∷ [])
-    (rows_form n LinealitySpace tt K some few (omega arith) cols' range' (lines_pass K))
+    (rows_over_one n LinealitySpace tt K some few (omega arith) cols' range' (lines_pass K))
     (All-cons P (MaximalCones, sets S (length R)) [] (sets_form n R kept S are rays cones) (All-nil P))))
   where
     P : PropId × PropertyValue → Type 0

@@ -18,9 +18,9 @@ fan_from cones lines = record { cones = cones; lines = lines }
 pub record IsSmallFan (n : ℕ) (f : Fan) : Type 0 where
   pub cones : All (HasCols n) f.cones
   pub lines : HasCols n f.lines
-  pub few_cones : length f.cones < 2 ^ 28
-  pub few_rays : All (λ G. length G < 2 ^ 28) f.cones
-  pub few_lines : length f.lines < 2 ^ 28
+  pub few_cones : length f.cones < 2 ^ 30
+  pub few_rays : All (λ G. length G < 2 ^ 30) f.cones
+  pub few_lines : length f.lines < 2 ^ 30
 
 -- an intersection that was found, by its places and its rays
 abbrev pub intersection_of : IntersectionFound → Intersection
@@ -41,7 +41,8 @@ cuts_at C k = slice_index_or C k (record { facets = []; hull = [] })
 -- for each cone of the fan its facet rows in canonical form, and the echelon basis of the rows that vanish on it
 pub record AreFacetsOf (n : ℕ) (f : Fan) (C : List CutRows) : Type 0 where
   pub as_many : length C ≡ length f.cones
-  pub each : (k : ℕ) → k < length f.cones → AreFacets n (cone_at f k) f.lines (cuts_at C k).facets (cuts_at C k).hull
+  pub each : (k : ℕ) → k < length f.cones
+      → AreFacets n (cone_at f k) f.lines (cuts_at C k).facets (cuts_at C k).hull
 
 -- rows of n entries, and few of them
 pub record IsSmall (n : ℕ) (c : CutRows) : Type 0 where

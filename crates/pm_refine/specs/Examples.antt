@@ -39,7 +39,8 @@ at i j rays = record { first = i; second = j; rays = rays }
 
 -- the four quadrants
 abbrev pub quadrants : List Intersection
-quadrants = at 0 0 (pair 0 1 ∷ pair 1 0 ∷ []) ∷ at 0 1 (below ∷ pair 1 0 ∷ []) ∷ at 1 0 (before ∷ pair 0 1 ∷ []) ∷ at 1 1 (before ∷ below ∷ []) ∷ []
+quadrants = at 0 0 (pair 0 1 ∷ pair 1 0 ∷ []) ∷ at 0 1 (below ∷ pair 1 0 ∷ [])
+    ∷ at 1 0 (before ∷ pair 0 1 ∷ []) ∷ at 1 1 (before ∷ below ∷ []) ∷ []
 
 -- the half-planes of one line with themselves: these, and the line twice, which has no ray
 abbrev pub of_itself : List Intersection
@@ -49,7 +50,8 @@ pub record StepsAreRead : Type 0 where
   -- the first quadrant is within the right half-plane, and not within the left one, nor on the horizontal line
   pub within : are_within (half_plane (pair 1 0)) (half_plane (pair 0 1)) (pair 0 1 ∷ pair 1 0 ∷ []) ≡ true
   pub not_within : are_within (half_plane before) (half_plane (pair 0 1)) (pair 0 1 ∷ pair 1 0 ∷ []) ≡ false
-  pub off_line : are_within (half_plane (pair 1 0)) (record { facets = []; hull = pair 0 1 ∷ [] }) (pair 0 1 ∷ pair 1 0 ∷ []) ≡ false
+  pub off_line : are_within (half_plane (pair 1 0)) (record { facets = []; hull = pair 0 1 ∷ [] })
+      (pair 0 1 ∷ pair 1 0 ∷ []) ≡ false
   -- of two lines all quadrants are kept
   pub two_lines : keep_all sides heights [] quadrants ≡ quadrants
   -- of one line with itself the half-planes alone, whichever come first

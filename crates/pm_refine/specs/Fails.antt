@@ -54,13 +54,15 @@ pub record IsFacetRowOf (n : ℕ) (f : Fan) (r : Row) : Type 0 where
 
 -- the evidence names a canonical ray of the intersection and such a row of either fan, whose product leaves the range
 abbrev pub IsWideRay : ℕ → Fan → Fan → ℕ → ℕ → Evidence → Type 0
-IsWideRay n f g i j (E4 x r) = IsCanonicalRay n (InIntersection f g i j) x × (IsFacetRowOf n f r ⊎ IsFacetRowOf n g r) × IsWideProduct x r
+IsWideRay n f g i j (E4 x r) = IsCanonicalRay n (InIntersection f g i j) x
+    × (IsFacetRowOf n f r ⊎ IsFacetRowOf n g r) × IsWideProduct x r
 IsWideRay n f g i j e = ⊥
 
--- the evidence holds of the cones at places i and j: of the generators of one of them, of the facet rows of both, or of
--- a ray of their intersection
+-- the evidence holds of the cones at places i and j: of the generators of one of them, of the facet rows of both, or
+-- of a ray of their intersection
 abbrev pub IsShownByPair : ℕ → Fan → Fan → ℕ → ℕ → Evidence → Type 0
-IsShownByPair n f g i j e = (IsShownBy n f.lines (cone_at f i) e ⊎ IsShownBy n g.lines (cone_at g j) e) ⊎ (IsShownByFacets n f g i j e ⊎ IsWideRay n f g i j e)
+IsShownByPair n f g i j e = (IsShownBy n f.lines (cone_at f i) e ⊎ IsShownBy n g.lines (cone_at g j) e)
+    ⊎ (IsShownByFacets n f g i j e ⊎ IsWideRay n f g i j e)
 
 -- the refusal is want of memory, or names a pair of cones and evidence that holds of it
 abbrev pub IsRefineFail : ℕ → Fan → Fan → RefineFail → Type 0
@@ -90,15 +92,20 @@ IsTestOf tested Q i j x r = Any (λ a. (i ≡ a.first) × (j ≡ a.second) × Co
 
 -- the refusal is want of memory, or names this pair and evidence that holds of the facet rows of both
 abbrev pub IsPairFail : ℕ → CutRows → CutRows → ℕ → ℕ → RefineFail → Type 0
-IsPairFail n c d i j (NotMade a b e) = (a ≡ i) × (b ≡ j) × IsShownBy n (c.hull ++ d.hull) (c.facets ++ d.facets) e
+IsPairFail n c d i j (NotMade a b e) = (a ≡ i) × (b ≡ j)
+    × IsShownBy n (c.hull ++ d.hull) (c.facets ++ d.facets) e
 IsPairFail n c d i j Memory = Unit {0}
 
 -- the evidence names a ray of the intersection at places i and j, and a row of C or D, whose product leaves the range
 abbrev pub IsWideCut : ℕ → List CutRows → List CutRows → ℕ → ℕ → Evidence → Type 0
-IsWideCut n C D i j (E4 x r) = ((rays : List Row) × (K : List Row) × IsCutOutBy n C D K (record { first = i; second = j; rays = rays }) × Contains rays x) × IsSomeRow C D r × IsWideProduct x r
+IsWideCut n C D i j (E4 x r) =
+    ((rays : List Row) × (K : List Row) × IsCutOutBy n C D K (record { first = i; second = j; rays = rays })
+    × Contains rays x) × IsSomeRow C D r × IsWideProduct x r
 IsWideCut n C D i j e = ⊥
 
 -- the refusal is want of memory, or names a pair of places and evidence that holds of the rows there
 abbrev pub IsStepFail : ℕ → List CutRows → List CutRows → RefineFail → Type 0
-IsStepFail n C D (NotMade i j e) = (i < length C) × (j < length D) × (IsShownBy n ((cuts_at C i).hull ++ (cuts_at D j).hull) ((cuts_at C i).facets ++ (cuts_at D j).facets) e ⊎ IsWideCut n C D i j e)
+IsStepFail n C D (NotMade i j e) = (i < length C) × (j < length D)
+    × (IsShownBy n ((cuts_at C i).hull ++ (cuts_at D j).hull)
+    ((cuts_at C i).facets ++ (cuts_at D j).facets) e ⊎ IsWideCut n C D i j e)
 IsStepFail n C D Memory = Unit {0}

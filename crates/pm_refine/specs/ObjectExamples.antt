@@ -24,7 +24,8 @@ held p v = record { place = None; property = p; value = v; origin = Given }
 abbrev pub fan_without_rays : ℕ → List (List ℕ) → ℕ → State
 fan_without_rays n rows m = record {
   of = Fan;
-  held = held ConeAmbientDim (whole (pos n)) ∷ held Vertices (matrix 0 []) ∷ held LinealitySpace (matrix 0 []) ∷ held MaximalCones (sets rows m) ∷ [];
+  held = held ConeAmbientDim (whole (pos n)) ∷ held Vertices (matrix 0 [])
+      ∷ held LinealitySpace (matrix 0 []) ∷ held MaximalCones (sets rows m) ∷ [];
   excluded = [];
   rounds = [];
   disabled = [];
@@ -52,7 +53,9 @@ pub record ObjectsAreRead : Type 0 where
   pub columns : refine_refusal apex (fan_without_rays 2 [] 0) ≡ Some condition.Columns
   pub other_rays : refine_refusal apex (fan_without_rays 1 ([] ∷ []) 3) ≡ Some condition.Columns
   -- the values of the ray to the right
-  pub values : refined_values 1 [] (right ∷ []) ((0 ∷ []) ∷ []) ≡ (ConeAmbientDim, whole (pos 1)) ∷ (Vertices, matrix 1 (ratios right ∷ [])) ∷ (LinealitySpace, matrix 0 []) ∷ (MaximalCones, sets ((0 ∷ []) ∷ []) 1) ∷ []
+  pub values : refined_values 1 [] (right ∷ []) ((0 ∷ []) ∷ [])
+      ≡ (ConeAmbientDim, whole (pos 1)) ∷ (Vertices, matrix 1 (ratios right ∷ []))
+      ∷ (LinealitySpace, matrix 0 []) ∷ (MaximalCones, sets ((0 ∷ []) ∷ []) 1) ∷ []
   -- a refinement is a fan; want of memory comes at any time; no condition fails
   pub no_polytope : ¬ (IsRefinementFile apex apex polytope_file)
   pub memory : IsRefinementRefused apex apex Memory

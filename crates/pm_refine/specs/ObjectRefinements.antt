@@ -26,16 +26,19 @@ use Rattle.pm_types.specs.Views.{ratios}
 use lib.IntN.{pos}
 use Rattle.pm_limits.specs.Limits.{most_rows}
 
--- the maximal intersections of the cones of f and g, in the order of the pairs, of equal ones the first; the echelon basis of
--- their lineality; all their rays, each once, in lexicographic order; and for each intersection the places of its rays
-pub record IsRefinement (n : ℕ) (f g : Fan) (lines : List Row) (kept : List Intersection) (rays : List Row) (sets : List (List ℕ)) : Type 0 where
+-- the maximal intersections of the cones of f and g, in the order of the pairs, of equal ones the first; the echelon
+-- basis of their lineality; all their rays, each once, in lexicographic order; and for each intersection the places
+-- of its rays
+pub record IsRefinement (n : ℕ) (f g : Fan) (lines : List Row) (kept : List Intersection) (rays : List Row)
+    (sets : List (List ℕ)) : Type 0 where
   pub refined : IsFan n f → IsFan n g → AreRefined n f g lines kept
   pub all_rays : AreAllRays kept rays
   pub orders : IsFan n f → IsFan n g → HasRefinedRays n f g lines kept rays
   pub ray_sets : AreRaySets rays kept sets
 
 -- it is the refinement of the fans of these objects
-pub record IsRefinementOf (a b : State) (lines : List Row) (kept : List Intersection) (rays : List Row) (sets : List (List ℕ)) : Type 0 where
+pub record IsRefinementOf (a b : State) (lines : List Row) (kept : List Intersection) (rays : List Row)
+    (sets : List (List ℕ)) : Type 0 where
   pub first : Fan
   pub second : Fan
   pub is_first : IsFanOfObject a first
@@ -44,11 +47,20 @@ pub record IsRefinementOf (a b : State) (lines : List Row) (kept : List Intersec
 
 -- the values of a fan in n columns
 abbrev pub refined_values : ℕ → List Row → List Row → List (List ℕ) → List (PropId × PropertyValue)
-refined_values n lines rays sets' = (ConeAmbientDim, whole (pos n)) ∷ (Vertices, value_over n (map ratios rays)) ∷ (LinealitySpace, value_over n (map ratios lines)) ∷ (MaximalCones, sets sets' (length rays)) ∷ []
+refined_values n lines rays sets' = (ConeAmbientDim, whole (pos n))
+    ∷ (Vertices, value_over n (map ratios rays)) ∷ (LinealitySpace, value_over n (map ratios lines))
+    ∷ (MaximalCones, sets sets' (length rays)) ∷ []
 
 -- the fan that is given these values
 abbrev pub fan_given : List (PropId × PropertyValue) → SavedFile
-fan_given values = record { of = OfFan; values = values; stored = 0; failed = []; programs = []; ignored = [] }
+fan_given values = record {
+  of = OfFan;
+  values = values;
+  stored = 0;
+  failed = [];
+  programs = [];
+  ignored = [];
+}
 
 -- each value has the form of its property for a fan of n columns, and its rows pass their tests
 abbrev pub HaveForms : ℕ → SavedFile → Type 0
@@ -92,9 +104,10 @@ abbrev pub as_refinement_fail : RefineFail → RefinementFail
 as_refinement_fail (engine.NotMade i j e) = NotMade i j e
 as_refinement_fail engine.Memory = Memory
 
--- why there is no refinement: the first condition that fails; or, where none does, a pair of cones with evidence that holds of
--- it, or more than most_rows rays or cones; want of memory may come at any time
+-- why there is no refinement: the first condition that fails; or, where none does, a pair of cones with evidence that
+-- holds of it, or more than most_rows rays or cones; want of memory may come at any time
 abbrev pub IsRefinementRefused : State → State → RefinementFail → Type 0
-IsRefinementRefused a b (NotFit c) = (refine_refusal a b ≡ Some c) ⊎ ((refine_refusal a b ≡ None) × (c ≡ Rows) × IsLarge a b)
+IsRefinementRefused a b (NotFit c) = (refine_refusal a b ≡ Some c)
+    ⊎ ((refine_refusal a b ≡ None) × (c ≡ Rows) × IsLarge a b)
 IsRefinementRefused a b (NotMade i j e) = (refine_refusal a b ≡ None) × IsShownByObjects a b i j e
 IsRefinementRefused a b Memory = Unit {0}

@@ -9,7 +9,8 @@ use Rattle.std.specs.Prelude.{List, [], if◌then◌else◌, suc, ℕ, ◌++◌,
 -- the places, counted from j, of the rows of R that are among the rays
 abbrev pub places_from : ℕ → List Row → List Row → List ℕ
 places_from j rays [] = []
-places_from j rays (x ∷ R) = if list_any (λ v. pointwise int_eq v x) rays then j ∷ places_from (suc j) rays R else places_from (suc j) rays R
+places_from j rays (x ∷ R) = if list_any (λ v. pointwise int_eq v x) rays then j ∷ places_from (suc j) rays R
+    else places_from (suc j) rays R
 
 -- the rays of all intersections, one after another
 abbrev pub joined_rays : List Intersection → List Row

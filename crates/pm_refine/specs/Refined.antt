@@ -25,4 +25,5 @@ pub record IsRaySet (R : List Row) (a : Intersection) (set : List ℕ) : Type 0 
 -- for each intersection its set
 pub record AreRaySets (R : List Row) (kept : List Intersection) (sets : List (List ℕ)) : Type 0 where
   pub as_many : length sets ≡ length kept
-  pub each : (k : ℕ) (a : Intersection) → k < length kept → IsRaySet R (slice_index_or kept k a) (slice_index_or sets k [])
+  pub each : (k : ℕ) (a : Intersection) → k < length kept
+      → IsRaySet R (slice_index_or kept k a) (slice_index_or sets k [])

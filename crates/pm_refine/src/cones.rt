@@ -18,8 +18,9 @@ pub(crate) fn facets_of_cones(
     lines: &[Ints],
 ) -> Result<Vec<Facets>, RefineFail>
     requires fan { IsSmallFan cols (fan_from (map (λ c. c.items) cones.now) lines.now) }
-    requires few_columns { cols < 2 ^ 27 }
-    ensures facets { IfOk result (λ v. AreFacetsOf cols (fan_from (map (λ c. c.items) cones.now) lines.now) (map cut_rows v.items)) }
+    requires few_columns { cols < 2 ^ 30 }
+    ensures facets { IfOk result (λ v. AreFacetsOf cols (fan_from (map (λ c. c.items) cones.now) lines.now)
+        (map cut_rows v.items)) }
     ensures small { IfOk result (λ v. AreSmall cols (map cut_rows v.items)) }
     ensures failed { IfErr result (IsConeFail cols (fan_from (map (λ c. c.items) cones.now) lines.now)) }
 {

@@ -21,12 +21,17 @@ fn includes_any(
     firsts: &[Facets],
     seconds: &[Facets],
 ) -> Result<bool, RefineFail>
-    requires new { IsPlaced cols (map cut_rows firsts.now) (map cut_rows seconds.now) (intersection_of new.now) }
-    requires kept { ArePlaced cols (map cut_rows firsts.now) (map cut_rows seconds.now) (map intersection_of kept.now) }
+    requires new { IsPlaced cols (map cut_rows firsts.now) (map cut_rows seconds.now)
+        (intersection_of new.now) }
+    requires kept { ArePlaced cols (map cut_rows firsts.now) (map cut_rows seconds.now)
+        (map intersection_of kept.now) }
     requires firsts { AreSmall cols (map cut_rows firsts.now) }
     requires seconds { AreSmall cols (map cut_rows seconds.now) }
-    ensures any { IfOk result (λ b. b ≡ includes_any_of (map cut_rows firsts.now) (map cut_rows seconds.now) (map intersection_of kept.now) (intersection_of new.now)) }
-    ensures failed { IfErr result (IsWideOf (IsTestOf (intersection_of new.now ∷ []) (IsSomeRow (map cut_rows firsts.now) (map cut_rows seconds.now)))) }
+    ensures any { IfOk result (λ b. b ≡ includes_any_of (map cut_rows firsts.now) (map cut_rows seconds.now)
+        (map intersection_of kept.now) (intersection_of new.now)) }
+    ensures failed { IfErr result
+        (IsWideOf (IsTestOf (intersection_of new.now ∷ [])
+        (IsSomeRow (map cut_rows firsts.now) (map cut_rows seconds.now)))) }
 {
     for k in kept {
         let within = is_within(
@@ -54,8 +59,11 @@ fn without_included(
     requires kept { All (λ a. HasCols cols a.rays.items) kept.items }
     requires first { IsSmall cols (cut_rows first.now) }
     requires second { IsSmall cols (cut_rows second.now) }
-    ensures left { IfOk result (λ v. map intersection_of v.items ≡ not_included_in (cut_rows first.now) (cut_rows second.now) (map intersection_of kept.items)) }
-    ensures failed { IfErr result (IsWideOf (IsTestOf (map intersection_of kept.items) (λ r. IsRowOf (cut_rows first.now) r ⊎ IsRowOf (cut_rows second.now) r))) }
+    ensures left { IfOk result (λ v. map intersection_of v.items
+        ≡ not_included_in (cut_rows first.now) (cut_rows second.now) (map intersection_of kept.items)) }
+    ensures failed { IfErr result
+        (IsWideOf (IsTestOf (map intersection_of kept.items) (λ r. IsRowOf (cut_rows first.now) r
+        ⊎ IsRowOf (cut_rows second.now) r))) }
 {
     let mut left = Vec::new(alloc);
     for k in kept {
@@ -67,8 +75,8 @@ fn without_included(
     Ok(left)
 }
 
-/// The kept intersections after a new one: the same where it is included in one of them; else it is kept too, and those
-/// that are included in it are let go.
+/// The kept intersections after a new one: the same where it is included in one of them; else it is kept too, and
+/// those that are included in it are let go.
 pub(crate) fn keep(
     alloc: Global,
     cols: usize,
@@ -77,11 +85,16 @@ pub(crate) fn keep(
     firsts: &[Facets],
     seconds: &[Facets],
 ) -> Result<Vec<Intersection>, RefineFail>
-    requires listed { ArePlaced cols (map cut_rows firsts.now) (map cut_rows seconds.now) (map intersection_of kept.items ++ intersection_of new ∷ []) }
+    requires listed { ArePlaced cols (map cut_rows firsts.now) (map cut_rows seconds.now)
+        (map intersection_of kept.items ++ intersection_of new ∷ []) }
     requires firsts { AreSmall cols (map cut_rows firsts.now) }
     requires seconds { AreSmall cols (map cut_rows seconds.now) }
-    ensures kept { IfOk result (λ v. map intersection_of v.items ≡ keep_one (map cut_rows firsts.now) (map cut_rows seconds.now) (map intersection_of kept.items) (intersection_of new)) }
-    ensures failed { IfErr result (IsWideOf (IsTestOf (map intersection_of kept.items ++ intersection_of new ∷ []) (IsSomeRow (map cut_rows firsts.now) (map cut_rows seconds.now)))) }
+    ensures kept { IfOk result (λ v. map intersection_of v.items
+        ≡ keep_one (map cut_rows firsts.now) (map cut_rows seconds.now) (map intersection_of kept.items)
+        (intersection_of new)) }
+    ensures failed { IfErr result
+        (IsWideOf (IsTestOf (map intersection_of kept.items ++ intersection_of new ∷ [])
+        (IsSomeRow (map cut_rows firsts.now) (map cut_rows seconds.now)))) }
 {
     let included = includes_any(alloc, cols, &new, &kept, firsts, seconds)?;
     if included {

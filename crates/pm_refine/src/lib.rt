@@ -1,5 +1,5 @@
-//! The common refinement of two fans: the maximal ones among the intersections of a cone of the first and a cone of the
-//! second (Ziegler, Lectures on Polytopes, section 7.1).
+//! The common refinement of two fans: the maximal ones among the intersections of a cone of the first and a cone of
+//! the second (Ziegler, Lectures on Polytopes, section 7.1). It knows nothing of rules, clients and sessions.
 #![tactic(auto)]
 
 ghost use Rattle.pm_refine.specs.Examples.{FailsAreRead, RefinedAreRead, StepsAreRead};

@@ -15,8 +15,8 @@ pub enum RefinementFail {
     /// This is the first condition that does not hold.
     #[error("a condition does not hold")]
     NotFit(Condition),
-    /// The cone of the first fan at place `a` and that of the second fan at place `b` have evidence that a number leaves the
-    /// range (E1, E2, E4) or that some cone on the way has more than `MOST_ROWS` extreme rays (E5).
+    /// The cone of the first fan at place `a` and that of the second fan at place `b` have evidence that a number
+    /// leaves the range (E1, E2, E4) or that some cone on the way has more than `MOST_ROWS` extreme rays (E5).
     #[error("an intersection was not made")]
     NotMade { a: u32, b: u32, evidence: Evidence },
     /// No memory was left.

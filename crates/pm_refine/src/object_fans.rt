@@ -2,20 +2,16 @@
 
 ghost use Rattle.pm_matrix.specs.FractionRows.{ArePrimitiveRowsOf};
 ghost use Rattle.pm_object.specs.Known.{IsKnown, cols_at};
-ghost use Rattle.pm_types.specs.Parts.{sets_in, value_of_sets};
-ghost use Rattle.pm_object.specs.State.{cols_of, is_held, read_at, value_of};
 ghost use Rattle.pm_object_type.specs.declared.object_type.ObjectType.TheVariants.{Fan};
 ghost use Rattle.pm_props.specs.declared.property.PropId.TheVariants.{LinealitySpace, MaximalCones, Vertices};
 ghost use Rattle.pm_refine.specs.CutRows.{IsSmallFan, fan_from};
 ghost use Rattle.pm_refine.specs.ObjectFans.{IsFanOfObject, IsReadableFan, are_of_rays, is_fan, rays_at, refine_reads, refine_refusal};
-ghost use Rattle.pm_types.specs.Forms.{FormsIn, HasPrimitiveRow};
-ghost use Rattle.pm_types.specs.Views.{view_of};
-ghost use Rattle.std.specs.Option.{is_some, option_map};
-ghost use Rattle.std.specs.Prelude.{All, IfOk, IsTrue, None, Some, length, map, true, ◌<◌, ◌≡◌, ◌≤◌};
+ghost use Rattle.pm_types.specs.Forms.{HasPrimitiveRow};
+ghost use Rattle.std.specs.Prelude.{All, IfOk, None, Some, length, map, true, ◌<◌, ◌≡◌, ◌≤◌};
 ghost use Rattle.pm_limits.specs.Limits.{most_rows};
 
 use pm_matrix::{Matrix, RowsFail};
-use pm_object::{Condition, Object, cols_at, matrix_at};
+use pm_object::{Condition, Object, cols_at, matrix_at, sets_at};
 use pm_types::{ObjectType, PropId, Sets, Value};
 use pm_vector::Ints;
 use std::alloc::{AllocError, Global};
@@ -37,43 +33,12 @@ fn is_fan(o: &Object) -> bool
     }
 }
 
-fn as_sets(v: &Value) -> Option<&Sets>
-    ensures { option_map (λ s. s.now) result ≡ sets_in (view_of v.now) }
-{
-    match v {
-        Value::Sets(sets) => Some(sets),
-        Value::Mat(_) => None,
-        Value::Bool(_) => None,
-        Value::Int(_) => None,
-        Value::Counts(_) => None,
-        Value::Edges(_) => None,
-        Value::Lattice(_) => None,
-        Value::Number(_) => None,
-    }
-}
-
-/// The sets that are held as MAXIMAL_CONES, in the form of that property.
-fn cones_at(o: &Object) -> &Sets
-    requires held { IsTrue (is_held MaximalCones (read_at None o.now.state.held)) }
-    requires known { IsTrue (is_some (cols_of o.now.state.held)) }
-    ensures value { value_of MaximalCones (read_at None o.now.state.held) ≡ Some (value_of_sets result.now) }
-    ensures forms { FormsIn o.now.state.of (cols_at o.now.state) MaximalCones (value_of_sets result.now) }
-{
-    let Some(value) = o.lookup(None, PropId::MaximalCones) else {
-        unreachable!()
-    };
-    let Some(sets) = as_sets(value) else {
-        unreachable!()
-    };
-    sets
-}
-
 // Whether the sets are of places of its rays.
 fn are_of_rays(o: &Object) -> bool
     requires { IsKnown refine_reads o.now.state }
     ensures { result ≡ are_of_rays o.now.state }
 {
-    cones_at(o).cols() as usize == matrix_at(o, PropId::Vertices).rows()
+    sets_at(o, PropId::MaximalCones).cols() as usize == matrix_at(o, PropId::Vertices).rows()
 }
 
 /// The first condition that fails, but that of the rows of the new fan.
@@ -126,7 +91,8 @@ fn cones_of_rays(
     sets: &[Vec<u32>],
 ) -> Result<Vec<Vec<Ints>>, AllocError>
     requires { All (λ s. All (λ j. j < length rays.now) s) (map (λ s. s.items) sets.now) }
-    ensures { IfOk result (λ v. map (λ c. c.items) v.items ≡ map (rays_at rays.now) (map (λ s. s.items) sets.now)) }
+    ensures { IfOk result (λ v. map (λ c. c.items) v.items
+        ≡ map (rays_at rays.now) (map (λ s. s.items) sets.now)) }
 {
     let mut cones = Vec::new(alloc);
     for set in sets {
@@ -139,11 +105,13 @@ fn cones_of_rays(
 pub(crate) fn fan_rows(alloc: Global, o: &Object) -> Result<FanRows, AllocError>
     requires known { IsKnown refine_reads o.now.state }
     requires rays { are_of_rays o.now.state ≡ true }
-    ensures fan { IfOk result (λ f. IsFanOfObject o.now.state (fan_from (map (λ c. c.items) f.cones.items) f.lines.items)) }
-    ensures small { IfOk result (λ f. IsSmallFan (cols_at o.now.state) (fan_from (map (λ c. c.items) f.cones.items) f.lines.items)) }
+    ensures fan { IfOk result (λ f.
+        IsFanOfObject o.now.state (fan_from (map (λ c. c.items) f.cones.items) f.lines.items)) }
+    ensures small { IfOk result (λ f.
+        IsSmallFan (cols_at o.now.state) (fan_from (map (λ c. c.items) f.cones.items) f.lines.items)) }
 {
     let rays = primitive_rows(alloc, matrix_at(o, PropId::Vertices))?;
     let lines = primitive_rows(alloc, matrix_at(o, PropId::LinealitySpace))?;
-    let cones = cones_of_rays(alloc, &rays, cones_at(o).rows())?;
+    let cones = cones_of_rays(alloc, &rays, sets_at(o, PropId::MaximalCones).rows())?;
     Ok(FanRows { cones, lines })
 }

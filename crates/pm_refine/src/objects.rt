@@ -5,11 +5,9 @@ ghost use Rattle.pm_vector.specs.Numbers.{InRange};
 ghost use Rattle.pm_vector.specs.Rows.{HasCols};
 ghost use Rattle.pm_files.specs.Views.{file_of};
 ghost use Rattle.pm_object.specs.Known.{IsKnown, cols_at};
-ghost use Rattle.pm_types.specs.Parts.{cols_over};
 ghost use Rattle.pm_refine.specs.CutRows.{intersection_of};
 ghost use Rattle.pm_refine.specs.ObjectFans.{IsReadableFan, are_of_rays, refine_reads, refine_refusal};
 ghost use Rattle.pm_refine.specs.ObjectRefinements.{HaveForms, IsRefinementFile, IsRefinementOf, IsRefinementRefused, IsShownByFans, fan_given, refined_values};
-ghost use Rattle.pm_types.specs.Views.{ratios};
 ghost use Rattle.std.specs.Prelude.{All, IfErr, IfOk, None, OnOk, length, map, true, ◌<◌, ◌^◌, ◌≡◌, ◌≤◌};
 ghost use Rattle.pm_limits.specs.Limits.{most_columns, most_rows};
 
@@ -18,12 +16,9 @@ use crate::object_fails::{RefinementFail, as_refinement_fail};
 use crate::object_fans::{fan_rows, refine_refusal};
 use crate::refinement::{Refinement, common_refinement};
 use pm_files::FileObject;
-use pm_fraction::Fraction;
 use pm_limits::MOST_ROWS;
-use pm_matrix::{Matrix, MatrixFail};
 use pm_object::{Condition, Object, cols_at};
-use pm_types::{ObjectType, PropId, PropSet, Sets, Value};
-use pm_vector::Ints;
+use pm_types::{ObjectType, PropId, PropSet, Sets, Value, matrix_over_one};
 use std::alloc::{AllocError, Global};
 
 /// The refinement of the fans of two objects.
@@ -33,8 +28,10 @@ fn refinement_of(alloc: Global, a: &Object, b: &Object) -> Result<Refinement, Re
     requires rays { are_of_rays a.now.state ≡ true }
     requires second_rays { are_of_rays b.now.state ≡ true }
     requires columns { cols_at b.now.state ≡ cols_at a.now.state }
-    ensures refinement { IfOk result (λ r. IsRefinementOf a.now.state b.now.state r.lineality.items (map intersection_of r.cones.items) r.rays.items (map (λ s. s.items) r.sets.items)) }
-    ensures cols { IfOk result (λ r. HasCols (cols_at a.now.state) r.rays.items × HasCols (cols_at a.now.state) r.lineality.items) }
+    ensures refinement { IfOk result (λ r. IsRefinementOf a.now.state b.now.state r.lineality.items
+        (map intersection_of r.cones.items) r.rays.items (map (λ s. s.items) r.sets.items)) }
+    ensures cols { IfOk result (λ r. HasCols (cols_at a.now.state) r.rays.items
+        × HasCols (cols_at a.now.state) r.lineality.items) }
     ensures primitive { IfOk result (λ r. All IsPrimitive r.rays.items) }
     ensures few_lines { IfOk result (λ r. length r.lineality.items ≤ cols_at a.now.state) }
     ensures failed { IfErr result (IsShownByFans a.now.state b.now.state) }
@@ -49,39 +46,6 @@ fn refinement_of(alloc: Global, a: &Object, b: &Object) -> Result<Refinement, Re
         &second.cones,
         &second.lines,
     )
-}
-
-/// A row of whole numbers as fractions over 1.
-fn row_over_one(alloc: Global, row: &Ints) -> Result<Vec<Fraction>, AllocError>
-    ensures row { IfOk result (λ v. v.items ≡ ratios row.now) }
-    ensures in_range { IfOk result (λ v. All InRange row.now) }
-{
-    let mut fractions = Vec::new(alloc);
-    let entries = row.as_slice();
-    for x in entries {
-        let Ok(fraction) = Fraction::from_whole(*x) else {
-            unreachable!()
-        };
-        fractions.push(fraction)?;
-    }
-    Ok(fractions)
-}
-
-/// Rows of whole numbers as a matrix of fractions over 1. Without rows it states no column count.
-fn matrix_over_one(alloc: Global, rows: &[Ints], cols: usize) -> Result<Matrix, AllocError>
-    requires { HasCols cols rows.now }
-    ensures matrix { IfOk result (λ m. m ≡ record { cols = cols_over cols (map ratios rows.now); rows = map ratios rows.now }) }
-    ensures in_range { IfOk result (λ m. All (All InRange) rows.now) }
-{
-    let mut matrix = Matrix::new(alloc, if rows.is_empty() { 0 } else { cols });
-    for row in rows {
-        match matrix.push_row(&row_over_one(alloc, row)?) {
-            Ok(()) => {}
-            Err(MatrixFail::Ragged) => unreachable!(),
-            Err(MatrixFail::Memory) => return Err(AllocError),
-        }
-    }
-    Ok(matrix)
 }
 
 /// A set of places below a count.
@@ -115,8 +79,11 @@ fn refined_fan(alloc: Global, n: usize, r: &Refinement) -> Result<FileObject, Al
     requires rays { HasCols n r.now.rays.items }
     requires lines { HasCols n r.now.lineality.items }
     requires sets { All (λ s. All (λ j. j < 2 ^ 32) s) (map (λ s. s.items) r.now.sets.items) }
-    ensures fan { IfOk result (λ f. file_of f ≡ fan_given (refined_values n r.now.lineality.items r.now.rays.items (map (λ s. s.items) r.now.sets.items))) }
-    ensures in_range { IfOk result (λ f. All (All InRange) r.now.rays.items × All (All InRange) r.now.lineality.items) }
+    ensures fan { IfOk result (λ f. file_of f
+        ≡ fan_given (refined_values n r.now.lineality.items r.now.rays.items
+        (map (λ s. s.items) r.now.sets.items))) }
+    ensures in_range { IfOk result (λ f. All (All InRange) r.now.rays.items
+        × All (All InRange) r.now.lineality.items) }
 {
     let rays = matrix_over_one(alloc, &r.rays, n)?;
     let lines = matrix_over_one(alloc, &r.lineality, n)?;
@@ -137,17 +104,18 @@ fn refined_fan(alloc: Global, n: usize, r: &Refinement) -> Result<FileObject, Al
     })
 }
 
-/// The common refinement of two fans: as its cones the maximal ones among the intersections of a cone of the first and a cone
-/// of the second, in order, of equal ones the first; as its rays all their rays, primitive, with zeros in the pivot columns of
-/// the common lineality, in lexicographic order.
+/// The common refinement of two fans: as its cones the maximal ones among the intersections of a cone of the first
+/// and a cone of the second, in order, of equal ones the first; as its rays all their rays, primitive, with zeros in
+/// the pivot columns of the common lineality, in lexicographic order.
 /// Each value has its form for a fan of as many columns.
-/// These values are right, in some order of the fan's rays and cones, for the common refinement of each two fans for which
-/// the values read are right, and for no other (`pm_laws_fans`, `law_refinement_is_described`).
-/// `NotFit` names the first condition that fails: both objects are fans, they have as many columns, the sets of MAXIMAL_CONES
-/// are of their rays; and, where each intersection is made, the new fan has at most `MOST_ROWS` rays and at most `MOST_ROWS` cones.
-/// `NotMade` only with a pair of cones and evidence that holds of it: E1, E2 or E5 on the generators of one of them, or on
-/// the facet rows of both; or E4 on a ray of their intersection and a facet row of a cone of either fan, or a row of the
-/// echelon basis of those that vanish on it.
+/// These values are right, in some order of the fan's rays and cones, for the common refinement of each two fans for
+/// which the values read are right, and for no other (`pm_laws_fans`, `law_refinement_is_described`).
+/// `NotFit` names the first condition that fails: both objects are fans, they have as many columns, the sets of
+/// MAXIMAL_CONES are of their rays; and, where each intersection is made, the new fan has at most `MOST_ROWS` rays
+/// and at most `MOST_ROWS` cones.
+/// `NotMade` only with a pair of cones and evidence that holds of it: E1, E2 or E5 on the generators of one of them,
+/// or on the facet rows of both; or E4 on a ray of their intersection and a facet row of a cone of either fan, or a
+/// row of the echelon basis of those that vanish on it.
 pub fn refine(alloc: Global, a: &Object, b: &Object) -> Result<FileObject, RefinementFail>
     requires first { IsReadableFan a.now.state }
     requires second { IsReadableFan b.now.state }

@@ -44,9 +44,12 @@ fn cut_out_by_both(
 ) -> Result<Generators, DdFail>
     requires first { IsSmall cols (cut_rows first.now) }
     requires second { IsSmall cols (cut_rows second.now) }
-    requires few_columns { cols < 2 ^ 27 }
-    ensures generators { IfOk result (λ g. AreGenerators cols (InHalfSpaces (first.now.facets.items ++ second.now.facets.items) (first.now.hull.items ++ second.now.hull.items)) g.rays.items g.lineality.items) }
-    ensures shown { IfErr result (IsShownOnParts cols (first.now.hull.items ++ second.now.hull.items) (first.now.facets.items ++ second.now.facets.items)) }
+    requires few_columns { cols < 2 ^ 30 }
+    ensures generators { IfOk result (λ g.
+        AreGenerators cols (InHalfSpaces (first.now.facets.items ++ second.now.facets.items)
+        (first.now.hull.items ++ second.now.hull.items)) g.rays.items g.lineality.items) }
+    ensures shown { IfErr result (IsShownOnParts cols (first.now.hull.items ++ second.now.hull.items)
+        (first.now.facets.items ++ second.now.facets.items)) }
 {
     let rows = joined(alloc, &first.facets, &second.facets)?;
     let equations = joined(alloc, &first.hull, &second.hull)?;
@@ -64,8 +67,10 @@ fn intersection(
 ) -> Result<Generators, RefineFail>
     requires first { IsSmall cols (cut_rows first.now) }
     requires second { IsSmall cols (cut_rows second.now) }
-    requires few_columns { cols < 2 ^ 27 }
-    ensures generators { IfOk result (λ g. AreGenerators cols (InHalfSpaces (first.now.facets.items ++ second.now.facets.items) (first.now.hull.items ++ second.now.hull.items)) g.rays.items g.lineality.items) }
+    requires few_columns { cols < 2 ^ 30 }
+    ensures generators { IfOk result (λ g.
+        AreGenerators cols (InHalfSpaces (first.now.facets.items ++ second.now.facets.items)
+        (first.now.hull.items ++ second.now.hull.items)) g.rays.items g.lineality.items) }
     ensures failed { IfErr result (IsPairFail cols (cut_rows first.now) (cut_rows second.now) i j) }
 {
     match cut_out_by_both(alloc, cols, first, second) {
@@ -85,12 +90,14 @@ fn with_cone(
 ) -> Result<Kept, RefineFail>
     requires firsts { AreSmall cols (map cut_rows firsts.now) }
     requires seconds { AreSmall cols (map cut_rows seconds.now) }
-    requires few_firsts { length firsts.now < 2 ^ 28 }
-    requires few_seconds { length seconds.now < 2 ^ 28 }
-    requires few_columns { cols < 2 ^ 27 }
+    requires few_firsts { length firsts.now < 2 ^ 30 }
+    requires few_seconds { length seconds.now < 2 ^ 30 }
+    requires few_columns { cols < 2 ^ 30 }
     requires within { i < length firsts.now }
-    requires before { AreKeptBefore cols (map cut_rows firsts.now) (map cut_rows seconds.now) i 0 before.lineality.items (map intersection_of before.cones.items) }
-    ensures kept { IfOk result (λ k. AreKeptBefore cols (map cut_rows firsts.now) (map cut_rows seconds.now) (suc i) 0 k.lineality.items (map intersection_of k.cones.items)) }
+    requires before { AreKeptBefore cols (map cut_rows firsts.now)
+        (map cut_rows seconds.now) i 0 before.lineality.items (map intersection_of before.cones.items) }
+    ensures kept { IfOk result (λ k. AreKeptBefore cols (map cut_rows firsts.now) (map cut_rows seconds.now)
+        (suc i) 0 k.lineality.items (map intersection_of k.cones.items)) }
     ensures failed { IfErr result (IsStepFail cols (map cut_rows firsts.now) (map cut_rows seconds.now)) }
 {
     let mut cones = before.cones;
@@ -117,10 +124,11 @@ pub(crate) fn kept_of_all(
 ) -> Result<Kept, RefineFail>
     requires firsts { AreSmall cols (map cut_rows firsts.now) }
     requires seconds { AreSmall cols (map cut_rows seconds.now) }
-    requires few_firsts { length firsts.now < 2 ^ 28 }
-    requires few_seconds { length seconds.now < 2 ^ 28 }
-    requires few_columns { cols < 2 ^ 27 }
-    ensures kept { IfOk result (λ k. AreKeptBefore cols (map cut_rows firsts.now) (map cut_rows seconds.now) (length firsts.now) 0 k.lineality.items (map intersection_of k.cones.items)) }
+    requires few_firsts { length firsts.now < 2 ^ 30 }
+    requires few_seconds { length seconds.now < 2 ^ 30 }
+    requires few_columns { cols < 2 ^ 30 }
+    ensures kept { IfOk result (λ k. AreKeptBefore cols (map cut_rows firsts.now) (map cut_rows seconds.now)
+        (length firsts.now) 0 k.lineality.items (map intersection_of k.cones.items)) }
     ensures failed { IfErr result (IsStepFail cols (map cut_rows firsts.now) (map cut_rows seconds.now)) }
 {
     let mut kept = Kept {

@@ -41,7 +41,8 @@ fn wide_rows(
 fn product(alloc: Global, of: &Intersection, ray: &Ints, row: &Ints) -> Result<i128, RefineFail>
     requires { length ray.now ≡ length row.now }
     ensures value { IfOk result (λ k. k ≡ dot_of ray.now row.now) }
-    ensures failed { IfErr result (IsWideOf (IsTestOfRay of.now.first of.now.second ray.now (λ r. r ≡ row.now))) }
+    ensures failed { IfErr result
+        (IsWideOf (IsTestOfRay of.now.first of.now.second ray.now (λ r. r ≡ row.now))) }
 {
     match dot(ray.as_slice(), row.as_slice()) {
         Ok(product) => Ok(product),
@@ -58,7 +59,8 @@ fn is_cut_out(
 ) -> Result<bool, RefineFail>
     requires { HasCols (length ray.now) rows.now }
     ensures inside { IfOk result (λ b. IsTrue b ↔ CutOut rows.now ray.now) }
-    ensures failed { IfErr result (IsWideOf (IsTestOfRay of.now.first of.now.second ray.now (Contains rows.now))) }
+    ensures failed { IfErr result
+        (IsWideOf (IsTestOfRay of.now.first of.now.second ray.now (Contains rows.now))) }
 {
     for row in rows {
         let value = product(alloc, of, ray, row)?;
@@ -78,7 +80,8 @@ fn is_null(
 ) -> Result<bool, RefineFail>
     requires { HasCols (length ray.now) equations.now }
     ensures inside { IfOk result (λ b. IsTrue b ↔ IsNull equations.now ray.now) }
-    ensures failed { IfErr result (IsWideOf (IsTestOfRay of.now.first of.now.second ray.now (Contains equations.now))) }
+    ensures failed { IfErr result
+        (IsWideOf (IsTestOfRay of.now.first of.now.second ray.now (Contains equations.now))) }
 {
     for row in equations {
         let value = product(alloc, of, ray, row)?;
@@ -97,8 +100,10 @@ fn is_inside(
     ray: &Ints,
 ) -> Result<bool, RefineFail>
     requires { IsSmall (length ray.now) (cut_rows cone.now) }
-    ensures inside { IfOk result (λ b. IsTrue b ↔ InHalfSpaces cone.now.facets.items cone.now.hull.items ray.now) }
-    ensures failed { IfErr result (IsWideOf (IsTestOfRay of.now.first of.now.second ray.now (IsRowOf (cut_rows cone.now)))) }
+    ensures inside { IfOk result (λ b. IsTrue b
+        ↔ InHalfSpaces cone.now.facets.items cone.now.hull.items ray.now) }
+    ensures failed { IfErr result
+        (IsWideOf (IsTestOfRay of.now.first of.now.second ray.now (IsRowOf (cut_rows cone.now)))) }
 {
     let cut_out = is_cut_out(alloc, of, &cone.facets, ray)?;
     if !cut_out {
@@ -116,8 +121,10 @@ fn are_inside(
 ) -> Result<bool, RefineFail>
     requires rays { HasCols cols of.now.rays.items }
     requires cone { IsSmall cols (cut_rows cone.now) }
-    ensures inside { IfOk result (λ b. IsTrue b ↔ All (InHalfSpaces cone.now.facets.items cone.now.hull.items) of.now.rays.items) }
-    ensures failed { IfErr result (IsWideOf (IsTestOf (intersection_of of.now ∷ []) (IsRowOf (cut_rows cone.now)))) }
+    ensures inside { IfOk result (λ b. IsTrue b
+        ↔ All (InHalfSpaces cone.now.facets.items cone.now.hull.items) of.now.rays.items) }
+    ensures failed { IfErr result
+        (IsWideOf (IsTestOf (intersection_of of.now ∷ []) (IsRowOf (cut_rows cone.now)))) }
 {
     for ray in &of.rays {
         let inside = is_inside(alloc, of, cone, ray)?;
@@ -139,8 +146,11 @@ pub(crate) fn is_within(
     requires rays { HasCols cols of.now.rays.items }
     requires first { IsSmall cols (cut_rows first.now) }
     requires second { IsSmall cols (cut_rows second.now) }
-    ensures within { IfOk result (λ b. b ≡ are_within (cut_rows first.now) (cut_rows second.now) of.now.rays.items) }
-    ensures failed { IfErr result (IsWideOf (IsTestOf (intersection_of of.now ∷ []) (λ r. IsRowOf (cut_rows first.now) r ⊎ IsRowOf (cut_rows second.now) r))) }
+    ensures within { IfOk result (λ b.
+        b ≡ are_within (cut_rows first.now) (cut_rows second.now) of.now.rays.items) }
+    ensures failed { IfErr result
+        (IsWideOf (IsTestOf (intersection_of of.now ∷ []) (λ r. IsRowOf (cut_rows first.now) r
+        ⊎ IsRowOf (cut_rows second.now) r))) }
 {
     let inside = are_inside(alloc, cols, of, first)?;
     if !inside {

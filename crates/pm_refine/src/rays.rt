@@ -13,7 +13,8 @@ use std::alloc::{AllocError, Global};
 
 /// The rays of all intersections, each once, in lexicographic order.
 pub(crate) fn all_rays(alloc: Global, cones: &[Intersection]) -> Result<Vec<Ints>, AllocError>
-    ensures { IfOk result (λ v. (n : ℕ) → All (λ a. HasCols n a.rays) (map intersection_of cones.now) → AreAllRays (map intersection_of cones.now) v.items) }
+    ensures { IfOk result (λ v. (n : ℕ) → All (λ a. HasCols n a.rays) (map intersection_of cones.now)
+        → AreAllRays (map intersection_of cones.now) v.items) }
 {
     let mut all = Vec::new(alloc);
     for cone in cones {
@@ -43,7 +44,8 @@ pub(crate) fn ray_sets(
     cones: &[Intersection],
     all: &[Ints],
 ) -> Result<Vec<Vec<usize>>, AllocError>
-    ensures { IfOk result (λ v. map (λ s. s.items) v.items ≡ map (λ a. places_from 0 a.rays all.now) (map intersection_of cones.now)) }
+    ensures { IfOk result (λ v. map (λ s. s.items) v.items
+        ≡ map (λ a. places_from 0 a.rays all.now) (map intersection_of cones.now)) }
 {
     let mut sets = Vec::new(alloc);
     for cone in cones {

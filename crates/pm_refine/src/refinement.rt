@@ -49,10 +49,12 @@ fn facets_of_second(
     lines: &[Ints],
 ) -> Result<Vec<Facets>, RefineFail>
     requires fan { IsSmallFan cols (fan_from (map (λ c. c.items) cones.now) lines.now) }
-    requires few_columns { cols < 2 ^ 27 }
-    ensures facets { IfOk result (λ v. AreFacetsOf cols (fan_from (map (λ c. c.items) cones.now) lines.now) (map cut_rows v.items)) }
+    requires few_columns { cols < 2 ^ 30 }
+    ensures facets { IfOk result (λ v. AreFacetsOf cols (fan_from (map (λ c. c.items) cones.now) lines.now)
+        (map cut_rows v.items)) }
     ensures small { IfOk result (λ v. AreSmall cols (map cut_rows v.items)) }
-    ensures failed { IfErr result (λ f. IsConeFail cols (fan_from (map (λ c. c.items) cones.now) lines.now) (turned f)) }
+    ensures failed { IfErr result (λ f. IsConeFail cols (fan_from (map (λ c. c.items) cones.now) lines.now)
+        (turned f)) }
 {
     match facets_of_cones(alloc, cols, cones, lines) {
         Ok(facets) => Ok(facets),
@@ -61,12 +63,12 @@ fn facets_of_second(
 }
 
 /// The common refinement of two fans, which are given by the generators of their cones and by their lineality: the
-/// maximal ones among the intersections of a cone of the first and a cone of the second (Ziegler, Lectures on Polytopes,
-/// section 7.1).
+/// maximal ones among the intersections of a cone of the first and a cone of the second (Ziegler, Lectures on
+/// Polytopes, section 7.1).
 /// The rays are primitive, with zeros in the pivot columns of the echelon basis of the common lineality.
-/// `NotMade` only with a pair of cones and evidence that holds of it: E1, E2 or E5 on the generators of one of them, or
-/// on the facet rows of both; or E4 on a ray of their intersection and a facet row of a cone of either fan, or a row of
-/// the echelon basis of those that vanish on it.
+/// `NotMade` only with a pair of cones and evidence that holds of it: E1, E2 or E5 on the generators of one of them,
+/// or on the facet rows of both; or E4 on a ray of their intersection and a facet row of a cone of either fan, or a
+/// row of the echelon basis of those that vanish on it.
 pub fn common_refinement(
     alloc: Global,
     cols: usize,
@@ -77,15 +79,26 @@ pub fn common_refinement(
 ) -> Result<Refinement, RefineFail>
     requires first { IsSmallFan cols (fan_from (map (λ c. c.items) first.now) first_lines.now) }
     requires second { IsSmallFan cols (fan_from (map (λ c. c.items) second.now) second_lines.now) }
-    requires few_columns { cols < 2 ^ 27 }
-    ensures refined { IfOk result (λ r. IsFan cols (fan_from (map (λ c. c.items) first.now) first_lines.now) → IsFan cols (fan_from (map (λ c. c.items) second.now) second_lines.now) → AreRefined cols (fan_from (map (λ c. c.items) first.now) first_lines.now) (fan_from (map (λ c. c.items) second.now) second_lines.now) r.lineality.items (map intersection_of r.cones.items)) }
+    requires few_columns { cols < 2 ^ 30 }
+    ensures refined { IfOk result (λ r. IsFan cols (fan_from (map (λ c. c.items) first.now) first_lines.now)
+        → IsFan cols (fan_from (map (λ c. c.items) second.now) second_lines.now)
+        → AreRefined cols (fan_from (map (λ c. c.items) first.now) first_lines.now) (fan_from
+        (map (λ c. c.items) second.now) second_lines.now) r.lineality.items
+        (map intersection_of r.cones.items)) }
     ensures rays { IfOk result (λ r. AreAllRays (map intersection_of r.cones.items) r.rays.items) }
-    ensures orders { IfOk result (λ r. IsFan cols (fan_from (map (λ c. c.items) first.now) first_lines.now) → IsFan cols (fan_from (map (λ c. c.items) second.now) second_lines.now) → HasRefinedRays cols (fan_from (map (λ c. c.items) first.now) first_lines.now) (fan_from (map (λ c. c.items) second.now) second_lines.now) r.lineality.items (map intersection_of r.cones.items) r.rays.items) }
+    ensures orders { IfOk result (λ r. IsFan cols (fan_from (map (λ c. c.items) first.now) first_lines.now)
+        → IsFan cols (fan_from (map (λ c. c.items) second.now) second_lines.now)
+        → HasRefinedRays cols (fan_from (map (λ c. c.items) first.now) first_lines.now) (fan_from
+        (map (λ c. c.items) second.now) second_lines.now) r.lineality.items
+        (map intersection_of r.cones.items) r.rays.items) }
     ensures cols { IfOk result (λ r. HasCols cols r.rays.items × HasCols cols r.lineality.items) }
     ensures primitive { IfOk result (λ r. All IsPrimitive r.rays.items) }
     ensures few_lines { IfOk result (λ r. length r.lineality.items ≤ cols) }
-    ensures sets { IfOk result (λ r. AreRaySets r.rays.items (map intersection_of r.cones.items) (map (λ s. s.items) r.sets.items)) }
-    ensures failed { IfErr result (IsRefineFail cols (fan_from (map (λ c. c.items) first.now) first_lines.now) (fan_from (map (λ c. c.items) second.now) second_lines.now)) }
+    ensures sets { IfOk result (λ r. AreRaySets r.rays.items (map intersection_of r.cones.items)
+        (map (λ s. s.items) r.sets.items)) }
+    ensures failed { IfErr result
+        (IsRefineFail cols (fan_from (map (λ c. c.items) first.now) first_lines.now)
+        (fan_from (map (λ c. c.items) second.now) second_lines.now)) }
 {
     if first.is_empty() || second.is_empty() {
         return Ok(Refinement {

@@ -19,7 +19,8 @@ rows_of d = map (λ r. r.items) d.rows.items
 
 -- the column c is that of a basic variable or among the others
 abbrev pub IsCovered : List ℕ → List ℕ → ℕ → Type 0
-IsCovered P N c = ((i : ℕ) × (i < length P) × (column P i ≡ c)) ⊎ ((k : ℕ) × (k < length N) × (column N k ≡ c))
+IsCovered P N c = ((i : ℕ) × (i < length P) × (column P i ≡ c))
+    ⊎ ((k : ℕ) × (k < length N) × (column N k ≡ c))
 
 -- there is a row for each basic variable, and in each row a fraction for each other column
 pub record IsRectangular (d : Dictionary) : Type 0 where
@@ -45,16 +46,20 @@ key_of d i c = key_in (column d.basis.items i) d.others.items (row_of (rows_of d
 
 -- in the column c, the quotient of row i by the size of its fraction at j is less than that of row l
 abbrev pub IsKeyBelow : Dictionary → ℕ → ℕ → ℕ → ℕ → Type 0
-IsKeyBelow d i l j c = IsQuotientBelow (key_of d i c) (at (rows_of d) i j) (key_of d l c) (at (rows_of d) l j)
+IsKeyBelow d i l j c = IsQuotientBelow (key_of d i c) (at (rows_of d) i j) (key_of d l c)
+    (at (rows_of d) l j)
 
 -- after a pivot at row i of R and the column e, row l is lexicographically positive
 abbrev pub StaysPositive : Layout → List Row → ℤ → ℕ → ℕ → ℕ → Type 0
 StaysPositive y R s i l e = IsLexPositive (keys (key_columns y) (pivot_row s (row_at R i) e (row_at R l)))
 
--- row i is before row l in the ratio test at place j: after a pivot at i, row l stays lexicographically positive, for every tableau that the dictionary writes
+-- row i is before row l in the ratio test at place j: after a pivot at i, row l stays lexicographically positive, for
+-- every tableau that the dictionary writes
 pub record IsRowBelow (y : Layout) (d : Dictionary) (i l j : ℕ) : Type 0 where
-  pub stays : (S : List Row) (t : IsDictionaryOf S d.basis.items d.others.items (rows_of d)) (s : ℤ) → IsSign s
-      → pos 0 <ℤ (s *ℤ entry (row_at t.whole i) (column d.others.items j)) → pos 0 <ℤ (s *ℤ entry (row_at t.whole l) (column d.others.items j))
+  pub stays : (S : List Row) (t : IsDictionaryOf S d.basis.items d.others.items (rows_of d)) (s : ℤ)
+      → IsSign s
+      → pos 0 <ℤ (s *ℤ entry (row_at t.whole i) (column d.others.items j))
+      → pos 0 <ℤ (s *ℤ entry (row_at t.whole l) (column d.others.items j))
       → StaysPositive y t.whole s i l (column d.others.items j)
 
 -- 1 for a variable that enters upward, and -1 for one that enters downward

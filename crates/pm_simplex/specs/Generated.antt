@@ -1,4 +1,7 @@
--- Whether a row is in a cone, as a linear program (Schrijver, Theory of Linear and Integer Programming, sections 7.3 and 8.1). Rows r outside of cone(K) + span(L) are those with some y that has product -1 with r, no negative product with a row of K and the product 0 with each of L. The program has these y as its points (1, y), and the objective 0.
+-- Whether a row is in a cone, as a linear program (Schrijver, Theory of Linear and Integer Programming, sections 7.3
+-- and 8.1). Rows r outside of cone(K) + span(L) are those with some y that has product -1 with r, no negative product
+-- with a row of K and the product 0 with each of L. The program has these y as its points (1, y), and the objective
+-- 0.
 use Rattle.pm_vector.specs.Numbers.{Ratio}
 use Rattle.pm_vector.specs.Rows.{Row, opposite}
 use Rattle.pm_fraction.specs.Fractions.{ratio_of}

@@ -1,4 +1,5 @@
--- The lineality of cone(G) + span(L) (Ziegler, Lectures on Polytopes, section 1.5): which rows of G lie in it, and what is eliminated of these.
+-- The lineality of cone(G) + span(L) (Ziegler, Lectures on Polytopes, section 1.5): which rows of G lie in it, and
+-- what is eliminated of these.
 use Rattle.pm_vector.specs.Cones.{InCone}
 use Rattle.pm_vector.specs.Rows.{Row, opposite}
 use Rattle.pm_vector.specs.Bases.{row_at}
@@ -17,7 +18,7 @@ abbrev pub line_group : List Row → List Row → List Bool → List Row
 line_group G L lines = L ++ rows_marked true lines G
 
 -- the echelon basis of the rows that span the lineality, and then some row of G
-pub record IsBasisAndRow (n : ℕ) (G L : List Row) (lines : List Bool) (X : List Row) : Type 0 where
+pub record IsLinealityBasisAndRow (n : ℕ) (G L : List Row) (lines : List Bool) (X : List Row) : Type 0 where
   pub basis : List Row
   pub pivots : List ℕ
   pub is_basis : IsBasisOf n (line_group G L lines) basis pivots

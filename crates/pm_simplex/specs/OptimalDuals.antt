@@ -14,19 +14,23 @@ use Rattle.std.specs.Prelude.{List, length, map, ℕ, ◌+◌, ◌<◌, ◌≡�
 use lib.IntN.{pos}
 use lib.Signed.{◌≤ℤ◌}
 
--- D is the dictionary of the basis P for the equations S, feasible and without the auxiliary variable, residuals in the basis depend on residuals alone, and no free coordinate and no slack improves the objective, which row z writes
-pub record IsOptimalDictionary (y : Layout) (S : List Row) (P N : List ℕ) (D : List (List Ratio)) (z : ℕ) : Type 0 where
+-- D is the dictionary of the basis P for the equations S, feasible and without the auxiliary variable, residuals in
+-- the basis depend on residuals alone, and no free coordinate and no slack improves the objective, which row z writes
+pub record IsOptimalDictionary (y : Layout) (S : List Row) (P N : List ℕ) (D : List (List Ratio)) (z : ℕ)
+    : Type 0 where
   pub dictionary : IsDictionaryOf S P N D
   pub constant : column N 0 ≡ 0
   pub within : z < length P
   pub objective : column P z ≡ objective_column y
   pub feasible : IsFeasibleAt y P D
   pub without : (i : ℕ) → i < length P → ¬ (column P i ≡ auxiliary y)
-  pub settled : (i k : ℕ) → i < length P → k < length N → IsResidualColumn y (column P i) → ¬ (IsResidualColumn y (column N k)) → (at D i k).num ≡ pos 0
+  pub settled : (i k : ℕ) → i < length P → k < length N → IsResidualColumn y (column P i)
+      → ¬ (IsResidualColumn y (column N k)) → (at D i k).num ≡ pos 0
   pub free : (k : ℕ) → 0 < k → k < length N → IsFreeColumn y (column N k) → (at D z k).num ≡ pos 0
   pub slack : (k : ℕ) → 0 < k → k < length N → IsSlackColumn y (column N k) → (at D z k).num ≤ℤ pos 0
 
--- m is the dual of such a dictionary: for each slack and each residual the opposite of its number in the row of the objective, 0 where it is in the basis
+-- m is the dual of such a dictionary: for each slack and each residual the opposite of its number in the row of the
+-- objective, 0 where it is in the basis
 pub record IsDictionaryDual (y : Layout) (S : List Row) (m : List Ratio) : Type 0 where
   pub basis : List ℕ
   pub others : List ℕ

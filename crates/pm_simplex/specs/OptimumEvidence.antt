@@ -28,7 +28,8 @@ ShowsProduct w X (E4 first second) = (first ≡ w) × Contains X second × IsWid
 ShowsProduct w X e = ⊥
 
 -- ---- optima
--- c has its greatest value on the cone of the rays V and lines L at the ray x, and that value leaves the range in lowest terms
+-- c has its greatest value on the cone of the rays V and lines L at the ray x, and that value leaves the range in
+-- lowest terms
 pub record IsWideMaximum (c : List Ratio) (V L : List Row) (x : Row) : Type 0 where
   pub listed : Contains V x
   pub first : pos 0 <ℤ entry x 0
@@ -42,7 +43,8 @@ abbrev pub ShowsMaximum : Row → List Ratio → List Row → List Row → Evide
 ShowsMaximum w c V L (E4 first second) = (first ≡ w) × IsWideMaximum c V L second
 ShowsMaximum w c V L e = ⊥
 
--- e names the primitive row of the objective, and a ray or line whose product with it leaves the range, or a ray at which the optimum stands, which does
+-- e names the primitive row of the objective, and a ray or line whose product with it leaves the range, or a ray at
+-- which the optimum stands, which does
 pub record ShowsValue (sense : Sense) (c : List Ratio) (V L : List Row) (e : Evidence) : Type 0 where
   pub row : Row
   pub primitive : IsPrimitiveRowOf c row
@@ -57,7 +59,8 @@ pub record IsLevelRow (c : List Ratio) (v : Ratio) (r : List Ratio) : Type 0 whe
 
 -- v e0 - c leaves the range as it is made, or as it is made primitive
 abbrev pub IsWideLevel : List Ratio → Ratio → Type 0
-IsWideLevel c v = SumLeaves v (opposite_of (ratio_at c 0)) ⊎ ((r : List Ratio) × IsLevelRow c v r × ¬ (HasPrimitiveRow r))
+IsWideLevel c v = SumLeaves v (opposite_of (ratio_at c 0))
+    ⊎ ((r : List Ratio) × IsLevelRow c v r × ¬ (HasPrimitiveRow r))
 
 -- e names the row w and (1, 0, .., 0), and v e0 - c leaves the range so
 abbrev pub ShowsLevel : Row → List Ratio → Ratio → Evidence → Type 0
@@ -90,7 +93,8 @@ pub record IsMultipleRow (q : Ratio) (a : Row) (r : List Ratio) : Type 0 where
 
 -- an entry of q a leaves the range, or q a does as it is made primitive
 abbrev pub IsWideMultiple : Ratio → Row → Type 0
-IsWideMultiple q a = ((i : ℕ) × (i < length a) × IsTooWide (product_of q (over_one (entry a i)))) ⊎ ((r : List Ratio) × IsMultipleRow q a r × ¬ (HasPrimitiveRow r))
+IsWideMultiple q a = ((i : ℕ) × (i < length a) × IsTooWide (product_of q (over_one (entry a i))))
+    ⊎ ((r : List Ratio) × IsMultipleRow q a r × ¬ (HasPrimitiveRow r))
 
 -- a is one of the rows A, its multiplier p/q among y is positive, x is (p, q), and p/q a leaves the range so
 pub record IsWideWeight (A : List Row) (y : List Ratio) (a x : Row) : Type 0 where

@@ -20,8 +20,11 @@ pub record IsPhaseSystem (y : Layout) (S : List Row) : Type 0 where
 
 -- where the first phase ends with the auxiliary variable in the basis, no variable lowers it
 abbrev pub PhaseIsLeast : Type 0
-PhaseIsLeast = (y : Layout) (S : List Row) (d : Dictionary) (w r : ℕ) → IsPhaseSystem y S → IsState y S d w → column d.basis.items w ≡ phase_column y → r < length d.basis.items → column d.basis.items r ≡ auxiliary y → IsOptimalAt y d w → IsLeastAuxiliary y d r
+PhaseIsLeast = (y : Layout) (S : List Row) (d : Dictionary) (w r : ℕ) → IsPhaseSystem y S → IsState y S d w
+    → column d.basis.items w ≡ phase_column y → r < length d.basis.items
+    → column d.basis.items r ≡ auxiliary y → IsOptimalAt y d w → IsLeastAuxiliary y d r
 
 -- the first phase is never without a bound
 abbrev pub PhaseIsBounded : Type 0
-PhaseIsBounded = (y : Layout) (S : List Row) (d : Dictionary) (w : ℕ) (e : Entering) → IsPhaseSystem y S → IsState y S d w → column d.basis.items w ≡ phase_column y → ¬ (IsUnboundedAt y d w e)
+PhaseIsBounded = (y : Layout) (S : List Row) (d : Dictionary) (w : ℕ) (e : Entering) → IsPhaseSystem y S
+    → IsState y S d w → column d.basis.items w ≡ phase_column y → ¬ (IsUnboundedAt y d w e)

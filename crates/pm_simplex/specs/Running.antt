@@ -13,7 +13,8 @@ use Rattle.std.specs.Prelude.{List, length, slice_set, true, ℕ, ◌+◌, ◌<�
 use lib.IntN.{pos, ◌*ℤ◌}
 use lib.Signed.{◌<ℤ◌, ◌≤ℤ◌}
 
--- d is the dictionary of its basis for the equations S, laid out by y with the column of the constants first; it is lexicographically feasible, and row z is that of an objective
+-- d is the dictionary of its basis for the equations S, laid out by y with the column of the constants first; it is
+-- lexicographically feasible, and row z is that of an objective
 pub record IsState (y : Layout) (S : List Row) (d : Dictionary) (z : ℕ) : Type 0 where
   pub shaped : IsShaped y d
   pub apart : IsApart (columns_of y) d.basis.items d.others.items
@@ -45,17 +46,21 @@ IsResidualColumn y c = (y.cols + y.slacks ≤ c) × (c < y.cols + y.slacks + y.r
 abbrev pub IsSlackColumn : Layout → ℕ → Type 0
 IsSlackColumn y c = (y.cols ≤ c) × (c < y.cols + y.slacks)
 
--- the variable at e.place is a free coordinate, or a slack that moves up, and improves the objective of row z as it moves so
+-- the variable at e.place is a free coordinate, or a slack that moves up, and improves the objective of row z as it
+-- moves so
 pub record IsEntering (y : Layout) (d : Dictionary) (z : ℕ) (e : Entering) : Type 0 where
   pub within : e.place < length d.others.items
   pub not_constant : 0 < e.place
   pub improves : pos 0 <ℤ (direction e.up *ℤ (at (rows_of d) z e.place).num)
-  pub may_enter : IsFreeColumn y (column d.others.items e.place) ⊎ (IsSlackColumn y (column d.others.items e.place) × (e.up ≡ true))
+  pub may_enter : IsFreeColumn y (column d.others.items e.place)
+      ⊎ (IsSlackColumn y (column d.others.items e.place) × (e.up ≡ true))
 
 -- no slack and no free coordinate improves the objective of row z
 pub record IsOptimalAt (y : Layout) (d : Dictionary) (z : ℕ) : Type 0 where
-  pub free : (k : ℕ) → 0 < k → k < length d.others.items → IsFreeColumn y (column d.others.items k) → (at (rows_of d) z k).num ≡ pos 0
-  pub slack : (k : ℕ) → 0 < k → k < length d.others.items → IsSlackColumn y (column d.others.items k) → (at (rows_of d) z k).num ≤ℤ pos 0
+  pub free : (k : ℕ) → 0 < k → k < length d.others.items → IsFreeColumn y (column d.others.items k)
+      → (at (rows_of d) z k).num ≡ pos 0
+  pub slack : (k : ℕ) → 0 < k → k < length d.others.items → IsSlackColumn y (column d.others.items k)
+      → (at (rows_of d) z k).num ≤ℤ pos 0
 
 -- what the row of the objective says of the key columns, in their order
 abbrev pub objective_vector : Layout → Dictionary → ℕ → List Ratio
@@ -81,20 +86,23 @@ pub record IsLaidOut (y : Layout) (S : List Row) (d : Dictionary) : Type 0 where
 
 -- the variable of row i depends on residuals alone: so it is 0 where they are
 pub record IsSettledRow (y : Layout) (d : Dictionary) (i : ℕ) : Type 0 where
-  pub zero : (k : ℕ) → k < length d.others.items → ¬ (IsResidualColumn y (column d.others.items k)) → (at (rows_of d) i k).num ≡ pos 0
+  pub zero : (k : ℕ) → k < length d.others.items → ¬ (IsResidualColumn y (column d.others.items k))
+      → (at (rows_of d) i k).num ≡ pos 0
 
 -- the two objectives have the last rows, and a residual that is left in the basis depends on residuals alone
 pub record IsArranged (y : Layout) (d : Dictionary) : Type 0 where
   pub count : length d.basis.items ≡ y.slacks + y.residuals + 2
   pub objective : column d.basis.items (y.slacks + y.residuals) ≡ objective_column y
   pub phase : column d.basis.items (y.slacks + y.residuals + 1) ≡ phase_column y
-  pub settled : (i : ℕ) → i < length d.basis.items → IsResidualColumn y (column d.basis.items i) → IsSettledRow y d i
+  pub settled : (i : ℕ) → i < length d.basis.items → IsResidualColumn y (column d.basis.items i)
+      → IsSettledRow y d i
 
 -- the auxiliary variable is not in the basis, so it is 0
 pub record IsWithoutHelp (y : Layout) (d : Dictionary) : Type 0 where
   pub absent : (i : ℕ) → i < length d.basis.items → ¬ (column d.basis.items i ≡ auxiliary y)
 
--- residuals are leaving the basis for free coordinates: the rows before row n are done, and the auxiliary variable, which has not entered, stands in the rows of the slacks, not in those of equations
+-- residuals are leaving the basis for free coordinates: the rows before row n are done, and the auxiliary variable,
+-- which has not entered, stands in the rows of the slacks, not in those of equations
 pub record IsAbsorbing (y : Layout) (S : List Row) (d : Dictionary) (n : ℕ) : Type 0 where
   pub laid_out : IsLaidOut y S d
   pub cols : length d.others.items ≡ y.cols + 1
@@ -104,16 +112,19 @@ pub record IsAbsorbing (y : Layout) (S : List Row) (d : Dictionary) (n : ℕ) : 
   pub phase : column d.basis.items (y.slacks + y.residuals + 1) ≡ phase_column y
   pub slacks : (i : ℕ) → i < y.slacks → column d.basis.items i ≡ y.cols + i
   pub residuals : (i : ℕ) → n ≤ i → i < y.slacks + y.residuals → column d.basis.items i ≡ y.cols + i
-  pub done : (i : ℕ) → y.slacks ≤ i → i < n → IsFreeColumn y (column d.basis.items i) ⊎ (IsResidualColumn y (column d.basis.items i) × IsSettledRow y d i)
+  pub done : (i : ℕ) → y.slacks ≤ i → i < n → IsFreeColumn y (column d.basis.items i)
+      ⊎ (IsResidualColumn y (column d.basis.items i) × IsSettledRow y d i)
   pub helped : (i : ℕ) → i < y.slacks → pos 0 <ℤ (at (rows_of d) i y.cols).num
-  pub not_helped : (i : ℕ) → y.slacks ≤ i → i < y.slacks + y.residuals → (at (rows_of d) i y.cols).num ≡ pos 0
+  pub not_helped : (i : ℕ) → y.slacks ≤ i → i < y.slacks + y.residuals
+      → (at (rows_of d) i y.cols).num ≡ pos 0
 
 -- the residual of row r is a constant other than 0, plus residuals: so the equations have no solution
 pub record IsContradiction (y : Layout) (S : List Row) (d : Dictionary) (r : ℕ) : Type 0 where
   pub absorbing : IsAbsorbing y S d r
   pub from : y.slacks ≤ r
   pub within : r < y.slacks + y.residuals
-  pub free : (k : ℕ) → k < length d.others.items → IsFreeColumn y (column d.others.items k) → (at (rows_of d) r k).num ≡ pos 0
+  pub free : (k : ℕ) → k < length d.others.items → IsFreeColumn y (column d.others.items k)
+      → (at (rows_of d) r k).num ≡ pos 0
   pub constant : ¬ ((at (rows_of d) r 0).num ≡ pos 0)
 
 -- the columns have 32 bits

@@ -1,4 +1,5 @@
--- The sense of a linear program: the greatest value of its objective, or the least, which is the opposite of the greatest value of the opposite objective.
+-- The sense of a linear program: the greatest value of its objective, or the least, which is the opposite of the
+-- greatest value of the opposite objective.
 use Rattle.pm_vector.specs.Numbers.{Ratio}
 use Rattle.pm_vector.specs.Rows.{Row, opposite}
 use Rattle.pm_fraction.specs.Arithmetic.{opposite_of}

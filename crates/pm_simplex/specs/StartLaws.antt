@@ -27,5 +27,6 @@ pub record IsStarted (y : Layout) (A B : List Row) (c : List Ratio) (d : Diction
 
 -- each start is one
 abbrev pub StartIsAbsorbing : Type 0
-StartIsAbsorbing = (y : Layout) (A B : List Row) (c : List Ratio) (d : Dictionary) → length A ≡ y.slacks → length B ≡ y.residuals → length c ≡ y.cols → HasCols y.cols A → HasCols y.cols B → IsStart y A B c d
+StartIsAbsorbing = (y : Layout) (A B : List Row) (c : List Ratio) (d : Dictionary) → length A ≡ y.slacks
+    → length B ≡ y.residuals → length c ≡ y.cols → HasCols y.cols A → HasCols y.cols B → IsStart y A B c d
     → IsStarted y A B c d

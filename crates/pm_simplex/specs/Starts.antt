@@ -1,4 +1,5 @@
--- The dictionary from which the simplex method starts: the slacks, the residuals and the two objectives by the coordinates and the auxiliary variable.
+-- The dictionary from which the simplex method starts: the slacks, the residuals and the two objectives by the
+-- coordinates and the auxiliary variable.
 use Rattle.pm_vector.specs.Numbers.{Ratio}
 use Rattle.pm_vector.specs.Rows.{Row, entry, ratio_at}
 use Rattle.pm_vector.specs.Bases.{column, row_at}
@@ -12,17 +13,21 @@ use Rattle.pm_simplex.specs.declared.layout.Layout.{Layout}
 use Rattle.std.specs.Prelude.{List, if◌then◌else◌, length, nat_eq, nat_lt, ℕ, ◌+◌, ◌++◌, ◌<◌, ◌≡◌}
 use lib.IntN.{negsuc, pos, ℤ}
 
--- the column of the variable that row i writes: a slack, a residual, the objective, and the objective of the first phase
+-- the column of the variable that row i writes: a slack, a residual, the objective, and the objective of the first
+-- phase
 abbrev pub own_column : Layout → ℕ → ℕ
 own_column y i = if nat_lt i (y.slacks + y.residuals) then y.cols + i else y.cols + i + 1
 
--- the number by which the auxiliary variable stands in row i: 1 for a slack, -1 for the objective of the first phase, else 0
+-- the number by which the auxiliary variable stands in row i: 1 for a slack, -1 for the objective of the first phase,
+-- else 0
 abbrev pub help_of : Layout → ℕ → ℤ
-help_of y i = if nat_lt i y.slacks then pos 1 else (if nat_eq i (y.slacks + y.residuals + 1) then negsuc 0 else pos 0)
+help_of y i = if nat_lt i y.slacks then pos 1
+    else (if nat_eq i (y.slacks + y.residuals + 1) then negsuc 0 else pos 0)
 
 -- the fraction in row i at the place k < cols: an entry of the rows A and B, of the objective c, or 0
 abbrev pub body_at : Layout → List Row → List Row → List Ratio → ℕ → ℕ → Ratio
-body_at y A B c i k = if nat_lt i (y.slacks + y.residuals) then ratio_of (entry (row_at (A ++ B) i) k) (pos 1) else (if nat_eq i (y.slacks + y.residuals) then ratio_at c k else ratio_of (pos 0) (pos 1))
+body_at y A B c i k = if nat_lt i (y.slacks + y.residuals) then ratio_of (entry (row_at (A ++ B) i) k)
+    (pos 1) else (if nat_eq i (y.slacks + y.residuals) then ratio_at c k else ratio_of (pos 0) (pos 1))
 
 -- the fraction in row i at the place k, of which the last one is that of the auxiliary variable
 abbrev pub start_at : Layout → List Row → List Row → List Ratio → ℕ → ℕ → Ratio

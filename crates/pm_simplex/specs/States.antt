@@ -28,7 +28,8 @@ columns_of y = y.cols + y.slacks + y.residuals + 3
 
 -- the variable of the column c may not be negative: a slack or the auxiliary variable
 abbrev pub is_signed : Layout → ℕ → Bool
-is_signed y c = (nat_le y.cols c && nat_lt c (y.cols + y.slacks)) || nat_eq c (y.cols + y.slacks + y.residuals)
+is_signed y c = (nat_le y.cols c && nat_lt c (y.cols + y.slacks)) || nat_eq c
+    (y.cols + y.slacks + y.residuals)
 
 -- n, n + 1, .. (m of them)
 abbrev pub upward : ℕ → ℕ → List ℕ

@@ -21,7 +21,8 @@ fn free_place(d: &Dictionary, y: Layout, i: usize) -> Option<usize>
     ensures within { IfSome result (λ j. j < length d.now.others.items) }
     ensures free { IfSome result (λ j. IsFreeColumn y (column d.now.others.items j)) }
     ensures depends { IfSome result (λ j. (at (rows_of d.now) i j).num ≢ pos 0) }
-    ensures none { IfNone result ((j : ℕ) → j < length d.now.others.items → IsFreeColumn y (column d.now.others.items j) → (at (rows_of d.now) i j).num ≡ pos 0) }
+    ensures none { IfNone result ((j : ℕ) → j < length d.now.others.items
+        → IsFreeColumn y (column d.now.others.items j) → (at (rows_of d.now) i j).num ≡ pos 0) }
 {
     for j in 0..d.others.len() {
         let c = d.others[j];
@@ -32,7 +33,8 @@ fn free_place(d: &Dictionary, y: Layout, i: usize) -> Option<usize>
     None
 }
 
-/// The residual of row n leaves for a free coordinate, or depends on residuals alone. The answer is whether it does not, but is a constant other than 0.
+/// The residual of row n leaves for a free coordinate, or depends on residuals alone. The answer is whether it does
+/// not, but is a constant other than 0.
 fn absorb_row(alloc: Global, d: &mut Dictionary, y: Layout, n: usize) -> Result<bool, LpFail>
     ghost system: { List Row }
     requires absorbing { IsAbsorbing y system d.old n }
@@ -51,11 +53,13 @@ fn absorb_row(alloc: Global, d: &mut Dictionary, y: Layout, n: usize) -> Result<
     }
 }
 
-/// Each residual leaves for a free coordinate, or depends on residuals alone; else the answer is the row of one that is a constant other than 0.
+/// Each residual leaves for a free coordinate, or depends on residuals alone; else the answer is the row of one that
+/// is a constant other than 0.
 pub(crate) fn absorb(alloc: Global, d: &mut Dictionary, y: Layout) -> Result<Option<usize>, LpFail>
     ghost system: { List Row }
     requires { IsAbsorbing y system d.old y.slacks }
-    ensures absorbed { IfOk result (λ o. MatchOption o (IsAbsorbing y system d.new (y.slacks + y.residuals)) (IsContradiction y system d.new)) }
+    ensures absorbed { IfOk result (λ o. MatchOption o (IsAbsorbing y system d.new (y.slacks + y.residuals))
+        (IsContradiction y system d.new)) }
     ensures wide { IfErr result (λ f. IfWide f (IsShownBy y system)) }
 {
     for n in y.slacks..y.slacks + y.residuals {

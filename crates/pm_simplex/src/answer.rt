@@ -27,7 +27,8 @@ impl Dictionary {
         ensures within { IfSome result (λ i. i < length self.now.basis.items) }
         ensures own { IfSome result (λ i. column self.now.basis.items i ≡ c) }
         ensures before { IfSome result (λ i. (k : ℕ) → k < i → column self.now.basis.items k ≢ c) }
-        ensures none { IfNone result ((i : ℕ) → i < length self.now.basis.items → column self.now.basis.items i ≢ c) }
+        ensures none { IfNone result ((i : ℕ) → i < length self.now.basis.items
+            → column self.now.basis.items i ≢ c) }
     {
         for i in 0..self.basis.len() {
             if self.basis[i] == c {
@@ -41,7 +42,8 @@ impl Dictionary {
     fn value(&self, k: usize, c: usize) -> Fraction
         requires rectangular { IsRectangular self.now }
         requires place { k < length self.now.others.items }
-        ensures { result ≡ solution_at (column self.now.others.items k) k self.now.basis.items (rows_of self.now) c }
+        ensures { result ≡ solution_at (column self.now.others.items k) k self.now.basis.items
+            (rows_of self.now) c }
     {
         if c == self.others[k] {
             return Fraction::one();
@@ -62,7 +64,9 @@ impl Dictionary {
     ) -> Result<Vec<Fraction>, AllocError>
         requires rectangular { IsRectangular self.now }
         requires place { k < length self.now.others.items }
-        ensures { IfOk result (λ v. Lists (λ c. signed_by up (solution_at (column self.now.others.items k) k self.now.basis.items (rows_of self.now) c)) 0 cols v.items) }
+        ensures { IfOk result (λ v.
+            Lists (λ c. signed_by up (solution_at (column self.now.others.items k) k self.now.basis.items
+            (rows_of self.now) c)) 0 cols v.items) }
     {
         let mut values = Vec::new(alloc);
         for c in 0..cols {
@@ -81,7 +85,8 @@ impl Dictionary {
     ) -> Result<Vec<Fraction>, AllocError>
         requires rectangular { IsRectangular self.now }
         requires row { r < length self.now.basis.items }
-        ensures { IfOk result (λ v. Lists (λ c. signed_by up (key_of self.now r c)) y.cols (y.slacks + y.residuals) v.items) }
+        ensures { IfOk result (λ v. Lists (λ c. signed_by up (key_of self.now r c)) y.cols
+            (y.slacks + y.residuals) v.items) }
     {
         let mut multipliers = Vec::new(alloc);
         for j in 0..y.slacks + y.residuals {

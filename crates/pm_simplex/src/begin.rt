@@ -12,7 +12,8 @@ use crate::layout::Layout;
 use crate::ratio_test::leaving;
 use std::alloc::Global;
 
-/// Makes the dictionary feasible: where a slack is negative, the auxiliary variable enters for the least one. The answer is whether it did.
+/// Makes the dictionary feasible: where a slack is negative, the auxiliary variable enters for the least one. The
+/// answer is whether it did.
 pub(crate) fn begin(alloc: Global, d: &mut Dictionary, y: Layout) -> Result<bool, LpFail>
     ghost system: { List Row }
     requires { IsAbsorbing y system d.old (y.slacks + y.residuals) }

@@ -1,4 +1,5 @@
-//! Linear programs: exact optima by the simplex method, with duals, directions and multipliers that prove them.
+//! Linear programs: exact optima by the simplex method, with duals, directions and multipliers that prove them. It
+//! knows nothing of objects, rules and clients.
 #![tactic(auto)]
 
 mod absorb;

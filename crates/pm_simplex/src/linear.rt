@@ -8,7 +8,7 @@ ghost use Rattle.pm_simplex.specs.OptimalDuals.{HasDictionaryDual};
 ghost use Rattle.pm_simplex.specs.Fails.{IfWide};
 ghost use Rattle.pm_simplex.specs.declared.fails.LpFail.TheVariants.{Memory};
 ghost use Rattle.pm_types.specs.Forms.{HasPrimitiveRow};
-ghost use Rattle.std.specs.Prelude.{All, IfErr, IfOk, length, ◌+◌, ◌<◌, ◌≡◌, ◌^◌};
+ghost use Rattle.std.specs.Prelude.{All, IfErr, IfOk, length, ◌*◌, ◌+◌, ◌<◌, ◌^◌, ◌≡◌, ◌≤◌};
 
 use crate::fails::LpFail;
 use crate::layout::Layout;
@@ -44,7 +44,8 @@ fn primitive_rows(alloc: Global, matrix: &Matrix) -> Result<Vec<Ints>, LpFail>
     }
 }
 
-/// The same answer by the dictionaries of the simplex method alone: the dual of an optimum is that of an optimal dictionary.
+/// The same answer by the dictionaries of the simplex method alone: the dual of an optimum is that of an optimal
+/// dictionary.
 pub fn maximise_by_dictionaries(
     alloc: Global,
     inequalities: &[Ints],
@@ -52,7 +53,7 @@ pub fn maximise_by_dictionaries(
     objective: &[Fraction],
 ) -> Result<LpAnswer, LpFail>
     requires some { 0 < length objective.now }
-    requires few { length inequalities.now + length equations.now + length objective.now < 2 ^ 31 }
+    requires few { length inequalities.now + length equations.now + length objective.now ≤ 3 * 2 ^ 30 }
     requires inequality_cols { HasCols (length objective.now) inequalities.now }
     requires equation_cols { HasCols (length objective.now) equations.now }
     ensures answer { IfOk result (IsAnswer inequalities.now equations.now objective.now) }
@@ -67,10 +68,11 @@ pub fn maximise_by_dictionaries(
     by_dictionaries(alloc, y, inequalities, equations, objective)
 }
 
-/// The greatest value of the objective over the x with first coordinate 1, a.x >= 0 for the inequalities a and b.x = 0 for the equations b,
-/// all whole rows of as many entries as the objective has. `Wide` only where a pivot of a dictionary of the program leaves the range, which the evidence (E3) shows.
-/// The answer is an optimum exactly where there is a greatest value, which is its own, `Unbounded` exactly where there is no
-/// bound, and `Infeasible` exactly where there is no point (`law_answers_are_exact` of `pm_dual`).
+/// The greatest value of the objective over the x with first coordinate 1, a.x >= 0 for the inequalities a and b.x =
+/// 0 for the equations b, all whole rows of as many entries as the objective has. `Wide` only where a pivot of a
+/// dictionary of the program leaves the range, which the evidence (E3) shows.
+/// The answer is an optimum exactly where there is a greatest value, which is its own, `Unbounded` exactly where
+/// there is no bound, and `Infeasible` exactly where there is no point (`law_answers_are_exact` of `pm_dual`).
 pub fn maximise_rows(
     alloc: Global,
     inequalities: &[Ints],
@@ -78,7 +80,7 @@ pub fn maximise_rows(
     objective: &[Fraction],
 ) -> Result<LpAnswer, LpFail>
     requires some { 0 < length objective.now }
-    requires few { length inequalities.now + length equations.now + length objective.now < 2 ^ 31 }
+    requires few { length inequalities.now + length equations.now + length objective.now ≤ 3 * 2 ^ 30 }
     requires inequality_cols { HasCols (length objective.now) inequalities.now }
     requires equation_cols { HasCols (length objective.now) equations.now }
     ensures answer { IfOk result (IsAnswer inequalities.now equations.now objective.now) }
@@ -99,14 +101,16 @@ pub fn maximise(
 ) -> Result<LpAnswer, LpFail>
     requires some { 0 < length objective.now.row.items }
     requires cols { length objective.now.row.items < 2 ^ 30 }
-    requires few_inequalities { length inequalities.now.rows < 2 ^ 29 }
-    requires few_equations { length equations.now.rows < 2 ^ 29 }
+    requires few_inequalities { length inequalities.now.rows < 2 ^ 30 }
+    requires few_equations { length equations.now.rows < 2 ^ 30 }
     requires inequality_cols { inequalities.now.cols ≡ length objective.now.row.items }
     requires equation_cols { equations.now.cols ≡ length objective.now.row.items }
     requires inequalities_stay { All HasPrimitiveRow inequalities.now.rows }
     requires equations_stay { All HasPrimitiveRow equations.now.rows }
-    ensures answer { IfOk result (IsAnswerOf inequalities.now.rows equations.now.rows objective.now.row.items) }
-    ensures wide { IfErr result (λ f. IfWide f (ShowsProgramOf inequalities.now.rows equations.now.rows objective.now.row.items)) }
+    ensures answer { IfOk result
+        (IsAnswerOf inequalities.now.rows equations.now.rows objective.now.row.items) }
+    ensures wide { IfErr result (λ f.
+        IfWide f (ShowsProgramOf inequalities.now.rows equations.now.rows objective.now.row.items)) }
 {
     let a = primitive_rows(alloc, inequalities)?;
     let b = primitive_rows(alloc, equations)?;

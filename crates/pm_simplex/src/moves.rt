@@ -36,7 +36,9 @@ impl Dictionary {
         requires pivot { (at (rows_of self.old) l j).num ≢ pos 0 }
         ensures pivoted { OnOk result (IsPivotOf self.old l j self.new) }
         ensures unchanged { OnErr result (self.new ≡ self.old) }
-        ensures wide { IfErr result (λ f. IfWidePlace f (λ i k. (i < length self.old.basis.items) × (k < length self.old.others.items) × IsWidePlace (rows_of self.old) l j i k)) }
+        ensures wide { IfErr result (λ f.
+            IfWidePlace f (λ i k. (i < length self.old.basis.items) × (k < length self.old.others.items)
+            × IsWidePlace (rows_of self.old) l j i k)) }
     {
         self.rows = pivoted_rows(alloc, &self.rows, self.others.len(), l, j)?;
         exchange(&mut self.basis, l, &mut self.others, j);
@@ -85,7 +87,8 @@ impl Dictionary {
         })
     }
 
-    /// The pivot at row l and place j, or evidence that it leaves the range. The dictionary stays as it is where it fails.
+    /// The pivot at row l and place j, or evidence that it leaves the range. The dictionary stays as it is where it
+    /// fails.
     pub(crate) fn pivot_or_evidence(
         &mut self,
         alloc: Global,

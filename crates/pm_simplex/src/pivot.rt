@@ -131,9 +131,11 @@ fn new_other_row(
     requires cols { length y.now ≡ length x.now }
     requires new_cols { length b.now ≡ length x.now }
     ensures count { IfOk result (λ v. length v.items ≡ length x.now) }
-    ensures ok { IfOk result (λ v. (k : ℕ) → k < length x.now → IsNewElsewhere x.now y.now j k (ratio_at b.now k) (ratio_at v.items k)) }
+    ensures ok { IfOk result (λ v. (k : ℕ) → k < length x.now
+        → IsNewElsewhere x.now y.now j k (ratio_at b.now k) (ratio_at v.items k)) }
     ensures fits { IfOk result (λ v. (k : ℕ) → k < length x.now → InRangeRatio (ratio_at v.items k)) }
-    ensures wide { IfErr result (λ f. IfWideAt f (λ k. (k < length x.now) × IsWideElsewhere x.now y.now j k (ratio_at b.now k))) }
+    ensures wide { IfErr result (λ f.
+        IfWideAt f (λ k. (k < length x.now) × IsWideElsewhere x.now y.now j k (ratio_at b.now k))) }
 {
     let mut new = Vec::new(alloc);
     for k in 0..y.len() {
@@ -145,7 +147,8 @@ fn new_other_row(
     Ok(new)
 }
 
-/// Why a dictionary has no successor: an operation for the fraction in a row at a place leaves the range, or there is no memory.
+/// Why a dictionary has no successor: an operation for the fraction in a row at a place leaves the range, or there is
+/// no memory.
 #[derive(Debug, Drop)]
 pub(crate) enum PlaceFail {
     Wide { row: usize, place: usize },
@@ -199,13 +202,17 @@ fn new_row(
     requires shape { HasPlaces cols (map (λ r. r.items) rows.now) }
     requires pivot { (at (map (λ r. r.items) rows.now) l j).num ≢ pos 0 }
     requires new_shape { length b.now ≡ cols }
-    requires new_here { (k : ℕ) → k < cols → IsNewHere (row_of (map (λ r. r.items) rows.now) l) j k (ratio_at b.now k) }
+    requires new_here { (k : ℕ) → k < cols
+        → IsNewHere (row_of (map (λ r. r.items) rows.now) l) j k (ratio_at b.now k) }
     requires new_fits { (k : ℕ) → k < cols → InRangeRatio (ratio_at b.now k) }
     ensures count { IfOk result (λ v. length v.items ≡ cols) }
     ensures here { IfOk result (λ v. i ≡ l → v.items ≡ b.now) }
-    ensures elsewhere { IfOk result (λ v. ¬ (i ≡ l) → (k : ℕ) → k < cols → IsNewElsewhere (row_of (map (λ r. r.items) rows.now) l) (row_of (map (λ r. r.items) rows.now) i) j k (ratio_at b.now k) (ratio_at v.items k)) }
+    ensures elsewhere { IfOk result (λ v. ¬ (i ≡ l) → (k : ℕ) → k < cols
+        → IsNewElsewhere (row_of (map (λ r. r.items) rows.now) l) (row_of
+        (map (λ r. r.items) rows.now) i) j k (ratio_at b.now k) (ratio_at v.items k)) }
     ensures fits { IfOk result (λ v. (k : ℕ) → k < cols → InRangeRatio (ratio_at v.items k)) }
-    ensures wide { IfErr result (λ f. IfWidePlace f (λ r k. (r ≡ i) × (k < cols) × IsWidePlace (map (λ r. r.items) rows.now) l j i k)) }
+    ensures wide { IfErr result (λ f.
+        IfWidePlace f (λ r k. (r ≡ i) × (k < cols) × IsWidePlace (map (λ r. r.items) rows.now) l j i k)) }
 {
     if i == l {
         return Ok(copy_of(alloc, b)?);
@@ -230,9 +237,11 @@ fn first_row(
     requires shape { HasPlaces cols (map (λ r. r.items) rows.now) }
     requires pivot { (at (map (λ r. r.items) rows.now) l j).num ≢ pos 0 }
     ensures count { IfOk result (λ v. length v.items ≡ cols) }
-    ensures here { IfOk result (λ v. (k : ℕ) → k < cols → IsNewHere (row_of (map (λ r. r.items) rows.now) l) j k (ratio_at v.items k)) }
+    ensures here { IfOk result (λ v. (k : ℕ) → k < cols
+        → IsNewHere (row_of (map (λ r. r.items) rows.now) l) j k (ratio_at v.items k)) }
     ensures fits { IfOk result (λ v. AllFit cols v.items) }
-    ensures wide { IfErr result (λ f. IfWidePlace f (λ r k. (r ≡ l) × (k < cols) × IsWidePlace (map (λ r. r.items) rows.now) l j l k)) }
+    ensures wide { IfErr result (λ f.
+        IfWidePlace f (λ r k. (r ≡ l) × (k < cols) × IsWidePlace (map (λ r. r.items) rows.now) l j l k)) }
 {
     match new_pivot_row(alloc, &rows[l], j) {
         Ok(row) => Ok(row),
@@ -255,9 +264,13 @@ pub(crate) fn pivoted_rows(
     requires pivot { (at (map (λ r. r.items) rows.now) l j).num ≢ pos 0 }
     ensures count { IfOk result (λ v. length (map (λ r. r.items) v.items) ≡ length rows.now) }
     ensures shape { IfOk result (λ v. HasPlaces cols (map (λ r. r.items) v.items)) }
-    ensures fits { IfOk result (λ v. (i : ℕ) → i < length rows.now → AllFit cols (row_of (map (λ r. r.items) v.items) i)) }
-    ensures pivoted { IfOk result (λ v. IsPivoted (length rows.now) cols (map (λ r. r.items) rows.now) l j (map (λ r. r.items) v.items)) }
-    ensures wide { IfErr result (λ f. IfWidePlace f (λ i k. (i < length rows.now) × (k < cols) × IsWidePlace (map (λ r. r.items) rows.now) l j i k)) }
+    ensures fits { IfOk result (λ v. (i : ℕ) → i < length rows.now
+        → AllFit cols (row_of (map (λ r. r.items) v.items) i)) }
+    ensures pivoted { IfOk result (λ v. IsPivoted (length rows.now) cols (map (λ r. r.items) rows.now) l j
+        (map (λ r. r.items) v.items)) }
+    ensures wide { IfErr result (λ f.
+        IfWidePlace f (λ i k. (i < length rows.now) × (k < cols)
+        × IsWidePlace (map (λ r. r.items) rows.now) l j i k)) }
 {
     let new = first_row(alloc, rows, cols, l, j)?;
     let mut after = Vec::new(alloc);

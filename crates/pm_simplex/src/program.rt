@@ -22,7 +22,8 @@ use pm_fraction::Fraction;
 use pm_vector::Ints;
 use std::alloc::Global;
 
-/// Makes the dictionary feasible. Where it cannot be, the answer is the row of the auxiliary variable, which is least there.
+/// Makes the dictionary feasible. Where it cannot be, the answer is the row of the auxiliary variable, which is least
+/// there.
 fn first_phase(alloc: Global, d: &mut Dictionary, y: Layout) -> Result<Option<usize>, LpFail>
     ghost system: { List Row }
     requires absorbing { IsAbsorbing y system d.old (y.slacks + y.residuals) }

@@ -134,7 +134,8 @@ fn first_hindering(d: &Dictionary, y: Layout, j: usize, up: bool) -> Option<usiz
     requires shaped { IsShaped y d.now }
     requires place { j < length d.now.others.items }
     ensures within { IfSome result (λ l. l < length d.now.basis.items) }
-    ensures some { IfSome result (λ l. HindersAt y d.now j up l × ((i : ℕ) → i < l → HindersAt y d.now j up i → ⊥)) }
+    ensures some { IfSome result (λ l. HindersAt y d.now j up l
+        × ((i : ℕ) → i < l → HindersAt y d.now j up i → ⊥)) }
     ensures none { IfNone result ((i : ℕ) → i < length d.now.basis.items → HindersAt y d.now j up i → ⊥) }
 {
     for i in 0..d.basis.len() {

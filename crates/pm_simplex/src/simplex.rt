@@ -41,8 +41,10 @@ fn improving(d: &Dictionary, y: Layout, z: usize, k: usize) -> Option<bool>
     requires place { k < length d.now.others.items }
     requires not_constant { 0 < k }
     ensures some { IfSome result (λ up. IsEntering y d.now z (record { place = k; up = up })) }
-    ensures free { IfNone result (IsFreeColumn y (column d.now.others.items k) → (at (rows_of d.now) z k).num ≡ pos 0) }
-    ensures slack { IfNone result (IsSlackColumn y (column d.now.others.items k) → (at (rows_of d.now) z k).num ≤ℤ pos 0) }
+    ensures free { IfNone result (IsFreeColumn y (column d.now.others.items k)
+        → (at (rows_of d.now) z k).num ≡ pos 0) }
+    ensures slack { IfNone result (IsSlackColumn y (column d.now.others.items k)
+        → (at (rows_of d.now) z k).num ≤ℤ pos 0) }
 {
     let c = d.others[k];
     if c == 0 || c >= y.cols + y.slacks {
@@ -78,7 +80,9 @@ fn make_step(alloc: Global, d: &mut Dictionary, y: Layout, z: usize) -> Result<S
     ensures state { IsState y system d.new z }
     ensures arranged { IsArranged y d.new }
     ensures without { IsWithoutHelp y d.old → IsWithoutHelp y d.new }
-    ensures better { IfOk result (λ s. IfStep s (IsLexBelow (objective_vector y d.old z) (objective_vector y d.new z)) (IsOptimalAt y d.new z) (IsUnboundedAt y d.new z)) }
+    ensures better { IfOk result (λ s.
+        IfStep s (IsLexBelow (objective_vector y d.old z) (objective_vector y d.new z))
+        (IsOptimalAt y d.new z) (IsUnboundedAt y d.new z)) }
     ensures wide { IfErr result (λ f. IfWide f (IsShownBy y system)) }
 {
     let Some(enters) = entering(d, y, z) else {

@@ -130,7 +130,8 @@ fn start_rows(
     requires b_cols { HasCols y.cols b.now }
     requires cols { length c.now ≡ y.cols }
     ensures count { IfOk result (λ v. length v.items ≡ y.slacks + y.residuals + 2) }
-    ensures rows { IfOk result (λ v. (i : ℕ) → i < y.slacks + y.residuals + 2 → IsStartRow y a.now b.now c.now i (row_of (map (λ r. r.items) v.items) i)) }
+    ensures rows { IfOk result (λ v. (i : ℕ) → i < y.slacks + y.residuals + 2
+        → IsStartRow y a.now b.now c.now i (row_of (map (λ r. r.items) v.items) i)) }
 {
     let mut rows = Vec::new(alloc);
     for i in 0..y.slacks + y.residuals + 2 {
@@ -143,7 +144,8 @@ fn start_rows(
 /// The columns of the variables that the rows of the start write.
 fn start_basis(alloc: Global, y: Layout) -> Result<Vec<usize>, AllocError>
     ensures count { IfOk result (λ v. length v.items ≡ y.slacks + y.residuals + 2) }
-    ensures own { IfOk result (λ v. (i : ℕ) → i < y.slacks + y.residuals + 2 → column v.items i ≡ own_column y i) }
+    ensures own { IfOk result (λ v. (i : ℕ) → i < y.slacks + y.residuals + 2
+        → column v.items i ≡ own_column y i) }
 {
     let mut basis = Vec::new(alloc);
     for i in 0..y.slacks + y.residuals + 2 {

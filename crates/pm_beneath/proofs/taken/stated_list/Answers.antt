@@ -7,14 +7,14 @@ use Rattle.pm_elim.specs.Enlarging.{MarkEnlarging}
 use Rattle.pm_dd.proofs.HullLaws.{double_list_made, list_cols, list_length}
 use Rattle.std.proofs.Common.{ap, arith, length, ◌*◌, ◌++◌, ◌≡◌, ◌≤◌, ◌∙◌}
 
-pub enlarging-requires-clause-columns : goal.enlarging-requires-clause-columns
-enlarging-requires-clause-columns c =
+pub enlarging_by-requires-clause-columns : goal.enlarging_by-requires-clause-columns
+enlarging_by-requires-clause-columns c =
     let list : c.in_ok-list.list.items ≡ both_signs c.in_ok-basis.basis.items ++ c.args.rays.now = rw (c.in_ok-signs.ensures, c.deref.ensures.value) at c.in_ok-list.ensures in
     let double = double_list_made c.args.cols c.args.lineality.now c.args.rays.now c.in_ok-basis.basis.items c.in_ok-list.list.items c.in_ok-basis.ensures.basis.0 c.in_ok-basis.ensures.basis.1 list in
     rw c.deref-2.ensures.value (list_cols c.args.cols c.args.lineality.now c.args.rays.now c.in_ok-list.list.items double c.requires.ray_cols)
 
-pub enlarging-requires-clause-few_rows : goal.enlarging-requires-clause-few_rows
-enlarging-requires-clause-few_rows c =
+pub enlarging_by-requires-clause-few_rows : goal.enlarging_by-requires-clause-few_rows
+enlarging_by-requires-clause-few_rows c =
     let list : c.in_ok-list.list.items ≡ both_signs c.in_ok-basis.basis.items ++ c.args.rays.now = rw (c.in_ok-signs.ensures, c.deref.ensures.value) at c.in_ok-list.ensures in
     let double = double_list_made c.args.cols c.args.lineality.now c.args.rays.now c.in_ok-basis.basis.items c.in_ok-list.list.items c.in_ok-basis.ensures.basis.0 c.in_ok-basis.ensures.basis.1 list in
     let l = list_length c.args.cols c.args.lineality.now c.args.rays.now c.in_ok-list.list.items double in

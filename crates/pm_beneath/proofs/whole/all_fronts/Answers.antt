@@ -8,7 +8,7 @@ pub start_rays-requires-clause-cols : goal.start_rays-requires-clause-cols
 start_rays-requires-clause-cols c = first_cols c.args.cols c.args.list.now c.args.equations.now c.args.rows.now c.args.start c.requires.columns c.requires.arranged
 
 pub start_rays-requires-clause-few_rows : goal.start_rays-requires-clause-few_rows
-start_rays-requires-clause-few_rows c = let f = first_few c.args.cols c.args.list.now c.args.equations.now c.args.rows.now c.args.start c.requires.columns c.requires.arranged in omega arith
+start_rays-requires-clause-few_rows c = let w = c.requires.arranged.within in omega arith
 
 pub start_rays-requires-clause-independent : goal.start_rays-requires-clause-independent
 start_rays-requires-clause-independent c = first_free c.args.cols c.args.list.now c.args.equations.now c.args.rows.now c.args.start c.requires.columns c.requires.arranged

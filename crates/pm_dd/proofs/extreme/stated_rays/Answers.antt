@@ -7,7 +7,7 @@ pub start_rays-requires-clause-cols : goal.start_rays-requires-clause-cols
 start_rays-requires-clause-cols c = rw (c.deref-4.ensures.value, c.deref-5.ensures.value) (first_cols c.args.cols c.args.rows.now c.in_ok-order.order.equations.items c.in_ok-order.order.rows.items c.in_ok-order.order.start c.requires.columns c.in_ok-order.ensures.arranged)
 
 pub start_rays-requires-clause-few_rows : goal.start_rays-requires-clause-few_rows
-start_rays-requires-clause-few_rows c = let f = first_few c.args.cols c.args.rows.now c.in_ok-order.order.equations.items c.in_ok-order.order.rows.items c.in_ok-order.order.start c.requires.columns c.in_ok-order.ensures.arranged in omega arith
+start_rays-requires-clause-few_rows c = let w = c.in_ok-order.ensures.arranged.within in let f = c.in_ok-order.ensures.few_rows in omega arith
 
 pub start_rays-requires-clause-independent : goal.start_rays-requires-clause-independent
 start_rays-requires-clause-independent c = rw (c.deref-4.ensures.value, c.deref-5.ensures.value) (first_free c.args.cols c.args.rows.now c.in_ok-order.order.equations.items c.in_ok-order.order.rows.items c.in_ok-order.order.start c.requires.columns c.in_ok-order.ensures.arranged)

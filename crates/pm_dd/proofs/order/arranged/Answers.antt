@@ -28,6 +28,8 @@ returns-clause-few_rows c =
     rw (c.deref-2.ensures.value, c.new.ensures.items, lead, rest_of c.in_ok-marks.marks.items (2 * length c.in_ok-equations.equations.items), rest_of c.args.rows.now (2 * length c.in_ok-equations.equations.items)) at c.in_ok-first.ensures in
     let two : c.in_ok-ordered.ordered.items ≡ rows_marked true (drop (2 * length c.in_ok-equations.equations.items) c.in_ok-marks.marks.items) (drop (2 * length c.in_ok-equations.equations.items) c.args.rows.now) ++ rows_marked false (drop (2 * length c.in_ok-equations.equations.items) c.in_ok-marks.marks.items) (drop (2 * length c.in_ok-equations.equations.items) c.args.rows.now) =
     rw (c.deref-3.ensures.value, one, lead, rest_of c.in_ok-marks.marks.items (2 * length c.in_ok-equations.equations.items), rest_of c.args.rows.now (2 * length c.in_ok-equations.equations.items)) at c.in_ok-ordered.ensures in
+    let leads : Leads c.args.rows.now c.in_ok-marks.marks.items c.in_ok-equations.equations.items = rw c.deref.ensures.value at c.in_ok-equations.ensures in
+    let within = leads.within in
     let n = c.in_ok-marks.ensures.marks.as_many in
     let dm = length-drop (2 * length c.in_ok-equations.equations.items) c.in_ok-marks.marks.items in
     let dr = length-drop (2 * length c.in_ok-equations.equations.items) c.args.rows.now in

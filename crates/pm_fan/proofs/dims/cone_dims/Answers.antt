@@ -25,7 +25,9 @@ pub rank-requires-clause-few_rows : goal.rank-requires-clause-few_rows
 rank-requires-clause-few_rows c =
     let i = set_among (λ s. s.items) c.rows-set-items.result.now c.args.cones.now.rows c.loop-set.set-index c.set-item.result c.rows-set-items.ensures c.loop-set-test.true c.set-item.is in
     let p = among_All (λ (set : List ℕ). All (λ j. j < length c.args.rays.now) set × (length c.args.lineality.now + length set < 2 ^ 30)) i c.requires.places in
-    rw (c.deref-in-loop-set.ensures.value, c.in_ok-rows.ensures, c.deref.ensures.value) (rw (cone_length c.args.rays.now c.args.lineality.now c.set-item.result.items) p.1)
+    let m = cone_length c.args.rays.now c.args.lineality.now c.set-item.result.items in
+    let few = p.1 in
+    rw (c.deref-in-loop-set.ensures.value, c.in_ok-rows.ensures, c.deref.ensures.value) (omega arith)
 
 pub overflow_cast-branch : goal.overflow_cast-branch
 overflow_cast-branch c =

@@ -1,14 +1,14 @@
 use Rattle.pm_vector.specs.Cones.{InCone}
 use Rattle.pm_incidence.proofs.Described.{if_ok, vertices_of_thin, zero_cone, zero_generators}
 use Rattle.pm_incidence.proofs.by_incidence.vertices_by_incidence.Goals as goal
-use Rattle.pm_incidence.specs.Thinning.{HasPoint}
+use Rattle.pm_incidence.specs.Thinning.{HasPointAmong}
 use Rattle.std.proofs.Common.{false, true, ◌≡◌}
 
 pub returns-then-not-has_point-clause-generators : goal.returns-then-not-has_point-clause-generators
 returns-then-not-has_point-clause-generators c = λ hH cut.
     let G = c.args.g.now.rays.items in
     let L = c.args.g.now.lineality.items in
-    let none : ¬ (HasPoint c.args.of G) = λ p. let e : false ≡ true = rw c.if-not-has_point.true at (c.has_point.ensures.1 (rw c.deref.ensures.value p)) in cc in
+    let none : ¬ (HasPointAmong c.args.of G) = λ p. let e : false ≡ true = rw c.if-not-has_point.true at (c.has_point.ensures.1 (rw c.deref.ensures.value p)) in cc in
     rw (c.new.ensures.items, c.new-then-not-has_point.ensures.items) (zero_generators c.args.cols (InCone G L) (zero_cone c.args.cols c.requires.some_columns G L c.args.f.now.facets.items c.args.f.now.hull.items c.requires.ray_cols c.requires.line_cols c.args.of none cut))
 
 pub returns-clause-generators : goal.returns-clause-generators

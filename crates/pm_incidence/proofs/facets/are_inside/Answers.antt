@@ -2,7 +2,7 @@ use Rattle.pm_dd.specs.Fronts.{HalfSpaces}
 use Rattle.pm_vector.proofs.Lists.{among_All, among_Contains}
 use Rattle.pm_geom.proofs.Polar.{cols_at}
 use Rattle.pm_incidence.proofs.Products.{listed}
-use Rattle.pm_incidence.proofs.Taken.{no_from}
+use Rattle.pm_geom.proofs.Taken.{no_from}
 use Rattle.pm_incidence.specs.Thinning.{half_spaces}
 use Rattle.std.proofs.Common.{false, true, ◌≡◌}
 use Rattle.pm_incidence.proofs.ThinFails.{inside_of}

@@ -3,7 +3,7 @@ use Rattle.pm_incidence.proofs.FacetPlaces.{facets_answered, few_rows, taken_wit
 use Rattle.pm_incidence.proofs.ThinFails.{facets_reduction}
 use Rattle.pm_incidence.proofs.Thinned.{thinned_cols}
 use Rattle.pm_incidence.proofs.facets.facets_by_incidence.Goals as goal
-use Rattle.pm_incidence.specs.Thinning.{HasPoint}
+use Rattle.pm_incidence.specs.Thinning.{HasPointAmong}
 use Rattle.std.proofs.Common.{false, sym, true, ◌≡◌}
 use Rattle.std.proofs.lemmas.Result.{err_from_is_err_and}
 use Rattle.std.specs.List.{range_with_len}
@@ -12,7 +12,7 @@ pub returns-then-not-has_point-clause-facets : goal.returns-then-not-has_point-c
 returns-then-not-has_point-clause-facets c = λ hK cut.
     let V = c.args.g.now.rays.items in
     let K = c.args.g.now.lineality.items in
-    let none : ¬ (HasPoint c.args.of V) = λ p. let e : false ≡ true = rw c.if-not-has_point.true at (c.has_point.ensures.1 (rw c.deref.ensures.value p)) in cc in
+    let none : ¬ (HasPointAmong c.args.of V) = λ p. let e : false ≡ true = rw c.if-not-has_point.true at (c.has_point.ensures.1 (rw c.deref.ensures.value p)) in cc in
     rw (c.new.ensures.items, c.in_ok-unit_rows.ensures) (zero_facets c.args.cols V K (zero_cone c.args.cols c.requires.some_columns V K c.args.rows.now c.args.equations.now c.requires.ray_cols hK c.args.of none cut))
 
 pub returns-then-not-has_point-clause-echelon : goal.returns-then-not-has_point-clause-echelon

@@ -1,5 +1,5 @@
 use Rattle.pm_incidence.proofs.Described.{halves_of, halves_to, if_ok}
-use Rattle.pm_incidence.proofs.Taken.{no_from}
+use Rattle.pm_geom.proofs.Taken.{no_from}
 use Rattle.pm_incidence.proofs.ThinFails.{wide_more, first_part, second_part, if_err}
 use Rattle.pm_incidence.proofs.facets.is_inside.Goals as goal
 use Rattle.std.proofs.Common.{false, length, true, ◌≡◌}

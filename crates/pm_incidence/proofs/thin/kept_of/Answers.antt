@@ -4,13 +4,13 @@ use Rattle.pm_incidence.proofs.ThinFails.{ranged_elimination, thin_of_eliminatio
 use Rattle.pm_incidence.proofs.thin.kept_of.Goals as goal
 use Rattle.std.proofs.lemmas.Result.{err_from_is_err_and}
 
-pub echelon-requires-clause-columns : goal.echelon-requires-clause-columns
-echelon-requires-clause-columns c =
+pub echelon_by-requires-clause-columns : goal.echelon_by-requires-clause-columns
+echelon_by-requires-clause-columns c =
     let group = rw c.deref.ensures.value at c.in_ok-group.ensures in
     rw c.deref-2.ensures.value (group_cols c.args.rows.now c.args.cuts.now c.in_ok-zeros.zeros.rows c.in_ok-marks.marks.items c.in_ok-zeros.ensures.zeros c.in_ok-marks.ensures c.args.cols c.args.lines.now c.in_ok-group.group.items c.requires.row_cols c.requires.line_cols group)
 
-pub echelon-requires-clause-few_rows : goal.echelon-requires-clause-few_rows
-echelon-requires-clause-few_rows c =
+pub echelon_by-requires-clause-few_rows : goal.echelon_by-requires-clause-few_rows
+echelon_by-requires-clause-few_rows c =
     let group = rw c.deref.ensures.value at c.in_ok-group.ensures in
     rw c.deref-2.ensures.value (group_few c.args.rows.now c.args.cuts.now c.in_ok-zeros.zeros.rows c.in_ok-marks.marks.items c.in_ok-zeros.ensures.zeros c.in_ok-marks.ensures c.args.lines.now c.in_ok-group.group.items c.requires.few_rows c.requires.few_lines group)
 

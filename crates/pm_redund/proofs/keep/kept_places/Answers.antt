@@ -1,22 +1,22 @@
 use Rattle.pm_incidence.proofs.Appended.{below_all, below_more, below_none, below_skip}
 use Rattle.pm_redund.proofs.keep.kept_places.Goals as goal
 use Rattle.pm_redund.proofs.keep.kept_places.Goals.{then-is_kept+in_ok-push, else-is_kept}
-use Rattle.pm_redund.specs.Redundancy.{IsKept}
+use Rattle.pm_redund.specs.Redundancy.{IsKeptRow}
 use Rattle.std.proofs.Common.{arith, false, length, true, ◌≡◌}
 
 pub loop-i-init : goal.loop-i-init
-loop-i-init c = rw c.new-places.ensures.items (below_none (IsKept c.args.line_marks.now c.args.marks.now))
+loop-i-init c = rw c.new-places.ensures.items (below_none (IsKeptRow c.args.line_marks.now c.args.marks.now))
 
 pub loop-i-preserved : goal.loop-i-preserved
 loop-i-preserved c = elim c.if-is_kept.branch [
-  | then-is_kept+in_ok-push w ↦ rw w.places-is (below_more (IsKept c.args.line_marks.now c.args.marks.now) c.loop-i.i c.loop-i.places.items w.push.new.self.items w.in_ok-push.ensures.items c.loop-i.invariant (c.is_kept.ensures.0 w.if-is_kept.true))
-  | else-is_kept w ↦ rw w.places-is (below_skip (IsKept c.args.line_marks.now c.args.marks.now) c.loop-i.i c.loop-i.places.items c.loop-i.invariant (λ k. let e : false ≡ true = rw w.if-is_kept.false at (c.is_kept.ensures.1 k) in cc))
+  | then-is_kept+in_ok-push w ↦ rw w.places-is (below_more (IsKeptRow c.args.line_marks.now c.args.marks.now) c.loop-i.i c.loop-i.places.items w.push.new.self.items w.in_ok-push.ensures.items c.loop-i.invariant (c.is_kept.ensures.0 w.if-is_kept.true))
+  | else-is_kept w ↦ rw w.places-is (below_skip (IsKeptRow c.args.line_marks.now c.args.marks.now) c.loop-i.i c.loop-i.places.items c.loop-i.invariant (λ k. let e : false ≡ true = rw w.if-is_kept.false at (c.is_kept.ensures.1 k) in cc))
 ]
 
 pub returns-clause-kept : goal.returns-clause-kept
 returns-clause-kept c =
     let h = c.loop-i.invariant in
-    let all = below_all (IsKept c.args.line_marks.now c.args.marks.now) c.loop-i.i (length c.args.rows.now) c.loop-i.places.items (let l = c.loop-i-test.false in omega arith) (let l = c.loop-i.auto.i-end in omega arith) h in
+    let all = below_all (IsKeptRow c.args.line_marks.now c.args.marks.now) c.loop-i.i (length c.args.rows.now) c.loop-i.places.items (let l = c.loop-i-test.false in omega arith) (let l = c.loop-i.auto.i-end in omega arith) h in
     record { each = all.0; every = all.1; ascending = h.ascending }
 
 pub returns-clause-few : goal.returns-clause-few

@@ -2,7 +2,7 @@ use Rattle.pm_vector.proofs.Lists.{among_All, among_Contains}
 use Rattle.pm_geom.proofs.Polar.{cols_at}
 use Rattle.pm_laws_normal_fans.specs.Refinements.{InHalfSpaces}
 use Rattle.pm_refine.proofs.Outcomes.{small_as, test_of_ray}
-use Rattle.pm_refine.proofs.Taken.{listed, no_from}
+use Rattle.pm_geom.proofs.Taken.{listed, no_from}
 use Rattle.pm_refine.proofs.products.are_inside.Goals as goal
 use Rattle.pm_refine.specs.CutRows.{IsRowOf, cut_rows, intersection_of}
 use Rattle.std.proofs.Common.{false, length, true, ◌≡◌}

@@ -1,6 +1,6 @@
 use Rattle.pm_geom.specs.Cones.{CutOut}
 use Rattle.pm_refine.proofs.Outcomes.{if_err, if_ok, ray_as}
-use Rattle.pm_refine.proofs.Taken.{no_from}
+use Rattle.pm_geom.proofs.Taken.{no_from}
 use Rattle.pm_refine.proofs.products.is_inside.Goals as goal
 use Rattle.pm_refine.specs.CutRows.{IsRowOf, cut_rows}
 use Rattle.std.proofs.Common.{false, inl, inr, true, ◌↔◌, ◌≡◌}
