@@ -1,6 +1,6 @@
 pub mod Loaded
-mod Fitting
-mod SuitLaws
+pub mod Fitting
+pub mod SuitLaws
 pub mod PartTurns
 pub mod Unique
 pub mod ItemTurns

@@ -13,7 +13,7 @@ use Rattle.pm_matrix.specs.Matrices.{IsFraction}
 use Rattle.pm_json.proofs.FractionTexts.{text_read}
 use Rattle.pm_json.proofs.GrammarReads.{read_of_text}
 use Rattle.pm_json.proofs.Parts.{err_ok}
-use Rattle.pm_json.specs.Grammar.{AreItems, AreRowsOf, AreSetsOf, HasCols, IsArrayOf, IsEntryOf, IsIndexOf, IsMatrixOf, IsRowOf, IsSetOf, IsTextOf, StatesCols, are_apart}
+use Rattle.pm_json.specs.Grammar.{AreItems, AreJsonRows, AreJsonSets, HasColumnCount, IsArrayOf, IsEntryOf, IsIndexOf, IsMatrixOf, IsJsonRow, IsSetOf, IsJsonText, StatesCols, are_apart}
 use Rattle.pm_json.specs.Readings.{has_index, is_fraction_text, number_value_of, object_behind, ratio_of_text, rows_before, whole_count_of}
 use Rattle.pm_json.specs.declared.fail.ValueFail.TheVariants.{Number}
 use Rattle.pm_props.specs.Properties.{is_ambient, is_of_counts, is_of_edges, is_of_lattices, is_of_matrices, is_of_sets, is_of_whole_numbers, value_kind}
@@ -40,10 +40,10 @@ entries_text : (r : List Ratio) → All IsFraction r → AreItems IsEntryOf (lis
 entries_text [] h = tt
 entries_text (q ∷ r) h = (fraction_text q (All-head IsFraction q r h), entries_text r (All-tail IsFraction q r h))
 
-row_text : (r : List Ratio) → All IsFraction r → IsRowOf (row_json r) r
+row_text : (r : List Ratio) → All IsFraction r → IsJsonRow (row_json r) r
 row_text r h = (listed (map fraction_json r), refl, entries_text r h)
 
-rows_text : (rows : List (List Ratio)) → All (All IsFraction) rows → AreItems IsRowOf (listed (map row_json rows)) rows
+rows_text : (rows : List (List Ratio)) → All (All IsFraction) rows → AreItems IsJsonRow (listed (map row_json rows)) rows
 rows_text [] h = tt
 rows_text (r ∷ rows) h = (row_text r (All-head (All IsFraction) r rows h), rows_text rows (All-tail (All IsFraction) r rows h))
 
@@ -65,11 +65,11 @@ matrix_text least n [] le h = by (eqb n 0) refl
 matrix_text least n (r ∷ rows) le h = record {
   items = listed (map row_json (r ∷ rows));
   array = refl;
-  each = subst (λ ds. AreItems IsRowOf ds (r ∷ rows)) (sym (rows_alone r rows)) (rows_text (r ∷ rows) h);
+  each = subst (λ ds. AreItems IsJsonRow ds (r ∷ rows)) (sym (rows_alone r rows)) (rows_text (r ∷ rows) h);
   cols = subst (λ o. StatesCols least o n (r ∷ rows)) (sym (nothing_behind r rows)) tt;
 }
 
-matrix_texts : (p : PropId) (n : ℕ) (rows : List (List Ratio)) → is_matrix_of p n rows ≡ true → All (All IsFraction) rows → AreRowsOf p (rows_json p n rows) n rows
+matrix_texts : (p : PropId) (n : ℕ) (rows : List (List Ratio)) → is_matrix_of p n rows ≡ true → All (All IsFraction) rows → AreJsonRows p (rows_json p n rows) n rows
 matrix_texts LinearObjective n [] form h = absurd (true≢false (sym form))
 matrix_texts LinearObjective n (r ∷ []) form h = (r, refl, row_text r (All-head (All IsFraction) r [] h))
 matrix_texts LinearObjective n (r ∷ s ∷ rows) form h =
@@ -116,12 +116,12 @@ cols_behind n [] = refl
 cols_behind n (set ∷ []) = refl
 cols_behind n (set ∷ other ∷ rows) = cols_behind n (other ∷ rows)
 
-all_sets_text : (rows : List (List ℕ)) (n : ℕ) → list_all (are_indices n 0) rows ≡ true → AreSetsOf (sets_json rows n) rows n
+all_sets_text : (rows : List (List ℕ)) (n : ℕ) → list_all (are_indices n 0) rows ≡ true → AreJsonSets (sets_json rows n) rows n
 all_sets_text rows n h = record {
   items = listed (map set_json rows ++ cols_json n ∷ []);
   array = refl;
   each = subst (λ ds. AreItems IsSetOf ds rows) (sym (sets_before n rows)) (sets_text n rows h);
-  cols = subst (λ o. HasCols o n rows) (sym (cols_behind n rows)) refl;
+  cols = subst (λ o. HasColumnCount o n rows) (sym (cols_behind n rows)) refl;
 }
 
 ranks_text : (ranks : List (List (List ℕ))) → list_all (list_all (are_indices most_indices 0)) ranks ≡ true → AreItems (IsArrayOf IsSetOf) (listed (map edges_json ranks)) ranks
@@ -150,7 +150,7 @@ whole_bits p k form = by (is_ambient p) form
     by true h = dimension_bits k h
     by false h = (and_parts (is_of_whole_numbers (value_kind p)) (has_64_bits k) h).1
 
-whole_text : (p : PropId) (k : ℤ) → has_64_bits k ≡ true → IsTextOf p (whole_json k) (whole k)
+whole_text : (p : PropId) (k : ℤ) → has_64_bits k ≡ true → IsJsonText p (whole_json k) (whole k)
 whole_text p (pos n) h = (_, refl, rw h refl)
 whole_text p (negsuc n) h = (_, refl, refl)
 
@@ -172,7 +172,7 @@ extended_text plus_infinity f = refl
 extended_text minus_infinity f = refl
 
 -- ---- values
-text_is : (p : PropId) (v : PropertyValue) → is_formed p v ≡ true → AreFractions v → IsTextOf p (json_of p v) v
+text_is : (p : PropId) (v : PropertyValue) → is_formed p v ≡ true → AreFractions v → IsJsonText p (json_of p v) v
 text_is p (matrix n rows) form fractions = matrix_texts p n rows (and_parts (is_of_matrices (value_kind p)) (is_matrix_of p n rows) form).1 fractions
 text_is p (sets rows n) form fractions =
     let f = and_parts (is_of_sets (value_kind p)) (is_sets_form rows n) form in

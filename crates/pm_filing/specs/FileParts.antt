@@ -1,4 +1,5 @@
--- What a data file holds, or why it is none: the parts of its object in byte order of keys, the keys that are read over, and the tests of columns and rows.
+-- What a data file holds, or why it is none: the parts of its object in byte order of keys, the keys that are read
+-- over, and the tests of columns and rows.
 use Rattle.std.specs.Prelude.{ℕ, suc, Bool, false, not, ◌&&◌, ◌||◌, ◌==◌, List, [], ◌∷◌, ◌++◌, codes, length, nat_le, nat_lt, Option, Some, None, is_some, option_and_then, Result, Ok, Err, slice_index, if◌then◌else◌}
 use Rattle.std.specs.Str.{bytes_eq, is_utf8}
 use Rattle.pm_json.specs.Readings.{Read, and_then, before, items_of, reading}
@@ -54,7 +55,8 @@ abbrev pub json_in : List ℕ → Option Data
 json_in bytes = if is_utf8 bytes then read bytes else None
 
 abbrev pub data_in : List ℕ → FileRead Data
-data_in bytes = if nat_le (length bytes) most_file_bytes then or_else_fault not_json (json_in bytes) else Err too_long
+data_in bytes = if nat_le (length bytes) most_file_bytes then or_else_fault not_json (json_in bytes)
+    else Err too_long
 
 -- ---- the type
 -- the type of this text
@@ -66,7 +68,8 @@ type_named text =
     else None
 
 abbrev pub type_in : Data → FileRead ObjectType
-type_in d = then_read (or_else_fault no_type (option_and_then as_str (get (codes "_type") d))) (λ text. or_else_fault unknown_type (type_named text))
+type_in d = then_read (or_else_fault no_type (option_and_then as_str (get (codes "_type") d))) (λ text.
+    or_else_fault unknown_type (type_named text))
 
 abbrev pub members_in : Data → FileRead Members
 members_in d = or_else_fault no_type (as_object d)
@@ -109,7 +112,9 @@ programs_of d = if is_some (as_object d) then Ok (item d no_items) else items_of
 abbrev pub objectives_from : ℕ → Items → Read (List (Option PropertyValue))
 objectives_from k no_items = Ok []
 objectives_from k (item d ds) =
-    if is_some (as_object d) then (if nat_lt k 4 then and_then (objective_in d) (λ v. before v (objectives_from (suc k) ds)) else Err Limit)
+    if is_some (as_object d) then
+    (if nat_lt k 4 then and_then (objective_in d) (λ v. before v (objectives_from (suc k) ds))
+    else Err Limit)
     else Err Shape
 
 abbrev pub objectives_of : Data → Read (List (Option PropertyValue))
@@ -135,20 +140,24 @@ programs_part d = and_then (objectives_of d) (λ vs. Ok (programs vs ∷ []))
 
 -- what is read at a key
 abbrev pub part_at : ObjectType → List ℕ → Data → FileRead (List Part)
-part_at of key d = at_key key (if is_programs_key of key then programs_part d else value_part (property_at of key d) d)
+part_at of key d = at_key key (if is_programs_key of key then programs_part d
+    else value_part (property_at of key d) d)
 
 -- the parts, in the order of the keys
 abbrev pub parts_in : ObjectType → Members → FileRead (List Part)
 parts_in of no_members = Ok []
-parts_in of (member key d ms) = then_read (part_at of key d) (λ part. then_read (parts_in of ms) (λ parts. Ok (part ++ parts)))
+parts_in of (member key d ms) =
+    then_read (part_at of key d) (λ part. then_read (parts_in of ms) (λ parts. Ok (part ++ parts)))
 
 -- ---- keys that are read over
 abbrev pub is_read_over : ObjectType → List ℕ → Data → Bool
-is_read_over of key d = not (is_hidden key) && not (is_programs_key of key) && not (is_some (property_at of key d))
+is_read_over of key d = not (is_hidden key) && not (is_programs_key of key)
+    && not (is_some (property_at of key d))
 
 abbrev pub names_read_over : ObjectType → Members → List (List ℕ)
 names_read_over of no_members = []
-names_read_over of (member key d ms) = if is_read_over of key d then key ∷ names_read_over of ms else names_read_over of ms
+names_read_over of (member key d ms) = if is_read_over of key d then key ∷ names_read_over of ms
+    else names_read_over of ms
 
 -- a program's key that is read over
 abbrev pub is_other_key : List ℕ → Bool

@@ -1,4 +1,5 @@
--- When bytes are read as a data file, and for which fault they are refused: the tests of columns and rows, and the whole.
+-- When bytes are read as a data file, and for which fault they are refused: the tests of columns and rows, and the
+-- whole.
 use Rattle.std.specs.Prelude.{ℕ, ◌≡◌, ◌⊎◌, ⊤, IsTrue, List, [], ◌∷◌, ◌++◌, ◌&&◌, ◌||◌, Bool, false, codes, nat_eq, Option, Some, None, Ok, Err, option_and_then, if◌then◌else◌}
 use Rattle.std.specs.List.{list_all}
 use Rattle.pm_object.specs.State.{agrees, ambient_in, have_as_many_sites, or_else}
@@ -19,7 +20,8 @@ use Rattle.pm_filing.specs.Profiles.{file_in, is_profile_2}
 -- ---- the tests of columns and rows
 -- the column count that is known after a value
 abbrev pub cols_of_value : PropId → PropertyValue → Option ℕ
-cols_of_value p v = if is_ambient p then ambient_in (Some v) else if nat_eq (stated_cols p v) 0 then None else Some (stated_cols p v)
+cols_of_value p v = if is_ambient p then ambient_in (Some v) else if nat_eq (stated_cols p v) 0 then None
+    else Some (stated_cols p v)
 
 abbrev pub cols_after : Option ℕ → PropId → PropertyValue → Option ℕ
 cols_after n p v = or_else n (cols_of_value p v)
@@ -34,8 +36,10 @@ pub record Named : Type 0 where
 abbrev pub fits_sites : List Named → PropId → PropertyValue → Bool
 fits_sites tied p v = list_all (λ x. have_as_many_sites x.property x.value p v) tied
 
--- the columns of a value agree with n, heights with the sites of the values to which they are tied, its rows pass their tests, and their primitive rows are made within the range
-pub record Passes (of : ObjectType) (tied : List Named) (n : Option ℕ) (p : PropId) (v : PropertyValue) : Type 0 where
+-- the columns of a value agree with n, heights with the sites of the values to which they are tied, its rows pass
+-- their tests, and their primitive rows are made within the range
+pub record Passes (of : ObjectType) (tied : List Named) (n : Option ℕ) (p : PropId) (v : PropertyValue)
+    : Type 0 where
   pub columns : IsTrue (agrees n p v)
   pub sites : IsTrue (fits_sites tied p v)
   pub rows : IsTrue (are_rows of p v)
@@ -66,7 +70,8 @@ cols_after_all n (x ∷ xs) = cols_after_all (cols_after n x.property x.value) x
 -- each value passes, where n is the column count that is known before the first
 abbrev pub ArePassed : ObjectType → List Named → Option ℕ → List Named → Type 0
 ArePassed of tied n [] = ⊤
-ArePassed of tied n (x ∷ xs) = Passes of tied n x.property x.value × ArePassed of tied (cols_after n x.property x.value) xs
+ArePassed of tied n (x ∷ xs) = Passes of tied n x.property x.value
+    × ArePassed of tied (cols_after n x.property x.value) xs
 
 -- the first that does not pass has this name
 abbrev pub IsFirstBad : ObjectType → List Named → Option ℕ → List Named → List ℕ → Type 0
@@ -95,7 +100,8 @@ list_names_sites of (Some ds) = any_names_sites of ds
 
 -- the profile is 2, and `_computed` is an array in which one of these names stands
 abbrev pub finds_sites : ObjectType → Data → Bool
-finds_sites of d = is_profile_2 d && list_names_sites of (option_and_then as_array (get (codes "_computed") d))
+finds_sites of d =
+    is_profile_2 d && list_names_sites of (option_and_then as_array (get (codes "_computed") d))
 
 -- ---- the whole
 -- what is read before the tests of columns and rows: the type, the top, and its parts

@@ -1,4 +1,5 @@
--- What objects and data files say of each other: the object that is made of a file, and the file that is written of an object.
+-- What objects and data files say of each other: the object that is made of a file, and the file that is written of
+-- an object.
 use Rattle.std.specs.Prelude.{ℕ, Bool, false, true, Option, Some, None, List, [], ◌∷◌, ◌++◌, filter, flat_map, fold, length, map, option_map, option_to_list, suc, ◌&&◌, if◌then◌else◌}
 use Rattle.std.specs.List.{list_any}
 use Rattle.std.specs.Option.{is_none, unwrap_or}
@@ -32,7 +33,8 @@ loaded_value stored v = file_value (origin_in stored v.0) v.0 v.1
 
 abbrev pub labelled_from : ℕ → List ℕ → List Rule → Option RuleId
 labelled_from k label [] = None
-labelled_from k label (rule ∷ book) = if bytes_eq rule.label label then Some (record { 0 = k }) else labelled_from (suc k) label book
+labelled_from k label (rule ∷ book) = if bytes_eq rule.label label then Some (record { 0 = k })
+    else labelled_from (suc k) label book
 
 -- the first rule of the book that has this label
 abbrev pub rule_labelled : List Rule → List ℕ → Option RuleId
@@ -68,7 +70,8 @@ objectives_held k (p ∷ ps) = objective_held k p.objective ++ objectives_held (
 -- the exclusions that their marks tell
 abbrev pub marks_of_programs : List Rule → ℕ → List SavedProgram → List Excluded
 marks_of_programs book k [] = []
-marks_of_programs book k (p ∷ ps) = flat_map (mark_read book (Some k)) p.failed ++ marks_of_programs book (suc k) ps
+marks_of_programs book k (p ∷ ps) = flat_map (mark_read book (Some k)) p.failed
+    ++ marks_of_programs book (suc k) ps
 
 abbrev pub name_told : SavedProgram → List ℕ
 name_told p = unwrap_or p.name []
@@ -84,7 +87,10 @@ with_programs book o ps = record o {
 -- what the file holds: its values, the rules of the book that failed, and its programs
 abbrev pub unsettled_object : List Rule → SavedFile → State
 unsettled_object book f =
-    with_programs book (record (empty_object f.of) { held = map (loaded_value f.stored) f.values; excluded = flat_map (mark_read book None) f.failed }) f.programs
+    with_programs book (record (empty_object f.of) {
+      held = map (loaded_value f.stored) f.values;
+      excluded = flat_map (mark_read book None) f.failed;
+    }) f.programs
 
 -- the object that is made of the file: that, and what goes without saying
 abbrev pub loaded_object : List Rule → SavedFile → State
@@ -131,7 +137,8 @@ mark_by label k = []
 
 -- so for the object itself, or for the program at a place
 abbrev pub mark_written : List Rule → Option ℕ → Excluded → List Mark
-mark_written book sub e = if same_place e.sub sub then mark_by (label_in (rule_at book e.rule)) (failure_of e.why) else []
+mark_written book sub e = if same_place e.sub sub then mark_by (label_in (rule_at book e.rule))
+    (failure_of e.why) else []
 
 -- a mark more, unless one has its label
 abbrev pub with_mark : List Mark → Mark → List Mark

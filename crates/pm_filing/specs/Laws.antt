@@ -18,7 +18,8 @@ use Rattle.pm_types.specs.Values.{PropertyValue}
 
 -- a value in the form of its property, with fractions in lowest terms and in the range, is read back from its JSON
 abbrev pub ValuesAreReadBack : Type 0
-ValuesAreReadBack = (p : PropId) (v : PropertyValue) → IsTrue (is_formed p v) → AreFractions v → reading p (json_of p v) ≡ Ok v
+ValuesAreReadBack = (p : PropId) (v : PropertyValue) → IsTrue (is_formed p v) → AreFractions v
+    → reading p (json_of p v) ≡ Ok v
 
 -- whatever a file holds, the object that is made of it is honest
 abbrev pub LoadedIsKept : Type 0
@@ -30,4 +31,5 @@ SavedIsWhole = (book : List Rule) (o : State) → IsBook book → IsFormed o →
 
 -- bytes that are the JSON of a whole file are read as that file, with its values in another order
 abbrev pub FilesAreReadBack : Type 0
-FilesAreReadBack = (bytes : List ℕ) (f : SavedFile) → IsWhole f → data_in bytes ≡ Ok (file_json f) → (g : SavedFile) × Reads bytes g × IsSameFile f g
+FilesAreReadBack = (bytes : List ℕ) (f : SavedFile) → IsWhole f → data_in bytes ≡ Ok (file_json f)
+    → (g : SavedFile) × Reads bytes g × IsSameFile f g

@@ -1,4 +1,5 @@
--- The profile of a data file: which values were stored, which rules failed, and the names of its linear programs; and the file as a whole.
+-- The profile of a data file: which values were stored, which rules failed, and the names of its linear programs; and
+-- the file as a whole.
 use Rattle.std.specs.Prelude.{ℕ, suc, Bool, true, false, not, ◌&&◌, ◌==◌, List, [], ◌∷◌, ◌++◌, map, codes, decimal, Option, Some, None, option_and_then, option_map, unwrap_or, Ok, Err, if◌then◌else◌}
 use Rattle.std.specs.List.{list_any}
 use Rattle.std.specs.Str.{bytes_eq}
@@ -56,7 +57,8 @@ if_held held p = if has held p then Some p else None
 
 -- the property of a name, where its value was read
 abbrev pub stored_property : ObjectType → ℕ → Data → Option PropId
-stored_property of held d = option_and_then (if_held held) (option_and_then (property_named_in of) (as_str d))
+stored_property of held d =
+    option_and_then (if_held held) (option_and_then (property_named_in of) (as_str d))
 
 -- the properties that are named, each once
 abbrev pub stored_by : ObjectType → ℕ → Option Data → Option ℕ
@@ -173,7 +175,8 @@ programs_in of d = if is_programs_key of (codes "LP") then programs_by (get (cod
 
 -- each program with its objective, its name and its marks
 abbrev pub programs_with : List (Option PropertyValue) → List (List ℕ) → List (List Mark) → List SavedProgram
-programs_with (v ∷ vs) (name ∷ names) (ms ∷ marks) = record { name = Some name; objective = option_map rows_in v; failed = ms } ∷ programs_with vs names marks
+programs_with (v ∷ vs) (name ∷ names) (ms ∷ marks) =
+    record { name = Some name; objective = option_map rows_in v; failed = ms } ∷ programs_with vs names marks
 programs_with vs names marks = []
 
 -- the members of the top
@@ -192,4 +195,5 @@ file_with of d parts profile = record {
 
 -- the file of the top with these parts, or what is wrong with its profile
 abbrev pub file_in : ObjectType → Data → List Part → FileRead SavedFile
-file_in of d parts = then_read (profile_in of (names_held parts) d (programs_in of d)) (λ profile. Ok (file_with of d parts profile))
+file_in of d parts = then_read (profile_in of (names_held parts) d (programs_in of d)) (λ profile.
+    Ok (file_with of d parts profile))

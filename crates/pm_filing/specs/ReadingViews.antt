@@ -58,7 +58,12 @@ abbrev pub all_marks_seen : List (Vec (String Global × ℕ)) → List (List Mar
 all_marks_seen all = map (λ v. marks_seen v.items) all
 
 abbrev pub profile_seen : FileProfile → Profile
-profile_seen p = record { stored = p.stored; failed = marks_seen p.failed.items; names = map string_bytes p.names.items; marks = all_marks_seen p.marks.items }
+profile_seen p = record {
+  stored = p.stored;
+  failed = marks_seen p.failed.items;
+  names = map string_bytes p.names.items;
+  marks = all_marks_seen p.marks.items;
+}
 
 -- the fractions of the values are in lowest terms and in the range
 abbrev pub HaveFractions : List Named → Type 0

@@ -8,7 +8,8 @@ use Rattle.pm_types.specs.Values.{PropertyValue}
 use Rattle.pm_types.specs.Views.{view_of}
 use Rattle.pm_types.specs.declared.value.Value.{Value}
 
--- a value that an object of this type with n columns may take from a file: it has its form and agrees with n, its rows pass their tests, and their primitive rows are made within the range
+-- a value that an object of this type with n columns may take from a file: it has its form and agrees with n, its
+-- rows pass their tests, and their primitive rows are made within the range
 pub record Suits (of : ObjectType) (n : ℕ) (p : PropId) (v : PropertyValue) : Type 0 where
   pub formed : IsTrue (is_formed p v)
   pub columns : IsTrue (agrees_with n p v)

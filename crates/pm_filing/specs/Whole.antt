@@ -1,4 +1,5 @@
--- What is so of every file that is read, and of every file that is written of an object; and that an object and what is loaded of its file are the same.
+-- What is so of every file that is read, and of every file that is written of an object; and that an object and what
+-- is loaded of its file are the same.
 use Rattle.std.specs.Prelude.{◌≡◌, ◌⊎◌, ◌&&◌, ◌||◌, ◌++◌, ◌∷◌, ℕ, Bool, false, true, IsTrue, List, [], Option, None, Some, flat_map, if◌then◌else◌, length, map, nat_le, nat_lt}
 use Rattle.std.specs.List.{All, Contains, list_all, list_any}
 use Rattle.std.specs.Option.{is_none, is_some}
@@ -56,9 +57,13 @@ all_values f = f.values ++ flat_map (λ p. objective_of p.objective) f.programs
 
 -- values that were given: where one is of SITES and another of SITE_HEIGHTS, there are as many rows as heights
 abbrev pub AgreeInSites : ℕ → List (PropId × PropertyValue) → Type 0
-AgreeInSites stored values = (v w : PropId × PropertyValue) → Contains values v → Contains values w → has stored v.0 ≡ false → has stored w.0 ≡ false → IsTrue (have_as_many_sites v.0 v.1 w.0 w.1)
+AgreeInSites stored values = (v w : PropId × PropertyValue) → Contains values v → Contains values w
+    → has stored v.0 ≡ false → has stored w.0 ≡ false → IsTrue (have_as_many_sites v.0 v.1 w.0 w.1)
 
--- what a file holds of an object: its own values are of different properties of the type's table; they and the objectives suit one column count and have fractions in lowest terms and in the range; given sites have as many heights; what is stored is among its own values; the programs have names that programs may have; and the marks of the object and of each program are such
+-- what a file holds of an object: its own values are of different properties of the type's table; they and the
+-- objectives suit one column count and have fractions in lowest terms and in the range; given sites have as many
+-- heights; what is stored is among its own values; the programs have names that programs may have; and the marks of
+-- the object and of each program are such
 pub record IsWhole (f : SavedFile) : Type 0 where
   pub table : IsTrue (are_of_table f.of f.values)
   pub once : IsTrue (are_of_different f.values)
@@ -102,11 +107,17 @@ pub record IsFailure (book : List Rule) (o : State) (e : Excluded) (k : ℕ) : T
   pub number : failure_of e.why ≡ Some k
   pub rule : IsTrue (is_some (rule_at book e.rule))
 
--- what is loaded of the file holds what a file has of the object, and else only what goes without saying of that; it has the same programs; and the rules that failed are marked where they failed, and no others
+-- what is loaded of the file holds what a file has of the object, and else only what goes without saying of that; it
+-- has the same programs; and the rules that failed are marked where they failed, and no others
 pub record IsLoadedAgain (book : List Rule) (o : State) (f : SavedFile) : Type 0 where
   pub of : (loaded_object book f).of ≡ o.of
   pub programs : (loaded_object book f).programs ≡ o.programs
-  pub held : (h : HeldValue) → Contains o.held h → IsTrue (is_kept h) → Contains (loaded_object book f).held (held_again h)
-  pub others : (h : HeldValue) → Contains (loaded_object book f).held h → ((g : HeldValue) × Contains o.held g × IsTrue (is_kept g) × (h ≡ held_again g)) ⊎ Contains (settling (unsettled_object book f)) h
-  pub failed : (e : Excluded) (k : ℕ) → IsFailure book o e k → (j : ℕ) × Contains (loaded_object book f).excluded (marked e.sub j e.rule)
-  pub no_others : (x : Excluded) → Contains (loaded_object book f).excluded x → (e : Excluded) × (k : ℕ) × IsFailure book o e k × (x ≡ marked e.sub k e.rule)
+  pub held : (h : HeldValue) → Contains o.held h → IsTrue (is_kept h)
+      → Contains (loaded_object book f).held (held_again h)
+  pub others : (h : HeldValue) → Contains (loaded_object book f).held h
+      → ((g : HeldValue) × Contains o.held g × IsTrue (is_kept g) × (h ≡ held_again g))
+      ⊎ Contains (settling (unsettled_object book f)) h
+  pub failed : (e : Excluded) (k : ℕ) → IsFailure book o e k
+      → (j : ℕ) × Contains (loaded_object book f).excluded (marked e.sub j e.rule)
+  pub no_others : (x : Excluded) → Contains (loaded_object book f).excluded x
+      → (e : Excluded) × (k : ℕ) × IsFailure book o e k × (x ≡ marked e.sub k e.rule)

@@ -42,7 +42,8 @@ fn ignored_at(
     json: &Json,
     list: &[Json],
 ) -> Result<Vec<String>, AllocError>
-    ensures { IfOk result (λ names. map string_bytes names.items ≡ ignored_in of (members_of (view json.now)) (items_view list.now)) }
+    ensures { IfOk result (λ names. map string_bytes names.items
+        ≡ ignored_in of (members_of (view json.now)) (items_view list.now)) }
 {
     match json.as_object() {
         Some(members) => ignored_in(alloc, of, members, list),
@@ -61,8 +62,10 @@ pub struct Sorted {
 
 /// The values and the objectives, apart.
 fn sort_parts(alloc: Global, parts: Vec<FilePart>) -> Result<Sorted, AllocError>
-    ensures values { IfOk result (λ s. map (λ v. (v.0, view_of v.1)) s.values.items ≡ values_in (map part_seen parts.items)) }
-    ensures objectives { IfOk result (λ s. objectives_seen s.objectives.items ≡ objectives_in (map part_seen parts.items)) }
+    ensures values { IfOk result (λ s. map (λ v. (v.0, view_of v.1)) s.values.items
+        ≡ values_in (map part_seen parts.items)) }
+    ensures objectives { IfOk result (λ s. objectives_seen s.objectives.items
+        ≡ objectives_in (map part_seen parts.items)) }
 {
     let mut values = Vec::new(alloc);
     let mut objectives = Vec::new(alloc);
@@ -96,7 +99,9 @@ fn programs_with(
 ) -> Result<Vec<FileProgram>, AllocError>
     requires formed { IsTrue (list_all is_formed_objective (objectives_seen objectives.items)) }
     ensures formed { IfOk result (λ programs. IsTrue (list_all has_formed_objective programs.items)) }
-    ensures made { IfOk result (λ programs. map program_of programs.items ≡ programs_with (objectives_seen objectives.items) (map string_bytes names.items) (all_marks_seen marks.items)) }
+    ensures made { IfOk result (λ programs.
+        map program_of programs.items ≡ programs_with (objectives_seen objectives.items)
+        (map string_bytes names.items) (all_marks_seen marks.items)) }
 {
     let mut programs = Vec::new(alloc);
     let mut names = names.into_iter();
@@ -128,7 +133,8 @@ pub(crate) fn file_in(
     ensures ok { IfOk result (λ f. file_in of (view json.now) (map part_seen parts.items) ≡ Ok (file_of f)) }
     ensures formed { IfOk result (λ f. IsTrue (are_formed_values (file_of f).values)) }
     ensures objectives { IfOk result (λ f. IsTrue (list_all has_formed_objective f.programs.items)) }
-    ensures fault { IfErr result (λ e. fault_of e ≢ out_of_memory → file_in of (view json.now) (map part_seen parts.items) ≡ Err (fault_of e)) }
+    ensures fault { IfErr result (λ e. fault_of e ≢ out_of_memory
+        → file_in of (view json.now) (map part_seen parts.items) ≡ Err (fault_of e)) }
 {
     let list = programs_in(of, json);
     let profile = profile_in(alloc, of, names_held(&parts), json, list)?;

@@ -31,7 +31,8 @@ fn names_read_over(
     of: ObjectType,
     members: &Map<String, Json>,
 ) -> Result<Vec<String>, AllocError>
-    ensures { IfOk result (λ names. map string_bytes names.items ≡ names_read_over of (members_view members.now.entries)) }
+    ensures { IfOk result (λ names. map string_bytes names.items
+        ≡ names_read_over of (members_view members.now.entries)) }
 {
     let mut names = Vec::new(alloc);
     for (key, json) in members.iter() {
@@ -51,7 +52,8 @@ fn is_other_key(key: &str) -> bool
 
 /// Puts a program's key that is read over among the keys.
 fn put_other_key(alloc: Global, keys: &mut Map<String, Json>, key: &str) -> Result<(), AllocError>
-    ensures { OnOk result (members_view keys.new.entries ≡ with_other_key (members_view keys.old.entries) key.now) }
+    ensures { OnOk result (members_view keys.new.entries
+        ≡ with_other_key (members_view keys.old.entries) key.now) }
 {
     if is_other_key(key) {
         put(keys, alloc, key, Json::Null)?;
@@ -65,7 +67,8 @@ fn put_other_keys(
     keys: &mut Map<String, Json>,
     program: &Map<String, Json>,
 ) -> Result<(), AllocError>
-    ensures { OnOk result (members_view keys.new.entries ≡ with_other_keys (members_view keys.old.entries) (members_view program.now.entries)) }
+    ensures { OnOk result (members_view keys.new.entries
+        ≡ with_other_keys (members_view keys.old.entries) (members_view program.now.entries)) }
 {
     for (key, _) in program.iter() {
         put_other_key(alloc, keys, key.as_str())?;
@@ -79,7 +82,8 @@ fn put_program_keys(
     keys: &mut Map<String, Json>,
     program: &Json,
 ) -> Result<(), AllocError>
-    ensures { OnOk result (members_view keys.new.entries ≡ other_keys_of (members_view keys.old.entries) (as_object (view program.now))) }
+    ensures { OnOk result (members_view keys.new.entries
+        ≡ other_keys_of (members_view keys.old.entries) (as_object (view program.now))) }
 {
     match program.as_object() {
         Some(members) => put_other_keys(alloc, keys, members),
@@ -89,7 +93,8 @@ fn put_program_keys(
 
 /// The keys of programs that are read over, each once, in byte order.
 fn other_keys(alloc: Global, list: &[Json]) -> Result<Map<String, Json>, AllocError>
-    ensures { IfOk result (λ keys. members_view keys.entries ≡ other_keys_from no_members (items_view list.now)) }
+    ensures { IfOk result (λ keys. members_view keys.entries
+        ≡ other_keys_from no_members (items_view list.now)) }
 {
     let mut keys = Map::new(alloc);
     for program in list {
@@ -104,7 +109,8 @@ fn put_names(
     names: &mut Vec<String>,
     keys: &Map<String, Json>,
 ) -> Result<(), AllocError>
-    ensures { OnOk result (map string_bytes names.new.items ≡ map string_bytes names.old.items ++ names_in_programs (members_view keys.now.entries)) }
+    ensures { OnOk result (map string_bytes names.new.items ≡ map string_bytes names.old.items
+        ++ names_in_programs (members_view keys.now.entries)) }
 {
     for (key, _) in keys.iter() {
         names.push(format!(in alloc; "LP.{}", key.as_str())?)?;
@@ -119,7 +125,8 @@ pub(crate) fn ignored_in(
     members: &Map<String, Json>,
     list: &[Json],
 ) -> Result<Vec<String>, AllocError>
-    ensures { IfOk result (λ names. map string_bytes names.items ≡ ignored_in of (members_view members.now.entries) (items_view list.now)) }
+    ensures { IfOk result (λ names. map string_bytes names.items
+        ≡ ignored_in of (members_view members.now.entries) (items_view list.now)) }
 {
     let mut names = names_read_over(alloc, of, members)?;
     let keys = other_keys(alloc, list)?;

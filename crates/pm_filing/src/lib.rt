@@ -1,4 +1,5 @@
-//! Data files read; objects from data files, and data files of objects.
+//! Data files read, and objects made of them. It knows nothing of clients, sessions and
+//! where files are kept.
 #![tactic(auto)]
 
 mod assembly;
@@ -9,7 +10,6 @@ mod load;
 mod parts;
 mod profile;
 mod read;
-mod save;
 mod tests_of_parts;
 
 pub use fail::FileFail;
@@ -18,5 +18,5 @@ pub use laws::{
     law_values_are_read_back,
 };
 pub use load::load_object;
+pub use profile::has_label;
 pub use read::read_object;
-pub use save::save_object;

@@ -44,7 +44,8 @@ fn rule_labelled(rules: &[Rule], label: &str) -> Option<RuleId>
 /// Adds a value, which was given or is stored, to an object whose values suit the same column count.
 fn add_value(object: &mut Object, stored: PropSet, p: PropId, v: Value) -> Result<(), AllocError>
     requires suits { (n : ℕ) × Suits object.old.state.of n p (view_of v)
-        × ((h : HeldValue) → Contains object.old.state.held h → Suits object.old.state.of n h.property h.value) }
+        × ((h : HeldValue) → Contains object.old.state.held h
+        → Suits object.old.state.of n h.property h.value) }
     requires missing { is_held p (read_at None object.old.state.held) ≡ false }
     requires table { IsTrue (has_property object.old.state.of p) }
     requires sites { has stored p ≡ false → IsTrue (sites_agree object.old.state.held p (view_of v)) }
@@ -138,7 +139,8 @@ fn add_program(
         (λ v. CanTake (with_program object.old.state (name_told (program_of program)))
         (Some (length object.old.state.programs)) LinearObjective v) }
     requires marks { IsTrue (list_all is_mark (program_of program).failed) }
-    ensures ok { OnOk result (object.new.state ≡ with_programs book.now object.old.state (program_of program ∷ [])) }
+    ensures ok { OnOk result (object.new.state
+        ≡ with_programs book.now object.old.state (program_of program ∷ [])) }
 {
     let FileProgram {
         name,
@@ -173,7 +175,8 @@ fn add_programs(
         object.old.state.held) }
     requires rounds { object.old.state.rounds ≡ [] }
     requires marks { IsTrue (list_all (λ p. list_all is_mark p.failed) (map program_of programs.items)) }
-    ensures ok { OnOk result (object.new.state ≡ with_programs book.now object.old.state (map program_of programs.items)) }
+    ensures ok { OnOk result (object.new.state
+        ≡ with_programs book.now object.old.state (map program_of programs.items)) }
 {
     for program in programs {
         add_program(alloc, object, book, program)?;
@@ -181,8 +184,8 @@ fn add_programs(
     Ok(())
 }
 
-/// The object of what a whole file holds: its values, given or stored, its linear programs, the rules that failed, where
-/// the book has their labels, and what goes without saying.
+/// The object of what a whole file holds: its values, given or stored, its linear programs, the rules that failed,
+/// where the book has their labels, and what goes without saying.
 fn load_file(
     alloc: Global,
     book: &Book,

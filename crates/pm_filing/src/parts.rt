@@ -3,11 +3,10 @@
 ghost use Rattle.pm_filing.specs.FileParts.{bad_property, is_other_form, is_programs_key, objective_in, objectives_from, out_of_memory, part_at, parts_in, programs_of, programs_part, property_at, type_in, type_named, value_part};
 ghost use Rattle.pm_filing.specs.Profiles.{programs_in};
 ghost use Rattle.pm_filing.specs.ReadingViews.{are_formed_parts, fault_of, is_formed_objective, is_formed_part, objectives_seen, part_seen};
-ghost use Rattle.pm_props.specs.Properties.{is_of_edges, is_of_lattices, value_kind};
 ghost use Rattle.pm_types.specs.Views.{view_of};
 ghost use Rattle.serde_json.specs.View.{items_view, members_view, view};
 ghost use Rattle.std.specs.List.{list_all};
-ghost use Rattle.std.specs.Prelude.{Err, IfErr, IfOk, IsTrue, Ok, OnOk, Some, [], map, option_map, option_to_list, ◌||◌, ◌∷◌, ◌≡◌, ◌≢◌, ◌++◌};
+ghost use Rattle.std.specs.Prelude.{Err, IfErr, IfOk, IsTrue, Ok, OnOk, Some, [], map, option_map, option_to_list, ◌∷◌, ◌≡◌, ◌≢◌, ◌++◌};
 
 use crate::fail::FileFail;
 use pm_files::type_text;
@@ -61,21 +60,11 @@ pub(crate) fn read_type(json: &Json) -> Result<ObjectType, FileFail>
     }
 }
 
-/// Whether the property's values are edges or lattices.
-fn is_graph(p: PropId) -> bool
-    ensures { result ≡ (is_of_edges (value_kind p) || is_of_lattices (value_kind p)) }
-{
-    match p.row().kind {
-        ValueKind::Edges | ValueKind::Lattice => true,
-        _ => false,
-    }
-}
-
 /// Whether a graph or a lattice is of another form, an object.
 fn is_other_form(p: PropId, json: &Json) -> bool
     ensures { result ≡ is_other_form p (view json.now) }
 {
-    json.is_object() && is_graph(p)
+    json.is_object() && matches!(p.row().kind, ValueKind::Edges | ValueKind::Lattice)
 }
 
 /// The property whose value is read at a key, if there is one.
@@ -118,9 +107,11 @@ fn read_objective(alloc: Global, program: &Json) -> Result<Option<Value>, ValueF
 
 /// The objectives of linear programs.
 fn read_objectives(alloc: Global, list: &[Json]) -> Result<Vec<Option<Value>>, ValueFail>
-    ensures ok { IfOk result (λ vs. objectives_from 0 (items_view list.now) ≡ Ok (objectives_seen vs.items)) }
+    ensures ok { IfOk result (λ vs. objectives_from 0 (items_view list.now)
+        ≡ Ok (objectives_seen vs.items)) }
     ensures formed { IfOk result (λ vs. IsTrue (list_all is_formed_objective (objectives_seen vs.items))) }
-    ensures fault { IfErr result (λ e. e ≢ ValueFail.Memory → objectives_from 0 (items_view list.now) ≡ Err e) }
+    ensures fault { IfErr result (λ e. e ≢ ValueFail.Memory
+        → objectives_from 0 (items_view list.now) ≡ Err e) }
 {
     let mut objectives = Vec::new(alloc);
     for program in list {
@@ -173,7 +164,8 @@ fn read_property(alloc: Global, p: PropId, json: &Json) -> Result<FilePart, Valu
 
 /// The fault of a key.
 fn fault_at(alloc: Global, key: &str, why: ValueFail) -> FileFail
-    ensures { fault_of result ≢ out_of_memory → (fault_of result ≡ bad_property key.now why) × (why ≢ ValueFail.Memory) }
+    ensures { fault_of result ≢ out_of_memory
+        → (fault_of result ≡ bad_property key.now why) × (why ≢ ValueFail.Memory) }
 {
     if why == ValueFail::Memory {
         return FileFail::Memory;
@@ -191,9 +183,12 @@ fn read_part(
     key: &str,
     json: &Json,
 ) -> Result<Option<FilePart>, FileFail>
-    ensures ok { IfOk result (λ part. part_at of key.now (view json.now) ≡ Ok (option_to_list (option_map part_seen part))) }
-    ensures formed { IfOk result (λ part. IsTrue (are_formed_parts (option_to_list (option_map part_seen part)))) }
-    ensures fault { IfErr result (λ e. fault_of e ≢ out_of_memory → part_at of key.now (view json.now) ≡ Err (fault_of e)) }
+    ensures ok { IfOk result (λ part. part_at of key.now (view json.now)
+        ≡ Ok (option_to_list (option_map part_seen part))) }
+    ensures formed { IfOk result (λ part.
+        IsTrue (are_formed_parts (option_to_list (option_map part_seen part)))) }
+    ensures fault { IfErr result (λ e. fault_of e ≢ out_of_memory
+        → part_at of key.now (view json.now) ≡ Err (fault_of e)) }
 {
     if is_programs_key(of, key) {
         return match read_programs(alloc, json) {
@@ -212,7 +207,8 @@ fn read_part(
 
 /// Puts what was read behind what was read before.
 fn put_part(parts: &mut Vec<FilePart>, part: Option<FilePart>) -> Result<(), AllocError>
-    ensures { OnOk result (map part_seen parts.new.items ≡ map part_seen parts.old.items ++ option_to_list (option_map part_seen part)) }
+    ensures { OnOk result (map part_seen parts.new.items ≡ map part_seen parts.old.items
+        ++ option_to_list (option_map part_seen part)) }
 {
     if let Some(part) = part {
         parts.push(part)?;
@@ -226,9 +222,11 @@ pub(crate) fn read_parts(
     of: ObjectType,
     members: &Map<String, Json>,
 ) -> Result<Vec<FilePart>, FileFail>
-    ensures ok { IfOk result (λ parts. parts_in of (members_view members.now.entries) ≡ Ok (map part_seen parts.items)) }
+    ensures ok { IfOk result (λ parts. parts_in of (members_view members.now.entries)
+        ≡ Ok (map part_seen parts.items)) }
     ensures formed { IfOk result (λ parts. IsTrue (are_formed_parts (map part_seen parts.items))) }
-    ensures fault { IfErr result (λ e. fault_of e ≢ out_of_memory → parts_in of (members_view members.now.entries) ≡ Err (fault_of e)) }
+    ensures fault { IfErr result (λ e. fault_of e ≢ out_of_memory
+        → parts_in of (members_view members.now.entries) ≡ Err (fault_of e)) }
 {
     let mut parts = Vec::new(alloc);
     for (key, json) in members.iter() {

@@ -95,7 +95,8 @@ fn stored_property(of: ObjectType, held: PropSet, json: &Json) -> Option<PropId>
 
 /// The properties that a list names, each once.
 fn stored_among(of: ObjectType, held: PropSet, list: &[Json]) -> Option<PropSet>
-    ensures { result ≡ option_map set_of (different_read same_property (stored_property of held) (items_view list.now)) }
+    ensures { result
+        ≡ option_map set_of (different_read same_property (stored_property of held) (items_view list.now)) }
 {
     let mut stored = PropSet::empty();
     for name in list {
@@ -186,7 +187,7 @@ fn mark_of(json: &Json) -> Option<(&str, u8)>
 }
 
 /// Whether one of the marks has this label.
-pub(crate) fn has_label(marks: &[(String, u8)], label: &str) -> bool
+pub fn has_label(marks: &[(String, u8)], label: &str) -> bool
     ensures { result ≡ list_any (λ m. bytes_eq m.0 label.now) (marks_seen marks.now) }
 {
     for mark in marks {
@@ -209,7 +210,8 @@ fn bad_profile(alloc: Global, key: &str) -> FileFail
 
 /// The marks of a list, each of another label.
 fn marks_among(alloc: Global, list: &[Json]) -> Result<Vec<(String, u8)>, FileFail>
-    ensures ok { IfOk result (λ marks. different_read same_label mark_of (items_view list.now) ≡ Some (marks_seen marks.items)) }
+    ensures ok { IfOk result (λ marks. different_read same_label mark_of (items_view list.now)
+        ≡ Some (marks_seen marks.items)) }
     ensures fault { IfErr result (λ e. fault_of e ≢ out_of_memory →
         (fault_of e ≡ bad_profile (codes "_excluded")) × (different_read same_label mark_of (items_view list.now) ≡ None)) }
 {
@@ -243,7 +245,8 @@ fn marks_in(alloc: Global, json: &Json) -> Result<Vec<(String, u8)>, FileFail>
 
 /// The marks of each linear program.
 fn each_marks(alloc: Global, list: &[Json]) -> Result<Vec<Vec<(String, u8)>>, FileFail>
-    ensures ok { IfOk result (λ all. each_read marks_in (items_view list.now) ≡ Some (all_marks_seen all.items)) }
+    ensures ok { IfOk result (λ all. each_read marks_in (items_view list.now)
+        ≡ Some (all_marks_seen all.items)) }
     ensures fault { IfErr result (λ e. fault_of e ≢ out_of_memory →
         (fault_of e ≡ bad_profile (codes "_excluded")) × (each_read marks_in (items_view list.now) ≡ None)) }
 {
@@ -313,7 +316,8 @@ fn has_name(names: &[String], name: &str) -> bool
 
 /// The names of linear programs, each another.
 fn program_names(alloc: Global, list: &[Json]) -> Result<Vec<String>, FileFail>
-    ensures ok { IfOk result (λ names. program_names (items_view list.now) ≡ Some (map string_bytes names.items)) }
+    ensures ok { IfOk result (λ names. program_names (items_view list.now)
+        ≡ Some (map string_bytes names.items)) }
     ensures fault { IfErr result (λ e. fault_of e ≢ out_of_memory →
         (fault_of e ≡ bad_profile (codes "_name")) × (program_names (items_view list.now) ≡ None)) }
 {
@@ -332,7 +336,8 @@ fn program_names(alloc: Global, list: &[Json]) -> Result<Vec<String>, FileFail>
 
 /// `lp0`, `lp1` and so on.
 fn plain_names(alloc: Global, list: &[Json]) -> Result<Vec<String>, AllocError>
-    ensures { IfOk result (λ names. map string_bytes names.items ≡ plain_names_from 0 (items_view list.now)) }
+    ensures { IfOk result (λ names. map string_bytes names.items
+        ≡ plain_names_from 0 (items_view list.now)) }
 {
     let mut names = Vec::new(alloc);
     for _program in list {
@@ -373,8 +378,10 @@ fn full_profile(
     json: &Json,
     list: &[Json],
 ) -> Result<FileProfile, FileFail>
-    ensures ok { IfOk result (λ p. full_profile of held (view json.now) (items_view list.now) ≡ Ok (profile_seen p)) }
-    ensures fault { IfErr result (λ e. fault_of e ≢ out_of_memory → full_profile of held (view json.now) (items_view list.now) ≡ Err (fault_of e)) }
+    ensures ok { IfOk result (λ p. full_profile of held (view json.now) (items_view list.now)
+        ≡ Ok (profile_seen p)) }
+    ensures fault { IfErr result (λ e. fault_of e ≢ out_of_memory
+        → full_profile of held (view json.now) (items_view list.now) ≡ Err (fault_of e)) }
 {
     let Some(stored) = stored_of(of, held, json) else {
         return Err(bad_profile(alloc, "_computed"));
@@ -398,8 +405,10 @@ pub(crate) fn profile_in(
     json: &Json,
     list: &[Json],
 ) -> Result<FileProfile, FileFail>
-    ensures ok { IfOk result (λ p. profile_in of held (view json.now) (items_view list.now) ≡ Ok (profile_seen p)) }
-    ensures fault { IfErr result (λ e. fault_of e ≢ out_of_memory → profile_in of held (view json.now) (items_view list.now) ≡ Err (fault_of e)) }
+    ensures ok { IfOk result (λ p. profile_in of held (view json.now) (items_view list.now)
+        ≡ Ok (profile_seen p)) }
+    ensures fault { IfErr result (λ e. fault_of e ≢ out_of_memory
+        → profile_in of held (view json.now) (items_view list.now) ≡ Err (fault_of e)) }
 {
     if is_profile_2(json) {
         return full_profile(alloc, of, held, json, list);

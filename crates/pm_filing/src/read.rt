@@ -25,7 +25,8 @@ use std::str;
 /// The JSON of a text.
 fn read_json(alloc: Global, text: &str) -> Result<Json, FileFail>
     ensures ok { IfOk result (λ json. read text.now ≡ Some (view json)) }
-    ensures fault { IfErr result (λ e. fault_of e ≢ out_of_memory → (fault_of e ≡ not_json) × (read text.now ≡ None)) }
+    ensures fault { IfErr result (λ e. fault_of e ≢ out_of_memory
+        → (fault_of e ≡ not_json) × (read text.now ≡ None)) }
 {
     match Json::from_str(alloc, text) {
         Ok(json) => Ok(json),
@@ -55,9 +56,11 @@ fn read_data(alloc: Global, bytes: &[u8]) -> Result<Json, FileFail>
 
 /// The type and the parts of a file.
 fn read_seen(alloc: Global, json: &Json) -> Result<(ObjectType, Vec<FilePart>), FileFail>
-    ensures ok { IfOk result (λ s. seen_in (view json.now) ≡ Ok (record { of = s.0; top = view json.now; parts = map part_seen s.1.items })) }
+    ensures ok { IfOk result (λ s. seen_in (view json.now)
+        ≡ Ok (record { of = s.0; top = view json.now; parts = map part_seen s.1.items })) }
     ensures formed { IfOk result (λ s. IsTrue (are_formed_parts (map part_seen s.1.items))) }
-    ensures fault { IfErr result (λ e. fault_of e ≢ out_of_memory → seen_in (view json.now) ≡ Err (fault_of e)) }
+    ensures fault { IfErr result (λ e. fault_of e ≢ out_of_memory
+        → seen_in (view json.now) ≡ Err (fault_of e)) }
 {
     let Some(members) = json.as_object() else {
         return Err(FileFail::NoType);
@@ -70,7 +73,8 @@ fn read_seen(alloc: Global, json: &Json) -> Result<(ObjectType, Vec<FilePart>), 
 /// Tests the columns and rows of all parts, and heights against sites unless rules found one of these.
 fn test_all(alloc: Global, of: ObjectType, json: &Json, parts: &[FilePart]) -> Result<(), FileFail>
     requires formed { IsTrue (are_formed_parts (map part_seen parts.now)) }
-    ensures ok { OnOk result (ArePassedIn (record { of = of; top = view json.now; parts = map part_seen parts.now })) }
+    ensures ok { OnOk result
+        (ArePassedIn (record { of = of; top = view json.now; parts = map part_seen parts.now })) }
     ensures entries { OnOk result (HaveFractions (named_values of (map part_seen parts.now))) }
     ensures fault { IfErr result (λ e. fault_of e ≢ out_of_memory →
         HasBadRowIn (record { of = of; top = view json.now; parts = map part_seen parts.now }) (fault_of e)) }
@@ -82,9 +86,11 @@ fn test_all(alloc: Global, of: ObjectType, json: &Json, parts: &[FilePart]) -> R
     }
 }
 
-/// The object of a data file, of profile 1 or 2. `Limit`, `NotJson`, `NoType` and `UnknownType` come first, in this order;
-/// then `BadProperty` for the first key in byte order whose value has a fault; then `BadRow` for the first whose columns
-/// differ from those before, or heights from sites in number, or of which a row can be no row of its property; then `BadProfile`.
+/// The object of a data file, of profile 1 or 2. `Limit`, `NotJson`, `NoType` and `UnknownType` come first, in this
+/// order;
+/// then `BadProperty` for the first key in byte order whose value has a fault; then `BadRow` for the first whose
+/// columns differ from those before, or heights from sites in number, or of which a row can be no row of its
+/// property; then `BadProfile`.
 pub fn read_object(alloc: Global, bytes: &[u8]) -> Result<FileObject, FileFail>
     ensures reads { IfOk result (λ f. Reads bytes.now (file_of f)) }
     ensures formed { IfOk result (λ f. IsTrue (are_formed_values (file_of f).values)) }

@@ -116,8 +116,10 @@ fn test_objective(
     objective: &Option<Value>,
 ) -> Result<Option<usize>, FileFail>
     requires formed { IsTrue (is_formed_objective (option_map view_of objective.now)) }
-    ensures cols { IfOk result (λ m. m ≡ cols_after_all n (named_objective (option_map view_of objective.now))) }
-    ensures ok { OnOk result (ArePassed of (named_values of (map part_seen tied.now)) n (named_objective (option_map view_of objective.now))) }
+    ensures cols { IfOk result (λ m.
+        m ≡ cols_after_all n (named_objective (option_map view_of objective.now))) }
+    ensures ok { OnOk result (ArePassed of (named_values of (map part_seen tied.now)) n
+        (named_objective (option_map view_of objective.now))) }
     ensures entries { OnOk result (HaveFractions (named_objective (option_map view_of objective.now))) }
     ensures fault { IfErr result (λ e. fault_of e ≢ out_of_memory →
         HasBadRow of (named_values of (map part_seen tied.now)) n (named_objective (option_map view_of objective.now)) (fault_of e)) }
@@ -138,8 +140,10 @@ fn test_objectives(
     objectives: &[Option<Value>],
 ) -> Result<Option<usize>, FileFail>
     requires formed { IsTrue (list_all is_formed_objective (objectives_seen objectives.now)) }
-    ensures cols { IfOk result (λ m. m ≡ cols_after_all n (named_objectives (objectives_seen objectives.now))) }
-    ensures ok { OnOk result (ArePassed of (named_values of (map part_seen tied.now)) n (named_objectives (objectives_seen objectives.now))) }
+    ensures cols { IfOk result (λ m.
+        m ≡ cols_after_all n (named_objectives (objectives_seen objectives.now))) }
+    ensures ok { OnOk result (ArePassed of (named_values of (map part_seen tied.now)) n
+        (named_objectives (objectives_seen objectives.now))) }
     ensures entries { OnOk result (HaveFractions (named_objectives (objectives_seen objectives.now))) }
     ensures fault { IfErr result (λ e. fault_of e ≢ out_of_memory →
         HasBadRow of (named_values of (map part_seen tied.now)) n (named_objectives (objectives_seen objectives.now)) (fault_of e)) }
@@ -162,7 +166,8 @@ fn test_property(
 ) -> Result<Option<usize>, FileFail>
     requires formed { IsTrue (is_formed p (view_of v.now)) }
     ensures cols { IfOk result (λ m. m ≡ cols_after_all n (named_part of (value p (view_of v.now)))) }
-    ensures ok { OnOk result (ArePassed of (named_values of (map part_seen tied.now)) n (named_part of (value p (view_of v.now)))) }
+    ensures ok { OnOk result (ArePassed of (named_values of (map part_seen tied.now)) n
+        (named_part of (value p (view_of v.now)))) }
     ensures entries { OnOk result (HaveFractions (named_part of (value p (view_of v.now)))) }
     ensures fault { IfErr result (λ e. fault_of e ≢ out_of_memory →
         HasBadRow of (named_values of (map part_seen tied.now)) n (named_part of (value p (view_of v.now))) (fault_of e)) }
@@ -181,7 +186,8 @@ fn test_part(
 ) -> Result<Option<usize>, FileFail>
     requires formed { IsTrue (is_formed_part (part_seen part.now)) }
     ensures cols { IfOk result (λ m. m ≡ cols_after_all n (named_part of (part_seen part.now))) }
-    ensures ok { OnOk result (ArePassed of (named_values of (map part_seen tied.now)) n (named_part of (part_seen part.now))) }
+    ensures ok { OnOk result (ArePassed of (named_values of (map part_seen tied.now)) n
+        (named_part of (part_seen part.now))) }
     ensures entries { OnOk result (HaveFractions (named_part of (part_seen part.now))) }
     ensures fault { IfErr result (λ e. fault_of e ≢ out_of_memory →
         HasBadRow of (named_values of (map part_seen tied.now)) n (named_part of (part_seen part.now)) (fault_of e)) }
@@ -200,7 +206,8 @@ pub(crate) fn test_parts(
     parts: &[FilePart],
 ) -> Result<(), FileFail>
     requires formed { IsTrue (are_formed_parts (map part_seen parts.now)) }
-    ensures ok { OnOk result (ArePassed of (named_values of (map part_seen tied.now)) None (named_values of (map part_seen parts.now))) }
+    ensures ok { OnOk result (ArePassed of (named_values of (map part_seen tied.now)) None
+        (named_values of (map part_seen parts.now))) }
     ensures entries { OnOk result (HaveFractions (named_values of (map part_seen parts.now))) }
     ensures fault { IfErr result (λ e. fault_of e ≢ out_of_memory →
         HasBadRow of (named_values of (map part_seen tied.now)) None (named_values of (map part_seen parts.now)) (fault_of e)) }

@@ -5,7 +5,7 @@ use Rattle.pm_files.specs.Views.{program_of}
 use Rattle.pm_filing.proofs.Fitting.{map_append}
 use Rattle.pm_filing.proofs.SavedPrograms.{next_program}
 use Rattle.pm_filing.specs.Filing.{saved_programs}
-use Rattle.pm_filing.proofs.save.file_programs.Goals as goal
+use Rattle.pm_saving.proofs.save.file_programs.Goals as goal
 
 pub loop-sub-preserved : goal.loop-sub-preserved
 loop-sub-preserved c =

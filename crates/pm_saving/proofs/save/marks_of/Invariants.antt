@@ -2,7 +2,7 @@ use Rattle.std.proofs.Common.{◌≡◌, drop, fold}
 use Rattle.std.specs.Prelude.{flat_map}
 use Rattle.pm_filing.specs.ReadingViews.{marks_seen}
 use Rattle.pm_filing.specs.Filing.{mark_written, marks_written, with_mark}
-use Rattle.pm_filing.proofs.save.marks_of.Given as goal
+use Rattle.pm_saving.proofs.save.marks_of.Given as goal
 
 -- with the marks of what is left the marks are those of all
 abbrev pub invariant-loop-e : goal.invariant-loop-e

@@ -2,7 +2,7 @@ use Rattle.std.proofs.Common.{◌≡◌, ◌++◌, drop}
 use Rattle.std.specs.Prelude.{map}
 use Rattle.pm_files.specs.Views.{program_of}
 use Rattle.pm_filing.specs.Filing.{saved_programs}
-use Rattle.pm_filing.proofs.save.file_programs.Given as goal
+use Rattle.pm_saving.proofs.save.file_programs.Given as goal
 
 -- what is left is put behind what was put
 abbrev pub invariant-loop-sub : goal.invariant-loop-sub

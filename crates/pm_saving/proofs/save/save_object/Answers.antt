@@ -11,7 +11,7 @@ use Rattle.pm_filing.proofs.Saved.{saved_whole}
 use Rattle.pm_filing.specs.FileParts.{not_json, or_else_fault}
 use Rattle.pm_filing.specs.Filing.{saved_file}
 use Rattle.pm_rules.specs.Books.{IsBook}
-use Rattle.pm_filing.proofs.save.save_object.Goals as goal
+use Rattle.pm_saving.proofs.save.save_object.Goals as goal
 
 pub returns-clause-again : goal.returns-clause-again
 returns-clause-again c =

@@ -13,8 +13,8 @@ ghost use Rattle.pm_filing.specs.Views.{value_seen};
 ghost use Rattle.std.specs.Prelude.{IfOk, IfSome, OnOk, Some, fold, length, map, option_map, slice_get, ◌<◌, ◌≡◌, ◌≤◌};
 ghost use Rattle.pm_limits.specs.Limits.{most_file_bytes};
 
-use crate::profile::has_label;
 use pm_files::{FileObject, FileProgram, object_bytes};
+use pm_filing::has_label;
 use pm_matrix::Matrix;
 use pm_object::{Excluded, Held, Object, Origin, Why, are_same};
 use pm_rules::Book;
@@ -167,8 +167,8 @@ fn file_programs(
     Ok(programs)
 }
 
-/// What a file holds of an object: its values, which of them rules computed, the rules of the book that failed, and its
-/// linear programs.
+/// What a file holds of an object: its values, which of them rules computed, the rules of the book that failed, and
+/// its linear programs.
 fn file_object(alloc: Global, book: &Book, object: &Object) -> Result<FileObject, AllocError>
     ensures { IfOk result (λ f. file_of f ≡ saved_file book.now object.now.state) }
 {
@@ -182,9 +182,9 @@ fn file_object(alloc: Global, book: &Book, object: &Object) -> Result<FileObject
     })
 }
 
-/// The bytes of the data file of an object. Where they are not too many, loading them gives what the object holds again,
-/// and its marks; and saving what was read gives the same bytes. So does saving the object that is loaded of them, where
-/// settling adds nothing to it and the book has all labels (`law_saved_again` of `pm_laws_files`).
+/// The bytes of the data file of an object. Where they are not too many, loading them gives what the object holds
+/// again, and its marks; and saving what was read gives the same bytes. So does saving the object that is loaded of
+/// them, where settling adds nothing to it and the book has all labels (`law_saved_again` of `pm_laws_files`).
 pub fn save_object(alloc: Global, book: &Book, object: &Object) -> Result<Vec<u8>, AllocError>
     ensures file { IfOk result (λ bytes. bytes.items ≡ file_bytes (saved_file book.now object.now.state)) }
     ensures again { IfOk result (λ bytes. length bytes.items ≤ most_file_bytes →

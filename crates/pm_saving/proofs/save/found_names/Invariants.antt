@@ -3,7 +3,7 @@ use Rattle.std.specs.Prelude.{filter}
 use Rattle.pm_filing.specs.Filing.{found_names, is_own_found}
 use Rattle.pm_object.specs.Views.{held_seen}
 use Rattle.pm_props.specs.Sets.{only, union}
-use Rattle.pm_filing.proofs.save.found_names.Given as goal
+use Rattle.pm_saving.proofs.save.found_names.Given as goal
 
 -- with what the rest of the list adds to it, the set is that of the whole list
 abbrev pub invariant-loop-h : goal.invariant-loop-h
