@@ -8,3 +8,5 @@ pub mod StatedSets
 pub mod Edges
 pub mod Examples
 pub mod Lattices
+pub mod FileFaults
+pub mod FileExamples

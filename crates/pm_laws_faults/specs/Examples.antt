@@ -29,7 +29,8 @@ two_rows = array (two (array (two nought x)) (array (three nought nought nought)
 
 -- [[0,0],{"cols":3}]
 abbrev pub with_cols : Data
-with_cols = array (two (array (two nought nought)) (object (member (codes "cols") (number (unsigned 3)) no_members)))
+with_cols = array
+    (two (array (two nought nought)) (object (member (codes "cols") (number (unsigned 3)) no_members)))
 
 -- a place before those in it, and the items in their order
 pub record PlacesAreOrdered : Type 0 where
@@ -50,8 +51,11 @@ pub record FaultsStand : Type 0 where
   pub answered : reading Vertices two_rows ≡ Err Number
   pub not_second : ¬ (IsFirst (HasFault Vertices two_rows) (1 ∷ 2 ∷ []) Shape)
   -- a later row that is too short has its fault at its end, and a first row too
-  pub short : HasFault Vertices (array (two (array (two nought nought)) (array (one nought)))) (1 ∷ 1 ∷ []) Shape
-  pub not_short : ¬ (HasFault Vertices (array (two (array (two nought nought)) (array (two nought nought)))) (1 ∷ 2 ∷ []) Shape)
+  pub short : HasFault Vertices (array (two (array (two nought nought)) (array (one nought))))
+      (1 ∷ 1 ∷ []) Shape
+  pub not_short
+      : ¬ (HasFault Vertices (array (two (array (two nought nought)) (array (two nought nought))))
+      (1 ∷ 2 ∷ []) Shape)
   pub no_entry : HasFault LinearObjective (array no_items) (0 ∷ []) Limit
   -- a column count behind the rows that is not their length
   pub columns : HasFault Vertices with_cols (1 ∷ []) Shape

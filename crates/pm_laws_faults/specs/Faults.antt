@@ -74,11 +74,13 @@ NumberIn (Some d) z = IsWhole d z
 
 -- it is no {"cols":n}
 abbrev pub NoCols : Data → ValueFail → Type 0
-NoCols (object (member key d no_members)) f = NoNumberIn (get_member (codes "cols") (member key d no_members)) f
+NoCols (object (member key d no_members)) f =
+    NoNumberIn (get_member (codes "cols") (member key d no_members)) f
 NoCols d f = f ≡ Shape
 
 abbrev pub IsCols : Data → ℤ → Type 0
-IsCols (object (member key d no_members)) z = NumberIn (get_member (codes "cols") (member key d no_members)) z
+IsCols (object (member key d no_members)) z =
+    NumberIn (get_member (codes "cols") (member key d no_members)) z
 IsCols d z = ⊥
 
 -- n is no count from `least` to `most`
@@ -94,10 +96,12 @@ IsNoWidth least most (item d ds) z f = (f ≡ Shape) × ¬ (z ≡ pos (first_cou
 -- the fault is one of the object behind the rows
 abbrev pub OfBehind : ℕ → ℕ → Items → Option Data → List ℕ → ValueFail → Type 0
 OfBehind least most rows None r f = ⊥
-OfBehind least most rows (Some d) r f = (r ≡ count rows ∷ []) × (NoCols d f ⊎ ((z : ℤ) × IsCols d z × IsNoWidth least most rows z f))
+OfBehind least most rows (Some d) r f =
+    (r ≡ count rows ∷ []) × (NoCols d f ⊎ ((z : ℤ) × IsCols d z × IsNoWidth least most rows z f))
 
 abbrev pub OfMatrix : ℕ → ℕ → Data → List ℕ → ValueFail → Type 0
-OfMatrix least most d r f = OfArray (λ ds s g. OfRows least most (rows_before ds) s g ⊎ OfBehind least most (rows_before ds) (object_behind ds) s g) d r f
+OfMatrix least most d r f = OfArray (λ ds s g. OfRows least most (rows_before ds) s g
+    ⊎ OfBehind least most (rows_before ds) (object_behind ds) s g) d r f
 
 -- LP.LINEAR_OBJECTIVE and SITE_HEIGHTS are one row
 abbrev pub OfMatrixOf : PropId → Data → List ℕ → ValueFail → Type 0
@@ -131,7 +135,8 @@ NoIndex d f = NotWhole d f ⊎ ((z : ℤ) × IsWhole d z × IsNoIndex z f)
 
 -- an item before number k is the index j
 abbrev pub HasIndex : Items → ℕ → ℕ → Type 0
-HasIndex ds k j = (i : ℕ) × (i < k) × (d : Data) × (get_item i ds ≡ Some d) × IsWhole d (pos j) × (j < most_rows)
+HasIndex ds k j = (i : ℕ) × (i < k) × (d : Data) × (get_item i ds ≡ Some d) × IsWhole d (pos j)
+    × (j < most_rows)
 
 -- the item of number k is an index that one before it is
 abbrev pub IsRepeated : Items → ℕ → Data → Type 0
@@ -149,19 +154,25 @@ OfListed k d r f = OfArray OfSet d r f ⊎ OneTooMany most_rows k r f
 
 -- an index of one of the sets is n or more
 abbrev pub HasAbove : Items → ℕ → Type 0
-HasAbove ds n = (i : ℕ) × (es : Items) × (j : ℕ) × (get_item i ds ≡ Some (array es)) × HasIndex es (count es) j × (n ≤ j)
+HasAbove ds n = (i : ℕ) × (es : Items) × (j : ℕ) × (get_item i ds ≡ Some (array es))
+    × HasIndex es (count es) j × (n ≤ j)
 
 -- the column count behind the sets is none, or an index is not below it: that is tested after the last item
 abbrev pub OfSetsBehind : Items → Option Data → List ℕ → ValueFail → Type 0
 OfSetsBehind rows None r f = ⊥
-OfSetsBehind rows (Some d) r f = (r ≡ count rows ∷ []) × (NoCols d f ⊎ ((z : ℤ) × IsCols d z × (f ≡ Limit) × IsBeyond 0 most_rows z))
+OfSetsBehind rows (Some d) r f = (r ≡ count rows ∷ [])
+    × (NoCols d f ⊎ ((z : ℤ) × IsCols d z × (f ≡ Limit) × IsBeyond 0 most_rows z))
 
 abbrev pub OfHighIndex : Items → Option Data → List ℕ → ValueFail → Type 0
 OfHighIndex rows None r f = ⊥
-OfHighIndex rows (Some d) r f = (r ≡ suc (count rows) ∷ []) × (f ≡ Index) × ((n : ℕ) × IsCols d (pos n) × HasAbove rows n)
+OfHighIndex rows (Some d) r f = (r ≡ suc (count rows) ∷ []) × (f ≡ Index)
+    × ((n : ℕ) × IsCols d (pos n) × HasAbove rows n)
 
 abbrev pub OfSets : Data → List ℕ → ValueFail → Type 0
-OfSets d r f = OfArray (λ ds s g. (AtItem OfListed (rows_before ds) s g ⊎ OfSetsBehind (rows_before ds) (object_behind ds) s g) ⊎ OfHighIndex (rows_before ds) (object_behind ds) s g) d r f
+OfSets d r f =
+    OfArray (λ ds s g.
+    (AtItem OfListed (rows_before ds) s g ⊎ OfSetsBehind (rows_before ds) (object_behind ds) s g)
+    ⊎ OfHighIndex (rows_before ds) (object_behind ds) s g) d r f
 
 -- ---- edges
 -- the set of number i has j
@@ -174,7 +185,8 @@ IsOneWay ds = (i j : ℕ) × IsNeighbour ds i j × ((i ≡ j) ⊎ ¬ (IsNeighbou
 
 -- after the last node it is tested that all neighbours are nodes, and then that all are neighbours of one another
 abbrev pub OfNodes : Items → List ℕ → ValueFail → Type 0
-OfNodes ds r f = ((r ≡ count ds ∷ []) × (f ≡ Index) × HasAbove ds (count ds)) ⊎ ((r ≡ suc (count ds) ∷ []) × (f ≡ Shape) × IsOneWay ds)
+OfNodes ds r f = ((r ≡ count ds ∷ []) × (f ≡ Index) × HasAbove ds (count ds))
+    ⊎ ((r ≡ suc (count ds) ∷ []) × (f ≡ Shape) × IsOneWay ds)
 
 abbrev pub OfEdges : Data → List ℕ → ValueFail → Type 0
 OfEdges d r f = OfArray (λ ds s g. AtItem OfListed ds s g ⊎ OfNodes ds s g) d r f
@@ -210,15 +222,19 @@ OfFace m k d r f = OfArray (λ ds s g. AtItem (OfPlace k ds) ds s g) d r f ⊎ O
 
 -- the faces of a rank, where so many come before it
 abbrev pub OfRank : ℕ → ℕ → Data → List ℕ → ValueFail → Type 0
-OfRank m k d r f = OfArray (λ ds s g. AtItem (λ b. OfFace (m + b) (k + count_in (first_items b ds))) ds s g) d r f
+OfRank m k d r f =
+    OfArray (λ ds s g. AtItem (λ b. OfFace (m + b) (k + count_in (first_items b ds))) ds s g) d r f
 
 abbrev pub OfLattice : Data → List ℕ → ValueFail → Type 0
-OfLattice d r f = OfArray (λ ds s g. AtItem (λ a. OfRank (count_in (first_items a ds)) (count_within (first_items a ds))) ds s g) d r f
+OfLattice d r f =
+    OfArray (λ ds s g.
+    AtItem (λ a. OfRank (count_in (first_items a ds)) (count_within (first_items a ds))) ds s g) d r f
 
 -- ---- whole numbers, truth values, numbers
 -- it is no whole number of 64 bits, or for CONE_AMBIENT_DIM no dimension
 abbrev pub NoWholeOf : PropId → Data → ValueFail → Type 0
-NoWholeOf p (number n) f = ((f ≡ Number) × (as_i64 n ≡ None)) ⊎ ((f ≡ Limit) × ((z : ℤ) × (as_i64 n ≡ Some z) × (is_ambient p ≡ true) × (is_dimension z ≡ false)))
+NoWholeOf p (number n) f = ((f ≡ Number) × (as_i64 n ≡ None))
+    ⊎ ((f ≡ Limit) × ((z : ℤ) × (as_i64 n ≡ Some z) × (is_ambient p ≡ true) × (is_dimension z ≡ false)))
 NoWholeOf p d f = f ≡ Shape
 
 abbrev pub NoTruth : Data → ValueFail → Type 0
@@ -227,7 +243,8 @@ NoTruth d f = f ≡ Shape
 
 -- it is no fraction, and neither inf nor -inf
 abbrev pub NoNumber : Data → ValueFail → Type 0
-NoNumber (string s) f = NoFraction (string s) f × (bytes_eq s (codes "inf") ≡ false) × (bytes_eq s (codes "-inf") ≡ false)
+NoNumber (string s) f = NoFraction (string s) f × (bytes_eq s (codes "inf") ≡ false)
+    × (bytes_eq s (codes "-inf") ≡ false)
 NoNumber d f = NoFraction d f
 
 -- ---- values

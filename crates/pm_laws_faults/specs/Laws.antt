@@ -5,6 +5,7 @@ use Rattle.pm_laws_faults.specs.Places.{Tells}
 use Rattle.pm_props.specs.declared.property.PropId.{PropId}
 use Rattle.serde_json.specs.Data.{Data}
 
--- reading a value tells of its faults: where it is read there is none, and else the fault is the first of those that stand somewhere
+-- reading a value tells of its faults: where it is read there is none, and else the fault is the first of those that
+-- stand somewhere
 abbrev pub FirstFaultIsRead : Type 0
 FirstFaultIsRead = (p : PropId) (d : Data) → Tells (HasFault p d) (reading p d)

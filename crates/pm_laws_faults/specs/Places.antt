@@ -1,4 +1,5 @@
--- Faults at places of a JSON value, in reading order. A place is the way to an element: the number of an item, then that of an item in it, and so on; the number after that of the last item is the end of an array.
+-- Faults at places of a JSON value, in reading order. A place is the way to an element: the number of an item, then
+-- that of an item in it, and so on; the number after that of the last item is the end of an array.
 use Rattle.std.specs.Prelude.{ℕ, suc, ◌≡◌, ◌<◌, ◌≤◌, ◌⊎◌, ⊤, List, [], ◌∷◌, Err, Ok, Result, Some}
 use Rattle.pm_json.specs.declared.fail.ValueFail.{ValueFail}
 use Rattle.pm_json.specs.declared.fail.ValueFail.TheVariants.{Index, Limit, Memory, Number, Shape}
@@ -28,7 +29,8 @@ pub record IsFirst (Stands : List ℕ → ValueFail → Type 0) (r : List ℕ) (
   pub stands : Stands r f
   pub first : (s : List ℕ) (g : ValueFail) → Stands s g → CountsFirst r f s g
 
--- what a reading tells of the faults that stand somewhere: where it is Ok there is none, and else its fault is the first
+-- what a reading tells of the faults that stand somewhere: where it is Ok there is none, and else its fault is the
+-- first
 abbrev pub Tells : {A : Type 0} → (List ℕ → ValueFail → Type 0) → Result A ValueFail → Type 0
 Tells Stands (Ok a) = (r : List ℕ) (f : ValueFail) → ¬ (Stands r f)
 Tells Stands (Err f) = (r : List ℕ) × IsFirst Stands r f

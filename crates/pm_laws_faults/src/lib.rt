@@ -2,6 +2,8 @@
 #![tactic(auto)]
 
 ghost use Rattle.pm_laws_faults.specs.Examples.{FaultsStand, PlacesAreOrdered};
+ghost use Rattle.pm_laws_faults.specs.FileExamples.{KeysAreNamed};
+ghost use Rattle.pm_laws_faults.specs.FileFaults.{FirstKeyIsNamed};
 ghost use Rattle.pm_laws_faults.specs.Laws.{FirstFaultIsRead};
 
 /// The fault of a value is the first in reading order, and one that is read has none.
@@ -13,4 +15,14 @@ pub fn law_first_fault_is_read()
 pub fn example_faults()
     ensures places { PlacesAreOrdered }
     ensures faults { FaultsStand }
+{}
+
+/// The fault of a file in its values is that of the first key with a fault, and there the first.
+pub fn law_first_key_is_named()
+    ensures { FirstKeyIsNamed }
+{}
+
+/// Which faults stand in small files, and which key is named.
+pub fn example_keys()
+    ensures { KeysAreNamed }
 {}

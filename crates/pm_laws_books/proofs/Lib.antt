@@ -1,0 +1,15 @@
+pub mod Walks
+pub mod Commas
+pub mod Had
+pub mod Ends
+pub mod Along
+pub mod Standing
+pub mod Going
+pub mod Named
+pub mod NamesRead
+pub mod PartsRead
+pub mod RulesRead
+pub mod Rising
+pub mod First
+pub mod One
+pub mod Examples
