@@ -3,7 +3,7 @@ use Rattle.std.proofs.Common.{◌≡◌, ℕ, ◌<◌, ◌≤◌, Bool, refl, So
 use Rattle.std.specs.Prelude.{IfOk, IfSome, Option, Result}
 use Rattle.std.specs.Str.{IsUtf8}
 use Rattle.std.proofs.lemmas.List.{take_all, length-take}
-use Rattle.pm_books.specs.Gives.{Fails, Gives}
+use Rattle.pm_books.specs.Gives.{FailsAs, GivesAs}
 use Rattle.pm_books.specs.Grammar.{IsBookText}
 use Rattle.pm_books.specs.declared.fail.BookFail.{BookFail}
 use Rattle.pm_books.specs.declared.fail.BookFail.TheVariants.{Syntax, UnknownProperty, UnknownClient, SignatureMismatch, SameLabel, WeightRange, TooManyRules, Memory}
@@ -63,7 +63,7 @@ absent_named files name h = if_more files (λ all. IsNoFile (file_of all name)) 
 
 -- a text of which another fault than want of memory was found spells no book
 pub no_book : {X : Type 0} (view : X → List Rule) (bytes : List ℕ) (r : Result X BookFail) (why : BookFail) → r ≡ Err why → (why ≡ Memory → ⊥)
-    → ((rules : List Rule) → IsBookText standard_kinds_list bytes rules → Gives view r (Ok rules)) → (rules : List Rule) → IsBookText standard_kinds_list bytes rules → ⊥
+    → ((rules : List Rule) → IsBookText standard_kinds_list bytes rules → GivesAs view r (Ok rules)) → (rules : List Rule) → IsBookText standard_kinds_list bytes rules → ⊥
 no_book view bytes (Ok x) why e other only rules h = cc
 no_book view bytes (Err Memory) why e other only rules h = other (let same : Memory ≡ why = cc in sym same)
 no_book view bytes (Err (Syntax k)) why e other only rules h = let no = only rules h in cc
@@ -74,7 +74,7 @@ no_book view bytes (Err (SameLabel k)) why e other only rules h = let no = only 
 no_book view bytes (Err (WeightRange k)) why e other only rules h = let no = only rules h in cc
 no_book view bytes (Err (TooManyRules k)) why e other only rules h = let no = only rules h in cc
 
-fails_is : {Y : Type 0} (why : BookFail) (read : Result Y BookFail) → (why ≡ Memory → ⊥) → Fails why read → read ≡ Err why
+fails_is : {Y : Type 0} (why : BookFail) (read : Result Y BookFail) → (why ≡ Memory → ⊥) → FailsAs why read → read ≡ Err why
 fails_is Memory read other h = absurd (other refl)
 fails_is (Syntax k) read other h = h
 fails_is (UnknownProperty k) read other h = h
@@ -90,9 +90,9 @@ if_ok_more (Err e) P Q f h = tt
 
 -- the answer of a fault, on a text that spells no book
 pub fault_is : {X : Type 0} (view : X → List Rule) (bytes line : List ℕ) (right : Bool) (r : Result X BookFail) (why : BookFail) → IsUtf8 bytes → r ≡ Err why
-    → ((rules : List Rule) → IsBookText standard_kinds_list bytes rules → Gives view r (Ok rules)) → Gives view r (book_of standard_kinds_list bytes)
+    → ((rules : List Rule) → IsBookText standard_kinds_list bytes rules → GivesAs view r (Ok rules)) → GivesAs view r (book_of standard_kinds_list bytes)
     → IsFaultAnswer why bytes line right → IsBookAnswer bytes line right
 fault_is view bytes line right r why utf8 e only exact h =
-    let at : Fails why (book_of standard_kinds_list bytes) = rw e at exact in
+    let at : FailsAs why (book_of standard_kinds_list bytes) = rw e at exact in
     subst (λ b. IsBookAnswer bytes line b) (sym h.no_yes)
     (fault why utf8 (no_book view bytes r why e h.other only) (fails_is why (book_of standard_kinds_list bytes) h.other at) h.says)

@@ -3,6 +3,7 @@ pub mod Cuts
 pub mod Ended
 pub mod Files
 pub mod NamedSets
-pub mod PlaceExamples
 pub mod Proved
+pub mod RunExamples
 pub mod VerdictExamples
+pub mod WordExamples

@@ -20,12 +20,14 @@ pub record IsTextOf (bytes : List ℕ) (book : List Rule) : Type 0 where
 
 -- the bytes are too long, no text, or spell no rules
 abbrev pub IsRefusedText : List ℕ → Type 0
-IsRefusedText bytes = (most_file_bytes < length bytes) ⊎ ((¬ (IsUtf8 bytes)) ⊎ ((book : List Rule) → ¬ (IsBookText standard_kinds_list bytes book)))
+IsRefusedText bytes = (most_file_bytes < length bytes)
+    ⊎ ((¬ (IsUtf8 bytes)) ⊎ ((book : List Rule) → ¬ (IsBookText standard_kinds_list bytes book)))
 
 -- the standard book without a name, else the one that the file of this name spells, where the store tells its files
 abbrev pub IsBookNamed : Option (List ℕ) → Option (List (List ℕ × List ℕ)) → List Rule → Type 0
 IsBookNamed None files book = book ≡ standard_rules
-IsBookNamed (Some name) files book = (bytes : List ℕ) × IfSome files (λ all. file_of all name ≡ Some bytes) × IsTextOf bytes book
+IsBookNamed (Some name) files book = (bytes : List ℕ) × IfSome files (λ all. file_of all name ≡ Some bytes)
+    × IsTextOf bytes book
 
 -- there is no such file, or it spells no book
 abbrev pub IsRefusedFile : Option (List ℕ) → Type 0
@@ -53,7 +55,8 @@ column_at place text = column_from 1 (take place text)
 
 -- `NAME at line L, column C`
 abbrev pub at_text : List ℕ → ℕ → List ℕ → List ℕ
-at_text name place text = name ++ codes " at line " ++ decimal (line_at place text) ++ codes ", column " ++ decimal (column_at place text) ++ codes "\n"
+at_text name place text = name ++ codes " at line " ++ decimal (line_at place text) ++ codes ", column "
+    ++ decimal (column_at place text) ++ codes "\n"
 
 -- the line that tells a fault; that memory ran out is none
 abbrev pub fault_text : BookFail → List ℕ → List ℕ
@@ -79,6 +82,9 @@ pub record IsFaultAnswer (why : BookFail) (bytes line : List ℕ) (right : Bool)
 -- the bytes are no text; or they spell a book of so many rules; or this is the first fault, and they spell none
 pub data IsBookAnswer (bytes line : List ℕ) : Bool → Type 0 where
   no_text : ¬ (IsUtf8 bytes) → line ≡ codes "no text\n" → IsBookAnswer bytes line false
-  spells : (rules : List Rule) → IsUtf8 bytes → IsBookText standard_kinds_list bytes rules → line ≡ count_text (length rules) → IsBookAnswer bytes line true
-  fault : (why : BookFail) → IsUtf8 bytes → ((rules : List Rule) → ¬ (IsBookText standard_kinds_list bytes rules)) → book_of standard_kinds_list bytes ≡ Err why
+  spells : (rules : List Rule) → IsUtf8 bytes → IsBookText standard_kinds_list bytes rules
+      → line ≡ count_text (length rules) → IsBookAnswer bytes line true
+  fault : (why : BookFail) → IsUtf8 bytes
+      → ((rules : List Rule) → ¬ (IsBookText standard_kinds_list bytes rules))
+      → book_of standard_kinds_list bytes ≡ Err why
       → line ≡ fault_text why bytes → IsBookAnswer bytes line false

@@ -38,7 +38,8 @@ pub record World : Type 0 where
 
 -- ---- answers
 -- the line is the answer on the bytes that the source had, by the book that the words name
-pub record AnswersPlan (said : PlanSaid) (given : Option (List ℕ)) (files : Option (List (List ℕ × List ℕ))) (line : List ℕ) (right : Bool) : Type 0 where
+pub record AnswersPlan (said : PlanSaid) (given : Option (List ℕ)) (files : Option (List (List ℕ × List ℕ)))
+    (line : List ℕ) (right : Bool) : Type 0 where
   pub bytes : List ℕ
   pub read : IfSome given (λ all. bytes ≡ all)
   pub short : length bytes ≤ most_printed_bytes
@@ -47,13 +48,15 @@ pub record AnswersPlan (said : PlanSaid) (given : Option (List ℕ)) (files : Op
   pub answer : IsAnswer rules said bytes line right
 
 -- the line is the answer on the file of this name
-pub record AnswersBook (name : List ℕ) (files : Option (List (List ℕ × List ℕ))) (line : List ℕ) (right : Bool) : Type 0 where
+pub record AnswersBook (name : List ℕ) (files : Option (List (List ℕ × List ℕ))) (line : List ℕ)
+    (right : Bool) : Type 0 where
   pub bytes : List ℕ
   pub there : IfSome files (λ all. file_of all name ≡ Some bytes)
   pub short : length bytes ≤ most_file_bytes
   pub answer : IsBookAnswer bytes line right
 
-abbrev pub Answers : Option Asked → Option (List ℕ) → Option (List (List ℕ × List ℕ)) → List ℕ → Bool → Type 0
+abbrev pub Answers : Option Asked → Option (List ℕ) → Option (List (List ℕ × List ℕ)) → List ℕ → Bool
+    → Type 0
 Answers None given files line right = ⊥
 Answers (Some (of_plan said)) given files line right = AnswersPlan said given files line right
 Answers (Some (of_book name)) given files line right = AnswersBook name files line right
@@ -72,7 +75,8 @@ Told had has line right BadBook = ⊥
 -- the words are none of the program, or ask no question by the book that they name
 abbrev pub IsBadAsked : Option Asked → Option (List (List ℕ × List ℕ)) → Type 0
 IsBadAsked None files = Unit {0}
-IsBadAsked (Some (of_plan said)) files = (rules : List Rule) × IsBookNamed said.book files rules × (question_of rules said ≡ None)
+IsBadAsked (Some (of_plan said)) files = (rules : List Rule) × IsBookNamed said.book files rules
+    × (question_of rules said ≡ None)
 IsBadAsked (Some (of_book name)) files = ⊥
 
 abbrev pub IsRefusedBook : Option (List ℕ) → List (List ℕ × List ℕ) → Type 0
@@ -86,11 +90,13 @@ IsBadBook (Some (of_plan said)) files = IsRefusedBook said.book files
 IsBadBook (Some (of_book name)) files = IsNoFile (file_of files name)
 
 -- ---- ends
--- So a run ended: the sink took the line that answers what the words ask of what was given, and the status tells whether it is a yes; or the sink failed in that line; or there is no answer, and the sink took nothing.
+-- So a run ended: the sink took the line that answers what the words ask of what was given, and the status tells
+-- whether it is a yes; or the sink failed in that line; or there is no answer, and the sink took nothing.
 abbrev pub Ended : Option Asked → Status → World → Type 0
 Ended asked Right w = (line : List ℕ) × Answers asked w.given w.files line true × Gains w.had w.has line
 Ended asked Wrong w = (line : List ℕ) × Answers asked w.given w.files line false × Gains w.had w.has line
-Ended asked SinkFault w = (line : List ℕ) × (right : Bool) × Answers asked w.given w.files line right × GainsPart w.had w.has line
+Ended asked SinkFault w = (line : List ℕ) × (right : Bool) × Answers asked w.given w.files line right
+    × GainsPart w.had w.has line
 Ended asked BadWords w = IsBadAsked asked w.files × Stays w.had w.has
 Ended asked SourceFault w = Stays w.had w.has
 Ended asked OutOfMemory w = Stays w.had w.has

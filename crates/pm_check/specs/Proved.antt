@@ -35,7 +35,8 @@ abbrev pub TellsTrue : List Rule → QuestionSeen → List ℕ → List ℕ → 
 TellsTrue book q text line = TellsLeast book q line ⊎ TellsNone book q text line
 
 -- so it is by the book that the words name, for the question that they ask, of the bytes that the source had
-pub record PlanIsTrue (said : PlanSaid) (given : Option (List ℕ)) (files : Option (List (List ℕ × List ℕ))) (line : List ℕ) : Type 0 where
+pub record PlanIsTrue (said : PlanSaid) (given : Option (List ℕ)) (files : Option (List (List ℕ × List ℕ)))
+    (line : List ℕ) : Type 0 where
   pub bytes : List ℕ
   pub read : IfSome given (λ all. bytes ≡ all)
   pub rules : List Rule
@@ -48,15 +49,20 @@ pub record PlanIsTrue (said : PlanSaid) (given : Option (List ℕ)) (files : Opt
 abbrev pub Proved : Option Asked → World → Type 0
 Proved None w = ⊥
 Proved (Some (of_book name)) w = Unit {0}
-Proved (Some (of_plan said)) w = (line : List ℕ) × Gains w.had w.has line × PlanIsTrue said w.given w.files line
+Proved (Some (of_plan said)) w = (line : List ℕ) × Gains w.had w.has line
+    × PlanIsTrue said w.given w.files line
 
 -- ---- laws
 -- on the printed text of a plan that proves itself least, the line tells its weight, and it is a yes
 abbrev pub LeastPlansAreTold : Type 0
-LeastPlansAreTold = (book : List Rule) (q : Question) (weight : Cost) (chain : List RuleId) (rows : List TableRow) (text line : List ℕ) → IsBook book
-    → IsPlanText book text weight chain rows → ProvesPlan book q weight chain rows → (yes : Bool) → Tells book q text line yes → (line ≡ least_text weight) × (yes ≡ true)
+LeastPlansAreTold = (book : List Rule) (q : Question) (weight : Cost) (chain : List RuleId)
+    (rows : List TableRow) (text line : List ℕ) → IsBook book
+    → IsPlanText book text weight chain rows → ProvesPlan book q weight chain rows → (yes : Bool)
+    → Tells book q text line yes → (line ≡ least_text weight) × (yes ≡ true)
 
 -- on that of a refusal that proves that there is none, it says so, and it is a yes
 abbrev pub RefusalsAreTold : Type 0
-RefusalsAreTold = (book : List Rule) (q : Question) (told : List (RuleId × List ℕ)) (rows : List TableRow) (text line : List ℕ) → IsBook book
-    → IsRefusalText book text told rows → ProvesNone book q told rows → (yes : Bool) → Tells book q text line yes → (line ≡ none_text) × (yes ≡ true)
+RefusalsAreTold = (book : List Rule) (q : Question) (told : List (RuleId × List ℕ)) (rows : List TableRow)
+    (text line : List ℕ) → IsBook book
+    → IsRefusalText book text told rows → ProvesNone book q told rows → (yes : Bool)
+    → Tells book q text line yes → (line ≡ none_text) × (yes ≡ true)

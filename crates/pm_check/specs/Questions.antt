@@ -23,7 +23,8 @@ names_in_use of program = set_of (filter (is_in_use (if program then Some 0 else
 -- the rules of these labels; none where the book lacks one
 abbrev pub all_labelled : List Rule → List (List ℕ) → Option (List RuleId)
 all_labelled book [] = Some []
-all_labelled book (label ∷ labels) = option_and_then (λ id. option_map (λ ids. id ∷ ids) (all_labelled book labels)) (labelled book label)
+all_labelled book (label ∷ labels) =
+    option_and_then (λ id. option_map (λ ids. id ∷ ids) (all_labelled book labels)) (labelled book label)
 
 -- what is asked: the names in use, the held and the asked ones, and the barred rules
 pub record QuestionSeen : Type 0 where
@@ -36,12 +37,21 @@ abbrev pub seen_question : Question → QuestionSeen
 seen_question q = record { names = q.names; held = q.held; asked = q.asked; barred = q.barred.items }
 
 abbrev pub question_with : PlanSaid → PropSet → PropSet → List RuleId → QuestionSeen
-question_with said held asked barred = record { names = names_in_use said.of said.program; held = held; asked = asked; barred = barred }
+question_with said held asked barred = record {
+  names = names_in_use said.of said.program;
+  held = held;
+  asked = asked;
+  barred = barred;
+}
 
--- The question that the words ask: the names in use by the type, the properties of the held and the asked names, and the rules of the barred labels. There is none exactly where a name is that of no property or the book lacks a label.
+-- The question that the words ask: the names in use by the type, the properties of the held and the asked names, and
+-- the rules of the barred labels. There is none exactly where a name is that of no property or the book lacks a
+-- label.
 abbrev pub question_of : List Rule → PlanSaid → Option QuestionSeen
 question_of book said =
-    option_and_then (λ held. option_and_then (λ asked. option_map (question_with said held asked) (all_labelled book said.barred)) (named said.asked)) (named said.held)
+    option_and_then (λ held.
+    option_and_then (λ asked. option_map (question_with said held asked) (all_labelled book said.barred))
+    (named said.asked)) (named said.held)
 
 -- `least W`
 abbrev pub least_text : Cost → List ℕ

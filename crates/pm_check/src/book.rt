@@ -22,12 +22,14 @@ use std::str;
 
 // The bytes of the file of this name, at most so many as a book may have.
 fn book_bytes<F: Store>(alloc: Global, name: &str, store: &mut F) -> Result<Vec<u8>, NoAnswer>
-    ensures found { IfOk result (λ v. IfSome (F.files store.old) (λ all. file_of all name.now ≡ Some v.items)) }
+    ensures found { IfOk result (λ v.
+        IfSome (F.files store.old) (λ all. file_of all name.now ≡ Some v.items)) }
     ensures short { IfOk result (λ v. length v.items ≤ most_file_bytes) }
     ensures no_words { IsErrOf result NoAnswer.BadWords → ⊥ }
     ensures no_source { IsErrOf result NoAnswer.SourceFault → ⊥ }
     ensures refused { IsErrOf result NoAnswer.BadBook
-        → Rose (F.faults store.old) (F.faults store.new) ⊎ IfSome (F.files store.old) (λ all. IsNoFile (file_of all name.now)) }
+        → Rose (F.faults store.old) (F.faults store.new) ⊎ IfSome (F.files store.old) (λ all.
+        IsNoFile (file_of all name.now)) }
 {
     match store.get(alloc, name) {
         Ok(Some(bytes)) => {
@@ -79,7 +81,8 @@ fn named_book<F: Store>(alloc: Global, name: &str, store: &mut F) -> Result<Book
     ensures no_words { IsErrOf result NoAnswer.BadWords → ⊥ }
     ensures no_source { IsErrOf result NoAnswer.SourceFault → ⊥ }
     ensures refused { IsErrOf result NoAnswer.BadBook
-        → Rose (F.faults store.old) (F.faults store.new) ⊎ IfSome (F.files store.old) (IsRefusedBook (Some name.now)) }
+        → Rose (F.faults store.old) (F.faults store.new)
+        ⊎ IfSome (F.files store.old) (IsRefusedBook (Some name.now)) }
 {
     match book_bytes(alloc, name, store) {
         Ok(bytes) => book_of_bytes(alloc, &bytes),
@@ -97,7 +100,8 @@ pub(crate) fn chosen_book<F: Store>(
     ensures no_words { IsErrOf result NoAnswer.BadWords → ⊥ }
     ensures no_source { IsErrOf result NoAnswer.SourceFault → ⊥ }
     ensures refused { IsErrOf result NoAnswer.BadBook
-        → Rose (F.faults store.old) (F.faults store.new) ⊎ IfSome (F.files store.old) (IsRefusedBook (option_map (λ n. n.now) name.entry)) }
+        → Rose (F.faults store.old) (F.faults store.new)
+        ⊎ IfSome (F.files store.old) (IsRefusedBook (option_map (λ n. n.now) name.entry)) }
 {
     match name {
         Some(name) => named_book(alloc, name, store),
@@ -155,7 +159,8 @@ fn column_at(place: usize, text: &[u8]) -> usize
 
 // Writes the name and the place of a fault.
 fn push_fault(line: &mut String, name: &str, place: usize, text: &[u8]) -> Result<(), AllocError>
-    ensures { OnOk result (string_bytes line.new ≡ string_bytes line.old ++ at_text name.now place text.now) }
+    ensures { OnOk result (string_bytes line.new
+        ≡ string_bytes line.old ++ at_text name.now place text.now) }
 {
     let row = line_at(place, text);
     let column = column_at(place, text);
@@ -240,7 +245,8 @@ pub(crate) fn book_answer<F: Store>(
     ensures no_words { IsErrOf result NoAnswer.BadWords → ⊥ }
     ensures no_source { IsErrOf result NoAnswer.SourceFault → ⊥ }
     ensures refused { IsErrOf result NoAnswer.BadBook
-        → Rose (F.faults store.old) (F.faults store.new) ⊎ IfSome (F.files store.old) (λ all. IsNoFile (file_of all name.now)) }
+        → Rose (F.faults store.old) (F.faults store.new) ⊎ IfSome (F.files store.old) (λ all.
+        IsNoFile (file_of all name.now)) }
 {
     match book_bytes(alloc, name, store) {
         Ok(bytes) => bytes_answer(alloc, &bytes),

@@ -1,9 +1,10 @@
 //! A checker of printed plans and of books of rules. It knows nothing of the planner that prints plans.
 //!
-//! `check-plan [--program] [--rules BOOK] TYPE [HELD ..] : ASKED .. [! BARRED ..]` reads from standard input what `explain`
-//! printed, and writes `least W` where it is a plan that proves itself least, `no chain` where it is a refusal that proves
-//! that there is none, and else `no N` with the number of the first line at fault. `check-book FILE` writes `ok N` where the
-//! file of this folder is a book of N rules, and else its first fault with its line and column.
+//! `check-plan [--program] [--rules BOOK] TYPE [HELD ..] : ASKED .. [! BARRED ..]` reads from standard input what
+//! `explain` printed, and writes `least W` where it is a plan that proves itself least, `no chain` where it is a
+//! refusal that proves that there is none, and else `no N` with the number of the first line at fault. `check-book
+//! FILE` writes `ok N` where the file of this folder is a book of N rules, and else its first fault with its line and
+//! column.
 //! Statuses: 0 where it is right, 1 where it is not, 2 wrong words, 3 standard input failed or is too long, 4 standard
 //! output failed, 5 no memory, 7 no such book.
 #![tactic(auto)]

@@ -55,7 +55,8 @@ fn rules_labelled(
     labels: &[String],
 ) -> Result<Option<Vec<RuleId>>, AllocError>
     requires { length rules.now ≤ most_rules }
-    ensures { IfOk result (λ r. option_map (λ v. v.items) r ≡ all_labelled rules.now (map string_bytes labels.now)) }
+    ensures { IfOk result (λ r. option_map (λ v. v.items) r
+        ≡ all_labelled rules.now (map string_bytes labels.now)) }
 {
     let mut found = Vec::new(alloc);
     for label in labels {
@@ -147,19 +148,22 @@ fn read_text<S: Source>(alloc: Global, source: &mut S) -> Result<Vec<u8>, NoAnsw
     }
 }
 
-/// The answer to `check-plan`: its line, and whether it is a yes. The book is read first, and nothing of the source where
-/// there is no book or no question.
+/// The answer to `check-plan`: its line, and whether it is a yes. The book is read first, and nothing of the source
+/// where there is no book or no question.
 pub(crate) fn plan_answer<S: Source, F: Store>(
     alloc: Global,
     words: &PlanWords,
     source: &mut S,
     store: &mut F,
 ) -> Result<(String, bool), NoAnswer>
-    ensures found { IfOk result (λ a. AnswersPlan (seen_plan words.now) (S.left source.old) (F.files store.old) (string_bytes a.0) a.1) }
+    ensures found { IfOk result (λ a.
+        AnswersPlan (seen_plan words.now) (S.left source.old) (F.files store.old) (string_bytes a.0) a.1) }
     ensures bad_words { IsErrOf result NoAnswer.BadWords → (rules : List Rule)
-        × IsBookNamed (seen_plan words.now).book (F.files store.old) rules × (question_of rules (seen_plan words.now) ≡ None) }
+        × IsBookNamed (seen_plan words.now).book (F.files store.old) rules
+        × (question_of rules (seen_plan words.now) ≡ None) }
     ensures bad_book { IsErrOf result NoAnswer.BadBook
-        → Rose (F.faults store.old) (F.faults store.new) ⊎ IfSome (F.files store.old) (IsRefusedBook (seen_plan words.now).book) }
+        → Rose (F.faults store.old) (F.faults store.new)
+        ⊎ IfSome (F.files store.old) (IsRefusedBook (seen_plan words.now).book) }
     ensures source_fault { IsErrOf result NoAnswer.SourceFault
         → IsSourceFault (S.faults source.old) (S.faults source.new) (S.left source.old) }
 {

@@ -22,10 +22,13 @@ fn answered<S: Source, F: Store>(
     source: &mut S,
     store: &mut F,
 ) -> Result<(String, bool), NoAnswer>
-    ensures found { IfOk result (λ a. Answers (option_map seen_asking asked.entry) (S.left source.old) (F.files store.old) (string_bytes a.0) a.1) }
-    ensures bad_words { IsErrOf result NoAnswer.BadWords → IsBadAsked (option_map seen_asking asked.entry) (F.files store.old) }
+    ensures found { IfOk result (λ a. Answers (option_map seen_asking asked.entry) (S.left source.old)
+        (F.files store.old) (string_bytes a.0) a.1) }
+    ensures bad_words { IsErrOf result NoAnswer.BadWords
+        → IsBadAsked (option_map seen_asking asked.entry) (F.files store.old) }
     ensures bad_book { IsErrOf result NoAnswer.BadBook
-        → IsBookFault (F.faults store.old) (F.faults store.new) (option_map seen_asking asked.entry) (F.files store.old) }
+        → IsBookFault (F.faults store.old) (F.faults store.new) (option_map seen_asking asked.entry)
+        (F.files store.old) }
     ensures source_fault { IsErrOf result NoAnswer.SourceFault
         → IsSourceFault (S.faults source.old) (S.faults source.new) (S.left source.old) }
 {
@@ -71,7 +74,8 @@ pub(crate) fn checker<S: Source, K: Sink, F: Store>(
       files = F.files store.old;
     }) }
     ensures bad_book { result ≡ Status.BadBook
-        → IsBookFault (F.faults store.old) (F.faults store.new) (asked_by (map string_bytes words.now)) (F.files store.old) }
+        → IsBookFault (F.faults store.old) (F.faults store.new) (asked_by (map string_bytes words.now))
+        (F.files store.old) }
     ensures source_fault { result ≡ Status.SourceFault
         → IsSourceFault (S.faults source.old) (S.faults source.new) (S.left source.old) }
     ensures sink_fault { result ≡ Status.SinkFault → Rose (K.faults sink.old) (K.faults sink.new) }

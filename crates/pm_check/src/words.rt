@@ -46,7 +46,8 @@ fn place_of(words: &[String], mark: &str) -> Option<usize>
 
 // The words before the first that is this mark, and those behind it.
 fn cut<'a>(words: &'a [String], mark: &str) -> Option<(&'a [String], &'a [String])>
-    ensures { option_map (λ both. (map string_bytes both.0.now, map string_bytes both.1.now)) result ≡ cut mark.now (map string_bytes words.now) }
+    ensures { option_map (λ both. (map string_bytes both.0.now, map string_bytes both.1.now)) result
+        ≡ cut mark.now (map string_bytes words.now) }
 {
     match place_of(words, mark) {
         Some(place) => Some((&words[..place], &words[place + 1..])),
@@ -56,7 +57,8 @@ fn cut<'a>(words: &'a [String], mark: &str) -> Option<(&'a [String], &'a [String
 
 // The asked names and the barred labels.
 fn asked_and_barred<'a>(words: &'a [String]) -> (&'a [String], &'a [String])
-    ensures { (map string_bytes result.0.now, map string_bytes result.1.now) ≡ asked_and_barred (map string_bytes words.now) }
+    ensures { (map string_bytes result.0.now, map string_bytes result.1.now)
+        ≡ asked_and_barred (map string_bytes words.now) }
 {
     match cut(words, "!") {
         Some(both) => both,
@@ -87,7 +89,8 @@ fn with_asked<'a>(
     held: &'a [String],
     rest: &'a [String],
 ) -> Option<PlanWords<'a>>
-    ensures { option_map seen_plan result ≡ with_asked program (option_map (λ name. name.now) book.entry) of (map string_bytes held.now)
+    ensures { option_map seen_plan result ≡ with_asked program (option_map (λ name. name.now) book.entry) of
+        (map string_bytes held.now)
         (asked_and_barred (map string_bytes rest.now)) }
 {
     let (asked, barred) = asked_and_barred(rest);
@@ -111,7 +114,8 @@ fn with_type<'a>(
     of: ObjectType,
     words: &'a [String],
 ) -> Option<PlanWords<'a>>
-    ensures { option_map seen_plan result ≡ with_type program (option_map (λ name. name.now) book.entry) of (map string_bytes words.now) }
+    ensures { option_map seen_plan result ≡ with_type program (option_map (λ name. name.now) book.entry) of
+        (map string_bytes words.now) }
 {
     match cut(words, ":") {
         Some((held, rest)) => with_asked(program, book, of, held, rest),
@@ -125,7 +129,8 @@ fn typed_plan<'a>(
     book: Option<&'a str>,
     words: &'a [String],
 ) -> Option<PlanWords<'a>>
-    ensures { option_map seen_plan result ≡ typed_plan program (option_map (λ name. name.now) book.entry) (map string_bytes words.now) }
+    ensures { option_map seen_plan result ≡ typed_plan program (option_map (λ name. name.now) book.entry)
+        (map string_bytes words.now) }
 {
     let (first, rest) = words.split_first()?;
     let of = type_named(first.as_str())?;

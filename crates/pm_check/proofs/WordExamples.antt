@@ -1,9 +1,33 @@
--- Places, worked by hand.
+-- Words and places, worked by hand.
 use Rattle.std.proofs.Common.{◌≡◌, ℕ, List, ◌++◌, ap, ap₂, arith, refl}
 use Rattle.std.specs.Prelude.{codes}
 use Rattle.std.specs.Fmt.{decimal}
 use Rattle.std.proofs.lemmas.Fmt.{decimal_digit}
-use Rattle.pm_check.specs.Examples.{PlacesAreTold}
+use Rattle.pm_check.specs.Examples.{PlacesAreTold, WordsAsk, WordsAskNothing}
+
+pub words_ask : WordsAsk
+words_ask = record {
+  plan = refl;
+  nothing_held = refl;
+  program = refl;
+  by_book = refl;
+  barred = refl;
+  book = refl;
+  no_words = refl;
+  other_word = refl;
+  no_type = refl;
+  no_colon = refl;
+  nothing_asked = refl;
+  only_barred = refl;
+  two_books = refl;
+}
+
+pub words_ask_nothing : WordsAskNothing
+words_ask_nothing = record {
+  unknown_held = refl;
+  unknown_asked = refl;
+  unknown_rule = refl;
+}
 
 one_digit : decimal 1 ≡ codes "1"
 one_digit = decimal_digit 1 (omega arith)
