@@ -38,5 +38,6 @@ pub rows_tie : (x y : List Bool) → pointwise beq x y ≡ eq_by_cmp row_cmp x y
 rows_tie x y =
     let e = lists_ties (flip_args bool_cmp) bits_tie x y in
     let long : is_eq (first_difference_cmp x y) ≡ true → nat_cmp (length x) (length y) ≡ Equal =
-    λ h. ap (λ (row : List Bool). nat_cmp (length x) (length row)) (sym ((pointwise_decides booleans_Decides x y).0 (e ∙ h))) ∙ tied_itself nat_cmp_total (length x) in
+    λ h. ap (λ (row : List Bool). nat_cmp (length x) (length row))
+    (sym ((pointwise_decides booleans_Decides x y).0 (e ∙ h))) ∙ tied_itself nat_cmp_total (length x) in
     e ∙ is_eq-then (nat_cmp (length x) (length y)) (first_difference_cmp x y) long

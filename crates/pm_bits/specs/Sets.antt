@@ -44,7 +44,8 @@ members row = filter (has row) (range_with_len 0 (length row))
 
 -- the least number that is a member of only one of the two rows is a member of the first
 abbrev pub HasFirstDifference : List Bool → List Bool → Type 0
-HasFirstDifference one other = (i : ℕ) × IsTrue (has one i) × (has other i ≡ false) × ((k : ℕ) → k < i → has one k ≡ has other k)
+HasFirstDifference one other = (i : ℕ) × IsTrue (has one i) × (has other i ≡ false)
+    × ((k : ℕ) → k < i → has one k ≡ has other k)
 
 -- by the first number that is a member of only one of the two rows: the row that has it comes first
 abbrev pub first_difference_cmp : List Bool → List Bool → Ordering

@@ -13,4 +13,5 @@ row_at table k = slice_index_or table.rows k []
 
 -- some row other than those at i and j contains s
 abbrev pub OtherContains : Table → List Bool → ℕ → ℕ → Type 0
-OtherContains table s i j = (k : ℕ) × (k < length table.rows) × (k ≢ i) × (k ≢ j) × IsSubset s (row_at table k)
+OtherContains table s i j = (k : ℕ) × (k < length table.rows) × (k ≢ i) × (k ≢ j)
+    × IsSubset s (row_at table k)

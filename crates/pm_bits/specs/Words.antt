@@ -37,15 +37,18 @@ IsWithin x y = bit_and x y ≡ y
 
 -- the lowest bit that only one of the words has is one of x
 abbrev pub HasLowestBit : ℕ → ℕ → Type 0
-HasLowestBit x y = (i : ℕ) × (i < 64) × (bit_at x i ≡ 1) × (bit_at y i ≡ 0) × ((k : ℕ) → k < i → bit_at x k ≡ bit_at y k)
+HasLowestBit x y = (i : ℕ) × (i < 64) × (bit_at x i ≡ 1) × (bit_at y i ≡ 0)
+    × ((k : ℕ) → k < i → bit_at x k ≡ bit_at y k)
 
 -- the words have the same bits up to the number i, which has its bit in the first row alone
 abbrev pub HasFirstBit : List ℕ → List ℕ → Type 0
-HasFirstBit a b = (i : ℕ) × IsTrue (has_bit a i) × (has_bit b i ≡ false) × ((k : ℕ) → k < i → has_bit a k ≡ has_bit b k)
+HasFirstBit a b = (i : ℕ) × IsTrue (has_bit a i) × (has_bit b i ≡ false)
+    × ((k : ℕ) → k < i → has_bit a k ≡ has_bit b k)
 
 -- the words of `out` are made by op of those of a and b, from one place on and below another
 abbrev pub AreMade : (ℕ → ℕ → ℕ) → ℕ → ℕ → List ℕ → List ℕ → List ℕ → Type 0
-AreMade op from end a b out = (k : ℕ) → from ≤ k → k < end → slice_index out k ≡ op (slice_index a k) (slice_index b k)
+AreMade op from end a b out = (k : ℕ) → from ≤ k → k < end
+    → slice_index out k ≡ op (slice_index a k) (slice_index b k)
 
 -- the words stay as they were, from one place on and below another
 abbrev pub StayAsTheyWere : ℕ → ℕ → List ℕ → List ℕ → Type 0

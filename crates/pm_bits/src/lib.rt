@@ -1,4 +1,5 @@
-//! Sets of numbers below a length, kept as rows of bits, and lists of such rows.
+//! Sets of numbers below a length, kept as rows of bits, and lists of such rows. It knows nothing of rows of numbers,
+//! of faces and of objects.
 //!
 //! A clause sees a `BitRow` as the list of its bits: the bit at i says whether the number i is a member
 //! (`has`), and the list's length is the row's. The words and lanes below that are seen nowhere else.

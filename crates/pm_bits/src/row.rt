@@ -62,7 +62,8 @@ impl BitRow {
         words::set(&mut self.words, i);
     }
 
-    /// Whether each member of `o` is one of this row: four words at a time in lanes, and the words that are left one by one.
+    /// Whether each member of `o` is one of this row: four words at a time in lanes, and the words that are left one
+    /// by one.
     pub fn contains(&self, o: &BitRow) -> bool
         requires { length self.now ≡ length o.now }
         ensures { IsTrue result ↔ IsSubset o.now self.now }
@@ -70,7 +71,8 @@ impl BitRow {
         words::contain(&self.words, &o.words)
     }
 
-    /// Makes `out` the intersection of this row and `o`: four words at a time in lanes, and the words that are left one by one.
+    /// Makes `out` the intersection of this row and `o`: four words at a time in lanes, and the words that are left
+    /// one by one.
     pub fn meet_into(&self, o: &BitRow, out: &mut BitRow)
         requires same_len { length self.now ≡ length o.now }
         requires out_len { length self.now ≡ length out.old }
@@ -80,7 +82,8 @@ impl BitRow {
         words::meet(&self.words, &o.words, &mut out.words);
     }
 
-    /// Makes `out` the union of this row and `o`: four words at a time in lanes, and the words that are left one by one.
+    /// Makes `out` the union of this row and `o`: four words at a time in lanes, and the words that are left one by
+    /// one.
     pub fn join_into(&self, o: &BitRow, out: &mut BitRow)
         requires same_len { length self.now ≡ length o.now }
         requires out_len { length self.now ≡ length out.old }
@@ -120,7 +123,8 @@ impl BitRow {
         words::fold(&self.words)
     }
 
-    /// Whether this row and `o` have the same members: four words at a time in lanes, and the words that are left one by one.
+    /// Whether this row and `o` have the same members: four words at a time in lanes, and the words that are left one
+    /// by one.
     pub fn eq_lanes(&self, o: &BitRow) -> bool
         requires { length self.now ≡ length o.now }
         ensures { IsTrue result ↔ SameMembers self.now o.now }

@@ -126,7 +126,8 @@ impl BitTable {
         self.common_count_by(k, s, s.fold())
     }
 
-    /// Whether the row at `k` contains `s`, whose fold this is. A row is opened only where its fold has what that of `s` has.
+    /// Whether the row at `k` contains `s`, whose fold this is. A row is opened only where its fold has what that of
+    /// `s` has.
     fn row_contains(&self, s: &BitRow, fold: u64, k: usize) -> bool
         requires place { k < length self.now.rows }
         requires len { length s.now ≡ self.now.row_len }
@@ -160,8 +161,8 @@ impl BitTable {
         false
     }
 
-    /// Whether some row other than those at `i` and `j` contains `s`. Rows of at most 64 numbers are compared by their folds
-    /// alone; of longer ones those are opened whose folds have what that of `s` has.
+    /// Whether some row other than those at `i` and `j` contains `s`. Rows of at most 64 numbers are compared by
+    /// their folds alone; of longer ones those are opened whose folds have what that of `s` has.
     pub fn other_contains(&self, s: &BitRow, i: usize, j: usize) -> bool
         requires { length s.now ≡ self.now.row_len }
         ensures { IsTrue result ↔ OtherContains self.now s.now i j }

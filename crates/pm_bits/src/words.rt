@@ -290,7 +290,8 @@ fn next_containing(words: &[u64], s: u64, start: usize) -> usize
 
 /// Whether some word other than those at i and j has each bit of s.
 pub(crate) fn other_contains(words: &[u64], s: u64, i: usize, j: usize) -> bool
-    ensures { IsTrue result ↔ ((k : ℕ) × (k < length words.now) × (k ≢ i) × (k ≢ j) × IsWithin (slice_index words.now k) s) }
+    ensures { IsTrue result
+        ↔ ((k : ℕ) × (k < length words.now) × (k ≢ i) × (k ≢ j) × IsWithin (slice_index words.now k) s) }
 {
     let mut k = next_containing(words, s, 0);
     while k < words.len() {

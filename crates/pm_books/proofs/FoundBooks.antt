@@ -5,7 +5,7 @@ use Rattle.std.specs.Str.{bytes_eq}
 use Rattle.std.proofs.lemmas.Bool.{cases_Bool, and_parts, eqb-true}
 use Rattle.std.proofs.lemmas.Slice.Eq.{bytes_eq-Decides}
 use Rattle.std.specs.Prelude.{IfOk}
-use Rattle.pm_books.specs.Gives.{Gives}
+use Rattle.pm_books.specs.Gives.{GivesAs}
 use Rattle.pm_props.specs.declared.kind.Kind.{Kind}
 use Rattle.pm_weights.specs.declared.Weight.{Weight}
 use Rattle.pm_weights.specs.Weights.{IsWeight}
@@ -253,6 +253,6 @@ found_book kinds text rules h =
     }
 
 -- what a call that gives what is read knows of its answer
-pub if_ok_from_gives : (answer read : Result (List Rule) BookFail) (P : List Rule → Type 0) → Gives (λ (rules : List Rule). rules) answer read → ((rules : List Rule) → read ≡ Ok rules → P rules) → IfOk answer P
+pub if_ok_from_gives : (answer read : Result (List Rule) BookFail) (P : List Rule → Type 0) → GivesAs (λ (rules : List Rule). rules) answer read → ((rules : List Rule) → read ≡ Ok rules → P rules) → IfOk answer P
 if_ok_from_gives (Ok rules) read P h f = f rules h
 if_ok_from_gives (Err e) read P h f = tt

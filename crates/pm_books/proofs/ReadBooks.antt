@@ -22,7 +22,7 @@ use Rattle.pm_rules.specs.Books.{IsNamed, IsRule, IsBook}
 use Rattle.pm_books.specs.declared.token.Token.{Token as CodeToken}
 use Rattle.pm_books.specs.Tokens.{Token}
 use Rattle.pm_books.specs.Seen.{seen}
-use Rattle.pm_books.specs.Gives.{Fails}
+use Rattle.pm_books.specs.Gives.{FailsAs}
 use Rattle.pm_books.specs.Reading.{◌>>=◌, token_where, after, names_from, conditions_from, label_from, known_kind, kind_from, weight_of, is_weight, is_number, weight_from, Head, head_from, Body, body_from, Tail, no_conditions, close_from, begins_with, preconditions_from, tail_from, is_within, agrees, mismatch, made_rule, rule_from, rules_from}
 use Rattle.pm_books.specs.Reading.Due.{condition}
 use Rattle.pm_books.proofs.ReadRules.{bind_ok, ok_same, guard_ok, unless_ok, token_where_ok, names_are_named, AreConditions, conditions_are, none_AreConditions}
@@ -219,7 +219,7 @@ rules_next kinds had more end ts rule rest few some h is_more =
     ∙ ap (λ r. rules_from (most_rules - length had) kinds r end rest) (sym is_more) ∙ ap (λ k. rules_from k kinds more end rest) (sym count)
 
 -- a fault that was met is what the function gives
-pub gives_fault : {Y : Type 0} (e : BookFail) (read : Result Y BookFail) → read ≡ Err e → Fails e read
+pub gives_fault : {Y : Type 0} (e : BookFail) (read : Result Y BookFail) → read ≡ Err e → FailsAs e read
 gives_fault Memory read h = tt
 gives_fault (Syntax k) read h = h
 gives_fault (UnknownProperty k) read h = h

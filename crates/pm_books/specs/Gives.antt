@@ -7,24 +7,24 @@ use Rattle.pm_books.specs.Reading.{◌>>=◌, is_comma, Conditions, condition_of
 use Rattle.pm_books.specs.Reading.Due.{condition, comma}
 
 -- it is what is read, seen by view, the fault too
-abbrev pub Reads : {X Y : Type 0} → (X → Y) → Result X BookFail → Result Y BookFail → Type 0
-Reads view (Ok x) read = read ≡ Ok (view x)
-Reads view (Err e) read = read ≡ Err e
+abbrev pub IsReadingOf : {X Y : Type 0} → (X → Y) → Result X BookFail → Result Y BookFail → Type 0
+IsReadingOf view (Ok x) read = read ≡ Ok (view x)
+IsReadingOf view (Err e) read = read ≡ Err e
 
-abbrev pub Fails : {Y : Type 0} → BookFail → Result Y BookFail → Type 0
-Fails Memory read = Unit {0}
-Fails (Syntax k) read = read ≡ Err (Syntax k)
-Fails (UnknownProperty k) read = read ≡ Err (UnknownProperty k)
-Fails (UnknownClient k) read = read ≡ Err (UnknownClient k)
-Fails (SignatureMismatch k) read = read ≡ Err (SignatureMismatch k)
-Fails (SameLabel k) read = read ≡ Err (SameLabel k)
-Fails (WeightRange k) read = read ≡ Err (WeightRange k)
-Fails (TooManyRules k) read = read ≡ Err (TooManyRules k)
+abbrev pub FailsAs : {Y : Type 0} → BookFail → Result Y BookFail → Type 0
+FailsAs Memory read = Unit {0}
+FailsAs (Syntax k) read = read ≡ Err (Syntax k)
+FailsAs (UnknownProperty k) read = read ≡ Err (UnknownProperty k)
+FailsAs (UnknownClient k) read = read ≡ Err (UnknownClient k)
+FailsAs (SignatureMismatch k) read = read ≡ Err (SignatureMismatch k)
+FailsAs (SameLabel k) read = read ≡ Err (SameLabel k)
+FailsAs (WeightRange k) read = read ≡ Err (WeightRange k)
+FailsAs (TooManyRules k) read = read ≡ Err (TooManyRules k)
 
 -- the same, unless memory ran out
-abbrev pub Gives : {X Y : Type 0} → (X → Y) → Result X BookFail → Result Y BookFail → Type 0
-Gives view (Ok x) read = read ≡ Ok (view x)
-Gives view (Err e) read = Fails e read
+abbrev pub GivesAs : {X Y : Type 0} → (X → Y) → Result X BookFail → Result Y BookFail → Type 0
+GivesAs view (Ok x) read = read ≡ Ok (view x)
+GivesAs view (Err e) read = FailsAs e read
 
 -- these are the tokens behind a comma
 abbrev pub IsBehindComma : List Token → List Token → Type 0
@@ -43,4 +43,5 @@ EndsBefore ts = (found : Conditions) (end : ℕ) → conditions_from condition f
 -- a condition comes next: this name, behind `!` or not, and then the rest
 abbrev pub HasCondition : List Token → Bool → Token → List Token → Type 0
 HasCondition ts negated t rest = (found : Conditions) (end : ℕ)
-    → conditions_from condition found end ts ≡ (condition_of found t >>= λ p. conditions_from comma (with_condition found negated p) end rest)
+    → conditions_from condition found end ts
+    ≡ (condition_of found t >>= λ p. conditions_from comma (with_condition found negated p) end rest)

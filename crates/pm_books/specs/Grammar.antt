@@ -46,13 +46,16 @@ condition_item c = if c.negated then codes "!" ∷ c.name ∷ [] else c.name ∷
 
 abbrev pub precondition_words : List Condition → List (List ℕ)
 precondition_words [] = []
-precondition_words (c ∷ cs) = precondition_word ∷ codes ":" ∷ (separated (map condition_item (c ∷ cs)) ++ codes ";" ∷ [])
+precondition_words (c ∷ cs) = precondition_word ∷ codes ":"
+    ∷ (separated (map condition_item (c ∷ cs)) ++ codes ";" ∷ [])
 
 -- `LABEL : rule names : names { CLIENT } weight WEIGHT ;` and the preconditions, if there are any
 abbrev pub words_behind_label : Written → List (List ℕ)
 words_behind_label w =
-    codes ":" ∷ codes "rule" ∷ (separated (map name_item w.targets) ++ codes ":" ∷ (separated (map name_item w.sources)
-    ++ codes "{" ∷ w.client ∷ codes "}" ∷ codes "weight" ∷ w.weight ∷ codes ";" ∷ precondition_words w.conditions))
+    codes ":" ∷ codes "rule" ∷ (separated (map name_item w.targets)
+    ++ codes ":" ∷ (separated (map name_item w.sources)
+    ++ codes "{" ∷ w.client ∷ codes "}" ∷ codes "weight" ∷ w.weight ∷ codes ";"
+    ∷ precondition_words w.conditions))
 
 -- the words of a rule
 abbrev pub words_of : Written → List (List ℕ)
@@ -61,7 +64,8 @@ words_of w = w.label ∷ words_behind_label w
 -- each name is that of a property that is not in the set before it, and with all of them the set is the last
 abbrev pub AddNames : List (List ℕ) → PropSet → PropSet → Type 0
 AddNames [] set last = set ≡ last
-AddNames (name ∷ names) set last = (p : PropId) × IsNameOf name p × (has set p ≡ false) × AddNames names (union set (only p)) last
+AddNames (name ∷ names) set last = (p : PropId) × IsNameOf name p × (has set p ≡ false)
+    × AddNames names (union set (only p)) last
 
 -- one name or more, and the set of their properties
 abbrev pub AreNames : List (List ℕ) → PropSet → Type 0
@@ -70,7 +74,8 @@ AreNames names set = (0 < length names) × AddNames names 0 set
 -- each condition is on a property that is true or false and in no set before it; it adds it to one of the sets
 abbrev pub AddConditions : List Condition → Conditions → Conditions → Type 0
 AddConditions [] found last = found ≡ last
-AddConditions (c ∷ cs) found last = (p : PropId) × IsNameOf c.name p × (value_kind p ≡ value.Bool) × (has (union found.must found.must_not) p ≡ false)
+AddConditions (c ∷ cs) found last = (p : PropId) × IsNameOf c.name p × (value_kind p ≡ value.Bool)
+    × (has (union found.must found.must_not) p ≡ false)
     × AddConditions cs (with_condition found c.negated p) last
 
 -- what is written is this rule, with the first kind of its client's name
@@ -84,7 +89,8 @@ pub record Means (kinds : List Kind) (w : Written) (rule : Rule) : Type 0 where
   pub number : IsTrue (is_number w.weight)
   pub weight : weight_of w.weight ≡ rule.weight
   pub range : IsWeight rule.weight
-  pub conditions : AddConditions w.conditions no_conditions (record { must = rule.must; must_not = rule.must_not })
+  pub conditions : AddConditions w.conditions no_conditions
+      (record { must = rule.must; must_not = rule.must_not })
   -- the kind's preconditions are there
   pub must : IsWithin rule.kind.must rule.must
   pub must_not : IsWithin rule.kind.must_not rule.must_not

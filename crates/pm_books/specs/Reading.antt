@@ -1,9 +1,8 @@
 -- The grammar of books, read from left to right. Each definition reads a part of the grammar from the tokens that are
 -- left, where the text has `end` bytes, and gives it with the tokens behind it, or the first fault:
 --     book  = { rule }
---     rule  = LABEL ":" "rule" names ":" names "{" CLIENT "}" "weight" WEIGHT ";" [ "precondition" ":" cond { "," cond } ";" ]
---     names = NAME { "," NAME }
---     cond  = [ "!" ] NAME
+--     rule  = LABEL ":" "rule" names ":" names "{" CLIENT "}" "weight" WEIGHT ";" [ "precondition" ":" cond { ","
+--     cond } ";" ] names = NAME { "," NAME } cond  = [ "!" ] NAME
 -- A fault stands at the first byte of its token, at the end of the text, or just past the rule whose signature it is.
 use Rattle.std.specs.Prelude.{ℕ, zero, suc, ◌+◌, ◌-◌, ◌*◌, Bool, true, false, not, ◌&&◌, ◌==◌, if◌then◌else◌, nat_eq, nat_lt, nat_le, Option, Some, None, Result, Ok, Err, List, [], ◌∷◌, ◌++◌, length, take, drop, codes, find}
 use Rattle.std.specs.List.{list_any, prefix_len}
@@ -80,7 +79,8 @@ with_condition found true p = record { must = found.must; must_not = union found
 with_condition found false p = record { must = union found.must (only p); must_not = found.must_not }
 
 unfoldable pub condition_of : Conditions → Token → Result PropId BookFail
-condition_of found t = name_of (union found.must found.must_not) t >>= λ p. if is_truth (value_kind p) then Ok p else Err (Syntax t.place)
+condition_of found t = name_of (union found.must found.must_not) t >>= λ p.
+    if is_truth (value_kind p) then Ok p else Err (Syntax t.place)
 
 -- what may come next: a condition, the name behind `!`, or a comma
 pub data Due : Type 0 where
@@ -91,20 +91,25 @@ pub data Due : Type 0 where
 abbrev pub is_not : Token → Bool
 is_not t = bytes_eq t.text (codes "!")
 
-unfoldable pub conditions_from : Due → Conditions → ℕ → List Token → Result (Conditions × List Token) BookFail
+unfoldable pub conditions_from : Due → Conditions → ℕ → List Token
+    → Result (Conditions × List Token) BookFail
 conditions_from condition found end [] = Err (Syntax end)
 conditions_from condition found end (t ∷ ts) =
-    if is_not t then conditions_from name found end ts else (condition_of found t >>= λ p. conditions_from comma (with_condition found false p) end ts)
+    if is_not t then conditions_from name found end ts
+    else (condition_of found t >>= λ p. conditions_from comma (with_condition found false p) end ts)
 conditions_from name found end [] = Err (Syntax end)
-conditions_from name found end (t ∷ ts) = condition_of found t >>= λ p. conditions_from comma (with_condition found true p) end ts
+conditions_from name found end (t ∷ ts) = condition_of found t >>= λ p.
+    conditions_from comma (with_condition found true p) end ts
 conditions_from comma found end [] = Ok (found, [])
-conditions_from comma found end (t ∷ ts) = if is_comma t then conditions_from condition found end ts else Ok (found, t ∷ ts)
+conditions_from comma found end (t ∷ ts) = if is_comma t then conditions_from condition found end ts
+    else Ok (found, t ∷ ts)
 
 -- ---- labels, clients and weights
 unfoldable pub label_from : List Rule → ℕ → List Token → Result (List ℕ × List Token) BookFail
 label_from had end ts = token_where is_label end ts >>= λ found.
     if list_any (λ rule. bytes_eq rule.label found.0.text) had then Err (SameLabel found.0.place)
-    else (if nat_lt (length had) most_rules then Ok (found.0.text, found.1) else Err (TooManyRules found.0.place))
+    else (if nat_lt (length had) most_rules then Ok (found.0.text, found.1)
+    else Err (TooManyRules found.0.place))
 
 -- the first kind of the client's name
 abbrev pub known_kind : ℕ → Option Kind → Result Kind BookFail
@@ -113,7 +118,8 @@ known_kind place (Some kind) = Ok kind
 
 unfoldable pub kind_from : List Kind → ℕ → List Token → Result (Kind × List Token) BookFail
 kind_from kinds end ts = token_where is_word end ts >>= λ found.
-    known_kind found.0.place (find (λ kind. bytes_eq kind.name found.0.text) kinds) >>= λ kind. Ok (kind, found.1)
+    known_kind found.0.place (find (λ kind. bytes_eq kind.name found.0.text) kinds) >>= λ kind.
+    Ok (kind, found.1)
 
 -- the number that digits spell behind those of n
 abbrev pub number_on : ℕ → List ℕ → ℕ
@@ -124,7 +130,8 @@ number_on n (b ∷ bs) = number_on (10 * n + (b - 48)) bs
 abbrev pub weight_of : List ℕ → Weight
 weight_of text =
     let whole = prefix_len is_digit text in
-    if length text == whole then record { class = 0; minor = number_on 0 text } else record { class = number_on 0 (take whole text); minor = number_on 0 (drop (whole + 1) text) }
+    if length text == whole then record { class = 0; minor = number_on 0 text }
+    else record { class = number_on 0 (take whole text); minor = number_on 0 (drop (whole + 1) text) }
 
 abbrev pub is_weight : Weight → Bool
 is_weight w = nat_le w.class most_weight && (nat_le w.minor most_weight && nat_lt 0 (w.class + w.minor))
@@ -135,7 +142,9 @@ is_number [] = false
 is_number (b ∷ bs) = is_digit b
 
 unfoldable pub weight_from : ℕ → List Token → Result (Weight × List Token) BookFail
-weight_from end ts = token_where is_number end ts >>= λ found. if is_weight (weight_of found.0.text) then Ok (weight_of found.0.text, found.1) else Err (WeightRange found.0.place)
+weight_from end ts = token_where is_number end ts >>= λ found.
+    if is_weight (weight_of found.0.text) then Ok (weight_of found.0.text, found.1)
+    else Err (WeightRange found.0.place)
 
 -- ---- rules
 -- `LABEL : rule names : names`
@@ -180,7 +189,8 @@ abbrev pub no_conditions : Conditions
 no_conditions = record { must = 0; must_not = 0 }
 
 unfoldable pub close_from : ℕ → List Token → Result (ℕ × List Token) BookFail
-close_from end ts = token_where (λ word. bytes_eq word (codes ";")) end ts >>= λ found. Ok (found.0.place + 1, found.1)
+close_from end ts = token_where (λ word. bytes_eq word (codes ";")) end ts >>= λ found.
+    Ok (found.0.place + 1, found.1)
 
 abbrev pub begins_with : List ℕ → List Token → Bool
 begins_with text [] = false
@@ -196,7 +206,8 @@ preconditions_from end ts = do
 
 unfoldable pub tail_from : ℕ → List Token → Result Tail BookFail
 tail_from end ts = close_from end ts >>= λ closed.
-    if begins_with precondition_word closed.1 then preconditions_from end closed.1 else Ok (record { conditions = no_conditions; past = closed.0; rest = closed.1 })
+    if begins_with precondition_word closed.1 then preconditions_from end closed.1
+    else Ok (record { conditions = no_conditions; past = closed.0; rest = closed.1 })
 
 -- the rule's targets and sources are those of its kind, and it has the kind's preconditions
 abbrev pub is_within : PropSet → PropSet → Bool
@@ -204,12 +215,16 @@ is_within s t = nat_eq (intersection s t) s
 
 abbrev pub agrees : Kind → Head → Conditions → Bool
 agrees kind head found =
-    nat_eq head.targets kind.targets && (nat_eq head.sources kind.sources && (is_within kind.must found.must && is_within kind.must_not found.must_not))
+    nat_eq head.targets kind.targets
+    && (nat_eq head.sources kind.sources &&
+    (is_within kind.must found.must && is_within kind.must_not found.must_not))
 
--- the fault behind a rule that does not agree with its kind: at the same place a token that can begin no rule comes first
+-- the fault behind a rule that does not agree with its kind: at the same place a token that can begin no rule comes
+-- first
 abbrev pub mismatch : ℕ → List Token → BookFail
 mismatch past [] = SignatureMismatch past
-mismatch past (t ∷ ts) = if t.place == past && not (is_label t.text) then Syntax past else SignatureMismatch past
+mismatch past (t ∷ ts) = if t.place == past && not (is_label t.text) then Syntax past
+    else SignatureMismatch past
 
 abbrev pub made_rule : Head → Body → Tail → Rule
 made_rule head body tail = record {
@@ -225,13 +240,15 @@ rule_from kinds had end ts = do
   head ← head_from had end ts
   body ← body_from kinds end head.rest
   tail ← tail_from end body.rest
-  if agrees body.kind head tail.conditions then Ok (made_rule head body tail, tail.rest) else Err (mismatch tail.past tail.rest)
+  if agrees body.kind head tail.conditions then Ok (made_rule head body tail, tail.rest)
+      else Err (mismatch tail.past tail.rest)
 
 -- the rules had, and those that are left, of which there are at most n
 unfoldable pub rules_from : ℕ → List Kind → List Rule → ℕ → List Token → Result (List Rule) BookFail
 rules_from n kinds had end [] = Ok had
 rules_from zero kinds had end (t ∷ ts) = Err (TooManyRules t.place)
-rules_from (suc n) kinds had end (t ∷ ts) = rule_from kinds had end (t ∷ ts) >>= λ found. rules_from n kinds (had ++ found.0 ∷ []) end found.1
+rules_from (suc n) kinds had end (t ∷ ts) = rule_from kinds had end (t ∷ ts) >>= λ found.
+    rules_from n kinds (had ++ found.0 ∷ []) end found.1
 
 -- the book that a text spells, or its first fault. Behind 256 rules any further one is at fault
 unfoldable pub book_of : List Kind → List ℕ → Result (List Rule) BookFail

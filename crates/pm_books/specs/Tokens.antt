@@ -12,12 +12,14 @@ pub record Token : Type 0 where
 abbrev pub is_space : ℕ → Bool
 is_space b = b == 32 || (b == 9 || (b == 13 || b == 10))
 
--- the bytes from the first that is neither white space nor in a comment; `#` begins a comment, which ends with its line; with true in place of false the bytes begin inside a comment
+-- the bytes from the first that is neither white space nor in a comment; `#` begins a comment, which ends with its
+-- line; with true in place of false the bytes begin inside a comment
 -- 35 is `#`, and 10 is LF
 abbrev pub after_gap : Bool → List ℕ → List ℕ
 after_gap inside [] = []
 after_gap true (b ∷ bs) = after_gap (not (b == 10)) bs
-after_gap false (b ∷ bs) = if b == 35 then after_gap true bs else (if is_space b then after_gap false bs else b ∷ bs)
+after_gap false (b ∷ bs) = if b == 35 then after_gap true bs
+    else (if is_space b then after_gap false bs else b ∷ bs)
 
 -- digits, and with them a point and more digits where both follow; 46 is the point
 abbrev pub number_len : List ℕ → ℕ
@@ -29,7 +31,8 @@ number_len bytes =
 -- the length of the token that these bytes begin with: as much as is a word or a number, or one byte
 abbrev pub token_len : List ℕ → ℕ
 token_len [] = 0
-token_len (b ∷ bs) = if is_letter b then suc (prefix_len is_word_byte bs) else (if is_digit b then number_len (b ∷ bs) else 1)
+token_len (b ∷ bs) = if is_letter b then suc (prefix_len is_word_byte bs)
+    else (if is_digit b then number_len (b ∷ bs) else 1)
 
 -- the first n tokens of what is left of a text with so many bytes
 abbrev pub tokens_left : ℕ → ℕ → List ℕ → List Token
@@ -37,7 +40,8 @@ tokens_left total zero bytes = []
 tokens_left total (suc n) bytes =
     let rest = after_gap false bytes in
     let here = token_len rest in
-    if length rest == 0 then [] else record { place = total - length rest; text = take here rest } ∷ tokens_left total n (drop here rest)
+    if length rest == 0 then [] else record { place = total - length rest; text = take here rest }
+    ∷ tokens_left total n (drop here rest)
 
 -- all of them, in order
 abbrev pub tokens_of : List ℕ → List Token

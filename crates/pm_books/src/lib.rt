@@ -1,4 +1,5 @@
-//! The text grammar of rule books: reading a book, and printing one.
+//! The text grammar of rule books: reading a book, and printing one. It knows nothing of values, objects and
+//! geometry.
 #![tactic(auto)]
 
 mod fail;

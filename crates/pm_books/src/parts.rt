@@ -3,7 +3,7 @@
 ghost use Rattle.std.specs.Prelude.{◌≡◌, ◌<◌, true, map, length, IfNone, IfSome};
 ghost use Rattle.pm_books.specs.Seen.{seen, seen_rest, conditions_seen};
 ghost use Rattle.pm_props.specs.Properties.{value_kind};
-ghost use Rattle.pm_books.specs.Gives.{Reads, IsBehindComma, HasNoComma, EndsBefore, HasCondition};
+ghost use Rattle.pm_books.specs.Gives.{IsReadingOf, IsBehindComma, HasNoComma, EndsBefore, HasCondition};
 ghost use Rattle.pm_books.specs.Reading.{after, name_of, names_from, is_comma, is_not, is_truth, with_condition, condition_of, conditions_from, no_conditions};
 ghost use Rattle.pm_books.specs.Reading.Due.{condition};
 
@@ -19,7 +19,7 @@ pub fn after<'t, 'a>(
     end: usize,
     tokens: &'t [Token<'a>],
 ) -> Result<&'t [Token<'a>], BookFail>
-    ensures { Reads seen_rest result (after text.now end (map seen tokens.now)) }
+    ensures { IsReadingOf seen_rest result (after text.now end (map seen tokens.now)) }
 {
     let Some((first, rest)) = tokens.split_first() else {
         return Err(BookFail::Syntax(end));
@@ -34,7 +34,7 @@ pub fn after<'t, 'a>(
 // The property that a token names, which is not in the set.
 #[tactic(auto, unfolding(crate::specs::Reading::name_of))]
 fn name_of(set: PropSet, token: &Token) -> Result<PropId, BookFail>
-    ensures { Reads (λ p. p) result (name_of set (seen token.now)) }
+    ensures { IsReadingOf (λ p. p) result (name_of set (seen token.now)) }
 {
     if !is_word(token.text) {
         return Err(BookFail::Syntax(token.place));
@@ -80,7 +80,7 @@ pub fn names<'t, 'a>(
     end: usize,
     tokens: &'t [Token<'a>],
 ) -> Result<(PropSet, &'t [Token<'a>]), BookFail>
-    ensures { Reads (λ x. (x.0, seen_rest x.1)) result (names_from true 0 end (map seen tokens.now)) }
+    ensures { IsReadingOf (λ x. (x.0, seen_rest x.1)) result (names_from true 0 end (map seen tokens.now)) }
 {
     names_beside(PropSet::empty(), end, tokens)
 }
@@ -91,7 +91,7 @@ fn names_beside<'t, 'a>(
     end: usize,
     tokens: &'t [Token<'a>],
 ) -> Result<(PropSet, &'t [Token<'a>]), BookFail>
-    ensures { Reads (λ x. (x.0, seen_rest x.1)) result (names_from true set end (map seen tokens.now)) }
+    ensures { IsReadingOf (λ x. (x.0, seen_rest x.1)) result (names_from true set end (map seen tokens.now)) }
 {
     let Some((first, behind)) = tokens.split_first() else {
         return Err(BookFail::Syntax(end));
@@ -133,7 +133,7 @@ impl Conditions {
     // The property that a token names, which is true or false and in none of the sets.
     #[tactic(auto, unfolding(crate::specs::Reading::condition_of))]
     fn condition_of(&self, token: &Token) -> Result<PropId, BookFail>
-        ensures { Reads (λ p. p) result (condition_of (conditions_seen self.now) (seen token.now)) }
+        ensures { IsReadingOf (λ p. p) result (condition_of (conditions_seen self.now) (seen token.now)) }
     {
         let p = name_of(self.must.union(self.must_not), token)?;
         if is_truth(p) {
@@ -161,11 +161,13 @@ impl Conditions {
     }
 }
 
-// Whether the next condition is negated, its name, and what comes behind it; none where the tokens end before the name.
+// Whether the next condition is negated, its name, and what comes behind it; none where the tokens end before the
+// name.
 #[tactic(auto, unfolding(crate::specs::Reading::conditions_from))]
 fn next_condition<'t, 'a>(tokens: &'t [Token<'a>]) -> Option<(bool, &'t Token<'a>, &'t [Token<'a>])>
     ensures none { IfNone result (EndsBefore (map seen tokens.now)) }
-    ensures some { IfSome result (λ x. HasCondition (map seen tokens.now) x.0 (seen x.1.now) (seen_rest x.2)) }
+    ensures some { IfSome result (λ x.
+        HasCondition (map seen tokens.now) x.0 (seen x.1.now) (seen_rest x.2)) }
     ensures shorter { IfSome result (λ x. length x.2.now < length tokens.now) }
 {
     let Some((first, behind)) = tokens.split_first() else {
@@ -185,7 +187,8 @@ pub fn all_conditions<'t, 'a>(
     end: usize,
     tokens: &'t [Token<'a>],
 ) -> Result<(Conditions, &'t [Token<'a>]), BookFail>
-    ensures { Reads (λ x. (conditions_seen x.0, seen_rest x.1)) result (conditions_from condition no_conditions end (map seen tokens.now)) }
+    ensures { IsReadingOf (λ x. (conditions_seen x.0, seen_rest x.1)) result
+        (conditions_from condition no_conditions end (map seen tokens.now)) }
 {
     let none = Conditions {
         must: PropSet::empty(),
@@ -201,7 +204,8 @@ impl Conditions {
         end: usize,
         tokens: &'t [Token<'a>],
     ) -> Result<(Conditions, &'t [Token<'a>]), BookFail>
-        ensures { Reads (λ x. (conditions_seen x.0, seen_rest x.1)) result (conditions_from condition (conditions_seen self) end (map seen tokens.now)) }
+        ensures { IsReadingOf (λ x. (conditions_seen x.0, seen_rest x.1)) result
+            (conditions_from condition (conditions_seen self) end (map seen tokens.now)) }
     {
         let Some((negated, token, behind)) = next_condition(tokens) else {
             return Err(BookFail::Syntax(end));

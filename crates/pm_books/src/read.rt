@@ -8,7 +8,7 @@ ghost use Rattle.pm_rules.specs.Books.{IsBook};
 ghost use Rattle.pm_books.specs.Seen.{seen, seen_rest, conditions_seen};
 ghost use Rattle.pm_books.specs.SeenParts.{head_seen, body_seen, tail_seen};
 ghost use Rattle.pm_books.specs.Grammar.{IsBookText};
-ghost use Rattle.pm_books.specs.Gives.{Reads, Gives};
+ghost use Rattle.pm_books.specs.Gives.{IsReadingOf, GivesAs};
 ghost use Rattle.pm_rules.specs.declared.rule.Rule.{Rule};
 ghost use Rattle.pm_books.specs.Reading.{◌>>=◌ as read_on, after, names_from, label_from, kind_from, weight_from, close_from, head_from, body_from, preconditions_from, tail_from, begins_with, agrees, mismatch, rule_from, rules_from, book_of};
 ghost use Rattle.pm_limits.specs.Limits.{most_rules};
@@ -31,7 +31,7 @@ fn label_from<'t, 'a>(
     end: usize,
     tokens: &'t [Token<'a>],
 ) -> Result<(ClientName, &'t [Token<'a>]), BookFail>
-    ensures { Reads (λ x. (x.0, seen_rest x.1)) result (label_from had.now end (map seen tokens.now)) }
+    ensures { IsReadingOf (λ x. (x.0, seen_rest x.1)) result (label_from had.now end (map seen tokens.now)) }
 {
     let Some((first, rest)) = tokens.split_first() else {
         return Err(BookFail::Syntax(end));
@@ -70,7 +70,7 @@ fn kind_from<'t, 'a>(
     end: usize,
     tokens: &'t [Token<'a>],
 ) -> Result<(Kind, &'t [Token<'a>]), BookFail>
-    ensures { Reads (λ x. (x.0, seen_rest x.1)) result (kind_from kinds.now end (map seen tokens.now)) }
+    ensures { IsReadingOf (λ x. (x.0, seen_rest x.1)) result (kind_from kinds.now end (map seen tokens.now)) }
 {
     let Some((first, rest)) = tokens.split_first() else {
         return Err(BookFail::Syntax(end));
@@ -100,7 +100,7 @@ fn weight_from<'t, 'a>(
     end: usize,
     tokens: &'t [Token<'a>],
 ) -> Result<(Weight, &'t [Token<'a>]), BookFail>
-    ensures { Reads (λ x. (x.0, seen_rest x.1)) result (weight_from end (map seen tokens.now)) }
+    ensures { IsReadingOf (λ x. (x.0, seen_rest x.1)) result (weight_from end (map seen tokens.now)) }
 {
     let Some((first, rest)) = tokens.split_first() else {
         return Err(BookFail::Syntax(end));
@@ -120,7 +120,7 @@ fn close_from<'t, 'a>(
     end: usize,
     tokens: &'t [Token<'a>],
 ) -> Result<(usize, &'t [Token<'a>]), BookFail>
-    ensures { Reads (λ x. (x.0, seen_rest x.1)) result (close_from end (map seen tokens.now)) }
+    ensures { IsReadingOf (λ x. (x.0, seen_rest x.1)) result (close_from end (map seen tokens.now)) }
 {
     let Some((first, rest)) = tokens.split_first() else {
         return Err(BookFail::Syntax(end));
@@ -164,7 +164,8 @@ fn after_both<'t, 'a>(
     end: usize,
     tokens: &'t [Token<'a>],
 ) -> Result<&'t [Token<'a>], BookFail>
-    ensures { Reads seen_rest result (read_on (after first.now end (map seen tokens.now)) (after second.now end)) }
+    ensures { IsReadingOf seen_rest result
+        (read_on (after first.now end (map seen tokens.now)) (after second.now end)) }
 {
     let behind = after(first, end, tokens)?;
     after(second, end, behind)
@@ -176,7 +177,8 @@ fn names_behind<'t, 'a>(
     end: usize,
     tokens: &'t [Token<'a>],
 ) -> Result<(PropSet, &'t [Token<'a>]), BookFail>
-    ensures { Reads (λ x. (x.0, seen_rest x.1)) result (read_on (after text.now end (map seen tokens.now)) (names_from true 0 end)) }
+    ensures { IsReadingOf (λ x. (x.0, seen_rest x.1)) result
+        (read_on (after text.now end (map seen tokens.now)) (names_from true 0 end)) }
 {
     let behind = after(text, end, tokens)?;
     names(end, behind)
@@ -188,7 +190,7 @@ fn head_from<'t, 'a>(
     end: usize,
     tokens: &'t [Token<'a>],
 ) -> Result<Head<'t, 'a>, BookFail>
-    ensures { Reads head_seen result (head_from had.now end (map seen tokens.now)) }
+    ensures { IsReadingOf head_seen result (head_from had.now end (map seen tokens.now)) }
 {
     let (label, behind) = match label_from(had, end, tokens) {
         Ok(found) => found,
@@ -217,7 +219,7 @@ fn body_from<'t, 'a>(
     end: usize,
     tokens: &'t [Token<'a>],
 ) -> Result<Body<'t, 'a>, BookFail>
-    ensures { Reads body_seen result (body_from kinds.now end (map seen tokens.now)) }
+    ensures { IsReadingOf body_seen result (body_from kinds.now end (map seen tokens.now)) }
 {
     let opened = after(b"{", end, tokens)?;
     let (kind, behind) = match kind_from(kinds, end, opened) {
@@ -244,7 +246,7 @@ fn begins_with(text: &[u8], tokens: &[Token]) -> bool
 
 #[tactic(auto, unfolding(crate::specs::Reading::preconditions_from))]
 fn preconditions_from<'t, 'a>(end: usize, tokens: &'t [Token<'a>]) -> Result<Tail<'t, 'a>, BookFail>
-    ensures { Reads tail_seen result (preconditions_from end (map seen tokens.now)) }
+    ensures { IsReadingOf tail_seen result (preconditions_from end (map seen tokens.now)) }
 {
     let listed = after_both(b"precondition", b":", end, tokens)?;
     let (conditions, behind) = match all_conditions(end, listed) {
@@ -264,7 +266,7 @@ fn preconditions_from<'t, 'a>(end: usize, tokens: &'t [Token<'a>]) -> Result<Tai
 
 #[tactic(auto, unfolding(crate::specs::Reading::tail_from))]
 fn tail_from<'t, 'a>(end: usize, tokens: &'t [Token<'a>]) -> Result<Tail<'t, 'a>, BookFail>
-    ensures { Reads tail_seen result (tail_from end (map seen tokens.now)) }
+    ensures { IsReadingOf tail_seen result (tail_from end (map seen tokens.now)) }
 {
     let (past, rest) = match close_from(end, tokens) {
         Ok(found) => found,
@@ -317,7 +319,8 @@ fn rule_from<'t, 'a>(
     end: usize,
     tokens: &'t [Token<'a>],
 ) -> Result<(Rule, &'t [Token<'a>]), BookFail>
-    ensures { Reads (λ x. (x.0, seen_rest x.1)) result (rule_from kinds.now had.now end (map seen tokens.now)) }
+    ensures { IsReadingOf (λ x. (x.0, seen_rest x.1)) result
+        (rule_from kinds.now had.now end (map seen tokens.now)) }
 {
     let head = match head_from(had, end, tokens) {
         Ok(found) => found,
@@ -348,15 +351,16 @@ fn rule_from<'t, 'a>(
 pub fn read_book(alloc: Global, text: &str, kinds: &[Kind]) -> Result<Book, BookFail>
     // What is read is spelled by the grammar, and what the grammar spells is read, unless memory runs out.
     ensures found { IfOk result (λ b. IsBookText kinds.now text.now b) }
-    ensures only { (rules : List Rule) → IsBookText kinds.now text.now rules → Gives (λ b. b) result (Ok rules) }
+    ensures only { (rules : List Rule) → IsBookText kinds.now text.now rules
+        → GivesAs (λ b. b) result (Ok rules) }
     // Which fault it is.
-    ensures exact { Gives (λ b. b) result (book_of kinds.now text.now) }
+    ensures exact { GivesAs (λ b. b) result (book_of kinds.now text.now) }
 {
     read_all(alloc, text, kinds)
 }
 
 fn read_all(alloc: Global, text: &str, kinds: &[Kind]) -> Result<Book, BookFail>
-    ensures { Gives (λ b. b) result (book_of kinds.now text.now) }
+    ensures { GivesAs (λ b. b) result (book_of kinds.now text.now) }
 {
     let bytes = text.as_bytes();
     let list = tokens(alloc, bytes)?;
@@ -372,7 +376,9 @@ fn more_rules(
     tokens: &[Token],
 ) -> Result<Vec<Rule>, BookFail>
     requires { IsBook rules.items }
-    ensures value { Gives (λ v. v.items) result (rules_from ((most_rules + 1) - length rules.items) kinds.now rules.items end (map seen tokens.now)) }
+    ensures value { GivesAs (λ v. v.items) result
+        (rules_from ((most_rules + 1) - length rules.items) kinds.now rules.items end
+        (map seen tokens.now)) }
     ensures book { IfOk result (λ v. IsBook v.items) }
 {
     if tokens.is_empty() {

@@ -19,7 +19,8 @@ use std::alloc::{AllocError, Global};
 pub fn book_text(alloc: Global, book: &Book) -> Result<String, AllocError>
     ensures text { IfOk result (λ s. string_bytes s ≡ text_of book.now) }
     // It spells this very book, with any kinds of which that of each rule is the first of its name.
-    ensures back { (kinds : List Kind) → FirstKinds kinds book.now → IfOk result (λ s. IsBookText kinds (string_bytes s) book.now) }
+    ensures back { (kinds : List Kind) → FirstKinds kinds book.now
+        → IfOk result (λ s. IsBookText kinds (string_bytes s) book.now) }
 {
     printed(alloc, book.rules())
 }
@@ -81,7 +82,8 @@ fn is_tight(word: &str) -> bool
 
 // Words, one after the other.
 fn push_words(text: &mut String, words: &[&str]) -> Result<(), AllocError>
-    ensures { OnOk result (string_bytes text.new ≡ string_bytes text.old ++ spaced (map (λ w. w.now) words.now)) }
+    ensures { OnOk result (string_bytes text.new
+        ≡ string_bytes text.old ++ spaced (map (λ w. w.now) words.now)) }
 {
     for word in words {
         push_word(text, word)?;
@@ -91,7 +93,8 @@ fn push_words(text: &mut String, words: &[&str]) -> Result<(), AllocError>
 
 // The first names of the properties of a set, with commas between them.
 fn push_names(alloc: Global, text: &mut String, set: PropSet) -> Result<(), AllocError>
-    ensures { OnOk result (string_bytes text.new ≡ string_bytes text.old ++ spaced (separated (map name_item (map first_name (members set))))) }
+    ensures { OnOk result (string_bytes text.new
+        ≡ string_bytes text.old ++ spaced (separated (map name_item (map first_name (members set))))) }
 {
     let list = set.to_list(alloc)?;
     if let Some((first, others)) = list.as_slice().split_first() {
@@ -103,7 +106,9 @@ fn push_names(alloc: Global, text: &mut String, set: PropSet) -> Result<(), Allo
 
 // Names, each behind a comma.
 fn push_more_names(text: &mut String, names: &[PropId]) -> Result<(), AllocError>
-    ensures { OnOk result (string_bytes text.new ≡ string_bytes text.old ++ spaced (flat_map behind_comma (map name_item (map first_name names.now)))) }
+    ensures { OnOk result (string_bytes text.new
+        ≡ string_bytes text.old ++ spaced (flat_map behind_comma
+        (map name_item (map first_name names.now)))) }
 {
     for p in names {
         push_words(text, &[",", p.row().first_name])?;
@@ -136,7 +141,8 @@ fn push_condition_list(text: &mut String, rule: &Rule, list: &[PropId]) -> Resul
 
 // One precondition.
 fn push_condition(text: &mut String, rule: &Rule, p: PropId) -> Result<(), AllocError>
-    ensures { OnOk result (string_bytes text.new ≡ string_bytes text.old ++ spaced (condition_item (condition_of_rule rule.now p))) }
+    ensures { OnOk result (string_bytes text.new
+        ≡ string_bytes text.old ++ spaced (condition_item (condition_of_rule rule.now p))) }
 {
     if rule.must_not.contains(p) {
         push_words(text, &["!", p.row().first_name])

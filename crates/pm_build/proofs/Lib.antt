@@ -7,7 +7,6 @@ pub mod FormLaws
 pub mod OtherForms
 pub mod Vectors
 pub mod Refused
-pub mod OverFirst
 pub mod SumLaws
 pub mod SumFactors
 pub mod PointLaws

@@ -2,7 +2,8 @@
 use Rattle.pm_vector.specs.Numbers.{IsReduced}
 use Rattle.pm_vector.specs.Rows.{Row, entry, ratio_at}
 use Rattle.pm_build.specs.SumExamples.{SumsAreRead, half, over, quarter, thin, thinner}
-use Rattle.pm_build.specs.SumSteps.{AreFactors, ColumnStays, IsOverFirst, IsSumRow, IsWideAt, SumStays, sum_entry}
+use Rattle.pm_build.specs.SumSteps.{AreFactors, ColumnStays, IsSumRow, IsWideAt, SumStays, sum_entry}
+use Rattle.pm_types.specs.OverFirst.{IsOverFirst}
 use Rattle.pm_build.specs.Sums.{IsFirstWide}
 use Rattle.pm_fraction.proofs.Bezout.{coprime}
 use Rattle.pm_fraction.specs.Fractions.{IsLowestTermsOf, ratio_of}

@@ -6,7 +6,7 @@ use Rattle.pm_vector.proofs.Signs.{mul_pos, pos_cancel}
 use Rattle.pm_vector.specs.Numbers.{InRange, Ratio}
 use Rattle.pm_vector.specs.Rows.{Row, entry, ratio_at}
 use Rattle.pm_build.proofs.FormLaws.{IsGood, good_forms, two_values}
-use Rattle.pm_build.proofs.OverFirst.{over_fractions, over_one_first, over_primitive}
+use Rattle.pm_types.proofs.OverFirst.{over_fractions, over_one_first, over_primitive}
 use Rattle.pm_build.proofs.PointLaws.{points_cols, points_up}
 use Rattle.pm_build.proofs.Refused.{refused}
 use Rattle.pm_build.specs.Conditions.{are_few, sum_count, sum_reads, sum_refusal}

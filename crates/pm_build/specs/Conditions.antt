@@ -42,7 +42,8 @@ shape_refusal d = if nat_le d most_dimensions then None else Some condition.Size
 
 -- a cyclic polytope too, and from d + 1 to most_rows points, the last power of whose last number is in the range
 abbrev pub is_cyclic_size : ℕ → ℕ → Bool
-is_cyclic_size d n = nat_le d most_dimensions && nat_le (suc d) n && nat_le n most_rows && nat_lt (n ^ d) (2 ^ 127)
+is_cyclic_size d n = nat_le d most_dimensions && nat_le (suc d) n && nat_le n most_rows
+    && nat_lt (n ^ d) (2 ^ 127)
 
 -- a cyclic polytope of no other sizes is built
 abbrev pub cyclic_refusal : ℕ → ℕ → Option Condition
@@ -61,7 +62,8 @@ polar_refusal o = if not (is_polytope o.of) then Some condition.OfType
 abbrev pub are_few : PropId → State → State → Bool
 are_few p a b = nat_le (length (rows_at p a) + length (rows_at p b)) most_rows
 
--- two polytopes whose product has at most 33 columns, that is at most 34 columns together, and not too many facets or rows of the affine hull
+-- two polytopes whose product has at most 33 columns, that is at most 34 columns together, and not too many facets or
+-- rows of the affine hull
 abbrev pub product_refusal : State → State → Option Condition
 product_refusal a b = if not (is_polytope a.of && is_polytope b.of) then Some condition.OfType
     else if not (nat_le (cols_at a + cols_at b) (most_columns + 1)) then Some condition.Columns
@@ -77,7 +79,8 @@ pyramid_refusal o = if not (is_polytope o.of) then Some condition.OfType
 
 -- how many rows the sum has as points: one for each pair of points, and the far rows of both
 abbrev pub sum_count : State → State → ℕ
-sum_count a b = length (points (rows_at Vertices a)) * length (points (rows_at Vertices b)) + (length (far (rows_at Vertices a)) + length (far (rows_at Vertices b)))
+sum_count a b = length (points (rows_at Vertices a)) * length (points (rows_at Vertices b)) +
+    (length (far (rows_at Vertices a)) + length (far (rows_at Vertices b)))
 
 -- two polytopes, not empty, of as many columns, whose sum has not too many points or lines
 abbrev pub sum_refusal : State → State → Option Condition

@@ -42,7 +42,8 @@ pub record RowsAreRead : Type 0 where
   pub opposed : unit minus 0 2 ≡ minus ∷ no ∷ []
   pub two_units : units 2 2 ≡ (one ∷ no ∷ []) ∷ (no ∷ one ∷ []) ∷ []
   -- each unit vector stands before its opposite
-  pub pairs : opposite_units 2 2 ≡ (one ∷ no ∷ []) ∷ (minus ∷ no ∷ []) ∷ (no ∷ one ∷ []) ∷ (no ∷ minus ∷ []) ∷ []
+  pub pairs : opposite_units 2 2 ≡ (one ∷ no ∷ []) ∷ (minus ∷ no ∷ []) ∷ (no ∷ one ∷ []) ∷ (no ∷ minus ∷ [])
+      ∷ []
   pub not_behind : head_of (opposite_units 1 1) ≢ minus ∷ []
   pub no_dimension : opposite_units 0 0 ≡ []
   -- a simplex has 0 as its first corner
@@ -65,8 +66,12 @@ held p v = record { place = None; property = p; value = v; origin = Given }
 abbrev pub segment_with : Bool → Bool → Bool → State
 segment_with bounded full centered = record {
   of = Polytope;
-  held = held ConeAmbientDim (whole (pos 2)) ∷ held Bounded (truth bounded) ∷ held FullDim (truth full) ∷ held Centered (truth centered)
-      ∷ held Facets (matrix 2 (ratios (one ∷ one ∷ []) ∷ ratios (one ∷ minus ∷ []) ∷ [])) ∷ held AffineHull (matrix 0 []) ∷ held Vertices (matrix 2 (ratios (one ∷ minus ∷ []) ∷ ratios (one ∷ one ∷ []) ∷ [])) ∷ held LinealitySpace (matrix 0 []) ∷ [];
+  held = held ConeAmbientDim (whole (pos 2)) ∷ held Bounded (truth bounded) ∷ held FullDim (truth full)
+      ∷ held Centered (truth centered)
+      ∷ held Facets (matrix 2 (ratios (one ∷ one ∷ []) ∷ ratios (one ∷ minus ∷ []) ∷ []))
+      ∷ held AffineHull (matrix 0 []) ∷ held Vertices
+      (matrix 2 (ratios (one ∷ minus ∷ []) ∷ ratios (one ∷ one ∷ []) ∷ []))
+      ∷ held LinealitySpace (matrix 0 []) ∷ [];
   excluded = [];
   rounds = [];
   disabled = [];
@@ -79,7 +84,11 @@ segment = segment_with true true true
 
 -- facets that contradict CENTERED
 abbrev pub contradiction : State
-contradiction = record segment { held = held Bounded (truth true) ∷ held FullDim (truth true) ∷ held Centered (truth true) ∷ held Facets (matrix 2 (ratios (minus ∷ one ∷ []) ∷ [])) ∷ [] }
+contradiction =
+    record segment {
+      held = held Bounded (truth true) ∷ held FullDim (truth true)
+          ∷ held Centered (truth true) ∷ held Facets (matrix 2 (ratios (minus ∷ one ∷ []) ∷ [])) ∷ [];
+    }
 
 -- a polytope of so many columns
 abbrev pub wide : ℕ → State
@@ -125,13 +134,29 @@ pub record ObjectsAreRead : Type 0 where
   pub some_rows : value_over 1 (ratios (one ∷ []) ∷ []) ≡ matrix 1 (ratios (one ∷ []) ∷ [])
   pub behind : padded 2 (ratios (one ∷ minus ∷ [])) ≡ ratios (one ∷ minus ∷ no ∷ no ∷ [])
   pub between : spread 2 (ratios (one ∷ minus ∷ [])) ≡ ratios (one ∷ no ∷ no ∷ minus ∷ [])
-  pub below : put_below (record { cols = 1; rows = ratios (one ∷ []) ∷ [] }) (ratios (no ∷ []) ∷ []) ≡ record { cols = 1; rows = ratios (one ∷ []) ∷ ratios (no ∷ []) ∷ [] }
-  pub square_rows : both_rows Facets segment segment ≡ ratios (one ∷ one ∷ no ∷ []) ∷ ratios (one ∷ minus ∷ no ∷ []) ∷ ratios (one ∷ no ∷ one ∷ []) ∷ ratios (one ∷ no ∷ minus ∷ []) ∷ []
-  pub cube : cube_of 1 ≡ polytope_with ((Inequalities, matrix 2 (ratios (one ∷ one ∷ []) ∷ ratios (one ∷ minus ∷ []) ∷ [])) ∷ [])
+  pub below : put_below (record { cols = 1; rows = ratios (one ∷ []) ∷ [] }) (ratios (no ∷ []) ∷ [])
+      ≡ record { cols = 1; rows = ratios (one ∷ []) ∷ ratios (no ∷ []) ∷ [] }
+  pub square_rows : both_rows Facets segment segment
+      ≡ ratios (one ∷ one ∷ no ∷ []) ∷ ratios (one ∷ minus ∷ no ∷ []) ∷ ratios (one ∷ no ∷ one ∷ [])
+      ∷ ratios (one ∷ no ∷ minus ∷ []) ∷ []
+  pub cube : cube_of 1
+      ≡ polytope_with ((Inequalities, matrix 2 (ratios (one ∷ one ∷ []) ∷ ratios (one ∷ minus ∷ []) ∷ []))
+      ∷ [])
   pub point : cube_of 0 ≡ polytope_with ((Inequalities, matrix 0 []) ∷ [])
-  pub simplex : simplex_of 1 ≡ polytope_with ((Points, matrix 2 (ratios (one ∷ no ∷ []) ∷ ratios (one ∷ one ∷ []) ∷ [])) ∷ [])
-  pub cross : cross_of 1 ≡ polytope_with ((Points, matrix 2 (ratios (one ∷ one ∷ []) ∷ ratios (one ∷ minus ∷ []) ∷ [])) ∷ [])
-  pub cyclic : cyclic_of 1 2 ≡ polytope_with ((Points, matrix 2 (ratios (one ∷ one ∷ []) ∷ ratios (one ∷ pos 2 ∷ []) ∷ [])) ∷ [])
-  pub polar : polar_of segment ≡ polytope_with ((Points, matrix 2 (ratios (one ∷ one ∷ []) ∷ ratios (one ∷ minus ∷ []) ∷ [])) ∷ [])
-  pub product : product_of segment segment ≡ polytope_with ((Inequalities, matrix 3 (both_rows Facets segment segment)) ∷ (Equations, matrix 0 []) ∷ [])
-  pub pyramid : pyramid_of segment ≡ polytope_with ((Points, matrix 3 (ratios (one ∷ minus ∷ no ∷ []) ∷ ratios (one ∷ one ∷ no ∷ []) ∷ ratios (one ∷ no ∷ one ∷ []) ∷ [])) ∷ (InputLineality, matrix 0 []) ∷ [])
+  pub simplex : simplex_of 1 ≡ polytope_with
+      ((Points, matrix 2 (ratios (one ∷ no ∷ []) ∷ ratios (one ∷ one ∷ []) ∷ [])) ∷ [])
+  pub cross : cross_of 1
+      ≡ polytope_with ((Points, matrix 2 (ratios (one ∷ one ∷ []) ∷ ratios (one ∷ minus ∷ []) ∷ [])) ∷ [])
+  pub cyclic : cyclic_of 1 2 ≡ polytope_with
+      ((Points, matrix 2 (ratios (one ∷ one ∷ []) ∷ ratios (one ∷ pos 2 ∷ []) ∷ [])) ∷ [])
+  pub polar : polar_of segment ≡ polytope_with
+      ((Points, matrix 2 (ratios (one ∷ one ∷ []) ∷ ratios (one ∷ minus ∷ []) ∷ [])) ∷ [])
+  pub product : product_of segment segment
+      ≡ polytope_with ((Inequalities, matrix 3 (both_rows Facets segment segment)) ∷ (Equations, matrix 0 [])
+      ∷ [])
+  pub pyramid : pyramid_of segment ≡ polytope_with
+      ((
+        Points,
+        matrix 3 (ratios (one ∷ minus ∷ no ∷ []) ∷ ratios (one ∷ one ∷ no ∷ [])
+            ∷ ratios (one ∷ no ∷ one ∷ []) ∷ []),
+      ) ∷ (InputLineality, matrix 0 []) ∷ [])

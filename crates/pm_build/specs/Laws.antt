@@ -26,10 +26,15 @@ pub record ShapesHaveForms : Type 0 where
 
 -- the values of polytopes of others, where no condition fails
 pub record OthersHaveForms : Type 0 where
-  pub polar : (a : State) → IsFormed a → IsReadable polar_reads a → polar_refusal a ≡ None → HaveForms (cols_at a) (polar_of a)
-  pub product : (a b : State) → IsFormed a → IsFormed b → IsReadable product_reads a → IsReadable product_reads b → product_refusal a b ≡ None → HaveForms (product_cols a b) (product_of a b)
-  pub pyramid : (a : State) → IsFormed a → IsReadable pyramid_reads a → pyramid_refusal a ≡ None → HaveForms (suc (cols_at a)) (pyramid_of a)
+  pub polar : (a : State) → IsFormed a → IsReadable polar_reads a → polar_refusal a ≡ None
+      → HaveForms (cols_at a) (polar_of a)
+  pub product : (a b : State) → IsFormed a → IsFormed b → IsReadable product_reads a
+      → IsReadable product_reads b → product_refusal a b ≡ None
+      → HaveForms (product_cols a b) (product_of a b)
+  pub pyramid : (a : State) → IsFormed a → IsReadable pyramid_reads a → pyramid_refusal a ≡ None
+      → HaveForms (suc (cols_at a)) (pyramid_of a)
 
 -- so have those of a sum
 abbrev pub SumsHaveForms : Type 0
-SumsHaveForms = (a b : State) (f : SavedFile) → IsFormed a → IsFormed b → IsReadable sum_reads a → IsReadable sum_reads b → sum_refusal a b ≡ None → IsSumFile a b f → HaveForms (cols_at a) f
+SumsHaveForms = (a b : State) (f : SavedFile) → IsFormed a → IsFormed b → IsReadable sum_reads a
+    → IsReadable sum_reads b → sum_refusal a b ≡ None → IsSumFile a b f → HaveForms (cols_at a) f

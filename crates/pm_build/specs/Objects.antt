@@ -16,7 +16,14 @@ use lib.IntN.{pos}
 
 -- a polytope with these values, all of them given
 abbrev pub polytope_with : List (PropId × PropertyValue) → SavedFile
-polytope_with values = record { of = Polytope; values = values; stored = 0; failed = []; programs = []; ignored = [] }
+polytope_with values = record {
+  of = Polytope;
+  values = values;
+  stored = 0;
+  failed = [];
+  programs = [];
+  ignored = [];
+}
 
 -- the matrix, and these rows below its own
 abbrev pub put_below : FractionMatrix → List (List Ratio) → FractionMatrix
@@ -67,7 +74,8 @@ both_rows p a b = map (padded (cols_at b - 1)) (rows_at p a) ++ map (spread (col
 -- the facet rows of both and the rows of both affine hulls, in the columns of the product
 abbrev pub product_of : State → State → SavedFile
 product_of a b = polytope_with
-    ((Inequalities, value_over (product_cols a b) (both_rows Facets a b)) ∷ (Equations, value_over (product_cols a b) (both_rows AffineHull a b)) ∷ [])
+    ((Inequalities, value_over (product_cols a b) (both_rows Facets a b))
+    ∷ (Equations, value_over (product_cols a b) (both_rows AffineHull a b)) ∷ [])
 
 -- the vertices in one column more, and the apex
 abbrev pub pyramid_points : State → List (List Ratio)
@@ -80,4 +88,5 @@ pyramid_lines o = map (padded 1) (rows_at LinealitySpace o)
 -- the vertices and the apex as points, and the lineality
 abbrev pub pyramid_of : State → SavedFile
 pyramid_of o = polytope_with
-    ((Points, value_over (suc (cols_at o)) (pyramid_points o)) ∷ (InputLineality, value_over (suc (cols_at o)) (pyramid_lines o)) ∷ [])
+    ((Points, value_over (suc (cols_at o)) (pyramid_points o))
+    ∷ (InputLineality, value_over (suc (cols_at o)) (pyramid_lines o)) ∷ [])

@@ -1,5 +1,7 @@
--- The rows of a polytope's cone that stand for points, and the other rows (Ziegler, Lectures on Polytopes, section 1.1).
--- A row r with r_0 > 0 stands for the point (r_1/r_0, .., r_d/r_0); a row with r_0 = 0 lies far off, and is a direction.
+-- The rows of a polytope's cone that stand for points, and the other rows (Ziegler, Lectures on Polytopes, section
+-- 1.1).
+-- A row r with r_0 > 0 stands for the point (r_1/r_0, .., r_d/r_0); a row with r_0 = 0 lies far off, and is a
+-- direction.
 use Rattle.std.specs.Prelude.{Bool, false, true, not, zero, suc, List, [], ◌∷◌, ◌++◌, filter, map}
 use Rattle.pm_vector.specs.Numbers.{Ratio}
 use Rattle.pm_vector.specs.Rows.{Row}

@@ -1,4 +1,6 @@
--- The rows of standard polytopes: the cube, the simplex, the cross-polytope and the cyclic polytope (Ziegler, Lectures on Polytopes, examples 0.3, 0.4 and 0.6). In d dimensions a row has d + 1 entries, of which the first is 1.
+-- The rows of standard polytopes: the cube, the simplex, the cross-polytope and the cyclic polytope (Ziegler,
+-- Lectures on Polytopes, examples 0.3, 0.4 and 0.6). In d dimensions a row has d + 1 entries, of which the first is
+-- 1.
 use Rattle.std.specs.Prelude.{ℕ, zero, suc, ◌^◌, List, [], ◌∷◌, ◌++◌, map, replicate}
 use Rattle.pm_vector.specs.Numbers.{Ratio}
 use Rattle.pm_vector.specs.Rows.{Row}

@@ -5,7 +5,8 @@ use Rattle.pm_vector.specs.Rows.{Row}
 use Rattle.pm_build.specs.Conditions.{sum_count, sum_refusal}
 use Rattle.pm_build.specs.Examples.{held, no, one, segment}
 use Rattle.pm_build.specs.Points.{far, is_point, pairs, points}
-use Rattle.pm_build.specs.SumSteps.{AreFactors, IsOverFirst, IsSumRow, IsWideAt, sum_entry}
+use Rattle.pm_build.specs.SumSteps.{AreFactors, IsSumRow, IsWideAt, sum_entry}
+use Rattle.pm_types.specs.OverFirst.{IsOverFirst}
 use Rattle.pm_build.specs.Sums.{AreSums, IsFirstWide, sum_lines}
 use Rattle.pm_object.specs.State.{State}
 use Rattle.pm_object.specs.declared.held.Condition.TheVariants as condition
@@ -42,7 +43,11 @@ rightward = ratios (no ∷ one ∷ [])
 
 -- a polytope of so many columns, which is empty or not, with these vertices
 abbrev pub with_vertices : ℕ → Bool → List (List Ratio) → State
-with_vertices n b rows = record segment { held = held ConeAmbientDim (whole (pos n)) ∷ held Feasible (truth b) ∷ held Vertices (matrix n rows) ∷ held LinealitySpace (matrix n (rightward ∷ [])) ∷ [] }
+with_vertices n b rows =
+    record segment {
+      held = held ConeAmbientDim (whole (pos n)) ∷ held Feasible (truth b)
+          ∷ held Vertices (matrix n rows) ∷ held LinealitySpace (matrix n (rightward ∷ [])) ∷ [];
+    }
 
 -- the half-line from 0 to the right
 abbrev pub half_line : State
@@ -55,7 +60,8 @@ pub record SumsAreRead : Type 0 where
   pub points_alone : points (rightward ∷ origin ∷ []) ≡ origin ∷ []
   pub far_alone : far (rightward ∷ origin ∷ []) ≡ rightward ∷ []
   -- the second of a pair changes first
-  pub in_order : pairs (half ∷ thin ∷ []) (quarter ∷ thinner ∷ []) ≡ (half, quarter) ∷ (half, thinner) ∷ (thin, quarter) ∷ (thin, thinner) ∷ []
+  pub in_order : pairs (half ∷ thin ∷ []) (quarter ∷ thinner ∷ [])
+      ≡ (half, quarter) ∷ (half, thinner) ∷ (thin, quarter) ∷ (thin, thinner) ∷ []
   -- the factors of 2 and 4 are 2 and 1, without a common divisor
   pub factors : AreFactors half quarter (pos 2) (pos 1)
   pub no_factors : ¬ (AreFactors half quarter (pos 4) (pos 2))

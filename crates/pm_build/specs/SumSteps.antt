@@ -1,11 +1,12 @@
 -- The row of the sum of two points, and the numbers on the way to it.
--- For rows v and w with v_0, w_0 > 0 let g be the greatest common divisor of v_0 and w_0, p = w_0/g and q = v_0/g. The sum of
+-- For rows v and w with v_0, w_0 > 0 let g be the greatest common divisor of v_0 and w_0, p = w_0/g and q = v_0/g.
+-- The sum of
 -- their points has the row of the numbers v_0 p and p v_k + q w_k, which is then divided by its first entry.
 use Rattle.std.specs.Prelude.{ℕ, zero, suc, ◌<◌, ◌≡◌, List, length, unsigned_abs}
 use Rattle.std.specs.Int.{IsGcd}
 use Rattle.pm_vector.specs.Numbers.{InRange, Ratio}
-use Rattle.pm_vector.specs.Rows.{Row, entry, ratio_at}
-use Rattle.pm_fraction.specs.Fractions.{IsLowestTermsOf, ratio_of}
+use Rattle.pm_vector.specs.Rows.{Row, entry}
+use Rattle.pm_types.specs.OverFirst.{IsOverFirst}
 use lib.IntN.{ℤ, pos, ◌*ℤ◌, ◌+ℤ◌}
 
 -- p is w_0/g, and q is v_0/g
@@ -23,7 +24,8 @@ sum_entry p q v w (suc k) = p *ℤ entry v (suc k) +ℤ q *ℤ entry w (suc k)
 -- the numbers on the way to entry k: v_0 p for the first, and p v_k, q w_k and their sum for each other
 abbrev pub ColumnStays : ℤ → ℤ → Row → Row → ℕ → Type 0
 ColumnStays p q v w zero = InRange (entry v 0 *ℤ p)
-ColumnStays p q v w (suc k) = InRange (p *ℤ entry v (suc k)) × InRange (q *ℤ entry w (suc k)) × InRange (p *ℤ entry v (suc k) +ℤ q *ℤ entry w (suc k))
+ColumnStays p q v w (suc k) = InRange (p *ℤ entry v (suc k)) × InRange (q *ℤ entry w (suc k))
+    × InRange (p *ℤ entry v (suc k) +ℤ q *ℤ entry w (suc k))
 
 -- those of the first n entries are in the range
 pub record NumbersStay (p q : ℤ) (v w : Row) (n : ℕ) : Type 0 where
@@ -44,11 +46,6 @@ pub record IsWideAt (v w : Row) (k : ℕ) : Type 0 where
   pub within : k < length v
   pub before : NumbersStay p q v w k
   pub wide : ¬ (ColumnStays p q v w k)
-
--- r is the row x divided by its first entry, in lowest terms
-pub record IsOverFirst (x : Row) (r : List Ratio) : Type 0 where
-  pub cols : length r ≡ length x
-  pub each : (i : ℕ) → i < length x → IsLowestTermsOf (ratio_of (entry x i) (entry x 0)) (ratio_at r i)
 
 -- x has these entries, and the numbers on the way to them are in the range
 pub record IsSumBefore (p q : ℤ) (v w x : Row) : Type 0 where

@@ -1,5 +1,5 @@
--- The Minkowski sum of two polytopes, by rows (Ziegler, Lectures on Polytopes, section 1.1): the sums of their points, the far
--- rows of both, and the lines of both.
+-- The Minkowski sum of two polytopes, by rows (Ziegler, Lectures on Polytopes, section 1.1): the sums of their
+-- points, the far rows of both, and the lines of both.
 use Rattle.std.specs.Prelude.{ℕ, ◌≡◌, None, Some, List, [], ◌∷◌, ◌++◌}
 use Rattle.std.specs.List.{All}
 use Rattle.pm_vector.specs.Numbers.{Ratio}
@@ -55,7 +55,9 @@ sum_lines a b = rows_at LinealitySpace a ++ rows_at LinealitySpace b
 pub record IsSumFile (a b : State) (f : SavedFile) : Type 0 where
   pub rows : List (List Ratio)
   pub points : AreSumPoints a b rows
-  pub file : f ≡ polytope_with ((Points, value_over (cols_at a) rows) ∷ (InputLineality, value_over (cols_at a) (sum_lines a b)) ∷ [])
+  pub file : f
+      ≡ polytope_with ((Points, value_over (cols_at a) rows)
+      ∷ (InputLineality, value_over (cols_at a) (sum_lines a b)) ∷ [])
 
 -- v, w and k are the first pair of points, in order, and the first column where a number leaves the range
 pub record IsFirstWideSum (a b : State) (v w : Row) (k : ℕ) : Type 0 where
@@ -64,8 +66,8 @@ pub record IsFirstWideSum (a b : State) (v w : Row) (k : ℕ) : Type 0 where
   pub points : ArePoints a b first second
   pub wide : IsFirstWide (pairs first second) v w k
 
--- why there is no sum: the first condition that fails; or, where none does, a sum that is too wide; want of memory may come at
--- any time
+-- why there is no sum: the first condition that fails; or, where none does, a sum that is too wide; want of memory
+-- may come at any time
 abbrev pub IsSumRefused : State → State → SumFail → Type 0
 IsSumRefused a b (NotFit c) = sum_refusal a b ≡ Some c
 IsSumRefused a b (Wide v w k) = (sum_refusal a b ≡ None) × IsFirstWideSum a b v w k
@@ -73,7 +75,8 @@ IsSumRefused a b Memory = Unit {0}
 
 -- ---- what the calls on the way answer
 -- below the rows of m stand the sums of these pairs
-pub record AreSumsBelow (m : FractionMatrix) (pairs : List (Row × Row)) (made : FractionMatrix) : Type 0 where
+pub record AreSumsBelow (m : FractionMatrix) (pairs : List (Row × Row)) (made : FractionMatrix)
+    : Type 0 where
   pub rows : List (List Ratio)
   pub sums : AreSums pairs rows
   pub put : made ≡ put_below m rows

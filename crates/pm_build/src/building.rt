@@ -51,14 +51,15 @@ fn with_both(
     q: PropId,
     others: Matrix,
 ) -> Result<FileObject, AllocError>
-    ensures { IfOk result (λ f. file_of f ≡ polytope_with ((p, matrix_of rows) ∷ (q, matrix_of others) ∷ [])) }
+    ensures { IfOk result (λ f.
+        file_of f ≡ polytope_with ((p, matrix_of rows) ∷ (q, matrix_of others) ∷ [])) }
 {
     let values = vec![in alloc; (p, Value::Mat(rows)), (q, Value::Mat(others))]?;
     Ok(polytope_with(alloc, values))
 }
 
-/// The cube of all points with coordinates from -1 to 1 in d dimensions, by its inequalities. In no dimension there are
-/// none. `NotFit(Size)` exactly where d is above 32.
+/// The cube of all points with coordinates from -1 to 1 in d dimensions, by its inequalities. In no dimension there
+/// are none. `NotFit(Size)` exactly where d is above 32.
 pub fn cube(alloc: Global, d: u32) -> Result<FileObject, BuildFail>
     ensures built { IfOk result (λ f. file_of f ≡ cube_of d) }
     ensures fits { OnOk result (shape_refusal d ≡ None) }
@@ -84,8 +85,8 @@ pub fn simplex(alloc: Global, d: u32) -> Result<FileObject, BuildFail>
     Ok(with_rows(alloc, PropId::Points, rows)?)
 }
 
-/// The cross-polytope of the unit vectors and their opposites in d dimensions, by these points; in no dimension there are
-/// none. `NotFit(Size)` exactly where d is above 32.
+/// The cross-polytope of the unit vectors and their opposites in d dimensions, by these points; in no dimension there
+/// are none. `NotFit(Size)` exactly where d is above 32.
 pub fn cross(alloc: Global, d: u32) -> Result<FileObject, BuildFail>
     ensures built { IfOk result (λ f. file_of f ≡ cross_of d) }
     ensures fits { OnOk result (shape_refusal d ≡ None) }
@@ -113,7 +114,8 @@ pub fn cyclic(alloc: Global, d: u32, n: u32) -> Result<FileObject, BuildFail>
 }
 
 /// The polar of a polytope that has 0 in its interior, by its facet rows as points. `NotFit` names the first condition
-/// that fails: the object is a polytope, BOUNDED, FULL_DIM and CENTERED are true, no facet row has a negative first entry.
+/// that fails: the object is a polytope, BOUNDED, FULL_DIM and CENTERED are true, no facet row has a negative first
+/// entry.
 pub fn polar(alloc: Global, o: &Object) -> Result<FileObject, BuildFail>
     requires { IsReadable polar_reads o.now.state }
     ensures built { IfOk result (λ f. file_of f ≡ polar_of o.now.state) }
@@ -128,7 +130,8 @@ pub fn polar(alloc: Global, o: &Object) -> Result<FileObject, BuildFail>
 }
 
 /// The product of two polytopes, by the rows of both. `NotFit` names the first condition that fails: both objects are
-/// polytopes, the product has at most 33 columns, it has at most `MOST_ROWS` facets and at most `MOST_ROWS` rows of the affine hull.
+/// polytopes, the product has at most 33 columns, it has at most `MOST_ROWS` facets and at most `MOST_ROWS` rows of
+/// the affine hull.
 pub fn product(alloc: Global, a: &Object, b: &Object) -> Result<FileObject, BuildFail>
     requires first { IsReadable product_reads a.now.state }
     requires second { IsReadable product_reads b.now.state }
@@ -144,8 +147,8 @@ pub fn product(alloc: Global, a: &Object, b: &Object) -> Result<FileObject, Buil
     Ok(with_both(alloc, PropId::Inequalities, facets, PropId::Equations, hull)?)
 }
 
-/// The pyramid over a polytope, by its vertices in one column more and the apex. `NotFit` names the first condition that
-/// fails: the object is a polytope, it has at most 32 columns, it has at most 2,047 vertices.
+/// The pyramid over a polytope, by its vertices in one column more and the apex. `NotFit` names the first condition
+/// that fails: the object is a polytope, it has at most 32 columns, it has at most 2,047 vertices.
 pub fn pyramid(alloc: Global, o: &Object) -> Result<FileObject, BuildFail>
     requires { IsReadable pyramid_reads o.now.state }
     ensures built { IfOk result (λ f. file_of f ≡ pyramid_of o.now.state) }
@@ -160,15 +163,15 @@ pub fn pyramid(alloc: Global, o: &Object) -> Result<FileObject, BuildFail>
     Ok(with_both(alloc, PropId::Points, points, PropId::InputLineality, lines)?)
 }
 
-/// The Minkowski sum of two polytopes: as its points the sums of the points of each vertex of the first and each of the
-/// second, in order, then the far rows of the first, then those of the second; and the lines of both.
-/// These values are right for the sum of all points of each two polytopes for which the values read are right, bounded or
-/// not (`pm_laws_build`, `law_sum_is_described`).
-/// `NotFit` names the first condition that fails: both objects are polytopes, FEASIBLE is true of both, they have as many
-/// columns, the sum has at most `MOST_ROWS` points and at most `MOST_ROWS` lines.
-/// `Wide` exactly where a number on the way to the sum of two points leaves the range, with the primitive rows of the first
-/// such pair and its first such column. For primitive rows v and w these numbers are v_0 p, and p v_k, q w_k and their sum,
-/// where p = w_0/g and q = v_0/g for the greatest common divisor g of v_0 and w_0.
+/// The Minkowski sum of two polytopes: as its points the sums of the points of each vertex of the first and each of
+/// the second, in order, then the far rows of the first, then those of the second; and the lines of both.
+/// These values are right for the sum of all points of each two polytopes for which the values read are right,
+/// bounded or not (`pm_laws_build`, `law_sum_is_described`).
+/// `NotFit` names the first condition that fails: both objects are polytopes, FEASIBLE is true of both, they have as
+/// many columns, the sum has at most `MOST_ROWS` points and at most `MOST_ROWS` lines.
+/// `Wide` exactly where a number on the way to the sum of two points leaves the range, with the primitive rows of the
+/// first such pair and its first such column. For primitive rows v and w these numbers are v_0 p, and p v_k, q w_k
+/// and their sum, where p = w_0/g and q = v_0/g for the greatest common divisor g of v_0 and w_0.
 pub fn minkowski(alloc: Global, a: &Object, b: &Object) -> Result<FileObject, SumFail>
     requires first { IsReadable sum_reads a.now.state }
     requires second { IsReadable sum_reads b.now.state }

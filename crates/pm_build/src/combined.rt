@@ -98,7 +98,8 @@ pub(crate) fn both_rows(
     requires first { IsKnown (p ∷ []) a.now.state }
     requires second { IsKnown (p ∷ []) b.now.state }
     ensures rows { IfOk result (λ m. m.rows ≡ both_rows p a.now.state b.now.state) }
-    ensures cols { IfOk result (λ m. m.cols ≡ cols_over (product_cols a.now.state b.now.state) (both_rows p a.now.state b.now.state)) }
+    ensures cols { IfOk result (λ m. m.cols
+        ≡ cols_over (product_cols a.now.state b.now.state) (both_rows p a.now.state b.now.state)) }
 {
     let first = matrix_at(a, p);
     let second = matrix_at(b, p);
@@ -128,7 +129,8 @@ pub(crate) fn pyramid_points(alloc: Global, o: &Object) -> Result<Matrix, AllocE
 pub(crate) fn pyramid_lines(alloc: Global, o: &Object) -> Result<Matrix, AllocError>
     requires { IsKnown (LinealitySpace ∷ []) o.now.state }
     ensures rows { IfOk result (λ m. m.rows ≡ pyramid_lines o.now.state) }
-    ensures cols { IfOk result (λ m. m.cols ≡ cols_over (suc (cols_at o.now.state)) (pyramid_lines o.now.state)) }
+    ensures cols { IfOk result (λ m. m.cols
+        ≡ cols_over (suc (cols_at o.now.state)) (pyramid_lines o.now.state)) }
 {
     let lines = matrix_at(o, PropId::LinealitySpace);
     let n = cols_at(o);

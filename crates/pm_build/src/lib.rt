@@ -1,4 +1,5 @@
-//! New objects: the rows of standard polytopes, and of polytopes that are made of others.
+//! New objects: the rows of standard polytopes, and of polytopes that are made of others. It knows nothing of rules,
+//! clients and sessions.
 #![tactic(auto)]
 
 ghost use Rattle.pm_build.specs.Examples.{ConditionsAreRead, ObjectsAreRead, RowsAreRead};

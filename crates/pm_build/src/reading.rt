@@ -2,12 +2,12 @@
 
 ghost use Rattle.pm_object_type.specs.declared.object_type.ObjectType.TheVariants.{Polytope};
 ghost use Rattle.pm_props.specs.declared.property.PropId.TheVariants.{Points};
-ghost use Rattle.pm_types.specs.Forms.{first_is_below, is_below_nought, is_row};
+ghost use Rattle.pm_types.specs.Forms.{is_row};
 ghost use Rattle.std.specs.List.{list_all};
 ghost use Rattle.std.specs.Prelude.{◌≡◌};
 
-use pm_fraction::Fraction;
 use pm_matrix::Matrix;
+use pm_types::first_is_below;
 
 /// Whether each row can be a point of a polytope: none has a negative first entry.
 pub(crate) fn are_points(matrix: &Matrix) -> bool
@@ -19,19 +19,4 @@ pub(crate) fn are_points(matrix: &Matrix) -> bool
         }
     }
     true
-}
-
-fn first_is_below(row: &[Fraction]) -> bool
-    ensures { result ≡ first_is_below row.now }
-{
-    match row.first() {
-        Some(q) => is_below_nought(q.num()),
-        None => false,
-    }
-}
-
-fn is_below_nought(k: i128) -> bool
-    ensures { result ≡ is_below_nought k }
-{
-    k < 0
 }

@@ -44,7 +44,8 @@ pub(crate) fn simplex_rows(alloc: Global, d: usize) -> Result<Matrix, AllocError
     Ok(rows)
 }
 
-/// Whether there is a cyclic polytope of n points in d dimensions: d is at most 32, n is from d + 1 to `MOST_ROWS`, and n^d is in the range.
+/// Whether there is a cyclic polytope of n points in d dimensions: d is at most 32, n is from d + 1 to `MOST_ROWS`,
+/// and n^d is in the range.
 pub(crate) fn is_cyclic_size(d: u32, n: u32) -> bool
     ensures { result ≡ is_cyclic_size d n }
 {

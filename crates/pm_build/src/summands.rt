@@ -170,7 +170,8 @@ pub(crate) fn sum_lines(alloc: Global, a: &Object, b: &Object) -> Result<Matrix,
     requires second { IsKnown sum_reads b.now.state }
     requires columns { cols_at b.now.state ≡ cols_at a.now.state }
     ensures rows { IfOk result (λ m. m.rows ≡ sum_lines a.now.state b.now.state) }
-    ensures cols { IfOk result (λ m. m.cols ≡ cols_over (cols_at a.now.state) (sum_lines a.now.state b.now.state)) }
+    ensures cols { IfOk result (λ m. m.cols
+        ≡ cols_over (cols_at a.now.state) (sum_lines a.now.state b.now.state)) }
 {
     let mut rows = Matrix::new(alloc, cols_at(a));
     put_rows(&mut rows, matrix_at(a, PropId::LinealitySpace))?;

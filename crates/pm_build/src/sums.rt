@@ -2,15 +2,15 @@
 
 ghost use Rattle.pm_vector.specs.Numbers.{InRange};
 ghost use Rattle.pm_vector.specs.Rows.{entry};
-ghost use Rattle.pm_build.specs.SumSteps.{AreFactors, ColumnStays, IsOverFirst, IsSumBefore, IsSumRow, sum_entry};
+ghost use Rattle.pm_build.specs.SumSteps.{AreFactors, ColumnStays, IsSumBefore, IsSumRow, sum_entry};
 ghost use Rattle.pm_build.specs.Sums.{IsWideSum};
-ghost use Rattle.pm_fraction.specs.Fractions.{IsLowestTermsOf, ratio_of};
 ghost use Rattle.std.specs.Int.{◌∣◌};
 ghost use Rattle.std.specs.Prelude.{IfErr, IfOk, OnErr, OnOk, length, pos, unsigned_abs, ◌*ℤ◌, ◌<◌, ◌<ℤ◌, ◌≡◌, ◌≤◌};
 ghost use Rattle.pm_limits.specs.Limits.{most_columns};
 
 use crate::fails::SumFail;
 use pm_fraction::Fraction;
+use pm_types::over_first;
 use pm_vector::{Ints, Wide, gcd, plus, times};
 use std::alloc::{AllocError, Global};
 
@@ -96,32 +96,6 @@ fn sum_before(alloc: Global, f: Factors, v: &Ints, w: &Ints) -> Result<Ints, Sum
         }
     }
     Ok(row)
-}
-
-/// The quotient of two numbers of the range, of which the second is positive.
-fn quotient(number: i128, first: i128) -> Fraction
-    requires positive { pos 0 <ℤ first }
-    requires in_range { InRange number }
-    requires first_in_range { InRange first }
-    ensures { IsLowestTermsOf (ratio_of number first) result }
-{
-    let Ok(quotient) = Fraction::new(number, first) else {
-        unreachable!()
-    };
-    quotient
-}
-
-/// A row divided by its first entry.
-fn over_first(alloc: Global, row: &Ints) -> Result<Vec<Fraction>, AllocError>
-    requires some { 0 < length row.now }
-    requires first { pos 0 <ℤ entry row.now 0 }
-    ensures { IfOk result (λ v. IsOverFirst row.now v.items) }
-{
-    let mut fractions = Vec::new(alloc);
-    for k in 0..row.len() {
-        fractions.push(quotient(row.get(k), row.get(0)))?;
-    }
-    Ok(fractions)
 }
 
 /// The row of the sum of the points of two rows.

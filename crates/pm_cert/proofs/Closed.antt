@@ -19,7 +19,7 @@ use Rattle.pm_rules.specs.Certificates.{Within, IsCertificate}
 use Rattle.pm_rules.proofs.NeededNames.{useful_exactly}
 use Rattle.pm_rules.proofs.Opens.{enabled_from_open, open_from_enabled}
 use Rattle.pm_rules.proofs.Refutes.{refuted, bounded}
-use Rattle.pm_cert.specs.Claims.{Holds, GoesOn}
+use Rattle.pm_cert.specs.Claims.{IsTrueClaim, GoesOn}
 
 -- the first n rules go on from each row
 abbrev pub FirstGoOn : List Rule → PropSet → List RuleId → PropSet → List TableRow → Claim → ℕ → Type 0
@@ -64,6 +64,6 @@ module _ (book : List Rule) (names : PropSet) (barred : List RuleId) (held asked
   )
 
 pub claim_holds : (book : List Rule) (names : PropSet) (barred : List RuleId) (held asked : PropSet) (claim : Claim) (rows : List TableRow)
-    → IsCertificate book names barred held asked claim rows → Holds book names barred held asked claim
+    → IsCertificate book names barred held asked claim rows → IsTrueClaim book names barred held asked claim
 claim_holds book names barred held asked (Least least) rows h = bounded book names barred held asked least rows h
 claim_holds book names barred held asked NoChain rows h = λ chain leads. refuted book names barred held asked NoChain rows h chain leads tt

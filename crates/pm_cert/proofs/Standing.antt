@@ -17,7 +17,7 @@ use Rattle.pm_rules.specs.Useful.{FindsOne}
 use Rattle.pm_rules.specs.Certificates.{Within}
 use Rattle.pm_rules.proofs.NeededNames.{useful_exactly}
 use Rattle.pm_rules.proofs.Opens.{enabled_from_open, open_from_enabled}
-use Rattle.pm_cert.specs.Claims.{GoesOn, Stands, UpTo}
+use Rattle.pm_cert.specs.Claims.{GoesOn, StandsIn, UpTo}
 
 -- the first n rules lead on from the first standing rows, none of which ends; the next row does not stand
 pub record StandsSoFar (rules : List Rule) (names : PropSet) (barred : List RuleId) (asked needed : PropSet) (rows : List TableRow) (claim : Claim) (n standing : ℕ) : Type 0 where
@@ -25,7 +25,7 @@ pub record StandsSoFar (rules : List Rule) (names : PropSet) (barred : List Rule
   pub ends : UpTo standing (λ row. Within claim row.cost → IsSubset asked row.set → ⊥) rows
   pub onward : (id : RuleId) (rule : Rule) → id.0 < n → rule_at rules id ≡ Some rule → FindsOne names barred needed id rule
       → UpTo standing (GoesOn rows claim (step_of rule) rule.weight) rows
-  pub first : (row : TableRow) → slice_get rows standing ≡ Some row → Stands rules names barred asked rows claim row → ⊥
+  pub first : (row : TableRow) → slice_get rows standing ≡ Some row → StandsIn rules names barred asked rows claim row → ⊥
 
 some_same : {X : Type 0} (x y : X) → Some x ≡ Some y → x ≡ y
 some_same x y e = cc
@@ -46,7 +46,7 @@ module _ (rules : List Rule) (names : PropSet) (barred : List RuleId) (asked nee
     (exact : (p : PropId) → IsTrue (has needed p) ↔ Needed rules names barred asked p) where
   -- a row that stands leads on by each rule that finds a needed name
   pub goes_on_from_stands : (row : TableRow) (id : RuleId) (rule : Rule) → rule_at rules id ≡ Some rule → FindsOne names barred needed id rule
-      → Stands rules names barred asked rows claim row → GoesOn rows claim (step_of rule) rule.weight row
+      → StandsIn rules names barred asked rows claim row → GoesOn rows claim (step_of rule) rule.weight row
   goes_on_from_stands row id rule e finds h = record {
     onward = λ within opened. h.onward within id rule e ((useful_exactly rules names barred asked needed id rule exact).0 finds)
         (enabled_from_open names barred row.set id rule finds.in_use finds.allowed opened);
@@ -54,7 +54,7 @@ module _ (rules : List Rule) (names : PropSet) (barred : List RuleId) (asked nee
 
   -- all rules were gone through
   pub stands_in_the_end : (n standing : ℕ) → length rules ≤ n → StandsSoFar rules names barred asked needed rows claim n standing
-      → UpTo standing (Stands rules names barred asked rows claim) rows
+      → UpTo standing (StandsIn rules names barred asked rows claim) rows
   stands_in_the_end n standing all h = λ k row l e. record {
     onward = λ within id rule is useful enabled.
         (h.onward id rule (let w : id.0 < length rules = slice_get_within rules id.0 rule is in omega arith) is ((useful_exactly rules names barred asked needed id rule exact).1 useful) k row l e).onward within

@@ -11,7 +11,7 @@ ghost use Rattle.pm_rules.specs.Steps.{IsOpen, step_of};
 ghost use Rattle.pm_rules.specs.Useful.{FindsOne};
 ghost use Rattle.pm_rules.specs.Certificates.{Within, EndsClaim, HasRow, IsBefore, IsCertificate};
 ghost use Rattle.pm_rules.specs.declared.table.TableRow.{TableRow};
-ghost use Rattle.pm_cert.specs.Claims.{Holds, GoesOn, Stands, UpTo};
+ghost use Rattle.pm_cert.specs.Claims.{IsTrueClaim, GoesOn, StandsIn, UpTo};
 ghost use Rattle.pm_limits.specs.Limits.{most_rules};
 
 use crate::halving::{are_in_order, has_row_in_order, is_at_most_sum};
@@ -29,7 +29,7 @@ pub fn verify(
     c: Claim,
 ) -> bool
     ensures exact { IsTrue result ↔ IsCertificate b.now names barred.now held asked c t.now.rows.items }
-    ensures claim { IsTrue result → Holds b.now names barred.now held asked c }
+    ensures claim { IsTrue result → IsTrueClaim b.now names barred.now held asked c }
 {
     verify_by_rules(b.rules(), names, held, barred, asked, t.rows.as_slice(), c)
 }
@@ -46,7 +46,7 @@ pub fn verify_by_rules(
 ) -> bool
     requires { length rules.now ≤ most_rules }
     ensures exact { IsTrue result ↔ IsCertificate rules.now names barred.now held asked c rows.now }
-    ensures claim { IsTrue result → Holds rules.now names barred.now held asked c }
+    ensures claim { IsTrue result → IsTrueClaim rules.now names barred.now held asked c }
 {
     let needed = needed(rules, names, barred, asked);
     let in_order = are_in_order(rows);
@@ -65,8 +65,9 @@ pub fn standing_rows(
 ) -> usize
     requires { length rules.now ≤ most_rules }
     ensures within { result ≤ length rows.now }
-    ensures stand { UpTo result (Stands rules.now names barred.now asked rows.now c) rows.now }
-    ensures first { (row : TableRow) → slice_get rows.now result ≡ Some row → Stands rules.now names barred.now asked rows.now c row → ⊥ }
+    ensures stand { UpTo result (StandsIn rules.now names barred.now asked rows.now c) rows.now }
+    ensures first { (row : TableRow) → slice_get rows.now result ≡ Some row
+        → StandsIn rules.now names barred.now asked rows.now c row → ⊥ }
 {
     let needed = needed(rules, names, barred, asked);
     let in_order = are_in_order(rows);
@@ -83,7 +84,8 @@ pub fn standing_rows(
 fn ending_nowhere(rows: &[TableRow], asked: PropSet, c: Claim) -> usize
     ensures within { result ≤ length rows.now }
     ensures each { UpTo result (λ row. Within c row.cost → IsSubset asked row.set → ⊥) rows.now }
-    ensures first { (row : TableRow) → slice_get rows.now result ≡ Some row → Within c row.cost × IsSubset asked row.set }
+    ensures first { (row : TableRow) → slice_get rows.now result ≡ Some row
+        → Within c row.cost × IsSubset asked row.set }
 {
     for i in 0..rows.len() {
         if is_within(c, rows[i].cost) && asked.is_subset(rows[i].set) {
@@ -106,7 +108,8 @@ fn going_on(
     requires order { IsTrue in_order → AllPairs IsBefore rows.now }
     ensures within { result ≤ most }
     ensures each { UpTo result (GoesOn rows.now c step.now weight) rows.now }
-    ensures first { (row : TableRow) → result < most → slice_get rows.now result ≡ Some row → GoesOn rows.now c step.now weight row → ⊥ }
+    ensures first { (row : TableRow) → result < most → slice_get rows.now result ≡ Some row
+        → GoesOn rows.now c step.now weight row → ⊥ }
 {
     for i in 0..most {
         if !goes_on(rows, in_order, c, step, weight, rows[i]) {
@@ -136,7 +139,8 @@ fn begins_and_ends(rows: &[TableRow], held: PropSet, asked: PropSet, c: Claim) -
 
 /// Whether the table has a row for the names held at the start, if it needs one.
 pub fn has_start(rows: &[TableRow], held: PropSet, c: Claim) -> bool
-    ensures { IsTrue result ↔ (Within c no_cost → Contains rows.now (record { set = held; cost = no_cost })) }
+    ensures { IsTrue result
+        ↔ (Within c no_cost → Contains rows.now (record { set = held; cost = no_cost })) }
 {
     let start = TableRow {
         set: held,
@@ -164,7 +168,8 @@ fn is_closed(
 ) -> bool
     requires few { length rules.now ≤ most_rules }
     requires order { IsTrue in_order → AllPairs IsBefore rows.now }
-    ensures { IsTrue result ↔ ((id : RuleId) (rule : Rule) → rule_at rules.now id ≡ Some rule → FindsOne names barred.now needed id rule
+    ensures { IsTrue result ↔ ((id : RuleId) (rule : Rule) → rule_at rules.now id ≡ Some rule
+        → FindsOne names barred.now needed id rule
         → All (GoesOn rows.now c (step_of rule) rule.weight) rows.now) }
 {
     for (i, rule) in rules.iter().enumerate() {

@@ -1,4 +1,5 @@
 -- The examples of too many cells hold.
+use Rattle.pm_client.proofs.NoRows.{parts_without_rows}
 use Rattle.pm_client.specs.Examples.{CellsAreRead}
 use Rattle.pm_props.specs.declared.property.PropId.TheVariants.{LinealitySpace, Vertices}
 use Rattle.std.proofs.Common.{ap, arith, refl, sym, true≢false}
@@ -15,18 +16,7 @@ cells_are_read = record {
       first = LinealitySpace;
       second = Vertices;
       parts = refl;
-      read = record {
-        first_cols = 0;
-        second_cols = 0;
-        first_rows = [];
-        second_rows = [];
-        reads_first = refl;
-        reads_second = refl;
-        ys = [];
-        first_primitive = record { count = refl; each = λ i l. absurd (omega arith); multiple = λ i l. absurd (omega arith) };
-        second_primitive = record { count = refl; each = λ i l. absurd (omega arith); multiple = λ i l. absurd (omega arith) };
-        added = refl;
-      };
+      read = parts_without_rows _ LinealitySpace Vertices [] refl refl refl;
     };
     shown = m;
   };

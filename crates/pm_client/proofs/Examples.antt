@@ -1,4 +1,5 @@
 -- The examples of what is eliminated hold.
+use Rattle.pm_client.proofs.NoRows.{parts_without_rows}
 use Rattle.pm_vector.proofs.ConeLaws.{in_line_times, none_to_zero}
 use Rattle.pm_vector.proofs.Lists.{here}
 use Rattle.pm_vector.specs.Cones.{InSpan}
@@ -20,18 +21,7 @@ use lib.IntN.{pos}
 
 -- ---- the view without rows
 parts_of : ArePartsOf no_rows Equations Inequalities [] (single 1 ∷ [])
-parts_of = record {
-  first_cols = 0;
-  second_cols = 0;
-  first_rows = [];
-  second_rows = [];
-  reads_first = refl;
-  reads_second = refl;
-  ys = [];
-  first_primitive = record { count = refl; each = λ i l. absurd (omega arith); multiple = λ i l. absurd (omega arith) };
-  second_primitive = record { count = refl; each = λ i l. absurd (omega arith); multiple = λ i l. absurd (omega arith) };
-  added = refl;
-}
+parts_of = parts_without_rows no_rows Equations Inequalities (single 1 ∷ []) refl refl refl
 
 parts : AreParts no_rows [] (single 1 ∷ [])
 parts = record { first = Equations; second = Inequalities; parts = refl; read = parts_of }

@@ -2,7 +2,7 @@
 use Rattle.pm_vector.proofs.Lists.{Contains_among, among_Contains, among_append, here, there}
 use Rattle.pm_vector.specs.Rows.{IsZero, Row}
 use Rattle.pm_client.proofs.ReadRows.{row_of}
-use Rattle.pm_client.specs.Sound.{AreParts, ArePartsOf, AreRowsOf, AreSetsOf, AreTold, EliminatesIn, FailsRightly, HoldsOf, IsDoubleListOf, IsRowList, IsRowOf, IsWideElimination, IsWideFeasibility, added_rows, determining_rows, double_list, eliminated_by, enlarging_rows, fail_of, fail_of_double, fail_of_program, fail_of_thin, first_part, flat_basis_and_row, flat_rows, row_list, IsConeList, cone_rows, has_way, doubling, feasibility, products, determined_rays, determined_facets, facet_count}
+use Rattle.pm_client.specs.Sound.{AreParts, ArePartsOf, AreRowsOf, AreSetsOf, TellLines, EliminatesIn, FailsRightly, HoldsOf, IsDoubleListOf, IsRowList, IsRowOf, IsWideElimination, IsWideFeasibility, added_rows, determining_rows, double_list, eliminated_by, enlarging_rows, fail_of, fail_of_double, fail_of_program, fail_of_thin, first_part, flat_basis_and_row, flat_rows, row_list, IsConeList, cone_rows, has_way, doubling, feasibility, products, determined_rays, determined_facets, facet_count}
 use Rattle.pm_dd.specs.Refusals.{IsEliminationFail, IsShown, ShowsMany, ShowsWide}
 use Rattle.pm_dd.specs.declared.fails.DdFail.{DdFail}
 use Rattle.pm_dd.specs.declared.fails.DdFail.TheVariants as double
@@ -103,7 +103,7 @@ module _ (v : ViewSeen) (named : IsTrue (has_way v.kind.name doubling)) (takes :
 
 -- ---- thinning
 -- parts to which nothing is added
-parts_of : (v : ViewSeen) (first second : PropId) (L G : List Row) → AreRowsOf v first L → AreRowsOf v second G → added_rows v.of v.cols second ≡ [] → ArePartsOf v first second L G
+pub parts_of : (v : ViewSeen) (first second : PropId) (L G : List Row) → AreRowsOf v first L → AreRowsOf v second G → added_rows v.of v.cols second ≡ [] → ArePartsOf v first second L G
 parts_of v first second L G l g none = record {
   first_cols = l.cols;
   second_cols = g.cols;
@@ -151,7 +151,7 @@ one_of A E x c = elim (among_append A E (among_Contains (A ++ E) c)) [ inl i ↦
 
 module _ (v : ViewSeen) (thinning_takes : eliminated_by v.kind.name ≡ flat_rows ∷ flat_basis_and_row ∷ []) (takes_products : IsTrue (has_way v.kind.name products)) where
   -- on an elimination
-  wide_reduction : (L G A : List Row) → AreTold v L G A → (e : EliminationStep) → IsWideReduction v.cols G L A e → IsWideElimination v e
+  wide_reduction : (L G A : List Row) → TellLines v L G A → (e : EliminationStep) → IsWideReduction v.cols G L A e → IsWideElimination v e
   wide_reduction L G A told e h = elim h.listed [
     | inl flat ↦ record { list = flat_rows; named = rw thinning_takes (Contains_among (here {xs = flat_basis_and_row ∷ []})); rows = h.rows; listed = record { lines = L; rows = G; others = A; read = told; flat = flat }; shown = h.shown }
     | inr flat ↦ record { list = flat_basis_and_row; named = rw thinning_takes (Contains_among (there (here {xs = []}))); rows = h.rows; listed = record { lines = L; rows = G; others = A; read = told; flat = flat }; shown = h.shown }
@@ -212,7 +212,7 @@ module _ (v : ViewSeen) (kind : v.kind ≡ standard_kind client.FeasibleLp) (E A
 
 -- ---- rows from sets
 module _ (v : ViewSeen) (sets_take : eliminated_by v.kind.name ≡ row_list ∷ determining_rows ∷ []) where
-  wide_by_sets : (first second : PropId) (E A : List Row) (in_sets : List (List ℕ)) → AreSetsOf v first second E A in_sets → added_rows v.of v.cols second ≡ [] → (e : EliminationStep) → from_sets.IsWideElimination v.cols E A in_sets e → IsWideElimination v e
+  wide_by_sets : (first second : PropId) (E A : List Row) (in_sets : List (List ℕ)) → AreSetsOf v first second E A in_sets → added_rows v.of v.cols second ≡ [] → (e : EliminationStep) → from_sets.IsWideOfSets v.cols E A in_sets e → IsWideElimination v e
   wide_by_sets first second E A in_sets read none e h = elim h.listed [
     | inl both ↦ record {
       list = row_list;

@@ -1,6 +1,6 @@
 -- The examples of optima of linear programs hold.
+use Rattle.pm_client.proofs.NoRows.{parts_without_rows, none_primitive}
 use Rattle.pm_client.proofs.ProgramExamples.{no_optimum}
-use Rattle.pm_client.proofs.ThinningExamples.{none_primitive}
 use Rattle.pm_client.specs.Examples.{OptimaAreRead, no_rows, nothing, of_program, single}
 use Rattle.pm_client.specs.Sound.{ArePartsOf, optimum, IsWideAtRays, IsWideDual, IsWideFace, IsWideOptimum, ReadsObjective, has_way, at_rays, at_face, dual, sought}
 use Rattle.pm_geom.specs.declared.evidence.Evidence.TheVariants.{E4}
@@ -18,32 +18,10 @@ use Rattle.std.specs.Prelude.{List, Some, [], codes, ℕ, ◌∷◌, ◌≡◌}
 
 -- ---- what was read
 read_rows : (name : List ℕ) → ArePartsOf (of_program name) Equations Inequalities [] (single 1 ∷ [])
-read_rows name = record {
-  first_cols = 0;
-  second_cols = 0;
-  first_rows = [];
-  second_rows = [];
-  reads_first = refl;
-  reads_second = refl;
-  ys = [];
-  first_primitive = none_primitive;
-  second_primitive = none_primitive;
-  added = refl;
-}
+read_rows name = parts_without_rows (of_program name) Equations Inequalities (single 1 ∷ []) refl refl refl
 
 read_facets : (name : List ℕ) → ArePartsOf (of_program name) AffineHull Facets [] []
-read_facets name = record {
-  first_cols = 0;
-  second_cols = 0;
-  first_rows = [];
-  second_rows = [];
-  reads_first = refl;
-  reads_second = refl;
-  ys = [];
-  first_primitive = none_primitive;
-  second_primitive = none_primitive;
-  added = refl;
-}
+read_facets name = parts_without_rows (of_program name) AffineHull Facets [] refl refl refl
 
 read_objective : (name : List ℕ) → ReadsObjective (of_program name) (nothing ∷ [])
 read_objective name = (1, refl)

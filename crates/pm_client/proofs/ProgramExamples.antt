@@ -1,10 +1,11 @@
 -- The examples of linear programs hold.
+use Rattle.pm_client.proofs.NoRows.{none_primitive}
 use Rattle.pm_vector.proofs.ConeLaws.{dot_in}
 use Rattle.pm_vector.proofs.Lists.{Among, Contains_among, here, there}
 use Rattle.pm_vector.specs.Cones.{InCone}
 use Rattle.pm_vector.specs.Rows.{Row, dot, opposite}
 use Rattle.pm_vector.specs.Bases.{row_at}
-use Rattle.pm_client.proofs.ThinningExamples.{no_end, no_others, none_primitive}
+use Rattle.pm_client.proofs.ThinningExamples.{no_end, no_others}
 use Rattle.pm_client.specs.Examples.{ProgramsAreRead, no_rows, single, without_rows}
 use Rattle.pm_client.specs.Sound.{AreParts, ArePartsOf, IsLineList, IsWideFeasibility, IsWideOptimum, IsWideProgramOf, IsWideThinningOf, are_parts, finds_optimum}
 use Rattle.pm_dd.proofs.ZeroRows.{no_basis}

@@ -1,4 +1,5 @@
 -- The examples of thinning and of rows from sets hold.
+use Rattle.pm_client.proofs.NoRows.{parts_without_rows, none_primitive}
 use Rattle.pm_vector.proofs.ConeLaws.{in_line_times}
 use Rattle.pm_vector.proofs.Lists.{Contains_among, here}
 use Rattle.pm_vector.proofs.Ring.{ring}
@@ -10,7 +11,7 @@ use Rattle.pm_elim.specs.NullSpaces.{IsNullBasis}
 use Rattle.pm_incidence.specs.FromSets.{holders_from, turned}
 use Rattle.pm_incidence.specs.Thinning.{IsBasisAndRow, flat_group}
 use Rattle.pm_client.specs.Examples.{ThinningIsRead, no_points, no_vertices, single}
-use Rattle.pm_client.specs.Sound.{AreRowsOf, ArePartsOf, AreSetsOf, AreTold, IsDeterminingList, Reads, are_parts, are_told}
+use Rattle.pm_client.specs.Sound.{AreRowsOf, ArePartsOf, AreSetsOf, TellLines, IsDeterminingList, ReadsMatrix, are_parts, are_told}
 use Rattle.pm_incidence.proofs.Described.{units_echelon}
 use Rattle.pm_matrix.specs.FractionRows.{ArePrimitiveRowsOf}
 use Rattle.pm_object.specs.Reading.{ViewSeen, fact_of}
@@ -25,10 +26,7 @@ use Rattle.std.specs.Prelude.{List, None, Option, Some, [], length, map, ℕ, �
 use lib.IntN.{pos, ℤ, ◌*ℤ◌}
 
 -- ---- what the view has
-pub none_primitive : ArePrimitiveRowsOf [] []
-none_primitive = record { count = refl; each = λ i l. absurd (omega arith); multiple = λ i l. absurd (omega arith) }
-
-none_of : (p : PropId) → Reads no_points p 0 [] → AreRowsOf no_points p []
+none_of : (p : PropId) → ReadsMatrix no_points p 0 [] → AreRowsOf no_points p []
 none_of p reads = record { cols = 0; rows = []; reads = reads; primitive = none_primitive }
 
 value_rows : PropertyValue → List (List Ratio)
@@ -36,7 +34,7 @@ value_rows (matrix n rows) = rows
 value_rows v = []
 
 -- a value without rows has no others
-pub no_others : (v : ViewSeen) (p : PropId) (n : ℕ) (rows : List (List Ratio)) (X : List Row) → Reads v p 0 [] → Reads v p n rows → ArePrimitiveRowsOf rows X → X ≡ []
+pub no_others : (v : ViewSeen) (p : PropId) (n : ℕ) (rows : List (List Ratio)) (X : List Row) → ReadsMatrix v p 0 [] → ReadsMatrix v p n rows → ArePrimitiveRowsOf rows X → X ≡ []
 no_others v p n [] [] h reads primitive = refl
 no_others v p n [] (x ∷ X) h reads primitive = absurd (let c = primitive.count in omega arith)
 no_others v p n (r ∷ rows) X h reads primitive = absurd (different (sym h ∙ reads))
@@ -44,22 +42,11 @@ no_others v p n (r ∷ rows) X h reads primitive = absurd (different (sym h ∙ 
     different : Some (matrix 0 []) ≡ Some (matrix n (r ∷ rows)) → ⊥
     different e = cc
 
-none_read : (p : PropId) (A : List Row) → Reads no_points p 0 [] → AreRowsOf no_points p A → A ≡ []
+none_read : (p : PropId) (A : List Row) → ReadsMatrix no_points p 0 [] → AreRowsOf no_points p A → A ≡ []
 none_read p A h r = no_others no_points p r.cols r.rows A h r.reads r.primitive
 
 parts_read : ArePartsOf no_points InputLineality Points [] []
-parts_read = record {
-  first_cols = 0;
-  second_cols = 0;
-  first_rows = [];
-  second_rows = [];
-  reads_first = refl;
-  reads_second = refl;
-  ys = [];
-  first_primitive = none_primitive;
-  second_primitive = none_primitive;
-  added = refl;
-}
+parts_read = parts_without_rows no_points InputLineality Points [] refl refl refl
 
 -- ---- the rows in the lineality
 flat_none : (second other first : PropId) (L G A X : List Row) → are_parts first second ≡ true → are_told second other ≡ true → ArePartsOf no_points first second L G → X ≡ flat_group G L A → X ≡ []
@@ -74,20 +61,9 @@ flat_none q r p L G A X parts told read flat = absurd (true≢false (sym told))
 
 -- ---- x0 >= 0 where there is no vertex
 added_parts : ArePartsOf no_vertices Equations Inequalities [] (single 1 ∷ [])
-added_parts = record {
-  first_cols = 0;
-  second_cols = 0;
-  first_rows = [];
-  second_rows = [];
-  reads_first = refl;
-  reads_second = refl;
-  ys = [];
-  first_primitive = none_primitive;
-  second_primitive = none_primitive;
-  added = refl;
-}
+added_parts = parts_without_rows no_vertices Equations Inequalities (single 1 ∷ []) refl refl refl
 
-added_told : AreTold no_vertices [] (single 1 ∷ []) []
+added_told : TellLines no_vertices [] (single 1 ∷ []) []
 added_told = record { first = Equations; second = Inequalities; other = Vertices; parts = refl; told = refl; read = added_parts; others = record { cols = 0; rows = []; reads = refl; primitive = none_primitive } }
 
 added_basis : IsBasisAndRow 1 (single 1 ∷ []) [] [] (single 1 ∷ single 1 ∷ [])

@@ -60,3 +60,7 @@ some_among {f} p (there {y = g} {xs} i) e = by (same_property p g.property) (som
 
 pub none_among : (p : PropId) (facts : List Fact) → fact_of p facts ≡ None → (f : Fact) → Contains facts f → ¬ (f.property ≡ p)
 none_among p facts h f c e = true≢false (sym (some_among p (among_Contains facts c) e) ∙ ap is_some h)
+
+-- the view is of no fan where one of these sources is of no fan
+pub no_fan_of : (v : ViewSeen) (ps : List PropId) (p : PropId) → IsView v → v.kind.sources ≡ set_of ps → list_any (λ q. eqb (number q) (number p)) ps ≡ true → of_fans (row p).tables ≡ false → has_program p ≡ false → ¬ (v.of ≡ Fan)
+no_fan_of v ps p view sources listed absent alone = not_fan v p view (source_named v.kind p (has_listed v.kind.sources ps p sources ∙ listed)) absent alone

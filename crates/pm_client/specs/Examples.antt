@@ -32,7 +32,13 @@ use lib.IntN.{pos}
 
 -- a kind of this name and these sets
 abbrev pub named : List ℕ → ℕ → ℕ → Kind
-named name targets sources = record { name = name; targets = targets; sources = sources; must = 0; must_not = 0 }
+named name targets sources = record {
+  name = name;
+  targets = targets;
+  sources = sources;
+  must = 0;
+  must_not = 0;
+}
 
 -- three kinds
 abbrev pub ranks : Kind
@@ -127,7 +133,8 @@ pub record DoublesAreRead : Type 0 where
   pub double : IsEliminated double_list no_rows (single 1 ∷ [])
   pub not_double : ¬ (IsEliminated double_list no_rows [])
 
--- a view of a cone with one column: POINTS, FACETS and their other halves have no row, and no facet has a set with the one ray
+-- a view of a cone with one column: POINTS, FACETS and their other halves have no row, and no facet has a set with
+-- the one ray
 abbrev pub no_points : ViewSeen
 no_points = record {
   of = Cone;
@@ -142,7 +149,8 @@ no_points = record {
       ∷ [];
 }
 
--- a view of a polytope with one column: EQUATIONS, INEQUALITIES, VERTICES and LINEALITY_SPACE have no row, and x0 >= 0 is added
+-- a view of a polytope with one column: EQUATIONS, INEQUALITIES, VERTICES and LINEALITY_SPACE have no row, and x0 >=
+-- 0 is added
 abbrev pub no_vertices : ViewSeen
 no_vertices = record {
   of = Polytope;
@@ -213,18 +221,26 @@ pub record ProgramsAreRead : Type 0 where
   pub basis_and_row : IsEliminated line_basis_and_row no_rows (single 1 ∷ [])
   pub no_basis_and_row : ¬ (IsEliminated line_basis_and_row no_rows [])
   -- evidence is of a program of what was read, with what is added
-  pub thinned : (e : Evidence) → IsWideThinning 1 (single 1 ∷ []) [] e → IsWideThinningOf (without_rows (codes "thin_inequalities_lp")) e
-  pub these_rows : (e : Evidence) → IsWideThinningOf (without_rows (codes "thin_inequalities_lp")) e → IsWideThinning 1 (single 1 ∷ []) [] e
-  pub feasible : (e : Evidence) → ShowsProgram (single 1 ∷ []) [] (no_objective 1) e → IsWideFeasibility (without_rows (codes "feasible_lp")) e
-  pub this_program : (e : Evidence) → IsWideFeasibility (without_rows (codes "feasible_lp")) e → ShowsProgram (single 1 ∷ []) [] (no_objective 1) e
+  pub thinned : (e : Evidence) → IsWideThinning 1 (single 1 ∷ []) [] e
+      → IsWideThinningOf (without_rows (codes "thin_inequalities_lp")) e
+  pub these_rows : (e : Evidence) → IsWideThinningOf (without_rows (codes "thin_inequalities_lp")) e
+      → IsWideThinning 1 (single 1 ∷ []) [] e
+  pub feasible : (e : Evidence) → ShowsProgram (single 1 ∷ []) [] (no_objective 1) e
+      → IsWideFeasibility (without_rows (codes "feasible_lp")) e
+  pub this_program : (e : Evidence) → IsWideFeasibility (without_rows (codes "feasible_lp")) e
+      → ShowsProgram (single 1 ∷ []) [] (no_objective 1) e
   -- such evidence holds of the view
-  pub held : (basis : List ℕ) (enter leave row column : ℕ) → ShowsProgram (single 1 ∷ []) [] (no_objective 1) (E3 basis enter leave row column) → HoldsOf (E3 basis enter leave row column) (without_rows (codes "feasible_lp"))
-  pub not_held : (basis : List ℕ) (enter leave row column : ℕ) → ¬ (HoldsOf (E3 basis enter leave row column) no_rows)
+  pub held : (basis : List ℕ) (enter leave row column : ℕ)
+      → ShowsProgram (single 1 ∷ []) [] (no_objective 1) (E3 basis enter leave row column)
+      → HoldsOf (E3 basis enter leave row column) (without_rows (codes "feasible_lp"))
+  pub not_held : (basis : List ℕ) (enter leave row column : ℕ)
+      → ¬ (HoldsOf (E3 basis enter leave row column) no_rows)
   -- a client of another name has no program, and of no client a product is evidence of one
   pub other_client : (e : Evidence) → ¬ (IsWideProgramOf no_rows e)
   pub product : (name : List ℕ) → ¬ (IsWideProgramOf (without_rows name) (E4 (single 1) (single 1)))
   -- too many facets are among the rows that were read, with what is added
-  pub crowded : (places : List ℕ) → AreManyFacets Polytope 1 [] [] places → IsCrowdedThinning (without_rows (codes "thin_inequalities_lp")) places
+  pub crowded : (places : List ℕ) → AreManyFacets Polytope 1 [] [] places
+      → IsCrowdedThinning (without_rows (codes "thin_inequalities_lp")) places
   -- what such a failure is to a client
   pub wide : (e : Evidence) → fail_of_program (linear.Wide e) ≡ fail.Failed e
   pub memory : fail_of_program linear.Memory ≡ fail.Memory
@@ -233,7 +249,8 @@ pub record ProgramsAreRead : Type 0 where
 abbrev pub nothing : Ratio
 nothing = record { num = pos 0; den = pos 1 }
 
--- a view of a linear program of a polytope with one column for a client of this name: the half-spaces, rays and lines have no row, the objective is 0, and so is its greatest value
+-- a view of a linear program of a polytope with one column for a client of this name: the half-spaces, rays and lines
+-- have no row, the objective is 0, and so is its greatest value
 abbrev pub of_program : List ℕ → ViewSeen
 of_program name = record {
   of = Polytope;
@@ -269,19 +286,27 @@ pub record OptimaAreRead : Type 0 where
   pub other_objective : ¬ (ReadsObjective (of_program (codes "lp_max")) [])
   pub no_objective : (c : List Ratio) → ¬ (ReadsObjective no_rows c)
   -- evidence is of the program of what was read: x0 >= 0 is added to INEQUALITIES, and not to FACETS
-  pub of_rows : (e : Evidence) → ShowsProgram (single 1 ∷ []) [] (nothing ∷ []) e → IsWideOptimum (of_program (codes "lp_max_rows")) e
-  pub of_facets : (e : Evidence) → ShowsProgram [] [] (nothing ∷ []) e → IsWideOptimum (of_program (codes "lp_max")) e
+  pub of_rows : (e : Evidence) → ShowsProgram (single 1 ∷ []) [] (nothing ∷ []) e
+      → IsWideOptimum (of_program (codes "lp_max_rows")) e
+  pub of_facets : (e : Evidence) → ShowsProgram [] [] (nothing ∷ []) e
+      → IsWideOptimum (of_program (codes "lp_max")) e
   pub not_optimum : (e : Evidence) → ¬ (IsWideOptimum no_rows e)
-  pub held : (basis : List ℕ) (enter leave row column : ℕ) → ShowsProgram [] [] (nothing ∷ []) (E3 basis enter leave row column) → HoldsOf (E3 basis enter leave row column) (of_program (codes "lp_max"))
+  pub held : (basis : List ℕ) (enter leave row column : ℕ)
+      → ShowsProgram [] [] (nothing ∷ []) (E3 basis enter leave row column)
+      → HoldsOf (E3 basis enter leave row column) (of_program (codes "lp_max"))
   -- or of a dual of it, or of the rays that were read
-  pub of_dual : (e : Evidence) → ShowsDualRow [] [] (nothing ∷ []) e → IsWideDual (of_program (codes "lp_max")) e
+  pub of_dual : (e : Evidence) → ShowsDualRow [] [] (nothing ∷ []) e
+      → IsWideDual (of_program (codes "lp_max")) e
   pub not_dual : (e : Evidence) → ¬ (IsWideDual no_rows e)
-  pub of_rays : (e : Evidence) → ShowsValue Maximal (nothing ∷ []) [] [] e → IsWideAtRays (of_program (codes "lp_max_v")) e
+  pub of_rays : (e : Evidence) → ShowsValue Maximal (nothing ∷ []) [] [] e
+      → IsWideAtRays (of_program (codes "lp_max_v")) e
   pub not_rays : (e : Evidence) → ¬ (IsWideAtRays no_rows e)
-  pub of_face : (e : Evidence) → ShowsFace Maximal (nothing ∷ []) nothing [] e → IsWideFace (of_program (codes "lp_max_face")) e
+  pub of_face : (e : Evidence) → ShowsFace Maximal (nothing ∷ []) nothing [] e
+      → IsWideFace (of_program (codes "lp_max_face")) e
   -- no least value was read
   pub not_face : (e : Evidence) → ¬ (IsWideFace (of_program (codes "lp_min_face")) e)
-  pub held_product : (x y : Row) → ShowsDualRow [] [] (nothing ∷ []) (E4 x y) → HoldsOf (E4 x y) (of_program (codes "lp_max"))
+  pub held_product : (x y : Row) → ShowsDualRow [] [] (nothing ∷ []) (E4 x y)
+      → HoldsOf (E4 x y) (of_program (codes "lp_max"))
   pub not_held : (x y : Row) → ¬ (IsWideForPrograms no_rows (E4 x y))
 
 -- a view of a cone with one column for a client of this name, which reads these sets
@@ -300,12 +325,17 @@ without_sets = record { of = Cone; cols = 1; kind = named (codes "faces") 1 1; s
 
 pub record LatticesAreRead : Type 0 where
   -- the evidence is of the sets that the client read: more meets of these than a lattice may have
-  pub crowded : (index : IndexSets) (faces : List (List ℕ)) → AreTooManyMeets index.cols (sets_of index.rows) faces → IsCrowdedLattice (with_sets (codes "faces") index) faces
-  pub these_sets : (index : IndexSets) (faces : List (List ℕ)) → IsCrowdedLattice (with_sets (codes "faces") index) faces → AreTooManyMeets index.cols (sets_of index.rows) faces
+  pub crowded : (index : IndexSets) (faces : List (List ℕ))
+      → AreTooManyMeets index.cols (sets_of index.rows) faces
+      → IsCrowdedLattice (with_sets (codes "faces") index) faces
+  pub these_sets : (index : IndexSets) (faces : List (List ℕ))
+      → IsCrowdedLattice (with_sets (codes "faces") index) faces
+      → AreTooManyMeets index.cols (sets_of index.rows) faces
   pub few : ¬ (IsCrowdedLattice (with_sets (codes "faces") two_sets) ([] ∷ (0 ∷ []) ∷ []))
   pub none_read : (faces : List (List ℕ)) → ¬ (IsCrowdedLattice without_sets faces)
   -- a client of another name has no such evidence
-  pub other_client : (index : IndexSets) (faces : List (List ℕ)) → ¬ (IsCrowdedLattice (with_sets (codes "f_vector") index) faces)
+  pub other_client : (index : IndexSets) (faces : List (List ℕ))
+      → ¬ (IsCrowdedLattice (with_sets (codes "f_vector") index) faces)
   -- what such a failure is to a client
   pub many : (e : Evidence) → fail_of_lattice (closing.Many e) ≡ fail.Failed e
   pub memory : fail_of_lattice closing.Memory ≡ fail.Memory
@@ -328,11 +358,13 @@ nothing_placed = record { of = Cone; cols = 1; kind = named (codes "placing") 1 
 
 pub record CellsAreRead : Type 0 where
   -- the evidence is of the rays and lines that the client read: more cells of a front of these than most_rows
-  pub crowded : (front : ℕ) (cells : List (List ℕ)) → AreCrowdedCells 1 [] [] front cells → IsCrowdedPlacing (without_rays (codes "placing")) front cells
+  pub crowded : (front : ℕ) (cells : List (List ℕ)) → AreCrowdedCells 1 [] [] front cells
+      → IsCrowdedPlacing (without_rays (codes "placing")) front cells
   pub few : (front : ℕ) → ¬ (IsCrowdedPlacing (without_rays (codes "placing")) front ([] ∷ (0 ∷ []) ∷ []))
   pub none_read : (front : ℕ) (cells : List (List ℕ)) → ¬ (IsCrowdedPlacing nothing_placed front cells)
   -- a client of another name has no such evidence
-  pub other_client : (front : ℕ) (cells : List (List ℕ)) → ¬ (IsCrowdedPlacing (without_rays (codes "dd_facets_v")) front cells)
+  pub other_client : (front : ℕ) (cells : List (List ℕ))
+      → ¬ (IsCrowdedPlacing (without_rays (codes "dd_facets_v")) front cells)
 
 -- a view of a fan with one column, which reads these rays and lines, and one maximal cone, of the second ray
 abbrev pub of_fan : List (List Ratio) → List (List Ratio) → ViewSeen
@@ -357,8 +389,10 @@ pub record SpansCone (rays lines : List (List Ratio)) (X : List Row) : Type 0 wh
 
 pub record ConesAreRead : Type 0 where
   -- the lines, and then the ray that the set names, and nothing else
-  pub cone : (rays lines : List (List Ratio)) (X : List Row) → SpansCone rays lines X → IsEliminated cone_rows (of_fan rays lines) X
-  pub only_cone : (rays lines : List (List Ratio)) (X : List Row) → IsConeList (of_fan rays lines) X → SpansCone rays lines X
+  pub cone : (rays lines : List (List Ratio)) (X : List Row) → SpansCone rays lines X
+      → IsEliminated cone_rows (of_fan rays lines) X
+  pub only_cone : (rays lines : List (List Ratio)) (X : List Row) → IsConeList (of_fan rays lines) X
+      → SpansCone rays lines X
   pub none_read : (X : List Row) → ¬ (IsConeList no_rows X)
   -- what clients eliminate, by their names
   pub of_cones : eliminated_by (codes "fan_dims") ≡ cone_rows ∷ []

@@ -73,8 +73,8 @@ pub record IsRowOf (v : ViewSeen) (of_kind : PropId → Bool) (x : Row) : Type 0
   pub primitive : IsPrimitive x
 
 -- the view has the matrix of these rows, with the stated column count n, as its value of the property
-abbrev pub Reads : ViewSeen → PropId → ℕ → List (List Ratio) → Type 0
-Reads v p n rows = fact_of p v.facts ≡ Some (matrix n rows)
+abbrev pub ReadsMatrix : ViewSeen → PropId → ℕ → List (List Ratio) → Type 0
+ReadsMatrix v p n rows = fact_of p v.facts ≡ Some (matrix n rows)
 
 -- the two parts of a row list, in this order: lines and then points or rays, equations and then inequalities or facets
 abbrev pub are_parts : PropId → PropId → Bool
@@ -95,8 +95,8 @@ pub record IsListOf (v : ViewSeen) (first second : PropId) (X : List Row) : Type
   pub second_cols : ℕ
   pub first_rows : List (List Ratio)
   pub second_rows : List (List Ratio)
-  pub reads_first : Reads v first first_cols first_rows
-  pub reads_second : Reads v second second_cols second_rows
+  pub reads_first : ReadsMatrix v first first_cols first_rows
+  pub reads_second : ReadsMatrix v second second_cols second_rows
   pub xs : List Row
   pub ys : List Row
   pub first_primitive : ArePrimitiveRowsOf first_rows xs
@@ -116,8 +116,8 @@ pub record ArePartsOf (v : ViewSeen) (first second : PropId) (L G : List Row) : 
   pub second_cols : ℕ
   pub first_rows : List (List Ratio)
   pub second_rows : List (List Ratio)
-  pub reads_first : Reads v first first_cols first_rows
-  pub reads_second : Reads v second second_cols second_rows
+  pub reads_first : ReadsMatrix v first first_cols first_rows
+  pub reads_second : ReadsMatrix v second second_cols second_rows
   pub ys : List Row
   pub first_primitive : ArePrimitiveRowsOf first_rows L
   pub second_primitive : ArePrimitiveRowsOf second_rows ys
@@ -157,11 +157,11 @@ are_told p q = false
 pub record AreRowsOf (v : ViewSeen) (p : PropId) (A : List Row) : Type 0 where
   pub cols : ℕ
   pub rows : List (List Ratio)
-  pub reads : Reads v p cols rows
+  pub reads : ReadsMatrix v p cols rows
   pub primitive : ArePrimitiveRowsOf rows A
 
 -- L and G are the two parts of a row list of the view, and A the rows that tell which of them lie in the lineality
-pub record AreTold (v : ViewSeen) (L G A : List Row) : Type 0 where
+pub record TellLines (v : ViewSeen) (L G A : List Row) : Type 0 where
   pub first : PropId
   pub second : PropId
   pub other : PropId
@@ -175,7 +175,7 @@ pub record IsFlatList (v : ViewSeen) (X : List Row) : Type 0 where
   pub lines : List Row
   pub rows : List Row
   pub others : List Row
-  pub read : AreTold v lines rows others
+  pub read : TellLines v lines rows others
   pub flat : X ≡ flat_group rows lines others
 
 -- X is the echelon basis of these, and then some row of the list
@@ -183,7 +183,7 @@ pub record IsFlatBasisAndRow (v : ViewSeen) (X : List Row) : Type 0 where
   pub lines : List Row
   pub rows : List Row
   pub others : List Row
-  pub read : AreTold v lines rows others
+  pub read : TellLines v lines rows others
   pub flat : IsBasisAndRow v.cols rows lines others X
 
 -- X are the lines, and then those rows of the list whose opposite is in the cone of all: they span the lineality
@@ -202,16 +202,18 @@ pub record IsLineBasisAndRow (v : ViewSeen) (X : List Row) : Type 0 where
   pub read : AreParts v lines rows
   pub marks : List Bool
   pub marked : MarkLines rows lines marks
-  pub last : lineality.IsBasisAndRow v.cols rows lines marks X
+  pub last : lineality.IsLinealityBasisAndRow v.cols rows lines marks X
 
--- the sets of those rows of the property that lie together: VERTICES_IN_FACETS has sets of VERTICES, and turned sets of FACETS
+-- the sets of those rows of the property that lie together: VERTICES_IN_FACETS has sets of VERTICES, and turned sets
+-- of FACETS
 abbrev pub sets_of_rows : PropId → IndexSets → List (List ℕ)
 sets_of_rows Facets s = turned s
 sets_of_rows Vertices s = s.rows
 sets_of_rows p s = []
 
 -- E and A are the primitive whole rows of the values of both properties, and the sets are of rows of the second
-pub record AreSetsOf (v : ViewSeen) (first second : PropId) (E A : List Row) (in_sets : List (List ℕ)) : Type 0 where
+pub record AreSetsOf (v : ViewSeen) (first second : PropId) (E A : List Row) (in_sets : List (List ℕ))
+    : Type 0 where
   pub parts : IsTrue (are_parts first second)
   pub equations : AreRowsOf v first E
   pub inequalities : AreRowsOf v second A
@@ -303,9 +305,11 @@ pub record IsWideDetermined (v : ViewSeen) (first second : PropId) (x y : Row) :
 abbrev pub IsWideForSets : ViewSeen → Row → Row → Type 0
 IsWideForSets v first second =
     (IsTrue (has_way v.kind.name determined_rays) × IsWideDetermined v AffineHull Facets first second)
-    ⊎ (IsTrue (has_way v.kind.name determined_facets) × IsWideDetermined v LinealitySpace Vertices second first)
+    ⊎ (IsTrue (has_way v.kind.name determined_facets)
+    × IsWideDetermined v LinealitySpace Vertices second first)
 
--- the client thins by linear programs, and in the program of a row of its list, or of its opposite, over some of the rows a pivot leaves the range
+-- the client thins by linear programs, and in the program of a row of its list, or of its opposite, over some of the
+-- rows a pivot leaves the range
 pub record IsWideThinningOf (v : ViewSeen) (e : Evidence) : Type 0 where
   pub named : IsTrue (has_way v.kind.name thinning_programs)
   pub lines : List Row
@@ -313,7 +317,8 @@ pub record IsWideThinningOf (v : ViewSeen) (e : Evidence) : Type 0 where
   pub read : AreParts v lines rows
   pub shown : IsWideThinning v.cols rows lines e
 
--- the client asks whether INEQUALITIES, with what is added, and EQUATIONS have a point, and in that program, whose objective is 0, a pivot leaves the range
+-- the client asks whether INEQUALITIES, with what is added, and EQUATIONS have a point, and in that program, whose
+-- objective is 0, a pivot leaves the range
 pub record IsWideFeasibility (v : ViewSeen) (e : Evidence) : Type 0 where
   pub named : IsTrue (has_way v.kind.name feasibility)
   pub equations : List Row
@@ -323,7 +328,7 @@ pub record IsWideFeasibility (v : ViewSeen) (e : Evidence) : Type 0 where
 
 -- c is the objective of the program that is asked
 abbrev pub ReadsObjective : ViewSeen → List Ratio → Type 0
-ReadsObjective v c = (n : ℕ) × Reads v LinearObjective n (c ∷ [])
+ReadsObjective v c = (n : ℕ) × ReadsMatrix v LinearObjective n (c ∷ [])
 
 -- what a sense seeks
 abbrev pub sought : Sense → Optimum
@@ -341,7 +346,8 @@ abbrev pub optimum : Sense → PropId
 optimum Maximal = MaximalValue
 optimum Minimal = MinimalValue
 
--- the client finds an optimum over half-spaces, with what is added, and in their program, of the objective whose greatest value is asked, a pivot leaves the range
+-- the client finds an optimum over half-spaces, with what is added, and in their program, of the objective whose
+-- greatest value is asked, a pivot leaves the range
 pub record IsWideOptimum (v : ViewSeen) (e : Evidence) : Type 0 where
   pub sense : Sense
   pub first : PropId
@@ -367,7 +373,8 @@ pub record IsWideDual (v : ViewSeen) (e : Evidence) : Type 0 where
   pub reads_objective : ReadsObjective v objective
   pub shown : ShowsDualRow inequalities equations (objective_in sense objective) e
 
--- the client finds an optimum at VERTICES, and the product of its objective with one of these or a line leaves the range, or the optimum does
+-- the client finds an optimum at VERTICES, and the product of its objective with one of these or a line leaves the
+-- range, or the optimum does
 pub record IsWideAtRays (v : ViewSeen) (e : Evidence) : Type 0 where
   pub sense : Sense
   pub named : IsTrue (has_way v.kind.name (at_rays (sought sense)))
@@ -379,7 +386,8 @@ pub record IsWideAtRays (v : ViewSeen) (e : Evidence) : Type 0 where
   pub reads_objective : ReadsObjective v objective
   pub shown : ShowsValue sense objective rays lines e
 
--- the client finds the rays at an optimum, and the row that vanishes at the optimum leaves the range, or its product with a ray does
+-- the client finds the rays at an optimum, and the row that vanishes at the optimum leaves the range, or its product
+-- with a ray does
 pub record IsWideFace (v : ViewSeen) (e : Evidence) : Type 0 where
   pub sense : Sense
   pub named : IsTrue (has_way v.kind.name (at_face (sought sense)))
@@ -408,7 +416,8 @@ pub record IsCrowdedThinning (v : ViewSeen) (places : List ℕ) : Type 0 where
   pub reads_inequalities : AreRowsOf v Inequalities inequalities
   pub shown : AreManyFacets v.of v.cols inequalities equations places
 
--- the client closes the sets of VERTICES_IN_FACETS, and of these there are more meets, or more places in them, than a lattice may have
+-- the client closes the sets of VERTICES_IN_FACETS, and of these there are more meets, or more places in them, than a
+-- lattice may have
 pub record IsCrowdedLattice (v : ViewSeen) (faces : List (List ℕ)) : Type 0 where
   pub named : IsTrue (has_way v.kind.name face_count)
   pub index : IndexSets
@@ -417,7 +426,7 @@ pub record IsCrowdedLattice (v : ViewSeen) (faces : List (List ℕ)) : Type 0 wh
 
 -- W are the heights of sites that the view reads
 abbrev pub ReadsHeights : ViewSeen → List Ratio → Type 0
-ReadsHeights v W = (n : ℕ) × Reads v SiteHeights n (W ∷ [])
+ReadsHeights v W = (n : ℕ) × ReadsMatrix v SiteHeights n (W ∷ [])
 
 -- the client finds the cells of the sites with their heights, and is refused for this
 pub record IsLiftingFail (v : ViewSeen) (f : LiftFail) : Type 0 where
@@ -439,18 +448,25 @@ pub record IsRaisingFail (v : ViewSeen) (f : LiftFail) : Type 0 where
 abbrev pub FailsAtCells : ViewSeen → LiftFail → Type 0
 FailsAtCells v f = IsLiftingFail v f ⊎ IsRaisingFail v f
 
--- the evidence holds of the view: a step of an elimination leaves the range, or one with two extreme rays, or a pivot of a linear program; a front has too many of these, or of cells, or a thing too many facets or faces; or the product of a generator's row with a half-space's row leaves the range, or of a row that a set determines with one that was read, or of an objective with a ray, or a row of a dual does; or the cells of sites are refused for it
+-- the evidence holds of the view: a step of an elimination leaves the range, or one with two extreme rays, or a pivot
+-- of a linear program; a front has too many of these, or of cells, or a thing too many facets or faces; or the
+-- product of a generator's row with a half-space's row leaves the range, or of a row that a set determines with one
+-- that was read, or of an objective with a ray, or a row of a dual does; or the cells of sites are refused for it
 abbrev pub HoldsOf : Evidence → ViewSeen → Type 0
 HoldsOf (E1 e) v = IsWideElimination v e ⊎ FailsAtCells v (lift.Wide (E1 e))
-HoldsOf (E2 front first second column) v = IsWideDoubling v front first second column ⊎ FailsAtCells v (lift.Wide (E2 front first second column))
+HoldsOf (E2 front first second column) v = IsWideDoubling v front first second column
+    ⊎ FailsAtCells v (lift.Wide (E2 front first second column))
 HoldsOf (E3 basis enter leave row column) v = IsWideProgramOf v (E3 basis enter leave row column)
-HoldsOf (E4 first second) v = AreWideRows v first second ⊎ IsWideForSets v first second ⊎ IsWideForPrograms v (E4 first second) ⊎ FailsAtCells v (lift.Wide (E4 first second))
-HoldsOf (E5Rays front rays) v = IsCrowdedDoubling v front rays ⊎ FailsAtCells v (lift.Many (E5Rays front rays))
+HoldsOf (E4 first second) v = AreWideRows v first second ⊎ IsWideForSets v first second
+    ⊎ IsWideForPrograms v (E4 first second) ⊎ FailsAtCells v (lift.Wide (E4 first second))
+HoldsOf (E5Rays front rays) v = IsCrowdedDoubling v front rays
+    ⊎ FailsAtCells v (lift.Many (E5Rays front rays))
 HoldsOf (E5Rows places) v = IsCrowdedThinning v places
 HoldsOf (E5Faces faces) v = IsCrowdedLattice v faces
 HoldsOf (E5Cells front cells) v = IsCrowdedPlacing v front cells
 
--- the draft has a value for each target of the view's kind, in its form and canonical, and they are right wherever what was read is
+-- the draft has a value for each target of the view's kind, in its form and canonical, and they are right wherever
+-- what was read is
 abbrev pub IsSound : ViewSeen → DraftSeen → Type 0
 IsSound v draft = MayAnswer v.of v.cols v.kind v.sub v.facts (answer_of v.sub draft)
 
@@ -459,7 +475,8 @@ abbrev pub FailsRightly : ViewSeen → ClientFail → Type 0
 FailsRightly v Memory = Unit {0}
 FailsRightly v (Failed e) = HoldsOf e v
 
--- evidence of an elimination is of such a list: of the rows as they stand, say, or of what a null space extends them to
+-- evidence of an elimination is of such a list: of the rows as they stand, say, or of what a null space extends them
+-- to
 abbrev pub EliminatesIn : (ElimList → Type 0) → ClientFail → Type 0
 EliminatesIn Lists (Failed (E1 e)) = Lists e.list
 EliminatesIn Lists (Failed e) = Unit {0}

@@ -18,12 +18,16 @@ started_once tally = (tally.0, next_count tally.1)
 
 -- the two kinds have one name and the same properties in each place
 abbrev pub same_kind : Kind → Kind → Bool
-same_kind a b = bytes_eq a.name b.name && (nat_eq a.targets b.targets && (nat_eq a.sources b.sources && (nat_eq a.must b.must && nat_eq a.must_not b.must_not)))
+same_kind a b =
+    bytes_eq a.name b.name
+    && (nat_eq a.targets b.targets
+    && (nat_eq a.sources b.sources && (nat_eq a.must b.must && nat_eq a.must_not b.must_not)))
 
 -- the place of the first client of the kind, counted from n
 abbrev pub place_in : Kind → ℕ → Clients → Option ℕ
 place_in kind n [] = None
-place_in kind n ((first, starts) ∷ rest) = if same_kind first kind then Some n else place_in kind (suc n) rest
+place_in kind n ((first, starts) ∷ rest) = if same_kind first kind then Some n
+    else place_in kind (suc n) rest
 
 -- the kind of the client at the place
 abbrev pub kind_at : ℕ → Clients → Option Kind

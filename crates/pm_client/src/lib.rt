@@ -1,4 +1,5 @@
-//! Clients, which answer properties of an object from others, and running the first client of a kind.
+//! Clients, which answer properties of an object from others, and running the first client of a kind. It knows
+//! nothing of rounds, commands and sessions.
 #![tactic(auto)]
 
 ghost use Rattle.pm_client.specs.Examples.{CellsAreRead, ConesAreRead, DoublesAreRead, LatticesAreRead, OptimaAreRead, ProgramsAreRead, RowListsAreRead, StartsAreRead, ThinningIsRead};

@@ -1,11 +1,12 @@
 -- Whether a set has a place, by halving; the turns of the loops that count.
+use Rattle.pm_relations.proofs.Sizes.{next}
 use Rattle.pm_relations.specs.Sizes.{has_place, holding, place_sizes, set_sizes}
 use Rattle.pm_types.specs.Forms.{are_indices, is_sets_form}
-use Rattle.std.proofs.Common.{ap, arith, drop, eqb, false, get_or, inl, inr, leb, ltb, nat_cmp, refl, subst, sym, to_z, true, w64, ◌&&◌, ◌∙◌}
+use Rattle.std.proofs.Common.{ap, arith, drop, eqb, false, get_or, inl, inr, leb, nat_cmp, refl, subst, sym, to_z, true, w64, ◌&&◌, ◌∙◌}
 use Rattle.std.proofs.lemmas.List.Sorted.{searched}
 use Rattle.std.specs.List.Sorted.{IsBinarySearchResult}
 use Rattle.std.specs.Result.{is_ok}
-use Rattle.std.proofs.lemmas.Bool.{and_parts, cases_lt, eq-eqb, leb-true, ne_eqb}
+use Rattle.std.proofs.lemmas.Bool.{and_parts, cases_lt, eq-eqb, ne_eqb}
 use Rattle.std.proofs.lemmas.Int.{to_z_pos}
 use Rattle.std.proofs.lemmas.List.{take_all}
 use Rattle.std.proofs.lemmas.List.FromFn.{map-range_with_len_more}
@@ -16,16 +17,6 @@ use lib.IntN.{pos, ℤ}
 use Rattle.pm_limits.specs.Limits.{most_rows}
 
 -- ---- ascending sets
-record Next (n low j : ℕ) (r : List ℕ) : Type 0 where
-  above : low ≤ j
-  rest : are_indices n (suc j) r ≡ true
-
-next : (n low j : ℕ) (r : List ℕ) → are_indices n low (j ∷ r) ≡ true → Next n low j r
-next n low j r h =
-    let p = and_parts (leb low j && ltb j n) (are_indices n (suc j) r) h in
-    let q = and_parts (leb low j) (ltb j n) p.0 in
-    record { above = leb-true low j q.0; rest = p.1 }
-
 above : (n low : ℕ) (r : List ℕ) → are_indices n low r ≡ true → (i : ℕ) → i < length r → low ≤ get_or r i 0
 above n low [] h i l = absurd (omega arith)
 above n low (j ∷ r) h zero l = (next n low j r h).above

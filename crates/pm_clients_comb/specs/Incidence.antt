@@ -2,7 +2,7 @@
 use Rattle.std.specs.Prelude.{ℕ, List}
 use Rattle.pm_vector.specs.Numbers.{Ratio}
 use Rattle.pm_vector.specs.Rows.{Row}
-use Rattle.pm_client.specs.Sound.{Reads}
+use Rattle.pm_client.specs.Sound.{ReadsMatrix}
 use Rattle.pm_incidence.specs.Incidence.{AllStay}
 use Rattle.pm_matrix.specs.FractionRows.{ArePrimitiveRowsOf}
 use Rattle.pm_object.specs.Reading.{ViewSeen}
@@ -14,8 +14,8 @@ pub record StaysInRange (v : ViewSeen) : Type 0 where
   pub vertex_cols : ℕ
   pub facets : List (List Ratio)
   pub vertices : List (List Ratio)
-  pub reads_facets : Reads v Facets facet_cols facets
-  pub reads_vertices : Reads v Vertices vertex_cols vertices
+  pub reads_facets : ReadsMatrix v Facets facet_cols facets
+  pub reads_vertices : ReadsMatrix v Vertices vertex_cols vertices
   pub F : List Row
   pub V : List Row
   pub facet_rows : ArePrimitiveRowsOf facets F

@@ -31,7 +31,8 @@ impl SetsWork {
 
     /// All of them, in the order of the standard book.
     pub fn every() -> [SetsWork; 5]
-        ensures { map sets_client result ≡ client.Incidence ∷ client.VertexSizes ∷ client.FacetSizes ∷ client.Simple ∷ client.Simplicial ∷ [] }
+        ensures { map sets_client result ≡ client.Incidence ∷ client.VertexSizes ∷ client.FacetSizes
+            ∷ client.Simple ∷ client.Simplicial ∷ [] }
     {
         [
             Self::Incidence,

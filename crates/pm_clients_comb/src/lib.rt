@@ -1,4 +1,5 @@
-//! Clients that compare, count and intersect sets of rays and facets.
+//! Clients that compare, count and intersect sets of rays and facets. They know nothing of rounds, commands and
+//! sessions.
 #![tactic(auto)]
 
 ghost use Rattle.pm_clients_comb.specs.Examples.{SizesAreRead};

@@ -1,4 +1,5 @@
 //! Clients that count rays and facets, list the far rays, and find truth values by dimensions and by first entries.
+//! They know nothing of rounds, commands and sessions.
 #![tactic(auto)]
 
 ghost use Rattle.pm_clients_counts.specs.Examples.{PlacesAreRead};

@@ -30,7 +30,8 @@ impl SizeWork {
 
     /// All of them, in the order of the standard book.
     pub fn every() -> [SizeWork; 5]
-        ensures { map size_client result ≡ client.NVertices ∷ client.NVerticesSets ∷ client.NFacets ∷ client.NFacetsSets ∷ client.FarFace ∷ [] }
+        ensures { map size_client result ≡ client.NVertices ∷ client.NVerticesSets ∷ client.NFacets
+            ∷ client.NFacetsSets ∷ client.FarFace ∷ [] }
     {
         [
             Self::NVertices,

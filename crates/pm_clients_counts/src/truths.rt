@@ -32,7 +32,8 @@ impl TestWork {
 
     /// All of them, in the order of the standard book.
     pub fn every() -> [TestWork; 5]
-        ensures { map truth_client result ≡ client.Feasible ∷ client.Bounded ∷ client.Pointed ∷ client.FullDim ∷ client.Centered ∷ [] }
+        ensures { map truth_client result ≡ client.Feasible ∷ client.Bounded ∷ client.Pointed
+            ∷ client.FullDim ∷ client.Centered ∷ [] }
     {
         [
             Self::Feasible,

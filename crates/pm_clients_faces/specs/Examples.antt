@@ -35,7 +35,13 @@ pub record NumbersAreRead : Type 0 where
 
 -- a view of a cone whose client `faces` reads these facts
 abbrev pub view_with : List Fact → ViewSeen
-view_with facts = record { of = Cone; cols = 1; kind = standard_kind client.Faces; sub = None; facts = facts }
+view_with facts = record {
+  of = Cone;
+  cols = 1;
+  kind = standard_kind client.Faces;
+  sub = None;
+  facts = facts;
+}
 
 -- no sets on no places: the one intersection has none
 abbrev pub no_sets : ViewSeen

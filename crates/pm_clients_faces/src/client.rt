@@ -30,7 +30,8 @@ impl FacesWork {
 
     /// All of them, in the order of the standard book.
     pub fn every() -> [FacesWork; 4]
-        ensures { map faces_client result ≡ client.Faces ∷ client.FVector ∷ client.F2Vector ∷ client.HVector ∷ [] }
+        ensures { map faces_client result ≡ client.Faces ∷ client.FVector ∷ client.F2Vector ∷ client.HVector
+            ∷ [] }
     {
         [Self::Faces, Self::FVector, Self::F2Vector, Self::HVector]
     }
@@ -128,7 +129,8 @@ fn f2_vector(alloc: Global, view: &View, draft: &mut Draft) -> Result<(), Client
     Ok(())
 }
 
-// H_VECTOR: the h-vector of F_VECTOR, in the dimension COMBINATORIAL_DIM; empty where one of its numbers has more than 64 bits.
+// H_VECTOR: the h-vector of F_VECTOR, in the dimension COMBINATORIAL_DIM; empty where one of its numbers has more
+// than 64 bits.
 fn h_vector(alloc: Global, view: &View, draft: &mut Draft) -> Result<(), ClientFail>
     requires kind { view.now.kind ≡ standard_kind client.HVector }
     requires empty { draft.old ≡ record { kind = view.now.kind; values = [] } }

@@ -1,4 +1,5 @@
-//! Clients that find the faces of a polytope or cone, and count them.
+//! Clients that find the faces of a polytope or cone, and count them. They know nothing of rounds, commands and
+//! sessions.
 #![tactic(auto)]
 
 ghost use Rattle.pm_clients_faces.specs.Examples.{FewFacesAreRead, NumbersAreRead};

@@ -1,4 +1,5 @@
-// Numbers of faces of a lattice with few ranks, and h-vectors. A lattice with more ranks is that of no thing, and has no numbers.
+// Numbers of faces of a lattice with few ranks, and h-vectors. A lattice with more ranks is that of no thing, and has
+// no numbers.
 
 ghost use Rattle.pm_clients_faces.specs.Numbers.{f2_table, f_numbers, has_few_ranks};
 ghost use Rattle.pm_graph.specs.HVectors.{AreHNumbers, HasNoHVector};

@@ -23,7 +23,8 @@ abbrev pub FanStays : FanWork → ViewSeen → Type 0
 FanStays work.FanDims v = ConesStay v
 FanStays w v = Unit {0}
 
--- it fails for want of memory or with evidence that holds of the view, of the rows of a cone as they stand, the others for want of memory alone
+-- it fails for want of memory or with evidence that holds of the view, of the rows of a cone as they stand, the
+-- others for want of memory alone
 abbrev pub FanFails : FanWork → ViewSeen → ClientFail → Type 0
 FanFails work.FanDims v e = FailsRightly v e × EliminatesRows e
 FanFails w v e = e ≡ Memory

@@ -32,7 +32,8 @@ impl FanWork {
 
     /// All of them, in the order of the standard book.
     pub fn every() -> [FanWork; 5]
-        ensures { map fan_client result ≡ client.FanDims ∷ client.FanDim ∷ client.FanPure ∷ client.FanSimplicial ∷ client.FanSize ∷ [] }
+        ensures { map fan_client result ≡ client.FanDims ∷ client.FanDim ∷ client.FanPure
+            ∷ client.FanSimplicial ∷ client.FanSize ∷ [] }
     {
         [
             Self::FanDims,

@@ -32,9 +32,11 @@ pub(crate) fn dims_of(
     requires few_lines { length lines.now ≤ most_rows }
     requires form { IsTrue (is_sets_form cones.now.rows cones.now.cols) }
     requires few_columns { cols ≤ most_columns }
-    ensures dims { IfOk result (λ d. cones.now.cols ≡ length rays.now → AreDimensions rays.now lines.now cones.now.rows d.items) }
+    ensures dims { IfOk result (λ d. cones.now.cols ≡ length rays.now
+        → AreDimensions rays.now lines.now cones.now.rows d.items) }
     ensures form { IfOk result (λ d. IsTrue (is_counts_form d.items)) }
-    ensures stay { OnOk result (cones.now.cols ≡ length rays.now → NoConeEvidence cols rays.now lines.now cones.now.rows) }
+    ensures stay { OnOk result (cones.now.cols ≡ length rays.now
+        → NoConeEvidence cols rays.now lines.now cones.now.rows) }
     ensures wide { IfErr result (λ f. IfWide f (IsConeEvidence cols rays.now lines.now cones.now.rows)) }
     ensures list { IfErr result (λ f. IfWide f (λ e. e.list ≡ list.Rows)) }
 {

@@ -1,4 +1,5 @@
-//! Clients of fans: the dimensions of maximal cones, and what these show.
+//! Clients of fans: the dimensions of maximal cones, and what these show. They know nothing of rounds, commands and
+//! sessions.
 #![tactic(auto)]
 
 ghost use Rattle.pm_clients_fans.specs.Examples.{NumbersAreRead};

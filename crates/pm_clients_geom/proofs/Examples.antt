@@ -1,4 +1,5 @@
 -- The examples of matrices hold.
+use Rattle.pm_types.specs.OverFirst.{IsOverFirst}
 use Rattle.pm_vector.proofs.Lists.{All_among, Among, among_All, here, there}
 use Rattle.pm_vector.specs.Numbers.{InRange, IsReduced, Ratio}
 use Rattle.pm_vector.specs.Rows.{IsZero, Row, entry, ratio_at}
@@ -7,7 +8,7 @@ use Rattle.pm_clients_geom.specs.Examples.{HullsAreRead, MatricesAreRead, RaysAr
 use Rattle.pm_clients_geom.specs.Hulls.{AreFewRows, ArePossible}
 use Rattle.pm_clients_geom.specs.Lists.{ReadsParts}
 use Rattle.pm_clients_geom.specs.Matrices.{AreNotZero, AreRays, MayBeLines, MayBeRays}
-use Rattle.pm_clients_geom.specs.Rays.{IsOverFirst, IsPutRay}
+use Rattle.pm_clients_geom.specs.Rays.{IsPutRay}
 use Rattle.pm_fraction.proofs.Quotients.{whole_reduced}
 use Rattle.pm_fraction.proofs.Reduced.{reduced_from}
 use Rattle.pm_fraction.specs.Fractions.{IsLowestTermsOf, ratio_of}

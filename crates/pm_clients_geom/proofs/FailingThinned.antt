@@ -15,7 +15,7 @@ use Rattle.pm_props.specs.declared.kind.Kind.{Kind}
 use Rattle.pm_props.specs.declared.property.PropId.TheVariants.{Equations, Inequalities}
 use Rattle.pm_standard.specs.declared.standard.StandardClient.{StandardClient}
 use Rattle.pm_standard.specs.declared.standard.StandardClient.TheVariants as client
-use Rattle.pm_redund.specs.Redundancy.{IsRowsFail, IsThinFail, IsWideReduction}
+use Rattle.pm_redund.specs.Redundancy.{IsRowsFail, IsRedundancyFail, IsWideRedundancy}
 use Rattle.pm_simplex.specs.Generated.{IsWideThinning}
 use Rattle.std.proofs.Common.{inl, inr, refl, subst, sym, true}
 use Rattle.std.specs.Prelude.{IsTrue, List, [], ◌∷◌, ◌≡◌}
@@ -29,7 +29,7 @@ module _ (v : ViewSeen) (c : StandardClient) (kind : v.kind ≡ standard_kind c)
   lines_taken = subst (λ (k : Kind). eliminated_by k.name ≡ line_rows ∷ line_basis_and_row ∷ []) (sym kind) alone
 
   -- on an elimination
-  wide_lines : (e : EliminationStep) → IsWideReduction v.cols G L e → IsWideElimination v e
+  wide_lines : (e : EliminationStep) → IsWideRedundancy v.cols G L e → IsWideElimination v e
   wide_lines e h = elim h.listed [
     | inl group ↦ record {
       list = line_rows;
@@ -53,7 +53,7 @@ module _ (v : ViewSeen) (c : StandardClient) (kind : v.kind ≡ standard_kind c)
   wide_program e h = absurd h.shown.shown
 
 -- POINTS
-pub fails_by_thin_rays : (v : ViewSeen) → v.kind ≡ standard_kind client.ThinPointsLp → (L G : List Row) → AreParts v L G → (f : ThinFail) → IsThinFail v.cols G L f → FailsRightly v (fail_of_thin f)
+pub fails_by_thin_rays : (v : ViewSeen) → v.kind ≡ standard_kind client.ThinPointsLp → (L G : List Row) → AreParts v L G → (f : ThinFail) → IsRedundancyFail v.cols G L f → FailsRightly v (fail_of_thin f)
 fails_by_thin_rays v kind L G read (thinning.Wide (evidence.E1 step)) h = inl (wide_lines v client.ThinPointsLp kind refl refl L G read step h)
 fails_by_thin_rays v kind L G read (thinning.Wide e) h = wide_program v client.ThinPointsLp kind refl refl L G read e h
 fails_by_thin_rays v kind L G read (thinning.Many e) h = absurd h

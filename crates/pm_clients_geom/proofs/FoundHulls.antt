@@ -19,7 +19,8 @@ use Rattle.pm_clients_geom.proofs.PutRays.{primitive_not_zero, ray_form, ray_row
 use Rattle.pm_clients_geom.proofs.RowLists.{IsColumned}
 use Rattle.pm_clients_geom.specs.Hulls.{AreFewRows, ArePutGenerators, FindsFacets, MayGenerate}
 use Rattle.pm_clients_geom.specs.Lists.{ReadsParts}
-use Rattle.pm_clients_geom.specs.Matrices.{AreNotZero, AreRays, MayBeLines, as_put, cols_over}
+use Rattle.pm_clients_geom.specs.Matrices.{AreNotZero, AreRays, MayBeLines}
+use Rattle.pm_types.specs.Parts.{cols_over, as_put}
 use Rattle.pm_clients_geom.specs.Rays.{ArePutRays}
 use Rattle.pm_elim.proofs.PrefixLaws.{at_most_columns}
 use Rattle.pm_geom.specs.Cones.{IsExtreme, IsValid}

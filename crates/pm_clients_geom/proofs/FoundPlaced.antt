@@ -1,5 +1,4 @@
 -- What the clients that place rays put is sound, and how they fail.
-use Rattle.pm_vector.proofs.Lists.{Contains_among}
 use Rattle.pm_vector.specs.Numbers.{InRange}
 use Rattle.pm_vector.specs.Rows.{Row}
 use Rattle.pm_beneath.specs.Placed.{IsShownPlace}
@@ -9,14 +8,13 @@ use Rattle.pm_client.proofs.Drafts.{put}
 use Rattle.pm_client.proofs.Failing.{fails_by_parts}
 use Rattle.pm_client.proofs.FreshOrders.{fresh_facets, fresh_kind}
 use Rattle.pm_client.proofs.PlainValues.{Follows, plain_form, sound_plain}
-use Rattle.pm_client.proofs.Puts.{AreFormed, ArePut, AreRight, IsPut, IsRightPut, sound_alone, three_put}
+use Rattle.pm_client.proofs.Puts.{AreFormed, ArePut, AreRight, IsPut, sound_alone, three_put}
 use Rattle.pm_client.proofs.ReadValues.{read_right}
 use Rattle.pm_client.proofs.ViewLaws.{has_listed, not_fan, target_named}
 use Rattle.pm_client.specs.Sound.{AreParts, FailsRightly, IsSound}
-use Rattle.pm_clients_geom.proofs.FoundHulls.{AreFacetsOf, generated, hull_formed, hull_found, hull_puts, lines_few, none_of_facets, primitive_some, with_facets}
+use Rattle.pm_clients_geom.proofs.FoundHulls.{AreFacetsOf, generated, hull_formed, hull_found, hull_puts, lines_few, primitive_some, with_facets}
 use Rattle.pm_clients_geom.specs.Hulls.{AreFewRows}
-use Rattle.pm_clients_geom.specs.Lists.{ReadsParts}
-use Rattle.pm_clients_geom.specs.Matrices.{as_put, cols_over}
+use Rattle.pm_types.specs.Parts.{cols_over, as_put}
 use Rattle.pm_clients_geom.specs.PlacedRays.{ArePlaced, PlacesRays, fail_of_place}
 use Rattle.pm_dd.specs.declared.fails.DdFail.TheVariants as double
 use Rattle.pm_geom.specs.Cones.{IsValid}
@@ -30,7 +28,6 @@ use Rattle.pm_props.specs.Kinds.{IsFresh}
 use Rattle.pm_props.specs.Places.{place_of}
 use Rattle.pm_props.specs.Properties.{facets_tag}
 use Rattle.pm_props.specs.Sets.{set_of}
-use Rattle.pm_props.specs.declared.kind.Kind.{Kind}
 use Rattle.pm_props.specs.declared.property.PropId.TheVariants.{AffineHull, Facets, LinealitySpace, PlacingTriangulation, Vertices}
 use Rattle.pm_props.specs.declared.property.PropId.{PropId}
 use Rattle.pm_relations.proofs.Hulls.{order_cols}
@@ -46,9 +43,9 @@ use Rattle.pm_types.specs.Right.{Right, RightAll, objective_of}
 use Rattle.pm_types.specs.Things.{Thing}
 use Rattle.pm_types.specs.Values.{IndexSets, matrix, sets}
 use Rattle.pm_types.specs.Views.{ratios}
-use Rattle.std.proofs.Common.{ap, arith, inl, inr, refl, subst, sym, ◌∙◌}
-use Rattle.std.specs.List.{All, AllByRecursion}
-use Rattle.std.specs.Prelude.{List, [], length, map, true, ℕ, ◌++◌, ◌∷◌, ◌≡◌, ◌≤◌}
+use Rattle.std.proofs.Common.{ap, inl, inr, refl, subst, sym, ◌∙◌}
+use Rattle.std.specs.List.{All}
+use Rattle.std.specs.Prelude.{List, [], length, map, true, ◌++◌, ◌∷◌, ◌≡◌}
 
 -- ---- failures
 module _ (v : ViewSeen) (first second : PropId) (kind : PlacesRays v.kind first second) (L G : List Row) (parts : AreParts v L G) where

@@ -11,7 +11,8 @@ use Rattle.pm_clients_geom.proofs.PutMatrices.{put_states, ratios_columned}
 use Rattle.pm_clients_geom.proofs.PutRays.{ray_rows}
 use Rattle.pm_clients_geom.specs.Hulls.{AreFewRows}
 use Rattle.pm_clients_geom.specs.Lists.{ReadsParts}
-use Rattle.pm_clients_geom.specs.Matrices.{AreRays, as_put, cols_over}
+use Rattle.pm_clients_geom.specs.Matrices.{AreRays}
+use Rattle.pm_types.specs.Parts.{cols_over, as_put}
 use Rattle.pm_clients_geom.specs.Rays.{ArePutRays}
 use Rattle.pm_clients_geom.specs.Thinned.{ArePossibleFacets, ArePossibleRays, ArePutFacets}
 use Rattle.pm_dd.specs.Fronts.{HalfSpaces}
@@ -67,11 +68,11 @@ places_few n low (j ∷ set) h l =
     let m = places_few n (suc j) set p.1 (omega arith) in
     omega arith
 
-each_few : (n : ℕ) (rows : List (List ℕ)) → n ≤ most_rows → list_all (are_indices n 0) rows ≡ true → All (λ set. length set < 2 ^ 28) rows
-each_few n [] l h = All-nil (λ (set : List ℕ). length set < 2 ^ 28)
+each_few : (n : ℕ) (rows : List (List ℕ)) → n ≤ most_rows → list_all (are_indices n 0) rows ≡ true → All (λ set. length set < 2 ^ 30) rows
+each_few n [] l h = All-nil (λ (set : List ℕ). length set < 2 ^ 30)
 each_few n (set ∷ rows) l h =
     let p = and_parts (are_indices n 0 set) (list_all (are_indices n 0) rows) h in
-    All-cons (λ (s : List ℕ). length s < 2 ^ 28) set rows (let f = places_few n 0 set p.0 (omega arith) in omega arith) (each_few n rows l p.1)
+    All-cons (λ (s : List ℕ). length s < 2 ^ 30) set rows (let f = places_few n 0 set p.0 (omega arith) in omega arith) (each_few n rows l p.1)
 
 module _ (of : ObjectType) (n : ℕ) (s : IndexSets) (forms : FormsIn of n VerticesInFacets (sets s.rows s.cols)) where
   form_parts : (nat_le (length s.rows) most_rows && nat_le s.cols most_rows ≡ true) × (list_all (are_indices s.cols 0) s.rows ≡ true)
@@ -83,7 +84,7 @@ module _ (of : ObjectType) (n : ℕ) (s : IndexSets) (forms : FormsIn of n Verti
   pub columns_few : s.cols ≤ most_rows
   columns_few = leb-true s.cols most_rows (and_parts (nat_le (length s.rows) most_rows) (nat_le s.cols most_rows) form_parts.0).1
 
-  pub all_few : All (λ set. length set < 2 ^ 28) s.rows
+  pub all_few : All (λ set. length set < 2 ^ 30) s.rows
   all_few = each_few s.cols s.rows columns_few form_parts.1
 
 -- ---- the evidence names sets that were read

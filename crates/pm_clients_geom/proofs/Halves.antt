@@ -4,7 +4,7 @@ use Rattle.pm_client.proofs.Pairs.{AreRightHalves, sound_pair}
 use Rattle.pm_client.proofs.Puts.{two_put}
 use Rattle.pm_client.specs.Sound.{IsSound}
 use Rattle.pm_clients_geom.proofs.PutMatrices.{equations_forms, inequalities_forms, lines_forms, points_forms, put_states}
-use Rattle.pm_clients_geom.specs.Matrices.{as_put, cols_over}
+use Rattle.pm_types.specs.Parts.{cols_over, as_put}
 use Rattle.pm_clients_geom.specs.Pairs.{LacksPair}
 use Rattle.pm_clients_geom.specs.Stays.{RepeatsRows}
 use Rattle.pm_vector.specs.Numbers.{Ratio}

@@ -2,7 +2,6 @@ pub mod RowLists
 pub mod FoundDims
 pub mod Halves
 pub mod NullMatrices
-pub mod OverOne
 pub mod PutMatrices
 pub mod Examples
 pub mod PutRays

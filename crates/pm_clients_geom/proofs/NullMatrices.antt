@@ -7,7 +7,8 @@ use Rattle.pm_client.proofs.ReadValues.{read_right}
 use Rattle.pm_client.specs.Sound.{IsListOf, IsSound, added_rows}
 use Rattle.pm_clients_geom.proofs.PutMatrices.{hull_forms, lineality_forms, put_states, ratios_columned}
 use Rattle.pm_clients_geom.proofs.RowLists.{IsColumned}
-use Rattle.pm_clients_geom.specs.Matrices.{MayBeLines, as_put, cols_over}
+use Rattle.pm_clients_geom.specs.Matrices.{MayBeLines}
+use Rattle.pm_types.specs.Parts.{cols_over, as_put}
 use Rattle.pm_elim.proofs.PrefixLaws.{at_most_columns}
 use Rattle.pm_elim.specs.NullSpaces.{IsNullBasis}
 use Rattle.pm_geom.specs.Things.{Orders}

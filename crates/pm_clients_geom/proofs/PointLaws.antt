@@ -2,7 +2,7 @@
 use Rattle.pm_vector.proofs.Lists.{all_append, append_all}
 use Rattle.pm_vector.proofs.RowLaws.{dot_comm}
 use Rattle.pm_vector.specs.Rows.{Row, dot, entry}
-use Rattle.pm_clients_geom.specs.Points.{HasPoint}
+use Rattle.pm_clients_geom.specs.Points.{HasSolution}
 use Rattle.pm_elim.proofs.DotLaws.{dot-unit}
 use Rattle.pm_elim.specs.Evidence.{unit}
 use Rattle.pm_geom.proofs.Duality.{direction_is_without_bound, infeasible_has_no_point, optimum_is_maximum}
@@ -21,16 +21,16 @@ use lib.IntN.{pos}
 use lib.Signed.{◌<ℤ◌, ◌≤ℤ◌}
 
 module _ (n : ℕ) (A E : List Row) where
-  found_point : (x : Row) → length x ≡ n → programs.Solves A E x → pos 0 <ℤ entry x 0 → HasPoint n A E
+  found_point : (x : Row) → length x ≡ n → programs.Solves A E x → pos 0 <ℤ entry x 0 → HasSolution n A E
   found_point x lx s up = record { row = x; cols = lx; solves = (solves_as A E x).1 (s.equations, s.inequalities); first = up }
 
-  pub optimal_has_point : {v : Ratio} {p y : List Ratio} → IsOptimal A E (no_objective n) v p y → HasPoint n A E
+  pub optimal_has_point : {v : Ratio} {p y : List Ratio} → IsOptimal A E (no_objective n) v p y → HasSolution n A E
   optimal_has_point {v} {p} {y} h = let m = (optimum_is_maximum A E (no_objective n) v p y h).attained in found_point m.whole (m.cols ∙ objective_length n) m.inside m.first
 
-  pub unbounded_has_point : {p d : List Ratio} → IsUnbounded A E (no_objective n) p d → HasPoint n A E
+  pub unbounded_has_point : {p d : List Ratio} → IsUnbounded A E (no_objective n) p d → HasSolution n A E
   unbounded_has_point {p} {d} h = let m = direction_is_without_bound A E (no_objective n) p d h in found_point m.point (m.point_cols ∙ objective_length n) m.point_inside m.first
 
-  pub infeasible_has_none : {y : List Ratio} → IsInfeasible A E y → ¬ (HasPoint n A E)
+  pub infeasible_has_none : {y : List Ratio} → IsInfeasible A E y → ¬ (HasSolution n A E)
   infeasible_has_none {y} h w =
       let s = (solves_as A E w.row).0 w.solves in
       infeasible_has_no_point A E y h w.row (record { inequalities = s.1; equations = s.0 }) w.first
@@ -40,7 +40,7 @@ module _ (n : ℕ) (A E : List Row) where
     first_at : (x : Row) → dot (unit n 0) x ≡ entry x 0
     first_at x = dot_comm (unit n 0) x ∙ dot-unit x n 0 some
 
-    pub with_first : HasPoint n (half_spaces Polytope n A) E ↔ HasPoint n A E
+    pub with_first : HasSolution n (half_spaces Polytope n A) E ↔ HasSolution n A E
     with_first = (
       λ w. let s = (solves_as (half_spaces Polytope n A) E w.row).0 w.solves in
           record { row = w.row; cols = w.cols; solves = (solves_as A E w.row).1 (s.0, (append_all (λ (a : Row). pos 0 ≤ℤ dot a w.row) A (unit n 0 ∷ []) s.1).0); first = w.first },

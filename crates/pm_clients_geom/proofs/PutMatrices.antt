@@ -2,7 +2,8 @@
 use Rattle.pm_vector.specs.Numbers.{InRange, Ratio}
 use Rattle.pm_vector.specs.Rows.{HasCols, Row, entry}
 use Rattle.pm_clients_geom.proofs.RowLists.{IsColumned}
-use Rattle.pm_clients_geom.specs.Matrices.{MayBeLines, cols_over}
+use Rattle.pm_clients_geom.specs.Matrices.{MayBeLines}
+use Rattle.pm_types.specs.Parts.{cols_over}
 use Rattle.pm_object_type.specs.declared.object_type.ObjectType.{ObjectType}
 use Rattle.pm_object_type.specs.declared.object_type.ObjectType.TheVariants.{Cone, Fan, Polytope}
 use Rattle.pm_types.proofs.WholeRows.{ratios_rows_fractions, ratios_rows_of_entries, ratios_rows_primitive}

@@ -9,7 +9,7 @@ use Rattle.pm_clients_geom.proofs.FoundHulls.{AreFacetsOf, rows_pair}
 use Rattle.pm_clients_geom.specs.Lists.{ReadsParts}
 use Rattle.pm_clients_geom.specs.Redundancy.{FailsForProgram}
 use Rattle.pm_clients_geom.specs.Laws.{FacetsAreThinned, FeasibleHasPoint, VerticesAreThinned, with_facets, with_rays}
-use Rattle.pm_clients_geom.specs.Points.{HasPoint}
+use Rattle.pm_clients_geom.specs.Points.{HasSolution}
 use Rattle.pm_geom.specs.Cones.{IsValid}
 use Rattle.pm_geom.specs.Generators.{AreGenerators}
 use Rattle.pm_geom.specs.Things.{Orders}
@@ -58,7 +58,7 @@ facets_are_thinned t o thing orders no_fan inequalities equations pair A E sa se
     }
 
 -- a set that they cut out as a polytope has a row that is not zero exactly where they have a point
-some_row : (n : ℕ) (S : Row → Type 0) (A E : List Row) → CutsOutPolytope n S A E → HasPoint n A E ↔ ((x : Row) × (length x ≡ n) × S x × ¬ (IsZero x))
+some_row : (n : ℕ) (S : Row → Type 0) (A E : List Row) → CutsOutPolytope n S A E → HasSolution n A E ↔ ((x : Row) × (length x ≡ n) × S x × ¬ (IsZero x))
 some_row n S A E (proper x lx sx up same) = (
   λ w. (x, lx, (same x lx).1 (sx, omega (arith, ints)), λ z. let e = z 0 in omega (arith, ints)),
   λ w. record { row = x; cols = lx; solves = sx; first = up },
@@ -89,11 +89,11 @@ rows_thinned v no_fan E A F H halves thinned t o of cols right =
     }
 
 -- whether they have a point
-pub point_sound : (v : ViewSeen) → v.of ≡ Polytope → ¬ (v.of ≡ Fan) → (E A : List Row) → ReadsParts v Equations Inequalities E A → (b : Bool) → (IsTrue b ↔ HasPoint v.cols A E) → (old new : DraftSeen) → IsPut v Feasible (truth b) old new → IsSound v new
+pub point_sound : (v : ViewSeen) → v.of ≡ Polytope → ¬ (v.of ≡ Fan) → (E A : List Row) → ReadsParts v Equations Inequalities E A → (b : Bool) → (IsTrue b ↔ HasSolution v.cols A E) → (old new : DraftSeen) → IsPut v Feasible (truth b) old new → IsSound v new
 point_sound v polytope no_fan E A halves b says old new put = sound_truth v Feasible b old new refl put (λ t o of cols right c.
     feasible_has_point t o (of ∙ polytope) halves.second_rows halves.first_rows (rows_pair v E A t o of cols right no_fan halves) A E
     (primitive_stand halves.second_rows A halves.second_primitive) (primitive_stand halves.first_rows E halves.first_primitive) b c
-    (subst (λ n. IsTrue b ↔ HasPoint n A E) (sym cols) says))
+    (subst (λ n. IsTrue b ↔ HasSolution n A E) (sym cols) says))
 
 -- the program of a polytope's half-spaces shows a pivot that leaves the range
 pub program_as : (v : ViewSeen) → v.of ≡ Polytope → (E A : List Row) (f : LpFail) → IfWide f (ShowsProgram (half_spaces Polytope v.cols A) E (no_objective v.cols)) → IfWide f (ShowsProgram (half_spaces v.of v.cols A) E (no_objective v.cols))

@@ -1,16 +1,18 @@
 -- The definitions of matrices that are put, read on small cases: what holds of them, and what does not.
+use Rattle.pm_types.specs.Parts.{as_put}
 use Rattle.pm_vector.specs.Numbers.{Ratio}
 use Rattle.pm_vector.specs.Rows.{Row}
 use Rattle.pm_client.specs.Examples.{no_rows, single}
 use Rattle.pm_clients_geom.specs.Hulls.{AreFewRows, ArePossible, ArePutGenerators, FindsFacets, MayGenerate}
 use Rattle.pm_clients_geom.specs.Lists.{ReadsParts}
 use Rattle.pm_clients_geom.specs.Thinned.{ArePossibleFacets, ArePossibleRays, ArePutFacets}
-use Rattle.pm_clients_geom.specs.Rays.{ArePutRays, IsOverFirst, IsPutRay}
+use Rattle.pm_clients_geom.specs.Rays.{ArePutRays, IsPutRay}
+use Rattle.pm_types.specs.OverFirst.{IsOverFirst}
 use Rattle.pm_object.specs.Reading.{DraftSeen, Put}
 use Rattle.pm_standard.specs.Table.{standard_kind}
 use Rattle.pm_props.specs.declared.property.PropId.TheVariants.{AffineHull, Equations, Facets, Inequalities, InputLineality, LinealitySpace, Points, Vertices}
 use Rattle.pm_types.specs.Values.{matrix}
-use Rattle.pm_clients_geom.specs.Matrices.{AreNotZero, AreRays, MayBeLines, MayBeRays, as_put}
+use Rattle.pm_clients_geom.specs.Matrices.{AreNotZero, AreRays, MayBeLines, MayBeRays}
 use Rattle.pm_object_type.specs.declared.object_type.ObjectType.TheVariants.{Cone, Polytope}
 use Rattle.pm_types.specs.Views.{over_one, ratios}
 use Rattle.pm_standard.specs.declared.standard.StandardClient.TheVariants as client
@@ -77,7 +79,8 @@ pub record HullsAreRead : Type 0 where
   pub lost : ¬ (ArePossible no_rows (single 1 ∷ []) [] [] [])
   -- both are put
   pub put : ArePutGenerators no_rows (single 1 ∷ []) []
-      (drafted (record { property = Vertices; value = matrix 1 (ratios (single 1) ∷ []) } ∷ record { property = LinealitySpace; value = matrix 0 [] } ∷ []))
+      (drafted (record { property = Vertices; value = matrix 1 (ratios (single 1) ∷ []) }
+      ∷ record { property = LinealitySpace; value = matrix 0 [] } ∷ []))
   pub not_put : ¬ (ArePutGenerators no_rows (single 1 ∷ []) [] (drafted []))
 
 pub record ThinnedAreRead : Type 0 where
@@ -94,7 +97,11 @@ pub record ThinnedAreRead : Type 0 where
   pub no_facet : ArePossibleFacets (single 0 ∷ []) []
   pub lost_facet : ¬ (ArePossibleFacets (single 1 ∷ []) [])
   -- facet rows and rows that vanish are put
-  pub put : ArePutFacets no_rows (single 1 ∷ []) [] (drafted (record { property = Facets; value = matrix 1 (ratios (single 1) ∷ []) } ∷ record { property = AffineHull; value = matrix 0 [] } ∷ []))
+  pub put : ArePutFacets no_rows (single 1 ∷ []) []
+      (drafted (record { property = Facets; value = matrix 1 (ratios (single 1) ∷ []) }
+      ∷ record { property = AffineHull; value = matrix 0 [] } ∷ []))
   pub not_put : ¬ (ArePutFacets no_rows (single 1 ∷ []) [] (drafted []))
   -- none are put where one is zero
-  pub none_put : ArePutFacets no_rows (single 0 ∷ []) [] (drafted (record { property = Facets; value = matrix 0 [] } ∷ record { property = AffineHull; value = matrix 0 [] } ∷ []))
+  pub none_put : ArePutFacets no_rows (single 0 ∷ []) []
+      (drafted (record { property = Facets; value = matrix 0 [] }
+      ∷ record { property = AffineHull; value = matrix 0 [] } ∷ []))

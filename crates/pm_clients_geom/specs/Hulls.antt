@@ -2,7 +2,8 @@
 use Rattle.pm_vector.specs.Numbers.{InRange, Ratio}
 use Rattle.pm_vector.specs.Rows.{HasCols, Row}
 use Rattle.pm_client.specs.Sound.{are_parts, has_way, doubling, eliminated_by, first_part, double_list, enlarging_rows}
-use Rattle.pm_clients_geom.specs.Matrices.{AreRays, MayBeLines, cols_over}
+use Rattle.pm_clients_geom.specs.Matrices.{AreRays, MayBeLines}
+use Rattle.pm_types.specs.Parts.{cols_over}
 use Rattle.pm_clients_geom.specs.Rays.{ArePutRays}
 use Rattle.pm_object.specs.Reading.{DraftSeen, ViewSeen}
 use Rattle.pm_props.specs.declared.kind.Kind.{Kind}
@@ -62,6 +63,9 @@ pub record ArePutGenerators (v : ViewSeen) (V' K' : List Row) (new : DraftSeen) 
   pub draft : new ≡ record {
     kind = v.kind;
     values = record { property = Vertices; value = matrix (cols_over v.cols rows) rows }
-        ∷ record { property = LinealitySpace; value = matrix (cols_over v.cols (map ratios lines)) (map ratios lines) }
+        ∷ record {
+          property = LinealitySpace;
+          value = matrix (cols_over v.cols (map ratios lines)) (map ratios lines);
+        }
         ∷ [];
   }

@@ -1,7 +1,7 @@
 -- The two parts of the row list that a client reads, and what becomes of the list.
 use Rattle.pm_vector.specs.Rows.{Row}
 use Rattle.pm_vector.specs.Numbers.{Ratio}
-use Rattle.pm_client.specs.Sound.{IsListOf, Reads}
+use Rattle.pm_client.specs.Sound.{IsListOf, ReadsMatrix}
 use Rattle.pm_elim.specs.Evidence.{NoEvidence}
 use Rattle.pm_elim.specs.declared.evidence.ElimList.{ElimList}
 use Rattle.pm_matrix.specs.FractionRows.{ArePrimitiveRowsOf}
@@ -21,7 +21,7 @@ pub record ReadsParts (v : ViewSeen) (first second : PropId) (L G : List Row) : 
   pub second_cols : ℕ
   pub first_rows : List (List Ratio)
   pub second_rows : List (List Ratio)
-  pub reads_first : Reads v first first_cols first_rows
-  pub reads_second : Reads v second second_cols second_rows
+  pub reads_first : ReadsMatrix v first first_cols first_rows
+  pub reads_second : ReadsMatrix v second second_cols second_rows
   pub first_primitive : ArePrimitiveRowsOf first_rows L
   pub second_primitive : ArePrimitiveRowsOf second_rows G

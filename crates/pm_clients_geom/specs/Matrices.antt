@@ -1,22 +1,11 @@
 -- Matrices that a client puts, and rows that may span a lineality.
-use Rattle.pm_vector.specs.Numbers.{Ratio}
 use Rattle.pm_vector.specs.Rows.{IsZero, Row, entry}
 use Rattle.pm_object_type.specs.declared.object_type.ObjectType.{ObjectType}
 use Rattle.pm_object_type.specs.declared.object_type.ObjectType.TheVariants.{Polytope}
-use Rattle.pm_matrix.specs.Matrices.{FractionMatrix}
 use Rattle.std.specs.List.{All}
-use Rattle.std.specs.Prelude.{List, [], ℕ, ◌∷◌, ◌≡◌}
+use Rattle.std.specs.Prelude.{List, ◌≡◌}
 use lib.IntN.{pos}
 use lib.Signed.{◌≤ℤ◌}
-
--- the column count that a matrix of these rows states: n, but none without rows
-abbrev pub cols_over : ℕ → List (List Ratio) → ℕ
-cols_over n [] = 0
-cols_over n (r ∷ rows) = n
-
--- the matrix of these rows
-abbrev pub as_put : ℕ → List (List Ratio) → FractionMatrix
-as_put n rows = record { cols = cols_over n rows; rows = rows }
 
 -- rows of the lineality of a polytope have first entry 0
 abbrev pub MayBeLines : ObjectType → List Row → Type 0

@@ -28,8 +28,10 @@ pub record PlacesRays (kind : Kind) (first second : PropId) : Type 0 where
   pub counts : IsTrue (has_way kind.name cell_count)
   pub lists : eliminated_by kind.name ≡ first_part ∷ double_list ∷ enlarging_rows ∷ []
 
--- L and G were read; F are the facet rows of what they generate, H the rows that vanish there, and the sets of places of G, each once, a triangulation of it
-pub record ArePlaced (v : ViewSeen) (first second : PropId) (L G F H : List Row) (cells : IndexSets) : Type 0 where
+-- L and G were read; F are the facet rows of what they generate, H the rows that vanish there, and the sets of places
+-- of G, each once, a triangulation of it
+pub record ArePlaced (v : ViewSeen) (first second : PropId) (L G F H : List Row) (cells : IndexSets)
+    : Type 0 where
   pub read : ReadsParts v first second L G
   pub few_rays : length G ≤ most_rows
   pub facets : AreFacets v.cols G L F H

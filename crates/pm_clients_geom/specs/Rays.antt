@@ -1,22 +1,18 @@
 -- Rays as rows of fractions.
 use Rattle.pm_vector.specs.Numbers.{InRange, Ratio}
-use Rattle.pm_vector.specs.Rows.{Row, entry, ratio_at}
-use Rattle.pm_fraction.specs.Fractions.{IsLowestTermsOf, ratio_of}
+use Rattle.pm_vector.specs.Rows.{Row, entry}
 use Rattle.pm_object_type.specs.declared.object_type.ObjectType.{ObjectType}
 use Rattle.pm_object_type.specs.declared.object_type.ObjectType.TheVariants.{Polytope}
 use Rattle.pm_types.specs.Canonical.{EachIs}
+use Rattle.pm_types.specs.OverFirst.{IsOverFirst}
 use Rattle.pm_types.specs.Views.{ratios}
 use Rattle.std.specs.List.{All}
-use Rattle.std.specs.Prelude.{List, length, ℕ, ◌<◌, ◌≡◌}
+use Rattle.std.specs.Prelude.{List, length, ◌<◌, ◌≡◌}
 use lib.IntN.{pos}
 use lib.Signed.{◌≤ℤ◌}
 
--- r is the row x divided by its first entry, in lowest terms
-pub record IsOverFirst (x : Row) (r : List Ratio) : Type 0 where
-  pub cols : length r ≡ length x
-  pub each : (i : ℕ) → i < length x → IsLowestTermsOf (ratio_of (entry x i) (entry x 0)) (ratio_at r i)
-
--- r is the ray x of a thing of that type: of a polytope, where no ray lies behind, divided by its first entry where that is not 0, else as it is
+-- r is the ray x of a thing of that type: of a polytope, where no ray lies behind, divided by its first entry where
+-- that is not 0, else as it is
 pub record IsPutRay (of : ObjectType) (r : List Ratio) (x : Row) : Type 0 where
   pub some : 0 < length x
   pub in_range : All InRange x

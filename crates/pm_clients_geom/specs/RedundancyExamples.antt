@@ -4,7 +4,7 @@ use Rattle.pm_client.specs.Examples.{without_rows}
 use Rattle.pm_client.specs.Sound.{IsWideElimination}
 use Rattle.pm_client.specs.declared.ClientFail.TheVariants.{Failed, Memory}
 use Rattle.pm_clients_geom.specs.Redundancy.{FailsForProgram, RedundancyFails}
-use Rattle.pm_clients_geom.specs.Points.{HasPoint}
+use Rattle.pm_clients_geom.specs.Points.{HasSolution}
 use Rattle.pm_elim.specs.EliminationSteps.{EliminationStep}
 use Rattle.pm_geom.specs.declared.evidence.Evidence.TheVariants.{E1, E4}
 use Rattle.pm_clients_geom.specs.declared.redundancy.RedundancyWork.TheVariants as redundancy
@@ -20,19 +20,23 @@ pub record FailsAreRead : Type 0 where
   pub memory : FailsForProgram (without_rows (codes "feasible_lp")) Memory
   pub feasible_fails : RedundancyFails redundancy.FeasibleLp (without_rows (codes "feasible_lp")) Memory
   pub others_fail : RedundancyFails redundancy.ThinPointsLp (without_rows (codes "thin_points_lp")) Memory
-  pub product : ¬ (FailsForProgram (without_rows (codes "feasible_lp")) (Failed (E4 (pair (pos 1) (pos 0)) (pair (pos 1) (pos 0)))))
+  pub product : ¬
+      (FailsForProgram (without_rows (codes "feasible_lp"))
+      (Failed (E4 (pair (pos 1) (pos 0)) (pair (pos 1) (pos 0)))))
   -- a step of an elimination is evidence of those that thin, and not of `feasible_lp`
-  pub step : (e : EliminationStep) → IsWideElimination (without_rows (codes "thin_points_lp")) e → RedundancyFails redundancy.ThinPointsLp (without_rows (codes "thin_points_lp")) (Failed (E1 e))
-  pub no_step : (e : EliminationStep) → ¬ (RedundancyFails redundancy.FeasibleLp (without_rows (codes "feasible_lp")) (Failed (E1 e)))
+  pub step : (e : EliminationStep) → IsWideElimination (without_rows (codes "thin_points_lp")) e
+      → RedundancyFails redundancy.ThinPointsLp (without_rows (codes "thin_points_lp")) (Failed (E1 e))
+  pub no_step : (e : EliminationStep)
+      → ¬ (RedundancyFails redundancy.FeasibleLp (without_rows (codes "feasible_lp")) (Failed (E1 e)))
 
 pub record PointsAreRead : Type 0 where
   -- x - 1 >= 0 and 2 - x >= 0 have the point 1
-  pub between : HasPoint 2 (pair (negsuc 0) (pos 1) ∷ pair (pos 2) (negsuc 0) ∷ []) []
+  pub between : HasSolution 2 (pair (negsuc 0) (pos 1) ∷ pair (pos 2) (negsuc 0) ∷ []) []
   -- x - 1 >= 0 and -x >= 0 have none
-  pub apart : ¬ (HasPoint 2 (pair (negsuc 0) (pos 1) ∷ pair (pos 0) (negsuc 0) ∷ []) [])
+  pub apart : ¬ (HasSolution 2 (pair (negsuc 0) (pos 1) ∷ pair (pos 0) (negsuc 0) ∷ []) [])
   -- without rows each point is one
-  pub all : HasPoint 1 [] []
+  pub all : HasSolution 1 [] []
   -- an equation that says 1 = 0 leaves none
-  pub contradicted : ¬ (HasPoint 1 [] ((pos 1 ∷ []) ∷ []))
+  pub contradicted : ¬ (HasSolution 1 [] ((pos 1 ∷ []) ∷ []))
   -- a row without columns is no point
-  pub no_columns : ¬ (HasPoint 0 [] [])
+  pub no_columns : ¬ (HasSolution 0 [] [])

@@ -2,7 +2,8 @@
 use Rattle.pm_vector.specs.Numbers.{InRange}
 use Rattle.pm_vector.specs.Rows.{Row}
 use Rattle.pm_clients_geom.specs.Hulls.{AreFewRows}
-use Rattle.pm_clients_geom.specs.Matrices.{AreNotZero, AreRays, cols_over}
+use Rattle.pm_clients_geom.specs.Matrices.{AreNotZero, AreRays}
+use Rattle.pm_types.specs.Parts.{cols_over}
 use Rattle.pm_object.specs.Reading.{DraftSeen, ViewSeen}
 use Rattle.pm_object_type.specs.declared.object_type.ObjectType.{ObjectType}
 use Rattle.pm_props.specs.declared.property.PropId.TheVariants.{AffineHull, Facets}
@@ -33,7 +34,10 @@ pub record ArePutFacets (v : ViewSeen) (F' H : List Row) (new : DraftSeen) : Typ
   pub hull_in_range : All (All InRange) H
   pub draft : new ≡ record {
     kind = v.kind;
-    values = record { property = Facets; value = matrix (cols_over v.cols (map ratios facets)) (map ratios facets) }
+    values = record {
+      property = Facets;
+      value = matrix (cols_over v.cols (map ratios facets)) (map ratios facets);
+    }
         ∷ record { property = AffineHull; value = matrix (cols_over v.cols (map ratios H)) (map ratios H) }
         ∷ [];
   }

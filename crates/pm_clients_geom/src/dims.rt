@@ -42,7 +42,8 @@ impl DimWork {
 
     /// Those of the standard clients, in the order of the standard book.
     pub fn every() -> [DimWork; 5]
-        ensures { map dimension_client result ≡ client.ConeDimV ∷ client.ConeDimSpan ∷ client.ConeDimPoints ∷ client.LinealityDim ∷ client.CombinatorialDim ∷ [] }
+        ensures { map dimension_client result ≡ client.ConeDimV ∷ client.ConeDimSpan ∷ client.ConeDimPoints
+            ∷ client.LinealityDim ∷ client.CombinatorialDim ∷ [] }
     {
         [
             Self::ConeDimV,
@@ -65,8 +66,8 @@ impl DimWork {
 #[derive(Debug, Drop)]
 pub struct DimFamily;
 
-/// A client that finds a dimension. `cone_dim_v` and `cone_dim_points` fail exactly where the rank of their row list is
-/// Wide, and the wide ones of these only there; the others never.
+/// A client that finds a dimension. `cone_dim_v` and `cone_dim_points` fail exactly where the rank of their row list
+/// is Wide, and the wide ones of these only there; the others never.
 pub type DimClient = FamilyClient<DimFamily>;
 
 impl Family for DimFamily {
@@ -111,7 +112,8 @@ impl Family for DimFamily {
     }
 }
 
-// The rank of the row list of two parts, to which nothing is added. It fails for want of memory, or where the elimination of the list leaves the range.
+// The rank of the row list of two parts, to which nothing is added. It fails for want of memory, or where the
+// elimination of the list leaves the range.
 fn rank_of_list(
     alloc: Global,
     view: &View,
@@ -264,7 +266,8 @@ fn lineality_dim(view: &View, draft: &mut Draft) -> Result<(), ClientFail>
     Ok(())
 }
 
-// COMBINATORIAL_DIM: CONE_DIM less LINEALITY_DIM, less 1. Two dimensions are never so far apart that this leaves 64 bits.
+// COMBINATORIAL_DIM: CONE_DIM less LINEALITY_DIM, less 1. Two dimensions are never so far apart that this leaves 64
+// bits.
 fn combinatorial_dim(view: &View, draft: &mut Draft) -> Result<(), ClientFail>
     requires kind { view.now.kind ≡ standard_kind client.CombinatorialDim }
     requires empty { draft.old ≡ record { kind = view.now.kind; values = [] } }

@@ -10,13 +10,13 @@ ghost use Rattle.pm_standard.specs.declared.standard.StandardClient.TheVariants 
 ghost use Rattle.std.specs.Prelude.{IfErr, IfOk, IsTrue, OnOk, [], ◌∷◌, ◌≡◌, map};
 
 use crate::rays::{are_rays, matrix_of_rays};
-use crate::rows::{matrix_over_one, may_be_lines};
+use crate::rows::may_be_lines;
 use pm_client::{ClientFail, matrix_of, primitive_rows, put_value};
 use pm_dd::{Generators, facets_of, generators_of};
 use pm_family::{Family, FamilyClient};
 use pm_object::{Draft, View};
 use pm_standard::StandardClient;
-use pm_types::{ObjectType, PropId, Value};
+use pm_types::{ObjectType, PropId, Value, matrix_over_one};
 use pm_vector::Ints;
 use std::alloc::Global;
 
@@ -38,7 +38,8 @@ impl HullWork {
 
     /// Those of the standard clients, in the order of the standard book.
     pub fn every() -> [HullWork; 4]
-        ensures { map hull_client result ≡ client.DdVertices ∷ client.DdFacets ∷ client.DdFacetsV ∷ client.DdVerticesF ∷ [] }
+        ensures { map hull_client result ≡ client.DdVertices ∷ client.DdFacets ∷ client.DdFacetsV
+            ∷ client.DdVerticesF ∷ [] }
     {
         [
             Self::DdVertices,
@@ -50,7 +51,8 @@ impl HullWork {
 
     /// Those of the clients that answer by wide numbers, in the order of their rules.
     pub fn wide() -> [HullWork; 4]
-        ensures { map hull_client result ≡ client.DdVerticesWide ∷ client.DdFacetsWide ∷ client.DdFacetsVWide ∷ client.DdVerticesFWide ∷ [] }
+        ensures { map hull_client result ≡ client.DdVerticesWide ∷ client.DdFacetsWide ∷ client.DdFacetsVWide
+            ∷ client.DdVerticesFWide ∷ [] }
     {
         [
             Self::DdVerticesWide,
@@ -66,8 +68,8 @@ impl HullWork {
 pub struct HullFamily;
 
 /// A client of double description. It fails for want of memory, where a step leaves the range, and where a cone on the
-/// way has too many extreme rays. A wide one works a step that leaves the range by wide numbers, and where these do not
-/// suffice it fails as the standard one.
+/// way has too many extreme rays. A wide one works a step that leaves the range by wide numbers, and where these do
+/// not suffice it fails as the standard one.
 pub type HullClient = FamilyClient<HullFamily>;
 
 impl Family for HullFamily {

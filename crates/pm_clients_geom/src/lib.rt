@@ -1,5 +1,6 @@
-//! Clients that find dimensions, null spaces, and one description from its twin, from the other by
-//! double description or by placing rays, from both by thinning, from itself by linear programs, or from sets of incidences; and whether a polytope has a point.
+//! Clients that find dimensions, null spaces, and one description from its twin, from the other by double description
+//! or by placing rays, from both by thinning, from itself by linear programs, or from sets of incidences; and whether
+//! a polytope has a point. They know nothing of rounds, commands and sessions.
 #![tactic(auto)]
 
 ghost use Rattle.pm_clients_geom.specs.Laws.{FacetsAreThinned, FeasibleHasPoint, VerticesAreThinned};

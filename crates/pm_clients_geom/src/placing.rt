@@ -8,13 +8,12 @@ ghost use Rattle.pm_standard.specs.declared.standard.StandardClient.TheVariants 
 ghost use Rattle.std.specs.Prelude.{IfErr, IfOk, OnOk, [], map, ◌∷◌, ◌≡◌};
 
 use crate::hulls::{Parts, read_parts};
-use crate::rows::matrix_over_one;
 use pm_beneath::{Facets, PlaceFail, place};
 use pm_client::{ClientFail, put_value};
 use pm_family::{Family, FamilyClient};
 use pm_object::{Draft, View};
 use pm_standard::StandardClient;
-use pm_types::{PropId, Sets, Value};
+use pm_types::{PropId, Sets, Value, matrix_over_one};
 use std::alloc::Global;
 
 /// The works of the clients that place rays.
@@ -112,7 +111,7 @@ fn place_rows(
     ensures failed { IfErr result (FailsRightly view.now) }
 {
     let parts = read_parts(alloc, view, first, second)?;
-    match place(alloc, view.cols(), &parts.second, &parts.first) {
+    match place(alloc, view.cols(), &parts.second, &parts.first, false) {
         Ok(found) => {
             let cells = Sets::from_vec(found.simplices, parts.second.len() as u32);
             Ok(Placed {

@@ -1,39 +1,20 @@
-// Whether inequalities and equations have a point: where they have none, and only there, the program of the objective 0 is infeasible.
+// Whether inequalities and equations have a point: where they have none, and only there, the program of the objective
+// 0 is infeasible.
 
 ghost use Rattle.pm_vector.specs.Rows.{HasCols};
-ghost use Rattle.pm_clients_geom.specs.Points.{HasPoint};
-ghost use Rattle.pm_elim.specs.Evidence.{unit};
+ghost use Rattle.pm_clients_geom.specs.Points.{HasSolution};
 ghost use Rattle.pm_incidence.specs.Thinning.{half_spaces};
 ghost use Rattle.pm_object_type.specs.declared.object_type.ObjectType.TheVariants.{Polytope};
 ghost use Rattle.pm_simplex.specs.Generated.{no_objective};
 ghost use Rattle.pm_simplex.specs.Answers.{ShowsProgram};
 ghost use Rattle.pm_simplex.specs.Fails.{IfWide};
-ghost use Rattle.std.specs.Prelude.{IfErr, IfOk, IsTrue, length, ◌<◌, ◌^◌, ◌≡◌, ◌↔◌};
+ghost use Rattle.std.specs.Prelude.{IfErr, IfOk, IsTrue, length, ◌<◌, ◌^◌, ◌≡◌, ◌≤◌, ◌↔◌};
 
 use pm_fraction::Fraction;
+use pm_incidence::with_first;
 use pm_simplex::{LpAnswer, LpFail, maximise_rows};
 use pm_vector::Ints;
 use std::alloc::{AllocError, Global};
-
-/// The row (1, 0, .., 0).
-fn first_unit(alloc: Global, cols: usize) -> Result<Ints, AllocError>
-    requires { 0 < cols }
-    ensures { IfOk result (λ r. r ≡ unit cols 0) }
-{
-    let mut entries = vec![in alloc; 0i128; cols]?;
-    entries[0] = 1;
-    Ok(Ints::from_vec(entries))
-}
-
-/// The half-spaces of a polytope: its inequalities, and then the row (1, 0, .., 0).
-fn with_first(alloc: Global, cols: usize, inequalities: Vec<Ints>) -> Result<Vec<Ints>, AllocError>
-    requires { 0 < cols }
-    ensures { IfOk result (λ v. v.items ≡ half_spaces Polytope cols inequalities.items) }
-{
-    let mut rows = inequalities;
-    rows.push(first_unit(alloc, cols)?)?;
-    Ok(rows)
-}
 
 /// The objective 0.
 fn no_objective(alloc: Global, cols: usize) -> Result<Vec<Fraction>, AllocError>
@@ -51,11 +32,11 @@ fn is_feasible(
 ) -> Result<bool, LpFail>
     requires inequality_cols { HasCols cols inequalities.now }
     requires equation_cols { HasCols cols equations.now }
-    requires few_inequalities { length inequalities.now < 2 ^ 29 }
-    requires few_equations { length equations.now < 2 ^ 29 }
+    requires few_inequalities { length inequalities.now ≤ 2 ^ 30 }
+    requires few_equations { length equations.now < 2 ^ 30 }
     requires some_columns { 0 < cols }
-    requires few_columns { cols < 2 ^ 29 }
-    ensures found { IfOk result (λ b. IsTrue b ↔ HasPoint cols inequalities.now equations.now) }
+    requires few_columns { cols < 2 ^ 30 }
+    ensures found { IfOk result (λ b. IsTrue b ↔ HasSolution cols inequalities.now equations.now) }
     ensures wide { IfErr result (λ f. IfWide f
         (ShowsProgram inequalities.now equations.now (no_objective cols))) }
 {
@@ -68,7 +49,8 @@ fn is_feasible(
     }
 }
 
-/// Whether the inequalities and equations of a polytope have a point. `Wide` only where a pivot of their program leaves the range, which the evidence (E3) shows;
+/// Whether the inequalities and equations of a polytope have a point. `Wide` only where a pivot of their program
+/// leaves the range, which the evidence (E3) shows;
 /// the half-spaces of that program end with the row (1, 0, .., 0).
 pub fn has_point(
     alloc: Global,
@@ -78,12 +60,12 @@ pub fn has_point(
 ) -> Result<bool, LpFail>
     requires inequality_cols { HasCols cols inequalities.items }
     requires equation_cols { HasCols cols equations.now }
-    requires few_inequalities { length inequalities.items < 2 ^ 28 }
-    requires few_equations { length equations.now < 2 ^ 28 }
+    requires few_inequalities { length inequalities.items < 2 ^ 30 }
+    requires few_equations { length equations.now < 2 ^ 30 }
     requires some_columns { 0 < cols }
-    requires few_columns { cols < 2 ^ 28 }
+    requires few_columns { cols < 2 ^ 30 }
     ensures found { IfOk result (λ b.
-        IsTrue b ↔ HasPoint cols inequalities.items equations.now) }
+        IsTrue b ↔ HasSolution cols inequalities.items equations.now) }
     ensures wide { IfErr result (λ f. IfWide f
         (ShowsProgram (half_spaces Polytope cols inequalities.items)
         equations.now (no_objective cols))) }

@@ -1,17 +1,16 @@
 // Generators as values: the rays of a polytope divided by their first coordinate, where that is not 0.
 
-ghost use Rattle.pm_vector.specs.Numbers.{InRange};
+ghost use Rattle.pm_types.specs.Parts.{as_put};
 ghost use Rattle.pm_vector.specs.Rows.{HasCols, IsZero, entry};
 ghost use Rattle.pm_client.specs.declared.ClientFail.TheVariants.{Memory};
-ghost use Rattle.pm_clients_geom.specs.Matrices.{AreNotZero, AreRays, MayBeLines, MayBeRays, as_put};
-ghost use Rattle.pm_clients_geom.specs.Rays.{ArePutRays, IsOverFirst, IsPutRay};
-ghost use Rattle.std.specs.Prelude.{All, IfErr, IfOk, IsTrue, OnOk, length, pos, ◌<ℤ◌, ◌<◌, ◌≡◌, ◌≤ℤ◌, ◌↔◌};
+ghost use Rattle.pm_clients_geom.specs.Matrices.{AreNotZero, AreRays, MayBeRays};
+ghost use Rattle.pm_clients_geom.specs.Rays.{ArePutRays, IsPutRay};
+ghost use Rattle.std.specs.Prelude.{All, IfErr, IfOk, IsTrue, length, pos, ◌<◌, ◌≡◌, ◌≤ℤ◌, ◌↔◌};
 
-use crate::rows::row_over_one;
 use pm_client::ClientFail;
 use pm_fraction::Fraction;
 use pm_matrix::{Matrix, MatrixFail};
-use pm_types::ObjectType;
+use pm_types::{ObjectType, over_first, over_one};
 use pm_vector::Ints;
 use std::alloc::Global;
 
@@ -52,26 +51,6 @@ pub(crate) fn are_rays(of: ObjectType, rows: &[Ints]) -> bool
     may_be_rays(of, rows) && are_not_zero(rows)
 }
 
-// A row of whole numbers divided by its first entry, in lowest terms. Want of memory alone ends it.
-fn row_over_first(alloc: Global, row: &Ints) -> Result<Vec<Fraction>, ClientFail>
-    requires some { 0 < length row.now }
-    requires first { pos 0 <ℤ entry row.now 0 }
-    ensures value { IfOk result (λ v. IsOverFirst row.now v.items) }
-    ensures in_range { All InRange row.now }
-    ensures failed { IfErr result (λ e. e ≡ Memory) }
-{
-    let mut fractions = Vec::new(alloc);
-    let first = row.get(0);
-    let entries = row.as_slice();
-    for x in entries {
-        let Ok(fraction) = Fraction::new(*x, first) else {
-            unreachable!()
-        };
-        fractions.push(fraction)?;
-    }
-    Ok(fractions)
-}
-
 // A ray as a row of fractions. Want of memory alone ends it.
 fn ray_row(alloc: Global, of: ObjectType, row: &Ints) -> Result<Vec<Fraction>, ClientFail>
     requires some { 0 < length row.now }
@@ -79,10 +58,12 @@ fn ray_row(alloc: Global, of: ObjectType, row: &Ints) -> Result<Vec<Fraction>, C
     ensures value { IfOk result (λ v. IsPutRay of v.items row.now) }
     ensures failed { IfErr result (λ e. e ≡ Memory) }
 {
+    // Its entries are in the range.
+    let _entries = row.as_slice();
     if of == ObjectType::Polytope && row.get(0) != 0 {
-        row_over_first(alloc, row)
+        Ok(over_first(alloc, row)?)
     } else {
-        row_over_one(alloc, row)
+        Ok(over_one(alloc, row)?)
     }
 }
 

@@ -30,7 +30,8 @@ impl RedundancyWork {
 
     /// All of them, in the order of the standard book.
     pub fn every() -> [RedundancyWork; 3]
-        ensures { map redundancy_client result ≡ client.ThinPointsLp ∷ client.ThinInequalitiesLp ∷ client.FeasibleLp ∷ [] }
+        ensures { map redundancy_client result ≡ client.ThinPointsLp ∷ client.ThinInequalitiesLp
+            ∷ client.FeasibleLp ∷ [] }
     {
         [
             Self::ThinPointsLp,
@@ -44,9 +45,10 @@ impl RedundancyWork {
 #[derive(Debug, Drop)]
 pub struct RedundancyFamily;
 
-/// A client of linear programs. It fails for want of memory, and where a pivot of one of its programs leaves the range;
-/// those that thin also where a step of an elimination does, and `thin_inequalities_lp` where there are more than `MOST_ROWS`
-/// facets.
+/// A client of linear programs. It fails for want of memory, and where a pivot of one of its programs leaves the
+/// range;
+/// those that thin also where a step of an elimination does, and `thin_inequalities_lp` where there are more than
+/// `MOST_ROWS` facets.
 pub type RedundancyClient = FamilyClient<RedundancyFamily>;
 
 impl Family for RedundancyFamily {

@@ -1,11 +1,10 @@
 // The clients that find rows: null spaces, and one description of a thing from its twin.
 
-ghost use Rattle.pm_vector.specs.Numbers.{InRange};
-ghost use Rattle.pm_vector.specs.Rows.{HasCols};
+ghost use Rattle.pm_types.specs.Parts.{as_put};
 ghost use Rattle.pm_client.specs.Sound.{EliminatesExtended, FailsRightly, IsSound};
 ghost use Rattle.pm_client.specs.declared.ClientFail.TheVariants.{Memory};
 ghost use Rattle.pm_clients_geom.specs.Lists.{StaysInRange};
-ghost use Rattle.pm_clients_geom.specs.Matrices.{MayBeLines, as_put};
+ghost use Rattle.pm_clients_geom.specs.Matrices.{MayBeLines};
 ghost use Rattle.pm_clients_geom.specs.Pairs.{LacksPair};
 ghost use Rattle.pm_clients_geom.specs.Stays.{RowsStay};
 ghost use Rattle.pm_clients_geom.specs.declared.rows.RowsWork.TheVariants as work;
@@ -15,18 +14,16 @@ ghost use Rattle.pm_props.specs.declared.property.PropId.TheVariants as property
 ghost use Rattle.pm_standard.specs.declared.standard.StandardClient.TheVariants as client;
 ghost use Rattle.pm_props.specs.Properties.{has_program, of_fans, row};
 ghost use Rattle.pm_props.specs.Sets.{has};
-ghost use Rattle.pm_types.specs.Views.{ratios};
 ghost use Rattle.std.specs.Prelude.{All, false, IfErr, IfOk, IsTrue, OnOk, [], length, map, ◌<◌, ◌≡◌, ◌↔◌, ◌∷◌};
 
 use crate::lists::row_list;
 use pm_client::{ClientFail, matrix_of, put_value};
 use pm_elim::null_space;
 use pm_family::{Family, FamilyClient};
-use pm_fraction::Fraction;
-use pm_matrix::{Matrix, MatrixFail};
+use pm_matrix::Matrix;
 use pm_object::{Draft, View};
 use pm_standard::StandardClient;
-use pm_types::{ObjectType, PropId, Value};
+use pm_types::{ObjectType, PropId, Value, matrix_over_one};
 use pm_vector::Ints;
 use std::alloc::Global;
 
@@ -44,7 +41,8 @@ impl RowsWork {
 
     /// All of them, in the order of the standard book.
     pub fn every() -> [RowsWork; 4]
-        ensures { map rows_client result ≡ client.PointsFromVertices ∷ client.InequalitiesFromFacets ∷ client.LinealityFromFacets ∷ client.HullFromVertices ∷ [] }
+        ensures { map rows_client result ≡ client.PointsFromVertices ∷ client.InequalitiesFromFacets
+            ∷ client.LinealityFromFacets ∷ client.HullFromVertices ∷ [] }
     {
         [
             Self::PointsFromVertices,
@@ -210,44 +208,4 @@ pub(crate) fn may_be_lines(of: ObjectType, rows: &[Ints]) -> bool
     ensures { IsTrue result ↔ MayBeLines of rows.now }
 {
     of != ObjectType::Polytope || rows.iter().all(|row| row.get(0) == 0)
-}
-
-/// A row of whole numbers as fractions over 1. Want of memory alone ends it.
-pub(crate) fn row_over_one(alloc: Global, row: &Ints) -> Result<Vec<Fraction>, ClientFail>
-    ensures value { IfOk result (λ v. v.items ≡ ratios row.now) }
-    ensures in_range { All InRange row.now }
-    ensures failed { IfErr result (λ e. e ≡ Memory) }
-{
-    let mut fractions = Vec::new(alloc);
-    let entries = row.as_slice();
-    for x in entries {
-        let Ok(fraction) = Fraction::from_whole(*x) else {
-            unreachable!()
-        };
-        fractions.push(fraction)?;
-    }
-    Ok(fractions)
-}
-
-/// Rows of whole numbers as a matrix of fractions over 1; without rows it states no column count. Want of memory alone ends it.
-pub(crate) fn matrix_over_one(
-    alloc: Global,
-    rows: &[Ints],
-    cols: usize,
-) -> Result<Matrix, ClientFail>
-    requires { HasCols cols rows.now }
-    ensures rows { IfOk result (λ a. a ≡ as_put cols (map ratios rows.now)) }
-    ensures in_range { OnOk result (All (All InRange) rows.now) }
-    ensures failed { IfErr result (λ e. e ≡ Memory) }
-{
-    let mut matrix = Matrix::new(alloc, if rows.is_empty() { 0 } else { cols });
-    for row in rows {
-        let fractions = row_over_one(alloc, row)?;
-        match matrix.push_row(&fractions) {
-            Ok(()) => {}
-            Err(MatrixFail::Ragged) => unreachable!(),
-            Err(MatrixFail::Memory) => return Err(ClientFail::Memory),
-        }
-    }
-    Ok(matrix)
 }

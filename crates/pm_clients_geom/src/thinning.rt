@@ -12,7 +12,6 @@ ghost use Rattle.std.specs.Prelude.{All, IfErr, OnOk, [], length, ◌<◌, ◌�
 
 use crate::hulls::{put_generators, read_parts};
 use crate::rays::{are_not_zero, are_rays, matrix_of_rays};
-use crate::rows::matrix_over_one;
 use pm_client::{ClientFail, put_value, sets_of};
 use pm_dd::{Facets, Generators};
 use pm_family::{Family, FamilyClient};
@@ -21,7 +20,7 @@ use pm_incidence::{
 };
 use pm_object::{Draft, View};
 use pm_standard::StandardClient;
-use pm_types::{ObjectType, PropId, Value};
+use pm_types::{ObjectType, PropId, Value, matrix_over_one};
 use pm_vector::Ints;
 use std::alloc::Global;
 
@@ -39,7 +38,8 @@ impl ThinWork {
 
     /// All of them, in the order of the standard book.
     pub fn every() -> [ThinWork; 4]
-        ensures { map thinning_client result ≡ client.ThinPointsF ∷ client.ThinInequalitiesV ∷ client.VerticesFromSets ∷ client.FacetsFromSets ∷ [] }
+        ensures { map thinning_client result ≡ client.ThinPointsF ∷ client.ThinInequalitiesV
+            ∷ client.VerticesFromSets ∷ client.FacetsFromSets ∷ [] }
     {
         [
             Self::ThinPointsF,
@@ -112,7 +112,14 @@ fn thin_points_f(alloc: Global, view: &View, draft: &mut Draft) -> Result<(), Cl
         facets: halves.second,
         hull: halves.first,
     };
-    let found = vertices_by_incidence(alloc, ObjectType::Cone, view.cols(), &generators, &facets)?;
+    let found = vertices_by_incidence(
+        alloc,
+        ObjectType::Cone,
+        view.cols(),
+        &generators,
+        &facets,
+        false,
+    )?;
     put_generators(alloc, view, draft, found)?;
     Ok(())
 }
@@ -138,6 +145,7 @@ fn thin_inequalities_v(alloc: Global, view: &View, draft: &mut Draft) -> Result<
         &halves.second,
         &halves.first,
         &generators,
+        false,
     )?;
     put_facets(alloc, view, draft, found)?;
     Ok(())
@@ -157,7 +165,7 @@ fn rays_of_sets(alloc: Global, view: &View, draft: &mut Draft) -> Result<(), Cli
         hull: halves.first,
     };
     let sets = sets_of(view, PropId::VerticesInFacets);
-    let found = vertices_from_sets(alloc, view.cols(), &facets, sets)?;
+    let found = vertices_from_sets(alloc, view.cols(), &facets, sets, false)?;
     let rays = possible_rays(alloc, view.of(), found);
     let vertices = matrix_of_rays(alloc, view.of(), &rays, view.cols())?;
     put_value(draft, PropId::Vertices, Value::Mat(vertices))?;
@@ -178,7 +186,7 @@ fn facets_of_sets(alloc: Global, view: &View, draft: &mut Draft) -> Result<(), C
         lineality: rays.first,
     };
     let sets = sets_of(view, PropId::VerticesInFacets);
-    let found = facets_from_sets(alloc, view.cols(), &generators, sets)?;
+    let found = facets_from_sets(alloc, view.cols(), &generators, sets, false)?;
     let rows = possible_facets(alloc, found);
     let facets = matrix_over_one(alloc, &rows, view.cols())?;
     put_value(draft, PropId::Facets, Value::Mat(facets))?;

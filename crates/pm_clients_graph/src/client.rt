@@ -32,7 +32,9 @@ impl GraphWork {
 
     /// All of them, in the order of the standard book.
     pub fn every() -> [GraphWork; 8]
-        ensures { map graph_client result ≡ client.GraphOfSets ∷ client.GraphOfFaces ∷ client.DualGraph ∷ client.VertexDegrees ∷ client.Diameter ∷ client.DualDiameter ∷ client.NEdges ∷ client.NRidges ∷ [] }
+        ensures { map graph_client result ≡ client.GraphOfSets ∷ client.GraphOfFaces ∷ client.DualGraph
+            ∷ client.VertexDegrees ∷ client.Diameter ∷ client.DualDiameter ∷ client.NEdges ∷ client.NRidges
+            ∷ [] }
     {
         [
             Self::GraphOfSets,

@@ -1,4 +1,5 @@
-// What graphs show, as the lists of neighbours of their nodes: how many neighbours each node has, and how many edges there are.
+// What graphs show, as the lists of neighbours of their nodes: how many neighbours each node has, and how many edges
+// there are.
 
 ghost use Rattle.pm_clients_graph.specs.Degrees.{degrees};
 ghost use Rattle.pm_geom.specs.Graphs.{edge_count};

@@ -1,4 +1,5 @@
-//! Clients that find graphs, and what these show: degrees, diameters, numbers of edges.
+//! Clients that find graphs, and what these show: degrees, diameters, numbers of edges. They know nothing of rounds,
+//! commands and sessions.
 #![tactic(auto)]
 
 ghost use Rattle.pm_clients_graph.specs.Examples.{CountsAreRead};

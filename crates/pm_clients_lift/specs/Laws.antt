@@ -10,7 +10,10 @@ use Rattle.pm_vector.specs.Numbers.{Ratio}
 use Rattle.std.specs.List.{All}
 use Rattle.std.specs.Prelude.{List, ℕ}
 
--- the sites of each cell of right DELAUNAY_CELLS lie on a sphere, and all others outside of it; and some affine function is equal to the squares of the distances from the origin exactly at these sites, and less at all others
+-- the sites of each cell of right DELAUNAY_CELLS lie on a sphere, and all others outside of it; and some affine
+-- function is equal to the squares of the distances from the origin exactly at these sites, and less at all others
 abbrev pub DelaunaySpheresAreEmpty : Type 0
-DelaunaySpheresAreEmpty = (t : Thing) (o : Orders) (c : List Ratio) → IsThing t → (rows : List (List ℕ)) (n : ℕ) → Right DelaunayCells (sets rows n) t o c →
-    All (λ cell. HasAffineFunction t.cols t.sites (holds cell) × HasEmptySphere t.cols t.sites (holds cell)) rows
+DelaunaySpheresAreEmpty = (t : Thing) (o : Orders) (c : List Ratio) → IsThing t
+    → (rows : List (List ℕ)) (n : ℕ) → Right DelaunayCells (sets rows n) t o c →
+    All (λ cell. HasAffineFunction t.cols t.sites (holds cell)
+    × HasEmptySphere t.cols t.sites (holds cell)) rows

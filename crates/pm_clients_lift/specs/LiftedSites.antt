@@ -29,7 +29,8 @@ pub record RaisesSites (kind : Kind) : Type 0 where
   pub sources : kind.sources ≡ set_of (Sites ∷ [])
   pub raises : IsTrue (has_way kind.name raising)
 
--- X are the primitive whole rows of the sites that the view reads: at most most_rows, of its columns, and each with a positive first entry
+-- X are the primitive whole rows of the sites that the view reads: at most most_rows, of its columns, and each with a
+-- positive first entry
 pub record AreReadSites (v : ViewSeen) (X : List Row) : Type 0 where
   pub rows : AreRowsOf v Sites X
   pub cols : HasCols v.cols X
@@ -41,13 +42,15 @@ pub record AreReadHeights (v : ViewSeen) (W : List Ratio) : Type 0 where
   pub reads : ReadsHeights v W
   pub fractions : All IsFraction W
 
--- the cells of sites that the view reads with these heights, and as column count the number of sites; or there are more or fewer heights than sites, and no cells
+-- the cells of sites that the view reads with these heights, and as column count the number of sites; or there are
+-- more or fewer heights than sites, and no cells
 pub record AreCellsPut (v : ViewSeen) (cells : IndexSets) : Type 0 where
   pub sites : List Row
   pub heights : List Ratio
   pub read_sites : AreReadSites v sites
   pub read_heights : AreReadHeights v heights
-  pub found : ((length heights ≡ length sites) × (cells.cols ≡ length sites) × AreCells v.cols sites heights cells.rows)
+  pub found : ((length heights ≡ length sites) × (cells.cols ≡ length sites)
+      × AreCells v.cols sites heights cells.rows)
       ⊎ ((length heights ≢ length sites) × (cells.rows ≡ []) × (cells.cols ≡ 0))
   pub few : length cells.rows ≤ most_rows
 

@@ -1,4 +1,5 @@
-//! The clients that lift sites: the cells of the regular subdivision that heights induce, and Delaunay cells.
+//! The clients that lift sites: the cells of the regular subdivision that heights induce, and Delaunay cells. They
+//! know nothing of rounds, commands and sessions.
 #![tactic(auto)]
 
 ghost use Rattle.pm_clients_lift.specs.Laws.{DelaunaySpheresAreEmpty};

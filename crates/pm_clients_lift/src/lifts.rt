@@ -129,7 +129,7 @@ fn regular_cells(alloc: Global, view: &View) -> Result<Sets, ClientFail>
     if heights.len() != sites.len() {
         return Ok(Sets::from_vec(Vec::new(alloc), 0));
     }
-    match pm_lift::regular_cells(alloc, view.cols(), &sites, heights) {
+    match pm_lift::regular_cells(alloc, view.cols(), &sites, heights, false) {
         Ok(cells) => Ok(as_sets(cells, &sites)),
         Err(fail) => Err(client_fail(fail)),
     }
@@ -142,7 +142,7 @@ fn delaunay_cells(alloc: Global, view: &View) -> Result<Sets, ClientFail>
     ensures failed { IfErr result (FailsRightly view.now) }
 {
     let sites = read_sites(alloc, view)?;
-    match pm_lift::delaunay_cells(alloc, view.cols(), &sites) {
+    match pm_lift::delaunay_cells(alloc, view.cols(), &sites, false) {
         Ok(cells) => Ok(as_sets(cells, &sites)),
         Err(fail) => Err(client_fail(fail)),
     }

@@ -1,4 +1,5 @@
 -- The rows of the dual of an optimum are facet rows of different directions, in order, which bound the objective by its greatest value.
+use Rattle.pm_geom.proofs.Permuted.{pairs_permuted}
 use Rattle.pm_vector.proofs.ConeLaws.{dot_combination_lines, in_combination_lines, in_line, in_line_opposite}
 use Rattle.pm_vector.proofs.Filters.{map_among}
 use Rattle.pm_vector.proofs.Lists.{AllPairs_cons, All_among, Among, all_from, all_at}
@@ -9,7 +10,6 @@ use Rattle.pm_vector.specs.Numbers.{Ratio}
 use Rattle.pm_vector.specs.Rows.{HasCols, Row, dot, entry, ratio_at}
 use Rattle.pm_clients_lp.proofs.WeightedRows.{IsWeight, IsWeighted, kept_weighted, multiples_length, multiples_stand, multiples_times, scaled, total_permuted, weighted_at, weighted_total, whole_is}
 use Rattle.pm_clients_lp.proofs.Greatest.{fit, fit_length, fit_same}
-use Rattle.pm_clients_lp.proofs.Permuted.{pairs_permuted}
 use Rattle.pm_clients_lp.specs.Programs.{AreMultiples, AreWeighted, weighted}
 use Rattle.pm_dd.proofs.Ascending.{ascending}
 use Rattle.pm_dd.proofs.StepLaws.{at_place}

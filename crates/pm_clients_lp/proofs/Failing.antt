@@ -1,7 +1,7 @@
 -- How the clients fail: with evidence of their own, which holds of the view.
 use Rattle.pm_vector.specs.Numbers.{Ratio}
 use Rattle.pm_vector.specs.Rows.{Row}
-use Rattle.pm_client.proofs.Failing.{halves_read}
+use Rattle.pm_client.proofs.Failing.{halves_read, parts_of}
 use Rattle.pm_clients_lp.proofs.StandardKinds.{face_named, dual_named, facets_named, rays_named, rows_named}
 use Rattle.pm_clients_lp.specs.Programs.{ShowsOptimum}
 use Rattle.pm_incidence.specs.Thinning.{half_spaces}
@@ -14,8 +14,7 @@ use Rattle.pm_simplex.specs.OptimumEvidence.{ShowsFace, ShowsValue}
 use Rattle.pm_simplex.specs.Senses.{objective_in, ratio_in}
 use Rattle.pm_simplex.specs.declared.sense.Sense.{Sense}
 use Rattle.pm_types.specs.Values.{extended, finite}
-use Rattle.std.proofs.lemmas.List.{append-nil}
-use Rattle.std.specs.Prelude.{List, Some, [], ℕ, ◌++◌, ◌≡◌}
+use Rattle.std.specs.Prelude.{List, Some, [], ℕ, ◌≡◌}
 use Rattle.pm_client.specs.Sound.{AreRowsOf, ArePartsOf, ReadsObjective, added_rows, optimum, FailsRightly, HoldsOf, IsWideAtRays, IsWideFace, IsWideOptimum, fail_of_program}
 use Rattle.pm_client.specs.declared.ClientFail.TheVariants.{Failed, Memory}
 use Rattle.pm_client.specs.declared.ClientFail.{ClientFail}
@@ -26,7 +25,7 @@ use Rattle.pm_object.specs.Reading.{ViewSeen, fact_of}
 use Rattle.pm_simplex.specs.Fails.{IfWide}
 use Rattle.pm_simplex.specs.declared.fails.LpFail.TheVariants as program
 use Rattle.pm_simplex.specs.declared.fails.LpFail.{LpFail}
-use Rattle.std.proofs.Common.{ap, inl, inr, refl, subst, sym, ◌∙◌}
+use Rattle.std.proofs.Common.{inl, inr, refl, subst}
 
 -- a refusal by linear programs is one of the client
 pub fails_by : (P Q : Evidence → Type 0) → ((e : Evidence) → P e → Q e) → (f : LpFail) → IfWide f P → FailsBy Q (fail_of_program f)
@@ -45,18 +44,7 @@ none_added Cone n = refl
 none_added Fan n = refl
 
 facets_parts : (v : ViewSeen) (E A : List Row) → AreRowsOf v AffineHull E → AreRowsOf v Facets A → ArePartsOf v AffineHull Facets E A
-facets_parts v E A e a = record {
-  first_cols = e.cols;
-  second_cols = a.cols;
-  first_rows = e.rows;
-  second_rows = a.rows;
-  reads_first = e.reads;
-  reads_second = a.reads;
-  ys = A;
-  first_primitive = e.primitive;
-  second_primitive = a.primitive;
-  added = sym (append-nil A) ∙ ap (λ z. A ++ z) (sym (none_added v.of v.cols));
-}
+facets_parts v E A e a = parts_of v AffineHull Facets E A e a (none_added v.of v.cols)
 
 module _ (v : ViewSeen) where
   pub optimum_holds : (e : Evidence) → IsWideOptimum v e → HoldsOf e v

@@ -54,8 +54,11 @@ pub record DualsAreRead : Type 0 where
   -- the row with multiplier 0 is left out
   pub kept : weighted segment (null ∷ half ∷ []) ≡ (row (pos 1) (negsuc 0), half) ∷ []
   -- the rows stand in the lexicographic order, and all of them
-  pub in_order : AreWeighted segment (half ∷ half ∷ []) ((row (pos 0) (pos 1), half) ∷ (row (pos 1) (negsuc 0), half) ∷ [])
-  pub turned : ¬ (AreWeighted segment (half ∷ half ∷ []) ((row (pos 1) (negsuc 0), half) ∷ (row (pos 0) (pos 1), half) ∷ []))
+  pub in_order : AreWeighted segment (half ∷ half ∷ [])
+      ((row (pos 0) (pos 1), half) ∷ (row (pos 1) (negsuc 0), half) ∷ [])
+  pub turned : ¬
+      (AreWeighted segment (half ∷ half ∷ [])
+      ((row (pos 1) (negsuc 0), half) ∷ (row (pos 0) (pos 1), half) ∷ []))
   pub left_out : ¬ (AreWeighted segment (half ∷ half ∷ []) [])
   -- one half of (2, -2) is (1, -1)
   pub multiple : IsMultipleRow half (row (pos 2) (negsuc 1)) (wholes (row (pos 1) (negsuc 0)))
@@ -73,5 +76,6 @@ pub record DualsAreRead : Type 0 where
   pub wide : ShowsWideWeight (large ∷ []) (large_weight ∷ []) (E4 large (row (pos (2 ^ 64)) (pos 1)))
   pub other_parts : ¬ (ShowsWideWeight (large ∷ []) (large_weight ∷ []) (E4 large (row (pos 1) (pos 1))))
   pub no_weight : ¬ (ShowsWideWeight (large ∷ []) (null ∷ []) (E4 large (row (pos 0) (pos 1))))
-  pub other_row : ¬ (ShowsWideWeight (large ∷ []) (large_weight ∷ []) (E4 (pos 1 ∷ []) (row (pos (2 ^ 64)) (pos 1))))
+  pub other_row
+      : ¬ (ShowsWideWeight (large ∷ []) (large_weight ∷ []) (E4 (pos 1 ∷ []) (row (pos (2 ^ 64)) (pos 1))))
   pub other_evidence : ¬ (ShowsWideWeight (large ∷ []) (large_weight ∷ []) (E5Rows []))

@@ -22,7 +22,8 @@ is_of_rows Facets = true
 is_of_rows AffineHull = true
 is_of_rows p = false
 
--- the numbers are the places, ascending, of the rows of VERTICES at which the objective has the optimum x in that sense; none where that is an infinity
+-- the numbers are the places, ascending, of the rows of VERTICES at which the objective has the optimum x in that
+-- sense; none where that is an infinity
 pub record ArePlacesAt (v : ViewSeen) (sense : Sense) (x : Extended) (ks : List ℤ) : Type 0 where
   pub rays : List Row
   pub reads_rays : AreRowsOf v Vertices rays

@@ -19,7 +19,8 @@ use pm_simplex::Sense;
 use pm_types::{Counts, Number, ObjectType, PropId, Value};
 use std::alloc::Global;
 
-/// The places of the rows of VERTICES at which the objective has its optimum, which is handed in; none where that is an infinity.
+/// The places of the rows of VERTICES at which the objective has its optimum, which is handed in; none where that is
+/// an infinity.
 fn places_at(
     sense: Sense,
     alloc: Global,

@@ -31,7 +31,8 @@ impl LpWork {
 
     /// All of them, in the order of the standard book.
     pub fn every() -> [LpWork; 8]
-        ensures { map linear_client result ≡ client.LpMax ∷ client.LpMin ∷ client.LpMaxRows ∷ client.LpMinRows
+        ensures { map linear_client result ≡ client.LpMax ∷ client.LpMin ∷ client.LpMaxRows
+            ∷ client.LpMinRows
             ∷ client.LpMaxV ∷ client.LpMinV ∷ client.LpMaxFace ∷ client.LpMinFace ∷ [] }
     {
         [
@@ -51,9 +52,9 @@ impl LpWork {
 #[derive(Debug, Drop)]
 pub struct LpFamily;
 
-/// A client of linear programs. It fails for want of memory; the optima over half-spaces where a pivot of their program
-/// leaves the range, and those with a dual where a row of the dual does; the others where a product of the objective
-/// with a ray or line does, or the optimum, or the row that vanishes at it.
+/// A client of linear programs. It fails for want of memory; the optima over half-spaces where a pivot of their
+/// program leaves the range, and those with a dual where a row of the dual does; the others where a product of the
+/// objective with a ray or line does, or the optimum, or the row that vanishes at it.
 pub type LpClient = FamilyClient<LpFamily>;
 
 impl Family for LpFamily {

@@ -2,41 +2,19 @@
 
 ghost use Rattle.pm_client.specs.Sound.{FailsRightly, IsSound, IsWideOptimum};
 ghost use Rattle.pm_clients_lp.specs.Clients.{FailsBy, IsWideWithDual, over_facets, over_rows};
-ghost use Rattle.pm_elim.specs.Evidence.{unit};
-ghost use Rattle.pm_incidence.specs.Thinning.{half_spaces};
 ghost use Rattle.pm_standard.specs.Table.{standard_kind};
 ghost use Rattle.pm_object_type.specs.declared.object_type.ObjectType.TheVariants.{Polytope};
-ghost use Rattle.std.specs.Prelude.{IfErr, IfOk, OnOk, [], ◌<◌, ◌≡◌};
+ghost use Rattle.std.specs.Prelude.{IfErr, OnOk, [], ◌<◌, ◌≡◌};
 
 use crate::programs::{optimum_over, optimum_with_dual};
 use crate::properties::{dual_in, value_in};
 use crate::reading::{objective_of, put_number, rows_of};
 use pm_client::{ClientFail, put_value};
+use pm_incidence::with_first;
 use pm_object::{Draft, View};
 use pm_simplex::Sense;
 use pm_types::{ObjectType, PropId, Value};
-use pm_vector::Ints;
-use std::alloc::{AllocError, Global};
-
-/// The row (1, 0, .., 0).
-fn first_unit(alloc: Global, cols: usize) -> Result<Ints, AllocError>
-    requires { 0 < cols }
-    ensures { IfOk result (λ r. r ≡ unit cols 0) }
-{
-    let mut entries = vec![in alloc; 0i128; cols]?;
-    entries[0] = 1;
-    Ok(Ints::from_vec(entries))
-}
-
-/// The half-spaces of a polytope: its inequalities, and then the row (1, 0, .., 0).
-fn with_first(alloc: Global, cols: usize, inequalities: Vec<Ints>) -> Result<Vec<Ints>, AllocError>
-    requires { 0 < cols }
-    ensures { IfOk result (λ v. v.items ≡ half_spaces Polytope cols inequalities.items) }
-{
-    let mut rows = inequalities;
-    rows.push(first_unit(alloc, cols)?)?;
-    Ok(rows)
-}
+use std::alloc::Global;
 
 /// The optimum: that over INEQUALITIES with x0 >= 0, and EQUATIONS.
 pub(crate) fn value_from_rows(

@@ -1,4 +1,5 @@
-//! Clients that find optima of linear programs over polytopes, from half-spaces or rays, with duals; and the rays at an optimum.
+//! Clients that find optima of linear programs over polytopes, from half-spaces or rays, with duals; and the rays at
+//! an optimum. They know nothing of rounds, commands and sessions.
 #![tactic(auto)]
 
 ghost use Rattle.pm_clients_lp.specs.Examples.{DualsAreRead, FailsAreRead};

@@ -23,7 +23,8 @@ use std::alloc::Global;
 pub struct OptimumWithDual {
     /// The optimum.
     pub value: Number,
-    /// Of a finite optimum the half-spaces with a positive multiplier, times it, in the lexicographic order of the half-spaces; else no rows.
+    /// Of a finite optimum the half-spaces with a positive multiplier, times it, in the lexicographic order of the
+    /// half-spaces; else no rows.
     pub dual: Matrix,
 }
 
@@ -61,8 +62,10 @@ fn optimum_told(sense: Sense, answer: &LpAnswer) -> Number
     }
 }
 
-/// The optimum of an objective over the points with first coordinate 1 that half-spaces and equations have, all rows of as many entries as the objective has:
-/// the greatest value or the least, an infinity where the objective goes on without end, and the other infinity where there is no point.
+/// The optimum of an objective over the points with first coordinate 1 that half-spaces and equations have, all rows
+/// of as many entries as the objective has:
+/// the greatest value or the least, an infinity where the objective goes on without end, and the other infinity where
+/// there is no point.
 /// `Wide` only where a pivot of their program leaves the range, which the evidence (E3) shows.
 pub fn optimum_over(
     alloc: Global,
@@ -104,7 +107,8 @@ fn dual_of(
     }
 }
 
-/// The same by the dictionaries of the simplex method alone: a row that leaves the range is then one of the dual of an optimal dictionary.
+/// The same by the dictionaries of the simplex method alone: a row that leaves the range is then one of the dual of
+/// an optimal dictionary.
 fn optimum_by_dictionaries(
     alloc: Global,
     sense: Sense,
@@ -132,7 +136,8 @@ fn optimum_by_dictionaries(
 }
 
 /// The same optimum, and the rows of a dual that shows it.
-/// `Wide` only where a pivot of the program leaves the range (E3), or a row of the dual of an optimal dictionary does, or its primitive row (E4).
+/// `Wide` only where a pivot of the program leaves the range (E3), or a row of the dual of an optimal dictionary
+/// does, or its primitive row (E4).
 pub fn optimum_with_dual(
     alloc: Global,
     sense: Sense,

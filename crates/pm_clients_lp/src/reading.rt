@@ -45,7 +45,8 @@ fn parts_of(value: Fraction) -> (i128, i128)
     (value.num(), value.den())
 }
 
-/// Puts a number, whose fraction is in lowest terms and in the range. It fails only for want of memory; then nothing changes.
+/// Puts a number, whose fraction is in lowest terms and in the range. It fails only for want of memory; then nothing
+/// changes.
 pub(crate) fn put_number(draft: &mut Draft, p: PropId, x: Number) -> Result<(), ClientFail>
     requires target { IsTrue (has draft.old.kind.targets p) }
     requires missing { drafted p draft.old.values ≡ None }

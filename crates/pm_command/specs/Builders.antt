@@ -19,7 +19,8 @@ word_of (Two Minkowski) = codes "minkowski"
 word_of (Two Refine) = codes "refine"
 
 abbrev pub every_builder : List Builder
-every_builder = One Polar ∷ One Pyramid ∷ One NormalFan ∷ One FaceFan ∷ Two Product ∷ Two Minkowski ∷ Two Refine ∷ []
+every_builder = One Polar ∷ One Pyramid ∷ One NormalFan ∷ One FaceFan ∷ Two Product ∷ Two Minkowski
+    ∷ Two Refine ∷ []
 
 -- the one of this word
 abbrev pub builder_named : List ℕ → Option Builder

@@ -1,13 +1,22 @@
 -- The commands that lines speak. A REF is NAME, or NAME.SUB for the part SUB of an object.
--- `rules` asks for the book; `disable NAME LABEL` bars the rule of the label on an object, and `unload CLIENT` lets the first client of the name go; both are words as in books.
--- `ensure REF PROP ..` asks that values be held, and `explain REF PROP ..` how they would be found: at most four properties, and one that is named twice counts once. `history NAME` asks what happened to an object.
+-- `rules` asks for the book; `disable NAME LABEL` bars the rule of the label on an object, and `unload CLIENT` lets
+-- the first client of the name go; both are words as in books.
+-- `ensure REF PROP ..` asks that values be held, and `explain REF PROP ..` how they would be found: at most four
+-- properties, and one that is named twice counts once. `history NAME` asks what happened to an object.
 -- `show NAME` asks what an object holds, and `evidence NAME LABEL` why the rule of the label is barred there.
--- `load NAME FILE` makes an object of what a file holds, and `save NAME FILE` writes an object to a file; FILE is a word that names a file.
--- `copy NAME NEW` makes an object of the name NEW that is as that of NAME, and `drop NAME` lets an object go; `origin REF PROP` asks how a value came to be held.
--- `make NEW SHAPE N ..` makes a polytope of the name NEW: `cube N`, `simplex N` or `cross N` of the dimension N, or `cyclic N M` of the dimension N with M points; a number is from 1 to 9999, in decimal digits of which the first is not 0.
--- `WORD NAME NEW` and `WORD NAME NAME NEW` build an object of the name NEW of one other, or of two; the words are those of Builders.antt.
--- `new REF TYPE` makes an object; `take REF PROP JSON` gives it a value, and the JSON text is all that stands after the third space, one byte at least; `give REF PROP` asks for a value, and `lookup REF PROP` for one that is held.
--- A line of spaces and tabs alone, or whose first byte is #, is blank. Any other line is no command, and so is one that is no UTF-8.
+-- `load NAME FILE` makes an object of what a file holds, and `save NAME FILE` writes an object to a file; FILE is a
+-- word that names a file.
+-- `copy NAME NEW` makes an object of the name NEW that is as that of NAME, and `drop NAME` lets an object go; `origin
+-- REF PROP` asks how a value came to be held.
+-- `make NEW SHAPE N ..` makes a polytope of the name NEW: `cube N`, `simplex N` or `cross N` of the dimension N, or
+-- `cyclic N M` of the dimension N with M points; a number is from 1 to 9999, in decimal digits of which the first is
+-- not 0.
+-- `WORD NAME NEW` and `WORD NAME NAME NEW` build an object of the name NEW of one other, or of two; the words are
+-- those of Builders.antt.
+-- `new REF TYPE` makes an object; `take REF PROP JSON` gives it a value, and the JSON text is all that stands after
+-- the third space, one byte at least; `give REF PROP` asks for a value, and `lookup REF PROP` for one that is held.
+-- A line of spaces and tabs alone, or whose first byte is #, is blank. Any other line is no command, and so is one
+-- that is no UTF-8.
 use Rattle.std.specs.Prelude.{ℕ, Bool, true, false, ◌&&◌, List, [], ◌∷◌, map, string_bytes, Option, Some, None, option_map, option_and_then, if◌then◌else◌, codes}
 use Rattle.std.specs.List.{before_first, after_first}
 use Rattle.std.specs.Str.{is_utf8, bytes_eq}
@@ -29,7 +38,8 @@ pub record RefSeen : Type 0 where
   pub name : List ℕ
   pub sub : Option (List ℕ)
 
--- a polytope that is made: cube_shape d, simplex_shape d and cross_shape d of dimension d, cyclic_shape d n of dimension d with n points
+-- a polytope that is made: cube_shape d, simplex_shape d and cross_shape d of dimension d, cyclic_shape d n of
+-- dimension d with n points
 pub data ShapeSeen : Type 0 where
   cube_shape : ℕ → ShapeSeen
   simplex_shape : ℕ → ShapeSeen
@@ -60,11 +70,13 @@ pub data Spoken : Type 0 where
   build_object : Builder → List (List ℕ) → List ℕ → Spoken
 
 abbrev pub part_of : List ℕ → List ℕ → Option RefSeen
-part_of name sub = if is_name name && is_name sub then Some (record { name = name; sub = Some sub }) else None
+part_of name sub = if is_name name && is_name sub then Some (record { name = name; sub = Some sub })
+    else None
 
 -- the REF that the word is
 abbrev pub ref_of : List ℕ → Option RefSeen
-ref_of word = if is_name word then Some (record { name = word; sub = None }) else part_of (before_first is_dot word) (after_first is_dot word)
+ref_of word = if is_name word then Some (record { name = word; sub = None })
+    else part_of (before_first is_dot word) (after_first is_dot word)
 
 abbrev pub property_of : List ℕ → Option (List ℕ)
 property_of word = if is_property_word word then Some word else None
@@ -81,13 +93,15 @@ abbrev pub of_both : (RefSeen → List ℕ → Spoken) → Option RefSeen → Op
 of_both speak obj word = option_and_then (λ o. option_map (speak o) word) obj
 
 abbrev pub of_three : Option RefSeen → Option (List ℕ) → Option (List ℕ) → Option Spoken
-of_three obj prop json = option_and_then (λ o. option_and_then (λ p. option_map (take_value o p) json) prop) obj
+of_three obj prop json =
+    option_and_then (λ o. option_and_then (λ p. option_map (take_value o p) json) prop) obj
 
 abbrev pub new_line : List ℕ → Option Spoken
 new_line words = of_both new_object (ref_of (first_word words)) (type_of (rest words))
 
 abbrev pub take_line : List ℕ → Option Spoken
-take_line words = of_three (ref_of (first_word words)) (property_of (first_word (rest words))) (json_of (rest (rest words)))
+take_line words = of_three (ref_of (first_word words)) (property_of (first_word (rest words)))
+    (json_of (rest (rest words)))
 
 abbrev pub give_line : List ℕ → Option Spoken
 give_line words = of_both give_value (ref_of (first_word words)) (property_of (rest words))
@@ -100,10 +114,12 @@ abbrev pub asked_of : List ℕ → Option (List ℕ)
 asked_of text = if are_asked (words_of text) then Some text else None
 
 abbrev pub ensure_line : List ℕ → Option Spoken
-ensure_line words = of_both (λ obj text. ensure_values obj (words_of text)) (ref_of (first_word words)) (asked_of (rest words))
+ensure_line words = of_both (λ obj text. ensure_values obj (words_of text)) (ref_of (first_word words))
+    (asked_of (rest words))
 
 abbrev pub explain_line : List ℕ → Option Spoken
-explain_line words = of_both (λ obj text. explain_values obj (words_of text)) (ref_of (first_word words)) (asked_of (rest words))
+explain_line words = of_both (λ obj text. explain_values obj (words_of text)) (ref_of (first_word words))
+    (asked_of (rest words))
 
 abbrev pub history_line : List ℕ → Option Spoken
 history_line word = if is_name word then Some (tell_history word) else None
@@ -158,7 +174,8 @@ shape_of word numbers =
     if bytes_eq word (codes "cube") then option_map cube_shape (number_of numbers)
     else (if bytes_eq word (codes "simplex") then option_map simplex_shape (number_of numbers)
     else (if bytes_eq word (codes "cross") then option_map cross_shape (number_of numbers)
-    else (if bytes_eq word (codes "cyclic") then cyclic_of (number_of (first_word numbers)) (number_of (rest numbers))
+    else (if bytes_eq word (codes "cyclic") then cyclic_of (number_of (first_word numbers))
+    (number_of (rest numbers))
     else None)))
 
 abbrev pub make_of : List ℕ → Option ShapeSeen → Option Spoken
@@ -169,20 +186,25 @@ make_line words = make_of (first_word words) (shape_of (first_word (rest words))
 
 -- two names, where both are such
 abbrev pub two_names : List ℕ → Option (List ℕ × List ℕ)
-two_names words = if is_name (first_word words) && is_name (rest words) then Some (first_word words, rest words) else None
+two_names words = if is_name (first_word words)
+    && is_name (rest words) then Some (first_word words, rest words) else None
 
 -- what is spoken of two names
 abbrev pub of_names : (List ℕ → List ℕ → Spoken) → Option (List ℕ × List ℕ) → Option Spoken
 of_names speak names = option_map (λ n. speak n.0 n.1) names
 
 -- what is spoken of the names of two objects and of the new one
-abbrev pub of_three_names : (List ℕ → List ℕ → List ℕ → Spoken) → List ℕ → Option (List ℕ × List ℕ) → Option Spoken
+abbrev pub of_three_names : (List ℕ → List ℕ → List ℕ → Spoken) → List ℕ → Option (List ℕ × List ℕ)
+    → Option Spoken
 of_three_names speak first names = if is_name first then of_names (speak first) names else None
 
 -- the names of the objects that an object is built of, and its own
 abbrev pub built_line : Builder → List ℕ → Option Spoken
-built_line (One what) words = of_names (λ name new. build_object (One what) (name ∷ []) new) (two_names words)
-built_line (Two what) words = of_three_names (λ first second new. build_object (Two what) (first ∷ second ∷ []) new) (first_word words) (two_names (rest words))
+built_line (One what) words = of_names (λ name new. build_object (One what) (name ∷ []) new)
+    (two_names words)
+built_line (Two what) words =
+    of_three_names (λ first second new. build_object (Two what) (first ∷ second ∷ []) new) (first_word words)
+    (two_names (rest words))
 
 -- a command that makes an object, or builds one of others, by its first word and what stands after it
 abbrev pub build_line : List ℕ → List ℕ → Option Spoken
@@ -197,7 +219,8 @@ file_line first words =
     else (if bytes_eq first (codes "save") then save_line words
     else build_line first words)
 
--- a command that copies an object, lets it go, or asks where a value is from, by its first word and what stands after it
+-- a command that copies an object, lets it go, or asks where a value is from, by its first word and what stands after
+-- it
 abbrev pub object_line : List ℕ → List ℕ → Option Spoken
 object_line first words =
     if bytes_eq first (codes "copy") then copy_line words
@@ -233,7 +256,9 @@ line_of first words =
 
 -- the command that the line speaks
 abbrev pub command_of : List ℕ → Option Spoken
-command_of text = if is_silent text then Some blank else (if is_utf8 text then (if bytes_eq text (codes "rules") then Some show_rules else line_of (first_word text) (rest text)) else None)
+command_of text = if is_silent text then Some blank
+    else (if is_utf8 text then (if bytes_eq text (codes "rules") then Some show_rules
+    else line_of (first_word text) (rest text)) else None)
 
 -- a command that reads or writes a file
 abbrev pub is_on_files : Spoken → Bool

@@ -61,24 +61,43 @@ pub record IsLine (text line : List ℕ) (words : Bool) : Type 0 where
 -- the line speaks the command s
 abbrev pub Speaks : List ℕ → Spoken → Type 0
 Speaks text blank = IsTrue (is_silent text)
-Speaks text (new_object obj of) = IsLine text (codes "new " ++ ref_text obj ++ codes " " ++ of) (is_ref obj && is_type_word of)
-Speaks text (take_value obj prop json) = IsLine text (codes "take " ++ ref_text obj ++ codes " " ++ prop ++ codes " " ++ json) (is_ref obj && is_property_word prop && nat_le 1 (length json))
-Speaks text (give_value obj prop) = IsLine text (codes "give " ++ ref_text obj ++ codes " " ++ prop) (is_ref obj && is_property_word prop)
-Speaks text (look_up obj prop) = IsLine text (codes "lookup " ++ ref_text obj ++ codes " " ++ prop) (is_ref obj && is_property_word prop)
-Speaks text (ensure_values obj props) = IsLine text (codes "ensure " ++ ref_text obj ++ codes " " ++ spaced props) (is_ref obj && are_some_asked props)
-Speaks text (explain_values obj props) = IsLine text (codes "explain " ++ ref_text obj ++ codes " " ++ spaced props) (is_ref obj && are_some_asked props)
+Speaks text (new_object obj of) = IsLine text (codes "new " ++ ref_text obj ++ codes " " ++ of)
+    (is_ref obj && is_type_word of)
+Speaks text (take_value obj prop json) =
+    IsLine text (codes "take " ++ ref_text obj ++ codes " " ++ prop ++ codes " " ++ json)
+    (is_ref obj && is_property_word prop && nat_le 1 (length json))
+Speaks text (give_value obj prop) = IsLine text (codes "give " ++ ref_text obj ++ codes " " ++ prop)
+    (is_ref obj && is_property_word prop)
+Speaks text (look_up obj prop) = IsLine text (codes "lookup " ++ ref_text obj ++ codes " " ++ prop)
+    (is_ref obj && is_property_word prop)
+Speaks text (ensure_values obj props) =
+    IsLine text (codes "ensure " ++ ref_text obj ++ codes " " ++ spaced props)
+    (is_ref obj && are_some_asked props)
+Speaks text (explain_values obj props) =
+    IsLine text (codes "explain " ++ ref_text obj ++ codes " " ++ spaced props)
+    (is_ref obj && are_some_asked props)
 Speaks text (tell_history name) = IsLine text (codes "history " ++ name) (is_name name)
 Speaks text (show_object name) = IsLine text (codes "show " ++ name) (is_name name)
-Speaks text (tell_evidence name label) = IsLine text (codes "evidence " ++ name ++ codes " " ++ label) (is_name name && is_label label)
+Speaks text (tell_evidence name label) =
+    IsLine text (codes "evidence " ++ name ++ codes " " ++ label) (is_name name && is_label label)
 Speaks text show_rules = IsLine text (codes "rules") true
-Speaks text (disable_rule name label) = IsLine text (codes "disable " ++ name ++ codes " " ++ label) (is_name name && is_label label)
+Speaks text (disable_rule name label) =
+    IsLine text (codes "disable " ++ name ++ codes " " ++ label) (is_name name && is_label label)
 Speaks text (unload_client client) = IsLine text (codes "unload " ++ client) (is_word client)
-Speaks text (copy_object name to) = IsLine text (codes "copy " ++ name ++ codes " " ++ to) (is_name name && is_name to)
+Speaks text (copy_object name to) = IsLine text (codes "copy " ++ name ++ codes " " ++ to)
+    (is_name name && is_name to)
 Speaks text (drop_object name) = IsLine text (codes "drop " ++ name) (is_name name)
-Speaks text (tell_origin obj prop) = IsLine text (codes "origin " ++ ref_text obj ++ codes " " ++ prop) (is_ref obj && is_property_word prop)
-Speaks text (load_object name file) = IsLine text (codes "load " ++ name ++ codes " " ++ file) (is_name name && is_file_word file)
-Speaks text (save_object name file) = IsLine text (codes "save " ++ name ++ codes " " ++ file) (is_name name && is_file_word file)
-Speaks text (make_object new shape) = IsLine text (codes "make " ++ new ++ codes " " ++ shape_text shape) (is_name new && is_shape shape)
-Speaks text (build_object (One what) (name ∷ []) new) = IsLine text (spaced (word_of (One what) ∷ name ∷ new ∷ [])) (is_name name && is_name new)
-Speaks text (build_object (Two what) (first ∷ second ∷ []) new) = IsLine text (spaced (word_of (Two what) ∷ first ∷ second ∷ new ∷ [])) (is_name first && is_name second && is_name new)
+Speaks text (tell_origin obj prop) = IsLine text (codes "origin " ++ ref_text obj ++ codes " " ++ prop)
+    (is_ref obj && is_property_word prop)
+Speaks text (load_object name file) = IsLine text (codes "load " ++ name ++ codes " " ++ file)
+    (is_name name && is_file_word file)
+Speaks text (save_object name file) = IsLine text (codes "save " ++ name ++ codes " " ++ file)
+    (is_name name && is_file_word file)
+Speaks text (make_object new shape) = IsLine text (codes "make " ++ new ++ codes " " ++ shape_text shape)
+    (is_name new && is_shape shape)
+Speaks text (build_object (One what) (name ∷ []) new) =
+    IsLine text (spaced (word_of (One what) ∷ name ∷ new ∷ [])) (is_name name && is_name new)
+Speaks text (build_object (Two what) (first ∷ second ∷ []) new) =
+    IsLine text (spaced (word_of (Two what) ∷ first ∷ second ∷ new ∷ []))
+    (is_name first && is_name second && is_name new)
 Speaks text (build_object builder names new) = ⊥

@@ -16,7 +16,8 @@ onto_first b (line ∷ lines) = record line { bytes = b ∷ line.bytes } ∷ lin
 -- the lines of a script; the last one counts also without an LF
 abbrev pub lines_of : List ℕ → List Line
 lines_of [] = []
-lines_of (b ∷ bytes) = if b == 10 then record { bytes = []; ended = true } ∷ lines_of bytes else onto_first b (lines_of bytes)
+lines_of (b ∷ bytes) = if b == 10 then record { bytes = []; ended = true } ∷ lines_of bytes
+    else onto_first b (lines_of bytes)
 
 abbrev pub without_last_cr : List ℕ → List ℕ
 without_last_cr [] = []

@@ -58,7 +58,8 @@ are_asked words = list_all is_property_word words && nat_le (length (distinct wo
 -- decimal digits, at most four, of which the first is not 0
 abbrev pub is_number_word : List ℕ → Bool
 is_number_word [] = false
-is_number_word (b ∷ word) = not (b == 48) && list_all is_ascii_digit (b ∷ word) && nat_le (length (b ∷ word)) 4
+is_number_word (b ∷ word) = not (b == 48) && list_all is_ascii_digit (b ∷ word)
+    && nat_le (length (b ∷ word)) 4
 
 -- the number, from 1 to 9999, that such a word writes
 abbrev pub number_of : List ℕ → Option ℕ

@@ -92,7 +92,8 @@ fn read_number(word: &str) -> Option<u32>
 
 /// The cyclic polytope of two numbers.
 fn read_cyclic(numbers: &str) -> Option<Shape>
-    ensures { option_map seen_shape result ≡ cyclic_of (number_of (first_word numbers.now)) (number_of (rest numbers.now)) }
+    ensures { option_map seen_shape result ≡ cyclic_of (number_of (first_word numbers.now))
+        (number_of (rest numbers.now)) }
 {
     let (first, second) = split_word(numbers);
     let dim = read_number(first)?;
@@ -132,7 +133,8 @@ fn read_make(alloc: Global, words: &str) -> Result<Command, LineFail>
 
 /// Two names.
 fn read_names(alloc: Global, words: &str) -> Result<(String, String), LineFail>
-    ensures ok { IfOk result (λ names. two_names words.now ≡ Some (string_bytes names.0, string_bytes names.1)) }
+    ensures ok { IfOk result (λ names. two_names words.now
+        ≡ Some (string_bytes names.0, string_bytes names.1)) }
     ensures refused { IfErr result (λ e. e ≡ LineFail.BadCommand → two_names words.now ≡ None) }
 {
     let (name, new) = split_word(words);

@@ -27,8 +27,8 @@ pub struct Ref {
     pub sub: Option<String>,
 }
 
-/// A polytope that is made, by its dimension, and a cyclic one by its dimension and the number of its points. Each number is
-/// from 1 to 9999 where a line speaks it.
+/// A polytope that is made, by its dimension, and a cyclic one by its dimension and the number of its points. Each
+/// number is from 1 to 9999 where a line speaks it.
 #[derive(Clone, Copy, Debug, PartialEq, Eq)]
 pub enum Shape {
     /// The cube.

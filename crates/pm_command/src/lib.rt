@@ -1,4 +1,4 @@
-//! Commands: the lines of a script, and what each speaks.
+//! Commands: the lines of a script, and what each speaks. It knows nothing of values, objects and sessions.
 #![tactic(auto)]
 
 mod building;

@@ -1,4 +1,5 @@
--- What an answer of a linear program says of all of its points: each answer is given exactly where the program is such (Chvatal, Linear Programming, chapter 5).
+-- What an answer of a linear program says of all of its points: each answer is given exactly where the program is
+-- such (Chvatal, Linear Programming, chapter 5).
 use Rattle.pm_vector.specs.Numbers.{Ratio}
 use Rattle.pm_vector.specs.Rows.{Row}
 use Rattle.pm_dual.specs.Answers.{IsAnswer}
@@ -30,7 +31,8 @@ abbrev pub IfOptimal : LpAnswer → (Ratio → Type 0) → Type 0
 IfOptimal (Optimal value point dual) P = P value
 IfOptimal answer P = Unit {0}
 
--- the answer is an optimum exactly where there is a greatest value, which is its own; unbounded exactly where there is no bound; infeasible exactly where there is no point
+-- the answer is an optimum exactly where there is a greatest value, which is its own; unbounded exactly where there
+-- is no bound; infeasible exactly where there is no point
 pub record IsExact (S : Row → Type 0) (c : List Ratio) (answer : LpAnswer) : Type 0 where
   pub optimal : IsTrue (is_optimal answer) ↔ HasMaximum S c
   pub value : IfOptimal answer (IsMaximum S c)
@@ -39,4 +41,5 @@ pub record IsExact (S : Row → Type 0) (c : List Ratio) (answer : LpAnswer) : T
 
 -- every answer that is right is exact
 abbrev pub AnswersAreExact : Type 0
-AnswersAreExact = (A B : List Row) (c : List Ratio) (answer : LpAnswer) → IsAnswer A B c answer → IsExact (Solves A B) c answer
+AnswersAreExact = (A B : List Row) (c : List Ratio) (answer : LpAnswer) → IsAnswer A B c answer
+    → IsExact (Solves A B) c answer

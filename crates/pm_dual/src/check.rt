@@ -47,7 +47,8 @@ fn add_all(sum: &mut Ints, multipliers: &[i128], inequalities: &[Ints], equation
     requires inequality_cols { HasCols (length sum.old) inequalities.now }
     requires equation_cols { HasCols (length sum.old) equations.now }
     ensures cols { length sum.new ≡ length sum.old }
-    ensures sum { IsTrue result → Same sum.new (plus sum.old (combination multipliers.now (inequalities.now ++ equations.now))) }
+    ensures sum { IsTrue result
+        → Same sum.new (plus sum.old (combination multipliers.now (inequalities.now ++ equations.now))) }
 {
     let (first, second) = multipliers.split_at(inequalities.len());
     if !add_rows(sum, first, inequalities) {
@@ -68,7 +69,8 @@ fn zeros(alloc: Global, cols: usize) -> Result<Ints, AllocError>
     Ok(row)
 }
 
-/// Whether the first multipliers are not negative, and the sum of the rows, each taken its number of times, and of `start` is the constant.
+/// Whether the first multipliers are not negative, and the sum of the rows, each taken its number of times, and of
+/// `start` is the constant.
 fn sums_to(
     start: &mut Ints,
     multipliers: &[i128],
@@ -81,7 +83,9 @@ fn sums_to(
     requires inequality_cols { HasCols (length start.old) inequalities.now }
     requires equation_cols { HasCols (length start.old) equations.now }
     ensures up { IsTrue result → (i : ℕ) → i < length inequalities.now → pos 0 ≤ℤ entry multipliers.now i }
-    ensures sum { IsTrue result → Same (constant ∷ []) (plus start.old (combination multipliers.now (inequalities.now ++ equations.now))) }
+    ensures sum { IsTrue result
+        → Same (constant
+        ∷ []) (plus start.old (combination multipliers.now (inequalities.now ++ equations.now))) }
 {
     let (first, _second) = multipliers.split_at(inequalities.len());
     if !is_not_negative(first) {
@@ -120,7 +124,8 @@ pub(crate) fn optimum(
     requires as_many { length multipliers.now ≡ length inequalities.now + length equations.now }
     requires inequality_cols { HasCols (length point.now) inequalities.now }
     requires equation_cols { HasCols (length point.now) equations.now }
-    ensures { IfOk result (λ o. IfSome o (IsAnswerOfTimes inequalities.now equations.now objective.now.times objective.now.row)) }
+    ensures { IfOk result (λ o.
+        IfSome o (IsAnswerOfTimes inequalities.now equations.now objective.now.times objective.now.row)) }
 {
     let scale = point[0];
     if scale <= 0 || !solves(inequalities, equations, point) {
@@ -150,7 +155,8 @@ pub(crate) fn optimum(
     Ok(Some(LpAnswer::Optimal { value, point, dual }))
 }
 
-/// The objective grows without bound from the point over its first entry in the direction, where exact products show it.
+/// The objective grows without bound from the point over its first entry in the direction, where exact products show
+/// it.
 pub(crate) fn unbounded(
     alloc: Global,
     inequalities: &[Ints],
@@ -164,7 +170,8 @@ pub(crate) fn unbounded(
     requires direction_cols { length direction.now ≡ length objective.now.row }
     requires inequality_cols { HasCols (length point.now) inequalities.now }
     requires equation_cols { HasCols (length point.now) equations.now }
-    ensures { IfOk result (λ o. IfSome o (IsAnswerOfTimes inequalities.now equations.now objective.now.times objective.now.row)) }
+    ensures { IfOk result (λ o.
+        IfSome o (IsAnswerOfTimes inequalities.now equations.now objective.now.times objective.now.row)) }
 {
     let scale = point[0];
     if scale <= 0 || !solves(inequalities, equations, point) {
@@ -188,7 +195,8 @@ pub(crate) fn unbounded(
     Ok(Some(LpAnswer::Unbounded { point, direction }))
 }
 
-/// There is no point, where exact products show that the rows, taken these numbers of times, sum to a negative constant.
+/// There is no point, where exact products show that the rows, taken these numbers of times, sum to a negative
+/// constant.
 pub(crate) fn infeasible(
     alloc: Global,
     cols: usize,
@@ -201,7 +209,8 @@ pub(crate) fn infeasible(
     requires as_many { length multipliers.now ≡ length inequalities.now + length equations.now }
     requires inequality_cols { HasCols cols inequalities.now }
     requires equation_cols { HasCols cols equations.now }
-    ensures { IfOk result (λ o. IfSome o (λ answer. (c : List Ratio) → IsAnswer inequalities.now equations.now c answer)) }
+    ensures { IfOk result (λ o. IfSome o (λ answer. (c : List Ratio)
+        → IsAnswer inequalities.now equations.now c answer)) }
 {
     let mut start = zeros(alloc, cols)?;
     if constant >= 0 || !sums_to(&mut start, multipliers, inequalities, equations, constant) {

@@ -1,4 +1,5 @@
-//! Linear programs, quickly: a search by the dual simplex method in whole numbers, whose answer counts only where exact products show it.
+//! Linear programs, quickly: a search by the dual simplex method in whole numbers, whose answer counts only where
+//! exact products show it. It knows nothing of properties, values and objects.
 #![tactic(auto)]
 
 ghost use Rattle.pm_dual.specs.Exact.{AnswersAreExact};
@@ -17,8 +18,8 @@ mod wide;
 pub use answer::LpAnswer;
 pub use quick::quick_answer;
 
-/// An answer that is right is an optimum exactly where there is a greatest value, which is its own, `Unbounded` exactly
-/// where there is no bound, and `Infeasible` exactly where there is no point.
+/// An answer that is right is an optimum exactly where there is a greatest value, which is its own, `Unbounded`
+/// exactly where there is no bound, and `Infeasible` exactly where there is no point.
 pub fn law_answers_are_exact()
     ensures { AnswersAreExact }
 {}

@@ -13,7 +13,8 @@ use pm_fraction::Fraction;
 use pm_vector::Ints;
 use std::alloc::{AllocError, Global};
 
-/// An answer of the program, which exact products show. None where a search finds none: that says nothing of the program.
+/// An answer of the program, which exact products show. None where a search finds none: that says nothing of the
+/// program.
 pub fn quick_answer(
     alloc: Global,
     inequalities: &[Ints],

@@ -1,4 +1,5 @@
-// A search for the answer by the dual simplex method from the best vertex of a box without end. Nothing is claimed of what it finds.
+// A search for the answer by the dual simplex method from the best vertex of a box without end. Nothing is claimed of
+// what it finds.
 
 use crate::rows::{Row, Rows};
 use crate::vertex::{Vertex, Violated};

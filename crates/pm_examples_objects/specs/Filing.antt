@@ -62,16 +62,25 @@ program name objective failed = record { name = name; objective = objective; fai
 
 -- a polytope of two columns with these programs
 abbrev pub small_polytope : List SavedProgram → SavedFile
-small_polytope programs = record { of = Polytope; values = (ConeAmbientDim, whole (pos 2)) ∷ []; stored = set_of []; failed = []; programs = programs; ignored = [] }
+small_polytope programs = record {
+  of = Polytope;
+  values = (ConeAmbientDim, whole (pos 2)) ∷ [];
+  stored = set_of [];
+  failed = [];
+  programs = programs;
+  ignored = [];
+}
 
 -- the programs a, with an objective and a mark, and c, without
 abbrev pub two_programs : List SavedProgram
-two_programs = program (Some (codes "a")) (Some row) ((codes "b", 4) ∷ []) ∷ program (Some (codes "c")) None [] ∷ []
+two_programs = program (Some (codes "a")) (Some row) ((codes "b", 4) ∷ [])
+    ∷ program (Some (codes "c")) None [] ∷ []
 
 -- the same as an object, that holds these values too
 abbrev pub polytope_with : List HeldValue → State
 polytope_with more = record (empty_object Polytope) {
-  held = file_value Given ConeAmbientDim (whole (pos 2)) ∷ given_at (Some 0) LinearObjective (matrix 2 row) ∷ more;
+  held = file_value Given ConeAmbientDim (whole (pos 2)) ∷ given_at (Some 0) LinearObjective (matrix 2 row)
+      ∷ more;
   excluded = excluded_second (Some 0) (why.Stored 4) ∷ [];
   programs = codes "a" ∷ codes "c" ∷ [];
 }
@@ -82,28 +91,47 @@ greatest = record { place = Some 0; property = MaximalFace; value = counts []; o
 
 pub record FilesAreLoaded : Type 0 where
   pub given : (book : List Rule) → loaded_object book (small_file [] []) ≡ small_object Given []
-  pub stored : (book : List Rule) → loaded_object book (small_file (Pointed ∷ []) []) ≡ small_object Stored []
+  pub stored : (book : List Rule) → loaded_object book (small_file (Pointed ∷ []) [])
+      ≡ small_object Stored []
   pub then_sealed : (book : List Rule) → is_sealed (loaded_object book (small_file (Pointed ∷ []) [])) ≡ true
   pub else_open : (book : List Rule) → is_sealed (loaded_object book (small_file [] [])) ≡ false
   pub second_label : (rule : Rule) → rule_labelled (two_rules rule) (codes "b") ≡ Some second
   pub no_label : (rule : Rule) → rule_labelled (two_rules rule) (codes "c") ≡ None
-  pub is_marked : (rule : Rule) → loaded_object (two_rules rule) (small_file [] ((codes "b", 4) ∷ [])) ≡ small_object Given (excluded_second None (why.Stored 4) ∷ [])
+  pub is_marked : (rule : Rule) → loaded_object (two_rules rule) (small_file [] ((codes "b", 4) ∷ []))
+      ≡ small_object Given (excluded_second None (why.Stored 4) ∷ [])
   -- objectives and marks stand at the places of their programs
-  pub programs : (rule : Rule) → loaded_object (two_rules rule) (small_polytope two_programs) ≡ polytope_with []
-  pub second_place : objectives_held 0 (program (Some (codes "a")) None [] ∷ program (Some (codes "c")) (Some row) [] ∷ []) ≡ given_at (Some 1) LinearObjective (matrix 2 row) ∷ []
-  pub second_mark : (rule : Rule) → marks_of_programs (two_rules rule) 0 (program (Some (codes "a")) None [] ∷ program (Some (codes "c")) None ((codes "b", 2) ∷ []) ∷ []) ≡ excluded_second (Some 1) (why.Stored 2) ∷ []
-  pub is_read_over : (rule : Rule) → loaded_object (two_rules rule) (small_file [] ((codes "c", 4) ∷ [])) ≡ small_object Given []
+  pub programs : (rule : Rule) → loaded_object (two_rules rule) (small_polytope two_programs)
+      ≡ polytope_with []
+  pub second_place : objectives_held 0 (program (Some (codes "a")) None []
+      ∷ program (Some (codes "c")) (Some row) [] ∷ [])
+      ≡ given_at (Some 1) LinearObjective (matrix 2 row) ∷ []
+  pub second_mark : (rule : Rule)
+      → marks_of_programs (two_rules rule) 0 (program (Some (codes "a")) None []
+      ∷ program (Some (codes "c")) None ((codes "b", 2) ∷ []) ∷ [])
+      ≡ excluded_second (Some 1) (why.Stored 2) ∷ []
+  pub is_read_over : (rule : Rule) → loaded_object (two_rules rule) (small_file [] ((codes "c", 4) ∷ []))
+      ≡ small_object Given []
 
 pub record ObjectsAreSaved : Type 0 where
   pub given : (book : List Rule) → saved_file book (small_object Given []) ≡ small_file [] []
   pub stored : (book : List Rule) → saved_file book (small_object Stored []) ≡ small_file (Pointed ∷ []) []
-  pub computed : (book : List Rule) → saved_file book (small_object Computed []) ≡ small_file (Pointed ∷ []) []
-  pub failed : (rule : Rule) → mark_written (two_rules rule) None (excluded_second None (why.Failed (E4 [] []))) ≡ (codes "b", 4) ∷ []
-  pub marked_again : (rule : Rule) → mark_written (two_rules rule) None (excluded_second None (why.Stored 2)) ≡ (codes "b", 2) ∷ []
-  pub not_false : (rule : Rule) → mark_written (two_rules rule) None (excluded_second None (why.False FullDim)) ≡ []
-  pub not_of_a_program : (rule : Rule) → mark_written (two_rules rule) None (excluded_second (Some 0) (why.Stored 2)) ≡ []
-  pub of_its_program : (rule : Rule) → mark_written (two_rules rule) (Some 0) (excluded_second (Some 0) (why.Stored 2)) ≡ (codes "b", 2) ∷ []
-  pub not_of_another : (rule : Rule) → mark_written (two_rules rule) (Some 1) (excluded_second (Some 0) (why.Stored 2)) ≡ []
+  pub computed : (book : List Rule) → saved_file book (small_object Computed [])
+      ≡ small_file (Pointed ∷ []) []
+  pub failed : (rule : Rule)
+      → mark_written (two_rules rule) None (excluded_second None (why.Failed (E4 [] [])))
+      ≡ (codes "b", 4) ∷ []
+  pub marked_again : (rule : Rule) → mark_written (two_rules rule) None (excluded_second None (why.Stored 2))
+      ≡ (codes "b", 2) ∷ []
+  pub not_false : (rule : Rule)
+      → mark_written (two_rules rule) None (excluded_second None (why.False FullDim)) ≡ []
+  pub not_of_a_program : (rule : Rule)
+      → mark_written (two_rules rule) None (excluded_second (Some 0) (why.Stored 2)) ≡ []
+  pub of_its_program : (rule : Rule)
+      → mark_written (two_rules rule) (Some 0) (excluded_second (Some 0) (why.Stored 2))
+      ≡ (codes "b", 2) ∷ []
+  pub not_of_another : (rule : Rule)
+      → mark_written (two_rules rule) (Some 1) (excluded_second (Some 0) (why.Stored 2)) ≡ []
   pub programs : (rule : Rule) → saved_file (two_rules rule) (polytope_with []) ≡ small_polytope two_programs
   -- what was computed of a program is not written
-  pub no_value_of_a_program : (rule : Rule) → saved_file (two_rules rule) (polytope_with (greatest ∷ [])) ≡ small_polytope two_programs
+  pub no_value_of_a_program : (rule : Rule)
+      → saved_file (two_rules rule) (polytope_with (greatest ∷ [])) ≡ small_polytope two_programs

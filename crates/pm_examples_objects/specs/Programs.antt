@@ -79,7 +79,8 @@ pub record ObjectivesAreGiven : Type 0 where
   pub no_face : is_given_at Polytope (Some 1) MaximalFace ≡ false
   pub no_facets : is_given_at Polytope (Some 1) Facets ≡ false
 
--- a round for the object, or a computed value of its own, leaves a program open; a round for a program seals the object
+-- a round for the object, or a computed value of its own, leaves a program open; a round for a program seals the
+-- object
 pub record ProgramsAreSealed : Type 0 where
   pub not_sealed : is_sealed_at (Some 0) two_programs ≡ false
   pub by_round : is_sealed_at (Some 0) (with_round two_programs (round (Some 0))) ≡ true
@@ -87,10 +88,16 @@ pub record ProgramsAreSealed : Type 0 where
   pub own_round : is_sealed_at (Some 0) (with_round two_programs (round None)) ≡ false
   pub object : is_sealed_at None (with_round two_programs (round (Some 0))) ≡ true
   pub object_not_sealed : is_sealed_at None two_programs ≡ false
-  pub by_value : is_sealed_at (Some 0) (with_held two_programs (computed_at (Some 0) MaximalFace (counts []) ∷ [])) ≡ true
-  pub other_value : is_sealed_at (Some 1) (with_held two_programs (computed_at (Some 0) MaximalFace (counts []) ∷ [])) ≡ false
-  pub own_value : is_sealed_at (Some 0) (with_held two_programs (computed_at (Some 0) ConeDim (whole (pos 1)) ∷ [])) ≡ false
-  pub given : is_sealed_at (Some 0) (with_held two_programs (given_at (Some 0) LinearObjective one ∷ [])) ≡ false
+  pub by_value
+      : is_sealed_at (Some 0) (with_held two_programs (computed_at (Some 0) MaximalFace (counts []) ∷ []))
+      ≡ true
+  pub other_value : is_sealed_at (Some 1)
+      (with_held two_programs (computed_at (Some 0) MaximalFace (counts []) ∷ [])) ≡ false
+  pub own_value
+      : is_sealed_at (Some 0) (with_held two_programs (computed_at (Some 0) ConeDim (whole (pos 1)) ∷ []))
+      ≡ false
+  pub given : is_sealed_at (Some 0) (with_held two_programs (given_at (Some 0) LinearObjective one ∷ []))
+      ≡ false
 
 -- the polytope with an objective of a
 abbrev pub with_objective : State
@@ -100,6 +107,7 @@ pub record ObjectivesAreTaken : Type 0 where
   pub taken : take_refusal two_programs (Some 0) LinearObjective one ≡ None
   pub twice : take_refusal with_objective (Some 0) LinearObjective one ≡ Some AlreadyHeld
   pub other : take_refusal with_objective (Some 1) LinearObjective one ≡ None
-  pub sealed : take_refusal (with_round two_programs (round (Some 0))) (Some 0) LinearObjective one ≡ Some Sealed
+  pub sealed : take_refusal (with_round two_programs (round (Some 0))) (Some 0) LinearObjective one
+      ≡ Some Sealed
   pub own : take_refusal two_programs None LinearObjective one ≡ Some NotOfType
   pub columns : take_refusal with_objective (Some 1) LinearObjective sum_of_two ≡ Some Columns

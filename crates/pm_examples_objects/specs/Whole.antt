@@ -26,7 +26,8 @@ with_values_of values = record (small_file [] []) { values = values }
 
 -- the programs a, with a mark, and c
 abbrev pub two_names : List SavedProgram
-two_names = program (Some (codes "a")) None (mark (codes "b") 4 ∷ []) ∷ program (Some (codes "c")) None [] ∷ []
+two_names = program (Some (codes "a")) None (mark (codes "b") 4 ∷ []) ∷ program (Some (codes "c")) None []
+    ∷ []
 
 -- an objective of three columns
 abbrev pub three : List (List Ratio)
@@ -45,10 +46,14 @@ pub record FilesAreWhole : Type 0 where
   pub label_twice : ¬ (IsWhole (small_file [] (mark (codes "a") 1 ∷ mark (codes "a") 2 ∷ [])))
   -- a polytope may have programs, of different names, and marks and objectives that are such
   pub programs : IsWhole (small_polytope two_names)
-  pub no_cone_program : ¬ (IsWhole (record (small_file [] []) { programs = program (Some (codes "a")) None [] ∷ [] }))
-  pub name_twice : ¬ (IsWhole (small_polytope (program (Some (codes "a")) None [] ∷ program (Some (codes "a")) (Some row) [] ∷ [])))
+  pub no_cone_program
+      : ¬ (IsWhole (record (small_file [] []) { programs = program (Some (codes "a")) None [] ∷ [] }))
+  pub name_twice
+      : ¬ (IsWhole
+      (small_polytope (program (Some (codes "a")) None [] ∷ program (Some (codes "a")) (Some row) [] ∷ [])))
   pub nameless : ¬ (IsWhole (small_polytope (program None (Some row) [] ∷ [])))
-  pub no_program_mark : ¬ (IsWhole (small_polytope (program (Some (codes "a")) None (mark (codes "a") 6 ∷ []) ∷ [])))
+  pub no_program_mark
+      : ¬ (IsWhole (small_polytope (program (Some (codes "a")) None (mark (codes "a") 6 ∷ []) ∷ [])))
   pub no_row : ¬ (IsWhole (small_polytope (program (Some (codes "a")) (Some []) [] ∷ [])))
   pub other_columns : ¬ (IsWhole (small_polytope (program (Some (codes "a")) (Some three) [] ∷ [])))
   -- no value is lost, and none is another
@@ -60,26 +65,41 @@ pub record FilesAreWhole : Type 0 where
 pub record ObjectsAreAgain : Type 0 where
   pub given : held_again (file_value Given Pointed (truth true)) ≡ file_value Given Pointed (truth true)
   pub stored : held_again (file_value Stored Pointed (truth true)) ≡ file_value Stored Pointed (truth true)
-  pub computed : held_again (file_value Computed Pointed (truth true)) ≡ file_value Stored Pointed (truth true)
-  pub objective : held_again (given_at (Some 0) LinearObjective (matrix 2 row)) ≡ given_at (Some 0) LinearObjective (matrix 2 row)
+  pub computed : held_again (file_value Computed Pointed (truth true))
+      ≡ file_value Stored Pointed (truth true)
+  pub objective : held_again (given_at (Some 0) LinearObjective (matrix 2 row))
+      ≡ given_at (Some 0) LinearObjective (matrix 2 row)
   -- a file has the object's own values, and objectives
   pub own : is_kept (file_value Computed Pointed (truth true)) ≡ true
   pub of_program : is_kept (given_at (Some 1) LinearObjective (matrix 2 row)) ≡ true
   pub not_kept : is_kept greatest ≡ false
   -- of each label the first mark
-  pub first_marks : each_label_once (mark (codes "a") 1 ∷ mark (codes "b") 2 ∷ mark (codes "a") 3 ∷ []) ≡ mark (codes "a") 1 ∷ mark (codes "b") 2 ∷ []
+  pub first_marks : each_label_once (mark (codes "a") 1 ∷ mark (codes "b") 2 ∷ mark (codes "a") 3 ∷ [])
+      ≡ mark (codes "a") 1 ∷ mark (codes "b") 2 ∷ []
   -- failures for the object itself or one of its programs, of rules of the book
-  pub failed : (rule : Rule) → IsFailure (two_rules rule) (small_object Given (excluded_second None (why.Failed (E4 [] [])) ∷ [])) (excluded_second None (why.Failed (E4 [] []))) 4
-  pub for_a_program : (rule : Rule) → IsFailure (two_rules rule) (polytope_with []) (excluded_second (Some 0) (why.Stored 4)) 4
-  pub no_program : (rule : Rule) (k : ℕ) → ¬ (IsFailure (two_rules rule) (small_object Given (excluded_second (Some 0) (why.Stored 2) ∷ [])) (excluded_second (Some 0) (why.Stored 2)) k)
+  pub failed : (rule : Rule)
+      → IsFailure (two_rules rule) (small_object Given (excluded_second None (why.Failed (E4 [] [])) ∷ []))
+      (excluded_second None (why.Failed (E4 [] []))) 4
+  pub for_a_program : (rule : Rule)
+      → IsFailure (two_rules rule) (polytope_with []) (excluded_second (Some 0) (why.Stored 4)) 4
+  pub no_program : (rule : Rule) (k : ℕ)
+      → ¬ (IsFailure (two_rules rule) (small_object Given (excluded_second (Some 0) (why.Stored 2) ∷ []))
+      (excluded_second (Some 0) (why.Stored 2)) k)
   pub last_place : is_place 2 (Some 1) ≡ true
   pub no_place : is_place 2 (Some 2) ≡ false
-  pub not_false : (rule : Rule) (k : ℕ) → ¬ (IsFailure (two_rules rule) (small_object Given (excluded_second None (why.False FullDim) ∷ [])) (excluded_second None (why.False FullDim)) k)
-  pub no_rule : (k : ℕ) → ¬ (IsFailure [] (small_object Given (excluded_second None (why.Stored 2) ∷ [])) (excluded_second None (why.Stored 2)) k)
+  pub not_false : (rule : Rule) (k : ℕ)
+      → ¬ (IsFailure (two_rules rule) (small_object Given (excluded_second None (why.False FullDim) ∷ []))
+      (excluded_second None (why.False FullDim)) k)
+  pub no_rule : (k : ℕ)
+      → ¬ (IsFailure [] (small_object Given (excluded_second None (why.Stored 2) ∷ []))
+      (excluded_second None (why.Stored 2)) k)
   -- of one property at one place
-  pub once : are_once (file_value Given ConeAmbientDim (whole (pos 2)) ∷ file_value Given Pointed (truth true) ∷ []) ≡ true
-  pub twice : are_once (file_value Given Pointed (truth true) ∷ file_value Given Pointed (truth false) ∷ []) ≡ false
-  pub elsewhere : are_once (file_value Given Pointed (truth true) ∷ record (file_value Given Pointed (truth true)) { place = Some 0 } ∷ []) ≡ true
+  pub once : are_once (file_value Given ConeAmbientDim (whole (pos 2))
+      ∷ file_value Given Pointed (truth true) ∷ []) ≡ true
+  pub twice : are_once (file_value Given Pointed (truth true) ∷ file_value Given Pointed (truth false) ∷ [])
+      ≡ false
+  pub elsewhere : are_once (file_value Given Pointed (truth true)
+      ∷ record (file_value Given Pointed (truth true)) { place = Some 0 } ∷ []) ≡ true
   pub numbered : is_numbered (why.Stored 5) ≡ true
   pub no_number : is_numbered (why.Stored 6) ≡ false
   pub no_nought : is_numbered (why.Stored 0) ≡ false

@@ -1,4 +1,5 @@
--- Linear programs without end, on a line, and with rows that are not primitive: which values, faces and dual rows are right.
+-- Linear programs without end, on a line, and with rows that are not primitive: which values, faces and dual rows are
+-- right.
 use Rattle.std.specs.Prelude.{[], ◌∷◌, map}
 use Rattle.pm_geom.specs.Examples.{half_line, pair, triple}
 use Rattle.pm_examples_programs.specs.Examples.{below_all, infinity, number, orders_of, program_on, segment}
@@ -17,13 +18,16 @@ backwards = pos 0 ∷ negsuc 0 ∷ []
 
 -- of the objective -x1 the value is right for the half line x1 >= 0
 abbrev pub FallingHas : PropId → PropertyValue → Type 0
-FallingHas p v = Right p v (program_on 2 half_line (ratios backwards)) (orders_of half_line half_line) (ratios backwards)
+FallingHas p v = Right p v (program_on 2 half_line (ratios backwards)) (orders_of half_line half_line)
+    (ratios backwards)
 
 -- of the objective x1 it is right for the segment from 0 to 1
 abbrev pub SegmentHas : PropId → PropertyValue → Type 0
-SegmentHas p v = Right p v (program_on 2 segment (ratios (pair 0 1))) (orders_of segment segment) (ratios (pair 0 1))
+SegmentHas p v = Right p v (program_on 2 segment (ratios (pair 0 1))) (orders_of segment segment)
+    (ratios (pair 0 1))
 
--- -x1 falls without end, so its least value is -inf, without a face and without dual rows; its greatest is 0: along the ray it does not improve, and on the segment x1 improves from point to point, but along no direction
+-- -x1 falls without end, so its least value is -inf, without a face and without dual rows; its greatest is 0: along
+-- the ray it does not improve, and on the segment x1 improves from point to point, but along no direction
 pub record EndlessProgramsAreRead : Type 0 where
   pub least : FallingHas MinimalValue below_all
   pub not_infinity : ¬ (FallingHas MinimalValue infinity)
@@ -61,7 +65,8 @@ twice_along = pair 0 2
 
 -- of the objective 2 x1 the value is right for the half line
 abbrev pub TwiceHas : PropId → PropertyValue → Type 0
-TwiceHas p v = Right p v (program_on 2 half_line (ratios twice_along)) (orders_of half_line half_line) (ratios twice_along)
+TwiceHas p v = Right p v (program_on 2 half_line (ratios twice_along)) (orders_of half_line half_line)
+    (ratios twice_along)
 
 -- the facet row stands with its multiplier, so it need not be primitive; the primitive row has another sum
 pub record ScaledDualsAreRead : Type 0 where

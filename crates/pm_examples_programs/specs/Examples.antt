@@ -62,9 +62,11 @@ pub record EmptyProgramsAreRead : Type 0 where
 -- ---- the half line x1 >= 0
 -- of the objective x1 the value is right for the half line, whose rays are (0,1) and (1,0)
 abbrev pub HalfLineHas : PropId → PropertyValue → Type 0
-HalfLineHas p v = Right p v (program_on 2 half_line (ratios (pair 0 1))) (orders_of half_line half_line) (ratios (pair 0 1))
+HalfLineHas p v = Right p v (program_on 2 half_line (ratios (pair 0 1))) (orders_of half_line half_line)
+    (ratios (pair 0 1))
 
--- x1 improves without end, and is least, 0, at the vertex, which the facet row (0,1) shows: not its double, and not with the far face, which shows -1
+-- x1 improves without end, and is least, 0, at the vertex, which the facet row (0,1) shows: not its double, and not
+-- with the far face, which shows -1
 pub record HalfLineProgramsAreRead : Type 0 where
   pub greatest : HalfLineHas MaximalValue infinity
   pub not_below_all : ¬ (HalfLineHas MaximalValue below_all)
@@ -118,7 +120,8 @@ pub record SquareProgramsAreRead : Type 0 where
 
 -- of the objective 2 x1 the value is right for the square
 abbrev pub DoubleHas : PropId → PropertyValue → Type 0
-DoubleHas p v = Right p v (program_on 3 square (ratios (triple 0 2 0))) (orders_of square edges) (ratios (triple 0 2 0))
+DoubleHas p v = Right p v (program_on 3 square (ratios (triple 0 2 0))) (orders_of square edges)
+    (ratios (triple 0 2 0))
 
 -- x1 + x2 and both edges at the last vertex are together 2; the edges stand in lexicographic order, each once
 pub record SquareDualsAreRead : Type 0 where
@@ -132,7 +135,8 @@ pub record SquareDualsAreRead : Type 0 where
 -- ---- other objectives
 -- the square with the objective 0
 abbrev pub ConstantHas : PropId → PropertyValue → Type 0
-ConstantHas p v = Right p v (program_on 3 square (ratios (triple 0 0 0))) (orders_of square edges) (ratios (triple 0 0 0))
+ConstantHas p v = Right p v (program_on 3 square (ratios (triple 0 0 0))) (orders_of square edges)
+    (ratios (triple 0 0 0))
 
 -- the value is 0 at each vertex, which no row has to show
 pub record ConstantProgramsAreRead : Type 0 where

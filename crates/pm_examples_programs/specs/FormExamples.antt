@@ -1,4 +1,5 @@
--- Which sets, lattices, lists of numbers, whole numbers and truth values have the form of their property; which rows pass the tests of rows; and faults of JSON values.
+-- Which sets, lattices, lists of numbers, whole numbers and truth values have the form of their property; which rows
+-- pass the tests of rows; and faults of JSON values.
 use Rattle.std.specs.Prelude.{◌≡◌, ◌-◌, ◌^◌, [], ◌∷◌, Ok, Err, false, true}
 use Rattle.pm_geom.specs.Examples.{pair}
 use Rattle.pm_json.specs.Readings.{reading}
@@ -14,7 +15,8 @@ use Rattle.serde_json.specs.Data.{boolean, negative, null}
 use Rattle.serde_json.specs.Data as json
 use lib.IntN.{negsuc, pos}
 
--- sets rise, below their column count, which is at most 2,048; so do faces, below 2,048; numbers have 64 bits, and a number of columns is from 1 to 33
+-- sets rise, below their column count, which is at most 2,048; so do faces, below 2,048; numbers have 64 bits, and a
+-- number of columns is from 1 to 33
 pub record ValueFormsAreRead : Type 0 where
   pub sets_rise : is_formed VerticesInFacets (sets ((0 ∷ 2 ∷ []) ∷ [] ∷ []) 3) ≡ true
   pub not_below : is_formed VerticesInFacets (sets ((0 ∷ 3 ∷ []) ∷ []) 3) ≡ false
@@ -47,7 +49,8 @@ alone x = matrix 2 (ratios x ∷ [])
 abbrev pub behind : Row
 behind = negsuc 0 ∷ pos 0 ∷ []
 
--- points of a polytope do not lie behind, its lines have first coordinate 0, and no ray and no facet row is zero; of a cone or fan only the last is asked
+-- points of a polytope do not lie behind, its lines have first coordinate 0, and no ray and no facet row is zero; of
+-- a cone or fan only the last is asked
 pub record RowTestsAreRead : Type 0 where
   pub point : are_rows Polytope Points (alone (pair 0 0)) ≡ true
   pub point_behind : are_rows Polytope Points (alone behind) ≡ false
@@ -67,15 +70,19 @@ pub record RowTestsAreRead : Type 0 where
 pub record FaultsAreRead : Type 0 where
   -- an index above the stated column count, and one below 0
   pub above : reading VerticesInFacets (list (list (whole_number 3 ∷ []) ∷ cols 3 ∷ [])) ≡ Err Index
-  pub below : reading VerticesInFacets (list (list (json.number (negative (negsuc 0)) ∷ []) ∷ [])) ≡ Err Index
-  pub inside : reading VerticesInFacets (list (list (whole_number 2 ∷ []) ∷ cols 3 ∷ [])) ≡ Ok (sets ((2 ∷ []) ∷ []) 3)
+  pub below : reading VerticesInFacets (list (list (json.number (negative (negsuc 0)) ∷ []) ∷ []))
+      ≡ Err Index
+  pub inside : reading VerticesInFacets (list (list (whole_number 2 ∷ []) ∷ cols 3 ∷ []))
+      ≡ Ok (sets ((2 ∷ []) ∷ []) 3)
   pub no_node : reading Graph (list (list (whole_number 1 ∷ []) ∷ [])) ≡ Err Index
   pub one_way : reading Graph (list (list (whole_number 1 ∷ []) ∷ list [] ∷ [])) ≡ Err Shape
   -- in reading order
   pub limit_first : reading VerticesInFacets (list (list (whole_number 2048 ∷ []) ∷ null ∷ [])) ≡ Err Limit
   pub shape_first : reading VerticesInFacets (list (null ∷ list (whole_number 2048 ∷ []) ∷ [])) ≡ Err Shape
-  pub index_last : reading VerticesInFacets (list (list (whole_number 3 ∷ []) ∷ null ∷ cols 3 ∷ [])) ≡ Err Shape
+  pub index_last : reading VerticesInFacets (list (list (whole_number 3 ∷ []) ∷ null ∷ cols 3 ∷ []))
+      ≡ Err Shape
   -- at one element
-  pub too_long : reading Points (list (list (whole_number 1 ∷ []) ∷ list (whole_number 1 ∷ null ∷ []) ∷ [])) ≡ Err Shape
+  pub too_long : reading Points (list (list (whole_number 1 ∷ []) ∷ list (whole_number 1 ∷ null ∷ []) ∷ []))
+      ≡ Err Shape
   pub no_number : reading Points (list (list (json.string [] ∷ boolean true ∷ []) ∷ [])) ≡ Err Number
   pub no_entry : reading Points (list (list (boolean true ∷ json.string [] ∷ []) ∷ [])) ≡ Err Shape

@@ -53,6 +53,7 @@ pub record NumbersAreRead : Type 0 where
   pub above : reading MaximalValue (string (codes "inf")) ≡ Ok infinity
   pub below : reading MaximalValue (string (codes "-inf")) ≡ Ok below_all
   pub whole : reading MaximalValue (whole_number 2) ≡ Ok (number (pos 2))
-  pub half : reading MaximalValue (string (codes "2/4")) ≡ Ok (extended (finite (record { num = pos 1; den = pos 2 })))
+  pub half : reading MaximalValue (string (codes "2/4"))
+      ≡ Ok (extended (finite (record { num = pos 1; den = pos 2 })))
   pub not_a_number : reading MaximalValue (string (codes "infinity")) ≡ Err Number
   pub not_a_text : reading MaximalValue (boolean true) ≡ Err Shape

@@ -1,5 +1,5 @@
-//! Worked examples of what is right for linear programs: which values, faces and dual rows are, and which are not. It has
-//! no code.
+//! Worked examples of what is right for linear programs: which values, faces and dual rows are, and which are not. It
+//! has no code. It knows nothing of objects, rules and clients.
 #![tactic(auto)]
 
 ghost use Rattle.pm_examples_programs.specs.JsonExamples.{MatricesAreRead, NumbersAreRead};
@@ -67,7 +67,8 @@ pub fn example_scaled_duals()
     ensures { ScaledDualsAreRead }
 {}
 
-/// Which sets, lattices, lists of numbers, whole numbers and truth values have the forms of their properties, and which have not.
+/// Which sets, lattices, lists of numbers, whole numbers and truth values have the forms of their properties, and
+/// which have not.
 pub fn example_value_forms()
     ensures { ValueFormsAreRead }
 {}

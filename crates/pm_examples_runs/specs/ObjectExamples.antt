@@ -30,7 +30,8 @@ rays_alone = with_held (empty_object Cone) (based_fact Given columns ∷ compute
 abbrev pub round : RoundSeen
 round = record { sub = None; weight = record { class = 0; minor = 0 }; chain = []; end = Done }
 
--- what was given may be wrong, and what was stored; what was computed is right wherever these are. Before the first round nothing was computed.
+-- what was given may be wrong, and what was stored; what was computed is right wherever these are. Before the first
+-- round nothing was computed.
 pub record ObjectsAreJudged : Type 0 where
   pub given : IsHonest with_rays
   pub stored : IsHonest (with_held with_rays (based_fact Stored (ray_count 3) ∷ []))

@@ -1,4 +1,5 @@
--- A cone of two rays, and a client that counts them: when it may run, what it may answer, and which of its runs are sound.
+-- A cone of two rays, and a client that counts them: when it may run, what it may answer, and which of its runs are
+-- sound.
 use Rattle.std.specs.Prelude.{ℕ, None, Some, List, [], ◌∷◌, codes, true}
 use Rattle.pm_geom.specs.Examples.{triple}
 use Rattle.pm_client.specs.Sound.{IsSound}
@@ -60,21 +61,26 @@ points = own Points (whole_matrix 2 rising_rows)
 abbrev pub MayCountIn : ℕ → List Fact → Type 0
 MayCountIn n held = MayRun counting None n held
 
--- its sources and the column count are held, and the values stand where they may; its conditions are held so; and of an order or a pair that it chooses nothing speaks
+-- its sources and the column count are held, and the values stand where they may; its conditions are held so; and of
+-- an order or a pair that it chooses nothing speaks
 pub record RunsMayBegin : Type 0 where
   pub may_run : MayCountIn 2 (columns ∷ rays ∷ [])
   pub no_columns : ¬ (MayCountIn 2 (rays ∷ []))
   pub other_columns : ¬ (MayCountIn 3 (columns ∷ rays ∷ []))
   pub no_rays : ¬ (MayCountIn 2 (columns ∷ []))
-  pub misplaced : ¬ (MayCountIn 2 (columns ∷ rays ∷ record { place = Some 0; property = Pointed; value = truth true } ∷ []))
-  pub of_a_program : MayCountIn 2 (columns ∷ rays ∷ record { place = Some 0; property = MaximalFace; value = counts [] } ∷ [])
+  pub misplaced
+      : ¬ (MayCountIn 2 (columns ∷ rays ∷ record { place = Some 0; property = Pointed; value = truth true }
+      ∷ []))
+  pub of_a_program : MayCountIn 2 (columns ∷ rays
+      ∷ record { place = Some 0; property = MaximalFace; value = counts [] } ∷ [])
   pub condition : MayRun of_pointed None 2 (columns ∷ rays ∷ pointed ∷ [])
   pub not_held : ¬ (MayRun of_pointed None 2 (columns ∷ rays ∷ []))
   pub held_true : ¬ (MayRun of_lines None 2 (columns ∷ rays ∷ pointed ∷ []))
   -- RAYS may be chosen where no value speaks of their order, FACETS where none speaks of theirs
   pub chosen : MayRun (from_one Vertices Points) None 2 (columns ∷ points ∷ [])
   pub rays_speak : ¬ (MayRun (from_one Vertices Points) None 2 (columns ∷ points ∷ rays ∷ []))
-  pub facets_speak : ¬ (MayRun (from_one Facets Points) None 2 (columns ∷ points ∷ own Facets (matrix 0 []) ∷ []))
+  pub facets_speak
+      : ¬ (MayRun (from_one Facets Points) None 2 (columns ∷ points ∷ own Facets (matrix 0 []) ∷ []))
   -- half of a pair is not found where the other is held
   pub generators_speak : ¬ (MayRun (from_one InputLineality Vertices) None 2 (columns ∷ rays ∷ points ∷ []))
 

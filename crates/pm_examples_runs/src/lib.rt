@@ -1,5 +1,5 @@
-//! Worked examples of what clients and objects are judged by: what a client may read and answer, when its run is sound,
-//! and when an object is honest. It has no code.
+//! Worked examples of what clients and objects are judged by: what a client may read and answer, when its run is
+//! sound, and when an object is honest. It has no code.
 #![tactic(auto)]
 
 ghost use Rattle.pm_examples_runs.specs.ObjectExamples.{ObjectsAreJudged};

@@ -1,14 +1,14 @@
 -- Maximal cones of fans, their dimensions, and what is not right for them.
+use Rattle.pm_geom.proofs.OneRow.{one_row}
 use Rattle.pm_vector.proofs.ConeLaws.{in_cone_set, in_line, in_line_times}
 use Rattle.pm_vector.proofs.Lists.{All_among, Among, Any_among, Contains_among, among_All, among_Any, among_Contains, here, there}
 use Rattle.pm_vector.specs.Cones.{InCone, InSpan}
-use Rattle.pm_vector.specs.Divisors.{IsPrimitive}
-use Rattle.pm_vector.specs.Rows.{Row, entry}
+use Rattle.pm_vector.specs.Rows.{Row}
 use Rattle.pm_vector.proofs.Columns.{basis_is_independent}
-use Rattle.pm_vector.proofs.BasisExamples.{bases_are_read, primitive_by_one}
+use Rattle.pm_vector.proofs.BasisExamples.{bases_are_read}
 use Rattle.pm_vector.proofs.Rank.{basis_gives_rank, rank_is_determined}
 use Rattle.pm_vector.proofs.Spans.{same_span, same_span_refl}
-use Rattle.pm_vector.specs.Bases.{IsRank, IsReducedBasis, SameSpan, column, row_at}
+use Rattle.pm_vector.specs.Bases.{IsRank, SameSpan}
 use Rattle.pm_geom.proofs.Apart.{apart, order_of_apart}
 use Rattle.pm_geom.proofs.Square.{square_is_read}
 use Rattle.pm_geom.specs.Cones.{IsExtremeRay}
@@ -26,7 +26,6 @@ use Rattle.std.proofs.lemmas.Int.{ints}
 use Rattle.std.specs.List.{All, Any, Contains}
 use Rattle.std.specs.Prelude.{List, [], length, suc, zero, ℕ, ◌+◌, ◌++◌, ◌<◌, ◌↔◌, ◌≡◌, ◌∷◌, ◌≤◌}
 use lib.IntN.{negsuc, pos}
-use lib.Signed.{lt_z_yes, ◌<ℤ◌}
 
 -- ---- rays of the two rays of the line
 abbrev plus : List Row
@@ -79,22 +78,6 @@ maximal_cones_are_read = record {
 }
 
 -- ---- dimensions
-one_row : (n : ℕ) (x : Row) (c : ℕ) → length x ≡ n → entry x c ≡ pos 1 → IsReducedBasis n (x ∷ []) (c ∷ [])
-one_row n x c l one = record { cols = (l, tt); as_many = refl; positive = positive; reduced = reduced; primitive = primitive }
-  where
-    positive : (i : ℕ) → i < 1 → pos 0 <ℤ entry (row_at (x ∷ []) i) (column (c ∷ []) i)
-    positive zero b = rw one (lt_z_yes tt)
-    positive (suc i) b = absurd (omega arith)
-
-    reduced : (i j : ℕ) → i < 1 → j < 1 → ¬ (i ≡ j) → entry (row_at (x ∷ []) i) (column (c ∷ []) j) ≡ pos 0
-    reduced zero zero b d ne = absurd (ne refl)
-    reduced zero (suc j) b d ne = absurd (omega arith)
-    reduced (suc i) j b d ne = absurd (omega arith)
-
-    primitive : (i : ℕ) → i < 1 → IsPrimitive (row_at (x ∷ []) i)
-    primitive zero b = primitive_by_one x c one
-    primitive (suc i) b = absurd (omega arith)
-
 -- a row spans what its opposite does
 opposed : (x y : Row) → InSpan (y ∷ []) x → InSpan (x ∷ []) y → SameSpan (x ∷ []) (y ∷ [])
 opposed x y f g = same_span (x ∷ []) (y ∷ []) (λ r i. at x y f r i) (λ r i. at y x g r i)

@@ -1,11 +1,12 @@
 -- Tests that tell the graph of the rays and that of the facets, by which rays lie on which facets.
+use Rattle.pm_geom.proofs.Holds.{holds_among, or_left, or_right}
 use Rattle.pm_vector.specs.Cones.{InCone}
 use Rattle.pm_vector.specs.Rows.{HasCols, Row, dot}
 use Rattle.pm_vector.proofs.Lists.{AllPairs_cons, All_among, Among, among_All, here, there}
 use Rattle.pm_geom.specs.Cones.{IsOrder, IsValid}
 use Rattle.pm_geom.specs.Faces.{ray}
 use Rattle.pm_geom.specs.Graphs.{IsAscending, IsEdge, IsGraph, IsRidge, holds}
-use Rattle.pm_graph.proofs.Holds.{contains_holds, holds_among, holds_contains, or_left, or_right}
+use Rattle.pm_graph.proofs.Holds.{contains_holds, holds_contains}
 use Rattle.pm_ranks.proofs.EdgeFacets.{edges_by_facets}
 use Rattle.pm_ranks.proofs.Facets.{ridges_by_facets}
 use Rattle.pm_ranks.proofs.Tests.{and_both, and_first, and_second, is_zero, is_zero_from, is_zero_to}

@@ -1,11 +1,11 @@
 -- Sorted lists are determined by their members; so a graph has one list of neighbours, and an order of the rays one list of all faces.
+use Rattle.pm_geom.proofs.Holds.{among_holds, holds_among}
 use Rattle.pm_vector.proofs.Lists.{Among, Contains_among, among_All, among_Contains, here, there}
 use Rattle.pm_vector.specs.Cones.{InCone}
 use Rattle.pm_vector.specs.Rows.{HasCols, Row}
 use Rattle.pm_geom.specs.Cones.{IsOrder}
 use Rattle.pm_geom.specs.FaceCounts.{IsHasseDiagram, IsLexBefore, at_rank}
 use Rattle.pm_geom.specs.Graphs.{IsAscending, IsGraph, holds}
-use Rattle.pm_graph.proofs.Holds.{among_holds, holds_among}
 use Rattle.pm_ranks.proofs.Diagrams.{diagram_ends, face_among, face_at}
 use Rattle.pm_ranks.proofs.Facets.{each_has_rank}
 use Rattle.pm_ranks.proofs.Whole.{whole_is_face}

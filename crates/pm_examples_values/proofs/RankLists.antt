@@ -1,4 +1,5 @@
 -- Faces of the least and of the greatest rank, lists that are all faces, and the faces of cones with one ray and with two.
+use Rattle.pm_geom.proofs.Holds.{among_holds, holds_among}
 use Rattle.pm_vector.proofs.Lists.{AllPairs_cons, All_among, Among, Any_among, all_at, here, there}
 use Rattle.pm_vector.specs.Cones.{InCone}
 use Rattle.pm_vector.specs.Rows.{HasCols, Row}
@@ -7,7 +8,7 @@ use Rattle.pm_geom.specs.FaceCounts.{IsHasseDiagram, IsLexBefore, SamePlaces, at
 use Rattle.pm_geom.specs.Faces.{HasChain, HasRank, IsStrictlyIn}
 use Rattle.pm_geom.specs.GraphExamples.{ray_lattice, segment_lattice}
 use Rattle.pm_geom.specs.Graphs.{IsAscending, holds}
-use Rattle.pm_graph.proofs.Holds.{among_holds, holds_among, same_bool}
+use Rattle.pm_graph.proofs.Holds.{same_bool}
 use Rattle.pm_ranks.proofs.Diagrams.{same_rank}
 use Rattle.pm_ranks.proofs.RankLaws.{ranks_descend, ranks_rise}
 use Rattle.pm_ranks.proofs.Whole.{first_rank, second_rank, whole_is_face}

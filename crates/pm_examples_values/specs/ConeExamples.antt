@@ -1,4 +1,5 @@
--- The half line and a line as cones, fans of a line, and a quadrant: rays, facet rows, linealities, spans, and far rays.
+-- The half line and a line as cones, fans of a line, and a quadrant: rays, facet rows, linealities, spans, and far
+-- rays.
 use Rattle.std.specs.Prelude.{List, [], ◌∷◌, false, true}
 use Rattle.pm_vector.specs.Rows.{Row}
 use Rattle.pm_geom.specs.Examples.{pair, triple}
@@ -24,7 +25,8 @@ line_cone = thing_of Cone 3 (triple 1 0 0 ∷ []) (triple 0 1 0 ∷ []) (triple 
 abbrev pub LineConeHas : PropId → PropertyValue → Type 0
 LineConeHas p v = Right p v line_cone line_orders []
 
--- what is right for a cone: RAYS and FACETS in their order, up to lineality and rows that vanish; bases of its lineality and of the rows that vanish
+-- what is right for a cone: RAYS and FACETS in their order, up to lineality and rows that vanish; bases of its
+-- lineality and of the rows that vanish
 pub record ConeRowsAreRead : Type 0 where
   pub input_rays : HalfConeHas Points (whole_matrix 2 (pair 1 3 ∷ pair 0 2 ∷ []))
   pub outside : ¬ (HalfConeHas Points (whole_matrix 2 (pair 1 3 ∷ before_zero ∷ [])))
@@ -43,7 +45,8 @@ pub record ConeRowsAreRead : Type 0 where
   pub no_rows : ¬ (LineConeHas AffineHull (whole_matrix 3 []))
   pub not_vanishing : ¬ (LineConeHas AffineHull (whole_matrix 3 (triple 0 1 0 ∷ [])))
 
--- what is right for the lines of a fan, those of all its cones: of the line as a fan one, of the two rays none; and how many rays it has
+-- what is right for the lines of a fan, those of all its cones: of the line as a fan one, of the two rays none; and
+-- how many rays it has
 pub record FanLinesAreRead : Type 0 where
   pub lineality : LineFanHas LinealitySpace (whole_matrix 1 (single (pos 2)))
   pub no_lines : ¬ (LineFanHas LinealitySpace (whole_matrix 1 []))
@@ -63,7 +66,8 @@ abbrev pub quadrant : List Row
 quadrant = triple 0 1 0 ∷ triple 1 0 0 ∷ triple 0 0 1 ∷ []
 
 abbrev pub QuadrantHas : PropId → PropertyValue → Type 0
-QuadrantHas p v = Right p v (thing_of Polytope 3 quadrant [] (triple 0 0 0)) (record { rays = quadrant; facets = []; cones = [] }) []
+QuadrantHas p v = Right p v (thing_of Polytope 3 quadrant [] (triple 0 0 0))
+    (record { rays = quadrant; facets = []; cones = [] }) []
 
 -- its two far rays, by their places, which rise
 pub record FarRaysAreRead : Type 0 where

@@ -1,4 +1,5 @@
--- The unit square with its vertices in the order (1,0,0), (1,0,1), (1,1,0), (1,1,1) and its edges in the order x1 >= 0, x2 >= 0, x2 <= 1, x1 <= 1, and the empty polytope: which values are right.
+-- The unit square with its vertices in the order (1,0,0), (1,0,1), (1,1,0), (1,1,1) and its edges in the order x1 >=
+-- 0, x2 >= 0, x2 <= 1, x1 <= 1, and the empty polytope: which values are right.
 use Rattle.std.specs.Prelude.{ℕ, List, [], ◌∷◌, false, true}
 use Rattle.pm_vector.specs.Numbers.{Ratio}
 use Rattle.pm_geom.specs.Examples.{square, edges}
@@ -54,7 +55,16 @@ pub record SquareDimensionsAreRead : Type 0 where
   pub not_flat : ¬ (Right FullDim (truth false) square_thing square_orders [])
 
 abbrev pub empty_thing : Thing
-empty_thing = record { of = Polytope; cols = 2; generators = []; lines = []; cones = []; objective = λ s. whole_ratio (pos 0) ∷ whole_ratio (pos 0) ∷ []; sites = []; heights = [] }
+empty_thing = record {
+  of = Polytope;
+  cols = 2;
+  generators = [];
+  lines = [];
+  cones = [];
+  objective = λ s. whole_ratio (pos 0) ∷ whole_ratio (pos 0) ∷ [];
+  sites = [];
+  heights = [];
+}
 
 abbrev pub no_orders : Orders
 no_orders = record { rays = []; facets = []; cones = [] }

@@ -1,4 +1,5 @@
--- The empty polytope, a line, a segment and the unit square: which face lattices, f-vectors, f2-vectors and h-vectors are right.
+-- The empty polytope, a line, a segment and the unit square: which face lattices, f-vectors, f2-vectors and h-vectors
+-- are right.
 use Rattle.std.specs.Prelude.{ℕ, List, [], ◌∷◌, ◌≡◌}
 use Rattle.pm_vector.specs.Rows.{Row}
 use Rattle.pm_geom.specs.Examples.{pair}
@@ -59,11 +60,16 @@ pub record SegmentFacesAreRead : Type 0 where
   pub thing : IsThing segment_thing
   pub orders : AreOrders segment_thing segment_orders
   pub faces : EndsHave HasseDiagram (lattice segment_lattice)
-  pub without_least : ¬ (EndsHave HasseDiagram (lattice (((0 ∷ []) ∷ (1 ∷ []) ∷ []) ∷ ((0 ∷ 1 ∷ []) ∷ []) ∷ [])))
+  pub without_least
+      : ¬ (EndsHave HasseDiagram (lattice (((0 ∷ []) ∷ (1 ∷ []) ∷ []) ∷ ((0 ∷ 1 ∷ []) ∷ []) ∷ [])))
   pub without_whole : ¬ (EndsHave HasseDiagram (lattice (([] ∷ []) ∷ ((0 ∷ []) ∷ (1 ∷ []) ∷ []) ∷ [])))
   pub one_end : ¬ (EndsHave HasseDiagram (lattice (([] ∷ []) ∷ ((0 ∷ []) ∷ []) ∷ ((0 ∷ 1 ∷ []) ∷ []) ∷ [])))
-  pub ends_turned : ¬ (EndsHave HasseDiagram (lattice (([] ∷ []) ∷ ((1 ∷ []) ∷ (0 ∷ []) ∷ []) ∷ ((0 ∷ 1 ∷ []) ∷ []) ∷ [])))
-  pub empty_rank : ¬ (EndsHave HasseDiagram (lattice (([] ∷ []) ∷ ((0 ∷ []) ∷ (1 ∷ []) ∷ []) ∷ ((0 ∷ 1 ∷ []) ∷ []) ∷ [] ∷ [])))
+  pub ends_turned
+      : ¬ (EndsHave HasseDiagram
+      (lattice (([] ∷ []) ∷ ((1 ∷ []) ∷ (0 ∷ []) ∷ []) ∷ ((0 ∷ 1 ∷ []) ∷ []) ∷ [])))
+  pub empty_rank
+      : ¬ (EndsHave HasseDiagram
+      (lattice (([] ∷ []) ∷ ((0 ∷ []) ∷ (1 ∷ []) ∷ []) ∷ ((0 ∷ 1 ∷ []) ∷ []) ∷ [] ∷ [])))
 
 -- its ends alone are counted, in whatever order; the h-vector goes by the dimension 1
 pub record SegmentCountsAreRead : Type 0 where

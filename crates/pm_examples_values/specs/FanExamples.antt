@@ -1,4 +1,5 @@
--- What is right for a fan, and what is not: rays of its maximal cones, their number, their dimensions, and what these tell.
+-- What is right for a fan, and what is not: rays of its maximal cones, their number, their dimensions, and what these
+-- tell.
 use Rattle.std.specs.Prelude.{ℕ, ◌≡◌, List, [], ◌∷◌, false, true}
 use Rattle.pm_geom.specs.Examples.{half_line, square}
 use Rattle.pm_object_type.specs.declared.object_type.ObjectType.TheVariants.{Fan}

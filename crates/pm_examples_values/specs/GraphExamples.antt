@@ -1,4 +1,5 @@
--- The empty polytope, a line, a segment, the unit square and a bipyramid: which graphs, diameters and degrees are right.
+-- The empty polytope, a line, a segment, the unit square and a bipyramid: which graphs, diameters and degrees are
+-- right.
 use Rattle.std.specs.Prelude.{ℕ, List, [], ◌∷◌}
 use Rattle.pm_geom.specs.GraphExamples.{square_graph}
 use Rattle.pm_props.specs.declared.property.PropId.TheVariants.{Diameter, DualDiameter, DualGraph, Graph, NEdges, NRidges, VertexDegrees}
@@ -107,11 +108,13 @@ pub record SquareGraphsAreRead : Type 0 where
 
 -- each corner of the triangle is joined to all others, the tips not to one another
 abbrev pub bipyramid_graph : List (List ℕ)
-bipyramid_graph = (1 ∷ 2 ∷ 3 ∷ 4 ∷ []) ∷ (0 ∷ 2 ∷ 3 ∷ 4 ∷ []) ∷ (0 ∷ 1 ∷ 3 ∷ 4 ∷ []) ∷ (0 ∷ 1 ∷ 2 ∷ []) ∷ (0 ∷ 1 ∷ 2 ∷ []) ∷ []
+bipyramid_graph = (1 ∷ 2 ∷ 3 ∷ 4 ∷ []) ∷ (0 ∷ 2 ∷ 3 ∷ 4 ∷ []) ∷ (0 ∷ 1 ∷ 3 ∷ 4 ∷ []) ∷ (0 ∷ 1 ∷ 2 ∷ [])
+    ∷ (0 ∷ 1 ∷ 2 ∷ []) ∷ []
 
 -- each facet is joined to the two others at its tip, and to the one beyond the side of the triangle
 abbrev pub prism_graph : List (List ℕ)
-prism_graph = (1 ∷ 2 ∷ 3 ∷ []) ∷ (0 ∷ 2 ∷ 4 ∷ []) ∷ (0 ∷ 1 ∷ 5 ∷ []) ∷ (0 ∷ 4 ∷ 5 ∷ []) ∷ (1 ∷ 3 ∷ 5 ∷ []) ∷ (2 ∷ 3 ∷ 4 ∷ []) ∷ []
+prism_graph = (1 ∷ 2 ∷ 3 ∷ []) ∷ (0 ∷ 2 ∷ 4 ∷ []) ∷ (0 ∷ 1 ∷ 5 ∷ []) ∷ (0 ∷ 4 ∷ 5 ∷ []) ∷ (1 ∷ 3 ∷ 5 ∷ [])
+    ∷ (2 ∷ 3 ∷ 4 ∷ []) ∷ []
 
 -- its five rays and its six facets have different graphs, and its rays different degrees, in their order
 pub record BipyramidGraphsAreRead : Type 0 where

@@ -26,4 +26,5 @@ pub record OrdersAreShown : Type 0 where
   pub far_face : Right FarFace (counts (pos 0 ∷ [])) half_line_thing half_line_orders []
   pub turned : ¬ (Right FarFace (counts (pos 0 ∷ [])) half_line_thing turned_orders [])
   -- the number of vertices is the same in any
-  pub not_read : (k : ℤ) (o p : Orders) → Right NVertices (whole k) half_line_thing o [] → Right NVertices (whole k) half_line_thing p []
+  pub not_read : (k : ℤ) (o p : Orders) → Right NVertices (whole k) half_line_thing o []
+      → Right NVertices (whole k) half_line_thing p []

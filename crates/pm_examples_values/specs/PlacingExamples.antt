@@ -5,7 +5,8 @@ use Rattle.pm_laws_placing.specs.Examples.{lower, upper}
 use Rattle.pm_props.specs.declared.property.PropId.TheVariants.{PlacingTriangulation}
 use Rattle.pm_types.specs.Values.{sets}
 
--- the two triangles on either side of a diagonal are right, with the number of vertices as the column count; one of them, one of them twice, the whole square, and another column count are not
+-- the two triangles on either side of a diagonal are right, with the number of vertices as the column count; one of
+-- them, one of them twice, the whole square, and another column count are not
 pub record TriangulationsAreRead : Type 0 where
   pub two : SquareHas PlacingTriangulation (sets (lower ∷ upper ∷ []) 4)
   pub one : ¬ (SquareHas PlacingTriangulation (sets (lower ∷ []) 4))

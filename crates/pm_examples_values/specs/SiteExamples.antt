@@ -33,10 +33,15 @@ pub record SitesAreRight : Type 0 where
   pub thing : IsThing sited
   -- a thing has a height for each site, and a site has a positive first entry
   pub no_heights : ¬ (IsThing (record half_line_thing { sites = three_sites }))
-  pub direction : ¬ (IsThing (record half_line_thing { sites = pair (pos 0) (pos 1) ∷ []; heights = over_one (pos 0) ∷ [] }))
+  pub direction
+      : ¬ (IsThing (record half_line_thing {
+        sites = pair (pos 0) (pos 1) ∷ [];
+        heights = over_one (pos 0) ∷ [];
+      }))
   -- sites up to positive scale, in their order
   pub sites : Has sited Sites (matrix 2 (map ratios three_sites))
-  pub scaled : Has (record half_line_thing { sites = point 1 ∷ []; heights = over_one (pos 0) ∷ [] }) Sites (matrix 2 (ratios (pair (pos 2) (pos 2)) ∷ []))
+  pub scaled : Has (record half_line_thing { sites = point 1 ∷ []; heights = over_one (pos 0) ∷ [] }) Sites
+      (matrix 2 (ratios (pair (pos 2) (pos 2)) ∷ []))
   pub turned : ¬ (Has sited Sites (matrix 2 (map ratios (point 2 ∷ point 1 ∷ point 0 ∷ []))))
   pub fewer : ¬ (Has sited Sites (matrix 2 (map ratios (point 0 ∷ point 1 ∷ []))))
   pub heights : Has sited SiteHeights (matrix 3 (peak ∷ []))
@@ -54,7 +59,8 @@ pub record SitesAreRight : Type 0 where
   pub wider : is_formed Sites (matrix 33 []) ≡ false
   pub no_height : is_formed SiteHeights (matrix 0 ([] ∷ [])) ≡ true
   pub many_heights : is_formed SiteHeights (matrix 40 (replicate 40 (over_one (pos 1)) ∷ [])) ≡ true
-  pub two_rows : is_formed SiteHeights (matrix 1 ((over_one (pos 1) ∷ []) ∷ (over_one (pos 1) ∷ []) ∷ [])) ≡ false
+  pub two_rows : is_formed SiteHeights (matrix 1 ((over_one (pos 1) ∷ []) ∷ (over_one (pos 1) ∷ []) ∷ []))
+      ≡ false
   pub no_row : is_formed SiteHeights (matrix 0 []) ≡ false
   pub behind : is_row Polytope Sites (ratios (pair (pos 0) (pos 1))) ≡ false
   pub before : is_row Polytope Sites (ratios (pair (pos 1) (pos 0))) ≡ true

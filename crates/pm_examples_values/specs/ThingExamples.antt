@@ -58,9 +58,13 @@ listing = record {
 
 -- the half line from 0, with the objective 1/-1, 0
 abbrev pub half_line_over_negative : Thing
-half_line_over_negative = record (thing_of Polytope 2 half_line [] (pair 1 2)) { objective = λ s. record { num = pos 1; den = negsuc 0 } ∷ over_one (pos 0) ∷ [] }
+half_line_over_negative = record (thing_of Polytope 2 half_line [] (pair 1 2)) {
+  objective = λ s.
+      record { num = pos 1; den = negsuc 0 } ∷ over_one (pos 0) ∷ [];
+}
 
--- objectives and rows have one entry a column, and denominators are positive; a cone may be over no polytope; only fans list cones
+-- objectives and rows have one entry a column, and denominators are positive; a cone may be over no polytope; only
+-- fans list cones
 pub record ThingsAreRead : Type 0 where
   pub objective : IsThing (thing_of Polytope 2 half_line [] (pair 1 2))
   pub shorter_objective : ¬ (IsThing (thing_of Polytope 2 half_line [] (pos 1 ∷ [])))

@@ -1,5 +1,5 @@
-//! Worked examples of the definitions of values: which are right for small polytopes, cones and fans, which are canonical,
-//! and which are not. It has no code.
+//! Worked examples of the definitions of values: which are right for small polytopes, cones and fans, which are
+//! canonical, and which are not. It has no code. It knows nothing of objects, rules and clients.
 #![tactic(auto)]
 
 ghost use Rattle.pm_examples_values.specs.BipyramidExamples.{BipyramidCountsAreRead};
@@ -242,12 +242,14 @@ pub fn example_triangulations()
     ensures { TriangulationsAreRead }
 {}
 
-/// What is right for the rays, facet rows, lineality and span of the half line and of a line as cones, and what is not.
+/// What is right for the rays, facet rows, lineality and span of the half line and of a line as cones, and what is
+/// not.
 pub fn example_cone_rows()
     ensures { ConeRowsAreRead }
 {}
 
-/// What is right for the lineality and the number of rays of a fan of two rays and of a line as a fan, and what is not.
+/// What is right for the lineality and the number of rays of a fan of two rays and of a line as a fan, and what is
+/// not.
 pub fn example_fan_lines()
     ensures { FanLinesAreRead }
 {}

@@ -1,4 +1,5 @@
-//! Families of standard clients. A client of a family counts its starts, and hands the work on to the family.
+//! Families of standard clients. A client of a family counts its starts, and hands the work on to the family. It
+//! knows nothing of rounds, commands and sessions.
 #![tactic(auto)]
 
 ghost use Rattle.pm_client.specs.Sound.{FailsRightly, IsSound};

@@ -1,4 +1,5 @@
--- Evidence as JSON: an object of plain keys, in the order of the alphabet. Whole numbers of rows are texts, as those of data files are; places, columns and counts are numbers, and count from 0.
+-- Evidence as JSON: an object of plain keys, in the order of the alphabet. Whole numbers of rows are texts, as those
+-- of data files are; places, columns and counts are numbers, and count from 0.
 use Rattle.std.specs.Fmt.{signed_decimal}
 use Rattle.pm_elim.specs.declared.evidence.ElimList.{ElimList}
 use Rattle.pm_elim.specs.declared.evidence.ElimList.TheVariants.{Rows, Extended, Without, ExtendedWithout}
@@ -33,17 +34,30 @@ column_json (Some j) = index_json j
 
 -- the members of each kind
 abbrev pub evidence_json : Evidence → Data
-evidence_json (E1 step) = object (member (codes "basis") (whole_rows_json step.basis) (member (codes "by") (index_json step.by) (member (codes "column") (index_json step.column)
-    (member (codes "front") (index_json step.front) (member (codes "list") (list_json step.list) (member (codes "part") (whole_row_json step.part) no_members))))))
-evidence_json (E2 front first second column) = object (member (codes "column") (column_json column) (member (codes "first") (whole_row_json first)
-    (member (codes "front") (index_json front) (member (codes "second") (whole_row_json second) no_members))))
-evidence_json (E3 basis enter leave row column) = object (member (codes "basis") (set_json basis) (member (codes "column") (index_json column) (member (codes "enter") (index_json enter)
+evidence_json (E1 step) =
+    object (member (codes "basis") (whole_rows_json step.basis)
+    (member (codes "by") (index_json step.by) (member (codes "column") (index_json step.column)
+    (member (codes "front") (index_json step.front)
+    (member (codes "list") (list_json step.list)
+    (member (codes "part") (whole_row_json step.part) no_members))))))
+evidence_json (E2 front first second column) =
+    object (member (codes "column") (column_json column) (member (codes "first") (whole_row_json first)
+    (member (codes "front") (index_json front)
+    (member (codes "second") (whole_row_json second) no_members))))
+evidence_json (E3 basis enter leave row column) =
+    object (member (codes "basis") (set_json basis)
+    (member (codes "column") (index_json column) (member (codes "enter") (index_json enter)
     (member (codes "leave") (index_json leave) (member (codes "row") (index_json row) no_members)))))
-evidence_json (E4 first second) = object (member (codes "first") (whole_row_json first) (member (codes "second") (whole_row_json second) no_members))
-evidence_json (E5Rays front rays) = object (member (codes "front") (index_json front) (member (codes "rays") (whole_rows_json rays) no_members))
+evidence_json (E4 first second) =
+    object (member (codes "first") (whole_row_json first)
+    (member (codes "second") (whole_row_json second) no_members))
+evidence_json (E5Rays front rays) =
+    object (member (codes "front") (index_json front)
+    (member (codes "rays") (whole_rows_json rays) no_members))
 evidence_json (E5Rows rows) = object (member (codes "places") (set_json rows) no_members)
 evidence_json (E5Faces faces) = object (member (codes "faces") (edges_json faces) no_members)
-evidence_json (E5Cells front cells) = object (member (codes "cells") (edges_json cells) (member (codes "front") (index_json front) no_members))
+evidence_json (E5Cells front cells) =
+    object (member (codes "cells") (edges_json cells) (member (codes "front") (index_json front) no_members))
 
 -- its text, without spaces
 abbrev pub evidence_text : Evidence → List ℕ

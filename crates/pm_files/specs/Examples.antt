@@ -33,7 +33,8 @@ pub record MatricesAreWritten : Type 0 where
 
 pub record SetsAreWritten : Type 0 where
   -- the column count stands behind sets
-  pub in_facets : value_text VerticesInFacets (sets ((0 ∷ 2 ∷ []) ∷ [] ∷ []) 4) ≡ codes "[[0,2],[],{\"cols\":4}]"
+  pub in_facets : value_text VerticesInFacets (sets ((0 ∷ 2 ∷ []) ∷ [] ∷ []) 4)
+      ≡ codes "[[0,2],[],{\"cols\":4}]"
   pub no_sets : value_text VerticesInFacets (sets [] 0) ≡ codes "[{\"cols\":0}]"
   pub not_alone : value_text VerticesInFacets (sets ((0 ∷ []) ∷ []) 1) ≢ codes "[[0]]"
   -- and not behind edges

@@ -25,13 +25,24 @@ abbrev pub empty_cone : SavedFile
 empty_cone = record { of = Cone; values = []; stored = 0; failed = []; programs = []; ignored = [] }
 
 abbrev pub maximum : SavedProgram
-maximum = record { name = Some (codes "top"); objective = Some ((ratio_of (pos 0) (pos 1) ∷ []) ∷ []); failed = (codes "lp_max", 3) ∷ [] }
+maximum = record {
+  name = Some (codes "top");
+  objective = Some ((ratio_of (pos 0) (pos 1) ∷ []) ∷ []);
+  failed = (codes "lp_max", 3) ∷ [];
+}
 
 pub record FilesAreWritten : Type 0 where
   -- keys are in byte order, whatever the order of the values
-  pub point : file_bytes one_point ≡ codes "{\"CONE_DIM\":1,\"POINTS\":[[\"1\"]],\"_computed\":[\"CONE_DIM\"],\"_excluded\":[[\"dd_facets\",\"E2\"]],\"_profile\":2,\"_type\":\"polytope::Polytope<Rational>\"}" ++ 10 ∷ []
-  pub turned : file_bytes (record one_point { values = (Points, matrix 1 ((ratio_of (pos 1) (pos 1) ∷ []) ∷ [])) ∷ (ConeDim, whole (pos 1)) ∷ [] }) ≡ file_bytes one_point
-  pub cone : file_bytes empty_cone ≡ codes "{\"_computed\":[],\"_excluded\":[],\"_profile\":2,\"_type\":\"polytope::Cone<Rational>\"}" ++ 10 ∷ []
+  pub point : file_bytes one_point
+      ≡ codes "{\"CONE_DIM\":1,\"POINTS\":[[\"1\"]],\"_computed\":[\"CONE_DIM\"],\"_excluded\":[[\"dd_facets\",\"E2\"]],\"_profile\":2,\"_type\":\"polytope::Polytope<Rational>\"}" ++ 10 ∷ []
+  pub turned : file_bytes
+      (record one_point {
+        values = (Points, matrix 1 ((ratio_of (pos 1) (pos 1) ∷ []) ∷ []))
+            ∷ (ConeDim, whole (pos 1)) ∷ [];
+      }) ≡ file_bytes one_point
+  pub cone : file_bytes empty_cone
+      ≡ codes "{\"_computed\":[],\"_excluded\":[],\"_profile\":2,\"_type\":\"polytope::Cone<Rational>\"}"
+      ++ 10 ∷ []
   -- a cone's rays are stored under their own name
   pub rays : is_stored Cone (only Vertices) (codes "RAYS") ≡ true
   pub no_vertices : is_stored Cone (only Vertices) (codes "VERTICES") ≡ false
@@ -40,7 +51,10 @@ pub record FilesAreWritten : Type 0 where
   pub mark : compact_text (mark_json (codes "faces", 5)) ≡ codes "[\"faces\",\"E5\"]"
   pub no_number : compact_text (mark_json (codes "faces", 5)) ≢ codes "[\"faces\",5]"
   -- a program has its name, its objective and its marks, where it has them
-  pub program : compact_text (program_json maximum) ≡ codes "{\"LINEAR_OBJECTIVE\":[\"0\"],\"_excluded\":[[\"lp_max\",\"E3\"]],\"_name\":\"top\"}"
-  pub nameless : compact_text (program_json (record { name = None; objective = None; failed = [] })) ≡ codes "{\"_excluded\":[]}"
-  pub with_program : file_bytes (record one_point { values = []; stored = 0; failed = []; programs = maximum ∷ [] })
+  pub program : compact_text (program_json maximum)
+      ≡ codes "{\"LINEAR_OBJECTIVE\":[\"0\"],\"_excluded\":[[\"lp_max\",\"E3\"]],\"_name\":\"top\"}"
+  pub nameless : compact_text (program_json (record { name = None; objective = None; failed = [] }))
+      ≡ codes "{\"_excluded\":[]}"
+  pub with_program
+      : file_bytes (record one_point { values = []; stored = 0; failed = []; programs = maximum ∷ [] })
       ≡ codes "{\"LP\":[{\"LINEAR_OBJECTIVE\":[\"0\"],\"_excluded\":[[\"lp_max\",\"E3\"]],\"_name\":\"top\"}],\"_computed\":[],\"_excluded\":[],\"_profile\":2,\"_type\":\"polytope::Polytope<Rational>\"}" ++ 10 ∷ []

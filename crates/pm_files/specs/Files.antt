@@ -1,4 +1,6 @@
--- What a data file holds of an object, and what is written for it: one JSON object, its keys in byte order (polymake's data format: Assarf, Gawrilow et al., Computing convex hulls and counting integer points with polymake).
+-- What a data file holds of an object, and what is written for it: one JSON object, its keys in byte order
+-- (polymake's data format: Assarf, Gawrilow et al., Computing convex hulls and counting integer points with
+-- polymake).
 use Rattle.std.specs.Prelude.{ℕ, Bool, false, not, List, [], ◌∷◌, ◌++◌, map, Option, Some, None, codes, decimal, if◌then◌else◌}
 use Rattle.std.specs.Str.{bytes_eq}
 use Rattle.pm_vector.specs.Numbers.{Ratio}
@@ -23,7 +25,8 @@ pub record SavedProgram : Type 0 where
   pub objective : Option (List (List Ratio))
   pub failed : List Mark
 
--- an object: its type, its values, which of them were computed, the rules that failed for it, its programs, and the keys that were read over
+-- an object: its type, its values, which of them were computed, the rules that failed for it, its programs, and the
+-- keys that were read over
 pub record SavedFile : Type 0 where
   pub of : ObjectType
   pub values : List (PropId × PropertyValue)
@@ -60,7 +63,9 @@ with_objective None ms = ms
 with_objective (Some rows) ms = put (codes "LINEAR_OBJECTIVE") (objective_json rows) ms
 
 abbrev pub program_json : SavedProgram → Data
-program_json p = object (with_objective p.objective (with_name p.name (put (codes "_excluded") (marks_json p.failed) no_members)))
+program_json p =
+    object (with_objective p.objective
+    (with_name p.name (put (codes "_excluded") (marks_json p.failed) no_members)))
 
 -- LP, where there is a program
 abbrev pub with_programs : List SavedProgram → Members → Members
@@ -88,19 +93,23 @@ is_stored of stored key = is_in stored (property_named_in of key)
 -- the keys of stored values, in their order
 abbrev pub stored_keys : ObjectType → ℕ → Members → List (List ℕ)
 stored_keys of stored no_members = []
-stored_keys of stored (member key d ms) = if is_stored of stored key then key ∷ stored_keys of stored ms else stored_keys of stored ms
+stored_keys of stored (member key d ms) = if is_stored of stored key then key ∷ stored_keys of stored ms
+    else stored_keys of stored ms
 
 -- ---- the file
 -- the type, the profile, and the rules that failed
 abbrev pub heading : SavedFile → Members
-heading f = put (codes "_excluded") (marks_json f.failed) (put (codes "_profile") (number (unsigned 2)) (put (codes "_type") (string (type_text f.of)) no_members))
+heading f = put (codes "_excluded") (marks_json f.failed)
+    (put (codes "_profile") (number (unsigned 2)) (put (codes "_type") (string (type_text f.of)) no_members))
 
 abbrev pub contents : SavedFile → Members
 contents f = with_programs f.programs (with_values f.of f.values (heading f))
 
 -- the file, with the names of its stored values
 abbrev pub file_json : SavedFile → Data
-file_json f = object (put (codes "_computed") (array_of (map string (stored_keys f.of f.stored (contents f)))) (contents f))
+file_json f =
+    object (put (codes "_computed") (array_of (map string (stored_keys f.of f.stored (contents f))))
+    (contents f))
 
 -- its text, compact and ended by LF
 abbrev pub file_bytes : SavedFile → List ℕ

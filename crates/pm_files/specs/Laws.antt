@@ -28,8 +28,10 @@ FilesHaveNoFloat = (f : SavedFile) → has_float (file_json f) ≡ false
 
 -- a value stands in its file under its name, where no later value has that name
 abbrev pub FilesHoldTheirValues : Type 0
-FilesHoldTheirValues = (f : SavedFile) (before after : List (PropId × PropertyValue)) (p : PropId) (v : PropertyValue) → f.values ≡ before ++ (p, v) ∷ after
-    → IsTrue (list_all (λ w. is_other_name f.of (name_in f.of p) w.0) after) → get (name_in f.of p) (file_json f) ≡ Some (json_of p v)
+FilesHoldTheirValues = (f : SavedFile) (before after : List (PropId × PropertyValue)) (p : PropId)
+    (v : PropertyValue) → f.values ≡ before ++ (p, v) ∷ after
+    → IsTrue (list_all (λ w. is_other_name f.of (name_in f.of p) w.0) after)
+    → get (name_in f.of p) (file_json f) ≡ Some (json_of p v)
 
 -- so does the text of its type
 abbrev pub FilesHoldTheirType : Type 0

@@ -1,4 +1,6 @@
--- The JSON of a value of a property, as polymake's data files have it (Assarf, Gawrilow et al., Computing convex hulls and counting integer points with polymake): fractions and infinities are texts, indices and whole numbers are numbers.
+-- The JSON of a value of a property, as polymake's data files have it (Assarf, Gawrilow et al., Computing convex
+-- hulls and counting integer points with polymake): fractions and infinities are texts, indices and whole numbers are
+-- numbers.
 use Rattle.std.specs.Prelude.{ℕ, List, [], ◌∷◌, ◌++◌, ◌==◌, if◌then◌else◌, map, codes}
 use Rattle.pm_vector.specs.Numbers.{Ratio}
 use Rattle.pm_fraction.specs.Text.{text_of}

@@ -1,4 +1,5 @@
-//! Data files: the JSON of the values of properties, and the files that are written.
+//! Data files: the JSON of the values of properties, and the files that are written. It knows nothing of objects that
+//! hold values, of rules and of where files are kept.
 #![tactic(auto)]
 
 ghost use Rattle.pm_files.specs.Examples.{MatricesAreWritten, NumbersAreWritten, SetsAreWritten};

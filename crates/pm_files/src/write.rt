@@ -53,7 +53,8 @@ fn put_name(
     members: &mut Map<String, Json>,
     name: &Option<String>,
 ) -> Result<(), AllocError>
-    ensures { OnOk result (members_view members.new.entries ≡ with_name (option_map string_bytes name.now) (members_view members.old.entries)) }
+    ensures { OnOk result (members_view members.new.entries
+        ≡ with_name (option_map string_bytes name.now) (members_view members.old.entries)) }
 {
     match name {
         Some(text) => put(
@@ -72,7 +73,8 @@ fn put_objective(
     members: &mut Map<String, Json>,
     objective: &Option<Matrix>,
 ) -> Result<(), AllocError>
-    ensures { OnOk result (members_view members.new.entries ≡ with_objective (option_map (λ m. m.rows) objective.now) (members_view members.old.entries)) }
+    ensures { OnOk result (members_view members.new.entries
+        ≡ with_objective (option_map (λ m. m.rows) objective.now) (members_view members.old.entries)) }
 {
     match objective {
         Some(row) => put(
@@ -118,7 +120,8 @@ fn put_programs(
     members: &mut Map<String, Json>,
     programs: &[FileProgram],
 ) -> Result<(), AllocError>
-    ensures { OnOk result (members_view members.new.entries ≡ with_programs (map program_of programs.now) (members_view members.old.entries)) }
+    ensures { OnOk result (members_view members.new.entries
+        ≡ with_programs (map program_of programs.now) (members_view members.old.entries)) }
 {
     if programs.is_empty() {
         return Ok(());
@@ -133,7 +136,8 @@ fn put_values(
     of: ObjectType,
     values: &[(PropId, Value)],
 ) -> Result<(), AllocError>
-    ensures { OnOk result (members_view members.new.entries ≡ with_values of (map (λ v. (v.0, view_of v.1)) values.now) (members_view members.old.entries)) }
+    ensures { OnOk result (members_view members.new.entries
+        ≡ with_values of (map (λ v. (v.0, view_of v.1)) values.now) (members_view members.old.entries)) }
 {
     for value in values {
         let json = value_json(alloc, value.0, &value.1)?;
@@ -159,7 +163,8 @@ fn stored_keys(
     stored: PropSet,
     members: &Map<String, Json>,
 ) -> Result<Vec<Json>, AllocError>
-    ensures { IfOk result (λ keys. map view keys.items ≡ map string (stored_keys of stored (members_view members.now.entries))) }
+    ensures { IfOk result (λ keys. map view keys.items
+        ≡ map string (stored_keys of stored (members_view members.now.entries))) }
 {
     let mut keys = Vec::new(alloc);
     for (key, _) in members.iter() {

@@ -11,7 +11,8 @@ opposite_of p = record { num = neg_ℤ p.num; den = p.den }
 
 -- 1 / p, where p is not 0
 abbrev pub inverse_of : Ratio → Ratio
-inverse_of p = if int_lt p.num (pos 0) then record { num = neg_ℤ p.den; den = neg_ℤ p.num } else record { num = p.den; den = p.num }
+inverse_of p = if int_lt p.num (pos 0) then record { num = neg_ℤ p.den; den = neg_ℤ p.num }
+    else record { num = p.den; den = p.num }
 
 -- the number p + q, not reduced
 abbrev pub sum_of : Ratio → Ratio → Ratio
@@ -25,7 +26,8 @@ product_of p q = record { num = p.num *ℤ q.num; den = p.den *ℤ q.den }
 abbrev pub quotient_of : Ratio → Ratio → Ratio
 quotient_of p q = record { num = p.num *ℤ q.den; den = p.den *ℤ q.num }
 
--- the numerator of p over the least common denominator, for the greatest common divisor g of the denominators; n / d is `int_div n d`
+-- the numerator of p over the least common denominator, for the greatest common divisor g of the denominators; n / d
+-- is `int_div n d`
 abbrev pub first_term : Ratio → Ratio → ℤ → ℤ
 first_term p q g = p.num *ℤ int_div q.den g
 

@@ -1,4 +1,5 @@
--- The laws of the order of fractions, which `Ord` asks for: it is total, and two pairs tie only where they are one pair.
+-- The laws of the order of fractions, which `Ord` asks for: it is total, and two pairs tie only where they are one
+-- pair.
 use Rattle.pm_vector.proofs.Ring.{ring}
 use Rattle.pm_vector.proofs.Signs.{mul_pos, pos_cancel}
 use Rattle.pm_vector.specs.Numbers.{Ratio}
@@ -16,13 +17,16 @@ use lib.Signed.{◌<ℤ◌}
 
 -- ---- what an answer of `int_cmp` says, and what says it
 pub when_less : (a b : ℤ) → int_cmp a b ≡ Less → a <ℤ b
-when_less a b e = subst (λ (o : Ordering). MatchOrdering o (a <ℤ b) (a ≡ b) (b <ℤ a)) e (int_ranked a b (int_cmp a b) refl)
+when_less a b e = subst (λ (o : Ordering). MatchOrdering o (a <ℤ b) (a ≡ b) (b <ℤ a)) e
+    (int_ranked a b (int_cmp a b) refl)
 
 pub when_equal : (a b : ℤ) → int_cmp a b ≡ Equal → a ≡ b
-when_equal a b e = subst (λ (o : Ordering). MatchOrdering o (a <ℤ b) (a ≡ b) (b <ℤ a)) e (int_ranked a b (int_cmp a b) refl)
+when_equal a b e = subst (λ (o : Ordering). MatchOrdering o (a <ℤ b) (a ≡ b) (b <ℤ a)) e
+    (int_ranked a b (int_cmp a b) refl)
 
 pub when_greater : (a b : ℤ) → int_cmp a b ≡ Greater → b <ℤ a
-when_greater a b e = subst (λ (o : Ordering). MatchOrdering o (a <ℤ b) (a ≡ b) (b <ℤ a)) e (int_ranked a b (int_cmp a b) refl)
+when_greater a b e = subst (λ (o : Ordering). MatchOrdering o (a <ℤ b) (a ≡ b) (b <ℤ a)) e
+    (int_ranked a b (int_cmp a b) refl)
 
 answer : (a b : ℤ) (P Q : Ordering → Type 0) (o : Ordering) → int_cmp a b ≡ o → Q o → P o → P o
 answer a b P Q o e q p = p
@@ -72,13 +76,17 @@ den_positive : (r : Ratio) → pos 0 <ℤ positive_den r
 den_positive r = omega (arith, ints)
 
 -- a / q = b / r, so they compare alike with c / s
-alike : (a b c q r s : ℤ) → pos 0 <ℤ q → pos 0 <ℤ r → a *ℤ r ≡ b *ℤ q → int_cmp (a *ℤ s) (c *ℤ q) ≡ int_cmp (b *ℤ s) (c *ℤ r)
+alike : (a b c q r s : ℤ) → pos 0 <ℤ q → pos 0 <ℤ r → a *ℤ r ≡ b *ℤ q
+    → int_cmp (a *ℤ s) (c *ℤ q) ≡ int_cmp (b *ℤ s) (c *ℤ r)
 alike a b c q r s hq hr e =
-    let left : r *ℤ (a *ℤ s) ≡ q *ℤ (b *ℤ s) = (let f = simp ring at (ap (λ (z : ℤ). s *ℤ z) e) in simp ring (omega (arith, ints))) in
+    let left : r *ℤ (a *ℤ s) ≡ q *ℤ (b *ℤ s) =
+    (let f = simp ring at (ap (λ (z : ℤ). s *ℤ z) e) in simp ring (omega (arith, ints))) in
     let right : r *ℤ (c *ℤ q) ≡ q *ℤ (c *ℤ r) = simp ring in
-    sym (int_cmp-times r (a *ℤ s) (c *ℤ q) hr) ∙ ap₂ int_cmp left right ∙ int_cmp-times q (b *ℤ s) (c *ℤ r) hq
+    sym (int_cmp-times r (a *ℤ s) (c *ℤ q) hr) ∙ ap₂ int_cmp left right ∙ int_cmp-times q (b *ℤ s)
+    (c *ℤ r) hq
 
-below_below : (a b c q r s : ℤ) → pos 0 <ℤ q → pos 0 <ℤ r → pos 0 <ℤ s → (a *ℤ r) <ℤ (b *ℤ q) → (b *ℤ s) <ℤ (c *ℤ r) → (a *ℤ s) <ℤ (c *ℤ q)
+below_below : (a b c q r s : ℤ) → pos 0 <ℤ q → pos 0 <ℤ r → pos 0 <ℤ s → (a *ℤ r) <ℤ (b *ℤ q)
+    → (b *ℤ s) <ℤ (c *ℤ r) → (a *ℤ s) <ℤ (c *ℤ q)
 below_below a b c q r s hq hr hs h k =
     let f = simp ring at (lt_times s (a *ℤ r) (b *ℤ q) hs h) in
     let g = simp ring at (lt_times q (b *ℤ s) (c *ℤ r) hq k) in
@@ -89,8 +97,10 @@ cross_cmp_total = record {
   antisymm = λ x y. int_cmp_total.antisymm (x.num *ℤ positive_den y) (y.num *ℤ positive_den x);
   trans = λ x y z e f.
       says_less (x.num *ℤ positive_den z) (z.num *ℤ positive_den x)
-      (below_below x.num y.num z.num (positive_den x) (positive_den y) (positive_den z) (den_positive x) (den_positive y) (den_positive z) (when_less _ _ e) (when_less _ _ f));
-  congr = λ x y z e. alike x.num y.num z.num (positive_den x) (positive_den y) (positive_den z) (den_positive x) (den_positive y) (when_equal _ _ e);
+      (below_below x.num y.num z.num (positive_den x) (positive_den y) (positive_den z) (den_positive x)
+      (den_positive y) (den_positive z) (when_less _ _ e) (when_less _ _ f));
+  congr = λ x y z e. alike x.num y.num z.num (positive_den x) (positive_den y) (positive_den z)
+      (den_positive x) (den_positive y) (when_equal _ _ e);
 }
 
 pub parts_cmp_total : IsTotalOrder parts_cmp
@@ -123,10 +133,12 @@ tied_parts x y e f = ap (fraction_cmp x) (ap₂ pair (sym e) (sym f)) ∙ tied_i
     pair : ℤ → ℤ → Ratio
     pair n d = record { num = n; den = d }
 
-pub fraction_cmp_ties : (x y : Ratio) → (int_eq x.num y.num && int_eq x.den y.den) ≡ eq_by_cmp fraction_cmp x y
+pub fraction_cmp_ties : (x y : Ratio) → (int_eq x.num y.num && int_eq x.den y.den)
+    ≡ eq_by_cmp fraction_cmp x y
 fraction_cmp_ties x y =
     both_ways (int_eq x.num y.num && int_eq x.den y.den) (eq_by_cmp fraction_cmp x y)
-    (λ e. let p = both (int_eq x.num y.num) (int_eq x.den y.den) e in ap is_eq (tied_parts x y (same_numbers x.num y.num p.0) (same_numbers x.den y.den p.1)))
+    (λ e. let p = both (int_eq x.num y.num) (int_eq x.den y.den) e in ap is_eq
+    (tied_parts x y (same_numbers x.num y.num p.0) (same_numbers x.den y.den p.1)))
     (λ e. let all = (Equal-is (fraction_cmp x y)).0 e in
     let parts = tie_second (cross_cmp x y) (parts_cmp x y) all in
     let dens = tie_first (int_cmp x.den y.den) (int_cmp x.num y.num) parts in

@@ -46,7 +46,8 @@ pub record AreLiteralsInRange (bs : List ℕ) : Type 0 where
 
 -- the number that bs writes
 abbrev pub text_ratio : List ℕ → Ratio
-text_ratio bs = ratio_of (signed (starts_with_minus bs) (digits_value 10 (top_text bs))) (pos (digits_value 10 (bottom_text bs)))
+text_ratio bs = ratio_of (signed (starts_with_minus bs) (digits_value 10 (top_text bs)))
+    (pos (digits_value 10 (bottom_text bs)))
 
 -- bs writes the fraction r
 pub record IsReadAs (bs : List ℕ) (r : Ratio) : Type 0 where
@@ -58,7 +59,8 @@ pub record IsReadAs (bs : List ℕ) (r : Ratio) : Type 0 where
 abbrev pub CannotBeRead : List ℕ → NumError → Type 0
 CannotBeRead bs NotANumber = ¬ (IsFractionText bs)
 CannotBeRead bs Wide = IsFractionText bs × ¬ (AreLiteralsInRange bs)
-CannotBeRead bs ZeroDenominator = IsFractionText bs × AreLiteralsInRange bs × (digits_value 10 (bottom_text bs) ≡ 0)
+CannotBeRead bs ZeroDenominator = IsFractionText bs × AreLiteralsInRange bs
+    × (digits_value 10 (bottom_text bs) ≡ 0)
 CannotBeRead bs DivideByZero = ⊥
 
 -- `Fraction::read` may give this answer on bs: there is one such
@@ -67,4 +69,5 @@ IsReadAnswer bs answer = IfOk answer (λ r. IsReadAs bs r) × IfErr answer (λ e
 
 -- the text of p: `n` for n/1, else `n/d`
 abbrev pub text_of : Ratio → List ℕ
-text_of p = if int_eq p.den (pos 1) then signed_decimal p.num else signed_decimal p.num ++ (codes "/" ++ signed_decimal p.den)
+text_of p = if int_eq p.den (pos 1) then signed_decimal p.num
+    else signed_decimal p.num ++ (codes "/" ++ signed_decimal p.den)

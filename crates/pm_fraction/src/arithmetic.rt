@@ -29,7 +29,8 @@ impl Fraction {
         Ok(Fraction::from_parts(sum.exact(h), den))
     }
 
-    // The numerator of p + q over the least common denominator, where g is the greatest common divisor of the denominators.
+    // The numerator of p + q over the least common denominator, where g is the greatest common divisor of the
+    // denominators.
     fn sum_of_terms(self, other: Fraction, g: Whole) -> Result<Whole, NumError>
         requires positive { pos 0 <ℤ g }
         requires divides { unsigned_abs g ∣ unsigned_abs self.den }
@@ -72,7 +73,8 @@ impl Fraction {
         self.add(other.neg())
     }
 
-    /// p / q. `DivideByZero` exactly where q is 0, and `Wide` exactly where the lowest terms of the quotient leave the range.
+    /// p / q. `DivideByZero` exactly where q is 0, and `Wide` exactly where the lowest terms of the quotient leave
+    /// the range.
     pub fn div(self, other: Fraction) -> Result<Fraction, NumError>
         ensures ok { IfOk result (λ r. IsLowestTermsOf (quotient_of self other) r) }
         ensures fits { IfOk result (λ r. InRangeRatio r) }

@@ -32,7 +32,8 @@ impl Fraction {
     ghost use Rattle.pm_fraction.specs.Fractions.{IsLowestTermsOf, IsTooWide, is_quotient_negative, ratio_of, signed};
     ghost use Rattle.pm_fraction.specs.Arithmetic.{inverse_of, opposite_of};
 
-    /// n/d in lowest terms. `ZeroDenominator` exactly where d is 0, and `Wide` exactly where the lowest terms leave the range.
+    /// n/d in lowest terms. `ZeroDenominator` exactly where d is 0, and `Wide` exactly where the lowest terms leave
+    /// the range.
     pub fn new(n: i128, d: i128) -> Result<Fraction, NumError>
         ensures ok { IfOk result (λ r. IsLowestTermsOf (ratio_of n d) r) }
         ensures fits { IfOk result (λ r. InRangeRatio r) }
@@ -55,7 +56,8 @@ impl Fraction {
         requires { 0 < bottom }
         ensures ok { IfOk result (λ r. IsLowestTermsOf (ratio_of (signed is_negative top) (pos bottom)) r) }
         ensures fits { IfOk result (λ r. InRangeRatio r) }
-        ensures wide { IfErr result (λ e. (e ≡ NumError.Wide) × IsTooWide (ratio_of (signed is_negative top) (pos bottom))) }
+        ensures wide { IfErr result (λ e. (e ≡ NumError.Wide)
+            × IsTooWide (ratio_of (signed is_negative top) (pos bottom))) }
         ensures small { top < 2 ^ 127 → bottom < 2 ^ 127 → IsOk result }
     {
         let g = gcd(top, bottom);

@@ -1,4 +1,5 @@
-//! Fractions of whole numbers of 128 bits, in lowest terms, with exact arithmetic and order.
+//! Fractions of whole numbers of 128 bits, in lowest terms, with exact arithmetic and order. It knows nothing of
+//! geometry, properties and objects.
 #![tactic(auto)]
 
 mod arithmetic;

@@ -78,8 +78,9 @@ impl Fraction {
     ghost use Rattle.pm_fraction.specs.declared.error.NumError.{NumError};
     ghost use Rattle.std.specs.Prelude.{Result, Ok};
 
-    /// Reads an optional `-`, digits, and optionally `/` and digits; zeros may lead. `NotANumber` exactly for another text, else
-    /// `Wide` exactly where digits write a number above 2^127 - 1, else `ZeroDenominator` exactly where those behind `/` write 0.
+    /// Reads an optional `-`, digits, and optionally `/` and digits; zeros may lead. `NotANumber` exactly for another
+    /// text, else `Wide` exactly where digits write a number above 2^127 - 1, else `ZeroDenominator` exactly where
+    /// those behind `/` write 0.
     pub fn read(text: &str) -> Result<Fraction, NumError>
         ensures ok { IfOk result (λ r. IsReadAs text.now r) }
         ensures err { IfErr result (λ e. CannotBeRead text.now e) }
@@ -102,7 +103,8 @@ impl Fraction {
         ensures text { IfOk result (λ s. string_bytes s ≡ text_of self) }
 
         // `Fraction::read` gives this fraction back.
-        ensures reads_back { IfOk result (λ s. (answer : Result Ratio NumError) → IsReadAnswer (string_bytes s) answer → answer ≡ Ok self) }
+        ensures reads_back { IfOk result (λ s. (answer : Result Ratio NumError)
+            → IsReadAnswer (string_bytes s) answer → answer ≡ Ok self) }
     {
         let num = self.num();
         let den = self.den();

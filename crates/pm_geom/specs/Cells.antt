@@ -23,7 +23,8 @@ pub record AreSites (n : ℕ) (Q : List Row) (W : List Ratio) : Type 0 where
 pub record IsUnder (n : ℕ) (Q : List Row) (W : List Ratio) (b : Row) (m : ℤ) : Type 0 where
   pub cols : length b ≡ n
   pub positive : pos 0 <ℤ m
-  pub below : (j : ℕ) → j < length Q → (dot b (ray Q j) *ℤ (ratio_at W j).den) ≤ℤ (m *ℤ (entry (ray Q j) 0 *ℤ (ratio_at W j).num))
+  pub below : (j : ℕ) → j < length Q
+      → (dot b (ray Q j) *ℤ (ratio_at W j).den) ≤ℤ (m *ℤ (entry (ray Q j) 0 *ℤ (ratio_at W j).num))
 
 -- at the site at place j that function is equal to the height
 abbrev pub Touches : List Row → List Ratio → Row → ℤ → ℕ → Type 0
@@ -39,7 +40,8 @@ pub record IsLowerFace (n : ℕ) (Q : List Row) (W : List Ratio) (f : ℕ → Bo
 -- a lower face that is within no other one
 pub record IsCell (n : ℕ) (Q : List Row) (W : List Ratio) (f : ℕ → Bool) : Type 0 where
   pub face : IsLowerFace n Q W f
-  pub maximal : (g : ℕ → Bool) → IsLowerFace n Q W g → ((j : ℕ) → j < length Q → IsTrue (f j) → IsTrue (g j)) → (j : ℕ) → j < length Q → IsTrue (g j) → IsTrue (f j)
+  pub maximal : (g : ℕ → Bool) → IsLowerFace n Q W g → ((j : ℕ) → j < length Q → IsTrue (f j) → IsTrue (g j))
+      → (j : ℕ) → j < length Q → IsTrue (g j) → IsTrue (f j)
 
 -- exactly the cells, each once: as rising lists of places, in lexicographic order
 pub record AreCells (n : ℕ) (Q : List Row) (W : List Ratio) (cells : List (List ℕ)) : Type 0 where

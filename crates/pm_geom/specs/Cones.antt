@@ -1,5 +1,6 @@
 -- Cones, their extreme rays and their facet rows (Ziegler, Lectures on Polytopes, lectures 1 and 2).
--- A set of rows of n entries is a predicate S: the cone that rows generate (`InCone G L`), the cone that rows cut out (`CutOut B`), or the rows that are valid on a cone (`IsValid n G L`).
+-- A set of rows of n entries is a predicate S: the cone that rows generate (`InCone G L`), the cone that rows cut out
+-- (`CutOut B`), or the rows that are valid on a cone (`IsValid n G L`).
 use Rattle.std.specs.Prelude.{ℕ, ◌≡◌, List, length}
 use Rattle.std.specs.List.{All, AllByRecursion, AllPairs, Any}
 use Rattle.pm_vector.specs.Rows.{Row, dot, plus, times, opposite, Same}
@@ -48,12 +49,14 @@ pub record SameModulo (n : ℕ) (S : Row → Type 0) (r u : Row) : Type 0 where
   pub line : InLineality S w
   pub same : Same (times p u) (plus (times k r) w)
 
--- r is in S, its opposite is not, and whenever a positive multiple of r is a sum u + v in S, each of u and v is a non-negative multiple of r modulo the lineality
+-- r is in S, its opposite is not, and whenever a positive multiple of r is a sum u + v in S, each of u and v is a
+-- non-negative multiple of r modulo the lineality
 pub record IsExtreme (n : ℕ) (S : Row → Type 0) (r : Row) : Type 0 where
   pub cols : length r ≡ n
   pub inside : S r
   pub not_line : ¬ (S (opposite r))
-  pub summands : (p : ℤ) (u v : Row) → pos 0 <ℤ p → length u ≡ n → length v ≡ n → S u → S v → Same (times p r) (plus u v) → MultipleModulo n S r u × MultipleModulo n S r v
+  pub summands : (p : ℤ) (u v : Row) → pos 0 <ℤ p → length u ≡ n → length v ≡ n → S u → S v
+      → Same (times p r) (plus u v) → MultipleModulo n S r u × MultipleModulo n S r v
 
 -- r is an extreme ray of cone(G) + span(L)
 abbrev pub IsExtremeRay : ℕ → List Row → List Row → Row → Type 0

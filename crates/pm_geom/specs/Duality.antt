@@ -8,7 +8,8 @@ use lib.Signed.{◌≤ℤ◌}
 
 -- no point exceeds the value of a dual
 abbrev pub WeakDuality : Type 0
-WeakDuality = (A B : List Row) (c : List Ratio) (v : Ratio) (y : List Ratio) → IsDual A B c v y → (p : List Ratio) (w : Ratio) → IsPoint A B p → HasValue c p w → (w.num *ℤ v.den) ≤ℤ (v.num *ℤ w.den)
+WeakDuality = (A B : List Row) (c : List Ratio) (v : Ratio) (y : List Ratio) → IsDual A B c v y
+    → (p : List Ratio) (w : Ratio) → IsPoint A B p → HasValue c p w → (w.num *ℤ v.den) ≤ℤ (v.num *ℤ w.den)
 
 -- multipliers of infeasibility exclude a point
 abbrev pub InfeasibleExcludes : Type 0
@@ -16,11 +17,13 @@ InfeasibleExcludes = (A B : List Row) (y p : List Ratio) → IsInfeasible A B y 
 
 -- the value of an optimum is the greatest value at the solutions
 abbrev pub OptimumIsMaximum : Type 0
-OptimumIsMaximum = (A B : List Row) (c : List Ratio) (v : Ratio) (p y : List Ratio) → IsOptimal A B c v p y → IsMaximum (Solves A B) c v
+OptimumIsMaximum = (A B : List Row) (c : List Ratio) (v : Ratio) (p y : List Ratio) → IsOptimal A B c v p y
+    → IsMaximum (Solves A B) c v
 
 -- a point and an improving direction show that there is no bound
 abbrev pub DirectionIsWithoutBound : Type 0
-DirectionIsWithoutBound = (A B : List Row) (c p d : List Ratio) → IsUnbounded A B c p d → IsWithoutBound (Solves A B) c
+DirectionIsWithoutBound = (A B : List Row) (c p d : List Ratio) → IsUnbounded A B c p d
+    → IsWithoutBound (Solves A B) c
 
 -- no solution has a positive first entry where multipliers show infeasibility
 abbrev pub InfeasibleHasNoPoint : Type 0

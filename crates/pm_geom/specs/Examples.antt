@@ -23,7 +23,8 @@ square = triple 1 0 0 ∷ triple 1 0 1 ∷ triple 1 1 0 ∷ triple 1 1 1 ∷ []
 abbrev pub edges : List Row
 edges = triple 0 1 0 ∷ triple 0 0 1 ∷ (pos 1 ∷ pos 0 ∷ negsuc 0 ∷ []) ∷ (pos 1 ∷ negsuc 0 ∷ pos 0 ∷ []) ∷ []
 
--- each vertex is an extreme ray, and the midpoint is none; an edge's row is a facet row, and the sum of two edges' rows is none; the four vertices are an order, and three of them are none
+-- each vertex is an extreme ray, and the midpoint is none; an edge's row is a facet row, and the sum of two edges'
+-- rows is none; the four vertices are an order, and three of them are none
 pub record SquareIsRead : Type 0 where
   pub polytope : IsPolytopeThing 3 square []
   pub vertices : All (IsExtremeRay 3 square []) square
@@ -38,7 +39,8 @@ pub record SquareIsRead : Type 0 where
 abbrev pub half_line : List Row
 half_line = pair 0 1 ∷ pair 1 0 ∷ []
 
--- the rows (0,1) and (1,0) cut out the half line; the extreme rays are (0,1) and (1,0), the facet rows (0,1) and (1,0), the far face among them
+-- the rows (0,1) and (1,0) cut out the half line; the extreme rays are (0,1) and (1,0), the facet rows (0,1) and
+-- (1,0), the far face among them
 pub record HalfLineIsRead : Type 0 where
   pub polytope : IsPolytopeThing 2 half_line []
   pub cut : (x : Row) → length x ≡ 2 → InCone half_line [] x ↔ CutOut (pair 0 1 ∷ pair 1 0 ∷ []) x
@@ -52,18 +54,22 @@ pub record EmptyIsRead (n : ℕ) : Type 0 where
   pub no_facet : (a : Row) → ¬ (IsFacetRow n [] [] a)
   pub vanish : (a : Row) → length a ≡ n → Vanishes n [] [] a
 
--- the line through (1,0,0) along (0,1,0) in the plane: one extreme ray modulo the lineality, and one facet row modulo the rows that vanish, which (0,0,1) spans
+-- the line through (1,0,0) along (0,1,0) in the plane: one extreme ray modulo the lineality, and one facet row modulo
+-- the rows that vanish, which (0,0,1) spans
 pub record LineIsRead : Type 0 where
   pub polytope : IsPolytopeThing 3 (triple 1 0 0 ∷ []) (triple 0 1 0 ∷ [])
   pub rays : IsOrder 3 (InCone (triple 1 0 0 ∷ []) (triple 0 1 0 ∷ [])) (triple 1 0 0 ∷ [])
   pub facets : IsOrder 3 (IsValid 3 (triple 1 0 0 ∷ []) (triple 0 1 0 ∷ [])) (triple 1 0 0 ∷ [])
-  pub vanish : (a : Row) → length a ≡ 3 → Vanishes 3 (triple 1 0 0 ∷ []) (triple 0 1 0 ∷ []) a ↔ InSpan (triple 0 0 1 ∷ []) a
+  pub vanish : (a : Row) → length a ≡ 3 → Vanishes 3 (triple 1 0 0 ∷ []) (triple 0 1 0 ∷ []) a
+      ↔ InSpan (triple 0 0 1 ∷ []) a
 
 -- the segment from 0 to 2
 abbrev pub segment : List Row
 segment = pair 1 0 ∷ pair 1 2 ∷ []
 
--- no order has one extreme ray twice, or a row that is not extreme; the midpoint of a segment is no extreme ray, though only its double is a sum of two other whole rows; a ray without a vertex, and a cone with a negative first entry, are over no polytope
+-- no order has one extreme ray twice, or a row that is not extreme; the midpoint of a segment is no extreme ray,
+-- though only its double is a sum of two other whole rows; a ray without a vertex, and a cone with a negative first
+-- entry, are over no polytope
 pub record IsRefused : Type 0 where
   pub twice : ¬ (IsOrder 3 (InCone square []) (triple 2 0 0 ∷ square))
   pub with_midpoint : ¬ (IsOrder 3 (InCone square []) (triple 2 1 1 ∷ square))

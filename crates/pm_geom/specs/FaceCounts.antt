@@ -52,11 +52,13 @@ inclusion_count lower upper = sum_by (λ g. count_by (is_within g) upper) lower
 abbrev pub inner_faces : List (List (List ℕ)) → ℕ → List (List ℕ)
 inner_faces ranks i = slice_index_or (inner ranks) i []
 
--- how many pairs there are of faces of the inner ranks at i and k, one included in the other; where these are one rank, how many faces it has
+-- how many pairs there are of faces of the inner ranks at i and k, one included in the other; where these are one
+-- rank, how many faces it has
 abbrev pub f2_entry : List (List (List ℕ)) → ℕ → ℕ → ℕ
 f2_entry ranks i k =
     cond (nat_lt i k) (inclusion_count (inner_faces ranks i) (inner_faces ranks k))
-    (cond (nat_lt k i) (inclusion_count (inner_faces ranks k) (inner_faces ranks i)) (length (inner_faces ranks i)))
+    (cond (nat_lt k i) (inclusion_count (inner_faces ranks k) (inner_faces ranks i))
+    (length (inner_faces ranks i)))
 
 -- the entries of a square table of size d
 abbrev pub table_of : ℕ → (ℕ → ℕ → ℕ) → List (List ℕ)

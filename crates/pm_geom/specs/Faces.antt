@@ -1,4 +1,5 @@
--- Faces of a cone by an order V of its extreme rays (Ziegler, Lectures on Polytopes, lecture 2). A set of places of V is a test on places.
+-- Faces of a cone by an order V of its extreme rays (Ziegler, Lectures on Polytopes, lecture 2). A set of places of V
+-- is a test on places.
 use Rattle.std.specs.Prelude.{ℕ, zero, suc, ◌≡◌, ◌<◌, ◌↔◌, Bool, IsTrue, List, [], length}
 use Rattle.std.specs.List.{slice_index_or}
 use Rattle.pm_vector.specs.Rows.{Row, dot}
@@ -26,7 +27,8 @@ pub record IsStrictlyIn (m : ℕ) (f g : ℕ → Bool) : Type 0 where
 -- k faces, each strictly included in the next and the last one in f
 abbrev pub HasChain : ℕ → List Row → List Row → List Row → ℕ → (ℕ → Bool) → Type 0
 HasChain n G L V zero f = Unit {0}
-HasChain n G L V (suc k) f = (g : ℕ → Bool) × IsFace n G L V g × IsStrictlyIn (length V) g f × HasChain n G L V k g
+HasChain n G L V (suc k) f = (g : ℕ → Bool) × IsFace n G L V g × IsStrictlyIn (length V) g f
+    × HasChain n G L V k g
 
 -- the greatest number of strict inclusions of faces below f is k
 pub record HasRank (n : ℕ) (G L V : List Row) (f : ℕ → Bool) (k : ℕ) : Type 0 where

@@ -1,4 +1,6 @@
--- Generators of a cone in canonical form (Ziegler, Lectures on Polytopes, section 1.1; Gawrilow and Joswig, polymake). The cone is a set S of rows of n entries: what rows cut out, or the rows that are valid on a cone, whose lineality are the rows that vanish.
+-- Generators of a cone in canonical form (Ziegler, Lectures on Polytopes, section 1.1; Gawrilow and Joswig,
+-- polymake). The cone is a set S of rows of n entries: what rows cut out, or the rows that are valid on a cone, whose
+-- lineality are the rows that vanish.
 use Rattle.std.specs.Prelude.{ℕ, ◌≡◌, ◌<◌, ◌↔◌, List, length}
 use Rattle.std.specs.List.{All, AllPairs}
 use Rattle.pm_vector.specs.Cones.{InSpan}
@@ -34,7 +36,8 @@ pub record IsCanonicalRay (n : ℕ) (S : Row → Type 0) (r : Row) : Type 0 wher
   pub primitive : IsPrimitive r
   pub reduced : VanishAt pivots r
 
--- V has one row for each extreme row of S, in canonical form and lexicographic order, and K is the echelon basis of the lineality of S
+-- V has one row for each extreme row of S, in canonical form and lexicographic order, and K is the echelon basis of
+-- the lineality of S
 pub record AreGenerators (n : ℕ) (S : Row → Type 0) (V K : List Row) : Type 0 where
   pub pivots : List ℕ
   pub basis : IsLinealityBasis n S K pivots

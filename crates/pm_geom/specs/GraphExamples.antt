@@ -33,8 +33,11 @@ pub record SquareGraphIsRead : Type 0 where
   pub diagonal : ¬ (IsEdge 3 square [] square 0 3)
   pub no_loop : ¬ (IsEdge 3 square [] square 2 2)
   pub graph : IsGraph 4 (IsEdge 3 square [] square) square_graph
-  pub one_way : ¬ (IsGraph 4 (IsEdge 3 square [] square) ((1 ∷ 2 ∷ []) ∷ (0 ∷ 3 ∷ []) ∷ (0 ∷ 3 ∷ []) ∷ (1 ∷ []) ∷ []))
-  pub with_diagonals : ¬ (IsGraph 4 (IsEdge 3 square [] square) ((1 ∷ 2 ∷ 3 ∷ []) ∷ (0 ∷ 3 ∷ []) ∷ (0 ∷ 3 ∷ []) ∷ (0 ∷ 1 ∷ 2 ∷ []) ∷ []))
+  pub one_way : ¬
+      (IsGraph 4 (IsEdge 3 square [] square) ((1 ∷ 2 ∷ []) ∷ (0 ∷ 3 ∷ []) ∷ (0 ∷ 3 ∷ []) ∷ (1 ∷ []) ∷ []))
+  pub with_diagonals
+      : ¬ (IsGraph 4 (IsEdge 3 square [] square)
+      ((1 ∷ 2 ∷ 3 ∷ []) ∷ (0 ∷ 3 ∷ []) ∷ (0 ∷ 3 ∷ []) ∷ (0 ∷ 1 ∷ 2 ∷ []) ∷ []))
   pub sides : edge_count square_graph ≡ 4
   pub walk : IsWalk (AreNeighbours square_graph) 0 3 2
   pub no_step : ¬ (IsWalk (AreNeighbours square_graph) 0 3 1)
@@ -87,8 +90,10 @@ abbrev pub octahedron_lattice : List (List (List ℕ))
 octahedron_lattice =
     ([] ∷ []) ∷
     ((0 ∷ []) ∷ (1 ∷ []) ∷ (2 ∷ []) ∷ (3 ∷ []) ∷ (4 ∷ []) ∷ (5 ∷ []) ∷ []) ∷
-    ((0 ∷ 1 ∷ []) ∷ (0 ∷ 2 ∷ []) ∷ (0 ∷ 3 ∷ []) ∷ (0 ∷ 4 ∷ []) ∷ (1 ∷ 2 ∷ []) ∷ (1 ∷ 3 ∷ []) ∷ (1 ∷ 5 ∷ []) ∷ (2 ∷ 4 ∷ []) ∷ (2 ∷ 5 ∷ []) ∷ (3 ∷ 4 ∷ []) ∷ (3 ∷ 5 ∷ []) ∷ (4 ∷ 5 ∷ []) ∷ []) ∷
-    ((0 ∷ 1 ∷ 2 ∷ []) ∷ (0 ∷ 1 ∷ 3 ∷ []) ∷ (0 ∷ 2 ∷ 4 ∷ []) ∷ (0 ∷ 3 ∷ 4 ∷ []) ∷ (1 ∷ 2 ∷ 5 ∷ []) ∷ (1 ∷ 3 ∷ 5 ∷ []) ∷ (2 ∷ 4 ∷ 5 ∷ []) ∷ (3 ∷ 4 ∷ 5 ∷ []) ∷ []) ∷
+    ((0 ∷ 1 ∷ []) ∷ (0 ∷ 2 ∷ []) ∷ (0 ∷ 3 ∷ []) ∷ (0 ∷ 4 ∷ []) ∷ (1 ∷ 2 ∷ []) ∷ (1 ∷ 3 ∷ []) ∷ (1 ∷ 5 ∷ [])
+    ∷ (2 ∷ 4 ∷ []) ∷ (2 ∷ 5 ∷ []) ∷ (3 ∷ 4 ∷ []) ∷ (3 ∷ 5 ∷ []) ∷ (4 ∷ 5 ∷ []) ∷ []) ∷
+    ((0 ∷ 1 ∷ 2 ∷ []) ∷ (0 ∷ 1 ∷ 3 ∷ []) ∷ (0 ∷ 2 ∷ 4 ∷ []) ∷ (0 ∷ 3 ∷ 4 ∷ []) ∷ (1 ∷ 2 ∷ 5 ∷ [])
+    ∷ (1 ∷ 3 ∷ 5 ∷ []) ∷ (2 ∷ 4 ∷ 5 ∷ []) ∷ (3 ∷ 4 ∷ 5 ∷ []) ∷ []) ∷
     ((0 ∷ 1 ∷ 2 ∷ 3 ∷ 4 ∷ 5 ∷ []) ∷ []) ∷ []
 
 -- the f- and f2-vectors of these
@@ -102,7 +107,8 @@ pub record CountsAreRead : Type 0 where
   pub empty_f2 : f2_of empty_lattice ≡ []
   pub ray_f2 : f2_of ray_lattice ≡ []
   pub square_f2 : f2_of square_lattice ≡ (4 ∷ 8 ∷ []) ∷ (8 ∷ 4 ∷ []) ∷ []
-  pub octahedron_f2 : f2_of octahedron_lattice ≡ (6 ∷ 24 ∷ 24 ∷ []) ∷ (24 ∷ 12 ∷ 24 ∷ []) ∷ (24 ∷ 24 ∷ 8 ∷ []) ∷ []
+  pub octahedron_f2 : f2_of octahedron_lattice
+      ≡ (6 ∷ 24 ∷ 24 ∷ []) ∷ (24 ∷ 12 ∷ 24 ∷ []) ∷ (24 ∷ 24 ∷ 8 ∷ []) ∷ []
   pub once : ¬ (f2_of segment_lattice ≡ (4 ∷ []) ∷ [])
 
 -- the h-vectors of the octahedron, the square, a segment and a point, and one with a negative number

@@ -25,7 +25,8 @@ IsAscending n set = All (λ j. j < n) set × AllPairs (λ i j. i < j) set
 abbrev pub AreNeighbours : List (List ℕ) → ℕ → ℕ → Type 0
 AreNeighbours rows i j = Contains (slice_index_or rows i []) j
 
--- the graph on n nodes that E joins, as a list for each node: its neighbours, rising (Diestel, Graph Theory, section 1.1)
+-- the graph on n nodes that E joins, as a list for each node: its neighbours, rising (Diestel, Graph Theory, section
+-- 1.1)
 pub record IsGraph (n : ℕ) (E : ℕ → ℕ → Type 0) (rows : List (List ℕ)) : Type 0 where
   pub nodes : length rows ≡ n
   pub ascending : All (IsAscending n) rows
@@ -50,7 +51,8 @@ pub record IsDistance (E : ℕ → ℕ → Type 0) (i j k : ℕ) : Type 0 where
   pub walk : IsWalk E i j k
   pub least : (m : ℕ) → m < k → ¬ (IsWalk E i j m)
 
--- no two of the nodes below n that some walk joins are farther apart than k, and two of them are k apart; 0 where there are no two nodes
+-- no two of the nodes below n that some walk joins are farther apart than k, and two of them are k apart; 0 where
+-- there are no two nodes
 pub record IsGreatestDistance (n : ℕ) (E : ℕ → ℕ → Type 0) (k : ℕ) : Type 0 where
   pub bound : (i j d : ℕ) → i < n → j < n → IsDistance E i j d → d ≤ k
   pub reached : (k ≡ 0) ⊎ ((i : ℕ) × (j : ℕ) × (i < n) × (j < n) × IsDistance E i j k)
@@ -73,9 +75,11 @@ pub record IsEdge (n : ℕ) (G L V : List Row) (i j : ℕ) : Type 0 where
 
 -- f holds of exactly the places of V at which the rows of F at i and k both vanish
 abbrev pub AreShared : List Row → List Row → ℕ → ℕ → (ℕ → Bool) → Type 0
-AreShared V F i k f = (j : ℕ) → j < length V → IsTrue (f j) ↔ ((dot (ray F i) (ray V j) ≡ pos 0) × (dot (ray F k) (ray V j) ≡ pos 0))
+AreShared V F i k f = (j : ℕ) → j < length V
+    → IsTrue (f j) ↔ ((dot (ray F i) (ray V j) ≡ pos 0) × (dot (ray F k) (ray V j) ≡ pos 0))
 
--- the facets at different places i and k meet in a face of rank 2 less than the whole, a ridge (Ziegler, section 3.2 for the polar)
+-- the facets at different places i and k meet in a face of rank 2 less than the whole, a ridge (Ziegler, section 3.2
+-- for the polar)
 pub record IsRidge (n : ℕ) (G L V F : List Row) (i k : ℕ) : Type 0 where
   pub first : i < length F
   pub second : k < length F

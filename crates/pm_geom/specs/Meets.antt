@@ -15,18 +15,23 @@ pub record IsMeet (m : ℕ) (sets : List (ℕ → Bool)) (f : ℕ → Bool) : Ty
 -- k meets of the sets, each strictly included in the next and the last one in f
 abbrev pub HasMeetChain : ℕ → List (ℕ → Bool) → ℕ → (ℕ → Bool) → Type 0
 HasMeetChain m sets zero f = Unit {0}
-HasMeetChain m sets (suc k) f = (g : ℕ → Bool) × IsMeet m sets g × IsStrictlyIn m g f × HasMeetChain m sets k g
+HasMeetChain m sets (suc k) f = (g : ℕ → Bool) × IsMeet m sets g × IsStrictlyIn m g f
+    × HasMeetChain m sets k g
 
--- f is a meet of the sets, and k is the greatest number of strict inclusions of meets below it (Ziegler, section 2.2: its rank)
+-- f is a meet of the sets, and k is the greatest number of strict inclusions of meets below it (Ziegler, section 2.2:
+-- its rank)
 pub record HasMeetRank (m : ℕ) (sets : List (ℕ → Bool)) (f : ℕ → Bool) (k : ℕ) : Type 0 where
   pub meet : IsMeet m sets f
   pub chain : HasMeetChain m sets k f
   pub greatest : ¬ (HasMeetChain m sets (suc k) f)
 
--- all meets of the sets by rank, as rising lists of places, those of one rank in lexicographic order; no rank up to the last is without
+-- all meets of the sets by rank, as rising lists of places, those of one rank in lexicographic order; no rank up to
+-- the last is without
 pub record AreMeetsByRank (m : ℕ) (sets : List (ℕ → Bool)) (ranks : List (List (List ℕ))) : Type 0 where
-  pub each : (k : ℕ) (xs : List ℕ) → Contains (at_rank ranks k) xs → IsAscending m xs × HasMeetRank m sets (holds xs) k
-  pub all : (g : ℕ → Bool) → IsMeet m sets g → (k : ℕ) × (xs : List ℕ) × Contains (at_rank ranks k) xs × SamePlaces m g (holds xs)
+  pub each : (k : ℕ) (xs : List ℕ) → Contains (at_rank ranks k) xs
+      → IsAscending m xs × HasMeetRank m sets (holds xs) k
+  pub all : (g : ℕ → Bool) → IsMeet m sets g → (k : ℕ) × (xs : List ℕ) × Contains (at_rank ranks k) xs
+      × SamePlaces m g (holds xs)
   pub ordered : (k : ℕ) → AllPairs IsLexBefore (at_rank ranks k)
   pub full : All (λ faces. ¬ (faces ≡ [])) ranks
 

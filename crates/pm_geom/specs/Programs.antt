@@ -1,4 +1,5 @@
--- Linear programs (Chvatal, Linear Programming, chapters 1 and 5): the greatest c.x over the points x with first coordinate 1, a.x >= 0 for the rows a of A and b.x = 0 for the rows b of B.
+-- Linear programs (Chvatal, Linear Programming, chapters 1 and 5): the greatest c.x over the points x with first
+-- coordinate 1, a.x >= 0 for the rows a of A and b.x = 0 for the rows b of B.
 use Rattle.pm_vector.specs.Cones.{combination}
 use Rattle.pm_vector.specs.Numbers.{Ratio}
 use Rattle.pm_vector.specs.Rows.{Row, Same, dot, entry, plus, ratio_at}
@@ -107,7 +108,8 @@ pub record IsAttained (S : Row → Type 0) (c : List Ratio) (v : Ratio) : Type 0
 
 -- c exceeds the value v at no point of the rows S
 pub record IsNotExceeded (S : Row → Type 0) (c : List Ratio) (v : Ratio) : Type 0 where
-  pub holds : (k : ℤ) (objective x : Row) → IsTimes k c objective → S x → pos 0 <ℤ entry x 0 → (dot objective x *ℤ v.den) ≤ℤ ((k *ℤ entry x 0) *ℤ v.num)
+  pub holds : (k : ℤ) (objective x : Row) → IsTimes k c objective → S x → pos 0 <ℤ entry x 0
+      → (dot objective x *ℤ v.den) ≤ℤ ((k *ℤ entry x 0) *ℤ v.num)
 
 -- v is the greatest value of c at the points of the rows S
 pub record IsMaximum (S : Row → Type 0) (c : List Ratio) (v : Ratio) : Type 0 where

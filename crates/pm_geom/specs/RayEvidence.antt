@@ -18,9 +18,12 @@ use Rattle.pm_limits.specs.Limits.{most_rows}
 
 -- r and s are adjacent in the cone that A cuts out: no third extreme ray vanishes on each row of A on which both do
 pub record AreAdjacentRays (n : ℕ) (A : List Row) (r s : Row) : Type 0 where
-  pub third : (t : Row) → IsExtreme n (CutOut A) t → ((b : Row) → Contains A b → dot b r ≡ pos 0 → dot b s ≡ pos 0 → dot b t ≡ pos 0) → SameModulo n (CutOut A) t r ⊎ SameModulo n (CutOut A) t s
+  pub third : (t : Row) → IsExtreme n (CutOut A) t
+      → ((b : Row) → Contains A b → dot b r ≡ pos 0 → dot b s ≡ pos 0 → dot b t ≡ pos 0)
+      → SameModulo n (CutOut A) t r ⊎ SameModulo n (CutOut A) t s
 
--- in the column c a product or the difference of (a.r) s - (a.s) r, its coefficients divided by their greatest common divisor, leaves the range
+-- in the column c a product or the difference of (a.r) s - (a.s) r, its coefficients divided by their greatest common
+-- divisor, leaves the range
 pub record IsWideCombination (a r s : Row) (c : ℕ) : Type 0 where
   pub p : ℤ
   pub q : ℤ
@@ -40,7 +43,8 @@ abbrev pub IsWideNext : ℕ → List Row → Row → Row → Row → Option ℕ 
 IsWideNext n A a r s None = ¬ (ProductsStay a r) ⊎ ¬ (ProductsStay a s)
 IsWideNext n A a r s (Some c) = IsWideColumn n A a r s c
 
--- E2: r and s are canonical extreme rays of the cone of a front of the stated order, and with the next row a step of double description on them leaves the range
+-- E2: r and s are canonical extreme rays of the cone of a front of the stated order, and with the next row a step of
+-- double description on them leaves the range
 pub record IsWidePair (n : ℕ) (X : List Row) (front : ℕ) (r s : Row) (column : Option ℕ) : Type 0 where
   pub ordered : List Row
   pub stated : IsStatedFront X ordered front
@@ -49,7 +53,8 @@ pub record IsWidePair (n : ℕ) (X : List Row) (front : ℕ) (r s : Row) (column
   pub second : IsCanonicalRay n (CutOut (take front ordered)) s
   pub wide : IsWideNext n (take front ordered) (row_at ordered front) r s column
 
--- E5Rays: more than most_rows extreme rays of the cone of a front of the stated order, no two alike up to positive scale and lineality
+-- E5Rays: more than most_rows extreme rays of the cone of a front of the stated order, no two alike up to positive
+-- scale and lineality
 pub record IsCrowded (n : ℕ) (X : List Row) (front : ℕ) (rays : List Row) : Type 0 where
   pub ordered : List Row
   pub stated : IsStatedFront X ordered front

@@ -1,4 +1,5 @@
--- The order in which double description takes the rows of a list, when a refusal is to be shown: first those that enlarge the span.
+-- The order in which double description takes the rows of a list, when a refusal is to be shown: first those that
+-- enlarge the span.
 use Rattle.std.specs.Prelude.{ℕ, ◌≡◌, ◌≤◌, Bool, true, false, cond, List, [], ◌∷◌, ◌++◌, length}
 use Rattle.std.specs.Bool.{beq}
 use Rattle.pm_vector.specs.Rows.{Row}
@@ -11,7 +12,8 @@ rows_marked b [] X = []
 rows_marked b (m ∷ marks) [] = []
 rows_marked b (m ∷ marks) (x ∷ X) = cond (beq b m) (x ∷ rows_marked b marks X) (rows_marked b marks X)
 
--- Y has first, in list order, the rows of X that enlarge the span of those before them, and then all others in list order
+-- Y has first, in list order, the rows of X that enlarge the span of those before them, and then all others in list
+-- order
 pub record IsStatedOrder (X Y : List Row) : Type 0 where
   pub marks : List Bool
   pub enlarging : MarkEnlarging X marks

@@ -1,4 +1,5 @@
--- Lists of rows that describe a cone, a polytope or a fan, and orders of its rays and facets (Ziegler, Lectures on Polytopes, lectures 1, 2 and 7).
+-- Lists of rows that describe a cone, a polytope or a fan, and orders of its rays and facets (Ziegler, Lectures on
+-- Polytopes, lectures 1, 2 and 7).
 use Rattle.std.specs.Prelude.{ℕ, ◌≡◌, ◌<◌, ◌⊎◌, List, [], length}
 use Rattle.std.specs.List.{All, AllPairs, Any, Contains, slice_index_or}
 use Rattle.pm_vector.specs.Rows.{Row, entry, HasCols, IsZero}
@@ -12,18 +13,22 @@ pub record IsConeThing (n : ℕ) (G L : List Row) : Type 0 where
   pub generators : HasCols n G
   pub lines : HasCols n L
 
--- moreover no row of the cone has a negative first entry, and the cone is {0} (the empty polytope) or has a row with a positive one. A polytope is treated through this cone over it
+-- moreover no row of the cone has a negative first entry, and the cone is {0} (the empty polytope) or has a row with
+-- a positive one. A polytope is treated through this cone over it
 pub record IsPolytopeThing (n : ℕ) (G L : List Row) : Type 0 where
   pub cone : IsConeThing n G L
   pub first : (x : Row) → length x ≡ n → InCone G L x → pos 0 ≤ℤ entry x 0
-  pub proper : ((x : Row) → length x ≡ n → InCone G L x → IsZero x) ⊎ ((x : Row) × (length x ≡ n) × InCone G L x × (pos 0 <ℤ entry x 0))
+  pub proper : ((x : Row) → length x ≡ n → InCone G L x → IsZero x)
+      ⊎ ((x : Row) × (length x ≡ n) × InCone G L x × (pos 0 <ℤ entry x 0))
 
 -- cones over one span(L), which is the lineality of each, none included in another
 pub record IsFanThing (n : ℕ) (Gs : List (List Row)) (L : List Row) : Type 0 where
   pub lines : HasCols n L
   pub cones : All (λ G. IsConeThing n G L) Gs
   pub lineality : All (λ G. (x : Row) → length x ≡ n → InLineality (InCone G L) x → InSpan L x) Gs
-  pub apart : (i j : ℕ) → i < length Gs → j < length Gs → ¬ (i ≡ j) → ¬ ((x : Row) → length x ≡ n → InCone (slice_index_or Gs i []) L x → InCone (slice_index_or Gs j []) L x)
+  pub apart : (i j : ℕ) → i < length Gs → j < length Gs → ¬ (i ≡ j)
+      → ¬ ((x : Row) → length x ≡ n → InCone (slice_index_or Gs i []) L x
+      → InCone (slice_index_or Gs j []) L x)
 
 -- an order of the extreme rays, one of the facet rows, and for a fan one of its cones, by their places
 pub record Orders : Type 0 where
@@ -31,7 +36,8 @@ pub record Orders : Type 0 where
   pub facets : List Row
   pub cones : List ℕ
 
--- one representative of each extreme ray up to positive scale and lineality, one of each facet row up to positive scale and vanishing rows
+-- one representative of each extreme ray up to positive scale and lineality, one of each facet row up to positive
+-- scale and vanishing rows
 pub record AreConeOrders (n : ℕ) (G L : List Row) (o : Orders) : Type 0 where
   pub rays : IsOrder n (InCone G L) o.rays
   pub facets : IsOrder n (IsValid n G L) o.facets

@@ -30,7 +30,8 @@ pub enum Evidence {
         row: u32,
         column: u32,
     },
-    /// Two rows whose product leaves the range: the first of generators, the second of half-spaces.
+    /// Two rows by which a number leaves the range: a generator and a half-space, in this order, by their product; an
+    /// objective and a ray, a line or (1, 0, .., 0); a facet row and its multiplier in a dual; a site and its height.
     E4 {
         first: Ints,
         second: Ints,

@@ -1,4 +1,5 @@
-//! Cones, polytopes and fans: what extreme rays, facet rows, orders and faces are, and the laws that the crates above rest on.
+//! Cones, polytopes and fans: what extreme rays, facet rows, orders and faces are, and the laws that the crates above
+//! rest on. It knows nothing of properties, values and objects.
 #![tactic(auto)]
 
 ghost use Rattle.pm_geom.specs.Duality.{DirectionIsWithoutBound, InfeasibleExcludes, InfeasibleHasNoPoint, OptimumIsMaximum, WeakDuality};
@@ -84,7 +85,8 @@ pub fn law_vanishing_is_null()
     ensures { VanishingIsNull }
 {}
 
-/// Any order of the facet rows, with any rows that span those that vanish, generates the valid rows and cuts out the cone.
+/// Any order of the facet rows, with any rows that span those that vanish, generates the valid rows and cuts out the
+/// cone.
 pub fn law_facet_order_cuts_out()
     ensures { FacetOrderCutsOut }
 {}
@@ -99,7 +101,8 @@ pub fn law_rank_exists()
     ensures { RankExists }
 {}
 
-/// The dimensions of a cone's span and of the rows that vanish on it add up to the number of columns (Hoffman and Kunze, section 3.1).
+/// The dimensions of a cone's span and of the rows that vanish on it add up to the number of columns (Hoffman and
+/// Kunze, section 3.1).
 pub fn law_rank_is_left()
     ensures { RankIsLeft }
 {}
@@ -109,7 +112,8 @@ pub fn law_not_zero_by_rank()
     ensures { NotZeroByRank }
 {}
 
-/// The definitions read on the unit square: its vertices and edges, a midpoint, a sum of two edges' rows, and a list that lacks a vertex.
+/// The definitions read on the unit square: its vertices and edges, a midpoint, a sum of two edges' rows, and a list
+/// that lacks a vertex.
 pub fn example_square()
     ensures { SquareIsRead }
 {}

@@ -1,4 +1,5 @@
 -- The graph of all faces is that of the cone.
+use Rattle.pm_geom.proofs.Holds.{among_holds, holds_among}
 use Rattle.pm_vector.proofs.Lists.{Among, Contains_among, among_All, among_Contains, here, there}
 use Rattle.pm_vector.specs.Rows.{HasCols, Row}
 use Rattle.pm_geom.specs.Cones.{IsOrder}
@@ -6,7 +7,7 @@ use Rattle.pm_vector.specs.Cones.{InCone}
 use Rattle.pm_geom.specs.FaceCounts.{IsHasseDiagram, SamePlaces, at_rank}
 use Rattle.pm_geom.specs.Faces.{IsFace}
 use Rattle.pm_geom.specs.Graphs.{IsEdge, holds, pair_of}
-use Rattle.pm_graph.proofs.Holds.{among_holds, holds_among, same_bool}
+use Rattle.pm_graph.proofs.Holds.{same_bool}
 use Rattle.pm_graph.proofs.Rising.{rising_full, rising_two}
 use Rattle.pm_graph.specs.Edges.{HasFace, IsFaceEdge, whole_of}
 use Rattle.pm_graph.specs.Laws.{FaceEdgesAreEdges}

@@ -12,7 +12,8 @@ use lib.IntN.{pos}
 
 -- the row has each place below its length whose column has each index of the face
 abbrev pub IsMeetOfColumns : List (List Bool) → List ℕ → List Bool → Type 0
-IsMeetOfColumns columns face row = (x : ℕ) → x < length row → has row x ≡ list_all (λ j. has (slice_index_or columns j []) x) face
+IsMeetOfColumns columns face row = (x : ℕ) → x < length row
+    → has row x ≡ list_all (λ j. has (slice_index_or columns j []) x) face
 
 -- a whole number as a fraction
 abbrev pub whole : ℕ → Ratio
@@ -24,11 +25,16 @@ f2_matrix ranks = record { cols = length (inner ranks); rows = map (map whole) (
 
 -- how many pairs there are of a face of the list and a place below n whose column has each index of the face
 abbrev pub place_count : List (List Bool) → ℕ → List (List ℕ) → ℕ
-place_count columns n lower = sum_by (λ face. count_by (λ x. list_all (λ j. has (slice_index_or columns j []) x) face) (range_with_len 0 n)) lower
+place_count columns n lower =
+    sum_by (λ face. count_by (λ x. list_all (λ j. has (slice_index_or columns j []) x) face)
+    (range_with_len 0 n)) lower
 
--- how many pairs there are of a face of the list at i and one of the list at k that includes it, where i is below k; where i is k, how many faces the list has
+-- how many pairs there are of a face of the list at i and one of the list at k that includes it, where i is below k;
+-- where i is k, how many faces the list has
 abbrev pub lower_count : List (List (List ℕ)) → ℕ → ℕ → ℕ
-lower_count lists k i = cond (nat_lt i k) (inclusion_count (slice_index_or lists i []) (slice_index_or lists k [])) (length (slice_index_or lists k []))
+lower_count lists k i =
+    cond (nat_lt i k) (inclusion_count (slice_index_or lists i []) (slice_index_or lists k []))
+    (length (slice_index_or lists k []))
 
 -- these numbers for i from 0 to k
 abbrev pub lower_counts : List (List (List ℕ)) → ℕ → List ℕ
@@ -36,7 +42,8 @@ lower_counts lists k = map (lower_count lists k) (range_with_len 0 (k + 1))
 
 -- the entry (i, k) of a symmetric table of which each row k has the entries up to k
 abbrev pub mirrored : List (List ℕ) → ℕ → ℕ → ℕ
-mirrored rows i k = cond (nat_lt k i) (slice_index_or (slice_index_or rows i []) k 0) (slice_index_or (slice_index_or rows k []) i 0)
+mirrored rows i k = cond (nat_lt k i) (slice_index_or (slice_index_or rows i []) k 0)
+    (slice_index_or (slice_index_or rows k []) i 0)
 
 -- the rows are these numbers for each rank
 abbrev pub HaveLowerCounts : List (Vec (Vec ℕ)) → List (List ℕ) → Type 0

@@ -47,7 +47,8 @@ pub record IsIndexEdge (s : IndexSets) (i j : ℕ) : Type 0 where
 -- no third set has all that the sets at i and k share
 abbrev pub NoThirdSet : List (List ℕ) → ℕ → ℕ → Type 0
 NoThirdSet rows i k = (l : ℕ) → l < length rows → ¬ (l ≡ i) → ¬ (l ≡ k) →
-    ¬ ((j : ℕ) → Contains (slice_index_or rows i []) j → Contains (slice_index_or rows k []) j → Contains (slice_index_or rows l []) j)
+    ¬ ((j : ℕ) → Contains (slice_index_or rows i []) j → Contains (slice_index_or rows k []) j
+    → Contains (slice_index_or rows l []) j)
 
 -- the sets at different places i and k share what no third set has
 pub record IsSetEdge (rows : List (List ℕ)) (i k : ℕ) : Type 0 where
@@ -89,4 +90,5 @@ IsPairInRanks n ranks i j = (faces : List (List ℕ)) × Contains ranks faces ×
 
 -- the rows have what they had, and now the bit j in row i wherever E joins i and j
 abbrev pub Joins : (ℕ → ℕ → Type 0) → List (List Bool) → List (List Bool) → Type 0
-Joins E old new = (i j : ℕ) → i < length old → IsTrue (has (slice_index_or new i []) j) ↔ (IsTrue (has (slice_index_or old i []) j) ⊎ E i j)
+Joins E old new = (i j : ℕ) → i < length old → IsTrue (has (slice_index_or new i []) j)
+    ↔ (IsTrue (has (slice_index_or old i []) j) ⊎ E i j)

@@ -21,7 +21,8 @@ abbrev pub bits : Table
 bits = record { row_len = 2; rows = (true ∷ false ∷ []) ∷ (true ∷ true ∷ []) ∷ (false ∷ true ∷ []) ∷ [] }
 
 pub record EdgesAreRead : Type 0 where
-  -- two indices of a set are joined where no third one is in it; where no set has both, any third index is in each that has
+  -- two indices of a set are joined where no third one is in it; where no set has both, any third index is in each
+  -- that has
   pub ends : IsIndexEdge path 0 1
   pub not_ends : ¬ (IsIndexEdge path 0 2)
   pub not_itself : ¬ (IsIndexEdge path 1 1)

@@ -29,7 +29,8 @@ MarksRow row old new = (j : ℕ) → IsSeen new j ↔ (IsSeen old j ⊎ Contains
 
 -- in the new list are exactly those of the old, and those of the row that are not marked
 abbrev pub AddsUnseen : List ℕ → List Bool → List ℕ → List ℕ → Type 0
-AddsUnseen row seen old new = (j : ℕ) → Contains new j ↔ (Contains old j ⊎ (Contains row j × ¬ (IsSeen seen j)))
+AddsUnseen row seen old new = (j : ℕ) → Contains new j
+    ↔ (Contains old j ⊎ (Contains row j × ¬ (IsSeen seen j)))
 
 -- the list has exactly the nodes that are marked now and were not
 abbrev pub AreNew : List Bool → List Bool → List ℕ → Type 0
@@ -37,7 +38,8 @@ AreNew old new next = (j : ℕ) → Contains next j ↔ (IsSeen new j × ¬ (IsS
 
 -- marked are exactly those that were, and the neighbours of the nodes of the front
 abbrev pub MarksNeighbours : List (List ℕ) → List ℕ → List Bool → List Bool → Type 0
-MarksNeighbours rows front old new = (j : ℕ) → IsSeen new j ↔ (IsSeen old j ⊎ ((u : ℕ) × Contains front u × AreNeighbours rows u j))
+MarksNeighbours rows front old new = (j : ℕ)
+    → IsSeen new j ↔ (IsSeen old j ⊎ ((u : ℕ) × Contains front u × AreNeighbours rows u j))
 
 -- k is the greatest distance in the graph
 abbrev pub HasGreatestDistance : List (List ℕ) → ℤ → Type 0

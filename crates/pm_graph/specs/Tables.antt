@@ -25,4 +25,5 @@ KeepLengths old new = (j : ℕ) → length (slice_index_or new j []) ≡ length 
 
 -- the place is now in the rows of the indices of the set too
 abbrev pub IsMarked : List ℕ → ℕ → List (List Bool) → List (List Bool) → Type 0
-IsMarked set place old new = (i j : ℕ) → j < length old → IsTrue (has (slice_index_or new j []) i) ↔ (IsTrue (has (slice_index_or old j []) i) ⊎ ((i ≡ place) × Contains set j))
+IsMarked set place old new = (i j : ℕ) → j < length old → IsTrue (has (slice_index_or new j []) i)
+    ↔ (IsTrue (has (slice_index_or old j []) i) ⊎ ((i ≡ place) × Contains set j))

@@ -77,9 +77,10 @@ fn eccentricity(alloc: Global, rows: &[Vec<u32>], start: u32) -> Result<usize, A
     }
 }
 
-/// The greatest distance of two nodes of a graph, as the lists of neighbours of its nodes, that a walk joins: for a connected graph
-/// its diameter, and 0 where there are fewer than two nodes. The graphs of the rays and of the facets of a cone are connected, so
-/// it is their diameter (`law_greatest_distance_is_diameter`, `law_dual_greatest_distance_is_diameter`).
+/// The greatest distance of two nodes of a graph, as the lists of neighbours of its nodes, that a walk joins: for a
+/// connected graph its diameter, and 0 where there are fewer than two nodes. The graphs of the rays and of the facets
+/// of a cone are connected, so it is their diameter (`law_greatest_distance_is_diameter`,
+/// `law_dual_greatest_distance_is_diameter`).
 pub fn diameter(alloc: Global, g: &Sets) -> Result<i64, AllocError>
     requires neighbours { AreBelow (length g.now.rows) g.now.rows }
     requires few { length g.now.rows < 2 ^ 32 }

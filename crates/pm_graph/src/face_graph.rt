@@ -62,9 +62,9 @@ fn member_lists(alloc: Global, rows: &[BitRow], len: usize) -> Result<Vec<Vec<u3
     Ok(lists)
 }
 
-/// The graph of the places of the whole set, the first face of the last rank: two are joined where they are a face of two
-/// elements. Row i holds the neighbours of i, ascending. Where the lists are all faces of a cone by rank, it is the graph of the
-/// rays (`law_right_sources_give_graphs`).
+/// The graph of the places of the whole set, the first face of the last rank: two are joined where they are a face of
+/// two elements. Row i holds the neighbours of i, ascending. Where the lists are all faces of a cone by rank, it is
+/// the graph of the rays (`law_right_sources_give_graphs`).
 pub fn graph_of_faces(alloc: Global, l: &Lattice) -> Result<Sets, AllocError>
     requires { length (whole_of l.now) < 2 ^ 32 }
     ensures graph { IfOk result (λ g. IsFaceGraph l.now g.rows) }

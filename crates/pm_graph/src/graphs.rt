@@ -50,9 +50,9 @@ fn graph_of_table(alloc: Global, table: &BitTable) -> Result<Vec<Vec<u32>>, Allo
     Ok(rows)
 }
 
-/// The graph of the indices of sets: two are joined where they alone are an intersection of sets, that is, where no third index is
-/// in each set that has both. Row i holds the neighbours of i, ascending. Where the sets are those of the rays in the facets of a
-/// cone, it is the graph of the rays (`law_right_sources_give_graphs`).
+/// The graph of the indices of sets: two are joined where they alone are an intersection of sets, that is, where no
+/// third index is in each set that has both. Row i holds the neighbours of i, ascending. Where the sets are those of
+/// the rays in the facets of a cone, it is the graph of the rays (`law_right_sources_give_graphs`).
 pub fn graph_of_sets(alloc: Global, s: &Sets) -> Result<Sets, AllocError>
     requires { AreBelow s.now.cols s.now.rows }
     ensures graph { IfOk result (λ g. IsGraph s.now.cols (IsIndexEdge s.now) g.rows) }
@@ -64,8 +64,8 @@ pub fn graph_of_sets(alloc: Global, s: &Sets) -> Result<Sets, AllocError>
     Ok(Sets::from_vec(rows, s.cols()))
 }
 
-/// The graph of sets: two are joined where no third set has all that they share. Row i holds the neighbours of the set at i,
-/// ascending. Where the sets are those of the rays in the facets of a cone, it is the graph of the facets
+/// The graph of sets: two are joined where no third set has all that they share. Row i holds the neighbours of the
+/// set at i, ascending. Where the sets are those of the rays in the facets of a cone, it is the graph of the facets
 /// (`law_right_sources_give_graphs`).
 pub fn dual_graph(alloc: Global, s: &Sets) -> Result<Sets, AllocError>
     requires below { AreBelow s.now.cols s.now.rows }

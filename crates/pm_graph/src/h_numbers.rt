@@ -74,8 +74,8 @@ fn numbers(alloc: Global, f: &[i64], d: usize) -> Result<Vec<i64>, AllocError>
     Ok(numbers)
 }
 
-/// The h-vector of an f-vector of dimension d: d + 1 numbers. It has no entries where d is not from 0 to 32, where f has not d
-/// entries, and where one of the numbers does not fit 64 bits.
+/// The h-vector of an f-vector of dimension d: d + 1 numbers. It has no entries where d is not from 0 to 32, where f
+/// has not d entries, and where one of the numbers does not fit 64 bits.
 pub fn h_vector(alloc: Global, f: &[i64], d: i64) -> Result<Vec<i64>, AllocError>
     ensures numbers { IfOk result (λ h. AreHNumbers f.now d h.items) }
     ensures none { IfOk result (λ h. HasNoHVector f.now d → h.items ≡ []) }

@@ -1,5 +1,6 @@
-// How many pairs of faces there are, one included in the other. The places of the faces of the upper rank that hold an index are a
-// row of bits, and those of the faces that include a lower face are the meet of the rows of its indices.
+// How many pairs of faces there are, one included in the other. The places of the faces of the upper rank that hold
+// an index are a row of bits, and those of the faces that include a lower face are the meet of the rows of its
+// indices.
 ghost use Rattle.pm_graph.specs.Counts.{AreSmall, HaveLowerCounts, IsTriangle, f2_matrix, lower_counts, mirrored, mirrored_row, place_count, whole};
 ghost use Rattle.pm_graph.specs.Levels.{AreBelow};
 ghost use Rattle.pm_graph.specs.Slices.{ranks_of, rows_of};
@@ -161,8 +162,8 @@ fn push_row(matrix: &mut Matrix, row: &[Fraction]) -> Result<(), AllocError>
     }
 }
 
-/// How many pairs there are of faces of the ranks i + 1 and k + 1, one included in the other, in row i and column k; where i is k,
-/// how many faces there are. There is a row and a column for each rank but the first and the last.
+/// How many pairs there are of faces of the ranks i + 1 and k + 1, one included in the other, in row i and column k;
+/// where i is k, how many faces there are. There is a row and a column for each rank but the first and the last.
 pub fn f2_vector(alloc: Global, l: &Lattice) -> Result<Matrix, AllocError>
     ensures { IfOk result (λ matrix. matrix ≡ f2_matrix l.now) }
 {

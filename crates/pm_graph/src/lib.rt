@@ -1,4 +1,5 @@
-//! Graphs of the vertices and of the facets of a polytope, their diameters, and the numbers of its faces.
+//! Graphs of the vertices and of the facets of a polytope, their diameters, and the numbers of its faces. It knows
+//! nothing of objects, rules and clients.
 //!
 //! All is combinatorics of index sets; the laws at the end say what it means for the sets of a cone.
 #![tactic(auto)]

@@ -5,7 +5,7 @@ use Rattle.std.specs.List.{list_all, sum_by}
 use Rattle.std.specs.Prelude.{⊤, if◌then◌else◌, is_some, not}
 use Rattle.pm_vector.specs.Numbers.{Ratio}
 use Rattle.pm_json.proofs.Parts.{and_then-ok, else-ok, err_ok, same_Ok, then-ok}
-use Rattle.pm_json.specs.Grammar.{AreItems, AreSetsOf, HasCols, IsArrayOf, IsColsOf, IsEntryOf, IsIndexOf, IsJsonOf, IsMatrixOf, IsOneRowOf, IsRowOf, IsSetOf, IsTextOf, StatesCols, are_apart}
+use Rattle.pm_json.specs.Grammar.{AreItems, AreJsonSets, HasColumnCount, IsArrayOf, IsColsOf, IsEntryOf, IsIndexOf, IsJsonOf, IsMatrixOf, IsOneRowOf, IsJsonRow, IsSetOf, IsJsonText, StatesCols, are_apart}
 use Rattle.pm_json.specs.Readings.{Read, SetsSeen, above_sets, and_then, before, before_sets, cols_member, count_of, count_up_to_limit, counts_from, edges_with, entries_from, entry_of, face_from, faces_from, first_row_of, has_index, index_below_limit, index_of, items_of, later_row_from, later_rows_from, matrix_from, matrix_of, matrix_reading, matrix_with, nodes_from, number_value_of, object_behind, one_row_of, only_cols, or_fault, ranks_from, reading, reading_of, rows_before, rows_from, set_from, sets_from, sets_of, sets_with, stated_last, stated_of, whole_count_of, whole_number_of, whole_of, whole_value, with_cols, with_index}
 use Rattle.pm_json.specs.declared.fail.ValueFail.{ValueFail}
 use Rattle.pm_json.specs.declared.fail.ValueFail.TheVariants.{Shape, Number, Index, Limit}
@@ -56,20 +56,20 @@ later_told n k (item d ds) r e =
     and_then-ok (entry_of d) (λ q. before q (later_row_from n (suc k) ds)) r p.1
     (λ q is f. list_from IsEntryOf d ds q (later_row_from n (suc k) ds) r f is (λ xs g. later_told n (suc k) ds xs g))
 
-rows_told : (n k : ℕ) (ds : Items) (rows : List (List Ratio)) → later_rows_from n k ds ≡ Ok rows → AreItems IsRowOf ds rows
-rows_told n k no_items rows e = subst (AreItems IsRowOf no_items) (same_Ok [] rows e) tt
+rows_told : (n k : ℕ) (ds : Items) (rows : List (List Ratio)) → later_rows_from n k ds ≡ Ok rows → AreItems IsJsonRow ds rows
+rows_told n k no_items rows e = subst (AreItems IsJsonRow no_items) (same_Ok [] rows e) tt
 rows_told n k (item d ds) rows e =
     and_then-ok (items_of d) (λ es. cond (ltb k most_rows) (and_then (later_row_from n 0 es) (λ r. before r (later_rows_from n (suc k) ds))) (Err Limit)) rows e
     (λ es is f. let p = then-ok (ltb k most_rows) (and_then (later_row_from n 0 es) (λ r. before r (later_rows_from n (suc k) ds))) Limit rows f in
     and_then-ok (later_row_from n 0 es) (λ r. before r (later_rows_from n (suc k) ds)) rows p.1
-    (λ r row g. list_from IsRowOf d ds r (later_rows_from n (suc k) ds) rows g (array_from IsEntryOf d es r is (later_told n 0 es r row)) (λ xs h. rows_told n (suc k) ds xs h)))
+    (λ r row g. list_from IsJsonRow d ds r (later_rows_from n (suc k) ds) rows g (array_from IsEntryOf d es r is (later_told n 0 es r row)) (λ xs h. rows_told n (suc k) ds xs h)))
 
 -- ---- matrices
 matrix_is : (a b : FractionMatrix) → (let r : Read FractionMatrix = Ok a in r) ≡ Ok b → a ≡ b
 matrix_is a b e = same_Ok a b e
 
 record IsRead (ds : Items) (m : FractionMatrix) : Type 0 where
-  each : AreItems IsRowOf ds m.rows
+  each : AreItems IsJsonRow ds m.rows
   none : StatesCols 0 None m.cols m.rows
 
 all_told : (least most : ℕ) (ds : Items) (m : FractionMatrix) → rows_from least most ds ≡ Ok m → IsRead ds m
@@ -86,7 +86,7 @@ all_told least most (item d ds) m e =
 
 -- with a column count behind the rows
 record IsReadWith (least : ℕ) (ds : Items) (behind : Option Data) (m : FractionMatrix) : Type 0 where
-  each : AreItems IsRowOf ds m.rows
+  each : AreItems IsJsonRow ds m.rows
   cols : StatesCols least behind m.cols m.rows
 
 only_told : (least most : ℕ) (z : ℤ) (m : FractionMatrix) → only_cols least most z ≡ Ok m → (m.rows ≡ []) × (z ≡ pos m.cols) × (least ≤ m.cols)
@@ -108,7 +108,7 @@ with_told least most ds d m out z r c e = by m.rows refl e
     by [] is f =
         let o = only_told least most z out f in
         record {
-          each = subst (AreItems IsRowOf ds) (is ∙ sym o.0) r.each;
+          each = subst (AreItems IsJsonRow ds) (is ∙ sym o.0) r.each;
           cols = subst (λ (rows : List (List Ratio)). StatesCols least (Some d) out.cols rows) (sym o.0) (c ∙ ap (λ (x : ℤ). Ok x) o.1, o.2);
         }
     by (row ∷ rows) is f =
@@ -155,7 +155,7 @@ row_is_text least most d v e =
     (λ ds is f. and_then-ok (first_row_of least most ds) (λ r. Ok (matrix (length r) (r ∷ []))) v f
     (λ r row g. subst (IsRowText d) (same_Ok (matrix (length r) (r ∷ [])) v g) (r, refl, array_from IsEntryOf d ds r is (first_told least most ds r row))))
 
-matrix_is_text : (p : PropId) (d : Data) (v : PropertyValue) → matrix_reading p d ≡ Ok v → IsTextOf p d v
+matrix_is_text : (p : PropId) (d : Data) (v : PropertyValue) → matrix_reading p d ≡ Ok v → IsJsonText p d v
 matrix_is_text LinearObjective d (matrix n rows) e = row_is_text 1 most_columns d (matrix n rows) e
 matrix_is_text LinearObjective d v e = absurd (row_is_text 1 most_columns d v e)
 matrix_is_text SiteHeights d (matrix n rows) e = row_is_text 0 most_rows d (matrix n rows) e
@@ -326,7 +326,7 @@ sets_list_told k (item d ds) s e = by (is_some (as_object d)) refl e (λ x f. se
         (λ x more u. subst (SetsTold (item d ds)) (same_Ok (record x { rows = set ∷ x.rows }) s u) (sets_more d ds es set x listed (set_told d es set listed one) (rest x more)))))
 
 abbrev IsSetsText : Data → PropertyValue → Type 0
-IsSetsText d (sets rows n) = AreSetsOf d rows n
+IsSetsText d (sets rows n) = AreJsonSets d rows n
 IsSetsText d v = ⊥
 
 sets_text : (d : Data) (v : PropertyValue) → sets_of d ≡ Ok v → IsSetsText d v
@@ -338,11 +338,11 @@ sets_text d v e =
     by : (ds : Items) → items_of d ≡ Ok ds → (rows : List (List ℕ)) (st : Option ℕ) → AreItems IsSetOf (rows_before ds) rows → (o : Option Data) → object_behind ds ≡ o → Stated o st → sets_with rows st ≡ Ok v → IsSetsText d v
     by ds is rows None each None none t g =
         subst (IsSetsText d) (same_Ok (sets rows (above_sets rows)) v g)
-        (record { items = ds; array = some_from Shape (as_array d) ds is; each = each; cols = subst (λ (o : Option Data). HasCols o (above_sets rows) rows) (sym none) refl })
+        (record { items = ds; array = some_from Shape (as_array d) ds is; each = each; cols = subst (λ (o : Option Data). HasColumnCount o (above_sets rows) rows) (sym none) refl })
     by ds is rows (Some n) each (Some o) some t g =
         let p = then-ok (leb (above_sets rows) n) (Ok (sets rows n)) Index v g in
         subst (IsSetsText d) (same_Ok (sets rows n) v p.1)
-        (record { items = ds; array = some_from Shape (as_array d) ds is; each = each; cols = subst (λ (o : Option Data). HasCols o n rows) (sym some) t })
+        (record { items = ds; array = some_from Shape (as_array d) ds is; each = each; cols = subst (λ (o : Option Data). HasColumnCount o n rows) (sym some) t })
     by ds is rows None each (Some o) some t g = absurd t
     by ds is rows (Some n) each None none t g = absurd t
 
@@ -385,34 +385,34 @@ counts_told k (item d ds) ks e =
     list_from IsCountOf d ds z (counts_from (suc k) ds) ks p.1 is (λ xs g. counts_told (suc k) ds xs g))
 
 -- ---- values
-whole_told : (p : PropId) (d : Data) (v : PropertyValue) → whole_of p d ≡ Ok v → IsTextOf p d v
+whole_told : (p : PropId) (d : Data) (v : PropertyValue) → whole_of p d ≡ Ok v → IsJsonText p d v
 whole_told p d v e =
     and_then-ok (or_fault Shape (as_number d)) (λ n. and_then (or_fault Number (as_i64 n)) (whole_value p)) v e
     (λ n is f. and_then-ok (or_fault Number (as_i64 n)) (whole_value p) v f
     (λ k bits g. let q = else-ok (is_ambient p && not (is_dimension k)) (Ok (whole k)) Limit v g in
-    subst (IsTextOf p d) (same_Ok (whole k) v q.1) (n, some_from Shape (as_number d) n is, some_from Number (as_i64 n) k bits)))
+    subst (IsJsonText p d) (same_Ok (whole k) v q.1) (n, some_from Shape (as_number d) n is, some_from Number (as_i64 n) k bits)))
 
-text_by : (k : ValueKind) (p : PropId) (d : Data) (v : PropertyValue) → reading_of k p d ≡ Ok v → IsTextOf p d v
+text_by : (k : ValueKind) (p : PropId) (d : Data) (v : PropertyValue) → reading_of k p d ≡ Ok v → IsJsonText p d v
 text_by kind.Mat p d v e = matrix_is_text p d v e
 text_by kind.Sets p d (sets rows n) e = sets_text d (sets rows n) e
 text_by kind.Sets p d v e = absurd (sets_text d v e)
 text_by kind.Int p d v e = whole_told p d v e
-text_by kind.Bool p d v e = and_then-ok (or_fault Shape (as_bool d)) (λ b. Ok (truth b)) v e (λ b is f. subst (IsTextOf p d) (same_Ok (truth b) v f) (some_from Shape (as_bool d) b is))
+text_by kind.Bool p d v e = and_then-ok (or_fault Shape (as_bool d)) (λ b. Ok (truth b)) v e (λ b is f. subst (IsJsonText p d) (same_Ok (truth b) v f) (some_from Shape (as_bool d) b is))
 text_by kind.Counts p d v e =
     and_then-ok (items_of d) (λ ds. and_then (counts_from 0 ds) (λ ks. Ok (counts ks))) v e
-    (λ ds is f. and_then-ok (counts_from 0 ds) (λ ks. Ok (counts ks)) v f (λ ks read g. subst (IsTextOf p d) (same_Ok (counts ks) v g) (array_from IsCountOf d ds ks is (counts_told 0 ds ks read))))
+    (λ ds is f. and_then-ok (counts_from 0 ds) (λ ks. Ok (counts ks)) v f (λ ks read g. subst (IsJsonText p d) (same_Ok (counts ks) v g) (array_from IsCountOf d ds ks is (counts_told 0 ds ks read))))
 text_by kind.Edges p d v e =
     and_then-ok (items_of d) (λ ds. and_then (nodes_from 0 ds) edges_with) v e
     (λ ds is f. and_then-ok (nodes_from 0 ds) edges_with v f
     (λ rows read g.
     let q = then-ok (leb (above_sets rows) (length rows)) (cond (are_joined_back rows 0 rows) (Ok (edges rows (length rows))) (Err Shape)) Index v g in
     let r = then-ok (are_joined_back rows 0 rows) (Ok (edges rows (length rows))) Shape v q.1 in
-    subst (IsTextOf p d) (same_Ok (edges rows (length rows)) v r.1) (array_from IsSetOf d ds rows is (nodes_told 0 ds rows read))))
+    subst (IsJsonText p d) (same_Ok (edges rows (length rows)) v r.1) (array_from IsSetOf d ds rows is (nodes_told 0 ds rows read))))
 text_by kind.Lattice p d v e =
     and_then-ok (items_of d) (λ ds. and_then (ranks_from 0 0 ds) (λ ranks. Ok (lattice ranks))) v e
     (λ ds is f. and_then-ok (ranks_from 0 0 ds) (λ ranks. Ok (lattice ranks)) v f
-    (λ ranks read g. subst (IsTextOf p d) (same_Ok (lattice ranks) v g) (array_from (IsArrayOf IsSetOf) d ds ranks is (ranks_told 0 0 ds ranks read))))
-text_by kind.Number p d v e = and_then-ok (number_value_of d) (λ x. Ok (extended x)) v e (λ x is f. subst (IsTextOf p d) (same_Ok (extended x) v f) is)
+    (λ ranks read g. subst (IsJsonText p d) (same_Ok (lattice ranks) v g) (array_from (IsArrayOf IsSetOf) d ds ranks is (ranks_told 0 0 ds ranks read))))
+text_by kind.Number p d v e = and_then-ok (number_value_of d) (λ x. Ok (extended x)) v e (λ x is f. subst (IsJsonText p d) (same_Ok (extended x) v f) is)
 
 -- what is read is the value of its text
 pub text_of_read : (p : PropId) (d : Data) (v : PropertyValue) → reading p d ≡ Ok v → is_formed p v ≡ true → IsJsonOf p d v

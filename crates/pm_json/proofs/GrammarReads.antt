@@ -8,7 +8,7 @@ use Rattle.pm_vector.specs.Numbers.{Ratio}
 use Rattle.pm_json.proofs.Grammar.{IsCountOf, Stated, are_new, has_put, is_not}
 use Rattle.pm_json.proofs.Parts.{and_then-ok, else-ok, err_ok, same_Ok}
 use Rattle.pm_json.proofs.SetLimits.{above_sets_bound, set_keeps_limits}
-use Rattle.pm_json.specs.Grammar.{AreItems, AreRowsOf, AreSetsOf, HasCols, IsArrayOf, IsColsOf, IsEntryOf, IsIndexOf, IsJsonOf, IsMatrixOf, IsOneRowOf, IsRowOf, IsSetOf, IsTextOf, StatesCols, are_apart}
+use Rattle.pm_json.specs.Grammar.{AreItems, AreJsonRows, AreJsonSets, HasColumnCount, IsArrayOf, IsColsOf, IsEntryOf, IsIndexOf, IsJsonOf, IsMatrixOf, IsOneRowOf, IsJsonRow, IsSetOf, IsJsonText, StatesCols, are_apart}
 use Rattle.pm_json.specs.Readings.{above_sets, and_then, cols_member, count_of, count_up_to_limit, counts_from, counts_of, edges_of, entries_from, face_from, faces_from, first_row_of, has_index, index_of, later_row_from, later_rows_from, lattice_of, matrix_of, matrix_reading, matrix_with, nodes_from, object_behind, one_row_of, ranks_from, reading, reading_of, rows_before, rows_from, set_from, sets_from, sets_of, stated_of, whole_number_of, whole_value, with_index}
 use Rattle.pm_json.specs.declared.fail.ValueFail.{ValueFail}
 use Rattle.pm_json.specs.declared.fail.ValueFail.TheVariants.{Shape, Limit}
@@ -41,7 +41,7 @@ later_read n k no_items (q ∷ r) h e = absurd h
 later_read n k (item d ds) [] h e = absurd h
 later_read n k (item d ds) (q ∷ r) h e = rw (lt-ltb k n (omega arith), h.0, later_read n (suc k) ds r h.1 (omega arith)) refl
 
-rows_read : (n k : ℕ) (ds : Items) (rows : List (List Ratio)) → AreItems IsRowOf ds rows → k + length rows ≤ most_rows → list_all (is_row_of_entries n) rows ≡ true → later_rows_from n k ds ≡ Ok rows
+rows_read : (n k : ℕ) (ds : Items) (rows : List (List Ratio)) → AreItems IsJsonRow ds rows → k + length rows ≤ most_rows → list_all (is_row_of_entries n) rows ≡ true → later_rows_from n k ds ≡ Ok rows
 rows_read n k no_items [] h few long = refl
 rows_read n k no_items (r ∷ rows) h few long = absurd h
 rows_read n k (item d ds) [] h few long = absurd h
@@ -56,7 +56,7 @@ record HasRows (least most n : ℕ) (rows : List (List Ratio)) : Type 0 where
   wide : (r : List Ratio) (others : List (List Ratio)) → rows ≡ r ∷ others → least ≤ n
   long : list_all (is_row_of_entries n) rows ≡ true
 
-all_read : (least most n : ℕ) (ds : Items) (r : List Ratio) (rows : List (List Ratio)) → AreItems IsRowOf ds (r ∷ rows) → HasRows least most n (r ∷ rows) → rows_from least most ds ≡ Ok (record { cols = n; rows = r ∷ rows })
+all_read : (least most n : ℕ) (ds : Items) (r : List Ratio) (rows : List (List Ratio)) → AreItems IsJsonRow ds (r ∷ rows) → HasRows least most n (r ∷ rows) → rows_from least most ds ≡ Ok (record { cols = n; rows = r ∷ rows })
 all_read least most n no_items r rows h f = absurd h
 all_read least most n (item d ds) r rows ((es, is, row), h) f =
     let p = and_parts (eqb (length r) n) (list_all (is_row_of_entries n) rows) f.long in
@@ -66,11 +66,11 @@ all_read least most n (item d ds) r rows ((es, is, row), h) f =
     let few = f.few in
     rw (is, first_read least most es r row (omega arith) (omega arith), long, rows_read n 1 ds rows h (omega arith) p.1) refl
 
-no_rows : (least most : ℕ) (ds : Items) → AreItems IsRowOf ds [] → rows_from least most ds ≡ Ok (record { cols = 0; rows = [] })
+no_rows : (least most : ℕ) (ds : Items) → AreItems IsJsonRow ds [] → rows_from least most ds ≡ Ok (record { cols = 0; rows = [] })
 no_rows least most no_items h = refl
 no_rows least most (item d ds) h = absurd h
 
-with_read : (least most n : ℕ) (ds : Items) (behind : Option Data) (rows : List (List Ratio)) → AreItems IsRowOf ds rows → StatesCols least behind n rows → HasRows least most n rows → matrix_with least most ds behind ≡ Ok (record { cols = n; rows = rows })
+with_read : (least most n : ℕ) (ds : Items) (behind : Option Data) (rows : List (List Ratio)) → AreItems IsJsonRow ds rows → StatesCols least behind n rows → HasRows least most n rows → matrix_with least most ds behind ≡ Ok (record { cols = n; rows = rows })
 with_read least most n ds None [] h c f = no_rows least most ds h ∙ ap (λ (k : ℕ). Ok (record { cols = k; rows = [] })) (sym c)
 with_read least most n ds None (r ∷ rows) h c f = all_read least most n ds r rows h f
 with_read least most n ds (Some d) [] h c f = let narrow = f.narrow in rw (no_rows least most ds h, c.0, le-leb least n c.1, le-leb n most narrow) refl
@@ -101,7 +101,7 @@ has_table n rows form =
     let q = and_parts (leb (length rows) most_rows) (leb n most_columns) p.0 in
     record { few = leb-true (length rows) most_rows q.0; narrow = leb-true n most_columns q.1; wide = λ r others e. omega arith; long = p.1 }
 
-objective_read : (n : ℕ) (d : Data) (rows : List (List Ratio)) → AreRowsOf LinearObjective d n rows → is_matrix_form n rows ≡ true → matrix_reading LinearObjective d ≡ Ok (matrix n rows)
+objective_read : (n : ℕ) (d : Data) (rows : List (List Ratio)) → AreJsonRows LinearObjective d n rows → is_matrix_form n rows ≡ true → matrix_reading LinearObjective d ≡ Ok (matrix n rows)
 objective_read n d rows (r, is, (ds, listed, row)) form =
     let f = has_rows n (r ∷ []) (subst (λ (xs : List (List Ratio)). is_matrix_form n xs ≡ true) is form) in
     let l = and_parts (eqb (length r) n) true f.long in
@@ -125,7 +125,7 @@ sites_rows n rows form =
     let f = has_rows n rows p.1 in
     record { few = f.few; narrow = leb-true n most_site_columns p.0; wide = f.wide; long = f.long }
 
-rows_json_read : (p : PropId) (n : ℕ) (d : Data) (rows : List (List Ratio)) → AreRowsOf p d n rows → is_matrix_of p n rows ≡ true → matrix_reading p d ≡ Ok (matrix n rows)
+rows_json_read : (p : PropId) (n : ℕ) (d : Data) (rows : List (List Ratio)) → AreJsonRows p d n rows → is_matrix_of p n rows ≡ true → matrix_reading p d ≡ Ok (matrix n rows)
 rows_json_read LinearObjective n d rows h form = objective_read n d rows h (and_parts (eqb (length rows) 1) (is_matrix_form n rows) form).1
 rows_json_read SiteHeights n d rows h form = heights_read n d rows h form
 rows_json_read F2Vector n d rows h form = matrix_read 0 most_columns n d rows h (has_table n rows form)
@@ -352,7 +352,7 @@ sets_list_read n k (item d (item x ds)) (set ∷ rows) st h t b few short l =
     let s = set_is n d set h.0 few p.0 in
     rw (no_object d s.items s.array, s.array, lt-ltb k most_rows (omega arith), s.read, sets_list_read n (suc k) (item x ds) rows st h.1 t b few (omega arith) p.1) refl
 
-sets_json_read : (d : Data) (rows : List (List ℕ)) (n : ℕ) → AreSetsOf d rows n → is_sets_form rows n ≡ true → sets_of d ≡ Ok (sets rows n)
+sets_json_read : (d : Data) (rows : List (List ℕ)) (n : ℕ) → AreJsonSets d rows n → is_sets_form rows n ≡ true → sets_of d ≡ Ok (sets rows n)
 sets_json_read d rows n s form = by (object_behind s.items) refl s.cols
   where
     p : (leb (length rows) most_rows && leb n most_rows ≡ true) × (list_all (are_indices n 0) rows ≡ true)
@@ -370,7 +370,7 @@ sets_json_read d rows n s form = by (object_behind s.items) refl s.cols
     one_is : (a c : ℕ) → Some a ≡ Some c → a ≡ c
     one_is a c e = cc
 
-    by : (o : Option Data) → object_behind s.items ≡ o → HasCols o n rows → sets_of d ≡ Ok (sets rows n)
+    by : (o : Option Data) → object_behind s.items ≡ o → HasColumnCount o n rows → sets_of d ≡ Ok (sets rows n)
     by None e h =
         let less = short in
         let list = sets_list_read n 0 s.items rows None s.each (subst (λ (x : Option Data). Stated x None) (sym e) tt) (λ c k. absurd (true≢false (sym (ap is_some k)))) few (omega arith) p.1 in
@@ -512,7 +512,7 @@ whole_form_kind p k form = by (is_ambient p) refl form
 pub read_of_text : (p : PropId) (d : Data) (v : PropertyValue) → IsJsonOf p d v → reading p d ≡ Ok v
 read_of_text p d v j = by v j.text j.formed
   where
-    by : (v : PropertyValue) → IsTextOf p d v → is_formed p v ≡ true → reading p d ≡ Ok v
+    by : (v : PropertyValue) → IsJsonText p d v → is_formed p v ≡ true → reading p d ≡ Ok v
     by (matrix n rows) t form =
         let f = and_parts (is_of_matrices (value_kind p)) (is_matrix_of p n rows) form in
         ap (λ k. reading_of k p d) (matrix_kind (value_kind p) f.0) ∙ rows_json_read p n d rows t f.1

@@ -1,12 +1,27 @@
 -- What a JSON value is, as a value of a property, so far.
--- A matrix is an array of at most most_rows rows, which are arrays of one length from 1 to 33 (of F2_VECTOR from 0, of SITES to most_site_columns) of fractions; behind the rows maybe {"cols":n}, n the length of the rows, or where there are none a number that it might be; without it a matrix without rows states no column count, 0. LP.LINEAR_OBJECTIVE is one such row, and SITE_HEIGHTS is one row of at most most_rows entries. A fraction is a text, an optional `-`, digits, and optionally `/` and digits that do not write 0, none of them above 2^127 - 1, or a whole JSON number from -2^63 to 2^64 - 1.
--- Sets are an array of at most most_rows sets, which are arrays of indices below most_rows, in any order and none twice; after the sets maybe {"cols":n}, n at most most_rows and above every index; without it the column count is one more than the greatest index, or 0.
+-- A matrix is an array of at most most_rows rows, which are arrays of one length from 1 to 33 (of F2_VECTOR from 0,
+-- of SITES to most_site_columns) of fractions; behind the rows maybe {"cols":n}, n the length of the rows, or where
+-- there are none a number that it might be; without it a matrix without rows states no column count, 0.
+-- LP.LINEAR_OBJECTIVE is one such row, and SITE_HEIGHTS is one row of at most most_rows entries. A fraction is a
+-- text, an optional `-`, digits, and optionally `/` and digits that do not write 0, none of them above 2^127 - 1, or
+-- a whole JSON number from -2^63 to 2^64 - 1.
+-- Sets are an array of at most most_rows sets, which are arrays of indices below most_rows, in any order and none
+-- twice; after the sets maybe {"cols":n}, n at most most_rows and above every index; without it the column count is
+-- one more than the greatest index, or 0.
 -- A whole number is a whole JSON number of 64 bits, for CONE_AMBIENT_DIM from 1 to 33; a truth value is true or false.
--- A list of counts is an array of at most most_rows whole numbers of 64 bits, each a whole JSON number or a text, an optional `-` and digits.
--- Edges are an array of at most most_rows nodes, each an array of nodes below their number, which are neighbours of one another and none of itself. A lattice is an array of ranks, which are arrays of faces, at most most_faces, which are arrays of indices below most_rows, at most most_places in all.
+-- A list of counts is an array of at most most_rows whole numbers of 64 bits, each a whole JSON number or a text, an
+-- optional `-` and digits.
+-- Edges are an array of at most most_rows nodes, each an array of nodes below their number, which are neighbours of
+-- one another and none of itself. A lattice is an array of ranks, which are arrays of faces, at most most_faces,
+-- which are arrays of indices below most_rows, at most most_places in all.
 -- A number is a fraction, or a text, inf or -inf.
--- Of several faults the first in reading order counts, which goes through the elements from the first to the last. At one element it is the first of these: `Shape`, a JSON value of another form, an element that makes a row longer than the first, an index that its set has already, a column count that is not the length of the rows; `Number`, a number, or in matrices a text, that is not allowed there; `Index`, an index that is negative, or not below the column count; `Limit`, a count beyond its bound.
--- A count that is too large is a fault of the first element too many; a row that is too short is one of its end. Indices are held against the column count
+-- Of several faults the first in reading order counts, which goes through the elements from the first to the last. At
+-- one element it is the first of these: `Shape`, a JSON value of another form, an element that makes a row longer
+-- than the first, an index that its set has already, a column count that is not the length of the rows; `Number`, a
+-- number, or in matrices a text, that is not allowed there; `Index`, an index that is negative, or not below the
+-- column count; `Limit`, a count beyond its bound.
+-- A count that is too large is a fault of the first element too many; a row that is too short is one of its end.
+-- Indices are held against the column count
 -- after the last element.
 use Rattle.std.specs.Prelude.{ℕ, zero, suc, ◌+◌, ◌==◌, ◌%◌, ◌/◌, ◌^◌, ◌&&◌, ◌++◌, ◌∷◌, Bool, true, false, not, List, [], length, max, nat_le, nat_lt, Option, Some, None, is_some, Result, Ok, Err, codes, if◌then◌else◌, slice_index}
 use Rattle.std.specs.Char.{is_ascii_digit}
@@ -72,13 +87,17 @@ divisor_up_to (suc k) a b = if divides_both (suc k) a b then suc k else divisor_
 
 -- top / bottom or -top / bottom in lowest terms
 abbrev pub lowest_terms : Bool → ℕ → ℕ → Ratio
-lowest_terms is_negative top bottom = let g = divisor_up_to bottom top bottom in ratio_of (signed is_negative (top / g)) (pos (bottom / g))
+lowest_terms is_negative top bottom = let g =
+    divisor_up_to bottom top bottom in ratio_of (signed is_negative (top / g)) (pos (bottom / g))
 
 abbrev pub is_fraction_text : List ℕ → Bool
-is_fraction_text bs = is_literal (top_text bs) && is_literal (bottom_text bs) && nat_lt 0 (digits_value 10 (bottom_text bs))
+is_fraction_text bs = is_literal (top_text bs) && is_literal (bottom_text bs)
+    && nat_lt 0 (digits_value 10 (bottom_text bs))
 
 abbrev pub ratio_of_text : List ℕ → Read Ratio
-ratio_of_text bs = if is_fraction_text bs then Ok (lowest_terms (starts_with_minus bs) (digits_value 10 (top_text bs)) (digits_value 10 (bottom_text bs))) else Err Number
+ratio_of_text bs =
+    if is_fraction_text bs then Ok (lowest_terms (starts_with_minus bs) (digits_value 10 (top_text bs))
+    (digits_value 10 (bottom_text bs))) else Err Number
 
 abbrev pub whole_fraction_of : Num → Read Ratio
 whole_fraction_of n = and_then (or_fault Number (as_integer n)) (λ k. Ok (over_one k))
@@ -97,26 +116,35 @@ entry_of d = entry_by (as_str d) d
 -- the entries of a row, at most so many, of which k came before
 abbrev pub entries_from : ℕ → ℕ → Items → Read (List Ratio)
 entries_from most k no_items = Ok []
-entries_from most k (item d ds) = and_then (entry_of d) (λ q. if nat_lt k most then before q (entries_from most (suc k) ds) else Err Limit)
+entries_from most k (item d ds) =
+    and_then (entry_of d) (λ q. if nat_lt k most then before q (entries_from most (suc k) ds) else Err Limit)
 
 -- a first row, which has to have from `least` to `most` entries
 abbrev pub first_row_of : ℕ → ℕ → Items → Read (List Ratio)
-first_row_of least most ds = and_then (entries_from most 0 ds) (λ r. if nat_lt (length r) least then Err Limit else Ok r)
+first_row_of least most ds =
+    and_then (entries_from most 0 ds) (λ r. if nat_lt (length r) least then Err Limit else Ok r)
 
 -- the entries of a later row, which has to have n, of which k came before
 abbrev pub later_row_from : ℕ → ℕ → Items → Read (List Ratio)
 later_row_from n k no_items = if k == n then Ok [] else Err Shape
-later_row_from n k (item d ds) = if nat_lt k n then and_then (entry_of d) (λ q. before q (later_row_from n (suc k) ds)) else Err Shape
+later_row_from n k (item d ds) =
+    if nat_lt k n then and_then (entry_of d) (λ q. before q (later_row_from n (suc k) ds)) else Err Shape
 
 -- the rows of n entries, of which k came before
 abbrev pub later_rows_from : ℕ → ℕ → Items → Read (List (List Ratio))
 later_rows_from n k no_items = Ok []
-later_rows_from n k (item d ds) = and_then (items_of d) (λ es. if nat_lt k most_rows then and_then (later_row_from n 0 es) (λ r. before r (later_rows_from n (suc k) ds)) else Err Limit)
+later_rows_from n k (item d ds) =
+    and_then (items_of d) (λ es. if nat_lt k most_rows then and_then (later_row_from n 0 es) (λ r.
+    before r (later_rows_from n (suc k) ds)) else Err Limit)
 
 -- the rows, of as many entries
 abbrev pub rows_from : ℕ → ℕ → Items → Read FractionMatrix
 rows_from least most no_items = Ok (record { cols = 0; rows = [] })
-rows_from least most (item d ds) = and_then (items_of d) (λ es. and_then (first_row_of least most es) (λ r. and_then (before r (later_rows_from (length r) 1 ds)) (λ rows. Ok (record { cols = length r; rows = rows }))))
+rows_from least most (item d ds) =
+    and_then (items_of d) (λ es.
+    and_then (first_row_of least most es) (λ r.
+    and_then (before r (later_rows_from (length r) 1 ds)) (λ rows.
+    Ok (record { cols = length r; rows = rows }))))
 
 -- the elements but a last object
 abbrev pub rows_before : Items → Items
@@ -143,26 +171,33 @@ whole_number_of d = and_then (or_fault Shape (as_number d)) (λ n. or_fault Numb
 
 -- the column count of a matrix without rows
 abbrev pub only_cols : ℕ → ℕ → ℤ → Read FractionMatrix
-only_cols least most (pos n) = if nat_le least n && nat_le n most then Ok (record { cols = n; rows = [] }) else Err Limit
+only_cols least most (pos n) = if nat_le least n && nat_le n most then Ok (record { cols = n; rows = [] })
+    else Err Limit
 only_cols least most (negsuc n) = Err Limit
 
 -- the matrix with this column count stated behind its rows
 abbrev pub with_cols : ℕ → ℕ → FractionMatrix → ℤ → Read FractionMatrix
-with_cols least most m z = if length m.rows == 0 then only_cols least most z else if is_number z m.cols then Ok m else Err Shape
+with_cols least most m z = if length m.rows == 0 then only_cols least most z
+    else if is_number z m.cols then Ok m else Err Shape
 
 abbrev pub matrix_with : ℕ → ℕ → Items → Option Data → Read FractionMatrix
 matrix_with least most ds None = rows_from least most ds
-matrix_with least most ds (Some d) = and_then (rows_from least most ds) (λ m. and_then (and_then (cols_member d) whole_number_of) (with_cols least most m))
+matrix_with least most ds (Some d) =
+    and_then (rows_from least most ds) (λ m.
+    and_then (and_then (cols_member d) whole_number_of) (with_cols least most m))
 
 abbrev pub matrix_from : ℕ → ℕ → Items → Read FractionMatrix
 matrix_from least most ds = matrix_with least most (rows_before ds) (object_behind ds)
 
 abbrev pub matrix_of : ℕ → ℕ → Data → Read PropertyValue
-matrix_of least most d = and_then (items_of d) (λ ds. and_then (matrix_from least most ds) (λ m. Ok (matrix m.cols m.rows)))
+matrix_of least most d =
+    and_then (items_of d) (λ ds. and_then (matrix_from least most ds) (λ m. Ok (matrix m.cols m.rows)))
 
 -- one row
 abbrev pub one_row_of : ℕ → ℕ → Data → Read PropertyValue
-one_row_of least most d = and_then (items_of d) (λ ds. and_then (first_row_of least most ds) (λ r. Ok (matrix (length r) (r ∷ []))))
+one_row_of least most d =
+    and_then (items_of d) (λ ds.
+    and_then (first_row_of least most ds) (λ r. Ok (matrix (length r) (r ∷ []))))
 
 abbrev pub matrix_reading : PropId → Data → Read PropertyValue
 matrix_reading LinearObjective d = one_row_of 1 most_columns d
@@ -190,7 +225,8 @@ has_index j set = list_any (λ k. k == j) set
 -- the set, with the indices from here on
 abbrev pub set_from : List ℕ → Items → Read (List ℕ)
 set_from set no_items = Ok set
-set_from set (item d ds) = and_then (index_of d) (λ j. if has_index j set then Err Shape else set_from (with_index j set) ds)
+set_from set (item d ds) = and_then (index_of d) (λ j. if has_index j set then Err Shape
+    else set_from (with_index j set) ds)
 
 abbrev pub count_up_to_limit : ℤ → Read ℕ
 count_up_to_limit (pos n) = if nat_le n most_rows then Ok n else Err Limit
@@ -221,7 +257,8 @@ abbrev pub sets_from : ℕ → Items → Read SetsSeen
 sets_from k no_items = Ok (record { rows = []; stated = None })
 sets_from k (item d ds) =
     if is_some (as_object d) then stated_last d ds
-    else and_then (items_of d) (λ es. if nat_lt k most_rows then and_then (set_from [] es) (λ set. before_sets set (sets_from (suc k) ds)) else Err Limit)
+    else and_then (items_of d) (λ es. if nat_lt k most_rows then and_then (set_from [] es) (λ set.
+    before_sets set (sets_from (suc k) ds)) else Err Limit)
 
 -- the least number above each index of a set, of each set
 abbrev pub above_set : List ℕ → ℕ
@@ -244,7 +281,8 @@ abbrev pub whole_value : PropId → ℤ → Read PropertyValue
 whole_value p k = if is_ambient p && not (is_dimension k) then Err Limit else Ok (whole k)
 
 abbrev pub whole_of : PropId → Data → Read PropertyValue
-whole_of p d = and_then (or_fault Shape (as_number d)) (λ n. and_then (or_fault Number (as_i64 n)) (whole_value p))
+whole_of p d =
+    and_then (or_fault Shape (as_number d)) (λ n. and_then (or_fault Number (as_i64 n)) (whole_value p))
 
 abbrev pub truth_of : Data → Read PropertyValue
 truth_of d = and_then (or_fault Shape (as_bool d)) (λ b. Ok (truth b))
@@ -266,7 +304,8 @@ extended_value_of d = and_then (number_value_of d) (λ x. Ok (extended x))
 -- ---- lists of counts
 -- an optional - and one digit or more, which write a number of 64 bits
 abbrev pub is_count_text : List ℕ → Bool
-is_count_text bs = not (slice_index bs 0 == 43) && nat_lt 0 (length (without_leading_sign bs)) && list_all is_ascii_digit (without_leading_sign bs) && has_64_bits (signed_digits_value 10 bs)
+is_count_text bs = not (slice_index bs 0 == 43) && nat_lt 0 (length (without_leading_sign bs))
+    && list_all is_ascii_digit (without_leading_sign bs) && has_64_bits (signed_digits_value 10 bs)
 
 abbrev pub count_of_text : List ℕ → Read ℤ
 count_of_text bs = if is_count_text bs then Ok (signed_digits_value 10 bs) else Err Number
@@ -285,7 +324,9 @@ whole_count_of d = whole_count_by (as_str d) d
 -- the numbers, of which k came before
 abbrev pub counts_from : ℕ → Items → Read (List ℤ)
 counts_from k no_items = Ok []
-counts_from k (item d ds) = and_then (whole_count_of d) (λ z. if nat_lt k most_rows then before z (counts_from (suc k) ds) else Err Limit)
+counts_from k (item d ds) =
+    and_then (whole_count_of d) (λ z. if nat_lt k most_rows then before z (counts_from (suc k) ds)
+    else Err Limit)
 
 abbrev pub counts_of : Data → Read PropertyValue
 counts_of d = and_then (items_of d) (λ ds. and_then (counts_from 0 ds) (λ ks. Ok (counts ks)))
@@ -294,11 +335,15 @@ counts_of d = and_then (items_of d) (λ ds. and_then (counts_from 0 ds) (λ ks. 
 -- the neighbours of the nodes, of which k came before
 abbrev pub nodes_from : ℕ → Items → Read (List (List ℕ))
 nodes_from k no_items = Ok []
-nodes_from k (item d ds) = and_then (items_of d) (λ es. if nat_lt k most_rows then and_then (set_from [] es) (λ set. before set (nodes_from (suc k) ds)) else Err Limit)
+nodes_from k (item d ds) =
+    and_then (items_of d) (λ es. if nat_lt k most_rows then and_then (set_from [] es) (λ set.
+    before set (nodes_from (suc k) ds)) else Err Limit)
 
 -- each neighbour is a node, and each node a neighbour of its neighbours and not of itself
 abbrev pub edges_with : List (List ℕ) → Read PropertyValue
-edges_with rows = if nat_le (above_sets rows) (length rows) then (if are_joined_back rows 0 rows then Ok (edges rows (length rows)) else Err Shape) else Err Index
+edges_with rows =
+    if nat_le (above_sets rows) (length rows) then
+    (if are_joined_back rows 0 rows then Ok (edges rows (length rows)) else Err Shape) else Err Index
 
 abbrev pub edges_of : Data → Read PropertyValue
 edges_of d = and_then (items_of d) (λ ds. and_then (nodes_from 0 ds) edges_with)
@@ -307,16 +352,22 @@ edges_of d = and_then (items_of d) (λ ds. and_then (nodes_from 0 ds) edges_with
 -- the face, with the indices from here on, of which k came before in the lattice
 abbrev pub face_from : ℕ → List ℕ → Items → Read (List ℕ)
 face_from k face no_items = Ok face
-face_from k face (item d ds) = and_then (index_of d) (λ j. if has_index j face then Err Shape else if nat_lt k most_places then face_from (suc k) (with_index j face) ds else Err Limit)
+face_from k face (item d ds) = and_then (index_of d) (λ j. if has_index j face then Err Shape
+    else if nat_lt k most_places then face_from (suc k) (with_index j face) ds else Err Limit)
 
 -- the faces of a rank, where m faces and k indices came before in the lattice
 abbrev pub faces_from : ℕ → ℕ → Items → Read (List (List ℕ))
 faces_from m k no_items = Ok []
-faces_from m k (item d ds) = and_then (items_of d) (λ es. if nat_lt m most_faces then and_then (face_from k [] es) (λ face. before face (faces_from (suc m) (k + length face) ds)) else Err Limit)
+faces_from m k (item d ds) =
+    and_then (items_of d) (λ es. if nat_lt m most_faces then and_then (face_from k [] es) (λ face.
+    before face (faces_from (suc m) (k + length face) ds)) else Err Limit)
 
 abbrev pub ranks_from : ℕ → ℕ → Items → Read (List (List (List ℕ)))
 ranks_from m k no_items = Ok []
-ranks_from m k (item d ds) = and_then (items_of d) (λ es. and_then (faces_from m k es) (λ faces. before faces (ranks_from (m + length faces) (k + sum_by length faces) ds)))
+ranks_from m k (item d ds) =
+    and_then (items_of d) (λ es.
+    and_then (faces_from m k es) (λ faces.
+    before faces (ranks_from (m + length faces) (k + sum_by length faces) ds)))
 
 abbrev pub lattice_of : Data → Read PropertyValue
 lattice_of d = and_then (items_of d) (λ ds. and_then (ranks_from 0 0 ds) (λ ranks. Ok (lattice ranks)))

@@ -19,7 +19,8 @@ use std::alloc::Global;
 
 /// The neighbours of the nodes.
 fn read_nodes(alloc: Global, items: &[Value]) -> Result<Vec<Vec<u32>>, ValueFail>
-    ensures ok { IfOk result (λ rows. nodes_from 0 (items_view items.now) ≡ Ok (map (λ set. set.items) rows.items)) }
+    ensures ok { IfOk result (λ rows. nodes_from 0 (items_view items.now)
+        ≡ Ok (map (λ set. set.items) rows.items)) }
     ensures fault { IfErr result (λ e. e ≢ ValueFail.Memory → nodes_from 0 (items_view items.now) ≡ Err e) }
 {
     let mut rows = Vec::new(alloc);
@@ -63,7 +64,8 @@ fn is_joined_back(rows: &[Vec<u32>], i: usize, row: &[u32]) -> bool
 fn are_joined_back(rows: &[Vec<u32>]) -> bool
     requires few { length rows.now < 2 ^ 32 }
     requires nodes { All (λ set. All (λ j. j < length rows.now) set.items) rows.now }
-    ensures { result ≡ are_joined_back (map (λ set. set.items) rows.now) 0 (map (λ set. set.items) rows.now) }
+    ensures { result ≡ are_joined_back (map (λ set. set.items) rows.now) 0
+        (map (λ set. set.items) rows.now) }
 {
     for (i, row) in rows.iter().enumerate() {
         if !is_joined_back(rows, i, row) {

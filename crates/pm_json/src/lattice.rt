@@ -26,7 +26,8 @@ fn read_face(alloc: Global, items: &[Value], before: usize) -> Result<Vec<u32>, 
     ensures ok { IfOk result (λ face. face_from before [] (items_view items.now) ≡ Ok face.items) }
     ensures few { IfOk result (λ face. before + length face.items ≤ most_places) }
     ensures form { IfOk result (λ face. IsTrue (are_indices most_indices 0 face.items)) }
-    ensures fault { IfErr result (λ e. e ≢ ValueFail.Memory → face_from before [] (items_view items.now) ≡ Err e) }
+    ensures fault { IfErr result (λ e. e ≢ ValueFail.Memory
+        → face_from before [] (items_view items.now) ≡ Err e) }
 {
     let mut face = Vec::new(alloc);
     for item in items {
@@ -51,11 +52,13 @@ fn read_faces(
 ) -> Result<Vec<Vec<u32>>, ValueFail>
     requires faces { before ≤ most_faces }
     requires places { places_before ≤ most_places }
-    ensures ok { IfOk result (λ faces. faces_from before places_before (items_view items.now) ≡ Ok (lists_of faces)) }
+    ensures ok { IfOk result (λ faces. faces_from before places_before (items_view items.now)
+        ≡ Ok (lists_of faces)) }
     ensures few { IfOk result (λ faces. before + length faces.items ≤ most_faces) }
     ensures places { IfOk result (λ faces. places_before + sum_by length (lists_of faces) ≤ most_places) }
     ensures form { IfOk result (λ faces. IsTrue (list_all (are_indices most_indices 0) (lists_of faces))) }
-    ensures fault { IfErr result (λ e. e ≢ ValueFail.Memory → faces_from before places_before (items_view items.now) ≡ Err e) }
+    ensures fault { IfErr result (λ e. e ≢ ValueFail.Memory
+        → faces_from before places_before (items_view items.now) ≡ Err e) }
 {
     let mut faces = Vec::new(alloc);
     let mut places = places_before;
@@ -85,9 +88,11 @@ fn place_count(faces: &[Vec<u32>]) -> usize
 
 /// The faces of each rank.
 fn read_ranks(alloc: Global, items: &[Value]) -> Result<Vec<Vec<Vec<u32>>>, ValueFail>
-    ensures ok { IfOk result (λ ranks. ranks_from 0 0 (items_view items.now) ≡ Ok (map lists_of ranks.items)) }
+    ensures ok { IfOk result (λ ranks. ranks_from 0 0 (items_view items.now)
+        ≡ Ok (map lists_of ranks.items)) }
     ensures form { IfOk result (λ ranks. IsTrue (is_lattice_form (map lists_of ranks.items))) }
-    ensures fault { IfErr result (λ e. e ≢ ValueFail.Memory → ranks_from 0 0 (items_view items.now) ≡ Err e) }
+    ensures fault { IfErr result (λ e. e ≢ ValueFail.Memory
+        → ranks_from 0 0 (items_view items.now) ≡ Err e) }
 {
     let mut ranks = Vec::new(alloc);
     let mut count = 0;

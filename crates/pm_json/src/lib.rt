@@ -1,4 +1,5 @@
-//! Values of properties from JSON, and the first fault of a text that is none.
+//! Values of properties from JSON, and the first fault of a text that is none. It knows nothing of objects, rules and
+//! where texts are kept.
 #![tactic(auto)]
 
 ghost use Rattle.pm_json.specs.Examples.{MatricesHaveTexts, NumbersHaveTexts, SetsHaveTexts};

@@ -22,7 +22,8 @@ use std::alloc::Global;
 /// The entries of a row, at most so many.
 fn read_entries(alloc: Global, most: usize, items: &[Value]) -> Result<Vec<Fraction>, ValueFail>
     ensures ok { IfOk result (λ row. entries_from most 0 (items_view items.now) ≡ Ok row.items) }
-    ensures fault { IfErr result (λ e. e ≢ ValueFail.Memory → entries_from most 0 (items_view items.now) ≡ Err e) }
+    ensures fault { IfErr result (λ e. e ≢ ValueFail.Memory
+        → entries_from most 0 (items_view items.now) ≡ Err e) }
 {
     let mut row = Vec::new(alloc);
     for item in items {
@@ -43,7 +44,8 @@ fn read_first_row(
     items: &[Value],
 ) -> Result<Vec<Fraction>, ValueFail>
     ensures ok { IfOk result (λ row. first_row_of least most (items_view items.now) ≡ Ok row.items) }
-    ensures fault { IfErr result (λ e. e ≢ ValueFail.Memory → first_row_of least most (items_view items.now) ≡ Err e) }
+    ensures fault { IfErr result (λ e. e ≢ ValueFail.Memory
+        → first_row_of least most (items_view items.now) ≡ Err e) }
 {
     let row = read_entries(alloc, most, items)?;
     if row.len() < least {
@@ -56,7 +58,8 @@ fn read_first_row(
 fn read_later_row(alloc: Global, cols: usize, items: &[Value]) -> Result<Vec<Fraction>, ValueFail>
     ensures ok { IfOk result (λ row. later_row_from cols 0 (items_view items.now) ≡ Ok row.items) }
     ensures len { IfOk result (λ row. length row.items ≡ cols) }
-    ensures fault { IfErr result (λ e. e ≢ ValueFail.Memory → later_row_from cols 0 (items_view items.now) ≡ Err e) }
+    ensures fault { IfErr result (λ e. e ≢ ValueFail.Memory
+        → later_row_from cols 0 (items_view items.now) ≡ Err e) }
 {
     let mut row = Vec::new(alloc);
     for item in items {
@@ -89,8 +92,12 @@ fn push_row(matrix: &mut Matrix, row: &[Fraction]) -> Result<(), ValueFail>
 /// Reads the rows behind those of the matrix.
 fn read_later_rows(alloc: Global, matrix: &mut Matrix, items: &[Value]) -> Result<(), ValueFail>
     ensures cols { matrix.new.cols ≡ matrix.old.cols }
-    ensures ok { OnOk result (with_front matrix.old.rows (later_rows_from matrix.old.cols (length matrix.old.rows) (items_view items.now)) ≡ Ok matrix.new.rows) }
-    ensures fault { IfErr result (λ e. e ≢ ValueFail.Memory → with_front matrix.old.rows (later_rows_from matrix.old.cols (length matrix.old.rows) (items_view items.now)) ≡ Err e) }
+    ensures ok { OnOk result
+        (with_front matrix.old.rows (later_rows_from matrix.old.cols (length matrix.old.rows)
+        (items_view items.now)) ≡ Ok matrix.new.rows) }
+    ensures fault { IfErr result (λ e. e ≢ ValueFail.Memory
+        → with_front matrix.old.rows (later_rows_from matrix.old.cols (length matrix.old.rows)
+        (items_view items.now)) ≡ Err e) }
 {
     for item in items {
         let entries = read_items(item)?;
@@ -106,7 +113,8 @@ fn read_later_rows(alloc: Global, matrix: &mut Matrix, items: &[Value]) -> Resul
 /// The rows that elements of an array are, of as many entries.
 fn read_rows(alloc: Global, least: usize, most: usize, items: &[Value]) -> Result<Matrix, ValueFail>
     ensures ok { IfOk result (λ m. rows_from least most (items_view items.now) ≡ Ok m) }
-    ensures fault { IfErr result (λ e. e ≢ ValueFail.Memory → rows_from least most (items_view items.now) ≡ Err e) }
+    ensures fault { IfErr result (λ e. e ≢ ValueFail.Memory
+        → rows_from least most (items_view items.now) ≡ Err e) }
 {
     let Some((first, others)) = items.split_first() else {
         return Ok(Matrix::new(alloc, 0));
@@ -176,7 +184,8 @@ fn read_stated(
     stated: &Value,
 ) -> Result<Matrix, ValueFail>
     requires { least ≤ 1 }
-    ensures ok { IfOk result (λ m. matrix_with least most (items_view rows.now) (Some (view stated.now)) ≡ Ok m) }
+    ensures ok { IfOk result (λ m. matrix_with least most (items_view rows.now) (Some (view stated.now))
+        ≡ Ok m) }
     ensures fault { IfErr result (λ e. e ≢ ValueFail.Memory
         → matrix_with least most (items_view rows.now) (Some (view stated.now)) ≡ Err e) }
 {
@@ -194,7 +203,8 @@ fn read_elements(
 ) -> Result<Matrix, ValueFail>
     requires { least ≤ 1 }
     ensures ok { IfOk result (λ m. matrix_from least most (items_view items.now) ≡ Ok m) }
-    ensures fault { IfErr result (λ e. e ≢ ValueFail.Memory → matrix_from least most (items_view items.now) ≡ Err e) }
+    ensures fault { IfErr result (λ e. e ≢ ValueFail.Memory
+        → matrix_from least most (items_view items.now) ≡ Err e) }
 {
     let Some((last, rows)) = items.split_last() else {
         return read_rows(alloc, least, most, items);

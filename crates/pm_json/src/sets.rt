@@ -106,7 +106,8 @@ fn read_stated(v: &Value) -> Result<u32, ValueFail>
 
 /// The n of `{"cols":n}`, behind which nothing stands.
 fn read_last(v: &Value, behind: &[Value]) -> Result<u32, ValueFail>
-    ensures ok { IfOk result (λ n. stated_last (view v.now) (items_view behind.now) ≡ Ok (record { rows = []; stated = Some n })) }
+    ensures ok { IfOk result (λ n. stated_last (view v.now) (items_view behind.now)
+        ≡ Ok (record { rows = []; stated = Some n })) }
     ensures fault { IfErr result (λ e. stated_last (view v.now) (items_view behind.now) ≡ Err e) }
 {
     if !behind.is_empty() {
@@ -117,7 +118,8 @@ fn read_last(v: &Value, behind: &[Value]) -> Result<u32, ValueFail>
 
 /// The sets, and the column count behind them.
 fn read_set_list(alloc: Global, items: &[Value]) -> Result<SetList, ValueFail>
-    ensures ok { IfOk result (λ s. sets_from 0 (items_view items.now) ≡ Ok (record { rows = map (λ set. set.items) s.rows.items; stated = s.stated })) }
+    ensures ok { IfOk result (λ s. sets_from 0 (items_view items.now)
+        ≡ Ok (record { rows = map (λ set. set.items) s.rows.items; stated = s.stated })) }
     ensures fault { IfErr result (λ e. e ≢ ValueFail.Memory → sets_from 0 (items_view items.now) ≡ Err e) }
 {
     let mut rows = Vec::new(alloc);

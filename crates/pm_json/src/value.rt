@@ -99,7 +99,8 @@ fn read_number_value(p: PropId, v: &Value) -> Result<PropertyValue, ValueFail>
 /// The value of a property that a JSON value is; where it is none, the first fault in reading order.
 pub fn read_value(alloc: Global, p: PropId, v: &Value) -> Result<PropertyValue, ValueFail>
     ensures text { IfOk result (λ value. IsJsonOf p (view v.now) (view_of value)) }
-    ensures no_text { IfErr result (λ e. e ≢ ValueFail.Memory → (value : ValueSeen) → ¬ (IsJsonOf p (view v.now) value)) }
+    ensures no_text { IfErr result (λ e. e ≢ ValueFail.Memory → (value : ValueSeen)
+        → ¬ (IsJsonOf p (view v.now) value)) }
     ensures ok { IfOk result (λ value. reading p (view v.now) ≡ Ok (view_of value)) }
     ensures formed { IfOk result (λ value. IsTrue (is_formed p (view_of value))) }
     ensures fault { IfErr result (λ e. e ≢ ValueFail.Memory → reading p (view v.now) ≡ Err e) }

@@ -2,7 +2,7 @@
 use Rattle.pm_vector.proofs.Lists.{All_among, Among, Contains_among, among_All, among_Contains, among_append, among_append_left, among_append_right, here, there}
 use Rattle.pm_bits.specs.Sets.{has, member_count}
 use Rattle.pm_geom.specs.Meets.{IsMeet}
-use Rattle.pm_lattice.specs.Closures.{AreMeets, IsBefore, IsClosed, bit_sets, place_count}
+use Rattle.pm_lattice.specs.Closures.{AreMeets, IsRowBefore, IsClosed, bit_sets, place_count}
 use Rattle.pm_lattice.specs.Parts.{Covers, IsPartOf, Opens, both}
 use Rattle.pm_lattice.proofs.Chains.{meet_more}
 use Rattle.pm_lattice.proofs.Keys.{before_trans, part_after}
@@ -20,8 +20,8 @@ use Rattle.std.specs.Prelude.{Bool, IsTrue, List, [], false, length, true, ℕ, 
 pub record Closing (m : ℕ) (rows faces open' : List (List Bool)) : Type 0 where
   pub meets : All (λ f. IsMeet m (bit_sets rows) (has f)) (faces ++ open')
   pub lengths : All (λ f. length f ≡ m) (faces ++ open')
-  pub ordered : AllPairs IsBefore faces
-  pub after : All (λ f. All (IsBefore f) open') faces
+  pub ordered : AllPairs IsRowBefore faces
+  pub after : All (λ f. All (IsRowBefore f) open') faces
   pub covered : All (Covers m rows (faces ++ open')) faces
   pub whole : (w : List Bool) × Contains (faces ++ open') w × ((j : ℕ) → j < m → IsTrue (has w j))
 
@@ -51,7 +51,7 @@ module _ (m : ℕ) (rows : List (List Bool)) where
     meets = All_among (λ f. IsMeet m (bit_sets rows) (has f)) (w ∷ []) (λ f i. subst (λ g. IsMeet m (bit_sets rows) (has g)) (sym (only_one i)) (whole_meet (has w) h));
     lengths = All_among (λ f. length f ≡ m) (w ∷ []) (λ f i. ap length (only_one i) ∙ l);
     ordered = λ i j d a b. absurd (omega arith);
-    after = All_among (λ f. All (IsBefore f) (w ∷ [])) [] (λ f i. elim i [ ]);
+    after = All_among (λ f. All (IsRowBefore f) (w ∷ [])) [] (λ f i. elim i [ ]);
     covered = All_among (Covers m rows (w ∷ [])) [] (λ f i. elim i [ ]);
     whole = (w, (let i : Among w (w ∷ []) = here in Contains_among i), h);
   })
@@ -86,26 +86,26 @@ module _ (m : ℕ) (rows : List (List Bool)) where
     f_in : Among f (faces ++ f ∷ rest)
     f_in = let i : Among f (f ∷ rest) = here in among_append_right faces i
 
-    module _ (c : Closing m rows faces (f ∷ rest)) (above : All (IsBefore f) rest) where
+    module _ (c : Closing m rows faces (f ∷ rest)) (above : All (IsRowBefore f) rest) where
       meet_of : (x : List Bool) → Among x (faces ++ f ∷ rest) → IsMeet m (bit_sets rows) (has x)
       meet_of x i = among_All (λ g. IsMeet m (bit_sets rows) (has g)) i c.meets
 
       length_of : (x : List Bool) → Among x (faces ++ f ∷ rest) → length x ≡ m
       length_of x i = among_All (λ g. length g ≡ m) i c.lengths
 
-      before_f : (g : List Bool) → Among g faces → IsBefore g f
-      before_f g i = let j : Among f (f ∷ rest) = here in among_All (IsBefore g) j (among_All (λ h. All (IsBefore h) (f ∷ rest)) i c.after)
+      before_f : (g : List Bool) → Among g faces → IsRowBefore g f
+      before_f g i = let j : Among f (f ∷ rest) = here in among_All (IsRowBefore g) j (among_All (λ h. All (IsRowBefore h) (f ∷ rest)) i c.after)
 
-      f_before : (k : List Bool) → Among k new → IsBefore f k
+      f_before : (k : List Bool) → Among k new → IsRowBefore f k
       f_before k i = elim (o.added k (Contains_among i)) [
-        | inl j ↦ among_All (IsBefore f) (among_Contains rest j) above
+        | inl j ↦ among_All (IsRowBefore f) (among_Contains rest j) above
         | inr p ↦ part_after m rows f k (length_of f f_in) p
       ]
 
-      after_next : (g : List Bool) → Among g (faces ++ f ∷ []) → All (IsBefore g) new
+      after_next : (g : List Bool) → Among g (faces ++ f ∷ []) → All (IsRowBefore g) new
       after_next g i = elim (among_append faces (f ∷ []) i) [
-        | inl j ↦ All_among (IsBefore g) new (λ k n. before_trans g f k (before_f g j) (f_before k n))
-        | inr j ↦ subst (λ h. All (IsBefore h) new) (sym (only_one j)) (All_among (IsBefore f) new f_before)
+        | inl j ↦ All_among (IsRowBefore g) new (λ k n. before_trans g f k (before_f g j) (f_before k n))
+        | inr j ↦ subst (λ h. All (IsRowBefore h) new) (sym (only_one j)) (All_among (IsRowBefore f) new f_before)
       ]
 
       covered_next : (g : List Bool) → Among g (faces ++ f ∷ []) → Covers m rows (faces ++ f ∷ [] ++ new) g
@@ -118,13 +118,13 @@ module _ (m : ℕ) (rows : List (List Bool)) where
       next_turn = record {
         meets = All_among (λ g. IsMeet m (bit_sets rows) (has g)) (faces ++ f ∷ [] ++ new) (λ x i. elim (from x i) [ inl j ↦ meet_of x j | inr p ↦ part_meet f x (meet_of f f_in) p ]);
         lengths = All_among (λ g. length g ≡ m) (faces ++ f ∷ [] ++ new) (λ x i. elim (from x i) [ inl j ↦ length_of x j | inr p ↦ p.len ∙ length_of f f_in ]);
-        ordered = all_pairs_push IsBefore faces f c.ordered (λ k d l. (λ (a : All (λ g. IsBefore g f) faces). a k d l) (All_among (λ g. IsBefore g f) faces before_f));
-        after = All_among (λ g. All (IsBefore g) new) (faces ++ f ∷ []) after_next;
+        ordered = all_pairs_push IsRowBefore faces f c.ordered (λ k d l. (λ (a : All (λ g. IsRowBefore g f) faces). a k d l) (All_among (λ g. IsRowBefore g f) faces before_f));
+        after = All_among (λ g. All (IsRowBefore g) new) (faces ++ f ∷ []) after_next;
         covered = All_among (Covers m rows (faces ++ f ∷ [] ++ new)) (faces ++ f ∷ []) covered_next;
         whole = (c.whole.0, Contains_among (still c.whole.0 (among_Contains (faces ++ f ∷ rest) c.whole.1)), c.whole.2);
       }
 
-  pub closing_turn : (faces keys : List (List Bool)) (f : List Bool) (rest new next : List (List Bool)) → keys ≡ f ∷ rest → next ≡ faces ++ f ∷ [] → Closing m rows faces keys → All (IsBefore f) rest → Opens m rows f rest new → Closing m rows next new
+  pub closing_turn : (faces keys : List (List Bool)) (f : List Bool) (rest new next : List (List Bool)) → keys ≡ f ∷ rest → next ≡ faces ++ f ∷ [] → Closing m rows faces keys → All (IsRowBefore f) rest → Opens m rows f rest new → Closing m rows next new
   closing_turn faces keys f rest new next e n c above o = subst (λ fs. Closing m rows fs new) (sym n) (next_turn faces f rest new o (subst (λ ks. Closing m rows faces ks) e c) above)
 
   closed_end : (faces : List (List Bool)) → Closing m rows faces [] → IsClosed m rows faces

@@ -10,7 +10,7 @@ use Rattle.pm_lattice.proofs.Ranking.{before_not}
 use Rattle.pm_lattice.proofs.Reached.{among_row, among_tests, both_ways, row_among, same_bool, tests_among}
 use Rattle.pm_lattice.proofs.Sorted.{sorted_rows}
 use Rattle.pm_lattice.proofs.Subsets.{below_length}
-use Rattle.pm_lattice.specs.Closures.{AreMeets, IsBefore, IsClosed, bit_sets}
+use Rattle.pm_lattice.specs.Closures.{AreMeets, IsRowBefore, IsClosed, bit_sets}
 use Rattle.pm_lattice.specs.Parts.{row_of}
 use Rattle.pm_lattice.specs.Turned.{AreShared, IsShared, IsTurned}
 use Rattle.std.proofs.Common.{ap, arith, get_or, refl, subst, sym, ◌∙◌}
@@ -179,7 +179,7 @@ module _ (t u : Table) (turn : IsTurned t u) where
         let li : i < length sets = omega arith in
         let same : get_or h.list i [] ≡ get_or h.list j [] = get_or_default h.list i [] d (omega arith) ∙ e ∙ sym (get_or_default h.list j [] d m) in
         let once = shared_once (get_or sets i []) (get_or sets j []) (get_or h.list j []) (set_len i li) (set_len j lj) (w.each i [] li) (w.each j [] lj) (subst (λ f. IsShared u (get_or sets i []) f) same (h.each i li)) (h.each j lj) in
-        before_not (get_or sets j []) (subst (λ x. IsBefore x (get_or sets j [])) once (w.ordered i j [] l lj))
+        before_not (get_or sets j []) (subst (λ x. IsRowBefore x (get_or sets j [])) once (w.ordered i j [] l lj))
 
     pub shared_meets : AreMeets t.row_len t.rows faces
     shared_meets = record {
@@ -188,7 +188,7 @@ module _ (t u : Table) (turn : IsTurned t u) where
       ordered = λ i j d l m.
           let b = sorted_rows h.list faces list_differ h.moved h.sorted i j l m in
           let li : i < length faces = omega arith in
-          subst (λ x. IsBefore x (get_or faces j d)) (get_or_default faces i [] d li) (subst (λ y. IsBefore (get_or faces i []) y) (get_or_default faces j [] d m) b);
+          subst (λ x. IsRowBefore x (get_or faces j d)) (get_or_default faces i [] d li) (subst (λ y. IsRowBefore (get_or faces i []) y) (get_or_default faces j [] d m) b);
     }
 
     pub shared_count : length faces ≡ length sets

@@ -3,7 +3,7 @@ use Rattle.pm_vector.proofs.Lists.{All_among, Among, among_All, here, there}
 use Rattle.pm_bits.specs.Sets.{has, member_count, members}
 use Rattle.pm_geom.specs.Graphs.{IsAscending, holds, sets_of}
 use Rattle.pm_geom.specs.Meets.{AreMeetsByRank, AreTooManyMeets, HasMeetChain, HasMeetRank, IsMeet, IsSmallLattice}
-use Rattle.pm_lattice.specs.Closures.{AreFew, IsBefore, IsClosed, AreMany, AreMeets, place_count, bit_sets}
+use Rattle.pm_lattice.specs.Closures.{AreFew, IsRowBefore, IsClosed, AreMany, AreMeets, place_count, bit_sets}
 use Rattle.pm_lattice.specs.Lattices.{IsFaceLattice, ShowsTooMany}
 use Rattle.pm_lattice.specs.Ranks.{AreRanksFrom, face_at, levels_to, rank_at}
 use Rattle.pm_lattice.proofs.Closing.{whole_meet}
@@ -70,7 +70,7 @@ too_many m rows faces lists e t much = subst (λ ls. AreTooManyMeets m (bit_sets
       let li : i < length faces = omega arith in
       let eq = sym (map_at faces i d li) ∙ q ∙ map_at faces j d lj in
       let rows_equal = same_members m (get_or faces i []) (get_or faces j []) (t.lengths i [] li) (t.lengths j [] lj) eq in
-      before_not (get_or faces j []) (subst (λ x. IsBefore x (get_or faces j [])) rows_equal (t.ordered i j [] l lj));
+      before_not (get_or faces j []) (subst (λ x. IsRowBefore x (get_or faces j [])) rows_equal (t.ordered i j [] l lj));
   many = elim much [
     | inl h ↦ inl (let n = length-map faces members in omega arith)
     | inr h ↦ inr (let n = place_count_sum faces in omega arith)

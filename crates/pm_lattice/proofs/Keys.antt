@@ -3,7 +3,7 @@ use Rattle.pm_vector.proofs.Lists.{Among, Contains_among, among_Contains, among_
 use Rattle.pm_bits.proofs.Differences.{Less-from_first}
 use Rattle.pm_bits.specs.Laws.{row_cmp_total, rows_tie}
 use Rattle.pm_bits.specs.Sets.{HasFirstDifference, first_difference_cmp, has, row_cmp}
-use Rattle.pm_lattice.specs.Closures.{IsBefore}
+use Rattle.pm_lattice.specs.Closures.{IsRowBefore}
 use Rattle.pm_lattice.specs.Parts.{Covers, IsPartOf}
 use Rattle.pm_lattice.proofs.Chains.{and_right, true_or_not}
 use Rattle.pm_lattice.proofs.Parts.{part_strict}
@@ -22,7 +22,7 @@ pub equal_rows : (x y : List Bool) → row_cmp x y ≡ Equal → x ≡ y
 equal_rows x y e = (pointwise_decides booleans_Decides x y).0 (rows_tie x y ∙ ap is_eq e)
 
 -- rows of one length go by their first difference
-pub before_of_first : (a b : List Bool) → length a ≡ length b → HasFirstDifference a b → IsBefore a b
+pub before_of_first : (a b : List Bool) → length a ≡ length b → HasFirstDifference a b → IsRowBefore a b
 before_of_first a b e h = let r : first_difference_cmp a b ≡ Less = Less-from_first a b e h in rw (e, tied_itself nat_cmp_total (length b)) r
 
 module _ (x : List Bool) where
@@ -130,12 +130,12 @@ first_of_part f c h i a b =
     (w.0, p.0, p.1, (λ k l. not_only_first (has f k) (has c k) (h k) (w.2 k l)))
 
 -- a part of a face comes after it
-pub part_after : (m : ℕ) (rows : List (List Bool)) (f c : List Bool) → length f ≡ m → IsPartOf rows f c → IsBefore f c
+pub part_after : (m : ℕ) (rows : List (List Bool)) (f c : List Bool) → length f ≡ m → IsPartOf rows f c → IsRowBefore f c
 part_after m rows f c e p =
     let s = part_strict m rows f c e p in
     before_of_first f c (sym p.len) (first_of_part f c (λ j t. and_right (has p.row j) (has f j) (sym (p.shared j) ∙ t)) s.j s.has s.lacks)
 
-pub before_trans : (x y z : List Bool) → IsBefore x y → IsBefore y z → IsBefore x z
+pub before_trans : (x y z : List Bool) → IsRowBefore x y → IsRowBefore y z → IsRowBefore x z
 before_trans x y z a b = row_cmp_total.trans x y z a b
 
 pub all_opened : (m : ℕ) (rows : List (List Bool)) (f : List Bool) (all parts keys : List (List Bool)) → length parts ≡ 0 → ((k : List Bool) → Contains all k → Contains parts k ⊎ Contains keys k) → Covers m rows all f → Covers m rows keys f

@@ -4,7 +4,7 @@ use Rattle.pm_bits.specs.Sets.{HasFirstDifference, first_difference_cmp, has, me
 use Rattle.pm_geom.specs.FaceCounts.{IsLexBefore, SamePlaces, at_rank}
 use Rattle.pm_geom.specs.Graphs.{IsAscending, holds}
 use Rattle.pm_geom.specs.Meets.{AreMeetsByRank, HasMeetChain, HasMeetRank, IsMeet}
-use Rattle.pm_lattice.specs.Closures.{IsBefore, IsClosed, bit_sets}
+use Rattle.pm_lattice.specs.Closures.{IsRowBefore, IsClosed, bit_sets}
 use Rattle.pm_lattice.specs.Ranks.{AreRanksFrom, face_at, level_of, rank_at}
 use Rattle.pm_lattice.proofs.Chains.{chain_less, chain_up, one_rank, rank_same, same_rank_apart}
 use Rattle.pm_lattice.proofs.Closing.{whole_meet}
@@ -94,7 +94,7 @@ first_from_less (false ∷ xs) (true ∷ ys) e h = absurd cc
 first_from_less (true ∷ xs) (true ∷ ys) e h = let w = first_from_less xs ys (omega arith) h in later true xs ys w
 first_from_less (false ∷ xs) (false ∷ ys) e h = let w = first_from_less xs ys (omega arith) h in later false xs ys w
 
-first_before : (m : ℕ) (a b : List Bool) → length a ≡ m → length b ≡ m → IsBefore a b → HasFirstDifference a b
+first_before : (m : ℕ) (a b : List Bool) → length a ≡ m → length b ≡ m → IsRowBefore a b → HasFirstDifference a b
 first_before m a b ea eb h = first_from_less a b (ea ∙ sym eb) (sym (row_as a b (ea ∙ sym eb)) ∙ h)
 
 module _ (n : ℕ) (rows faces : List (List Bool)) (ranks : List ℕ) (closed : IsClosed n rows faces) (known : AreRanksFrom n rows faces ranks 0) (as_many : length ranks ≡ length faces) where

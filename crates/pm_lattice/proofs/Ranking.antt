@@ -4,7 +4,7 @@ use Rattle.pm_bits.specs.Laws.{row_cmp_total}
 use Rattle.pm_bits.specs.Sets.{has, member_count}
 use Rattle.pm_geom.specs.FaceCounts.{SamePlaces}
 use Rattle.pm_geom.specs.Meets.{HasMeetChain, HasMeetRank, IsMeet}
-use Rattle.pm_lattice.specs.Closures.{IsBefore, IsClosed, bit_sets}
+use Rattle.pm_lattice.specs.Closures.{IsRowBefore, IsClosed, bit_sets}
 use Rattle.pm_lattice.specs.Parts.{IsIn, IsPartOf, both}
 use Rattle.pm_lattice.specs.Ranks.{AreHeights, face_at, rank_at}
 use Rattle.pm_geom.specs.Faces.{IsStrictlyIn}
@@ -50,25 +50,25 @@ count_less m f g ef eg s =
     rw (ef, eg) (omega arith)
 
 -- ---- places
-pub before_not : (x : List Bool) → ¬ (IsBefore x x)
+pub before_not : (x : List Bool) → ¬ (IsRowBefore x x)
 before_not x h = let e : Less ≡ Equal = sym h ∙ tied_itself row_cmp_total x in cc
 
-module _ (faces : List (List Bool)) (ordered : AllPairs IsBefore faces) where
-  pub after_place : (k i : ℕ) (s : List Bool) → k < length faces → i < length faces → face_at faces k ≡ s → IsBefore (face_at faces i) s → i < k
+module _ (faces : List (List Bool)) (ordered : AllPairs IsRowBefore faces) where
+  pub after_place : (k i : ℕ) (s : List Bool) → k < length faces → i < length faces → face_at faces k ≡ s → IsRowBefore (face_at faces i) s → i < k
   after_place k i s lk li e h = elim (cases k i) [
     | inl l ↦ l
-    | inr (inl same) ↦ absurd (before_not s (subst (λ y. IsBefore y s) (ap (face_at faces) same ∙ e) h))
-    | inr (inr l) ↦ absurd (before_not s (before_trans s (face_at faces i) s (subst (λ y. IsBefore y (face_at faces i)) e (ordered k i [] l li)) h))
+    | inr (inl same) ↦ absurd (before_not s (subst (λ y. IsRowBefore y s) (ap (face_at faces) same ∙ e) h))
+    | inr (inr l) ↦ absurd (before_not s (before_trans s (face_at faces i) s (subst (λ y. IsRowBefore y (face_at faces i)) e (ordered k i [] l li)) h))
   ]
     where
       cases : (k i : ℕ) → (i < k) ⊎ ((i ≡ k) ⊎ (k < i))
       cases k i = grind arith
 
-  pub before_place : (k i : ℕ) (s : List Bool) → k < length faces → i < length faces → face_at faces k ≡ s → IsBefore s (face_at faces i) → k < i
+  pub before_place : (k i : ℕ) (s : List Bool) → k < length faces → i < length faces → face_at faces k ≡ s → IsRowBefore s (face_at faces i) → k < i
   before_place k i s lk li e h = elim (cases k i) [
     | inl l ↦ l
-    | inr (inl same) ↦ absurd (before_not s (subst (λ y. IsBefore s y) (ap (face_at faces) same ∙ e) h))
-    | inr (inr l) ↦ absurd (before_not s (before_trans s (face_at faces i) s h (subst (λ y. IsBefore (face_at faces i) y) e (ordered i k [] l lk))))
+    | inr (inl same) ↦ absurd (before_not s (subst (λ y. IsRowBefore s y) (ap (face_at faces) same ∙ e) h))
+    | inr (inr l) ↦ absurd (before_not s (before_trans s (face_at faces i) s h (subst (λ y. IsRowBefore (face_at faces i) y) e (ordered i k [] l lk))))
   ]
     where
       cases : (k i : ℕ) → (k < i) ⊎ ((i ≡ k) ⊎ (i < k))
@@ -94,7 +94,7 @@ module _ (m : ℕ) (rows faces : List (List Bool)) (closed : IsClosed m rows fac
     part_there = meet_there c (p.len ∙ face_len f known) (part_meet m rows f c (face_meet f known) p)
 
     pub part_later : (i k : ℕ) → i < length faces → k < length faces → face_at faces i ≡ f → face_at faces k ≡ c → i < k
-    part_later i k li lk e h = after_place faces closed.ordered k i c lk li h (subst (λ g. IsBefore g c) (sym e) (part_after m rows f c (face_len f known) p))
+    part_later i k li lk e h = after_place faces closed.ordered k i c lk li h (subst (λ g. IsRowBefore g c) (sym e) (part_after m rows f c (face_len f known) p))
 
     shared_in : IsIn m (both (has f) (has p.row)) (has c)
     shared_in j l t = p.shared j ∙ and_both (has p.row j) (has f j) (and_right (has f j) (has p.row j) t) (and_left (has f j) (has p.row j) t)

@@ -5,7 +5,7 @@ use Rattle.pm_bits.specs.Laws.{row_cmp_total}
 use Rattle.pm_bits.specs.Sets.{row_cmp}
 use Rattle.pm_lattice.proofs.Keys.{before_trans, equal_rows}
 use Rattle.pm_lattice.proofs.Reached.{same_bool}
-use Rattle.pm_lattice.specs.Closures.{IsBefore}
+use Rattle.pm_lattice.specs.Closures.{IsRowBefore}
 use Rattle.std.proofs.Common.{ap, arith, get_or, refl, subst, sym, ◌∙◌}
 use Rattle.std.proofs.lemmas.Map.Keys.{IsDistinct-IsPermutation}
 use Rattle.std.specs.Bool.{beq}
@@ -48,7 +48,7 @@ distinct_next (x ∷ []) h i l = absurd (omega arith)
 distinct_next (x ∷ y ∷ xs) h zero l = λ e. let t : same_row x y ≡ true = (pointwise_decides booleans_Decides x y).1 e in let f : same_row x y ≡ false = h.0.0 in cc
 distinct_next (x ∷ y ∷ xs) h (suc i) l = subst (λ k. ¬ (get_or (y ∷ xs) i [] ≡ get_or (x ∷ y ∷ xs) k [])) (let e : suc (i + 1) ≡ suc i + 1 = omega arith in e) (distinct_next (y ∷ xs) h.1 i (omega arith))
 
-before_from : (x y : List Bool) → is_lt (row_cmp y x) ≡ false → ¬ (x ≡ y) → IsBefore x y
+before_from : (x y : List Bool) → is_lt (row_cmp y x) ≡ false → ¬ (x ≡ y) → IsRowBefore x y
 before_from x y h n = go (row_cmp x y) refl
   where
     go : (o : Ordering) → row_cmp x y ≡ o → row_cmp x y ≡ Less
@@ -57,18 +57,18 @@ before_from x y h n = go (row_cmp x y) refl
     go Greater e = let t : is_lt (row_cmp y x) ≡ true = ap is_lt (row_cmp_total.antisymm y x ∙ ap ordering_reverse e) in absurd (let q : true ≡ false = sym t ∙ h in cc)
 
 module _ (xs : List (List Bool)) (sorted : IsSorted row_cmp xs) (distinct : IsDistinct same_row xs) where
-  next_before : (i : ℕ) → i + 1 < length xs → IsBefore (get_or xs i []) (get_or xs (i + 1) [])
+  next_before : (i : ℕ) → i + 1 < length xs → IsRowBefore (get_or xs i []) (get_or xs (i + 1) [])
   next_before i l = before_from (get_or xs i []) (get_or xs (i + 1) []) (sorted i [] (omega arith) l) (distinct_next xs distinct i l)
 
-  far_before : (n i : ℕ) → i + n + 1 < length xs → IsBefore (get_or xs i []) (get_or xs (i + n + 1) [])
-  far_before zero i l = subst (λ k. IsBefore (get_or xs i []) (get_or xs k [])) (let e : i + 1 ≡ i + zero + 1 = omega arith in e) (next_before i (omega arith))
+  far_before : (n i : ℕ) → i + n + 1 < length xs → IsRowBefore (get_or xs i []) (get_or xs (i + n + 1) [])
+  far_before zero i l = subst (λ k. IsRowBefore (get_or xs i []) (get_or xs k [])) (let e : i + 1 ≡ i + zero + 1 = omega arith in e) (next_before i (omega arith))
   far_before (suc n) i l =
       let e : i + n + 1 + 1 ≡ i + suc n + 1 = omega arith in
-      subst (λ k. IsBefore (get_or xs i []) (get_or xs k [])) e (before_trans (get_or xs i []) (get_or xs (i + n + 1) []) (get_or xs (i + n + 1 + 1) []) (far_before n i (omega arith)) (next_before (i + n + 1) (omega arith)))
+      subst (λ k. IsRowBefore (get_or xs i []) (get_or xs k [])) e (before_trans (get_or xs i []) (get_or xs (i + n + 1) []) (get_or xs (i + n + 1 + 1) []) (far_before n i (omega arith)) (next_before (i + n + 1) (omega arith)))
 
-  pub all_before : (i j : ℕ) → i < j → j < length xs → IsBefore (get_or xs i []) (get_or xs j [])
-  all_before i j l m = subst (λ k. IsBefore (get_or xs i []) (get_or xs k [])) (let e : i + (j - i - 1) + 1 ≡ j = omega arith in e) (far_before (j - i - 1) i (omega arith))
+  pub all_before : (i j : ℕ) → i < j → j < length xs → IsRowBefore (get_or xs i []) (get_or xs j [])
+  all_before i j l m = subst (λ k. IsRowBefore (get_or xs i []) (get_or xs k [])) (let e : i + (j - i - 1) + 1 ≡ j = omega arith in e) (far_before (j - i - 1) i (omega arith))
 
 -- rows that differ, sorted, are in order
-pub sorted_rows : (xs ys : List (List Bool)) → AllPairs (λ x y. ¬ (x ≡ y)) xs → IsPermutation xs ys → IsSorted row_cmp ys → (i j : ℕ) → i < j → j < length ys → IsBefore (get_or ys i []) (get_or ys j [])
+pub sorted_rows : (xs ys : List (List Bool)) → AllPairs (λ x y. ¬ (x ≡ y)) xs → IsPermutation xs ys → IsSorted row_cmp ys → (i j : ℕ) → i < j → j < length ys → IsRowBefore (get_or ys i []) (get_or ys j [])
 sorted_rows xs ys differ moved sorted = all_before ys sorted (IsDistinct-IsPermutation same_row same_row_turns xs ys moved (distinct_from xs differ))

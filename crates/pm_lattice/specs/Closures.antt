@@ -15,15 +15,16 @@ abbrev pub bit_sets : List (List Bool) → List (ℕ → Bool)
 bit_sets rows = map has rows
 
 -- x comes before y in the order of rows of bits
-abbrev pub IsBefore : List Bool → List Bool → Type 0
-IsBefore x y = row_cmp x y ≡ Less
+abbrev pub IsRowBefore : List Bool → List Bool → Type 0
+IsRowBefore x y = row_cmp x y ≡ Less
 
 -- the faces are all meets of the rows, each once and in order
 pub record IsClosed (m : ℕ) (rows faces : List (List Bool)) : Type 0 where
   pub each : All (λ f. IsMeet m (bit_sets rows) (has f)) faces
-  pub all : (g : ℕ → Bool) → IsMeet m (bit_sets rows) g → (f : List Bool) × Contains faces f × SamePlaces m g (has f)
+  pub all : (g : ℕ → Bool) → IsMeet m (bit_sets rows) g
+      → (f : List Bool) × Contains faces f × SamePlaces m g (has f)
   pub lengths : All (λ f. length f ≡ m) faces
-  pub ordered : AllPairs IsBefore faces
+  pub ordered : AllPairs IsRowBefore faces
 
 -- how many places all faces have together
 abbrev pub place_count : List (List Bool) → ℕ
@@ -41,9 +42,10 @@ AreMany faces = (most_faces < length faces) ⊎ (most_places < place_count faces
 pub record AreMeets (m : ℕ) (rows faces : List (List Bool)) : Type 0 where
   pub each : All (λ f. IsMeet m (bit_sets rows) (has f)) faces
   pub lengths : All (λ f. length f ≡ m) faces
-  pub ordered : AllPairs IsBefore faces
+  pub ordered : AllPairs IsRowBefore faces
 
 -- all meets of a table's rows, at most most_faces, or more than so many of them
 abbrev pub IsClosureOf : Table → Closure → Type 0
 IsClosureOf t (closure.All faces) = IsClosed t.row_len t.rows faces.items × (length faces.items ≤ most_faces)
-IsClosureOf t (closure.Many faces) = AreMeets t.row_len t.rows faces.items × (most_faces < length faces.items)
+IsClosureOf t (closure.Many faces) = AreMeets t.row_len t.rows faces.items
+    × (most_faces < length faces.items)

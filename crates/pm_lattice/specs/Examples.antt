@@ -10,9 +10,11 @@ edges = (0 ∷ 1 ∷ []) ∷ (0 ∷ 2 ∷ []) ∷ (1 ∷ 3 ∷ []) ∷ (2 ∷ 3 
 
 -- the meets of the edges: none of the corners, each corner, each edge, and all corners
 abbrev pub square_faces : List (List (List ℕ))
-square_faces = ([] ∷ []) ∷ ((0 ∷ []) ∷ (1 ∷ []) ∷ (2 ∷ []) ∷ (3 ∷ []) ∷ []) ∷ edges ∷ ((0 ∷ 1 ∷ 2 ∷ 3 ∷ []) ∷ []) ∷ []
+square_faces = ([] ∷ []) ∷ ((0 ∷ []) ∷ (1 ∷ []) ∷ (2 ∷ []) ∷ (3 ∷ []) ∷ []) ∷ edges
+    ∷ ((0 ∷ 1 ∷ 2 ∷ 3 ∷ []) ∷ []) ∷ []
 
--- the ranks of a corner, an edge and the square; the ends of a diagonal are no meet, an edge is no corner, and four edges are not too many
+-- the ranks of a corner, an edge and the square; the ends of a diagonal are no meet, an edge is no corner, and four
+-- edges are not too many
 pub record SquareIsRead : Type 0 where
   pub none : HasMeetRank 4 (sets_of edges) (holds []) 0
   pub corner : HasMeetRank 4 (sets_of edges) (holds (0 ∷ [])) 1
@@ -20,7 +22,8 @@ pub record SquareIsRead : Type 0 where
   pub square : HasMeetRank 4 (sets_of edges) (holds (0 ∷ 1 ∷ 2 ∷ 3 ∷ [])) 3
   pub diagonal : ¬ (IsMeet 4 (sets_of edges) (holds (0 ∷ 3 ∷ [])))
   pub not_flat : ¬ (HasMeetRank 4 (sets_of edges) (holds (0 ∷ 1 ∷ [])) 1)
-  pub without_diagonal : (more : List (List (List ℕ))) → ¬ (IsFaceLattice (record { rows = edges; cols = 4 }) (((0 ∷ 3 ∷ []) ∷ []) ∷ more))
+  pub without_diagonal : (more : List (List (List ℕ)))
+      → ¬ (IsFaceLattice (record { rows = edges; cols = 4 }) (((0 ∷ 3 ∷ []) ∷ []) ∷ more))
   pub small : IsSmallLattice square_faces
   pub few : ¬ (AreTooManyMeets 4 (sets_of edges) edges)
 
@@ -42,7 +45,8 @@ pub record PointIsRead : Type 0 where
   pub without_whole : ¬ (IsFaceLattice (record { rows = [] ∷ []; cols = 1 }) (([] ∷ []) ∷ []))
   pub turned : ¬ (IsFaceLattice (record { rows = [] ∷ []; cols = 1 }) (((0 ∷ []) ∷ []) ∷ ([] ∷ []) ∷ []))
 
--- where there are no sets, the set of all places is the one meet, of rank 0: also where there are no places, as for the cone {0}
+-- where there are no sets, the set of all places is the one meet, of rank 0: also where there are no places, as for
+-- the cone {0}
 pub record NoSetsAreRead : Type 0 where
   pub no_places : IsFaceLattice (record { rows = []; cols = 0 }) (([] ∷ []) ∷ [])
   pub some_face : ¬ (IsFaceLattice (record { rows = []; cols = 0 }) [])

@@ -8,7 +8,8 @@ use Rattle.pm_lattice.specs.declared.lattice.LatticeFail.TheVariants.{Many, Memo
 use Rattle.pm_types.specs.Values.{IndexSets}
 use Rattle.std.specs.Prelude.{ℕ, Bool, List}
 
--- all meets of the sets, by rank: the face lattice, where the sets hold the vertices of the facets (Ziegler, section 2.2)
+-- all meets of the sets, by rank: the face lattice, where the sets hold the vertices of the facets (Ziegler, section
+-- 2.2)
 abbrev pub IsFaceLattice : IndexSets → List (List (List ℕ)) → Type 0
 IsFaceLattice s ranks = AreMeetsByRank s.cols (sets_of s.rows) ranks
 

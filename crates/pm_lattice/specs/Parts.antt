@@ -25,19 +25,24 @@ pub record IsPartOf (rows : List (List Bool)) (f c : List Bool) : Type 0 where
   pub len : length c ≡ length f
   pub shared : (j : ℕ) → has c j ≡ (has row j && has f j)
 
--- the row at j opens a part of f: it does not contain f; an earlier row that has what f shares with it contains f; and the earlier rows that contain f share no more than f
+-- the row at j opens a part of f: it does not contain f; an earlier row that has what f shares with it contains f;
+-- and the earlier rows that contain f share no more than f
 pub record IsOpening (m : ℕ) (rows : List (List Bool)) (f : List Bool) (j : ℕ) : Type 0 where
   pub inside : j < length rows
   pub not_in : ¬ (IsSubset f (row_of rows j))
-  pub first : (i : ℕ) → i < j → IsIn m (both (has f) (has (row_of rows j))) (has (row_of rows i)) → IsSubset f (row_of rows i)
-  pub hull : (x : ℕ) → x < m → ((i : ℕ) → i < j → IsSubset f (row_of rows i) → IsTrue (has (row_of rows i) x)) → IsTrue (has f x)
+  pub first : (i : ℕ) → i < j → IsIn m (both (has f) (has (row_of rows j))) (has (row_of rows i))
+      → IsSubset f (row_of rows i)
+  pub hull : (x : ℕ) → x < m
+      → ((i : ℕ) → i < j → IsSubset f (row_of rows i) → IsTrue (has (row_of rows i) x)) → IsTrue (has f x)
 
 -- each part of f that a row opens is one of the faces
 abbrev pub Covers : ℕ → List (List Bool) → List (List Bool) → List Bool → Type 0
-Covers m rows faces f = (j : ℕ) → IsOpening m rows f j → (c : List Bool) × Contains faces c × SamePlaces m (both (has f) (has (row_of rows j))) (has c)
+Covers m rows faces f = (j : ℕ) → IsOpening m rows f j
+    → (c : List Bool) × Contains faces c × SamePlaces m (both (has f) (has (row_of rows j))) (has c)
 
 -- the list has grown by parts of f, and has each part of f that a row opens
-pub record Opens (m : ℕ) (rows : List (List Bool)) (f : List Bool) (old new : List (List Bool)) : Type 0 where
+pub record Opens (m : ℕ) (rows : List (List Bool)) (f : List Bool) (old new : List (List Bool))
+    : Type 0 where
   pub kept : (k : List Bool) → Contains old k → Contains new k
   pub added : (k : List Bool) → Contains new k → Contains old k ⊎ IsPartOf rows f k
   pub covers : Covers m rows new f

@@ -20,6 +20,7 @@ pub record IsShared (turned : Table) (set face : List Bool) : Type 0 where
 pub record AreShared (turned : Table) (sets faces : List (List Bool)) : Type 0 where
   pub list : List (List Bool)
   pub as_many : length list ≡ length sets
-  pub each : (k : ℕ) → k < length sets → IsShared turned (slice_index_or sets k []) (slice_index_or list k [])
+  pub each : (k : ℕ) → k < length sets
+      → IsShared turned (slice_index_or sets k []) (slice_index_or list k [])
   pub moved : IsPermutation list faces
   pub sorted : IsSorted row_cmp faces

@@ -1,5 +1,5 @@
-//! All intersections of sets of places, by rank: the face lattice of a polytope or cone from the vertices
-//! of its facets.
+//! All intersections of sets of places, by rank: the face lattice of a polytope or cone from the vertices of its
+//! facets. It knows nothing of objects, rules and clients.
 //!
 //! `faces` closes the sets under intersection, each face once (`closure`; `turned`, where the sets are
 //! more than the indices), finds the rank of each (`ranks`), and lists them (`lists`). The sets need not

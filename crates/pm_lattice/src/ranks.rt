@@ -1,5 +1,5 @@
 // The ranks of faces.
-ghost use Rattle.pm_lattice.specs.Closures.{IsBefore, IsClosed};
+ghost use Rattle.pm_lattice.specs.Closures.{IsRowBefore, IsClosed};
 ghost use Rattle.pm_bits.specs.Sets.{member_count};
 ghost use Rattle.pm_lattice.specs.Ranks.{Allows, AreAllowedFrom, AreHeights, AreRanks, AreRanksFrom};
 ghost use Rattle.pm_lattice.specs.Ranks.{AreSeen, HasRankIn, Rise, StandsAfter, face_at};
@@ -35,7 +35,7 @@ fn with_rank(known: SizeRank, rank: usize) -> SizeRank
 
 // Where a face stands in the order.
 fn place_of(faces: &[BitRow], face: &BitRow) -> usize
-    requires ordered { AllPairs IsBefore faces.now }
+    requires ordered { AllPairs IsRowBefore faces.now }
     requires lengths { All (λ f. length f ≡ length face.now) faces.now }
     requires known { Contains faces.now face.now }
     ensures within { result < length faces.now }

@@ -23,7 +23,7 @@ use Rattle.pm_laws_build.proofs.SumRows.{all_along, far_stand, points_stand, sum
 use Rattle.pm_laws_build.specs.Built.{IsSum}
 use Rattle.pm_laws_build.specs.Laws.{ReadRight, SumIsDescribed, settled_facts}
 use Rattle.pm_laws_normal_fans.proofs.SumRows.{sum_rows_generate}
-use Rattle.pm_laws_normal_fans.specs.Sums.{AreRowsOf, Cone, HasPoint, In, InMinkowskiSum, IsSumOf, far, is_positive, point_sum, point_sums, points, sum_rows}
+use Rattle.pm_laws_normal_fans.specs.Sums.{AreRowsOf, Cone, IsInhabited, In, InMinkowskiSum, IsSumOf, far, is_positive, point_sum, point_sums, points, sum_rows}
 use Rattle.pm_object.specs.Known.{cols_at, is_true, rows_at}
 use Rattle.pm_types.specs.Parts.{cols_over}
 use Rattle.pm_object.specs.State.{State, read_at, value_of}
@@ -101,7 +101,7 @@ record IsReadPolytope (a : State) (t : Thing) : Type 0 where
   lines_stand : StandFor (rows_at LinealitySpace a) K
   thing : IsPolytopeThing t.cols t.generators t.lines
   rows : AreRowsOf t.cols (record { generators = t.generators; lines = t.lines }) xs K
-  some : HasPoint t.cols (record { generators = t.generators; lines = t.lines })
+  some : IsInhabited t.cols (record { generators = t.generators; lines = t.lines })
 
 read_polytope : (a : State) (t : Thing) (o : Orders) → ReadRight sum_reads a t o → is_true Feasible a ≡ true → IsReadPolytope a t
 read_polytope a t o r holds = record {
@@ -165,11 +165,11 @@ module _ (a b : State) (t s u : Thing) (o : Orders) (f : SavedFile) (n : ℕ) (x
   rows_q : AreRowsOf n Q y.xs y.K
   rows_q = subst (λ k. AreRowsOf k Q y.xs y.K) sn y.rows
 
-  point_p : HasPoint n P
-  point_p = subst (λ k. HasPoint k P) tn x.some
+  point_p : IsInhabited n P
+  point_p = subst (λ k. IsInhabited k P) tn x.some
 
-  point_q : HasPoint n Q
-  point_q = subst (λ k. HasPoint k Q) sn y.some
+  point_q : IsInhabited n Q
+  point_q = subst (λ k. IsInhabited k Q) sn y.some
 
   sum : IsSumOf n P Q (record { generators = X; lines = M })
   sum = sum_rows_generate n P Q x.xs x.K y.xs y.K tp tq point_p point_q rows_p rows_q
@@ -256,7 +256,7 @@ sum_described a b t o s p u f r q fits file is_sum orders thing are =
 
 -- ---- by its own generators
 -- a polytope whose points are the sums of two is the sum
-pub sum_by_points : (t s u : Thing) (n : ℕ) → t.cols ≡ n → 0 < n → IsPolytopeThing n t.generators t.lines → IsPolytopeThing n s.generators s.lines → HasPoint n (cone_of t) → HasPoint n (cone_of s) → IsPolytopeThing n u.generators u.lines → IsSum t s u
+pub sum_by_points : (t s u : Thing) (n : ℕ) → t.cols ≡ n → 0 < n → IsPolytopeThing n t.generators t.lines → IsPolytopeThing n s.generators s.lines → IsInhabited n (cone_of t) → IsInhabited n (cone_of s) → IsPolytopeThing n u.generators u.lines → IsSum t s u
     → IsSumOf n (cone_of t) (cone_of s) (cone_of u)
 sum_by_points t s u n tn some tp tq p q tu is_sum = record {
   generators = tu.cone.generators;

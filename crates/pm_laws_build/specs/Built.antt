@@ -1,4 +1,6 @@
--- Polytopes that are built, by their points (Ziegler, Lectures on Polytopes, examples 0.4 and 0.6, sections 1.5 and 2.3). A row x of the cone over a polytope with x_0 > 0 is its point (x_1/x_0, .., x_d/x_0), and by its points a polytope is told.
+-- Polytopes that are built, by their points (Ziegler, Lectures on Polytopes, examples 0.4 and 0.6, sections 1.5 and
+-- 2.3). A row x of the cone over a polytope with x_0 > 0 is its point (x_1/x_0, .., x_d/x_0), and by its points a
+-- polytope is told.
 use Rattle.std.specs.Prelude.{ℕ, suc, ◌+◌, ◌-◌, ◌≡◌, ◌<◌, ◌↔◌, List, [], ◌∷◌, ◌++◌, drop, length, map, take}
 use Rattle.pm_vector.specs.Cones.{InCone}
 use Rattle.pm_vector.specs.Rows.{Row, Same, dot, entry, plus, times}

@@ -10,7 +10,16 @@ use lib.IntN.{pos, negsuc}
 
 -- the polytope of these rows of n entries
 abbrev pub generated : ℕ → List Row → Thing
-generated n G = record { of = Polytope; cols = n; generators = G; lines = []; cones = []; objective = λ s. []; sites = []; heights = [] }
+generated n G = record {
+  of = Polytope;
+  cols = n;
+  generators = G;
+  lines = [];
+  cones = [];
+  objective = λ s. [];
+  sites = [];
+  heights = [];
+}
 
 -- from 0 to 1
 abbrev pub unit_segment : Thing
@@ -38,7 +47,8 @@ high_segment = generated 3 ((pos 1 ∷ pos 0 ∷ pos 5 ∷ []) ∷ (pos 1 ∷ po
 
 -- with the corners (0, 0), (1, 0) and (0, 1)
 abbrev pub triangle : Thing
-triangle = generated 3 ((pos 1 ∷ pos 0 ∷ pos 0 ∷ []) ∷ (pos 1 ∷ pos 1 ∷ pos 0 ∷ []) ∷ (pos 1 ∷ pos 0 ∷ pos 1 ∷ []) ∷ [])
+triangle = generated 3 ((pos 1 ∷ pos 0 ∷ pos 0 ∷ []) ∷ (pos 1 ∷ pos 1 ∷ pos 0 ∷ [])
+    ∷ (pos 1 ∷ pos 0 ∷ pos 1 ∷ []) ∷ [])
 
 -- standard polytopes in one dimension
 pub record ShapesAreRead : Type 0 where
@@ -82,7 +92,16 @@ pub record OthersAreRead : Type 0 where
 
 -- the polytope that a cone of n columns stands for
 abbrev pub of_cone : ℕ → Cone → Thing
-of_cone n P = record { of = Polytope; cols = n; generators = P.generators; lines = P.lines; cones = []; objective = λ s. []; sites = []; heights = [] }
+of_cone n P = record {
+  of = Polytope;
+  cols = n;
+  generators = P.generators;
+  lines = P.lines;
+  cones = [];
+  objective = λ s. [];
+  sites = [];
+  heights = [];
+}
 
 -- sums of edges and of points
 pub record MinkowskiSumsAreRead : Type 0 where

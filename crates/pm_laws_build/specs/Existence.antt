@@ -1,4 +1,5 @@
--- What is built exists: of each shape there is a polytope, each polytope has a polar and a pyramid, and each two have a product (Ziegler, Lectures on Polytopes, sections 0, 1.5 and 2.3). So what new objects describe is never nothing.
+-- What is built exists: of each shape there is a polytope, each polytope has a polar and a pyramid, and each two have
+-- a product (Ziegler, Lectures on Polytopes, sections 0, 1.5 and 2.3). So what new objects describe is never nothing.
 use Rattle.std.specs.Prelude.{ℕ, ◌+◌, ◌≡◌, ◌≤◌}
 use Rattle.pm_geom.specs.Things.{Orders}
 use Rattle.pm_object_type.specs.declared.object_type.ObjectType.TheVariants.{Polytope}
@@ -33,7 +34,8 @@ PolarsExist = (t : Thing) → IsSomePolytope t → SomeThing (IsPolar t)
 
 -- each two polytopes of at most 34 columns together have a product
 abbrev pub ProductsExist : Type 0
-ProductsExist = (t s : Thing) → IsSomePolytope t → IsSomePolytope s → t.cols + s.cols ≤ (most_columns + 1) → SomeThing (IsProduct t s)
+ProductsExist = (t s : Thing) → IsSomePolytope t → IsSomePolytope s → t.cols + s.cols ≤ (most_columns + 1)
+    → SomeThing (IsProduct t s)
 
 -- each polytope of at most 32 columns has a pyramid
 abbrev pub PyramidsExist : Type 0

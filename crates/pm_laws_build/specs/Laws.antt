@@ -19,7 +19,14 @@ use Rattle.pm_build.specs.Sums.{IsSumFile}
 
 -- the object that is given these values
 abbrev pub opened : SavedFile → State
-opened f = record { of = f.of; held = map (λ v. record { place = None; property = v.0; value = v.1; origin = Given }) f.values; excluded = []; rounds = []; disabled = []; programs = [] }
+opened f = record {
+  of = f.of;
+  held = map (λ v. record { place = None; property = v.0; value = v.1; origin = Given }) f.values;
+  excluded = [];
+  rounds = [];
+  disabled = [];
+  programs = [];
+}
 
 -- what it then holds: these values, and what goes without saying of them
 abbrev pub settled_facts : SavedFile → List Fact
@@ -36,7 +43,8 @@ pub record ReadRight (ps : List PropId) (a : State) (t : Thing) (o : Orders) : T
   pub orders : AreOrders t o
   pub of : t.of ≡ Polytope
   pub cols : t.cols ≡ cols_at a
-  pub values : All (λ p. (v : PropertyValue) → value_of p (read_at None a.held) ≡ Some v → Right p v t o []) ps
+  pub values : All (λ p. (v : PropertyValue) → value_of p (read_at None a.held) ≡ Some v
+      → Right p v t o []) ps
 
 -- ---- the laws
 -- the values of a cube are right for the cube
@@ -57,16 +65,22 @@ CyclicIsDescribed = (d n : ℕ) (u : Thing) → 0 < n → IsCyclic d n u → Des
 
 -- those of a pyramid over each polytope for which the values read are right
 abbrev pub PyramidIsDescribed : Type 0
-PyramidIsDescribed = (a : State) (t : Thing) (o : Orders) (u : Thing) → ReadRight pyramid_reads a t o → IsPyramid t u → Describes (pyramid_of a) u
+PyramidIsDescribed = (a : State) (t : Thing) (o : Orders) (u : Thing) → ReadRight pyramid_reads a t o
+    → IsPyramid t u → Describes (pyramid_of a) u
 
 -- those of a product of two such polytopes
 abbrev pub ProductIsDescribed : Type 0
-ProductIsDescribed = (a b : State) (t : Thing) (o : Orders) (s : Thing) (p : Orders) (u : Thing) → ReadRight product_reads a t o → ReadRight product_reads b s p → IsProduct t s u → Describes (product_of a b) u
+ProductIsDescribed = (a b : State) (t : Thing) (o : Orders) (s : Thing) (p : Orders) (u : Thing)
+    → ReadRight product_reads a t o → ReadRight product_reads b s p → IsProduct t s u
+    → Describes (product_of a b) u
 
 -- those of a polar of such a polytope, where no condition fails
 abbrev pub PolarIsDescribed : Type 0
-PolarIsDescribed = (a : State) (t : Thing) (o : Orders) (u : Thing) → ReadRight polar_reads a t o → polar_refusal a ≡ None → IsPolar t u → Describes (polar_of a) u
+PolarIsDescribed = (a : State) (t : Thing) (o : Orders) (u : Thing) → ReadRight polar_reads a t o
+    → polar_refusal a ≡ None → IsPolar t u → Describes (polar_of a) u
 
 -- those of a sum of two such polytopes, bounded or not, where no condition fails
 abbrev pub SumIsDescribed : Type 0
-SumIsDescribed = (a b : State) (t : Thing) (o : Orders) (s : Thing) (p : Orders) (u : Thing) (f : SavedFile) → ReadRight sum_reads a t o → ReadRight sum_reads b s p → sum_refusal a b ≡ None → IsSumFile a b f → IsSum t s u → Describes f u
+SumIsDescribed = (a b : State) (t : Thing) (o : Orders) (s : Thing) (p : Orders) (u : Thing) (f : SavedFile)
+    → ReadRight sum_reads a t o → ReadRight sum_reads b s p → sum_refusal a b ≡ None → IsSumFile a b f
+    → IsSum t s u → Describes f u

@@ -1,4 +1,5 @@
-//! Which polytopes new objects are: what their values are right for. It has no code.
+//! Which polytopes new objects are: what their values are right for. It has no code. It knows nothing of rules,
+//! clients and sessions.
 #![tactic(auto)]
 
 ghost use Rattle.pm_laws_build.specs.Existence.{PolarsExist, ProductsExist, PyramidsExist, ShapesExist};
@@ -68,8 +69,8 @@ pub fn law_pyramids_exist()
     ensures { PyramidsExist }
 {}
 
-/// The values of a Minkowski sum are right for the sum of each two polytopes for which the values read are right, bounded or
-/// not.
+/// The values of a Minkowski sum are right for the sum of each two polytopes for which the values read are right,
+/// bounded or not.
 pub fn law_sum_is_described()
     ensures { SumIsDescribed }
 {}

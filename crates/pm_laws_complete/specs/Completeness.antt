@@ -1,4 +1,6 @@
--- What the standard book finds of a polytope or cone (Gawrilow and Joswig, polymake: a framework for analyzing convex polytopes; Ziegler, Lectures on Polytopes, theorem 1.1: a description by generators and one by half-spaces determine each other).
+-- What the standard book finds of a polytope or cone (Gawrilow and Joswig, polymake: a framework for analyzing convex
+-- polytopes; Ziegler, Lectures on Polytopes, theorem 1.1: a description by generators and one by half-spaces
+-- determine each other).
 use Rattle.std.specs.Prelude.{ℕ, ◌≡◌, ◌||◌, ◌⊎◌, Bool, IsTrue, None, Option, Some, false, List, [], ◌∷◌, filter}
 use Rattle.std.specs.List.{All, Contains}
 use Rattle.pm_props.specs.declared.kind.RuleId.{RuleId}
@@ -16,9 +18,11 @@ use Rattle.pm_rules.specs.declared.rule.Rule.{Rule}
 
 -- the four descriptions, by two properties each
 abbrev pub descriptions : List (PropId × PropId)
-descriptions = (Points, InputLineality) ∷ (Inequalities, Equations) ∷ (Vertices, LinealitySpace) ∷ (Facets, AffineHull) ∷ []
+descriptions = (Points, InputLineality) ∷ (Inequalities, Equations) ∷ (Vertices, LinealitySpace)
+    ∷ (Facets, AffineHull) ∷ []
 
--- the property has a tag: it speaks of the order of rays or facets, or is half of POINTS and INPUT_LINEALITY, or of INEQUALITIES and EQUATIONS
+-- the property has a tag: it speaks of the order of rays or facets, or is half of POINTS and INPUT_LINEALITY, or of
+-- INEQUALITIES and EQUATIONS
 abbrev pub is_tagged : PropId → Bool
 is_tagged p = rays_tag p || facets_tag p || generators_tag p || half_spaces_tag p
 
@@ -51,9 +55,14 @@ names_for sub of = set_of (filter (is_in_use sub of) every_property)
 
 -- no rule of the standard book is barred
 abbrev pub BarsNone : List RuleId → Type 0
-BarsNone barred = (id : RuleId) (rule : Rule) → rule_at standard_rules id ≡ Some rule → is_barred barred id ≡ false
+BarsNone barred = (id : RuleId) (rule : Rule) → rule_at standard_rules id ≡ Some rule
+    → is_barred barred id ≡ false
 
--- where none is, a chain of the standard book leads from such names to each property of the table for which what it needs is held, and, where a linear program with an objective is asked, of the table of programs
+-- where none is, a chain of the standard book leads from such names to each property of the table for which what it
+-- needs is held, and, where a linear program with an objective is asked, of the table of programs
 abbrev pub StandardBookIsComplete : Type 0
-StandardBookIsComplete = (sub : Option ℕ) (of : ObjectType) → ¬ (of ≡ Fan) → (d : PropId × PropId) → Contains descriptions d → (held : PropSet) → HoldsAlone d held → HoldsObjective sub held
-    → (barred : List RuleId) → BarsNone barred → (p : PropId) → IsTrue (has (names_for sub of) p) → HoldsNeeds p held → (chain : List RuleId) × LeadsTo standard_rules (names_for sub of) barred held (only p) chain
+StandardBookIsComplete = (sub : Option ℕ) (of : ObjectType) → ¬ (of ≡ Fan) → (d : PropId × PropId)
+    → Contains descriptions d → (held : PropSet) → HoldsAlone d held → HoldsObjective sub held
+    → (barred : List RuleId) → BarsNone barred → (p : PropId) → IsTrue (has (names_for sub of) p)
+    → HoldsNeeds p held → (chain : List RuleId)
+    × LeadsTo standard_rules (names_for sub of) barred held (only p) chain

@@ -67,7 +67,9 @@ pub record DescriptionsAreRead : Type 0 where
 abbrev pub segment : State
 segment = record {
   of = Polytope;
-  held = held_value ConeAmbientDim (whole (pos 2)) ∷ held_value Points (matrix 2 (ratios (pos 1 ∷ pos 0 ∷ []) ∷ ratios (pos 1 ∷ pos 1 ∷ []) ∷ [])) ∷ held_value InputLineality (matrix 0 []) ∷ [];
+  held = held_value ConeAmbientDim (whole (pos 2))
+      ∷ held_value Points (matrix 2 (ratios (pos 1 ∷ pos 0 ∷ []) ∷ ratios (pos 1 ∷ pos 1 ∷ []) ∷ []))
+      ∷ held_value InputLineality (matrix 0 []) ∷ [];
   excluded = [];
   rounds = [];
   disabled = [];
@@ -82,7 +84,9 @@ pub record ObjectsAreRead : Type 0 where
   pub alone : HoldsAlone by_points (held_names None segment)
   -- nothing is barred, until a label is disabled or a client is missing
   pub free : BarsNothing None (configuration segment all_clients)
-  pub disabled : ¬ (BarsNothing None (configuration (record segment { disabled = codes "dd_facets" ∷ [] }) all_clients))
+  pub disabled
+      : ¬ (BarsNothing None
+      (configuration (record segment { disabled = codes "dd_facets" ∷ [] }) all_clients))
   pub no_clients : ¬ (BarsNothing None (configuration segment []))
   -- nor for a program of it
   pub free_for_programs : BarsNothing (Some 0) (configuration segment all_clients)

@@ -1,6 +1,6 @@
-//! What the standard book finds: of a polytope or cone that holds one of the four descriptions, each property of its type;
-//! and what a command finds by any book: all that is asked, where a chain leads to it and no client fails.
-//! It has no code.
+//! What the standard book finds: of a polytope or cone that holds one of the four descriptions, each property of its
+//! type; and what a command finds by any book: all that is asked, where a chain leads to it and no client fails. It
+//! has no code. It knows nothing of how an answer is found.
 #![tactic(auto)]
 
 ghost use Rattle.pm_laws_complete.specs.Comes.{GiveComes, StandardChainLeadsNow, ValueComes};
@@ -13,25 +13,26 @@ pub fn law_standard_book_is_complete()
     ensures { StandardBookIsComplete }
 {}
 
-/// Where an object holds one description alone, and no rule is barred for it, no property of its table is refused for want of a chain.
+/// Where an object holds one description alone, and no rule is barred for it, no property of its table is refused for
+/// want of a chain.
 pub fn law_some_chain_leads()
     ensures { SomeChainLeads }
 {}
 
-/// Where a chain of rules that are not barred leads from the settled object to what is asked, the planner is not crowded and
-/// no started rule fails or finds a false precondition, all that is asked is found.
+/// Where a chain of rules that are not barred leads from the settled object to what is asked, the planner is not
+/// crowded and no started rule fails or finds a false precondition, all that is asked is found.
 pub fn law_value_comes()
     ensures { ValueComes }
 {}
 
-/// So `give` is not refused for want of a chain, where one led there as the object was settled and no rule that it started failed
-/// or found a false precondition.
+/// So `give` is not refused for want of a chain, where one led there as the object was settled and no rule that it
+/// started failed or found a false precondition.
 pub fn law_give_comes()
     ensures { GiveComes }
 {}
 
-/// By the standard book one leads there, where the settled object is a polytope or cone that holds one description alone, and
-/// nothing is barred for it: then the value comes, or the planner is crowded, or a rule failed.
+/// By the standard book one leads there, where the settled object is a polytope or cone that holds one description
+/// alone, and nothing is barred for it: then the value comes, or the planner is crowded, or a rule failed.
 pub fn law_standard_chain_leads_now()
     ensures { StandardChainLeadsNow }
 {}

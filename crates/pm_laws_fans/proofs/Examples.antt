@@ -24,7 +24,7 @@ use Rattle.pm_relations.proofs.Sites.{no_sites}
 use Rattle.pm_types.specs.Right.{AreConeRays, InLines, RowsAreBasis, StandFor}
 use Rattle.pm_types.specs.Things.{AreObjectives, IsThing, Thing}
 use Rattle.pm_types.specs.Values.{Fact, matrix, whole}
-use Rattle.pm_object_type.specs.declared.object_type.ObjectType.TheVariants.{Cone, Fan, Polytope}
+use Rattle.pm_object_type.specs.declared.object_type.ObjectType.TheVariants.{Fan, Polytope}
 use Rattle.pm_object_type.specs.declared.object_type.ObjectType.{ObjectType}
 use Rattle.std.proofs.Common.{Bool, ap, arith, false, refl, subst, sym, true, true≢false}
 use Rattle.std.proofs.lemmas.Int.{ints}

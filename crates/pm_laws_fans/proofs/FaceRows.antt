@@ -1,14 +1,14 @@
 -- The rows of a face fan describe the face fan.
-use Rattle.pm_vector.proofs.ConeLaws.{in_zero, lines_opposite}
+use Rattle.pm_vector.proofs.ConeLaws.{in_zero}
 use Rattle.pm_vector.proofs.Lists.{All_among, Among, Contains_among, all_from, among_All, among_Any, among_Contains, here, there}
-use Rattle.pm_vector.proofs.RowLaws.{dot_comm, entry-plus, entry-times, length-zeros, zeros}
+use Rattle.pm_vector.proofs.RowLaws.{dot_comm, length-zeros, zeros}
 use Rattle.pm_vector.specs.Cones.{InCone, InSpan}
 use Rattle.pm_vector.specs.Rows.{HasCols, IsZero, Row, dot, entry}
 use Rattle.pm_fan.specs.Conditions.{face_reads}
 use Rattle.pm_fan.specs.Fans.{cut, fan_cols, fan_with, is_point, only_apex}
 use Rattle.pm_laws_fans.proofs.Described.{pointed_described}
 use Rattle.pm_laws_fans.proofs.FanRows.{sets_right}
-use Rattle.pm_laws_fans.proofs.Members.{cut_stand, order_length, rests_order, stand_length}
+use Rattle.pm_laws_fans.proofs.Members.{cut_stand, order_length, rests_order, stand_length, rests_alike}
 use Rattle.pm_laws_fans.proofs.NormalRows.{fan_thing_of, polytope_of, refused}
 use Rattle.pm_laws_build.proofs.ReadRights.{RightRows, read_rows, read_value, right_vertices, true_value}
 use Rattle.pm_laws_fans.proofs.ReadSets.{RightSets, read_sets}
@@ -85,17 +85,7 @@ module _ (m : ℕ) (P : Cone) (V F U : List Row) (around : IsCenteredPolytope (s
     likeness : (v x : Row) → SameModulo (suc m) (In P) v x → SameModulo m (InSpan u.lines) (rest v) (rest x)
     likeness v x s =
         let z = line_zero (suc m) (In P) (corner m P V F around orders) s.w s.cols s.line in
-        let l : InSpan u.lines (rest s.w) = in_zero (λ i. let e = entry-rest s.w i in let o = z (suc i) in e ∙ o) in
-        record {
-          p = s.p;
-          k = s.k;
-          w = rest s.w;
-          cols = length-rest m s.w s.cols;
-          p_positive = s.p_positive;
-          k_positive = s.k_positive;
-          line = record { inside = l; opposed = lines_opposite u.lines (rest s.w) l };
-          same = record { at = λ i. let e = simp (entry-times, entry-plus) at (s.same.at (suc i)) in let a = entry-rest v i in let c = entry-rest x i in let d = entry-rest s.w i in simp (entry-times, entry-plus, a, c, d, e) };
-        }
+        rests_alike m (In P) u.lines v x s (in_zero (λ i. let e = entry-rest s.w i in let o = z (suc i) in e ∙ o))
 
     pub rays_in_order : (X : List Row) → InOrder (SameModulo (suc m) (In P)) U X → InOrder (SameModulo m (InSpan u.lines)) moved.orders.rays (rests X)
     rays_in_order X o = subst (λ R. InOrder (SameModulo m (InSpan u.lines)) R (rests X)) (sym moved.rays) (rests_order (SameModulo (suc m) (In P)) (SameModulo m (InSpan u.lines)) likeness U X o)

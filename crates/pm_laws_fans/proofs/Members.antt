@@ -1,4 +1,9 @@
 -- Sets of places, and the rows that stand at the sets with members.
+use Rattle.pm_laws_normal_fans.proofs.Lifts.{entry-rest, length-rest}
+use Rattle.pm_geom.specs.Cones.{SameModulo}
+use Rattle.pm_vector.specs.Cones.{InSpan}
+use Rattle.pm_vector.proofs.RowLaws.{entry-plus, entry-times}
+use Rattle.pm_vector.proofs.ConeLaws.{lines_opposite}
 use Rattle.pm_vector.proofs.Filters.{any_from, any_to}
 use Rattle.pm_vector.proofs.Lists.{AllPairs_cons, Among, Any_among, Contains_among, among_Any, among_Contains, here, there}
 use Rattle.pm_vector.specs.Numbers.{Ratio}
@@ -99,6 +104,19 @@ order_length R [] [] o = refl
 order_length R [] (x ∷ X) o = absurd o
 order_length R (v ∷ V) [] o = absurd o
 order_length R (v ∷ V) (x ∷ X) o = ap suc (order_length R V X o.1)
+
+-- rows that are alike modulo a part that, without its first entry, is in the lines, are alike without their first entries
+pub rests_alike : (m : ℕ) (S : Row → Type 0) (lines : List Row) (v x : Row) → (s : SameModulo (suc m) S v x) → InSpan lines (rest s.w) → SameModulo m (InSpan lines) (rest v) (rest x)
+rests_alike m S lines v x s l = record {
+  p = s.p;
+  k = s.k;
+  w = rest s.w;
+  cols = length-rest m s.w s.cols;
+  p_positive = s.p_positive;
+  k_positive = s.k_positive;
+  line = record { inside = l; opposed = lines_opposite lines (rest s.w) l };
+  same = record { at = λ i. let e = simp (entry-times, entry-plus) at (s.same.at (suc i)) in let a = entry-rest v i in let c = entry-rest x i in let d = entry-rest s.w i in simp (entry-times, entry-plus, a, c, d, e) };
+}
 
 pub rests_order : (R Q : Row → Row → Type 0) → ((v x : Row) → R v x → Q (rest v) (rest x)) → (V X : List Row) → InOrder R V X → InOrder Q (rests V) (rests X)
 rests_order R Q f [] [] o = tt

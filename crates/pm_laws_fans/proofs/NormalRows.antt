@@ -1,14 +1,13 @@
 -- The rows of a normal fan describe the normal fan.
-use Rattle.pm_vector.proofs.ConeLaws.{lines_opposite}
 use Rattle.pm_vector.proofs.Lists.{All_among, Contains_among, all_from, among_All, here, there}
-use Rattle.pm_vector.proofs.RowLaws.{dot_comm, entry-plus, entry-times}
+use Rattle.pm_vector.proofs.RowLaws.{dot_comm}
 use Rattle.pm_vector.specs.Cones.{InCone, InSpan}
 use Rattle.pm_vector.specs.Rows.{HasCols, IsZero, Row, dot, entry}
 use Rattle.pm_fan.specs.Conditions.{normal_reads}
 use Rattle.pm_fan.specs.Fans.{cut, has_members, holders_from, normal_rays, with_members}
 use Rattle.pm_laws_fans.proofs.Described.{fan_described}
 use Rattle.pm_laws_fans.proofs.FanRows.{rests_independent, sets_right}
-use Rattle.pm_laws_fans.proofs.Members.{cut_stand, held_at_sets, holders_are, kept_among, kept_once, kept_order, kept_rows, kept_stand, order_length, rests_order, stand_length, used_all, used_each}
+use Rattle.pm_laws_fans.proofs.Members.{cut_stand, held_at_sets, holders_are, kept_among, kept_once, kept_order, kept_rows, kept_stand, order_length, rests_order, stand_length, used_all, used_each, rests_alike}
 use Rattle.pm_laws_build.proofs.ReadRights.{RightRows, read_rows, read_value, right_facets, right_hull, right_vertices, true_value}
 use Rattle.pm_laws_fans.proofs.ReadSets.{RightSets, read_sets}
 use Rattle.pm_laws_fans.specs.Laws.{NormalFanIsDescribed, cone_of, fan_of}
@@ -21,7 +20,7 @@ use Rattle.pm_geom.specs.Cones.{IsValid, SameModulo, Vanishes}
 use Rattle.pm_geom.specs.Faces.{ray}
 use Rattle.pm_geom.specs.Things.{AreConeOrders, IsPolytopeThing}
 use Rattle.pm_laws_normal_fans.proofs.FacetFans.{normal_fan_of_facets}
-use Rattle.pm_laws_normal_fans.proofs.Lifts.{among_rests, entry-rest, in_rest, length-rest}
+use Rattle.pm_laws_normal_fans.proofs.Lifts.{among_rests, in_rest, length-rest}
 use Rattle.pm_laws_normal_fans.proofs.NormalFans.{some_vertex}
 use Rattle.pm_laws_normal_fans.proofs.OneFan.{normal_fans_same}
 use Rattle.pm_laws_normal_fans.proofs.Places.{map_at, map_length, range_at, range_length}
@@ -106,18 +105,7 @@ module _ (m : ℕ) (P : Cone) (V F E xs : List Row) (sets : List (List ℕ)) (so
 
     -- ---- the rays
     likeness : (b x : Row) → SameModulo (suc m) (IsValid (suc m) P.generators P.lines) b x → SameModulo m (InSpan u.lines) (rest b) (rest x)
-    likeness b x s =
-        let l = line_below s.w s.cols ((vanishes_line (suc m) P.generators P.lines hg hl s.w s.cols).1 s.line) in
-        record {
-          p = s.p;
-          k = s.k;
-          w = rest s.w;
-          cols = length-rest m s.w s.cols;
-          p_positive = s.p_positive;
-          k_positive = s.k_positive;
-          line = record { inside = l; opposed = lines_opposite u.lines (rest s.w) l };
-          same = record { at = λ i. let e = simp (entry-times, entry-plus) at (s.same.at (suc i)) in let a = entry-rest b i in let c = entry-rest x i in let d = entry-rest s.w i in simp (entry-times, entry-plus, a, c, d, e) };
-        }
+    likeness b x s = rests_alike m (IsValid (suc m) P.generators P.lines) u.lines b x s (line_below s.w s.cols ((vanishes_line (suc m) P.generators P.lines hg hl s.w s.cols).1 s.line))
 
     pub rays_in_order : InOrder (SameModulo m (InSpan u.lines)) moved.orders.rays (rests (kept_rows sets xs))
     rays_in_order = subst (λ R. InOrder (SameModulo m (InSpan u.lines)) R (rests (kept_rows sets xs))) (sym moved.rays) (rests_order (SameModulo (suc m) (IsValid (suc m) P.generators P.lines)) (SameModulo m (InSpan u.lines)) likeness used_rows (kept_rows sets xs) (kept_order (SameModulo (suc m) (IsValid (suc m) P.generators P.lines)) sets F xs alike))

@@ -19,11 +19,29 @@ zero_objective n = map (λ k. record { num = pos 0; den = pos 1 }) (range_with_l
 
 -- the polytope that these rows of n entries generate
 abbrev pub polytope : ℕ → List Row → Thing
-polytope n V = record { of = Polytope; cols = n; generators = V; lines = []; cones = []; objective = λ s. zero_objective n; sites = []; heights = [] }
+polytope n V = record {
+  of = Polytope;
+  cols = n;
+  generators = V;
+  lines = [];
+  cones = [];
+  objective = λ s. zero_objective n;
+  sites = [];
+  heights = [];
+}
 
 -- the fan of these cones over these lines, in n columns
 abbrev pub fan_thing : ℕ → List (List Row) → List Row → Thing
-fan_thing n cones lines = record { of = Fan; cols = n; generators = []; lines = lines; cones = cones; objective = λ s. zero_objective n; sites = []; heights = [] }
+fan_thing n cones lines = record {
+  of = Fan;
+  cols = n;
+  generators = [];
+  lines = lines;
+  cones = cones;
+  objective = λ s. zero_objective n;
+  sites = [];
+  heights = [];
+}
 
 -- which fans are those of which polytopes, and what values describe
 pub record FansAreRead : Type 0 where
@@ -34,7 +52,8 @@ pub record FansAreRead : Type 0 where
   pub no_cones : ¬ (IsNormalFanOf (polytope 3 square) (fan_thing 2 [] []))
   -- the cones over the edges, and not the normal fan
   pub face : IsFaceFanOf (polytope 3 even_corners) (fan_thing 2 over_edges [])
-  pub face_cone : ¬ (IsFaceFanOf (polytope 3 even_corners) (record (fan_thing 2 over_edges []) { of = Cone }))
+  pub face_cone
+      : ¬ (IsFaceFanOf (polytope 3 even_corners) (record (fan_thing 2 over_edges []) { of = Cone }))
   pub face_columns : ¬ (IsFaceFanOf (polytope 4 even_corners) (fan_thing 2 over_edges []))
   pub other_fan : ¬ (IsFaceFanOf (polytope 3 even_corners) (fan_thing 2 quadrants []))
   -- the face fan of a point is {0}: not the line, since no value says that there is a lineality; that of a square lies

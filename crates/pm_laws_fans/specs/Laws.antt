@@ -56,7 +56,8 @@ pub record ReadRightFan (ps : List PropId) (a : State) (t : Thing) (o : Orders) 
   pub orders : AreOrders t o
   pub of : t.of ≡ OfFan
   pub cols : t.cols ≡ cols_at a
-  pub values : All (λ p. (v : PropertyValue) → value_of p (read_at None a.held) ≡ Some v → Right p v t o []) ps
+  pub values : All (λ p. (v : PropertyValue) → value_of p (read_at None a.held) ≡ Some v
+      → Right p v t o []) ps
 
 -- the values are right for the fan, in some orders of its rays and cones
 abbrev pub DescribesFan : SavedFile → Thing → Type 0
@@ -65,22 +66,29 @@ DescribesFan f u = (p : Orders) × RightAll (settled_facts f) u p
 -- ---- the laws
 -- the values of a normal fan are right for the normal fan of each polytope for which the values read are right
 abbrev pub NormalFanIsDescribed : Type 0
-NormalFanIsDescribed = (a : State) (t : Thing) (o : Orders) (u : Thing) → ReadRight normal_reads a t o → normal_refusal a ≡ None → IsThing u → IsNormalFanOf t u → DescribesFan (normal_fan_of a) u
+NormalFanIsDescribed = (a : State) (t : Thing) (o : Orders) (u : Thing) → ReadRight normal_reads a t o
+    → normal_refusal a ≡ None → IsThing u → IsNormalFanOf t u → DescribesFan (normal_fan_of a) u
 
 -- those of a face fan are right for its face fan
 abbrev pub FaceFanIsDescribed : Type 0
-FaceFanIsDescribed = (a : State) (t : Thing) (o : Orders) (u : Thing) → ReadRight face_reads a t o → face_refusal a ≡ None → IsThing u → IsFaceFanOf t u → DescribesFan (face_fan_of a) u
+FaceFanIsDescribed = (a : State) (t : Thing) (o : Orders) (u : Thing) → ReadRight face_reads a t o
+    → face_refusal a ≡ None → IsThing u → IsFaceFanOf t u → DescribesFan (face_fan_of a) u
 
--- those of a common refinement are right for the common refinement of each two fans for which the values read are right
+-- those of a common refinement are right for the common refinement of each two fans for which the values read are
+-- right
 abbrev pub RefinementIsDescribed : Type 0
-RefinementIsDescribed = (a b : State) (t : Thing) (o : Orders) (s : Thing) (p : Orders) (u : Thing) (f : SavedFile) → ReadRightFan refine_reads a t o → ReadRightFan refine_reads b s p → IsRefinementFile a b f → IsThing u → IsRefinementOfFans t s u → DescribesFan f u
+RefinementIsDescribed = (a b : State) (t : Thing) (o : Orders) (s : Thing) (p : Orders) (u : Thing)
+    (f : SavedFile) → ReadRightFan refine_reads a t o → ReadRightFan refine_reads b s p
+    → IsRefinementFile a b f → IsThing u → IsRefinementOfFans t s u → DescribesFan f u
 
 -- t is a bounded polytope, and not empty
 pub record IsBounded (t : Thing) : Type 0 where
   pub of : t.of ≡ Polytope
   pub bounded : IsBoundedPolytope t.cols (cone_of t)
 
--- a fan is the normal fan of the sum of two bounded polytopes that are not empty exactly where it is the common refinement
--- of their normal fans (Ziegler, proposition 7.12)
+-- a fan is the normal fan of the sum of two bounded polytopes that are not empty exactly where it is the common
+-- refinement of their normal fans (Ziegler, proposition 7.12)
 abbrev pub NormalFanOfSum : Type 0
-NormalFanOfSum = (t s u f g h : Thing) → IsBounded t → IsBounded s → IsThing u → IsSum t s u → s.cols ≡ t.cols → IsNormalFanOf t f → IsNormalFanOf s g → h.of ≡ OfFan → t.cols ≡ suc h.cols → IsNormalFanOf u h ↔ IsRefinementOfFans f g h
+NormalFanOfSum = (t s u f g h : Thing) → IsBounded t → IsBounded s → IsThing u → IsSum t s u
+    → s.cols ≡ t.cols → IsNormalFanOf t f → IsNormalFanOf s g → h.of ≡ OfFan → t.cols ≡ suc h.cols
+    → IsNormalFanOf u h ↔ IsRefinementOfFans f g h

@@ -1,4 +1,5 @@
-//! Which fans the fans of polytopes are: what their values are right for. It has no code.
+//! Which fans the fans of polytopes are: what their values are right for. It has no code. It knows nothing of rules,
+//! clients and sessions.
 #![tactic(auto)]
 
 ghost use Rattle.pm_laws_fans.specs.Examples.{FansAreRead, RefinementsOfFansAreRead};
@@ -14,8 +15,8 @@ pub fn law_face_fan_is_described()
     ensures { FaceFanIsDescribed }
 {}
 
-/// The values of a common refinement are right for the common refinement of each two fans for which the values read are
-/// right.
+/// The values of a common refinement are right for the common refinement of each two fans for which the values read
+/// are right.
 pub fn law_refinement_is_described()
     ensures { RefinementIsDescribed }
 {}

@@ -26,9 +26,12 @@ pub record LabelsAreRead : Type 0 where
   pub same : (rule : Rule) → bytes_again rule (failed_by (codes "b")) ≡ file_bytes (failed_by (codes "b"))
   -- it has no label c: that mark is read over, and is not saved again
   pub no_label : (rule : Rule) → ¬ (HasLabels (two_rules rule) (failed_by (codes "c")))
-  pub not_same : (rule : Rule) → bytes_again rule (failed_by (codes "c")) ≢ file_bytes (failed_by (codes "c"))
+  pub not_same : (rule : Rule)
+      → bytes_again rule (failed_by (codes "c")) ≢ file_bytes (failed_by (codes "c"))
   -- nor may a program have it
-  pub no_program_label : (rule : Rule) → ¬ (HasLabels (two_rules rule) (small_polytope (program (Some (codes "x")) None ((codes "c", 4) ∷ []) ∷ [])))
+  pub no_program_label : (rule : Rule)
+      → ¬ (HasLabels (two_rules rule)
+      (small_polytope (program (Some (codes "x")) None ((codes "c", 4) ∷ []) ∷ [])))
   -- the column count of a cone goes without saying: it is filled in, and saved
   pub settled : (rule : Rule) → IsSettled (two_rules rule) (failed_by (codes "c"))
   pub not_settled : (rule : Rule) → ¬ (IsSettled (two_rules rule) no_values)

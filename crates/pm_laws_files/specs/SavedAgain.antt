@@ -23,7 +23,10 @@ pub record HasLabels (book : List Rule) (f : SavedFile) : Type 0 where
 abbrev pub IsSettled : List Rule → SavedFile → Type 0
 IsSettled book f = settling (unsettled_object book f) ≡ []
 
--- Bytes that are the JSON of a whole file f, as those of every saved object are, are read as a file g: where settling adds nothing to it and the book has all labels, the object that is made of it is saved as the bytes of f again.
+-- Bytes that are the JSON of a whole file f, as those of every saved object are, are read as a file g: where settling
+-- adds nothing to it and the book has all labels, the object that is made of it is saved as the bytes of f again.
 abbrev pub SavedAgain : Type 0
-SavedAgain = (book : List Rule) (bytes : List ℕ) (f : SavedFile) → IsWhole f → data_in bytes ≡ Ok (file_json f)
-    → (g : SavedFile) → Reads bytes g → IsSettled book g → HasLabels book g → file_bytes (saved_file book (loaded_object book g)) ≡ file_bytes f
+SavedAgain = (book : List Rule) (bytes : List ℕ) (f : SavedFile) → IsWhole f
+    → data_in bytes ≡ Ok (file_json f)
+    → (g : SavedFile) → Reads bytes g → IsSettled book g → HasLabels book g
+    → file_bytes (saved_file book (loaded_object book g)) ≡ file_bytes f

@@ -1,11 +1,12 @@
-//! What becomes of data files: which are saved as the same bytes again after they were loaded. It has no code.
+//! What becomes of data files: which are saved as the same bytes again after they were loaded. It has no code. It
+//! knows nothing of clients and sessions.
 #![tactic(auto)]
 
 ghost use Rattle.pm_laws_files.specs.Examples.{LabelsAreRead};
 ghost use Rattle.pm_laws_files.specs.SavedAgain.{SavedAgain};
 
-/// What was saved and is loaded is saved as the same bytes again, where settling adds nothing to it and the book has the
-/// label of each mark.
+/// What was saved and is loaded is saved as the same bytes again, where settling adds nothing to it and the book has
+/// the label of each mark.
 pub fn law_saved_again()
     ensures { SavedAgain }
 {}

@@ -11,7 +11,7 @@ use Rattle.pm_geom.proofs.Square.{square_is_read}
 use Rattle.pm_geom.specs.Cones.{IsExtremeRay}
 use Rattle.pm_geom.specs.Examples.{half_line, pair, square, triple}
 use Rattle.pm_laws_normal_fans.specs.Examples.{VerticesAreRead, generated, minus, unit_square}
-use Rattle.pm_laws_normal_fans.specs.Sums.{HasPoint, In, IsBounded, IsBoundedPolytope, IsLeastAt, IsVertex, value}
+use Rattle.pm_laws_normal_fans.specs.Sums.{IsInhabited, In, IsBounded, IsBoundedPolytope, IsLeastAt, IsVertex, value}
 use Rattle.std.proofs.Common.{T, arith, refl}
 use Rattle.std.proofs.lemmas.Int.{ints}
 use Rattle.std.specs.Prelude.{List, [], length, suc, zero, ◌∷◌, ◌≡◌}
@@ -64,7 +64,7 @@ on_edge = least_at (triple 0 1 0) (triple 2 0 1) (pair 1 0) refl tt (by_three _ 
 greatest : ¬ (IsLeastAt 3 (In unit_square) (triple 1 1 1) (pair 1 1))
 greatest h = let e : (pos 1 *ℤ value (pair 1 1) (triple 1 1 1)) ≤ℤ (pos 1 *ℤ value (pair 1 1) (triple 1 0 0)) = h.least (triple 1 0 0) refl (in_generator here) (lt_z_yes tt) in omega (arith, ints)
 
-empty : ¬ (HasPoint 3 (generated []))
+empty : ¬ (IsInhabited 3 (generated []))
 empty (x, l, i, up) = let e = none_to_zero x i 0 in omega (arith, ints)
 
 pub vertices_are_read : VerticesAreRead

@@ -9,7 +9,7 @@ use Rattle.pm_laws_normal_fans.specs.Fans.{Fan, HasOneFan, InPlace, IsCommonRefi
 use Rattle.pm_laws_normal_fans.specs.NormalFans.{IsConeOfVertex, IsNormalFan}
 use Rattle.pm_laws_normal_fans.specs.Refinements.{AreAllIntersections, AreAllRays, AreKeptIntersections, HasRefinedRays, InHalfSpaces, Intersection, IsCutAt, IsEarlier, IsIntersection, IsRefined, IsWithin, Tells}
 use Rattle.pm_laws_normal_fans.specs.Shadows.{AreUsed, IsShadowFan, held, rests, shadow_fan}
-use Rattle.pm_laws_normal_fans.specs.Sums.{AreRowsOf, AreSumRows, Cone, HasPoint, In, InMinkowskiSum, IsBounded, IsBoundedPolytope, IsLeastAt, IsPointSum, IsSumOf, IsVertex, far, point_sum, points, sum_rows, value}
+use Rattle.pm_laws_normal_fans.specs.Sums.{AreRowsOf, AreSumRows, Cone, IsInhabited, In, InMinkowskiSum, IsBounded, IsBoundedPolytope, IsLeastAt, IsPointSum, IsSumOf, IsVertex, far, point_sum, points, sum_rows, value}
 use lib.IntN.{ℤ, pos, negsuc}
 use lib.Signed.{◌<ℤ◌, ◌≤ℤ◌}
 
@@ -60,7 +60,7 @@ pub record VerticesAreRead : Type 0 where
   pub columns : ¬ (IsLeastAt 3 (In unit_square) (triple 1 0 0) (triple 0 1 1))
   pub polytope : IsBoundedPolytope 3 unit_square
   pub half : ¬ (IsBoundedPolytope 2 (generated half_line))
-  pub empty : ¬ (HasPoint 3 (generated []))
+  pub empty : ¬ (IsInhabited 3 (generated []))
 
 -- sums of points and of polytopes
 pub record SumsAreRead : Type 0 where
@@ -84,7 +84,8 @@ pub record SumsAreRead : Type 0 where
   pub others : far (pair 1 0 ∷ pair 0 1 ∷ pair 2 3 ∷ []) ≡ pair 0 1 ∷ []
   -- 1/2 + 5/3 = 13/6
   pub fractions : point_sum (pair 2 1) (pair 3 5) ≡ pair 6 13
-  pub in_order : sum_rows (pair 1 0 ∷ pair 0 1 ∷ pair 1 2 ∷ []) (pair 1 5 ∷ []) ≡ pair 1 5 ∷ pair 1 7 ∷ pair 0 1 ∷ []
+  pub in_order : sum_rows (pair 1 0 ∷ pair 0 1 ∷ pair 1 2 ∷ []) (pair 1 5 ∷ [])
+      ≡ pair 1 5 ∷ pair 1 7 ∷ pair 0 1 ∷ []
 
 -- ---- fans
 -- the two rays of the line
@@ -118,7 +119,8 @@ pub record RefinementsAreRead : Type 0 where
   pub of_line : IsCommonRefinement 1 rays_of_line whole_line (fan ((left ∷ []) ∷ (right ∷ []) ∷ []))
   -- none without a maximal intersection, with one that lies in another, or with a cone that is none
   pub left_out : ¬ (IsCommonRefinement 1 rays_of_line rays_of_line (fan ((right ∷ []) ∷ [])))
-  pub included : ¬ (IsCommonRefinement 1 rays_of_line rays_of_line (fan ((right ∷ []) ∷ (left ∷ []) ∷ [] ∷ [])))
+  pub included
+      : ¬ (IsCommonRefinement 1 rays_of_line rays_of_line (fan ((right ∷ []) ∷ (left ∷ []) ∷ [] ∷ [])))
   pub coarser : ¬ (IsCommonRefinement 1 rays_of_line whole_line whole_line)
   -- without a cone there is no line
   pub without : IsCommonRefinement 1 rays_of_line (fan []) (fan [])
@@ -126,7 +128,8 @@ pub record RefinementsAreRead : Type 0 where
 
 -- for each vertex of the unit square the objectives that are least there
 abbrev pub quadrants : List (List Row)
-quadrants = (pair 1 0 ∷ pair 0 1 ∷ []) ∷ (pair 1 0 ∷ (pos 0 ∷ minus ∷ []) ∷ []) ∷ (pair 0 1 ∷ (minus ∷ pos 0 ∷ []) ∷ []) ∷ ((pos 0 ∷ minus ∷ []) ∷ (minus ∷ pos 0 ∷ []) ∷ []) ∷ []
+quadrants = (pair 1 0 ∷ pair 0 1 ∷ []) ∷ (pair 1 0 ∷ (pos 0 ∷ minus ∷ []) ∷ [])
+    ∷ (pair 0 1 ∷ (minus ∷ pos 0 ∷ []) ∷ []) ∷ ((pos 0 ∷ minus ∷ []) ∷ (minus ∷ pos 0 ∷ []) ∷ []) ∷ []
 
 -- the normal fans of the square and of a point
 pub record NormalFansAreRead : Type 0 where
@@ -135,14 +138,18 @@ pub record NormalFansAreRead : Type 0 where
   pub at_opposite : ¬ (IsConeOfVertex 3 (In unit_square) (triple 1 0 0) (fan quadrants) 3)
   pub square : IsNormalFan 3 (In unit_square) (fan quadrants)
   -- no vertex without its cone, and no cone but those of vertices
-  pub three : ¬ (IsNormalFan 3 (In unit_square) (fan ((pair 1 0 ∷ pair 0 1 ∷ []) ∷ (pair 1 0 ∷ (pos 0 ∷ minus ∷ []) ∷ []) ∷ (pair 0 1 ∷ (minus ∷ pos 0 ∷ []) ∷ []) ∷ [])))
+  pub three : ¬
+      (IsNormalFan 3 (In unit_square)
+      (fan ((pair 1 0 ∷ pair 0 1 ∷ []) ∷ (pair 1 0 ∷ (pos 0 ∷ minus ∷ []) ∷ [])
+      ∷ (pair 0 1 ∷ (minus ∷ pos 0 ∷ []) ∷ []) ∷ [])))
   pub with_ray : ¬ (IsNormalFan 3 (In unit_square) (fan ((pair 1 0 ∷ []) ∷ quadrants)))
   -- at a point each objective is least
   pub point : IsNormalFan 2 (In five) whole_line
 
 -- the corners with coordinates 1 and -1, and the edges of their square: x1 >= -1, x2 >= -1, x2 <= 1, x1 <= 1
 abbrev pub even_corners : List Row
-even_corners = triple 1 1 1 ∷ (pos 1 ∷ pos 1 ∷ minus ∷ []) ∷ (pos 1 ∷ minus ∷ pos 1 ∷ []) ∷ (pos 1 ∷ minus ∷ minus ∷ []) ∷ []
+even_corners = triple 1 1 1 ∷ (pos 1 ∷ pos 1 ∷ minus ∷ []) ∷ (pos 1 ∷ minus ∷ pos 1 ∷ [])
+    ∷ (pos 1 ∷ minus ∷ minus ∷ []) ∷ []
 
 abbrev pub even_edges : List Row
 even_edges = triple 1 1 0 ∷ triple 1 0 1 ∷ (pos 1 ∷ pos 0 ∷ minus ∷ []) ∷ (pos 1 ∷ minus ∷ pos 0 ∷ []) ∷ []
@@ -152,7 +159,9 @@ even_square = generated even_corners
 
 -- the cones over these edges in turn
 abbrev pub over_edges : List (List Row)
-over_edges = ((minus ∷ pos 1 ∷ []) ∷ (minus ∷ minus ∷ []) ∷ []) ∷ ((pos 1 ∷ minus ∷ []) ∷ (minus ∷ minus ∷ []) ∷ []) ∷ (pair 1 1 ∷ (minus ∷ pos 1 ∷ []) ∷ []) ∷ (pair 1 1 ∷ (pos 1 ∷ minus ∷ []) ∷ []) ∷ []
+over_edges = ((minus ∷ pos 1 ∷ []) ∷ (minus ∷ minus ∷ []) ∷ [])
+    ∷ ((pos 1 ∷ minus ∷ []) ∷ (minus ∷ minus ∷ []) ∷ []) ∷ (pair 1 1 ∷ (minus ∷ pos 1 ∷ []) ∷ [])
+    ∷ (pair 1 1 ∷ (pos 1 ∷ minus ∷ []) ∷ []) ∷ []
 
 -- the face fan of a square with 0 inside
 pub record FaceFansAreRead : Type 0 where
@@ -164,7 +173,10 @@ pub record FaceFansAreRead : Type 0 where
   pub across : ¬ (InConeOver 2 even_square (triple 1 1 0) (pair 3 1))
   pub square : IsFaceFan 2 even_square (fan over_edges)
   -- no edge without its cone; the normal fan has other cones
-  pub three : ¬ (IsFaceFan 2 even_square (fan (((minus ∷ pos 1 ∷ []) ∷ (minus ∷ minus ∷ []) ∷ []) ∷ ((pos 1 ∷ minus ∷ []) ∷ (minus ∷ minus ∷ []) ∷ []) ∷ (pair 1 1 ∷ (minus ∷ pos 1 ∷ []) ∷ []) ∷ [])))
+  pub three : ¬
+      (IsFaceFan 2 even_square
+      (fan (((minus ∷ pos 1 ∷ []) ∷ (minus ∷ minus ∷ []) ∷ [])
+      ∷ ((pos 1 ∷ minus ∷ []) ∷ (minus ∷ minus ∷ []) ∷ []) ∷ (pair 1 1 ∷ (minus ∷ pos 1 ∷ []) ∷ []) ∷ [])))
   pub normal : ¬ (IsFaceFan 2 even_square (fan quadrants))
 
 -- the rows of the normal fan of the unit square
@@ -212,8 +224,11 @@ pub record IntersectionsAreRead : Type 0 where
   pub ray : IsIntersection 1 rays_of_line rays_of_line [] in_right
   pub apex : IsIntersection 1 rays_of_line rays_of_line [] right_left
   -- no ray left out, none that is not primitive, and no line more
-  pub no_ray : ¬ (IsIntersection 1 rays_of_line rays_of_line [] (record { first = 0; second = 0; rays = [] }))
-  pub doubled : ¬ (IsIntersection 1 rays_of_line rays_of_line [] (record { first = 0; second = 0; rays = (pos 2 ∷ []) ∷ [] }))
+  pub no_ray : ¬
+      (IsIntersection 1 rays_of_line rays_of_line [] (record { first = 0; second = 0; rays = [] }))
+  pub doubled : ¬
+      (IsIntersection 1 rays_of_line rays_of_line []
+      (record { first = 0; second = 0; rays = (pos 2 ∷ []) ∷ [] }))
   pub lined : ¬ (IsIntersection 1 rays_of_line rays_of_line (right ∷ []) in_right)
   pub within : IsWithin 1 rays_of_line rays_of_line right_left in_right
   pub not_within : ¬ (IsWithin 1 rays_of_line rays_of_line in_right right_left)
@@ -223,14 +238,18 @@ pub record IntersectionsAreRead : Type 0 where
   pub later : ¬ (IsEarlier left_right right_left)
   pub all : AreAllIntersections 1 rays_of_line rays_of_line [] all_four
   pub not_all : ¬ (AreAllIntersections 1 rays_of_line rays_of_line [] both_rays)
-  pub unordered : ¬ (AreAllIntersections 1 rays_of_line rays_of_line [] (in_right ∷ left_right ∷ right_left ∷ in_left ∷ []))
+  pub unordered
+      : ¬ (AreAllIntersections 1 rays_of_line rays_of_line []
+      (in_right ∷ left_right ∷ right_left ∷ in_left ∷ []))
   -- the two rays are kept, not {0}, and neither is left out
   pub kept : AreKeptIntersections 1 rays_of_line rays_of_line all_four both_rays
   pub apex_kept : ¬ (AreKeptIntersections 1 rays_of_line rays_of_line all_four all_four)
   pub ray_lost : ¬ (AreKeptIntersections 1 rays_of_line rays_of_line all_four (in_right ∷ []))
   -- of equal ones the first
-  pub first_of_equal : AreKeptIntersections 1 rays_of_line rays_of_line (right_left ∷ left_right ∷ []) (right_left ∷ [])
-  pub second_of_equal : ¬ (AreKeptIntersections 1 rays_of_line rays_of_line (right_left ∷ left_right ∷ []) (left_right ∷ []))
+  pub first_of_equal : AreKeptIntersections 1 rays_of_line rays_of_line (right_left ∷ left_right ∷ [])
+      (right_left ∷ [])
+  pub second_of_equal
+      : ¬ (AreKeptIntersections 1 rays_of_line rays_of_line (right_left ∷ left_right ∷ []) (left_right ∷ []))
   pub tells : Tells 1 rays_of_line rays_of_line in_left both_rays from_right
   pub tells_not : ¬ (Tells 1 rays_of_line rays_of_line in_right both_rays from_right)
 

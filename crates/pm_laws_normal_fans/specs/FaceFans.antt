@@ -15,17 +15,20 @@ use lib.Signed.{◌<ℤ◌}
 pub record IsCenteredPolytope (n : ℕ) (P : Cone) : Type 0 where
   pub thing : IsPolytopeThing n P.generators P.lines
   pub bounded : IsBounded n (In P)
-  pub positive : (a : Row) → IsValid n P.generators P.lines a → ¬ (Vanishes n P.generators P.lines a) → pos 0 <ℤ entry a 0
+  pub positive : (a : Row) → IsValid n P.generators P.lines a → ¬ (Vanishes n P.generators P.lines a)
+      → pos 0 <ℤ entry a 0
 
--- c is in the cone over the facet of the row a: a positive multiple of it stands after the first entry of a row of P on
--- which a vanishes
+-- c is in the cone over the facet of the row a: a positive multiple of it stands after the first entry of a row of P
+-- on which a vanishes
 abbrev pub InConeOver : ℕ → Cone → Row → Row → Type 0
 InConeOver m P a c = InShadow (suc m) (In P) a c
 
 -- each cone of f is that over a facet of P, and each facet of P has its cone
 pub record IsFaceFan (m : ℕ) (P : Cone) (f : Fan) : Type 0 where
-  pub each : (k : ℕ) → k < length f.cones → (a : Row) × IsFacetRow (suc m) P.generators P.lines a × IsConeAt m f k (InConeOver m P a)
-  pub all : (a : Row) → IsFacetRow (suc m) P.generators P.lines a → (k : ℕ) × (k < length f.cones) × IsConeAt m f k (InConeOver m P a)
+  pub each : (k : ℕ) → k < length f.cones → (a : Row) × IsFacetRow (suc m) P.generators P.lines a
+      × IsConeAt m f k (InConeOver m P a)
+  pub all : (a : Row) → IsFacetRow (suc m) P.generators P.lines a
+      → (k : ℕ) × (k < length f.cones) × IsConeAt m f k (InConeOver m P a)
 
 -- ---- the rows of P
 -- V and F are orders of its extreme rays and of its facet rows

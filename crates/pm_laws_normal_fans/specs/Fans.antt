@@ -46,17 +46,21 @@ InIntersection f g i j x = InPlace f i x × InPlace g j x
 
 -- the intersection at i and j is included in the one at k and l
 abbrev pub IsIntersectionWithin : ℕ → Fan → Fan → ℕ → ℕ → ℕ → ℕ → Type 0
-IsIntersectionWithin n f g i j k l = (x : Row) → length x ≡ n → InIntersection f g i j x → InIntersection f g k l x
+IsIntersectionWithin n f g i j k l = (x : Row) → length x ≡ n → InIntersection f g i j x
+    → InIntersection f g k l x
 
 -- it is included in no other intersection, but in equal ones
 pub record IsMaximalIntersection (n : ℕ) (f g : Fan) (i j : ℕ) : Type 0 where
   pub first : i < length f.cones
   pub second : j < length g.cones
-  pub maximal : (k l : ℕ) → k < length f.cones → l < length g.cones → IsIntersectionWithin n f g i j k l → IsIntersectionWithin n f g k l i j
+  pub maximal : (k l : ℕ) → k < length f.cones → l < length g.cones → IsIntersectionWithin n f g i j k l
+      → IsIntersectionWithin n f g k l i j
 
 -- the cones of h are exactly the maximal intersections of a cone of f and a cone of g; where there is none, the
 -- lineality of h is {0}
 pub record IsCommonRefinement (n : ℕ) (f g h : Fan) : Type 0 where
-  pub each : (k : ℕ) → k < length h.cones → (i : ℕ) × (j : ℕ) × IsMaximalIntersection n f g i j × IsConeAt n h k (InIntersection f g i j)
-  pub all : (i j : ℕ) → IsMaximalIntersection n f g i j → (k : ℕ) × (k < length h.cones) × IsConeAt n h k (InIntersection f g i j)
+  pub each : (k : ℕ) → k < length h.cones
+      → (i : ℕ) × (j : ℕ) × IsMaximalIntersection n f g i j × IsConeAt n h k (InIntersection f g i j)
+  pub all : (i j : ℕ) → IsMaximalIntersection n f g i j
+      → (k : ℕ) × (k < length h.cones) × IsConeAt n h k (InIntersection f g i j)
   pub bare : h.cones ≡ [] → (x : Row) → length x ≡ n → InSpan h.lines x → IsZero x

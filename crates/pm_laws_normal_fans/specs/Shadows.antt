@@ -53,8 +53,12 @@ pub record AreUsed (n : ℕ) (F E A used : List Row) : Type 0 where
 pub record IsShadowFan (m : ℕ) (F E A used : List Row) : Type 0 where
   -- it is a fan, whose cones are the shadows
   pub fan : IsFan m (shadow_fan F E A)
-  pub cones : (k : ℕ) → k < length A → IsConeAt m (shadow_fan F E A) k (InShadow (suc m) (InCone F E) (ray A k))
+  pub cones : (k : ℕ) → k < length A
+      → IsConeAt m (shadow_fan F E A) k (InShadow (suc m) (InCone F E) (ray A k))
   -- its rays are the used rows without their first entries
-  pub orders : AreFanOrders m (shadow_fan F E A).cones (rests E) (record { rays = rests used; facets = []; cones = range_with_len 0 (length A) })
+  pub orders : AreFanOrders m (shadow_fan F E A).cones (rests E)
+      (record { rays = rests used; facets = []; cones = range_with_len 0 (length A) })
   -- and those of the cone at a place are the rows on which the row of A there vanishes
-  pub rays : (k j : ℕ) → k < length A → j < length used → IsExtremeRay m (cone_at (shadow_fan F E A) k) (rests E) (ray (rests used) j) ↔ (dot (ray used j) (ray A k) ≡ pos 0)
+  pub rays : (k j : ℕ) → k < length A → j < length used
+      → IsExtremeRay m (cone_at (shadow_fan F E A) k) (rests E) (ray (rests used) j)
+      ↔ (dot (ray used j) (ray A k) ≡ pos 0)

@@ -38,17 +38,18 @@ pub record IsVertex (n : ℕ) (S : Row → Type 0) (v : Row) : Type 0 where
 -- among the points of S the objective c is least at that of v: c v / v_0 <= c x / x_0
 pub record IsLeastAt (n : ℕ) (S : Row → Type 0) (v c : Row) : Type 0 where
   pub cols : suc (length c) ≡ n
-  pub least : (x : Row) → length x ≡ n → S x → pos 0 <ℤ entry x 0 → (entry x 0 *ℤ value c v) ≤ℤ (entry v 0 *ℤ value c x)
+  pub least : (x : Row) → length x ≡ n → S x → pos 0 <ℤ entry x 0
+      → (entry x 0 *ℤ value c v) ≤ℤ (entry v 0 *ℤ value c x)
 
 -- the polytope has some point
-abbrev pub HasPoint : ℕ → Cone → Type 0
-HasPoint n P = (x : Row) × (length x ≡ n) × In P x × (pos 0 <ℤ entry x 0)
+abbrev pub IsInhabited : ℕ → Cone → Type 0
+IsInhabited n P = (x : Row) × (length x ≡ n) × In P x × (pos 0 <ℤ entry x 0)
 
 -- a bounded polytope that is not empty
 pub record IsBoundedPolytope (n : ℕ) (P : Cone) : Type 0 where
   pub thing : IsPolytopeThing n P.generators P.lines
   pub bounded : IsBounded n (In P)
-  pub some : HasPoint n P
+  pub some : IsInhabited n P
 
 -- ---- Minkowski sums (section 1.1)
 -- x, y and z have one first entry, and each other entry of z is the sum of those of x and y
@@ -81,8 +82,10 @@ pub record IsSumOf (n : ℕ) (P Q R : Cone) : Type 0 where
 pub record AreSumRows (n : ℕ) (P Q : Cone) (rows : List Row) : Type 0 where
   pub cols : HasCols n rows
   pub each : All (λ x. InMinkowskiSum n (In P) (In Q) x) rows
-  pub pairs : (v w : Row) → Contains P.generators v → Contains Q.generators w → pos 0 <ℤ entry v 0 → pos 0 <ℤ entry w 0 →
-      Any (λ x. (p : ℤ) × (pos 0 <ℤ p) × IsPointSum (times (entry w 0) v) (times (entry v 0) w) (times p x)) rows
+  pub pairs : (v w : Row) → Contains P.generators v → Contains Q.generators w → pos 0 <ℤ entry v 0
+      → pos 0 <ℤ entry w 0 →
+      Any (λ x. (p : ℤ) × (pos 0 <ℤ p) × IsPointSum (times (entry w 0) v) (times (entry v 0) w)
+      (times p x)) rows
   pub first_far : (v : Row) → Contains P.generators v → entry v 0 ≡ pos 0 → Contains rows v
   pub second_far : (w : Row) → Contains Q.generators w → entry w 0 ≡ pos 0 → Contains rows w
 

@@ -1,4 +1,5 @@
-//! Normal fans, face fans, sums of polytopes and common refinements of fans. It has no code.
+//! Normal fans, face fans, sums of polytopes and common refinements of fans. It has no code. It knows nothing of
+//! properties, values and objects.
 #![tactic(auto)]
 
 ghost use Rattle.pm_laws_normal_fans.specs.Examples.{FaceFansAreRead, IntersectionsAreRead, KeptAreRead, NormalFansAreRead, RefinementsAreRead, ShadowsAreRead, SumsAreRead, VerticesAreRead};

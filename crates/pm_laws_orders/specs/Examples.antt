@@ -13,7 +13,16 @@ use lib.IntN.{pos}
 
 -- the half line from 0, as a polytope
 abbrev pub half_line_thing : Thing
-half_line_thing = record { of = Polytope; cols = 2; generators = half_line; lines = []; cones = []; objective = λ s. ratios (pair 0 0); sites = []; heights = [] }
+half_line_thing = record {
+  of = Polytope;
+  cols = 2;
+  generators = half_line;
+  lines = [];
+  cones = [];
+  objective = λ s. ratios (pair 0 0);
+  sites = [];
+  heights = [];
+}
 
 -- its far face is the ray in the first place
 abbrev pub FirstIsFar : Orders → Type 0
@@ -35,7 +44,16 @@ pub record OrdersAreRead : Type 0 where
 -- ---- the square
 -- the unit square, with its vertices and edges in their orders
 abbrev pub square_thing : Thing
-square_thing = record { of = Polytope; cols = 3; generators = square; lines = []; cones = []; objective = λ s. ratios (triple 0 0 0); sites = []; heights = [] }
+square_thing = record {
+  of = Polytope;
+  cols = 3;
+  generators = square;
+  lines = [];
+  cones = [];
+  objective = λ s. ratios (triple 0 0 0);
+  sites = [];
+  heights = [];
+}
 
 abbrev pub square_orders : Orders
 square_orders = record { rays = square; facets = edges; cones = [] }

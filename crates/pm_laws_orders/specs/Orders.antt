@@ -23,9 +23,11 @@ pub record SpeaksOfNoOrder (p : PropId) : Type 0 where
   pub rays : rays_tag p ≡ false
   pub facets : facets_tag p ≡ false
 
--- numbers, truth values and other values that speak of no order are right in all orders of a thing exactly where they are right in some
+-- numbers, truth values and other values that speak of no order are right in all orders of a thing exactly where they
+-- are right in some
 abbrev pub SomeOrdersAreAll : Type 0
-SomeOrdersAreAll = (p : PropId) → SpeaksOfNoOrder p → (v : PropertyValue) (t : Thing) (c : List Ratio) → IsThing t → InSomeOrders t (λ o. Right p v t o c) ↔ InAllOrders t (λ o. Right p v t o c)
+SomeOrdersAreAll = (p : PropId) → SpeaksOfNoOrder p → (v : PropertyValue) (t : Thing) (c : List Ratio)
+    → IsThing t → InSomeOrders t (λ o. Right p v t o c) ↔ InAllOrders t (λ o. Right p v t o c)
 
 -- ---- graphs
 -- the graph of the rays, or of the facets, has this diameter
@@ -43,13 +45,17 @@ HasEdges t k o = (rows : List (List ℕ)) × IsRayGraph t o.rays rows × (k ≡ 
 abbrev pub HasRidges : Thing → ℕ → Orders → Type 0
 HasRidges t k o = (rows : List (List ℕ)) × IsFacetGraph t o.rays o.facets rows × (k ≡ edge_count rows)
 
--- what the graphs of a cone or polytope are does not depend on the orders: their diameters are the same in all, and so are the numbers of edges and ridges; and facets, in an order of their own, meet in the same ridges whatever the order of the rays
+-- what the graphs of a cone or polytope are does not depend on the orders: their diameters are the same in all, and
+-- so are the numbers of edges and ridges; and facets, in an order of their own, meet in the same ridges whatever the
+-- order of the rays
 pub record GraphsAreOfAllOrders (t : Thing) : Type 0 where
   pub ray_diameter : (m : ℕ) → InSomeOrders t (HasRayDiameter t m) ↔ InAllOrders t (HasRayDiameter t m)
   pub facet_diameter : (m : ℕ) → InSomeOrders t (HasFacetDiameter t m) ↔ InAllOrders t (HasFacetDiameter t m)
   pub edge_number : (k : ℕ) → InSomeOrders t (HasEdges t k) ↔ InAllOrders t (HasEdges t k)
   pub ridge_number : (k : ℕ) → InSomeOrders t (HasRidges t k) ↔ InAllOrders t (HasRidges t k)
-  pub ridges : (o : Orders) → AreOrders t o → (rows : List (List ℕ)) → InSomeOrders t (λ p. IsFacetGraph t p.rays o.facets rows) ↔ InAllOrders t (λ p. IsFacetGraph t p.rays o.facets rows)
+  pub ridges : (o : Orders) → AreOrders t o → (rows : List (List ℕ))
+      → InSomeOrders t (λ p. IsFacetGraph t p.rays o.facets rows)
+      ↔ InAllOrders t (λ p. IsFacetGraph t p.rays o.facets rows)
 
 abbrev pub GraphsOfAllOrders : Type 0
 GraphsOfAllOrders = (t : Thing) → IsThing t → ¬ (t.of ≡ Fan) → GraphsAreOfAllOrders t

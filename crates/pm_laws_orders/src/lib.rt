@@ -1,5 +1,5 @@
-//! Orders of things: each thing has some, and a value that speaks of no order is right in all where it is right in some.
-//! It has no code.
+//! Orders of things: each thing has some, and a value that speaks of no order is right in all where it is right in
+//! some. It has no code. It knows nothing of objects, rules and clients.
 #![tactic(auto)]
 
 ghost use Rattle.pm_laws_orders.specs.Examples.{OrdersAreRead, SquareGraphsAreRead};
@@ -10,13 +10,14 @@ pub fn law_orders_exist()
     ensures { OrdersExist }
 {}
 
-/// A value of a property that speaks of no order is right in all orders of the thing exactly where it is right in some.
+/// A value of a property that speaks of no order is right in all orders of the thing exactly where it is right in
+/// some.
 pub fn law_some_orders_are_all()
     ensures { SomeOrdersAreAll }
 {}
 
-/// The graphs of a cone or polytope have the same diameters and as many edges and ridges in all orders, and facets meet in
-/// the same ridges whatever the order of the rays.
+/// The graphs of a cone or polytope have the same diameters and as many edges and ridges in all orders, and facets
+/// meet in the same ridges whatever the order of the rays.
 pub fn law_graphs_of_all_orders()
     ensures { GraphsOfAllOrders }
 {}
@@ -26,7 +27,8 @@ pub fn example_orders()
     ensures { OrdersAreRead }
 {}
 
-/// The square has four edges in all orders, and two steps join any two vertices; it has no three, and one step does not.
+/// The square has four edges in all orders, and two steps join any two vertices; it has no three, and one step does
+/// not.
 pub fn example_square()
     ensures { SquareGraphsAreRead }
 {}

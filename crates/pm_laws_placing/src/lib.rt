@@ -1,16 +1,19 @@
-//! Triangulations of cones and the placing triangulation: definitions and laws (De Loera, Rambau and Santos, Triangulations, sections 2.1 and 4.3).
+//! Triangulations of cones and the placing triangulation: definitions and laws (De Loera, Rambau and Santos,
+//! Triangulations, sections 2.1 and 4.3). It knows nothing of properties, values and objects.
 #![tactic(auto)]
 
 ghost use Rattle.pm_laws_placing.specs.Examples.{SquareIsPlaced, SquareIsTriangulated};
 ghost use Rattle.pm_laws_placing.specs.LeastSums.{LeastCellsTriangulate, PlacingStep};
 ghost use Rattle.pm_laws_placing.specs.Placing.{NewCellsAreOnce, PlacingTriangulates};
 
-/// Cells on which least sums are positive, and of which one holds each least sum, are independent, cover the cone and meet in common cells.
+/// Cells on which least sums are positive, and of which one holds each least sum, are independent, cover the cone and
+/// meet in common cells.
 pub fn law_least_cells_triangulate()
     ensures { LeastCellsTriangulate }
 {}
 
-/// Placing one more row: the old cells, and those that the walls which it is beyond give, carry the least sums of the larger cone.
+/// Placing one more row: the old cells, and those that the walls which it is beyond give, carry the least sums of the
+/// larger cone.
 pub fn law_placing_step()
     ensures { PlacingStep }
 {}

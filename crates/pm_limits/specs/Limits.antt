@@ -1,7 +1,8 @@
 -- The limits of the program, each once. What is larger is refused, and never answered in part.
 use Rattle.std.specs.Prelude.{ℕ, ◌+◌}
 
--- the rows of a matrix, the rays and the facets of a cone, the sets of a list, the nodes of a graph, the numbers of a list
+-- the rows of a matrix, the rays and the facets of a cone, the sets of a list, the nodes of a graph, the numbers of a
+-- list
 abbrev pub most_rows : ℕ
 most_rows = 2048
 

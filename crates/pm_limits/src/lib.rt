@@ -1,7 +1,9 @@
-//! The limits of the program, each once. What is larger is refused, and never answered in part. No code runs here.
+//! The limits of the program, each once. What is larger is refused, and never answered in part. No code runs here. It
+//! knows nothing of what it limits.
 #![tactic(auto)]
 
-/// The rows of a matrix, the rays and the facets of a cone, the sets of a list, the nodes of a graph, the numbers of a list.
+/// The rows of a matrix, the rays and the facets of a cone, the sets of a list, the nodes of a graph, the numbers of
+/// a list.
 pub const MOST_ROWS: usize = 2048;
 
 /// The dimensions of a space.

@@ -48,7 +48,8 @@ BreaksOff all left old new = (n : ℕ) × Gave n all left old new × (whole_line
 
 -- the source gave a byte after the most, and no LF was given before
 abbrev pub Exceeds : List ℕ → Option (List ℕ) → ReaderSeen → Type 0
-Exceeds all left old = (n : ℕ) × (n < length all) × (left ≡ Some (drop (n + 1) all)) × (old.read + n ≡ most_script_bytes) × (whole_lines (old.given ++ take n all) ≡ [])
+Exceeds all left old = (n : ℕ) × (n < length all) × (left ≡ Some (drop (n + 1) all))
+    × (old.read + n ≡ most_script_bytes) × (whole_lines (old.given ++ take n all) ≡ [])
 
 -- Memory ran out: of the bytes that were given those before the ones at hand are gone, and none of them is an LF.
 pub record LetsGo (all : List ℕ) (left : Option (List ℕ)) (old new : ReaderSeen) : Type 0 where

@@ -55,7 +55,8 @@ impl Chunk {
     /// Reads some bytes, at most `most`, in the place of those that are there. None says that nothing is left.
     pub(crate) fn fill<S: Source>(&mut self, source: &mut S, most: usize) -> Result<(), Failed>
         requires { 0 < most }
-        ensures moves { IfOk result (λ _. Moves (S.left source.old) (S.left source.new) (length self.new) self.new) }
+        ensures moves { IfOk result (λ _.
+            Moves (S.left source.old) (S.left source.new) (length self.new) self.new) }
         ensures within { IfOk result (λ _. length self.new ≤ most) }
         ensures few { length self.new ≤ most_ahead }
         ensures end { IfOk result (λ _. self.new ≡ [] → IsAtEnd (S.left source.old)) }

@@ -1,4 +1,4 @@
-//! The lines of a script as they come.
+//! The lines of a script as they come. It knows nothing of values, objects and sessions.
 #![tactic(auto)]
 
 ghost use Rattle.std.specs.Prelude.{List, ℕ};

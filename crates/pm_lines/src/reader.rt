@@ -102,11 +102,13 @@ impl LineReader {
     /// Moves what was given to the line at hand, up to the first LF. Whether there was one.
     fn take_line(&mut self) -> Result<bool, AllocError>
         requires { self.old.line.ended ≡ false }
-        ensures ended { IfOk result (λ there. there ≡ true → (part : List ℕ) × Ended self.old self.new part) }
-        ensures unended { IfOk result (λ there. there ≡ false → HasNoBreak self.old.given × (self.new ≡ record self.old {
-          line = record { bytes = self.old.line.bytes ++ self.old.given; ended = false };
-          given = [];
-        })) }
+        ensures ended { IfOk result (λ there. there ≡ true
+            → (part : List ℕ) × Ended self.old self.new part) }
+        ensures unended { IfOk result (λ there. there ≡ false
+            → HasNoBreak self.old.given × (self.new ≡ record self.old {
+              line = record { bytes = self.old.line.bytes ++ self.old.given; ended = false };
+              given = [];
+            })) }
         ensures read { self.new.read ≡ self.old.read }
         ensures at_end { self.new.at_end ≡ self.old.at_end }
         ensures few { length self.new.given ≤ most_ahead }
@@ -130,9 +132,14 @@ impl LineReader {
         ensures more { IfOk result (λ there. there ≡ true →
             IfSome (S.left source.old) (λ all. Refilled all (S.left source.new) self.old self.new)) }
         ensures reads { IfOk result (λ there. there ≡ true → self.old.read < self.new.read) }
-        ensures state { self.new ≡ record self.old { given = self.new.given; read = self.old.read + length self.new.given } }
+        ensures state { self.new ≡ record self.old {
+          given = self.new.given;
+          read = self.old.read + length self.new.given;
+        } }
         ensures bound { self.new.read ≤ most_script_bytes }
-        ensures end { IfOk result (λ there. there ≡ false → (self.new.given ≡ []) × IsAtEnd (S.left source.old) × Stays (S.left source.old) (S.left source.new)) }
+        ensures end { IfOk result (λ there. there ≡ false
+            → (self.new.given ≡ []) × IsAtEnd (S.left source.old)
+            × Stays (S.left source.old) (S.left source.new)) }
         ensures none { OnErr result (self.new.given ≡ []) }
         ensures err { IsErrOf result LinesFail.Fault → Stays (S.left source.old) (S.left source.new) }
         ensures fault { IsErrOf result LinesFail.Fault → Rose (S.faults source.old) (S.faults source.new) }
@@ -168,10 +175,11 @@ impl LineReader {
     ///
     /// A line that stands in what was given already is answered without a read.
     /// A line that an LF ended takes bytes of what was given, so its calls come to an end.
-    /// `Fault` comes where the source failed. After any error a line that is not whole is gone: after `Fault` and `TooLong`
-    /// all that was given, and where memory ran out what was given before the bytes that the next call goes on with.
-    /// `TooLong` comes exactly where the source gave a byte after the first `MOST_SCRIPT_BYTES`, and no line of these is left
-    /// that an LF ended.
+    /// `Fault` comes where the source failed. After any error a line that is not whole is gone: after `Fault` and
+    /// `TooLong` all that was given, and where memory ran out what was given before the bytes that the next call goes
+    /// on with.
+    /// `TooLong` comes exactly where the source gave a byte after the first `MOST_SCRIPT_BYTES`, and no line of these
+    /// is left that an LF ended.
     pub fn advance<S: Source>(&mut self, source: &mut S) -> Result<bool, LinesFail>
         ensures line { IfOk result (λ there. there ≡ true →
             IfSome (S.left source.old) (λ all. Answers all (S.left source.new) self.old self.new)) }

@@ -6,7 +6,7 @@ use Rattle.pm_machine.specs.Building.{MayHaveBegun, wanted_all}
 use Rattle.pm_making.specs.Rows.{row_of}
 use Rattle.pm_command.specs.declared.building.Builder.{Builder}
 use Rattle.pm_machine.specs.Parts.{StepInPart}
-use Rattle.pm_machine.specs.Machines.{IsFree, Machine, Stays, Store, shelf}
+use Rattle.pm_machine.specs.Machines.{IsNewName, Machine, Stays, Store, shelf}
 use Rattle.pm_machine.specs.Steps.{CopyStep, DisableStep, DropStep, EnsureStep, EvidenceStep, ExplainStep, FileRead, GiveStep, HasBytes, HasNone, HistoryStep, IsLookedAt, LoadStep, Looks, LookupStep, NewObjectStep, NewOf, NewProgramStep, NewStep, OriginStep, RulesStep, ShowStep, Step, TakeStep, UnloadStep, bad_file, is_asked, is_copied, is_dropped, is_listed, is_loaded, is_made, is_refused, is_shown, is_told, is_unloaded, not_held, now_disabled, now_held}
 use Rattle.pm_rules.specs.declared.rule.Rule.{Rule}
 use Rattle.pm_command.specs.Commands.{RefSeen, Spoken, blank, new_object, take_value, give_value, look_up, ensure_values, explain_values, tell_history, show_object, tell_evidence, show_rules, disable_rule, unload_client, copy_object, drop_object, tell_origin, load_object, save_object, make_object, build_object, is_on_files}
@@ -168,14 +168,14 @@ looks_of_stays old new s = record {
 abbrev pub with_both : Store → Clients → Machine → Machine
 with_both k clients m = record m { clients = clients; store = k }
 
-file_step : (book : List Rule) (old new : Machine) (k k' : Store) (clients : Clients) (name file bytes : List ℕ) (reply : ReplySeen) → IsFree (shelf old) name → HasBytes k file bytes → IsLookedAt k k'
+file_step : (book : List Rule) (old new : Machine) (k k' : Store) (clients : Clients) (name file bytes : List ℕ) (reply : ReplySeen) → IsNewName (shelf old) name → HasBytes k file bytes → IsLookedAt k k'
     → FileRead book name bytes reply old new → LoadStep book (with_both k clients old) name file reply (with_both k' clients new)
 file_step book old new k k' clients name file bytes _ free has looked (bad_file e refuses is s) =
     is_refused free (bad_file bytes e has refuses is) (record { names = s.names; objects = s.objects; clients = refl; store = looked })
 file_step book old new k k' clients name file bytes _ free has looked (is_loaded f reads over g) =
     is_loaded bytes f free has reads over (record { names = g.names; object = g.object; others = g.others; clients = refl; store = looked })
 
-pub file_answered : {E F : Type 0} (view : F → ReplySeen) (r : Result F E) (book : List Rule) (old new : Machine) (k k' : Store) (clients : Clients) (name file bytes : List ℕ) → IsFree (shelf old) name → HasBytes k file bytes → IsLookedAt k k'
+pub file_answered : {E F : Type 0} (view : F → ReplySeen) (r : Result F E) (book : List Rule) (old new : Machine) (k k' : Store) (clients : Clients) (name file bytes : List ℕ) → IsNewName (shelf old) name → HasBytes k file bytes → IsLookedAt k k'
     → IfOk r (λ x. FileRead book name bytes (view x) old new) → IfOk r (λ x. LoadStep book (with_both k clients old) name file (view x) (with_both k' clients new))
 file_answered view (Ok x) book old new k k' clients name file bytes free has looked h = file_step book old new k k' clients name file bytes (view x) free has looked h
 file_answered view (Err e) book old new k k' clients name file bytes free has looked h = tt

@@ -2,7 +2,7 @@
 use Rattle.pm_command.specs.Commands.{ShapeSeen}
 use Rattle.pm_command.specs.declared.building.Builder.{Builder}
 use Rattle.pm_machine.proofs.BesideObjects.{becomes_beside, beside, gains_beside, stays_beside}
-use Rattle.pm_machine.specs.Building.{BuildStep, DoesNotRead, EndsAt, EnsuresAll, EnsuresInPart, EnsuresOne, EnsuresOneInPart, MakeStep, Reads, Wanted, is_crowded, is_made, no_chain, not_fit, not_made, wanted_all, is_refused}
+use Rattle.pm_machine.specs.Building.{BuildStep, DoesNotRead, EndsAt, EnsuresAll, EnsuresInPart, EnsuresOne, EnsuresOneInPart, MakeStep, HasEnsured, Wanted, is_crowded, is_made, no_chain, not_fit, not_made, wanted_all, is_refused}
 use Rattle.pm_making.specs.Rows.{row_of}
 use Rattle.pm_machine.specs.Machines.{Machine, Store}
 use Rattle.pm_rounds.specs.declared.round.Ending.{Ending}
@@ -49,7 +49,7 @@ make_beside k old new to shape _ (is_refused r s) = is_refused r (stays_beside k
 make_beside k old new to shape _ (is_made h i told g) = is_made h i told (gains_beside k _ _ old new g)
 
 module _ (k : Store) (book : List Rule) (b : Builder) (old : Machine) (names : List (List ℕ)) (to : List ℕ) where
-  reads_beside : (rounds : List RoundSeen) (os : List State) (mid : Machine) → Reads book b names to rounds os old mid → Reads book b names to rounds os (beside k old) (beside k mid)
+  reads_beside : (rounds : List RoundSeen) (os : List State) (mid : Machine) → HasEnsured book b names to rounds os old mid → HasEnsured book b names to rounds os (beside k old) (beside k mid)
   reads_beside rounds os mid r = record { free = r.free; types = r.types; ensured = all_beside k book (wanted_all (row_of b).reads names) rounds old mid r.ensured; objects = r.objects }
 
   not_beside : (e : Ending) (more : Remarks) (new : Machine) → DoesNotRead book b names to e more old new → DoesNotRead book b names to e more (beside k old) (beside k new)

@@ -12,7 +12,7 @@ use Rattle.pm_machine.specs.Built.{Builds, HasRead, HaveRead, IsBuilt, MakesBuil
 use Rattle.pm_making.specs.Made.{IsRead, IsUnbuilt, of_built}
 use Rattle.pm_making.specs.declared.unbuilt.Unbuilt.{Unbuilt}
 use Rattle.pm_making.specs.declared.unbuilt.Unbuilt.TheVariants as unbuilt
-use Rattle.pm_machine.specs.Machines.{Gains, IsFree, Machine, Stays, no_rounds, shelf}
+use Rattle.pm_machine.specs.Machines.{Gains, IsNewName, Machine, Stays, no_rounds, shelf}
 use Rattle.pm_object.specs.State.{IsRefused, RoundSeen, State}
 use Rattle.pm_object.specs.declared.held.BuildFail.{BuildFail}
 use Rattle.pm_object.specs.declared.held.BuildFail.TheVariants as fail
@@ -67,7 +67,7 @@ pub none_told : {X : Type 0} (f : X → RoundSeen) (xs : List X) (names : NamesS
 none_told f xs names none is = ap (λ z. record { rounds = map f z; names = names }) none ∙ ap (λ z. record { rounds = []; names = z }) is
 
 -- `make`
-made_step : (to : List ℕ) (shape : ShapeSeen) (built : Result FileObject BuildFail) (t : Rounds) (reply : ReplySeen) (clients : Clients) (old new : Machine) → IsFree (shelf old) to → t ≡ no_rounds
+made_step : (to : List ℕ) (shape : ShapeSeen) (built : Result FileObject BuildFail) (t : Rounds) (reply : ReplySeen) (clients : Clients) (old new : Machine) → IsNewName (shelf old) to → t ≡ no_rounds
     → IfOk built (λ f. file_of f ≡ shape_file shape) → OnOk built (shape_condition shape ≡ None) → IfErr built (IsRefused (shape_condition shape)) → MakesBuilt to (of_built built) t reply old new
     → MakeStep (with_clients clients old) to shape reply (with_clients clients new)
 made_step to shape (Ok f) t (done told) clients old new free none file fits refused' (is, g) =
@@ -77,7 +77,7 @@ made_step to shape (Err (fail.NotFit c)) t (refused (NotFit d) more) clients old
     (is_refused (not_fit free refused') (stays_with clients old new s))
 made_step to shape built t reply clients old new free none file fits refused' h = absurd h
 
-pub make_step : {F E : Type 0} (view : F → ReplySeen) (r : Result F E) (to : List ℕ) (shape : ShapeSeen) (built : Result FileObject BuildFail) (t : Rounds) (clients : Clients) (old new : Machine) → IsFree (shelf old) to → t ≡ no_rounds
+pub make_step : {F E : Type 0} (view : F → ReplySeen) (r : Result F E) (to : List ℕ) (shape : ShapeSeen) (built : Result FileObject BuildFail) (t : Rounds) (clients : Clients) (old new : Machine) → IsNewName (shelf old) to → t ≡ no_rounds
     → IfOk built (λ f. file_of f ≡ shape_file shape) → OnOk built (shape_condition shape ≡ None) → IfErr built (IsRefused (shape_condition shape)) → IfOk r (λ x. MakesBuilt to (of_built built) t (view x) old new)
     → IfOk r (λ x. MakeStep (with_clients clients old) to shape (view x) (with_clients clients new))
 make_step view (Ok x) to shape built t clients old new free none file fits refused' h =
@@ -127,7 +127,7 @@ same_objects old new [] s = refl
 same_objects old new (n ∷ ns) s = ap (λ z. z ∷ map new.object ns) (s.objects n) ∙ ap (λ z. old.object n ∷ z) (same_objects old new ns s)
 
 -- ---- the steps where all was found
-build_step : (book : List Rule) (b : Builder) (names : List (List ℕ)) (to : List ℕ) (rounds : List RoundSeen) (t : Rounds) (reply : ReplySeen) (clients : Clients) (old mid new : Machine) → IsFree (shelf old) to → are_of (row_of b).of (shelf old) names ≡ true
+build_step : (book : List Rule) (b : Builder) (names : List (List ℕ)) (to : List ℕ) (rounds : List RoundSeen) (t : Rounds) (reply : ReplySeen) (clients : Clients) (old mid new : Machine) → IsNewName (shelf old) to → are_of (row_of b).of (shelf old) names ≡ true
     → EnsuresAll book (wanted_all (row_of b).reads names) rounds old (with_clients clients mid) → t ≡ told_rounds book rounds → IsOfItsType b → HaveRead b mid names → Builds b names to t reply mid new
     → BuildStep book b old names to reply (with_clients clients new)
 build_step book b names to rounds t (done told) clients old mid new free types all is of read (os, f, are, fits, same, g) =
@@ -152,7 +152,7 @@ build_step book b names to rounds t (refused (NotMade why) more) clients old mid
     shown (same ∙ ap remarks_of is)
 build_step book b names to rounds t reply clients old mid new free types all is of read h = absurd h
 
-pub build_answered : {F E : Type 0} (view : F → ReplySeen) (r : Result F E) (book : List Rule) (b : Builder) (names : List (List ℕ)) (to : List ℕ) (rounds : List RoundSeen) (t : Rounds) (clients : Clients) (old mid new : Machine) → IsFree (shelf old) to → are_of (row_of b).of (shelf old) names ≡ true
+pub build_answered : {F E : Type 0} (view : F → ReplySeen) (r : Result F E) (book : List Rule) (b : Builder) (names : List (List ℕ)) (to : List ℕ) (rounds : List RoundSeen) (t : Rounds) (clients : Clients) (old mid new : Machine) → IsNewName (shelf old) to → are_of (row_of b).of (shelf old) names ≡ true
     → EnsuresAll book (wanted_all (row_of b).reads names) rounds old (with_clients clients mid) → t ≡ told_rounds book rounds → IsOfItsType b → HaveRead b mid names → IfOk r (λ x. Builds b names to t (view x) mid new)
     → IfOk r (λ x. BuildStep book b old names to (view x) (with_clients clients new))
 build_answered view (Ok x) book b names to rounds t clients old mid new free types all is of read h = build_step book b names to rounds t (view x) clients old mid new free types all is of read h

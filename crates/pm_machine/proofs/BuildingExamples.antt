@@ -8,7 +8,7 @@ use Rattle.pm_machine.proofs.KeepingSteps.{some_not_none}
 use Rattle.pm_machine.specs.Building.{BuildStep, DoesNotRead, EndsAt, EnsuresAll, EnsuresInPart, MakeStep, MayHaveBegun, ObjectsAre, Wanted, are_named, are_of, is_crowded, is_made, is_of_type, no_chain, no_such_name, not_fit, not_made, other_type, rounds_told, told_rounds, is_refused, no_new_name}
 use Rattle.pm_making.specs.Rows.{Makes, Unfit, Unmade, object_of, row_of, same_type, shape_condition, shape_file}
 use Rattle.pm_machine.specs.BuildingExamples.{ObjectsAreBuilt, OperandsAreRead, ShapesAreMade, WantedIsEnsured}
-use Rattle.pm_machine.specs.Machines.{Gains, IsFree, Machine, Stays, no_rounds, is_taken, no_room, shelf}
+use Rattle.pm_machine.specs.Machines.{Gains, IsNewName, Machine, Stays, no_rounds, is_taken, no_room, shelf}
 use Rattle.pm_rounds.specs.declared.round.Ending.TheVariants as ending
 use Rattle.pm_object.specs.declared.held.Condition.{Condition}
 use Rattle.pm_object.specs.declared.held.Condition.TheVariants as condition
@@ -26,7 +26,7 @@ use Rattle.std.specs.Prelude.{Bool, List, None, Some, [], ℕ, ◌&&◌, ◌∷�
 
 -- what is so of a shape that is made
 module _ (old new : Machine) (to : List ℕ) (shape : ShapeSeen) (t : Rounds) where
-  shape_made : MakeStep old to shape (done t) new → IsFree (shelf old) to × (shape_condition shape ≡ None) × (t ≡ no_rounds) × Gains to (object_of (shape_file shape)) old new
+  shape_made : MakeStep old to shape (done t) new → IsNewName (shelf old) to × (shape_condition shape ≡ None) × (t ≡ no_rounds) × Gains to (object_of (shape_file shape)) old new
   shape_made (is_made free fits told g) = (free, fits, told, g)
 
 unfit_shape : (old new : Machine) (to : List ℕ) (shape : ShapeSeen) (c : Condition) → MakeStep old to shape (refused (NotFit c) nothing) new → shape_condition shape ≡ Some c
@@ -166,7 +166,7 @@ module _ (book : List Rule) (b : Builder) (old : Machine) (names : List (List �
   typed_so : (new : Machine) (t : Rounds) → BuildStep book b old names to (done t) new → are_of (row_of b).of (shelf old) names ≡ true
   typed_so new t (is_made rounds os f reads made g is) = reads.types
 
-  free_so : (new : Machine) (t : Rounds) → BuildStep book b old names to (done t) new → IsFree (shelf old) to
+  free_so : (new : Machine) (t : Rounds) → BuildStep book b old names to (done t) new → IsNewName (shelf old) to
   free_so new t (is_made rounds os f reads made g is) = reads.free
 
   unfit_so : (new : Machine) (more : Remarks) → BuildStep book b old names to (refused (NotFit condition.Centered) more) new → (os : List State) × ObjectsAre new names os × Unfit b os condition.Centered
@@ -192,7 +192,7 @@ module _ (book : List Rule) (b : Builder) (old : Machine) (names : List (List �
   none_else : (new : Machine) → BuildStep book b old names to undef new → ⊥
   none_else new h = elim h [ ]
 
-one_cone : (book : List Rule) (b : Builder) (old : Machine) (name to : List ℕ) → (row_of b).of ≡ Polytope → old.object name ≡ Some (empty_object Cone) → IsFree (shelf old) to → Stays old old → BuildStep book b old (name ∷ []) to (refused (NotFit condition.OfType) nothing) old
+one_cone : (book : List Rule) (b : Builder) (old : Machine) (name to : List ℕ) → (row_of b).of ≡ Polytope → old.object name ≡ Some (empty_object Cone) → IsNewName (shelf old) to → Stays old old → BuildStep book b old (name ∷ []) to (refused (NotFit condition.OfType) nothing) old
 one_cone book b old name to type is free s = is_refused (other_type (ap (λ z. is_some z && true) is) free (ap (λ z. z && true) (cone_is_none b old name type is))) s
 
 one_polytope : (book : List Rule) (b : Builder) (old new : Machine) (name to : List ℕ) → (row_of b).of ≡ Polytope → old.object name ≡ Some (empty_object Polytope) → BuildStep book b old (name ∷ []) to (refused (NotFit condition.OfType) nothing) new → ⊥

@@ -3,7 +3,7 @@ use Rattle.pm_telling.specs.Telling.{evidence_of, held_told, names_told}
 use Rattle.pm_machine.proofs.KeepingSteps.{some_not_none}
 use Rattle.pm_rounds.specs.Events.{Configuration}
 use Rattle.pm_props.specs.declared.property.PropId.TheVariants.{LinearObjective}
-use Rattle.pm_machine.specs.Machines.{Files, IsFree, Machine, Stays, later_rounds, no_room, shelf}
+use Rattle.pm_machine.specs.Machines.{Files, IsNewName, Machine, Stays, later_rounds, no_room, shelf}
 use Rattle.pm_machine.specs.Steps.{CopyStep, DropStep, Ensures, EvidenceStep, Explains, Gives, HasBytes, HasNone, HistoryStep, IsSavedWhole, LoadStep, LookupStep, NewStep, Puts, SaveStep, ShowStep, TakeValue, bytes_of, has_label, is_computed, is_copied, is_crowded, is_dropped, is_loaded, is_made, is_planned, is_refused, is_saved, is_sealed, is_shown, is_told, no_chain, no_new_name, no_such_file, other_type, part_named, store_failed}
 use Rattle.pm_object.specs.State.{State, empty_object, is_polytope, is_sealed_at, place_named, program_refusal, with_program}
 use Rattle.pm_object.specs.declared.held.Origin.{Origin}
@@ -219,7 +219,7 @@ module _ (book : List Rule) (old new : Machine) (name file : List ℕ) (names : 
   loaded_of : LoadStep book old name file (loaded names) new → (f : SavedFile) × (new.object name ≡ Some (loaded_object book f))
   loaded_of (is_loaded bytes f free there reads ignored g) = (f, g.object)
 
-  loaded_free : LoadStep book old name file (loaded names) new → IsFree (shelf old) name
+  loaded_free : LoadStep book old name file (loaded names) new → IsNewName (shelf old) name
   loaded_free (is_loaded bytes f free there reads ignored g) = free
 
   loaded_there : LoadStep book old name file (loaded names) new → (bytes : List ℕ) × HasBytes old.store file bytes

@@ -3,7 +3,7 @@ use Rattle.pm_client.specs.Starts.{Clients}
 use Rattle.pm_limits.specs.Limits.{most_file_bytes}
 use Rattle.pm_machine.proofs.KeepingSteps.{some_not_none}
 use Rattle.pm_machine.specs.Examples.{whole}
-use Rattle.pm_machine.specs.Machines.{IsFree, NewNameRefusal, Shelf, is_taken, no_room}
+use Rattle.pm_machine.specs.Machines.{IsNewName, NewNameRefusal, Shelf, is_taken, no_room}
 use Rattle.pm_machine.specs.RefusalExamples.{RefusalsAreRead, one_cone, one_polytope}
 use Rattle.pm_machine.specs.Steps.{CopyRefusal, Named, NewObjectRefusal, PropertiesRefusal, PropertyRefusal, RuleRefusal, SaveRefusal, UnloadRefusal, asked_of, bytes_of, is_client, is_long, no_new_name, no_such_client, no_such_name, no_such_property, no_such_rule, no_such_type, property_at}
 use Rattle.pm_object.specs.State.{State, empty_object}
@@ -19,7 +19,7 @@ use Rattle.std.specs.Prelude.{List, None, Some, [], codes, length, ℕ, ◌<◌,
 not_full_first : (s : Shelf) (name : List ℕ) → s.object name ≢ None → NewNameRefusal s name ObjectsFull → ⊥
 not_full_first s name taken (no_room free full) = taken free
 
-not_refused : (s : Shelf) (name : List ℕ) (why : Refusal) → IsFree s name → NewNameRefusal s name why → ⊥
+not_refused : (s : Shelf) (name : List ℕ) (why : Refusal) → IsNewName s name → NewNameRefusal s name why → ⊥
 not_refused s name _ (free, room) (is_taken taken) = taken free
 not_refused s name _ (free, room) (no_room none full) = absurd (omega (arith, room, full))
 

@@ -6,7 +6,7 @@ use Rattle.pm_command.specs.Commands.{ShapeSeen}
 use Rattle.pm_command.specs.declared.building.Builder.{Builder}
 use Rattle.pm_files.specs.Files.{SavedFile}
 use Rattle.pm_rounds.specs.Events.{Configuration, Ensured, EnsuredInPart, configuration}
-use Rattle.pm_machine.specs.Machines.{Becomes, Gains, IsFree, Machine, NewNameRefusal, Shelf, Stays, later_rounds, no_rounds, shelf}
+use Rattle.pm_machine.specs.Machines.{Becomes, Gains, IsNewName, Machine, NewNameRefusal, Shelf, Stays, later_rounds, no_rounds, shelf}
 use Rattle.pm_rounds.specs.declared.round.Ending.{Ending}
 use Rattle.pm_rounds.specs.declared.round.Ending.TheVariants as ending
 use Rattle.pm_object.specs.State.{RoundSeen, State}
@@ -26,12 +26,15 @@ use Rattle.pm_making.specs.Rows.{same_type, Makes, Unfit, Unmade, object_of, row
 -- why `make NEW SHAPE N ..` is refused, first of these
 pub data MakeRefusal (s : Shelf) (to : List ℕ) (shape : ShapeSeen) : Refusal → Type 0 where
   no_new_name : {why : Refusal} → NewNameRefusal s to why → MakeRefusal s to shape why
-  not_fit : {c : Condition} → IsFree s to → shape_condition shape ≡ Some c → MakeRefusal s to shape (NotFit c)
+  not_fit : {c : Condition} → IsNewName s to → shape_condition shape ≡ Some c
+      → MakeRefusal s to shape (NotFit c)
 
 -- `make NEW SHAPE N ..`: the ways in which it may end
 pub data MakeStep (old : Machine) (to : List ℕ) (shape : ShapeSeen) : ReplySeen → Machine → Type 0 where
-  is_refused : {new : Machine} {why : Refusal} → MakeRefusal (shelf old) to shape why → Stays old new → MakeStep old to shape (refused why nothing) new
-  is_made : {new : Machine} {t : Rounds} → IsFree (shelf old) to → shape_condition shape ≡ None → t ≡ no_rounds → Gains to (object_of (shape_file shape)) old new → MakeStep old to shape (done t) new
+  is_refused : {new : Machine} {why : Refusal} → MakeRefusal (shelf old) to shape why → Stays old new
+      → MakeStep old to shape (refused why nothing) new
+  is_made : {new : Machine} {t : Rounds} → IsNewName (shelf old) to → shape_condition shape ≡ None
+      → t ≡ no_rounds → Gains to (object_of (shape_file shape)) old new → MakeStep old to shape (done t) new
 
 -- ---- ensuring what is read
 -- a property of the object of a name
@@ -44,7 +47,8 @@ abbrev pub wanted_of : List ℕ → List PropId → List Wanted
 wanted_of name ps = map (λ p. record { name = name; property = p }) ps
 
 -- the object of the name ensures the property by these rounds, with this ending
-pub record EnsuresOne (book : List Rule) (w : Wanted) (ending : Ending) (rounds : List RoundSeen) (old new : Machine) : Type 0 where
+pub record EnsuresOne (book : List Rule) (w : Wanted) (ending : Ending) (rounds : List RoundSeen)
+    (old new : Machine) : Type 0 where
   pub object : State
   pub named : old.object w.name ≡ Some object
   pub now : Configuration
@@ -55,15 +59,18 @@ pub record EnsuresOne (book : List Rule) (w : Wanted) (ending : Ending) (rounds 
 -- all of these are ensured, one after another, by these rounds
 abbrev pub EnsuresAll : List Rule → List Wanted → List RoundSeen → Machine → Machine → Type 0
 EnsuresAll book [] rounds old new = (rounds ≡ []) × Stays old new
-EnsuresAll book (w ∷ ws) rounds old new = (mid : Machine) × (first : List RoundSeen) × (more : List RoundSeen)
-    × EnsuresOne book w ending.Found first old mid × EnsuresAll book ws more mid new × (rounds ≡ first ++ more)
+EnsuresAll book (w ∷ ws) rounds old new = (mid : Machine) × (first : List RoundSeen)
+    × (more : List RoundSeen)
+    × EnsuresOne book w ending.Found first old mid × EnsuresAll book ws more mid new
+    × (rounds ≡ first ++ more)
 
 -- some first of these are ensured, and the next one ends so, which is not found
 abbrev pub EndsAt : List Rule → List Wanted → Ending → List RoundSeen → Machine → Machine → Type 0
 EndsAt book [] e rounds old new = ⊥
 EndsAt book (w ∷ ws) e rounds old new = ((e ≢ ending.Found) × EnsuresOne book w e rounds old new)
     ⊎ ((mid : Machine) × (first : List RoundSeen) × (more : List RoundSeen)
-    × EnsuresOne book w ending.Found first old mid × EndsAt book ws e more mid new × (rounds ≡ first ++ more))
+    × EnsuresOne book w ending.Found first old mid × EndsAt book ws e more mid new
+    × (rounds ≡ first ++ more))
 
 -- these rounds are of no program
 abbrev pub told_rounds : List Rule → List RoundSeen → Rounds
@@ -97,36 +104,49 @@ wanted_all ps (n ∷ []) = wanted_of n ps
 wanted_all ps (n ∷ k ∷ ns) = wanted_of n ps ++ wanted_all ps (k ∷ ns)
 
 -- what is read of the objects, which are of the type, is ensured by these rounds; they are then these
-pub record Reads (book : List Rule) (b : Builder) (names : List (List ℕ)) (to : List ℕ) (rounds : List RoundSeen) (os : List State) (old mid : Machine) : Type 0 where
-  pub free : IsFree (shelf old) to
+pub record HasEnsured (book : List Rule) (b : Builder) (names : List (List ℕ)) (to : List ℕ)
+    (rounds : List RoundSeen) (os : List State) (old mid : Machine) : Type 0 where
+  pub free : IsNewName (shelf old) to
   pub types : are_of (row_of b).of (shelf old) names ≡ true
   pub ensured : EnsuresAll book (wanted_all (row_of b).reads names) rounds old mid
   pub objects : ObjectsAre mid names os
 
 -- what is read of them is not found
-pub record DoesNotRead (book : List Rule) (b : Builder) (names : List (List ℕ)) (to : List ℕ) (e : Ending) (more : Remarks) (old new : Machine) : Type 0 where
-  pub free : IsFree (shelf old) to
+pub record DoesNotRead (book : List Rule) (b : Builder) (names : List (List ℕ)) (to : List ℕ) (e : Ending)
+    (more : Remarks) (old new : Machine) : Type 0 where
+  pub free : IsNewName (shelf old) to
   pub types : are_of (row_of b).of (shelf old) names ≡ true
   pub rounds : List RoundSeen
   pub ends : EndsAt book (wanted_all (row_of b).reads names) e rounds old new
   pub told : more ≡ rounds_told book rounds
 
 -- why a command of this row is refused before it begins, first of these
-pub data BuildRefusal (s : Shelf) (b : Builder) (names : List (List ℕ)) (to : List ℕ) : Refusal → Type 0 where
+pub data BuildRefusal (s : Shelf) (b : Builder) (names : List (List ℕ)) (to : List ℕ) : Refusal
+    → Type 0 where
   no_such_name : are_named s names ≡ false → BuildRefusal s b names to UnknownName
-  no_new_name : {why : Refusal} → are_named s names ≡ true → NewNameRefusal s to why → BuildRefusal s b names to why
-  other_type : are_named s names ≡ true → IsFree s to → are_of (row_of b).of s names ≡ false → BuildRefusal s b names to (NotFit condition.OfType)
+  no_new_name : {why : Refusal} → are_named s names ≡ true → NewNameRefusal s to why
+      → BuildRefusal s b names to why
+  other_type : are_named s names ≡ true → IsNewName s to → are_of (row_of b).of s names ≡ false
+      → BuildRefusal s b names to (NotFit condition.OfType)
 
--- `WORD NAME NEW`, `WORD NAME NAME NEW`: the ways in which it may end; what was ensured stays also where the object is not made
-pub data BuildStep (book : List Rule) (b : Builder) (old : Machine) (names : List (List ℕ)) (to : List ℕ) : ReplySeen → Machine → Type 0 where
-  is_refused : {new : Machine} {why : Refusal} → BuildRefusal (shelf old) b names to why → Stays old new → BuildStep book b old names to (refused why nothing) new
-  no_chain : {new : Machine} {more : Remarks} → DoesNotRead book b names to ending.NoChain more old new → BuildStep book b old names to (refused NoChain more) new
-  is_crowded : {new : Machine} {more : Remarks} → DoesNotRead book b names to ending.Crowded more old new → BuildStep book b old names to (refused Crowded more) new
-  not_fit : {new : Machine} {more : Remarks} {c : Condition} (rounds : List RoundSeen) (os : List State) → Reads book b names to rounds os old new → c ≢ condition.OfType → Unfit b os c
+-- `WORD NAME NEW`, `WORD NAME NAME NEW`: the ways in which it may end; what was ensured stays also where the object
+-- is not made
+pub data BuildStep (book : List Rule) (b : Builder) (old : Machine) (names : List (List ℕ)) (to : List ℕ)
+    : ReplySeen → Machine → Type 0 where
+  is_refused : {new : Machine} {why : Refusal} → BuildRefusal (shelf old) b names to why → Stays old new
+      → BuildStep book b old names to (refused why nothing) new
+  no_chain : {new : Machine} {more : Remarks} → DoesNotRead book b names to ending.NoChain more old new
+      → BuildStep book b old names to (refused NoChain more) new
+  is_crowded : {new : Machine} {more : Remarks} → DoesNotRead book b names to ending.Crowded more old new
+      → BuildStep book b old names to (refused Crowded more) new
+  not_fit : {new : Machine} {more : Remarks} {c : Condition} (rounds : List RoundSeen) (os : List State)
+      → HasEnsured book b names to rounds os old new → c ≢ condition.OfType → Unfit b os c
       → more ≡ rounds_told book rounds → BuildStep book b old names to (refused (NotFit c) more) new
-  not_made : {new : Machine} {more : Remarks} {why : NotMadeWhy} (rounds : List RoundSeen) (os : List State) → Reads book b names to rounds os old new → Unmade b os why
+  not_made : {new : Machine} {more : Remarks} {why : NotMadeWhy} (rounds : List RoundSeen) (os : List State)
+      → HasEnsured book b names to rounds os old new → Unmade b os why
       → more ≡ rounds_told book rounds → BuildStep book b old names to (refused (NotMade why) more) new
-  is_made : {new mid : Machine} {t : Rounds} (rounds : List RoundSeen) (os : List State) (f : SavedFile) → Reads book b names to rounds os old mid → Makes b os f → Gains to (object_of f) mid new
+  is_made : {new mid : Machine} {t : Rounds} (rounds : List RoundSeen) (os : List State) (f : SavedFile)
+      → HasEnsured book b names to rounds os old mid → Makes b os f → Gains to (object_of f) mid new
       → t ≡ told_rounds book rounds → BuildStep book b old names to (done t) new
 
 -- ---- want of memory
@@ -142,12 +162,16 @@ pub record EnsuresOneInPart (book : List Rule) (w : Wanted) (old new : Machine) 
 abbrev pub EnsuresInPart : List Rule → List Wanted → Machine → Machine → Type 0
 EnsuresInPart book [] old new = Stays old new
 EnsuresInPart book (w ∷ ws) old new = Stays old new ⊎ (EnsuresOneInPart book w old new
-    ⊎ ((mid : Machine) × (rounds : List RoundSeen) × EnsuresOne book w ending.Found rounds old mid × EnsuresInPart book ws mid new))
+    ⊎ ((mid : Machine) × (rounds : List RoundSeen) × EnsuresOne book w ending.Found rounds old mid
+    × EnsuresInPart book ws mid new))
 
--- nothing changed, or the new name was free and the objects are of the row's type: a command that would be refused for a name or a type begins no round
+-- nothing changed, or the new name was free and the objects are of the row's type: a command that would be refused
+-- for a name or a type begins no round
 abbrev pub MayHaveBegun : Builder → List (List ℕ) → List ℕ → Machine → Machine → Type 0
-MayHaveBegun b names to old new = Stays old new ⊎ (IsFree (shelf old) to × (are_of (row_of b).of (shelf old) names ≡ true))
+MayHaveBegun b names to old new = Stays old new
+    ⊎ (IsNewName (shelf old) to × (are_of (row_of b).of (shelf old) names ≡ true))
 
 -- a command of this row in part: some first of what it reads is ensured, where it may begin at all
 abbrev pub BuiltInPart : List Rule → Builder → List (List ℕ) → List ℕ → Machine → Machine → Type 0
-BuiltInPart book b names to old new = MayHaveBegun b names to old new × EnsuresInPart book (wanted_all (row_of b).reads names) old new
+BuiltInPart book b names to old new = MayHaveBegun b names to old new
+    × EnsuresInPart book (wanted_all (row_of b).reads names) old new

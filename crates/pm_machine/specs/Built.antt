@@ -27,8 +27,10 @@ remarks_of t = remarks false t.rounds [] None t.names
 -- the object of the values that were built is made, and these rounds are told; or a condition fails, or it is not made
 abbrev pub MakesBuilt : List ℕ → Result FileObject Unbuilt → Rounds → ReplySeen → Machine → Machine → Type 0
 MakesBuilt to (Ok f) t (done told) old new = (told ≡ t) × Gains to (object_of (file_of f)) old new
-MakesBuilt to (Err (unbuilt.NotFit c)) t (refused (NotFit d) more) old new = (d ≡ c) × (more ≡ remarks_of t) × Stays old new
-MakesBuilt to (Err (unbuilt.NotMade why)) t (refused (NotMade told) more) old new = (told ≡ why) × (more ≡ remarks_of t) × Stays old new
+MakesBuilt to (Err (unbuilt.NotFit c)) t (refused (NotFit d) more) old new = (d ≡ c) × (more ≡ remarks_of t)
+    × Stays old new
+MakesBuilt to (Err (unbuilt.NotMade why)) t (refused (NotMade told) more) old new =
+    (told ≡ why) × (more ≡ remarks_of t) × Stays old new
 MakesBuilt to built t reply old new = ⊥
 
 -- ---- ensuring
@@ -38,13 +40,15 @@ EnsuresTo book ws ending.Found rounds old new = EnsuresAll book ws rounds old ne
 EnsuresTo book ws e rounds old new = EndsAt book ws e rounds old new
 
 -- the property is ensured with this ending, and its rounds are put behind those before
-pub record TellsOne (book : List Rule) (w : Wanted) (e : Ending) (before after : List RoundSeen) (old new : Machine) : Type 0 where
+pub record TellsOne (book : List Rule) (w : Wanted) (e : Ending) (before after : List RoundSeen)
+    (old new : Machine) : Type 0 where
   pub rounds : List RoundSeen
   pub ensured : EnsuresOne book w e rounds old new
   pub told : after ≡ before ++ rounds
 
 -- so are all of these, or one of them ends so
-pub record TellsAll (book : List Rule) (ws : List Wanted) (e : Ending) (before after : List RoundSeen) (old new : Machine) : Type 0 where
+pub record TellsAll (book : List Rule) (ws : List Wanted) (e : Ending) (before after : List RoundSeen)
+    (old new : Machine) : Type 0 where
   pub rounds : List RoundSeen
   pub ensured : EnsuresTo book ws e rounds old new
   pub told : after ≡ before ++ rounds
@@ -62,15 +66,20 @@ abbrev pub HaveRead : Builder → Machine → List (List ℕ) → Type 0
 HaveRead b m names = AllByRecursion (λ n. HasRead (row_of b).of (row_of b).reads (m.object n)) names
 
 -- what was built of the objects of these names: values by the row, unless a condition fails or nothing is made
-pub record IsBuilt (b : Builder) (m : Machine) (names : List (List ℕ)) (built : Result FileObject Unbuilt) : Type 0 where
+pub record IsBuilt (b : Builder) (m : Machine) (names : List (List ℕ)) (built : Result FileObject Unbuilt)
+    : Type 0 where
   pub objects : List State
   pub are : ObjectsAre m names objects
   pub made : IfOk built (λ f. Makes b objects (file_of f))
   pub unbuilt : IfErr built (IsUnbuilt (Unfit b objects) (Unmade b objects))
 
--- an object is made of those of the names, and these rounds are told; or it is told which condition fails, or why none is made
+-- an object is made of those of the names, and these rounds are told; or it is told which condition fails, or why
+-- none is made
 abbrev pub Builds : Builder → List (List ℕ) → List ℕ → Rounds → ReplySeen → Machine → Machine → Type 0
-Builds b names to t (done told) old new = (os : List State) × (f : SavedFile) × ObjectsAre old names os × Makes b os f × (told ≡ t) × Gains to (object_of f) old new
-Builds b names to t (refused (NotFit c) more) old new = (os : List State) × ObjectsAre old names os × Unfit b os c × (more ≡ remarks_of t) × Stays old new
-Builds b names to t (refused (NotMade why) more) old new = (os : List State) × ObjectsAre old names os × Unmade b os why × (more ≡ remarks_of t) × Stays old new
+Builds b names to t (done told) old new = (os : List State) × (f : SavedFile) × ObjectsAre old names os
+    × Makes b os f × (told ≡ t) × Gains to (object_of f) old new
+Builds b names to t (refused (NotFit c) more) old new = (os : List State) × ObjectsAre old names os
+    × Unfit b os c × (more ≡ remarks_of t) × Stays old new
+Builds b names to t (refused (NotMade why) more) old new = (os : List State) × ObjectsAre old names os
+    × Unmade b os why × (more ≡ remarks_of t) × Stays old new
 Builds b names to t reply old new = ⊥

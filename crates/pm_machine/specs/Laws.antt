@@ -10,11 +10,13 @@ use Rattle.pm_script.specs.Replies.{ReplySeen}
 
 -- whatever a step answers, each object stays honest, and kept
 abbrev pub StepsKeep : Type 0
-StepsKeep = (book : List Rule) (old new : Machine) (command : Spoken) (reply : ReplySeen) → Step book old command reply new → AllKept old → AllKept new
+StepsKeep = (book : List Rule) (old new : Machine) (command : Spoken) (reply : ReplySeen)
+    → Step book old command reply new → AllKept old → AllKept new
 
 -- whatever part of a step happened, each object is honest
 abbrev pub StepsInPartKeep : Type 0
-StepsInPartKeep = (book : List Rule) (old new : Machine) (command : Spoken) → StepInPart book old command new → AllKept old → AllHonest new
+StepsInPartKeep = (book : List Rule) (old new : Machine) (command : Spoken) → StepInPart book old command new
+    → AllKept old → AllHonest new
 
 -- of each object, each rule that was excluded with evidence has evidence that holds of it now
 pub record AllStand (book : List Rule) (m : Machine) : Type 0 where
@@ -22,8 +24,10 @@ pub record AllStand (book : List Rule) (m : Machine) : Type 0 where
 
 -- whatever a step answers, it stays so
 abbrev pub StepsKeepEvidence : Type 0
-StepsKeepEvidence = (book : List Rule) (old new : Machine) (command : Spoken) (reply : ReplySeen) → Step book old command reply new → AllStand book old → AllStand book new
+StepsKeepEvidence = (book : List Rule) (old new : Machine) (command : Spoken) (reply : ReplySeen)
+    → Step book old command reply new → AllStand book old → AllStand book new
 
 -- and whatever part of a step happened
 abbrev pub StepsInPartKeepEvidence : Type 0
-StepsInPartKeepEvidence = (book : List Rule) (old new : Machine) (command : Spoken) → StepInPart book old command new → AllStand book old → AllStand book new
+StepsInPartKeepEvidence = (book : List Rule) (old new : Machine) (command : Spoken)
+    → StepInPart book old command new → AllStand book old → AllStand book new

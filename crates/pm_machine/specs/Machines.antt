@@ -18,7 +18,8 @@ pub record Store : Type 0 where
   pub files : Option Files
   pub faults : ℕ
 
--- the names of the objects in the order in which they came, the object of each name, the clients as kinds with counts of their starts, and what stands outside
+-- the names of the objects in the order in which they came, the object of each name, the clients as kinds with counts
+-- of their starts, and what stands outside
 pub record Machine : Type 0 where
   pub names : List (List ℕ)
   pub object : List ℕ → Option State
@@ -77,8 +78,8 @@ pub record Loses (name : List ℕ) (old new : Machine) : Type 0 where
   pub store : new.store ≡ old.store
 
 -- a new object may have the name: no object has it, and there is room for one more
-abbrev pub IsFree : Shelf → List ℕ → Type 0
-IsFree s name = (s.object name ≡ None) × (length s.names < most_objects)
+abbrev pub IsNewName : Shelf → List ℕ → Type 0
+IsNewName s name = (s.object name ≡ None) × (length s.names < most_objects)
 
 -- why no new object may have the name, first of these: an object has it, or there is no room for one more
 pub data NewNameRefusal (s : Shelf) (name : List ℕ) : Refusal → Type 0 where

@@ -15,7 +15,8 @@ use Rattle.pm_props.specs.declared.set.PropSet.{PropSet}
 use Rattle.pm_limits.specs.Limits.{most_file_bytes}
 
 -- what REF names is ensured the property in part
-pub record GaveInPart (book : List Rule) (old : Machine) (ref : RefSeen) (text : List ℕ) (new : Machine) : Type 0 where
+pub record GaveInPart (book : List Rule) (old : Machine) (ref : RefSeen) (text : List ℕ) (new : Machine)
+    : Type 0 where
   pub found : Named
   pub named : named_at (shelf old) ref ≡ Some found
   pub property : PropId
@@ -25,7 +26,8 @@ pub record GaveInPart (book : List Rule) (old : Machine) (ref : RefSeen) (text :
   pub becomes : Becomes ref.name now old new
 
 -- what REF names is ensured what the words ask for, in part
-pub record EnsuredPartly (book : List Rule) (old : Machine) (ref : RefSeen) (words : List (List ℕ)) (new : Machine) : Type 0 where
+pub record EnsuredPartly (book : List Rule) (old : Machine) (ref : RefSeen) (words : List (List ℕ))
+    (new : Machine) : Type 0 where
   pub found : Named
   pub named : named_at (shelf old) ref ≡ Some found
   pub asked : PropSet
@@ -44,7 +46,8 @@ pub record IsSettled (old : Machine) (ref : RefSeen) (words : List (List ℕ)) (
 
 -- nothing changes, or the object's file, which is not too long, is written in part
 abbrev pub SavedInPart : List Rule → Machine → List ℕ → List ℕ → Machine → Type 0
-SavedInPart book old name file new = Stays old new ⊎ ((o : State) × (old.object name ≡ Some o) × (length (bytes_of book o) ≤ most_file_bytes)
+SavedInPart book old name file new = Stays old new
+    ⊎ ((o : State) × (old.object name ≡ Some o) × (length (bytes_of book o) ≤ most_file_bytes)
     × Puts (IsPutInPart file (bytes_of book o)) old new)
 
 -- of the events of the command first ones occurred: those of a command that ensures nothing are all or none

@@ -14,7 +14,8 @@ use Rattle.pm_rules.specs.declared.rule.Rule.{Rule}
 abbrev pub book_of : Session → List Rule
 book_of s = s.book
 
--- the machine of the session and the clients, beside a store with these files, if it tells them, and this count of faults
+-- the machine of the session and the clients, beside a store with these files, if it tells them, and this count of
+-- faults
 abbrev pub machine_at : Session → Clients → Option Files → ℕ → Machine
 machine_at s clients files faults = record {
   names = map string_bytes (keys s.objects);

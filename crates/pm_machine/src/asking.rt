@@ -25,8 +25,8 @@ use pm_telling::names_told;
 use pm_types::{ObjectType, PropId, PropSet, Value};
 use std::alloc::{AllocError, Global};
 
-/// The properties that the words name for an object of the type, of which this program is asked if one is; None where one names
-/// none.
+/// The properties that the words name for an object of the type, of which this program is asked if one is; None where
+/// one names none.
 pub fn asked_in(of: ObjectType, sub: Option<u8>, words: &[String]) -> Option<PropSet>
     ensures { result ≡ asked_in of sub (map string_bytes words.now) }
 {

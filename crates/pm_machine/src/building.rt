@@ -7,7 +7,7 @@ ghost use Rattle.pm_machine.specs.Building.{BuildStep, BuiltInPart, EnsuresInPar
 ghost use Rattle.pm_making.specs.Rows.{row_of, same_type};
 ghost use Rattle.pm_machine.specs.Built.{Builds, HaveRead, IsBuilt, MakesBuilt, TellsAll, TellsOne};
 ghost use Rattle.pm_making.specs.Made.{IsFitting};
-ghost use Rattle.pm_machine.specs.Machines.{IsFree, NewNameRefusal, shelf, Stays};
+ghost use Rattle.pm_machine.specs.Machines.{IsNewName, NewNameRefusal, shelf, Stays};
 ghost use Rattle.pm_machine.specs.Sessions.{book_of, is_spent, machine_of};
 ghost use Rattle.pm_object.specs.Views.{round_seen};
 ghost use Rattle.pm_script.specs.Replies.{names_seen, seen};
@@ -77,7 +77,7 @@ impl Session {
     #[tactic(auto, using(crate::proofs::Ways::new_name_ways))]
     pub(crate) fn bars(&self, name: &str) -> Option<Refusal>
         ensures some { IfSome result (NewNameRefusal (shelf (machine_of self.now [])) name.now) }
-        ensures none { IfNone result (IsFree (shelf (machine_of self.now [])) name.now) }
+        ensures none { IfNone result (IsNewName (shelf (machine_of self.now [])) name.now) }
     {
         if self.objects.get(name).is_some() {
             return Some(Refusal::NameTaken);
@@ -88,7 +88,8 @@ impl Session {
         None
     }
 
-    // Adds the object of the values that were built, or says which condition fails, or why it is not made, and tells the rounds.
+    // Adds the object of the values that were built, or says which condition fails, or why it is not made, and tells
+    // the rounds.
     fn add_made(
         &mut self,
         alloc: Global,

@@ -1,4 +1,5 @@
-//! The machine: a session of named objects, and its steps.
+//! The machine: a session of named objects, and its steps. It knows nothing of the standard rules and clients, and of
+//! where a script comes from.
 #![tactic(auto)]
 
 mod asking;

@@ -22,10 +22,11 @@ use indexmap::IndexMap;
 use pm_books::book_text;
 use pm_client::Client;
 use pm_command::{Command, Ref};
-use pm_filing::{load_object, save_object};
+use pm_filing::load_object;
 use pm_limits::{MOST_FILE_BYTES, MOST_OBJECTS};
 use pm_object::{Object, ProgramFail};
 use pm_rules::Book;
+use pm_saving::save_object;
 use pm_script::{Condition, Refusal, Reply};
 use pm_store::{Store, StoreFail};
 use pm_telling::{origin_of, show_object, tell_evidence, tell_history};
@@ -71,7 +72,8 @@ fn ref_text(alloc: Global, obj: &Ref) -> Result<String, AllocError>
     Ok(text)
 }
 
-// The place of the program that the REF names of its object, if it names one; None where the object has no such program.
+// The place of the program that the REF names of its object, if it names one; None where the object has no such
+// program.
 fn place_in(object: &Object, obj: &Ref) -> Option<Option<u8>>
     ensures named { option_map (λ s. record { object = object.now.state; sub = s }) result
         ≡ part_named object.now.state (option_map string_bytes obj.now.sub) }
@@ -740,8 +742,8 @@ impl Session {
         }
     }
 
-    /// One step of the machine beside its store. Where memory is wanting a first part of its events occurred, maybe none
-    /// or all; then the session answers nothing else, and changes nothing.
+    /// One step of the machine beside its store. Where memory is wanting a first part of its events occurred, maybe
+    /// none or all; then the session answers nothing else, and changes nothing.
     /// The name of a linear program that the command makes is one by the grammar of lines.
     pub fn step<F: Store>(
         &mut self,

@@ -97,8 +97,8 @@ fn takes_none(object: &Object, sub: Option<u8>, p: PropId) -> Option<Refusal>
     None
 }
 
-/// Takes the value of a property that a JSON text gives to the object, or to its program at a place, or says why not; then
-/// nothing changes.
+/// Takes the value of a property that a JSON text gives to the object, or to its program at a place, or says why not;
+/// then nothing changes.
 #[tactic(auto, using(crate::proofs::Ways::value_ways))]
 pub fn take_text(
     alloc: Global,

@@ -28,7 +28,8 @@ use Rattle.pm_types.specs.Values.{PropertyValue}
 abbrev pub is_of_sites : PropId → Bool
 is_of_sites p = same_property Sites p || same_property SiteHeights p
 
--- values of different properties of the type's table, none of sites or heights, each of which has its form for one column count
+-- values of different properties of the type's table, none of sites or heights, each of which has its form for one
+-- column count
 pub record AreFitting (of : ObjectType) (values : List (PropId × PropertyValue)) : Type 0 where
   pub cols : ℕ
   pub forms : All (λ (v : PropId × PropertyValue). FormsIn of cols v.0 v.1) values

@@ -42,7 +42,8 @@ shape_condition (simplex_shape d) = shape_refusal d
 shape_condition (cross_shape d) = shape_refusal d
 shape_condition (cyclic_shape d n) = cyclic_refusal d n
 
--- a command that builds an object of others takes objects of this type, and ensures these properties of each, in their order
+-- a command that builds an object of others takes objects of this type, and ensures these properties of each, in
+-- their order
 pub record Row : Type 0 where
   pub of : ObjectType
   pub reads : List PropId
@@ -77,7 +78,8 @@ Unfit builder os c = ⊥
 -- of these objects nothing is made, for this reason, and with what shows it
 abbrev pub Unmade : Builder → List State → NotMadeWhy → Type 0
 Unmade (Two Minkowski) (a ∷ b ∷ []) (Combination v w k) = IsSumRefused a b (sum.Wide v w k)
-Unmade (Two Refine) (a ∷ b ∷ []) (Pair i j evidence) = IsRefinementRefused a b (refinement.NotMade i j evidence)
+Unmade (Two Refine) (a ∷ b ∷ []) (Pair i j evidence) =
+    IsRefinementRefused a b (refinement.NotMade i j evidence)
 Unmade builder os why = ⊥
 
 -- of these objects one with these values is made: no condition fails

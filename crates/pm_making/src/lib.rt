@@ -1,4 +1,5 @@
-//! New objects: the table of the commands that make objects, the values that each makes, and the object of such values. It knows nothing of names, rounds or clients.
+//! New objects: the table of the commands that make objects, the values that each makes, and the object of such
+//! values. It knows nothing of names, rounds or clients.
 #![tactic(auto)]
 
 mod making;

@@ -19,7 +19,8 @@ use pm_refine::refine;
 use pm_types::{PropId, Value};
 use std::alloc::{AllocError, Global};
 
-/// A command that builds an object of others: the type of these, and the properties that are ensured of each, in their order.
+/// A command that builds an object of others: the type of these, and the properties that are ensured of each, in
+/// their order.
 #[derive(Clone, Copy, Debug)]
 pub struct Row {
     pub of: ObjectType,
@@ -102,7 +103,8 @@ pub fn build_one(alloc: Global, what: Unary, object: &Object) -> Result<FileObje
     }
 }
 
-/// The values of what is built of two objects that hold what is read. `NotFit` names the first condition that fails, `NotMade` why nothing is made where none does.
+/// The values of what is built of two objects that hold what is read. `NotFit` names the first condition that fails,
+/// `NotMade` why nothing is made where none does.
 pub fn build_two(alloc: Global, what: Binary, a: &Object, b: &Object) -> Result<FileObject, Unbuilt>
     requires first { IsRead (row_of (Builder.Two what)).reads a.now.state }
     requires second { IsRead (row_of (Builder.Two what)).reads b.now.state }
@@ -138,8 +140,8 @@ pub fn build_shape(alloc: Global, shape: Shape) -> Result<FileObject, BuildFail>
     }
 }
 
-// Adds given values of different properties of the table, which have their forms for one column count, to an object that
-// holds nothing.
+// Adds given values of different properties of the table, which have their forms for one column count, to an object
+// that holds nothing.
 fn add_all(object: &mut Object, values: Vec<(PropId, Value)>) -> Result<(), AllocError>
     requires empty { object.old.state.held ≡ [] }
     requires fitting { AreFitting object.old.state.of (map value_seen values.items) }

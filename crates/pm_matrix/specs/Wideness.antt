@@ -1,5 +1,6 @@
--- When the primitive row of a row of fractions is made within the range. The numbers on the way are, column by column, the least common
--- multiple of the denominators so far, and then, column by column, the numerator over the last of these.
+-- When the primitive row of a row of fractions is made within the range. The numbers on the way are, column by
+-- column, the least common multiple of the denominators so far, and then, column by column, the numerator over the
+-- last of these.
 use Rattle.pm_vector.specs.Numbers.{InRange, Ratio}
 use Rattle.pm_matrix.specs.FractionRows.{IsLeastDenominator, numerator_over}
 use Rattle.pm_vector.specs.Rows.{ratio_at}

@@ -22,7 +22,8 @@ pub enum MatrixFail {
 /// Why a row of fractions has no primitive whole row within the range.
 #[derive(Clone, Copy, Debug, PartialEq, Eq, Error)]
 pub enum RowFail {
-    /// The least common multiple, or the product, of these two is the first number on the way that is out of the range.
+    /// The least common multiple, or the product, of these two is the first number on the way that is out of the
+    /// range.
     #[error("{first} and {second} make a number that is too wide")]
     Wide { first: i128, second: i128 },
     /// No memory was left.
@@ -33,7 +34,8 @@ pub enum RowFail {
 /// Why the rows of a matrix have no primitive whole rows within the range.
 #[derive(Clone, Copy, Debug, PartialEq, Eq, Error)]
 pub enum RowsFail {
-    /// In this row the least common multiple, or the product, of these two is the first number out of the range; no row before it has one.
+    /// In this row the least common multiple, or the product, of these two is the first number out of the range; no
+    /// row before it has one.
     #[error("{first} and {second} make a number that is too wide, in row {row}")]
     Wide { row: u32, first: i128, second: i128 },
     /// No memory was left.

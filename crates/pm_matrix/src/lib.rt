@@ -1,4 +1,5 @@
-//! Matrices of fractions, and the primitive whole rows of their rows.
+//! Matrices of fractions, and the primitive whole rows of their rows. It knows nothing of geometry, properties and
+//! objects.
 #![tactic(auto)]
 
 mod fails;

@@ -70,7 +70,10 @@ impl Matrix {
 
     /// Puts a row below the others.
     pub fn push_row(&mut self, row: &[Fraction]) -> Result<(), MatrixFail>
-        ensures ok { OnOk result (self.new ≡ record { cols = self.old.cols; rows = self.old.rows ++ row.now ∷ [] }) }
+        ensures ok { OnOk result (self.new ≡ record {
+          cols = self.old.cols;
+          rows = self.old.rows ++ row.now ∷ [];
+        }) }
         ensures ragged { IsErrOf result MatrixFail.Ragged ↔ (length row.now ≢ self.old.cols) }
         ensures unchanged { OnErr result (self.new ≡ self.old) }
     {
@@ -110,8 +113,8 @@ impl Matrix {
         })
     }
 
-    /// The primitive whole row of each row. `Wide` exactly where a number on the way to one is out of the range, with the first such row
-    /// and the two numbers that make the first such number in it.
+    /// The primitive whole row of each row. `Wide` exactly where a number on the way to one is out of the range, with
+    /// the first such row and the two numbers that make the first such number in it.
     pub fn to_primitive_rows(&self, alloc: Global) -> Result<Vec<Ints>, RowsFail>
         requires { length self.now.rows < 2 ^ 30 }
         ensures rows { IfOk result (λ v. ArePrimitiveRowsOf self.now.rows v.items) }

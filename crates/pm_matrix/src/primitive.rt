@@ -39,7 +39,8 @@ fn next_denominator(least: u128, f: Fraction) -> Result<u128, RowFail>
     ensures value { IfOk result (IsLcm least (unsigned_abs f.den)) }
     ensures in_range { IfOk result (λ m. m < 2 ^ 127) }
     ensures reduced { IsReduced f }
-    ensures wide { IfErr result (λ e. (e ≡ RowFail.Wide (pos least) f.den) × ((m : ℕ) → IsLcm least (unsigned_abs f.den) m → 2 ^ 127 ≤ m)) }
+    ensures wide { IfErr result (λ e. (e ≡ RowFail.Wide (pos least) f.den)
+        × ((m : ℕ) → IsLcm least (unsigned_abs f.den) m → 2 ^ 127 ≤ m)) }
 {
     let den = f.den();
     match lcm(least, den.unsigned_abs()) {
@@ -72,7 +73,8 @@ fn scaled_numerator(m: u128, f: Fraction) -> Result<i128, RowFail>
     requires { m < 2 ^ 127 }
     ensures value { IfOk result (λ n. n ≡ numerator_over m f) }
     ensures in_range { IfOk result InRange }
-    ensures wide { IfErr result (λ e. (e ≡ RowFail.Wide f.num (pos (m / unsigned_abs f.den))) × (InRange (numerator_over m f) → ⊥)) }
+    ensures wide { IfErr result (λ e. (e ≡ RowFail.Wide f.num (pos (m / unsigned_abs f.den)))
+        × (InRange (numerator_over m f) → ⊥)) }
 {
     let num = f.num();
     let factor = (m / f.den().unsigned_abs()) as i128;
@@ -101,8 +103,9 @@ fn scaled_numerators(alloc: Global, row: &[Fraction], m: u128) -> Result<Ints, R
     Ok(numerators)
 }
 
-/// The primitive whole row of a row of fractions: the numerators over the least common denominator, divided by their greatest common
-/// divisor; a zero row stays zero. `Wide` exactly where a number on the way is out of the range, with the two that make the first such number.
+/// The primitive whole row of a row of fractions: the numerators over the least common denominator, divided by their
+/// greatest common divisor; a zero row stays zero. `Wide` exactly where a number on the way is out of the range, with
+/// the two that make the first such number.
 pub fn primitive_row(alloc: Global, row: &[Fraction]) -> Result<Ints, RowFail>
     ensures value { IfOk result (IsPrimitiveRowOf row.now) }
     ensures multiple { IfOk result (Stands row.now) }

@@ -1,8 +1,11 @@
-//! One linear program: from standard input its inequalities, its equations and its objective, each a line with a matrix as JSON;
-//! on standard output the greatest value of the objective.
+//! One linear program: from standard input its inequalities, its equations and its objective, each a line with a
+//! matrix as JSON; on standard output the greatest value of the objective. It knows nothing of objects, rules and
+//! sessions.
 //!
-//! A row (a0, a1, ..) of the inequalities says a0 + a1 x1 + .. >= 0, and of the equations that this is 0; the objective is a matrix
-//! of one row. What is written is `optimal` and the value, `unbounded`, `infeasible`, or `wide`, where numbers leave 128 bits.
+//! A row (a0, a1, ..) of the inequalities says a0 + a1 x1 + .. >= 0, and of the equations that this is 0; the
+//! objective is a matrix of one row. What is written is `optimal` and the value, `unbounded`, `infeasible`, or
+//! `wide`, where numbers leave
+//! 128 bits.
 #![tactic(auto)]
 
 mod problem;

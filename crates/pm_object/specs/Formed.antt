@@ -30,12 +30,15 @@ abbrev pub is_numbered : Why → Bool
 is_numbered (why.Stored k) = nat_le 1 k && nat_le k 5
 is_numbered reason = true
 
--- where a value of the property stands in an object with k linear programs: in the object itself, or, where it is one of programs, in one of them
+-- where a value of the property stands in an object with k linear programs: in the object itself, or, where it is one
+-- of programs, in one of them
 abbrev pub is_placed : ℕ → PropId → Option ℕ → Bool
 is_placed k p None = not (has_program p)
 is_placed k p (Some s) = has_program p && nat_lt s k
 
--- a held value of an object of this type with k programs, whose column count is n if it is known: it stands where values of its property may stand, one of the object itself is of the type's table, it has its form, agrees with n, its rows pass their tests, its entries are fractions, and its primitive rows are made within the range
+-- a held value of an object of this type with k programs, whose column count is n if it is known: it stands where
+-- values of its property may stand, one of the object itself is of the type's table, it has its form, agrees with n,
+-- its rows pass their tests, its entries are fractions, and its primitive rows are made within the range
 pub record IsFormedIn (of : ObjectType) (n : Option ℕ) (k : ℕ) (h : HeldValue) : Type 0 where
   pub formed : IsTrue (is_formed h.property h.value)
   pub columns : IsTrue (agrees n h.property h.value)
@@ -50,7 +53,8 @@ abbrev pub are_different : List (List ℕ) → Bool
 are_different [] = true
 are_different (name ∷ names) = not (list_any (bytes_eq name) names) && are_different names
 
--- the names of the programs of an object of this type: at most four, each a word that may be a name, no two the same, and none but in a polytope
+-- the names of the programs of an object of this type: at most four, each a word that may be a name, no two the same,
+-- and none but in a polytope
 pub record ArePrograms (of : ObjectType) (names : List (List ℕ)) : Type 0 where
   pub few : IsTrue (nat_le (length names) most_programs)
   pub words : IsTrue (list_all is_name names)
@@ -61,15 +65,19 @@ pub record ArePrograms (of : ObjectType) (names : List (List ℕ)) : Type 0 wher
 abbrev pub speaks_of_rays : List HeldValue → Bool
 speaks_of_rays held = has_tag rays_tag (read_at None held)
 
--- a value of the property may join these: where it is one of programs and speaks of the order of the rays, one of the object itself does
+-- a value of the property may join these: where it is one of programs and speaks of the order of the rays, one of the
+-- object itself does
 abbrev pub IsBacked : PropId → List HeldValue → Type 0
 IsBacked p held = IsTrue (has_program p && rays_tag p) → IsTrue (speaks_of_rays held)
 
 -- two values that were given: where one is of SITES and the other of SITE_HEIGHTS, there are as many rows as heights
 abbrev pub HaveAsManySites : HeldValue → HeldValue → Type 0
-HaveAsManySites g h = IsTrue (is_given g.origin && is_given h.origin) → IsTrue (have_as_many_sites g.property g.value h.property h.value)
+HaveAsManySites g h = IsTrue (is_given g.origin && is_given h.origin)
+    → IsTrue (have_as_many_sites g.property g.value h.property h.value)
 
--- all held values are so, no two of them are of one property at one place, a program's value speaks of the order of the rays only where one of the object itself does, the numbers of evidence are such, the programs are such, and an object for which a round was started knows its dimension, and given sites have as many heights
+-- all held values are so, no two of them are of one property at one place, a program's value speaks of the order of
+-- the rays only where one of the object itself does, the numbers of evidence are such, the programs are such, and an
+-- object for which a round was started knows its dimension, and given sites have as many heights
 pub record IsFormed (o : State) : Type 0 where
   pub each : (h : HeldValue) → Contains o.held h → IsFormedIn o.of (cols_of o.held) (length o.programs) h
   pub once : IsTrue (are_once o.held)

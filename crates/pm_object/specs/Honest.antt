@@ -35,9 +35,11 @@ pub record HonestAnswer (held : List HeldValue) (t : Thing) (o : Orders) : Type 
   pub facets : has_tag facets_tag (based held) ≡ true → orders.facets ≡ o.facets
   pub cones : has_tag facets_tag (based held) ≡ true → orders.cones ≡ o.cones
 
--- for every thing of the object's type, and all orders, for which the given and stored values are right, there are orders for which all held values are right; an order of which a given or stored value speaks stays
+-- for every thing of the object's type, and all orders, for which the given and stored values are right, there are
+-- orders for which all held values are right; an order of which a given or stored value speaks stays
 pub record IsHonest (o : State) : Type 0 where
-  pub answer : (t : Thing) (p : Orders) → t.of ≡ o.of → RightAll (facts (based o.held)) t p → HonestAnswer o.held t p
+  pub answer : (t : Thing) (p : Orders) → t.of ≡ o.of → RightAll (facts (based o.held)) t p
+      → HonestAnswer o.held t p
 
 -- the object is honest, and while it has no round each of its values was given or stored
 pub record IsKept (o : State) : Type 0 where

@@ -1,4 +1,5 @@
--- The laws of honesty: an object stays honest where it gains values that were given or stored while no round was started, what goes without saying, or what a client may answer.
+-- The laws of honesty: an object stays honest where it gains values that were given or stored while no round was
+-- started, what goes without saying, or what a client may answer.
 use Rattle.std.specs.Prelude.{ℕ, ◌≡◌, true, Option, Some, List, [], ◌∷◌, map}
 use Rattle.std.specs.List.{Contains}
 use Rattle.pm_object_type.specs.declared.object_type.ObjectType.{ObjectType}
@@ -18,17 +19,20 @@ computed_at sub p v = record { place = place_of sub p; property = p; value = v; 
 
 -- the facts of an answer as computed values, at their places
 abbrev pub computed : List Fact → List HeldValue
-computed answer = map (λ f. record { place = f.place; property = f.property; value = f.value; origin = Computed }) answer
+computed answer =
+    map (λ f. record { place = f.place; property = f.property; value = f.value; origin = Computed }) answer
 
 abbrev pub EmptyIsKept : Type 0
 EmptyIsKept = (of : ObjectType) → IsKept (empty_object of)
 
 abbrev pub BasedIsKept : Type 0
-BasedIsKept = (o : State) (more : List HeldValue) → o.rounds ≡ [] → ((h : HeldValue) → Contains more h → is_based h.origin ≡ true) → IsKept o → IsKept (with_held o more)
+BasedIsKept = (o : State) (more : List HeldValue) → o.rounds ≡ []
+    → ((h : HeldValue) → Contains more h → is_based h.origin ≡ true) → IsKept o → IsKept (with_held o more)
 
 -- an objective that is given to a program leaves the object so, also once rounds were started for the object
 abbrev pub ObjectiveIsKept : Type 0
-ObjectiveIsKept = (o : State) (s : ℕ) (v : PropertyValue) → IsKept o → IsKept (with_held o (given_at (Some s) LinearObjective v ∷ []))
+ObjectiveIsKept = (o : State) (s : ℕ) (v : PropertyValue) → IsKept o
+    → IsKept (with_held o (given_at (Some s) LinearObjective v ∷ []))
 
 abbrev pub SettledIsKept : Type 0
 SettledIsKept = (o : State) → IsKept o → IsKept (with_held o (settling o))

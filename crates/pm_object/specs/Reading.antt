@@ -16,7 +16,8 @@ use Rattle.pm_object.specs.Honest.{facts}
 use Rattle.pm_object.specs.State.{State, cols_of, is_held, read_at}
 use Rattle.pm_limits.specs.Limits.{most_columns}
 
--- the type and the column count of an object, the kind of a client, the program that is asked if one is, and the values of the kind's sources
+-- the type and the column count of an object, the kind of a client, the program that is asked if one is, and the
+-- values of the kind's sources
 pub record ViewSeen : Type 0 where
   pub of : ObjectType
   pub cols : ℕ
@@ -26,7 +27,13 @@ pub record ViewSeen : Type 0 where
 
 -- the view of the object, of n columns, for a client of the kind, where this program is asked if one is
 abbrev pub view_for : State → Option ℕ → Kind → ℕ → ViewSeen
-view_for o sub kind n = record { of = o.of; cols = n; kind = kind; sub = sub; facts = shown kind sub (facts o.held) }
+view_for o sub kind n = record {
+  of = o.of;
+  cols = n;
+  kind = kind;
+  sub = sub;
+  facts = shown kind sub (facts o.held);
+}
 
 -- what an object must hold to be viewed by a client of the kind
 pub record IsViewed (o : State) (sub : Option ℕ) (kind : Kind) (n : ℕ) : Type 0 where
@@ -34,7 +41,8 @@ pub record IsViewed (o : State) (sub : Option ℕ) (kind : Kind) (n : ℕ) : Typ
   pub sources : (p : PropId) → IsTrue (has kind.sources p) → IsTrue (is_held p (read_at sub o.held))
   pub in_use : IsKindOf sub o.of kind
 
--- what is so of every view: n is from 1 to 33, all sources are there and nothing else, those of linear programs at the program that is asked, which is a polytope's, the values have their forms, and all names of the kind are in use
+-- what is so of every view: n is from 1 to 33, all sources are there and nothing else, those of linear programs at
+-- the program that is asked, which is a polytope's, the values have their forms, and all names of the kind are in use
 pub record IsView (v : ViewSeen) : Type 0 where
   pub some_cols : IsTrue (nat_le 1 v.cols)
   pub few_cols : IsTrue (nat_le v.cols most_columns)

@@ -1,4 +1,5 @@
--- An object, as contracts see it. A place is None for the object itself, and the number of a linear program for that program of it.
+-- An object, as contracts see it. A place is None for the object itself, and the number of a linear program for that
+-- program of it.
 use Rattle.std.specs.Prelude.{ℕ, suc, ◌≡◌, ◌⊎◌, ◌||◌, ◌&&◌, Bool, true, false, not, Option, Some, None, List, [], ◌∷◌, ◌++◌, codes, filter, length, map, nat_eq, nat_le, if◌then◌else◌}
 use Rattle.std.specs.List.{list_all, list_any}
 use Rattle.std.specs.Str.{bytes_eq}
@@ -44,7 +45,8 @@ pub record RoundSeen : Type 0 where
   pub chain : List RuleId
   pub end : RoundEnd
 
--- the object's type, its held values in order, the excluded rules, the rounds, the disabled labels, and the names of its linear programs, by place
+-- the object's type, its held values in order, the excluded rules, the rounds, the disabled labels, and the names of
+-- its linear programs, by place
 pub record State : Type 0 where
   pub of : ObjectType
   pub held : List HeldValue
@@ -110,7 +112,8 @@ holds_computed_at place held = list_any (λ h. is_computed h.origin && same_plac
 abbrev pub has_rounds_at : Option ℕ → List RoundSeen → Bool
 has_rounds_at place rounds = list_any (λ r. same_place r.sub place) rounds
 
--- whether the object is sealed, or the linear program at a place: it holds a computed value, or a round was started for it
+-- whether the object is sealed, or the linear program at a place: it holds a computed value, or a round was started
+-- for it
 abbrev pub is_sealed_at : Option ℕ → State → Bool
 is_sealed_at None o = is_sealed o
 is_sealed_at (Some s) o = holds_computed_at (Some s) o.held || has_rounds_at (Some s) o.rounds
@@ -126,7 +129,8 @@ ambient_in v = None
 
 abbrev pub first_cols : List HeldValue → Option ℕ
 first_cols [] = None
-first_cols (h ∷ held) = if nat_eq (stated_cols h.property h.value) 0 then first_cols held else Some (stated_cols h.property h.value)
+first_cols (h ∷ held) = if nat_eq (stated_cols h.property h.value) 0 then first_cols held
+    else Some (stated_cols h.property h.value)
 
 abbrev pub or_else : Option ℕ → Option ℕ → Option ℕ
 or_else None other = other
@@ -143,7 +147,8 @@ agrees (Some n) p v = agrees_with n p v
 
 -- where the first is of SITES and the second of SITE_HEIGHTS, there are as many rows as heights
 abbrev pub have_as_many_sites : PropId → PropertyValue → PropId → PropertyValue → Bool
-have_as_many_sites p v q w = if same_property Sites p && same_property SiteHeights q then nat_eq (length (rows_in v)) (cols_in w) else true
+have_as_many_sites p v q w = if same_property Sites p
+    && same_property SiteHeights q then nat_eq (length (rows_in v)) (cols_in w) else true
 
 -- so it is of two values either way
 abbrev pub agree_in_sites : PropId → PropertyValue → PropId → PropertyValue → Bool
@@ -151,14 +156,17 @@ agree_in_sites p v q w = have_as_many_sites p v q w && have_as_many_sites q w p 
 
 -- so it is of the value and each of these that was given
 abbrev pub sites_agree : List HeldValue → PropId → PropertyValue → Bool
-sites_agree held p v = list_all (λ h. if is_given h.origin then agree_in_sites p v h.property h.value else true) held
+sites_agree held p v = list_all (λ h. if is_given h.origin then agree_in_sites p v h.property h.value
+    else true) held
 
--- whether a value of the property may be given there: one of the type's table to the object, the objective to a linear program
+-- whether a value of the property may be given there: one of the type's table to the object, the objective to a
+-- linear program
 abbrev pub is_given_at : ObjectType → Option ℕ → PropId → Bool
 is_given_at of None p = has of p
 is_given_at of (Some s) p = same_property LinearObjective p
 
--- the first reason not to take the value, for the object or for the program at a place, in the order in which it is asked, before its primitive rows are asked for
+-- the first reason not to take the value, for the object or for the program at a place, in the order in which it is
+-- asked, before its primitive rows are asked for
 abbrev pub take_refusal : State → Option ℕ → PropId → PropertyValue → Option TakeFail
 take_refusal o sub p v = if is_held p (read_at sub o.held) then Some refused.AlreadyHeld
     else if is_sealed_at sub o then Some refused.Sealed
@@ -174,7 +182,8 @@ CanTake o sub p v = (take_refusal o sub p v ≡ None) × HavePrimitiveRows p v
 
 -- e is that reason; where there is none the value is no such thing, as some primitive row is not made within the range
 abbrev pub CannotTake : State → Option ℕ → PropId → PropertyValue → TakeFail → Type 0
-CannotTake o sub p v refused.NotAThing = (take_refusal o sub p v ≡ Some refused.NotAThing) ⊎ ((take_refusal o sub p v ≡ None) × ¬ (HavePrimitiveRows p v))
+CannotTake o sub p v refused.NotAThing = (take_refusal o sub p v ≡ Some refused.NotAThing)
+    ⊎ ((take_refusal o sub p v ≡ None) × ¬ (HavePrimitiveRows p v))
 CannotTake o sub p v e = take_refusal o sub p v ≡ Some e
 
 -- a given value of the property, where it stands for who asks this program, if one is asked
@@ -231,8 +240,11 @@ names_to_settle held =
     only_if (not (is_held ConeAmbientDim held)) ConeAmbientDim
     ++ only_if (is_held Points held && not (is_held InputLineality held)) InputLineality
     ++ only_if (is_held Inequalities held && not (is_held Equations held)) Equations
-    ++ only_if (is_held Vertices held && not (is_held Points held) && not (is_held Inequalities held) && not (is_held Facets held && is_held AffineHull held) && not (is_held LinealitySpace held)) LinealitySpace
-    ++ only_if (is_held Facets held && not (is_held Points held) && not (is_held Inequalities held) && not (is_held Vertices held) && not (is_held AffineHull held)) AffineHull
+    ++ only_if (is_held Vertices held && not (is_held Points held) && not (is_held Inequalities held)
+    && not (is_held Facets held && is_held AffineHull held)
+    && not (is_held LinealitySpace held)) LinealitySpace
+    ++ only_if (is_held Facets held && not (is_held Points held) && not (is_held Inequalities held)
+    && not (is_held Vertices held) && not (is_held AffineHull held)) AffineHull
 
 -- what goes without saying of an object without rounds, where it is not held
 abbrev pub settling_names : State → List PropId

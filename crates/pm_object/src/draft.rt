@@ -50,7 +50,11 @@ impl Draft {
     pub fn put(&mut self, p: PropId, v: Value) -> Result<(), Value>
         requires target { IsTrue (has self.old.kind.targets p) }
         requires missing { drafted p self.old.values ≡ None }
-        ensures ok { OnOk result (self.new ≡ record self.old { values = self.old.values ++ record { property = p; value = view_of v } ∷ [] }) }
+        ensures ok { OnOk result
+            (self.new ≡ record self.old {
+              values = self.old.values
+                  ++ record { property = p; value = view_of v } ∷ [];
+            }) }
         ensures back { IfErr result (λ w. w ≡ v) }
         ensures err { OnErr result (self.new ≡ self.old) }
     {

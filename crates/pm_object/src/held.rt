@@ -111,8 +111,8 @@ pub enum TakeFail {
     /// The property is held.
     #[error("the property is held")]
     AlreadyHeld,
-    /// A round was started for the object, or it holds a stored value; a round was started for the program, or it holds a
-    /// computed value.
+    /// A round was started for the object, or it holds a stored value; a round was started for the program, or it
+    /// holds a computed value.
     #[error("the object is sealed")]
     Sealed,
     /// The table of the object's type has no such property; of a program it is not the objective.

@@ -1,5 +1,5 @@
 //! Objects: the values that they hold, the rules that were excluded, the rounds that were started. A held value never
-//! changes.
+//! changes. It knows nothing of files, books of rules, clients and sessions.
 #![tactic(auto)]
 
 mod copies;

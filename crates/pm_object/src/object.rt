@@ -119,8 +119,8 @@ impl Object {
         self.has_rounds() || holds_stored(&self.held)
     }
 
-    /// Whether the object is sealed, or the linear program at a place: it holds a computed value, or a round was started
-    /// for it.
+    /// Whether the object is sealed, or the linear program at a place: it holds a computed value, or a round was
+    /// started for it.
     pub fn is_sealed_at(&self, sub: Option<u8>) -> bool
         ensures { result ≡ is_sealed_at sub self.now.state }
     {
@@ -156,15 +156,16 @@ impl Object {
         Some(place as u8)
     }
 
-    /// Adds a linear program without an objective, and answers its place, unless the first of these holds: the object is no
-    /// polytope (`NotPolytope`), a program of it has the name (`NameTaken`), it has four (`Full`). Nothing changes where
-    /// the answer is not Ok.
+    /// Adds a linear program without an objective, and answers its place, unless the first of these holds: the object
+    /// is no polytope (`NotPolytope`), a program of it has the name (`NameTaken`), it has four (`Full`). Nothing
+    /// changes where the answer is not Ok.
     pub fn add_program(&mut self, alloc: Global, name: &str) -> Result<u8, ProgramFail>
         requires name { IsTrue (is_name name.now) }
         ensures place { IfOk result (λ s. s ≡ length self.old.state.programs) }
         ensures ok { OnOk result (program_refusal self.old.state name.now ≡ None) }
         ensures added { OnOk result (self.new.state ≡ with_program self.old.state name.now) }
-        ensures refused { IfErr result (λ e. e ≢ ProgramFail.Memory → program_refusal self.old.state name.now ≡ Some e) }
+        ensures refused { IfErr result (λ e. e ≢ ProgramFail.Memory
+            → program_refusal self.old.state name.now ≡ Some e) }
         ensures unchanged { OnErr result (self.new.state ≡ self.old.state) }
         ensures spare { self.new.spare ≡ self.old.spare }
     {
@@ -196,9 +197,11 @@ impl Object {
         Ok(())
     }
 
-    /// The value of a property that is read by who asks this program, if one is asked; None exactly where none is held.
+    /// The value of a property that is read by who asks this program, if one is asked; None exactly where none is
+    /// held.
     pub fn lookup(&self, sub: Option<u8>, p: PropId) -> Option<&Value>
-        ensures value { option_map (λ v. view_of v.now) result ≡ value_of p (read_at sub self.now.state.held) }
+        ensures value { option_map (λ v. view_of v.now) result
+            ≡ value_of p (read_at sub self.now.state.held) }
         ensures formed { IsFormed self.now.state }
     {
         find_at(&self.held, sub, p)
@@ -252,12 +255,15 @@ impl Object {
 
     /// Adds a given value, unless the first of these holds: the property is held (`AlreadyHeld`), the object is sealed
     /// (`Sealed`), the type's table has no such property (`NotOfType`), the columns differ from n, or the
-    /// number of sites from that of heights (`Columns`), a row fails the tests of its property, or its primitive row is not made within the range (`NotAThing`). Nothing changes where the answer is not Ok.
+    /// number of sites from that of heights (`Columns`), a row fails the tests of its property, or its primitive row
+    /// is not made within the range (`NotAThing`). Nothing changes where the answer is not Ok.
     pub fn take(&mut self, p: PropId, v: Value) -> Result<(), TakeFail>
         requires formed { IsTrue (is_formed p (view_of v)) }
         ensures ok { OnOk result (CanTake self.old.state None p (view_of v)) }
-        ensures added { OnOk result (self.new.state ≡ with_held self.old.state (given_at None p (view_of v) ∷ [])) }
-        ensures refused { IfErr result (λ e. e ≢ TakeFail.Memory → CannotTake self.old.state None p (view_of v) e) }
+        ensures added { OnOk result (self.new.state
+            ≡ with_held self.old.state (given_at None p (view_of v) ∷ [])) }
+        ensures refused { IfErr result (λ e. e ≢ TakeFail.Memory
+            → CannotTake self.old.state None p (view_of v) e) }
         ensures unchanged { OnErr result (self.new.state ≡ self.old.state) }
         ensures spare { OnOk result (self.old.spare ≤ self.new.spare + 1) }
         ensures spare_left { OnErr result (self.old.spare ≤ self.new.spare) }
@@ -265,14 +271,16 @@ impl Object {
         self.take_at(None, p, v)
     }
 
-    /// The same for the linear program at a place: it is sealed where it holds a computed value or a round was started for
-    /// it, and takes its objective alone (`NotOfType` for any other property).
+    /// The same for the linear program at a place: it is sealed where it holds a computed value or a round was
+    /// started for it, and takes its objective alone (`NotOfType` for any other property).
     pub fn take_in(&mut self, sub: u8, p: PropId, v: Value) -> Result<(), TakeFail>
         requires formed { IsTrue (is_formed p (view_of v)) }
         requires place { sub < length self.old.state.programs }
         ensures ok { OnOk result (CanTake self.old.state (Some sub) p (view_of v)) }
-        ensures added { OnOk result (self.new.state ≡ with_held self.old.state (given_at (Some sub) p (view_of v) ∷ [])) }
-        ensures refused { IfErr result (λ e. e ≢ TakeFail.Memory → CannotTake self.old.state (Some sub) p (view_of v) e) }
+        ensures added { OnOk result (self.new.state
+            ≡ with_held self.old.state (given_at (Some sub) p (view_of v) ∷ [])) }
+        ensures refused { IfErr result (λ e. e ≢ TakeFail.Memory
+            → CannotTake self.old.state (Some sub) p (view_of v) e) }
         ensures unchanged { OnErr result (self.new.state ≡ self.old.state) }
         ensures spare { OnOk result (self.old.spare ≤ self.new.spare + 1) }
         ensures spare_left { OnErr result (self.old.spare ≤ self.new.spare) }
@@ -285,8 +293,10 @@ impl Object {
         requires formed { IsTrue (is_formed p (view_of v)) }
         requires place { IfSome sub (λ s. s < length self.old.state.programs) }
         ensures ok { OnOk result (CanTake self.old.state sub p (view_of v)) }
-        ensures added { OnOk result (self.new.state ≡ with_held self.old.state (given_at sub p (view_of v) ∷ [])) }
-        ensures refused { IfErr result (λ e. e ≢ TakeFail.Memory → CannotTake self.old.state sub p (view_of v) e) }
+        ensures added { OnOk result (self.new.state
+            ≡ with_held self.old.state (given_at sub p (view_of v) ∷ [])) }
+        ensures refused { IfErr result (λ e. e ≢ TakeFail.Memory
+            → CannotTake self.old.state sub p (view_of v) e) }
         ensures unchanged { OnErr result (self.new.state ≡ self.old.state) }
         ensures spare { OnOk result (self.old.spare ≤ self.new.spare + 1) }
         ensures spare_left { OnErr result (self.old.spare ≤ self.new.spare) }
@@ -304,8 +314,8 @@ impl Object {
         Ok(())
     }
 
-    /// Adds a value that a file gives, of a property of the type's table that is not held. It has its form and agrees with
-    /// n and, in the number of sites, with the given values, and its rows pass the tests of its property.
+    /// Adds a value that a file gives, of a property of the type's table that is not held. It has its form and agrees
+    /// with n and, in the number of sites, with the given values, and its rows pass the tests of its property.
     pub fn add_given(&mut self, p: PropId, v: Value) -> Result<(), AllocError>
         requires formed { IsTrue (is_formed p (view_of v)) }
         requires missing { is_held p (read_at None self.old.state.held) ≡ false }
@@ -314,7 +324,8 @@ impl Object {
         requires rows { IsTrue (are_rows self.old.state.of p (view_of v)) }
         requires primitive { HavePrimitiveRows p (view_of v) }
         requires sites { IsTrue (sites_agree self.old.state.held p (view_of v)) }
-        ensures ok { OnOk result (self.new.state ≡ with_held self.old.state (file_value Given p (view_of v) ∷ [])) }
+        ensures ok { OnOk result (self.new.state
+            ≡ with_held self.old.state (file_value Given p (view_of v) ∷ [])) }
         ensures err { OnErr result (self.new.state ≡ self.old.state) }
         ensures spare { OnOk result (self.old.spare ≤ self.new.spare + 1) }
         ensures spare_left { OnErr result (self.old.spare ≤ self.new.spare) }
@@ -330,7 +341,8 @@ impl Object {
         requires columns { IsTrue (agrees (cols_of self.old.state.held) p (view_of v)) }
         requires rows { IsTrue (are_rows self.old.state.of p (view_of v)) }
         requires primitive { HavePrimitiveRows p (view_of v) }
-        ensures ok { OnOk result (self.new.state ≡ with_held self.old.state (file_value Stored p (view_of v) ∷ [])) }
+        ensures ok { OnOk result (self.new.state
+            ≡ with_held self.old.state (file_value Stored p (view_of v) ∷ [])) }
         ensures err { OnErr result (self.new.state ≡ self.old.state) }
         ensures spare { OnOk result (self.old.spare ≤ self.new.spare + 1) }
         ensures spare_left { OnErr result (self.old.spare ≤ self.new.spare) }
@@ -347,7 +359,8 @@ impl Object {
         requires rows { IsTrue (are_rows self.old.state.of p (view_of v)) }
         requires primitive { HavePrimitiveRows p (view_of v) }
         requires sites { IsTrue (is_given origin) → IsTrue (sites_agree self.old.state.held p (view_of v)) }
-        ensures ok { OnOk result (self.new.state ≡ with_held self.old.state (file_value origin p (view_of v) ∷ [])) }
+        ensures ok { OnOk result (self.new.state
+            ≡ with_held self.old.state (file_value origin p (view_of v) ∷ [])) }
         ensures err { OnErr result (self.new.state ≡ self.old.state) }
         ensures spare { OnOk result (self.old.spare ≤ self.new.spare + 1) }
         ensures spare_left { OnErr result (self.old.spare ≤ self.new.spare) }
@@ -369,10 +382,12 @@ impl Object {
         requires place { IfSome sub (λ s. s < length self.now.state.programs) }
         ensures ok { OnOk result (CanTake self.now.state sub p (view_of v.now)) }
         ensures missing { OnOk result (is_held p (read_at sub self.now.state.held) ≡ false) }
-        ensures fits { OnOk result (IsFormedIn self.now.state.of (cols_of self.now.state.held) (length self.now.state.programs) (given_at sub p (view_of v.now))) }
+        ensures fits { OnOk result (IsFormedIn self.now.state.of (cols_of self.now.state.held)
+            (length self.now.state.programs) (given_at sub p (view_of v.now))) }
         ensures given { OnOk result (IsTrue (is_given_at self.now.state.of sub p)) }
         ensures sites { OnOk result (IsTrue (sites_agree self.now.state.held p (view_of v.now))) }
-        ensures refused { IfErr result (λ e. e ≢ TakeFail.Memory → CannotTake self.now.state sub p (view_of v.now) e) }
+        ensures refused { IfErr result (λ e. e ≢ TakeFail.Memory
+            → CannotTake self.now.state sub p (view_of v.now) e) }
     {
         if self.holds(sub, p) {
             return Err(TakeFail::AlreadyHeld);
@@ -404,7 +419,9 @@ impl Object {
 
     /// Disables a label; one that is disabled stays so, once.
     pub fn disable(&mut self, alloc: Global, label: &str) -> Result<(), AllocError>
-        ensures ok { OnOk result (self.new.state ≡ (if is_disabled label.now self.old.state.disabled then self.old.state else with_disabled self.old.state label.now)) }
+        ensures ok { OnOk result (self.new.state
+            ≡ (if is_disabled label.now self.old.state.disabled then self.old.state
+            else with_disabled self.old.state label.now)) }
         ensures err { OnErr result (self.new.state ≡ self.old.state) }
         ensures spare { self.new.spare ≡ self.old.spare }
     {
@@ -543,10 +560,12 @@ impl Object {
         Ok(())
     }
 
-    /// What a client of this kind may read for who asks this program, if one is asked: of an object that knows its column count and holds the kind's sources, with all names of the kind in use.
+    /// What a client of this kind may read for who asks this program, if one is asked: of an object that knows its
+    /// column count and holds the kind's sources, with all names of the kind in use.
     pub fn view(&self, sub: Option<u8>, kind: &Kind) -> View<'_>
         requires known { IsTrue (is_some (cols_of self.now.state.held)) }
-        requires sources { (p : PropId) → IsTrue (has kind.now.sources p) → IsTrue (is_held p (read_at sub self.now.state.held)) }
+        requires sources { (p : PropId) → IsTrue (has kind.now.sources p)
+            → IsTrue (is_held p (read_at sub self.now.state.held)) }
         requires in_use { IsKindOf sub self.now.state.of kind.now }
         ensures { result ≡ view_for self.now.state sub kind.now (unwrap_or (cols_of self.now.state.held) 1) }
     {
@@ -565,12 +584,13 @@ impl Object {
         self.held.reserve(more)
     }
 
-    /// Adds a computed value of a property that is not held there, of an object with room for it. One of a program that
-    /// speaks of the order of the rays is added only where a value of the object itself does. Takes no memory.
+    /// Adds a computed value of a property that is not held there, of an object with room for it. One of a program
+    /// that speaks of the order of the rays is added only where a value of the object itself does. Takes no memory.
     pub fn add_computed(&mut self, sub: Option<u8>, p: PropId, v: Value)
         requires room { 0 < self.old.spare }
         requires missing { is_held p (read_at sub self.old.state.held) ≡ false }
-        requires formed { IsFormedIn self.old.state.of (cols_of self.old.state.held) (length self.old.state.programs) (computed_at sub p (view_of v)) }
+        requires formed { IsFormedIn self.old.state.of (cols_of self.old.state.held)
+            (length self.old.state.programs) (computed_at sub p (view_of v)) }
         requires backed { IsBacked p self.old.state.held }
         ensures added { self.new.state ≡ with_held self.old.state (computed_at sub p (view_of v) ∷ []) }
         ensures spare { self.old.spare ≤ self.new.spare + 1 }

@@ -48,9 +48,12 @@ pub fn have_as_many_sites(p: PropId, v: &Value, q: PropId, w: &Value) -> bool
     }
 }
 
-/// Whether a value agrees with one that is held in the number of sites, either way; with one that was not given it does.
+/// Whether a value agrees with one that is held in the number of sites, either way; with one that was not given it
+/// does.
 fn agrees_in_sites(p: PropId, v: &Value, h: &Held) -> bool
-    ensures { result ≡ (if is_given h.now.origin then agree_in_sites p (view_of v.now) h.now.id (view_of h.now.value) else true) }
+    ensures { result
+        ≡ (if is_given h.now.origin then agree_in_sites p (view_of v.now) h.now.id (view_of h.now.value)
+        else true) }
 {
     h.origin != Origin::Given
         || (have_as_many_sites(p, v, h.id, &h.value) && have_as_many_sites(h.id, &h.value, p, v))
@@ -74,7 +77,8 @@ pub fn require_primitive_rows(alloc: Global, p: PropId, v: &Value) -> Result<(),
     requires { IsTrue (is_formed p (view_of v.now)) }
     ensures ok { OnOk result (HavePrimitiveRows p (view_of v.now)) }
     ensures entries { OnOk result (AreFractions (view_of v.now)) }
-    ensures refused { IfErr result (λ e. e ≢ TakeFail.Memory → (e ≡ TakeFail.NotAThing) × ¬ (HavePrimitiveRows p (view_of v.now))) }
+    ensures refused { IfErr result (λ e. e ≢ TakeFail.Memory
+        → (e ≡ TakeFail.NotAThing) × ¬ (HavePrimitiveRows p (view_of v.now))) }
 {
     match v {
         Value::Mat(matrix) => require_primitive_rows_of(alloc, p, matrix),
@@ -109,7 +113,8 @@ fn require_primitive_matrix(alloc: Global, matrix: &Matrix) -> Result<(), TakeFa
     requires { length matrix.now.rows ≤ most_rows }
     ensures ok { OnOk result (All HasPrimitiveRow matrix.now.rows) }
     ensures entries { All (All IsFraction) matrix.now.rows }
-    ensures refused { IfErr result (λ e. e ≢ TakeFail.Memory → (e ≡ TakeFail.NotAThing) × ¬ (All HasPrimitiveRow matrix.now.rows)) }
+    ensures refused { IfErr result (λ e. e ≢ TakeFail.Memory
+        → (e ≡ TakeFail.NotAThing) × ¬ (All HasPrimitiveRow matrix.now.rows)) }
 {
     let _ = matrix.rows();
     match matrix.to_primitive_rows(alloc) {

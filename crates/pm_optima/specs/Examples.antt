@@ -53,8 +53,10 @@ pub record SensesAreRead : Type 0 where
 
 pub record ObjectivesAreRead : Type 0 where
   -- (0, 1/2) is half of (0, 1), and not twice it; nor is it a negative multiple of a row
-  pub half : IsScaleOf (ratio (pos 0) (pos 1) ∷ ratio (pos 1) (pos 2) ∷ []) (row (pos 0) (pos 1)) (ratio (pos 1) (pos 2))
-  pub twice : ¬ (IsScaleOf (ratio (pos 0) (pos 1) ∷ ratio (pos 1) (pos 2) ∷ []) (row (pos 0) (pos 1)) (ratio (pos 2) (pos 1)))
+  pub half : IsScaleOf (ratio (pos 0) (pos 1) ∷ ratio (pos 1) (pos 2) ∷ []) (row (pos 0) (pos 1))
+      (ratio (pos 1) (pos 2))
+  pub twice : ¬ (IsScaleOf (ratio (pos 0) (pos 1) ∷ ratio (pos 1) (pos 2) ∷ []) (row (pos 0) (pos 1))
+      (ratio (pos 2) (pos 1)))
   pub opposed : ¬ (IsScaleOf x_alone (row (pos 0) (negsuc 0)) (ratio (negsuc 0) (pos 1)))
   -- nor by a fraction without a denominator, nor of a shorter row, nor one of such fractions
   pub no_divisor : ¬ (IsScaleOf x_alone (row (pos 0) (pos 1)) (ratio (pos 1) (pos 0)))

@@ -15,7 +15,8 @@ pub record IsScaleOf (c : List Ratio) (w : Row) (s : Ratio) : Type 0 where
   pub den : pos 0 <ℤ s.den
   pub cols : length w ≡ length c
   pub denominators : (i : ℕ) → i < length c → pos 0 <ℤ (ratio_at c i).den
-  pub same : (i : ℕ) → i < length c → s.num *ℤ (entry w i *ℤ (ratio_at c i).den) ≡ s.den *ℤ (ratio_at c i).num
+  pub same : (i : ℕ) → i < length c → s.num *ℤ (entry w i *ℤ (ratio_at c i).den)
+      ≡ s.den *ℤ (ratio_at c i).num
 
 -- w is the primitive row of the row v e0 - c
 pub record IsPrimitiveLevel (c : List Ratio) (v : Ratio) (w : Row) : Type 0 where

@@ -1,4 +1,5 @@
--- Rows with a number each: the greatest quotient of a number by the first entry of its row, and numbers that tell of a direction without bound.
+-- Rows with a number each: the greatest quotient of a number by the first entry of its row, and numbers that tell of
+-- a direction without bound.
 use Rattle.pm_vector.specs.Rows.{Row, entry}
 use Rattle.pm_vector.specs.Bases.{row_at}
 use Rattle.pm_fraction.specs.Fractions.{IsLowestTermsOf, ratio_of}
@@ -12,7 +13,8 @@ pub record IsBest (numbers : Row) (V : List Row) (k : ℕ) (b : Best) : Type 0 w
   pub within : b.place < k
   pub first : pos 0 <ℤ entry (row_at V b.place) 0
   pub quotient : IsLowestTermsOf (ratio_of (entry numbers b.place) (entry (row_at V b.place) 0)) b.quotient
-  pub greatest : (j : ℕ) → j < k → pos 0 <ℤ entry (row_at V j) 0 → (entry numbers j *ℤ b.quotient.den) ≤ℤ (b.quotient.num *ℤ entry (row_at V j) 0)
+  pub greatest : (j : ℕ) → j < k → pos 0 <ℤ entry (row_at V j) 0
+      → (entry numbers j *ℤ b.quotient.den) ≤ℤ (b.quotient.num *ℤ entry (row_at V j) 0)
 
 -- none of the first k rows has a positive first entry
 abbrev pub HasNone : List Row → ℕ → Type 0

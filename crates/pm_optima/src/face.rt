@@ -1,7 +1,6 @@
 // The rays at which an objective has a value.
 
 ghost use Rattle.pm_vector.specs.Rows.{HasCols, ratio_at};
-ghost use Rattle.pm_elim.specs.Evidence.{unit};
 ghost use Rattle.pm_fraction.specs.Arithmetic.{opposite_of};
 ghost use Rattle.pm_simplex.specs.OptimumEvidence.{IsWideLevel, ShowsFace, ShowsProduct};
 ghost use Rattle.pm_optima.specs.Objectives.{AreZeroPlaces, IsPrimitiveLevel};
@@ -16,20 +15,11 @@ ghost use Rattle.pm_limits.specs.Limits.{most_rows};
 use crate::objective::primitive_objective;
 use crate::products::wide_pair;
 use pm_fraction::Fraction;
+use pm_geom::unit_row;
 use pm_matrix::{RowFail, primitive_row};
 use pm_simplex::{LpFail, Sense};
 use pm_vector::{Ints, Wide, dot};
 use std::alloc::{AllocError, Global};
-
-/// The row (1, 0, .., 0).
-fn first_unit(alloc: Global, cols: usize) -> Result<Ints, AllocError>
-    requires { 0 < cols }
-    ensures { IfOk result (λ r. r ≡ unit cols 0) }
-{
-    let mut entries = vec![in alloc; 0i128; cols]?;
-    entries[0] = 1;
-    Ok(Ints::from_vec(entries))
-}
 
 /// The first fraction, and then the opposites of those of the objective behind its first.
 fn level_row(
@@ -40,7 +30,8 @@ fn level_row(
     requires { 0 < length objective.now }
     ensures cols { IfOk result (λ r. length r.items ≡ length objective.now) }
     ensures first { IfOk result (λ r. ratio_at r.items 0 ≡ first) }
-    ensures others { IfOk result (λ r. (i : ℕ) → suc i < length objective.now → ratio_at r.items (suc i) ≡ opposite_of (ratio_at objective.now (suc i))) }
+    ensures others { IfOk result (λ r. (i : ℕ) → suc i < length objective.now
+        → ratio_at r.items (suc i) ≡ opposite_of (ratio_at objective.now (suc i))) }
 {
     let mut row = vec![in alloc; first; 1]?;
     for i in 1..objective.len() {
@@ -91,9 +82,10 @@ fn zero_places(alloc: Global, row: &Ints, rows: &[Ints]) -> Result<Vec<i64>, LpF
     Ok(places)
 }
 
-/// The places, ascending, of the rays at which an objective has its greatest or least value, which is handed in. All rows have as many entries as the objective.
-/// `Wide` only where, for the objective c and the value v, the row v e0 - c or its opposite, its primitive row, or the product of this with a ray leaves the range,
-/// which the evidence (E4) shows.
+/// The places, ascending, of the rays at which an objective has its greatest or least value, which is handed in. All
+/// rows have as many entries as the objective.
+/// `Wide` only where, for the objective c and the value v, the row v e0 - c or its opposite, its primitive row, or
+/// the product of this with a ray leaves the range, which the evidence (E4) shows.
 pub fn places_of_value(
     alloc: Global,
     sense: Sense,
@@ -105,15 +97,18 @@ pub fn places_of_value(
     requires some { 0 < length objective.now }
     requires cols { HasCols (length objective.now) rays.now }
     requires few { length rays.now ≤ most_rows }
-    ensures places { IfOk result (λ v. ArePlacesOfValue (objective_in sense objective.now) (value_in sense (finite value)) rays.now v.items) }
+    ensures places { IfOk result (λ v.
+        ArePlacesOfValue (objective_in sense objective.now) (value_in sense
+        (finite value)) rays.now v.items) }
     ensures form { IfOk result (λ v. IsTrue (is_counts_form v.items)) }
-    ensures wide { IfErr result (λ f. IfWide f (ShowsFace sense objective.now (ratio_in sense value) rays.now)) }
+    ensures wide { IfErr result (λ f.
+        IfWide f (ShowsFace sense objective.now (ratio_in sense value) rays.now)) }
 {
     let _ = value.den();
     let row = primitive_objective(alloc, objective)?;
     let turned = sense.objective(alloc, objective)?;
     let Some(level) = primitive_level(alloc, &turned, sense.value(value))? else {
-        let first = first_unit(alloc, objective.len())?;
+        let first = unit_row(alloc, objective.len(), 0)?;
         return Err(wide_pair(alloc, &row, &first)?);
     };
     zero_places(alloc, &level, rays)

@@ -1,4 +1,5 @@
-//! Optima of objectives at the points of a polytope, and the rays at which they stand.
+//! Optima of objectives at the points of a polytope, and the rays at which they stand. It knows nothing of objects,
+//! rules and clients.
 #![tactic(auto)]
 
 ghost use Rattle.pm_optima.specs.Examples.{EvidenceIsRead, ObjectivesAreRead, QuotientsAreRead, SensesAreRead};

@@ -1,11 +1,10 @@
 // Quotients of numbers by the first entries of rows.
 
-ghost use Rattle.pm_vector.specs.Numbers.{InRange};
-ghost use Rattle.pm_fraction.specs.Fractions.{IsLowestTermsOf, ratio_of};
 ghost use Rattle.pm_optima.specs.Quotients.{Grows, IsBestOf, Rises, Turns};
-ghost use Rattle.std.specs.Prelude.{All, IfNone, IfSome, IsTrue, length, pos, ℕ, ◌*ℤ◌, ◌+◌, ◌<ℤ◌, ◌<◌, ◌≡◌, ◌↔◌};
+ghost use Rattle.std.specs.Prelude.{All, IfNone, IfSome, IsTrue, length, ℕ, ◌*ℤ◌, ◌+◌, ◌<ℤ◌, ◌<◌, ◌≡◌, ◌↔◌};
 
 use pm_fraction::Fraction;
+use pm_types::quotient;
 use pm_vector::Ints;
 use std::cmp::Ordering;
 
@@ -14,19 +13,6 @@ use std::cmp::Ordering;
 pub(crate) struct Best {
     pub(crate) place: usize,
     pub(crate) quotient: Fraction,
-}
-
-/// The quotient of two numbers of the range, of which the second is positive.
-fn quotient(number: i128, first: i128) -> Fraction
-    requires positive { pos 0 <ℤ first }
-    requires in_range { InRange number }
-    requires first_in_range { InRange first }
-    ensures { IsLowestTermsOf (ratio_of number first) result }
-{
-    let Ok(quotient) = Fraction::new(number, first) else {
-        unreachable!()
-    };
-    quotient
 }
 
 /// Whether the fraction p is above the fraction q.

@@ -18,9 +18,11 @@ use pm_types::Number;
 use pm_vector::Ints;
 use std::alloc::Global;
 
-/// The optimum of an objective at the points of a polytope whose cone these rays and lines generate, all rows of as many entries as the objective has: the greatest
-/// value or the least, an infinity where the objective goes on without end, and the other infinity where no ray has a positive first entry.
-/// `Wide` only where the product of the objective's primitive row with a ray or line leaves the range, or the optimum does, which the evidence (E4) shows.
+/// The optimum of an objective at the points of a polytope whose cone these rays and lines generate, all rows of as
+/// many entries as the objective has: the greatest value or the least, an infinity where the objective goes on
+/// without end, and the other infinity where no ray has a positive first entry.
+/// `Wide` only where the product of the objective's primitive row with a ray or line leaves the range, or the optimum
+/// does, which the evidence (E4) shows.
 pub fn value_at_rays(
     alloc: Global,
     sense: Sense,
@@ -34,7 +36,8 @@ pub fn value_at_rays(
     requires line_cols { HasCols (length objective.now) lines.now }
     requires ahead { All (λ x. pos 0 ≤ℤ entry x 0) rays.now }
     requires level { All (λ x. entry x 0 ≡ pos 0) lines.now }
-    ensures value { IfOk result (λ x. IsOptimum sense (InCone rays.now lines.now) objective.now (extended_of x)) }
+    ensures value { IfOk result (λ x. IsOptimum sense (InCone rays.now lines.now) objective.now
+        (extended_of x)) }
     ensures wide { IfErr result (λ f. IfWide f (ShowsValue sense objective.now rays.now lines.now)) }
 {
     let row = primitive_objective(alloc, objective)?;

@@ -17,7 +17,7 @@ use Rattle.pm_plan.specs.declared.track.Link.{Link}
 use Rattle.pm_plan.specs.declared.search.Search.{Search}
 use Rattle.pm_plan.specs.Moves.{after}
 use Rattle.pm_plan.specs.Tracks.{LinksTo, AreLinked}
-use Rattle.pm_plan.specs.Searches.{cost_known, link_waiting, HasGoal, Offered, IsSound, IsNext, Settles, Offers, Expands, IsEmpty, IsExplored}
+use Rattle.pm_plan.specs.Searches.{cost_known, link_waiting, HasGoal, Offered, IsSoundSearch, IsNext, Settles, Offers, Expands, IsEmpty, IsExplored}
 use Rattle.pm_plan.proofs.Options.{none_is_not, some_from, if_some_at, if_some_from, get_pushed, get_taken, at_contained}
 use Rattle.pm_rules.proofs.RowOrder.{before_at_most}
 use Rattle.pm_plan.proofs.Settling.{settled_sound, settled_offered}
@@ -34,7 +34,7 @@ no_pairs R xs e i j d low high = absurd (omega (arith, ap length e))
 nowhere : {X : Type 0} (xs : List X) (i : ℕ) (x : X) → xs ≡ [] → slice_get xs i ≡ Some x → ⊥
 nowhere xs i x e f = let within = slice_get_within xs i x f in omega (arith, ap length e)
 
-empty_sound : (moves : List Move) (start : TableRow) (asked : PropSet) (s : Search) → IsEmpty s → IsSound moves start asked s
+empty_sound : (moves : List Move) (start : TableRow) (asked : PropSet) (s : Search) → IsEmpty s → IsSoundSearch moves start asked s
 empty_sound moves start asked s h = record {
   linked = record { paired = ap length h.links ∙ sym (ap length h.rows); linked = λ i row link e f. absurd (nowhere s.rows.items i row h.rows e) };
   ordered = no_pairs IsBefore s.rows.items h.rows;
@@ -87,12 +87,12 @@ module _ (moves : List Move) (start : TableRow) (weights : All (λ m. IsWeight m
       let at = get_taken rows i j before f in
       (at.0, rows_fit rows links h n j before (omega arith) at.1))
 
-  waiting_fits : (asked : PropSet) (s : Search) (row : TableRow) (link : Option Link) → IsSound moves start asked s → link_waiting s row ≡ Some link → Fits row.cost (length s.rows.items)
+  waiting_fits : (asked : PropSet) (s : Search) (row : TableRow) (link : Option Link) → IsSoundSearch moves start asked s → link_waiting s row ≡ Some link → Fits row.cost (length s.rows.items)
   waiting_fits asked s row link h e =
       link_fits s.rows.items (length s.rows.items) link row (if_some_at (link_waiting s row) (λ l. LinksTo moves start s.rows.items l row) link e (h.waiting_linked row))
       (λ j before f. let within = slice_get_within s.rows.items j before f in (within, rows_fit s.rows.items s.links.items h.linked (suc j) j before (omega arith) f))
 
-  pub next_fits : (asked : PropSet) (s : Search) (row : TableRow) (link : Option Link) → IsSound moves start asked s → IsNext s row link → length s.rows.items < most_table_rows
+  pub next_fits : (asked : PropSet) (s : Search) (row : TableRow) (link : Option Link) → IsSoundSearch moves start asked s → IsNext s row link → length s.rows.items < most_table_rows
       → (row.cost.class + most_weight < 2 ^ 64) × (row.cost.minor + most_weight < 2 ^ 64)
   next_fits asked s row link h next few = let fits = waiting_fits asked s row link h next.waits in (omega arith, omega arith)
 
@@ -101,7 +101,7 @@ pub explored_more : (moves : List Move) (start : TableRow) (asked : PropSet) (ol
     → IsNext old row link → (HasGoal old row.cost → ⊥) → length old.rows.items < most_table_rows → Settles old mid row link
     → Expands moves (length moves) asked mid new row (length old.rows.items) → IsExplored moves start asked new
 explored_more moves start asked old mid new row link h next below few s e =
-    let sound_mid : IsSound moves start asked mid = settled_sound moves start asked old mid row link h.sound s next below in
+    let sound_mid : IsSoundSearch moves start asked mid = settled_sound moves start asked old mid row link h.sound s next below in
     let there : slice_get mid.rows.items (length old.rows.items) ≡ Some row = ap (λ (rows : List TableRow). slice_get rows (length old.rows.items)) s.rows ∙ get_pushed old.rows.items row in
     record {
       sound = e.sound start sound_mid there (λ settled t.

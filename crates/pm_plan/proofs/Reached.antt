@@ -13,7 +13,7 @@ use Rattle.pm_plan.specs.declared.moves.Move.{Move}
 use Rattle.pm_plan.specs.declared.search.Search.{Search}
 use Rattle.pm_plan.specs.Moves.{after}
 use Rattle.pm_plan.specs.Tracks.{Leads}
-use Rattle.pm_plan.specs.Searches.{cost_known, link_waiting, HasGoal, IsKnown, Offered, IsSound, IsClosed}
+use Rattle.pm_plan.specs.Searches.{cost_known, link_waiting, HasGoal, IsKnownAt, Offered, IsSoundSearch, IsClosed}
 use Rattle.pm_plan.proofs.Options.{and_parts_of, some_and_from}
 use Rattle.pm_rules.proofs.RowOrder.{below_trans, same_row}
 use Rattle.pm_plan.proofs.Reaching.{goal_more}
@@ -44,8 +44,8 @@ pub record WaitsFor (s : Search) (row : TableRow) : Type 0 where
 abbrev pub Found : Search → TableRow → Type 0
 Found s row = HasRow s.rows.items row.set row.cost ⊎ (WaitsFor s row ⊎ HasGoal s row.cost)
 
-module _ (moves : List Move) (start : TableRow) (asked : PropSet) (s : Search) (sound : IsSound moves start asked s) where
-  pub is_met : (row : TableRow) → IsKnown s row → IsMet s row
+module _ (moves : List Move) (start : TableRow) (asked : PropSet) (s : Search) (sound : IsSoundSearch moves start asked s) where
+  pub is_met : (row : TableRow) → IsKnownAt s row → IsMet s row
   is_met row h =
       let had = and_parts_of (cost_known s row.set) (λ (c : Cost). IsAtMost c row.cost) h in
       record { had = record { set = row.set; cost = had.0 }; set = refl; low = had.2; there = sound.known_met (record { set = row.set; cost = had.0 }) had.1 }

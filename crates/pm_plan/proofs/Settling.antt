@@ -18,7 +18,7 @@ use Rattle.pm_plan.specs.declared.track.Link.{Link}
 use Rattle.pm_plan.specs.declared.search.Goal.{Goal}
 use Rattle.pm_plan.specs.declared.search.Search.{Search}
 use Rattle.pm_plan.specs.Tracks.{LinksTo, AreLinked}
-use Rattle.pm_plan.specs.Searches.{cost_known, link_waiting, HasGoal, IsKnown, Offered, IsSound, IsNext, Settles, Renews, Offers}
+use Rattle.pm_plan.specs.Searches.{cost_known, link_waiting, HasGoal, IsKnownAt, Offered, IsSoundSearch, IsNext, Settles, Renews, Offers}
 use Rattle.pm_plan.proofs.Options.{same_some, none_is_not, some_from, and_parts_of, some_and_from, if_some_at, if_some_from, get_front, get_pushed, get_more}
 use Rattle.pm_rules.proofs.RowOrder.{same_row}
 use Rattle.pm_plan.proofs.Order.{row_or_not}
@@ -55,10 +55,10 @@ linked_push moves start rows links row link h last = record {
 
 -- ---- a set is met
 module _ (moves : List Move) (start : TableRow) (asked : PropSet) where
-  known_of_same : (s : Search) → IsSound moves start asked s → (row other : TableRow) → other.set ≡ row.set → cost_known s other.set ≡ Some other.cost → cost_known s row.set ≡ Some other.cost
+  known_of_same : (s : Search) → IsSoundSearch moves start asked s → (row other : TableRow) → other.set ≡ row.set → cost_known s other.set ≡ Some other.cost → cost_known s row.set ≡ Some other.cost
   known_of_same s h row other same e = subst (λ (set : PropSet). cost_known s set ≡ Some other.cost) same e
 
-  module _ (old new : Search) (row : TableRow) (link : Option Link) (h : IsSound moves start asked old) (r : Renews old new row link) (dearer : IsKnown old row → ⊥)
+  module _ (old new : Search) (row : TableRow) (link : Option Link) (h : IsSoundSearch moves start asked old) (r : Renews old new row link) (dearer : IsKnownAt old row → ⊥)
       (opened : IsSubset asked row.set → ⊥) (links : LinksTo moves start old.rows.items link row)
       (above : (settled : TableRow) → Contains old.rows.items settled → IsBelow settled.cost row.cost) where
     -- a settled set is not the one that is met
@@ -77,7 +77,7 @@ module _ (moves : List Move) (start : TableRow) (asked : PropSet) where
     renewed_rows : (settled : TableRow) → Contains new.rows.items settled → Contains old.rows.items settled
     renewed_rows settled there = subst (λ (rows : List TableRow). Contains rows settled) r.rows there
 
-    pub renewed_sound : IsSound moves start asked new
+    pub renewed_sound : IsSoundSearch moves start asked new
     renewed_sound = record {
       linked = subst (λ (rows : List TableRow). AreLinked moves start rows new.links.items) (sym r.rows) (subst (AreLinked moves start old.rows.items) (sym r.links) h.linked);
       ordered = subst (AllPairs IsBefore) (sym r.rows) h.ordered;
@@ -118,7 +118,7 @@ module _ (moves : List Move) (start : TableRow) (asked : PropSet) where
     }
 
 -- ---- the four ways of meeting a set
-known_renewed : (old new : Search) (row : TableRow) (link : Option Link) → Renews old new row link → (IsKnown old row → ⊥) → (other : TableRow) → IsKnown old other → IsKnown new other
+known_renewed : (old new : Search) (row : TableRow) (link : Option Link) → Renews old new row link → (IsKnownAt old row → ⊥) → (other : TableRow) → IsKnownAt old other → IsKnownAt new other
 known_renewed old new row link r dearer other h =
     let had = and_parts_of (cost_known old other.set) (λ (c : Cost). IsAtMost c other.cost) h in
     elim (cases_eq other.set row.set) [
@@ -133,7 +133,7 @@ known_renewed old new row link r dearer other h =
       | inr apart ↦ some_and_from (cost_known new other.set) (λ (c : Cost). IsAtMost c other.cost) had.0 (r.known_others other.set apart ∙ had.1) had.2
     ]
 
-pub offers_renewed : (asked : PropSet) (old new : Search) (row : TableRow) (link : Option Link) → Renews old new row link → (IsKnown old row → ⊥)
+pub offers_renewed : (asked : PropSet) (old new : Search) (row : TableRow) (link : Option Link) → Renews old new row link → (IsKnownAt old row → ⊥)
     → (IsSubset asked row.set → ⊥) → Offers asked old new row link
 offers_renewed asked old new row link r dearer opened = record {
   rows = r.rows;
@@ -182,7 +182,7 @@ offers_goal asked s row link dearer has = record {
 }
 
 -- ---- a set is settled
-module _ (moves : List Move) (start : TableRow) (asked : PropSet) (old new : Search) (row : TableRow) (link : Option Link) (h : IsSound moves start asked old)
+module _ (moves : List Move) (start : TableRow) (asked : PropSet) (old new : Search) (row : TableRow) (link : Option Link) (h : IsSoundSearch moves start asked old)
     (s : Settles old new row link) (next : IsNext old row link) (below : HasGoal old row.cost → ⊥) where
   row_waits : IsSome (link_waiting old row)
   row_waits = some_from (link_waiting old row) link next.waits
@@ -195,7 +195,7 @@ module _ (moves : List Move) (start : TableRow) (asked : PropSet) (old new : Sea
   settled_cases : (settled : TableRow) → Contains new.rows.items settled → Contains old.rows.items settled ⊎ (row ≡ settled)
   settled_cases settled there = Contains-push_cases old.rows.items row settled (subst (λ (rows : List TableRow). Contains rows settled) s.rows there)
 
-  pub settled_sound : IsSound moves start asked new
+  pub settled_sound : IsSoundSearch moves start asked new
   settled_sound = record {
     linked = subst (λ (rows : List TableRow). AreLinked moves start rows new.links.items) (sym s.rows) (subst (AreLinked moves start (old.rows.items ++ row ∷ [])) (sym s.links)
         (linked_push moves start old.rows.items old.links.items row link h.linked (if_some_at (link_waiting old row) (λ l. LinksTo moves start old.rows.items l row) link next.waits (h.waiting_linked row))));

@@ -16,16 +16,19 @@ abbrev pub move_of : RuleId → Rule → Move
 move_of id rule = record { id = id; step = step_of rule; weight = rule.weight }
 
 -- it is the move of a useful rule of the book
-pub record IsMove (book : List Rule) (names : PropSet) (barred : List RuleId) (asked : PropSet) (m : Move) : Type 0 where
+pub record IsMove (book : List Rule) (names : PropSet) (barred : List RuleId) (asked : PropSet) (m : Move)
+    : Type 0 where
   pub rule : Rule
   pub there : rule_at book m.id ≡ Some rule
   pub useful : IsUseful book names barred asked m.id rule
   pub same : m ≡ move_of m.id rule
 
 -- they are the moves of all useful rules, and nothing else
-pub record AreMoves (book : List Rule) (names : PropSet) (barred : List RuleId) (asked : PropSet) (moves : List Move) : Type 0 where
+pub record AreMoves (book : List Rule) (names : PropSet) (barred : List RuleId) (asked : PropSet)
+    (moves : List Move) : Type 0 where
   pub each : All (IsMove book names barred asked) moves
-  pub whole : (id : RuleId) (rule : Rule) → rule_at book id ≡ Some rule → IsUseful book names barred asked id rule → Contains moves (move_of id rule)
+  pub whole : (id : RuleId) (rule : Rule) → rule_at book id ≡ Some rule
+      → IsUseful book names barred asked id rule → Contains moves (move_of id rule)
 
 -- the row to which the move leads from a row
 abbrev pub after : TableRow → Move → TableRow

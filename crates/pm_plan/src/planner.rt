@@ -21,7 +21,8 @@ pub fn plan(
     barred: &[RuleId],
     asked: PropSet,
 ) -> Result<Plan, PlanEnd>
-    ensures plan { IfOk result (λ p. IsPlan b.now names barred.now held asked p.chain.items p.weight p.table.rows.items) }
+    ensures plan { IfOk result (λ p.
+        IsPlan b.now names barred.now held asked p.chain.items p.weight p.table.rows.items) }
     ensures why { IfErr result (SaysWhy b.now names barred.now held asked) }
 {
     plan_by_rules(alloc, b.rules(), names, held, barred, asked)
@@ -38,7 +39,8 @@ pub fn plan_by_rules(
 ) -> Result<Plan, PlanEnd>
     requires few { length rules.now ≤ most_rules }
     requires weights { All (λ rule. IsWeight rule.weight) rules.now }
-    ensures plan { IfOk result (λ p. IsPlan rules.now names barred.now held asked p.chain.items p.weight p.table.rows.items) }
+    ensures plan { IfOk result (λ p.
+        IsPlan rules.now names barred.now held asked p.chain.items p.weight p.table.rows.items) }
     ensures why { IfErr result (SaysWhy rules.now names barred.now held asked) }
 {
     let moves = moves(alloc, rules, names, barred, asked)?;

@@ -2,7 +2,7 @@
 
 ghost use Rattle.std.specs.Prelude.{◌≡◌, ◌+◌, ◌^◌, ◌<◌, ◌↔◌, [], None, IsTrue, false, IsSome, IfSome, IfNone, IfOk, OnOk, All, length};
 ghost use Rattle.pm_weights.specs.Weights.{IsWeight, no_cost};
-ghost use Rattle.pm_plan.specs.Searches.{HasGoal, IsKnown, IsNext, Settles, Waits, Renews, Offers, Expands, IsExplored, IsDone, IsFull, IsEmpty, link_waiting};
+ghost use Rattle.pm_plan.specs.Searches.{HasGoal, IsKnownAt, IsNext, Settles, Waits, Renews, Offers, Expands, IsExplored, IsDone, IsFull, IsEmpty, link_waiting};
 ghost use Rattle.pm_limits.specs.Limits.{most_weight};
 
 use crate::moves::Move;
@@ -63,7 +63,8 @@ impl Search {
     fn next(&self) -> Option<(TableRow, Option<Link>)>
         ensures next { IfSome result (λ n. IsNext self.now n.0 n.1) }
         ensures below { IfSome result (λ n. HasGoal self.now n.0.cost → ⊥) }
-        ensures none { IfNone result ((row : TableRow) → IsSome (link_waiting self.now row) → HasGoal self.now row.cost) }
+        ensures none { IfNone result ((row : TableRow) → IsSome (link_waiting self.now row)
+            → HasGoal self.now row.cost) }
     {
         let (place, link) = self.waiting.first_key_value()?;
         let Place { cost, set } = *place;
@@ -86,7 +87,7 @@ impl Search {
 
     // Whether the set is known at no more than the cost.
     fn is_known(&self, row: &TableRow) -> bool
-        ensures { IsTrue result ↔ IsKnown self.now row.now }
+        ensures { IsTrue result ↔ IsKnownAt self.now row.now }
     {
         match self.known.get(&row.set) {
             Some(cost) => cost.is_at_most(row.cost),
@@ -160,8 +161,8 @@ impl Search {
     }
 }
 
-/// Settles sets in order, until none waits that costs less than the goal, or the rows are full. Answers the search, and
-/// whether none waits.
+/// Settles sets in order, until none waits that costs less than the goal, or the rows are full. Answers the search,
+/// and whether none waits.
 pub fn explore(
     alloc: Global,
     moves: &[Move],
@@ -169,7 +170,8 @@ pub fn explore(
     asked: PropSet,
 ) -> Result<(Search, bool), AllocError>
     requires { All (λ m. IsWeight m.weight) moves.now }
-    ensures explored { IfOk result (λ r. IsExplored moves.now (record { set = held; cost = no_cost }) asked r.0) }
+    ensures explored { IfOk result (λ r.
+        IsExplored moves.now (record { set = held; cost = no_cost }) asked r.0) }
     ensures done { IfOk result (λ r. IsTrue r.1 → IsDone r.0) }
     ensures full { IfOk result (λ r. r.1 ≡ false → IsFull r.0) }
 {

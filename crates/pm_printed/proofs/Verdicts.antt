@@ -14,7 +14,7 @@ use Rattle.pm_rules.specs.Chains.{IsChain, weigh}
 use Rattle.pm_rules.proofs.Refutes.{bounded, refuted}
 use Rattle.pm_printed.proofs.Chains.{chain_front}
 use Rattle.pm_rules.specs.Certificates.{Within, IsCertificate}
-use Rattle.pm_cert.specs.Claims.{Stands, UpTo}
+use Rattle.pm_cert.specs.Claims.{StandsIn, UpTo}
 use Rattle.pm_printed.specs.declared.judge.Verdict.{Verdict}
 use Rattle.pm_printed.specs.declared.question.Question.{Question}
 use Rattle.pm_printed.specs.Judging.Judges.{of_refusal}
@@ -26,11 +26,11 @@ some_same x y e = cc
 
 -- in a certificate each row stands
 pub stands_from_certificate : (book : List Rule) (q : Question) (barred : List RuleId) (claim : Claim) (rows : List TableRow) (k : ℕ) (row : TableRow) → slice_get rows k ≡ Some row
-    → IsCertificate book q.names barred q.held q.asked claim rows → Stands book q.names barred q.asked rows claim row
+    → IsCertificate book q.names barred q.held q.asked claim rows → StandsIn book q.names barred q.asked rows claim row
 stands_from_certificate book q barred claim rows k row e h =
     let within = slice_get_within rows k row e in
     let at : get_or rows k row ≡ row = some_same (get_or rows k row) row (sym (slice_get-get_or rows k row within) ∙ e) in
-    subst (λ (r : TableRow). Stands book q.names barred q.asked rows claim r) at (record { onward = h.steps k row within; ends = h.ends k row within })
+    subst (λ (r : TableRow). StandsIn book q.names barred q.asked rows claim r) at (record { onward = h.steps k row within; ends = h.ends k row within })
 
 -- a row that falls is in no certificate
 pub none_where_row_falls : (book : List Rule) (q : Question) (barred : List RuleId) (claim : Claim) (rows : List TableRow) (k : ℕ) → FallsAt book q barred claim rows k
@@ -42,7 +42,7 @@ none_where_row_falls book q barred claim rows k falls h =
 
 -- rows that all stand, with the start, are a certificate
 pub certificate_where_all_stand : (book : List Rule) (q : Question) (barred : List RuleId) (claim : Claim) (rows : List TableRow) (n : ℕ)
-    → (Within claim no_cost → Contains rows (record { set = q.held; cost = no_cost })) → length rows ≤ n → UpTo n (Stands book q.names barred q.asked rows claim) rows
+    → (Within claim no_cost → Contains rows (record { set = q.held; cost = no_cost })) → length rows ≤ n → UpTo n (StandsIn book q.names barred q.asked rows claim) rows
     → IsCertificate book q.names barred q.held q.asked claim rows
 certificate_where_all_stand book q barred claim rows n start all stand = record {
   start = start;
@@ -52,7 +52,7 @@ certificate_where_all_stand book q barred claim rows n start all stand = record 
 
 -- a plan proves itself least where all stands
 pub proves_where_all_stand : (book : List Rule) (q : Question) (weight : Cost) (chain : List RuleId) (rows : List TableRow) (n : ℕ) → HeadStands book q weight chain rows
-    → IsChain book q.names q.barred.items q.held chain → length rows ≤ n → UpTo n (Stands book q.names q.barred.items q.asked rows (Least weight)) rows → ProvesPlan book q weight chain rows
+    → IsChain book q.names q.barred.items q.held chain → length rows ≤ n → UpTo n (StandsIn book q.names q.barred.items q.asked rows (Least weight)) rows → ProvesPlan book q weight chain rows
 proves_where_all_stand book q weight chain rows n head follows all stand = record {
   leads = record { enabled = follows; ends = head.ends };
   weighs = head.weighs;

@@ -33,7 +33,8 @@ pub record IsBarred (book : List Rule) (x : RuleId × List ℕ) : Type 0 where
   pub why : IsTrue (is_plain x.1)
 
 -- the weight is a cost, the rules are those of the book, and the rows are such
-pub record IsPlan (book : List Rule) (weight : Cost) (chain : List RuleId) (rows : List TableRow) : Type 0 where
+pub record IsPlan (book : List Rule) (weight : Cost) (chain : List RuleId) (rows : List TableRow)
+    : Type 0 where
   pub cost : IsCost weight
   pub rules : All (IsOfBook book) chain
   pub table : All IsRow rows
@@ -46,7 +47,8 @@ pub record IsRefusal (book : List Rule) (told : List (RuleId × List ℕ)) (rows
 -- ---- printed texts
 -- the text is printed of this plan
 abbrev pub IsPlanText : List Rule → List ℕ → Cost → List RuleId → List TableRow → Type 0
-IsPlanText book text weight chain rows = IsPlan book weight chain rows × (text ≡ plan_text book weight chain rows)
+IsPlanText book text weight chain rows = IsPlan book weight chain rows
+    × (text ≡ plan_text book weight chain rows)
 
 -- the text is printed of this refusal
 abbrev pub IsRefusalText : List Rule → List ℕ → List (RuleId × List ℕ) → List TableRow → Type 0
@@ -54,7 +56,9 @@ IsRefusalText book text told rows = IsRefusal book told rows × (text ≡ refusa
 
 -- the text is printed of a plan or of a refusal
 abbrev pub IsPrinted : List Rule → List ℕ → Type 0
-IsPrinted book text = ((weight : Cost) × (chain : List RuleId) × (rows : List TableRow) × IsPlanText book text weight chain rows)
+IsPrinted book text =
+    ((weight : Cost) × (chain : List RuleId) × (rows : List TableRow)
+    × IsPlanText book text weight chain rows)
     ⊎ ((told : List (RuleId × List ℕ)) × (rows : List TableRow) × IsRefusalText book text told rows)
 
 -- ---- texts that are not
@@ -66,14 +70,18 @@ BeginsNone {X} Is line text = (x : X) (rest : List ℕ) → Is x → text ≡ li
 abbrev pub BeginsNoRefusal : List ℕ → Type 0
 BeginsNoRefusal text = (rest : List ℕ) → text ≡ refused_text ++ rest → ⊥
 
--- This line is the first that is not read. The first line is no head; or the text begins with these lines of a plan, of
--- which there is one less, it does not end there, and behind them is no row, nor, where no row came yet, a rule; or so with
--- a refusal and barred rules.
+-- This line is the first that is not read. The first line is no head; or the text begins with these lines of a plan,
+-- of which there is one less, it does not end there, and behind them is no row, nor, where no row came yet, a rule;
+-- or so with a refusal and barred rules.
 pub data IsUnread (book : List Rule) (text : List ℕ) (n : ℕ) : Type 0 where
   head : n ≡ 1 → BeginsNone IsCost head_text text → BeginsNoRefusal text → IsUnread book text n
-  plan : (weight : Cost) (chain : List RuleId) (rows : List TableRow) (rest : List ℕ) → n ≡ 2 + length chain + length rows
+  plan : (weight : Cost) (chain : List RuleId) (rows : List TableRow) (rest : List ℕ)
+      → n ≡ 2 + length chain + length rows
       → IsPlan book weight chain rows → text ≡ plan_text book weight chain rows ++ rest → 0 < length rest
-      → BeginsNone IsRow row_text rest → (rows ≡ [] → BeginsNone (IsOfBook book) (rule_text book) rest) → IsUnread book text n
-  refusal : (told : List (RuleId × List ℕ)) (rows : List TableRow) (rest : List ℕ) → n ≡ 2 + length told + length rows
+      → BeginsNone IsRow row_text rest → (rows ≡ [] → BeginsNone (IsOfBook book) (rule_text book) rest)
+      → IsUnread book text n
+  refusal : (told : List (RuleId × List ℕ)) (rows : List TableRow) (rest : List ℕ)
+      → n ≡ 2 + length told + length rows
       → IsRefusal book told rows → text ≡ refusal_text book told rows ++ rest → 0 < length rest
-      → BeginsNone IsRow row_text rest → (rows ≡ [] → BeginsNone (IsBarred book) (barred_text book) rest) → IsUnread book text n
+      → BeginsNone IsRow row_text rest → (rows ≡ [] → BeginsNone (IsBarred book) (barred_text book) rest)
+      → IsUnread book text n

@@ -13,7 +13,8 @@ abbrev pub seen : Told → RuleId × List ℕ
 seen x = (x.rule, string_bytes x.why)
 
 -- the text begins with the lines of these, as many as there are, and rest is behind them
-pub record ReadsAll {X : Type 0} (Is : X → Type 0) (line : X → List ℕ) (text : List ℕ) (xs : List X) (rest : List ℕ) : Type 0 where
+pub record ReadsAll {X : Type 0} (Is : X → Type 0) (line : X → List ℕ) (text : List ℕ) (xs : List X)
+    (rest : List ℕ) : Type 0 where
   pub each : All Is xs
   pub whole : text ≡ flat_map line xs ++ rest
   pub no_more : BeginsNone Is line rest

@@ -63,7 +63,8 @@ refused_text = refused_line ++ codes "\n"
 
 -- a plan: its weight, the rules of the chain, and the rows of the table
 abbrev pub plan_text : List Rule → Cost → List RuleId → List TableRow → List ℕ
-plan_text book weight chain rows = head_text weight ++ flat_map (rule_text book) chain ++ flat_map row_text rows
+plan_text book weight chain rows = head_text weight ++ flat_map (rule_text book) chain
+    ++ flat_map row_text rows
 
 -- a refusal: the barred rules with their reasons, and the rows of the table
 abbrev pub refusal_text : List Rule → List (RuleId × List ℕ) → List TableRow → List ℕ

@@ -77,7 +77,8 @@ pub(crate) fn followed(
 ) -> usize
     ensures within { result ≤ length chain.now }
     ensures before { IsChain rules.now names barred.now held (take result chain.now) }
-    ensures next { result < length chain.now → IsChain rules.now names barred.now held (take (result + 1) chain.now) → ⊥ }
+    ensures next { result < length chain.now
+        → IsChain rules.now names barred.now held (take (result + 1) chain.now) → ⊥ }
 {
     let mut set = held;
     for (k, id) in chain.iter().enumerate() {

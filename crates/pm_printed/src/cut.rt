@@ -20,7 +20,8 @@ pub(crate) fn cut_line<'a>(text: &'a [u8]) -> Option<(&'a [u8], &'a [u8])>
 
 /// What a text has before its first space and behind it.
 pub(crate) fn cut_word<'a>(text: &'a str) -> Option<(&'a str, &'a str)>
-    ensures { (xs ys : List ℕ) → Lacks 32 xs → text.now ≡ xs ++ 32 ∷ ys → MatchOption result ⊥ (λ x. (x.0.now ≡ xs) × (x.1.now ≡ ys)) }
+    ensures { (xs ys : List ℕ) → Lacks 32 xs → text.now ≡ xs ++ 32 ∷ ys
+        → MatchOption result ⊥ (λ x. (x.0.now ≡ xs) × (x.1.now ≡ ys)) }
 {
     text.split_once(' ')
 }

@@ -1,4 +1,5 @@
-//! What `explain` prints, read back: whether a printed plan proves itself least, or a refusal that there is no chain. It
+//! What `explain` prints, read back: whether a printed plan proves itself least, or a refusal that there is no chain.
+//! It
 //! knows nothing of the planner.
 #![tactic(auto)]
 

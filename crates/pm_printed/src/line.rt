@@ -63,7 +63,8 @@ fn spelled_row(line: &str) -> Option<TableRow>
 fn spelled_rule<'a>(rules: &[Rule], line: &'a str) -> Option<(RuleId, &'a str)>
     requires { IsBook rules.now }
     ensures back { (word rest : List ℕ) (id : RuleId) → Lacks 32 word → IsOfBook rules.now id
-        → line.now ≡ word ++ 32 ∷ (label_in (rule_at rules.now id) ++ 32 ∷ rest) → MatchOption result ⊥ (λ x. (x.0 ≡ id) × (x.1.now ≡ rest)) }
+        → line.now ≡ word ++ 32 ∷ (label_in (rule_at rules.now id) ++ 32 ∷ rest) → MatchOption result ⊥ (λ x.
+        (x.0 ≡ id) × (x.1.now ≡ rest)) }
     ensures fits { IfSome result (λ x. IsOfBook rules.now x.0) }
 {
     match cut_words(line) {
@@ -78,7 +79,8 @@ fn spelled_rule<'a>(rules: &[Rule], line: &'a str) -> Option<(RuleId, &'a str)>
 // The rule that a line spells behind its first word.
 fn spelled_of_rule(rules: &[Rule], line: &str) -> Option<RuleId>
     requires { IsBook rules.now }
-    ensures back { (id : RuleId) → IsOfBook rules.now id → line.now ≡ rule_line rules.now id → result ≡ Some id }
+    ensures back { (id : RuleId) → IsOfBook rules.now id → line.now ≡ rule_line rules.now id
+        → result ≡ Some id }
     ensures fits { IfSome result (IsOfBook rules.now) }
 {
     match spelled_rule(rules, line) {
@@ -97,7 +99,8 @@ fn is_plain(text: &str) -> bool
 // The barred rule and the reason that a line spells behind its first word.
 fn spelled_barred(alloc: Global, rules: &[Rule], line: &str) -> Result<Option<Told>, AllocError>
     requires { IsBook rules.now }
-    ensures back { IfOk result (λ r. (x : RuleId × List ℕ) → IsBarred rules.now x → line.now ≡ barred_line rules.now x → option_map seen r ≡ Some x) }
+    ensures back { IfOk result (λ r. (x : RuleId × List ℕ) → IsBarred rules.now x
+        → line.now ≡ barred_line rules.now x → option_map seen r ≡ Some x) }
     ensures fits { IfOk result (λ r. IfSome r (λ t. IsBarred rules.now (seen t))) }
 {
     let Some((rule, why)) = spelled_rule(rules, line) else {
@@ -158,8 +161,10 @@ pub(crate) fn rule_of(
     line: &[u8],
 ) -> Result<Option<RuleId>, AllocError>
     requires { IsBook rules.now }
-    ensures some { IfOk result (λ r. IfSome r (λ id. IsOfBook rules.now id × (line.now ≡ rule_line rules.now id))) }
-    ensures none { IfOk result (λ r. IfNone r ((id : RuleId) → IsOfBook rules.now id → line.now ≡ rule_line rules.now id → ⊥)) }
+    ensures some { IfOk result (λ r.
+        IfSome r (λ id. IsOfBook rules.now id × (line.now ≡ rule_line rules.now id))) }
+    ensures none { IfOk result (λ r. IfNone r ((id : RuleId) → IsOfBook rules.now id
+        → line.now ≡ rule_line rules.now id → ⊥)) }
 {
     let Ok(text) = str::from_utf8(line) else {
         return Ok(None);
@@ -183,8 +188,10 @@ pub(crate) fn barred_of(
     line: &[u8],
 ) -> Result<Option<Told>, AllocError>
     requires { IsBook rules.now }
-    ensures some { IfOk result (λ r. IfSome r (λ x. IsBarred rules.now (seen x) × (line.now ≡ barred_line rules.now (seen x)))) }
-    ensures none { IfOk result (λ r. IfNone r ((x : RuleId × List ℕ) → IsBarred rules.now x → line.now ≡ barred_line rules.now x → ⊥)) }
+    ensures some { IfOk result (λ r.
+        IfSome r (λ x. IsBarred rules.now (seen x) × (line.now ≡ barred_line rules.now (seen x)))) }
+    ensures none { IfOk result (λ r. IfNone r ((x : RuleId × List ℕ) → IsBarred rules.now x
+        → line.now ≡ barred_line rules.now x → ⊥)) }
 {
     let Ok(text) = str::from_utf8(line) else {
         return Ok(None);

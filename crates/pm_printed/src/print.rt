@@ -45,7 +45,8 @@ pub(crate) fn push_row_line(text: &mut String, row: &TableRow) -> Result<(), All
 
 // Writes the label of a rule.
 fn push_label(text: &mut String, rules: &[Rule], id: RuleId) -> Result<(), AllocError>
-    ensures { OnOk result (string_bytes text.new ≡ string_bytes text.old ++ label_in (rule_at rules.now id)) }
+    ensures { OnOk result (string_bytes text.new
+        ≡ string_bytes text.old ++ label_in (rule_at rules.now id)) }
 {
     match rules.get(usize::from(id.0)) {
         Some(rule) => text.push_str(rule.label.as_str()),
@@ -55,7 +56,8 @@ fn push_label(text: &mut String, rules: &[Rule], id: RuleId) -> Result<(), Alloc
 
 // Writes the weight of a rule.
 fn push_weight(text: &mut String, rules: &[Rule], id: RuleId) -> Result<(), AllocError>
-    ensures { OnOk result (string_bytes text.new ≡ string_bytes text.old ++ weight_in (rule_at rules.now id)) }
+    ensures { OnOk result (string_bytes text.new
+        ≡ string_bytes text.old ++ weight_in (rule_at rules.now id)) }
 {
     match rules.get(usize::from(id.0)) {
         Some(rule) => {
@@ -86,7 +88,8 @@ pub(crate) fn push_barred_line(
     rules: &[Rule],
     told: &Told,
 ) -> Result<(), AllocError>
-    ensures { OnOk result (string_bytes text.new ≡ string_bytes text.old ++ barred_line rules.now (seen told.now)) }
+    ensures { OnOk result (string_bytes text.new
+        ≡ string_bytes text.old ++ barred_line rules.now (seen told.now)) }
 {
     text.push_str("barred ")?;
     push_label(text, rules, told.rule)?;

@@ -70,8 +70,10 @@ fn next_rule<'a>(
     text: &'a [u8],
 ) -> Result<Option<(RuleId, &'a [u8])>, AllocError>
     requires { IsBook rules.now }
-    ensures some { IfOk result (λ r. IfSome r (λ x. IsOfBook rules.now x.0 × (text.now ≡ rule_text rules.now x.0 ++ x.1.now))) }
-    ensures none { IfOk result (λ r. IfNone r (BeginsNone (IsOfBook rules.now) (rule_text rules.now) text.now)) }
+    ensures some { IfOk result (λ r.
+        IfSome r (λ x. IsOfBook rules.now x.0 × (text.now ≡ rule_text rules.now x.0 ++ x.1.now))) }
+    ensures none { IfOk result (λ r.
+        IfNone r (BeginsNone (IsOfBook rules.now) (rule_text rules.now) text.now)) }
     ensures shorter { IfOk result (λ r. IfSome r (λ x. length x.1.now < length text.now)) }
 {
     let Some((line, behind)) = cut_line(text) else {
@@ -90,7 +92,8 @@ fn rules_of<'a>(
     text: &'a [u8],
 ) -> Result<(Vec<RuleId>, &'a [u8]), AllocError>
     requires { IsBook rules.now }
-    ensures { IfOk result (λ r. ReadsAll (IsOfBook rules.now) (rule_text rules.now) text.now r.0.items r.1.now) }
+    ensures { IfOk result (λ r.
+        ReadsAll (IsOfBook rules.now) (rule_text rules.now) text.now r.0.items r.1.now) }
 {
     let mut chain = Vec::new(alloc);
     let mut rest = text;
@@ -115,7 +118,8 @@ fn next_barred<'a>(
     requires { IsBook rules.now }
     ensures some { IfOk result (λ r. IfSome r (λ x. IsBarred rules.now (seen x.0)
         × (text.now ≡ barred_text rules.now (seen x.0) ++ x.1.now))) }
-    ensures none { IfOk result (λ r. IfNone r (BeginsNone (IsBarred rules.now) (barred_text rules.now) text.now)) }
+    ensures none { IfOk result (λ r.
+        IfNone r (BeginsNone (IsBarred rules.now) (barred_text rules.now) text.now)) }
     ensures shorter { IfOk result (λ r. IfSome r (λ x. length x.1.now < length text.now)) }
 {
     let Some((line, behind)) = cut_line(text) else {
@@ -134,7 +138,8 @@ fn all_barred_of<'a>(
     text: &'a [u8],
 ) -> Result<(Vec<Told>, &'a [u8]), AllocError>
     requires { IsBook rules.now }
-    ensures { IfOk result (λ r. ReadsAll (IsBarred rules.now) (barred_text rules.now) text.now (map seen r.0.items) r.1.now) }
+    ensures { IfOk result (λ r. ReadsAll (IsBarred rules.now) (barred_text rules.now) text.now
+        (map seen r.0.items) r.1.now) }
 {
     let mut told = Vec::new(alloc);
     let mut rest = text;

@@ -1,4 +1,5 @@
--- Dictionaries (Chvatal, Linear Programming, chapter 2): each basic variable as an affine function of the others, by fractions in lowest terms.
+-- Dictionaries (Chvatal, Linear Programming, chapter 2): each basic variable as an affine function of the others, by
+-- fractions in lowest terms.
 use Rattle.std.specs.Prelude.{ℕ, ◌≡◌, ◌<◌, ◌⊎◌, List, [], length}
 use Rattle.std.specs.List.{slice_index_or}
 use Rattle.pm_vector.specs.Numbers.{InRangeRatio, Ratio}
@@ -13,11 +14,14 @@ use lib.IntN.{pos, neg_ℤ}
 abbrev pub at : List (List Ratio) → ℕ → ℕ → Ratio
 at D i k = ratio_at (slice_index_or D i []) k
 
--- row i of D writes the variable P_i by those of the columns N: its fraction at place k is -R_i(N_k) / R_i(P_i) in lowest terms, for a tableau R of the equations S with the basis P
+-- row i of D writes the variable P_i by those of the columns N: its fraction at place k is -R_i(N_k) / R_i(P_i) in
+-- lowest terms, for a tableau R of the equations S with the basis P
 pub record IsDictionaryOf (S : List Row) (P N : List ℕ) (D : List (List Ratio)) : Type 0 where
   pub whole : List Row
   pub tableau : IsTableauOf S P whole
-  pub entries : (i k : ℕ) → i < length P → k < length N → IsLowestTermsOf (ratio_of (neg_ℤ (entry (row_at whole i) (column N k))) (entry (row_at whole i) (column P i))) (at D i k)
+  pub entries : (i k : ℕ) → i < length P → k < length N
+      → IsLowestTermsOf (ratio_of (neg_ℤ (entry (row_at whole i) (column N k)))
+      (entry (row_at whole i) (column P i))) (at D i k)
 
 -- the fraction 1
 abbrev pub one : Ratio
@@ -43,30 +47,36 @@ row_of D i = slice_index_or D i []
 pub record HasPlaces (cols : ℕ) (D : List (List Ratio)) : Type 0 where
   pub each : (i : ℕ) → i < length D → length (row_of D i) ≡ cols
 
--- after a pivot at place j of the pivot row x, whose fraction there is p, r is the fraction of this row at place k: 1 / p at j, else -(a / p) for the old fraction a
+-- after a pivot at place j of the pivot row x, whose fraction there is p, r is the fraction of this row at place k: 1
+-- / p at j, else -(a / p) for the old fraction a
 pub record IsNewHere (x : List Ratio) (j k : ℕ) (r : Ratio) : Type 0 where
   pub corner : k ≡ j → IsLowestTermsOf (quotient_of one (ratio_at x j)) r
   pub rest : ¬ (k ≡ j) → IsOppositeQuotient (ratio_at x k) (ratio_at x j) r
 
--- after that pivot, r is the fraction of another row y at place k: f / p at j, where f is the old fraction of y there, else e + f b for the old fraction e of y and the new one b of the pivot row
+-- after that pivot, r is the fraction of another row y at place k: f / p at j, where f is the old fraction of y
+-- there, else e + f b for the old fraction e of y and the new one b of the pivot row
 pub record IsNewElsewhere (x y : List Ratio) (j k : ℕ) (b r : Ratio) : Type 0 where
   pub corner : k ≡ j → IsLowestTermsOf (quotient_of (ratio_at y j) (ratio_at x j)) r
   pub rest : ¬ (k ≡ j) → IsProductSum (ratio_at y k) (ratio_at y j) b r
 
 -- D' has the fractions of D after the pivot at row l and place j
-pub record IsPivoted (rows cols : ℕ) (D : List (List Ratio)) (l j : ℕ) (D' : List (List Ratio)) : Type 0 where
+pub record IsPivoted (rows cols : ℕ) (D : List (List Ratio)) (l j : ℕ) (D' : List (List Ratio))
+    : Type 0 where
   pub here : (k : ℕ) → k < cols → IsNewHere (row_of D l) j k (at D' l k)
-  pub elsewhere : (i k : ℕ) → i < rows → ¬ (i ≡ l) → k < cols → IsNewElsewhere (row_of D l) (row_of D i) j k (at D' l k) (at D' i k)
+  pub elsewhere : (i k : ℕ) → i < rows → ¬ (i ≡ l) → k < cols
+      → IsNewElsewhere (row_of D l) (row_of D i) j k (at D' l k) (at D' i k)
 
 -- both parts of each of the first fractions of x are in the range
 abbrev pub AllFit : ℕ → List Ratio → Type 0
 AllFit cols x = (k : ℕ) → k < cols → InRangeRatio (ratio_at x k)
 
 -- r is row i of D after the pivot at row l and place j, where b is the new pivot row
-pub record IsRowAfter (cols : ℕ) (D : List (List Ratio)) (l j : ℕ) (b : List Ratio) (i : ℕ) (r : List Ratio) : Type 0 where
+pub record IsRowAfter (cols : ℕ) (D : List (List Ratio)) (l j : ℕ) (b : List Ratio) (i : ℕ) (r : List Ratio)
+    : Type 0 where
   pub count : length r ≡ cols
   pub here : i ≡ l → r ≡ b
-  pub elsewhere : ¬ (i ≡ l) → (k : ℕ) → k < cols → IsNewElsewhere (row_of D l) (row_of D i) j k (ratio_at b k) (ratio_at r k)
+  pub elsewhere : ¬ (i ≡ l) → (k : ℕ) → k < cols
+      → IsNewElsewhere (row_of D l) (row_of D i) j k (ratio_at b k) (ratio_at r k)
   pub fits : AllFit cols r
 
 -- the sum of e and the product of f and b, which is made, leaves the range
@@ -84,7 +94,8 @@ pub record IsWideHere (x : List Ratio) (j k : ℕ) : Type 0 where
   pub corner : k ≡ j → IsTooWide (quotient_of one (ratio_at x j))
   pub rest : ¬ (k ≡ j) → IsTooWide (quotient_of (ratio_at x k) (ratio_at x j))
 
--- an operation for the new fraction of another row y at place k leaves the range, where b is the new fraction of the pivot row there
+-- an operation for the new fraction of another row y at place k leaves the range, where b is the new fraction of the
+-- pivot row there
 pub record IsWideElsewhere (x y : List Ratio) (j k : ℕ) (b : Ratio) : Type 0 where
   pub corner : k ≡ j → IsTooWide (quotient_of (ratio_at y j) (ratio_at x j))
   pub rest : ¬ (k ≡ j) → ProductSumIsWide (ratio_at y k) (ratio_at y j) b

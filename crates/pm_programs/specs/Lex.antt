@@ -15,7 +15,8 @@ abbrev pub IsLexNonNeg : Row → Type 0
 IsLexNonNeg [] = Unit {0}
 IsLexNonNeg (a ∷ x) = (pos 0 <ℤ a) ⊎ ((a ≡ pos 0) × IsLexNonNeg x)
 
--- the entry of x in the column c; in the column 0, that of the constants, the opposite, so that it has the sign of a basic variable's value
+-- the entry of x in the column c; in the column 0, that of the constants, the opposite, so that it has the sign of a
+-- basic variable's value
 abbrev pub key : Row → ℕ → ℤ
 key x zero = neg_ℤ (entry x 0)
 key x (suc v) = entry x (suc v)

@@ -1,5 +1,6 @@
--- Tableaux: linear equations solved for the variables of a basis (Chvatal, Linear Programming, chapter 2). A row (a_0, a_1, .., a_N) stands for the
--- equation a_0 + a_1 x_1 + .. + a_N x_N = 0; the variable x_v has the column v, and the column 0 is that of the numbers a_0.
+-- Tableaux: linear equations solved for the variables of a basis (Chvatal, Linear Programming, chapter 2). A row
+-- (a_0, a_1, .., a_N) stands for the equation a_0 + a_1 x_1 + .. + a_N x_N = 0; the variable x_v has the column v,
+-- and the column 0 is that of the numbers a_0.
 use Rattle.std.specs.Prelude.{ℕ, ◌≡◌, ◌<◌, ◌⊎◌, List, length, map, slice_set}
 use Rattle.pm_vector.specs.Rows.{Row, entry, times, difference}
 use Rattle.pm_vector.specs.Bases.{row_at, column, SameSpan}
@@ -21,10 +22,12 @@ pub record IsTableauOf (S : List Row) (P : List ℕ) (R : List Row) : Type 0 whe
 abbrev pub IsSign : ℤ → Type 0
 IsSign s = (s ≡ pos 1) ⊎ (s ≡ negsuc 0)
 
--- what becomes of another row r when the row x, whose entry in the column e has the sign s, is solved for e and put into it: |x_e| r - s r_e x
+-- what becomes of another row r when the row x, whose entry in the column e has the sign s, is solved for e and put
+-- into it: |x_e| r - s r_e x
 abbrev pub pivot_row : ℤ → Row → ℕ → Row → Row
 pivot_row s x e r = difference (s *ℤ entry x e) r (s *ℤ entry r e) x
 
--- the rows R when row l, whose entry in the column e has the sign s, is solved for e and put into the others; row l itself is taken s times
+-- the rows R when row l, whose entry in the column e has the sign s, is solved for e and put into the others; row l
+-- itself is taken s times
 abbrev pub pivot_rows : ℤ → ℕ → ℕ → List Row → List Row
 pivot_rows s l e R = slice_set (map (pivot_row s (row_at R l) e) R) l (times s (row_at R l))

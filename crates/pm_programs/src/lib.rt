@@ -1,4 +1,5 @@
-//! The mathematics of the simplex method: tableaux, dictionaries of fractions, pivots by the lexicographic rule, and why they end. No code.
+//! The mathematics of the simplex method: tableaux, dictionaries of fractions, pivots by the lexicographic rule, and
+//! why they end. No code. It knows nothing of geometry, properties and objects.
 #![tactic(auto)]
 
 ghost use Rattle.pm_programs.specs.DictionaryLaws.{DictionaryIsUnique, PivotIsDictionary};

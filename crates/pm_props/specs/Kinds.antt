@@ -30,4 +30,10 @@ pub record IsFresh (tag : PropId → Bool) (kind : Kind) : Type 0 where
 
 -- the kind of a client that finds these from those, under no condition
 abbrev pub finding : List ℕ → List PropId → List PropId → Kind
-finding name targets sources = record { name = name; targets = set_of targets; sources = set_of sources; must = 0; must_not = 0 }
+finding name targets sources = record {
+  name = name;
+  targets = set_of targets;
+  sources = set_of sources;
+  must = 0;
+  must_not = 0;
+}

@@ -3,7 +3,8 @@ use Rattle.std.specs.Prelude.{ℕ, Bool, true, false, Option, None, Some, nat_eq
 use Rattle.pm_props.specs.Properties.{has_program, number}
 use Rattle.pm_props.specs.declared.property.PropId.{PropId}
 
--- where a value of the property stands, seen from a subobject if one is asked: in it where the property is one of linear programs, else in the object itself
+-- where a value of the property stands, seen from a subobject if one is asked: in it where the property is one of
+-- linear programs, else in the object itself
 abbrev pub place_of : Option ℕ → PropId → Option ℕ
 place_of sub p = if has_program p then sub else None
 

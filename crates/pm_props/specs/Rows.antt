@@ -6,9 +6,10 @@ use Rattle.pm_props.specs.declared.property.RowTest.{RowTest}
 use Rattle.pm_props.specs.declared.property.Tables.{Tables}
 use Rattle.pm_props.specs.declared.property.ValueKind.{ValueKind}
 
--- its number; its names in the tables of polytopes (or programs), of cones and of fans; the form of its values; the tables that have it;
--- whether it speaks of the order of the rays, of the facets; what its rows do to the cone, and whether it is half of a pair that
--- describes the cone; how it is tied to the number of columns; what each row has to pass
+-- its number; its names in the tables of polytopes (or programs), of cones and of fans; the form of its values; the
+-- tables that have it;
+-- whether it speaks of the order of the rays, of the facets; what its rows do to the cone, and whether it is half of
+-- a pair that describes the cone; how it is tied to the number of columns; what each row has to pass
 pub record RowSeen : Type 0 where
   pub number : ℕ
   pub first_name : List ℕ

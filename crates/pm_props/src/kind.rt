@@ -45,14 +45,16 @@ impl Kind {
         self.targets.union(self.sources.union(self.conditions()))
     }
 
-    /// Whether all properties that the kind names are in use for an object of the type, of which this program is asked if one is.
+    /// Whether all properties that the kind names are in use for an object of the type, of which this program is
+    /// asked if one is.
     pub fn is_of(&self, sub: Option<u8>, of: ObjectType) -> bool
         ensures { IsTrue result ↔ IsKindOf sub of self.now }
     {
         are_in(sub, of, self.names(), &PropId::every())
     }
 
-    /// The kind of a client that finds these properties from those, under no condition; its name is at most 32 bytes of ASCII.
+    /// The kind of a client that finds these properties from those, under no condition; its name is at most 32 bytes
+    /// of ASCII.
     pub fn finding(name: &str, targets: &[PropId], sources: &[PropId]) -> Kind
         requires short { length name.now ≤ 32 }
         requires ascii { IsAscii name.now }

@@ -1,5 +1,5 @@
-//! The properties of objects and their table, sets of properties, and kinds of clients. It knows nothing of values, and
-//! nothing of geometry.
+//! The properties of objects and their table, sets of properties, and kinds of clients. It knows nothing of values,
+//! and nothing of geometry.
 #![tactic(auto)]
 
 mod client_name;

@@ -34,7 +34,8 @@ impl PropId {
 
     /// The property of linear programs with this name, which lacks `LP.`.
     pub fn program_named(text: &str) -> Option<PropId>
-        ensures exact { (p : PropId) → (result ≡ Some p) ↔ (IsTrue (has_program p) × (text.now ≡ program_name p)) }
+        ensures exact { (p : PropId) → (result ≡ Some p)
+            ↔ (IsTrue (has_program p) × (text.now ≡ program_name p)) }
         ensures value { result ≡ program_named text.now }
     {
         find_program(text)

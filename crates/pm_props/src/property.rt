@@ -279,8 +279,8 @@ const PLAIN: Entry = Entry {
 /// How many properties there are.
 pub const COUNT: usize = 53;
 
-// A row: the number, the first name (and those of cones and fans, where they differ), the kind of value, the tables, and
-// what differs from a plain property.
+// A row: the number, the first name (and those of cones and fans, where they differ), the kind of value, the tables,
+// and what differs from a plain property.
 macro_rules! property {
     ($number:literal $name:literal $kind:ident $tables:ident $(| $($field:ident: $value:expr),+)?) => {
         property!($number $name, $name, $name; $kind $tables $(| $($field: $value),+)?)

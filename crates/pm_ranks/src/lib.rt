@@ -1,4 +1,5 @@
-//! The ranks of the faces of a cone, the graph of its extreme rays and that of its facets: laws, for any order of the rays and of the facets.
+//! The ranks of the faces of a cone, the graph of its extreme rays and that of its facets: laws, for any order of the
+//! rays and of the facets. It knows nothing of properties, values and objects.
 //!
 //! A law is a function without code, whose contract is a theorem.
 #![tactic(auto)]

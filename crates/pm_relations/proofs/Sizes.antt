@@ -118,11 +118,11 @@ module _ (n : ℕ) (G L : List Row) where
 abbrev Lists : ℕ → Row → List Row → List ℕ → Type 0
 Lists low f V r = (j : ℕ) → Among j r ↔ ((i : ℕ) × (j ≡ low + i) × (i < length V) × (dot f (ray V i) ≡ pos 0))
 
-record Next (n low j : ℕ) (r : List ℕ) : Type 0 where
-  above : low ≤ j
-  rest : are_indices n (suc j) r ≡ true
+pub record Next (n low j : ℕ) (r : List ℕ) : Type 0 where
+  pub above : low ≤ j
+  pub rest : are_indices n (suc j) r ≡ true
 
-next : (n low j : ℕ) (r : List ℕ) → are_indices n low (j ∷ r) ≡ true → Next n low j r
+pub next : (n low j : ℕ) (r : List ℕ) → are_indices n low (j ∷ r) ≡ true → Next n low j r
 next n low j r h =
     let p = and_parts (leb low j && ltb j n) (are_indices n (suc j) r) h in
     let q = and_parts (leb low j) (ltb j n) p.0 in

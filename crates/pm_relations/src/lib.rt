@@ -1,5 +1,5 @@
-//! How the right values of an object's properties are related: the theorems by which clients find one from others.
-//! It has no code.
+//! How the right values of an object's properties are related: the theorems by which clients find one from others. It
+//! has no code. It knows nothing of objects, rules and clients.
 #![tactic(auto)]
 
 ghost use Rattle.pm_relations.specs.FirstEntries.{BoundedIsFound, CenteredIsFound, FarFaceIsFound};

@@ -6,7 +6,7 @@ use Rattle.pm_transact.proofs.Committing.{at_any, drop_at, named_held, read_appe
 use Rattle.pm_rounds.proofs.Traces.{reaches_itself, reaches_through}
 use Rattle.pm_rounds.proofs.Turns.{turn_breaks, turn_reaches}
 use Rattle.pm_rounds.specs.Chains.{AreBarred, held_names, is_excluded, place_of_rule, some_wrong, table}
-use Rattle.pm_rounds.specs.Events.{Reaches, ReachesInPart, configuration, turn, turns}
+use Rattle.pm_rounds.specs.Events.{TraceLeads, ReachesInPart, configuration, turn, turns}
 use Rattle.pm_rounds.specs.Running.{BreaksTurn, Commits, ExcludesOne, FollowsChain, MayFollow, TakesTurn, after_turn}
 use Rattle.pm_object.proofs.Formed.{held_dimension, held_stays, value_among, value_later}
 use Rattle.pm_object.specs.Formed.{IsFormed}
@@ -242,7 +242,7 @@ may_follow book sub barred chain o clients are enabled = record {
 -- ---- turn after turn
 pub record StillToFollow (book : List Rule) (sub : Option ℕ) (chain : List RuleId) (o : State) (clients : Clients) (left : List RuleId) (now : State) (past : Clients) : Type 0 where
   pub may : MayFollow book sub left (configuration now past)
-  pub reaches : (asked : PropSet) → Reaches book sub asked (turns chain chain) (configuration o clients) (turns chain left) (configuration now past)
+  pub reaches : (asked : PropSet) → TraceLeads book sub asked (turns chain chain) (configuration o clients) (turns chain left) (configuration now past)
   pub names : (p : PropId) → has (reached book (held_names sub o) chain) p ≡ has (reached book (held_names sub now) left) p
   pub excluded : now.excluded ≡ o.excluded
   pub dimension : is_held ConeAmbientDim now.held ≡ true
@@ -271,7 +271,7 @@ next_rule book sub id left o clients m = let (rule, at, n, rest) = m.enabled in 
 module _ (book : List Rule) (sub : Option ℕ) (chain : List RuleId) (o : State) (clients : Clients) (id : RuleId) (left : List RuleId) (now new : State) (past after : Clients)
     (s : StillToFollow book sub chain o clients (id ∷ left) now past) (rule : Rule) (at : rule_at book id ≡ Some rule) where
   reaches_on : (e : RoundEnd) → TakesTurn sub id rule (configuration now past) e (configuration new after) → (asked : PropSet)
-      → Reaches book sub asked (turns chain chain) (configuration o clients) (after_turn chain left e) (configuration new after)
+      → TraceLeads book sub asked (turns chain chain) (configuration o clients) (after_turn chain left e) (configuration new after)
   reaches_on e t asked =
       reaches_through book sub asked (turns chain chain) (turn chain id left) (after_turn chain left e) _ _ _ (s.reaches asked) (turn_reaches book sub asked chain left id rule at now new past after e t)
 
@@ -338,7 +338,7 @@ module _ (book : List Rule) (sub : Option ℕ) (chain : List RuleId) (o : State)
 pub all_followed : (book : List Rule) (sub : Option ℕ) (chain : List RuleId) (o : State) (clients : Clients) (left : List RuleId) (now : State) (past : Clients) → left ≡ [] → StillToFollow book sub chain o clients left now past
     → FollowsChain book sub chain (configuration o clients) end.Done (configuration now past)
 all_followed book sub chain o clients left now past none s = record {
-  reaches = λ asked. subst (λ z. Reaches book sub asked (turns chain chain) (configuration o clients) (turns chain z) (configuration now past)) none (s.reaches asked);
+  reaches = λ asked. subst (λ z. TraceLeads book sub asked (turns chain chain) (configuration o clients) (turns chain z) (configuration now past)) none (s.reaches asked);
   further = inl (λ p h. sym (s.names p ∙ ap (λ z. has (reached book (held_names sub now) z) p) none) ∙ h);
 }
 

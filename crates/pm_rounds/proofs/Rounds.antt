@@ -2,7 +2,7 @@
 use Rattle.pm_client.specs.Starts.{Clients}
 use Rattle.pm_rounds.proofs.Traces.{reaches_by, reaches_itself, reaches_through}
 use Rattle.pm_rounds.specs.Chains.{AllHeld, AreBarred, held_names, still_missing, table}
-use Rattle.pm_rounds.specs.Events.{Configuration, EndsIn, Ensured, EnsuredInPart, Phase, Reaches, ReachesInPart, at_rest, begun, configuration, over, settled, turns, unsettled, written}
+use Rattle.pm_rounds.specs.Events.{Configuration, EndsIn, Ensured, EnsuredInPart, Phase, TraceLeads, ReachesInPart, at_rest, begun, configuration, over, settled, turns, unsettled, written}
 use Rattle.pm_rounds.specs.Running.{ExcludesOne, FollowsChain, RoundStarted, RunsRound}
 use Rattle.pm_rounds.specs.declared.round.Ending.{Ending}
 use Rattle.pm_rounds.specs.declared.round.Ending.TheVariants as ending
@@ -32,7 +32,7 @@ module _ (book : List Rule) (sub : Option ℕ) (chain : List RuleId) (o mid : St
   pub round_written : (new : State) (weight : Cost) → weight ≡ weigh book chain → new ≡ with_round mid (record { sub = sub; weight = weight; chain = chain; end = e })
       → RunsRound book sub chain (configuration o clients) (configuration new after)
   round_written new weight weighs is = record {
-    reaches = λ asked. subst (λ (z : State). Reaches book sub asked (turns chain chain) (configuration o clients) at_rest (configuration z after)) (sym is)
+    reaches = λ asked. subst (λ (z : State). TraceLeads book sub asked (turns chain chain) (configuration o clients) at_rest (configuration z after)) (sym is)
         (reaches_through book sub asked (turns chain chain) (over chain e) at_rest _ _ _ (f.reaches asked)
         (reaches_by book sub asked (over chain e) (configuration mid after) (written (record { sub = sub; weight = weight; chain = chain; end = e }))
         (ap (λ (w : Cost). record { sub = sub; weight = w; chain = chain; end = e }) weighs)));
@@ -46,7 +46,7 @@ module _ (book : List Rule) (sub : Option ℕ) (chain : List RuleId) (o mid : St
       → OnErr r ((asked : PropSet) → ReachesInPart book sub asked (turns chain chain) (configuration o clients) (configuration new after))
   round_unwritten (Ok x) new is = tt
   round_unwritten (Err x) new is = λ asked.
-      (over chain e, subst (λ (z : State). Reaches book sub asked (turns chain chain) (configuration o clients) (over chain e) (configuration z after)) (sym is) (f.reaches asked))
+      (over chain e, subst (λ (z : State). TraceLeads book sub asked (turns chain chain) (configuration o clients) (over chain e) (configuration z after)) (sym is) (f.reaches asked))
 
 -- what is held stays among what a chain reaches
 reached_has : (book : List Rule) (h : PropSet) (chain : List RuleId) (p : PropId) → has h p ≡ true → has (reached book h chain) p ≡ true
@@ -55,7 +55,7 @@ reached_has book h (id ∷ chain) p i = reached_has book (union h (targets_at bo
 
 module _ (book : List Rule) (sub : Option ℕ) (asked : PropSet) (barred chain : List RuleId) (o : State) (clients : Clients) (missing : AllHeld sub asked o → ⊥) (are : AreBarred book clients o sub barred)
     (least : IsLeast book (table sub o.of) barred (held_names sub o) (still_missing sub asked o) chain) where
-  begins : Reaches book sub asked at_rest (configuration o clients) (turns chain chain) (configuration o clients)
+  begins : TraceLeads book sub asked at_rest (configuration o clients) (turns chain chain) (configuration o clients)
   begins = reaches_by book sub asked at_rest (configuration o clients) (begun chain) (record { missing = missing; barred = barred; are_barred = are; least = least })
 
   all_held : (new : State) → IsSubset (reached book (held_names sub o) chain) (held_names sub new) → AllHeld sub asked new
@@ -89,27 +89,27 @@ named_so P o sub asked n h a e f g x = subst (λ z. P (table sub o.of) (held_nam
 
 -- ---- ensuring
 module _ (book : List Rule) (sub : Option ℕ) (asked : PropSet) (o : State) (clients : Clients) where
-  pub settles : (new : State) → new ≡ with_held o (settling o) → Reaches book sub asked unsettled (configuration o clients) at_rest (configuration new clients)
+  pub settles : (new : State) → new ≡ with_held o (settling o) → TraceLeads book sub asked unsettled (configuration o clients) at_rest (configuration new clients)
   settles new is =
-      subst (λ (z : State). Reaches book sub asked unsettled (configuration o clients) at_rest (configuration z clients)) (sym is) (reaches_by book sub asked unsettled (configuration o clients) settled tt)
+      subst (λ (z : State). TraceLeads book sub asked unsettled (configuration o clients) at_rest (configuration z clients)) (sym is) (reaches_by book sub asked unsettled (configuration o clients) settled tt)
 
-  pub reaches_further : (now new : State) (past after : Clients) → Reaches book sub asked unsettled (configuration o clients) at_rest (configuration now past)
-      → Reaches book sub asked at_rest (configuration now past) at_rest (configuration new after) → Reaches book sub asked unsettled (configuration o clients) at_rest (configuration new after)
+  pub reaches_further : (now new : State) (past after : Clients) → TraceLeads book sub asked unsettled (configuration o clients) at_rest (configuration now past)
+      → TraceLeads book sub asked at_rest (configuration now past) at_rest (configuration new after) → TraceLeads book sub asked unsettled (configuration o clients) at_rest (configuration new after)
   reaches_further now new past after a b = reaches_through book sub asked unsettled at_rest at_rest _ _ _ a b
 
-  pub broken_further : {T E : Type 0} (r : Result T E) (now new : State) (past after : Clients) → Reaches book sub asked unsettled (configuration o clients) at_rest (configuration now past)
+  pub broken_further : {T E : Type 0} (r : Result T E) (now new : State) (past after : Clients) → TraceLeads book sub asked unsettled (configuration o clients) at_rest (configuration now past)
       → ReachesInPart book sub asked at_rest (configuration now past) (configuration new after) → OnErr r (EnsuredInPart book sub asked (configuration o clients) (configuration new after))
   broken_further (Ok x) now new past after a b = tt
   broken_further (Err e) now new past after a (later, b) = (later, reaches_through book sub asked unsettled at_rest later _ _ _ a b)
 
-  pub found_so : (new : State) (after : Clients) → Reaches book sub asked unsettled (configuration o clients) at_rest (configuration new after) → AllHeld sub asked new
+  pub found_so : (new : State) (after : Clients) → TraceLeads book sub asked unsettled (configuration o clients) at_rest (configuration new after) → AllHeld sub asked new
       → Ensured book sub asked ending.Found (configuration o clients) (configuration new after)
   found_so new after g held = record { reaches = g; ends = held }
 
-  pub ended : (e : Ending) (now new : State) (past after : Clients) → Reaches book sub asked unsettled (configuration o clients) at_rest (configuration now past)
+  pub ended : (e : Ending) (now new : State) (past after : Clients) → TraceLeads book sub asked unsettled (configuration o clients) at_rest (configuration now past)
       → EndsIn book sub asked e (configuration now past) → configuration new after ≡ configuration now past → Ensured book sub asked e (configuration o clients) (configuration new after)
   ended e now new past after g ends same = record {
-    reaches = subst (λ (z : Configuration). Reaches book sub asked unsettled (configuration o clients) at_rest z) (sym same) g;
+    reaches = subst (λ (z : Configuration). TraceLeads book sub asked unsettled (configuration o clients) at_rest z) (sym same) g;
     ends = subst (λ (z : Configuration). EndsIn book sub asked e z) (sym same) ends;
   }
 

@@ -1,5 +1,5 @@
 -- Traces of events: one after another, and what they keep. By the definitions alone.
-use Rattle.pm_rounds.specs.Events.{Configuration, EnsuredInPart, Event, IsTrace, MayOccur, Phase, Reaches, Stands, after_event, after_events, phase_after, phase_after_all, at_rest, begun, columns, committed, excluded, over, running, settled, started, turn, turns, unsettled, written}
+use Rattle.pm_rounds.specs.Events.{Configuration, EnsuredInPart, Event, IsTrace, MayOccur, Phase, TraceLeads, StaysHonest, after_event, after_events, phase_after, phase_after_all, at_rest, begun, columns, committed, excluded, over, running, settled, started, turn, turns, unsettled, written}
 use Rattle.pm_rounds.specs.Running.{HasPlace}
 use Rattle.pm_object.proofs.Formed.{held_stays}
 use Rattle.pm_object.proofs.Honesty.{commit_is_honest, honesty_is_of_values, settled_is_kept}
@@ -27,13 +27,13 @@ module _ (book : List Rule) (sub : Option ℕ) (asked : PropSet) where
   after_append c [] ys = refl
   after_append c (x ∷ xs) ys = after_append (after_event sub x c) xs ys
 
-  pub reaches_itself : (phase : Phase) (c : Configuration) → Reaches book sub asked phase c phase c
+  pub reaches_itself : (phase : Phase) (c : Configuration) → TraceLeads book sub asked phase c phase c
   reaches_itself phase c = record { events = []; trace = tt; phase_is = refl; becomes = refl }
 
-  pub reaches_by : (phase : Phase) (c : Configuration) (e : Event) → MayOccur book sub asked phase c e → Reaches book sub asked phase c (phase_after phase e) (after_event sub e c)
+  pub reaches_by : (phase : Phase) (c : Configuration) (e : Event) → MayOccur book sub asked phase c e → TraceLeads book sub asked phase c (phase_after phase e) (after_event sub e c)
   reaches_by phase c e may = record { events = e ∷ []; trace = (may, tt); phase_is = refl; becomes = refl }
 
-  pub reaches_through : (p q r : Phase) (c d e : Configuration) → Reaches book sub asked p c q d → Reaches book sub asked q d r e → Reaches book sub asked p c r e
+  pub reaches_through : (p q r : Phase) (c d e : Configuration) → TraceLeads book sub asked p c q d → TraceLeads book sub asked q d r e → TraceLeads book sub asked p c r e
   reaches_through p q r c d e a b = record {
     events = a.events ++ b.events;
     trace = trace_append p c a.events b.events a.trace
@@ -55,7 +55,7 @@ events_hold : (sub : Option ℕ) (p : PropId) (c : Configuration) (events : List
 events_hold sub p c [] h = h
 events_hold sub p c (e ∷ events) h = events_hold sub p (after_event sub e c) events (event_holds sub p c e h)
 
-pub reaching_holds : (book : List Rule) (sub : Option ℕ) (asked : PropSet) (phase later : Phase) (old new : Configuration) (p : PropId) → Reaches book sub asked phase old later new
+pub reaching_holds : (book : List Rule) (sub : Option ℕ) (asked : PropSet) (phase later : Phase) (old new : Configuration) (p : PropId) → TraceLeads book sub asked phase old later new
     → is_held p old.object.held ≡ true → is_held p new.object.held ≡ true
 reaching_holds book sub asked phase later old new p r h = subst (λ (c : Configuration). is_held p c.object.held ≡ true) (sym r.becomes) (events_hold sub p old r.events h)
 
@@ -72,11 +72,11 @@ events_programs : (sub : Option ℕ) (c : Configuration) (events : List Event) �
 events_programs sub c [] = refl
 events_programs sub c (e ∷ events) = events_programs sub (after_event sub e c) events ∙ event_programs sub c e
 
-pub reaching_programs : (book : List Rule) (sub : Option ℕ) (asked : PropSet) (phase later : Phase) (old new : Configuration) → Reaches book sub asked phase old later new → new.object.programs ≡ old.object.programs
+pub reaching_programs : (book : List Rule) (sub : Option ℕ) (asked : PropSet) (phase later : Phase) (old new : Configuration) → TraceLeads book sub asked phase old later new → new.object.programs ≡ old.object.programs
 reaching_programs book sub asked phase later old new r = ap (λ (c : Configuration). c.object.programs) r.becomes ∙ events_programs sub old r.events
 
 -- who asks a program that the object has, asks one that it has later
-pub still_placed : (book : List Rule) (sub : Option ℕ) (asked : PropSet) (phase later : Phase) (old new : Configuration) → Reaches book sub asked phase old later new → HasPlace sub old.object → HasPlace sub new.object
+pub still_placed : (book : List Rule) (sub : Option ℕ) (asked : PropSet) (phase later : Phase) (old new : Configuration) → TraceLeads book sub asked phase old later new → HasPlace sub old.object → HasPlace sub new.object
 still_placed book sub asked phase later old new r within = subst (λ ps. IfSome sub (λ s. s < length ps)) (sym (reaching_programs book sub asked phase later old new r)) within
 
 -- ---- honesty
@@ -90,19 +90,19 @@ not_empty {X} xs x e = by (length (xs ++ x ∷ [])) (more xs x) (ap (λ (t : Lis
     more [] x e = absurd (omega arith)
     more (y ∷ ys) x e = absurd (omega arith)
 
-honest_in : (phase : Phase) (o : State) → Stands phase o → IsHonest o
+honest_in : (phase : Phase) (o : State) → StaysHonest phase o → IsHonest o
 honest_in unsettled o kept = kept.honest
 honest_in at_rest o kept = kept.honest
 honest_in (turn chain id left) o honest = honest
 honest_in (running chain id left) o honest = honest
 honest_in (over chain e) o honest = honest
 
-in_turns : (chain left : List RuleId) (o : State) → IsHonest o → Stands (turns chain left) o
+in_turns : (chain left : List RuleId) (o : State) → IsHonest o → StaysHonest (turns chain left) o
 in_turns chain [] o honest = honest
 in_turns chain (id ∷ left) o honest = honest
 
 event_keeps : (book : List Rule) (sub : Option ℕ) (asked : PropSet) (phase : Phase) (c : Configuration) (e : Event) → MayOccur book sub asked phase c e
-    → Stands phase c.object → Stands (phase_after phase e) (after_event sub e c).object
+    → StaysHonest phase c.object → StaysHonest (phase_after phase e) (after_event sub e c).object
 event_keeps book sub asked unsettled c settled may kept = settled_is_kept c.object kept
 event_keeps book sub asked at_rest c (begun chain) may kept = in_turns chain chain c.object kept.honest
 event_keeps book sub asked (turn chain id left) c (started kind) may honest = honest
@@ -117,16 +117,16 @@ event_keeps book sub asked (over chain e) c (written r) may honest = record {
 event_keeps book sub asked phase c e may stands = absurd may
 
 pub events_keep : (book : List Rule) (sub : Option ℕ) (asked : PropSet) (phase : Phase) (c : Configuration) (events : List Event) → IsTrace book sub asked phase c events
-    → Stands phase c.object → Stands (phase_after_all phase events) (after_events sub events c).object
+    → StaysHonest phase c.object → StaysHonest (phase_after_all phase events) (after_events sub events c).object
 events_keep book sub asked phase c [] trace stands = stands
 events_keep book sub asked phase c (e ∷ events) (may, trace) stands =
     events_keep book sub asked (phase_after phase e) (after_event sub e c) events trace (event_keeps book sub asked phase c e may stands)
 
-pub reaching_keeps : (book : List Rule) (sub : Option ℕ) (asked : PropSet) (phase later : Phase) (old new : Configuration) → Reaches book sub asked phase old later new
-    → Stands phase old.object → Stands later new.object
+pub reaching_keeps : (book : List Rule) (sub : Option ℕ) (asked : PropSet) (phase later : Phase) (old new : Configuration) → TraceLeads book sub asked phase old later new
+    → StaysHonest phase old.object → StaysHonest later new.object
 reaching_keeps book sub asked phase later old new r stands =
-    subst (λ (c : Configuration). Stands later c.object) (sym r.becomes)
-    (subst (λ (q : Phase). Stands q (after_events sub r.events old).object) r.phase_is (events_keep book sub asked phase old r.events r.trace stands))
+    subst (λ (c : Configuration). StaysHonest later c.object) (sym r.becomes)
+    (subst (λ (q : Phase). StaysHonest q (after_events sub r.events old).object) r.phase_is (events_keep book sub asked phase old r.events r.trace stands))
 
 pub ensuring_in_part_keeps : (book : List Rule) (sub : Option ℕ) (asked : PropSet) (old new : Configuration) → EnsuredInPart book sub asked old new → IsKept old.object → IsHonest new.object
 ensuring_in_part_keeps book sub asked old new (later, r) kept = honest_in later new.object (reaching_keeps book sub asked unsettled later old new r kept)

@@ -6,7 +6,7 @@ use Rattle.pm_client.specs.Starts.{after_start, has_client}
 use Rattle.pm_geom.specs.Evidence.{evidence_number}
 use Rattle.pm_geom.specs.declared.evidence.Evidence.{Evidence}
 use Rattle.pm_rounds.specs.Chains.{AllHeld, IsFirstWrong, held_names, is_excluded, place_of_rule, table}
-use Rattle.pm_rounds.specs.Events.{Configuration, EndsIn, Phase, Reaches, StartedRule, at_rest, columns, over, turns}
+use Rattle.pm_rounds.specs.Events.{Configuration, EndsIn, Phase, TraceLeads, StartedRule, at_rest, columns, over, turns}
 use Rattle.pm_rounds.specs.declared.round.Ending.{Ending}
 use Rattle.pm_object.specs.Honest.{facts}
 use Rattle.pm_object.specs.Laws.{computed}
@@ -36,7 +36,8 @@ HasPlace sub o = IfSome sub (λ s. s < length o.programs)
 
 -- where it has a name of linear programs, the kind is fresh in no tag
 abbrev pub IsStale : Kind → Type 0
-IsStale kind = (p : PropId) → IsTrue (has (names_of kind) p) → IsTrue (has_program p) → EachTag (λ tag. IsFresh tag kind → ⊥)
+IsStale kind = (p : PropId) → IsTrue (has (names_of kind) p) → IsTrue (has_program p)
+    → EachTag (λ tag. IsFresh tag kind → ⊥)
 
 -- ---- a turn of a rule
 -- what is missing of the answer of the rule's client is added
@@ -47,19 +48,23 @@ pub record Commits (sub : Option ℕ) (rule : Rule) (old new : State) : Type 0 w
   pub added : new ≡ with_held old (computed (missing sub (facts old.held) answer))
 
 -- the rule is excluded, with evidence that holds of what its client read
-pub record FailedRun (sub : Option ℕ) (id : RuleId) (rule : Rule) (old : State) (other : RuleId) (k : ℕ) (new : State) : Type 0 where
+pub record FailedRun (sub : Option ℕ) (id : RuleId) (rule : Rule) (old : State) (other : RuleId) (k : ℕ)
+    (new : State) : Type 0 where
   pub same : other ≡ id
   pub started : StartedRule sub rule old
   pub evidence : Evidence
   pub holds : HoldsOf evidence (view_for old sub rule.kind (columns old))
   pub named : k ≡ evidence_number evidence
-  pub excluded : new ≡ with_excluded old (record { rule = id; sub = place_of_rule sub rule; why = why.Failed evidence })
+  pub excluded : new
+      ≡ with_excluded old (record { rule = id; sub = place_of_rule sub rule; why = why.Failed evidence })
 
 -- the rule is excluded, for a precondition that is held with the wrong value
-pub record FoundFalse (sub : Option ℕ) (id : RuleId) (rule : Rule) (old : State) (other : RuleId) (p : PropId) (new : State) : Type 0 where
+pub record FoundFalse (sub : Option ℕ) (id : RuleId) (rule : Rule) (old : State) (other : RuleId)
+    (p : PropId) (new : State) : Type 0 where
   pub same : other ≡ id
   pub first : IsFirstWrong rule (read_at sub old.held) p
-  pub excluded : new ≡ with_excluded old (record { rule = id; sub = place_of_rule sub rule; why = why.False p })
+  pub excluded : new
+      ≡ with_excluded old (record { rule = id; sub = place_of_rule sub rule; why = why.False p })
 
 -- what a run of the rule's client makes of the object
 abbrev pub RunsRule : Option ℕ → RuleId → Rule → State → RoundEnd → State → Type 0
@@ -67,16 +72,21 @@ RunsRule sub id rule old end.Done new = Commits sub rule old new
 RunsRule sub id rule old (end.Failed other k) new = FailedRun sub id rule old other k new
 RunsRule sub id rule old (end.False other p) new = ⊥
 
--- what a turn of the rule makes of the object and the clients: its client is started, unless a precondition is held with the wrong value
+-- what a turn of the rule makes of the object and the clients: its client is started, unless a precondition is held
+-- with the wrong value
 abbrev pub TakesTurn : Option ℕ → RuleId → Rule → Configuration → RoundEnd → Configuration → Type 0
-TakesTurn sub id rule old end.Done new = Commits sub rule old.object new.object × (new.clients ≡ after_start rule.kind old.clients)
-TakesTurn sub id rule old (end.Failed other k) new = FailedRun sub id rule old.object other k new.object × (new.clients ≡ after_start rule.kind old.clients)
-TakesTurn sub id rule old (end.False other p) new = FoundFalse sub id rule old.object other p new.object × (new.clients ≡ old.clients)
+TakesTurn sub id rule old end.Done new = Commits sub rule old.object new.object
+    × (new.clients ≡ after_start rule.kind old.clients)
+TakesTurn sub id rule old (end.Failed other k) new = FailedRun sub id rule old.object other k new.object
+    × (new.clients ≡ after_start rule.kind old.clients)
+TakesTurn sub id rule old (end.False other p) new = FoundFalse sub id rule old.object other p new.object
+    × (new.clients ≡ old.clients)
 
 -- a turn broken off: the object stays, and the client was started or not
 pub record BreaksTurn (sub : Option ℕ) (rule : Rule) (old new : Configuration) : Type 0 where
   pub object : new.object ≡ old.object
-  pub clients : (new.clients ≡ old.clients) ⊎ (StartedRule sub rule old.object × (new.clients ≡ after_start rule.kind old.clients))
+  pub clients : (new.clients ≡ old.clients)
+      ⊎ (StartedRule sub rule old.object × (new.clients ≡ after_start rule.kind old.clients))
 
 -- the phase after a turn, where these rules of the chain are left
 abbrev pub after_turn : List RuleId → List RuleId → RoundEnd → Phase
@@ -84,12 +94,16 @@ after_turn chain left end.Done = turns chain left
 after_turn chain left e = over chain e
 
 -- ---- the turns of a chain
--- the rules that are left of a chain may take their turns: each is enabled in turn from the names held now, none was excluded there, and each has a client
-pub record MayFollow (book : List Rule) (sub : Option ℕ) (left : List RuleId) (c : Configuration) : Type 0 where
+-- the rules that are left of a chain may take their turns: each is enabled in turn from the names held now, none was
+-- excluded there, and each has a client
+pub record MayFollow (book : List Rule) (sub : Option ℕ) (left : List RuleId) (c : Configuration)
+    : Type 0 where
   pub barred : List RuleId
   pub enabled : IsChain book (table sub c.object.of) barred (held_names sub c.object) left
-  pub free : (id : RuleId) (rule : Rule) → rule_at book id ≡ Some rule → is_barred barred id ≡ false → is_excluded c.object sub id rule ≡ false
-  pub served : (id : RuleId) (rule : Rule) → rule_at book id ≡ Some rule → is_barred barred id ≡ false → has_client rule.kind c.clients ≡ true
+  pub free : (id : RuleId) (rule : Rule) → rule_at book id ≡ Some rule → is_barred barred id ≡ false
+      → is_excluded c.object sub id rule ≡ false
+  pub served : (id : RuleId) (rule : Rule) → rule_at book id ≡ Some rule → is_barred barred id ≡ false
+      → has_client rule.kind c.clients ≡ true
 
 -- the rule was not excluded there, and then it was
 pub record Excludes (sub : Option ℕ) (id : RuleId) (rule : Rule) (old new : State) : Type 0 where
@@ -106,24 +120,31 @@ pub record ExcludesOne (book : List Rule) (sub : Option ℕ) (old new : State) :
   pub is_rule : rule_at book id ≡ Some rule
   pub excludes : Excludes sub id rule old new
 
--- the rules of the chain took their turns until the round ended so: then all names are held that the chain reaches, or one rule more is excluded
-pub record FollowsChain (book : List Rule) (sub : Option ℕ) (chain : List RuleId) (old : Configuration) (e : RoundEnd) (new : Configuration) : Type 0 where
-  pub reaches : (asked : PropSet) → Reaches book sub asked (turns chain chain) old (over chain e) new
-  pub further : IsSubset (reached book (held_names sub old.object) chain) (held_names sub new.object) ⊎ ExcludesOne book sub old.object new.object
+-- the rules of the chain took their turns until the round ended so: then all names are held that the chain reaches,
+-- or one rule more is excluded
+pub record FollowsChain (book : List Rule) (sub : Option ℕ) (chain : List RuleId) (old : Configuration)
+    (e : RoundEnd) (new : Configuration) : Type 0 where
+  pub reaches : (asked : PropSet) → TraceLeads book sub asked (turns chain chain) old (over chain e) new
+  pub further : IsSubset (reached book (held_names sub old.object) chain) (held_names sub new.object)
+      ⊎ ExcludesOne book sub old.object new.object
 
 -- ---- rounds
 -- the chain was followed and the round written down
-pub record RunsRound (book : List Rule) (sub : Option ℕ) (chain : List RuleId) (old new : Configuration) : Type 0 where
-  pub reaches : (asked : PropSet) → Reaches book sub asked (turns chain chain) old at_rest new
-  pub further : IsSubset (reached book (held_names sub old.object) chain) (held_names sub new.object) ⊎ ExcludesOne book sub old.object new.object
+pub record RunsRound (book : List Rule) (sub : Option ℕ) (chain : List RuleId) (old new : Configuration)
+    : Type 0 where
+  pub reaches : (asked : PropSet) → TraceLeads book sub asked (turns chain chain) old at_rest new
+  pub further : IsSubset (reached book (held_names sub old.object) chain) (held_names sub new.object)
+      ⊎ ExcludesOne book sub old.object new.object
 
 -- a round was started: then all is held that was asked, or one rule more is excluded there
-pub record RoundStarted (book : List Rule) (sub : Option ℕ) (asked : PropSet) (old new : Configuration) : Type 0 where
-  pub reaches : Reaches book sub asked at_rest old at_rest new
+pub record RoundStarted (book : List Rule) (sub : Option ℕ) (asked : PropSet) (old new : Configuration)
+    : Type 0 where
+  pub reaches : TraceLeads book sub asked at_rest old at_rest new
   pub further : AllHeld sub asked new.object ⊎ ExcludesOne book sub old.object new.object
 
 -- a round was started; or the call ends so, and nothing changed
-abbrev pub NextRound : List Rule → Option ℕ → PropSet → Option Ending → Configuration → Configuration → Type 0
+abbrev pub NextRound : List Rule → Option ℕ → PropSet → Option Ending → Configuration → Configuration
+    → Type 0
 NextRound book sub asked None old new = RoundStarted book sub asked old new
 NextRound book sub asked (Some ending) old new = EndsIn book sub asked ending old × (new ≡ old)
 
@@ -131,4 +152,5 @@ NextRound book sub asked (Some ending) old new = EndsIn book sub asked ending ol
 abbrev pub unexcluded : Option ℕ → ℕ → List Rule → List Excluded → ℕ
 unexcluded sub k [] excluded = 0
 unexcluded sub k (rule ∷ rules) excluded =
-    (if list_any (λ e. nat_eq e.rule.0 k && same_place e.sub (place_of_rule sub rule)) excluded then 0 else 1) + unexcluded sub (suc k) rules excluded
+    (if list_any (λ e. nat_eq e.rule.0 k && same_place e.sub (place_of_rule sub rule)) excluded then 0
+    else 1) + unexcluded sub (suc k) rules excluded

@@ -1,4 +1,5 @@
-//! Rounds on one object: a least chain of rules that leads to what is asked, its rules in their turns, and what a failed rule leaves. It knows nothing of names, commands or files.
+//! Rounds on one object: a least chain of rules that leads to what is asked, its rules in their turns, and what a
+//! failed rule leaves. It knows nothing of names, commands or files.
 #![tactic(auto)]
 
 mod chain;

@@ -55,7 +55,8 @@ fn run_client(
     requires may { MayRun transaction.now.kind transaction.now.sub (columns object.now.state)
         (facts object.now.state.held) }
     requires empty { draft.old ≡ record { kind = transaction.now.kind; values = [] } }
-    ensures started { map tally clients.new.items ≡ after_start transaction.now.kind (map tally clients.old.items) }
+    ensures started { map tally clients.new.items
+        ≡ after_start transaction.now.kind (map tally clients.old.items) }
     ensures kind { draft.new.kind ≡ transaction.now.kind }
     ensures sound { OnOk result (IsSound
         (view_for object.now.state transaction.now.sub transaction.now.kind
@@ -67,7 +68,8 @@ fn run_client(
     run_first(alloc, clients, &view, draft)
 }
 
-// Commits what the client of a rule answered, or rolls back and excludes the rule with its evidence; nothing changes where memory is wanting.
+// Commits what the client of a rule answered, or rolls back and excludes the rule with its evidence; nothing changes
+// where memory is wanting.
 fn end_run(
     object: &mut Object,
     sub: Option<u8>,
@@ -311,8 +313,8 @@ fn next_round(
     }
 }
 
-/// Settles the object, and starts rounds for who asks this program of it, if one is asked, until what is asked is held, or no
-/// chain leads there, or too many sets of names cost less.
+/// Settles the object, and starts rounds for who asks this program of it, if one is asked, until what is asked is
+/// held, or no chain leads there, or too many sets of names cost less.
 pub fn ensure(
     alloc: Global,
     object: &mut Object,

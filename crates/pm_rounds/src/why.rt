@@ -87,7 +87,8 @@ fn reason_in_use(
     }
 }
 
-/// The rules of the book that are in use and barred on the object, for who asks this program, if one is asked, in order, each with the first reason.
+/// The rules of the book that are in use and barred on the object, for who asks this program, if one is asked, in
+/// order, each with the first reason.
 pub fn reasons(
     alloc: Global,
     rules: &[Rule],

@@ -41,4 +41,5 @@ pub record IsBook (rules : List Rule) : Type 0 where
 
 -- the kind of each rule is the first of its name among these
 abbrev pub FirstKinds : List Kind → List Rule → Type 0
-FirstKinds kinds rules = All (λ rule. find (λ kind. bytes_eq kind.name rule.kind.name) kinds ≡ Some rule.kind) rules
+FirstKinds kinds rules =
+    All (λ rule. find (λ kind. bytes_eq kind.name rule.kind.name) kinds ≡ Some rule.kind) rules

@@ -27,15 +27,19 @@ abbrev pub HasRow : List TableRow → PropSet → Cost → Type 0
 HasRow table set cost = Any (λ row. (row.set ≡ set) × IsAtMost row.cost cost) table
 
 -- the table proves the claim
-pub record IsCertificate (book : List Rule) (names : PropSet) (barred : List RuleId) (held asked : PropSet) (claim : Claim) (table : List TableRow) : Type 0 where
+pub record IsCertificate (book : List Rule) (names : PropSet) (barred : List RuleId) (held asked : PropSet)
+    (claim : Claim) (table : List TableRow) : Type 0 where
   pub start : Within claim no_cost → Contains table (record { set = held; cost = no_cost })
-  pub steps : All (λ row. Within claim row.cost → (id : RuleId) (rule : Rule) → rule_at book id ≡ Some rule → IsUseful book names barred asked id rule
+  pub steps : All (λ row. Within claim row.cost → (id : RuleId) (rule : Rule) → rule_at book id ≡ Some rule
+      → IsUseful book names barred asked id rule
       → IsEnabled names barred row.set id rule
-      → EndsClaim claim (plus row.cost rule.weight) ⊎ HasRow table (union row.set rule.kind.targets) (plus row.cost rule.weight)) table
+      → EndsClaim claim (plus row.cost rule.weight)
+      ⊎ HasRow table (union row.set rule.kind.targets) (plus row.cost rule.weight)) table
   pub ends : All (λ row. Within claim row.cost → IsSubset asked row.set → ⊥) table
 
 -- a chain of useful rules reaches the set at this cost
-pub record Reaches (book : List Rule) (names : PropSet) (barred : List RuleId) (held asked : PropSet) (row : TableRow) (chain : List RuleId) : Type 0 where
+pub record Reaches (book : List Rule) (names : PropSet) (barred : List RuleId) (held asked : PropSet)
+    (row : TableRow) (chain : List RuleId) : Type 0 where
   pub enabled : IsChain book names barred held chain
   pub useful : AreUseful book names barred asked chain
   pub set : reached book held chain ≡ row.set
@@ -45,9 +49,13 @@ pub record Reaches (book : List Rule) (names : PropSet) (barred : List RuleId) (
 abbrev pub IsBefore : TableRow → TableRow → Type 0
 IsBefore a b = IsBelow a.cost b.cost ⊎ ((a.cost ≡ b.cost) × (a.set < b.set))
 
--- exactly one row for each set that a chain of useful rules reaches within the claim, with the least cost of such a chain, in order of cost and then of the set as a number
-pub record IsTable (book : List Rule) (names : PropSet) (barred : List RuleId) (held asked : PropSet) (claim : Claim) (table : List TableRow) : Type 0 where
-  pub reached : All (λ row. Within claim row.cost × ((chain : List RuleId) × Reaches book names barred held asked row chain)) table
-  pub whole : (row : TableRow) (chain : List RuleId) → Reaches book names barred held asked row chain → Within claim row.cost → HasRow table row.set row.cost
+-- exactly one row for each set that a chain of useful rules reaches within the claim, with the least cost of such a
+-- chain, in order of cost and then of the set as a number
+pub record IsTable (book : List Rule) (names : PropSet) (barred : List RuleId) (held asked : PropSet)
+    (claim : Claim) (table : List TableRow) : Type 0 where
+  pub reached : All (λ row. Within claim row.cost
+      × ((chain : List RuleId) × Reaches book names barred held asked row chain)) table
+  pub whole : (row : TableRow) (chain : List RuleId) → Reaches book names barred held asked row chain
+      → Within claim row.cost → HasRow table row.set row.cost
   pub once : AllPairs (λ a b. a.set ≢ b.set) table
   pub ordered : AllPairs IsBefore table

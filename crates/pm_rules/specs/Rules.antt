@@ -36,14 +36,16 @@ IsFree tag held = (p : PropId) → IsTrue (has held p) → tag p ≡ false
 -- all names of the rule are in use, unless its kind has a name of linear programs and is fresh in a tag
 pub record IsInUse (names : PropSet) (rule : Rule) : Type 0 where
   pub known : IsSubset (names_of_rule rule) names
-  pub programs : (p : PropId) → IsTrue (has (names_of rule.kind) p) → IsTrue (has_program p) → EachTag (λ tag. IsFresh tag rule.kind → ⊥)
+  pub programs : (p : PropId) → IsTrue (has (names_of rule.kind) p) → IsTrue (has_program p)
+      → EachTag (λ tag. IsFresh tag rule.kind → ⊥)
 
 -- the rule is among the barred ones
 abbrev pub is_barred : List RuleId → RuleId → Bool
 is_barred barred id = list_any (λ other. nat_eq other.0 id.0) barred
 
 -- the rule may be applied to the names held
-pub record IsEnabled (names : PropSet) (barred : List RuleId) (held : PropSet) (id : RuleId) (rule : Rule) : Type 0 where
+pub record IsEnabled (names : PropSet) (barred : List RuleId) (held : PropSet) (id : RuleId) (rule : Rule)
+    : Type 0 where
   pub in_use : IsInUse names rule
   pub allowed : is_barred barred id ≡ false
   pub given : IsSubset (inputs rule) held

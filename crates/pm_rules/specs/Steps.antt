@@ -31,15 +31,19 @@ abbrev pub is_fresh : Tag → Kind → Bool
 is_fresh tag kind = some_has tag kind.targets && not (some_has tag kind.sources)
 
 abbrev pub is_fresh_somewhere : Kind → Bool
-is_fresh_somewhere kind = ((is_fresh Rays kind || is_fresh Facets kind) || is_fresh Generators kind) || is_fresh HalfSpaces kind
+is_fresh_somewhere kind =
+    ((is_fresh Rays kind || is_fresh Facets kind) || is_fresh Generators kind) || is_fresh HalfSpaces kind
 
 -- the property has one of the tags that are chosen
 abbrev pub has_some_tag : Bool → Bool → Bool → Bool → PropId → Bool
 has_some_tag rays facets generators half_spaces p =
-    (rays && rays_tag p) || ((facets && facets_tag p) || ((generators && generators_tag p) || (half_spaces && half_spaces_tag p)))
+    (rays && rays_tag p) ||
+    ((facets && facets_tag p) ||
+    ((generators && generators_tag p) || (half_spaces && half_spaces_tag p)))
 
 abbrev pub blocks : Kind → PropId → Bool
-blocks kind = has_some_tag (is_fresh Rays kind) (is_fresh Facets kind) (is_fresh Generators kind) (is_fresh HalfSpaces kind)
+blocks kind = has_some_tag (is_fresh Rays kind) (is_fresh Facets kind) (is_fresh Generators kind)
+    (is_fresh HalfSpaces kind)
 
 -- all properties that have a tag in which the rule's kind is fresh
 unfoldable pub blocked : Kind → PropSet

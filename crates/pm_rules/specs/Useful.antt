@@ -9,7 +9,8 @@ use Rattle.pm_rules.specs.Rules.{IsInUse, is_barred}
 use Rattle.pm_rules.specs.Chains.{Needed}
 
 -- in use, not barred, and some target of it is in the set
-pub record FindsOne (names : PropSet) (barred : List RuleId) (set : PropSet) (id : RuleId) (rule : Rule) : Type 0 where
+pub record FindsOne (names : PropSet) (barred : List RuleId) (set : PropSet) (id : RuleId) (rule : Rule)
+    : Type 0 where
   pub in_use : IsInUse names rule
   pub allowed : is_barred barred id ≡ false
   pub target : (p : PropId) × IsTrue (has rule.kind.targets p) × IsTrue (has set p)

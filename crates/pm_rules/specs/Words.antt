@@ -25,4 +25,7 @@ precondition_word = codes "precondition"
 
 -- a word of at most 32 bytes without `.` that is not `precondition`
 abbrev pub is_label : List ℕ → Bool
-is_label text = is_word text && (nat_le (length text) 32 && (list_all (λ b. not (b == 46)) text && not (bytes_eq text precondition_word)))
+is_label text =
+    is_word text
+    && (nat_le (length text) 32
+    && (list_all (λ b. not (b == 46)) text && not (bytes_eq text precondition_word)))

@@ -1,5 +1,5 @@
-//! Rules and books of them, chains, plans' tables and their certificates: what they mean. How books are written as texts
-//! stands in the crate above.
+//! Rules and books of them, chains, plans' tables and their certificates: what they mean. How books are written as
+//! texts stands in the crate above. It knows nothing of values, objects and geometry.
 #![tactic(auto)]
 
 mod book;

@@ -205,7 +205,9 @@ impl Tags {
 
     // Those of the properties that have one of them.
     fn among(self, list: &[PropId]) -> PropSet
-        ensures { result ≡ set_of (filter (has_some_tag self.rays self.facets self.generators self.half_spaces) list.now) }
+        ensures { result
+            ≡ set_of (filter
+            (has_some_tag self.rays self.facets self.generators self.half_spaces) list.now) }
     {
         let mut set = PropSet::empty();
         for p in list {

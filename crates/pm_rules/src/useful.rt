@@ -41,8 +41,10 @@ fn with_read(rules: &[Rule], names: PropSet, barred: &[RuleId], set: PropSet) ->
     requires { length rules.now ≤ most_rules }
     ensures number { set ≤ result }
     ensures grows { IsSubset set result }
-    ensures sound { (asked : PropSet) → AllNeeded rules.now names barred.now asked set → AllNeeded rules.now names barred.now asked result }
-    ensures closed { (id : RuleId) (rule : Rule) → rule_at rules.now id ≡ Some rule → FindsOne names barred.now set id rule → IsSubset (inputs rule) result }
+    ensures sound { (asked : PropSet) → AllNeeded rules.now names barred.now asked set
+        → AllNeeded rules.now names barred.now asked result }
+    ensures closed { (id : RuleId) (rule : Rule) → rule_at rules.now id ≡ Some rule
+        → FindsOne names barred.now set id rule → IsSubset (inputs rule) result }
 {
     let mut more = set;
     for (i, rule) in rules.iter().enumerate() {

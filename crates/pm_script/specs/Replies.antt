@@ -57,14 +57,21 @@ pub record Rounds : Type 0 where
 abbrev pub no_rounds : Rounds
 no_rounds = record { rounds = []; names = record { rules = []; programs = [] } }
 
--- What follows a refusal: nothing; the rounds of the command, which are always shown (true), or where they are traced; or the rules that are barred, each with the reason, and the table of the planner. A reply of the code that has something of two of these is mixed; no command has it.
+-- What follows a refusal: nothing; the rounds of the command, which are always shown (true), or where they are
+-- traced; or the rules that are barred, each with the reason, and the table of the planner. A reply of the code that
+-- has something of two of these is mixed; no command has it.
 pub data Remarks : Type 0 where
   nothing : Remarks
   told : Bool → Rounds → Remarks
   planned : List (RuleId × Bar) → List TableRow → NamesSeen → Remarks
   mixed : Bool → List RoundSeen → List (RuleId × Bar) → Option (List TableRow) → NamesSeen → Remarks
 
--- done, after these rounds; shows name of p v, the value v of the property p of what has that name, an object of that type or a program of one, with the rounds that found it; ensured, by these rounds; explained, by a chain with its weight and table; tells, what happened to an object; lists_rules n text, where the book has n rules and this text; tells_origin, how a value came to be held; loaded, with the names that were read over; lists_held of held programs, what an object of the type holds, and each of its programs by its name; tells_evidence, of these exclusions; undef, where no value is held; refused, why, and what is said beside it
+-- done, after these rounds; shows name of p v, the value v of the property p of what has that name, an object of that
+-- type or a program of one, with the rounds that found it; ensured, by these rounds; explained, by a chain with its
+-- weight and table; tells, what happened to an object; lists_rules n text, where the book has n rules and this text;
+-- tells_origin, how a value came to be held; loaded, with the names that were read over; lists_held of held programs,
+-- what an object of the type holds, and each of its programs by its name; tells_evidence, of these exclusions; undef,
+-- where no value is held; refused, why, and what is said beside it
 pub data ReplySeen : Type 0 where
   done : Rounds → ReplySeen
   shows : List ℕ → ObjectType → PropId → PropertyValue → Rounds → ReplySeen
@@ -81,7 +88,10 @@ pub data ReplySeen : Type 0 where
 
 -- ---- the code's replies
 abbrev pub names_seen : Names → NamesSeen
-names_seen n = record { rules = map (λ x. (string_bytes x.0, x.1)) n.rules.items; programs = map string_bytes n.subs.items }
+names_seen n = record {
+  rules = map (λ x. (string_bytes x.0, x.1)) n.rules.items;
+  programs = map string_bytes n.subs.items;
+}
 
 -- what is said beside a refusal: rounds that are told, or rules and a table
 abbrev pub remarks : Bool → List RoundSeen → List (RuleId × Bar) → Option Table → NamesSeen → Remarks
@@ -97,18 +107,25 @@ program_seen p = (string_bytes p.name, p.held.items)
 
 -- what the code's reply says
 abbrev pub seen : Reply → ReplySeen
-seen (reply.Done rounds names) = done (record { rounds = map round_seen rounds.items; names = names_seen names })
-seen (reply.Value name of p v rounds names) = shows (string_bytes name) of p (view_of v) (record { rounds = map round_seen rounds.items; names = names_seen names })
-seen (reply.Ensured rounds names) = ensured (record { rounds = map round_seen rounds.items; names = names_seen names })
-seen (reply.Explained chain weight table names) = explained chain.items weight table.rows.items (names_seen names)
-seen (reply.History rounds excluded names) = tells (record { rounds = map round_seen rounds.items; names = names_seen names }) excluded.items
+seen (reply.Done rounds names) =
+    done (record { rounds = map round_seen rounds.items; names = names_seen names })
+seen (reply.Value name of p v rounds names) =
+    shows (string_bytes name) of p (view_of v)
+    (record { rounds = map round_seen rounds.items; names = names_seen names })
+seen (reply.Ensured rounds names) =
+    ensured (record { rounds = map round_seen rounds.items; names = names_seen names })
+seen (reply.Explained chain weight table names) =
+    explained chain.items weight table.rows.items (names_seen names)
+seen (reply.History rounds excluded names) =
+    tells (record { rounds = map round_seen rounds.items; names = names_seen names }) excluded.items
 seen (reply.Rules count text) = lists_rules count (string_bytes text)
 seen (reply.Origin o) = tells_origin o
 seen (reply.Loaded names) = loaded (map string_bytes names.items)
 seen (reply.Held of held programs) = lists_held of held.items (map program_seen programs.items)
 seen (reply.Evidence excluded names) = tells_evidence excluded.items (names_seen names)
 seen reply.Undef = undef
-seen (reply.Refused why always rounds barred table names) = refused why (remarks always (map round_seen rounds.items) barred.items table (names_seen names))
+seen (reply.Refused why always rounds barred table names) =
+    refused why (remarks always (map round_seen rounds.items) barred.items table (names_seen names))
 
 -- ---- texts
 abbrev pub why_text : ValueWhy → List ℕ
@@ -126,7 +143,8 @@ file_why_text file_why.Limit = codes "Limit"
 file_why_text file_why.NotJson = codes "NotJson"
 file_why_text file_why.NoType = codes "NoType"
 file_why_text file_why.UnknownType = codes "UnknownType"
-file_why_text (file_why.BadProperty name why) = codes "BadProperty " ++ string_bytes name ++ codes " " ++ why_text why
+file_why_text (file_why.BadProperty name why) =
+    codes "BadProperty " ++ string_bytes name ++ codes " " ++ why_text why
 file_why_text (file_why.BadRow name) = codes "BadRow " ++ string_bytes name
 file_why_text (file_why.BadProfile key) = codes "BadProfile " ++ string_bytes key
 
@@ -210,7 +228,8 @@ end_text names (end.False id p) = codes "false " ++ label_text names id ++ codes
 
 -- `round W: LABEL .. -> END`
 abbrev pub round_text : NamesSeen → RoundSeen → List ℕ
-round_text names r = codes "round " ++ cost_text r.weight ++ place_text names r.sub ++ codes ":" ++ flat_map (spaced_label names) r.chain
+round_text names r = codes "round " ++ cost_text r.weight ++ place_text names r.sub ++ codes ":"
+    ++ flat_map (spaced_label names) r.chain
     ++ codes " -> " ++ end_text names r.end ++ codes "\n"
 
 abbrev pub rounds_text : Rounds → List ℕ
@@ -223,7 +242,8 @@ exclusion_text (why.Stored k) = failed_text k
 
 -- `excluded LABEL WHY`
 abbrev pub excluded_text : NamesSeen → Excluded → List ℕ
-excluded_text names e = codes "excluded " ++ label_text names e.rule ++ codes " " ++ exclusion_text e.why ++ place_text names e.sub ++ codes "\n"
+excluded_text names e = codes "excluded " ++ label_text names e.rule ++ codes " " ++ exclusion_text e.why
+    ++ place_text names e.sub ++ codes "\n"
 
 abbrev pub bar_text : Bar → List ℕ
 bar_text (bar.Failed k) = failed_text k
@@ -245,20 +265,26 @@ property_set_text s = half_text (s / 2 ^ 64) ++ half_text (s % 2 ^ 64)
 
 -- `row COST SET`
 abbrev pub table_row_text : TableRow → List ℕ
-table_row_text row = codes "row " ++ cost_text row.cost ++ codes " " ++ property_set_text row.set ++ codes "\n"
+table_row_text row = codes "row " ++ cost_text row.cost ++ codes " " ++ property_set_text row.set
+    ++ codes "\n"
 
 -- `rule LABEL WEIGHT`
 abbrev pub rule_text : NamesSeen → RuleId → List ℕ
-rule_text names id = codes "rule " ++ label_text names id ++ codes " " ++ weight_text_of names id ++ codes "\n"
+rule_text names id = codes "rule " ++ label_text names id ++ codes " " ++ weight_text_of names id
+    ++ codes "\n"
 
 abbrev pub remarks_text : Bool → Remarks → List ℕ
 remarks_text trace nothing = []
 remarks_text trace (told always rounds) = if trace || always then rounds_text rounds else []
-remarks_text trace (planned barred rows names) = flat_map (barred_text names) barred ++ flat_map table_row_text rows
-remarks_text trace (mixed always rounds barred (Some rows) names) = flat_map (barred_text names) barred ++ flat_map table_row_text rows
-remarks_text trace (mixed always rounds barred None names) = if trace || always then rounds_text (record { rounds = rounds; names = names }) else []
+remarks_text trace (planned barred rows names) =
+    flat_map (barred_text names) barred ++ flat_map table_row_text rows
+remarks_text trace (mixed always rounds barred (Some rows) names) =
+    flat_map (barred_text names) barred ++ flat_map table_row_text rows
+remarks_text trace (mixed always rounds barred None names) =
+    if trace || always then rounds_text (record { rounds = rounds; names = names }) else []
 
--- given by a script or a file or filled in where it goes without saying, computed in an earlier run, or computed by a client
+-- given by a script or a file or filled in where it goes without saying, computed in an earlier run, or computed by a
+-- client
 abbrev pub origin_text : Origin → List ℕ
 origin_text origin.Given = codes "given"
 origin_text origin.Stored = codes "stored"
@@ -297,28 +323,39 @@ program_lines of p = codes "program " ++ p.0 ++ held_lines of p.1
 
 -- evidence whole behind its number, or the number alone that came with a file
 abbrev pub evidence_shown : Why → List ℕ
-evidence_shown (why.Failed evidence) = codes "E" ++ decimal (evidence_number evidence) ++ codes " " ++ evidence_text evidence
+evidence_shown (why.Failed evidence) = codes "E" ++ decimal (evidence_number evidence) ++ codes " "
+    ++ evidence_text evidence
 evidence_shown (why.False p) = false_text p
 evidence_shown (why.Stored k) = codes "stored E" ++ decimal k
 
 -- `evidence LABEL [@SUB] Ek JSON`
 abbrev pub evidence_line : NamesSeen → Excluded → List ℕ
-evidence_line names e = codes "evidence " ++ label_text names e.rule ++ place_text names e.sub ++ codes " " ++ evidence_shown e.why ++ codes "\n"
+evidence_line names e = codes "evidence " ++ label_text names e.rule ++ place_text names e.sub ++ codes " "
+    ++ evidence_shown e.why ++ codes "\n"
 
--- the reply's lines, each with its LF; rounds that found a value, or what a new object is made of, are shown where they are traced
+-- the reply's lines, each with its LF; rounds that found a value, or what a new object is made of, are shown where
+-- they are traced
 abbrev pub reply_text : Bool → ReplySeen → List ℕ
 reply_text trace (done t) = codes "ok\n" ++ (if trace then rounds_text t else [])
-reply_text trace (shows name of p v t) = name ++ codes " " ++ name_shown of p ++ codes " " ++ value_text p v ++ codes "\n" ++ (if trace then rounds_text t else [])
+reply_text trace (shows name of p v t) =
+    name ++ codes " " ++ name_shown of p ++ codes " " ++ value_text p v ++ codes "\n"
+    ++ (if trace then rounds_text t else [])
 reply_text trace (ensured t) = codes "ok " ++ decimal (length t.rounds) ++ codes "\n" ++ rounds_text t
-reply_text trace (explained chain weight rows names) = codes "plan " ++ cost_text weight ++ codes "\n" ++ flat_map (rule_text names) chain ++ flat_map table_row_text rows
-reply_text trace (tells t excluded) = codes "rounds " ++ decimal (length t.rounds) ++ codes "\n" ++ rounds_text t ++ flat_map (excluded_text t.names) excluded
+reply_text trace (explained chain weight rows names) =
+    codes "plan " ++ cost_text weight ++ codes "\n" ++ flat_map (rule_text names) chain
+    ++ flat_map table_row_text rows
+reply_text trace (tells t excluded) = codes "rounds " ++ decimal (length t.rounds) ++ codes "\n"
+    ++ rounds_text t ++ flat_map (excluded_text t.names) excluded
 reply_text trace (lists_rules n text) = codes "rules " ++ decimal n ++ codes "\n" ++ text
 reply_text trace (tells_origin o) = origin_text o ++ codes "\n"
 reply_text trace (loaded names) = codes "ok" ++ ignored_text names ++ codes "\n"
-reply_text trace (lists_held of held programs) = codes "object " ++ word_of_type of ++ held_lines of held ++ flat_map (program_lines of) programs
-reply_text trace (tells_evidence excluded names) = codes "ok " ++ decimal (length excluded) ++ codes "\n" ++ flat_map (evidence_line names) excluded
+reply_text trace (lists_held of held programs) =
+    codes "object " ++ word_of_type of ++ held_lines of held ++ flat_map (program_lines of) programs
+reply_text trace (tells_evidence excluded names) =
+    codes "ok " ++ decimal (length excluded) ++ codes "\n" ++ flat_map (evidence_line names) excluded
 reply_text trace undef = codes "undef\n"
-reply_text trace (refused why more) = codes "no " ++ refusal_text why ++ codes "\n" ++ remarks_text trace more
+reply_text trace (refused why more) = codes "no " ++ refusal_text why ++ codes "\n"
+    ++ remarks_text trace more
 
 -- the reply is a refusal
 abbrev pub is_refusal : ReplySeen → Bool

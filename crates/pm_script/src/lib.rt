@@ -1,4 +1,4 @@
-//! Replies: what is replied to commands, and its text.
+//! Replies: what is replied to commands, and its text. It knows nothing of clients, rounds and sessions.
 #![tactic(auto)]
 
 mod chains;

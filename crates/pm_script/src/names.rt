@@ -7,7 +7,8 @@ use pm_types::PropId;
 use pm_weights::Weight;
 use std::alloc::Global;
 
-/// The label and the weight of each rule of the book, by its number, and the names of an object's linear programs, by their places.
+/// The label and the weight of each rule of the book, by its number, and the names of an object's linear programs, by
+/// their places.
 #[derive(Debug, Drop)]
 pub struct Names {
     pub rules: Vec<(String, Weight)>,

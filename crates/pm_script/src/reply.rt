@@ -27,7 +27,8 @@ pub enum Reply {
         rounds: Vec<Round>,
         names: Names,
     },
-    /// A value of an object's property, or of a program's, with the rounds that found it; `name` is the REF that was asked.
+    /// A value of an object's property, or of a program's, with the rounds that found it; `name` is the REF that was
+    /// asked.
     Value {
         name: String,
         of: ObjectType,
@@ -78,7 +79,8 @@ pub enum Reply {
     },
     /// The property is not held.
     Undef,
-    /// The command is refused. `ensured`: the rounds are told whether they are traced or not. `barred` and `table` are told where there is a table, of an explanation.
+    /// The command is refused. `ensured`: the rounds are told whether they are traced or not. `barred` and `table`
+    /// are told where there is a table, of an explanation.
     Refused {
         why: Refusal,
         ensured: bool,

@@ -6,7 +6,7 @@ use Rattle.std.proofs.lemmas.List.Elements.{filter-append}
 use Rattle.std.specs.List.{list_any}
 use Rattle.std.specs.Prelude.{not, true, false}
 use Rattle.std.specs.Str.{bytes_eq}
-use Rattle.pm_books.specs.Gives.{Gives}
+use Rattle.pm_books.specs.Gives.{GivesAs}
 use Rattle.pm_books.specs.Grammar.{IsBookText}
 use Rattle.pm_books.specs.declared.fail.BookFail.{BookFail}
 use Rattle.pm_books.specs.declared.fail.BookFail.TheVariants as book
@@ -68,7 +68,7 @@ kinds_end f xs i kinds past so =
 -- ---- texts
 -- what is no book is no text of one
 pub not_text : (kinds : List Kind) (text : List ℕ) (r : Result (List Rule) BookFail) (e : BookFail) → r ≡ Err e → e ≢ book.Memory
-    → ((rules : List Rule) → IsBookText kinds text rules → Gives (λ b. b) r (Ok rules)) → (rules : List Rule) → IsBookText kinds text rules → ⊥
+    → ((rules : List Rule) → IsBookText kinds text rules → GivesAs (λ b. b) r (Ok rules)) → (rules : List Rule) → IsBookText kinds text rules → ⊥
 not_text kinds text r book.Memory is other only rules spells = other refl
 not_text kinds text r (book.Syntax k) is other only rules spells = let h = rw is at only rules spells in cc
 not_text kinds text r (book.UnknownProperty k) is other only rules spells = let h = rw is at only rules spells in cc
@@ -79,7 +79,7 @@ not_text kinds text r (book.WeightRange k) is other only rules spells = let h = 
 not_text kinds text r (book.TooManyRules k) is other only rules spells = let h = rw is at only rules spells in cc
 
 pub refused_text : (clients : Clients) (bytes text : List ℕ) (kinds these : List Kind) (r : Result (List Rule) BookFail) (e : BookFail) → text ≡ bytes → these ≡ kinds → kinds ≡ kinds_of clients
-    → r ≡ Err e → e ≢ book.Memory → ((rules : List Rule) → IsBookText these text rules → Gives (λ b. b) r (Ok rules)) → IsRefusedText clients bytes
+    → r ≡ Err e → e ≢ book.Memory → ((rules : List Rule) → IsBookText these text rules → GivesAs (λ b. b) r (Ok rules)) → IsRefusedText clients bytes
 refused_text clients bytes text kinds these r e is_text are_these are_kinds is other only =
     inr (inr (λ rules spells. not_text (kinds_of clients) bytes r e is other (rw (is_text, are_these, are_kinds) at only) rules spells))
 

@@ -32,13 +32,15 @@ pub record IsTextOf (clients : Clients) (bytes : List ℕ) (book : List Rule) : 
 -- the bytes are no text, too long, or spell no rules
 abbrev pub IsRefusedText : Clients → List ℕ → Type 0
 IsRefusedText clients bytes =
-    (most_file_bytes < length bytes) ⊎ ((¬ (IsUtf8 bytes)) ⊎ ((book : List Rule) → ¬ (IsBookText (kinds_of clients) bytes book)))
+    (most_file_bytes < length bytes)
+    ⊎ ((¬ (IsUtf8 bytes)) ⊎ ((book : List Rule) → ¬ (IsBookText (kinds_of clients) bytes book)))
 
 -- These are the rules of the book: without a name the standard ones, with a name those that a text spells.
 -- Where the store tells its files, that is the text of the file of this name.
 abbrev pub IsBook : Option (List ℕ) → Clients → Option (List (List ℕ × List ℕ)) → List Rule → Type 0
 IsBook None clients files book = book ≡ standard_rules
-IsBook (Some name) clients files book = (bytes : List ℕ) × IfSome files (λ all. file_of all name ≡ Some bytes) × IsTextOf clients bytes book
+IsBook (Some name) clients files book =
+    (bytes : List ℕ) × IfSome files (λ all. file_of all name ≡ Some bytes) × IsTextOf clients bytes book
 
 -- there is no such file, or its text is refused
 abbrev pub IsRefusedFile : Clients → Option (List ℕ) → Type 0

@@ -12,4 +12,5 @@ shown_shape shape = codes "make a " ++ shape ++ codes "\n" ++ asked_of_each
 -- the demo of n dimensions: cube, simplex, cross-polytope, and a cyclic polytope with n + 3 vertices
 abbrev pub demo_text : ℕ → List ℕ
 demo_text n = shown_shape (codes "cube " ++ decimal n) ++ shown_shape (codes "simplex " ++ decimal n)
-    ++ shown_shape (codes "cross " ++ decimal n) ++ shown_shape (codes "cyclic " ++ decimal n ++ codes " " ++ decimal (n + 3))
+    ++ shown_shape (codes "cross " ++ decimal n)
+    ++ shown_shape (codes "cyclic " ++ decimal n ++ codes " " ++ decimal (n + 3))

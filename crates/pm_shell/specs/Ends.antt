@@ -53,17 +53,20 @@ fail_of line.Memory = why.Memory
 
 -- all of the front was taken, and then some first bytes of the piece, not all of them
 abbrev pub GainsWithin : Option (List ℕ) → Option (List ℕ) → List ℕ → List ℕ → Type 0
-GainsWithin old new front piece = IfSome old (λ had. (n : ℕ) × (n < length piece) × (new ≡ Some (had ++ front ++ take n piece)))
+GainsWithin old new front piece =
+    IfSome old (λ had. (n : ℕ) × (n < length piece) × (new ≡ Some (had ++ front ++ take n piece)))
 
 -- the line is answered, its reply is told if it has one, and whether that is a refusal
-pub record AnswersOne (book : List Rule) (trace : Bool) (had has : Option (List ℕ)) (old : Machine) (line : Line) (some_refused : Bool) (new : Machine) : Type 0 where
+pub record AnswersOne (book : List Rule) (trace : Bool) (had has : Option (List ℕ)) (old : Machine)
+    (line : Line) (some_refused : Bool) (new : Machine) : Type 0 where
   pub reply : Option ReplySeen
   pub answers : Answers book old line reply new
   pub told : Gains had has (text_if trace reply)
   pub refusal : some_refused ≡ is_refused reply
 
 -- all lines are answered, each reply is told, and whether some is a refusal
-pub record AnsweredAll (book : List Rule) (trace : Bool) (had has : Option (List ℕ)) (some_refused : Bool) (old : Machine) (lines : List Line) (new : Machine) : Type 0 where
+pub record AnsweredAll (book : List Rule) (trace : Bool) (had has : Option (List ℕ)) (some_refused : Bool)
+    (old : Machine) (lines : List Line) (new : Machine) : Type 0 where
   pub replies : List (Option ReplySeen)
   pub run : Run book old lines replies new
   pub told : Gains had has (replies_text trace replies)
@@ -74,8 +77,10 @@ abbrev pub bytes_in : List Line → ℕ
 bytes_in [] = 0
 bytes_in (line ∷ lines) = length line.bytes + (if line.ended then 1 else 0) + bytes_in lines
 
--- the sink failed in a reply: the replies before it are told, no line after it was answered, and of those that were read no more bytes are there than one read takes, so that each reply is written before more is read
-pub record BrokeOff (book : List Rule) (trace : Bool) (had has : Option (List ℕ)) (old : Machine) (lines : List Line) (new : Machine) : Type 0 where
+-- the sink failed in a reply: the replies before it are told, no line after it was answered, and of those that were
+-- read no more bytes are there than one read takes, so that each reply is written before more is read
+pub record BrokeOff (book : List Rule) (trace : Bool) (had has : Option (List ℕ)) (old : Machine)
+    (lines : List Line) (new : Machine) : Type 0 where
   pub first : List Line
   pub line : Line
   pub others : List Line
@@ -88,15 +93,19 @@ pub record BrokeOff (book : List Rule) (trace : Bool) (had has : Option (List �
 
 -- the line is answered in part: first events of its command occurred; or wholly, and its reply is not told
 abbrev pub InHand : List Rule → Machine → Line → Machine → Type 0
-InHand book old line new = ((command : Spoken) × (command_at line ≡ Some command) × StepInPart book old command new) ⊎ ((reply : ReplySeen) × Answers book old line (Some reply) new)
+InHand book old line new =
+    ((command : Spoken) × (command_at line ≡ Some command) × StepInPart book old command new)
+    ⊎ ((reply : ReplySeen) × Answers book old line (Some reply) new)
 
 -- nothing more happened, or the next line was in hand
 abbrev pub NextInHand : List Rule → Machine → List Line → Machine → Type 0
 NextInHand book old [] new = Stays old new
 NextInHand book old (line ∷ others) new = Stays old new ⊎ InHand book old line new
 
--- memory ran out: first lines are answered, maybe none or all, and each reply to them is told; the next line was in hand
-pub record Stopped (book : List Rule) (trace : Bool) (had has : Option (List ℕ)) (old : Machine) (lines : List Line) (new : Machine) : Type 0 where
+-- memory ran out: first lines are answered, maybe none or all, and each reply to them is told; the next line was in
+-- hand
+pub record Stopped (book : List Rule) (trace : Bool) (had has : Option (List ℕ)) (old : Machine)
+    (lines : List Line) (new : Machine) : Type 0 where
   pub first : List Line
   pub others : List Line
   pub whole : lines ≡ first ++ others
@@ -107,33 +116,46 @@ pub record Stopped (book : List Rule) (trace : Bool) (had has : Option (List ℕ
   pub hand : NextInHand book mid others new
 
 -- the lines came to this outcome
-abbrev pub HasOutcome : List Rule → Bool → Option (List ℕ) → Option (List ℕ) → Machine → List Line → Result Bool RunFail → Machine → Type 0
-HasOutcome book trace had has old lines (Ok some_refused) new = AnsweredAll book trace had has some_refused old lines new
-HasOutcome book trace had has old lines (Err why.SourceFault) new = (some_refused : Bool) × AnsweredAll book trace had has some_refused old lines new
+abbrev pub HasOutcome : List Rule → Bool → Option (List ℕ) → Option (List ℕ) → Machine → List Line
+    → Result Bool RunFail → Machine → Type 0
+HasOutcome book trace had has old lines (Ok some_refused) new =
+    AnsweredAll book trace had has some_refused old lines new
+HasOutcome book trace had has old lines (Err why.SourceFault) new =
+    (some_refused : Bool) × AnsweredAll book trace had has some_refused old lines new
 HasOutcome book trace had has old lines (Err why.SinkFault) new = BrokeOff book trace had has old lines new
 HasOutcome book trace had has old lines (Err why.Memory) new = Stopped book trace had has old lines new
-HasOutcome book trace had has old lines (Err why.TooLong) new = (some_refused : Bool) × AnsweredAll book trace had has some_refused old lines new
+HasOutcome book trace had has old lines (Err why.TooLong) new =
+    (some_refused : Bool) × AnsweredAll book trace had has some_refused old lines new
 
--- all of the script was read, and is no longer than the most; or first bytes of it, no more than the most, and of these the lines that an LF ended
+-- all of the script was read, and is no longer than the most; or first bytes of it, no more than the most, and of
+-- these the lines that an LF ended
 abbrev pub IsReadSoFar : List ℕ → Option (List ℕ) → List Line → Type 0
 IsReadSoFar all left lines = ((lines ≡ lines_of all) × (length all ≤ most_script_bytes) × (left ≡ Some []))
-    ⊎ ((n : ℕ) × (n ≤ length all) × (n ≤ most_script_bytes) × (left ≡ Some (drop n all)) × (lines ≡ whole_lines (take n all)))
+    ⊎ ((n : ℕ) × (n ≤ length all) × (n ≤ most_script_bytes) × (left ≡ Some (drop n all))
+    × (lines ≡ whole_lines (take n all)))
 
--- Which lines these are, with this outcome, of what the source told before to have left, if it did, and what it tells now:
+-- Which lines these are, with this outcome, of what the source told before to have left, if it did, and what it tells
+-- now:
 -- all lines of a script that was read to its end;
--- all lines of what was read so far, of which the first ones are answered, where the sink failed or memory ran out (then more may be gone of the source);
+-- all lines of what was read so far, of which the first ones are answered, where the sink failed or memory ran out
+-- (then more may be gone of the source);
 -- all whole lines of what the source gave until it failed, without a last one that no LF ended;
 -- all whole lines of the most bytes of a script, where it has more, of which one is gone.
 abbrev pub IsRead : Option (List ℕ) → Option (List ℕ) → Result Bool RunFail → List Line → Type 0
-IsRead script left (Ok some_refused) lines = IfSome script (λ all. (lines ≡ lines_of all) × (length all ≤ most_script_bytes) × (left ≡ Some []))
+IsRead script left (Ok some_refused) lines =
+    IfSome script (λ all. (lines ≡ lines_of all) × (length all ≤ most_script_bytes) × (left ≡ Some []))
 IsRead script left (Err why.SourceFault) lines =
-    IfSome script (λ all. (n : ℕ) × (n ≤ length all) × (n ≤ most_script_bytes) × (left ≡ Some (drop n all)) × (lines ≡ whole_lines (take n all)))
+    IfSome script (λ all. (n : ℕ) × (n ≤ length all) × (n ≤ most_script_bytes) × (left ≡ Some (drop n all))
+    × (lines ≡ whole_lines (take n all)))
 IsRead script left (Err why.SinkFault) lines = IfSome script (λ all. IsReadSoFar all left lines)
-IsRead script left (Err why.Memory) lines = (mid : Option (List ℕ)) × IfSome script (λ all. IsReadSoFar all mid lines)
+IsRead script left (Err why.Memory) lines =
+    (mid : Option (List ℕ)) × IfSome script (λ all. IsReadSoFar all mid lines)
 IsRead script left (Err why.TooLong) lines =
-    IfSome script (λ all. (most_script_bytes < length all) × (left ≡ Some (drop (most_script_bytes + 1) all)) × (lines ≡ whole_lines (take most_script_bytes all)))
+    IfSome script (λ all. (most_script_bytes < length all) × (left ≡ Some (drop (most_script_bytes + 1) all))
+    × (lines ≡ whole_lines (take most_script_bytes all)))
 
--- What was told before and after: what the source has left, what the sink took, the files of the store, the count of its faults; and the clients.
+-- What was told before and after: what the source has left, what the sink took, the files of the store, the count of
+-- its faults; and the clients.
 pub record World : Type 0 where
   pub script : Option (List ℕ)
   pub left : Option (List ℕ)
@@ -146,7 +168,8 @@ pub record World : Type 0 where
   pub before : Clients
   pub after : Clients
 
--- a machine without objects over the clients and the files before ran so; at its end every object is honest, and these are the clients, the files and the count of faults, which did not fall before it began
+-- a machine without objects over the clients and the files before ran so; at its end every object is honest, and
+-- these are the clients, the files and the count of faults, which did not fall before it began
 pub record FromNoObjects (w : World) (Ran : Machine → Machine → Type 0) : Type 0 where
   pub start : Machine
   pub end : Machine
@@ -165,12 +188,14 @@ Ran book trace w outcome = (lines : List Line) × IsRead w.script w.left outcome
 
 -- so it was with the book that the words name, traced where they say so
 abbrev pub RanBook : WordsSeen → World → Result Bool RunFail → Type 0
-RanBook said w outcome = (book : List Rule) × IsBook said.rules w.before w.files book × Ran book said.trace w outcome
+RanBook said w outcome = (book : List Rule) × IsBook said.rules w.before w.files book
+    × Ran book said.trace w outcome
 
 -- The lines are those of the source; or of the demo of this number, and of the source nothing was read.
 abbrev pub RanScript : Option ℕ → WordsSeen → World → Result Bool RunFail → Type 0
 RanScript None said w outcome = RanBook said w outcome
-RanScript (Some n) said w outcome = (w.left ≡ w.script) × (left : Option (List ℕ)) × RanBook said (record w { script = Some (demo_text n); left = left }) outcome
+RanScript (Some n) said w outcome = (w.left ≡ w.script) × (left : Option (List ℕ))
+    × RanBook said (record w { script = Some (demo_text n); left = left }) outcome
 
 -- so it was with the script that the words say
 abbrev pub RanWords : WordsSeen → World → Result Bool RunFail → Type 0
@@ -202,8 +227,10 @@ IsUnrun BadWords = Unit {0}
 IsUnrun BadBook = Unit {0}
 IsUnrun status = ⊥
 
--- The words name a book, and the store failed, or the file of this name is absent or refused, where the store tells its files.
+-- The words name a book, and the store failed, or the file of this name is absent or refused, where the store tells
+-- its files.
 -- old and new: the count of the store's faults before and after.
 abbrev pub IsBadBook : Option WordsSeen → Clients → Option (List (List ℕ × List ℕ)) → ℕ → ℕ → Type 0
 IsBadBook said clients files old new =
-    (words : WordsSeen) × (name : List ℕ) × (said ≡ Some words) × (words.rules ≡ Some name) × (Rose old new ⊎ IfSome files (IsRefusedBook name clients))
+    (words : WordsSeen) × (name : List ℕ) × (said ≡ Some words) × (words.rules ≡ Some name)
+    × (Rose old new ⊎ IfSome files (IsRefusedBook name clients))

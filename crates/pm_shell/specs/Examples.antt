@@ -1,4 +1,5 @@
--- Which lines a run read, how a line is refused, and which book a run goes by, worked by hand: what holds, and what does not.
+-- Which lines a run read, how a line is refused, and which book a run goes by, worked by hand: what holds, and what
+-- does not.
 -- 10 is LF, 110 and 111 are letters.
 use Rattle.std.specs.Prelude.{ℕ, ◌≡◌, ◌++◌, Bool, true, false, List, [], ◌∷◌, Option, Some, None, Ok, Err}
 use Rattle.pm_client.specs.Starts.{Clients}
@@ -35,7 +36,8 @@ first_line = ended_line (110 ∷ []) ∷ []
 pub record LinesAreRead : Type 0 where
   -- a script that was read to its end has all its lines, and nothing is left of it
   pub whole : (some_refused : Bool) → IsRead (Some two_lines) (Some []) (Ok some_refused) both
-  pub not_whole : (some_refused : Bool) → ¬ (IsRead (Some two_lines) (Some (111 ∷ [])) (Ok some_refused) both)
+  pub not_whole : (some_refused : Bool)
+      → ¬ (IsRead (Some two_lines) (Some (111 ∷ [])) (Ok some_refused) both)
   -- where the source failed, a line that no LF ended is not read, and each that one ended is
   pub broken : IsRead (Some two_lines) (Some []) (Err SourceFault) first_line
   pub broken_before : IsRead (Some two_lines) (Some (111 ∷ [])) (Err SourceFault) first_line
@@ -45,22 +47,31 @@ pub record LinesAreRead : Type 0 where
   pub untaken : IsRead (Some two_lines) (Some []) (Err SinkFault) both
   pub untaken_before : IsRead (Some two_lines) (Some (111 ∷ [])) (Err SinkFault) first_line
   -- a short script is not too long
-  pub short : (left : Option (List ℕ)) (lines : List Line) → ¬ (IsRead (Some two_lines) left (Err TooLong) lines)
+  pub short : (left : Option (List ℕ)) (lines : List Line)
+      → ¬ (IsRead (Some two_lines) left (Err TooLong) lines)
 
 pub record LinesAreRefused : Type 0 where
   pub long : (line : Line) → is_too_long line ≡ true → refusal_of line ≡ LineTooLong
   pub short : refusal_of (ended_line (110 ∷ [])) ≡ BadCommand
   -- for this reason, and nothing is changed
-  pub same : (book : List Rule) (old : Machine) (why : Refusal) → AnswersTo book old why None (Some (refused why nothing)) old
-  pub not_other : (book : List Rule) (old new : Machine) → ¬ (AnswersTo book old LineTooLong None (Some (refused BadCommand nothing)) new)
-  pub not_silent : (book : List Rule) (old new : Machine) (why : Refusal) → ¬ (AnswersTo book old why None None new)
+  pub same : (book : List Rule) (old : Machine) (why : Refusal)
+      → AnswersTo book old why None (Some (refused why nothing)) old
+  pub not_other : (book : List Rule) (old new : Machine)
+      → ¬ (AnswersTo book old LineTooLong None (Some (refused BadCommand nothing)) new)
+  pub not_silent : (book : List Rule) (old new : Machine) (why : Refusal)
+      → ¬ (AnswersTo book old why None None new)
 
 pub record BooksAreChosen : Type 0 where
-  pub standard : (clients : Clients) (files : Option (List (List ℕ × List ℕ))) → IsBook None clients files standard_rules
-  pub not_empty : (clients : Clients) (files : Option (List (List ℕ × List ℕ))) → ¬ (IsBook None clients files [])
+  pub standard : (clients : Clients) (files : Option (List (List ℕ × List ℕ)))
+      → IsBook None clients files standard_rules
+  pub not_empty : (clients : Clients) (files : Option (List (List ℕ × List ℕ)))
+      → ¬ (IsBook None clients files [])
   -- a file that is not there is no book
   pub absent : (name : List ℕ) (clients : Clients) → IsRefusedBook name clients []
-  pub not_absent : (name : List ℕ) (clients : Clients) (book : List Rule) → ¬ (IsBook (Some name) clients (Some []) book)
+  pub not_absent : (name : List ℕ) (clients : Clients) (book : List Rule)
+      → ¬ (IsBook (Some name) clients (Some []) book)
   -- a client adds its kind where no standard kind has its name
-  pub adds : (kind : Kind) (starts : ℕ) → has_standard_name kind ≡ false → kinds_of ((kind, starts) ∷ []) ≡ standard_kinds_list ++ kind ∷ []
-  pub adds_none : (kind : Kind) (starts : ℕ) → has_standard_name kind ≡ true → kinds_of ((kind, starts) ∷ []) ≡ standard_kinds_list
+  pub adds : (kind : Kind) (starts : ℕ) → has_standard_name kind ≡ false
+      → kinds_of ((kind, starts) ∷ []) ≡ standard_kinds_list ++ kind ∷ []
+  pub adds_none : (kind : Kind) (starts : ℕ) → has_standard_name kind ≡ true
+      → kinds_of ((kind, starts) ∷ []) ≡ standard_kinds_list

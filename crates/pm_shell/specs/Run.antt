@@ -22,7 +22,8 @@ command_at line = if is_too_long line then None else command_of (text_of line)
 abbrev pub refusal_of : Line → Refusal
 refusal_of line = if is_too_long line then LineTooLong else BadCommand
 
--- a line that speaks no command is refused, for this reason, a blank one has no reply, and both change nothing; each other one is a step
+-- a line that speaks no command is refused, for this reason, a blank one has no reply, and both change nothing; each
+-- other one is a step
 abbrev pub AnswersTo : List Rule → Machine → Refusal → Option Spoken → Option ReplySeen → Machine → Type 0
 AnswersTo book old why (Some command) (Some reply) new = Step book old command reply new
 AnswersTo book old why (Some blank) None new = new ≡ old
@@ -34,10 +35,12 @@ AnswersTo book old why None None new = ⊥
 abbrev pub Answers : List Rule → Machine → Line → Option ReplySeen → Machine → Type 0
 Answers book old line reply new = AnswersTo book old (refusal_of line) (command_at line) reply new
 
--- it answers so to the lines, one after another, each value that it shows is right when it is shown, and after each line every object is honest, and each rule that was excluded with evidence has evidence that holds now
+-- it answers so to the lines, one after another, each value that it shows is right when it is shown, and after each
+-- line every object is honest, and each rule that was excluded with evidence has evidence that holds now
 abbrev pub Run : List Rule → Machine → List Line → List (Option ReplySeen) → Machine → Type 0
 Run book old [] [] new = new ≡ old
-Run book old (line ∷ lines) (reply ∷ replies) new = (mid : Machine) × Answers book old line reply mid × Shows reply mid × AllHonest mid × AllStand book mid × Run book mid lines replies new
+Run book old (line ∷ lines) (reply ∷ replies) new = (mid : Machine) × Answers book old line reply mid
+    × Shows reply mid × AllHonest mid × AllStand book mid × Run book mid lines replies new
 Run book old [] (reply ∷ replies) new = ⊥
 Run book old (line ∷ lines) [] new = ⊥
 

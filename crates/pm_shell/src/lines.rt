@@ -154,7 +154,8 @@ pub(crate) fn answer_lines<S: Source, K: Sink, F: Store>(
     sink: &mut K,
     store: &mut F,
 ) -> Result<bool, RunFail>
-    requires kept { AllKept (machine_at session.old (map tally clients.old.items) (F.files store.old) (F.faults store.old)) }
+    requires kept { AllKept (machine_at session.old (map tally clients.old.items) (F.files store.old)
+        (F.faults store.old)) }
     requires stand { AllStand (book_of session.old)
         (machine_at session.old (map tally clients.old.items) (F.files store.old) (F.faults store.old)) }
     ensures outcome { (lines : List Line)

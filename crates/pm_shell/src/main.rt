@@ -1,4 +1,5 @@
-//! The program: a script from standard input, answered on standard output.
+//! The program: a script from standard input, answered on standard output. It knows nothing of how an answer is
+//! found.
 #![tactic(auto)]
 
 ghost use Rattle.std.specs.Prelude.{IfErr, IfOk, drop, ◌≡◌, ◌⊎◌};

@@ -137,10 +137,10 @@ fn run_words<S: Source, K: Sink, F: Store>(
 /// Answers the lines of a script by steps of the machine, each line as soon as it was read, and its reply is written
 /// before the next one is read. Memory: the line at hand and what one read gave.
 ///
-/// The words are those after the program's name: `--trace` traces rounds, `--rules NAME` takes the rules of the store's
-/// file of this name in place of the standard book, and `--demo N` the script of the demo in place of the source, which
-/// is not read. Else the script is what the source has left, where it tells that, and the text is what the sink takes,
-/// where it tells that.
+/// The words are those after the program's name: `--trace` traces rounds, `--rules NAME` takes the rules of the
+/// store's file of this name in place of the standard book, and `--demo N` the script of the demo in place of the
+/// source, which is not read. Else the script is what the source has left, where it tells that, and the text is what
+/// the sink takes, where it tells that.
 ///
 /// `BadWords` comes exactly where the words are not those of the program, if memory does not run out before, and
 /// `BadBook` where the named book cannot be had or is refused: then nothing is read of the source, written or started.

@@ -12,7 +12,8 @@ ways_at (Some c) = (table_row c).ways
 
 -- the ways of the first row of this name
 abbrev pub ways_named : List ℕ → List Way
-ways_named name = ways_at (find (λ c. bytes_eq (standard_kind c).name name) (standard_clients ++ wide_clients))
+ways_named name =
+    ways_at (find (λ c. bytes_eq (standard_kind c).name name) (standard_clients ++ wide_clients))
 
 -- the row of this name has the way
 abbrev pub has_way : List ℕ → Way → Bool

@@ -7,8 +7,8 @@ pub data Optimum : Type 0 where
   least : Optimum
 
 -- which lists of rows a client may eliminate: the row list; its first part, the double description list, and the rows
--- of that which enlarge the span; the rows in the lineality, and their basis with a row, by the other description or by
--- linear programs; rows that determine the row of a set; rows that span a maximal cone
+-- of that which enlarge the span; the rows in the lineality, and their basis with a row, by the other description or
+-- by linear programs; rows that determine the row of a set; rows that span a maximal cone
 pub data Eliminated : Type 0 where
   row_list : Eliminated
   first_part : Eliminated
@@ -21,10 +21,10 @@ pub data Eliminated : Type 0 where
   determining_rows : Eliminated
   cone_rows : Eliminated
 
--- a step in the elimination of a list (E1); two rays of a front (E2), or too many (E5); a pivot in a program (E3): of a
--- row over the others, of a point, of an optimum; a product of rows that were read (E4), of a row that a set
--- determines, of a dual, at rays, at a face; too many facets, faces or cells (E5); whatever refuses the cells of lifted
--- sites (E1, E2, E4, E5), at their heights or on the paraboloid
+-- a step in the elimination of a list (E1); two rays of a front (E2), or too many (E5); a pivot in a program (E3): of
+-- a row over the others, of a point, of an optimum; a product of rows that were read (E4), of a row that a set
+-- determines, of a dual, at rays, at a face; too many facets, faces or cells (E5); whatever refuses the cells of
+-- lifted sites (E1, E2, E4, E5), at their heights or on the paraboloid
 pub data Way : Type 0 where
   eliminates : Eliminated → Way
   doubling : Way

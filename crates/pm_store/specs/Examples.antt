@@ -47,5 +47,7 @@ pub record WordsNameFiles : Type 0 where
   pub above : is_file_word (codes "..") ≡ false
   pub option : is_file_word (codes "-a") ≡ false
   pub folder : is_file_word (codes "a/b") ≡ false
-  pub sixty_four : is_file_word (codes "0123456789012345678901234567890123456789012345678901234567890123") ≡ true
-  pub sixty_five : is_file_word (codes "01234567890123456789012345678901234567890123456789012345678901234") ≡ false
+  pub sixty_four : is_file_word (codes "0123456789012345678901234567890123456789012345678901234567890123")
+      ≡ true
+  pub sixty_five : is_file_word (codes "01234567890123456789012345678901234567890123456789012345678901234")
+      ≡ false

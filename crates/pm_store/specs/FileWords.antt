@@ -4,7 +4,9 @@ use Rattle.std.specs.List.{list_all}
 
 -- a letter, a digit, `_`, `-` or `.`
 abbrev pub is_file_byte : ℕ → Bool
-is_file_byte b = (nat_le 48 b && nat_le b 57) || ((nat_le 65 b && nat_le b 90) || ((nat_le 97 b && nat_le b 122) || (b == 95 || (b == 45 || b == 46))))
+is_file_byte b =
+    (nat_le 48 b && nat_le b 57) ||
+    ((nat_le 65 b && nat_le b 90) || ((nat_le 97 b && nat_le b 122) || (b == 95 || (b == 45 || b == 46))))
 
 -- there is a first byte, and it is neither `-` nor `.`
 abbrev pub begins_file_word : List ℕ → Bool

@@ -35,10 +35,12 @@ IsInPart bytes old new = (new ≡ old) ⊎ ((new ≡ None) ⊎ ((n : ℕ) × (ne
 
 -- the file of this name is as before, absent, or has some first bytes of the new ones, and the others are as before
 abbrev pub IsPutInPart : List ℕ → List ℕ → List (List ℕ × List ℕ) → List (List ℕ × List ℕ) → Type 0
-IsPutInPart name bytes old new = IsInPart bytes (file_of old name) (file_of new name) × OthersStay name old new
+IsPutInPart name bytes old new = IsInPart bytes (file_of old name) (file_of new name)
+    × OthersStay name old new
 
 -- The files that are told, if they are, are told afterwards too, and are related so.
-abbrev pub AreTold : (List (List ℕ × List ℕ) → List (List ℕ × List ℕ) → Type 0) → Option (List (List ℕ × List ℕ)) → Option (List (List ℕ × List ℕ)) → Type 0
+abbrev pub AreTold : (List (List ℕ × List ℕ) → List (List ℕ × List ℕ) → Type 0)
+    → Option (List (List ℕ × List ℕ)) → Option (List (List ℕ × List ℕ)) → Type 0
 AreTold P old new = IfSome old (λ had. (has : List (List ℕ × List ℕ)) × (new ≡ Some has) × P had has)
 
 -- The files that are told, if they are, are the same as before.

@@ -21,7 +21,8 @@ seen_file file = (string_bytes file.name, file.bytes.items)
 -- the files with these bytes under this name: in its place where it has one, else last
 abbrev pub put_file : List (List ℕ × List ℕ) → List ℕ → List ℕ → List (List ℕ × List ℕ)
 put_file [] name bytes = (name, bytes) ∷ []
-put_file (file ∷ files) name bytes = if bytes_eq file.0 name then (file.0, bytes) ∷ files else file ∷ put_file files name bytes
+put_file (file ∷ files) name bytes = if bytes_eq file.0 name then (file.0, bytes) ∷ files
+    else file ∷ put_file files name bytes
 
 -- the next call fails: its number is listed
 abbrev pub Fails : StoreState → Type 0

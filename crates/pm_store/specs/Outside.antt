@@ -15,7 +15,8 @@ Stays old new = IfSome old (λ all. new ≡ Some all)
 
 -- Of what is told to be left, if it is, the first k bytes moved to the front of the buffer, and the others are left.
 abbrev pub Moves : Option (List ℕ) → Option (List ℕ) → ℕ → List ℕ → Type 0
-Moves old new k buf = IfSome old (λ all. (k ≤ length all) × (take k buf ≡ take k all) × (new ≡ Some (drop k all)))
+Moves old new k buf =
+    IfSome old (λ all. (k ≤ length all) × (take k buf ≡ take k all) × (new ≡ Some (drop k all)))
 
 -- Of what is told to be left, if it is, nothing is left.
 abbrev pub IsAtEnd : Option (List ℕ) → Type 0
@@ -31,4 +32,5 @@ Gains old new bytes = IfSome old (λ had. new ≡ Some (had ++ bytes))
 
 -- To what was told to be taken, if it was, some first bytes of these were added, and not all of them.
 abbrev pub GainsPart : Option (List ℕ) → Option (List ℕ) → List ℕ → Type 0
-GainsPart old new bytes = IfSome old (λ had. (n : ℕ) × (n < length bytes) × (new ≡ Some (had ++ take n bytes)))
+GainsPart old new bytes =
+    IfSome old (λ had. (n : ℕ) × (n < length bytes) × (new ≡ Some (had ++ take n bytes)))

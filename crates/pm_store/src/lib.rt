@@ -1,4 +1,5 @@
-//! The outside: where a script comes from, where its replies go, and where files are kept.
+//! The outside: where a script comes from, where its replies go, and where files are kept. It knows nothing of
+//! commands, and of what files hold.
 #![tactic(auto)]
 
 ghost use Rattle.std.specs.Prelude.{◌≡◌, ℕ, ◌+◌, ◌<◌, ◌≤◌, ◌^◌, List, Option, None, IfOk, OnErr, length, take};

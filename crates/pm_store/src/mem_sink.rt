@@ -74,7 +74,8 @@ impl Sink for MemSink {
     fn write(&mut self, piece: &[u8]) -> Result<usize, Failed>
         // As at every sink.
         ensures within { IfOk result (λ k. k ≤ length piece.now) }
-        ensures takes { IfOk result (λ k. Gains (Some self.old.taken) (Some self.new.taken) (take k piece.now)) }
+        ensures takes { IfOk result (λ k.
+            Gains (Some self.old.taken) (Some self.new.taken) (take k piece.now)) }
         ensures some { 0 < length piece.now → IfOk result (λ k. 0 < k) }
         ensures err { OnErr result (Stays (Some self.old.taken) (Some self.new.taken)) }
         ensures fault { OnErr result (Rose self.old.faults self.new.faults) }
@@ -84,7 +85,8 @@ impl Sink for MemSink {
         // It fails at the listed calls and where it is full alone, and else takes as many bytes as it may.
         ensures fails { IsErr result ↔ Refuses self.old piece.now }
         ensures accepts { IfOk result (λ k. k ≡ accepted self.old (length piece.now)) }
-        ensures after { MatchResult result (λ k. self.new ≡ after_taking self.old (take k piece.now)) (λ _. self.new ≡ after_fault self.old) }
+        ensures after { MatchResult result (λ k. self.new ≡ after_taking self.old (take k piece.now)) (λ _.
+            self.new ≡ after_fault self.old) }
     {
         let number = self.calls;
         self.calls = self.calls.saturating_add(1);

@@ -78,7 +78,8 @@ impl Source for MemSource {
         // It fails at the listed calls alone, and else gives as many bytes as it may.
         ensures fails { IsErr result ↔ Contains self.old.failing self.old.calls }
         ensures gives { IfOk result (λ k. k ≡ given self.old (length buf.old)) }
-        ensures after { MatchResult result (λ k. self.new ≡ after_giving self.old k) (λ _. self.new ≡ after_fault self.old) }
+        ensures after { MatchResult result (λ k. self.new ≡ after_giving self.old k) (λ _.
+            self.new ≡ after_fault self.old) }
         ensures others { MatchResult result (λ k. drop k buf.new ≡ drop k buf.old) (λ _. buf.new ≡ buf.old) }
     {
         let number = self.calls;

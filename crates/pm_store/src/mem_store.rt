@@ -55,7 +55,8 @@ fn put_file(
     name: &str,
     bytes: &[u8],
 ) -> Result<(), AllocError>
-    ensures ok { OnOk result (map seen_file files.new.items ≡ put_file (map seen_file files.old.items) name.now bytes.now) }
+    ensures ok { OnOk result (map seen_file files.new.items
+        ≡ put_file (map seen_file files.old.items) name.now bytes.now) }
     ensures err { OnErr result (files.new.items ≡ files.old.items) }
 {
     let content = bytes.to_vec(alloc)?;
@@ -95,7 +96,8 @@ impl MemStore {
     /// Counts a call, and fails where its number is listed.
     fn begin(&mut self) -> Result<(), Failed>
         ensures fails { IsErr result ↔ Fails self.old }
-        ensures after { MatchResult result (λ _. self.new ≡ after_call self.old) (λ _. self.new ≡ after_fault self.old) }
+        ensures after { MatchResult result (λ _. self.new ≡ after_call self.old) (λ _.
+            self.new ≡ after_fault self.old) }
         ensures once { HasNamesOnce self.new.files }
         ensures never_falls { self.old.faults ≤ self.new.faults }
     {
@@ -116,7 +118,9 @@ impl Store for MemStore {
 
     fn get(&mut self, alloc: Global, name: &str) -> Result<Option<Vec<u8>>, StoreFail>
         // As at every store.
-        ensures finds { IfOk result (λ found. IfSome (Some self.old.files) (λ all. option_map (λ v. v.items) found ≡ read_part (file_of all name.now))) }
+        ensures finds { IfOk result (λ found.
+            IfSome (Some self.old.files) (λ all. option_map (λ v. v.items) found
+            ≡ read_part (file_of all name.now))) }
         ensures bound { IfOk result (λ found. IfSome found (λ v. vec_len v ≤ most_read)) }
         ensures stay { FilesStay (Some self.old.files) (Some self.new.files) }
         ensures fault { IsErrOf result StoreFail.Failed → Rose self.old.faults self.new.faults }
@@ -125,7 +129,8 @@ impl Store for MemStore {
 
         // It fails at the listed calls alone.
         ensures fails { IsErrOf result StoreFail.Failed ↔ Fails self.old }
-        ensures after { MatchResult result (λ _. self.new ≡ after_call self.old) (λ e. self.new ≡ after_refusal self.old e) }
+        ensures after { MatchResult result (λ _. self.new ≡ after_call self.old) (λ e.
+            self.new ≡ after_refusal self.old e) }
     {
         self.begin()?;
         let Some(place) = place_of(&self.files, name) else {
@@ -139,8 +144,10 @@ impl Store for MemStore {
 
     fn put(&mut self, alloc: Global, name: &str, bytes: &[u8]) -> Result<(), StoreFail>
         // As at every store.
-        ensures puts { OnOk result (AreTold (IsPut name.now bytes.now) (Some self.old.files) (Some self.new.files)) }
-        ensures err { OnErr result (AreTold (IsPutInPart name.now bytes.now) (Some self.old.files) (Some self.new.files)) }
+        ensures puts { OnOk result (AreTold (IsPut name.now bytes.now) (Some self.old.files)
+            (Some self.new.files)) }
+        ensures err { OnErr result (AreTold (IsPutInPart name.now bytes.now) (Some self.old.files)
+            (Some self.new.files)) }
         ensures once { IfSome (Some self.new.files) HasNamesOnce }
         ensures fault { IsErrOf result StoreFail.Failed → Rose self.old.faults self.new.faults }
         ensures never_falls { self.old.faults ≤ self.new.faults }
@@ -148,7 +155,8 @@ impl Store for MemStore {
 
         // It fails at the listed calls alone, and changes no other file and no order of files.
         ensures fails { IsErrOf result StoreFail.Failed ↔ Fails self.old }
-        ensures after { MatchResult result (λ _. self.new ≡ after_put self.old name.now bytes.now) (λ e. self.new ≡ after_refusal self.old e) }
+        ensures after { MatchResult result (λ _. self.new ≡ after_put self.old name.now bytes.now) (λ e.
+            self.new ≡ after_refusal self.old e) }
     {
         self.begin()?;
         put_file(alloc, &mut self.files, name, bytes)?;

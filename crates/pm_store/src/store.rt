@@ -51,7 +51,9 @@ pub trait Store {
     /// The file of this name, or `None` where there is none.
     /// Of a file of more than 8,388,609 bytes it gives the first 8,388,609. It changes no file.
     fn get(&mut self, alloc: Global, name: &str) -> Result<Option<Vec<u8>>, StoreFail>
-        ensures finds { IfOk result (λ found. IfSome (files self.old) (λ all. option_map (λ v. v.items) found ≡ read_part (file_of all name.now))) }
+        ensures finds { IfOk result (λ found.
+            IfSome (files self.old) (λ all. option_map (λ v. v.items) found
+            ≡ read_part (file_of all name.now))) }
         ensures bound { IfOk result (λ found. IfSome found (λ v. vec_len v ≤ most_read)) }
         ensures stay { FilesStay (files self.old) (files self.new) }
         ensures fault { IsErrOf result StoreFail.Failed → Rose (faults self.old) (faults self.new) }
@@ -63,7 +65,8 @@ pub trait Store {
     /// Files of other names are as before.
     fn put(&mut self, alloc: Global, name: &str, bytes: &[u8]) -> Result<(), StoreFail>
         ensures puts { OnOk result (AreTold (IsPut name.now bytes.now) (files self.old) (files self.new)) }
-        ensures err { OnErr result (AreTold (IsPutInPart name.now bytes.now) (files self.old) (files self.new)) }
+        ensures err { OnErr result (AreTold (IsPutInPart name.now bytes.now) (files self.old)
+            (files self.new)) }
         ensures once { IfSome (files self.new) HasNamesOnce }
         ensures fault { IsErrOf result StoreFail.Failed → Rose (faults self.old) (faults self.new) }
         ensures never_falls { faults self.old ≤ faults self.new }

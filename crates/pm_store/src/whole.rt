@@ -48,10 +48,12 @@ pub fn read_up_to<S: Source>(
     source: &mut S,
     limit: usize,
 ) -> Result<Vec<u8>, ReadFail>
-    ensures all { IfOk result (λ v. IfSome (S.left source.old) (λ all. (v.items ≡ all) × (S.left source.new ≡ Some []))) }
+    ensures all { IfOk result (λ v.
+        IfSome (S.left source.old) (λ all. (v.items ≡ all) × (S.left source.new ≡ Some []))) }
     ensures bound { IfOk result (λ v. vec_len v ≤ limit) }
     ensures fault { IsErrOf result ReadFail.Fault → Rose (S.faults source.old) (S.faults source.new) }
-    ensures too_long { IsErrOf result ReadFail.TooLong → IfSome (S.left source.old) (λ all. limit < length all) }
+    ensures too_long { IsErrOf result ReadFail.TooLong
+        → IfSome (S.left source.old) (λ all. limit < length all) }
     ensures left { Loses (S.left source.old) (S.left source.new) }
     ensures never_falls { S.faults source.old ≤ S.faults source.new }
 {

@@ -23,15 +23,21 @@ abbrev pub with_values : List HeldValue → State
 with_values held = record (empty_object Polytope) { held = held; programs = codes "a" ∷ codes "b" ∷ [] }
 
 pub record HeldIsTold : Type 0 where
-  pub was_given : origin_of Pointed (held_at None FullDim Computed ∷ held_at None Pointed Given ∷ []) ≡ Some Given
-  pub was_computed : origin_of Pointed (held_at None FullDim Given ∷ held_at None Pointed Computed ∷ []) ≡ Some Computed
+  pub was_given : origin_of Pointed (held_at None FullDim Computed ∷ held_at None Pointed Given ∷ [])
+      ≡ Some Given
+  pub was_computed : origin_of Pointed (held_at None FullDim Given ∷ held_at None Pointed Computed ∷ [])
+      ≡ Some Computed
   pub not_held : origin_of Pointed (held_at None FullDim Given ∷ []) ≡ None
   -- in the order of the table, and not in that in which they came
-  pub in_order : held_told (with_values (held_at None FullDim Given ∷ held_at None Pointed Stored ∷ [])) None ≡ (Pointed, Stored) ∷ (FullDim, Given) ∷ []
+  pub in_order : held_told (with_values (held_at None FullDim Given ∷ held_at None Pointed Stored ∷ [])) None
+      ≡ (Pointed, Stored) ∷ (FullDim, Given) ∷ []
   pub nothing : held_told (with_values []) None ≡ []
   -- the object's own, and not those of a program; and of each program its own
   pub not_of_programs : held_told (with_values (held_at (Some 1) MaximalValue Computed ∷ [])) None ≡ []
-  pub of_the_second : programs_told (with_values (held_at None Pointed Given ∷ held_at (Some 1) MaximalValue Computed ∷ [])) ≡ (codes "a", []) ∷ (codes "b", (MaximalValue, Computed) ∷ []) ∷ []
+  pub of_the_second
+      : programs_told
+      (with_values (held_at None Pointed Given ∷ held_at (Some 1) MaximalValue Computed ∷ []))
+      ≡ (codes "a", []) ∷ (codes "b", (MaximalValue, Computed) ∷ []) ∷ []
   pub no_programs : programs_told (empty_object Polytope) ≡ []
 
 abbrev pub first : RuleId
@@ -42,7 +48,14 @@ second = record { 0 = 1 }
 
 -- a rule of this label, of which nothing else is asked here
 abbrev pub labelled : List ℕ → Rule
-labelled label = record { label = label; kind = record { name = label; targets = 0; sources = 0; must = 0; must_not = 0 }; weight = record { class = 0; minor = 1 }; must = 0; must_not = 0 }
+labelled label =
+    record {
+      label = label;
+      kind = record { name = label; targets = 0; sources = 0; must = 0; must_not = 0 };
+      weight = record { class = 0; minor = 1 };
+      must = 0;
+      must_not = 0;
+    }
 
 abbrev pub book : List Rule
 book = labelled (codes "r") ∷ labelled (codes "s") ∷ []
@@ -59,8 +72,11 @@ found_false id = record { rule = id; sub = None; why = why.False Pointed }
 
 pub record EvidenceIsTold : Type 0 where
   -- at each place, in the order in which they came, and none of another rule
-  pub each_place : evidence_of book (codes "r") (failed_there first ∷ failed_here second ∷ failed_here first ∷ []) ≡ failed_there first ∷ failed_here first ∷ []
-  pub of_the_other : evidence_of book (codes "s") (failed_there first ∷ failed_here second ∷ failed_here first ∷ []) ≡ failed_here second ∷ []
+  pub each_place : evidence_of book (codes "r")
+      (failed_there first ∷ failed_here second ∷ failed_here first ∷ [])
+      ≡ failed_there first ∷ failed_here first ∷ []
+  pub of_the_other : evidence_of book (codes "s")
+      (failed_there first ∷ failed_here second ∷ failed_here first ∷ []) ≡ failed_here second ∷ []
   -- a wrong precondition is no evidence
   pub no_evidence : evidence_of book (codes "r") (found_false first ∷ []) ≡ []
   pub no_such_rule : evidence_of book (codes "t") (failed_here first ∷ []) ≡ []

@@ -1,4 +1,5 @@
--- What is told of an object: the names that its rounds need, what it holds and how that came to be held, and the evidence by which rules are barred. Nothing is computed to tell it.
+-- What is told of an object: the names that its rounds need, what it holds and how that came to be held, and the
+-- evidence by which rules are barred. Nothing is computed to tell it.
 use Rattle.pm_object.specs.State.{HeldValue, RoundSeen, State, read_at}
 use Rattle.pm_object.specs.declared.held.Excluded.{Excluded}
 use Rattle.pm_object.specs.declared.held.Origin.{Origin}
@@ -70,4 +71,5 @@ has_that_label book label id = is_labelled label (rule_at book id)
 
 -- the exclusions by evidence of rules of the label, at the object and at its programs
 abbrev pub evidence_of : List Rule → List ℕ → List Excluded → List Excluded
-evidence_of book label excluded = filter (λ e. by_evidence e.why && has_that_label book label e.rule) excluded
+evidence_of book label excluded =
+    filter (λ e. by_evidence e.why && has_that_label book label e.rule) excluded

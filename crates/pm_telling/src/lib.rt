@@ -1,4 +1,5 @@
-//! What is told of an object: the names that its rounds need, what it holds, its history, and evidence. It knows nothing of clients, plans or sessions.
+//! What is told of an object: the names that its rounds need, what it holds, its history, and evidence. It knows
+//! nothing of clients, plans or sessions.
 #![tactic(auto)]
 
 ghost use Rattle.pm_telling.specs.Examples.{EvidenceIsTold, HeldIsTold};

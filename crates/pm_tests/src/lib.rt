@@ -1,5 +1,6 @@
-//! Tests of what no reply of the program shows: cells of sites, a placing triangulation, sums and refinements, the checker of tables, wide numbers, sources and stores in memory, and
-//! the texts of errors.
+//! Tests of what no reply of the program shows: cells of sites, a placing triangulation, sums and refinements, the
+//! checker of tables, wide numbers, sources and stores in memory, and the texts of errors. It knows nothing of
+//! sessions, and nothing stands on it.
 #![tactic(auto)]
 
 #[cfg(test)]

@@ -13,7 +13,8 @@ const MOST: i128 = 170_141_183_460_469_231_731_687_303_715_884_105_727;
 
 const HALF: i128 = 85_070_591_730_234_615_865_843_651_857_942_052_864;
 
-// Products of the greatest numbers, whose difference is in the range; and a combination whose entries leave it before they are divided.
+// Products of the greatest numbers, whose difference is in the range; and a combination whose entries leave it before
+// they are divided.
 #[test]
 fn wide_numbers_come_back_into_the_range(rt: HostRuntime) {
     let square = WideInt::product(MOST, MOST);
@@ -28,7 +29,8 @@ fn wide_numbers_come_back_into_the_range(rt: HostRuntime) {
     assert!(rt; answer.is_err() && row == [MOST, 1]);
 }
 
-// The rows that a list is dual to; rows that are dependent; and a step that leaves the range where the first row is left out.
+// The rows that a list is dual to; rows that are dependent; and a step that leaves the range where the first row is
+// left out.
 #[test]
 fn dual_rows_are_found(rt: HostRuntime) {
     let alloc = rt.alloc();

@@ -15,7 +15,7 @@ fn square_is_placed_as_two_triangles(rt: HostRuntime) {
         site(&rt, alloc, 1, 1, 1),
     ];
     let no_lines: Vec<Ints> = Vec::new(alloc);
-    let placing = place(alloc, 3, square.as_slice(), no_lines.as_slice()).expect(
+    let placing = place(alloc, 3, square.as_slice(), no_lines.as_slice(), false).expect(
         &rt,
         "a triangulation",
     );

@@ -17,7 +17,8 @@ fn names() -> PropSet {
     names
 }
 
-// Whether a table proves a claim of the chains from vertices and facets to incidences, for which there is a rule of weight 5.
+// Whether a table proves a claim of the chains from vertices and facets to incidences, for which there is a rule of
+// weight 5.
 fn is_proved(book: &Book, barred: &[RuleId], table: &Table, claim: Claim) -> bool {
     let held = PropSet::of_list(&[PropId::Vertices, PropId::Facets]);
     let asked = PropSet::of(PropId::VerticesInFacets);

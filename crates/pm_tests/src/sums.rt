@@ -72,7 +72,8 @@ fn points_are_added(rt: HostRuntime) {
     assert!(rt; is_text(&rt, alloc, &sum, text));
 }
 
-// A half-line from 1/2 and the point 1/4, beside a plane of lines; two points whose denominators have no common divisor.
+// A half-line from 1/2 and the point 1/4, beside a plane of lines; two points whose denominators have no common
+// divisor.
 #[test]
 fn far_rows_stay_and_wide_sums_are_refused(rt: HostRuntime) {
     let alloc = rt.alloc();

@@ -14,7 +14,11 @@ added sub p true v = []
 added sub p false None = []
 added sub p false (Some v) = computed_at sub p v ∷ []
 
--- each value of the answer has its form, agrees with the object's column count, passes the tests of rows, and stands where it may: at a program that the object has, where it is one of programs; one of programs speaks of the order of the rays only where a value of the object itself does
+-- each value of the answer has its form, agrees with the object's column count, passes the tests of rows, and stands
+-- where it may: at a program that the object has, where it is one of programs; one of programs speaks of the order of
+-- the rays only where a value of the object itself does
 pub record FitsObject (o : State) (answer : List Fact) : Type 0 where
-  pub each : (f : Fact) → Contains answer f → IsFormedIn o.of (cols_of o.held) (length o.programs) (record { place = f.place; property = f.property; value = f.value; origin = Computed })
+  pub each : (f : Fact) → Contains answer f
+      → IsFormedIn o.of (cols_of o.held) (length o.programs)
+      (record { place = f.place; property = f.property; value = f.value; origin = Computed })
   pub backed : (f : Fact) → Contains answer f → IsBacked f.property o.held

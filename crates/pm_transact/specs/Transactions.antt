@@ -5,7 +5,8 @@ use Rattle.pm_props.specs.Sets.{members}
 use Rattle.pm_props.specs.declared.kind.Kind.{Kind}
 use Rattle.pm_types.specs.Values.{Fact}
 
--- the kind of the rule, the program that is asked if one is, the values that were added, in order, and for how many more there is room
+-- the kind of the rule, the program that is asked if one is, the values that were added, in order, and for how many
+-- more there is room
 pub record TransactionSeen : Type 0 where
   pub kind : Kind
   pub sub : Option ℕ

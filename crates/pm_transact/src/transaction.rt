@@ -45,8 +45,9 @@ impl Model for Transaction {
 }
 
 impl Transaction {
-    /// A transaction of the rule, with nothing added, for who asks this program, if one is asked. Takes the memory that
-    /// adding and committing use, here and in the object; where it is wanting that is the error. No value changes.
+    /// A transaction of the rule, with nothing added, for who asks this program, if one is asked. Takes the memory
+    /// that adding and committing use, here and in the object; where it is wanting that is the error. No value
+    /// changes.
     pub fn begin(
         alloc: Global,
         object: &mut Object,
@@ -72,9 +73,11 @@ impl Transaction {
     /// names of the kind in use.
     pub fn view<'a>(&self, object: &'a Object) -> View<'a>
         requires known { IsTrue (is_some (cols_of object.now.state.held)) }
-        requires sources { (p : PropId) → IsTrue (has self.now.kind.sources p) → IsTrue (is_held p (read_at self.now.sub object.now.state.held)) }
+        requires sources { (p : PropId) → IsTrue (has self.now.kind.sources p)
+            → IsTrue (is_held p (read_at self.now.sub object.now.state.held)) }
         requires in_use { IsKindOf self.now.sub object.now.state.of self.now.kind }
-        ensures { result ≡ view_for object.now.state self.now.sub self.now.kind (unwrap_or (cols_of object.now.state.held) 1) }
+        ensures { result ≡ view_for object.now.state self.now.sub self.now.kind
+            (unwrap_or (cols_of object.now.state.held) 1) }
     {
         object.view(self.sub, &self.kind)
     }
@@ -89,9 +92,9 @@ impl Transaction {
         self.values.push_reserved((p, v));
     }
 
-    /// Adds the values that the object does not hold, in the order of their properties' numbers, as computed ones; what
-    /// is held stays. The values fit the object, which knows its column count and has room for them. Takes no memory,
-    /// and cannot fail.
+    /// Adds the values that the object does not hold, in the order of their properties' numbers, as computed ones;
+    /// what is held stays. The values fit the object, which knows its column count and has room for them. Takes no
+    /// memory, and cannot fail.
     pub fn commit(self, object: &mut Object)
         requires known { IsTrue (is_some (cols_of object.old.state.held)) }
         requires room { length self.values ≤ object.old.spare }
@@ -120,7 +123,8 @@ fn commit_one(object: &mut Object, sub: Option<u8>, values: &mut Vec<(PropId, Va
     requires room { vec_len values.old ≤ object.old.spare }
     requires fits { IfSome (drafted p (map put_seen values.old.items)) (λ v.
         IsFormedIn object.old.state.of (cols_of object.old.state.held) (length object.old.state.programs) (computed_at sub p v)) }
-    requires backed { IfSome (drafted p (map put_seen values.old.items)) (λ v. IsBacked p object.old.state.held) }
+    requires backed { IfSome (drafted p (map put_seen values.old.items)) (λ v.
+        IsBacked p object.old.state.held) }
     ensures added { object.new.state ≡ with_held object.old.state
         (added sub p (is_held p (read_at sub object.old.state.held)) (drafted p (map put_seen values.old.items))) }
     ensures cols { cols_of object.new.state.held ≡ cols_of object.old.state.held }

@@ -30,17 +30,20 @@ is_column_count [] n = nat_le n most_columns
 is_column_count (r ∷ rows) n = nat_le 1 n && nat_le n most_columns
 
 abbrev pub is_matrix_form : ℕ → List (List Ratio) → Bool
-is_matrix_form n rows = nat_le (length rows) most_rows && is_column_count rows n && list_all (is_row_of_entries n) rows
+is_matrix_form n rows = nat_le (length rows) most_rows && is_column_count rows n
+    && list_all (is_row_of_entries n) rows
 
 -- a table may have rows without entries
 abbrev pub is_table_form : ℕ → List (List Ratio) → Bool
-is_table_form n rows = nat_le (length rows) most_rows && nat_le n most_columns && list_all (is_row_of_entries n) rows
+is_table_form n rows = nat_le (length rows) most_rows && nat_le n most_columns
+    && list_all (is_row_of_entries n) rows
 
 -- one row of at most most_rows entries, or of none
 abbrev pub is_list_form : ℕ → List (List Ratio) → Bool
 is_list_form n rows = nat_eq (length rows) 1 && nat_le n most_rows && list_all (is_row_of_entries n) rows
 
--- F2_VECTOR is a table, LP.LINEAR_OBJECTIVE is one row, SITES have at most most_site_columns columns, and SITE_HEIGHTS are a list
+-- F2_VECTOR is a table, LP.LINEAR_OBJECTIVE is one row, SITES have at most most_site_columns columns, and
+-- SITE_HEIGHTS are a list
 abbrev pub is_matrix_of : PropId → ℕ → List (List Ratio) → Bool
 is_matrix_of F2Vector n rows = is_table_form n rows
 is_matrix_of LinearObjective n rows = nat_eq (length rows) 1 && is_matrix_form n rows
@@ -66,7 +69,8 @@ has_64_bits (negsuc n) = nat_lt n (2 ^ 63)
 
 -- a number of columns is from 1 to 33, other whole numbers have 64 bits
 abbrev pub is_whole_form : PropId → ℤ → Bool
-is_whole_form p k = if is_ambient p then is_dimension k else is_of_whole_numbers (value_kind p) && has_64_bits k
+is_whole_form p k = if is_ambient p then is_dimension k
+    else is_of_whole_numbers (value_kind p) && has_64_bits k
 
 -- at most most_rows whole numbers of 64 bits
 abbrev pub is_counts_form : List ℤ → Bool
@@ -91,14 +95,19 @@ is_edges_form rows = is_sets_form rows (length rows) && are_joined_back rows 0 r
 
 -- at most most_faces faces with at most most_places indices in all, each ascending, below most_rows
 abbrev pub is_lattice_form : List (List (List ℕ)) → Bool
-is_lattice_form ranks = nat_le (sum_by length ranks) most_faces && nat_le (sum_by (sum_by length) ranks) most_places && list_all (list_all (are_indices most_indices 0)) ranks
+is_lattice_form ranks = nat_le (sum_by length ranks) most_faces
+    && nat_le (sum_by (sum_by length) ranks) most_places
+    && list_all (list_all (are_indices most_indices 0)) ranks
 
 -- a fraction or an infinity
 abbrev pub is_of_numbers : ValueKind → Bool
 is_of_numbers kind.Number = true
 is_of_numbers k = false
 
--- the value has the form of a value of p, and keeps the limits: a matrix has at most most_rows rows of one length from 1 to 33 (of SITES to most_site_columns), and without rows it may state no column count, 0; SITE_HEIGHTS has at most most_rows entries; at most most_rows sets, each ascending, of indices below a column count of at most most_rows; at most most_rows counts; edges with the number of their nodes, and lattices, as above
+-- the value has the form of a value of p, and keeps the limits: a matrix has at most most_rows rows of one length
+-- from 1 to 33 (of SITES to most_site_columns), and without rows it may state no column count, 0; SITE_HEIGHTS has at
+-- most most_rows entries; at most most_rows sets, each ascending, of indices below a column count of at most
+-- most_rows; at most most_rows counts; edges with the number of their nodes, and lattices, as above
 abbrev pub is_formed : PropId → PropertyValue → Bool
 is_formed p (matrix n rows) = is_of_matrices (value_kind p) && is_matrix_of p n rows
 is_formed p (sets rows n) = is_of_sets (value_kind p) && is_sets_form rows n
@@ -128,7 +137,8 @@ states n v = true
 
 -- the value's columns, or the dimension that it states, do not differ from n
 abbrev pub agrees_with : ℕ → PropId → PropertyValue → Bool
-agrees_with n p v = if is_ambient p then states n v else nat_eq (stated_cols p v) 0 || nat_eq (stated_cols p v) n
+agrees_with n p v = if is_ambient p then states n v
+    else nat_eq (stated_cols p v) 0 || nat_eq (stated_cols p v) n
 
 -- ---- the tests of rows
 abbrev pub is_nought : ℤ → Bool
@@ -158,7 +168,8 @@ abbrev pub first_is_above : List Ratio → Bool
 first_is_above [] = false
 first_is_above (q ∷ r) = is_above_nought q.num
 
--- the row passes the test: of a polytope points do not lie behind and lines have first coordinate 0; no ray and no facet row is zero; the first coordinate of a site is positive
+-- the row passes the test: of a polytope points do not lie behind and lines have first coordinate 0; no ray and no
+-- facet row is zero; the first coordinate of a site is positive
 abbrev pub passes : ObjectType → RowTest → List Ratio → Bool
 passes Polytope test.Point r = not (first_is_below r)
 passes Polytope test.Line r = first_is_nought r
@@ -176,7 +187,8 @@ abbrev pub are_rows : ObjectType → PropId → PropertyValue → Bool
 are_rows of p (matrix n rows) = list_all (is_row of p) rows
 are_rows of p v = true
 
--- the primitive row of r is made within the range: so is, column by column, each least common multiple of the denominators so far, and then, column by column, each numerator over the last of these
+-- the primitive row of r is made within the range: so is, column by column, each least common multiple of the
+-- denominators so far, and then, column by column, each numerator over the last of these
 pub record HasPrimitiveRow (r : List Ratio) : Type 0 where
   pub denominators : DenominatorsStay r (length r)
   pub numerators : (m : ℕ) → IsLeastDenominator r (length r) m → NumeratorsStay r m (length r)

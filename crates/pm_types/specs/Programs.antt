@@ -1,4 +1,6 @@
--- The greatest value of an objective c, a row of fractions, at the points of a cone S of rows, and the rays where it stands (Chvatal, Linear Programming, chapters 1 and 5; Ziegler, Lectures on Polytopes, section 3.2). The least value is the opposite of the greatest value of the opposite objective.
+-- The greatest value of an objective c, a row of fractions, at the points of a cone S of rows, and the rays where it
+-- stands (Chvatal, Linear Programming, chapters 1 and 5; Ziegler, Lectures on Polytopes, section 3.2). The least
+-- value is the opposite of the greatest value of the opposite objective.
 use Rattle.std.specs.Prelude.{ℕ, ◌≡◌, ◌<◌, ◌↔◌, List, length, map}
 use Rattle.std.specs.List.{AllPairs, Contains}
 use Rattle.pm_vector.specs.Numbers.{Ratio}

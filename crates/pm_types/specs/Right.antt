@@ -1,4 +1,5 @@
--- When a value of a property is right for a thing t with orders o. Each property has one line of `Means`; c is the objective of the program that a value belongs to.
+-- When a value of a property is right for a thing t with orders o. Each property has one line of `Means`; c is the
+-- objective of the program that a value belongs to.
 -- A half alone is right where the pair's line would make it so: what generates lies inside, what cuts out is valid.
 use Rattle.std.specs.Prelude.{Bool, ℕ, zero, suc, ◌+◌, ◌≡◌, ◌<◌, ◌≤◌, ◌↔◌, IsTrue, true, false, Option, None, Some, List, [], ◌∷◌, ◌++◌, if◌then◌else◌, length, map}
 use Rattle.std.specs.List.{All, AllPairs, Any, Contains, list_all, slice_index_or}
@@ -103,7 +104,8 @@ abbrev pub IsIncidence : List Row → List Row → List (List ℕ) → Type 0
 IsIncidence [] V [] = Unit {0}
 IsIncidence [] V (r ∷ rows) = ⊥
 IsIncidence (f ∷ F) V [] = ⊥
-IsIncidence (f ∷ F) V (r ∷ rows) = ((j : ℕ) → Contains r j ↔ ((j < length V) × (dot f (ray V j) ≡ pos 0))) × IsIncidence F V rows
+IsIncidence (f ∷ F) V (r ∷ rows) = ((j : ℕ) → Contains r j ↔ ((j < length V) × (dot f (ray V j) ≡ pos 0)))
+    × IsIncidence F V rows
 
 abbrev pub one_if_zero : ℤ → ℕ
 one_if_zero (pos zero) = 1
@@ -128,10 +130,13 @@ pub record Solves (A E : List Row) (x : Row) : Type 0 where
 pub record Generates (t : Thing) (P L : List Row) : Type 0 where
   pub same : (x : Row) → length x ≡ t.cols → InSet t x ↔ InCone P L x
 
--- where some solution has a positive first entry, those with no negative first entry are the polytope's cone; else that is {0}
+-- where some solution has a positive first entry, those with no negative first entry are the polytope's cone; else
+-- that is {0}
 pub data CutsOutPolytope (n : ℕ) (S : Row → Type 0) (A E : List Row) : Type 0 where
-  proper : (x : Row) → length x ≡ n → Solves A E x → pos 0 <ℤ entry x 0 → ((y : Row) → length y ≡ n → S y ↔ (Solves A E y × (pos 0 ≤ℤ entry y 0))) → CutsOutPolytope n S A E
-  empty : ((x : Row) → length x ≡ n → Solves A E x → ¬ (pos 0 <ℤ entry x 0)) → ((y : Row) → length y ≡ n → S y ↔ IsZero y) → CutsOutPolytope n S A E
+  proper : (x : Row) → length x ≡ n → Solves A E x → pos 0 <ℤ entry x 0
+      → ((y : Row) → length y ≡ n → S y ↔ (Solves A E y × (pos 0 ≤ℤ entry y 0))) → CutsOutPolytope n S A E
+  empty : ((x : Row) → length x ≡ n → Solves A E x → ¬ (pos 0 <ℤ entry x 0))
+      → ((y : Row) → length y ≡ n → S y ↔ IsZero y) → CutsOutPolytope n S A E
 
 abbrev pub CutsOutOf : ObjectType → ℕ → (Row → Type 0) → List Row → List Row → Type 0
 CutsOutOf Polytope n S A E = CutsOutPolytope n S A E
@@ -148,7 +153,8 @@ pub record RowsAre (t : Thing) (S : Row → Type 0) (rows : List (List Ratio)) :
   pub cols : HasCols t.cols xs
   pub each : All S xs
 
-pub record RowsAreInOrder (t : Thing) (R : Row → Row → Type 0) (vs : List Row) (rows : List (List Ratio)) : Type 0 where
+pub record RowsAreInOrder (t : Thing) (R : Row → Row → Type 0) (vs : List Row) (rows : List (List Ratio))
+    : Type 0 where
   pub xs : List Row
   pub stand : StandFor rows xs
   pub cols : HasCols t.cols xs
@@ -167,8 +173,10 @@ pub record AreFarPlaces (V : List Row) (ks : List ℤ) : Type 0 where
 
 -- (1, 0, .., 0) is in the cone, and each valid row that does not vanish is positive there
 pub record IsCentered (t : Thing) : Type 0 where
-  pub inside : (e : Row) → length e ≡ t.cols → entry e 0 ≡ pos 1 → ((i : ℕ) → entry e (suc i) ≡ pos 0) → InSet t e
-  pub positive : (a : Row) → IsValid t.cols t.generators t.lines a → ¬ (Vanishes t.cols t.generators t.lines a) → pos 0 <ℤ entry a 0
+  pub inside : (e : Row) → length e ≡ t.cols → entry e 0 ≡ pos 1 → ((i : ℕ) → entry e (suc i) ≡ pos 0)
+      → InSet t e
+  pub positive : (a : Row) → IsValid t.cols t.generators t.lines a
+      → ¬ (Vanishes t.cols t.generators t.lines a) → pos 0 <ℤ entry a 0
 
 -- each ray lies on exactly d facets, d the dimension of the polytope
 pub record IsSimple (t : Thing) (p : Orders) : Type 0 where
@@ -207,7 +215,8 @@ pub record IsOfFaces (t : Thing) (IsNumberOf : List (List (List ℕ)) → Type 0
 abbrev pub IsFVector : Thing → List ℤ → Type 0
 IsFVector t f = IsOfFaces t (λ ranks. f ≡ map pos (f_of ranks))
 
--- the h-vector by the f-vector f in dimension d; it is empty where d is -1, and where one of its numbers has more than 64 bits
+-- the h-vector by the f-vector f in dimension d; it is empty where d is -1, and where one of its numbers has more
+-- than 64 bits
 abbrev pub h_vector_of : List ℤ → ℤ → List ℤ
 h_vector_of f (pos d) = if list_all has_64_bits (h_of f d) then h_of f d else []
 h_vector_of f (negsuc d) = []
@@ -239,14 +248,17 @@ abbrev pub AreConeRays : Thing → List Row → List ℕ → List (List ℕ) →
 AreConeRays t V [] [] = Unit {0}
 AreConeRays t V [] (r ∷ rows) = ⊥
 AreConeRays t V (i ∷ places) [] = ⊥
-AreConeRays t V (i ∷ places) (r ∷ rows) = ((j : ℕ) → Contains r j ↔ ((j < length V) × IsExtremeRay t.cols (cone_at t i) t.lines (ray V j))) × AreConeRays t V places rows
+AreConeRays t V (i ∷ places) (r ∷ rows) =
+    ((j : ℕ) → Contains r j ↔ ((j < length V) × IsExtremeRay t.cols (cone_at t i) t.lines (ray V j)))
+    × AreConeRays t V places rows
 
 -- as many numbers as places, each the dimension of the cone there
 abbrev pub AreConeDims : Thing → List ℕ → List ℤ → Type 0
 AreConeDims t [] [] = Unit {0}
 AreConeDims t [] (k ∷ ks) = ⊥
 AreConeDims t (i ∷ places) [] = ⊥
-AreConeDims t (i ∷ places) (k ∷ ks) = ((d : ℕ) × (k ≡ pos d) × IsDimOfCone t (cone_at t i) d) × AreConeDims t places ks
+AreConeDims t (i ∷ places) (k ∷ ks) = ((d : ℕ) × (k ≡ pos d) × IsDimOfCone t (cone_at t i) d)
+    × AreConeDims t places ks
 
 -- d is the greatest dimension of a cone of the fan
 pub record IsGreatestDim (t : Thing) (d : ℕ) : Type 0 where
@@ -302,7 +314,8 @@ abbrev pub total : List Row → Row
 total [] = []
 total (x ∷ xs) = plus x (total xs)
 
--- c, the sum of the rows and a row that vanishes are together the constant v: so c.x <= v at each point where no row is negative, and c.x = v where all are 0
+-- c, the sum of the rows and a row that vanishes are together the constant v: so c.x <= v at each point where no row
+-- is negative, and c.x = v where all are 0
 pub record IsBoundBy (t : Thing) (c : List Ratio) (v : Ratio) (rows : List (List Ratio)) : Type 0 where
   pub k : ℤ
   pub objective : Row
@@ -332,10 +345,14 @@ order_if false xs = []
 
 -- the orders that the property may speak of, as its tags say; the others are empty
 abbrev pub shown_to : PropId → Orders → Orders
-shown_to p o = record { rays = order_if (rays_tag p) o.rays; facets = order_if (facets_tag p) o.facets; cones = order_if (facets_tag p) o.cones }
+shown_to p o = record {
+  rays = order_if (rays_tag p) o.rays;
+  facets = order_if (facets_tag p) o.facets;
+  cones = order_if (facets_tag p) o.cones;
+}
 
--- What the value v of the property p says of the thing, and of the orders that it is shown; a value of another form says what never
--- holds. A line that reads an order which its property's tags do not name reads the empty order.
+-- What the value v of the property p says of the thing, and of the orders that it is shown; a value of another form
+-- says what never holds. A line that reads an order which its property's tags do not name reads the empty order.
 abbrev pub Means : PropId → PropertyValue → Thing → Orders → List Ratio → Type 0
 Means ConeAmbientDim (whole k) t o c = k ≡ pos t.cols
 Means Points (matrix n rows) t o c = RowsAre t (InSet t) rows
@@ -353,26 +370,39 @@ Means CombinatorialDim (whole k) t o c = IsCombinatorialDim t k
 Means NVertices (whole k) t o c = (p : Orders) → AreOrders t p → k ≡ pos (length p.rays)
 Means NFacets (whole k) t o c = (p : Orders) → AreOrders t p → k ≡ pos (length p.facets)
 Means Feasible (truth b) t o c = IsTrue b ↔ ((x : Row) × (length x ≡ t.cols) × InSet t x × ¬ (IsZero x))
-Means Bounded (truth b) t o c = IsTrue b ↔ ((x : Row) → length x ≡ t.cols → InSet t x → entry x 0 ≡ pos 0 → IsZero x)
+Means Bounded (truth b) t o c = IsTrue b
+    ↔ ((x : Row) → length x ≡ t.cols → InSet t x → entry x 0 ≡ pos 0 → IsZero x)
 Means Pointed (truth b) t o c = IsTrue b ↔ ((x : Row) → length x ≡ t.cols → InLines t x → IsZero x)
 Means FullDim (truth b) t o c = IsTrue b ↔ IsConeDim t t.cols
 Means Centered (truth b) t o c = IsTrue b ↔ IsCentered t
 Means Simple (truth b) t o c = (p : Orders) → AreOrders t p → IsTrue b ↔ IsSimple t p
 Means Simplicial (truth b) t o c = IsSimplicialTruth t.of t b
-Means VertexSizes (counts ks) t o c = (p : Orders) → AreOrders t p → ks ≡ map (λ v. pos (vanishing p.facets v)) o.rays
-Means FacetSizes (counts ks) t o c = (p : Orders) → AreOrders t p → ks ≡ map (λ a. pos (tight p.rays a)) o.facets
+Means VertexSizes (counts ks) t o c = (p : Orders) → AreOrders t p
+    → ks ≡ map (λ v. pos (vanishing p.facets v)) o.rays
+Means FacetSizes (counts ks) t o c = (p : Orders) → AreOrders t p
+    → ks ≡ map (λ a. pos (tight p.rays a)) o.facets
 Means FarFace (counts ks) t o c = AreFarPlaces o.rays ks
 Means HasseDiagram (lattice ranks) t o c = AreFaces t o.rays ranks
 Means FVector (counts ks) t o c = IsFVector t ks
-Means F2Vector (matrix n rows) t o c = (n ≡ length rows) × IsOfFaces t (λ ranks. rows ≡ map (map (λ k. over_one (pos k))) (f2_of ranks))
+Means F2Vector (matrix n rows) t o c = (n ≡ length rows)
+    × IsOfFaces t (λ ranks. rows ≡ map (map (λ k. over_one (pos k))) (f2_of ranks))
 Means HVector (counts ks) t o c = IsHVector t ks
 Means Graph (edges rows n) t o c = (n ≡ length o.rays) × IsRayGraph t o.rays rows
-Means DualGraph (edges rows n) t o c = (n ≡ length o.facets) × InSomeOrders t (λ p. IsFacetGraph t p.rays o.facets rows)
-Means Diameter (whole k) t o c = InSomeOrders t (λ p. (m : ℕ) × (k ≡ pos m) × IsDiameter (length p.rays) (IsEdge t.cols t.generators t.lines p.rays) m)
-Means DualDiameter (whole k) t o c = InSomeOrders t (λ p. (m : ℕ) × (k ≡ pos m) × IsDiameter (length p.facets) (IsRidge t.cols t.generators t.lines p.rays p.facets) m)
-Means NEdges (whole k) t o c = InSomeOrders t (λ p. (rows : List (List ℕ)) × IsRayGraph t p.rays rows × (k ≡ pos (edge_count rows)))
-Means NRidges (whole k) t o c = InSomeOrders t (λ p. (rows : List (List ℕ)) × IsFacetGraph t p.rays p.facets rows × (k ≡ pos (edge_count rows)))
-Means VertexDegrees (counts ks) t o c = (rows : List (List ℕ)) × IsRayGraph t o.rays rows × (ks ≡ map (λ row. pos (length row)) rows)
+Means DualGraph (edges rows n) t o c = (n ≡ length o.facets)
+    × InSomeOrders t (λ p. IsFacetGraph t p.rays o.facets rows)
+Means Diameter (whole k) t o c =
+    InSomeOrders t (λ p. (m : ℕ) × (k ≡ pos m)
+    × IsDiameter (length p.rays) (IsEdge t.cols t.generators t.lines p.rays) m)
+Means DualDiameter (whole k) t o c =
+    InSomeOrders t (λ p. (m : ℕ) × (k ≡ pos m)
+    × IsDiameter (length p.facets) (IsRidge t.cols t.generators t.lines p.rays p.facets) m)
+Means NEdges (whole k) t o c =
+    InSomeOrders t (λ p. (rows : List (List ℕ)) × IsRayGraph t p.rays rows × (k ≡ pos (edge_count rows)))
+Means NRidges (whole k) t o c =
+    InSomeOrders t (λ p. (rows : List (List ℕ)) × IsFacetGraph t p.rays p.facets rows
+    × (k ≡ pos (edge_count rows)))
+Means VertexDegrees (counts ks) t o c = (rows : List (List ℕ)) × IsRayGraph t o.rays rows
+    × (ks ≡ map (λ row. pos (length row)) rows)
 Means MaximalCones (sets rows n) t o c = (n ≡ length o.rays) × AreConeRays t o.rays o.cones rows
 Means NMaximalCones (whole k) t o c = k ≡ pos (length t.cones)
 Means MaximalConesDims (counts ks) t o c = AreConeDims t o.cones ks
@@ -389,7 +419,8 @@ Means PlacingTriangulation (sets rows n) t o c = (n ≡ length o.rays) × AreSim
 Means Sites (matrix n rows) t o c = RowsAreInOrder t SameDirection t.sites rows
 Means SiteHeights (matrix n rows) t o c = rows ≡ t.heights ∷ []
 Means RegularCells (sets rows n) t o c = (n ≡ length t.sites) × AreCells t.cols t.sites t.heights rows
-Means DelaunayCells (sets rows n) t o c = (n ≡ length t.sites) × AreCells t.cols t.sites (squares t.sites) rows
+Means DelaunayCells (sets rows n) t o c =
+    (n ≡ length t.sites) × AreCells t.cols t.sites (squares t.sites) rows
 Means p v t o c = ⊥
 
 -- the value v of the property p is right: it means what is so, where it is shown the orders that it may speak of
@@ -422,7 +453,8 @@ RightPair Points (matrix n rows) InputLineality (matrix m lines) t = PairGenerat
 RightPair Inequalities (matrix n rows) Equations (matrix m equations) t = PairCutsOut t rows equations
 RightPair p v q w t = Unit {0}
 
--- two facts that are the halves of one pair (POINTS with INPUT_LINEALITY, INEQUALITIES with EQUATIONS) describe the thing
+-- two facts that are the halves of one pair (POINTS with INPUT_LINEALITY, INEQUALITIES with EQUATIONS) describe the
+-- thing
 abbrev pub RightTogether : Thing → Fact → Fact → Type 0
 RightTogether t x y = RightPair x.property x.value y.property y.value t
 

@@ -1,4 +1,5 @@
--- What a client of a kind may read and answer, where an object holds facts. `sub` is the subobject that is asked, if one is.
+-- What a client of a kind may read and answer, where an object holds facts. `sub` is the subobject that is asked, if
+-- one is.
 use Rattle.std.specs.Prelude.{ℕ, ◌≡◌, ◌&&◌, Bool, true, false, IsTrue, not, nat_eq, Option, None, List, [], ◌++◌, filter, map}
 use Rattle.std.specs.List.{All, Contains, list_any}
 use Rattle.pm_types.specs.Things.{Thing}
@@ -34,7 +35,8 @@ is_named facts sub p = list_any (stands_at sub p) facts
 
 -- what the client may read: the values of its sources
 abbrev pub shown : Kind → Option ℕ → List Fact → List Fact
-shown kind sub facts = filter (λ f. has kind.sources f.property && same_place f.place (place_of sub f.property)) facts
+shown kind sub facts =
+    filter (λ f. has kind.sources f.property && same_place f.place (place_of sub f.property)) facts
 
 -- what an answer has of properties that are not held
 abbrev pub missing : Option ℕ → List Fact → List Fact → List Fact
@@ -61,19 +63,26 @@ abbrev pub states_rows : PropertyValue → Bool
 states_rows (matrix n []) = nat_eq n 0
 states_rows v = true
 
--- the answer has exactly the targets, each in its form with n columns (none stated without rows) and canonical, and is right wherever what was read is: for every thing of the type with n columns, and all orders, for which what was read is right and the kind's conditions hold, there are orders, the same unless the kind is fresh in them, for which both together are right
-pub record MayAnswer (of : ObjectType) (n : ℕ) (kind : Kind) (sub : Option ℕ) (read answer : List Fact) : Type 0 where
+-- the answer has exactly the targets, each in its form with n columns (none stated without rows) and canonical, and
+-- is right wherever what was read is: for every thing of the type with n columns, and all orders, for which what was
+-- read is right and the kind's conditions hold, there are orders, the same unless the kind is fresh in them, for
+-- which both together are right
+pub record MayAnswer (of : ObjectType) (n : ℕ) (kind : Kind) (sub : Option ℕ) (read answer : List Fact)
+    : Type 0 where
   pub targets : map (λ f. f.property) answer ≡ members kind.targets
   pub places : All (λ f. f.place ≡ place_of sub f.property) answer
   pub formed : All (λ f. FormsIn of n f.property f.value) answer
   pub stated : All (λ f. IsTrue (states_rows f.value)) answer
-  pub sound : (t : Thing) (o : Orders) → t.of ≡ of → t.cols ≡ n → RightAll read t o → Meets kind t o → RightAnswer kind read answer t o
-  pub canonical : (t : Thing) (o : Orders) → t.of ≡ of → t.cols ≡ n → RightAll read t o → Meets kind t o → All (λ f. IsCanonical kind f.property f.value t) answer
+  pub sound : (t : Thing) (o : Orders) → t.of ≡ of → t.cols ≡ n → RightAll read t o → Meets kind t o
+      → RightAnswer kind read answer t o
+  pub canonical : (t : Thing) (o : Orders) → t.of ≡ of → t.cols ≡ n → RightAll read t o → Meets kind t o
+      → All (λ f. IsCanonical kind f.property f.value t) answer
 
 pub record IsFree (tag : PropId → Bool) (kind : Kind) (held : List Fact) : Type 0 where
   pub none : IsFresh tag kind → (f : Fact) → Contains held f → tag f.property ≡ false
 
--- its sources are held, what it asks for is held so, n is held, and nothing that is held has a tag in which the kind is fresh
+-- its sources are held, what it asks for is held so, n is held, and nothing that is held has a tag in which the kind
+-- is fresh
 pub record MayRun (kind : Kind) (sub : Option ℕ) (n : ℕ) (held : List Fact) : Type 0 where
   pub placed : (f : Fact) → Contains held f → IsPlaced f
   pub ambient : Holds held sub ConeAmbientDim (whole (pos n))
@@ -87,5 +96,7 @@ pub record MayRun (kind : Kind) (sub : Option ℕ) (n : ℕ) (held : List Fact) 
 
 -- where the held facts are right, so are they with what a client may answer there, in orders that it may choose
 abbrev pub RightAnswerIsKept : Type 0
-RightAnswerIsKept = (of : ObjectType) (n : ℕ) (kind : Kind) (sub : Option ℕ) (held answer : List Fact) → MayRun kind sub n held → MayAnswer of n kind sub (shown kind sub held) answer →
-    (t : Thing) (o : Orders) → t.of ≡ of → RightAll held t o → RightAnswer kind held (missing sub held answer) t o
+RightAnswerIsKept = (of : ObjectType) (n : ℕ) (kind : Kind) (sub : Option ℕ) (held answer : List Fact)
+    → MayRun kind sub n held → MayAnswer of n kind sub (shown kind sub held) answer →
+    (t : Thing) (o : Orders) → t.of ≡ of → RightAll held t o
+    → RightAnswer kind held (missing sub held answer) t o

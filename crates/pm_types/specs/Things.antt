@@ -1,4 +1,5 @@
--- What an object describes: a cone, a polytope or a fan, and orders of its rays and facets (Ziegler, Lectures on Polytopes, lectures 1, 2 and 7).
+-- What an object describes: a cone, a polytope or a fan, and orders of its rays and facets (Ziegler, Lectures on
+-- Polytopes, lectures 1, 2 and 7).
 use Rattle.std.specs.Prelude.{ℕ, ◌≡◌, ◌<◌, ◌≤◌, List, [], length}
 use Rattle.pm_vector.specs.Numbers.{Ratio}
 use Rattle.pm_vector.specs.Rows.{Row, ratio_at}
@@ -10,7 +11,9 @@ use lib.IntN.{pos}
 use lib.Signed.{◌<ℤ◌}
 use Rattle.pm_limits.specs.Limits.{most_columns}
 
--- a type, n columns, and finite lists of rows: generators and lines of a cone or polytope, lines and one list of generators for each cone of a fan; for each program at a place its objective, a row of fractions; and sites with their heights, of which only values of polytopes speak
+-- a type, n columns, and finite lists of rows: generators and lines of a cone or polytope, lines and one list of
+-- generators for each cone of a fan; for each program at a place its objective, a row of fractions; and sites with
+-- their heights, of which only values of polytopes speak
 pub record Thing : Type 0 where
   pub of : ObjectType
   pub cols : ℕ

@@ -1,4 +1,5 @@
--- Values of properties, as the definitions see them, and facts: a value of a property, of the object itself or of its program at a place.
+-- Values of properties, as the definitions see them, and facts: a value of a property, of the object itself or of its
+-- program at a place.
 use Rattle.std.specs.Prelude.{ℕ, Bool, List, Option}
 use Rattle.pm_vector.specs.Numbers.{Ratio}
 use Rattle.pm_props.specs.declared.property.PropId.{PropId}

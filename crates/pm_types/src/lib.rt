@@ -1,5 +1,5 @@
-//! Values of properties: their forms, when one is right for a cone, a polytope or a fan, when it is canonical, and what a
-//! client of a kind may answer.
+//! Values of properties: their forms, when one is right for a cone, a polytope or a fan, when it is canonical, and
+//! what a client of a kind may answer. It knows nothing of objects, rules and files.
 #![tactic(auto)]
 
 ghost use Rattle.pm_types.specs.Runs.{RightAnswerIsKept};
@@ -21,8 +21,8 @@ pub use pm_props::{ClientName, Kind, ObjectType, PropId, PropSet, RuleId, ValueK
 pub use tests_of_rows::{are_rows, first_is_below, reads_entries};
 pub use value::{Counts, Sets, Value};
 
-/// Where the facts that an object holds are right, so are they with what a client may answer, in orders that the client
-/// may choose only where its kind is fresh in them.
+/// Where the facts that an object holds are right, so are they with what a client may answer, in orders that the
+/// client may choose only where its kind is fresh in them.
 pub fn law_right_answer_is_kept()
     ensures { RightAnswerIsKept }
 {}

@@ -1,4 +1,5 @@
--- Bases of the span of rows (Hoffman and Kunze, Linear Algebra, sections 1.4 and 2.3 to 2.5), with primitive whole rows.
+-- Bases of the span of rows (Hoffman and Kunze, Linear Algebra, sections 1.4 and 2.3 to 2.5), with primitive whole
+-- rows.
 use Rattle.std.specs.Prelude.{ℕ, ◌≡◌, ◌<◌, ◌↔◌, List, [], length}
 use Rattle.std.specs.List.{slice_index_or}
 use Rattle.pm_vector.specs.Rows.{Row, entry, HasCols}

@@ -62,7 +62,8 @@ pub record SameDirection (v w : Row) : Type 0 where
 abbrev pub ratio_at : List Ratio → ℕ → Ratio
 ratio_at r i = slice_index_or r i (record { num = pos 0; den = pos 1 })
 
--- the whole row x stands for the row r of fractions: p x is q r, entry by entry, for some p, q > 0; all denominators are positive
+-- the whole row x stands for the row r of fractions: p x is q r, entry by entry, for some p, q > 0; all denominators
+-- are positive
 pub record Stands (r : List Ratio) (x : Row) : Type 0 where
   pub p : ℤ
   pub q : ℤ

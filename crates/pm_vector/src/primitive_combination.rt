@@ -51,7 +51,8 @@ fn quotient_at(p: i128, v: &[i128], q: i128, w: &[i128], d: Magnitude, i: usize)
     requires in_w { i < length w.now }
     requires positive { 0 < magnitude_of d }
     requires divisor { magnitude_of d ∣ unsigned_abs (entry (difference p v.now q w.now) i) }
-    ensures quotient { IfSome result (λ z. entry (difference p v.now q w.now) i ≡ pos (magnitude_of d) *ℤ z) }
+    ensures quotient { IfSome result (λ z. entry (difference p v.now q w.now) i
+        ≡ pos (magnitude_of d) *ℤ z) }
     ensures in_range { IfSome result InRange }
     ensures none { IfNone result (HasQuotient (entry (difference p v.now q w.now) i) (magnitude_of d) → ⊥) }
 {
@@ -80,7 +81,8 @@ fn write_quotients(p: i128, v: &mut [i128], q: i128, w: &[i128], d: Magnitude)
     requires divisor { (i : ℕ) → magnitude_of d ∣ unsigned_abs (entry (difference p v.old q w.now) i) }
     requires fit { HaveQuotients (difference p v.old q w.now) (magnitude_of d) (length v.old) }
     ensures length { length v.new ≡ length v.old }
-    ensures quotients { (i : ℕ) → i < length v.old → entry (difference p v.old q w.now) i ≡ pos (magnitude_of d) *ℤ entry v.new i }
+    ensures quotients { (i : ℕ) → i < length v.old
+        → entry (difference p v.old q w.now) i ≡ pos (magnitude_of d) *ℤ entry v.new i }
     ensures in_range { All InRange v.new }
 {
     for i in 0..v.len() {
@@ -93,7 +95,8 @@ fn write_quotients(p: i128, v: &mut [i128], q: i128, w: &[i128], d: Magnitude)
 
 /// A number, or 1 for 0.
 fn at_least_one(g: Magnitude) -> Magnitude
-    ensures { ((magnitude_of g ≡ 0) × (magnitude_of result ≡ 1)) ⊎ ((0 < magnitude_of g) × (magnitude_of result ≡ magnitude_of g)) }
+    ensures { ((magnitude_of g ≡ 0) × (magnitude_of result ≡ 1))
+        ⊎ ((0 < magnitude_of g) × (magnitude_of result ≡ magnitude_of g)) }
 {
     if g.is_zero() {
         return Magnitude::of_digit(1);
@@ -107,7 +110,8 @@ pub fn combine_primitive(p: i128, v: &mut [i128], q: i128, w: &[i128]) -> Result
     requires { length v.old ≡ length w.now }
     ensures primitive { OnOk result (IsPrimitiveOf (difference p v.old q w.now) v.new) }
     ensures in_range { OnOk result (All InRange v.new) }
-    ensures wide { OnErr result ((u : Row) → IsPrimitiveOf (difference p v.old q w.now) u → All InRange u → ⊥) }
+    ensures wide { OnErr result ((u : Row) → IsPrimitiveOf (difference p v.old q w.now) u → All InRange u
+        → ⊥) }
     ensures unchanged { OnErr result (v.new ≡ v.old) }
 {
     let divisor = gcd_of_difference(p, v, q, w);

@@ -14,7 +14,8 @@ fn add_product(sum: i128, a: &[i128], b: &[i128], i: usize) -> Result<i128, Wide
     ensures value { IfOk result (λ r. r ≡ sum +ℤ entry a.now i *ℤ entry b.now i) }
     ensures in_range { IfOk result InRange }
     ensures product_in_range { OnOk result (InRange (entry a.now i *ℤ entry b.now i)) }
-    ensures wide { OnErr result (InRange (entry a.now i *ℤ entry b.now i) → InRange (sum +ℤ entry a.now i *ℤ entry b.now i) → ⊥) }
+    ensures wide { OnErr result (InRange (entry a.now i *ℤ entry b.now i)
+        → InRange (sum +ℤ entry a.now i *ℤ entry b.now i) → ⊥) }
 {
     let product = times(a[i], b[i])?;
     plus(sum, product)

@@ -1,4 +1,5 @@
-//! Weights of rules and costs of chains: pairs of a class and a minor, and their order.
+//! Weights of rules and costs of chains: pairs of a class and a minor, and their order. It knows nothing of rules and
+//! of properties.
 #![tactic(auto)]
 
 ghost use Rattle.std.specs.Prelude.{◌≡◌, ◌+◌, ◌^◌, ◌<◌, ◌↔◌, IsTrue, Some};

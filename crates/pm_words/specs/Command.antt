@@ -15,7 +15,11 @@ demo_rule = record (new_rule (codes "demo")) { long = Some (codes "demo"); actio
 
 -- no program's name before the words, no help and no version
 abbrev pub bare_app : App
-bare_app = on_top (λ s. record s { no_binary_name = true; disable_help_flag = true; disable_version_flag = true }) (new_app (codes "polymake"))
+bare_app = on_top (λ s. record s {
+  no_binary_name = true;
+  disable_help_flag = true;
+  disable_version_flag = true;
+}) (new_app (codes "polymake"))
 
 abbrev pub words_app : App
 words_app = with_rule (with_rule (with_rule bare_app rules_rule) trace_rule) demo_rule

@@ -35,8 +35,10 @@ pub record WordsSay : Type 0 where
   pub joined_trace : words_of (codes "--rules=book-1" ∷ trace_word ∷ []) ≡ Some of_book_traced
   pub first_demo : words_of (demo_word ∷ codes "1" ∷ []) ≡ Some (of_demo 1)
   pub last_demo : words_of (codes "--demo=8" ∷ []) ≡ Some (of_demo 8)
-  pub all_three : words_of (codes "--demo=3" ∷ rules_word ∷ book ∷ trace_word ∷ []) ≡ Some (record of_book_traced { demo = Some 3 })
-  pub all_apart : words_of (trace_word ∷ demo_word ∷ codes "3" ∷ rules_word ∷ book ∷ []) ≡ Some (record of_book_traced { demo = Some 3 })
+  pub all_three : words_of (codes "--demo=3" ∷ rules_word ∷ book ∷ trace_word ∷ [])
+      ≡ Some (record of_book_traced { demo = Some 3 })
+  pub all_apart : words_of (trace_word ∷ demo_word ∷ codes "3" ∷ rules_word ∷ book ∷ [])
+      ≡ Some (record of_book_traced { demo = Some 3 })
 
 pub record WordsSayNothing : Type 0 where
   pub hyphens : words_of (codes "--" ∷ []) ≡ None

@@ -1,4 +1,5 @@
--- What the words mean: three options, each written at most once and in one of its ways, one after another in any order.
+-- What the words mean: three options, each written at most once and in one of its ways, one after another in any
+-- order.
 use Rattle.std.specs.Prelude.{ℕ, ◌+◌, ◌≡◌, ◌≤◌, ◌↔◌, ◌⊎◌, Bool, true, false, List, [], ◌∷◌, ◌++◌, Option, Some, None, codes}
 use Rattle.pm_store.specs.FileWords.{is_file_word}
 use Rattle.pm_words.specs.Words.{WordsSeen, words_of}
@@ -10,7 +11,8 @@ AreTraceWords false words = words ≡ []
 
 -- the words that name the file of the rules, which is a file word, or no file
 abbrev pub AreRulesWords : Option (List ℕ) → List (List ℕ) → Type 0
-AreRulesWords (Some name) words = (is_file_word name ≡ true) × ((words ≡ codes "--rules" ∷ name ∷ []) ⊎ (words ≡ (codes "--rules=" ++ name) ∷ []))
+AreRulesWords (Some name) words = (is_file_word name ≡ true)
+    × ((words ≡ codes "--rules" ∷ name ∷ []) ⊎ (words ≡ (codes "--rules=" ++ name) ∷ []))
 AreRulesWords None words = words ≡ []
 
 -- the digit n
@@ -19,7 +21,8 @@ digit n = (48 + n) ∷ []
 
 -- the words that ask for a demo, by its number from 1 to 8, or for none
 abbrev pub AreDemoWords : Option ℕ → List (List ℕ) → Type 0
-AreDemoWords (Some n) words = (1 ≤ n) × (n ≤ 8) × ((words ≡ codes "--demo" ∷ digit n ∷ []) ⊎ (words ≡ (codes "--demo=" ++ digit n) ∷ []))
+AreDemoWords (Some n) words = (1 ≤ n) × (n ≤ 8)
+    × ((words ≡ codes "--demo" ∷ digit n ∷ []) ⊎ (words ≡ (codes "--demo=" ++ digit n) ∷ []))
 AreDemoWords None words = words ≡ []
 
 -- the three lists one after another, in one of their six orders
@@ -43,4 +46,5 @@ pub record AreOptions (words : List (List ℕ)) (said : WordsSeen) : Type 0 wher
 
 -- words say what such options say, and nothing where they are no such options
 abbrev pub WordsAreOptions : Type 0
-WordsAreOptions = (words : List (List ℕ)) (said : WordsSeen) → words_of words ≡ Some said ↔ AreOptions words said
+WordsAreOptions = (words : List (List ℕ)) (said : WordsSeen) → words_of words ≡ Some said
+    ↔ AreOptions words said

@@ -1,10 +1,12 @@
--- The words of the program, after its name: `--trace`, `--rules NAME` or `--rules=NAME`, and `--demo N` or `--demo=N`, in any order, each at most once.
+-- The words of the program, after its name: `--trace`, `--rules NAME` or `--rules=NAME`, and `--demo N` or
+-- `--demo=N`, in any order, each at most once.
 use Rattle.std.specs.Prelude.{ℕ, ◌-◌, Bool, true, false, ◌&&◌, nat_eq, nat_le, List, [], ◌∷◌, drop, Option, Some, None, is_none, if◌then◌else◌, codes}
 use Rattle.std.specs.List.{starts_with}
 use Rattle.std.specs.Str.{bytes_eq}
 use Rattle.pm_store.specs.FileWords.{is_file_word}
 
--- what words say: the file of the rules, if they name one, whether rounds are traced, and the number of the demo, if they ask for one
+-- what words say: the file of the rules, if they name one, whether rounds are traced, and the number of the demo, if
+-- they ask for one
 pub record WordsSeen : Type 0 where
   pub rules : Option (List ℕ)
   pub trace : Bool
@@ -22,7 +24,8 @@ with_trace (Some said) = if said.trace then None else Some (record said { trace 
 -- the rules of a file NAME beside words that name no rules
 abbrev pub with_rules : List ℕ → Option WordsSeen → Option WordsSeen
 with_rules name None = None
-with_rules name (Some said) = if is_none said.rules && is_file_word name then Some (record said { rules = Some name }) else None
+with_rules name (Some said) = if is_none said.rules
+    && is_file_word name then Some (record said { rules = Some name }) else None
 
 -- the number of a demo: one digit from 1 to 8
 abbrev pub demo_number : List ℕ → Option ℕ

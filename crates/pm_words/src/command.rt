@@ -31,7 +31,8 @@ fn words_command<'a>(alloc: Global) -> Result<Command<'a>, AllocError>
 
 /// The matches of the words.
 fn matches_of<'a>(alloc: Global, words: &'a [String]) -> Result<ArgMatches<'a>, Error>
-    ensures { IfErr result (λ e. are_taken (map string_bytes words.entry.now) ≡ true → kind_of e ≡ ErrorKind.OutOfMemory) }
+    ensures { IfErr result (λ e. are_taken (map string_bytes words.entry.now) ≡ true
+        → kind_of e ≡ ErrorKind.OutOfMemory) }
 {
     let command = words_command(alloc)?;
     command.try_get_matches_from(words)

@@ -1,4 +1,4 @@
-//! The words of the program.
+//! The words of the program. It knows nothing of scripts, books and sessions.
 #![tactic(auto)]
 
 ghost use Rattle.std.specs.Prelude.{◌≡◌, Some, None, IfOk, IsErrOf, map, string_bytes};
@@ -62,8 +62,9 @@ fn owned(alloc: Global, said: Spoken<'_>) -> Result<Words, AllocError>
     })
 }
 
-/// Reads the words after the program's name: `--trace`, `--rules NAME` or `--rules=NAME`, and `--demo N` or `--demo=N`,
-/// in any order, each at most once (`law_words_are_options`), where NAME is a file word and N one digit from 1 to 8.
+/// Reads the words after the program's name: `--trace`, `--rules NAME` or `--rules=NAME`, and `--demo N` or
+/// `--demo=N`, in any order, each at most once (`law_words_are_options`), where NAME is a file word and N one digit
+/// from 1 to 8.
 /// `BadWords` comes exactly where they are no such words.
 pub fn read_words(alloc: Global, words: &[String]) -> Result<Words, WordsFail>
     ensures said { IfOk result (λ w. words_of (map string_bytes words.now) ≡ Some (seen_words w)) }

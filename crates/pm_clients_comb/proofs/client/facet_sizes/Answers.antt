@@ -1,4 +1,4 @@
-use Rattle.pm_client.proofs.ViewLaws.{has_listed, not_fan, source_named}
+use Rattle.pm_client.proofs.ViewLaws.{has_listed, no_fan_of}
 use Rattle.pm_clients_comb.proofs.Sized.{facet_sizes_sound}
 use Rattle.pm_clients_comb.proofs.client.facet_sizes.Goals as goal
 use Rattle.pm_object_type.specs.declared.object_type.ObjectType.TheVariants.{Fan}
@@ -6,10 +6,7 @@ use Rattle.pm_props.specs.declared.property.PropId.TheVariants.{FacetSizes, Vert
 use Rattle.std.proofs.Common.{[], ap, refl, rules, sym, ◌∙◌, ◌∷◌, ◌≡◌}
 
 pub prove-unreachable-requires : goal.prove-unreachable-requires
-prove-unreachable-requires c =
-    let v = c.args.view.now in
-    let fan : c.of.result ≡ Fan = search rules in
-    not_fan v VerticesInFacets c.of.ensures.view (source_named v.kind VerticesInFacets (has_listed _ (VerticesInFacets ∷ []) VerticesInFacets (ap (λ k. k.sources) c.requires.kind))) refl refl (sym c.of.ensures.value ∙ fan)
+prove-unreachable-requires c = let fan : c.of.result ≡ Fan = search rules in no_fan_of c.args.view.now (VerticesInFacets ∷ []) VerticesInFacets c.of.ensures.view (ap (λ k. k.sources) c.requires.kind) refl refl refl (sym c.of.ensures.value ∙ fan)
 
 pub sets_of-requires-clause-source : goal.sets_of-requires-clause-source
 sets_of-requires-clause-source c = has_listed _ (VerticesInFacets ∷ []) VerticesInFacets (ap (λ k. k.sources) c.requires.kind)
@@ -20,6 +17,6 @@ put_value-requires-clause-target c = has_listed _ (FacetSizes ∷ []) FacetSizes
 pub returns-clause-sound : goal.returns-clause-sound
 returns-clause-sound c =
     let v = c.args.view.now in
-    let no_fan = not_fan v VerticesInFacets c.of.ensures.view (source_named v.kind VerticesInFacets (has_listed _ (VerticesInFacets ∷ []) VerticesInFacets (ap (λ k. k.sources) c.requires.kind))) refl refl in
+    let no_fan = no_fan_of c.args.view.now (VerticesInFacets ∷ []) VerticesInFacets c.of.ensures.view (ap (λ k. k.sources) c.requires.kind) refl refl refl in
     facet_sizes_sound v no_fan c.args.draft.now c.put_value.new.draft c.sets_of.result.now.rows c.sets_of.result.now.cols c.sets_of.ensures.value c.sets_of.ensures.forms
     (record { targets = ap (λ k. k.targets) c.requires.kind; empty = c.requires.empty; put = rw (c.from_vec.ensures, c.in_ok-sizes.ensures) at c.in_ok-put_value.ensures.ok })

@@ -1,6 +1,6 @@
 -- The matrix so far is that of the rays so far; its column count is the one of all rows.
 use Rattle.pm_clients_geom.proofs.rays.matrix_of_rays.Given as goal
-use Rattle.pm_clients_geom.specs.Matrices.{cols_over}
+use Rattle.pm_types.specs.Parts.{cols_over}
 use Rattle.pm_clients_geom.specs.Rays.{ArePutRays}
 use Rattle.pm_types.specs.Views.{ratios}
 use Rattle.std.proofs.Common.{map, take, ◌≡◌}

@@ -1,5 +1,5 @@
 use Rattle.pm_rounds.proofs.Measure.{left_to_do}
-use Rattle.pm_rounds.specs.Events.{Reaches, at_rest, configuration, unsettled}
+use Rattle.pm_rounds.specs.Events.{TraceLeads, at_rest, configuration, unsettled}
 use Rattle.pm_object.specs.State.{is_held}
 use Rattle.pm_props.specs.declared.property.PropId.TheVariants.{ConeAmbientDim}
 use Rattle.std.proofs.Common.{true, ◌≡◌}
@@ -8,7 +8,7 @@ use Rattle.pm_rounds.proofs.round.ensure.Given as goal
 
 abbrev pub invariant-loop-alloc : goal.invariant-loop-alloc
 invariant-loop-alloc g l = record {
-  reaches : Reaches l.book l.sub l.asked unsettled
+  reaches : TraceLeads l.book l.sub l.asked unsettled
       (configuration l.fn.object.state (map (λ b. (goal.Client-dyn g (b.vtable, b.value)).tally b.value) l.fn.clients.items)) at_rest
       (configuration l.object.state (map (λ b. (goal.Client-dyn g (b.vtable, b.value)).tally b.value) l.clients.items));
   dimension : is_held ConeAmbientDim l.object.state.held ≡ true;
