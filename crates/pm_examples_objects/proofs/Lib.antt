@@ -1,4 +1,5 @@
 mod Programs
 mod Filing
 mod Whole
+mod LoadedAgain
 mod Reading

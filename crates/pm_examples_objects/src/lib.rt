@@ -3,6 +3,7 @@
 #![tactic(auto)]
 
 ghost use Rattle.pm_examples_objects.specs.Filing.{FilesAreLoaded, ObjectsAreSaved};
+ghost use Rattle.pm_examples_objects.specs.LoadedAgain.{LoadedIsAgain};
 ghost use Rattle.pm_examples_objects.specs.Programs.{NamesArePrograms, NamesHavePlaces, ObjectivesAreGiven, ObjectivesAreTaken, ProgramsAreRefused, ProgramsAreSealed, ValuesArePlaced};
 ghost use Rattle.pm_examples_objects.specs.Reading.{KeysAreRead, PartsAreRead, ProfilesAreRead, RowsAreTested, TypesAreRead};
 ghost use Rattle.pm_examples_objects.specs.Whole.{FilesAreWhole, ObjectsAreAgain};
@@ -85,4 +86,9 @@ pub fn example_whole()
 /// What is loaded again of held values and failures.
 pub fn example_again()
     ensures { ObjectsAreAgain }
+{}
+
+/// Which files of a small cone are loaded again, and which are not.
+pub fn example_loaded_again()
+    ensures { LoadedIsAgain }
 {}

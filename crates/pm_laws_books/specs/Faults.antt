@@ -148,10 +148,12 @@ pub record Differs (kinds : List Kind) (w : Written) : Type 0 where
       × IsWithin kind.must conditions.must × IsWithin kind.must_not conditions.must_not)
 
 -- ---- faults
--- a word with which the words before begin no rules; the end of words that are no rules; a word that does not mean what
+-- a word with which the words before begin no rules; the end of words that are no rules; a word that does not mean
+-- what
 -- it should; a rule that does not agree with its kind
 pub data HasFault (kinds : List Kind) (text : List ℕ) : BookFail → Type 0 where
-  no_such_word : (before : List Token) (t : Token) (after : List Token) → tokens_of text ≡ before ++ t ∷ after
+  no_such_word : (before : List Token) (t : Token) (after : List Token)
+      → tokens_of text ≡ before ++ t ∷ after
       → Begin (texts before) → ¬ (Begin (texts before ++ t.text ∷ [])) → HasFault kinds text (Syntax t.place)
   ends_too_soon : Begin (texts (tokens_of text))
       → ((rules : List Written) → ¬ (AreRules rules (texts (tokens_of text))))

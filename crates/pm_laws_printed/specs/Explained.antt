@@ -34,14 +34,16 @@ told_text told = map (λ x. (x.0, bar_text x.1)) told
 -- the reply that tells a chain is printed of its weight, its rules and its table
 abbrev pub PlansArePrinted : Type 0
 PlansArePrinted = (book : List Rule) (clients : Clients) (o : State) (sub : Option ℕ) (asked : PropSet)
-    (chain : List RuleId) (weight : Cost) (rows : List TableRow) (names : NamesSeen) (trace : Bool) → IsBook book
+    (chain : List RuleId) (weight : Cost) (rows : List TableRow) (names : NamesSeen) (trace : Bool)
+    → IsBook book
     → Explains book clients o sub asked (explained chain weight rows names)
     → IsPlanText book (reply_text trace (explained chain weight rows names)) weight chain rows
 
 -- the verdict on it is that it is least, where the question is the object's and has its barred rules
 abbrev pub PlansAreFoundLeast : Type 0
 PlansAreFoundLeast = (book : List Rule) (clients : Clients) (o : State) (sub : Option ℕ) (asked : PropSet)
-    (chain : List RuleId) (weight : Cost) (rows : List TableRow) (names : NamesSeen) (trace : Bool) → IsBook book
+    (chain : List RuleId) (weight : Cost) (rows : List TableRow) (names : NamesSeen) (trace : Bool)
+    → IsBook book
     → Explains book clients o sub asked (explained chain weight rows names) → (q : Question)
     → Asks o sub asked q → AreBarred book clients o sub q.barred.items → (v : Verdict)
     → Judges book q (reply_text trace (explained chain weight rows names)) v → v ≡ verdict.Least weight

@@ -1,4 +1,5 @@
-//! What `explain` prints is read by the checker of printed plans, which knows nothing of the machine that prints it: the
+//! What `explain` prints is read by the checker of printed plans, which knows nothing of the machine that prints it:
+//! the
 //! text is that of a printed plan or refusal, and it is found to prove itself. It has no code.
 #![tactic(auto)]
 
