@@ -19,6 +19,7 @@ use Rattle.pm_incidence.specs.FromSets as from_sets
 use Rattle.pm_incidence.specs.Thinning.{IsFacetsFail, IsThinFail, IsWideReduction, half_spaces}
 use Rattle.pm_incidence.specs.declared.fails.ThinFail.{ThinFail}
 use Rattle.pm_incidence.specs.declared.fails.ThinFail.TheVariants as thinning
+use Rattle.pm_limits.specs.Limits.{most_rows}
 use Rattle.pm_elim.specs.EliminationSteps.{EliminationStep}
 use Rattle.pm_dd.specs.HullRefusals.{IsShownOnParts}
 use Rattle.pm_object.specs.Reading.{ViewSeen}
@@ -38,7 +39,7 @@ use Rattle.pm_simplex.specs.declared.fails.LpFail.TheVariants as program
 use Rattle.std.proofs.Common.{ap, inl, inr, refl, subst, sym, true, ◌∙◌}
 use Rattle.std.proofs.lemmas.List.{append-nil}
 use Rattle.std.specs.List.{Contains}
-use Rattle.std.specs.Prelude.{IsTrue, List, [], ℕ, ◌++◌, ◌∷◌, ◌≡◌, ◌⊎◌}
+use Rattle.std.specs.Prelude.{IsTrue, List, [], length, ℕ, ◌++◌, ◌∷◌, ◌≡◌, ◌≤◌, ◌⊎◌}
 
 -- the client takes the row list
 abbrev pub TakesRowList : ViewSeen → Type 0
@@ -172,12 +173,12 @@ module _ (v : ViewSeen) (thinning_takes : eliminated_by v.kind.name ≡ flat_row
   fails_by_points L G A thinning.Memory l g a none h = tt
 
   -- INEQUALITIES by VERTICES
-  pub fails_by_inequalities : IsTrue (has_way v.kind.name facet_count) → (E A V : List Row) (f : ThinFail) → AreRowsOf v Equations E → AreRowsOf v Inequalities A → AreRowsOf v Vertices V → IsFacetsFail v.of v.cols A E V f → FailsRightly v (fail_of_thin f)
-  fails_by_inequalities named E A V (thinning.Wide (evidence.E1 step)) e a g h =
+  pub fails_by_inequalities : IsTrue (has_way v.kind.name facet_count) → (E A V : List Row) (f : ThinFail) → AreRowsOf v Equations E → AreRowsOf v Inequalities A → AreRowsOf v Vertices V → length A ≤ most_rows → IsFacetsFail v.of v.cols A E V f → FailsRightly v (fail_of_thin f)
+  fails_by_inequalities named E A V (thinning.Wide (evidence.E1 step)) e a g few h =
       inl (wide_reduction E (half_spaces v.of v.cols A) V
       (record { first = Equations; second = Inequalities; other = Vertices; parts = refl; told = refl; read = halves_read v E A e a; others = g })
       step h)
-  fails_by_inequalities named E A V (thinning.Wide (evidence.E4 x y)) e a g h =
+  fails_by_inequalities named E A V (thinning.Wide (evidence.E4 x y)) e a g few h =
       let some : IsZero y → ⊥ = λ z. h.wide (zero_stays y x z) in
       inl (record {
         named = takes_products;
@@ -185,10 +186,10 @@ module _ (v : ViewSeen) (thinning_takes : eliminated_by v.kind.name ≡ flat_row
         half_space = elim (one_of A E y h.generator) [ inl c ↦ half_space_row v Inequalities A y a refl c some | inr c ↦ half_space_row v Equations E y e refl c some ];
         wide = λ s. h.wide (stays_turned x y s);
       })
-  fails_by_inequalities named E A V (thinning.Wide w) e a g h = absurd h
-  fails_by_inequalities named E A V (thinning.Many (evidence.E5Rows places)) e a g h = record { named = named; equations = E; inequalities = A; reads_equations = e; reads_inequalities = a; shown = h }
-  fails_by_inequalities named E A V (thinning.Many w) e a g h = absurd h
-  fails_by_inequalities named E A V thinning.Memory e a g h = tt
+  fails_by_inequalities named E A V (thinning.Wide w) e a g few h = absurd h
+  fails_by_inequalities named E A V (thinning.Many (evidence.E5Rows places)) e a g few h = record { named = named; equations = E; inequalities = A; reads_equations = e; reads_inequalities = a; shown = record { many = h.count; facets = h.among_few few } }
+  fails_by_inequalities named E A V (thinning.Many w) e a g few h = absurd h
+  fails_by_inequalities named E A V thinning.Memory e a g few h = tt
 
 -- ---- linear programs
 -- whether there is a point

@@ -1,5 +1,5 @@
 -- Where all half-spaces are kept by rays of the cone that they describe, each is a facet row, and no two are alike.
-use Rattle.std.specs.Prelude.{ℕ, zero, suc, ◌+◌, ◌-◌, ◌≡◌, ◌<◌, ◌≤◌, ◌↔◌, Bool, List, [], ◌∷◌, get_or, length, take}
+use Rattle.std.specs.Prelude.{ℕ, zero, suc, ◌+◌, ◌-◌, ◌≡◌, ◌<◌, ◌≤◌, ◌↔◌, ◌++◌, Bool, List, [], ◌∷◌, get_or, length, take}
 use Rattle.std.specs.List.{All, AllPairs}
 use Rattle.std.proofs.Common.{arith, inl, inr, subst, sym, ◌∙◌}
 use Rattle.std.proofs.lemmas.Int.{ints}
@@ -14,18 +14,22 @@ use Rattle.pm_vector.specs.Bases.{row_at}
 use Rattle.pm_bits.specs.Sets.{IsSubset}
 use Rattle.pm_dd.specs.Fronts.{HalfSpaces}
 use Rattle.pm_dd.specs.Tables.{zero_set}
+use Rattle.pm_dd.specs.Fronts.{both_signs}
 use Rattle.pm_dd.proofs.Description.{used}
+use Rattle.pm_dd.proofs.Fronts.{signs_cut_out}
 use Rattle.pm_dd.proofs.StepLaws.{at_place, place_of}
 use Rattle.pm_geom.specs.Cones.{CutOut, InLineality, IsFacetRow, IsValid, MultipleModulo, SameModulo}
 use Rattle.pm_geom.proofs.Facets.{dot-opposite, opposite-dot}
+use Rattle.pm_geom.proofs.Reduce.{extreme_as, same_modulo_as}
 use Rattle.pm_geom.proofs.Polar.{cols_at, cut_at, cut_from, farkas, membership_decided}
 use Rattle.pm_incidence.proofs.Described.{described, described_inside, half_cols, half_length}
 use Rattle.pm_incidence.proofs.Polarity.{cut_valid, valid_cut}
+use Rattle.pm_incidence.proofs.Thinning.{kept_apart, kept_extreme}
 use Rattle.pm_incidence.proofs.Thinned.{thin_generators, thinned_length}
 use Rattle.pm_dd.proofs.MixedLaws.{generators_as}
 use Rattle.pm_geom.specs.Generators.{AreGenerators}
 use Rattle.std.proofs.lemmas.List.{take_all}
-use Rattle.pm_incidence.specs.Thinning.{Agree, AreManyFacets, AreSortedThinned, AreThinPlaces, AreZeroSets, HasPointAmong, IsKeptSet, MarkFull, half_spaces}
+use Rattle.pm_incidence.specs.Thinning.{Agree, AreManyFacetsBy, AreSortedThinned, AreThinPlaces, AreZeroSets, HasPointAmong, IsKeptSet, MarkFull, half_spaces}
 use Rattle.pm_object_type.specs.declared.object_type.ObjectType.{ObjectType}
 use Rattle.pm_types.specs.Right.{CutsOutOf}
 use lib.IntN.{ℤ, pos}
@@ -215,30 +219,74 @@ module _ (of : ObjectType) (n : ℕ) (some : 0 < n) (A E V B : List Row) (P ks :
   pub places_within : All (λ (p : ℕ). p < length (half_spaces of n A)) ks
   places_within i d l = let q = k.kept.each i d l in let e = k.zeros.as_many in let w = q.0 in omega arith
 
-  pub many_facets : HasPointAmong of V → All (HalfSpaces E (half_spaces of n A)) V → length A ≤ most_rows → most_rows < length ks → AreManyFacets of n A E ks
-  many_facets point all few many = record {
-    many = many;
-    facets = record {
-      within = places_within;
-      facets = λ G L hG hL cut. All_among (λ (p : ℕ). IsFacetRow n G L (row_at (half_spaces of n A) p)) ks (λ p i. facet_row n (half_spaces of n A) E V halves hE hV inside k.sets k.marks k.zeros k.marked every G L hG hL (same G L hG hL cut) p (among_All (λ (q : ℕ). q < length (half_spaces of n A)) i places_within));
-      once = λ G L hG hL cut i j d l m. facets_apart n (half_spaces of n A) E V halves hE hV inside k.sets k.marks k.zeros k.marked every G L hG hL (same G L hG hL cut) (get_or ks i d) (get_or ks j d) (k.kept.ascending i j d l m) (places_within j d m);
-    };
-  }
-    where
-      halves : HasCols n (half_spaces of n A)
-      halves = half_cols of n A hA
+  -- all half-spaces are kept, or V generates with K what is cut out
+  module _ (point : HasPointAmong of V) (G L : List Row) (hG : HasCols n G) (hL : HasCols n L) (cut : CutsOutOf of n (InCone G L) A E) where
+    halves : HasCols n (half_spaces of n A)
+    halves = half_cols of n A hA
 
-      inside : (v : Row) → Among v V → HalfSpaces E (half_spaces of n A) v
-      inside v i = among_All (HalfSpaces E (half_spaces of n A)) i all
+    same_inside : All (HalfSpaces E (half_spaces of n A)) V → (x : Row) → length x ≡ n → HalfSpaces E (half_spaces of n A) x ↔ InCone G L x
+    same_inside all = described_inside n some G L A E hG hL of V hV (λ v i. among_All (HalfSpaces E (half_spaces of n A)) i all) point cut
 
+    -- at most as many half-spaces as kept places
+    module _ (all : All (HalfSpaces E (half_spaces of n A)) V) (few : length (half_spaces of n A) ≤ length ks) where
       every : (i : ℕ) → i < length (half_spaces of n A) → IsKeptSet k.sets k.marks i
       every i l =
-          let f = half_length of n A in
-          let w = all_places (length (half_spaces of n A)) ks k.kept.ascending places_within (omega arith) i l in
+          let w = all_places (length (half_spaces of n A)) ks k.kept.ascending places_within few i l in
           subst (λ (j : ℕ). IsKeptSet k.sets k.marks j) w.1 (k.kept.each i 0 w.0).1
 
-      same : (G L : List Row) → HasCols n G → HasCols n L → CutsOutOf of n (InCone G L) A E → (x : Row) → length x ≡ n → HalfSpaces E (half_spaces of n A) x ↔ InCone G L x
-      same G L hG hL cut = described_inside n some G L A E hG hL of V hV inside point cut
+      facet_of_all : (p : ℕ) → p < length (half_spaces of n A) → IsFacetRow n G L (row_at (half_spaces of n A) p)
+      facet_of_all p l = facet_row n (half_spaces of n A) E V halves hE hV (λ v i. among_All (HalfSpaces E (half_spaces of n A)) i all) k.sets k.marks k.zeros k.marked every G L hG hL (same_inside all) p l
+
+      apart_of_all : (i j : ℕ) → i < j → j < length (half_spaces of n A) → ¬ (SameModulo n (IsValid n G L) (row_at (half_spaces of n A) i) (row_at (half_spaces of n A) j))
+      apart_of_all i j l lj = facets_apart n (half_spaces of n A) E V halves hE hV (λ v i. among_All (HalfSpaces E (half_spaces of n A)) i all) k.sets k.marks k.zeros k.marked every G L hG hL (same_inside all) i j l lj
+
+    -- V generates
+    module _ (K : List Row) (hK : HasCols n K) (by_rays : CutsOutOf of n (InCone V K) A E) where
+      same : (x : Row) → length x ≡ n → HalfSpaces E (half_spaces of n A) x ↔ InCone V K x
+      same = described n some V K A E hV hK of point by_rays
+
+      inside : All (HalfSpaces E (half_spaces of n A)) V
+      inside = All_among (HalfSpaces E (half_spaces of n A)) V (λ v i. (same v (cols_at i hV)).1 (in_generator i))
+
+      agree : Agree n (half_spaces of n A) E V K
+      agree = halves_agree n (half_spaces of n A) E halves hE V K hV hK same
+
+      abbrev Cut : Row → Type 0
+      Cut = CutOut (both_signs K ++ V)
+
+      valid_of_cut : (x : Row) → length x ≡ n → Cut x → IsValid n G L x
+      valid_of_cut x lx h =
+          let v = cut_valid n V K hV hK x lx ((signs_cut_out K V x).0 h) in
+          record { cols = lx; holds = λ y ly i. v.holds y ly ((same y ly).0 ((same_inside inside y ly).1 i)) }
+
+      cut_of_valid : (x : Row) → length x ≡ n → IsValid n G L x → Cut x
+      cut_of_valid x lx h = (signs_cut_out K V x).1 (valid_cut n V K hV hK x lx (record { cols = lx; holds = λ y ly i. h.holds y ly ((same_inside inside y ly).0 ((same y ly).1 i)) }))
+
+      facet_by : (p : ℕ) → p < length (half_spaces of n A) → IsKeptSet k.sets k.marks p → IsFacetRow n G L (row_at (half_spaces of n A) p)
+      facet_by p l t = extreme_as n Cut (IsValid n G L) valid_of_cut cut_of_valid (kept_extreme n (half_spaces of n A) E V K halves hE hV agree k.sets k.marks k.zeros k.marked p l t)
+
+      apart_by : (i j : ℕ) → i < j → j < length (half_spaces of n A) → IsKeptSet k.sets k.marks i → IsKeptSet k.sets k.marks j → ¬ (SameModulo n (IsValid n G L) (row_at (half_spaces of n A) i) (row_at (half_spaces of n A) j))
+      apart_by i j l lj ki kj s = kept_apart n (half_spaces of n A) E V K halves hE hV agree k.sets k.marks k.zeros k.marked i j l lj ki kj (same_modulo_as n (IsValid n G L) Cut cut_of_valid valid_of_cut s)
+
+  pub many_facets : HasPointAmong of V → All (HalfSpaces E (half_spaces of n A)) V → most_rows < length ks → AreManyFacetsBy of n A E V ks
+  many_facets point all many = record {
+    count = many;
+    among_few = λ few.
+        let f = half_length of n A in
+        let fewer : length (half_spaces of n A) ≤ length ks = omega arith in
+        record {
+          within = places_within;
+          facets = λ G L hG hL cut. All_among (λ (p : ℕ). IsFacetRow n G L (row_at (half_spaces of n A) p)) ks (λ p i. facet_of_all point G L hG hL cut all fewer p (among_All (λ (q : ℕ). q < length (half_spaces of n A)) i places_within));
+          once = λ G L hG hL cut i j d l m. apart_of_all point G L hG hL cut all fewer (get_or ks i d) (get_or ks j d) (k.kept.ascending i j d l m) (places_within j d m);
+        };
+    generated = λ K hK by_rays. record {
+      within = places_within;
+      facets = λ G L hG hL cut i d l. facet_by point G L hG hL cut K hK by_rays (get_or ks i d) (places_within i d l) (k.kept.each i d l).1;
+      once = λ G L hG hL cut i j d l m.
+          let li : i < length ks = omega arith in
+          apart_by point G L hG hL cut K hK by_rays (get_or ks i d) (get_or ks j d) (k.kept.ascending i j d l m) (places_within j d m) (k.kept.each i d li).1 (k.kept.each j d m).1;
+    };
+  }
 
   -- the taken places are within, and few
   pub taken_within : (c : ℕ) → c ≤ length ks → All (λ (p : ℕ). p < length (half_spaces of n A)) (take c ks)

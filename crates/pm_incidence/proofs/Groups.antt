@@ -1,5 +1,5 @@
 -- The rows that the marks of full zero sets take: those on which every inequality vanishes.
-use Rattle.std.specs.Prelude.{ℕ, suc, ◌^◌, ◌≡◌, ◌<◌, ◌&&◌, Bool, true, false, IsTrue, List, [], ◌∷◌, ◌++◌, filter, get_or, length, unsigned_abs}
+use Rattle.std.specs.Prelude.{ℕ, suc, ◌^◌, ◌≡◌, ◌<◌, ◌≤◌, ◌&&◌, Bool, true, false, IsTrue, List, [], ◌∷◌, ◌++◌, filter, get_or, length, unsigned_abs}
 use Rattle.std.proofs.Common.{ap, arith, eqb, inl, refl, subst, sym, ◌∙◌}
 use Rattle.std.proofs.lemmas.Bool.{eq-eqb, eqb-true}
 use Rattle.std.proofs.lemmas.Int.{ints}
@@ -78,7 +78,7 @@ module _ (G A : List Row) (Z : List (List Bool)) (marks : List Bool) (z : AreZer
   pub group_cols : (n : ℕ) (L X : List Row) → HasCols n G → HasCols n L → X ≡ L ++ rows_marked true marks G → HasCols n X
   group_cols n L X hG hL e = rw e (all_append (λ (x : Row). length x ≡ n) L (rows_marked true marks G) hL (marked_cols n marks G hG))
 
-  pub group_few : (L X : List Row) → length G < 2 ^ 30 → length L < 2 ^ 30 → X ≡ L ++ rows_marked true marks G → length X < 2 ^ 32
+  pub group_few : (L X : List Row) → length G ≤ 2 ^ 30 → length L < 2 ^ 30 → X ≡ L ++ rows_marked true marks G → length X < 2 ^ 32
   group_few L X fG fL e =
       let many = marked_lengths marks G (m.as_many ∙ z.as_many) in
       rw (e, length-append L (rows_marked true marks G)) (omega arith)

@@ -8,18 +8,19 @@ use Rattle.pm_vector.specs.Bases.{row_at}
 use Rattle.pm_bits.specs.Sets.{IsSubset, has}
 use Rattle.pm_dd.specs.Fronts.{HalfSpaces}
 use Rattle.pm_dd.specs.Tables.{IsZeroSet, zero_set}
-use Rattle.pm_geom.specs.Cones.{IsFacetRow, IsValid, SameModulo}
+use Rattle.pm_geom.specs.Cones.{CutOut, IsFacetRow, IsValid, SameModulo}
 use Rattle.pm_incidence.proofs.Described.{described_inside}
 use Rattle.pm_incidence.proofs.FacetPlaces.{facet_row}
 use Rattle.pm_incidence.proofs.Orthant.{orthant_few, orthant_many}
 use Rattle.pm_incidence.specs.ThinExamples.{FacetPlacesAreRead, half}
+use Rattle.pm_limits.specs.Limits.{most_rows}
 use Rattle.pm_incidence.specs.Thinning.{AreFacetPlaces, AreZeroSets, IsFull, IsKeptSet, MarkFull}
 use Rattle.pm_object_type.specs.declared.object_type.ObjectType.TheVariants.{Cone, Polytope}
 use Rattle.pm_types.specs.Right.{CutsOutOf, Solves}
 use Rattle.std.proofs.Common.{arith, refl, sym, true≢false}
 use Rattle.std.proofs.lemmas.Int.{ints}
 use Rattle.std.specs.List.{All}
-use Rattle.std.specs.Prelude.{IsTrue, List, [], false, get_or, length, suc, zero, ℕ, ◌∷◌, ◌≡◌, ◌<◌, ◌≤◌, ◌↔◌}
+use Rattle.std.specs.Prelude.{IsTrue, List, [], false, get_or, length, replicate, suc, zero, ℕ, ◌∷◌, ◌≡◌, ◌<◌, ◌≤◌, ◌↔◌}
 use lib.IntN.{pos, ℤ}
 use lib.Signed.{lt_z_yes, ◌<ℤ◌, ◌≤ℤ◌}
 
@@ -69,6 +70,22 @@ itself_modulo = record { p = pos 1; k = pos 1; w = zero_row; cols = refl; p_posi
     at : (i : ℕ) → entry (times (pos 1) (pos 1 ∷ [])) i ≡ entry (plus (times (pos 1) (pos 1 ∷ [])) zero_row) i
     at zero = refl
     at (suc i) = refl
+
+-- a row named again and again
+repeated : (rest : List Row) (n : ℕ) → 1 < n → CutsOutOf Cone 1 (InCone half []) ((pos 1 ∷ []) ∷ rest) [] → ¬ (AreFacetPlaces Cone 1 ((pos 1 ∷ []) ∷ rest) [] (replicate n 0))
+repeated rest zero l cut p = absurd (omega arith)
+repeated rest (suc zero) l cut p = absurd (omega arith)
+repeated rest (suc (suc n)) l cut p = p.once half [] (refl, tt) tt cut 0 1 0 (omega arith) (omega arith) itself_modulo
+
+copies_cut : (k : ℕ) (x : Row) → pos 0 ≤ℤ dot (pos 1 ∷ []) x → CutOut (replicate k (pos 1 ∷ [])) x
+copies_cut zero x h = tt
+copies_cut (suc k) x h = (h, copies_cut k x h)
+
+on_many : (k : ℕ) → CutsOutOf Cone 1 (InCone half []) (replicate (suc k) (pos 1 ∷ [])) []
+on_many k x l = (
+  λ h. let s = (on_half x l).0 h in record { inequalities = (s.inequalities.0, copies_cut k x s.inequalities.0); equations = s.equations },
+  λ s. (on_half x l).1 (record { inequalities = (s.inequalities.0, tt); equations = s.equations }),
+)
 
 twice : ¬ (AreFacetPlaces Cone 1 half [] (0 ∷ 0 ∷ []))
 twice p = p.once half [] (refl, tt) tt on_half 0 1 0 (omega arith) (omega arith) itself_modulo
@@ -139,9 +156,11 @@ facet_places_are_read = record {
   zero = vanishing;
   far = far;
   few = λ m. let l = m.many in omega arith;
-  few_fail = λ m. let l = m.many in omega arith;
+  few_fail = λ m. let l = m.count in omega arith;
   many_by_product = λ h. h;
   many = λ n l. orthant_many n l;
-  many_fail = λ n V l. orthant_many n l;
+  repeated_fail = λ n V l m. repeated [] n (omega arith) on_half (m.among_few (omega arith));
+  repeated_by_many = λ k n l m. repeated (replicate k (pos 1 ∷ [])) n (omega arith) (on_many k) (m.generated [] tt (on_many k));
+  many_fail = λ n V l. let o = orthant_many n l in record { count = o.many; among_few = λ few. o.facets; generated = λ K hK cut. o.facets };
   not_many = λ n l m. orthant_few n l m;
 }

@@ -10,7 +10,7 @@ use Rattle.pm_incidence.specs.Thinning.{AreFacetPlaces, AreKept, AreManyFacets, 
 use Rattle.pm_incidence.specs.declared.fails.ThinFail.TheVariants.{Many, Memory, Wide}
 use Rattle.pm_object_type.specs.declared.object_type.ObjectType.TheVariants.{Cone, Fan, Polytope}
 use Rattle.std.specs.List.{range_with_len}
-use Rattle.std.specs.Prelude.{ℕ, ◌-◌, ◌<◌, ◌≤◌, ◌^◌, ◌≡◌, Bool, List, [], ◌∷◌, false, map, true}
+use Rattle.std.specs.Prelude.{ℕ, ◌-◌, ◌<◌, ◌≤◌, ◌^◌, ◌≡◌, Bool, List, [], ◌∷◌, false, map, replicate, suc, true}
 use lib.IntN.{negsuc, pos}
 use Rattle.pm_limits.specs.Limits.{most_rows}
 
@@ -140,6 +140,11 @@ pub record FacetPlacesAreRead : Type 0 where
   -- one facet is not too many, and other evidence says nothing of facets
   pub few : ¬ (AreManyFacets Polytope 1 [] [] (0 ∷ []))
   pub few_fail : ¬ (IsFacetsFail Polytope 1 [] [] half (Many (E5Rows (0 ∷ []))))
+  -- nor is one facet named again and again, of a half line by one row or by many
+  pub repeated_fail : (n : ℕ) (V : List Row) → most_rows < n
+      → ¬ (IsFacetsFail Cone 1 half [] V (Many (E5Rows (replicate n 0))))
+  pub repeated_by_many : (m n : ℕ) → most_rows < n
+      → ¬ (IsFacetsFail Cone 1 (replicate (suc m) (pos 1 ∷ [])) [] half (Many (E5Rows (replicate n 0))))
   pub many_by_product : ¬ (IsFacetsFail Polytope 1 [] [] half (Many (E4 large larger)))
   -- with most_rows inequalities and the far face there are too many, with one inequality fewer there are not
   pub many : (n : ℕ) → most_rows < n → AreManyFacets Polytope n (orthant n) [] (range_with_len 0 n)

@@ -97,12 +97,19 @@ pub record AreManyFacets (of : ObjectType) (n : ℕ) (A E : List Row) (places : 
   pub many : most_rows < length places
   pub facets : AreFacetPlaces of n A E places
 
+-- there are more than most_rows of them where there are at most most_rows inequalities, and among any number where the
+-- rays V, with some lines, generate what is cut out
+pub record AreManyFacetsBy (of : ObjectType) (n : ℕ) (A E V : List Row) (places : List ℕ) : Type 0 where
+  pub count : most_rows < length places
+  pub among_few : length A ≤ most_rows → AreFacetPlaces of n A E places
+  pub generated : (K : List Row) → HasCols n K → CutsOutOf of n (InCone V K) A E → AreFacetPlaces of n A E places
+
 -- so a refusal of thinned half-spaces shows: V and L generate the cone that the half-spaces A and equations E
 -- describe; E4 names the row of V first
 abbrev pub IsFacetsFail : ObjectType → ℕ → List Row → List Row → List Row → ThinFail → Type 0
 IsFacetsFail of n A E V (Wide (E1 step)) = IsWideReduction n (half_spaces of n A) E V step
 IsFacetsFail of n A E V (Wide (E4 first second)) = IsWideIncidence (A ++ E) V second first
-IsFacetsFail of n A E V (Many (E5Rows places)) = AreManyFacets of n A E places
+IsFacetsFail of n A E V (Many (E5Rows places)) = AreManyFacetsBy of n A E V places
 IsFacetsFail of n A E V (Wide e) = ⊥
 IsFacetsFail of n A E V (Many e) = ⊥
 IsFacetsFail of n A E V Memory = Unit {0}

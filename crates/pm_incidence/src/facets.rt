@@ -127,14 +127,13 @@ fn kept_halves(
     requires row_cols { HasCols cols rows.now }
     requires equation_cols { HasCols cols equations.now }
     requires ray_cols { HasCols cols rays.now }
-    requires few_rows { length rows.now ≤ MOST_ROWS }
+    requires few_rows { length rows.now < 2 ^ 30 }
     requires few_equations { length equations.now < 2 ^ 30 }
     requires some_columns { 0 < cols }
     requires few_columns { cols < 2 ^ 30 }
     requires halves { halves.now ≡ half_spaces of cols rows.now }
     ensures kept { IfOk result (λ k.
         AreThinPlaces cols halves.now equations.now rays.now k.basis.rows k.basis.pivots k.places.items) }
-    ensures few { IfOk result (λ k. length k.places.items ≤ MOST_ROWS + 1) }
     ensures failed { IfErr result (IsFacetsFail of cols rows.now equations.now rays.now) }
 {
     match kept_of(alloc, cols, halves, equations, rays, wide) {
@@ -169,7 +168,7 @@ fn taken(
     requires row_cols { HasCols cols rows.now }
     requires equation_cols { HasCols cols equations.now }
     requires ray_cols { HasCols cols rays.now }
-    requires few_rows { length rows.now ≤ MOST_ROWS }
+    requires few_rows { length rows.now < 2 ^ 30 }
     requires some_columns { 0 < cols }
     requires point { HasPointAmong of rays.now }
     requires kept { AreThinPlaces cols (half_spaces of cols rows.now) equations.now rays.now
@@ -198,7 +197,8 @@ fn taken(
 /// The facet rows are primitive, with zeros in the pivot columns of that basis, each once and in lexicographic order;
 /// there are at most `MOST_ROWS` of them.
 /// `Wide` only with evidence: E1 on the rows that vanish and then the reduced row, E4 on a ray and a half-space or
-/// equation. `Many` only with more than `MOST_ROWS` facet rows among the half-spaces (E5).
+/// equation. `Many` only with more than `MOST_ROWS` facet rows among the half-spaces (E5): of more than `MOST_ROWS`
+/// half-spaces, where the rays generate the thing.
 /// With `wide` the eliminations are worked by wide numbers where those of the range do not suffice; a refusal is
 /// still one of the range alone.
 pub fn facets_by_incidence(
@@ -214,7 +214,7 @@ pub fn facets_by_incidence(
     requires row_cols { HasCols cols rows.now }
     requires equation_cols { HasCols cols equations.now }
     requires ray_cols { HasCols cols g.now.rays.items }
-    requires few_rows { length rows.now ≤ MOST_ROWS }
+    requires few_rows { length rows.now < 2 ^ 30 }
     requires few_equations { length equations.now < 2 ^ 30 }
     requires some_columns { 0 < cols }
     requires few_columns { cols < 2 ^ 30 }

@@ -71,7 +71,7 @@ pub(crate) fn kept_of(
     requires row_cols { HasCols cols rows.now }
     requires line_cols { HasCols cols lines.now }
     requires cut_cols { HasCols cols cuts.now }
-    requires few_rows { length rows.now < 2 ^ 30 }
+    requires few_rows { length rows.now ≤ 2 ^ 30 }
     requires few_lines { length lines.now < 2 ^ 30 }
     requires few_columns { cols < 2 ^ 30 }
     ensures kept { IfOk result (λ k.

@@ -14,4 +14,4 @@ pub returns-then-inside-clause-failed : goal.returns-then-inside-clause-failed
 returns-then-inside-clause-failed c =
     let many = c.if-len-le-MOST_ROWS.false in
     let e = c.len.ensures in
-    rw (c.from_vec.ensures, c.in_ok-places.ensures, c.deref.ensures.value) (many_facets c.args.of c.args.cols c.requires.some_columns c.args.rows.now c.args.equations.now c.args.rays.now c.args.kept.now.basis.rows c.args.kept.now.basis.pivots c.args.kept.now.places.items c.requires.row_cols c.requires.equation_cols c.requires.ray_cols c.requires.kept c.requires.point (c.in_ok-inside.ensures.inside.0 c.if-inside.true) c.requires.few_rows (omega arith))
+    rw (c.from_vec.ensures, c.in_ok-places.ensures, c.deref.ensures.value) (many_facets c.args.of c.args.cols c.requires.some_columns c.args.rows.now c.args.equations.now c.args.rays.now c.args.kept.now.basis.rows c.args.kept.now.basis.pivots c.args.kept.now.places.items c.requires.row_cols c.requires.equation_cols c.requires.ray_cols c.requires.kept c.requires.point (c.in_ok-inside.ensures.inside.0 c.if-inside.true) (omega arith))
