@@ -9,20 +9,20 @@ use Rattle.pm_weights.specs.declared.Cost.{Cost}
 use Rattle.pm_weights.specs.Weights.{IsBelow, IsAtMost}
 use Rattle.pm_weights.proofs.CostOrder.{at_most_itself, at_most_trans, not_below_and_at_most, at_most_or_below}
 use Rattle.pm_rules.specs.declared.table.TableRow.{TableRow}
-use Rattle.pm_rules.specs.Certificates.{HasRow, IsBefore}
+use Rattle.pm_rules.specs.Certificates.{HasRow, IsTableRowBefore}
 use Rattle.pm_rules.proofs.RowOrder.{both_at_most, before_at_most, before_trans, below_itself}
 use Rattle.pm_cert.specs.Outside.{IsOutside}
 
 -- ---- two parts of a list
 module _ (rows : List TableRow) (n : ℕ) (within : n ≤ length rows) where
-  pub front_in_order : AllPairs IsBefore rows → AllPairs IsBefore (take n rows)
+  pub front_in_order : AllPairs IsTableRowBefore rows → AllPairs IsTableRowBefore (take n rows)
   front_in_order h i j d l k =
       let below : j < n = omega (arith, k, length-take-le n rows within) in
       let first = get_or-take n rows i d (omega arith) in
       let second = get_or-take n rows j d below in
       rw (first, second) (h i j d l (omega arith))
 
-  pub back_in_order : AllPairs IsBefore rows → AllPairs IsBefore (drop n rows)
+  pub back_in_order : AllPairs IsTableRowBefore rows → AllPairs IsTableRowBefore (drop n rows)
   back_in_order h i j d l k =
       let below : n + j < length rows = omega (arith, k, length-drop n rows) in
       rw (get_or-drop n rows i d, get_or-drop n rows j d) (h (n + i) (n + j) d (omega arith) below)
@@ -45,29 +45,29 @@ module _ (rows : List TableRow) (n : ℕ) (within : n ≤ length rows) where
 
 -- ---- the first and the last row
 -- the first of the rows, or one behind it
-from_first : (rows : List TableRow) (i : ℕ) (d : TableRow) → AllPairs IsBefore rows → i < length rows → (get_or rows 0 d ≡ get_or rows i d) ⊎ IsBefore (get_or rows 0 d) (get_or rows i d)
+from_first : (rows : List TableRow) (i : ℕ) (d : TableRow) → AllPairs IsTableRowBefore rows → i < length rows → (get_or rows 0 d ≡ get_or rows i d) ⊎ IsTableRowBefore (get_or rows 0 d) (get_or rows i d)
 from_first rows zero d h l = inl refl
 from_first rows (suc i) d h l = inr (h 0 (suc i) d (omega arith) l)
 
-to_last : (rows : List TableRow) (i : ℕ) (d : TableRow) → AllPairs IsBefore rows → i < length rows
-    → (get_or rows i d ≡ get_or rows (length rows - 1) d) ⊎ IsBefore (get_or rows i d) (get_or rows (length rows - 1) d)
+to_last : (rows : List TableRow) (i : ℕ) (d : TableRow) → AllPairs IsTableRowBefore rows → i < length rows
+    → (get_or rows i d ≡ get_or rows (length rows - 1) d) ⊎ IsTableRowBefore (get_or rows i d) (get_or rows (length rows - 1) d)
 to_last rows i d h l = elim (cases_eq i (length rows - 1)) [
   | inl e ↦ inl (ap (λ (k : ℕ). get_or rows k d) e)
   | inr n ↦ inr (h i (length rows - 1) d (omega (arith, n)) (omega arith))
 ]
 
-cost_at_most : (a b : TableRow) → (a ≡ b) ⊎ IsBefore a b → IsAtMost a.cost b.cost
+cost_at_most : (a b : TableRow) → (a ≡ b) ⊎ IsTableRowBefore a b → IsAtMost a.cost b.cost
 cost_at_most a b (inl e) = subst (λ (r : TableRow). IsAtMost a.cost r.cost) e (at_most_itself a.cost)
 cost_at_most a b (inr h) = before_at_most a b h
 
 -- of two rows of one cost, the later one has the set that is the greater number
-set_at_most : (a b : TableRow) → a.cost ≡ b.cost → (a ≡ b) ⊎ IsBefore a b → a.set ≤ b.set
+set_at_most : (a b : TableRow) → a.cost ≡ b.cost → (a ≡ b) ⊎ IsTableRowBefore a b → a.set ≤ b.set
 set_at_most a b same (inl e) = let sets : a.set ≡ b.set = ap (λ (r : TableRow). r.set) e in omega arith
 set_at_most a b same (inr (inl h)) = absurd (below_itself b.cost (subst (λ (c : Cost). IsBelow c b.cost) same h))
 set_at_most a b same (inr (inr h)) = omega (arith, h.1)
 
 -- no row between two has a set that is outside
-between : (first row last : TableRow) (set : PropSet) (cost : Cost) → (first ≡ row) ⊎ IsBefore first row → (row ≡ last) ⊎ IsBefore row last → IsOutside first last set cost
+between : (first row last : TableRow) (set : PropSet) (cost : Cost) → (first ≡ row) ⊎ IsTableRowBefore first row → (row ≡ last) ⊎ IsTableRowBefore row last → IsOutside first last set cost
     → row.set ≡ set → IsAtMost row.cost cost → ⊥
 between first row last set cost low high (inl h) same k = not_below_and_at_most cost first.cost h (at_most_trans first.cost row.cost cost (cost_at_most first row low) k)
 between first row last set cost low high (inr h) same k =
@@ -80,15 +80,15 @@ between first row last set cost low high (inr h) same k =
       | inr l ↦ absurd (omega arith)
     ]
 
-pub none_outside : (rows : List TableRow) (first last : TableRow) (set : PropSet) (cost : Cost) → AllPairs IsBefore rows → first ≡ get_or rows 0 first → last ≡ get_or rows (length rows - 1) last
+pub none_outside : (rows : List TableRow) (first last : TableRow) (set : PropSet) (cost : Cost) → AllPairs IsTableRowBefore rows → first ≡ get_or rows 0 first → last ≡ get_or rows (length rows - 1) last
     → IsOutside first last set cost → HasRow rows set cost → ⊥
 none_outside rows first last set cost order is_first is_last outside h =
     let some : h.0 < length rows = h.2 in
     let d = h.1 in
     let start : first ≡ get_or rows 0 d = is_first ∙ get_or_default rows 0 first d (omega arith) in
     let end : last ≡ get_or rows (length rows - 1) d = is_last ∙ get_or_default rows (length rows - 1) last d (omega arith) in
-    let low = subst (λ (r : TableRow). (first ≡ r) ⊎ IsBefore first r) h.3 (subst (λ (r : TableRow). (r ≡ get_or rows h.0 d) ⊎ IsBefore r (get_or rows h.0 d)) (sym start) (from_first rows h.0 d order some)) in
-    let high = subst (λ (r : TableRow). (r ≡ last) ⊎ IsBefore r last) h.3 (subst (λ (r : TableRow). (get_or rows h.0 d ≡ r) ⊎ IsBefore (get_or rows h.0 d) r) (sym end) (to_last rows h.0 d order some)) in
+    let low = subst (λ (r : TableRow). (first ≡ r) ⊎ IsTableRowBefore first r) h.3 (subst (λ (r : TableRow). (r ≡ get_or rows h.0 d) ⊎ IsTableRowBefore r (get_or rows h.0 d)) (sym start) (from_first rows h.0 d order some)) in
+    let high = subst (λ (r : TableRow). (r ≡ last) ⊎ IsTableRowBefore r last) h.3 (subst (λ (r : TableRow). (get_or rows h.0 d ≡ r) ⊎ IsTableRowBefore (get_or rows h.0 d) r) (sym end) (to_last rows h.0 d order some)) in
     between first h.1 last set cost low high outside h.4.0 h.4.1
 
 -- the only row has the set and costs no more, if it is not outside
@@ -119,19 +119,19 @@ one_inside rows first last set cost one is_first is_last inside =
     )
 
 -- ---- rows in order, from neighbours
-pub in_order_from_neighbours : (rows : List TableRow) → AllAdjacentBelow IsBefore rows (length rows) → AllPairs IsBefore rows
+pub in_order_from_neighbours : (rows : List TableRow) → AllAdjacentBelow IsTableRowBefore rows (length rows) → AllPairs IsTableRowBefore rows
 in_order_from_neighbours rows h i zero d l k = absurd (omega arith)
 in_order_from_neighbours rows h i (suc j) d l k = elim (cases_lt i j) [
   | inl m ↦ before_trans (get_or rows i d) (get_or rows j d) (get_or rows (suc j) d) (in_order_from_neighbours rows h i j d m (omega arith)) (step j k)
   | inr m ↦
       let same : j ≡ i = omega arith in
-      subst (λ (a : ℕ). IsBefore (get_or rows a d) (get_or rows (suc j) d)) same (step j k)
+      subst (λ (a : ℕ). IsTableRowBefore (get_or rows a d) (get_or rows (suc j) d)) same (step j k)
 ]
   where
-    step : (a : ℕ) → suc a < length rows → IsBefore (get_or rows a d) (get_or rows (suc a) d)
+    step : (a : ℕ) → suc a < length rows → IsTableRowBefore (get_or rows a d) (get_or rows (suc a) d)
     step a m =
         let next : a + 1 ≡ suc a = omega arith in
-        subst (λ (b : ℕ). IsBefore (get_or rows a d) (get_or rows b d)) next (h a d (omega arith))
+        subst (λ (b : ℕ). IsTableRowBefore (get_or rows a d) (get_or rows b d)) next (h a d (omega arith))
 
 pub not_zero : (n : ℕ) → false ≡ (n == 0) → 0 < n
 not_zero zero e = absurd (true≢false (sym e))

@@ -2,14 +2,14 @@
 
 ghost use Rattle.std.specs.Prelude.{◌≡◌, ◌<◌, ◌↔◌, IsTrue, length, AllPairs};
 ghost use Rattle.pm_weights.specs.Weights.{plus, IsAtMost};
-ghost use Rattle.pm_rules.specs.Certificates.{HasRow, IsBefore};
+ghost use Rattle.pm_rules.specs.Certificates.{HasRow, IsTableRowBefore};
 ghost use Rattle.pm_cert.specs.Outside.{IsOutside};
 
 use pm_rules::{Cost, PropSet, TableRow, Weight};
 
 /// Whether the rows stand in order of cost and then of the set as a number, none twice.
 pub fn are_in_order(rows: &[TableRow]) -> bool
-    ensures { IsTrue result ↔ AllPairs IsBefore rows.now }
+    ensures { IsTrue result ↔ AllPairs IsTableRowBefore rows.now }
 {
     for i in 1..rows.len() {
         if !is_before(rows[i - 1], rows[i]) {
@@ -21,7 +21,7 @@ pub fn are_in_order(rows: &[TableRow]) -> bool
 
 // Whether a row costs less than the other, or as much, and its set is the lesser number.
 fn is_before(a: TableRow, b: TableRow) -> bool
-    ensures { IsTrue result ↔ IsBefore a b }
+    ensures { IsTrue result ↔ IsTableRowBefore a b }
 {
     a.cost.is_below(b.cost) || (a.cost == b.cost && a.set.bits() < b.set.bits())
 }
@@ -30,7 +30,7 @@ fn is_before(a: TableRow, b: TableRow) -> bool
 /// cannot have it are left out, so that of rows of one cost few are looked at. The dearer half comes first, since a
 /// step mostly leads to a set at its cost with the weight.
 pub fn has_row_in_order(rows: &[TableRow], set: PropSet, cost: Cost, weight: Weight) -> bool
-    requires { AllPairs IsBefore rows.now }
+    requires { AllPairs IsTableRowBefore rows.now }
     ensures { IsTrue result ↔ HasRow rows.now set (plus cost weight) }
 {
     if rows.is_empty() {

@@ -9,7 +9,7 @@ ghost use Rattle.pm_weights.specs.Weights.{no_cost, plus, IsAtMost};
 ghost use Rattle.pm_rules.specs.Rules.{rule_at};
 ghost use Rattle.pm_rules.specs.Steps.{IsOpen, step_of};
 ghost use Rattle.pm_rules.specs.Useful.{FindsOne};
-ghost use Rattle.pm_rules.specs.Certificates.{Within, EndsClaim, HasRow, IsBefore, IsCertificate};
+ghost use Rattle.pm_rules.specs.Certificates.{Within, EndsClaim, HasRow, IsTableRowBefore, IsCertificate};
 ghost use Rattle.pm_rules.specs.declared.table.TableRow.{TableRow};
 ghost use Rattle.pm_cert.specs.Claims.{IsTrueClaim, GoesOn, StandsIn, UpTo};
 ghost use Rattle.pm_limits.specs.Limits.{most_rules};
@@ -105,7 +105,7 @@ fn going_on(
     weight: Weight,
 ) -> usize
     requires some { most ≤ length rows.now }
-    requires order { IsTrue in_order → AllPairs IsBefore rows.now }
+    requires order { IsTrue in_order → AllPairs IsTableRowBefore rows.now }
     ensures within { result ≤ most }
     ensures each { UpTo result (GoesOn rows.now c step.now weight) rows.now }
     ensures first { (row : TableRow) → result < most → slice_get rows.now result ≡ Some row
@@ -167,7 +167,7 @@ fn is_closed(
     c: Claim,
 ) -> bool
     requires few { length rules.now ≤ most_rules }
-    requires order { IsTrue in_order → AllPairs IsBefore rows.now }
+    requires order { IsTrue in_order → AllPairs IsTableRowBefore rows.now }
     ensures { IsTrue result ↔ ((id : RuleId) (rule : Rule) → rule_at rules.now id ≡ Some rule
         → FindsOne names barred.now needed id rule
         → All (GoesOn rows.now c (step_of rule) rule.weight) rows.now) }
@@ -184,7 +184,7 @@ fn is_closed(
 
 // Whether a step of this weight leads from each row on, where it can be made.
 fn all_go_on(rows: &[TableRow], in_order: bool, c: Claim, step: &Step, weight: Weight) -> bool
-    requires { IsTrue in_order → AllPairs IsBefore rows.now }
+    requires { IsTrue in_order → AllPairs IsTableRowBefore rows.now }
     ensures { IsTrue result ↔ All (GoesOn rows.now c step.now weight) rows.now }
 {
     for row in rows {
@@ -204,7 +204,7 @@ fn goes_on(
     weight: Weight,
     row: TableRow,
 ) -> bool
-    requires { IsTrue in_order → AllPairs IsBefore rows.now }
+    requires { IsTrue in_order → AllPairs IsTableRowBefore rows.now }
     ensures { IsTrue result ↔ GoesOn rows.now c step.now weight row }
 {
     let TableRow { set, cost } = row;
@@ -235,7 +235,7 @@ fn ends_claim(c: Claim, cost: Cost, weight: Weight) -> bool
 
 // Whether a row with this set costs at most the cost with the weight.
 fn has_row(rows: &[TableRow], in_order: bool, set: PropSet, cost: Cost, weight: Weight) -> bool
-    requires { IsTrue in_order → AllPairs IsBefore rows.now }
+    requires { IsTrue in_order → AllPairs IsTableRowBefore rows.now }
     ensures { IsTrue result ↔ HasRow rows.now set (plus cost weight) }
 {
     if in_order {

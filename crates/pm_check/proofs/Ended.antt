@@ -1,7 +1,7 @@
 -- How a run ends, by its answer and what the sink took.
 use Rattle.std.proofs.Common.{◌≡◌, ℕ, Bool, Some, None, List, refl, sym, subst}
 use Rattle.std.specs.Prelude.{Option}
-use Rattle.pm_store.specs.Outside.{Stays}
+use Rattle.pm_store.specs.Outside.{StaysTold}
 use Rattle.pm_check.specs.Words.{Asked}
 use Rattle.pm_check.specs.Ends.{Answers, Ended, IsBadAsked, Told, World, status_of}
 use Rattle.pm_check.specs.declared.status.NoAnswer.{NoAnswer}
@@ -18,12 +18,12 @@ ended_told asked w line right SourceFault a t = absurd t
 ended_told asked w line right OutOfMemory a t = absurd t
 ended_told asked w line right BadBook a t = absurd t
 
-stays_same : (o : Option (List ℕ)) → Stays o o
+stays_same : (o : Option (List ℕ)) → StaysTold o o
 stays_same None = tt
 stays_same (Some x) = refl
 
 pub ended_why : (asked : Option Asked) (w : World) (e : NoAnswer) → (e ≡ why.BadWords → IsBadAsked asked w.files) → w.has ≡ w.had → Ended asked (status_of e) w
-ended_why asked w why.BadWords bad same = (bad refl, subst (λ o. Stays w.had o) (sym same) (stays_same w.had))
-ended_why asked w why.SourceFault bad same = subst (λ o. Stays w.had o) (sym same) (stays_same w.had)
-ended_why asked w why.Memory bad same = subst (λ o. Stays w.had o) (sym same) (stays_same w.had)
-ended_why asked w why.BadBook bad same = subst (λ o. Stays w.had o) (sym same) (stays_same w.had)
+ended_why asked w why.BadWords bad same = (bad refl, subst (λ o. StaysTold w.had o) (sym same) (stays_same w.had))
+ended_why asked w why.SourceFault bad same = subst (λ o. StaysTold w.had o) (sym same) (stays_same w.had)
+ended_why asked w why.Memory bad same = subst (λ o. StaysTold w.had o) (sym same) (stays_same w.had)
+ended_why asked w why.BadBook bad same = subst (λ o. StaysTold w.had o) (sym same) (stays_same w.had)

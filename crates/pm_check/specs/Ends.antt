@@ -3,7 +3,7 @@ use Rattle.std.specs.Prelude.{◌≡◌, ℕ, ◌<◌, ◌≤◌, ◌⊎◌, Boo
 use Rattle.pm_limits.specs.Limits.{most_file_bytes, most_printed_bytes}
 use Rattle.pm_rules.specs.declared.rule.Rule.{Rule}
 use Rattle.pm_store.specs.Files.{file_of}
-use Rattle.pm_store.specs.Outside.{Gains, GainsPart, Rose, Stays}
+use Rattle.pm_store.specs.Outside.{GainsTold, GainsPart, Rose, StaysTold}
 use Rattle.pm_check.specs.Words.{Asked, PlanSaid}
 use Rattle.pm_check.specs.Words.Asked.{of_plan, of_book}
 use Rattle.pm_check.specs.Books.{IsBookAnswer, IsBookNamed, IsNoFile, IsRefusedFile}
@@ -63,8 +63,8 @@ Answers (Some (of_book name)) given files line right = AnswersBook name files li
 
 -- the sink took the line, and the status tells whether it is a yes; or it failed in the line
 abbrev pub Told : Option (List ℕ) → Option (List ℕ) → List ℕ → Bool → Status → Type 0
-Told had has line right Right = (right ≡ true) × Gains had has line
-Told had has line right Wrong = (right ≡ false) × Gains had has line
+Told had has line right Right = (right ≡ true) × GainsTold had has line
+Told had has line right Wrong = (right ≡ false) × GainsTold had has line
 Told had has line right SinkFault = GainsPart had has line
 Told had has line right BadWords = ⊥
 Told had has line right SourceFault = ⊥
@@ -93,14 +93,14 @@ IsBadBook (Some (of_book name)) files = IsNoFile (file_of files name)
 -- So a run ended: the sink took the line that answers what the words ask of what was given, and the status tells
 -- whether it is a yes; or the sink failed in that line; or there is no answer, and the sink took nothing.
 abbrev pub Ended : Option Asked → Status → World → Type 0
-Ended asked Right w = (line : List ℕ) × Answers asked w.given w.files line true × Gains w.had w.has line
-Ended asked Wrong w = (line : List ℕ) × Answers asked w.given w.files line false × Gains w.had w.has line
+Ended asked Right w = (line : List ℕ) × Answers asked w.given w.files line true × GainsTold w.had w.has line
+Ended asked Wrong w = (line : List ℕ) × Answers asked w.given w.files line false × GainsTold w.had w.has line
 Ended asked SinkFault w = (line : List ℕ) × (right : Bool) × Answers asked w.given w.files line right
     × GainsPart w.had w.has line
-Ended asked BadWords w = IsBadAsked asked w.files × Stays w.had w.has
-Ended asked SourceFault w = Stays w.had w.has
-Ended asked OutOfMemory w = Stays w.had w.has
-Ended asked BadBook w = Stays w.had w.has
+Ended asked BadWords w = IsBadAsked asked w.files × StaysTold w.had w.has
+Ended asked SourceFault w = StaysTold w.had w.has
+Ended asked OutOfMemory w = StaysTold w.had w.has
+Ended asked BadBook w = StaysTold w.had w.has
 
 -- the source failed, or it is too long
 abbrev pub IsSourceFault : ℕ → ℕ → Option (List ℕ) → Type 0

@@ -6,7 +6,7 @@ use Rattle.pm_rules.specs.declared.table.TableRow.{TableRow}
 use Rattle.pm_rules.specs.Books.{IsBook}
 use Rattle.pm_rules.specs.Chains.{HasNoChain, IsLeast, weigh}
 use Rattle.pm_weights.specs.declared.Cost.{Cost}
-use Rattle.pm_store.specs.Outside.{Gains}
+use Rattle.pm_store.specs.Outside.{GainsTold}
 use Rattle.pm_printed.specs.Judging.{ProvesNone, ProvesPlan}
 use Rattle.pm_printed.specs.Printed.{IsPlanText, IsRefusalText}
 use Rattle.pm_printed.specs.declared.question.Question.{Question}
@@ -49,7 +49,7 @@ pub record PlanIsTrue (said : PlanSaid) (given : Option (List ℕ)) (files : Opt
 abbrev pub Proved : Option Asked → World → Type 0
 Proved None w = ⊥
 Proved (Some (of_book name)) w = Unit {0}
-Proved (Some (of_plan said)) w = (line : List ℕ) × Gains w.had w.has line
+Proved (Some (of_plan said)) w = (line : List ℕ) × GainsTold w.had w.has line
     × PlanIsTrue said w.given w.files line
 
 -- ---- laws

@@ -18,7 +18,7 @@ use Rattle.pm_props.specs.Sets.{IsSubset, has, union}
 use Rattle.pm_rules.proofs.Followed.{in_union_cases, in_union_left, in_union_right, targets_at_is}
 use Rattle.pm_standard.specs.Book.{standard_rule, standard_rules}
 use Rattle.pm_rules.specs.Chains.{IsChain, reached}
-use Rattle.pm_rules.specs.Rules.{IsEnabled, IsFree, IsInUse, inputs, is_barred, names_of_rule, rule_at}
+use Rattle.pm_rules.specs.Rules.{IsEnabled, IsFreeOf, IsInUse, inputs, is_barred, names_of_rule, rule_at}
 use Rattle.pm_rules.specs.declared.rule.Rule.{Rule}
 use Rattle.pm_laws_complete.specs.Completeness.{BarsNone, is_tagged, names_for}
 
@@ -47,7 +47,7 @@ none_with tag s none = false_from_ne_true (some_with tag s) (λ e.
 abbrev pub is_quiet : (PropId → Bool) → Kind → PropSet → Bool
 is_quiet tag kind known = implies (some_with tag kind.targets && not (some_with tag kind.sources)) (not (some_with tag known))
 
-free_from_quiet : (tag : PropId → Bool) (kind : Kind) (known held : PropSet) → is_quiet tag kind known ≡ true → ((p : PropId) → IsTrue (has held p) → IsTrue (tag p) → IsTrue (has known p)) → IsFresh tag kind → IsFree tag held
+free_from_quiet : (tag : PropId → Bool) (kind : Kind) (known held : PropSet) → is_quiet tag kind known ≡ true → ((p : PropId) → IsTrue (has held p) → IsTrue (tag p) → IsTrue (has known p)) → IsFresh tag kind → IsFreeOf tag held
 free_from_quiet tag kind known held quiet within fresh p h = false_from_ne_true (tag p) (λ k.
     let some : some_with tag kind.targets ≡ true = some_from tag kind.targets fresh.target.0 fresh.target.1 fresh.target.2 in
     let none : some_with tag kind.sources ≡ false = none_with tag kind.sources fresh.sources in

@@ -6,7 +6,7 @@ use Rattle.pm_lines.proofs.LineLaws.{clear_append, last_line, lines_at_break, li
 use Rattle.pm_lines.specs.Coming.{Answers, BreaksOff, Ended, Exceeds, Gave, IsOver, LetsGo, ReaderSeen, Refilled}
 use Rattle.pm_lines.specs.Whole.{HasNoBreak, whole_lines}
 use Rattle.pm_command.specs.Lines.{Line, lines_of}
-use Rattle.pm_store.specs.Outside.{IsAtEnd, Stays}
+use Rattle.pm_store.specs.Outside.{IsAtEnd, StaysTold}
 use Rattle.pm_limits.specs.Limits.{most_script_bytes}
 
 -- n bytes more were given, and all that was given stands in the line at hand and after it
@@ -69,7 +69,7 @@ given_clear all left old had reads clear given = rw reads.bytes (whole_of-open (
 
 -- the source failed
 pub breaks_off : (all : List ℕ) (mid left : Option (List ℕ)) (old had new : ReaderSeen) → ReadsOn all mid old had → HasNoBreak had.line.bytes → HasNoBreak had.given
-    → Stays mid left → new.read ≡ had.read → BreaksOff all left old new
+    → StaysTold mid left → new.read ≡ had.read → BreaksOff all left old new
 breaks_off all mid left old had new reads clear given stays same =
     let stayed : left ≡ Some (drop reads.n all) = rw reads.gave.others at stays in
     (reads.n, record { within = reads.gave.within; others = stayed; read = same ∙ reads.gave.read }, given_clear all mid old had reads clear given)
@@ -106,7 +106,7 @@ pub record Done (all : List ℕ) (left : Option (List ℕ)) (old had : ReaderSee
   pub bytes_are : old.given ++ take n all ≡ bytes
   pub read_is : had.read ≡ old.read + n
 
-pub done : (all : List ℕ) (mid left : Option (List ℕ)) (old had : ReaderSeen) → ReadsOn all mid old had → IsAtEnd mid → Stays mid left
+pub done : (all : List ℕ) (mid left : Option (List ℕ)) (old had : ReaderSeen) → ReadsOn all mid old had → IsAtEnd mid → StaysTold mid left
     → Done all left old had (had.line.bytes ++ had.given)
 done all mid left old had reads at_end stays = record {
   n = reads.n;
@@ -162,7 +162,7 @@ told_more (Some all) mid left old had after new reads line read same_line more r
     reads_more all mid left old had after new reads line read same_line more refilled
 
 pub told_off : (o mid left : Option (List ℕ)) (old had new : ReaderSeen) → IfSome o (λ all. ReadsOn all mid old had) → HasNoBreak had.line.bytes → HasNoBreak had.given
-    → Stays mid left → new.read ≡ had.read → IfSome o (λ all. BreaksOff all left old new)
+    → StaysTold mid left → new.read ≡ had.read → IfSome o (λ all. BreaksOff all left old new)
 told_off None mid left old had new reads clear given stays same = tt
 told_off (Some all) mid left old had new reads clear given stays same = breaks_off all mid left old had new reads clear given stays same
 
@@ -176,13 +176,13 @@ pub told_exceeds : (o mid left : Option (List ℕ)) (old had : ReaderSeen) → I
 told_exceeds None mid left old had reads clear given full over = tt
 told_exceeds (Some all) mid left old had reads clear given full over = exceeds all mid left old had reads clear given full over
 
-pub told_over : (o mid left : Option (List ℕ)) (old had : ReaderSeen) → IfSome o (λ all. ReadsOn all mid old had) → IsAtEnd mid → Stays mid left
+pub told_over : (o mid left : Option (List ℕ)) (old had : ReaderSeen) → IfSome o (λ all. ReadsOn all mid old had) → IsAtEnd mid → StaysTold mid left
     → had.line.bytes ++ had.given ≡ [] → IfSome o (λ all. IsOver all left old)
 told_over None mid left old had reads at_end stays none = tt
 told_over (Some all) mid left old had reads at_end stays none =
     is_over all left old had (had.line.bytes ++ had.given) (done all mid left old had reads at_end stays) none
 
-pub told_last : (o mid left : Option (List ℕ)) (old had new : ReaderSeen) → IfSome o (λ all. ReadsOn all mid old had) → IsAtEnd mid → Stays mid left
+pub told_last : (o mid left : Option (List ℕ)) (old had new : ReaderSeen) → IfSome o (λ all. ReadsOn all mid old had) → IsAtEnd mid → StaysTold mid left
     → 0 < length (had.line.bytes ++ had.given) → HasNoBreak (had.line.bytes ++ had.given) → new.line ≡ last_line (had.line.bytes ++ had.given)
     → new.given ≡ [] → new.read ≡ had.read → IfSome o (λ all. Answers all left old new)
 told_last None mid left old had new reads at_end stays some clear line given read = tt

@@ -2,7 +2,7 @@
 
 ghost use Rattle.std.specs.Prelude.{◌≡◌, ◌-◌, ◌<◌, ◌≤◌, ◌^◌, List, ℕ, [], IfOk, OnErr, drop, take, length};
 ghost use Rattle.pm_lines.specs.Coming.{most_ahead};
-ghost use Rattle.pm_store.specs.Outside.{IsAtEnd, Moves, Rose, Stays};
+ghost use Rattle.pm_store.specs.Outside.{IsAtEnd, Moves, Rose, StaysTold};
 
 use pm_store::{Failed, Source};
 use std::marker::Model;
@@ -61,7 +61,7 @@ impl Chunk {
         ensures few { length self.new ≤ most_ahead }
         ensures end { IfOk result (λ _. self.new ≡ [] → IsAtEnd (S.left source.old)) }
         ensures none { OnErr result (self.new ≡ []) }
-        ensures err { OnErr result (Stays (S.left source.old) (S.left source.new)) }
+        ensures err { OnErr result (StaysTold (S.left source.old) (S.left source.new)) }
         ensures fault { OnErr result (Rose (S.faults source.old) (S.faults source.new)) }
         ensures never_falls { S.faults source.old ≤ S.faults source.new }
     {

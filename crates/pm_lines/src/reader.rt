@@ -4,7 +4,7 @@ ghost use Rattle.std.specs.Prelude.{◌≡◌, ◌≢◌, ℕ, ◌+◌, ◌-◌,
 ghost use Rattle.pm_lines.specs.Coming.{Answers, BreaksOff, Ended, Exceeds, IsOver, LetsGo, ReaderSeen, Refilled, most_ahead, no_line};
 ghost use Rattle.pm_lines.specs.Whole.{HasNoBreak, whole_lines};
 ghost use Rattle.pm_lines.specs.declared.reader.LinesFail.TheVariants.{Fault, Memory};
-ghost use Rattle.pm_store.specs.Outside.{IsAtEnd, Loses, Rose, Stays};
+ghost use Rattle.pm_store.specs.Outside.{IsAtEnd, LosesTold, Rose, StaysTold};
 ghost use Rattle.pm_limits.specs.Limits.{most_script_bytes};
 
 use crate::chunk::Chunk;
@@ -139,15 +139,15 @@ impl LineReader {
         ensures bound { self.new.read ≤ most_script_bytes }
         ensures end { IfOk result (λ there. there ≡ false
             → (self.new.given ≡ []) × IsAtEnd (S.left source.old)
-            × Stays (S.left source.old) (S.left source.new)) }
+            × StaysTold (S.left source.old) (S.left source.new)) }
         ensures none { OnErr result (self.new.given ≡ []) }
-        ensures err { IsErrOf result LinesFail.Fault → Stays (S.left source.old) (S.left source.new) }
+        ensures err { IsErrOf result LinesFail.Fault → StaysTold (S.left source.old) (S.left source.new) }
         ensures fault { IsErrOf result LinesFail.Fault → Rose (S.faults source.old) (S.faults source.new) }
         ensures too_long { IsErrOf result LinesFail.TooLong → self.old.read ≡ most_script_bytes }
         ensures over { IsErrOf result LinesFail.TooLong →
             IfSome (S.left source.old) (λ all. (0 < length all) × (S.left source.new ≡ Some (drop 1 all))) }
         ensures needs_none { result ≢ Err LinesFail.Memory }
-        ensures loses { Loses (S.left source.old) (S.left source.new) }
+        ensures loses { LosesTold (S.left source.old) (S.left source.new) }
         ensures never_falls { S.faults source.old ≤ S.faults source.new }
     {
         if self.read == MOST_SCRIPT_BYTES {
@@ -201,7 +201,7 @@ impl LineReader {
             IfSome (S.left source.old) (λ all. LetsGo all (S.left source.new) self.old self.new) }
         ensures gone { OnErr result (result ≢ Err LinesFail.Memory → self.new.given ≡ []) }
         ensures goes_on { OnErr result (self.new.at_end ≡ false) }
-        ensures loses { Loses (S.left source.old) (S.left source.new) }
+        ensures loses { LosesTold (S.left source.old) (S.left source.new) }
         ensures bound { self.new.read ≤ most_script_bytes }
         ensures few { length self.new.given ≤ most_ahead }
         ensures grows { self.old.read ≤ self.new.read }
@@ -226,13 +226,13 @@ impl LineReader {
 
 /// Says that nothing is left, or fails.
 fn find_end<S: Source>(source: &mut S) -> Result<(), LinesFail>
-    ensures end { OnOk result (IsAtEnd (S.left source.old) × Stays (S.left source.old) (S.left source.new)) }
-    ensures err { IsErrOf result LinesFail.Fault → Stays (S.left source.old) (S.left source.new) }
+    ensures end { OnOk result (IsAtEnd (S.left source.old) × StaysTold (S.left source.old) (S.left source.new)) }
+    ensures err { IsErrOf result LinesFail.Fault → StaysTold (S.left source.old) (S.left source.new) }
     ensures fault { IsErrOf result LinesFail.Fault → Rose (S.faults source.old) (S.faults source.new) }
     ensures over { IsErrOf result LinesFail.TooLong →
         IfSome (S.left source.old) (λ all. (0 < length all) × (S.left source.new ≡ Some (drop 1 all))) }
     ensures needs_none { result ≢ Err LinesFail.Memory }
-    ensures loses { Loses (S.left source.old) (S.left source.new) }
+    ensures loses { LosesTold (S.left source.old) (S.left source.new) }
     ensures never_falls { S.faults source.old ≤ S.faults source.new }
 {
     let count = source.read(&mut [0u8; 1])?;

@@ -20,7 +20,7 @@ use Rattle.pm_rules.specs.declared.table.Claim.{Claim}
 use Rattle.pm_rules.specs.declared.table.Claim.TheVariants.{Least}
 use Rattle.pm_rules.specs.Rules.{rule_at, IsEnabled}
 use Rattle.pm_rules.specs.Chains.{weigh, IsUseful}
-use Rattle.pm_rules.specs.Certificates.{Within, EndsClaim, HasRow, IsCertificate, Reaches, IsBefore}
+use Rattle.pm_rules.specs.Certificates.{Within, EndsClaim, HasRow, IsCertificate, Reaches, IsTableRowBefore}
 use Rattle.pm_rules.proofs.Opens.{open_from_enabled}
 use Rattle.pm_rules.proofs.Refutes.{bounded}
 use Rattle.pm_plan.specs.declared.moves.Move.{Move}
@@ -84,14 +84,14 @@ abbrev LacksAsked : PropSet → Claim → TableRow → Type 0
 LacksAsked asked claim row = Within claim row.cost → IsSubset asked row.set → ⊥
 
 -- ---- nothing is both before a row and no later than a row that waits
-no_room_before : (row wait : TableRow) → IsBefore row wait → IsBelow wait.cost row.cost ⊎ ((wait.set ≡ row.set) × IsAtMost wait.cost row.cost) → ⊥
+no_room_before : (row wait : TableRow) → IsTableRowBefore row wait → IsBelow wait.cost row.cost ⊎ ((wait.set ≡ row.set) × IsAtMost wait.cost row.cost) → ⊥
 no_room_before row wait before (inl k) = not_below_and_at_most wait.cost row.cost k (before_at_most row wait before)
 no_room_before row wait (inl h) (inr k) = not_below_and_at_most row.cost wait.cost h k.1
 no_room_before row wait (inr h) (inr k) = omega (arith, h.1, k.0)
 
-no_room : (row next wait : TableRow) → IsBefore row next → (next ≡ wait) ⊎ IsBefore next wait
+no_room : (row next wait : TableRow) → IsTableRowBefore row next → (next ≡ wait) ⊎ IsTableRowBefore next wait
     → IsBelow wait.cost row.cost ⊎ ((wait.set ≡ row.set) × IsAtMost wait.cost row.cost) → ⊥
-no_room row next wait before (inl e) low = no_room_before row wait (subst (IsBefore row) e before) low
+no_room row next wait before (inl e) low = no_room_before row wait (subst (IsTableRowBefore row) e before) low
 no_room row next wait before (inr later) low = no_room_before row wait (before_trans row next wait before later) low
 
 module _ (book : List Rule) (names : PropSet) (barred : List RuleId) (held asked : PropSet) (moves : List Move) (are : AreMoves book names barred asked moves)
@@ -111,7 +111,7 @@ module _ (book : List Rule) (names : PropSet) (barred : List RuleId) (held asked
     | inr b ↦ before_at_most full.next row b
   ]
 
-  row_before : (row : TableRow) → Contains s.rows.items row → IsBefore row full.next
+  row_before : (row : TableRow) → Contains s.rows.items row → IsTableRowBefore row full.next
   row_before row there = ex.sound.later row full.next there (some_from (link_waiting s full.next) full.link full.is_next.waits)
 
   -- a row that is met is a row or waits, or the next row is below it
@@ -149,7 +149,7 @@ module _ (book : List Rule) (names : PropSet) (barred : List RuleId) (held asked
   next_below chain leads = below_from_above full.next.cost (weigh book chain) (bounded book names barred held asked (above full.next.cost) (s.rows.items ++ waiting_rows s) certifies chain leads)
 
   -- what is reached before the next row is a row
-  found_before : (row : TableRow) → IsBefore row full.next → Found s row → HasRow s.rows.items row.set row.cost
+  found_before : (row : TableRow) → IsTableRowBefore row full.next → Found s row → HasRow s.rows.items row.set row.cost
   found_before row before (inl h) = h
   found_before row before (inr (inl h)) = absurd (no_room row full.next h.wait before (full.is_next.first h.wait h.waits) h.low)
   found_before row before (inr (inr h)) = absurd (full.below (goal_more s row.cost full.next.cost h (before_at_most row full.next before)))
@@ -158,7 +158,7 @@ module _ (book : List Rule) (names : PropSet) (barred : List RuleId) (held asked
   row_least row other chain there h same = elim (at_most_or_below row.cost other.cost) [
     | inl k ↦ k
     | inr k ↦
-        let before : IsBefore other full.next = inl (below_trans other.cost row.cost full.next.cost k (before_at_most row full.next (row_before row there))) in
+        let before : IsTableRowBefore other full.next = inl (below_trans other.cost row.cost full.next.cost k (before_at_most row full.next (row_before row there))) in
         let at = found_before other before (found_reached book names barred held asked moves are weights s ex other chain h) in
         let cost = same_rows book names barred held asked moves are weights s ex at.1 row (at.0, at.2, at.3) there (at.4.0 ∙ same) in
         subst (λ (c : Cost). IsAtMost c other.cost) cost at.4.1

@@ -11,7 +11,7 @@ use Rattle.pm_weights.specs.Weights.{IsWeight, IsAtMost}
 use Rattle.pm_weights.proofs.CostOrder.{at_most_itself}
 use Rattle.pm_rules.specs.declared.table.TableRow.{TableRow}
 use Rattle.pm_rules.specs.Steps.{IsOpen}
-use Rattle.pm_rules.specs.Certificates.{IsBefore}
+use Rattle.pm_rules.specs.Certificates.{IsTableRowBefore}
 use Rattle.pm_plan.specs.declared.moves.Move.{Move}
 use Rattle.pm_plan.specs.declared.track.Link.{Link}
 use Rattle.pm_plan.specs.declared.search.Search.{Search}
@@ -37,7 +37,7 @@ nowhere xs i x e f = let within = slice_get_within xs i x f in omega (arith, ap 
 empty_sound : (moves : List Move) (start : TableRow) (asked : PropSet) (s : Search) → IsEmpty s → IsSoundSearch moves start asked s
 empty_sound moves start asked s h = record {
   linked = record { paired = ap length h.links ∙ sym (ap length h.rows); linked = λ i row link e f. absurd (nowhere s.rows.items i row h.rows e) };
-  ordered = no_pairs IsBefore s.rows.items h.rows;
+  ordered = no_pairs IsTableRowBefore s.rows.items h.rows;
   rows_known = λ row there. absurd (none_there s.rows.items row h.rows there);
   waiting_known = λ row waits. absurd (none_is_not (link_waiting s row) (h.waiting row) waits);
   known_met = λ row known. absurd (let e = sym (h.known row.set) ∙ known in cc);

@@ -9,7 +9,7 @@ use Rattle.pm_weights.specs.declared.Weight.{Weight}
 use Rattle.pm_weights.specs.declared.Cost.{Cost}
 use Rattle.pm_weights.specs.Weights.{IsWeight, plus, IsBelow}
 use Rattle.pm_rules.specs.declared.table.TableRow.{TableRow}
-use Rattle.pm_rules.specs.Certificates.{IsBefore}
+use Rattle.pm_rules.specs.Certificates.{IsTableRowBefore}
 use Rattle.pm_rules.proofs.RowOrder.{same_cost, same_row}
 use Rattle.pm_plan.specs.declared.search.Place.{Place}
 use Rattle.pm_plan.specs.Searches.{place_cmp, place_of}
@@ -60,7 +60,7 @@ place_exact a b e =
 -- what is not above a row is the row, or comes after it
 ranked_rows : (a b : TableRow) (x y z : Ordering) → MatchOrdering x (a.cost.class < b.cost.class) (a.cost.class ≡ b.cost.class) (b.cost.class < a.cost.class)
     → MatchOrdering y (a.cost.minor < b.cost.minor) (a.cost.minor ≡ b.cost.minor) (b.cost.minor < a.cost.minor) → MatchOrdering z (a.set < b.set) (a.set ≡ b.set) (b.set < a.set)
-    → is_gt (ordering_then (ordering_then x y) z) ≡ false → (a ≡ b) ⊎ IsBefore a b
+    → is_gt (ordering_then (ordering_then x y) z) ≡ false → (a ≡ b) ⊎ IsTableRowBefore a b
 ranked_rows a b Less y z h k l e = inr (inl (inl h))
 ranked_rows a b Greater y z h k l e = cc
 ranked_rows a b Equal Less z h k l e = inr (inl (inr (h, k)))
@@ -69,7 +69,7 @@ ranked_rows a b Equal Equal Less h k l e = inr (inr (same_cost a.cost b.cost h k
 ranked_rows a b Equal Equal Greater h k l e = cc
 ranked_rows a b Equal Equal Equal h k l e = inl (same_row a b l (same_cost a.cost b.cost h k))
 
-pub not_above : (a b : TableRow) → is_gt (place_cmp (place_of a) (place_of b)) ≡ false → (a ≡ b) ⊎ IsBefore a b
+pub not_above : (a b : TableRow) → is_gt (place_cmp (place_of a) (place_of b)) ≡ false → (a ≡ b) ⊎ IsTableRowBefore a b
 not_above a b e =
     ranked_rows a b (nat_cmp a.cost.class b.cost.class) (nat_cmp a.cost.minor b.cost.minor) (nat_cmp a.set b.set)
     (ranked a.cost.class b.cost.class (nat_cmp a.cost.class b.cost.class) refl) (ranked a.cost.minor b.cost.minor (nat_cmp a.cost.minor b.cost.minor) refl)

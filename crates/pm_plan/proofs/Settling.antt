@@ -12,7 +12,7 @@ use Rattle.pm_props.specs.Sets.{IsSubset}
 use Rattle.pm_weights.specs.Weights.{IsBelow, IsAtMost}
 use Rattle.pm_weights.proofs.CostOrder.{at_most_itself, at_most_trans, at_most_from_below, at_most_or_below}
 use Rattle.pm_rules.specs.declared.table.TableRow.{TableRow}
-use Rattle.pm_rules.specs.Certificates.{IsBefore}
+use Rattle.pm_rules.specs.Certificates.{IsTableRowBefore}
 use Rattle.pm_plan.specs.declared.moves.Move.{Move}
 use Rattle.pm_plan.specs.declared.track.Link.{Link}
 use Rattle.pm_plan.specs.declared.search.Goal.{Goal}
@@ -80,7 +80,7 @@ module _ (moves : List Move) (start : TableRow) (asked : PropSet) where
     pub renewed_sound : IsSoundSearch moves start asked new
     renewed_sound = record {
       linked = subst (λ (rows : List TableRow). AreLinked moves start rows new.links.items) (sym r.rows) (subst (AreLinked moves start old.rows.items) (sym r.links) h.linked);
-      ordered = subst (AllPairs IsBefore) (sym r.rows) h.ordered;
+      ordered = subst (AllPairs IsTableRowBefore) (sym r.rows) h.ordered;
       rows_known = λ settled there.
           r.known_others settled.set (settled_apart settled (renewed_rows settled there)) ∙ h.rows_known settled (renewed_rows settled there);
       waiting_known = λ other waits. elim (cases_eq other.set row.set) [
@@ -97,7 +97,7 @@ module _ (moves : List Move) (start : TableRow) (asked : PropSet) where
         ]
       ];
       later = λ settled wait there waits. elim (cases_eq wait.set row.set) [
-        | inl same ↦ subst (IsBefore settled) (sym (waits_is wait same waits)) (inl (above settled (renewed_rows settled there)))
+        | inl same ↦ subst (IsTableRowBefore settled) (sym (waits_is wait same waits)) (inl (above settled (renewed_rows settled there)))
         | inr apart ↦ h.later settled wait (renewed_rows settled there) (subst IsSome (r.others wait apart) waits)
       ];
       waiting_linked = λ other. if_some_from (link_waiting new other) (λ l. LinksTo moves start new.rows.items l other) (λ l e.
@@ -199,7 +199,7 @@ module _ (moves : List Move) (start : TableRow) (asked : PropSet) (old new : Sea
   settled_sound = record {
     linked = subst (λ (rows : List TableRow). AreLinked moves start rows new.links.items) (sym s.rows) (subst (AreLinked moves start (old.rows.items ++ row ∷ [])) (sym s.links)
         (linked_push moves start old.rows.items old.links.items row link h.linked (if_some_at (link_waiting old row) (λ l. LinksTo moves start old.rows.items l row) link next.waits (h.waiting_linked row))));
-    ordered = subst (AllPairs IsBefore) (sym s.rows) (all_pairs_push IsBefore old.rows.items row h.ordered (λ k d within.
+    ordered = subst (AllPairs IsTableRowBefore) (sym s.rows) (all_pairs_push IsTableRowBefore old.rows.items row h.ordered (λ k d within.
         h.later (slice_index_or old.rows.items k d) row (Contains-get_or old.rows.items k d within) row_waits));
     rows_known = λ settled there. s.known settled.set ∙ (elim (settled_cases settled there) [
       | inl t ↦ h.rows_known settled t
@@ -217,7 +217,7 @@ module _ (moves : List Move) (start : TableRow) (asked : PropSet) (old new : Sea
         let w = still_waits wait waits in
         elim (settled_cases settled there) [
           | inl t ↦ h.later settled wait t w.1
-          | inr e ↦ subst (λ (r : TableRow). IsBefore r wait) e (elim (next.first wait w.1) [
+          | inr e ↦ subst (λ (r : TableRow). IsTableRowBefore r wait) e (elim (next.first wait w.1) [
             | inl same ↦ absurd (w.0 (sym same))
             | inr b ↦ b
           ])

@@ -8,7 +8,7 @@ use Rattle.pm_rules.specs.declared.rule.Rule.{Rule}
 use Rattle.pm_rules.specs.declared.table.TableRow.{TableRow}
 use Rattle.pm_rules.specs.declared.table.Claim.TheVariants.{Least, NoChain}
 use Rattle.pm_rules.specs.Chains.{LeadsTo, IsLeast, HasNoChain, AreUseful, weigh}
-use Rattle.pm_rules.specs.Certificates.{HasRow, IsCertificate, Reaches, IsBefore, IsTable}
+use Rattle.pm_rules.specs.Certificates.{HasRow, IsCertificate, Reaches, IsTableRowBefore, IsTable}
 use Rattle.pm_plan.specs.declared.answer.PlanEnd.{PlanEnd}
 use Rattle.pm_plan.specs.declared.answer.PlanEnd.TheVariants as the_end
 use Rattle.pm_limits.specs.Limits.{most_table_rows}
@@ -48,14 +48,14 @@ pub record IsCrowded (book : List Rule) (names : PropSet) (barred : List RuleId)
       → IsAtMost row.cost other.cost) table
   pub below : All (λ row. IsBelowChains book names barred held asked row.cost) table
   pub once : AllPairs (λ a b. a.set ≢ b.set) table
-  pub ordered : AllPairs IsBefore table
+  pub ordered : AllPairs IsTableRowBefore table
   pub next : TableRow
   pub next_reached : (chain : List RuleId) × Reaches book names barred held asked next chain
   pub next_below : IsBelowChains book names barred held asked next.cost
   pub next_new : All (λ row. row.set ≢ next.set) table
-  pub first : All (λ row. IsBefore row next) table
+  pub first : All (λ row. IsTableRowBefore row next) table
   pub whole : (row : TableRow) (chain : List RuleId) → Reaches book names barred held asked row chain
-      → IsBefore row next → HasRow table row.set row.cost
+      → IsTableRowBefore row next → HasRow table row.set row.cost
 
 -- what an answer without a plan says
 abbrev pub SaysWhy : List Rule → PropSet → List RuleId → PropSet → PropSet → PlanEnd → Type 0

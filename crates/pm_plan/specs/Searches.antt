@@ -9,7 +9,7 @@ use Rattle.pm_props.specs.Sets.{IsSubset}
 use Rattle.pm_weights.specs.Weights.{IsBelow, IsAtMost}
 use Rattle.pm_rules.specs.declared.table.TableRow.{TableRow}
 use Rattle.pm_rules.specs.Steps.{IsOpen}
-use Rattle.pm_rules.specs.Certificates.{IsBefore}
+use Rattle.pm_rules.specs.Certificates.{IsTableRowBefore}
 use Rattle.pm_plan.specs.declared.moves.Move.{Move}
 use Rattle.pm_plan.specs.declared.track.Link.{Link}
 use Rattle.pm_plan.specs.declared.search.Place.{Place}
@@ -50,13 +50,13 @@ Offered asked s row = (IsSubset asked row.set × HasGoal s row.cost) ⊎ IsKnown
 -- all that is met is reached by moves, the rows are in order, and what waits comes after them
 pub record IsSoundSearch (moves : List Move) (start : TableRow) (asked : PropSet) (s : Search) : Type 0 where
   pub linked : AreLinked moves start s.rows.items s.links.items
-  pub ordered : AllPairs IsBefore s.rows.items
+  pub ordered : AllPairs IsTableRowBefore s.rows.items
   pub rows_known : (row : TableRow) → Contains s.rows.items row → cost_known s row.set ≡ Some row.cost
   pub waiting_known : (row : TableRow) → IsSome (link_waiting s row) → cost_known s row.set ≡ Some row.cost
   pub known_met : (row : TableRow) → cost_known s row.set ≡ Some row.cost → Contains s.rows.items row
       ⊎ IsSome (link_waiting s row)
   pub later : (row wait : TableRow) → Contains s.rows.items row → IsSome (link_waiting s wait)
-      → IsBefore row wait
+      → IsTableRowBefore row wait
   pub waiting_linked : (row : TableRow)
       → IfSome (link_waiting s row) (λ link. LinksTo moves start s.rows.items link row)
   pub known_open : (set : PropSet) → IsSome (cost_known s set) → IsSubset asked set → ⊥
@@ -73,7 +73,7 @@ IsClosed moves asked s = (row : TableRow) → Contains s.rows.items row → (m :
 -- the row waits with this link, and no row that waits comes before it
 pub record IsNext (s : Search) (row : TableRow) (link : Option Link) : Type 0 where
   pub waits : link_waiting s row ≡ Some link
-  pub first : (other : TableRow) → IsSome (link_waiting s other) → (row ≡ other) ⊎ IsBefore row other
+  pub first : (other : TableRow) → IsSome (link_waiting s other) → (row ≡ other) ⊎ IsTableRowBefore row other
 
 -- the row that waits is settled
 pub record Settles (old new : Search) (row : TableRow) (link : Option Link) : Type 0 where

@@ -11,7 +11,7 @@ use Rattle.pm_props.specs.Properties.{rays_tag, facets_tag, generators_tag, half
 use Rattle.pm_props.proofs.Members.{has-union}
 use Rattle.pm_weights.proofs.CostOrder.{at_most_from_parts}
 use Rattle.pm_rules.specs.declared.rule.Rule.{Rule}
-use Rattle.pm_rules.specs.Rules.{rule_at, IsFree, IsEnabled}
+use Rattle.pm_rules.specs.Rules.{rule_at, IsFreeOf, IsEnabled}
 use Rattle.pm_rules.specs.Chains.{IsChain, targets_at, weight_at, reached, weigh, LeadsTo, Needed, IsUseful, IsUsefulPart}
 use Rattle.pm_rules.specs.Chains.Needed.{is_asked, is_read}
 use Rattle.pm_rules.specs.Chains.IsUsefulPart.{none, keep, leave}
@@ -74,7 +74,7 @@ module _ (book : List Rule) (names : PropSet) (barred : List RuleId) (asked : Pr
     ];
   }
 
-  free_in_part : (full part : PropSet) (tag : PropId → Bool) → Follows book names barred asked full part → IsFree tag full → IsFree tag part
+  free_in_part : (full part : PropSet) (tag : PropId → Bool) → Follows book names barred asked full part → IsFreeOf tag full → IsFreeOf tag part
   free_in_part full part tag f free = λ p h. free p (f.within p h)
 
   -- a useful rule that is enabled at full is enabled at part

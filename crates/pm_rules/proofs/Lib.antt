@@ -1,4 +1,5 @@
 pub mod Followed
+pub mod Halves
 pub mod Labels
 pub mod NeededNames
 pub mod Opens

@@ -13,7 +13,7 @@ use Rattle.pm_rules.specs.declared.rule.Rule.{Rule}
 use Rattle.pm_rules.specs.declared.step.Tag.{Tag}
 use Rattle.pm_rules.specs.declared.step.Tag.TheVariants.{Rays, Facets, Generators, HalfSpaces}
 use Rattle.pm_rules.specs.declared.step.Step.{Step}
-use Rattle.pm_rules.specs.Rules.{names_of_rule, is_barred, EachTag, IsFree, IsInUse, IsEnabled}
+use Rattle.pm_rules.specs.Rules.{names_of_rule, is_barred, EachTag, IsFreeOf, IsInUse, IsEnabled}
 use Rattle.pm_rules.specs.Steps.{tag_test, some_has, some_program, is_fresh, is_fresh_somewhere, blocks, blocked, step_of, IsReady, IsOpen}
 
 -- ---- fresh tags
@@ -125,7 +125,7 @@ part_is_false tag kind p h = elim (cases_Bool (is_fresh tag kind)) [
   | inr e ↦ and_left (is_fresh tag kind) (tag_test tag p) e
 ]
 
-free_from_blocked : (kind : Kind) (held : PropSet) → ((p : PropId) → IsTrue (has held p) → has (blocked kind) p ≡ false) → EachTag (λ tag. IsFresh tag kind → IsFree tag held)
+free_from_blocked : (kind : Kind) (held : PropSet) → ((p : PropId) → IsTrue (has held p) → has (blocked kind) p ≡ false) → EachTag (λ tag. IsFresh tag kind → IsFreeOf tag held)
 free_from_blocked kind held h =
     let parts = λ (p : PropId) (k : IsTrue (has held p)). or_parts (is_fresh Rays kind && rays_tag p) ((is_fresh Facets kind && facets_tag p) || ((is_fresh Generators kind && generators_tag p) || (is_fresh HalfSpaces kind && half_spaces_tag p))) (sym (has-blocked kind p) ∙ h p k) in
     let rest = λ (p : PropId) (k : IsTrue (has held p)). or_parts (is_fresh Facets kind && facets_tag p) ((is_fresh Generators kind && generators_tag p) || (is_fresh HalfSpaces kind && half_spaces_tag p)) (parts p k).1 in
@@ -136,7 +136,7 @@ free_from_blocked kind held h =
       (λ f p k. part_false HalfSpaces kind p (last p k).1 f),
     )
 
-blocked_from_free : (kind : Kind) (held : PropSet) → EachTag (λ tag. IsFresh tag kind → IsFree tag held) → (p : PropId) → IsTrue (has held p) → has (blocked kind) p ≡ false
+blocked_from_free : (kind : Kind) (held : PropSet) → EachTag (λ tag. IsFresh tag kind → IsFreeOf tag held) → (p : PropId) → IsTrue (has held p) → has (blocked kind) p ≡ false
 blocked_from_free kind held h p k =
     has-blocked kind p ∙ or_from (is_fresh Rays kind && rays_tag p) ((is_fresh Facets kind && facets_tag p) || ((is_fresh Generators kind && generators_tag p) || (is_fresh HalfSpaces kind && half_spaces_tag p)))
     (part_is_false Rays kind p (λ f. h.0 f p k))

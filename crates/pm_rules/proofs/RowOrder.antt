@@ -4,7 +4,7 @@ use Rattle.pm_weights.specs.declared.Cost.{Cost}
 use Rattle.pm_weights.specs.Weights.{IsBelow, IsAtMost}
 use Rattle.pm_weights.proofs.CostOrder.{at_most_from_below, not_below_and_at_most, at_most_itself}
 use Rattle.pm_rules.specs.declared.table.TableRow.{TableRow}
-use Rattle.pm_rules.specs.Certificates.{IsBefore}
+use Rattle.pm_rules.specs.Certificates.{IsTableRowBefore}
 
 -- ---- costs
 pub below_itself : (a : Cost) → IsBelow a a → ⊥
@@ -29,15 +29,15 @@ both_at_most a b (inr h) (inr k) = same_cost a b h.0 (omega arith)
 pub same_row : (a b : TableRow) → a.set ≡ b.set → a.cost ≡ b.cost → a ≡ b
 same_row a b e f = ap₂ (λ (s : ℕ) (c : Cost). record { set = s; cost = c }) e f
 
-pub before_at_most : (a b : TableRow) → IsBefore a b → IsAtMost a.cost b.cost
+pub before_at_most : (a b : TableRow) → IsTableRowBefore a b → IsAtMost a.cost b.cost
 before_at_most a b (inl h) = at_most_from_below a.cost b.cost h
 before_at_most a b (inr h) = inr (ap (λ (c : Cost). c.class) h.0, (let e = ap (λ (c : Cost). c.minor) h.0 in omega arith))
 
-pub before_itself : (a b : TableRow) → a ≡ b → IsBefore a b → ⊥
+pub before_itself : (a b : TableRow) → a ≡ b → IsTableRowBefore a b → ⊥
 before_itself a b e (inl h) = below_itself b.cost (subst (λ (r : TableRow). IsBelow r.cost b.cost) e h)
 before_itself a b e (inr h) = let same = ap (λ (r : TableRow). r.set) e in omega (arith, h.1)
 
-pub before_trans : (a b c : TableRow) → IsBefore a b → IsBefore b c → IsBefore a c
+pub before_trans : (a b c : TableRow) → IsTableRowBefore a b → IsTableRowBefore b c → IsTableRowBefore a c
 before_trans a b c (inl h) k = inl (below_trans a.cost b.cost c.cost h (before_at_most b c k))
 before_trans a b c (inr h) (inl k) = inl (subst (λ (x : Cost). IsBelow x c.cost) (sym h.0) k)
 before_trans a b c (inr h) (inr k) = inr (h.0 ∙ k.0, omega arith)

@@ -46,8 +46,8 @@ pub record Reaches (book : List Rule) (names : PropSet) (barred : List RuleId) (
   pub cost : weigh book chain ≡ row.cost
 
 -- less cost, or at the same cost the lesser number
-abbrev pub IsBefore : TableRow → TableRow → Type 0
-IsBefore a b = IsBelow a.cost b.cost ⊎ ((a.cost ≡ b.cost) × (a.set < b.set))
+abbrev pub IsTableRowBefore : TableRow → TableRow → Type 0
+IsTableRowBefore a b = IsBelow a.cost b.cost ⊎ ((a.cost ≡ b.cost) × (a.set < b.set))
 
 -- exactly one row for each set that a chain of useful rules reaches within the claim, with the least cost of such a
 -- chain, in order of cost and then of the set as a number
@@ -58,4 +58,4 @@ pub record IsTable (book : List Rule) (names : PropSet) (barred : List RuleId) (
   pub whole : (row : TableRow) (chain : List RuleId) → Reaches book names barred held asked row chain
       → Within claim row.cost → HasRow table row.set row.cost
   pub once : AllPairs (λ a b. a.set ≢ b.set) table
-  pub ordered : AllPairs IsBefore table
+  pub ordered : AllPairs IsTableRowBefore table

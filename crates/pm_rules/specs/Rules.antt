@@ -30,8 +30,8 @@ abbrev pub EachTag : ((PropId → Bool) → Type 0) → Type 0
 EachTag P = P rays_tag × P facets_tag × P generators_tag × P half_spaces_tag
 
 -- no name held has the tag
-abbrev pub IsFree : (PropId → Bool) → PropSet → Type 0
-IsFree tag held = (p : PropId) → IsTrue (has held p) → tag p ≡ false
+abbrev pub IsFreeOf : (PropId → Bool) → PropSet → Type 0
+IsFreeOf tag held = (p : PropId) → IsTrue (has held p) → tag p ≡ false
 
 -- all names of the rule are in use, unless its kind has a name of linear programs and is fresh in a tag
 pub record IsInUse (names : PropSet) (rule : Rule) : Type 0 where
@@ -49,5 +49,5 @@ pub record IsEnabled (names : PropSet) (barred : List RuleId) (held : PropSet) (
   pub in_use : IsInUse names rule
   pub allowed : is_barred barred id ≡ false
   pub given : IsSubset (inputs rule) held
-  pub fresh : EachTag (λ tag. IsFresh tag rule.kind → IsFree tag held)
+  pub fresh : EachTag (λ tag. IsFresh tag rule.kind → IsFreeOf tag held)
   pub more : (p : PropId) × IsTrue (has rule.kind.targets p) × (has held p ≡ false)

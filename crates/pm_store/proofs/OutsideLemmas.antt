@@ -3,17 +3,17 @@ use Rattle.std.proofs.Common.{◌≡◌, ℕ, ◌<◌, ◌≤◌, ◌+◌, List,
 use Rattle.std.proofs.lemmas.List.{drop-drop, drop_all, length-take-le, take-append-drop, take_at}
 use Rattle.std.proofs.Math.Seq.{take-length}
 use Rattle.std.specs.Io.KnownBytes.{Appends}
-use Rattle.pm_store.specs.Outside.{Gains, IsAtEnd, Loses, Moves, Stays}
+use Rattle.pm_store.specs.Outside.{GainsTold, IsAtEnd, LosesTold, Moves, StaysTold}
 
 -- one gain after another
-pub Gains-then : (a b c : Option (List ℕ)) (xs ys zs : List ℕ) → Gains a b xs → Gains b c ys → xs ++ ys ≡ zs → Gains a c zs
+pub Gains-then : (a b c : Option (List ℕ)) (xs ys zs : List ℕ) → GainsTold a b xs → GainsTold b c ys → xs ++ ys ≡ zs → GainsTold a c zs
 Gains-then None b c xs ys zs h k e = tt
 Gains-then (Some had) b c xs ys zs h k e =
     let then : c ≡ Some ((had ++ xs) ++ ys) = rw h at k in
     then ∙ ap (λ (t : List ℕ). Some t) (append_assoc had xs ys ∙ ap (λ (t : List ℕ). had ++ t) e)
 
 -- what a writer took
-pub Gains-told : (old new : Option (List ℕ)) (bytes : List ℕ) → Appends old new bytes → Gains old new bytes
+pub Gains-told : (old new : Option (List ℕ)) (bytes : List ℕ) → Appends old new bytes → GainsTold old new bytes
 Gains-told None new bytes h = tt
 Gains-told (Some had) None bytes h = absurd h
 Gains-told (Some had) (Some all) bytes h = ap (λ (t : List ℕ). Some t) h
@@ -37,12 +37,12 @@ abbrev pub SoFar : Option (List ℕ) → Option (List ℕ) → List ℕ → Type
 SoFar old new got = IfSome old (λ all. (all ≡ got ++ drop (length got) all) × (new ≡ Some (drop (length got) all)))
 
 -- after a read that failed
-pub SoFar-fails : (old mid new : Option (List ℕ)) (got : List ℕ) → SoFar old mid got → Stays mid new → Loses old new
+pub SoFar-fails : (old mid new : Option (List ℕ)) (got : List ℕ) → SoFar old mid got → StaysTold mid new → LosesTold old new
 SoFar-fails None mid new got h s = tt
 SoFar-fails (Some all) mid new got h s = (length got, rw h.1 at s)
 
 -- after a read that moved k bytes
-pub SoFar-loses : (old mid new : Option (List ℕ)) (got buf : List ℕ) (k : ℕ) → SoFar old mid got → Moves mid new k buf → Loses old new
+pub SoFar-loses : (old mid new : Option (List ℕ)) (got buf : List ℕ) (k : ℕ) → SoFar old mid got → Moves mid new k buf → LosesTold old new
 SoFar-loses None mid new got buf k h m = tt
 SoFar-loses (Some all) mid new got buf k h m =
     let moved = rw h.1 at m in

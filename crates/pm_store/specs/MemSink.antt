@@ -12,8 +12,8 @@ pub record SinkState : Type 0 where
   pub faults : ℕ
 
 -- The next call fails with this piece: its number is listed, or there is no room for any of the piece.
-abbrev pub Refuses : SinkState → List ℕ → Type 0
-Refuses s piece = Contains s.failing s.calls ⊎ ((length s.taken ≡ s.room) × (0 < length piece))
+abbrev pub RefusesBytes : SinkState → List ℕ → Type 0
+RefusesBytes s piece = Contains s.failing s.calls ⊎ ((length s.taken ≡ s.room) × (0 < length piece))
 
 -- how many bytes of a piece of this length a call takes, unless it fails
 abbrev pub accepted : SinkState → ℕ → ℕ

@@ -25,8 +25,8 @@ put_file (file ∷ files) name bytes = if bytes_eq file.0 name then (file.0, byt
     else file ∷ put_file files name bytes
 
 -- the next call fails: its number is listed
-abbrev pub Fails : StoreState → Type 0
-Fails s = Contains s.failing s.calls
+abbrev pub StoreFails : StoreState → Type 0
+StoreFails s = Contains s.failing s.calls
 
 -- after a call that changed no file and did not fail
 abbrev pub after_call : StoreState → StoreState

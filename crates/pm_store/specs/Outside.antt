@@ -10,8 +10,8 @@ abbrev pub next_count : ℕ → ℕ
 next_count count = min (count + 1) (2 ^ 64 - 1)
 
 -- The bytes that are told, if they are, are the same as before.
-abbrev pub Stays : Option (List ℕ) → Option (List ℕ) → Type 0
-Stays old new = IfSome old (λ all. new ≡ Some all)
+abbrev pub StaysTold : Option (List ℕ) → Option (List ℕ) → Type 0
+StaysTold old new = IfSome old (λ all. new ≡ Some all)
 
 -- Of what is told to be left, if it is, the first k bytes moved to the front of the buffer, and the others are left.
 abbrev pub Moves : Option (List ℕ) → Option (List ℕ) → ℕ → List ℕ → Type 0
@@ -23,12 +23,12 @@ abbrev pub IsAtEnd : Option (List ℕ) → Type 0
 IsAtEnd left = IfSome left (λ all. all ≡ [])
 
 -- Of what was told to be left, if it was, some first bytes are gone, and the others are left.
-abbrev pub Loses : Option (List ℕ) → Option (List ℕ) → Type 0
-Loses old new = IfSome old (λ all. (n : ℕ) × (new ≡ Some (drop n all)))
+abbrev pub LosesTold : Option (List ℕ) → Option (List ℕ) → Type 0
+LosesTold old new = IfSome old (λ all. (n : ℕ) × (new ≡ Some (drop n all)))
 
 -- To what was told to be taken, if it was, these bytes were added.
-abbrev pub Gains : Option (List ℕ) → Option (List ℕ) → List ℕ → Type 0
-Gains old new bytes = IfSome old (λ had. new ≡ Some (had ++ bytes))
+abbrev pub GainsTold : Option (List ℕ) → Option (List ℕ) → List ℕ → Type 0
+GainsTold old new bytes = IfSome old (λ had. new ≡ Some (had ++ bytes))
 
 -- To what was told to be taken, if it was, some first bytes of these were added, and not all of them.
 abbrev pub GainsPart : Option (List ℕ) → Option (List ℕ) → List ℕ → Type 0

@@ -3,7 +3,7 @@
 #![tactic(auto)]
 
 ghost use Rattle.std.specs.Prelude.{◌≡◌, ℕ, ◌+◌, ◌<◌, ◌≤◌, ◌^◌, List, Option, None, IfOk, OnErr, length, take};
-ghost use Rattle.pm_store.specs.Outside.{Rose, Stays, Moves, IsAtEnd, Gains};
+ghost use Rattle.pm_store.specs.Outside.{Rose, StaysTold, Moves, IsAtEnd, GainsTold};
 ghost use Rattle.pm_store.specs.Examples.{FilesAreFound, FilesArePut, WordsNameFiles};
 
 use thiserror::Error;
@@ -29,7 +29,7 @@ pub trait Source {
         ensures same_length { length buf.new ≡ length buf.old }
         ensures moves { IfOk result (λ k. Moves (left self.old) (left self.new) k buf.new) }
         ensures end { IfOk result (λ k. k ≡ 0 → 0 < length buf.new → IsAtEnd (left self.old)) }
-        ensures err { OnErr result (Stays (left self.old) (left self.new)) }
+        ensures err { OnErr result (StaysTold (left self.old) (left self.new)) }
         ensures fault { OnErr result (Rose (faults self.old) (faults self.new)) }
         ensures never_falls { faults self.old ≤ faults self.new }
         ensures count_fits { faults self.new < 2 ^ 64 };
@@ -47,9 +47,9 @@ pub trait Sink {
     /// At `Failed` none was taken.
     fn write(&mut self, piece: &[u8]) -> Result<usize, Failed>
         ensures within { IfOk result (λ k. k ≤ length piece.now) }
-        ensures takes { IfOk result (λ k. Gains (taken self.old) (taken self.new) (take k piece.now)) }
+        ensures takes { IfOk result (λ k. GainsTold (taken self.old) (taken self.new) (take k piece.now)) }
         ensures some { 0 < length piece.now → IfOk result (λ k. 0 < k) }
-        ensures err { OnErr result (Stays (taken self.old) (taken self.new)) }
+        ensures err { OnErr result (StaysTold (taken self.old) (taken self.new)) }
         ensures fault { OnErr result (Rose (faults self.old) (faults self.new)) }
         ensures never_falls { faults self.old ≤ faults self.new }
         ensures count_fits { faults self.new < 2 ^ 64 };

@@ -1,8 +1,8 @@
 // A sink in memory, for tests and for proofs about whole runs.
 
 ghost use Rattle.std.specs.Prelude.{◌≡◌, ◌↔◌, ◌+◌, ◌<◌, ◌≤◌, ◌^◌, [], Some, IfOk, OnErr, IsErr, MatchResult, length, take, vec_len, vec_capacity};
-ghost use Rattle.pm_store.specs.Outside.{Rose, Stays, Gains};
-ghost use Rattle.pm_store.specs.MemSink.{SinkState, Refuses, accepted, after_taking, after_fault};
+ghost use Rattle.pm_store.specs.Outside.{Rose, StaysTold, GainsTold};
+ghost use Rattle.pm_store.specs.MemSink.{SinkState, RefusesBytes, accepted, after_taking, after_fault};
 
 use crate::{Failed, Sink};
 use std::alloc::{AllocError, Global};
@@ -75,15 +75,15 @@ impl Sink for MemSink {
         // As at every sink.
         ensures within { IfOk result (λ k. k ≤ length piece.now) }
         ensures takes { IfOk result (λ k.
-            Gains (Some self.old.taken) (Some self.new.taken) (take k piece.now)) }
+            GainsTold (Some self.old.taken) (Some self.new.taken) (take k piece.now)) }
         ensures some { 0 < length piece.now → IfOk result (λ k. 0 < k) }
-        ensures err { OnErr result (Stays (Some self.old.taken) (Some self.new.taken)) }
+        ensures err { OnErr result (StaysTold (Some self.old.taken) (Some self.new.taken)) }
         ensures fault { OnErr result (Rose self.old.faults self.new.faults) }
         ensures never_falls { self.old.faults ≤ self.new.faults }
         ensures count_fits { self.new.faults < 2 ^ 64 }
 
         // It fails at the listed calls and where it is full alone, and else takes as many bytes as it may.
-        ensures fails { IsErr result ↔ Refuses self.old piece.now }
+        ensures fails { IsErr result ↔ RefusesBytes self.old piece.now }
         ensures accepts { IfOk result (λ k. k ≡ accepted self.old (length piece.now)) }
         ensures after { MatchResult result (λ k. self.new ≡ after_taking self.old (take k piece.now)) (λ _.
             self.new ≡ after_fault self.old) }

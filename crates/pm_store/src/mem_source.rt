@@ -1,7 +1,7 @@
 // A source in memory, for tests and for proofs about whole runs.
 
 ghost use Rattle.std.specs.Prelude.{◌≡◌, ◌↔◌, ◌+◌, ◌++◌, ◌<◌, ◌≤◌, ◌^◌, Some, IfOk, OnErr, IsErr, MatchResult, Contains, length, drop, vec_len};
-ghost use Rattle.pm_store.specs.Outside.{Rose, Stays, Moves, IsAtEnd};
+ghost use Rattle.pm_store.specs.Outside.{Rose, StaysTold, Moves, IsAtEnd};
 ghost use Rattle.pm_store.specs.MemSource.{SourceState, given, after_giving, after_fault};
 
 use crate::{Failed, Source};
@@ -70,7 +70,7 @@ impl Source for MemSource {
         ensures same_length { length buf.new ≡ length buf.old }
         ensures moves { IfOk result (λ k. Moves (Some self.old.left) (Some self.new.left) k buf.new) }
         ensures end { IfOk result (λ k. k ≡ 0 → 0 < length buf.new → IsAtEnd (Some self.old.left)) }
-        ensures err { OnErr result (Stays (Some self.old.left) (Some self.new.left)) }
+        ensures err { OnErr result (StaysTold (Some self.old.left) (Some self.new.left)) }
         ensures fault { OnErr result (Rose self.old.faults self.new.faults) }
         ensures never_falls { self.old.faults ≤ self.new.faults }
         ensures count_fits { self.new.faults < 2 ^ 64 }

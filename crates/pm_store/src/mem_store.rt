@@ -3,7 +3,7 @@
 ghost use Rattle.std.specs.Prelude.{◌≡◌, ◌↔◌, ◌+◌, ◌<◌, ◌≤◌, ◌^◌, [], Some, IfOk, IfSome, IfErr, OnOk, OnErr, IsErr, IsErrOf, MatchResult, map, vec_len, option_map, position, bytes_eq, string_bytes};
 ghost use Rattle.pm_store.specs.Outside.{Rose};
 ghost use Rattle.pm_store.specs.Files.{AreTold, FilesStay, HasNamesOnce, IsPut, IsPutInPart, file_of, most_read, read_part};
-ghost use Rattle.pm_store.specs.MemStore.{Fails, StoreState, after_call, after_fault, after_put, after_refusal, put_file, seen_file};
+ghost use Rattle.pm_store.specs.MemStore.{StoreFails, StoreState, after_call, after_fault, after_put, after_refusal, put_file, seen_file};
 
 use crate::Failed;
 use crate::store::{MOST_READ, Store, StoreFail};
@@ -95,7 +95,7 @@ impl MemStore {
 
     /// Counts a call, and fails where its number is listed.
     fn begin(&mut self) -> Result<(), Failed>
-        ensures fails { IsErr result ↔ Fails self.old }
+        ensures fails { IsErr result ↔ StoreFails self.old }
         ensures after { MatchResult result (λ _. self.new ≡ after_call self.old) (λ _.
             self.new ≡ after_fault self.old) }
         ensures once { HasNamesOnce self.new.files }
@@ -128,7 +128,7 @@ impl Store for MemStore {
         ensures count_fits { self.new.faults < 2 ^ 64 }
 
         // It fails at the listed calls alone.
-        ensures fails { IsErrOf result StoreFail.Failed ↔ Fails self.old }
+        ensures fails { IsErrOf result StoreFail.Failed ↔ StoreFails self.old }
         ensures after { MatchResult result (λ _. self.new ≡ after_call self.old) (λ e.
             self.new ≡ after_refusal self.old e) }
     {
@@ -154,7 +154,7 @@ impl Store for MemStore {
         ensures count_fits { self.new.faults < 2 ^ 64 }
 
         // It fails at the listed calls alone, and changes no other file and no order of files.
-        ensures fails { IsErrOf result StoreFail.Failed ↔ Fails self.old }
+        ensures fails { IsErrOf result StoreFail.Failed ↔ StoreFails self.old }
         ensures after { MatchResult result (λ _. self.new ≡ after_put self.old name.now bytes.now) (λ e.
             self.new ≡ after_refusal self.old e) }
     {

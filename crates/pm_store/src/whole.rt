@@ -1,7 +1,7 @@
 // All that a source has, or its first bytes, and all of a piece into a sink.
 
 ghost use Rattle.std.specs.Prelude.{◌≡◌, ◌<◌, ◌≤◌, ◌^◌, Some, [], IfOk, IfSome, OnOk, OnErr, IsErrOf, length, take, vec_len};
-ghost use Rattle.pm_store.specs.Outside.{Rose, Gains, GainsPart, Loses};
+ghost use Rattle.pm_store.specs.Outside.{Rose, GainsTold, GainsPart, LosesTold};
 ghost use Rattle.pm_store.specs.declared.whole.ReadFail.TheVariants.{Fault, Memory};
 
 use crate::{Failed, Sink, Source, StoreFail};
@@ -54,7 +54,7 @@ pub fn read_up_to<S: Source>(
     ensures fault { IsErrOf result ReadFail.Fault → Rose (S.faults source.old) (S.faults source.new) }
     ensures too_long { IsErrOf result ReadFail.TooLong
         → IfSome (S.left source.old) (λ all. limit < length all) }
-    ensures left { Loses (S.left source.old) (S.left source.new) }
+    ensures left { LosesTold (S.left source.old) (S.left source.new) }
     ensures never_falls { S.faults source.old ≤ S.faults source.new }
 {
     let mut bytes = Vec::new(alloc);
@@ -81,7 +81,7 @@ pub(crate) fn read_first<S: Source>(
     ensures first { IfOk result (λ v. IfSome (S.left source.old) (λ all. v.items ≡ take limit all)) }
     ensures bound { IfOk result (λ v. vec_len v ≤ limit) }
     ensures fault { IsErrOf result StoreFail.Failed → Rose (S.faults source.old) (S.faults source.new) }
-    ensures left { Loses (S.left source.old) (S.left source.new) }
+    ensures left { LosesTold (S.left source.old) (S.left source.new) }
     ensures never_falls { S.faults source.old ≤ S.faults source.new }
 {
     let mut bytes = Vec::new(alloc);
@@ -99,7 +99,7 @@ pub(crate) fn read_first<S: Source>(
 
 /// Writes all of a piece. At `Failed` the sink failed, and took a first part of the piece and not all of it.
 pub fn write_all<K: Sink>(sink: &mut K, piece: &[u8]) -> Result<(), Failed>
-    ensures ok { OnOk result (Gains (K.taken sink.old) (K.taken sink.new) piece.now) }
+    ensures ok { OnOk result (GainsTold (K.taken sink.old) (K.taken sink.new) piece.now) }
     ensures part { OnErr result (GainsPart (K.taken sink.old) (K.taken sink.new) piece.now) }
     ensures fault { OnErr result (Rose (K.faults sink.old) (K.faults sink.new)) }
     ensures never_falls { K.faults sink.old ≤ K.faults sink.new }

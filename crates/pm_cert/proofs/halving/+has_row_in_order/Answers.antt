@@ -1,6 +1,6 @@
 use Rattle.std.proofs.Common.{arith, inl, inr, length, refl, subst, sym, true≢false, ◌≤◌, ◌<◌, ◌/◌}
 use Rattle.std.specs.Prelude.{AllPairs}
-use Rattle.pm_rules.specs.Certificates.{HasRow, IsBefore}
+use Rattle.pm_rules.specs.Certificates.{HasRow, IsTableRowBefore}
 use Rattle.pm_weights.specs.Weights.{plus}
 use Rattle.pm_cert.proofs.Ordered.{front_in_order, none_outside, not_zero, row_of_a_part, row_of_front}
 use Rattle.pm_cert.proofs.halving.+has_row_in_order.Goals as goal
@@ -12,7 +12,7 @@ pub has_row_in_order-requires-else-has_row_in_order : goal.has_row_in_order-requ
 has_row_in_order-requires-else-has_row_in_order t c =
     let some : 0 < length c.args.rows.now = not_zero (length c.args.rows.now) c.if-is_empty.ensures in
     let shorter : length c.split_at.result.0.now < t = omega (arith, c.split_at.ensures.front_len, c.decreases) in
-    (shorter, subst (λ rows. AllPairs IsBefore rows) (sym c.split_at.ensures.front) (front_in_order c.args.rows.now (length c.args.rows.now / 2) (omega arith) c.requires))
+    (shorter, subst (λ rows. AllPairs IsTableRowBefore rows) (sym c.split_at.ensures.front) (front_in_order c.args.rows.now (length c.args.rows.now / 2) (omega arith) c.requires))
 
 pub returns-else-has_row_in_order : goal.returns-else-has_row_in_order
 returns-else-has_row_in_order t c =
