@@ -1,14 +1,14 @@
 -- What is loaded again of a small cone, value by value and mark by mark.
-use Rattle.std.proofs.Common.{ap, refl, subst, sym, true, ◌≡◌, ◌∙◌, None, [], ◌∷◌, ℕ, inl}
-use Rattle.std.specs.Prelude.{IsTrue}
+use Rattle.std.proofs.Common.{ap, refl, subst, sym, true, ◌≡◌, ◌∙◌, None, [], ◌∷◌, ℕ, arith, inl, inr}
+use Rattle.std.specs.Prelude.{IsTrue, List, length}
 use Rattle.std.specs.List.{Contains}
 use Rattle.pm_vector.proofs.Lists.{Among, Contains_among, among_Contains, here, there}
 use Rattle.pm_examples_objects.proofs.Filing.{files_are_loaded}
-use Rattle.pm_examples_objects.specs.Filing.{excluded_second, small_object, two_rules}
-use Rattle.pm_examples_objects.specs.LoadedAgain.{LoadedIsAgain, failure}
-use Rattle.pm_filing.specs.Filing.{marked}
+use Rattle.pm_examples_objects.specs.Filing.{excluded_second, small_file, small_object, two_rules}
+use Rattle.pm_examples_objects.specs.LoadedAgain.{LoadedIsAgain, dimension, failure}
+use Rattle.pm_filing.specs.Filing.{marked, unsettled_object}
 use Rattle.pm_filing.specs.Whole.{IsFailure, held_again, is_kept}
-use Rattle.pm_object.specs.State.{HeldValue, State, file_value}
+use Rattle.pm_object.specs.State.{HeldValue, State, file_value, settling}
 use Rattle.pm_object.specs.declared.held.Excluded.{Excluded}
 use Rattle.pm_object.specs.declared.held.Origin.TheVariants.{Computed, Given, Stored}
 use Rattle.pm_object.specs.declared.held.Why.TheVariants as why
@@ -16,9 +16,6 @@ use Rattle.pm_props.specs.declared.property.PropId.TheVariants.{ConeAmbientDim, 
 use Rattle.pm_rules.specs.declared.rule.Rule.{Rule}
 use Rattle.pm_types.specs.Values.{truth, whole}
 use lib.IntN.{pos}
-
-abbrev dimension : HeldValue
-dimension = file_value Given ConeAmbientDim (whole (pos 2))
 
 abbrev pointed_stored : HeldValue
 pointed_stored = file_value Stored Pointed (truth true)
@@ -59,6 +56,14 @@ none_stored : (h : HeldValue) → Among h (small_object Given []).held → h.pro
 none_stored h here p o = cc
 none_stored h (there here) p o = cc
 none_stored h (there (there i)) p o = elim i [ ]
+
+other_than_dimension : (g : HeldValue) → Among g (dimension ∷ []) → held_again g ≡ pointed_given → ⊥
+other_than_dimension g here e = let p = ap (λ (h : HeldValue). h.property) e in cc
+other_than_dimension g (there i) e = elim i [ ]
+
+-- nothing goes without saying of the file
+nothing_unsaid : (rule : Rule) → settling (unsettled_object (two_rules rule) (small_file [] [])) ≡ []
+nothing_unsaid rule = refl
 
 -- ---- marks
 abbrev mark : Excluded
@@ -122,5 +127,12 @@ loaded_is_again = record {
       let made : Contains (mark ∷ []) mark = Contains_among (here {xs = []}) in
       let (e, k, f, is) = s.no_others mark (excluded_in (files_are_loaded.is_marked rule) made) in
       no_failure f.excluded;
+  program_lost = λ rule s. (let e = ap length (ap (λ (x : State). x.programs) (sym (files_are_loaded.given (two_rules rule))) ∙ s.programs) in omega arith);
+  value_made = λ rule s.
+      let made : Contains (small_object Given []).held pointed_given = Contains_among (there {y = dimension} (here {xs = []})) in
+      elim (s.others pointed_given (held_in (files_are_loaded.given (two_rules rule)) made)) [
+        | inl c ↦ other_than_dimension c.0 (among_Contains _ c.1) (sym c.3)
+        | inr c ↦ no_failure (subst (λ (hs : List HeldValue). Contains hs pointed_given) (nothing_unsaid rule) c)
+      ];
   other_type = λ rule s. (let e = ap (λ (x : State). x.of) (sym (files_are_loaded.given (two_rules rule))) ∙ s.of in cc);
 }

@@ -1,12 +1,13 @@
 -- The examples, by what the definitions say.
-use Rattle.pm_telling.specs.Telling.{evidence_of, held_told, names_told}
+use Rattle.pm_telling.specs.Telling.{evidence_of, held_told, names_told, programs_told}
 use Rattle.pm_machine.proofs.KeepingSteps.{some_not_none}
 use Rattle.pm_rounds.specs.Events.{Configuration}
-use Rattle.pm_props.specs.declared.property.PropId.TheVariants.{LinearObjective}
+use Rattle.pm_props.specs.declared.property.PropId.TheVariants.{LinearObjective, MaximalValue}
 use Rattle.pm_machine.specs.Machines.{Files, IsNewName, Machine, Stays, later_rounds, no_room, shelf}
 use Rattle.pm_machine.specs.Steps.{CopyStep, DropStep, Ensures, EvidenceStep, Explains, Gives, HasBytes, HasNone, HistoryStep, IsSavedWhole, LoadStep, LookupStep, NewStep, Puts, SaveStep, ShowStep, TakeValue, bytes_of, has_label, is_computed, is_copied, is_crowded, is_dropped, is_loaded, is_made, is_planned, is_refused, is_saved, is_sealed, is_shown, is_told, no_chain, no_new_name, no_such_file, other_type, part_named, store_failed}
 use Rattle.pm_object.specs.State.{State, empty_object, is_polytope, is_sealed_at, place_named, program_refusal, with_program}
 use Rattle.pm_object.specs.declared.held.Origin.{Origin}
+use Rattle.pm_object.specs.declared.held.Origin.TheVariants.{Computed}
 use Rattle.pm_object.specs.declared.held.ProgramFail.{ProgramFail}
 use Rattle.pm_object.specs.declared.held.ProgramFail.TheVariants as no_program
 use Rattle.pm_object_type.specs.declared.object_type.ObjectType.TheVariants.{Cone, Polytope}
@@ -179,6 +180,30 @@ history_told : (book : List Rule) (old new : Machine) (name : List ℕ) (t : Rou
     → t.names.programs ≡ codes "a" ∷ codes "b" ∷ []
 history_told book old new name t excluded is (is_told o at rounds out s) = ap (λ (r : Rounds). r.names.programs) rounds ∙ ap (λ (o : State). o.programs) (of_object old name two_programs o is at)
 
+-- what is shown of two programs
+type_told : (old new : Machine) (name : List ℕ) (of : ObjectType) (held : List (PropId × Origin)) (programs : List (List ℕ × List (PropId × Origin))) → old.object name ≡ Some two_programs
+    → ShowStep old name (lists_held of held programs) new → of ≡ Polytope
+type_told old new name of held programs is (is_told o at typed holds are s) = typed ∙ ap (λ (z : State). z.of) (of_object old name two_programs o is at)
+
+no_cone : Cone ≡ Polytope → ⊥
+no_cone e = cc
+
+programs_told_of : (old new : Machine) (name : List ℕ) (of : ObjectType) (held : List (PropId × Origin)) (programs : List (List ℕ × List (PropId × Origin))) → old.object name ≡ Some (with_optimum two_programs)
+    → ShowStep old name (lists_held of held programs) new → programs ≡ (codes "a", (MaximalValue, Computed) ∷ []) ∷ (codes "b", []) ∷ []
+programs_told_of old new name of held programs is (is_told o at typed holds are s) = are ∙ ap programs_told (of_object old name (with_optimum two_programs) o is at)
+
+programs_of_two : (old new : Machine) (name : List ℕ) (of : ObjectType) (held : List (PropId × Origin)) (programs : List (List ℕ × List (PropId × Origin))) → old.object name ≡ Some two_programs
+    → ShowStep old name (lists_held of held programs) new → programs ≡ (codes "a", []) ∷ (codes "b", []) ∷ []
+programs_of_two old new name of held programs is (is_told o at typed holds are s) = are ∙ ap programs_told (of_object old name two_programs o is at)
+
+none_left_out : {X : Type 0} {x : X} {xs : List X} → [] ≡ x ∷ xs → ⊥
+none_left_out e = cc
+
+evidence_told_of : (book : List Rule) (old new : Machine) (name label : List ℕ) (excluded : List Excluded) (names : NamesSeen) → old.object name ≡ Some two_programs
+    → EvidenceStep book old name label (tells_evidence excluded names) new → names.programs ≡ codes "a" ∷ codes "b" ∷ []
+evidence_told_of book old new name label excluded names is (is_told o at known out named s) =
+    ap (λ (n : NamesSeen). n.programs) named ∙ ap (λ (z : State). (names_told book z).programs) (of_object old name two_programs o is at)
+
 pub programs_are_read : ProgramsAreRead
 unfolding has union only
 programs_are_read = record {
@@ -211,6 +236,11 @@ programs_are_read = record {
   programs_told = λ book. refl;
   is_shown = part_shown;
   history_tells = history_told;
+  type_shown = type_told;
+  no_other_type = λ old new name held programs is s. no_cone (type_told old new name Cone held programs is s);
+  programs_shown = programs_told_of;
+  no_program_left_out = λ old new name of held is s. none_left_out (programs_of_two old new name of held [] is s);
+  evidence_tells = evidence_told_of;
 }
 
 -- ---- files

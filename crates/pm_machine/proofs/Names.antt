@@ -51,6 +51,10 @@ use Rattle.std.specs.Option.{IsSome, is_some, option_and_then, option_map}
 use Rattle.std.specs.String.{string_eq}
 use Rattle.std.specs.Prelude.{Bool, String, Err, IfOk, List, None, Ok, OnErr, OnOk, Option, Result, Some, [], cond, drop, length, map, string_bytes, ℕ, ◌++◌, ◌∷◌, ◌≡◌, ◌⊎◌}
 
+-- what a word names in a type is what it names in the type that was told
+pub named_as : {told of : ObjectType} {found is : Option PropId} (sub : Option ℕ) (word : List ℕ) → told ≡ of → found ≡ property_named told sub word → found ≡ is → property_named of sub word ≡ is
+named_as sub word same named found = ap (λ t. property_named t sub word) (sym same) ∙ sym named ∙ found
+
 decide : (b : Bool) → (b ≡ true) ⊎ (b ≡ false)
 decide true = inl refl
 decide false = inr refl

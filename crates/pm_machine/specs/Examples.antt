@@ -215,6 +215,23 @@ pub record ProgramsAreRead : Type 0 where
   pub history_tells : (book : List Rule) (old new : Machine) (name : List ℕ) (t : Rounds)
       (excluded : List Excluded) → old.object name ≡ Some two_programs
       → HistoryStep book old name (tells t excluded) new → t.names.programs ≡ codes "a" ∷ codes "b" ∷ []
+  -- an object is shown with its type and its programs, each with what it holds, and evidence with their names
+  pub type_shown : (old new : Machine) (name : List ℕ) (of : ObjectType) (held : List (PropId × Origin))
+      (programs : List (List ℕ × List (PropId × Origin))) → old.object name ≡ Some two_programs
+      → ShowStep old name (lists_held of held programs) new → of ≡ Polytope
+  pub no_other_type : (old new : Machine) (name : List ℕ) (held : List (PropId × Origin))
+      (programs : List (List ℕ × List (PropId × Origin))) → old.object name ≡ Some two_programs
+      → ShowStep old name (lists_held Cone held programs) new → ⊥
+  pub programs_shown : (old new : Machine) (name : List ℕ) (of : ObjectType) (held : List (PropId × Origin))
+      (programs : List (List ℕ × List (PropId × Origin))) → old.object name ≡ Some (with_optimum two_programs)
+      → ShowStep old name (lists_held of held programs) new
+      → programs ≡ (codes "a", (MaximalValue, Computed) ∷ []) ∷ (codes "b", []) ∷ []
+  pub no_program_left_out : (old new : Machine) (name : List ℕ) (of : ObjectType) (held : List (PropId × Origin))
+      → old.object name ≡ Some two_programs → ShowStep old name (lists_held of held []) new → ⊥
+  pub evidence_tells : (book : List Rule) (old new : Machine) (name label : List ℕ) (excluded : List Excluded)
+      (names : NamesSeen) → old.object name ≡ Some two_programs
+      → EvidenceStep book old name label (tells_evidence excluded names) new
+      → names.programs ≡ codes "a" ∷ codes "b" ∷ []
 
 -- a store that tells this one file
 abbrev pub one_file : List ℕ → List ℕ → Store

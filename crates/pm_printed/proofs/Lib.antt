@@ -1,4 +1,3 @@
-pub mod Halves
 pub mod Chains
 pub mod Verdicts
 pub mod Plain

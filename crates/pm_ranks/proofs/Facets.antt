@@ -49,14 +49,47 @@ module _ (n : ℕ) (V K : List Row) (hv : HasCols n V) (hk : HasCols n K) (o : I
           (λ e le v. (vanish e le).0 v)
 
 -- ---- any generators
-pub each_has_rank : EachHasRank
-each_has_rank n G L hg hl V o f face =
+-- their extreme rays V with lines K generate the same, and the rows that vanish there are the span of E
+record Described (n : ℕ) (G L V : List Row) : Type 0 where
+  lines : List Row
+  lines_cols : HasCols n lines
+  own : IsOrder n (InCone V lines) V
+  to : (x : Row) → length x ≡ n → InCone G L x → InCone V lines x
+  from : (x : Row) → length x ≡ n → InCone V lines x → InCone G L x
+  rank : ℕ
+  has_rank : IsRank lines rank
+  equations : List Row
+  equations_cols : HasCols n equations
+  vanish : (a : Row) → length a ≡ n → Vanishes n V lines a ↔ InSpan equations a
+  count : ℕ
+  has_count : IsRank equations count
+
+described : (n : ℕ) (G L : List Row) → HasCols n G → HasCols n L → (V : List Row) → IsOrder n (InCone G L) V → Described n G L V
+described n G L hg hl V o =
     let (V0, K, hk, o0, line, gen) = extremes_generate n G L hg hl in
     let (l, rl) = rank_exists n K hk in
-    let to = cone_to n G L hg hl V K hk o line in
-    let from = cone_from n G L hg hl V K hk o line in
-    let r = face_rank n V K (order_cols n (InCone G L) V o) hk (own_order n G L hg hl V K hk o line) l rl f (face_back n G L V K to from face) in
-    (r.0, rank_as n G L V K to from r.0 f r.1)
+    let (F0, E, he, oF0, vanish, valid, cut) = facet_rows_cut_out n V K (order_cols n (InCone G L) V o) hk in
+    let (m, rm) = rank_exists n E he in
+    record {
+      lines = K;
+      lines_cols = hk;
+      own = own_order n G L hg hl V K hk o line;
+      to = cone_to n G L hg hl V K hk o line;
+      from = cone_from n G L hg hl V K hk o line;
+      rank = l;
+      has_rank = rl;
+      equations = E;
+      equations_cols = he;
+      vanish = vanish;
+      count = m;
+      has_count = rm;
+    }
+
+pub each_has_rank : EachHasRank
+each_has_rank n G L hg hl V o f face =
+    let s = described n G L hg hl V o in
+    let r = face_rank n V s.lines (order_cols n (InCone G L) V o) s.lines_cols s.own s.rank s.has_rank f (face_back n G L V s.lines s.to s.from face) in
+    (r.0, rank_as n G L V s.lines s.to s.from r.0 f r.1)
 
 valid_order : (n : ℕ) (G L V K F : List Row) → ((x : Row) → length x ≡ n → InCone G L x → InCone V K x) → ((x : Row) → length x ≡ n → InCone V K x → InCone G L x) → IsOrder n (IsValid n G L) F → IsOrder n (IsValid n V K) F
 valid_order n G L V K F to from o = order_as n (IsValid n G L) (IsValid n V K)
@@ -66,18 +99,12 @@ valid_order n G L V K F to from o = order_as n (IsValid n G L) (IsValid n V K)
 
 pub facets_are_highest : FacetsAreHighest
 facets_are_highest n G L hg hl V F oV oF k r' f =
-    let (V0, K, hk, o0, line, gen) = extremes_generate n G L hg hl in
-    let (l, rl) = rank_exists n K hk in
-    let to = cone_to n G L hg hl V K hk oV line in
-    let from = cone_from n G L hg hl V K hk oV line in
+    let s = described n G L hg hl V oV in
     let hv = order_cols n (InCone G L) V oV in
-    let own = own_order n G L hg hl V K hk oV line in
-    let (F0, E, he, oF0, vanish, valid, cut) = facet_rows_cut_out n V K hv hk in
-    let (m, rm) = rank_exists n E he in
-    let oF' = valid_order n G L V K F to from oF in
-    let top = rank_back n G L V K to from (suc k) (λ j. true) r' in (
-      λ r. highest_is_facet n V K hv hk own l rl F E he oF' vanish m rm (λ j. true) (λ j lj. refl) (suc k) top f k refl (rank_back n G L V K to from k f r),
-      λ c. rank_as n G L V K to from k f (facet_is_highest n V K hv hk own l rl F E he oF' vanish m rm (λ j. true) (λ j lj. refl) (suc k) top f k refl c.0 c.1 c.2),
+    let oF' = valid_order n G L V s.lines F s.to s.from oF in
+    let top = rank_back n G L V s.lines s.to s.from (suc k) (λ j. true) r' in (
+      λ r. highest_is_facet n V s.lines hv s.lines_cols s.own s.rank s.has_rank F s.equations s.equations_cols oF' s.vanish s.count s.has_count (λ j. true) (λ j lj. refl) (suc k) top f k refl (rank_back n G L V s.lines s.to s.from k f r),
+      λ c. rank_as n G L V s.lines s.to s.from k f (facet_is_highest n V s.lines hv s.lines_cols s.own s.rank s.has_rank F s.equations s.equations_cols oF' s.vanish s.count s.has_count (λ j. true) (λ j lj. refl) (suc k) top f k refl c.0 c.1 c.2),
     )
 
 -- the set of the places at which two rows of F both vanish
@@ -96,19 +123,13 @@ whole_ranked n G L hg hl V o = each_has_rank n G L hg hl V o (λ j. true) (recor
 
 pub ridges_by_facets : RidgesByFacets
 ridges_by_facets n G L hg hl V F oV oF i k =
-    let (V0, K, hk, o0, line, gen) = extremes_generate n G L hg hl in
-    let (l, rl) = rank_exists n K hk in
-    let to = cone_to n G L hg hl V K hk oV line in
-    let from = cone_from n G L hg hl V K hk oV line in
+    let s = described n G L hg hl V oV in
     let hv = order_cols n (InCone G L) V oV in
-    let own = own_order n G L hg hl V K hk oV line in
-    let (F0, E, he, oF0, vanish, valid, cut) = facet_rows_cut_out n V K hv hk in
-    let (m, rm) = rank_exists n E he in
-    let oF' = valid_order n G L V K F to from oF in
+    let oF' = valid_order n G L V s.lines F s.to s.from oF in
     let top = whole_ranked n G L hg hl V oV in (
-      λ r. (r.first, r.second, r.apart, ridge_no_other n V K hv hk own l rl F E he oF' vanish m rm (λ j. true) (λ j lj. refl) (r.rank + 2) (rank_back n G L V K to from (r.rank + 2) (λ j. true) r.whole) i k r.first r.second r.apart r.shared r.places r.rank refl (rank_back n G L V K to from r.rank r.shared r.face)),
+      λ r. (r.first, r.second, r.apart, ridge_no_other n V s.lines hv s.lines_cols s.own s.rank s.has_rank F s.equations s.equations_cols oF' s.vanish s.count s.has_count (λ j. true) (λ j lj. refl) (r.rank + 2) (rank_back n G L V s.lines s.to s.from (r.rank + 2) (λ j. true) r.whole) i k r.first r.second r.apart r.shared r.places r.rank refl (rank_back n G L V s.lines s.to s.from r.rank r.shared r.face)),
       λ h.
-          let r = no_other_ridge n V K hv hk own l rl F E he oF' vanish m rm (λ j. true) (λ j lj. refl) top.0 (rank_back n G L V K to from top.0 (λ j. true) top.1) i k h.0 h.1 h.2 (both_zero V F i k) (both_zero_is V F i k) h.3 in
+          let r = no_other_ridge n V s.lines hv s.lines_cols s.own s.rank s.has_rank F s.equations s.equations_cols oF' s.vanish s.count s.has_count (λ j. true) (λ j lj. refl) top.0 (rank_back n G L V s.lines s.to s.from top.0 (λ j. true) top.1) i k h.0 h.1 h.2 (both_zero V F i k) (both_zero_is V F i k) h.3 in
           record {
             first = h.0;
             second = h.1;
@@ -116,18 +137,12 @@ ridges_by_facets n G L hg hl V F oV oF i k =
             shared = both_zero V F i k;
             places = both_zero_is V F i k;
             rank = r.0;
-            face = rank_as n G L V K to from r.0 (both_zero V F i k) r.2;
+            face = rank_as n G L V s.lines s.to s.from r.0 (both_zero V F i k) r.2;
             whole = subst (λ z. HasRank n G L V (λ j. true) z) (sym r.1) top.1;
           },
     )
 
 pub facets_differ : FacetsDiffer
 facets_differ n G L hg hl V F oV oF i k li lk h =
-    let (V0, K, hk, o0, line, gen) = extremes_generate n G L hg hl in
-    let to = cone_to n G L hg hl V K hk oV line in
-    let from = cone_from n G L hg hl V K hk oV line in
-    let hv = order_cols n (InCone G L) V oV in
-    let own = own_order n G L hg hl V K hk oV line in
-    let (F0, E, he, oF0, vanish, valid, cut) = facet_rows_cut_out n V K hv hk in
-    let (m, rm) = rank_exists n E he in
-    differ n V K hv hk own F E he (valid_order n G L V K F to from oF) vanish m rm i k li lk h
+    let s = described n G L hg hl V oV in
+    differ n V s.lines (order_cols n (InCone G L) V oV) s.lines_cols s.own F s.equations s.equations_cols (valid_order n G L V s.lines F s.to s.from oF) s.vanish s.count s.has_count i k li lk h

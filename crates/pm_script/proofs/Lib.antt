@@ -1,4 +1,3 @@
 pub mod Written
-pub mod Halves
 pub mod Counted
 pub mod ReplyExamples

@@ -3,18 +3,16 @@ use Rattle.pm_vector.specs.Bases.{row_at}
 use Rattle.pm_dd.proofs.Building.{built_form, built_many, built_table, no_pair, pair_made, pairs_all, pairs_first, pairs_none_row, pairs_skip_row, ray_cols}
 use Rattle.pm_bits.specs.Sets.{common_count}
 use Rattle.pm_dd.proofs.FarRays.{far_ahead, far_behind}
-use Rattle.pm_dd.proofs.Negatives.{row_end, row_more, row_next, row_skip, row_start}
+use Rattle.pm_dd.proofs.Negatives.{row_end, row_more, row_read, row_skip, row_start}
 use Rattle.pm_dd.proofs.StepFails.{pair_fail}
 use Rattle.pm_dd.proofs.pairs.paired_rays.Goals as goal
 use Rattle.pm_dd.specs.Building.{IsNoPair, IsPairRay, IsPassed, SeenPairs}
 use Rattle.pm_dd.specs.Tables.{zero_set}
 use Rattle.pm_geom.specs.Faces.{ray}
-use Rattle.std.proofs.Common.{arith, drop, length, sym, ◌+◌, ◌-◌, ◌<◌, ◌≡◌, ◌≤◌, ◌∙◌}
+use Rattle.std.proofs.Common.{arith, drop, length, sym, ◌+◌, ◌-◌, ◌<◌, ◌≤◌, ◌∙◌}
 use Rattle.std.proofs.lemmas.Int.{ints}
-use Rattle.std.proofs.lemmas.List.{get_or_read}
 use Rattle.std.proofs.lemmas.Result.{err_from_is_err_and}
 use lib.IntN.{pos}
-use lib.ListN.{get_or}
 use lib.Signed.{◌<ℤ◌, ◌≤ℤ◌}
 
 pub loop-i-preserved-then-values-i-le0 : goal.loop-i-preserved-then-values-i-le0
@@ -46,27 +44,21 @@ loop-i-preserved-then-common_count_with-need c =
 pub pair_ray-requires-clause-second : goal.pair_ray-requires-clause-second
 pair_ray-requires-clause-second c =
     let l : c.loop-k.k < length c.in_ok-negatives.negatives.items = omega arith in
-    let here : get_or c.in_ok-negatives.negatives.items c.loop-k.k 0 ≡ c.index-j.result.now = sym (get_or_read c.in_ok-negatives.negatives.items c.loop-k.k c.index-j.result.now l c.index-j.ensures 0) in
-    let row = row_next c.args.cols c.args.equations.now c.args.rows.now c.args.front c.args.rays.now.rows.items c.args.values.now c.loop-i.i c.in_ok-negatives.negatives.items c.loop-k.next.items c.loop-k.zeros.rows c.loop-k.k c.index-j.result.now l here c.loop-k.invariant.built in
-    let lj = row.left.0.within in
-    lj
+    let row = row_read c.args.cols c.args.equations.now c.args.rows.now c.args.front c.args.rays.now.rows.items c.args.values.now c.loop-i.i c.in_ok-negatives.negatives.items c.loop-k.next.items c.loop-k.zeros.rows c.loop-k.k c.index-j.result.now l c.index-j.ensures c.loop-k.invariant.built in
+    row.left.0.within
 
 pub pair_ray-requires-clause-down_in_range : goal.pair_ray-requires-clause-down_in_range
 pair_ray-requires-clause-down_in_range c =
     let l : c.loop-k.k < length c.in_ok-negatives.negatives.items = omega arith in
-    let here : get_or c.in_ok-negatives.negatives.items c.loop-k.k 0 ≡ c.index-j.result.now = sym (get_or_read c.in_ok-negatives.negatives.items c.loop-k.k c.index-j.result.now l c.index-j.ensures 0) in
-    let row = row_next c.args.cols c.args.equations.now c.args.rows.now c.args.front c.args.rays.now.rows.items c.args.values.now c.loop-i.i c.in_ok-negatives.negatives.items c.loop-k.next.items c.loop-k.zeros.rows c.loop-k.k c.index-j.result.now l here c.loop-k.invariant.built in
-    let lj = row.left.0.within in
-    c.requires.products.in_range c.index-j.result.now lj
+    let row = row_read c.args.cols c.args.equations.now c.args.rows.now c.args.front c.args.rays.now.rows.items c.args.values.now c.loop-i.i c.in_ok-negatives.negatives.items c.loop-k.next.items c.loop-k.zeros.rows c.loop-k.k c.index-j.result.now l c.index-j.ensures c.loop-k.invariant.built in
+    c.requires.products.in_range c.index-j.result.now row.left.0.within
 
 pub pair_ray-requires-clause-cols : goal.pair_ray-requires-clause-cols
 pair_ray-requires-clause-cols c =
     let li : c.loop-i.i < length c.args.rays.now.rows.items = omega arith in
     let l : c.loop-k.k < length c.in_ok-negatives.negatives.items = omega arith in
-    let here : get_or c.in_ok-negatives.negatives.items c.loop-k.k 0 ≡ c.index-j.result.now = sym (get_or_read c.in_ok-negatives.negatives.items c.loop-k.k c.index-j.result.now l c.index-j.ensures 0) in
-    let row = row_next c.args.cols c.args.equations.now c.args.rows.now c.args.front c.args.rays.now.rows.items c.args.values.now c.loop-i.i c.in_ok-negatives.negatives.items c.loop-k.next.items c.loop-k.zeros.rows c.loop-k.k c.index-j.result.now l here c.loop-k.invariant.built in
-    let lj = row.left.0.within in
-    ray_cols c.args.cols c.args.equations.now c.args.rows.now c.args.front c.args.rays.now.rows.items c.args.rays.now.zeros.rows c.requires.table c.index-j.result.now lj ∙ sym (ray_cols c.args.cols c.args.equations.now c.args.rows.now c.args.front c.args.rays.now.rows.items c.args.rays.now.zeros.rows c.requires.table c.loop-i.i li)
+    let row = row_read c.args.cols c.args.equations.now c.args.rows.now c.args.front c.args.rays.now.rows.items c.args.values.now c.loop-i.i c.in_ok-negatives.negatives.items c.loop-k.next.items c.loop-k.zeros.rows c.loop-k.k c.index-j.result.now l c.index-j.ensures c.loop-k.invariant.built in
+    ray_cols c.args.cols c.args.equations.now c.args.rows.now c.args.front c.args.rays.now.rows.items c.args.rays.now.zeros.rows c.requires.table c.index-j.result.now row.left.0.within ∙ sym (ray_cols c.args.cols c.args.equations.now c.args.rows.now c.args.front c.args.rays.now.rows.items c.args.rays.now.zeros.rows c.requires.table c.loop-i.i li)
 
 pub loop-k-init : goal.loop-k-init
 loop-k-init c = record {
@@ -82,11 +74,9 @@ pub loop-k-preserved-in-None : goal.loop-k-preserved-in-None
 loop-k-preserved-in-None c =
     let li : c.loop-i.i < length c.args.rays.now.rows.items = omega arith in
     let l : c.loop-k.k < length c.in_ok-negatives.negatives.items = omega arith in
-    let here : get_or c.in_ok-negatives.negatives.items c.loop-k.k 0 ≡ c.index-j.result.now = sym (get_or_read c.in_ok-negatives.negatives.items c.loop-k.k c.index-j.result.now l c.index-j.ensures 0) in
-    let row = row_next c.args.cols c.args.equations.now c.args.rows.now c.args.front c.args.rays.now.rows.items c.args.values.now c.loop-i.i c.in_ok-negatives.negatives.items c.loop-k.next.items c.loop-k.zeros.rows c.loop-k.k c.index-j.result.now l here c.loop-k.invariant.built in
-    let lj = row.left.0.within in
+    let row = row_read c.args.cols c.args.equations.now c.args.rows.now c.args.front c.args.rays.now.rows.items c.args.values.now c.loop-i.i c.in_ok-negatives.negatives.items c.loop-k.next.items c.loop-k.zeros.rows c.loop-k.k c.index-j.result.now l c.index-j.ensures c.loop-k.invariant.built in
     let o : IsNoPair c.args.rays.now.zeros c.loop-i.i c.index-j.result.now (c.args.rank - length c.args.equations.now - 2) = rw (c.in-None.is, c.needed-need.ensures) at c.in_ok-ray.ensures.none in
-    let never = no_pair c.args.cols c.args.equations.now c.args.rows.now c.args.front c.requires.within c.args.rays.now.rows.items c.args.rays.now.zeros c.requires.table c.requires.equation_cols c.requires.row_cols c.args.values.now c.requires.products c.requires.old_len c.loop-i.i c.index-j.result.now li lj c.args.rank c.requires.rank o in
+    let never = no_pair c.args.cols c.args.equations.now c.args.rows.now c.args.front c.requires.within c.args.rays.now.rows.items c.args.rays.now.zeros c.requires.table c.requires.equation_cols c.requires.row_cols c.args.values.now c.requires.products c.requires.old_len c.loop-i.i c.index-j.result.now li row.left.0.within c.args.rank c.requires.rank o in
     record {
       both_len = c.pair_ray.ensures.both ∙ c.loop-k.invariant.both_len;
       row_len = c.loop-k.invariant.row_len;
@@ -100,12 +90,9 @@ loop-k-preserved c =
     let ti = c.if-values-i-le0.false in
     let up : pos 0 <ℤ entry c.args.values.now c.loop-i.i = omega (arith, ints) in
     let l : c.loop-k.k < length c.in_ok-negatives.negatives.items = omega arith in
-    let here : get_or c.in_ok-negatives.negatives.items c.loop-k.k 0 ≡ c.index-j.result.now = sym (get_or_read c.in_ok-negatives.negatives.items c.loop-k.k c.index-j.result.now l c.index-j.ensures 0) in
-    let row = row_next c.args.cols c.args.equations.now c.args.rows.now c.args.front c.args.rays.now.rows.items c.args.values.now c.loop-i.i c.in_ok-negatives.negatives.items c.loop-k.next.items c.loop-k.zeros.rows c.loop-k.k c.index-j.result.now l here c.loop-k.invariant.built in
-    let lj = row.left.0.within in
-    let down = row.left.0.negative in
+    let row = row_read c.args.cols c.args.equations.now c.args.rows.now c.args.front c.args.rays.now.rows.items c.args.values.now c.loop-i.i c.in_ok-negatives.negatives.items c.loop-k.next.items c.loop-k.zeros.rows c.loop-k.k c.index-j.result.now l c.index-j.ensures c.loop-k.invariant.built in
     let p : IsPairRay c.args.rays.now.rows.items c.args.rays.now.zeros c.args.values.now c.loop-i.i c.index-j.result.now c.args.front c.in-Some.ray.row c.in-Some.ray.zeros = rw c.in-Some.is at c.in_ok-ray.ensures.some in
-    let made = pair_made c.args.cols c.args.equations.now c.args.rows.now c.args.front c.requires.within c.args.rays.now.rows.items c.args.rays.now.zeros c.requires.table c.requires.equation_cols c.requires.row_cols c.args.values.now c.requires.products c.requires.old_len c.loop-i.i c.index-j.result.now li lj c.requires.spanned up down c.in-Some.ray.row c.in-Some.ray.zeros p in
+    let made = pair_made c.args.cols c.args.equations.now c.args.rows.now c.args.front c.requires.within c.args.rays.now.rows.items c.args.rays.now.zeros c.requires.table c.requires.equation_cols c.requires.row_cols c.args.values.now c.requires.products c.requires.old_len c.loop-i.i c.index-j.result.now li row.left.0.within c.requires.spanned up row.left.0.negative c.in-Some.ray.row c.in-Some.ray.zeros p in
     record {
       both_len = c.pair_ray.ensures.both ∙ c.loop-k.invariant.both_len;
       row_len = c.in-Ok.ensures.row_len ∙ c.loop-k.invariant.row_len;
@@ -143,12 +130,9 @@ returns-in_err-ray-clause-wide c =
     let ti = c.if-values-i-le0.false in
     let up : pos 0 <ℤ entry c.args.values.now c.loop-i.i = omega (arith, ints) in
     let l : c.loop-k.k < length c.in_ok-negatives.negatives.items = omega arith in
-    let here : get_or c.in_ok-negatives.negatives.items c.loop-k.k 0 ≡ c.index-j.result.now = sym (get_or_read c.in_ok-negatives.negatives.items c.loop-k.k c.index-j.result.now l c.index-j.ensures 0) in
-    let row = row_next c.args.cols c.args.equations.now c.args.rows.now c.args.front c.args.rays.now.rows.items c.args.values.now c.loop-i.i c.in_ok-negatives.negatives.items c.loop-k.next.items c.loop-k.zeros.rows c.loop-k.k c.index-j.result.now l here c.loop-k.invariant.built in
-    let lj = row.left.0.within in
-    let down = row.left.0.negative in
+    let row = row_read c.args.cols c.args.equations.now c.args.rows.now c.args.front c.args.rays.now.rows.items c.args.values.now c.loop-i.i c.in_ok-negatives.negatives.items c.loop-k.next.items c.loop-k.zeros.rows c.loop-k.k c.index-j.result.now l c.index-j.ensures c.loop-k.invariant.built in
     let p = err_from_is_err_and c.from_residual-in_err-ray.result c.from_residual-in_err-ray.ensures.1 in
-    rw (p.1, p.2) (pair_fail c.args.cols c.args.equations.now c.args.rows.now c.args.front c.args.rays.now.rows.items c.args.rays.now.zeros c.requires.table c.args.values.now c.requires.products c.loop-i.i c.index-j.result.now li lj up down c.in_err-ray.field-0.0 c.in_err-ray.ensures.wide)
+    rw (p.1, p.2) (pair_fail c.args.cols c.args.equations.now c.args.rows.now c.args.front c.args.rays.now.rows.items c.args.rays.now.zeros c.requires.table c.args.values.now c.requires.products c.loop-i.i c.index-j.result.now li row.left.0.within up row.left.0.negative c.in_err-ray.field-0.0 c.in_err-ray.ensures.wide)
 
 pub returns-then-len-gt-MOST_ROWS-clause-wide : goal.returns-then-len-gt-MOST_ROWS-clause-wide
 returns-then-len-gt-MOST_ROWS-clause-wide c =
@@ -156,12 +140,9 @@ returns-then-len-gt-MOST_ROWS-clause-wide c =
     let ti = c.if-values-i-le0.false in
     let up : pos 0 <ℤ entry c.args.values.now c.loop-i.i = omega (arith, ints) in
     let l : c.loop-k.k < length c.in_ok-negatives.negatives.items = omega arith in
-    let here : get_or c.in_ok-negatives.negatives.items c.loop-k.k 0 ≡ c.index-j.result.now = sym (get_or_read c.in_ok-negatives.negatives.items c.loop-k.k c.index-j.result.now l c.index-j.ensures 0) in
-    let row = row_next c.args.cols c.args.equations.now c.args.rows.now c.args.front c.args.rays.now.rows.items c.args.values.now c.loop-i.i c.in_ok-negatives.negatives.items c.loop-k.next.items c.loop-k.zeros.rows c.loop-k.k c.index-j.result.now l here c.loop-k.invariant.built in
-    let lj = row.left.0.within in
-    let down = row.left.0.negative in
+    let row = row_read c.args.cols c.args.equations.now c.args.rows.now c.args.front c.args.rays.now.rows.items c.args.values.now c.loop-i.i c.in_ok-negatives.negatives.items c.loop-k.next.items c.loop-k.zeros.rows c.loop-k.k c.index-j.result.now l c.index-j.ensures c.loop-k.invariant.built in
     let p : IsPairRay c.args.rays.now.rows.items c.args.rays.now.zeros c.args.values.now c.loop-i.i c.index-j.result.now c.args.front c.in-Some.ray.row c.in-Some.ray.zeros = rw c.in-Some.is at c.in_ok-ray.ensures.some in
-    let made = pair_made c.args.cols c.args.equations.now c.args.rows.now c.args.front c.requires.within c.args.rays.now.rows.items c.args.rays.now.zeros c.requires.table c.requires.equation_cols c.requires.row_cols c.args.values.now c.requires.products c.requires.old_len c.loop-i.i c.index-j.result.now li lj c.requires.spanned up down c.in-Some.ray.row c.in-Some.ray.zeros p in
+    let made = pair_made c.args.cols c.args.equations.now c.args.rows.now c.args.front c.requires.within c.args.rays.now.rows.items c.args.rays.now.zeros c.requires.table c.requires.equation_cols c.requires.row_cols c.args.values.now c.requires.products c.requires.old_len c.loop-i.i c.index-j.result.now li row.left.0.within c.requires.spanned up row.left.0.negative c.in-Some.ray.row c.in-Some.ray.zeros p in
     let t = c.if-len-gt-MOST_ROWS.true in
     let n = c.len.ensures in
     let whole = c.push.new.self.ok.0 in

@@ -1,4 +1,4 @@
-use Rattle.pm_printed.proofs.Halves.{half_written}
+use Rattle.pm_rules.proofs.Halves.{half_written}
 use Rattle.pm_printed.proofs.print.push_half.Goals as goal
 
 pub returns : goal.returns

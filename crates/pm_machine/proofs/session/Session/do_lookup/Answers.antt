@@ -1,9 +1,8 @@
 -- Where a name or a word names nothing, or the property is not held, that is said and nothing changes.
-use Rattle.std.proofs.Common.{Some, ap, refl, sym, ◌∙◌, ◌≡◌}
-use Rattle.std.specs.Prelude.{None}
-use Rattle.pm_machine.proofs.Names.{looked_up, named_of, none_mapped}
+use Rattle.std.proofs.Common.{refl, sym}
+use Rattle.pm_machine.proofs.Names.{looked_up, named_as, named_of, none_mapped}
 use Rattle.pm_script.specs.Replies.{seen}
-use Rattle.pm_machine.specs.Steps.{no_such_name, no_such_property, not_held, property_named, is_refused}
+use Rattle.pm_machine.specs.Steps.{no_such_name, no_such_property, not_held, is_refused}
 use Rattle.pm_machine.proofs.session.Session.do_lookup.Goals as goal
 
 pub returns-in_default : goal.returns-in_default
@@ -11,18 +10,14 @@ returns-in_default g c = rw c.refused.ensures (is_refused (no_such_name (none_ma
 
 pub returns-in_default-property_named : goal.returns-in_default-property_named
 returns-in_default-property_named g c =
-    let o = c.in-Some.object.now.state in
-    let none : property_named o.of c.in-Some.sub c.args.prop.now ≡ None = ap (λ t. property_named t c.in-Some.sub c.args.prop.now) (sym c.of.ensures.value) ∙ sym c.property_named.ensures ∙ c.in_default-property_named.is in
-    rw c.refused-in_default-property_named.ensures (is_refused (no_such_property (named_of o c.in-Some.sub) (sym c.in-Some.ensures) none) (record { names = refl; objects = λ q. refl; clients = refl; store = refl }))
+    rw c.refused-in_default-property_named.ensures (is_refused (no_such_property (named_of c.in-Some.object.now.state c.in-Some.sub) (sym c.in-Some.ensures) (named_as c.in-Some.sub c.args.prop.now c.of.ensures.value c.property_named.ensures c.in_default-property_named.is)) (record { names = refl; objects = λ q. refl; clients = refl; store = refl }))
 
 pub returns-in-None : goal.returns-in-None
 returns-in-None g c =
-    let o = c.in-Some.object.now.state in
-    let named : property_named o.of c.in-Some.sub c.args.prop.now ≡ Some c.in-Some-property_named.p = ap (λ t. property_named t c.in-Some.sub c.args.prop.now) (sym c.of.ensures.value) ∙ sym c.property_named.ensures ∙ c.in-Some-property_named.is in
-    not_held (named_of o c.in-Some.sub) c.in-Some-property_named.p (sym c.in-Some.ensures) named (sym c.in-None.ensures.value) (record { names = refl; objects = λ q. refl; clients = refl; store = refl })
+    let named = named_as c.in-Some.sub c.args.prop.now c.of.ensures.value c.property_named.ensures c.in-Some-property_named.is in
+    not_held (named_of c.in-Some.object.now.state c.in-Some.sub) c.in-Some-property_named.p (sym c.in-Some.ensures) named (sym c.in-None.ensures.value) (record { names = refl; objects = λ q. refl; clients = refl; store = refl })
 
 pub returns-in_ok-ref_text-in-Some-lookup : goal.returns-in_ok-ref_text-in-Some-lookup
 returns-in_ok-ref_text-in-Some-lookup g c =
-    let o = c.in-Some.object.now.state in
-    let named : property_named o.of c.in-Some.sub c.args.prop.now ≡ Some c.in-Some-property_named.p = ap (λ t. property_named t c.in-Some.sub c.args.prop.now) (sym c.of.ensures.value) ∙ sym c.property_named.ensures ∙ c.in-Some-property_named.is in
-    looked_up seen c.show_held.result _ _ _ (named_of o c.in-Some.sub) c.in-Some-property_named.p _ _ _ (sym c.in-Some.ensures) named c.in_ok-ref_text-in-Some-lookup.ensures c.of-in-Some-lookup.ensures.value (sym c.in-Some-lookup.ensures.value) c.show_held.ensures
+    let named = named_as c.in-Some.sub c.args.prop.now c.of.ensures.value c.property_named.ensures c.in-Some-property_named.is in
+    looked_up seen c.show_held.result _ _ _ (named_of c.in-Some.object.now.state c.in-Some.sub) c.in-Some-property_named.p _ _ _ (sym c.in-Some.ensures) named c.in_ok-ref_text-in-Some-lookup.ensures c.of-in-Some-lookup.ensures.value (sym c.in-Some-lookup.ensures.value) c.show_held.ensures
