@@ -166,6 +166,14 @@ hulls_are_read = record {
   from_points = record { targets = refl; sources = refl; parts = refl; generators = refl; doubles = refl; lists = refl };
   from_vertices = record { targets = refl; sources = refl; parts = refl; generators = refl; doubles = refl; lists = refl };
   turned = λ h. true≢false (sym h.parts);
+  rays_by_rows = record { targets = refl; sources = refl; parts = refl; half_spaces = refl; doubles = refl; lists = refl };
+  rays_by_facets = record { targets = refl; sources = refl; parts = refl; half_spaces = refl; doubles = refl; lists = refl };
+  rays_by_points = λ h. true≢false (sym h.half_spaces);
+  lines_by_null_space = record { targets = refl; sources = refl; lists = refl };
+  hull_by_null_space = record { targets = refl; sources = refl; lists = refl };
+  hull_by_no_null_space = λ h. (let e = ap length h.lists in omega arith);
+  taken_as_cone = refl;
+  taken_as_polytope = refl;
   finds_rays = λ h. true≢false (sym h.generators);
   reads = reads;
   reads_no_facets = λ h. true≢false (sym (ap is_some h.reads_first));
@@ -182,6 +190,14 @@ hulls_are_read = record {
 
 pub thinned_are_read : ThinnedAreRead
 thinned_are_read = record {
+  thins_points = record { targets = refl; sources = refl; lists = refl; multiplies = refl };
+  doubles = λ h. true≢false (sym h.multiplies);
+  thins_inequalities = record { targets = refl; sources = refl; lists = refl; multiplies = refl; counts = refl };
+  thins_others = λ h. true≢false (sym h.counts);
+  rays_of_sets = record { targets = refl; sources = refl; lists = refl; determines = refl };
+  no_rays_of_sets = λ h. true≢false (sym h.determines);
+  facets_of_sets = record { targets = refl; sources = refl; lists = refl; determines = refl };
+  no_facets_of_sets = λ h. true≢false (sym h.determines);
   not_zero = one_not_zero;
   zero = zero_listed;
   ray = one_ray;

@@ -11,13 +11,13 @@ use Rattle.pm_client.proofs.Drafts.{put}
 use Rattle.pm_client.proofs.FreshOrders.{fresh_facets, fresh_kind, fresh_rays}
 use Rattle.pm_client.proofs.Puts.{AreFormed, ArePut, AreRight, IsRightPut, sound_alone, two_put}
 use Rattle.pm_client.proofs.ReadValues.{found, read_right}
-use Rattle.pm_client.proofs.ViewLaws.{has_listed, not_fan, target_named}
+use Rattle.pm_client.proofs.ViewLaws.{has_listed, not_fan, source_named, target_named}
 use Rattle.pm_client.specs.Sound.{AreParts, IsSound, added_rows, are_parts}
 use Rattle.pm_clients_geom.proofs.FoundDims.{pair_right}
 use Rattle.pm_clients_geom.proofs.PutMatrices.{hull_forms, lineality_forms, put_columned, put_states, ratios_columned, rows_columned}
 use Rattle.pm_clients_geom.proofs.PutRays.{primitive_not_zero, ray_form, ray_rows, some_not_zero}
-use Rattle.pm_clients_geom.proofs.RowLists.{IsColumned}
-use Rattle.pm_clients_geom.specs.Hulls.{AreFewRows, ArePutGenerators, FindsFacets, MayGenerate}
+use Rattle.pm_clients_geom.proofs.RowLists.{IsColumned, second_source}
+use Rattle.pm_clients_geom.specs.Hulls.{AreFewRows, ArePutGenerators, FindsFacets, MayGenerate, cut_type}
 use Rattle.pm_clients_geom.specs.Lists.{ReadsParts}
 use Rattle.pm_clients_geom.specs.Matrices.{AreNotZero, AreRays, MayBeLines}
 use Rattle.pm_types.specs.Parts.{cols_over, as_put}
@@ -30,10 +30,11 @@ use Rattle.pm_dd.specs.Hulls.{AreFacets, InConeOf, half_spaces_of}
 use Rattle.pm_dd.specs.Fronts.{HalfSpaces}
 use Rattle.pm_matrix.specs.Matrices.{FractionMatrix, IsFraction}
 use Rattle.pm_object.specs.Reading.{DraftSeen, IsView, Put, ViewSeen}
-use Rattle.pm_props.specs.Kinds.{IsFresh}
+use Rattle.pm_props.specs.Kinds.{IsFresh, names_of}
 use Rattle.pm_props.specs.Places.{place_of}
-use Rattle.pm_props.specs.Properties.{facets_tag, is_generator, rays_tag}
-use Rattle.pm_props.specs.Sets.{set_of}
+use Rattle.pm_props.specs.Properties.{facets_tag, is_generator, is_half_space, rays_tag}
+use Rattle.pm_props.specs.Sets.{has, set_of}
+use Rattle.pm_props.specs.declared.kind.Kind.{Kind}
 use Rattle.pm_object_type.specs.declared.object_type.ObjectType.TheVariants.{Cone, Fan, Polytope}
 use Rattle.pm_object_type.specs.declared.object_type.ObjectType.{ObjectType}
 use Rattle.pm_props.specs.declared.property.PropId.TheVariants.{AffineHull, Equations, Facets, Inequalities, InputLineality, LinealitySpace, Points, Vertices}
@@ -46,13 +47,13 @@ use Rattle.pm_types.specs.Right.{InSet, PairCutsOut, Right, RightAll, RightPair,
 use Rattle.pm_types.specs.Things.{AreOrders, IsOfType, IsThing, Thing}
 use Rattle.pm_types.specs.Values.{matrix}
 use Rattle.pm_types.specs.Views.{ratios}
-use Rattle.std.proofs.Common.{ap, arith, refl, subst, suc, sym, true, true≢false, ◌∙◌}
+use Rattle.std.proofs.Common.{ap, arith, inl, inr, refl, subst, suc, sym, true, true≢false, ◌∙◌}
 use Rattle.std.proofs.lemmas.Bool.{eq-eqb, leb-true}
 use Rattle.std.proofs.lemmas.Int.{ints}
 use Rattle.std.proofs.lemmas.List.{append-nil}
 use Rattle.std.proofs.lemmas.List.Elements.{All-cons, All-nil}
 use Rattle.std.specs.List.{All, AllByRecursion, list_all}
-use Rattle.std.specs.Prelude.{IsTrue, List, [], length, map, not, ℕ, ◌++◌, ◌↔◌, ◌∷◌, ◌≡◌, ◌≤◌}
+use Rattle.std.specs.Prelude.{Bool, IsTrue, List, [], false, length, map, not, ℕ, ◌++◌, ◌↔◌, ◌∷◌, ◌≡◌, ◌≤◌, ◌⊎◌}
 use lib.IntN.{neg_ℤ, pos, ℤ}
 use lib.Signed.{◌≤ℤ◌}
 use Rattle.pm_limits.specs.Limits.{most_columns, most_rows}
@@ -107,6 +108,21 @@ half_spaces Fan n G none = absurd (none refl)
 
 pub parts_of_rows : (v : ViewSeen) (L G : List Row) → ¬ (v.of ≡ Fan) → ReadsParts v Equations Inequalities L G → AreParts v L (half_spaces_of v.of v.cols G)
 parts_of_rows v L G none read = subst (AreParts v L) (half_spaces v.of v.cols G none) (parts_read v Equations Inequalities L G refl read)
+
+-- half-spaces are inequalities or facets
+pub halves_are : (first second : PropId) → IsTrue (are_parts first second) → IsTrue (is_half_space second) → ((first ≡ Equations) × (second ≡ Inequalities)) ⊎ ((first ≡ AffineHull) × (second ≡ Facets))
+halves_are Equations Inequalities parts half = inl (refl, refl)
+halves_are AffineHull Facets parts half = inr (refl, refl)
+halves_are InputLineality Points parts half = absurd (true≢false (sym half))
+halves_are LinealitySpace Vertices parts half = absurd (true≢false (sym half))
+halves_are first second parts half = absurd (true≢false (sym parts))
+
+-- the same for either, as they are taken
+pub parts_of_halves : (v : ViewSeen) (first second : PropId) (L G : List Row) → IsTrue (are_parts first second) → IsTrue (is_half_space second) → ¬ (v.of ≡ Fan) → ReadsParts v first second L G → AreParts v L (half_spaces_of (cut_type second v.of) v.cols G)
+parts_of_halves v first second L G parts half none read = elim (halves_are first second parts half) [
+  | inl e ↦ subst (λ q. AreParts v L (half_spaces_of (cut_type q v.of) v.cols G)) (sym e.1) (parts_of_rows v L G none (subst (λ q. ReadsParts v Equations q L G) e.1 (subst (λ p. ReadsParts v p second L G) e.0 read)))
+  | inr e ↦ subst (λ q. AreParts v L (half_spaces_of (cut_type q v.of) v.cols G)) (sym e.1) (parts_of_facets v L G (subst (λ q. ReadsParts v AffineHull q L G) e.1 (subst (λ p. ReadsParts v p second L G) e.0 read)))
+]
 
 -- points or rays with their lines generate what is right
 pub generated : (v : ViewSeen) (first second : PropId) (L G : List Row) → IsTrue (are_parts first second) → IsTrue (is_generator second) → ReadsParts v first second L G → (t : Thing) (o : Orders) → RightAll v.facts t o → ¬ (t.of ≡ Fan)
@@ -365,3 +381,37 @@ module _ (v : ViewSeen) (L G : List Row) (t : Thing) (o : Orders) (of : t.of ≡
       subst (λ k. InSet t x ↔ InConeOf v.of k G L x) cols
       (subst (λ k. InSet t x ↔ InConeOf k t.cols G L x) of
       (rows_bound t o right.thing (λ e. no_fan (sym of ∙ e)) read.second_rows read.first_rows (rows_pair read) G L (primitive_stand read.second_rows G read.second_primitive) (primitive_stand read.first_rows L read.first_primitive) x lx))
+
+  pub by_halves : (first second : PropId) → IsTrue (are_parts first second) → IsTrue (is_half_space second) → ReadsParts v first second L G → (x : Row) → length x ≡ t.cols → InSet t x ↔ InConeOf (cut_type second v.of) v.cols G L x
+  by_halves first second parts half read x lx = elim (halves_are first second parts half) [
+    | inl e ↦ subst (λ q. InSet t x ↔ InConeOf (cut_type q v.of) v.cols G L x) (sym e.1) (by_rows (subst (λ q. ReadsParts v Equations q L G) e.1 (subst (λ p. ReadsParts v p second L G) e.0 read)) x lx)
+    | inr e ↦ subst (λ q. InSet t x ↔ InConeOf (cut_type q v.of) v.cols G L x) (sym e.1) (by_facets (subst (λ q. ReadsParts v AffineHull q L G) e.1 (subst (λ p. ReadsParts v p second L G) e.0 read)) x lx)
+  ]
+
+-- neither is a fan's
+pub halves_of_no_fan : (v : ViewSeen) (first second : PropId) → IsView v → v.kind.sources ≡ set_of (second ∷ first ∷ []) → IsTrue (are_parts first second) → IsTrue (is_half_space second) → ¬ (v.of ≡ Fan)
+halves_of_no_fan v first second view sources parts half =
+    let named = source_named v.kind second (second_source _ first second sources) in
+    elim (halves_are first second parts half) [
+      | inl e ↦ not_fan v Inequalities view (subst (λ q. has (names_of v.kind) q ≡ true) e.1 named) refl refl
+      | inr e ↦ not_fan v Facets view (subst (λ q. has (names_of v.kind) q ≡ true) e.1 named) refl refl
+    ]
+
+-- their rays are new
+pub fresh_of_halves : (kind : Kind) (first second : PropId) → kind.targets ≡ set_of (Vertices ∷ LinealitySpace ∷ []) → kind.sources ≡ set_of (second ∷ first ∷ []) → IsTrue (are_parts first second) → IsTrue (is_half_space second) → IsFresh rays_tag kind
+fresh_of_halves kind first second targets sources parts half = fresh_kind rays_tag kind (Vertices ∷ LinealitySpace ∷ []) (second ∷ first ∷ []) Vertices targets sources refl refl (elim (halves_are first second parts half) [
+  | inl e ↦ rw (e.0, e.1) refl
+  | inr e ↦ rw (e.0, e.1) refl
+])
+
+is_cone : ObjectType → Bool
+is_cone Cone = true
+is_cone of = false
+
+cone_is_no_fan : Cone ≡ Fan → ⊥
+unfolding is_cone
+cone_is_no_fan e = true≢false (ap is_cone e)
+
+pub cut_no_fan : (second : PropId) (of : ObjectType) → ¬ (of ≡ Fan) → ¬ (cut_type second of ≡ Fan)
+cut_no_fan Facets of none e = cone_is_no_fan e
+cut_no_fan p of none e = none e

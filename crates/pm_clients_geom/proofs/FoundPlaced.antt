@@ -34,8 +34,6 @@ use Rattle.pm_relations.proofs.Hulls.{order_cols}
 use Rattle.pm_relations.proofs.PrimitiveStanding.{primitive_stand}
 use Rattle.pm_relations.proofs.Standing.{stand_length}
 use Rattle.pm_relations.proofs.Triangulations.{placing_is_found}
-use Rattle.pm_standard.specs.Table.{standard_kind}
-use Rattle.pm_standard.specs.declared.standard.StandardClient.TheVariants as client
 use Rattle.pm_types.proofs.Indices.{ascending_sets}
 use Rattle.pm_geom.specs.Triangulations.{IsTriangulation}
 use Rattle.pm_types.specs.Forms.{is_sets_form}
@@ -43,7 +41,7 @@ use Rattle.pm_types.specs.Right.{Right, RightAll, objective_of}
 use Rattle.pm_types.specs.Things.{Thing}
 use Rattle.pm_types.specs.Values.{IndexSets, matrix, sets}
 use Rattle.pm_types.specs.Views.{ratios}
-use Rattle.std.proofs.Common.{ap, inl, inr, refl, subst, sym, ◌∙◌}
+use Rattle.std.proofs.Common.{inl, inr, refl, subst, sym, ◌∙◌}
 use Rattle.std.specs.List.{All}
 use Rattle.std.specs.Prelude.{List, [], length, map, true, ◌++◌, ◌∷◌, ◌≡◌}
 
@@ -81,21 +79,18 @@ cells_formed : (v : ViewSeen) (first second : PropId) (L G F H : List Row) (T : 
 cells_formed v first second L G F H T p = subst (λ k. is_sets_form T.rows k ≡ true) (sym p.cols) (ascending_sets (length G) T.rows p.few_cells p.few_rays p.ascending)
 
 -- PLACING_TRIANGULATION alone
-pub placing_sound : (v : ViewSeen) → IsView v → v.kind ≡ standard_kind client.Placing → (L G F H : List Row) (T : IndexSets) → ArePlaced v LinealitySpace Vertices L G F H T → (old new : DraftSeen) → IsPut v PlacingTriangulation (sets T.rows T.cols) old new → IsSound v new
-placing_sound v view kind L G F H T p old new put =
-    let no_fan : ¬ (v.of ≡ Fan) = not_fan v PlacingTriangulation view (target_named v.kind PlacingTriangulation (has_listed v.kind.targets (PlacingTriangulation ∷ []) PlacingTriangulation (ap (λ k. k.targets) kind))) refl refl in
+pub placing_sound : (v : ViewSeen) → IsView v → v.kind.targets ≡ set_of (PlacingTriangulation ∷ []) → (L G F H : List Row) (T : IndexSets) → ArePlaced v LinealitySpace Vertices L G F H T → (old new : DraftSeen) → IsPut v PlacingTriangulation (sets T.rows T.cols) old new → IsSound v new
+placing_sound v view targets L G F H T p old new put =
+    let no_fan : ¬ (v.of ≡ Fan) = not_fan v PlacingTriangulation view (target_named v.kind PlacingTriangulation (has_listed v.kind.targets (PlacingTriangulation ∷ []) PlacingTriangulation targets)) refl refl in
     sound_plain v PlacingTriangulation (sets T.rows T.cols) old new refl refl (cells_formed v LinealitySpace Vertices L G F H T p) put (placing_right v no_fan L G F H T p)
 
 -- ---- with FACETS and AFFINE_HULL
-module _ (v : ViewSeen) (view : IsView v) (kind : v.kind ≡ standard_kind client.BbFacetsV) (L G F H : List Row) (T : IndexSets) (p : ArePlaced v LinealitySpace Vertices L G F H T) (range : All (All InRange) F) (range_hull : All (All InRange) H) where
-  targets : v.kind.targets ≡ set_of (Facets ∷ AffineHull ∷ PlacingTriangulation ∷ [])
-  targets = ap (λ k. k.targets) kind
-
+module _ (v : ViewSeen) (view : IsView v) (kind : PlacesRays v.kind LinealitySpace Vertices) (targets : v.kind.targets ≡ set_of (Facets ∷ AffineHull ∷ PlacingTriangulation ∷ [])) (L G F H : List Row) (T : IndexSets) (p : ArePlaced v LinealitySpace Vertices L G F H T) (range : All (All InRange) F) (range_hull : All (All InRange) H) where
   no_fan : ¬ (v.of ≡ Fan)
   no_fan = not_fan v Facets view (target_named v.kind Facets (has_listed v.kind.targets (Facets ∷ AffineHull ∷ PlacingTriangulation ∷ []) Facets targets)) refl refl
 
   is_fresh : IsFresh facets_tag v.kind
-  is_fresh = fresh_kind facets_tag v.kind (Facets ∷ AffineHull ∷ PlacingTriangulation ∷ []) (Vertices ∷ LinealitySpace ∷ []) Facets targets (ap (λ k. k.sources) kind) refl refl refl
+  is_fresh = fresh_kind facets_tag v.kind (Facets ∷ AffineHull ∷ PlacingTriangulation ∷ []) (Vertices ∷ LinealitySpace ∷ []) Facets targets kind.sources refl refl refl
 
   found : (t : Thing) (o : Orders) → t.of ≡ v.of → t.cols ≡ v.cols → RightAll v.facts t o → AreFacetsOf t v.cols F H
   found t o of cols right = record { rays = G; lines = L; facets = p.facets; same = generated v LinealitySpace Vertices L G refl refl p.read t o right (λ e. no_fan (sym of ∙ e)) }

@@ -21,14 +21,13 @@ use Rattle.pm_relations.proofs.Found.{echelon_is_right}
 use Rattle.pm_relations.proofs.PrimitiveStanding.{hull_primitive, lineality_primitive}
 use Rattle.pm_relations.proofs.FlatLineality.{polytope_lineality_first}
 use Rattle.pm_types.specs.Canonical.{IsCanonical, IsEchelonBasisOf, Vanishing}
-use Rattle.pm_standard.specs.Table.{standard_kind}
 use Rattle.pm_types.specs.Right.{InLines, Right, RightAll, objective_of}
 use Rattle.pm_props.specs.Places.{place_of}
+use Rattle.pm_props.specs.Sets.{set_of}
 use Rattle.pm_types.specs.Values.{matrix}
 use Rattle.pm_types.specs.Views.{ratios}
 use Rattle.pm_props.specs.declared.property.PropId.TheVariants.{AffineHull, Facets, LinealitySpace, Vertices}
-use Rattle.pm_standard.specs.declared.standard.StandardClient.TheVariants as client
-use Rattle.std.proofs.Common.{ap, arith, false, inl, inr, refl, subst, sym, true, true≢false, ◌∙◌}
+use Rattle.std.proofs.Common.{arith, false, inl, inr, refl, subst, sym, true, true≢false, ◌∙◌}
 use Rattle.std.proofs.lemmas.Bool.{leb-true}
 use Rattle.std.proofs.lemmas.List.Elements.{All-nil}
 use Rattle.std.specs.List.{All}
@@ -85,10 +84,10 @@ module _ (v : ViewSeen) (view : IsView v) (no_fan : ¬ (v.of ≡ Fan)) (X N : Li
       sound_one v AffineHull (matrix (cols_over v.cols (map ratios N)) (map ratios N)) old new put refl (hull_forms v.of v.cols N (basis_columned v view X N P null) range) (put_states v.cols (map ratios N))
       (λ t o of cols right. hull_values t o of cols right (cols_over v.cols (map ratios N)))
 
-  pub hull_sound : (a : FractionMatrix) (old new : DraftSeen) → v.kind ≡ standard_kind client.HullFromVertices → All (All InRange) N → a ≡ as_put v.cols (map ratios N) → old ≡ record { kind = v.kind; values = [] }
+  pub hull_sound : (a : FractionMatrix) (old new : DraftSeen) → v.kind.targets ≡ set_of (AffineHull ∷ []) → All (All InRange) N → a ≡ as_put v.cols (map ratios N) → old ≡ record { kind = v.kind; values = [] }
       → new ≡ record old { values = old.values ++ record { property = AffineHull; value = matrix a.cols a.rows } ∷ [] } → IsSound v new
-  hull_sound a old new kind range same empty put =
-      hull_put range old new (subst (λ z. IsPut v AffineHull (matrix z.cols z.rows) old new) same (record { targets = ap (λ k. k.targets) kind; empty = empty; put = put }))
+  hull_sound a old new targets range same empty put =
+      hull_put range old new (subst (λ z. IsPut v AffineHull (matrix z.cols z.rows) old new) same (record { targets = targets; empty = empty; put = put }))
 
 -- ---- LINEALITY_SPACE
 module _ (v : ViewSeen) (view : IsView v) (no_fan : ¬ (v.of ≡ Fan)) (X N : List Row) (P : List ℕ) (list : IsListOf v AffineHull Facets X) (null : IsNullBasis v.cols X N P) where
@@ -124,10 +123,10 @@ module _ (v : ViewSeen) (view : IsView v) (no_fan : ¬ (v.of ≡ Fan)) (X N : Li
         sound_one v LinealitySpace (matrix (cols_over v.cols (map ratios M)) (map ratios M)) old new h refl (lineality_forms v.of v.cols M lines_columned range put.lines) (put_states v.cols (map ratios M))
         (λ t o of cols right. lineality_values t o of cols right (cols_over v.cols (map ratios M)))
 
-    pub lineality_sound : (a : FractionMatrix) (old new : DraftSeen) → v.kind ≡ standard_kind client.LinealityFromFacets → a ≡ as_put v.cols (map ratios M) → old ≡ record { kind = v.kind; values = [] }
+    pub lineality_sound : (a : FractionMatrix) (old new : DraftSeen) → v.kind.targets ≡ set_of (LinealitySpace ∷ []) → a ≡ as_put v.cols (map ratios M) → old ≡ record { kind = v.kind; values = [] }
         → new ≡ record old { values = old.values ++ record { property = LinealitySpace; value = matrix a.cols a.rows } ∷ [] } → IsSound v new
-    lineality_sound a old new kind same empty more =
-        lineality_put old new (subst (λ z. IsPut v LinealitySpace (matrix z.cols z.rows) old new) same (record { targets = ap (λ k. k.targets) kind; empty = empty; put = more }))
+    lineality_sound a old new targets same empty more =
+        lineality_put old new (subst (λ z. IsPut v LinealitySpace (matrix z.cols z.rows) old new) same (record { targets = targets; empty = empty; put = more }))
 
 -- rows of some columns have a first entry
 pub some_entries : (n : ℕ) (N : List Row) → nat_le 1 n ≡ true → HasCols n N → All (λ x. 0 < length x) N

@@ -3,9 +3,10 @@ use Rattle.pm_types.specs.Parts.{as_put}
 use Rattle.pm_vector.specs.Numbers.{Ratio}
 use Rattle.pm_vector.specs.Rows.{Row}
 use Rattle.pm_client.specs.Examples.{no_rows, single}
-use Rattle.pm_clients_geom.specs.Hulls.{AreFewRows, ArePossible, ArePutGenerators, FindsFacets, MayGenerate}
+use Rattle.pm_clients_geom.specs.Hulls.{AreFewRows, ArePossible, ArePutGenerators, FindsFacets, FindsRays, MayGenerate, cut_type}
 use Rattle.pm_clients_geom.specs.Lists.{ReadsParts}
-use Rattle.pm_clients_geom.specs.Thinned.{ArePossibleFacets, ArePossibleRays, ArePutFacets}
+use Rattle.pm_clients_geom.specs.Thinned.{ArePossibleFacets, ArePossibleRays, ArePutFacets, FindsFacetsOfSets, FindsRaysOfSets, ThinsInequalities, ThinsPoints}
+use Rattle.pm_clients_geom.specs.Ranks.{FindsNullSpace}
 use Rattle.pm_clients_geom.specs.Rays.{ArePutRays, IsPutRay}
 use Rattle.pm_types.specs.OverFirst.{IsOverFirst}
 use Rattle.pm_object.specs.Reading.{DraftSeen, Put}
@@ -64,6 +65,19 @@ pub record HullsAreRead : Type 0 where
   pub from_points : FindsFacets (standard_kind client.DdFacets) InputLineality Points
   pub from_vertices : FindsFacets (standard_kind client.DdFacetsV) LinealitySpace Vertices
   pub turned : ¬ (FindsFacets (standard_kind client.DdFacets) Points InputLineality)
+  -- from half-spaces of either kind; facets cut out the cone over a polytope
+  pub rays_by_rows : FindsRays (standard_kind client.DdVerticesWide) Equations Inequalities
+  pub rays_by_facets : FindsRays (standard_kind client.DdVerticesF) AffineHull Facets
+  pub rays_by_points : ¬ (FindsRays (standard_kind client.DdFacets) InputLineality Points)
+  -- from null spaces, of either way
+  pub lines_by_null_space : FindsNullSpace (standard_kind client.LinealityFromFacetsWide)
+      AffineHull Facets LinealitySpace
+  pub hull_by_null_space : FindsNullSpace (standard_kind client.HullFromVertices)
+      LinealitySpace Vertices AffineHull
+  pub hull_by_no_null_space : ¬ (FindsNullSpace (standard_kind client.DdFacetsV)
+      LinealitySpace Vertices AffineHull)
+  pub taken_as_cone : cut_type Facets Polytope ≡ Cone
+  pub taken_as_polytope : cut_type Inequalities Polytope ≡ Polytope
   pub finds_rays : ¬ (FindsFacets (standard_kind client.DdVertices) Equations Inequalities)
   -- what is read of a view
   pub reads : ReadsParts no_rows Equations Inequalities [] []
@@ -84,6 +98,15 @@ pub record HullsAreRead : Type 0 where
   pub not_put : ¬ (ArePutGenerators no_rows (single 1 ∷ []) [] (drafted []))
 
 pub record ThinnedAreRead : Type 0 where
+  -- which clients thin one description by the other, and which find one from sets
+  pub thins_points : ThinsPoints (standard_kind client.ThinPointsFWide)
+  pub doubles : ¬ (ThinsPoints (standard_kind client.DdVertices))
+  pub thins_inequalities : ThinsInequalities (standard_kind client.ThinInequalitiesV)
+  pub thins_others : ¬ (ThinsInequalities (standard_kind client.ThinPointsF))
+  pub rays_of_sets : FindsRaysOfSets (standard_kind client.VerticesFromSets)
+  pub no_rays_of_sets : ¬ (FindsRaysOfSets (standard_kind client.FacetsFromSets))
+  pub facets_of_sets : FindsFacetsOfSets (standard_kind client.FacetsFromSetsWide)
+  pub no_facets_of_sets : ¬ (FindsFacetsOfSets (standard_kind client.VerticesFromSets))
   -- a row of zeros is no ray and no facet row
   pub not_zero : AreNotZero (single 1 ∷ [])
   pub zero : ¬ (AreNotZero (single 0 ∷ []))

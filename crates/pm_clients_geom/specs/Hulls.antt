@@ -8,9 +8,10 @@ use Rattle.pm_clients_geom.specs.Rays.{ArePutRays}
 use Rattle.pm_object.specs.Reading.{DraftSeen, ViewSeen}
 use Rattle.pm_props.specs.declared.kind.Kind.{Kind}
 use Rattle.pm_object_type.specs.declared.object_type.ObjectType.{ObjectType}
+use Rattle.pm_object_type.specs.declared.object_type.ObjectType.TheVariants.{Cone}
 use Rattle.pm_props.specs.declared.property.PropId.{PropId}
 use Rattle.pm_props.specs.declared.property.PropId.TheVariants.{AffineHull, Facets, LinealitySpace, Vertices}
-use Rattle.pm_props.specs.Properties.{is_generator}
+use Rattle.pm_props.specs.Properties.{is_generator, is_half_space}
 use Rattle.pm_props.specs.Sets.{set_of}
 use Rattle.pm_types.specs.Values.{matrix}
 use Rattle.pm_types.specs.Views.{ratios}
@@ -31,8 +32,16 @@ pub record FindsFacets (kind : Kind) (first second : PropId) : Type 0 where
 pub record FindsRays (kind : Kind) (first second : PropId) : Type 0 where
   pub targets : kind.targets ≡ set_of (Vertices ∷ LinealitySpace ∷ [])
   pub sources : kind.sources ≡ set_of (second ∷ first ∷ [])
+  pub parts : IsTrue (are_parts first second)
+  pub half_spaces : IsTrue (is_half_space second)
   pub doubles : IsTrue (has_way kind.name doubling)
   pub lists : eliminated_by kind.name ≡ first_part ∷ double_list ∷ enlarging_rows ∷ []
+
+-- rows of the property are taken as half-spaces of a thing of that type: facets cut out the cone over it, the far face
+-- among them
+abbrev pub cut_type : PropId → ObjectType → ObjectType
+cut_type Facets of = Cone
+cut_type p of = of
 
 -- few rows of n entries
 pub record AreFewRows (n : ℕ) (X : List Row) : Type 0 where

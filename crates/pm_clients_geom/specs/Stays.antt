@@ -40,7 +40,8 @@ pub record RepeatsRows (v : ViewSeen) (p q : PropId) (d : DraftSeen) : Type 0 wh
   pub put : drafted q d.values ≡ Some (matrix (cols_over cols rows) rows)
 
 -- where a client answers that finds one description from its twin, it repeats the rows; where it finds a null space,
--- the elimination of its row list, and of the extended list, never leaves the range
+-- the elimination of its row list, and of the extended list, never leaves the range; a wide one answers also where
+-- one does
 abbrev pub RowsStay : RowsWork → ViewSeen → DraftSeen → Type 0
 RowsStay rows.PointsFromVertices v d = RepeatsRows v Vertices Points d
     × RepeatsRows v LinealitySpace InputLineality d
@@ -50,10 +51,14 @@ RowsStay rows.LinealityFromFacets v d = StaysInRange v AffineHull Facets list.Ro
     × StaysInRange v AffineHull Facets list.Extended
 RowsStay rows.HullFromVertices v d = StaysInRange v LinealitySpace Vertices list.Rows
     × StaysInRange v LinealitySpace Vertices list.Extended
+RowsStay rows.LinealityFromFacetsWide v d = Unit {0}
+RowsStay rows.HullFromVerticesWide v d = Unit {0}
 
 -- such a client fails for want of memory or with evidence that holds of the view, of its rows as they stand or of the
 -- extended list; one that copies rows for want of memory alone
 abbrev pub RowsFail : RowsWork → ViewSeen → ClientFail → Type 0
 RowsFail rows.LinealityFromFacets v e = FailsRightly v e × EliminatesExtended e
 RowsFail rows.HullFromVertices v e = FailsRightly v e × EliminatesExtended e
+RowsFail rows.LinealityFromFacetsWide v e = FailsRightly v e × EliminatesExtended e
+RowsFail rows.HullFromVerticesWide v e = FailsRightly v e × EliminatesExtended e
 RowsFail w v e = e ≡ Memory

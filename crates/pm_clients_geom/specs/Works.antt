@@ -30,6 +30,9 @@ abbrev pub place_client : PlaceWork → StandardClient
 place_client place.BbFacets = client.BbFacets
 place_client place.BbFacetsV = client.BbFacetsV
 place_client place.Placing = client.Placing
+place_client place.BbFacetsWide = client.BbFacetsWide
+place_client place.BbFacetsVWide = client.BbFacetsVWide
+place_client place.PlacingWide = client.PlacingWide
 
 -- of those that thin one description by the other, or find one from sets
 abbrev pub thinning_client : ThinWork → StandardClient
@@ -37,6 +40,10 @@ thinning_client thin.ThinPointsF = client.ThinPointsF
 thinning_client thin.ThinInequalitiesV = client.ThinInequalitiesV
 thinning_client thin.VerticesFromSets = client.VerticesFromSets
 thinning_client thin.FacetsFromSets = client.FacetsFromSets
+thinning_client thin.ThinPointsFWide = client.ThinPointsFWide
+thinning_client thin.ThinInequalitiesVWide = client.ThinInequalitiesVWide
+thinning_client thin.VerticesFromSetsWide = client.VerticesFromSetsWide
+thinning_client thin.FacetsFromSetsWide = client.FacetsFromSetsWide
 
 -- of those that thin a description by linear programs, and of the one that asks whether there is a point
 abbrev pub redundancy_client : RedundancyWork → StandardClient
@@ -50,6 +57,8 @@ rows_client rows.PointsFromVertices = client.PointsFromVertices
 rows_client rows.InequalitiesFromFacets = client.InequalitiesFromFacets
 rows_client rows.LinealityFromFacets = client.LinealityFromFacets
 rows_client rows.HullFromVertices = client.HullFromVertices
+rows_client rows.LinealityFromFacetsWide = client.LinealityFromFacetsWide
+rows_client rows.HullFromVerticesWide = client.HullFromVerticesWide
 
 -- of those that find a dimension
 abbrev pub dimension_client : DimWork → StandardClient

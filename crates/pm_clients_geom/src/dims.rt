@@ -4,7 +4,7 @@ ghost use Rattle.pm_client.specs.Sound.{EliminatesRows, FailsRightly, IsSound, a
 ghost use Rattle.pm_client.specs.declared.ClientFail.TheVariants.{Memory};
 ghost use Rattle.pm_clients_geom.specs.Lists.{StaysInRange};
 ghost use Rattle.pm_clients_geom.specs.Ranks.{IsListRank};
-ghost use Rattle.pm_elim.specs.Evidence.{IfWide, IsEvidence};
+ghost use Rattle.pm_elim.specs.Evidence.{IfWide, IsEvidence, NoEvidence};
 ghost use Rattle.pm_elim.specs.declared.evidence.ElimList.TheVariants as list;
 ghost use Rattle.pm_object.specs.Reading.{IsView};
 ghost use Rattle.pm_standard.specs.Table.{standard_kind};
@@ -13,11 +13,11 @@ ghost use Rattle.pm_props.specs.declared.property.PropId.TheVariants as property
 ghost use Rattle.pm_standard.specs.declared.standard.StandardClient.TheVariants as client;
 ghost use Rattle.pm_vector.specs.Bases.{IsRank};
 ghost use Rattle.pm_vector.specs.Rows.{HasCols};
-ghost use Rattle.std.specs.Prelude.{Contains, IfErr, IfOk, IsTrue, OnOk, [], length, ◌<◌, ◌^◌, ◌≡◌, ◌≤◌, map, ◌∷◌};
+ghost use Rattle.std.specs.Prelude.{Contains, IfErr, IfOk, IsTrue, OnOk, [], false, length, ◌<◌, ◌^◌, ◌≡◌, ◌≤◌, map, ◌∷◌};
 
 use crate::lists::row_list;
 use pm_client::{ClientFail, matrix_of, put_value, whole_of};
-use pm_elim::{ElimFail, rank, wide_rank};
+use pm_elim::{ElimFail, rank, rank_by};
 use pm_family::{Family, FamilyClient};
 use pm_object::{Draft, View};
 use pm_standard::StandardClient;
@@ -112,13 +112,31 @@ impl Family for DimFamily {
     }
 }
 
-// The rank of the row list of two parts, to which nothing is added. It fails for want of memory, or where the
-// elimination of the list leaves the range.
+// The rank of rows, by wide numbers where those of the range do not suffice and the word is given.
+fn rank_in(alloc: Global, rows: &[Ints], cols: usize, wide: bool) -> Result<usize, ElimFail>
+    requires columns { HasCols cols rows.now }
+    requires few_rows { length rows.now < 2 ^ 30 }
+    requires few_columns { cols < 2 ^ 30 }
+    ensures rank { IfOk result (λ k. IsRank rows.now k) }
+    ensures never_wide { wide ≡ false → OnOk result (NoEvidence cols rows.now list.Rows) }
+    ensures shown { IfErr result (λ f. IfWide f (λ e. IsEvidence cols rows.now e)) }
+    ensures list { IfErr result (λ f. IfWide f (λ e. e.list ≡ list.Rows)) }
+{
+    if wide {
+        rank_by(alloc, rows, cols, true)
+    } else {
+        rank(alloc, rows, cols)
+    }
+}
+
+// The rank of the row list of two parts, to which nothing is added; with the word, by wide numbers where those of the
+// range do not suffice. It fails for want of memory, or where the elimination of the list leaves the range.
 fn rank_of_list(
     alloc: Global,
     view: &View,
     first: PropId,
     second: PropId,
+    wide: bool,
 ) -> Result<usize, ClientFail>
     requires first { IsTrue (has view.now.kind.sources first) }
     requires second { IsTrue (has view.now.kind.sources second) }
@@ -128,12 +146,12 @@ fn rank_of_list(
     ensures rank { IfOk result (λ k. IsListRank view.now first second k) }
     ensures few { IfOk result (λ k. k ≤ 4096) }
     ensures view { OnOk result (IsView view.now) }
-    ensures stays { OnOk result (StaysInRange view.now first second list.Rows) }
+    ensures stays { wide ≡ false → OnOk result (StaysInRange view.now first second list.Rows) }
     ensures failed { IfErr result (FailsRightly view.now) }
     ensures fails { IfErr result (λ e. FailsRightly view.now e × EliminatesRows e) }
 {
     let rows = row_list(alloc, view, first, second)?;
-    let rank = rank(alloc, &rows, view.cols())?;
+    let rank = rank_in(alloc, &rows, view.cols(), wide)?;
     Ok(rank)
 }
 
@@ -148,7 +166,7 @@ fn cone_dim_v(alloc: Global, view: &View, draft: &mut Draft) -> Result<(), Clien
     ensures failed { IfErr result (FailsRightly view.now) }
     ensures fails { IfErr result (λ e. FailsRightly view.now e × EliminatesRows e) }
 {
-    let dim = rank_of_list(alloc, view, PropId::LinealitySpace, PropId::Vertices)?;
+    let dim = rank_of_list(alloc, view, PropId::LinealitySpace, PropId::Vertices, false)?;
     put_value(draft, PropId::ConeDim, Value::Int(dim as i64))?;
     Ok(())
 }
@@ -178,50 +196,9 @@ fn cone_dim_points(alloc: Global, view: &View, draft: &mut Draft) -> Result<(), 
     ensures failed { IfErr result (FailsRightly view.now) }
     ensures fails { IfErr result (λ e. FailsRightly view.now e × EliminatesRows e) }
 {
-    let dim = rank_of_list(alloc, view, PropId::InputLineality, PropId::Points)?;
+    let dim = rank_of_list(alloc, view, PropId::InputLineality, PropId::Points, false)?;
     put_value(draft, PropId::ConeDim, Value::Int(dim as i64))?;
     Ok(())
-}
-
-// The rank of rows, by wide numbers where those of the range do not suffice. A refusal is that of the range alone.
-fn any_rank(alloc: Global, rows: &[Ints], cols: usize) -> Result<usize, ElimFail>
-    requires columns { HasCols cols rows.now }
-    requires few_rows { length rows.now < 2 ^ 30 }
-    requires few_columns { cols < 2 ^ 30 }
-    ensures rank { IfOk result (λ k. IsRank rows.now k) }
-    ensures wide { IfErr result (λ f. IfWide f (λ e. IsEvidence cols rows.now e)) }
-{
-    let fail = match rank(alloc, rows, cols) {
-        Ok(k) => return Ok(k),
-        Err(fail) => fail,
-    };
-    match wide_rank(alloc, rows, cols) {
-        Ok(k) => Ok(k),
-        Err(_) => Err(fail),
-    }
-}
-
-// The same of the row list of two parts, to which nothing is added. It fails for want of memory, or where the
-// elimination of the list leaves the range.
-fn any_rank_of_list(
-    alloc: Global,
-    view: &View,
-    first: PropId,
-    second: PropId,
-) -> Result<usize, ClientFail>
-    requires first { IsTrue (has view.now.kind.sources first) }
-    requires second { IsTrue (has view.now.kind.sources second) }
-    requires parts { IsTrue (are_parts first second) }
-    requires nothing_added { added_rows view.now.of view.now.cols second ≡ [] }
-    requires eliminates { Contains (eliminated_by view.now.kind.name) whole_list }
-    ensures rank { IfOk result (λ k. IsListRank view.now first second k) }
-    ensures few { IfOk result (λ k. k ≤ 4096) }
-    ensures view { OnOk result (IsView view.now) }
-    ensures failed { IfErr result (FailsRightly view.now) }
-{
-    let rows = row_list(alloc, view, first, second)?;
-    let found = any_rank(alloc, &rows, view.cols())?;
-    Ok(found)
 }
 
 // CONE_DIM: the rank of the rows of LINEALITY_SPACE and VERTICES, by wide numbers where those of the range do not
@@ -233,7 +210,7 @@ fn cone_dim_v_wide(alloc: Global, view: &View, draft: &mut Draft) -> Result<(), 
     ensures sound { OnOk result (IsSound view.now draft.new) }
     ensures failed { IfErr result (FailsRightly view.now) }
 {
-    let dim = any_rank_of_list(alloc, view, PropId::LinealitySpace, PropId::Vertices)?;
+    let dim = rank_of_list(alloc, view, PropId::LinealitySpace, PropId::Vertices, true)?;
     put_value(draft, PropId::ConeDim, Value::Int(dim as i64))?;
     Ok(())
 }
@@ -247,7 +224,7 @@ fn cone_dim_points_wide(alloc: Global, view: &View, draft: &mut Draft) -> Result
     ensures sound { OnOk result (IsSound view.now draft.new) }
     ensures failed { IfErr result (FailsRightly view.now) }
 {
-    let dim = any_rank_of_list(alloc, view, PropId::InputLineality, PropId::Points)?;
+    let dim = rank_of_list(alloc, view, PropId::InputLineality, PropId::Points, true)?;
     put_value(draft, PropId::ConeDim, Value::Int(dim as i64))?;
     Ok(())
 }

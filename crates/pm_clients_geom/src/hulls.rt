@@ -2,7 +2,7 @@
 
 ghost use Rattle.pm_client.specs.Sound.{FailsRightly, IsSound, are_parts};
 ghost use Rattle.pm_client.specs.declared.ClientFail.TheVariants.{Memory};
-ghost use Rattle.pm_clients_geom.specs.Hulls.{AreFewRows, ArePossible, ArePutGenerators, FindsFacets, FindsRays};
+ghost use Rattle.pm_clients_geom.specs.Hulls.{AreFewRows, ArePossible, ArePutGenerators, FindsFacets, FindsRays, cut_type};
 ghost use Rattle.pm_clients_geom.specs.Lists.{ReadsParts};
 ghost use Rattle.pm_props.specs.Sets.{has, set_of};
 ghost use Rattle.pm_props.specs.declared.property.PropId.TheVariants as property;
@@ -104,8 +104,22 @@ impl Family for HullFamily {
         draft: &mut Draft,
     ) -> Result<(), ClientFail> {
         match work {
-            HullWork::DdVertices => dd_vertices(alloc, view, draft, false),
-            HullWork::DdVerticesWide => dd_vertices(alloc, view, draft, true),
+            HullWork::DdVertices => dd_vertices(
+                alloc,
+                view,
+                draft,
+                PropId::Equations,
+                PropId::Inequalities,
+                false,
+            ),
+            HullWork::DdVerticesWide => dd_vertices(
+                alloc,
+                view,
+                draft,
+                PropId::Equations,
+                PropId::Inequalities,
+                true,
+            ),
             HullWork::DdFacets => dd_facets(
                 alloc,
                 view,
@@ -138,8 +152,22 @@ impl Family for HullFamily {
                 PropId::Vertices,
                 true,
             ),
-            HullWork::DdVerticesF => dd_vertices_f(alloc, view, draft, false),
-            HullWork::DdVerticesFWide => dd_vertices_f(alloc, view, draft, true),
+            HullWork::DdVerticesF => dd_vertices(
+                alloc,
+                view,
+                draft,
+                PropId::AffineHull,
+                PropId::Facets,
+                false,
+            ),
+            HullWork::DdVerticesFWide => dd_vertices(
+                alloc,
+                view,
+                draft,
+                PropId::AffineHull,
+                PropId::Facets,
+                true,
+            ),
         }
     }
 }
@@ -202,50 +230,35 @@ fn dd_facets(
     Ok(())
 }
 
-// VERTICES and LINEALITY_SPACE: all extreme rays of what INEQUALITIES and EQUATIONS describe, and its lineality.
-fn dd_vertices(alloc: Global, view: &View, draft: &mut Draft, wide: bool) -> Result<(), ClientFail>
-    requires kind { FindsRays view.now.kind property.Equations property.Inequalities }
-    requires empty { draft.old ≡ record { kind = view.now.kind; values = [] } }
-    ensures draft { draft.new.kind ≡ draft.old.kind }
-    ensures sound { OnOk result (IsSound view.now draft.new) }
-    ensures failed { IfErr result (FailsRightly view.now) }
+/// As half-spaces of what rows of the property are taken.
+fn cut_type(second: PropId, of: ObjectType) -> ObjectType
+    ensures { result ≡ cut_type second of }
 {
-    prove!(view.of() != ObjectType::Fan);
-    let parts = read_parts(alloc, view, PropId::Equations, PropId::Inequalities)?;
-    let found = generators_of(
-        alloc,
-        view.of(),
-        view.cols(),
-        &parts.second,
-        &parts.first,
-        wide,
-    )?;
-    put_generators(alloc, view, draft, found)?;
-    Ok(())
+    match second {
+        PropId::Facets => ObjectType::Cone,
+        _ => of,
+    }
 }
 
-// VERTICES and LINEALITY_SPACE: all extreme rays of what FACETS and AFFINE_HULL cut out, and its lineality.
-fn dd_vertices_f(
+// VERTICES and LINEALITY_SPACE: all extreme rays of what the rows of the second property cut out with those of the
+// first as equations, and its lineality.
+fn dd_vertices(
     alloc: Global,
     view: &View,
     draft: &mut Draft,
+    first: PropId,
+    second: PropId,
     wide: bool,
 ) -> Result<(), ClientFail>
-    requires kind { FindsRays view.now.kind property.AffineHull property.Facets }
+    requires kind { FindsRays view.now.kind first second }
     requires empty { draft.old ≡ record { kind = view.now.kind; values = [] } }
     ensures draft { draft.new.kind ≡ draft.old.kind }
     ensures sound { OnOk result (IsSound view.now draft.new) }
     ensures failed { IfErr result (FailsRightly view.now) }
 {
-    let parts = read_parts(alloc, view, PropId::AffineHull, PropId::Facets)?;
-    let found = generators_of(
-        alloc,
-        ObjectType::Cone,
-        view.cols(),
-        &parts.second,
-        &parts.first,
-        wide,
-    )?;
+    let parts = read_parts(alloc, view, first, second)?;
+    let of = cut_type(second, view.of());
+    let found = generators_of(alloc, of, view.cols(), &parts.second, &parts.first, wide)?;
     put_generators(alloc, view, draft, found)?;
     Ok(())
 }

@@ -3,7 +3,8 @@
 ghost use Rattle.pm_client.specs.Sound.{FailsRightly, IsSound};
 ghost use Rattle.pm_clients_geom.specs.PlacedRays.{ArePlaced, PlacesRays, fail_of_place};
 ghost use Rattle.pm_object.specs.Reading.{IsView};
-ghost use Rattle.pm_standard.specs.Table.{standard_kind};
+ghost use Rattle.pm_props.specs.Sets.{set_of};
+ghost use Rattle.pm_props.specs.declared.property.PropId.TheVariants as property;
 ghost use Rattle.pm_standard.specs.declared.standard.StandardClient.TheVariants as client;
 ghost use Rattle.std.specs.Prelude.{IfErr, IfOk, OnOk, [], map, ◌∷◌, ◌≡◌};
 
@@ -22,25 +23,37 @@ pub enum PlaceWork {
     BbFacets,
     BbFacetsV,
     Placing,
+    BbFacetsWide,
+    BbFacetsVWide,
+    PlacingWide,
 }
 
 impl PlaceWork {
     ghost use Rattle.pm_clients_geom.specs.Works.{place_client};
 
-    /// All of them, in the order of the standard book.
+    /// Those of the standard clients, in the order of the standard book.
     pub fn every() -> [PlaceWork; 3]
         ensures { map place_client result ≡ client.BbFacets ∷ client.BbFacetsV ∷ client.Placing ∷ [] }
     {
         [Self::BbFacets, Self::BbFacetsV, Self::Placing]
     }
+
+    /// Those of the clients that answer by wide numbers, in the order of their rules.
+    pub fn wide() -> [PlaceWork; 3]
+        ensures { map place_client result ≡ client.BbFacetsWide ∷ client.BbFacetsVWide ∷ client.PlacingWide
+            ∷ [] }
+    {
+        [Self::BbFacetsWide, Self::BbFacetsVWide, Self::PlacingWide]
+    }
 }
 
-/// The standard clients that place rays.
+/// The clients that place rays.
 #[derive(Debug, Drop)]
 pub struct PlaceFamily;
 
 /// A client that places rays (De Loera, Rambau and Santos, Triangulations, section 4.3). It fails for want of memory,
-/// where a step leaves the range, and where a cone on the way has too many facets or cells.
+/// where a step leaves the range, and where a cone on the way has too many facets or cells. A wide one works a step
+/// that leaves the range by wide numbers, and where these do not suffice it fails as the standard one.
 pub type PlaceClient = FamilyClient<PlaceFamily>;
 
 impl Family for PlaceFamily {
@@ -60,6 +73,9 @@ impl Family for PlaceFamily {
             PlaceWork::BbFacets => StandardClient::BbFacets,
             PlaceWork::BbFacetsV => StandardClient::BbFacetsV,
             PlaceWork::Placing => StandardClient::Placing,
+            PlaceWork::BbFacetsWide => StandardClient::BbFacetsWide,
+            PlaceWork::BbFacetsVWide => StandardClient::BbFacetsVWide,
+            PlaceWork::PlacingWide => StandardClient::PlacingWide,
         }
     }
 
@@ -70,9 +86,12 @@ impl Family for PlaceFamily {
         draft: &mut Draft,
     ) -> Result<(), ClientFail> {
         match work {
-            PlaceWork::BbFacets => bb_facets(alloc, view, draft),
-            PlaceWork::BbFacetsV => bb_facets_v(alloc, view, draft),
-            PlaceWork::Placing => placing(alloc, view, draft),
+            PlaceWork::BbFacets => bb_facets(alloc, view, draft, false),
+            PlaceWork::BbFacetsV => bb_facets_v(alloc, view, draft, false),
+            PlaceWork::Placing => placing(alloc, view, draft, false),
+            PlaceWork::BbFacetsWide => bb_facets(alloc, view, draft, true),
+            PlaceWork::BbFacetsVWide => bb_facets_v(alloc, view, draft, true),
+            PlaceWork::PlacingWide => placing(alloc, view, draft, true),
         }
     }
 }
@@ -102,6 +121,7 @@ fn place_rows(
     view: &View,
     first: PropId,
     second: PropId,
+    wide: bool,
 ) -> Result<Placed, ClientFail>
     requires kind { PlacesRays view.now.kind first second }
     ensures placed { IfOk result (λ p. ArePlaced view.now first second
@@ -111,7 +131,7 @@ fn place_rows(
     ensures failed { IfErr result (FailsRightly view.now) }
 {
     let parts = read_parts(alloc, view, first, second)?;
-    match place(alloc, view.cols(), &parts.second, &parts.first, false) {
+    match place(alloc, view.cols(), &parts.second, &parts.first, wide) {
         Ok(found) => {
             let cells = Sets::from_vec(found.simplices, parts.second.len() as u32);
             Ok(Placed {
@@ -125,14 +145,15 @@ fn place_rows(
 }
 
 // FACETS and AFFINE_HULL of what POINTS generate with INPUT_LINEALITY as lines.
-fn bb_facets(alloc: Global, view: &View, draft: &mut Draft) -> Result<(), ClientFail>
-    requires kind { view.now.kind ≡ standard_kind client.BbFacets }
+fn bb_facets(alloc: Global, view: &View, draft: &mut Draft, wide: bool) -> Result<(), ClientFail>
+    requires kind { PlacesRays view.now.kind property.InputLineality property.Points }
+    requires targets { view.now.kind.targets ≡ set_of (property.Facets ∷ property.AffineHull ∷ []) }
     requires empty { draft.old ≡ record { kind = view.now.kind; values = [] } }
     ensures draft { draft.new.kind ≡ draft.old.kind }
     ensures sound { OnOk result (IsSound view.now draft.new) }
     ensures failed { IfErr result (FailsRightly view.now) }
 {
-    let placed = place_rows(alloc, view, PropId::InputLineality, PropId::Points)?;
+    let placed = place_rows(alloc, view, PropId::InputLineality, PropId::Points, wide)?;
     let facets = matrix_over_one(alloc, &placed.facets.facets, view.cols())?;
     let hull = matrix_over_one(alloc, &placed.facets.hull, view.cols())?;
     put_value(draft, PropId::Facets, Value::Mat(facets))?;
@@ -141,14 +162,16 @@ fn bb_facets(alloc: Global, view: &View, draft: &mut Draft) -> Result<(), Client
 }
 
 // FACETS, AFFINE_HULL and PLACING_TRIANGULATION of what VERTICES generate with LINEALITY_SPACE as lines.
-fn bb_facets_v(alloc: Global, view: &View, draft: &mut Draft) -> Result<(), ClientFail>
-    requires kind { view.now.kind ≡ standard_kind client.BbFacetsV }
+fn bb_facets_v(alloc: Global, view: &View, draft: &mut Draft, wide: bool) -> Result<(), ClientFail>
+    requires kind { PlacesRays view.now.kind property.LinealitySpace property.Vertices }
+    requires targets { view.now.kind.targets
+        ≡ set_of (property.Facets ∷ property.AffineHull ∷ property.PlacingTriangulation ∷ []) }
     requires empty { draft.old ≡ record { kind = view.now.kind; values = [] } }
     ensures draft { draft.new.kind ≡ draft.old.kind }
     ensures sound { OnOk result (IsSound view.now draft.new) }
     ensures failed { IfErr result (FailsRightly view.now) }
 {
-    let placed = place_rows(alloc, view, PropId::LinealitySpace, PropId::Vertices)?;
+    let placed = place_rows(alloc, view, PropId::LinealitySpace, PropId::Vertices, wide)?;
     let facets = matrix_over_one(alloc, &placed.facets.facets, view.cols())?;
     let hull = matrix_over_one(alloc, &placed.facets.hull, view.cols())?;
     put_value(draft, PropId::Facets, Value::Mat(facets))?;
@@ -162,14 +185,15 @@ fn bb_facets_v(alloc: Global, view: &View, draft: &mut Draft) -> Result<(), Clie
 }
 
 // PLACING_TRIANGULATION of what VERTICES generate with LINEALITY_SPACE as lines.
-fn placing(alloc: Global, view: &View, draft: &mut Draft) -> Result<(), ClientFail>
-    requires kind { view.now.kind ≡ standard_kind client.Placing }
+fn placing(alloc: Global, view: &View, draft: &mut Draft, wide: bool) -> Result<(), ClientFail>
+    requires kind { PlacesRays view.now.kind property.LinealitySpace property.Vertices }
+    requires targets { view.now.kind.targets ≡ set_of (property.PlacingTriangulation ∷ []) }
     requires empty { draft.old ≡ record { kind = view.now.kind; values = [] } }
     ensures draft { draft.new.kind ≡ draft.old.kind }
     ensures sound { OnOk result (IsSound view.now draft.new) }
     ensures failed { IfErr result (FailsRightly view.now) }
 {
-    let placed = place_rows(alloc, view, PropId::LinealitySpace, PropId::Vertices)?;
+    let placed = place_rows(alloc, view, PropId::LinealitySpace, PropId::Vertices, wide)?;
     put_value(
         draft,
         PropId::PlacingTriangulation,

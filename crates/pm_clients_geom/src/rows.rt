@@ -6,7 +6,10 @@ ghost use Rattle.pm_client.specs.declared.ClientFail.TheVariants.{Memory};
 ghost use Rattle.pm_clients_geom.specs.Lists.{StaysInRange};
 ghost use Rattle.pm_clients_geom.specs.Matrices.{MayBeLines};
 ghost use Rattle.pm_clients_geom.specs.Pairs.{LacksPair};
+ghost use Rattle.pm_clients_geom.specs.Ranks.{FindsNullSpace};
 ghost use Rattle.pm_clients_geom.specs.Stays.{RowsStay};
+ghost use Rattle.pm_elim.specs.Evidence.{IfWide, IsEvidence, NoEvidence};
+ghost use Rattle.pm_elim.specs.NullSpaces.{IsNullBasis};
 ghost use Rattle.pm_clients_geom.specs.declared.rows.RowsWork.TheVariants as work;
 ghost use Rattle.pm_elim.specs.declared.evidence.ElimList.TheVariants as list;
 ghost use Rattle.pm_standard.specs.Table.{standard_kind};
@@ -14,11 +17,12 @@ ghost use Rattle.pm_props.specs.declared.property.PropId.TheVariants as property
 ghost use Rattle.pm_standard.specs.declared.standard.StandardClient.TheVariants as client;
 ghost use Rattle.pm_props.specs.Properties.{has_program, of_fans, row};
 ghost use Rattle.pm_props.specs.Sets.{has};
-ghost use Rattle.std.specs.Prelude.{All, false, IfErr, IfOk, IsTrue, OnOk, [], length, map, ◌<◌, ◌≡◌, ◌↔◌, ◌∷◌};
+ghost use Rattle.pm_vector.specs.Rows.{HasCols};
+ghost use Rattle.std.specs.Prelude.{All, false, IfErr, IfOk, IsTrue, List, OnOk, [], length, map, ℕ, ◌<◌, ◌^◌, ◌≡◌, ◌↔◌, ◌∷◌, ◌⊎◌};
 
 use crate::lists::row_list;
 use pm_client::{ClientFail, matrix_of, put_value};
-use pm_elim::null_space;
+use pm_elim::{ElimFail, null_space, null_space_by};
 use pm_family::{Family, FamilyClient};
 use pm_matrix::Matrix;
 use pm_object::{Draft, View};
@@ -34,12 +38,14 @@ pub enum RowsWork {
     InequalitiesFromFacets,
     LinealityFromFacets,
     HullFromVertices,
+    LinealityFromFacetsWide,
+    HullFromVerticesWide,
 }
 
 impl RowsWork {
     ghost use Rattle.pm_clients_geom.specs.Works.{rows_client};
 
-    /// All of them, in the order of the standard book.
+    /// Those of the standard clients, in the order of the standard book.
     pub fn every() -> [RowsWork; 4]
         ensures { map rows_client result ≡ client.PointsFromVertices ∷ client.InequalitiesFromFacets
             ∷ client.LinealityFromFacets ∷ client.HullFromVertices ∷ [] }
@@ -51,14 +57,22 @@ impl RowsWork {
             Self::HullFromVertices,
         ]
     }
+
+    /// Those of the clients that answer by wide numbers, in the order of their rules.
+    pub fn wide() -> [RowsWork; 2]
+        ensures { map rows_client result ≡ client.LinealityFromFacetsWide ∷ client.HullFromVerticesWide
+            ∷ [] }
+    {
+        [Self::LinealityFromFacetsWide, Self::HullFromVerticesWide]
+    }
 }
 
-/// The standard clients that find rows.
+/// The clients that find rows.
 #[derive(Debug, Drop)]
 pub struct RowsFamily;
 
 /// A client that finds rows. `lineality_from_facets` and `hull_from_vertices` fail exactly where the null space of
-/// their row list is Wide, the others never.
+/// their row list is Wide, and the wide ones of these only there; the others never.
 pub type RowsClient = FamilyClient<RowsFamily>;
 
 impl Family for RowsFamily {
@@ -79,6 +93,8 @@ impl Family for RowsFamily {
             RowsWork::InequalitiesFromFacets => StandardClient::InequalitiesFromFacets,
             RowsWork::LinealityFromFacets => StandardClient::LinealityFromFacets,
             RowsWork::HullFromVertices => StandardClient::HullFromVertices,
+            RowsWork::LinealityFromFacetsWide => StandardClient::LinealityFromFacetsWide,
+            RowsWork::HullFromVerticesWide => StandardClient::HullFromVerticesWide,
         }
     }
 
@@ -91,8 +107,10 @@ impl Family for RowsFamily {
         match work {
             RowsWork::PointsFromVertices => points_from_vertices(alloc, view, draft),
             RowsWork::InequalitiesFromFacets => inequalities_from_facets(alloc, view, draft),
-            RowsWork::LinealityFromFacets => lineality_from_facets(alloc, view, draft),
-            RowsWork::HullFromVertices => hull_from_vertices(alloc, view, draft),
+            RowsWork::LinealityFromFacets => lineality_from_facets(alloc, view, draft, false),
+            RowsWork::HullFromVertices => hull_from_vertices(alloc, view, draft, false),
+            RowsWork::LinealityFromFacetsWide => lineality_from_facets(alloc, view, draft, true),
+            RowsWork::HullFromVerticesWide => hull_from_vertices(alloc, view, draft, true),
         }
     }
 }
@@ -131,21 +149,46 @@ fn inequalities_from_facets(alloc: Global, view: &View, draft: &mut Draft) -> Re
     Ok(())
 }
 
-// LINEALITY_SPACE: the null space of the rows of AFFINE_HULL and FACETS.
-fn lineality_from_facets(alloc: Global, view: &View, draft: &mut Draft) -> Result<(), ClientFail>
-    requires kind { view.now.kind ≡ standard_kind client.LinealityFromFacets }
+// The null space of rows, by wide numbers where those of the range do not suffice and the word is given.
+fn null_in(alloc: Global, rows: &[Ints], cols: usize, wide: bool) -> Result<Vec<Ints>, ElimFail>
+    requires columns { HasCols cols rows.now }
+    requires few_rows { length rows.now < 2 ^ 30 }
+    requires few_columns { cols < 2 ^ 30 }
+    ensures null { IfOk result (λ v. (P : List ℕ) × IsNullBasis cols rows.now v.items P) }
+    ensures never_wide { wide ≡ false → OnOk result (NoEvidence cols rows.now list.Rows) }
+    ensures never_wide_extended { wide ≡ false → OnOk result (NoEvidence cols rows.now list.Extended) }
+    ensures shown { IfErr result (λ f. IfWide f (λ e. IsEvidence cols rows.now e)) }
+    ensures list { IfErr result (λ f. IfWide f (λ e. (e.list ≡ list.Rows) ⊎ (e.list ≡ list.Extended))) }
+{
+    if wide {
+        null_space_by(alloc, rows, cols, true)
+    } else {
+        null_space(alloc, rows, cols)
+    }
+}
+
+// LINEALITY_SPACE: the null space of the rows of AFFINE_HULL and FACETS; with the word, by wide numbers where those of
+// the range do not suffice.
+fn lineality_from_facets(
+    alloc: Global,
+    view: &View,
+    draft: &mut Draft,
+    wide: bool,
+) -> Result<(), ClientFail>
+    requires kind { FindsNullSpace view.now.kind property.AffineHull property.Facets
+        property.LinealitySpace }
     requires empty { draft.old ≡ record { kind = view.now.kind; values = [] } }
     ensures draft { draft.new.kind ≡ draft.old.kind }
     ensures sound { OnOk result (IsSound view.now draft.new) }
-    ensures stays { OnOk result (StaysInRange view.now property.AffineHull
+    ensures stays { wide ≡ false → OnOk result (StaysInRange view.now property.AffineHull
         property.Facets list.Rows) }
-    ensures stays_extended { OnOk result (StaysInRange view.now property.AffineHull
+    ensures stays_extended { wide ≡ false → OnOk result (StaysInRange view.now property.AffineHull
         property.Facets list.Extended) }
     ensures failed { IfErr result (FailsRightly view.now) }
     ensures fails { IfErr result (λ e. FailsRightly view.now e × EliminatesExtended e) }
 {
     let rows = row_list(alloc, view, PropId::AffineHull, PropId::Facets)?;
-    let null = null_space(alloc, &rows, view.cols())?;
+    let null = null_in(alloc, &rows, view.cols(), wide)?;
     let lines = if may_be_lines(view.of(), &null) {
         null
     } else {
@@ -156,21 +199,28 @@ fn lineality_from_facets(alloc: Global, view: &View, draft: &mut Draft) -> Resul
     Ok(())
 }
 
-// AFFINE_HULL: the null space of the rows of LINEALITY_SPACE and VERTICES.
-fn hull_from_vertices(alloc: Global, view: &View, draft: &mut Draft) -> Result<(), ClientFail>
-    requires kind { view.now.kind ≡ standard_kind client.HullFromVertices }
+// AFFINE_HULL: the null space of the rows of LINEALITY_SPACE and VERTICES; with the word, by wide numbers where those of
+// the range do not suffice.
+fn hull_from_vertices(
+    alloc: Global,
+    view: &View,
+    draft: &mut Draft,
+    wide: bool,
+) -> Result<(), ClientFail>
+    requires kind { FindsNullSpace view.now.kind property.LinealitySpace property.Vertices
+        property.AffineHull }
     requires empty { draft.old ≡ record { kind = view.now.kind; values = [] } }
     ensures draft { draft.new.kind ≡ draft.old.kind }
     ensures sound { OnOk result (IsSound view.now draft.new) }
-    ensures stays { OnOk result (StaysInRange view.now property.LinealitySpace
+    ensures stays { wide ≡ false → OnOk result (StaysInRange view.now property.LinealitySpace
         property.Vertices list.Rows) }
-    ensures stays_extended { OnOk result (StaysInRange view.now property.LinealitySpace
+    ensures stays_extended { wide ≡ false → OnOk result (StaysInRange view.now property.LinealitySpace
         property.Vertices list.Extended) }
     ensures failed { IfErr result (FailsRightly view.now) }
     ensures fails { IfErr result (λ e. FailsRightly view.now e × EliminatesExtended e) }
 {
     let rows = row_list(alloc, view, PropId::LinealitySpace, PropId::Vertices)?;
-    let null = null_space(alloc, &rows, view.cols())?;
+    let null = null_in(alloc, &rows, view.cols(), wide)?;
     let hull = matrix_over_one(alloc, &null, view.cols())?;
     put_value(draft, PropId::AffineHull, Value::Mat(hull))?;
     Ok(())

@@ -3,8 +3,7 @@
 ghost use Rattle.pm_client.specs.Sound.{FailsRightly, IsSound};
 ghost use Rattle.pm_client.specs.declared.ClientFail.TheVariants.{Memory};
 ghost use Rattle.pm_clients_geom.specs.Hulls.{AreFewRows};
-ghost use Rattle.pm_clients_geom.specs.Thinned.{ArePossibleFacets, ArePossibleRays, ArePutFacets};
-ghost use Rattle.pm_standard.specs.Table.{standard_kind};
+ghost use Rattle.pm_clients_geom.specs.Thinned.{ArePossibleFacets, ArePossibleRays, ArePutFacets, FindsFacetsOfSets, FindsRaysOfSets, ThinsInequalities, ThinsPoints};
 ghost use Rattle.pm_props.specs.Sets.{set_of};
 ghost use Rattle.pm_props.specs.declared.property.PropId.TheVariants as property;
 ghost use Rattle.pm_standard.specs.declared.standard.StandardClient.TheVariants as client;
@@ -31,12 +30,16 @@ pub enum ThinWork {
     ThinInequalitiesV,
     VerticesFromSets,
     FacetsFromSets,
+    ThinPointsFWide,
+    ThinInequalitiesVWide,
+    VerticesFromSetsWide,
+    FacetsFromSetsWide,
 }
 
 impl ThinWork {
     ghost use Rattle.pm_clients_geom.specs.Works.{thinning_client};
 
-    /// All of them, in the order of the standard book.
+    /// Those of the standard clients, in the order of the standard book.
     pub fn every() -> [ThinWork; 4]
         ensures { map thinning_client result ≡ client.ThinPointsF ∷ client.ThinInequalitiesV
             ∷ client.VerticesFromSets ∷ client.FacetsFromSets ∷ [] }
@@ -48,14 +51,28 @@ impl ThinWork {
             Self::FacetsFromSets,
         ]
     }
+
+    /// Those of the clients that answer by wide numbers, in the order of their rules.
+    pub fn wide() -> [ThinWork; 4]
+        ensures { map thinning_client result ≡ client.ThinPointsFWide ∷ client.ThinInequalitiesVWide
+            ∷ client.VerticesFromSetsWide ∷ client.FacetsFromSetsWide ∷ [] }
+    {
+        [
+            Self::ThinPointsFWide,
+            Self::ThinInequalitiesVWide,
+            Self::VerticesFromSetsWide,
+            Self::FacetsFromSetsWide,
+        ]
+    }
 }
 
-/// The standard clients that thin, and those that find rows from sets.
+/// The clients that thin, and those that find rows from sets.
 #[derive(Debug, Drop)]
 pub struct ThinFamily;
 
 /// A client that thins or takes sets. It fails for want of memory, where a step of an elimination or a product leaves
-/// the range, and `thin_inequalities_v` where there are more than `MOST_ROWS` facets.
+/// the range, and `thin_inequalities_v` where there are more than `MOST_ROWS` facets. A wide one works an elimination
+/// that leaves the range by wide numbers, and where these do not suffice it fails as the standard one.
 pub type ThinClient = FamilyClient<ThinFamily>;
 
 impl Family for ThinFamily {
@@ -76,6 +93,10 @@ impl Family for ThinFamily {
             ThinWork::ThinInequalitiesV => StandardClient::ThinInequalitiesV,
             ThinWork::VerticesFromSets => StandardClient::VerticesFromSets,
             ThinWork::FacetsFromSets => StandardClient::FacetsFromSets,
+            ThinWork::ThinPointsFWide => StandardClient::ThinPointsFWide,
+            ThinWork::ThinInequalitiesVWide => StandardClient::ThinInequalitiesVWide,
+            ThinWork::VerticesFromSetsWide => StandardClient::VerticesFromSetsWide,
+            ThinWork::FacetsFromSetsWide => StandardClient::FacetsFromSetsWide,
         }
     }
 
@@ -86,17 +107,26 @@ impl Family for ThinFamily {
         draft: &mut Draft,
     ) -> Result<(), ClientFail> {
         match work {
-            ThinWork::ThinPointsF => thin_points_f(alloc, view, draft),
-            ThinWork::ThinInequalitiesV => thin_inequalities_v(alloc, view, draft),
-            ThinWork::VerticesFromSets => rays_of_sets(alloc, view, draft),
-            ThinWork::FacetsFromSets => facets_of_sets(alloc, view, draft),
+            ThinWork::ThinPointsF => thin_points_f(alloc, view, draft, false),
+            ThinWork::ThinInequalitiesV => thin_inequalities_v(alloc, view, draft, false),
+            ThinWork::VerticesFromSets => rays_of_sets(alloc, view, draft, false),
+            ThinWork::FacetsFromSets => facets_of_sets(alloc, view, draft, false),
+            ThinWork::ThinPointsFWide => thin_points_f(alloc, view, draft, true),
+            ThinWork::ThinInequalitiesVWide => thin_inequalities_v(alloc, view, draft, true),
+            ThinWork::VerticesFromSetsWide => rays_of_sets(alloc, view, draft, true),
+            ThinWork::FacetsFromSetsWide => facets_of_sets(alloc, view, draft, true),
         }
     }
 }
 
 // VERTICES and LINEALITY_SPACE: the extreme rays among POINTS, by FACETS, and the lineality.
-fn thin_points_f(alloc: Global, view: &View, draft: &mut Draft) -> Result<(), ClientFail>
-    requires kind { view.now.kind ≡ standard_kind client.ThinPointsF }
+fn thin_points_f(
+    alloc: Global,
+    view: &View,
+    draft: &mut Draft,
+    wide: bool,
+) -> Result<(), ClientFail>
+    requires kind { ThinsPoints view.now.kind }
     requires empty { draft.old ≡ record { kind = view.now.kind; values = [] } }
     ensures draft { draft.new.kind ≡ draft.old.kind }
     ensures sound { OnOk result (IsSound view.now draft.new) }
@@ -118,15 +148,20 @@ fn thin_points_f(alloc: Global, view: &View, draft: &mut Draft) -> Result<(), Cl
         view.cols(),
         &generators,
         &facets,
-        false,
+        wide,
     )?;
     put_generators(alloc, view, draft, found)?;
     Ok(())
 }
 
 // FACETS and AFFINE_HULL: the facet rows among INEQUALITIES, by VERTICES, and the rows that vanish.
-fn thin_inequalities_v(alloc: Global, view: &View, draft: &mut Draft) -> Result<(), ClientFail>
-    requires kind { view.now.kind ≡ standard_kind client.ThinInequalitiesV }
+fn thin_inequalities_v(
+    alloc: Global,
+    view: &View,
+    draft: &mut Draft,
+    wide: bool,
+) -> Result<(), ClientFail>
+    requires kind { ThinsInequalities view.now.kind }
     requires empty { draft.old ≡ record { kind = view.now.kind; values = [] } }
     ensures draft { draft.new.kind ≡ draft.old.kind }
     ensures sound { OnOk result (IsSound view.now draft.new) }
@@ -145,15 +180,15 @@ fn thin_inequalities_v(alloc: Global, view: &View, draft: &mut Draft) -> Result<
         &halves.second,
         &halves.first,
         &generators,
-        false,
+        wide,
     )?;
     put_facets(alloc, view, draft, found)?;
     Ok(())
 }
 
 // VERTICES: for each column of VERTICES_IN_FACETS the extreme ray on those FACETS whose sets have it.
-fn rays_of_sets(alloc: Global, view: &View, draft: &mut Draft) -> Result<(), ClientFail>
-    requires kind { view.now.kind ≡ standard_kind client.VerticesFromSets }
+fn rays_of_sets(alloc: Global, view: &View, draft: &mut Draft, wide: bool) -> Result<(), ClientFail>
+    requires kind { FindsRaysOfSets view.now.kind }
     requires empty { draft.old ≡ record { kind = view.now.kind; values = [] } }
     ensures draft { draft.new.kind ≡ draft.old.kind }
     ensures sound { OnOk result (IsSound view.now draft.new) }
@@ -165,7 +200,7 @@ fn rays_of_sets(alloc: Global, view: &View, draft: &mut Draft) -> Result<(), Cli
         hull: halves.first,
     };
     let sets = sets_of(view, PropId::VerticesInFacets);
-    let found = vertices_from_sets(alloc, view.cols(), &facets, sets, false)?;
+    let found = vertices_from_sets(alloc, view.cols(), &facets, sets, wide)?;
     let rays = possible_rays(alloc, view.of(), found);
     let vertices = matrix_of_rays(alloc, view.of(), &rays, view.cols())?;
     put_value(draft, PropId::Vertices, Value::Mat(vertices))?;
@@ -173,8 +208,13 @@ fn rays_of_sets(alloc: Global, view: &View, draft: &mut Draft) -> Result<(), Cli
 }
 
 // FACETS: for each set of VERTICES_IN_FACETS the facet row on these VERTICES.
-fn facets_of_sets(alloc: Global, view: &View, draft: &mut Draft) -> Result<(), ClientFail>
-    requires kind { view.now.kind ≡ standard_kind client.FacetsFromSets }
+fn facets_of_sets(
+    alloc: Global,
+    view: &View,
+    draft: &mut Draft,
+    wide: bool,
+) -> Result<(), ClientFail>
+    requires kind { FindsFacetsOfSets view.now.kind }
     requires empty { draft.old ≡ record { kind = view.now.kind; values = [] } }
     ensures draft { draft.new.kind ≡ draft.old.kind }
     ensures sound { OnOk result (IsSound view.now draft.new) }
@@ -186,7 +226,7 @@ fn facets_of_sets(alloc: Global, view: &View, draft: &mut Draft) -> Result<(), C
         lineality: rays.first,
     };
     let sets = sets_of(view, PropId::VerticesInFacets);
-    let found = facets_from_sets(alloc, view.cols(), &generators, sets, false)?;
+    let found = facets_from_sets(alloc, view.cols(), &generators, sets, wide)?;
     let rows = possible_facets(alloc, found);
     let facets = matrix_over_one(alloc, &rows, view.cols())?;
     put_value(draft, PropId::Facets, Value::Mat(facets))?;

@@ -7,3 +7,5 @@ use Rattle.pm_standard.specs.declared.standard.StandardClient.TheVariants as cli
 abbrev pub lift_client : LiftWork → StandardClient
 lift_client lift.RegularCells = client.RegularCells
 lift_client lift.Delaunay = client.Delaunay
+lift_client lift.RegularCellsWide = client.RegularCellsWide
+lift_client lift.DelaunayWide = client.DelaunayWide

@@ -5,9 +5,8 @@ ghost use Rattle.pm_client.specs.declared.ClientFail.TheVariants.{Memory};
 ghost use Rattle.pm_clients_lift.specs.LiftedSites.{AreCellsPut, AreDelaunayPut, AreReadSites, LiftsSites, RaisesSites, fail_of_lift};
 ghost use Rattle.pm_matrix.specs.Matrices.{IsFraction};
 ghost use Rattle.pm_object.specs.Reading.{IsView};
-ghost use Rattle.pm_props.specs.Sets.{has};
+ghost use Rattle.pm_props.specs.Sets.{has, set_of};
 ghost use Rattle.pm_props.specs.declared.property.PropId.TheVariants as property;
-ghost use Rattle.pm_standard.specs.Table.{standard_kind};
 ghost use Rattle.pm_standard.specs.declared.standard.StandardClient.TheVariants as client;
 ghost use Rattle.std.specs.Prelude.{All, IfErr, IfOk, IsTrue, OnOk, [], length, map, ◌∷◌, ◌≡◌, ◌≤◌};
 ghost use Rattle.pm_limits.specs.Limits.{most_rows};
@@ -27,25 +26,35 @@ use std::alloc::Global;
 pub enum LiftWork {
     RegularCells,
     Delaunay,
+    RegularCellsWide,
+    DelaunayWide,
 }
 
 impl LiftWork {
     ghost use Rattle.pm_clients_lift.specs.Works.{lift_client};
 
-    /// All of them, in the order of the standard book.
+    /// Those of the standard clients, in the order of the standard book.
     pub fn every() -> [LiftWork; 2]
         ensures { map lift_client result ≡ client.RegularCells ∷ client.Delaunay ∷ [] }
     {
         [Self::RegularCells, Self::Delaunay]
     }
+
+    /// Those of the clients that answer by wide numbers, in the order of their rules.
+    pub fn wide() -> [LiftWork; 2]
+        ensures { map lift_client result ≡ client.RegularCellsWide ∷ client.DelaunayWide ∷ [] }
+    {
+        [Self::RegularCellsWide, Self::DelaunayWide]
+    }
 }
 
-/// The standard clients that lift sites.
+/// The clients that lift sites.
 #[derive(Debug, Drop)]
 pub struct LiftFamily;
 
 /// A client that lifts sites (Ziegler, Lectures on Polytopes, section 5.1). It fails for want of memory, where a step
-/// leaves the range, and where a cone on the way has too many facets.
+/// leaves the range, and where a cone on the way has too many facets. A wide one works a step of double description
+/// that leaves the range by wide numbers, and where these do not suffice it fails as the standard one.
 pub type LiftClient = FamilyClient<LiftFamily>;
 
 impl Family for LiftFamily {
@@ -64,6 +73,8 @@ impl Family for LiftFamily {
         match work {
             LiftWork::RegularCells => StandardClient::RegularCells,
             LiftWork::Delaunay => StandardClient::Delaunay,
+            LiftWork::RegularCellsWide => StandardClient::RegularCellsWide,
+            LiftWork::DelaunayWide => StandardClient::DelaunayWide,
         }
     }
 
@@ -74,8 +85,10 @@ impl Family for LiftFamily {
         draft: &mut Draft,
     ) -> Result<(), ClientFail> {
         match work {
-            LiftWork::RegularCells => put_regular_cells(alloc, view, draft),
-            LiftWork::Delaunay => put_delaunay_cells(alloc, view, draft),
+            LiftWork::RegularCells => put_regular_cells(alloc, view, draft, false),
+            LiftWork::Delaunay => put_delaunay_cells(alloc, view, draft, false),
+            LiftWork::RegularCellsWide => put_regular_cells(alloc, view, draft, true),
+            LiftWork::DelaunayWide => put_delaunay_cells(alloc, view, draft, true),
         }
     }
 }
@@ -119,7 +132,7 @@ fn as_sets(cells: Vec<Vec<u32>>, sites: &[Ints]) -> Sets
 }
 
 // The cells of the sites with their heights; none where there are more or fewer heights than sites, as no thing has.
-fn regular_cells(alloc: Global, view: &View) -> Result<Sets, ClientFail>
+fn regular_cells(alloc: Global, view: &View, wide: bool) -> Result<Sets, ClientFail>
     requires { LiftsSites view.now.kind }
     ensures cells { IfOk result (AreCellsPut view.now) }
     ensures failed { IfErr result (FailsRightly view.now) }
@@ -129,47 +142,59 @@ fn regular_cells(alloc: Global, view: &View) -> Result<Sets, ClientFail>
     if heights.len() != sites.len() {
         return Ok(Sets::from_vec(Vec::new(alloc), 0));
     }
-    match pm_lift::regular_cells(alloc, view.cols(), &sites, heights, false) {
+    match pm_lift::regular_cells(alloc, view.cols(), &sites, heights, wide) {
         Ok(cells) => Ok(as_sets(cells, &sites)),
         Err(fail) => Err(client_fail(fail)),
     }
 }
 
 // The Delaunay cells of the sites.
-fn delaunay_cells(alloc: Global, view: &View) -> Result<Sets, ClientFail>
+fn delaunay_cells(alloc: Global, view: &View, wide: bool) -> Result<Sets, ClientFail>
     requires { RaisesSites view.now.kind }
     ensures cells { IfOk result (AreDelaunayPut view.now) }
     ensures failed { IfErr result (FailsRightly view.now) }
 {
     let sites = read_sites(alloc, view)?;
-    match pm_lift::delaunay_cells(alloc, view.cols(), &sites, false) {
+    match pm_lift::delaunay_cells(alloc, view.cols(), &sites, wide) {
         Ok(cells) => Ok(as_sets(cells, &sites)),
         Err(fail) => Err(client_fail(fail)),
     }
 }
 
 // REGULAR_CELLS of SITES with SITE_HEIGHTS.
-fn put_regular_cells(alloc: Global, view: &View, draft: &mut Draft) -> Result<(), ClientFail>
-    requires kind { view.now.kind ≡ standard_kind client.RegularCells }
+fn put_regular_cells(
+    alloc: Global,
+    view: &View,
+    draft: &mut Draft,
+    wide: bool,
+) -> Result<(), ClientFail>
+    requires kind { LiftsSites view.now.kind }
+    requires targets { view.now.kind.targets ≡ set_of (property.RegularCells ∷ []) }
     requires empty { draft.old ≡ record { kind = view.now.kind; values = [] } }
     ensures draft { draft.new.kind ≡ draft.old.kind }
     ensures sound { OnOk result (IsSound view.now draft.new) }
     ensures failed { IfErr result (FailsRightly view.now) }
 {
-    let cells = regular_cells(alloc, view)?;
+    let cells = regular_cells(alloc, view, wide)?;
     put_value(draft, PropId::RegularCells, Value::Sets(cells))?;
     Ok(())
 }
 
 // DELAUNAY_CELLS of SITES.
-fn put_delaunay_cells(alloc: Global, view: &View, draft: &mut Draft) -> Result<(), ClientFail>
-    requires kind { view.now.kind ≡ standard_kind client.Delaunay }
+fn put_delaunay_cells(
+    alloc: Global,
+    view: &View,
+    draft: &mut Draft,
+    wide: bool,
+) -> Result<(), ClientFail>
+    requires kind { RaisesSites view.now.kind }
+    requires targets { view.now.kind.targets ≡ set_of (property.DelaunayCells ∷ []) }
     requires empty { draft.old ≡ record { kind = view.now.kind; values = [] } }
     ensures draft { draft.new.kind ≡ draft.old.kind }
     ensures sound { OnOk result (IsSound view.now draft.new) }
     ensures failed { IfErr result (FailsRightly view.now) }
 {
-    let cells = delaunay_cells(alloc, view)?;
+    let cells = delaunay_cells(alloc, view, wide)?;
     put_value(draft, PropId::DelaunayCells, Value::Sets(cells))?;
     Ok(())
 }

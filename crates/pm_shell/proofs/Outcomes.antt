@@ -25,7 +25,7 @@ use Rattle.pm_shell.specs.declared.status.Status.{Status}
 use Rattle.pm_shell.specs.declared.status.Status.TheVariants.{OutOfMemory}
 use Rattle.pm_machine.proofs.Beside.{files_stay}
 use Rattle.pm_store.specs.Files.{FilesStay}
-use Rattle.pm_store.specs.Outside.{Gains}
+use Rattle.pm_store.specs.Outside.{GainsTold}
 use Rattle.pm_words.specs.Words.{WordsSeen}
 
 -- ---- at its end every object is honest
@@ -96,7 +96,7 @@ hand_of (Err e) book old new line command at part = inr (inl (command, at, part)
 
 -- ---- a reply
 pub one_told : (book : List Rule) (trace : Bool) (old new : Machine) (line : Line) (reply : ReplySeen) (had has : Option (List ℕ)) (r : Result Bool RunFail)
-    → Answers book old line (Some reply) new → IfOk r (λ b. Gains had has (text_of_reply trace reply) × (b ≡ is_refusal reply)) → IfOk r (λ b. AnswersOne book trace had has old line b new)
+    → Answers book old line (Some reply) new → IfOk r (λ b. GainsTold had has (text_of_reply trace reply) × (b ≡ is_refusal reply)) → IfOk r (λ b. AnswersOne book trace had has old line b new)
 one_told book trace old new line reply had has (Ok b) answers told = record { reply = Some reply; answers = answers; told = told.0; refusal = told.1 }
 one_told book trace old new line reply had has (Err e) answers told = tt
 

@@ -16,7 +16,7 @@ use Rattle.pm_shell.specs.Shown.{Shows}
 use Rattle.pm_shell.specs.declared.status.RunFail.{RunFail}
 use Rattle.pm_shell.specs.declared.status.RunFail.TheVariants as why
 use Rattle.pm_store.proofs.OutsideLemmas.{Gains-then}
-use Rattle.pm_store.specs.Outside.{Gains, GainsPart}
+use Rattle.pm_store.specs.Outside.{GainsTold, GainsPart}
 
 -- ---- honesty
 pub kept_run : (book : List Rule) (old new : Machine) (lines : List Line) (replies : List (Option ReplySeen)) → Run book old lines replies new → AllKept old → AllKept new
@@ -59,12 +59,12 @@ any_refused-append (r ∷ replies) reply =
 pub record SoFar (book : List Rule) (trace : Bool) (had has : Option (List ℕ)) (old : Machine) (first : List Line) (some_refused : Bool) (now : Machine) : Type 0 where
   pub replies : List (Option ReplySeen)
   pub run : Run book old first replies now
-  pub told : Gains had has (replies_text trace replies)
+  pub told : GainsTold had has (replies_text trace replies)
   pub refusal : some_refused ≡ any_refused replies
   pub kept : AllKept now
   pub stand : AllStand book now
 
-pub Gains-none : (a : Option (List ℕ)) → Gains a a []
+pub Gains-none : (a : Option (List ℕ)) → GainsTold a a []
 Gains-none None = tt
 Gains-none (Some had) = ap (λ (t : List ℕ). Some t) (sym (append-nil had))
 
@@ -92,7 +92,7 @@ pub so_far_whole : (book : List Rule) (trace : Bool) (had has : Option (List ℕ
     → SoFar book trace had has old first some now → AnsweredAll book trace had has some old first now
 so_far_whole book trace had has old now first some s = record { replies = s.replies; run = s.run; told = s.told; refusal = s.refusal }
 
-within : (had between has : Option (List ℕ)) (front piece : List ℕ) → Gains had between front → GainsPart between has piece → GainsWithin had has front piece
+within : (had between has : Option (List ℕ)) (front piece : List ℕ) → GainsTold had between front → GainsPart between has piece → GainsWithin had has front piece
 within None between has front piece g h = tt
 within (Some had) between has front piece g h =
     subst (λ (b : Option (List ℕ)). GainsPart b has piece) g h

@@ -19,7 +19,7 @@ use Rattle.pm_shell.specs.declared.status.RunFail.TheVariants as why
 use Rattle.pm_shell.specs.declared.status.Status.{Status}
 use Rattle.pm_shell.specs.declared.status.Status.TheVariants.{Answered, SomeRefused, BadWords, SourceFault, SinkFault, OutOfMemory, TooLong, BadBook}
 use Rattle.pm_store.specs.Files.{FilesStay}
-use Rattle.pm_store.specs.Outside.{Gains, Rose}
+use Rattle.pm_store.specs.Outside.{GainsTold, Rose}
 use Rattle.pm_words.specs.Words.{WordsSeen}
 use Rattle.pm_limits.specs.Limits.{most_script_bytes}
 
@@ -61,7 +61,7 @@ pub record AnswersOne (book : List Rule) (trace : Bool) (had has : Option (List 
     (line : Line) (some_refused : Bool) (new : Machine) : Type 0 where
   pub reply : Option ReplySeen
   pub answers : Answers book old line reply new
-  pub told : Gains had has (text_if trace reply)
+  pub told : GainsTold had has (text_if trace reply)
   pub refusal : some_refused ≡ is_refused reply
 
 -- all lines are answered, each reply is told, and whether some is a refusal
@@ -69,7 +69,7 @@ pub record AnsweredAll (book : List Rule) (trace : Bool) (had has : Option (List
     (old : Machine) (lines : List Line) (new : Machine) : Type 0 where
   pub replies : List (Option ReplySeen)
   pub run : Run book old lines replies new
-  pub told : Gains had has (replies_text trace replies)
+  pub told : GainsTold had has (replies_text trace replies)
   pub refusal : some_refused ≡ any_refused replies
 
 -- the bytes of lines, each with its LF where it has one
@@ -112,7 +112,7 @@ pub record Stopped (book : List Rule) (trace : Bool) (had has : Option (List ℕ
   pub replies : List (Option ReplySeen)
   pub mid : Machine
   pub run : Run book old first replies mid
-  pub told : Gains had has (replies_text trace replies)
+  pub told : GainsTold had has (replies_text trace replies)
   pub hand : NextInHand book mid others new
 
 -- the lines came to this outcome

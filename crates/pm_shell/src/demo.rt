@@ -1,7 +1,7 @@
 // The demo: its script, and a source that gives a text.
 
 ghost use Rattle.pm_shell.specs.Demo.{demo_text, shown_shape};
-ghost use Rattle.pm_store.specs.Outside.{IsAtEnd, Moves, Rose, Stays};
+ghost use Rattle.pm_store.specs.Outside.{IsAtEnd, Moves, Rose, StaysTold};
 ghost use Rattle.std.specs.Prelude.{IfOk, OnErr, OnOk, Some, codes, decimal, length, string_bytes, ◌+◌, ◌++◌, ◌<◌, ◌≡◌, ◌≤◌, ◌^◌};
 
 use pm_store::{Failed, Source};
@@ -46,7 +46,7 @@ impl Source for TextSource {
         ensures same_length { length buf.new ≡ length buf.old }
         ensures moves { IfOk result (λ k. Moves (Some self.old) (Some self.new) k buf.new) }
         ensures end { IfOk result (λ k. k ≡ 0 → 0 < length buf.new → IsAtEnd (Some self.old)) }
-        ensures err { OnErr result (Stays (Some self.old) (Some self.new)) }
+        ensures err { OnErr result (StaysTold (Some self.old) (Some self.new)) }
         ensures fault { OnErr result (Rose 0 0) }
         ensures never_falls { 0 ≤ 0 }
         ensures count_fits { 0 < 2 ^ 64 }

@@ -9,7 +9,7 @@ ghost use Rattle.pm_command.specs.Lines.{Line};
 ghost use Rattle.pm_script.specs.Replies.{ReplySeen, is_refusal, nothing, refused, seen};
 ghost use Rattle.pm_shell.specs.Ends.{AnswersOne, HasOutcome, InHand, IsRead};
 ghost use Rattle.pm_shell.specs.Run.{Answers, command_at, refusal_of, text_of_reply};
-ghost use Rattle.pm_store.specs.Outside.{Gains, GainsPart, Rose};
+ghost use Rattle.pm_store.specs.Outside.{GainsTold, GainsPart, Rose};
 ghost use Rattle.std.specs.Option.{option_map};
 ghost use Rattle.std.specs.Prelude.{IfErr, IfOk, IfSome, IsErrOf, List, OnErr, Some, map, ◌≡◌, ◌≤◌, ◌⊎◌};
 
@@ -129,7 +129,7 @@ fn write_reply<K: Sink>(
     sink: &mut K,
 ) -> Result<bool, RunFail>
     ensures told { IfOk result (λ r.
-        Gains (K.taken sink.old) (K.taken sink.new) (text_of_reply trace (seen reply.now))
+        GainsTold (K.taken sink.old) (K.taken sink.new) (text_of_reply trace (seen reply.now))
         × (r ≡ is_refusal (seen reply.now))) }
     ensures part { IsErrOf result RunFail.SinkFault →
         GainsPart (K.taken sink.old) (K.taken sink.new) (text_of_reply trace (seen reply.now)) }

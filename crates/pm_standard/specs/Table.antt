@@ -189,12 +189,48 @@ table_row client.DdFacetsVWide =
 table_row client.DdVerticesFWide =
     may_fail by_doubling (plain_rule (codes "dd_vertices_f_wide") (Vertices ∷ LinealitySpace ∷ [])
     (Facets ∷ AffineHull ∷ []) 31)
+table_row client.ThinPointsFWide =
+    may_fail by_thinning (plain_rule (codes "thin_points_f_wide") (Vertices ∷ LinealitySpace ∷ [])
+    (Points ∷ InputLineality ∷ Facets ∷ AffineHull ∷ []) 11)
+table_row client.ThinInequalitiesVWide =
+    may_fail (by_thinning ++ facet_count ∷ [])
+    (plain_rule (codes "thin_inequalities_v_wide") (Facets ∷ AffineHull ∷ [])
+    (Inequalities ∷ Equations ∷ Vertices ∷ LinealitySpace ∷ []) 11)
+table_row client.VerticesFromSetsWide =
+    may_fail (by_sets ++ determined_rays ∷ [])
+    (plain_rule (codes "vertices_from_sets_wide") (Vertices ∷ [])
+    (Facets ∷ AffineHull ∷ VerticesInFacets ∷ []) 21)
+table_row client.FacetsFromSetsWide =
+    may_fail (by_sets ++ determined_facets ∷ [])
+    (plain_rule (codes "facets_from_sets_wide") (Facets ∷ [])
+    (Vertices ∷ LinealitySpace ∷ VerticesInFacets ∷ []) 21)
+table_row client.LinealityFromFacetsWide =
+    may_fail (eliminates row_list ∷ [])
+    (plain_rule (codes "lineality_from_facets_wide") (LinealitySpace ∷ []) (Facets ∷ AffineHull ∷ []) 6)
+table_row client.HullFromVerticesWide =
+    may_fail (eliminates row_list ∷ []) (plain_rule (codes "hull_from_vertices_wide") (AffineHull ∷ [])
+    (Vertices ∷ LinealitySpace ∷ []) 6)
 table_row client.ConeDimVWide =
     may_fail (eliminates row_list ∷ [])
     (plain_rule (codes "cone_dim_v_wide") (ConeDim ∷ []) (Vertices ∷ LinealitySpace ∷ []) 5)
 table_row client.ConeDimPointsWide =
     may_fail (eliminates row_list ∷ []) (plain_rule (codes "cone_dim_points_wide") (ConeDim ∷ [])
     (Points ∷ InputLineality ∷ []) 9)
+table_row client.BbFacetsWide =
+    may_fail by_placing (plain_rule (codes "bb_facets_wide") (Facets ∷ AffineHull ∷ [])
+    (Points ∷ InputLineality ∷ []) 46)
+table_row client.BbFacetsVWide =
+    may_fail by_placing
+    (plain_rule (codes "bb_facets_v_wide") (Facets ∷ AffineHull ∷ PlacingTriangulation ∷ [])
+    (Vertices ∷ LinealitySpace ∷ []) 36)
+table_row client.PlacingWide =
+    may_fail by_placing (plain_rule (codes "placing_wide") (PlacingTriangulation ∷ [])
+    (Vertices ∷ LinealitySpace ∷ []) 26)
+table_row client.RegularCellsWide =
+    may_fail (lifting ∷ []) (plain_rule (codes "regular_cells_wide") (RegularCells ∷ [])
+    (Sites ∷ SiteHeights ∷ []) 41)
+table_row client.DelaunayWide =
+    may_fail (raising ∷ []) (plain_rule (codes "delaunay_wide") (DelaunayCells ∷ []) (Sites ∷ []) 46)
 
 -- the rule that a row says: the kind of its client, which bears the label as its name, and the weight
 abbrev pub rule_in : RuleRow → StandardRule
@@ -231,8 +267,10 @@ standard_clients =
 abbrev pub wide_clients : List StandardClient
 wide_clients =
     client.DdVerticesWide ∷ client.DdFacetsWide ∷ client.DdFacetsVWide ∷ client.DdVerticesFWide
-    ∷ client.ConeDimVWide
-    ∷ client.ConeDimPointsWide ∷ []
+    ∷ client.ThinPointsFWide ∷ client.ThinInequalitiesVWide ∷ client.VerticesFromSetsWide
+    ∷ client.FacetsFromSetsWide ∷ client.LinealityFromFacetsWide ∷ client.HullFromVerticesWide
+    ∷ client.ConeDimVWide ∷ client.ConeDimPointsWide ∷ client.BbFacetsWide ∷ client.BbFacetsVWide
+    ∷ client.PlacingWide ∷ client.RegularCellsWide ∷ client.DelaunayWide ∷ []
 
 abbrev pub standard_kind : StandardClient → Kind
 standard_kind c = (standard_row c).kind

@@ -149,10 +149,32 @@ pub enum StandardClient {
     DdFacetsVWide,
     /// VERTICES and LINEALITY_SPACE from FACETS, AFFINE_HULL, by wide numbers.
     DdVerticesFWide,
+    /// VERTICES and LINEALITY_SPACE from POINTS, INPUT_LINEALITY, FACETS, AFFINE_HULL, by wide numbers.
+    ThinPointsFWide,
+    /// FACETS and AFFINE_HULL from INEQUALITIES, EQUATIONS, VERTICES, LINEALITY_SPACE, by wide numbers.
+    ThinInequalitiesVWide,
+    /// VERTICES from FACETS, AFFINE_HULL, VERTICES_IN_FACETS, by wide numbers.
+    VerticesFromSetsWide,
+    /// FACETS from VERTICES, LINEALITY_SPACE, VERTICES_IN_FACETS, by wide numbers.
+    FacetsFromSetsWide,
+    /// LINEALITY_SPACE from FACETS, AFFINE_HULL, by wide numbers.
+    LinealityFromFacetsWide,
+    /// AFFINE_HULL from VERTICES, LINEALITY_SPACE, by wide numbers.
+    HullFromVerticesWide,
     /// CONE_DIM from VERTICES, LINEALITY_SPACE, by wide numbers.
     ConeDimVWide,
     /// CONE_DIM from POINTS, INPUT_LINEALITY, by wide numbers.
     ConeDimPointsWide,
+    /// FACETS and AFFINE_HULL from POINTS, INPUT_LINEALITY, by beneath-beyond and wide numbers.
+    BbFacetsWide,
+    /// FACETS, AFFINE_HULL and PLACING_TRIANGULATION from VERTICES, LINEALITY_SPACE, by wide numbers.
+    BbFacetsVWide,
+    /// PLACING_TRIANGULATION from VERTICES, LINEALITY_SPACE, by wide numbers.
+    PlacingWide,
+    /// REGULAR_CELLS from SITES, SITE_HEIGHTS, by wide numbers.
+    RegularCellsWide,
+    /// DELAUNAY_CELLS from SITES, by wide numbers.
+    DelaunayWide,
 }
 
 /// A rule that is shipped: the kind of its client, whose name is the rule's label, and what it weighs, of class 0.
@@ -187,7 +209,7 @@ macro_rules! rule {
 }
 
 // The standard rules, in the order of the standard book, and after them the wide ones.
-static RULES: [Entry; 71] = [
+static RULES: [Entry; 82] = [
     rule!("dd_vertices": Vertices, LinealitySpace from Inequalities, Equations; 40),
     rule!("dd_facets": Facets, AffineHull from Points, InputLineality; 40),
     rule!("dd_facets_v": Facets, AffineHull from Vertices, LinealitySpace; 30),
@@ -257,8 +279,19 @@ static RULES: [Entry; 71] = [
     rule!("dd_facets_wide": Facets, AffineHull from Points, InputLineality; 41),
     rule!("dd_facets_v_wide": Facets, AffineHull from Vertices, LinealitySpace; 31),
     rule!("dd_vertices_f_wide": Vertices, LinealitySpace from Facets, AffineHull; 31),
+    rule!("thin_points_f_wide": Vertices, LinealitySpace from Points, InputLineality, Facets, AffineHull; 11),
+    rule!("thin_inequalities_v_wide": Facets, AffineHull from Inequalities, Equations, Vertices, LinealitySpace; 11),
+    rule!("vertices_from_sets_wide": Vertices from Facets, AffineHull, VerticesInFacets; 21),
+    rule!("facets_from_sets_wide": Facets from Vertices, LinealitySpace, VerticesInFacets; 21),
+    rule!("lineality_from_facets_wide": LinealitySpace from Facets, AffineHull; 6),
+    rule!("hull_from_vertices_wide": AffineHull from Vertices, LinealitySpace; 6),
     rule!("cone_dim_v_wide": ConeDim from Vertices, LinealitySpace; 5),
     rule!("cone_dim_points_wide": ConeDim from Points, InputLineality; 9),
+    rule!("bb_facets_wide": Facets, AffineHull from Points, InputLineality; 46),
+    rule!("bb_facets_v_wide": Facets, AffineHull, PlacingTriangulation from Vertices, LinealitySpace; 36),
+    rule!("placing_wide": PlacingTriangulation from Vertices, LinealitySpace; 26),
+    rule!("regular_cells_wide": RegularCells from Sites, SiteHeights; 41),
+    rule!("delaunay_wide": DelaunayCells from Sites; 46),
 ];
 
 impl StandardClient {
@@ -336,7 +369,7 @@ impl StandardClient {
     }
 
     /// The clients that answer by wide numbers, in the order of their rules.
-    pub fn wide() -> [StandardClient; 6]
+    pub fn wide() -> [StandardClient; 17]
         ensures { result ≡ wide_clients }
     {
         [
@@ -344,8 +377,19 @@ impl StandardClient {
             Self::DdFacetsWide,
             Self::DdFacetsVWide,
             Self::DdVerticesFWide,
+            Self::ThinPointsFWide,
+            Self::ThinInequalitiesVWide,
+            Self::VerticesFromSetsWide,
+            Self::FacetsFromSetsWide,
+            Self::LinealityFromFacetsWide,
+            Self::HullFromVerticesWide,
             Self::ConeDimVWide,
             Self::ConeDimPointsWide,
+            Self::BbFacetsWide,
+            Self::BbFacetsVWide,
+            Self::PlacingWide,
+            Self::RegularCellsWide,
+            Self::DelaunayWide,
         ]
     }
 

@@ -22,3 +22,6 @@ pub returns-clause-sound : goal.returns-clause-sound
 returns-clause-sound c =
     rank_of_points c.args.view.now c.args.draft.now c.put_value.new.draft c.in_ok-dim.dim c.in_ok-dim.ensures.few
     (record { targets = ap (λ k. k.targets) c.requires.kind; empty = c.requires.empty; put = c.in_ok-put_value.ensures.ok }) c.in_ok-dim.ensures.rank
+
+pub returns-clause-stays : goal.returns-clause-stays
+returns-clause-stays c = c.in_ok-dim.ensures.stays refl

@@ -6,14 +6,14 @@ use Rattle.pm_standard.specs.declared.standard.StandardClient.TheVariants.{ConeD
 use Rattle.pm_props.specs.declared.property.PropId.TheVariants.{ConeDim, LinealitySpace, Vertices}
 use Rattle.std.proofs.Common.{[], ap, refl, ◌∙◌, ◌∷◌}
 
-pub any_rank_of_list-requires-clause-first : goal.any_rank_of_list-requires-clause-first
-any_rank_of_list-requires-clause-first c = has_listed _ (Vertices ∷ LinealitySpace ∷ []) LinealitySpace (ap (λ k. k.sources) c.requires.kind)
+pub rank_of_list-requires-clause-first : goal.rank_of_list-requires-clause-first
+rank_of_list-requires-clause-first c = has_listed _ (Vertices ∷ LinealitySpace ∷ []) LinealitySpace (ap (λ k. k.sources) c.requires.kind)
 
-pub any_rank_of_list-requires-clause-second : goal.any_rank_of_list-requires-clause-second
-any_rank_of_list-requires-clause-second c = has_listed _ (Vertices ∷ LinealitySpace ∷ []) Vertices (ap (λ k. k.sources) c.requires.kind)
+pub rank_of_list-requires-clause-second : goal.rank_of_list-requires-clause-second
+rank_of_list-requires-clause-second c = has_listed _ (Vertices ∷ LinealitySpace ∷ []) Vertices (ap (λ k. k.sources) c.requires.kind)
 
-pub any_rank_of_list-requires-clause-eliminates : goal.any_rank_of_list-requires-clause-eliminates
-any_rank_of_list-requires-clause-eliminates c = takes_row_list c.args.view.now ConeDimVWide c.requires.kind refl
+pub rank_of_list-requires-clause-eliminates : goal.rank_of_list-requires-clause-eliminates
+rank_of_list-requires-clause-eliminates c = takes_row_list c.args.view.now ConeDimVWide c.requires.kind refl
 
 pub put_value-requires-clause-target : goal.put_value-requires-clause-target
 put_value-requires-clause-target c = has_listed _ (ConeDim ∷ []) ConeDim (ap (λ d. d.kind.targets) c.requires.empty ∙ ap (λ k. k.targets) c.requires.kind)

@@ -1,22 +1,20 @@
 use Rattle.pm_client.proofs.ViewLaws.{has_listed}
 use Rattle.pm_clients_geom.proofs.FoundHulls.{facets_sound, lines_few}
-use Rattle.pm_client.specs.Sound.{double_list, doubling, eliminated_by, enlarging_rows, first_part, has_way}
 use Rattle.pm_clients_geom.proofs.placing.bb_facets.Goals as goal
 use Rattle.pm_clients_geom.specs.Hulls.{FindsFacets}
-use Rattle.pm_props.specs.declared.kind.Kind.{Kind}
 use Rattle.pm_props.specs.declared.property.PropId.TheVariants.{AffineHull, Facets, InputLineality, Points}
 use Rattle.pm_props.specs.declared.property.PropId.{PropId}
-use Rattle.std.proofs.Common.{ap, refl, subst, sym, true, ◌∙◌}
-use Rattle.std.specs.Prelude.{List, [], ◌∷◌, ◌≡◌}
+use Rattle.std.proofs.Common.{ap, ◌∙◌}
+use Rattle.std.specs.Prelude.{List, [], ◌∷◌}
 
 abbrev targets : List PropId
 targets = Facets ∷ AffineHull ∷ []
 
 pub put_value-requires-clause-target : goal.put_value-requires-clause-target
-put_value-requires-clause-target c = has_listed _ targets Facets (ap (λ d. d.kind.targets) c.requires.empty ∙ ap (λ k. k.targets) c.requires.kind)
+put_value-requires-clause-target c = has_listed _ targets Facets (ap (λ d. d.kind.targets) c.requires.empty ∙ c.requires.targets)
 
 pub put_value-requires-2-clause-target : goal.put_value-requires-2-clause-target
-put_value-requires-2-clause-target c = has_listed _ targets AffineHull (ap (λ d. d.kind.targets) c.in_ok-put_value.ensures.ok ∙ ap (λ d. d.kind.targets) c.requires.empty ∙ ap (λ k. k.targets) c.requires.kind)
+put_value-requires-2-clause-target c = has_listed _ targets AffineHull (ap (λ d. d.kind.targets) c.in_ok-put_value.ensures.ok ∙ ap (λ d. d.kind.targets) c.requires.empty ∙ c.requires.targets)
 
 pub returns-clause-sound : goal.returns-clause-sound
 returns-clause-sound c =
@@ -25,12 +23,12 @@ returns-clause-sound c =
     let p = c.in_ok-placed.placed in
     let w = c.in_ok-placed.ensures.placed in
     let finds : FindsFacets v.kind InputLineality Points = record {
-      targets = ap (λ k. k.targets) c.requires.kind;
-      sources = ap (λ k. k.sources) c.requires.kind;
-      parts = refl;
-      generators = refl;
-      doubles = subst (λ (k : Kind). has_way k.name doubling ≡ true) (sym c.requires.kind) refl;
-      lists = subst (λ (k : Kind). eliminated_by k.name ≡ first_part ∷ double_list ∷ enlarging_rows ∷ []) (sym c.requires.kind) refl;
+      targets = c.requires.targets;
+      sources = c.requires.kind.sources;
+      parts = c.requires.kind.parts;
+      generators = c.requires.kind.generators;
+      doubles = c.requires.kind.doubles;
+      lists = c.requires.kind.lists;
     } in
     facets_sound v view InputLineality Points finds p.parts.first.items p.parts.second.items p.facets.facets.items p.facets.hull.items
     w.read w.facets w.few_facets (lines_few v view _ p.facets.facets.items p.facets.hull.items w.facets).few

@@ -1,42 +1,39 @@
 use Rattle.pm_client.proofs.Failing.{fails_by_ray_sets}
 use Rattle.pm_client.proofs.ViewLaws.{has_listed, not_fan, target_named}
-use Rattle.pm_client.specs.Sound.{FailsRightly, determining_rows, eliminated_by, row_list, has_way, determined_facets}
+use Rattle.pm_client.specs.Sound.{FailsRightly}
 use Rattle.pm_clients_geom.proofs.FoundThinned.{all_few, facet_sets, facets_from_sets_sound, no_vertex_added, sets_few}
 use Rattle.pm_clients_geom.proofs.thinning.facets_of_sets.Goals as goal
 use Rattle.pm_clients_geom.specs.Hulls.{AreFewRows}
-use Rattle.pm_props.specs.declared.kind.Kind.{Kind}
 use Rattle.pm_props.specs.declared.property.PropId.TheVariants.{Facets, LinealitySpace, Vertices, VerticesInFacets}
 use Rattle.pm_props.specs.declared.property.PropId.{PropId}
-use Rattle.std.proofs.Common.{ap, arith, refl, subst, sym, true, ◌∙◌}
+use Rattle.std.proofs.Common.{ap, arith, refl, subst, sym, ◌∙◌}
 use Rattle.std.proofs.lemmas.Result.{err_from_is_err_and}
-use Rattle.std.specs.Prelude.{List, [], ◌∷◌, ◌≡◌}
+use Rattle.std.specs.Prelude.{List, [], ◌∷◌}
 
 abbrev sources : List PropId
 sources = Vertices ∷ LinealitySpace ∷ VerticesInFacets ∷ []
 
 pub read_parts-requires-clause-first : goal.read_parts-requires-clause-first
-read_parts-requires-clause-first c = has_listed _ sources LinealitySpace (ap (λ k. k.sources) c.requires.kind)
+read_parts-requires-clause-first c = has_listed _ sources LinealitySpace c.requires.kind.sources
 
 pub read_parts-requires-clause-second : goal.read_parts-requires-clause-second
-read_parts-requires-clause-second c = has_listed _ sources Vertices (ap (λ k. k.sources) c.requires.kind)
+read_parts-requires-clause-second c = has_listed _ sources Vertices c.requires.kind.sources
 
 pub sets_of-sets-requires-clause-source : goal.sets_of-sets-requires-clause-source
-sets_of-sets-requires-clause-source c = has_listed _ sources VerticesInFacets (ap (λ k. k.sources) c.requires.kind)
+sets_of-sets-requires-clause-source c = has_listed _ sources VerticesInFacets c.requires.kind.sources
 
 pub facets_from_sets-requires-clause-few_places : goal.facets_from_sets-requires-clause-few_places
 facets_from_sets-requires-clause-few_places c = all_few c.args.view.now.of c.args.view.now.cols c.sets_of-sets.result.now c.sets_of-sets.ensures.forms
 
 pub put_value-requires-clause-target : goal.put_value-requires-clause-target
-put_value-requires-clause-target c = has_listed _ (Facets ∷ []) Facets (ap (λ d. d.kind.targets) c.requires.empty ∙ ap (λ k. k.targets) c.requires.kind)
+put_value-requires-clause-target c = has_listed _ (Facets ∷ []) Facets (ap (λ d. d.kind.targets) c.requires.empty ∙ c.requires.kind.targets)
 
 pub returns-in_err-found-clause-failed : goal.returns-in_err-found-clause-failed
 returns-in_err-found-clause-failed c =
     let v = c.args.view.now in
-    let takes : eliminated_by v.kind.name ≡ row_list ∷ determining_rows ∷ [] = subst (λ (k : Kind). eliminated_by k.name ≡ row_list ∷ determining_rows ∷ []) (sym c.requires.kind) refl in
-    let named : has_way v.kind.name determined_facets ≡ true = subst (λ (k : Kind). has_way k.name determined_facets ≡ true) (sym c.requires.kind) refl in
     let w = err_from_is_err_and c.from_residual-in_err-found.result c.from_residual-in_err-found.ensures.1 in
     rw w.1 (subst (FailsRightly v) (sym w.2)
-    (fails_by_ray_sets v takes named c.in_ok-rays.rays.first.items c.in_ok-rays.rays.second.items c.sets_of-sets.result.now.rows c.in_err-found.field-0.0
+    (fails_by_ray_sets v c.requires.kind.lists c.requires.kind.determines c.in_ok-rays.rays.first.items c.in_ok-rays.rays.second.items c.sets_of-sets.result.now.rows c.in_err-found.field-0.0
     (facet_sets c.sets_of-sets.result.now c.in_ok-rays.ensures.read c.sets_of-sets.ensures.value) (no_vertex_added v.of v.cols) (rw c.cols.ensures.value at c.in_err-found.ensures.failed)))
 
 pub returns-clause-sound : goal.returns-clause-sound
@@ -44,8 +41,8 @@ returns-clause-sound c =
     let v = c.args.view.now in
     let view = c.cols.ensures.view in
     let s = c.sets_of-sets.result.now in
-    let sources_are = ap (λ k. k.sources) c.requires.kind in
-    let targets_are = ap (λ k. k.targets) c.requires.kind in
+    let sources_are = c.requires.kind.sources in
+    let targets_are = c.requires.kind.targets in
     let no_fan = not_fan v Facets view (target_named v.kind Facets (has_listed _ (Facets ∷ []) Facets targets_are)) refl refl in
     let null = rw c.cols.ensures.value at c.in_ok-found.ensures.null in
     let few : AreFewRows v.cols c.in_ok-found.found.items = record {

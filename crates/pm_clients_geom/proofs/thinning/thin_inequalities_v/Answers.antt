@@ -1,17 +1,16 @@
 use Rattle.pm_client.proofs.Failing.{fails_by_inequalities}
 use Rattle.pm_client.proofs.FreshOrders.{fresh_kind}
 use Rattle.pm_client.proofs.ViewLaws.{has_listed, not_fan, source_named}
-use Rattle.pm_client.specs.Sound.{FailsRightly, eliminated_by, flat_basis_and_row, flat_rows, has_way, products, facet_count}
+use Rattle.pm_client.specs.Sound.{FailsRightly}
 use Rattle.pm_clients_geom.proofs.FoundHulls.{echelon_few}
 use Rattle.pm_clients_geom.proofs.FoundThinned.{first_rows_of, inequalities_found, second_rows_of, thinned_facets_sound}
 use Rattle.pm_clients_geom.proofs.thinning.thin_inequalities_v.Goals as goal
 use Rattle.pm_props.specs.Properties.{facets_tag}
-use Rattle.pm_props.specs.declared.kind.Kind.{Kind}
 use Rattle.pm_props.specs.declared.property.PropId.TheVariants.{AffineHull, Equations, Facets, Inequalities, LinealitySpace, Vertices}
 use Rattle.pm_props.specs.declared.property.PropId.{PropId}
-use Rattle.std.proofs.Common.{ap, refl, subst, sym, true, ◌∙◌}
+use Rattle.std.proofs.Common.{refl, subst, sym, ◌∙◌}
 use Rattle.std.proofs.lemmas.Result.{err_from_is_err_and}
-use Rattle.std.specs.Prelude.{List, [], ◌∷◌, ◌≡◌}
+use Rattle.std.specs.Prelude.{List, [], ◌∷◌}
 
 abbrev sources : List PropId
 sources = Inequalities ∷ Equations ∷ Vertices ∷ LinealitySpace ∷ []
@@ -20,30 +19,28 @@ abbrev targets : List PropId
 targets = Facets ∷ AffineHull ∷ []
 
 pub read_parts-requires-clause-first : goal.read_parts-requires-clause-first
-read_parts-requires-clause-first c = has_listed _ sources Equations (ap (λ k. k.sources) c.requires.kind)
+read_parts-requires-clause-first c = has_listed _ sources Equations c.requires.kind.sources
 
 pub read_parts-requires-clause-second : goal.read_parts-requires-clause-second
-read_parts-requires-clause-second c = has_listed _ sources Inequalities (ap (λ k. k.sources) c.requires.kind)
+read_parts-requires-clause-second c = has_listed _ sources Inequalities c.requires.kind.sources
 
 pub read_parts-requires-2-clause-first : goal.read_parts-requires-2-clause-first
-read_parts-requires-2-clause-first c = has_listed _ sources LinealitySpace (ap (λ k. k.sources) c.requires.kind)
+read_parts-requires-2-clause-first c = has_listed _ sources LinealitySpace c.requires.kind.sources
 
 pub read_parts-requires-2-clause-second : goal.read_parts-requires-2-clause-second
-read_parts-requires-2-clause-second c = has_listed _ sources Vertices (ap (λ k. k.sources) c.requires.kind)
+read_parts-requires-2-clause-second c = has_listed _ sources Vertices c.requires.kind.sources
 
 pub facets_by_incidence-requires-clause-no_fan : goal.facets_by_incidence-requires-clause-no_fan
 facets_by_incidence-requires-clause-no_fan c = λ fan.
-    not_fan c.args.view.now Inequalities c.of.ensures.view (source_named c.args.view.now.kind Inequalities (has_listed _ sources Inequalities (ap (λ k. k.sources) c.requires.kind))) refl refl (sym c.of.ensures.value ∙ fan)
+    not_fan c.args.view.now Inequalities c.of.ensures.view (source_named c.args.view.now.kind Inequalities (has_listed _ sources Inequalities c.requires.kind.sources)) refl refl (sym c.of.ensures.value ∙ fan)
 
 pub returns-in_err-found-clause-failed : goal.returns-in_err-found-clause-failed
 returns-in_err-found-clause-failed c =
     let v = c.args.view.now in
-    let takes : eliminated_by v.kind.name ≡ flat_rows ∷ flat_basis_and_row ∷ [] = subst (λ (k : Kind). eliminated_by k.name ≡ flat_rows ∷ flat_basis_and_row ∷ []) (sym c.requires.kind) refl in
-    let named : has_way v.kind.name facet_count ≡ true = subst (λ (k : Kind). has_way k.name facet_count ≡ true) (sym c.requires.kind) refl in
     let w = err_from_is_err_and c.from_residual-in_err-found.result c.from_residual-in_err-found.ensures.1 in
     rw w.1 (subst (FailsRightly v) (sym w.2)
-    (fails_by_inequalities v takes (subst (λ (k : Kind). has_way k.name products ≡ true) (sym c.requires.kind) refl) named c.in_ok-halves.halves.first.items c.in_ok-halves.halves.second.items c.in_ok-rays.rays.second.items c.in_err-found.field-0.0
-    (first_rows_of c.in_ok-halves.ensures.read) (second_rows_of c.in_ok-halves.ensures.read) (second_rows_of c.in_ok-rays.ensures.read)
+    (fails_by_inequalities v c.requires.kind.lists c.requires.kind.multiplies c.requires.kind.counts c.in_ok-halves.halves.first.items c.in_ok-halves.halves.second.items c.in_ok-rays.rays.second.items c.in_err-found.field-0.0
+    (first_rows_of c.in_ok-halves.ensures.read) (second_rows_of c.in_ok-halves.ensures.read) (second_rows_of c.in_ok-rays.ensures.read) c.in_ok-halves.ensures.second_few.few
     (rw (c.of.ensures.value, c.deref.ensures.value, c.deref-2.ensures.value, c.cols.ensures.value) at c.in_err-found.ensures.failed)))
 
 pub put_facets-requires-clause-facets : goal.put_facets-requires-clause-facets
@@ -58,8 +55,8 @@ pub returns-clause-sound : goal.returns-clause-sound
 returns-clause-sound c =
     let v = c.args.view.now in
     let view = c.cols.ensures.view in
-    let targets_are = ap (λ k. k.targets) c.requires.kind in
-    let sources_are = ap (λ k. k.sources) c.requires.kind in
+    let targets_are = c.requires.kind.targets in
+    let sources_are = c.requires.kind.sources in
     let no_fan = not_fan v Inequalities view (source_named v.kind Inequalities (has_listed _ sources Inequalities sources_are)) refl refl in
     let fresh = fresh_kind facets_tag v.kind targets sources Facets targets_are sources_are refl refl refl in
     let g = rw (c.of.ensures.value, c.deref.ensures.value, c.deref-2.ensures.value, c.cols.ensures.value) at c.in_ok-found.ensures.facets in

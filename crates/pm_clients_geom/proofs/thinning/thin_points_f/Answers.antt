@@ -1,17 +1,16 @@
 use Rattle.pm_client.proofs.Failing.{fails_by_points}
 use Rattle.pm_client.proofs.FreshOrders.{fresh_kind}
 use Rattle.pm_client.proofs.ViewLaws.{has_listed, not_fan, source_named}
-use Rattle.pm_client.specs.Sound.{FailsRightly, eliminated_by, flat_basis_and_row, flat_rows, has_way, products}
+use Rattle.pm_client.specs.Sound.{FailsRightly}
 use Rattle.pm_clients_geom.proofs.FoundHulls.{echelon_few, rays_sound}
 use Rattle.pm_clients_geom.proofs.FoundThinned.{first_rows_of, no_point_added, points_found, second_rows_of}
 use Rattle.pm_clients_geom.proofs.thinning.thin_points_f.Goals as goal
 use Rattle.pm_props.specs.Properties.{rays_tag}
-use Rattle.pm_props.specs.declared.kind.Kind.{Kind}
 use Rattle.pm_props.specs.declared.property.PropId.TheVariants.{AffineHull, Facets, InputLineality, LinealitySpace, Points, Vertices}
 use Rattle.pm_props.specs.declared.property.PropId.{PropId}
-use Rattle.std.proofs.Common.{ap, refl, subst, sym, true}
+use Rattle.std.proofs.Common.{refl, subst, sym}
 use Rattle.std.proofs.lemmas.Result.{err_from_is_err_and}
-use Rattle.std.specs.Prelude.{List, [], ◌∷◌, ◌≡◌}
+use Rattle.std.specs.Prelude.{List, [], ◌∷◌}
 
 abbrev sources : List PropId
 sources = Points ∷ InputLineality ∷ Facets ∷ AffineHull ∷ []
@@ -20,24 +19,23 @@ abbrev targets : List PropId
 targets = Vertices ∷ LinealitySpace ∷ []
 
 pub read_parts-requires-clause-first : goal.read_parts-requires-clause-first
-read_parts-requires-clause-first c = has_listed _ sources InputLineality (ap (λ k. k.sources) c.requires.kind)
+read_parts-requires-clause-first c = has_listed _ sources InputLineality c.requires.kind.sources
 
 pub read_parts-requires-clause-second : goal.read_parts-requires-clause-second
-read_parts-requires-clause-second c = has_listed _ sources Points (ap (λ k. k.sources) c.requires.kind)
+read_parts-requires-clause-second c = has_listed _ sources Points c.requires.kind.sources
 
 pub read_parts-requires-2-clause-first : goal.read_parts-requires-2-clause-first
-read_parts-requires-2-clause-first c = has_listed _ sources AffineHull (ap (λ k. k.sources) c.requires.kind)
+read_parts-requires-2-clause-first c = has_listed _ sources AffineHull c.requires.kind.sources
 
 pub read_parts-requires-2-clause-second : goal.read_parts-requires-2-clause-second
-read_parts-requires-2-clause-second c = has_listed _ sources Facets (ap (λ k. k.sources) c.requires.kind)
+read_parts-requires-2-clause-second c = has_listed _ sources Facets c.requires.kind.sources
 
 pub returns-in_err-found-clause-failed : goal.returns-in_err-found-clause-failed
 returns-in_err-found-clause-failed c =
     let v = c.args.view.now in
-    let takes : eliminated_by v.kind.name ≡ flat_rows ∷ flat_basis_and_row ∷ [] = subst (λ (k : Kind). eliminated_by k.name ≡ flat_rows ∷ flat_basis_and_row ∷ []) (sym c.requires.kind) refl in
     let w = err_from_is_err_and c.from_residual-in_err-found.result c.from_residual-in_err-found.ensures.1 in
     rw w.1 (subst (FailsRightly v) (sym w.2)
-    (fails_by_points v takes (subst (λ (k : Kind). has_way k.name products ≡ true) (sym c.requires.kind) refl) c.in_ok-points.points.first.items c.in_ok-points.points.second.items c.in_ok-halves.halves.second.items c.in_err-found.field-0.0
+    (fails_by_points v c.requires.kind.lists c.requires.kind.multiplies c.in_ok-points.points.first.items c.in_ok-points.points.second.items c.in_ok-halves.halves.second.items c.in_err-found.field-0.0
     (first_rows_of c.in_ok-points.ensures.read) (second_rows_of c.in_ok-points.ensures.read) (second_rows_of c.in_ok-halves.ensures.read) (no_point_added v.of v.cols)
     (rw c.cols.ensures.value at c.in_err-found.ensures.failed)))
 
@@ -50,8 +48,8 @@ pub returns-clause-sound : goal.returns-clause-sound
 returns-clause-sound c =
     let v = c.args.view.now in
     let view = c.cols.ensures.view in
-    let targets_are = ap (λ k. k.targets) c.requires.kind in
-    let sources_are = ap (λ k. k.sources) c.requires.kind in
+    let targets_are = c.requires.kind.targets in
+    let sources_are = c.requires.kind.sources in
     let no_fan = not_fan v Facets view (source_named v.kind Facets (has_listed _ sources Facets sources_are)) refl refl in
     let fresh = fresh_kind rays_tag v.kind targets sources Vertices targets_are sources_are refl refl refl in
     let g = rw c.cols.ensures.value at c.in_ok-found.ensures.generators in
