@@ -1,0 +1,4 @@
+mod ValueRows
+mod ColumnSums
+mod WholeQuotients
+mod CommonDuals

@@ -1,0 +1,8 @@
+use Rattle.pm_vector.specs.Bases.{row_at}
+use Rattle.pm_vector.specs.Rows.{dot}
+use Rattle.pm_wide_programs.proofs.products.all_zero.Given as goal
+use Rattle.pm_wide_programs.specs.Values.{values}
+use Rattle.std.proofs.Common.{pos, ℕ, ◌<◌, ◌≡◌}
+
+abbrev pub invariant-loop-i : goal.invariant-loop-i
+invariant-loop-i l = (k : ℕ) → k < l.i → dot (row_at l.rows k) (values l.x) ≡ pos 0
