@@ -11,7 +11,7 @@ pub loop-facet-preserved : goal.loop-facet-preserved
 loop-facet-preserved c = (
   incidence_next (λ r. r.items) c.args.facets.now c.args.vertices.now c.loop-facet.facet-index c.facet-item.result c.loop-facet.rows.items c.push.new.self.items c.in_ok-places_by.field-0 c.loop-facet-test.true c.facet-item.is c.loop-facet.invariant.0
       c.in_ok-push.ensures.items c.in_ok-places_by.ensures.ok,
-  AllStay-list c.args.facets.now c.args.vertices.now c.loop-facet.facet-index c.facet-item.result c.loop-facet-test.true c.facet-item.is c.loop-facet.invariant.1 c.in_ok-places_by.ensures.stays,
+  λ narrow. AllStay-list c.args.facets.now c.args.vertices.now c.loop-facet.facet-index c.facet-item.result c.loop-facet-test.true c.facet-item.is (c.loop-facet.invariant.1 narrow) (c.in_ok-places_by.ensures.stays narrow),
 )
 
 pub returns-clause-ok : goal.returns-clause-ok
@@ -29,7 +29,7 @@ returns-clause-right c =
     rw c.from_vec.ensures (subst (IsIncidence facets vertices) all (incidence_is facets vertices))
 
 pub returns-clause-stays : goal.returns-clause-stays
-returns-clause-stays c = rw (take_all c.loop-facet.facet-index c.args.facets.now c.loop-facet-test.false) at c.loop-facet.invariant.1
+returns-clause-stays c = λ narrow. rw (take_all c.loop-facet.facet-index c.args.facets.now c.loop-facet-test.false) at (c.loop-facet.invariant.1 narrow)
 
 pub returns-in_err-places_by-clause-failed : goal.returns-in_err-places_by-clause-failed
 returns-in_err-places_by-clause-failed c =
@@ -38,3 +38,8 @@ returns-in_err-places_by-clause-failed c =
     let p = err_from_is_err_and c.from_residual.result c.from_residual.ensures.1 in
     let has = listed facets c.loop-facet.facet-index facet c.loop-facet-test.true c.facet-item.is in
     rw (p.1, p.2) (wide_in_list facets c.args.vertices.now facet c.in_err-places_by.field-0.0 has c.in_err-places_by.ensures.failed)
+
+pub returns-in_err-places_by-clause-total : goal.returns-in_err-places_by-clause-total
+returns-in_err-places_by-clause-total c = λ exact.
+    let p = err_from_is_err_and c.from_residual.result c.from_residual.ensures.1 in
+    rw (p.1, p.2) (c.in_err-places_by.ensures.total exact)

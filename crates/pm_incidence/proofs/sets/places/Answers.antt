@@ -14,7 +14,7 @@ loop-j-preserved c =
     ] in (
       places_next c.args.facet.now c.args.vertices.now c.loop-j.j c.index-vertices-j.result (places_from 0 c.args.facet.now c.args.vertices.now) c.loop-j.places.items c.if-on.places.items c.in_ok-on.on c.loop-j-test.true c.index-vertices-j.is
           c.in_ok-on.ensures.value c.loop-j.invariant.0 more,
-      AllStay-row (c.args.facet.now ∷ []) c.args.vertices.now c.loop-j.j c.index-vertices-j.result c.loop-j-test.true c.index-vertices-j.is c.loop-j.invariant.1 c.in_ok-on.ensures.stays,
+      λ narrow. AllStay-row (c.args.facet.now ∷ []) c.args.vertices.now c.loop-j.j c.index-vertices-j.result c.loop-j-test.true c.index-vertices-j.is (c.loop-j.invariant.1 narrow) (c.in_ok-on.ensures.stays narrow),
     )
 
 pub returns-in_err-on-clause-failed : goal.returns-in_err-on-clause-failed
@@ -24,3 +24,8 @@ returns-in_err-on-clause-failed c =
     let p = err_from_is_err_and c.from_residual.result c.from_residual.ensures.1 in
     let has = listed vertices c.loop-j.j vertex c.loop-j-test.true c.index-vertices-j.is in
     rw (p.1, p.2) (wide_in_row (c.args.facet.now ∷ []) vertices vertex c.in_err-on.field-0.0 has c.in_err-on.ensures.failed)
+
+pub returns-in_err-on-clause-total : goal.returns-in_err-on-clause-total
+returns-in_err-on-clause-total c = λ exact.
+    let p = err_from_is_err_and c.from_residual.result c.from_residual.ensures.1 in
+    rw (p.1, p.2) (c.in_err-on.ensures.total exact)
