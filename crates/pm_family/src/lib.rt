@@ -51,12 +51,14 @@ pub trait Family: Drop {
         ensures fails { IfErr result (Fails work view.now) };
 }
 
-/// A client of a family, which counts its starts.
+/// A client of a family, which counts its starts. Its kind is found once, when it is made.
 #[derive(Drop)]
 pub struct FamilyClient<F: Family> {
     work: F::Work,
+    kind: Kind,
     starts: u64,
     family: PhantomData<F>,
+    ghost of_work: { kind ≡ standard_kind (F.client_of work) },
 }
 
 impl<F: Family> FamilyClient<F> {
@@ -66,6 +68,7 @@ impl<F: Family> FamilyClient<F> {
     {
         FamilyClient {
             work,
+            kind: F::client(work).kind(),
             starts: 0,
             family: PhantomData,
         }
@@ -86,7 +89,7 @@ impl<F: Family> Client for FamilyClient<F> {
     ghost tally = { λ c. (standard_kind (F.client_of c.work), c.starts) };
 
     fn kind(&self) -> Kind {
-        F::client(self.work).kind()
+        self.kind
     }
 
     fn starts(&self) -> u64 {
